@@ -1,0 +1,13 @@
+pub mod Relation
+pub mod Operators
+pub mod Cells
+pub mod Trees
+pub mod Worker
+pub mod Laws
+pub mod Shapes
+pub mod Grammar
+pub mod Rest
+pub mod State
+pub mod Legal
+pub mod Page
+pub mod Tokens

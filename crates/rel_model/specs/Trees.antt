@@ -1,0 +1,73 @@
+-- Trees in the words of a table. A name is a place in the list of words, and a word that is 0 is vacant.
+-- The depth of a level is how many pairings it stands above the blocks of 8 by 8: level l of the trees is depth l - 6, and a square of side 2 ^ h is at depth 2 * (h - 3).
+use Rattle.std.specs.Prelude.{◌==◌, ◌+◌, ◌-◌, ◌*◌, ◌/◌, ◌%◌, ◌^◌, ◌&&◌, ◌||◌, not, nat_lt, cond, zero, suc, ℕ, Bool, true, false, List, slice_index}
+use Rattle.rel_model.specs.Cells.{Cells, block_cells}
+
+-- the height of a block: squares of side 2 ^ 3 are the leaves
+unfoldable pub bottom_height : ℕ
+bottom_height = 3
+
+-- the greatest height of a square
+unfoldable pub top_height : ℕ
+top_height = 24
+
+-- the two names of a pair
+abbrev pub first_of : ℕ → ℕ
+first_of word = word / 2 ^ 32
+
+abbrev pub second_of : ℕ → ℕ
+second_of word = word % 2 ^ 32
+
+-- the second set on the right of the first, which has m columns
+abbrev pub beside : ℕ → Cells → Cells → Cells
+beside m f g i j = cond (nat_lt j m) (f i j) (g i (j - m))
+
+-- the second set below the first, which has m rows
+abbrev pub above : ℕ → Cells → Cells → Cells
+above m f g i j = cond (nat_lt i m) (f i j) (g (i - m) j)
+
+-- whether a depth is that of a square
+abbrev pub is_square : ℕ → Bool
+is_square zero = true
+is_square (suc k) = not (is_square k)
+
+-- 8 * 2 ^ (k / 2) rows, and twice as many columns where the depth is odd
+abbrev pub rows_at : ℕ → ℕ
+rows_at zero = 8
+rows_at (suc k) = cond (is_square k) (rows_at k) (rows_at k + rows_at k)
+
+abbrev pub cols_at : ℕ → ℕ
+cols_at zero = 8
+cols_at (suc k) = cond (is_square k) (cols_at k + cols_at k) (cols_at k)
+
+-- two sets of depth k as one of the next depth: two squares side by side, and two wide sets one above the other
+abbrev pub paired : ℕ → Cells → Cells → Cells
+paired k f g = cond (is_square k) (beside (cols_at k) f g) (above (rows_at k) f g)
+
+-- The cells of a name at a depth.
+abbrev pub cells : List ℕ → ℕ → ℕ → Cells
+cells words zero n = block_cells (slice_index words n)
+cells words (suc k) n = paired k (cells words k (first_of (slice_index words n))) (cells words k (second_of (slice_index words n)))
+
+abbrev pub is_stored : List ℕ → ℕ → Bool
+is_stored words n = not (slice_index words n == 0)
+
+-- Whether a name stands at a depth: name 0 does, and a stored name does whose two names stand at the depth below.
+abbrev pub stands : List ℕ → ℕ → ℕ → Bool
+stands words zero n = (n == 0) || is_stored words n
+stands words (suc k) n = (n == 0) || (is_stored words n && (stands words k (first_of (slice_index words n)) && stands words k (second_of (slice_index words n))))
+
+
+-- the depth of a square of side 8 * 2 ^ d
+abbrev pub twice : ℕ → ℕ
+twice zero = zero
+twice (suc d) = suc (suc (twice d))
+
+-- the side of a square
+abbrev pub side : ℕ → ℕ
+side zero = 8
+side (suc d) = side d + side d
+
+-- four sets of side m as one
+abbrev pub quartered : ℕ → Cells → Cells → Cells → Cells → Cells
+quartered m nw ne sw se i j = cond (nat_lt i m) (cond (nat_lt j m) (nw i j) (ne i (j - m))) (cond (nat_lt j m) (sw (i - m) j) (se (i - m) (j - m)))
