@@ -4,10 +4,5 @@ pub mod Cells
 pub mod Trees
 pub mod Worker
 pub mod Laws
-pub mod Shapes
-pub mod Grammar
-pub mod Rest
-pub mod State
-pub mod Legal
-pub mod Page
 pub mod Tokens
+pub mod Grammar
