@@ -2,6 +2,9 @@ pub mod Relation
 pub mod Operators
 pub mod Cells
 pub mod Trees
+pub mod Words
+pub mod Equations
+pub mod Views
 pub mod Worker
 pub mod Laws
 pub mod Tokens

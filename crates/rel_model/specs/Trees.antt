@@ -1,6 +1,6 @@
 -- Trees in the words of a table. A name is a place in the list of words, and a word that is 0 is vacant.
 -- The depth of a level is how many pairings it stands above the blocks of 8 by 8: level l of the trees is depth l - 6, and a square of side 2 ^ h is at depth 2 * (h - 3).
-use Rattle.std.specs.Prelude.{◌==◌, ◌+◌, ◌-◌, ◌*◌, ◌/◌, ◌%◌, ◌^◌, ◌&&◌, ◌||◌, not, nat_lt, cond, zero, suc, ℕ, Bool, true, false, List, slice_index}
+use Rattle.std.specs.Prelude.{◌==◌, ◌+◌, ◌-◌, ◌/◌, ◌%◌, ◌^◌, ◌&&◌, ◌||◌, not, nat_lt, cond, zero, suc, ℕ, Bool, true, List, slice_index}
 use Rattle.rel_model.specs.Cells.{Cells, block_cells}
 
 -- the height of a block: squares of side 2 ^ 3 are the leaves
@@ -11,10 +11,11 @@ bottom_height = 3
 unfoldable pub top_height : ℕ
 top_height = 24
 
--- the two names of a pair
+-- the first name of a pair
 abbrev pub first_of : ℕ → ℕ
 first_of word = word / 2 ^ 32
 
+-- the second name of a pair
 abbrev pub second_of : ℕ → ℕ
 second_of word = word % 2 ^ 32
 
@@ -31,11 +32,12 @@ abbrev pub is_square : ℕ → Bool
 is_square zero = true
 is_square (suc k) = not (is_square k)
 
--- 8 * 2 ^ (k / 2) rows, and twice as many columns where the depth is odd
+-- how many rows a set of a depth has: 8 * 2 ^ (k / 2)
 abbrev pub rows_at : ℕ → ℕ
 rows_at zero = 8
 rows_at (suc k) = cond (is_square k) (rows_at k) (rows_at k + rows_at k)
 
+-- how many columns: as many as rows, and twice as many where the depth is odd
 abbrev pub cols_at : ℕ → ℕ
 cols_at zero = 8
 cols_at (suc k) = cond (is_square k) (cols_at k + cols_at k) (cols_at k)
@@ -44,19 +46,19 @@ cols_at (suc k) = cond (is_square k) (cols_at k + cols_at k) (cols_at k)
 abbrev pub paired : ℕ → Cells → Cells → Cells
 paired k f g = cond (is_square k) (beside (cols_at k) f g) (above (rows_at k) f g)
 
--- The cells of a name at a depth.
+-- the cells of a name at a depth: the bits of its word, or the pairing of the cells of its two names
 abbrev pub cells : List ℕ → ℕ → ℕ → Cells
 cells words zero n = block_cells (slice_index words n)
 cells words (suc k) n = paired k (cells words k (first_of (slice_index words n))) (cells words k (second_of (slice_index words n)))
 
+-- whether a name has a word
 abbrev pub is_stored : List ℕ → ℕ → Bool
 is_stored words n = not (slice_index words n == 0)
 
--- Whether a name stands at a depth: name 0 does, and a stored name does whose two names stand at the depth below.
+-- whether a name stands at a depth: name 0 does, a stored name does at depth 0, and a stored name does whose two names stand at the depth below
 abbrev pub stands : List ℕ → ℕ → ℕ → Bool
 stands words zero n = (n == 0) || is_stored words n
 stands words (suc k) n = (n == 0) || (is_stored words n && (stands words k (first_of (slice_index words n)) && stands words k (second_of (slice_index words n))))
-
 
 -- the depth of a square of side 8 * 2 ^ d
 abbrev pub twice : ℕ → ℕ

@@ -1,0 +1,51 @@
+-- The node words of a table. A name is a place in a list of words, 0 stands for no word, and places 0 and 1 stay vacant.
+use Rattle.std.specs.Prelude.{◌≡◌, ◌≢◌, ◌<◌, ◌≤◌, ◌+◌, ◌-◌, ◌*◌, ◌%◌, ◌^◌, ℕ, List, [], ◌∷◌, ◌==◌, if◌then◌else◌, slice_index, length}
+use Rattle.rel_model.specs.Trees.{first_of, second_of}
+
+-- the factors by which the two halves of a word are mixed
+abbrev pub first_factor : ℕ
+first_factor = 2654435761
+
+-- the factor of the second half
+abbrev pub second_factor : ℕ
+second_factor = 2246822519
+
+-- each word that is not 0 is kept, and no place is added
+pub record Extends (old new : List ℕ) : Type 0 where
+  pub same_length : length new ≡ length old
+  pub kept : (n : ℕ) → slice_index old n ≢ 0 → slice_index new n ≡ slice_index old n
+
+-- what makes names canonical: places 0 and 1 are vacant, no word stands at two places, and each word has 64 bits
+pub record IsDistinct (words : List ℕ) : Type 0 where
+  pub none_at_0 : slice_index words 0 ≡ 0
+  pub none_at_1 : slice_index words 1 ≡ 0
+  pub one_place : (m n : ℕ) → slice_index words m ≢ 0 → slice_index words m ≡ slice_index words n → m ≡ n
+  pub fits : (n : ℕ) → slice_index words n < 2 ^ 64
+
+-- the number that is taken modulo the places from 2 on to find a word's home
+abbrev pub home_sum : ℕ → ℕ
+home_sum word = (first_of word * first_factor + second_of word * second_factor) % 2 ^ 64
+
+-- the place t steps above a word's home, where 2 follows the last place
+abbrev pub place_at : ℕ → ℕ → ℕ → ℕ
+place_at size word t = 2 + (home_sum word + t) % (size - 2)
+
+-- a place that is reached from a word's home over places that are taken
+pub record IsReached (words : List ℕ) (word n : ℕ) : Type 0 where
+  pub steps : ℕ
+  pub here : n ≡ place_at (length words) word steps
+  pub before : (s : ℕ) → s < steps → slice_index words (place_at (length words) word s) ≢ 0
+
+-- sound node words: names are canonical, and each word is reached from its home
+pub record IsSound (words : List ℕ) : Type 0 where
+  pub distinct : IsDistinct words
+  pub reached : (n : ℕ) → slice_index words n ≢ 0 → IsReached words (slice_index words n) n
+
+-- every place from 2 on holds another word
+abbrev pub IsFullOfOthers : List ℕ → ℕ → Type 0
+IsFullOfOthers words word = (n : ℕ) → 2 ≤ n → n < length words → (slice_index words n ≢ 0) × (slice_index words n ≢ word)
+
+-- how many places are taken
+abbrev pub stored_count : List ℕ → ℕ
+stored_count [] = 0
+stored_count (w ∷ ws) = (if w == 0 then 0 else 1) + stored_count ws
