@@ -1,6 +1,6 @@
 pub mod Relation
-pub mod Operators
 pub mod Cells
+pub mod Operators
 pub mod Trees
 pub mod Words
 pub mod Equations
@@ -9,3 +9,8 @@ pub mod Worker
 pub mod Laws
 pub mod Tokens
 pub mod Grammar
+pub mod State
+pub mod Meaning
+pub mod Due
+pub mod Legal
+pub mod Page
