@@ -1,0 +1,4 @@
+pub mod Chains
+pub mod Shapes
+pub mod Values
+pub mod Fitting

@@ -1,0 +1,19 @@
+use Rattle.std.proofs.Common.{◌≡◌, ◌∙◌, sym, ap, rules}
+use Rattle.rel_model.specs.Meaning.{missing}
+use Rattle.relview.specs.Names.{sized}
+use Rattle.relview.specs.Links.{missing_of_args}
+use Rattle.relview.proofs.Chains.{missing-call, missing-base, missing-chain}
+use Rattle.relview.proofs.evaluate.+first_unknown.Goals as goal
+
+pub call_args-init : goal.call_args-init
+call_args-init t c =
+    let S = sized c.args.names.now in
+    ap (missing S) c.in-Call.is ∙ missing-call S c.in-Call.at c.in-Call.name c.in-Call.args ∙ ap (missing_of_args S) (sym c.as_slice-arg-items.ensures.value)
+
+pub base_args-init : goal.base_args-init
+base_args-init t c =
+    let S = sized c.args.names.now in
+    ap (missing S) c.in-Base.is ∙ missing-base S c.in-Base.at c.in-Base.base c.in-Base.args ∙ ap (missing_of_args S) (sym c.as_slice-base_arg-items.ensures.value)
+
+pub links-init : goal.links-init
+links-init t c = search (rules, c.in-Chain.is, missing-chain)

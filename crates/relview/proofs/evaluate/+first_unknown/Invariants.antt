@@ -1,0 +1,17 @@
+use Rattle.std.proofs.Common.{◌≡◌, drop}
+use Rattle.rel_model.specs.Meaning.{missing}
+use Rattle.relview.specs.Names.{rel_of, sized}
+use Rattle.relview.specs.Links.{missing_of_args, missing_of_links}
+use Rattle.relview.proofs.evaluate.+first_unknown.Given as goal
+
+abbrev pub decreases-first_unknown : goal.decreases-first_unknown
+decreases-first_unknown l = goal.size-first_unknown l
+
+abbrev pub invariant-call_args : goal.invariant-call_args
+invariant-call_args l = missing (sized l.names) l.expr ≡ missing_of_args (sized l.names) (drop l.arg-index l.arg-items)
+
+abbrev pub invariant-base_args : goal.invariant-base_args
+invariant-base_args l = missing (sized l.names) l.expr ≡ missing_of_args (sized l.names) (drop l.base_arg-index l.base_arg-items)
+
+abbrev pub invariant-links : goal.invariant-links
+invariant-links l = missing (sized l.names) l.expr ≡ missing_of_links (sized l.names) (drop l.link-index l.link-items)

@@ -1,0 +1,5 @@
+//! The program.
+#![tactic(auto)]
+
+pub mod evaluate;
+pub mod names;
