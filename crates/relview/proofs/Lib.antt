@@ -2,3 +2,4 @@ pub mod Chains
 pub mod Shapes
 pub mod Values
 pub mod Fitting
+pub mod Listing

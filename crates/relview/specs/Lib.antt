@@ -1,3 +1,4 @@
 pub mod Names
 pub mod Links
 pub mod Values
+pub mod Listed

@@ -1,5 +1,6 @@
 //! The program.
 #![tactic(auto)]
 
+pub mod build;
 pub mod evaluate;
 pub mod names;

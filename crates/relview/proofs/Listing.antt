@@ -1,0 +1,156 @@
+-- Lists of pairs that grow, and the relations of such lists.
+use Rattle.std.proofs.Common.{◌≡◌, ◌<◌, ◌≤◌, ◌+◌, ◌-◌, ◌/◌, ◌&&◌, ◌||◌, ◌∙◌, ℕ, Bool, true, false, eqb, List, [], ◌∷◌, ◌++◌, length, take, drop, get_or, refl, sym, ap, subst, arith, inl, inr, zero, suc, Some}
+use Rattle.std.specs.List.{list_any, AllByRecursion}
+use Rattle.std.proofs.lemmas.Bool.{cases_Bool, and_parts, eqb-true, eq-eqb}
+use Rattle.std.proofs.lemmas.List.{take_more}
+use Rattle.rel_model.specs.declared.Rel.{Rel}
+use Rattle.rel_model.specs.declared.syntax.Column.{Column}
+use Rattle.rel_model.specs.declared.syntax.Row.{Row}
+use Rattle.rel_model.specs.Relation.{Relation, has, relation_of}
+use Rattle.rel_model.specs.Operators.{empty, single, union}
+use Rattle.rel_model.specs.State.{lists}
+use Rattle.rel_model.specs.Worker.{Worker, Stands, set_of, Gives, Keeps}
+use Rattle.rel_model.proofs.Relations.{has-relation_of, relation_of-agree, rows-relation_of, cols-relation_of}
+use Rattle.rel_model.proofs.Workers.{gives_stands, gives_set, keeps_set}
+use Rattle.rel_model.proofs.OperatorLaws.{relation_of-sizes}
+use Rattle.relview.specs.Listed.{IsWithin, is_among, IsListed, Extends}
+
+or_nothing : (b : Bool) → (b || false) ≡ b
+or_nothing true = refl
+or_nothing false = refl
+
+regroup : (a b c : Bool) → ((a || b) || c) ≡ (a || (b || c))
+regroup true b c = refl
+regroup false b c = refl
+
+-- ---- lists
+pub is_among-append : (ps qs : List (ℕ × ℕ)) (i j : ℕ) → is_among (ps ++ qs) i j ≡ (is_among ps i j || is_among qs i j)
+is_among-append [] qs i j = refl
+is_among-append (p ∷ ps) qs i j = ap (λ b. (eqb p.0 i && eqb p.1 j) || b) (is_among-append ps qs i j) ∙ sym (regroup (eqb p.0 i && eqb p.1 j) (is_among ps i j) (is_among qs i j))
+
+pub within-append : (m n : ℕ) (ps qs : List (ℕ × ℕ)) → IsWithin m n ps → IsWithin m n qs → IsWithin m n (ps ++ qs)
+within-append m n [] qs a b = b
+within-append m n (p ∷ ps) qs a b = (a.0, within-append m n ps qs a.1 b)
+
+pub within-take : (m n k : ℕ) (ps : List (ℕ × ℕ)) → IsWithin m n ps → IsWithin m n (take k ps) × IsWithin m n (drop k ps)
+within-take m n zero ps a = (tt, a)
+within-take m n (suc k) [] a = (tt, tt)
+within-take m n (suc k) (p ∷ ps) a = let w = within-take m n k ps a.1 in ((a.0, w.0), w.1)
+
+-- a column that counts from 1 is the one that counts from 0
+below_one : (x i : ℕ) → 1 ≤ x → eqb (x - 1) i ≡ eqb x (i + 1)
+below_one x i h = elim (cases_Bool (eqb x (i + 1))) [
+  | inl t ↦ let e : x ≡ i + 1 = eqb-true x (i + 1) t in let f : x - 1 ≡ i = omega arith in ap (λ y. eqb y i) f ∙ same i ∙ sym t
+  | inr t ↦ elim (cases_Bool (eqb (x - 1) i)) [
+    | inl u ↦ let e : x - 1 ≡ i = eqb-true (x - 1) i u in let f : x ≡ i + 1 = omega arith in u ∙ sym (ap (λ y. eqb y (i + 1)) f ∙ same (i + 1))
+    | inr u ↦ u ∙ sym t
+  ]
+]
+  where
+    same : (n : ℕ) → eqb n n ≡ true
+    same n = eq-eqb n n refl
+
+-- one pair within the sizes
+pub pair_listed : (m n row col : ℕ) (ps : List (ℕ × ℕ)) → 1 ≤ row → 1 ≤ col → Extends m n ps (ps ++ (row - 1, col - 1) ∷ []) (λ i j. eqb row (i + 1) && eqb col (j + 1))
+pair_listed m n row col ps a b i j l k =
+    is_among-append ps ((row - 1, col - 1) ∷ []) i j ∙ ap (λ t. is_among ps i j || t) (or_nothing (eqb (row - 1) i && eqb (col - 1) j) ∙ ap (λ t. t && eqb (col - 1) j) (below_one row i a) ∙ ap (λ t. eqb row (i + 1) && t) (below_one col j b))
+
+-- a pair outside the sizes
+pub none_listed : (m n row col : ℕ) (ps : List (ℕ × ℕ)) → (1 ≤ row → row ≤ m → 1 ≤ col → col ≤ n → ⊥) → Extends m n ps ps (λ i j. eqb row (i + 1) && eqb col (j + 1))
+none_listed m n row col ps out i j l k = sym (ap (λ b. is_among ps i j || b) (no) ∙ or_nothing (is_among ps i j))
+  where
+    no : (eqb row (i + 1) && eqb col (j + 1)) ≡ false
+    no = elim (cases_Bool (eqb row (i + 1) && eqb col (j + 1))) [
+      | inl t ↦ let both = and_parts _ _ t in
+          let r : row ≡ i + 1 = eqb-true row (i + 1) both.0 in
+          let c : col ≡ j + 1 = eqb-true col (j + 1) both.1 in
+          absurd (out (omega arith) (omega arith) (omega arith) (omega arith))
+      | inr t ↦ t
+    ]
+
+-- ---- rows and columns
+any_push : {X : Type 0} (p : X → Bool) (xs : List X) (x : X) → list_any p (xs ++ x ∷ []) ≡ (list_any p xs || p x)
+any_push p [] x = or_nothing (p x)
+any_push p (y ∷ ys) x = ap (λ b. p y || b) (any_push p ys x) ∙ sym (regroup (p y) (list_any p ys) (p x))
+
+and_or : (a b c d : Bool) → ((a || (b && c)) || (b && d)) ≡ (a || (b && (c || d)))
+and_or true b c d = refl
+and_or false true c d = refl
+and_or false false c d = refl
+
+and_false : (a b : Bool) → (a || (b && false)) ≡ a
+and_false a true = or_nothing a
+and_false a false = or_nothing a
+
+pub columns_none : (m n row : ℕ) (ps : List (ℕ × ℕ)) → Extends m n ps ps (λ i j. eqb row (i + 1) && list_any (λ (c : Column). eqb c.col (j + 1)) [])
+columns_none m n row ps i j l k = sym (and_false (is_among ps i j) (eqb row (i + 1)))
+
+pub columns_more : (m n row k : ℕ) (cs : List Column) (d : Column) (start old new : List (ℕ × ℕ)) → k < length cs → Extends m n start old (λ i j. eqb row (i + 1) && list_any (λ (c : Column). eqb c.col (j + 1)) (take k cs)) →
+    Extends m n old new (λ i j. eqb row (i + 1) && eqb (get_or cs k d).col (j + 1)) → Extends m n start new (λ i j. eqb row (i + 1) && list_any (λ (c : Column). eqb c.col (j + 1)) (take (k + 1) cs))
+columns_more m n row k cs d start old new h a b i j l c =
+    b i j l c ∙ ap (λ x. x || (eqb row (i + 1) && eqb (get_or cs k d).col (j + 1))) (a i j l c)
+    ∙ and_or (is_among start i j) (eqb row (i + 1)) _ (eqb (get_or cs k d).col (j + 1))
+    ∙ ap (λ x. is_among start i j || (eqb row (i + 1) && x)) (sym (ap (list_any (λ (c : Column). eqb c.col (j + 1))) (take_more cs k d h) ∙ any_push (λ (c : Column). eqb c.col (j + 1)) (take k cs) (get_or cs k d)))
+
+pub rows_more : (m n k : ℕ) (rs : List Row) (r : Row) (old new : List (ℕ × ℕ)) → k < length rs → r ≡ get_or rs k r → IsListed m n old (lists (take k rs)) →
+    Extends m n old new (λ i j. eqb r.row (i + 1) && list_any (λ (c : Column). eqb c.col (j + 1)) r.cols.items) → IsListed m n new (lists (take (k + 1) rs))
+unfolding lists
+rows_more m n k rs r old new h is a b i j l c =
+    b i j l c ∙ ap (λ x. x || (eqb r.row (i + 1) && list_any (λ (c : Column). eqb c.col (j + 1)) r.cols.items)) (a i j l c)
+    ∙ sym (ap (λ xs. lists xs i j) (take_more rs k r h ∙ ap (λ x. take k rs ++ x ∷ []) (sym is)) ∙ any_push (λ (q : Row). eqb q.row (i + 1) && list_any (λ (c : Column). eqb c.col (j + 1)) q.cols.items) (take k rs) r)
+
+pub rows_none : (m n : ℕ) → IsListed m n [] (lists [])
+unfolding lists
+rows_none m n i j l k = refl
+
+-- ---- relations
+pub relation_none : (m n : ℕ) → empty m n ≡ relation_of m n (is_among [])
+unfolding empty
+relation_none m n = refl
+
+eqb-sym : (x y : ℕ) → eqb x y ≡ eqb y x
+eqb-sym x y = elim (cases_Bool (eqb y x)) [
+  | inl t ↦ eq-eqb x y (sym (eqb-true y x t)) ∙ sym t
+  | inr t ↦ elim (cases_Bool (eqb x y)) [
+    | inl u ↦ u ∙ sym (eq-eqb y x (sym (eqb-true x y u)))
+    | inr u ↦ u ∙ sym t
+  ]
+]
+
+pub relation_one : (m n x y : ℕ) → single m n x y ≡ relation_of m n (is_among ((x, y) ∷ []))
+unfolding single
+relation_one m n x y = relation_of-agree m n _ _ (λ i j a b. ap (λ t. t && eqb j y) (eqb-sym i x) ∙ ap (λ t. eqb x i && t) (eqb-sym j y) ∙ sym (or_nothing (eqb x i && eqb y j)))
+
+-- the union of the relations of two lists
+pub relation_both : (m n : ℕ) (ps qs : List (ℕ × ℕ)) (r s : Relation) → r ≡ relation_of m n (is_among ps) → s ≡ relation_of m n (is_among qs) → r.rows ≡ m → r.cols ≡ n → union r s ≡ relation_of m n (is_among (ps ++ qs))
+unfolding union
+relation_both m n ps qs r s e f a b =
+    relation_of-sizes r.rows r.cols m n (λ i j. has r i j || has s i j) a b
+    ∙ relation_of-agree m n _ _ (λ i j l k.
+    ap (λ x. x || has s i j) (ap (λ q. has q i j) e ∙ has-relation_of m n (is_among ps) i j l k)
+    ∙ ap (λ x. is_among ps i j || x) (ap (λ q. has q i j) f ∙ has-relation_of m n (is_among qs) i j l k) ∙ sym (is_among-append ps qs i j))
+
+-- two halves that a worker gives, and their union
+pub halves_joined : (w1 w2 w3 : Worker) (m n : ℕ) (ps qs : List (ℕ × ℕ)) (left right both : Rel) → Gives w1 m n (relation_of m n (is_among ps)) left → Keeps w1 w2 → Gives w2 m n (relation_of m n (is_among qs)) right →
+    Gives w3 left.rows left.cols (union (set_of w2 left) (set_of w2 right)) both → Gives w3 m n (relation_of m n (is_among (ps ++ qs))) both
+halves_joined w1 w2 w3 m n ps qs left right both g k h u =
+    let l : set_of w2 left ≡ relation_of m n (is_among ps) = keeps_set w1 w2 left k (gives_stands w1 m n _ left g) ∙ gives_set w1 m n _ left g in
+    let r : set_of w2 right ≡ relation_of m n (is_among qs) = gives_set w2 m n _ right h in
+    record {
+      means = u.means ∙ ap Some (relation_both m n ps qs (set_of w2 left) (set_of w2 right) l r (ap (λ x. x.rows) l ∙ rows-relation_of m n _) (ap (λ x. x.cols) l ∙ cols-relation_of m n _));
+      row_size = u.row_size ∙ g.row_size;
+      col_size = u.col_size ∙ g.col_size;
+    }
+
+-- the listed pairs make the listed relation
+pub relation_listed : (m n : ℕ) (ps : List (ℕ × ℕ)) (rs : List Row) → IsListed m n ps (lists rs) → relation_of m n (is_among ps) ≡ relation_of m n (lists rs)
+relation_listed m n ps rs h = relation_of-agree m n (is_among ps) (lists rs) h
+
+-- the halves of a list
+pub no_pairs : (ps : List (ℕ × ℕ)) → length ps ≡ 0 → ps ≡ []
+no_pairs [] h = refl
+no_pairs (p ∷ ps) h = absurd (omega (arith, h))
+
+pub one_pair : (ps : List (ℕ × ℕ)) (d : ℕ × ℕ) → length ps ≡ 1 → ps ≡ get_or ps 0 d ∷ []
+one_pair [] d h = absurd (omega (arith, h))
+one_pair (p ∷ ps) d h = ap (λ x. p ∷ x) (no_pairs ps (omega (arith, h)))

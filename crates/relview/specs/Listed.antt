@@ -1,0 +1,19 @@
+-- Listed pairs.
+use Rattle.std.specs.Prelude.{◌≡◌, ◌==◌, ◌&&◌, ◌||◌, ◌<◌, ℕ, Bool, List}
+use Rattle.std.specs.List.{list_any, AllByRecursion}
+
+-- all pairs lie within the sizes
+abbrev pub IsWithin : ℕ → ℕ → List (ℕ × ℕ) → Type 0
+IsWithin rows cols = AllByRecursion (λ p. (p.0 < rows) × (p.1 < cols))
+
+-- whether the pair (i, j) is among them
+abbrev pub is_among : List (ℕ × ℕ) → ℕ → ℕ → Bool
+is_among pairs i j = list_any (λ p. (p.0 == i) && (p.1 == j)) pairs
+
+-- within the sizes, they are the pairs that pass
+abbrev pub IsListed : ℕ → ℕ → List (ℕ × ℕ) → (ℕ → ℕ → Bool) → Type 0
+IsListed rows cols pairs test = (i j : ℕ) → i < rows → j < cols → is_among pairs i j ≡ test i j
+
+-- within the sizes, the pairs that pass joined the old ones
+abbrev pub Extends : ℕ → ℕ → List (ℕ × ℕ) → List (ℕ × ℕ) → (ℕ → ℕ → Bool) → Type 0
+Extends rows cols old new test = IsListed rows cols new (λ i j. is_among old i j || test i j)
