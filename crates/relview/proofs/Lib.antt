@@ -3,3 +3,5 @@ pub mod Shapes
 pub mod Values
 pub mod Fitting
 pub mod Listing
+pub mod Agreeing
+pub mod Lines

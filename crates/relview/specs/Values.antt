@@ -3,6 +3,10 @@ use Rattle.std.specs.Prelude.{ℕ}
 use Rattle.rel_model.specs.declared.Rel.{Rel}
 use Rattle.rel_model.specs.declared.faults.TypeFault.{TypeFault}
 use Rattle.rel_model.specs.declared.faults.TypeFault.TheVariants.{Mismatch}
+use Rattle.rel_model.specs.declared.Lack.{Lack}
+use Rattle.rel_model.specs.declared.Lack.TheVariants.{Full, NoMemory as NO_MEMORY}
+use Rattle.rel_model.specs.declared.run.Outcome.{Outcome}
+use Rattle.rel_model.specs.declared.run.Outcome.TheVariants.{Nodes, NoMemory}
 use Rattle.rel_model.specs.Relation.{Relation}
 use Rattle.rel_model.specs.Worker.{Worker, Gives}
 use Rattle.rel_model.specs.Meaning.{Shaped, Fits, Misfit, spelling, known}
@@ -16,3 +20,8 @@ fault_of m = Mismatch m.at (spelling m.op) (known m.left.rows m.left.cols) (know
 abbrev pub GivesValue : Worker → Shaped → Relation → Rel → Type 0
 GivesValue w (Fits m n) value rel = Gives w m n value rel
 GivesValue w (Misfit fault) value rel = ⊥
+
+-- the outcome of a command whose operator gave nothing
+abbrev pub lack_outcome : Lack → Outcome
+lack_outcome Full = Nodes
+lack_outcome NO_MEMORY = NoMemory

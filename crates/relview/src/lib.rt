@@ -4,3 +4,4 @@
 pub mod build;
 pub mod evaluate;
 pub mod names;
+pub mod text;
