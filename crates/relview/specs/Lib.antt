@@ -2,3 +2,4 @@ pub mod Names
 pub mod Links
 pub mod Values
 pub mod Listed
+pub mod Ran

@@ -4,4 +4,5 @@
 pub mod build;
 pub mod evaluate;
 pub mod names;
+pub mod session;
 pub mod text;
