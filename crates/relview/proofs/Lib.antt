@@ -5,3 +5,5 @@ pub mod Fitting
 pub mod Listing
 pub mod Agreeing
 pub mod Lines
+pub mod Naming
+pub mod Replying

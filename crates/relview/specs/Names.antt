@@ -1,4 +1,4 @@
--- The names of a workspace and their relations, the newest first.
+-- The names of a workspace and their relations, in the order in which they got them.
 use Rattle.std.specs.Prelude.{◌≡◌, ℕ, Bool, cond, List, [], ◌∷◌, Option, Some, None, option_and_then, option_map}
 use Rattle.rel_model.specs.declared.Rel.{Rel}
 use Rattle.rel_model.specs.Worker.{Worker, Stands}
@@ -6,10 +6,15 @@ use Rattle.rel_model.specs.Operators.{empty}
 use Rattle.rel_model.specs.Tokens.{same_text}
 use Rattle.rel_model.specs.State.{State}
 
--- the relation of a name: the newest that it got
+-- the second of two, where there is one
+abbrev pub later : {T : Type 0} → Option T → Option T → Option T
+later x None = x
+later x (Some y) = Some y
+
+-- the relation of a name: the last that it got
 abbrev pub rel_of : List (List ℕ × Rel) → List ℕ → Option Rel
 rel_of [] name = None
-rel_of (n ∷ ns) name = cond (same_text n.0 name) (Some n.1) (rel_of ns name)
+rel_of (n ∷ ns) name = later (cond (same_text n.0 name) (Some n.1) None) (rel_of ns name)
 
 -- the state that the names mean in a worker
 abbrev pub means : Worker → List (List ℕ × Rel) → State

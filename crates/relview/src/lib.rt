@@ -4,5 +4,6 @@
 pub mod build;
 pub mod evaluate;
 pub mod names;
+pub mod reply;
 pub mod session;
 pub mod text;

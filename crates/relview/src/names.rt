@@ -1,17 +1,19 @@
-//! The names of a workspace and their relations, the newest first.
+//! The names of a workspace and their relations, in the order in which they got them.
 ghost use Rattle.std.specs.Prelude.{◌≡◌};
 ghost use Rattle.relview.specs.Names.{rel_of};
 
 use rel_model::Rel;
 use rel_model::syntax::Name;
 
-/// The relation of a name.
+/// The relation of a name: the last that it got.
 pub fn find(names: &[(Name, Rel)], name: &[u8]) -> Option<Rel>
     ensures { result ≡ rel_of names.now name.now }
 {
-    'each: for entry in names {
-        if entry.0.bytes() == name {
-            return Some(entry.1);
+    let mut left = names.len();
+    'each: while left > 0 {
+        left -= 1;
+        if names[left].0.bytes() == name {
+            return Some(names[left].1);
         }
     }
     None
