@@ -7,3 +7,4 @@ pub mod Agreeing
 pub mod Lines
 pub mod Naming
 pub mod Replying
+pub mod Settling

@@ -1,28 +1,32 @@
 -- What stands after the first items of the script of session 1.
-use Rattle.std.specs.Prelude.{◌≡◌, ◌+◌, ◌<◌, ◌≤◌, ℕ, List, [], ◌∷◌, ◌++◌, length, Option, Some, Result, IfOk, IsErrOf}
+use Rattle.std.specs.Prelude.{◌≡◌, ◌+◌, ◌<◌, ◌≤◌, ℕ, List, [], ◌∷◌, ◌++◌, length, Option, Some}
 use Rattle.std.specs.List.{AllByRecursion}
 use Rattle.rel_model.specs.declared.Rel.{Rel}
 use Rattle.rel_model.specs.declared.Lack.{Lack}
 use Rattle.rel_model.specs.declared.Lack.TheVariants.{Full}
-use Rattle.rel_model.specs.declared.syntax.Command.TheVariants.{Relation, Print}
+use Rattle.rel_model.specs.declared.syntax.Command.TheVariants.{Relation as RELATION, Print}
 use Rattle.rel_model.specs.declared.syntax.Item.{Item}
 use Rattle.rel_model.specs.declared.syntax.Item.TheVariants.{Command}
 use Rattle.rel_model.specs.declared.syntax.Expr.{Expr}
 use Rattle.rel_model.specs.declared.run.Event.{Event}
 use Rattle.rel_model.specs.declared.run.Outcome.{Outcome}
-use Rattle.rel_model.specs.declared.run.Outcome.TheVariants.{Nodes}
-use Rattle.rel_model.specs.Worker.{Worker, Stands, Keeps, Rose}
+use Rattle.rel_model.specs.declared.run.Outcome.TheVariants.{Done, Nodes}
+use Rattle.rel_model.specs.declared.run.Act.TheVariants.{Read, Assign}
+use Rattle.rel_model.specs.Relation.{Relation}
+use Rattle.rel_model.specs.Worker.{Worker, Stands, Keeps, Gives, Rose}
 use Rattle.rel_model.specs.State.{State}
 use Rattle.rel_model.specs.Due.{Due, outcome_due, evaluated}
 use Rattle.rel_model.specs.Legal.{Trees, LegalItems, state_after, IsOutcome, MayLackNodes, HasEvents}
-use Rattle.rel_model.specs.Page.{items_page, reply}
+use Rattle.rel_model.specs.Page.{items_page, reply, prefix, refusal_text}
 use Rattle.relview.specs.Names.{rel_of, means, AllStand}
 use Rattle.relview.specs.Links.{IsPlain}
 use Rattle.rel_model.specs.Relation.{size_limit}
+use Rattle.relview.specs.Values.{lack_outcome}
+use Rattle.relview.specs.declared.session.Run.{Run}
 
 -- an item that first scripts have: a listed relation within the limit, or the value of a plain expression
 abbrev pub IsFirstItem : Item → Type 0
-IsFirstItem (Command (Relation name rows rows_at cols cols_at list)) = (rows ≤ size_limit) × (cols ≤ size_limit)
+IsFirstItem (Command (RELATION name rows rows_at cols cols_at list)) = (rows ≤ size_limit) × (cols ≤ size_limit)
 IsFirstItem (Command (Print e)) = IsPlain e
 IsFirstItem _ = ⊥
 
@@ -49,3 +53,45 @@ pub record Ran (T : Trees) (items : List Item) (start now : Worker) (names : Lis
 pub record Replies (number : ℕ) (e : Expr) (state : State) (outcome : Outcome) (text : List ℕ) : Type 0 where
   pub outcome_is : outcome ≡ outcome_due (evaluated e state)
   pub text_is : text ≡ reply 1 number (Command (Print e)) (evaluated e state) outcome
+
+-- a reply to PRINT whatever the table and the memory have left
+pub record Settles (number : ℕ) (e : Expr) (state : State) (before after : ℕ) (outcome : Outcome) (text : List ℕ) : Type 0 where
+  pub lawful : IsOutcome (Command (Print e)) (evaluated e state) outcome
+  pub text_is : text ≡ reply 1 number (Command (Print e)) (evaluated e state) outcome
+  pub missed : outcome ≡ Nodes → Rose before after
+
+-- PRINT was run: one read, one outcome and its reply
+pub record Printed (number : ℕ) (e : Expr) (state : State) (before after : ℕ) (old new : Run) : Type 0 where
+  pub outcome : Outcome
+  pub lawful : IsOutcome (Command (Print e)) (evaluated e state) outcome
+  pub missed : outcome ≡ Nodes → Rose before after
+  pub names : new.names.items ≡ old.names.items
+  pub history : new.history.items ≡ old.history.items ++ record { session = 1; command = number; act = Read } ∷ []
+  pub outcomes : new.outcomes.items ≡ old.outcomes.items ++ outcome ∷ []
+  pub page : new.page.items ≡ old.page.items ++ reply 1 number (Command (Print e)) (evaluated e state) outcome
+
+-- a name got a relation
+pub record Assigns (number : ℕ) (name : List ℕ) (rel : Rel) (old new : Run) : Type 0 where
+  pub names : new.names.items ≡ old.names.items ++ (name, rel) ∷ []
+  pub history : new.history.items ≡ old.history.items ++ record { session = 1; command = number; act = Assign name rel } ∷ []
+  pub outcomes : new.outcomes.items ≡ old.outcomes.items ++ Done ∷ []
+  pub page : new.page.items ≡ old.page.items
+
+-- REL gave its name the listed relation
+pub record Assigned (number : ℕ) (name : List ℕ) (rows cols : ℕ) (value : Relation) (now : Worker) (old new : Run) : Type 0 where
+  pub rel : Rel
+  pub gives : Gives now rows cols value rel
+  pub assigns : Assigns number name rel old new
+
+-- a command was refused without an event
+pub record Refuses (number : ℕ) (lack : Lack) (old new : Run) : Type 0 where
+  pub names : new.names.items ≡ old.names.items
+  pub history : new.history.items ≡ old.history.items
+  pub outcomes : new.outcomes.items ≡ old.outcomes.items ++ lack_outcome lack ∷ []
+  pub page : new.page.items ≡ old.page.items ++ (prefix 1 number ++ refusal_text (lack_outcome lack))
+
+-- REL was refused, since the table was full or memory ran out
+pub record Refused (number : ℕ) (before after : ℕ) (old new : Run) : Type 0 where
+  pub lack : Lack
+  pub missed : lack ≡ Full → Rose before after
+  pub refuses : Refuses number lack old new

@@ -1,9 +1,10 @@
 //! Relations from listed pairs.
-ghost use Rattle.std.specs.Prelude.{◌≡◌, ◌==◌, ◌&&◌, ◌+◌, ◌<◌, ◌≤◌, ℕ, IfOk, OnOk};
+ghost use Rattle.std.specs.Prelude.{◌≡◌, ◌==◌, ◌&&◌, ◌+◌, ◌<◌, ◌≤◌, ℕ, IfOk, IfErr, OnOk};
 ghost use Rattle.std.specs.List.{list_any, AllByRecursion};
 ghost use Rattle.rel_model.specs.Relation.{relation_of, size_limit};
 ghost use Rattle.rel_model.specs.State.{lists};
-ghost use Rattle.rel_model.specs.Worker.{Keeps, Gives, HasCause};
+ghost use Rattle.rel_model.specs.declared.Lack.TheVariants.{Full};
+ghost use Rattle.rel_model.specs.Worker.{Keeps, Gives, HasCause, Rose};
 ghost use Rattle.relview.specs.Listed.{Extends, IsWithin, IsListed, is_among};
 
 use rel_model::core_trait::Core;
@@ -92,8 +93,11 @@ pub fn listed<C: Core>(
     requires col_limit { shape.cols ≤ size_limit }
     ensures value { IfOk result (Gives (C.worker core.new) shape.rows shape.cols (relation_of shape.rows shape.cols (lists list.now))) }
     ensures keeps { Keeps (C.worker core.old) (C.worker core.new) }
+    ensures full { IfErr result (λ e. e ≡ Full → Rose (C.worker core.old).misses (C.worker core.new).misses) }
 {
     let pairs = listed_pairs(alloc, shape, list)?;
-    let rel = of_pairs(core, shape, pairs.as_slice())?;
-    Ok(rel)
+    match of_pairs(core, shape, pairs.as_slice()) {
+        Ok(rel) => Ok(rel),
+        Err(lack) => Err(lack),
+    }
 }
