@@ -8,3 +8,4 @@ pub mod Lines
 pub mod Naming
 pub mod Replying
 pub mod Settling
+pub mod Steps

@@ -49,6 +49,10 @@ pub record Ran (T : Trees) (items : List Item) (start now : Worker) (names : Lis
   pub text : page ≡ items_page T history 1 1 items outcomes
   pub missed : HasMissed outcomes start.misses now.misses
 
+-- the same of a run
+abbrev pub RanTo : Trees → List Item → Worker → Worker → Run → Type 0
+RanTo T items start now run = Ran T items start now run.names.items run.history.items run.outcomes.items run.page.items
+
 -- a reply to PRINT: the outcome that is due and its text
 pub record Replies (number : ℕ) (e : Expr) (state : State) (outcome : Outcome) (text : List ℕ) : Type 0 where
   pub outcome_is : outcome ≡ outcome_due (evaluated e state)

@@ -1,0 +1,87 @@
+-- One more item of a script.
+-- 1. The names mean the workspace; so the state for a command whose event comes next is what they mean before it.
+-- 2. An item joins what was lawful and shown, behind its event where it has one.
+use Rattle.std.proofs.Common.{◌≡◌, ◌<◌, ◌≤◌, ◌+◌, ◌-◌, ◌^◌, ◌∙◌, ◌⊎◌, inl, inr, ℕ, Bool, true, false, cond, min, List, [], ◌∷◌, ◌++◌, length, take, get_or, Option, Some, None, refl, sym, ap, subst, arith, length-append, append-nil, length-take}
+use Rattle.std.specs.Prelude.{option_and_then, IsSome, slice_get}
+use Rattle.std.proofs.lemmas.Bool.{cases_Bool}
+use Rattle.std.proofs.lemmas.List.{take_more}
+use Rattle.std.proofs.lemmas.Option.{slice_get_read}
+use Rattle.rel_model.specs.declared.Rel.{Rel}
+use Rattle.rel_model.specs.declared.Lack.{Lack}
+use Rattle.rel_model.specs.declared.Lack.TheVariants.{Full, NoMemory as NO_MEMORY}
+use Rattle.rel_model.specs.declared.syntax.Place.{Place}
+use Rattle.rel_model.specs.declared.syntax.Command.TheVariants.{Relation as RELATION, Print}
+use Rattle.rel_model.specs.declared.syntax.Item.{Item}
+use Rattle.rel_model.specs.declared.syntax.Item.TheVariants.{Command}
+use Rattle.rel_model.specs.declared.syntax.Expr.{Expr}
+use Rattle.rel_model.specs.declared.run.Event.{Event}
+use Rattle.rel_model.specs.declared.run.Act.TheVariants.{Read, Assign}
+use Rattle.rel_model.specs.declared.run.Outcome.{Outcome}
+use Rattle.rel_model.specs.declared.run.Outcome.TheVariants.{Done, Nodes, NoMemory}
+use Rattle.rel_model.specs.Relation.{relation_of}
+use Rattle.rel_model.specs.State.{State, nothing, assigned, lists}
+use Rattle.rel_model.specs.Tokens.{same_text}
+use Rattle.rel_model.specs.Due.{Due, Value, due, due_of_command, evaluated}
+use Rattle.rel_model.specs.Legal.{Trees, item_at, state_after, state_for, LegalItems, IsOutcome, HasEvents}
+use Rattle.rel_model.specs.Page.{items_page, reply, prefix, refusal_text}
+use Rattle.rel_model.specs.Worker.{Worker, Stands, Keeps, Gives, Rose}
+use Rattle.rel_model.proofs.Workers.{keeps_trans, keeps_itself, gives_stands}
+use Rattle.rel_model.proofs.Runs.{Below, below-push, below-more, state_after-read, state_after-listed, state_for-new, legal_later, legal_append, legal-length, page_later, page_append}
+use Rattle.relview.specs.declared.session.Run.{Run}
+use Rattle.relview.specs.Names.{rel_of, means, AllStand}
+use Rattle.relview.specs.Ran.{Ran, RanTo, HasMissed, Printed, Assigned, Refused}
+use Rattle.relview.specs.Values.{lack_outcome}
+use Rattle.relview.proofs.Naming.{rel_of-push}
+use Rattle.relview.proofs.Values.{means_kept, all_stand_kept}
+
+-- nothing has run
+pub ran_none : (T : Trees) (w : Worker) → Ran T [] w w [] [] [] []
+unfolding state_after nothing
+ran_none T w = record { keeps = keeps_itself w; below = tt; state = refl; standing = λ n r h. absurd (none_some h); legal = refl; text = refl; missed = tt }
+  where
+    none_some : {r : Rel} → None ≡ Some r → ⊥
+    none_some e = cc
+
+ran_as : (T : Trees) (is : List Item) (start w : Worker) (ns ms : List (List ℕ × Rel)) (H G : List Event) (os ps : List Outcome) (page text : List ℕ) → ms ≡ ns → G ≡ H → ps ≡ os → text ≡ page → Ran T is start w ns H os page → Ran T is start w ms G ps text
+ran_as T is start w ns ms H G os ps page text en eh eo et r = rw (en, eh, eo, et) r
+
+-- ---- misses
+rose_later : (a b c : ℕ) → Rose a b → b ≤ c → Rose a c
+rose_later a b c r l = omega (arith, r, l)
+
+rose_from : (a b c : ℕ) → a ≤ b → Rose b c → Rose a c
+rose_from a b c l r = omega (arith, r, l)
+
+pub missed_more : (os : List Outcome) (o : Outcome) (start before now : ℕ) → start ≤ before → before ≤ now → HasMissed os start before → (o ≡ Nodes → Rose before now) → HasMissed (os ++ o ∷ []) start now
+missed_more [] o start before now l k h m = (λ e. rose_from start before now l (m e), tt)
+missed_more (p ∷ os) o start before now l k h m = (λ e. rose_later start before now (h.0 e) k, missed_more os o start before now l k h.1 m)
+
+-- ---- PRINT
+pub ran_print : (T : Trees) (is : List Item) (e : Expr) (c : ℕ) (start w v : Worker) (old new : Run) → length is + 1 ≡ c → RanTo T is start w old → Keeps w v → Printed c e (means w old.names.items) w.misses v.misses old new →
+    RanTo T (is ++ Command (Print e) ∷ []) start v new
+unfolding due due_of_command
+ran_print T is e c start w v old new k ran kept p =
+    let H = old.history.items in
+    let ev : Event = record { session = 1; command = c; act = Read } in
+    let i = Command (Print e) in
+    let below : Below c H = subst (λ n. Below n H) k ran.below in
+    let S : state_for T (H ++ ev ∷ []) 1 c ≡ means w old.names.items = state_for-new T H c ev below refl refl ∙ sym ran.state in
+    let D : due i (state_for T (H ++ ev ∷ []) 1 c) ≡ evaluated e (means w old.names.items) = ap (evaluated e) S in
+    let long : length (is ++ i ∷ []) ≡ c = length-append is (i ∷ []) ∙ k in
+    ran_as T (is ++ i ∷ []) start v old.names.items _ (H ++ ev ∷ []) _ (old.outcomes.items ++ p.outcome ∷ []) _ _ _ p.names p.history p.outcomes p.page
+    (record {
+      keeps = keeps_trans start w v ran.keeps kept;
+      below = subst (λ n. Below (n + 1) (H ++ ev ∷ [])) (sym long) (below-push c H ev below refl refl);
+      state = means_kept w v old.names.items kept ran.standing ∙ ran.state ∙ sym (state_after-read T H 1 c);
+      standing = all_stand_kept w v old.names.items kept ran.standing;
+      legal = legal_append T (H ++ ev ∷ []) is old.outcomes.items i p.outcome 1 c H (ev ∷ []) (omega arith) (legal_later T H ev is old.outcomes.items 1 c H (omega arith) refl ran.legal) (has_read p.outcome)
+          (subst (λ d. IsOutcome i d p.outcome) (sym D) p.lawful);
+      text = ap (λ x. x ++ reply 1 c i (evaluated e (means w old.names.items)) p.outcome) (ran.text ∙ sym (page_later T H ev is old.outcomes.items 1 c (omega arith) refl))
+          ∙ ap (λ d. items_page T (H ++ ev ∷ []) 1 1 is old.outcomes.items ++ reply 1 c i d p.outcome) (sym D)
+          ∙ sym (page_append T (H ++ ev ∷ []) is old.outcomes.items i p.outcome 1 c (omega arith) (legal-length T H is old.outcomes.items 1 H ran.legal));
+      missed = missed_more old.outcomes.items p.outcome start.misses w.misses v.misses ran.keeps.misses kept.misses ran.missed p.missed;
+    })
+  where
+    has_read : (o : Outcome) → HasEvents 1 c (Command (Print e)) o (record { session = 1; command = c; act = Read } ∷ [])
+    has_read NoMemory = inl refl
+    has_read _ = refl
