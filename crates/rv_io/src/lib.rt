@@ -1,0 +1,22 @@
+//! The outside of the program: shelves of files, sinks that take bytes, and the calls that read and write them whole.
+#![tactic(auto)]
+
+pub(crate) mod calls;
+pub mod file_shelf;
+pub mod mem_shelf;
+pub mod mem_sink;
+pub mod outside;
+pub mod reading;
+pub mod stdout_sink;
+pub mod writing;
+
+#[cfg(test)]
+mod tests;
+
+pub use file_shelf::FileShelf;
+pub use mem_shelf::MemShelf;
+pub use mem_sink::MemSink;
+pub use outside::{Failed, NoMemory, Shelf, Sink};
+pub use reading::{ReadError, read_all};
+pub use stdout_sink::StdoutSink;
+pub use writing::{WriteError, write_all};
