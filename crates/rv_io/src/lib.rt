@@ -8,10 +8,9 @@ pub mod mem_sink;
 pub mod outside;
 pub mod reading;
 pub mod stdout_sink;
-pub mod writing;
-
 #[cfg(test)]
 mod tests;
+pub mod writing;
 
 pub use file_shelf::FileShelf;
 pub use mem_shelf::MemShelf;

@@ -73,7 +73,11 @@ fn read_piece<S: Shelf>(shelf: &mut S, bytes: &mut Vec<u8>, limit: u64) -> Resul
 {
     let room = limit - bytes.len() as u64;
     let mut piece = [0u8; PIECE];
-    let most = if room < PIECE as u64 { room as usize + 1 } else { PIECE };
+    let most = if room < PIECE as u64 {
+        room as usize + 1
+    } else {
+        PIECE
+    };
     let piece = &mut piece[..most];
     let Ok(count) = shelf.read(piece) else {
         return Err(ReadError::Fault);
