@@ -2,3 +2,4 @@ pub mod Outside
 pub mod Reading
 pub mod Writing
 pub mod Memory
+pub mod Files

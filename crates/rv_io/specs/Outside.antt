@@ -1,5 +1,5 @@
 -- What a shelf tells of its files, what a call of a shelf or a sink leaves, and why it may fail.
-use Rattle.std.specs.Prelude.{◌≡◌, ◌≤◌, ◌<◌, ◌+◌, ◌-◌, ◌^◌, min, Bool, IsTrue, IsSome, ℕ, List, [], length, Option, Some, None, Result, OnErr, IfOk, IfSome}
+use Rattle.std.specs.Prelude.{◌≡◌, ◌≤◌, ◌<◌, ◌+◌, ◌-◌, ◌^◌, min, Bool, IsTrue, ℕ, List, [], length, Option, Some, None, Result, OnErr, IfOk, IfSome}
 use Rattle.std.specs.Io.KnownBytes.{IsAtEnd}
 
 -- a map from names to the bytes of the files
@@ -27,8 +27,6 @@ pub record Leaves (old new : Told) : Type 0 where
   pub put_faults : new.put_faults ≡ old.put_faults
   -- each name that could be picked still can
   pub may_pick : (name : List ℕ) → IsTrue (old.may_pick name) → IsTrue (new.may_pick name)
-  -- a shelf that told what is left still tells it
-  pub tells : IsSome old.rest → IsSome new.rest
   -- the count of failed picks and reads did not fall
   pub faults : old.faults ≤ new.faults
 

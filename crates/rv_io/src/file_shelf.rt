@@ -1,6 +1,7 @@
-//! Real files. They tell no content.
-ghost use Rattle.std.specs.Prelude.{◌≡◌, None, true, ℕ};
+//! Real files. They tell no content: what is left of a file is told only where the runtime's files tell it.
+ghost use Rattle.std.specs.Prelude.{◌≡◌, [], None, Some, true, ℕ};
 ghost use Rattle.rv_io.specs.Outside.{Told};
+ghost use Rattle.rv_io.specs.Files.{left_in};
 
 use crate::{Failed, Shelf};
 use std::alloc::Global;
@@ -20,7 +21,7 @@ pub struct FileShelf<R: Files + Drop> {
 impl<R: Files + Drop> FileShelf<R> {
     /// A shelf of the files of this runtime, of which none is picked.
     pub fn new(alloc: Global, rt: R) -> FileShelf<R>
-        ensures { ⟦<FileShelf<R> as Shelf>⟧.told result ≡ record { files = None; rest = None; faults = 0; put_faults = 0; may_pick = λ _. true } }
+        ensures { ⟦<FileShelf<R> as Shelf>⟧.told result ≡ record { files = None; rest = Some []; faults = 0; put_faults = 0; may_pick = λ _. true } }
     {
         FileShelf {
             rt,
@@ -32,7 +33,7 @@ impl<R: Files + Drop> FileShelf<R> {
 }
 
 impl<R: Files + Drop> Shelf for FileShelf<R> {
-    ghost told = { λ s. record { files = None; rest = None; faults = s.faults; put_faults = 0; may_pick = λ _. true } };
+    ghost told = { λ s. record { files = None; rest = left_in R.File.remaining s.file; faults = s.faults; put_faults = 0; may_pick = λ _. true } };
 
     fn pick(&mut self, name: &str) -> Result<(), Failed> {
         self.file = None;

@@ -1,5 +1,7 @@
 //! Standard output, or any other writer. It tells no content.
-ghost use Rattle.std.specs.Prelude.{◌≡◌, None, ℕ};
+ghost use Rattle.std.specs.Prelude.{◌≡◌, ◌≤◌, None, ℕ, take, IfOk};
+ghost use Rattle.std.specs.Io.KnownBytes.{Appends};
+ghost use Rattle.rv_io.specs.Outside.{HasCause, TakesSome};
 
 use crate::{Failed, Sink};
 use std::io::Write;
@@ -26,7 +28,12 @@ impl<W: Write + Drop> Sink for StdoutSink<W> {
 
     ghost faults = { λ s. s.faults };
 
-    fn write(&mut self, bytes: &[u8]) -> Result<usize, Failed> {
+    fn write(&mut self, bytes: &[u8]) -> Result<usize, Failed>
+        ensures some { TakesSome result bytes.now }
+        ensures passed { IfOk result (λ n. Appends (W.contents self.old.inner) (W.contents self.new.inner) (take n bytes.now)) }
+        ensures later { self.old.faults ≤ self.new.faults }
+        ensures cause { HasCause self.old.faults self.new.faults result }
+    {
         if let Ok(count) = self.inner.write(bytes) {
             if count > 0 && self.inner.flush().is_ok() {
                 return Ok(count);
