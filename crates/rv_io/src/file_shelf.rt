@@ -1,6 +1,6 @@
 //! Real files. They tell no content: what is left of a file is told only where the runtime's files tell it.
-ghost use Rattle.std.specs.Prelude.{◌≡◌, [], None, Some, true, ℕ};
-ghost use Rattle.rv_io.specs.Outside.{Told};
+ghost use Rattle.std.specs.Prelude.{◌≡◌, ◌↔◌, [], None, Some, true, ℕ, IsSome, IsOk};
+ghost use Rattle.rv_io.specs.Outside.{Told, Leaves, HasCause};
 ghost use Rattle.rv_io.specs.Files.{left_in};
 
 use crate::{Failed, Shelf};
@@ -21,7 +21,14 @@ pub struct FileShelf<R: Files + Drop> {
 impl<R: Files + Drop> FileShelf<R> {
     /// A shelf of the files of this runtime, of which none is picked.
     pub fn new(alloc: Global, rt: R) -> FileShelf<R>
-        ensures { ⟦<FileShelf<R> as Shelf>⟧.told result ≡ record { files = None; rest = Some []; faults = 0; put_faults = 0; may_pick = λ _. true } }
+        ensures { ⟦<FileShelf<R> as Shelf>⟧.told result
+            ≡ record {
+              files = None;
+              rest = Some [];
+              faults = 0;
+              put_faults = 0;
+              may_pick = λ _. true;
+            } }
     {
         FileShelf {
             rt,
@@ -33,9 +40,21 @@ impl<R: Files + Drop> FileShelf<R> {
 }
 
 impl<R: Files + Drop> Shelf for FileShelf<R> {
-    ghost told = { λ s. record { files = None; rest = left_in R.File.remaining s.file; faults = s.faults; put_faults = 0; may_pick = λ _. true } };
+    ghost told = { λ s. record {
+      files = None;
+      rest = left_in R.File.remaining s.file;
+      faults = s.faults;
+      put_faults = 0;
+      may_pick = λ _. true;
+    } };
 
-    fn pick(&mut self, name: &str) -> Result<(), Failed> {
+    fn pick(&mut self, name: &str) -> Result<(), Failed>
+        // A file is open exactly where the pick succeeded.
+        ensures open { IsSome self.new.file ↔ IsOk result }
+        ensures leaves { Leaves (⟦<FileShelf<R> as Shelf>⟧.told self.old)
+            (⟦<FileShelf<R> as Shelf>⟧.told self.new) }
+        ensures cause { HasCause self.old.faults self.new.faults result }
+    {
         self.file = None;
         if let Ok(file) = File::open(&self.rt, name) {
             if let Ok(reader) = BufReader::new(self.alloc, file) {

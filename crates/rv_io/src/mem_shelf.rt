@@ -1,5 +1,5 @@
 //! A shelf in memory, which tells everything, and of which chosen calls fail.
-ghost use Rattle.std.specs.Prelude.{MatchOption, ◌≡◌, ◌<◌, ◌≤◌, ◌↔◌, [], ℕ, Option, Some, None, true, drop, length, IfOk, IfSome, OnOk, OnErr, IsTrue};
+ghost use Rattle.std.specs.Prelude.{MatchOption, ◌≡◌, ◌<◌, ◌≤◌, ◌↔◌, [], ℕ, Option, Some, None, true, drop, length, IfOk, IsOk, IfSome, OnOk, OnErr, IsTrue};
 ghost use Rattle.std.specs.Io.{ReadsAtMost};
 ghost use Rattle.std.specs.Io.KnownBytes.{ReadConsumes};
 ghost use Rattle.rv_io.specs.Outside.{Told, Leaves, IsPicked, IsSpent};
@@ -21,14 +21,23 @@ pub struct MemShelf {
 
 impl MemShelf {
     /// A shelf with these files, of which the first of a name counts. The calls with the numbers
-    /// `failing` fail, and so does each call to which growth is refused.
+    /// `failing` fail, and so does each call to which growth is refused. No memory is taken yet.
     pub fn new(
         alloc: Global,
         files: Vec<(String, Vec<u8>)>,
         failing: Vec<u64>,
     ) -> Result<MemShelf, NoMemory>
-        ensures told { IfOk result (λ s. ⟦<MemShelf as Shelf>⟧.told s ≡ record { files = Some (file_at files.items); rest = Some []; faults = 0; put_faults = 0; may_pick = λ _. true }) }
-        ensures calls { IfOk result (λ s. s.calls ≡ record { failing = failing; count = 0; faults = 0 }) }
+        ensures made { IsOk result }
+        ensures told { IfOk result (λ s. ⟦<MemShelf as Shelf>⟧.told s
+            ≡ record {
+              files = Some (file_at files.items);
+              rest = Some [];
+              faults = 0;
+              put_faults = 0;
+              may_pick = λ _. true;
+            }) }
+        ensures calls { IfOk result (λ s. s.calls
+            ≡ record { failing = failing; count = 0; faults = 0 }) }
     {
         Ok(MemShelf {
             files,
@@ -48,7 +57,8 @@ impl MemShelf {
 
 /// The bytes of the first file of this name.
 fn find<'a>(files: &'a [(String, Vec<u8>)], name: &str) -> Option<&'a [u8]>
-    ensures { MatchOption result (file_at files.now name.now ≡ None) (λ bytes. file_at files.now name.now ≡ Some bytes.now) }
+    ensures { MatchOption result (file_at files.now name.now ≡ None)
+        (λ bytes. file_at files.now name.now ≡ Some bytes.now) }
 {
     'files: for file in files {
         if file.0.as_str() == name {
@@ -59,12 +69,21 @@ fn find<'a>(files: &'a [(String, Vec<u8>)], name: &str) -> Option<&'a [u8]>
 }
 
 impl Shelf for MemShelf {
-    ghost told = { λ s. record { files = Some (file_at s.files.items); rest = Some (drop s.taken s.picked.items); faults = s.calls.faults; put_faults = 0; may_pick = λ _. true } };
+    ghost told = { λ s. record {
+      files = Some (file_at s.files.items);
+      rest = Some (drop s.taken s.picked.items);
+      faults = s.calls.faults;
+      put_faults = 0;
+      may_pick = λ _. true;
+    } };
 
     fn pick(&mut self, name: &str) -> Result<(), Failed>
-        ensures picked { OnOk result (IsPicked (⟦<MemShelf as Shelf>⟧.told self.old).files (⟦<MemShelf as Shelf>⟧.told self.new).rest name.now) }
-        ensures none { OnErr result (IsSpent (⟦<MemShelf as Shelf>⟧.told self.old).files (⟦<MemShelf as Shelf>⟧.told self.new).rest) }
-        ensures leaves { Leaves (⟦<MemShelf as Shelf>⟧.told self.old) (⟦<MemShelf as Shelf>⟧.told self.new) }
+        ensures picked { OnOk result (IsPicked (⟦<MemShelf as Shelf>⟧.told self.old).files
+            (⟦<MemShelf as Shelf>⟧.told self.new).rest name.now) }
+        ensures none { OnErr result (IsSpent (⟦<MemShelf as Shelf>⟧.told self.old).files
+            (⟦<MemShelf as Shelf>⟧.told self.new).rest) }
+        ensures leaves { Leaves (⟦<MemShelf as Shelf>⟧.told self.old)
+            (⟦<MemShelf as Shelf>⟧.told self.new) }
         ensures counted { IsCounted result self.old.calls self.new.calls }
     {
         self.picked.clear();
@@ -85,11 +104,16 @@ impl Shelf for MemShelf {
     fn read(&mut self, buf: &mut [u8]) -> Result<usize, Failed>
         requires { 0 < length buf.old }
         ensures within { ReadsAtMost result buf.new }
-        ensures bytes { ReadConsumes (⟦<MemShelf as Shelf>⟧.told self.old).rest (⟦<MemShelf as Shelf>⟧.told self.new).rest result buf.new }
-        ensures end { IfOk result (λ n. IfSome (⟦<MemShelf as Shelf>⟧.told self.old).rest (λ left. (n ≡ 0) ↔ (left ≡ []))) }
-        ensures leaves { Leaves (⟦<MemShelf as Shelf>⟧.told self.old) (⟦<MemShelf as Shelf>⟧.told self.new) }
+        ensures bytes { ReadConsumes (⟦<MemShelf as Shelf>⟧.told self.old).rest
+            (⟦<MemShelf as Shelf>⟧.told self.new).rest result buf.new }
+        ensures end { IfOk result (λ n. IfSome (⟦<MemShelf as Shelf>⟧.told self.old).rest
+            (λ left. (n ≡ 0) ↔ (left ≡ []))) }
+        ensures leaves { Leaves (⟦<MemShelf as Shelf>⟧.told self.old)
+            (⟦<MemShelf as Shelf>⟧.told self.new) }
         ensures counted { IsCounted result self.old.calls self.new.calls }
-        ensures alone { OnErr result (IsTrue (is_listed self.old.calls.failing.items self.old.calls.count)) }
+        // No other read fails.
+        ensures alone { OnErr result (IsTrue (is_listed self.old.calls.failing.items
+            self.old.calls.count)) }
     {
         if self.calls.begins_to_fail() {
             self.calls.fail();

@@ -1,5 +1,5 @@
 //! A sink in memory, which tells everything, and of which chosen calls fail.
-ghost use Rattle.std.specs.Prelude.{◌≡◌, ◌≤◌, [], ℕ, List, Option, Some, length, IfOk};
+ghost use Rattle.std.specs.Prelude.{◌≡◌, ◌≤◌, [], ℕ, List, Option, Some, length, IfOk, IsOk};
 ghost use Rattle.std.specs.Io.KnownBytes.{WriteAppends};
 ghost use Rattle.rv_io.specs.Memory.{IsCounted};
 
@@ -16,11 +16,13 @@ pub struct MemSink {
 
 impl MemSink {
     /// An empty sink. The calls with the numbers `failing` fail, and so does each call to which
-    /// growth is refused.
+    /// growth is refused. No memory is taken yet.
     pub fn new(alloc: Global, failing: Vec<u64>) -> Result<MemSink, NoMemory>
+        ensures made { IsOk result }
         ensures written { IfOk result (λ s. ⟦<MemSink as Sink>⟧.written s ≡ Some []) }
         ensures faults { IfOk result (λ s. ⟦<MemSink as Sink>⟧.faults s ≡ 0) }
-        ensures calls { IfOk result (λ s. s.calls ≡ record { failing = failing; count = 0; faults = 0 }) }
+        ensures calls { IfOk result (λ s. s.calls
+            ≡ record { failing = failing; count = 0; faults = 0 }) }
     {
         Ok(MemSink {
             written: Vec::new(alloc),
@@ -50,7 +52,8 @@ impl Sink for MemSink {
 
     fn write(&mut self, bytes: &[u8]) -> Result<usize, Failed>
         ensures whole { IfOk result (λ n. n ≡ length bytes.now) }
-        ensures bytes { WriteAppends (⟦<MemSink as Sink>⟧.written self.old) (⟦<MemSink as Sink>⟧.written self.new) result bytes.now }
+        ensures bytes { WriteAppends (⟦<MemSink as Sink>⟧.written self.old)
+            (⟦<MemSink as Sink>⟧.written self.new) result bytes.now }
         ensures later { ⟦<MemSink as Sink>⟧.faults self.old ≤ ⟦<MemSink as Sink>⟧.faults self.new }
         ensures counted { IsCounted result self.old.calls self.new.calls }
     {

@@ -20,7 +20,8 @@ pub trait Shelf {
     /// Picks the file of this name. An absent file is a fault; after a fault nothing is picked.
     fn pick(&mut self, name: &str) -> Result<(), Failed>
         requires { IsTrue ((told self.old).may_pick name.now) }
-        ensures picked { OnOk result (IsPicked (told self.old).files (told self.new).rest name.now) }
+        ensures picked { OnOk result (IsPicked (told self.old).files (told self.new).rest
+            name.now) }
         ensures none { OnErr result (IsSpent (told self.old).files (told self.new).rest) }
         ensures leaves { Leaves (told self.old) (told self.new) }
         ensures cause { HasCause (told self.old).faults (told self.new).faults result };
@@ -31,7 +32,8 @@ pub trait Shelf {
         requires { 0 < length buf.old }
         ensures within { ReadsAtMost result buf.new }
         ensures bytes { ReadConsumes (told self.old).rest (told self.new).rest result buf.new }
-        ensures end { IfOk result (λ n. IfSome (told self.old).rest (λ left. (n ≡ 0) ↔ (left ≡ []))) }
+        ensures end { IfOk result (λ n. IfSome (told self.old).rest
+            (λ left. (n ≡ 0) ↔ (left ≡ []))) }
         ensures leaves { Leaves (told self.old) (told self.new) }
         ensures cause { HasCause (told self.old).faults (told self.new).faults result };
 }

@@ -37,8 +37,10 @@ pub fn read_all<S: Shelf>(
     requires { IsTrue ((S.told shelf.old).may_pick name.now) }
     ensures file { IfOk result (λ v. IsFile (S.told shelf.old).files name.now v.items) }
     ensures within { IfOk result (λ v. length v.items ≤ limit) }
-    ensures refused { IfErr result (RefusesFile (S.told shelf.old) (S.told shelf.new) name.now limit) }
-    ensures stops { StopsIn result (S.told shelf.old).files (S.told shelf.new).rest name.now limit }
+    ensures refused { IfErr result (RefusesFile (S.told shelf.old) (S.told shelf.new) name.now
+        limit) }
+    ensures stops { StopsIn result (S.told shelf.old).files (S.told shelf.new).rest name.now
+        limit }
     ensures leaves { Leaves (S.told shelf.old) (S.told shelf.new) }
 {
     match shelf.pick(name) {
@@ -49,7 +51,8 @@ pub fn read_all<S: Shelf>(
 
 /// Reads what is left of the picked file, at most `limit` bytes.
 fn read_left<S: Shelf>(alloc: Global, shelf: &mut S, limit: u64) -> Result<Vec<u8>, ReadError>
-    ensures bytes { IfOk result (λ v. ReadsToEnd (S.told shelf.old).rest (S.told shelf.new).rest v.items limit) }
+    ensures bytes { IfOk result (λ v. ReadsToEnd (S.told shelf.old).rest (S.told shelf.new).rest
+        v.items limit) }
     ensures refused { IfErr result (RefusesMore (S.told shelf.old) (S.told shelf.new) 0 limit) }
     ensures leaves { Leaves (S.told shelf.old) (S.told shelf.new) }
 {
@@ -66,9 +69,11 @@ fn read_left<S: Shelf>(alloc: Global, shelf: &mut S, limit: u64) -> Result<Vec<u
 /// Reads the next bytes and puts them after `bytes`, which stay at most `limit` long.
 fn read_piece<S: Shelf>(shelf: &mut S, bytes: &mut Vec<u8>, limit: u64) -> Result<usize, ReadError>
     requires { length bytes.old.items ≤ limit }
-    ensures on { IfOk result (λ n. ReadsOn (S.told shelf.old).rest (S.told shelf.new).rest bytes.old.items bytes.new.items n) }
+    ensures on { IfOk result (λ n. ReadsOn (S.told shelf.old).rest (S.told shelf.new).rest
+        bytes.old.items bytes.new.items n) }
     ensures within { OnOk result (length bytes.new.items ≤ limit) }
-    ensures refused { IfErr result (RefusesMore (S.told shelf.old) (S.told shelf.new) (length bytes.old.items) limit) }
+    ensures refused { IfErr result (RefusesMore (S.told shelf.old) (S.told shelf.new)
+        (length bytes.old.items) limit) }
     ensures leaves { Leaves (S.told shelf.old) (S.told shelf.new) }
 {
     let room = limit - bytes.len() as u64;

@@ -30,7 +30,9 @@ impl<W: Write + Drop> Sink for StdoutSink<W> {
 
     fn write(&mut self, bytes: &[u8]) -> Result<usize, Failed>
         ensures some { TakesSome result bytes.now }
-        ensures passed { IfOk result (λ n. Appends (W.contents self.old.inner) (W.contents self.new.inner) (take n bytes.now)) }
+        // The writer holds those bytes.
+        ensures passed { IfOk result (λ n. Appends (W.contents self.old.inner)
+            (W.contents self.new.inner) (take n bytes.now)) }
         ensures later { self.old.faults ≤ self.new.faults }
         ensures cause { HasCause self.old.faults self.new.faults result }
     {

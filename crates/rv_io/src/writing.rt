@@ -18,7 +18,8 @@ pub struct WriteError {
 /// It stops at the first write that fails: the sink then took exactly the first `sent` bytes.
 pub fn write_all<K: Sink>(sink: &mut K, bytes: &[u8]) -> Result<(), WriteError>
     ensures all { OnOk result (Appends (K.written sink.old) (K.written sink.new) bytes.now) }
-    ensures sent { IfErr result (λ e. HasSent (K.written sink.old) (K.written sink.new) bytes.now e.sent) }
+    ensures sent { IfErr result (λ e. HasSent (K.written sink.old) (K.written sink.new) bytes.now
+        e.sent) }
     ensures later { K.faults sink.old ≤ K.faults sink.new }
     ensures cause { HasCause (K.faults sink.old) (K.faults sink.new) result }
 {
