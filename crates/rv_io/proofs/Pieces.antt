@@ -1,14 +1,13 @@
 -- What reads and writes of one piece after another come to.
-use Rattle.std.proofs.Common.{◌≡◌, ◌<◌, ◌≤◌, ◌+◌, ◌-◌, take, drop, ℕ, List, [], ◌∷◌, ◌++◌, length, Option, Some, None, refl, sym, ap, ◌∙◌, append_assoc, append-nil, length-append, length-take, length-drop, take-append-drop, subst, arith}
-use Rattle.std.specs.Io.KnownBytes.{IsAtEnd, Consumes, Appends}
+use Rattle.std.proofs.Common.{◌≡◌, ◌≤◌, ◌+◌, ◌-◌, take, drop, ℕ, List, ◌++◌, length, Option, Some, None, refl, sym, ap, ◌∙◌, length-append, length-take, length-drop, take-append-drop, subst, arith}
+use Rattle.std.specs.Io.KnownBytes.{Consumes, Appends}
 use Rattle.std.proofs.KnownBytes.{Appends-trans, Consumes-trans}
 use Rattle.std.proofs.Math.Seq.{take-add}
 use Rattle.std.proofs.lemmas.List.{take-take, take_at, drop-drop}
-use Rattle.std.specs.Prelude.{Result, Ok, Err, min}
 use Rattle.rv_io.specs.declared.reading.ReadError.{ReadError}
 use Rattle.rv_io.specs.declared.reading.ReadError.TheVariants.{Fault, TooLong, NoMemory}
-use Rattle.rv_io.specs.Outside.{Files, Told, IsPicked, IsFile, IsOver, Rose, last_count}
-use Rattle.rv_io.specs.Reading.{HasTaken, ReadsOn, TakesOn, RefusesMore, RefusesFile, StopsIn}
+use Rattle.rv_io.specs.Outside.{Files, Told, IsPicked}
+use Rattle.rv_io.specs.Reading.{HasTaken, ReadsOn, TakesOn, RefusesMore}
 
 -- a piece that was read after others is consumed with them
 pub consumed_more : (start old new : Option (List ℕ)) (before after : List ℕ) (n : ℕ) → Consumes start old before → ReadsOn old new before after n → Consumes start new after

@@ -1,5 +1,5 @@
 -- What a shelf and a sink in memory have, and which of their calls fail.
-use Rattle.std.specs.Prelude.{◌≡◌, ◌+◌, ℕ, Bool, true, List, [], ◌∷◌, Option, Some, None, cond, nat_eq, min, IsTrue, Result, IsErr, is_ok}
+use Rattle.std.specs.Prelude.{◌≡◌, ◌+◌, ℕ, Bool, List, [], ◌∷◌, Option, Some, None, cond, nat_eq, min, IsTrue, Result, IsErr, is_ok}
 use Rattle.std.specs.List.{list_any}
 use Rattle.std.specs.declared.string.String.{String}
 use Rattle.std.specs.String.{string_bytes}

@@ -1,6 +1,6 @@
 //! Real files. They tell no content: what is left of a file is told only where the runtime's files tell it.
-ghost use Rattle.std.specs.Prelude.{◌≡◌, ◌↔◌, [], None, Some, true, ℕ, IsSome, IsOk};
-ghost use Rattle.rv_io.specs.Outside.{Told, Leaves, HasCause};
+ghost use Rattle.std.specs.Prelude.{◌≡◌, ◌↔◌, [], None, Some, true, IsSome, IsOk};
+ghost use Rattle.rv_io.specs.Outside.{Leaves, HasCause};
 ghost use Rattle.rv_io.specs.Files.{left_in};
 
 use crate::{Failed, Shelf};

@@ -1,8 +1,8 @@
 //! A shelf in memory, which tells everything, and of which chosen calls fail.
-ghost use Rattle.std.specs.Prelude.{MatchOption, ◌≡◌, ◌<◌, ◌≤◌, ◌↔◌, [], ℕ, Option, Some, None, true, drop, length, IfOk, IsOk, IfSome, OnOk, OnErr, IsTrue};
+ghost use Rattle.std.specs.Prelude.{MatchOption, ◌≡◌, ◌<◌, ◌≤◌, ◌↔◌, [], Option, Some, None, true, drop, length, IfOk, IsOk, IfSome, OnOk, OnErr, IsTrue};
 ghost use Rattle.std.specs.Io.{ReadsAtMost};
 ghost use Rattle.std.specs.Io.KnownBytes.{ReadConsumes};
-ghost use Rattle.rv_io.specs.Outside.{Told, Leaves, IsPicked, IsSpent};
+ghost use Rattle.rv_io.specs.Outside.{Leaves, IsPicked, IsSpent};
 ghost use Rattle.rv_io.specs.Memory.{file_at, is_listed, IsCounted};
 
 use crate::calls::Calls;

@@ -1,5 +1,5 @@
 //! A sink in memory, which tells everything, and of which chosen calls fail.
-ghost use Rattle.std.specs.Prelude.{◌≡◌, ◌≤◌, [], ℕ, List, Option, Some, length, IfOk, IsOk};
+ghost use Rattle.std.specs.Prelude.{◌≡◌, ◌≤◌, [], Some, length, IfOk, IsOk};
 ghost use Rattle.std.specs.Io.KnownBytes.{WriteAppends};
 ghost use Rattle.rv_io.specs.Memory.{IsCounted};
 

@@ -1,6 +1,6 @@
 //! Files read whole.
-ghost use Rattle.std.specs.Prelude.{◌≡◌, ◌+◌, ◌≤◌, IsTrue, length, IfOk, OnOk, OnErr, IfErr};
-ghost use Rattle.rv_io.specs.Outside.{Told, Leaves, HasCause, IsFile};
+ghost use Rattle.std.specs.Prelude.{◌+◌, ◌≤◌, IsTrue, length, IfOk, OnOk, IfErr};
+ghost use Rattle.rv_io.specs.Outside.{Leaves, IsFile};
 ghost use Rattle.rv_io.specs.Reading.{RefusesFile, StopsIn, ReadsOn, ReadsToEnd, RefusesMore};
 
 use crate::{Failed, Shelf};

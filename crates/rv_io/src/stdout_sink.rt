@@ -1,5 +1,5 @@
 //! Standard output, or any other writer. It tells no content.
-ghost use Rattle.std.specs.Prelude.{◌≡◌, ◌≤◌, None, ℕ, take, IfOk};
+ghost use Rattle.std.specs.Prelude.{◌≡◌, ◌≤◌, None, take, IfOk};
 ghost use Rattle.std.specs.Io.KnownBytes.{Appends};
 ghost use Rattle.rv_io.specs.Outside.{HasCause, TakesSome};
 

@@ -1,5 +1,5 @@
 //! Texts written whole.
-ghost use Rattle.std.specs.Prelude.{◌≤◌, ℕ, take, length, OnOk, IfErr};
+ghost use Rattle.std.specs.Prelude.{◌≤◌, OnOk, IfErr};
 ghost use Rattle.std.specs.Io.KnownBytes.{Appends};
 ghost use Rattle.rv_io.specs.Outside.{HasCause};
 ghost use Rattle.rv_io.specs.Writing.{HasSent};

@@ -1,4 +1,4 @@
-use Rattle.std.proofs.Common.{◌≤◌, ◌-◌, length, take, arith, length-take, length-drop, ℕ}
+use Rattle.std.proofs.Common.{◌≤◌, ◌-◌, length, arith, length-take, length-drop, ℕ}
 use Rattle.rv_io.proofs.Pieces.{written_more}
 use Rattle.rv_io.proofs.writing.write_all.Goals as goal
 
