@@ -1,17 +1,13 @@
 -- What reads and writes of one piece after another come to.
-use Rattle.std.proofs.Common.{◌≡◌, ◌≤◌, ◌+◌, ◌-◌, take, drop, ℕ, List, ◌++◌, length, Option, Some, None, refl, sym, ap, ◌∙◌, length-append, length-take, length-drop, take-append-drop, subst, arith}
+use Rattle.std.proofs.Common.{◌≡◌, ◌≤◌, ◌+◌, ◌-◌, take, drop, ℕ, List, ◌++◌, length, Option, sym, ap, ◌∙◌, length-append, length-take, length-drop, take-append-drop, subst, arith}
 use Rattle.std.specs.Io.KnownBytes.{Consumes, Appends}
 use Rattle.std.proofs.KnownBytes.{Appends-trans, Consumes-trans}
 use Rattle.std.proofs.Math.Seq.{take-add}
 use Rattle.std.proofs.lemmas.List.{take-take, take_at, drop-drop}
 use Rattle.rv_io.specs.declared.reading.ReadError.{ReadError}
 use Rattle.rv_io.specs.declared.reading.ReadError.TheVariants.{Fault, TooLong, NoMemory}
-use Rattle.rv_io.specs.Outside.{Files, Told, IsPicked}
-use Rattle.rv_io.specs.Reading.{HasTaken, ReadsOn, TakesOn, RefusesMore}
-
--- a piece that was read after others is consumed with them
-pub consumed_more : (start old new : Option (List ℕ)) (before after : List ℕ) (n : ℕ) → Consumes start old before → ReadsOn old new before after n → Consumes start new after
-consumed_more start old new before after n c r = subst (Consumes start new) (sym r.added) (Consumes-trans start old new before r.taken c r.consumed)
+use Rattle.rv_io.specs.Outside.{Told}
+use Rattle.rv_io.specs.Reading.{TakesOn, RefusesMore}
 
 -- what was taken after others is taken with them
 taken_more : (start old new : Option (List ℕ)) (before : List ℕ) (as_many : ℕ → Type 0) → Consumes start old before → (t : TakesOn old new (λ n. as_many (length before + n))) → TakesOn start new as_many
@@ -35,21 +31,6 @@ refused_later start old new before limit NoMemory c l r = taken_more start.rest 
   where
     shifted : TakesOn old.rest new.rest (λ n. length before + n ≤ limit) → TakesOn old.rest new.rest (λ n. 0 + (length before + n) ≤ limit)
     shifted t = record { taken = t.taken; consumed = t.consumed; count = omega (arith, t.count) }
-
--- what was taken of a picked file was taken of the file
-pub picked-taken : (files : Option Files) (start rest : Option (List ℕ)) (name taken : List ℕ) (as_many : ℕ → Type 0) → IsPicked files start name → Consumes start rest taken → as_many (length taken) → HasTaken files rest name as_many
-picked-taken None start rest name taken as_many p c m = tt
-picked-taken (Some fs) None rest name taken as_many p c m = absurd (none_some p.2)
-  where
-    none_some : {xs : List ℕ} → None ≡ Some xs → ⊥
-    none_some e = cc
-picked-taken (Some fs) (Some xs) None name taken as_many p c m = absurd c
-picked-taken (Some fs) (Some xs) (Some ys) name taken as_many p c m =
-    let same : p.0 ≡ xs = sym (inner p.2) in
-    (taken, ys, p.1 ∙ ap Some (same ∙ c), refl, m)
-  where
-    inner : {us vs : List ℕ} → Some us ≡ Some vs → us ≡ vs
-    inner e = cc
 
 -- one more write
 pub written_more : (a b c : Option (List ℕ)) (bytes : List ℕ) (sent count : ℕ) → sent ≤ length bytes → count ≤ length bytes - sent → Appends a b (take sent bytes) → Appends b c (take count (take (length bytes - sent) (drop sent bytes))) → Appends a c (take (sent + count) bytes)
