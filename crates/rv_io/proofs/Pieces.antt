@@ -1,0 +1,49 @@
+-- What reads and writes of one piece after another come to.
+use Rattle.std.proofs.Common.{◌≡◌, ◌≤◌, ◌+◌, ◌-◌, take, drop, ℕ, List, ◌++◌, length, Option, sym, ap, ◌∙◌, length-append, length-take, length-drop, take-append-drop, subst, arith}
+use Rattle.std.specs.Io.KnownBytes.{Consumes, Appends}
+use Rattle.std.proofs.KnownBytes.{Appends-trans, Consumes-trans}
+use Rattle.std.proofs.Math.Seq.{take-add}
+use Rattle.std.proofs.lemmas.List.{take-take, take_at, drop-drop}
+use Rattle.rv_io.specs.declared.reading.ReadError.{ReadError}
+use Rattle.rv_io.specs.declared.reading.ReadError.TheVariants.{Fault, TooLong, NoMemory}
+use Rattle.rv_io.specs.Outside.{Told}
+use Rattle.rv_io.specs.Reading.{TakesOn, RefusesMore}
+
+-- what was taken after others is taken with them
+taken_more : (start old new : Option (List ℕ)) (before : List ℕ) (as_many : ℕ → Type 0) → Consumes start old before → (t : TakesOn old new (λ n. as_many (length before + n))) → TakesOn start new as_many
+taken_more start old new before as_many c t = record {
+  taken = before ++ t.taken;
+  consumed = Consumes-trans start old new before t.taken c t.consumed;
+  count = subst as_many (sym (length-append before t.taken)) t.count;
+}
+
+-- a refusal after some pieces is one of the whole
+pub refused_later : (start old new : Told) (before : List ℕ) (limit : ℕ) (error : ReadError) → Consumes start.rest old.rest before → start.faults ≤ old.faults → RefusesMore old new (length before) limit error → RefusesMore start new 0 limit error
+refused_later start old new before limit Fault c l r = (omega (arith, r.0, l), taken_more start.rest old.rest new.rest before (λ n. 0 + n ≤ limit) c (shifted r.1))
+  where
+    shifted : TakesOn old.rest new.rest (λ n. length before + n ≤ limit) → TakesOn old.rest new.rest (λ n. 0 + (length before + n) ≤ limit)
+    shifted t = record { taken = t.taken; consumed = t.consumed; count = omega (arith, t.count) }
+refused_later start old new before limit (TooLong given) c l r = (r.0, taken_more start.rest old.rest new.rest before (λ n. 0 + n ≡ limit + 1) c (shifted r.1))
+  where
+    shifted : TakesOn old.rest new.rest (λ n. length before + n ≡ limit + 1) → TakesOn old.rest new.rest (λ n. 0 + (length before + n) ≡ limit + 1)
+    shifted t = record { taken = t.taken; consumed = t.consumed; count = omega (arith, t.count) }
+refused_later start old new before limit NoMemory c l r = taken_more start.rest old.rest new.rest before (λ n. 0 + n ≤ limit) c (shifted r)
+  where
+    shifted : TakesOn old.rest new.rest (λ n. length before + n ≤ limit) → TakesOn old.rest new.rest (λ n. 0 + (length before + n) ≤ limit)
+    shifted t = record { taken = t.taken; consumed = t.consumed; count = omega (arith, t.count) }
+
+-- one more write
+pub written_more : (a b c : Option (List ℕ)) (bytes : List ℕ) (sent count : ℕ) → sent ≤ length bytes → count ≤ length bytes - sent → Appends a b (take sent bytes) → Appends b c (take count (take (length bytes - sent) (drop sent bytes))) → Appends a c (take (sent + count) bytes)
+written_more a b c bytes sent count l k p q = subst (Appends a c) joined (Appends-trans a b c _ _ p q)
+  where
+    joined : take sent bytes ++ take count (take (length bytes - sent) (drop sent bytes)) ≡ take (sent + count) bytes
+    joined = ap (λ zs. take sent bytes ++ zs) (take-take count (length bytes - sent) (drop sent bytes) k) ∙ sym (take-add sent count bytes)
+
+-- a read from memory gives the front of what is left
+pub read_front : (xs got tail : List ℕ) (at n : ℕ) → at + n ≤ length xs → got ≡ take ((at + n) - at) (drop at xs) → drop at xs ≡ take n (got ++ tail) ++ drop (at + n) xs
+read_front xs got tail at n l e =
+    let k : (at + n) - at ≡ n = omega arith in
+    let g : got ≡ take n (drop at xs) = e ∙ ap (λ m. take m (drop at xs)) k in
+    let long : length got ≡ n = omega (arith, ap length g, length-take n (drop at xs), length-drop at xs) in
+    let whole : take n (got ++ tail) ≡ take n (drop at xs) = take_at got tail n long ∙ g in
+    sym (ap (λ zs. zs ++ drop (at + n) xs) whole ∙ ap (λ zs. take n (drop at xs) ++ zs) (sym (drop-drop n at xs)) ∙ take-append-drop n (drop at xs))

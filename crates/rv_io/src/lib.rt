@@ -1,0 +1,21 @@
+//! The outside of the program: shelves of files, sinks that take bytes, and the calls that read and write them whole.
+#![tactic(auto)]
+
+pub(crate) mod calls;
+pub mod file_shelf;
+pub mod mem_shelf;
+pub mod mem_sink;
+pub mod outside;
+pub mod reading;
+pub mod stdout_sink;
+#[cfg(test)]
+mod tests;
+pub mod writing;
+
+pub use file_shelf::FileShelf;
+pub use mem_shelf::MemShelf;
+pub use mem_sink::MemSink;
+pub use outside::{Failed, NoMemory, Shelf, Sink};
+pub use reading::{ReadError, read_all};
+pub use stdout_sink::StdoutSink;
+pub use writing::{WriteError, write_all};

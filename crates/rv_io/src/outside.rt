@@ -1,0 +1,56 @@
+//! What the program knows of the outside: a shelf of files and a sink of bytes, either of which may fail at any call.
+ghost use Rattle.std.specs.Prelude.{◌≡◌, ◌≤◌, ◌<◌, ◌↔◌, ℕ, List, [], length, IsTrue, Option, IfOk, IfSome, OnOk, OnErr};
+ghost use Rattle.std.specs.Io.{ReadsAtMost};
+ghost use Rattle.std.specs.Io.KnownBytes.{ReadConsumes, WriteAppends};
+ghost use Rattle.rv_io.specs.Outside.{Told, Leaves, HasCause, IsPicked, IsSpent, TakesSome};
+
+/// The outside refused: a call of a shelf or a sink did not do its work.
+#[derive(Clone, Copy, Debug, PartialEq, Eq)]
+pub struct Failed;
+
+/// There was no memory left.
+#[derive(Clone, Copy, Debug, PartialEq, Eq)]
+pub struct NoMemory;
+
+/// A shelf of files, of which one at a time is picked and then read from its first byte on.
+pub trait Shelf {
+    /// What the shelf tells of itself.
+    ghost told: { Self → Told };
+
+    /// Picks the file of this name. An absent file is a fault; after a fault nothing is picked.
+    fn pick(&mut self, name: &str) -> Result<(), Failed>
+        requires { IsTrue ((told self.old).may_pick name.now) }
+        ensures picked { OnOk result (IsPicked (told self.old).files (told self.new).rest
+            name.now) }
+        ensures none { OnErr result (IsSpent (told self.old).files (told self.new).rest) }
+        ensures leaves { Leaves (told self.old) (told self.new) }
+        ensures cause { HasCause (told self.old).faults (told self.new).faults result };
+
+    /// Takes the next bytes of the picked file into the front of `buf`, and answers how many: none
+    /// only at the end, and where nothing is picked. A fault takes none.
+    fn read(&mut self, buf: &mut [u8]) -> Result<usize, Failed>
+        requires { 0 < length buf.old }
+        ensures within { ReadsAtMost result buf.new }
+        ensures bytes { ReadConsumes (told self.old).rest (told self.new).rest result buf.new }
+        ensures end { IfOk result (λ n. IfSome (told self.old).rest
+            (λ left. (n ≡ 0) ↔ (left ≡ []))) }
+        ensures leaves { Leaves (told self.old) (told self.new) }
+        ensures cause { HasCause (told self.old).faults (told self.new).faults result };
+}
+
+/// What takes bytes, one after another.
+pub trait Sink {
+    /// The bytes that were taken so far, where the sink tells them.
+    ghost written: { Self → Option (List ℕ) };
+
+    /// How many writes failed.
+    ghost faults: { Self → ℕ };
+
+    /// Takes bytes from the front of `bytes`, and answers how many, at least one. A fault takes none.
+    fn write(&mut self, bytes: &[u8]) -> Result<usize, Failed>
+        requires { 0 < length bytes.now }
+        ensures some { TakesSome result bytes.now }
+        ensures bytes { WriteAppends (written self.old) (written self.new) result bytes.now }
+        ensures later { faults self.old ≤ faults self.new }
+        ensures cause { HasCause (faults self.old) (faults self.new) result };
+}

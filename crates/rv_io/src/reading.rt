@@ -1,0 +1,97 @@
+//! Files read whole.
+ghost use Rattle.std.specs.Prelude.{◌+◌, ◌≤◌, IsTrue, length, IfOk, OnOk, IfErr};
+ghost use Rattle.rv_io.specs.Outside.{Leaves, IsFile};
+ghost use Rattle.rv_io.specs.Reading.{RefusesFile, StopsIn, ReadsOn, ReadsToEnd, RefusesMore};
+
+use crate::{Failed, Shelf};
+use std::alloc::Global;
+use thiserror::Error;
+
+/// Why a file was not read.
+#[derive(Clone, Copy, Debug, PartialEq, Eq, Drop, Error)]
+pub enum ReadError {
+    /// The shelf failed.
+    #[error("Fault")]
+    Fault,
+    /// The file has more bytes than the limit.
+    #[error("TooLong")]
+    TooLong { limit: u64 },
+    /// There was no memory left.
+    #[error("NoMemory")]
+    NoMemory,
+}
+
+/// How many bytes one read asks for at most.
+const PIECE: usize = 1024;
+
+/// Reads the whole file of this name, of at most `limit` bytes.
+///
+/// `Fault` comes only where the shelf's faults rose, and `TooLong` exactly where more than `limit`
+/// bytes came before the end. At most `limit + 1` bytes are ever taken.
+pub fn read_all<S: Shelf>(
+    alloc: Global,
+    shelf: &mut S,
+    name: &str,
+    limit: u64,
+) -> Result<Vec<u8>, ReadError>
+    requires { IsTrue ((S.told shelf.old).may_pick name.now) }
+    ensures file { IfOk result (λ v. IsFile (S.told shelf.old).files name.now v.items) }
+    ensures within { IfOk result (λ v. length v.items ≤ limit) }
+    ensures refused { IfErr result (RefusesFile (S.told shelf.old) (S.told shelf.new) name.now
+        limit) }
+    ensures stops { StopsIn result (S.told shelf.old).files (S.told shelf.new).rest name.now
+        limit }
+    ensures leaves { Leaves (S.told shelf.old) (S.told shelf.new) }
+{
+    match shelf.pick(name) {
+        Ok(()) => read_left(alloc, shelf, limit),
+        Err(Failed) => Err(ReadError::Fault),
+    }
+}
+
+/// Reads what is left of the picked file, at most `limit` bytes.
+fn read_left<S: Shelf>(alloc: Global, shelf: &mut S, limit: u64) -> Result<Vec<u8>, ReadError>
+    ensures bytes { IfOk result (λ v. ReadsToEnd (S.told shelf.old).rest (S.told shelf.new).rest
+        v.items limit) }
+    ensures refused { IfErr result (RefusesMore (S.told shelf.old) (S.told shelf.new) 0 limit) }
+    ensures leaves { Leaves (S.told shelf.old) (S.told shelf.new) }
+{
+    let mut bytes = Vec::new(alloc);
+    'pieces: loop {
+        match read_piece(shelf, &mut bytes, limit) {
+            Ok(0) => return Ok(bytes),
+            Ok(_) => {}
+            Err(error) => return Err(error),
+        }
+    }
+}
+
+/// Reads the next bytes and puts them after `bytes`, which stay at most `limit` long.
+fn read_piece<S: Shelf>(shelf: &mut S, bytes: &mut Vec<u8>, limit: u64) -> Result<usize, ReadError>
+    requires { length bytes.old.items ≤ limit }
+    ensures on { IfOk result (λ n. ReadsOn (S.told shelf.old).rest (S.told shelf.new).rest
+        bytes.old.items bytes.new.items n) }
+    ensures within { OnOk result (length bytes.new.items ≤ limit) }
+    ensures refused { IfErr result (RefusesMore (S.told shelf.old) (S.told shelf.new)
+        (length bytes.old.items) limit) }
+    ensures leaves { Leaves (S.told shelf.old) (S.told shelf.new) }
+{
+    let room = limit - bytes.len() as u64;
+    let mut piece = [0u8; PIECE];
+    let most = if room < PIECE as u64 {
+        room as usize + 1
+    } else {
+        PIECE
+    };
+    let piece = &mut piece[..most];
+    let Ok(count) = shelf.read(piece) else {
+        return Err(ReadError::Fault);
+    };
+    if count as u64 > room {
+        return Err(ReadError::TooLong { limit });
+    }
+    if bytes.extend_from_slice(&piece[..count]).is_err() {
+        return Err(ReadError::NoMemory);
+    }
+    Ok(count)
+}

@@ -1,0 +1,47 @@
+//! Standard output, or any other writer. It tells no content.
+ghost use Rattle.std.specs.Prelude.{◌≡◌, ◌≤◌, None, take, IfOk};
+ghost use Rattle.std.specs.Io.KnownBytes.{Appends};
+ghost use Rattle.rv_io.specs.Outside.{HasCause, TakesSome};
+
+use crate::{Failed, Sink};
+use std::io::Write;
+
+/// A writer, as standard output is. Each write is flushed before it is answered.
+#[derive(Drop)]
+pub struct StdoutSink<W: Write + Drop> {
+    inner: W,
+    faults: u64,
+}
+
+impl<W: Write + Drop> StdoutSink<W> {
+    /// A sink that passes its bytes to this writer.
+    pub fn new(inner: W) -> StdoutSink<W>
+        ensures written { ⟦<StdoutSink<W> as Sink>⟧.written result ≡ None }
+        ensures faults { ⟦<StdoutSink<W> as Sink>⟧.faults result ≡ 0 }
+    {
+        StdoutSink { inner, faults: 0 }
+    }
+}
+
+impl<W: Write + Drop> Sink for StdoutSink<W> {
+    ghost written = { λ _. None };
+
+    ghost faults = { λ s. s.faults };
+
+    fn write(&mut self, bytes: &[u8]) -> Result<usize, Failed>
+        ensures some { TakesSome result bytes.now }
+        // The writer holds those bytes.
+        ensures passed { IfOk result (λ n. Appends (W.contents self.old.inner)
+            (W.contents self.new.inner) (take n bytes.now)) }
+        ensures later { self.old.faults ≤ self.new.faults }
+        ensures cause { HasCause self.old.faults self.new.faults result }
+    {
+        if let Ok(count) = self.inner.write(bytes) {
+            if count > 0 && self.inner.flush().is_ok() {
+                return Ok(count);
+            }
+        }
+        self.faults = self.faults.saturating_add(1);
+        Err(Failed)
+    }
+}
