@@ -85,3 +85,95 @@ ran_print T is e c start w v old new k ran kept p =
     has_read : (o : Outcome) → HasEvents 1 c (Command (Print e)) o (record { session = 1; command = c; act = Read } ∷ [])
     has_read NoMemory = inl refl
     has_read _ = refl
+
+-- ---- REL
+-- a listed relation and its name join the state
+ran_assigned : (T : Trees) (is : List Item) (c : ℕ) (start w v : Worker) (old new : Run) (name : List ℕ) (rows : ℕ) (rows_at : Place) (cols : ℕ) (cols_at : Place) (list : _) → length is + 1 ≡ c →
+    item_at T 1 c ≡ Some (Command (RELATION name rows rows_at cols cols_at list)) → RanTo T is start w old → Keeps w v → Assigned c name rows cols (relation_of rows cols (lists list.items)) v old new →
+    RanTo T (is ++ Command (RELATION name rows rows_at cols cols_at list) ∷ []) start v new
+unfolding due due_of_command reply assigned
+ran_assigned T is c start w v old new name rows rows_at cols cols_at list k here ran kept a =
+    let H = old.history.items in
+    let rel = a.rel in
+    let ev : Event = record { session = 1; command = c; act = Assign name rel } in
+    let i = Command (RELATION name rows rows_at cols cols_at list) in
+    let below : Below c H = subst (λ n. Below n H) k ran.below in
+    let long : length (is ++ i ∷ []) ≡ c = length-append is (i ∷ []) ∙ k in
+    ran_as T (is ++ i ∷ []) start v (old.names.items ++ (name, rel) ∷ []) _ (H ++ ev ∷ []) _ (old.outcomes.items ++ Done ∷ []) _ old.page.items _ a.assigns.names a.assigns.history a.assigns.outcomes a.assigns.page
+    (record {
+      keeps = keeps_trans start w v ran.keeps kept;
+      below = subst (λ n. Below (n + 1) (H ++ ev ∷ [])) (sym long) (below-push c H ev below refl refl);
+      state = (λ j n. newest n j) ∙ sym (state_after-listed T H 1 c name rel name rows rows_at cols cols_at list here);
+      standing = stand;
+      legal = legal_append T (H ++ ev ∷ []) is old.outcomes.items i Done 1 c H (ev ∷ []) (omega arith) (legal_later T H ev is old.outcomes.items 1 c H (omega arith) refl ran.legal) (rel, refl, a.gives.row_size, a.gives.col_size) (inl refl);
+      text = ran.text ∙ sym (page_later T H ev is old.outcomes.items 1 c (omega arith) refl) ∙ sym (append-nil _)
+          ∙ sym (page_append T (H ++ ev ∷ []) is old.outcomes.items i Done 1 c (omega arith) (legal-length T H is old.outcomes.items 1 H ran.legal));
+      missed = missed_more old.outcomes.items Done start.misses w.misses v.misses ran.keeps.misses kept.misses ran.missed (λ h. absurd (other h));
+    })
+  where
+    other : Done ≡ Nodes → ⊥
+    other h = cc
+
+    newest : (n : List ℕ) → means v (old.names.items ++ (name, a.rel) ∷ []) n ≡ cond (same_text name n) (Some (relation_of rows cols (lists list.items))) (state_after T old.history.items n)
+    newest n = ap (option_and_then v.relation) (rel_of-push old.names.items name a.rel n) ∙ by_test (same_text name n)
+      where
+        by_test : (b : Bool) → option_and_then v.relation (cond b (Some a.rel) (rel_of old.names.items n)) ≡ cond b (Some (relation_of rows cols (lists list.items))) (state_after T old.history.items n)
+        by_test true = a.gives.means
+        by_test false = ap (λ s. s n) (means_kept w v old.names.items kept ran.standing ∙ ran.state)
+
+    stand : AllStand v (old.names.items ++ (name, a.rel) ∷ [])
+    stand n r h = by_test (same_text name n) (sym (rel_of-push old.names.items name a.rel n) ∙ h)
+      where
+        some_inj : {x y : Rel} → Some x ≡ Some y → x ≡ y
+        some_inj e = cc
+
+        by_test : (b : Bool) → cond b (Some a.rel) (rel_of old.names.items n) ≡ Some r → Stands v r
+        by_test true e = subst (λ x. Stands v x) (some_inj e) (gives_stands v rows cols _ a.rel a.gives)
+        by_test false e = all_stand_kept w v old.names.items kept ran.standing n r e
+
+-- a refusal without an event
+ran_refused : (T : Trees) (is : List Item) (c : ℕ) (start w v : Worker) (old new : Run) (name : List ℕ) (rows : ℕ) (rows_at : Place) (cols : ℕ) (cols_at : Place) (list : _) → length is + 1 ≡ c → RanTo T is start w old → Keeps w v → Refused c w.misses v.misses old new →
+    RanTo T (is ++ Command (RELATION name rows rows_at cols cols_at list) ∷ []) start v new
+unfolding due due_of_command
+ran_refused T is c start w v old new name rows rows_at cols cols_at list k ran kept r =
+    let H = old.history.items in
+    let i = Command (RELATION name rows rows_at cols cols_at list) in
+    let long : length (is ++ i ∷ []) ≡ length is + 1 = length-append is (i ∷ []) in
+    let o = lack_outcome r.lack in
+    ran_as T (is ++ i ∷ []) start v old.names.items _ H _ (old.outcomes.items ++ o ∷ []) _ _ _ r.refuses.names r.refuses.history r.refuses.outcomes r.refuses.page
+    (record {
+      keeps = keeps_trans start w v ran.keeps kept;
+      below = subst (λ n. Below (n + 1) H) (sym long) (below-more (length is + 1) H ran.below);
+      state = means_kept w v old.names.items kept ran.standing ∙ ran.state;
+      standing = all_stand_kept w v old.names.items kept ran.standing;
+      legal = subst (λ es. LegalItems T H 1 1 (is ++ i ∷ []) (old.outcomes.items ++ o ∷ []) es) (append-nil H) (legal_append T H is old.outcomes.items i o 1 c H [] (omega arith) ran.legal (no_event r.lack) (lawful r.lack));
+      text = ap (λ x. x ++ (prefix 1 c ++ refusal_text o)) ran.text ∙ ap (λ x. items_page T H 1 1 is old.outcomes.items ++ x) (shown r.lack (due i (state_for T H 1 c)))
+          ∙ sym (page_append T H is old.outcomes.items i o 1 c (omega arith) (legal-length T H is old.outcomes.items 1 H ran.legal));
+      missed = missed_more old.outcomes.items o start.misses w.misses v.misses ran.keeps.misses kept.misses ran.missed (λ h. r.missed (is_full r.lack h));
+    })
+  where
+    no_event : (lack : Lack) → HasEvents 1 c (Command (RELATION name rows rows_at cols cols_at list)) (lack_outcome lack) []
+    no_event Full = refl
+    no_event NO_MEMORY = refl
+
+    lawful : (lack : Lack) → IsOutcome (Command (RELATION name rows rows_at cols cols_at list)) (Value (relation_of rows cols (lists list.items))) (lack_outcome lack)
+    lawful Full = inr (inl (refl, tt))
+    lawful NO_MEMORY = inr (inr (refl, tt))
+
+    is_full : (lack : Lack) → lack_outcome lack ≡ Nodes → lack ≡ Full
+    is_full Full h = refl
+    is_full NO_MEMORY h = absurd (other h)
+      where
+        other : NoMemory ≡ Nodes → ⊥
+        other h = cc
+
+    shown : (lack : Lack) (d : Due) → prefix 1 c ++ refusal_text (lack_outcome lack) ≡ reply 1 c (Command (RELATION name rows rows_at cols cols_at list)) d (lack_outcome lack)
+    unfolding reply
+    shown Full d = refl
+    shown NO_MEMORY d = refl
+
+pub ran_relation : (T : Trees) (is : List Item) (c : ℕ) (start w v : Worker) (old new : Run) (name : List ℕ) (rows : ℕ) (rows_at : Place) (cols : ℕ) (cols_at : Place) (list : _) → length is + 1 ≡ c →
+    item_at T 1 c ≡ Some (Command (RELATION name rows rows_at cols cols_at list)) → RanTo T is start w old → Keeps w v →
+    Assigned c name rows cols (relation_of rows cols (lists list.items)) v old new ⊎ Refused c w.misses v.misses old new → RanTo T (is ++ Command (RELATION name rows rows_at cols cols_at list) ∷ []) start v new
+ran_relation T is c start w v old new name rows rows_at cols cols_at list k here ran kept (inl a) = ran_assigned T is c start w v old new name rows rows_at cols cols_at list k here ran kept a
+ran_relation T is c start w v old new name rows rows_at cols cols_at list k here ran kept (inr r) = ran_refused T is c start w v old new name rows rows_at cols cols_at list k ran kept r
