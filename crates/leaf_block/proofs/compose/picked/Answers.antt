@@ -1,0 +1,4 @@
+use Rattle.leaf_block.proofs.compose.picked.Goals as goal
+
+pub returns : goal.returns
+returns c = ?
