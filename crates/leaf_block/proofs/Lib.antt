@@ -1,3 +1,4 @@
 pub mod Bits
+pub mod Composes
 pub mod Sets
 pub mod Turns

@@ -50,8 +50,11 @@ set-not b q = elim (cases_Bool (eqb b 1)) [
   | inr e ↦ let x = eqb-false b 1 e in rw e (eq-eqb (1 - b) 1 (omega arith))
 ]
 
+pub bit_or-set : (a b n : ℕ) → eqb (bit_at (bit_or a b) n) 1 ≡ (eqb (bit_at a n) 1 || eqb (bit_at b n) 1)
+bit_or-set a b n = ap (λ (v : ℕ). eqb v 1) (bit_at_or a b n) ∙ set-or _ _ (bit_at-lt a n) (bit_at-lt b n)
+
 pub is_set-or : (a b i j : ℕ) → is_set (bit_or a b) i j ≡ (is_set a i j || is_set b i j)
-is_set-or a b i j = ap (λ (v : ℕ). eqb v 1) (bit_at_or a b (8 * i + j)) ∙ set-or _ _ (bit_at-lt a (8 * i + j)) (bit_at-lt b (8 * i + j))
+is_set-or a b i j = bit_or-set a b (8 * i + j)
 
 pub is_set-and : (a b i j : ℕ) → is_set (bit_and a b) i j ≡ (is_set a i j && is_set b i j)
 is_set-and a b i j = ap (λ (v : ℕ). eqb v 1) (bit_at_and a b (8 * i + j)) ∙ set-and _ _ (bit_at-lt a (8 * i + j)) (bit_at-lt b (8 * i + j))
