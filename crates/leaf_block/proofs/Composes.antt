@@ -93,7 +93,7 @@ has_bit x m =
       | inr t ↦ (let n = eqb-false _ 1 t in let o : bit_at x m ≡ 0 = omega arith in let f : bit_at x m * 2 ^ m ≡ 0 = ap (λ (v : ℕ). v * 2 ^ m) o ∙ omega arith in ne_eqb _ _ (λ d. omega arith) ∙ sym t)
     ]
 
-chosen_bit : (t : Bool) (x j : ℕ) → eqb (bit_at (cond t x 0) j) 1 ≡ (t && eqb (bit_at x j) 1)
+pub chosen_bit : (t : Bool) (x j : ℕ) → eqb (bit_at (cond t x 0) j) 1 ≡ (t && eqb (bit_at x j) 1)
 chosen_bit true x j = refl
 chosen_bit false x j = let z = bit_at-zero j in ne_eqb (bit_at 0 j) 1 (λ e. omega arith)
 
