@@ -84,13 +84,13 @@ bit-turned s m x n =
     bit_at_and (bit_xor x (x / 2 ^ s)) m n
     ∙ ap (λ (v : ℕ). min v (bit_at m n)) (bit_at_xor x (x / 2 ^ s) n ∙ ap (λ (v : ℕ). (bit_at x n + v) % 2) (bit-shr x s n))
 
-bit-swapped : (w s m x n : ℕ) → n < w
-    → bit_at (swapped w s m x) n ≡ ((bit_at x n + min ((bit_at x n + bit_at x (s + n)) % 2) (bit_at m n)) % 2 + bit_at (turned s m x * 2 ^ s) n) % 2
-bit-swapped w s m x n l =
+bit-swapped : (s m x n : ℕ) → n < 64
+    → bit_at (swapped s m x) n ≡ ((bit_at x n + min ((bit_at x n + bit_at x (s + n)) % 2) (bit_at m n)) % 2 + bit_at (turned s m x * 2 ^ s) n) % 2
+bit-swapped s m x n l =
     let t = turned s m x in
-    bit_at_xor (bit_xor x t) (t * 2 ^ s % 2 ^ w) n
-    ∙ ap (λ (v : ℕ). (v + bit_at (t * 2 ^ s % 2 ^ w) n) % 2) (bit_at_xor x t n ∙ ap (λ (v : ℕ). (bit_at x n + v) % 2) (bit-turned s m x n))
-    ∙ ap (λ (v : ℕ). ((bit_at x n + min ((bit_at x n + bit_at x (s + n)) % 2) (bit_at m n)) % 2 + v) % 2) (bit-mod (t * 2 ^ s) w n l)
+    bit_at_xor (bit_xor x t) (t * 2 ^ s % 2 ^ 64) n
+    ∙ ap (λ (v : ℕ). (v + bit_at (t * 2 ^ s % 2 ^ 64) n) % 2) (bit_at_xor x t n ∙ ap (λ (v : ℕ). (bit_at x n + v) % 2) (bit-turned s m x n))
+    ∙ ap (λ (v : ℕ). ((bit_at x n + min ((bit_at x n + bit_at x (s + n)) % 2) (bit_at m n)) % 2 + v) % 2) (bit-mod (t * 2 ^ s) 64 n l)
 
 min_zero : (a b : ℕ) → b ≡ 0 → min a b ≡ 0
 min_zero a b z = omega arith
@@ -115,12 +115,12 @@ taken : (s m x n : ℕ) → s ≤ n → eqb (bit_at m n) 1 ≡ false → eqb (bi
 taken s m x n d e g =
     let h : s + (n - s) ≡ n = omega arith in
     let t : bit_at (turned s m x * 2 ^ s) n ≡ min ((bit_at x (n - s) + bit_at x n) % 2) (bit_at m (n - s)) =
-        bit-shl_high (turned s m x) s n d ∙ bit-turned s m x (n - s) ∙ ap (λ (k : ℕ). min ((bit_at x (n - s) + bit_at x k) % 2) (bit_at m (n - s))) h in
+    bit-shl_high (turned s m x) s n d ∙ bit-turned s m x (n - s) ∙ ap (λ (k : ℕ). min ((bit_at x (n - s) + bit_at x k) % 2) (bit_at m (n - s))) h in
     ap (λ (v : ℕ). ((bit_at x n + min ((bit_at x n + bit_at x (s + n)) % 2) (bit_at m n)) % 2 + v) % 2) t
     ∙ from_below _ _ _ _ _ (bit_at-lt x n) (bit_at-lt x (s + n)) (bit_at-lt x (n - s)) (clear m n e) (eqb-true _ 1 g)
 
-pub swapped-partner : (w s m x n : ℕ) → n < w → is_apart s m n ≡ true → bit_at (swapped w s m x) n ≡ bit_at x (partner s m n)
-swapped-partner w s m x n l a = bit-swapped w s m x n l ∙ elim (cases_Bool (eqb (bit_at m n) 1)) [
+pub swapped-partner : (s m x n : ℕ) → n < 64 → is_apart s m n ≡ true → bit_at (swapped s m x) n ≡ bit_at x (partner s m n)
+swapped-partner s m x n l a = bit-swapped s m x n l ∙ elim (cases_Bool (eqb (bit_at m n) 1)) [
   | inl e ↦ from_above _ _ _ _ (bit_at-lt x n) (bit_at-lt x (s + n)) (eqb-true _ 1 e) (none_below s m x n a e) ∙ ap (bit_at x) (sym (cond-true _ _ _ e))
   | inr e ↦ elim (cases_lt n s) [
     | inl d ↦ from_here _ _ _ _ (bit_at-lt x n) (bit_at-lt x (s + n)) (clear m n e) (bit-shl_low _ s n d)
@@ -134,18 +134,10 @@ swapped-partner w s m x n l a = bit-swapped w s m x n l ∙ elim (cases_Bool (eq
 ]
 
 -- the swap of each lane, as the code computes it
-pub swap-lanes : (w s m n : ℕ) (xs : List ℕ) → length xs ≡ n
+pub swap-lanes : (s m n : ℕ) (xs : List ℕ) → length xs ≡ n
     → zip2 bit_xor (zip2 bit_xor xs (zip2 bit_and (zip2 bit_xor xs (zip2 (λ x s. x / 2 ^ s) xs (replicate n s))) (replicate n m)))
-      (zip2 (λ x s. x * 2 ^ s % 2 ^ w) (zip2 bit_and (zip2 bit_xor xs (zip2 (λ x s. x / 2 ^ s) xs (replicate n s))) (replicate n m)) (replicate n s))
-    ≡ map (swapped w s m) xs
-swap-lanes w s m n [] e = refl
-swap-lanes w s m zero (x ∷ xs) e = absurd (omega arith)
-swap-lanes w s m (suc n) (x ∷ xs) e = ap (λ (l : List ℕ). swapped w s m x ∷ l) (swap-lanes w s m n xs (omega arith))
-
-pub swapped-lt : (w s m x : ℕ) → x < 2 ^ w → m < 2 ^ w → swapped w s m x < 2 ^ w
-swapped-lt w s m x p q =
-    let t = turned s m x in
-    let a : t ≤ m = and_le_r (bit_xor x (x / 2 ^ s)) m in
-    let b : t < 2 ^ w = omega arith in
-    let c = pow_pos w in
-    xor_lt w (bit_xor x t) (t * 2 ^ s % 2 ^ w) (xor_lt w x t p b) (omega arith)
+    (zip2 (λ x s. x * 2 ^ s % 2 ^ 64) (zip2 bit_and (zip2 bit_xor xs (zip2 (λ x s. x / 2 ^ s) xs (replicate n s))) (replicate n m)) (replicate n s))
+    ≡ map (swapped s m) xs
+swap-lanes s m n [] e = refl
+swap-lanes s m zero (x ∷ xs) e = absurd (omega arith)
+swap-lanes s m (suc n) (x ∷ xs) e = ap (λ (l : List ℕ). swapped s m x ∷ l) (swap-lanes s m n xs (omega arith))

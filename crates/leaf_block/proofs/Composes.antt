@@ -29,13 +29,13 @@ picked-lanes rows bits row f g h =
     let long : length tests ≡ 16 = length-zip2 eqb kept bits (omega arith) ∙ long_kept in
     let is = ap (λ (ms : List Bool). sel_l ms row (replicate 16 0)) (tops_compared w8 eqb kept bits) in
     let lane : (i : ℕ) → i < 16 → get_or (sel_l tests row (replicate 16 0)) i 0 ≡ cond (eqb (bit_and (get_or rows i 0) (get_or bits i 0)) (get_or bits i 0)) (get_or row i 0) 0 =
-        λ i l.
-        get_or-sel_l tests row (replicate 16 0) i 0 (omega arith) (omega arith) l
-        ∙ ap (λ (t : Bool). cond t (get_or row i 0) (get_or (replicate 16 0) i 0)) (get_or-zip2 eqb kept bits i 0 0 false (omega arith) (omega arith))
-        ∙ ap (λ (v : ℕ). cond (eqb v (get_or bits i 0)) (get_or row i 0) (get_or (replicate 16 0) i 0)) (get_or-zip2 bit_and rows bits i 0 0 0 (omega arith) (omega arith))
-        ∙ ap (λ (v : ℕ). cond (eqb (bit_and (get_or rows i 0) (get_or bits i 0)) (get_or bits i 0)) (get_or row i 0) v) (get_or-replicate 16 i 0 0 l) in
+    λ i l.
+    get_or-sel_l tests row (replicate 16 0) i 0 (omega arith) (omega arith) l
+    ∙ ap (λ (t : Bool). cond t (get_or row i 0) (get_or (replicate 16 0) i 0)) (get_or-zip2 eqb kept bits i 0 0 false (omega arith) (omega arith))
+    ∙ ap (λ (v : ℕ). cond (eqb v (get_or bits i 0)) (get_or row i 0) (get_or (replicate 16 0) i 0)) (get_or-zip2 bit_and rows bits i 0 0 0 (omega arith) (omega arith))
+    ∙ ap (λ (v : ℕ). cond (eqb (bit_and (get_or rows i 0) (get_or bits i 0)) (get_or bits i 0)) (get_or row i 0) v) (get_or-replicate 16 i 0 0 l) in
     let lanes : (i : ℕ) → i < 16 → get_or (sel_l (map (top 7) (zip2 (λ a b. all_ones (eqb a b)) kept bits)) row (replicate 16 0)) i 0 ≡ cond (eqb (bit_and (get_or rows i 0) (get_or bits i 0)) (get_or bits i 0)) (get_or row i 0) 0 =
-        λ i l. ap (λ (v : List ℕ). get_or v i 0) is ∙ lane i l in
+    λ i l. ap (λ (v : List ℕ). get_or v i 0) is ∙ lane i l in
     record {
       len = ap length is ∙ length-sel_l tests row (replicate 16 0) (omega arith) long ∙ long;
       lanes = lanes;
@@ -211,10 +211,10 @@ half_joins a b s0 s1 s2 s3 p q s h i j ph pi pj =
     ∙ ap (λ (v : ℕ). eqb (bit_at v j) 1) (t.lanes (8 * h + i) k)
     ∙ or_four (get_or s0 (8 * h + i) 0) (get_or s1 (8 * h + i) 0) (get_or s2 (8 * h + i) 0) (get_or s3 (8 * h + i) 0) j
     ∙ same_ors
-      (step_at a b 3 s3 p q (omega arith) s.step_3 h (8 * h + i) i j ph pi pj refl)
-      (step_at a b 2 s2 p q (omega arith) s.step_2 h (8 * h + i) i j ph pi pj refl)
-      (step_at a b 1 s1 p q (omega arith) s.step_1 h (8 * h + i) i j ph pi pj refl)
-      (step_at a b 0 s0 p q (omega arith) s.step_0 h (8 * h + i) i j ph pi pj refl)
+    (step_at a b 3 s3 p q (omega arith) s.step_3 h (8 * h + i) i j ph pi pj refl)
+    (step_at a b 2 s2 p q (omega arith) s.step_2 h (8 * h + i) i j ph pi pj refl)
+    (step_at a b 1 s1 p q (omega arith) s.step_1 h (8 * h + i) i j ph pi pj refl)
+    (step_at a b 0 s0 p q (omega arith) s.step_0 h (8 * h + i) i j ph pi pj refl)
   where
     same_ors : {x3 x2 x1 x0 y3 y2 y1 y0 : Bool} → x3 ≡ y3 → x2 ≡ y2 → x1 ≡ y1 → x0 ≡ y0 → (x3 || (x2 || (x1 || x0))) ≡ (y3 || (y2 || (y1 || y0)))
     same_ors d c b a = cc
@@ -244,7 +244,7 @@ block_cells-composed a b s0 s1 s2 s3 p q s = block_is _ _ (composed_within a b) 
     is_set-or (word_of (all_steps s0 s1 s2 s3) 1) (word_of (all_steps s0 s1 s2 s3) 0) i j
     ∙ ap (λ (t : Bool). t || is_set (word_of (all_steps s0 s1 s2 s3) 0) i j) (half_joins a b s0 s1 s2 s3 p q s 1 i j (omega arith) u v)
     ∙ ap
-      (λ (t : Bool). (joins a b i j 7 || (joins a b i j 6 || (joins a b i j 5 || joins a b i j 4))) || t)
-      (half_joins a b s0 s1 s2 s3 p q s 0 i j (omega arith) u v)
+    (λ (t : Bool). (joins a b i j 7 || (joins a b i j 6 || (joins a b i j 5 || joins a b i j 4))) || t)
+    (half_joins a b s0 s1 s2 s3 p q s 0 i j (omega arith) u v)
     ∙ brackets (joins a b i j 7) (joins a b i j 6) (joins a b i j 5) (joins a b i j 4) (joins a b i j 3) (joins a b i j 2) (joins a b i j 1) (joins a b i j 0)
     ∙ joins_all a b i j u v)

@@ -65,8 +65,8 @@ rect_bits rows cols x p q is = block_is _ _ (rect_within rows cols p q) (λ i j 
     let f : x < 2 ^ 8 = omega arith in
     ap (λ (v : ℕ). eqb v 1)
     (bit-mod (number_l (2 ^ 8) (rect_lanes rows x)) 64 (8 * i + j) (omega arith)
-      ∙ bit-number 8 (rect_lanes rows x) i j (rect_fits rows x f) v
-      ∙ ap (λ (w : ℕ). bit_at w j) (rect_lane rows x i u))
+    ∙ bit-number 8 (rect_lanes rows x) i j (rect_fits rows x f) v
+    ∙ ap (λ (w : ℕ). bit_at w j) (rect_lane rows x i u))
     ∙ chosen_bit (ltb i rows) x j
     ∙ ap (λ (w : ℕ). ltb i rows && eqb (bit_at w j) 1) is
     ∙ ap (λ (t : Bool). ltb i rows && t) (ones_below cols j))

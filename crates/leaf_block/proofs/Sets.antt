@@ -155,6 +155,7 @@ bit-bits_below f (suc n) m l =
           let a : 0 + bits_below f n ≡ bits_below f n = omega arith in
           ne_eqb _ 1 (λ h. let b = ap (λ (v : ℕ). bit_at v n) a in let c = bit_at_above (bits_below f n) n n r (omega arith) in omega arith))
     ]
+
     low_bit : (f : Cells) (n m : ℕ) → m < n → eqb (bit_at (bits_below f (suc n)) m) 1 ≡ eqb (bit_at (bits_below f n) m) 1
     low_bit f n m l = elim (cases_Bool (f (n / 8) (n % 8))) [
       | inl t ↦ rw t (

@@ -7,8 +7,8 @@ pub record IsPicked (rows bits row picked : List ℕ) : Type 0 where
   pub lanes : (i : ℕ) → i < 16 → slice_index picked i ≡ cond (bit_and (slice_index rows i) (slice_index bits i) == slice_index bits i) (slice_index row i) 0
   pub fits : (i : ℕ) → i < 16 → slice_index picked i < 2 ^ 8
 
--- a number of w bits in which the bits of the mask are exchanged with those s places above them
-abbrev pub swapped : ℕ → ℕ → ℕ → ℕ → ℕ
-swapped w s mask x =
-    let t = bit_and (bit_xor x (x / 2 ^ s)) mask in
-    bit_xor (bit_xor x t) (t * 2 ^ s % 2 ^ w)
+-- a word in which the bits of the mask are exchanged with those s places after them
+abbrev pub swapped : ℕ → ℕ → ℕ → ℕ
+swapped s mask x =
+    let turned = bit_and (bit_xor x (x / 2 ^ s)) mask in
+    bit_xor (bit_xor x turned) (turned * 2 ^ s % 2 ^ 64)

@@ -39,7 +39,9 @@ pub fn block_compose(a: u64, b: u64) -> u64
     );
     let step_3 = picked(
         rows,
-        u8x16::from_array([8, 8, 8, 8, 8, 8, 8, 8, 128, 128, 128, 128, 128, 128, 128, 128]),
+        u8x16::from_array([
+            8, 8, 8, 8, 8, 8, 8, 8, 128, 128, 128, 128, 128, 128, 128, 128,
+        ]),
         from.swizzle::<16>([3, 3, 3, 3, 3, 3, 3, 3, 7, 7, 7, 7, 7, 7, 7, 7]),
     );
     let halves = u64x2::from_le_bytes(step_3 | (step_2 | (step_1 | step_0))).to_array();

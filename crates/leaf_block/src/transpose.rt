@@ -1,45 +1,29 @@
 //! The transposition of a block.
-ghost use Rattle.std.specs.Prelude.{◌≡◌, map};
+ghost use Rattle.std.specs.Prelude.{◌≡◌, ◌<◌, map};
 ghost use Rattle.rel_model.specs.Cells.{block_cells, cells_transpose};
 ghost use Rattle.leaf_block.specs.Lanes.{swapped};
 
 use std::simd::prelude::*;
 
-/// In each two rows, exchanges the cells of each two columns that lie across.
+/// Exchanges the cells of the mask with those `by` places after them.
 #[inline(always)]
-fn swap_cells(x: u16x4) -> u16x4
-    ensures { result ≡ map (swapped 16 7 0x00AA) x }
+fn swap(x: u64x1, by: u64, mask: u64) -> u64x1
+    requires { by < 64 }
+    ensures { result ≡ map (swapped by mask) x }
 {
-    let t = (x ^ (x >> 7)) & u16x4::splat(0x00AA);
-    x ^ t ^ (t << 7)
-}
-
-/// In each four rows, exchanges the squares of 2 by 2 that lie across.
-#[inline(always)]
-fn swap_pairs(x: u32x2) -> u32x2
-    ensures { result ≡ map (swapped 32 14 0x0000_CCCC) x }
-{
-    let t = (x ^ (x >> 14)) & u32x2::splat(0x0000_CCCC);
-    x ^ t ^ (t << 14)
-}
-
-/// Exchanges the two squares of 4 by 4 that lie across.
-#[inline(always)]
-fn swap_fours(x: u64x1) -> u64x1
-    ensures { result ≡ map (swapped 64 28 0x0000_0000_F0F0_F0F0) x }
-{
-    let t = (x ^ (x >> 28)) & u64x1::splat(0x0000_0000_F0F0_F0F0);
-    x ^ t ^ (t << 28)
+    let places = u64x1::splat(by);
+    let turned = (x ^ (x >> places)) & u64x1::splat(mask);
+    x ^ turned ^ (turned << places)
 }
 
 /// Cell (i, j) where (j, i) is in `a`.
 ///
-/// Three swaps, in lanes of two, four and eight rows.
+/// Three swaps, of the squares that lie across in each square of 2, of 4 and of 8 rows. The eight rows are one lane of 64 bits.
 pub fn block_transpose(a: u64) -> u64
     ensures { block_cells result ≡ cells_transpose (block_cells a) }
 {
-    let twos = swap_cells(u16x4::from_le_bytes(u64x1::splat(a).to_le_bytes()));
-    let fours = swap_pairs(u32x2::from_le_bytes(twos.to_le_bytes()));
-    let eights = swap_fours(u64x1::from_le_bytes(fours.to_le_bytes())).to_array();
-    eights[0]
+    let cells = swap(u64x1::splat(a), 7, 0x00AA_00AA_00AA_00AA);
+    let pairs = swap(cells, 14, 0x0000_CCCC_0000_CCCC);
+    let fours = swap(pairs, 28, 0x0000_0000_F0F0_F0F0).to_array();
+    fours[0]
 }

@@ -4,4 +4,4 @@ use Rattle.leaf_block.proofs.transpose.block_transpose.Goals as goal
 pub returns : goal.returns
 returns c =
     transposed_from_bits c.args.a _
-    (bit-transposed c.args.a c.swap_cells-twos.result c.swap_pairs-fours.result c.swap_fours.result c.ranges.a.fits c.swap_cells-twos.ensures c.swap_pairs-fours.ensures c.swap_fours.ensures)
+    (bit-transposed c.args.a c.swap-cells.result c.swap-pairs.result c.swap.result c.swap-cells.ensures c.swap-pairs.ensures c.swap.ensures)
