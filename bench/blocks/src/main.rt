@@ -5,6 +5,7 @@ use leaf_block::{block_compose, block_transpose};
 use std::io;
 
 const BLOCKS: u64 = 10000000;
+
 const ROUNDS: u32 = 9;
 
 /// The next of a row of numbers in which each bit changes often.
@@ -75,27 +76,33 @@ fn main(rt: HostRuntime) -> io::Result<()> {
     for _ in 0..ROUNDS {
         let start = std::time::Instant::now(&rt)?;
         sum ^= compose_each(BLOCKS);
-        least.compose_each = least.compose_each.min(start.elapsed(&rt)?.as_nanos() / (BLOCKS as u128 / 100));
+        least.compose_each = least
+            .compose_each
+            .min(start.elapsed(&rt)?.as_nanos() / (BLOCKS as u128 / 100));
         let start = std::time::Instant::now(&rt)?;
         sum ^= compose_chain(BLOCKS);
-        least.compose_chain = least.compose_chain.min(start.elapsed(&rt)?.as_nanos() / (BLOCKS as u128 / 100));
+        least.compose_chain = least
+            .compose_chain
+            .min(start.elapsed(&rt)?.as_nanos() / (BLOCKS as u128 / 100));
         let start = std::time::Instant::now(&rt)?;
         sum ^= transpose_each(BLOCKS);
-        least.transpose_each = least.transpose_each.min(start.elapsed(&rt)?.as_nanos() / (BLOCKS as u128 / 100));
+        least.transpose_each = least
+            .transpose_each
+            .min(start.elapsed(&rt)?.as_nanos() / (BLOCKS as u128 / 100));
         let start = std::time::Instant::now(&rt)?;
         sum ^= transpose_chain(BLOCKS);
-        least.transpose_chain = least.transpose_chain.min(start.elapsed(&rt)?.as_nanos() / (BLOCKS as u128 / 100));
+        least.transpose_chain = least
+            .transpose_chain
+            .min(start.elapsed(&rt)?.as_nanos() / (BLOCKS as u128 / 100));
     }
-    println!(
-        rt;
+    println!(rt;
         "leaf_block compose            {}.{:02} ns each,   {}.{:02} ns chained",
         least.compose_each / 100,
         least.compose_each % 100,
         least.compose_chain / 100,
         least.compose_chain % 100
     )?;
-    println!(
-        rt;
+    println!(rt;
         "leaf_block transpose          {}.{:02} ns each,   {}.{:02} ns chained",
         least.transpose_each / 100,
         least.transpose_each % 100,

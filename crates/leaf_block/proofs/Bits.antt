@@ -2,10 +2,10 @@
 -- 1. A shift moves each bit, and a remainder keeps the low ones.
 -- 2. Bit w * i + j of a number that is written in digits of w bits is bit j of digit i.
 -- 3. A swap of the bits of a mask with those s places above them gives each bit its partner.
-use Rattle.std.proofs.Common.{◌≡◌, ◌≢◌, ◌<◌, ◌≤◌, ◌+◌, ◌-◌, ◌*◌, ◌/◌, ◌%◌, ◌^◌, ◌&&◌, ◌⊎◌, min, max, not, eqb, ltb, leb, zero, suc, ℕ, Bool, true, false, cond, List, [], ◌∷◌, refl, sym, ap, subst, ◌∙◌, inl, inr, arith, get_or, length, map, replicate, bit_and, bit_or, bit_xor}
-use Rattle.std.proofs.lemmas.Bool.{false≢true, cases_Bool, ltb-true, ltb-false, lt-ltb, le-ltb, le-leb, lt-leb, eqb-true, eqb-false, eq-eqb, ne_eqb, and_left, and_right, and_from, cond-true, cond-false, cases_lt}
-use Rattle.std.proofs.lemmas.Nat.Bits.{same_from_bits_below, bit_at-lt, bit_at-zero, bit_at_cat_low, bit_at_cat_high, bit_at_xor, bit_at_and, bit_at_or}
-use Rattle.std.proofs.lemmas.Nat.{pow_pos, pow-add, div-add-mod', and_le_r, xor_lt}
+use Rattle.std.proofs.Common.{◌≡◌, ◌<◌, ◌≤◌, ◌+◌, ◌-◌, ◌*◌, ◌/◌, ◌%◌, ◌^◌, ◌&&◌, min, not, eqb, leb, zero, suc, ℕ, Bool, true, false, cond, List, [], ◌∷◌, refl, sym, ap, ◌∙◌, inl, inr, arith, get_or, length, map, replicate, bit_and, bit_xor}
+use Rattle.std.proofs.lemmas.Bool.{false≢true, cases_Bool, le-leb, lt-leb, eqb-true, eqb-false, and_left, and_right, and_from, cond-true, cond-false, cases_lt}
+use Rattle.std.proofs.lemmas.Nat.Bits.{bit_at-lt, bit_at-zero, bit_at_cat_low, bit_at_cat_high, bit_at_xor, bit_at_and}
+use Rattle.std.proofs.lemmas.Nat.{pow_pos, pow-add, div-add-mod'}
 use Rattle.std.proofs.Math.Nat.{div-div-eq-div-mul}
 use lib.Lanes.{Each1, zip2, number_l, digits_l}
 use Rattle.std.specs.Int.{bit_at}

@@ -2,18 +2,18 @@
 -- 1. A step keeps, in the lane of row i, row k of the second block where the first block has cell (i, k).
 -- 2. The lanes of the steps, joined by or, are the rows of the composition: twice eight rows, with the middle elements 0 to 3 in the first half and 4 to 7 in the second.
 -- 3. The or of the eight tests is that of the definition, with other brackets.
-use Rattle.std.proofs.Common.{◌≡◌, ◌<◌, ◌≤◌, ◌+◌, ◌-◌, ◌*◌, ◌/◌, ◌%◌, ◌^◌, ◌&&◌, ◌||◌, ◌++◌, eqb, ltb, zero, suc, ℕ, Bool, true, false, cond, List, [], ◌∷◌, refl, sym, ap, subst, ◌∙◌, inl, inr, arith, get_or, length, map, replicate, bit_and, bit_or, w8, Fits}
-use Rattle.std.proofs.lemmas.Bool.{cases_Bool, cases_lt, ltb-true, lt-ltb, eqb-true, eqb-false, eq-eqb, ne_eqb, and_parts, or_cases, false≢true}
+use Rattle.std.proofs.Common.{◌≡◌, ◌<◌, ◌+◌, ◌-◌, ◌*◌, ◌^◌, ◌&&◌, ◌||◌, ◌++◌, eqb, ltb, zero, suc, ℕ, Bool, true, false, cond, List, [], ◌∷◌, refl, sym, ap, subst, ◌∙◌, inl, inr, arith, get_or, length, map, replicate, bit_and, bit_or, w8, Fits}
+use Rattle.std.proofs.lemmas.Bool.{cases_Bool, lt-ltb, eqb-true, eqb-false, eq-eqb, ne_eqb, and_parts, or_cases, false≢true}
 use Rattle.std.proofs.lemmas.List.{get_or-map, get_or-replicate, get_or_append_left, get_or-append_right}
 use Rattle.std.proofs.lemmas.Nat.{or_lt, pow_pos}
-use Rattle.std.proofs.lemmas.Nat.Bits.{bit_at-lt, bit_at-zero, bit_at_or, and_pow}
+use Rattle.std.proofs.lemmas.Nat.Bits.{bit_at-lt, bit_at-zero, and_pow}
 use Rattle.std.proofs.lemmas.Simd.{tops_compared, length-zip2, length-sel_l, get_or-sel_l, get_or-zip2, Each1-get_or, Each1-from_get_or}
 use lib.Lanes.{Each1, zip2, sel_l, top, pick_l, number_l, digits_l}
 use Rattle.std.specs.Int.{bit_at}
-use Rattle.rel_model.specs.Cells.{Cells, block_cells, cells_compose, some_below}
+use Rattle.rel_model.specs.Cells.{block_cells, cells_compose, some_below}
 use Rattle.leaf_block.specs.Lanes.{IsPicked}
 use Rattle.leaf_block.specs.Blocks.{IsWithinBlock}
-use Rattle.leaf_block.proofs.Bits.{bit-digits, bit-number, digits-fit}
+use Rattle.leaf_block.proofs.Bits.{bit-digits, bit-number}
 use Rattle.leaf_block.proofs.Sets.{block_is, block_within, is_set, is_set-or, bit_or-set}
 
 -- ---- a step

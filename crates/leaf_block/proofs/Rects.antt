@@ -1,15 +1,15 @@
 -- The blocks that are full up to a row and a column: lane i has the bits below the column where i is below the row.
-use Rattle.std.proofs.Common.{◌≡◌, ◌<◌, ◌≤◌, ◌+◌, ◌-◌, ◌*◌, ◌/◌, ◌%◌, ◌^◌, ◌&&◌, eqb, ltb, zero, suc, ℕ, Bool, true, false, cond, List, [], ◌∷◌, refl, sym, ap, subst, ◌∙◌, inl, inr, arith, get_or, length, map, replicate, w8}
+use Rattle.std.proofs.Common.{◌≡◌, ◌<◌, ◌≤◌, ◌+◌, ◌-◌, ◌*◌, ◌%◌, ◌^◌, ◌&&◌, eqb, ltb, ℕ, Bool, true, false, cond, List, [], ◌∷◌, refl, sym, ap, subst, ◌∙◌, inl, inr, arith, get_or, map, replicate, w8}
 use Rattle.std.proofs.lemmas.Bool.{cases_lt, ltb-true, lt-ltb, le-ltb, eqb-true, eq-eqb, ne_eqb, and_parts, agree_below_at}
 use Rattle.std.proofs.lemmas.List.{get_or-replicate}
-use Rattle.std.proofs.lemmas.Nat.Bits.{bit_at-lt, bit_at_ones, bit_at_ones_above}
-use Rattle.std.proofs.lemmas.Simd.{tops_compared, length-sel_l, get_or-sel_l, get_or-zip2, Each1-from_get_or}
+use Rattle.std.proofs.lemmas.Nat.Bits.{bit_at_ones, bit_at_ones_above}
+use Rattle.std.proofs.lemmas.Simd.{tops_compared, get_or-sel_l, get_or-zip2, Each1-from_get_or}
 use lib.Lanes.{Each1, zip2, sel_l, top, number_l}
 use Rattle.std.specs.Int.{bit_at}
-use Rattle.rel_model.specs.Cells.{Cells, block_cells, cells_rect}
+use Rattle.rel_model.specs.Cells.{block_cells, cells_rect}
 use Rattle.leaf_block.specs.Blocks.{IsWithinBlock}
 use Rattle.leaf_block.proofs.Bits.{bit-mod, bit-number}
-use Rattle.leaf_block.proofs.Sets.{block_is, is_set}
+use Rattle.leaf_block.proofs.Sets.{block_is}
 use Rattle.leaf_block.proofs.Composes.{all_ones, chosen_bit}
 
 abbrev pub places : List ℕ

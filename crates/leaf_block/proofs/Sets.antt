@@ -2,9 +2,8 @@
 -- 1. A word is the block of a set exactly where its 64 bits are the tests of the set, which lies in 8 rows and 8 columns.
 -- 2. A bit of a word-or, word-and or complement is the or, and or negation of the bits.
 -- 3. A sum of the powers of two of a set has the bits of the set.
-use Rattle.std.proofs.Common.{◌≡◌, ◌<◌, ◌≤◌, ◌↔◌, ◌+◌, ◌-◌, ◌*◌, ◌/◌, ◌%◌, ◌^◌, ◌&&◌, ◌||◌, ◌⊎◌, min, max, not, eqb, ltb, zero, suc, ℕ, Bool, true, false, cond, refl, sym, ap, subst, ◌∙◌, inl, inr, arith, bit_and, bit_or, w64}
-use Rattle.std.proofs.lemmas.Bool.{false≢true, cases_Bool, ltb-true, ltb-false, lt-ltb, le-ltb, eqb-true, eqb-false, eq-eqb, ne_eqb, and_parts, and_right, and_left, false_from_ne_true}
-use Rattle.std.proofs.lemmas.Nat.{pow_pos, pow-add}
+use Rattle.std.proofs.Common.{◌≡◌, ◌<◌, ◌↔◌, ◌+◌, ◌-◌, ◌*◌, ◌/◌, ◌%◌, ◌^◌, ◌&&◌, ◌||◌, min, max, not, eqb, ltb, zero, suc, ℕ, Bool, true, false, refl, sym, ap, subst, ◌∙◌, inl, inr, arith, bit_and, bit_or, w64}
+use Rattle.std.proofs.lemmas.Bool.{cases_Bool, ltb-true, lt-ltb, eqb-true, eqb-false, eq-eqb, ne_eqb, and_parts, and_right, and_left}
 use Rattle.std.proofs.lemmas.Nat.Bits.{same_from_bits_below, bit_at-lt, bit_at-zero, bit_at_and, bit_at_or, bit_at_not, bit_at_cat_low, bit_at_cat_high, bit_at_above}
 use Rattle.std.specs.Int.{bit_at, bit_not}
 use Rattle.rel_model.specs.Cells.{Cells, block_cells, no_cells, cells_union, cells_inter, cells_diff}

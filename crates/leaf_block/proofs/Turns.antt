@@ -1,13 +1,13 @@
 -- The transposition of a block.
 -- 1. Bit n of the word after a swap is the bit of the word before it at a place that the mask gives.
 -- 2. For each of the 64 bits the three places in turn lead from cell (i, j) to cell (j, i): these are 64 computations.
-use Rattle.std.proofs.Common.{◌≡◌, ◌<◌, ◌+◌, ◌*◌, ◌/◌, ◌%◌, ◌^◌, ◌&&◌, eqb, ltb, ℕ, Bool, true, List, [], ◌∷◌, refl, sym, ap, ◌∙◌, arith, get_or, map}
+use Rattle.std.proofs.Common.{◌≡◌, ◌<◌, ◌+◌, ◌*◌, ◌/◌, ◌%◌, ◌&&◌, eqb, ltb, ℕ, Bool, true, List, [], ◌∷◌, refl, sym, ap, ◌∙◌, arith, get_or, map}
 use Rattle.std.proofs.lemmas.Bool.{ltb-true, lt-ltb, eqb-true, and_parts, agree_below_at}
 use Rattle.std.specs.Int.{bit_at}
-use Rattle.rel_model.specs.Cells.{Cells, block_cells, cells_transpose}
+use Rattle.rel_model.specs.Cells.{block_cells, cells_transpose}
 use Rattle.leaf_block.specs.Lanes.{swapped}
 use Rattle.leaf_block.proofs.Bits.{partner, is_apart, swapped-partner}
-use Rattle.leaf_block.proofs.Sets.{block_is, block_within, is_set}
+use Rattle.leaf_block.proofs.Sets.{block_is, block_within}
 
 -- ---- the three swaps
 -- the places of a bit before the last swap, the last two and all three

@@ -1,5 +1,5 @@
 -- What the steps on lanes give.
-use Rattle.std.specs.Prelude.{◌≡◌, ◌+◌, ◌-◌, ◌*◌, ◌/◌, ◌%◌, ◌^◌, ◌<◌, ◌==◌, ℕ, List, length, cond, slice_index, bit_and, bit_xor}
+use Rattle.std.specs.Prelude.{◌≡◌, ◌*◌, ◌/◌, ◌%◌, ◌^◌, ◌<◌, ◌==◌, ℕ, List, length, cond, slice_index, bit_and, bit_xor}
 
 -- Sixteen bytes: in each lane that of the row where the first has all the bits asked for, and 0 elsewhere.
 pub record IsPicked (rows bits row picked : List ℕ) : Type 0 where
