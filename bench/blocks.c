@@ -5,7 +5,7 @@
 #include <time.h>
 
 #define BLOCKS 10000000
-#define ROUNDS 9
+#define ROUNDS 15
 #define ROWS 0x0101010101010101ULL
 #define INLINE static inline __attribute__((always_inline))
 #define APART __attribute__((noinline))

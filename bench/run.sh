@@ -1,12 +1,14 @@
 #!/usr/bin/env bash
 # Times the kernels of leaf_block beside plain C loops of the same formulas, on this machine and in one run.
-# It works on a copy of the repository's crates, to which it adds the proved program of bench/blocks.
+# It works on a copy of the repository's crates, to which it adds the program of blocks_main.txt; rt proves that before it runs.
 set -eu
 here=$(cd "$(dirname "$0")" && pwd)
 work=$(mktemp -d)
 trap 'rm -rf "$work"' EXIT
 mkdir "$work/crates"
-cp -r "$here/../crates/rel_model" "$here/../crates/leaf_block" "$here/blocks" "$work/crates/"
+cp -r "$here/../crates/rel_model" "$here/../crates/leaf_block" "$work/crates/"
+mkdir -p "$work/crates/blocks/src"
+cp "$here/blocks_main.txt" "$work/crates/blocks/src/main.rt"
 cp "$here/../HANDLES" "$work/"
 printf 'rel_model:\nleaf_block: rel_model\nblocks: leaf_block\n' > "$work/crates.txt"
 lscpu | grep 'Model name'

@@ -204,9 +204,7 @@ half_joins : (a b : ℕ) (s0 s1 s2 s3 : List ℕ) → a < 2 ^ 64 → b < 2 ^ 64 
     → is_set (word_of (all_steps s0 s1 s2 s3) h) i j ≡ (joins a b i j (4 * h + 3) || (joins a b i j (4 * h + 2) || (joins a b i j (4 * h + 1) || joins a b i j (4 * h + 0))))
 half_joins a b s0 s1 s2 s3 p q s h i j ph pi pj =
     let t = all_lanes s0 s1 s2 s3 s.step_0.len s.step_1.len s.step_2.len s.step_3.len in
-    let l : ℕ = 8 * h + i in
     let k : 8 * h + i < 16 = omega arith in
-    let three : Bool = eqb (bit_at (get_or s3 (8 * h + i) 0) j) 1 in
     half-bit (all_steps s0 s1 s2 s3) (steps_fit a b s0 s1 s2 s3 s t) h (8 * h + i) i j ph pi pj refl
     ∙ ap (λ (v : ℕ). eqb (bit_at v j) 1) (t.lanes (8 * h + i) k)
     ∙ or_four (get_or s0 (8 * h + i) 0) (get_or s1 (8 * h + i) 0) (get_or s2 (8 * h + i) 0) (get_or s3 (8 * h + i) 0) j
