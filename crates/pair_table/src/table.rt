@@ -35,6 +35,7 @@ impl Model for PairTable {
     ghost invariant = { λ t. IsTable t.table.shared.table_id t.table.shared.key t.count t.bits t.seats };
 }
 
+#[tactic(auto, using(crate::proofs::Wrapping::one_table, crate::proofs::Wrapping::still_seat))]
 impl PairTable {
     /// A table with 2^bits node words, all vacant, and its first seat, from which `seats - 1` others may be split off.
     pub fn make(alloc: Global, bits: u32, seats: u32) -> Result<(PairTable, Seat), NoMemory>
