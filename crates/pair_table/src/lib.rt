@@ -7,6 +7,8 @@ mod rule;
 mod seats;
 mod steps;
 mod table;
+#[cfg(test)]
+mod tests;
 
 pub use laws::{kids_stand, names_are_sets, names_stay, pairs_stand};
 pub use seats::Seat;
