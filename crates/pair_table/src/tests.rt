@@ -1,5 +1,7 @@
-ghost use Rattle.std.specs.Prelude.{◌≡◌, ◌≢◌, ◌<◌, ◌≤◌, ◌+◌, ◌-◌, ◌*◌, ◌/◌, ◌%◌, ◌^◌, slice_index};
-ghost use Rattle.rel_model.specs.Views.{Table, View, IsOf, IsKnown};
+ghost use Rattle.std.specs.Prelude.{◌≡◌, ◌≢◌, ◌<◌, ◌≤◌, ◌+◌, ◌-◌, ◌*◌, ◌/◌, ◌%◌, ◌^◌, IfOk, slice_index};
+ghost use Rattle.rel_model.specs.Cells.{block_cells, no_cells};
+ghost use Rattle.rel_model.specs.Trees.{paired};
+ghost use Rattle.rel_model.specs.Views.{Table, View, IsOf, IsKnown, IsSet};
 
 use crate::{MEMO_SLOTS, Missed, PairTable, Seat};
 use std::alloc::Global;
@@ -250,4 +252,24 @@ fn store_empty_union(table: &PairTable, seat: &mut Seat) -> u64
     let word = (1 << 5) + 3;
     table.memo_store(seat, 0, word);
     word
+}
+
+/// The name of a wide set of depth 1: a block on the left, and nothing on the right.
+fn block_and_nothing(table: &PairTable, seat: &mut Seat, bits: u64) -> Result<u32, Missed>
+    requires of { IsOf seat.old table.now }
+    requires some { bits ≢ 0 }
+    ensures of { IsOf seat.new table.now }
+    ensures set { IfOk result (λ n. IsSet seat.new 1 n (paired 0 (block_cells bits) no_cells)) }
+    ensures at_most_two { seat.new.made ≤ seat.old.made + 2 }
+{
+    let left = table.intern_block(seat, bits)?;
+    table.intern(seat, left, 0)
+}
+
+#[test]
+fn a_block_beside_nothing_is_one_name_however_often_it_is_made(rt: HostRuntime) {
+    let (table, mut seat) = small_table(&rt, rt.alloc(), 1);
+    let first = block_and_nothing(&table, &mut seat, 9);
+    assert!(rt; first.is_ok());
+    assert!(rt; block_and_nothing(&table, &mut seat, 9) == first);
 }
