@@ -14,9 +14,9 @@ abbrev pub NamesStay : Type 0
 NamesStay = (old new : List ℕ) → Extends old new → IsDistinct old → IsDistinct new → ((name : ℕ) → slice_index old name ≢ 0 → slice_index new name ≡ slice_index old name)
     × ((depth name : ℕ) → stands old depth name ≡ true → (stands new depth name ≡ true) × (cells new depth name ≡ cells old depth name))
 
--- a name whose word is the pair of two names that stand at one depth stands at the next, with the pairing of their sets; a name whose word is a block stands at depth 0
-abbrev pub PairsStand : View → Type 0
-PairsStand v = ((left right name depth : ℕ) (f g : Cells) → right < 2 ^ 32 → left + right ≢ 0 → slice_index v.words name ≡ left * 2 ^ 32 + right → IsSet v depth left f → IsSet v depth right g → IsSet v (suc depth) name (paired depth f g))
+-- in any view a name whose word is the pair of two names that stand at one depth stands at the next, with the pairing of their sets; a name whose word is a block stands at depth 0
+abbrev pub PairsStand : Type 0
+PairsStand = (v : View) → ((left right name depth : ℕ) (f g : Cells) → right < 2 ^ 32 → left + right ≢ 0 → slice_index v.words name ≡ left * 2 ^ 32 + right → IsSet v depth left f → IsSet v depth right g → IsSet v (suc depth) name (paired depth f g))
     × ((bits name : ℕ) → bits ≢ 0 → slice_index v.words name ≡ bits → IsSet v 0 name (block_cells bits))
 
 -- both halves of a name that stands over depth 0 stand at the depth below, and its set is the pairing of theirs

@@ -1,5 +1,4 @@
 //! The laws of names, each a function that does nothing.
-ghost use Rattle.rel_model.specs.Views.{View};
 ghost use Rattle.pair_table.specs.Laws.{NamesAreSets, NamesStay, PairsStand, KidsStand};
 
 use crate::seats::Seat;
@@ -16,14 +15,12 @@ pub fn names_stay()
     ensures { NamesStay }
 {}
 
-/// The pair of two names that stand at one depth stands at the next, and a block at depth 0.
-pub fn pairs_stand(seat: &Seat)
-    ensures { PairsStand seat.now }
-{
-    let _ = &seat.inner;
-}
+/// `set(n)` is the pairing of `set(a)` and `set(b)` where n is the name of the pair (a, b), and the cells of a block where n is its name: both stand in the view.
+pub fn pairs_stand()
+    ensures { PairsStand }
+{}
 
-/// Both halves of a name that stands over depth 0 stand at the depth below.
+/// `set(n)` is the pairing of the sets of both halves of n, which stand at the depth below, for each name n that stands over depth 0 in the view of a seat.
 pub fn kids_stand(seat: &Seat)
     ensures { KidsStand seat.now }
 {
