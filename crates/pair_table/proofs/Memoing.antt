@@ -8,7 +8,7 @@ use Rattle.std.proofs.Math.Seq.{take-set-lt}
 use Rattle.std.proofs.lemmas.List.{take-set-le, get_or-take, take-replicate}
 use Rattle.std.proofs.lemmas.Bool.{ne_eqb}
 use prog.Atomic.{either}
-use Rattle.atomic_table.specs.Table.{State, Me, step, keeps, Allows, Splits, Joins, Final, Seen, carried_after}
+use Rattle.atomic_table.specs.Table.{Me, step, keeps, Allows, Splits, Joins, Final, Seen, carried_after}
 use Rattle.rel_model.specs.Words.{Extends, IsDistinct}
 use Rattle.rel_model.specs.Equations.{IsMemo, IsSoundTable, memo_slots, memo_word, node_words}
 use Rattle.rel_model.proofs.EquationLaws.{memo_stays}

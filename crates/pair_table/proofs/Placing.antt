@@ -2,7 +2,7 @@
 -- 1. The call saw other words at every place from the home up to this one, so the word stands nowhere (`nowhere`): a word that stood somewhere would be reached from the home before the vacant place.
 -- 2. So no word stands twice, and every word is still reached over taken places (`placed_sound`).
 -- 3. One more place is taken (`placed_count`).
-use Rattle.std.proofs.Common.{◌≡◌, ◌<◌, ◌≤◌, ◌≢◌, ◌+◌, ◌-◌, ◌^◌, ◌⊎◌, eqb, zero, suc, ℕ, List, [], ◌∷◌, length, set, replicate, true, false, lit<, refl, sym, ap, subst, ◌∙◌, inl, inr, arith, get_or, get_or-set_other, get_or-set_same}
+use Rattle.std.proofs.Common.{◌≡◌, ◌<◌, ◌≢◌, ◌+◌, ◌^◌, ◌⊎◌, eqb, zero, suc, ℕ, List, [], ◌∷◌, length, set, replicate, true, false, lit<, refl, sym, ap, subst, ◌∙◌, inl, inr, arith, get_or, get_or-set_other, get_or-set_same}
 use Rattle.std.proofs.Math.ListN.{length-set}
 use Rattle.std.proofs.lemmas.Bool.{cases_Bool, cases_lt, eqb-true, eqb-false, eq-eqb, ne_eqb}
 use Rattle.rel_model.specs.Words.{Extends, IsReached, IsSound, place_at, stored_count}

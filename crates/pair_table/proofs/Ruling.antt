@@ -4,7 +4,7 @@
 -- 3. A compare-exchange that succeeds places a word at a vacant place behind places that hold other words: the words stay sound, and both the seat's count and the count of all stored words rise by one (`place_allowed`).
 -- 4. A split cuts the number of seats for which a view stands in two, a join adds the numbers (`split_allowed`, `join_allowed`).
 -- 5. In the end one seat stands for all, so the others, which stand for none, made nothing, and its count is that of all stored words (`ended`).
-use Rattle.std.proofs.Common.{◌≡◌, ◌<◌, ◌≤◌, ◌≢◌, ◌+◌, ◌-◌, ◌^◌, eqb, zero, suc, ℕ, List, [], ◌∷◌, ◌++◌, length, set, replicate, refl, sym, ap, subst, ◌∙◌, inl, inr, arith, get_or, Option, None}
+use Rattle.std.proofs.Common.{◌≡◌, ◌<◌, ◌≤◌, ◌≢◌, ◌+◌, ◌-◌, ◌^◌, eqb, zero, suc, ℕ, List, [], ◌∷◌, ◌++◌, length, set, replicate, refl, sym, ap, subst, ◌∙◌, inl, inr, arith, get_or, Option}
 use Rattle.std.proofs.lemmas.Bool.{cases_Bool, eqb-true, eq-eqb, ne_eqb}
 use Rattle.std.proofs.Math.ListN.{length-replicate}
 use mathlib.Core.Option.{some, some-injective, some-ne-none}

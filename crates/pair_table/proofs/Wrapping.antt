@@ -1,5 +1,5 @@
 -- From what the steps tell to what callers see.
-use Rattle.std.proofs.Common.{◌≡◌, ◌≤◌, ◌<◌, ◌≢◌, ◌⊎◌, ◌+◌, ◌-◌, ◌^◌, ℕ, List, [], replicate, ◌∷◌, ◌++◌, take, zero, suc, length, refl, sym, ap, subst, ◌∙◌, inl, inr, arith, get_or, Result, Ok, Err, IsErr}
+use Rattle.std.proofs.Common.{◌≡◌, ◌≤◌, ◌≢◌, ◌+◌, ◌-◌, ◌^◌, ℕ, List, [], replicate, ◌∷◌, ◌++◌, take, zero, suc, length, refl, sym, ap, subst, ◌∙◌, inl, inr, arith, get_or, Result, Ok, Err, IsErr}
 use Rattle.std.proofs.Math.ListN.{length-replicate}
 use Rattle.std.proofs.Math.Pow.{pow_mono}
 use Rattle.std.proofs.lemmas.Bool.{cases_lt}
@@ -10,11 +10,11 @@ use Rattle.atomic_table.specs.Table.{Me, Final, Seen}
 use Rattle.atomic_table.specs.Seated.{TableId, table_id_coded}
 use Rattle.rel_model.specs.Words.{IsDistinct, IsFullOfOthers}
 use Rattle.rel_model.specs.Equations.{memo_slots}
-use Rattle.rel_model.specs.Views.{Interns, IsPlacedNow, Keeps, IsFresh, IsClosed}
+use Rattle.rel_model.specs.Views.{Interns, Keeps, IsFresh, IsClosed}
 use Rattle.pair_table.specs.declared.rule.Known.{Known}
 use Rattle.pair_table.specs.declared.rule.Size.{Size}
 use Rattle.pair_table.specs.Rule.{Holds, first_view}
-use Rattle.pair_table.specs.Tells.{Steps, InternsFor, PlacedIt}
+use Rattle.pair_table.specs.Tells.{Steps, InternsFor}
 use Rattle.pair_table.specs.Held.{house_of, IsSeat, IsTable, view_of}
 use Rattle.pair_table.proofs.Placing.{vacant_at, vacant_sound}
 use Rattle.pair_table.proofs.Memoing.{ended_all}
@@ -71,9 +71,9 @@ table_from id key bits seats count a b e w z k =
     let high : 2 ^ bits ≤ 2 ^ 24 = pow_mono b in
     record { words = w; slots = z; key_is = k; count_is = omega arith; small = omega arith; not_none = omega arith }
 
-pub fresh_from : {S : Type 0} (id seat : TableId) (me : Me S Known) (bits seats : ℕ) → 1 ≤ seats → seat ≡ id → me ≡ (first_view (record { bits = bits; seats = seats }), [])
+pub fresh_from : {S : Type 0} (id seat : TableId) (me : Me S Known) (bits seats : ℕ) → 10 ≤ bits → bits ≤ 24 → 1 ≤ seats → seat ≡ id → me ≡ (first_view (record { bits = bits; seats = seats }), [])
     → IsFresh bits seats (record { house = house_of id; bits = bits; seats = seats }, view_of seat me (seats - 1))
-fresh_from id seat me bits seats h e m =
+fresh_from id seat me bits seats a b h e m =
     let w : me.0.words ≡ replicate (2 ^ bits) zero = ap (λ p. p.0.words) m in
     record {
       bits_are = refl;
@@ -81,6 +81,8 @@ fresh_from id seat me bits seats h e m =
       of = record {
         one_house = ap house_of e;
         size = ap length w ∙ length-replicate (2 ^ bits) zero;
+        low = a;
+        high = b;
         canonical = subst (λ (ws : List ℕ). IsDistinct ws) (sym w) (vacant_sound (2 ^ bits)).distinct;
       };
       vacant = λ n. ap (λ (ws : List ℕ). get_or ws n 0) w ∙ vacant_at (2 ^ bits) n;
@@ -88,10 +90,3 @@ fresh_from id seat me bits seats h e m =
       spare_is = omega arith;
       no_load = ap (λ p. p.0.last) m;
     }
-
-pub seat_from : {S : Type 0} (me : Me S Known) (bits seats : ℕ) → 1 ≤ seats → me ≡ (first_view (record { bits = bits; seats = seats }), []) → IsSeat me (seats - 1)
-seat_from me bits seats h m = record {
-  parts = (let p : me.0.parts ≡ seats = ap (λ p. p.0.parts) m in omega arith);
-  none_held = ap (λ p. p.1) m;
-  canonical = subst (λ p. IsDistinct p.0.words) (sym m) (vacant_sound (2 ^ bits)).distinct;
-}

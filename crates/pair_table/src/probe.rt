@@ -11,6 +11,7 @@ use atomic_table::{Seat, Shared};
 
 /// The factors by which the two halves of a word are mixed.
 const FIRST_FACTOR: u64 = 2654435761;
+
 const SECOND_FACTOR: u64 = 2246822519;
 
 /// The number that is taken modulo the places from 2 on to find a word's home.

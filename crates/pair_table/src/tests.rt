@@ -99,13 +99,7 @@ fn names_of_pairs(
 }
 
 /// The name of a pair of a name and a block, which reads back as the pair.
-fn name_of_pair(
-    rt: &impl Abort,
-    table: &PairTable,
-    seat: &mut Seat,
-    left: u32,
-    bits: u64,
-) -> u32
+fn name_of_pair(rt: &impl Abort, table: &PairTable, seat: &mut Seat, left: u32, bits: u64) -> u32
     requires of { IsOf seat.old table.now }
     requires known { IsKnown seat.old left }
     requires some { bits ≢ 0 }
@@ -175,7 +169,9 @@ fn four_callers_on_threads_of_their_own_agree_on_the_names_of_500_pairs(rt: Host
 
 /// The name of a word in a slow list of words and names.
 fn listed(list: &[(u64, u32)], word: u64) -> Option<u32> {
-    list.iter().find(|entry| entry.0 == word).map(|entry| entry.1)
+    list.iter()
+        .find(|entry| entry.0 == word)
+        .map(|entry| entry.1)
 }
 
 /// Interns a block, and compares the answer with a slow list of all words that the table has.

@@ -1,6 +1,6 @@
-use Rattle.std.proofs.Common.{◌≡◌, ◌≤◌, ℕ, List, refl, sym, ap, ◌∙◌, lit≤, get_or}
+use Rattle.std.proofs.Common.{◌≡◌, ℕ, List, refl, sym, ap, ◌∙◌, lit≤, get_or}
 use Rattle.rel_model.specs.Cells.{Cells, cells_union}
-use Rattle.rel_model.specs.Trees.{bottom_height, top_height, cells}
+use Rattle.rel_model.specs.Trees.{bottom_height, top_height}
 use Rattle.rel_model.specs.Equations.{Union, Equation, IsMemo, depth_of}
 use Rattle.rel_model.proofs.TreeLaws.{zero_cells, zero_stands}
 use Rattle.pair_table.proofs.tests.store_empty_union.Goals as goal

@@ -23,4 +23,4 @@ invariant_of-result c =
 pub returns : goal.returns
 returns c =
     let t = c.in-Ok-of_words.ensures in
-    fresh_from c.in-Ok-of_words.table.shared.table_id c.in-Ok-of_words.inner.table_id c.in-Ok-of_words.inner.me c.args.bits c.args.seats c.requires.some t.2 t.4
+    fresh_from c.in-Ok-of_words.table.shared.table_id c.in-Ok-of_words.inner.table_id c.in-Ok-of_words.inner.me c.args.bits c.args.seats c.requires.low c.requires.high c.requires.some t.2 t.4
