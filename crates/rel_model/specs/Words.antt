@@ -2,11 +2,11 @@
 use Rattle.std.specs.Prelude.{◌≡◌, ◌≢◌, ◌<◌, ◌≤◌, ◌+◌, ◌-◌, ◌*◌, ◌%◌, ◌^◌, ℕ, List, [], ◌∷◌, ◌==◌, if◌then◌else◌, slice_index, length}
 use Rattle.rel_model.specs.Trees.{first_of, second_of}
 
--- the least number of bits of a table's names
+-- the least number of bits of a table, which has 2 ^ bits node words
 abbrev pub least_bits : ℕ
 least_bits = 10
 
--- the greatest
+-- the greatest number of bits
 abbrev pub most_bits : ℕ
 most_bits = 24
 
