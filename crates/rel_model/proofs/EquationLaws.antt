@@ -1,10 +1,10 @@
 -- Equations: one that is true stays true, and one is read back from its memo word and its slot.
-use Rattle.std.proofs.Common.{◌≡◌, ◌<◌, ◌+◌, ◌*◌, ◌/◌, ◌^◌, ℕ, List, sym, ap, ◌∙◌, arith}
+use Rattle.std.proofs.Common.{◌≡◌, ◌<◌, ◌≤◌, ◌+◌, ◌*◌, ◌/◌, ◌^◌, zero, suc, ℕ, List, length, refl, sym, ap, subst, ◌∙◌, arith}
 use Rattle.rel_model.specs.Cells.{Cells}
-use Rattle.rel_model.specs.Trees.{cells}
-use Rattle.rel_model.specs.Words.{Extends, IsDistinct}
+use Rattle.rel_model.specs.Trees.{top_height, cells}
+use Rattle.rel_model.specs.Words.{most_bits, Extends, IsDistinct}
 use Rattle.rel_model.specs.Equations.{Operator, Union, Inter, Diff, Transpose, Compose, Equation, IsTrueIn, IsMemo, result_of, depth_of, side_of, code_of, home_slot, slot_row, word_of_equation}
-use Rattle.rel_model.proofs.TreeLaws.{kept_stands, kept_cells}
+use Rattle.rel_model.proofs.TreeLaws.{kept_stands, kept_cells, stands-below}
 
 -- what is true stays true
 pub true_stays : (v w : List ℕ) (e : Equation) → Extends v w → IsDistinct v → IsDistinct w → IsTrueIn v e → IsTrueIn w e
@@ -76,3 +76,46 @@ word_of_equation-injective e g x y w s =
     let ah : e.a ≡ g.a = (let h = f.a_same in omega arith) in
     let bh : e.b ≡ g.b = (let h = f.b_same in omega arith) in
     record { ops = f.o_same; heights = f.h_same; firsts = ah; seconds = bh; results = f.r_same }
+
+-- the operator of a number
+op_of : ℕ → Operator
+op_of zero = Union
+op_of (suc zero) = Union
+op_of (suc (suc zero)) = Inter
+op_of (suc (suc (suc zero))) = Diff
+op_of (suc (suc (suc (suc zero)))) = Transpose
+op_of (suc (suc (suc (suc (suc n))))) = Compose
+
+op_of-code_of : (op : Operator) → op_of (code_of op) ≡ op
+unfolding op_of
+op_of-code_of Union = refl
+op_of-code_of Inter = refl
+op_of-code_of Diff = refl
+op_of-code_of Transpose = refl
+op_of-code_of Compose = refl
+
+-- one number is one operator's
+pub code_of-injective : (p q : Operator) → code_of p ≡ code_of q → p ≡ q
+code_of-injective p q e = sym (op_of-code_of p) ∙ ap op_of e ∙ op_of-code_of q
+
+-- two equations with the same fields are one
+pub same_equation : (e g : Equation) → SameFields e g → e ≡ g
+same_equation e g s =
+    let op = code_of-injective e.op g.op s.ops in
+    λ t. record { op = op t; height = s.heights t; a = s.firsts t; b = s.seconds t; r = s.results t }
+
+-- the fields of a true equation fit their bits
+pub true_has_room : (words : List ℕ) (e : Equation) → 0 < length words → length words ≤ 2 ^ most_bits → IsTrueIn words e → HasRoom e
+unfolding top_height
+true_has_room words e z l t =
+    let a = stands-below words z (depth_of e.height) e.a t.a_stands in
+    let b = stands-below words z (depth_of e.height) e.b t.b_stands in
+    let r = stands-below words z (depth_of e.height) e.r t.r_stands in
+    let high = t.high in
+    record { a_fits = omega arith; b_fits = omega arith; r_fits = omega arith; height_fits = omega arith }
+
+-- where a memo word is an equation's, in that equation's home slot, the equation is true
+pub memo_tells : (words : List ℕ) (slot word : ℕ) (e : Equation) → 0 < length words → length words ≤ 2 ^ most_bits → IsMemo words slot word → HasRoom e → word ≡ word_of_equation e → slot ≡ home_slot e.a e.b → IsTrueIn words e
+memo_tells words slot word e z l m h w s =
+    let f = word_of_equation-injective m.equation e (true_has_room words m.equation z l m.holds) h (sym m.is_word ∙ w) (sym m.home ∙ s) in
+    subst (λ (g : Equation). IsTrueIn words g) (same_equation m.equation e f) m.holds

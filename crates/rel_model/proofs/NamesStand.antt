@@ -55,9 +55,13 @@ pub pair_set : {E : Type 0} (v w : View) (a b n k : ℕ) (f g : Cells) → b < 2
 pair_set v w a b n k f g l h d e i s t =
     pair_stands w a b n k f g l h i.named.1 (set_stays v w i.keeps.seen d e k a f s) (set_stays v w i.keeps.seen d e k b g t)
 
+-- a name whose word is a block stands at depth 0
+pub block_stands : (v : View) (bits n : ℕ) → bits ≢ 0 → get_or v.words n 0 ≡ bits → IsSet v 0 n (block_cells bits)
+block_stands v bits n h e = record {
+  standing = or_right (eqb n 0) _ (stored_from v.words n (λ z. h (sym e ∙ z)));
+  means = ap block_cells e;
+}
+
 -- the answer of an intern of a block stands at depth 0
 pub block_set : {E : Type 0} (v w : View) (bits n : ℕ) → bits ≢ 0 → Interns {E = E} v w bits (Ok n) → IsSet w 0 n (block_cells bits)
-block_set v w bits n h i = record {
-  standing = or_right (eqb n 0) _ (stored_from w.words n (λ z. h (sym i.named.1 ∙ z)));
-  means = ap block_cells i.named.1;
-}
+block_set v w bits n h i = block_stands w bits n h i.named.1

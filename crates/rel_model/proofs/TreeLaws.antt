@@ -3,8 +3,9 @@
 -- 2. By recursion on the depth, what stands keeps standing, with the same cells (`kept_stands`, `kept_cells`).
 -- 3. A set of a depth lies within the rows and columns of that depth (`cells_within`), so two halves are read back from their pairing (`paired_halves`).
 -- 4. By recursion on the depth, equal sets have equal halves, hence equal words, hence one name (`one_set_one_name`).
-use Rattle.std.proofs.Common.{◌≡◌, ◌<◌, ◌≤◌, ◌≢◌, ◌+◌, ◌-◌, ◌*◌, ◌/◌, ◌%◌, ◌&&◌, ◌⊎◌, eqb, ltb, zero, suc, ℕ, true, false, cond, List, refl, sym, ap, subst, ◌∙◌, inl, inr, arith, get_or}
-use Rattle.std.proofs.lemmas.Bool.{false≢true, cases_Bool, ltb-true, ltb-false, lt-ltb, le-ltb, eqb-true, eqb-false, eq-eqb, ne_eqb, and_parts, and_from, or_cases, or_left, or_right, and_right, not_from_true, not_from_false}
+use Rattle.std.proofs.Common.{◌≡◌, ◌<◌, ◌≤◌, ◌≢◌, ◌+◌, ◌-◌, ◌*◌, ◌/◌, ◌%◌, ◌&&◌, ◌⊎◌, eqb, ltb, zero, suc, ℕ, true, false, cond, List, length, refl, sym, ap, subst, ◌∙◌, inl, inr, arith, get_or}
+use Rattle.std.proofs.lemmas.Bool.{false≢true, cases_Bool, cases_lt, ltb-true, ltb-false, lt-ltb, le-ltb, eqb-true, eqb-false, eq-eqb, ne_eqb, and_parts, and_from, or_cases, or_left, or_right, and_right, not_from_true, not_from_false}
+use Rattle.std.proofs.lemmas.List.{get_or_past}
 use Rattle.std.proofs.lemmas.Nat.Bits.{same_from_bits_below, bit_at-lt, bit_at-zero}
 use Rattle.std.specs.Int.{bit_at}
 use Rattle.rel_model.specs.Cells.{Cells, block_cells, no_cells}
@@ -60,9 +61,7 @@ kept_stands old new x (suc k) n s =
     ]
 
 -- ---- name 0 has no cell
-funext : {A B : Type 0} (f g : A → B) → ((x : A) → f x ≡ g x) → f ≡ g
-funext f g h = λ t x. h x t
-
+-- two sets with the same cells are one
 pub same_cells : (f g : Cells) → ((i j : ℕ) → f i j ≡ g i j) → f ≡ g
 same_cells f g h = λ t i j. h i j t
 
@@ -224,3 +223,19 @@ one_set_one_name words w (suc k) a b s t e =
     let x : first_of (get_or words a 0) ≡ first_of (get_or words b 0) = one_set_one_name words w k _ _ p.0 q.0 h.firsts in
     let y : second_of (get_or words a 0) ≡ second_of (get_or words b 0) = one_set_one_name words w k _ _ p.1 q.1 h.seconds in
     one_name words w (suc k) a b s t (omega arith)
+
+-- ---- names are places
+-- a stored name is a place of the words
+pub stored_below : (words : List ℕ) (n : ℕ) → get_or words n 0 ≢ 0 → n < length words
+stored_below words n h = elim (cases_lt n (length words)) [ inl l ↦ l | inr l ↦ absurd (h (get_or_past words n 0 l)) ]
+
+-- a name that stands is a place of the words
+pub stands-below : (words : List ℕ) → 0 < length words → (k n : ℕ) → stands words k n ≡ true → n < length words
+stands-below words z zero n s = elim (or_cases _ _ s) [
+  | inl e ↦ let n0 : n ≡ 0 = eqb-true n 0 e in omega arith
+  | inr e ↦ stored_below words n (stored_not_0 words n e)
+]
+stands-below words z (suc k) n s = elim (or_cases _ _ s) [
+  | inl e ↦ let n0 : n ≡ 0 = eqb-true n 0 e in omega arith
+  | inr e ↦ stored_below words n (stored_not_0 words n (and_parts _ _ e).0)
+]

@@ -3,7 +3,7 @@ use Rattle.std.specs.Prelude.{◌≡◌, ◌≢◌, ◌⊎◌, ◌≤◌, ◌+�
 use base.Stored.{Gv}
 use Rattle.rel_model.specs.Cells.{Cells}
 use Rattle.rel_model.specs.Trees.{cells, stands}
-use Rattle.rel_model.specs.Words.{Extends, IsDistinct, IsFullOfOthers, stored_count}
+use Rattle.rel_model.specs.Words.{least_bits, most_bits, Extends, IsDistinct, IsFullOfOthers, stored_count}
 use Rattle.rel_model.specs.Equations.{IsMemo, IsSoundTable, node_words}
 
 -- which table it is: of a house no more is known than whether it is another's
@@ -29,10 +29,12 @@ pub record View : Type 0 where
   -- the slot and the word of its last memo load, if there was one
   pub last : Option (ℕ × ℕ)
 
--- the seat is of this table, and its names are canonical
+-- the seat is of this table, whose size is within the limits, and its names are canonical
 pub record IsOf (seat : View) (table : Table) : Type 0 where
   pub one_house : seat.house ≡ table.house
   pub size : length seat.words ≡ 2 ^ table.bits
+  pub low : least_bits ≤ table.bits
+  pub high : table.bits ≤ most_bits
   pub canonical : IsDistinct seat.words
 
 -- name 0, or a name whose word was seen

@@ -2,7 +2,15 @@
 use Rattle.std.specs.Prelude.{◌≡◌, ◌≢◌, ◌<◌, ◌≤◌, ◌+◌, ◌-◌, ◌*◌, ◌%◌, ◌^◌, ℕ, List, [], ◌∷◌, ◌==◌, if◌then◌else◌, slice_index, length}
 use Rattle.rel_model.specs.Trees.{first_of, second_of}
 
--- the factors by which the two halves of a word are mixed
+-- the least number of bits of a table, which has 2 ^ bits node words
+abbrev pub least_bits : ℕ
+least_bits = 10
+
+-- the greatest number of bits
+abbrev pub most_bits : ℕ
+most_bits = 24
+
+-- the factor of the first half of a word, by which halves are mixed
 abbrev pub first_factor : ℕ
 first_factor = 2654435761
 
@@ -44,6 +52,10 @@ pub record IsSound (words : List ℕ) : Type 0 where
 -- every place from 2 on holds another word
 abbrev pub IsFullOfOthers : List ℕ → ℕ → Type 0
 IsFullOfOthers words word = (n : ℕ) → 2 ≤ n → n < length words → (slice_index words n ≢ 0) × (slice_index words n ≢ word)
+
+-- every place from 2 on is taken
+abbrev pub IsFull : List ℕ → Type 0
+IsFull words = (n : ℕ) → 2 ≤ n → n < length words → slice_index words n ≢ 0
 
 -- how many places are taken
 abbrev pub stored_count : List ℕ → ℕ

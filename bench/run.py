@@ -1,0 +1,41 @@
+#!/usr/bin/env python3
+"""Compares the proved table with the same probe in plain C, in alternating runs.
+
+    cd bench && rt check table_bench && ./run.py PATH-OF-THE-BUILT-PROGRAM [ROUNDS]
+
+Prints, for each size, load and number of threads, the median of nanoseconds per
+insert and per hit of both, and their ratio. With one thread both give the same
+names, so their sums are compared.
+"""
+import os
+import statistics
+import subprocess
+import sys
+
+here = os.path.dirname(os.path.abspath(__file__))
+program = os.path.abspath(sys.argv[1])
+rounds = int(sys.argv[2]) if len(sys.argv) > 2 else 5
+plain = os.path.join(here, "out_probe")
+subprocess.run(["cc", "-O2", "-march=x86-64-v2", "-pthread", "-o", plain, os.path.join(here, "probe.c")], check=True)
+
+
+def run(command, case):
+    words = subprocess.run([command, *map(str, case)], check=True, capture_output=True, text=True).stdout.split()
+    inserting, inserts, finding, hits, total = map(int, words)
+    return inserting / inserts, finding / hits, total
+
+
+print("bits  load  threads   insert: proved  plain  ratio      hit: proved  plain  ratio")
+for bits in (20, 24):
+    for load in (10, 50, 80):
+        for threads in (1, 4):
+            case = (bits, load, threads, 4_000_000)
+            ours, theirs = [], []
+            for _ in range(rounds):
+                ours.append(run(program, case))
+                theirs.append(run(plain, case))
+                if threads == 1:
+                    assert ours[-1][2] == theirs[-1][2], "the names differ"
+            a, b = ([statistics.median(r[i] for r in rows) for i in (0, 1)] for rows in (ours, theirs))
+            print(f"{bits:4} {load:4}% {threads:8} {a[0]:16.1f} {b[0]:6.1f} {a[0] / b[0]:6.2f} {a[1]:16.1f} {b[1]:6.1f} {a[1] / b[1]:6.2f}", flush=True)
+os.remove(plain)

@@ -1,0 +1,6 @@
+pub mod Placing
+pub mod Probing
+pub mod Ruling
+pub mod Memoing
+pub mod Ways
+pub mod Wrapping

@@ -1,0 +1,153 @@
+-- Each step keeps the whole rule.
+-- 1. A step on a node word sees and changes node words alone, so what the rule of the node words allows is allowed by the whole rule (`lift`). Memo words that are true equations stay so, since words are only added.
+-- 2. A load of a memo word lets the seat see all node words of that moment, in which the rule says that the equation is true (`memo_load_allowed`).
+-- 3. A store writes an equation that is true in the seat's view, and so in the words of the table, which extend it (`memo_store_allowed`).
+use Rattle.std.proofs.Common.{◌≡◌, ◌<◌, ◌≢◌, ◌+◌, ◌-◌, ◌^◌, eqb, zero, ℕ, List, [], ◌∷◌, length, set, replicate, take, refl, sym, ap, subst, ◌∙◌, inl, inr, arith, get_or, get_or-set_other, get_or-set_same, Option, Some}
+use Rattle.std.proofs.Math.ListN.{length-set, length-replicate}
+use Rattle.std.proofs.Math.Seq.{take-set-lt}
+use Rattle.std.proofs.lemmas.List.{take-set-le, get_or-take, take-replicate}
+use Rattle.std.proofs.lemmas.Bool.{ne_eqb}
+use prog.Atomic.{either}
+use Rattle.atomic_table.specs.Table.{Me, step, keeps, Allows, Splits, Joins, Final, Seen, carried_after}
+use Rattle.rel_model.specs.Words.{Extends, IsDistinct}
+use Rattle.rel_model.specs.Equations.{IsMemo, IsSoundTable, memo_slots, memo_word, node_words}
+use Rattle.rel_model.proofs.EquationLaws.{memo_stays}
+use Rattle.pair_table.specs.declared.rule.Known.{Known}
+use Rattle.pair_table.specs.declared.rule.Size.{Size}
+use Rattle.pair_table.specs.Probe.{IsNext}
+use Rattle.pair_table.specs.Rule.{NodesHold, Holds, first_view, left_of, right_of, both_of, spent}
+use Rattle.pair_table.specs.Tells.{SeesMemo, load_tells, place_tells, cut_tells, memo_load_tells, memo_store_tells}
+use Rattle.pair_table.proofs.Placing.{cases_eq, vacant_at}
+use Rattle.pair_table.proofs.Ruling.{NodesOf, sees_all, extends_itself, set_back, rule_after, looks, split_allowed, join_allowed, opening_ruled, load_allowed, place_allowed, cut_allowed, same_number, IsEnd, ended}
+
+-- a step that changes only what is 0 keeps what was seen
+kept_set : (f : ℕ → ℕ) → ((x : ℕ) → x ≢ 0 → f x ≡ x) → (words : List ℕ) (n : ℕ) → n < length words → Extends words (set words n (f (get_or words n 0)))
+kept_set f h words n l = record {
+  same_length = length-set words n _;
+  kept = λ m z. elim (cases_eq m n) [
+    | inl e ↦ subst (λ (k : ℕ). get_or (set words n (f (get_or words n 0))) k 0 ≡ get_or words k 0) (sym e) (rw get_or-set_same (h (get_or words n 0) (λ y. z (ap (λ (k : ℕ). get_or words k 0) e ∙ y))))
+    | inr e ↦ rw get_or-set_other refl
+  ];
+}
+
+-- what is allowed by the rule of the node words is allowed by the whole rule
+lift : {S : Type 0} (size : Size) (slots id place : ℕ) (m : Me S Known) (f : ℕ → ℕ) (then : ℕ → Me S Known → Type 0) → place < 2 ^ size.bits → ((x : ℕ) → x ≢ 0 → f x ≡ x)
+    → Allows (NodesOf size) slots id m place f then → Allows (Holds size) slots id m place f then
+lift size slots id place m f then l h allowed s r homes at fits =
+    let n : ℕ = 2 ^ size.bits in
+    let nodes : List ℕ = take n s.words in
+    let same : get_or nodes place 0 ≡ get_or s.words place 0 = get_or-take n s.words place 0 l in
+    let a = allowed (record { words = nodes; homes = s.homes; views = s.views }) r.nodes homes at (subst (λ (k : ℕ). k < 18446744073709551616) (sym same) fits) in
+    let x = kept_set f h nodes place (subst (λ (k : ℕ). place < k) (sym r.nodes.size_is) l) in
+    let new : set nodes place (f (get_or nodes place 0)) ≡ take n (set s.words place (f (get_or s.words place 0))) =
+    ap (λ (k : ℕ). set nodes place (f k)) same ∙ sym (take-set-lt n s.words place (f (get_or s.words place 0)) l) in (
+      a.0,
+      a.1,
+      a.2,
+      record {
+        long = length-set s.words place _ ∙ r.long;
+        nodes = subst (λ (ws : List ℕ). NodesHold size ws (set s.views id a.0)) new a.3;
+        memo = λ slot b z.
+            let other : n + slot ≢ place = (λ e. omega arith) in
+            let e : memo_word size.bits (set s.words place (f (get_or s.words place 0))) slot ≡ memo_word size.bits s.words slot = rw get_or-set_other refl in
+            subst (λ (ws : List ℕ). IsMemo ws slot (memo_word size.bits (set s.words place (f (get_or s.words place 0))) slot)) new
+            (subst (λ (w : ℕ). IsMemo (set nodes place (f (get_or nodes place 0))) slot w) (sym e)
+            (memo_stays nodes _ slot _ x r.nodes.sound.distinct a.3.sound.distinct (r.memo slot b (λ y. z (e ∙ y)))));
+      },
+      subst (λ (k : ℕ). then k (a.0, carried_after m.1 a.1)) same a.4,
+    )
+
+-- a load of a memo word: the seat sees all node words
+pub memo_load_allowed : {S : Type 0} (size : Size) (slots id slot : ℕ) (m : Me S Known) → m.0.parts ≢ 0 → slot < memo_slots → length m.0.words ≡ 2 ^ size.bits
+    → Allows (Holds size) slots id m (2 ^ size.bits + slot) (λ n. n) (memo_load_tells (step slots (2 ^ size.bits + slot) 0 0 mathlib.Core.Option.none) m)
+memo_load_allowed size slots id slot m live l size_is s r homes at fits =
+    let nodes : List ℕ = node_words size.bits s.words in
+    let found : ℕ = memo_word size.bits s.words slot in
+    let last : Option (ℕ × ℕ) = Some (slot, found) in
+    let w : Known = sees_all m.0 nodes m.0.made 0 last in
+    let e : slot ≡ 2 ^ size.bits + slot - length m.0.words = omega arith in (
+      w,
+      keeps,
+      tt,
+      subst (λ (ws : List ℕ). Holds size (record { words = ws; homes = s.homes; views = set s.views id w })) (sym (set_back s.words (2 ^ size.bits + slot)))
+          (record { long = r.long; nodes = rule_after size nodes nodes s.views id m.0 m.0.made 0 last r.nodes at live (extends_itself nodes) r.nodes.sound refl; memo = r.memo }),
+      (
+        subst (λ (k : ℕ). SeesMemo k found m.0 w) e
+            (record { steps = looks size nodes s.views id m.0 0 last r.nodes at live; made = refl; holds = λ z. r.memo slot l z; last = refl }),
+        refl,
+      ),
+    )
+
+-- a store of a memo word that is true in the view
+pub memo_store_allowed : {S : Type 0} (size : Size) (slots id slot word : ℕ) (m : Me S Known) → m.0.parts ≢ 0 → slot < memo_slots → IsDistinct m.0.words → IsMemo m.0.words slot word
+    → Allows (Holds size) slots id m (2 ^ size.bits + slot) (λ _. word) (λ _. memo_store_tells (step slots (2 ^ size.bits + slot) word 0 mathlib.Core.Option.none) m word)
+memo_store_allowed size slots id slot word m live l d q s r homes at fits =
+    let n : ℕ = 2 ^ size.bits in
+    let nodes : List ℕ = node_words size.bits s.words in
+    let new : List ℕ = set s.words (n + slot) word in
+    let same : take n new ≡ nodes = take-set-le n s.words (n + slot) word (omega arith) in
+    let w : Known = sees_all m.0 nodes m.0.made 0 m.0.last in
+    let true_now : IsMemo nodes slot word = memo_stays m.0.words nodes slot word (r.nodes.seen id m.0 at live) d r.nodes.sound.distinct q in (
+      w,
+      keeps,
+      tt,
+      (record {
+        long = length-set s.words (n + slot) word ∙ r.long;
+        nodes = subst (λ (ws : List ℕ). NodesHold size ws (set s.views id w)) (sym same) (rule_after size nodes nodes s.views id m.0 m.0.made 0 m.0.last r.nodes at live (extends_itself nodes) r.nodes.sound refl);
+        memo = λ k b z. subst (λ (ws : List ℕ). IsMemo ws k (memo_word size.bits new k)) (sym same) (elim (cases_eq k slot) [
+          | inl e ↦
+              let long = r.long in
+              let here : n + slot < length s.words = omega arith in
+              let h : memo_word size.bits new k ≡ word = ap (λ (j : ℕ). get_or new (n + j) 0) e ∙ (rw get_or-set_same refl) in
+              subst (λ (j : ℕ). IsMemo nodes j (memo_word size.bits new k)) (sym e) (subst (λ (x : ℕ). IsMemo nodes slot x) (sym h) true_now)
+          | inr e ↦
+              let other : n + k ≢ n + slot = (λ y. e (omega arith)) in
+              let h : memo_word size.bits new k ≡ memo_word size.bits s.words k = rw get_or-set_other refl in
+              subst (λ (x : ℕ). IsMemo nodes k x) (sym h) (r.memo k b (λ y. z (h ∙ y)))
+        ]);
+      }),
+      (record { steps = looks size nodes s.views id m.0 0 m.0.last r.nodes at live; made = refl; last = refl }, refl),
+    )
+
+-- ---- what only turns views, and the beginning
+pub split_all : {S : Type 0} (size : Size) (id : ℕ) (v : Known) → v.cut + 1 < v.parts → Splits {S = S} (Holds size) id v (left_of v) (right_of v)
+split_all size id v c s r e = record { long = r.long; nodes = split_allowed size id v c (record { words = node_words size.bits s.words; homes = []; views = s.views }) r.nodes e; memo = r.memo }
+
+pub join_all : {S : Type 0} (size : Size) (id other : ℕ) (v w : Known) → v.parts ≢ 0 → w.parts ≢ 0 → Joins {S = S} (Holds size) id v other w (both_of v w) spent
+join_all size id other v w a b s r e n o = record { long = r.long; nodes = join_allowed size id other v w a b (record { words = node_words size.bits s.words; homes = []; views = s.views }) r.nodes e n o; memo = r.memo }
+
+pub opening_all : {S : Type 0} (size : Size) (words : List ℕ) (homes : List (mathlib.Core.Option.Option S)) → size.seats < 2 ^ 32 → words ≡ replicate (2 ^ size.bits + memo_slots) zero
+    → Holds size (record { words = words; homes = homes; views = first_view size ∷ [] })
+opening_all size words homes h e = record {
+  long = ap length e ∙ length-replicate _ zero;
+  nodes = subst (λ (ws : List ℕ). NodesHold size ws (first_view size ∷ [])) (sym (ap (take (2 ^ size.bits)) e ∙ take-replicate (2 ^ size.bits) _ zero (omega arith))) (opening_ruled size h);
+  memo = λ slot b z. absurd (z (ap (λ (ws : List ℕ). get_or ws (2 ^ size.bits + slot) 0) e ∙ vacant_at (2 ^ size.bits + memo_slots) _));
+}
+
+-- ---- steps on node words
+pub load_all : (size : Size) (slots id place : ℕ) (m : Me (Unit {0}) Known) → m.0.parts ≢ 0 → place < 2 ^ size.bits → Allows (Holds size) slots id m place (λ n. n) (load_tells (step slots place 0 0 mathlib.Core.Option.none) m)
+load_all size slots id place m live l = lift size slots id place m (λ n. n) (load_tells (step slots place 0 0 mathlib.Core.Option.none) m) l (λ x h. refl) (load_allowed size slots id place m live)
+
+pub cut_all : (size : Size) (slots id place k : ℕ) (m : Me (Unit {0}) Known) → m.0.parts ≢ 0 → place < 2 ^ size.bits
+    → Allows (Holds size) slots id m place (λ n. either (eqb n k) k n) (cut_tells (step slots place k k mathlib.Core.Option.none) m)
+cut_all size slots id place k m live l = lift size slots id place m (λ n. either (eqb n k) k n) (cut_tells (step slots place k k mathlib.Core.Option.none) m) l (λ x h. same_number k x) (cut_allowed size slots id place k m live)
+
+pub place_all : (size : Size) (slots id place word : ℕ) (m : Me (Unit {0}) Known) → m.0.parts ≢ 0 → IsNext m.0.words word place → word ≢ 0 → word < 2 ^ 64 → place < 2 ^ size.bits
+    → Allows (Holds size) slots id m place (λ n. either (eqb n 0) word n) (place_tells (step slots place 0 word mathlib.Core.Option.none) m)
+place_all size slots id place word m live p h f l =
+    lift size slots id place m (λ n. either (eqb n 0) word n) (place_tells (step slots place 0 word mathlib.Core.Option.none) m) l (λ x z. ap (λ b. either b word x) (ne_eqb x 0 z))
+    (place_allowed size slots id place word m live p h f)
+
+-- ---- the end
+-- what the end tells the last seat of all words
+pub record IsEndAll (size : Size) (v : Known) (words : List ℕ) : Type 0 where
+  pub sound : IsSoundTable size.bits words
+  pub nodes : IsEnd v (node_words size.bits words)
+
+pub ended_all : {S : Type 0} (size : Size) (words : List ℕ) (xs : List S) (id : ℕ) (v : Known) → Final (Seen (Holds size) id v) words xs → v.parts ≡ size.seats → v.parts ≢ 0 → IsEndAll size v words
+ended_all size words xs id v f p live =
+    subst (λ (ws : List ℕ). IsEndAll size v ws) f.2
+    (record {
+      sound = record { size = f.1.0.long; nodes = f.1.0.nodes.sound; memo = f.1.0.memo };
+      nodes = ended size (node_words size.bits f.0.words) f.0.views id v f.1.0.nodes f.1.1 p live;
+    })

@@ -1,0 +1,92 @@
+-- From what the steps tell to what callers see.
+use Rattle.std.proofs.Common.{◌≡◌, ◌≤◌, ◌≢◌, ◌+◌, ◌-◌, ◌^◌, ℕ, List, [], replicate, ◌∷◌, ◌++◌, take, zero, suc, length, refl, sym, ap, subst, ◌∙◌, inl, inr, arith, get_or, Result, Ok, Err, IsErr}
+use Rattle.std.proofs.Math.ListN.{length-replicate}
+use Rattle.std.proofs.Math.Pow.{pow_mono}
+use Rattle.std.proofs.lemmas.Bool.{cases_lt}
+use Rattle.std.proofs.lemmas.List.{get_or_past}
+use mathlib.Core.Option.{some, some-injective, some-ne-none}
+use lib.ListN.{get_elem?}
+use Rattle.atomic_table.specs.Table.{Me, Final, Seen}
+use Rattle.atomic_table.specs.Seated.{TableId, table_id_coded}
+use Rattle.rel_model.specs.Words.{IsDistinct, IsFullOfOthers}
+use Rattle.rel_model.specs.Equations.{memo_slots}
+use Rattle.rel_model.specs.Views.{Interns, Keeps, IsFresh, IsClosed}
+use Rattle.pair_table.specs.declared.rule.Known.{Known}
+use Rattle.pair_table.specs.declared.rule.Size.{Size}
+use Rattle.pair_table.specs.Rule.{Holds, first_view}
+use Rattle.pair_table.specs.Tells.{Steps, InternsFor}
+use Rattle.pair_table.specs.Held.{house_of, IsSeat, IsTable, view_of}
+use Rattle.pair_table.proofs.Placing.{vacant_at, vacant_sound}
+use Rattle.pair_table.proofs.Memoing.{ended_all}
+
+-- tables of one house are one
+pub one_table : (a b : TableId) → house_of a ≡ house_of b → a ≡ b
+one_table a b e = table_id_coded.inj a b e
+
+-- a seat stays one over a step
+pub still_seat : {S : Type 0} (me after : Me S Known) (spare : ℕ) → IsSeat me spare → Steps me.0 after.0 → after.1 ≡ me.1 → IsSeat after spare
+still_seat me after spare s t h = record { parts = t.parts ∙ s.parts; none_held = h ∙ s.none_held; canonical = t.canonical }
+
+-- a step keeps what callers see
+pub still_kept : {S : Type 0} (id new : TableId) (me after : Me S Known) (spare : ℕ) → new ≡ id → Steps me.0 after.0 → Keeps (view_of id me spare) (view_of new after spare)
+still_kept id new me after spare e t = record { seen = t.seen; house = ap house_of e; spare = refl }
+
+-- a word is interned, as callers see it
+pub interned : {S E : Type 0} (id new : TableId) (me after : Me S Known) (spare word : ℕ) (r : Result ℕ E) → word ≢ 0 → new ≡ id → InternsFor me.0 after.0 word r → Interns (view_of id me spare) (view_of new after spare) word r
+interned {S} {E} id new me after spare word r h e i = record {
+  named = i.named;
+  missed = i.missed;
+  only_full = full r i;
+  made = elim i.made [ inl m ↦ inl m | inr m ↦ inr (record { more = m.more; absent = m.absent; answered = m.answered }) ];
+  keeps = still_kept id new me after spare e i.steps;
+  last = i.last;
+}
+  where
+    full : (r : Result ℕ E) → InternsFor me.0 after.0 word r → IsFullOfOthers after.0.words word → IsErr r
+    full (Ok n) i f = absurd (elim (cases_lt n (length after.0.words)) [
+      | inl l ↦ (f n i.named.0 l).1 i.named.1
+      | inr l ↦ h (sym i.named.1 ∙ get_or_past after.0.words n 0 l)
+    ])
+    full (Err x) i f = refl
+
+-- the words in the end, as callers see them
+pub closed_from : {S : Type 0} (id : TableId) (me : Me S Known) (spare : ℕ) (size : Size) (place : ℕ) (words : List ℕ) (xs : List S) → Final (Seen (Holds size) place me.0) words xs → IsSeat me spare → spare + 1 ≡ size.seats
+    → IsClosed size.bits (view_of id me spare) words
+closed_from id me spare size place words xs f s e =
+    let p : me.0.parts ≡ size.seats = s.parts ∙ e in
+    let l : me.0.parts ≢ 0 = (λ z. let a = s.parts in omega arith) in
+    let d = ended_all size words xs place me.0 f p l in
+    record { sound = d.sound; holds = d.nodes.seen; counted = d.nodes.counted }
+
+-- one more word of a list
+pub take_at : (xs : List ℕ) (i x : ℕ) → get_elem? xs i ≡ some x → take (i + 1) xs ≡ take i xs ++ x ∷ []
+take_at [] i x e = absurd (some-ne-none x (sym e))
+take_at (y ∷ ys) zero x e = ap (λ (z : ℕ). z ∷ []) (some-injective y x e)
+take_at (y ∷ ys) (suc i) x e = let h : suc i + 1 ≡ suc (i + 1) = omega arith in rw h (ap (λ (zs : List ℕ). y ∷ zs) (take_at ys i x e))
+
+-- ---- a new table
+pub table_from : (id : TableId) (key : Size) (bits seats count : ℕ) → 10 ≤ bits → bits ≤ 24 → count ≡ 2 ^ bits - 2 → id.words ≡ 2 ^ bits + memo_slots → id.slots ≡ 0 → key ≡ record { bits = bits; seats = seats } → IsTable id key count bits seats
+table_from id key bits seats count a b e w z k =
+    let low : 2 ^ 10 ≤ 2 ^ bits = pow_mono a in
+    let high : 2 ^ bits ≤ 2 ^ 24 = pow_mono b in
+    record { words = w; slots = z; key_is = k; count_is = omega arith; small = omega arith; not_none = omega arith }
+
+pub fresh_from : {S : Type 0} (id seat : TableId) (me : Me S Known) (bits seats : ℕ) → 10 ≤ bits → bits ≤ 24 → 1 ≤ seats → seat ≡ id → me ≡ (first_view (record { bits = bits; seats = seats }), [])
+    → IsFresh bits seats (record { house = house_of id; bits = bits; seats = seats }, view_of seat me (seats - 1))
+fresh_from id seat me bits seats a b h e m =
+    let w : me.0.words ≡ replicate (2 ^ bits) zero = ap (λ p. p.0.words) m in
+    record {
+      bits_are = refl;
+      seats_are = refl;
+      of = record {
+        one_house = ap house_of e;
+        size = ap length w ∙ length-replicate (2 ^ bits) zero;
+        low = a;
+        high = b;
+        canonical = subst (λ (ws : List ℕ). IsDistinct ws) (sym w) (vacant_sound (2 ^ bits)).distinct;
+      };
+      vacant = λ n. ap (λ (ws : List ℕ). get_or ws n 0) w ∙ vacant_at (2 ^ bits) n;
+      none_made = ap (λ p. p.0.made) m;
+      spare_is = omega arith;
+      no_load = ap (λ p. p.0.last) m;
+    }

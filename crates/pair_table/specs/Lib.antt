@@ -1,0 +1,5 @@
+pub mod Probe
+pub mod Rule
+pub mod Tells
+pub mod Held
+pub mod Laws

@@ -1,0 +1,51 @@
+-- The rule of a table: what holds of its words and of the views of all seats at every moment.
+use Rattle.std.specs.Prelude.{◌≡◌, ◌≢◌, ◌<◌, ◌+◌, ◌-◌, ◌^◌, ℕ, List, [], ◌∷◌, length, replicate, None}
+use mathlib.Core.Option.{some}
+use lib.ListN.{get_elem?}
+use Rattle.atomic_table.specs.Table.{State}
+use Rattle.rel_model.specs.Words.{Extends, IsSound, stored_count}
+use Rattle.rel_model.specs.Equations.{IsMemo, memo_slots, memo_word, node_words}
+use Rattle.pair_table.specs.declared.rule.Known.{Known}
+use Rattle.pair_table.specs.declared.rule.Size.{Size}
+
+-- the sum of a number over all views
+abbrev pub total : (Known → ℕ) → List Known → ℕ
+total f [] = 0
+total f (v ∷ vs) = f v + total f vs
+
+-- the rule of the node words: they are sound; each seat that was not joined away has seen, and was told of, no other words; together the seats placed as many words as are stored, and stand for as many seats as the table has
+pub record NodesHold (size : Size) (words : List ℕ) (views : List Known) : Type 0 where
+  pub size_is : length words ≡ 2 ^ size.bits
+  pub sound : IsSound words
+  pub seen : (id : ℕ) (v : Known) → get_elem? views id ≡ some v → v.parts ≢ 0 → Extends v.words words
+  pub told : (id : ℕ) (v : Known) → get_elem? views id ≡ some v → v.parts ≢ 0 → Extends v.told words
+  pub idle : (id : ℕ) (v : Known) → get_elem? views id ≡ some v → v.parts ≡ 0 → v.made ≡ 0
+  pub made_in_all : total (λ v. v.made) views ≡ stored_count words
+  pub parts_in_all : total (λ v. v.parts) views ≡ size.seats
+  pub few : size.seats < 2 ^ 32
+
+-- the whole rule: that of the node words, and each memo word that is not 0 is a true equation at home in its slot
+pub record Holds {S : Type 0} (size : Size) (s : State S Known) : Type 0 where
+  pub long : length s.words ≡ 2 ^ size.bits + memo_slots
+  pub nodes : NodesHold size (node_words size.bits s.words) s.views
+  pub memo : (slot : ℕ) → slot < memo_slots → memo_word size.bits s.words slot ≢ 0 → IsMemo (node_words size.bits s.words) slot (memo_word size.bits s.words slot)
+
+-- the view of the first seat
+abbrev pub first_view : Size → Known
+first_view size = record { words = replicate (2 ^ size.bits) 0; told = replicate (2 ^ size.bits) 0; made = 0; parts = size.seats; cut = 0; last = None }
+
+-- what a seat keeps when a second one is split off
+abbrev pub left_of : Known → Known
+left_of v = record { words = v.words; told = v.told; made = v.made; parts = v.parts - (v.cut + 1); cut = v.cut; last = v.last }
+
+-- what the second seat gets
+abbrev pub right_of : Known → Known
+right_of v = record { words = v.words; told = v.told; made = 0; parts = v.cut + 1; cut = 0; last = v.last }
+
+-- what one seat is when another was joined to it: it is told of what the other has seen
+abbrev pub both_of : Known → Known → Known
+both_of v w = record { words = v.words; told = w.words; made = v.made + w.made; parts = v.parts + w.parts; cut = 0; last = v.last }
+
+-- what is left of a seat that was joined to another
+abbrev pub spent : Known
+spent = record { words = []; told = []; made = 0; parts = 0; cut = 0; last = None }

@@ -1,0 +1,90 @@
+//! The rule of the words, what a seat knows, and what each kind of step tells it.
+ghost use Rattle.pair_table.specs.Rule.{Holds, first_view, left_of, right_of, both_of, spent};
+ghost use Rattle.pair_table.specs.Tells.{load_tells, place_tells, cut_tells, memo_load_tells, memo_store_tells};
+
+use atomic_table::{Join, Play, Split, TableRule};
+
+/// How large a table is.
+#[derive(Clone, Copy)]
+pub struct Size {
+    pub bits: u32,
+    pub seats: u32,
+}
+
+/// What a seat knows. No value of it is made, and a clause reads an array as a list, of any length.
+pub struct Known {
+    /// The words that it has seen, each at its place, and 0 at every other place.
+    pub words: [u64; 0],
+    /// What a seat had seen that was joined to it.
+    pub told: [u64; 0],
+    /// How many words it placed.
+    pub made: u64,
+    /// How many seats it stands for: itself and those that may be split off it, or none once it was joined to another.
+    pub parts: u64,
+    /// How many spare seats go to the seat that is split off next.
+    pub cut: u64,
+    /// The slot and the word of its last memo load.
+    pub last: Option<(u64, u64)>,
+}
+
+/// The rule of the words and of all views.
+pub struct Order;
+
+impl TableRule<(), Known, Size> for Order {
+    ghost holds = { Holds };
+
+    ghost first = { first_view };
+}
+
+/// A load of a node word.
+pub struct Load;
+
+impl Play<(), Known> for Load {
+    ghost then = { load_tells };
+}
+
+/// A compare-exchange of a node word from 0.
+pub struct Place;
+
+impl Play<(), Known> for Place {
+    ghost then = { place_tells };
+}
+
+/// A compare-exchange of a number by itself, which tells the number to the view.
+pub struct Cut;
+
+impl Play<(), Known> for Cut {
+    ghost then = { cut_tells };
+}
+
+/// A load of a memo word.
+pub struct MemoLoad;
+
+impl Play<(), Known> for MemoLoad {
+    ghost then = { memo_load_tells };
+}
+
+/// A store of a memo word.
+pub struct MemoStore;
+
+impl Play<(), Known> for MemoStore {
+    ghost then = { memo_store_tells };
+}
+
+/// A view as two.
+pub struct Halves;
+
+impl Split<Known> for Halves {
+    ghost left = { left_of };
+
+    ghost right = { right_of };
+}
+
+/// Two views as one.
+pub struct Both;
+
+impl Join<Known> for Both {
+    ghost both = { both_of };
+
+    ghost spent = { spent };
+}

@@ -1,0 +1,21 @@
+//! A seat at a table: the right of one thread to step on it, and what that thread knows.
+use crate::rule::Known;
+use std::marker::Model;
+
+/// A seat at a table, of four bytes. It may cross threads, and each call on it sees its view.
+#[derive(Drop)]
+pub struct Seat {
+    pub(crate) inner: atomic_table::Seat<(), Known>,
+    pub(crate) spare: u32,
+}
+
+impl Model for Seat {
+    ghost use Rattle.rel_model.specs.Views.{View};
+    ghost use Rattle.pair_table.specs.Held.{IsSeat, view_of};
+
+    ghost Value = { View };
+
+    ghost view = { λ s. view_of s.inner.table_id s.inner.me s.spare };
+
+    ghost invariant = { λ s. IsSeat s.inner.me s.spare };
+}

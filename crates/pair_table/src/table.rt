@@ -1,0 +1,242 @@
+//! The table whose words any number of seats share, by single atomic steps.
+ghost use Rattle.std.specs.Prelude.{◌≡◌, ◌≢◌, ◌<◌, ◌≤◌, ◌+◌, ◌-◌, ◌*◌, ◌/◌, ◌%◌, ◌^◌, slice_index, IfOk};
+ghost use Rattle.std.specs.Mem.Slots.{slots_items, slots_len, IsFull};
+ghost use Rattle.rel_model.specs.Trees.{first_of, second_of};
+ghost use Rattle.rel_model.specs.Equations.{IsMemo, memo_slots};
+ghost use Rattle.rel_model.specs.Views.{Table, View, IsOf, IsKnown, Reads, IsFresh, Interns, Loads, Splits, Joins, IsClosed};
+
+use crate::probe::intern_word;
+use crate::rule::{Known, Order, Size};
+use crate::seats::Seat;
+use crate::steps::{cut_off, load_memo, load_word, store_memo, take_in};
+use crate::{LEAST_BITS, MEMO_SLOTS, MOST_BITS, Missed};
+use rel_model::NoMemory;
+use std::alloc::{AllocError, Global};
+use std::marker::Model;
+
+/// The node table: 2^bits node words and 2^20 memo words of eight bytes each.
+#[derive(Drop)]
+pub struct PairTable {
+    table: atomic_table::Table<(), Known, Size, Order, Global>,
+    alloc: Global,
+    count: usize,
+    bits: u32,
+    seats: u32,
+}
+
+impl Model for PairTable {
+    ghost use Rattle.rel_model.specs.Views.{Table};
+    ghost use Rattle.pair_table.specs.Held.{IsTable, house_of};
+
+    ghost Value = { Table };
+
+    ghost view = { λ t. record { house = house_of t.table.shared.table_id; bits = t.bits; seats = t.seats } };
+
+    ghost invariant = { λ t. IsTable t.table.shared.table_id t.table.shared.key t.count t.bits t.seats };
+}
+
+#[tactic(auto, using(crate::proofs::Wrapping::one_table, crate::proofs::Wrapping::still_seat))]
+impl PairTable {
+    /// A table with 2^bits node words, all vacant, and its first seat, from which `seats - 1` others may be split off.
+    pub fn make(alloc: Global, bits: u32, seats: u32) -> Result<(PairTable, Seat), NoMemory>
+        requires low { LEAST_BITS ≤ bits }
+        requires high { bits ≤ MOST_BITS }
+        requires some { 1 ≤ seats }
+        ensures { IfOk result (IsFresh bits seats) }
+    {
+        let size = size_of_bits(bits);
+        let Ok(words) = vec![in alloc; 0u64; size + MEMO_SLOTS as usize] else {
+            return Err(NoMemory);
+        };
+        let about = Size { bits, seats };
+        let Ok((table, inner)) = atomic_table::Table::of_words(alloc, &words, &about) else {
+            return Err(NoMemory);
+        };
+        let count = size - 2;
+        Ok((
+            PairTable {
+                table,
+                alloc,
+                count,
+                bits,
+                seats,
+            },
+            Seat {
+                inner,
+                spare: seats - 1,
+            },
+        ))
+    }
+
+    /// The one name of a word.
+    fn intern_any(&self, seat: &mut Seat, word: u64) -> Result<u32, Missed>
+        requires of { IsOf seat.old self.now }
+        requires some { word ≢ 0 }
+        ensures interns { Interns seat.old seat.new word result }
+        ensures of { IsOf seat.new self.now }
+    {
+        intern_word(&self.table.shared, &mut seat.inner, self.count, word)
+    }
+
+    /// The one name of a pair of names.
+    pub fn intern(&self, seat: &mut Seat, left: u32, right: u32) -> Result<u32, Missed>
+        requires of { IsOf seat.old self.now }
+        requires left_in { IsKnown seat.old left }
+        requires right_in { IsKnown seat.old right }
+        requires some { left + right ≢ 0 }
+        ensures interns { Interns seat.old seat.new (left * 2 ^ 32 + right) result }
+        ensures of { IsOf seat.new self.now }
+    {
+        let word = ((left as u64) << 32) + right as u64;
+        self.intern_any(seat, word)
+    }
+
+    /// The one name of a block of 64 cells.
+    pub fn intern_block(&self, seat: &mut Seat, bits: u64) -> Result<u32, Missed>
+        requires of { IsOf seat.old self.now }
+        requires some { bits ≢ 0 }
+        ensures interns { Interns seat.old seat.new bits result }
+        ensures of { IsOf seat.new self.now }
+    {
+        self.intern_any(seat, bits)
+    }
+
+    /// The word of a name.
+    pub fn block_of(&self, seat: &mut Seat, name: u32) -> u64
+        requires of { IsOf seat.old self.now }
+        requires known { slice_index seat.old.words name ≢ 0 }
+        ensures word { result ≡ slice_index seat.old.words name }
+        ensures reads { Reads seat.old seat.new }
+        ensures of { IsOf seat.new self.now }
+    {
+        load_word(&self.table.shared, &mut seat.inner, name as usize)
+    }
+
+    /// The pair of names of a name.
+    pub fn kids(&self, seat: &mut Seat, name: u32) -> (u32, u32)
+        requires of { IsOf seat.old self.now }
+        requires known { slice_index seat.old.words name ≢ 0 }
+        ensures first { result.0 ≡ first_of (slice_index seat.old.words name) }
+        ensures second { result.1 ≡ second_of (slice_index seat.old.words name) }
+        ensures reads { Reads seat.old seat.new }
+        ensures of { IsOf seat.new self.now }
+    {
+        let word = self.block_of(seat, name);
+        ((word >> 32) as u32, (word % (1 << 32)) as u32)
+    }
+
+    /// The memo word of a slot, which is 0 or a true equation.
+    pub fn memo_load(&self, seat: &mut Seat, slot: u32) -> u64
+        requires of { IsOf seat.old self.now }
+        requires within { slot < memo_slots }
+        ensures loads { Loads slot result seat.old seat.new }
+        ensures of { IsOf seat.new self.now }
+    {
+        load_memo(
+            &self.table.shared,
+            &mut seat.inner,
+            self.count + 2,
+            slot as usize,
+        )
+    }
+
+    /// Stores a true equation at home in its slot.
+    pub fn memo_store(&self, seat: &mut Seat, slot: u32, word: u64)
+        requires of { IsOf seat.old self.now }
+        requires within { slot < memo_slots }
+        requires holds { IsMemo seat.old.words slot word }
+        ensures reads { Reads seat.old seat.new }
+        ensures of { IsOf seat.new self.now }
+    {
+        store_memo(
+            &self.table.shared,
+            &mut seat.inner,
+            self.count + 2,
+            slot as usize,
+            word,
+        );
+    }
+
+    /// Splits off a second seat, which knows as much and has so many spare seats.
+    pub fn split(&self, seat: &mut Seat, spare: u32) -> Seat
+        requires of { IsOf seat.old self.now }
+        requires fewer { spare < seat.old.spare }
+        ensures splits { Splits spare seat.old seat.new result }
+        ensures of { IsOf seat.new self.now }
+        ensures second_of { IsOf result self.now }
+    {
+        let inner = cut_off(&self.table.shared, &mut seat.inner, spare as u64);
+        seat.spare -= spare + 1;
+        Seat { inner, spare }
+    }
+
+    /// How many seats may still be split off.
+    pub fn spare(&self, seat: &Seat) -> u32
+        ensures { result ≡ seat.now.spare }
+    {
+        seat.spare
+    }
+
+    /// Both seats as one, which knows what either knew.
+    pub fn join(&self, seat: &mut Seat, other: Seat)
+        requires of { IsOf seat.old self.now }
+        requires other_of { IsOf other self.now }
+        ensures joins { Joins seat.old other seat.new }
+        ensures of { IsOf seat.new self.now }
+    {
+        let Seat { inner, spare } = other;
+        take_in(&self.table.shared, &mut seat.inner, inner);
+        seat.spare = seat.spare + spare + 1;
+    }
+
+    /// The words in the end: node words and then memo words. All seats are joined into this one.
+    pub fn close(self, seat: Seat) -> Result<Vec<u64>, NoMemory>
+        requires of { IsOf seat self }
+        requires whole { seat.spare + 1 ≡ self.seats }
+        ensures { IfOk result (λ v. IsClosed self.bits seat v.items) }
+    {
+        let PairTable {
+            table,
+            alloc,
+            count,
+            bits: _,
+            seats: _,
+        } = self;
+        let Seat { inner, spare: _ } = seat;
+        let closed = table.close_with(inner);
+        let words = copied(alloc, &closed, count + 2 + MEMO_SLOTS as usize);
+        closed.free();
+        match words {
+            Ok(words) => Ok(words),
+            Err(_) => Err(NoMemory),
+        }
+    }
+}
+
+/// How many node words a table has.
+fn size_of_bits(bits: u32) -> usize
+    requires low { LEAST_BITS ≤ bits }
+    requires high { bits ≤ MOST_BITS }
+    ensures size { result ≡ 2 ^ bits }
+    ensures large { 2 ≤ result }
+    ensures small { result ≤ 2 ^ 24 }
+{
+    1 << bits
+}
+
+/// The words of a table that is closed.
+fn copied(
+    alloc: Global,
+    closed: &atomic_table::Closed<(), Global>,
+    size: usize,
+) -> Result<Vec<u64>, AllocError>
+    requires full { IsFull closed.now.words }
+    requires length { size ≡ slots_len closed.now.words }
+    ensures { IfOk result (λ v. v.items ≡ slots_items closed.now.words) }
+{
+    let mut words = Vec::with_capacity(alloc, size)?;
+    'words: for i in 0..size {
+        words.push(closed.word(i))?;
+    }
+    Ok(words)
+}
