@@ -29,7 +29,8 @@ use Rattle.rel_model.proofs.Workers.{keeps_trans, keeps_itself, gives_stands}
 use Rattle.rel_model.proofs.Runs.{Below, below-push, below-more, state_after-read, state_after-listed, state_for-new, legal_later, legal_append, legal-length, page_later, page_append}
 use Rattle.relview.specs.declared.session.Run.{Run}
 use Rattle.relview.specs.Names.{rel_of, means, AllStand}
-use Rattle.relview.specs.Ran.{Ran, RanTo, HasMissed, Printed, Assigned, Refused}
+use Rattle.rel_model.specs.declared.syntax.Script.{Script}
+use Rattle.relview.specs.Ran.{Ran, RanTo, tree_of, Follows, HasMissed, Printed, Assigned, Refused}
 use Rattle.relview.specs.Values.{lack_outcome}
 use Rattle.relview.proofs.Naming.{rel_of-push}
 use Rattle.relview.proofs.Values.{means_kept, all_stand_kept}
@@ -134,7 +135,7 @@ ran_assigned T is c start w v old new name rows rows_at cols cols_at list k here
 -- a refusal without an event
 ran_refused : (T : Trees) (is : List Item) (c : ℕ) (start w v : Worker) (old new : Run) (name : List ℕ) (rows : ℕ) (rows_at : Place) (cols : ℕ) (cols_at : Place) (list : _) → length is + 1 ≡ c → RanTo T is start w old → Keeps w v → Refused c w.misses v.misses old new →
     RanTo T (is ++ Command (RELATION name rows rows_at cols cols_at list) ∷ []) start v new
-unfolding due due_of_command
+unfolding due due_of_command reply
 ran_refused T is c start w v old new name rows rows_at cols cols_at list k ran kept r =
     let H = old.history.items in
     let i = Command (RELATION name rows rows_at cols cols_at list) in
@@ -168,7 +169,6 @@ ran_refused T is c start w v old new name rows rows_at cols cols_at list k ran k
         other h = cc
 
     shown : (lack : Lack) (d : Due) → prefix 1 c ++ refusal_text (lack_outcome lack) ≡ reply 1 c (Command (RELATION name rows rows_at cols cols_at list)) d (lack_outcome lack)
-    unfolding reply
     shown Full d = refl
     shown NO_MEMORY d = refl
 
@@ -177,3 +177,30 @@ pub ran_relation : (T : Trees) (is : List Item) (c : ℕ) (start w v : Worker) (
     Assigned c name rows cols (relation_of rows cols (lists list.items)) v old new ⊎ Refused c w.misses v.misses old new → RanTo T (is ++ Command (RELATION name rows rows_at cols cols_at list) ∷ []) start v new
 ran_relation T is c start w v old new name rows rows_at cols cols_at list k here ran kept (inl a) = ran_assigned T is c start w v old new name rows rows_at cols cols_at list k here ran kept a
 ran_relation T is c start w v old new name rows rows_at cols cols_at list k here ran kept (inr r) = ran_refused T is c start w v old new name rows rows_at cols cols_at list k ran kept r
+
+-- ---- the item at k
+pub item_here : (script : Script) (k : ℕ) (item : Item) → k < length script.items.items → item ≡ get_or script.items.items k item → item_at (tree_of script) 1 (k + 1) ≡ Some item
+unfolding item_at
+item_here script k item l is = ap (slice_get script.items.items) (let e : (k + 1) - 1 ≡ k = omega arith in e) ∙ slice_get_read script.items.items (length script.items.items) k item refl l is
+
+next_items : (items : List Item) (k : ℕ) (item : Item) → k < length items → item ≡ get_or items k item → take (k + 1) items ≡ take k items ++ item ∷ []
+next_items items k item l is = take_more items k item l ∙ ap (λ i. take k items ++ i ∷ []) (sym is)
+
+taken : (items : List Item) (k : ℕ) → k < length items → length (take k items) + 1 ≡ k + 1
+taken items k l = omega (arith, length-take k items)
+
+pub follows_print : (script : Script) (k : ℕ) (item : Item) (e : Expr) (w v : Worker) (old new : Run) → k < length script.items.items → item ≡ get_or script.items.items k item → item ≡ Command (Print e) → Keeps w v →
+    Printed (k + 1) e (means w old.names.items) w.misses v.misses old new → Follows script k w v old new
+follows_print script k item e w v old new l is eq kept p start ran =
+    let T = tree_of script in
+    let items = script.items.items in
+    subst (λ xs. RanTo T xs start v new) (ap (λ i. take k items ++ i ∷ []) (sym eq) ∙ sym (next_items items k item l is))
+      (ran_print T (take k items) e (k + 1) start w v old new (taken items k l) ran kept p)
+
+pub follows_relation : (script : Script) (k : ℕ) (item : Item) (w v : Worker) (old new : Run) (name : List ℕ) (rows : ℕ) (rows_at : Place) (cols : ℕ) (cols_at : Place) (list : _) → k < length script.items.items → item ≡ get_or script.items.items k item →
+    item ≡ Command (RELATION name rows rows_at cols cols_at list) → Keeps w v → Assigned (k + 1) name rows cols (relation_of rows cols (lists list.items)) v old new ⊎ Refused (k + 1) w.misses v.misses old new → Follows script k w v old new
+follows_relation script k item w v old new name rows rows_at cols cols_at list l is eq kept a start ran =
+    let T = tree_of script in
+    let items = script.items.items in
+    subst (λ xs. RanTo T xs start v new) (ap (λ i. take k items ++ i ∷ []) (sym eq) ∙ sym (next_items items k item l is))
+      (ran_relation T (take k items) (k + 1) start w v old new name rows rows_at cols cols_at list (taken items k l) (item_here script k item l is ∙ ap Some eq) ran kept a)

@@ -1,5 +1,5 @@
 -- What stands after the first items of the script of session 1.
-use Rattle.std.specs.Prelude.{◌≡◌, ◌+◌, ◌<◌, ◌≤◌, ℕ, List, [], ◌∷◌, ◌++◌, length, Option, Some}
+use Rattle.std.specs.Prelude.{◌≡◌, ◌+◌, ◌<◌, ◌≤◌, ℕ, List, [], ◌∷◌, ◌++◌, length, take, Option, Some}
 use Rattle.std.specs.List.{AllByRecursion}
 use Rattle.rel_model.specs.declared.Rel.{Rel}
 use Rattle.rel_model.specs.declared.Lack.{Lack}
@@ -8,6 +8,7 @@ use Rattle.rel_model.specs.declared.syntax.Command.TheVariants.{Relation as RELA
 use Rattle.rel_model.specs.declared.syntax.Item.{Item}
 use Rattle.rel_model.specs.declared.syntax.Item.TheVariants.{Command}
 use Rattle.rel_model.specs.declared.syntax.Expr.{Expr}
+use Rattle.rel_model.specs.declared.syntax.Script.{Script}
 use Rattle.rel_model.specs.declared.run.Event.{Event}
 use Rattle.rel_model.specs.declared.run.Outcome.{Outcome}
 use Rattle.rel_model.specs.declared.run.Outcome.TheVariants.{Done, Nodes}
@@ -52,6 +53,15 @@ pub record Ran (T : Trees) (items : List Item) (start now : Worker) (names : Lis
 -- the same of a run
 abbrev pub RanTo : Trees → List Item → Worker → Worker → Run → Type 0
 RanTo T items start now run = Ran T items start now run.names.items run.history.items run.outcomes.items run.page.items
+
+-- the one script of a run
+abbrev pub tree_of : Script → Trees
+tree_of script = Some script ∷ []
+
+-- one more item was run: whatever the first k items have made, the next joins it
+abbrev pub Follows : Script → ℕ → Worker → Worker → Run → Run → Type 0
+Follows script k before now old new =
+    (start : Worker) → RanTo (tree_of script) (take k script.items.items) start before old → RanTo (tree_of script) (take (k + 1) script.items.items) start now new
 
 -- a reply to PRINT: the outcome that is due and its text
 pub record Replies (number : ℕ) (e : Expr) (state : State) (outcome : Outcome) (text : List ℕ) : Type 0 where

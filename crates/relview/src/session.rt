@@ -1,6 +1,6 @@
 //! Runs the items of a script, one after another.
 ghost use Rattle.std.specs.Prelude.{◌≡◌, ◌∷◌, ◌++◌, [], ◌<◌, ◌≤◌, ◌+◌, ◌^◌, ◌⊎◌, ℕ, List, length, take, OnOk, IfOk, IfErr};
-ghost use Rattle.std.specs.List.{AllByRecursion};
+ghost use Rattle.std.specs.Prelude.{All};
 ghost use Rattle.rel_model.specs.declared.Lack.TheVariants.{Full};
 ghost use Rattle.rel_model.specs.Relation.{relation_of, size_limit};
 ghost use Rattle.rel_model.specs.State.{lists};
@@ -8,13 +8,13 @@ ghost use Rattle.rel_model.specs.Worker.{Keeps, Gives, Rose};
 ghost use Rattle.rel_model.specs.Legal.{Trees};
 ghost use Rattle.relview.specs.Links.{IsPlain};
 ghost use Rattle.relview.specs.Names.{means, AllStand};
-ghost use Rattle.relview.specs.Ran.{Settles, Printed, Assigns, Assigned, Refuses, Refused};
+ghost use Rattle.relview.specs.Ran.{IsFirstItem, RanTo, Follows, tree_of, Settles, Printed, Assigns, Assigned, Refuses, Refused};
 
 use crate::build::listed;
 use crate::reply::{Reply, lack_reply, print_reply};
 use rel_model::core_trait::Core;
 use rel_model::run::{Act, Event, Outcome};
-use rel_model::syntax::{Expr, Name, Row};
+use rel_model::syntax::{Command, Expr, Item, Name, Row, Script};
 use rel_model::{Lack, NoMemory, Rel, Shape};
 use std::alloc::Global;
 
@@ -146,4 +146,68 @@ fn run_relation<C: Core>(
             Ok(())
         }
     }
+}
+
+/// Runs one item.
+fn run_item<C: Core>(
+    alloc: Global,
+    core: &mut C,
+    run: &mut Run,
+    script: &Script,
+    k: usize,
+) -> Result<(), NoMemory>
+    requires within { k < length script.now.items.items }
+    requires few { length script.now.items.items ≤ 2 ^ 20 }
+    requires first { All IsFirstItem script.now.items.items }
+    requires standing { AllStand (C.worker core.old) run.old.names.items }
+    ensures ran { OnOk result (Follows script.now k (C.worker core.old) (C.worker core.new) run.old run.new) }
+{
+    let number = (k + 1) as u32;
+    let Item::Command(command) = &script.items[k] else {
+        unreachable!()
+    };
+    match command {
+        Command::Relation {
+            name,
+            rows,
+            rows_at: _,
+            cols,
+            cols_at: _,
+            list,
+        } => {
+            let shape = Shape {
+                rows: *rows as u32,
+                cols: *cols as u32,
+            };
+            run_relation(alloc, core, run, number, name, shape, list.as_slice())?;
+            Ok(())
+        }
+        Command::Print { value } => {
+            run_print(alloc, core, run, number, value)?;
+            Ok(())
+        }
+        _ => unreachable!(),
+    }
+}
+
+/// Runs a script from nothing, as session 1.
+pub fn run_script<C: Core>(
+    alloc: Global,
+    core: &mut C,
+    script: &Script,
+) -> Result<Run, NoMemory>
+    requires few { length script.now.items.items ≤ 2 ^ 20 }
+    requires first { All IsFirstItem script.now.items.items }
+    ensures { IfOk result (λ run. RanTo (tree_of script.now) script.now.items.items (C.worker core.old) (C.worker core.new) run) }
+{
+    let mut run = Run {
+        names: Vec::new(alloc),
+        history: Vec::new(alloc),
+        outcomes: Vec::new(alloc),
+        page: Vec::new(alloc),
+    };
+    'each: for k in 0..script.items.len() {
+        run_item(alloc, core, &mut run, script, k)?;
+    }
+    Ok(run)
 }

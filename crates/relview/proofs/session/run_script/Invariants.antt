@@ -1,0 +1,6 @@
+use Rattle.std.proofs.Common.{take}
+use Rattle.relview.specs.Ran.{RanTo, tree_of}
+use Rattle.relview.proofs.session.run_script.Given as goal
+
+abbrev pub invariant-each : goal.invariant-each
+invariant-each g l = RanTo (tree_of l.script) (take l.k l.script.items.items) (g.C.Core.worker l.fn.core) (g.C.Core.worker l.core) l.run
