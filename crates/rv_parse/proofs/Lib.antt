@@ -1,1 +1,3 @@
 pub mod Lexing
+pub mod Parts
+pub mod Spelling

@@ -1,1 +1,3 @@
 pub mod Lexing
+pub mod Rest
+pub mod Answers

@@ -2,6 +2,9 @@
 #![tactic(auto)]
 
 mod bytes;
+mod expression;
+mod next;
 mod refusals;
+mod relation;
 mod tokens;
 mod words;
