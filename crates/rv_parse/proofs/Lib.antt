@@ -1,3 +1,5 @@
 pub mod Lexing
 pub mod Parts
 pub mod Spelling
+pub mod Linking
+pub mod Reading

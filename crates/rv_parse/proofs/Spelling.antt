@@ -1,11 +1,11 @@
 -- A list is spelled with one more at its end.
-use Rattle.std.proofs.Common.{◌≡◌, ◌≤◌, ◌<◌, ℕ, List, [], ◌∷◌, ◌++◌, length, refl, subst, arith}
+use Rattle.std.proofs.Common.{◌≡◌, ◌≤◌, ◌<◌, ℕ, List, [], ◌∷◌, ◌++◌, length, refl, subst, arith, zero, suc}
 use Rattle.rel_model.specs.declared.syntax.Column.{Column}
 use Rattle.rel_model.specs.declared.syntax.Row.{Row}
 use Rattle.rel_model.specs.declared.syntax.Item.{Item}
 use Rattle.rel_model.specs.declared.token.Kind.TheVariants.{Number, Sign}
 use Rattle.rel_model.specs.declared.token.Token.{Token}
-use Rattle.rel_model.specs.Grammar.{Takes, TakesAt, SpellsMoreColumns, SpellsColumns, SpellsRow, SpellsMoreRows, SpellsRows, SpellsItem, SpellsItems}
+use Rattle.rel_model.specs.Grammar.{Takes, TakesAt, Carets, SpellsMoreColumns, SpellsColumns, SpellsRow, SpellsMoreRows, SpellsRows, SpellsItem, SpellsItems}
 
 more_columns_push : (n : ℕ) (cs : List Column) (c : Column) (start mid after rest : List Token) → SpellsMoreColumns n cs start mid → Takes (Sign 44) mid after → TakesAt c.at (Number c.col) after rest → 1 ≤ c.col → c.col ≤ n → SpellsMoreColumns n (cs ++ c ∷ []) start rest
 more_columns_push n [] c start mid after rest s t k p q = (after, rest, subst (λ z. Takes (Sign 44) z after) s t, k, p, q, refl)
@@ -27,3 +27,7 @@ rows_push m n (q ∷ rs) r start mid after rest l s t k = (s.0, s.1, more_rows_p
 pub items_push : (is : List Item) (i : Item) (start mid rest : List Token) → SpellsItems is start mid → SpellsItem i mid rest → SpellsItems (is ++ i ∷ []) start rest
 items_push [] i start mid rest s k = (rest, subst (λ z. SpellsItem i z rest) s k, refl)
 items_push (d ∷ is) i start mid rest s k = (s.0, s.1, items_push is i s.0 mid rest s.2 k)
+
+pub carets_push : (n : ℕ) (start mid rest : List Token) → Carets n start mid → Takes (Sign 94) mid rest → Carets (suc n) start rest
+carets_push zero start mid rest s t = (rest, subst (λ z. Takes (Sign 94) z rest) s t, refl)
+carets_push (suc n) start mid rest s t = (s.0, s.1, carets_push n s.0 mid rest s.2 t)

@@ -1,3 +1,4 @@
 pub mod Lexing
 pub mod Rest
 pub mod Answers
+pub mod Expressions

@@ -1,5 +1,5 @@
 //! The first token, read as one part of the grammar.
-ghost use Rattle.std.specs.Prelude.{◌≡◌, ◌≤◌, ◌∷◌, [], ℕ, MatchResult};
+ghost use Rattle.std.specs.Prelude.{◌≡◌, ◌≤◌, ◌∷◌, [], ℕ, true, false, MatchResult, MatchOption};
 ghost use Rattle.rel_model.specs.Grammar.{TakesAt, first_size_limit};
 ghost use Rattle.rel_model.specs.declared.token.Kind.TheVariants.{Word, Number, Sign};
 ghost use Rattle.rv_parse.specs.Rest.{NamePart, SignPart, RowCount, ColumnCount, UpTo, RowsPart, begins, begins_up_to};
@@ -36,6 +36,25 @@ pub fn begins_up_to(tokens: &[Token], limit: u64) -> bool
             _ => false,
         },
         [] => false,
+    }
+}
+
+/// What stands behind this sign, where it comes first.
+pub fn behind_sign(tokens: &[Token], byte: u8) -> Option<(Place, &[Token])>
+    ensures { MatchOption result (begins byte tokens.now ≡ false) (λ x. TakesAt x.0 (Sign byte) tokens.now x.1.now × (begins byte tokens.now ≡ true) × Reads (SignPart byte ∷ []) tokens.now x.1.now) }
+{
+    let [first, rest @ ..] = tokens else {
+        return None;
+    };
+    match &first.kind {
+        Kind::Sign(sign) => {
+            if *sign == byte {
+                Some((first.at, rest))
+            } else {
+                None
+            }
+        }
+        _ => None,
     }
 }
 
