@@ -3,3 +3,5 @@ pub mod Parts
 pub mod Spelling
 pub mod Linking
 pub mod Reading
+pub mod Laws
+pub mod Scripts

@@ -3,8 +3,11 @@
 
 mod bytes;
 mod expression;
+mod first;
 mod next;
 mod refusals;
 mod relation;
 mod tokens;
 mod words;
+
+pub use first::parse_first;
