@@ -11,3 +11,6 @@ mod tokens;
 mod words;
 
 pub use first::parse_first;
+
+#[cfg(test)]
+mod tests;
