@@ -1,23 +1,18 @@
 -- The tokens of any first script fit. Each repeated part is entered for what is spelled, and dropped before the sign that follows it; expressions by induction on how they are spelled.
-use Rattle.std.proofs.Common.{◌≡◌, ◌≤◌, ◌<◌, ℕ, Bool, true, false, eqb, List, [], ◌∷◌, ◌++◌, Some, None, refl, sym, ap, ◌∙◌, subst, zero, suc}
-use Rattle.std.proofs.lemmas.Bool.{le-leb, eq-eqb, false≢true}
+use Rattle.std.proofs.Common.{◌≡◌, ◌≤◌, ℕ, true, false, List, [], ◌∷◌, ◌++◌, refl, sym, ap, ◌∙◌, subst, zero, suc}
+use Rattle.std.proofs.lemmas.Bool.{le-leb, eq-eqb}
 use Rattle.rel_model.specs.declared.syntax.Place.{Place}
 use Rattle.rel_model.specs.declared.syntax.Column.{Column}
 use Rattle.rel_model.specs.declared.syntax.Row.{Row}
 use Rattle.rel_model.specs.declared.syntax.Op2.{Op2}
 use Rattle.rel_model.specs.declared.syntax.Op2.TheVariants.{Or, And}
 use Rattle.rel_model.specs.declared.syntax.Expr.{Expr, Row_of-Link}
-use Rattle.rel_model.specs.declared.syntax.Command.{Command}
-use Rattle.rel_model.specs.declared.syntax.Command.TheVariants.{Relation, Print}
-use Rattle.rel_model.specs.declared.syntax.Item.{Item}
-use Rattle.rel_model.specs.declared.syntax.Item.TheVariants.{Command as COMMAND}
-use Rattle.rel_model.specs.declared.syntax.Script.{Script}
-use Rattle.rel_model.specs.declared.token.Kind.TheVariants.{Word, Number, Sign}
+use Rattle.rel_model.specs.declared.token.Kind.TheVariants.{Number, Sign}
 use Rattle.rel_model.specs.declared.token.Token.{Token}
-use Rattle.rel_model.specs.Grammar.{Level, OrLevel, AndLevel, UnaryLevel, PostLevel, PrimLevel, tighter, IsOperatorOf, Carets, Spelled, Linked, named, enclosed, turned, negated, chained, alone, last, link, Takes, TakesAt, SpellsMoreColumns, SpellsColumns, SpellsRow, SpellsMoreRows, SpellsRows, SpellsCommand, SpellsItem, SpellsItems, Spells, first_size_limit}
-use Rattle.rv_parse.specs.Rest.{Part, Items, NamePart, SignPart, RowCount, ColumnCount, UpTo, RowsPart, MoreRows, MoreColumns, ExprPart, MoreLinks, MoreCarets, sign_of, row_parts, fits, begins, begins_up_to}
+use Rattle.rel_model.specs.Grammar.{Level, OrLevel, AndLevel, UnaryLevel, PostLevel, PrimLevel, tighter, IsOperatorOf, Carets, Spelled, Linked, named, enclosed, turned, negated, chained, alone, last, link, Takes, TakesAt, SpellsMoreColumns, SpellsColumns, SpellsRow, SpellsMoreRows, SpellsRows}
+use Rattle.rv_parse.specs.Rest.{Part, SignPart, UpTo, RowsPart, MoreRows, MoreColumns, ExprPart, MoreLinks, MoreCarets, sign_of, row_parts, fits, begins, begins_up_to}
 use Rattle.rv_parse.specs.Answers.{Reads}
-use Rattle.rv_parse.proofs.Parts.{more_columns_end, more_columns_step, more_rows_end, more_rows_step, rows_end, rows_step, more_links_step, or_enters, and_enters, post_enters, unary_is_post, unary_negates, prim_encloses, more_carets_step, more_carets_end}
+use Rattle.rv_parse.proofs.Parts.{more_columns_end, more_columns_step, more_rows_end, more_rows_step, rows_end, rows_step, more_links_step, or_enters, and_enters, post_enters, unary_is_post, unary_negates, prim_encloses, more_carets_step}
 
 -- ---- one token
 pub reads_sign : (s : ℕ) (tokens rest : List Token) → Takes (Sign s) tokens rest → Reads (SignPart s ∷ []) tokens rest

@@ -1,5 +1,5 @@
 -- Runs of bytes and the values of digits.
-use Rattle.std.proofs.Common.{◌≡◌, ◌<◌, ◌≤◌, ◌+◌, ◌-◌, ◌*◌, ◌^◌, ℕ, Bool, true, false, cond, eqb, leb, ltb, List, [], ◌∷◌, ◌++◌, length, drop, drop-cons, get_or, take, Option, Some, None, refl, sym, ap, subst, ◌∙◌, arith, zero, suc}
+use Rattle.std.proofs.Common.{◌≡◌, ◌<◌, ◌≤◌, ◌+◌, ◌-◌, ◌*◌, ℕ, true, false, cond, eqb, List, [], ◌∷◌, ◌++◌, length, drop, drop-cons, get_or, take, Option, Some, None, refl, sym, ap, ◌∙◌, arith, zero, suc}
 use Rattle.std.proofs.Math.Seq.{drop-nil}
 use Rattle.rel_model.specs.declared.syntax.Place.{Place}
 use Rattle.rel_model.specs.Tokens.{value_from, behind, behind_all, run_length, tokens_from, kind_at, file_at, domain_operator_at, domain_operators, found_in, is_letter, is_digit, is_sign_byte, is_word_byte, is_blank, with_token}

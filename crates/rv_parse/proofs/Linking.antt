@@ -1,6 +1,6 @@
 -- The links of a chain as a list, as the loop that reads them has them.
-use Rattle.std.proofs.Common.{◌≡◌, ◌<◌, ◌≤◌, ◌+◌, ◌-◌, ℕ, List, [], ◌∷◌, ◌++◌, length, refl, subst, sym, add-one, arith}
-use Rattle.rel_model.specs.declared.syntax.Expr.{Expr, Chain', Row_of-Link, end_of-Link, more_of-Link, items-the_row-Link}
+use Rattle.std.proofs.Common.{◌≡◌, ◌<◌, ℕ, List, [], ◌∷◌, ◌++◌, length, refl, subst, sym, arith}
+use Rattle.rel_model.specs.declared.syntax.Expr.{Row_of-Link, end_of-Link, more_of-Link, items-the_row-Link}
 use Rattle.rel_model.specs.declared.syntax.Link.{Link}
 use Rattle.rel_model.specs.declared.token.Kind.TheVariants.{Sign}
 use Rattle.rel_model.specs.declared.token.Token.{Token}

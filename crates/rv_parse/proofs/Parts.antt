@@ -1,14 +1,18 @@
 -- How parts fit: a repeated part is entered where its first sign comes, and else dropped; an expression goes on as its first operand.
-use Rattle.std.proofs.Common.{◌≡◌, ◌<◌, ◌≤◌, ℕ, Bool, true, false, cond, List, [], ◌∷◌, ◌++◌, Option, Some, None, append_assoc, refl, sym, ap, ◌∙◌, suc}
-use Rattle.std.proofs.lemmas.Bool.{false≢true, cond-true, cond-false, lt-ltb, le-ltb}
+use Rattle.std.proofs.Common.{◌≡◌, ◌<◌, ◌≤◌, ℕ, Bool, true, false, cond, List, [], ◌∷◌, ◌++◌, Option, Some, None, append_assoc, refl, ap, suc}
+use Rattle.std.proofs.lemmas.Bool.{false≢true, lt-ltb, le-ltb}
 use Rattle.std.specs.Option.{option_map_or}
 use Rattle.rel_model.specs.declared.token.Kind.{Kind}
-use Rattle.rel_model.specs.declared.token.Kind.TheVariants.{Keyword, Base, Word, Number, File, Sign}
+use Rattle.rel_model.specs.declared.token.Kind.TheVariants.{Sign}
 use Rattle.rel_model.specs.declared.token.Token.{Token}
 use Rattle.rel_model.specs.Grammar.{Level, OrLevel, AndLevel, UnaryLevel, PostLevel, PrimLevel, tighter, nesting_limit}
-use Rattle.rv_parse.specs.Rest.{Part, Items, NamePart, SignPart, RowCount, ColumnCount, UpTo, RowsPart, MoreRows, MoreColumns, ExprPart, MoreLinks, MoreCarets, is_sign, is_up_to, sign_of, row_parts, followed, prim_entered, unary_entered, expr_entered, entered, can_be_dropped, rest_behind, fits, begins, begins_up_to}
+use Rattle.rv_parse.specs.Rest.{Part, NamePart, SignPart, UpTo, RowsPart, MoreRows, MoreColumns, ExprPart, MoreLinks, MoreCarets, is_sign, sign_of, row_parts, followed, prim_entered, unary_entered, expr_entered, entered, can_be_dropped, rest_behind, fits, begins, begins_up_to}
 
 -- ---- parts that one sign begins
+pub no_sign : (s : ℕ) (tokens : List Token) (behind : List Part) → begins s tokens ≡ false → fits (SignPart s ∷ behind) tokens ≡ false
+no_sign s [] behind h = refl
+no_sign s (t ∷ ts) behind h = rw h refl
+
 -- a part that a sign begins, and what stands behind the sign
 record BegunBy (part : Part) (s : ℕ) (inner : List Part) : Type 0 where
   by_sign : (k : Kind) → entered part k ≡ cond (is_sign s k) (Some inner) None

@@ -1,5 +1,5 @@
 -- One step of the readers of expressions each: what is read, and why it is refused.
-use Rattle.std.proofs.Common.{◌≡◌, ◌<◌, ◌≤◌, ◌+◌, ◌-◌, ◌^◌, ℕ, Bool, true, false, List, [], ◌∷◌, ◌++◌, length, refl, sym, ap, subst, ◌∙◌, add-one, arith, suc, Result, Ok, Err, MatchResult, Bor}
+use Rattle.std.proofs.Common.{◌≡◌, ◌<◌, ◌+◌, ℕ, true, false, List, [], ◌∷◌, length, sym, ap, subst, ◌∙◌, add-one, arith, suc, Result, Ok, Err, MatchResult, Bor}
 use Rattle.std.specs.declared.boxed.Box.{Box}
 use Rattle.std.specs.declared.vec.Vec.{Vec}
 use Rattle.std.specs.declared.alloc.Global.{Global}
@@ -8,7 +8,7 @@ use Rattle.rel_model.specs.declared.syntax.Expr.{Expr, Ref, Minus, Turned, Chain
 use Rattle.rel_model.specs.declared.syntax.Link.{Link}
 use Rattle.rel_model.specs.declared.token.Kind.TheVariants.{Sign, Word}
 use Rattle.rel_model.specs.declared.token.Token.{Token}
-use Rattle.rel_model.specs.Grammar.{Level, OrLevel, AndLevel, UnaryLevel, PostLevel, PrimLevel, tighter, nesting_limit, TakesAt, Carets, Spelled, Linked, named, enclosed, turned, negated, chained, alone}
+use Rattle.rel_model.specs.Grammar.{Level, OrLevel, UnaryLevel, PostLevel, PrimLevel, tighter, nesting_limit, TakesAt, Carets, Spelled, named, enclosed, turned, negated, chained, alone}
 use Rattle.rv_parse.specs.Rest.{Part, NamePart, SignPart, ExprPart, MoreLinks, MoreCarets, sign_of, fits, begins}
 use Rattle.rv_parse.specs.Answers.{Reads, Refuses}
 use Rattle.rv_parse.specs.Expressions.{IsRead, level_of}

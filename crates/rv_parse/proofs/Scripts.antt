@@ -1,5 +1,5 @@
 -- Tokens that don't fit are those of no script.
-use Rattle.std.proofs.Common.{◌≡◌, ◌≤◌, ◌<◌, ℕ, Bool, true, false, List, [], ◌∷◌, ◌++◌, Option, Some, None, refl, sym, ap, ◌∙◌, subst}
+use Rattle.std.proofs.Common.{◌≡◌, ◌≤◌, ℕ, true, List, [], ◌∷◌, ◌++◌, Some, None, refl, sym, ap, ◌∙◌, subst}
 use Rattle.std.proofs.lemmas.Bool.{le-leb, false≢true}
 use Rattle.rel_model.specs.declared.syntax.Place.{Place}
 use Rattle.rel_model.specs.declared.syntax.Command.{Command}
@@ -8,15 +8,13 @@ use Rattle.rel_model.specs.declared.syntax.Item.{Item}
 use Rattle.rel_model.specs.declared.syntax.Item.TheVariants.{Command as COMMAND}
 use Rattle.rel_model.specs.declared.syntax.Script.{Script}
 use Rattle.rel_model.specs.declared.faults.ParseFault.{ParseFault}
-use Rattle.rel_model.specs.declared.faults.ParseFault.TheVariants.{Expected, NoMemory as NO_MEMORY}
-use Rattle.rel_model.specs.declared.faults.What.TheVariants.{Item as ITEM}
 use Rattle.rel_model.specs.declared.token.Kind.TheVariants.{Number, Sign}
 use Rattle.rel_model.specs.declared.token.Token.{Token}
 use Rattle.rel_model.specs.Tokens.{tokens_of}
-use Rattle.rel_model.specs.Grammar.{OrLevel, Takes, TakesAt, SpellsCommand, SpellsItem, SpellsItems, Spells, SpelledBy, first_size_limit}
-use Rattle.rv_parse.specs.Rest.{Part, Items, NamePart, SignPart, RowCount, ColumnCount, RowsPart, ExprPart, fits, begins, begins_up_to}
-use Rattle.rv_parse.specs.Answers.{Reads, FitsNone, NoScript, RefusesFirst}
-use Rattle.rv_parse.specs.Items.{IsFaultOf}
+use Rattle.rel_model.specs.Grammar.{OrLevel, Takes, TakesAt, SpellsCommand, SpellsItem, SpellsItems, Spells, first_size_limit}
+use Rattle.rv_parse.specs.Rest.{Part, Items, NamePart, SignPart, RowCount, ColumnCount, RowsPart, fits, begins, begins_up_to}
+use Rattle.rv_parse.specs.Answers.{FitsNone, NoScript}
+use Rattle.rv_parse.specs.Faults.{RefusesFirst, IsFaultOf}
 use Rattle.rv_parse.specs.Lexing.{NoTokens}
 use Rattle.rv_parse.specs.declared.refusals.Refusal.{Refusal}
 use Rattle.rv_parse.specs.declared.refusals.Refusal.TheVariants.{Unfit, NoMemory}

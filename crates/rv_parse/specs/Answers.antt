@@ -1,15 +1,14 @@
 -- What the reading functions answer: a tree that the tokens spell, and what is left; or that the tokens don't fit.
-use Rattle.std.specs.Prelude.{◌≡◌, ◌++◌, ℕ, List, [], ◌∷◌, false}
+use Rattle.std.specs.Prelude.{◌≡◌, ◌++◌, List, [], ◌∷◌, false}
 use Rattle.rel_model.specs.declared.token.Token.{Token}
 use Rattle.rel_model.specs.declared.syntax.Script.{Script}
 use Rattle.rel_model.specs.declared.syntax.Command.{Command}
 use Rattle.rel_model.specs.declared.token.Kind.TheVariants.{Keyword}
-use Rattle.rel_model.specs.declared.token.Keyword.TheVariants.{Rel as REL}
-use Rattle.rel_model.specs.declared.faults.ParseFault.{ParseFault}
-use Rattle.rel_model.specs.declared.faults.ParseFault.TheVariants.{Byte, Expected, TooDeep, NumberTooLarge, NameTooLong, NoMemory as NO_MEMORY}
-use Rattle.rel_model.specs.declared.faults.What.TheVariants.{Item}
-use Rattle.rel_model.specs.Grammar.{Takes, SpellsCommand, Spells, SpelledBy}
-use Rattle.rv_parse.specs.Rest.{Part, Items, fits}
+use Rattle.rel_model.specs.declared.token.Keyword.TheVariants.{Rel as REL, Print as PRINT}
+use Rattle.rel_model.specs.Grammar.{OrLevel, Takes, SpellsCommand, Spells}
+use Rattle.rv_parse.specs.Rest.{Part, Items, NamePart, RowCount, SignPart, ExprPart, fits}
+use Rattle.rv_parse.specs.declared.first.Opening.{Opening}
+use Rattle.rv_parse.specs.declared.first.Opening.TheVariants.{Relation, Print}
 use Rattle.rv_parse.specs.declared.refusals.Refusal.{Refusal}
 use Rattle.rv_parse.specs.declared.refusals.Refusal.TheVariants.{Unfit, NoMemory}
 
@@ -40,11 +39,7 @@ abbrev pub NoScript : List Token → Refusal → Type 0
 NoScript tokens Unfit = (script : Script) → Spells script tokens → ⊥
 NoScript tokens NoMemory = Unit {0}
 
--- The fault is right for these bytes: an item is expected at the first place only where they spell no first script; memory may run out; no other fault comes.
-abbrev pub RefusesFirst : List ℕ → ParseFault → Type 0
-RefusesFirst bytes (Expected at what) = (at ≡ record { line = 1; column = 1 }) × (what ≡ Item) × ((script : Script) → SpelledBy bytes script → ⊥)
-RefusesFirst bytes NO_MEMORY = Unit {0}
-RefusesFirst bytes (Byte at byte) = ⊥
-RefusesFirst bytes (TooDeep at) = ⊥
-RefusesFirst bytes (NumberTooLarge at) = ⊥
-RefusesFirst bytes (NameTooLong at) = ⊥
+-- the first token is this keyword, and behind it the rest of the item is to come, a full stop, and further items
+abbrev pub OpensItem : Opening → List Token → List Token → Type 0
+OpensItem Relation tokens rest = Takes (Keyword REL) tokens rest × (fits (Items ∷ []) tokens ≡ fits (NamePart ∷ RowCount ∷ SignPart 46 ∷ Items ∷ []) rest)
+OpensItem Print tokens rest = Takes (Keyword PRINT) tokens rest × (fits (Items ∷ []) tokens ≡ fits (ExprPart OrLevel 0 ∷ SignPart 46 ∷ Items ∷ []) rest)

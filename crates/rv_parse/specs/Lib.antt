@@ -2,4 +2,4 @@ pub mod Lexing
 pub mod Rest
 pub mod Answers
 pub mod Expressions
-pub mod Items
+pub mod Faults

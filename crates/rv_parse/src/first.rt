@@ -2,8 +2,8 @@
 ghost use Rattle.std.specs.Prelude.{◌≡◌, ◌<◌, ◌≤◌, ◌^◌, ◌∷◌, [], false, length, MatchResult, MatchOption, IfOk, IfErr};
 ghost use Rattle.rel_model.specs.Grammar.{SpellsItem, SpellsItems, SpelledBy, Spells};
 ghost use Rattle.rv_parse.specs.Rest.{Items, fits};
-ghost use Rattle.rv_parse.specs.Answers.{FitsNone, NoScript, RefusesFirst};
-ghost use Rattle.rv_parse.specs.Items.{OpensItem, IsFaultOf};
+ghost use Rattle.rv_parse.specs.Answers.{FitsNone, NoScript, OpensItem};
+ghost use Rattle.rv_parse.specs.Faults.{RefusesFirst, IsFaultOf};
 
 use crate::expression::expression;
 use crate::next::next_sign;

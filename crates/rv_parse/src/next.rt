@@ -13,19 +13,6 @@ use std::alloc::Global;
 /// The greatest size in a first script.
 pub const SIZE_LIMIT: u64 = 1000;
 
-/// Whether this sign comes first.
-pub fn begins(tokens: &[Token], byte: u8) -> bool
-    ensures { result ≡ begins byte tokens.now }
-{
-    match tokens {
-        [first, ..] => match &first.kind {
-            Kind::Sign(sign) => *sign == byte,
-            _ => false,
-        },
-        [] => false,
-    }
-}
-
 /// Whether a number from 1 up to the limit comes first.
 pub fn begins_up_to(tokens: &[Token], limit: u64) -> bool
     ensures { result ≡ begins_up_to limit tokens.now }
@@ -59,21 +46,13 @@ pub fn behind_sign(tokens: &[Token], byte: u8) -> Option<(Place, &[Token])>
 }
 
 /// This sign.
+#[tactic(auto, using(crate::proofs::Parts::no_sign))]
 pub fn next_sign(tokens: &[Token], byte: u8) -> Result<(Place, &[Token]), Refusal>
     ensures { MatchResult result (λ x. TakesAt x.0 (Sign byte) tokens.now x.1.now × Reads (SignPart byte ∷ []) tokens.now x.1.now) (Refuses (SignPart byte ∷ []) tokens.now) }
 {
-    let [first, rest @ ..] = tokens else {
-        return Err(Refusal::Unfit);
-    };
-    match &first.kind {
-        Kind::Sign(sign) => {
-            if *sign == byte {
-                Ok((first.at, rest))
-            } else {
-                Err(Refusal::Unfit)
-            }
-        }
-        _ => Err(Refusal::Unfit),
+    match behind_sign(tokens, byte) {
+        Some(found) => Ok(found),
+        None => Err(Refusal::Unfit),
     }
 }
 

@@ -4,7 +4,7 @@ ghost use Rattle.rel_model.specs.Grammar.{SpellsColumns, SpellsRow, SpellsRows};
 ghost use Rattle.rv_parse.specs.Rest.{NamePart, RowCount, UpTo, RowsPart, MoreRows, MoreColumns, row_parts};
 ghost use Rattle.rv_parse.specs.Answers.{Reads, Refuses, SpellsBehindRel};
 
-use crate::next::{begins, begins_up_to, next_name, next_sign, next_size, next_up_to};
+use crate::next::{begins_up_to, behind_sign, next_name, next_sign, next_size, next_up_to};
 use crate::refusals::Refusal;
 use rel_model::syntax::{Column, Command, Row};
 use rel_model::token::Token;
@@ -17,8 +17,7 @@ fn columns(alloc: Global, tokens: &[Token], limit: u64) -> Result<(Vec<Column>, 
     let (col, at, mut rest) = next_up_to(tokens, limit)?;
     let mut cols = Vec::new(alloc);
     cols.push(Column { col, at })?;
-    'columns: while begins(rest, b',') {
-        let (_, behind) = next_sign(rest, b',')?;
+    'columns: while let Some((_, behind)) = behind_sign(rest, b',') {
         let (col, at, behind) = next_up_to(behind, limit)?;
         cols.push(Column { col, at })?;
         rest = behind;
@@ -49,8 +48,7 @@ fn more_rows<'a>(
     ensures { MatchResult result (λ x. SpellsRows height width x.0.items start.now x.1.now × (length x.1.now ≤ length tokens.now) × Reads (MoreRows height width ∷ []) tokens.now x.1.now) (Refuses (MoreRows height width ∷ []) tokens.now) }
 {
     let mut rest = tokens;
-    'more: while begins(rest, b';') {
-        let (_, behind) = next_sign(rest, b';')?;
+    'more: while let Some((_, behind)) = behind_sign(rest, b';') {
         let (next, behind) = row(alloc, behind, height, width)?;
         rows.push(next)?;
         rest = behind;

@@ -1,12 +1,10 @@
-use Rattle.std.proofs.Common.{◌≡◌, ◌<◌, ◌≤◌, ◌+◌, ◌^◌, ◌∷◌, [], ◌++◌, ◌∙◌, ℕ, List, length, refl, sym, ap, subst, add-one, arith}
+use Rattle.std.proofs.Common.{◌+◌, ◌∷◌, ◌∙◌, length, refl, sym, ap, subst, add-one, arith}
 use Rattle.std.proofs.lemmas.Bool.{eqb-true, eqb-false}
 use Rattle.std.proofs.lemmas.Result.{err_from_is_err_and}
-use Rattle.rel_model.specs.declared.syntax.Link.{Link}
 use Rattle.rel_model.specs.declared.token.Kind.TheVariants.{Sign}
-use Rattle.rel_model.specs.Grammar.{TakesAt, Spelled, alone}
-use Rattle.rv_parse.specs.Rest.{ExprPart, MoreLinks, MoreCarets, sign_of}
+use Rattle.rel_model.specs.Grammar.{TakesAt, alone}
+use Rattle.rv_parse.specs.Rest.{MoreLinks, sign_of}
 use Rattle.rv_parse.specs.Expressions.{level_of}
-use Rattle.rv_parse.proofs.Parts.{more_links_step, more_links_end}
 use Rattle.rv_parse.proofs.Linking.{SpellsLinks, links_push}
 use Rattle.rv_parse.proofs.Reading.{prim_name, prim_no_name, prim_parens, prim_no_inner, prim_no_close, post_plain, post_turned, post_no_prim, unary_minus, unary_no_operand, unary_by_post, link_step, links_end, chain_no_links, chain_enters, chain_no_first, chain_spelled}
 use Rattle.rv_parse.proofs.expression.+expressions.Goals as goal

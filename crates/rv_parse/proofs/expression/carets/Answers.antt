@@ -1,4 +1,4 @@
-use Rattle.std.proofs.Common.{◌≡◌, ◌+◌, ◌∷◌, [], ◌∙◌, ap, subst, sym, ℕ, List, arith, add-one, length}
+use Rattle.std.proofs.Common.{◌∷◌, ◌∙◌, ap, subst, sym, arith, add-one, length}
 use Rattle.rel_model.specs.Grammar.{Carets}
 use Rattle.rv_parse.specs.Rest.{MoreCarets}
 use Rattle.rv_parse.proofs.Spelling.{carets_push}

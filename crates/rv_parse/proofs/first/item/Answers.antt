@@ -1,6 +1,5 @@
-use Rattle.std.proofs.Common.{◌≡◌, ◌∷◌, [], ◌∙◌, ap, subst, arith, length}
+use Rattle.std.proofs.Common.{◌∷◌, [], ◌∙◌, ap, arith, length}
 use Rattle.rv_parse.specs.Rest.{Items, SignPart}
-use Rattle.rv_parse.specs.Items.{OpensItem}
 use Rattle.rv_parse.proofs.first.item.Goals as goal
 
 pub returns-in_ok-rest-in-Relation : goal.returns-in_ok-rest-in-Relation

@@ -1,4 +1,4 @@
-use Rattle.std.proofs.Common.{◌≡◌, ◌≤◌, ◌∷◌, [], ◌∙◌, ap, sym, length, arith}
+use Rattle.std.proofs.Common.{◌∙◌, arith}
 use Rattle.rv_parse.proofs.Spelling.{items_push}
 use Rattle.rv_parse.proofs.first.items.Goals as goal
 

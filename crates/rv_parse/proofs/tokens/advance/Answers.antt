@@ -1,4 +1,4 @@
-use Rattle.std.proofs.Common.{◌≡◌, ◌-◌, ◌∙◌, drop, sym, arith}
+use Rattle.std.proofs.Common.{◌-◌, ◌∙◌, drop, sym, arith}
 use Rattle.rv_parse.proofs.Lexing.{behind_none}
 use Rattle.rv_parse.proofs.tokens.advance.Goals as goal
 
