@@ -57,7 +57,6 @@ abbrev pub stands : List ℕ → ℕ → ℕ → Bool
 stands words zero n = (n == 0) || is_stored words n
 stands words (suc k) n = (n == 0) || (is_stored words n && (stands words k (first_of (slice_index words n)) && stands words k (second_of (slice_index words n))))
 
-
 -- the depth of a square of side 8 * 2 ^ d
 abbrev pub twice : ℕ → ℕ
 twice zero = zero
