@@ -1,0 +1,7 @@
+pub mod Lexing
+pub mod Parts
+pub mod Spelling
+pub mod Linking
+pub mod Reading
+pub mod Laws
+pub mod Scripts

@@ -1,0 +1,5 @@
+pub mod Lexing
+pub mod Rest
+pub mod Answers
+pub mod Expressions
+pub mod Faults

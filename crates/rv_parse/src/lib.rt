@@ -1,0 +1,16 @@
+//! Reads scripts: the tokens of a text, and the tree that they spell.
+#![tactic(auto)]
+
+mod bytes;
+mod expression;
+mod first;
+mod next;
+mod refusals;
+mod relation;
+mod tokens;
+mod words;
+
+pub use first::parse_first;
+
+#[cfg(test)]
+mod tests;
