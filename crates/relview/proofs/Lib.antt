@@ -9,3 +9,4 @@ pub mod Naming
 pub mod Replying
 pub mod Settling
 pub mod Steps
+pub mod FirstItems
