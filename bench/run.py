@@ -1,14 +1,14 @@
 #!/usr/bin/env python3
 """Compares the proved table with the same probe in plain C, in alternating runs.
 
-    cd bench && rt check table_bench && ./run.py PATH-OF-THE-BUILT-PROGRAM [ROUNDS]
+    cd crates/table_bench && rt run && ../../bench/run.py out/table_bench [ROUNDS]
 
-Prints, for each size, load and number of threads, the median of nanoseconds per
-insert and per hit of both, and their ratio. With one thread both give the same
-names, so their sums are compared.
+Prints, for each size, load and number of threads, millions of interns per second
+of both, for inserts and for hits, and the ratio of the times. Each is from the
+shortest of the rounds, since other work on the machine only adds to a time. With
+one thread both give the same names, so the sums of the names are compared.
 """
 import os
-import statistics
 import subprocess
 import sys
 
@@ -25,7 +25,7 @@ def run(command, case):
     return inserting / inserts, finding / hits, total
 
 
-print("bits  load  threads   insert: proved  plain  ratio      hit: proved  plain  ratio")
+print("bits  load  threads   inserts: proved  plain  time   hits: proved  plain  time")
 for bits in (20, 24):
     for load in (10, 50, 80):
         for threads in (1, 4):
@@ -36,6 +36,9 @@ for bits in (20, 24):
                 theirs.append(run(plain, case))
                 if threads == 1:
                     assert ours[-1][2] == theirs[-1][2], "the names differ"
-            a, b = ([statistics.median(r[i] for r in rows) for i in (0, 1)] for rows in (ours, theirs))
-            print(f"{bits:4} {load:4}% {threads:8} {a[0]:16.1f} {b[0]:6.1f} {a[0] / b[0]:6.2f} {a[1]:16.1f} {b[1]:6.1f} {a[1] / b[1]:6.2f}", flush=True)
+            a, b = ([min(r[i] for r in rows) for i in (0, 1)] for rows in (ours, theirs))
+            print(
+                f"{bits:4} {load:4}% {threads:8} {1000 / a[0]:17.1f} {1000 / b[0]:6.1f} {a[0] / b[0]:5.2f} {1000 / a[1]:14.1f} {1000 / b[1]:6.1f} {a[1] / b[1]:5.2f}",
+                flush=True,
+            )
 os.remove(plain)
