@@ -148,33 +148,35 @@ fewer_items (i ∷ is) tokens rest s = omega (arith, fewer_item i tokens s.0 s.1
 some_inj : {X : Type 0} {x y : X} → Some x ≡ Some y → x ≡ y
 some_inj e = cc
 
+none_some : {X : Type 0} {x : X} → None ≡ Some x → ⊥
+none_some e = cc
+
+-- the tokens of the bytes behind one, wherever the last token ends
+abbrev AreFew : Place → List ℕ → Type 0
+AreFew at bs = (k : ℕ) (ts : List Token) → tokens_from k at bs ≡ Some ts → length ts ≤ length bs
+
+with_one : (at : Place) (kind : Kind) (o : Option (List Token)) (n : ℕ) (ts : List Token) → ((us : List Token) → o ≡ Some us → length us ≤ n) → with_token at kind o ≡ Some ts → length ts ≤ n + 1
+with_one at kind None n ts h e = absurd (none_some e)
+with_one at kind (Some us) n ts h e = omega (arith, h us refl, ap length (sym (some_inj e)))
+
+by_kind : (at next : Place) (bs : List ℕ) (o : Option (Kind × ℕ)) (ts : List Token) → AreFew next bs → option_map_or (λ t. with_token at t.0 (tokens_from (t.1 - 1) next bs)) o None ≡ Some ts → length ts ≤ length bs + 1
+by_kind at next bs None ts h e = absurd (none_some e)
+by_kind at next bs (Some t) ts h e = with_one at t.0 (tokens_from (t.1 - 1) next bs) (length bs) ts (h (t.1 - 1)) e
+
+by_comment : (at next : Place) (b k : ℕ) (bs : List ℕ) (c : Bool) (ts : List Token) → AreFew next bs →
+    cond c (tokens_from k next bs) (option_map_or (λ t. with_token at t.0 (tokens_from (t.1 - 1) next bs)) (kind_at (b ∷ bs)) None) ≡ Some ts → length ts ≤ length bs + 1
+by_comment at next b k bs true ts h e = omega (arith, h k ts e)
+by_comment at next b k bs false ts h e = by_kind at next bs (kind_at (b ∷ bs)) ts h e
+
+by_blank : (at next : Place) (b k : ℕ) (bs : List ℕ) (blank c : Bool) (ts : List Token) → AreFew next bs →
+    cond blank (tokens_from 0 next bs) (cond c (tokens_from k next bs) (option_map_or (λ t. with_token at t.0 (tokens_from (t.1 - 1) next bs)) (kind_at (b ∷ bs)) None)) ≡ Some ts → length ts ≤ length bs + 1
+by_blank at next b k bs true c ts h e = omega (arith, h 0 ts e)
+by_blank at next b k bs false c ts h e = by_comment at next b k bs c ts h e
+
 few_tokens : (k : ℕ) (at : Place) (bs : List ℕ) (ts : List Token) → tokens_from k at bs ≡ Some ts → length ts ≤ length bs
 few_tokens k at [] ts e = omega (arith, ap length (sym (some_inj e)))
 few_tokens (suc k) at (b ∷ bs) ts e = omega (arith, few_tokens k (behind b at) bs ts e)
-few_tokens zero at (b ∷ bs) ts e = by_blank (is_blank b) e
-  where
-    with_one : (kind : Kind) (o : Option (List Token)) → ((us : List Token) → o ≡ Some us → length us ≤ length bs) → with_token at kind o ≡ Some ts → length ts ≤ length bs + 1
-    with_one kind None h e = absurd (none_some e)
-      where
-        none_some : {us : List Token} → None ≡ Some us → ⊥
-        none_some e = cc
-    with_one kind (Some us) h e = omega (arith, h us refl, ap length (sym (some_inj e)))
-
-    by_kind : (o : Option (Kind × ℕ)) → option_map_or (λ t. with_token at t.0 (tokens_from (t.1 - 1) (behind b at) bs)) o None ≡ Some ts → length ts ≤ length bs + 1
-    by_kind None e = absurd (none_some e)
-      where
-        none_some : {us : List Token} → None ≡ Some us → ⊥
-        none_some e = cc
-    by_kind (Some t) e = with_one t.0 (tokens_from (t.1 - 1) (behind b at) bs) (λ us h. few_tokens (t.1 - 1) (behind b at) bs us h) e
-
-    by_comment : (c : Bool) → cond c (tokens_from (run_length (λ c. not (eqb c 10)) bs) (behind b at) bs) (option_map_or (λ t. with_token at t.0 (tokens_from (t.1 - 1) (behind b at) bs)) (kind_at (b ∷ bs)) None) ≡ Some ts → length ts ≤ length bs + 1
-    by_comment true e = omega (arith, few_tokens _ (behind b at) bs ts e)
-    by_comment false e = by_kind (kind_at (b ∷ bs)) e
-
-    by_blank : (c : Bool) → cond c (tokens_from 0 (behind b at) bs) (cond (eqb b 35) (tokens_from (run_length (λ c. not (eqb c 10)) bs) (behind b at) bs) (option_map_or (λ t. with_token at t.0 (tokens_from (t.1 - 1) (behind b at) bs)) (kind_at (b ∷ bs)) None)) ≡ Some ts →
-        length ts ≤ length bs + 1
-    by_blank true e = omega (arith, few_tokens 0 (behind b at) bs ts e)
-    by_blank false e = by_comment (eqb b 35) e
+few_tokens zero at (b ∷ bs) ts e = omega (arith, by_blank at (behind b at) b (run_length (λ c. not (eqb c 10)) bs) bs (is_blank b) (eqb b 35) ts (λ k us h. few_tokens k (behind b at) bs us h) e)
 
 tokens_within : (bytes : List ℕ) (ts : List Token) → tokens_of bytes ≡ Some ts → length ts ≤ length bytes
 unfolding tokens_of
@@ -183,9 +185,6 @@ tokens_within bytes ts e = by_bytes (list_all is_allowed bytes) e
     by_bytes : (b : Bool) → cond b (tokens_from 0 (record { line = 1; column = 1 }) bytes) None ≡ Some ts → length ts ≤ length bytes
     by_bytes true e = few_tokens 0 _ bytes ts e
     by_bytes false e = absurd (none_some e)
-      where
-        none_some : {us : List Token} → None ≡ Some us → ⊥
-        none_some e = cc
 
 -- ---- scripts
 pub spelled_first : (bytes : List ℕ) (script : Script) → SpelledBy bytes script → All IsFirstItem script.items.items

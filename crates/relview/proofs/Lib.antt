@@ -10,3 +10,4 @@ pub mod Replying
 pub mod Settling
 pub mod Steps
 pub mod FirstItems
+pub mod Answering

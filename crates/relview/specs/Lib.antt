@@ -3,3 +3,4 @@ pub mod Links
 pub mod Values
 pub mod Listed
 pub mod Ran
+pub mod Top

@@ -7,3 +7,5 @@ pub mod names;
 pub mod reply;
 pub mod session;
 pub mod text;
+pub mod top;
+pub mod words;

@@ -2,9 +2,12 @@
 ghost use Rattle.std.specs.Prelude.{◌≡◌, ◌∷◌, ◌++◌, [], ◌<◌, ◌≤◌, ℕ, List, OnOk, codes, if◌then◌else◌};
 ghost use Rattle.std.specs.Fmt.{decimal};
 ghost use Rattle.rel_model.specs.Meaning.{known, spelling};
-ghost use Rattle.rel_model.specs.Page.{row_text, rows_text, matrix, prefix, place_text, shape_text, refusal_text, outcome_text, type_fault_text, unknown_text, mismatch_text};
+ghost use Rattle.rel_model.specs.Page.{row_text, rows_text, matrix, prefix, place_text, shape_text, refusal_text, outcome_text, type_fault_text, unknown_text, mismatch_text, parse_fault_text, what_text};
 ghost use Rattle.rel_model.specs.Worker.{Stands, set_of, Keeps};
 ghost use Rattle.rel_model.specs.declared.faults.TypeFault.TheVariants.{Unknown, Mismatch};
+ghost use Rattle.rel_model.specs.declared.faults.What.TheVariants.{Item};
+ghost use Rattle.rel_model.specs.declared.faults.ParseFault.TheVariants.{Expected};
+ghost use Rattle.rel_model.specs.Legal.{no_script};
 ghost use Rattle.rel_model.specs.declared.run.Outcome.TheVariants.{Ill, Nodes, NoMemory};
 ghost use Rattle.relview.specs.Values.{fault_of, lack_outcome};
 
@@ -188,6 +191,28 @@ pub fn refuse_mismatch(
 {
     out.extend_from_slice(b"refused: ")?;
     push_mismatch(alloc, out, mismatched)?;
+    out.push(b'\n')?;
+    Ok(())
+}
+
+/// Adds that an item is expected at the first place.
+#[tactic(auto, unfolding(rel_model::specs::Page::parse_fault_text, rel_model::specs::Page::what_text))]
+fn push_item(alloc: Global, out: &mut Vec<u8>) -> Result<(), AllocError>
+    ensures { OnOk result (out.new.items ≡ out.old.items ++ parse_fault_text (Expected (record { line = 1; column = 1 }) Item)) }
+{
+    push_place(alloc, out, Place { line: 1, column: 1 })?;
+    out.extend_from_slice(b"expected ")?;
+    out.extend_from_slice(b"an item")?;
+    Ok(())
+}
+
+/// Adds the refusal of bytes that are no script.
+#[tactic(auto, unfolding(rel_model::specs::Page::refusal_text, rel_model::specs::Page::outcome_text))]
+pub fn refuse_item(alloc: Global, out: &mut Vec<u8>) -> Result<(), AllocError>
+    ensures { OnOk result (out.new.items ≡ out.old.items ++ refusal_text no_script) }
+{
+    out.extend_from_slice(b"refused: ")?;
+    push_item(alloc, out)?;
     out.push(b'\n')?;
     Ok(())
 }
