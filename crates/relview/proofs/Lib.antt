@@ -4,10 +4,11 @@ pub mod Values
 pub mod Fitting
 pub mod Listing
 pub mod Agreeing
-pub mod Lines
+pub mod Texts
 pub mod Naming
 pub mod Replying
 pub mod Settling
 pub mod Steps
 pub mod FirstItems
 pub mod Answering
+pub mod Reporting

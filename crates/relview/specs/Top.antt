@@ -11,7 +11,9 @@ use Rattle.rel_model.specs.declared.run.Outcome.TheVariants.{Done, Nodes, NoMemo
 use Rattle.rel_model.specs.Page.{IsRun}
 use Rattle.rv_io.specs.Outside.{Told, Rose, IsFile, IsOver}
 use Rattle.rv_io.specs.Writing.{HasSent}
+use Rattle.std.specs.Bool.{MatchBool}
 use Rattle.relview.specs.declared.top.Report.{Report}
+use Rattle.relview.specs.declared.top.Answer.{Answer}
 
 -- the most bytes of a script
 abbrev pub script_limit : ℕ
@@ -109,3 +111,24 @@ pub record HasStopped (words : List (List ℕ)) (shelf_old shelf_new : Told) (ol
 -- the report has no words of a table
 abbrev pub HasNoWords : Report → Type 0
 HasNoWords report = report.words.items ≡ []
+
+-- the answer was reported: its page was written, or memory ran out before
+abbrev pub Reports : Answer → Sunk → Sunk → Report → Type 0
+Reports answer old new report =
+    MatchBool report.ran
+    ((report.history.items ≡ answer.history.items) × (map (λ v. v.items) report.outcomes.items ≡ answer.outcomes.items ∷ []) × IsWritten old new answer.page.items (status_of answer.outcomes.items) report.status)
+    ((report.history.items ≡ []) × (report.outcomes.items ≡ []) × (report.status ≡ 5) × (new.written ≡ old.written))
+
+-- a line was reported
+pub record Says (line : List ℕ) (status : ℕ) (old new : Sunk) (report : Report) : Type 0 where
+  pub stopped : report.ran ≡ false
+  pub no_history : report.history.items ≡ []
+  pub no_outcomes : report.outcomes.items ≡ []
+  pub written : IsWritten old new line status report.status
+
+-- nothing was written, for want of memory
+pub record IsOut (report : Report) : Type 0 where
+  pub stopped : report.ran ≡ false
+  pub no_history : report.history.items ≡ []
+  pub no_outcomes : report.outcomes.items ≡ []
+  pub status : report.status ≡ 5

@@ -3,6 +3,7 @@
 
 pub mod build;
 pub mod evaluate;
+pub mod lines;
 pub mod names;
 pub mod reply;
 pub mod session;

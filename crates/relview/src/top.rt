@@ -1,21 +1,24 @@
 //! The top call: reads the script that the words name, runs it, and writes its page.
-ghost use Rattle.std.specs.Prelude.{◌≡◌, ◌∷◌, ◌++◌, [], ◌≤◌, ◌^◌, ◌≢◌, ℕ, List, length, IfOk, OnOk, IsTrue, true, false, map, All};
+ghost use Rattle.std.specs.Prelude.{◌≡◌, ◌∷◌, ◌++◌, [], ◌≤◌, ◌^◌, ◌≢◌, ◌⊎◌, ℕ, List, length, IfOk, OnOk, IsTrue, MatchBool, true, false, map, All};
 ghost use Rattle.std.specs.Io.KnownBytes.{Appends};
+ghost use Rattle.std.specs.String.{string_bytes};
 ghost use Rattle.rv_io.specs.Outside.{Told, Leaves, Rose};
-ghost use Rattle.std.specs.List.{AllByRecursion};
+ghost use Rattle.std.specs.List.{AllByRecursion, list_any, list_all};
 ghost use Rattle.rel_model.specs.Page.{IsRun, prefix, refusal_text};
 ghost use Rattle.rel_model.specs.Legal.{no_script};
 ghost use Rattle.rel_model.specs.declared.run.Outcome.TheVariants.{Nodes};
-ghost use Rattle.relview.specs.Top.{texts, status_of, usage_line, cannot_read_line, too_long_line, IsSaid, IsWritten, HasRun, HasStopped, HasNoWords, Sunk};
+ghost use Rattle.relview.specs.Top.{texts, status_of, usage_line, cannot_read_line, too_long_line, IsSaid, IsWritten, HasRun, HasStopped, HasNoWords, Sunk, Reports, Says, IsOut, is_no_memory, is_done};
 
+use crate::lines::{empty_report, say_too_long, say_unread, say_usage, write_text};
 use crate::session::run_script;
 use crate::text::{push_prefix, refuse_item};
+use crate::words::script_word;
 use rel_model::NoMemory;
 use rel_model::faults::{ParseFault, What};
 use rel_model::run::{Event, Outcome};
 use rel_model::syntax::Place;
 use rel_plain::Plain;
-use rv_io::{Shelf, Sink, write_all};
+use rv_io::{ReadError, Shelf, Sink, read_all};
 use rv_parse::parse_first;
 use std::alloc::{AllocError, Global};
 
@@ -86,6 +89,102 @@ pub fn answer_to(alloc: Global, bytes: &[u8]) -> Result<Answer, NoMemory>
                 let answer = refused(alloc)?;
                 Ok(answer)
             }
+        },
+    }
+}
+
+fn is_no_memory(outcome: &Outcome) -> bool
+    ensures { result ≡ is_no_memory outcome.now }
+{
+    match outcome {
+        Outcome::NoMemory => true,
+        _ => false,
+    }
+}
+
+fn is_done(outcome: &Outcome) -> bool
+    ensures { result ≡ is_done outcome.now }
+{
+    match outcome {
+        Outcome::Done => true,
+        _ => false,
+    }
+}
+
+/// Whether memory ran out in a command.
+fn any_no_memory(outcomes: &[Outcome]) -> bool
+    ensures { result ≡ list_any is_no_memory outcomes.now }
+{
+    outcomes.iter().any(|outcome| is_no_memory(outcome))
+}
+
+/// Whether each command was done.
+fn all_done(outcomes: &[Outcome]) -> bool
+    ensures { result ≡ list_all is_done outcomes.now }
+{
+    outcomes.iter().all(|outcome| is_done(outcome))
+}
+
+/// The status of a run that was written.
+#[tactic(auto, unfolding(crate::specs::Top::status_of))]
+fn status_of(outcomes: &[Outcome]) -> u8
+    ensures { result ≡ status_of outcomes.now }
+{
+    if any_no_memory(outcomes) {
+        5
+    } else if all_done(outcomes) {
+        0
+    } else {
+        1
+    }
+}
+
+/// Writes the page of an answer.
+fn report_of<K: Sink>(alloc: Global, sink: &mut K, answer: Answer) -> Report
+    ensures reports { Reports answer (record { written = K.written sink.old; faults = K.faults sink.old }) (record { written = K.written sink.new; faults = K.faults sink.new }) result }
+    ensures no_words { HasNoWords result }
+{
+    let whole = status_of(answer.outcomes.as_slice());
+    let mut outcomes = Vec::new(alloc);
+    let Ok(()) = outcomes.push(answer.outcomes) else {
+        return empty_report(alloc, 5);
+    };
+    let status = write_text(sink, answer.page.as_slice(), whole);
+    Report {
+        status,
+        ran: true,
+        history: answer.history,
+        outcomes,
+        words: Vec::new(alloc),
+    }
+}
+
+/// Reads the script that the one word names, runs it as session 1, and writes its page, or a line that says why there is none.
+pub fn relview<S: Shelf, K: Sink>(
+    alloc: Global,
+    words: &[String],
+    shelf: &mut S,
+    sink: &mut K,
+) -> Report
+    requires may_pick { All (λ w. IsTrue ((S.told shelf.old).may_pick (string_bytes w))) words.now }
+    ensures answer { MatchBool result.ran
+        (HasRun (texts words.now) (S.told shelf.old).files (record { written = K.written sink.old; faults = K.faults sink.old }) (record { written = K.written sink.new; faults = K.faults sink.new }) result)
+        (HasStopped (texts words.now) (S.told shelf.old) (S.told shelf.new) (record { written = K.written sink.old; faults = K.faults sink.old }) (record { written = K.written sink.new; faults = K.faults sink.new }) result) }
+    ensures no_words { HasNoWords result }
+    ensures leaves { Leaves (S.told shelf.old) (S.told shelf.new) }
+{
+    let Some(word) = script_word(words) else {
+        return say_usage(alloc, sink);
+    };
+    match read_all(alloc, shelf, word, SCRIPT_LIMIT) {
+        Ok(bytes) => match answer_to(alloc, bytes.as_slice()) {
+            Ok(answer) => report_of(alloc, sink, answer),
+            Err(_) => empty_report(alloc, 5),
+        },
+        Err(error) => match error {
+            ReadError::Fault => say_unread(alloc, sink, word),
+            ReadError::TooLong { limit: _ } => say_too_long(alloc, sink, word),
+            ReadError::NoMemory => empty_report(alloc, 5),
         },
     }
 }

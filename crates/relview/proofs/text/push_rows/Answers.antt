@@ -3,7 +3,7 @@ use Rattle.std.specs.List.{range_with_len, flat_map}
 use Rattle.rel_model.specs.Page.{row_text, rows_text}
 use Rattle.rel_model.specs.Worker.{set_of}
 use Rattle.rel_model.proofs.Workers.{keeps_trans, keeps_set}
-use Rattle.relview.proofs.Lines.{lines_more}
+use Rattle.relview.proofs.Texts.{lines_more}
 use Rattle.relview.proofs.text.push_rows.Goals as goal
 
 pub rows-preserved : goal.rows-preserved
