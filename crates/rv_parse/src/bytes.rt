@@ -17,36 +17,42 @@ pub enum Class {
     File,
 }
 
+/// `A` to `Z` and `a` to `z`.
 pub fn is_letter(b: u8) -> bool
     ensures { result ≡ is_letter b }
 {
     (65 <= b && b <= 90) || (97 <= b && b <= 122)
 }
 
+/// `0` to `9`.
 pub fn is_digit(b: u8) -> bool
     ensures { result ≡ is_digit b }
 {
     48 <= b && b <= 57
 }
 
+/// A tab, a line feed, a carriage return or a space.
 pub fn is_blank(b: u8) -> bool
     ensures { result ≡ is_blank b }
 {
     b == 9 || (b == 10 || (b == 13 || b == 32))
 }
 
+/// A blank or a printing byte.
 fn is_allowed(b: u8) -> bool
     ensures { result ≡ is_allowed b }
 {
     b == 9 || (b == 10 || (b == 13 || (32 <= b && b <= 126)))
 }
 
+/// One of the signs of the language.
 pub fn is_sign(b: u8) -> bool
     ensures { result ≡ is_sign_byte b }
 {
     b"()[]{},;:.=^-*\\/&|".contains(&b)
 }
 
+/// Whether a byte is of a class.
 fn passes(class: Class, b: u8) -> bool
     ensures { result ≡ passes class b }
 {

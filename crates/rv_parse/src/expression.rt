@@ -12,15 +12,16 @@ use rel_model::token::Token;
 use std::alloc::Global;
 
 /// How many constructs may be open at once.
-pub const NESTING_LIMIT: u32 = 40;
+const NESTING_LIMIT: u32 = 40;
 
 /// The levels of chains.
 #[derive(Clone, Copy, Debug)]
-pub enum Chains {
+enum Chains {
     Or,
     And,
 }
 
+/// The sign between the operands of a level.
 fn sign_of(level: Chains) -> u8
     ensures { result ≡ sign_of (level_of level) }
 {
@@ -30,6 +31,7 @@ fn sign_of(level: Chains) -> u8
     }
 }
 
+/// The operator of a level.
 fn operator_of(level: Chains) -> Op2
     ensures { IsOperatorOf (level_of level) result (sign_of (level_of level)) }
 {

@@ -37,6 +37,7 @@ fn behind_opening(tokens: &[Token]) -> Option<(Opening, &[Token])>
     }
 }
 
+/// An item with its full stop.
 fn item(alloc: Global, tokens: &[Token]) -> Result<(Item, &[Token]), Refusal>
     requires first { 0 < length tokens.now }
     requires count { length tokens.now < 2 ^ 32 }
@@ -59,6 +60,7 @@ fn item(alloc: Global, tokens: &[Token]) -> Result<(Item, &[Token]), Refusal>
     }
 }
 
+/// All items.
 fn items(alloc: Global, tokens: &[Token]) -> Result<Vec<Item>, Refusal>
     requires { length tokens.now < 2 ^ 32 }
     ensures { MatchResult result (λ v. SpellsItems v.items tokens.now []) (FitsNone tokens.now) }
@@ -86,6 +88,7 @@ fn script_of(alloc: Global, tokens: &[Token]) -> Result<Script, Refusal>
     }
 }
 
+/// The fault that a refusal of a first script is.
 fn fault_of(refusal: Refusal) -> ParseFault
     ensures { IsFaultOf refusal result }
 {
@@ -98,7 +101,12 @@ fn fault_of(refusal: Refusal) -> ParseFault
     }
 }
 
-/// The script that the bytes spell.
+/// The script that the bytes spell, where they spell a first script.
+///
+/// Its items are REL and PRINT. Its expressions have names, `|`, `&`, `-`, `^` and parentheses, with
+/// at most 40 constructs open at once. Its listed relations have at most 1,000 rows and columns, row
+/// numbers from 1 to their rows, and column numbers from 1 to their columns. Any other bytes are
+/// refused by `Expected` at line 1, column 1 with `Item`.
 #[tactic(auto, using(crate::proofs::Scripts::no_tokens, crate::proofs::Scripts::not_script))]
 pub fn parse_first(alloc: Global, bytes: &[u8]) -> Result<Script, ParseFault>
     requires { length bytes.now ≤ 2 ^ 20 }

@@ -11,7 +11,7 @@ use rel_model::token::{Kind, Token};
 use std::alloc::Global;
 
 /// The greatest size in a first script.
-pub const SIZE_LIMIT: u64 = 1000;
+const SIZE_LIMIT: u64 = 1000;
 
 /// Whether a number from 1 up to the limit comes first.
 pub fn begins_up_to(tokens: &[Token], limit: u64) -> bool

@@ -10,6 +10,7 @@ use rel_model::syntax::{Column, Command, Row};
 use rel_model::token::Token;
 use std::alloc::Global;
 
+/// The columns of a row, each from 1 up to the limit.
 #[tactic(auto, using(crate::proofs::Parts::more_columns_step, crate::proofs::Parts::more_columns_end))]
 fn columns(alloc: Global, tokens: &[Token], limit: u64) -> Result<(Vec<Column>, &[Token]), Refusal>
     ensures { MatchResult result (λ x. SpellsColumns limit x.0.items tokens.now x.1.now × (length x.1.now < length tokens.now) × Reads (UpTo limit ∷ MoreColumns limit ∷ []) tokens.now x.1.now) (Refuses (UpTo limit ∷ MoreColumns limit ∷ []) tokens.now) }
@@ -25,6 +26,7 @@ fn columns(alloc: Global, tokens: &[Token], limit: u64) -> Result<(Vec<Column>, 
     Ok((cols, rest))
 }
 
+/// A row of a relation with so many rows and columns.
 fn row(alloc: Global, tokens: &[Token], height: u64, width: u64) -> Result<(Row, &[Token]), Refusal>
     ensures { MatchResult result (λ x. SpellsRow height width x.0 tokens.now x.1.now × (length x.1.now < length tokens.now) × Reads (row_parts height width) tokens.now x.1.now) (Refuses (row_parts height width) tokens.now) }
 {
@@ -34,6 +36,7 @@ fn row(alloc: Global, tokens: &[Token], height: u64, width: u64) -> Result<(Row,
     Ok((Row { row, at, cols }, rest))
 }
 
+/// The rows behind the first, which the tokens from `start` on spell so far.
 #[tactic(auto, using(crate::proofs::Parts::more_rows_step, crate::proofs::Parts::more_rows_end))]
 fn more_rows<'a>(
     mut rows: Vec<Row>,
@@ -56,6 +59,7 @@ fn more_rows<'a>(
     Ok((rows, rest))
 }
 
+/// The rows between the braces.
 #[tactic(auto, using(crate::proofs::Parts::rows_step, crate::proofs::Parts::rows_end))]
 fn rows(
     alloc: Global,

@@ -28,6 +28,7 @@ fn number(digits: &[u8]) -> Option<u64>
     Some(value)
 }
 
+/// The value with one more digit, where it is below 2 ^ 64.
 fn next_value(value: u64, digit: u64) -> Option<u64>
     ensures { SomeIff result (10 * value + digit < 2 ^ 64) (10 * value + digit) }
 {
@@ -147,6 +148,7 @@ fn file_at(alloc: Global, bytes: &[u8]) -> Result<(Kind, usize), Refusal>
     Ok((Kind::File(text), count + 2))
 }
 
+/// Whether a quote comes first.
 fn begins_with_quote(bytes: &[u8]) -> bool
     ensures { result ≡ begins_with_quote bytes.now }
 {
@@ -181,6 +183,7 @@ fn kind_at(alloc: Global, bytes: &[u8]) -> Result<(Kind, usize), Refusal>
     Err(Refusal::Unfit)
 }
 
+/// The token that a reserved word is.
 fn kind_of(meaning: Reserved) -> Kind
     ensures { result ≡ kind_of meaning }
 {
