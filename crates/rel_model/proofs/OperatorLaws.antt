@@ -1,5 +1,5 @@
 -- Laws of the operators, from their membership clauses.
-use Rattle.std.proofs.Common.{◌≡◌, ◌<◌, ◌&&◌, ◌||◌, ◌+◌, ◌∙◌, ℕ, Bool, true, false, not, zero, suc, refl, sym, ap, arith}
+use Rattle.std.proofs.Common.{◌≡◌, ◌&&◌, ◌+◌, ◌∙◌, ℕ, Bool, true, not, zero, suc, refl, sym, ap, arith}
 use Rattle.rel_model.specs.Relation.{Relation, IsRelation, has, relation_of}
 use Rattle.rel_model.specs.Operators.{full, diff, complement, transpose, transposed_by}
 use Rattle.rel_model.proofs.Relations.{IsRelation-relation_of, rows-relation_of, cols-relation_of, has-relation_of, relation_of-agree, of_itself}

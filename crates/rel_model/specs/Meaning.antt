@@ -1,5 +1,5 @@
 -- The meaning of expressions on a state: their leftmost unknown name, their sizes or the first misfit, and their values. Calls, base names, domain operators and pairs have none yet.
-use Rattle.std.specs.Prelude.{◌==◌, ◌&&◌, ◌||◌, ℕ, Bool, cond, zero, suc, List, [], ◌∷◌, Option, Some, None, is_some, unwrap_or, codes, not}
+use Rattle.std.specs.Prelude.{◌==◌, ◌&&◌, ℕ, Bool, cond, zero, suc, List, [], ◌∷◌, Option, Some, None, is_some, unwrap_or}
 use Rattle.rel_model.specs.declared.syntax.Place.{Place}
 use Rattle.rel_model.specs.declared.syntax.Op2.{Op2}
 use Rattle.rel_model.specs.declared.syntax.Op2.TheVariants.{Or, And, Times, Under, Over}
