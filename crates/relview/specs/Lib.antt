@@ -1,5 +1,0 @@
-pub mod Names
-pub mod Links
-pub mod Values
-pub mod Listed
-pub mod Ran

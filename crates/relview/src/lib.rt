@@ -1,9 +1,0 @@
-//! The program.
-#![tactic(auto)]
-
-pub mod build;
-pub mod evaluate;
-pub mod names;
-pub mod reply;
-pub mod session;
-pub mod text;
