@@ -2,8 +2,12 @@
 #![tactic(auto)]
 
 mod equation;
+mod laws;
 mod memo;
+#[cfg(test)]
+mod tests;
 mod word;
 
 pub use equation::{Equation, Op};
+pub use laws::{equations_are_read_back, equations_stay};
 pub use memo::{look, note};
