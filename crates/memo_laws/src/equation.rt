@@ -10,7 +10,7 @@ pub enum Op {
     Compose,
 }
 
-/// The set of `r` is the operator's result on the sets of `a` and `b`, as names at one height. 20 bytes.
+/// The set of `r` is the operator's result on the sets of `a` and `b`, as names at one height. 16 bytes.
 #[derive(Clone, Copy, Debug, PartialEq, Eq)]
 pub struct Equation {
     pub op: Op,
