@@ -1,0 +1,127 @@
+-- Laws of quads: what calls keep adds up, a quad stays with its set, and a quad goes by its quarters.
+use Rattle.std.proofs.Common.{◌≡◌, ◌<◌, ◌≤◌, ◌≢◌, ◌⊎◌, ◌+◌, ◌-◌, ◌*◌, ◌^◌, min, zero, suc, ℕ, true, List, Result, Ok, Err, IfOk, length, refl, sym, ap, subst, ◌∙◌, inl, inr, arith, get_or}
+use Rattle.std.proofs.lemmas.Bool.{or_cases, eqb-true, and_parts}
+use Rattle.std.proofs.Math.Nat.{pow-suc, one-le-pow}
+use Rattle.rel_model.specs.declared.Quad.{Quad}
+use Rattle.rel_model.specs.Cells.{Cells, no_cells, block_cells}
+use Rattle.rel_model.specs.Trees.{bottom_height, top_height, cells, stands, first_of, second_of, twice, side, quartered, paired}
+use Rattle.rel_model.specs.Words.{Extends, IsDistinct, IsFull, IsFullOfOthers}
+use Rattle.rel_model.specs.Equations.{depth_of, side_of}
+use Rattle.rel_model.specs.Views.{View, IsSet, IsKnown, IsOf}
+use Rattle.rel_model.specs.Quads.{Work, IsWork, quad_cells, QuadStands, IsQuad, KeepsWork, ReadsWork, one_more_miss, Counts, AreQuarters, quad_room}
+use Rattle.rel_model.proofs.TreeLaws.{zero_stands, zero_cells, kept_stands, kept_cells, parts_stand, stored_not_0}
+use Rattle.rel_model.proofs.NamesStand.{extends_on}
+use Rattle.rel_model.proofs.Squares.{four_squares}
+
+-- ---- what calls keep adds up
+pub keeps_on : (m n : ℕ) (u v w : Work) → KeepsWork m u v → KeepsWork n v w → KeepsWork (m + n) u w
+keeps_on m n u v w s t = record {
+  before = s.before;
+  after = t.after;
+  table = t.table ∙ s.table;
+  seen = extends_on _ _ _ s.seen t.seen;
+  house = t.house ∙ s.house;
+  spare = t.spare ∙ s.spare;
+  grows = (let a = s.grows in let b = t.grows in omega arith);
+  room = (let a = s.room in let b = t.room in omega arith);
+}
+
+pub keeps_most : (m n : ℕ) (u v : Work) → m ≤ n → KeepsWork m u v → KeepsWork n u v
+keeps_most m n u v l s = record {
+  before = s.before;
+  after = s.after;
+  table = s.table;
+  seen = s.seen;
+  house = s.house;
+  spare = s.spare;
+  grows = s.grows;
+  room = (let a = s.room in omega arith);
+}
+
+pub keeps_itself : (w : Work) (most : ℕ) → IsWork w → KeepsWork most w w
+keeps_itself w most i = record {
+  before = i;
+  after = i;
+  table = refl;
+  seen = record { same_length = refl; kept = λ n h. refl };
+  house = refl;
+  spare = refl;
+  grows = omega arith;
+  room = omega arith;
+}
+
+pub reads_itself : (w : Work) → IsWork w → ReadsWork w w
+reads_itself w i = record { keeps = keeps_itself w 0 i; misses = refl }
+
+pub reads_on : (u v w : Work) → ReadsWork u v → ReadsWork v w → ReadsWork u w
+reads_on u v w s t = record { keeps = keeps_on 0 0 u v w s.keeps t.keeps; misses = t.misses ∙ s.misses }
+
+-- a count after calls that missed nothing
+pub counts_on : {T E : Type 0} (u v w : Work) (r : Result T E) → v.misses ≡ u.misses → Counts v w r → Counts u w r
+counts_on u v w (Ok x) e c = c ∙ e
+counts_on u v w (Err x) e c = c ∙ ap one_more_miss e
+
+-- where a place was missed, every place is taken
+pub full_of-missed : (words : List ℕ) (word : ℕ) → IsFullOfOthers words word → IsFull words
+full_of-missed words word h n low high = (h n low high).0
+
+pub full_stays : (v w : List ℕ) → Extends v w → IsFull v → IsFull w
+full_stays v w x h n low high z = let s = h n low (subst (λ (m : ℕ). n < m) x.same_length high) in s (sym (x.kept n s) ∙ z)
+
+-- ---- a quad stays
+pub quad_stays : (m : ℕ) (v w : Work) (q : Quad) → KeepsWork m v w → QuadStands v q → QuadStands w q
+quad_stays m v w q k s = record { low = s.low; high = s.high; standing = kept_stands v.view.words w.view.words k.seen (depth_of q.height) q.name s.standing }
+
+pub quad_cells-stay : (m : ℕ) (v w : Work) (q : Quad) → KeepsWork m v w → QuadStands v q → quad_cells w q ≡ quad_cells v q
+quad_cells-stay m v w q k s =
+    kept_cells v.view.words w.view.words k.seen k.before.of.canonical.none_at_0 k.after.of.canonical.none_at_0 (depth_of q.height) q.name s.standing
+
+pub is_quad-stays : (m : ℕ) (v w : Work) (h : ℕ) (f : Cells) (q : Quad) → KeepsWork m v w → IsQuad v h f q → IsQuad w h f q
+is_quad-stays m v w h f q k s = record {
+  same_height = s.same_height;
+  stands = quad_stays m v w q k s.stands;
+  means = quad_cells-stay m v w q k s.stands ∙ s.means;
+}
+
+-- a quad that stands is known
+pub known : (v : View) (k n : ℕ) → stands v.words k n ≡ true → IsKnown v n
+known v zero n s = elim (or_cases _ _ s) [ inl e ↦ inl (eqb-true n 0 e) | inr e ↦ inr (stored_not_0 v.words n e) ]
+known v (suc k) n s = elim (or_cases _ _ s) [ inl e ↦ inl (eqb-true n 0 e) | inr e ↦ inr (stored_not_0 v.words n (and_parts _ _ e).0) ]
+
+-- ---- heights
+pub depth_of-bottom : (h : ℕ) → h ≡ bottom_height → depth_of h ≡ 0
+unfolding bottom_height
+depth_of-bottom h e = ap depth_of e
+
+pub depth_of-next : (h : ℕ) → bottom_height < h → depth_of h ≡ suc (suc (depth_of (h - 1)))
+unfolding bottom_height
+depth_of-next h l =
+    let e : h - 3 ≡ suc (h - 1 - 3) = omega arith in
+    ap twice e
+
+pub side_of-next : (h : ℕ) → bottom_height < h → side_of h ≡ side_of (h - 1) + side_of (h - 1)
+unfolding bottom_height
+side_of-next h l =
+    let e : h - 3 ≡ suc (h - 1 - 3) = omega arith in
+    ap side e
+
+side-power : (d : ℕ) → side d ≡ 2 ^ (d + 3)
+side-power zero = refl
+side-power (suc d) =
+    let e : suc d + 3 ≡ suc (d + 3) = omega arith in
+    let p : 2 ^ suc (d + 3) ≡ 2 ^ (d + 3) * 2 = pow-suc 2 (d + 3) in
+    let i = side-power d in
+    let q : side d + side d ≡ 2 ^ (d + 3) * 2 = omega (arith, i) in
+    q ∙ sym p ∙ sym (ap (λ (k : ℕ). 2 ^ k) e)
+
+-- the side of a square of height h is 2 ^ h
+pub side_of-power : (h : ℕ) → bottom_height ≤ h → side_of h ≡ 2 ^ h
+unfolding bottom_height
+side_of-power h l = side-power (h - 3) ∙ ap (λ (k : ℕ). 2 ^ k) (let e : h - 3 + 3 ≡ h = omega arith in e)
+
+-- ---- room
+pub four_rooms : (h : ℕ) → quad_room h + quad_room h + quad_room h + quad_room h + 3 ≡ quad_room (suc h)
+four_rooms h =
+    let p : 4 ^ suc h ≡ 4 ^ h * 4 = pow-suc 4 h in
+    let a : 1 ≤ 4 ^ h = one-le-pow h 4 (omega arith) in
+    omega (arith, p, a)
