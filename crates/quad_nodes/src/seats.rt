@@ -43,7 +43,7 @@ impl<'t> Nodes<'t> {
     /// Both as one, which knows what either knew and counts what both missed.
     pub fn join(&mut self, other: Nodes<'t>)
         requires one_table { other.table ≡ self.old.table }
-        ensures { JoinsWork self.old other self.new }
+        ensures { JoinsWork self.old other.entry self.new }
     {
         let Nodes {
             table: _,
@@ -56,8 +56,8 @@ impl<'t> Nodes<'t> {
 
     /// The seat, which is given back.
     pub fn into_seat(self) -> Seat
-        ensures view { result ≡ self.view }
-        ensures work { IsWork self }
+        ensures view { result ≡ self.entry.view }
+        ensures work { IsWork self.entry }
     {
         self.seat
     }

@@ -10,7 +10,7 @@ use Rattle.rel_model.specs.Equations.{depth_of, side_of}
 use Rattle.rel_model.specs.Views.{View, IsSet, IsKnown, IsOf}
 use Rattle.rel_model.specs.Quads.{Work, IsWork, quad_cells, QuadStands, IsQuad, KeepsWork, ReadsWork, one_more_miss, Counts, AreQuarters, quad_room}
 use Rattle.rel_model.proofs.TreeLaws.{zero_stands, zero_cells, kept_stands, kept_cells, parts_stand, stored_not_0}
-use Rattle.rel_model.proofs.NamesStand.{extends_on}
+use Rattle.rel_model.proofs.NamesStand.{extends_on, set_stays}
 use Rattle.rel_model.proofs.Squares.{four_squares}
 
 -- ---- what calls keep adds up
@@ -125,3 +125,22 @@ four_rooms h =
     let p : 4 ^ suc h ≡ 4 ^ h * 4 = pow-suc 4 h in
     let a : 1 ≤ 4 ^ h = one-le-pow h 4 (omega arith) in
     omega (arith, p, a)
+
+-- ---- names of quads
+pub quad_known : (w : Work) (q : Quad) → QuadStands w q → IsKnown w.view q.name
+quad_known w q s = known w.view (depth_of q.height) q.name s.standing
+
+-- a name that stands at a depth in one state is known in a later one
+pub known_after : (m : ℕ) (v w : Work) (k n : ℕ) → KeepsWork m v w → stands v.view.words k n ≡ true → IsKnown w.view n
+known_after m v w k n x s = known w.view k n (kept_stands v.view.words w.view.words x.seen k n s)
+
+pub set_after : (m : ℕ) (v w : Work) (k n : ℕ) (f : Cells) → KeepsWork m v w → IsSet v.view k n f → IsSet w.view k n f
+set_after m v w k n f x s = set_stays v.view w.view x.seen x.before.of.canonical x.after.of.canonical k n f s
+
+-- the quad of name 0 has no cell
+pub empty_quad : (w : Work) (h n : ℕ) → IsWork w → bottom_height ≤ h → h ≤ top_height → n ≡ 0 → IsQuad w h no_cells (record { height = h; name = n })
+empty_quad w h n i l t e = record {
+  same_height = refl;
+  stands = record { low = l; high = t; standing = subst (λ (m : ℕ). stands w.view.words (depth_of h) m ≡ true) (sym e) (zero_stands w.view.words (depth_of h)) };
+  means = ap (cells w.view.words (depth_of h)) e ∙ zero_cells w.view.words i.of.canonical.none_at_0 (depth_of h);
+}
