@@ -144,3 +144,15 @@ empty_quad w h n i l t e = record {
   stands = record { low = l; high = t; standing = subst (λ (m : ℕ). stands w.view.words (depth_of h) m ≡ true) (sym e) (zero_stands w.view.words (depth_of h)) };
   means = ap (cells w.view.words (depth_of h)) e ∙ zero_cells w.view.words i.of.canonical.none_at_0 (depth_of h);
 }
+
+-- four results of the height below and their corner have room
+pub rooms-next : (h : ℕ) → bottom_height < h → quad_room (h - 1) + quad_room (h - 1) + quad_room (h - 1) + quad_room (h - 1) + 3 ≡ quad_room h
+rooms-next h l = four_rooms (h - 1) ∙ ap quad_room (let e : suc (h - 1) ≡ h = omega arith in e)
+
+-- a block has room
+pub room-some : (h : ℕ) → bottom_height ≤ h → 3 ≤ quad_room h
+unfolding bottom_height
+room-some h l =
+    let e : suc (h - 1) ≡ h = omega arith in
+    let r = four_rooms (h - 1) ∙ ap quad_room e in
+    omega (arith, r)
