@@ -3,6 +3,7 @@
 
 mod cells;
 mod halves;
+mod memo;
 mod nodes;
 mod quads;
 mod rects;
