@@ -40,6 +40,25 @@ impl<'t> Nodes<'t> {
         )
     }
 
+    /// The quarters of two quads, each as `quarters` gives them.
+    pub fn quarters_of_both(
+        &mut self,
+        a: Quad,
+        b: Quad,
+    ) -> ((Quad, Quad, Quad, Quad), (Quad, Quad, Quad, Quad))
+        requires a_stands { QuadStands self.old a }
+        requires b_stands { QuadStands self.old b }
+        requires a_over { bottom_height < a.height }
+        requires b_over { bottom_height < b.height }
+        ensures first { AreQuarters self.old self.new a result.0 }
+        ensures second { AreQuarters self.old self.new b result.1 }
+        ensures reads { ReadsWork self.old self.new }
+    {
+        let first = self.quarters(a);
+        let second = self.quarters(b);
+        (first, second)
+    }
+
     /// The quad with these quarters; of four quads with no cell it is the one with no cell, whatever the table has room for.
     pub fn corner(&mut self, nw: Quad, ne: Quad, sw: Quad, se: Quad) -> Result<Quad, Missed>
         requires nw_stands { QuadStands self.old nw }

@@ -156,3 +156,66 @@ room-some h l =
     let e : suc (h - 1) ≡ h = omega arith in
     let r = four_rooms (h - 1) ∙ ap quad_room e in
     omega (arith, r)
+
+-- ---- quarters and corners over several calls
+-- quarters stay quarters
+pub quarters-stay : (m : ℕ) (u v w : Work) (q : Quad) (four : Quad × Quad × Quad × Quad) → KeepsWork m v w → AreQuarters u v q four → AreQuarters u w q four
+quarters-stay m u v w q four k a = record {
+  nw = quad_stays m v w four.0 k a.nw;
+  ne = quad_stays m v w four.1 k a.ne;
+  sw = quad_stays m v w four.2 k a.sw;
+  se = quad_stays m v w four.3 k a.se;
+  nw_height = a.nw_height;
+  ne_height = a.ne_height;
+  sw_height = a.sw_height;
+  se_height = a.se_height;
+  means = a.means
+      ∙ ap (λ (c : Cells). quartered (side_of four.0.height) c (quad_cells v four.1) (quad_cells v four.2) (quad_cells v four.3)) (sym (quad_cells-stay m v w four.0 k a.nw))
+      ∙ ap (λ (c : Cells). quartered (side_of four.0.height) (quad_cells w four.0) c (quad_cells v four.2) (quad_cells v four.3)) (sym (quad_cells-stay m v w four.1 k a.ne))
+      ∙ ap (λ (c : Cells). quartered (side_of four.0.height) (quad_cells w four.0) (quad_cells w four.1) c (quad_cells v four.3)) (sym (quad_cells-stay m v w four.2 k a.sw))
+      ∙ ap (λ (c : Cells). quartered (side_of four.0.height) (quad_cells w four.0) (quad_cells w four.1) (quad_cells w four.2) c) (sym (quad_cells-stay m v w four.3 k a.se));
+}
+
+-- the quarters of a quad that stood before
+pub quarters-before : (m : ℕ) (t u v : Work) (q : Quad) (four : Quad × Quad × Quad × Quad) → KeepsWork m t u → QuadStands t q → AreQuarters u v q four → AreQuarters t v q four
+quarters-before m t u v q four k s a = record {
+  nw = a.nw;
+  ne = a.ne;
+  sw = a.sw;
+  se = a.se;
+  nw_height = a.nw_height;
+  ne_height = a.ne_height;
+  sw_height = a.sw_height;
+  se_height = a.se_height;
+  means = sym (quad_cells-stay m t u q k s) ∙ a.means;
+}
+
+-- the result of an operator on two quads, seen from a state before the call and in one after it
+pub result_later : (m n : ℕ) (u v w z : Work) (op : Cells → Cells → Cells) (h : ℕ) (a b r : Quad) → KeepsWork m u v → KeepsWork n w z → QuadStands u a → QuadStands u b
+    → IsQuad w h (op (quad_cells v a) (quad_cells v b)) r → IsQuad z h (op (quad_cells u a) (quad_cells u b)) r
+result_later m n u v w z op h a b r k l s t i =
+    let j = is_quad-stays n w z h (op (quad_cells v a) (quad_cells v b)) r l i in
+    record {
+      same_height = j.same_height;
+      stands = j.stands;
+      means = j.means ∙ ap (λ (c : Cells). op c (quad_cells v b)) (quad_cells-stay m u v a k s) ∙ ap (λ (c : Cells). op (quad_cells u a) c) (quad_cells-stay m u v b k t);
+    }
+
+-- a height as a number that is known to be it
+pub is_quad-height : (w : Work) (h k : ℕ) (f : Cells) (q : Quad) → h ≡ k → IsQuad w h f q → IsQuad w k f q
+is_quad-height w h k f q e i = subst (λ (x : ℕ). IsQuad w x f q) e i
+
+-- the corner of four quads with known sets
+pub corner_value : {E : Type 0} (v w : Work) (h : ℕ) (f0 f1 f2 f3 : Cells) (nw ne sw se : Quad) (r : Result Quad E) → IsQuad v h f0 nw → IsQuad v h f1 ne → IsQuad v h f2 sw → IsQuad v h f3 se
+    → IfOk r (IsQuad w (nw.height + 1) (quartered (side_of nw.height) (quad_cells v nw) (quad_cells v ne) (quad_cells v sw) (quad_cells v se))) → IfOk r (IsQuad w (h + 1) (quartered (side_of h) f0 f1 f2 f3))
+corner_value v w h f0 f1 f2 f3 nw ne sw se (Err e) a b c d i = tt
+corner_value v w h f0 f1 f2 f3 nw ne sw se (Ok q) a b c d i = record {
+  same_height = i.same_height ∙ ap (λ (x : ℕ). x + 1) a.same_height;
+  stands = i.stands;
+  means = i.means
+      ∙ ap (λ (x : ℕ). quartered (side_of x) (quad_cells v nw) (quad_cells v ne) (quad_cells v sw) (quad_cells v se)) a.same_height
+      ∙ ap (λ (x : Cells). quartered (side_of h) x (quad_cells v ne) (quad_cells v sw) (quad_cells v se)) a.means
+      ∙ ap (λ (x : Cells). quartered (side_of h) f0 x (quad_cells v sw) (quad_cells v se)) b.means
+      ∙ ap (λ (x : Cells). quartered (side_of h) f0 f1 x (quad_cells v se)) c.means
+      ∙ ap (λ (x : Cells). quartered (side_of h) f0 f1 f2 x) d.means;
+}
