@@ -14,3 +14,4 @@ pub mod Meaning
 pub mod Due
 pub mod Legal
 pub mod Page
+pub mod Quads

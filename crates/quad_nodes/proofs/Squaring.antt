@@ -1,0 +1,165 @@
+-- Cells and rectangles of a square, by its quarters.
+use Rattle.std.proofs.Common.{◌≡◌, ◌<◌, ◌≤◌, ◌≢◌, ◌+◌, ◌-◌, ◌*◌, ◌&&◌, ◌⊎◌, min, ltb, cond, zero, suc, ℕ, Bool, true, false, Result, Ok, Err, IfOk, refl, sym, ap, subst, ◌∙◌, inl, inr, arith}
+use Rattle.std.proofs.lemmas.Bool.{cases_Bool, cases_lt, ltb-true, ltb-false, lt-ltb, le-ltb, and_left, and_right}
+use Rattle.rel_model.specs.declared.Quad.{Quad}
+use Rattle.rel_model.specs.Cells.{Cells, no_cells, cells_rect}
+use Rattle.rel_model.specs.Trees.{bottom_height, top_height, cells, stands, twice, side, is_square, rows_at, cols_at, quartered, paired}
+use Rattle.rel_model.specs.Equations.{depth_of, side_of}
+use Rattle.rel_model.specs.Quads.{Work, IsWork, quad_cells, QuadStands, IsQuad, KeepsWork, ReadsWork}
+use Rattle.rel_model.proofs.TreeLaws.{same_cells}
+use Rattle.rel_model.proofs.Squares.{is_square-twice, rows_at-twice, cols_at-twice}
+use Rattle.rel_model.proofs.QuadLaws.{depth_of-next, side_of-next, is_quad-stays, empty_quad}
+use Rattle.quad_nodes.specs.Halves.{AreHalves, AreBeside}
+use Rattle.quad_nodes.proofs.Halving.{Halve, halves_stand}
+
+-- ---- a cell by its quarter
+row_half : (d : ℕ) (f g : Cells) (i j : ℕ) → paired (suc (twice d)) f g i j ≡ cond (ltb i (side d)) (f i j) (g (i - side d) j)
+row_half d f g i j = rw (is_square-twice d, rows_at-twice d) refl
+
+col_half : (d : ℕ) (f g : Cells) (i j : ℕ) → paired (twice d) f g i j ≡ cond (ltb j (side d)) (f i j) (g i (j - side d))
+col_half d f g i j = rw (is_square-twice d, cols_at-twice d) refl
+
+picked : (b : Bool) (f : ℕ → ℕ → Bool) (x y u v : ℕ) → cond b (f x u) (f y v) ≡ f (cond b x y) (cond b u v)
+picked true f x y u v = refl
+picked false f x y u v = refl
+
+pub picked_holds : (P : ℕ → Type 0) (b : Bool) (x y : ℕ) → P x → P y → P (cond b x y)
+picked_holds P true x y p q = p
+picked_holds P false x y p q = q
+
+half_within : (i m : ℕ) → i < m + m → cond (ltb i m) i (i - m) < m
+half_within i m l = elim (cases_Bool (ltb i m)) [
+  | inl e ↦ let a = ltb-true i m e in rw e a
+  | inr e ↦ let a = ltb-false i m e in rw e (omega arith)
+]
+
+-- the quarter of a cell stands, and has the cell at its place there
+pub record IsPlace (v w : Work) (q quarter : Quad) (i j row col : ℕ) : Type 0 where
+  pub standing : QuadStands w quarter
+  pub row_in : row < side_of quarter.height
+  pub col_in : col < side_of quarter.height
+  pub same : quad_cells v q i j ≡ quad_cells w quarter row col
+
+pub place_is : (s0 s1 s2 : Work) (q : Quad) (i j m north south wide row west east name col : ℕ) → QuadStands s0 q → bottom_height < q.height → i < side_of q.height → j < side_of q.height → m ≡ side_of (q.height - 1)
+    → Halve s0 s1 q.name north south → wide ≡ cond (ltb i m) north south → row ≡ cond (ltb i m) i (i - m) → Halve s1 s2 wide west east → name ≡ cond (ltb j m) west east → col ≡ cond (ltb j m) j (j - m)
+    → IsPlace s0 s2 q (record { height = q.height - 1; name = name }) i j row col
+place_is s0 s1 s2 q i j m north south wide row west east name col s l li lj em h0 ew er h1 en ec =
+    let k : ℕ = depth_of (q.height - 1) in
+    let d : ℕ = q.height - 1 - bottom_height in
+    let e2 = side_of-next q.height l in
+    let h = halves_stand s0 s1 q north south s l h0 in
+    let sw : stands s1.view.words (suc k) wide ≡ true = subst (λ (x : ℕ). stands s1.view.words (suc k) x ≡ true) (sym ew) (picked_holds (λ x. stands s1.view.words (suc k) x ≡ true) (ltb i m) north south h.first h.second) in
+    let g = h1 k sw in
+    let ri : row < m = subst (λ (x : ℕ). x < m) (sym er) (half_within i m (omega (arith, e2))) in
+    let ci : col < m = subst (λ (x : ℕ). x < m) (sym ec) (half_within j m (omega (arith, e2))) in
+    record {
+      standing = record {
+        low = omega arith;
+        high = (let a = s.high in omega arith);
+        standing = subst (λ (x : ℕ). stands s2.view.words k x ≡ true) (sym en) (picked_holds (λ x. stands s2.view.words k x ≡ true) (ltb j m) west east g.first g.second);
+      };
+      row_in = omega arith;
+      col_in = omega arith;
+      same = ap (λ (x : ℕ). cells s0.view.words x q.name i j) (depth_of-next q.height l)
+          ∙ ap (λ (c : Cells). c i j) h.means
+          ∙ row_half d (cells s1.view.words (suc k) north) (cells s1.view.words (suc k) south) i j
+          ∙ ap (λ (x : ℕ). cond (ltb i x) (cells s1.view.words (suc k) north i j) (cells s1.view.words (suc k) south (i - x) j)) (sym em)
+          ∙ picked (ltb i m) (λ x u. cells s1.view.words (suc k) x u j) north south i (i - m)
+          ∙ ap (λ (x : ℕ). cells s1.view.words (suc k) x (cond (ltb i m) i (i - m)) j) (sym ew)
+          ∙ ap (λ (x : ℕ). cells s1.view.words (suc k) wide x j) (sym er)
+          ∙ ap (λ (c : Cells). c row j) g.means
+          ∙ col_half d (cells s2.view.words k west) (cells s2.view.words k east) row j
+          ∙ ap (λ (x : ℕ). cond (ltb j x) (cells s2.view.words k west row j) (cells s2.view.words k east row (j - x))) (sym em)
+          ∙ picked (ltb j m) (λ x u. cells s2.view.words k x row u) west east j (j - m)
+          ∙ ap (λ (x : ℕ). cells s2.view.words k x row (cond (ltb j m) j (j - m))) (sym en)
+          ∙ ap (λ (x : ℕ). cells s2.view.words k name row x) (sym ec);
+    }
+
+-- ---- rectangles by quarters
+first_part : (i n m : ℕ) → ltb i m ≡ true → ltb i n ≡ ltb i (min n m)
+first_part i n m e =
+    let a = ltb-true i m e in
+    elim (cases_lt i n) [
+      | inl l ↦ lt-ltb i n l ∙ sym (lt-ltb i (min n m) (omega arith))
+      | inr l ↦ le-ltb i n l ∙ sym (le-ltb i (min n m) (omega arith))
+    ]
+
+second_part : (i n m : ℕ) → ltb i m ≡ false → ltb i n ≡ ltb (i - m) (n - m)
+second_part i n m e =
+    let a = ltb-false i m e in
+    elim (cases_lt i n) [
+      | inl l ↦ lt-ltb i n l ∙ sym (lt-ltb (i - m) (n - m) (omega arith))
+      | inr l ↦ le-ltb i n l ∙ sym (le-ltb (i - m) (n - m) (omega arith))
+    ]
+
+pub cells_rect-quartered : (m rows cols : ℕ) → cells_rect rows cols ≡ quartered m (cells_rect (min rows m) (min cols m)) (cells_rect (min rows m) (cols - m)) (cells_rect (rows - m) (min cols m)) (cells_rect (rows - m) (cols - m))
+cells_rect-quartered m rows cols = same_cells _ _ (λ i j. elim (cases_Bool (ltb i m)) [
+  | inl x ↦ elim (cases_Bool (ltb j m)) [
+    | inl y ↦ let p = first_part i rows m x in let q = first_part j cols m y in rw (x, y, p, q) refl
+    | inr y ↦ let p = first_part i rows m x in let q = second_part j cols m y in rw (x, y, p, q) refl
+  ]
+  | inr x ↦ elim (cases_Bool (ltb j m)) [
+    | inl y ↦ let p = second_part i rows m x in let q = first_part j cols m y in rw (x, y, p, q) refl
+    | inr y ↦ let p = second_part i rows m x in let q = second_part j cols m y in rw (x, y, p, q) refl
+  ]
+])
+
+-- a rectangle of no row or no column has no cell
+pub cells_rect-none : (m n : ℕ) → n ≡ 0 → cells_rect m n ≡ no_cells
+cells_rect-none m n e = same_cells _ _ (λ i j. and_right (ltb i m) (ltb j n) (le-ltb j n (omega arith)))
+
+pub cells_rect-zero : (m n : ℕ) → m ≡ 0 → cells_rect m n ≡ no_cells
+cells_rect-zero m n e = same_cells _ _ (λ i j. and_left (ltb i m) (ltb j n) (le-ltb i m (omega arith)))
+
+-- the quad of name 0 is a rectangle with no cell
+pub rect_none : (w : Work) (h m n : ℕ) → IsWork w → bottom_height ≤ h → h ≤ top_height → (m ≡ 0) ⊎ (n ≡ 0) → IsQuad w h (cells_rect m n) (record { height = h; name = 0 })
+rect_none w h m n i l t z =
+    let q = empty_quad w h 0 i l t refl in
+    let e : cells_rect m n ≡ no_cells = elim z [ inl x ↦ cells_rect-zero m n x | inr x ↦ cells_rect-none m n x ] in
+    record { same_height = refl; stands = q.stands; means = q.means ∙ sym e }
+
+-- the corner of four rectangles is a rectangle
+pub rect_corner : {E : Type 0} (s0 s1 s2 : Work) (h m rows cols top : ℕ) (nw ne sw se : Quad) (r : Result Quad E) → bottom_height < h → top ≡ min rows (side_of (h - 1))
+    → AreBeside s0 (h - 1) top cols (nw, ne) → AreBeside s1 (h - 1) (rows - top) cols (sw, se) → KeepsWork m s0 s1
+    → IfOk r (IsQuad s2 (nw.height + 1) (quartered (side_of nw.height) (quad_cells s1 nw) (quad_cells s1 ne) (quad_cells s1 sw) (quad_cells s1 se)))
+    → IfOk r (IsQuad s2 h (cells_rect rows cols))
+rect_corner s0 s1 s2 h m rows cols top nw ne sw se (Err e) l et a b k v = tt
+rect_corner s0 s1 s2 h m rows cols top nw ne sw se (Ok q) l et a b k v =
+    let n : ℕ = h - 1 in
+    let w = is_quad-stays m s0 s1 n (cells_rect top (min cols (side_of n))) nw k a.west in
+    let e = is_quad-stays m s0 s1 n (cells_rect top (cols - side_of n)) ne k a.east in
+    let one : nw.height + 1 ≡ h = (let x = w.same_height in omega arith) in
+    let down : rows - top ≡ rows - side_of n = omega arith in
+    record {
+      same_height = v.same_height ∙ one;
+      stands = v.stands;
+      means = v.means
+          ∙ ap (λ (x : ℕ). quartered (side_of x) (quad_cells s1 nw) (quad_cells s1 ne) (quad_cells s1 sw) (quad_cells s1 se)) w.same_height
+          ∙ ap (λ (c : Cells). quartered (side_of n) c (quad_cells s1 ne) (quad_cells s1 sw) (quad_cells s1 se)) w.means
+          ∙ ap (λ (c : Cells). quartered (side_of n) (cells_rect top (min cols (side_of n))) c (quad_cells s1 sw) (quad_cells s1 se)) e.means
+          ∙ ap (λ (c : Cells). quartered (side_of n) (cells_rect top (min cols (side_of n))) (cells_rect top (cols - side_of n)) c (quad_cells s1 se)) b.west.means
+          ∙ ap (λ (c : Cells). quartered (side_of n) (cells_rect top (min cols (side_of n))) (cells_rect top (cols - side_of n)) (cells_rect (rows - top) (min cols (side_of n))) c) b.east.means
+          ∙ ap (λ (x : ℕ). quartered (side_of n) (cells_rect x (min cols (side_of n))) (cells_rect x (cols - side_of n)) (cells_rect (rows - top) (min cols (side_of n))) (cells_rect (rows - top) (cols - side_of n))) et
+          ∙ ap (λ (x : ℕ). quartered (side_of n) (cells_rect (min rows (side_of n)) (min cols (side_of n))) (cells_rect (min rows (side_of n)) (cols - side_of n)) (cells_rect x (min cols (side_of n))) (cells_rect x (cols - side_of n))) down
+          ∙ sym (cells_rect-quartered (side_of n) rows cols);
+    }
+
+-- two rectangles with the same rows and as many columns are one quad
+pub beside_twice : (w : Work) (h rows cols left : ℕ) (q : Quad) → left ≡ min cols (side_of h) → cols - left ≡ left → IsQuad w h (cells_rect rows left) q → AreBeside w h rows cols (q, q)
+beside_twice w h rows cols left q e f s =
+    let g : left ≡ cols - side_of h = omega arith in
+    record {
+      west = subst (λ (x : ℕ). IsQuad w h (cells_rect rows x) q) e s;
+      east = subst (λ (x : ℕ). IsQuad w h (cells_rect rows x) q) g s;
+    }
+
+pub beside_each : (m : ℕ) (v w : Work) (h rows cols left : ℕ) (p q : Quad) → left ≡ min cols (side_of h) → KeepsWork m v w → IsQuad v h (cells_rect rows left) p → IsQuad w h (cells_rect rows (cols - left)) q → AreBeside w h rows cols (p, q)
+beside_each m v w h rows cols left p q e k s t =
+    let g : cols - left ≡ cols - side_of h = omega arith in
+    record {
+      west = subst (λ (x : ℕ). IsQuad w h (cells_rect rows x) p) e (is_quad-stays m v w h (cells_rect rows left) p k s);
+      east = subst (λ (x : ℕ). IsQuad w h (cells_rect rows x) q) g t;
+    }
+
+pub beside_again : (w : Work) (h rows r cols : ℕ) (p : Quad × Quad) → rows ≡ r → AreBeside w h rows cols p → AreBeside w h r cols p
+beside_again w h rows r cols p e a = subst (λ (x : ℕ). AreBeside w h x cols p) e a

@@ -1,0 +1,46 @@
+//! Names of two halves, read and interned.
+ghost use Rattle.std.specs.Prelude.{◌≡◌, ℕ, suc, true, IfOk, Ok};
+ghost use Rattle.rel_model.specs.Trees.{stands};
+ghost use Rattle.rel_model.specs.Views.{IsKnown};
+ghost use Rattle.rel_model.specs.Quads.{Work, KeepsWork, ReadsWork, Counts};
+ghost use Rattle.quad_nodes.specs.Halves.{AreHalves, IsPaired};
+
+use crate::nodes::Nodes;
+use pair_table::Missed;
+
+impl<'t> Nodes<'t> {
+    /// The names of both halves of a name.
+    pub(crate) fn halves(&mut self, name: u32) -> (u32, u32)
+        requires { IsKnown self.old.view name }
+        ensures halves { (k : ℕ) → stands self.old.view.words (suc k) name ≡ true → AreHalves self.old self.new k name result.0 result.1 }
+        ensures reads { ReadsWork self.old self.new }
+    {
+        let _ = &self.seat;
+        if name == 0 {
+            return (0, 0);
+        }
+        self.table.kids(&mut self.seat, name)
+    }
+
+    /// The name of two halves; of nothing beside nothing it is 0.
+    pub(crate) fn pair(&mut self, left: u32, right: u32) -> Result<u32, Missed>
+        requires left_in { IsKnown self.old.view left }
+        requires right_in { IsKnown self.old.view right }
+        ensures value { IfOk result (IsPaired self.old self.new left right) }
+        ensures nothing { left ≡ 0 → right ≡ 0 → result ≡ Ok 0 }
+        ensures keeps { KeepsWork 1 self.old self.new }
+        ensures counts { Counts self.old self.new result }
+    {
+        let _ = &self.seat;
+        if left == 0 && right == 0 {
+            return Ok(0);
+        }
+        match self.table.intern(&mut self.seat, left, right) {
+            Ok(name) => Ok(name),
+            Err(Missed) => {
+                self.misses = self.misses.saturating_add(1);
+                Err(Missed)
+            }
+        }
+    }
+}

@@ -1,0 +1,51 @@
+//! What an operator made of quads is noted, and looked up again.
+ghost use Rattle.std.specs.Prelude.{◌≡◌, IfSome, option_map};
+ghost use Rattle.rel_model.specs.Equations.{Transpose, result_of, side_of};
+ghost use Rattle.rel_model.specs.Quads.{Work, QuadStands, IsQuad, quad_cells, ReadsWork};
+ghost use Rattle.memo_laws.specs.Looking.{Looks, operator_of};
+
+use crate::nodes::Nodes;
+use memo_laws::{Equation, Op};
+use rel_model::Quad;
+
+impl<'t> Nodes<'t> {
+    /// `set(r) = op(set(a), set(b))` for the answer `r`, where the memo word of `a` and `b` is that equation.
+    pub fn look(&mut self, op: Op, a: Quad, b: Quad) -> Option<Quad>
+        requires a_stands { QuadStands self.old a }
+        requires b_stands { QuadStands self.old b }
+        requires one_height { b.height ≡ a.height }
+        requires one_operand { operator_of op ≡ Transpose → b.name ≡ 0 }
+        ensures found { IfSome result (IsQuad self.new a.height (result_of (operator_of op) (side_of a.height) (quad_cells self.old a) (quad_cells self.old b))) }
+        ensures looks { Looks (operator_of op) a.height a.name b.name self.old.view self.new.view (option_map (λ q. q.name) result) }
+        ensures reads { ReadsWork self.old self.new }
+    {
+        let _ = &self.seat;
+        match memo_laws::look(self.table, &mut self.seat, op, a.height, a.name, b.name) {
+            Some(name) => Some(Quad {
+                height: a.height,
+                name,
+            }),
+            None => None,
+        }
+    }
+
+    /// Notes that `set(r) = op(set(a), set(b))`.
+    pub fn note(&mut self, op: Op, a: Quad, b: Quad, r: Quad)
+        requires a_stands { QuadStands self.old a }
+        requires b_stands { QuadStands self.old b }
+        requires one_height { b.height ≡ a.height }
+        requires one_operand { operator_of op ≡ Transpose → b.name ≡ 0 }
+        requires holds { IsQuad self.old a.height (result_of (operator_of op) (side_of a.height) (quad_cells self.old a) (quad_cells self.old b)) r }
+        ensures reads { ReadsWork self.old self.new }
+    {
+        let _ = &self.seat;
+        let eq = Equation {
+            op,
+            height: a.height,
+            a: a.name,
+            b: b.name,
+            r: r.name,
+        };
+        memo_laws::note(self.table, &mut self.seat, eq);
+    }
+}

@@ -1,0 +1,21 @@
+//! What works on quads: a table, a seat at it, and a count of misses.
+use pair_table::{PairTable, Seat};
+use std::marker::Model;
+
+/// A table, a seat at it, and how often a place for a word was missing there. 24 bytes.
+#[derive(Drop)]
+pub struct Nodes<'t> {
+    pub(crate) table: &'t PairTable,
+    pub(crate) seat: Seat,
+    pub(crate) misses: u64,
+}
+
+impl<'t> Model for Nodes<'t> {
+    ghost use Rattle.rel_model.specs.Quads.{Work, IsWork};
+
+    ghost Value = { Work };
+
+    ghost view = { λ n. record { table = n.table.now; view = n.seat; misses = n.misses } };
+
+    ghost invariant = { λ n. IsWork (record { table = n.table.now; view = n.seat; misses = n.misses }) };
+}

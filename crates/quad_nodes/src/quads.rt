@@ -1,0 +1,120 @@
+//! The quarters of a quad, the corner of four, and blocks.
+ghost use Rattle.std.specs.Prelude.{◌≡◌, ◌<◌, ◌+◌, IfOk, Ok};
+ghost use Rattle.rel_model.specs.Cells.{block_cells};
+ghost use Rattle.rel_model.specs.Trees.{bottom_height, top_height, quartered};
+ghost use Rattle.rel_model.specs.Equations.{side_of};
+ghost use Rattle.rel_model.specs.Quads.{Work, IsWork, QuadStands, IsQuad, quad_cells, AreQuarters, KeepsWork, ReadsWork, Counts};
+
+use crate::nodes::Nodes;
+use pair_table::Missed;
+use rel_model::Quad;
+
+impl<'t> Nodes<'t> {
+    /// The height of the leaves, which are blocks of 8 by 8 cells.
+    #[inline]
+    #[tactic(auto, unfolding(rel_model::specs::Trees::bottom_height))]
+    pub fn bottom(&self) -> u8
+        ensures height { result ≡ bottom_height }
+        ensures work { IsWork self.now }
+    {
+        let _ = &self.seat;
+        3
+    }
+
+    /// The quarters of a quad: north-west, north-east, south-west and south-east.
+    pub fn quarters(&mut self, q: Quad) -> (Quad, Quad, Quad, Quad)
+        requires stands { QuadStands self.old q }
+        requires over { bottom_height < q.height }
+        ensures quarters { AreQuarters self.old self.new q result }
+        ensures reads { ReadsWork self.old self.new }
+    {
+        let (north, south) = self.halves(q.name);
+        let (nw, ne) = self.halves(north);
+        let (sw, se) = self.halves(south);
+        let height = q.height - 1;
+        (
+            Quad { height, name: nw },
+            Quad { height, name: ne },
+            Quad { height, name: sw },
+            Quad { height, name: se },
+        )
+    }
+
+    /// The quarters of two quads, each as `quarters` gives them.
+    pub fn quarters_of_both(
+        &mut self,
+        a: Quad,
+        b: Quad,
+    ) -> ((Quad, Quad, Quad, Quad), (Quad, Quad, Quad, Quad))
+        requires a_stands { QuadStands self.old a }
+        requires b_stands { QuadStands self.old b }
+        requires a_over { bottom_height < a.height }
+        requires b_over { bottom_height < b.height }
+        ensures first { AreQuarters self.old self.new a result.0 }
+        ensures second { AreQuarters self.old self.new b result.1 }
+        ensures reads { ReadsWork self.old self.new }
+    {
+        let first = self.quarters(a);
+        let second = self.quarters(b);
+        (first, second)
+    }
+
+    /// The quad with these quarters; of four quads with no cell it is the one with no cell, whatever the table has room for.
+    pub fn corner(&mut self, nw: Quad, ne: Quad, sw: Quad, se: Quad) -> Result<Quad, Missed>
+        requires nw_stands { QuadStands self.old nw }
+        requires ne_stands { QuadStands self.old ne }
+        requires sw_stands { QuadStands self.old sw }
+        requires se_stands { QuadStands self.old se }
+        requires ne_height { ne.height ≡ nw.height }
+        requires sw_height { sw.height ≡ nw.height }
+        requires se_height { se.height ≡ nw.height }
+        requires below { nw.height < top_height }
+        ensures value { IfOk result (IsQuad self.new (nw.height + 1) (quartered (side_of nw.height) (quad_cells self.old nw) (quad_cells self.old ne) (quad_cells self.old sw) (quad_cells self.old se))) }
+        ensures nothing { nw.name ≡ 0 → ne.name ≡ 0 → sw.name ≡ 0 → se.name ≡ 0 → result ≡ Ok (record { height = nw.height + 1; name = 0 }) }
+        ensures keeps { KeepsWork 3 self.old self.new }
+        ensures counts { Counts self.old self.new result }
+    {
+        let north = self.pair(nw.name, ne.name)?;
+        let south = self.pair(sw.name, se.name)?;
+        let name = self.pair(north, south)?;
+        Ok(Quad {
+            height: nw.height + 1,
+            name,
+        })
+    }
+
+    /// The cells of a block, in one word of which cell (i, j) is bit 8i + j.
+    pub fn bits(&mut self, q: Quad) -> u64
+        requires stands { QuadStands self.old q }
+        requires bottom { q.height ≡ bottom_height }
+        ensures cells { block_cells result ≡ quad_cells self.old q }
+        ensures reads { ReadsWork self.old self.new }
+    {
+        let _ = &self.seat;
+        if q.name == 0 {
+            return 0;
+        }
+        self.table.block_of(&mut self.seat, q.name)
+    }
+
+    /// The quad of a block, of which cell (i, j) is bit 8i + j; of no cell it is the one with no cell, whatever the table has room for.
+    #[tactic(auto, unfolding(rel_model::specs::Trees::bottom_height))]
+    pub fn block(&mut self, bits: u64) -> Result<Quad, Missed>
+        ensures value { IfOk result (IsQuad self.new bottom_height (block_cells bits)) }
+        ensures nothing { bits ≡ 0 → result ≡ Ok (record { height = bottom_height; name = 0 }) }
+        ensures keeps { KeepsWork 1 self.old self.new }
+        ensures counts { Counts self.old self.new result }
+    {
+        let _ = &self.seat;
+        if bits == 0 {
+            return Ok(Quad { height: 3, name: 0 });
+        }
+        match self.table.intern_block(&mut self.seat, bits) {
+            Ok(name) => Ok(Quad { height: 3, name }),
+            Err(Missed) => {
+                self.misses = self.misses.saturating_add(1);
+                Err(Missed)
+            }
+        }
+    }
+}

@@ -1,0 +1,64 @@
+//! Rectangles: the first rows and columns of a square.
+ghost use Rattle.std.specs.Prelude.{◌≡◌, ◌≢◌, ◌<◌, ◌≤◌, ◌+◌, IfOk};
+ghost use Rattle.rel_model.specs.Cells.{cells_rect};
+ghost use Rattle.rel_model.specs.Trees.{bottom_height, top_height};
+ghost use Rattle.rel_model.specs.Equations.{side_of};
+ghost use Rattle.rel_model.specs.Quads.{Work, IsQuad, KeepsWork, Counts, quad_room};
+ghost use Rattle.quad_nodes.specs.Halves.{AreBeside};
+
+use crate::nodes::Nodes;
+use crate::sides::side_of_height;
+use leaf_block::block_rect;
+use pair_table::Missed;
+use rel_model::Quad;
+
+impl<'t> Nodes<'t> {
+    /// Cell (i, j) where i < rows and j < cols, in the square of a height.
+    ///
+    /// Equal quarters are made once, so the full square takes two words for each height.
+    #[cycle(rects)]
+    pub fn rect(&mut self, height: u8, rows: u32, cols: u32) -> Result<Quad, Missed>
+        requires low { bottom_height ≤ height }
+        requires high { height ≤ top_height }
+        requires row { rows ≤ side_of height }
+        requires col { cols ≤ side_of height }
+        ensures value { IfOk result (IsQuad self.new height (cells_rect rows cols)) }
+        ensures keeps { KeepsWork (quad_room height) self.old self.new }
+        ensures counts { Counts self.old self.new result }
+    {
+        let bottom = self.bottom();
+        if rows == 0 || cols == 0 {
+            return Ok(Quad { height, name: 0 });
+        }
+        if height == bottom {
+            return self.block(block_rect(rows, cols));
+        }
+        let top = rows.min(side_of_height(height - 1));
+        let (nw, ne) = self.rects_beside(height - 1, top, cols)?;
+        if rows - top == top {
+            return self.corner(nw, ne, nw, ne);
+        }
+        let (sw, se) = self.rects_beside(height - 1, rows - top, cols)?;
+        self.corner(nw, ne, sw, se)
+    }
+
+    /// The first columns of a rectangle, as many as a square of a height has, and those behind them.
+    #[cycle(rects)]
+    fn rects_beside(&mut self, height: u8, rows: u32, cols: u32) -> Result<(Quad, Quad), Missed>
+        requires low { bottom_height ≤ height }
+        requires high { height < top_height }
+        requires row { rows ≤ side_of height }
+        requires col { cols ≤ side_of height + side_of height }
+        ensures value { IfOk result (AreBeside self.new height rows cols) }
+        ensures keeps { KeepsWork (quad_room height + quad_room height) self.old self.new }
+        ensures counts { Counts self.old self.new result }
+    {
+        let left = cols.min(side_of_height(height));
+        let west = self.rect(height, rows, left)?;
+        if cols - left == left {
+            return Ok((west, west));
+        }
+        let east = self.rect(height, rows, cols - left)?;
+        Ok((west, east))
+    }
+}

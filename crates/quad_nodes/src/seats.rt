@@ -1,0 +1,64 @@
+//! Nodes as seats: made over one, split and joined, and given back.
+ghost use Rattle.std.specs.Prelude.{◌≡◌, ◌<◌};
+ghost use Rattle.rel_model.specs.Views.{IsOf};
+ghost use Rattle.rel_model.specs.Quads.{Work, IsWork, SplitsWork, JoinsWork};
+
+use crate::nodes::Nodes;
+use pair_table::{PairTable, Seat};
+
+impl<'t> Nodes<'t> {
+    /// The quads of a table, for the seat; nothing was missed yet.
+    pub fn new(table: &'t PairTable, seat: Seat) -> Nodes<'t>
+        requires of { IsOf seat table.now }
+        ensures value { result ≡ record { table = table.now; view = seat; misses = 0 } }
+        ensures work { IsWork result }
+    {
+        Nodes {
+            table,
+            seat,
+            misses: 0,
+        }
+    }
+
+    /// Splits off a second keeper, which knows as much, has so many spare seats, and has missed nothing.
+    pub fn split(&mut self, spare: u32) -> Nodes<'t>
+        requires fewer { spare < self.old.view.spare }
+        ensures { SplitsWork spare self.old self.new result }
+    {
+        let seat = self.table.split(&mut self.seat, spare);
+        Nodes {
+            table: self.table,
+            seat,
+            misses: 0,
+        }
+    }
+
+    /// How many seats may still be split off.
+    pub fn spare(&self) -> u32
+        ensures { result ≡ self.now.view.spare }
+    {
+        self.table.spare(&self.seat)
+    }
+
+    /// Both as one, which knows what either knew and counts what both missed.
+    pub fn join(&mut self, other: Nodes<'t>)
+        requires one_table { other.table ≡ self.old.table }
+        ensures { JoinsWork self.old other.entry self.new }
+    {
+        let Nodes {
+            table: _,
+            seat,
+            misses,
+        } = other;
+        self.table.join(&mut self.seat, seat);
+        self.misses = self.misses.saturating_add(misses);
+    }
+
+    /// The seat, which is given back.
+    pub fn into_seat(self) -> Seat
+        ensures view { result ≡ self.entry.view }
+        ensures work { IsWork self.entry }
+    {
+        self.seat
+    }
+}

@@ -1,0 +1,32 @@
+-- Operators that go cell by cell.
+use Rattle.std.specs.Prelude.{◌≡◌, ◌≢◌, ◌⊎◌, ◌&&◌, ◌||◌, not, Bool, Option, IfSome}
+use Rattle.rel_model.specs.declared.Quad.{Quad}
+use Rattle.rel_model.specs.Cells.{Cells}
+use Rattle.rel_model.specs.Equations.{Operator, Union, Inter, Diff}
+use Rattle.rel_model.specs.Quads.{Work, IsWork, quad_cells, QuadStands, IsQuad}
+use Rattle.rel_boole.specs.declared.boole.Boole.{Boole}
+use Rattle.rel_boole.specs.declared.boole.Boole.TheVariants.{Union as UNION, Inter as INTER, Diff as DIFF}
+
+-- whether the operator holds, where the operands hold or do not
+abbrev pub holds_by : Boole → Bool → Bool → Bool
+holds_by UNION x y = x || y
+holds_by INTER x y = x && y
+holds_by DIFF x y = x && not y
+
+-- the set of an operator, cell by cell
+abbrev pub cells_by : Boole → Cells → Cells → Cells
+cells_by op f g i j = holds_by op (f i j) (g i j)
+
+-- the operator of equations
+abbrev pub operator_for : Boole → Operator
+operator_for UNION = Union
+operator_for INTER = Inter
+operator_for DIFF = Diff
+
+-- where there is an answer, it is the operator's result, wherever both operands stand
+abbrev pub CutsOff : Boole → Quad → Quad → Option Quad → Type 0
+CutsOff op a b answer = (w : Work) → IsWork w → QuadStands w a → QuadStands w b → b.height ≡ a.height → IfSome answer (IsQuad w a.height (cells_by op (quad_cells w a) (quad_cells w b)))
+
+-- both operands as they are, or exchanged where that makes no difference
+abbrev pub IsInOrder : Boole → Quad → Quad → Quad × Quad → Type 0
+IsInOrder op a b pair = (pair ≡ (a, b)) ⊎ ((op ≢ DIFF) × (pair ≡ (b, a)))

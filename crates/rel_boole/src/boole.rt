@@ -1,0 +1,77 @@
+//! The recursion over the operator.
+ghost use Rattle.std.specs.Prelude.{◌≡◌, ◌<◌, IfOk};
+ghost use Rattle.rel_model.specs.Trees.{bottom_height};
+ghost use Rattle.rel_model.specs.Quads.{Work, QuadStands, IsQuad, quad_cells, KeepsWork, Counts, quad_room};
+ghost use Rattle.memo_laws.specs.Looking.{operator_of};
+ghost use Rattle.rel_boole.specs.Cellwise.{cells_by, operator_for};
+
+use crate::cuts::{cut_off, in_order};
+use crate::leaf::leaf;
+use memo_laws::Op;
+use pair_table::Missed;
+use quad_nodes::Nodes;
+use rel_model::Quad;
+
+/// An operator that goes cell by cell.
+#[derive(Clone, Copy, Debug, PartialEq, Eq)]
+pub enum Boole {
+    Union,
+    Inter,
+    Diff,
+}
+
+/// The operator as equations name it.
+fn op_of(op: Boole) -> Op
+    ensures { operator_of result ≡ operator_for op }
+{
+    match op {
+        Boole::Union => Op::Union,
+        Boole::Inter => Op::Inter,
+        Boole::Diff => Op::Diff,
+    }
+}
+
+/// Cell (i, j) where the operator holds of `a` and `b` there.
+#[cycle(combining)]
+pub fn combined(nodes: &mut Nodes, op: Boole, a: Quad, b: Quad) -> Result<Quad, Missed>
+    requires a_stands { QuadStands nodes.old a }
+    requires b_stands { QuadStands nodes.old b }
+    requires one_height { b.height ≡ a.height }
+    ensures value { IfOk result (IsQuad nodes.new a.height (cells_by op (quad_cells nodes.old a) (quad_cells nodes.old b))) }
+    ensures keeps { KeepsWork (quad_room a.height) nodes.old nodes.new }
+    ensures counts { Counts nodes.old nodes.new result }
+{
+    let bottom = nodes.bottom();
+    if let Some(found) = cut_off(op, a, b) {
+        return Ok(found);
+    }
+    if a.height == bottom {
+        return leaf(nodes, op, a, b);
+    }
+    let (first, second) = in_order(op, a, b);
+    combined_over(nodes, op, first, second)
+}
+
+/// The same over the blocks: what was noted is looked up, and what was not goes by quarters and is noted.
+#[cycle(combining)]
+fn combined_over(nodes: &mut Nodes, op: Boole, a: Quad, b: Quad) -> Result<Quad, Missed>
+    requires a_stands { QuadStands nodes.old a }
+    requires b_stands { QuadStands nodes.old b }
+    requires one_height { b.height ≡ a.height }
+    requires over { bottom_height < a.height }
+    ensures value { IfOk result (IsQuad nodes.new a.height (cells_by op (quad_cells nodes.old a) (quad_cells nodes.old b))) }
+    ensures keeps { KeepsWork (quad_room a.height) nodes.old nodes.new }
+    ensures counts { Counts nodes.old nodes.new result }
+{
+    if let Some(found) = nodes.look(op_of(op), a, b) {
+        return Ok(found);
+    }
+    let ((a_nw, a_ne, a_sw, a_se), (b_nw, b_ne, b_sw, b_se)) = nodes.quarters_of_both(a, b);
+    let nw = combined(nodes, op, a_nw, b_nw)?;
+    let ne = combined(nodes, op, a_ne, b_ne)?;
+    let sw = combined(nodes, op, a_sw, b_sw)?;
+    let se = combined(nodes, op, a_se, b_se)?;
+    let found = nodes.corner(nw, ne, sw, se)?;
+    nodes.note(op_of(op), a, b, found);
+    Ok(found)
+}

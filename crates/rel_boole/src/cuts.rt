@@ -1,0 +1,55 @@
+//! What needs no recursion: equal and empty operands, and operands in one order.
+ghost use Rattle.rel_boole.specs.Cellwise.{CutsOff, IsInOrder};
+
+use crate::boole::Boole;
+use rel_model::Quad;
+
+/// The result where the operands are one, or one of them has no cell.
+pub fn cut_off(op: Boole, a: Quad, b: Quad) -> Option<Quad>
+    ensures { CutsOff op a b result }
+{
+    let none = Quad {
+        height: a.height,
+        name: 0,
+    };
+    match op {
+        Boole::Union => {
+            if a.name == b.name {
+                return Some(a);
+            }
+            if a.name == 0 {
+                return Some(b);
+            }
+            if b.name == 0 { Some(a) } else { None }
+        }
+        Boole::Inter => {
+            if a.name == b.name {
+                return Some(a);
+            }
+            if a.name == 0 {
+                return Some(none);
+            }
+            if b.name == 0 { Some(none) } else { None }
+        }
+        Boole::Diff => {
+            if a.name == b.name {
+                return Some(none);
+            }
+            if a.name == 0 {
+                return Some(none);
+            }
+            if b.name == 0 { Some(a) } else { None }
+        }
+    }
+}
+
+/// The operands, that with the lesser name first where their order makes no difference.
+pub fn in_order(op: Boole, a: Quad, b: Quad) -> (Quad, Quad)
+    ensures { IsInOrder op a b result }
+{
+    if op != Boole::Diff && b.name < a.name {
+        (b, a)
+    } else {
+        (a, b)
+    }
+}

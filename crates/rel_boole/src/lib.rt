@@ -1,0 +1,9 @@
+//! Union, intersection and difference of quads: one recursion over the operator.
+#![tactic(auto)]
+
+mod boole;
+mod cuts;
+mod leaf;
+mod operators;
+
+pub use operators::{diff_quads, inter_quads, union_quads};

@@ -1,0 +1,45 @@
+//! The three operators.
+ghost use Rattle.std.specs.Prelude.{◌≡◌, IfOk};
+ghost use Rattle.rel_model.specs.Cells.{cells_union, cells_inter, cells_diff};
+ghost use Rattle.rel_model.specs.Quads.{Work, QuadStands, IsQuad, quad_cells, KeepsWork, Counts, quad_room};
+
+use crate::boole::{Boole, combined};
+use pair_table::Missed;
+use quad_nodes::Nodes;
+use rel_model::Quad;
+
+/// Cell (i, j) where it is in `a` or in `b`, for two quads of one height.
+pub fn union_quads(nodes: &mut Nodes, a: Quad, b: Quad) -> Result<Quad, Missed>
+    requires a_stands { QuadStands nodes.old a }
+    requires b_stands { QuadStands nodes.old b }
+    requires one_height { b.height ≡ a.height }
+    ensures value { IfOk result (IsQuad nodes.new a.height (cells_union (quad_cells nodes.old a) (quad_cells nodes.old b))) }
+    ensures keeps { KeepsWork (quad_room a.height) nodes.old nodes.new }
+    ensures counts { Counts nodes.old nodes.new result }
+{
+    combined(nodes, Boole::Union, a, b)
+}
+
+/// Cell (i, j) where it is in `a` and in `b`, for two quads of one height.
+pub fn inter_quads(nodes: &mut Nodes, a: Quad, b: Quad) -> Result<Quad, Missed>
+    requires a_stands { QuadStands nodes.old a }
+    requires b_stands { QuadStands nodes.old b }
+    requires one_height { b.height ≡ a.height }
+    ensures value { IfOk result (IsQuad nodes.new a.height (cells_inter (quad_cells nodes.old a) (quad_cells nodes.old b))) }
+    ensures keeps { KeepsWork (quad_room a.height) nodes.old nodes.new }
+    ensures counts { Counts nodes.old nodes.new result }
+{
+    combined(nodes, Boole::Inter, a, b)
+}
+
+/// Cell (i, j) where it is in `a` and not in `b`, for two quads of one height.
+pub fn diff_quads(nodes: &mut Nodes, a: Quad, b: Quad) -> Result<Quad, Missed>
+    requires a_stands { QuadStands nodes.old a }
+    requires b_stands { QuadStands nodes.old b }
+    requires one_height { b.height ≡ a.height }
+    ensures value { IfOk result (IsQuad nodes.new a.height (cells_diff (quad_cells nodes.old a) (quad_cells nodes.old b))) }
+    ensures keeps { KeepsWork (quad_room a.height) nodes.old nodes.new }
+    ensures counts { Counts nodes.old nodes.new result }
+{
+    combined(nodes, Boole::Diff, a, b)
+}

@@ -1,0 +1,96 @@
+-- Quads: squares of cells by their names in a table; what a keeper of quads holds, what its calls keep, and how it counts what it missed.
+use Rattle.std.specs.Prelude.{◌≡◌, ◌≢◌, ◌≤◌, ◌+◌, ◌-◌, ◌^◌, min, ℕ, true, Result, Ok, Err}
+use Rattle.rel_model.specs.declared.Quad.{Quad}
+use Rattle.rel_model.specs.Cells.{Cells}
+use Rattle.rel_model.specs.Trees.{bottom_height, top_height, cells, stands, quartered}
+use Rattle.rel_model.specs.Words.{Extends, IsFull}
+use Rattle.rel_model.specs.Equations.{depth_of, side_of}
+use Rattle.rel_model.specs.Views.{Table, View, IsOf, Splits, Joins}
+
+-- what a keeper of quads holds
+pub record Work : Type 0 where
+  -- the table on which it works
+  pub table : Table
+  -- what its seat knows
+  pub view : View
+  -- how often a place for a word was missing
+  pub misses : ℕ
+
+-- the seat is of the table, and where a place was missing every place is taken, as the view shows
+pub record IsWork (w : Work) : Type 0 where
+  pub of : IsOf w.view w.table
+  pub full : w.misses ≢ 0 → IsFull w.view.words
+
+-- the set of a quad, of which no cell lies outside its square
+abbrev pub quad_cells : Work → Quad → Cells
+quad_cells w q = cells w.view.words (depth_of q.height) q.name
+
+-- a quad stands: its height is that of a square, and its name stands at the depth of that height
+pub record QuadStands (w : Work) (q : Quad) : Type 0 where
+  pub low : bottom_height ≤ q.height
+  pub high : q.height ≤ top_height
+  pub standing : stands w.view.words (depth_of q.height) q.name ≡ true
+
+-- a quad of this height stands, with this set
+pub record IsQuad (w : Work) (height : ℕ) (f : Cells) (q : Quad) : Type 0 where
+  pub same_height : q.height ≡ height
+  pub stands : QuadStands w q
+  pub means : quad_cells w q ≡ f
+
+-- a call keeps the table, the spare seats and all that was seen, and places at most so many words
+pub record KeepsWork (most : ℕ) (old new : Work) : Type 0 where
+  pub before : IsWork old
+  pub after : IsWork new
+  pub table : new.table ≡ old.table
+  pub seen : Extends old.view.words new.view.words
+  pub house : new.view.house ≡ old.view.house
+  pub spare : new.view.spare ≡ old.view.spare
+  pub grows : old.view.made ≤ new.view.made
+  pub room : new.view.made ≤ old.view.made + most
+
+-- a call that reads places no word and misses nothing
+pub record ReadsWork (old new : Work) : Type 0 where
+  pub keeps : KeepsWork 0 old new
+  pub misses : new.misses ≡ old.misses
+
+-- one more, up to the last value of the count
+abbrev pub one_more_miss : ℕ → ℕ
+one_more_miss n = min (n + 1) (2 ^ 64 - 1)
+
+-- a call that missed a place counts it once, and one that succeeded counts nothing
+abbrev pub Counts : {T E : Type 0} → Work → Work → Result T E → Type 0
+Counts old new (Ok x) = new.misses ≡ old.misses
+Counts old new (Err e) = new.misses ≡ one_more_miss old.misses
+
+-- the quarters of a quad: north-west, north-east, south-west and south-east
+pub record AreQuarters (old new : Work) (q : Quad) (four : Quad × Quad × Quad × Quad) : Type 0 where
+  pub nw : QuadStands new four.0
+  pub ne : QuadStands new four.1
+  pub sw : QuadStands new four.2
+  pub se : QuadStands new four.3
+  pub nw_height : four.0.height + 1 ≡ q.height
+  pub ne_height : four.1.height + 1 ≡ q.height
+  pub sw_height : four.2.height + 1 ≡ q.height
+  pub se_height : four.3.height + 1 ≡ q.height
+  pub means : quad_cells old q ≡ quartered (side_of four.0.height) (quad_cells new four.0) (quad_cells new four.1) (quad_cells new four.2) (quad_cells new four.3)
+
+-- how many words an operator on squares of a height places at most: 3 at each height over 0 for the corner of four results
+abbrev pub quad_room : ℕ → ℕ
+quad_room height = 4 ^ height - 1
+
+-- a second keeper is split off: both know as much, and it has missed nothing
+pub record SplitsWork (spare : ℕ) (old new second : Work) : Type 0 where
+  pub views : Splits spare old.view new.view second.view
+  pub table : new.table ≡ old.table
+  pub second_table : second.table ≡ old.table
+  pub misses : new.misses ≡ old.misses
+  pub second_misses : second.misses ≡ 0
+  pub after : IsWork new
+  pub second_after : IsWork second
+
+-- two keepers become one, which knows what either knew, and counts what both missed, up to the last value of the count
+pub record JoinsWork (old other new : Work) : Type 0 where
+  pub views : Joins old.view other.view new.view
+  pub table : new.table ≡ old.table
+  pub misses : new.misses ≡ min (old.misses + other.misses) (2 ^ 64 - 1)
+  pub after : IsWork new
