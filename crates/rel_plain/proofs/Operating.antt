@@ -16,9 +16,10 @@ use Rattle.rel_model.specs.Operators.{empty, full, single, union, inter, diff, t
 use Rattle.rel_model.specs.Worker.{Worker, Gives}
 use Rattle.rel_model.proofs.Grid.{grid-member, grid-within, grid-increasing}
 use Rattle.rel_model.proofs.Relations.{relation_of-agree, has-relation_of, of_itself}
-use Rattle.rel_plain.specs.declared.Part.{Part}
+use Rattle.rel_plain.specs.declared.part.Part.{Part}
 use Rattle.rel_plain.specs.Merge.{merge, picked}
-use Rattle.rel_plain.specs.Kept.{IsKept, IsTurned}
+use Rattle.rel_plain.specs.Kept.{IsKept}
+use Rattle.rel_plain.specs.Turn.{IsTurned}
 
 abbrev pub stored : ℕ → ℕ → List (ℕ × ℕ) → Relation
 stored m n ps = record { rows = m; cols = n; pairs = ps }
