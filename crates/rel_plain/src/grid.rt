@@ -4,11 +4,7 @@ ghost use Rattle.rel_model.specs.Relation.{grid, row_of};
 use std::alloc::{AllocError, Global};
 
 /// All pairs of these sizes, in order.
-pub(crate) fn full_pairs(
-    alloc: Global,
-    rows: u32,
-    cols: u32,
-) -> Result<Vec<(u32, u32)>, AllocError>
+pub(crate) fn full_pairs(alloc: Global, rows: u32, cols: u32) -> Result<Vec<(u32, u32)>, AllocError>
     ensures { IfOk result (λ v. v.items ≡ grid rows cols) }
 {
     let mut out = Vec::new(alloc);
