@@ -1,10 +1,10 @@
 -- What stands, as the trait's laws want it.
-use Rattle.std.proofs.Common.{◌≡◌, ◌≤◌, ◌<◌, ◌+◌, ◌^◌, ◌&&◌, ℕ, Bool, true, false, cond, eqb, leb, List, [], ◌∷◌, ◌++◌, length, Option, Some, None, refl, sym, ap, subst, ◌∙◌, arith, rules}
-use Rattle.std.proofs.lemmas.Bool.{cases_Bool, and_parts, eqb-true, leb-true, false≢true}
+use Rattle.std.proofs.Common.{◌≡◌, ◌≤◌, ◌&&◌, Bool, true, false, cond, eqb, leb, List, [], Option, Some, None, refl, sym, ap, subst, ◌∙◌}
+use Rattle.std.proofs.lemmas.Bool.{and_parts, eqb-true, leb-true, false≢true}
 use Rattle.std.specs.Prelude.{IsSome, slice_get, unwrap_or, option_and_then}
 use Rattle.rel_model.specs.declared.Rel.{Rel}
 use Rattle.rel_model.specs.Relation.{Relation, IsRelation, has, relation_of, size_limit}
-use Rattle.rel_model.specs.Worker.{Worker, Stands, set_of}
+use Rattle.rel_model.specs.Worker.{Stands, set_of}
 use Rattle.rel_model.proofs.Relations.{IsRelation-relation_of, rows-relation_of, cols-relation_of}
 use Rattle.rel_plain.specs.Kept.{kept_as, relation_at, worker_of}
 

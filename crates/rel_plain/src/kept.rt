@@ -3,7 +3,7 @@ ghost use Rattle.rel_plain.specs.Kept.{IsKept};
 
 use std::marker::Model;
 
-/// A relation that is kept: its sizes, and its pairs in order, 8 bytes a pair.
+/// A relation that is kept: its sizes, and its pairs in order. A pair takes 8 bytes.
 #[derive(Drop)]
 pub(crate) struct Kept {
     rows: u32,

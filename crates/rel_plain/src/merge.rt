@@ -1,6 +1,6 @@
-ghost use Rattle.std.specs.Prelude.{◌≡◌, ◌++◌, [], IfOk, OnOk, if◌then◌else◌};
-ghost use Rattle.rel_model.specs.Relation.{before};
-ghost use Rattle.rel_plain.specs.Merge.{merge, wanted};
+ghost use Rattle.std.specs.Prelude.{◌≡◌, [], ◌∷◌, ◌++◌, IfOk, OnOk, if◌then◌else◌};
+ghost use Rattle.rel_model.specs.Relation.{before, IsIncreasing};
+ghost use Rattle.rel_plain.specs.Merge.{IsMerge};
 
 use crate::part::Part;
 use std::alloc::{AllocError, Global};
@@ -14,7 +14,7 @@ fn is_before(p: (u32, u32), q: (u32, u32)) -> bool
 
 /// Adds a pair where it is wanted.
 fn push_if(out: &mut Vec<(u32, u32)>, is_wanted: bool, p: (u32, u32)) -> Result<(), AllocError>
-    ensures { OnOk result (out.new.items ≡ out.old.items ++ wanted is_wanted p []) }
+    ensures { OnOk result (out.new.items ≡ out.old.items ++ (if is_wanted then p ∷ [] else [])) }
 {
     if is_wanted {
         out.push(p)?;
@@ -43,7 +43,9 @@ pub(crate) fn merged(
     xs: &[(u32, u32)],
     ys: &[(u32, u32)],
 ) -> Result<Vec<(u32, u32)>, AllocError>
-    ensures { IfOk result (λ v. v.items ≡ merge part xs.now ys.now) }
+    requires left { IsIncreasing xs.now }
+    requires right { IsIncreasing ys.now }
+    ensures { IfOk result (λ v. IsMerge part xs.now ys.now v.items) }
 {
     let mut out = Vec::new(alloc);
     let mut i = 0;

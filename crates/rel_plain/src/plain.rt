@@ -16,7 +16,7 @@ use rel_model::{Lack, Rel, Shape};
 use std::alloc::Global;
 use std::marker::Model;
 
-/// The relations that were made, in the order in which they were made: a relation's name is its place. Each takes 40 bytes and 8 a pair, and none is ever dropped.
+/// The relations that were made, in the order in which they were made: the name of a relation is its place. A pair takes 8 bytes, and no relation is dropped before the worker.
 #[derive(Drop)]
 pub struct Plain {
     alloc: Global,

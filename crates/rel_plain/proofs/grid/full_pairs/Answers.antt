@@ -1,6 +1,6 @@
-use Rattle.std.proofs.Common.{◌∙◌, ◌++◌, ap, sym, arith}
+use Rattle.std.proofs.Common.{arith}
 use Rattle.std.proofs.lemmas.Grind.{common_steps}
-use Rattle.rel_plain.proofs.Operating.{grid_more}
+use Rattle.rel_plain.proofs.Filling.{grid_more}
 use Rattle.rel_plain.proofs.grid.full_pairs.Goals as goal
 
 pub rows-preserved : goal.rows-preserved

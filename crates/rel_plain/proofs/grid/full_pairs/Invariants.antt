@@ -1,4 +1,4 @@
-use Rattle.std.proofs.Common.{◌≡◌, ◌++◌, map}
+use Rattle.std.proofs.Common.{◌≡◌}
 use Rattle.std.specs.List.{range_with_len, flat_map}
 use Rattle.rel_model.specs.Relation.{row_of}
 use Rattle.rel_plain.proofs.grid.full_pairs.Given as goal

@@ -1,5 +1,5 @@
 use Rattle.std.proofs.Common.{length, ◌-◌, ◌≡◌, ◌≤◌, ◌+◌, ◌++◌, drop}
-use Rattle.rel_plain.specs.Merge.{merge}
+use Rattle.rel_plain.proofs.Merging.{merge}
 use Rattle.rel_plain.proofs.merge.merged.Given as goal
 
 -- what was pushed and what is left to merge make the whole

@@ -1,9 +1,9 @@
-use Rattle.std.proofs.Common.{rules, ◌≡◌, refl, sym, ap, subst, ◌∙◌, IfOk, ℕ, List}
+use Rattle.std.proofs.Common.{◌≡◌, sym, ap, subst, ◌∙◌, IfOk, ℕ, List}
 use Rattle.rel_model.specs.Relation.{Relation, has, relation_of}
 use Rattle.rel_model.specs.Worker.{Gives, set_of}
 use Rattle.rel_plain.specs.Kept.{IsKept, worker_of}
-use Rattle.rel_plain.specs.Merge.{merge, picked}
-use Rattle.rel_plain.proofs.Merging.{IsKept-merge, relation_of-merge}
+use Rattle.rel_plain.specs.Merge.{picked}
+use Rattle.rel_plain.proofs.Merging.{IsKept-IsMerge, relation_of-IsMerge}
 use Rattle.rel_plain.proofs.plain.Plain.combined.Goals as goal
 
 -- the second list under the sizes of the first
@@ -18,16 +18,15 @@ second_means m n p q ps e f = ap (λ x. relation_of x q (has (second x q ps))) (
 
 pub keep-requires : goal.keep-requires
 keep-requires c =
-    rw c.in_ok-pairs.ensures (IsKept-merge c.args.part c.args.r.rows c.args.r.cols c.pairs_of.result.now c.pairs_of-2.result.now c.pairs_of.ensures.kept
-    (second_kept c.args.r.rows c.args.r.cols c.args.s.rows c.args.s.cols c.pairs_of-2.result.now c.requires.rows c.requires.cols c.pairs_of-2.ensures.kept))
+    IsKept-IsMerge c.args.part c.args.r.rows c.args.r.cols c.pairs_of.result.now c.pairs_of-2.result.now c.in_ok-pairs.pairs.items c.in_ok-pairs.ensures c.pairs_of.ensures.kept
+    (second_kept c.args.r.rows c.args.r.cols c.args.s.rows c.args.s.cols c.pairs_of-2.result.now c.requires.rows c.requires.cols c.pairs_of-2.ensures.kept)
 
 pub returns-clause-value : goal.returns-clause-value
 returns-clause-value c =
     let m = c.args.r.rows in
     let n = c.args.r.cols in
     let e : relation_of m n (has (second m n c.in_ok-pairs.pairs.items)) ≡ relation_of m n (λ i j. picked c.args.part (has (set_of (worker_of c.args.self.now) c.args.r) i j) (has (set_of (worker_of c.args.self.now) c.args.s) i j)) =
-    ap (λ ps. relation_of m n (has (second m n ps))) c.in_ok-pairs.ensures
-    ∙ relation_of-merge c.args.part m n c.pairs_of.result.now c.pairs_of-2.result.now c.pairs_of.ensures.kept.valid.increasing c.pairs_of-2.ensures.kept.valid.increasing
+    relation_of-IsMerge c.args.part m n c.pairs_of.result.now c.pairs_of-2.result.now c.in_ok-pairs.pairs.items c.in_ok-pairs.ensures
     (set_of (worker_of c.args.self.now) c.args.r) (set_of (worker_of c.args.self.now) c.args.s) c.pairs_of.ensures.means
     (c.pairs_of-2.ensures.means ∙ second_means m n c.args.s.rows c.args.s.cols c.pairs_of-2.result.now c.requires.rows c.requires.cols) in
     subst (λ v. IfOk c.keep.result (Gives (worker_of c.keep.new.self) m n v)) e c.keep.ensures.value

@@ -1,8 +1,7 @@
-use Rattle.std.proofs.Common.{rules, ◌≡◌, ◌++◌, [], ◌∷◌, length, refl, sym, ap, subst, ◌∙◌, arith}
-use Rattle.rel_model.specs.declared.Rel.{Rel}
-use Rattle.rel_model.specs.Worker.{Worker, Stands}
+use Rattle.std.proofs.Common.{◌≡◌, length, refl, sym, subst, arith}
+use Rattle.rel_model.specs.Worker.{Stands}
 use Rattle.rel_model.specs.Relation.{Relation}
-use Rattle.rel_plain.specs.Kept.{relation_at, worker_of}
+use Rattle.rel_plain.specs.Kept.{worker_of}
 use Rattle.rel_plain.proofs.Keeping.{relation_at-push, relation_at-last}
 use Rattle.rel_plain.proofs.plain.Plain.keep.Goals as goal
 

@@ -1,7 +1,7 @@
-use Rattle.std.proofs.Common.{◌≡◌, ◌<◌, [], sym, ap, subst, ◌∙◌, arith, length, get_or}
+use Rattle.std.proofs.Common.{◌≡◌, [], sym, ap, subst, ◌∙◌, arith, length, get_or}
 use Rattle.std.proofs.lemmas.Option.{slice_get_within, get_or_from_slice_get}
 use Rattle.std.specs.Prelude.{unwrap_or}
-use Rattle.rel_model.specs.Relation.{Relation, has, relation_of}
+use Rattle.rel_model.specs.Relation.{has, relation_of}
 use Rattle.rel_plain.specs.Kept.{IsKept}
 use Rattle.rel_plain.specs.KeptLaws.{Standing, standing}
 use Rattle.rel_plain.proofs.plain.Plain.pairs_of.Goals as goal

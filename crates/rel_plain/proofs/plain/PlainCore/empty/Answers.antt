@@ -1,6 +1,7 @@
-use Rattle.std.proofs.Common.{◌∙◌, ap, subst}
+use Rattle.std.proofs.Common.{◌∙◌, ap}
 use Rattle.rel_model.specs.Relation.{has, relation_of}
-use Rattle.rel_plain.proofs.Operating.{gives_same, stored, empty_is}
+use Rattle.rel_plain.proofs.Operating.{gives_same, empty_is}
+use Rattle.rel_plain.proofs.Stored.{stored}
 use Rattle.rel_plain.proofs.plain.PlainCore.empty.Goals as goal
 
 pub returns-clause-value : goal.returns-clause-value

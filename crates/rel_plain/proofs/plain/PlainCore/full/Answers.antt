@@ -1,6 +1,8 @@
-use Rattle.std.proofs.Common.{◌∙◌, ap, subst}
+use Rattle.std.proofs.Common.{◌∙◌, ap}
 use Rattle.rel_model.specs.Relation.{has, relation_of}
-use Rattle.rel_plain.proofs.Operating.{gives_same, stored, full_is, IsKept-full}
+use Rattle.rel_plain.proofs.Operating.{gives_same}
+use Rattle.rel_plain.proofs.Stored.{stored}
+use Rattle.rel_plain.proofs.Filling.{full_is, IsKept-full}
 use Rattle.rel_plain.proofs.plain.PlainCore.full.Goals as goal
 
 pub keep-requires : goal.keep-requires

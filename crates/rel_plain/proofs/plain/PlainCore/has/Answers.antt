@@ -1,7 +1,7 @@
 use Rattle.std.proofs.Common.{◌∙◌, ap, sym}
-use Rattle.rel_model.specs.Relation.{has, relation_of}
+use Rattle.rel_model.specs.Relation.{has}
 use Rattle.rel_model.proofs.Relations.{has-relation_of}
-use Rattle.rel_plain.proofs.Operating.{stored}
+use Rattle.rel_plain.proofs.Stored.{stored}
 use Rattle.rel_plain.proofs.plain.PlainCore.has.Goals as goal
 
 pub returns-clause-value : goal.returns-clause-value

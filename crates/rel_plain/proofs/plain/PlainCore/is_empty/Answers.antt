@@ -1,4 +1,4 @@
-use Rattle.rel_plain.proofs.Operating.{empty_decides}
+use Rattle.rel_plain.proofs.Comparing.{empty_decides}
 use Rattle.rel_plain.proofs.plain.PlainCore.is_empty.Goals as goal
 
 pub returns : goal.returns

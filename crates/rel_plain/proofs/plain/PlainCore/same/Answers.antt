@@ -1,4 +1,4 @@
-use Rattle.rel_plain.proofs.Operating.{same_decides}
+use Rattle.rel_plain.proofs.Comparing.{same_decides}
 use Rattle.rel_plain.proofs.plain.PlainCore.same.Goals as goal
 
 pub returns : goal.returns

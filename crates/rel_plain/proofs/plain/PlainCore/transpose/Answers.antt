@@ -1,8 +1,8 @@
-use Rattle.std.proofs.Common.{◌∙◌, ap, subst}
 use Rattle.rel_model.specs.Worker.{set_of}
 use Rattle.rel_plain.specs.Kept.{worker_of}
 use Rattle.rel_plain.specs.KeptLaws.{rows_law, cols_law}
-use Rattle.rel_plain.proofs.Operating.{gives_same, stored, transpose_is, IsKept-turned}
+use Rattle.rel_plain.proofs.Operating.{gives_same}
+use Rattle.rel_plain.proofs.Turning.{transpose_is, IsKept-turned}
 use Rattle.rel_plain.proofs.plain.PlainCore.transpose.Goals as goal
 
 pub keep-requires : goal.keep-requires
