@@ -1,15 +1,12 @@
 -- What stands after a relation is kept.
-use Rattle.std.proofs.Common.{◌≡◌, ◌≤◌, ◌<◌, ◌+◌, ◌^◌, ◌&&◌, ℕ, Bool, true, false, cond, eqb, leb, List, [], ◌∷◌, ◌++◌, length, get_or, Option, Some, None, refl, sym, ap, subst, ◌∙◌, arith, rules, zero, suc}
+use Rattle.std.proofs.Common.{◌≡◌, ℕ, cond, List, [], ◌∷◌, ◌++◌, length, Some, None, refl, sym, ap, ◌∙◌, zero, suc}
 use Rattle.std.proofs.lemmas.Bool.{and_from, eq-eqb, le-leb}
-use Rattle.std.proofs.lemmas.Option.{slice_get_within, slice_get-get_or, get_or_from_slice_get}
-use Rattle.std.specs.Prelude.{IsSome, slice_get, unwrap_or, option_and_then}
-use Rattle.std.proofs.Math.ListN.{get_or-append}
-use Rattle.std.proofs.Math.Seq.{get_or-append_seam}
+use Rattle.std.specs.Prelude.{slice_get, option_and_then}
 use Rattle.rel_model.specs.declared.Rel.{Rel}
-use Rattle.rel_model.specs.Relation.{Relation, IsRelation, has, relation_of, size_limit}
-use Rattle.rel_model.specs.Worker.{Worker, Stands, set_of}
+use Rattle.rel_model.specs.Relation.{Relation, has, relation_of, size_limit}
+use Rattle.rel_model.specs.Worker.{Stands}
 use Rattle.rel_plain.specs.Kept.{IsKept, kept_as, relation_at, worker_of}
-use Rattle.rel_plain.specs.KeptLaws.{Standing, standing}
+use Rattle.rel_plain.specs.KeptLaws.{standing}
 
 slice_get-push : {X : Type 0} (xs : List X) (x : X) → slice_get (xs ++ x ∷ []) (length xs) ≡ Some x
 slice_get-push [] x = refl

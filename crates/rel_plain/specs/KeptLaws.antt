@@ -1,10 +1,10 @@
 -- What stands, as the trait's laws want it.
-use Rattle.std.proofs.Common.{◌≡◌, ◌≤◌, ◌<◌, ◌+◌, ◌^◌, ◌&&◌, ℕ, Bool, true, false, cond, eqb, leb, List, [], ◌∷◌, ◌++◌, length, Option, Some, None, refl, sym, ap, subst, ◌∙◌, arith, rules}
-use Rattle.std.proofs.lemmas.Bool.{cases_Bool, and_parts, eqb-true, leb-true, false≢true}
+use Rattle.std.proofs.Common.{◌≡◌, ◌≤◌, ◌&&◌, Bool, true, false, cond, eqb, leb, List, [], Option, Some, None, refl, sym, ap, subst, ◌∙◌}
+use Rattle.std.proofs.lemmas.Bool.{and_parts, eqb-true, leb-true, false≢true}
 use Rattle.std.specs.Prelude.{IsSome, slice_get, unwrap_or, option_and_then}
 use Rattle.rel_model.specs.declared.Rel.{Rel}
 use Rattle.rel_model.specs.Relation.{Relation, IsRelation, has, relation_of, size_limit}
-use Rattle.rel_model.specs.Worker.{Worker, Stands, set_of}
+use Rattle.rel_model.specs.Worker.{Stands, set_of}
 use Rattle.rel_model.proofs.Relations.{IsRelation-relation_of, rows-relation_of, cols-relation_of}
 use Rattle.rel_plain.specs.Kept.{kept_as, relation_at, worker_of}
 
@@ -18,6 +18,7 @@ pub record Standing (ks : List Relation) (r : Rel) : Type 0 where
   pub col_limit : r.cols ≤ size_limit
   pub means : relation_at ks r ≡ Some (relation_of r.rows r.cols (has kept))
 
+-- a relation that stands is a kept one of its sizes, within the limit
 pub standing : (ks : List Relation) (r : Rel) → Stands (worker_of ks) r → Standing ks r
 unfolding relation_at
 standing ks r h = by_place (slice_get ks r.root) refl h
@@ -42,20 +43,26 @@ standing ks r h = by_place (slice_get ks r.root) refl h
     by_place None at s = absurd (false≢true s)
     by_place (Some k) at s = by_test k at _ refl s
 
+-- its set is the kept one, by membership
 set_is : (ks : List Relation) (r : Rel) (s : Standing ks r) → set_of (worker_of ks) r ≡ relation_of r.rows r.cols (has s.kept)
 set_is ks r s = ap (λ o. unwrap_or o (record { rows = 0; cols = 0; pairs = [] })) s.means
 
+-- what stands is a relation
 pub valid_law : (ks : List Relation) (r : Rel) → Stands (worker_of ks) r → IsRelation (set_of (worker_of ks) r)
 valid_law ks r h = let s = standing ks r h in subst IsRelation (sym (set_is ks r s)) (IsRelation-relation_of r.rows r.cols (has s.kept))
 
+-- it has as many rows as its name says
 pub rows_law : (ks : List Relation) (r : Rel) → Stands (worker_of ks) r → (set_of (worker_of ks) r).rows ≡ r.rows
 rows_law ks r h = let s = standing ks r h in ap (λ x. x.rows) (set_is ks r s) ∙ rows-relation_of r.rows r.cols (has s.kept)
 
+-- it has as many columns as its name says
 pub cols_law : (ks : List Relation) (r : Rel) → Stands (worker_of ks) r → (set_of (worker_of ks) r).cols ≡ r.cols
 cols_law ks r h = let s = standing ks r h in ap (λ x. x.cols) (set_is ks r s) ∙ cols-relation_of r.rows r.cols (has s.kept)
 
+-- its rows are within the limit
 pub row_limit_law : (ks : List Relation) (r : Rel) → Stands (worker_of ks) r → r.rows ≤ size_limit
 row_limit_law ks r h = (standing ks r h).row_limit
 
+-- its columns are within the limit
 pub col_limit_law : (ks : List Relation) (r : Rel) → Stands (worker_of ks) r → r.cols ≤ size_limit
 col_limit_law ks r h = (standing ks r h).col_limit
