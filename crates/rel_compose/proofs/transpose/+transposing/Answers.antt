@@ -1,0 +1,296 @@
+use Rattle.std.proofs.Common.{◌≡◌, ◌<◌, ◌≤◌, ◌+◌, ◌-◌, ◌∙◌, ℕ, Result, Ok, sym, arith}
+use Rattle.rel_model.specs.declared.Quad.{Quad}
+use Rattle.rel_model.specs.Cells.{cells_transpose}
+use Rattle.rel_model.specs.Trees.{bottom_height}
+use Rattle.rel_model.specs.Quads.{Work, QuadStands, IsQuad, KeepsWork, quad_room}
+use Rattle.rel_model.proofs.QuadLaws.{keeps_on, keeps_most, quad_stays, is_quad-stays, rooms-next, room-some}
+use Rattle.rel_compose.proofs.Transposing.{room_below, none_stands, transposed_none, transposed_value, transposed_now}
+use Rattle.rel_compose.proofs.transpose.+transposing.Goals as goal
+
+pub transpose_quad-returns-then-a-eq0-clause-value : goal.transpose_quad-returns-then-a-eq0-clause-value
+transpose_quad-returns-then-a-eq0-clause-value t c = transposed_none c.args.nodes.now c.args.a c.bottom-bottom.ensures.work c.requires.stands c.if-a-eq0.true
+
+pub transpose_quad-returns-then-a-bottom-clause-keeps : goal.transpose_quad-returns-then-a-bottom-clause-keeps
+transpose_quad-returns-then-a-bottom-clause-keeps t c =
+    let r = room-some c.args.a.height c.requires.stands.low in
+    let l : 0 + 1 ≤ quad_room c.args.a.height = omega (arith, r) in
+    keeps_most (0 + 1) (quad_room c.args.a.height) c.args.nodes.now c.block.new.self l (keeps_on 0 1 c.args.nodes.now c.bits-bits.new.self c.block.new.self c.bits-bits.ensures.reads.keeps c.block.ensures.keeps)
+
+pub transposed_over-quarters-requires-clause-stands : goal.transposed_over-quarters-requires-clause-stands
+transposed_over-quarters-requires-clause-stands t c = quad_stays 0 c.args.nodes.now c.look.new.self c.args.a c.look.ensures.reads.keeps c.requires.stands
+
+pub transposed_over-returns-in_err-nw-clause-keeps : goal.transposed_over-returns-in_err-nw-clause-keeps
+transposed_over-returns-in_err-nw-clause-keeps t c =
+    let s0 = c.args.nodes.now in
+    let s1 = c.look.new.self in
+    let s2 = c.quarters.new.self in
+    let s3 = c.transpose_quad.new.nodes in
+    let q = c.quarters.ensures.quarters in
+    let h : ℕ = c.args.a.height in
+    let m : ℕ = quad_room (h - 1) in
+    let k0 = keeps_on 0 0 s0 s1 s2 c.look.ensures.reads.keeps c.quarters.ensures.reads.keeps in
+    let k1 = keeps_on (0 + 0) m s0 s2 s3 k0 (room_below h c.quarters.result.0.height s2 s3 q.nw_height c.in_err-nw.ensures.keeps) in
+    let r = rooms-next h c.requires.over in
+    let l : 0 + 0 + m ≤ quad_room h = omega (arith, r) in
+    keeps_most (0 + 0 + m) (quad_room h) s0 s3 l k1
+
+pub transposed_over-transpose_quad-requires-2 : goal.transposed_over-transpose_quad-requires-2
+transposed_over-transpose_quad-requires-2 t c =
+    let s0 = c.args.nodes.now in
+    let s1 = c.look.new.self in
+    let s2 = c.quarters.new.self in
+    let s3 = c.transpose_quad.new.nodes in
+    let q = c.quarters.ensures.quarters in
+    let falls = q.sw_height in
+    (omega arith, (quad_stays _ s2 s3 c.quarters.result.2 c.in_ok-nw.ensures.keeps q.sw))
+
+pub transposed_over-returns-in_err-ne-clause-keeps : goal.transposed_over-returns-in_err-ne-clause-keeps
+transposed_over-returns-in_err-ne-clause-keeps t c =
+    let s0 = c.args.nodes.now in
+    let s1 = c.look.new.self in
+    let s2 = c.quarters.new.self in
+    let s3 = c.transpose_quad.new.nodes in
+    let s4 = c.transpose_quad-2.new.nodes in
+    let q = c.quarters.ensures.quarters in
+    let h : ℕ = c.args.a.height in
+    let m : ℕ = quad_room (h - 1) in
+    let k0 = keeps_on 0 0 s0 s1 s2 c.look.ensures.reads.keeps c.quarters.ensures.reads.keeps in
+    let k1 = keeps_on (0 + 0) m s0 s2 s3 k0 (room_below h c.quarters.result.0.height s2 s3 q.nw_height c.in_ok-nw.ensures.keeps) in
+    let k2 = keeps_on (0 + 0 + m) m s0 s3 s4 k1 (room_below h c.quarters.result.2.height s3 s4 q.sw_height c.in_err-ne.ensures.keeps) in
+    let r = rooms-next h c.requires.over in
+    let l : 0 + 0 + m + m ≤ quad_room h = omega (arith, r) in
+    keeps_most (0 + 0 + m + m) (quad_room h) s0 s4 l k2
+
+pub transposed_over-transpose_quad-requires-3 : goal.transposed_over-transpose_quad-requires-3
+transposed_over-transpose_quad-requires-3 t c =
+    let s0 = c.args.nodes.now in
+    let s1 = c.look.new.self in
+    let s2 = c.quarters.new.self in
+    let s3 = c.transpose_quad.new.nodes in
+    let s4 = c.transpose_quad-2.new.nodes in
+    let q = c.quarters.ensures.quarters in
+    let falls = q.ne_height in
+    (omega arith, (quad_stays _ s3 s4 c.quarters.result.1 c.in_ok-ne.ensures.keeps (quad_stays _ s2 s3 c.quarters.result.1 c.in_ok-nw.ensures.keeps q.ne)))
+
+pub transposed_over-returns-in_err-sw-clause-keeps : goal.transposed_over-returns-in_err-sw-clause-keeps
+transposed_over-returns-in_err-sw-clause-keeps t c =
+    let s0 = c.args.nodes.now in
+    let s1 = c.look.new.self in
+    let s2 = c.quarters.new.self in
+    let s3 = c.transpose_quad.new.nodes in
+    let s4 = c.transpose_quad-2.new.nodes in
+    let s5 = c.transpose_quad-3.new.nodes in
+    let q = c.quarters.ensures.quarters in
+    let h : ℕ = c.args.a.height in
+    let m : ℕ = quad_room (h - 1) in
+    let k0 = keeps_on 0 0 s0 s1 s2 c.look.ensures.reads.keeps c.quarters.ensures.reads.keeps in
+    let k1 = keeps_on (0 + 0) m s0 s2 s3 k0 (room_below h c.quarters.result.0.height s2 s3 q.nw_height c.in_ok-nw.ensures.keeps) in
+    let k2 = keeps_on (0 + 0 + m) m s0 s3 s4 k1 (room_below h c.quarters.result.2.height s3 s4 q.sw_height c.in_ok-ne.ensures.keeps) in
+    let k3 = keeps_on (0 + 0 + m + m) m s0 s4 s5 k2 (room_below h c.quarters.result.1.height s4 s5 q.ne_height c.in_err-sw.ensures.keeps) in
+    let r = rooms-next h c.requires.over in
+    let l : 0 + 0 + m + m + m ≤ quad_room h = omega (arith, r) in
+    keeps_most (0 + 0 + m + m + m) (quad_room h) s0 s5 l k3
+
+pub transposed_over-transpose_quad-requires-4 : goal.transposed_over-transpose_quad-requires-4
+transposed_over-transpose_quad-requires-4 t c =
+    let s0 = c.args.nodes.now in
+    let s1 = c.look.new.self in
+    let s2 = c.quarters.new.self in
+    let s3 = c.transpose_quad.new.nodes in
+    let s4 = c.transpose_quad-2.new.nodes in
+    let s5 = c.transpose_quad-3.new.nodes in
+    let q = c.quarters.ensures.quarters in
+    let falls = q.se_height in
+    (omega arith, (quad_stays _ s4 s5 c.quarters.result.3 c.in_ok-sw.ensures.keeps (quad_stays _ s3 s4 c.quarters.result.3 c.in_ok-ne.ensures.keeps (quad_stays _ s2 s3 c.quarters.result.3 c.in_ok-nw.ensures.keeps q.se))))
+
+pub transposed_over-returns-in_err-se-clause-keeps : goal.transposed_over-returns-in_err-se-clause-keeps
+transposed_over-returns-in_err-se-clause-keeps t c =
+    let s0 = c.args.nodes.now in
+    let s1 = c.look.new.self in
+    let s2 = c.quarters.new.self in
+    let s3 = c.transpose_quad.new.nodes in
+    let s4 = c.transpose_quad-2.new.nodes in
+    let s5 = c.transpose_quad-3.new.nodes in
+    let s6 = c.transpose_quad-4.new.nodes in
+    let q = c.quarters.ensures.quarters in
+    let h : ℕ = c.args.a.height in
+    let m : ℕ = quad_room (h - 1) in
+    let k0 = keeps_on 0 0 s0 s1 s2 c.look.ensures.reads.keeps c.quarters.ensures.reads.keeps in
+    let k1 = keeps_on (0 + 0) m s0 s2 s3 k0 (room_below h c.quarters.result.0.height s2 s3 q.nw_height c.in_ok-nw.ensures.keeps) in
+    let k2 = keeps_on (0 + 0 + m) m s0 s3 s4 k1 (room_below h c.quarters.result.2.height s3 s4 q.sw_height c.in_ok-ne.ensures.keeps) in
+    let k3 = keeps_on (0 + 0 + m + m) m s0 s4 s5 k2 (room_below h c.quarters.result.1.height s4 s5 q.ne_height c.in_ok-sw.ensures.keeps) in
+    let k4 = keeps_on (0 + 0 + m + m + m) m s0 s5 s6 k3 (room_below h c.quarters.result.3.height s5 s6 q.se_height c.in_err-se.ensures.keeps) in
+    let r = rooms-next h c.requires.over in
+    let l : 0 + 0 + m + m + m + m ≤ quad_room h = omega (arith, r) in
+    keeps_most (0 + 0 + m + m + m + m) (quad_room h) s0 s6 l k4
+
+pub transposed_over-corner-requires-clause-nw_stands : goal.transposed_over-corner-requires-clause-nw_stands
+transposed_over-corner-requires-clause-nw_stands t c =
+    let s0 = c.args.nodes.now in
+    let s1 = c.look.new.self in
+    let s2 = c.quarters.new.self in
+    let s3 = c.transpose_quad.new.nodes in
+    let s4 = c.transpose_quad-2.new.nodes in
+    let s5 = c.transpose_quad-3.new.nodes in
+    let s6 = c.transpose_quad-4.new.nodes in
+    (quad_stays _ s5 s6 c.in_ok-nw.nw c.in_ok-se.ensures.keeps (quad_stays _ s4 s5 c.in_ok-nw.nw c.in_ok-sw.ensures.keeps (quad_stays _ s3 s4 c.in_ok-nw.nw c.in_ok-ne.ensures.keeps c.in_ok-nw.ensures.value.stands)))
+
+pub transposed_over-corner-requires-clause-ne_stands : goal.transposed_over-corner-requires-clause-ne_stands
+transposed_over-corner-requires-clause-ne_stands t c =
+    let s0 = c.args.nodes.now in
+    let s1 = c.look.new.self in
+    let s2 = c.quarters.new.self in
+    let s3 = c.transpose_quad.new.nodes in
+    let s4 = c.transpose_quad-2.new.nodes in
+    let s5 = c.transpose_quad-3.new.nodes in
+    let s6 = c.transpose_quad-4.new.nodes in
+    (quad_stays _ s5 s6 c.in_ok-ne.ne c.in_ok-se.ensures.keeps (quad_stays _ s4 s5 c.in_ok-ne.ne c.in_ok-sw.ensures.keeps c.in_ok-ne.ensures.value.stands))
+
+pub transposed_over-corner-requires-clause-sw_stands : goal.transposed_over-corner-requires-clause-sw_stands
+transposed_over-corner-requires-clause-sw_stands t c =
+    let s0 = c.args.nodes.now in
+    let s1 = c.look.new.self in
+    let s2 = c.quarters.new.self in
+    let s3 = c.transpose_quad.new.nodes in
+    let s4 = c.transpose_quad-2.new.nodes in
+    let s5 = c.transpose_quad-3.new.nodes in
+    let s6 = c.transpose_quad-4.new.nodes in
+    (quad_stays _ s5 s6 c.in_ok-sw.sw c.in_ok-se.ensures.keeps c.in_ok-sw.ensures.value.stands)
+
+pub transposed_over-returns-in_err-found-clause-keeps : goal.transposed_over-returns-in_err-found-clause-keeps
+transposed_over-returns-in_err-found-clause-keeps t c =
+    let s0 = c.args.nodes.now in
+    let s1 = c.look.new.self in
+    let s2 = c.quarters.new.self in
+    let s3 = c.transpose_quad.new.nodes in
+    let s4 = c.transpose_quad-2.new.nodes in
+    let s5 = c.transpose_quad-3.new.nodes in
+    let s6 = c.transpose_quad-4.new.nodes in
+    let s7 = c.corner.new.self in
+    let q = c.quarters.ensures.quarters in
+    let h : ℕ = c.args.a.height in
+    let m : ℕ = quad_room (h - 1) in
+    let k0 = keeps_on 0 0 s0 s1 s2 c.look.ensures.reads.keeps c.quarters.ensures.reads.keeps in
+    let k1 = keeps_on (0 + 0) m s0 s2 s3 k0 (room_below h c.quarters.result.0.height s2 s3 q.nw_height c.in_ok-nw.ensures.keeps) in
+    let k2 = keeps_on (0 + 0 + m) m s0 s3 s4 k1 (room_below h c.quarters.result.2.height s3 s4 q.sw_height c.in_ok-ne.ensures.keeps) in
+    let k3 = keeps_on (0 + 0 + m + m) m s0 s4 s5 k2 (room_below h c.quarters.result.1.height s4 s5 q.ne_height c.in_ok-sw.ensures.keeps) in
+    let k4 = keeps_on (0 + 0 + m + m + m) m s0 s5 s6 k3 (room_below h c.quarters.result.3.height s5 s6 q.se_height c.in_ok-se.ensures.keeps) in
+    let r = rooms-next h c.requires.over in
+    let k5 = keeps_on (0 + 0 + m + m + m + m) 3 s0 s6 s7 k4 c.in_err-found.ensures.keeps in
+    let l : 0 + 0 + m + m + m + m + 3 ≤ quad_room h = omega (arith, r) in
+    keeps_most (0 + 0 + m + m + m + m + 3) (quad_room h) s0 s7 l k5
+
+pub transposed_over-returns-clause-keeps : goal.transposed_over-returns-clause-keeps
+transposed_over-returns-clause-keeps t c =
+    let s0 = c.args.nodes.now in
+    let s1 = c.look.new.self in
+    let s2 = c.quarters.new.self in
+    let s3 = c.transpose_quad.new.nodes in
+    let s4 = c.transpose_quad-2.new.nodes in
+    let s5 = c.transpose_quad-3.new.nodes in
+    let s6 = c.transpose_quad-4.new.nodes in
+    let s7 = c.corner.new.self in
+    let s8 = c.note.new.self in
+    let q = c.quarters.ensures.quarters in
+    let h : ℕ = c.args.a.height in
+    let m : ℕ = quad_room (h - 1) in
+    let k0 = keeps_on 0 0 s0 s1 s2 c.look.ensures.reads.keeps c.quarters.ensures.reads.keeps in
+    let k1 = keeps_on (0 + 0) m s0 s2 s3 k0 (room_below h c.quarters.result.0.height s2 s3 q.nw_height c.in_ok-nw.ensures.keeps) in
+    let k2 = keeps_on (0 + 0 + m) m s0 s3 s4 k1 (room_below h c.quarters.result.2.height s3 s4 q.sw_height c.in_ok-ne.ensures.keeps) in
+    let k3 = keeps_on (0 + 0 + m + m) m s0 s4 s5 k2 (room_below h c.quarters.result.1.height s4 s5 q.ne_height c.in_ok-sw.ensures.keeps) in
+    let k4 = keeps_on (0 + 0 + m + m + m) m s0 s5 s6 k3 (room_below h c.quarters.result.3.height s5 s6 q.se_height c.in_ok-se.ensures.keeps) in
+    let r = rooms-next h c.requires.over in
+    let k5 = keeps_on (0 + 0 + m + m + m + m) 3 s0 s6 s7 k4 c.in_ok-found.ensures.keeps in
+    let k6 = keeps_on (0 + 0 + m + m + m + m + 3) 0 s0 s7 s8 k5 c.note.ensures.reads.keeps in
+    let l : 0 + 0 + m + m + m + m + 3 + 0 ≤ quad_room h = omega (arith, r) in
+    keeps_most (0 + 0 + m + m + m + m + 3 + 0) (quad_room h) s0 s8 l k6
+
+pub transposed_over-note-requires-clause-a_stands : goal.transposed_over-note-requires-clause-a_stands
+transposed_over-note-requires-clause-a_stands t c =
+    let s0 = c.args.nodes.now in
+    let s1 = c.look.new.self in
+    let s2 = c.quarters.new.self in
+    let s3 = c.transpose_quad.new.nodes in
+    let s4 = c.transpose_quad-2.new.nodes in
+    let s5 = c.transpose_quad-3.new.nodes in
+    let s6 = c.transpose_quad-4.new.nodes in
+    let s7 = c.corner.new.self in
+    let q = c.quarters.ensures.quarters in
+    let h : ℕ = c.args.a.height in
+    let m : ℕ = quad_room (h - 1) in
+    let k0 = keeps_on 0 0 s0 s1 s2 c.look.ensures.reads.keeps c.quarters.ensures.reads.keeps in
+    let k1 = keeps_on (0 + 0) m s0 s2 s3 k0 (room_below h c.quarters.result.0.height s2 s3 q.nw_height c.in_ok-nw.ensures.keeps) in
+    let k2 = keeps_on (0 + 0 + m) m s0 s3 s4 k1 (room_below h c.quarters.result.2.height s3 s4 q.sw_height c.in_ok-ne.ensures.keeps) in
+    let k3 = keeps_on (0 + 0 + m + m) m s0 s4 s5 k2 (room_below h c.quarters.result.1.height s4 s5 q.ne_height c.in_ok-sw.ensures.keeps) in
+    let k4 = keeps_on (0 + 0 + m + m + m) m s0 s5 s6 k3 (room_below h c.quarters.result.3.height s5 s6 q.se_height c.in_ok-se.ensures.keeps) in
+    let k5 = keeps_on (0 + 0 + m + m + m + m) 3 s0 s6 s7 k4 c.in_ok-found.ensures.keeps in
+    quad_stays (0 + 0 + m + m + m + m + 3) s0 s7 c.args.a k5 c.requires.stands
+
+pub transposed_over-note-requires-clause-b_stands : goal.transposed_over-note-requires-clause-b_stands
+transposed_over-note-requires-clause-b_stands t c =
+    let s0 = c.args.nodes.now in
+    let s1 = c.look.new.self in
+    let s2 = c.quarters.new.self in
+    let s3 = c.transpose_quad.new.nodes in
+    let s4 = c.transpose_quad-2.new.nodes in
+    let s5 = c.transpose_quad-3.new.nodes in
+    let s6 = c.transpose_quad-4.new.nodes in
+    let s7 = c.corner.new.self in
+    let q = c.quarters.ensures.quarters in
+    let h : ℕ = c.args.a.height in
+    let m : ℕ = quad_room (h - 1) in
+    let k0 = keeps_on 0 0 s0 s1 s2 c.look.ensures.reads.keeps c.quarters.ensures.reads.keeps in
+    let k1 = keeps_on (0 + 0) m s0 s2 s3 k0 (room_below h c.quarters.result.0.height s2 s3 q.nw_height c.in_ok-nw.ensures.keeps) in
+    let k2 = keeps_on (0 + 0 + m) m s0 s3 s4 k1 (room_below h c.quarters.result.2.height s3 s4 q.sw_height c.in_ok-ne.ensures.keeps) in
+    let k3 = keeps_on (0 + 0 + m + m) m s0 s4 s5 k2 (room_below h c.quarters.result.1.height s4 s5 q.ne_height c.in_ok-sw.ensures.keeps) in
+    let k4 = keeps_on (0 + 0 + m + m + m) m s0 s5 s6 k3 (room_below h c.quarters.result.3.height s5 s6 q.se_height c.in_ok-se.ensures.keeps) in
+    let k5 = keeps_on (0 + 0 + m + m + m + m) 3 s0 s6 s7 k4 c.in_ok-found.ensures.keeps in
+    none_stands s7 c.args.a (quad_stays (0 + 0 + m + m + m + m + 3) s0 s7 c.args.a k5 c.requires.stands)
+
+pub transposed_over-note-requires-clause-holds : goal.transposed_over-note-requires-clause-holds
+transposed_over-note-requires-clause-holds t c =
+    let s0 = c.args.nodes.now in
+    let s1 = c.look.new.self in
+    let s2 = c.quarters.new.self in
+    let s3 = c.transpose_quad.new.nodes in
+    let s4 = c.transpose_quad-2.new.nodes in
+    let s5 = c.transpose_quad-3.new.nodes in
+    let s6 = c.transpose_quad-4.new.nodes in
+    let s7 = c.corner.new.self in
+    let q = c.quarters.ensures.quarters in
+    let h : ℕ = c.args.a.height in
+    let m : ℕ = quad_room (h - 1) in
+    let k0 = keeps_on 0 0 s0 s1 s2 c.look.ensures.reads.keeps c.quarters.ensures.reads.keeps in
+    let k1 = keeps_on (0 + 0) m s0 s2 s3 k0 (room_below h c.quarters.result.0.height s2 s3 q.nw_height c.in_ok-nw.ensures.keeps) in
+    let k2 = keeps_on (0 + 0 + m) m s0 s3 s4 k1 (room_below h c.quarters.result.2.height s3 s4 q.sw_height c.in_ok-ne.ensures.keeps) in
+    let k3 = keeps_on (0 + 0 + m + m) m s0 s4 s5 k2 (room_below h c.quarters.result.1.height s4 s5 q.ne_height c.in_ok-sw.ensures.keeps) in
+    let k4 = keeps_on (0 + 0 + m + m + m) m s0 s5 s6 k3 (room_below h c.quarters.result.3.height s5 s6 q.se_height c.in_ok-se.ensures.keeps) in
+    let k5 = keeps_on (0 + 0 + m + m + m + m) 3 s0 s6 s7 k4 c.in_ok-found.ensures.keeps in
+    let v = transposed_value {E = Unit {0}} _ _ _ _ s0 s1 s2 s3 s4 s5 s6 s7 c.args.a c.quarters.result c.in_ok-nw.nw c.in_ok-ne.ne c.in_ok-sw.sw c.in_ok-se.se (Ok c.in_ok-found.found)
+        c.requires.stands c.look.ensures.reads.keeps q c.in_ok-nw.ensures.keeps c.in_ok-ne.ensures.keeps c.in_ok-sw.ensures.keeps c.in_ok-se.ensures.keeps
+        c.in_ok-nw.ensures.value c.in_ok-ne.ensures.value c.in_ok-sw.ensures.value c.in_ok-se.ensures.value c.in_ok-found.ensures.value in
+    transposed_now (0 + 0 + m + m + m + m + 3) s0 s7 c.args.a c.in_ok-found.found k5 c.requires.stands v
+
+pub transposed_over-returns-clause-value : goal.transposed_over-returns-clause-value
+transposed_over-returns-clause-value t c =
+    let s0 = c.args.nodes.now in
+    let s1 = c.look.new.self in
+    let s2 = c.quarters.new.self in
+    let s3 = c.transpose_quad.new.nodes in
+    let s4 = c.transpose_quad-2.new.nodes in
+    let s5 = c.transpose_quad-3.new.nodes in
+    let s6 = c.transpose_quad-4.new.nodes in
+    let s7 = c.corner.new.self in
+    let q = c.quarters.ensures.quarters in
+    let h : ℕ = c.args.a.height in
+    let m : ℕ = quad_room (h - 1) in
+    let k0 = keeps_on 0 0 s0 s1 s2 c.look.ensures.reads.keeps c.quarters.ensures.reads.keeps in
+    let k1 = keeps_on (0 + 0) m s0 s2 s3 k0 (room_below h c.quarters.result.0.height s2 s3 q.nw_height c.in_ok-nw.ensures.keeps) in
+    let k2 = keeps_on (0 + 0 + m) m s0 s3 s4 k1 (room_below h c.quarters.result.2.height s3 s4 q.sw_height c.in_ok-ne.ensures.keeps) in
+    let k3 = keeps_on (0 + 0 + m + m) m s0 s4 s5 k2 (room_below h c.quarters.result.1.height s4 s5 q.ne_height c.in_ok-sw.ensures.keeps) in
+    let k4 = keeps_on (0 + 0 + m + m + m) m s0 s5 s6 k3 (room_below h c.quarters.result.3.height s5 s6 q.se_height c.in_ok-se.ensures.keeps) in
+    let k5 = keeps_on (0 + 0 + m + m + m + m) 3 s0 s6 s7 k4 c.in_ok-found.ensures.keeps in
+    let v = transposed_value {E = Unit {0}} _ _ _ _ s0 s1 s2 s3 s4 s5 s6 s7 c.args.a c.quarters.result c.in_ok-nw.nw c.in_ok-ne.ne c.in_ok-sw.sw c.in_ok-se.se (Ok c.in_ok-found.found)
+        c.requires.stands c.look.ensures.reads.keeps q c.in_ok-nw.ensures.keeps c.in_ok-ne.ensures.keeps c.in_ok-sw.ensures.keeps c.in_ok-se.ensures.keeps
+        c.in_ok-nw.ensures.value c.in_ok-ne.ensures.value c.in_ok-sw.ensures.value c.in_ok-se.ensures.value c.in_ok-found.ensures.value in
+    is_quad-stays 0 s7 c.note.new.self c.args.a.height _ c.in_ok-found.found c.note.ensures.reads.keeps v

@@ -1,0 +1,56 @@
+//! The transposition, by quarters.
+ghost use Rattle.std.specs.Prelude.{◌≡◌, ◌<◌, IfOk};
+ghost use Rattle.rel_model.specs.Cells.{cells_transpose};
+ghost use Rattle.rel_model.specs.Trees.{bottom_height};
+ghost use Rattle.rel_model.specs.Quads.{Work, QuadStands, IsQuad, quad_cells, KeepsWork, Counts, quad_room};
+
+use leaf_block::block_transpose;
+use memo_laws::Op;
+use pair_table::Missed;
+use quad_nodes::Nodes;
+use rel_model::Quad;
+
+/// Cell (i, j) where (j, i) is in `a`.
+#[cycle(transposing)]
+pub fn transpose_quad(nodes: &mut Nodes, a: Quad) -> Result<Quad, Missed>
+    requires stands { QuadStands nodes.old a }
+    ensures value { IfOk result (IsQuad nodes.new a.height (cells_transpose (quad_cells nodes.old a))) }
+    ensures keeps { KeepsWork (quad_room a.height) nodes.old nodes.new }
+    ensures counts { Counts nodes.old nodes.new result }
+{
+    let bottom = nodes.bottom();
+    if a.name == 0 {
+        return Ok(a);
+    }
+    if a.height == bottom {
+        let bits = nodes.bits(a);
+        return nodes.block(block_transpose(bits));
+    }
+    transposed_over(nodes, a)
+}
+
+/// The same over the blocks: what was noted is looked up, and what was not goes by quarters and is noted.
+#[cycle(transposing)]
+fn transposed_over(nodes: &mut Nodes, a: Quad) -> Result<Quad, Missed>
+    requires stands { QuadStands nodes.old a }
+    requires over { bottom_height < a.height }
+    ensures value { IfOk result (IsQuad nodes.new a.height (cells_transpose (quad_cells nodes.old a))) }
+    ensures keeps { KeepsWork (quad_room a.height) nodes.old nodes.new }
+    ensures counts { Counts nodes.old nodes.new result }
+{
+    let none = Quad {
+        height: a.height,
+        name: 0,
+    };
+    if let Some(found) = nodes.look(Op::Transpose, a, none) {
+        return Ok(found);
+    }
+    let (a_nw, a_ne, a_sw, a_se) = nodes.quarters(a);
+    let nw = transpose_quad(nodes, a_nw)?;
+    let ne = transpose_quad(nodes, a_sw)?;
+    let sw = transpose_quad(nodes, a_ne)?;
+    let se = transpose_quad(nodes, a_se)?;
+    let found = nodes.corner(nw, ne, sw, se)?;
+    nodes.note(Op::Transpose, a, none, found);
+    Ok(found)
+}
