@@ -1,5 +1,0 @@
-pub mod Bits
-pub mod Composes
-pub mod Rects
-pub mod Sets
-pub mod Turns

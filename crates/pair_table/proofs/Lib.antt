@@ -1,6 +1,0 @@
-pub mod Placing
-pub mod Probing
-pub mod Ruling
-pub mod Memoing
-pub mod Ways
-pub mod Wrapping

@@ -1,5 +1,0 @@
-pub mod Probe
-pub mod Rule
-pub mod Tells
-pub mod Held
-pub mod Laws
