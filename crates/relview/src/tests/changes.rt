@@ -43,7 +43,11 @@ const INTERSECTION: &[u8] = b"REL A 2 2 {2:1}.\nPRINT A^&-A.";
 fn the_rules_give_these_pages(rt: HostRuntime) -> Result<(), Fail> {
     for (script, want, status) in [
         (COMPLEMENT, "1.2: 2 x 2\n11\n.1\n", 0),
-        (MISFIT, "1.2: refused: 2:10: | does not fit 3 x 2 and 2 x 3\n", 1),
+        (
+            MISFIT,
+            "1.2: refused: 2:10: | does not fit 3 x 2 and 2 x 3\n",
+            1,
+        ),
         (INTERSECTION, "1.2: 2 x 2\n.1\n..\n", 0),
         (b"PRINT A.", "1.1: refused: 1:7: unknown name A\n", 1),
         (b"# no item", "", 0),

@@ -5,6 +5,7 @@ use rv_io::{MemShelf, StdoutSink};
 use std::alloc::Global;
 use std::io;
 use std::io::Write;
+use std::process::Abort;
 use std::test::Fail;
 
 const USAGE: &str =
@@ -13,33 +14,30 @@ const USAGE: &str =
 /// The most bytes of a script.
 const MEBIBYTE: usize = 1_048_576;
 
+/// Asserts that these words are answered by the usage line alone, and that the shelf is not asked.
+fn assert_usage(rt: &impl Abort, alloc: Global, words: &[&str]) -> Result<(), Fail> {
+    let ran = run_with(alloc, words, b"REL A 1 1 {}. PRINT A.", NEVER, NEVER)?;
+    assert_page(rt, &ran, USAGE, 2, "words that are not taken")?;
+    assert!(rt; !ran.report.ran);
+    assert_eq!(rt; history_of(alloc, &ran)?.as_str(), "");
+    assert_eq!(rt; outcomes_of(alloc, &ran)?.as_str(), "");
+    assert_eq!(rt; ran.report.words.len(), 0);
+    // A shelf whose call 0 fails is not asked.
+    let unasked = run_with(alloc, words, b"", 0, NEVER)?;
+    assert_eq!(rt; unasked.shelf_faults, 0);
+    Ok(())
+}
+
 #[test]
-fn words_other_than_one_script_are_answered_by_the_usage_line(
-    rt: HostRuntime,
-) -> Result<(), Fail> {
+fn words_other_than_one_script_are_answered_by_the_usage_line(rt: HostRuntime) -> Result<(), Fail> {
     let alloc = rt.alloc();
-    for words in [
-        [].as_slice(),
-        ["a.rv", "b.rv"].as_slice(),
-        ["a.rv", "a.rv"].as_slice(),
-        ["a.rv", ""].as_slice(),
-        ["a.rv", "b.rv", "c.rv"].as_slice(),
-        [""].as_slice(),
-        ["-"].as_slice(),
-        ["-a.rv"].as_slice(),
-        ["--history"].as_slice(),
-        ["a.k2"].as_slice(),
-        [".k2"].as_slice(),
-    ] {
-        let ran = run_with(alloc, words, b"REL A 1 1 {}. PRINT A.", NEVER, NEVER)?;
-        assert_page(&rt, &ran, USAGE, 2, "words that are not taken")?;
-        assert!(rt; !ran.report.ran);
-        assert_eq!(rt; history_of(alloc, &ran)?.as_str(), "");
-        assert_eq!(rt; outcomes_of(alloc, &ran)?.as_str(), "");
-        assert_eq!(rt; ran.report.words.len(), 0);
-        // A shelf whose call 0 fails is not asked.
-        let unasked = run_with(alloc, words, b"", 0, NEVER)?;
-        assert_eq!(rt; unasked.shelf_faults, 0);
+    assert_usage(&rt, alloc, &[])?;
+    for word in ["", "-", "-a.rv", "--history", "a.k2", ".k2"] {
+        assert_usage(&rt, alloc, &[word])?;
+    }
+    for second in ["", "a.rv", "b.rv", "-a.rv", "a.k2"] {
+        assert_usage(&rt, alloc, &["a.rv", second])?;
+        assert_usage(&rt, alloc, &["a.rv", "b.rv", second])?;
     }
     Ok(())
 }
@@ -47,7 +45,9 @@ fn words_other_than_one_script_are_answered_by_the_usage_line(
 #[test]
 fn a_file_that_is_not_there_is_named(rt: HostRuntime) -> Result<(), Fail> {
     let alloc = rt.alloc();
-    for name in ["b.rv", "a", "k2", "a.k2x", "a.K2", "A.rv", " ", "a.rv.k2 ", "a-"] {
+    for name in [
+        "b.rv", "a", "k2", "a.k2x", "a.K2", "A.rv", " ", "a.rv.k2 ", "a-",
+    ] {
         let ran = run_with(alloc, &[name], b"PRINT A.", NEVER, NEVER)?;
         let line = format!(in alloc; "relview: cannot read {name}\n")?;
         assert_page(&rt, &ran, line.as_str(), 3, name)?;
@@ -91,7 +91,13 @@ fn each_call_of_the_shelf_that_fails_is_a_file_that_cannot_be_read(
     // 2,025 bytes: call 0 picks, calls 1 and 2 read the bytes, and call 3 sees the end.
     for failing in 0..4 {
         let ran = run_with(alloc, &["a.rv"], script.as_bytes(), failing, NEVER)?;
-        assert_page(&rt, &ran, "relview: cannot read a.rv\n", 3, "a read that failed")?;
+        assert_page(
+            &rt,
+            &ran,
+            "relview: cannot read a.rv\n",
+            3,
+            "a read that failed",
+        )?;
         assert!(rt; !ran.report.ran);
         assert_eq!(rt; outcomes_of(alloc, &ran)?.as_str(), "");
         assert_eq!(rt; ran.shelf_faults, 1, "call {failing}");

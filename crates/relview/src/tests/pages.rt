@@ -68,10 +68,7 @@ fn matrices_have_a_line_for_each_row_and_a_byte_for_each_column(
             "REL A 3 2 {3:2,1,2; 1:1; 3:1}. PRINT A.",
             "1.2: 3 x 2\n1.\n..\n11\n",
         ),
-        (
-            "REL A 1 10 {1:10}. PRINT A.",
-            "1.2: 1 x 10\n.........1\n",
-        ),
+        ("REL A 1 10 {1:10}. PRINT A.", "1.2: 1 x 10\n.........1\n"),
     ] {
         let ran = run(rt.alloc(), script.as_bytes())?;
         assert_page(&rt, &ran, page, 0, script)?;
@@ -114,7 +111,11 @@ fn a_text_that_is_no_script_is_one_refusal_and_no_event(rt: HostRuntime) -> Resu
         assert!(rt; ran.report.ran);
         assert_eq!(rt; history_of(rt.alloc(), &ran)?.as_str(), "", "at {script}");
         let outcomes = "[item 1:1 ;]";
-        assert_eq!(rt; outcomes_of(rt.alloc(), &ran)?.as_str(), outcomes, "at {script}");
+        assert_eq!(rt;
+            outcomes_of(rt.alloc(), &ran)?.as_str(),
+            outcomes,
+            "at {script}"
+        );
     }
     Ok(())
 }
@@ -127,7 +128,8 @@ fn operands_that_do_not_fit_and_unknown_names_are_refused_at_their_places(
         rt.alloc(),
         b"REL A 2 2 {}. REL B 3 3 {}. PRINT A&B. PRINT Z.",
     )?;
-    let page = "1.3: refused: 1:36: & does not fit 2 x 2 and 3 x 3\n1.4: refused: 1:46: unknown name Z\n";
+    let page =
+        "1.3: refused: 1:36: & does not fit 2 x 2 and 3 x 3\n1.4: refused: 1:46: unknown name Z\n";
     assert_page(&rt, &ran, page, 1, "two refusals")?;
     let history = "1.1 assign A 2 x 2;1.2 assign B 3 x 3;1.3 read;1.4 read;";
     assert_eq!(rt; history_of(rt.alloc(), &ran)?.as_str(), history);
@@ -170,14 +172,15 @@ fn the_leftmost_unknown_name_comes_before_any_misfit_and_the_first_misfit_before
 }
 
 #[test]
-fn places_count_lines_and_columns_through_blanks_and_comments(
-    rt: HostRuntime,
-) -> Result<(), Fail> {
+fn places_count_lines_and_columns_through_blanks_and_comments(rt: HostRuntime) -> Result<(), Fail> {
     for (script, text) in [
         ("PRINT Z.", "1.1: refused: 1:7: unknown name Z\n"),
         ("PRINT\nZ.", "1.1: refused: 2:1: unknown name Z\n"),
         ("PRINT\n\n  Z.", "1.1: refused: 3:3: unknown name Z\n"),
-        ("# PRINT A.\nPRINT Z.", "1.1: refused: 2:7: unknown name Z\n"),
+        (
+            "# PRINT A.\nPRINT Z.",
+            "1.1: refused: 2:7: unknown name Z\n",
+        ),
         ("PRINT # Z.\n\tZ.", "1.1: refused: 2:2: unknown name Z\n"),
         ("PRINT\r\nZ.", "1.1: refused: 2:1: unknown name Z\n"),
         ("PRINT\rZ.", "1.1: refused: 1:7: unknown name Z\n"),

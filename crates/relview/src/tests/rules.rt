@@ -27,7 +27,10 @@ fn pieces(alloc: Global, text: &[u8]) -> Result<Option<Vec<Piece>>, AllocError> 
     let mut in_comment = false;
     for b in text {
         let byte = *b;
-        let is_allowed = byte == b'\t' || byte == b'\n' || byte == b'\r' || (byte >= b' ' && byte <= b'~');
+        let is_allowed = byte == b'\t'
+            || byte == b'\n'
+            || byte == b'\r'
+            || (byte >= b' ' && byte <= b'~');
         if !is_allowed {
             return Ok(None);
         }
@@ -273,7 +276,10 @@ fn reply(
         let text = str::from_utf8(name.text.as_slice())?;
         push(
             &mut out,
-            format!(in alloc; "refused: {}:{}: unknown name {text}\n", name.line, name.column)?,
+            format!(in alloc;
+                "refused: {}:{}: unknown name {text}\n",
+                name.line, name.column
+            )?,
         )?;
         return Ok((out, true));
     }
@@ -285,7 +291,10 @@ fn reply(
             let text = str::from_utf8(sign.text.as_slice())?;
             push(
                 &mut out,
-                format!(in alloc; "refused: {}:{}: {text} does not fit {rows} x {cols} and {others} x {across}\n", sign.line, sign.column)?,
+                format!(in alloc;
+                    "refused: {}:{}: {text} does not fit {rows} x {cols} and {others} x {across}\n",
+                    sign.line, sign.column
+                )?,
             )?;
             return Ok((out, true));
         }
@@ -293,7 +302,11 @@ fn reply(
     push(&mut out, format!(in alloc; "{rows} x {cols}\n")?)?;
     for i in 0..rows {
         for j in 0..cols {
-            let mark = if shows(relation, shown, i + 1, j + 1) { "1" } else { "." };
+            let mark = if shows(relation, shown, i + 1, j + 1) {
+                "1"
+            } else {
+                "."
+            };
             out.push_str(mark)?;
         }
         out.push_str("\n")?;

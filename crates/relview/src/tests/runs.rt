@@ -21,12 +21,7 @@ pub struct Ran {
 }
 
 /// A shelf with one file, of which one call fails.
-fn shelf_of(
-    alloc: Global,
-    name: &str,
-    bytes: &[u8],
-    failing: u64,
-) -> Result<MemShelf, AllocError> {
+fn shelf_of(alloc: Global, name: &str, bytes: &[u8], failing: u64) -> Result<MemShelf, AllocError> {
     let mut files = Vec::new(alloc);
     files.push((
         String::from_str(alloc, name)?,
@@ -144,10 +139,12 @@ fn push_place(alloc: Global, out: &mut String, at: Place) -> Result<(), Fail> {
 fn push_outcome(alloc: Global, out: &mut String, outcome: &Outcome) -> Result<(), Fail> {
     match outcome {
         Outcome::Done => out.push_str("done")?,
-        Outcome::Parse(ParseFault::Expected {
-            at,
-            what: What::Item,
-        }) => {
+        Outcome::Parse(
+            ParseFault::Expected {
+                at,
+                what: What::Item,
+            },
+        ) => {
             out.push_str("item")?;
             push_place(alloc, out, *at)?;
         }
@@ -156,12 +153,14 @@ fn push_outcome(alloc: Global, out: &mut String, outcome: &Outcome) -> Result<()
             push_place(alloc, out, *at)?;
             push_name(out, name)?;
         }
-        Outcome::Ill(TypeFault::Mismatch {
-            at,
-            op,
-            left,
-            right,
-        }) => {
+        Outcome::Ill(
+            TypeFault::Mismatch {
+                at,
+                op,
+                left,
+                right,
+            },
+        ) => {
             out.push_str("mismatch")?;
             push_place(alloc, out, *at)?;
             push_name(out, op)?;
