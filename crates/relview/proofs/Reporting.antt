@@ -35,8 +35,8 @@ run_answer words a b old new report answer name bytes named taken file within la
   where
     by_ran : (ran : Bool) →
         MatchBool ran
-          ((report.history.items ≡ answer.history.items) × (map (λ v. v.items) report.outcomes.items ≡ answer.outcomes.items ∷ []) × IsWritten old new answer.page.items (status_of answer.outcomes.items) report.status)
-          ((report.history.items ≡ []) × (report.outcomes.items ≡ []) × (report.status ≡ 5) × (new.written ≡ old.written)) →
+        ((report.history.items ≡ answer.history.items) × (map (λ v. v.items) report.outcomes.items ≡ answer.outcomes.items ∷ []) × IsWritten old new answer.page.items (status_of answer.outcomes.items) report.status)
+        ((report.history.items ≡ []) × (report.outcomes.items ≡ []) × (report.status ≡ 5) × (new.written ≡ old.written)) →
         MatchBool ran (HasRun words a.files old new report) (HasStopped words a b old new report)
     by_ran true r = record {
       name = name;

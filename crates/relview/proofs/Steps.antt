@@ -195,7 +195,7 @@ follows_print script k item e w v old new l is eq kept p start ran =
     let T = tree_of script in
     let items = script.items.items in
     subst (λ xs. RanTo T xs start v new) (ap (λ i. take k items ++ i ∷ []) (sym eq) ∙ sym (next_items items k item l is))
-      (ran_print T (take k items) e (k + 1) start w v old new (taken items k l) ran kept p)
+    (ran_print T (take k items) e (k + 1) start w v old new (taken items k l) ran kept p)
 
 pub follows_relation : (script : Script) (k : ℕ) (item : Item) (w v : Worker) (old new : Run) (name : List ℕ) (rows : ℕ) (rows_at : Place) (cols : ℕ) (cols_at : Place) (list : _) → k < length script.items.items → item ≡ get_or script.items.items k item →
     item ≡ Command (RELATION name rows rows_at cols cols_at list) → Keeps w v → Assigned (k + 1) name rows cols (relation_of rows cols (lists list.items)) v old new ⊎ Refused (k + 1) w.misses v.misses old new → Follows script k w v old new
@@ -203,4 +203,4 @@ follows_relation script k item w v old new name rows rows_at cols cols_at list l
     let T = tree_of script in
     let items = script.items.items in
     subst (λ xs. RanTo T xs start v new) (ap (λ i. take k items ++ i ∷ []) (sym eq) ∙ sym (next_items items k item l is))
-      (ran_relation T (take k items) (k + 1) start w v old new name rows rows_at cols cols_at list (taken items k l) (item_here script k item l is ∙ ap Some eq) ran kept a)
+    (ran_relation T (take k items) (k + 1) start w v old new name rows rows_at cols cols_at list (taken items k l) (item_here script k item l is ∙ ap Some eq) ran kept a)

@@ -28,7 +28,7 @@ transposed_even w n r h s v =
     let e : n ≡ n / 2 + n / 2 = omega (arith, div-add-mod n 2) in
     let same : transposed_by n (set_of w r) ≡ set_of w r = ap (λ k. transposed_by k (set_of w r)) e ∙ transposed_by-even (n / 2) (set_of w r) v in
     subst (λ x. GivesValue w x (transposed_by n (set_of w r)) r) (sym (even_times n (Fits r.rows r.cols) h))
-      (record { means = stands_some w r s ∙ ap Some (sym same); row_size = refl; col_size = refl })
+    (record { means = stands_some w r s ∙ ap Some (sym same); row_size = refl; col_size = refl })
 
 pub transposed_odd : (old new : Worker) (n : ℕ) (r rel : Rel) → n % 2 ≡ 1 → IsRelation (set_of old r) → Gives new r.cols r.rows (transpose (set_of old r)) rel →
     GivesValue new (shape_transposed_by n (Fits r.rows r.cols)) (transposed_by n (set_of old r)) rel
@@ -36,7 +36,7 @@ transposed_odd old new n r rel h v g =
     let e : n ≡ n / 2 + n / 2 + 1 = omega (arith, div-add-mod n 2) in
     let same : transposed_by n (set_of old r) ≡ transpose (set_of old r) = ap (λ k. transposed_by k (set_of old r)) e ∙ transposed_by-odd (n / 2) (set_of old r) v in
     subst (λ x. GivesValue new x (transposed_by n (set_of old r)) rel) (sym (odd_times n (Fits r.rows r.cols) h))
-      (record { means = g.means ∙ ap Some (sym same); row_size = g.row_size; col_size = g.col_size })
+    (record { means = g.means ∙ ap Some (sym same); row_size = g.row_size; col_size = g.col_size })
 
 -- what the names mean stays
 pub means_kept : (w v : Worker) (names : List (List ℕ × Rel)) → Keeps w v → AllStand w names → means v names ≡ means w names

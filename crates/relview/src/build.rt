@@ -42,11 +42,7 @@ fn push_row(pairs: &mut Vec<(u32, u32)>, shape: Shape, row: &Row) -> Result<(), 
 }
 
 /// The listed pairs within the sizes, counted from 0.
-fn listed_pairs(
-    alloc: Global,
-    shape: Shape,
-    list: &[Row],
-) -> Result<Vec<(u32, u32)>, AllocError>
+fn listed_pairs(alloc: Global, shape: Shape, list: &[Row]) -> Result<Vec<(u32, u32)>, AllocError>
     ensures within { IfOk result (λ v. IsWithin shape.rows shape.cols v.items) }
     ensures pairs { IfOk result (λ v. IsListed shape.rows shape.cols v.items (lists list.now)) }
 {
@@ -83,12 +79,7 @@ fn of_pairs<C: Core>(core: &mut C, shape: Shape, pairs: &[(u32, u32)]) -> Result
 }
 
 /// The relation of the listed pairs.
-pub fn listed<C: Core>(
-    alloc: Global,
-    core: &mut C,
-    shape: Shape,
-    list: &[Row],
-) -> Result<Rel, Lack>
+pub fn listed<C: Core>(alloc: Global, core: &mut C, shape: Shape, list: &[Row]) -> Result<Rel, Lack>
     requires row_limit { shape.rows ≤ size_limit }
     requires col_limit { shape.cols ≤ size_limit }
     ensures value { IfOk result (Gives (C.worker core.new) shape.rows shape.cols (relation_of shape.rows shape.cols (lists list.now))) }

@@ -7,12 +7,11 @@ pub mod lines;
 pub mod names;
 pub mod reply;
 pub mod session;
+#[cfg(test)]
+mod tests;
 pub mod text;
 pub mod top;
 pub mod words;
-
-#[cfg(test)]
-mod tests;
 
 use rv_io::{FileShelf, StdoutSink};
 use std::alloc::AllocError;

@@ -65,11 +65,7 @@ fn known_shape(shape: Shape) -> StaticShape
 }
 
 /// The reply where operands do not fit.
-fn mismatch_reply(
-    alloc: Global,
-    number: u32,
-    mismatched: Mismatched,
-) -> Result<Reply, NoMemory>
+fn mismatch_reply(alloc: Global, number: u32, mismatched: Mismatched) -> Result<Reply, NoMemory>
     ensures { IfOk result (λ r. (r.outcome ≡ Ill (fault_of mismatched)) × (r.text.items ≡ prefix 1 number ++ refusal_text (Ill (fault_of mismatched)))) }
 {
     let mut text = Vec::new(alloc);

@@ -191,11 +191,7 @@ fn run_item<C: Core>(
 }
 
 /// Runs a script from nothing, as session 1.
-pub fn run_script<C: Core>(
-    alloc: Global,
-    core: &mut C,
-    script: &Script,
-) -> Result<Run, NoMemory>
+pub fn run_script<C: Core>(alloc: Global, core: &mut C, script: &Script) -> Result<Run, NoMemory>
     requires few { length script.now.items.items ≤ 2 ^ 20 }
     requires first { All IsFirstItem script.now.items.items }
     ensures { IfOk result (λ run. RanTo (tree_of script.now) script.now.items.items (C.worker core.old) (C.worker core.new) run) }

@@ -1,1 +1,6 @@
-//! The worked rows.
+//! What runs of the program write, with which status, history and outcomes.
+mod changes;
+mod outside;
+mod pages;
+mod rules;
+mod runs;

@@ -119,12 +119,7 @@ fn push_shape(alloc: Global, out: &mut Vec<u8>, shape: Shape) -> Result<(), Allo
 
 /// Adds that a name is unknown.
 #[tactic(auto, unfolding(rel_model::specs::Page::unknown_text))]
-fn push_unknown(
-    alloc: Global,
-    out: &mut Vec<u8>,
-    at: Place,
-    name: &[u8],
-) -> Result<(), AllocError>
+fn push_unknown(alloc: Global, out: &mut Vec<u8>, at: Place, name: &[u8]) -> Result<(), AllocError>
     ensures { OnOk result (out.new.items ≡ out.old.items ++ unknown_text at name.now) }
 {
     push_place(alloc, out, at)?;
@@ -164,11 +159,7 @@ pub fn sign_of(op: Op2) -> &'static [u8]
 
 /// Adds that operands do not fit.
 #[tactic(auto, unfolding(rel_model::specs::Page::mismatch_text))]
-fn push_mismatch(
-    alloc: Global,
-    out: &mut Vec<u8>,
-    mismatched: Mismatched,
-) -> Result<(), AllocError>
+fn push_mismatch(alloc: Global, out: &mut Vec<u8>, mismatched: Mismatched) -> Result<(), AllocError>
     ensures { OnOk result (out.new.items ≡ out.old.items ++ mismatch_text mismatched.at (spelling mismatched.op) (known mismatched.left.rows mismatched.left.cols) (known mismatched.right.rows mismatched.right.cols)) }
 {
     push_place(alloc, out, mismatched.at)?;

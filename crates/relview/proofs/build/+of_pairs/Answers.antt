@@ -25,9 +25,9 @@ returns-clause-value g t c =
     let n = c.args.shape.cols in
     let ps = c.args.pairs.now in
     let both = halves_joined (g.C.Core.worker c.of_pairs.new.core) (g.C.Core.worker c.of_pairs-2.new.core) (g.C.Core.worker c.union.new.self) m n c.split_at.result.0.now c.split_at.result.1.now c.in_ok-left.left c.in_ok-right.right c.in_ok-both.both
-      c.in_ok-left.ensures.value c.in_ok-right.ensures.keeps c.in_ok-right.ensures.value c.in_ok-both.ensures.value in
+    c.in_ok-left.ensures.value c.in_ok-right.ensures.keeps c.in_ok-right.ensures.value c.in_ok-both.ensures.value in
     subst (λ qs. Gives (g.C.Core.worker c.union.new.self) m n (relation_of m n (is_among qs)) c.in_ok-both.both)
-      (ap (λ f. f ++ c.split_at.result.1.now) c.split_at.ensures.front ∙ ap (λ b. take (length ps / 2) ps ++ b) c.split_at.ensures.back ∙ take-append-drop (length ps / 2) ps) both
+    (ap (λ f. f ++ c.split_at.result.1.now) c.split_at.ensures.front ∙ ap (λ b. take (length ps / 2) ps ++ b) c.split_at.ensures.back ∙ take-append-drop (length ps / 2) ps) both
 
 pub returns-then-pairs-eq1-clause-value : goal.returns-then-pairs-eq1-clause-value
 returns-then-pairs-eq1-clause-value g t c =

@@ -10,4 +10,4 @@ returns-in-Ok-clause-value g c =
     let m = c.args.shape.rows in
     let n = c.args.shape.cols in
     subst (λ r. Gives (g.C.Core.worker c.of_pairs.new.core) m n r c.in-Ok.rel)
-      (ap (λ ps. relation_of m n (is_among ps)) c.as_slice.ensures.value ∙ relation_listed m n c.in_ok-pairs.pairs.items c.args.list.now c.in_ok-pairs.ensures.pairs) c.in-Ok.ensures.value
+    (ap (λ ps. relation_of m n (is_among ps)) c.as_slice.ensures.value ∙ relation_listed m n c.in_ok-pairs.pairs.items c.args.list.now c.in_ok-pairs.ensures.pairs) c.in-Ok.ensures.value

@@ -30,7 +30,7 @@ pub returns-in-Err-joined_shape : goal.returns-in-Err-joined_shape
 returns-in-Err-joined_shape t c =
     c.links.invariant
     ∙ misfit_here (sized c.args.names.now) c.links.shape.rows c.links.shape.cols c.in-Ok-shape_of-2.right.rows c.in-Ok-shape_of-2.right.cols c.links.link-index c.as_slice-link-items.result.now c.link-item.result (fault_of c.in-Err-joined_shape.misfit) c.links-test.true c.link-item.is
-      c.in-Ok-shape_of-2.ensures c.in-Err-joined_shape.ensures
+    c.in-Ok-shape_of-2.ensures c.in-Err-joined_shape.ensures
 
 pub returns-in-Some : goal.returns-in-Some
 returns-in-Some t c =

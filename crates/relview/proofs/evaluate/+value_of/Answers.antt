@@ -50,9 +50,9 @@ links-init g t c =
     let here = c.deref-in-Chain.ensures in
     let items = c.as_slice-link-items.ensures.value in
     ahead_first w _ S _ (shaped S c.deref-in-Chain.result.now) _ (value S c.deref-in-Chain.result.now) c.in_ok-all-in-Chain.all c.as_slice-link-items.result.now c.in_ok-all-in-Chain.ensures.keeps c.in_ok-all-in-Chain.ensures.value
-      (subst ArePlainLinks (sym items) plain.1)
-      (ap (shaped S) c.in-Chain.is ∙ shaped-chain S first rest ∙ ap (λ e. shaped_of_links S (shaped S e) rest.items) (sym here) ∙ ap (shaped_of_links S (shaped S c.deref-in-Chain.result.now)) (sym items))
-      (ap (value S) c.in-Chain.is ∙ value-chain S first rest ∙ ap (λ e. value_of_links S (value S e) rest.items) (sym here) ∙ ap (value_of_links S (value S c.deref-in-Chain.result.now)) (sym items))
+    (subst ArePlainLinks (sym items) plain.1)
+    (ap (shaped S) c.in-Chain.is ∙ shaped-chain S first rest ∙ ap (λ e. shaped_of_links S (shaped S e) rest.items) (sym here) ∙ ap (shaped_of_links S (shaped S c.deref-in-Chain.result.now)) (sym items))
+    (ap (value S) c.in-Chain.is ∙ value-chain S first rest ∙ ap (λ e. value_of_links S (value S e) rest.items) (sym here) ∙ ap (value_of_links S (value S c.deref-in-Chain.result.now)) (sym items))
 
 pub applied-requires-clause-rows : goal.applied-requires-clause-rows
 applied-requires-clause-rows g t c =
@@ -67,4 +67,4 @@ links-preserved g t c =
     let w = g.C.Core.worker c.args.core.now in
     let same = means_kept w (g.C.Core.worker c.links.core) c.args.names.now c.links.invariant.keeps c.requires.standing in
     ahead_more w (g.C.Core.worker c.links.core) _ _ (means w c.args.names.now) _ _ _ c.links.all c.in_ok-right-in-Chain.right c.in_ok-all-in-Chain-2.all c.links.link-index c.as_slice-link-items.result.now c.link-item.result c.links-test.true c.link-item.is same c.requires.fits
-      c.links.invariant c.in_ok-right-in-Chain.ensures.keeps c.in_ok-right-in-Chain.ensures.value c.in_ok-all-in-Chain-2.ensures.keeps c.in_ok-all-in-Chain-2.ensures.value
+    c.links.invariant c.in_ok-right-in-Chain.ensures.keeps c.in_ok-right-in-Chain.ensures.value c.in_ok-all-in-Chain-2.ensures.keeps c.in_ok-all-in-Chain-2.ensures.value

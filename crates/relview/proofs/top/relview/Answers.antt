@@ -15,7 +15,7 @@ pub returns-in-Ok-answer_to-clause-answer : goal.returns-in-Ok-answer_to-clause-
 returns-in-Ok-answer_to-clause-answer g c =
     let a = c.in-Ok-answer_to.answer in
     run_answer (texts c.args.words.now) _ _ _ _ c.report_of.result a c.in-Some.word.now c.in-Ok.bytes.items c.in-Some.ensures.0 c.in-Some.ensures.1 c.in-Ok.ensures.file c.in-Ok.ensures.within
-      (subst (λ b. IsRun (b ∷ []) a.history.items (a.outcomes.items ∷ []) a.page.items) c.as_slice.ensures.value c.in-Ok-answer_to.ensures.lawful) c.in-Ok-answer_to.ensures.no_full_table c.report_of.ensures.reports
+    (subst (λ b. IsRun (b ∷ []) a.history.items (a.outcomes.items ∷ []) a.page.items) c.as_slice.ensures.value c.in-Ok-answer_to.ensures.lawful) c.in-Ok-answer_to.ensures.no_full_table c.report_of.ensures.reports
 
 pub returns-in-Fault-clause-answer : goal.returns-in-Fault-clause-answer
 returns-in-Fault-clause-answer g c =
