@@ -283,6 +283,13 @@ fn blocks_combine_as_plain_relations(rt: HostRuntime) {
 }
 
 #[test]
+fn full_squares_combine_as_plain_relations(rt: HostRuntime) {
+    let shape = Shape { rows: 16, cols: 16 };
+    let choices = [(0, 1), (30, 2), (4000, 3)];
+    all_agree(&rt, rt.alloc(), shape, 4, &choices);
+}
+
+#[test]
 fn pseudo_random_relations_combine_as_plain_ones(rt: HostRuntime) {
     let choices = [(0, 1), (1, 2), (40, 3), (300, 4)];
     'shapes: for (rows, cols) in [(40, 40), (1, 40), (40, 1), (17, 33), (9, 8)] {
