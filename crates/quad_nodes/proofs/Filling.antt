@@ -1,13 +1,13 @@
 -- A square whose quarters are one full square is full.
-use Rattle.std.proofs.Common.{◌≡◌, ◌<◌, ◌≤◌, ◌+◌, ◌-◌, ◌*◌, ◌^◌, ◌&&◌, min, eqb, ltb, zero, suc, ℕ, Bool, true, false, refl, sym, ap, subst, ◌∙◌, inl, inr, arith}
+use Rattle.std.proofs.Common.{◌≡◌, ◌<◌, ◌+◌, ◌-◌, ◌*◌, ◌^◌, min, eqb, ltb, suc, ℕ, true, refl, sym, ap, ◌∙◌, inl, inr, arith}
 use Rattle.std.proofs.lemmas.Bool.{cases_Bool, ltb-true, eqb-true, eq-eqb}
 use Rattle.std.proofs.lemmas.Nat.Bits.{bit_at_ones}
 use Rattle.std.specs.Int.{bit_at}
 use Rattle.rel_model.specs.declared.Quad.{Quad}
 use Rattle.rel_model.specs.Cells.{Cells, cells_rect, block_cells}
-use Rattle.rel_model.specs.Trees.{bottom_height, top_height, cells, stands, quartered, paired}
+use Rattle.rel_model.specs.Trees.{bottom_height, cells, quartered, paired}
 use Rattle.rel_model.specs.Equations.{depth_of, side_of}
-use Rattle.rel_model.specs.Quads.{Work, quad_cells, QuadStands, KeepsWork}
+use Rattle.rel_model.specs.Quads.{Work, quad_cells, QuadStands}
 use Rattle.rel_model.proofs.TreeLaws.{same_cells}
 use Rattle.rel_model.proofs.Squares.{four_squares}
 use Rattle.rel_model.proofs.QuadLaws.{depth_of-next, side_of-next}
@@ -43,8 +43,8 @@ full_quarters m =
     let a : min (m + m) m ≡ m = omega arith in
     let b : m + m - m ≡ m = omega arith in
     sym (cells_rect-quartered m (m + m) (m + m)
-      ∙ ap (λ (x : ℕ). quartered m (cells_rect x x) (cells_rect x (m + m - m)) (cells_rect (m + m - m) x) (cells_rect (m + m - m) (m + m - m))) a
-      ∙ ap (λ (y : ℕ). quartered m (cells_rect m m) (cells_rect m y) (cells_rect y m) (cells_rect y y)) b)
+    ∙ ap (λ (x : ℕ). quartered m (cells_rect x x) (cells_rect x (m + m - m)) (cells_rect (m + m - m) x) (cells_rect (m + m - m) (m + m - m))) a
+    ∙ ap (λ (y : ℕ). quartered m (cells_rect m m) (cells_rect m y) (cells_rect y m) (cells_rect y y)) b)
 
 pub full_by_quarter : (s0 s1 s2 : Work) (q : Quad) (north south west east : ℕ) → QuadStands s0 q → bottom_height < q.height → Halve s0 s1 q.name north south → north ≡ south → Halve s1 s2 north west east → west ≡ east
     → cells s2.view.words (depth_of (q.height - 1)) west ≡ all_of (side_of (q.height - 1)) → quad_cells s0 q ≡ all_of (side_of q.height)
@@ -54,7 +54,7 @@ full_by_quarter s0 s1 s2 q north south west east s l h0 ns h1 we full =
     let h = halves_stand s0 s1 q north south s l h0 in
     let g = h1 k h.first in
     let row : cells s1.view.words (suc k) north ≡ paired k (all_of m) (all_of m) =
-        g.means ∙ ap (λ (x : ℕ). paired k (cells s2.view.words k west) (cells s2.view.words k x)) (sym we) ∙ ap (λ (c : Cells). paired k c c) full in
+    g.means ∙ ap (λ (x : ℕ). paired k (cells s2.view.words k west) (cells s2.view.words k x)) (sym we) ∙ ap (λ (c : Cells). paired k c c) full in
     ap (λ (x : ℕ). cells s0.view.words x q.name) (depth_of-next q.height l) ∙ h.means
     ∙ ap (λ (x : ℕ). paired (suc k) (cells s1.view.words (suc k) north) (cells s1.view.words (suc k) x)) (sym ns)
     ∙ ap (λ (c : Cells). paired (suc k) c c) row

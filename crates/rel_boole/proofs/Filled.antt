@@ -1,17 +1,17 @@
 -- Operators with a full operand.
-use Rattle.std.proofs.Common.{◌≡◌, ◌≢◌, ◌<◌, ◌≤◌, ◌+◌, ◌-◌, ◌&&◌, ◌||◌, not, ltb, ℕ, Bool, true, false, Option, Some, None, IfSome, refl, sym, ap, subst, ◌∙◌, arith}
+use Rattle.std.proofs.Common.{◌≡◌, ◌<◌, ◌-◌, ◌&&◌, ◌||◌, not, ltb, ℕ, Bool, true, false, Option, Some, IfSome, refl, sym, ap, subst, ◌∙◌}
 use Rattle.std.proofs.lemmas.Bool.{false≢true, lt-ltb, and_from}
 use Rattle.rel_model.specs.declared.Quad.{Quad}
 use Rattle.rel_model.specs.Cells.{Cells, no_cells, cells_rect}
-use Rattle.rel_model.specs.Trees.{bottom_height, top_height, cells, twice, side, rows_at, cols_at}
+use Rattle.rel_model.specs.Trees.{bottom_height, side}
 use Rattle.rel_model.specs.Equations.{Operator, result_of, depth_of, side_of}
-use Rattle.rel_model.specs.Quads.{Work, IsWork, quad_cells, QuadStands, IsQuad, KeepsWork, ReadsWork}
+use Rattle.rel_model.specs.Quads.{Work, quad_cells, QuadStands, IsQuad, ReadsWork}
 use Rattle.rel_model.proofs.TreeLaws.{same_cells, cells_within}
 use Rattle.rel_model.proofs.Squares.{rows_at-twice, cols_at-twice}
 use Rattle.rel_model.proofs.QuadLaws.{reads_on, quad_stays, quad_cells-stay, empty_quad}
 use Rattle.rel_boole.specs.declared.boole.Boole.{Boole}
 use Rattle.rel_boole.specs.declared.boole.Boole.TheVariants.{Union as UNION, Inter as INTER, Diff as DIFF}
-use Rattle.rel_boole.specs.Cellwise.{holds_by, cells_by, operator_for, CutsOffFull}
+use Rattle.rel_boole.specs.Cellwise.{cells_by, operator_for, CutsOffFull}
 use Rattle.rel_boole.proofs.Cutting.{result_of-by}
 
 -- a quad lies within its square

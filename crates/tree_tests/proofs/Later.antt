@@ -1,10 +1,9 @@
 -- What stood in one state stands in a later one.
-use Rattle.std.proofs.Common.{◌≡◌, ℕ, refl}
+use Rattle.std.proofs.Common.{ℕ, refl}
 use Rattle.rel_model.specs.declared.Quad.{Quad}
 use Rattle.rel_model.specs.declared.Rel.{Rel}
-use Rattle.rel_model.specs.Words.{Extends}
 use Rattle.rel_model.specs.Equations.{depth_of}
-use Rattle.rel_model.specs.Quads.{Work, IsWork, QuadStands, KeepsWork, ReadsWork}
+use Rattle.rel_model.specs.Quads.{Work, IsWork, QuadStands, KeepsWork}
 use Rattle.rel_model.specs.Worker.{Worker, Stands, Keeps}
 use Rattle.rel_model.proofs.TreeLaws.{zero_stands, kept_stands}
 use Rattle.rel_model.proofs.NamesStand.{extends_on}

@@ -1,8 +1,6 @@
-use Rattle.std.proofs.Common.{◌≡◌, ◌<◌, ◌≤◌, ◌+◌, ◌-◌, ◌∙◌, ℕ, Result, Ok, sym, arith}
-use Rattle.rel_model.specs.declared.Quad.{Quad}
-use Rattle.rel_model.specs.Trees.{bottom_height}
-use Rattle.rel_model.specs.Quads.{Work, QuadStands, IsQuad, KeepsWork, quad_room}
-use Rattle.rel_model.proofs.QuadLaws.{keeps_on, keeps_most, quad_stays, is_quad-stays, quarters-before, rooms-next, room-some}
+use Rattle.std.proofs.Common.{◌≤◌, ◌+◌, ◌-◌, ℕ, Ok, arith}
+use Rattle.rel_model.specs.Quads.{quad_room}
+use Rattle.rel_model.proofs.QuadLaws.{keeps_on, keeps_most, quad_stays, is_quad-stays, rooms-next, room-some}
 use Rattle.rel_boole.proofs.Combining.{room_below, combined_value, as_equation}
 use Rattle.rel_boole.proofs.boole.+combining.Goals as goal
 
@@ -266,8 +264,8 @@ combined_over-note-requires-clause-holds t c =
     let k4 = keeps_on (0 + 0 + m + m + m) m s0 s5 s6 k3 (room_below h c.quarters_of_both.result.0.3.height s5 s6 q.se_height c.in_ok-se.ensures.keeps) in
     let k5 = keeps_on (0 + 0 + m + m + m + m) 3 s0 s6 s7 k4 c.in_ok-found.ensures.keeps in
     let v = combined_value {E = Unit {0}} _ _ _ _ c.args.op s0 s1 s2 s3 s4 s5 s6 s7 c.args.a c.args.b c.quarters_of_both.result.0 c.quarters_of_both.result.1 c.in_ok-nw.nw c.in_ok-ne.ne c.in_ok-sw.sw c.in_ok-se.se (Ok c.in_ok-found.found)
-        c.requires.a_stands c.requires.b_stands c.requires.one_height c.found_before.ensures.reads.keeps q c.quarters_of_both.ensures.second c.in_ok-nw.ensures.keeps c.in_ok-ne.ensures.keeps c.in_ok-sw.ensures.keeps c.in_ok-se.ensures.keeps
-        c.in_ok-nw.ensures.value c.in_ok-ne.ensures.value c.in_ok-sw.ensures.value c.in_ok-se.ensures.value c.in_ok-found.ensures.value in
+    c.requires.a_stands c.requires.b_stands c.requires.one_height c.found_before.ensures.reads.keeps q c.quarters_of_both.ensures.second c.in_ok-nw.ensures.keeps c.in_ok-ne.ensures.keeps c.in_ok-sw.ensures.keeps c.in_ok-se.ensures.keeps
+    c.in_ok-nw.ensures.value c.in_ok-ne.ensures.value c.in_ok-sw.ensures.value c.in_ok-se.ensures.value c.in_ok-found.ensures.value in
     as_equation (0 + 0 + m + m + m + m + 3) c.args.op _ s0 s7 c.args.a c.args.b c.in_ok-found.found c.op_of.ensures k5 c.requires.a_stands c.requires.b_stands v
 
 pub combined_over-returns-clause-value : goal.combined_over-returns-clause-value
@@ -290,6 +288,6 @@ combined_over-returns-clause-value t c =
     let k4 = keeps_on (0 + 0 + m + m + m) m s0 s5 s6 k3 (room_below h c.quarters_of_both.result.0.3.height s5 s6 q.se_height c.in_ok-se.ensures.keeps) in
     let k5 = keeps_on (0 + 0 + m + m + m + m) 3 s0 s6 s7 k4 c.in_ok-found.ensures.keeps in
     let v = combined_value {E = Unit {0}} _ _ _ _ c.args.op s0 s1 s2 s3 s4 s5 s6 s7 c.args.a c.args.b c.quarters_of_both.result.0 c.quarters_of_both.result.1 c.in_ok-nw.nw c.in_ok-ne.ne c.in_ok-sw.sw c.in_ok-se.se (Ok c.in_ok-found.found)
-        c.requires.a_stands c.requires.b_stands c.requires.one_height c.found_before.ensures.reads.keeps q c.quarters_of_both.ensures.second c.in_ok-nw.ensures.keeps c.in_ok-ne.ensures.keeps c.in_ok-sw.ensures.keeps c.in_ok-se.ensures.keeps
-        c.in_ok-nw.ensures.value c.in_ok-ne.ensures.value c.in_ok-sw.ensures.value c.in_ok-se.ensures.value c.in_ok-found.ensures.value in
+    c.requires.a_stands c.requires.b_stands c.requires.one_height c.found_before.ensures.reads.keeps q c.quarters_of_both.ensures.second c.in_ok-nw.ensures.keeps c.in_ok-ne.ensures.keeps c.in_ok-sw.ensures.keeps c.in_ok-se.ensures.keeps
+    c.in_ok-nw.ensures.value c.in_ok-ne.ensures.value c.in_ok-sw.ensures.value c.in_ok-se.ensures.value c.in_ok-found.ensures.value in
     is_quad-stays 0 s7 c.note.new.self c.args.a.height _ c.in_ok-found.found c.note.ensures.reads.keeps v

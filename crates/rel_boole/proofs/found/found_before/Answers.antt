@@ -1,4 +1,3 @@
-use Rattle.std.proofs.Common.{sym}
 use Rattle.rel_model.proofs.QuadLaws.{quad_stays, reads_on}
 use Rattle.rel_boole.proofs.Filled.{found_full}
 use Rattle.rel_boole.proofs.found.found_before.Goals as goal
@@ -14,5 +13,5 @@ is_full-b_full-requires c =
 pub returns-clause-found : goal.returns-clause-found
 returns-clause-found c =
     found_full c.args.nodes.now c.look.new.self c.is_full-a_full.new.self c.is_full-b_full.new.self c.args.op c.args.a c.args.b c.is_full-a_full.result c.is_full-b_full.result c.with_full.result
-      c.requires.a_stands c.requires.b_stands c.requires.one_height c.look.ensures.reads c.is_full-a_full.ensures.reads c.is_full-b_full.ensures.reads
-      c.is_full-a_full.ensures.full c.is_full-b_full.ensures.full c.with_full.ensures
+    c.requires.a_stands c.requires.b_stands c.requires.one_height c.look.ensures.reads c.is_full-a_full.ensures.reads c.is_full-b_full.ensures.reads
+    c.is_full-a_full.ensures.full c.is_full-b_full.ensures.full c.with_full.ensures

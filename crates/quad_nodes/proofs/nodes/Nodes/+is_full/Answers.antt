@@ -1,4 +1,4 @@
-use Rattle.std.proofs.Common.{◌≡◌, ◌<◌, ◌-◌, ◌+◌, ◌∙◌, ℕ, suc, true, sym, ap, arith}
+use Rattle.std.proofs.Common.{◌<◌, ◌-◌, ◌∙◌, suc, sym, ap, arith}
 use Rattle.rel_model.specs.Trees.{bottom_height}
 use Rattle.rel_model.specs.Equations.{depth_of}
 use Rattle.rel_model.proofs.QuadLaws.{known}
@@ -24,4 +24,4 @@ pub returns-clause-full : goal.returns-clause-full
 returns-clause-full t c =
     let over : bottom_height < c.args.q.height = (let e = c.bottom.ensures.height in let l = c.requires.stands.low in let n = c.if-q-bottom.false in omega arith) in
     λ e. full_by_quarter c.args.self.now c.halves-north.new.self c.halves-west.new.self c.args.q c.halves-north.result.0 c.halves-north.result.1 c.halves-west.result.0 c.halves-west.result.1 c.requires.stands over
-      c.halves-north.ensures.halves c.if-north-south.false c.halves-west.ensures.halves c.if-west-east.false (c.is_full.ensures.full e)
+    c.halves-north.ensures.halves c.if-north-south.false c.halves-west.ensures.halves c.if-west-east.false (c.is_full.ensures.full e)
