@@ -1,15 +1,15 @@
 -- Halves twice are quarters, and pairs of pairs are corners.
-use Rattle.std.proofs.Common.{◌≡◌, ◌<◌, ◌≤◌, ◌≢◌, ◌+◌, ◌-◌, ◌*◌, ◌^◌, zero, suc, ℕ, true, List, Result, Ok, Err, refl, sym, ap, subst, ◌∙◌, arith, get_or}
+use Rattle.std.proofs.Common.{◌≡◌, ◌<◌, ◌≤◌, ◌≢◌, ◌+◌, ◌-◌, suc, ℕ, true, Ok, refl, sym, ap, subst, ◌∙◌, arith, get_or}
 use Rattle.rel_model.specs.declared.Quad.{Quad}
-use Rattle.rel_model.specs.Cells.{Cells, no_cells, block_cells}
-use Rattle.rel_model.specs.Trees.{bottom_height, top_height, cells, stands, first_of, second_of, twice, side, quartered, paired}
+use Rattle.rel_model.specs.Cells.{Cells, block_cells}
+use Rattle.rel_model.specs.Trees.{bottom_height, top_height, cells, stands, first_of, second_of, quartered, paired}
 use Rattle.rel_model.specs.Equations.{depth_of, side_of}
-use Rattle.rel_model.specs.Views.{View, IsSet, IsKnown, Interns}
+use Rattle.rel_model.specs.Views.{IsSet, Interns}
 use Rattle.rel_model.specs.Quads.{Work, IsWork, quad_cells, QuadStands, IsQuad, KeepsWork, ReadsWork, AreQuarters}
 use Rattle.rel_model.proofs.TreeLaws.{kept_stands, kept_cells, parts_stand, zero_cells}
 use Rattle.rel_model.proofs.NamesStand.{block_set}
 use Rattle.rel_model.proofs.Squares.{four_squares}
-use Rattle.rel_model.proofs.QuadLaws.{depth_of-bottom, depth_of-next, side_of-next, set_after, empty_quad}
+use Rattle.rel_model.proofs.QuadLaws.{depth_of-next, set_after, empty_quad}
 use Rattle.quad_nodes.specs.Halves.{AreHalves, IsPaired}
 
 -- a set that stands has the same cells after a call

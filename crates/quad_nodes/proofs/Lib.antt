@@ -1,3 +1,4 @@
 pub mod Halving
 pub mod Squaring
 pub mod Looking
+pub mod Filling

@@ -1,10 +1,10 @@
 -- A true equation that is looked up is the operator's result as a quad.
-use Rattle.std.proofs.Common.{◌≡◌, ℕ, true, Option, Some, refl, sym, ap, subst, ◌∙◌, arith}
+use Rattle.std.proofs.Common.{◌≡◌, ℕ, refl, sym, ap, ◌∙◌}
 use Rattle.rel_model.specs.declared.Quad.{Quad}
 use Rattle.rel_model.specs.Cells.{Cells}
 use Rattle.rel_model.specs.Trees.{cells}
 use Rattle.rel_model.specs.Equations.{Operator, IsTrueIn, result_of, depth_of, side_of}
-use Rattle.rel_model.specs.Quads.{Work, quad_cells, QuadStands, IsQuad, KeepsWork, ReadsWork}
+use Rattle.rel_model.specs.Quads.{Work, quad_cells, QuadStands, IsQuad, ReadsWork}
 use Rattle.rel_model.proofs.QuadLaws.{quad_cells-stay}
 
 pub looked_up : (v w : Work) (op : Operator) (a b : Quad) (n : ℕ) → ReadsWork v w → QuadStands v a → QuadStands v b → b.height ≡ a.height → IsTrueIn w.view.words (record { op = op; height = a.height; a = a.name; b = b.name; r = n })

@@ -1,15 +1,15 @@
 -- Cells and rectangles of a square, by its quarters.
-use Rattle.std.proofs.Common.{◌≡◌, ◌<◌, ◌≤◌, ◌≢◌, ◌+◌, ◌-◌, ◌*◌, ◌&&◌, ◌⊎◌, min, ltb, cond, zero, suc, ℕ, Bool, true, false, Result, Ok, Err, IfOk, refl, sym, ap, subst, ◌∙◌, inl, inr, arith}
+use Rattle.std.proofs.Common.{◌≡◌, ◌<◌, ◌≤◌, ◌+◌, ◌-◌, ◌⊎◌, min, ltb, cond, suc, ℕ, Bool, true, false, Result, Ok, Err, IfOk, refl, sym, ap, subst, ◌∙◌, inl, inr, arith}
 use Rattle.std.proofs.lemmas.Bool.{cases_Bool, cases_lt, ltb-true, ltb-false, lt-ltb, le-ltb, and_left, and_right}
 use Rattle.rel_model.specs.declared.Quad.{Quad}
 use Rattle.rel_model.specs.Cells.{Cells, no_cells, cells_rect}
-use Rattle.rel_model.specs.Trees.{bottom_height, top_height, cells, stands, twice, side, is_square, rows_at, cols_at, quartered, paired}
+use Rattle.rel_model.specs.Trees.{bottom_height, top_height, cells, stands, twice, side, quartered, paired}
 use Rattle.rel_model.specs.Equations.{depth_of, side_of}
-use Rattle.rel_model.specs.Quads.{Work, IsWork, quad_cells, QuadStands, IsQuad, KeepsWork, ReadsWork}
+use Rattle.rel_model.specs.Quads.{Work, IsWork, quad_cells, QuadStands, IsQuad, KeepsWork}
 use Rattle.rel_model.proofs.TreeLaws.{same_cells}
 use Rattle.rel_model.proofs.Squares.{is_square-twice, rows_at-twice, cols_at-twice}
 use Rattle.rel_model.proofs.QuadLaws.{depth_of-next, side_of-next, is_quad-stays, empty_quad}
-use Rattle.quad_nodes.specs.Halves.{AreHalves, AreBeside}
+use Rattle.quad_nodes.specs.Halves.{AreBeside}
 use Rattle.quad_nodes.proofs.Halving.{Halve, halves_stand}
 
 -- ---- a cell by its quarter

@@ -2,6 +2,7 @@
 #![tactic(auto)]
 
 mod cells;
+mod full;
 mod halves;
 mod memo;
 mod nodes;

@@ -1,11 +1,11 @@
 -- One step of the recursion: four results on quarters and their corner are the result.
-use Rattle.std.proofs.Common.{◌≡◌, ◌<◌, ◌≤◌, ◌+◌, ◌-◌, ℕ, Result, Ok, Err, IfOk, refl, sym, ap, subst, ◌∙◌, arith}
+use Rattle.std.proofs.Common.{◌≡◌, ◌+◌, ◌-◌, ℕ, Result, Ok, Err, IfOk, sym, ap, subst, ◌∙◌, arith}
 use Rattle.rel_model.specs.declared.Quad.{Quad}
 use Rattle.rel_model.specs.Cells.{Cells}
-use Rattle.rel_model.specs.Trees.{bottom_height, quartered}
+use Rattle.rel_model.specs.Trees.{quartered}
 use Rattle.rel_model.specs.Equations.{Operator, result_of, side_of}
 use Rattle.rel_model.specs.Quads.{Work, quad_cells, QuadStands, IsQuad, KeepsWork, AreQuarters, quad_room}
-use Rattle.rel_model.proofs.QuadLaws.{keeps_on, keeps_itself, quad_stays, quad_cells-stay, is_quad-stays, quarters-before, result_later, is_quad-height, corner_value}
+use Rattle.rel_model.proofs.QuadLaws.{keeps_on, keeps_itself, quad_cells-stay, is_quad-stays, quarters-before, result_later, is_quad-height, corner_value}
 use Rattle.rel_boole.specs.declared.boole.Boole.{Boole}
 use Rattle.rel_boole.specs.Cellwise.{cells_by, operator_for}
 use Rattle.rel_boole.proofs.Cutting.{by_quarters, result_of-by}

@@ -1,10 +1,10 @@
 -- Operators cell by cell: operands that are one, that are empty, that are exchanged, and quarters.
-use Rattle.std.proofs.Common.{◌≡◌, ◌≢◌, ◌<◌, ◌≤◌, ◌⊎◌, ◌+◌, ◌-◌, ◌&&◌, ◌||◌, not, ℕ, Bool, true, false, Option, Some, None, IfSome, Result, Ok, Err, IfOk, refl, sym, ap, subst, ◌∙◌, inl, inr, arith}
+use Rattle.std.proofs.Common.{◌≡◌, ◌≢◌, ◌⊎◌, ◌&&◌, ◌||◌, not, ℕ, Bool, true, false, Some, refl, sym, ap, subst, ◌∙◌, inl, inr, arith}
 use Rattle.rel_model.specs.declared.Quad.{Quad}
-use Rattle.rel_model.specs.Cells.{Cells, no_cells, block_cells}
-use Rattle.rel_model.specs.Trees.{bottom_height, top_height, cells, quartered}
-use Rattle.rel_model.specs.Equations.{Operator, Union, Inter, Diff, Transpose, result_of, depth_of, side_of}
-use Rattle.rel_model.specs.Quads.{Work, IsWork, quad_cells, QuadStands, IsQuad, KeepsWork, AreQuarters}
+use Rattle.rel_model.specs.Cells.{Cells, no_cells}
+use Rattle.rel_model.specs.Trees.{cells, quartered}
+use Rattle.rel_model.specs.Equations.{Transpose, result_of, depth_of, side_of}
+use Rattle.rel_model.specs.Quads.{Work, IsWork, quad_cells, QuadStands, IsQuad, AreQuarters}
 use Rattle.rel_model.proofs.TreeLaws.{same_cells}
 use Rattle.rel_model.proofs.Squares.{each_cell-quartered}
 use Rattle.rel_model.proofs.QuadLaws.{empty_quad}

@@ -2,12 +2,11 @@
 ghost use Rattle.std.specs.Prelude.{◌≡◌, ◌<◌, IfOk};
 ghost use Rattle.rel_model.specs.Trees.{bottom_height};
 ghost use Rattle.rel_model.specs.Quads.{Work, QuadStands, IsQuad, quad_cells, KeepsWork, Counts, quad_room};
-ghost use Rattle.memo_laws.specs.Looking.{operator_of};
-ghost use Rattle.rel_boole.specs.Cellwise.{cells_by, operator_for};
+ghost use Rattle.rel_boole.specs.Cellwise.{cells_by};
 
 use crate::cuts::{cut_off, in_order};
+use crate::found::{found_before, op_of};
 use crate::leaf::leaf;
-use memo_laws::Op;
 use pair_table::Missed;
 use quad_nodes::Nodes;
 use rel_model::Quad;
@@ -18,17 +17,6 @@ pub enum Boole {
     Union,
     Inter,
     Diff,
-}
-
-/// The operator as equations name it.
-fn op_of(op: Boole) -> Op
-    ensures { operator_of result ≡ operator_for op }
-{
-    match op {
-        Boole::Union => Op::Union,
-        Boole::Inter => Op::Inter,
-        Boole::Diff => Op::Diff,
-    }
 }
 
 /// Cell (i, j) where the operator holds of `a` and `b` there.
@@ -52,7 +40,7 @@ pub fn combined(nodes: &mut Nodes, op: Boole, a: Quad, b: Quad) -> Result<Quad, 
     combined_over(nodes, op, first, second)
 }
 
-/// The same over the blocks: what was noted is looked up, and what was not goes by quarters and is noted.
+/// The same over the blocks: what was noted is looked up, a full operand is cut off, and what is left goes by quarters and is noted.
 #[cycle(combining)]
 fn combined_over(nodes: &mut Nodes, op: Boole, a: Quad, b: Quad) -> Result<Quad, Missed>
     requires a_stands { QuadStands nodes.old a }
@@ -63,7 +51,7 @@ fn combined_over(nodes: &mut Nodes, op: Boole, a: Quad, b: Quad) -> Result<Quad,
     ensures keeps { KeepsWork (quad_room a.height) nodes.old nodes.new }
     ensures counts { Counts nodes.old nodes.new result }
 {
-    if let Some(found) = nodes.look(op_of(op), a, b) {
+    if let Some(found) = found_before(nodes, op, a, b) {
         return Ok(found);
     }
     let ((a_nw, a_ne, a_sw, a_se), (b_nw, b_ne, b_sw, b_se)) = nodes.quarters_of_both(a, b);

@@ -3,6 +3,7 @@
 
 mod boole;
 mod cuts;
+mod found;
 mod leaf;
 mod operators;
 

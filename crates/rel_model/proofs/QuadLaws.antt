@@ -1,17 +1,16 @@
 -- Laws of quads: what calls keep adds up, a quad stays with its set, and a quad goes by its quarters.
-use Rattle.std.proofs.Common.{◌≡◌, ◌<◌, ◌≤◌, ◌≢◌, ◌⊎◌, ◌+◌, ◌-◌, ◌*◌, ◌^◌, min, zero, suc, ℕ, true, List, Result, Ok, Err, IfOk, length, refl, sym, ap, subst, ◌∙◌, inl, inr, arith, get_or}
+use Rattle.std.proofs.Common.{◌≡◌, ◌<◌, ◌≤◌, ◌+◌, ◌-◌, ◌*◌, ◌^◌, zero, suc, ℕ, true, List, Result, Ok, Err, IfOk, refl, sym, ap, subst, ◌∙◌, inl, inr, arith}
 use Rattle.std.proofs.lemmas.Bool.{or_cases, eqb-true, and_parts}
 use Rattle.std.proofs.Math.Nat.{pow-suc, one-le-pow}
 use Rattle.rel_model.specs.declared.Quad.{Quad}
-use Rattle.rel_model.specs.Cells.{Cells, no_cells, block_cells}
-use Rattle.rel_model.specs.Trees.{bottom_height, top_height, cells, stands, first_of, second_of, twice, side, quartered, paired}
-use Rattle.rel_model.specs.Words.{Extends, IsDistinct, IsFull, IsFullOfOthers}
+use Rattle.rel_model.specs.Cells.{Cells, no_cells}
+use Rattle.rel_model.specs.Trees.{bottom_height, top_height, cells, stands, twice, side, quartered}
+use Rattle.rel_model.specs.Words.{Extends, IsFull, IsFullOfOthers}
 use Rattle.rel_model.specs.Equations.{depth_of, side_of}
-use Rattle.rel_model.specs.Views.{View, IsSet, IsKnown, IsOf}
+use Rattle.rel_model.specs.Views.{View, IsSet, IsKnown}
 use Rattle.rel_model.specs.Quads.{Work, IsWork, quad_cells, QuadStands, IsQuad, KeepsWork, ReadsWork, one_more_miss, Counts, AreQuarters, quad_room}
-use Rattle.rel_model.proofs.TreeLaws.{zero_stands, zero_cells, kept_stands, kept_cells, parts_stand, stored_not_0}
+use Rattle.rel_model.proofs.TreeLaws.{zero_stands, zero_cells, kept_stands, kept_cells, stored_not_0}
 use Rattle.rel_model.proofs.NamesStand.{extends_on, set_stays}
-use Rattle.rel_model.proofs.Squares.{four_squares}
 
 -- ---- what calls keep adds up
 pub keeps_on : (m n : ℕ) (u v w : Work) → KeepsWork m u v → KeepsWork n v w → KeepsWork (m + n) u w

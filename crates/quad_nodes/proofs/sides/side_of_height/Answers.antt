@@ -1,6 +1,6 @@
-use Rattle.std.proofs.Common.{◌≡◌, ◌<◌, ◌≤◌, ◌+◌, ◌*◌, ◌^◌, ◌∙◌, ◌%◌, ap, sym, arith}
+use Rattle.std.proofs.Common.{◌≡◌, ◌≤◌, ◌*◌, ◌^◌, ◌∙◌, ◌%◌, sym, arith}
 use Rattle.std.proofs.Math.Pow.{pow_mono}
-use Rattle.rel_model.specs.Trees.{bottom_height, top_height}
+use Rattle.rel_model.specs.Trees.{top_height}
 use Rattle.rel_model.proofs.QuadLaws.{side_of-power}
 use Rattle.quad_nodes.proofs.sides.side_of_height.Goals as goal
 

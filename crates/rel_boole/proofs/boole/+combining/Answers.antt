@@ -1,8 +1,6 @@
-use Rattle.std.proofs.Common.{◌≡◌, ◌<◌, ◌≤◌, ◌+◌, ◌-◌, ◌∙◌, ℕ, Result, Ok, sym, arith}
-use Rattle.rel_model.specs.declared.Quad.{Quad}
-use Rattle.rel_model.specs.Trees.{bottom_height}
-use Rattle.rel_model.specs.Quads.{Work, QuadStands, IsQuad, KeepsWork, quad_room}
-use Rattle.rel_model.proofs.QuadLaws.{keeps_on, keeps_most, quad_stays, is_quad-stays, quarters-before, rooms-next, room-some}
+use Rattle.std.proofs.Common.{◌≤◌, ◌+◌, ◌-◌, ℕ, Ok, arith}
+use Rattle.rel_model.specs.Quads.{quad_room}
+use Rattle.rel_model.proofs.QuadLaws.{keeps_on, keeps_most, quad_stays, is_quad-stays, rooms-next, room-some}
 use Rattle.rel_boole.proofs.Combining.{room_below, combined_value, as_equation}
 use Rattle.rel_boole.proofs.boole.+combining.Goals as goal
 
@@ -13,21 +11,21 @@ combined-returns-then-a-bottom-clause-keeps t c =
     keeps_most 1 (quad_room c.args.a.height) c.args.nodes.now c.leaf.new.nodes l c.leaf.ensures.keeps
 
 pub combined_over-quarters_of_both-requires-clause-a_stands : goal.combined_over-quarters_of_both-requires-clause-a_stands
-combined_over-quarters_of_both-requires-clause-a_stands t c = quad_stays 0 c.args.nodes.now c.look.new.self c.args.a c.look.ensures.reads.keeps c.requires.a_stands
+combined_over-quarters_of_both-requires-clause-a_stands t c = quad_stays 0 c.args.nodes.now c.found_before.new.nodes c.args.a c.found_before.ensures.reads.keeps c.requires.a_stands
 
 pub combined_over-quarters_of_both-requires-clause-b_stands : goal.combined_over-quarters_of_both-requires-clause-b_stands
-combined_over-quarters_of_both-requires-clause-b_stands t c = quad_stays 0 c.args.nodes.now c.look.new.self c.args.b c.look.ensures.reads.keeps c.requires.b_stands
+combined_over-quarters_of_both-requires-clause-b_stands t c = quad_stays 0 c.args.nodes.now c.found_before.new.nodes c.args.b c.found_before.ensures.reads.keeps c.requires.b_stands
 
 pub combined_over-returns-in_err-nw-clause-keeps : goal.combined_over-returns-in_err-nw-clause-keeps
 combined_over-returns-in_err-nw-clause-keeps t c =
     let s0 = c.args.nodes.now in
-    let s1 = c.look.new.self in
+    let s1 = c.found_before.new.nodes in
     let s2 = c.quarters_of_both.new.self in
     let s3 = c.combined.new.nodes in
     let q = c.quarters_of_both.ensures.first in
     let h : ℕ = c.args.a.height in
     let m : ℕ = quad_room (h - 1) in
-    let k0 = keeps_on 0 0 s0 s1 s2 c.look.ensures.reads.keeps c.quarters_of_both.ensures.reads.keeps in
+    let k0 = keeps_on 0 0 s0 s1 s2 c.found_before.ensures.reads.keeps c.quarters_of_both.ensures.reads.keeps in
     let k1 = keeps_on (0 + 0) m s0 s2 s3 k0 (room_below h c.quarters_of_both.result.0.0.height s2 s3 q.nw_height c.in_err-nw.ensures.keeps) in
     let r = rooms-next h c.requires.over in
     let l : 0 + 0 + m ≤ quad_room h = omega (arith, r) in
@@ -36,7 +34,7 @@ combined_over-returns-in_err-nw-clause-keeps t c =
 pub combined_over-combined-requires-2 : goal.combined_over-combined-requires-2
 combined_over-combined-requires-2 t c =
     let s0 = c.args.nodes.now in
-    let s1 = c.look.new.self in
+    let s1 = c.found_before.new.nodes in
     let s2 = c.quarters_of_both.new.self in
     let s3 = c.combined.new.nodes in
     let q = c.quarters_of_both.ensures.first in
@@ -46,14 +44,14 @@ combined_over-combined-requires-2 t c =
 pub combined_over-returns-in_err-ne-clause-keeps : goal.combined_over-returns-in_err-ne-clause-keeps
 combined_over-returns-in_err-ne-clause-keeps t c =
     let s0 = c.args.nodes.now in
-    let s1 = c.look.new.self in
+    let s1 = c.found_before.new.nodes in
     let s2 = c.quarters_of_both.new.self in
     let s3 = c.combined.new.nodes in
     let s4 = c.combined-2.new.nodes in
     let q = c.quarters_of_both.ensures.first in
     let h : ℕ = c.args.a.height in
     let m : ℕ = quad_room (h - 1) in
-    let k0 = keeps_on 0 0 s0 s1 s2 c.look.ensures.reads.keeps c.quarters_of_both.ensures.reads.keeps in
+    let k0 = keeps_on 0 0 s0 s1 s2 c.found_before.ensures.reads.keeps c.quarters_of_both.ensures.reads.keeps in
     let k1 = keeps_on (0 + 0) m s0 s2 s3 k0 (room_below h c.quarters_of_both.result.0.0.height s2 s3 q.nw_height c.in_ok-nw.ensures.keeps) in
     let k2 = keeps_on (0 + 0 + m) m s0 s3 s4 k1 (room_below h c.quarters_of_both.result.0.1.height s3 s4 q.ne_height c.in_err-ne.ensures.keeps) in
     let r = rooms-next h c.requires.over in
@@ -63,7 +61,7 @@ combined_over-returns-in_err-ne-clause-keeps t c =
 pub combined_over-combined-requires-3 : goal.combined_over-combined-requires-3
 combined_over-combined-requires-3 t c =
     let s0 = c.args.nodes.now in
-    let s1 = c.look.new.self in
+    let s1 = c.found_before.new.nodes in
     let s2 = c.quarters_of_both.new.self in
     let s3 = c.combined.new.nodes in
     let s4 = c.combined-2.new.nodes in
@@ -74,7 +72,7 @@ combined_over-combined-requires-3 t c =
 pub combined_over-returns-in_err-sw-clause-keeps : goal.combined_over-returns-in_err-sw-clause-keeps
 combined_over-returns-in_err-sw-clause-keeps t c =
     let s0 = c.args.nodes.now in
-    let s1 = c.look.new.self in
+    let s1 = c.found_before.new.nodes in
     let s2 = c.quarters_of_both.new.self in
     let s3 = c.combined.new.nodes in
     let s4 = c.combined-2.new.nodes in
@@ -82,7 +80,7 @@ combined_over-returns-in_err-sw-clause-keeps t c =
     let q = c.quarters_of_both.ensures.first in
     let h : ℕ = c.args.a.height in
     let m : ℕ = quad_room (h - 1) in
-    let k0 = keeps_on 0 0 s0 s1 s2 c.look.ensures.reads.keeps c.quarters_of_both.ensures.reads.keeps in
+    let k0 = keeps_on 0 0 s0 s1 s2 c.found_before.ensures.reads.keeps c.quarters_of_both.ensures.reads.keeps in
     let k1 = keeps_on (0 + 0) m s0 s2 s3 k0 (room_below h c.quarters_of_both.result.0.0.height s2 s3 q.nw_height c.in_ok-nw.ensures.keeps) in
     let k2 = keeps_on (0 + 0 + m) m s0 s3 s4 k1 (room_below h c.quarters_of_both.result.0.1.height s3 s4 q.ne_height c.in_ok-ne.ensures.keeps) in
     let k3 = keeps_on (0 + 0 + m + m) m s0 s4 s5 k2 (room_below h c.quarters_of_both.result.0.2.height s4 s5 q.sw_height c.in_err-sw.ensures.keeps) in
@@ -93,7 +91,7 @@ combined_over-returns-in_err-sw-clause-keeps t c =
 pub combined_over-combined-requires-4 : goal.combined_over-combined-requires-4
 combined_over-combined-requires-4 t c =
     let s0 = c.args.nodes.now in
-    let s1 = c.look.new.self in
+    let s1 = c.found_before.new.nodes in
     let s2 = c.quarters_of_both.new.self in
     let s3 = c.combined.new.nodes in
     let s4 = c.combined-2.new.nodes in
@@ -105,7 +103,7 @@ combined_over-combined-requires-4 t c =
 pub combined_over-returns-in_err-se-clause-keeps : goal.combined_over-returns-in_err-se-clause-keeps
 combined_over-returns-in_err-se-clause-keeps t c =
     let s0 = c.args.nodes.now in
-    let s1 = c.look.new.self in
+    let s1 = c.found_before.new.nodes in
     let s2 = c.quarters_of_both.new.self in
     let s3 = c.combined.new.nodes in
     let s4 = c.combined-2.new.nodes in
@@ -114,7 +112,7 @@ combined_over-returns-in_err-se-clause-keeps t c =
     let q = c.quarters_of_both.ensures.first in
     let h : ℕ = c.args.a.height in
     let m : ℕ = quad_room (h - 1) in
-    let k0 = keeps_on 0 0 s0 s1 s2 c.look.ensures.reads.keeps c.quarters_of_both.ensures.reads.keeps in
+    let k0 = keeps_on 0 0 s0 s1 s2 c.found_before.ensures.reads.keeps c.quarters_of_both.ensures.reads.keeps in
     let k1 = keeps_on (0 + 0) m s0 s2 s3 k0 (room_below h c.quarters_of_both.result.0.0.height s2 s3 q.nw_height c.in_ok-nw.ensures.keeps) in
     let k2 = keeps_on (0 + 0 + m) m s0 s3 s4 k1 (room_below h c.quarters_of_both.result.0.1.height s3 s4 q.ne_height c.in_ok-ne.ensures.keeps) in
     let k3 = keeps_on (0 + 0 + m + m) m s0 s4 s5 k2 (room_below h c.quarters_of_both.result.0.2.height s4 s5 q.sw_height c.in_ok-sw.ensures.keeps) in
@@ -126,7 +124,7 @@ combined_over-returns-in_err-se-clause-keeps t c =
 pub combined_over-corner-requires-clause-nw_stands : goal.combined_over-corner-requires-clause-nw_stands
 combined_over-corner-requires-clause-nw_stands t c =
     let s0 = c.args.nodes.now in
-    let s1 = c.look.new.self in
+    let s1 = c.found_before.new.nodes in
     let s2 = c.quarters_of_both.new.self in
     let s3 = c.combined.new.nodes in
     let s4 = c.combined-2.new.nodes in
@@ -137,7 +135,7 @@ combined_over-corner-requires-clause-nw_stands t c =
 pub combined_over-corner-requires-clause-ne_stands : goal.combined_over-corner-requires-clause-ne_stands
 combined_over-corner-requires-clause-ne_stands t c =
     let s0 = c.args.nodes.now in
-    let s1 = c.look.new.self in
+    let s1 = c.found_before.new.nodes in
     let s2 = c.quarters_of_both.new.self in
     let s3 = c.combined.new.nodes in
     let s4 = c.combined-2.new.nodes in
@@ -148,7 +146,7 @@ combined_over-corner-requires-clause-ne_stands t c =
 pub combined_over-corner-requires-clause-sw_stands : goal.combined_over-corner-requires-clause-sw_stands
 combined_over-corner-requires-clause-sw_stands t c =
     let s0 = c.args.nodes.now in
-    let s1 = c.look.new.self in
+    let s1 = c.found_before.new.nodes in
     let s2 = c.quarters_of_both.new.self in
     let s3 = c.combined.new.nodes in
     let s4 = c.combined-2.new.nodes in
@@ -159,7 +157,7 @@ combined_over-corner-requires-clause-sw_stands t c =
 pub combined_over-returns-in_err-found-clause-keeps : goal.combined_over-returns-in_err-found-clause-keeps
 combined_over-returns-in_err-found-clause-keeps t c =
     let s0 = c.args.nodes.now in
-    let s1 = c.look.new.self in
+    let s1 = c.found_before.new.nodes in
     let s2 = c.quarters_of_both.new.self in
     let s3 = c.combined.new.nodes in
     let s4 = c.combined-2.new.nodes in
@@ -169,7 +167,7 @@ combined_over-returns-in_err-found-clause-keeps t c =
     let q = c.quarters_of_both.ensures.first in
     let h : ℕ = c.args.a.height in
     let m : ℕ = quad_room (h - 1) in
-    let k0 = keeps_on 0 0 s0 s1 s2 c.look.ensures.reads.keeps c.quarters_of_both.ensures.reads.keeps in
+    let k0 = keeps_on 0 0 s0 s1 s2 c.found_before.ensures.reads.keeps c.quarters_of_both.ensures.reads.keeps in
     let k1 = keeps_on (0 + 0) m s0 s2 s3 k0 (room_below h c.quarters_of_both.result.0.0.height s2 s3 q.nw_height c.in_ok-nw.ensures.keeps) in
     let k2 = keeps_on (0 + 0 + m) m s0 s3 s4 k1 (room_below h c.quarters_of_both.result.0.1.height s3 s4 q.ne_height c.in_ok-ne.ensures.keeps) in
     let k3 = keeps_on (0 + 0 + m + m) m s0 s4 s5 k2 (room_below h c.quarters_of_both.result.0.2.height s4 s5 q.sw_height c.in_ok-sw.ensures.keeps) in
@@ -182,7 +180,7 @@ combined_over-returns-in_err-found-clause-keeps t c =
 pub combined_over-returns-clause-keeps : goal.combined_over-returns-clause-keeps
 combined_over-returns-clause-keeps t c =
     let s0 = c.args.nodes.now in
-    let s1 = c.look.new.self in
+    let s1 = c.found_before.new.nodes in
     let s2 = c.quarters_of_both.new.self in
     let s3 = c.combined.new.nodes in
     let s4 = c.combined-2.new.nodes in
@@ -193,7 +191,7 @@ combined_over-returns-clause-keeps t c =
     let q = c.quarters_of_both.ensures.first in
     let h : ℕ = c.args.a.height in
     let m : ℕ = quad_room (h - 1) in
-    let k0 = keeps_on 0 0 s0 s1 s2 c.look.ensures.reads.keeps c.quarters_of_both.ensures.reads.keeps in
+    let k0 = keeps_on 0 0 s0 s1 s2 c.found_before.ensures.reads.keeps c.quarters_of_both.ensures.reads.keeps in
     let k1 = keeps_on (0 + 0) m s0 s2 s3 k0 (room_below h c.quarters_of_both.result.0.0.height s2 s3 q.nw_height c.in_ok-nw.ensures.keeps) in
     let k2 = keeps_on (0 + 0 + m) m s0 s3 s4 k1 (room_below h c.quarters_of_both.result.0.1.height s3 s4 q.ne_height c.in_ok-ne.ensures.keeps) in
     let k3 = keeps_on (0 + 0 + m + m) m s0 s4 s5 k2 (room_below h c.quarters_of_both.result.0.2.height s4 s5 q.sw_height c.in_ok-sw.ensures.keeps) in
@@ -207,7 +205,7 @@ combined_over-returns-clause-keeps t c =
 pub combined_over-note-requires-clause-a_stands : goal.combined_over-note-requires-clause-a_stands
 combined_over-note-requires-clause-a_stands t c =
     let s0 = c.args.nodes.now in
-    let s1 = c.look.new.self in
+    let s1 = c.found_before.new.nodes in
     let s2 = c.quarters_of_both.new.self in
     let s3 = c.combined.new.nodes in
     let s4 = c.combined-2.new.nodes in
@@ -217,7 +215,7 @@ combined_over-note-requires-clause-a_stands t c =
     let q = c.quarters_of_both.ensures.first in
     let h : ℕ = c.args.a.height in
     let m : ℕ = quad_room (h - 1) in
-    let k0 = keeps_on 0 0 s0 s1 s2 c.look.ensures.reads.keeps c.quarters_of_both.ensures.reads.keeps in
+    let k0 = keeps_on 0 0 s0 s1 s2 c.found_before.ensures.reads.keeps c.quarters_of_both.ensures.reads.keeps in
     let k1 = keeps_on (0 + 0) m s0 s2 s3 k0 (room_below h c.quarters_of_both.result.0.0.height s2 s3 q.nw_height c.in_ok-nw.ensures.keeps) in
     let k2 = keeps_on (0 + 0 + m) m s0 s3 s4 k1 (room_below h c.quarters_of_both.result.0.1.height s3 s4 q.ne_height c.in_ok-ne.ensures.keeps) in
     let k3 = keeps_on (0 + 0 + m + m) m s0 s4 s5 k2 (room_below h c.quarters_of_both.result.0.2.height s4 s5 q.sw_height c.in_ok-sw.ensures.keeps) in
@@ -228,7 +226,7 @@ combined_over-note-requires-clause-a_stands t c =
 pub combined_over-note-requires-clause-b_stands : goal.combined_over-note-requires-clause-b_stands
 combined_over-note-requires-clause-b_stands t c =
     let s0 = c.args.nodes.now in
-    let s1 = c.look.new.self in
+    let s1 = c.found_before.new.nodes in
     let s2 = c.quarters_of_both.new.self in
     let s3 = c.combined.new.nodes in
     let s4 = c.combined-2.new.nodes in
@@ -238,7 +236,7 @@ combined_over-note-requires-clause-b_stands t c =
     let q = c.quarters_of_both.ensures.first in
     let h : ℕ = c.args.a.height in
     let m : ℕ = quad_room (h - 1) in
-    let k0 = keeps_on 0 0 s0 s1 s2 c.look.ensures.reads.keeps c.quarters_of_both.ensures.reads.keeps in
+    let k0 = keeps_on 0 0 s0 s1 s2 c.found_before.ensures.reads.keeps c.quarters_of_both.ensures.reads.keeps in
     let k1 = keeps_on (0 + 0) m s0 s2 s3 k0 (room_below h c.quarters_of_both.result.0.0.height s2 s3 q.nw_height c.in_ok-nw.ensures.keeps) in
     let k2 = keeps_on (0 + 0 + m) m s0 s3 s4 k1 (room_below h c.quarters_of_both.result.0.1.height s3 s4 q.ne_height c.in_ok-ne.ensures.keeps) in
     let k3 = keeps_on (0 + 0 + m + m) m s0 s4 s5 k2 (room_below h c.quarters_of_both.result.0.2.height s4 s5 q.sw_height c.in_ok-sw.ensures.keeps) in
@@ -249,7 +247,7 @@ combined_over-note-requires-clause-b_stands t c =
 pub combined_over-note-requires-clause-holds : goal.combined_over-note-requires-clause-holds
 combined_over-note-requires-clause-holds t c =
     let s0 = c.args.nodes.now in
-    let s1 = c.look.new.self in
+    let s1 = c.found_before.new.nodes in
     let s2 = c.quarters_of_both.new.self in
     let s3 = c.combined.new.nodes in
     let s4 = c.combined-2.new.nodes in
@@ -259,21 +257,21 @@ combined_over-note-requires-clause-holds t c =
     let q = c.quarters_of_both.ensures.first in
     let h : ℕ = c.args.a.height in
     let m : ℕ = quad_room (h - 1) in
-    let k0 = keeps_on 0 0 s0 s1 s2 c.look.ensures.reads.keeps c.quarters_of_both.ensures.reads.keeps in
+    let k0 = keeps_on 0 0 s0 s1 s2 c.found_before.ensures.reads.keeps c.quarters_of_both.ensures.reads.keeps in
     let k1 = keeps_on (0 + 0) m s0 s2 s3 k0 (room_below h c.quarters_of_both.result.0.0.height s2 s3 q.nw_height c.in_ok-nw.ensures.keeps) in
     let k2 = keeps_on (0 + 0 + m) m s0 s3 s4 k1 (room_below h c.quarters_of_both.result.0.1.height s3 s4 q.ne_height c.in_ok-ne.ensures.keeps) in
     let k3 = keeps_on (0 + 0 + m + m) m s0 s4 s5 k2 (room_below h c.quarters_of_both.result.0.2.height s4 s5 q.sw_height c.in_ok-sw.ensures.keeps) in
     let k4 = keeps_on (0 + 0 + m + m + m) m s0 s5 s6 k3 (room_below h c.quarters_of_both.result.0.3.height s5 s6 q.se_height c.in_ok-se.ensures.keeps) in
     let k5 = keeps_on (0 + 0 + m + m + m + m) 3 s0 s6 s7 k4 c.in_ok-found.ensures.keeps in
     let v = combined_value {E = Unit {0}} _ _ _ _ c.args.op s0 s1 s2 s3 s4 s5 s6 s7 c.args.a c.args.b c.quarters_of_both.result.0 c.quarters_of_both.result.1 c.in_ok-nw.nw c.in_ok-ne.ne c.in_ok-sw.sw c.in_ok-se.se (Ok c.in_ok-found.found)
-    c.requires.a_stands c.requires.b_stands c.requires.one_height c.look.ensures.reads.keeps q c.quarters_of_both.ensures.second c.in_ok-nw.ensures.keeps c.in_ok-ne.ensures.keeps c.in_ok-sw.ensures.keeps c.in_ok-se.ensures.keeps
+    c.requires.a_stands c.requires.b_stands c.requires.one_height c.found_before.ensures.reads.keeps q c.quarters_of_both.ensures.second c.in_ok-nw.ensures.keeps c.in_ok-ne.ensures.keeps c.in_ok-sw.ensures.keeps c.in_ok-se.ensures.keeps
     c.in_ok-nw.ensures.value c.in_ok-ne.ensures.value c.in_ok-sw.ensures.value c.in_ok-se.ensures.value c.in_ok-found.ensures.value in
-    as_equation (0 + 0 + m + m + m + m + 3) c.args.op _ s0 s7 c.args.a c.args.b c.in_ok-found.found c.op_of-2.ensures k5 c.requires.a_stands c.requires.b_stands v
+    as_equation (0 + 0 + m + m + m + m + 3) c.args.op _ s0 s7 c.args.a c.args.b c.in_ok-found.found c.op_of.ensures k5 c.requires.a_stands c.requires.b_stands v
 
 pub combined_over-returns-clause-value : goal.combined_over-returns-clause-value
 combined_over-returns-clause-value t c =
     let s0 = c.args.nodes.now in
-    let s1 = c.look.new.self in
+    let s1 = c.found_before.new.nodes in
     let s2 = c.quarters_of_both.new.self in
     let s3 = c.combined.new.nodes in
     let s4 = c.combined-2.new.nodes in
@@ -283,13 +281,13 @@ combined_over-returns-clause-value t c =
     let q = c.quarters_of_both.ensures.first in
     let h : ℕ = c.args.a.height in
     let m : ℕ = quad_room (h - 1) in
-    let k0 = keeps_on 0 0 s0 s1 s2 c.look.ensures.reads.keeps c.quarters_of_both.ensures.reads.keeps in
+    let k0 = keeps_on 0 0 s0 s1 s2 c.found_before.ensures.reads.keeps c.quarters_of_both.ensures.reads.keeps in
     let k1 = keeps_on (0 + 0) m s0 s2 s3 k0 (room_below h c.quarters_of_both.result.0.0.height s2 s3 q.nw_height c.in_ok-nw.ensures.keeps) in
     let k2 = keeps_on (0 + 0 + m) m s0 s3 s4 k1 (room_below h c.quarters_of_both.result.0.1.height s3 s4 q.ne_height c.in_ok-ne.ensures.keeps) in
     let k3 = keeps_on (0 + 0 + m + m) m s0 s4 s5 k2 (room_below h c.quarters_of_both.result.0.2.height s4 s5 q.sw_height c.in_ok-sw.ensures.keeps) in
     let k4 = keeps_on (0 + 0 + m + m + m) m s0 s5 s6 k3 (room_below h c.quarters_of_both.result.0.3.height s5 s6 q.se_height c.in_ok-se.ensures.keeps) in
     let k5 = keeps_on (0 + 0 + m + m + m + m) 3 s0 s6 s7 k4 c.in_ok-found.ensures.keeps in
     let v = combined_value {E = Unit {0}} _ _ _ _ c.args.op s0 s1 s2 s3 s4 s5 s6 s7 c.args.a c.args.b c.quarters_of_both.result.0 c.quarters_of_both.result.1 c.in_ok-nw.nw c.in_ok-ne.ne c.in_ok-sw.sw c.in_ok-se.se (Ok c.in_ok-found.found)
-    c.requires.a_stands c.requires.b_stands c.requires.one_height c.look.ensures.reads.keeps q c.quarters_of_both.ensures.second c.in_ok-nw.ensures.keeps c.in_ok-ne.ensures.keeps c.in_ok-sw.ensures.keeps c.in_ok-se.ensures.keeps
+    c.requires.a_stands c.requires.b_stands c.requires.one_height c.found_before.ensures.reads.keeps q c.quarters_of_both.ensures.second c.in_ok-nw.ensures.keeps c.in_ok-ne.ensures.keeps c.in_ok-sw.ensures.keeps c.in_ok-se.ensures.keeps
     c.in_ok-nw.ensures.value c.in_ok-ne.ensures.value c.in_ok-sw.ensures.value c.in_ok-se.ensures.value c.in_ok-found.ensures.value in
     is_quad-stays 0 s7 c.note.new.self c.args.a.height _ c.in_ok-found.found c.note.ensures.reads.keeps v

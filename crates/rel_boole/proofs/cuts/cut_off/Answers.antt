@@ -1,4 +1,4 @@
-use Rattle.std.proofs.Common.{Option, Some, sym, subst, inl, inr}
+use Rattle.std.proofs.Common.{Some, sym, subst, inl, inr}
 use Rattle.rel_model.specs.declared.Quad.{Quad}
 use Rattle.rel_boole.specs.declared.boole.Boole.{Boole}
 use Rattle.rel_boole.specs.Cellwise.{CutsOff}

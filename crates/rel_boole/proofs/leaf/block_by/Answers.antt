@@ -1,4 +1,4 @@
-use Rattle.std.proofs.Common.{◌≡◌, sym, ap, ◌∙◌, subst}
+use Rattle.std.proofs.Common.{sym, ap, ◌∙◌}
 use Rattle.rel_model.specs.Cells.{block_cells}
 use Rattle.rel_boole.specs.declared.boole.Boole.{Boole}
 use Rattle.rel_boole.specs.Cellwise.{cells_by}

@@ -1,8 +1,5 @@
-use Rattle.std.proofs.Common.{◌≡◌, ◌<◌, ◌≤◌, ◌+◌, ◌-◌, ◌∙◌, ℕ, Result, Ok, sym, arith}
-use Rattle.rel_model.specs.declared.Quad.{Quad}
-use Rattle.rel_model.specs.Cells.{cells_transpose}
-use Rattle.rel_model.specs.Trees.{bottom_height}
-use Rattle.rel_model.specs.Quads.{Work, QuadStands, IsQuad, KeepsWork, quad_room}
+use Rattle.std.proofs.Common.{◌≤◌, ◌+◌, ◌-◌, ℕ, Ok, arith}
+use Rattle.rel_model.specs.Quads.{quad_room}
 use Rattle.rel_model.proofs.QuadLaws.{keeps_on, keeps_most, quad_stays, is_quad-stays, rooms-next, room-some}
 use Rattle.rel_compose.proofs.Transposing.{room_below, none_stands, transposed_none, transposed_value, transposed_now}
 use Rattle.rel_compose.proofs.transpose.+transposing.Goals as goal
@@ -267,8 +264,8 @@ transposed_over-note-requires-clause-holds t c =
     let k4 = keeps_on (0 + 0 + m + m + m) m s0 s5 s6 k3 (room_below h c.quarters.result.3.height s5 s6 q.se_height c.in_ok-se.ensures.keeps) in
     let k5 = keeps_on (0 + 0 + m + m + m + m) 3 s0 s6 s7 k4 c.in_ok-found.ensures.keeps in
     let v = transposed_value {E = Unit {0}} _ _ _ _ s0 s1 s2 s3 s4 s5 s6 s7 c.args.a c.quarters.result c.in_ok-nw.nw c.in_ok-ne.ne c.in_ok-sw.sw c.in_ok-se.se (Ok c.in_ok-found.found)
-        c.requires.stands c.look.ensures.reads.keeps q c.in_ok-nw.ensures.keeps c.in_ok-ne.ensures.keeps c.in_ok-sw.ensures.keeps c.in_ok-se.ensures.keeps
-        c.in_ok-nw.ensures.value c.in_ok-ne.ensures.value c.in_ok-sw.ensures.value c.in_ok-se.ensures.value c.in_ok-found.ensures.value in
+    c.requires.stands c.look.ensures.reads.keeps q c.in_ok-nw.ensures.keeps c.in_ok-ne.ensures.keeps c.in_ok-sw.ensures.keeps c.in_ok-se.ensures.keeps
+    c.in_ok-nw.ensures.value c.in_ok-ne.ensures.value c.in_ok-sw.ensures.value c.in_ok-se.ensures.value c.in_ok-found.ensures.value in
     transposed_now (0 + 0 + m + m + m + m + 3) s0 s7 c.args.a c.in_ok-found.found k5 c.requires.stands v
 
 pub transposed_over-returns-clause-value : goal.transposed_over-returns-clause-value
@@ -291,6 +288,6 @@ transposed_over-returns-clause-value t c =
     let k4 = keeps_on (0 + 0 + m + m + m) m s0 s5 s6 k3 (room_below h c.quarters.result.3.height s5 s6 q.se_height c.in_ok-se.ensures.keeps) in
     let k5 = keeps_on (0 + 0 + m + m + m + m) 3 s0 s6 s7 k4 c.in_ok-found.ensures.keeps in
     let v = transposed_value {E = Unit {0}} _ _ _ _ s0 s1 s2 s3 s4 s5 s6 s7 c.args.a c.quarters.result c.in_ok-nw.nw c.in_ok-ne.ne c.in_ok-sw.sw c.in_ok-se.se (Ok c.in_ok-found.found)
-        c.requires.stands c.look.ensures.reads.keeps q c.in_ok-nw.ensures.keeps c.in_ok-ne.ensures.keeps c.in_ok-sw.ensures.keeps c.in_ok-se.ensures.keeps
-        c.in_ok-nw.ensures.value c.in_ok-ne.ensures.value c.in_ok-sw.ensures.value c.in_ok-se.ensures.value c.in_ok-found.ensures.value in
+    c.requires.stands c.look.ensures.reads.keeps q c.in_ok-nw.ensures.keeps c.in_ok-ne.ensures.keeps c.in_ok-sw.ensures.keeps c.in_ok-se.ensures.keeps
+    c.in_ok-nw.ensures.value c.in_ok-ne.ensures.value c.in_ok-sw.ensures.value c.in_ok-se.ensures.value c.in_ok-found.ensures.value in
     is_quad-stays 0 s7 c.note.new.self c.args.a.height _ c.in_ok-found.found c.note.ensures.reads.keeps v

@@ -1,10 +1,9 @@
-use Rattle.std.proofs.Common.{rules, ◌≡◌, ◌<◌, ◌≤◌, ◌+◌, ◌-◌, ◌⊎◌, min, ℕ, inl, inr, arith}
-use Rattle.rel_model.specs.Cells.{cells_rect}
-use Rattle.rel_model.specs.Trees.{bottom_height, top_height}
+use Rattle.std.proofs.Common.{◌≡◌, ◌<◌, ◌≤◌, ◌+◌, ◌-◌, ◌⊎◌, min, ℕ, inl, inr, arith}
+use Rattle.rel_model.specs.Trees.{bottom_height}
 use Rattle.rel_model.specs.Equations.{side_of}
-use Rattle.rel_model.specs.Quads.{Work, KeepsWork, quad_room}
+use Rattle.rel_model.specs.Quads.{quad_room}
 use Rattle.rel_model.proofs.QuadLaws.{keeps_on, keeps_most, keeps_itself, quad_stays, side_of-next, rooms-next, room-some}
-use Rattle.quad_nodes.proofs.Squaring.{rect_none, rect_corner, beside_twice, beside_each, beside_again}
+use Rattle.quad_nodes.proofs.Squaring.{rect_none, rect_corner, beside_each, beside_again}
 use Rattle.quad_nodes.proofs.nodes.Nodes.+rects.Goals as goal
 use Rattle.quad_nodes.proofs.nodes.Nodes.+rects.Goals.{rect-then-rows-eq0-via-then-rows-eq0, rect-then-rows-eq0-via-else-rows-eq0+then-cols-eq0}
 
@@ -33,7 +32,7 @@ rect-returns-then-rows-top-clause-value t c =
     let a = c.in_ok-nw.ensures.value in
     let s1 = c.rects_beside.new.self in
     rect_corner s1 s1 c.corner.new.self c.args.height 0 c.args.rows c.args.cols c.min-top.result c.in_ok-nw.nw c.in_ok-nw.ne c.in_ok-nw.nw c.in_ok-nw.ne c.corner.result over top a
-      (beside_again s1 (c.args.height - 1) c.min-top.result (c.args.rows - c.min-top.result) c.args.cols (c.in_ok-nw.nw, c.in_ok-nw.ne) same a) (keeps_itself s1 0 c.in_ok-nw.ensures.keeps.after) c.corner.ensures.value
+    (beside_again s1 (c.args.height - 1) c.min-top.result (c.args.rows - c.min-top.result) c.args.cols (c.in_ok-nw.nw, c.in_ok-nw.ne) same a) (keeps_itself s1 0 c.in_ok-nw.ensures.keeps.after) c.corner.ensures.value
 
 pub rect-returns-then-rows-top-clause-keeps : goal.rect-returns-then-rows-top-clause-keeps
 rect-returns-then-rows-top-clause-keeps t c =
@@ -69,7 +68,7 @@ rect-returns-clause-value t c =
     let top : c.min-top.result ≡ min c.args.rows (side_of (c.args.height - 1)) = omega arith in
     let m : ℕ = quad_room (c.args.height - 1) in
     rect_corner c.rects_beside.new.self c.rects_beside-2.new.self c.corner-2.new.self c.args.height (m + m) c.args.rows c.args.cols c.min-top.result c.in_ok-nw.nw c.in_ok-nw.ne c.in_ok-sw.sw c.in_ok-sw.se c.corner-2.result over top
-      c.in_ok-nw.ensures.value c.in_ok-sw.ensures.value c.in_ok-sw.ensures.keeps c.corner-2.ensures.value
+    c.in_ok-nw.ensures.value c.in_ok-sw.ensures.value c.in_ok-sw.ensures.keeps c.corner-2.ensures.value
 
 pub rect-returns-clause-keeps : goal.rect-returns-clause-keeps
 rect-returns-clause-keeps t c =
@@ -78,7 +77,7 @@ rect-returns-clause-keeps t c =
     let r = rooms-next c.args.height over in
     let l : m + m + (m + m) + 3 ≤ quad_room c.args.height = omega (arith, r) in
     keeps_most _ _ _ _ l (keeps_on (m + m + (m + m)) 3 c.args.self.now c.rects_beside-2.new.self c.corner-2.new.self
-      (keeps_on (m + m) (m + m) c.args.self.now c.rects_beside.new.self c.rects_beside-2.new.self c.in_ok-nw.ensures.keeps c.in_ok-sw.ensures.keeps) c.corner-2.ensures.keeps)
+    (keeps_on (m + m) (m + m) c.args.self.now c.rects_beside.new.self c.rects_beside-2.new.self c.in_ok-nw.ensures.keeps c.in_ok-sw.ensures.keeps) c.corner-2.ensures.keeps)
 
 pub rects_beside-returns-clause-value : goal.rects_beside-returns-clause-value
 rects_beside-returns-clause-value t c =

@@ -1,4 +1,4 @@
-use Rattle.std.proofs.Common.{◌≡◌, ◌≢◌, subst, arith}
+use Rattle.std.proofs.Common.{◌≢◌, subst, arith}
 use Rattle.rel_model.specs.Quads.{Work, IsWork}
 use Rattle.rel_model.specs.Trees.{bottom_height}
 use Rattle.quad_nodes.proofs.Halving.{empty_block, block_is}

@@ -1,4 +1,4 @@
-use Rattle.std.proofs.Common.{IfSome, Option, Some, rules, subst, sym}
+use Rattle.std.proofs.Common.{IfSome, Option, rules, subst, sym}
 use Rattle.rel_model.specs.declared.Quad.{Quad}
 use Rattle.rel_model.specs.Equations.{result_of, side_of}
 use Rattle.rel_model.specs.Quads.{Work, IsQuad, quad_cells, ReadsWork}

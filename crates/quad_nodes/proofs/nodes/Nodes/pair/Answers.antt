@@ -1,4 +1,4 @@
-use Rattle.std.proofs.Common.{◌≡◌, ◌≢◌, ◌<◌, ◌+◌, ◌^◌, rules, arith}
+use Rattle.std.proofs.Common.{◌≢◌, ◌<◌, ◌+◌, ◌^◌, rules, arith}
 use Rattle.rel_model.proofs.NamesStand.{pair_set}
 use Rattle.quad_nodes.proofs.nodes.Nodes.pair.Goals as goal
 

@@ -1,4 +1,4 @@
-use Rattle.std.proofs.Common.{◌-◌, ℕ}
+use Rattle.std.proofs.Common.{◌-◌}
 use Rattle.rel_model.specs.Equations.{depth_of}
 use Rattle.rel_model.proofs.QuadLaws.{known, known_after}
 use Rattle.std.proofs.Common.{suc}
@@ -18,5 +18,5 @@ halves-sw-requires c =
 pub returns-clause-quarters : goal.returns-clause-quarters
 returns-clause-quarters c =
     quarters_are c.args.self.now c.halves-north.new.self c.halves-nw.new.self c.halves-sw.new.self c.args.q c.halves-north.result.0 c.halves-north.result.1
-      c.halves-nw.result.0 c.halves-nw.result.1 c.halves-sw.result.0 c.halves-sw.result.1 c.requires.stands c.requires.over c.halves-north.ensures.reads c.halves-nw.ensures.reads c.halves-sw.ensures.reads
-      c.halves-north.ensures.halves c.halves-nw.ensures.halves c.halves-sw.ensures.halves
+    c.halves-nw.result.0 c.halves-nw.result.1 c.halves-sw.result.0 c.halves-sw.result.1 c.requires.stands c.requires.over c.halves-north.ensures.reads c.halves-nw.ensures.reads c.halves-sw.ensures.reads
+    c.halves-north.ensures.halves c.halves-nw.ensures.halves c.halves-sw.ensures.halves

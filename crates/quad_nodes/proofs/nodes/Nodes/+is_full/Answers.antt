@@ -1,0 +1,27 @@
+use Rattle.std.proofs.Common.{◌<◌, ◌-◌, ◌∙◌, suc, sym, ap, arith}
+use Rattle.rel_model.specs.Trees.{bottom_height}
+use Rattle.rel_model.specs.Equations.{depth_of}
+use Rattle.rel_model.proofs.QuadLaws.{known}
+use Rattle.quad_nodes.proofs.Halving.{halves_stand}
+use Rattle.quad_nodes.proofs.Filling.{all_of, full_block, side_of-bottom, full_by_quarter, stands_below}
+use Rattle.quad_nodes.proofs.nodes.Nodes.+is_full.Goals as goal
+
+pub returns-then-q-bottom-clause-full : goal.returns-then-q-bottom-clause-full
+returns-then-q-bottom-clause-full t c = λ e. sym c.bits.ensures.cells ∙ full_block c.bits.result e ∙ ap all_of (sym (side_of-bottom c.args.q.height (c.if-q-bottom.true ∙ c.bottom.ensures.height)))
+
+pub halves-west-requires : goal.halves-west-requires
+halves-west-requires t c =
+    let over : bottom_height < c.args.q.height = (let e = c.bottom.ensures.height in let l = c.requires.stands.low in let n = c.if-q-bottom.false in omega arith) in
+    let h = halves_stand c.args.self.now c.halves-north.new.self c.args.q c.halves-north.result.0 c.halves-north.result.1 c.requires.stands over c.halves-north.ensures.halves in
+    known c.halves-north.new.self.view (suc (depth_of (c.args.q.height - 1))) c.halves-north.result.0 h.first
+
+pub is_full-requires : goal.is_full-requires
+is_full-requires t c =
+    let over : bottom_height < c.args.q.height = (let e = c.bottom.ensures.height in let l = c.requires.stands.low in let n = c.if-q-bottom.false in omega arith) in
+    (omega arith, stands_below c.args.self.now c.halves-north.new.self c.halves-west.new.self c.args.q c.halves-north.result.0 c.halves-north.result.1 c.halves-west.result.0 c.halves-west.result.1 c.requires.stands over c.halves-north.ensures.halves c.halves-west.ensures.halves)
+
+pub returns-clause-full : goal.returns-clause-full
+returns-clause-full t c =
+    let over : bottom_height < c.args.q.height = (let e = c.bottom.ensures.height in let l = c.requires.stands.low in let n = c.if-q-bottom.false in omega arith) in
+    λ e. full_by_quarter c.args.self.now c.halves-north.new.self c.halves-west.new.self c.args.q c.halves-north.result.0 c.halves-north.result.1 c.halves-west.result.0 c.halves-west.result.1 c.requires.stands over
+    c.halves-north.ensures.halves c.if-north-south.false c.halves-west.ensures.halves c.if-west-east.false (c.is_full.ensures.full e)
