@@ -2,7 +2,7 @@
 ghost use Rattle.std.specs.Prelude.{◌≡◌, ◌<◌, ◌≤◌, ◌+◌, ◌^◌, ◌∷◌, [], false, length, MatchResult};
 ghost use Rattle.rel_model.specs.Grammar.{Carets, IsOperatorOf, OrLevel, UnaryLevel, PostLevel, PrimLevel, tighter, nesting_limit};
 ghost use Rattle.rv_parse.specs.Rest.{ExprPart, MoreCarets, sign_of, begins};
-ghost use Rattle.rv_parse.specs.Answers.{Reads, ReadsTo, Refuses};
+ghost use Rattle.rv_parse.specs.Answers.{Reads, Refuses};
 ghost use Rattle.rv_parse.specs.Expressions.{IsRead, level_of};
 
 use crate::next::{behind_sign, next_name, next_sign};

@@ -1,5 +1,5 @@
 //! Listed relations.
-ghost use Rattle.std.specs.Prelude.{◌≡◌, ◌<◌, ◌≤◌, ◌++◌, ◌∷◌, [], List, length, MatchResult};
+ghost use Rattle.std.specs.Prelude.{◌≡◌, ◌<◌, ◌≤◌, ◌∷◌, [], length, MatchResult};
 ghost use Rattle.rel_model.specs.Grammar.{SpellsColumns, SpellsRow, SpellsRows};
 ghost use Rattle.rv_parse.specs.Rest.{NamePart, RowCount, UpTo, RowsPart, MoreRows, MoreColumns, row_parts};
 ghost use Rattle.rv_parse.specs.Answers.{Reads, Refuses, SpellsBehindRel};
