@@ -4,6 +4,7 @@
 #include <stdint.h>
 #include <stdio.h>
 #include <stdlib.h>
+#include <string.h>
 #include <time.h>
 
 #ifdef COUNTED
@@ -168,8 +169,12 @@ int main(int argc, char **argv) {
         return 1;
     uint64_t size = 1ull << atoi(argv[1]), chance = strtoull(argv[2], 0, 10);
     count = size - 2;
-    words = calloc(size, 8);
-    memo = calloc(SLOTS, 8);
+    words = malloc(size * 8);
+    memo = malloc(SLOTS * 8);
+    if (words == 0 || memo == 0)
+        return 1;
+    memset(words, 0, size * 8);
+    memset(memo, 0, SLOTS * 8);
     uint32_t a = random_quad(HEIGHT, chance), b = random_quad(HEIGHT, chance);
     printf("%u %u\n", a, b);
     for (int op = UNION; op <= TRANSPOSE; op++) {

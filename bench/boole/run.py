@@ -40,8 +40,10 @@ print("density  operator       cold ms: proved  plain  time   again us: proved  
 for density, cells in (("0.001", 1), ("0.01", 10), ("0.1", 100)):
     case = (22, cells)
     counts = run(counted, case)
-    ours = [run(program, case) for _ in range(rounds)]
-    theirs = [run(plain, case) for _ in range(rounds)]
+    ours, theirs = [], []
+    for _ in range(rounds):
+        ours.append(run(program, case))
+        theirs.append(run(plain, case))
     for lines in ours + theirs:
         assert names(lines) == names(counts), "the names differ"
     for i, operator in enumerate(("union", "intersection", "difference", "transposition"), 1):
