@@ -1,5 +1,6 @@
 -- The relations that are kept, and which of them stand.
 use Rattle.std.specs.Prelude.{◌==◌, ◌≤◌, ◌&&◌, nat_le, List, Option, Some, None, option_and_then, cond, slice_get}
+use base.Stored.{gnil}
 use Rattle.rel_model.specs.declared.Rel.{Rel}
 use Rattle.rel_model.specs.Relation.{Relation, IsRelation, has, relation_of, size_limit}
 use Rattle.rel_model.specs.Worker.{Worker}
@@ -20,6 +21,6 @@ kept_as r k = cond ((k.rows == r.rows) && (k.cols == r.cols) && nat_le r.rows si
 unfoldable pub relation_at : List Relation → Rel → Option Relation
 relation_at ks r = option_and_then (kept_as r) (slice_get ks r.root)
 
--- the worker that keeps these: it has no table and no nodes, so its counts are 0 for ever
+-- the worker that keeps these: it has no table and no nodes, so its house is none and its counts are 0 for ever
 abbrev pub worker_of : List Relation → Worker
-worker_of ks = record { relation = relation_at ks; misses = 0; made = 0; house = 0; spare = 0 }
+worker_of ks = record { relation = relation_at ks; misses = 0; made = 0; house = gnil; spare = 0 }
