@@ -1,18 +1,14 @@
 -- One step of the recursion: four results on quarters and their corner are the result.
-use Rattle.std.proofs.Common.{◌≡◌, ◌+◌, ◌-◌, ℕ, Result, Ok, Err, IfOk, sym, ap, subst, ◌∙◌, arith}
+use Rattle.std.proofs.Common.{◌≡◌, ◌+◌, ℕ, Result, Ok, Err, IfOk, sym, ap, ◌∙◌, arith}
 use Rattle.rel_model.specs.declared.Quad.{Quad}
 use Rattle.rel_model.specs.Cells.{Cells}
 use Rattle.rel_model.specs.Trees.{quartered}
 use Rattle.rel_model.specs.Equations.{Operator, result_of, side_of}
-use Rattle.rel_model.specs.Quads.{Work, quad_cells, QuadStands, IsQuad, KeepsWork, AreQuarters, quad_room}
+use Rattle.rel_model.specs.Quads.{Work, quad_cells, QuadStands, IsQuad, KeepsWork, AreQuarters}
 use Rattle.rel_model.proofs.QuadLaws.{keeps_on, keeps_itself, quad_cells-stay, is_quad-stays, quarters-before, result_later, is_quad-height, corner_value}
 use Rattle.rel_boole.specs.declared.boole.Boole.{Boole}
 use Rattle.rel_boole.specs.Cellwise.{cells_by, operator_for}
 use Rattle.rel_boole.proofs.Cutting.{by_quarters, result_of-by}
-
--- the room of the height below
-pub room_below : (h k : ℕ) (v w : Work) → k + 1 ≡ h → KeepsWork (quad_room k) v w → KeepsWork (quad_room (h - 1)) v w
-room_below h k v w e x = subst (λ (n : ℕ). KeepsWork (quad_room n) v w) (let g : k ≡ h - 1 = omega arith in g) x
 
 pub combined_value : {E : Type 0} (m0 m1 m2 m3 : ℕ) (op : Boole) (s0 s1 s2 s3 s4 s5 s6 s7 : Work) (a b : Quad) (fa fb : Quad × Quad × Quad × Quad) (nw ne sw se : Quad) (r : Result Quad E)
     → QuadStands s0 a → QuadStands s0 b → b.height ≡ a.height → KeepsWork 0 s0 s1 → AreQuarters s1 s2 a fa → AreQuarters s1 s2 b fb

@@ -1,17 +1,13 @@
 -- One step of the recursion: the transposed quarters, of which north-east and south-west change places, and their corner.
-use Rattle.std.proofs.Common.{◌≡◌, ◌+◌, ◌-◌, ℕ, Result, Ok, Err, IfOk, refl, sym, ap, subst, ◌∙◌, arith}
+use Rattle.std.proofs.Common.{◌≡◌, ◌+◌, ℕ, Result, Ok, Err, IfOk, refl, sym, ap, ◌∙◌, arith}
 use Rattle.rel_model.specs.declared.Quad.{Quad}
 use Rattle.rel_model.specs.Cells.{Cells, no_cells, cells_transpose}
 use Rattle.rel_model.specs.Trees.{quartered}
 use Rattle.rel_model.specs.Equations.{depth_of, side_of}
-use Rattle.rel_model.specs.Quads.{Work, IsWork, quad_cells, QuadStands, IsQuad, KeepsWork, AreQuarters, quad_room}
+use Rattle.rel_model.specs.Quads.{Work, IsWork, quad_cells, QuadStands, IsQuad, KeepsWork, AreQuarters}
 use Rattle.rel_model.proofs.TreeLaws.{zero_stands}
 use Rattle.rel_model.proofs.Composing.{cells_transpose-quartered}
 use Rattle.rel_model.proofs.QuadLaws.{keeps_on, keeps_itself, quad_cells-stay, is_quad-stays, empty_quad, quarters-before, result_later, is_quad-height, corner_value}
-
--- the room of the height below
-pub room_below : (h k : ℕ) (v w : Work) → k + 1 ≡ h → KeepsWork (quad_room k) v w → KeepsWork (quad_room (h - 1)) v w
-room_below h k v w e x = subst (λ (n : ℕ). KeepsWork (quad_room n) v w) (let g : k ≡ h - 1 = omega arith in g) x
 
 -- the quad of name 0 stands at the height of any quad
 pub none_stands : (w : Work) (a : Quad) → QuadStands w a → QuadStands w (record { height = a.height; name = 0 })

@@ -218,3 +218,7 @@ corner_value v w h f0 f1 f2 f3 nw ne sw se (Ok q) a b c d i = record {
       ∙ ap (λ (x : Cells). quartered (side_of h) f0 f1 x (quad_cells v se)) c.means
       ∙ ap (λ (x : Cells). quartered (side_of h) f0 f1 f2 x) d.means;
 }
+
+-- the room of the height below
+pub room_below : (h k : ℕ) (v w : Work) → k + 1 ≡ h → KeepsWork (quad_room k) v w → KeepsWork (quad_room (h - 1)) v w
+room_below h k v w e x = subst (λ (n : ℕ). KeepsWork (quad_room n) v w) (let g : k ≡ h - 1 = omega arith in g) x

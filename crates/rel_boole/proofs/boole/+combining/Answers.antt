@@ -1,7 +1,7 @@
 use Rattle.std.proofs.Common.{◌≤◌, ◌+◌, ◌-◌, ℕ, Ok, arith}
 use Rattle.rel_model.specs.Quads.{quad_room}
-use Rattle.rel_model.proofs.QuadLaws.{keeps_on, keeps_most, quad_stays, is_quad-stays, rooms-next, room-some}
-use Rattle.rel_boole.proofs.Combining.{room_below, combined_value, as_equation}
+use Rattle.rel_model.proofs.QuadLaws.{keeps_on, keeps_most, quad_stays, is_quad-stays, rooms-next, room-some, room_below}
+use Rattle.rel_boole.proofs.Combining.{combined_value, as_equation}
 use Rattle.rel_boole.proofs.boole.+combining.Goals as goal
 
 pub combined-returns-then-a-bottom-clause-keeps : goal.combined-returns-then-a-bottom-clause-keeps

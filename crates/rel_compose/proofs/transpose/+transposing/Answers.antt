@@ -1,7 +1,7 @@
 use Rattle.std.proofs.Common.{◌≤◌, ◌+◌, ◌-◌, ℕ, Ok, arith}
 use Rattle.rel_model.specs.Quads.{quad_room}
-use Rattle.rel_model.proofs.QuadLaws.{keeps_on, keeps_most, quad_stays, is_quad-stays, rooms-next, room-some}
-use Rattle.rel_compose.proofs.Transposing.{room_below, none_stands, transposed_none, transposed_value, transposed_now}
+use Rattle.rel_model.proofs.QuadLaws.{keeps_on, keeps_most, quad_stays, is_quad-stays, rooms-next, room-some, room_below}
+use Rattle.rel_compose.proofs.Transposing.{none_stands, transposed_none, transposed_value, transposed_now}
 use Rattle.rel_compose.proofs.transpose.+transposing.Goals as goal
 
 pub transpose_quad-returns-then-a-eq0-clause-value : goal.transpose_quad-returns-then-a-eq0-clause-value
