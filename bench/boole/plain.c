@@ -112,11 +112,10 @@ static uint32_t applied(int op, int height, uint32_t a, uint32_t b) {
         a = b;
         b = first;
     }
-    uint64_t *at = slot(a, b), word = asked(op, height, a, b), mask = ((1ull << 24) - 1) << 9;
-    COUNT(probes);
-    if ((*at & ~mask) == word)
-        return (uint32_t)((*at & mask) >> 9);
-    if (op != TRANSPOSE) {
+    if (op == TRANSPOSE) {
+        if (is_full(height, a))
+            return a;
+    } else {
         if (is_full(height, a) && op == UNION)
             return a;
         if (is_full(height, a) && op == INTER)
@@ -124,6 +123,10 @@ static uint32_t applied(int op, int height, uint32_t a, uint32_t b) {
         if (is_full(height, b))
             return op == UNION ? b : op == INTER ? a : 0;
     }
+    uint64_t *at = slot(a, b), word = asked(op, height, a, b), mask = ((1ull << 24) - 1) << 9;
+    COUNT(probes);
+    if ((*at & ~mask) == word)
+        return (uint32_t)((*at & mask) >> 9);
     uint32_t a_north = left(a), a_south = right(a), b_north = left(b), b_south = right(b);
     uint32_t nw, ne, sw, se;
     if (op == TRANSPOSE) {

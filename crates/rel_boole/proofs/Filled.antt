@@ -87,19 +87,16 @@ diff_full_second a b r w i p q e f g =
     record { same_height = refl; stands = n.stands; means = n.means ∙ sym (ap (λ (c : Cells). cells_by DIFF (quad_cells w a) c) (g refl) ∙ same_cells _ no_cells (λ x y. diff_full (all_cells b x y) (quad_cells w a x y) (other_has_back w a b e x y))) }
 
 -- ---- seen from before the calls
-pub found_full : (s0 s1 s2 s3 : Work) (op : Boole) (a b : Quad) (a_full b_full : Bool) (r : Option Quad) → QuadStands s0 a → QuadStands s0 b → b.height ≡ a.height → ReadsWork s0 s1 → ReadsWork s1 s2 → ReadsWork s2 s3
-    → (a_full ≡ true → quad_cells s1 a ≡ all_cells a) → (b_full ≡ true → quad_cells s2 b ≡ all_cells b) → CutsOffFull op a b a_full b_full r
-    → IfSome r (IsQuad s3 a.height (cells_by op (quad_cells s0 a) (quad_cells s0 b)))
-found_full s0 s1 s2 s3 op a b a_full b_full r sa sb e r0 r1 r2 fa fb c =
+pub found_full : (s0 s1 s2 : Work) (op : Boole) (a b : Quad) (a_full b_full : Bool) (r : Option Quad) → QuadStands s0 a → QuadStands s0 b → b.height ≡ a.height → ReadsWork s0 s1 → ReadsWork s1 s2
+    → (a_full ≡ true → quad_cells s0 a ≡ all_cells a) → (b_full ≡ true → quad_cells s1 b ≡ all_cells b) → CutsOffFull op a b a_full b_full r
+    → IfSome r (IsQuad s2 a.height (cells_by op (quad_cells s0 a) (quad_cells s0 b)))
+found_full s0 s1 s2 op a b a_full b_full r sa sb e r0 r1 fa fb c =
     let x02 = reads_on s0 s1 s2 r0 r1 in
-    let x13 = reads_on s1 s2 s3 r1 r2 in
-    let x03 = reads_on s0 s2 s3 x02 r2 in
-    let ea = quad_cells-stay 0 s0 s3 a x03.keeps sa in
-    let eb = quad_cells-stay 0 s0 s3 b x03.keeps sb in
-    let a1 = quad_stays 0 s0 s1 a r0.keeps sa in
-    let b2 = quad_stays 0 s0 s2 b x02.keeps sb in
-    let d = c s3 r2.keeps.after (quad_stays 0 s0 s3 a x03.keeps sa) (quad_stays 0 s0 s3 b x03.keeps sb) e (λ t. quad_cells-stay 0 s1 s3 a x13.keeps a1 ∙ fa t) (λ t. quad_cells-stay 0 s2 s3 b r2.keeps b2 ∙ fb t) in
-    subst (λ (f : Cells). IfSome r (IsQuad s3 a.height f)) (ap (λ (f : Cells). cells_by op f (quad_cells s3 b)) ea ∙ ap (λ (f : Cells). cells_by op (quad_cells s0 a) f) eb) d
+    let ea = quad_cells-stay 0 s0 s2 a x02.keeps sa in
+    let eb = quad_cells-stay 0 s0 s2 b x02.keeps sb in
+    let b1 = quad_stays 0 s0 s1 b r0.keeps sb in
+    let d = c s2 r1.keeps.after (quad_stays 0 s0 s2 a x02.keeps sa) (quad_stays 0 s0 s2 b x02.keeps sb) e (λ t. ea ∙ fa t) (λ t. quad_cells-stay 0 s1 s2 b r1.keeps b1 ∙ fb t) in
+    subst (λ (f : Cells). IfSome r (IsQuad s2 a.height f)) (ap (λ (f : Cells). cells_by op f (quad_cells s2 b)) ea ∙ ap (λ (f : Cells). cells_by op (quad_cells s0 a) f) eb) d
 
 -- what was looked up, cell by cell
 pub looked_by : (w : Work) (o : Operator) (op : Boole) (h m : ℕ) (f g : Cells) (r : Quad) → o ≡ operator_for op → IsQuad w h (result_of o m f g) r → IsQuad w h (cells_by op f g) r

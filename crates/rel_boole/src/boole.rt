@@ -40,7 +40,7 @@ pub fn combined(nodes: &mut Nodes, op: Boole, a: Quad, b: Quad) -> Result<Quad, 
     combined_over(nodes, op, first, second)
 }
 
-/// The same over the blocks: what was noted is looked up, a full operand is cut off, and what is left goes by quarters and is noted.
+/// The same over the blocks: a full operand is cut off, what was noted is looked up, and what is left goes by quarters and is noted.
 #[cycle(combining)]
 fn combined_over(nodes: &mut Nodes, op: Boole, a: Quad, b: Quad) -> Result<Quad, Missed>
     requires a_stands { QuadStands nodes.old a }

@@ -1,4 +1,4 @@
-//! What is known without going by quarters: what was noted, and full operands.
+//! What is known without going by quarters: full operands, and what was noted.
 ghost use Rattle.std.specs.Prelude.{◌≡◌, IfSome};
 ghost use Rattle.rel_model.specs.Quads.{Work, QuadStands, IsQuad, quad_cells, ReadsWork};
 ghost use Rattle.memo_laws.specs.Looking.{operator_of};
@@ -47,7 +47,20 @@ fn with_full(op: Boole, a: Quad, b: Quad, a_full: bool, b_full: bool) -> Option<
     }
 }
 
-/// What was noted; else what follows from a full operand, of which one is found by words that the quarters are read from too.
+/// The result where an operand is the full square.
+fn cut_off_full(nodes: &mut Nodes, op: Boole, a: Quad, b: Quad) -> Option<Quad>
+    requires a_stands { QuadStands nodes.old a }
+    requires b_stands { QuadStands nodes.old b }
+    requires one_height { b.height ≡ a.height }
+    ensures found { IfSome result (IsQuad nodes.new a.height (cells_by op (quad_cells nodes.old a) (quad_cells nodes.old b))) }
+    ensures reads { ReadsWork nodes.old nodes.new }
+{
+    let a_full = nodes.is_full(a);
+    let b_full = nodes.is_full(b);
+    with_full(op, a, b, a_full, b_full)
+}
+
+/// What follows from a full operand, which is told by the words of the operands alone; else what was noted.
 pub fn found_before(nodes: &mut Nodes, op: Boole, a: Quad, b: Quad) -> Option<Quad>
     requires a_stands { QuadStands nodes.old a }
     requires b_stands { QuadStands nodes.old b }
@@ -55,10 +68,11 @@ pub fn found_before(nodes: &mut Nodes, op: Boole, a: Quad, b: Quad) -> Option<Qu
     ensures found { IfSome result (IsQuad nodes.new a.height (cells_by op (quad_cells nodes.old a) (quad_cells nodes.old b))) }
     ensures reads { ReadsWork nodes.old nodes.new }
 {
-    if let Some(found) = nodes.look(op_of(op), a, b) {
+    if let Some(found) = cut_off_full(nodes, op, a, b) {
         return Some(found);
     }
-    let a_full = nodes.is_full(a);
-    let b_full = nodes.is_full(b);
-    with_full(op, a, b, a_full, b_full)
+    match nodes.look(op_of(op), a, b) {
+        Some(found) => Some(found),
+        None => None,
+    }
 }

@@ -1,13 +1,14 @@
 -- One step of the recursion: the transposed quarters, of which north-east and south-west change places, and their corner.
-use Rattle.std.proofs.Common.{◌≡◌, ◌+◌, ℕ, Result, Ok, Err, IfOk, refl, sym, ap, ◌∙◌, arith}
+use Rattle.std.proofs.Common.{◌≡◌, ◌+◌, ltb, ℕ, Result, Ok, Err, IfOk, refl, sym, ap, subst, ◌∙◌, arith}
+use Rattle.std.proofs.Math.Bool.{and_comm}
 use Rattle.rel_model.specs.declared.Quad.{Quad}
-use Rattle.rel_model.specs.Cells.{Cells, no_cells, cells_transpose}
+use Rattle.rel_model.specs.Cells.{Cells, no_cells, cells_rect, cells_transpose}
 use Rattle.rel_model.specs.Trees.{quartered}
 use Rattle.rel_model.specs.Equations.{depth_of, side_of}
-use Rattle.rel_model.specs.Quads.{Work, IsWork, quad_cells, QuadStands, IsQuad, KeepsWork, AreQuarters}
-use Rattle.rel_model.proofs.TreeLaws.{zero_stands}
+use Rattle.rel_model.specs.Quads.{Work, IsWork, quad_cells, QuadStands, IsQuad, KeepsWork, ReadsWork, AreQuarters}
+use Rattle.rel_model.proofs.TreeLaws.{zero_stands, same_cells}
 use Rattle.rel_model.proofs.Composing.{cells_transpose-quartered}
-use Rattle.rel_model.proofs.QuadLaws.{keeps_on, keeps_itself, quad_cells-stay, is_quad-stays, empty_quad, quarters-before, result_later, is_quad-height, corner_value}
+use Rattle.rel_model.proofs.QuadLaws.{keeps_on, keeps_itself, quad_stays, quad_cells-stay, is_quad-stays, empty_quad, quarters-before, result_later, is_quad-height, corner_value}
 
 -- the quad of name 0 stands at the height of any quad
 pub none_stands : (w : Work) (a : Quad) → QuadStands w a → QuadStands w (record { height = a.height; name = 0 })
@@ -52,3 +53,13 @@ transposed_value {E} m0 m1 m2 m3 s0 s1 s2 s3 s4 s5 s6 s7 a four nw ne sw se (Ok 
 -- the result as an equation says it
 pub transposed_now : (m : ℕ) (v w : Work) (a r : Quad) → KeepsWork m v w → QuadStands v a → IsQuad w a.height (cells_transpose (quad_cells v a)) r → IsQuad w a.height (cells_transpose (quad_cells w a)) r
 transposed_now m v w a r k s i = record { same_height = i.same_height; stands = i.stands; means = i.means ∙ ap (λ (c : Cells). cells_transpose c) (sym (quad_cells-stay m v w a k s)) }
+
+-- a square with every cell is its own transposition
+rect_transposed : (m : ℕ) → cells_transpose (cells_rect m m) ≡ cells_rect m m
+rect_transposed m = same_cells _ _ (λ i j. and_comm (ltb j m) (ltb i m))
+
+pub transposed_full : (v w : Work) (a : Quad) → ReadsWork v w → QuadStands v a → quad_cells v a ≡ cells_rect (side_of a.height) (side_of a.height) → IsQuad w a.height (cells_transpose (quad_cells v a)) a
+transposed_full v w a r s f = record { same_height = refl; stands = quad_stays 0 v w a r.keeps s; means = quad_cells-stay 0 v w a r.keeps s ∙ f ∙ sym (rect_transposed (side_of a.height)) ∙ ap (λ (c : Cells). cells_transpose c) (sym f) }
+
+pub transposed_after : {E : Type 0} (v w z : Work) (a : Quad) (r : Result Quad E) → ReadsWork v w → QuadStands v a → IfOk r (IsQuad z a.height (cells_transpose (quad_cells w a))) → IfOk r (IsQuad z a.height (cells_transpose (quad_cells v a)))
+transposed_after v w z a r k s i = subst (λ (c : Cells). IfOk r (IsQuad z a.height (cells_transpose c))) (quad_cells-stay 0 v w a k.keeps s) i

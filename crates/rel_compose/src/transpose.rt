@@ -26,6 +26,9 @@ pub fn transpose_quad(nodes: &mut Nodes, a: Quad) -> Result<Quad, Missed>
         let bits = nodes.bits(a);
         return nodes.block(block_transpose(bits));
     }
+    if nodes.is_full(a) {
+        return Ok(a);
+    }
     transposed_over(nodes, a)
 }
 

@@ -1,7 +1,7 @@
 use Rattle.std.proofs.Common.{◌≤◌, ◌+◌, ◌-◌, ℕ, Ok, arith}
 use Rattle.rel_model.specs.Quads.{quad_room}
 use Rattle.rel_model.proofs.QuadLaws.{keeps_on, keeps_most, quad_stays, is_quad-stays, rooms-next, room-some, room_below}
-use Rattle.rel_compose.proofs.Transposing.{none_stands, transposed_none, transposed_value, transposed_now}
+use Rattle.rel_compose.proofs.Transposing.{none_stands, transposed_none, transposed_full, transposed_after, transposed_value, transposed_now}
 use Rattle.rel_compose.proofs.transpose.+transposing.Goals as goal
 
 pub transpose_quad-returns-then-a-eq0-clause-value : goal.transpose_quad-returns-then-a-eq0-clause-value
@@ -12,6 +12,19 @@ transpose_quad-returns-then-a-bottom-clause-keeps t c =
     let r = room-some c.args.a.height c.requires.stands.low in
     let l : 0 + 1 ≤ quad_room c.args.a.height = omega (arith, r) in
     keeps_most (0 + 1) (quad_room c.args.a.height) c.args.nodes.now c.block.new.self l (keeps_on 0 1 c.args.nodes.now c.bits-bits.new.self c.block.new.self c.bits-bits.ensures.reads.keeps c.block.ensures.keeps)
+
+pub transpose_quad-returns-then-is_full-clause-value : goal.transpose_quad-returns-then-is_full-clause-value
+transpose_quad-returns-then-is_full-clause-value t c = transposed_full c.args.nodes.now c.is_full.new.self c.args.a c.is_full.ensures.reads c.requires.stands (c.is_full.ensures.full c.if-is_full.true)
+
+pub transpose_quad-transposed_over-requires : goal.transpose_quad-transposed_over-requires
+transpose_quad-transposed_over-requires t c =
+    let l = c.requires.stands.low in
+    let n = c.if-a-bottom.false in
+    let b = c.bottom-bottom.ensures.height in
+    (omega arith, (quad_stays 0 c.args.nodes.now c.is_full.new.self c.args.a c.is_full.ensures.reads.keeps c.requires.stands, omega (arith, l, n, b)))
+
+pub transpose_quad-returns-clause-value : goal.transpose_quad-returns-clause-value
+transpose_quad-returns-clause-value t c = transposed_after c.args.nodes.now c.is_full.new.self c.transposed_over.new.nodes c.args.a c.transposed_over.result c.is_full.ensures.reads c.requires.stands c.transposed_over.ensures.value
 
 pub transposed_over-quarters-requires-clause-stands : goal.transposed_over-quarters-requires-clause-stands
 transposed_over-quarters-requires-clause-stands t c = quad_stays 0 c.args.nodes.now c.look.new.self c.args.a c.look.ensures.reads.keeps c.requires.stands
