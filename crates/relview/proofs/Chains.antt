@@ -1,11 +1,11 @@
 -- Calls and chains as the code has them, with their arguments and links in a vector: what the definitions say of a row, read off the list. By induction on the row.
-use Rattle.std.proofs.Common.{◌≡◌, ◌∙◌, refl, sym, ap, rules, List, [], ◌∷◌}
-use Rattle.rel_model.specs.declared.syntax.Expr.{Expr, Row_of-Expr, end_of-Expr, more_of-Expr, items-the_row-Expr, Row_of-Link, end_of-Link, more_of-Link, items-the_row-Link, the_lemmas}
+use Rattle.std.proofs.Common.{◌≡◌, refl, ap, rules}
+use Rattle.rel_model.specs.declared.syntax.Expr.{Row_of-Expr, end_of-Expr, more_of-Expr, items-the_row-Expr, Row_of-Link, end_of-Link, more_of-Link, items-the_row-Link, the_lemmas}
 use Rattle.rel_model.specs.declared.syntax.Expr.TheVariants.{Call, Base, Chain}
 use Rattle.rel_model.specs.Relation.{Relation}
 use Rattle.rel_model.specs.State.{State}
 use Rattle.rel_model.specs.Meaning.{missing, missing_in, missing_along, first_of_both, Shaped, joined, shaped, shaped_along, result_of_both, value, value_along}
-use Rattle.relview.specs.Links.{missing_of_args, missing_of_links, shaped_of_links, value_of_links, IsPlain, ArePlain, ArePlainLinks, IsBoolean}
+use Rattle.relview.specs.Links.{missing_of_args, missing_of_links, shaped_of_links, value_of_links, IsPlain, ArePlain, ArePlainLinks}
 
 missing_in-items : (S : State) (n : _) (k : Row_of-Expr n) → missing_in S k ≡ missing_of_args S (items-the_row-Expr n k)
 missing_in-items S _ end_of-Expr = refl

@@ -1,9 +1,8 @@
 -- What the spelling of a first script tells of its items: plain expressions, sizes within the limit, and no more items than bytes.
-use Rattle.std.proofs.Common.{◌≡◌, ◌<◌, ◌≤◌, ◌+◌, ◌-◌, ◌^◌, ◌∙◌, ℕ, Bool, true, false, cond, not, eqb, zero, suc, List, [], ◌∷◌, length, Option, Some, None, option_map, refl, sym, ap, subst, arith}
+use Rattle.std.proofs.Common.{◌≡◌, ◌≤◌, ◌+◌, ◌-◌, ◌^◌, ◌∙◌, ℕ, Bool, true, false, cond, not, eqb, zero, suc, List, [], ◌∷◌, length, Option, Some, None, refl, sym, ap, arith}
 use Rattle.std.specs.Prelude.{All}
 use Rattle.std.specs.List.{AllByRecursion, list_all}
 use Rattle.std.specs.Option.{option_map_or}
-use Rattle.std.proofs.lemmas.Bool.{cases_Bool}
 use Rattle.std.proofs.lemmas.List.Elements.{All-from_recursion}
 use Rattle.rel_model.specs.declared.syntax.Place.{Place}
 use Rattle.rel_model.specs.declared.syntax.Op2.{Op2}
@@ -14,11 +13,11 @@ use Rattle.rel_model.specs.declared.syntax.Command.{Command}
 use Rattle.rel_model.specs.declared.syntax.Command.TheVariants.{Relation, Let, Print, List as LIST, Count, Typed, Remove, Snap, At, Load, Save}
 use Rattle.rel_model.specs.declared.syntax.Item.{Item}
 use Rattle.rel_model.specs.declared.syntax.Item.TheVariants.{Command as COMMAND, Function, Program}
-use Rattle.rel_model.specs.declared.syntax.Expr.{Expr, Ref, Minus', Turned', Chain', Row_of-Link, end_of-Link, more_of-Link}
+use Rattle.rel_model.specs.declared.syntax.Expr.{Expr, Row_of-Link}
 use Rattle.rel_model.specs.declared.syntax.Script.{Script}
 use Rattle.rel_model.specs.declared.token.Kind.{Kind}
 use Rattle.rel_model.specs.declared.token.Token.{Token}
-use Rattle.rel_model.specs.Grammar.{Level, OrLevel, AndLevel, UnaryLevel, PostLevel, PrimLevel, tighter, IsOperatorOf, Takes, TakesAt, Carets, Spelled, named, enclosed, turned, negated, chained, alone, Linked, last, link, SpellsMoreColumns, SpellsColumns, SpellsRow, SpellsMoreRows, SpellsRows, SpellsCommand, SpellsItem, SpellsItems, Spells, SpelledBy}
+use Rattle.rel_model.specs.Grammar.{Level, OrLevel, AndLevel, UnaryLevel, PostLevel, PrimLevel, IsOperatorOf, Takes, TakesAt, Carets, Spelled, named, enclosed, turned, negated, chained, alone, Linked, last, link, SpellsMoreColumns, SpellsColumns, SpellsRow, SpellsMoreRows, SpellsRows, SpellsCommand, SpellsItem, SpellsItems, SpelledBy}
 use Rattle.rel_model.specs.Tokens.{tokens_from, tokens_of, with_token, kind_at, behind, run_length, is_blank, is_allowed}
 use Rattle.relview.specs.Links.{IsPlain, ArePlain, IsBoolean}
 use Rattle.relview.specs.Ran.{IsFirstItem}

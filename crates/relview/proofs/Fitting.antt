@@ -1,5 +1,5 @@
 -- The parts of an expression whose sizes fit have sizes that fit, and its chains go on.
-use Rattle.std.proofs.Common.{◌≡◌, ◌<◌, ◌+◌, ◌∙◌, ◌&&◌, inl, inr, ℕ, Bool, true, false, cond, eqb, zero, suc, List, [], ◌∷◌, length, drop, get_or, Option, Some, None, refl, sym, ap, subst, arith}
+use Rattle.std.proofs.Common.{◌≡◌, ◌<◌, ◌+◌, ◌∙◌, ◌&&◌, inl, inr, ℕ, cond, eqb, zero, suc, List, [], ◌∷◌, length, drop, get_or, Some, refl, sym, ap, subst}
 use Rattle.std.proofs.lemmas.List.{drop_more}
 use Rattle.std.proofs.lemmas.Bool.{cases_Bool, and_parts, eqb-true}
 use Rattle.rel_model.specs.declared.Rel.{Rel}
@@ -11,9 +11,9 @@ use Rattle.rel_model.specs.declared.faults.TypeFault.{TypeFault}
 use Rattle.rel_model.specs.declared.faults.TypeFault.TheVariants.{Mismatch}
 use Rattle.rel_model.specs.Relation.{Relation}
 use Rattle.rel_model.specs.State.{State}
-use Rattle.rel_model.specs.Meaning.{Shaped, Fits, Misfit, joined, takes, shape_of_result, spelling, known, shape_transposed, shape_transposed_by, shaped, value, result_of_both}
+use Rattle.rel_model.specs.Meaning.{Shaped, Fits, Misfit, joined, spelling, known, shape_transposed, shape_transposed_by, shaped, value, result_of_both}
 use Rattle.rel_model.specs.Worker.{Worker, Stands, set_of, Gives, Keeps}
-use Rattle.rel_model.proofs.Workers.{gives_stands, gives_set, keeps_set, keeps_stands, keeps_trans, stands_some}
+use Rattle.rel_model.proofs.Workers.{gives_stands, gives_set, keeps_set, keeps_trans, stands_some}
 use Rattle.relview.specs.Links.{shaped_of_links, value_of_links, IsFit, IsPlain, IsBoolean, ArePlainLinks}
 use Rattle.relview.specs.Values.{GivesValue}
 use Rattle.relview.proofs.Shapes.{misfit_stays}

@@ -1,5 +1,5 @@
 -- What is due of PRINT, and its reply.
-use Rattle.std.proofs.Common.{◌≡◌, ◌∙◌, ◌++◌, ℕ, List, Option, Some, None, refl, sym, ap, subst}
+use Rattle.std.proofs.Common.{◌≡◌, ◌∙◌, ◌++◌, ℕ, List, Some, None, sym, ap, subst}
 use Rattle.rel_model.specs.declared.Rel.{Rel}
 use Rattle.rel_model.specs.declared.syntax.Place.{Place}
 use Rattle.rel_model.specs.declared.syntax.Command.TheVariants.{Print}
@@ -11,13 +11,13 @@ use Rattle.rel_model.specs.declared.run.Outcome.{Outcome}
 use Rattle.rel_model.specs.declared.run.Outcome.TheVariants.{Done, Ill}
 use Rattle.rel_model.specs.Relation.{Relation}
 use Rattle.rel_model.specs.State.{State}
-use Rattle.rel_model.specs.Meaning.{missing, Shaped, Fits, Misfit, shaped, value}
-use Rattle.rel_model.specs.Due.{Due, Value, Refusal, known_or_ill, fitting_or_ill, evaluated, outcome_due}
+use Rattle.rel_model.specs.Meaning.{missing, Fits, Misfit, shaped, value}
+use Rattle.rel_model.specs.Due.{Value, Refusal, known_or_ill, fitting_or_ill, evaluated, outcome_due}
 use Rattle.rel_model.specs.Legal.{MayLackNodes, IsCompound}
 use Rattle.rel_model.specs.Page.{prefix, matrix, refusal_text, reply}
 use Rattle.rel_model.specs.Worker.{Worker}
 use Rattle.relview.specs.Links.{IsFit}
-use Rattle.relview.specs.Names.{rel_of, means, sized, AllStand}
+use Rattle.relview.specs.Names.{means, sized, AllStand}
 use Rattle.relview.specs.Ran.{Replies}
 use Rattle.relview.proofs.Agreeing.{HasSizes, missing-agree, shaped-agree, sized-names, sized-sizes}
 

@@ -1,17 +1,17 @@
 -- A reply to PRINT is lawful, also where the table is full or memory runs out.
-use Rattle.std.proofs.Common.{◌≡◌, ◌∙◌, ◌++◌, ◌⊎◌, inl, inr, ℕ, List, Option, Some, None, refl, sym, ap, subst}
+use Rattle.std.proofs.Common.{◌≡◌, ◌∙◌, ◌++◌, inl, inr, ℕ, List, Some, None, refl, sym, ap}
 use Rattle.rel_model.specs.declared.Lack.{Lack}
 use Rattle.rel_model.specs.declared.Lack.TheVariants.{Full, NoMemory as NO_MEMORY}
 use Rattle.rel_model.specs.declared.syntax.Command.TheVariants.{Print}
 use Rattle.rel_model.specs.declared.syntax.Item.TheVariants.{Command}
 use Rattle.rel_model.specs.declared.syntax.Expr.{Expr}
 use Rattle.rel_model.specs.declared.run.Outcome.{Outcome}
-use Rattle.rel_model.specs.declared.run.Outcome.TheVariants.{Done, Ill, Nodes, NoMemory}
+use Rattle.rel_model.specs.declared.run.Outcome.TheVariants.{Nodes, NoMemory}
 use Rattle.rel_model.specs.Relation.{Relation}
 use Rattle.rel_model.specs.State.{State}
 use Rattle.rel_model.specs.Meaning.{missing, Shaped, Fits, Misfit, shaped, value}
-use Rattle.rel_model.specs.Due.{Due, Nothing, Value, Refusal, known_or_ill, fitting_or_ill, evaluated, outcome_due}
-use Rattle.rel_model.specs.Legal.{MayLackNodes, IsOutcome}
+use Rattle.rel_model.specs.Due.{known_or_ill, fitting_or_ill, evaluated, outcome_due}
+use Rattle.rel_model.specs.Legal.{MayLackNodes}
 use Rattle.rel_model.specs.Page.{prefix, refusal_text, reply}
 use Rattle.rel_model.specs.Worker.{Rose}
 use Rattle.relview.specs.Ran.{Replies, Settles}

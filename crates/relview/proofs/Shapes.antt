@@ -1,10 +1,10 @@
 -- Sizes of expressions: transposed so many times, and the first misfit of a chain, which stays.
-use Rattle.std.proofs.Common.{◌≡◌, ◌<◌, ◌+◌, ◌*◌, ◌/◌, ◌%◌, ◌∙◌, ℕ, zero, suc, List, [], ◌∷◌, length, drop, get_or, Option, Some, None, refl, sym, ap, arith}
+use Rattle.std.proofs.Common.{◌≡◌, ◌<◌, ◌+◌, ◌/◌, ◌%◌, ◌∙◌, ℕ, zero, suc, List, [], ◌∷◌, length, drop, get_or, Some, None, refl, sym, ap, arith}
 use Rattle.std.proofs.Math.Nat.{div-add-mod}
 use Rattle.std.proofs.lemmas.List.{drop_more}
 use Rattle.rel_model.specs.declared.Rel.{Rel}
 use Rattle.rel_model.specs.declared.syntax.Place.{Place}
-use Rattle.rel_model.specs.declared.syntax.Expr.{Expr, Ref}
+use Rattle.rel_model.specs.declared.syntax.Expr.{Ref}
 use Rattle.rel_model.specs.declared.syntax.Link.{Link}
 use Rattle.rel_model.specs.declared.faults.TypeFault.{TypeFault}
 use Rattle.rel_model.specs.Operators.{empty}

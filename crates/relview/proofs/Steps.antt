@@ -1,9 +1,8 @@
 -- One more item of a script.
 -- 1. The names mean the workspace; so the state for a command whose event comes next is what they mean before it.
 -- 2. An item joins what was lawful and shown, behind its event where it has one.
-use Rattle.std.proofs.Common.{◌≡◌, ◌<◌, ◌≤◌, ◌+◌, ◌-◌, ◌^◌, ◌∙◌, ◌⊎◌, inl, inr, ℕ, Bool, true, false, cond, min, List, [], ◌∷◌, ◌++◌, length, take, get_or, Option, Some, None, refl, sym, ap, subst, arith, length-append, append-nil, length-take}
-use Rattle.std.specs.Prelude.{option_and_then, IsSome, slice_get}
-use Rattle.std.proofs.lemmas.Bool.{cases_Bool}
+use Rattle.std.proofs.Common.{◌≡◌, ◌<◌, ◌≤◌, ◌+◌, ◌-◌, ◌∙◌, ◌⊎◌, inl, inr, ℕ, Bool, true, false, cond, List, [], ◌∷◌, ◌++◌, length, take, get_or, Some, None, refl, sym, ap, subst, arith, length-append, append-nil, length-take}
+use Rattle.std.specs.Prelude.{option_and_then, slice_get}
 use Rattle.std.proofs.lemmas.List.{take_more}
 use Rattle.std.proofs.lemmas.Option.{slice_get_read}
 use Rattle.rel_model.specs.declared.Rel.{Rel}
@@ -19,12 +18,12 @@ use Rattle.rel_model.specs.declared.run.Act.TheVariants.{Read, Assign}
 use Rattle.rel_model.specs.declared.run.Outcome.{Outcome}
 use Rattle.rel_model.specs.declared.run.Outcome.TheVariants.{Done, Nodes, NoMemory}
 use Rattle.rel_model.specs.Relation.{relation_of}
-use Rattle.rel_model.specs.State.{State, nothing, assigned, lists}
+use Rattle.rel_model.specs.State.{nothing, assigned, lists}
 use Rattle.rel_model.specs.Tokens.{same_text}
 use Rattle.rel_model.specs.Due.{Due, Value, due, due_of_command, evaluated}
 use Rattle.rel_model.specs.Legal.{Trees, item_at, state_after, state_for, LegalItems, IsOutcome, HasEvents}
 use Rattle.rel_model.specs.Page.{items_page, reply, prefix, refusal_text}
-use Rattle.rel_model.specs.Worker.{Worker, Stands, Keeps, Gives, Rose}
+use Rattle.rel_model.specs.Worker.{Worker, Stands, Keeps, Rose}
 use Rattle.rel_model.proofs.Workers.{keeps_trans, keeps_itself, gives_stands}
 use Rattle.rel_model.proofs.Runs.{Below, below-push, below-more, state_after-read, state_after-listed, state_for-new, legal_later, legal_append, legal-length, page_later, page_append}
 use Rattle.relview.specs.declared.session.Run.{Run}

@@ -1,12 +1,11 @@
 -- Values of expressions: what the operators of a worker give.
-use Rattle.std.proofs.Common.{◌≡◌, ◌<◌, ◌+◌, ◌*◌, ◌/◌, ◌%◌, ◌∙◌, ℕ, Bool, true, cond, zero, suc, List, [], ◌∷◌, length, drop, get_or, Option, Some, None, refl, sym, ap, subst, arith}
+use Rattle.std.proofs.Common.{◌≡◌, ◌+◌, ◌/◌, ◌%◌, ◌∙◌, ℕ, List, Option, Some, None, refl, sym, ap, subst, arith}
 use Rattle.std.specs.Prelude.{option_and_then, IsSome}
 use Rattle.std.proofs.Math.Nat.{div-add-mod}
 use Rattle.rel_model.specs.declared.Rel.{Rel}
-use Rattle.rel_model.specs.Relation.{Relation, IsRelation}
+use Rattle.rel_model.specs.Relation.{IsRelation}
 use Rattle.rel_model.specs.Operators.{full, diff, complement, transpose, transposed_by}
-use Rattle.rel_model.specs.State.{State}
-use Rattle.rel_model.specs.Meaning.{Shaped, Fits, Misfit, shape_transposed_by}
+use Rattle.rel_model.specs.Meaning.{Fits, shape_transposed_by}
 use Rattle.rel_model.specs.Worker.{Worker, Stands, set_of, Gives, Keeps}
 use Rattle.rel_model.proofs.Workers.{stands_some, gives_set, keeps_set}
 use Rattle.rel_model.proofs.OperatorLaws.{diff-full, transposed_by-even, transposed_by-odd}

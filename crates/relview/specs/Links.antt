@@ -1,5 +1,5 @@
 -- The links of a chain as a list, and the expressions of union, intersection, complement and transposition.
-use Rattle.std.specs.Prelude.{ℕ, Bool, List, [], ◌∷◌, Option, None}
+use Rattle.std.specs.Prelude.{ℕ, List, [], ◌∷◌, Option, None}
 use Rattle.rel_model.specs.declared.syntax.Place.{Place}
 use Rattle.rel_model.specs.declared.syntax.Op2.{Op2}
 use Rattle.rel_model.specs.declared.syntax.Op2.TheVariants.{Or, And}

@@ -1,5 +1,5 @@
 -- What stands after the first items of the script of session 1.
-use Rattle.std.specs.Prelude.{◌≡◌, ◌+◌, ◌<◌, ◌≤◌, ℕ, List, [], ◌∷◌, ◌++◌, length, take, Option, Some}
+use Rattle.std.specs.Prelude.{◌≡◌, ◌+◌, ◌<◌, ◌≤◌, ℕ, List, [], ◌∷◌, ◌++◌, length, take, Some}
 use Rattle.std.specs.List.{AllByRecursion}
 use Rattle.rel_model.specs.declared.Rel.{Rel}
 use Rattle.rel_model.specs.declared.Lack.{Lack}
@@ -14,12 +14,12 @@ use Rattle.rel_model.specs.declared.run.Outcome.{Outcome}
 use Rattle.rel_model.specs.declared.run.Outcome.TheVariants.{Done, Nodes}
 use Rattle.rel_model.specs.declared.run.Act.TheVariants.{Read, Assign}
 use Rattle.rel_model.specs.Relation.{Relation}
-use Rattle.rel_model.specs.Worker.{Worker, Stands, Keeps, Gives, Rose}
+use Rattle.rel_model.specs.Worker.{Worker, Keeps, Gives, Rose}
 use Rattle.rel_model.specs.State.{State}
-use Rattle.rel_model.specs.Due.{Due, outcome_due, evaluated}
-use Rattle.rel_model.specs.Legal.{Trees, LegalItems, state_after, IsOutcome, MayLackNodes, HasEvents}
+use Rattle.rel_model.specs.Due.{outcome_due, evaluated}
+use Rattle.rel_model.specs.Legal.{Trees, LegalItems, state_after, IsOutcome}
 use Rattle.rel_model.specs.Page.{items_page, reply, prefix, refusal_text}
-use Rattle.relview.specs.Names.{rel_of, means, AllStand}
+use Rattle.relview.specs.Names.{means, AllStand}
 use Rattle.relview.specs.Links.{IsPlain}
 use Rattle.rel_model.specs.Relation.{size_limit}
 use Rattle.relview.specs.Values.{lack_outcome}

@@ -1,11 +1,10 @@
 -- What the program answers: which words it takes, the lines that it says instead of a page, and the causes of its statuses.
-use Rattle.std.specs.Prelude.{◌≡◌, ◌≢◌, ◌⊎◌, ◌++◌, ◌&&◌, ◌==◌, ◌<◌, ◌≤◌, ◌-◌, not, ℕ, Bool, true, false, cond, List, [], ◌∷◌, length, take, drop, map, codes, Option, String}
+use Rattle.std.specs.Prelude.{◌≡◌, ◌≢◌, ◌⊎◌, ◌++◌, ◌&&◌, ◌==◌, ◌≤◌, ◌-◌, not, ℕ, Bool, true, false, cond, List, [], ◌∷◌, length, drop, map, codes, Option, String}
 use Rattle.std.specs.List.{list_any, list_all, AllByRecursion}
 use Rattle.std.specs.String.{string_bytes}
 use Rattle.std.specs.declared.alloc.Global.{Global}
 use Rattle.std.specs.Io.KnownBytes.{Appends}
 use Rattle.rel_model.specs.Tokens.{same_text}
-use Rattle.rel_model.specs.declared.run.Event.{Event}
 use Rattle.rel_model.specs.declared.run.Outcome.{Outcome}
 use Rattle.rel_model.specs.declared.run.Outcome.TheVariants.{Done, Nodes, NoMemory}
 use Rattle.rel_model.specs.Page.{IsRun}

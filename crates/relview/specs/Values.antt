@@ -1,5 +1,4 @@
 -- What the evaluator answers.
-use Rattle.std.specs.Prelude.{ℕ}
 use Rattle.rel_model.specs.declared.Rel.{Rel}
 use Rattle.rel_model.specs.declared.faults.TypeFault.{TypeFault}
 use Rattle.rel_model.specs.declared.faults.TypeFault.TheVariants.{Mismatch}

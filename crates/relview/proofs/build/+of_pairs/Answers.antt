@@ -1,4 +1,4 @@
-use Rattle.std.proofs.Common.{◌≡◌, ◌/◌, ◌++◌, ◌∙◌, [], ◌∷◌, ap, subst, sym, rules, arith, take, drop, length, take-append-drop}
+use Rattle.std.proofs.Common.{◌≡◌, ◌/◌, ◌++◌, ◌∙◌, [], ap, subst, sym, rules, arith, take, length, take-append-drop}
 use Rattle.rel_model.specs.Relation.{relation_of}
 use Rattle.rel_model.specs.Worker.{Gives}
 use Rattle.relview.specs.Listed.{IsWithin, is_among}

@@ -1,4 +1,4 @@
-use Rattle.std.proofs.Common.{◌≡◌, sym, subst, []}
+use Rattle.std.proofs.Common.{sym, subst, []}
 use Rattle.rel_model.specs.State.{lists}
 use Rattle.relview.specs.Listed.{IsWithin, IsListed}
 use Rattle.relview.proofs.Listing.{rows_none, rows_more}

@@ -1,4 +1,4 @@
-use Rattle.std.proofs.Common.{◌≡◌, ◌∙◌, sym, ap, rules}
+use Rattle.std.proofs.Common.{◌∙◌, sym, ap, rules}
 use Rattle.rel_model.specs.Meaning.{missing}
 use Rattle.relview.specs.Names.{sized}
 use Rattle.relview.specs.Links.{missing_of_args}

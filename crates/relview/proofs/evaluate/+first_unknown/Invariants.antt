@@ -1,6 +1,6 @@
 use Rattle.std.proofs.Common.{◌≡◌, drop}
 use Rattle.rel_model.specs.Meaning.{missing}
-use Rattle.relview.specs.Names.{rel_of, sized}
+use Rattle.relview.specs.Names.{sized}
 use Rattle.relview.specs.Links.{missing_of_args, missing_of_links}
 use Rattle.relview.proofs.evaluate.+first_unknown.Given as goal
 

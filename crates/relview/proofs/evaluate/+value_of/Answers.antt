@@ -1,12 +1,10 @@
-use Rattle.std.proofs.Common.{◌≡◌, ◌∙◌, sym, ap, subst, refl, rules, drop}
-use Rattle.rel_model.specs.Meaning.{shaped, value, Fits, Misfit, shape_transposed_by, result_of_both}
-use Rattle.rel_model.specs.Worker.{set_of}
-use Rattle.rel_model.proofs.Workers.{keeps_trans, keeps_set, keeps_stands, gives_set, gives_stands}
+use Rattle.std.proofs.Common.{◌∙◌, sym, ap, subst, rules}
+use Rattle.rel_model.specs.Meaning.{shaped, value}
 use Rattle.relview.specs.Names.{means}
 use Rattle.relview.specs.Links.{shaped_of_links, value_of_links, IsFit, IsPlain, ArePlainLinks}
 use Rattle.relview.proofs.Chains.{shaped-chain, value-chain, plain-chain}
 use Rattle.relview.proofs.Values.{means_kept, all_stand_kept}
-use Rattle.relview.proofs.Fitting.{fit_turned, fit_first, fit_right, plain_right, ahead_first, ahead_more, ahead_type, ahead_end}
+use Rattle.relview.proofs.Fitting.{fit_turned, fit_first, fit_right, plain_right, ahead_first, ahead_more, ahead_type}
 use Rattle.rel_model.specs.declared.syntax.Expr.{the_lemmas}
 use Rattle.relview.proofs.evaluate.+value_of.Goals as goal
 

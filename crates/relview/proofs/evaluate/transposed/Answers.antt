@@ -1,4 +1,4 @@
-use Rattle.std.proofs.Common.{◌≡◌, ◌%◌, arith}
+use Rattle.std.proofs.Common.{arith}
 use Rattle.relview.proofs.Values.{transposed_even, transposed_odd}
 use Rattle.relview.proofs.evaluate.transposed.Goals as goal
 

@@ -1,4 +1,4 @@
-use Rattle.std.proofs.Common.{◌≡◌, sym, subst}
+use Rattle.std.proofs.Common.{sym, subst}
 use Rattle.relview.specs.Top.{IsWritten, Sunk}
 use Rattle.relview.proofs.lines.say.Goals as goal
 

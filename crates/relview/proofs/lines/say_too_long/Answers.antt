@@ -1,4 +1,4 @@
-use Rattle.std.proofs.Common.{◌≡◌, ◌∙◌, inl, subst}
+use Rattle.std.proofs.Common.{◌∙◌, inl, subst}
 use Rattle.relview.specs.Top.{Says, Sunk}
 use Rattle.relview.proofs.lines.say_too_long.Goals as goal
 

@@ -1,4 +1,3 @@
-use Rattle.std.proofs.Common.{◌≡◌, ◌∙◌, sym, ap}
 use Rattle.rel_model.specs.Worker.{set_of}
 use Rattle.relview.specs.Values.{fault_of}
 use Rattle.relview.proofs.Agreeing.{HasSizes}

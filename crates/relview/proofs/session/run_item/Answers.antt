@@ -1,4 +1,4 @@
-use Rattle.std.proofs.Common.{◌≡◌, ◌⊎◌, ◌∙◌, ◌+◌, ap, subst, sym}
+use Rattle.std.proofs.Common.{◌⊎◌, ◌∙◌, ◌+◌, ap, subst}
 use Rattle.rel_model.specs.declared.syntax.Item.TheVariants.{Command}
 use Rattle.rel_model.specs.Relation.{relation_of}
 use Rattle.rel_model.specs.State.{lists}

@@ -1,4 +1,4 @@
-use Rattle.std.proofs.Common.{◌≡◌, ◌∙◌, ◌++◌, ap, append_assoc}
+use Rattle.std.proofs.Common.{◌∙◌, ◌++◌, ap, append_assoc}
 use Rattle.std.specs.Prelude.{codes}
 use Rattle.rel_model.specs.Meaning.{known, spelling}
 use Rattle.rel_model.specs.Page.{place_text, shape_text, mismatch_text}

@@ -1,4 +1,4 @@
-use Rattle.std.proofs.Common.{◌≡◌, ◌∷◌, ◌++◌, [], ◌∙◌, map, refl, sym, ap, arith, append_assoc, cond, ℕ, List}
+use Rattle.std.proofs.Common.{◌∷◌, ◌++◌, [], ◌∙◌, map, sym, ap, arith, append_assoc, cond}
 use Rattle.std.specs.List.{range_with_len}
 use Rattle.std.proofs.lemmas.List.FromFn.{map-range_with_len_more}
 use Rattle.rel_model.specs.Page.{cell, row_text}

@@ -1,4 +1,4 @@
-use Rattle.std.proofs.Common.{◌≡◌, ◌∷◌, ◌++◌, [], ◌∙◌, map, refl, sym, ap, arith, append_assoc, ℕ, List}
+use Rattle.std.proofs.Common.{◌++◌, ◌∙◌, sym, ap, arith, append_assoc}
 use Rattle.std.specs.List.{range_with_len, flat_map}
 use Rattle.rel_model.specs.Page.{row_text, rows_text}
 use Rattle.rel_model.specs.Worker.{set_of}

@@ -1,5 +1,3 @@
-use Rattle.std.proofs.Common.{◌≡◌, sym, ap, subst}
-use Rattle.rel_plain.specs.Kept.{worker_of}
 use Rattle.relview.proofs.FirstItems.{spelled_few, spelled_first}
 use Rattle.relview.proofs.Answering.{run_of_script, run_of_none, none_spelled, never_full}
 use Rattle.relview.proofs.top.answer_to.Goals as goal

@@ -1,6 +1,6 @@
-use Rattle.std.proofs.Common.{◌≡◌, ◌∙◌, ◌∷◌, [], sym, ap, subst}
+use Rattle.std.proofs.Common.{◌∷◌, [], subst}
 use Rattle.rel_model.specs.Page.{IsRun}
-use Rattle.relview.specs.Top.{texts, Sunk, Usage, Unread, TooLong, usage_line, cannot_read_line, too_long_line, script_limit}
+use Rattle.relview.specs.Top.{texts, Usage, Unread, TooLong, usage_line, cannot_read_line, too_long_line, script_limit}
 use Rattle.rv_io.specs.Reading.{RefusesFile}
 use Rattle.relview.proofs.Reporting.{said_answer, said_or_out, run_answer, may_pick_word}
 use Rattle.relview.proofs.top.relview.Goals as goal

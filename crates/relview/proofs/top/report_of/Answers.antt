@@ -1,4 +1,4 @@
-use Rattle.std.proofs.Common.{◌≡◌, ◌∙◌, ◌++◌, ◌∷◌, [], sym, ap, subst, refl, map}
+use Rattle.std.proofs.Common.{◌∙◌, ◌++◌, ◌∷◌, [], ap, subst, refl, map}
 use Rattle.relview.specs.Top.{IsWritten, Sunk, status_of}
 use Rattle.relview.proofs.top.report_of.Goals as goal
 
