@@ -14,4 +14,8 @@ pub mod Meaning
 pub mod Due
 pub mod Legal
 pub mod Page
+pub mod Cost
+pub mod Stored
 pub mod Quads
+pub mod Roots
+pub mod Quarters
