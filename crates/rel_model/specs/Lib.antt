@@ -16,6 +16,7 @@ pub mod Legal
 pub mod Page
 pub mod Cost
 pub mod Stored
+pub mod Checking
 pub mod Quads
 pub mod Roots
 pub mod Quarters
