@@ -1,0 +1,43 @@
+-- Rooms: what operators on trees place fits in the room of their relations' sizes.
+use Rattle.std.proofs.Common.{◌≡◌, ◌<◌, ◌≤◌, ◌+◌, ◌-◌, ◌*◌, ◌^◌, ◌∙◌, max, suc, ℕ, ap, arith}
+use Rattle.std.proofs.Math.Nat.{pow-suc, one-le-pow, pow-le-pow_left, pow-le-pow_right}
+use Rattle.rel_model.specs.Trees.{bottom_height}
+use Rattle.rel_model.specs.Quads.{quad_room, compose_room}
+use Rattle.rel_model.specs.Worker.{height_of, operator_room}
+use Rattle.rel_model.specs.Rooms.{height_of_three, product_room}
+
+-- the height of a tree that is as high as a number m, and at least that of a block
+tree-power : (b m : ℕ) → 1 ≤ b → b ^ (max bottom_height m - bottom_height) ≤ b ^ m
+unfolding bottom_height
+tree-power b m l = pow-le-pow_right {n = b} l {i = max 3 m - 3} {j = m} (omega arith)
+
+-- what an operator places on the trees of two sizes
+pub quad_room-operator : (rows cols : ℕ) → quad_room (max bottom_height (max (height_of rows) (height_of cols))) ≤ operator_room rows cols
+unfolding operator_room
+quad_room-operator rows cols = let p = tree-power 4 (max (height_of rows) (height_of cols)) (omega arith) in omega (arith, p)
+
+-- what a composition places on the trees of three sizes
+pub compose_room-product : (m n p : ℕ) → compose_room (max bottom_height (height_of_three m n p)) ≤ product_room m n p
+unfolding product_room
+compose_room-product m n p = let q = tree-power 8 (height_of_three m n p) (omega arith) in omega (arith, q)
+
+-- ---- the recursion of a composition
+-- a block has room
+pub compose_room-some : (h : ℕ) → bottom_height ≤ h → 1 ≤ compose_room h
+compose_room-some h l =
+    let d : ℕ = h - bottom_height in
+    let p = one-le-pow d 4 (omega arith) in
+    let q = pow-le-pow_left {n = 4} {m = 8} (omega arith) d in
+    omega (arith, p, q)
+
+-- eight products and four unions of the height below, and the corner of four results, have room
+pub compose_room-next : (h : ℕ) → bottom_height < h → 8 * compose_room (h - 1) + 4 * quad_room (h - 1) + 3 ≤ compose_room h
+unfolding bottom_height
+compose_room-next h l =
+    let d : ℕ = h - 1 - 3 in
+    let e : h - 3 ≡ suc d = omega arith in
+    let p : 4 ^ (h - 3) ≡ 4 ^ d * 4 = ap (λ (x : ℕ). 4 ^ x) e ∙ pow-suc 4 d in
+    let q : 8 ^ (h - 3) ≡ 8 ^ d * 8 = ap (λ (x : ℕ). 8 ^ x) e ∙ pow-suc 8 d in
+    let r = one-le-pow d 4 (omega arith) in
+    let s = pow-le-pow_left {n = 4} {m = 8} (omega arith) d in
+    omega (arith, p, q, r, s)
