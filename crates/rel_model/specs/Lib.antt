@@ -17,6 +17,8 @@ pub mod Legal
 pub mod Page
 pub mod Cost
 pub mod Stored
+pub mod Choice
+pub mod Domains
 pub mod Checking
 pub mod Quads
 pub mod Roots
