@@ -1,0 +1,8 @@
+//! The worker over a shared node table: relations and quads by their names in the words that its seat has seen.
+#![tactic(auto)]
+
+mod crew;
+mod gate;
+
+pub use crew::Crew;
+pub use gate::{Gate, OpenGate};
