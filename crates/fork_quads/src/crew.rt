@@ -12,9 +12,9 @@ use std::marker::Model;
 /// A worker over a node table, of one seat there. 40 bytes.
 #[derive(Drop)]
 pub struct Crew<'t, G: Gate> {
-    nodes: Nodes<'t>,
-    workers: u32,
-    gate: &'t G,
+    pub(crate) nodes: Nodes<'t>,
+    pub(crate) workers: u32,
+    pub(crate) gate: &'t G,
 }
 
 impl<'t, G: Gate> Model for Crew<'t, G> {

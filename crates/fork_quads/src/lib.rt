@@ -3,6 +3,10 @@
 
 mod crew;
 mod gate;
+mod relations;
+mod roots;
+mod single;
+mod squares;
 
 pub use crew::Crew;
 pub use gate::{Gate, OpenGate};

@@ -1,0 +1,4 @@
+pub mod Crewing
+pub mod Operating
+pub mod Quartering
+pub mod Placing
