@@ -2,3 +2,4 @@ pub mod Crewing
 pub mod Operating
 pub mod Quartering
 pub mod Placing
+pub mod Products

@@ -3,6 +3,7 @@
 
 mod crew;
 mod gate;
+mod product;
 mod relations;
 mod roots;
 mod single;

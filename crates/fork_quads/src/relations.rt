@@ -5,6 +5,7 @@ ghost use Rattle.fork_quads.specs.CrewLaws.{valid_law, rows_law, cols_law, row_l
 
 use crate::crew::Crew;
 use crate::gate::Gate;
+use crate::product::product;
 use crate::roots::{height_of_tree, named, root_of};
 use crate::single::single_quad;
 use rel_boole::{diff_quads, inter_quads, union_quads};
@@ -74,6 +75,13 @@ impl<'t, G: Gate> Core for Crew<'t, G> {
     fn transpose(&mut self, r: Rel) -> Result<Rel, Lack> {
         let quad = transpose_quad(&mut self.nodes, root_of(r));
         named(r.cols, r.rows, quad)
+    }
+
+    /// `{(i, k) : (i, j) in r and (j, k) in s for some j}`.
+    fn compose(&mut self, r: Rel, s: Rel) -> Result<Rel, Lack> {
+        let height = height_of_tree(r.rows, s.cols);
+        let quad = product(&mut self.nodes, root_of(r), root_of(s), height);
+        named(r.rows, s.cols, quad)
     }
 
     /// `r = s`: one set has one root.
