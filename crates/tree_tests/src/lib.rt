@@ -2,4 +2,6 @@
 #![tactic(auto)]
 
 #[cfg(test)]
+mod crews;
+#[cfg(test)]
 mod tests;

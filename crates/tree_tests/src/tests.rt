@@ -23,7 +23,7 @@ use std::alloc::Global;
 use std::process::Abort;
 
 /// A table of 2^18 node words, and its first seat.
-fn table(rt: &impl Abort, alloc: Global) -> (PairTable, Seat)
+pub(crate) fn table(rt: &impl Abort, alloc: Global) -> (PairTable, Seat)
     ensures { IsOf result.1 result.0 }
 {
     match PairTable::make(alloc, 18, 1) {
@@ -103,7 +103,13 @@ fn quad_of<P: Core>(rt: &impl Abort, nodes: &mut Nodes, plain: &mut P, r: Rel, h
 }
 
 /// A plain relation of some pseudo-random pairs.
-fn plain_of<P: Core>(rt: &impl Abort, plain: &mut P, shape: Shape, count: u32, seed: u64) -> Rel
+pub(crate) fn plain_of<P: Core>(
+    rt: &impl Abort,
+    plain: &mut P,
+    shape: Shape,
+    count: u32,
+    seed: u64,
+) -> Rel
     requires row { shape.rows ≤ 40 }
     requires col { shape.cols ≤ 40 }
     requires some_row { 0 < shape.rows }
