@@ -4,3 +4,6 @@ pub mod Cutting
 pub mod Leaves
 pub mod Quartering
 pub mod Listing
+pub mod Windows
+pub mod Ruled
+pub mod Named

@@ -33,10 +33,10 @@ in_quarter : (least d i j a b x y : ℕ) → half (2 ^ (least + d)) i ≡ a → 
 in_quarter least d i j a b x y p q r s = rw (p, q, r, s) refl
 
 -- ---- bounds
-squared : (least : ℕ) → 4 ^ least ≡ 2 ^ least * 2 ^ least
+pub squared : (least : ℕ) → 4 ^ least ≡ 2 ^ least * 2 ^ least
 squared least = mul-pow 2 2 least
 
-row_below : (m i j : ℕ) → i < m → j < m → m * i + j < m * m
+pub row_below : (m i j : ℕ) → i < m → j < m → m * i + j < m * m
 row_below m i j a b = let p : m * (i + 1) ≤ m * m = mul-le m (i + 1) m m (omega arith) (omega arith) in omega arith
 
 -- the four quarters of a square, and what holds in each

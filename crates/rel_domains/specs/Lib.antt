@@ -1,2 +1,4 @@
 pub mod Listed
 pub mod Curve
+pub mod Rules
+pub mod Refusals

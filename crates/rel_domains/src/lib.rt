@@ -1,4 +1,4 @@
-//! Relations made of listed pairs, over whatever keeps quadrant trees.
+//! Relations made of listed pairs, and those of products, sums and power sets, over whatever keeps quadrant trees.
 #![tactic(auto)]
 
 mod build;
@@ -6,6 +6,16 @@ mod curve;
 mod cut;
 mod heights;
 mod leaf;
+mod limit;
+mod missing;
 mod pairs;
+mod power_set;
+mod products;
+mod rule;
+mod square;
+mod sums;
 
 pub use pairs::from_pairs;
+pub use power_set::epsi;
+pub use products::{first, second};
+pub use sums::{inl, inr};
