@@ -7,3 +7,4 @@ pub mod Listing
 pub mod Windows
 pub mod Ruled
 pub mod Named
+pub mod Pairwise

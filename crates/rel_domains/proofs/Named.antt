@@ -17,7 +17,7 @@ use Rattle.rel_domains.specs.Rules.{passes}
 use Rattle.rel_domains.proofs.Leaves.{shifted}
 
 -- a divisor of rows that there are
-divisor : (x y p : ℕ) → p < x * y → max y 1 ≡ y
+pub divisor : (x y p : ℕ) → p < x * y → max y 1 ≡ y
 divisor x zero p l = absurd (let e : x * 0 ≡ 0 = omega arith in omega (arith, e, l))
 divisor x (suc y) p l = omega arith
 

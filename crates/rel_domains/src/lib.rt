@@ -8,6 +8,7 @@ mod heights;
 mod leaf;
 mod limit;
 mod missing;
+mod pairing;
 mod pairs;
 mod power_set;
 mod products;
@@ -15,6 +16,7 @@ mod rule;
 mod square;
 mod sums;
 
+pub use pairing::fork;
 pub use pairs::from_pairs;
 pub use power_set::epsi;
 pub use products::{first, second};
