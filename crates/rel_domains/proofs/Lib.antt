@@ -8,3 +8,5 @@ pub mod Windows
 pub mod Ruled
 pub mod Named
 pub mod Pairwise
+pub mod Ranking
+pub mod Halves

@@ -83,7 +83,7 @@ place_lt least (suc d) i j a b =
     ]
 
 -- ---- one place, one cell
-row_alone : (m i j x y : ℕ) → j < m → y < m → m * i + j ≡ m * x + y → (i ≡ x) × (j ≡ y)
+pub row_alone : (m i j x y : ℕ) → j < m → y < m → m * i + j ≡ m * x + y → (i ≡ x) × (j ≡ y)
 row_alone m i j x y a b e = elim (cases_lt i x) [
   | inl l ↦ absurd (let p : m * (i + 1) ≤ m * x = mul-le m (i + 1) m x (omega arith) (omega arith) in omega arith)
   | inr l ↦ elim (cases_lt x i) [

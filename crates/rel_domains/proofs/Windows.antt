@@ -86,10 +86,10 @@ rest_behind by row col m k p h l a =
     ]
 
 -- ---- words
-either_one : (a b : ℕ) → a < 2 → b < 2 → eqb (max a b) 1 ≡ (eqb a 1 || eqb b 1)
+pub either_one : (a b : ℕ) → a < 2 → b < 2 → eqb (max a b) 1 ≡ (eqb a 1 || eqb b 1)
 either_one a b p q = grind (arith, nat_tests)
 
-same_test : (k n : ℕ) → k ≢ n → ltb k n ≡ ltb k (n + 1)
+pub same_test : (k n : ℕ) → k ≢ n → ltb k n ≡ ltb k (n + 1)
 same_test k n e = elim (cases_lt k n) [
   | inl a ↦ lt-ltb k n a ∙ sym (lt-ltb k (n + 1) (omega arith))
   | inr a ↦ le-ltb k n a ∙ sym (le-ltb k (n + 1) (omega arith))

@@ -1,4 +1,5 @@
 pub mod Listed
 pub mod Curve
 pub mod Rules
+pub mod Ranks
 pub mod Refusals

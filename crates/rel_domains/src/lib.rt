@@ -4,6 +4,7 @@
 mod build;
 mod curve;
 mod cut;
+mod element;
 mod heights;
 mod leaf;
 mod limit;
@@ -15,9 +16,11 @@ mod products;
 mod rule;
 mod square;
 mod sums;
+mod vector;
 
 pub use pairing::fork;
 pub use pairs::from_pairs;
 pub use power_set::epsi;
 pub use products::{first, second};
 pub use sums::{inl, inr};
+pub use vector::inj;
