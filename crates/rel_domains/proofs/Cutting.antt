@@ -1,5 +1,5 @@
 -- Numbers in order, cut at a bound: those before the partition point are below it, and the others are not.
-use Rattle.std.proofs.Common.{◌≡◌, ◌<◌, ◌≤◌, ◌+◌, ◌∙◌, ltb, ℕ, true, false, List, [], ◌∷◌, ◌++◌, take, drop, length, get_or, refl, sym, ap, subst, arith, take-append-drop, zero, suc}
+use Rattle.std.proofs.Common.{◌≡◌, ◌<◌, ◌≤◌, ◌+◌, ◌∙◌, ltb, ℕ, true, false, List, [], ◌∷◌, ◌++◌, take, drop, length, get_or, sym, ap, subst, arith, take-append-drop, suc}
 use Rattle.std.specs.List.{AllByRecursion}
 use Rattle.std.specs.List.Sorted.{IsNonDecreasing, IsPartitionPoint}
 use Rattle.std.proofs.lemmas.Bool.Decides.{nat_tests}

@@ -1,9 +1,8 @@
 -- The word of a leaf: each place sets its own bit.
-use Rattle.std.proofs.Common.{◌≡◌, ◌≢◌, ◌<◌, ◌≤◌, ◌+◌, ◌-◌, ◌*◌, ◌%◌, ◌^◌, ◌∙◌, ◌||◌, ◌&&◌, max, eqb, ltb, ℕ, Bool, true, false, List, take, length, get_or, refl, sym, ap, subst, arith, zero, suc, inl, inr, bit_or}
+use Rattle.std.proofs.Common.{◌≡◌, ◌≢◌, ◌<◌, ◌≤◌, ◌+◌, ◌-◌, ◌*◌, ◌%◌, ◌^◌, ◌∙◌, ◌||◌, ◌&&◌, max, eqb, ltb, ℕ, List, take, length, get_or, sym, ap, arith, inl, inr, bit_or}
 use Rattle.std.specs.Int.{bit_at}
-use Rattle.std.specs.List.{AllByRecursion, list_any}
 use Rattle.std.proofs.Math.Pow.{pow_mono}
-use Rattle.std.proofs.lemmas.Bool.{cases_Bool, eqb-true, eqb-false, eq-eqb}
+use Rattle.std.proofs.lemmas.Bool.{cases_Bool, eqb-true, eqb-false}
 use Rattle.std.proofs.lemmas.Bool.Decides.{nat_tests}
 use Rattle.std.proofs.lemmas.Nat.{pow_pos, pow-add, mul-pow, mul-le, or_lt}
 use Rattle.std.proofs.lemmas.Nat.Bits.{bit_at_or, bit_at-lt, bit_at-pow_same, bit_at-pow_other, bit_at-zero}
@@ -11,7 +10,7 @@ use Rattle.std.proofs.lemmas.List.Elements.{All-from_recursion}
 use Rattle.std.proofs.lemmas.List.Folds.{list_any_more}
 use Rattle.rel_model.specs.Cells.{bits_cells}
 use Rattle.rel_model.proofs.TreeLaws.{same_cells}
-use Rattle.rel_domains.specs.Curve.{holds, AreFrom, cells_at, place}
+use Rattle.rel_domains.specs.Curve.{holds, AreFrom, cells_at}
 
 -- a leaf has at most 64 cells
 pub few_cells : (least : ℕ) → least ≤ 3 → 4 ^ least ≤ 64

@@ -1,43 +1,26 @@
 -- Listed pairs by their places, and the relation that they make.
-use Rattle.std.proofs.Common.{◌≡◌, ◌≢◌, ◌<◌, ◌≤◌, ◌+◌, ◌-◌, ◌*◌, ◌^◌, ◌∙◌, ◌||◌, ◌&&◌, eqb, ltb, max, ℕ, Bool, true, false, List, [], ◌∷◌, map, length, refl, sym, ap, subst, arith, zero, suc, inl, inr, Some, Less}
-use Rattle.std.specs.List.{AllByRecursion, list_any}
-use Rattle.std.specs.List.Sorted.{IsNonDecreasing, IsPermutation, IsSorted}
+use Rattle.std.proofs.Common.{◌≡◌, ◌<◌, ◌≤◌, ◌+◌, ◌-◌, ◌*◌, ◌^◌, ◌∙◌, ◌||◌, ◌&&◌, eqb, ltb, max, ℕ, true, false, List, [], ◌∷◌, map, refl, sym, ap, subst, arith, inl, inr, Some}
+use Rattle.std.specs.List.{AllByRecursion}
+use Rattle.std.specs.List.Sorted.{IsPermutation}
 use Rattle.std.proofs.Math.Pow.{pow_mono}
-use Rattle.std.proofs.lemmas.Bool.{cases_Bool, cases_lt, eqb-true, eq-eqb, and_parts, lt-ltb}
+use Rattle.std.proofs.lemmas.Bool.{cases_Bool, eqb-true, eq-eqb, and_parts, lt-ltb}
 use Rattle.std.proofs.lemmas.Bool.Decides.{nat_tests}
 use Rattle.std.proofs.lemmas.Nat.{mul-pow, mul-le}
 use Rattle.std.proofs.lemmas.List.Sorted.{list_any-IsPermutation, All-permutation}
 use Rattle.std.proofs.lemmas.List.Elements.{All-from_recursion, recursion_from_All}
 use Rattle.rel_model.specs.declared.Rel.{Rel}
 use Rattle.rel_model.specs.declared.Quad.{Quad}
-use Rattle.rel_model.specs.Relation.{Relation, relation_of, size_limit}
-use Rattle.rel_model.specs.Cells.{Cells}
+use Rattle.rel_model.specs.Relation.{relation_of, size_limit}
 use Rattle.rel_model.specs.Trees.{top_height}
 use Rattle.rel_model.specs.Roots.{height_over}
 use Rattle.rel_model.specs.Quarters.{LiesWithin}
-use Rattle.rel_model.specs.Worker.{Worker, Gives, GivesQuad, quad_set, Keeps, MakesAtMost, height_of, pairs_room}
+use Rattle.rel_model.specs.Worker.{Worker, Gives, GivesQuad, quad_set, height_of, pairs_room}
 use Rattle.rel_model.proofs.Relations.{relation_of-agree}
 use Rattle.rel_domains.specs.Listed.{IsWithin, is_among}
 use Rattle.rel_domains.specs.Curve.{holds, AreFrom, cells_at, place}
 use Rattle.rel_domains.proofs.Places.{place_one}
-use Rattle.rel_domains.proofs.Powers.{height_of-side}
+use Rattle.rel_model.proofs.Heights.{height_over-rows, height_over-cols}
 use Rattle.rel_domains.proofs.Quartering.{gives_set}
-
--- ---- heights
-pub height_over-least : (least m n : ℕ) → least ≤ height_over least m n
-unfolding height_over
-height_over-least least m n = omega arith
-
-side_over : (n h : ℕ) → n ≤ size_limit → height_of n ≤ h → n ≤ 2 ^ h
-side_over n h l k = let a = height_of-side n l in let b : 2 ^ height_of n ≤ 2 ^ h = pow_mono {i = height_of n} {j = h} k in omega arith
-
-pub rows-side : (least m n : ℕ) → m ≤ size_limit → m ≤ 2 ^ height_over least m n
-unfolding height_over
-rows-side least m n l = side_over m (height_over least m n) l (omega arith)
-
-pub cols-side : (least m n : ℕ) → n ≤ size_limit → n ≤ 2 ^ height_over least m n
-unfolding height_over
-cols-side least m n l = side_over n (height_over least m n) l (omega arith)
 
 -- ---- pairs within the square
 pub within_square : (m n s : ℕ) (ps : List (ℕ × ℕ)) → m ≤ s → n ≤ s → IsWithin m n ps → IsWithin s s ps
@@ -90,7 +73,7 @@ cells_inside least d xs i j t =
 module _ (least d m n : ℕ) (ps : List (ℕ × ℕ)) (xs ys : List ℕ) (rows : m ≤ size_limit) (cols : n ≤ size_limit) (high : least + d ≡ height_over least m n) (inside : IsWithin m n ps)
     (places : xs ≡ map (λ p. place least d p.0 p.1) ps) (moved : IsPermutation xs ys) where
   pub fits_square : IsWithin (2 ^ (least + d)) (2 ^ (least + d)) ps
-  fits_square = within_square m n (2 ^ (least + d)) ps (subst (λ h. m ≤ 2 ^ h) (sym high) (rows-side least m n rows)) (subst (λ h. n ≤ 2 ^ h) (sym high) (cols-side least m n cols)) inside
+  fits_square = within_square m n (2 ^ (least + d)) ps (subst (λ h. m ≤ 2 ^ h) (sym high) (height_over-rows least m n rows)) (subst (λ h. n ≤ 2 ^ h) (sym high) (height_over-cols least m n cols)) inside
 
   is_listed : (i j : ℕ) → i < 2 ^ (least + d) → j < 2 ^ (least + d) → cells_at least d 0 ys i j ≡ is_among ps i j
   is_listed i j a b = cells_listed least d ps xs ys i j fits_square places moved a b
@@ -109,10 +92,10 @@ module _ (least d m n : ℕ) (ps : List (ℕ × ℕ)) (xs ys : List ℕ) (rows :
   }
     where
       row_in : (i : ℕ) → i < m → i < 2 ^ (least + d)
-      row_in i a = let s : m ≤ 2 ^ (least + d) = subst (λ h. m ≤ 2 ^ h) (sym high) (rows-side least m n rows) in omega arith
+      row_in i a = let s : m ≤ 2 ^ (least + d) = subst (λ h. m ≤ 2 ^ h) (sym high) (height_over-rows least m n rows) in omega arith
 
       col_in : (j : ℕ) → j < n → j < 2 ^ (least + d)
-      col_in j b = let s : n ≤ 2 ^ (least + d) = subst (λ h. n ≤ 2 ^ h) (sym high) (cols-side least m n cols) in omega arith
+      col_in j b = let s : n ≤ 2 ^ (least + d) = subst (λ h. n ≤ 2 ^ h) (sym high) (height_over-cols least m n cols) in omega arith
 
 -- ---- rooms
 pub power_mono : (a b : ℕ) → a ≤ b → 4 ^ a ≤ 4 ^ b

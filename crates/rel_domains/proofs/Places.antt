@@ -2,8 +2,8 @@
 -- 1. A cell of a quarter has its place in the quarter, after the quarters before.
 -- 2. Places are below the number of cells.
 -- 3. Cells with one place are one cell.
-use Rattle.std.proofs.Common.{◌≡◌, ◌≢◌, ◌<◌, ◌≤◌, ◌+◌, ◌-◌, ◌*◌, ◌^◌, ◌∙◌, ◌⊎◌, ltb, eqb, cond, suc, zero, ℕ, Bool, true, false, refl, sym, ap, subst, arith, inl, inr}
-use Rattle.std.proofs.lemmas.Bool.{cases_Bool, cases_lt, lt-ltb, le-ltb}
+use Rattle.std.proofs.Common.{◌≡◌, ◌≢◌, ◌<◌, ◌≤◌, ◌+◌, ◌-◌, ◌*◌, ◌^◌, ◌∙◌, cond, suc, zero, ℕ, refl, sym, ap, subst, arith, inl, inr}
+use Rattle.std.proofs.lemmas.Bool.{cases_lt, lt-ltb, le-ltb}
 use Rattle.std.proofs.lemmas.Nat.{pow-add, mul-pow, pow_pos, mul-le}
 use Rattle.rel_domains.specs.Curve.{half, within_half, place}
 

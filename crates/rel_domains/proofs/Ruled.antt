@@ -13,7 +13,8 @@ use Rattle.rel_model.specs.Worker.{Worker, Gives, GivesQuad, quad_set, height_of
 use Rattle.rel_model.proofs.Relations.{relation_of-agree}
 use Rattle.rel_domains.specs.declared.rule.Rule.{Rule}
 use Rattle.rel_domains.specs.Rules.{passes, rule_cells, window}
-use Rattle.rel_domains.proofs.Listing.{rows-side, cols-side, power_mono}
+use Rattle.rel_model.proofs.Heights.{height_over-rows, height_over-cols}
+use Rattle.rel_domains.proofs.Listing.{power_mono}
 use Rattle.rel_domains.proofs.Quartering.{gives_set}
 
 -- the side of a square is within the limit
@@ -27,8 +28,8 @@ module _ (least d m n : ℕ) (rule : Rule) (rows : m ≤ size_limit) (cols : n �
 
   ruled_here : (i j : ℕ) → i < m → j < n → whole i j ≡ passes rule i j
   ruled_here i j a b =
-      let r : m ≤ 2 ^ (least + d) = subst (λ h. m ≤ 2 ^ h) (sym high) (rows-side least m n rows) in
-      let s : n ≤ 2 ^ (least + d) = subst (λ h. n ≤ 2 ^ h) (sym high) (cols-side least m n cols) in
+      let r : m ≤ 2 ^ (least + d) = subst (λ h. m ≤ 2 ^ h) (sym high) (height_over-rows least m n rows) in
+      let s : n ≤ 2 ^ (least + d) = subst (λ h. n ≤ 2 ^ h) (sym high) (height_over-cols least m n cols) in
       rw (lt-ltb i (2 ^ (least + d)) (omega (arith, a, r)), lt-ltb j (2 ^ (least + d)) (omega (arith, b, s)))
       (ap (λ k. rule_cells m n rule k (0 + j)) (let e : 0 + i ≡ i = omega arith in e) ∙ ap (rule_cells m n rule i) (let e : 0 + j ≡ j = omega arith in e)
       ∙ ap (λ t. t && (ltb j n && passes rule i j)) (lt-ltb i m a) ∙ ap (λ t. t && passes rule i j) (lt-ltb j n b))

@@ -1,7 +1,4 @@
-use Rattle.std.proofs.Common.{rules, ◌≡◌, ◌≢◌, ◌<◌, ◌≤◌, ◌+◌, ◌-◌, ◌*◌, ◌^◌, ◌∙◌, ℕ, sym, ap, subst, arith}
-use Rattle.rel_model.specs.Trees.{top_height}
-use Rattle.rel_model.specs.Worker.{GivesQuad}
-use Rattle.rel_domains.specs.Curve.{cells_at}
+use Rattle.std.proofs.Common.{rules, ◌≡◌, ◌≢◌, ◌+◌, ◌-◌, ◌^◌, ◌∙◌, ap, arith}
 use Rattle.rel_domains.proofs.Places.{cells_step}
 use Rattle.rel_domains.proofs.Quartering.{four_of, spans, corner_given, leaf_given}
 use Rattle.rel_domains.proofs.build.+build.Goals as goal

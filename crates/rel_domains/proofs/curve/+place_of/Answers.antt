@@ -1,4 +1,4 @@
-use Rattle.std.proofs.Common.{◌≡◌, ◌<◌, ◌≤◌, ◌+◌, ◌*◌, ◌^◌, ◌∙◌, ap, sym, subst, arith}
+use Rattle.std.proofs.Common.{◌≡◌, ◌<◌, ◌+◌, ◌*◌, ◌^◌, ◌∙◌, ap, sym, subst, arith}
 use Rattle.rel_domains.specs.Curve.{place}
 use Rattle.rel_domains.proofs.Places.{place_lt}
 use Rattle.rel_domains.proofs.curve.+place_of.Goals as goal

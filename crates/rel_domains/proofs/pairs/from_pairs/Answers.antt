@@ -1,8 +1,6 @@
-use Rattle.std.proofs.Common.{◌≡◌, ◌≤◌, ◌+◌, ◌-◌, ◌*◌, ◌^◌, ◌∙◌, ℕ, map, length, refl, sym, ap, subst, arith}
+use Rattle.std.proofs.Common.{◌≡◌, ◌+◌, ◌^◌, ◌∙◌, map, length, refl, sym, ap, subst, arith}
 use Rattle.std.specs.List.Sorted.{IsNonDecreasing, IsPermutation}
 use Rattle.std.proofs.lemmas.List.Sorted.{IsNonDecreasingBy-from_sort, IsPermutation-refl}
-use Rattle.rel_model.specs.Worker.{MakesAtMost, pairs_room}
-use Rattle.rel_model.specs.Trees.{top_height}
 use Rattle.rel_model.specs.Roots.{height_over}
 use Rattle.rel_domains.specs.Curve.{AreFrom, place}
 use Rattle.rel_domains.proofs.Listing.{fits_square, lies_within, relation_given, sorted_from, pairs_room-covers, cells_limit}
