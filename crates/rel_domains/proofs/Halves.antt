@@ -1,5 +1,5 @@
 -- The halves of a vector, as a worker keeps them, and the square of its ranks from those of its halves.
-use Rattle.std.proofs.Common.{◌≡◌, ◌≢◌, ◌<◌, ◌≤◌, ◌+◌, ◌-◌, ◌*◌, ◌^◌, ◌∙◌, ◌&&◌, eqb, ltb, max, ℕ, Bool, true, refl, sym, ap, subst, arith, zero, suc, Some}
+use Rattle.std.proofs.Common.{◌≡◌, ◌≢◌, ◌<◌, ◌≤◌, ◌+◌, ◌-◌, ◌^◌, ◌∙◌, ◌&&◌, eqb, ltb, ℕ, Bool, true, refl, sym, ap, subst, arith, Some}
 use Rattle.std.specs.Prelude.{unwrap_or, Option, IsSome}
 use Rattle.std.proofs.Math.Pow.{pow_mono}
 use Rattle.std.proofs.lemmas.Nat.{pow_pos}
@@ -15,7 +15,7 @@ use Rattle.rel_model.specs.Quarters.{GivesQuarters, LiesWithin}
 use Rattle.rel_model.specs.Worker.{Worker, HasQuad, quad_set, Gives, GivesQuad, Keeps, height_of}
 use Rattle.rel_model.proofs.Heights.{height_of-covers, height_of-least, height_over-rows, height_over-low}
 use Rattle.rel_model.proofs.Relations.{relation_of-agree}
-use Rattle.rel_model.proofs.Members.{Inside, inside}
+use Rattle.rel_model.proofs.Members.{inside}
 use Rattle.rel_domains.specs.Ranks.{first_column, ranked}
 use Rattle.rel_domains.proofs.Places.{side_step}
 use Rattle.rel_domains.proofs.Quartering.{gives_set}

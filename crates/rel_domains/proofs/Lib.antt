@@ -10,3 +10,4 @@ pub mod Named
 pub mod Pairwise
 pub mod Ranking
 pub mod Halves
+pub mod Functions

@@ -2,7 +2,7 @@
 -- 1. A relation through the converse of a rule's has the pairs whose column is that of the rule.
 -- 2. Both together are the pairing.
 -- 3. Rooms.
-use Rattle.std.proofs.Common.{◌≡◌, ◌≢◌, ◌<◌, ◌≤◌, ◌+◌, ◌-◌, ◌*◌, ◌/◌, ◌%◌, ◌^◌, ◌∙◌, ◌&&◌, max, ℕ, Bool, true, Some, refl, sym, ap, subst, arith, inl, inr}
+use Rattle.std.proofs.Common.{◌≡◌, ◌<◌, ◌≤◌, ◌*◌, ◌/◌, ◌%◌, ◌^◌, ◌∙◌, ◌&&◌, max, ℕ, true, Some, refl, sym, ap, subst, arith}
 use Rattle.std.proofs.Math.Nat.{pow-le-pow_right}
 use Rattle.std.proofs.lemmas.Bool.{and_parts, and_from, eqb-true, eq-eqb}
 use Rattle.rel_model.specs.declared.Rel.{Rel}
@@ -12,7 +12,7 @@ use Rattle.rel_model.specs.Algebra.{HasType}
 use Rattle.rel_model.specs.Domains.{pairing}
 use Rattle.rel_model.specs.Worker.{Worker, Stands, set_of, Gives, Keeps, height_of, height_of_three, wide_room}
 use Rattle.rel_model.proofs.Heights.{height_of-covers, height_of-least}
-use Rattle.rel_model.proofs.Members.{Inside, inside, Through, type-test, in_test, from_test, one_relation, type-inter, in_inter, from_inter, type-transpose, in_transpose, from_transpose, type-compose, in_compose, from_compose}
+use Rattle.rel_model.proofs.Members.{inside, type-test, in_test, from_test, one_relation, type-inter, in_inter, from_inter, type-transpose, in_transpose, from_transpose, type-compose, in_compose, from_compose}
 use Rattle.rel_model.proofs.Rooms.{derived_room-least, wide_room-four}
 use Rattle.rel_model.proofs.Workers.{gives_set, gives_stands, keeps_set}
 use Rattle.rel_domains.specs.declared.rule.Rule.{Rule}

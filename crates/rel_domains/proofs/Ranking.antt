@@ -2,19 +2,18 @@
 -- 1. How many numbers below n pass a test: over two stretches, over tests that agree, and past an element.
 -- 2. The squares of ranks go by quarters: the upper half of the vector has the columns on the left, and what it counts comes before the lower half.
 -- 3. A leaf of ranks, column by column.
-use Rattle.std.proofs.Common.{◌≡◌, ◌≢◌, ◌<◌, ◌≤◌, ◌+◌, ◌-◌, ◌*◌, ◌/◌, ◌%◌, ◌^◌, ◌∙◌, ◌⊎◌, ◌&&◌, ◌||◌, cond, eqb, ltb, min, max, bit_or, ℕ, Bool, true, false, refl, sym, ap, subst, arith, zero, suc, inl, inr, Some}
+use Rattle.std.proofs.Common.{◌≡◌, ◌<◌, ◌≤◌, ◌+◌, ◌-◌, ◌*◌, ◌^◌, ◌∙◌, ◌&&◌, ◌||◌, cond, eqb, ltb, bit_or, ℕ, Bool, true, false, refl, sym, ap, subst, arith, zero, suc, inl, inr}
 use Rattle.std.specs.Int.{bit_at}
 use Rattle.std.proofs.lemmas.Bool.{cases_Bool, cases_lt, cases_eq, lt-ltb, le-ltb, and_parts, and_from, eqb-true, eq-eqb, ne_eqb, ltb-true}
-use Rattle.std.proofs.lemmas.Bool.Decides.{nat_tests}
 use Rattle.std.proofs.lemmas.Nat.{pow_pos}
 use Rattle.std.proofs.lemmas.Nat.Bits.{bit_at_or, bit_at-lt, bit_at-pow_same, bit_at-pow_other, bit_at-zero}
 use Rattle.rel_model.specs.Cells.{Cells, no_cells, bits_cells}
 use Rattle.rel_model.specs.Choice.{count_below}
 use Rattle.rel_model.specs.Trees.{quartered}
 use Rattle.rel_model.proofs.TreeLaws.{same_cells}
-use Rattle.rel_model.proofs.Somes.{not_true, same_truth}
+use Rattle.rel_model.proofs.Somes.{not_true}
 use Rattle.rel_domains.specs.Ranks.{first_column, ranked}
-use Rattle.rel_domains.proofs.Places.{row_below, row_alone}
+use Rattle.rel_domains.proofs.Places.{row_alone}
 use Rattle.rel_domains.proofs.Windows.{either_one, same_test}
 
 -- ---- counts

@@ -3,7 +3,7 @@
 -- 2. A word of which each bit is a cell has the cells of a leaf.
 -- 3. A square goes by the squares of half its side.
 -- 4. A quad whose quarters are known is the quad of their cells.
-use Rattle.std.proofs.Common.{◌≡◌, ◌≢◌, ◌<◌, ◌≤◌, ◌+◌, ◌-◌, ◌*◌, ◌/◌, ◌%◌, ◌^◌, ◌∙◌, ◌⊎◌, ◌&&◌, ◌||◌, eqb, ltb, min, max, bit_or, ℕ, Bool, true, false, refl, sym, ap, subst, arith, zero, suc, inl, inr, Some}
+use Rattle.std.proofs.Common.{◌≡◌, ◌≢◌, ◌<◌, ◌≤◌, ◌+◌, ◌-◌, ◌*◌, ◌/◌, ◌%◌, ◌^◌, ◌∙◌, ◌⊎◌, ◌&&◌, ◌||◌, eqb, ltb, min, max, bit_or, ℕ, Bool, true, false, refl, sym, ap, subst, arith, inl, inr, Some}
 use Rattle.std.proofs.Math.Nat.{mul-div-le, mod-eq_of_lt, mod-le, add-mod_right, mod-add-mod}
 use Rattle.std.proofs.lemmas.Bool.{cases_lt, cases_eq, lt-ltb, le-ltb, and_parts, eqb-true, ltb-true}
 use Rattle.std.proofs.lemmas.Bool.Decides.{nat_tests}
@@ -13,7 +13,7 @@ use Rattle.std.specs.Int.{bit_at}
 use Rattle.rel_model.specs.declared.Quad.{Quad}
 use Rattle.rel_model.specs.Cells.{Cells, no_cells, bits_cells}
 use Rattle.rel_model.specs.Trees.{quartered}
-use Rattle.rel_model.specs.Worker.{Worker, HasQuad, quad_set, GivesQuad, Keeps}
+use Rattle.rel_model.specs.Worker.{Worker, quad_set, GivesQuad, Keeps}
 use Rattle.rel_model.proofs.TreeLaws.{same_cells}
 use Rattle.rel_model.proofs.Somes.{not_true}
 use Rattle.rel_domains.specs.declared.rule.Rule.{Rule}

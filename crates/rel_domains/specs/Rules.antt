@@ -1,5 +1,5 @@
 -- Sets of cells by a rule on a row and a column, and their squares.
-use Rattle.std.specs.Prelude.{◌≡◌, ◌==◌, ◌<◌, ◌≤◌, ◌+◌, ◌/◌, ◌%◌, ◌&&◌, nat_lt, ℕ, Bool, ⊤}
+use Rattle.std.specs.Prelude.{◌==◌, ◌<◌, ◌≤◌, ◌+◌, ◌/◌, ◌%◌, ◌&&◌, nat_lt, ℕ, Bool}
 use Rattle.std.specs.Int.{bit_at}
 use Rattle.rel_model.specs.Relation.{size_limit}
 use Rattle.rel_model.specs.Cells.{Cells}

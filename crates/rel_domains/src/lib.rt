@@ -6,6 +6,7 @@ mod curve;
 mod cut;
 mod element;
 mod heights;
+pub mod laws;
 mod leaf;
 mod limit;
 mod missing;

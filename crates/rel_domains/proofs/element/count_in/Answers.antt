@@ -1,4 +1,4 @@
-use Rattle.std.proofs.Common.{◌≡◌, ◌<◌, ◌≤◌, ◌+◌, ◌*◌, ◌^◌, ◌∙◌, arith}
+use Rattle.std.proofs.Common.{◌≤◌, ◌^◌, arith}
 use Rattle.std.proofs.Math.Pow.{pow_mono}
 use Rattle.rel_model.specs.Trees.{top_height}
 use Rattle.rel_domains.proofs.element.count_in.Goals as goal

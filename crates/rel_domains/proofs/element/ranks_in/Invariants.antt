@@ -1,7 +1,5 @@
-use Rattle.std.proofs.Common.{◌≡◌, ◌<◌, ◌≤◌, ◌+◌, ◌*◌, ◌^◌, ◌&&◌, eqb, ltb, ℕ}
-use Rattle.std.specs.Int.{bit_at}
+use Rattle.std.proofs.Common.{◌^◌}
 use Rattle.rel_model.specs.Cells.{bits_cells}
-use Rattle.rel_model.specs.Choice.{count_below}
 use Rattle.rel_domains.specs.Ranks.{first_column}
 use Rattle.rel_domains.proofs.Ranking.{AreRanked}
 use Rattle.rel_domains.proofs.element.ranks_in.Given as goal

@@ -1,5 +1,5 @@
-use Rattle.std.proofs.Common.{◌∙◌, ℕ, sym, arith, subst, ◌≤◌}
-use Rattle.rel_model.specs.Worker.{height_of, height_of_three}
+use Rattle.std.proofs.Common.{◌∙◌, ℕ, arith}
+use Rattle.rel_model.specs.Worker.{height_of_three}
 use Rattle.rel_model.proofs.Rooms.{operator_room-most, product_room-most}
 use Rattle.rel_domains.proofs.Pairwise.{as_high}
 use Rattle.rel_domains.proofs.pairing.through.Goals as goal

@@ -1,6 +1,5 @@
-use Rattle.std.proofs.Common.{rules, ◌≡◌, ◌<◌, ◌≤◌, ◌-◌, ◌^◌, sym, refl, subst}
-use Rattle.rel_model.specs.Relation.{size_limit}
-use Rattle.rel_model.specs.Domains.{HasDomainCause, IsOverSize}
+use Rattle.std.proofs.Common.{rules, ◌^◌, sym, refl, subst}
+use Rattle.rel_model.specs.Domains.{IsOverSize}
 use Rattle.rel_domains.proofs.Leaves.{shifted}
 use Rattle.rel_domains.proofs.Named.{all_subsets, member_rule, epsi_given}
 use Rattle.rel_domains.proofs.power_set.epsi.Goals as goal

@@ -1,5 +1,5 @@
-use Rattle.std.proofs.Common.{◌≡◌, ◌≢◌, ◌<◌, ◌≤◌, ◌+◌, ◌-◌, ◌^◌, ◌∙◌, ℕ, sym, ap, subst, arith}
-use Rattle.rel_domains.specs.Rules.{rule_cells, window}
+use Rattle.std.proofs.Common.{◌≡◌, ◌≢◌, ◌+◌, ◌-◌, ◌^◌, ◌∙◌, ap, arith}
+use Rattle.rel_domains.specs.Rules.{rule_cells}
 use Rattle.rel_domains.proofs.Windows.{square_given, like_first}
 use Rattle.rel_model.proofs.Workers.{keeps_itself}
 use Rattle.rel_domains.proofs.square.+square.Goals as goal

@@ -1,7 +1,6 @@
-use Rattle.std.proofs.Common.{◌≡◌, ◌≤◌, ◌+◌, ◌-◌, ◌*◌, ◌^◌, ◌∙◌, ℕ, refl, sym, ap, subst, arith}
-use Rattle.rel_model.specs.Trees.{top_height}
+use Rattle.std.proofs.Common.{◌≡◌, ◌+◌, subst, arith}
 use Rattle.rel_model.specs.Roots.{height_over}
-use Rattle.rel_domains.proofs.Ruled.{side_limit, ruled_quad, ruled_relation, rule_room}
+use Rattle.rel_domains.proofs.Ruled.{side_limit, ruled_relation, rule_room}
 use Rattle.rel_domains.proofs.square.relation_by.Goals as goal
 
 pub square-requires-clause-row : goal.square-requires-clause-row

@@ -1,8 +1,7 @@
-use Rattle.std.proofs.Common.{◌≡◌, ◌<◌, ◌≤◌, ◌+◌, ◌*◌, ◌^◌, ◌&&◌, ◌∙◌, eqb, ltb, bit_or, ℕ, true, false, sym, ap, subst, arith}
+use Rattle.std.proofs.Common.{◌≡◌, ◌<◌, ◌+◌, ◌*◌, ◌^◌, ◌&&◌, ◌∙◌, eqb, ltb, bit_or, ℕ, true, false, sym, ap, subst, arith}
 use Rattle.std.specs.Int.{bit_at}
-use Rattle.rel_model.specs.Cells.{bits_cells}
 use Rattle.rel_model.specs.Trees.{top_height}
-use Rattle.rel_domains.specs.Rules.{rule_cells, window}
+use Rattle.rel_domains.specs.Rules.{rule_cells}
 use Rattle.rel_domains.proofs.Leaves.{few_cells, shifted, still_small}
 use Rattle.rel_domains.proofs.Places.{squared}
 use Rattle.rel_domains.proofs.Windows.{cell_of, bit_set, bit_left, word_cells}

@@ -1,4 +1,4 @@
-use Rattle.std.proofs.Common.{◌≡◌, ◌≢◌, ◌<◌, ◌≤◌, ◌+◌, ◌-◌, ◌^◌, ◌∙◌, ℕ, sym, ap, arith}
+use Rattle.std.proofs.Common.{◌^◌, ◌∙◌, ap, arith}
 use Rattle.rel_model.specs.Cells.{bits_cells}
 use Rattle.rel_model.specs.Choice.{count_below}
 use Rattle.rel_model.specs.Worker.{quad_set}

@@ -1,10 +1,9 @@
-use Rattle.std.proofs.Common.{rules, ◌≡◌, ◌≢◌, ◌<◌, ◌≤◌, ◌+◌, ◌-◌, ◌^◌, ◌∙◌, ℕ, Some, refl, sym, ap, subst, arith}
+use Rattle.std.proofs.Common.{rules, ◌≡◌, ◌+◌, ◌-◌, ◌^◌, ◌∙◌, Some, refl, sym, ap, arith}
 use Rattle.rel_model.specs.Choice.{count_below}
-use Rattle.rel_model.specs.Trees.{top_height}
-use Rattle.rel_model.specs.Worker.{quad_set, GivesQuad}
-use Rattle.rel_domains.specs.Ranks.{first_column, ranked}
+use Rattle.rel_model.specs.Worker.{quad_set}
+use Rattle.rel_domains.specs.Ranks.{first_column}
 use Rattle.rel_domains.proofs.Places.{side_step}
-use Rattle.rel_domains.proofs.Halves.{AreHalves, halves_first, halves_later, ranks_given}
+use Rattle.rel_domains.proofs.Halves.{halves_first, halves_later, ranks_given}
 use Rattle.rel_domains.proofs.Ranking.{ranked-none}
 use Rattle.rel_domains.proofs.vector.+ranks.Goals as goal
 

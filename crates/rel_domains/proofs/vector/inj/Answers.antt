@@ -1,10 +1,9 @@
-use Rattle.std.proofs.Common.{◌≡◌, ◌<◌, ◌≤◌, ◌+◌, ◌-◌, ◌*◌, ◌^◌, ◌∙◌, ℕ, sym, ap, subst, arith}
+use Rattle.std.proofs.Common.{◌≡◌, ◌+◌, ◌-◌, ◌^◌, ◌∙◌, ℕ, sym, ap, subst, arith}
 use Rattle.rel_model.specs.Relation.{Relation, has}
 use Rattle.rel_model.specs.Choice.{count_below}
 use Rattle.rel_model.specs.Quarters.{LiesWithin}
 use Rattle.rel_model.specs.Roots.{height_over}
 use Rattle.rel_model.specs.Worker.{set_of, quad_set, GivesQuad}
-use Rattle.rel_model.proofs.Heights.{height_over-high}
 use Rattle.rel_domains.specs.Ranks.{first_column, ranked}
 use Rattle.rel_domains.proofs.Halves.{kept_set, root_high, root_count, ranks_height, ranks_within, inj_given}
 use Rattle.rel_domains.proofs.Named.{rooms_derived}
