@@ -3,8 +3,7 @@ use Rattle.std.proofs.Common.{◌≡◌, ◌<◌, ◌≤◌, ◌+◌, ◌-◌, �
 use Rattle.std.proofs.Math.Nat.{pow-suc, one-le-pow, pow-le-pow_left, pow-le-pow_right}
 use Rattle.rel_model.specs.Trees.{bottom_height}
 use Rattle.rel_model.specs.Quads.{quad_room, compose_room}
-use Rattle.rel_model.specs.Worker.{height_of, operator_room}
-use Rattle.rel_model.specs.Rooms.{height_of_three, product_room}
+use Rattle.rel_model.specs.Worker.{height_of, operator_room, height_of_three, product_room}
 
 -- the height of a tree that is as high as a number m, and at least that of a block
 tree-power : (b m : ℕ) → 1 ≤ b → b ^ (max bottom_height m - bottom_height) ≤ b ^ m
@@ -17,9 +16,9 @@ unfolding operator_room
 quad_room-operator rows cols = let p = tree-power 4 (max (height_of rows) (height_of cols)) (omega arith) in omega (arith, p)
 
 -- what a composition places on the trees of three sizes
-pub compose_room-product : (m n p : ℕ) → compose_room (max bottom_height (height_of_three m n p)) ≤ product_room m n p
+pub compose_room-product : (k m n : ℕ) → compose_room (max bottom_height (height_of_three k m n)) ≤ product_room k m n
 unfolding product_room
-compose_room-product m n p = let q = tree-power 8 (height_of_three m n p) (omega arith) in omega (arith, q)
+compose_room-product k m n = let q = tree-power 8 (height_of_three k m n) (omega arith) in omega (arith, q)
 
 -- ---- the recursion of a composition
 -- a block has room

@@ -6,7 +6,6 @@ pub mod Words
 pub mod Equations
 pub mod Views
 pub mod Worker
-pub mod Rooms
 pub mod Laws
 pub mod Tokens
 pub mod Grammar
