@@ -1,0 +1,4 @@
+pub mod Standing
+pub mod Sums
+pub mod CellCounts
+pub mod QuadCounts
