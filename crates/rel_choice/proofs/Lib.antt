@@ -6,3 +6,4 @@ pub mod DerivedRooms
 pub mod Vectors
 pub mod Nearest
 pub mod RowHalves
+pub mod Doubles

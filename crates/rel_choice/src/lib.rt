@@ -6,10 +6,12 @@ mod columns;
 mod counting;
 mod images;
 mod leaf;
+mod lines;
 mod rows;
 mod walking;
 
 pub use choosing::{atom, init, point};
 pub use counting::count;
 pub use images::{dom, ran};
+pub use lines::unival;
 pub use walking::next_pair;
