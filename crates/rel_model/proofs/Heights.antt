@@ -18,7 +18,8 @@ height_of-counted : (n : ℕ) → height_of n ≡ counted n (range_with_len 0 24
 unfolding height_of counted
 height_of-counted n = sym (is_count_by (counted n) (λ k. ltb (2 ^ k) n) refl (λ x xs. refl) (range_with_len 0 24))
 
-power_up : (i j : ℕ) → i ≤ j → 2 ^ i ≤ 2 ^ j
+-- powers of 2 grow
+pub power_up : (i j : ℕ) → i ≤ j → 2 ^ i ≤ 2 ^ j
 power_up i j l = pow-le-pow_right {n = 2} (omega arith) {i = i} {j = j} l
 
 counted-least : (n h a len : ℕ) → n ≤ 2 ^ h → counted n (range_with_len a len) ≤ h - a

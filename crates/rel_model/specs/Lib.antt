@@ -6,7 +6,9 @@ pub mod Words
 pub mod Equations
 pub mod Views
 pub mod Worker
+pub mod Closures
 pub mod Laws
+pub mod Algebra
 pub mod Tokens
 pub mod Grammar
 pub mod State

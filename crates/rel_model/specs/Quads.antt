@@ -1,5 +1,5 @@
 -- Quads: squares of cells by their names in a table; what a keeper of quads holds, what its calls keep, and how it counts what it missed.
-use Rattle.std.specs.Prelude.{◌≡◌, ◌≢◌, ◌≤◌, ◌+◌, ◌-◌, ◌*◌, ◌^◌, min, ℕ, true, Result, Ok, Err}
+use Rattle.std.specs.Prelude.{◌≡◌, ◌≢◌, ◌<◌, ◌≤◌, ◌+◌, ◌-◌, ◌*◌, ◌^◌, min, ℕ, true, Result, Ok, Err}
 use Rattle.rel_model.specs.declared.Quad.{Quad}
 use Rattle.rel_model.specs.Cells.{Cells}
 use Rattle.rel_model.specs.Trees.{bottom_height, top_height, cells, stands, quartered}
@@ -16,9 +16,10 @@ pub record Work : Type 0 where
   -- how often a place for a word was missing
   pub misses : ℕ
 
--- the seat is of the table, and where a place was missing every place is taken, as the view shows
+-- the seat is of the table, the count has 64 bits, and where a place was missing every place is taken, as the view shows
 pub record IsWork (w : Work) : Type 0 where
   pub of : IsOf w.view w.table
+  pub counted : w.misses < 2 ^ 64
   pub full : w.misses ≢ 0 → IsFull w.view.words
 
 -- the set of a quad, of which no cell lies outside its square
