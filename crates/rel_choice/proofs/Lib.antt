@@ -7,3 +7,5 @@ pub mod Vectors
 pub mod Nearest
 pub mod RowHalves
 pub mod Doubles
+pub mod StepCells
+pub mod StepQuads

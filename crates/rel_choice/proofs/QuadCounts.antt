@@ -69,7 +69,7 @@ same_quad q h n a b =
     ap f a ∙ ap g b
 
 -- a count that is put in
-pub counts-put : (w : Worker) (q : Quad) (c : ℕ) (old new : ℕ × ℕ → Option ℕ) → HasQuad w q → c ≡ quad_count w q → AreCounts w old
+counts-put : (w : Worker) (q : Quad) (c : ℕ) (old new : ℕ × ℕ → Option ℕ) → HasQuad w q → c ≡ quad_count w q → AreCounts w old
     → ((k : ℕ × ℕ) → new k ≡ cond (eqb q.height k.0 && eqb q.name k.1) (Some c) (old k)) → AreCounts w new
 counts-put w q c old new s e h u = λ height name x f.
     elim (cases_Bool (eqb q.height height && eqb q.name name)) [
@@ -82,6 +82,11 @@ counts-put w q c old new s e h u = λ height name x f.
   where
     some_inj : (a b : ℕ) → Some a ≡ Some b → b ≡ a
     some_inj a b p = cc
+
+-- one that was counted some calls before
+pub counts-put-later : (v w : Worker) (q : Quad) (c : ℕ) (old new : ℕ × ℕ → Option ℕ) → Keeps v w → HasQuad v q → c ≡ quad_count v q → AreCounts w old
+    → ((k : ℕ × ℕ) → new k ≡ cond (eqb q.height k.0 && eqb q.name k.1) (Some c) (old k)) → AreCounts w new
+counts-put-later v w q c old new k s e h u = counts-put w q c old new (keeps_quad v w q k s) (e ∙ sym (kept-count v w q k s)) h u
 
 -- what is found
 pub counts-found : (w : Worker) (q : Quad) (c : ℕ) (found : ℕ × ℕ → Option ℕ) → AreCounts w found → found (q.height, q.name) ≡ Some c → c ≡ quad_count w q

@@ -8,10 +8,12 @@ mod images;
 mod leaf;
 mod lines;
 mod rows;
+mod stepping;
 mod walking;
 
 pub use choosing::{atom, init, point};
 pub use counting::count;
 pub use images::{dom, ran};
 pub use lines::unival;
+pub use stepping::next;
 pub use walking::next_pair;

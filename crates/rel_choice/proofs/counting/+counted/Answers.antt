@@ -2,8 +2,7 @@ use Rattle.std.proofs.Common.{◌∙◌, sym, arith}
 use Rattle.std.specs.HashMap.{get}
 use Rattle.rel_model.proofs.Workers.{keeps_trans}
 use Rattle.rel_choice.specs.Counts.{same_key}
-use Rattle.rel_choice.proofs.Standing.{keeps_quad}
-use Rattle.rel_choice.proofs.QuadCounts.{none-count, leaf-count, kept-count, quarters-count, count-limit, counts-put, counts-found}
+use Rattle.rel_choice.proofs.QuadCounts.{none-count, leaf-count, kept-count, quarters-count, count-limit, counts-put-later, counts-found}
 use Rattle.rel_choice.proofs.counting.+counted.Goals as goal
 
 pub counted-returns-then-quad-eq0-clause-value : goal.counted-returns-then-quad-eq0-clause-value
@@ -22,11 +21,8 @@ counted-returns-in-Some-clause-value g t c =
 
 pub counted-returns-clause-known : goal.counted-returns-clause-known
 counted-returns-clause-known g t c =
-    let w = g.Q.Core.worker c.args.q.now in
-    let v = g.Q.Core.worker c.counted_over.new.q in
-    let k = c.in_ok-sum.ensures.keeps in
-    counts-put v c.args.quad c.in_ok-sum.sum (get same_key c.counted_over.new.counts) (get same_key c.insert.new.self) (keeps_quad w v c.args.quad k c.requires.stands)
-    (c.in_ok-sum.ensures.value ∙ sym (kept-count w v c.args.quad k c.requires.stands)) c.in_ok-sum.ensures.known c.in_ok-insert.ensures.updates.0
+    counts-put-later (g.Q.Core.worker c.args.q.now) (g.Q.Core.worker c.counted_over.new.q) c.args.quad c.in_ok-sum.sum (get same_key c.counted_over.new.counts) (get same_key c.insert.new.self)
+    c.in_ok-sum.ensures.keeps c.requires.stands c.in_ok-sum.ensures.value c.in_ok-sum.ensures.known c.in_ok-insert.ensures.updates.0
 
 pub counted_over-overflow_add-result : goal.counted_over-overflow_add-result
 counted_over-overflow_add-result g t c =
