@@ -4,7 +4,7 @@ use Rattle.std.specs.List.{list_any}
 use Rattle.std.specs.Option.{option_map_or}
 use Rattle.rel_model.specs.declared.syntax.Place.{Place}
 use Rattle.rel_model.specs.declared.syntax.Base.{Base}
-use Rattle.rel_model.specs.declared.syntax.Base.TheVariants.{P1, P2, I1, I2}
+use Rattle.rel_model.specs.declared.syntax.Base.TheVariants.{P1, P2, I1}
 use Rattle.rel_model.specs.declared.syntax.Expr.{Expr, Ref, Call', Base', Inject, Pair', Minus', Turned', Chain', Row_of-Expr, end_of-Expr, more_of-Expr, Row_of-Link, end_of-Link, more_of-Link}
 use Rattle.rel_model.specs.declared.syntax.Stmt.{Stmt, Set, While', If', Row_of-Stmt, end_of-Stmt, more_of-Stmt}
 use Rattle.rel_model.specs.declared.syntax.Decl.{Decl}
@@ -55,13 +55,12 @@ pub record Scope : Type 0 where
   pub earlier : List Known
 
 -- ---- expressions
--- how a domain operator is written
+-- how a domain operator is written; no text is read as a tree with another base there
 abbrev pub domain_operator_text : Base → List ℕ
 domain_operator_text P1 = codes "p-1"
 domain_operator_text P2 = codes "p-2"
 domain_operator_text I1 = codes "i-1"
-domain_operator_text I2 = codes "i-2"
-domain_operator_text _ = []
+domain_operator_text _ = codes "i-2"
 
 -- whether a domain operator is a projection, of a product
 abbrev pub is_projection : Base → Bool
