@@ -11,7 +11,7 @@ use Rattle.rel_model.specs.declared.syntax.Item.TheVariants.{Command as COMMAND}
 use Rattle.rel_model.specs.declared.syntax.Script.{Script}
 use Rattle.rel_model.specs.declared.run.Event.{Event}
 use Rattle.rel_model.specs.Relation.{Relation}
-use Rattle.rel_model.specs.Worker.{height_of, pairs_room}
+use Rattle.rel_model.specs.Worker.{height_of, pairs_room, product_room, wide_room}
 use Rattle.rel_model.specs.State.{State}
 use Rattle.rel_model.specs.Meaning.{value, result_of_both}
 use Rattle.rel_model.specs.Due.{Due, Nothing, Value, Refusal, evaluated}
@@ -22,25 +22,13 @@ use Rattle.rel_model.specs.Legal.{Trees, state_for}
 unfoldable pub boolean_cost : ℕ → ℕ → ℕ
 boolean_cost rows cols = 8 * 4 ^ max (height_of rows) (height_of cols)
 
--- the least height whose side is at least three sizes
-abbrev pub height_of_three : ℕ → ℕ → ℕ → ℕ
-height_of_three k m n = max (height_of k) (max (height_of m) (height_of n))
-
--- a composition
-unfoldable pub product_cost : ℕ → ℕ → ℕ → ℕ
-product_cost k m n = 16 * 8 ^ height_of_three k m n
-
--- a residual
-unfoldable pub residual_cost : ℕ → ℕ → ℕ → ℕ
-residual_cost k m n = 256 * (height_of_three k m n + 1) * 8 ^ height_of_three k m n
-
 -- an operator between two relations
 abbrev pub link_cost : Op2 → Relation → Relation → ℕ
 link_cost Or r s = boolean_cost r.rows r.cols
 link_cost And r s = boolean_cost r.rows r.cols
-link_cost Times r s = product_cost r.rows r.cols s.cols
-link_cost Under r s = residual_cost r.rows r.cols s.cols
-link_cost Over r s = residual_cost r.rows r.cols s.rows
+link_cost Times r s = product_room r.rows r.cols s.cols
+link_cost Under r s = wide_room r.rows r.cols s.cols
+link_cost Over r s = wide_room r.rows r.cols s.rows
 
 -- an expression on a state that has its names, where its sizes fit: the sum over its operators
 abbrev mutual

@@ -6,7 +6,9 @@ pub mod Words
 pub mod Equations
 pub mod Views
 pub mod Worker
+pub mod Closures
 pub mod Laws
+pub mod Algebra
 pub mod Tokens
 pub mod Grammar
 pub mod State
@@ -16,6 +18,8 @@ pub mod Legal
 pub mod Page
 pub mod Cost
 pub mod Stored
+pub mod Choice
+pub mod Domains
 pub mod Checking
 pub mod Quads
 pub mod Roots
