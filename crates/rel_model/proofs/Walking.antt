@@ -264,6 +264,17 @@ reflexive-union n r t = one_relation n n _ _ (type-test r.rows r.cols n n _ t.ro
       | inr b ↦ or_right (has r i j) (eqb i j) (eq-eqb i j (in_identity n i j b))
     ]))
 
+-- where twice as many steps join no more, all walks are there
+pub walks_within-still : (n m : ℕ) (r : Relation) → HasType n n r → 0 < m → walks_within m r ≡ walks_within (m + m) r → walks_within m r ≡ transitive_closure r
+walks_within-still n m r t z e =
+    let w = walks_within m r in
+    let tw = type-walks n m r t in
+    let tc = type-compose n n n w w tw tw in
+    let up : IsWithin (compose w w) w = (λ x y h. subst (λ c. has c x y ≡ true) (walks_within-double n m r t z ∙ sym e) (right_union n n w (compose w w) tw tc x y h)) in
+    one_relation n n w (transitive_closure r) tw (type-closure n r t)
+    (λ x y h. let p = some_passes m _ (in_walks m r x y h) in closed n r t x y p.at p.passes)
+    (λ x y h. let p = open_walk n r t x y h in stays_in n r w t tw (λ a b g. from_walks n m r t a b 0 z g) up p.at x y p.passes)
+
 pub closure_laws : ClosureLaws
 closure_laws = record {
   walks = λ n r t x y a b. ((λ h. let p = open_walk n r t x y h in record { steps = suc p.at; walks = p.passes }), (λ j. some_steps n r t x y j.steps j.walks));

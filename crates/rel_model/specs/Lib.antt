@@ -24,3 +24,7 @@ pub mod Checking
 pub mod Quads
 pub mod Roots
 pub mod Quarters
+pub mod Lexed
+pub mod Spelling
+pub mod Stop
+pub mod Printing
