@@ -8,3 +8,4 @@ pub mod Heads
 pub mod Declaring
 pub mod Scoping
 pub mod Items
+pub mod Ranks

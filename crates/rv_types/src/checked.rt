@@ -47,7 +47,7 @@ fn find_fault<'a>(
 {
     let mut found = None;
     'each: for item in items {
-        let rank = rank_of(definitions, item)?;
+        let rank = rank_of(definitions, item);
         found = check_item(alloc, definitions, item, rank, found)?;
         define(alloc, definitions, item, rank)?;
     }

@@ -1,9 +1,9 @@
 //! The faults of an item behind the definitions of earlier ones, and what it defines.
-ghost use Rattle.std.specs.Prelude.{◌≡◌, ℕ, List, IfOk, OnOk, option_copied};
+ghost use Rattle.std.specs.Prelude.{◌≡◌, ◌-◌, ◌^◌, ℕ, List, IfOk, OnOk, option_copied};
 ghost use Rattle.rel_model.specs.Checking.{among, faults_by, assigned_by, called_by_all, rank_of as rank_of_item, item_faults, known_with, definition_of, head_faults, decl_faults, faults, function_scope, program_scope as scope_of_program, no_name, command_faults};
 ghost use Rattle.rv_types.specs.Found.{told, noted as noted_all};
 ghost use Rattle.rv_types.specs.Scopes.{scope_of, OfProgram};
-ghost use Rattle.rv_types.specs.Items.{value_of_command, called_by_item};
+ghost use Rattle.rv_types.specs.Items.{value_of_command, called_by_item, RanksWithin};
 
 use crate::declarations::{check_decls, domains, variables};
 use crate::definitions::{Definitions, Summary};
@@ -74,17 +74,15 @@ fn value_of(command: &Command) -> Option<&Expr>
     }
 }
 
-/// The rank of the definition of an item, or 0 for a command. A rank that no number of this machine holds wants memory.
+/// The rank of the definition of an item, or 0 for a command.
 #[tactic(auto, unfolding(rel_model::specs::Checking::rank_of))]
-pub fn rank_of(earlier: &Definitions, item: &Item) -> Result<usize, NoMemory>
-    ensures { IfOk result (λ r. r ≡ rank_of_item earlier.now item.now) }
+pub fn rank_of(earlier: &Definitions, item: &Item) -> usize
+    requires { RanksWithin (2 ^ 64 - 2) earlier.now }
+    ensures { result ≡ rank_of_item earlier.now item.now }
 {
     match item {
-        Item::Command(_) => Ok(0),
-        _ => match greatest_called_by_item(earlier, item).checked_add(1) {
-            Some(rank) => Ok(rank),
-            None => Err(NoMemory),
-        },
+        Item::Command(_) => 0,
+        _ => greatest_called_by_item(earlier, item) + 1,
     }
 }
 
