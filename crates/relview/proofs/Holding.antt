@@ -53,8 +53,8 @@ holds_script script run table seat last w words fresh ran view of full closed =
     let distinct = c.sound.nodes.distinct in
     let ran_words : relation_in w.view.words ≡ relation_in last.words = ap (λ v. relation_in v.words) (sym view) in
     let found = found_stored (tree_of script) nodes start run.history.items
-        (found_later (tree_of script) (relation_in w.view.words) (relation_in nodes) start run.history.items
-        (λ rel r e. let here : relation_in last.words rel ≡ _ = ap (λ f. f rel) (sym ran_words) ∙ e in relation_in-stays last.words nodes rel c.holds of.canonical distinct (subst IsSome (sym here) refl) ∙ here) ran.found) in
+    (found_later (tree_of script) (relation_in w.view.words) (relation_in nodes) start run.history.items
+    (λ rel r e. let here : relation_in last.words rel ≡ _ = ap (λ f. f rel) (sym ran_words) ∙ e in relation_in-stays last.words nodes rel c.holds of.canonical distinct (subst IsSome (sym here) refl) ∙ here) ran.found) in
     record {
       sound = c.sound;
       stored = found;

@@ -124,7 +124,7 @@ fn all_done(outcomes: &[Outcome]) -> bool
 
 /// The status of a run that was written.
 #[tactic(auto, unfolding(crate::specs::Top::status_of))]
-fn status_of(outcomes: &[Outcome]) -> u8
+pub fn status_of(outcomes: &[Outcome]) -> u8
     ensures { result ≡ status_of outcomes.now }
 {
     if any_no_memory(outcomes) {

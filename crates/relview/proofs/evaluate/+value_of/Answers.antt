@@ -58,9 +58,9 @@ links-init g t c =
     let known = known_first (missing N first.value) (missing_of_links N rest.items) (sym (missing-chain N first rest) ∙ ap (missing N) (sym c.in-Chain.is) ∙ c.requires.known) in
     record {
       ahead = ahead_first w _ S _ (shaped S c.deref-in-Chain.result.now) _ (value S c.deref-in-Chain.result.now) c.in_ok-all-in-Chain.all c.as_slice-link-items.result.now c.in_ok-all-in-Chain.ensures.keeps c.in_ok-all-in-Chain.ensures.value
-    (subst ArePlainLinks (sym items) plain.1)
-    (ap (shaped S) c.in-Chain.is ∙ shaped-chain S first rest ∙ ap (λ e. shaped_of_links S (shaped S e) rest.items) (sym here) ∙ ap (shaped_of_links S (shaped S c.deref-in-Chain.result.now)) (sym items))
-    (ap (value S) c.in-Chain.is ∙ value-chain S first rest ∙ ap (λ e. value_of_links S (value S e) rest.items) (sym here) ∙ ap (value_of_links S (value S c.deref-in-Chain.result.now)) (sym items));
+          (subst ArePlainLinks (sym items) plain.1)
+          (ap (shaped S) c.in-Chain.is ∙ shaped-chain S first rest ∙ ap (λ e. shaped_of_links S (shaped S e) rest.items) (sym here) ∙ ap (shaped_of_links S (shaped S c.deref-in-Chain.result.now)) (sym items))
+          (ap (value S) c.in-Chain.is ∙ value-chain S first rest ∙ ap (λ e. value_of_links S (value S e) rest.items) (sym here) ∙ ap (value_of_links S (value S c.deref-in-Chain.result.now)) (sym items));
       paid = paid_first w _ N S _ c.deref-in-Chain.result.now _ c.in_ok-all-in-Chain.all c.as_slice-link-items.result.now
           (ap (cost S) c.in-Chain.is ∙ cost-chain S first rest ∙ ap (λ e. cost S e + cost_of_links S (value S e) rest.items) (sym here) ∙ ap (λ ls. cost S c.deref-in-Chain.result.now + cost_of_links S (value S c.deref-in-Chain.result.now) ls) (sym items))
           c.in_ok-all-in-Chain.ensures.value c.in_ok-all-in-Chain.ensures.room (ap (missing_of_links N) items ∙ known.1);
@@ -84,7 +84,7 @@ links-preserved g t c =
     let laws : HasSizes (g.C.Core.worker c.links.core) = record { rows = g.met.C.Core.row_size c.links.core; cols = g.met.C.Core.col_size c.links.core } in
     record {
       ahead = ahead_more w (g.C.Core.worker c.links.core) _ _ (means w c.args.names.now) _ _ _ c.links.all c.in_ok-right-in-Chain.right c.in_ok-all-in-Chain-2.all c.links.link-index c.as_slice-link-items.result.now c.link-item.result c.links-test.true c.link-item.is same c.requires.fits
-    c.links.invariant.ahead c.in_ok-right-in-Chain.ensures.keeps c.in_ok-right-in-Chain.ensures.value c.in_ok-all-in-Chain-2.ensures.keeps c.in_ok-all-in-Chain-2.ensures.value;
+          c.links.invariant.ahead c.in_ok-right-in-Chain.ensures.keeps c.in_ok-right-in-Chain.ensures.value c.in_ok-all-in-Chain-2.ensures.keeps c.in_ok-all-in-Chain-2.ensures.value;
       paid = paid_more w (g.C.Core.worker c.links.core) (sized c.args.names.now) (means w c.args.names.now) _ _ c.links.all c.links.link-index items c.link-item.result c.links-test.true c.link-item.is same c.links.invariant.paid
           _ _ c.in_ok-right-in-Chain.right c.in_ok-all-in-Chain-2.all plain.0 laws a.stands c.in_ok-right-in-Chain.ensures.room c.in_ok-all-in-Chain-2.ensures.room c.in_ok-right-in-Chain.ensures.keeps c.in_ok-right-in-Chain.ensures.value c.in_ok-all-in-Chain-2.ensures.value;
     }
