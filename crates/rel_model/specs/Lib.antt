@@ -15,3 +15,7 @@ pub mod Due
 pub mod Legal
 pub mod Page
 pub mod Quads
+pub mod Lexed
+pub mod Spelling
+pub mod Stop
+pub mod Printing
