@@ -5,3 +5,4 @@ pub mod Linking
 pub mod Reading
 pub mod Laws
 pub mod Scripts
+pub mod Lexemes

@@ -4,6 +4,8 @@
 mod bytes;
 mod expression;
 mod first;
+mod halt;
+mod lexer;
 mod next;
 mod refusals;
 mod relation;
