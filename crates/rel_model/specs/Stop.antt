@@ -157,33 +157,37 @@ item_step (Word name) = Behind (SignPart 40 ∷ NamePart ∷ MoreParams 15 ∷ S
 item_step (KEYWORD keyword) = command_step keyword
 item_step _ = NotBegun
 
--- whether two keywords are one
-abbrev pub same_word : Keyword → Kind → Bool
-same_word REL (KEYWORD REL) = true
-same_word LET (KEYWORD LET) = true
-same_word PRINT (KEYWORD PRINT) = true
-same_word LIST (KEYWORD LIST) = true
-same_word COUNT (KEYWORD COUNT) = true
-same_word TYPE (KEYWORD TYPE) = true
-same_word DROP (KEYWORD DROP) = true
-same_word SNAP (KEYWORD SNAP) = true
-same_word AT (KEYWORD AT) = true
-same_word LOAD (KEYWORD LOAD) = true
-same_word SAVE (KEYWORD SAVE) = true
-same_word DECL (KEYWORD DECL) = true
-same_word PROD (KEYWORD PROD) = true
-same_word SUM (KEYWORD SUM) = true
-same_word BEG (KEYWORD BEG) = true
-same_word END (KEYWORD END) = true
-same_word RETURN (KEYWORD RETURN) = true
-same_word WHILE (KEYWORD WHILE) = true
-same_word DO (KEYWORD DO) = true
-same_word OD (KEYWORD OD) = true
-same_word IF (KEYWORD IF) = true
-same_word THEN (KEYWORD THEN) = true
-same_word ELSE (KEYWORD ELSE) = true
-same_word FI (KEYWORD FI) = true
-same_word _ _ = false
+-- the number of a keyword among all
+abbrev pub number_of : Keyword → ℕ
+number_of REL = 0
+number_of LET = 1
+number_of PRINT = 2
+number_of LIST = 3
+number_of COUNT = 4
+number_of TYPE = 5
+number_of DROP = 6
+number_of SNAP = 7
+number_of AT = 8
+number_of LOAD = 9
+number_of SAVE = 10
+number_of DECL = 11
+number_of PROD = 12
+number_of SUM = 13
+number_of BEG = 14
+number_of END = 15
+number_of RETURN = 16
+number_of WHILE = 17
+number_of DO = 18
+number_of OD = 19
+number_of IF = 20
+number_of THEN = 21
+number_of ELSE = 22
+number_of FI = 23
+
+-- whether a token is this keyword
+abbrev pub is_word : Keyword → Kind → Bool
+is_word word (KEYWORD keyword) = number_of keyword == number_of word
+is_word word _ = false
 
 -- what a part does with a token
 abbrev pub entered : Part → Kind → Step
@@ -196,7 +200,7 @@ entered FromOne _ = NotBegun
 entered FilePart (File text) = Behind []
 entered FilePart _ = NotBegun
 entered (SignPart s) kind = where_it (is_sign s kind) []
-entered (WordPart word) kind = where_it (same_word word kind) []
+entered (WordPart word) kind = where_it (is_word word kind) []
 entered (OpenPart d) kind = cond (is_sign 40 kind) (opening d []) NotBegun
 entered (ExprPart l d) kind = expr_step l d kind
 entered (CallPart d) kind = cond (is_sign 40 kind) (opening d (ExprPart OrLevel (suc d) ∷ MoreArgs 15 (suc d) ∷ SignPart 41 ∷ [])) NotBegun
@@ -210,7 +214,7 @@ entered MoreRows kind = where_it (is_sign 59 kind) (row_parts ++ MoreRows ∷ []
 entered MoreColumns kind = where_it (is_sign 44 kind) (FromOne ∷ MoreColumns ∷ [])
 entered (StmtsPart d) kind = stmts_step d kind
 entered (MoreStmts d) kind = where_it (is_sign 59 kind) (StmtsPart d ∷ [])
-entered (ElsePart d) kind = where_it (same_word ELSE kind) (StmtsPart d ∷ [])
+entered (ElsePart d) kind = where_it (is_word ELSE kind) (StmtsPart d ∷ [])
 entered (MoreParams zero) kind = NotBegun
 entered (MoreParams (suc n)) kind = where_it (is_sign 44 kind) (NamePart ∷ MoreParams n ∷ [])
 entered BodyPart kind = body_step kind

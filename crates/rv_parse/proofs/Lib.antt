@@ -6,3 +6,6 @@ pub mod Reading
 pub mod Laws
 pub mod Scripts
 pub mod Lexemes
+pub mod Leaves
+pub mod Exprs
+pub mod Optional

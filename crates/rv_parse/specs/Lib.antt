@@ -5,3 +5,5 @@ pub mod Expressions
 pub mod Faults
 pub mod Halts
 pub mod LexerAnswers
+pub mod Readers
+pub mod Got

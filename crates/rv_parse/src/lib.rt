@@ -2,13 +2,16 @@
 #![tactic(auto)]
 
 mod bytes;
+mod expr;
 mod expression;
 mod first;
 mod halt;
+mod leaf;
 mod lexer;
 mod next;
 mod refusals;
 mod relation;
+mod stmt;
 mod tokens;
 mod words;
 
