@@ -1,1 +1,2 @@
 pub mod Transposing
+pub mod Multiplying

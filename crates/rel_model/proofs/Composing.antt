@@ -1,8 +1,13 @@
 -- Composition and transposition go by quarters.
-use Rattle.std.proofs.Common.{◌≡◌, ◌<◌, ◌+◌, ◌-◌, ◌&&◌, ◌||◌, ltb, zero, suc, ℕ, Bool, true, false, cond, refl, sym, ap, ◌∙◌, inl, inr, arith}
-use Rattle.std.proofs.lemmas.Bool.{cases_Bool, lt-ltb, le-ltb}
+use Rattle.std.proofs.Common.{◌≡◌, ◌<◌, ◌≤◌, ◌+◌, ◌-◌, ◌&&◌, ◌||◌, ltb, zero, suc, ℕ, Bool, true, false, cond, refl, sym, ap, ◌∙◌, inl, inr, arith}
+use Rattle.std.proofs.lemmas.Bool.{cases_Bool, lt-ltb, le-ltb, and_parts}
 use Rattle.rel_model.specs.Cells.{Cells, some_below, cells_union, cells_compose, cells_transpose}
 use Rattle.rel_model.specs.Trees.{quartered}
+use Rattle.rel_model.specs.Relation.{Relation, IsRelation, has, relation_of}
+use Rattle.rel_model.specs.Operators.{compose}
+use Rattle.rel_model.proofs.Pairs.{all-member}
+use Rattle.rel_model.proofs.Relations.{relation_of-agree}
+use Rattle.rel_model.proofs.Somes.{some_beyond}
 use Rattle.rel_model.proofs.TreeLaws.{same_cells}
 
 some_same : (m : ℕ) (t u : ℕ → Bool) → ((k : ℕ) → k < m → t k ≡ u k) → some_below m t ≡ some_below m u
@@ -48,3 +53,12 @@ cells_transpose-quartered m a b c d = same_cells _ _ (λ i j. elim (cases_Bool (
   | inl x ↦ rw x (elim (cases_Bool (ltb j m)) [ inl y ↦ rw y refl | inr y ↦ rw y refl ])
   | inr x ↦ rw x (elim (cases_Bool (ltb j m)) [ inl y ↦ rw y refl | inr y ↦ rw y refl ])
 ])
+
+-- ---- relations
+-- the composition of two relations, by their cells within a square that has all middle elements
+pub compose-cells : (m : ℕ) (r s : Relation) → IsRelation r → r.cols ≤ m → compose r s ≡ relation_of r.rows s.cols (cells_compose m (has r) (has s))
+unfolding compose
+compose-cells m r s v l = relation_of-agree r.rows s.cols _ _ (λ i k a b. sym (some_beyond r.cols m (λ j. has r i j && has s j k) l (λ j h. column r v i j (and_parts _ _ h).0)))
+  where
+    column : (r : Relation) → IsRelation r → (i j : ℕ) → has r i j ≡ true → j < r.cols
+    column r v i j h = let w : (i < r.rows) × (j < r.cols) = all-member (λ p. (p.0 < r.rows) × (p.1 < r.cols)) r.pairs (i, j) v.within h in w.1

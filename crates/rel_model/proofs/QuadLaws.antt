@@ -118,13 +118,6 @@ pub side_of-power : (h : ℕ) → bottom_height ≤ h → side_of h ≡ 2 ^ h
 unfolding bottom_height
 side_of-power h l = side-power (h - 3) ∙ ap (λ (k : ℕ). 2 ^ k) (let e : h - 3 + 3 ≡ h = omega arith in e)
 
--- ---- room
-pub four_rooms : (h : ℕ) → quad_room h + quad_room h + quad_room h + quad_room h + 3 ≡ quad_room (suc h)
-four_rooms h =
-    let p : 4 ^ suc h ≡ 4 ^ h * 4 = pow-suc 4 h in
-    let a : 1 ≤ 4 ^ h = one-le-pow h 4 (omega arith) in
-    omega (arith, p, a)
-
 -- ---- names of quads
 pub quad_known : (w : Work) (q : Quad) → QuadStands w q → IsKnown w.view q.name
 quad_known w q s = known w.view (depth_of q.height) q.name s.standing
@@ -146,15 +139,16 @@ empty_quad w h n i l t e = record {
 
 -- four results of the height below and their corner have room
 pub rooms-next : (h : ℕ) → bottom_height < h → quad_room (h - 1) + quad_room (h - 1) + quad_room (h - 1) + quad_room (h - 1) + 3 ≡ quad_room h
-rooms-next h l = four_rooms (h - 1) ∙ ap quad_room (let e : suc (h - 1) ≡ h = omega arith in e)
+unfolding bottom_height
+rooms-next h l =
+    let d : ℕ = h - 1 - 3 in
+    let p : 4 ^ (h - 3) ≡ 4 ^ d * 4 = ap (λ (x : ℕ). 4 ^ x) (let e : h - 3 ≡ suc d = omega arith in e) ∙ pow-suc 4 d in
+    let a : 1 ≤ 4 ^ d = one-le-pow d 4 (omega arith) in
+    omega (arith, p, a)
 
 -- a block has room
-pub room-some : (h : ℕ) → bottom_height ≤ h → 3 ≤ quad_room h
-unfolding bottom_height
-room-some h l =
-    let e : suc (h - 1) ≡ h = omega arith in
-    let r = four_rooms (h - 1) ∙ ap quad_room e in
-    omega (arith, r)
+pub room-some : (h : ℕ) → bottom_height ≤ h → 1 ≤ quad_room h
+room-some h l = let a = one-le-pow (h - bottom_height) 4 (omega arith) in omega (arith, a)
 
 -- ---- quarters and corners over several calls
 -- quarters stay quarters

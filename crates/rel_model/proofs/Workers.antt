@@ -23,11 +23,12 @@ pub gives_set : (w : Worker) (m n : ℕ) (value : Relation) (r : Rel) → Gives 
 gives_set w m n value r g = ap (λ o. unwrap_or o (record { rows = 0; cols = 0; pairs = [] })) g.means
 
 pub keeps_itself : (a : Worker) → Keeps a a
-keeps_itself a = record { same = λ r s. refl; house = refl; spare = refl; misses = omega arith; made = omega arith }
+keeps_itself a = record { same = λ r s. refl; same_quads = λ q s. refl; house = refl; spare = refl; misses = omega arith; made = omega arith }
 
 pub keeps_trans : (a b c : Worker) → Keeps a b → Keeps b c → Keeps a c
 keeps_trans a b c h k = record {
   same = λ r s. k.same r (subst IsSome (sym (h.same r s)) s) ∙ h.same r s;
+  same_quads = λ q s. k.same_quads q (subst IsSome (sym (h.same_quads q s)) s) ∙ h.same_quads q s;
   house = k.house ∙ h.house;
   spare = k.spare ∙ h.spare;
   misses = omega (arith, h.misses, k.misses);

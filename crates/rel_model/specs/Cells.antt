@@ -42,3 +42,7 @@ cells_compose m f g i j = some_below m (λ k. f i k && g k j)
 -- the cells of a block of 8 rows and 8 columns, of which cell (i, j) is bit 8 * i + j
 abbrev pub block_cells : ℕ → Cells
 block_cells bits i j = nat_lt i 8 && (nat_lt j 8 && (bit_at bits (8 * i + j) == 1))
+
+-- the cells of a square of side m in one word, of which cell (i, j) is bit m * i + j
+abbrev pub bits_cells : ℕ → ℕ → Cells
+bits_cells m bits i j = nat_lt i m && (nat_lt j m && (bit_at bits (m * i + j) == 1))

@@ -6,7 +6,9 @@ pub mod Words
 pub mod Equations
 pub mod Views
 pub mod Worker
+pub mod Closures
 pub mod Laws
+pub mod Algebra
 pub mod Tokens
 pub mod Grammar
 pub mod State
@@ -14,7 +16,14 @@ pub mod Meaning
 pub mod Due
 pub mod Legal
 pub mod Page
+pub mod Cost
+pub mod Stored
+pub mod Choice
+pub mod Domains
+pub mod Checking
 pub mod Quads
+pub mod Roots
+pub mod Quarters
 pub mod Lexed
 pub mod Spelling
 pub mod Stop

@@ -1,5 +1,5 @@
 -- Quads: squares of cells by their names in a table; what a keeper of quads holds, what its calls keep, and how it counts what it missed.
-use Rattle.std.specs.Prelude.{◌≡◌, ◌≢◌, ◌≤◌, ◌+◌, ◌-◌, ◌^◌, min, ℕ, true, Result, Ok, Err}
+use Rattle.std.specs.Prelude.{◌≡◌, ◌≢◌, ◌<◌, ◌≤◌, ◌+◌, ◌-◌, ◌*◌, ◌^◌, min, ℕ, true, Result, Ok, Err}
 use Rattle.rel_model.specs.declared.Quad.{Quad}
 use Rattle.rel_model.specs.Cells.{Cells}
 use Rattle.rel_model.specs.Trees.{bottom_height, top_height, cells, stands, quartered}
@@ -16,9 +16,10 @@ pub record Work : Type 0 where
   -- how often a place for a word was missing
   pub misses : ℕ
 
--- the seat is of the table, and where a place was missing every place is taken, as the view shows
+-- the seat is of the table, the count has 64 bits, and where a place was missing every place is taken, as the view shows
 pub record IsWork (w : Work) : Type 0 where
   pub of : IsOf w.view w.table
+  pub counted : w.misses < 2 ^ 64
   pub full : w.misses ≢ 0 → IsFull w.view.words
 
 -- the set of a quad, of which no cell lies outside its square
@@ -74,9 +75,13 @@ pub record AreQuarters (old new : Work) (q : Quad) (four : Quad × Quad × Quad 
   pub se_height : four.3.height + 1 ≡ q.height
   pub means : quad_cells old q ≡ quartered (side_of four.0.height) (quad_cells new four.0) (quad_cells new four.1) (quad_cells new four.2) (quad_cells new four.3)
 
--- how many words an operator on squares of a height places at most: 3 at each height over 0 for the corner of four results
+-- how many words an operator on squares of a height places at most: 1 for a block, and above it those of four results and 3 for their corner
 abbrev pub quad_room : ℕ → ℕ
-quad_room height = 4 ^ height - 1
+quad_room height = 2 * 4 ^ (height - bottom_height) - 1
+
+-- how many words a composition on squares of a height places at most: 1 for a block, and above it those of eight products, of four unions and of a corner
+abbrev pub compose_room : ℕ → ℕ
+compose_room height = 3 * 8 ^ (height - bottom_height) - 2 * 4 ^ (height - bottom_height)
 
 -- a second keeper is split off: both know as much, and it has missed nothing
 pub record SplitsWork (spare : ℕ) (old new second : Work) : Type 0 where

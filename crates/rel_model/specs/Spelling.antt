@@ -1,5 +1,5 @@
 -- Which tokens spell a tree of the whole language, one case for each line of the grammar. Each relation has the tokens before and after.
-use Rattle.std.specs.Prelude.{◌≡◌, ◌≤◌, ◌<◌, ℕ, Bool, cond, List, [], ◌∷◌, length, zero, suc, Some}
+use Rattle.std.specs.Prelude.{◌≡◌, ◌≤◌, ◌<◌, ℕ, Bool, cond, List, [], ◌∷◌, length, suc, Some}
 use Rattle.rel_model.specs.declared.syntax.Place.{Place}
 use Rattle.rel_model.specs.declared.syntax.Column.{Column}
 use Rattle.rel_model.specs.declared.syntax.Row.{Row}

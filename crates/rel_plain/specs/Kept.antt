@@ -23,4 +23,4 @@ relation_at ks r = option_and_then (kept_as r) (slice_get ks r.root)
 
 -- the worker that keeps these: it has no table and no nodes, so its house is none and its counts are 0 for ever
 abbrev pub worker_of : List Relation → Worker
-worker_of ks = record { relation = relation_at ks; misses = 0; made = 0; house = gnil; spare = 0 }
+worker_of ks = record { relation = relation_at ks; quad = λ q. None; misses = 0; made = 0; house = gnil; spare = 0 }

@@ -5,6 +5,7 @@ ghost use Rattle.rel_plain.specs.Kept.{IsKept, worker_of};
 ghost use Rattle.rel_plain.specs.KeptLaws.{valid_law, rows_law, cols_law, row_limit_law, col_limit_law};
 ghost use Rattle.rel_plain.specs.Merge.{picked};
 
+use crate::compose::composed;
 use crate::grid::full_pairs;
 use crate::kept::Kept;
 use crate::merge::merged;
@@ -135,6 +136,12 @@ impl Core for Plain {
     fn transpose(&mut self, r: Rel) -> Result<Rel, Lack> {
         let pairs = turned(self.alloc, self.pairs_of(r))?;
         self.keep(r.cols, r.rows, pairs)
+    }
+
+    /// `{(i, k) : (i, j) in r and (j, k) in s for some j}`: each pair of r through its row of s, merged.
+    fn compose(&mut self, r: Rel, s: Rel) -> Result<Rel, Lack> {
+        let pairs = composed(self.alloc, self.pairs_of(r), self.pairs_of(s))?;
+        self.keep(r.rows, s.cols, pairs)
     }
 
     /// `r = s`: increasing lists of one relation are equal.

@@ -20,6 +20,7 @@ returns-clause-keeps c =
     let k : Relation = record { rows = c.args.rows; cols = c.args.cols; pairs = c.args.pairs.items } in
     record {
       same = λ r h. rw (c.in_ok-push.ensures.items, c.new.ensures, ← c.self.view_is) (relation_at-push c.self.inside.kept.items k r (subst (λ ks. Stands (worker_of ks) r) (sym c.self.view_is) h));
+      same_quads = λ q h. refl;
       house = refl;
       spare = refl;
       misses = omega arith;

@@ -1,0 +1,5 @@
+pub mod Crewing
+pub mod Operating
+pub mod Quartering
+pub mod Placing
+pub mod Products

@@ -1,0 +1,178 @@
+-- The sets that a crew makes are the relations of the algebra's operators.
+use Rattle.std.proofs.Common.{◌≡◌, ◌<◌, ◌≤◌, ◌^◌, ◌&&◌, ◌||◌, ◌↔◌, not, eqb, ℕ, Bool, true, Result, IfOk, refl, sym, ap, subst, ◌∙◌, inl, inr, arith}
+use Rattle.std.specs.Prelude.{IsTrue}
+use Rattle.std.proofs.lemmas.Bool.{false≢true, and_parts, and_from, lt-ltb, ltb-true, eqb-true, or_cases, eq-eqb}
+use Rattle.rel_model.specs.declared.Rel.{Rel}
+use Rattle.rel_model.specs.declared.Quad.{Quad}
+use Rattle.rel_model.specs.declared.Lack.{Lack}
+use Rattle.rel_model.specs.Relation.{Relation, has, relation_of, size_limit}
+use Rattle.rel_model.specs.Cells.{Cells, no_cells, cells_rect, cells_union, cells_inter, cells_diff, cells_transpose}
+use Rattle.rel_model.specs.Operators.{empty, full, single, union, inter, diff, transpose}
+use Rattle.rel_model.specs.Trees.{bottom_height}
+use Rattle.rel_model.specs.Words.{IsDistinct}
+use Rattle.rel_model.specs.Equations.{side_of}
+use Rattle.rel_model.specs.Quads.{Work, IsWork, IsQuad, quad_cells}
+use Rattle.rel_model.specs.Roots.{tree_height, root_cells}
+use Rattle.rel_model.specs.Worker.{Stands, set_of, Gives}
+use Rattle.rel_model.specs.Quarters.{LiesWithin}
+use Rattle.rel_model.proofs.Relations.{relation_of-agree}
+use Rattle.rel_model.proofs.OperatorLaws.{relation_of-sizes}
+use Rattle.rel_model.proofs.Workers.{stands_some}
+use Rattle.rel_model.proofs.QuadLaws.{empty_quad, side_of-power}
+use Rattle.rel_model.proofs.Heights.{height_over-low, height_over-rows, height_over-cols, height_over-turned}
+use Rattle.rel_model.proofs.Rooting.{one_root}
+use Rattle.fork_quads.specs.Crew.{worker_of, root_quad, named_as, one_cell}
+use Rattle.fork_quads.specs.CrewLaws.{rows_law, cols_law, row_limit_law, col_limit_law}
+use Rattle.fork_quads.proofs.Crewing.{has-root, root_within, tree_height-high, is_quad-relation, named_value}
+
+-- ---- sets within sizes
+pub none_within : (m n : ℕ) → LiesWithin m n no_cells
+none_within m n = record { row = λ i j h. absurd (false≢true h); col = λ i j h. absurd (false≢true h) }
+
+pub rect_within : (m n : ℕ) → LiesWithin m n (cells_rect m n)
+rect_within m n = record { row = λ i j h. ltb-true i m (and_parts _ _ h).0; col = λ i j h. ltb-true j n (and_parts _ _ h).1 }
+
+pub one_within : (m n x y : ℕ) → x < m → y < n → LiesWithin m n (one_cell x y)
+one_within m n x y a b = record {
+  row = λ i j h. let e : i ≡ x = eqb-true i x (and_parts _ _ h).0 in omega arith;
+  col = λ i j h. let e : j ≡ y = eqb-true j y (and_parts _ _ h).1 in omega arith;
+}
+
+-- a set that has no cell outside two sets within sizes
+within_both : (m n : ℕ) (f g h : Cells) → LiesWithin m n f → LiesWithin m n g → ((i j : ℕ) → h i j ≡ true → (f i j || g i j) ≡ true) → LiesWithin m n h
+within_both m n f g h v w k = record {
+  row = λ i j x. elim (or_cases (f i j) (g i j) (k i j x)) [ inl a ↦ v.row i j a | inr a ↦ w.row i j a ];
+  col = λ i j x. elim (or_cases (f i j) (g i j) (k i j x)) [ inl a ↦ v.col i j a | inr a ↦ w.col i j a ];
+}
+
+pub union_within : (m n : ℕ) (f g : Cells) → LiesWithin m n f → LiesWithin m n g → LiesWithin m n (cells_union f g)
+union_within m n f g v w = within_both m n f g (cells_union f g) v w (λ i j x. x)
+
+pub inter_within : (m n : ℕ) (f g : Cells) → LiesWithin m n f → LiesWithin m n (cells_inter f g)
+inter_within m n f g v = record { row = λ i j h. v.row i j (and_parts _ _ h).0; col = λ i j h. v.col i j (and_parts _ _ h).0 }
+
+pub diff_within : (m n : ℕ) (f g : Cells) → LiesWithin m n f → LiesWithin m n (cells_diff f g)
+diff_within m n f g v = record { row = λ i j h. v.row i j (and_parts _ _ h).0; col = λ i j h. v.col i j (and_parts _ _ h).0 }
+
+pub transpose_within : (m n : ℕ) (f : Cells) → LiesWithin m n f → LiesWithin n m (cells_transpose f)
+transpose_within m n f v = record { row = λ i j h. v.col j i h; col = λ i j h. v.row j i h }
+
+-- ---- their relations
+pub empty_is : (m n : ℕ) → relation_of m n no_cells ≡ empty m n
+unfolding empty
+empty_is m n = refl
+
+pub full_is : (m n : ℕ) → relation_of m n (cells_rect m n) ≡ full m n
+unfolding full
+full_is m n = relation_of-agree m n _ _ (λ i j a b. and_from _ _ (lt-ltb i m a) (lt-ltb j n b))
+
+pub single_is : (m n x y : ℕ) → relation_of m n (one_cell x y) ≡ single m n x y
+unfolding single
+single_is m n x y = refl
+
+pub union_is : (m n : ℕ) (r s : Relation) (f g : Cells) → r.rows ≡ m → r.cols ≡ n → has r ≡ f → has s ≡ g → relation_of m n (cells_union f g) ≡ union r s
+unfolding union
+union_is m n r s f g a b e d = sym (relation_of-sizes r.rows r.cols m n (λ i j. has r i j || has s i j) a b ∙ ap (λ (c : Cells). relation_of m n (λ i j. c i j || has s i j)) e ∙ ap (λ (c : Cells). relation_of m n (λ i j. f i j || c i j)) d)
+
+pub inter_is : (m n : ℕ) (r s : Relation) (f g : Cells) → r.rows ≡ m → r.cols ≡ n → has r ≡ f → has s ≡ g → relation_of m n (cells_inter f g) ≡ inter r s
+unfolding inter
+inter_is m n r s f g a b e d = sym (relation_of-sizes r.rows r.cols m n (λ i j. has r i j && has s i j) a b ∙ ap (λ (c : Cells). relation_of m n (λ i j. c i j && has s i j)) e ∙ ap (λ (c : Cells). relation_of m n (λ i j. f i j && c i j)) d)
+
+pub diff_is : (m n : ℕ) (r s : Relation) (f g : Cells) → r.rows ≡ m → r.cols ≡ n → has r ≡ f → has s ≡ g → relation_of m n (cells_diff f g) ≡ diff r s
+unfolding diff
+diff_is m n r s f g a b e d = sym (relation_of-sizes r.rows r.cols m n (λ i j. has r i j && not (has s i j)) a b ∙ ap (λ (c : Cells). relation_of m n (λ i j. c i j && not (has s i j))) e ∙ ap (λ (c : Cells). relation_of m n (λ i j. f i j && not (c i j))) d)
+
+pub transpose_is : (m n : ℕ) (r : Relation) (f : Cells) → r.rows ≡ m → r.cols ≡ n → has r ≡ f → relation_of n m (cells_transpose f) ≡ transpose r
+unfolding transpose
+transpose_is m n r f a b e = sym (relation_of-sizes r.cols r.rows n m (λ i j. has r j i) b a ∙ ap (λ (c : Cells). relation_of n m (λ i j. c j i)) e)
+
+-- ---- operators on roots
+-- an operator on sets is one on relations
+pub record Lifts (op : Cells → Cells → Cells) (of : Relation → Relation → Relation) : Type 0 where
+  pub within : (m n : ℕ) (f g : Cells) → LiesWithin m n f → LiesWithin m n g → LiesWithin m n (op f g)
+  pub is : (m n : ℕ) (r s : Relation) (f g : Cells) → r.rows ≡ m → r.cols ≡ n → has r ≡ f → has s ≡ g → relation_of m n (op f g) ≡ of r s
+
+pub union_lifts : Lifts cells_union union
+union_lifts = record { within = union_within; is = union_is }
+
+pub inter_lifts : Lifts cells_inter inter
+inter_lifts = record { within = λ m n f g v w. inter_within m n f g v; is = inter_is }
+
+pub diff_lifts : Lifts cells_diff diff
+diff_lifts = record { within = λ m n f g v w. diff_within m n f g v; is = diff_is }
+
+-- what it gives on the roots of two relations of one type
+pub lifted_value : {E : Type 0} (op : Cells → Cells → Cells) (of : Relation → Relation → Relation) (w inside new : Work) (r s : Rel) (p q : Quad) (a : Result Quad E) (result : Result Rel Lack) → Lifts op of → inside ≡ w
+    → Stands (worker_of w) r → Stands (worker_of w) s → r.rows ≡ s.rows → r.cols ≡ s.cols → p ≡ root_quad r → q ≡ root_quad s
+    → IfOk a (IsQuad new p.height (op (quad_cells inside p) (quad_cells inside q))) → result ≡ named_as r.rows r.cols a
+    → IfOk result (Gives (worker_of new) r.rows r.cols (of (set_of (worker_of w) r) (set_of (worker_of w) s)))
+lifted_value op of w inside new r s p q a result l v hr hs er ec ep eq h e =
+    let f : Cells = root_cells w.view.words r in
+    let g : Cells = root_cells w.view.words s in
+    let wg : LiesWithin r.rows r.cols g = subst (λ (x : ℕ). LiesWithin x r.cols g) (sym er) (subst (λ (y : ℕ). LiesWithin s.rows y g) (sym ec) (root_within w s hs)) in
+    let ef : quad_cells inside p ≡ f = ap (λ (x : Work). quad_cells x p) v ∙ ap (quad_cells w) ep in
+    let eg : quad_cells inside q ≡ g = ap (λ (x : Work). quad_cells x q) v ∙ ap (quad_cells w) eq in
+    let h' : IfOk a (IsQuad new (tree_height r.rows r.cols) (op f g)) =
+    subst (λ (k : ℕ). IfOk a (IsQuad new k (op f g))) (ap (λ (x : Quad). x.height) ep) (subst (λ (c : Cells). IfOk a (IsQuad new p.height c)) (ap (λ (c : Cells). op c (quad_cells inside q)) ef ∙ ap (λ (c : Cells). op f c) eg) h) in
+    subst (λ (x : Result Rel Lack). IfOk x (Gives (worker_of new) r.rows r.cols (of (set_of (worker_of w) r) (set_of (worker_of w) s)))) (sym e)
+    (named_value new r.rows r.cols (op f g) _ a (row_limit_law w r hr) (col_limit_law w r hr) (l.within r.rows r.cols f g (root_within w r hr) wg)
+    (l.is r.rows r.cols (set_of (worker_of w) r) (set_of (worker_of w) s) f g (rows_law w r hr) (cols_law w r hr) (has-root w r hr) (has-root w s hs)) h')
+
+-- the transposition on the root of a relation
+pub transposed_value : {E : Type 0} (w inside new : Work) (r : Rel) (p : Quad) (a : Result Quad E) (result : Result Rel Lack) → inside ≡ w → Stands (worker_of w) r → p ≡ root_quad r
+    → IfOk a (IsQuad new p.height (cells_transpose (quad_cells inside p))) → result ≡ named_as r.cols r.rows a
+    → IfOk result (Gives (worker_of new) r.cols r.rows (transpose (set_of (worker_of w) r)))
+transposed_value w inside new r p a result v hr ep h e =
+    let f : Cells = root_cells w.view.words r in
+    let ef : quad_cells inside p ≡ f = ap (λ (x : Work). quad_cells x p) v ∙ ap (quad_cells w) ep in
+    let h' : IfOk a (IsQuad new (tree_height r.cols r.rows) (cells_transpose f)) =
+    subst (λ (k : ℕ). IfOk a (IsQuad new k (cells_transpose f))) (ap (λ (x : Quad). x.height) ep ∙ sym (height_over-turned bottom_height r.rows r.cols)) (subst (λ (c : Cells). IfOk a (IsQuad new p.height c)) (ap cells_transpose ef) h) in
+    subst (λ (x : Result Rel Lack). IfOk x (Gives (worker_of new) r.cols r.rows (transpose (set_of (worker_of w) r)))) (sym e)
+    (named_value new r.cols r.rows (cells_transpose f) _ a (col_limit_law w r hr) (row_limit_law w r hr) (transpose_within r.rows r.cols f (root_within w r hr))
+    (transpose_is r.rows r.cols (set_of (worker_of w) r) f (rows_law w r hr) (cols_law w r hr) (has-root w r hr)) h')
+
+-- a set made at the height of a relation's tree
+pub made_value : {E : Type 0} (new : Work) (m n h : ℕ) (f : Cells) (value : Relation) (a : Result Quad E) (result : Result Rel Lack) → m ≤ size_limit → n ≤ size_limit → LiesWithin m n f → relation_of m n f ≡ value → h ≡ tree_height m n
+    → IfOk a (IsQuad new h f) → result ≡ named_as m n a → IfOk result (Gives (worker_of new) m n value)
+made_value new m n h f value a result lm ln l v eh i e =
+    subst (λ (x : Result Rel Lack). IfOk x (Gives (worker_of new) m n value)) (sym e) (named_value new m n f value a lm ln l v (subst (λ (k : ℕ). IfOk a (IsQuad new k f)) eh i))
+
+-- the empty relation has root 0
+pub nothing_value : (w : Work) (m n : ℕ) → IsWork w → m ≤ size_limit → n ≤ size_limit → Gives (worker_of w) m n (empty m n) (record { rows = m; cols = n; root = 0 })
+nothing_value w m n i lm ln =
+    subst (λ (x : Relation). Gives (worker_of w) m n x (record { rows = m; cols = n; root = 0 })) (empty_is m n)
+    (is_quad-relation w m n no_cells (record { height = tree_height m n; name = 0 }) lm ln (none_within m n) (empty_quad w (tree_height m n) 0 i (height_over-low bottom_height m n) (tree_height-high m n) refl))
+
+-- ---- roots compared
+-- of two relations of one type the roots are equal exactly where the relations are
+pub same_decides : (w inside : Work) (r s : Rel) (t : Bool) → inside ≡ w → IsWork inside → Stands (worker_of w) r → Stands (worker_of w) s → r.rows ≡ s.rows → r.cols ≡ s.cols → t ≡ eqb r.root s.root
+    → IsTrue t ↔ (set_of (worker_of w) r ≡ set_of (worker_of w) s)
+same_decides w inside r s t v i hr hs er ec e =
+    let k = one_root w.view.words (subst (λ (x : Work). IsDistinct x.view.words) v i.of.canonical) r s (set_of (worker_of w) r) (set_of (worker_of w) s) er ec (stands_some (worker_of w) r hr) (stands_some (worker_of w) s hs) in (
+      (λ is. k.0 (eqb-true r.root s.root (sym e ∙ is))),
+      (λ is. e ∙ eq-eqb r.root s.root (k.1 is)),
+    )
+
+-- the root is 0 exactly where the relation is empty
+pub empty_decides : (w inside : Work) (r : Rel) (t : Bool) → inside ≡ w → IsWork inside → Stands (worker_of w) r → t ≡ eqb r.root 0 → IsTrue t ↔ (set_of (worker_of w) r ≡ empty r.rows r.cols)
+empty_decides w inside r t v i hr e =
+    let i' : IsWork w = subst IsWork v i in
+    let k = one_root w.view.words i'.of.canonical r (record { rows = r.rows; cols = r.cols; root = 0 }) (set_of (worker_of w) r) (empty r.rows r.cols) refl refl (stands_some (worker_of w) r hr)
+    (nothing_value w r.rows r.cols i' (row_limit_law w r hr) (col_limit_law w r hr)).means in (
+      (λ is. k.0 (eqb-true r.root 0 (sym e ∙ is))),
+      (λ is. e ∙ eq-eqb r.root 0 (k.1 is)),
+    )
+
+-- ---- cells
+-- a cell within the sizes lies within the square
+pub cell_in : (w : Work) (r : Rel) (q : Quad) (i j : ℕ) → Stands (worker_of w) r → q ≡ root_quad r → i < r.rows → j < r.cols → (i < side_of q.height) × (j < side_of q.height)
+cell_in w r q i j h e a b =
+    let l = height_over-low bottom_height r.rows r.cols in
+    let p = height_over-rows bottom_height r.rows r.cols (row_limit_law w r h) in
+    let c = height_over-cols bottom_height r.rows r.cols (col_limit_law w r h) in
+    let s : side_of q.height ≡ 2 ^ tree_height r.rows r.cols = ap (λ (x : Quad). side_of x.height) e ∙ side_of-power (tree_height r.rows r.cols) l in
+    (omega arith, omega arith)
+
+-- it is in the relation where it is in the set of the root
+pub has_value : (w inside : Work) (r : Rel) (q : Quad) (i j : ℕ) (t : Bool) → inside ≡ w → Stands (worker_of w) r → q ≡ root_quad r → t ≡ quad_cells inside q i j → t ≡ has (set_of (worker_of w) r) i j
+has_value w inside r q i j t v h e d = d ∙ ap (λ (x : Work). quad_cells x q i j) v ∙ ap (λ (x : Quad). quad_cells w x i j) e ∙ ap (λ (c : Cells). c i j) (sym (has-root w r h))

@@ -1,0 +1,86 @@
+-- Quads of the table as quads of a worker.
+use Rattle.std.proofs.Common.{◌≡◌, ◌≤◌, ◌+◌, ◌*◌, ◌-◌, ◌^◌, ℕ, Result, IfOk, refl, sym, ap, subst, ◌∙◌, arith}
+use Rattle.std.proofs.Math.Nat.{pow-le-pow_right}
+use Rattle.rel_model.specs.declared.Rel.{Rel}
+use Rattle.rel_model.specs.declared.Quad.{Quad}
+use Rattle.rel_model.specs.declared.Lack.{Lack}
+use Rattle.rel_model.specs.Relation.{has, relation_of, size_limit}
+use Rattle.rel_model.specs.Cells.{Cells}
+use Rattle.rel_model.specs.Trees.{bottom_height, quartered}
+use Rattle.rel_model.specs.Equations.{side_of}
+use Rattle.rel_model.specs.Quads.{Work, IsWork, QuadStands, IsQuad, quad_cells, KeepsWork, ReadsWork, AreQuarters, quad_room}
+use Rattle.rel_model.specs.Roots.{height_over}
+use Rattle.rel_model.specs.Quarters.{LiesWithin, GivesQuarters}
+use Rattle.rel_model.specs.Worker.{Stands, set_of, HasQuad, quad_set, Gives, GivesQuad, MakesAtMost}
+use Rattle.rel_model.proofs.QuadLaws.{side_of-power}
+use Rattle.fork_quads.specs.Crew.{worker_of, root_quad, told_as}
+use Rattle.fork_quads.proofs.Crewing.{has_quad-stands, stands-has_quad, quad_set-cells, is_quad-gives, has-root, root_stands, is_quad-relation, told_value}
+
+-- ---- quads of the keeper inside a worker
+pub stands_inside : (w inside : Work) (q : Quad) → inside ≡ w → HasQuad (worker_of w) q → QuadStands inside q
+stands_inside w inside q v h = subst (λ (x : Work). QuadStands x q) (sym v) (has_quad-stands w q h)
+
+pub set_inside : (w inside : Work) (q : Quad) → inside ≡ w → IsWork inside → HasQuad (worker_of w) q → quad_cells inside q ≡ quad_set (worker_of w) q
+set_inside w inside q v i h = ap (λ (x : Work). quad_cells x q) v ∙ sym (quad_set-cells w q (subst IsWork v i) (has_quad-stands w q h))
+
+-- ---- answers
+pub told_gives : {E : Type 0} (new : Work) (h : ℕ) (f value : Cells) (a : Result Quad E) (result : Result Quad Lack) → IsWork new → f ≡ value → IfOk a (IsQuad new h f) → result ≡ told_as a → IfOk result (GivesQuad (worker_of new) h value)
+told_gives new h f value a result i v s e =
+    subst (λ (x : Result Quad Lack). IfOk x (GivesQuad (worker_of new) h value)) (sym e) (subst (λ (c : Cells). IfOk (told_as a) (GivesQuad (worker_of new) h c)) v (told_value new h f a i s))
+
+pub corner_gives : {E : Type 0} (w inside new : Work) (nw ne sw se : Quad) (a : Result Quad E) (result : Result Quad Lack) → inside ≡ w → IsWork inside → IsWork new → HasQuad (worker_of w) nw → HasQuad (worker_of w) ne → HasQuad (worker_of w) sw
+    → HasQuad (worker_of w) se → IfOk a (IsQuad new (nw.height + 1) (quartered (side_of nw.height) (quad_cells inside nw) (quad_cells inside ne) (quad_cells inside sw) (quad_cells inside se))) → result ≡ told_as a
+    → IfOk result (GivesQuad (worker_of new) (nw.height + 1) (quartered (2 ^ nw.height) (quad_set (worker_of w) nw) (quad_set (worker_of w) ne) (quad_set (worker_of w) sw) (quad_set (worker_of w) se)))
+corner_gives w inside new nw ne sw se a result v i j h0 h1 h2 h3 s e =
+    told_gives new (nw.height + 1) _ _ a result j
+    (ap (λ (m : ℕ). quartered m (quad_cells inside nw) (quad_cells inside ne) (quad_cells inside sw) (quad_cells inside se)) (side_of-power nw.height (has_quad-stands w nw h0).low)
+    ∙ ap (λ (c : Cells). quartered (2 ^ nw.height) c (quad_cells inside ne) (quad_cells inside sw) (quad_cells inside se)) (set_inside w inside nw v i h0)
+    ∙ ap (λ (c : Cells). quartered (2 ^ nw.height) (quad_set (worker_of w) nw) c (quad_cells inside sw) (quad_cells inside se)) (set_inside w inside ne v i h1)
+    ∙ ap (λ (c : Cells). quartered (2 ^ nw.height) (quad_set (worker_of w) nw) (quad_set (worker_of w) ne) c (quad_cells inside se)) (set_inside w inside sw v i h2)
+    ∙ ap (λ (c : Cells). quartered (2 ^ nw.height) (quad_set (worker_of w) nw) (quad_set (worker_of w) ne) (quad_set (worker_of w) sw) c) (set_inside w inside se v i h3)) s e
+
+pub quarters_give : (w inside new : Work) (q : Quad) (four : Quad × Quad × Quad × Quad) → inside ≡ w → HasQuad (worker_of w) q → ReadsWork inside new → AreQuarters inside new q four → GivesQuarters (worker_of w) (worker_of new) q four
+quarters_give w inside new q four v h r a =
+    let j = r.keeps.after in
+    record {
+      nw = stands-has_quad new four.0 j a.nw;
+      ne = stands-has_quad new four.1 j a.ne;
+      sw = stands-has_quad new four.2 j a.sw;
+      se = stands-has_quad new four.3 j a.se;
+      nw_height = a.nw_height;
+      ne_height = a.ne_height;
+      sw_height = a.sw_height;
+      se_height = a.se_height;
+      means = sym (set_inside w inside q v r.keeps.before h) ∙ a.means
+          ∙ ap (λ (m : ℕ). quartered m (quad_cells new four.0) (quad_cells new four.1) (quad_cells new four.2) (quad_cells new four.3)) (side_of-power four.0.height a.nw.low)
+          ∙ ap (λ (c : Cells). quartered (2 ^ four.0.height) c (quad_cells new four.1) (quad_cells new four.2) (quad_cells new four.3)) (sym (quad_set-cells new four.0 j a.nw))
+          ∙ ap (λ (c : Cells). quartered (2 ^ four.0.height) (quad_set (worker_of new) four.0) c (quad_cells new four.2) (quad_cells new four.3)) (sym (quad_set-cells new four.1 j a.ne))
+          ∙ ap (λ (c : Cells). quartered (2 ^ four.0.height) (quad_set (worker_of new) four.0) (quad_set (worker_of new) four.1) c (quad_cells new four.3)) (sym (quad_set-cells new four.2 j a.sw))
+          ∙ ap (λ (c : Cells). quartered (2 ^ four.0.height) (quad_set (worker_of new) four.0) (quad_set (worker_of new) four.1) (quad_set (worker_of new) four.2) c) (sym (quad_set-cells new four.3 j a.se));
+    }
+
+-- ---- roots
+pub root_gives : (w inside : Work) (r : Rel) (q : Quad) → inside ≡ w → IsWork inside → Stands (worker_of w) r → q ≡ root_quad r → GivesQuad (worker_of w) (height_over 3 r.rows r.cols) (has (set_of (worker_of w) r)) q
+unfolding bottom_height
+root_gives w inside r q v i h e =
+    subst (λ (x : Quad). GivesQuad (worker_of w) (height_over 3 r.rows r.cols) (has (set_of (worker_of w) r)) x) (sym e)
+    (is_quad-gives w (height_over 3 r.rows r.cols) (has (set_of (worker_of w) r)) (root_quad r) (subst IsWork v i) (record { same_height = refl; stands = root_stands w r h; means = sym (has-root w r h) }))
+
+pub rel_gives : (w inside : Work) (m n : ℕ) (q : Quad) → inside ≡ w → IsWork inside → m ≤ size_limit → n ≤ size_limit → HasQuad (worker_of w) q → q.height ≡ height_over 3 m n → LiesWithin m n (quad_set (worker_of w) q)
+    → Gives (worker_of w) m n (relation_of m n (quad_set (worker_of w) q)) (record { rows = m; cols = n; root = q.name })
+unfolding bottom_height
+rel_gives w inside m n q v i a b h e l =
+    let s = has_quad-stands w q h in
+    is_quad-relation w m n (quad_set (worker_of w) q) q a b l (record { same_height = e; stands = s; means = sym (quad_set-cells w q (subst IsWork v i) s) })
+
+-- ---- rectangles
+pub side_inside : (h n : ℕ) → 3 ≤ h → n ≤ 2 ^ h → n ≤ side_of h
+unfolding bottom_height
+side_inside h n l s = let p = side_of-power h l in omega (arith, p)
+
+pub rect_room : (h : ℕ) (w inside new : Work) → inside ≡ w → KeepsWork (quad_room h) inside new → MakesAtMost (4 * 4 ^ h) (worker_of w) (worker_of new)
+unfolding bottom_height
+rect_room h w inside new v k =
+    let p = pow-le-pow_right {n = 4} (omega arith) {i = h - 3} {j = h} (omega arith) in
+    let r = k.room in
+    subst (λ (x : Work). MakesAtMost (4 * 4 ^ h) (worker_of x) (worker_of new)) v (omega arith)

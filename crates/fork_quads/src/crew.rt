@@ -1,0 +1,53 @@
+//! A crew: made over a table and a seat, and giving the seat back.
+ghost use Rattle.std.specs.Prelude.{◌≡◌, ◌≢◌, ◌≤◌};
+ghost use Rattle.rel_model.specs.Words.{IsFull};
+ghost use Rattle.rel_model.specs.Views.{IsOf};
+ghost use Rattle.rel_model.specs.Quads.{Work};
+
+use crate::gate::Gate;
+use pair_table::{PairTable, Seat};
+use quad_nodes::Nodes;
+use std::marker::Model;
+
+/// A worker over a node table, of one seat there. 40 bytes.
+#[derive(Drop)]
+pub struct Crew<'t, G: Gate> {
+    pub(crate) nodes: Nodes<'t>,
+    pub(crate) workers: u32,
+    pub(crate) gate: &'t G,
+}
+
+impl<'t, G: Gate> Model for Crew<'t, G> {
+    ghost use Rattle.rel_model.specs.Quads.{Work};
+
+    ghost Value = { Work };
+
+    ghost view = { λ c. c.nodes };
+}
+
+impl<'t, G: Gate> Crew<'t, G> {
+    /// The relations and quads of a table, for the seat; nothing was missed yet.
+    ///
+    /// Every number of workers works on the caller's seat, one piece after another, and no gate is called.
+    pub fn new(table: &'t PairTable, seat: Seat, workers: u32, gate: &'t G) -> Crew<'t, G>
+        requires some { 1 ≤ workers }
+        requires few { workers ≤ 64 }
+        requires of { IsOf seat table.now }
+        ensures { result ≡ record { table = table.now; view = seat; misses = 0 } }
+    {
+        Crew {
+            nodes: Nodes::new(table, seat),
+            workers,
+            gate,
+        }
+    }
+
+    /// The seat, which is given back.
+    pub fn into_seat(self) -> Seat
+        ensures view { result ≡ self.entry.view }
+        ensures of { IsOf result self.entry.table }
+        ensures full { self.entry.misses ≢ 0 → IsFull result.words }
+    {
+        self.nodes.into_seat()
+    }
+}

@@ -1,0 +1,226 @@
+use Rattle.std.proofs.Common.{◌≤◌, ◌+◌, ◌-◌, ℕ, Ok, arith}
+use Rattle.rel_model.specs.Quads.{compose_room}
+use Rattle.rel_model.proofs.QuadLaws.{keeps_on, keeps_most, quad_stays, is_quad-stays}
+use Rattle.rel_model.proofs.Rooms.{compose_room-next}
+use Rattle.rel_compose.specs.Products.{quarter_room}
+use Rattle.rel_compose.proofs.Multiplying.{composed_none-left, composed_none-right, both_stay, both_at, product_value, products_value, squares, squares-stay, composed_value, composed_now, composed_after, row_below}
+use Rattle.rel_compose.proofs.compose.+composing.Goals as goal
+
+pub compose_quads-returns-then-a-eq0-clause-value : goal.compose_quads-returns-then-a-eq0-clause-value
+compose_quads-returns-then-a-eq0-clause-value t c = composed_none-left c.args.nodes.now c.args.a c.args.b c.bottom-bottom.ensures.work c.requires.a_stands c.if-a-eq0.true
+
+pub compose_quads-returns-then-b-eq0-clause-value : goal.compose_quads-returns-then-b-eq0-clause-value
+compose_quads-returns-then-b-eq0-clause-value t c = composed_none-right c.args.nodes.now c.args.a c.args.b c.bottom-bottom.ensures.work c.requires.b_stands c.requires.one_height c.if-b-eq0.true
+
+pub compose_quads-composed_over-requires : goal.compose_quads-composed_over-requires
+compose_quads-composed_over-requires t c =
+    let l = c.requires.a_stands.low in
+    let n = c.if-a-bottom.false in
+    let b = c.bottom-bottom.ensures.height in
+    let k = c.both_full.ensures.reads.keeps in
+    (omega arith, (quad_stays 0 c.args.nodes.now c.both_full.new.nodes c.args.a k c.requires.a_stands, (quad_stays 0 c.args.nodes.now c.both_full.new.nodes c.args.b k c.requires.b_stands, (c.requires.one_height, omega (arith, l, n, b)))))
+
+pub compose_quads-returns-clause-value : goal.compose_quads-returns-clause-value
+compose_quads-returns-clause-value t c = composed_after c.args.nodes.now c.both_full.new.nodes c.composed_over.new.nodes c.args.a c.args.b c.composed_over.result c.both_full.ensures.reads c.requires.a_stands c.requires.b_stands c.composed_over.ensures.value
+
+pub product-compose_quads-requires-2 : goal.product-compose_quads-requires-2
+product-compose_quads-requires-2 t c =
+    let s0 = c.args.nodes.now in
+    let s1 = c.compose_quads.new.nodes in
+    let k = c.in_ok-first.ensures.keeps in
+    let r = both_stay _ s0 s1 c.args.row.0.height c.args.row k c.requires.row_stands in
+    let w = both_stay _ s0 s1 c.args.row.0.height c.args.column k c.requires.column_stands in
+    let e = r.second_height in
+    let g = w.second_height in
+    (omega arith, (r.second, (w.second, omega arith)))
+
+pub product-union_quads-requires-clause-a_stands : goal.product-union_quads-requires-clause-a_stands
+product-union_quads-requires-clause-a_stands t c = quad_stays _ c.compose_quads.new.nodes c.compose_quads-2.new.nodes c.in_ok-first.first c.in_ok-second.ensures.keeps c.in_ok-first.ensures.value.stands
+
+pub product-returns-clause-value : goal.product-returns-clause-value
+product-returns-clause-value t c =
+    product_value _ _ c.args.nodes.now c.compose_quads.new.nodes c.compose_quads-2.new.nodes c.union_quads.new.nodes c.args.row c.args.column c.in_ok-first.first c.in_ok-second.second c.union_quads.result
+    c.requires.row_stands c.requires.column_stands c.in_ok-first.ensures.keeps c.in_ok-second.ensures.keeps c.in_ok-first.ensures.value c.in_ok-second.ensures.value c.union_quads.ensures.value
+
+pub row_of_products-product-requires-2 : goal.row_of_products-product-requires-2
+row_of_products-product-requires-2 t c =
+    let s0 = c.args.nodes.now in
+    let s1 = c.product.new.nodes in
+    let k = c.in_ok-first.ensures.keeps in
+    (omega arith, (both_stay _ s0 s1 c.args.row.0.height c.args.row k c.requires.row_stands, both_stay _ s0 s1 c.args.row.0.height c.args.east k c.requires.east_stands))
+
+pub row_of_products-returns-clause-value : goal.row_of_products-returns-clause-value
+row_of_products-returns-clause-value t c =
+    products_value _ _ c.args.nodes.now c.product.new.nodes c.product-2.new.nodes c.args.row c.args.west c.args.east c.in_ok-first.first c.in_ok-second.second
+    c.requires.row_stands c.requires.east_stands c.in_ok-first.ensures.keeps c.in_ok-second.ensures.keeps c.in_ok-first.ensures.value c.in_ok-second.ensures.value
+
+pub composed_over-quarters_of_both-requires-clause-a_stands : goal.composed_over-quarters_of_both-requires-clause-a_stands
+composed_over-quarters_of_both-requires-clause-a_stands t c = quad_stays 0 c.args.nodes.now c.look.new.self c.args.a c.look.ensures.reads.keeps c.requires.a_stands
+
+pub composed_over-quarters_of_both-requires-clause-b_stands : goal.composed_over-quarters_of_both-requires-clause-b_stands
+composed_over-quarters_of_both-requires-clause-b_stands t c = quad_stays 0 c.args.nodes.now c.look.new.self c.args.b c.look.ensures.reads.keeps c.requires.b_stands
+
+pub composed_over-returns-in_err-nw-clause-keeps : goal.composed_over-returns-in_err-nw-clause-keeps
+composed_over-returns-in_err-nw-clause-keeps t c =
+    let s0 = c.args.nodes.now in
+    let s1 = c.look.new.self in
+    let s2 = c.quarters_of_both.new.self in
+    let s3 = c.row_of_products.new.nodes in
+    let q = c.quarters_of_both.ensures.first in
+    let h : ℕ = c.args.a.height in
+    let m : ℕ = quarter_room (h - 1) + quarter_room (h - 1) in
+    let k0 = keeps_on 0 0 s0 s1 s2 c.look.ensures.reads.keeps c.quarters_of_both.ensures.reads.keeps in
+    let k1 = keeps_on (0 + 0) m s0 s2 s3 k0 (row_below h c.quarters_of_both.result.0.0.height s2 s3 q.nw_height c.in_err-nw.ensures.keeps) in
+    let r = compose_room-next h c.requires.over in
+    let l : 0 + 0 + m ≤ compose_room h = omega (arith, r) in
+    keeps_most (0 + 0 + m) (compose_room h) s0 s3 l k1
+
+pub composed_over-returns-in_err-sw-clause-keeps : goal.composed_over-returns-in_err-sw-clause-keeps
+composed_over-returns-in_err-sw-clause-keeps t c =
+    let s0 = c.args.nodes.now in
+    let s1 = c.look.new.self in
+    let s2 = c.quarters_of_both.new.self in
+    let s3 = c.row_of_products.new.nodes in
+    let s4 = c.row_of_products-2.new.nodes in
+    let q = c.quarters_of_both.ensures.first in
+    let h : ℕ = c.args.a.height in
+    let m : ℕ = quarter_room (h - 1) + quarter_room (h - 1) in
+    let k0 = keeps_on 0 0 s0 s1 s2 c.look.ensures.reads.keeps c.quarters_of_both.ensures.reads.keeps in
+    let k1 = keeps_on (0 + 0) m s0 s2 s3 k0 (row_below h c.quarters_of_both.result.0.0.height s2 s3 q.nw_height c.in_ok-nw.ensures.keeps) in
+    let k2 = keeps_on (0 + 0 + m) m s0 s3 s4 k1 (row_below h c.quarters_of_both.result.0.2.height s3 s4 q.sw_height c.in_err-sw.ensures.keeps) in
+    let r = compose_room-next h c.requires.over in
+    let l : 0 + 0 + m + m ≤ compose_room h = omega (arith, r) in
+    keeps_most (0 + 0 + m + m) (compose_room h) s0 s4 l k2
+
+pub composed_over-returns-in_err-found-clause-keeps : goal.composed_over-returns-in_err-found-clause-keeps
+composed_over-returns-in_err-found-clause-keeps t c =
+    let s0 = c.args.nodes.now in
+    let s1 = c.look.new.self in
+    let s2 = c.quarters_of_both.new.self in
+    let s3 = c.row_of_products.new.nodes in
+    let s4 = c.row_of_products-2.new.nodes in
+    let s5 = c.corner.new.self in
+    let q = c.quarters_of_both.ensures.first in
+    let h : ℕ = c.args.a.height in
+    let m : ℕ = quarter_room (h - 1) + quarter_room (h - 1) in
+    let k0 = keeps_on 0 0 s0 s1 s2 c.look.ensures.reads.keeps c.quarters_of_both.ensures.reads.keeps in
+    let k1 = keeps_on (0 + 0) m s0 s2 s3 k0 (row_below h c.quarters_of_both.result.0.0.height s2 s3 q.nw_height c.in_ok-nw.ensures.keeps) in
+    let k2 = keeps_on (0 + 0 + m) m s0 s3 s4 k1 (row_below h c.quarters_of_both.result.0.2.height s3 s4 q.sw_height c.in_ok-sw.ensures.keeps) in
+    let k3 = keeps_on (0 + 0 + m + m) 3 s0 s4 s5 k2 c.in_err-found.ensures.keeps in
+    let r = compose_room-next h c.requires.over in
+    let l : 0 + 0 + m + m + 3 ≤ compose_room h = omega (arith, r) in
+    keeps_most (0 + 0 + m + m + 3) (compose_room h) s0 s5 l k3
+
+pub composed_over-returns-clause-keeps : goal.composed_over-returns-clause-keeps
+composed_over-returns-clause-keeps t c =
+    let s0 = c.args.nodes.now in
+    let s1 = c.look.new.self in
+    let s2 = c.quarters_of_both.new.self in
+    let s3 = c.row_of_products.new.nodes in
+    let s4 = c.row_of_products-2.new.nodes in
+    let s5 = c.corner.new.self in
+    let s6 = c.note.new.self in
+    let q = c.quarters_of_both.ensures.first in
+    let h : ℕ = c.args.a.height in
+    let m : ℕ = quarter_room (h - 1) + quarter_room (h - 1) in
+    let k0 = keeps_on 0 0 s0 s1 s2 c.look.ensures.reads.keeps c.quarters_of_both.ensures.reads.keeps in
+    let k1 = keeps_on (0 + 0) m s0 s2 s3 k0 (row_below h c.quarters_of_both.result.0.0.height s2 s3 q.nw_height c.in_ok-nw.ensures.keeps) in
+    let k2 = keeps_on (0 + 0 + m) m s0 s3 s4 k1 (row_below h c.quarters_of_both.result.0.2.height s3 s4 q.sw_height c.in_ok-sw.ensures.keeps) in
+    let k3 = keeps_on (0 + 0 + m + m) 3 s0 s4 s5 k2 c.in_ok-found.ensures.keeps in
+    let k4 = keeps_on (0 + 0 + m + m + 3) 0 s0 s5 s6 k3 c.note.ensures.reads.keeps in
+    let r = compose_room-next h c.requires.over in
+    let l : 0 + 0 + m + m + 3 + 0 ≤ compose_room h = omega (arith, r) in
+    keeps_most (0 + 0 + m + m + 3 + 0) (compose_room h) s0 s6 l k4
+
+pub composed_over-row_of_products-requires-2 : goal.composed_over-row_of_products-requires-2
+composed_over-row_of_products-requires-2 t c =
+    let fa = c.quarters_of_both.result.0 in
+    let fb = c.quarters_of_both.result.1 in
+    let s2 = c.quarters_of_both.new.self in
+    let s3 = c.row_of_products.new.nodes in
+    let h : ℕ = fa.0.height in
+    let sq = squares-stay _ s2 s3 h fa fb c.in_ok-nw.ensures.keeps (squares c.look.new.self s2 c.args.a c.args.b fa fb c.requires.one_height c.quarters_of_both.ensures.first c.quarters_of_both.ensures.second) in
+    let e = sq.south.first_height in
+    let g = c.quarters_of_both.ensures.first.sw_height in
+    (omega arith, (both_at s3 h fa.2.height (fa.2, fa.3) e sq.south, (both_at s3 h fa.2.height (fb.0, fb.2) e sq.west, both_at s3 h fa.2.height (fb.1, fb.3) e sq.east)))
+
+pub composed_over-corner-requires-clause-nw_stands : goal.composed_over-corner-requires-clause-nw_stands
+composed_over-corner-requires-clause-nw_stands t c = quad_stays _ c.row_of_products.new.nodes c.row_of_products-2.new.nodes c.in_ok-nw.nw c.in_ok-sw.ensures.keeps c.in_ok-nw.ensures.value.first.stands
+
+pub composed_over-corner-requires-clause-ne_stands : goal.composed_over-corner-requires-clause-ne_stands
+composed_over-corner-requires-clause-ne_stands t c = quad_stays _ c.row_of_products.new.nodes c.row_of_products-2.new.nodes c.in_ok-nw.ne c.in_ok-sw.ensures.keeps c.in_ok-nw.ensures.value.second.stands
+
+pub composed_over-note-requires-clause-a_stands : goal.composed_over-note-requires-clause-a_stands
+composed_over-note-requires-clause-a_stands t c =
+    let s0 = c.args.nodes.now in
+    let s1 = c.look.new.self in
+    let s2 = c.quarters_of_both.new.self in
+    let s3 = c.row_of_products.new.nodes in
+    let s4 = c.row_of_products-2.new.nodes in
+    let s5 = c.corner.new.self in
+    let q = c.quarters_of_both.ensures.first in
+    let h : ℕ = c.args.a.height in
+    let m : ℕ = quarter_room (h - 1) + quarter_room (h - 1) in
+    let k0 = keeps_on 0 0 s0 s1 s2 c.look.ensures.reads.keeps c.quarters_of_both.ensures.reads.keeps in
+    let k1 = keeps_on (0 + 0) m s0 s2 s3 k0 (row_below h c.quarters_of_both.result.0.0.height s2 s3 q.nw_height c.in_ok-nw.ensures.keeps) in
+    let k2 = keeps_on (0 + 0 + m) m s0 s3 s4 k1 (row_below h c.quarters_of_both.result.0.2.height s3 s4 q.sw_height c.in_ok-sw.ensures.keeps) in
+    let k3 = keeps_on (0 + 0 + m + m) 3 s0 s4 s5 k2 c.in_ok-found.ensures.keeps in
+    quad_stays (0 + 0 + m + m + 3) s0 s5 c.args.a k3 c.requires.a_stands
+
+pub composed_over-note-requires-clause-b_stands : goal.composed_over-note-requires-clause-b_stands
+composed_over-note-requires-clause-b_stands t c =
+    let s0 = c.args.nodes.now in
+    let s1 = c.look.new.self in
+    let s2 = c.quarters_of_both.new.self in
+    let s3 = c.row_of_products.new.nodes in
+    let s4 = c.row_of_products-2.new.nodes in
+    let s5 = c.corner.new.self in
+    let q = c.quarters_of_both.ensures.first in
+    let h : ℕ = c.args.a.height in
+    let m : ℕ = quarter_room (h - 1) + quarter_room (h - 1) in
+    let k0 = keeps_on 0 0 s0 s1 s2 c.look.ensures.reads.keeps c.quarters_of_both.ensures.reads.keeps in
+    let k1 = keeps_on (0 + 0) m s0 s2 s3 k0 (row_below h c.quarters_of_both.result.0.0.height s2 s3 q.nw_height c.in_ok-nw.ensures.keeps) in
+    let k2 = keeps_on (0 + 0 + m) m s0 s3 s4 k1 (row_below h c.quarters_of_both.result.0.2.height s3 s4 q.sw_height c.in_ok-sw.ensures.keeps) in
+    let k3 = keeps_on (0 + 0 + m + m) 3 s0 s4 s5 k2 c.in_ok-found.ensures.keeps in
+    quad_stays (0 + 0 + m + m + 3) s0 s5 c.args.b k3 c.requires.b_stands
+
+pub composed_over-note-requires-clause-holds : goal.composed_over-note-requires-clause-holds
+composed_over-note-requires-clause-holds t c =
+    let s0 = c.args.nodes.now in
+    let s1 = c.look.new.self in
+    let s2 = c.quarters_of_both.new.self in
+    let s3 = c.row_of_products.new.nodes in
+    let s4 = c.row_of_products-2.new.nodes in
+    let s5 = c.corner.new.self in
+    let q = c.quarters_of_both.ensures.first in
+    let h : ℕ = c.args.a.height in
+    let m : ℕ = quarter_room (h - 1) + quarter_room (h - 1) in
+    let k0 = keeps_on 0 0 s0 s1 s2 c.look.ensures.reads.keeps c.quarters_of_both.ensures.reads.keeps in
+    let k1 = keeps_on (0 + 0) m s0 s2 s3 k0 (row_below h c.quarters_of_both.result.0.0.height s2 s3 q.nw_height c.in_ok-nw.ensures.keeps) in
+    let k2 = keeps_on (0 + 0 + m) m s0 s3 s4 k1 (row_below h c.quarters_of_both.result.0.2.height s3 s4 q.sw_height c.in_ok-sw.ensures.keeps) in
+    let k3 = keeps_on (0 + 0 + m + m) 3 s0 s4 s5 k2 c.in_ok-found.ensures.keeps in
+    let v = composed_value {E = Unit {0}} _ _ s0 s1 s2 s3 s4 s5 c.args.a c.args.b c.quarters_of_both.result.0 c.quarters_of_both.result.1 c.in_ok-nw.nw c.in_ok-nw.ne c.in_ok-sw.sw c.in_ok-sw.se (Ok c.in_ok-found.found)
+    c.requires.over c.requires.a_stands c.requires.b_stands c.requires.one_height c.look.ensures.reads.keeps q c.quarters_of_both.ensures.second c.in_ok-nw.ensures.keeps c.in_ok-sw.ensures.keeps
+    c.in_ok-nw.ensures.value c.in_ok-sw.ensures.value c.in_ok-found.ensures.value in
+    composed_now (0 + 0 + m + m + 3) s0 s5 c.args.a c.args.b c.in_ok-found.found k3 c.requires.a_stands c.requires.b_stands v
+
+pub composed_over-returns-clause-value : goal.composed_over-returns-clause-value
+composed_over-returns-clause-value t c =
+    let s0 = c.args.nodes.now in
+    let s1 = c.look.new.self in
+    let s2 = c.quarters_of_both.new.self in
+    let s3 = c.row_of_products.new.nodes in
+    let s4 = c.row_of_products-2.new.nodes in
+    let s5 = c.corner.new.self in
+    let s6 = c.note.new.self in
+    let q = c.quarters_of_both.ensures.first in
+    let h : ℕ = c.args.a.height in
+    let m : ℕ = quarter_room (h - 1) + quarter_room (h - 1) in
+    let k0 = keeps_on 0 0 s0 s1 s2 c.look.ensures.reads.keeps c.quarters_of_both.ensures.reads.keeps in
+    let k1 = keeps_on (0 + 0) m s0 s2 s3 k0 (row_below h c.quarters_of_both.result.0.0.height s2 s3 q.nw_height c.in_ok-nw.ensures.keeps) in
+    let k2 = keeps_on (0 + 0 + m) m s0 s3 s4 k1 (row_below h c.quarters_of_both.result.0.2.height s3 s4 q.sw_height c.in_ok-sw.ensures.keeps) in
+    let k3 = keeps_on (0 + 0 + m + m) 3 s0 s4 s5 k2 c.in_ok-found.ensures.keeps in
+    let v = composed_value {E = Unit {0}} _ _ s0 s1 s2 s3 s4 s5 c.args.a c.args.b c.quarters_of_both.result.0 c.quarters_of_both.result.1 c.in_ok-nw.nw c.in_ok-nw.ne c.in_ok-sw.sw c.in_ok-sw.se (Ok c.in_ok-found.found)
+    c.requires.over c.requires.a_stands c.requires.b_stands c.requires.one_height c.look.ensures.reads.keeps q c.quarters_of_both.ensures.second c.in_ok-nw.ensures.keeps c.in_ok-sw.ensures.keeps
+    c.in_ok-nw.ensures.value c.in_ok-sw.ensures.value c.in_ok-found.ensures.value in
+    is_quad-stays 0 s5 s6 c.args.a.height _ c.in_ok-found.found c.note.ensures.reads.keeps v

@@ -1,0 +1,96 @@
+//! The composition, by quarters.
+ghost use Rattle.std.specs.Prelude.{◌≡◌, ◌<◌, ◌+◌, IfOk};
+ghost use Rattle.rel_model.specs.Cells.{cells_compose};
+ghost use Rattle.rel_model.specs.Trees.{bottom_height};
+ghost use Rattle.rel_model.specs.Equations.{side_of};
+ghost use Rattle.rel_model.specs.Quads.{Work, QuadStands, IsQuad, quad_cells, KeepsWork, Counts, quad_room, compose_room};
+ghost use Rattle.rel_compose.specs.Products.{BothStand, IsProduct, AreProducts, quarter_room};
+
+use crate::product::{both_full, leaf};
+use memo_laws::Op;
+use pair_table::Missed;
+use quad_nodes::Nodes;
+use rel_boole::union_quads;
+use rel_model::Quad;
+
+/// Cell (i, k) where some j has (i, j) in `a` and (j, k) in `b`, for two quads of one height.
+#[cycle(composing)]
+pub fn compose_quads(nodes: &mut Nodes, a: Quad, b: Quad) -> Result<Quad, Missed>
+    requires a_stands { QuadStands nodes.old a }
+    requires b_stands { QuadStands nodes.old b }
+    requires one_height { b.height ≡ a.height }
+    ensures value { IfOk result (IsQuad nodes.new a.height (cells_compose (side_of a.height) (quad_cells nodes.old a) (quad_cells nodes.old b))) }
+    ensures keeps { KeepsWork (compose_room a.height) nodes.old nodes.new }
+    ensures counts { Counts nodes.old nodes.new result }
+{
+    let bottom = nodes.bottom();
+    if a.name == 0 {
+        return Ok(a);
+    }
+    if b.name == 0 {
+        return Ok(b);
+    }
+    if a.height == bottom {
+        return leaf(nodes, a, b);
+    }
+    if both_full(nodes, a, b) {
+        return Ok(a);
+    }
+    composed_over(nodes, a, b)
+}
+
+/// The same over the blocks: what was noted is looked up, and what was not goes by quarters and is noted.
+#[cycle(composing)]
+fn composed_over(nodes: &mut Nodes, a: Quad, b: Quad) -> Result<Quad, Missed>
+    requires a_stands { QuadStands nodes.old a }
+    requires b_stands { QuadStands nodes.old b }
+    requires one_height { b.height ≡ a.height }
+    requires over { bottom_height < a.height }
+    ensures value { IfOk result (IsQuad nodes.new a.height (cells_compose (side_of a.height) (quad_cells nodes.old a) (quad_cells nodes.old b))) }
+    ensures keeps { KeepsWork (compose_room a.height) nodes.old nodes.new }
+    ensures counts { Counts nodes.old nodes.new result }
+{
+    if let Some(found) = nodes.look(Op::Compose, a, b) {
+        return Ok(found);
+    }
+    let ((a_nw, a_ne, a_sw, a_se), (b_nw, b_ne, b_sw, b_se)) = nodes.quarters_of_both(a, b);
+    let (nw, ne) = row_of_products(nodes, (a_nw, a_ne), (b_nw, b_sw), (b_ne, b_se))?;
+    let (sw, se) = row_of_products(nodes, (a_sw, a_se), (b_nw, b_sw), (b_ne, b_se))?;
+    let found = nodes.corner(nw, ne, sw, se)?;
+    nodes.note(Op::Compose, a, b, found);
+    Ok(found)
+}
+
+/// A row of two quads times both columns of a square.
+#[cycle(composing)]
+fn row_of_products(
+    nodes: &mut Nodes,
+    row: (Quad, Quad),
+    west: (Quad, Quad),
+    east: (Quad, Quad),
+) -> Result<(Quad, Quad), Missed>
+    requires row_stands { BothStand nodes.old row.0.height row }
+    requires west_stands { BothStand nodes.old row.0.height west }
+    requires east_stands { BothStand nodes.old row.0.height east }
+    ensures value { IfOk result (AreProducts nodes.old nodes.new row west east) }
+    ensures keeps { KeepsWork (quarter_room row.0.height + quarter_room row.0.height) nodes.old nodes.new }
+    ensures counts { Counts nodes.old nodes.new result }
+{
+    let first = product(nodes, row, west)?;
+    let second = product(nodes, row, east)?;
+    Ok((first, second))
+}
+
+/// A row of two quads times a column of two: the union of two compositions.
+#[cycle(composing)]
+fn product(nodes: &mut Nodes, row: (Quad, Quad), column: (Quad, Quad)) -> Result<Quad, Missed>
+    requires row_stands { BothStand nodes.old row.0.height row }
+    requires column_stands { BothStand nodes.old row.0.height column }
+    ensures value { IfOk result (IsProduct nodes.old nodes.new row column) }
+    ensures keeps { KeepsWork (quarter_room row.0.height) nodes.old nodes.new }
+    ensures counts { Counts nodes.old nodes.new result }
+{
+    let first = compose_quads(nodes, row.0, column.0)?;
+    let second = compose_quads(nodes, row.1, column.1)?;
+    union_quads(nodes, first, second)
+}

@@ -1,0 +1,38 @@
+-- Relations by their roots in the words of a table (the k²-trees of Brisaboa, Ladra and Navarro, with k = 2, that end in blocks of 8 by 8).
+use Rattle.std.specs.Prelude.{◌≡◌, ◌&&◌, ◌↔◌, not, nat_lt, nat_le, max, cond, ℕ, Bool, List, Option, Some, None}
+use Rattle.rel_model.specs.declared.Rel.{Rel}
+use Rattle.rel_model.specs.Relation.{Relation, relation_of, size_limit}
+use Rattle.rel_model.specs.Cells.{Cells, some_below}
+use Rattle.rel_model.specs.Trees.{bottom_height, cells, stands}
+use Rattle.rel_model.specs.Equations.{depth_of, side_of}
+use Rattle.rel_model.specs.Worker.{height_of}
+
+-- the height of the tree of a relation over leaves of a height: the least from theirs on whose side is at least both sizes
+unfoldable pub height_over : ℕ → ℕ → ℕ → ℕ
+height_over least rows cols = max least (max (height_of rows) (height_of cols))
+
+-- the height of the tree of a relation in a table
+abbrev pub tree_height : ℕ → ℕ → ℕ
+tree_height rows cols = height_over bottom_height rows cols
+
+-- whether a set within a square of side m has no cell outside so many rows and columns
+unfoldable pub lies_within : ℕ → ℕ → ℕ → Cells → Bool
+lies_within m rows cols f = not (some_below m (λ i. some_below m (λ j. f i j && not (nat_lt i rows && nat_lt j cols))))
+
+-- the cells of the root of a relation
+abbrev pub root_cells : List ℕ → Rel → Cells
+root_cells words rel = cells words (depth_of (tree_height rel.rows rel.cols)) rel.root
+
+-- whether a relation stands in the words: its sizes are within the limit, its root stands at the depth of its height, and has no cell outside its sizes
+unfoldable pub stands_in : List ℕ → Rel → Bool
+stands_in words rel =
+    (nat_le rel.rows size_limit && nat_le rel.cols size_limit)
+    && (stands words (depth_of (tree_height rel.rows rel.cols)) rel.root && lies_within (side_of (tree_height rel.rows rel.cols)) rel.rows rel.cols (root_cells words rel))
+
+-- the relation that the words give, where it stands
+unfoldable pub relation_in : List ℕ → Rel → Option Relation
+relation_in words rel = cond (stands_in words rel) (Some (relation_of rel.rows rel.cols (root_cells words rel))) None
+
+-- of two relations of one type that stand in the words, the roots are equal exactly if the relations are
+abbrev pub HasOneRootEach : List ℕ → Type 0
+HasOneRootEach words = (a b : Rel) (r s : Relation) → a.rows ≡ b.rows → a.cols ≡ b.cols → relation_in words a ≡ Some r → relation_in words b ≡ Some s → (a.root ≡ b.root) ↔ (r ≡ s)

@@ -1,0 +1,11 @@
+//! Residuals and the symmetric quotient, over any worker, by complement and composition.
+#![tactic(auto)]
+
+mod complement;
+mod quotient;
+mod residuals;
+#[cfg(test)]
+mod tests;
+
+pub use quotient::syq;
+pub use residuals::{left, right};
