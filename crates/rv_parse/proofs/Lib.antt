@@ -9,3 +9,10 @@ pub mod Lexemes
 pub mod Leaves
 pub mod Exprs
 pub mod Optional
+pub mod Stmts
+pub mod RowSteps
+pub mod Defs
+pub mod Fitting
+pub mod Scripting
+pub mod Agreeing
+pub mod Parsing

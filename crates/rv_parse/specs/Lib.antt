@@ -7,3 +7,6 @@ pub mod Halts
 pub mod LexerAnswers
 pub mod Readers
 pub mod Got
+pub mod Openings
+pub mod Items
+pub mod Stops

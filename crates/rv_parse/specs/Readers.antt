@@ -5,7 +5,7 @@ use Rattle.rel_model.specs.declared.syntax.Expr.{Expr}
 use Rattle.rel_model.specs.declared.syntax.Op2.{Op2}
 use Rattle.rel_model.specs.declared.token.Keyword.{Keyword}
 use Rattle.rel_model.specs.declared.token.Kind.{Kind}
-use Rattle.rel_model.specs.declared.token.Kind.TheVariants.{Sign}
+use Rattle.rel_model.specs.declared.token.Kind.TheVariants.{Number, Sign}
 use Rattle.rel_model.specs.declared.token.Token.{Token}
 use Rattle.rel_model.specs.Grammar.{TakesAt}
 use Rattle.rel_model.specs.Lexed.{Ending}
@@ -31,6 +31,16 @@ Refuses e parts tokens halt = (halt ≡ NoMemory → ⊥) → (behind : List Par
 abbrev pub begins : ℕ → List Token → Bool
 begins s [] = false
 begins s (token ∷ tokens) = is_sign s token.kind
+
+-- whether a token is a number
+abbrev pub is_number : Kind → Bool
+is_number (Number n) = true
+is_number _ = false
+
+-- whether a number comes first
+abbrev pub begins_number : List Token → Bool
+begins_number [] = false
+begins_number (token ∷ tokens) = is_number token.kind
 
 -- whether this keyword comes first
 abbrev pub begins_word : Keyword → List Token → Bool

@@ -119,7 +119,12 @@ fn with_domain(
 
 /// An expression inside of a construct around which so many are open.
 #[cycle(expr)]
-pub fn inner(alloc: Global, tokens: &[Token], end: Ending, depth: u32) -> Result<(Expr, &[Token]), Halt>
+pub fn inner(
+    alloc: Global,
+    tokens: &[Token],
+    end: Ending,
+    depth: u32,
+) -> Result<(Expr, &[Token]), Halt>
     requires depth { depth < nesting_limit }
     requires count { length tokens.now < 2 ^ 32 }
     ensures { MatchResult result (λ x. IsRead (ending_of end) OrLevel (suc depth) x.0 tokens.now x.1.now) (Refuses (ending_of end) (ExprPart OrLevel (suc depth) ∷ []) tokens.now) }

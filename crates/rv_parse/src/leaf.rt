@@ -124,7 +124,11 @@ pub fn next_word(tokens: &[Token], end: Ending, keyword: Keyword) -> Result<(Pla
 }
 
 /// A name.
-pub fn next_name(alloc: Global, tokens: &[Token], end: Ending) -> Result<(Name, Place, &[Token]), Halt>
+pub fn next_name(
+    alloc: Global,
+    tokens: &[Token],
+    end: Ending,
+) -> Result<(Name, Place, &[Token]), Halt>
     ensures { MatchResult result (λ x. TakesAt x.1 (Word x.0) tokens.now x.2.now × Reads (ending_of end) (NamePart ∷ []) tokens.now x.2.now) (Refuses (ending_of end) (NamePart ∷ []) tokens.now) }
 {
     let [first, rest @ ..] = tokens else {

@@ -2,6 +2,8 @@
 #![tactic(auto)]
 
 mod bytes;
+mod command;
+mod def;
 mod expr;
 mod expression;
 mod first;
@@ -11,11 +13,14 @@ mod lexer;
 mod next;
 mod refusals;
 mod relation;
+mod rows;
+mod script;
 mod stmt;
 mod tokens;
 mod words;
 
 pub use first::parse_first;
+pub use script::parse;
 
 #[cfg(test)]
 mod tests;
