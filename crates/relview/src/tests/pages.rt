@@ -2,8 +2,11 @@
 use super::runs::{assert_page, history_of, outcomes_of, run};
 use std::test::Fail;
 
+/// The node words and the memo words of a run's table.
+const TABLE_WORDS: usize = 2_097_152;
+
 #[test]
-fn an_empty_script_writes_nothing_and_has_one_empty_list_of_outcomes(
+fn an_empty_script_writes_nothing_and_leaves_each_word_of_the_table_0(
     rt: HostRuntime,
 ) -> Result<(), Fail> {
     let ran = run(rt.alloc(), b"")?;
@@ -11,7 +14,8 @@ fn an_empty_script_writes_nothing_and_has_one_empty_list_of_outcomes(
     assert!(rt; ran.report.ran);
     assert_eq!(rt; history_of(rt.alloc(), &ran)?.as_str(), "");
     assert_eq!(rt; outcomes_of(rt.alloc(), &ran)?.as_str(), "[]");
-    assert_eq!(rt; ran.report.words.len(), 0);
+    assert_eq!(rt; ran.report.words.len(), TABLE_WORDS);
+    assert!(rt; ran.report.words.iter().all(|word| *word == 0));
     assert_eq!(rt; ran.shelf_faults, 0);
     assert_eq!(rt; ran.sink_faults, 0);
     Ok(())
@@ -91,7 +95,7 @@ fn a_script_with_all_four_operators_has_its_page_and_its_history(
     assert_eq!(rt; history_of(rt.alloc(), &ran)?.as_str(), history);
     let outcomes = "[done;done;done;done;]";
     assert_eq!(rt; outcomes_of(rt.alloc(), &ran)?.as_str(), outcomes);
-    assert_eq!(rt; ran.report.words.len(), 0);
+    assert_eq!(rt; ran.report.words.len(), TABLE_WORDS);
     Ok(())
 }
 
