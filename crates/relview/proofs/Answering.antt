@@ -1,5 +1,5 @@
 -- The one session of a run is the whole run.
-use Rattle.std.proofs.Common.{◌≡◌, ◌≢◌, ◌≤◌, ◌∙◌, ℕ, List, [], ◌∷◌, ◌++◌, None, refl, sym, subst, arith, append-nil}
+use Rattle.std.proofs.Common.{◌≡◌, ◌≢◌, ◌≤◌, ◌∙◌, ℕ, List, [], ◌∷◌, ◌++◌, None, refl, sym, ap, subst, arith, append-nil}
 use Rattle.std.specs.List.{AllByRecursion}
 use Rattle.rel_model.specs.declared.syntax.Script.{Script}
 use Rattle.rel_model.specs.declared.faults.ParseFault.{ParseFault}
@@ -7,41 +7,36 @@ use Rattle.rel_model.specs.declared.faults.ParseFault.TheVariants.{Byte, Expecte
 use Rattle.rv_parse.specs.Faults.{RefusesFirst}
 use Rattle.rel_model.specs.declared.run.Event.{Event}
 use Rattle.rel_model.specs.declared.run.Outcome.{Outcome}
-use Rattle.rel_model.specs.declared.run.Outcome.TheVariants.{Nodes}
 use Rattle.rel_model.specs.Grammar.{SpelledBy}
-use Rattle.rel_model.specs.Legal.{LegalItems, no_script}
+use Rattle.rel_model.specs.Legal.{LegalItems, IsLegal, no_script}
+use Rattle.rel_model.specs.Stored.{HoldsRun}
 use Rattle.rel_model.specs.Page.{IsRun, page_of, items_page, prefix, refusal_text}
-use Rattle.rel_model.specs.Worker.{Worker, Rose}
+use Rattle.rel_model.specs.Worker.{Worker}
 use Rattle.rel_model.proofs.Runs.{Below, events_of-below}
 use Rattle.relview.specs.declared.session.Run.{Run}
-use Rattle.relview.specs.Ran.{RanTo, tree_of, HasMissed}
+use Rattle.relview.specs.declared.top.Answer.{Answer}
+use Rattle.relview.specs.Top.{Answers, HoldsNothing, table_bits}
+use Rattle.relview.specs.Ran.{RanTo, tree_of}
 
 numbered : (c : ℕ) (H : List Event) → Below c H → AllByRecursion (λ e. (1 ≤ e.session) × (e.session ≤ 1)) H
 numbered c [] h = tt
 numbered c (e ∷ es) h = ((omega (arith, h.0.0), omega (arith, h.0.0)), numbered c es h.1)
 
 -- a script that ran from its first item to its last
-pub run_of_script : (bytes : List ℕ) (script : Script) (start now : Worker) (run : Run) → SpelledBy bytes script → RanTo (tree_of script) script.items.items start now run → IsRun (bytes ∷ []) run.history.items (run.outcomes.items ∷ []) run.page.items
-unfolding page_of
-run_of_script bytes script start now run spelled ran =
-    let T = tree_of script in
-    let H = run.history.items in
-    record {
-      trees = tree_of script;
-      read = (spelled, tt);
-      legal = record { numbers = numbered _ H ran.below; sessions = (subst (LegalItems T H 1 1 script.items.items run.outcomes.items) (sym (events_of-below _ H ran.below)) ran.legal, tt) };
-      shown = ran.text ∙ sym (append-nil (items_page T H 1 1 script.items.items run.outcomes.items));
-    }
+pub legal_of_script : (script : Script) (start now : Worker) (run : Run) → RanTo (tree_of script) script.items.items start now run → IsLegal (tree_of script) run.history.items (run.outcomes.items ∷ [])
+legal_of_script script start now run ran = record {
+  numbers = numbered _ run.history.items ran.below;
+  sessions = (subst (LegalItems (tree_of script) run.history.items 1 1 script.items.items run.outcomes.items) (sym (events_of-below _ run.history.items ran.below)) ran.legal, tt);
+}
 
--- bytes that are no script
-pub run_of_none : (bytes : List ℕ) (H : List Event) (os : List Outcome) (page : List ℕ) → ((script : Script) → SpelledBy bytes script → ⊥) → H ≡ [] → os ≡ no_script ∷ [] → page ≡ prefix 1 0 ++ refusal_text no_script → IsRun (bytes ∷ []) H (os ∷ []) page
+pub page_of_script : (script : Script) (start now : Worker) (run : Run) → RanTo (tree_of script) script.items.items start now run → run.page.items ≡ page_of (tree_of script) run.history.items (run.outcomes.items ∷ [])
 unfolding page_of
-run_of_none bytes H os page none eh eo ep = rw (eh, eo, ep) (record {
-  trees = None ∷ [];
-  read = (none, tt);
-  legal = record { numbers = tt; sessions = ((refl, refl), tt) };
-  shown = sym (append-nil ((prefix 1 0 ++ refusal_text no_script) ++ []) ∙ append-nil (prefix 1 0 ++ refusal_text no_script));
-})
+page_of_script script start now run ran = ran.text ∙ sym (append-nil (items_page (tree_of script) run.history.items 1 1 script.items.items run.outcomes.items))
+
+-- the page of bytes that are no script
+no_page : (H : List Event) → prefix 1 0 ++ refusal_text no_script ≡ page_of (None ∷ []) H ((no_script ∷ []) ∷ [])
+unfolding page_of
+no_page H = sym (append-nil ((prefix 1 0 ++ refusal_text no_script) ++ []) ∙ append-nil (prefix 1 0 ++ refusal_text no_script))
 
 -- where no script was found and memory did not run out, the bytes are none
 pub none_spelled : (bytes : List ℕ) (fault : ParseFault) → RefusesFirst bytes fault → (fault ≡ NoMemory → ⊥) → (script : Script) → SpelledBy bytes script → ⊥
@@ -52,10 +47,15 @@ none_spelled bytes (TooDeep at) r h = absurd r
 none_spelled bytes (NumberTooLarge at) r h = absurd r
 none_spelled bytes (NameTooLong at) r h = absurd r
 
--- no miss was counted, so no outcome is a full table
-pub never_full : (os : List Outcome) → HasMissed os 0 0 → AllByRecursion (λ o. o ≢ Nodes) os
-never_full [] h = tt
-never_full (o ∷ os) h = (λ e. impossible (h.0 e), never_full os h.1)
+-- the answer to bytes that are no script
+pub answers_none : (bytes : List ℕ) (a : Answer) → ((script : Script) → SpelledBy bytes script → ⊥) → a.history.items ≡ [] → a.outcomes.items ≡ no_script ∷ [] → a.page.items ≡ prefix 1 0 ++ refusal_text no_script → HoldsNothing a.words.items → Answers bytes a
+answers_none bytes a none eh eo ep h = record {
+  lawful = record { trees = None ∷ []; read = (none, tt); legal = legal; shown = shown };
+  holds = subst (λ H. HoldsRun table_bits (None ∷ []) H (a.outcomes.items ∷ []) a.words.items) (sym eh) (subst (λ os. HoldsRun table_bits (None ∷ []) [] (os ∷ []) a.words.items) (sym eo) h);
+}
   where
-    impossible : Rose 0 0 → ⊥
-    impossible r = omega (arith, r)
+    legal : IsLegal (None ∷ []) a.history.items (a.outcomes.items ∷ [])
+    legal = subst (λ H. IsLegal (None ∷ []) H (a.outcomes.items ∷ [])) (sym eh) (subst (λ os. IsLegal (None ∷ []) [] (os ∷ [])) (sym eo) (record { numbers = tt; sessions = ((refl, refl), tt) }))
+
+    shown : a.page.items ≡ page_of (None ∷ []) a.history.items (a.outcomes.items ∷ [])
+    shown = ep ∙ no_page [] ∙ ap (λ H. page_of (None ∷ []) H ((no_script ∷ []) ∷ [])) (sym eh) ∙ ap (λ os. page_of (None ∷ []) a.history.items (os ∷ [])) (sym eo)

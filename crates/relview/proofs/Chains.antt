@@ -1,11 +1,12 @@
 -- Calls and chains as the code has them, with their arguments and links in a vector: what the definitions say of a row, read off the list. By induction on the row.
-use Rattle.std.proofs.Common.{◌≡◌, refl, ap, rules}
+use Rattle.std.proofs.Common.{◌≡◌, ◌+◌, refl, ap, rules}
 use Rattle.rel_model.specs.declared.syntax.Expr.{Row_of-Expr, end_of-Expr, more_of-Expr, items-the_row-Expr, Row_of-Link, end_of-Link, more_of-Link, items-the_row-Link, the_lemmas}
 use Rattle.rel_model.specs.declared.syntax.Expr.TheVariants.{Call, Base, Chain}
 use Rattle.rel_model.specs.Relation.{Relation}
 use Rattle.rel_model.specs.State.{State}
+use Rattle.rel_model.specs.Cost.{cost, cost_along, link_cost}
 use Rattle.rel_model.specs.Meaning.{missing, missing_in, missing_along, first_of_both, Shaped, joined, shaped, shaped_along, result_of_both, value, value_along}
-use Rattle.relview.specs.Links.{missing_of_args, missing_of_links, shaped_of_links, value_of_links, IsPlain, ArePlain, ArePlainLinks}
+use Rattle.relview.specs.Links.{missing_of_args, missing_of_links, shaped_of_links, value_of_links, cost_of_links, IsPlain, ArePlain, ArePlainLinks}
 
 missing_in-items : (S : State) (n : _) (k : Row_of-Expr n) → missing_in S k ≡ missing_of_args S (items-the_row-Expr n k)
 missing_in-items S _ end_of-Expr = refl
@@ -22,6 +23,10 @@ shaped_along-items S s _ (more_of-Link at op right rest) = shaped_along-items S 
 value_along-items : (S : State) (r : Relation) (n : _) (k : Row_of-Link n) → value_along S r k ≡ value_of_links S r (items-the_row-Link n k)
 value_along-items S r _ end_of-Link = refl
 value_along-items S r _ (more_of-Link at op right rest) = value_along-items S (result_of_both op r (value S right)) _ rest
+
+cost_along-items : (S : State) (r : Relation) (n : _) (k : Row_of-Link n) → cost_along S r k ≡ cost_of_links S r (items-the_row-Link n k)
+cost_along-items S r _ end_of-Link = refl
+cost_along-items S r _ (more_of-Link at op right rest) = ap (λ c. cost S right + link_cost op r (value S right) + c) (cost_along-items S (result_of_both op r (value S right)) _ rest)
 
 are_plain-items : (n : _) (k : Row_of-Link n) → ArePlain k → ArePlainLinks (items-the_row-Link n k)
 are_plain-items _ end_of-Link p = tt
@@ -41,6 +46,9 @@ shaped-chain S first rest = search (rules, the_lemmas, shaped_along-items)
 
 pub value-chain : (S : State) (first : _) (rest : _) → value S (Chain first rest) ≡ value_of_links S (value S first.value) rest.items
 value-chain S first rest = search (rules, the_lemmas, value_along-items)
+
+pub cost-chain : (S : State) (first : _) (rest : _) → cost S (Chain first rest) ≡ cost S first.value + cost_of_links S (value S first.value) rest.items
+cost-chain S first rest = search (rules, the_lemmas, cost_along-items)
 
 pub plain-chain : (first : _) (rest : _) → IsPlain (Chain first rest) → IsPlain first.value × ArePlainLinks rest.items
 plain-chain first rest p = search (rules, the_lemmas, are_plain-items)

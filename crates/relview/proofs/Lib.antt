@@ -2,13 +2,16 @@ pub mod Chains
 pub mod Shapes
 pub mod Values
 pub mod Fitting
+pub mod Spending
 pub mod Listing
 pub mod Agreeing
 pub mod Texts
 pub mod Naming
 pub mod Replying
 pub mod Settling
+pub mod Finding
 pub mod Steps
 pub mod FirstItems
 pub mod Answering
+pub mod Holding
 pub mod Reporting

@@ -1,5 +1,5 @@
 -- Lists of pairs that grow, and the relations of such lists.
-use Rattle.std.proofs.Common.{◌≡◌, ◌<◌, ◌≤◌, ◌+◌, ◌-◌, ◌&&◌, ◌||◌, ◌∙◌, ℕ, Bool, true, false, eqb, List, [], ◌∷◌, ◌++◌, length, take, drop, get_or, refl, sym, ap, arith, inl, inr, zero, suc, Some}
+use Rattle.std.proofs.Common.{◌≡◌, ◌<◌, ◌≤◌, ◌+◌, ◌-◌, ◌*◌, ◌^◌, max, ◌&&◌, ◌||◌, ◌∙◌, ℕ, Bool, true, false, eqb, List, [], ◌∷◌, ◌++◌, length, take, drop, get_or, refl, sym, ap, arith, inl, inr, zero, suc, Some}
 use Rattle.std.specs.List.{list_any}
 use Rattle.std.proofs.lemmas.Bool.{cases_Bool, and_parts, eqb-true, eq-eqb}
 use Rattle.std.proofs.lemmas.List.{take_more}
@@ -9,11 +9,14 @@ use Rattle.rel_model.specs.declared.syntax.Row.{Row}
 use Rattle.rel_model.specs.Relation.{Relation, has, relation_of}
 use Rattle.rel_model.specs.Operators.{empty, single, union}
 use Rattle.rel_model.specs.State.{lists}
-use Rattle.rel_model.specs.Worker.{Worker, set_of, Gives, Keeps}
+use Rattle.rel_model.specs.Worker.{height_of, pairs_room}
+use Rattle.rel_model.specs.Cost.{listed_count}
+use Rattle.std.proofs.lemmas.Nat.{mul-le}
 use Rattle.rel_model.proofs.Relations.{has-relation_of, relation_of-agree, rows-relation_of, cols-relation_of}
 use Rattle.rel_model.proofs.Workers.{gives_stands, gives_set, keeps_set}
 use Rattle.rel_model.proofs.OperatorLaws.{relation_of-sizes}
-use Rattle.relview.specs.Listed.{IsWithin, is_among, IsListed, Extends}
+use Rattle.relview.specs.Listed.{IsListed, Extends}
+use Rattle.rel_domains.specs.Listed.{IsWithin, is_among}
 
 or_nothing : (b : Bool) → (b || false) ≡ b
 or_nothing true = refl
@@ -31,11 +34,6 @@ is_among-append (p ∷ ps) qs i j = ap (λ b. (eqb p.0 i && eqb p.1 j) || b) (is
 pub within-append : (m n : ℕ) (ps qs : List (ℕ × ℕ)) → IsWithin m n ps → IsWithin m n qs → IsWithin m n (ps ++ qs)
 within-append m n [] qs a b = b
 within-append m n (p ∷ ps) qs a b = (a.0, within-append m n ps qs a.1 b)
-
-pub within-take : (m n k : ℕ) (ps : List (ℕ × ℕ)) → IsWithin m n ps → IsWithin m n (take k ps) × IsWithin m n (drop k ps)
-within-take m n zero ps a = (tt, a)
-within-take m n (suc k) [] a = (tt, tt)
-within-take m n (suc k) (p ∷ ps) a = let w = within-take m n k ps a.1 in ((a.0, w.0), w.1)
 
 -- a column that counts from 1 is the one that counts from 0
 below_one : (x i : ℕ) → 1 ≤ x → eqb (x - 1) i ≡ eqb x (i + 1)
@@ -104,53 +102,19 @@ unfolding lists
 rows_none m n i j l k = refl
 
 -- ---- relations
-pub relation_none : (m n : ℕ) → empty m n ≡ relation_of m n (is_among [])
-unfolding empty
-relation_none m n = refl
-
-eqb-sym : (x y : ℕ) → eqb x y ≡ eqb y x
-eqb-sym x y = elim (cases_Bool (eqb y x)) [
-  | inl t ↦ eq-eqb x y (sym (eqb-true y x t)) ∙ sym t
-  | inr t ↦ elim (cases_Bool (eqb x y)) [
-    | inl u ↦ u ∙ sym (eq-eqb y x (sym (eqb-true x y u)))
-    | inr u ↦ u ∙ sym t
-  ]
-]
-
-pub relation_one : (m n x y : ℕ) → single m n x y ≡ relation_of m n (is_among ((x, y) ∷ []))
-unfolding single
-relation_one m n x y = relation_of-agree m n _ _ (λ i j a b. ap (λ t. t && eqb j y) (eqb-sym i x) ∙ ap (λ t. eqb x i && t) (eqb-sym j y) ∙ sym (or_nothing (eqb x i && eqb y j)))
-
--- the union of the relations of two lists
-pub relation_both : (m n : ℕ) (ps qs : List (ℕ × ℕ)) (r s : Relation) → r ≡ relation_of m n (is_among ps) → s ≡ relation_of m n (is_among qs) → r.rows ≡ m → r.cols ≡ n → union r s ≡ relation_of m n (is_among (ps ++ qs))
-unfolding union
-relation_both m n ps qs r s e f a b =
-    relation_of-sizes r.rows r.cols m n (λ i j. has r i j || has s i j) a b
-    ∙ relation_of-agree m n _ _ (λ i j l k.
-    ap (λ x. x || has s i j) (ap (λ q. has q i j) e ∙ has-relation_of m n (is_among ps) i j l k)
-    ∙ ap (λ x. is_among ps i j || x) (ap (λ q. has q i j) f ∙ has-relation_of m n (is_among qs) i j l k) ∙ sym (is_among-append ps qs i j))
-
--- two halves that a worker gives, and their union
-pub halves_joined : (w1 w2 w3 : Worker) (m n : ℕ) (ps qs : List (ℕ × ℕ)) (left right both : Rel) → Gives w1 m n (relation_of m n (is_among ps)) left → Keeps w1 w2 → Gives w2 m n (relation_of m n (is_among qs)) right →
-    Gives w3 left.rows left.cols (union (set_of w2 left) (set_of w2 right)) both → Gives w3 m n (relation_of m n (is_among (ps ++ qs))) both
-halves_joined w1 w2 w3 m n ps qs left right both g k h u =
-    let l : set_of w2 left ≡ relation_of m n (is_among ps) = keeps_set w1 w2 left k (gives_stands w1 m n _ left g) ∙ gives_set w1 m n _ left g in
-    let r : set_of w2 right ≡ relation_of m n (is_among qs) = gives_set w2 m n _ right h in
-    record {
-      means = u.means ∙ ap Some (relation_both m n ps qs (set_of w2 left) (set_of w2 right) l r (ap (λ x. x.rows) l ∙ rows-relation_of m n _) (ap (λ x. x.cols) l ∙ cols-relation_of m n _));
-      row_size = u.row_size ∙ g.row_size;
-      col_size = u.col_size ∙ g.col_size;
-    }
-
 -- the listed pairs make the listed relation
 pub relation_listed : (m n : ℕ) (ps : List (ℕ × ℕ)) (rs : List Row) → IsListed m n ps (lists rs) → relation_of m n (is_among ps) ≡ relation_of m n (lists rs)
 relation_listed m n ps rs h = relation_of-agree m n (is_among ps) (lists rs) h
 
--- the halves of a list
-pub no_pairs : (ps : List (ℕ × ℕ)) → length ps ≡ 0 → ps ≡ []
-no_pairs [] h = refl
-no_pairs (p ∷ ps) h = absurd (omega (arith, h))
+-- ---- counts
+listed_count-append : (rs ss : List Row) → listed_count (rs ++ ss) ≡ listed_count rs + listed_count ss
+listed_count-append [] ss = omega arith
+listed_count-append (r ∷ rs) ss = omega (arith, listed_count-append rs ss)
 
-pub one_pair : (ps : List (ℕ × ℕ)) (d : ℕ × ℕ) → length ps ≡ 1 → ps ≡ get_or ps 0 d ∷ []
-one_pair [] d h = absurd (omega (arith, h))
-one_pair (p ∷ ps) d h = ap (λ x. p ∷ x) (no_pairs ps (omega (arith, h)))
+pub count_more : (k : ℕ) (rs : List Row) (r : Row) → k < length rs → r ≡ get_or rs k r → listed_count (take (k + 1) rs) ≡ listed_count (take k rs) + length r.cols.items
+count_more k rs r h is = ap listed_count (take_more rs k r h ∙ ap (λ x. take k rs ++ x ∷ []) (sym is)) ∙ listed_count-append (take k rs) (r ∷ []) ∙ omega arith
+
+-- the room of fewer pairs
+pub room_of_fewer : (a b m n : ℕ) → a ≤ b → pairs_room a m n ≤ pairs_room b m n
+unfolding pairs_room
+room_of_fewer a b m n l = mul-le (16 * (a + 1)) (4 ^ max (height_of m) (height_of n)) (16 * (b + 1)) (4 ^ max (height_of m) (height_of n)) (omega arith) (omega arith)

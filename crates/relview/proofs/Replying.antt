@@ -1,5 +1,5 @@
 -- What is due of PRINT, and its reply.
-use Rattle.std.proofs.Common.{◌≡◌, ◌∙◌, ◌++◌, ℕ, List, Some, None, sym, ap, subst}
+use Rattle.std.proofs.Common.{◌≡◌, ◌≤◌, ◌+◌, ◌∙◌, ◌++◌, ℕ, List, Some, None, sym, ap, subst}
 use Rattle.rel_model.specs.declared.Rel.{Rel}
 use Rattle.rel_model.specs.declared.syntax.Place.{Place}
 use Rattle.rel_model.specs.declared.syntax.Command.TheVariants.{Print}
@@ -14,6 +14,7 @@ use Rattle.rel_model.specs.State.{State}
 use Rattle.rel_model.specs.Meaning.{missing, Fits, Misfit, shaped, value}
 use Rattle.rel_model.specs.Due.{Value, Refusal, known_or_ill, fitting_or_ill, evaluated, outcome_due}
 use Rattle.rel_model.specs.Legal.{MayLackNodes, IsCompound}
+use Rattle.rel_model.specs.Cost.{cost, cost_where_due}
 use Rattle.rel_model.specs.Page.{prefix, matrix, refusal_text, reply}
 use Rattle.rel_model.specs.Worker.{Worker}
 use Rattle.relview.specs.Links.{IsFit}
@@ -77,3 +78,10 @@ may_lack e w names p q laws s h k c =
 
 pub fits_means : (e : Expr) (w : Worker) (names : List (List ℕ × Rel)) (p q : ℕ) → HasSizes w → AllStand w names → shaped (sized names) e ≡ Fits p q → IsFit (shaped (means w names) e)
 fits_means e w names p q laws s k = subst IsFit (sym (sym (shaped-means w names e laws s) ∙ k)) tt
+
+-- what was made for a value is what its command may make
+pub room_due : (e : Expr) (w : Worker) (names : List (List ℕ × Rel)) (p q made : ℕ) → HasSizes w → AllStand w names → missing (sized names) e ≡ None → shaped (sized names) e ≡ Fits p q → made ≤ w.made + cost (means w names) e
+    → made ≤ w.made + cost_where_due (evaluated e (means w names)) (cost (means w names) e)
+room_due e w names p q made laws s h k l =
+    let S = means w names in
+    subst (λ d. made ≤ w.made + cost_where_due d (cost S e)) (sym (evaluated-fits e S p q (sym (missing-means w names e s) ∙ h) (sym (shaped-means w names e laws s) ∙ k))) l

@@ -1,16 +1,17 @@
 -- What the parts of the top call report, as its one answer.
-use Rattle.std.proofs.Common.{◌≡◌, ◌≢◌, ◌≤◌, ◌⊎◌, inl, inr, ℕ, Bool, true, false, List, [], ◌∷◌, length, map, String, Global, sym, subst}
+use Rattle.std.proofs.Common.{◌≡◌, ◌≢◌, ◌≤◌, ◌⊎◌, inl, inr, ℕ, Bool, true, false, List, [], ◌∷◌, length, map, String, Global, ◌∙◌, sym, ap, subst}
 use Rattle.std.specs.Bool.{MatchBool}
 use Rattle.std.specs.Prelude.{All, IsTrue}
 use Rattle.std.specs.List.{AllByRecursion}
 use Rattle.std.specs.String.{string_bytes}
 use Rattle.std.proofs.lemmas.List.Elements.{recursion_from_All}
-use Rattle.rel_model.specs.declared.run.Outcome.TheVariants.{Nodes}
-use Rattle.rel_model.specs.Page.{IsRun}
+use Rattle.rel_model.specs.Legal.{Trees, IsLegal}
+use Rattle.rel_model.specs.Page.{IsRun, page_of}
+use Rattle.rel_model.specs.Stored.{HoldsRun}
 use Rattle.rv_io.specs.Outside.{Told, IsFile}
 use Rattle.relview.specs.declared.top.Report.{Report}
 use Rattle.relview.specs.declared.top.Answer.{Answer}
-use Rattle.relview.specs.Top.{texts, are_taken, script_limit, status_of, Sunk, IsSaid, IsWritten, HasRun, HasStopped, Reports, Says, IsOut}
+use Rattle.relview.specs.Top.{Answers, table_bits, texts, are_taken, script_limit, status_of, Sunk, IsSaid, IsWritten, HasRun, HasStopped, Reports, Says, IsOut}
 
 -- a run, or a stop, by whether it ran
 abbrev pub IsAnswer : List (List ℕ) → Told → Told → Sunk → Sunk → Report → Type 0
@@ -19,10 +20,10 @@ IsAnswer words shelf_old shelf_new old new report = MatchBool report.ran (HasRun
 -- a line and its cause
 pub said_answer : (words : List (List ℕ)) (a b : Told) (old new : Sunk) (report : Report) (line : List ℕ) (status : ℕ) → Says line status old new report → IsSaid words a b line status → IsAnswer words a b old new report
 said_answer words a b old new report line status s i =
-    rw s.stopped (record { no_history = s.no_history; no_outcomes = s.no_outcomes; answer = inl (line, status, i, s.written) })
+    rw s.stopped (record { no_history = s.no_history; no_outcomes = s.no_outcomes; no_words = s.no_words; answer = inl (line, status, i, s.written) })
 
 pub out_answer : (words : List (List ℕ)) (a b : Told) (old new : Sunk) (report : Report) → IsOut report → new.written ≡ old.written → IsAnswer words a b old new report
-out_answer words a b old new report o e = rw o.stopped (record { no_history = o.no_history; no_outcomes = o.no_outcomes; answer = inr (o.status, e) })
+out_answer words a b old new report o e = rw o.stopped (record { no_history = o.no_history; no_outcomes = o.no_outcomes; no_words = o.no_words; answer = inr (o.status, e) })
 
 pub said_or_out : (words : List (List ℕ)) (a b : Told) (old new : Sunk) (report : Report) (line : List ℕ) (status : ℕ) → Says line status old new report ⊎ (IsOut report × (new.written ≡ old.written)) → IsSaid words a b line status → IsAnswer words a b old new report
 said_or_out words a b old new report line status (inl s) i = said_answer words a b old new report line status s i
@@ -30,13 +31,16 @@ said_or_out words a b old new report line status (inr o) i = out_answer words a 
 
 -- a run and its page
 pub run_answer : (words : List (List ℕ)) (a b : Told) (old new : Sunk) (report : Report) (answer : Answer) (name bytes : List ℕ) → words ≡ name ∷ [] → are_taken words ≡ true → IsFile a.files name bytes → length bytes ≤ script_limit →
-    IsRun (bytes ∷ []) answer.history.items (answer.outcomes.items ∷ []) answer.page.items → AllByRecursion (λ o. o ≢ Nodes) answer.outcomes.items → Reports answer old new report → IsAnswer words a b old new report
-run_answer words a b old new report answer name bytes named taken file within lawful full reports = by_ran report.ran reports
+    Answers bytes answer → Reports answer old new report → IsAnswer words a b old new report
+run_answer words a b old new report answer name bytes named taken file within answers reports = by_ran report.ran reports
   where
+    trees : Trees
+    trees = answers.lawful.trees
+
     by_ran : (ran : Bool) →
         MatchBool ran
-        ((report.history.items ≡ answer.history.items) × (map (λ v. v.items) report.outcomes.items ≡ answer.outcomes.items ∷ []) × IsWritten old new answer.page.items (status_of answer.outcomes.items) report.status)
-        ((report.history.items ≡ []) × (report.outcomes.items ≡ []) × (report.status ≡ 5) × (new.written ≡ old.written)) →
+        ((report.history.items ≡ answer.history.items) × (map (λ v. v.items) report.outcomes.items ≡ answer.outcomes.items ∷ []) × (report.words.items ≡ answer.words.items) × IsWritten old new answer.page.items (status_of answer.outcomes.items) report.status)
+        ((report.history.items ≡ []) × (report.outcomes.items ≡ []) × (report.words.items ≡ []) × (report.status ≡ 5) × (new.written ≡ old.written)) →
         MatchBool ran (HasRun words a.files old new report) (HasStopped words a b old new report)
     by_ran true r = record {
       name = name;
@@ -48,11 +52,11 @@ run_answer words a b old new report answer name bytes named taken file within la
       file = file;
       within = within;
       one_session = r.1;
-      lawful = subst (λ h. IsRun (bytes ∷ []) h (answer.outcomes.items ∷ []) answer.page.items) (sym r.0) lawful;
-      no_full_table = full;
-      written = r.2;
+      lawful = record { trees = trees; read = answers.lawful.read; legal = subst (λ h. IsLegal trees h (answer.outcomes.items ∷ [])) (sym r.0) answers.lawful.legal; shown = answers.lawful.shown ∙ ap (λ h. page_of trees h (answer.outcomes.items ∷ [])) (sym r.0) };
+      holds = subst (λ h. HoldsRun table_bits trees h (answer.outcomes.items ∷ []) report.words.items) (sym r.0) (subst (HoldsRun table_bits trees answer.history.items (answer.outcomes.items ∷ [])) (sym r.2) answers.holds);
+      written = r.3;
     }
-    by_ran false r = record { no_history = r.0; no_outcomes = r.1; answer = inr (r.2, r.3) }
+    by_ran false r = record { no_history = r.0; no_outcomes = r.1; no_words = r.2; answer = inr (r.3, r.4) }
 
 -- the one word may be picked
 pub may_pick_word : (may : List ℕ → Bool) (words : List (String Global)) (name : List ℕ) → All (λ w. IsTrue (may (string_bytes w))) words → texts words ≡ name ∷ [] → IsTrue (may name)

@@ -8,7 +8,10 @@ use Rattle.std.proofs.lemmas.Option.{slice_get_read}
 use Rattle.rel_model.specs.declared.Rel.{Rel}
 use Rattle.rel_model.specs.declared.Lack.{Lack}
 use Rattle.rel_model.specs.declared.Lack.TheVariants.{Full, NoMemory as NO_MEMORY}
+use Rattle.std.specs.declared.alloc.Global.{Global}
+use Rattle.std.specs.declared.vec.Vec.{Vec}
 use Rattle.rel_model.specs.declared.syntax.Place.{Place}
+use Rattle.rel_model.specs.declared.syntax.Row.{Row}
 use Rattle.rel_model.specs.declared.syntax.Command.TheVariants.{Relation as RELATION, Print}
 use Rattle.rel_model.specs.declared.syntax.Item.{Item}
 use Rattle.rel_model.specs.declared.syntax.Item.TheVariants.{Command}
@@ -21,9 +24,10 @@ use Rattle.rel_model.specs.Relation.{relation_of}
 use Rattle.rel_model.specs.State.{nothing, assigned, lists}
 use Rattle.rel_model.specs.Tokens.{same_text}
 use Rattle.rel_model.specs.Due.{Due, Value, due, due_of_command, evaluated}
-use Rattle.rel_model.specs.Legal.{Trees, item_at, state_after, state_for, LegalItems, IsOutcome, HasEvents}
+use Rattle.rel_model.specs.Legal.{Trees, start as begin, item_at, state_after, state_for, LegalItems, IsOutcome, HasEvents}
+use Rattle.rel_model.specs.Cost.{cost, cost_where_due, listed_count, cost_of_command, cost_of_item}
 use Rattle.rel_model.specs.Page.{items_page, reply, prefix, refusal_text}
-use Rattle.rel_model.specs.Worker.{Worker, Stands, Keeps, Rose}
+use Rattle.rel_model.specs.Worker.{Worker, Stands, Keeps, Rose, pairs_room}
 use Rattle.rel_model.proofs.Workers.{keeps_trans, keeps_itself, gives_stands}
 use Rattle.rel_model.proofs.Runs.{Below, below-push, below-more, state_after-read, state_after-listed, state_for-new, legal_later, legal_append, legal-length, page_later, page_append}
 use Rattle.relview.specs.declared.session.Run.{Run}
@@ -31,13 +35,14 @@ use Rattle.relview.specs.Names.{rel_of, means, AllStand}
 use Rattle.rel_model.specs.declared.syntax.Script.{Script}
 use Rattle.relview.specs.Ran.{Ran, RanTo, tree_of, Follows, HasMissed, Printed, Assigned, Refused}
 use Rattle.relview.specs.Values.{lack_outcome}
+use Rattle.relview.proofs.Finding.{found_more, found_kept, assigned-listed, cost_later, cost_append}
 use Rattle.relview.proofs.Naming.{rel_of-push}
 use Rattle.relview.proofs.Values.{means_kept, all_stand_kept}
 
 -- nothing has run
 pub ran_none : (T : Trees) (w : Worker) → Ran T [] w w [] [] [] []
 unfolding state_after nothing
-ran_none T w = record { keeps = keeps_itself w; below = tt; state = refl; standing = λ n r h. absurd (none_some h); legal = refl; text = refl; missed = tt }
+ran_none T w = record { keeps = keeps_itself w; below = tt; state = refl; standing = λ n r h. absurd (none_some h); legal = refl; text = refl; missed = tt; found = tt; room = omega arith }
   where
     none_some : {r : Rel} → None ≡ Some r → ⊥
     none_some e = cc
@@ -58,9 +63,9 @@ missed_more (p ∷ os) o start before now l k h m = (λ e. rose_later start befo
 
 -- ---- PRINT
 pub ran_print : (T : Trees) (is : List Item) (e : Expr) (c : ℕ) (start w v : Worker) (old new : Run) → length is + 1 ≡ c → RanTo T is start w old → Keeps w v → Printed c e (means w old.names.items) w.misses v.misses old new →
-    RanTo T (is ++ Command (Print e) ∷ []) start v new
-unfolding due due_of_command
-ran_print T is e c start w v old new k ran kept p =
+    v.made ≤ w.made + cost_where_due (evaluated e (means w old.names.items)) (cost (means w old.names.items) e) → RanTo T (is ++ Command (Print e) ∷ []) start v new
+unfolding due due_of_command cost_of_item cost_of_command
+ran_print T is e c start w v old new k ran kept p room =
     let H = old.history.items in
     let ev : Event = record { session = 1; command = c; act = Read } in
     let i = Command (Print e) in
@@ -80,6 +85,12 @@ ran_print T is e c start w v old new k ran kept p =
           ∙ ap (λ d. items_page T (H ++ ev ∷ []) 1 1 is old.outcomes.items ++ reply 1 c i d p.outcome) (sym D)
           ∙ sym (page_append T (H ++ ev ∷ []) is old.outcomes.items i p.outcome 1 c (omega arith) (legal-length T H is old.outcomes.items 1 H ran.legal));
       missed = missed_more old.outcomes.items p.outcome start.misses w.misses v.misses ran.keeps.misses kept.misses ran.missed p.missed;
+      found = found_more T v.relation begin H ev (found_kept T w v begin H kept ran.found) tt;
+      room =
+          let later = cost_later T H ev is 1 c (omega arith) refl in
+          let more = cost_append T (H ++ ev ∷ []) is i 1 c (omega arith) in
+          let mine : cost_of_item i (state_for T (H ++ ev ∷ []) 1 c) ≡ cost_where_due (evaluated e (means w old.names.items)) (cost (means w old.names.items) e) = ap (cost_of_item i) S in
+          omega (arith, ran.room, room, later, more, mine);
     })
   where
     has_read : (o : Outcome) → HasEvents 1 c (Command (Print e)) o (record { session = 1; command = c; act = Read } ∷ [])
@@ -88,11 +99,11 @@ ran_print T is e c start w v old new k ran kept p =
 
 -- ---- REL
 -- a listed relation and its name join the state
-ran_assigned : (T : Trees) (is : List Item) (c : ℕ) (start w v : Worker) (old new : Run) (name : List ℕ) (rows : ℕ) (rows_at : Place) (cols : ℕ) (cols_at : Place) (list : _) → length is + 1 ≡ c →
+ran_assigned : (T : Trees) (is : List Item) (c : ℕ) (start w v : Worker) (old new : Run) (name : List ℕ) (rows : ℕ) (rows_at : Place) (cols : ℕ) (cols_at : Place) (list : Vec Row Global) → length is + 1 ≡ c →
     item_at T 1 c ≡ Some (Command (RELATION name rows rows_at cols cols_at list)) → RanTo T is start w old → Keeps w v → Assigned c name rows cols (relation_of rows cols (lists list.items)) v old new →
-    RanTo T (is ++ Command (RELATION name rows rows_at cols cols_at list) ∷ []) start v new
-unfolding due due_of_command reply assigned
-ran_assigned T is c start w v old new name rows rows_at cols cols_at list k here ran kept a =
+    v.made ≤ w.made + pairs_room (listed_count list.items) rows cols → RanTo T (is ++ Command (RELATION name rows rows_at cols cols_at list) ∷ []) start v new
+unfolding due due_of_command reply assigned cost_of_item cost_of_command
+ran_assigned T is c start w v old new name rows rows_at cols cols_at list k here ran kept a room =
     let H = old.history.items in
     let rel = a.rel in
     let ev : Event = record { session = 1; command = c; act = Assign name rel } in
@@ -109,6 +120,11 @@ ran_assigned T is c start w v old new name rows rows_at cols cols_at list k here
       text = ran.text ∙ sym (page_later T H ev is old.outcomes.items 1 c (omega arith) refl) ∙ sym (append-nil _)
           ∙ sym (page_append T (H ++ ev ∷ []) is old.outcomes.items i Done 1 c (omega arith) (legal-length T H is old.outcomes.items 1 H ran.legal));
       missed = missed_more old.outcomes.items Done start.misses w.misses v.misses ran.keeps.misses kept.misses ran.missed (λ h. absurd (other h));
+      found = found_more T v.relation begin H ev (found_kept T w v begin H kept ran.found) (relation_of rows cols (lists list.items), assigned-listed T _ 1 c name rows rows_at cols cols_at list here, a.gives.means);
+      room =
+          let later = cost_later T H ev is 1 c (omega arith) refl in
+          let more = cost_append T (H ++ ev ∷ []) is i 1 c (omega arith) in
+          omega (arith, ran.room, room, later, more);
     })
   where
     other : Done ≡ Nodes → ⊥
@@ -132,10 +148,10 @@ ran_assigned T is c start w v old new name rows rows_at cols cols_at list k here
         by_test false e = all_stand_kept w v old.names.items kept ran.standing n r e
 
 -- a refusal without an event
-ran_refused : (T : Trees) (is : List Item) (c : ℕ) (start w v : Worker) (old new : Run) (name : List ℕ) (rows : ℕ) (rows_at : Place) (cols : ℕ) (cols_at : Place) (list : _) → length is + 1 ≡ c → RanTo T is start w old → Keeps w v → Refused c w.misses v.misses old new →
-    RanTo T (is ++ Command (RELATION name rows rows_at cols cols_at list) ∷ []) start v new
-unfolding due due_of_command reply
-ran_refused T is c start w v old new name rows rows_at cols cols_at list k ran kept r =
+ran_refused : (T : Trees) (is : List Item) (c : ℕ) (start w v : Worker) (old new : Run) (name : List ℕ) (rows : ℕ) (rows_at : Place) (cols : ℕ) (cols_at : Place) (list : Vec Row Global) → length is + 1 ≡ c → RanTo T is start w old → Keeps w v → Refused c w.misses v.misses old new →
+    v.made ≤ w.made + pairs_room (listed_count list.items) rows cols → RanTo T (is ++ Command (RELATION name rows rows_at cols cols_at list) ∷ []) start v new
+unfolding due due_of_command reply cost_of_item cost_of_command
+ran_refused T is c start w v old new name rows rows_at cols cols_at list k ran kept r room =
     let H = old.history.items in
     let i = Command (RELATION name rows rows_at cols cols_at list) in
     let long : length (is ++ i ∷ []) ≡ length is + 1 = length-append is (i ∷ []) in
@@ -150,6 +166,10 @@ ran_refused T is c start w v old new name rows rows_at cols cols_at list k ran k
       text = ap (λ x. x ++ (prefix 1 c ++ refusal_text o)) ran.text ∙ ap (λ x. items_page T H 1 1 is old.outcomes.items ++ x) (shown r.lack (due i (state_for T H 1 c)))
           ∙ sym (page_append T H is old.outcomes.items i o 1 c (omega arith) (legal-length T H is old.outcomes.items 1 H ran.legal));
       missed = missed_more old.outcomes.items o start.misses w.misses v.misses ran.keeps.misses kept.misses ran.missed (λ h. r.missed (is_full r.lack h));
+      found = found_kept T w v begin H kept ran.found;
+      room =
+          let more = cost_append T H is i 1 c (omega arith) in
+          omega (arith, ran.room, room, more);
     })
   where
     no_event : (lack : Lack) → HasEvents 1 c (Command (RELATION name rows rows_at cols cols_at list)) (lack_outcome lack) []
@@ -171,11 +191,12 @@ ran_refused T is c start w v old new name rows rows_at cols cols_at list k ran k
     shown Full d = refl
     shown NO_MEMORY d = refl
 
-pub ran_relation : (T : Trees) (is : List Item) (c : ℕ) (start w v : Worker) (old new : Run) (name : List ℕ) (rows : ℕ) (rows_at : Place) (cols : ℕ) (cols_at : Place) (list : _) → length is + 1 ≡ c →
+pub ran_relation : (T : Trees) (is : List Item) (c : ℕ) (start w v : Worker) (old new : Run) (name : List ℕ) (rows : ℕ) (rows_at : Place) (cols : ℕ) (cols_at : Place) (list : Vec Row Global) → length is + 1 ≡ c →
     item_at T 1 c ≡ Some (Command (RELATION name rows rows_at cols cols_at list)) → RanTo T is start w old → Keeps w v →
-    Assigned c name rows cols (relation_of rows cols (lists list.items)) v old new ⊎ Refused c w.misses v.misses old new → RanTo T (is ++ Command (RELATION name rows rows_at cols cols_at list) ∷ []) start v new
-ran_relation T is c start w v old new name rows rows_at cols cols_at list k here ran kept (inl a) = ran_assigned T is c start w v old new name rows rows_at cols cols_at list k here ran kept a
-ran_relation T is c start w v old new name rows rows_at cols cols_at list k here ran kept (inr r) = ran_refused T is c start w v old new name rows rows_at cols cols_at list k ran kept r
+    Assigned c name rows cols (relation_of rows cols (lists list.items)) v old new ⊎ Refused c w.misses v.misses old new →
+    v.made ≤ w.made + pairs_room (listed_count list.items) rows cols → RanTo T (is ++ Command (RELATION name rows rows_at cols cols_at list) ∷ []) start v new
+ran_relation T is c start w v old new name rows rows_at cols cols_at list k here ran kept (inl a) room = ran_assigned T is c start w v old new name rows rows_at cols cols_at list k here ran kept a room
+ran_relation T is c start w v old new name rows rows_at cols cols_at list k here ran kept (inr r) room = ran_refused T is c start w v old new name rows rows_at cols cols_at list k ran kept r room
 
 -- ---- the item at k
 pub item_here : (script : Script) (k : ℕ) (item : Item) → k < length script.items.items → item ≡ get_or script.items.items k item → item_at (tree_of script) 1 (k + 1) ≡ Some item
@@ -189,17 +210,19 @@ taken : (items : List Item) (k : ℕ) → k < length items → length (take k it
 taken items k l = omega (arith, length-take k items)
 
 pub follows_print : (script : Script) (k : ℕ) (item : Item) (e : Expr) (w v : Worker) (old new : Run) → k < length script.items.items → item ≡ get_or script.items.items k item → item ≡ Command (Print e) → Keeps w v →
-    Printed (k + 1) e (means w old.names.items) w.misses v.misses old new → Follows script k w v old new
-follows_print script k item e w v old new l is eq kept p start ran =
+    Printed (k + 1) e (means w old.names.items) w.misses v.misses old new →
+    v.made ≤ w.made + cost_where_due (evaluated e (means w old.names.items)) (cost (means w old.names.items) e) → Follows script k w v old new
+follows_print script k item e w v old new l is eq kept p room start ran =
     let T = tree_of script in
     let items = script.items.items in
     subst (λ xs. RanTo T xs start v new) (ap (λ i. take k items ++ i ∷ []) (sym eq) ∙ sym (next_items items k item l is))
-    (ran_print T (take k items) e (k + 1) start w v old new (taken items k l) ran kept p)
+    (ran_print T (take k items) e (k + 1) start w v old new (taken items k l) ran kept p room)
 
-pub follows_relation : (script : Script) (k : ℕ) (item : Item) (w v : Worker) (old new : Run) (name : List ℕ) (rows : ℕ) (rows_at : Place) (cols : ℕ) (cols_at : Place) (list : _) → k < length script.items.items → item ≡ get_or script.items.items k item →
-    item ≡ Command (RELATION name rows rows_at cols cols_at list) → Keeps w v → Assigned (k + 1) name rows cols (relation_of rows cols (lists list.items)) v old new ⊎ Refused (k + 1) w.misses v.misses old new → Follows script k w v old new
-follows_relation script k item w v old new name rows rows_at cols cols_at list l is eq kept a start ran =
+pub follows_relation : (script : Script) (k : ℕ) (item : Item) (w v : Worker) (old new : Run) (name : List ℕ) (rows : ℕ) (rows_at : Place) (cols : ℕ) (cols_at : Place) (list : Vec Row Global) → k < length script.items.items → item ≡ get_or script.items.items k item →
+    item ≡ Command (RELATION name rows rows_at cols cols_at list) → Keeps w v → Assigned (k + 1) name rows cols (relation_of rows cols (lists list.items)) v old new ⊎ Refused (k + 1) w.misses v.misses old new →
+    v.made ≤ w.made + pairs_room (listed_count list.items) rows cols → Follows script k w v old new
+follows_relation script k item w v old new name rows rows_at cols cols_at list l is eq kept a room start ran =
     let T = tree_of script in
     let items = script.items.items in
     subst (λ xs. RanTo T xs start v new) (ap (λ i. take k items ++ i ∷ []) (sym eq) ∙ sym (next_items items k item l is))
-    (ran_relation T (take k items) (k + 1) start w v old new name rows rows_at cols cols_at list (taken items k l) (item_here script k item l is ∙ ap Some eq) ran kept a)
+    (ran_relation T (take k items) (k + 1) start w v old new name rows rows_at cols cols_at list (taken items k l) (item_here script k item l is ∙ ap Some eq) ran kept a room)

@@ -1,5 +1,5 @@
 -- The links of a chain as a list, and the expressions of union, intersection, complement and transposition.
-use Rattle.std.specs.Prelude.{ℕ, List, [], ◌∷◌, Option, None}
+use Rattle.std.specs.Prelude.{◌+◌, ℕ, List, [], ◌∷◌, Option, None}
 use Rattle.rel_model.specs.declared.syntax.Place.{Place}
 use Rattle.rel_model.specs.declared.syntax.Op2.{Op2}
 use Rattle.rel_model.specs.declared.syntax.Op2.TheVariants.{Or, And}
@@ -7,6 +7,7 @@ use Rattle.rel_model.specs.declared.syntax.Expr.{Expr, Ref, Call', Base', Inject
 use Rattle.rel_model.specs.declared.syntax.Link.{Link}
 use Rattle.rel_model.specs.Relation.{Relation}
 use Rattle.rel_model.specs.State.{State}
+use Rattle.rel_model.specs.Cost.{cost, link_cost}
 use Rattle.rel_model.specs.Meaning.{first_of_both, missing, Shaped, Fits, Misfit, joined, shaped, result_of_both, value}
 
 -- the leftmost unknown name of arguments
@@ -28,6 +29,11 @@ shaped_of_links state s (l ∷ ls) = shaped_of_links state (joined l.at l.op s (
 abbrev pub value_of_links : State → Relation → List Link → Relation
 value_of_links state r [] = r
 value_of_links state r (l ∷ ls) = value_of_links state (result_of_both l.op r (value state l.right)) ls
+
+-- the cost of the links of a chain, whose first operands have this value
+abbrev pub cost_of_links : State → Relation → List Link → ℕ
+cost_of_links state r [] = 0
+cost_of_links state r (l ∷ ls) = cost state l.right + link_cost l.op r (value state l.right) + cost_of_links state (result_of_both l.op r (value state l.right)) ls
 
 -- union and intersection
 abbrev pub IsBoolean : Op2 → Type 0

@@ -17,7 +17,9 @@ use Rattle.rel_model.specs.Relation.{Relation}
 use Rattle.rel_model.specs.Worker.{Worker, Keeps, Gives, Rose}
 use Rattle.rel_model.specs.State.{State}
 use Rattle.rel_model.specs.Due.{outcome_due, evaluated}
-use Rattle.rel_model.specs.Legal.{Trees, LegalItems, state_after, IsOutcome}
+use Rattle.rel_model.specs.Legal.{Trees, LegalItems, start as begin, state_after, IsOutcome}
+use Rattle.rel_model.specs.Cost.{cost_of_items}
+use Rattle.relview.specs.Found.{AreFound}
 use Rattle.rel_model.specs.Page.{items_page, reply, prefix, refusal_text}
 use Rattle.relview.specs.Names.{means, AllStand}
 use Rattle.relview.specs.Links.{IsPlain}
@@ -49,6 +51,10 @@ pub record Ran (T : Trees) (items : List Item) (start now : Worker) (names : Lis
   pub legal : LegalItems T history 1 1 items outcomes history
   pub text : page ≡ items_page T history 1 1 items outcomes
   pub missed : HasMissed outcomes start.misses now.misses
+  -- each assigned relation stands with its value
+  pub found : AreFound T now.relation begin history
+  -- no more nodes were made than the items cost
+  pub room : now.made ≤ start.made + cost_of_items T history 1 1 items
 
 -- the same of a run
 abbrev pub RanTo : Trees → List Item → Worker → Worker → Run → Type 0

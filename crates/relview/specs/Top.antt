@@ -1,13 +1,15 @@
 -- What the program answers: which words it takes, the lines that it says instead of a page, and the causes of its statuses.
-use Rattle.std.specs.Prelude.{◌≡◌, ◌≢◌, ◌⊎◌, ◌++◌, ◌&&◌, ◌==◌, ◌≤◌, ◌-◌, not, ℕ, Bool, true, false, cond, List, [], ◌∷◌, length, drop, map, codes, Option, String}
-use Rattle.std.specs.List.{list_any, list_all, AllByRecursion}
+use Rattle.std.specs.Prelude.{◌≡◌, ◌≢◌, ◌⊎◌, ◌++◌, ◌&&◌, ◌==◌, ◌≤◌, ◌-◌, not, ℕ, Bool, true, false, cond, List, [], ◌∷◌, length, drop, map, codes, Option, None, String}
+use Rattle.std.specs.List.{list_any, list_all}
 use Rattle.std.specs.String.{string_bytes}
 use Rattle.std.specs.declared.alloc.Global.{Global}
 use Rattle.std.specs.Io.KnownBytes.{Appends}
 use Rattle.rel_model.specs.Tokens.{same_text}
 use Rattle.rel_model.specs.declared.run.Outcome.{Outcome}
-use Rattle.rel_model.specs.declared.run.Outcome.TheVariants.{Done, Nodes, NoMemory}
+use Rattle.rel_model.specs.declared.run.Outcome.TheVariants.{Done, NoMemory}
+use Rattle.rel_model.specs.Legal.{no_script}
 use Rattle.rel_model.specs.Page.{IsRun}
+use Rattle.rel_model.specs.Stored.{HoldsRun}
 use Rattle.rv_io.specs.Outside.{Told, Rose, IsFile, IsOver}
 use Rattle.rv_io.specs.Writing.{HasSent}
 use Rattle.std.specs.Bool.{MatchBool}
@@ -17,6 +19,10 @@ use Rattle.relview.specs.declared.top.Answer.{Answer}
 -- the most bytes of a script
 abbrev pub script_limit : ℕ
 script_limit = 1048576
+
+-- the bits of a run's table
+abbrev pub table_bits : ℕ
+table_bits = 20
 
 -- ---- words
 -- whether a word begins with a hyphen
@@ -86,7 +92,16 @@ pub data IsWritten (old new : Sunk) (text : List ℕ) (whole status : ℕ) : Typ
   Part : (sent : ℕ) → status ≡ 4 → HasSent old.written new.written text sent → Rose old.faults new.faults → IsWritten old new text whole status
 
 -- ---- answers
--- the script ran: the history and the outcomes are lawful for the bytes of the one file, and their page was written, with the status that the outcomes have
+-- a text's answer: a lawful run of it and its page, and words that hold the run
+pub record Answers (bytes : List ℕ) (answer : Answer) : Type 0 where
+  pub lawful : IsRun (bytes ∷ []) answer.history.items (answer.outcomes.items ∷ []) answer.page.items
+  pub holds : HoldsRun table_bits lawful.trees answer.history.items (answer.outcomes.items ∷ []) answer.words.items
+
+-- words of a table that hold the run of bytes that are no script
+abbrev pub HoldsNothing : List ℕ → Type 0
+HoldsNothing words = HoldsRun table_bits (None ∷ []) [] ((no_script ∷ []) ∷ []) words
+
+-- the script ran: the history and the outcomes are lawful for the bytes of the one file, the words of the table hold the run, and the page was written, with the status that the outcomes have
 pub record HasRun (words : List (List ℕ)) (files : _) (old new : Sunk) (report : Report) : Type 0 where
   pub name : List ℕ
   pub bytes : List ℕ
@@ -98,31 +113,30 @@ pub record HasRun (words : List (List ℕ)) (files : _) (old new : Sunk) (report
   pub within : length bytes ≤ script_limit
   pub one_session : map (λ v. v.items) report.outcomes.items ≡ outcomes ∷ []
   pub lawful : IsRun (bytes ∷ []) report.history.items (outcomes ∷ []) page
-  pub no_full_table : AllByRecursion (λ o. o ≢ Nodes) outcomes
+  -- the words of the table hold the run
+  pub holds : HoldsRun table_bits lawful.trees report.history.items (outcomes ∷ []) report.words.items
   pub written : IsWritten old new page (status_of outcomes) report.status
 
 -- nothing ran: the report is empty, and a line was said with its cause; or memory ran out and nothing was written
 pub record HasStopped (words : List (List ℕ)) (shelf_old shelf_new : Told) (old new : Sunk) (report : Report) : Type 0 where
   pub no_history : report.history.items ≡ []
   pub no_outcomes : report.outcomes.items ≡ []
+  pub no_words : report.words.items ≡ []
   pub answer : ((line : List ℕ) × (status : ℕ) × IsSaid words shelf_old shelf_new line status × IsWritten old new line status report.status) ⊎ ((report.status ≡ 5) × (new.written ≡ old.written))
-
--- the report has no words of a table
-abbrev pub HasNoWords : Report → Type 0
-HasNoWords report = report.words.items ≡ []
 
 -- the answer was reported: its page was written, or memory ran out before
 abbrev pub Reports : Answer → Sunk → Sunk → Report → Type 0
 Reports answer old new report =
     MatchBool report.ran
-    ((report.history.items ≡ answer.history.items) × (map (λ v. v.items) report.outcomes.items ≡ answer.outcomes.items ∷ []) × IsWritten old new answer.page.items (status_of answer.outcomes.items) report.status)
-    ((report.history.items ≡ []) × (report.outcomes.items ≡ []) × (report.status ≡ 5) × (new.written ≡ old.written))
+    ((report.history.items ≡ answer.history.items) × (map (λ v. v.items) report.outcomes.items ≡ answer.outcomes.items ∷ []) × (report.words.items ≡ answer.words.items) × IsWritten old new answer.page.items (status_of answer.outcomes.items) report.status)
+    ((report.history.items ≡ []) × (report.outcomes.items ≡ []) × (report.words.items ≡ []) × (report.status ≡ 5) × (new.written ≡ old.written))
 
 -- a line was reported
 pub record Says (line : List ℕ) (status : ℕ) (old new : Sunk) (report : Report) : Type 0 where
   pub stopped : report.ran ≡ false
   pub no_history : report.history.items ≡ []
   pub no_outcomes : report.outcomes.items ≡ []
+  pub no_words : report.words.items ≡ []
   pub written : IsWritten old new line status report.status
 
 -- nothing was written, for want of memory
@@ -130,4 +144,5 @@ pub record IsOut (report : Report) : Type 0 where
   pub stopped : report.ran ≡ false
   pub no_history : report.history.items ≡ []
   pub no_outcomes : report.outcomes.items ≡ []
+  pub no_words : report.words.items ≡ []
   pub status : report.status ≡ 5

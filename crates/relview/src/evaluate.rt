@@ -3,7 +3,8 @@ ghost use Rattle.std.specs.Prelude.{◌≡◌, ◌%◌, Some, None, IfOk, MatchO
 ghost use Rattle.rel_model.specs.declared.Rel.{Rel};
 ghost use Rattle.rel_model.specs.Meaning.{missing, Fits, Misfit, joined, shaped, shape_transposed_by, value, result_of_both};
 ghost use Rattle.rel_model.specs.Operators.{complement as complement_of, transposed_by};
-ghost use Rattle.rel_model.specs.Worker.{Stands, set_of, Keeps, Gives, HasCause};
+ghost use Rattle.rel_model.specs.Worker.{Stands, set_of, Keeps, MakesAtMost, Gives, HasCause};
+ghost use Rattle.rel_model.specs.Cost.{boolean_cost, cost};
 ghost use Rattle.relview.specs.Links.{IsPlain, IsBoolean, IsFit};
 ghost use Rattle.relview.specs.Names.{rel_of, sized, means, AllStand};
 ghost use Rattle.relview.specs.Values.{fault_of, GivesValue};
@@ -144,10 +145,12 @@ pub fn shape_of(names: &[(Name, Rel)], expr: &Expr) -> Result<Shape, Mismatched>
 }
 
 /// `{(i, j) : not (i, j) in r}`: the complement within the sizes.
+#[tactic(auto, using(crate::proofs::Spending::two_operators))]
 fn complement<C: Core>(core: &mut C, r: Rel) -> Result<Rel, Lack>
     requires { Stands (C.worker core.old) r }
     ensures value { IfOk result (Gives (C.worker core.new) r.rows r.cols (complement_of (set_of (C.worker core.old) r))) }
     ensures keeps { Keeps (C.worker core.old) (C.worker core.new) }
+    ensures room { MakesAtMost (boolean_cost r.rows r.cols) (C.worker core.old) (C.worker core.new) }
     ensures cause { HasCause C.lean (C.worker core.old) (C.worker core.new) result }
 {
     let shape = Shape {
@@ -160,6 +163,7 @@ fn complement<C: Core>(core: &mut C, r: Rel) -> Result<Rel, Lack>
 }
 
 /// The union or the intersection.
+#[tactic(auto, using(crate::proofs::Spending::two_operators))]
 fn applied<C: Core>(core: &mut C, op: Op2, r: Rel, s: Rel) -> Result<Rel, Lack>
     requires op { IsBoolean op }
     requires left { Stands (C.worker core.old) r }
@@ -168,6 +172,7 @@ fn applied<C: Core>(core: &mut C, op: Op2, r: Rel, s: Rel) -> Result<Rel, Lack>
     requires cols { r.cols ≡ s.cols }
     ensures value { IfOk result (Gives (C.worker core.new) r.rows r.cols (result_of_both op (set_of (C.worker core.old) r) (set_of (C.worker core.old) s))) }
     ensures keeps { Keeps (C.worker core.old) (C.worker core.new) }
+    ensures room { MakesAtMost (boolean_cost r.rows r.cols) (C.worker core.old) (C.worker core.new) }
     ensures cause { HasCause C.lean (C.worker core.old) (C.worker core.new) result }
 {
     match op {
@@ -178,10 +183,12 @@ fn applied<C: Core>(core: &mut C, op: Op2, r: Rel, s: Rel) -> Result<Rel, Lack>
 }
 
 /// A relation transposed so many times.
+#[tactic(auto, using(crate::proofs::Spending::two_operators))]
 fn transposed<C: Core>(core: &mut C, r: Rel, times: u32) -> Result<Rel, Lack>
     requires { Stands (C.worker core.old) r }
     ensures value { IfOk result (GivesValue (C.worker core.new) (shape_transposed_by times (Fits r.rows r.cols)) (transposed_by times (set_of (C.worker core.old) r))) }
     ensures keeps { Keeps (C.worker core.old) (C.worker core.new) }
+    ensures room { MakesAtMost (boolean_cost r.rows r.cols) (C.worker core.old) (C.worker core.new) }
     ensures cause { HasCause C.lean (C.worker core.old) (C.worker core.new) result }
 {
     if times % 2 == 0 {
@@ -192,19 +199,21 @@ fn transposed<C: Core>(core: &mut C, r: Rel, times: u32) -> Result<Rel, Lack>
     }
 }
 
-/// The value of an expression whose sizes fit.
+/// The value of an expression whose names are known and whose sizes fit.
 pub fn value_of<C: Core>(core: &mut C, names: &[(Name, Rel)], expr: &Expr) -> Result<Rel, Lack>
     requires standing { AllStand (C.worker core.old) names.now }
     requires plain { IsPlain expr.now }
+    requires known { missing (sized names.now) expr.now ≡ None }
     requires fits { IsFit (shaped (means (C.worker core.old) names.now) expr.now) }
     ensures value { IfOk result (GivesValue (C.worker core.new) (shaped (means (C.worker core.old) names.now) expr.now) (value (means (C.worker core.old) names.now) expr.now)) }
     ensures keeps { Keeps (C.worker core.old) (C.worker core.new) }
+    ensures room { MakesAtMost (cost (means (C.worker core.old) names.now) expr.now) (C.worker core.old) (C.worker core.new) }
     ensures cause { HasCause C.lean (C.worker core.old) (C.worker core.new) result }
 {
     match expr {
         Expr::Ref { name, .. } => match find(names, name.bytes()) {
             Some(rel) => Ok(rel),
-            None => core.empty(Shape { rows: 0, cols: 0 }),
+            None => unreachable!(),
         },
         Expr::Minus { of, .. } => {
             let operand = value_of(core, names, of)?;

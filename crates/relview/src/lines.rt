@@ -1,6 +1,6 @@
 //! The lines that are written in place of a page, each with its status.
 ghost use Rattle.std.specs.Prelude.{◌≡◌, ◌⊎◌, [], IfOk, false};
-ghost use Rattle.relview.specs.Top.{usage_line, cannot_read_line, too_long_line, IsWritten, HasNoWords, Says, IsOut};
+ghost use Rattle.relview.specs.Top.{usage_line, cannot_read_line, too_long_line, IsWritten, Says, IsOut};
 
 use crate::top::Report;
 use rv_io::{Sink, write_all};
@@ -22,7 +22,7 @@ pub fn empty_report(alloc: Global, status: u8) -> Report
     ensures status { result.status ≡ status }
     ensures no_history { result.history.items ≡ [] }
     ensures no_outcomes { result.outcomes.items ≡ [] }
-    ensures no_words { HasNoWords result }
+    ensures no_words { result.words.items ≡ [] }
 {
     Report {
         status,
@@ -35,8 +35,7 @@ pub fn empty_report(alloc: Global, status: u8) -> Report
 
 /// Writes a line in place of a page.
 fn say<K: Sink>(alloc: Global, sink: &mut K, line: &[u8], status: u8) -> Report
-    ensures says { Says line.now status (record { written = K.written sink.old; faults = K.faults sink.old }) (record { written = K.written sink.new; faults = K.faults sink.new }) result }
-    ensures no_words { HasNoWords result }
+    ensures { Says line.now status (record { written = K.written sink.old; faults = K.faults sink.old }) (record { written = K.written sink.new; faults = K.faults sink.new }) result }
 {
     let status = write_text(sink, line, status);
     empty_report(alloc, status)
@@ -75,16 +74,14 @@ fn too_long_line(alloc: Global, name: &str) -> Result<Vec<u8>, AllocError>
 
 /// Reports that the words are not taken.
 pub fn say_usage<K: Sink>(alloc: Global, sink: &mut K) -> Report
-    ensures says { Says usage_line 2 (record { written = K.written sink.old; faults = K.faults sink.old }) (record { written = K.written sink.new; faults = K.faults sink.new }) result }
-    ensures no_words { HasNoWords result }
+    ensures { Says usage_line 2 (record { written = K.written sink.old; faults = K.faults sink.old }) (record { written = K.written sink.new; faults = K.faults sink.new }) result }
 {
     say(alloc, sink, usage_line(), 2)
 }
 
 /// Reports that a file was not read, or that memory ran out.
 pub fn say_unread<K: Sink>(alloc: Global, sink: &mut K, name: &str) -> Report
-    ensures says { Says (cannot_read_line name.now) 3 (record { written = K.written sink.old; faults = K.faults sink.old }) (record { written = K.written sink.new; faults = K.faults sink.new }) result ⊎ (IsOut result × (K.written sink.new ≡ K.written sink.old)) }
-    ensures no_words { HasNoWords result }
+    ensures { Says (cannot_read_line name.now) 3 (record { written = K.written sink.old; faults = K.faults sink.old }) (record { written = K.written sink.new; faults = K.faults sink.new }) result ⊎ (IsOut result × (K.written sink.new ≡ K.written sink.old)) }
 {
     match cannot_read_line(alloc, name) {
         Ok(line) => say(alloc, sink, line.as_slice(), 3),
@@ -94,8 +91,7 @@ pub fn say_unread<K: Sink>(alloc: Global, sink: &mut K, name: &str) -> Report
 
 /// Reports that a script is too long, or that memory ran out.
 pub fn say_too_long<K: Sink>(alloc: Global, sink: &mut K, name: &str) -> Report
-    ensures says { Says (too_long_line name.now) 3 (record { written = K.written sink.old; faults = K.faults sink.old }) (record { written = K.written sink.new; faults = K.faults sink.new }) result ⊎ (IsOut result × (K.written sink.new ≡ K.written sink.old)) }
-    ensures no_words { HasNoWords result }
+    ensures { Says (too_long_line name.now) 3 (record { written = K.written sink.old; faults = K.faults sink.old }) (record { written = K.written sink.new; faults = K.faults sink.new }) result ⊎ (IsOut result × (K.written sink.new ≡ K.written sink.old)) }
 {
     match too_long_line(alloc, name) {
         Ok(line) => say(alloc, sink, line.as_slice(), 3),

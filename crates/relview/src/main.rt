@@ -5,6 +5,7 @@ pub mod build;
 pub mod evaluate;
 pub mod lines;
 pub mod names;
+pub mod over_table;
 pub mod reply;
 pub mod session;
 #[cfg(test)]

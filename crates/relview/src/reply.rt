@@ -5,7 +5,8 @@ ghost use Rattle.rel_model.specs.declared.Rel.{Rel};
 ghost use Rattle.rel_model.specs.declared.Lack.TheVariants.{Full};
 ghost use Rattle.rel_model.specs.declared.syntax.Command.TheVariants.{Print};
 ghost use Rattle.rel_model.specs.declared.syntax.Item.TheVariants.{Command};
-ghost use Rattle.rel_model.specs.Worker.{Worker, Stands, Keeps, Gives, HasCause};
+ghost use Rattle.rel_model.specs.Worker.{Worker, Stands, Keeps, MakesAtMost, Gives, HasCause};
+ghost use Rattle.rel_model.specs.Cost.{cost, cost_where_due};
 ghost use Rattle.rel_model.specs.Due.{evaluated};
 ghost use Rattle.rel_model.specs.Legal.{MayLackNodes};
 ghost use Rattle.relview.specs.Links.{IsPlain};
@@ -93,6 +94,7 @@ fn matrix_reply<C: Core>(
     requires { Stands (C.worker core.old) rel }
     ensures reply { IfOk result (λ r. (r.outcome ≡ Done) × (r.text.items ≡ prefix 1 number ++ matrix (set_of (C.worker core.old) rel))) }
     ensures keeps { Keeps (C.worker core.old) (C.worker core.new) }
+    ensures room { MakesAtMost 0 (C.worker core.old) (C.worker core.new) }
 {
     let mut text = Vec::new(alloc);
     push_prefix(alloc, &mut text, 1, number)?;
@@ -125,6 +127,7 @@ fn known_value<C: Core>(core: &mut C, names: &[(Name, Rel)], expr: &Expr) -> Res
     requires fits { IsFit (shaped (means (C.worker core.old) names.now) expr.now) }
     ensures value { IfOk result (GivesValue (C.worker core.new) (shaped (means (C.worker core.old) names.now) expr.now) (value (means (C.worker core.old) names.now) expr.now)) }
     ensures keeps { Keeps (C.worker core.old) (C.worker core.new) }
+    ensures room { MakesAtMost (cost (means (C.worker core.old) names.now) expr.now) (C.worker core.old) (C.worker core.new) }
     ensures cause { IfErr result (λ e. e ≡ Full → IsCompound expr.now × Rose (C.worker core.old).misses (C.worker core.new).misses) }
 {
     match expr {
@@ -148,6 +151,7 @@ pub fn print_reply<C: Core>(
     requires plain { IsPlain expr.now }
     ensures reply { IfOk result (λ r. Replies number expr.now (means (C.worker core.old) names.now) r.outcome r.text.items) }
     ensures keeps { Keeps (C.worker core.old) (C.worker core.new) }
+    ensures room { MakesAtMost (cost_where_due (evaluated expr.now (means (C.worker core.old) names.now)) (cost (means (C.worker core.old) names.now) expr.now)) (C.worker core.old) (C.worker core.new) }
     ensures full { IfErr result (λ e. e ≡ Full → MayLackNodes (Command (Print expr.now)) (evaluated expr.now (means (C.worker core.old) names.now)) × Rose (C.worker core.old).misses (C.worker core.new).misses) }
 {
     if let Some((at, name)) = first_unknown(names, expr) {

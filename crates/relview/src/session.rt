@@ -4,7 +4,9 @@ ghost use Rattle.std.specs.Prelude.{All};
 ghost use Rattle.rel_model.specs.declared.Lack.TheVariants.{Full};
 ghost use Rattle.rel_model.specs.Relation.{relation_of, size_limit};
 ghost use Rattle.rel_model.specs.State.{lists};
-ghost use Rattle.rel_model.specs.Worker.{Keeps, Gives, Rose};
+ghost use Rattle.rel_model.specs.Worker.{Keeps, MakesAtMost, Gives, Rose, pairs_room};
+ghost use Rattle.rel_model.specs.Cost.{cost, cost_where_due, listed_count};
+ghost use Rattle.rel_model.specs.Due.{evaluated};
 ghost use Rattle.rel_model.specs.Legal.{Trees};
 ghost use Rattle.relview.specs.Links.{IsPlain};
 ghost use Rattle.relview.specs.Names.{means, AllStand};
@@ -13,6 +15,7 @@ ghost use Rattle.relview.specs.Ran.{IsFirstItem, RanTo, Follows, tree_of, Settle
 use crate::build::listed;
 use crate::reply::{Reply, lack_reply, print_reply};
 use rel_model::core_trait::Core;
+use rel_model::quads_trait::Quads;
 use rel_model::run::{Act, Event, Outcome};
 use rel_model::syntax::{Command, Expr, Item, Name, Row, Script};
 use rel_model::{Lack, NoMemory, Rel, Shape};
@@ -28,19 +31,20 @@ pub struct Run {
 }
 
 /// The reply to PRINT, also where the table is full or memory runs out.
-fn settled_reply<C: Core>(
+fn settled_reply<Q: Quads>(
     alloc: Global,
-    core: &mut C,
+    q: &mut Q,
     names: &[(Name, Rel)],
     number: u32,
     expr: &Expr,
 ) -> Result<Reply, NoMemory>
-    requires standing { AllStand (C.worker core.old) names.now }
+    requires standing { AllStand (Q.worker q.old) names.now }
     requires plain { IsPlain expr.now }
-    ensures reply { IfOk result (λ r. Settles number expr.now (means (C.worker core.old) names.now) (C.worker core.old).misses (C.worker core.new).misses r.outcome r.text.items) }
-    ensures keeps { Keeps (C.worker core.old) (C.worker core.new) }
+    ensures reply { IfOk result (λ r. Settles number expr.now (means (Q.worker q.old) names.now) (Q.worker q.old).misses (Q.worker q.new).misses r.outcome r.text.items) }
+    ensures keeps { Keeps (Q.worker q.old) (Q.worker q.new) }
+    ensures room { MakesAtMost (cost_where_due (evaluated expr.now (means (Q.worker q.old) names.now)) (cost (means (Q.worker q.old) names.now) expr.now)) (Q.worker q.old) (Q.worker q.new) }
 {
-    match print_reply(alloc, core, names, number, expr) {
+    match print_reply(alloc, q, names, number, expr) {
         Ok(reply) => Ok(reply),
         Err(lack) => {
             let reply = lack_reply(alloc, number, lack)?;
@@ -50,9 +54,9 @@ fn settled_reply<C: Core>(
 }
 
 /// The listed relation, and its name twice.
-fn named_relation<C: Core>(
+fn named_relation<Q: Quads>(
     alloc: Global,
-    core: &mut C,
+    q: &mut Q,
     name: &Name,
     shape: Shape,
     list: &[Row],
@@ -60,37 +64,39 @@ fn named_relation<C: Core>(
     requires row_limit { shape.rows ≤ size_limit }
     requires col_limit { shape.cols ≤ size_limit }
     ensures names { IfOk result (λ x. (x.0 ≡ name.now) × (x.1 ≡ name.now)) }
-    ensures value { IfOk result (λ x. Gives (C.worker core.new) shape.rows shape.cols (relation_of shape.rows shape.cols (lists list.now)) x.2) }
-    ensures keeps { Keeps (C.worker core.old) (C.worker core.new) }
-    ensures full { IfErr result (λ e. e ≡ Full → Rose (C.worker core.old).misses (C.worker core.new).misses) }
+    ensures value { IfOk result (λ x. Gives (Q.worker q.new) shape.rows shape.cols (relation_of shape.rows shape.cols (lists list.now)) x.2) }
+    ensures keeps { Keeps (Q.worker q.old) (Q.worker q.new) }
+    ensures room { MakesAtMost (pairs_room (listed_count list.now) shape.rows shape.cols) (Q.worker q.old) (Q.worker q.new) }
+    ensures full { IfErr result (λ e. e ≡ Full → Rose (Q.worker q.old).misses (Q.worker q.new).misses) }
 {
     let kept = name.copied(alloc)?;
     let noted = name.copied(alloc)?;
-    match listed(alloc, core, shape, list) {
+    match listed(alloc, q, shape, list) {
         Ok(rel) => Ok((kept, noted, rel)),
         Err(lack) => Err(lack),
     }
 }
 
 /// Runs PRINT: one read, and the reply.
-fn run_print<C: Core>(
+fn run_print<Q: Quads>(
     alloc: Global,
-    core: &mut C,
+    q: &mut Q,
     run: &mut Run,
     number: u32,
     expr: &Expr,
 ) -> Result<(), NoMemory>
-    requires standing { AllStand (C.worker core.old) run.old.names.items }
+    requires standing { AllStand (Q.worker q.old) run.old.names.items }
     requires plain { IsPlain expr.now }
-    ensures printed { OnOk result (Printed number expr.now (means (C.worker core.old) run.old.names.items) (C.worker core.old).misses (C.worker core.new).misses run.old run.new) }
-    ensures keeps { Keeps (C.worker core.old) (C.worker core.new) }
+    ensures printed { OnOk result (Printed number expr.now (means (Q.worker q.old) run.old.names.items) (Q.worker q.old).misses (Q.worker q.new).misses run.old run.new) }
+    ensures keeps { Keeps (Q.worker q.old) (Q.worker q.new) }
+    ensures room { MakesAtMost (cost_where_due (evaluated expr.now (means (Q.worker q.old) run.old.names.items)) (cost (means (Q.worker q.old) run.old.names.items) expr.now)) (Q.worker q.old) (Q.worker q.new) }
 {
     run.history.push(Event {
         session: 1,
         command: number,
         act: Act::Read,
     })?;
-    let reply = settled_reply(alloc, core, run.names.as_slice(), number, expr)?;
+    let reply = settled_reply(alloc, q, run.names.as_slice(), number, expr)?;
     run.page.extend_from_slice(reply.text.as_slice())?;
     run.outcomes.push(reply.outcome)?;
     Ok(())
@@ -122,9 +128,9 @@ fn refuse(alloc: Global, run: &mut Run, number: u32, lack: Lack) -> Result<(), N
 }
 
 /// Runs REL: one assignment, or a refusal.
-fn run_relation<C: Core>(
+fn run_relation<Q: Quads>(
     alloc: Global,
-    core: &mut C,
+    q: &mut Q,
     run: &mut Run,
     number: u32,
     name: &Name,
@@ -133,10 +139,11 @@ fn run_relation<C: Core>(
 ) -> Result<(), NoMemory>
     requires row_limit { shape.rows ≤ size_limit }
     requires col_limit { shape.cols ≤ size_limit }
-    ensures assigned { OnOk result (Assigned number name.now shape.rows shape.cols (relation_of shape.rows shape.cols (lists list.now)) (C.worker core.new) run.old run.new ⊎ Refused number (C.worker core.old).misses (C.worker core.new).misses run.old run.new) }
-    ensures keeps { Keeps (C.worker core.old) (C.worker core.new) }
+    ensures assigned { OnOk result (Assigned number name.now shape.rows shape.cols (relation_of shape.rows shape.cols (lists list.now)) (Q.worker q.new) run.old run.new ⊎ Refused number (Q.worker q.old).misses (Q.worker q.new).misses run.old run.new) }
+    ensures keeps { Keeps (Q.worker q.old) (Q.worker q.new) }
+    ensures room { MakesAtMost (pairs_room (listed_count list.now) shape.rows shape.cols) (Q.worker q.old) (Q.worker q.new) }
 {
-    match named_relation(alloc, core, name, shape, list) {
+    match named_relation(alloc, q, name, shape, list) {
         Ok((kept, noted, rel)) => {
             assign(run, number, kept, noted, rel)?;
             Ok(())
@@ -149,9 +156,9 @@ fn run_relation<C: Core>(
 }
 
 /// Runs one item.
-fn run_item<C: Core>(
+fn run_item<Q: Quads>(
     alloc: Global,
-    core: &mut C,
+    q: &mut Q,
     run: &mut Run,
     script: &Script,
     k: usize,
@@ -159,8 +166,8 @@ fn run_item<C: Core>(
     requires within { k < length script.now.items.items }
     requires few { length script.now.items.items ≤ 2 ^ 20 }
     requires first { All IsFirstItem script.now.items.items }
-    requires standing { AllStand (C.worker core.old) run.old.names.items }
-    ensures ran { OnOk result (Follows script.now k (C.worker core.old) (C.worker core.new) run.old run.new) }
+    requires standing { AllStand (Q.worker q.old) run.old.names.items }
+    ensures ran { OnOk result (Follows script.now k (Q.worker q.old) (Q.worker q.new) run.old run.new) }
 {
     let number = (k + 1) as u32;
     let Item::Command(command) = &script.items[k] else {
@@ -179,11 +186,11 @@ fn run_item<C: Core>(
                 rows: *rows as u32,
                 cols: *cols as u32,
             };
-            run_relation(alloc, core, run, number, name, shape, list.as_slice())?;
+            run_relation(alloc, q, run, number, name, shape, list.as_slice())?;
             Ok(())
         }
         Command::Print { value } => {
-            run_print(alloc, core, run, number, value)?;
+            run_print(alloc, q, run, number, value)?;
             Ok(())
         }
         _ => unreachable!(),
@@ -191,10 +198,10 @@ fn run_item<C: Core>(
 }
 
 /// Runs a script from nothing, as session 1.
-pub fn run_script<C: Core>(alloc: Global, core: &mut C, script: &Script) -> Result<Run, NoMemory>
+pub fn run_script<Q: Quads>(alloc: Global, q: &mut Q, script: &Script) -> Result<Run, NoMemory>
     requires few { length script.now.items.items ≤ 2 ^ 20 }
     requires first { All IsFirstItem script.now.items.items }
-    ensures { IfOk result (λ run. RanTo (tree_of script.now) script.now.items.items (C.worker core.old) (C.worker core.new) run) }
+    ensures { IfOk result (λ run. RanTo (tree_of script.now) script.now.items.items (Q.worker q.old) (Q.worker q.new) run) }
 {
     let mut run = Run {
         names: Vec::new(alloc),
@@ -203,7 +210,7 @@ pub fn run_script<C: Core>(alloc: Global, core: &mut C, script: &Script) -> Resu
         page: Vec::new(alloc),
     };
     'each: for k in 0..script.items.len() {
-        run_item(alloc, core, &mut run, script, k)?;
+        run_item(alloc, q, &mut run, script, k)?;
     }
     Ok(run)
 }

@@ -3,24 +3,22 @@ ghost use Rattle.std.specs.Prelude.{◌≡◌, ◌∷◌, ◌++◌, [], ◌≤�
 ghost use Rattle.std.specs.Io.KnownBytes.{Appends};
 ghost use Rattle.std.specs.String.{string_bytes};
 ghost use Rattle.rv_io.specs.Outside.{Told, Leaves, Rose};
-ghost use Rattle.std.specs.List.{AllByRecursion, list_any, list_all};
-ghost use Rattle.rel_model.specs.Page.{IsRun, prefix, refusal_text};
+ghost use Rattle.std.specs.List.{list_any, list_all};
+ghost use Rattle.rel_model.specs.Page.{prefix, refusal_text};
 ghost use Rattle.rel_model.specs.Legal.{no_script};
-ghost use Rattle.rel_model.specs.declared.run.Outcome.TheVariants.{Nodes};
-ghost use Rattle.relview.specs.Top.{texts, status_of, usage_line, cannot_read_line, too_long_line, IsSaid, IsWritten, HasRun, HasStopped, HasNoWords, Sunk, Reports, Says, IsOut, is_no_memory, is_done};
+ghost use Rattle.relview.specs.Top.{texts, status_of, usage_line, cannot_read_line, too_long_line, IsSaid, IsWritten, HasRun, HasStopped, Answers, HoldsNothing, Sunk, Reports, Says, IsOut, is_no_memory, is_done};
 
 use crate::lines::{empty_report, say_too_long, say_unread, say_usage, write_text};
-use crate::session::run_script;
+use crate::over_table::{answer_of_script, words_of_nothing};
 use crate::text::{push_prefix, refuse_item};
 use crate::words::script_word;
 use rel_model::NoMemory;
 use rel_model::faults::{ParseFault, What};
 use rel_model::run::{Event, Outcome};
 use rel_model::syntax::Place;
-use rel_plain::Plain;
 use rv_io::{ReadError, Shelf, Sink, read_all};
 use rv_parse::parse_first;
-use std::alloc::{AllocError, Global};
+use std::alloc::Global;
 
 /// The most bytes of a script.
 pub const SCRIPT_LIMIT: u64 = 1_048_576;
@@ -35,7 +33,7 @@ pub struct Report {
     pub history: Vec<Event>,
     /// A list of outcomes for each script.
     pub outcomes: Vec<Vec<Outcome>>,
-    /// The words of the table.
+    /// The words of the table over which the scripts ran, in the end.
     pub words: Vec<u64>,
 }
 
@@ -45,12 +43,16 @@ pub struct Answer {
     pub history: Vec<Event>,
     pub outcomes: Vec<Outcome>,
     pub page: Vec<u8>,
+    /// The words of the table over which it ran.
+    pub words: Vec<u64>,
 }
 
 /// The answer to bytes that are no script.
-fn refused(alloc: Global) -> Result<Answer, AllocError>
-    ensures { IfOk result (λ a. (a.history.items ≡ []) × (a.outcomes.items ≡ no_script ∷ []) × (a.page.items ≡ prefix 1 0 ++ refusal_text no_script)) }
+fn refused(alloc: Global) -> Result<Answer, NoMemory>
+    ensures answer { IfOk result (λ a. (a.history.items ≡ []) × (a.outcomes.items ≡ no_script ∷ []) × (a.page.items ≡ prefix 1 0 ++ refusal_text no_script)) }
+    ensures words { IfOk result (λ a. HoldsNothing a.words.items) }
 {
+    let words = words_of_nothing(alloc)?;
     let history = Vec::new(alloc);
     let mut outcomes = Vec::new(alloc);
     outcomes.push(Outcome::Parse(ParseFault::Expected {
@@ -64,24 +66,19 @@ fn refused(alloc: Global) -> Result<Answer, AllocError>
         history,
         outcomes,
         page,
+        words,
     })
 }
 
 /// Runs a text as session 1.
 pub fn answer_to(alloc: Global, bytes: &[u8]) -> Result<Answer, NoMemory>
     requires { length bytes.now ≤ 2 ^ 20 }
-    ensures lawful { IfOk result (λ a. IsRun (bytes.now ∷ []) a.history.items (a.outcomes.items ∷ []) a.page.items) }
-    ensures no_full_table { IfOk result (λ a. AllByRecursion (λ o. o ≢ Nodes) a.outcomes.items) }
+    ensures { IfOk result (Answers bytes.now) }
 {
     match parse_first(alloc, bytes) {
         Ok(script) => {
-            let mut core = Plain::new(alloc);
-            let run = run_script(alloc, &mut core, &script)?;
-            Ok(Answer {
-                history: run.history,
-                outcomes: run.outcomes,
-                page: run.page,
-            })
+            let answer = answer_of_script(alloc, &script)?;
+            Ok(answer)
         }
         Err(fault) => match fault {
             ParseFault::NoMemory => Err(NoMemory),
@@ -127,7 +124,7 @@ fn all_done(outcomes: &[Outcome]) -> bool
 
 /// The status of a run that was written.
 #[tactic(auto, unfolding(crate::specs::Top::status_of))]
-fn status_of(outcomes: &[Outcome]) -> u8
+pub fn status_of(outcomes: &[Outcome]) -> u8
     ensures { result ≡ status_of outcomes.now }
 {
     if any_no_memory(outcomes) {
@@ -141,8 +138,7 @@ fn status_of(outcomes: &[Outcome]) -> u8
 
 /// Writes the page of an answer.
 fn report_of<K: Sink>(alloc: Global, sink: &mut K, answer: Answer) -> Report
-    ensures reports { Reports answer (record { written = K.written sink.old; faults = K.faults sink.old }) (record { written = K.written sink.new; faults = K.faults sink.new }) result }
-    ensures no_words { HasNoWords result }
+    ensures { Reports answer (record { written = K.written sink.old; faults = K.faults sink.old }) (record { written = K.written sink.new; faults = K.faults sink.new }) result }
 {
     let whole = status_of(answer.outcomes.as_slice());
     let mut outcomes = Vec::new(alloc);
@@ -155,7 +151,7 @@ fn report_of<K: Sink>(alloc: Global, sink: &mut K, answer: Answer) -> Report
         ran: true,
         history: answer.history,
         outcomes,
-        words: Vec::new(alloc),
+        words: answer.words,
     }
 }
 
@@ -170,7 +166,6 @@ pub fn relview<S: Shelf, K: Sink>(
     ensures answer { MatchBool result.ran
         (HasRun (texts words.now) (S.told shelf.old).files (record { written = K.written sink.old; faults = K.faults sink.old }) (record { written = K.written sink.new; faults = K.faults sink.new }) result)
         (HasStopped (texts words.now) (S.told shelf.old) (S.told shelf.new) (record { written = K.written sink.old; faults = K.faults sink.old }) (record { written = K.written sink.new; faults = K.faults sink.new }) result) }
-    ensures no_words { HasNoWords result }
     ensures leaves { Leaves (S.told shelf.old) (S.told shelf.new) }
 {
     let Some(word) = script_word(words) else {

@@ -1,28 +1,43 @@
 //! Every change of one byte and every truncation of small scripts.
 use super::rules::page_by_the_rules;
-use super::runs::{assert_page, run};
+use super::runs::{page_over, small_table};
+use fork_quads::{Crew, OpenGate};
+use rel_model::quads_trait::Quads;
 use std::alloc::Global;
 use std::process::Abort;
 use std::test::Fail;
 
-/// Runs a text, and asserts what the rules say of it. Answers whether it was refused as no script.
-fn assert_by_the_rules(rt: &impl Abort, alloc: Global, text: &[u8]) -> Result<bool, Fail> {
+/// Runs a text over a worker, and asserts what the rules say of it. Answers whether it was refused as no script.
+fn assert_by_the_rules<Q: Quads>(
+    rt: &impl Abort,
+    alloc: Global,
+    q: &mut Q,
+    text: &[u8],
+) -> Result<bool, Fail> {
     let (page, status) = page_by_the_rules(alloc, text)?;
-    let ran = run(alloc, text)?;
+    let (written, told) = page_over(rt, alloc, q, text)?;
     let shown = format!(in alloc; "{text:?}")?;
-    assert_page(rt, &ran, page.as_str(), status, shown.as_str())?;
+    assert_eq!(rt;
+        str::from_utf8(written.as_slice())?,
+        page.as_str(),
+        "at {shown}"
+    );
+    assert_eq!(rt; told, status, "at {shown}");
     Ok(page.as_str().starts_with("1.0: "))
 }
 
 /// How many of the changes of one byte are scripts.
 fn changed(rt: &impl Abort, alloc: Global, script: &[u8]) -> Result<u32, Fail> {
+    let (table, seat) = small_table(rt, alloc);
+    let gate = OpenGate;
+    let mut crew = Crew::new(&table, seat, 1, &gate);
     let mut scripts = 0u32;
     for place in 0..script.len() {
         for byte in 0..=255u8 {
             let mut text = Vec::from_slice(alloc, &script[..place])?;
             text.push(byte)?;
             text.extend_from_slice(&script[place + 1..])?;
-            if !assert_by_the_rules(rt, alloc, text.as_slice())? {
+            if !assert_by_the_rules(rt, alloc, &mut crew, text.as_slice())? {
                 scripts = scripts.saturating_add(1);
             }
         }
@@ -89,9 +104,12 @@ fn each_change_of_one_byte_of_an_intersection_is_answered_by_the_rules(
 
 #[test]
 fn each_truncation_is_answered_by_the_rules(rt: HostRuntime) -> Result<(), Fail> {
+    let (table, seat) = small_table(&rt, rt.alloc());
+    let gate = OpenGate;
+    let mut crew = Crew::new(&table, seat, 1, &gate);
     for script in [COMPLEMENT, MISFIT, INTERSECTION] {
         for len in 0..script.len() {
-            let _ = assert_by_the_rules(&rt, rt.alloc(), &script[..len])?;
+            let _ = assert_by_the_rules(&rt, rt.alloc(), &mut crew, &script[..len])?;
         }
     }
     Ok(())

@@ -1,9 +1,13 @@
 //! Pages, histories and outcomes of worked scripts.
-use super::runs::{assert_page, history_of, outcomes_of, run};
+use super::runs::{assert_over, assert_page, history_of, outcomes_of, run, small_table};
+use fork_quads::{Crew, OpenGate};
 use std::test::Fail;
 
+/// The node words and the memo words of a run's table.
+const TABLE_WORDS: usize = 2_097_152;
+
 #[test]
-fn an_empty_script_writes_nothing_and_has_one_empty_list_of_outcomes(
+fn an_empty_script_writes_nothing_and_leaves_each_word_of_the_table_0(
     rt: HostRuntime,
 ) -> Result<(), Fail> {
     let ran = run(rt.alloc(), b"")?;
@@ -11,7 +15,8 @@ fn an_empty_script_writes_nothing_and_has_one_empty_list_of_outcomes(
     assert!(rt; ran.report.ran);
     assert_eq!(rt; history_of(rt.alloc(), &ran)?.as_str(), "");
     assert_eq!(rt; outcomes_of(rt.alloc(), &ran)?.as_str(), "[]");
-    assert_eq!(rt; ran.report.words.len(), 0);
+    assert_eq!(rt; ran.report.words.len(), TABLE_WORDS);
+    assert!(rt; ran.report.words.iter().all(|word| *word == 0));
     assert_eq!(rt; ran.shelf_faults, 0);
     assert_eq!(rt; ran.sink_faults, 0);
     Ok(())
@@ -19,6 +24,9 @@ fn an_empty_script_writes_nothing_and_has_one_empty_list_of_outcomes(
 
 #[test]
 fn each_operator_shows_the_relation_of_its_formula(rt: HostRuntime) -> Result<(), Fail> {
+    let (table, seat) = small_table(&rt, rt.alloc());
+    let gate = OpenGate;
+    let mut crew = Crew::new(&table, seat, 1, &gate);
     let chain = "REL A 3 3 {1:2; 2:3}. ";
     for (expr, page) in [
         ("A", "1.2: 3 x 3\n.1.\n..1\n...\n"),
@@ -38,8 +46,7 @@ fn each_operator_shows_the_relation_of_its_formula(rt: HostRuntime) -> Result<()
         ("-(A&A^)", "1.2: 3 x 3\n111\n111\n111\n"),
     ] {
         let script = format!(in rt.alloc(); "{chain}PRINT {expr}.")?;
-        let ran = run(rt.alloc(), script.as_bytes())?;
-        assert_page(&rt, &ran, page, 0, expr)?;
+        assert_over(&rt, rt.alloc(), &mut crew, script.as_str(), page, 0)?;
     }
     Ok(())
 }
@@ -48,6 +55,9 @@ fn each_operator_shows_the_relation_of_its_formula(rt: HostRuntime) -> Result<()
 fn matrices_have_a_line_for_each_row_and_a_byte_for_each_column(
     rt: HostRuntime,
 ) -> Result<(), Fail> {
+    let (table, seat) = small_table(&rt, rt.alloc());
+    let gate = OpenGate;
+    let mut crew = Crew::new(&table, seat, 1, &gate);
     for (script, page) in [
         ("REL A 2 3 {1:3; 2:1,2}. PRINT A.", "1.2: 2 x 3\n..1\n11.\n"),
         (
@@ -70,8 +80,7 @@ fn matrices_have_a_line_for_each_row_and_a_byte_for_each_column(
         ),
         ("REL A 1 10 {1:10}. PRINT A.", "1.2: 1 x 10\n.........1\n"),
     ] {
-        let ran = run(rt.alloc(), script.as_bytes())?;
-        assert_page(&rt, &ran, page, 0, script)?;
+        assert_over(&rt, rt.alloc(), &mut crew, script, page, 0)?;
     }
     Ok(())
 }
@@ -91,7 +100,7 @@ fn a_script_with_all_four_operators_has_its_page_and_its_history(
     assert_eq!(rt; history_of(rt.alloc(), &ran)?.as_str(), history);
     let outcomes = "[done;done;done;done;]";
     assert_eq!(rt; outcomes_of(rt.alloc(), &ran)?.as_str(), outcomes);
-    assert_eq!(rt; ran.report.words.len(), 0);
+    assert_eq!(rt; ran.report.words.len(), TABLE_WORDS);
     Ok(())
 }
 
@@ -145,6 +154,9 @@ fn the_leftmost_unknown_name_comes_before_any_misfit_and_the_first_misfit_before
     // The text in front of each expression has 36 bytes, so its first byte stands at column 37.
     let front = "REL A 2 3 {}. REL B 3 3 {}.   PRINT ";
     assert_eq!(rt; front.len(), 36);
+    let (table, seat) = small_table(&rt, rt.alloc());
+    let gate = OpenGate;
+    let mut crew = Crew::new(&table, seat, 1, &gate);
     for (expr, text) in [
         ("X|Y", "1:37: unknown name X"),
         ("A|Y", "1:39: unknown name Y"),
@@ -165,14 +177,23 @@ fn the_leftmost_unknown_name_comes_before_any_misfit_and_the_first_misfit_before
     ] {
         let script = format!(in rt.alloc(); "{front}{expr}.")?;
         let page = format!(in rt.alloc(); "1.3: refused: {text}\n")?;
-        let ran = run(rt.alloc(), script.as_bytes())?;
-        assert_page(&rt, &ran, page.as_str(), 1, expr)?;
+        assert_over(
+            &rt,
+            rt.alloc(),
+            &mut crew,
+            script.as_str(),
+            page.as_str(),
+            1,
+        )?;
     }
     Ok(())
 }
 
 #[test]
 fn places_count_lines_and_columns_through_blanks_and_comments(rt: HostRuntime) -> Result<(), Fail> {
+    let (table, seat) = small_table(&rt, rt.alloc());
+    let gate = OpenGate;
+    let mut crew = Crew::new(&table, seat, 1, &gate);
     for (script, text) in [
         ("PRINT Z.", "1.1: refused: 1:7: unknown name Z\n"),
         ("PRINT\nZ.", "1.1: refused: 2:1: unknown name Z\n"),
@@ -193,14 +214,16 @@ fn places_count_lines_and_columns_through_blanks_and_comments(rt: HostRuntime) -
             "1.2: refused: 6:4: unknown name no_such_name\n",
         ),
     ] {
-        let ran = run(rt.alloc(), script.as_bytes())?;
-        assert_page(&rt, &ran, text, 1, script)?;
+        assert_over(&rt, rt.alloc(), &mut crew, script, text, 1)?;
     }
     Ok(())
 }
 
 #[test]
 fn a_command_sees_the_relations_that_stood_at_its_read(rt: HostRuntime) -> Result<(), Fail> {
+    let (table, seat) = small_table(&rt, rt.alloc());
+    let gate = OpenGate;
+    let mut crew = Crew::new(&table, seat, 1, &gate);
     for (script, page, status) in [
         // A name keeps its last relation, and a PRINT shows the one before it.
         (
@@ -233,8 +256,7 @@ fn a_command_sees_the_relations_that_stood_at_its_read(rt: HostRuntime) -> Resul
             0,
         ),
     ] {
-        let ran = run(rt.alloc(), script.as_bytes())?;
-        assert_page(&rt, &ran, page, status, script)?;
+        assert_over(&rt, rt.alloc(), &mut crew, script, page, status)?;
     }
     Ok(())
 }

@@ -1,9 +1,15 @@
 //! Runs of the top call over a shelf and a sink in memory.
-use crate::top::{Report, relview};
+ghost use Rattle.rel_model.specs.Views.{IsOf};
+
+use crate::session::run_script;
+use crate::top::{Report, relview, status_of};
+use pair_table::{PairTable, Seat};
 use rel_model::faults::{ParseFault, StaticShape, TypeFault, What};
+use rel_model::quads_trait::Quads;
 use rel_model::run::{Act, Event, Outcome};
 use rel_model::syntax::{Name, Place};
 use rv_io::{MemShelf, MemSink, NoMemory};
+use rv_parse::parse_first;
 use std::alloc::{AllocError, Global};
 use std::process::Abort;
 use std::test::Fail;
@@ -83,6 +89,55 @@ pub fn assert_page(
     assert_eq!(rt; written, page, "at {what}");
     assert_eq!(rt; ran.report.status, status, "at {what}");
     Ok(())
+}
+
+/// The page and the status of a text that runs over a worker.
+#[tactic(auto, using(crate::proofs::FirstItems::spelled_few, crate::proofs::FirstItems::spelled_first))]
+pub fn page_over<Q: Quads>(
+    rt: &impl Abort,
+    alloc: Global,
+    q: &mut Q,
+    text: &[u8],
+) -> Result<(Vec<u8>, u8), Fail> {
+    assert!(rt; text.len() <= 1_048_576);
+    match parse_first(alloc, text) {
+        Ok(script) => {
+            let Ok(run) = run_script(alloc, q, &script) else {
+                panic!(rt; "no memory")
+            };
+            let status = status_of(run.outcomes.as_slice());
+            Ok((run.page, status))
+        }
+        Err(_) => {
+            let refusal = b"1.0: refused: 1:1: expected an item\n";
+            Ok((Vec::from_slice(alloc, refusal)?, 1))
+        }
+    }
+}
+
+/// Asserts the page and the status of a text that runs over a worker.
+pub fn assert_over<Q: Quads>(
+    rt: &impl Abort,
+    alloc: Global,
+    q: &mut Q,
+    text: &str,
+    page: &str,
+    status: u8,
+) -> Result<(), Fail> {
+    let (written, told) = page_over(rt, alloc, q, text.as_bytes())?;
+    assert_eq!(rt; str::from_utf8(written.as_slice())?, page, "at {text}");
+    assert_eq!(rt; told, status, "at {text}");
+    Ok(())
+}
+
+/// A table of 2^10 node words, and its one seat.
+pub fn small_table(rt: &impl Abort, alloc: Global) -> (PairTable, Seat)
+    ensures { IsOf result.1 result.0 }
+{
+    match PairTable::make(alloc, 10, 1) {
+        Ok(made) => made,
+        Err(_) => panic!(rt; "no memory"),
+    }
 }
 
 fn push_name(out: &mut String, name: &Name) -> Result<(), Fail> {

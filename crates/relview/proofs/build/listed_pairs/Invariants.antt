@@ -1,10 +1,13 @@
-use Rattle.std.proofs.Common.{take}
+use Rattle.std.proofs.Common.{◌≤◌, length, take}
+use Rattle.rel_model.specs.Cost.{listed_count}
 use Rattle.rel_model.specs.State.{lists}
-use Rattle.relview.specs.Listed.{IsWithin, IsListed}
+use Rattle.relview.specs.Listed.{IsListed}
+use Rattle.rel_domains.specs.Listed.{IsWithin}
 use Rattle.relview.proofs.build.listed_pairs.Given as goal
 
 abbrev pub invariant-rows : goal.invariant-rows
 invariant-rows l = record {
   within : IsWithin l.shape.rows l.shape.cols l.pairs.items;
   pairs : IsListed l.shape.rows l.shape.cols l.pairs.items (lists (take l.row-index l.list));
+  count : length l.pairs.items ≤ listed_count (take l.row-index l.list);
 }

@@ -1,8 +1,9 @@
+use Rattle.std.proofs.Common.{arith}
 use Rattle.rel_model.specs.Worker.{set_of}
 use Rattle.relview.specs.Values.{fault_of}
 use Rattle.relview.proofs.Agreeing.{HasSizes}
 use Rattle.relview.proofs.Fitting.{given_set}
-use Rattle.relview.proofs.Replying.{replies_unknown, replies_misfit, replies_value, may_lack, fits_means}
+use Rattle.relview.proofs.Replying.{replies_unknown, replies_misfit, replies_value, may_lack, fits_means, room_due}
 use Rattle.relview.proofs.reply.print_reply.Goals as goal
 
 pub returns-in-Some-clause-reply : goal.returns-in-Some-clause-reply
@@ -40,3 +41,24 @@ returns-in-Err-known_value-clause-full g c is =
     let shape = c.in_default-shape_of.field-0 in
     let cause = c.in-Err-known_value.ensures.cause is in
     (may_lack c.args.expr.now w c.args.names.now shape.rows shape.cols laws c.requires.standing c.in_default.ensures c.in_default-shape_of.ensures cause.0, cause.1)
+
+pub returns-in_err-reply-in-Ok-clause-room : goal.returns-in_err-reply-in-Ok-clause-room
+returns-in_err-reply-in-Ok-clause-room g c =
+    let w = g.C.Core.worker c.args.core.now in
+    let laws : HasSizes w = record { rows = g.met.C.Core.row_size c.args.core.now; cols = g.met.C.Core.col_size c.args.core.now } in
+    let shape = c.in_default-shape_of.field-0 in
+    room_due c.args.expr.now w c.args.names.now shape.rows shape.cols _ laws c.requires.standing c.in_default.ensures c.in_default-shape_of.ensures (omega (arith, c.known_value.ensures.room, c.matrix_reply.ensures.room))
+
+pub returns-in_ok-reply-in-Ok-clause-room : goal.returns-in_ok-reply-in-Ok-clause-room
+returns-in_ok-reply-in-Ok-clause-room g c =
+    let w = g.C.Core.worker c.args.core.now in
+    let laws : HasSizes w = record { rows = g.met.C.Core.row_size c.args.core.now; cols = g.met.C.Core.col_size c.args.core.now } in
+    let shape = c.in_default-shape_of.field-0 in
+    room_due c.args.expr.now w c.args.names.now shape.rows shape.cols _ laws c.requires.standing c.in_default.ensures c.in_default-shape_of.ensures (omega (arith, c.known_value.ensures.room, c.matrix_reply.ensures.room))
+
+pub returns-in-Err-known_value-clause-room : goal.returns-in-Err-known_value-clause-room
+returns-in-Err-known_value-clause-room g c =
+    let w = g.C.Core.worker c.args.core.now in
+    let laws : HasSizes w = record { rows = g.met.C.Core.row_size c.args.core.now; cols = g.met.C.Core.col_size c.args.core.now } in
+    let shape = c.in_default-shape_of.field-0 in
+    room_due c.args.expr.now w c.args.names.now shape.rows shape.cols _ laws c.requires.standing c.in_default.ensures c.in_default-shape_of.ensures c.known_value.ensures.room

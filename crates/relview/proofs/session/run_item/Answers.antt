@@ -1,6 +1,8 @@
-use Rattle.std.proofs.Common.{◌⊎◌, ◌∙◌, ◌+◌, ap, subst}
+use Rattle.std.proofs.Common.{◌⊎◌, ◌∙◌, ◌+◌, ◌≤◌, ap, subst}
 use Rattle.rel_model.specs.declared.syntax.Item.TheVariants.{Command}
 use Rattle.rel_model.specs.Relation.{relation_of}
+use Rattle.rel_model.specs.Worker.{pairs_room}
+use Rattle.rel_model.specs.Cost.{listed_count}
 use Rattle.rel_model.specs.State.{lists}
 use Rattle.relview.specs.Ran.{Assigned, Refused}
 use Rattle.relview.proofs.Steps.{follows_print, follows_relation}
@@ -8,19 +10,19 @@ use Rattle.relview.proofs.session.run_item.Goals as goal
 
 pub returns-in_ok-run_relation-in-Relation : goal.returns-in_ok-run_relation-in-Relation
 returns-in_ok-run_relation-in-Relation g c =
-    let w = g.C.Core.worker c.args.core.now in
-    let v = g.C.Core.worker c.run_relation.new.core in
+    let w = g.Q.Core.worker c.args.q.now in
+    let v = g.Q.Core.worker c.run_relation.new.q in
     let i = c.in-Relation in
     let done = c.in_ok-run_relation-in-Relation.ensures in
     record {
       ran = follows_relation c.args.script.now c.args.k c.index.result.now w v c.args.run.now c.run_relation.new.run i.name i.rows i.rows_at i.cols i.cols_at i.list c.requires.within c.index.ensures (c.in-Command.is ∙ ap Command i.is) done.keeps
-          (subst (λ rs. Assigned (c.args.k + 1) i.name i.rows i.cols (relation_of i.rows i.cols (lists rs)) v c.args.run.now c.run_relation.new.run ⊎ Refused (c.args.k + 1) w.misses v.misses c.args.run.now c.run_relation.new.run) c.as_slice.ensures.value done.assigned);
+          (subst (λ rs. Assigned (c.args.k + 1) i.name i.rows i.cols (relation_of i.rows i.cols (lists rs)) v c.args.run.now c.run_relation.new.run ⊎ Refused (c.args.k + 1) w.misses v.misses c.args.run.now c.run_relation.new.run) c.as_slice.ensures.value done.assigned) (subst (λ rs. v.made ≤ w.made + pairs_room (listed_count rs) i.rows i.cols) c.as_slice.ensures.value done.room);
     }
 
 pub returns-in_ok-run_print-in-Print : goal.returns-in_ok-run_print-in-Print
 returns-in_ok-run_print-in-Print g c =
     let done = c.in_ok-run_print-in-Print.ensures in
     record {
-      ran = follows_print c.args.script.now c.args.k c.index.result.now c.in-Print.value (g.C.Core.worker c.args.core.now) (g.C.Core.worker c.run_print.new.core) c.args.run.now c.run_print.new.run c.requires.within c.index.ensures
-          (c.in-Command.is ∙ ap Command c.in-Print.is) done.keeps done.printed;
+      ran = follows_print c.args.script.now c.args.k c.index.result.now c.in-Print.value (g.Q.Core.worker c.args.q.now) (g.Q.Core.worker c.run_print.new.q) c.args.run.now c.run_print.new.run c.requires.within c.index.ensures
+          (c.in-Command.is ∙ ap Command c.in-Print.is) done.keeps done.printed done.room;
     }

@@ -21,6 +21,7 @@ cells-preserved g c =
           ∙ ap (λ b. old ++ (map (cell R i) (range_with_len 0 j) ++ b ∷ [])) (c.mark_of-mark.ensures ∙ ap (λ t. cond t 49 46) (c.has.ensures.value ∙ ap (λ r. has r i j) now_is))
           ∙ ap (λ zs. old ++ zs) (sym (map-range_with_len_more (cell R i) 0 j j (omega arith)));
       keeps = keeps_trans _ _ _ inv.keeps c.has.ensures.keeps;
+      room = omega (arith, inv.room, c.has.ensures.room);
     }
 
 pub returns-clause-text : goal.returns-clause-text

@@ -18,6 +18,7 @@ rows-preserved g c =
           ∙ append_assoc old (flat_map (row_text R) (range_with_len 0 i)) (row_text R i)
           ∙ ap (λ zs. old ++ zs) (sym (lines_more (row_text R) i));
       keeps = keeps_trans _ _ _ inv.keeps c.in_ok-push_row.ensures.keeps;
+      room = omega (arith, inv.room, c.in_ok-push_row.ensures.room);
     }
 
 pub returns-clause-text : goal.returns-clause-text

@@ -1,0 +1,5 @@
+//! Tests of a crew beside plain relations, through the traits that both implement, and of its quads.
+#![tactic(auto)]
+
+#[cfg(test)]
+mod tests;

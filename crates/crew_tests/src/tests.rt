@@ -1,0 +1,388 @@
+//! A crew beside plain relations, by the traits that both implement, and its quads.
+#![tactic(auto, using(rel_model::proofs::Workers::keeps_stands, rel_model::proofs::Workers::keeps_trans, rel_model::proofs::Workers::gives_stands))]
+
+ghost use Rattle.std.specs.Prelude.{◌≡◌, ◌<◌, ◌≤◌};
+ghost use Rattle.rel_model.specs.Relation.{size_limit};
+ghost use Rattle.rel_model.specs.Trees.{top_height};
+ghost use Rattle.rel_model.specs.Views.{IsOf};
+ghost use Rattle.rel_model.specs.Worker.{Worker, Stands, HasQuad, Keeps};
+
+use fork_quads::{Crew, OpenGate};
+use pair_table::{PairTable, Seat};
+use rel_model::core_trait::Core;
+use rel_model::quads_trait::Quads;
+use rel_model::{Lack, Quad, Rel, Shape};
+use rel_plain::Plain;
+use std::alloc::Global;
+use std::process::Abort;
+
+/// A table of 2^18 node words, and its first seat.
+fn table(rt: &impl Abort, alloc: Global) -> (PairTable, Seat)
+    ensures { IsOf result.1 result.0 }
+{
+    match PairTable::make(alloc, 18, 1) {
+        Ok(made) => made,
+        Err(_) => panic!(rt; "no memory"),
+    }
+}
+
+/// A plain relation of some pseudo-random pairs.
+fn plain_of<P: Core>(rt: &impl Abort, plain: &mut P, shape: Shape, count: u32, seed: u64) -> Rel
+    requires row { shape.rows ≤ 40 }
+    requires col { shape.cols ≤ 40 }
+    requires some_row { 0 < shape.rows }
+    requires some_col { 0 < shape.cols }
+    ensures standing { Stands (P.worker plain.new) result }
+    ensures rows { result.rows ≡ shape.rows }
+    ensures cols { result.cols ≡ shape.cols }
+    ensures keeps { Keeps (P.worker plain.old) (P.worker plain.new) }
+{
+    let Ok(mut r) = plain.empty(shape) else {
+        panic!(rt; "no memory")
+    };
+    let mut state = seed;
+    'pairs: for _ in 0..count {
+        state = state
+            .wrapping_mul(6364136223846793005)
+            .wrapping_add(1442695040888963407);
+        let i = ((state >> 33) % shape.rows as u64) as u32;
+        let j = ((state >> 48) % shape.cols as u64) as u32;
+        let Ok(pair) = plain.single(shape, i, j) else {
+            panic!(rt; "no memory")
+        };
+        let Ok(more) = plain.union(r, pair) else {
+            panic!(rt; "no memory")
+        };
+        r = more;
+    }
+    r
+}
+
+/// One relation, in a crew and in a plain keeper.
+#[derive(Clone, Copy, Debug)]
+struct Twin {
+    crew: Rel,
+    plain: Rel,
+}
+
+/// The answer of an operator that is not refused.
+fn given(rt: &impl Abort, answer: Result<Rel, Lack>) -> Rel
+    ensures { answer ≡ Ok result }
+{
+    match answer {
+        Ok(rel) => rel,
+        Err(_) => panic!(rt; "refused"),
+    }
+}
+
+/// A relation with one pair more.
+fn with_pair<C: Core>(rt: &impl Abort, core: &mut C, r: Rel, i: u32, j: u32) -> Rel
+    requires standing { Stands (C.worker core.old) r }
+    requires row { i < r.rows }
+    requires col { j < r.cols }
+    ensures standing { Stands (C.worker core.new) result }
+    ensures rows { result.rows ≡ r.rows }
+    ensures cols { result.cols ≡ r.cols }
+    ensures keeps { Keeps (C.worker core.old) (C.worker core.new) }
+{
+    let shape = Shape {
+        rows: r.rows,
+        cols: r.cols,
+    };
+    let one = given(rt, core.single(shape, i, j));
+    given(rt, core.union(r, one))
+}
+
+/// The relation of a number: its bits, the lowest first, say row by row which pairs are in it.
+fn of_number<C: Core>(rt: &impl Abort, core: &mut C, shape: Shape, number: u32) -> Rel
+    requires row { shape.rows ≤ size_limit }
+    requires col { shape.cols ≤ size_limit }
+    ensures standing { Stands (C.worker core.new) result }
+    ensures rows { result.rows ≡ shape.rows }
+    ensures cols { result.cols ≡ shape.cols }
+    ensures keeps { Keeps (C.worker core.old) (C.worker core.new) }
+{
+    let mut r = given(rt, core.empty(shape));
+    let mut left = number;
+    'rows: for i in 0..shape.rows {
+        'cols: for j in 0..shape.cols {
+            if left % 2 == 1 {
+                r = with_pair(rt, core, r, i, j);
+            }
+            left /= 2;
+        }
+    }
+    r
+}
+
+/// Asserts that a relation of one keeper and one of another have the same pairs.
+fn same_pairs<C: Core, P: Core>(rt: &impl Abort, crew: &mut C, plain: &mut P, r: Rel, p: Rel)
+    requires standing { Stands (C.worker crew.old) r }
+    requires plain_standing { Stands (P.worker plain.old) p }
+    ensures keeps { Keeps (C.worker crew.old) (C.worker crew.new) }
+    ensures plain_keeps { Keeps (P.worker plain.old) (P.worker plain.new) }
+{
+    assert!(rt; r.rows == p.rows && r.cols == p.cols, "other sizes");
+    'rows: for i in 0..r.rows {
+        'cols: for j in 0..r.cols {
+            let found = crew.has(r, i, j);
+            assert_eq!(rt; found, plain.has(p, i, j), "at {i}, {j}");
+        }
+    }
+    assert_eq!(rt; crew.is_empty(r), plain.is_empty(p));
+}
+
+/// Asserts that both keepers answer each operator on two relations of one type alike.
+fn pair_agrees<C: Core, P: Core>(rt: &impl Abort, crew: &mut C, plain: &mut P, a: Twin, b: Twin)
+    requires left { Stands (C.worker crew.old) a.crew }
+    requires right { Stands (C.worker crew.old) b.crew }
+    requires plain_left { Stands (P.worker plain.old) a.plain }
+    requires plain_right { Stands (P.worker plain.old) b.plain }
+    requires rows { a.crew.rows ≡ b.crew.rows }
+    requires cols { a.crew.cols ≡ b.crew.cols }
+    requires plain_rows { a.plain.rows ≡ b.plain.rows }
+    requires plain_cols { a.plain.cols ≡ b.plain.cols }
+    ensures keeps { Keeps (C.worker crew.old) (C.worker crew.new) }
+    ensures plain_keeps { Keeps (P.worker plain.old) (P.worker plain.new) }
+{
+    assert_eq!(rt; crew.same(a.crew, b.crew), plain.same(a.plain, b.plain));
+    let either = given(rt, crew.union(a.crew, b.crew));
+    let plain_either = given(rt, plain.union(a.plain, b.plain));
+    same_pairs(rt, crew, plain, either, plain_either);
+    let both = given(rt, crew.inter(a.crew, b.crew));
+    let plain_both = given(rt, plain.inter(a.plain, b.plain));
+    same_pairs(rt, crew, plain, both, plain_both);
+    let rest = given(rt, crew.diff(a.crew, b.crew));
+    let plain_rest = given(rt, plain.diff(a.plain, b.plain));
+    same_pairs(rt, crew, plain, rest, plain_rest);
+}
+
+/// Asserts that both keepers answer alike what has one relation, or none.
+fn one_agrees<C: Core, P: Core>(rt: &impl Abort, crew: &mut C, plain: &mut P, r: Rel, p: Rel)
+    requires standing { Stands (C.worker crew.old) r }
+    requires plain_standing { Stands (P.worker plain.old) p }
+    requires row { r.rows ≤ size_limit }
+    requires col { r.cols ≤ size_limit }
+    requires plain_row { p.rows ≤ size_limit }
+    requires plain_col { p.cols ≤ size_limit }
+    ensures keeps { Keeps (C.worker crew.old) (C.worker crew.new) }
+    ensures plain_keeps { Keeps (P.worker plain.old) (P.worker plain.new) }
+{
+    let turned = given(rt, crew.transpose(r));
+    let plain_turned = given(rt, plain.transpose(p));
+    same_pairs(rt, crew, plain, turned, plain_turned);
+    let shape = Shape {
+        rows: r.rows,
+        cols: r.cols,
+    };
+    let plain_shape = Shape {
+        rows: p.rows,
+        cols: p.cols,
+    };
+    let full = given(rt, crew.full(shape));
+    let plain_full = given(rt, plain.full(plain_shape));
+    same_pairs(rt, crew, plain, full, plain_full);
+}
+
+/// Asserts that both keepers answer the composition alike.
+fn product_agrees<C: Core, P: Core>(rt: &impl Abort, crew: &mut C, plain: &mut P, a: Twin, b: Twin)
+    requires left { Stands (C.worker crew.old) a.crew }
+    requires right { Stands (C.worker crew.old) b.crew }
+    requires plain_left { Stands (P.worker plain.old) a.plain }
+    requires plain_right { Stands (P.worker plain.old) b.plain }
+    requires middle { a.crew.cols ≡ b.crew.rows }
+    requires plain_middle { a.plain.cols ≡ b.plain.rows }
+    ensures keeps { Keeps (C.worker crew.old) (C.worker crew.new) }
+    ensures plain_keeps { Keeps (P.worker plain.old) (P.worker plain.new) }
+{
+    let product = given(rt, crew.compose(a.crew, b.crew));
+    let plain_product = given(rt, plain.compose(a.plain, b.plain));
+    same_pairs(rt, crew, plain, product, plain_product);
+}
+
+/// Asserts that both keepers answer every operator on the relations of two numbers alike.
+fn numbers_agree<C: Core, P: Core>(
+    rt: &impl Abort,
+    crew: &mut C,
+    plain: &mut P,
+    shape: Shape,
+    left: u32,
+    right: u32,
+)
+    requires row { shape.rows ≤ 2 }
+    requires col { shape.cols ≤ 2 }
+    ensures keeps { Keeps (C.worker crew.old) (C.worker crew.new) }
+    ensures plain_keeps { Keeps (P.worker plain.old) (P.worker plain.new) }
+{
+    let r = of_number(rt, crew, shape, left);
+    let s = of_number(rt, crew, shape, right);
+    let p = of_number(rt, plain, shape, left);
+    let q = of_number(rt, plain, shape, right);
+    let first = Twin { crew: r, plain: p };
+    pair_agrees(rt, crew, plain, first, Twin { crew: s, plain: q });
+    one_agrees(rt, crew, plain, r, p);
+    let turned = given(rt, crew.transpose(s));
+    let plain_turned = given(rt, plain.transpose(q));
+    let second = Twin {
+        crew: turned,
+        plain: plain_turned,
+    };
+    product_agrees(rt, crew, plain, first, second);
+}
+
+/// Asserts the same of two pseudo-random relations.
+fn random_agree<C: Core, P: Core>(
+    rt: &impl Abort,
+    crew: &mut C,
+    plain: &mut P,
+    shape: Shape,
+    count: u32,
+)
+    requires row { shape.rows ≤ 40 }
+    requires col { shape.cols ≤ 40 }
+    requires some_row { 0 < shape.rows }
+    requires some_col { 0 < shape.cols }
+    ensures keeps { Keeps (C.worker crew.old) (C.worker crew.new) }
+    ensures plain_keeps { Keeps (P.worker plain.old) (P.worker plain.new) }
+{
+    let r = plain_of(rt, crew, shape, count, 1);
+    let s = plain_of(rt, crew, shape, count, 2);
+    let p = plain_of(rt, plain, shape, count, 1);
+    let q = plain_of(rt, plain, shape, count, 2);
+    let first = Twin { crew: r, plain: p };
+    pair_agrees(rt, crew, plain, first, Twin { crew: s, plain: q });
+    one_agrees(rt, crew, plain, r, p);
+    let turned = given(rt, crew.transpose(s));
+    let plain_turned = given(rt, plain.transpose(q));
+    let second = Twin {
+        crew: turned,
+        plain: plain_turned,
+    };
+    product_agrees(rt, crew, plain, first, second);
+}
+
+/// Asserts that both keepers answer the composition of two pseudo-random relations alike.
+fn random_product_agrees<C: Core, P: Core>(
+    rt: &impl Abort,
+    crew: &mut C,
+    plain: &mut P,
+    rows: u32,
+    middle: u32,
+    cols: u32,
+    count: u32,
+)
+    requires row { rows ≤ 40 }
+    requires mid { middle ≤ 40 }
+    requires col { cols ≤ 40 }
+    requires some_row { 0 < rows }
+    requires some_mid { 0 < middle }
+    requires some_col { 0 < cols }
+    ensures keeps { Keeps (C.worker crew.old) (C.worker crew.new) }
+    ensures plain_keeps { Keeps (P.worker plain.old) (P.worker plain.new) }
+{
+    let left = Shape { rows, cols: middle };
+    let right = Shape { rows: middle, cols };
+    let r = plain_of(rt, crew, left, count, 3);
+    let s = plain_of(rt, crew, right, count, 4);
+    let p = plain_of(rt, plain, left, count, 3);
+    let q = plain_of(rt, plain, right, count, 4);
+    let first = Twin { crew: r, plain: p };
+    product_agrees(rt, crew, plain, first, Twin { crew: s, plain: q });
+}
+
+/// Asserts that the rectangle of the sizes is the root of the full relation, and that the relation of that root is it.
+fn full_is_a_rectangle<Q: Quads>(rt: &impl Abort, quads: &mut Q, shape: Shape)
+    requires row { shape.rows ≤ size_limit }
+    requires col { shape.cols ≤ size_limit }
+    ensures keeps { Keeps (Q.worker quads.old) (Q.worker quads.new) }
+{
+    let full = given(rt, quads.full(shape));
+    let root = quads.root(full);
+    let Ok(rect) = quads.rect(root.height, shape.rows, shape.cols) else {
+        panic!(rt; "refused")
+    };
+    assert_eq!(rt; rect, root);
+    assert_eq!(rt; quads.rel(shape, rect), full);
+}
+
+/// Asserts that a quad is the corner of its quarters, and each block down its north-west quarters that of its bits.
+fn goes_by_quarters<Q: Quads>(rt: &impl Abort, quads: &mut Q, q: Quad)
+    requires stands { HasQuad (Q.worker quads.old) q }
+    ensures keeps { Keeps (Q.worker quads.old) (Q.worker quads.new) }
+{
+    let bottom = quads.bottom();
+    if q.height == bottom {
+        let bits = quads.bits(q);
+        let Ok(block) = quads.block(bits) else {
+            panic!(rt; "refused")
+        };
+        assert_eq!(rt; block, q);
+    } else {
+        let (nw, ne, sw, se) = quads.quarters(q);
+        let Ok(corner) = quads.corner(nw, ne, sw, se) else {
+            panic!(rt; "refused")
+        };
+        assert_eq!(rt; corner, q);
+        goes_by_quarters(rt, quads, nw);
+        goes_by_quarters(rt, quads, ne);
+        goes_by_quarters(rt, quads, sw);
+        goes_by_quarters(rt, quads, se);
+    }
+}
+
+#[test]
+fn a_crew_answers_as_plain_relations_on_all_relations_up_to_2_by_2(rt: HostRuntime) {
+    let (table, seat) = table(&rt, rt.alloc());
+    let mut crew = Crew::new(&table, seat, 1, &OpenGate);
+    let mut plain = Plain::new(rt.alloc());
+    'shapes: for (rows, cols, count) in [
+        (0, 0, 1),
+        (0, 2, 1),
+        (2, 0, 1),
+        (1, 1, 2),
+        (1, 2, 4),
+        (2, 1, 4),
+        (2, 2, 16),
+    ] {
+        'lefts: for left in 0..count {
+            'rights: for right in 0..count {
+                let shape = Shape { rows, cols };
+                numbers_agree(&rt, &mut crew, &mut plain, shape, left, right);
+            }
+        }
+    }
+}
+
+#[test]
+fn a_crew_answers_as_plain_relations_on_pseudo_random_ones(rt: HostRuntime) {
+    let (table, seat) = table(&rt, rt.alloc());
+    let mut crew = Crew::new(&table, seat, 8, &OpenGate);
+    let mut plain = Plain::new(rt.alloc());
+    'shapes: for (rows, cols) in [(40, 40), (1, 40), (40, 1), (17, 33), (3, 40), (9, 8)] {
+        random_agree(&rt, &mut crew, &mut plain, Shape { rows, cols }, 60);
+    }
+    'products: for (rows, middle, cols) in [(3, 3, 40), (40, 3, 3), (3, 40, 3), (40, 17, 9)] {
+        random_product_agrees(&rt, &mut crew, &mut plain, rows, middle, cols, 60);
+    }
+}
+
+/// Works with a crew on the seat of a table, and gives the seat back.
+fn worked(rt: &impl Abort, table: &PairTable, seat: Seat) -> Seat
+    requires of { IsOf seat table.now }
+    ensures of { IsOf result table.now }
+{
+    let mut crew = Crew::new(table, seat, 1, &OpenGate);
+    let shape = Shape { rows: 40, cols: 33 };
+    full_is_a_rectangle(rt, &mut crew, shape);
+    let r = plain_of(rt, &mut crew, shape, 90, 5);
+    let root = crew.root(r);
+    goes_by_quarters(rt, &mut crew, root);
+    crew.into_seat()
+}
+
+#[test]
+fn a_crew_takes_quads_apart_and_puts_them_together(rt: HostRuntime) {
+    let (table, seat) = table(&rt, rt.alloc());
+    let seat = worked(&rt, &table, seat);
+    let _ = worked(&rt, &table, seat);
+}

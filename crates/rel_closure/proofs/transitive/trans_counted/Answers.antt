@@ -1,0 +1,166 @@
+use Rattle.std.proofs.Common.{◌≡◌, ◌<◌, ◌≤◌, ◌+◌, ◌-◌, ◌*◌, ◌^◌, ◌∙◌, ℕ, sym, ap, subst, arith}
+use Rattle.rel_model.specs.Algebra.{HasType}
+use Rattle.rel_model.specs.Worker.{set_of, height_of}
+use Rattle.rel_model.proofs.Workers.{keeps_itself, keeps_trans}
+use Rattle.rel_model.proofs.Rooms.{operator_room-most, product_room-most}
+use Rattle.rel_closure.proofs.Closing.{first_given, squared_given, still_given, enough_given, as_high, round_room, rounds_room, fewer_rounds, next_power}
+use Rattle.std.proofs.Math.Nat.{one-le-pow}
+use Rattle.rel_closure.proofs.transitive.trans_counted.Goals as goal
+
+pub squares-init : goal.squares-init
+squares-init g c =
+    let laws = g.met.C.Core in
+    let o = c.args.core.now in
+    let t : HasType c.args.r.rows c.args.r.rows (set_of (g.C.Core.worker o) c.args.r) = record { valid = laws.valid o c.args.r c.requires.standing; row_size = laws.row_size o c.args.r c.requires.standing; col_size = laws.col_size o c.args.r c.requires.standing ∙ sym c.requires.square } in
+    record {
+      gives = first_given (g.C.Core.worker o) c.args.r t c.requires.standing;
+      keeps = keeps_itself (g.C.Core.worker o);
+      rises = omega arith;
+      power = ap (λ (x : ℕ). 2 ^ x) (let e : c.args.steps.now - c.args.steps.now ≡ 0 = omega arith in e);
+      rounds = omega arith;
+      digits = omega arith;
+      room = omega arith;
+    }
+
+pub returns-in_err-square-clause-room : goal.returns-in_err-square-clause-room
+returns-in_err-square-clause-room g c =
+    let n : ℕ = c.args.r.rows in
+    let h : ℕ = height_of n in
+    let d : ℕ = c.squares.steps - c.args.steps.now in
+    let i = c.squares.invariant in
+    let before = i.room in
+    let power = i.power in
+    let under = c.squares-test.true in
+    let fewer = fewer_rounds d n (g.met.C.Core.row_limit c.args.core.now c.args.r c.requires.standing) (omega (arith, power, under)) in
+    let rooms = rounds_room (d + 1) n fewer in
+    let wr = as_high c.squares.walks.rows n h i.gives.row_size (omega arith) in
+    let wc = as_high c.squares.walks.cols n h (i.gives.col_size ∙ sym c.requires.square) (omega arith) in
+    let u1 = product_room-most c.squares.walks.rows c.squares.walks.cols c.squares.walks.cols h wr wc wc in
+    let u2 = operator_room-most c.squares.walks.rows c.squares.walks.cols h wr wc in
+    let a = c.in_err-square.ensures.room in
+    let r = round_room d h (g.C.Core.worker c.args.core.now).made (g.C.Core.worker c.squares.core).made (g.C.Core.worker c.compose.new.self).made (g.C.Core.worker c.compose.new.self).made before (omega (arith, a, u1)) (omega arith) in
+    omega (arith, r, rooms)
+
+pub returns-in_err-square-clause-digits : goal.returns-in_err-square-clause-digits
+returns-in_err-square-clause-digits g c =
+    let under = c.squares-test.true in
+    let p = next_power c.args.steps.now c.squares.steps c.squares.reach c.squares.invariant.rises c.squares.invariant.power in
+    let q = ap (λ (x : ℕ). 2 ^ (x - c.args.steps.now)) c.step.ensures ∙ p in
+    omega (arith, q, under)
+
+pub returns-in_err-more-clause-room : goal.returns-in_err-more-clause-room
+returns-in_err-more-clause-room g c =
+    let n : ℕ = c.args.r.rows in
+    let h : ℕ = height_of n in
+    let d : ℕ = c.squares.steps - c.args.steps.now in
+    let i = c.squares.invariant in
+    let before = i.room in
+    let power = i.power in
+    let under = c.squares-test.true in
+    let fewer = fewer_rounds d n (g.met.C.Core.row_limit c.args.core.now c.args.r c.requires.standing) (omega (arith, power, under)) in
+    let rooms = rounds_room (d + 1) n fewer in
+    let wr = as_high c.squares.walks.rows n h i.gives.row_size (omega arith) in
+    let wc = as_high c.squares.walks.cols n h (i.gives.col_size ∙ sym c.requires.square) (omega arith) in
+    let u1 = product_room-most c.squares.walks.rows c.squares.walks.cols c.squares.walks.cols h wr wc wc in
+    let u2 = operator_room-most c.squares.walks.rows c.squares.walks.cols h wr wc in
+    let a = c.in_ok-square.ensures.room in
+    let b = c.in_err-more.ensures.room in
+    let r = round_room d h (g.C.Core.worker c.args.core.now).made (g.C.Core.worker c.squares.core).made (g.C.Core.worker c.compose.new.self).made (g.C.Core.worker c.union.new.self).made before (omega (arith, a, u1)) (omega (arith, b, u2)) in
+    omega (arith, r, rooms)
+
+pub returns-in_err-more-clause-digits : goal.returns-in_err-more-clause-digits
+returns-in_err-more-clause-digits g c =
+    let under = c.squares-test.true in
+    let p = next_power c.args.steps.now c.squares.steps c.squares.reach c.squares.invariant.rises c.squares.invariant.power in
+    let q = ap (λ (x : ℕ). 2 ^ (x - c.args.steps.now)) c.step.ensures ∙ p in
+    omega (arith, q, under)
+
+pub returns-then-same-clause-room : goal.returns-then-same-clause-room
+returns-then-same-clause-room g c =
+    let n : ℕ = c.args.r.rows in
+    let h : ℕ = height_of n in
+    let d : ℕ = c.squares.steps - c.args.steps.now in
+    let i = c.squares.invariant in
+    let before = i.room in
+    let power = i.power in
+    let under = c.squares-test.true in
+    let fewer = fewer_rounds d n (g.met.C.Core.row_limit c.args.core.now c.args.r c.requires.standing) (omega (arith, power, under)) in
+    let rooms = rounds_room (d + 1) n fewer in
+    let wr = as_high c.squares.walks.rows n h i.gives.row_size (omega arith) in
+    let wc = as_high c.squares.walks.cols n h (i.gives.col_size ∙ sym c.requires.square) (omega arith) in
+    let u1 = product_room-most c.squares.walks.rows c.squares.walks.cols c.squares.walks.cols h wr wc wc in
+    let u2 = operator_room-most c.squares.walks.rows c.squares.walks.cols h wr wc in
+    let a = c.in_ok-square.ensures.room in
+    let b = c.in_ok-more.ensures.room in
+    let r = round_room d h (g.C.Core.worker c.args.core.now).made (g.C.Core.worker c.squares.core).made (g.C.Core.worker c.compose.new.self).made (g.C.Core.worker c.union.new.self).made before (omega (arith, a, u1)) (omega (arith, b, u2)) in
+    omega (arith, r, rooms)
+
+pub returns-then-same-clause-digits : goal.returns-then-same-clause-digits
+returns-then-same-clause-digits g c =
+    let under = c.squares-test.true in
+    let p = next_power c.args.steps.now c.squares.steps c.squares.reach c.squares.invariant.rises c.squares.invariant.power in
+    let q = ap (λ (x : ℕ). 2 ^ (x - c.args.steps.now)) c.step.ensures ∙ p in
+    omega (arith, q, under)
+
+pub returns-then-same-clause-value : goal.returns-then-same-clause-value
+returns-then-same-clause-value g c =
+    let laws = g.met.C.Core in
+    let o = c.args.core.now in
+    let t : HasType c.args.r.rows c.args.r.rows (set_of (g.C.Core.worker o) c.args.r) = record { valid = laws.valid o c.args.r c.requires.standing; row_size = laws.row_size o c.args.r c.requires.standing; col_size = laws.col_size o c.args.r c.requires.standing ∙ sym c.requires.square } in
+    let some : 0 < c.squares.reach = (let z = one-le-pow (c.squares.steps - c.args.steps.now) 2 (omega arith) in let y = c.squares.invariant.power in omega (arith, z, y)) in
+    let more = squared_given (g.C.Core.worker c.squares.core) (g.C.Core.worker c.compose.new.self) (g.C.Core.worker c.union.new.self) c.squares.reach (set_of (g.C.Core.worker o) c.args.r) c.args.r c.squares.walks c.in_ok-square.square c.in_ok-more.more
+    t some c.squares.invariant.gives c.in_ok-square.ensures.keeps c.in_ok-square.ensures.value c.in_ok-more.ensures.value in
+    still_given (g.C.Core.worker c.squares.core) (g.C.Core.worker c.compose.new.self) (g.C.Core.worker c.union.new.self) c.squares.reach (set_of (g.C.Core.worker o) c.args.r) c.args.r c.squares.walks c.in_ok-more.more
+    t some c.squares.invariant.gives c.in_ok-square.ensures.keeps c.in_ok-more.ensures.keeps more (c.same.ensures.0 c.if-same.true)
+
+pub squares-preserved : goal.squares-preserved
+squares-preserved g c =
+    let laws = g.met.C.Core in
+    let o = c.args.core.now in
+    let t : HasType c.args.r.rows c.args.r.rows (set_of (g.C.Core.worker o) c.args.r) = record { valid = laws.valid o c.args.r c.requires.standing; row_size = laws.row_size o c.args.r c.requires.standing; col_size = laws.col_size o c.args.r c.requires.standing ∙ sym c.requires.square } in
+    let some : 0 < c.squares.reach = (let z = one-le-pow (c.squares.steps - c.args.steps.now) 2 (omega arith) in let y = c.squares.invariant.power in omega (arith, z, y)) in
+    let more = squared_given (g.C.Core.worker c.squares.core) (g.C.Core.worker c.compose.new.self) (g.C.Core.worker c.union.new.self) c.squares.reach (set_of (g.C.Core.worker o) c.args.r) c.args.r c.squares.walks c.in_ok-square.square c.in_ok-more.more
+    t some c.squares.invariant.gives c.in_ok-square.ensures.keeps c.in_ok-square.ensures.value c.in_ok-more.ensures.value in
+    let n : ℕ = c.args.r.rows in
+    let h : ℕ = height_of n in
+    let d : ℕ = c.squares.steps - c.args.steps.now in
+    let i = c.squares.invariant in
+    let before = i.room in
+    let power = i.power in
+    let under = c.squares-test.true in
+    let fewer = fewer_rounds d n (g.met.C.Core.row_limit c.args.core.now c.args.r c.requires.standing) (omega (arith, power, under)) in
+    let rooms = rounds_room (d + 1) n fewer in
+    let wr = as_high c.squares.walks.rows n h i.gives.row_size (omega arith) in
+    let wc = as_high c.squares.walks.cols n h (i.gives.col_size ∙ sym c.requires.square) (omega arith) in
+    let u1 = product_room-most c.squares.walks.rows c.squares.walks.cols c.squares.walks.cols h wr wc wc in
+    let u2 = operator_room-most c.squares.walks.rows c.squares.walks.cols h wr wc in
+    let a = c.in_ok-square.ensures.room in
+    let b = c.in_ok-more.ensures.room in
+    let r = round_room d h (g.C.Core.worker c.args.core.now).made (g.C.Core.worker c.squares.core).made (g.C.Core.worker c.compose.new.self).made (g.C.Core.worker c.union.new.self).made before (omega (arith, a, u1)) (omega (arith, b, u2)) in
+    let p = next_power c.args.steps.now c.squares.steps c.squares.reach i.rises power in
+    let rises = i.rises in
+    let one = c.step.ensures in
+    let e : c.step.new.self - c.args.steps.now ≡ d + 1 = omega (arith, rises, one) in
+    record {
+      gives = more;
+      keeps = keeps_trans (g.C.Core.worker o) (g.C.Core.worker c.squares.core) (g.C.Core.worker c.union.new.self) i.keeps (keeps_trans (g.C.Core.worker c.squares.core) (g.C.Core.worker c.compose.new.self) (g.C.Core.worker c.union.new.self) c.in_ok-square.ensures.keeps c.in_ok-more.ensures.keeps);
+      rises = omega (arith, rises, one);
+      power = ap (λ (x : ℕ). 2 ^ (x - c.args.steps.now)) c.step.ensures ∙ p;
+      rounds = omega (arith, e, fewer);
+      digits = omega (arith, under);
+      room = subst (λ (x : ℕ). (g.C.Core.worker c.union.new.self).made ≤ (g.C.Core.worker c.args.core.now).made + x * (20 * 8 ^ h)) (sym e) r;
+    }
+
+pub returns-clause-value : goal.returns-clause-value
+returns-clause-value g c =
+    let laws = g.met.C.Core in
+    let o = c.args.core.now in
+    let t : HasType c.args.r.rows c.args.r.rows (set_of (g.C.Core.worker o) c.args.r) = record { valid = laws.valid o c.args.r c.requires.standing; row_size = laws.row_size o c.args.r c.requires.standing; col_size = laws.col_size o c.args.r c.requires.standing ∙ sym c.requires.square } in
+    let over = c.squares-test.false in
+    enough_given (g.C.Core.worker c.squares.core) c.squares.reach (set_of (g.C.Core.worker o) c.args.r) c.args.r c.squares.walks t (omega (arith, over)) c.squares.invariant.gives
+
+pub returns-clause-room : goal.returns-clause-room
+returns-clause-room g c =
+    let before = c.squares.invariant.room in
+    let rooms = rounds_room (c.squares.steps - c.args.steps.now) c.args.r.rows c.squares.invariant.rounds in
+    omega (arith, before, rooms)

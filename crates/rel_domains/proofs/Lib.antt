@@ -1,0 +1,13 @@
+pub mod Powers
+pub mod Places
+pub mod Cutting
+pub mod Leaves
+pub mod Quartering
+pub mod Listing
+pub mod Windows
+pub mod Ruled
+pub mod Named
+pub mod Pairwise
+pub mod Ranking
+pub mod Halves
+pub mod Functions

@@ -1,0 +1,45 @@
+//! Quads of cells by their places, built bottom up.
+ghost use Rattle.std.specs.Prelude.{◌≡◌, ◌<◌, ◌≤◌, ◌+◌, ◌-◌, ◌*◌, ◌^◌, IfOk};
+ghost use Rattle.std.specs.List.Sorted.{IsNonDecreasing};
+ghost use Rattle.rel_model.specs.Trees.{top_height};
+ghost use Rattle.rel_model.specs.Worker.{GivesQuad, Keeps, MakesAtMost, HasCause};
+ghost use Rattle.rel_domains.specs.Curve.{AreFrom, cells_at};
+
+use crate::cut::cut_at;
+use crate::heights::cells_of;
+use crate::leaf::leaf_word;
+use rel_model::core_trait::Core;
+use rel_model::quads_trait::Quads;
+use rel_model::{Lack, Quad};
+
+/// The quad of the cells whose places, counted from a base on, are listed in order, so many quarterings above the leaves.
+#[tactic(auto, unfolding(rel_model::specs::Trees::top_height), using(crate::proofs::Places::cells_step, crate::proofs::Places::power_step, crate::proofs::Places::some_cells))]
+pub fn build<Q: Quads>(q: &mut Q, depth: u8, base: u64, places: &[u64]) -> Result<Quad, Lack>
+    requires high { Q.least + depth ≤ top_height }
+    requires base { base + 4 ^ (Q.least + depth) ≤ 4 ^ top_height }
+    requires order { IsNonDecreasing places.now }
+    requires from { AreFrom base (base + 4 ^ (Q.least + depth)) places.now }
+    ensures value { IfOk result (GivesQuad (Q.worker q.new) (Q.least + depth) (cells_at Q.least depth base places.now)) }
+    ensures keeps { Keeps (Q.worker q.old) (Q.worker q.new) }
+    ensures room { MakesAtMost (2 * 4 ^ depth - 1) (Q.worker q.old) (Q.worker q.new) }
+    ensures cause { HasCause Q.lean (Q.worker q.old) (Q.worker q.new) result }
+{
+    let height = q.bottom() + depth;
+    if places.is_empty() {
+        return Ok(Quad { height, name: 0 });
+    }
+    if depth == 0 {
+        let leaf = q.block(leaf_word(height, base, places))?;
+        return Ok(leaf);
+    }
+    let part = cells_of(height - 1);
+    let (north, south) = cut_at(places, base + 2 * part);
+    let (in_nw, in_ne) = cut_at(north, base + part);
+    let (in_sw, in_se) = cut_at(south, base + 3 * part);
+    let nw = build(q, depth - 1, base, in_nw)?;
+    let ne = build(q, depth - 1, base + part, in_ne)?;
+    let sw = build(q, depth - 1, base + 2 * part, in_sw)?;
+    let se = build(q, depth - 1, base + 3 * part, in_se)?;
+    let corner = q.corner(nw, ne, sw, se)?;
+    Ok(corner)
+}

@@ -1,0 +1,40 @@
+//! Relations from listed pairs.
+ghost use Rattle.std.specs.Prelude.{◌≡◌, ◌≤◌, ◌<◌, ℕ, length, IfOk, IsErrOf};
+ghost use Rattle.rel_model.specs.declared.Lack.TheVariants.{Full};
+ghost use Rattle.rel_model.specs.Relation.{relation_of, size_limit};
+ghost use Rattle.rel_model.specs.Worker.{Gives, Keeps, MakesAtMost, Rose, pairs_room};
+ghost use Rattle.rel_domains.specs.Listed.{IsWithin, is_among};
+
+use crate::build::build;
+use crate::curve::places_of;
+use crate::heights::depth_over;
+use rel_model::core_trait::Core;
+use rel_model::quads_trait::Quads;
+use rel_model::{Lack, Rel, Shape};
+use std::alloc::Global;
+
+/// `{p : p in pairs}`: the relation of listed pairs, in any order, repeats allowed. It sorts, so memory may run out whatever keeps the quads.
+#[tactic(auto, unfolding(rel_model::specs::Trees::top_height))]
+pub fn from_pairs<Q: Quads>(
+    alloc: Global,
+    q: &mut Q,
+    shape: Shape,
+    pairs: &[(u32, u32)],
+) -> Result<Rel, Lack>
+    requires row_limit { shape.rows ≤ size_limit }
+    requires col_limit { shape.cols ≤ size_limit }
+    requires within { IsWithin shape.rows shape.cols pairs.now }
+    ensures value { IfOk result (Gives (Q.worker q.new) shape.rows shape.cols (relation_of shape.rows shape.cols (is_among pairs.now))) }
+    ensures keeps { Keeps (Q.worker q.old) (Q.worker q.new) }
+    ensures room { MakesAtMost (pairs_room (length pairs.now) shape.rows shape.cols) (Q.worker q.old) (Q.worker q.new) }
+    ensures full { IsErrOf result Full → Rose (Q.worker q.old).misses (Q.worker q.new).misses }
+{
+    let least = q.bottom();
+    let depth = depth_over(least, shape.rows, shape.cols);
+    let mut places = places_of(alloc, least, depth, pairs)?;
+    places.sort_unstable();
+    match build(q, depth, 0, places.as_slice()) {
+        Ok(quad) => Ok(q.rel(shape, quad)),
+        Err(lack) => Err(lack),
+    }
+}

@@ -1,0 +1,92 @@
+-- How many nodes the value of an expression makes at most.
+-- 1. An operator of the language makes at most two of the algebra.
+-- 2. Along a chain, what was made and what its other links cost come to no more than the cost of the whole.
+use Rattle.std.proofs.Common.{◌≡◌, ◌<◌, ◌≤◌, ◌+◌, ◌*◌, ◌∙◌, ℕ, List, [], ◌∷◌, length, drop, get_or, Option, Some, None, refl, sym, ap, subst, arith}
+use Rattle.std.proofs.lemmas.List.{drop_more}
+use Rattle.rel_model.specs.declared.Rel.{Rel}
+use Rattle.rel_model.specs.declared.syntax.Place.{Place}
+use Rattle.rel_model.specs.declared.syntax.Op2.{Op2}
+use Rattle.rel_model.specs.declared.syntax.Op2.TheVariants.{Or, And, Times, Under, Over}
+use Rattle.rel_model.specs.declared.syntax.Link.{Link}
+use Rattle.rel_model.specs.declared.syntax.Expr.{Expr, Ref}
+use Rattle.rel_model.specs.Relation.{Relation}
+use Rattle.rel_model.specs.State.{State}
+use Rattle.rel_model.specs.Meaning.{first_of_both, missing, Shaped, shaped, value, result_of_both}
+use Rattle.rel_model.specs.Cost.{boolean_cost, cost, link_cost}
+use Rattle.rel_model.specs.Worker.{Worker, Stands, set_of, Gives, Keeps, operator_room}
+use Rattle.rel_model.proofs.Workers.{gives_set, keeps_set}
+use Rattle.relview.specs.Links.{missing_of_links, cost_of_links, IsBoolean}
+use Rattle.relview.specs.Values.{GivesValue}
+use Rattle.relview.proofs.Agreeing.{HasSizes}
+use Rattle.relview.proofs.Fitting.{given_stands, given_set}
+
+pub two_operators : (m n : ℕ) → boolean_cost m n ≡ operator_room m n + operator_room m n
+unfolding boolean_cost operator_room
+two_operators m n = omega arith
+
+-- ---- one operator
+-- an operand and an operator on it
+pub paid_one : (start mid last : Worker) (S : State) (e : Expr) (s : Shaped) (r : Rel) → HasSizes mid → GivesValue mid s (value S e) r → mid.made ≤ start.made + cost S e → last.made ≤ mid.made + boolean_cost r.rows r.cols
+    → last.made ≤ start.made + (cost S e + boolean_cost (value S e).rows (value S e).cols)
+paid_one start mid last S e s r laws g a b =
+    let stands = given_stands mid s (value S e) r g in
+    let set = given_set mid s (value S e) r g in
+    let m : r.rows ≡ (value S e).rows = sym (laws.rows r stands) ∙ ap (λ x. x.rows) set in
+    let n : r.cols ≡ (value S e).cols = sym (laws.cols r stands) ∙ ap (λ x. x.cols) set in
+    let same : boolean_cost r.rows r.cols ≡ boolean_cost (value S e).rows (value S e).cols = ap (λ k. boolean_cost k r.cols) m ∙ ap (boolean_cost (value S e).rows) n in
+    omega (arith, a, b, same)
+
+-- ---- known names
+pub known_first : (a b : Option (Place × List ℕ)) → first_of_both a b ≡ None → (a ≡ None) × (b ≡ None)
+known_first None b h = (refl, h)
+known_first (Some x) b h = absurd (let e : Some x ≡ None = h in cc)
+
+-- ---- chains
+link_is_boolean : (op : Op2) (r s : Relation) → IsBoolean op → link_cost op r s ≡ boolean_cost r.rows r.cols
+link_is_boolean Or r s b = refl
+link_is_boolean And r s b = refl
+link_is_boolean Times r s b = absurd b
+link_is_boolean Under r s b = absurd b
+link_is_boolean Over r s b = absurd b
+
+-- where a chain stands: the names of its other links are known, and what was made and what they cost is within the total
+pub record IsPaid (start now : Worker) (N S : State) (total : ℕ) (all : Rel) (ls : List Link) : Type 0 where
+  pub known : missing_of_links N ls ≡ None
+  pub room : now.made + cost_of_links S (set_of now all) ls ≤ start.made + total
+
+pub paid_first : (start now : Worker) (N S : State) (total : ℕ) (e : Expr) (s : Shaped) (all : Rel) (ls : List Link) → total ≡ cost S e + cost_of_links S (value S e) ls → GivesValue now s (value S e) all → now.made ≤ start.made + cost S e → missing_of_links N ls ≡ None → IsPaid start now N S total all ls
+paid_first start now N S total e s all ls t g m k = record { known = k; room = omega (arith, t, m, ap (λ v. cost_of_links S v ls) (given_set now s (value S e) all g)) }
+
+-- one link: its right operand, then its operator
+module _ (start now : Worker) (N S T : State) (total : ℕ) (all : Rel) (k : ℕ) (ls : List Link) (l : Link) (h : k < length ls) (is : l ≡ get_or ls k l) (same : T ≡ S) (paid : IsPaid start now N S total all (drop k ls)) where
+  cut : drop k ls ≡ l ∷ drop (k + 1) ls
+  cut = drop_more ls k l h ∙ ap (λ x. x ∷ drop (k + 1) ls) (sym is)
+
+  both_known : (missing N l.right ≡ None) × (missing_of_links N (drop (k + 1) ls) ≡ None)
+  both_known = known_first (missing N l.right) (missing_of_links N (drop (k + 1) ls)) (ap (missing_of_links N) (sym cut) ∙ paid.known)
+
+  pub known_right : missing N l.right ≡ None
+  known_right = both_known.0
+
+  left_cost : cost_of_links S (set_of now all) (drop k ls) ≡ cost S l.right + link_cost l.op (set_of now all) (value S l.right) + cost_of_links S (result_of_both l.op (set_of now all) (value S l.right)) (drop (k + 1) ls)
+  left_cost = ap (cost_of_links S (set_of now all)) cut
+
+  right_cost : cost T l.right ≡ cost S l.right
+  right_cost = ap (λ X. cost X l.right) same
+
+  pub paid_right : (next : Worker) → next.made ≤ now.made + cost T l.right → next.made ≤ start.made + total
+  paid_right next m = omega (arith, m, right_cost, left_cost, paid.room)
+
+  module _ (next last : Worker) (right joint : Rel) (boolean : IsBoolean l.op) (laws : HasSizes now) (stands : Stands now all) (m : next.made ≤ now.made + cost T l.right) (n : last.made ≤ next.made + boolean_cost all.rows all.cols) where
+    operator_cost : boolean_cost all.rows all.cols ≡ link_cost l.op (set_of now all) (value S l.right)
+    operator_cost = ap (λ x. boolean_cost x all.cols) (sym (laws.rows all stands)) ∙ ap (boolean_cost (set_of now all).rows) (sym (laws.cols all stands)) ∙ sym (link_is_boolean l.op (set_of now all) (value S l.right) boolean)
+
+    pub paid_applied : last.made ≤ start.made + total
+    paid_applied = omega (arith, m, n, operator_cost, right_cost, left_cost, paid.room)
+
+    pub paid_more : Keeps now next → GivesValue next (shaped T l.right) (value T l.right) right → Gives last all.rows all.cols (result_of_both l.op (set_of next all) (set_of next right)) joint → IsPaid start last N S total joint (drop (k + 1) ls)
+    paid_more kept g j =
+        let value_right : set_of next right ≡ value S l.right = given_set next _ _ right g ∙ ap (λ X. value X l.right) same in
+        let value_joint : set_of last joint ≡ result_of_both l.op (set_of now all) (value S l.right) =
+        gives_set last all.rows all.cols _ joint j ∙ ap (λ x. result_of_both l.op x (set_of next right)) (keeps_set now next all kept stands) ∙ ap (result_of_both l.op (set_of now all)) value_right in
+        record { known = both_known.1; room = omega (arith, m, n, operator_cost, right_cost, left_cost, paid.room, ap (λ v. cost_of_links S v (drop (k + 1) ls)) value_joint) }

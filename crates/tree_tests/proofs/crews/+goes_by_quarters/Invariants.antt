@@ -1,4 +1,0 @@
-use Rattle.tree_tests.proofs.crews.+goes_by_quarters.Given as goal
-
-abbrev pub decreases-goes_by_quarters : goal.decreases-goes_by_quarters
-decreases-goes_by_quarters g l = l.q.height
