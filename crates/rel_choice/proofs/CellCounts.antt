@@ -1,4 +1,7 @@
 -- The number of cells of a leaf is the number of ones of its word, and the number of pairs of a relation is that of the cells of its square.
+-- 1. The ones of a number are its bits that are 1, one after another, and so row by row.
+-- 2. The pairs of a relation are those of the grid that pass, row by row.
+-- 3. Rows and columns past the sizes have none, so any greater square has as many.
 use Rattle.std.proofs.Common.{◌≡◌, ◌<◌, ◌≤◌, ◌+◌, ◌*◌, ◌^◌, ◌/◌, ◌%◌, eqb, ltb, zero, suc, ℕ, Bool, true, cond, length, filter, map, refl, sym, ap, ◌∙◌, inl, inr, arith}
 use Rattle.std.specs.List.{flat_map, range_with_len}
 use Rattle.std.specs.Int.{bit_at}

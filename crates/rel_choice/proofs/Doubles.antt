@@ -1,5 +1,8 @@
--- Sets with at most one cell in each row, and sets that share no row, by quarters.
--- A test of all rows is turned into what it says of any two cells, and back.
+-- Sets with at most one cell in each row, and sets that share no row, by quarters (Schmidt and Ströhlein, for univalence).
+-- 1. A test of all rows is turned into what it says of any two cells, and back.
+-- 2. Two cells of one row of a square lie in one quarter, or in two that lie side by side: so no row has two cells where none of a quarter has, and the quarters side by side share no row.
+-- 3. Two squares share no row where none of the quarters of one shares a row with those of the other that lie in the same half.
+-- 4. Both are said of quads, over the calls that look at their quarters one after another.
 use Rattle.std.proofs.Common.{◌≡◌, ◌<◌, ◌≤◌, ◌+◌, ◌-◌, ◌^◌, ◌&&◌, ℕ, Bool, true, false, Option, Some, None, refl, sym, ap, ◌∙◌, inl, inr, arith}
 use Rattle.std.specs.Prelude.{is_some}
 use Rattle.std.proofs.lemmas.Bool.{cases_lt, cases_order, and_parts, and_from, false≢true, not-true, not_from_false}

@@ -1,4 +1,8 @@
 -- The least number that passes a test, by halves, and the least pair, by rows.
+-- 1. A row of a square has a cell where it has one in either of the two quarters of its half.
+-- 2. The least number of a range that passes is the least below the middle, or else the least from the middle on.
+-- 3. The least pair from a row on stands in the least row that has one, in its least column.
+-- 4. In an increasing list the first that passes a test is the least that does.
 use Rattle.std.proofs.Common.{◌≡◌, ◌<◌, ◌≤◌, ◌+◌, ◌-◌, ◌||◌, min, ℕ, Bool, true, false, List, [], ◌∷◌, filter, Option, Some, None, refl, sym, ap, subst, ◌∙◌, inl, inr, arith}
 use Rattle.std.proofs.lemmas.Bool.{cases_Bool, cases_lt, or_cases, or_right, false≢true, leb-true, le-leb}
 use Rattle.rel_model.specs.Relation.{Relation, IsRelation, IsIncreasing, before, has}

@@ -1,4 +1,7 @@
 -- The steps of a square by quarters, in a leaf, and as a relation.
+-- 1. The steps of a square are those of its north-west and its south-east quarter, and the one step between them, in the corner of the south-west.
+-- 2. In a leaf they are computed, cell by cell.
+-- 3. Cut to n they are the relation of the steps below n, and that relation composed with a vector moves its elements up by one.
 use Rattle.std.proofs.Common.{◌≡◌, ◌<◌, ◌≤◌, ◌+◌, ◌-◌, ◌&&◌, eqb, ltb, zero, suc, ℕ, Bool, true, false, refl, sym, ap, subst, ◌∙◌, inl, inr, arith}
 use Rattle.std.proofs.lemmas.Bool.{cases_lt, and_parts, and_from, and_left, ltb-true, lt-ltb, le-ltb, eqb-true, eq-eqb, false≢true, agree_below, agree_below_at}
 use Rattle.rel_model.specs.Relation.{Relation, has, relation_of}

@@ -1,4 +1,7 @@
 -- The steps as quads and relations that a worker gives, over the calls that make them.
+-- 1. Two corners make the steps of a height from those of the height below.
+-- 2. A square whose side is a power of 2 is of its own height, so its quad is that of a relation of its side, and back.
+-- 3. For n from 2 on, what the steps, the two operators and the composition may place fits in the room of the call.
 use Rattle.std.proofs.Common.{◌≡◌, ◌≤◌, ◌+◌, ◌-◌, ◌*◌, ◌^◌, pow-add, max, zero, suc, ℕ, sym, ap, ◌∙◌, inl, arith, Some}
 use Rattle.std.proofs.Math.Nat.{pow-suc, one-le-pow, pow-le-pow_left, pow-le-pow_right, mul-le-mul_right}
 use Rattle.rel_model.specs.declared.Rel.{Rel}

@@ -1,4 +1,7 @@
 -- Sums and counts over the numbers below n, by halves, and sets of cells by quarters.
+-- 1. A cell of each quarter is a cell of the square.
+-- 2. A count and a sum below m + n are those below m and those of the next n.
+-- 3. So the cells of a square are counted row by row, and each row half by half.
 use Rattle.std.proofs.Common.{◌≡◌, ◌<◌, ◌≤◌, ◌+◌, ◌-◌, ◌*◌, ltb, zero, suc, ℕ, Bool, true, false, cond, refl, sym, ap, ◌∙◌, inl, inr, arith}
 use Rattle.std.proofs.lemmas.Bool.{cases_Bool, lt-ltb, le-ltb}
 use Rattle.rel_model.specs.Cells.{Cells, no_cells}

@@ -1,4 +1,7 @@
 -- Which relations the first element, the choice of a pair, and the rows and columns that have a pair are.
+-- 1. A composition with a full vector has the rows that have a pair; of the transposition it has the columns.
+-- 2. The first pair of the list of a relation is the one in whose row none stands before it, of the first row that has one.
+-- 3. In a vector that is its least element.
 use Rattle.std.proofs.Common.{◌≡◌, ◌<◌, ◌⊎◌, ◌&&◌, ◌||◌, not, eqb, ℕ, true, false, List, [], ◌∷◌, Some, None, refl, sym, ap, subst, ◌∙◌, inl, inr, arith}
 use Rattle.std.proofs.lemmas.Bool.{and_parts, and_from, or_cases, eqb-true, eq-eqb, false≢true, not_from_false, not-true}
 use Rattle.rel_model.specs.Relation.{Relation, IsRelation, IsIncreasing, before, has, relation_of}
