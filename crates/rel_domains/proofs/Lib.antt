@@ -4,3 +4,10 @@ pub mod Cutting
 pub mod Leaves
 pub mod Quartering
 pub mod Listing
+pub mod Windows
+pub mod Ruled
+pub mod Named
+pub mod Pairwise
+pub mod Ranking
+pub mod Halves
+pub mod Functions

@@ -98,7 +98,7 @@ module _ (least d m n : ℕ) (ps : List (ℕ × ℕ)) (xs ys : List ℕ) (rows :
       col_in j b = let s : n ≤ 2 ^ (least + d) = subst (λ h. n ≤ 2 ^ h) (sym high) (height_over-cols least m n cols) in omega arith
 
 -- ---- rooms
-power_mono : (a b : ℕ) → a ≤ b → 4 ^ a ≤ 4 ^ b
+pub power_mono : (a b : ℕ) → a ≤ b → 4 ^ a ≤ 4 ^ b
 power_mono a b l = let p : 2 ^ a ≤ 2 ^ b = pow_mono {i = a} {j = b} l in let q = mul-le (2 ^ a) (2 ^ a) (2 ^ b) (2 ^ b) p p in omega (arith, mul-pow 2 2 a, mul-pow 2 2 b, q)
 
 pub pairs_room-covers : (least d m n k : ℕ) → least + d ≡ height_over least m n → 2 * 4 ^ d - 1 ≤ pairs_room k m n

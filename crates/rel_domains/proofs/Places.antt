@@ -33,10 +33,10 @@ in_quarter : (least d i j a b x y : ℕ) → half (2 ^ (least + d)) i ≡ a → 
 in_quarter least d i j a b x y p q r s = rw (p, q, r, s) refl
 
 -- ---- bounds
-squared : (least : ℕ) → 4 ^ least ≡ 2 ^ least * 2 ^ least
+pub squared : (least : ℕ) → 4 ^ least ≡ 2 ^ least * 2 ^ least
 squared least = mul-pow 2 2 least
 
-row_below : (m i j : ℕ) → i < m → j < m → m * i + j < m * m
+pub row_below : (m i j : ℕ) → i < m → j < m → m * i + j < m * m
 row_below m i j a b = let p : m * (i + 1) ≤ m * m = mul-le m (i + 1) m m (omega arith) (omega arith) in omega arith
 
 -- the four quarters of a square, and what holds in each
@@ -83,7 +83,7 @@ place_lt least (suc d) i j a b =
     ]
 
 -- ---- one place, one cell
-row_alone : (m i j x y : ℕ) → j < m → y < m → m * i + j ≡ m * x + y → (i ≡ x) × (j ≡ y)
+pub row_alone : (m i j x y : ℕ) → j < m → y < m → m * i + j ≡ m * x + y → (i ≡ x) × (j ≡ y)
 row_alone m i j x y a b e = elim (cases_lt i x) [
   | inl l ↦ absurd (let p : m * (i + 1) ≤ m * x = mul-le m (i + 1) m x (omega arith) (omega arith) in omega arith)
   | inr l ↦ elim (cases_lt x i) [

@@ -1,2 +1,6 @@
 pub mod Listed
 pub mod Curve
+pub mod Rules
+pub mod Ranks
+pub mod Refusals
+pub mod Laws

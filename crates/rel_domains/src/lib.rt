@@ -1,11 +1,27 @@
-//! Relations made of listed pairs, over whatever keeps quadrant trees.
+//! Relations made of listed pairs, and those of products, sums and power sets, over whatever keeps quadrant trees.
 #![tactic(auto)]
 
 mod build;
 mod curve;
 mod cut;
+mod element;
 mod heights;
+pub mod laws;
 mod leaf;
+mod limit;
+mod missing;
+mod pairing;
 mod pairs;
+mod power_set;
+mod products;
+mod rule;
+mod square;
+mod sums;
+mod vector;
 
+pub use pairing::fork;
 pub use pairs::from_pairs;
+pub use power_set::epsi;
+pub use products::{first, second};
+pub use sums::{inl, inr};
+pub use vector::inj;

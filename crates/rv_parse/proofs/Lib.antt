@@ -5,3 +5,14 @@ pub mod Linking
 pub mod Reading
 pub mod Laws
 pub mod Scripts
+pub mod Lexemes
+pub mod Leaves
+pub mod Exprs
+pub mod Optional
+pub mod Stmts
+pub mod RowSteps
+pub mod Defs
+pub mod Fitting
+pub mod Scripting
+pub mod Agreeing
+pub mod Parsing

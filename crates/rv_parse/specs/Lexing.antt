@@ -1,11 +1,12 @@
 -- Classes of bytes, and what the splitting of a text into tokens answers.
 use Rattle.std.specs.Prelude.{◌≡◌, ◌==◌, ◌^◌, not, ℕ, Bool, List, cond, nat_le, nat_lt, take, Some, None, Option, option_map, ◌++◌, Result, Ok, Err}
 use Rattle.rel_model.specs.Tokens.{is_word_byte, is_digit, is_file_byte, run_length, value_from, word_kind}
+use Rattle.rel_model.specs.Lexed.{is_comment_byte}
 use Rattle.rel_model.specs.declared.token.Kind.{Kind}
 use Rattle.rel_model.specs.declared.token.Kind.TheVariants.{Keyword as KEYWORD, Base as BASE, Number}
 use Rattle.rel_model.specs.declared.token.Token.{Token}
 use Rattle.rv_parse.specs.declared.bytes.Class.{Class}
-use Rattle.rv_parse.specs.declared.bytes.Class.TheVariants.{Word, Digit, Comment, File}
+use Rattle.rv_parse.specs.declared.bytes.Class.TheVariants.{Word, Digit, Comment, File, Remark}
 use Rattle.rv_parse.specs.declared.words.Reserved.{Reserved}
 use Rattle.rv_parse.specs.declared.words.Reserved.TheVariants.{Keyword, Base}
 use Rattle.rv_parse.specs.declared.refusals.Refusal.{Refusal}
@@ -17,6 +18,7 @@ passes Word b = is_word_byte b
 passes Digit b = is_digit b
 passes Comment b = not (b == 10)
 passes File b = is_file_byte b
+passes Remark b = is_comment_byte b
 
 -- the token that a reserved word is
 abbrev pub kind_of : Reserved → Kind

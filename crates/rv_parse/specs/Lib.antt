@@ -3,3 +3,10 @@ pub mod Rest
 pub mod Answers
 pub mod Expressions
 pub mod Faults
+pub mod Halts
+pub mod LexerAnswers
+pub mod Readers
+pub mod Got
+pub mod Openings
+pub mod Items
+pub mod Stops

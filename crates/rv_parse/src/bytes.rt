@@ -15,6 +15,8 @@ pub enum Class {
     Comment,
     /// What may stand in a file text.
     File,
+    /// What may stand in a comment.
+    Remark,
 }
 
 /// `A` to `Z` and `a` to `z`.
@@ -39,7 +41,7 @@ pub fn is_blank(b: u8) -> bool
 }
 
 /// A blank or a printing byte.
-fn is_allowed(b: u8) -> bool
+pub fn is_allowed(b: u8) -> bool
     ensures { result ≡ is_allowed b }
 {
     b == 9 || (b == 10 || (b == 13 || (32 <= b && b <= 126)))
@@ -61,6 +63,7 @@ fn passes(class: Class, b: u8) -> bool
         Class::Digit => is_digit(b),
         Class::Comment => b != 10,
         Class::File => 32 <= b && (b <= 126 && !(b == 34)),
+        Class::Remark => is_allowed(b) && !(b == 10),
     }
 }
 

@@ -40,7 +40,7 @@ fn next_value(value: u64, digit: u64) -> Option<u64>
 
 /// The place behind a byte.
 #[tactic(auto, unfolding(rel_model::specs::Tokens::behind))]
-fn step(at: Place, b: u8) -> Place
+pub fn step(at: Place, b: u8) -> Place
     requires line { at.line + 1 < 2 ^ 32 }
     requires column { at.column + 1 < 2 ^ 32 }
     ensures place { result ≡ behind b at }
@@ -61,7 +61,7 @@ fn step(at: Place, b: u8) -> Place
 }
 
 /// The place behind so many bytes.
-fn advance(at: Place, bytes: &[u8], n: usize) -> Place
+pub fn advance(at: Place, bytes: &[u8], n: usize) -> Place
     requires within { n ≤ length bytes.now }
     requires line { at.line + n < 2 ^ 32 }
     requires column { at.column + n < 2 ^ 32 }
@@ -159,7 +159,7 @@ fn begins_with_quote(bytes: &[u8]) -> bool
 }
 
 /// The token that begins the bytes, and how many it has.
-fn kind_at(alloc: Global, bytes: &[u8]) -> Result<(Kind, usize), Refusal>
+pub fn kind_at(alloc: Global, bytes: &[u8]) -> Result<(Kind, usize), Refusal>
     requires { 0 < length bytes.now }
     ensures within { IfOk result (λ x. (1 ≤ x.1) × (x.1 ≤ length bytes.now)) }
     ensures kind { Finds (kind_at bytes.now) result }

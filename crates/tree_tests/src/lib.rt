@@ -1,5 +1,13 @@
-//! Tests of the operators on trees, beside plain relations.
+//! Tests of the operators on trees, beside plain relations, and of those over any worker.
 #![tactic(auto)]
 
+#[cfg(test)]
+mod counting;
+#[cfg(test)]
+mod derived;
+#[cfg(test)]
+mod making;
+#[cfg(test)]
+mod products;
 #[cfg(test)]
 mod tests;

@@ -11,128 +11,16 @@ ghost use Rattle.rel_model.specs.Views.{IsOf};
 ghost use Rattle.memo_laws.specs.Looking.{operator_of};
 ghost use Rattle.tree_tests.specs.Staying.{Stays};
 
+use crate::making::{has_the_cells, numbered, plain_of, quad_of, table, with_cell};
 use memo_laws::Op;
-use pair_table::{PairTable, Seat};
 use quad_nodes::{Nodes, side_of_height};
 use rel_boole::{diff_quads, inter_quads, union_quads};
-use rel_compose::transpose_quad;
+use rel_compose::{compose_quads, transpose_quad};
 use rel_model::core_trait::Core;
 use rel_model::{Quad, Rel, Shape};
 use rel_plain::Plain;
 use std::alloc::Global;
 use std::process::Abort;
-
-/// A table of 2^18 node words, and its first seat.
-fn table(rt: &impl Abort, alloc: Global) -> (PairTable, Seat)
-    ensures { IsOf result.1 result.0 }
-{
-    match PairTable::make(alloc, 18, 1) {
-        Ok(made) => made,
-        Err(_) => panic!(rt; "no memory"),
-    }
-}
-
-/// The quad of one cell: a rectangle less the rectangles above and on the left of its last cell.
-fn cell(rt: &impl Abort, nodes: &mut Nodes, height: u8, i: u32, j: u32) -> Quad
-    requires low { bottom_height ≤ height }
-    requires high { height ≤ top_height }
-    requires row { i < side_of height }
-    requires col { j < side_of height }
-    ensures stands { QuadStands nodes.new result }
-    ensures height { result.height ≡ height }
-    ensures stays { Stays nodes.old nodes.new }
-{
-    assert!(rt; i < 1000 && j < 1000);
-    let Ok(whole) = nodes.rect(height, i + 1, j + 1) else {
-        panic!(rt; "the table is full")
-    };
-    let Ok(above) = nodes.rect(height, i, j + 1) else {
-        panic!(rt; "the table is full")
-    };
-    let Ok(row) = diff_quads(nodes, whole, above) else {
-        panic!(rt; "the table is full")
-    };
-    let Ok(left) = nodes.rect(height, i + 1, j) else {
-        panic!(rt; "the table is full")
-    };
-    match diff_quads(nodes, row, left) {
-        Ok(one) => one,
-        Err(_) => panic!(rt; "the table is full"),
-    }
-}
-
-/// A quad with one cell more.
-fn with_cell(rt: &impl Abort, nodes: &mut Nodes, q: Quad, i: u32, j: u32) -> Quad
-    requires stands { QuadStands nodes.old q }
-    requires row { i < side_of q.height }
-    requires col { j < side_of q.height }
-    ensures stands { QuadStands nodes.new result }
-    ensures height { result.height ≡ q.height }
-    ensures stays { Stays nodes.old nodes.new }
-{
-    let one = cell(rt, nodes, q.height, i, j);
-    match union_quads(nodes, q, one) {
-        Ok(more) => more,
-        Err(_) => panic!(rt; "the table is full"),
-    }
-}
-
-/// The quad of a plain relation, made cell by cell.
-fn quad_of<P: Core>(rt: &impl Abort, nodes: &mut Nodes, plain: &mut P, r: Rel, height: u8) -> Quad
-    requires low { bottom_height ≤ height }
-    requires high { height ≤ top_height }
-    requires standing { Stands (P.worker plain.old) r }
-    ensures stands { QuadStands nodes.new result }
-    ensures height { result.height ≡ height }
-    ensures stays { Stays nodes.old nodes.new }
-    ensures keeps { Keeps (P.worker plain.old) (P.worker plain.new) }
-{
-    let side = side_of_height(height);
-    assert!(rt; r.rows <= side && r.cols <= side);
-    let Ok(mut q) = nodes.rect(height, 0, 0) else {
-        panic!(rt; "the table is full")
-    };
-    'rows: for i in 0..r.rows {
-        'cols: for j in 0..r.cols {
-            if plain.has(r, i, j) {
-                q = with_cell(rt, nodes, q, i, j);
-            }
-        }
-    }
-    q
-}
-
-/// A plain relation of some pseudo-random pairs.
-fn plain_of<P: Core>(rt: &impl Abort, plain: &mut P, shape: Shape, count: u32, seed: u64) -> Rel
-    requires row { shape.rows ≤ 40 }
-    requires col { shape.cols ≤ 40 }
-    requires some_row { 0 < shape.rows }
-    requires some_col { 0 < shape.cols }
-    ensures standing { Stands (P.worker plain.new) result }
-    ensures rows { result.rows ≡ shape.rows }
-    ensures cols { result.cols ≡ shape.cols }
-    ensures keeps { Keeps (P.worker plain.old) (P.worker plain.new) }
-{
-    let Ok(mut r) = plain.empty(shape) else {
-        panic!(rt; "no memory")
-    };
-    let mut state = seed;
-    'pairs: for _ in 0..count {
-        state = state
-            .wrapping_mul(6364136223846793005)
-            .wrapping_add(1442695040888963407);
-        let i = ((state >> 33) % shape.rows as u64) as u32;
-        let j = ((state >> 48) % shape.cols as u64) as u32;
-        let Ok(pair) = plain.single(shape, i, j) else {
-            panic!(rt; "no memory")
-        };
-        let Ok(more) = plain.union(r, pair) else {
-            panic!(rt; "no memory")
-        };
-        r = more;
-    }
-    r
-}
 
 /// What an operator makes of two quads, or of the first one if it has one operand.
 fn result_of(rt: &impl Abort, nodes: &mut Nodes, op: Op, a: Quad, b: Quad) -> Quad
@@ -148,7 +36,7 @@ fn result_of(rt: &impl Abort, nodes: &mut Nodes, op: Op, a: Quad, b: Quad) -> Qu
         Op::Inter => inter_quads(nodes, a, b),
         Op::Diff => diff_quads(nodes, a, b),
         Op::Transpose => transpose_quad(nodes, a),
-        Op::Compose => panic!(rt; "no composition"),
+        Op::Compose => compose_quads(nodes, a, b),
     };
     match made {
         Ok(result) => result,
@@ -170,26 +58,14 @@ fn plain_result<P: Core>(rt: &impl Abort, plain: &mut P, op: Op, r: Rel, s: Rel)
         Op::Inter => plain.inter(r, s),
         Op::Diff => plain.diff(r, s),
         Op::Transpose => plain.transpose(r),
-        Op::Compose => panic!(rt; "no composition"),
+        Op::Compose => {
+            assert!(rt; r.cols == s.rows);
+            plain.compose(r, s)
+        }
     };
     match made {
         Ok(result) => result,
         Err(_) => panic!(rt; "no memory"),
-    }
-}
-
-/// Asserts that a quad has the cells of a plain relation alone.
-fn has_the_cells<P: Core>(rt: &impl Abort, nodes: &mut Nodes, plain: &mut P, q: Quad, r: Rel)
-    requires stands { QuadStands nodes.old q }
-    requires standing { Stands (P.worker plain.old) r }
-    ensures { Keeps (P.worker plain.old) (P.worker plain.new) }
-{
-    let side = side_of_height(q.height);
-    'rows: for i in 0..side {
-        'cols: for j in 0..side {
-            let want = i < r.rows && j < r.cols && plain.has(r, i, j);
-            assert_eq!(rt; nodes.has(q, i, j), want, "at {i}, {j}");
-        }
     }
 }
 
@@ -275,6 +151,51 @@ fn two_agree<P: Core>(
     agree(rt, nodes, plain, op, r, s, height);
 }
 
+/// Asserts that each operator agrees on each two relations of one type with sizes up to 2.
+fn small_ones_agree(rt: &impl Abort, alloc: Global, shape: Shape)
+    requires row { shape.rows ≤ 2 }
+    requires col { shape.cols ≤ 2 }
+{
+    let (table, seat) = table(rt, alloc);
+    let mut nodes = Nodes::new(&table, seat);
+    let mut plain = Plain::new(alloc);
+    let all = 1u32 << (shape.rows * shape.cols);
+    'firsts: for first in 0..all {
+        'seconds: for second in 0..all {
+            'operators: for op in OPERATORS {
+                two_small_agree(rt, &mut nodes, &mut plain, op, shape, first, second);
+            }
+        }
+    }
+}
+
+/// Asserts that an operator agrees on two relations with sizes up to 2.
+fn two_small_agree<P: Core>(
+    rt: &impl Abort,
+    nodes: &mut Nodes,
+    plain: &mut P,
+    op: Op,
+    shape: Shape,
+    first: u32,
+    second: u32,
+)
+    requires row { shape.rows ≤ 2 }
+    requires col { shape.cols ≤ 2 }
+{
+    let r = numbered(rt, plain, shape, first);
+    let s = numbered(rt, plain, shape, second);
+    agree(rt, nodes, plain, op, r, s, nodes.bottom());
+}
+
+#[test]
+fn relations_with_sizes_up_to_2_combine_as_plain_ones(rt: HostRuntime) {
+    'rows: for rows in 0..3 {
+        'cols: for cols in 0..3 {
+            small_ones_agree(&rt, rt.alloc(), Shape { rows, cols });
+        }
+    }
+}
+
 #[test]
 fn blocks_combine_as_plain_relations(rt: HostRuntime) {
     let shape = Shape { rows: 8, cols: 8 };
@@ -334,7 +255,7 @@ fn finds_what_it_made(rt: &impl Abort, nodes: &mut Nodes, op: Op, a: Quad, b: Qu
         Op::Inter => look_in_order(nodes, Op::Inter, a, b),
         Op::Diff => nodes.look(Op::Diff, a, b),
         Op::Transpose => nodes.look(Op::Transpose, a, none),
-        Op::Compose => None,
+        Op::Compose => nodes.look(Op::Compose, a, b),
     };
     assert_eq!(rt; found, Some(made), "{op:?}");
 }
@@ -363,4 +284,6 @@ fn what_an_operator_made_of_a_cycle_is_found_right_after_it(rt: HostRuntime) {
     'operators: for op in OPERATORS {
         finds_what_it_made(&rt, &mut nodes, op, cycle, other);
     }
+    let square = result_of(&rt, &mut nodes, Op::Compose, cycle, cycle);
+    finds_what_it_made(&rt, &mut nodes, Op::Compose, cycle, square);
 }

@@ -1,3 +1,4 @@
+use Rattle.std.proofs.Common.{◌≤◌, arith}
 use Rattle.rel_model.specs.Cells.{cells_rect}
 use Rattle.rel_model.specs.Operators.{full}
 use Rattle.rel_model.specs.Quads.{quad_room}
@@ -8,7 +9,7 @@ use Rattle.fork_quads.proofs.relations.CrewCore.full.Goals as goal
 pub rect-quad-requires : goal.rect-quad-requires
 rect-quad-requires g c =
     let t = tree_fits c.args.shape.rows c.args.shape.cols c.height_of_tree-height.result c.requires.row_limit c.requires.col_limit c.height_of_tree-height.ensures in
-    record { low = t.low; high = t.high; row = t.row; col = t.col }
+    record { low = t.low; high = t.high; row = (let a = t.row in let b = t.col in omega arith); col = (let a = t.row in let b = t.col in omega arith) }
 
 pub returns-clause-value : goal.returns-clause-value
 returns-clause-value g c =

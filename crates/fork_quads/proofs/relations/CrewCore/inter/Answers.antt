@@ -6,10 +6,10 @@ use Rattle.fork_quads.proofs.Operating.{inter_lifts, lifted_value}
 use Rattle.fork_quads.proofs.relations.CrewCore.inter.Goals as goal
 
 pub inter_quads-quad-requires-clause-a_stands : goal.inter_quads-quad-requires-clause-a_stands
-inter_quads-quad-requires-clause-a_stands g c = stands_root c.args.self.now c.self.inside.nodes c.args.r c.root_of.result c.self.view_is c.requires.left c.root_of.ensures
+inter_quads-quad-requires-clause-a_stands g c = let s = stands_root c.args.self.now c.self.inside.nodes in let h = c.requires in search (s, c.self.view_is)
 
 pub inter_quads-quad-requires-clause-b_stands : goal.inter_quads-quad-requires-clause-b_stands
-inter_quads-quad-requires-clause-b_stands g c = stands_root c.args.self.now c.self.inside.nodes c.args.s c.root_of-2.result c.self.view_is c.requires.right c.root_of-2.ensures
+inter_quads-quad-requires-clause-b_stands g c = let s = stands_root c.args.self.now c.self.inside.nodes in let h = c.requires in search (s, c.self.view_is)
 
 pub returns-clause-value : goal.returns-clause-value
 returns-clause-value g c =

@@ -3,16 +3,16 @@ use Rattle.fork_quads.proofs.Quartering.{stands_inside, corner_gives}
 use Rattle.fork_quads.proofs.squares.CrewQuads.corner.Goals as goal
 
 pub corner-requires-clause-nw_stands : goal.corner-requires-clause-nw_stands
-corner-requires-clause-nw_stands g c = stands_inside c.args.self.now c.self.inside.nodes c.args.nw c.self.view_is c.requires.nw_stands
+corner-requires-clause-nw_stands g c = let s = stands_inside c.args.self.now c.self.inside.nodes in let h = c.requires in search (s, c.self.view_is)
 
 pub corner-requires-clause-ne_stands : goal.corner-requires-clause-ne_stands
-corner-requires-clause-ne_stands g c = stands_inside c.args.self.now c.self.inside.nodes c.args.ne c.self.view_is c.requires.ne_stands
+corner-requires-clause-ne_stands g c = let s = stands_inside c.args.self.now c.self.inside.nodes in let h = c.requires in search (s, c.self.view_is)
 
 pub corner-requires-clause-sw_stands : goal.corner-requires-clause-sw_stands
-corner-requires-clause-sw_stands g c = stands_inside c.args.self.now c.self.inside.nodes c.args.sw c.self.view_is c.requires.sw_stands
+corner-requires-clause-sw_stands g c = let s = stands_inside c.args.self.now c.self.inside.nodes in let h = c.requires in search (s, c.self.view_is)
 
 pub corner-requires-clause-se_stands : goal.corner-requires-clause-se_stands
-corner-requires-clause-se_stands g c = stands_inside c.args.self.now c.self.inside.nodes c.args.se c.self.view_is c.requires.se_stands
+corner-requires-clause-se_stands g c = let s = stands_inside c.args.self.now c.self.inside.nodes in let h = c.requires in search (s, c.self.view_is)
 
 pub returns-clause-value : goal.returns-clause-value
 returns-clause-value g c =

@@ -1,0 +1,7 @@
+//! Tests of choice, tests and walks over relations in a node table, beside slow lists.
+#![tactic(auto)]
+
+#[cfg(test)]
+mod slow;
+#[cfg(test)]
+mod tests;

@@ -1,0 +1,48 @@
+//! Slow answers from the pairs of a relation, which are listed by row and then by column.
+use std::alloc::Global;
+use std::process::Abort;
+
+/// A pair put behind others.
+pub(crate) fn put(rt: &impl Abort, pairs: &mut Vec<(u32, u32)>, pair: (u32, u32)) {
+    if pairs.push(pair).is_err() {
+        panic!(rt; "no memory");
+    }
+}
+
+/// The elements that a column of so many rows has, as pairs with column 0.
+pub(crate) fn vector(rt: &impl Abort, alloc: Global, rows: u32, has: &[u32]) -> Vec<(u32, u32)> {
+    let mut out = Vec::new(alloc);
+    'rows: for i in 0..rows {
+        if has.contains(&i) {
+            put(rt, &mut out, (i, 0));
+        }
+    }
+    out
+}
+
+/// The rows of the pairs.
+pub(crate) fn rows_of(rt: &impl Abort, alloc: Global, pairs: &[(u32, u32)]) -> Vec<u32> {
+    let mut out = Vec::new(alloc);
+    'pairs: for (i, _) in pairs {
+        if out.push(*i).is_err() {
+            panic!(rt; "no memory");
+        }
+    }
+    out
+}
+
+/// The columns of the pairs.
+pub(crate) fn cols_of(rt: &impl Abort, alloc: Global, pairs: &[(u32, u32)]) -> Vec<u32> {
+    let mut out = Vec::new(alloc);
+    'pairs: for (_, j) in pairs {
+        if out.push(*j).is_err() {
+            panic!(rt; "no memory");
+        }
+    }
+    out
+}
+
+/// Whether two pairs that stand side by side have one row.
+pub(crate) fn has_two_in_a_row(pairs: &[(u32, u32)]) -> bool {
+    pairs.windows(2).any(|two| two[0].0 == two[1].0)
+}

@@ -1,0 +1,88 @@
+use Rattle.std.proofs.Common.{◌∙◌, sym, arith}
+use Rattle.std.specs.HashMap.{get}
+use Rattle.rel_model.proofs.Workers.{keeps_trans}
+use Rattle.rel_choice.specs.Counts.{same_key}
+use Rattle.rel_choice.proofs.QuadCounts.{none-count, leaf-count, kept-count, quarters-count, count-limit, counts-put-later, counts-found}
+use Rattle.rel_choice.proofs.counting.+counted.Goals as goal
+
+pub counted-returns-then-quad-eq0-clause-value : goal.counted-returns-then-quad-eq0-clause-value
+counted-returns-then-quad-eq0-clause-value g t c =
+    let l = g.met.Q.Quads.low_height c.args.q.now c.args.quad c.requires.stands in
+    let h = g.met.Q.Quads.high_height c.args.q.now c.args.quad c.requires.stands in
+    none-count (g.Q.Core.worker c.args.q.now) c.args.quad c.if-quad-eq0.true (g.met.Q.Quads.none c.args.q.now c.args.quad.height l h)
+
+pub counted-returns-then-quad-bottom-clause-value : goal.counted-returns-then-quad-bottom-clause-value
+counted-returns-then-quad-bottom-clause-value g t c =
+    c.from.ensures ∙ leaf-count (g.Q.Core.worker c.args.q.now) c.args.quad g.Q.Quads.least c.bits-bits.result (c.if-quad-bottom.true ∙ c.bottom.ensures) c.bits-bits.ensures.cells c.bits-bits.ensures.none_past
+
+pub counted-returns-in-Some-clause-value : goal.counted-returns-in-Some-clause-value
+counted-returns-in-Some-clause-value g t c =
+    counts-found (g.Q.Core.worker c.args.q.now) c.args.quad c.in-Some.found (get same_key c.args.counts.now) c.requires.known (sym c.get.ensures.value ∙ sym c.copied.ensures ∙ c.in-Some.is)
+
+pub counted-returns-clause-known : goal.counted-returns-clause-known
+counted-returns-clause-known g t c =
+    counts-put-later (g.Q.Core.worker c.args.q.now) (g.Q.Core.worker c.counted_over.new.q) c.args.quad c.in_ok-sum.sum (get same_key c.counted_over.new.counts) (get same_key c.insert.new.self)
+    c.in_ok-sum.ensures.keeps c.requires.stands c.in_ok-sum.ensures.value c.in_ok-sum.ensures.known c.in_ok-insert.ensures.updates.0
+
+pub counted_over-overflow_add-result : goal.counted_over-overflow_add-result
+counted_over-overflow_add-result g t c =
+    let q = c.quarters.ensures.quarters in
+    let h = g.met.Q.Quads.high_height c.quarters.new.self c.quarters.result.0 q.nw in
+    let x0 = q.nw_height in
+    let x1 = q.ne_height in
+    let a = c.in_ok-north_west.ensures.value in
+    let b = c.in_ok-north_east.ensures.value in
+    let la = count-limit (g.Q.Core.worker c.quarters.new.self) c.quarters.result.0 h in
+    let lb = count-limit (g.Q.Core.worker c.counted.new.q) c.quarters.result.1 (omega (arith, h, x0, x1)) in
+    omega (arith, a, b, la, lb)
+
+pub counted_over-overflow_add-result-2 : goal.counted_over-overflow_add-result-2
+counted_over-overflow_add-result-2 g t c =
+    let q = c.quarters.ensures.quarters in
+    let h = g.met.Q.Quads.high_height c.quarters.new.self c.quarters.result.0 q.nw in
+    let x0 = q.nw_height in
+    let x1 = q.ne_height in
+    let x2 = q.sw_height in
+    let a = c.in_ok-north_west.ensures.value in
+    let b = c.in_ok-north_east.ensures.value in
+    let la = count-limit (g.Q.Core.worker c.quarters.new.self) c.quarters.result.0 h in
+    let lb = count-limit (g.Q.Core.worker c.counted.new.q) c.quarters.result.1 (omega (arith, h, x0, x1)) in
+    let d = c.in_ok-south_west.ensures.value in
+    let ld = count-limit (g.Q.Core.worker c.counted-2.new.q) c.quarters.result.2 (omega (arith, h, x0, x2)) in
+    omega (arith, a, b, la, lb, d, ld)
+
+pub counted_over-overflow_add-result-3 : goal.counted_over-overflow_add-result-3
+counted_over-overflow_add-result-3 g t c =
+    let q = c.quarters.ensures.quarters in
+    let h = g.met.Q.Quads.high_height c.quarters.new.self c.quarters.result.0 q.nw in
+    let x0 = q.nw_height in
+    let x1 = q.ne_height in
+    let x2 = q.sw_height in
+    let x3 = q.se_height in
+    let a = c.in_ok-north_west.ensures.value in
+    let b = c.in_ok-north_east.ensures.value in
+    let la = count-limit (g.Q.Core.worker c.quarters.new.self) c.quarters.result.0 h in
+    let lb = count-limit (g.Q.Core.worker c.counted.new.q) c.quarters.result.1 (omega (arith, h, x0, x1)) in
+    let d = c.in_ok-south_west.ensures.value in
+    let ld = count-limit (g.Q.Core.worker c.counted-2.new.q) c.quarters.result.2 (omega (arith, h, x0, x2)) in
+    let e = c.in_ok-south_east.ensures.value in
+    let le = count-limit (g.Q.Core.worker c.counted-3.new.q) c.quarters.result.3 (omega (arith, h, x0, x3)) in
+    omega (arith, a, b, la, lb, d, ld, e, le)
+
+pub counted_over-returns-clause-value : goal.counted_over-returns-clause-value
+counted_over-returns-clause-value g t c =
+    let w0 = g.Q.Core.worker c.args.q.now in
+    let w1 = g.Q.Core.worker c.quarters.new.self in
+    let w2 = g.Q.Core.worker c.counted.new.q in
+    let w3 = g.Q.Core.worker c.counted-2.new.q in
+    let w4 = g.Q.Core.worker c.counted-3.new.q in
+    let q = c.quarters.ensures.quarters in
+    let k2 = c.in_ok-north_west.ensures.keeps in
+    let k3 = keeps_trans w1 w2 w3 k2 c.in_ok-north_east.ensures.keeps in
+    let k4 = keeps_trans w1 w3 w4 k3 c.in_ok-south_west.ensures.keeps in
+    let s = quarters-count w0 w1 c.args.quad c.quarters.result q in
+    let a = c.in_ok-north_west.ensures.value in
+    let b = c.in_ok-north_east.ensures.value ∙ kept-count w1 w2 c.quarters.result.1 k2 q.ne in
+    let d = c.in_ok-south_west.ensures.value ∙ kept-count w1 w3 c.quarters.result.2 k3 q.sw in
+    let e = c.in_ok-south_east.ensures.value ∙ kept-count w1 w4 c.quarters.result.3 k4 q.se in
+    omega (arith, s, a, b, d, e)

@@ -1,0 +1,46 @@
+use Rattle.std.proofs.Common.{◌∙◌, ◌&&◌, sym, ap}
+use Rattle.rel_choice.specs.Lines.{halves_apart}
+use Rattle.rel_choice.proofs.RowHalves.{leaf-side}
+use Rattle.rel_choice.proofs.Doubles.{none-apart_left, none-apart_right, apart-quarters, kept-halves}
+use Rattle.rel_choice.proofs.Standing.{keeps_quad}
+use Rattle.rel_choice.proofs.lines.+apart.Goals as goal
+
+pub are_apart-returns-then-a-eq0-clause-value : goal.are_apart-returns-then-a-eq0-clause-value
+are_apart-returns-then-a-eq0-clause-value g t c =
+    let l = g.met.Q.Quads.low_height c.args.q.now c.args.a c.requires.a_stands in
+    let h = g.met.Q.Quads.high_height c.args.q.now c.args.a c.requires.a_stands in
+    none-apart_left (g.Q.Core.worker c.args.q.now) c.args.a c.args.b c.if-a-eq0.true (g.met.Q.Quads.none c.args.q.now c.args.a.height l h)
+
+pub are_apart-returns-then-b-eq0-clause-value : goal.are_apart-returns-then-b-eq0-clause-value
+are_apart-returns-then-b-eq0-clause-value g t c =
+    let l = g.met.Q.Quads.low_height c.args.q.now c.args.b c.requires.b_stands in
+    let h = g.met.Q.Quads.high_height c.args.q.now c.args.b c.requires.b_stands in
+    none-apart_right (g.Q.Core.worker c.args.q.now) c.args.a c.args.b c.if-b-eq0.true (g.met.Q.Quads.none c.args.q.now c.args.b.height l h)
+
+pub are_apart-leaves_are_apart-requires : goal.are_apart-leaves_are_apart-requires
+are_apart-leaves_are_apart-requires g t c = leaf-side c.args.a.height g.Q.Quads.least c.side_of-side.result (c.if-a-bottom.true ∙ c.bottom.ensures) g.met.Q.Quads.least_limit c.side_of-side.ensures
+
+pub are_apart_over-returns-then-not-are_halves_apart-clause-value : goal.are_apart_over-returns-then-not-are_halves_apart-clause-value
+are_apart_over-returns-then-not-are_halves_apart-clause-value g t c =
+    let u = g.Q.Core.worker c.args.q.now in
+    let v = g.Q.Core.worker c.quarters.new.self in
+    let w = g.Q.Core.worker c.quarters-2.new.self in
+    let fa = c.quarters.result in
+    let fb = c.quarters-2.result in
+    let e = apart-quarters u v w c.args.a c.args.b fa fb c.quarters.ensures.quarters c.quarters-2.ensures.quarters c.quarters.ensures.keeps c.quarters-2.ensures.keeps c.requires.b_stands c.requires.one_height in
+    sym (e ∙ ap (λ x. x && halves_apart w (fa.2, fa.3) (fb.2, fb.3)) (sym c.are_halves_apart.ensures.value ∙ c.if-not-are_halves_apart.true))
+
+pub are_apart_over-returns-clause-value : goal.are_apart_over-returns-clause-value
+are_apart_over-returns-clause-value g t c =
+    let u = g.Q.Core.worker c.args.q.now in
+    let v = g.Q.Core.worker c.quarters.new.self in
+    let w = g.Q.Core.worker c.quarters-2.new.self in
+    let z = g.Q.Core.worker c.are_halves_apart.new.q in
+    let fa = c.quarters.result in
+    let fb = c.quarters-2.result in
+    let p = c.quarters.ensures.quarters in
+    let q = c.quarters-2.ensures.quarters in
+    let k = c.quarters-2.ensures.keeps in
+    let e = apart-quarters u v w c.args.a c.args.b fa fb p q c.quarters.ensures.keeps k c.requires.b_stands c.requires.one_height in
+    let s = kept-halves w z (fa.2, fa.3) (fb.2, fb.3) c.are_halves_apart.ensures.keeps (keeps_quad v w fa.2 k p.sw) (keeps_quad v w fa.3 k p.se) q.sw q.se in
+    c.are_halves_apart-2.ensures.value ∙ s ∙ sym (e ∙ ap (λ x. x && halves_apart w (fa.2, fa.3) (fb.2, fb.3)) (sym c.are_halves_apart.ensures.value ∙ c.if-not-are_halves_apart.false))

@@ -1,0 +1,21 @@
+use Rattle.std.proofs.Common.{◌<◌, ◌-◌, refl, ℕ, arith}
+use Rattle.rel_model.specs.declared.Quad.{Quad}
+use Rattle.rel_model.specs.Cells.{no_cells}
+use Rattle.rel_model.specs.Worker.{GivesQuad}
+use Rattle.rel_choice.proofs.StepQuads.{steps-next}
+use Rattle.rel_choice.proofs.stepping.+steps_of.Goals as goal
+
+pub returns-clause-value : goal.returns-clause-value
+returns-clause-value g t c =
+    let u = g.Q.Core.worker c.steps_of.new.q in
+    let v = g.Q.Core.worker c.corner.new.self in
+    let w = g.Q.Core.worker c.corner-2.new.self in
+    let h : ℕ = c.args.height in
+    let n = c.if-height-bottom.false in
+    let b = c.bottom.ensures in
+    let low = c.requires.low in
+    let high = c.requires.high in
+    let over : g.Q.Quads.least < h = omega (arith, n, b, low) in
+    let none : Quad = record { height = h - 1; name = 0 } in
+    let given : GivesQuad u (h - 1) no_cells none = record { means = g.met.Q.Quads.none c.steps_of.new.q (h - 1) (omega (arith, over)) (omega (arith, high)); same_height = refl } in
+    steps-next u v w h c.in_ok-below.below none c.in_ok-whole.whole c.in_ok-carry.carry (omega (arith, over)) c.in_ok-below.ensures.value given c.in_ok-whole.ensures.keeps c.in_ok-carry.ensures.keeps c.in_ok-whole.ensures.value c.in_ok-carry.ensures.value

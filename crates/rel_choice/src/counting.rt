@@ -1,0 +1,75 @@
+//! The number of pairs of a relation.
+ghost use Rattle.std.specs.Prelude.{◌≡◌, ◌<◌, IfOk};
+ghost use Rattle.std.specs.HashMap.{get};
+ghost use Rattle.rel_model.specs.Choice.{count as count_of};
+ghost use Rattle.rel_model.specs.Worker.{Stands, set_of, HasQuad, Keeps, MakesAtMost};
+ghost use Rattle.rel_choice.specs.Counts.{quad_count, same_key, AreCounts};
+
+use rel_model::quads_trait::Quads;
+use rel_model::{NoMemory, Quad, Rel};
+use std::alloc::Global;
+use std::collections::HashMap;
+
+/// How many pairs a relation has (Knuth, for a sum over a shared tree by a memory of its parts).
+pub fn count<Q: Quads>(alloc: Global, q: &mut Q, r: Rel) -> Result<u64, NoMemory>
+    requires { Stands (Q.worker q.old) r }
+    ensures value { IfOk result (λ n. n ≡ count_of (set_of (Q.worker q.old) r)) }
+    ensures keeps { Keeps (Q.worker q.old) (Q.worker q.new) }
+    ensures room { MakesAtMost 0 (Q.worker q.old) (Q.worker q.new) }
+{
+    let quad = q.root(r);
+    let mut counts = HashMap::new(alloc);
+    counted(q, &mut counts, quad)
+}
+
+/// How many cells a quad has. Each quad over the leaves is counted once.
+#[cycle(counted)]
+fn counted<Q: Quads>(
+    q: &mut Q,
+    counts: &mut HashMap<(u8, u32), u64>,
+    quad: Quad,
+) -> Result<u64, NoMemory>
+    requires stands { HasQuad (Q.worker q.old) quad }
+    requires known { AreCounts (Q.worker q.old) (get same_key counts.old) }
+    ensures value { IfOk result (λ n. n ≡ quad_count (Q.worker q.old) quad) }
+    ensures known { AreCounts (Q.worker q.new) (get same_key counts.new) }
+    ensures keeps { Keeps (Q.worker q.old) (Q.worker q.new) }
+    ensures room { MakesAtMost 0 (Q.worker q.old) (Q.worker q.new) }
+{
+    if quad.name == 0 {
+        return Ok(0);
+    }
+    if quad.height == q.bottom() {
+        let bits = q.bits(quad);
+        return Ok(u64::from(bits.count_ones()));
+    }
+    if let Some(found) = counts.get(&(quad.height, quad.name)).copied() {
+        return Ok(found);
+    }
+    let sum = counted_over(q, counts, quad)?;
+    counts.insert((quad.height, quad.name), sum)?;
+    Ok(sum)
+}
+
+/// The same over the leaves, as the sum of the quarters.
+#[cycle(counted)]
+fn counted_over<Q: Quads>(
+    q: &mut Q,
+    counts: &mut HashMap<(u8, u32), u64>,
+    quad: Quad,
+) -> Result<u64, NoMemory>
+    requires stands { HasQuad (Q.worker q.old) quad }
+    requires over { Q.least < quad.height }
+    requires known { AreCounts (Q.worker q.old) (get same_key counts.old) }
+    ensures value { IfOk result (λ n. n ≡ quad_count (Q.worker q.old) quad) }
+    ensures known { AreCounts (Q.worker q.new) (get same_key counts.new) }
+    ensures keeps { Keeps (Q.worker q.old) (Q.worker q.new) }
+    ensures room { MakesAtMost 0 (Q.worker q.old) (Q.worker q.new) }
+{
+    let (nw, ne, sw, se) = q.quarters(quad);
+    let north_west = counted(q, counts, nw)?;
+    let north_east = counted(q, counts, ne)?;
+    let south_west = counted(q, counts, sw)?;
+    let south_east = counted(q, counts, se)?;
+    Ok(north_west + north_east + south_west + south_east)
+}

@@ -1,0 +1,209 @@
+-- Squares of a set of cells.
+-- 1. A square of which no cell passes a rule is empty.
+-- 2. A word of which each bit is a cell has the cells of a leaf.
+-- 3. A square goes by the squares of half its side.
+-- 4. A quad whose quarters are known is the quad of their cells.
+use Rattle.std.proofs.Common.{◌≡◌, ◌≢◌, ◌<◌, ◌≤◌, ◌+◌, ◌-◌, ◌*◌, ◌/◌, ◌%◌, ◌^◌, ◌∙◌, ◌⊎◌, ◌&&◌, ◌||◌, eqb, ltb, min, max, bit_or, ℕ, Bool, true, false, refl, sym, ap, subst, arith, inl, inr, Some}
+use Rattle.std.proofs.Math.Nat.{mul-div-le, mod-eq_of_lt, mod-le, add-mod_right, mod-add-mod}
+use Rattle.std.proofs.lemmas.Bool.{cases_lt, cases_eq, lt-ltb, le-ltb, and_parts, eqb-true, ltb-true}
+use Rattle.std.proofs.lemmas.Bool.Decides.{nat_tests}
+use Rattle.std.proofs.lemmas.Nat.{le-div, mod_below, div-mul-add}
+use Rattle.std.proofs.lemmas.Nat.Bits.{bit_at_or, bit_at-lt, bit_at-pow_same, bit_at-pow_other, bit_at-zero}
+use Rattle.std.specs.Int.{bit_at}
+use Rattle.rel_model.specs.declared.Quad.{Quad}
+use Rattle.rel_model.specs.Cells.{Cells, no_cells, bits_cells}
+use Rattle.rel_model.specs.Trees.{quartered}
+use Rattle.rel_model.specs.Worker.{Worker, quad_set, GivesQuad, Keeps}
+use Rattle.rel_model.proofs.TreeLaws.{same_cells}
+use Rattle.rel_model.proofs.Somes.{not_true}
+use Rattle.rel_domains.specs.declared.rule.Rule.{Rule}
+use Rattle.rel_domains.specs.Rules.{passes, rule_cells, window}
+use Rattle.rel_domains.proofs.Quartering.{gives_set, gives_later}
+use Rattle.rel_domains.proofs.Places.{row_below, side_step}
+
+-- ---- squares without cells
+pub no_window : (m row col : ℕ) (f : Cells) → ((i j : ℕ) → i < m → j < m → f (row + i) (col + j) ≡ true → ⊥) → window m row col f ≡ no_cells
+no_window m row col f h = same_cells _ _ (λ i j. not_true _ (λ t.
+    let a = and_parts (ltb i m) _ t in
+    let b = and_parts (ltb j m) _ a.1 in
+    h i j (ltb-true i m a.0) (ltb-true j m b.0) b.1))
+
+pub rule_free : (rows cols m row col end : ℕ) (rule : Rule) → end ≡ min rows (row + m) → ((k j : ℕ) → row ≤ k → k < end → col ≤ j → j < col + m → passes rule k j ≡ true → ⊥) → window m row col (rule_cells rows cols rule) ≡ no_cells
+rule_free rows cols m row col end rule e h = no_window m row col (rule_cells rows cols rule) (λ i j a b t.
+    let p = and_parts (ltb (row + i) rows) _ t in
+    let q = and_parts (ltb (col + j) cols) _ p.1 in
+    let r = ltb-true (row + i) rows p.0 in
+    h (row + i) (col + j) (omega arith) (omega (arith, e, r, a)) (omega arith) (omega (arith, b)) q.1)
+
+pub rows_free : (rows cols m row col : ℕ) (rule : Rule) → rows ≤ row → window m row col (rule_cells rows cols rule) ≡ no_cells
+rows_free rows cols m row col rule l = no_window m row col (rule_cells rows cols rule) (λ i j a b t.
+    let p = and_parts (ltb (row + i) rows) (ltb (col + j) cols && passes rule (row + i) (col + j)) t in
+    let r = ltb-true (row + i) rows p.0 in
+    omega (arith, l, r))
+
+pub cols_free : (rows cols m row col : ℕ) (rule : Rule) → cols ≤ col → window m row col (rule_cells rows cols rule) ≡ no_cells
+cols_free rows cols m row col rule l = no_window m row col (rule_cells rows cols rule) (λ i j a b t.
+    let p = and_parts (ltb (row + i) rows) (ltb (col + j) cols && passes rule (row + i) (col + j)) t in
+    let q = and_parts (ltb (col + j) cols) (passes rule (row + i) (col + j)) p.1 in
+    let r = ltb-true (col + j) cols q.0 in
+    omega (arith, l, r))
+
+-- ---- quotients
+div_mono : (m n by : ℕ) → 0 < by → m ≤ n → m / by ≤ n / by
+div_mono m n by p l = le-div (m / by) n by p (let a = mul-div-le m by in omega (arith, a))
+
+pub quotients_before : (by row col m end k j : ℕ) → 0 < by → (end - 1) / by < col → k < end → col ≤ j → eqb (k / by) j ≡ true → ⊥
+quotients_before by row col m end k j p l a b t =
+    let d = div_mono k (end - 1) by p (omega arith) in
+    let e = eqb-true (k / by) j t in
+    omega (arith, d, e, l, b)
+
+pub quotients_behind : (by row col m k j : ℕ) → 0 < by → col + m ≤ row / by → row ≤ k → j < col + m → eqb (k / by) j ≡ true → ⊥
+quotients_behind by row col m k j p l a b t =
+    let d = div_mono row k by p a in
+    let e = eqb-true (k / by) j t in
+    omega (arith, d, e, l, b)
+
+-- ---- remainders
+rest_of : (by row k : ℕ) → row ≤ k → k % by ≡ (row % by + (k - row)) % by
+rest_of by row k l = let e : k ≡ row + (k - row) = omega arith in ap (λ n. n % by) e ∙ sym (mod-add-mod row by (k - row))
+
+pub rest_before : (by row col k : ℕ) → row ≤ k → k < row + (col - row % by) → k % by < col
+rest_before by row col k l a = let e = rest_of by row k l in let u = mod-le (row % by + (k - row)) by in omega (arith, e, u, a)
+
+pub rest_behind : (by row col m k : ℕ) → 0 < by → col + m ≤ row % by → row ≤ k → k < row + (by - row % by) + col → (k % by < col) ⊎ (col + m ≤ k % by)
+rest_behind by row col m k p h l a =
+    let e = rest_of by row k l in
+    let b = mod_below row by p in
+    let n : ℕ = row % by + (k - row) in
+    elim (cases_lt n by) [
+      | inl c ↦ inr (let f : n % by ≡ n = mod-eq_of_lt c in omega (arith, e, f, h))
+      | inr c ↦ inl (
+          let g : n ≡ n - by + by = omega arith in
+          let f : n % by ≡ (n - by) % by = ap (λ x. x % by) g ∙ add-mod_right (n - by) by in
+          let u = mod-le (n - by) by in
+          omega (arith, e, f, u, a, b))
+    ]
+
+-- ---- words
+pub either_one : (a b : ℕ) → a < 2 → b < 2 → eqb (max a b) 1 ≡ (eqb a 1 || eqb b 1)
+either_one a b p q = grind (arith, nat_tests)
+
+pub same_test : (k n : ℕ) → k ≢ n → ltb k n ≡ ltb k (n + 1)
+same_test k n e = elim (cases_lt k n) [
+  | inl a ↦ lt-ltb k n a ∙ sym (lt-ltb k (n + 1) (omega arith))
+  | inr a ↦ le-ltb k n a ∙ sym (le-ltb k (n + 1) (omega arith))
+]
+
+-- one more bit, which is set where a test passes
+pub bit_set : (bits n : ℕ) (g : ℕ → Bool) → ((k : ℕ) → eqb (bit_at bits k) 1 ≡ (ltb k n && g k)) → g n ≡ true → (k : ℕ) → eqb (bit_at (bit_or bits (2 ^ n)) k) 1 ≡ (ltb k (n + 1) && g k)
+bit_set bits n g h t k =
+    ap (λ v. eqb v 1) (bit_at_or bits (2 ^ n) k) ∙ either_one (bit_at bits k) (bit_at (2 ^ n) k) (bit_at-lt bits k) (bit_at-lt (2 ^ n) k) ∙ ap (λ b. b || eqb (bit_at (2 ^ n) k) 1) (h k)
+    ∙ elim (cases_eq k n) [
+      | inl e ↦ subst (λ x. ((ltb x n && g x) || eqb (bit_at (2 ^ n) x) 1) ≡ (ltb x (n + 1) && g x)) (sym e)
+          (ap (λ v. (ltb n n && g n) || eqb v 1) (bit_at-pow_same n) ∙ or_true (ltb n n && g n) ∙ sym (ap (λ b. b && g n) (lt-ltb n (n + 1) (omega arith)) ∙ t))
+      | inr e ↦ ap (λ v. (ltb k n && g k) || eqb v 1) (bit_at-pow_other n k e) ∙ or_false (ltb k n && g k) ∙ ap (λ b. b && g k) (same_test k n e)
+    ]
+  where
+    or_true : (b : Bool) → (b || true) ≡ true
+    or_true true = refl
+    or_true false = refl
+
+    or_false : (b : Bool) → (b || false) ≡ b
+    or_false true = refl
+    or_false false = refl
+
+pub bit_left : (bits n : ℕ) (g : ℕ → Bool) → ((k : ℕ) → eqb (bit_at bits k) 1 ≡ (ltb k n && g k)) → g n ≡ false → (k : ℕ) → eqb (bit_at bits k) 1 ≡ (ltb k (n + 1) && g k)
+bit_left bits n g h t k = h k ∙ elim (cases_eq k n) [
+  | inl e ↦ subst (λ x. (ltb x n && g x) ≡ (ltb x (n + 1) && g x)) (sym e) (ap (λ b. b && g n) (le-ltb n n (omega arith)) ∙ sym (ap (λ b. b && g n) (lt-ltb n (n + 1) (omega arith)) ∙ t))
+  | inr e ↦ ap (λ b. b && g k) (same_test k n e)
+]
+
+pub no_bits : (g : ℕ → Bool) (k : ℕ) → eqb (bit_at 0 k) 1 ≡ (ltb k 0 && g k)
+no_bits g k = ap (λ b. eqb b 1) (bit_at-zero k) ∙ sym (ap (λ b. b && g k) (le-ltb k 0 (omega arith)))
+
+-- the cell of a bit
+abbrev pub cell_of : ℕ → ℕ → ℕ → Cells → ℕ → Bool
+cell_of m row col f k = f (row + k / m) (col + (k - m * (k / m)))
+
+pub word_cells : (m row col bits : ℕ) (f : Cells) → ((k : ℕ) → eqb (bit_at bits k) 1 ≡ (ltb k (m * m) && cell_of m row col f k)) → bits_cells m bits ≡ window m row col f
+word_cells m row col bits f h = same_cells _ _ (λ i j. elim (cases_lt i m) [
+  | inl a ↦ elim (cases_lt j m) [
+    | inl b ↦ rw (lt-ltb i m a, lt-ltb j m b) (here i j a b)
+    | inr b ↦ rw (lt-ltb i m a, le-ltb j m b) refl
+  ]
+  | inr a ↦ rw (le-ltb i m a) refl
+])
+  where
+    here : (i j : ℕ) → i < m → j < m → eqb (bit_at bits (m * i + j)) 1 ≡ f (row + i) (col + j)
+    here i j a b =
+        let q : (m * i + j) / m ≡ i = ap (λ n. n / m) (let e : m * i + j ≡ i * m + j = omega arith in e) ∙ div-mul-add i m j b in
+        let r : m * i + j - m * ((m * i + j) / m) ≡ j = ap (λ n. m * i + j - m * n) q ∙ (let e : m * i + j - m * i ≡ j = omega arith in e) in
+        h (m * i + j) ∙ ap (λ t. t && cell_of m row col f (m * i + j)) (lt-ltb _ _ (row_below m i j a b)) ∙ ap (λ n. f (row + n) (col + (m * i + j - m * ((m * i + j) / m)))) q ∙ ap (λ n. f (row + i) (col + n)) r
+
+-- ---- a square by its quarters
+module _ (m row col : ℕ) (f : Cells) where
+  in_half : (i r : ℕ) → m ≤ i → r + m + (i - m) ≡ r + i
+  in_half i r l = omega arith
+
+  pub windows-quartered : quartered m (window m row col f) (window m row (col + m) f) (window m (row + m) col f) (window m (row + m) (col + m) f) ≡ window (m + m) row col f
+  windows-quartered = same_cells _ _ (λ i j. elim (cases_lt i m) [
+    | inl p ↦ elim (cases_lt j m) [
+      | inl q ↦ rw (lt-ltb i m p, lt-ltb j m q, lt-ltb i (m + m) (omega arith), lt-ltb j (m + m) (omega arith)) refl
+      | inr q ↦ rw (lt-ltb i m p, le-ltb j m q, lt-ltb i (m + m) (omega arith)) (ap (λ b. b && f (row + i) (col + m + (j - m))) (low j q) ∙ ap (λ k. ltb j (m + m) && f (row + i) k) (in_half j col q))
+    ]
+    | inr p ↦ elim (cases_lt j m) [
+      | inl q ↦ rw (le-ltb i m p, lt-ltb j m q, lt-ltb j (m + m) (omega arith)) (ap (λ b. b && f (row + m + (i - m)) (col + j)) (low i p) ∙ ap (λ k. ltb i (m + m) && f k (col + j)) (in_half i row p))
+      | inr q ↦ rw (le-ltb i m p, le-ltb j m q) (
+          ap (λ b. b && (ltb (j - m) m && f (row + m + (i - m)) (col + m + (j - m)))) (low i p) ∙ ap (λ b. ltb i (m + m) && (b && f (row + m + (i - m)) (col + m + (j - m)))) (low j q)
+          ∙ ap (λ k. ltb i (m + m) && (ltb j (m + m) && f k (col + m + (j - m)))) (in_half i row p) ∙ ap (λ k. ltb i (m + m) && (ltb j (m + m) && f (row + i) k)) (in_half j col q))
+    ]
+  ])
+    where
+      low : (k : ℕ) → m ≤ k → ltb (k - m) m ≡ ltb k (m + m)
+      low k l = elim (cases_lt k (m + m)) [
+        | inl a ↦ lt-ltb (k - m) m (omega arith) ∙ sym (lt-ltb k (m + m) a)
+        | inr a ↦ le-ltb (k - m) m (omega arith) ∙ sym (le-ltb k (m + m) a)
+      ]
+
+-- ---- what a worker gives
+-- four quads that a worker gives, and their corner
+pub corner_of : (w1 w2 w3 w4 w5 : Worker) (h : ℕ) (f1 f2 f3 f4 : Cells) (q1 q2 q3 q4 q : Quad)
+    → GivesQuad w1 h f1 q1 → Keeps w1 w2 → GivesQuad w2 h f2 q2 → Keeps w2 w3 → GivesQuad w3 h f3 q3 → Keeps w3 w4 → GivesQuad w4 h f4 q4
+    → GivesQuad w5 (q1.height + 1) (quartered (2 ^ q1.height) (quad_set w4 q1) (quad_set w4 q2) (quad_set w4 q3) (quad_set w4 q4)) q
+    → GivesQuad w5 (h + 1) (quartered (2 ^ h) f1 f2 f3 f4) q
+corner_of w1 w2 w3 w4 w5 h f1 f2 f3 f4 q1 q2 q3 q4 q g1 k1 g2 k2 g3 k3 g4 g =
+    let s1 : quad_set w4 q1 ≡ f1 = gives_set w4 h f1 q1 (gives_later w3 w4 h f1 q1 k3 (gives_later w2 w3 h f1 q1 k2 (gives_later w1 w2 h f1 q1 k1 g1))) in
+    let s2 : quad_set w4 q2 ≡ f2 = gives_set w4 h f2 q2 (gives_later w3 w4 h f2 q2 k3 (gives_later w2 w3 h f2 q2 k2 g2)) in
+    let s3 : quad_set w4 q3 ≡ f3 = gives_set w4 h f3 q3 (gives_later w3 w4 h f3 q3 k3 g3) in
+    let s4 : quad_set w4 q4 ≡ f4 = gives_set w4 h f4 q4 g4 in
+    record {
+      means = g.means ∙ ap Some (ap (λ x. quartered (2 ^ x) (quad_set w4 q1) (quad_set w4 q2) (quad_set w4 q3) (quad_set w4 q4)) g1.same_height
+          ∙ ap (λ x. quartered (2 ^ h) x (quad_set w4 q2) (quad_set w4 q3) (quad_set w4 q4)) s1 ∙ ap (λ x. quartered (2 ^ h) f1 x (quad_set w4 q3) (quad_set w4 q4)) s2
+          ∙ ap (λ x. quartered (2 ^ h) f1 f2 x (quad_set w4 q4)) s3 ∙ ap (quartered (2 ^ h) f1 f2 f3) s4);
+      same_height = g.same_height ∙ ap (λ x. x + 1) g1.same_height;
+    }
+
+-- a square that a worker gives by its quarters
+pub square_given : (w1 w2 w3 w4 w5 : Worker) (least depth half row col : ℕ) (f : Cells) (q1 q2 q3 q4 q : Quad) → depth ≢ 0 → half ≡ 2 ^ (least + (depth - 1))
+    → GivesQuad w1 (least + (depth - 1)) (window (2 ^ (least + (depth - 1))) row col f) q1 → Keeps w1 w2
+    → GivesQuad w2 (least + (depth - 1)) (window (2 ^ (least + (depth - 1))) row (col + half) f) q2 → Keeps w2 w3
+    → GivesQuad w3 (least + (depth - 1)) (window (2 ^ (least + (depth - 1))) (row + half) col f) q3 → Keeps w3 w4
+    → GivesQuad w4 (least + (depth - 1)) (window (2 ^ (least + (depth - 1))) (row + half) (col + half) f) q4
+    → GivesQuad w5 (q1.height + 1) (quartered (2 ^ q1.height) (quad_set w4 q1) (quad_set w4 q2) (quad_set w4 q3) (quad_set w4 q4)) q
+    → GivesQuad w5 (least + depth) (window (2 ^ (least + depth)) row col f) q
+square_given w1 w2 w3 w4 w5 least depth half row col f q1 q2 q3 q4 q over e g1 k1 g2 k2 g3 k3 g4 g =
+    let m = 2 ^ (least + (depth - 1)) in
+    let r = corner_of w1 w2 w3 w4 w5 (least + (depth - 1)) _ _ _ _ q1 q2 q3 q4 q g1 k1 g2 k2 g3 k3 g4 g in
+    let s : m + m ≡ 2 ^ (least + depth) = omega (arith, side_step least depth over) in
+    record {
+      means = r.means ∙ ap Some (ap (λ h. quartered m (window m row col f) (window m row (col + h) f) (window m (row + h) col f) (window m (row + h) (col + h) f)) e ∙ windows-quartered m row col f ∙ ap (λ k. window k row col f) s);
+      same_height = (let h = r.same_height in omega (arith, h, over));
+    }
+
+-- a quarter that is like the first
+pub like_first : (w1 w2 w3 : Worker) (h half row col : ℕ) (f : Cells) (q : Quad) → half ≡ 2 ^ h → GivesQuad w1 h (window (2 ^ h) row col f) q → Keeps w1 w2 → Keeps w2 w3
+    → window half (row + half) (col + half) f ≡ window half row col f → GivesQuad w3 h (window (2 ^ h) (row + half) (col + half) f) q
+like_first w1 w2 w3 h half row col f q e g k1 k2 s =
+    let r = gives_later w2 w3 h _ q k2 (gives_later w1 w2 h _ q k1 g) in
+    record { means = r.means ∙ ap Some (ap (λ n. window n row col f) (sym e) ∙ sym s ∙ ap (λ n. window n (row + half) (col + half) f) e); same_height = r.same_height }

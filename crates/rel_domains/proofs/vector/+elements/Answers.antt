@@ -1,0 +1,37 @@
+use Rattle.std.proofs.Common.{◌^◌, ◌∙◌, ap, arith}
+use Rattle.rel_model.specs.Cells.{bits_cells}
+use Rattle.rel_model.specs.Choice.{count_below}
+use Rattle.rel_model.specs.Worker.{quad_set}
+use Rattle.rel_domains.specs.Ranks.{first_column}
+use Rattle.rel_domains.proofs.Halves.{kept_set, none_count, count_limit, halves_count}
+use Rattle.rel_domains.proofs.vector.+elements.Goals as goal
+
+pub returns-then-vector-eq0-clause-count : goal.returns-then-vector-eq0-clause-count
+returns-then-vector-eq0-clause-count g t c =
+    let laws = g.met.Q.Quads in
+    let v = c.args.vector in
+    none_count (g.Q.Core.worker c.args.q.now) v (laws.none c.args.q.now v.height (laws.low_height c.args.q.now v c.requires) (laws.high_height c.args.q.now v c.requires)) c.if-vector-eq0.true
+
+pub returns-then-vector-bottom-clause-limit : goal.returns-then-vector-bottom-clause-limit
+returns-then-vector-bottom-clause-limit g t c =
+    let h = g.met.Q.Quads.high_height c.args.q.now c.args.vector c.requires in
+    let l = count_limit c.args.vector.height (first_column (bits_cells (2 ^ c.args.vector.height) c.bits.result)) h in
+    omega (arith, c.count_in.ensures, l)
+
+pub returns-clause-count : goal.returns-clause-count
+returns-clause-count g t c =
+    let q = c.quarters.ensures.quarters in
+    let s = halves_count _ _ c.args.vector c.quarters.result q in
+    let k = kept_set _ _ c.quarters.result.2 c.elements-above.ensures.keeps q.sw in
+    let b = c.elements-below.ensures.count ∙ ap (λ f. count_below (2 ^ c.quarters.result.2.height) (first_column f)) k in
+    omega (arith, s, c.elements-above.ensures.count, b)
+
+pub returns-clause-limit : goal.returns-clause-limit
+returns-clause-limit g t c =
+    let q = c.quarters.ensures.quarters in
+    let s = halves_count _ _ c.args.vector c.quarters.result q in
+    let k = kept_set _ _ c.quarters.result.2 c.elements-above.ensures.keeps q.sw in
+    let b = c.elements-below.ensures.count ∙ ap (λ f. count_below (2 ^ c.quarters.result.2.height) (first_column f)) k in
+    let h = g.met.Q.Quads.high_height c.args.q.now c.args.vector c.requires in
+    let l = count_limit c.args.vector.height (first_column (quad_set (g.Q.Core.worker c.args.q.now) c.args.vector)) h in
+    omega (arith, s, c.elements-above.ensures.count, b, l)

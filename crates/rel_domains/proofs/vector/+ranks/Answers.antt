@@ -1,0 +1,72 @@
+use Rattle.std.proofs.Common.{rules, ◌≡◌, ◌+◌, ◌-◌, ◌^◌, ◌∙◌, Some, refl, sym, ap, arith}
+use Rattle.rel_model.specs.Choice.{count_below}
+use Rattle.rel_model.specs.Worker.{quad_set}
+use Rattle.rel_domains.specs.Ranks.{first_column}
+use Rattle.rel_domains.proofs.Places.{side_step}
+use Rattle.rel_domains.proofs.Halves.{halves_first, halves_later, ranks_given}
+use Rattle.rel_domains.proofs.Ranking.{ranked-none}
+use Rattle.rel_domains.proofs.vector.+ranks.Goals as goal
+
+pub returns-then-passes_by-clause-value : goal.returns-then-passes_by-clause-value
+returns-then-passes_by-clause-value g t c =
+    let laws = g.met.Q.Quads in
+    let v = c.args.vector in
+    let o = c.args.q.now in
+    let h = 2 ^ (g.Q.Quads.least + c.args.depth) in
+    let e : 2 ^ v.height ≡ h = ap (λ n. 2 ^ n) c.requires.height in
+    let f = first_column (quad_set (g.Q.Core.worker o) v) in
+    let n = c.requires.many ∙ ap (λ k. count_below k f) e in
+    let z = ranked-none h c.args.many c.args.row c.args.before f n (λ i k a b. c.if-passes_by.ensures refl i k (omega (arith, a, c.side_of.ensures, e)) b) in
+    record { means = laws.none o v.height (laws.low_height o v c.requires.stands) (laws.high_height o v c.requires.stands) ∙ ap Some (sym z); same_height = c.requires.height }
+
+pub ranks-requires : goal.ranks-requires
+ranks-requires g t c κs within =
+    let p = halves_first _ _ _ g.Q.Quads.least c.args.depth c.args.many c.elements-above.result c.args.vector c.quarters.result c.if-depth-eq0.false c.requires.height c.quarters.ensures.quarters c.requires.many c.elements-above.ensures.count c.elements-above.ensures.keeps in
+    let s = side_step g.Q.Quads.least c.args.depth c.if-depth-eq0.false in
+    (search rules, (within, (p.upper_stands, (p.upper_height, (p.upper_many, (omega (arith, s, c.requires.row), (let f = p.fits in omega (arith, f, c.requires.before))))))))
+
+pub overflow_sub-many : goal.overflow_sub-many
+overflow_sub-many g t c =
+    let p = halves_first _ _ _ g.Q.Quads.least c.args.depth c.args.many c.elements-above.result c.args.vector c.quarters.result c.if-depth-eq0.false c.requires.height c.quarters.ensures.quarters c.requires.many c.elements-above.ensures.count c.elements-above.ensures.keeps in
+    let f = p.fits in omega (arith, f)
+
+pub ranks-requires-2 : goal.ranks-requires-2
+ranks-requires-2 g t c κs within =
+    let p2 = halves_first _ _ _ g.Q.Quads.least c.args.depth c.args.many c.elements-above.result c.args.vector c.quarters.result c.if-depth-eq0.false c.requires.height c.quarters.ensures.quarters c.requires.many c.elements-above.ensures.count c.elements-above.ensures.keeps in
+    let p = halves_later _ _ _ _ _ _ _ _ _ c.in_ok-nw.ensures.keeps p2 in
+    let s = side_step g.Q.Quads.least c.args.depth c.if-depth-eq0.false in
+    (search rules, (within, (p.lower_stands, (p.lower_height, (p.lower_many, (omega (arith, s, c.requires.row), (let f = p.fits in omega (arith, f, c.requires.before))))))))
+
+pub ranks-requires-3 : goal.ranks-requires-3
+ranks-requires-3 g t c κs within =
+    let p2 = halves_first _ _ _ g.Q.Quads.least c.args.depth c.args.many c.elements-above.result c.args.vector c.quarters.result c.if-depth-eq0.false c.requires.height c.quarters.ensures.quarters c.requires.many c.elements-above.ensures.count c.elements-above.ensures.keeps in
+    let p = halves_later _ _ _ _ _ _ _ _ _ c.in_ok-ne.ensures.keeps (halves_later _ _ _ _ _ _ _ _ _ c.in_ok-nw.ensures.keeps p2) in
+    let s = side_step g.Q.Quads.least c.args.depth c.if-depth-eq0.false in
+    let half : c.side_of-half.result ≡ 2 ^ (g.Q.Quads.least + (c.args.depth - 1)) = c.side_of-half.ensures ∙ ap (λ k. 2 ^ k) (omega (arith, c.requires.height, c.if-depth-eq0.false)) in
+    (search rules, (within, (p.upper_stands, (p.upper_height, (p.upper_many, (omega (arith, s, half, c.requires.row), (let f = p.fits in omega (arith, f, c.requires.before))))))))
+
+pub overflow_sub-many-2 : goal.overflow_sub-many-2
+overflow_sub-many-2 g t c =
+    let p = halves_first _ _ _ g.Q.Quads.least c.args.depth c.args.many c.elements-above.result c.args.vector c.quarters.result c.if-depth-eq0.false c.requires.height c.quarters.ensures.quarters c.requires.many c.elements-above.ensures.count c.elements-above.ensures.keeps in
+    let f = p.fits in omega (arith, f)
+
+pub ranks-requires-4 : goal.ranks-requires-4
+ranks-requires-4 g t c κs within =
+    let p2 = halves_first _ _ _ g.Q.Quads.least c.args.depth c.args.many c.elements-above.result c.args.vector c.quarters.result c.if-depth-eq0.false c.requires.height c.quarters.ensures.quarters c.requires.many c.elements-above.ensures.count c.elements-above.ensures.keeps in
+    let p = halves_later _ _ _ _ _ _ _ _ _ c.in_ok-sw.ensures.keeps (halves_later _ _ _ _ _ _ _ _ _ c.in_ok-ne.ensures.keeps (halves_later _ _ _ _ _ _ _ _ _ c.in_ok-nw.ensures.keeps p2)) in
+    let s = side_step g.Q.Quads.least c.args.depth c.if-depth-eq0.false in
+    let half : c.side_of-half.result ≡ 2 ^ (g.Q.Quads.least + (c.args.depth - 1)) = c.side_of-half.ensures ∙ ap (λ k. 2 ^ k) (omega (arith, c.requires.height, c.if-depth-eq0.false)) in
+    (search rules, (within, (p.lower_stands, (p.lower_height, (p.lower_many, (omega (arith, s, half, c.requires.row), (let f = p.fits in omega (arith, f, c.requires.before))))))))
+
+pub corner-requires-clause-below : goal.corner-requires-clause-below
+corner-requires-clause-below g t c =
+    let h = g.met.Q.Quads.high_height c.args.q.now c.args.vector c.requires.stands in
+    let e = c.in_ok-nw.ensures.value.same_height in
+    omega (arith, h, e, c.requires.height, c.if-depth-eq0.false)
+
+pub returns-clause-value : goal.returns-clause-value
+returns-clause-value g t c =
+    let p2 = halves_first _ _ _ g.Q.Quads.least c.args.depth c.args.many c.elements-above.result c.args.vector c.quarters.result c.if-depth-eq0.false c.requires.height c.quarters.ensures.quarters c.requires.many c.elements-above.ensures.count c.elements-above.ensures.keeps in
+    ranks_given _ _ _ _ _ _ _ _ g.Q.Quads.least c.args.depth c.args.many c.args.row c.args.before c.side_of-half.result c.elements-above.result c.args.vector c.quarters.result _ _ _ _ _ c.if-depth-eq0.false c.requires.height
+    c.side_of-half.ensures c.quarters.ensures.quarters c.elements-above.ensures.count p2 c.in_ok-nw.ensures.keeps c.in_ok-nw.ensures.value c.in_ok-ne.ensures.keeps c.in_ok-ne.ensures.value c.in_ok-sw.ensures.keeps c.in_ok-sw.ensures.value
+    c.in_ok-se.ensures.keeps c.in_ok-se.ensures.value c.in_ok-corner.ensures.value

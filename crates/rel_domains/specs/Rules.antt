@@ -1,0 +1,29 @@
+-- Sets of cells by a rule on a row and a column, and their squares.
+use Rattle.std.specs.Prelude.{◌==◌, ◌<◌, ◌≤◌, ◌+◌, ◌/◌, ◌%◌, ◌&&◌, nat_lt, ℕ, Bool}
+use Rattle.std.specs.Int.{bit_at}
+use Rattle.rel_model.specs.Relation.{size_limit}
+use Rattle.rel_model.specs.Cells.{Cells}
+use Rattle.rel_domains.specs.declared.rule.Rule.{Rule}
+use Rattle.rel_domains.specs.declared.rule.Rule.TheVariants.{Shift, Quotient, Remainder, Member}
+
+-- whether a row and a column pass a rule
+abbrev pub passes : Rule → ℕ → ℕ → Bool
+passes (Shift by) i j = j == by + i
+passes (Quotient by) i j = i / by == j
+passes (Remainder by) i j = i % by == j
+passes Member i j = bit_at j i == 1
+
+-- a rule can be asked of so many rows: it shifts by no more than a size, divides by one that is not 0, and asks for bits of numbers up to the limit
+abbrev pub IsRule : ℕ → Rule → Type 0
+IsRule rows (Shift by) = by ≤ size_limit
+IsRule rows (Quotient by) = 0 < by
+IsRule rows (Remainder by) = (0 < by) × (by ≤ size_limit)
+IsRule rows Member = rows ≤ 24
+
+-- the cells that pass a rule, within so many rows and columns
+abbrev pub rule_cells : ℕ → ℕ → Rule → Cells
+rule_cells rows cols rule i j = nat_lt i rows && (nat_lt j cols && passes rule i j)
+
+-- the square of side m of a set, from a row and a column on
+abbrev pub window : ℕ → ℕ → ℕ → Cells → Cells
+window m row col f i j = nat_lt i m && (nat_lt j m && f (row + i) (col + j))

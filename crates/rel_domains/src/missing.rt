@@ -1,0 +1,57 @@
+//! Squares that no pair of a rule meets, and squares that are like others.
+ghost use Rattle.std.specs.Prelude.{◌≡◌, ◌<◌, ◌≤◌, ◌+◌, ◌*◌, ◌%◌, ◌^◌, ◌⊎◌, ℕ, IsTrue};
+ghost use Rattle.rel_model.specs.Cells.{no_cells};
+ghost use Rattle.rel_domains.specs.Rules.{IsRule, rule_cells, window};
+
+use crate::rule::Rule;
+use rel_model::Shape;
+
+/// A row, from one on, before which none has its remainder from `col` on and below `col + side`.
+fn first_with(by: u32, row: u32, col: u32, side: u32) -> u32
+    requires by { 0 < by }
+    requires by_limit { by ≤ 2 ^ 24 }
+    requires row { row ≤ 2 ^ 24 }
+    requires col { col + side ≤ 2 ^ 24 }
+    ensures { (k : ℕ) → row ≤ k → k < result → (k % by < col) ⊎ (col + side ≤ k % by) }
+{
+    let at = row % by;
+    if at < col {
+        row + (col - at)
+    } else if at < col + side {
+        row
+    } else {
+        row + (by - at) + col
+    }
+}
+
+/// Whether a square is seen to have no cell of a rule.
+pub fn misses(shape: Shape, rule: Rule, row: u32, col: u32, side: u32) -> bool
+    requires rule { IsRule shape.rows rule }
+    requires side { 0 < side }
+    requires row { row + side ≤ 2 ^ 24 }
+    requires col { col + side ≤ 2 ^ 24 }
+    ensures { IsTrue result → window side row col (rule_cells shape.rows shape.cols rule) ≡ no_cells }
+{
+    if row >= shape.rows || col >= shape.cols {
+        return true;
+    }
+    let end = shape.rows.min(row + side);
+    match rule {
+        Rule::Shift { by } => by + end <= col || col + side <= by + row,
+        Rule::Quotient { by } => (end - 1) / by < col || col + side <= row / by,
+        Rule::Remainder { by } => end <= first_with(by, row, col, side),
+        Rule::Member => false,
+    }
+}
+
+/// Whether a square is seen to have the same cells as the one half its side down and to the right.
+pub fn goes_on(shape: Shape, rule: Rule, row: u32, col: u32, half: u32) -> bool
+    requires row { row + 2 * half ≤ 2 ^ 24 }
+    requires col { col + 2 * half ≤ 2 ^ 24 }
+    ensures { IsTrue result → window half (row + half) (col + half) (rule_cells shape.rows shape.cols rule) ≡ window half row col (rule_cells shape.rows shape.cols rule) }
+{
+    match rule {
+        Rule::Shift { by } => row + 2 * half <= shape.rows && col + 2 * half <= shape.cols,
+        _ => false,
+    }
+}

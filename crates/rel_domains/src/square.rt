@@ -1,0 +1,92 @@
+//! The tree of a set of cells that is given by a rule, built from its squares.
+ghost use Rattle.std.specs.Prelude.{◌≡◌, ◌<◌, ◌≤◌, ◌+◌, ◌-◌, ◌*◌, ◌^◌, IfOk};
+ghost use Rattle.rel_model.specs.Cells.{bits_cells};
+ghost use Rattle.rel_model.specs.Relation.{relation_of, size_limit};
+ghost use Rattle.rel_model.specs.Trees.{top_height};
+ghost use Rattle.rel_model.specs.Worker.{Gives, GivesQuad, Keeps, MakesAtMost, HasCause, operator_room};
+ghost use Rattle.rel_domains.specs.Rules.{IsRule, passes, rule_cells, window};
+
+use crate::heights::{depth_over, side_of};
+use crate::missing::{goes_on, misses};
+use crate::rule::{Rule, has};
+use rel_model::core_trait::Core;
+use rel_model::quads_trait::Quads;
+use rel_model::{Lack, Quad, Rel, Shape};
+
+/// The word of a leaf.
+fn word_at(least: u8, shape: Shape, rule: Rule, row: u32, col: u32) -> u64
+    requires low { least ≤ 3 }
+    requires rule { IsRule shape.rows rule }
+    requires row { row + 2 ^ least ≤ 2 ^ 24 }
+    requires col { col + 2 ^ least ≤ 2 ^ 24 }
+    ensures cells { bits_cells (2 ^ least) result ≡ window (2 ^ least) row col (rule_cells shape.rows shape.cols rule) }
+    ensures none_past { result < 2 ^ (2 ^ least * 2 ^ least) }
+{
+    let side = side_of(least);
+    let mut bits = 0;
+    'places: for place in 0..side * side {
+        let i = place / side;
+        if has(shape, rule, row + i, col + (place - side * i)) {
+            bits |= 1u64 << place;
+        }
+    }
+    bits
+}
+
+/// The quad of a square from a row and a column on, so many quarterings above the leaves.
+#[tactic(auto, unfolding(rel_model::specs::Trees::top_height), using(crate::proofs::Places::side_step, crate::proofs::Places::power_step, crate::proofs::Places::some_cells))]
+fn square<Q: Quads>(
+    q: &mut Q,
+    depth: u8,
+    shape: Shape,
+    rule: Rule,
+    row: u32,
+    col: u32,
+) -> Result<Quad, Lack>
+    requires high { Q.least + depth ≤ top_height }
+    requires rule { IsRule shape.rows rule }
+    requires row { row + 2 ^ (Q.least + depth) ≤ 2 ^ 24 }
+    requires col { col + 2 ^ (Q.least + depth) ≤ 2 ^ 24 }
+    ensures value { IfOk result (GivesQuad (Q.worker q.new) (Q.least + depth) (window (2 ^ (Q.least + depth)) row col (rule_cells shape.rows shape.cols rule))) }
+    ensures keeps { Keeps (Q.worker q.old) (Q.worker q.new) }
+    ensures room { MakesAtMost (2 * 4 ^ depth - 1) (Q.worker q.old) (Q.worker q.new) }
+    ensures cause { HasCause Q.lean (Q.worker q.old) (Q.worker q.new) result }
+{
+    let height = q.bottom() + depth;
+    if misses(shape, rule, row, col, side_of(height)) {
+        return Ok(Quad { height, name: 0 });
+    }
+    if depth == 0 {
+        let leaf = q.block(word_at(height, shape, rule, row, col))?;
+        return Ok(leaf);
+    }
+    let half = side_of(height - 1);
+    let nw = square(q, depth - 1, shape, rule, row, col)?;
+    let ne = square(q, depth - 1, shape, rule, row, col + half)?;
+    let sw = square(q, depth - 1, shape, rule, row + half, col)?;
+    if goes_on(shape, rule, row, col, half) {
+        let regular = q.corner(nw, ne, sw, nw)?;
+        return Ok(regular);
+    }
+    let se = square(q, depth - 1, shape, rule, row + half, col + half)?;
+    let corner = q.corner(nw, ne, sw, se)?;
+    Ok(corner)
+}
+
+/// `{(i, j) : row i has column j}`: the relation of a rule.
+#[tactic(auto, unfolding(rel_model::specs::Trees::top_height))]
+pub fn relation_by<Q: Quads>(q: &mut Q, shape: Shape, rule: Rule) -> Result<Rel, Lack>
+    requires row_limit { shape.rows ≤ size_limit }
+    requires col_limit { shape.cols ≤ size_limit }
+    requires rule { IsRule shape.rows rule }
+    ensures value { IfOk result (Gives (Q.worker q.new) shape.rows shape.cols (relation_of shape.rows shape.cols (passes rule))) }
+    ensures keeps { Keeps (Q.worker q.old) (Q.worker q.new) }
+    ensures room { MakesAtMost (operator_room shape.rows shape.cols) (Q.worker q.old) (Q.worker q.new) }
+    ensures cause { HasCause Q.lean (Q.worker q.old) (Q.worker q.new) result }
+{
+    let depth = depth_over(q.bottom(), shape.rows, shape.cols);
+    match square(q, depth, shape, rule, 0, 0) {
+        Ok(quad) => Ok(q.rel(shape, quad)),
+        Err(lack) => Err(lack),
+    }
+}

@@ -1,0 +1,13 @@
+use Rattle.std.proofs.Common.{◌∷◌, ◌∙◌, ap, arith, length}
+use Rattle.rel_model.specs.Stop.{FilePart}
+use Rattle.rv_parse.proofs.command.loading.Goals as goal
+
+pub returns : goal.returns
+returns c =
+    let name = c.in_ok-name.ensures in
+    let file = c.in_ok-file.ensures in
+    record {
+      spelled = λ before b. (c.in_ok-name.rest.now, (c.args.tokens.now, b, (_, name.0)), file.0);
+      shorter = omega (arith, ap length name.0, ap length file.0.1);
+      read = λ behind. name.1 (FilePart ∷ behind) ∙ file.1 behind;
+    }

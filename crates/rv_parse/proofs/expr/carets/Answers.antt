@@ -1,0 +1,12 @@
+use Rattle.std.proofs.Common.{◌∙◌, ap, subst, sym, arith, add-one, length}
+use Rattle.rel_model.specs.Grammar.{Carets}
+use Rattle.rv_parse.proofs.Spelling.{carets_push}
+use Rattle.rv_parse.proofs.Optional.{enter_carets, drop_carets}
+use Rattle.rv_parse.proofs.expr.carets.Goals as goal
+
+pub carets-preserved : goal.carets-preserved
+carets-preserved c = record {
+  spelled = subst (λ n. Carets n c.args.tokens.now c.in-Some.behind.now) (sym (add-one c.carets.count)) (carets_push c.carets.count c.args.tokens.now c.carets.rest.now c.in-Some.behind.now c.carets.invariant.spelled (_, c.in-Some.ensures));
+  counted = omega (arith, ap length c.in-Some.ensures, c.carets.invariant.counted);
+  read = λ e behind. c.carets.invariant.read e behind ∙ enter_carets _ c.carets.rest.now c.in-Some.behind.now e behind c.in-Some.ensures;
+}

@@ -1,0 +1,57 @@
+-- What a reader of a part of the grammar answers, and the parts of statements, definitions and commands.
+use Rattle.std.specs.Prelude.{◌≡◌, ◌≤◌, ◌++◌, ℕ, List, [], ◌∷◌, length, suc, Some}
+use Rattle.rel_model.specs.declared.token.Keyword.TheVariants.{Beg as BEG, End as END, Return as RETURN, Do as DO, Od as OD, Then as THEN, Fi as FI}
+use Rattle.rel_model.specs.declared.syntax.Expr.{Expr}
+use Rattle.rel_model.specs.declared.syntax.Stmt.{Stmt}
+use Rattle.rel_model.specs.declared.token.Kind.TheVariants.{Keyword as KEYWORD}
+use Rattle.rel_model.specs.declared.token.Token.{Token}
+use Rattle.rel_model.specs.Grammar.{Takes}
+use Rattle.rel_model.specs.Lexed.{Ending}
+use Rattle.rel_model.specs.Spelling.{OrLevel, Spelled, SpelledStmts}
+use Rattle.rel_model.specs.Stop.{Part, NamePart, NumberPart, SignPart, WordPart, ExprPart, StmtsPart, ElsePart, RowsPart, ItemsPart, MoreParams, BodyPart, MeaningPart, MoreDecls, program_parts, stop_of}
+use Rattle.rv_parse.specs.Halts.{fault_of}
+use Rattle.rv_parse.specs.Readers.{Reads}
+use Rattle.rv_parse.specs.declared.halt.Halt.{Halt}
+use Rattle.rv_parse.specs.declared.halt.Halt.TheVariants.{NoMemory}
+
+-- Something is read: the tokens spell it, no more of them are left, and they are what these parts take.
+pub record Got (e : Ending) (parts : List Part) (spells : List Token → List Token → Type 0) (tokens rest : List Token) : Type 0 where
+  pub spelled : spells tokens rest
+  pub shorter : length rest ≤ length tokens
+  pub read : Reads e parts tokens rest
+
+-- whatever is to come behind, from the first parts the tokens up to `rest` lead to the others
+abbrev pub ReadsTo : Ending → List Part → List Part → List Token → List Token → Type 0
+ReadsTo e parts others tokens rest = (behind : List Part) → stop_of (parts ++ behind) tokens e ≡ stop_of (others ++ behind) rest e
+
+-- the tokens are no items, unless memory ran out
+abbrev pub RefusesItems : Ending → List Token → Halt → Type 0
+RefusesItems e tokens halt = (halt ≡ NoMemory → ⊥) → stop_of (ItemsPart ∷ []) tokens e ≡ Some (fault_of halt)
+
+-- an assignment behind its name
+abbrev pub set_parts : ℕ → List Part
+set_parts d = SignPart 61 ∷ ExprPart OrLevel d ∷ []
+
+-- a loop behind WHILE
+abbrev pub while_parts : ℕ → List Part
+while_parts d = ExprPart OrLevel (suc d) ∷ WordPart DO ∷ StmtsPart (suc d) ∷ WordPart OD ∷ []
+
+-- a choice behind IF
+abbrev pub if_parts : ℕ → List Part
+if_parts d = ExprPart OrLevel (suc d) ∷ WordPart THEN ∷ StmtsPart (suc d) ∷ ElsePart (suc d) ∷ WordPart FI ∷ []
+
+-- a listed relation behind REL
+abbrev pub relation_parts : List Part
+relation_parts = NamePart ∷ NumberPart ∷ NumberPart ∷ SignPart 123 ∷ RowsPart ∷ SignPart 125 ∷ []
+
+-- a definition behind its name
+abbrev pub definition_parts : List Part
+definition_parts = SignPart 40 ∷ NamePart ∷ MoreParams 15 ∷ SignPart 41 ∷ BodyPart ∷ []
+
+-- the statements and the result of a program, behind BEG
+abbrev pub SpellsTail : List Stmt → Expr → List Token → List Token → Type 0
+SpellsTail body result tokens rest = (t1 t2 t3 : List Token) × SpelledStmts 0 body tokens t1 × Takes (KEYWORD RETURN) t1 t2 × Spelled OrLevel 0 result t2 t3 × Takes (KEYWORD END) t3 rest
+
+-- a program with declarations behind DECL
+abbrev pub declared_parts : List Part
+declared_parts = NamePart ∷ MeaningPart ∷ MoreDecls ∷ WordPart BEG ∷ program_parts

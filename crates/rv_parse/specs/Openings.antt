@@ -1,0 +1,41 @@
+-- The keywords that open commands, and what is to come behind them.
+use Rattle.std.specs.Prelude.{◌≡◌, List, [], ◌∷◌}
+use Rattle.rel_model.specs.declared.token.Keyword.{Keyword}
+use Rattle.rel_model.specs.declared.token.Keyword.TheVariants.{Rel as REL, Let as LET, Print as PRINT, List as LIST, Count as COUNT, «Type» as TYPE, Drop as DROP, Snap as SNAP, At as AT, Load as LOAD, Save as SAVE}
+use Rattle.rel_model.specs.Spelling.{OrLevel}
+use Rattle.rel_model.specs.Stop.{Part, NamePart, FilePart, SignPart, WordPart, ExprPart, Behind, command_step}
+use Rattle.rv_parse.specs.Got.{relation_parts}
+use Rattle.rv_parse.specs.declared.command.Opening.{Opening}
+use Rattle.rv_parse.specs.declared.command.Opening.TheVariants.{Relation, Let, Print, List as ListOf, Count, «Type» as TypeOf, Drop, Snap, At, Load, Save}
+
+-- the keyword
+abbrev pub opening_word : Opening → Keyword
+opening_word Relation = REL
+opening_word Let = LET
+opening_word Print = PRINT
+opening_word ListOf = LIST
+opening_word Count = COUNT
+opening_word TypeOf = TYPE
+opening_word Drop = DROP
+opening_word Snap = SNAP
+opening_word At = AT
+opening_word Load = LOAD
+opening_word Save = SAVE
+
+-- the parts behind it
+abbrev pub opening_parts : Opening → List Part
+opening_parts Relation = relation_parts
+opening_parts Let = NamePart ∷ SignPart 61 ∷ ExprPart OrLevel 0 ∷ []
+opening_parts Print = ExprPart OrLevel 0 ∷ []
+opening_parts ListOf = ExprPart OrLevel 0 ∷ []
+opening_parts Count = ExprPart OrLevel 0 ∷ []
+opening_parts TypeOf = ExprPart OrLevel 0 ∷ []
+opening_parts Drop = NamePart ∷ []
+opening_parts Snap = NamePart ∷ []
+opening_parts At = NamePart ∷ WordPart PRINT ∷ ExprPart OrLevel 0 ∷ []
+opening_parts Load = NamePart ∷ FilePart ∷ []
+opening_parts Save = ExprPart OrLevel 0 ∷ FilePart ∷ []
+
+-- the keyword opens this command
+abbrev pub Opens : Keyword → Opening → Type 0
+Opens keyword opening = (keyword ≡ opening_word opening) × (command_step keyword ≡ Behind (opening_parts opening))

@@ -1,0 +1,100 @@
+-- What the readers answer: a tree that the tokens spell, and what is left of these; or the fault of the tokens. Both whatever is to come behind.
+use Rattle.std.specs.Prelude.{◌≡◌, ◌<◌, ◌≤◌, ◌++◌, ℕ, Bool, true, false, List, [], ◌∷◌, length, Option, Some, None}
+use Rattle.rel_model.specs.declared.syntax.Place.{Place}
+use Rattle.rel_model.specs.declared.syntax.Expr.{Expr}
+use Rattle.rel_model.specs.declared.syntax.Op2.{Op2}
+use Rattle.rel_model.specs.declared.token.Keyword.{Keyword}
+use Rattle.rel_model.specs.declared.token.Kind.{Kind}
+use Rattle.rel_model.specs.declared.token.Kind.TheVariants.{Number, Sign}
+use Rattle.rel_model.specs.declared.token.Token.{Token}
+use Rattle.rel_model.specs.Grammar.{TakesAt}
+use Rattle.rel_model.specs.Lexed.{Ending}
+use Rattle.rel_model.specs.Spelling.{Level, OrLevel, AndLevel, ProdLevel, PrimLevel, tighter, IsOperatorOf, Spelled, Listed, Form, TakesOne, TakesTwo, TakesDomain}
+use Rattle.rel_model.specs.Stop.{Part, ExprPart, MoreLinks, MoreArgs, is_sign, is_word, is_operator, stop_of}
+use Rattle.rv_parse.specs.Halts.{fault_of}
+use Rattle.rv_parse.specs.declared.halt.Halt.{Halt}
+use Rattle.rv_parse.specs.declared.halt.Halt.TheVariants.{NoMemory}
+use Rattle.rv_parse.specs.declared.expr.Form.{Form as FORM}
+use Rattle.rv_parse.specs.declared.expr.Form.TheVariants.{One, Two, Domain}
+use Rattle.rv_parse.specs.declared.expr.Chains.{Chains}
+use Rattle.rv_parse.specs.declared.expr.Chains.TheVariants.{Or, And, Prod}
+
+-- whatever is to come behind, these parts take the tokens up to `rest`
+abbrev pub Reads : Ending → List Part → List Token → List Token → Type 0
+Reads e parts tokens rest = (behind : List Part) → stop_of (parts ++ behind) tokens e ≡ stop_of behind rest e
+
+-- whatever is to come behind these parts, the tokens have this fault, unless memory ran out
+abbrev pub Refuses : Ending → List Part → List Token → Halt → Type 0
+Refuses e parts tokens halt = (halt ≡ NoMemory → ⊥) → (behind : List Part) → stop_of (parts ++ behind) tokens e ≡ Some (fault_of halt)
+
+-- whether this sign comes first
+abbrev pub begins : ℕ → List Token → Bool
+begins s [] = false
+begins s (token ∷ tokens) = is_sign s token.kind
+
+-- whether a token is a number
+abbrev pub is_number : Kind → Bool
+is_number (Number n) = true
+is_number _ = false
+
+-- whether a number comes first
+abbrev pub begins_number : List Token → Bool
+begins_number [] = false
+begins_number (token ∷ tokens) = is_number token.kind
+
+-- whether this keyword comes first
+abbrev pub begins_word : Keyword → List Token → Bool
+begins_word word [] = false
+begins_word word (token ∷ tokens) = is_word word token.kind
+
+-- whether an operator of a level comes first
+abbrev pub begins_operator : Level → List Token → Bool
+begins_operator l [] = false
+begins_operator l (token ∷ tokens) = is_operator l token.kind
+
+-- the level of the grammar
+abbrev pub level_of : Chains → Level
+level_of Or = OrLevel
+level_of And = AndLevel
+level_of Prod = ProdLevel
+
+-- the operator of a level that a sign is, if it is one
+abbrev pub OperatorIs : Level → ℕ → Option Op2 → Type 0
+OperatorIs l sign (Some op) = IsOperatorOf l op sign × (is_operator l (Sign sign) ≡ true)
+OperatorIs l sign None = is_operator l (Sign sign) ≡ false
+
+-- the form of a base name or a domain operator
+abbrev pub form_is : FORM → Form
+form_is One = TakesOne
+form_is Two = TakesTwo
+form_is Domain = TakesDomain
+
+-- an operator of a level comes first
+pub record IsLink (l : Level) (op : Op2) (at : Place) (tokens rest : List Token) : Type 0 where
+  pub sign : ℕ
+  pub operator : IsOperatorOf l op sign
+  pub takes : TakesAt at (Sign sign) tokens rest
+  pub entered : (e : Ending) (d : ℕ) (behind : List Part) → stop_of (MoreLinks l d ∷ behind) tokens e ≡ stop_of (ExprPart (tighter l) d ∷ MoreLinks l d ∷ behind) rest e
+
+-- An expression of a level is read where so many constructs are open: the tokens spell it, fewer of them are left, and they are what its part takes.
+pub record IsRead (e : Ending) (l : Level) (d : ℕ) (x : Expr) (tokens rest : List Token) : Type 0 where
+  pub spelled : Spelled l d x tokens rest
+  pub shorter : length rest < length tokens
+  pub read : Reads e (ExprPart l d ∷ []) tokens rest
+
+-- The rest of an expression is read behind its first token, by these parts.
+pub record IsBehind (e : Ending) (at : Place) (kind : Kind) (parts : List Part) (d : ℕ) (x : Expr) (tokens rest : List Token) : Type 0 where
+  pub spelled : (before : List Token) → TakesAt at kind before tokens → Spelled PrimLevel d x before rest
+  pub shorter : length rest ≤ length tokens
+  pub read : Reads e parts tokens rest
+
+-- One to 16 arguments are read.
+pub record AreArguments (e : Ending) (d : ℕ) (args : List Expr) (tokens rest : List Token) : Type 0 where
+  pub first : Expr
+  pub more : List Expr
+  pub all : args ≡ first ∷ more
+  pub mid : List Token
+  pub head : Spelled OrLevel d first tokens mid
+  pub tail : Listed 15 d more mid rest
+  pub shorter : length rest < length tokens
+  pub read : Reads e (ExprPart OrLevel d ∷ MoreArgs 15 d ∷ []) tokens rest

@@ -1,0 +1,144 @@
+//! Commands.
+ghost use Rattle.std.specs.Prelude.{◌≡◌, ◌<◌, ◌^◌, List, length, MatchResult, MatchOption};
+ghost use Rattle.rel_model.specs.Grammar.{Takes};
+ghost use Rattle.rel_model.specs.Spelling.{SpellsCommand};
+ghost use Rattle.rel_model.specs.Stop.{NotBegun, command_step};
+ghost use Rattle.rel_model.specs.declared.token.Kind.TheVariants.{Keyword as KEYWORD};
+ghost use Rattle.rel_model.specs.declared.token.Token.{Token as TOKEN};
+ghost use Rattle.rv_parse.specs.Halts.{ending_of};
+ghost use Rattle.rv_parse.specs.Readers.{Refuses};
+ghost use Rattle.rv_parse.specs.Got.{Got};
+ghost use Rattle.rv_parse.specs.Openings.{Opens, opening_word, opening_parts};
+ghost use Rattle.rv_parse.specs.declared.command.Opening.TheVariants.{Let as LET, At as AT, Load as LOAD, Save as SAVE};
+
+use crate::expr::expression;
+use crate::halt::{Ending, Halt};
+use crate::leaf::{next_file, next_name, next_sign, next_word};
+use crate::rows::relation;
+use rel_model::syntax::Command;
+use rel_model::token::{Keyword, Token};
+use std::alloc::Global;
+
+/// The keywords that open a command.
+#[derive(Clone, Copy, Debug)]
+pub enum Opening {
+    Relation,
+    Let,
+    Print,
+    List,
+    Count,
+    Type,
+    Drop,
+    Snap,
+    At,
+    Load,
+    Save,
+}
+
+/// The command that a keyword opens.
+pub fn opening_of(keyword: Keyword) -> Option<Opening>
+    ensures { MatchOption result (command_step keyword ≡ NotBegun) (Opens keyword) }
+{
+    match keyword {
+        Keyword::Rel => Some(Opening::Relation),
+        Keyword::Let => Some(Opening::Let),
+        Keyword::Print => Some(Opening::Print),
+        Keyword::List => Some(Opening::List),
+        Keyword::Count => Some(Opening::Count),
+        Keyword::Type => Some(Opening::Type),
+        Keyword::Drop => Some(Opening::Drop),
+        Keyword::Snap => Some(Opening::Snap),
+        Keyword::At => Some(Opening::At),
+        Keyword::Load => Some(Opening::Load),
+        Keyword::Save => Some(Opening::Save),
+        _ => None,
+    }
+}
+
+/// An assignment behind LET.
+fn assignment(alloc: Global, tokens: &[Token], end: Ending) -> Result<(Command, &[Token]), Halt>
+    requires { length tokens.now < 2 ^ 32 }
+    ensures { MatchResult result (λ x. Got (ending_of end) (opening_parts LET) (λ t r. (before : List TOKEN) → Takes (KEYWORD (opening_word LET)) before t → SpellsCommand x.0 before r) tokens.now x.1.now) (Refuses (ending_of end) (opening_parts LET) tokens.now) }
+{
+    let (name, _, rest) = next_name(alloc, tokens, end)?;
+    let (_, rest) = next_sign(rest, end, b'=')?;
+    let (value, rest) = expression(alloc, rest, end, 0)?;
+    let command = Command::Let { name, value };
+    Ok((command, rest))
+}
+
+/// A look at a snapshot behind AT.
+fn look(alloc: Global, tokens: &[Token], end: Ending) -> Result<(Command, &[Token]), Halt>
+    requires { length tokens.now < 2 ^ 32 }
+    ensures { MatchResult result (λ x. Got (ending_of end) (opening_parts AT) (λ t r. (before : List TOKEN) → Takes (KEYWORD (opening_word AT)) before t → SpellsCommand x.0 before r) tokens.now x.1.now) (Refuses (ending_of end) (opening_parts AT) tokens.now) }
+{
+    let (name, at, rest) = next_name(alloc, tokens, end)?;
+    let (_, rest) = next_word(rest, end, Keyword::Print)?;
+    let (value, rest) = expression(alloc, rest, end, 0)?;
+    let command = Command::At { at, name, value };
+    Ok((command, rest))
+}
+
+/// A relation's file behind LOAD.
+fn loading(alloc: Global, tokens: &[Token], end: Ending) -> Result<(Command, &[Token]), Halt>
+    ensures { MatchResult result (λ x. Got (ending_of end) (opening_parts LOAD) (λ t r. (before : List TOKEN) → Takes (KEYWORD (opening_word LOAD)) before t → SpellsCommand x.0 before r) tokens.now x.1.now) (Refuses (ending_of end) (opening_parts LOAD) tokens.now) }
+{
+    let (name, _, rest) = next_name(alloc, tokens, end)?;
+    let (file, rest) = next_file(alloc, rest, end)?;
+    let command = Command::Load { name, file };
+    Ok((command, rest))
+}
+
+/// A value and its file behind SAVE.
+fn saving(alloc: Global, tokens: &[Token], end: Ending) -> Result<(Command, &[Token]), Halt>
+    requires { length tokens.now < 2 ^ 32 }
+    ensures { MatchResult result (λ x. Got (ending_of end) (opening_parts SAVE) (λ t r. (before : List TOKEN) → Takes (KEYWORD (opening_word SAVE)) before t → SpellsCommand x.0 before r) tokens.now x.1.now) (Refuses (ending_of end) (opening_parts SAVE) tokens.now) }
+{
+    let (value, rest) = expression(alloc, tokens, end, 0)?;
+    let (file, rest) = next_file(alloc, rest, end)?;
+    let command = Command::Save { value, file };
+    Ok((command, rest))
+}
+
+/// The command behind its keyword.
+pub fn command(
+    alloc: Global,
+    opening: Opening,
+    tokens: &[Token],
+    end: Ending,
+) -> Result<(Command, &[Token]), Halt>
+    requires { length tokens.now < 2 ^ 32 }
+    ensures { MatchResult result (λ x. Got (ending_of end) (opening_parts opening) (λ t r. (before : List TOKEN) → Takes (KEYWORD (opening_word opening)) before t → SpellsCommand x.0 before r) tokens.now x.1.now) (Refuses (ending_of end) (opening_parts opening) tokens.now) }
+{
+    match opening {
+        Opening::Relation => relation(alloc, tokens, end),
+        Opening::Let => assignment(alloc, tokens, end),
+        Opening::Print => {
+            let (value, rest) = expression(alloc, tokens, end, 0)?;
+            Ok((Command::Print { value }, rest))
+        }
+        Opening::List => {
+            let (value, rest) = expression(alloc, tokens, end, 0)?;
+            Ok((Command::List { value }, rest))
+        }
+        Opening::Count => {
+            let (value, rest) = expression(alloc, tokens, end, 0)?;
+            Ok((Command::Count { value }, rest))
+        }
+        Opening::Type => {
+            let (value, rest) = expression(alloc, tokens, end, 0)?;
+            Ok((Command::Typed { value }, rest))
+        }
+        Opening::Drop => {
+            let (name, at, rest) = next_name(alloc, tokens, end)?;
+            Ok((Command::Remove { at, name }, rest))
+        }
+        Opening::Snap => {
+            let (name, _, rest) = next_name(alloc, tokens, end)?;
+            Ok((Command::Snap { name }, rest))
+        }
+        Opening::At => look(alloc, tokens, end),
+        Opening::Load => loading(alloc, tokens, end),
+        Opening::Save => saving(alloc, tokens, end),
+    }
+}

@@ -1,0 +1,426 @@
+//! Expressions: chains of operands, a prefix `-`, signs `^`, calls, pairs and parentheses.
+ghost use Rattle.std.specs.Prelude.{◌≡◌, ◌<◌, ◌≤◌, ◌+◌, ◌^◌, ◌∷◌, [], ℕ, List, false, suc, length, MatchResult, MatchOption};
+ghost use Rattle.rel_model.specs.Grammar.{Carets, TakesAt, nesting_limit};
+ghost use Rattle.rel_model.specs.Lexed.{Ending as ENDING};
+ghost use Rattle.rel_model.specs.Spelling.{OrLevel, UnaryLevel, PostLevel, PrimLevel, tighter, TakesOne, TakesTwo, TakesDomain, form_of};
+ghost use Rattle.rel_model.specs.Stop.{Part, ExprPart, CallPart, MoreArgs, MoreCarets, SignPart, form_parts, stop_of};
+ghost use Rattle.rel_model.specs.declared.token.Kind.TheVariants.{Base as BASE, Word, Sign};
+ghost use Rattle.rv_parse.specs.Halts.{ending_of};
+ghost use Rattle.rv_parse.specs.Readers.{Reads, Refuses, begins, begins_operator, level_of, form_is, OperatorIs, IsLink, IsRead, IsBehind, AreArguments};
+
+use crate::halt::{Ending, Halt, Wanted};
+use crate::leaf::{NESTING_LIMIT, behind_sign, missing, next_name, next_sign, open};
+use rel_model::syntax::{Base, Expr, Link, Name, Op2, Place};
+use rel_model::token::{Kind, Token};
+use std::alloc::Global;
+
+/// How many arguments a call may have.
+const ARGUMENT_LIMIT: usize = 16;
+
+/// The levels of chains.
+#[derive(Clone, Copy, Debug)]
+enum Chains {
+    Or,
+    And,
+    Prod,
+}
+
+/// What stands in the parentheses behind a base name or a domain operator.
+#[derive(Clone, Copy, Debug)]
+enum Form {
+    One,
+    Two,
+    Domain,
+}
+
+/// The operator of a sign on a level.
+fn operator_of(level: Chains, sign: u8) -> Option<Op2>
+    ensures { OperatorIs (level_of level) sign result }
+{
+    match level {
+        Chains::Or => match sign {
+            b'|' => Some(Op2::Or),
+            _ => None,
+        },
+        Chains::And => match sign {
+            b'&' => Some(Op2::And),
+            _ => None,
+        },
+        Chains::Prod => match sign {
+            b'*' => Some(Op2::Times),
+            b'\\' => Some(Op2::Under),
+            b'/' => Some(Op2::Over),
+            _ => None,
+        },
+    }
+}
+
+/// The operator of a level that comes first.
+fn operator(level: Chains, tokens: &[Token]) -> Option<(Op2, Place, &[Token])>
+    ensures { MatchOption result (begins_operator (level_of level) tokens.now ≡ false) (λ x. IsLink (level_of level) x.0 x.1 tokens.now x.2.now) }
+{
+    let [first, rest @ ..] = tokens else {
+        return None;
+    };
+    match &first.kind {
+        Kind::Sign(sign) => match operator_of(level, *sign) {
+            Some(op) => Some((op, first.at, rest)),
+            None => None,
+        },
+        _ => None,
+    }
+}
+
+/// How many signs `^` come first.
+#[tactic(auto, using(crate::proofs::Optional::drop_carets))]
+fn carets(tokens: &[Token]) -> (u32, &[Token])
+    requires { length tokens.now < 2 ^ 32 }
+    ensures spelled { Carets result.0 tokens.now result.1.now }
+    ensures count { result.0 + length result.1.now ≡ length tokens.now }
+    ensures read { (e : ENDING) → Reads e (MoreCarets ∷ []) tokens.now result.1.now }
+{
+    let mut count = 0;
+    let mut rest = tokens;
+    'carets: while let Some((_, behind)) = behind_sign(rest, b'^') {
+        rest = behind;
+        count += 1;
+    }
+    (count, rest)
+}
+
+/// The form of a base name or a domain operator.
+fn form_of(base: Base) -> Form
+    ensures { form_is result ≡ form_of base }
+{
+    match base {
+        Base::Syq | Base::Eq | Base::Incl => Form::Two,
+        Base::P1 | Base::P2 | Base::I1 | Base::I2 => Form::Domain,
+        _ => Form::One,
+    }
+}
+
+/// A domain operator with its domain, behind the operator.
+fn with_domain(
+    alloc: Global,
+    base: Base,
+    at: Place,
+    tokens: &[Token],
+    end: Ending,
+    depth: u32,
+) -> Result<(Expr, &[Token]), Halt>
+    requires form { form_of base ≡ TakesDomain }
+    ensures { MatchResult result (λ x. IsBehind (ending_of end) at (BASE base) (form_parts TakesDomain depth) depth x.0 tokens.now x.1.now) (Refuses (ending_of end) (form_parts TakesDomain depth) tokens.now) }
+{
+    let (_, rest) = open(tokens, end, depth)?;
+    let (domain, _, rest) = next_name(alloc, rest, end)?;
+    let (_, rest) = next_sign(rest, end, b')')?;
+    Ok((Expr::Inject { at, base, domain }, rest))
+}
+
+/// An expression inside of a construct around which so many are open.
+#[cycle(expr)]
+pub fn inner(
+    alloc: Global,
+    tokens: &[Token],
+    end: Ending,
+    depth: u32,
+) -> Result<(Expr, &[Token]), Halt>
+    requires depth { depth < nesting_limit }
+    requires count { length tokens.now < 2 ^ 32 }
+    ensures { MatchResult result (λ x. IsRead (ending_of end) OrLevel (suc depth) x.0 tokens.now x.1.now) (Refuses (ending_of end) (ExprPart OrLevel (suc depth) ∷ []) tokens.now) }
+{
+    chain(alloc, tokens, end, depth + 1, Chains::Or)
+}
+
+/// A base name with one argument, behind the name.
+#[cycle(expr)]
+fn with_one(
+    alloc: Global,
+    base: Base,
+    at: Place,
+    tokens: &[Token],
+    end: Ending,
+    depth: u32,
+) -> Result<(Expr, &[Token]), Halt>
+    requires form { form_of base ≡ TakesOne }
+    requires count { length tokens.now < 2 ^ 32 }
+    ensures { MatchResult result (λ x. IsBehind (ending_of end) at (BASE base) (form_parts TakesOne depth) depth x.0 tokens.now x.1.now) (Refuses (ending_of end) (form_parts TakesOne depth) tokens.now) }
+{
+    let (_, rest) = open(tokens, end, depth)?;
+    let (argument, rest) = inner(alloc, rest, end, depth)?;
+    let (_, rest) = next_sign(rest, end, b')')?;
+    let mut args = Vec::new(alloc);
+    args.push(argument)?;
+    Ok((Expr::Base { at, base, args }, rest))
+}
+
+/// A base name with two arguments, behind the name.
+#[cycle(expr)]
+fn with_two(
+    alloc: Global,
+    base: Base,
+    at: Place,
+    tokens: &[Token],
+    end: Ending,
+    depth: u32,
+) -> Result<(Expr, &[Token]), Halt>
+    requires form { form_of base ≡ TakesTwo }
+    requires count { length tokens.now < 2 ^ 32 }
+    ensures { MatchResult result (λ x. IsBehind (ending_of end) at (BASE base) (form_parts TakesTwo depth) depth x.0 tokens.now x.1.now) (Refuses (ending_of end) (form_parts TakesTwo depth) tokens.now) }
+{
+    let (_, rest) = open(tokens, end, depth)?;
+    let (first, rest) = inner(alloc, rest, end, depth)?;
+    let (_, rest) = next_sign(rest, end, b',')?;
+    let (second, rest) = inner(alloc, rest, end, depth)?;
+    let (_, rest) = next_sign(rest, end, b')')?;
+    let mut args = Vec::new(alloc);
+    args.push(first)?;
+    args.push(second)?;
+    Ok((Expr::Base { at, base, args }, rest))
+}
+
+/// A base name or a domain operator with what it takes, behind the word.
+#[cycle(expr)]
+fn based(
+    alloc: Global,
+    base: Base,
+    at: Place,
+    tokens: &[Token],
+    end: Ending,
+    depth: u32,
+) -> Result<(Expr, &[Token]), Halt>
+    requires count { length tokens.now < 2 ^ 32 }
+    ensures { MatchResult result (λ x. IsBehind (ending_of end) at (BASE base) (form_parts (form_of base) depth) depth x.0 tokens.now x.1.now) (Refuses (ending_of end) (form_parts (form_of base) depth) tokens.now) }
+{
+    match form_of(base) {
+        Form::One => with_one(alloc, base, at, tokens, end, depth),
+        Form::Two => with_two(alloc, base, at, tokens, end, depth),
+        Form::Domain => with_domain(alloc, base, at, tokens, end, depth),
+    }
+}
+
+/// The arguments of a call around which so many constructs are open.
+#[cycle(expr)]
+fn arguments(
+    alloc: Global,
+    tokens: &[Token],
+    end: Ending,
+    depth: u32,
+) -> Result<(Vec<Expr>, &[Token]), Halt>
+    requires depth { depth < nesting_limit }
+    requires count { length tokens.now < 2 ^ 32 }
+    ensures { MatchResult result (λ x. AreArguments (ending_of end) (suc depth) x.0.items tokens.now x.1.now) (Refuses (ending_of end) (ExprPart OrLevel (suc depth) ∷ MoreArgs 15 (suc depth) ∷ []) tokens.now) }
+{
+    let mut args = Vec::new(alloc);
+    let (first, behind) = inner(alloc, tokens, end, depth)?;
+    args.push(first)?;
+    let mut rest = behind;
+    'more: while args.len() < ARGUMENT_LIMIT {
+        let Some((_, behind)) = behind_sign(rest, b',') else {
+            return Ok((args, rest));
+        };
+        let (next, behind) = inner(alloc, behind, end, depth)?;
+        args.push(next)?;
+        rest = behind;
+    }
+    Ok((args, rest))
+}
+
+/// A name, or a call of a definition, behind the name.
+#[cycle(expr)]
+fn named<'a>(
+    alloc: Global,
+    name: &Name,
+    at: Place,
+    tokens: &'a [Token],
+    end: Ending,
+    depth: u32,
+) -> Result<(Expr, &'a [Token]), Halt>
+    requires count { length tokens.now < 2 ^ 32 }
+    ensures { MatchResult result (λ x. IsBehind (ending_of end) at (Word name.now) (CallPart depth ∷ []) depth x.0 tokens.now x.1.now) (Refuses (ending_of end) (CallPart depth ∷ []) tokens.now) }
+{
+    let name = name.copied(alloc)?;
+    match behind_sign(tokens, b'(') {
+        Some((open_at, behind)) => {
+            if depth >= NESTING_LIMIT {
+                return Err(Halt::TooDeep { at: open_at });
+            }
+            let (args, rest) = arguments(alloc, behind, end, depth)?;
+            let (_, rest) = next_sign(rest, end, b')')?;
+            Ok((Expr::Call { at, name, args }, rest))
+        }
+        None => Ok((Expr::Ref { at, name }, tokens)),
+    }
+}
+
+/// An expression behind its opening parenthesis.
+#[cycle(expr)]
+fn enclosed(
+    alloc: Global,
+    at: Place,
+    tokens: &[Token],
+    end: Ending,
+    depth: u32,
+) -> Result<(Expr, &[Token]), Halt>
+    requires depth { depth < nesting_limit }
+    requires count { length tokens.now < 2 ^ 32 }
+    ensures { MatchResult result (λ x. IsBehind (ending_of end) at (Sign 40) (ExprPart OrLevel (suc depth) ∷ SignPart 41 ∷ []) depth x.0 tokens.now x.1.now) (Refuses (ending_of end) (ExprPart OrLevel (suc depth) ∷ SignPart 41 ∷ []) tokens.now) }
+{
+    let (expr, rest) = inner(alloc, tokens, end, depth)?;
+    let (_, rest) = next_sign(rest, end, b')')?;
+    Ok((expr, rest))
+}
+
+/// A pair behind its opening bracket.
+#[cycle(expr)]
+fn pair(
+    alloc: Global,
+    at: Place,
+    tokens: &[Token],
+    end: Ending,
+    depth: u32,
+) -> Result<(Expr, &[Token]), Halt>
+    requires depth { depth < nesting_limit }
+    requires count { length tokens.now < 2 ^ 32 }
+    ensures { MatchResult result (λ x. IsBehind (ending_of end) at (Sign 91) (ExprPart OrLevel (suc depth) ∷ SignPart 44 ∷ ExprPart OrLevel (suc depth) ∷ SignPart 93 ∷ []) depth x.0 tokens.now x.1.now) (Refuses (ending_of end) (ExprPart OrLevel (suc depth) ∷ SignPart 44 ∷ ExprPart OrLevel (suc depth) ∷ SignPart 93 ∷ []) tokens.now) }
+{
+    let (left, rest) = inner(alloc, tokens, end, depth)?;
+    let (_, rest) = next_sign(rest, end, b',')?;
+    let (right, rest) = inner(alloc, rest, end, depth)?;
+    let (_, rest) = next_sign(rest, end, b']')?;
+    let left = Box::new(alloc, left)?;
+    let right = Box::new(alloc, right)?;
+    Ok((Expr::Pair { at, left, right }, rest))
+}
+
+/// A name, a call, a pair, or an expression in parentheses.
+#[cycle(expr)]
+fn prim(alloc: Global, tokens: &[Token], end: Ending, depth: u32) -> Result<(Expr, &[Token]), Halt>
+    requires depth { depth ≤ nesting_limit }
+    requires count { length tokens.now < 2 ^ 32 }
+    ensures { MatchResult result (λ x. IsRead (ending_of end) PrimLevel depth x.0 tokens.now x.1.now) (Refuses (ending_of end) (ExprPart PrimLevel depth ∷ []) tokens.now) }
+{
+    let [first, rest @ ..] = tokens else {
+        return Err(missing(tokens, end, Wanted::Expression));
+    };
+    let at = first.at;
+    match &first.kind {
+        Kind::Word(name) => named(alloc, name, at, rest, end, depth),
+        Kind::Base(base) => based(alloc, *base, at, rest, end, depth),
+        Kind::Sign(sign) => {
+            if *sign != b'(' && *sign != b'[' {
+                return Err(missing(tokens, end, Wanted::Expression));
+            }
+            if depth >= NESTING_LIMIT {
+                return Err(Halt::TooDeep { at });
+            }
+            if *sign == b'(' {
+                enclosed(alloc, at, rest, end, depth)
+            } else {
+                pair(alloc, at, rest, end, depth)
+            }
+        }
+        _ => Err(missing(tokens, end, Wanted::Expression)),
+    }
+}
+
+/// A prim with the signs `^` behind it.
+#[cycle(expr)]
+fn post(alloc: Global, tokens: &[Token], end: Ending, depth: u32) -> Result<(Expr, &[Token]), Halt>
+    requires depth { depth ≤ nesting_limit }
+    requires count { length tokens.now < 2 ^ 32 }
+    ensures { MatchResult result (λ x. IsRead (ending_of end) PostLevel depth x.0 tokens.now x.1.now) (Refuses (ending_of end) (ExprPart PostLevel depth ∷ []) tokens.now) }
+{
+    let (of, rest) = prim(alloc, tokens, end, depth)?;
+    match behind_sign(rest, b'^') {
+        Some((at, behind)) => {
+            let (more, rest) = carets(behind);
+            let of = Box::new(alloc, of)?;
+            let times = more + 1;
+            Ok((Expr::Turned { at, of, times }, rest))
+        }
+        None => Ok((of, rest)),
+    }
+}
+
+/// An operand of `*`, `\` and `/`.
+#[cycle(expr)]
+fn unary(alloc: Global, tokens: &[Token], end: Ending, depth: u32) -> Result<(Expr, &[Token]), Halt>
+    requires depth { depth ≤ nesting_limit }
+    requires count { length tokens.now < 2 ^ 32 }
+    ensures { MatchResult result (λ x. IsRead (ending_of end) UnaryLevel depth x.0 tokens.now x.1.now) (Refuses (ending_of end) (ExprPart UnaryLevel depth ∷ []) tokens.now) }
+{
+    match behind_sign(tokens, b'-') {
+        Some((at, behind)) => {
+            if depth >= NESTING_LIMIT {
+                return Err(Halt::TooDeep { at });
+            }
+            let (of, rest) = unary(alloc, behind, end, depth + 1)?;
+            let of = Box::new(alloc, of)?;
+            Ok((Expr::Minus { at, of }, rest))
+        }
+        None => post(alloc, tokens, end, depth),
+    }
+}
+
+/// An operand of a level.
+#[cycle(expr)]
+fn operand(
+    alloc: Global,
+    tokens: &[Token],
+    end: Ending,
+    depth: u32,
+    level: Chains,
+) -> Result<(Expr, &[Token]), Halt>
+    requires depth { depth ≤ nesting_limit }
+    requires count { length tokens.now < 2 ^ 32 }
+    ensures { MatchResult result (λ x. IsRead (ending_of end) (tighter (level_of level)) depth x.0 tokens.now x.1.now) (Refuses (ending_of end) (ExprPart (tighter (level_of level)) depth ∷ []) tokens.now) }
+{
+    match level {
+        Chains::Or => chain(alloc, tokens, end, depth, Chains::And),
+        Chains::And => chain(alloc, tokens, end, depth, Chains::Prod),
+        Chains::Prod => unary(alloc, tokens, end, depth),
+    }
+}
+
+/// One or more operands of a level, read from the left.
+#[cycle(expr)]
+fn chain(
+    alloc: Global,
+    tokens: &[Token],
+    end: Ending,
+    depth: u32,
+    level: Chains,
+) -> Result<(Expr, &[Token]), Halt>
+    requires depth { depth ≤ nesting_limit }
+    requires count { length tokens.now < 2 ^ 32 }
+    ensures { MatchResult result (λ x. IsRead (ending_of end) (level_of level) depth x.0 tokens.now x.1.now) (Refuses (ending_of end) (ExprPart (level_of level) depth ∷ []) tokens.now) }
+{
+    let (first, behind) = operand(alloc, tokens, end, depth, level)?;
+    let mut rest = behind;
+    let mut links = Vec::new(alloc);
+    'links: while let Some((op, at, behind)) = operator(level, rest) {
+        let (right, behind) = operand(alloc, behind, end, depth, level)?;
+        links.push(Link { at, op, right })?;
+        rest = behind;
+    }
+    if links.is_empty() {
+        return Ok((first, rest));
+    }
+    let first = Box::new(alloc, first)?;
+    Ok((Expr::Chain { first, rest: links }, rest))
+}
+
+/// A whole expression, around which so many constructs are open.
+pub fn expression(
+    alloc: Global,
+    tokens: &[Token],
+    end: Ending,
+    depth: u32,
+) -> Result<(Expr, &[Token]), Halt>
+    requires depth { depth ≤ nesting_limit }
+    requires count { length tokens.now < 2 ^ 32 }
+    ensures { MatchResult result (λ x. IsRead (ending_of end) OrLevel depth x.0 tokens.now x.1.now) (Refuses (ending_of end) (ExprPart OrLevel depth ∷ []) tokens.now) }
+{
+    chain(alloc, tokens, end, depth, Chains::Or)
+}

@@ -1,0 +1,77 @@
+//! Why reading ends before a script is complete.
+use rel_model::syntax::Place;
+use rel_model::token::Keyword;
+use std::alloc::{AllocError, AllocFailed};
+
+/// What the grammar needs at a place.
+#[derive(Clone, Copy, Debug)]
+pub enum Wanted {
+    Item,
+    Expression,
+    Name,
+    Number,
+    FromOne,
+    File,
+    Sign(u8),
+    Word(Keyword),
+}
+
+/// Why the tokens of a text end before it does.
+#[derive(Clone, Copy, Debug)]
+pub enum Flaw {
+    Byte { at: Place, byte: u8 },
+    NumberTooLarge { at: Place },
+    NameTooLong { at: Place },
+    /// A file text without its last quote.
+    Unclosed { at: Place },
+    EmptyText { at: Place },
+}
+
+/// How a text ends behind its tokens.
+#[derive(Clone, Copy, Debug)]
+pub enum Ending {
+    At(Place),
+    Broken(Flaw),
+}
+
+/// Why a part of the grammar is not read.
+#[derive(Clone, Copy, Debug)]
+pub enum Halt {
+    Expected { at: Place, wanted: Wanted },
+    TooDeep { at: Place },
+    Broken(Flaw),
+    NoMemory,
+}
+
+impl From<AllocError> for Halt {
+    ghost use Rattle.std.specs.Prelude.{◌≡◌};
+    ghost use Rattle.rv_parse.specs.declared.halt.Halt.TheVariants.{NoMemory};
+
+    ghost from_gives = { λ _ e. e ≡ NoMemory };
+
+    fn from(_: AllocError) -> Self {
+        Halt::NoMemory
+    }
+}
+
+impl<T: Drop> From<AllocFailed<T>> for Halt {
+    ghost use Rattle.std.specs.Prelude.{◌≡◌};
+    ghost use Rattle.rv_parse.specs.declared.halt.Halt.TheVariants.{NoMemory};
+
+    ghost from_gives = { λ _ e. e ≡ NoMemory };
+
+    fn from(_: AllocFailed<T>) -> Self {
+        Halt::NoMemory
+    }
+}
+
+impl From<rel_model::NoMemory> for Halt {
+    ghost use Rattle.std.specs.Prelude.{◌≡◌};
+    ghost use Rattle.rv_parse.specs.declared.halt.Halt.TheVariants.{NoMemory};
+
+    ghost from_gives = { λ _ e. e ≡ NoMemory };
+
+    fn from(_: rel_model::NoMemory) -> Self {
+        Halt::NoMemory
+    }
+}

@@ -1,0 +1,205 @@
+//! The first token, read as one part of the grammar, with the fault where it is another.
+ghost use Rattle.std.specs.Prelude.{◌≡◌, ◌≤◌, ◌<◌, ◌∷◌, [], false, MatchResult, MatchOption};
+ghost use Rattle.rel_model.specs.Grammar.{TakesAt, Takes, nesting_limit};
+ghost use Rattle.rel_model.specs.Stop.{NamePart, NumberPart, FromOne, FilePart, SignPart, WordPart, OpenPart, number_of};
+ghost use Rattle.rel_model.specs.declared.token.Kind.TheVariants.{Keyword as KEYWORD, Word, Number, File, Sign};
+ghost use Rattle.rv_parse.specs.Halts.{what, missing, ending_of, fault_of};
+ghost use Rattle.rv_parse.specs.Readers.{Reads, Refuses, begins, begins_word};
+
+use crate::halt::{Ending, Halt, Wanted};
+use rel_model::syntax::{FileText, Name, Place};
+use rel_model::token::{Keyword, Kind, Token};
+use std::alloc::Global;
+
+/// How many constructs may be open at once.
+pub const NESTING_LIMIT: u32 = 40;
+
+/// Something else is wanted in place of the first token, or of the end.
+pub fn missing(tokens: &[Token], end: Ending, wanted: Wanted) -> Halt
+    ensures { fault_of result ≡ missing (what wanted) tokens.now (ending_of end) }
+{
+    match tokens {
+        [first, ..] => Halt::Expected {
+            at: first.at,
+            wanted,
+        },
+        [] => match end {
+            Ending::At(at) => Halt::Expected { at, wanted },
+            Ending::Broken(flaw) => Halt::Broken(flaw),
+        },
+    }
+}
+
+/// What stands behind this sign, where it comes first.
+pub fn behind_sign(tokens: &[Token], byte: u8) -> Option<(Place, &[Token])>
+    ensures { MatchOption result (begins byte tokens.now ≡ false) (λ x. TakesAt x.0 (Sign byte) tokens.now x.1.now) }
+{
+    let [first, rest @ ..] = tokens else {
+        return None;
+    };
+    match &first.kind {
+        Kind::Sign(sign) => {
+            if *sign == byte {
+                Some((first.at, rest))
+            } else {
+                None
+            }
+        }
+        _ => None,
+    }
+}
+
+/// This sign.
+#[tactic(auto, using(crate::proofs::Leaves::reads_sign, crate::proofs::Leaves::no_sign))]
+pub fn next_sign(tokens: &[Token], end: Ending, byte: u8) -> Result<(Place, &[Token]), Halt>
+    ensures { MatchResult result (λ x. TakesAt x.0 (Sign byte) tokens.now x.1.now × Reads (ending_of end) (SignPart byte ∷ []) tokens.now x.1.now) (Refuses (ending_of end) (SignPart byte ∷ []) tokens.now) }
+{
+    match behind_sign(tokens, byte) {
+        Some(found) => Ok(found),
+        None => Err(missing(tokens, end, Wanted::Sign(byte))),
+    }
+}
+
+/// The number of a keyword among all.
+fn number_of(keyword: Keyword) -> u8
+    ensures { result ≡ number_of keyword }
+{
+    match keyword {
+        Keyword::Rel => 0,
+        Keyword::Let => 1,
+        Keyword::Print => 2,
+        Keyword::List => 3,
+        Keyword::Count => 4,
+        Keyword::Type => 5,
+        Keyword::Drop => 6,
+        Keyword::Snap => 7,
+        Keyword::At => 8,
+        Keyword::Load => 9,
+        Keyword::Save => 10,
+        Keyword::Decl => 11,
+        Keyword::Prod => 12,
+        Keyword::Sum => 13,
+        Keyword::Beg => 14,
+        Keyword::End => 15,
+        Keyword::Return => 16,
+        Keyword::While => 17,
+        Keyword::Do => 18,
+        Keyword::Od => 19,
+        Keyword::If => 20,
+        Keyword::Then => 21,
+        Keyword::Else => 22,
+        Keyword::Fi => 23,
+    }
+}
+
+/// What stands behind this keyword, where it comes first.
+#[tactic(auto, using(crate::proofs::Leaves::one_number))]
+pub fn behind_word(tokens: &[Token], keyword: Keyword) -> Option<(Place, &[Token])>
+    ensures { MatchOption result (begins_word keyword tokens.now ≡ false) (λ x. TakesAt x.0 (KEYWORD keyword) tokens.now x.1.now) }
+{
+    let [first, rest @ ..] = tokens else {
+        return None;
+    };
+    match &first.kind {
+        Kind::Keyword(found) => {
+            if number_of(*found) == number_of(keyword) {
+                Some((first.at, rest))
+            } else {
+                None
+            }
+        }
+        _ => None,
+    }
+}
+
+/// This keyword.
+#[tactic(auto, using(crate::proofs::Leaves::reads_word, crate::proofs::Leaves::no_word))]
+pub fn next_word(tokens: &[Token], end: Ending, keyword: Keyword) -> Result<(Place, &[Token]), Halt>
+    ensures { MatchResult result (λ x. TakesAt x.0 (KEYWORD keyword) tokens.now x.1.now × Reads (ending_of end) (WordPart keyword ∷ []) tokens.now x.1.now) (Refuses (ending_of end) (WordPart keyword ∷ []) tokens.now) }
+{
+    match behind_word(tokens, keyword) {
+        Some(found) => Ok(found),
+        None => Err(missing(tokens, end, Wanted::Word(keyword))),
+    }
+}
+
+/// A name.
+pub fn next_name(
+    alloc: Global,
+    tokens: &[Token],
+    end: Ending,
+) -> Result<(Name, Place, &[Token]), Halt>
+    ensures { MatchResult result (λ x. TakesAt x.1 (Word x.0) tokens.now x.2.now × Reads (ending_of end) (NamePart ∷ []) tokens.now x.2.now) (Refuses (ending_of end) (NamePart ∷ []) tokens.now) }
+{
+    let [first, rest @ ..] = tokens else {
+        return Err(missing(tokens, end, Wanted::Name));
+    };
+    match &first.kind {
+        Kind::Word(name) => match name.copied(alloc) {
+            Ok(copy) => Ok((copy, first.at, rest)),
+            Err(_) => Err(Halt::NoMemory),
+        },
+        _ => Err(missing(tokens, end, Wanted::Name)),
+    }
+}
+
+/// A number.
+pub fn next_number(tokens: &[Token], end: Ending) -> Result<(u64, Place, &[Token]), Halt>
+    ensures { MatchResult result (λ x. TakesAt x.1 (Number x.0) tokens.now x.2.now × Reads (ending_of end) (NumberPart ∷ []) tokens.now x.2.now) (Refuses (ending_of end) (NumberPart ∷ []) tokens.now) }
+{
+    let [first, rest @ ..] = tokens else {
+        return Err(missing(tokens, end, Wanted::Number));
+    };
+    match &first.kind {
+        Kind::Number(number) => Ok((*number, first.at, rest)),
+        _ => Err(missing(tokens, end, Wanted::Number)),
+    }
+}
+
+/// A number from 1.
+pub fn next_from_one(tokens: &[Token], end: Ending) -> Result<(u64, Place, &[Token]), Halt>
+    ensures { MatchResult result (λ x. TakesAt x.1 (Number x.0) tokens.now x.2.now × (1 ≤ x.0) × Reads (ending_of end) (FromOne ∷ []) tokens.now x.2.now) (Refuses (ending_of end) (FromOne ∷ []) tokens.now) }
+{
+    let [first, rest @ ..] = tokens else {
+        return Err(missing(tokens, end, Wanted::Number));
+    };
+    match &first.kind {
+        Kind::Number(number) => {
+            if *number == 0 {
+                return Err(missing(tokens, end, Wanted::FromOne));
+            }
+            Ok((*number, first.at, rest))
+        }
+        _ => Err(missing(tokens, end, Wanted::Number)),
+    }
+}
+
+/// A file text.
+pub fn next_file(alloc: Global, tokens: &[Token], end: Ending) -> Result<(FileText, &[Token]), Halt>
+    ensures { MatchResult result (λ x. Takes (File x.0) tokens.now x.1.now × Reads (ending_of end) (FilePart ∷ []) tokens.now x.1.now) (Refuses (ending_of end) (FilePart ∷ []) tokens.now) }
+{
+    let [first, rest @ ..] = tokens else {
+        return Err(missing(tokens, end, Wanted::File));
+    };
+    match &first.kind {
+        Kind::File(text) => match text.copied(alloc) {
+            Ok(copy) => Ok((copy, rest)),
+            Err(_) => Err(Halt::NoMemory),
+        },
+        _ => Err(missing(tokens, end, Wanted::File)),
+    }
+}
+
+/// The parenthesis that opens one more construct where so many are open.
+#[tactic(auto, using(crate::proofs::Leaves::no_open, crate::proofs::Leaves::opens, crate::proofs::Leaves::opens_too_deep))]
+pub fn open(tokens: &[Token], end: Ending, depth: u32) -> Result<(Place, &[Token]), Halt>
+    ensures { MatchResult result (λ x. TakesAt x.0 (Sign 40) tokens.now x.1.now × (depth < nesting_limit) × Reads (ending_of end) (OpenPart depth ∷ []) tokens.now x.1.now) (Refuses (ending_of end) (OpenPart depth ∷ []) tokens.now) }
+{
+    let Some((at, rest)) = behind_sign(tokens, b'(') else {
+        return Err(missing(tokens, end, Wanted::Sign(b'(')));
+    };
+    if depth >= NESTING_LIMIT {
+        return Err(Halt::TooDeep { at });
+    }
+    Ok((at, rest))
+}

@@ -1,0 +1,214 @@
+//! Scripts of the whole language.
+ghost use Rattle.std.specs.Prelude.{◌≡◌, ◌<◌, ◌≤◌, ◌^◌, ◌∷◌, [], length, MatchResult, MatchOption, IfOk, IfErr, false};
+ghost use Rattle.rel_model.specs.Grammar.{TakesAt, Takes};
+ghost use Rattle.rel_model.specs.declared.token.Kind.TheVariants.{Keyword as KEYWORD, Word};
+ghost use Rattle.rv_parse.specs.Openings.{opening_word};
+ghost use Rattle.rel_model.specs.Lexed.{EndsAt};
+ghost use Rattle.rel_model.specs.Spelling.{SpellsItems, Spells, SpelledBy};
+ghost use Rattle.rel_model.specs.Stop.{ItemsPart, stop_of, written};
+ghost use Rattle.rel_model.specs.declared.syntax.Place.{Place as PLACE};
+ghost use Rattle.rv_parse.specs.declared.halt.Halt.TheVariants.{Broken as BROKEN};
+ghost use Rattle.rv_parse.specs.Halts.{ending_of, what};
+ghost use Rattle.rv_parse.specs.Got.{RefusesItems};
+ghost use Rattle.rv_parse.specs.Items.{ItemIs, ItemEnds, NoCommand, begins_name};
+ghost use Rattle.rv_parse.specs.Stops.{StopsAt, IsFaultOf};
+
+use crate::command::{Opening, command, opening_of};
+use crate::def::definition;
+use crate::halt::{Ending, Flaw, Halt, Wanted};
+use crate::leaf::{missing, next_sign};
+use crate::lexer::lexed;
+use rel_model::NoMemory;
+use rel_model::faults::{ParseFault, What};
+use rel_model::syntax::{Item, Name, Place, Script};
+use rel_model::token::{Keyword, Kind, Token};
+use std::alloc::Global;
+
+/// The name that comes first.
+fn first_name(tokens: &[Token]) -> Option<(&Name, Place, &[Token])>
+    ensures { MatchOption result (begins_name tokens.now ≡ false) (λ x. TakesAt x.1 (Word x.0.now) tokens.now x.2.now) }
+{
+    let [first, rest @ ..] = tokens else {
+        return None;
+    };
+    match &first.kind {
+        Kind::Word(name) => Some((name, first.at, rest)),
+        _ => None,
+    }
+}
+
+/// The keyword of a command that comes first.
+fn first_opening(tokens: &[Token]) -> Option<(Opening, &[Token])>
+    ensures { MatchOption result (NoCommand tokens.now) (λ x. Takes (KEYWORD (opening_word x.0)) tokens.now x.1.now) }
+{
+    let [first, rest @ ..] = tokens else {
+        return None;
+    };
+    match &first.kind {
+        Kind::Keyword(keyword) => match opening_of(*keyword) {
+            Some(opening) => Some((opening, rest)),
+            None => None,
+        },
+        _ => None,
+    }
+}
+
+/// An item, up to its full stop.
+#[tactic(auto, using(crate::proofs::Scripting::no_item))]
+fn next_item(alloc: Global, tokens: &[Token], end: Ending) -> Result<(Item, &[Token]), Halt>
+    requires first { 0 < length tokens.now }
+    requires count { length tokens.now < 2 ^ 32 }
+    ensures { MatchResult result (λ x. ItemIs (ending_of end) x.0 tokens.now x.1.now) (RefusesItems (ending_of end) tokens.now) }
+{
+    if let Some((name, at, behind)) = first_name(tokens) {
+        let (item, rest) = definition(alloc, name, at, behind, end)?;
+        return Ok((item, rest));
+    }
+    if let Some((opening, behind)) = first_opening(tokens) {
+        let (command, rest) = command(alloc, opening, behind, end)?;
+        return Ok((Item::Command(command), rest));
+    }
+    Err(missing(tokens, end, Wanted::Item))
+}
+
+/// An item with its full stop.
+fn whole_item(alloc: Global, tokens: &[Token], end: Ending) -> Result<(Item, &[Token]), Halt>
+    requires first { 0 < length tokens.now }
+    requires count { length tokens.now < 2 ^ 32 }
+    ensures { MatchResult result (λ x. ItemEnds (ending_of end) x.0 tokens.now x.1.now) (RefusesItems (ending_of end) tokens.now) }
+{
+    let (item, rest) = next_item(alloc, tokens, end)?;
+    let (_, rest) = next_sign(rest, end, b'.')?;
+    Ok((item, rest))
+}
+
+/// All items.
+fn items(alloc: Global, tokens: &[Token], end: Ending) -> Result<Vec<Item>, Halt>
+    requires { length tokens.now < 2 ^ 32 }
+    ensures { MatchResult result (λ v. SpellsItems v.items tokens.now [] × (stop_of (ItemsPart ∷ []) tokens.now (ending_of end) ≡ stop_of (ItemsPart ∷ []) [] (ending_of end))) (RefusesItems (ending_of end) tokens.now) }
+{
+    let mut items = Vec::new(alloc);
+    let mut rest = tokens;
+    'each: while rest.len() > 0 {
+        let (item, behind) = whole_item(alloc, rest, end)?;
+        items.push(item)?;
+        rest = behind;
+    }
+    Ok(items)
+}
+
+/// The script that the tokens spell up to the end of the text.
+fn script_of(alloc: Global, tokens: &[Token], end: Ending) -> Result<Script, Halt>
+    requires { length tokens.now < 2 ^ 32 }
+    ensures { MatchResult result (λ script. Spells script tokens.now × ((place : PLACE) × (ending_of end ≡ EndsAt place))) (RefusesItems (ending_of end) tokens.now) }
+{
+    let items = items(alloc, tokens, end)?;
+    match end {
+        Ending::At(_) => Ok(Script { items }),
+        Ending::Broken(flaw) => Err(Halt::Broken(flaw)),
+    }
+}
+
+/// How a keyword is written.
+fn written(keyword: Keyword) -> &'static [u8]
+    ensures { (result.now ≡ written keyword) × (1 ≤ length result.now) × (length result.now ≤ 64) }
+{
+    match keyword {
+        Keyword::Rel => b"REL",
+        Keyword::Let => b"LET",
+        Keyword::Print => b"PRINT",
+        Keyword::List => b"LIST",
+        Keyword::Count => b"COUNT",
+        Keyword::Type => b"TYPE",
+        Keyword::Drop => b"DROP",
+        Keyword::Snap => b"SNAP",
+        Keyword::At => b"AT",
+        Keyword::Load => b"LOAD",
+        Keyword::Save => b"SAVE",
+        Keyword::Decl => b"DECL",
+        Keyword::Prod => b"PROD",
+        Keyword::Sum => b"SUM",
+        Keyword::Beg => b"BEG",
+        Keyword::End => b"END",
+        Keyword::Return => b"RETURN",
+        Keyword::While => b"WHILE",
+        Keyword::Do => b"DO",
+        Keyword::Od => b"OD",
+        Keyword::If => b"IF",
+        Keyword::Then => b"THEN",
+        Keyword::Else => b"ELSE",
+        Keyword::Fi => b"FI",
+    }
+}
+
+/// The word for what is wanted.
+fn what_of(alloc: Global, wanted: Wanted) -> Result<What, NoMemory>
+    ensures { IfOk result (λ w. w ≡ what wanted) }
+{
+    match wanted {
+        Wanted::Item => Ok(What::Item),
+        Wanted::Expression => Ok(What::Expression),
+        Wanted::Name => Ok(What::Name),
+        Wanted::Number => Ok(What::Number),
+        Wanted::FromOne => Ok(What::NumberFromOne),
+        Wanted::File => Ok(What::FileText),
+        Wanted::Sign(sign) => Ok(What::Token(Name::new(alloc, &[sign])?)),
+        Wanted::Word(keyword) => Ok(What::Token(Name::new(alloc, written(keyword))?)),
+    }
+}
+
+/// The fault that a flaw of a token is.
+fn flaw_fault(alloc: Global, flaw: Flaw) -> ParseFault
+    ensures { IsFaultOf (BROKEN flaw) result }
+{
+    match flaw {
+        Flaw::Byte { at, byte } => ParseFault::Byte { at, byte },
+        Flaw::NumberTooLarge { at } => ParseFault::NumberTooLarge { at },
+        Flaw::NameTooLong { at } => ParseFault::NameTooLong { at },
+        Flaw::Unclosed { at } => match what_of(alloc, Wanted::Sign(b'"')) {
+            Ok(what) => ParseFault::Expected { at, what },
+            Err(_) => ParseFault::NoMemory,
+        },
+        Flaw::EmptyText { at } => ParseFault::Expected {
+            at,
+            what: What::FileText,
+        },
+    }
+}
+
+/// The fault that ended the reading.
+fn fault_of(alloc: Global, halt: Halt) -> ParseFault
+    ensures { IsFaultOf halt result }
+{
+    match halt {
+        Halt::Expected { at, wanted } => match what_of(alloc, wanted) {
+            Ok(what) => ParseFault::Expected { at, what },
+            Err(_) => ParseFault::NoMemory,
+        },
+        Halt::TooDeep { at } => ParseFault::TooDeep { at },
+        Halt::Broken(flaw) => flaw_fault(alloc, flaw),
+        Halt::NoMemory => ParseFault::NoMemory,
+    }
+}
+
+/// The script that the bytes spell, or the first fault of the text.
+///
+/// The text is read token by token. The fault is the first of these: a byte, number, word or file
+/// text that is no token; a token, or the end, that does not fit what is to come; a token that makes
+/// the nesting 41. At one token a fault of the first kind comes before the others, and a token that
+/// does not fit before one that nests too deep. Takes time and memory in the length of the text; its
+/// recursion is as deep as the nesting.
+
+pub fn parse(alloc: Global, bytes: &[u8]) -> Result<Script, ParseFault>
+    requires { length bytes.now ≤ 2 ^ 20 }
+    ensures spelled { IfOk result (SpelledBy bytes.now) }
+    ensures fault { IfErr result (StopsAt bytes.now) }
+{
+    match lexed(alloc, bytes) {
+        Ok((tokens, end)) => match script_of(alloc, tokens.as_slice(), end) {
+            Ok(script) => Ok(script),
+            Err(halt) => Err(fault_of(alloc, halt)),
+        },
+        Err(_) => Err(ParseFault::NoMemory),
+    }
+}

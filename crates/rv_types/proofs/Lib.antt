@@ -1,0 +1,11 @@
+pub mod Sets
+pub mod Order
+pub mod Naming
+pub mod Walks
+pub mod Statements
+pub mod Agreeing
+pub mod Heads
+pub mod Declaring
+pub mod Scoping
+pub mod Items
+pub mod Ranks

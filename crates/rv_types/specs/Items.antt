@@ -1,0 +1,29 @@
+-- What the walk over a script reads off its items.
+use Rattle.std.specs.Prelude.{◌≤◌, ℕ, max, List, Option, Some, None}
+use Rattle.rel_model.specs.declared.syntax.Expr.{Expr}
+use Rattle.rel_model.specs.declared.syntax.Command.{Command}
+use Rattle.rel_model.specs.declared.syntax.Command.TheVariants.{Let, Print, List as LIST, Count, Typed, At, Save}
+use Rattle.rel_model.specs.declared.syntax.Item.{Item}
+use Rattle.rel_model.specs.declared.syntax.Item.TheVariants.{Function, Program, Command as COMMAND}
+use Rattle.rel_model.specs.Checking.{Known, rank_named, called, called_by_all}
+
+-- the expression of a command that has one
+abbrev pub value_of_command : Command → Option Expr
+value_of_command (Let name value) = Some value
+value_of_command (Print value) = Some value
+value_of_command (LIST value) = Some value
+value_of_command (Count value) = Some value
+value_of_command (Typed value) = Some value
+value_of_command (At at name value) = Some value
+value_of_command (Save value file) = Some value
+value_of_command _ = None
+
+-- the greatest rank among the definitions that an item calls, or 0 where it calls none
+abbrev pub called_by_item : List Known → Item → ℕ
+called_by_item earlier (Function at name params body) = called earlier body
+called_by_item earlier (Program at name params decls body result) = max (called_by_all earlier body.items) (called earlier result)
+called_by_item earlier (COMMAND command) = 0
+
+-- no definition has a rank over this
+abbrev pub RanksWithin : ℕ → List Known → Type 0
+RanksWithin bound earlier = (n : List ℕ) → rank_named earlier n ≤ bound

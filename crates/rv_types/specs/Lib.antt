@@ -1,0 +1,5 @@
+pub mod Found
+pub mod Definitions
+pub mod Scopes
+pub mod Rows
+pub mod Items

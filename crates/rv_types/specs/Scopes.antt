@@ -1,0 +1,18 @@
+-- What the names of an expression may be, as the walk over a script keeps it.
+use Rattle.std.specs.Prelude.{◌≡◌, ℕ, List, false, true}
+use Rattle.rel_model.specs.declared.syntax.Decl.{Decl}
+use Rattle.rel_model.specs.Checking.{among, Known, Scope, variables_of, domains_of}
+use Rattle.rv_types.specs.declared.scope.Scope.{Scope as Kept}
+
+-- the scope that is kept
+abbrev pub scope_of : Kept → Scope
+scope_of kept = record { is_command = kept.is_command; parameters = kept.parameters; variables = kept.variables; products = kept.products; sums = kept.sums; earlier = kept.earlier.now }
+
+-- a scope of a program with these parameters and declarations behind these definitions
+pub record OfProgram (earlier : List Known) (parameters : List (List ℕ)) (decls : List Decl) (scope : Scope) : Type 0 where
+  pub kind : scope.is_command ≡ false
+  pub parameters_kept : scope.parameters ≡ parameters
+  pub earlier_kept : scope.earlier ≡ earlier
+  pub variables_declared : (n : List ℕ) → among scope.variables n ≡ among (variables_of decls) n
+  pub products_declared : (n : List ℕ) → among scope.products n ≡ among (domains_of false decls) n
+  pub sums_declared : (n : List ℕ) → among scope.sums n ≡ among (domains_of true decls) n

@@ -1,0 +1,69 @@
+//! Sets of names of a script, numbered by first use.
+ghost use Rattle.std.specs.Prelude.{◌≡◌, ◌||◌, ◌&&◌, ℕ, List, [], IfOk, OnOk};
+ghost use Rattle.rel_model.specs.Checking.{among};
+ghost use Rattle.rel_model.specs.Tokens.{same_text};
+
+use indexmap::IndexSet;
+use rel_model::NoMemory;
+use std::alloc::Global;
+use std::marker::Model;
+
+/// A set of names of a script.
+#[derive(Drop)]
+pub struct Names<'a> {
+    names: IndexSet<&'a [u8]>,
+}
+
+impl<'a> Model for Names<'a> {
+    ghost use Rattle.std.specs.Prelude.{List, ℕ, map};
+
+    ghost Value = { List (List ℕ) };
+
+    ghost view = { λ n. map (λ k. k.now) n.names.keys };
+}
+
+impl<'a> Names<'a> {
+    /// No name.
+    pub fn new(alloc: Global) -> Names<'a>
+        ensures { result ≡ [] }
+    {
+        Names {
+            names: IndexSet::new(alloc),
+        }
+    }
+
+    /// Whether a name is among them.
+    pub fn has(&self, name: &[u8]) -> bool
+        ensures { result ≡ among self.now name.now }
+    {
+        self.names.contains(name)
+    }
+
+    /// One more name.
+    pub fn add(&mut self, name: &'a [u8]) -> Result<(), NoMemory>
+        ensures { OnOk result ((n : List ℕ) → among self.new n ≡ (same_text name.now n || among self.old n)) }
+    {
+        self.names.insert(name)?;
+        Ok(())
+    }
+
+    /// The same set once more.
+    pub fn copied(&self) -> Result<Names<'a>, NoMemory>
+        ensures { IfOk result (λ r. r ≡ self.now) }
+    {
+        let names = self.names.clone()?;
+        Ok(Names { names })
+    }
+
+    /// All that two other sets share.
+    pub fn add_shared(&mut self, first: &Names<'a>, second: &Names<'a>) -> Result<(), NoMemory>
+        ensures { OnOk result ((n : List ℕ) → among self.new n ≡ (among self.old n || (among first.now n && among second.now n))) }
+    {
+        'each: for name in first.names.as_slice() {
+            if second.has(*name) {
+                self.add(*name)?;
+            }
+        }
+        Ok(())
+    }
+}
