@@ -1,5 +1,5 @@
 -- Values of expressions: what the operators of a worker give.
-use Rattle.std.proofs.Common.{◌≡◌, ◌+◌, ◌/◌, ◌%◌, ◌∙◌, ℕ, List, Option, Some, None, refl, sym, ap, subst, arith}
+use Rattle.std.proofs.Common.{◌≡◌, ◌+◌, ◌/◌, ◌%◌, ◌∙◌, ℕ, Bool, true, false, cond, List, [], ◌∷◌, Option, Some, None, refl, sym, ap, subst, arith}
 use Rattle.std.specs.Prelude.{option_and_then, IsSome}
 use Rattle.std.proofs.Math.Nat.{div-add-mod}
 use Rattle.rel_model.specs.declared.Rel.{Rel}
@@ -9,7 +9,8 @@ use Rattle.rel_model.specs.Meaning.{Fits, shape_transposed_by}
 use Rattle.rel_model.specs.Worker.{Worker, Stands, set_of, Gives, Keeps}
 use Rattle.rel_model.proofs.Workers.{stands_some, gives_set, keeps_set}
 use Rattle.rel_model.proofs.OperatorLaws.{diff-full, transposed_by-even, transposed_by-odd}
-use Rattle.relview.specs.Names.{rel_of, means, AllStand}
+use Rattle.rel_model.specs.Tokens.{same_text}
+use Rattle.relview.specs.Names.{rel_of, later, means, AllStand}
 use Rattle.relview.specs.Values.{GivesValue}
 use Rattle.relview.proofs.Shapes.{even_times, odd_times}
 
@@ -47,3 +48,17 @@ means_kept w v names k s = λ i n. at (rel_of names n) (s n) i
 
 pub all_stand_kept : (w v : Worker) (names : List (List ℕ × Rel)) → Keeps w v → AllStand w names → AllStand v names
 all_stand_kept w v names k s = λ n r h. subst IsSome (sym (k.same r (s n r h))) (s n r h)
+
+-- one name and its relation
+pub one_stands : (w : Worker) (name : List ℕ) (r : Rel) → Stands w r → AllStand w ((name, r) ∷ [])
+one_stands w name r s n x h = at (same_text name n) h
+  where
+    some_inj : {p q : Rel} → Some p ≡ Some q → p ≡ q
+    some_inj e = cc
+
+    none_some : {q : Rel} → None ≡ Some q → ⊥
+    none_some e = cc
+
+    at : (b : Bool) → later (cond b (Some r) None) None ≡ Some x → Stands w x
+    at true e = subst (λ y. Stands w y) (some_inj e) s
+    at false e = absurd (none_some e)

@@ -4,3 +4,4 @@ mod outside;
 mod pages;
 mod rules;
 mod runs;
+mod yardstick;

@@ -92,7 +92,7 @@ pub fn assert_page(
 }
 
 /// The page and the status of a text that runs over a worker.
-#[tactic(auto, using(crate::proofs::FirstItems::spelled_few, crate::proofs::FirstItems::spelled_first))]
+#[tactic(auto, using(crate::proofs::FirstItems::spelled_few))]
 pub fn page_over<Q: Quads>(
     rt: &impl Abort,
     alloc: Global,
