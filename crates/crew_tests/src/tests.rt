@@ -9,10 +9,12 @@ ghost use Rattle.rel_model.specs.Worker.{Worker, Stands, HasQuad, Keeps};
 
 use fork_quads::{Crew, OpenGate};
 use pair_table::{PairTable, Seat};
+use rel_closure::{refl, trans};
 use rel_model::core_trait::Core;
 use rel_model::quads_trait::Quads;
 use rel_model::{Lack, Quad, Rel, Shape};
 use rel_plain::Plain;
+use rel_residual::{left as left_residual, right as right_residual, syq};
 use std::alloc::Global;
 use std::process::Abort;
 
@@ -200,7 +202,48 @@ fn product_agrees<C: Core, P: Core>(rt: &impl Abort, crew: &mut C, plain: &mut P
     same_pairs(rt, crew, plain, product, plain_product);
 }
 
-/// Asserts that both keepers answer every operator on the relations of two numbers alike.
+/// Asserts that both keepers have the same residuals and symmetric quotient of two relations of one type.
+fn residuals_agree<C: Core, P: Core>(rt: &impl Abort, crew: &mut C, plain: &mut P, a: Twin, b: Twin)
+    requires left { Stands (C.worker crew.old) a.crew }
+    requires right { Stands (C.worker crew.old) b.crew }
+    requires plain_left { Stands (P.worker plain.old) a.plain }
+    requires plain_right { Stands (P.worker plain.old) b.plain }
+    requires rows { a.crew.rows ≡ b.crew.rows }
+    requires cols { a.crew.cols ≡ b.crew.cols }
+    requires plain_rows { a.plain.rows ≡ b.plain.rows }
+    requires plain_cols { a.plain.cols ≡ b.plain.cols }
+    ensures keeps { Keeps (C.worker crew.old) (C.worker crew.new) }
+    ensures plain_keeps { Keeps (P.worker plain.old) (P.worker plain.new) }
+{
+    let under = given(rt, right_residual(crew, a.crew, b.crew));
+    let plain_under = given(rt, right_residual(plain, a.plain, b.plain));
+    same_pairs(rt, crew, plain, under, plain_under);
+    let over = given(rt, left_residual(crew, a.crew, b.crew));
+    let plain_over = given(rt, left_residual(plain, a.plain, b.plain));
+    same_pairs(rt, crew, plain, over, plain_over);
+    let quotient = given(rt, syq(crew, a.crew, b.crew));
+    let plain_quotient = given(rt, syq(plain, a.plain, b.plain));
+    same_pairs(rt, crew, plain, quotient, plain_quotient);
+}
+
+/// Asserts that both keepers have the same closures of a relation, where it is square.
+fn closures_agree<C: Core, P: Core>(rt: &impl Abort, crew: &mut C, plain: &mut P, r: Rel, p: Rel)
+    requires standing { Stands (C.worker crew.old) r }
+    requires plain_standing { Stands (P.worker plain.old) p }
+    ensures keeps { Keeps (C.worker crew.old) (C.worker crew.new) }
+    ensures plain_keeps { Keeps (P.worker plain.old) (P.worker plain.new) }
+{
+    if r.rows == r.cols && p.rows == p.cols {
+        let walks = given(rt, trans(crew, r));
+        let plain_walks = given(rt, trans(plain, p));
+        same_pairs(rt, crew, plain, walks, plain_walks);
+        let reflexive = given(rt, refl(crew, r));
+        let plain_reflexive = given(rt, refl(plain, p));
+        same_pairs(rt, crew, plain, reflexive, plain_reflexive);
+    }
+}
+
+/// Asserts that both keepers answer every operator on the relations of two numbers alike, and the calls made of several.
 fn numbers_agree<C: Core, P: Core>(
     rt: &impl Abort,
     crew: &mut C,
@@ -220,6 +263,8 @@ fn numbers_agree<C: Core, P: Core>(
     let q = of_number(rt, plain, shape, right);
     let first = Twin { crew: r, plain: p };
     pair_agrees(rt, crew, plain, first, Twin { crew: s, plain: q });
+    residuals_agree(rt, crew, plain, first, Twin { crew: s, plain: q });
+    closures_agree(rt, crew, plain, r, p);
     one_agrees(rt, crew, plain, r, p);
     let turned = given(rt, crew.transpose(s));
     let plain_turned = given(rt, plain.transpose(q));
@@ -251,6 +296,8 @@ fn random_agree<C: Core, P: Core>(
     let q = plain_of(rt, plain, shape, count, 2);
     let first = Twin { crew: r, plain: p };
     pair_agrees(rt, crew, plain, first, Twin { crew: s, plain: q });
+    residuals_agree(rt, crew, plain, first, Twin { crew: s, plain: q });
+    closures_agree(rt, crew, plain, r, p);
     one_agrees(rt, crew, plain, r, p);
     let turned = given(rt, crew.transpose(s));
     let plain_turned = given(rt, plain.transpose(q));
