@@ -384,6 +384,8 @@ fn a_crew_answers_as_plain_relations_on_all_relations_up_to_2_by_2(rt: HostRunti
     let mut plain = Plain::new(rt.alloc());
     'shapes: for (rows, cols, count) in [
         (0, 0, 1),
+        (0, 1, 1),
+        (1, 0, 1),
         (0, 2, 1),
         (2, 0, 1),
         (1, 1, 2),
