@@ -16,7 +16,7 @@ use Rattle.rel_model.specs.Roots.{height_over}
 use Rattle.rel_model.specs.Quarters.{LiesWithin}
 use Rattle.rel_model.specs.Worker.{Worker, Gives, GivesQuad, quad_set, height_of, pairs_room}
 use Rattle.rel_model.proofs.Relations.{relation_of-agree}
-use Rattle.rel_domains.specs.Listed.{IsWithin, is_among}
+use Rattle.rel_model.specs.Listed.{IsWithin, is_among}
 use Rattle.rel_domains.specs.Curve.{holds, AreFrom, cells_at, place}
 use Rattle.rel_domains.proofs.Places.{place_one}
 use Rattle.rel_model.proofs.Heights.{height_over-rows, height_over-cols}

@@ -1,4 +1,3 @@
-pub mod Listed
 pub mod Curve
 pub mod Rules
 pub mod Ranks

@@ -2,7 +2,7 @@
 ghost use Rattle.std.specs.Prelude.{◌≡◌, ◌<◌, ◌≤◌, ◌+◌, ◌^◌, map, IfOk};
 ghost use Rattle.std.specs.List.{AllByRecursion};
 ghost use Rattle.rel_model.specs.Trees.{top_height};
-ghost use Rattle.rel_domains.specs.Listed.{IsWithin};
+ghost use Rattle.rel_model.specs.Listed.{IsWithin};
 ghost use Rattle.rel_domains.specs.Curve.{place};
 
 use crate::heights::{cells_of, side_of};

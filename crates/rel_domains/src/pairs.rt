@@ -3,7 +3,7 @@ ghost use Rattle.std.specs.Prelude.{◌≡◌, ◌≤◌, ◌<◌, ℕ, length, 
 ghost use Rattle.rel_model.specs.declared.Lack.TheVariants.{Full};
 ghost use Rattle.rel_model.specs.Relation.{relation_of, size_limit};
 ghost use Rattle.rel_model.specs.Worker.{Gives, Keeps, MakesAtMost, Rose, pairs_room};
-ghost use Rattle.rel_domains.specs.Listed.{IsWithin, is_among};
+ghost use Rattle.rel_model.specs.Listed.{IsWithin, is_among};
 
 use crate::build::build;
 use crate::curve::places_of;

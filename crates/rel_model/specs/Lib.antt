@@ -25,6 +25,7 @@ pub mod Quads
 pub mod Roots
 pub mod Quarters
 pub mod Lexed
+pub mod Listed
 pub mod Spelling
 pub mod Stop
 pub mod Printing

@@ -16,7 +16,7 @@ use Rattle.rel_model.proofs.Relations.{has-relation_of, relation_of-agree, rows-
 use Rattle.rel_model.proofs.Workers.{gives_stands, gives_set, keeps_set}
 use Rattle.rel_model.proofs.OperatorLaws.{relation_of-sizes}
 use Rattle.relview.specs.Listed.{IsListed, Extends}
-use Rattle.rel_domains.specs.Listed.{IsWithin, is_among}
+use Rattle.rel_model.specs.Listed.{IsWithin, is_among}
 
 or_nothing : (b : Bool) → (b || false) ≡ b
 or_nothing true = refl

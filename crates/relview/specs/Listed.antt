@@ -1,6 +1,6 @@
 -- Listed pairs.
 use Rattle.std.specs.Prelude.{◌≡◌, ◌||◌, ◌<◌, ℕ, Bool, List}
-use Rattle.rel_domains.specs.Listed.{is_among}
+use Rattle.rel_model.specs.Listed.{is_among}
 
 -- within the sizes, they are the pairs that pass
 abbrev pub IsListed : ℕ → ℕ → List (ℕ × ℕ) → (ℕ → ℕ → Bool) → Type 0

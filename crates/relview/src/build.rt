@@ -6,7 +6,7 @@ ghost use Rattle.rel_model.specs.State.{lists};
 ghost use Rattle.rel_model.specs.declared.Lack.TheVariants.{Full};
 ghost use Rattle.rel_model.specs.Worker.{Keeps, MakesAtMost, Gives, Rose, pairs_room};
 ghost use Rattle.rel_model.specs.Cost.{listed_count};
-ghost use Rattle.rel_domains.specs.Listed.{IsWithin};
+ghost use Rattle.rel_model.specs.Listed.{IsWithin};
 ghost use Rattle.relview.specs.Listed.{Extends, IsListed};
 
 use rel_domains::from_pairs;

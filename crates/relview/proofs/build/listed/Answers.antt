@@ -1,7 +1,7 @@
 use Rattle.std.proofs.Common.{◌∙◌, ap, subst}
 use Rattle.rel_model.specs.Relation.{relation_of}
 use Rattle.rel_model.specs.Worker.{Gives}
-use Rattle.rel_domains.specs.Listed.{is_among}
+use Rattle.rel_model.specs.Listed.{is_among}
 use Rattle.relview.proofs.Listing.{relation_listed}
 use Rattle.relview.proofs.build.listed.Goals as goal
 

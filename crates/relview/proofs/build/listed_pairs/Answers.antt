@@ -1,7 +1,7 @@
 use Rattle.std.proofs.Common.{sym, ap, subst, [], length, arith}
 use Rattle.rel_model.specs.State.{lists}
 use Rattle.relview.specs.Listed.{IsListed}
-use Rattle.rel_domains.specs.Listed.{IsWithin}
+use Rattle.rel_model.specs.Listed.{IsWithin}
 use Rattle.relview.proofs.Listing.{rows_none, rows_more, count_more}
 use Rattle.relview.proofs.build.listed_pairs.Goals as goal
 

@@ -2,7 +2,7 @@ use Rattle.std.proofs.Common.{◌≤◌, length, take}
 use Rattle.rel_model.specs.Cost.{listed_count}
 use Rattle.rel_model.specs.State.{lists}
 use Rattle.relview.specs.Listed.{IsListed}
-use Rattle.rel_domains.specs.Listed.{IsWithin}
+use Rattle.rel_model.specs.Listed.{IsWithin}
 use Rattle.relview.proofs.build.listed_pairs.Given as goal
 
 abbrev pub invariant-rows : goal.invariant-rows

@@ -1,7 +1,7 @@
 use Rattle.std.proofs.Common.{◌&&◌, ◌+◌, ◌≤◌, eqb, length, take}
 use Rattle.std.specs.List.{list_any}
 use Rattle.relview.specs.Listed.{Extends}
-use Rattle.rel_domains.specs.Listed.{IsWithin}
+use Rattle.rel_model.specs.Listed.{IsWithin}
 use Rattle.relview.proofs.build.push_row.Given as goal
 
 abbrev pub invariant-columns : goal.invariant-columns

@@ -1,0 +1,228 @@
+//! All operations of the language on relations, over whatever keeps them.
+//!
+//! Every call keeps all relations and quads that stood, with the same sets, makes at most its room of nodes, and refuses only for its named cause.
+ghost use Rattle.std.specs.Prelude.{◌≡◌, ◌<◌, ◌≤◌, ◌+◌, ◌*◌, ◌^◌, max, length, IfOk, IfSome, IsErrOf, true};
+ghost use Rattle.rel_model.specs.declared.Lack.TheVariants.{Full};
+ghost use Rattle.rel_model.specs.Relation.{has, relation_of, size_limit};
+ghost use Rattle.rel_model.specs.Operators.{right_residual, left_residual, symmetric_quotient, identity as identity_of};
+ghost use Rattle.rel_model.specs.Closures.{transitive_closure, reflexive_closure};
+ghost use Rattle.rel_model.specs.Choice.{holds, count_below, point as point_of, atom as atom_of, init as init_of, next as next_of, dom as dom_of, ran as ran_of, is_unival, count as count_of, next_pair as next_pair_of, inj as inj_of};
+ghost use Rattle.rel_model.specs.Domains.{HasDomainCause, first_projection, second_projection, left_injection, right_injection, membership, pairing};
+ghost use Rattle.rel_model.specs.Listed.{IsWithin, is_among};
+ghost use Rattle.rel_model.specs.Worker.{Stands, set_of, Gives, Keeps, MakesAtMost, HasCause, Rose, pairs_room, derived_room, wide_room};
+
+use crate::faults::DomainError;
+use crate::quads_trait::Quads;
+use crate::{Lack, NoMemory, Rel, Shape};
+use std::alloc::Global;
+
+/// A worker that does all operations of the language (Schmidt and Ströhlein, *Relations and Graphs*).
+pub trait Engine: Quads {
+    /// `R\S = {(j, k) : (i, j) in r implies (i, k) in s, for all i}`: the right residual, of m × n under m × p.
+    fn right(&mut self, r: Rel, s: Rel) -> Result<Rel, Lack>
+        requires left { Stands (Self.worker self.old) r }
+        requires right { Stands (Self.worker self.old) s }
+        requires rows { r.rows ≡ s.rows }
+        ensures value { IfOk result (Gives (Self.worker self.new) r.cols s.cols (right_residual (set_of (Self.worker self.old) r) (set_of (Self.worker self.old) s))) }
+        ensures keeps { Keeps (Self.worker self.old) (Self.worker self.new) }
+        ensures room { MakesAtMost (derived_room r.rows r.cols s.cols) (Self.worker self.old) (Self.worker self.new) }
+        ensures cause { HasCause Self.lean (Self.worker self.old) (Self.worker self.new) result };
+
+    /// `S/R = {(i, j) : (j, k) in r implies (i, k) in s, for all k}`: the left residual, of m × p over n × p.
+    fn left(&mut self, s: Rel, r: Rel) -> Result<Rel, Lack>
+        requires left { Stands (Self.worker self.old) s }
+        requires right { Stands (Self.worker self.old) r }
+        requires cols { s.cols ≡ r.cols }
+        ensures value { IfOk result (Gives (Self.worker self.new) s.rows r.rows (left_residual (set_of (Self.worker self.old) s) (set_of (Self.worker self.old) r))) }
+        ensures keeps { Keeps (Self.worker self.old) (Self.worker self.new) }
+        ensures room { MakesAtMost (derived_room s.rows s.cols r.rows) (Self.worker self.old) (Self.worker self.new) }
+        ensures cause { HasCause Self.lean (Self.worker self.old) (Self.worker self.new) result };
+
+    /// `syq(R,S) = {(j, k) : (i, j) in r exactly if (i, k) in s, for all i}`: the symmetric quotient, of m × n and m × p.
+    fn syq(&mut self, r: Rel, s: Rel) -> Result<Rel, Lack>
+        requires left { Stands (Self.worker self.old) r }
+        requires right { Stands (Self.worker self.old) s }
+        requires rows { r.rows ≡ s.rows }
+        ensures value { IfOk result (Gives (Self.worker self.new) r.cols s.cols (symmetric_quotient (set_of (Self.worker self.old) r) (set_of (Self.worker self.old) s))) }
+        ensures keeps { Keeps (Self.worker self.old) (Self.worker self.new) }
+        ensures room { MakesAtMost (wide_room r.rows r.cols s.cols) (Self.worker self.old) (Self.worker self.new) }
+        ensures cause { HasCause Self.lean (Self.worker self.old) (Self.worker self.new) result };
+
+    /// `trans(R)`: the pairs that a walk of at least one step joins.
+    fn trans(&mut self, r: Rel) -> Result<Rel, Lack>
+        requires standing { Stands (Self.worker self.old) r }
+        requires square { r.rows ≡ r.cols }
+        ensures value { IfOk result (Gives (Self.worker self.new) r.rows r.cols (transitive_closure (set_of (Self.worker self.old) r))) }
+        ensures keeps { Keeps (Self.worker self.old) (Self.worker self.new) }
+        ensures room { MakesAtMost (derived_room r.rows r.rows r.rows) (Self.worker self.old) (Self.worker self.new) }
+        ensures cause { HasCause Self.lean (Self.worker self.old) (Self.worker self.new) result };
+
+    /// `refl(R) = R | I`: a square relation with the pairs (i, i).
+    fn refl(&mut self, r: Rel) -> Result<Rel, Lack>
+        requires standing { Stands (Self.worker self.old) r }
+        requires square { r.rows ≡ r.cols }
+        ensures value { IfOk result (Gives (Self.worker self.new) r.rows r.cols (reflexive_closure (set_of (Self.worker self.old) r))) }
+        ensures keeps { Keeps (Self.worker self.old) (Self.worker self.new) }
+        ensures room { MakesAtMost (wide_room r.rows r.rows r.rows) (Self.worker self.old) (Self.worker self.new) }
+        ensures cause { HasCause Self.lean (Self.worker self.old) (Self.worker self.new) result };
+
+    /// `I = {(i, i)}`: the identity of n elements.
+    fn identity(&mut self, n: u32) -> Result<Rel, Lack>
+        requires limit { n ≤ size_limit }
+        ensures value { IfOk result (Gives (Self.worker self.new) n n (identity_of n)) }
+        ensures keeps { Keeps (Self.worker self.old) (Self.worker self.new) }
+        ensures room { MakesAtMost (derived_room n n n) (Self.worker self.old) (Self.worker self.new) }
+        ensures cause { HasCause Self.lean (Self.worker self.old) (Self.worker self.new) result };
+
+    /// `{(i * y + j, i)}`: the projection of a product to its first factor. It is refused where the product is over the limit.
+    fn first(&mut self, x: u32, y: u32) -> Result<Rel, DomainError>
+        requires x_limit { x ≤ size_limit }
+        requires y_limit { y ≤ size_limit }
+        ensures value { IfOk result (Gives (Self.worker self.new) (x * y) x (first_projection x y)) }
+        ensures keeps { Keeps (Self.worker self.old) (Self.worker self.new) }
+        ensures room { MakesAtMost (derived_room (x * y) x x) (Self.worker self.old) (Self.worker self.new) }
+        ensures nothing { size_limit < x * y → MakesAtMost 0 (Self.worker self.old) (Self.worker self.new) }
+        ensures cause { HasDomainCause Self.lean (x * y) (Self.worker self.old) (Self.worker self.new) result };
+
+    /// `{(i * y + j, j)}`: the projection of a product to its second factor. It is refused where the product is over the limit.
+    fn second(&mut self, x: u32, y: u32) -> Result<Rel, DomainError>
+        requires x_limit { x ≤ size_limit }
+        requires y_limit { y ≤ size_limit }
+        ensures value { IfOk result (Gives (Self.worker self.new) (x * y) y (second_projection x y)) }
+        ensures keeps { Keeps (Self.worker self.old) (Self.worker self.new) }
+        ensures room { MakesAtMost (derived_room (x * y) y y) (Self.worker self.old) (Self.worker self.new) }
+        ensures nothing { size_limit < x * y → MakesAtMost 0 (Self.worker self.old) (Self.worker self.new) }
+        ensures cause { HasDomainCause Self.lean (x * y) (Self.worker self.old) (Self.worker self.new) result };
+
+    /// `{(i, i)}`: the injection of the first summand into a sum. It is refused where the sum is over the limit.
+    fn inl(&mut self, x: u32, y: u32) -> Result<Rel, DomainError>
+        requires x_limit { x ≤ size_limit }
+        requires y_limit { y ≤ size_limit }
+        ensures value { IfOk result (Gives (Self.worker self.new) x (x + y) (left_injection x y)) }
+        ensures keeps { Keeps (Self.worker self.old) (Self.worker self.new) }
+        ensures room { MakesAtMost (derived_room x (x + y) (x + y)) (Self.worker self.old) (Self.worker self.new) }
+        ensures nothing { size_limit < x + y → MakesAtMost 0 (Self.worker self.old) (Self.worker self.new) }
+        ensures cause { HasDomainCause Self.lean (x + y) (Self.worker self.old) (Self.worker self.new) result };
+
+    /// `{(j, x + j)}`: the injection of the second summand into a sum. It is refused where the sum is over the limit.
+    fn inr(&mut self, x: u32, y: u32) -> Result<Rel, DomainError>
+        requires x_limit { x ≤ size_limit }
+        requires y_limit { y ≤ size_limit }
+        ensures value { IfOk result (Gives (Self.worker self.new) y (x + y) (right_injection x y)) }
+        ensures keeps { Keeps (Self.worker self.old) (Self.worker self.new) }
+        ensures room { MakesAtMost (derived_room y (x + y) (x + y)) (Self.worker self.old) (Self.worker self.new) }
+        ensures nothing { size_limit < x + y → MakesAtMost 0 (Self.worker self.old) (Self.worker self.new) }
+        ensures cause { HasDomainCause Self.lean (x + y) (Self.worker self.old) (Self.worker self.new) result };
+
+    /// `{(i, s) : bit i of s is 1}`: membership of elements in subsets, of x rows and 2 ^ x columns. It is refused where 2 ^ x is over the limit.
+    fn epsi(&mut self, x: u32) -> Result<Rel, DomainError>
+        requires { x ≤ size_limit }
+        ensures value { IfOk result (Gives (Self.worker self.new) x (2 ^ x) (membership x)) }
+        ensures keeps { Keeps (Self.worker self.old) (Self.worker self.new) }
+        ensures room { MakesAtMost (derived_room x (2 ^ x) (2 ^ x)) (Self.worker self.old) (Self.worker self.new) }
+        ensures nothing { size_limit < 2 ^ x → MakesAtMost 0 (Self.worker self.old) (Self.worker self.new) }
+        ensures cause { HasDomainCause Self.lean (2 ^ x) (Self.worker self.old) (Self.worker self.new) result };
+
+    /// `[R,S] = {(i, j * n + k) : (i, j) in r and (i, k) in s}`: the pairing of two relations of as many rows, where s has n columns. It is refused where its columns are over the limit.
+    fn fork(&mut self, r: Rel, s: Rel) -> Result<Rel, DomainError>
+        requires left { Stands (Self.worker self.old) r }
+        requires right { Stands (Self.worker self.old) s }
+        requires rows { r.rows ≡ s.rows }
+        ensures value { IfOk result (Gives (Self.worker self.new) r.rows (r.cols * s.cols) (pairing (set_of (Self.worker self.old) r) (set_of (Self.worker self.old) s))) }
+        ensures keeps { Keeps (Self.worker self.old) (Self.worker self.new) }
+        ensures room { MakesAtMost (wide_room r.rows (max r.cols s.cols) (r.cols * s.cols)) (Self.worker self.old) (Self.worker self.new) }
+        ensures nothing { size_limit < r.cols * s.cols → MakesAtMost 0 (Self.worker self.old) (Self.worker self.new) }
+        ensures cause { HasDomainCause Self.lean (r.cols * s.cols) (Self.worker self.old) (Self.worker self.new) result };
+
+    /// The elements of a vector in order: row r has the element of v that r elements precede.
+    fn inj(&mut self, v: Rel) -> Result<Rel, Lack>
+        requires stands { Stands (Self.worker self.old) v }
+        requires one_column { v.cols ≡ 1 }
+        ensures value { IfOk result (Gives (Self.worker self.new) (count_below v.rows (holds (set_of (Self.worker self.old) v))) v.rows (inj_of (set_of (Self.worker self.old) v))) }
+        ensures keeps { Keeps (Self.worker self.old) (Self.worker self.new) }
+        ensures room { MakesAtMost (derived_room v.rows v.cols v.cols) (Self.worker self.old) (Self.worker self.new) }
+        ensures cause { HasCause Self.lean (Self.worker self.old) (Self.worker self.new) result };
+
+    /// `{p : p in pairs}`: the relation of listed pairs, in any order, repeats allowed. It sorts, so memory may run out even where the worker is lean.
+    fn from_pairs(&mut self, alloc: Global, shape: Shape, pairs: &[(u32, u32)]) -> Result<Rel, Lack>
+        requires row_limit { shape.rows ≤ size_limit }
+        requires col_limit { shape.cols ≤ size_limit }
+        requires within { IsWithin shape.rows shape.cols pairs.now }
+        ensures value { IfOk result (Gives (Self.worker self.new) shape.rows shape.cols (relation_of shape.rows shape.cols (is_among pairs.now))) }
+        ensures keeps { Keeps (Self.worker self.old) (Self.worker self.new) }
+        ensures room { MakesAtMost (pairs_room (length pairs.now) shape.rows shape.cols) (Self.worker self.old) (Self.worker self.new) }
+        ensures full { IsErrOf result Full → Rose (Self.worker self.old).misses (Self.worker self.new).misses };
+
+    /// `{(i, 0) : i is the least element of v}`: a point of a vector that has an element, and the empty vector of one that has none.
+    fn point(&mut self, v: Rel) -> Result<Rel, Lack>
+        requires stands { Stands (Self.worker self.old) v }
+        requires column { v.cols ≡ 1 }
+        ensures value { IfOk result (Gives (Self.worker self.new) v.rows 1 (point_of (set_of (Self.worker self.old) v))) }
+        ensures keeps { Keeps (Self.worker self.old) (Self.worker self.new) }
+        ensures room { MakesAtMost (derived_room v.rows 1 1) (Self.worker self.old) (Self.worker self.new) }
+        ensures cause { HasCause Self.lean (Self.worker self.old) (Self.worker self.new) result };
+
+    /// `{(i, j) : (i, j) is the least pair of r by row and then by column}`, and the empty relation of one that has none.
+    fn atom(&mut self, r: Rel) -> Result<Rel, Lack>
+        requires { Stands (Self.worker self.old) r }
+        ensures value { IfOk result (Gives (Self.worker self.new) r.rows r.cols (atom_of (set_of (Self.worker self.old) r))) }
+        ensures keeps { Keeps (Self.worker self.old) (Self.worker self.new) }
+        ensures room { MakesAtMost (derived_room r.rows r.cols 1) (Self.worker self.old) (Self.worker self.new) }
+        ensures cause { HasCause Self.lean (Self.worker self.old) (Self.worker self.new) result };
+
+    /// `{(0, 0)}` with the rows of v, and the empty vector where it has none.
+    fn init(&mut self, v: Rel) -> Result<Rel, Lack>
+        requires stands { Stands (Self.worker self.old) v }
+        requires column { v.cols ≡ 1 }
+        ensures value { IfOk result (Gives (Self.worker self.new) v.rows 1 (init_of (set_of (Self.worker self.old) v))) }
+        ensures keeps { Keeps (Self.worker self.old) (Self.worker self.new) }
+        ensures room { MakesAtMost (derived_room v.rows 1 1) (Self.worker self.old) (Self.worker self.new) }
+        ensures cause { HasCause Self.lean (Self.worker self.old) (Self.worker self.new) result };
+
+    /// `{(i + 1, 0) : i is in v, i + 1 < rows}`: each element moved up by one, the last dropped.
+    fn next(&mut self, v: Rel) -> Result<Rel, Lack>
+        requires stands { Stands (Self.worker self.old) v }
+        requires column { v.cols ≡ 1 }
+        ensures value { IfOk result (Gives (Self.worker self.new) v.rows 1 (next_of (set_of (Self.worker self.old) v))) }
+        ensures keeps { Keeps (Self.worker self.old) (Self.worker self.new) }
+        ensures room { MakesAtMost (derived_room v.rows 1 1) (Self.worker self.old) (Self.worker self.new) }
+        ensures cause { HasCause Self.lean (Self.worker self.old) (Self.worker self.new) result };
+
+    /// `{(i, 0) : (i, j) in r for some j}`: the domain of definition.
+    fn dom(&mut self, r: Rel) -> Result<Rel, Lack>
+        requires { Stands (Self.worker self.old) r }
+        ensures value { IfOk result (Gives (Self.worker self.new) r.rows 1 (dom_of (set_of (Self.worker self.old) r))) }
+        ensures keeps { Keeps (Self.worker self.old) (Self.worker self.new) }
+        ensures room { MakesAtMost (derived_room r.rows r.cols 1) (Self.worker self.old) (Self.worker self.new) }
+        ensures cause { HasCause Self.lean (Self.worker self.old) (Self.worker self.new) result };
+
+    /// `{(j, 0) : (i, j) in r for some i}`: the range.
+    fn ran(&mut self, r: Rel) -> Result<Rel, Lack>
+        requires { Stands (Self.worker self.old) r }
+        ensures value { IfOk result (Gives (Self.worker self.new) r.cols 1 (ran_of (set_of (Self.worker self.old) r))) }
+        ensures keeps { Keeps (Self.worker self.old) (Self.worker self.new) }
+        ensures room { MakesAtMost (derived_room r.rows r.cols 1) (Self.worker self.old) (Self.worker self.new) }
+        ensures cause { HasCause Self.lean (Self.worker self.old) (Self.worker self.new) result };
+
+    /// Whether no row has two pairs: the relation is univalent.
+    fn unival(&mut self, r: Rel) -> bool
+        requires { Stands (Self.worker self.old) r }
+        ensures value { result ≡ is_unival (set_of (Self.worker self.old) r) }
+        ensures keeps { Keeps (Self.worker self.old) (Self.worker self.new) }
+        ensures room { MakesAtMost 0 (Self.worker self.old) (Self.worker self.new) };
+
+    /// How many pairs a relation has.
+    fn count(&mut self, alloc: Global, r: Rel) -> Result<u64, NoMemory>
+        requires { Stands (Self.worker self.old) r }
+        ensures value { IfOk result (λ n. n ≡ count_of (set_of (Self.worker self.old) r)) }
+        ensures keeps { Keeps (Self.worker self.old) (Self.worker self.new) }
+        ensures room { MakesAtMost 0 (Self.worker self.old) (Self.worker self.new) };
+
+    /// The least pair by row and then by column, of those behind `after` where it is given.
+    fn next_pair(&mut self, r: Rel, after: Option<(u32, u32)>) -> Option<(u32, u32)>
+        requires { Stands (Self.worker self.old) r }
+        ensures value { result ≡ next_pair_of (set_of (Self.worker self.old) r) after }
+        ensures among { IfSome result (λ p. has (set_of (Self.worker self.old) r) p.0 p.1 ≡ true) }
+        ensures keeps { Keeps (Self.worker self.old) (Self.worker self.new) }
+        ensures room { MakesAtMost 0 (Self.worker self.old) (Self.worker self.new) };
+}
