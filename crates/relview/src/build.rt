@@ -9,9 +9,8 @@ ghost use Rattle.rel_model.specs.Cost.{listed_count};
 ghost use Rattle.rel_model.specs.Listed.{IsWithin};
 ghost use Rattle.relview.specs.Listed.{Extends, IsListed};
 
-use rel_domains::from_pairs;
 use rel_model::core_trait::Core;
-use rel_model::quads_trait::Quads;
+use rel_model::engine_trait::Engine;
 use rel_model::syntax::Row;
 use rel_model::{Lack, Rel, Shape};
 use std::alloc::{AllocError, Global};
@@ -62,16 +61,21 @@ fn listed_pairs(alloc: Global, shape: Shape, list: &[Row]) -> Result<Vec<(u32, u
 
 /// The relation of the listed pairs.
 #[tactic(auto, using(crate::proofs::Listing::room_of_fewer))]
-pub fn listed<Q: Quads>(alloc: Global, q: &mut Q, shape: Shape, list: &[Row]) -> Result<Rel, Lack>
+pub fn listed<E: Engine>(
+    alloc: Global,
+    engine: &mut E,
+    shape: Shape,
+    list: &[Row],
+) -> Result<Rel, Lack>
     requires row_limit { shape.rows ≤ size_limit }
     requires col_limit { shape.cols ≤ size_limit }
-    ensures value { IfOk result (Gives (Q.worker q.new) shape.rows shape.cols (relation_of shape.rows shape.cols (lists list.now))) }
-    ensures keeps { Keeps (Q.worker q.old) (Q.worker q.new) }
-    ensures room { MakesAtMost (pairs_room (listed_count list.now) shape.rows shape.cols) (Q.worker q.old) (Q.worker q.new) }
-    ensures full { IfErr result (λ e. e ≡ Full → Rose (Q.worker q.old).misses (Q.worker q.new).misses) }
+    ensures value { IfOk result (Gives (E.worker engine.new) shape.rows shape.cols (relation_of shape.rows shape.cols (lists list.now))) }
+    ensures keeps { Keeps (E.worker engine.old) (E.worker engine.new) }
+    ensures room { MakesAtMost (pairs_room (listed_count list.now) shape.rows shape.cols) (E.worker engine.old) (E.worker engine.new) }
+    ensures full { IfErr result (λ e. e ≡ Full → Rose (E.worker engine.old).misses (E.worker engine.new).misses) }
 {
     let pairs = listed_pairs(alloc, shape, list)?;
-    match from_pairs(alloc, q, shape, pairs.as_slice()) {
+    match engine.from_pairs(alloc, shape, pairs.as_slice()) {
         Ok(rel) => Ok(rel),
         Err(lack) => Err(lack),
     }

@@ -8,6 +8,7 @@ use crate::session::run_script;
 use crate::top::Answer;
 use fork_quads::{Crew, OpenGate};
 use pair_table::PairTable;
+use rel_engine::Works;
 use rel_model::NoMemory;
 use rel_model::syntax::Script;
 use std::alloc::Global;
@@ -23,9 +24,10 @@ pub fn answer_of_script(alloc: Global, script: &Script) -> Result<Answer, NoMemo
 {
     let (table, seat) = PairTable::make(alloc, TABLE_BITS, 1)?;
     let gate = OpenGate;
-    let mut crew = Crew::new(&table, seat, 1, &gate);
-    let run = run_script(alloc, &mut crew, script)?;
-    let seat = crew.into_seat();
+    let crew = Crew::new(&table, seat, 1, &gate);
+    let mut works = Works::new(crew);
+    let run = run_script(alloc, &mut works, script)?;
+    let seat = works.into_seat();
     let words = table.close(seat)?;
     Ok(Answer {
         history: run.history,

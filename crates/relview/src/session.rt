@@ -15,7 +15,7 @@ ghost use Rattle.relview.specs.Ran.{IsFirstItem, RanTo, Follows, tree_of, Settle
 use crate::build::listed;
 use crate::reply::{Reply, lack_reply, print_reply};
 use rel_model::core_trait::Core;
-use rel_model::quads_trait::Quads;
+use rel_model::engine_trait::Engine;
 use rel_model::run::{Act, Event, Outcome};
 use rel_model::syntax::{Command, Expr, Item, Name, Row, Script};
 use rel_model::{Lack, NoMemory, Rel, Shape};
@@ -31,20 +31,20 @@ pub struct Run {
 }
 
 /// The reply to PRINT, also where the table is full or memory runs out.
-fn settled_reply<Q: Quads>(
+fn settled_reply<E: Engine>(
     alloc: Global,
-    q: &mut Q,
+    engine: &mut E,
     names: &[(Name, Rel)],
     number: u32,
     expr: &Expr,
 ) -> Result<Reply, NoMemory>
-    requires standing { AllStand (Q.worker q.old) names.now }
+    requires standing { AllStand (E.worker engine.old) names.now }
     requires plain { IsPlain expr.now }
-    ensures reply { IfOk result (λ r. Settles number expr.now (means (Q.worker q.old) names.now) (Q.worker q.old).misses (Q.worker q.new).misses r.outcome r.text.items) }
-    ensures keeps { Keeps (Q.worker q.old) (Q.worker q.new) }
-    ensures room { MakesAtMost (cost_where_due (evaluated expr.now (means (Q.worker q.old) names.now)) (cost (means (Q.worker q.old) names.now) expr.now)) (Q.worker q.old) (Q.worker q.new) }
+    ensures reply { IfOk result (λ r. Settles number expr.now (means (E.worker engine.old) names.now) (E.worker engine.old).misses (E.worker engine.new).misses r.outcome r.text.items) }
+    ensures keeps { Keeps (E.worker engine.old) (E.worker engine.new) }
+    ensures room { MakesAtMost (cost_where_due (evaluated expr.now (means (E.worker engine.old) names.now)) (cost (means (E.worker engine.old) names.now) expr.now)) (E.worker engine.old) (E.worker engine.new) }
 {
-    match print_reply(alloc, q, names, number, expr) {
+    match print_reply(alloc, engine, names, number, expr) {
         Ok(reply) => Ok(reply),
         Err(lack) => {
             let reply = lack_reply(alloc, number, lack)?;
@@ -54,9 +54,9 @@ fn settled_reply<Q: Quads>(
 }
 
 /// The listed relation, and its name twice.
-fn named_relation<Q: Quads>(
+fn named_relation<E: Engine>(
     alloc: Global,
-    q: &mut Q,
+    engine: &mut E,
     name: &Name,
     shape: Shape,
     list: &[Row],
@@ -64,39 +64,39 @@ fn named_relation<Q: Quads>(
     requires row_limit { shape.rows ≤ size_limit }
     requires col_limit { shape.cols ≤ size_limit }
     ensures names { IfOk result (λ x. (x.0 ≡ name.now) × (x.1 ≡ name.now)) }
-    ensures value { IfOk result (λ x. Gives (Q.worker q.new) shape.rows shape.cols (relation_of shape.rows shape.cols (lists list.now)) x.2) }
-    ensures keeps { Keeps (Q.worker q.old) (Q.worker q.new) }
-    ensures room { MakesAtMost (pairs_room (listed_count list.now) shape.rows shape.cols) (Q.worker q.old) (Q.worker q.new) }
-    ensures full { IfErr result (λ e. e ≡ Full → Rose (Q.worker q.old).misses (Q.worker q.new).misses) }
+    ensures value { IfOk result (λ x. Gives (E.worker engine.new) shape.rows shape.cols (relation_of shape.rows shape.cols (lists list.now)) x.2) }
+    ensures keeps { Keeps (E.worker engine.old) (E.worker engine.new) }
+    ensures room { MakesAtMost (pairs_room (listed_count list.now) shape.rows shape.cols) (E.worker engine.old) (E.worker engine.new) }
+    ensures full { IfErr result (λ e. e ≡ Full → Rose (E.worker engine.old).misses (E.worker engine.new).misses) }
 {
     let kept = name.copied(alloc)?;
     let noted = name.copied(alloc)?;
-    match listed(alloc, q, shape, list) {
+    match listed(alloc, engine, shape, list) {
         Ok(rel) => Ok((kept, noted, rel)),
         Err(lack) => Err(lack),
     }
 }
 
 /// Runs PRINT: one read, and the reply.
-fn run_print<Q: Quads>(
+fn run_print<E: Engine>(
     alloc: Global,
-    q: &mut Q,
+    engine: &mut E,
     run: &mut Run,
     number: u32,
     expr: &Expr,
 ) -> Result<(), NoMemory>
-    requires standing { AllStand (Q.worker q.old) run.old.names.items }
+    requires standing { AllStand (E.worker engine.old) run.old.names.items }
     requires plain { IsPlain expr.now }
-    ensures printed { OnOk result (Printed number expr.now (means (Q.worker q.old) run.old.names.items) (Q.worker q.old).misses (Q.worker q.new).misses run.old run.new) }
-    ensures keeps { Keeps (Q.worker q.old) (Q.worker q.new) }
-    ensures room { MakesAtMost (cost_where_due (evaluated expr.now (means (Q.worker q.old) run.old.names.items)) (cost (means (Q.worker q.old) run.old.names.items) expr.now)) (Q.worker q.old) (Q.worker q.new) }
+    ensures printed { OnOk result (Printed number expr.now (means (E.worker engine.old) run.old.names.items) (E.worker engine.old).misses (E.worker engine.new).misses run.old run.new) }
+    ensures keeps { Keeps (E.worker engine.old) (E.worker engine.new) }
+    ensures room { MakesAtMost (cost_where_due (evaluated expr.now (means (E.worker engine.old) run.old.names.items)) (cost (means (E.worker engine.old) run.old.names.items) expr.now)) (E.worker engine.old) (E.worker engine.new) }
 {
     run.history.push(Event {
         session: 1,
         command: number,
         act: Act::Read,
     })?;
-    let reply = settled_reply(alloc, q, run.names.as_slice(), number, expr)?;
+    let reply = settled_reply(alloc, engine, run.names.as_slice(), number, expr)?;
     run.page.extend_from_slice(reply.text.as_slice())?;
     run.outcomes.push(reply.outcome)?;
     Ok(())
@@ -128,9 +128,9 @@ fn refuse(alloc: Global, run: &mut Run, number: u32, lack: Lack) -> Result<(), N
 }
 
 /// Runs REL: one assignment, or a refusal.
-fn run_relation<Q: Quads>(
+fn run_relation<E: Engine>(
     alloc: Global,
-    q: &mut Q,
+    engine: &mut E,
     run: &mut Run,
     number: u32,
     name: &Name,
@@ -139,11 +139,11 @@ fn run_relation<Q: Quads>(
 ) -> Result<(), NoMemory>
     requires row_limit { shape.rows ≤ size_limit }
     requires col_limit { shape.cols ≤ size_limit }
-    ensures assigned { OnOk result (Assigned number name.now shape.rows shape.cols (relation_of shape.rows shape.cols (lists list.now)) (Q.worker q.new) run.old run.new ⊎ Refused number (Q.worker q.old).misses (Q.worker q.new).misses run.old run.new) }
-    ensures keeps { Keeps (Q.worker q.old) (Q.worker q.new) }
-    ensures room { MakesAtMost (pairs_room (listed_count list.now) shape.rows shape.cols) (Q.worker q.old) (Q.worker q.new) }
+    ensures assigned { OnOk result (Assigned number name.now shape.rows shape.cols (relation_of shape.rows shape.cols (lists list.now)) (E.worker engine.new) run.old run.new ⊎ Refused number (E.worker engine.old).misses (E.worker engine.new).misses run.old run.new) }
+    ensures keeps { Keeps (E.worker engine.old) (E.worker engine.new) }
+    ensures room { MakesAtMost (pairs_room (listed_count list.now) shape.rows shape.cols) (E.worker engine.old) (E.worker engine.new) }
 {
-    match named_relation(alloc, q, name, shape, list) {
+    match named_relation(alloc, engine, name, shape, list) {
         Ok((kept, noted, rel)) => {
             assign(run, number, kept, noted, rel)?;
             Ok(())
@@ -156,9 +156,9 @@ fn run_relation<Q: Quads>(
 }
 
 /// Runs one item.
-fn run_item<Q: Quads>(
+fn run_item<E: Engine>(
     alloc: Global,
-    q: &mut Q,
+    engine: &mut E,
     run: &mut Run,
     script: &Script,
     k: usize,
@@ -166,8 +166,8 @@ fn run_item<Q: Quads>(
     requires within { k < length script.now.items.items }
     requires few { length script.now.items.items ≤ 2 ^ 20 }
     requires first { All IsFirstItem script.now.items.items }
-    requires standing { AllStand (Q.worker q.old) run.old.names.items }
-    ensures ran { OnOk result (Follows script.now k (Q.worker q.old) (Q.worker q.new) run.old run.new) }
+    requires standing { AllStand (E.worker engine.old) run.old.names.items }
+    ensures ran { OnOk result (Follows script.now k (E.worker engine.old) (E.worker engine.new) run.old run.new) }
 {
     let number = (k + 1) as u32;
     let Item::Command(command) = &script.items[k] else {
@@ -186,11 +186,11 @@ fn run_item<Q: Quads>(
                 rows: *rows as u32,
                 cols: *cols as u32,
             };
-            run_relation(alloc, q, run, number, name, shape, list.as_slice())?;
+            run_relation(alloc, engine, run, number, name, shape, list.as_slice())?;
             Ok(())
         }
         Command::Print { value } => {
-            run_print(alloc, q, run, number, value)?;
+            run_print(alloc, engine, run, number, value)?;
             Ok(())
         }
         _ => unreachable!(),
@@ -198,10 +198,14 @@ fn run_item<Q: Quads>(
 }
 
 /// Runs a script from nothing, as session 1.
-pub fn run_script<Q: Quads>(alloc: Global, q: &mut Q, script: &Script) -> Result<Run, NoMemory>
+pub fn run_script<E: Engine>(
+    alloc: Global,
+    engine: &mut E,
+    script: &Script,
+) -> Result<Run, NoMemory>
     requires few { length script.now.items.items ≤ 2 ^ 20 }
     requires first { All IsFirstItem script.now.items.items }
-    ensures { IfOk result (λ run. RanTo (tree_of script.now) script.now.items.items (Q.worker q.old) (Q.worker q.new) run) }
+    ensures { IfOk result (λ run. RanTo (tree_of script.now) script.now.items.items (E.worker engine.old) (E.worker engine.new) run) }
 {
     let mut run = Run {
         names: Vec::new(alloc),
@@ -210,7 +214,7 @@ pub fn run_script<Q: Quads>(alloc: Global, q: &mut Q, script: &Script) -> Result
         page: Vec::new(alloc),
     };
     'each: for k in 0..script.items.len() {
-        run_item(alloc, q, &mut run, script, k)?;
+        run_item(alloc, engine, &mut run, script, k)?;
     }
     Ok(run)
 }

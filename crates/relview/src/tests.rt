@@ -1,5 +1,6 @@
 //! What runs of the program write, with which status, history and outcomes.
 mod changes;
+mod full;
 mod outside;
 mod pages;
 mod rules;

@@ -2,20 +2,21 @@
 use super::rules::page_by_the_rules;
 use super::runs::{page_over, small_table};
 use fork_quads::{Crew, OpenGate};
-use rel_model::quads_trait::Quads;
+use rel_engine::Works;
+use rel_model::engine_trait::Engine;
 use std::alloc::Global;
 use std::process::Abort;
 use std::test::Fail;
 
 /// Runs a text over a worker, and asserts what the rules say of it. Answers whether it was refused as no script.
-fn assert_by_the_rules<Q: Quads>(
+fn assert_by_the_rules<E: Engine>(
     rt: &impl Abort,
     alloc: Global,
-    q: &mut Q,
+    engine: &mut E,
     text: &[u8],
 ) -> Result<bool, Fail> {
     let (page, status) = page_by_the_rules(alloc, text)?;
-    let (written, told) = page_over(rt, alloc, q, text)?;
+    let (written, told) = page_over(rt, alloc, engine, text)?;
     let shown = format!(in alloc; "{text:?}")?;
     assert_eq!(rt;
         str::from_utf8(written.as_slice())?,
@@ -30,14 +31,14 @@ fn assert_by_the_rules<Q: Quads>(
 fn changed(rt: &impl Abort, alloc: Global, script: &[u8]) -> Result<u32, Fail> {
     let (table, seat) = small_table(rt, alloc);
     let gate = OpenGate;
-    let mut crew = Crew::new(&table, seat, 1, &gate);
+    let mut works = Works::new(Crew::new(&table, seat, 1, &gate));
     let mut scripts = 0u32;
     for place in 0..script.len() {
         for byte in 0..=255u8 {
             let mut text = Vec::from_slice(alloc, &script[..place])?;
             text.push(byte)?;
             text.extend_from_slice(&script[place + 1..])?;
-            if !assert_by_the_rules(rt, alloc, &mut crew, text.as_slice())? {
+            if !assert_by_the_rules(rt, alloc, &mut works, text.as_slice())? {
                 scripts = scripts.saturating_add(1);
             }
         }
@@ -106,10 +107,10 @@ fn each_change_of_one_byte_of_an_intersection_is_answered_by_the_rules(
 fn each_truncation_is_answered_by_the_rules(rt: HostRuntime) -> Result<(), Fail> {
     let (table, seat) = small_table(&rt, rt.alloc());
     let gate = OpenGate;
-    let mut crew = Crew::new(&table, seat, 1, &gate);
+    let mut works = Works::new(Crew::new(&table, seat, 1, &gate));
     for script in [COMPLEMENT, MISFIT, INTERSECTION] {
         for len in 0..script.len() {
-            let _ = assert_by_the_rules(&rt, rt.alloc(), &mut crew, &script[..len])?;
+            let _ = assert_by_the_rules(&rt, rt.alloc(), &mut works, &script[..len])?;
         }
     }
     Ok(())

@@ -1,6 +1,7 @@
 //! Pages, histories and outcomes of worked scripts.
 use super::runs::{assert_over, assert_page, history_of, outcomes_of, run, small_table};
 use fork_quads::{Crew, OpenGate};
+use rel_engine::Works;
 use std::test::Fail;
 
 /// The node words and the memo words of a run's table.
@@ -26,7 +27,7 @@ fn an_empty_script_writes_nothing_and_leaves_each_word_of_the_table_0(
 fn each_operator_shows_the_relation_of_its_formula(rt: HostRuntime) -> Result<(), Fail> {
     let (table, seat) = small_table(&rt, rt.alloc());
     let gate = OpenGate;
-    let mut crew = Crew::new(&table, seat, 1, &gate);
+    let mut works = Works::new(Crew::new(&table, seat, 1, &gate));
     let chain = "REL A 3 3 {1:2; 2:3}. ";
     for (expr, page) in [
         ("A", "1.2: 3 x 3\n.1.\n..1\n...\n"),
@@ -46,7 +47,7 @@ fn each_operator_shows_the_relation_of_its_formula(rt: HostRuntime) -> Result<()
         ("-(A&A^)", "1.2: 3 x 3\n111\n111\n111\n"),
     ] {
         let script = format!(in rt.alloc(); "{chain}PRINT {expr}.")?;
-        assert_over(&rt, rt.alloc(), &mut crew, script.as_str(), page, 0)?;
+        assert_over(&rt, rt.alloc(), &mut works, script.as_str(), page, 0)?;
     }
     Ok(())
 }
@@ -57,7 +58,7 @@ fn matrices_have_a_line_for_each_row_and_a_byte_for_each_column(
 ) -> Result<(), Fail> {
     let (table, seat) = small_table(&rt, rt.alloc());
     let gate = OpenGate;
-    let mut crew = Crew::new(&table, seat, 1, &gate);
+    let mut works = Works::new(Crew::new(&table, seat, 1, &gate));
     for (script, page) in [
         ("REL A 2 3 {1:3; 2:1,2}. PRINT A.", "1.2: 2 x 3\n..1\n11.\n"),
         (
@@ -80,7 +81,7 @@ fn matrices_have_a_line_for_each_row_and_a_byte_for_each_column(
         ),
         ("REL A 1 10 {1:10}. PRINT A.", "1.2: 1 x 10\n.........1\n"),
     ] {
-        assert_over(&rt, rt.alloc(), &mut crew, script, page, 0)?;
+        assert_over(&rt, rt.alloc(), &mut works, script, page, 0)?;
     }
     Ok(())
 }
@@ -156,7 +157,7 @@ fn the_leftmost_unknown_name_comes_before_any_misfit_and_the_first_misfit_before
     assert_eq!(rt; front.len(), 36);
     let (table, seat) = small_table(&rt, rt.alloc());
     let gate = OpenGate;
-    let mut crew = Crew::new(&table, seat, 1, &gate);
+    let mut works = Works::new(Crew::new(&table, seat, 1, &gate));
     for (expr, text) in [
         ("X|Y", "1:37: unknown name X"),
         ("A|Y", "1:39: unknown name Y"),
@@ -180,7 +181,7 @@ fn the_leftmost_unknown_name_comes_before_any_misfit_and_the_first_misfit_before
         assert_over(
             &rt,
             rt.alloc(),
-            &mut crew,
+            &mut works,
             script.as_str(),
             page.as_str(),
             1,
@@ -193,7 +194,7 @@ fn the_leftmost_unknown_name_comes_before_any_misfit_and_the_first_misfit_before
 fn places_count_lines_and_columns_through_blanks_and_comments(rt: HostRuntime) -> Result<(), Fail> {
     let (table, seat) = small_table(&rt, rt.alloc());
     let gate = OpenGate;
-    let mut crew = Crew::new(&table, seat, 1, &gate);
+    let mut works = Works::new(Crew::new(&table, seat, 1, &gate));
     for (script, text) in [
         ("PRINT Z.", "1.1: refused: 1:7: unknown name Z\n"),
         ("PRINT\nZ.", "1.1: refused: 2:1: unknown name Z\n"),
@@ -214,7 +215,7 @@ fn places_count_lines_and_columns_through_blanks_and_comments(rt: HostRuntime) -
             "1.2: refused: 6:4: unknown name no_such_name\n",
         ),
     ] {
-        assert_over(&rt, rt.alloc(), &mut crew, script, text, 1)?;
+        assert_over(&rt, rt.alloc(), &mut works, script, text, 1)?;
     }
     Ok(())
 }
@@ -223,7 +224,7 @@ fn places_count_lines_and_columns_through_blanks_and_comments(rt: HostRuntime) -
 fn a_command_sees_the_relations_that_stood_at_its_read(rt: HostRuntime) -> Result<(), Fail> {
     let (table, seat) = small_table(&rt, rt.alloc());
     let gate = OpenGate;
-    let mut crew = Crew::new(&table, seat, 1, &gate);
+    let mut works = Works::new(Crew::new(&table, seat, 1, &gate));
     for (script, page, status) in [
         // A name keeps its last relation, and a PRINT shows the one before it.
         (
@@ -256,7 +257,7 @@ fn a_command_sees_the_relations_that_stood_at_its_read(rt: HostRuntime) -> Resul
             0,
         ),
     ] {
-        assert_over(&rt, rt.alloc(), &mut crew, script, page, status)?;
+        assert_over(&rt, rt.alloc(), &mut works, script, page, status)?;
     }
     Ok(())
 }

@@ -4,8 +4,8 @@ ghost use Rattle.rel_model.specs.Views.{IsOf};
 use crate::session::run_script;
 use crate::top::{Report, relview, status_of};
 use pair_table::{PairTable, Seat};
+use rel_model::engine_trait::Engine;
 use rel_model::faults::{ParseFault, StaticShape, TypeFault, What};
-use rel_model::quads_trait::Quads;
 use rel_model::run::{Act, Event, Outcome};
 use rel_model::syntax::{Name, Place};
 use rv_io::{MemShelf, MemSink, NoMemory};
@@ -93,16 +93,16 @@ pub fn assert_page(
 
 /// The page and the status of a text that runs over a worker.
 #[tactic(auto, using(crate::proofs::FirstItems::spelled_few))]
-pub fn page_over<Q: Quads>(
+pub fn page_over<E: Engine>(
     rt: &impl Abort,
     alloc: Global,
-    q: &mut Q,
+    engine: &mut E,
     text: &[u8],
 ) -> Result<(Vec<u8>, u8), Fail> {
     assert!(rt; text.len() <= 1_048_576);
     match parse_first(alloc, text) {
         Ok(script) => {
-            let Ok(run) = run_script(alloc, q, &script) else {
+            let Ok(run) = run_script(alloc, engine, &script) else {
                 panic!(rt; "no memory")
             };
             let status = status_of(run.outcomes.as_slice());
@@ -116,15 +116,15 @@ pub fn page_over<Q: Quads>(
 }
 
 /// Asserts the page and the status of a text that runs over a worker.
-pub fn assert_over<Q: Quads>(
+pub fn assert_over<E: Engine>(
     rt: &impl Abort,
     alloc: Global,
-    q: &mut Q,
+    engine: &mut E,
     text: &str,
     page: &str,
     status: u8,
 ) -> Result<(), Fail> {
-    let (written, told) = page_over(rt, alloc, q, text.as_bytes())?;
+    let (written, told) = page_over(rt, alloc, engine, text.as_bytes())?;
     assert_eq!(rt; str::from_utf8(written.as_slice())?, page, "at {text}");
     assert_eq!(rt; told, status, "at {text}");
     Ok(())

@@ -7,6 +7,7 @@ ghost use Rattle.relview.specs.Names.{AllStand};
 use super::runs::small_table;
 use crate::reply::print_reply;
 use fork_quads::{Crew, OpenGate};
+use rel_engine::Works;
 use rel_model::core_trait::Core;
 use rel_model::syntax::{Command, Item, Name, Script};
 use rel_model::{Rel, Shape};
@@ -71,7 +72,7 @@ fn an_expression_has_the_same_reply_over_the_table_and_over_plain_relations(
     let alloc = rt.alloc();
     let (table, seat) = small_table(&rt, alloc);
     let gate = OpenGate;
-    let mut crew = Crew::new(&table, seat, 1, &gate);
+    let mut works = Works::new(Crew::new(&table, seat, 1, &gate));
     let mut plain = Plain::new(alloc);
     for text in [
         "PRINT A.",
@@ -84,7 +85,7 @@ fn an_expression_has_the_same_reply_over_the_table_and_over_plain_relations(
         "PRINT (A|-A)&(A^|B).",
         "PRINT A|-A^|--A&A.",
     ] {
-        let over_table = shown_over(&rt, alloc, &mut crew, text)?;
+        let over_table = shown_over(&rt, alloc, &mut works, text)?;
         let over_lists = shown_over(&rt, alloc, &mut plain, text)?;
         assert_eq!(rt;
             str::from_utf8(over_table.as_slice())?,

@@ -10,8 +10,8 @@ use Rattle.relview.proofs.session.run_item.Goals as goal
 
 pub returns-in_ok-run_relation-in-Relation : goal.returns-in_ok-run_relation-in-Relation
 returns-in_ok-run_relation-in-Relation g c =
-    let w = g.Q.Core.worker c.args.q.now in
-    let v = g.Q.Core.worker c.run_relation.new.q in
+    let w = g.E.Core.worker c.args.engine.now in
+    let v = g.E.Core.worker c.run_relation.new.engine in
     let i = c.in-Relation in
     let done = c.in_ok-run_relation-in-Relation.ensures in
     record {
@@ -23,6 +23,6 @@ pub returns-in_ok-run_print-in-Print : goal.returns-in_ok-run_print-in-Print
 returns-in_ok-run_print-in-Print g c =
     let done = c.in_ok-run_print-in-Print.ensures in
     record {
-      ran = follows_print c.args.script.now c.args.k c.index.result.now c.in-Print.value (g.Q.Core.worker c.args.q.now) (g.Q.Core.worker c.run_print.new.q) c.args.run.now c.run_print.new.run c.requires.within c.index.ensures
+      ran = follows_print c.args.script.now c.args.k c.index.result.now c.in-Print.value (g.E.Core.worker c.args.engine.now) (g.E.Core.worker c.run_print.new.engine) c.args.run.now c.run_print.new.run c.requires.within c.index.ensures
           (c.in-Command.is ∙ ap Command c.in-Print.is) done.keeps done.printed done.room;
     }

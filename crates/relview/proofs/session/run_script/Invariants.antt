@@ -3,4 +3,4 @@ use Rattle.relview.specs.Ran.{RanTo, tree_of}
 use Rattle.relview.proofs.session.run_script.Given as goal
 
 abbrev pub invariant-each : goal.invariant-each
-invariant-each g l = RanTo (tree_of l.script) (take l.k l.script.items.items) (g.Q.Core.worker l.fn.q) (g.Q.Core.worker l.q) l.run
+invariant-each g l = RanTo (tree_of l.script) (take l.k l.script.items.items) (g.E.Core.worker l.fn.engine) (g.E.Core.worker l.engine) l.run

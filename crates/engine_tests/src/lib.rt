@@ -1,0 +1,9 @@
+//! Tests of the engine: all operations of the language beside what their membership clauses say of lists of pairs.
+#![tactic(auto)]
+
+#[cfg(test)]
+mod operations;
+#[cfg(test)]
+mod slow;
+#[cfg(test)]
+mod tests;

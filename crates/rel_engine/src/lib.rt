@@ -1,0 +1,10 @@
+//! The worker that does all operations of the language, over a shared node table.
+#![tactic(auto)]
+
+mod identity;
+mod operations;
+mod relations;
+mod squares;
+mod works;
+
+pub use works::Works;

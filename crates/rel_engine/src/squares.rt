@@ -1,0 +1,63 @@
+//! Relations as quads, and the quads of the table, which are the crew's.
+ghost use Rattle.fork_quads.specs.CrewLaws.{least_limit_law, low_height_law, high_height_law, square_law, none_law, one_name_law};
+
+use crate::works::Works;
+use fork_quads::Gate;
+use rel_model::quads_trait::Quads;
+use rel_model::{Lack, Quad, Rel, Shape};
+
+impl<'t, G: Gate> Quads for Works<'t, G> {
+    ghost least = { 3 };
+
+    ghost least_limit = { least_limit_law };
+
+    ghost low_height = { low_height_law };
+
+    ghost high_height = { high_height_law };
+
+    ghost square = { square_law };
+
+    ghost none = { none_law };
+
+    ghost one_name = { one_name_law };
+
+    /// The height of the leaves, which are blocks of 8 by 8 cells.
+    fn bottom(&self) -> u8 {
+        self.crew.bottom()
+    }
+
+    /// The quad of a relation's root.
+    fn root(&self, r: Rel) -> Quad {
+        self.crew.root(r)
+    }
+
+    /// The relation of a root.
+    fn rel(&self, shape: Shape, q: Quad) -> Rel {
+        self.crew.rel(shape, q)
+    }
+
+    /// The quarters of a quad.
+    fn quarters(&mut self, q: Quad) -> (Quad, Quad, Quad, Quad) {
+        self.crew.quarters(q)
+    }
+
+    /// The quad of four quarters.
+    fn corner(&mut self, nw: Quad, ne: Quad, sw: Quad, se: Quad) -> Result<Quad, Lack> {
+        self.crew.corner(nw, ne, sw, se)
+    }
+
+    /// The cells of a block.
+    fn bits(&mut self, q: Quad) -> u64 {
+        self.crew.bits(q)
+    }
+
+    /// The quad of a block.
+    fn block(&mut self, bits: u64) -> Result<Quad, Lack> {
+        self.crew.block(bits)
+    }
+
+    /// A rectangle of a square.
+    fn rect(&mut self, height: u8, rows: u32, cols: u32) -> Result<Quad, Lack> {
+        self.crew.rect(height, rows, cols)
+    }
+}
