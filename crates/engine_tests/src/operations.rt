@@ -129,7 +129,9 @@ pub(crate) fn answer<E: Engine>(
         Operation::Compose | Operation::Right | Operation::Left | Operation::Syq => {
             of_two_types(rt, engine, operation, r, s)
         }
-        Operation::Trans | Operation::Refl | Operation::Identity => closed(rt, engine, operation, r),
+        Operation::Trans | Operation::Refl | Operation::Identity => closed(
+            rt, engine, operation, r,
+        ),
         Operation::First | Operation::Second | Operation::Inl | Operation::Inr => {
             Some(of_sizes(rt, engine, operation, r.rows, s.cols))
         }
@@ -148,10 +150,7 @@ fn single<E: Engine>(rt: &impl Abort, engine: &mut E, shape: Shape) -> Option<Re
     if shape.rows == 0 || shape.cols == 0 {
         return None;
     }
-    Some(given(
-        rt,
-        engine.single(shape, shape.rows - 1, shape.cols - 1),
-    ))
+    Some(given(rt, engine.single(shape, shape.rows - 1, shape.cols - 1)))
 }
 
 /// The cell-wise operators, of relations of one type.
@@ -216,13 +215,7 @@ fn closed<E: Engine>(rt: &impl Abort, engine: &mut E, operation: Operation, r: R
 }
 
 /// Projections and injections, by two sizes.
-fn of_sizes<E: Engine>(
-    rt: &impl Abort,
-    engine: &mut E,
-    operation: Operation,
-    x: u32,
-    y: u32,
-) -> Rel
+fn of_sizes<E: Engine>(rt: &impl Abort, engine: &mut E, operation: Operation, x: u32, y: u32) -> Rel
     requires row { x ≤ 40 }
     requires col { y ≤ 40 }
     ensures standing { Stands (E.worker engine.new) result }

@@ -5,7 +5,7 @@ use std::alloc::Global;
 use std::process::Abort;
 
 /// A relation by its sizes and its pairs, by row and then by column.
-#[derive(Debug)]
+#[derive(Debug, Drop)]
 pub(crate) struct Listed {
     pub(crate) shape: Shape,
     pub(crate) pairs: Vec<(u32, u32)>,

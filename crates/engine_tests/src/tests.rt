@@ -1,7 +1,7 @@
 //! All operations of an engine over a node table, beside their membership clauses on lists of pairs.
 #![tactic(auto, using(rel_model::proofs::Workers::keeps_stands, rel_model::proofs::Workers::keeps_trans, rel_model::proofs::Workers::gives_stands))]
 
-ghost use Rattle.std.specs.Prelude.{◌≡◌, ◌≤◌, IsTrue};
+ghost use Rattle.std.specs.Prelude.{◌≡◌, ◌<◌, ◌≤◌, IsTrue};
 ghost use Rattle.rel_model.specs.Listed.{IsWithin};
 ghost use Rattle.rel_model.specs.Relation.{size_limit};
 ghost use Rattle.rel_model.specs.Views.{IsOf};
@@ -32,8 +32,8 @@ fn table(rt: &impl Abort, alloc: Global) -> (PairTable, Seat)
 fn lie_within(pairs: &[(u32, u32)], shape: Shape) -> bool
     ensures { IsTrue result → IsWithin shape.rows shape.cols pairs.now }
 {
-    'pairs: for (i, j) in pairs {
-        if *i >= shape.rows || *j >= shape.cols {
+    'pairs: for pair in pairs {
+        if pair.0 >= shape.rows || pair.1 >= shape.cols {
             return false;
         }
     }

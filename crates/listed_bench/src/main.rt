@@ -6,6 +6,7 @@ mod listing;
 ghost use Rattle.std.specs.Prelude.{◌≤◌, ◌^◌, length, IfSome};
 ghost use Rattle.rel_model.specs.Worker.{Stands, Keeps};
 
+use crate::listing::listed_pairs;
 use fork_quads::{Crew, OpenGate};
 use pair_table::PairTable;
 use rel_engine::Works;
@@ -18,8 +19,6 @@ use rv_parse::parse;
 use std::alloc::Global;
 use std::io;
 
-use crate::listing::listed_pairs;
-
 /// The most bytes of a script.
 const SCRIPT_LIMIT: u64 = 1_048_576;
 
@@ -31,9 +30,14 @@ fn built<E: Engine>(alloc: Global, engine: &mut E, item: &Item) -> Option<Rel>
     ensures standing { IfSome result (Stands (E.worker engine.new)) }
     ensures keeps { Keeps (E.worker engine.old) (E.worker engine.new) }
 {
-    let Item::Command(Command::Relation {
-        rows, cols, list, ..
-    }) = item
+    let Item::Command(
+        Command::Relation {
+            rows,
+            cols,
+            list,
+            ..
+        },
+    ) = item
     else {
         return None;
     };

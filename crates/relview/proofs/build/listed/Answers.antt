@@ -9,5 +9,5 @@ pub returns-in-Ok-clause-value : goal.returns-in-Ok-clause-value
 returns-in-Ok-clause-value g c =
     let m = c.args.shape.rows in
     let n = c.args.shape.cols in
-    subst (λ r. Gives (g.E.Core.worker c.from_pairs.new.engine) m n r c.in-Ok.rel)
+    subst (λ r. Gives (g.E.Core.worker c.from_pairs.new.self) m n r c.in-Ok.rel)
     (ap (λ ps. relation_of m n (is_among ps)) c.as_slice.ensures.value ∙ relation_listed m n c.in_ok-pairs.pairs.items c.args.list.now c.in_ok-pairs.ensures.pairs) c.in-Ok.ensures.value
