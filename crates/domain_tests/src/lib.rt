@@ -1,7 +1,15 @@
-//! Tests of products, sums, power sets, pairings and vectors over a node table, beside slow lists.
+//! Tests of products, sums, power sets, pairings, vectors and listed pairs over a node table, beside slow lists.
 #![tactic(auto)]
 
 #[cfg(test)]
-mod slow;
+mod domains;
 #[cfg(test)]
-mod tests;
+mod examples;
+#[cfg(test)]
+mod large;
+#[cfg(test)]
+mod lists;
+#[cfg(test)]
+mod made;
+#[cfg(test)]
+mod slow;

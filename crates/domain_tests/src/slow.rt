@@ -1,4 +1,6 @@
-//! Slow answers as lists of pairs, each counted out from its rule.
+//! Slow answers as lists of pairs by row and then by column, each counted out from its rule.
+ghost use Rattle.std.specs.Prelude.{◌≤◌};
+
 use std::alloc::Global;
 use std::process::Abort;
 
@@ -38,16 +40,23 @@ pub(crate) fn injection(rt: &impl Abort, alloc: Global, size: u32, from: u32) ->
     pairs
 }
 
-/// The pairs of an element and a subset that has it: a subset is halved as often as elements come before.
+/// A subset halved as often as elements come before one.
+fn halved(subset: u32, times: u32) -> u32 {
+    let mut rest = subset;
+    'times: for _ in 0..times {
+        rest /= 2;
+    }
+    rest
+}
+
+/// The pairs of an element and a subset that has it: halved as often as elements come before, the subset is odd.
 pub(crate) fn membership(rt: &impl Abort, alloc: Global, x: u32, subsets: u32) -> Vec<(u32, u32)> {
     let mut pairs = Vec::new(alloc);
-    'subsets: for s in 0..subsets {
-        let mut rest = s;
-        'elements: for i in 0..x {
-            if rest % 2 == 1 {
+    'elements: for i in 0..x {
+        'subsets: for s in 0..subsets {
+            if halved(s, i) % 2 == 1 {
                 put(rt, &mut pairs, (i, s));
             }
-            rest /= 2;
         }
     }
     pairs
@@ -83,9 +92,58 @@ pub(crate) fn numbered(rt: &impl Abort, alloc: Global, vector: &[(u32, u32)]) ->
     pairs
 }
 
-/// Whether a pair is listed.
-pub(crate) fn is_listed(pairs: &[(u32, u32)], i: u32, j: u32) -> bool {
-    pairs.iter().any(|pair| pair.0 == i && pair.1 == j)
+/// The cells of a grid that are listed, by row and then by column.
+pub(crate) fn in_order(
+    rt: &impl Abort,
+    alloc: Global,
+    rows: u32,
+    cols: u32,
+    listed: &[(u32, u32)],
+) -> Vec<(u32, u32)> {
+    let mut pairs = Vec::new(alloc);
+    'rows: for i in 0..rows {
+        'cols: for j in 0..cols {
+            if listed.iter().any(|pair| pair.0 == i && pair.1 == j) {
+                put(rt, &mut pairs, (i, j));
+            }
+        }
+    }
+    pairs
+}
+
+/// The cells of a grid whose bits are set, from the lowest on, by row and then by column.
+pub(crate) fn cells_of(
+    rt: &impl Abort,
+    alloc: Global,
+    rows: u32,
+    cols: u32,
+    bits: u64,
+) -> Vec<(u32, u32)> {
+    let mut pairs = Vec::new(alloc);
+    let mut left = bits;
+    'rows: for i in 0..rows {
+        'cols: for j in 0..cols {
+            if left % 2 == 1 {
+                put(rt, &mut pairs, (i, j));
+            }
+            left /= 2;
+        }
+    }
+    pairs
+}
+
+/// The next state of a linear congruential generator (Knuth's MMIX).
+pub(crate) fn stepped(state: u64) -> u64 {
+    state
+        .wrapping_mul(6364136223846793005)
+        .wrapping_add(1442695040888963407)
+}
+
+/// A size up to 40, by a generator's state.
+pub(crate) fn size_of(state: u64) -> u32
+    ensures { result ≤ 40 }
+{
+    ((state >> 33) % 41) as u32
 }
 
 /// The pairs of a grid that a generator picks, one in so many, by row and then by column.
@@ -102,13 +160,33 @@ pub(crate) fn some_of(
     'rows: for i in 0..rows {
         'cols: for j in 0..cols {
             assert!(rt; 0 < one_in);
-            state = state
-                .wrapping_mul(6364136223846793005)
-                .wrapping_add(1442695040888963407);
+            state = stepped(state);
             if (state >> 33).is_multiple_of(one_in) {
                 put(rt, &mut pairs, (i, j));
             }
         }
+    }
+    pairs
+}
+
+/// So many pairs of a grid that a generator picks, in its order, some of them more than once.
+pub(crate) fn picked(
+    rt: &impl Abort,
+    alloc: Global,
+    rows: u32,
+    cols: u32,
+    count: u32,
+    seed: u64,
+) -> Vec<(u32, u32)> {
+    let mut pairs = Vec::new(alloc);
+    let mut state = seed;
+    'picks: for _ in 0..count {
+        assert!(rt; 0 < rows && 0 < cols);
+        state = stepped(state);
+        let i = ((state >> 33) % u64::from(rows)) as u32;
+        state = stepped(state);
+        let j = ((state >> 33) % u64::from(cols)) as u32;
+        put(rt, &mut pairs, (i, j));
     }
     pairs
 }

@@ -1,4 +1,4 @@
-//! The next cell of a row, down the path of the row.
+//! The next cell of a row, down the path of the row. An eastern half that is the western again is not looked at where that has no cell.
 ghost use Rattle.std.specs.Prelude.{◌≡◌, ◌<◌, ◌≤◌, ◌+◌, ◌^◌};
 ghost use Rattle.rel_model.specs.Trees.{beside};
 ghost use Rattle.rel_model.specs.Worker.{HasQuad, quad_set, Keeps, MakesAtMost};
@@ -79,6 +79,9 @@ fn column_of_two<Q: Quads>(
     let half = side_of(west.height);
     if let Some(found) = column_from(q, west, row, from, below.min(half)) {
         return Some(found);
+    }
+    if from == 0 && east.name == west.name {
+        return None;
     }
     let found = column_from(
         q,

@@ -1,4 +1,4 @@
-//! The next row that has a cell. A half in which none can be less than what was found is not looked at.
+//! The next row that has a cell. A half in which none can be less than what was found is not looked at, nor one that is the other half again.
 ghost use Rattle.std.specs.Prelude.{◌≡◌, ◌<◌, ◌≤◌, ◌^◌};
 ghost use Rattle.rel_model.specs.Worker.{HasQuad, quad_set, Keeps, MakesAtMost};
 ghost use Rattle.rel_choice.specs.Leasts.{IsLeast, row_meets, row_meets_either};
@@ -66,6 +66,9 @@ fn row_of_two<Q: Quads>(q: &mut Q, west: Quad, east: Quad, from: u32, below: u32
     ensures keeps { Keeps (Q.worker q.old) (Q.worker q.new) }
     ensures room { MakesAtMost 0 (Q.worker q.old) (Q.worker q.new) }
 {
+    if east.name == west.name {
+        return row_from(q, west, from, below);
+    }
     let Some(found) = row_from(q, west, from, below) else {
         return row_from(q, east, from, below);
     };

@@ -16,10 +16,12 @@ use Rattle.rel_model.specs.Worker.{Worker, HasQuad, quad_set, Gives, GivesQuad, 
 use Rattle.rel_model.proofs.Heights.{height_of-covers, height_of-least, height_over-rows, height_over-low}
 use Rattle.rel_model.proofs.Relations.{relation_of-agree}
 use Rattle.rel_model.proofs.Members.{inside}
+use Rattle.rel_model.proofs.TreeLaws.{same_cells}
 use Rattle.rel_domains.specs.Ranks.{first_column, ranked}
 use Rattle.rel_domains.proofs.Places.{side_step}
-use Rattle.rel_domains.proofs.Quartering.{gives_set}
+use Rattle.rel_domains.proofs.Quartering.{gives_set, gives_later}
 use Rattle.rel_domains.proofs.Ranking.{count-most, count-none, count-past, count-beyond, count-halves, ranked-quartered}
+use Rattle.rel_domains.proofs.Repeats.{both_more}
 use Rattle.rel_domains.proofs.Windows.{corner_of}
 
 -- ---- quads
@@ -138,6 +140,23 @@ ranks_given w0 w1 w2 w3 w4 w5 w6 w7 least depth many row before half above vecto
           (pow_pos d) hm nm p2.upper_is p3.lower_is p4.upper_is p5.lower_is vm big);
       same_height = (let h = r.same_height in omega (arith, h, over));
     }
+
+-- ---- halves that are one quad
+pub one_quad : (p q : Quad) → p.height ≡ q.height → p.name ≡ q.name → p ≡ q
+one_quad p q e f = ap (λ h. made h p.name) e ∙ ap (made q.height) f
+  where
+    made : ℕ → ℕ → Quad
+    made h n = record { height = h; name = n }
+
+-- as many rows further, and as many elements later
+pub ranked-later : (m row before k : ℕ) (t : ℕ → Bool) → ranked m row before t ≡ ranked m (row + k) (before + k) t
+ranked-later m row before k t = same_cells _ _ (λ i x. ap (λ b. ltb i m && (ltb x m && (t x && b)))
+    (sym (both_more (before + count_below x t) (row + i) k) ∙ ap (λ n. eqb n (row + i + k)) (let e : before + count_below x t + k ≡ before + k + count_below x t = omega arith in e) ∙ ap (eqb (before + k + count_below x t)) (let e : row + i + k ≡ row + k + i = omega arith in e)))
+
+pub ranks_again : (w3 w4 w5 : Worker) (d row before half above : ℕ) (t u : ℕ → Bool) (nw : Quad) → above ≡ half → t ≡ u → GivesQuad w3 d (ranked (2 ^ d) row before t) nw → Keeps w3 w4 → Keeps w4 w5 → GivesQuad w5 d (ranked (2 ^ d) (row + half) (before + above) u) nw
+ranks_again w3 w4 w5 d row before half above t u nw e f g k l =
+    let r = gives_later w4 w5 d _ nw l (gives_later w3 w4 d _ nw k g) in
+    record { means = r.means ∙ ap Some (ranked-later (2 ^ d) row before half t ∙ ap (λ n. ranked (2 ^ d) (row + half) (before + n) t) (sym e) ∙ ap (ranked (2 ^ d) (row + half) (before + above)) f); same_height = r.same_height }
 
 -- ---- the relation
 module _ (least many m : ℕ) (v : Relation) (valid : IsRelation v) (rows : v.rows ≡ m) (cols : v.cols ≡ 1) (limit : m ≤ size_limit) (h : ℕ) (high : h ≡ height_over least m 1) (all : many ≡ count_below (2 ^ h) (first_column (has v))) where

@@ -23,7 +23,7 @@ place_from low high xs i h l = All-from_recursion (λ x. (low ≤ x) × (x < hig
 either_one : (a b : ℕ) → a < 2 → b < 2 → eqb (max a b) 1 ≡ (eqb a 1 || eqb b 1)
 either_one a b p q = grind (arith, nat_tests)
 
-one_bit : (base x k : ℕ) → base ≤ x → eqb (bit_at (2 ^ (x - base)) k) 1 ≡ eqb x (base + k)
+pub one_bit : (base x k : ℕ) → base ≤ x → eqb (bit_at (2 ^ (x - base)) k) 1 ≡ eqb x (base + k)
 one_bit base x k l = elim (cases_Bool (eqb x (base + k))) [
   | inl t ↦ let e : x ≡ base + k = eqb-true x (base + k) t in let f : x - base ≡ k = omega arith in ap (λ s. eqb (bit_at (2 ^ s) k) 1) f ∙ ap (λ b. eqb b 1) (bit_at-pow_same k) ∙ sym t
   | inr t ↦ let n : x ≢ base + k = eqb-false x (base + k) t in ap (λ b. eqb b 1) (bit_at-pow_other (x - base) k (λ e. n (omega arith))) ∙ sym t

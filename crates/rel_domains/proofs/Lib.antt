@@ -5,6 +5,8 @@ pub mod Leaves
 pub mod Quartering
 pub mod Listing
 pub mod Windows
+pub mod Rows
+pub mod Repeats
 pub mod Ruled
 pub mod Named
 pub mod Pairwise

@@ -1,17 +1,14 @@
 -- Squares of a set of cells.
 -- 1. A square of which no cell passes a rule is empty.
--- 2. A word of which each bit is a cell has the cells of a leaf.
--- 3. A square goes by the squares of half its side.
--- 4. A quad whose quarters are known is the quad of their cells.
-use Rattle.std.proofs.Common.{◌≡◌, ◌≢◌, ◌<◌, ◌≤◌, ◌+◌, ◌-◌, ◌*◌, ◌/◌, ◌%◌, ◌^◌, ◌∙◌, ◌⊎◌, ◌&&◌, ◌||◌, eqb, ltb, min, max, bit_or, ℕ, Bool, true, false, refl, sym, ap, subst, arith, inl, inr, Some}
+-- 2. A square goes by the squares of half its side.
+-- 3. A quad whose quarters are known is the quad of their cells.
+use Rattle.std.proofs.Common.{◌≡◌, ◌≢◌, ◌<◌, ◌≤◌, ◌+◌, ◌-◌, ◌/◌, ◌%◌, ◌^◌, ◌∙◌, ◌⊎◌, ◌&&◌, ◌||◌, eqb, ltb, min, max, ℕ, true, refl, sym, ap, arith, inl, inr, Some}
 use Rattle.std.proofs.Math.Nat.{mul-div-le, mod-eq_of_lt, mod-le, add-mod_right, mod-add-mod}
-use Rattle.std.proofs.lemmas.Bool.{cases_lt, cases_eq, lt-ltb, le-ltb, and_parts, eqb-true, ltb-true}
+use Rattle.std.proofs.lemmas.Bool.{cases_lt, lt-ltb, le-ltb, and_parts, eqb-true, ltb-true}
 use Rattle.std.proofs.lemmas.Bool.Decides.{nat_tests}
-use Rattle.std.proofs.lemmas.Nat.{le-div, mod_below, div-mul-add}
-use Rattle.std.proofs.lemmas.Nat.Bits.{bit_at_or, bit_at-lt, bit_at-pow_same, bit_at-pow_other, bit_at-zero}
-use Rattle.std.specs.Int.{bit_at}
+use Rattle.std.proofs.lemmas.Nat.{le-div, mod_below}
 use Rattle.rel_model.specs.declared.Quad.{Quad}
-use Rattle.rel_model.specs.Cells.{Cells, no_cells, bits_cells}
+use Rattle.rel_model.specs.Cells.{Cells, no_cells}
 use Rattle.rel_model.specs.Trees.{quartered}
 use Rattle.rel_model.specs.Worker.{Worker, quad_set, GivesQuad, Keeps}
 use Rattle.rel_model.proofs.TreeLaws.{same_cells}
@@ -19,7 +16,7 @@ use Rattle.rel_model.proofs.Somes.{not_true}
 use Rattle.rel_domains.specs.declared.rule.Rule.{Rule}
 use Rattle.rel_domains.specs.Rules.{passes, rule_cells, window}
 use Rattle.rel_domains.proofs.Quartering.{gives_set, gives_later}
-use Rattle.rel_domains.proofs.Places.{row_below, side_step}
+use Rattle.rel_domains.proofs.Places.{side_step}
 
 -- ---- squares without cells
 pub no_window : (m row col : ℕ) (f : Cells) → ((i j : ℕ) → i < m → j < m → f (row + i) (col + j) ≡ true → ⊥) → window m row col f ≡ no_cells
@@ -49,7 +46,7 @@ cols_free rows cols m row col rule l = no_window m row col (rule_cells rows cols
     omega (arith, l, r))
 
 -- ---- quotients
-div_mono : (m n by : ℕ) → 0 < by → m ≤ n → m / by ≤ n / by
+pub div_mono : (m n by : ℕ) → 0 < by → m ≤ n → m / by ≤ n / by
 div_mono m n by p l = le-div (m / by) n by p (let a = mul-div-le m by in omega (arith, a))
 
 pub quotients_before : (by row col m end k j : ℕ) → 0 < by → (end - 1) / by < col → k < end → col ≤ j → eqb (k / by) j ≡ true → ⊥
@@ -85,7 +82,7 @@ rest_behind by row col m k p h l a =
           omega (arith, e, f, u, a, b))
     ]
 
--- ---- words
+-- ---- tests on bits
 pub either_one : (a b : ℕ) → a < 2 → b < 2 → eqb (max a b) 1 ≡ (eqb a 1 || eqb b 1)
 either_one a b p q = grind (arith, nat_tests)
 
@@ -94,52 +91,6 @@ same_test k n e = elim (cases_lt k n) [
   | inl a ↦ lt-ltb k n a ∙ sym (lt-ltb k (n + 1) (omega arith))
   | inr a ↦ le-ltb k n a ∙ sym (le-ltb k (n + 1) (omega arith))
 ]
-
--- one more bit, which is set where a test passes
-pub bit_set : (bits n : ℕ) (g : ℕ → Bool) → ((k : ℕ) → eqb (bit_at bits k) 1 ≡ (ltb k n && g k)) → g n ≡ true → (k : ℕ) → eqb (bit_at (bit_or bits (2 ^ n)) k) 1 ≡ (ltb k (n + 1) && g k)
-bit_set bits n g h t k =
-    ap (λ v. eqb v 1) (bit_at_or bits (2 ^ n) k) ∙ either_one (bit_at bits k) (bit_at (2 ^ n) k) (bit_at-lt bits k) (bit_at-lt (2 ^ n) k) ∙ ap (λ b. b || eqb (bit_at (2 ^ n) k) 1) (h k)
-    ∙ elim (cases_eq k n) [
-      | inl e ↦ subst (λ x. ((ltb x n && g x) || eqb (bit_at (2 ^ n) x) 1) ≡ (ltb x (n + 1) && g x)) (sym e)
-          (ap (λ v. (ltb n n && g n) || eqb v 1) (bit_at-pow_same n) ∙ or_true (ltb n n && g n) ∙ sym (ap (λ b. b && g n) (lt-ltb n (n + 1) (omega arith)) ∙ t))
-      | inr e ↦ ap (λ v. (ltb k n && g k) || eqb v 1) (bit_at-pow_other n k e) ∙ or_false (ltb k n && g k) ∙ ap (λ b. b && g k) (same_test k n e)
-    ]
-  where
-    or_true : (b : Bool) → (b || true) ≡ true
-    or_true true = refl
-    or_true false = refl
-
-    or_false : (b : Bool) → (b || false) ≡ b
-    or_false true = refl
-    or_false false = refl
-
-pub bit_left : (bits n : ℕ) (g : ℕ → Bool) → ((k : ℕ) → eqb (bit_at bits k) 1 ≡ (ltb k n && g k)) → g n ≡ false → (k : ℕ) → eqb (bit_at bits k) 1 ≡ (ltb k (n + 1) && g k)
-bit_left bits n g h t k = h k ∙ elim (cases_eq k n) [
-  | inl e ↦ subst (λ x. (ltb x n && g x) ≡ (ltb x (n + 1) && g x)) (sym e) (ap (λ b. b && g n) (le-ltb n n (omega arith)) ∙ sym (ap (λ b. b && g n) (lt-ltb n (n + 1) (omega arith)) ∙ t))
-  | inr e ↦ ap (λ b. b && g k) (same_test k n e)
-]
-
-pub no_bits : (g : ℕ → Bool) (k : ℕ) → eqb (bit_at 0 k) 1 ≡ (ltb k 0 && g k)
-no_bits g k = ap (λ b. eqb b 1) (bit_at-zero k) ∙ sym (ap (λ b. b && g k) (le-ltb k 0 (omega arith)))
-
--- the cell of a bit
-abbrev pub cell_of : ℕ → ℕ → ℕ → Cells → ℕ → Bool
-cell_of m row col f k = f (row + k / m) (col + (k - m * (k / m)))
-
-pub word_cells : (m row col bits : ℕ) (f : Cells) → ((k : ℕ) → eqb (bit_at bits k) 1 ≡ (ltb k (m * m) && cell_of m row col f k)) → bits_cells m bits ≡ window m row col f
-word_cells m row col bits f h = same_cells _ _ (λ i j. elim (cases_lt i m) [
-  | inl a ↦ elim (cases_lt j m) [
-    | inl b ↦ rw (lt-ltb i m a, lt-ltb j m b) (here i j a b)
-    | inr b ↦ rw (lt-ltb i m a, le-ltb j m b) refl
-  ]
-  | inr a ↦ rw (le-ltb i m a) refl
-])
-  where
-    here : (i j : ℕ) → i < m → j < m → eqb (bit_at bits (m * i + j)) 1 ≡ f (row + i) (col + j)
-    here i j a b =
-        let q : (m * i + j) / m ≡ i = ap (λ n. n / m) (let e : m * i + j ≡ i * m + j = omega arith in e) ∙ div-mul-add i m j b in
-        let r : m * i + j - m * ((m * i + j) / m) ≡ j = ap (λ n. m * i + j - m * n) q ∙ (let e : m * i + j - m * i ≡ j = omega arith in e) in
-        h (m * i + j) ∙ ap (λ t. t && cell_of m row col f (m * i + j)) (lt-ltb _ _ (row_below m i j a b)) ∙ ap (λ n. f (row + n) (col + (m * i + j - m * ((m * i + j) / m)))) q ∙ ap (λ n. f (row + i) (col + n)) r
 
 -- ---- a square by its quarters
 module _ (m row col : ℕ) (f : Cells) where
@@ -207,3 +158,10 @@ pub like_first : (w1 w2 w3 : Worker) (h half row col : ℕ) (f : Cells) (q : Qua
 like_first w1 w2 w3 h half row col f q e g k1 k2 s =
     let r = gives_later w2 w3 h _ q k2 (gives_later w1 w2 h _ q k1 g) in
     record { means = r.means ∙ ap Some (ap (λ n. window n row col f) (sym e) ∙ sym s ∙ ap (λ n. window n (row + half) (col + half) f) e); same_height = r.same_height }
+
+-- a lower quarter that is like the one above it
+pub like_above : (w1 w2 : Worker) (h half row col : ℕ) (f : Cells) (q : Quad) → half ≡ 2 ^ h → GivesQuad w1 h (window (2 ^ h) row col f) q → Keeps w1 w2
+    → window half (row + half) col f ≡ window half row col f → GivesQuad w2 h (window (2 ^ h) (row + half) col f) q
+like_above w1 w2 h half row col f q e g k s =
+    let r = gives_later w1 w2 h _ q k g in
+    record { means = r.means ∙ ap Some (ap (λ n. window n row col f) (sym e) ∙ sym s ∙ ap (λ n. window n (row + half) col f) e); same_height = r.same_height }

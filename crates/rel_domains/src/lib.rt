@@ -14,6 +14,7 @@ mod pairing;
 mod pairs;
 mod power_set;
 mod products;
+mod row;
 mod rule;
 mod square;
 mod sums;

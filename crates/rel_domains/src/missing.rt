@@ -44,14 +44,37 @@ pub fn misses(shape: Shape, rule: Rule, row: u32, col: u32, side: u32) -> bool
     }
 }
 
+/// Whether the lower half of a square, of two such sides, is seen to have the same cells as the upper.
+pub fn repeats(shape: Shape, rule: Rule, row: u32, half: u32) -> bool
+    requires rule { IsRule shape.rows rule }
+    requires half { 0 < half }
+    requires row { row + 2 * half ≤ 2 ^ 24 }
+    ensures { IsTrue result → (col : ℕ) → window half (row + half) col (rule_cells shape.rows shape.cols rule) ≡ window half row col (rule_cells shape.rows shape.cols rule) }
+{
+    if row + 2 * half > shape.rows {
+        return false;
+    }
+    match rule {
+        Rule::Quotient { by } => (row + 2 * half - 1) / by == row / by,
+        Rule::Remainder { by } => half % by == 0,
+        _ => false,
+    }
+}
+
 /// Whether a square is seen to have the same cells as the one half its side down and to the right.
 pub fn goes_on(shape: Shape, rule: Rule, row: u32, col: u32, half: u32) -> bool
+    requires rule { IsRule shape.rows rule }
     requires row { row + 2 * half ≤ 2 ^ 24 }
     requires col { col + 2 * half ≤ 2 ^ 24 }
     ensures { IsTrue result → window half (row + half) (col + half) (rule_cells shape.rows shape.cols rule) ≡ window half row col (rule_cells shape.rows shape.cols rule) }
 {
+    if row + 2 * half > shape.rows || col + 2 * half > shape.cols {
+        return false;
+    }
     match rule {
-        Rule::Shift { by } => row + 2 * half <= shape.rows && col + 2 * half <= shape.cols,
-        _ => false,
+        Rule::Shift { .. } => true,
+        Rule::Quotient { by } => by == 1,
+        Rule::Remainder { by } => row % by + 2 * half <= by,
+        Rule::Member => false,
     }
 }

@@ -7,13 +7,14 @@ ghost use Rattle.rel_model.specs.Worker.{Gives, GivesQuad, Keeps, MakesAtMost, H
 ghost use Rattle.rel_domains.specs.Rules.{IsRule, passes, rule_cells, window};
 
 use crate::heights::{depth_over, side_of};
-use crate::missing::{goes_on, misses};
-use crate::rule::{Rule, has};
+use crate::missing::{goes_on, misses, repeats};
+use crate::row::row_at;
+use crate::rule::Rule;
 use rel_model::core_trait::Core;
 use rel_model::quads_trait::Quads;
 use rel_model::{Lack, Quad, Rel, Shape};
 
-/// The word of a leaf.
+/// The word of a leaf, row after row.
 fn word_at(least: u8, shape: Shape, rule: Rule, row: u32, col: u32) -> u64
     requires low { least ≤ 3 }
     requires rule { IsRule shape.rows rule }
@@ -24,11 +25,9 @@ fn word_at(least: u8, shape: Shape, rule: Rule, row: u32, col: u32) -> u64
 {
     let side = side_of(least);
     let mut bits = 0;
-    'places: for place in 0..side * side {
-        let i = place / side;
-        if has(shape, rule, row + i, col + (place - side * i)) {
-            bits |= 1u64 << place;
-        }
+    'rows: for i in 0..side {
+        let cells = row_at(shape, rule, row + i, col, side);
+        bits += cells << (side * i);
     }
     bits
 }
@@ -63,6 +62,10 @@ fn square<Q: Quads>(
     let half = side_of(height - 1);
     let nw = square(q, depth - 1, shape, rule, row, col)?;
     let ne = square(q, depth - 1, shape, rule, row, col + half)?;
+    if repeats(shape, rule, row, half) {
+        let twice = q.corner(nw, ne, nw, ne)?;
+        return Ok(twice);
+    }
     let sw = square(q, depth - 1, shape, rule, row + half, col)?;
     if goes_on(shape, rule, row, col, half) {
         let regular = q.corner(nw, ne, sw, nw)?;

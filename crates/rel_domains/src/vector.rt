@@ -12,7 +12,7 @@ use rel_model::core_trait::Core;
 use rel_model::quads_trait::Quads;
 use rel_model::{Lack, Quad, Rel, Shape};
 
-/// How many elements a vector has.
+/// How many elements a vector has. Halves that are one quad are counted once.
 fn elements<Q: Quads>(q: &mut Q, vector: Quad) -> u32
     requires { HasQuad (Q.worker q.old) vector }
     ensures count { result ≡ count_below (2 ^ vector.height) (first_column (quad_set (Q.worker q.old) vector)) }
@@ -28,6 +28,9 @@ fn elements<Q: Quads>(q: &mut Q, vector: Quad) -> u32
     }
     let (upper, _, lower, _) = q.quarters(vector);
     let above = elements(q, upper);
+    if lower.name == upper.name {
+        return above + above;
+    }
     let below = elements(q, lower);
     above + below
 }
@@ -76,6 +79,10 @@ fn ranks<Q: Quads>(
     let nw = ranks(q, depth - 1, upper, above, row, before)?;
     let ne = ranks(q, depth - 1, lower, many - above, row, before + above)?;
     let sw = ranks(q, depth - 1, upper, above, row + half, before)?;
+    if lower.name == upper.name && above == half {
+        let full = q.corner(nw, ne, sw, nw)?;
+        return Ok(full);
+    }
     let se = ranks(
         q,
         depth - 1,

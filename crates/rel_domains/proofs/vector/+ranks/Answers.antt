@@ -3,7 +3,8 @@ use Rattle.rel_model.specs.Choice.{count_below}
 use Rattle.rel_model.specs.Worker.{quad_set}
 use Rattle.rel_domains.specs.Ranks.{first_column}
 use Rattle.rel_domains.proofs.Places.{side_step}
-use Rattle.rel_domains.proofs.Halves.{halves_first, halves_later, ranks_given}
+use Rattle.rel_model.proofs.Workers.{keeps_itself}
+use Rattle.rel_domains.proofs.Halves.{halves_first, halves_later, ranks_given, ranks_again, one_quad}
 use Rattle.rel_domains.proofs.Ranking.{ranked-none}
 use Rattle.rel_domains.proofs.vector.+ranks.Goals as goal
 
@@ -63,6 +64,26 @@ corner-requires-clause-below g t c =
     let h = g.met.Q.Quads.high_height c.args.q.now c.args.vector c.requires.stands in
     let e = c.in_ok-nw.ensures.value.same_height in
     omega (arith, h, e, c.requires.height, c.if-depth-eq0.false)
+
+pub corner-requires-2-clause-below : goal.corner-requires-2-clause-below
+corner-requires-2-clause-below g t c =
+    let h = g.met.Q.Quads.high_height c.args.q.now c.args.vector c.requires.stands in
+    let e = c.in_ok-nw.ensures.value.same_height in
+    omega (arith, h, e, c.requires.height, c.if-depth-eq0.false)
+
+pub returns-then-above-half-clause-value : goal.returns-then-above-half-clause-value
+returns-then-above-half-clause-value g t c =
+    let d = g.Q.Quads.least + (c.args.depth - 1) in
+    let w1 = g.Q.Core.worker c.quarters.new.self in
+    let four = c.quarters.result in
+    let p2 = halves_first _ _ _ g.Q.Quads.least c.args.depth c.args.many c.elements-above.result c.args.vector four c.if-depth-eq0.false c.requires.height c.quarters.ensures.quarters c.requires.many c.elements-above.ensures.count c.elements-above.ensures.keeps in
+    let p5 = halves_later _ _ _ _ _ _ _ _ _ c.in_ok-sw.ensures.keeps (halves_later _ _ _ _ _ _ _ _ _ c.in_ok-ne.ensures.keeps (halves_later _ _ _ _ _ _ _ _ _ c.in_ok-nw.ensures.keeps p2)) in
+    let one = one_quad four.2 four.0 (let a = p2.upper_height in let b = p2.lower_height in omega (arith, a, b)) c.if-lower-upper.true in
+    let same = ap first_column (p2.upper_is ∙ ap (quad_set w1) (sym one) ∙ sym p5.lower_is) in
+    let se = ranks_again _ _ _ d c.args.row c.args.before c.side_of-half.result c.elements-above.result _ _ c.in_ok-nw.nw c.if-above-half.true same c.in_ok-nw.ensures.value c.in_ok-ne.ensures.keeps c.in_ok-sw.ensures.keeps in
+    ranks_given _ _ _ _ _ _ _ _ g.Q.Quads.least c.args.depth c.args.many c.args.row c.args.before c.side_of-half.result c.elements-above.result c.args.vector four _ _ _ _ _ c.if-depth-eq0.false c.requires.height
+    c.side_of-half.ensures c.quarters.ensures.quarters c.elements-above.ensures.count p2 c.in_ok-nw.ensures.keeps c.in_ok-nw.ensures.value c.in_ok-ne.ensures.keeps c.in_ok-ne.ensures.value c.in_ok-sw.ensures.keeps c.in_ok-sw.ensures.value
+    (keeps_itself _) se c.in_ok-full.ensures.value
 
 pub returns-clause-value : goal.returns-clause-value
 returns-clause-value g t c =

@@ -1,0 +1,166 @@
+//! Worked examples, and sizes at and over the limit.
+#![tactic(auto, using(crate::proofs::Later::rel_later, crate::proofs::Later::given_stands, crate::proofs::Later::wanted_stands))]
+
+ghost use Rattle.std.specs.Prelude.{IfOk};
+ghost use Rattle.rel_model.specs.Worker.{Stands, Keeps};
+
+use crate::made::{is_given, is_made, of_pairs, table};
+use fork_quads::{Crew, OpenGate};
+use rel_domains::{epsi, first, fork, inj, inl, inr, second};
+use rel_model::core_trait::Core;
+use rel_model::faults::DomainError;
+use rel_model::quads_trait::Quads;
+use rel_model::{Rel, SIZE_LIMIT, Shape};
+use std::process::Abort;
+
+#[test]
+fn three_elements_are_members_of_these_of_eight_subsets(rt: HostRuntime) {
+    let (table, seat) = table(&rt, rt.alloc());
+    let gate = OpenGate;
+    let mut crew = Crew::new(&table, seat, 1, &gate);
+    let given = epsi(&mut crew, 3);
+    is_given(
+        &rt,
+        &mut crew,
+        given,
+        3,
+        8,
+        &[
+            (0, 1),
+            (0, 3),
+            (0, 5),
+            (0, 7),
+            (1, 2),
+            (1, 3),
+            (1, 6),
+            (1, 7),
+            (2, 4),
+            (2, 5),
+            (2, 6),
+            (2, 7),
+        ],
+    );
+}
+
+#[test]
+fn the_projection_of_a_product_with_an_empty_factor_is_empty(rt: HostRuntime) {
+    let (table, seat) = table(&rt, rt.alloc());
+    let gate = OpenGate;
+    let mut crew = Crew::new(&table, seat, 1, &gate);
+    let given = first(&mut crew, 2, 0);
+    is_given(&rt, &mut crew, given, 0, 2, &[]);
+    let given = second(&mut crew, 0, 2);
+    is_given(&rt, &mut crew, given, 0, 2, &[]);
+}
+
+#[test]
+fn the_elements_1_and_3_of_4_are_numbered_0_and_1(rt: HostRuntime) {
+    let (table, seat) = table(&rt, rt.alloc());
+    let gate = OpenGate;
+    let mut crew = Crew::new(&table, seat, 1, &gate);
+    let v = of_pairs(
+        &rt,
+        &mut crew,
+        Shape { rows: 4, cols: 1 },
+        &[(1, 0), (3, 0)],
+    );
+    let given = inj(&mut crew, v);
+    is_made(&rt, &mut crew, given, 2, 4, &[(0, 1), (1, 3)]);
+}
+
+#[test]
+fn two_and_one_elements_are_injected_into_their_sum_of_three(rt: HostRuntime) {
+    let (table, seat) = table(&rt, rt.alloc());
+    let gate = OpenGate;
+    let mut crew = Crew::new(&table, seat, 1, &gate);
+    let given = inl(&mut crew, 2, 1);
+    is_given(&rt, &mut crew, given, 2, 3, &[(0, 0), (1, 1)]);
+    let given = inr(&mut crew, 2, 1);
+    is_given(&rt, &mut crew, given, 1, 3, &[(0, 2)]);
+}
+
+/// Asserts that a size is over the limit.
+fn is_refused(rt: &impl Abort, given: Result<Rel, DomainError>, size: u64) {
+    match given {
+        Err(DomainError::Size { wanted, limit }) => {
+            assert_eq!(rt; (wanted, limit), (size, 16_777_216));
+        }
+        _ => panic!(rt; "not refused"),
+    }
+}
+
+#[test]
+fn a_product_of_the_greatest_sizes_is_refused_with_its_size(rt: HostRuntime) {
+    let (table, seat) = table(&rt, rt.alloc());
+    let gate = OpenGate;
+    let mut crew = Crew::new(&table, seat, 1, &gate);
+    is_refused(
+        &rt,
+        first(&mut crew, 16_777_216, 16_777_216),
+        281_474_976_710_656,
+    );
+    is_refused(
+        &rt,
+        second(&mut crew, 16_777_216, 16_777_216),
+        281_474_976_710_656,
+    );
+}
+
+#[test]
+fn subsets_without_number_are_refused_with_the_last_number(rt: HostRuntime) {
+    let (table, seat) = table(&rt, rt.alloc());
+    let gate = OpenGate;
+    let mut crew = Crew::new(&table, seat, 1, &gate);
+    is_refused(&rt, epsi(&mut crew, 64), 18_446_744_073_709_551_615);
+    is_refused(&rt, epsi(&mut crew, 16_777_216), 18_446_744_073_709_551_615);
+}
+
+/// Asserts that a relation of these sizes was given, which has its last pair.
+fn has_its_last<Q: Quads>(
+    rt: &impl Abort,
+    q: &mut Q,
+    given: Result<Rel, DomainError>,
+    rows: u32,
+    cols: u32,
+)
+    requires { IfOk given (Stands (Q.worker q.old)) }
+    ensures { Keeps (Q.worker q.old) (Q.worker q.new) }
+{
+    let Ok(r) = given else { panic!(rt; "refused") };
+    assert_eq!(rt; (r.rows, r.cols), (rows, cols));
+    assert!(rt; 0 < r.rows && 0 < r.cols);
+    assert!(rt; q.has(r, r.rows - 1, r.cols - 1));
+}
+
+#[test]
+fn a_size_one_over_the_limit_is_refused(rt: HostRuntime) {
+    let (table, seat) = table(&rt, rt.alloc());
+    let gate = OpenGate;
+    let mut crew = Crew::new(&table, seat, 1, &gate);
+    is_refused(&rt, first(&mut crew, 4097, 4096), 16_781_312);
+    is_refused(&rt, second(&mut crew, 257, 65_281), 16_777_217);
+    is_refused(&rt, inl(&mut crew, SIZE_LIMIT, 1), 16_777_217);
+    is_refused(&rt, inr(&mut crew, 1, SIZE_LIMIT), 16_777_217);
+    is_refused(&rt, epsi(&mut crew, 25), 33_554_432);
+    is_refused(&rt, epsi(&mut crew, 63), 9_223_372_036_854_775_808);
+    let shape = Shape {
+        rows: 1,
+        cols: 4097,
+    };
+    let Ok(row) = crew.full(shape) else {
+        panic!(&rt; "no room")
+    };
+    is_refused(&rt, fork(&mut crew, row, row), 16_785_409);
+}
+
+#[test]
+fn a_size_at_the_limit_is_not_refused(rt: HostRuntime) {
+    let (table, seat) = table(&rt, rt.alloc());
+    let gate = OpenGate;
+    let mut crew = Crew::new(&table, seat, 1, &gate);
+    let half = 8_388_608;
+    let given = inl(&mut crew, SIZE_LIMIT, 0);
+    has_its_last(&rt, &mut crew, given, SIZE_LIMIT, SIZE_LIMIT);
+    let given = inr(&mut crew, half, half);
+    has_its_last(&rt, &mut crew, given, half, SIZE_LIMIT);
+}
