@@ -46,3 +46,13 @@ pub(crate) fn cols_of(rt: &impl Abort, alloc: Global, pairs: &[(u32, u32)]) -> V
 pub(crate) fn has_two_in_a_row(pairs: &[(u32, u32)]) -> bool {
     pairs.windows(2).any(|two| two[0].0 == two[1].0)
 }
+
+/// The first of the pairs that stands behind a place, by row and then by column.
+pub(crate) fn behind(pairs: &[(u32, u32)], i: u32, j: u32) -> Option<(u32, u32)> {
+    'pairs: for (k, l) in pairs {
+        if *k > i || *k == i && *l > j {
+            return Some((*k, *l));
+        }
+    }
+    None
+}

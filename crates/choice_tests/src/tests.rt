@@ -6,7 +6,7 @@ ghost use Rattle.rel_model.specs.Views.{IsOf};
 ghost use Rattle.rel_model.specs.Relation.{size_limit};
 ghost use Rattle.rel_model.specs.Worker.{Stands, Keeps};
 
-use crate::slow::{cols_of, has_two_in_a_row, put, rows_of, vector};
+use crate::slow::{behind, cols_of, has_two_in_a_row, put, rows_of, vector};
 use fork_quads::{Crew, OpenGate};
 use pair_table::{PairTable, Seat};
 use rel_choice::{atom, count, dom, init, next, next_pair, point, ran, unival};
@@ -169,6 +169,13 @@ fn cells_of(rt: &impl Abort, alloc: Global, shape: Shape, bits: u64) -> Vec<(u32
     pairs
 }
 
+/// The next state of a linear congruential generator (Knuth's MMIX).
+fn stepped(state: u64) -> u64 {
+    state
+        .wrapping_mul(6364136223846793005)
+        .wrapping_add(1442695040888963407)
+}
+
 /// The pairs of a grid that a generator picks, one in so many.
 fn some_of(
     rt: &impl Abort,
@@ -182,9 +189,7 @@ fn some_of(
     'rows: for i in 0..shape.rows {
         'cols: for j in 0..shape.cols {
             assert!(rt; 0 < one_in);
-            state = state
-                .wrapping_mul(6364136223846793005)
-                .wrapping_add(1442695040888963407);
+            state = stepped(state);
             if (state >> 33).is_multiple_of(one_in) {
                 put(rt, &mut pairs, (i, j));
             }
@@ -193,35 +198,102 @@ fn some_of(
     pairs
 }
 
+/// Asserts which pair of a relation comes behind each place of its grid, and behind those one past it.
+fn is_walked_from_each_place<Q: Quads>(
+    rt: &impl Abort,
+    q: &mut Q,
+    shape: Shape,
+    pairs: &[(u32, u32)],
+)
+    requires row { shape.rows ≤ 4 }
+    requires col { shape.cols ≤ 4 }
+{
+    let r = of_pairs(rt, q, shape, pairs);
+    'rows: for i in 0..shape.rows + 1 {
+        'cols: for j in 0..shape.cols + 1 {
+            let found = next_pair(q, r, Some((i, j)));
+            assert!(rt; found == behind(pairs, i, j), "behind {i} {j} of {pairs:?}");
+        }
+    }
+}
+
 #[test]
-fn all_relations_of_at_most_9_cells_are_answered_as_by_lists(rt: HostRuntime) {
+fn all_relations_of_sizes_up_to_3_are_answered_as_by_lists(rt: HostRuntime) {
+    let alloc = rt.alloc();
+    let (table, seat) = table(&rt, alloc);
+    let gate = OpenGate;
+    let mut crew = Crew::new(&table, seat, 1, &gate);
+    'rows: for rows in 0..4 {
+        'cols: for cols in 0..4 {
+            'sets: for bits in 0..512 {
+                if bits >> (rows * cols) != 0 {
+                    break;
+                }
+                let shape = Shape { rows, cols };
+                let pairs = cells_of(&rt, alloc, shape, bits);
+                is_right(&rt, alloc, &mut crew, shape, &pairs);
+                is_walked_from_each_place(&rt, &mut crew, shape, &pairs);
+            }
+        }
+    }
+}
+
+#[test]
+fn all_relations_of_size_4_by_at_most_3_are_answered_as_by_lists(rt: HostRuntime) {
     let alloc = rt.alloc();
     let (table, seat) = table(&rt, alloc);
     let gate = OpenGate;
     let mut crew = Crew::new(&table, seat, 1, &gate);
     'shapes: for (rows, cols) in [
-        (0, 0),
-        (0, 3),
-        (3, 0),
-        (1, 1),
+        (0, 4),
+        (4, 0),
         (1, 4),
         (4, 1),
-        (2, 2),
         (2, 4),
         (4, 2),
-        (3, 3),
+        (3, 4),
+        (4, 3),
     ] {
-        assert!(&rt; rows <= 4 && cols <= 4);
-        let shape = Shape { rows, cols };
-        'sets: for bits in 0..512 {
-            if rows * cols < 9 && bits >> (rows * cols) != 0 {
+        'sets: for bits in 0..4096 {
+            assert!(&rt; rows <= 4 && cols <= 4);
+            if bits >> (rows * cols) != 0 {
                 break;
             }
+            let shape = Shape { rows, cols };
             let pairs = cells_of(&rt, alloc, shape, bits);
             is_right(&rt, alloc, &mut crew, shape, &pairs);
-            if cols == 1 {
-                is_right_of_vectors(&rt, alloc, &mut crew, rows, &pairs);
+        }
+    }
+}
+
+#[test]
+fn one_in_sixteen_relations_of_sizes_4_and_4_is_answered_as_by_lists(rt: HostRuntime) {
+    let alloc = rt.alloc();
+    let (table, seat) = table(&rt, alloc);
+    let gate = OpenGate;
+    let mut crew = Crew::new(&table, seat, 1, &gate);
+    let shape = Shape { rows: 4, cols: 4 };
+    let mut state: u64 = 4;
+    'sets: for _ in 0..4096 {
+        state = stepped(state);
+        let pairs = cells_of(&rt, alloc, shape, (state >> 33) % 65_536);
+        is_right(&rt, alloc, &mut crew, shape, &pairs);
+    }
+}
+
+#[test]
+fn all_vectors_of_up_to_8_rows_are_answered_as_by_lists(rt: HostRuntime) {
+    let alloc = rt.alloc();
+    let (table, seat) = table(&rt, alloc);
+    let gate = OpenGate;
+    let mut crew = Crew::new(&table, seat, 1, &gate);
+    'sizes: for rows in 0..9 {
+        'sets: for bits in 0..256 {
+            if bits >> rows != 0 {
+                break;
             }
+            let pairs = cells_of(&rt, alloc, Shape { rows, cols: 1 }, bits);
+            is_right_of_vectors(&rt, alloc, &mut crew, rows, &pairs);
         }
     }
 }
@@ -276,4 +348,35 @@ fn a_full_relation_of_2_to_the_48_pairs_is_counted(rt: HostRuntime) {
         None
     );
     assert!(&rt; !unival(&mut crew, full));
+}
+
+#[test]
+fn the_pairs_of_one_row_and_of_one_column_of_the_greatest_size_are_found(rt: HostRuntime) {
+    let alloc = rt.alloc();
+    let (table, seat) = table(&rt, alloc);
+    let gate = OpenGate;
+    let mut crew = Crew::new(&table, seat, 1, &gate);
+    let side = 16_777_216;
+    let wide = Shape {
+        rows: 1,
+        cols: side,
+    };
+    let Ok(all) = crew.full(wide) else {
+        panic!(&rt; "no room")
+    };
+    let Ok(place) = crew.single(Shape { rows: 8, cols: 1 }, 7, 0) else {
+        panic!(&rt; "no room")
+    };
+    let Ok(row) = crew.compose(place, all) else {
+        panic!(&rt; "no room")
+    };
+    let Ok(column) = crew.transpose(row) else {
+        panic!(&rt; "no room")
+    };
+    assert_eq!(&rt; next_pair(&mut crew, row, None), Some((7, 0)));
+    assert_eq!(&rt; next_pair(&mut crew, row, Some((6, 9))), Some((7, 0)));
+    assert_eq!(&rt; next_pair(&mut crew, column, None), Some((0, 7)));
+    assert_eq!(&rt; next_pair(&mut crew, column, Some((0, 7))), Some((1, 7)));
+    assert!(&rt; unival(&mut crew, column));
+    assert!(&rt; !unival(&mut crew, row));
 }

@@ -1,44 +1,52 @@
-//! Runs over a table that has no vacant word.
+//! A run over a table that has no vacant word.
 use super::runs::{assert_over, small_table};
 use fork_quads::{Crew, OpenGate};
 use rel_engine::Works;
 use std::alloc::{AllocError, Global};
 use std::test::Fail;
 
-/// A listed relation of 1000 by 1000 whose pairs stand far apart: each of its rows has one pair, in a pseudo-random column.
-fn scattered(alloc: Global) -> Result<String, AllocError> {
+/// How many blocks of 8 by 8 cells are listed, each with another content: more than a small table has places.
+const BLOCKS: u32 = 1100;
+
+/// How many blocks stand beside one another in 1000 columns.
+const BLOCKS_IN_A_ROW: u32 = 125;
+
+/// A listed relation of 1000 by 1000 in which block number n has, in its first two rows, the bits of n.
+fn many_blocks(alloc: Global) -> Result<String, AllocError> {
     let mut text = String::new(alloc);
-    let mut state: u64 = 1;
-    text.push_str("REL A 1000 1000 {1:1")?;
-    'rows: for row in 2..1000 {
-        state = state
-            .wrapping_mul(6364136223846793005)
-            .wrapping_add(1442695040888963407);
-        let column = (state >> 33) % 1000 + 1;
-        let listed = format!(in alloc; "; {row}:{column}")?;
-        text.push_str(listed.as_str())?;
+    text.push_str("REL B 1000 1000 {1:1")?;
+    'blocks: for number in 2..=BLOCKS {
+        let place = number - 1;
+        let row = place / BLOCKS_IN_A_ROW * 8;
+        let col = place % BLOCKS_IN_A_ROW * 8;
+        'bits: for bit in 0..11 {
+            if (number >> bit) % 2 == 1 {
+                let listed = format!(in alloc; "; {}:{}", row + bit / 8 + 1, col + bit % 8 + 1)?;
+                text.push_str(listed.as_str())?;
+            }
+        }
     }
     text.push_str("}.")?;
     Ok(text)
 }
 
 #[test]
-fn a_full_table_refuses_a_relation_and_an_expression_and_keeps_what_stood(
+fn a_full_table_refuses_what_needs_a_word_and_keeps_what_stood(
     rt: HostRuntime,
 ) -> Result<(), Fail> {
     let alloc = rt.alloc();
     let (table, seat) = small_table(&rt, alloc);
     let gate = OpenGate;
     let mut works = Works::new(Crew::new(&table, seat, 1, &gate));
-    let listed = scattered(alloc)?;
-    let before = format!(in alloc; "REL B 2 2 {{1:2}}. {listed} PRINT ")?;
-    let script = format!(in alloc; "{before}A. PRINT B. PRINT -B. PRINT B.")?;
-    // 999 pairs that stand far apart want more than 1022 node words, and then none is left for the full relation that a complement needs.
+    // 1100 blocks want more than the 1022 places of the table. The transposed A is the block of the word 2^62, which no block of B is, whose numbers are below 2^11, and no pair of names, which are below 2^10.
+    let blocks = many_blocks(alloc)?;
+    let before = format!(in alloc; "REL A 8 8 {{7:8}}. {blocks} PRINT ")?;
+    let script = format!(in alloc; "{before}B. PRINT A. PRINT A^. PRINT A&A.")?;
     let column = before.len().wrapping_add(1);
     let full = "refused: no free node word\n";
-    let shown = "2 x 2\n.1\n..\n";
+    let rows = "........\n........\n........\n........\n........\n........\n.......1\n........\n";
     let page = format!(in alloc;
-        "1.2: {full}1.3: refused: 1:{column}: unknown name A\n1.4: {shown}1.5: {full}1.6: {shown}"
+        "1.2: {full}1.3: refused: 1:{column}: unknown name B\n1.4: 8 x 8\n{rows}1.5: {full}1.6: 8 x 8\n{rows}"
     )?;
     assert_over(&rt, alloc, &mut works, script.as_str(), page.as_str(), 1)?;
     Ok(())
