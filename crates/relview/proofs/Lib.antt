@@ -15,3 +15,4 @@ pub mod FirstItems
 pub mod Answering
 pub mod Holding
 pub mod Reporting
+pub mod OneRun

@@ -5,3 +5,4 @@ pub mod Listed
 pub mod Found
 pub mod Ran
 pub mod Top
+pub mod OneRun

@@ -3,6 +3,7 @@
 
 pub mod build;
 pub mod evaluate;
+pub mod laws;
 pub mod lines;
 pub mod names;
 pub mod over_table;

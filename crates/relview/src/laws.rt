@@ -1,0 +1,7 @@
+//! Laws of runs, each a function that does nothing.
+ghost use Rattle.relview.specs.OneRun.{OneRun};
+
+/// A script that runs alone has one list of outcomes, one history but for the roots of its relations, and one page, as long as the table and memory suffice.
+pub fn one_run()
+    ensures { OneRun }
+{}
