@@ -9,3 +9,5 @@ pub mod Declaring
 pub mod Scoping
 pub mod Items
 pub mod Ranks
+pub mod Paths
+pub mod Unassigned

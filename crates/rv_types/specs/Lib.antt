@@ -3,3 +3,4 @@ pub mod Definitions
 pub mod Scopes
 pub mod Rows
 pub mod Items
+pub mod Paths

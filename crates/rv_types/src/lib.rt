@@ -8,6 +8,7 @@ mod expression;
 mod found;
 mod head;
 mod item;
+pub mod laws;
 mod names;
 mod scope;
 mod statement;
