@@ -1,18 +1,18 @@
 -- The two splittings of a text agree: it has tokens exactly where the lexing comes to its end, and then these. Where all bytes are allowed both take the same steps; and where the lexing comes to the end, each byte belongs to a blank, a comment or a token, so that it is allowed.
-use Rattle.std.proofs.Common.{◌≡◌, ◌<◌, ◌≤◌, ◌+◌, ◌-◌, ◌^◌, ℕ, Bool, true, false, cond, not, ◌&&◌, ◌||◌, eqb, nat_le, nat_lt, List, [], ◌∷◌, ◌++◌, length, take, drop, Option, Some, None, refl, sym, ap, ◌∙◌, subst, zero, suc, arith, add-one}
+use Rattle.std.proofs.Common.{◌≡◌, ◌≤◌, ◌+◌, ◌-◌, ◌^◌, ℕ, Bool, true, false, cond, not, ◌&&◌, ◌||◌, eqb, nat_le, nat_lt, List, [], ◌∷◌, take, drop, Option, Some, None, refl, sym, ap, ◌∙◌, subst, zero, suc, arith, add-one}
 use Rattle.std.proofs.lemmas.Bool.{false≢true, eqb-true, le-leb, leb-true}
 use Rattle.std.specs.List.{list_all, list_any}
 use Rattle.std.specs.Option.{option_map_or}
 use Rattle.rel_model.specs.declared.syntax.Place.{Place}
 use Rattle.rel_model.specs.declared.token.Kind.{Kind}
 use Rattle.rel_model.specs.declared.token.Token.{Token}
-use Rattle.rel_model.specs.Tokens.{is_allowed, is_blank, is_letter, is_digit, is_word_byte, is_file_byte, is_sign_byte, same_text, found_in, domain_operators, domain_operator_at, begins_with_quote, file_at, word_kind, value_from, behind, run_length, kind_at, with_token, tokens_from, tokens_of}
+use Rattle.rel_model.specs.Tokens.{is_allowed, is_blank, is_letter, is_digit, is_word_byte, is_file_byte, is_sign_byte, same_text, found_in, domain_operators, domain_operator_at, begins_with_quote, file_at, value_from, behind, run_length, kind_at, with_token, tokens_from, tokens_of}
 use Rattle.rv_parse.specs.Lexing.{word_at, number_at}
 use Rattle.rv_parse.proofs.Lexing.{kind_letter, kind_digit, kind_quote, kind_sign, word_runs, digit_runs}
 use Rattle.rel_model.specs.Lexed.{Ending, EndsAt, Broken, Lexed, is_comment_byte, before, broken, token_fault, lexed_from, lexed_of}
 
 -- ---- tests
-both : (p q : Bool) → p ≡ true → q ≡ true → (p && q) ≡ true
+pub both : (p q : Bool) → p ≡ true → q ≡ true → (p && q) ≡ true
 both p q h k = rw (h, k) refl
 
 first_of_both : (p q : Bool) → (p && q) ≡ true → p ≡ true
@@ -59,7 +59,7 @@ letter_allowed b h = either (nat_le 65 b && nat_le b 90) (nat_le 97 b && nat_le 
 digit_allowed : (b : ℕ) → is_digit b ≡ true → is_allowed b ≡ true
 digit_allowed b h = between 48 57 b h (omega arith) (omega arith)
 
-word_allowed : (b : ℕ) → is_word_byte b ≡ true → is_allowed b ≡ true
+pub word_allowed : (b : ℕ) → is_word_byte b ≡ true → is_allowed b ≡ true
 word_allowed b h = either (is_letter b) (is_digit b || eqb b 95) _ h (letter_allowed b) (λ k. either (is_digit b) (eqb b 95) _ k (digit_allowed b) (λ m. exactly 95 b m refl))
 
 file_allowed : (b : ℕ) → is_file_byte b ≡ true → is_allowed b ≡ true

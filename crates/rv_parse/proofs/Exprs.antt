@@ -1,25 +1,24 @@
 -- One step of the readers of expressions each: an expression goes on as its first operand.
-use Rattle.std.proofs.Common.{◌≡◌, ◌<◌, ◌≤◌, ◌+◌, ◌-◌, ℕ, true, false, List, [], ◌∷◌, ◌++◌, length, Some, refl, sym, ap, ◌∙◌, subst, suc, zero, append_assoc, add-one, arith, length-append, Result, Ok, Err, MatchResult, Bor}
-use Rattle.std.proofs.lemmas.Bool.{eq-eqb, lt-ltb, le-ltb}
+use Rattle.std.proofs.Common.{◌≡◌, ◌<◌, ◌+◌, ◌-◌, ℕ, false, List, [], ◌∷◌, ◌++◌, length, Some, refl, sym, ap, ◌∙◌, subst, suc, append_assoc, add-one, arith, length-append, Result, Ok, Err, MatchResult, Bor}
+use Rattle.std.proofs.lemmas.Bool.{lt-ltb}
 use Rattle.std.proofs.lemmas.List.{append-nil}
 use Rattle.std.specs.declared.boxed.Box.{Box}
-use Rattle.std.specs.declared.vec.Vec.{Vec}
 use Rattle.std.specs.declared.alloc.Global.{Global}
 use Rattle.rel_model.specs.declared.syntax.Place.{Place}
-use Rattle.rel_model.specs.declared.syntax.Expr.{Expr, Minus, Turned, Chain}
+use Rattle.rel_model.specs.declared.syntax.Expr.{Expr, Minus, Turned}
 use Rattle.rel_model.specs.declared.syntax.Link.{Link}
 use Rattle.rel_model.specs.declared.faults.What.TheVariants.{Expression}
 use Rattle.rel_model.specs.declared.token.Kind.TheVariants.{Sign}
 use Rattle.rel_model.specs.declared.token.Token.{Token}
 use Rattle.rel_model.specs.Grammar.{TakesAt, Takes, Carets, nesting_limit}
 use Rattle.rel_model.specs.Lexed.{Ending, EndsAt, Broken}
-use Rattle.rel_model.specs.Spelling.{Level, OrLevel, AndLevel, ProdLevel, UnaryLevel, PostLevel, PrimLevel, tighter, Spelled, Listed, Linked, turned, negated, chained, alone, no_more, one_more, no_link, one_link}
+use Rattle.rel_model.specs.Spelling.{Level, OrLevel, AndLevel, ProdLevel, UnaryLevel, PostLevel, PrimLevel, tighter, Spelled, Listed, Linked, turned, negated, alone, no_more, one_more, no_link, one_link}
 use Rattle.rel_model.specs.Stop.{Part, ExprPart, MoreLinks, MoreCarets, MoreArgs, Step, NotBegun, Instead, Deeper, Behind, followed, first_of, fault_at, expr_step, unary_step, prim_step, stop_of}
-use Rattle.rv_parse.specs.Readers.{Reads, Refuses, begins, begins_operator, level_of, IsLink, IsRead, AreArguments}
+use Rattle.rv_parse.specs.Readers.{Reads, Refuses, begins, level_of, IsLink, IsRead}
 use Rattle.rv_parse.specs.declared.halt.Halt.{Halt}
 use Rattle.rv_parse.specs.declared.expr.Chains.{Chains}
 use Rattle.rv_parse.specs.declared.expr.Chains.TheVariants.{Or, And, Prod}
-use Rattle.rv_parse.proofs.Optional.{enter_args, drop_args, last_args, drop_carets, enter_carets, drop_links}
+use Rattle.rv_parse.proofs.Optional.{enter_args, last_args, drop_carets, enter_carets}
 
 -- how far chains and their operands are from the tightest part of an expression
 abbrev pub chain_rank : Chains → ℕ

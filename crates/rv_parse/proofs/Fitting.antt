@@ -1,6 +1,6 @@
 -- The tokens of any expression and statement fit. By induction on how they are spelled: each optional and repeated part is entered for what is spelled, and dropped before the token that follows it.
-use Rattle.std.proofs.Common.{◌≡◌, ◌<◌, ℕ, true, false, List, [], ◌∷◌, ◌++◌, length, refl, sym, ap, ◌∙◌, subst, zero, suc, arith}
-use Rattle.std.proofs.lemmas.Bool.{lt-ltb, eq-eqb}
+use Rattle.std.proofs.Common.{◌≡◌, ◌<◌, ℕ, false, List, [], ◌∷◌, ◌++◌, length, refl, sym, ap, ◌∙◌, subst, zero, suc, arith}
+use Rattle.std.proofs.lemmas.Bool.{lt-ltb}
 use Rattle.rel_model.specs.declared.syntax.Place.{Place}
 use Rattle.rel_model.specs.declared.syntax.Op2.{Op2}
 use Rattle.rel_model.specs.declared.syntax.Op2.TheVariants.{Or, And, Times, Under, Over}
@@ -11,15 +11,15 @@ use Rattle.rel_model.specs.declared.token.Keyword.{Keyword}
 use Rattle.rel_model.specs.declared.token.Keyword.TheVariants.{Return as RETURN, While as WHILE, Do as DO, Od as OD, If as IF, Then as THEN, Else as ELSE, Fi as FI}
 use Rattle.rel_model.specs.declared.token.Kind.TheVariants.{Keyword as KEYWORD, Base as BASE, Word, File, Sign}
 use Rattle.rel_model.specs.declared.token.Token.{Token}
-use Rattle.rel_model.specs.Grammar.{nesting_limit, TakesAt, Takes, Carets}
+use Rattle.rel_model.specs.Grammar.{nesting_limit, TakesAt, Carets}
 use Rattle.rel_model.specs.Lexed.{Ending}
 use Rattle.rel_model.specs.Spelling.{Level, OrLevel, AndLevel, ProdLevel, UnaryLevel, PostLevel, PrimLevel, tighter, IsOperatorOf, Form, TakesOne, TakesTwo, TakesDomain, form_of, Spelled, named, called, based, based_twice, injected, paired, enclosed, turned, negated, chained, alone, Listed, no_more, one_more, Linked, no_link, one_link, SpelledStmt, assigned, looped, branched, branched_twice, SpelledStmts, no_stmt, one_stmt, more_stmts}
-use Rattle.rel_model.specs.Stop.{Part, NamePart, SignPart, WordPart, OpenPart, ExprPart, CallPart, MoreArgs, MoreCarets, MoreLinks, StmtsPart, MoreStmts, ElsePart, form_parts, stop_of}
+use Rattle.rel_model.specs.Stop.{Part, NamePart, SignPart, WordPart, ExprPart, CallPart, MoreArgs, MoreCarets, MoreLinks, StmtsPart, MoreStmts, ElsePart, form_parts, stop_of}
 use Rattle.rv_parse.specs.Readers.{begins}
 use Rattle.rv_parse.proofs.Leaves.{reads_sign, reads_word, opens}
 use Rattle.rv_parse.proofs.Optional.{drop_call, enter_call, enter_args, enter_carets}
 use Rattle.rv_parse.proofs.Exprs.{or_enters, and_enters, prod_enters, post_enters, unary_is_post, unary_negates}
-use Rattle.rv_parse.proofs.Stmts.{enter_stmts, enter_else, drop_else}
+use Rattle.rv_parse.proofs.Stmts.{enter_stmts, enter_else}
 
 -- ---- what stands behind an expression
 -- what may still come behind an expression of a level
@@ -63,7 +63,7 @@ fits_carets zero tokens rest s e behind = ap (λ z. stop_of (MoreCarets ∷ behi
 fits_carets (suc n) tokens rest s e behind = enter_carets s.1.0 tokens s.0 e behind s.1.1 ∙ fits_carets n s.0 rest s.2 e behind
 
 -- no name, call, pair, parenthesis or sign ^ begins with a minus
-abbrev IsTight : Level → Type 0
+abbrev pub IsTight : Level → Type 0
 IsTight PostLevel = Unit {0}
 IsTight PrimLevel = Unit {0}
 IsTight _ = ⊥
@@ -76,7 +76,7 @@ tight_tighter UnaryLevel h = absurd h
 tight_tighter PostLevel h = tt
 tight_tighter PrimLevel h = tt
 
-no_minus : {l : Level} {d : ℕ} {x : Expr} {tokens rest : List Token} → Spelled l d x tokens rest → IsTight l → begins 45 tokens ≡ false
+pub no_minus : {l : Level} {d : ℕ} {x : Expr} {tokens rest : List Token} → Spelled l d x tokens rest → IsTight l → begins 45 tokens ≡ false
 no_minus (named d at text tokens rest t) h = ap (begins 45) t
 no_minus (called d at text args first more tokens t1 t2 t3 t4 rest l q t _ _ _ _) h = ap (begins 45) t
 no_minus (based d at base args x tokens t1 t2 t3 rest l f q t _ _ _) h = ap (begins 45) t
@@ -90,13 +90,13 @@ no_minus (chained l d first links tokens mid rest s p ls) h = no_minus s (tight_
 no_minus (alone l d x tokens rest s) h = no_minus s (tight_tighter l h)
 
 -- the levels of chains
-abbrev IsChains : Level → Type 0
+abbrev pub IsChains : Level → Type 0
 IsChains OrLevel = Unit {0}
 IsChains AndLevel = Unit {0}
 IsChains ProdLevel = Unit {0}
 IsChains _ = ⊥
 
-is_chains : (l : Level) (op : Op2) (sign : ℕ) → IsOperatorOf l op sign → IsChains l
+pub is_chains : (l : Level) (op : Op2) (sign : ℕ) → IsOperatorOf l op sign → IsChains l
 is_chains OrLevel Or sign o = tt
 is_chains AndLevel And sign o = tt
 is_chains ProdLevel Times sign o = tt

@@ -1,6 +1,5 @@
 -- One step over a text: a blank, a comment, a token or a flaw.
-use Rattle.std.proofs.Common.{◌≡◌, ◌<◌, ◌≤◌, ◌+◌, ◌-◌, ℕ, true, false, eqb, List, [], ◌∷◌, ◌++◌, length, drop, get_or, Option, Some, None, refl, sym, ap, ◌∙◌, arith, zero, suc, add-one, append_assoc}
-use Rattle.std.proofs.Math.Seq.{drop-nil}
+use Rattle.std.proofs.Common.{◌≡◌, ◌<◌, ◌≤◌, ◌+◌, ◌-◌, ℕ, true, false, eqb, List, [], ◌∷◌, ◌++◌, length, drop, get_or, Some, None, refl, sym, ap, ◌∙◌, arith, zero, suc, add-one, append_assoc}
 use Rattle.rel_model.specs.declared.syntax.Place.{Place}
 use Rattle.rel_model.specs.declared.token.Kind.{Kind}
 use Rattle.rel_model.specs.declared.token.Token.{Token}

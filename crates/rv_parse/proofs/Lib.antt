@@ -16,3 +16,12 @@ pub mod Fitting
 pub mod Scripting
 pub mod Agreeing
 pub mod Parsing
+pub mod Printed
+pub mod Naming
+pub mod Pieces
+pub mod Written
+pub mod Rereading
+pub mod Again
+pub mod Places
+pub mod Apart
+pub mod Unambiguous

@@ -1,5 +1,5 @@
 -- Optional and repeated parts: entered where their first sign comes, and else dropped.
-use Rattle.std.proofs.Common.{◌≡◌, ◌<◌, ◌≤◌, ℕ, Bool, true, false, cond, List, [], ◌∷◌, ◌++◌, Option, Some, None, refl, sym, ap, ◌∙◌, suc, zero}
+use Rattle.std.proofs.Common.{◌≡◌, ◌<◌, ◌≤◌, ℕ, true, false, List, [], ◌∷◌, ◌++◌, Some, None, refl, ◌∙◌, suc, zero}
 use Rattle.std.proofs.lemmas.Bool.{eq-eqb, lt-ltb, le-ltb}
 use Rattle.rel_model.specs.declared.syntax.Place.{Place}
 use Rattle.rel_model.specs.declared.faults.ParseFault.TheVariants.{TooDeep}
@@ -9,7 +9,7 @@ use Rattle.rel_model.specs.declared.token.Token.{Token}
 use Rattle.rel_model.specs.Grammar.{TakesAt, nesting_limit}
 use Rattle.rel_model.specs.Lexed.{Ending, EndsAt, Broken}
 use Rattle.rel_model.specs.Spelling.{Level, OrLevel, tighter}
-use Rattle.rel_model.specs.Stop.{Part, NamePart, FromOne, SignPart, ExprPart, CallPart, MoreArgs, MoreCarets, MoreLinks, MoreRows, MoreColumns, StmtsPart, MoreStmts, MoreParams, MeaningPart, DomainPart, MoreDecls, NotBegun, Behind, where_it, opening, row_parts, is_sign, is_operator, entered, word_of, stop_of}
+use Rattle.rel_model.specs.Stop.{Part, NamePart, FromOne, SignPart, ExprPart, CallPart, MoreArgs, MoreCarets, MoreLinks, MoreRows, MoreColumns, StmtsPart, MoreStmts, MoreParams, MeaningPart, DomainPart, MoreDecls, NotBegun, where_it, row_parts, is_sign, is_operator, entered, word_of, stop_of}
 use Rattle.rv_parse.specs.Readers.{begins, begins_operator}
 
 -- a part that may be dropped, where nothing begins it

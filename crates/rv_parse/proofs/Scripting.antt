@@ -15,14 +15,14 @@ use Rattle.rel_model.specs.declared.syntax.Item.TheVariants.{Function, Program, 
 use Rattle.rel_model.specs.declared.syntax.Script.{Script}
 use Rattle.rel_model.specs.declared.faults.What.TheVariants.{Item as AN_ITEM}
 use Rattle.rel_model.specs.declared.token.Keyword.{Keyword}
-use Rattle.rel_model.specs.declared.token.Keyword.TheVariants.{Rel as REL, Let as LET, Print as PRINT, List as LIST, Count as COUNT, «Type» as TYPE, Drop as DROP, Snap as SNAP, At as AT, Load as LOAD, Save as SAVE, Decl as DECL, Prod as PROD, Sum as SUM, Beg as BEG, End as END, Return as RETURN}
+use Rattle.rel_model.specs.declared.token.Keyword.TheVariants.{Rel as REL, Let as LET, Print as PRINT, List as LIST, Count as COUNT, «Type» as TYPE, Drop as DROP, Snap as SNAP, At as AT, Load as LOAD, Save as SAVE, Decl as DECL, Beg as BEG, End as END, Return as RETURN}
 use Rattle.rel_model.specs.declared.token.Kind.{Kind}
 use Rattle.rel_model.specs.declared.token.Kind.TheVariants.{Keyword as KEYWORD, Word, Number, File, Sign}
 use Rattle.rel_model.specs.declared.token.Token.{Token}
 use Rattle.rel_model.specs.Grammar.{TakesAt, Takes}
 use Rattle.rel_model.specs.Lexed.{Ending, EndsAt}
-use Rattle.rel_model.specs.Spelling.{OrLevel, Spelled, SpellsMoreColumns, SpellsColumns, SpellsRow, SpellsMoreRows, SpellsRows, SpellsMoreNames, SpellsParams, SpellsDecl, SpellsMoreDecls, SpellsDecls, SpellsHead, SpellsNamed, SpellsValued, SpellsCommand, SpellsItem, SpellsItems, Spells, domain_word}
-use Rattle.rel_model.specs.Stop.{Part, NamePart, NumberPart, FromOne, FilePart, SignPart, WordPart, ExprPart, RowsPart, MoreRows, MoreColumns, MoreParams, BodyPart, MeaningPart, DomainPart, MoreDecls, ItemsPart, Step, NotBegun, Behind, row_parts, program_parts, command_step, item_step, stop_of}
+use Rattle.rel_model.specs.Spelling.{OrLevel, SpellsMoreColumns, SpellsColumns, SpellsRow, SpellsMoreRows, SpellsRows, SpellsMoreNames, SpellsParams, SpellsDecl, SpellsMoreDecls, SpellsDecls, SpellsHead, SpellsValued, SpellsCommand, SpellsItem, SpellsItems, Spells, domain_word}
+use Rattle.rel_model.specs.Stop.{Part, NamePart, NumberPart, FromOne, FilePart, SignPart, WordPart, ExprPart, RowsPart, MoreRows, MoreColumns, MoreParams, BodyPart, MeaningPart, DomainPart, MoreDecls, ItemsPart, NotBegun, Behind, row_parts, program_parts, command_step, item_step, stop_of}
 use Rattle.rv_parse.specs.Halts.{missing}
 use Rattle.rv_parse.specs.Readers.{begins, begins_number}
 use Rattle.rv_parse.specs.Openings.{opening_word, opening_parts}

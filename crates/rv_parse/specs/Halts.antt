@@ -1,6 +1,5 @@
 -- The faults that the readers' own words for them stand for.
-use Rattle.std.specs.Prelude.{◌≡◌, ℕ, List, [], ◌∷◌}
-use Rattle.rel_model.specs.declared.syntax.Place.{Place}
+use Rattle.std.specs.Prelude.{List, [], ◌∷◌}
 use Rattle.rel_model.specs.declared.faults.ParseFault.{ParseFault}
 use Rattle.rel_model.specs.declared.faults.ParseFault.TheVariants.{Byte, Expected, TooDeep, NumberTooLarge, NameTooLong, NoMemory as NO_MEMORY}
 use Rattle.rel_model.specs.declared.faults.What.{What}

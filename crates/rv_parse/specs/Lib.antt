@@ -10,3 +10,6 @@ pub mod Got
 pub mod Openings
 pub mod Items
 pub mod Stops
+pub mod Places
+pub mod Printed
+pub mod Again

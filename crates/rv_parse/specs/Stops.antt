@@ -1,5 +1,5 @@
 -- The faults of a text that is no script.
-use Rattle.std.specs.Prelude.{◌≡◌, ℕ, List, Some}
+use Rattle.std.specs.Prelude.{◌≡◌, ℕ, List, None, Some}
 use Rattle.rel_model.specs.declared.syntax.Script.{Script}
 use Rattle.rel_model.specs.declared.faults.ParseFault.{ParseFault}
 use Rattle.rel_model.specs.declared.faults.ParseFault.TheVariants.{NoMemory}
@@ -15,3 +15,7 @@ StopsAt bytes fault = (fault ≡ NoMemory → ⊥) → (stop bytes ≡ Some faul
 -- the fault that ended the reading, unless memory ran out
 abbrev pub IsFaultOf : Halt → ParseFault → Type 0
 IsFaultOf halt fault = (fault ≡ NoMemory → ⊥) → fault ≡ fault_of halt
+
+-- a text that spells a script has no fault
+abbrev pub ScriptsHaveNoFault : Type 0
+ScriptsHaveNoFault = (bytes : List ℕ) (script : Script) → SpelledBy bytes script → stop bytes ≡ None

@@ -8,9 +8,11 @@ mod expr;
 mod expression;
 mod first;
 mod halt;
+mod law;
 mod leaf;
 mod lexer;
 mod next;
+mod print;
 mod refusals;
 mod relation;
 mod rows;
@@ -20,6 +22,8 @@ mod tokens;
 mod words;
 
 pub use first::parse_first;
+pub use law::scripts_have_no_fault;
+pub use print::print_expr;
 pub use script::parse;
 
 #[cfg(test)]

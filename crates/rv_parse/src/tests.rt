@@ -1,4 +1,5 @@
 //! What scripts are read as, and which are refused.
+mod printing;
 mod show;
 
 use crate::parse_first;

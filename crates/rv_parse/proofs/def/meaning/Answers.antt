@@ -1,4 +1,4 @@
-use Rattle.std.proofs.Common.{◌≡◌, ◌∷◌, [], refl}
+use Rattle.std.proofs.Common.{◌∷◌, [], refl}
 use Rattle.rel_model.specs.declared.token.Keyword.TheVariants.{Beg as BEG, Decl as DECL}
 use Rattle.rel_model.specs.declared.token.Kind.TheVariants.{Keyword as KEYWORD, Sign}
 use Rattle.rel_model.specs.Spelling.{OrLevel}

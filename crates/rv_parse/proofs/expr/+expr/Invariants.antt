@@ -1,4 +1,4 @@
-use Rattle.std.proofs.Common.{◌≡◌, ◌<◌, ◌≤◌, ◌+◌, ◌-◌, ◌*◌, ◌++◌, ℕ, List, ◌∷◌, [], length, suc}
+use Rattle.std.proofs.Common.{◌≡◌, ◌<◌, ◌≤◌, ◌+◌, ◌-◌, ◌*◌, ◌++◌, List, ◌∷◌, length, suc}
 use Rattle.rel_model.specs.declared.syntax.Expr.{Expr}
 use Rattle.rel_model.specs.declared.syntax.Link.{Link}
 use Rattle.rel_model.specs.declared.token.Token.{Token}

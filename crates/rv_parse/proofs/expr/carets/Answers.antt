@@ -1,7 +1,7 @@
 use Rattle.std.proofs.Common.{◌∙◌, ap, subst, sym, arith, add-one, length}
 use Rattle.rel_model.specs.Grammar.{Carets}
 use Rattle.rv_parse.proofs.Spelling.{carets_push}
-use Rattle.rv_parse.proofs.Optional.{enter_carets, drop_carets}
+use Rattle.rv_parse.proofs.Optional.{enter_carets}
 use Rattle.rv_parse.proofs.expr.carets.Goals as goal
 
 pub carets-preserved : goal.carets-preserved

@@ -1,5 +1,4 @@
-use Rattle.std.proofs.Common.{◌≡◌, ◌+◌, List, ◌∷◌, ◌++◌, length}
-use Rattle.rel_model.specs.declared.token.Token.{Token}
+use Rattle.std.proofs.Common.{◌≡◌, ◌+◌, List, ◌∷◌, length}
 use Rattle.rel_model.specs.Grammar.{Carets}
 use Rattle.rel_model.specs.Lexed.{Ending}
 use Rattle.rel_model.specs.Stop.{Part, MoreCarets, stop_of}

@@ -1,4 +1,4 @@
-use Rattle.std.proofs.Common.{◌∷◌, [], ◌∙◌, ap, arith, length}
+use Rattle.std.proofs.Common.{◌∷◌, ◌∙◌, ap, arith, length}
 use Rattle.rel_model.specs.Spelling.{injected}
 use Rattle.rel_model.specs.Stop.{NamePart, SignPart}
 use Rattle.rv_parse.proofs.expr.with_domain.Goals as goal

@@ -3,7 +3,7 @@ use Rattle.std.proofs.lemmas.Result.{err_from_is_err_and}
 use Rattle.rel_model.specs.declared.token.Kind.TheVariants.{Word}
 use Rattle.rel_model.specs.Stop.{SignPart, ItemsPart}
 use Rattle.rv_parse.specs.Got.{definition_parts}
-use Rattle.rv_parse.proofs.Scripting.{item_begins, command_begins, no_item}
+use Rattle.rv_parse.proofs.Scripting.{item_begins, command_begins}
 use Rattle.rv_parse.proofs.script.next_item.Goals as goal
 
 pub returns-in_err-item : goal.returns-in_err-item

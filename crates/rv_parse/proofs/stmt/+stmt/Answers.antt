@@ -1,4 +1,4 @@
-use Rattle.std.proofs.Common.{◌∷◌, ◌++◌, [], ◌∙◌, ap, sym, subst, suc, arith, length}
+use Rattle.std.proofs.Common.{◌∷◌, ◌∙◌, ap, suc, arith, length}
 use Rattle.std.proofs.lemmas.Result.{err_from_is_err_and}
 use Rattle.rel_model.specs.Spelling.{looped, branched, branched_twice}
 use Rattle.rel_model.specs.declared.token.Keyword.TheVariants.{Do as DO, Od as OD, Then as THEN, Fi as FI}

@@ -1,0 +1,25 @@
+-- The texts of arguments and links as lists.
+use Rattle.std.specs.Prelude.{◌++◌, ℕ, nat_le, List, [], ◌∷◌}
+use Rattle.rel_model.specs.declared.syntax.Expr.{Expr}
+use Rattle.rel_model.specs.declared.syntax.Link.{Link}
+use Rattle.rel_model.specs.Printing.{printed, rank, chain_rank, sign_of, within}
+
+-- further arguments, each behind a comma
+abbrev pub printed_more_args : List Expr → List ℕ
+printed_more_args [] = []
+printed_more_args (e ∷ es) = 44 ∷ printed e ++ printed_more_args es
+
+-- arguments, with commas between them
+abbrev pub printed_all_args : List Expr → List ℕ
+printed_all_args [] = []
+printed_all_args (e ∷ es) = printed e ++ printed_more_args es
+
+-- how tightly a chain with these links holds together
+abbrev pub rank_of_links : List Link → ℕ
+rank_of_links [] = 2
+rank_of_links (x ∷ xs) = chain_rank x.op
+
+-- the links of a chain of so loose operators
+abbrev pub printed_all_links : ℕ → List Link → List ℕ
+printed_all_links n [] = []
+printed_all_links n (x ∷ xs) = sign_of x.op ∷ within (nat_le (rank x.right) n) (printed x.right) ++ printed_all_links n xs

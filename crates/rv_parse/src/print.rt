@@ -1,0 +1,213 @@
+//! The text of an expression.
+ghost use Rattle.std.specs.Prelude.{◌≡◌, ◌++◌, ◌∷◌, ℕ, [], replicate, nat_le, IfOk, OnOk};
+ghost use Rattle.rel_model.specs.Printing.{sign_of, base_text, chain_rank, rank, within, printed};
+ghost use Rattle.rv_parse.specs.Again.{StandsIn, ReadAgain, PrintsAgain};
+ghost use Rattle.rv_parse.specs.Printed.{rank_of_links, printed_all_args, printed_all_links};
+
+use rel_model::NoMemory;
+use rel_model::syntax::{Base, Expr, Link, Op2};
+use std::alloc::Global;
+
+/// The sign of an operator.
+fn sign_of(op: Op2) -> u8
+    ensures { result ≡ sign_of op }
+{
+    match op {
+        Op2::Or => b'|',
+        Op2::And => b'&',
+        Op2::Times => b'*',
+        Op2::Under => b'\\',
+        Op2::Over => b'/',
+    }
+}
+
+/// How a base name or a domain operator is written.
+fn base_text(base: Base) -> &'static [u8]
+    ensures { result.now ≡ base_text base }
+{
+    match base {
+        Base::L => b"L",
+        Base::O => b"O",
+        Base::I => b"I",
+        Base::Ln1 => b"Ln1",
+        Base::On1 => b"On1",
+        Base::L1n => b"L1n",
+        Base::O1n => b"O1n",
+        Base::Dom => b"dom",
+        Base::Ran => b"ran",
+        Base::Trans => b"trans",
+        Base::Refl => b"refl",
+        Base::Epsi => b"epsi",
+        Base::Point => b"point",
+        Base::Atom => b"atom",
+        Base::Init => b"init",
+        Base::Next => b"next",
+        Base::Inj => b"inj",
+        Base::Empty => b"empty",
+        Base::Unival => b"unival",
+        Base::Syq => b"syq",
+        Base::Eq => b"eq",
+        Base::Incl => b"incl",
+        Base::P1 => b"p-1",
+        Base::P2 => b"p-2",
+        Base::I1 => b"i-1",
+        Base::I2 => b"i-2",
+    }
+}
+
+/// How tightly the chains of an operator hold together.
+fn chain_rank(op: Op2) -> u32
+    ensures { result ≡ chain_rank op }
+{
+    match op {
+        Op2::Or => 0,
+        Op2::And => 1,
+        Op2::Times | Op2::Under | Op2::Over => 2,
+    }
+}
+
+/// How tightly a chain with these links holds together.
+fn links_rank(links: &[Link]) -> u32
+    ensures { result ≡ rank_of_links links.now }
+{
+    match links {
+        [] => 2,
+        [first, ..] => chain_rank(first.op),
+    }
+}
+
+/// How tightly an expression holds together: chains by their level, then a prefix `-`, then signs `^`, then all others.
+fn rank(expr: &Expr) -> u32
+    ensures { result ≡ rank expr.now }
+{
+    match expr {
+        Expr::Chain { rest, .. } => links_rank(rest.as_slice()),
+        Expr::Minus { .. } => 3,
+        Expr::Turned { .. } => 4,
+        _ => 5,
+    }
+}
+
+/// So many signs `^` more.
+fn write_carets(text: &mut Vec<u8>, times: u32) -> Result<(), NoMemory>
+    ensures { OnOk result (text.new.items ≡ text.old.items ++ replicate times 94) }
+{
+    'each: for _ in 0..times {
+        text.push(b'^')?;
+    }
+    Ok(())
+}
+
+/// An operand more, in parentheses where they are needed.
+#[cycle(print)]
+fn write_operand(text: &mut Vec<u8>, needed: bool, expr: &Expr) -> Result<(), NoMemory>
+    ensures { OnOk result (text.new.items ≡ text.old.items ++ within needed (printed expr.now)) }
+{
+    if needed {
+        text.push(b'(')?;
+        write_expr(text, expr)?;
+        text.push(b')')?;
+        return Ok(());
+    }
+    write_expr(text, expr)
+}
+
+/// Arguments more, with commas between them.
+#[cycle(print)]
+fn write_args(text: &mut Vec<u8>, args: &[Expr]) -> Result<(), NoMemory>
+    ensures { OnOk result (text.new.items ≡ text.old.items ++ printed_all_args args.now) }
+{
+    let [first, rest @ ..] = args else {
+        return Ok(());
+    };
+    write_expr(text, first)?;
+    'more: for arg in rest {
+        text.push(b',')?;
+        write_expr(text, arg)?;
+    }
+    Ok(())
+}
+
+/// A word more, and arguments in parentheses.
+#[cycle(print)]
+fn write_call(text: &mut Vec<u8>, word: &[u8], args: &[Expr]) -> Result<(), NoMemory>
+    ensures { OnOk result (text.new.items ≡ text.old.items ++ (word.now ++ (40 ∷ printed_all_args args.now ++ 41 ∷ []))) }
+{
+    text.extend_from_slice(word)?;
+    text.push(b'(')?;
+    write_args(text, args)?;
+    text.push(b')')?;
+    Ok(())
+}
+
+/// The links of a chain of so loose operators more.
+#[cycle(print)]
+fn write_links(text: &mut Vec<u8>, loose: u32, links: &[Link]) -> Result<(), NoMemory>
+    ensures { OnOk result (text.new.items ≡ text.old.items ++ printed_all_links loose links.now) }
+{
+    'links: for link in links {
+        text.push(sign_of(link.op))?;
+        let needed = rank(&link.right) <= loose;
+        write_operand(text, needed, &link.right)?;
+    }
+    Ok(())
+}
+
+/// An expression more.
+#[cycle(print)]
+fn write_expr(text: &mut Vec<u8>, expr: &Expr) -> Result<(), NoMemory>
+    ensures { OnOk result (text.new.items ≡ text.old.items ++ printed expr.now) }
+{
+    match expr {
+        Expr::Ref { name, .. } => {
+            text.extend_from_slice(name.bytes())?;
+            Ok(())
+        }
+        Expr::Call { name, args, .. } => write_call(text, name.bytes(), args.as_slice()),
+        Expr::Base { base, args, .. } => write_call(text, base_text(*base), args.as_slice()),
+        Expr::Inject { base, domain, .. } => {
+            text.extend_from_slice(base_text(*base))?;
+            text.push(b'(')?;
+            text.extend_from_slice(domain.bytes())?;
+            text.push(b')')?;
+            Ok(())
+        }
+        Expr::Pair { left, right, .. } => {
+            text.push(b'[')?;
+            write_expr(text, left)?;
+            text.push(b',')?;
+            write_expr(text, right)?;
+            text.push(b']')?;
+            Ok(())
+        }
+        Expr::Minus { of, .. } => {
+            text.push(b'-')?;
+            write_operand(text, rank(of) < 3, of)
+        }
+        Expr::Turned { of, times, .. } => {
+            write_operand(text, rank(of) < 5, of)?;
+            write_carets(text, *times)
+        }
+        Expr::Chain { first, rest } => {
+            let links = rest.as_slice();
+            let loose = links_rank(links);
+            write_operand(text, rank(first) <= loose, first)?;
+            write_links(text, loose, links)
+        }
+    }
+}
+
+/// The text of an expression, without blanks, and with parentheses only where a looser operand needs them.
+///
+/// An operand of a chain stands in parentheses where it is a chain of the same or a looser level, that of `-` where
+/// it is a chain, and that of `^` where it is a chain or has a `-` or a `^` in front. Takes time and memory in the
+/// length of the text; its recursion is as deep as the nesting.
+pub fn print_expr(alloc: Global, expr: &Expr) -> Result<Vec<u8>, NoMemory>
+    ensures text { IfOk result (λ v. v.items ≡ printed expr.now) }
+    ensures again { IfOk result (λ v. ReadAgain expr.now v.items) }
+    ensures script { IfOk result (λ v. (d : ℕ) → StandsIn d expr.now → PrintsAgain expr.now v.items) }
+{
+    let mut text = Vec::new(alloc);
+    write_expr(&mut text, expr)?;
+    Ok(text)
+}
