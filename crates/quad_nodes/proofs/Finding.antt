@@ -341,9 +341,9 @@ found_later u v w h k f g r x e d p q s =
     let y = p q (record { same_height = t.same_height ∙ sym e; stands = t.stands; means = t.means ∙ sym d }) in
     record { answer = y.answer; reads = reads_on u v w x y.reads }
 
--- what is found before a call that reads
-pub found_sooner : {T E : Type 0} (u v w : Work) (x : T) (r : Result T E) → Finds u v x r → ReadsWork v w → Finds u w x r
-found_sooner u v w x r f k = record { answer = f.answer; reads = reads_on u v w f.reads k }
+-- what is found between calls that read
+pub found_after : {E : Type 0} (t u v w : Work) (q r : Quad) → ReadsWork t u → Finds {E = E} u v q (Ok r) → ReadsWork v w → Finds {E = E} t w q (Ok r)
+found_after t u v w q r k f l = record { answer = f.answer; reads = reads_on t v w (reads_on t u v k f.reads) l }
 
 -- two quads that were found one after the other
 pub both_found : {E : Type 0} (u v w : Work) (p q a b : Quad) → Finds {E = E} u v p (Ok a) → Finds {E = E} v w q (Ok b) → Finds {T = Quad × Quad} {E = E} u w (p, q) (Ok (a, b))

@@ -15,6 +15,10 @@ pub record Finds {T E : Type 0} (old new : Work) (x : T) (result : Result T E) :
 abbrev pub FindsQuad : {E : Type 0} → Work → Work → ℕ → Cells → Result Quad E → Type 0
 FindsQuad old new height f result = (q : Quad) → IsQuad old height f q → Finds old new q result
 
+-- the quad of this height with no cell is found
+abbrev pub FindsNone : {E : Type 0} → Work → Work → ℕ → Result Quad E → Type 0
+FindsNone old new height result = Finds {T = Quad} old new (record { height = height; name = 0 }) result
+
 -- a name of the pairing of two names' sets that stood already is found
 abbrev pub FindsPair : {E : Type 0} → Work → Work → ℕ → ℕ → Result ℕ E → Type 0
 FindsPair old new left right result = (depth name : ℕ) (f g : Cells) → IsSet old.view depth left f → IsSet old.view depth right g → IsSet old.view (suc depth) name (paired depth f g) → Finds old new name result
