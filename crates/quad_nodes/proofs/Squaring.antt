@@ -167,7 +167,7 @@ beside_again w h rows r cols p e a = subst (λ (x : ℕ). AreBeside w h x cols p
 
 -- ---- rectangles that stand
 -- a rectangle lies within the sizes that bound it
-rect_within : (m rows cols : ℕ) → rows ≤ m → cols ≤ m → Within m m (cells_rect rows cols)
+pub rect_within : (m rows cols : ℕ) → rows ≤ m → cols ≤ m → Within m m (cells_rect rows cols)
 rect_within m rows cols a b = record {
   row = λ i j e. let x : i < rows = ltb-true i rows (and_parts (ltb i rows) (ltb j cols) e).0 in omega arith;
   col = λ i j e. let x : j < cols = ltb-true j cols (and_parts (ltb i rows) (ltb j cols) e).1 in omega arith;

@@ -1,3 +1,3 @@
 pub mod Transposing
-pub mod Finding
 pub mod Multiplying
+pub mod Finding
