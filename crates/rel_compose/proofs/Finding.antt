@@ -1,5 +1,5 @@
 -- A transposition that stands already is found: over it stand the transposed quarters. Of compositions that is said of empty and of full operands.
-use Rattle.std.proofs.Common.{◌≡◌, ◌+◌, ℕ, Result, Ok, refl, sym, ap, subst, ◌∙◌, arith}
+use Rattle.std.proofs.Common.{◌≡◌, ℕ, Result, Ok, refl, sym, ap, subst, ◌∙◌, arith}
 use Rattle.rel_model.specs.declared.Quad.{Quad}
 use Rattle.rel_model.specs.Cells.{Cells, block_cells, cells_rect, cells_transpose, cells_compose}
 use Rattle.rel_model.specs.Trees.{bottom_height, quartered}

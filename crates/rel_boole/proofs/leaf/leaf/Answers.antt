@@ -1,9 +1,3 @@
-use Rattle.std.proofs.Common.{refl}
-use Rattle.rel_model.specs.Cells.{block_cells}
-use Rattle.rel_model.specs.Trees.{bottom_height}
-use Rattle.rel_model.specs.Quads.{quad_cells}
-use Rattle.rel_model.proofs.QuadLaws.{reads_on}
-use Rattle.rel_boole.specs.Cellwise.{cells_by}
 use Rattle.rel_boole.proofs.Finding.{leaf_found}
 use Rattle.rel_boole.proofs.leaf.leaf.Goals as goal
 

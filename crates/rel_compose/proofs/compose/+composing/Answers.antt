@@ -1,4 +1,4 @@
-use Rattle.std.proofs.Common.{◌≡◌, ◌∙◌, refl, sym, ◌≤◌, ◌+◌, ◌-◌, ℕ, Ok, arith}
+use Rattle.std.proofs.Common.{◌∙◌, refl, sym, ◌≤◌, ◌+◌, ◌-◌, ℕ, Ok, arith}
 use Rattle.rel_model.specs.Quads.{compose_room}
 use Rattle.rel_model.proofs.QuadLaws.{keeps_on, keeps_most, quad_stays, is_quad-stays, reads_itself}
 use Rattle.std.proofs.lemmas.Bool.{false≢true}

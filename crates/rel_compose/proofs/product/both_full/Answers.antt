@@ -1,4 +1,4 @@
-use Rattle.std.proofs.Common.{◌≡◌, ◌∙◌, sym}
+use Rattle.std.proofs.Common.{◌∙◌, sym}
 use Rattle.std.proofs.lemmas.Bool.{false≢true}
 use Rattle.rel_model.proofs.QuadLaws.{quad_stays, quad_cells-stay}
 use Rattle.rel_compose.proofs.Multiplying.{composed_full}

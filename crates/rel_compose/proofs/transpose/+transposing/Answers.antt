@@ -1,5 +1,5 @@
 use Rattle.std.proofs.Common.{◌≡◌, ◌≤◌, ◌+◌, ◌-◌, ℕ, Ok, refl, ◌∙◌, arith}
-use Rattle.rel_model.specs.Cells.{Cells, cells_transpose}
+use Rattle.rel_model.specs.Cells.{cells_transpose}
 use Rattle.rel_model.specs.Quads.{quad_room, quad_cells}
 use Rattle.rel_model.proofs.QuadLaws.{keeps_on, keeps_most, quad_stays, is_quad-stays, rooms-next, room-some, room_below, reads_itself, reads_on}
 use Rattle.quad_nodes.proofs.Finding.{not_missed, found_is, found_after, the_answer, four_found}

@@ -1,4 +1,4 @@
-use Rattle.std.proofs.Common.{◌≡◌, ◌<◌, ◌≤◌, ◌+◌, ◌-◌, ◌⊎◌, ◌∙◌, min, ℕ, ap, sym, subst, inl, inr, arith}
+use Rattle.std.proofs.Common.{◌≡◌, ◌<◌, ◌≤◌, ◌+◌, ◌-◌, ◌⊎◌, ◌∙◌, min, ℕ, ap, subst, inl, inr, arith}
 use Rattle.rel_model.specs.Trees.{bottom_height}
 use Rattle.rel_model.specs.Equations.{side_of}
 use Rattle.rel_model.specs.declared.Quad.{Quad}

@@ -1,4 +1,4 @@
-use Rattle.std.proofs.Common.{◌≡◌, ◌≢◌, ◌<◌, ◌^◌, Result, Ok, Err, refl, subst, rules, arith}
+use Rattle.std.proofs.Common.{◌≢◌, ◌<◌, ◌^◌, Ok, refl, subst, rules, arith}
 use Rattle.rel_model.specs.Quads.{Work, IsWork, KeepsWork}
 use Rattle.rel_model.specs.Trees.{bottom_height}
 use Rattle.quad_nodes.proofs.Halving.{empty_block, block_is}

@@ -1,4 +1,4 @@
-use Rattle.std.proofs.Common.{◌≡◌, ◌≢◌, ◌<◌, ◌+◌, ◌^◌, Result, Ok, Err, refl, subst, rules, arith}
+use Rattle.std.proofs.Common.{◌≢◌, ◌<◌, ◌+◌, ◌^◌, Ok, refl, subst, rules, arith}
 use Rattle.rel_model.proofs.NamesStand.{pair_set}
 use Rattle.rel_model.specs.Quads.{Work, IsWork, KeepsWork}
 use Rattle.quad_nodes.specs.Finding.{FindsPair}
