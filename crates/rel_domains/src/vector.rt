@@ -3,7 +3,7 @@ ghost use Rattle.std.specs.Prelude.{◌≡◌, ◌<◌, ◌≤◌, ◌+◌, ◌-
 ghost use Rattle.rel_model.specs.Cells.{no_cells};
 ghost use Rattle.rel_model.specs.Choice.{holds, count_below, inj as inj_of};
 ghost use Rattle.rel_model.specs.Trees.{top_height};
-ghost use Rattle.rel_model.specs.Worker.{Stands, set_of, HasQuad, quad_set, Gives, GivesQuad, Keeps, MakesAtMost, HasCause, derived_room};
+ghost use Rattle.rel_model.specs.Worker.{Stands, set_of, HasQuad, quad_set, Gives, GivesQuad, Keeps, MakesAtMost, MissesNothing, HasCause, derived_room};
 ghost use Rattle.rel_domains.specs.Ranks.{first_column, ranked};
 
 use crate::element::{count_in, ranks_in};
@@ -19,6 +19,7 @@ fn elements<Q: Quads>(q: &mut Q, vector: Quad) -> u32
     ensures limit { result ≤ 2 ^ 24 }
     ensures keeps { Keeps (Q.worker q.old) (Q.worker q.new) }
     ensures room { MakesAtMost 0 (Q.worker q.old) (Q.worker q.new) }
+    ensures misses { MissesNothing (Q.worker q.old) (Q.worker q.new) }
 {
     if vector.name == 0 {
         return 0;

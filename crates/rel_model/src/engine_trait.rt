@@ -1,15 +1,15 @@
 //! All operations of the language on relations, over whatever keeps them.
 //!
 //! Every call keeps all relations and quads that stood, with the same sets, makes at most its room of nodes, and refuses only for its named cause.
-ghost use Rattle.std.specs.Prelude.{◌≡◌, ◌<◌, ◌≤◌, ◌+◌, ◌*◌, ◌^◌, max, length, IfOk, IfSome, IsErrOf, true};
-ghost use Rattle.rel_model.specs.declared.Lack.TheVariants.{Full};
+ghost use Rattle.std.specs.Prelude.{◌≡◌, ◌<◌, ◌≤◌, ◌+◌, ◌-◌, ◌*◌, ◌^◌, max, length, IfOk, IfSome, true, false};
 ghost use Rattle.rel_model.specs.Relation.{has, relation_of, size_limit};
 ghost use Rattle.rel_model.specs.Operators.{right_residual, left_residual, symmetric_quotient, identity as identity_of};
 ghost use Rattle.rel_model.specs.Closures.{transitive_closure, reflexive_closure};
 ghost use Rattle.rel_model.specs.Choice.{holds, count_below, point as point_of, atom as atom_of, init as init_of, next as next_of, dom as dom_of, ran as ran_of, is_unival, count as count_of, next_pair as next_pair_of, inj as inj_of};
 ghost use Rattle.rel_model.specs.Domains.{HasDomainCause, first_projection, second_projection, left_injection, right_injection, membership, pairing};
-ghost use Rattle.rel_model.specs.Listed.{IsWithin, is_among};
-ghost use Rattle.rel_model.specs.Worker.{Stands, set_of, Gives, Keeps, MakesAtMost, HasCause, Rose, pairs_room, derived_room, wide_room};
+ghost use Rattle.rel_model.specs.Roots.{height_over};
+ghost use Rattle.rel_model.specs.Listed.{AreWithin, is_among};
+ghost use Rattle.rel_model.specs.Worker.{Stands, set_of, Gives, Keeps, MakesAtMost, MissesNothing, HasCause, listed_room, pairs_room, derived_room, wide_room};
 
 use crate::faults::DomainError;
 use crate::quads_trait::Quads;
@@ -147,11 +147,12 @@ pub trait Engine: Quads {
     fn from_pairs(&mut self, alloc: Global, shape: Shape, pairs: &[(u32, u32)]) -> Result<Rel, Lack>
         requires row_limit { shape.rows ≤ size_limit }
         requires col_limit { shape.cols ≤ size_limit }
-        requires within { IsWithin shape.rows shape.cols pairs.now }
+        requires within { AreWithin shape.rows shape.cols pairs.now }
         ensures value { IfOk result (Gives (Self.worker self.new) shape.rows shape.cols (relation_of shape.rows shape.cols (is_among pairs.now))) }
         ensures keeps { Keeps (Self.worker self.old) (Self.worker self.new) }
         ensures room { MakesAtMost (pairs_room (length pairs.now) shape.rows shape.cols) (Self.worker self.old) (Self.worker self.new) }
-        ensures full { IsErrOf result Full → Rose (Self.worker self.old).misses (Self.worker self.new).misses };
+        ensures few { MakesAtMost (listed_room (length pairs.now) (height_over Self.least shape.rows shape.cols - Self.least)) (Self.worker self.old) (Self.worker self.new) }
+        ensures cause { HasCause false (Self.worker self.old) (Self.worker self.new) result };
 
     /// `{(i, 0) : i is the least element of v}`: a point of a vector that has an element, and the empty vector of one that has none.
     fn point(&mut self, v: Rel) -> Result<Rel, Lack>
@@ -209,14 +210,16 @@ pub trait Engine: Quads {
         requires { Stands (Self.worker self.old) r }
         ensures value { result ≡ is_unival (set_of (Self.worker self.old) r) }
         ensures keeps { Keeps (Self.worker self.old) (Self.worker self.new) }
-        ensures room { MakesAtMost 0 (Self.worker self.old) (Self.worker self.new) };
+        ensures room { MakesAtMost 0 (Self.worker self.old) (Self.worker self.new) }
+        ensures misses { MissesNothing (Self.worker self.old) (Self.worker self.new) };
 
     /// How many pairs a relation has.
     fn count(&mut self, alloc: Global, r: Rel) -> Result<u64, NoMemory>
         requires { Stands (Self.worker self.old) r }
         ensures value { IfOk result (λ n. n ≡ count_of (set_of (Self.worker self.old) r)) }
         ensures keeps { Keeps (Self.worker self.old) (Self.worker self.new) }
-        ensures room { MakesAtMost 0 (Self.worker self.old) (Self.worker self.new) };
+        ensures room { MakesAtMost 0 (Self.worker self.old) (Self.worker self.new) }
+        ensures misses { MissesNothing (Self.worker self.old) (Self.worker self.new) };
 
     /// The least pair by row and then by column, of those behind `after` where it is given.
     fn next_pair(&mut self, r: Rel, after: Option<(u32, u32)>) -> Option<(u32, u32)>
@@ -224,5 +227,6 @@ pub trait Engine: Quads {
         ensures value { result ≡ next_pair_of (set_of (Self.worker self.old) r) after }
         ensures among { IfSome result (λ p. has (set_of (Self.worker self.old) r) p.0 p.1 ≡ true) }
         ensures keeps { Keeps (Self.worker self.old) (Self.worker self.new) }
-        ensures room { MakesAtMost 0 (Self.worker self.old) (Self.worker self.new) };
+        ensures room { MakesAtMost 0 (Self.worker self.old) (Self.worker self.new) }
+        ensures misses { MissesNothing (Self.worker self.old) (Self.worker self.new) };
 }

@@ -1,4 +1,4 @@
-use Rattle.std.proofs.Common.{◌≡◌, ◌<◌, ◌≤◌, ◌+◌, ◌-◌, ◌*◌, ◌^◌, ◌∙◌, ℕ, sym, ap, subst, arith}
+use Rattle.std.proofs.Common.{◌≡◌, ◌<◌, ◌≤◌, ◌+◌, ◌-◌, ◌*◌, ◌^◌, ◌∙◌, ℕ, refl, sym, ap, subst, arith}
 use Rattle.rel_model.specs.Algebra.{HasType}
 use Rattle.rel_model.specs.Worker.{set_of, height_of}
 use Rattle.rel_model.proofs.Workers.{keeps_itself, keeps_trans}
@@ -19,6 +19,7 @@ squares-init g c =
       power = ap (λ (x : ℕ). 2 ^ x) (let e : c.args.steps.now - c.args.steps.now ≡ 0 = omega arith in e);
       rounds = omega arith;
       digits = omega arith;
+      misses = refl;
       room = omega arith;
     }
 
@@ -148,6 +149,7 @@ squares-preserved g c =
       power = ap (λ (x : ℕ). 2 ^ (x - c.args.steps.now)) c.step.ensures ∙ p;
       rounds = omega (arith, e, fewer);
       digits = omega (arith, under);
+      misses = c.in_ok-more.ensures.cause.done ∙ (c.in_ok-square.ensures.cause.done ∙ i.misses);
       room = subst (λ (x : ℕ). (g.C.Core.worker c.union.new.self).made ≤ (g.C.Core.worker c.args.core.now).made + x * (20 * 8 ^ h)) (sym e) r;
     }
 

@@ -1,6 +1,6 @@
 use Rattle.std.proofs.Common.{◌≡◌, ◌≤◌, ◌+◌, ◌-◌, ◌*◌, ◌^◌}
 use Rattle.rel_model.specs.Closures.{walks_within}
-use Rattle.rel_model.specs.Worker.{set_of, Keeps, Gives, MakesAtMost, height_of}
+use Rattle.rel_model.specs.Worker.{set_of, Keeps, Gives, MakesAtMost, MissesNothing, height_of}
 use Rattle.rel_closure.proofs.transitive.trans_counted.Given as goal
 
 abbrev pub invariant-squares : goal.invariant-squares
@@ -11,6 +11,7 @@ invariant-squares g l = record {
   power : 2 ^ (l.steps - l.fn.steps) ≡ l.reach;
   rounds : l.steps - l.fn.steps ≤ height_of l.r.rows;
   digits : l.reach ≤ 2 * l.r.rows + 1;
+  misses : MissesNothing (g.C.Core.worker l.fn.core) (g.C.Core.worker l.core);
   room : MakesAtMost ((l.steps - l.fn.steps) * (20 * 8 ^ height_of l.r.rows)) (g.C.Core.worker l.fn.core) (g.C.Core.worker l.core);
 }
 
