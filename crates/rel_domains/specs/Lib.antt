@@ -2,4 +2,5 @@ pub mod Curve
 pub mod Rules
 pub mod Ranks
 pub mod Refusals
+pub mod Rooms
 pub mod Laws

@@ -20,6 +20,7 @@ squares-init g c =
       rounds = omega arith;
       digits = omega arith;
       misses = refl;
+      nothing = λ few. omega arith;
       room = omega arith;
     }
 
@@ -41,6 +42,13 @@ returns-in_err-square-clause-room g c =
     let a = c.in_err-square.ensures.room in
     let r = round_room d h (g.C.Core.worker c.args.core.now).made (g.C.Core.worker c.squares.core).made (g.C.Core.worker c.compose.new.self).made (g.C.Core.worker c.compose.new.self).made before (omega (arith, a, u1)) (omega arith) in
     omega (arith, r, rooms)
+
+pub returns-in_err-square-clause-nothing : goal.returns-in_err-square-clause-nothing
+returns-in_err-square-clause-nothing g c few =
+    let z = one-le-pow (c.squares.steps - c.args.steps.now) 2 (omega arith) in
+    let y = c.squares.invariant.power in
+    let under = c.squares-test.true in
+    omega (arith, z, y, under, few)
 
 pub returns-in_err-square-clause-digits : goal.returns-in_err-square-clause-digits
 returns-in_err-square-clause-digits g c =
@@ -69,6 +77,13 @@ returns-in_err-more-clause-room g c =
     let r = round_room d h (g.C.Core.worker c.args.core.now).made (g.C.Core.worker c.squares.core).made (g.C.Core.worker c.compose.new.self).made (g.C.Core.worker c.union.new.self).made before (omega (arith, a, u1)) (omega (arith, b, u2)) in
     omega (arith, r, rooms)
 
+pub returns-in_err-more-clause-nothing : goal.returns-in_err-more-clause-nothing
+returns-in_err-more-clause-nothing g c few =
+    let z = one-le-pow (c.squares.steps - c.args.steps.now) 2 (omega arith) in
+    let y = c.squares.invariant.power in
+    let under = c.squares-test.true in
+    omega (arith, z, y, under, few)
+
 pub returns-in_err-more-clause-digits : goal.returns-in_err-more-clause-digits
 returns-in_err-more-clause-digits g c =
     let under = c.squares-test.true in
@@ -95,6 +110,13 @@ returns-then-same-clause-room g c =
     let b = c.in_ok-more.ensures.room in
     let r = round_room d h (g.C.Core.worker c.args.core.now).made (g.C.Core.worker c.squares.core).made (g.C.Core.worker c.compose.new.self).made (g.C.Core.worker c.union.new.self).made before (omega (arith, a, u1)) (omega (arith, b, u2)) in
     omega (arith, r, rooms)
+
+pub returns-then-same-clause-nothing : goal.returns-then-same-clause-nothing
+returns-then-same-clause-nothing g c few =
+    let z = one-le-pow (c.squares.steps - c.args.steps.now) 2 (omega arith) in
+    let y = c.squares.invariant.power in
+    let under = c.squares-test.true in
+    omega (arith, z, y, under, few)
 
 pub returns-then-same-clause-digits : goal.returns-then-same-clause-digits
 returns-then-same-clause-digits g c =
@@ -150,6 +172,7 @@ squares-preserved g c =
       rounds = omega (arith, e, fewer);
       digits = omega (arith, under);
       misses = c.in_ok-more.ensures.cause.done ∙ (c.in_ok-square.ensures.cause.done ∙ i.misses);
+      nothing = λ few. omega (arith, some, under, few);
       room = subst (λ (x : ℕ). (g.C.Core.worker c.union.new.self).made ≤ (g.C.Core.worker c.args.core.now).made + x * (20 * 8 ^ h)) (sym e) r;
     }
 
