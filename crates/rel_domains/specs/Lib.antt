@@ -2,5 +2,4 @@ pub mod Curve
 pub mod Rules
 pub mod Ranks
 pub mod Refusals
-pub mod Rooms
 pub mod Laws

@@ -6,7 +6,7 @@ ghost use Rattle.rel_model.specs.Worker.{Gives, Keeps, MakesAtMost, derived_room
 ghost use Rattle.rel_model.specs.Domains.{HasDomainCause};
 ghost use Rattle.rel_domains.specs.Rules.{IsRule, passes};
 ghost use Rattle.rel_domains.specs.Refusals.{refusal_of};
-ghost use Rattle.rel_domains.specs.Rooms.{relation_room};
+ghost use Rattle.rel_model.specs.Roots.{relation_room};
 
 use crate::rule::Rule;
 use crate::square::relation_by;

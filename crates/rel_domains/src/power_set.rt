@@ -3,7 +3,7 @@ ghost use Rattle.std.specs.Prelude.{◌≡◌, ◌<◌, ◌≤◌, ◌^◌, IfOk
 ghost use Rattle.rel_model.specs.Relation.{size_limit};
 ghost use Rattle.rel_model.specs.Worker.{Gives, Keeps, MakesAtMost, derived_room};
 ghost use Rattle.rel_model.specs.Domains.{HasDomainCause, membership};
-ghost use Rattle.rel_domains.specs.Rooms.{relation_room};
+ghost use Rattle.rel_model.specs.Roots.{relation_room};
 
 use crate::limit::{too_large, wide};
 use crate::rule::Rule;

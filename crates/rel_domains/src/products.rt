@@ -3,7 +3,7 @@ ghost use Rattle.std.specs.Prelude.{◌≡◌, ◌<◌, ◌≤◌, ◌*◌, IfOk
 ghost use Rattle.rel_model.specs.Relation.{size_limit};
 ghost use Rattle.rel_model.specs.Worker.{Gives, Keeps, MakesAtMost, derived_room};
 ghost use Rattle.rel_model.specs.Domains.{HasDomainCause, first_projection, second_projection};
-ghost use Rattle.rel_domains.specs.Rooms.{relation_room};
+ghost use Rattle.rel_model.specs.Roots.{relation_room};
 
 use crate::limit::tall;
 use crate::rule::Rule;

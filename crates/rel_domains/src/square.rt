@@ -5,7 +5,7 @@ ghost use Rattle.rel_model.specs.Relation.{relation_of, size_limit};
 ghost use Rattle.rel_model.specs.Trees.{top_height};
 ghost use Rattle.rel_model.specs.Worker.{Gives, GivesQuad, Keeps, MakesAtMost, HasCause, operator_room};
 ghost use Rattle.rel_domains.specs.Rules.{IsRule, passes, rule_cells, window};
-ghost use Rattle.rel_domains.specs.Rooms.{relation_room, tree_room};
+ghost use Rattle.rel_model.specs.Roots.{relation_room, tree_room};
 
 use crate::heights::{depth_over, side_of};
 use crate::missing::{goes_on, misses, repeats};

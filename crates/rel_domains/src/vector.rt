@@ -5,7 +5,7 @@ ghost use Rattle.rel_model.specs.Choice.{holds, count_below, inj as inj_of};
 ghost use Rattle.rel_model.specs.Trees.{top_height};
 ghost use Rattle.rel_model.specs.Worker.{Stands, set_of, HasQuad, quad_set, Gives, GivesQuad, Keeps, MakesAtMost, MissesNothing, HasCause, derived_room};
 ghost use Rattle.rel_domains.specs.Ranks.{first_column, ranked};
-ghost use Rattle.rel_domains.specs.Rooms.{relation_room, tree_room};
+ghost use Rattle.rel_model.specs.Roots.{relation_room, tree_room};
 
 use crate::element::{count_in, ranks_in};
 use crate::heights::side_of;

@@ -7,9 +7,9 @@ ghost use Rattle.rel_model.specs.Operators.{right_residual, left_residual, symme
 ghost use Rattle.rel_model.specs.Closures.{transitive_closure, reflexive_closure};
 ghost use Rattle.rel_model.specs.Choice.{holds, count_below, point as point_of, atom as atom_of, init as init_of, next as next_of, dom as dom_of, ran as ran_of, is_unival, count as count_of, next_pair as next_pair_of, inj as inj_of};
 ghost use Rattle.rel_model.specs.Domains.{HasDomainCause, first_projection, second_projection, left_injection, right_injection, membership, pairing};
-ghost use Rattle.rel_model.specs.Roots.{height_over};
+ghost use Rattle.rel_model.specs.Roots.{height_over, relation_room};
 ghost use Rattle.rel_model.specs.Listed.{AreWithin, is_among};
-ghost use Rattle.rel_model.specs.Worker.{Stands, set_of, Gives, Keeps, MakesAtMost, MissesNothing, HasCause, listed_room, pairs_room, derived_room, wide_room};
+ghost use Rattle.rel_model.specs.Worker.{Stands, set_of, Gives, Keeps, MakesAtMost, MissesNothing, HasCause, listed_room, pairs_room, operator_room, derived_room, wide_room};
 
 use crate::faults::DomainError;
 use crate::quads_trait::Quads;
@@ -55,6 +55,7 @@ pub trait Engine: Quads {
         ensures value { IfOk result (Gives (Self.worker self.new) r.rows r.cols (transitive_closure (set_of (Self.worker self.old) r))) }
         ensures keeps { Keeps (Self.worker self.old) (Self.worker self.new) }
         ensures room { MakesAtMost (derived_room r.rows r.rows r.rows) (Self.worker self.old) (Self.worker self.new) }
+        ensures nothing { r.rows ≤ 1 → MakesAtMost 0 (Self.worker self.old) (Self.worker self.new) }
         ensures cause { HasCause Self.lean (Self.worker self.old) (Self.worker self.new) result };
 
     /// `refl(R) = R | I`: a square relation with the pairs (i, i).
@@ -64,6 +65,7 @@ pub trait Engine: Quads {
         ensures value { IfOk result (Gives (Self.worker self.new) r.rows r.cols (reflexive_closure (set_of (Self.worker self.old) r))) }
         ensures keeps { Keeps (Self.worker self.old) (Self.worker self.new) }
         ensures room { MakesAtMost (wide_room r.rows r.rows r.rows) (Self.worker self.old) (Self.worker self.new) }
+        ensures few { MakesAtMost (relation_room Self.least r.rows r.rows + operator_room r.rows r.cols) (Self.worker self.old) (Self.worker self.new) }
         ensures cause { HasCause Self.lean (Self.worker self.old) (Self.worker self.new) result };
 
     /// `I = {(i, i)}`: the identity of n elements.
@@ -72,6 +74,7 @@ pub trait Engine: Quads {
         ensures value { IfOk result (Gives (Self.worker self.new) n n (identity_of n)) }
         ensures keeps { Keeps (Self.worker self.old) (Self.worker self.new) }
         ensures room { MakesAtMost (derived_room n n n) (Self.worker self.old) (Self.worker self.new) }
+        ensures tree { MakesAtMost (relation_room Self.least n n) (Self.worker self.old) (Self.worker self.new) }
         ensures cause { HasCause Self.lean (Self.worker self.old) (Self.worker self.new) result };
 
     /// `{(i * y + j, i)}`: the projection of a product to its first factor. It is refused where the product is over the limit.
@@ -81,6 +84,7 @@ pub trait Engine: Quads {
         ensures value { IfOk result (Gives (Self.worker self.new) (x * y) x (first_projection x y)) }
         ensures keeps { Keeps (Self.worker self.old) (Self.worker self.new) }
         ensures room { MakesAtMost (derived_room (x * y) x x) (Self.worker self.old) (Self.worker self.new) }
+        ensures tree { MakesAtMost (relation_room Self.least (x * y) x) (Self.worker self.old) (Self.worker self.new) }
         ensures nothing { size_limit < x * y → MakesAtMost 0 (Self.worker self.old) (Self.worker self.new) }
         ensures cause { HasDomainCause Self.lean (x * y) (Self.worker self.old) (Self.worker self.new) result };
 
@@ -91,6 +95,7 @@ pub trait Engine: Quads {
         ensures value { IfOk result (Gives (Self.worker self.new) (x * y) y (second_projection x y)) }
         ensures keeps { Keeps (Self.worker self.old) (Self.worker self.new) }
         ensures room { MakesAtMost (derived_room (x * y) y y) (Self.worker self.old) (Self.worker self.new) }
+        ensures tree { MakesAtMost (relation_room Self.least (x * y) y) (Self.worker self.old) (Self.worker self.new) }
         ensures nothing { size_limit < x * y → MakesAtMost 0 (Self.worker self.old) (Self.worker self.new) }
         ensures cause { HasDomainCause Self.lean (x * y) (Self.worker self.old) (Self.worker self.new) result };
 
@@ -101,6 +106,7 @@ pub trait Engine: Quads {
         ensures value { IfOk result (Gives (Self.worker self.new) x (x + y) (left_injection x y)) }
         ensures keeps { Keeps (Self.worker self.old) (Self.worker self.new) }
         ensures room { MakesAtMost (derived_room x (x + y) (x + y)) (Self.worker self.old) (Self.worker self.new) }
+        ensures tree { MakesAtMost (relation_room Self.least x (x + y)) (Self.worker self.old) (Self.worker self.new) }
         ensures nothing { size_limit < x + y → MakesAtMost 0 (Self.worker self.old) (Self.worker self.new) }
         ensures cause { HasDomainCause Self.lean (x + y) (Self.worker self.old) (Self.worker self.new) result };
 
@@ -111,6 +117,7 @@ pub trait Engine: Quads {
         ensures value { IfOk result (Gives (Self.worker self.new) y (x + y) (right_injection x y)) }
         ensures keeps { Keeps (Self.worker self.old) (Self.worker self.new) }
         ensures room { MakesAtMost (derived_room y (x + y) (x + y)) (Self.worker self.old) (Self.worker self.new) }
+        ensures tree { MakesAtMost (relation_room Self.least y (x + y)) (Self.worker self.old) (Self.worker self.new) }
         ensures nothing { size_limit < x + y → MakesAtMost 0 (Self.worker self.old) (Self.worker self.new) }
         ensures cause { HasDomainCause Self.lean (x + y) (Self.worker self.old) (Self.worker self.new) result };
 
@@ -120,6 +127,7 @@ pub trait Engine: Quads {
         ensures value { IfOk result (Gives (Self.worker self.new) x (2 ^ x) (membership x)) }
         ensures keeps { Keeps (Self.worker self.old) (Self.worker self.new) }
         ensures room { MakesAtMost (derived_room x (2 ^ x) (2 ^ x)) (Self.worker self.old) (Self.worker self.new) }
+        ensures tree { MakesAtMost (relation_room Self.least x (2 ^ x)) (Self.worker self.old) (Self.worker self.new) }
         ensures nothing { size_limit < 2 ^ x → MakesAtMost 0 (Self.worker self.old) (Self.worker self.new) }
         ensures cause { HasDomainCause Self.lean (2 ^ x) (Self.worker self.old) (Self.worker self.new) result };
 
@@ -141,6 +149,7 @@ pub trait Engine: Quads {
         ensures value { IfOk result (Gives (Self.worker self.new) (count_below v.rows (holds (set_of (Self.worker self.old) v))) v.rows (inj_of (set_of (Self.worker self.old) v))) }
         ensures keeps { Keeps (Self.worker self.old) (Self.worker self.new) }
         ensures room { MakesAtMost (derived_room v.rows v.cols v.cols) (Self.worker self.old) (Self.worker self.new) }
+        ensures tree { MakesAtMost (relation_room Self.least v.rows v.cols) (Self.worker self.old) (Self.worker self.new) }
         ensures cause { HasCause Self.lean (Self.worker self.old) (Self.worker self.new) result };
 
     /// `{p : p in pairs}`: the relation of listed pairs, in any order, repeats allowed. It sorts, so memory may run out even where the worker is lean.
@@ -161,6 +170,7 @@ pub trait Engine: Quads {
         ensures value { IfOk result (Gives (Self.worker self.new) v.rows 1 (point_of (set_of (Self.worker self.old) v))) }
         ensures keeps { Keeps (Self.worker self.old) (Self.worker self.new) }
         ensures room { MakesAtMost (derived_room v.rows 1 1) (Self.worker self.old) (Self.worker self.new) }
+        ensures few { MakesAtMost (operator_room v.rows 1) (Self.worker self.old) (Self.worker self.new) }
         ensures cause { HasCause Self.lean (Self.worker self.old) (Self.worker self.new) result };
 
     /// `{(i, j) : (i, j) is the least pair of r by row and then by column}`, and the empty relation of one that has none.
@@ -169,6 +179,7 @@ pub trait Engine: Quads {
         ensures value { IfOk result (Gives (Self.worker self.new) r.rows r.cols (atom_of (set_of (Self.worker self.old) r))) }
         ensures keeps { Keeps (Self.worker self.old) (Self.worker self.new) }
         ensures room { MakesAtMost (derived_room r.rows r.cols 1) (Self.worker self.old) (Self.worker self.new) }
+        ensures few { MakesAtMost (operator_room r.rows r.cols) (Self.worker self.old) (Self.worker self.new) }
         ensures cause { HasCause Self.lean (Self.worker self.old) (Self.worker self.new) result };
 
     /// `{(0, 0)}` with the rows of v, and the empty vector where it has none.
@@ -178,6 +189,7 @@ pub trait Engine: Quads {
         ensures value { IfOk result (Gives (Self.worker self.new) v.rows 1 (init_of (set_of (Self.worker self.old) v))) }
         ensures keeps { Keeps (Self.worker self.old) (Self.worker self.new) }
         ensures room { MakesAtMost (derived_room v.rows 1 1) (Self.worker self.old) (Self.worker self.new) }
+        ensures few { MakesAtMost (operator_room v.rows 1) (Self.worker self.old) (Self.worker self.new) }
         ensures cause { HasCause Self.lean (Self.worker self.old) (Self.worker self.new) result };
 
     /// `{(i + 1, 0) : i is in v, i + 1 < rows}`: each element moved up by one, the last dropped.

@@ -1,7 +1,7 @@
 use Rattle.std.proofs.Common.{◌≡◌, ◌+◌, ap, subst, arith}
 use Rattle.rel_model.specs.Roots.{height_over}
 use Rattle.rel_domains.proofs.Ruled.{side_limit, ruled_relation, rule_room}
-use Rattle.rel_domains.specs.Rooms.{relation_room, tree_room}
+use Rattle.rel_model.specs.Roots.{relation_room, tree_room}
 use Rattle.rel_domains.proofs.square.relation_by.Goals as goal
 
 pub square-requires-clause-row : goal.square-requires-clause-row

@@ -9,7 +9,7 @@ use Rattle.rel_domains.proofs.Halves.{kept_set, root_high, root_count, ranks_hei
 use Rattle.rel_domains.proofs.Named.{rooms_derived}
 use Rattle.rel_domains.proofs.Quartering.{gives_set, gives_has}
 use Rattle.rel_domains.proofs.Ruled.{side_limit, rule_room}
-use Rattle.rel_domains.specs.Rooms.{relation_room, tree_room}
+use Rattle.rel_model.specs.Roots.{relation_room, tree_room}
 use Rattle.rel_domains.proofs.vector.inj.Goals as goal
 
 pub ranks-requires-clause-row : goal.ranks-requires-clause-row
