@@ -1,4 +1,5 @@
 pub mod Halving
+pub mod Finding
 pub mod Squaring
 pub mod Looking
 pub mod Filling

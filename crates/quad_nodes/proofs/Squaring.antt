@@ -1,16 +1,17 @@
 -- Cells and rectangles of a square, by its quarters.
 use Rattle.std.proofs.Common.{◌≡◌, ◌<◌, ◌≤◌, ◌+◌, ◌-◌, ◌⊎◌, min, ltb, cond, suc, ℕ, Bool, true, false, Result, Ok, Err, IfOk, refl, sym, ap, subst, ◌∙◌, inl, inr, arith}
-use Rattle.std.proofs.lemmas.Bool.{cases_Bool, cases_lt, ltb-true, ltb-false, lt-ltb, le-ltb, and_left, and_right}
+use Rattle.std.proofs.lemmas.Bool.{cases_Bool, cases_lt, ltb-true, ltb-false, lt-ltb, le-ltb, and_left, and_right, and_parts}
 use Rattle.rel_model.specs.declared.Quad.{Quad}
 use Rattle.rel_model.specs.Cells.{Cells, no_cells, cells_rect}
 use Rattle.rel_model.specs.Trees.{bottom_height, top_height, cells, stands, twice, side, quartered, paired}
 use Rattle.rel_model.specs.Equations.{depth_of, side_of}
 use Rattle.rel_model.specs.Quads.{Work, IsWork, quad_cells, QuadStands, IsQuad, KeepsWork}
-use Rattle.rel_model.proofs.TreeLaws.{same_cells}
+use Rattle.rel_model.proofs.TreeLaws.{same_cells, Within}
 use Rattle.rel_model.proofs.Squares.{is_square-twice, rows_at-twice, cols_at-twice}
 use Rattle.rel_model.proofs.QuadLaws.{depth_of-next, side_of-next, is_quad-stays, empty_quad}
 use Rattle.quad_nodes.specs.Halves.{AreBeside}
 use Rattle.quad_nodes.proofs.Halving.{Halve, halves_stand}
+use Rattle.quad_nodes.proofs.Finding.{QuartersStood, quarters_stood}
 
 -- ---- a cell by its quarter
 row_half : (d : ℕ) (f g : Cells) (i j : ℕ) → paired (suc (twice d)) f g i j ≡ cond (ltb i (side d)) (f i j) (g (i - side d) j)
@@ -163,3 +164,32 @@ beside_each m v w h rows cols left p q e k s t =
 
 pub beside_again : (w : Work) (h rows r cols : ℕ) (p : Quad × Quad) → rows ≡ r → AreBeside w h rows cols p → AreBeside w h r cols p
 beside_again w h rows r cols p e a = subst (λ (x : ℕ). AreBeside w h x cols p) e a
+
+-- ---- rectangles that stand
+-- a rectangle lies within the sizes that bound it
+pub rect_within : (m rows cols : ℕ) → rows ≤ m → cols ≤ m → Within m m (cells_rect rows cols)
+rect_within m rows cols a b = record {
+  row = λ i j e. let x : i < rows = ltb-true i rows (and_parts (ltb i rows) (ltb j cols) e).0 in omega arith;
+  col = λ i j e. let x : j < cols = ltb-true j cols (and_parts (ltb i rows) (ltb j cols) e).1 in omega arith;
+}
+
+-- its quarters stand, of a height over that of blocks
+pub rect_stood : (w : Work) (h rows cols top : ℕ) (q : Quad) → IsWork w → bottom_height < h → rows ≤ side_of h → cols ≤ side_of h → top ≡ min rows (side_of (h - 1)) → IsQuad w h (cells_rect rows cols) q
+    → QuartersStood w (h - 1) q (cells_rect top (min cols (side_of (h - 1)))) (cells_rect top (cols - side_of (h - 1))) (cells_rect (rows - top) (min cols (side_of (h - 1)))) (cells_rect (rows - top) (cols - side_of (h - 1)))
+rect_stood w h rows cols top q i l a b et s =
+    let m : ℕ = side_of (h - 1) in
+    let e : side_of h ≡ m + m = side_of-next h l in
+    let one : h ≡ h - 1 + 1 = omega arith in
+    let down : rows - m ≡ rows - top = omega arith in
+    let same : cells_rect rows cols ≡ quartered m (cells_rect top (min cols m)) (cells_rect top (cols - m)) (cells_rect (rows - top) (min cols m)) (cells_rect (rows - top) (cols - m)) =
+    cells_rect-quartered m rows cols
+    ∙ ap (λ (x : ℕ). quartered m (cells_rect x (min cols m)) (cells_rect x (cols - m)) (cells_rect (rows - m) (min cols m)) (cells_rect (rows - m) (cols - m))) (sym et)
+    ∙ ap (λ (x : ℕ). quartered m (cells_rect top (min cols m)) (cells_rect top (cols - m)) (cells_rect x (min cols m)) (cells_rect x (cols - m))) down in
+    quarters_stood w (h - 1) q _ _ _ _ i (omega arith)
+    (record {
+      nw = rect_within m top (min cols m) (omega arith) (omega arith);
+      ne = rect_within m top (cols - m) (omega arith) (omega (arith, e));
+      sw = rect_within m (rows - top) (min cols m) (omega (arith, e)) (omega arith);
+      se = rect_within m (rows - top) (cols - m) (omega (arith, e)) (omega (arith, e));
+    })
+    (record { same_height = s.same_height ∙ one; stands = s.stands; means = s.means ∙ same })

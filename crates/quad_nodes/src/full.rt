@@ -12,6 +12,7 @@ impl<'t> Nodes<'t> {
     pub fn is_full(&mut self, q: Quad) -> bool
         requires stands { QuadStands self.old q }
         ensures full { result ≡ true → quad_cells self.old q ≡ cells_rect (side_of q.height) (side_of q.height) }
+        ensures only_full { quad_cells self.old q ≡ cells_rect (side_of q.height) (side_of q.height) → result ≡ true }
         ensures reads { ReadsWork self.old self.new }
     {
         if q.height == self.bottom() {

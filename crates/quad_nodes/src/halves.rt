@@ -4,6 +4,7 @@ ghost use Rattle.rel_model.specs.Trees.{stands};
 ghost use Rattle.rel_model.specs.Views.{IsKnown};
 ghost use Rattle.rel_model.specs.Quads.{Work, KeepsWork, ReadsWork, Counts};
 ghost use Rattle.quad_nodes.specs.Halves.{AreHalves, IsPaired};
+ghost use Rattle.quad_nodes.specs.Finding.{FindsPair};
 
 use crate::nodes::Nodes;
 use pair_table::Missed;
@@ -28,6 +29,7 @@ impl<'t> Nodes<'t> {
         requires right_in { IsKnown self.old.view right }
         ensures value { IfOk result (IsPaired self.old self.new left right) }
         ensures nothing { left ≡ 0 → right ≡ 0 → result ≡ Ok 0 }
+        ensures stood { FindsPair self.old self.new left right result }
         ensures keeps { KeepsWork 1 self.old self.new }
         ensures counts { Counts self.old self.new result }
     {

@@ -4,6 +4,7 @@ ghost use Rattle.rel_model.specs.Cells.{block_cells};
 ghost use Rattle.rel_model.specs.Trees.{bottom_height, top_height, quartered};
 ghost use Rattle.rel_model.specs.Equations.{side_of};
 ghost use Rattle.rel_model.specs.Quads.{Work, IsWork, QuadStands, IsQuad, quad_cells, AreQuarters, KeepsWork, ReadsWork, Counts};
+ghost use Rattle.quad_nodes.specs.Finding.{FindsQuad};
 
 use crate::nodes::Nodes;
 use pair_table::Missed;
@@ -71,6 +72,7 @@ impl<'t> Nodes<'t> {
         requires below { nw.height < top_height }
         ensures value { IfOk result (IsQuad self.new (nw.height + 1) (quartered (side_of nw.height) (quad_cells self.old nw) (quad_cells self.old ne) (quad_cells self.old sw) (quad_cells self.old se))) }
         ensures nothing { nw.name ≡ 0 → ne.name ≡ 0 → sw.name ≡ 0 → se.name ≡ 0 → result ≡ Ok (record { height = nw.height + 1; name = 0 }) }
+        ensures stood { FindsQuad self.old self.new (nw.height + 1) (quartered (side_of nw.height) (quad_cells self.old nw) (quad_cells self.old ne) (quad_cells self.old sw) (quad_cells self.old se)) result }
         ensures keeps { KeepsWork 3 self.old self.new }
         ensures counts { Counts self.old self.new result }
     {
@@ -102,6 +104,7 @@ impl<'t> Nodes<'t> {
     pub fn block(&mut self, bits: u64) -> Result<Quad, Missed>
         ensures value { IfOk result (IsQuad self.new bottom_height (block_cells bits)) }
         ensures nothing { bits ≡ 0 → result ≡ Ok (record { height = bottom_height; name = 0 }) }
+        ensures stood { FindsQuad self.old self.new bottom_height (block_cells bits) result }
         ensures keeps { KeepsWork 1 self.old self.new }
         ensures counts { Counts self.old self.new result }
     {

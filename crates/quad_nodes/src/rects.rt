@@ -1,10 +1,11 @@
 //! Rectangles: the first rows and columns of a square.
-ghost use Rattle.std.specs.Prelude.{◌≡◌, ◌≢◌, ◌<◌, ◌≤◌, ◌+◌, IfOk};
+ghost use Rattle.std.specs.Prelude.{◌≡◌, ◌≢◌, ◌⊎◌, ◌<◌, ◌≤◌, ◌+◌, ◌-◌, min, IfOk, Ok};
 ghost use Rattle.rel_model.specs.Cells.{cells_rect};
 ghost use Rattle.rel_model.specs.Trees.{bottom_height, top_height};
 ghost use Rattle.rel_model.specs.Equations.{side_of};
 ghost use Rattle.rel_model.specs.Quads.{Work, IsQuad, KeepsWork, Counts, quad_room};
 ghost use Rattle.quad_nodes.specs.Halves.{AreBeside};
+ghost use Rattle.quad_nodes.specs.Finding.{FindsQuad, FindsBoth};
 
 use crate::nodes::Nodes;
 use crate::sides::side_of_height;
@@ -13,7 +14,7 @@ use pair_table::Missed;
 use rel_model::Quad;
 
 impl<'t> Nodes<'t> {
-    /// Cell (i, j) where i < rows and j < cols, in the square of a height.
+    /// Cell (i, j) where i < rows and j < cols, in the square of a height; of no row or no column it is the quad with no cell, whatever the table has room for.
     ///
     /// Equal quarters are made once, so the full square takes two words for each height.
     #[cycle(rects)]
@@ -23,6 +24,8 @@ impl<'t> Nodes<'t> {
         requires row { rows ≤ side_of height }
         requires col { cols ≤ side_of height }
         ensures value { IfOk result (IsQuad self.new height (cells_rect rows cols)) }
+        ensures nothing { (rows ≡ 0) ⊎ (cols ≡ 0) → result ≡ Ok (record { height = height; name = 0 }) }
+        ensures stood { FindsQuad self.old self.new height (cells_rect rows cols) result }
         ensures keeps { KeepsWork (quad_room height) self.old self.new }
         ensures counts { Counts self.old self.new result }
     {
@@ -50,6 +53,7 @@ impl<'t> Nodes<'t> {
         requires row { rows ≤ side_of height }
         requires col { cols ≤ side_of height + side_of height }
         ensures value { IfOk result (AreBeside self.new height rows cols) }
+        ensures stood { FindsBoth self.old self.new height (cells_rect rows (min cols (side_of height))) (cells_rect rows (cols - side_of height)) result }
         ensures keeps { KeepsWork (quad_room height + quad_room height) self.old self.new }
         ensures counts { Counts self.old self.new result }
     {

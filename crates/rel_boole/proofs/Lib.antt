@@ -1,3 +1,4 @@
 pub mod Cutting
 pub mod Combining
 pub mod Filled
+pub mod Finding

@@ -2,6 +2,7 @@
 ghost use Rattle.std.specs.Prelude.{◌≡◌, ◌<◌, IfOk};
 ghost use Rattle.rel_model.specs.Trees.{bottom_height};
 ghost use Rattle.rel_model.specs.Quads.{Work, QuadStands, IsQuad, quad_cells, KeepsWork, Counts, quad_room};
+ghost use Rattle.quad_nodes.specs.Finding.{FindsQuad};
 ghost use Rattle.rel_boole.specs.Cellwise.{cells_by};
 
 use crate::cuts::{cut_off, in_order};
@@ -26,6 +27,7 @@ pub fn combined(nodes: &mut Nodes, op: Boole, a: Quad, b: Quad) -> Result<Quad, 
     requires b_stands { QuadStands nodes.old b }
     requires one_height { b.height ≡ a.height }
     ensures value { IfOk result (IsQuad nodes.new a.height (cells_by op (quad_cells nodes.old a) (quad_cells nodes.old b))) }
+    ensures stood { FindsQuad nodes.old nodes.new a.height (cells_by op (quad_cells nodes.old a) (quad_cells nodes.old b)) result }
     ensures keeps { KeepsWork (quad_room a.height) nodes.old nodes.new }
     ensures counts { Counts nodes.old nodes.new result }
 {
@@ -48,6 +50,7 @@ fn combined_over(nodes: &mut Nodes, op: Boole, a: Quad, b: Quad) -> Result<Quad,
     requires one_height { b.height ≡ a.height }
     requires over { bottom_height < a.height }
     ensures value { IfOk result (IsQuad nodes.new a.height (cells_by op (quad_cells nodes.old a) (quad_cells nodes.old b))) }
+    ensures stood { FindsQuad nodes.old nodes.new a.height (cells_by op (quad_cells nodes.old a) (quad_cells nodes.old b)) result }
     ensures keeps { KeepsWork (quad_room a.height) nodes.old nodes.new }
     ensures counts { Counts nodes.old nodes.new result }
 {

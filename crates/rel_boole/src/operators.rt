@@ -2,6 +2,7 @@
 ghost use Rattle.std.specs.Prelude.{◌≡◌, IfOk};
 ghost use Rattle.rel_model.specs.Cells.{cells_union, cells_inter, cells_diff};
 ghost use Rattle.rel_model.specs.Quads.{Work, QuadStands, IsQuad, quad_cells, KeepsWork, Counts, quad_room};
+ghost use Rattle.quad_nodes.specs.Finding.{FindsQuad};
 
 use crate::boole::{Boole, combined};
 use pair_table::Missed;
@@ -14,6 +15,7 @@ pub fn union_quads(nodes: &mut Nodes, a: Quad, b: Quad) -> Result<Quad, Missed>
     requires b_stands { QuadStands nodes.old b }
     requires one_height { b.height ≡ a.height }
     ensures value { IfOk result (IsQuad nodes.new a.height (cells_union (quad_cells nodes.old a) (quad_cells nodes.old b))) }
+    ensures stood { FindsQuad nodes.old nodes.new a.height (cells_union (quad_cells nodes.old a) (quad_cells nodes.old b)) result }
     ensures keeps { KeepsWork (quad_room a.height) nodes.old nodes.new }
     ensures counts { Counts nodes.old nodes.new result }
 {
@@ -26,6 +28,7 @@ pub fn inter_quads(nodes: &mut Nodes, a: Quad, b: Quad) -> Result<Quad, Missed>
     requires b_stands { QuadStands nodes.old b }
     requires one_height { b.height ≡ a.height }
     ensures value { IfOk result (IsQuad nodes.new a.height (cells_inter (quad_cells nodes.old a) (quad_cells nodes.old b))) }
+    ensures stood { FindsQuad nodes.old nodes.new a.height (cells_inter (quad_cells nodes.old a) (quad_cells nodes.old b)) result }
     ensures keeps { KeepsWork (quad_room a.height) nodes.old nodes.new }
     ensures counts { Counts nodes.old nodes.new result }
 {
@@ -38,6 +41,7 @@ pub fn diff_quads(nodes: &mut Nodes, a: Quad, b: Quad) -> Result<Quad, Missed>
     requires b_stands { QuadStands nodes.old b }
     requires one_height { b.height ≡ a.height }
     ensures value { IfOk result (IsQuad nodes.new a.height (cells_diff (quad_cells nodes.old a) (quad_cells nodes.old b))) }
+    ensures stood { FindsQuad nodes.old nodes.new a.height (cells_diff (quad_cells nodes.old a) (quad_cells nodes.old b)) result }
     ensures keeps { KeepsWork (quad_room a.height) nodes.old nodes.new }
     ensures counts { Counts nodes.old nodes.new result }
 {

@@ -1,2 +1,3 @@
 pub mod Transposing
 pub mod Multiplying
+pub mod Finding

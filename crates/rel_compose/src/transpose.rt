@@ -3,6 +3,7 @@ ghost use Rattle.std.specs.Prelude.{◌≡◌, ◌<◌, IfOk};
 ghost use Rattle.rel_model.specs.Cells.{cells_transpose};
 ghost use Rattle.rel_model.specs.Trees.{bottom_height};
 ghost use Rattle.rel_model.specs.Quads.{Work, QuadStands, IsQuad, quad_cells, KeepsWork, Counts, quad_room};
+ghost use Rattle.quad_nodes.specs.Finding.{FindsQuad};
 
 use leaf_block::block_transpose;
 use memo_laws::Op;
@@ -15,6 +16,7 @@ use rel_model::Quad;
 pub fn transpose_quad(nodes: &mut Nodes, a: Quad) -> Result<Quad, Missed>
     requires stands { QuadStands nodes.old a }
     ensures value { IfOk result (IsQuad nodes.new a.height (cells_transpose (quad_cells nodes.old a))) }
+    ensures stood { FindsQuad nodes.old nodes.new a.height (cells_transpose (quad_cells nodes.old a)) result }
     ensures keeps { KeepsWork (quad_room a.height) nodes.old nodes.new }
     ensures counts { Counts nodes.old nodes.new result }
 {
@@ -38,6 +40,7 @@ fn transposed_over(nodes: &mut Nodes, a: Quad) -> Result<Quad, Missed>
     requires stands { QuadStands nodes.old a }
     requires over { bottom_height < a.height }
     ensures value { IfOk result (IsQuad nodes.new a.height (cells_transpose (quad_cells nodes.old a))) }
+    ensures stood { FindsQuad nodes.old nodes.new a.height (cells_transpose (quad_cells nodes.old a)) result }
     ensures keeps { KeepsWork (quad_room a.height) nodes.old nodes.new }
     ensures counts { Counts nodes.old nodes.new result }
 {

@@ -1,6 +1,10 @@
-use Rattle.std.proofs.Common.{◌≤◌, ◌+◌, ◌-◌, ℕ, Ok, arith}
-use Rattle.rel_model.specs.Quads.{quad_room}
-use Rattle.rel_model.proofs.QuadLaws.{keeps_on, keeps_most, quad_stays, is_quad-stays, rooms-next, room-some, room_below}
+use Rattle.std.proofs.Common.{◌≡◌, ◌≤◌, ◌+◌, ◌-◌, ℕ, Ok, refl, arith}
+use Rattle.rel_model.proofs.QuadLaws.{keeps_on, keeps_most, quad_stays, is_quad-stays, rooms-next, room-some, room_below, reads_itself, reads_on}
+use Rattle.rel_model.specs.Quads.{quad_room, quad_cells}
+use Rattle.quad_nodes.proofs.Finding.{not_missed, found_is, found_later, found_after, the_answer, four_found}
+use Rattle.rel_boole.specs.Cellwise.{cells_by}
+use Rattle.rel_boole.proofs.Cutting.{ordered}
+use Rattle.rel_boole.proofs.Finding.{results_stood, quarter_found, value_as}
 use Rattle.rel_boole.proofs.Combining.{combined_value, as_equation}
 use Rattle.rel_boole.proofs.boole.+combining.Goals as goal
 
@@ -291,3 +295,169 @@ combined_over-returns-clause-value t c =
     c.requires.a_stands c.requires.b_stands c.requires.one_height c.found_before.ensures.reads.keeps q c.quarters_of_both.ensures.second c.in_ok-nw.ensures.keeps c.in_ok-ne.ensures.keeps c.in_ok-sw.ensures.keeps c.in_ok-se.ensures.keeps
     c.in_ok-nw.ensures.value c.in_ok-ne.ensures.value c.in_ok-sw.ensures.value c.in_ok-se.ensures.value c.in_ok-found.ensures.value in
     is_quad-stays 0 s7 c.note.new.self c.args.a.height _ c.in_ok-found.found c.note.ensures.reads.keeps v
+
+-- ---- what stood is found
+pub combined-returns-in-Some-clause-stood : goal.combined-returns-in-Some-clause-stood
+combined-returns-in-Some-clause-stood t c q s =
+    let w = c.args.nodes.now in
+    let i = c.bottom-bottom.ensures.work in
+    found_is w w c.args.a.height (cells_by c.args.op (quad_cells w c.args.a) (quad_cells w c.args.b)) c.in-Some.found (reads_itself w i) (c.in-Some.ensures w i c.requires.a_stands c.requires.b_stands c.requires.one_height) q s
+
+pub combined-returns-clause-value : goal.combined-returns-clause-value
+combined-returns-clause-value t c =
+    let w = c.args.nodes.now in
+    let o = ordered w c.args.op c.args.a c.args.b c.in_order.result c.requires.a_stands c.requires.b_stands c.requires.one_height c.in_order.ensures in
+    value_as c.combined_over.new.nodes c.in_order.result.0.height c.args.a.height _ (cells_by c.args.op (quad_cells w c.args.a) (quad_cells w c.args.b)) c.combined_over.result o.first_height o.same c.combined_over.ensures.value
+
+pub combined-returns-clause-stood : goal.combined-returns-clause-stood
+combined-returns-clause-stood t c q s =
+    let w = c.args.nodes.now in
+    let o = ordered w c.args.op c.args.a c.args.b c.in_order.result c.requires.a_stands c.requires.b_stands c.requires.one_height c.in_order.ensures in
+    found_later w w c.combined_over.new.nodes c.in_order.result.0.height c.args.a.height _ (cells_by c.args.op (quad_cells w c.args.a) (quad_cells w c.args.b)) c.combined_over.result (reads_itself w c.bottom-bottom.ensures.work) o.first_height o.same c.combined_over.ensures.stood q s
+
+pub combined_over-returns-in-Some-clause-stood : goal.combined_over-returns-in-Some-clause-stood
+combined_over-returns-in-Some-clause-stood t c q s =
+    let w = c.args.nodes.now in
+    found_is w c.found_before.new.nodes c.args.a.height (cells_by c.args.op (quad_cells w c.args.a) (quad_cells w c.args.b)) c.in-Some.found c.in-Some.ensures.reads c.in-Some.ensures.found q s
+
+pub combined_over-returns-in_err-nw-clause-stood : goal.combined_over-returns-in_err-nw-clause-stood
+combined_over-returns-in_err-nw-clause-stood t c q s =
+    let s0 = c.args.nodes.now in
+    let s1 = c.found_before.new.nodes in
+    let s2 = c.quarters_of_both.new.self in
+    let s3 = c.combined.new.nodes in
+    let fa = c.quarters_of_both.result.0 in
+    let fb = c.quarters_of_both.result.1 in
+    let qa = c.quarters_of_both.ensures.first in
+    let qb = c.quarters_of_both.ensures.second in
+    let h : ℕ = c.quarters_of_both.result.0.0.height in
+    let op = c.args.op in
+    let d = results_stood op s0 s1 s2 c.args.a c.args.b q fa fb c.requires.a_stands c.requires.b_stands c.requires.one_height c.found_before.ensures.reads c.quarters_of_both.ensures.reads qa qb s in
+    let k = reads_itself s2 c.quarters_of_both.ensures.reads.keeps.after in
+    let x0 = quarter_found op s2 s2 s3 h fa.0 fb.0 _ _ refl qa.nw qb.nw k d.nw_is c.in_err-nw.ensures.stood in
+    absurd (not_missed s2 s3 _ _ x0)
+
+pub combined_over-returns-in_err-ne-clause-stood : goal.combined_over-returns-in_err-ne-clause-stood
+combined_over-returns-in_err-ne-clause-stood t c q s =
+    let s0 = c.args.nodes.now in
+    let s1 = c.found_before.new.nodes in
+    let s2 = c.quarters_of_both.new.self in
+    let s3 = c.combined.new.nodes in
+    let fa = c.quarters_of_both.result.0 in
+    let fb = c.quarters_of_both.result.1 in
+    let qa = c.quarters_of_both.ensures.first in
+    let qb = c.quarters_of_both.ensures.second in
+    let h : ℕ = c.quarters_of_both.result.0.0.height in
+    let op = c.args.op in
+    let d = results_stood op s0 s1 s2 c.args.a c.args.b q fa fb c.requires.a_stands c.requires.b_stands c.requires.one_height c.found_before.ensures.reads c.quarters_of_both.ensures.reads qa qb s in
+    let k = reads_itself s2 c.quarters_of_both.ensures.reads.keeps.after in
+    let x0 = quarter_found op s2 s2 s3 h fa.0 fb.0 _ _ refl qa.nw qb.nw k d.nw_is c.in_ok-nw.ensures.stood in
+    let s4 = c.combined-2.new.nodes in
+    let e1 : c.quarters_of_both.result.0.1.height ≡ h = (let x = qa.nw_height in let y = qa.ne_height in omega arith) in
+    let x1 = quarter_found op s2 s3 s4 h fa.1 fb.1 _ _ e1 qa.ne qb.ne x0.reads d.ne_is c.in_err-ne.ensures.stood in
+    absurd (not_missed s2 s4 _ _ x1)
+
+pub combined_over-returns-in_err-sw-clause-stood : goal.combined_over-returns-in_err-sw-clause-stood
+combined_over-returns-in_err-sw-clause-stood t c q s =
+    let s0 = c.args.nodes.now in
+    let s1 = c.found_before.new.nodes in
+    let s2 = c.quarters_of_both.new.self in
+    let s3 = c.combined.new.nodes in
+    let fa = c.quarters_of_both.result.0 in
+    let fb = c.quarters_of_both.result.1 in
+    let qa = c.quarters_of_both.ensures.first in
+    let qb = c.quarters_of_both.ensures.second in
+    let h : ℕ = c.quarters_of_both.result.0.0.height in
+    let op = c.args.op in
+    let d = results_stood op s0 s1 s2 c.args.a c.args.b q fa fb c.requires.a_stands c.requires.b_stands c.requires.one_height c.found_before.ensures.reads c.quarters_of_both.ensures.reads qa qb s in
+    let k = reads_itself s2 c.quarters_of_both.ensures.reads.keeps.after in
+    let x0 = quarter_found op s2 s2 s3 h fa.0 fb.0 _ _ refl qa.nw qb.nw k d.nw_is c.in_ok-nw.ensures.stood in
+    let s4 = c.combined-2.new.nodes in
+    let e1 : c.quarters_of_both.result.0.1.height ≡ h = (let x = qa.nw_height in let y = qa.ne_height in omega arith) in
+    let x1 = quarter_found op s2 s3 s4 h fa.1 fb.1 _ _ e1 qa.ne qb.ne x0.reads d.ne_is c.in_ok-ne.ensures.stood in
+    let s5 = c.combined-3.new.nodes in
+    let e2 : c.quarters_of_both.result.0.2.height ≡ h = (let x = qa.nw_height in let y = qa.sw_height in omega arith) in
+    let x2 = quarter_found op s2 s4 s5 h fa.2 fb.2 _ _ e2 qa.sw qb.sw x1.reads d.sw_is c.in_err-sw.ensures.stood in
+    absurd (not_missed s2 s5 _ _ x2)
+
+pub combined_over-returns-in_err-se-clause-stood : goal.combined_over-returns-in_err-se-clause-stood
+combined_over-returns-in_err-se-clause-stood t c q s =
+    let s0 = c.args.nodes.now in
+    let s1 = c.found_before.new.nodes in
+    let s2 = c.quarters_of_both.new.self in
+    let s3 = c.combined.new.nodes in
+    let fa = c.quarters_of_both.result.0 in
+    let fb = c.quarters_of_both.result.1 in
+    let qa = c.quarters_of_both.ensures.first in
+    let qb = c.quarters_of_both.ensures.second in
+    let h : ℕ = c.quarters_of_both.result.0.0.height in
+    let op = c.args.op in
+    let d = results_stood op s0 s1 s2 c.args.a c.args.b q fa fb c.requires.a_stands c.requires.b_stands c.requires.one_height c.found_before.ensures.reads c.quarters_of_both.ensures.reads qa qb s in
+    let k = reads_itself s2 c.quarters_of_both.ensures.reads.keeps.after in
+    let x0 = quarter_found op s2 s2 s3 h fa.0 fb.0 _ _ refl qa.nw qb.nw k d.nw_is c.in_ok-nw.ensures.stood in
+    let s4 = c.combined-2.new.nodes in
+    let e1 : c.quarters_of_both.result.0.1.height ≡ h = (let x = qa.nw_height in let y = qa.ne_height in omega arith) in
+    let x1 = quarter_found op s2 s3 s4 h fa.1 fb.1 _ _ e1 qa.ne qb.ne x0.reads d.ne_is c.in_ok-ne.ensures.stood in
+    let s5 = c.combined-3.new.nodes in
+    let e2 : c.quarters_of_both.result.0.2.height ≡ h = (let x = qa.nw_height in let y = qa.sw_height in omega arith) in
+    let x2 = quarter_found op s2 s4 s5 h fa.2 fb.2 _ _ e2 qa.sw qb.sw x1.reads d.sw_is c.in_ok-sw.ensures.stood in
+    let s6 = c.combined-4.new.nodes in
+    let e3 : c.quarters_of_both.result.0.3.height ≡ h = (let x = qa.nw_height in let y = qa.se_height in omega arith) in
+    let x3 = quarter_found op s2 s5 s6 h fa.3 fb.3 _ _ e3 qa.se qb.se x2.reads d.se_is c.in_err-se.ensures.stood in
+    absurd (not_missed s2 s6 _ _ x3)
+
+pub combined_over-returns-in_err-found-clause-stood : goal.combined_over-returns-in_err-found-clause-stood
+combined_over-returns-in_err-found-clause-stood t c q s =
+    let s0 = c.args.nodes.now in
+    let s1 = c.found_before.new.nodes in
+    let s2 = c.quarters_of_both.new.self in
+    let s3 = c.combined.new.nodes in
+    let fa = c.quarters_of_both.result.0 in
+    let fb = c.quarters_of_both.result.1 in
+    let qa = c.quarters_of_both.ensures.first in
+    let qb = c.quarters_of_both.ensures.second in
+    let h : ℕ = c.quarters_of_both.result.0.0.height in
+    let op = c.args.op in
+    let d = results_stood op s0 s1 s2 c.args.a c.args.b q fa fb c.requires.a_stands c.requires.b_stands c.requires.one_height c.found_before.ensures.reads c.quarters_of_both.ensures.reads qa qb s in
+    let k = reads_itself s2 c.quarters_of_both.ensures.reads.keeps.after in
+    let x0 = quarter_found op s2 s2 s3 h fa.0 fb.0 _ _ refl qa.nw qb.nw k d.nw_is c.in_ok-nw.ensures.stood in
+    let s4 = c.combined-2.new.nodes in
+    let e1 : c.quarters_of_both.result.0.1.height ≡ h = (let x = qa.nw_height in let y = qa.ne_height in omega arith) in
+    let x1 = quarter_found op s2 s3 s4 h fa.1 fb.1 _ _ e1 qa.ne qb.ne x0.reads d.ne_is c.in_ok-ne.ensures.stood in
+    let s5 = c.combined-3.new.nodes in
+    let e2 : c.quarters_of_both.result.0.2.height ≡ h = (let x = qa.nw_height in let y = qa.sw_height in omega arith) in
+    let x2 = quarter_found op s2 s4 s5 h fa.2 fb.2 _ _ e2 qa.sw qb.sw x1.reads d.sw_is c.in_ok-sw.ensures.stood in
+    let s6 = c.combined-4.new.nodes in
+    let e3 : c.quarters_of_both.result.0.3.height ≡ h = (let x = qa.nw_height in let y = qa.se_height in omega arith) in
+    let x3 = quarter_found op s2 s5 s6 h fa.3 fb.3 _ _ e3 qa.se qb.se x2.reads d.se_is c.in_ok-se.ensures.stood in
+    let s7 = c.corner.new.self in
+    let z = four_found s2 s6 s7 h _ _ _ _ q c.in_ok-nw.nw c.in_ok-ne.ne c.in_ok-sw.sw c.in_ok-se.se _ d x3.reads (the_answer s2 s3 _ _ x0) (the_answer s2 s4 _ _ x1) (the_answer s2 s5 _ _ x2) (the_answer s2 s6 _ _ x3) c.in_err-found.ensures.stood in
+    absurd (not_missed s2 s7 _ q z)
+
+pub combined_over-returns-clause-stood : goal.combined_over-returns-clause-stood
+combined_over-returns-clause-stood t c q s =
+    let s0 = c.args.nodes.now in
+    let s1 = c.found_before.new.nodes in
+    let s2 = c.quarters_of_both.new.self in
+    let s3 = c.combined.new.nodes in
+    let fa = c.quarters_of_both.result.0 in
+    let fb = c.quarters_of_both.result.1 in
+    let qa = c.quarters_of_both.ensures.first in
+    let qb = c.quarters_of_both.ensures.second in
+    let h : ℕ = c.quarters_of_both.result.0.0.height in
+    let op = c.args.op in
+    let d = results_stood op s0 s1 s2 c.args.a c.args.b q fa fb c.requires.a_stands c.requires.b_stands c.requires.one_height c.found_before.ensures.reads c.quarters_of_both.ensures.reads qa qb s in
+    let k = reads_itself s2 c.quarters_of_both.ensures.reads.keeps.after in
+    let x0 = quarter_found op s2 s2 s3 h fa.0 fb.0 _ _ refl qa.nw qb.nw k d.nw_is c.in_ok-nw.ensures.stood in
+    let s4 = c.combined-2.new.nodes in
+    let e1 : c.quarters_of_both.result.0.1.height ≡ h = (let x = qa.nw_height in let y = qa.ne_height in omega arith) in
+    let x1 = quarter_found op s2 s3 s4 h fa.1 fb.1 _ _ e1 qa.ne qb.ne x0.reads d.ne_is c.in_ok-ne.ensures.stood in
+    let s5 = c.combined-3.new.nodes in
+    let e2 : c.quarters_of_both.result.0.2.height ≡ h = (let x = qa.nw_height in let y = qa.sw_height in omega arith) in
+    let x2 = quarter_found op s2 s4 s5 h fa.2 fb.2 _ _ e2 qa.sw qb.sw x1.reads d.sw_is c.in_ok-sw.ensures.stood in
+    let s6 = c.combined-4.new.nodes in
+    let e3 : c.quarters_of_both.result.0.3.height ≡ h = (let x = qa.nw_height in let y = qa.se_height in omega arith) in
+    let x3 = quarter_found op s2 s5 s6 h fa.3 fb.3 _ _ e3 qa.se qb.se x2.reads d.se_is c.in_ok-se.ensures.stood in
+    let s7 = c.corner.new.self in
+    let z = four_found s2 s6 s7 h _ _ _ _ q c.in_ok-nw.nw c.in_ok-ne.ne c.in_ok-sw.sw c.in_ok-se.se _ d x3.reads (the_answer s2 s3 _ _ x0) (the_answer s2 s4 _ _ x1) (the_answer s2 s5 _ _ x2) (the_answer s2 s6 _ _ x3) c.in_ok-found.ensures.stood in
+    found_after s0 s2 s7 c.note.new.self q c.in_ok-found.found (reads_on s0 s1 s2 c.found_before.ensures.reads c.quarters_of_both.ensures.reads) z c.note.ensures.reads

@@ -1,6 +1,8 @@
-use Rattle.std.proofs.Common.{◌≤◌, ◌+◌, ◌-◌, ℕ, Ok, arith}
+use Rattle.std.proofs.Common.{◌≡◌, ◌∙◌, refl, sym, ◌≤◌, ◌+◌, ◌-◌, ℕ, Ok, arith}
 use Rattle.rel_model.specs.Quads.{compose_room}
-use Rattle.rel_model.proofs.QuadLaws.{keeps_on, keeps_most, quad_stays, is_quad-stays}
+use Rattle.rel_model.proofs.QuadLaws.{keeps_on, keeps_most, quad_stays, is_quad-stays, reads_itself}
+use Rattle.std.proofs.lemmas.Bool.{false≢true}
+use Rattle.rel_compose.proofs.Finding.{full_again, full_block_found}
 use Rattle.rel_model.proofs.Rooms.{compose_room-next}
 use Rattle.rel_compose.specs.Products.{quarter_room}
 use Rattle.rel_compose.proofs.Multiplying.{composed_none-left, composed_none-right, both_stay, both_at, product_value, products_value, squares, squares-stay, composed_value, composed_now, composed_after, row_below}
@@ -224,3 +226,20 @@ composed_over-returns-clause-value t c =
     c.requires.over c.requires.a_stands c.requires.b_stands c.requires.one_height c.look.ensures.reads.keeps q c.quarters_of_both.ensures.second c.in_ok-nw.ensures.keeps c.in_ok-sw.ensures.keeps
     c.in_ok-nw.ensures.value c.in_ok-sw.ensures.value c.in_ok-found.ensures.value in
     is_quad-stays 0 s5 s6 c.args.a.height _ c.in_ok-found.found c.note.ensures.reads.keeps v
+
+-- ---- full operands
+pub compose_quads-returns-then-a-eq0-clause-full : goal.compose_quads-returns-then-a-eq0-clause-full
+compose_quads-returns-then-a-eq0-clause-full t c e f = record { answer = refl; reads = reads_itself c.args.nodes.now c.bottom-bottom.ensures.work }
+
+pub compose_quads-returns-then-b-eq0-clause-full : goal.compose_quads-returns-then-b-eq0-clause-full
+compose_quads-returns-then-b-eq0-clause-full t c e f = full_again c.args.nodes.now c.args.a c.args.b c.bottom-bottom.ensures.work c.requires.a_stands c.requires.b_stands c.requires.one_height e f
+
+pub compose_quads-returns-then-a-bottom-clause-full : goal.compose_quads-returns-then-a-bottom-clause-full
+compose_quads-returns-then-a-bottom-clause-full t c e f =
+    full_block_found c.args.nodes.now c.leaf.new.nodes c.args.a c.args.b c.leaf.result c.bottom-bottom.ensures.work c.requires.a_stands c.requires.b_stands c.requires.one_height (c.if-a-bottom.true ∙ c.bottom-bottom.ensures.height) e f c.leaf.ensures.stood
+
+pub compose_quads-returns-then-both_full-clause-full : goal.compose_quads-returns-then-both_full-clause-full
+compose_quads-returns-then-both_full-clause-full t c e f = record { answer = refl; reads = c.both_full.ensures.reads }
+
+pub compose_quads-returns-clause-full : goal.compose_quads-returns-clause-full
+compose_quads-returns-clause-full t c e f = absurd (false≢true (sym c.if-both_full.false ∙ c.both_full.ensures.only_full e f))

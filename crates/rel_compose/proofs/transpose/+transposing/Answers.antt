@@ -1,6 +1,9 @@
-use Rattle.std.proofs.Common.{◌≤◌, ◌+◌, ◌-◌, ℕ, Ok, arith}
-use Rattle.rel_model.specs.Quads.{quad_room}
-use Rattle.rel_model.proofs.QuadLaws.{keeps_on, keeps_most, quad_stays, is_quad-stays, rooms-next, room-some, room_below}
+use Rattle.std.proofs.Common.{◌≡◌, ◌≤◌, ◌+◌, ◌-◌, ℕ, Ok, refl, ◌∙◌, arith}
+use Rattle.rel_model.specs.Cells.{Cells, cells_transpose}
+use Rattle.rel_model.specs.Quads.{quad_room, quad_cells}
+use Rattle.rel_model.proofs.QuadLaws.{keeps_on, keeps_most, quad_stays, is_quad-stays, rooms-next, room-some, room_below, reads_itself, reads_on}
+use Rattle.quad_nodes.proofs.Finding.{not_missed, found_is, found_after, the_answer, four_found}
+use Rattle.rel_compose.proofs.Finding.{turned_stood, turned_found, turned_block, turned_later}
 use Rattle.rel_compose.proofs.Transposing.{none_stands, transposed_none, transposed_full, transposed_after, transposed_value, transposed_now}
 use Rattle.rel_compose.proofs.transpose.+transposing.Goals as goal
 
@@ -304,3 +307,152 @@ transposed_over-returns-clause-value t c =
     c.requires.stands c.look.ensures.reads.keeps q c.in_ok-nw.ensures.keeps c.in_ok-ne.ensures.keeps c.in_ok-sw.ensures.keeps c.in_ok-se.ensures.keeps
     c.in_ok-nw.ensures.value c.in_ok-ne.ensures.value c.in_ok-sw.ensures.value c.in_ok-se.ensures.value c.in_ok-found.ensures.value in
     is_quad-stays 0 s7 c.note.new.self c.args.a.height _ c.in_ok-found.found c.note.ensures.reads.keeps v
+
+-- ---- what stood is found
+pub transpose_quad-returns-then-a-eq0-clause-stood : goal.transpose_quad-returns-then-a-eq0-clause-stood
+transpose_quad-returns-then-a-eq0-clause-stood t c q s =
+    let w = c.args.nodes.now in
+    let i = c.bottom-bottom.ensures.work in
+    found_is w w c.args.a.height (cells_transpose (quad_cells w c.args.a)) c.args.a (reads_itself w i) (transposed_none w c.args.a i c.requires.stands c.if-a-eq0.true) q s
+
+pub transpose_quad-returns-then-a-bottom-clause-stood : goal.transpose_quad-returns-then-a-bottom-clause-stood
+transpose_quad-returns-then-a-bottom-clause-stood t c q s =
+    turned_block c.args.nodes.now c.bits-bits.new.self c.block.new.self c.args.a c.bits-bits.result c.block_transpose.result c.block.result (c.if-a-bottom.true ∙ c.bottom-bottom.ensures.height) c.bits-bits.ensures.reads c.bits-bits.ensures.cells c.block_transpose.ensures c.block.ensures.stood q s
+
+pub transpose_quad-returns-then-is_full-clause-stood : goal.transpose_quad-returns-then-is_full-clause-stood
+transpose_quad-returns-then-is_full-clause-stood t c q s =
+    let w = c.args.nodes.now in
+    let u = c.is_full.new.self in
+    found_is w u c.args.a.height (cells_transpose (quad_cells w c.args.a)) c.args.a c.is_full.ensures.reads (transposed_full w u c.args.a c.is_full.ensures.reads c.requires.stands (c.is_full.ensures.full c.if-is_full.true)) q s
+
+pub transpose_quad-returns-clause-stood : goal.transpose_quad-returns-clause-stood
+transpose_quad-returns-clause-stood t c q s = turned_later c.args.nodes.now c.is_full.new.self c.transposed_over.new.nodes c.args.a c.transposed_over.result c.requires.stands c.is_full.ensures.reads c.transposed_over.ensures.stood q s
+
+pub transposed_over-returns-in-Some-clause-stood : goal.transposed_over-returns-in-Some-clause-stood
+transposed_over-returns-in-Some-clause-stood t c q s =
+    let w = c.args.nodes.now in
+    found_is w c.look.new.self c.args.a.height (cells_transpose (quad_cells w c.args.a)) c.in-Some.found c.in-Some.ensures.reads c.in-Some.ensures.found q s
+
+pub transposed_over-returns-in_err-nw-clause-stood : goal.transposed_over-returns-in_err-nw-clause-stood
+transposed_over-returns-in_err-nw-clause-stood t c q s =
+    let s0 = c.args.nodes.now in
+    let s1 = c.look.new.self in
+    let s2 = c.quarters.new.self in
+    let s3 = c.transpose_quad.new.nodes in
+    let four = c.quarters.result in
+    let qa = c.quarters.ensures.quarters in
+    let h : ℕ = c.quarters.result.0.height in
+    let d = turned_stood s0 s1 s2 c.args.a q four c.requires.stands c.look.ensures.reads c.quarters.ensures.reads qa s in
+    let k = reads_itself s2 c.quarters.ensures.reads.keeps.after in
+    let x0 = turned_found s2 s2 s3 h four.0 _ _ refl qa.nw k d.nw_is c.in_err-nw.ensures.stood in
+    absurd (not_missed s2 s3 _ _ x0)
+
+pub transposed_over-returns-in_err-ne-clause-stood : goal.transposed_over-returns-in_err-ne-clause-stood
+transposed_over-returns-in_err-ne-clause-stood t c q s =
+    let s0 = c.args.nodes.now in
+    let s1 = c.look.new.self in
+    let s2 = c.quarters.new.self in
+    let s3 = c.transpose_quad.new.nodes in
+    let four = c.quarters.result in
+    let qa = c.quarters.ensures.quarters in
+    let h : ℕ = c.quarters.result.0.height in
+    let d = turned_stood s0 s1 s2 c.args.a q four c.requires.stands c.look.ensures.reads c.quarters.ensures.reads qa s in
+    let k = reads_itself s2 c.quarters.ensures.reads.keeps.after in
+    let x0 = turned_found s2 s2 s3 h four.0 _ _ refl qa.nw k d.nw_is c.in_ok-nw.ensures.stood in
+    let s4 = c.transpose_quad-2.new.nodes in
+    let e1 : c.quarters.result.2.height ≡ h = (let x = qa.nw_height in let y = qa.sw_height in omega arith) in
+    let x1 = turned_found s2 s3 s4 h four.2 _ _ e1 qa.sw x0.reads d.ne_is c.in_err-ne.ensures.stood in
+    absurd (not_missed s2 s4 _ _ x1)
+
+pub transposed_over-returns-in_err-sw-clause-stood : goal.transposed_over-returns-in_err-sw-clause-stood
+transposed_over-returns-in_err-sw-clause-stood t c q s =
+    let s0 = c.args.nodes.now in
+    let s1 = c.look.new.self in
+    let s2 = c.quarters.new.self in
+    let s3 = c.transpose_quad.new.nodes in
+    let four = c.quarters.result in
+    let qa = c.quarters.ensures.quarters in
+    let h : ℕ = c.quarters.result.0.height in
+    let d = turned_stood s0 s1 s2 c.args.a q four c.requires.stands c.look.ensures.reads c.quarters.ensures.reads qa s in
+    let k = reads_itself s2 c.quarters.ensures.reads.keeps.after in
+    let x0 = turned_found s2 s2 s3 h four.0 _ _ refl qa.nw k d.nw_is c.in_ok-nw.ensures.stood in
+    let s4 = c.transpose_quad-2.new.nodes in
+    let e1 : c.quarters.result.2.height ≡ h = (let x = qa.nw_height in let y = qa.sw_height in omega arith) in
+    let x1 = turned_found s2 s3 s4 h four.2 _ _ e1 qa.sw x0.reads d.ne_is c.in_ok-ne.ensures.stood in
+    let s5 = c.transpose_quad-3.new.nodes in
+    let e2 : c.quarters.result.1.height ≡ h = (let x = qa.nw_height in let y = qa.ne_height in omega arith) in
+    let x2 = turned_found s2 s4 s5 h four.1 _ _ e2 qa.ne x1.reads d.sw_is c.in_err-sw.ensures.stood in
+    absurd (not_missed s2 s5 _ _ x2)
+
+pub transposed_over-returns-in_err-se-clause-stood : goal.transposed_over-returns-in_err-se-clause-stood
+transposed_over-returns-in_err-se-clause-stood t c q s =
+    let s0 = c.args.nodes.now in
+    let s1 = c.look.new.self in
+    let s2 = c.quarters.new.self in
+    let s3 = c.transpose_quad.new.nodes in
+    let four = c.quarters.result in
+    let qa = c.quarters.ensures.quarters in
+    let h : ℕ = c.quarters.result.0.height in
+    let d = turned_stood s0 s1 s2 c.args.a q four c.requires.stands c.look.ensures.reads c.quarters.ensures.reads qa s in
+    let k = reads_itself s2 c.quarters.ensures.reads.keeps.after in
+    let x0 = turned_found s2 s2 s3 h four.0 _ _ refl qa.nw k d.nw_is c.in_ok-nw.ensures.stood in
+    let s4 = c.transpose_quad-2.new.nodes in
+    let e1 : c.quarters.result.2.height ≡ h = (let x = qa.nw_height in let y = qa.sw_height in omega arith) in
+    let x1 = turned_found s2 s3 s4 h four.2 _ _ e1 qa.sw x0.reads d.ne_is c.in_ok-ne.ensures.stood in
+    let s5 = c.transpose_quad-3.new.nodes in
+    let e2 : c.quarters.result.1.height ≡ h = (let x = qa.nw_height in let y = qa.ne_height in omega arith) in
+    let x2 = turned_found s2 s4 s5 h four.1 _ _ e2 qa.ne x1.reads d.sw_is c.in_ok-sw.ensures.stood in
+    let s6 = c.transpose_quad-4.new.nodes in
+    let e3 : c.quarters.result.3.height ≡ h = (let x = qa.nw_height in let y = qa.se_height in omega arith) in
+    let x3 = turned_found s2 s5 s6 h four.3 _ _ e3 qa.se x2.reads d.se_is c.in_err-se.ensures.stood in
+    absurd (not_missed s2 s6 _ _ x3)
+
+pub transposed_over-returns-in_err-found-clause-stood : goal.transposed_over-returns-in_err-found-clause-stood
+transposed_over-returns-in_err-found-clause-stood t c q s =
+    let s0 = c.args.nodes.now in
+    let s1 = c.look.new.self in
+    let s2 = c.quarters.new.self in
+    let s3 = c.transpose_quad.new.nodes in
+    let four = c.quarters.result in
+    let qa = c.quarters.ensures.quarters in
+    let h : ℕ = c.quarters.result.0.height in
+    let d = turned_stood s0 s1 s2 c.args.a q four c.requires.stands c.look.ensures.reads c.quarters.ensures.reads qa s in
+    let k = reads_itself s2 c.quarters.ensures.reads.keeps.after in
+    let x0 = turned_found s2 s2 s3 h four.0 _ _ refl qa.nw k d.nw_is c.in_ok-nw.ensures.stood in
+    let s4 = c.transpose_quad-2.new.nodes in
+    let e1 : c.quarters.result.2.height ≡ h = (let x = qa.nw_height in let y = qa.sw_height in omega arith) in
+    let x1 = turned_found s2 s3 s4 h four.2 _ _ e1 qa.sw x0.reads d.ne_is c.in_ok-ne.ensures.stood in
+    let s5 = c.transpose_quad-3.new.nodes in
+    let e2 : c.quarters.result.1.height ≡ h = (let x = qa.nw_height in let y = qa.ne_height in omega arith) in
+    let x2 = turned_found s2 s4 s5 h four.1 _ _ e2 qa.ne x1.reads d.sw_is c.in_ok-sw.ensures.stood in
+    let s6 = c.transpose_quad-4.new.nodes in
+    let e3 : c.quarters.result.3.height ≡ h = (let x = qa.nw_height in let y = qa.se_height in omega arith) in
+    let x3 = turned_found s2 s5 s6 h four.3 _ _ e3 qa.se x2.reads d.se_is c.in_ok-se.ensures.stood in
+    let s7 = c.corner.new.self in
+    let z = four_found s2 s6 s7 h _ _ _ _ q c.in_ok-nw.nw c.in_ok-ne.ne c.in_ok-sw.sw c.in_ok-se.se _ d x3.reads (the_answer s2 s3 _ _ x0) (the_answer s2 s4 _ _ x1) (the_answer s2 s5 _ _ x2) (the_answer s2 s6 _ _ x3) c.in_err-found.ensures.stood in
+    absurd (not_missed s2 s7 _ q z)
+
+pub transposed_over-returns-clause-stood : goal.transposed_over-returns-clause-stood
+transposed_over-returns-clause-stood t c q s =
+    let s0 = c.args.nodes.now in
+    let s1 = c.look.new.self in
+    let s2 = c.quarters.new.self in
+    let s3 = c.transpose_quad.new.nodes in
+    let four = c.quarters.result in
+    let qa = c.quarters.ensures.quarters in
+    let h : ℕ = c.quarters.result.0.height in
+    let d = turned_stood s0 s1 s2 c.args.a q four c.requires.stands c.look.ensures.reads c.quarters.ensures.reads qa s in
+    let k = reads_itself s2 c.quarters.ensures.reads.keeps.after in
+    let x0 = turned_found s2 s2 s3 h four.0 _ _ refl qa.nw k d.nw_is c.in_ok-nw.ensures.stood in
+    let s4 = c.transpose_quad-2.new.nodes in
+    let e1 : c.quarters.result.2.height ≡ h = (let x = qa.nw_height in let y = qa.sw_height in omega arith) in
+    let x1 = turned_found s2 s3 s4 h four.2 _ _ e1 qa.sw x0.reads d.ne_is c.in_ok-ne.ensures.stood in
+    let s5 = c.transpose_quad-3.new.nodes in
+    let e2 : c.quarters.result.1.height ≡ h = (let x = qa.nw_height in let y = qa.ne_height in omega arith) in
+    let x2 = turned_found s2 s4 s5 h four.1 _ _ e2 qa.ne x1.reads d.sw_is c.in_ok-sw.ensures.stood in
+    let s6 = c.transpose_quad-4.new.nodes in
+    let e3 : c.quarters.result.3.height ≡ h = (let x = qa.nw_height in let y = qa.se_height in omega arith) in
+    let x3 = turned_found s2 s5 s6 h four.3 _ _ e3 qa.se x2.reads d.se_is c.in_ok-se.ensures.stood in
+    let s7 = c.corner.new.self in
+    let z = four_found s2 s6 s7 h _ _ _ _ q c.in_ok-nw.nw c.in_ok-ne.ne c.in_ok-sw.sw c.in_ok-se.se _ d x3.reads (the_answer s2 s3 _ _ x0) (the_answer s2 s4 _ _ x1) (the_answer s2 s5 _ _ x2) (the_answer s2 s6 _ _ x3) c.in_ok-found.ensures.stood in
+    found_after s0 s2 s7 c.note.new.self q c.in_ok-found.found (reads_on s0 s1 s2 c.look.ensures.reads c.quarters.ensures.reads) z c.note.ensures.reads

@@ -1,9 +1,12 @@
-use Rattle.std.proofs.Common.{◌≡◌, ◌<◌, ◌≤◌, ◌+◌, ◌-◌, ◌⊎◌, min, ℕ, inl, inr, arith}
+use Rattle.std.proofs.Common.{◌≡◌, ◌<◌, ◌≤◌, ◌+◌, ◌-◌, ◌⊎◌, ◌∙◌, min, ℕ, ap, sym, subst, inl, inr, arith}
 use Rattle.rel_model.specs.Trees.{bottom_height}
 use Rattle.rel_model.specs.Equations.{side_of}
-use Rattle.rel_model.specs.Quads.{quad_room}
-use Rattle.rel_model.proofs.QuadLaws.{keeps_on, keeps_most, keeps_itself, quad_stays, side_of-next, rooms-next, room-some}
-use Rattle.quad_nodes.proofs.Squaring.{rect_none, rect_corner, beside_each, beside_again}
+use Rattle.rel_model.specs.declared.Quad.{Quad}
+use Rattle.rel_model.specs.Cells.{cells_rect}
+use Rattle.rel_model.specs.Quads.{quad_room, IsQuad}
+use Rattle.rel_model.proofs.QuadLaws.{keeps_on, keeps_most, keeps_itself, quad_stays, side_of-next, rooms-next, room-some, reads_itself, reads_on, is_quad-stays}
+use Rattle.quad_nodes.proofs.Squaring.{rect_none, rect_corner, beside_each, beside_again, rect_stood}
+use Rattle.quad_nodes.proofs.Finding.{not_missed, found_is, one_quad, the_answer, four_found, both_found}
 use Rattle.quad_nodes.proofs.nodes.Nodes.+rects.Goals as goal
 use Rattle.quad_nodes.proofs.nodes.Nodes.+rects.Goals.{rect-then-rows-eq0-via-then-rows-eq0, rect-then-rows-eq0-via-else-rows-eq0+then-cols-eq0}
 
@@ -83,3 +86,119 @@ pub rects_beside-returns-clause-value : goal.rects_beside-returns-clause-value
 rects_beside-returns-clause-value t c =
     let left : c.min-left.result ≡ min c.args.cols (side_of c.args.height) = omega arith in
     beside_each _ c.rect.new.self c.rect-2.new.self c.args.height c.args.rows c.args.cols c.min-left.result c.in_ok-west.west c.in_ok-east.east left c.in_ok-east.ensures.keeps c.in_ok-west.ensures.value c.in_ok-east.ensures.value
+
+pub rect-returns-then-rows-eq0-clause-stood : goal.rect-returns-then-rows-eq0-clause-stood
+rect-returns-then-rows-eq0-clause-stood t c q s =
+    let w = c.args.self.now in
+    let i = c.bottom-bottom.ensures.work in
+    let z : (c.args.rows ≡ 0) ⊎ (c.args.cols ≡ 0) = elim c.then-rows-eq0.branch [ rect-then-rows-eq0-via-then-rows-eq0 w ↦ inl w.if-rows-eq0.true | rect-then-rows-eq0-via-else-rows-eq0+then-cols-eq0 w ↦ inr w.if-cols-eq0.true ] in
+    let n : Quad = record { height = c.args.height; name = 0 } in
+    found_is w w c.args.height (cells_rect c.args.rows c.args.cols) n (reads_itself w i) (rect_none w c.args.height c.args.rows c.args.cols i c.requires.low c.requires.high z) q s
+
+pub rect-returns-in_err-nw-clause-stood : goal.rect-returns-in_err-nw-clause-stood
+rect-returns-in_err-nw-clause-stood t c q s =
+    let w = c.args.self.now in
+    let h : ℕ = c.args.height in
+    let rows : ℕ = c.args.rows in
+    let cols : ℕ = c.args.cols in
+    let top : ℕ = c.min-top.result in
+    let over : bottom_height < c.args.height = (let e = c.bottom-bottom.ensures.height in let l = c.requires.low in let n = c.if-height-bottom.false in omega arith) in
+    let et : c.min-top.result ≡ min c.args.rows (side_of (c.args.height - 1)) = omega arith in
+    let d = rect_stood w h rows cols top q c.bottom-bottom.ensures.work over c.requires.row c.requires.col et s in
+    let s1 = c.rects_beside.new.self in
+    absurd (not_missed w s1 _ _ (c.in_err-nw.ensures.stood _ _ d.nw_is d.ne_is))
+
+pub rect-returns-then-rows-top-clause-stood : goal.rect-returns-then-rows-top-clause-stood
+rect-returns-then-rows-top-clause-stood t c q s =
+    let w = c.args.self.now in
+    let h : ℕ = c.args.height in
+    let rows : ℕ = c.args.rows in
+    let cols : ℕ = c.args.cols in
+    let top : ℕ = c.min-top.result in
+    let over : bottom_height < c.args.height = (let e = c.bottom-bottom.ensures.height in let l = c.requires.low in let n = c.if-height-bottom.false in omega arith) in
+    let et : c.min-top.result ≡ min c.args.rows (side_of (c.args.height - 1)) = omega arith in
+    let d = rect_stood w h rows cols top q c.bottom-bottom.ensures.work over c.requires.row c.requires.col et s in
+    let s1 = c.rects_beside.new.self in
+    let nw = c.in_ok-nw.nw in
+    let ne = c.in_ok-nw.ne in
+    let f = c.in_ok-nw.ensures.stood _ _ d.nw_is d.ne_is in
+    let a = the_answer w s1 _ _ f in
+    let e0 = ap (λ (x : Quad × Quad). x.0) a in
+    let e1 = ap (λ (x : Quad × Quad). x.1) a in
+    let same : c.min-top.result ≡ c.args.rows - c.min-top.result = omega arith in
+    let i = c.bottom-bottom.ensures.work in
+    let west : Quad = record { height = h - 1; name = d.nw } in
+    let east : Quad = record { height = h - 1; name = d.ne } in
+    let x = one_quad w (h - 1) _ west _ i (subst (λ (n : ℕ). IsQuad w (h - 1) (cells_rect n (min cols (side_of (h - 1)))) west) same d.nw_is) d.sw_is in
+    let y = one_quad w (h - 1) _ east _ i (subst (λ (n : ℕ). IsQuad w (h - 1) (cells_rect n (cols - side_of (h - 1))) east) same d.ne_is) d.se_is in
+    four_found w s1 c.corner.new.self (h - 1) _ _ _ _ q nw ne nw ne _ d f.reads e0 e1 (e0 ∙ x) (e1 ∙ y) c.corner.ensures.stood
+
+pub rect-returns-in_err-sw-clause-stood : goal.rect-returns-in_err-sw-clause-stood
+rect-returns-in_err-sw-clause-stood t c q s =
+    let w = c.args.self.now in
+    let h : ℕ = c.args.height in
+    let rows : ℕ = c.args.rows in
+    let cols : ℕ = c.args.cols in
+    let top : ℕ = c.min-top.result in
+    let over : bottom_height < c.args.height = (let e = c.bottom-bottom.ensures.height in let l = c.requires.low in let n = c.if-height-bottom.false in omega arith) in
+    let et : c.min-top.result ≡ min c.args.rows (side_of (c.args.height - 1)) = omega arith in
+    let d = rect_stood w h rows cols top q c.bottom-bottom.ensures.work over c.requires.row c.requires.col et s in
+    let s1 = c.rects_beside.new.self in
+    let nw = c.in_ok-nw.nw in
+    let ne = c.in_ok-nw.ne in
+    let f = c.in_ok-nw.ensures.stood _ _ d.nw_is d.ne_is in
+    let a = the_answer w s1 _ _ f in
+    let e0 = ap (λ (x : Quad × Quad). x.0) a in
+    let e1 = ap (λ (x : Quad × Quad). x.1) a in
+    let s2 = c.rects_beside-2.new.self in
+    let south = is_quad-stays 0 w s1 (h - 1) _ _ f.reads.keeps d.sw_is in
+    let east = is_quad-stays 0 w s1 (h - 1) _ _ f.reads.keeps d.se_is in
+    absurd (not_missed s1 s2 _ _ (c.in_err-sw.ensures.stood _ _ south east))
+
+pub rect-returns-clause-stood : goal.rect-returns-clause-stood
+rect-returns-clause-stood t c q s =
+    let w = c.args.self.now in
+    let h : ℕ = c.args.height in
+    let rows : ℕ = c.args.rows in
+    let cols : ℕ = c.args.cols in
+    let top : ℕ = c.min-top.result in
+    let over : bottom_height < c.args.height = (let e = c.bottom-bottom.ensures.height in let l = c.requires.low in let n = c.if-height-bottom.false in omega arith) in
+    let et : c.min-top.result ≡ min c.args.rows (side_of (c.args.height - 1)) = omega arith in
+    let d = rect_stood w h rows cols top q c.bottom-bottom.ensures.work over c.requires.row c.requires.col et s in
+    let s1 = c.rects_beside.new.self in
+    let nw = c.in_ok-nw.nw in
+    let ne = c.in_ok-nw.ne in
+    let f = c.in_ok-nw.ensures.stood _ _ d.nw_is d.ne_is in
+    let a = the_answer w s1 _ _ f in
+    let e0 = ap (λ (x : Quad × Quad). x.0) a in
+    let e1 = ap (λ (x : Quad × Quad). x.1) a in
+    let s2 = c.rects_beside-2.new.self in
+    let south = is_quad-stays 0 w s1 (h - 1) _ _ f.reads.keeps d.sw_is in
+    let east = is_quad-stays 0 w s1 (h - 1) _ _ f.reads.keeps d.se_is in
+    let g = c.in_ok-sw.ensures.stood _ _ south east in
+    let b = the_answer s1 s2 _ _ g in
+    let e2 = ap (λ (x : Quad × Quad). x.0) b in
+    let e3 = ap (λ (x : Quad × Quad). x.1) b in
+    four_found w s2 c.corner-2.new.self (h - 1) _ _ _ _ q nw ne c.in_ok-sw.sw c.in_ok-sw.se _ d (reads_on w s1 s2 f.reads g.reads) e0 e1 e2 e3 c.corner-2.ensures.stood
+
+pub rects_beside-returns-in_err-east-clause-stood : goal.rects_beside-returns-in_err-east-clause-stood
+rects_beside-returns-in_err-east-clause-stood t c p q s u =
+    let w = c.args.self.now in
+    let s1 = c.rect.new.self in
+    let s2 = c.rect-2.new.self in
+    let left : min c.args.cols (side_of c.args.height) ≡ c.min-left.result = omega arith in
+    let f = c.in_ok-west.ensures.stood p (subst (λ (x : ℕ). IsQuad w c.args.height (cells_rect c.args.rows x) p) left s) in
+    let right : c.args.cols - side_of c.args.height ≡ c.args.cols - c.min-left.result = omega arith in
+    let g = c.in_err-east.ensures.stood q (is_quad-stays 0 w s1 c.args.height _ q f.reads.keeps (subst (λ (x : ℕ). IsQuad w c.args.height (cells_rect c.args.rows x) q) right u)) in
+    absurd (not_missed s1 s2 _ q g)
+
+pub rects_beside-returns-clause-stood : goal.rects_beside-returns-clause-stood
+rects_beside-returns-clause-stood t c p q s u =
+    let w = c.args.self.now in
+    let s1 = c.rect.new.self in
+    let s2 = c.rect-2.new.self in
+    let left : min c.args.cols (side_of c.args.height) ≡ c.min-left.result = omega arith in
+    let f = c.in_ok-west.ensures.stood p (subst (λ (x : ℕ). IsQuad w c.args.height (cells_rect c.args.rows x) p) left s) in
+    let right : c.args.cols - side_of c.args.height ≡ c.args.cols - c.min-left.result = omega arith in
+    let g = c.in_ok-east.ensures.stood q (is_quad-stays 0 w s1 c.args.height _ q f.reads.keeps (subst (λ (x : ℕ). IsQuad w c.args.height (cells_rect c.args.rows x) q) right u)) in
+    both_found w s1 s2 p q c.in_ok-west.west c.in_ok-east.east f g
