@@ -1,10 +1,9 @@
 //! Relations from listed pairs.
-ghost use Rattle.std.specs.Prelude.{◌≡◌, ◌==◌, ◌&&◌, ◌+◌, ◌≤◌, length, IfOk, IfErr, OnOk};
+ghost use Rattle.std.specs.Prelude.{◌≡◌, ◌==◌, ◌&&◌, ◌+◌, ◌≤◌, length, false, IfOk, OnOk};
 ghost use Rattle.std.specs.List.{list_any};
 ghost use Rattle.rel_model.specs.Relation.{relation_of, size_limit};
 ghost use Rattle.rel_model.specs.State.{lists};
-ghost use Rattle.rel_model.specs.declared.Lack.TheVariants.{Full};
-ghost use Rattle.rel_model.specs.Worker.{Keeps, MakesAtMost, Gives, Rose, pairs_room};
+ghost use Rattle.rel_model.specs.Worker.{Keeps, MakesAtMost, Gives, HasCause, pairs_room};
 ghost use Rattle.rel_model.specs.Cost.{listed_count};
 ghost use Rattle.rel_model.specs.Listed.{AreWithin};
 ghost use Rattle.relview.specs.Listed.{Extends, IsListed};
@@ -72,7 +71,7 @@ pub fn listed<E: Engine>(
     ensures value { IfOk result (Gives (E.worker engine.new) shape.rows shape.cols (relation_of shape.rows shape.cols (lists list.now))) }
     ensures keeps { Keeps (E.worker engine.old) (E.worker engine.new) }
     ensures room { MakesAtMost (pairs_room (listed_count list.now) shape.rows shape.cols) (E.worker engine.old) (E.worker engine.new) }
-    ensures full { IfErr result (λ e. e ≡ Full → Rose (E.worker engine.old).misses (E.worker engine.new).misses) }
+    ensures cause { HasCause false (E.worker engine.old) (E.worker engine.new) result }
 {
     let pairs = listed_pairs(alloc, shape, list)?;
     match engine.from_pairs(alloc, shape, pairs.as_slice()) {
