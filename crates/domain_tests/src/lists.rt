@@ -3,7 +3,7 @@
 
 ghost use Rattle.std.specs.Prelude.{◌≤◌};
 ghost use Rattle.rel_model.specs.Relation.{size_limit};
-ghost use Rattle.rel_model.specs.Listed.{IsWithin};
+ghost use Rattle.rel_model.specs.Listed.{AreWithin};
 ghost use Rattle.rel_model.specs.Worker.{Keeps};
 
 use crate::made::{is_given, is_made, of_pairs, table};
@@ -23,7 +23,7 @@ fn within(
     cols: u32,
     pairs: &[(u32, u32)],
 ) -> Vec<(u32, u32)>
-    ensures { IsWithin rows cols result.items }
+    ensures { AreWithin rows cols result.items }
 {
     let mut list = Vec::new(alloc);
     'pairs: for (i, j) in pairs {

@@ -2,7 +2,7 @@
 #![tactic(auto, using(rel_model::proofs::Workers::keeps_stands, rel_model::proofs::Workers::keeps_trans, rel_model::proofs::Workers::gives_stands))]
 
 ghost use Rattle.std.specs.Prelude.{◌≡◌, ◌<◌, ◌≤◌, IsTrue};
-ghost use Rattle.rel_model.specs.Listed.{IsWithin};
+ghost use Rattle.rel_model.specs.Listed.{AreWithin};
 ghost use Rattle.rel_model.specs.Relation.{size_limit};
 ghost use Rattle.rel_model.specs.Views.{IsOf};
 ghost use Rattle.rel_model.specs.Worker.{Stands, Keeps};
@@ -30,7 +30,7 @@ fn table(rt: &impl Abort, alloc: Global) -> (PairTable, Seat)
 
 /// Whether all pairs lie within the sizes.
 fn lie_within(pairs: &[(u32, u32)], shape: Shape) -> bool
-    ensures { IsTrue result → IsWithin shape.rows shape.cols pairs.now }
+    ensures { IsTrue result → AreWithin shape.rows shape.cols pairs.now }
 {
     'pairs: for pair in pairs {
         if pair.0 >= shape.rows || pair.1 >= shape.cols {

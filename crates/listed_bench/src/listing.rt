@@ -1,6 +1,6 @@
 //! The pairs of a REL.
 ghost use Rattle.std.specs.Prelude.{IfOk};
-ghost use Rattle.rel_model.specs.Listed.{IsWithin};
+ghost use Rattle.rel_model.specs.Listed.{AreWithin};
 
 use rel_model::Shape;
 use rel_model::syntax::Row;
@@ -13,8 +13,8 @@ fn push_listed(
     row: u64,
     col: u64,
 ) -> Result<(), AllocError>
-    requires { IsWithin shape.rows shape.cols pairs.old.items }
-    ensures { IsWithin shape.rows shape.cols pairs.new.items }
+    requires { AreWithin shape.rows shape.cols pairs.old.items }
+    ensures { AreWithin shape.rows shape.cols pairs.new.items }
 {
     if row >= 1 && row <= shape.rows as u64 && col >= 1 && col <= shape.cols as u64 {
         pairs.push(((row - 1) as u32, (col - 1) as u32))?;
@@ -24,8 +24,8 @@ fn push_listed(
 
 /// Adds the pairs of a listed row.
 fn push_row(pairs: &mut Vec<(u32, u32)>, shape: Shape, row: &Row) -> Result<(), AllocError>
-    requires { IsWithin shape.rows shape.cols pairs.old.items }
-    ensures { IsWithin shape.rows shape.cols pairs.new.items }
+    requires { AreWithin shape.rows shape.cols pairs.old.items }
+    ensures { AreWithin shape.rows shape.cols pairs.new.items }
 {
     'columns: for column in row.cols.as_slice() {
         push_listed(pairs, shape, row.row, column.col)?;
@@ -39,7 +39,7 @@ pub fn listed_pairs(
     shape: Shape,
     list: &[Row],
 ) -> Result<Vec<(u32, u32)>, AllocError>
-    ensures { IfOk result (λ v. IsWithin shape.rows shape.cols v.items) }
+    ensures { IfOk result (λ v. AreWithin shape.rows shape.cols v.items) }
 {
     let mut pairs = Vec::new(alloc);
     'rows: for row in list {

@@ -1,7 +1,7 @@
 //! The choice of an element or a pair, and the first element.
 ghost use Rattle.std.specs.Prelude.{◌≡◌, IfOk};
 ghost use Rattle.rel_model.specs.Choice.{point as point_of, atom as atom_of, init as init_of};
-ghost use Rattle.rel_model.specs.Worker.{Stands, set_of, Keeps, MakesAtMost, Gives, HasCause, derived_room};
+ghost use Rattle.rel_model.specs.Worker.{Stands, set_of, Keeps, MakesAtMost, Gives, HasCause, operator_room, derived_room};
 
 use crate::walking::next_pair;
 use rel_model::quads_trait::Quads;
@@ -14,6 +14,7 @@ pub fn point<Q: Quads>(q: &mut Q, v: Rel) -> Result<Rel, Lack>
     ensures value { IfOk result (Gives (Q.worker q.new) v.rows 1 (point_of (set_of (Q.worker q.old) v))) }
     ensures keeps { Keeps (Q.worker q.old) (Q.worker q.new) }
     ensures room { MakesAtMost (derived_room v.rows 1 1) (Q.worker q.old) (Q.worker q.new) }
+    ensures few { MakesAtMost (operator_room v.rows 1) (Q.worker q.old) (Q.worker q.new) }
     ensures cause { HasCause Q.lean (Q.worker q.old) (Q.worker q.new) result }
 {
     atom(q, v)
@@ -25,6 +26,7 @@ pub fn atom<Q: Quads>(q: &mut Q, r: Rel) -> Result<Rel, Lack>
     ensures value { IfOk result (Gives (Q.worker q.new) r.rows r.cols (atom_of (set_of (Q.worker q.old) r))) }
     ensures keeps { Keeps (Q.worker q.old) (Q.worker q.new) }
     ensures room { MakesAtMost (derived_room r.rows r.cols 1) (Q.worker q.old) (Q.worker q.new) }
+    ensures few { MakesAtMost (operator_room r.rows r.cols) (Q.worker q.old) (Q.worker q.new) }
     ensures cause { HasCause Q.lean (Q.worker q.old) (Q.worker q.new) result }
 {
     let shape = Shape {
@@ -44,6 +46,7 @@ pub fn init<Q: Quads>(q: &mut Q, v: Rel) -> Result<Rel, Lack>
     ensures value { IfOk result (Gives (Q.worker q.new) v.rows 1 (init_of (set_of (Q.worker q.old) v))) }
     ensures keeps { Keeps (Q.worker q.old) (Q.worker q.new) }
     ensures room { MakesAtMost (derived_room v.rows 1 1) (Q.worker q.old) (Q.worker q.new) }
+    ensures few { MakesAtMost (operator_room v.rows 1) (Q.worker q.old) (Q.worker q.new) }
     ensures cause { HasCause Q.lean (Q.worker q.old) (Q.worker q.new) result }
 {
     let shape = Shape {

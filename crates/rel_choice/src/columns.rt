@@ -1,7 +1,7 @@
 //! The next cell of a row, down the path of the row. An eastern half that is the western again is not looked at where that has no cell.
 ghost use Rattle.std.specs.Prelude.{◌≡◌, ◌<◌, ◌≤◌, ◌+◌, ◌^◌};
 ghost use Rattle.rel_model.specs.Trees.{beside};
-ghost use Rattle.rel_model.specs.Worker.{HasQuad, quad_set, Keeps, MakesAtMost};
+ghost use Rattle.rel_model.specs.Worker.{HasQuad, quad_set, Keeps, MakesAtMost, MissesNothing};
 ghost use Rattle.rel_choice.specs.Leasts.{IsLeast};
 
 use crate::leaf::{column_in, side_of};
@@ -23,6 +23,7 @@ pub(crate) fn column_from<Q: Quads>(
     ensures value { IsLeast (quad_set (Q.worker q.old) quad row) from below result }
     ensures keeps { Keeps (Q.worker q.old) (Q.worker q.new) }
     ensures room { MakesAtMost 0 (Q.worker q.old) (Q.worker q.new) }
+    ensures misses { MissesNothing (Q.worker q.old) (Q.worker q.new) }
 {
     if below <= from {
         return None;
@@ -48,6 +49,7 @@ fn column_over<Q: Quads>(q: &mut Q, quad: Quad, row: u32, from: u32, below: u32)
     ensures value { IsLeast (quad_set (Q.worker q.old) quad row) from below result }
     ensures keeps { Keeps (Q.worker q.old) (Q.worker q.new) }
     ensures room { MakesAtMost 0 (Q.worker q.old) (Q.worker q.new) }
+    ensures misses { MissesNothing (Q.worker q.old) (Q.worker q.new) }
 {
     let (nw, ne, sw, se) = q.quarters(quad);
     let half = side_of(nw.height);
@@ -75,6 +77,7 @@ fn column_of_two<Q: Quads>(
     ensures value { IsLeast (beside (2 ^ west.height) (quad_set (Q.worker q.old) west) (quad_set (Q.worker q.old) east) row) from below result }
     ensures keeps { Keeps (Q.worker q.old) (Q.worker q.new) }
     ensures room { MakesAtMost 0 (Q.worker q.old) (Q.worker q.new) }
+    ensures misses { MissesNothing (Q.worker q.old) (Q.worker q.new) }
 {
     let half = side_of(west.height);
     if let Some(found) = column_from(q, west, row, from, below.min(half)) {

@@ -2,7 +2,7 @@
 ghost use Rattle.std.specs.Prelude.{◌≡◌, ◌<◌, IfOk};
 ghost use Rattle.std.specs.HashMap.{get};
 ghost use Rattle.rel_model.specs.Choice.{count as count_of};
-ghost use Rattle.rel_model.specs.Worker.{Stands, set_of, HasQuad, Keeps, MakesAtMost};
+ghost use Rattle.rel_model.specs.Worker.{Stands, set_of, HasQuad, Keeps, MakesAtMost, MissesNothing};
 ghost use Rattle.rel_choice.specs.Counts.{quad_count, same_key, AreCounts};
 
 use rel_model::quads_trait::Quads;
@@ -16,6 +16,7 @@ pub fn count<Q: Quads>(alloc: Global, q: &mut Q, r: Rel) -> Result<u64, NoMemory
     ensures value { IfOk result (λ n. n ≡ count_of (set_of (Q.worker q.old) r)) }
     ensures keeps { Keeps (Q.worker q.old) (Q.worker q.new) }
     ensures room { MakesAtMost 0 (Q.worker q.old) (Q.worker q.new) }
+    ensures misses { MissesNothing (Q.worker q.old) (Q.worker q.new) }
 {
     let quad = q.root(r);
     let mut counts = HashMap::new(alloc);
@@ -35,6 +36,7 @@ fn counted<Q: Quads>(
     ensures known { AreCounts (Q.worker q.new) (get same_key counts.new) }
     ensures keeps { Keeps (Q.worker q.old) (Q.worker q.new) }
     ensures room { MakesAtMost 0 (Q.worker q.old) (Q.worker q.new) }
+    ensures misses { MissesNothing (Q.worker q.old) (Q.worker q.new) }
 {
     if quad.name == 0 {
         return Ok(0);
@@ -65,6 +67,7 @@ fn counted_over<Q: Quads>(
     ensures known { AreCounts (Q.worker q.new) (get same_key counts.new) }
     ensures keeps { Keeps (Q.worker q.old) (Q.worker q.new) }
     ensures room { MakesAtMost 0 (Q.worker q.old) (Q.worker q.new) }
+    ensures misses { MissesNothing (Q.worker q.old) (Q.worker q.new) }
 {
     let (nw, ne, sw, se) = q.quarters(quad);
     let north_west = counted(q, counts, nw)?;

@@ -1,7 +1,7 @@
 //! Whether a relation is univalent, by quarters. What the quarters are is looked at before they are compared.
 ghost use Rattle.std.specs.Prelude.{◌≡◌, ◌<◌, true};
 ghost use Rattle.rel_model.specs.Choice.{is_unival};
-ghost use Rattle.rel_model.specs.Worker.{Stands, set_of, HasQuad, Keeps, MakesAtMost};
+ghost use Rattle.rel_model.specs.Worker.{Stands, set_of, HasQuad, Keeps, MakesAtMost, MissesNothing};
 ghost use Rattle.rel_choice.specs.Lines.{quad_single, quads_apart, halves_apart};
 
 use crate::leaf::{leaf_is_single, leaves_are_apart, side_of};
@@ -14,6 +14,7 @@ pub fn unival<Q: Quads>(q: &mut Q, r: Rel) -> bool
     ensures value { result ≡ is_unival (set_of (Q.worker q.old) r) }
     ensures keeps { Keeps (Q.worker q.old) (Q.worker q.new) }
     ensures room { MakesAtMost 0 (Q.worker q.old) (Q.worker q.new) }
+    ensures misses { MissesNothing (Q.worker q.old) (Q.worker q.new) }
 {
     let quad = q.root(r);
     is_single(q, quad)
@@ -26,6 +27,7 @@ fn is_single<Q: Quads>(q: &mut Q, quad: Quad) -> bool
     ensures value { result ≡ quad_single (Q.worker q.old) quad }
     ensures keeps { Keeps (Q.worker q.old) (Q.worker q.new) }
     ensures room { MakesAtMost 0 (Q.worker q.old) (Q.worker q.new) }
+    ensures misses { MissesNothing (Q.worker q.old) (Q.worker q.new) }
 {
     if quad.name == 0 {
         return true;
@@ -46,6 +48,7 @@ fn is_single_over<Q: Quads>(q: &mut Q, quad: Quad) -> bool
     ensures value { result ≡ quad_single (Q.worker q.old) quad }
     ensures keeps { Keeps (Q.worker q.old) (Q.worker q.new) }
     ensures room { MakesAtMost 0 (Q.worker q.old) (Q.worker q.new) }
+    ensures misses { MissesNothing (Q.worker q.old) (Q.worker q.new) }
 {
     let (nw, ne, sw, se) = q.quarters(quad);
     if !is_single(q, nw) {
@@ -77,6 +80,7 @@ fn is_single_besides<Q: Quads>(q: &mut Q, quad: Quad, one: Quad, other: Quad) ->
     ensures value { result ≡ quad_single (Q.worker q.old) quad }
     ensures keeps { Keeps (Q.worker q.old) (Q.worker q.new) }
     ensures room { MakesAtMost 0 (Q.worker q.old) (Q.worker q.new) }
+    ensures misses { MissesNothing (Q.worker q.old) (Q.worker q.new) }
 {
     if quad.name == one.name {
         return true;
@@ -96,6 +100,7 @@ fn are_apart<Q: Quads>(q: &mut Q, a: Quad, b: Quad) -> bool
     ensures value { result ≡ quads_apart (Q.worker q.old) a b }
     ensures keeps { Keeps (Q.worker q.old) (Q.worker q.new) }
     ensures room { MakesAtMost 0 (Q.worker q.old) (Q.worker q.new) }
+    ensures misses { MissesNothing (Q.worker q.old) (Q.worker q.new) }
 {
     if a.name == 0 {
         return true;
@@ -122,6 +127,7 @@ fn are_apart_over<Q: Quads>(q: &mut Q, a: Quad, b: Quad) -> bool
     ensures value { result ≡ quads_apart (Q.worker q.old) a b }
     ensures keeps { Keeps (Q.worker q.old) (Q.worker q.new) }
     ensures room { MakesAtMost 0 (Q.worker q.old) (Q.worker q.new) }
+    ensures misses { MissesNothing (Q.worker q.old) (Q.worker q.new) }
 {
     let (a_nw, a_ne, a_sw, a_se) = q.quarters(a);
     let (b_nw, b_ne, b_sw, b_se) = q.quarters(b);
@@ -144,6 +150,7 @@ fn are_halves_apart<Q: Quads>(q: &mut Q, a: (Quad, Quad), b: (Quad, Quad)) -> bo
     ensures value { result ≡ halves_apart (Q.worker q.old) a b }
     ensures keeps { Keeps (Q.worker q.old) (Q.worker q.new) }
     ensures room { MakesAtMost 0 (Q.worker q.old) (Q.worker q.new) }
+    ensures misses { MissesNothing (Q.worker q.old) (Q.worker q.new) }
 {
     if !are_apart(q, a.0, b.0) {
         return false;

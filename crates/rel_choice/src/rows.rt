@@ -1,6 +1,6 @@
 //! The next row that has a cell. A half in which none can be less than what was found is not looked at, nor one that is the other half again.
 ghost use Rattle.std.specs.Prelude.{◌≡◌, ◌<◌, ◌≤◌, ◌^◌};
-ghost use Rattle.rel_model.specs.Worker.{HasQuad, quad_set, Keeps, MakesAtMost};
+ghost use Rattle.rel_model.specs.Worker.{HasQuad, quad_set, Keeps, MakesAtMost, MissesNothing};
 ghost use Rattle.rel_choice.specs.Leasts.{IsLeast, row_meets, row_meets_either};
 
 use crate::leaf::{row_in, side_of};
@@ -15,6 +15,7 @@ pub(crate) fn row_from<Q: Quads>(q: &mut Q, quad: Quad, from: u32, below: u32) -
     ensures value { IsLeast (row_meets (2 ^ quad.height) (quad_set (Q.worker q.old) quad)) from below result }
     ensures keeps { Keeps (Q.worker q.old) (Q.worker q.new) }
     ensures room { MakesAtMost 0 (Q.worker q.old) (Q.worker q.new) }
+    ensures misses { MissesNothing (Q.worker q.old) (Q.worker q.new) }
 {
     if below <= from {
         return None;
@@ -39,6 +40,7 @@ fn row_over<Q: Quads>(q: &mut Q, quad: Quad, from: u32, below: u32) -> Option<u3
     ensures value { IsLeast (row_meets (2 ^ quad.height) (quad_set (Q.worker q.old) quad)) from below result }
     ensures keeps { Keeps (Q.worker q.old) (Q.worker q.new) }
     ensures room { MakesAtMost 0 (Q.worker q.old) (Q.worker q.new) }
+    ensures misses { MissesNothing (Q.worker q.old) (Q.worker q.new) }
 {
     let (nw, ne, sw, se) = q.quarters(quad);
     let half = side_of(nw.height);
@@ -65,6 +67,7 @@ fn row_of_two<Q: Quads>(q: &mut Q, west: Quad, east: Quad, from: u32, below: u32
     ensures value { IsLeast (row_meets_either (2 ^ west.height) (quad_set (Q.worker q.old) west) (quad_set (Q.worker q.old) east)) from below result }
     ensures keeps { Keeps (Q.worker q.old) (Q.worker q.new) }
     ensures room { MakesAtMost 0 (Q.worker q.old) (Q.worker q.new) }
+    ensures misses { MissesNothing (Q.worker q.old) (Q.worker q.new) }
 {
     if east.name == west.name {
         return row_from(q, west, from, below);

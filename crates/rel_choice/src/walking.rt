@@ -2,7 +2,7 @@
 ghost use Rattle.std.specs.Prelude.{◌≡◌, ◌<◌, ◌≤◌, true, IfSome};
 ghost use Rattle.rel_model.specs.Relation.{has};
 ghost use Rattle.rel_model.specs.Choice.{next_pair as next_pair_of};
-ghost use Rattle.rel_model.specs.Worker.{Stands, set_of, HasQuad, quad_set, Keeps, MakesAtMost};
+ghost use Rattle.rel_model.specs.Worker.{Stands, set_of, HasQuad, quad_set, Keeps, MakesAtMost, MissesNothing};
 ghost use Rattle.rel_choice.specs.Leasts.{IsLeastPair, from_row, behind};
 
 use crate::columns::column_from;
@@ -20,6 +20,7 @@ pub fn next_pair<Q: Quads>(q: &mut Q, r: Rel, after: Option<(u32, u32)>) -> Opti
     ensures among { IfSome result (λ p. has (set_of (Q.worker q.old) r) p.0 p.1 ≡ true) }
     ensures keeps { Keeps (Q.worker q.old) (Q.worker q.new) }
     ensures room { MakesAtMost 0 (Q.worker q.old) (Q.worker q.new) }
+    ensures misses { MissesNothing (Q.worker q.old) (Q.worker q.new) }
 {
     let quad = q.root(r);
     let Some((row, column)) = after else {
@@ -34,6 +35,7 @@ fn pair_behind<Q: Quads>(q: &mut Q, quad: Quad, row: u32, column: u32) -> Option
     ensures value { IsLeastPair (quad_set (Q.worker q.old) quad) (behind row column) result }
     ensures keeps { Keeps (Q.worker q.old) (Q.worker q.new) }
     ensures room { MakesAtMost 0 (Q.worker q.old) (Q.worker q.new) }
+    ensures misses { MissesNothing (Q.worker q.old) (Q.worker q.new) }
 {
     let side = side_of(quad.height);
     if side <= row {
@@ -51,6 +53,7 @@ fn pair_from<Q: Quads>(q: &mut Q, quad: Quad, from: u32) -> Option<(u32, u32)>
     ensures value { IsLeastPair (quad_set (Q.worker q.old) quad) (from_row from) result }
     ensures keeps { Keeps (Q.worker q.old) (Q.worker q.new) }
     ensures room { MakesAtMost 0 (Q.worker q.old) (Q.worker q.new) }
+    ensures misses { MissesNothing (Q.worker q.old) (Q.worker q.new) }
 {
     let side = side_of(quad.height);
     let row = row_from(q, quad, from, side)?;

@@ -1,4 +1,4 @@
-ghost use Rattle.std.specs.Prelude.{◌≡◌, ◌≤◌, ◌+◌, ◌-◌, ◌*◌, ◌^◌, ℕ, IfOk};
+ghost use Rattle.std.specs.Prelude.{◌≡◌, ◌≤◌, ◌+◌, ◌-◌, ◌*◌, ◌^◌, ℕ, max, IfOk};
 ghost use Rattle.rel_model.specs.Closures.{transitive_closure};
 ghost use Rattle.rel_model.specs.Worker.{Stands, set_of, Keeps, MakesAtMost, Gives, HasCause, derived_room};
 
@@ -21,9 +21,10 @@ pub fn trans_counted<C: Core, L: Ledger>(
     ensures value { IfOk result (Gives (C.worker core.new) r.rows r.cols (transitive_closure (set_of (C.worker core.old) r))) }
     ensures keeps { Keeps (C.worker core.old) (C.worker core.new) }
     ensures room { MakesAtMost (derived_room r.rows r.rows r.rows) (C.worker core.old) (C.worker core.new) }
+    ensures nothing { r.rows ≤ 1 → MakesAtMost 0 (C.worker core.old) (C.worker core.new) }
     ensures cause { HasCause C.lean (C.worker core.old) (C.worker core.new) result }
     ensures rises { steps.old ≤ steps.new }
-    ensures digits { 2 ^ (steps.new - steps.old) ≤ 2 * r.rows + 1 }
+    ensures digits { 2 ^ (steps.new - steps.old) ≤ max 1 (2 * r.rows - 1) }
 {
     let mut walks = r;
     let mut reach: u64 = 1;
@@ -50,6 +51,7 @@ fn trans_alone<C: Core, L: Ledger>(core: &mut C, r: Rel, blank: Blank) -> Result
     ensures value { IfOk result (Gives (C.worker core.new) r.rows r.cols (transitive_closure (set_of (C.worker core.old) r))) }
     ensures keeps { Keeps (C.worker core.old) (C.worker core.new) }
     ensures room { MakesAtMost (derived_room r.rows r.rows r.rows) (C.worker core.old) (C.worker core.new) }
+    ensures nothing { r.rows ≤ 1 → MakesAtMost 0 (C.worker core.old) (C.worker core.new) }
     ensures cause { HasCause C.lean (C.worker core.old) (C.worker core.new) result }
 {
     let mut steps: Steps<L> = Steps::new(blank);
@@ -66,6 +68,7 @@ pub fn trans<C: Core>(core: &mut C, r: Rel) -> Result<Rel, Lack>
     ensures value { IfOk result (Gives (C.worker core.new) r.rows r.cols (transitive_closure (set_of (C.worker core.old) r))) }
     ensures keeps { Keeps (C.worker core.old) (C.worker core.new) }
     ensures room { MakesAtMost (derived_room r.rows r.rows r.rows) (C.worker core.old) (C.worker core.new) }
+    ensures nothing { r.rows ≤ 1 → MakesAtMost 0 (C.worker core.old) (C.worker core.new) }
     ensures cause { HasCause C.lean (C.worker core.old) (C.worker core.new) result }
 {
     trans_alone::<C, Brand>(core, r, Blank::new(1))

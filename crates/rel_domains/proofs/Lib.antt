@@ -13,3 +13,4 @@ pub mod Pairwise
 pub mod Ranking
 pub mod Halves
 pub mod Functions
+pub mod Fewness

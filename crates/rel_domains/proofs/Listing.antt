@@ -16,19 +16,19 @@ use Rattle.rel_model.specs.Roots.{height_over}
 use Rattle.rel_model.specs.Quarters.{LiesWithin}
 use Rattle.rel_model.specs.Worker.{Worker, Gives, GivesQuad, quad_set, height_of, pairs_room}
 use Rattle.rel_model.proofs.Relations.{relation_of-agree}
-use Rattle.rel_model.specs.Listed.{IsWithin, is_among}
+use Rattle.rel_model.specs.Listed.{AreWithin, is_among}
 use Rattle.rel_domains.specs.Curve.{holds, AreFrom, cells_at, place}
 use Rattle.rel_domains.proofs.Places.{place_one}
 use Rattle.rel_model.proofs.Heights.{height_over-rows, height_over-cols}
 use Rattle.rel_domains.proofs.Quartering.{gives_set}
 
 -- ---- pairs within the square
-pub within_square : (m n s : ℕ) (ps : List (ℕ × ℕ)) → m ≤ s → n ≤ s → IsWithin m n ps → IsWithin s s ps
+pub within_square : (m n s : ℕ) (ps : List (ℕ × ℕ)) → m ≤ s → n ≤ s → AreWithin m n ps → AreWithin s s ps
 within_square m n s [] a b h = tt
 within_square m n s (p ∷ ps) a b h = ((omega (arith, h.0.0), omega (arith, h.0.1)), within_square m n s ps a b h.1)
 
 -- whether a cell's place is among those of pairs is whether the cell is among the pairs
-pub holds-map : (least d : ℕ) (ps : List (ℕ × ℕ)) (i j : ℕ) → IsWithin (2 ^ (least + d)) (2 ^ (least + d)) ps → i < 2 ^ (least + d) → j < 2 ^ (least + d) → holds (map (λ p. place least d p.0 p.1) ps) (place least d i j) ≡ is_among ps i j
+pub holds-map : (least d : ℕ) (ps : List (ℕ × ℕ)) (i j : ℕ) → AreWithin (2 ^ (least + d)) (2 ^ (least + d)) ps → i < 2 ^ (least + d) → j < 2 ^ (least + d) → holds (map (λ p. place least d p.0 p.1) ps) (place least d i j) ≡ is_among ps i j
 holds-map least d [] i j h a b = refl
 holds-map least d (p ∷ ps) i j h a b = ap (λ t. t || holds (map (λ p. place least d p.0 p.1) ps) (place least d i j)) here ∙ ap (λ t. (eqb p.0 i && eqb p.1 j) || t) (holds-map least d ps i j h.1 a b)
   where
@@ -41,7 +41,7 @@ holds-map least d (p ∷ ps) i j h a b = ap (λ t. t || holds (map (λ p. place 
       ]
     ]
 
-among_within : (m n : ℕ) (ps : List (ℕ × ℕ)) (i j : ℕ) → IsWithin m n ps → is_among ps i j ≡ true → (i < m) × (j < n)
+among_within : (m n : ℕ) (ps : List (ℕ × ℕ)) (i j : ℕ) → AreWithin m n ps → is_among ps i j ≡ true → (i < m) × (j < n)
 among_within m n (p ∷ ps) i j h t = elim (cases_Bool (eqb p.0 i && eqb p.1 j)) [
   | inl u ↦ let both = and_parts _ _ u in (subst (λ x. x < m) (eqb-true p.0 i both.0) h.0.0, subst (λ x. x < n) (eqb-true p.1 j both.1) h.0.1)
   | inr u ↦ among_within m n ps i j h.1 (sym (ap (λ b. b || is_among ps i j) u) ∙ t)
@@ -53,7 +53,7 @@ pub sorted_from : (high : ℕ) (xs ys : List ℕ) → IsPermutation xs ys → Al
 sorted_from high xs ys p h = recursion_from_All _ ys (λ k d l. (omega arith, All-permutation (λ x. x < high) xs ys p (All-from_recursion (λ x. x < high) xs h) k d l))
 
 -- the cells are those of the pairs
-pub cells_listed : (least d : ℕ) (ps : List (ℕ × ℕ)) (xs ys : List ℕ) (i j : ℕ) → IsWithin (2 ^ (least + d)) (2 ^ (least + d)) ps → xs ≡ map (λ p. place least d p.0 p.1) ps → IsPermutation xs ys
+pub cells_listed : (least d : ℕ) (ps : List (ℕ × ℕ)) (xs ys : List ℕ) (i j : ℕ) → AreWithin (2 ^ (least + d)) (2 ^ (least + d)) ps → xs ≡ map (λ p. place least d p.0 p.1) ps → IsPermutation xs ys
     → i < 2 ^ (least + d) → j < 2 ^ (least + d) → cells_at least d 0 ys i j ≡ is_among ps i j
 cells_listed least d ps xs ys i j h e p a b =
     let z : 0 + place least d i j ≡ place least d i j = omega arith in
@@ -70,9 +70,9 @@ cells_inside least d xs i j t =
     is_lt k u = grind (arith, nat_tests)
 
 -- a quad whose cells are listed pairs lies within their sizes, and its relation is theirs
-module _ (least d m n : ℕ) (ps : List (ℕ × ℕ)) (xs ys : List ℕ) (rows : m ≤ size_limit) (cols : n ≤ size_limit) (high : least + d ≡ height_over least m n) (inside : IsWithin m n ps)
+module _ (least d m n : ℕ) (ps : List (ℕ × ℕ)) (xs ys : List ℕ) (rows : m ≤ size_limit) (cols : n ≤ size_limit) (high : least + d ≡ height_over least m n) (inside : AreWithin m n ps)
     (places : xs ≡ map (λ p. place least d p.0 p.1) ps) (moved : IsPermutation xs ys) where
-  pub fits_square : IsWithin (2 ^ (least + d)) (2 ^ (least + d)) ps
+  pub fits_square : AreWithin (2 ^ (least + d)) (2 ^ (least + d)) ps
   fits_square = within_square m n (2 ^ (least + d)) ps (subst (λ h. m ≤ 2 ^ h) (sym high) (height_over-rows least m n rows)) (subst (λ h. n ≤ 2 ^ h) (sym high) (height_over-cols least m n cols)) inside
 
   is_listed : (i j : ℕ) → i < 2 ^ (least + d) → j < 2 ^ (least + d) → cells_at least d 0 ys i j ≡ is_among ps i j

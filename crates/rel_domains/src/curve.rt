@@ -2,7 +2,7 @@
 ghost use Rattle.std.specs.Prelude.{◌≡◌, ◌<◌, ◌≤◌, ◌+◌, ◌^◌, map, IfOk};
 ghost use Rattle.std.specs.List.{AllByRecursion};
 ghost use Rattle.rel_model.specs.Trees.{top_height};
-ghost use Rattle.rel_model.specs.Listed.{IsWithin};
+ghost use Rattle.rel_model.specs.Listed.{AreWithin};
 ghost use Rattle.rel_domains.specs.Curve.{place};
 
 use crate::heights::{cells_of, side_of};
@@ -44,7 +44,7 @@ pub fn places_of(
     pairs: &[(u32, u32)],
 ) -> Result<Vec<u64>, AllocError>
     requires high { least + depth ≤ top_height }
-    requires within { IsWithin (2 ^ (least + depth)) (2 ^ (least + depth)) pairs.now }
+    requires within { AreWithin (2 ^ (least + depth)) (2 ^ (least + depth)) pairs.now }
     ensures places { IfOk result (λ v. v.items ≡ map (λ p. place least depth p.0 p.1) pairs.now) }
     ensures limit { IfOk result (λ v. AllByRecursion (λ x. x < 4 ^ (least + depth)) v.items) }
 {

@@ -6,6 +6,7 @@ ghost use Rattle.rel_model.specs.Worker.{Gives, Keeps, MakesAtMost, derived_room
 ghost use Rattle.rel_model.specs.Domains.{HasDomainCause};
 ghost use Rattle.rel_domains.specs.Rules.{IsRule, passes};
 ghost use Rattle.rel_domains.specs.Refusals.{refusal_of};
+ghost use Rattle.rel_model.specs.Roots.{relation_room};
 
 use crate::rule::Rule;
 use crate::square::relation_by;
@@ -42,6 +43,7 @@ pub fn tall<Q: Quads>(q: &mut Q, rows: u64, cols: u32, rule: Rule) -> Result<Rel
     ensures value { IfOk result (Gives (Q.worker q.new) rows cols (relation_of rows cols (passes rule))) }
     ensures keeps { Keeps (Q.worker q.old) (Q.worker q.new) }
     ensures room { MakesAtMost (derived_room rows cols cols) (Q.worker q.old) (Q.worker q.new) }
+    ensures tree { MakesAtMost (relation_room Q.least rows cols) (Q.worker q.old) (Q.worker q.new) }
     ensures nothing { size_limit < rows → MakesAtMost 0 (Q.worker q.old) (Q.worker q.new) }
     ensures cause { HasDomainCause Q.lean rows (Q.worker q.old) (Q.worker q.new) result }
 {
@@ -66,6 +68,7 @@ pub fn wide<Q: Quads>(q: &mut Q, rows: u32, cols: u64, rule: Rule) -> Result<Rel
     ensures value { IfOk result (Gives (Q.worker q.new) rows cols (relation_of rows cols (passes rule))) }
     ensures keeps { Keeps (Q.worker q.old) (Q.worker q.new) }
     ensures room { MakesAtMost (derived_room rows cols cols) (Q.worker q.old) (Q.worker q.new) }
+    ensures tree { MakesAtMost (relation_room Q.least rows cols) (Q.worker q.old) (Q.worker q.new) }
     ensures nothing { size_limit < cols → MakesAtMost 0 (Q.worker q.old) (Q.worker q.new) }
     ensures cause { HasDomainCause Q.lean cols (Q.worker q.old) (Q.worker q.new) result }
 {

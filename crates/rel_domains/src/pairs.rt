@@ -1,9 +1,9 @@
 //! Relations from listed pairs.
-ghost use Rattle.std.specs.Prelude.{◌≡◌, ◌≤◌, ◌<◌, ℕ, length, IfOk, IsErrOf};
-ghost use Rattle.rel_model.specs.declared.Lack.TheVariants.{Full};
+ghost use Rattle.std.specs.Prelude.{◌≡◌, ◌≤◌, ◌<◌, ◌-◌, ℕ, length, false, IfOk};
 ghost use Rattle.rel_model.specs.Relation.{relation_of, size_limit};
-ghost use Rattle.rel_model.specs.Worker.{Gives, Keeps, MakesAtMost, Rose, pairs_room};
-ghost use Rattle.rel_model.specs.Listed.{IsWithin, is_among};
+ghost use Rattle.rel_model.specs.Worker.{Gives, Keeps, MakesAtMost, HasCause, listed_room, pairs_room};
+ghost use Rattle.rel_model.specs.Roots.{height_over};
+ghost use Rattle.rel_model.specs.Listed.{AreWithin, is_among};
 
 use crate::build::build;
 use crate::curve::places_of;
@@ -23,11 +23,12 @@ pub fn from_pairs<Q: Quads>(
 ) -> Result<Rel, Lack>
     requires row_limit { shape.rows ≤ size_limit }
     requires col_limit { shape.cols ≤ size_limit }
-    requires within { IsWithin shape.rows shape.cols pairs.now }
+    requires within { AreWithin shape.rows shape.cols pairs.now }
     ensures value { IfOk result (Gives (Q.worker q.new) shape.rows shape.cols (relation_of shape.rows shape.cols (is_among pairs.now))) }
     ensures keeps { Keeps (Q.worker q.old) (Q.worker q.new) }
     ensures room { MakesAtMost (pairs_room (length pairs.now) shape.rows shape.cols) (Q.worker q.old) (Q.worker q.new) }
-    ensures full { IsErrOf result Full → Rose (Q.worker q.old).misses (Q.worker q.new).misses }
+    ensures few { MakesAtMost (listed_room (length pairs.now) (height_over Q.least shape.rows shape.cols - Q.least)) (Q.worker q.old) (Q.worker q.new) }
+    ensures cause { HasCause false (Q.worker q.old) (Q.worker q.new) result }
 {
     let least = q.bottom();
     let depth = depth_over(least, shape.rows, shape.cols);

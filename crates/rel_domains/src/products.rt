@@ -3,6 +3,7 @@ ghost use Rattle.std.specs.Prelude.{◌≡◌, ◌<◌, ◌≤◌, ◌*◌, IfOk
 ghost use Rattle.rel_model.specs.Relation.{size_limit};
 ghost use Rattle.rel_model.specs.Worker.{Gives, Keeps, MakesAtMost, derived_room};
 ghost use Rattle.rel_model.specs.Domains.{HasDomainCause, first_projection, second_projection};
+ghost use Rattle.rel_model.specs.Roots.{relation_room};
 
 use crate::limit::tall;
 use crate::rule::Rule;
@@ -19,6 +20,7 @@ pub fn first<Q: Quads>(q: &mut Q, x: u32, y: u32) -> Result<Rel, DomainError>
     ensures value { IfOk result (Gives (Q.worker q.new) (x * y) x (first_projection x y)) }
     ensures keeps { Keeps (Q.worker q.old) (Q.worker q.new) }
     ensures room { MakesAtMost (derived_room (x * y) x x) (Q.worker q.old) (Q.worker q.new) }
+    ensures tree { MakesAtMost (relation_room Q.least (x * y) x) (Q.worker q.old) (Q.worker q.new) }
     ensures nothing { size_limit < x * y → MakesAtMost 0 (Q.worker q.old) (Q.worker q.new) }
     ensures cause { HasDomainCause Q.lean (x * y) (Q.worker q.old) (Q.worker q.new) result }
 {
@@ -34,6 +36,7 @@ pub fn second<Q: Quads>(q: &mut Q, x: u32, y: u32) -> Result<Rel, DomainError>
     ensures value { IfOk result (Gives (Q.worker q.new) (x * y) y (second_projection x y)) }
     ensures keeps { Keeps (Q.worker q.old) (Q.worker q.new) }
     ensures room { MakesAtMost (derived_room (x * y) y y) (Q.worker q.old) (Q.worker q.new) }
+    ensures tree { MakesAtMost (relation_room Q.least (x * y) y) (Q.worker q.old) (Q.worker q.new) }
     ensures nothing { size_limit < x * y → MakesAtMost 0 (Q.worker q.old) (Q.worker q.new) }
     ensures cause { HasDomainCause Q.lean (x * y) (Q.worker q.old) (Q.worker q.new) result }
 {

@@ -5,6 +5,7 @@ ghost use Rattle.rel_model.specs.Relation.{relation_of, size_limit};
 ghost use Rattle.rel_model.specs.Trees.{top_height};
 ghost use Rattle.rel_model.specs.Worker.{Gives, GivesQuad, Keeps, MakesAtMost, HasCause, operator_room};
 ghost use Rattle.rel_domains.specs.Rules.{IsRule, passes, rule_cells, window};
+ghost use Rattle.rel_model.specs.Roots.{relation_room, tree_room};
 
 use crate::heights::{depth_over, side_of};
 use crate::missing::{goes_on, misses, repeats};
@@ -48,7 +49,7 @@ fn square<Q: Quads>(
     requires col { col + 2 ^ (Q.least + depth) ≤ 2 ^ 24 }
     ensures value { IfOk result (GivesQuad (Q.worker q.new) (Q.least + depth) (window (2 ^ (Q.least + depth)) row col (rule_cells shape.rows shape.cols rule))) }
     ensures keeps { Keeps (Q.worker q.old) (Q.worker q.new) }
-    ensures room { MakesAtMost (2 * 4 ^ depth - 1) (Q.worker q.old) (Q.worker q.new) }
+    ensures room { MakesAtMost (tree_room depth) (Q.worker q.old) (Q.worker q.new) }
     ensures cause { HasCause Q.lean (Q.worker q.old) (Q.worker q.new) result }
 {
     let height = q.bottom() + depth;
@@ -85,6 +86,7 @@ pub fn relation_by<Q: Quads>(q: &mut Q, shape: Shape, rule: Rule) -> Result<Rel,
     ensures value { IfOk result (Gives (Q.worker q.new) shape.rows shape.cols (relation_of shape.rows shape.cols (passes rule))) }
     ensures keeps { Keeps (Q.worker q.old) (Q.worker q.new) }
     ensures room { MakesAtMost (operator_room shape.rows shape.cols) (Q.worker q.old) (Q.worker q.new) }
+    ensures tree { MakesAtMost (relation_room Q.least shape.rows shape.cols) (Q.worker q.old) (Q.worker q.new) }
     ensures cause { HasCause Q.lean (Q.worker q.old) (Q.worker q.new) result }
 {
     let depth = depth_over(q.bottom(), shape.rows, shape.cols);

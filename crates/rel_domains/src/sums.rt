@@ -3,6 +3,7 @@ ghost use Rattle.std.specs.Prelude.{◌≡◌, ◌<◌, ◌≤◌, ◌+◌, IfOk
 ghost use Rattle.rel_model.specs.Relation.{size_limit};
 ghost use Rattle.rel_model.specs.Worker.{Gives, Keeps, MakesAtMost, derived_room};
 ghost use Rattle.rel_model.specs.Domains.{HasDomainCause, left_injection, right_injection};
+ghost use Rattle.rel_model.specs.Roots.{relation_room};
 
 use crate::limit::wide;
 use crate::rule::Rule;
@@ -19,6 +20,7 @@ pub fn inl<Q: Quads>(q: &mut Q, x: u32, y: u32) -> Result<Rel, DomainError>
     ensures value { IfOk result (Gives (Q.worker q.new) x (x + y) (left_injection x y)) }
     ensures keeps { Keeps (Q.worker q.old) (Q.worker q.new) }
     ensures room { MakesAtMost (derived_room x (x + y) (x + y)) (Q.worker q.old) (Q.worker q.new) }
+    ensures tree { MakesAtMost (relation_room Q.least x (x + y)) (Q.worker q.old) (Q.worker q.new) }
     ensures nothing { size_limit < x + y → MakesAtMost 0 (Q.worker q.old) (Q.worker q.new) }
     ensures cause { HasDomainCause Q.lean (x + y) (Q.worker q.old) (Q.worker q.new) result }
 {
@@ -33,6 +35,7 @@ pub fn inr<Q: Quads>(q: &mut Q, x: u32, y: u32) -> Result<Rel, DomainError>
     ensures value { IfOk result (Gives (Q.worker q.new) y (x + y) (right_injection x y)) }
     ensures keeps { Keeps (Q.worker q.old) (Q.worker q.new) }
     ensures room { MakesAtMost (derived_room y (x + y) (x + y)) (Q.worker q.old) (Q.worker q.new) }
+    ensures tree { MakesAtMost (relation_room Q.least y (x + y)) (Q.worker q.old) (Q.worker q.new) }
     ensures nothing { size_limit < x + y → MakesAtMost 0 (Q.worker q.old) (Q.worker q.new) }
     ensures cause { HasDomainCause Q.lean (x + y) (Q.worker q.old) (Q.worker q.new) result }
 {

@@ -3,8 +3,9 @@ ghost use Rattle.std.specs.Prelude.{◌≡◌, ◌<◌, ◌≤◌, ◌+◌, ◌-
 ghost use Rattle.rel_model.specs.Cells.{no_cells};
 ghost use Rattle.rel_model.specs.Choice.{holds, count_below, inj as inj_of};
 ghost use Rattle.rel_model.specs.Trees.{top_height};
-ghost use Rattle.rel_model.specs.Worker.{Stands, set_of, HasQuad, quad_set, Gives, GivesQuad, Keeps, MakesAtMost, HasCause, derived_room};
+ghost use Rattle.rel_model.specs.Worker.{Stands, set_of, HasQuad, quad_set, Gives, GivesQuad, Keeps, MakesAtMost, MissesNothing, HasCause, derived_room};
 ghost use Rattle.rel_domains.specs.Ranks.{first_column, ranked};
+ghost use Rattle.rel_model.specs.Roots.{relation_room, tree_room};
 
 use crate::element::{count_in, ranks_in};
 use crate::heights::side_of;
@@ -19,6 +20,7 @@ fn elements<Q: Quads>(q: &mut Q, vector: Quad) -> u32
     ensures limit { result ≤ 2 ^ 24 }
     ensures keeps { Keeps (Q.worker q.old) (Q.worker q.new) }
     ensures room { MakesAtMost 0 (Q.worker q.old) (Q.worker q.new) }
+    ensures misses { MissesNothing (Q.worker q.old) (Q.worker q.new) }
 {
     if vector.name == 0 {
         return 0;
@@ -61,7 +63,7 @@ fn ranks<Q: Quads>(
     requires before { before + many ≤ 2 ^ 24 }
     ensures value { IfOk result (GivesQuad (Q.worker q.new) (Q.least + depth) (ranked (2 ^ (Q.least + depth)) row before (first_column (quad_set (Q.worker q.old) vector)))) }
     ensures keeps { Keeps (Q.worker q.old) (Q.worker q.new) }
-    ensures room { MakesAtMost (2 * 4 ^ depth - 1) (Q.worker q.old) (Q.worker q.new) }
+    ensures room { MakesAtMost (tree_room depth) (Q.worker q.old) (Q.worker q.new) }
     ensures cause { HasCause Q.lean (Q.worker q.old) (Q.worker q.new) result }
 {
     let height = vector.height;
@@ -103,6 +105,7 @@ pub fn inj<Q: Quads>(q: &mut Q, v: Rel) -> Result<Rel, Lack>
     ensures value { IfOk result (Gives (Q.worker q.new) (count_below v.rows (holds (set_of (Q.worker q.old) v))) v.rows (inj_of (set_of (Q.worker q.old) v))) }
     ensures keeps { Keeps (Q.worker q.old) (Q.worker q.new) }
     ensures room { MakesAtMost (derived_room v.rows v.cols v.cols) (Q.worker q.old) (Q.worker q.new) }
+    ensures tree { MakesAtMost (relation_room Q.least v.rows v.cols) (Q.worker q.old) (Q.worker q.new) }
     ensures cause { HasCause Q.lean (Q.worker q.old) (Q.worker q.new) result }
 {
     let vector = q.root(v);

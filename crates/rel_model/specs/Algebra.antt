@@ -10,7 +10,7 @@ pub record HasType (m n : ℕ) (r : Relation) : Type 0 where
   pub row_size : r.rows ≡ m
   pub col_size : r.cols ≡ n
 
--- transposition goes into every operator, and twice is nothing
+-- transposition goes into unions, intersections, complements and compositions, keeps inclusion, and twice is nothing
 pub record TransposeLaws : Type 0 where
   pub twice : (r : Relation) → IsRelation r → transpose (transpose r) ≡ r
   pub union : (m n : ℕ) (r s : Relation) → HasType m n r → HasType m n s → transpose (union r s) ≡ union (transpose r) (transpose s)
@@ -27,7 +27,7 @@ pub record ComposeLaws : Type 0 where
   pub over_union : (m n p : ℕ) (r s t : Relation) → HasType m n r → HasType n p s → HasType n p t → compose r (union s t) ≡ union (compose r s) (compose r t)
   pub union_over : (m n p : ℕ) (r s t : Relation) → HasType m n r → HasType m n s → HasType n p t → compose (union r s) t ≡ union (compose r t) (compose s t)
 
--- larger operands have larger results; of a residual, and of a complement, the one operand the other way about
+-- larger operands have larger unions, intersections and compositions, and a larger one has a smaller complement
 pub record MonotoneLaws : Type 0 where
   pub union : (m n : ℕ) (r s t u : Relation) → HasType m n r → HasType m n s → HasType m n t → HasType m n u → IsWithin r t → IsWithin s u → IsWithin (union r s) (union t u)
   pub inter : (m n : ℕ) (r s t u : Relation) → HasType m n r → HasType m n s → HasType m n t → HasType m n u → IsWithin r t → IsWithin s u → IsWithin (inter r s) (inter t u)

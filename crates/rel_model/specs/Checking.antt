@@ -88,6 +88,7 @@ count_in (more_of-Expr e rest) = count_in rest + 1
 
 -- the faults of an expression before which these variables are assigned
 abbrev mutual
+  -- the faults of an expression, in the order of its places
   pub faults : Scope → Names → Expr → List TypeFault
   faults scope assigned (Ref at name) = ref_faults scope assigned at name
   faults scope assigned (Call' at name shape args) = call_faults scope at name (count_in args) ++ faults_in scope assigned args
@@ -98,10 +99,12 @@ abbrev mutual
   faults scope assigned (Turned' at p of times) = faults scope assigned of
   faults scope assigned (Chain' p first shape rest) = faults scope assigned first ++ faults_along scope assigned rest
 
+  -- those of arguments
   pub faults_in : Scope → Names → {m : _} → Row_of-Expr m → List TypeFault
   faults_in scope assigned end_of-Expr = []
   faults_in scope assigned (more_of-Expr e rest) = faults scope assigned e ++ faults_in scope assigned rest
 
+  -- those of the links of a chain
   pub faults_along : Scope → Names → {m : _} → Row_of-Link m → List TypeFault
   faults_along scope assigned end_of-Link = []
   faults_along scope assigned (more_of-Link at op right rest) = faults scope assigned right ++ faults_along scope assigned rest
@@ -117,6 +120,7 @@ rank_named earlier name = option_map_or (λ d. d.rank) (definition_of earlier na
 
 -- the greatest rank among the definitions that an expression calls, or 0 where it calls none
 abbrev mutual
+  -- the greatest rank of the definitions that an expression calls, and 0 where it calls none
   pub called : List Known → Expr → ℕ
   called earlier (Ref at name) = 0
   called earlier (Call' at name shape args) = max (rank_named earlier name) (called_in earlier args)
@@ -127,10 +131,12 @@ abbrev mutual
   called earlier (Turned' at p of times) = called earlier of
   called earlier (Chain' p first shape rest) = max (called earlier first) (called_along earlier rest)
 
+  -- that of arguments
   pub called_in : List Known → {m : _} → Row_of-Expr m → ℕ
   called_in earlier end_of-Expr = 0
   called_in earlier (more_of-Expr e rest) = max (called earlier e) (called_in earlier rest)
 
+  -- that of the links of a chain
   pub called_along : List Known → {m : _} → Row_of-Link m → ℕ
   called_along earlier end_of-Link = 0
   called_along earlier (more_of-Link at op right rest) = max (called earlier right) (called_along earlier rest)
@@ -138,11 +144,13 @@ abbrev mutual
 -- ---- statements
 -- the variables that are assigned on every path behind a statement: behind an IF those of both parts too; behind a WHILE those from before, since its body may run no time
 abbrev mutual
+  -- the names that are assigned behind a statement
   pub assigned_after : Names → Stmt → Names
   assigned_after before (Set at name value) = λ n. same_text name n || before n
   assigned_after before (While' at test s body) = before
   assigned_after before (If' at test s first t second) = λ n. before n || (assigned_behind before first n && assigned_behind before second n)
 
+  -- those behind a list of statements
   pub assigned_behind : Names → {m : _} → Row_of-Stmt m → Names
   assigned_behind before end_of-Stmt = before
   assigned_behind before (more_of-Stmt s rest) = assigned_behind (assigned_after before s) rest
@@ -158,11 +166,13 @@ target_faults scope at name = cond (among scope.variables name) [] (Unknown at n
 
 -- the faults of statements before which these variables are assigned; a test is read before its parts
 abbrev mutual
+  -- the faults of a statement
   pub faults_of : Scope → Names → Stmt → List TypeFault
   faults_of scope before (Set at name value) = target_faults scope at name ++ faults scope before value
   faults_of scope before (While' at test s body) = faults scope before test ++ faults_within scope before body
   faults_of scope before (If' at test s first t second) = faults scope before test ++ (faults_within scope before first ++ faults_within scope before second)
 
+  -- those of a list of statements
   pub faults_within : Scope → Names → {m : _} → Row_of-Stmt m → List TypeFault
   faults_within scope before end_of-Stmt = []
   faults_within scope before (more_of-Stmt s rest) = faults_of scope before s ++ faults_within scope (assigned_after before s) rest
@@ -174,11 +184,13 @@ faults_by scope before (s ∷ ss) = faults_of scope before s ++ faults_by scope 
 
 -- the greatest rank among the definitions that statements call
 abbrev mutual
+  -- the greatest rank of the definitions that a statement calls
   pub called_by : List Known → Stmt → ℕ
   called_by earlier (Set at name value) = called earlier value
   called_by earlier (While' at test s body) = max (called earlier test) (called_within earlier body)
   called_by earlier (If' at test s first t second) = max (called earlier test) (max (called_within earlier first) (called_within earlier second))
 
+  -- that of a list of statements
   pub called_within : List Known → {m : _} → Row_of-Stmt m → ℕ
   called_within earlier end_of-Stmt = 0
   called_within earlier (more_of-Stmt s rest) = max (called_by earlier s) (called_within earlier rest)

@@ -32,6 +32,7 @@ link_cost Over r s = wide_room r.rows r.cols s.rows
 
 -- an expression on a state that has its names, where its sizes fit: the sum over its operators
 abbrev mutual
+  -- the cost of an expression
   pub cost : State → Expr → ℕ
   cost state (Ref at name) = 0
   cost state (Call' at name shape args) = 0
@@ -42,6 +43,7 @@ abbrev mutual
   cost state (Turned' at p of times) = cost state of + boolean_cost (value state of).rows (value state of).cols
   cost state (Chain' p first shape rest) = cost state first + cost_along state (value state first) rest
 
+  -- that of the links of a chain, whose value so far is given
   pub cost_along : State → Relation → {m : _} → Row_of-Link m → ℕ
   cost_along state r end_of-Link = 0
   cost_along state r (more_of-Link at op right rest) = cost state right + link_cost op r (value state right) + cost_along state (result_of_both op r (value state right)) rest

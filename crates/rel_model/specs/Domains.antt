@@ -1,10 +1,10 @@
 -- Products, sums and power sets of domains, each relation by its membership clause (Schmidt and Ströhlein, Relations and Graphs). The numbering of pairs, sums and subsets is this project's.
-use Rattle.std.specs.Prelude.{◌≡◌, ◌<◌, ◌≤◌, ◌==◌, ◌&&◌, ◌+◌, ◌-◌, ◌*◌, ◌/◌, ◌%◌, ◌^◌, min, ℕ, Bool, true, Result, IfErr, IsErrOf}
+use Rattle.std.specs.Prelude.{◌≡◌, ◌<◌, ◌≤◌, ◌==◌, ◌&&◌, ◌+◌, ◌-◌, ◌*◌, ◌/◌, ◌%◌, ◌^◌, min, ℕ, Bool, true, Result, IfOk, IfErr, IsErrOf}
 use Rattle.std.specs.Int.{bit_at}
 use Rattle.rel_model.specs.declared.faults.DomainError.{DomainError}
 use Rattle.rel_model.specs.declared.faults.DomainError.TheVariants.{Size, Full, NoMemory}
 use Rattle.rel_model.specs.Relation.{Relation, has, relation_of, size_limit}
-use Rattle.rel_model.specs.Worker.{Worker, Rose}
+use Rattle.rel_model.specs.Worker.{Worker, Rose, MissesNothing}
 
 -- the projection of a product to its first factor: the pair of i and j is element i * y + j
 unfoldable pub first_projection : ℕ → ℕ → Relation
@@ -36,8 +36,11 @@ IsOverSize wanted (Size w limit) = (size_limit < wanted) × (w ≡ min wanted (2
 IsOverSize wanted Full = wanted ≤ size_limit
 IsOverSize wanted NoMemory = wanted ≤ size_limit
 
--- a refusal has its cause: the size that is wanted, or that of an operator
+-- a refusal has its cause: the size that is wanted, over the limit, for which no place is looked for, or that of an operator
 pub record HasDomainCause {T : Type 0} (lean : Bool) (wanted : ℕ) (old new : Worker) (result : Result T DomainError) : Type 0 where
   pub size : IfErr result (IsOverSize wanted)
   pub full : IsErrOf result Full → Rose old.misses new.misses
   pub no_memory : lean ≡ true → IsErrOf result NoMemory → ⊥
+  pub done : IfOk result (λ x. MissesNothing old new)
+  pub wanting : IsErrOf result NoMemory → MissesNothing old new
+  pub over : size_limit < wanted → MissesNothing old new

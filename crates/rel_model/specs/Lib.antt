@@ -10,6 +10,7 @@ pub mod Closures
 pub mod Laws
 pub mod Algebra
 pub mod Tokens
+pub mod Taken
 pub mod Grammar
 pub mod State
 pub mod Meaning

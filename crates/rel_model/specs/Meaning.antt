@@ -19,6 +19,7 @@ first_of_both (Some x) y = Some x
 
 -- the leftmost relation name that the state lacks, and its place
 abbrev mutual
+  -- that of an expression
   pub missing : State → Expr → Option (Place × List ℕ)
   missing state (Ref at name) = cond (is_some (state name)) None (Some (at, name))
   missing state (Call' at name shape args) = missing_in state args
@@ -29,10 +30,12 @@ abbrev mutual
   missing state (Turned' at p of times) = missing state of
   missing state (Chain' p first shape rest) = first_of_both (missing state first) (missing_along state rest)
 
+  -- that of arguments
   pub missing_in : State → {m : _} → Row_of-Expr m → Option (Place × List ℕ)
   missing_in state end_of-Expr = None
   missing_in state (more_of-Expr e rest) = first_of_both (missing state e) (missing_in state rest)
 
+  -- that of the links of a chain
   pub missing_along : State → {m : _} → Row_of-Link m → Option (Place × List ℕ)
   missing_along state end_of-Link = None
   missing_along state (more_of-Link at op right rest) = first_of_both (missing state right) (missing_along state rest)
@@ -97,6 +100,7 @@ relation_named state name = unwrap_or (state name) (empty 0 0)
 
 -- the sizes of an expression on a state
 abbrev mutual
+  -- those of an expression; of a constructor that has no meaning yet, none
   pub shaped : State → Expr → Shaped
   shaped state (Ref at name) = shape_of_relation (relation_named state name)
   shaped state (Call' at name shape args) = Fits 0 0
@@ -107,6 +111,7 @@ abbrev mutual
   shaped state (Turned' at p of times) = shape_transposed_by times (shaped state of)
   shaped state (Chain' p first shape rest) = shaped_along state (shaped state first) rest
 
+  -- those of a chain, behind links so far
   pub shaped_along : State → Shaped → {m : _} → Row_of-Link m → Shaped
   shaped_along state s end_of-Link = s
   shaped_along state s (more_of-Link at op right rest) = shaped_along state (joined at op s (shaped state right)) rest
@@ -122,6 +127,7 @@ result_of_both Over r s = left_residual r s
 
 -- the value of an expression on a state that has its names, where its sizes fit
 abbrev mutual
+  -- that of an expression
   pub value : State → Expr → Relation
   value state (Ref at name) = relation_named state name
   value state (Call' at name shape args) = empty 0 0
@@ -132,6 +138,7 @@ abbrev mutual
   value state (Turned' at p of times) = transposed_by times (value state of)
   value state (Chain' p first shape rest) = value_along state (value state first) rest
 
+  -- that of a chain, whose value so far is given
   pub value_along : State → Relation → {m : _} → Row_of-Link m → Relation
   value_along state r end_of-Link = r
   value_along state r (more_of-Link at op right rest) = value_along state (result_of_both op r (value state right)) rest

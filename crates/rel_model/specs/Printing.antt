@@ -67,6 +67,7 @@ within needed text = cond needed (40 ∷ text ++ 41 ∷ []) text
 
 -- The text of an expression. An operand of a chain stands in parentheses where it is a chain of the same or a looser level, that of - where it is a chain, and that of ^ where it is a chain or has a - or a ^ in front.
 abbrev mutual
+  -- the text of an expression
   pub printed : Expr → List ℕ
   printed (Ref at name) = name
   printed (Call' at name shape args) = name ++ 40 ∷ printed_args args ++ 41 ∷ []

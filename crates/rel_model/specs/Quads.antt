@@ -79,7 +79,7 @@ pub record AreQuarters (old new : Work) (q : Quad) (four : Quad × Quad × Quad 
 abbrev pub quad_room : ℕ → ℕ
 quad_room height = 2 * 4 ^ (height - bottom_height) - 1
 
--- how many words a composition on squares of a height places at most: 1 for a block, and above it those of eight products, of four unions and of a corner
+-- a bound on how many words a composition on squares of a height places: 1 for a block, and above it those of eight products, of four unions and of a corner, and one to spare
 abbrev pub compose_room : ℕ → ℕ
 compose_room height = 3 * 8 ^ (height - bottom_height) - 2 * 4 ^ (height - bottom_height)
 

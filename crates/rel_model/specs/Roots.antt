@@ -1,5 +1,5 @@
 -- Relations by their roots in the words of a table (the k²-trees of Brisaboa, Ladra and Navarro, with k = 2, that end in blocks of 8 by 8).
-use Rattle.std.specs.Prelude.{◌≡◌, ◌&&◌, ◌↔◌, not, nat_lt, nat_le, max, cond, ℕ, Bool, List, Option, Some, None}
+use Rattle.std.specs.Prelude.{◌≡◌, ◌&&◌, ◌↔◌, ◌-◌, ◌*◌, ◌^◌, not, nat_lt, nat_le, max, cond, ℕ, Bool, List, Option, Some, None}
 use Rattle.rel_model.specs.declared.Rel.{Rel}
 use Rattle.rel_model.specs.Relation.{Relation, relation_of, size_limit}
 use Rattle.rel_model.specs.Cells.{Cells, some_below}
@@ -14,6 +14,14 @@ height_over least rows cols = max least (max (height_of rows) (height_of cols))
 -- the height of the tree of a relation in a table
 abbrev pub tree_height : ℕ → ℕ → ℕ
 tree_height rows cols = height_over bottom_height rows cols
+
+-- how many nodes a tree has at most, so many quarterings above the leaves: 1 for a leaf, and above it those of four quarters and 3 for their corner
+abbrev pub tree_room : ℕ → ℕ
+tree_room depth = 2 * 4 ^ depth - 1
+
+-- those of a relation of these sizes over leaves of a height
+abbrev pub relation_room : ℕ → ℕ → ℕ → ℕ
+relation_room least rows cols = tree_room (height_over least rows cols - least)
 
 -- whether a set within a square of side m has no cell outside so many rows and columns
 unfoldable pub lies_within : ℕ → ℕ → ℕ → Cells → Bool

@@ -25,7 +25,7 @@ use Rattle.rel_model.specs.declared.token.Kind.{Kind}
 use Rattle.rel_model.specs.declared.token.Kind.TheVariants.{Keyword, Base as BASE, Word, Number, File, Sign}
 use Rattle.rel_model.specs.declared.token.Token.{Token}
 use Rattle.rel_model.specs.Tokens.{tokens_of}
-use Rattle.rel_model.specs.Grammar.{nesting_limit, TakesAt, Takes, Carets}
+use Rattle.rel_model.specs.Taken.{nesting_limit, TakesAt, Takes, Carets}
 
 -- ---- listed relations
 -- { "," NUMBER }, each at least 1
@@ -99,6 +99,7 @@ form_of _ = TakesOne
 
 -- The tokens of an expression at a level of the grammar, where so many constructs are open around it; those of further arguments, at most so many; and those of the links of a chain.
 mutual
+  -- an expression
   pub data Spelled : Level → ℕ → Expr → List Token → List Token → Type 0 where
     named : (d : ℕ) (at : Place) (text : List ℕ) (tokens rest : List Token) → TakesAt at (Word text) tokens rest → Spelled PrimLevel d (Ref at text) tokens rest
     called : (d : ℕ) (at : Place) (text : List ℕ) (args : Vec Expr Global) (first : Expr) (more : List Expr) (tokens t1 t2 t3 t4 rest : List Token) → d < nesting_limit → args.items ≡ first ∷ more
@@ -130,6 +131,7 @@ mutual
 -- ---- statements
 -- The tokens of a statement where so many constructs are open around it, and of a list of statements.
 mutual
+  -- a statement
   pub data SpelledStmt : ℕ → Stmt → List Token → List Token → Type 0 where
     assigned : (d : ℕ) (at : Place) (name : List ℕ) (value : Expr) (tokens t1 t2 rest : List Token) → TakesAt at (Word name) tokens t1 → Takes (Sign 61) t1 t2 → Spelled OrLevel d value t2 rest → SpelledStmt d (Set at name value) tokens rest
     looped : (d : ℕ) (at : Place) (test : Expr) (body : Vec Stmt Global) (tokens t1 t2 t3 t4 rest : List Token) → d < nesting_limit

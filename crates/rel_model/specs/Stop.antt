@@ -10,7 +10,7 @@ use Rattle.rel_model.specs.declared.token.Keyword.TheVariants.{Rel as REL, Let a
 use Rattle.rel_model.specs.declared.token.Kind.{Kind}
 use Rattle.rel_model.specs.declared.token.Kind.TheVariants.{Keyword as KEYWORD, Base as BASE, Word, Number, File, Sign}
 use Rattle.rel_model.specs.declared.token.Token.{Token}
-use Rattle.rel_model.specs.Grammar.{nesting_limit}
+use Rattle.rel_model.specs.Taken.{nesting_limit}
 use Rattle.rel_model.specs.Spelling.{Level, OrLevel, AndLevel, ProdLevel, UnaryLevel, PostLevel, PrimLevel, tighter, Form, TakesOne, TakesTwo, TakesDomain, form_of}
 use Rattle.rel_model.specs.Lexed.{Ending, EndsAt, Broken, lexed_of}
 

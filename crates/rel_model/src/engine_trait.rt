@@ -1,15 +1,15 @@
 //! All operations of the language on relations, over whatever keeps them.
 //!
 //! Every call keeps all relations and quads that stood, with the same sets, makes at most its room of nodes, and refuses only for its named cause.
-ghost use Rattle.std.specs.Prelude.{◌≡◌, ◌<◌, ◌≤◌, ◌+◌, ◌*◌, ◌^◌, max, length, IfOk, IfSome, IsErrOf, true};
-ghost use Rattle.rel_model.specs.declared.Lack.TheVariants.{Full};
+ghost use Rattle.std.specs.Prelude.{◌≡◌, ◌<◌, ◌≤◌, ◌+◌, ◌-◌, ◌*◌, ◌^◌, max, length, IfOk, IfSome, true, false};
 ghost use Rattle.rel_model.specs.Relation.{has, relation_of, size_limit};
 ghost use Rattle.rel_model.specs.Operators.{right_residual, left_residual, symmetric_quotient, identity as identity_of};
 ghost use Rattle.rel_model.specs.Closures.{transitive_closure, reflexive_closure};
 ghost use Rattle.rel_model.specs.Choice.{holds, count_below, point as point_of, atom as atom_of, init as init_of, next as next_of, dom as dom_of, ran as ran_of, is_unival, count as count_of, next_pair as next_pair_of, inj as inj_of};
 ghost use Rattle.rel_model.specs.Domains.{HasDomainCause, first_projection, second_projection, left_injection, right_injection, membership, pairing};
-ghost use Rattle.rel_model.specs.Listed.{IsWithin, is_among};
-ghost use Rattle.rel_model.specs.Worker.{Stands, set_of, Gives, Keeps, MakesAtMost, HasCause, Rose, pairs_room, derived_room, wide_room};
+ghost use Rattle.rel_model.specs.Roots.{height_over, relation_room};
+ghost use Rattle.rel_model.specs.Listed.{AreWithin, is_among};
+ghost use Rattle.rel_model.specs.Worker.{Stands, set_of, Gives, Keeps, MakesAtMost, MissesNothing, HasCause, listed_room, pairs_room, operator_room, derived_room, wide_room};
 
 use crate::faults::DomainError;
 use crate::quads_trait::Quads;
@@ -55,6 +55,7 @@ pub trait Engine: Quads {
         ensures value { IfOk result (Gives (Self.worker self.new) r.rows r.cols (transitive_closure (set_of (Self.worker self.old) r))) }
         ensures keeps { Keeps (Self.worker self.old) (Self.worker self.new) }
         ensures room { MakesAtMost (derived_room r.rows r.rows r.rows) (Self.worker self.old) (Self.worker self.new) }
+        ensures nothing { r.rows ≤ 1 → MakesAtMost 0 (Self.worker self.old) (Self.worker self.new) }
         ensures cause { HasCause Self.lean (Self.worker self.old) (Self.worker self.new) result };
 
     /// `refl(R) = R | I`: a square relation with the pairs (i, i).
@@ -64,6 +65,7 @@ pub trait Engine: Quads {
         ensures value { IfOk result (Gives (Self.worker self.new) r.rows r.cols (reflexive_closure (set_of (Self.worker self.old) r))) }
         ensures keeps { Keeps (Self.worker self.old) (Self.worker self.new) }
         ensures room { MakesAtMost (wide_room r.rows r.rows r.rows) (Self.worker self.old) (Self.worker self.new) }
+        ensures few { MakesAtMost (relation_room Self.least r.rows r.rows + operator_room r.rows r.cols) (Self.worker self.old) (Self.worker self.new) }
         ensures cause { HasCause Self.lean (Self.worker self.old) (Self.worker self.new) result };
 
     /// `I = {(i, i)}`: the identity of n elements.
@@ -72,6 +74,7 @@ pub trait Engine: Quads {
         ensures value { IfOk result (Gives (Self.worker self.new) n n (identity_of n)) }
         ensures keeps { Keeps (Self.worker self.old) (Self.worker self.new) }
         ensures room { MakesAtMost (derived_room n n n) (Self.worker self.old) (Self.worker self.new) }
+        ensures tree { MakesAtMost (relation_room Self.least n n) (Self.worker self.old) (Self.worker self.new) }
         ensures cause { HasCause Self.lean (Self.worker self.old) (Self.worker self.new) result };
 
     /// `{(i * y + j, i)}`: the projection of a product to its first factor. It is refused where the product is over the limit.
@@ -81,6 +84,7 @@ pub trait Engine: Quads {
         ensures value { IfOk result (Gives (Self.worker self.new) (x * y) x (first_projection x y)) }
         ensures keeps { Keeps (Self.worker self.old) (Self.worker self.new) }
         ensures room { MakesAtMost (derived_room (x * y) x x) (Self.worker self.old) (Self.worker self.new) }
+        ensures tree { MakesAtMost (relation_room Self.least (x * y) x) (Self.worker self.old) (Self.worker self.new) }
         ensures nothing { size_limit < x * y → MakesAtMost 0 (Self.worker self.old) (Self.worker self.new) }
         ensures cause { HasDomainCause Self.lean (x * y) (Self.worker self.old) (Self.worker self.new) result };
 
@@ -91,6 +95,7 @@ pub trait Engine: Quads {
         ensures value { IfOk result (Gives (Self.worker self.new) (x * y) y (second_projection x y)) }
         ensures keeps { Keeps (Self.worker self.old) (Self.worker self.new) }
         ensures room { MakesAtMost (derived_room (x * y) y y) (Self.worker self.old) (Self.worker self.new) }
+        ensures tree { MakesAtMost (relation_room Self.least (x * y) y) (Self.worker self.old) (Self.worker self.new) }
         ensures nothing { size_limit < x * y → MakesAtMost 0 (Self.worker self.old) (Self.worker self.new) }
         ensures cause { HasDomainCause Self.lean (x * y) (Self.worker self.old) (Self.worker self.new) result };
 
@@ -101,6 +106,7 @@ pub trait Engine: Quads {
         ensures value { IfOk result (Gives (Self.worker self.new) x (x + y) (left_injection x y)) }
         ensures keeps { Keeps (Self.worker self.old) (Self.worker self.new) }
         ensures room { MakesAtMost (derived_room x (x + y) (x + y)) (Self.worker self.old) (Self.worker self.new) }
+        ensures tree { MakesAtMost (relation_room Self.least x (x + y)) (Self.worker self.old) (Self.worker self.new) }
         ensures nothing { size_limit < x + y → MakesAtMost 0 (Self.worker self.old) (Self.worker self.new) }
         ensures cause { HasDomainCause Self.lean (x + y) (Self.worker self.old) (Self.worker self.new) result };
 
@@ -111,6 +117,7 @@ pub trait Engine: Quads {
         ensures value { IfOk result (Gives (Self.worker self.new) y (x + y) (right_injection x y)) }
         ensures keeps { Keeps (Self.worker self.old) (Self.worker self.new) }
         ensures room { MakesAtMost (derived_room y (x + y) (x + y)) (Self.worker self.old) (Self.worker self.new) }
+        ensures tree { MakesAtMost (relation_room Self.least y (x + y)) (Self.worker self.old) (Self.worker self.new) }
         ensures nothing { size_limit < x + y → MakesAtMost 0 (Self.worker self.old) (Self.worker self.new) }
         ensures cause { HasDomainCause Self.lean (x + y) (Self.worker self.old) (Self.worker self.new) result };
 
@@ -120,6 +127,7 @@ pub trait Engine: Quads {
         ensures value { IfOk result (Gives (Self.worker self.new) x (2 ^ x) (membership x)) }
         ensures keeps { Keeps (Self.worker self.old) (Self.worker self.new) }
         ensures room { MakesAtMost (derived_room x (2 ^ x) (2 ^ x)) (Self.worker self.old) (Self.worker self.new) }
+        ensures tree { MakesAtMost (relation_room Self.least x (2 ^ x)) (Self.worker self.old) (Self.worker self.new) }
         ensures nothing { size_limit < 2 ^ x → MakesAtMost 0 (Self.worker self.old) (Self.worker self.new) }
         ensures cause { HasDomainCause Self.lean (2 ^ x) (Self.worker self.old) (Self.worker self.new) result };
 
@@ -141,17 +149,19 @@ pub trait Engine: Quads {
         ensures value { IfOk result (Gives (Self.worker self.new) (count_below v.rows (holds (set_of (Self.worker self.old) v))) v.rows (inj_of (set_of (Self.worker self.old) v))) }
         ensures keeps { Keeps (Self.worker self.old) (Self.worker self.new) }
         ensures room { MakesAtMost (derived_room v.rows v.cols v.cols) (Self.worker self.old) (Self.worker self.new) }
+        ensures tree { MakesAtMost (relation_room Self.least v.rows v.cols) (Self.worker self.old) (Self.worker self.new) }
         ensures cause { HasCause Self.lean (Self.worker self.old) (Self.worker self.new) result };
 
     /// `{p : p in pairs}`: the relation of listed pairs, in any order, repeats allowed. It sorts, so memory may run out even where the worker is lean.
     fn from_pairs(&mut self, alloc: Global, shape: Shape, pairs: &[(u32, u32)]) -> Result<Rel, Lack>
         requires row_limit { shape.rows ≤ size_limit }
         requires col_limit { shape.cols ≤ size_limit }
-        requires within { IsWithin shape.rows shape.cols pairs.now }
+        requires within { AreWithin shape.rows shape.cols pairs.now }
         ensures value { IfOk result (Gives (Self.worker self.new) shape.rows shape.cols (relation_of shape.rows shape.cols (is_among pairs.now))) }
         ensures keeps { Keeps (Self.worker self.old) (Self.worker self.new) }
         ensures room { MakesAtMost (pairs_room (length pairs.now) shape.rows shape.cols) (Self.worker self.old) (Self.worker self.new) }
-        ensures full { IsErrOf result Full → Rose (Self.worker self.old).misses (Self.worker self.new).misses };
+        ensures few { MakesAtMost (listed_room (length pairs.now) (height_over Self.least shape.rows shape.cols - Self.least)) (Self.worker self.old) (Self.worker self.new) }
+        ensures cause { HasCause false (Self.worker self.old) (Self.worker self.new) result };
 
     /// `{(i, 0) : i is the least element of v}`: a point of a vector that has an element, and the empty vector of one that has none.
     fn point(&mut self, v: Rel) -> Result<Rel, Lack>
@@ -160,6 +170,7 @@ pub trait Engine: Quads {
         ensures value { IfOk result (Gives (Self.worker self.new) v.rows 1 (point_of (set_of (Self.worker self.old) v))) }
         ensures keeps { Keeps (Self.worker self.old) (Self.worker self.new) }
         ensures room { MakesAtMost (derived_room v.rows 1 1) (Self.worker self.old) (Self.worker self.new) }
+        ensures few { MakesAtMost (operator_room v.rows 1) (Self.worker self.old) (Self.worker self.new) }
         ensures cause { HasCause Self.lean (Self.worker self.old) (Self.worker self.new) result };
 
     /// `{(i, j) : (i, j) is the least pair of r by row and then by column}`, and the empty relation of one that has none.
@@ -168,6 +179,7 @@ pub trait Engine: Quads {
         ensures value { IfOk result (Gives (Self.worker self.new) r.rows r.cols (atom_of (set_of (Self.worker self.old) r))) }
         ensures keeps { Keeps (Self.worker self.old) (Self.worker self.new) }
         ensures room { MakesAtMost (derived_room r.rows r.cols 1) (Self.worker self.old) (Self.worker self.new) }
+        ensures few { MakesAtMost (operator_room r.rows r.cols) (Self.worker self.old) (Self.worker self.new) }
         ensures cause { HasCause Self.lean (Self.worker self.old) (Self.worker self.new) result };
 
     /// `{(0, 0)}` with the rows of v, and the empty vector where it has none.
@@ -177,6 +189,7 @@ pub trait Engine: Quads {
         ensures value { IfOk result (Gives (Self.worker self.new) v.rows 1 (init_of (set_of (Self.worker self.old) v))) }
         ensures keeps { Keeps (Self.worker self.old) (Self.worker self.new) }
         ensures room { MakesAtMost (derived_room v.rows 1 1) (Self.worker self.old) (Self.worker self.new) }
+        ensures few { MakesAtMost (operator_room v.rows 1) (Self.worker self.old) (Self.worker self.new) }
         ensures cause { HasCause Self.lean (Self.worker self.old) (Self.worker self.new) result };
 
     /// `{(i + 1, 0) : i is in v, i + 1 < rows}`: each element moved up by one, the last dropped.
@@ -209,14 +222,16 @@ pub trait Engine: Quads {
         requires { Stands (Self.worker self.old) r }
         ensures value { result ≡ is_unival (set_of (Self.worker self.old) r) }
         ensures keeps { Keeps (Self.worker self.old) (Self.worker self.new) }
-        ensures room { MakesAtMost 0 (Self.worker self.old) (Self.worker self.new) };
+        ensures room { MakesAtMost 0 (Self.worker self.old) (Self.worker self.new) }
+        ensures misses { MissesNothing (Self.worker self.old) (Self.worker self.new) };
 
     /// How many pairs a relation has.
     fn count(&mut self, alloc: Global, r: Rel) -> Result<u64, NoMemory>
         requires { Stands (Self.worker self.old) r }
         ensures value { IfOk result (λ n. n ≡ count_of (set_of (Self.worker self.old) r)) }
         ensures keeps { Keeps (Self.worker self.old) (Self.worker self.new) }
-        ensures room { MakesAtMost 0 (Self.worker self.old) (Self.worker self.new) };
+        ensures room { MakesAtMost 0 (Self.worker self.old) (Self.worker self.new) }
+        ensures misses { MissesNothing (Self.worker self.old) (Self.worker self.new) };
 
     /// The least pair by row and then by column, of those behind `after` where it is given.
     fn next_pair(&mut self, r: Rel, after: Option<(u32, u32)>) -> Option<(u32, u32)>
@@ -224,5 +239,6 @@ pub trait Engine: Quads {
         ensures value { result ≡ next_pair_of (set_of (Self.worker self.old) r) after }
         ensures among { IfSome result (λ p. has (set_of (Self.worker self.old) r) p.0 p.1 ≡ true) }
         ensures keeps { Keeps (Self.worker self.old) (Self.worker self.new) }
-        ensures room { MakesAtMost 0 (Self.worker self.old) (Self.worker self.new) };
+        ensures room { MakesAtMost 0 (Self.worker self.old) (Self.worker self.new) }
+        ensures misses { MissesNothing (Self.worker self.old) (Self.worker self.new) };
 }

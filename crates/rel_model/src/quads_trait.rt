@@ -8,7 +8,7 @@ ghost use Rattle.rel_model.specs.Cells.{Cells, no_cells, cells_rect, bits_cells}
 ghost use Rattle.rel_model.specs.Trees.{top_height, quartered};
 ghost use Rattle.rel_model.specs.Roots.{height_over};
 ghost use Rattle.rel_model.specs.Quarters.{LiesWithin, GivesQuarters};
-ghost use Rattle.rel_model.specs.Worker.{Worker, Stands, set_of, HasQuad, quad_set, GivesQuad, Gives, Keeps, MakesAtMost, HasCause};
+ghost use Rattle.rel_model.specs.Worker.{Worker, Stands, set_of, HasQuad, quad_set, GivesQuad, Gives, Keeps, MakesAtMost, MissesNothing, HasCause};
 
 use crate::core_trait::Core;
 use crate::{Lack, Quad, Rel, Shape};
@@ -42,7 +42,8 @@ pub trait Quads: Core {
         requires over { least < q.height }
         ensures quarters { GivesQuarters (Self.worker self.old) (Self.worker self.new) q result }
         ensures keeps { Keeps (Self.worker self.old) (Self.worker self.new) }
-        ensures room { MakesAtMost 0 (Self.worker self.old) (Self.worker self.new) };
+        ensures room { MakesAtMost 0 (Self.worker self.old) (Self.worker self.new) }
+        ensures misses { MissesNothing (Self.worker self.old) (Self.worker self.new) };
 
     /// The quad with these quarters, which are of one height.
     fn corner(&mut self, nw: Quad, ne: Quad, sw: Quad, se: Quad) -> Result<Quad, Lack>
@@ -66,7 +67,8 @@ pub trait Quads: Core {
         ensures cells { bits_cells (2 ^ least) result ≡ quad_set (Self.worker self.old) q }
         ensures none_past { result < 2 ^ (2 ^ least * 2 ^ least) }
         ensures keeps { Keeps (Self.worker self.old) (Self.worker self.new) }
-        ensures room { MakesAtMost 0 (Self.worker self.old) (Self.worker self.new) };
+        ensures room { MakesAtMost 0 (Self.worker self.old) (Self.worker self.new) }
+        ensures misses { MissesNothing (Self.worker self.old) (Self.worker self.new) };
 
     /// The leaf whose cells are in this word: cell (i, j) is bit `2 ^ bottom * i + j`.
     fn block(&mut self, bits: u64) -> Result<Quad, Lack>

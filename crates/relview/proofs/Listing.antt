@@ -16,7 +16,7 @@ use Rattle.rel_model.proofs.Relations.{has-relation_of, relation_of-agree, rows-
 use Rattle.rel_model.proofs.Workers.{gives_stands, gives_set, keeps_set}
 use Rattle.rel_model.proofs.OperatorLaws.{relation_of-sizes}
 use Rattle.relview.specs.Listed.{IsListed, Extends}
-use Rattle.rel_model.specs.Listed.{IsWithin, is_among}
+use Rattle.rel_model.specs.Listed.{AreWithin, is_among}
 
 or_nothing : (b : Bool) → (b || false) ≡ b
 or_nothing true = refl
@@ -31,7 +31,7 @@ pub is_among-append : (ps qs : List (ℕ × ℕ)) (i j : ℕ) → is_among (ps +
 is_among-append [] qs i j = refl
 is_among-append (p ∷ ps) qs i j = ap (λ b. (eqb p.0 i && eqb p.1 j) || b) (is_among-append ps qs i j) ∙ sym (regroup (eqb p.0 i && eqb p.1 j) (is_among ps i j) (is_among qs i j))
 
-pub within-append : (m n : ℕ) (ps qs : List (ℕ × ℕ)) → IsWithin m n ps → IsWithin m n qs → IsWithin m n (ps ++ qs)
+pub within-append : (m n : ℕ) (ps qs : List (ℕ × ℕ)) → AreWithin m n ps → AreWithin m n qs → AreWithin m n (ps ++ qs)
 within-append m n [] qs a b = b
 within-append m n (p ∷ ps) qs a b = (a.0, within-append m n ps qs a.1 b)
 

@@ -43,6 +43,7 @@ IsBoolean _ = ⊥
 
 -- an expression of names, union, intersection, complement and transposition
 abbrev mutual
+  -- an expression
   pub IsPlain : Expr → Type 0
   IsPlain (Ref at name) = Unit {0}
   IsPlain (Call' at name shape args) = ⊥
@@ -53,6 +54,7 @@ abbrev mutual
   IsPlain (Turned' at p of times) = IsPlain of
   IsPlain (Chain' p first shape rest) = IsPlain first × ArePlain rest
 
+  -- the links of a chain
   pub ArePlain : {m : _} → Row_of-Link m → Type 0
   ArePlain end_of-Link = Unit {0}
   ArePlain (more_of-Link at op right rest) = IsBoolean op × IsPlain right × ArePlain rest

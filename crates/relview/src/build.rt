@@ -1,12 +1,11 @@
 //! Relations from listed pairs.
-ghost use Rattle.std.specs.Prelude.{◌≡◌, ◌==◌, ◌&&◌, ◌+◌, ◌≤◌, length, IfOk, IfErr, OnOk};
+ghost use Rattle.std.specs.Prelude.{◌≡◌, ◌==◌, ◌&&◌, ◌+◌, ◌≤◌, length, false, IfOk, OnOk};
 ghost use Rattle.std.specs.List.{list_any};
 ghost use Rattle.rel_model.specs.Relation.{relation_of, size_limit};
 ghost use Rattle.rel_model.specs.State.{lists};
-ghost use Rattle.rel_model.specs.declared.Lack.TheVariants.{Full};
-ghost use Rattle.rel_model.specs.Worker.{Keeps, MakesAtMost, Gives, Rose, pairs_room};
+ghost use Rattle.rel_model.specs.Worker.{Keeps, MakesAtMost, Gives, HasCause, pairs_room};
 ghost use Rattle.rel_model.specs.Cost.{listed_count};
-ghost use Rattle.rel_model.specs.Listed.{IsWithin};
+ghost use Rattle.rel_model.specs.Listed.{AreWithin};
 ghost use Rattle.relview.specs.Listed.{Extends, IsListed};
 
 use rel_model::core_trait::Core;
@@ -22,8 +21,8 @@ fn push_listed(
     row: u64,
     col: u64,
 ) -> Result<(), AllocError>
-    requires { IsWithin shape.rows shape.cols pairs.old.items }
-    ensures within { IsWithin shape.rows shape.cols pairs.new.items }
+    requires { AreWithin shape.rows shape.cols pairs.old.items }
+    ensures within { AreWithin shape.rows shape.cols pairs.new.items }
     ensures pair { OnOk result (Extends shape.rows shape.cols pairs.old.items pairs.new.items (λ i j. (row == i + 1) && (col == j + 1))) }
     ensures count { length pairs.new.items ≤ length pairs.old.items + 1 }
 {
@@ -35,8 +34,8 @@ fn push_listed(
 
 /// Adds the pairs of a listed row.
 fn push_row(pairs: &mut Vec<(u32, u32)>, shape: Shape, row: &Row) -> Result<(), AllocError>
-    requires { IsWithin shape.rows shape.cols pairs.old.items }
-    ensures within { IsWithin shape.rows shape.cols pairs.new.items }
+    requires { AreWithin shape.rows shape.cols pairs.old.items }
+    ensures within { AreWithin shape.rows shape.cols pairs.new.items }
     ensures pairs { OnOk result (Extends shape.rows shape.cols pairs.old.items pairs.new.items (λ i j. (row.now.row == i + 1) && list_any (λ c. c.col == j + 1) row.now.cols.items)) }
     ensures count { length pairs.new.items ≤ length pairs.old.items + length row.now.cols.items }
 {
@@ -48,7 +47,7 @@ fn push_row(pairs: &mut Vec<(u32, u32)>, shape: Shape, row: &Row) -> Result<(), 
 
 /// The listed pairs within the sizes, counted from 0.
 fn listed_pairs(alloc: Global, shape: Shape, list: &[Row]) -> Result<Vec<(u32, u32)>, AllocError>
-    ensures within { IfOk result (λ v. IsWithin shape.rows shape.cols v.items) }
+    ensures within { IfOk result (λ v. AreWithin shape.rows shape.cols v.items) }
     ensures pairs { IfOk result (λ v. IsListed shape.rows shape.cols v.items (lists list.now)) }
     ensures count { IfOk result (λ v. length v.items ≤ listed_count list.now) }
 {
@@ -72,7 +71,7 @@ pub fn listed<E: Engine>(
     ensures value { IfOk result (Gives (E.worker engine.new) shape.rows shape.cols (relation_of shape.rows shape.cols (lists list.now))) }
     ensures keeps { Keeps (E.worker engine.old) (E.worker engine.new) }
     ensures room { MakesAtMost (pairs_room (listed_count list.now) shape.rows shape.cols) (E.worker engine.old) (E.worker engine.new) }
-    ensures full { IfErr result (λ e. e ≡ Full → Rose (E.worker engine.old).misses (E.worker engine.new).misses) }
+    ensures cause { HasCause false (E.worker engine.old) (E.worker engine.new) result }
 {
     let pairs = listed_pairs(alloc, shape, list)?;
     match engine.from_pairs(alloc, shape, pairs.as_slice()) {

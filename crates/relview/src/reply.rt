@@ -5,7 +5,7 @@ ghost use Rattle.rel_model.specs.declared.Rel.{Rel};
 ghost use Rattle.rel_model.specs.declared.Lack.TheVariants.{Full};
 ghost use Rattle.rel_model.specs.declared.syntax.Command.TheVariants.{Print};
 ghost use Rattle.rel_model.specs.declared.syntax.Item.TheVariants.{Command};
-ghost use Rattle.rel_model.specs.Worker.{Worker, Stands, Keeps, MakesAtMost, Gives, HasCause};
+ghost use Rattle.rel_model.specs.Worker.{Worker, Stands, Keeps, MakesAtMost, MissesNothing, Gives, HasCause};
 ghost use Rattle.rel_model.specs.Cost.{cost, cost_where_due};
 ghost use Rattle.rel_model.specs.Due.{evaluated};
 ghost use Rattle.rel_model.specs.Legal.{MayLackNodes};
@@ -95,6 +95,7 @@ fn matrix_reply<C: Core>(
     ensures reply { IfOk result (λ r. (r.outcome ≡ Done) × (r.text.items ≡ prefix 1 number ++ matrix (set_of (C.worker core.old) rel))) }
     ensures keeps { Keeps (C.worker core.old) (C.worker core.new) }
     ensures room { MakesAtMost 0 (C.worker core.old) (C.worker core.new) }
+    ensures misses { MissesNothing (C.worker core.old) (C.worker core.new) }
 {
     let mut text = Vec::new(alloc);
     push_prefix(alloc, &mut text, 1, number)?;

@@ -1,10 +1,9 @@
 //! Runs the items of a script, one after another.
-ghost use Rattle.std.specs.Prelude.{◌≡◌, ◌∷◌, ◌++◌, [], ◌<◌, ◌≤◌, ◌+◌, ◌^◌, ◌⊎◌, ℕ, List, length, take, OnOk, IfOk, IfErr};
+ghost use Rattle.std.specs.Prelude.{◌≡◌, ◌∷◌, ◌++◌, [], ◌<◌, ◌≤◌, ◌+◌, ◌^◌, ◌⊎◌, ℕ, List, length, take, false, OnOk, IfOk};
 ghost use Rattle.std.specs.Prelude.{All};
-ghost use Rattle.rel_model.specs.declared.Lack.TheVariants.{Full};
 ghost use Rattle.rel_model.specs.Relation.{relation_of, size_limit};
 ghost use Rattle.rel_model.specs.State.{lists};
-ghost use Rattle.rel_model.specs.Worker.{Keeps, MakesAtMost, Gives, Rose, pairs_room};
+ghost use Rattle.rel_model.specs.Worker.{Keeps, MakesAtMost, Gives, HasCause, pairs_room};
 ghost use Rattle.rel_model.specs.Cost.{cost, cost_where_due, listed_count};
 ghost use Rattle.rel_model.specs.Due.{evaluated};
 ghost use Rattle.rel_model.specs.Legal.{Trees};
@@ -67,7 +66,7 @@ fn named_relation<E: Engine>(
     ensures value { IfOk result (λ x. Gives (E.worker engine.new) shape.rows shape.cols (relation_of shape.rows shape.cols (lists list.now)) x.2) }
     ensures keeps { Keeps (E.worker engine.old) (E.worker engine.new) }
     ensures room { MakesAtMost (pairs_room (listed_count list.now) shape.rows shape.cols) (E.worker engine.old) (E.worker engine.new) }
-    ensures full { IfErr result (λ e. e ≡ Full → Rose (E.worker engine.old).misses (E.worker engine.new).misses) }
+    ensures cause { HasCause false (E.worker engine.old) (E.worker engine.new) result }
 {
     let kept = name.copied(alloc)?;
     let noted = name.copied(alloc)?;

@@ -3,7 +3,7 @@ ghost use Rattle.std.specs.Prelude.{◌≡◌, ◌∷◌, ◌++◌, [], ◌<◌,
 ghost use Rattle.std.specs.Fmt.{decimal};
 ghost use Rattle.rel_model.specs.Meaning.{known, spelling};
 ghost use Rattle.rel_model.specs.Page.{row_text, rows_text, matrix, prefix, place_text, shape_text, refusal_text, outcome_text, type_fault_text, unknown_text, mismatch_text, parse_fault_text, what_text};
-ghost use Rattle.rel_model.specs.Worker.{Stands, set_of, Keeps, MakesAtMost};
+ghost use Rattle.rel_model.specs.Worker.{Stands, set_of, Keeps, MakesAtMost, MissesNothing};
 ghost use Rattle.rel_model.specs.declared.faults.TypeFault.TheVariants.{Unknown, Mismatch};
 ghost use Rattle.rel_model.specs.declared.faults.What.TheVariants.{Item};
 ghost use Rattle.rel_model.specs.declared.faults.ParseFault.TheVariants.{Expected};
@@ -54,6 +54,7 @@ fn push_row<C: Core>(core: &mut C, out: &mut Vec<u8>, rel: Rel, i: u32) -> Resul
     ensures text { OnOk result (out.new.items ≡ out.old.items ++ row_text (set_of (C.worker core.old) rel) i) }
     ensures keeps { Keeps (C.worker core.old) (C.worker core.new) }
     ensures room { MakesAtMost 0 (C.worker core.old) (C.worker core.new) }
+    ensures misses { MissesNothing (C.worker core.old) (C.worker core.new) }
 {
     'cells: for j in 0..rel.cols {
         let mark = mark_of(core.has(rel, i, j));
@@ -69,6 +70,7 @@ fn push_rows<C: Core>(core: &mut C, out: &mut Vec<u8>, rel: Rel) -> Result<(), A
     ensures text { OnOk result (out.new.items ≡ out.old.items ++ rows_text (set_of (C.worker core.old) rel)) }
     ensures keeps { Keeps (C.worker core.old) (C.worker core.new) }
     ensures room { MakesAtMost 0 (C.worker core.old) (C.worker core.new) }
+    ensures misses { MissesNothing (C.worker core.old) (C.worker core.new) }
 {
     'rows: for i in 0..rel.rows {
         push_row(core, out, rel, i)?;
@@ -88,6 +90,7 @@ pub fn push_matrix<C: Core>(
     ensures text { OnOk result (out.new.items ≡ out.old.items ++ matrix (set_of (C.worker core.old) rel)) }
     ensures keeps { Keeps (C.worker core.old) (C.worker core.new) }
     ensures room { MakesAtMost 0 (C.worker core.old) (C.worker core.new) }
+    ensures misses { MissesNothing (C.worker core.old) (C.worker core.new) }
 {
     push_number(alloc, out, rel.rows)?;
     out.extend_from_slice(b" x ")?;

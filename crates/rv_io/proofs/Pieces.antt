@@ -1,6 +1,6 @@
 -- What reads and writes of one piece after another come to.
-use Rattle.std.proofs.Common.{◌≡◌, ◌≤◌, ◌+◌, ◌-◌, take, drop, ℕ, List, ◌++◌, length, Option, sym, ap, ◌∙◌, length-append, length-take, length-drop, take-append-drop, subst, arith}
-use Rattle.std.specs.Io.KnownBytes.{Consumes, Appends}
+use Rattle.std.proofs.Common.{◌≡◌, ◌≤◌, ◌+◌, ◌-◌, take, drop, ℕ, List, [], ◌++◌, length, Option, Some, None, sym, ap, ◌∙◌, length-append, length-take, length-drop, take-append-drop, subst, arith, append-nil}
+use Rattle.std.specs.Io.KnownBytes.{Consumes, Appends, Keeps}
 use Rattle.std.proofs.KnownBytes.{Appends-trans, Consumes-trans}
 use Rattle.std.proofs.Math.Seq.{take-add}
 use Rattle.std.proofs.lemmas.List.{take-take, take_at, drop-drop}
@@ -8,6 +8,7 @@ use Rattle.rv_io.specs.declared.reading.ReadError.{ReadError}
 use Rattle.rv_io.specs.declared.reading.ReadError.TheVariants.{Fault, TooLong, NoMemory}
 use Rattle.rv_io.specs.Outside.{Told}
 use Rattle.rv_io.specs.Reading.{TakesOn, RefusesMore}
+use Rattle.rv_io.specs.Writing.{HasPassed}
 
 -- what was taken after others is taken with them
 taken_more : (start old new : Option (List ℕ)) (before : List ℕ) (as_many : ℕ → Type 0) → Consumes start old before → (t : TakesOn old new (λ n. as_many (length before + n))) → TakesOn start new as_many
@@ -47,3 +48,22 @@ read_front xs got tail at n l e =
     let long : length got ≡ n = omega (arith, ap length g, length-take n (drop at xs), length-drop at xs) in
     let whole : take n (got ++ tail) ≡ take n (drop at xs) = take_at got tail n long ∙ g in
     sym (ap (λ zs. zs ++ drop (at + n) xs) whole ∙ ap (λ zs. take n (drop at xs) ++ zs) (sym (drop-drop n at xs)) ∙ take-append-drop n (drop at xs))
+
+-- bytes that were kept when they were flushed
+flushed : (a b c : Option (List ℕ)) (bytes : List ℕ) → Appends a b bytes → Keeps b c → Appends a c bytes
+flushed None b c bytes p k = tt
+flushed (Some xs) None c bytes p k = absurd p
+flushed (Some xs) (Some ys) None bytes p k = absurd k
+flushed (Some xs) (Some ys) (Some zs) bytes p k = k ∙ p
+
+-- nothing was passed on
+kept : (a b : Option (List ℕ)) → Keeps a b → Appends a b []
+kept None b k = tt
+kept (Some xs) None k = absurd k
+kept (Some xs) (Some ys) k = k ∙ sym (append-nil xs)
+
+pub passed_some : (a b c : Option (List ℕ)) (bytes : List ℕ) (n : ℕ) → n ≤ length bytes → Appends a b (take n bytes) → Keeps b c → HasPassed a c bytes
+passed_some a b c bytes n l p k = record { count = n; within = l; once = flushed a b c (take n bytes) p k }
+
+pub passed_none : (a b : Option (List ℕ)) (bytes : List ℕ) → Keeps a b → HasPassed a b bytes
+passed_none a b bytes k = record { count = 0; within = omega arith; once = kept a b k }

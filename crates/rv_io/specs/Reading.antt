@@ -11,6 +11,13 @@ RefusesFile old new name limit Fault = Rose old.faults new.faults
 RefusesFile old new name limit (TooLong given) = (given ≡ limit) × IsOver old.files name limit
 RefusesFile old new name limit NoMemory = Unit {0}
 
+-- the count of faults of the shelf rose exactly where the answer is a fault: where a file was read, was too long or met want of memory it stayed
+abbrev pub CountsFault : {T : Type 0} → ℕ → ℕ → Result T ReadError → Type 0
+CountsFault before now (Ok v) = now ≡ before
+CountsFault before now (Err Fault) = Rose before now
+CountsFault before now (Err (TooLong given)) = now ≡ before
+CountsFault before now (Err NoMemory) = now ≡ before
+
 -- bytes were taken from the front of the file of this name, as many as the condition says, and the others are left; where the files are told
 abbrev pub HasTaken : Option Files → Option (List ℕ) → List ℕ → (ℕ → Type 0) → Type 0
 HasTaken files rest name as_many = IfSome files (λ fs. (taken : List ℕ) × (left : List ℕ) × (fs name ≡ Some (taken ++ left)) × (rest ≡ Some left) × as_many (length taken))

@@ -1,5 +1,5 @@
 //! Real files. They tell no content: what is left of a file is told only where the runtime's files tell it.
-ghost use Rattle.std.specs.Prelude.{◌≡◌, ◌↔◌, [], None, Some, true, IsSome, IsOk};
+ghost use Rattle.std.specs.Prelude.{◌≡◌, ◌↔◌, [], None, Some, true, IsSome, IsOk, OnOk};
 ghost use Rattle.rv_io.specs.Outside.{Leaves, HasCause};
 ghost use Rattle.rv_io.specs.Files.{left_in};
 
@@ -54,6 +54,7 @@ impl<R: Files + Drop> Shelf for FileShelf<R> {
         ensures leaves { Leaves (⟦<FileShelf<R> as Shelf>⟧.told self.old)
             (⟦<FileShelf<R> as Shelf>⟧.told self.new) }
         ensures cause { HasCause self.old.faults self.new.faults result }
+        ensures kept { OnOk result (self.new.faults ≡ self.old.faults) }
     {
         self.file = None;
         if let Ok(file) = File::open(&self.rt, name) {

@@ -24,7 +24,8 @@ pub trait Shelf {
             name.now) }
         ensures none { OnErr result (IsSpent (told self.old).files (told self.new).rest) }
         ensures leaves { Leaves (told self.old) (told self.new) }
-        ensures cause { HasCause (told self.old).faults (told self.new).faults result };
+        ensures cause { HasCause (told self.old).faults (told self.new).faults result }
+        ensures kept { OnOk result ((told self.new).faults ≡ (told self.old).faults) };
 
     /// Takes the next bytes of the picked file into the front of `buf`, and answers how many: none
     /// only at the end, and where nothing is picked. A fault takes none.
@@ -35,7 +36,8 @@ pub trait Shelf {
         ensures end { IfOk result (λ n. IfSome (told self.old).rest
             (λ left. (n ≡ 0) ↔ (left ≡ []))) }
         ensures leaves { Leaves (told self.old) (told self.new) }
-        ensures cause { HasCause (told self.old).faults (told self.new).faults result };
+        ensures cause { HasCause (told self.old).faults (told self.new).faults result }
+        ensures kept { OnOk result ((told self.new).faults ≡ (told self.old).faults) };
 }
 
 /// What takes bytes, one after another.
@@ -52,5 +54,6 @@ pub trait Sink {
         ensures some { TakesSome result bytes.now }
         ensures bytes { WriteAppends (written self.old) (written self.new) result bytes.now }
         ensures later { faults self.old ≤ faults self.new }
-        ensures cause { HasCause (faults self.old) (faults self.new) result };
+        ensures cause { HasCause (faults self.old) (faults self.new) result }
+        ensures kept { OnOk result (faults self.new ≡ faults self.old) };
 }

@@ -1,7 +1,7 @@
 //! Files read whole.
 ghost use Rattle.std.specs.Prelude.{◌+◌, ◌≤◌, IsTrue, length, IfOk, OnOk, IfErr};
 ghost use Rattle.rv_io.specs.Outside.{Leaves, IsFile};
-ghost use Rattle.rv_io.specs.Reading.{RefusesFile, StopsIn, ReadsOn, ReadsToEnd, RefusesMore};
+ghost use Rattle.rv_io.specs.Reading.{RefusesFile, CountsFault, StopsIn, ReadsOn, ReadsToEnd, RefusesMore};
 
 use crate::{Failed, Shelf};
 use std::alloc::Global;
@@ -26,7 +26,7 @@ const PIECE: usize = 1024;
 
 /// Reads the whole file of this name, of at most `limit` bytes.
 ///
-/// `Fault` comes only where the shelf's faults rose, and `TooLong` exactly where more than `limit`
+/// `Fault` comes exactly where the shelf's faults rose, and `TooLong` exactly where more than `limit`
 /// bytes came before the end. At most `limit + 1` bytes are ever taken.
 pub fn read_all<S: Shelf>(
     alloc: Global,
@@ -41,6 +41,7 @@ pub fn read_all<S: Shelf>(
         limit) }
     ensures stops { StopsIn result (S.told shelf.old).files (S.told shelf.new).rest name.now
         limit }
+    ensures counted { CountsFault (S.told shelf.old).faults (S.told shelf.new).faults result }
     ensures leaves { Leaves (S.told shelf.old) (S.told shelf.new) }
 {
     match shelf.pick(name) {
@@ -54,6 +55,7 @@ fn read_left<S: Shelf>(alloc: Global, shelf: &mut S, limit: u64) -> Result<Vec<u
     ensures bytes { IfOk result (λ v. ReadsToEnd (S.told shelf.old).rest (S.told shelf.new).rest
         v.items limit) }
     ensures refused { IfErr result (RefusesMore (S.told shelf.old) (S.told shelf.new) 0 limit) }
+    ensures counted { CountsFault (S.told shelf.old).faults (S.told shelf.new).faults result }
     ensures leaves { Leaves (S.told shelf.old) (S.told shelf.new) }
 {
     let mut bytes = Vec::new(alloc);
@@ -74,6 +76,7 @@ fn read_piece<S: Shelf>(shelf: &mut S, bytes: &mut Vec<u8>, limit: u64) -> Resul
     ensures within { OnOk result (length bytes.new.items ≤ limit) }
     ensures refused { IfErr result (RefusesMore (S.told shelf.old) (S.told shelf.new)
         (length bytes.old.items) limit) }
+    ensures counted { CountsFault (S.told shelf.old).faults (S.told shelf.new).faults result }
     ensures leaves { Leaves (S.told shelf.old) (S.told shelf.new) }
 {
     let room = limit - bytes.len() as u64;

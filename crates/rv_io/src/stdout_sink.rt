@@ -1,7 +1,8 @@
 //! Standard output, or any other writer. It tells no content.
-ghost use Rattle.std.specs.Prelude.{◌≡◌, ◌≤◌, None, take, IfOk};
+ghost use Rattle.std.specs.Prelude.{◌≡◌, ◌≤◌, None, take, IfOk, OnOk, OnErr};
 ghost use Rattle.std.specs.Io.KnownBytes.{Appends};
 ghost use Rattle.rv_io.specs.Outside.{HasCause, TakesSome};
+ghost use Rattle.rv_io.specs.Writing.{HasPassed};
 
 use crate::{Failed, Sink};
 use std::io::Write;
@@ -33,8 +34,12 @@ impl<W: Write + Drop> Sink for StdoutSink<W> {
         // The writer holds those bytes.
         ensures passed { IfOk result (λ n. Appends (W.contents self.old.inner)
             (W.contents self.new.inner) (take n bytes.now)) }
+        // A write that failed passed none of them, or one piece that could not be flushed.
+        ensures failed { OnErr result (HasPassed (W.contents self.old.inner)
+            (W.contents self.new.inner) bytes.now) }
         ensures later { self.old.faults ≤ self.new.faults }
         ensures cause { HasCause self.old.faults self.new.faults result }
+        ensures kept { OnOk result (self.new.faults ≡ self.old.faults) }
     {
         if let Ok(count) = self.inner.write(bytes) {
             if count > 0 && self.inner.flush().is_ok() {

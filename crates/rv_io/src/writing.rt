@@ -1,5 +1,5 @@
 //! Texts written whole.
-ghost use Rattle.std.specs.Prelude.{◌≤◌, OnOk, IfErr};
+ghost use Rattle.std.specs.Prelude.{◌≡◌, ◌≤◌, OnOk, IfErr};
 ghost use Rattle.std.specs.Io.KnownBytes.{Appends};
 ghost use Rattle.rv_io.specs.Outside.{HasCause};
 ghost use Rattle.rv_io.specs.Writing.{HasSent};
@@ -22,6 +22,7 @@ pub fn write_all<K: Sink>(sink: &mut K, bytes: &[u8]) -> Result<(), WriteError>
         e.sent) }
     ensures later { K.faults sink.old ≤ K.faults sink.new }
     ensures cause { HasCause (K.faults sink.old) (K.faults sink.new) result }
+    ensures kept { OnOk result (K.faults sink.new ≡ K.faults sink.old) }
 {
     let mut sent = 0;
     'writes: while sent < bytes.len() {

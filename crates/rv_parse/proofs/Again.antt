@@ -16,7 +16,7 @@ use Rattle.rel_model.specs.declared.token.Kind.TheVariants.{Keyword, Word, Sign}
 use Rattle.rel_model.specs.declared.token.Token.{Token}
 use Rattle.rel_model.specs.Tokens.{is_allowed, reserved_words, domain_operators, domain_operator_at, word_kind, kind_at, behind, tokens_from, tokens_of}
 use Rattle.rel_model.specs.Printing.{printed}
-use Rattle.rel_model.specs.Grammar.{TakesAt}
+use Rattle.rel_model.specs.Taken.{TakesAt}
 use Rattle.rel_model.specs.Spelling.{OrLevel, Spelled, SpellsCommand, SpellsItem, SpellsItems}
 use Rattle.rv_parse.specs.Places.{SameUpToPlaces}
 use Rattle.rv_parse.specs.Again.{StandsIn, SpellOnly, ReadAgain, PrintsSame, PrintsAgain}

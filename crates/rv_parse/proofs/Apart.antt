@@ -10,7 +10,7 @@ use Rattle.rel_model.specs.declared.syntax.Link.{Link}
 use Rattle.rel_model.specs.declared.token.Kind.{Kind}
 use Rattle.rel_model.specs.declared.token.Kind.TheVariants.{Base as BASE, Word, Sign}
 use Rattle.rel_model.specs.declared.token.Token.{Token}
-use Rattle.rel_model.specs.Grammar.{TakesAt, Takes, Carets}
+use Rattle.rel_model.specs.Taken.{TakesAt, Takes, Carets}
 use Rattle.rel_model.specs.Spelling.{Level, OrLevel, AndLevel, ProdLevel, UnaryLevel, PostLevel, PrimLevel, tighter, IsOperatorOf, Form, TakesOne, TakesTwo, TakesDomain, form_of, Spelled, named, called, based, based_twice, injected, paired, enclosed, turned, negated, chained, alone, Listed, Linked, no_link, one_link}
 use Rattle.rv_parse.specs.Again.{Ends}
 use Rattle.rv_parse.specs.Readers.{begins}

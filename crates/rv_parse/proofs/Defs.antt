@@ -10,7 +10,7 @@ use Rattle.rel_model.specs.declared.token.Keyword.TheVariants.{Beg as BEG, Decl 
 use Rattle.rel_model.specs.declared.token.Kind.{Kind}
 use Rattle.rel_model.specs.declared.token.Kind.TheVariants.{Keyword as KEYWORD, Sign, Word}
 use Rattle.rel_model.specs.declared.token.Token.{Token}
-use Rattle.rel_model.specs.Grammar.{TakesAt, Takes}
+use Rattle.rel_model.specs.Taken.{TakesAt, Takes}
 use Rattle.rel_model.specs.Lexed.{Ending}
 use Rattle.rel_model.specs.Spelling.{SpellsMoreNames, SpellsDecl, SpellsMoreDecls, SpellsHead, SpellsItem}
 use Rattle.rel_model.specs.Stop.{Part, NamePart, MoreParams, MeaningPart, DomainPart, MoreDecls, BodyPart, NotBegun, Behind, is_sign, is_word, entered, body_step, stop_of}

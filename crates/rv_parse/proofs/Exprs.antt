@@ -10,7 +10,7 @@ use Rattle.rel_model.specs.declared.syntax.Link.{Link}
 use Rattle.rel_model.specs.declared.faults.What.TheVariants.{Expression}
 use Rattle.rel_model.specs.declared.token.Kind.TheVariants.{Sign}
 use Rattle.rel_model.specs.declared.token.Token.{Token}
-use Rattle.rel_model.specs.Grammar.{TakesAt, Takes, Carets, nesting_limit}
+use Rattle.rel_model.specs.Taken.{TakesAt, Takes, Carets, nesting_limit}
 use Rattle.rel_model.specs.Lexed.{Ending, EndsAt, Broken}
 use Rattle.rel_model.specs.Spelling.{Level, OrLevel, AndLevel, ProdLevel, UnaryLevel, PostLevel, PrimLevel, tighter, Spelled, Listed, Linked, turned, negated, alone, no_more, one_more, no_link, one_link}
 use Rattle.rel_model.specs.Stop.{Part, ExprPart, MoreLinks, MoreCarets, MoreArgs, Step, NotBegun, Instead, Deeper, Behind, followed, first_of, fault_at, expr_step, unary_step, prim_step, stop_of}

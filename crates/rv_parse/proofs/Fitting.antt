@@ -11,7 +11,7 @@ use Rattle.rel_model.specs.declared.token.Keyword.{Keyword}
 use Rattle.rel_model.specs.declared.token.Keyword.TheVariants.{Return as RETURN, While as WHILE, Do as DO, Od as OD, If as IF, Then as THEN, Else as ELSE, Fi as FI}
 use Rattle.rel_model.specs.declared.token.Kind.TheVariants.{Keyword as KEYWORD, Base as BASE, Word, File, Sign}
 use Rattle.rel_model.specs.declared.token.Token.{Token}
-use Rattle.rel_model.specs.Grammar.{nesting_limit, TakesAt, Carets}
+use Rattle.rel_model.specs.Taken.{nesting_limit, TakesAt, Carets}
 use Rattle.rel_model.specs.Lexed.{Ending}
 use Rattle.rel_model.specs.Spelling.{Level, OrLevel, AndLevel, ProdLevel, UnaryLevel, PostLevel, PrimLevel, tighter, IsOperatorOf, Form, TakesOne, TakesTwo, TakesDomain, form_of, Spelled, named, called, based, based_twice, injected, paired, enclosed, turned, negated, chained, alone, Listed, no_more, one_more, Linked, no_link, one_link, SpelledStmt, assigned, looped, branched, branched_twice, SpelledStmts, no_stmt, one_stmt, more_stmts}
 use Rattle.rel_model.specs.Stop.{Part, NamePart, SignPart, WordPart, ExprPart, CallPart, MoreArgs, MoreCarets, MoreLinks, StmtsPart, MoreStmts, ElsePart, form_parts, stop_of}

@@ -4,7 +4,8 @@ use Rattle.rel_model.specs.declared.syntax.Expr.{Row_of-Link, end_of-Link, more_
 use Rattle.rel_model.specs.declared.syntax.Link.{Link}
 use Rattle.rel_model.specs.declared.token.Kind.TheVariants.{Sign}
 use Rattle.rel_model.specs.declared.token.Token.{Token}
-use Rattle.rel_model.specs.Grammar.{Level, tighter, TakesAt, IsOperatorOf, Spelled, Linked, last, link}
+use Rattle.rel_model.specs.Grammar.{Level, tighter, IsOperatorOf, Spelled, Linked, last, link}
+use Rattle.rel_model.specs.Taken.{TakesAt}
 use Rattle.rv_parse.specs.declared.expression.Chains.{Chains}
 use Rattle.rv_parse.specs.declared.expression.Chains.TheVariants.{Or, And}
 

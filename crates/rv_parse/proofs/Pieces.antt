@@ -12,7 +12,7 @@ use Rattle.rel_model.specs.declared.syntax.Base.TheVariants.{L, O, I, Ln1, On1, 
 use Rattle.rel_model.specs.declared.token.Kind.{Kind}
 use Rattle.rel_model.specs.declared.token.Kind.TheVariants.{Base as BASE, Word, Sign}
 use Rattle.rel_model.specs.declared.token.Token.{Token}
-use Rattle.rel_model.specs.Grammar.{Carets}
+use Rattle.rel_model.specs.Taken.{Carets}
 use Rattle.rel_model.specs.Tokens.{is_allowed, is_blank, is_letter, is_word_byte, same_text, found_in, reserved_words, domain_operators, domain_operator_at, word_kind, behind, run_length, kind_at, with_token, tokens_from}
 use Rattle.rel_model.specs.Printing.{sign_of, base_text}
 use Rattle.rv_parse.specs.Again.{ends_names}

@@ -8,7 +8,8 @@ use Rattle.rel_model.specs.declared.syntax.Expr.{Expr, Ref, Minus, Turned, Chain
 use Rattle.rel_model.specs.declared.syntax.Link.{Link}
 use Rattle.rel_model.specs.declared.token.Kind.TheVariants.{Sign, Word}
 use Rattle.rel_model.specs.declared.token.Token.{Token}
-use Rattle.rel_model.specs.Grammar.{Level, OrLevel, UnaryLevel, PostLevel, PrimLevel, tighter, nesting_limit, TakesAt, Carets, Spelled, named, enclosed, turned, negated, chained, alone}
+use Rattle.rel_model.specs.Grammar.{Level, OrLevel, UnaryLevel, PostLevel, PrimLevel, tighter, Spelled, named, enclosed, turned, negated, chained, alone}
+use Rattle.rel_model.specs.Taken.{nesting_limit, TakesAt, Carets}
 use Rattle.rv_parse.specs.Rest.{Part, NamePart, SignPart, ExprPart, MoreLinks, MoreCarets, sign_of, fits, begins}
 use Rattle.rv_parse.specs.Answers.{Reads, Refuses}
 use Rattle.rv_parse.specs.Expressions.{IsRead, level_of}

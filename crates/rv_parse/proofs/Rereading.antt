@@ -12,7 +12,7 @@ use Rattle.rel_model.specs.declared.syntax.Expr.{Expr, Call, Base as BaseCall, I
 use Rattle.rel_model.specs.declared.syntax.Link.{Link}
 use Rattle.rel_model.specs.declared.token.Kind.TheVariants.{Base as BASE, Word, Sign}
 use Rattle.rel_model.specs.declared.token.Token.{Token}
-use Rattle.rel_model.specs.Grammar.{nesting_limit, Carets}
+use Rattle.rel_model.specs.Taken.{nesting_limit, Carets}
 use Rattle.rel_model.specs.Tokens.{is_allowed, behind, tokens_from}
 use Rattle.rel_model.specs.Printing.{printed, rank, within, sign_of, base_text, chain_rank}
 use Rattle.rel_model.specs.Spelling.{Level, OrLevel, AndLevel, ProdLevel, UnaryLevel, PostLevel, PrimLevel, tighter, IsOperatorOf, Spelled, named, called, based, based_twice, injected, paired, enclosed, turned, negated, chained, alone, Listed, no_more, one_more, Linked, no_link, one_link}

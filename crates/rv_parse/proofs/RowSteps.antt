@@ -8,7 +8,7 @@ use Rattle.rel_model.specs.declared.syntax.Row.{Row}
 use Rattle.rel_model.specs.declared.token.Kind.{Kind}
 use Rattle.rel_model.specs.declared.token.Kind.TheVariants.{Number, Sign}
 use Rattle.rel_model.specs.declared.token.Token.{Token}
-use Rattle.rel_model.specs.Grammar.{TakesAt, Takes}
+use Rattle.rel_model.specs.Taken.{TakesAt, Takes}
 use Rattle.rel_model.specs.Lexed.{Ending}
 use Rattle.rel_model.specs.Spelling.{SpellsMoreColumns, SpellsColumns, SpellsRow, SpellsMoreRows, SpellsRows}
 use Rattle.rel_model.specs.Stop.{Part, FromOne, RowsPart, MoreRows, MoreColumns, row_parts, NotBegun, entered, fault_at, what_of, step, stop_of}

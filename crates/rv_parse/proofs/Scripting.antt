@@ -19,7 +19,7 @@ use Rattle.rel_model.specs.declared.token.Keyword.TheVariants.{Rel as REL, Let a
 use Rattle.rel_model.specs.declared.token.Kind.{Kind}
 use Rattle.rel_model.specs.declared.token.Kind.TheVariants.{Keyword as KEYWORD, Word, Number, File, Sign}
 use Rattle.rel_model.specs.declared.token.Token.{Token}
-use Rattle.rel_model.specs.Grammar.{TakesAt, Takes}
+use Rattle.rel_model.specs.Taken.{TakesAt, Takes}
 use Rattle.rel_model.specs.Lexed.{Ending, EndsAt}
 use Rattle.rel_model.specs.Spelling.{OrLevel, SpellsMoreColumns, SpellsColumns, SpellsRow, SpellsMoreRows, SpellsRows, SpellsMoreNames, SpellsParams, SpellsDecl, SpellsMoreDecls, SpellsDecls, SpellsHead, SpellsValued, SpellsCommand, SpellsItem, SpellsItems, Spells, domain_word}
 use Rattle.rel_model.specs.Stop.{Part, NamePart, NumberPart, FromOne, FilePart, SignPart, WordPart, ExprPart, RowsPart, MoreRows, MoreColumns, MoreParams, BodyPart, MeaningPart, DomainPart, MoreDecls, ItemsPart, NotBegun, Behind, row_parts, program_parts, command_step, item_step, stop_of}

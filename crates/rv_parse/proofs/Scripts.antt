@@ -11,7 +11,8 @@ use Rattle.rel_model.specs.declared.faults.ParseFault.{ParseFault}
 use Rattle.rel_model.specs.declared.token.Kind.TheVariants.{Number, Sign}
 use Rattle.rel_model.specs.declared.token.Token.{Token}
 use Rattle.rel_model.specs.Tokens.{tokens_of}
-use Rattle.rel_model.specs.Grammar.{OrLevel, Takes, TakesAt, SpellsCommand, SpellsItem, SpellsItems, Spells, first_size_limit}
+use Rattle.rel_model.specs.Grammar.{OrLevel, SpellsCommand, SpellsItem, SpellsItems, Spells, first_size_limit}
+use Rattle.rel_model.specs.Taken.{Takes, TakesAt}
 use Rattle.rv_parse.specs.Rest.{Part, Items, NamePart, SignPart, RowCount, ColumnCount, RowsPart, fits, begins, begins_up_to}
 use Rattle.rv_parse.specs.Answers.{FitsNone, NoScript}
 use Rattle.rv_parse.specs.Faults.{RefusesFirst, IsFaultOf}

@@ -6,7 +6,7 @@ use Rattle.rel_model.specs.declared.syntax.Stmt.{Stmt}
 use Rattle.rel_model.specs.declared.token.Keyword.TheVariants.{Else as ELSE}
 use Rattle.rel_model.specs.declared.token.Kind.TheVariants.{Keyword as KEYWORD, Sign}
 use Rattle.rel_model.specs.declared.token.Token.{Token}
-use Rattle.rel_model.specs.Grammar.{TakesAt, Takes}
+use Rattle.rel_model.specs.Taken.{TakesAt, Takes}
 use Rattle.rel_model.specs.Lexed.{Ending}
 use Rattle.rel_model.specs.Spelling.{SpelledStmt, SpelledStmts, no_stmt, one_stmt, more_stmts}
 use Rattle.rel_model.specs.Stop.{Part, StmtsPart, MoreStmts, ElsePart, stop_of}

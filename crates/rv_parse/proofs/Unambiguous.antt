@@ -8,7 +8,7 @@ use Rattle.rel_model.specs.declared.syntax.Expr.{Expr, Minus}
 use Rattle.rel_model.specs.declared.syntax.Link.{Link}
 use Rattle.rel_model.specs.declared.token.Kind.TheVariants.{Base as BASE, Word, Sign}
 use Rattle.rel_model.specs.declared.token.Token.{Token}
-use Rattle.rel_model.specs.Grammar.{TakesAt, Carets}
+use Rattle.rel_model.specs.Taken.{TakesAt, Carets}
 use Rattle.rel_model.specs.Spelling.{Level, OrLevel, AndLevel, ProdLevel, UnaryLevel, PostLevel, PrimLevel, tighter, IsOperatorOf, Spelled, named, called, based, based_twice, injected, paired, enclosed, turned, negated, chained, alone, Listed, no_more, one_more, Linked, no_link, one_link}
 use Rattle.rv_parse.specs.Readers.{begins}
 use Rattle.rv_parse.specs.Places.{CallTree, BaseTree, InjectTree, PairTree, MinusTree, NoTree, MoreTrees, SameUpToPlaces, tree_of}

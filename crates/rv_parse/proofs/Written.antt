@@ -13,7 +13,7 @@ use Rattle.rel_model.specs.declared.syntax.Expr.{Expr, Ref, Call, Base as BaseCa
 use Rattle.rel_model.specs.declared.syntax.Link.{Link}
 use Rattle.rel_model.specs.declared.token.Kind.TheVariants.{Base as BASE, Word, Sign}
 use Rattle.rel_model.specs.declared.token.Token.{Token}
-use Rattle.rel_model.specs.Grammar.{nesting_limit}
+use Rattle.rel_model.specs.Taken.{nesting_limit}
 use Rattle.rel_model.specs.Tokens.{is_allowed, behind, tokens_from}
 use Rattle.rel_model.specs.Printing.{printed, rank, within, base_text}
 use Rattle.rel_model.specs.Spelling.{Level, OrLevel, AndLevel, ProdLevel, UnaryLevel, PostLevel, PrimLevel, tighter, TakesOne, TakesTwo, TakesDomain, form_of, Spelled, named, called, based, based_twice, injected, paired, turned, negated, chained, alone, Listed, Linked}

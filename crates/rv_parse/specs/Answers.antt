@@ -5,7 +5,8 @@ use Rattle.rel_model.specs.declared.syntax.Script.{Script}
 use Rattle.rel_model.specs.declared.syntax.Command.{Command}
 use Rattle.rel_model.specs.declared.token.Kind.TheVariants.{Keyword}
 use Rattle.rel_model.specs.declared.token.Keyword.TheVariants.{Rel as REL, Print as PRINT}
-use Rattle.rel_model.specs.Grammar.{OrLevel, Takes, SpellsCommand, Spells}
+use Rattle.rel_model.specs.Grammar.{OrLevel, SpellsCommand, Spells}
+use Rattle.rel_model.specs.Taken.{Takes}
 use Rattle.rv_parse.specs.Rest.{Part, Items, NamePart, RowCount, SignPart, ExprPart, fits}
 use Rattle.rv_parse.specs.declared.first.Opening.{Opening}
 use Rattle.rv_parse.specs.declared.first.Opening.TheVariants.{Relation, Print}

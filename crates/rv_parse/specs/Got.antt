@@ -5,7 +5,7 @@ use Rattle.rel_model.specs.declared.syntax.Expr.{Expr}
 use Rattle.rel_model.specs.declared.syntax.Stmt.{Stmt}
 use Rattle.rel_model.specs.declared.token.Kind.TheVariants.{Keyword as KEYWORD}
 use Rattle.rel_model.specs.declared.token.Token.{Token}
-use Rattle.rel_model.specs.Grammar.{Takes}
+use Rattle.rel_model.specs.Taken.{Takes}
 use Rattle.rel_model.specs.Lexed.{Ending}
 use Rattle.rel_model.specs.Spelling.{OrLevel, Spelled, SpelledStmts}
 use Rattle.rel_model.specs.Stop.{Part, NamePart, NumberPart, SignPart, WordPart, ExprPart, StmtsPart, ElsePart, RowsPart, ItemsPart, MoreParams, BodyPart, MeaningPart, MoreDecls, program_parts, stop_of}

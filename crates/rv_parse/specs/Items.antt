@@ -4,7 +4,7 @@ use Rattle.rel_model.specs.declared.syntax.Item.{Item}
 use Rattle.rel_model.specs.declared.token.Kind.TheVariants.{Keyword as KEYWORD, Word, Sign}
 use Rattle.rel_model.specs.declared.token.Kind.{Kind}
 use Rattle.rel_model.specs.declared.token.Token.{Token}
-use Rattle.rel_model.specs.Grammar.{Takes}
+use Rattle.rel_model.specs.Taken.{Takes}
 use Rattle.rel_model.specs.Lexed.{Ending}
 use Rattle.rel_model.specs.Spelling.{SpellsItem}
 use Rattle.rel_model.specs.Stop.{Step, NotBegun, SignPart, ItemsPart, command_step, stop_of}

@@ -7,7 +7,7 @@ use Rattle.rel_model.specs.declared.token.Keyword.{Keyword}
 use Rattle.rel_model.specs.declared.token.Kind.{Kind}
 use Rattle.rel_model.specs.declared.token.Kind.TheVariants.{Number, Sign}
 use Rattle.rel_model.specs.declared.token.Token.{Token}
-use Rattle.rel_model.specs.Grammar.{TakesAt}
+use Rattle.rel_model.specs.Taken.{TakesAt}
 use Rattle.rel_model.specs.Lexed.{Ending}
 use Rattle.rel_model.specs.Spelling.{Level, OrLevel, AndLevel, ProdLevel, PrimLevel, tighter, IsOperatorOf, Spelled, Listed, Form, TakesOne, TakesTwo, TakesDomain}
 use Rattle.rel_model.specs.Stop.{Part, ExprPart, MoreLinks, MoreArgs, is_sign, is_word, is_operator, stop_of}

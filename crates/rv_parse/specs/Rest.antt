@@ -7,7 +7,8 @@ use Rattle.rel_model.specs.declared.token.Keyword.{Keyword}
 use Rattle.rel_model.specs.declared.token.Kind.{Kind}
 use Rattle.rel_model.specs.declared.token.Kind.TheVariants.{Keyword as KEYWORD, Word, Number, Sign}
 use Rattle.rel_model.specs.declared.token.Token.{Token}
-use Rattle.rel_model.specs.Grammar.{Level, OrLevel, AndLevel, UnaryLevel, PostLevel, PrimLevel, tighter, nesting_limit, first_size_limit}
+use Rattle.rel_model.specs.Grammar.{Level, OrLevel, AndLevel, UnaryLevel, PostLevel, PrimLevel, tighter, first_size_limit}
+use Rattle.rel_model.specs.Taken.{nesting_limit}
 
 -- Parts of the grammar: items, a name, a sign, the sizes of a relation, its rows, a number from 1 up to another; an expression of a level where so many constructs are open, further links, further ^.
 pub data Part : Type 0 where

@@ -1,6 +1,6 @@
 //! Commands.
 ghost use Rattle.std.specs.Prelude.{◌≡◌, ◌<◌, ◌^◌, List, length, MatchResult, MatchOption};
-ghost use Rattle.rel_model.specs.Grammar.{Takes};
+ghost use Rattle.rel_model.specs.Taken.{Takes};
 ghost use Rattle.rel_model.specs.Spelling.{SpellsCommand};
 ghost use Rattle.rel_model.specs.Stop.{NotBegun, command_step};
 ghost use Rattle.rel_model.specs.declared.token.Kind.TheVariants.{Keyword as KEYWORD};

@@ -1,6 +1,6 @@
 //! Definitions: functions and programs.
 ghost use Rattle.std.specs.Prelude.{◌≡◌, ◌<◌, ◌≤◌, ◌^◌, ◌∷◌, [], List, length, MatchResult};
-ghost use Rattle.rel_model.specs.Grammar.{TakesAt, Takes};
+ghost use Rattle.rel_model.specs.Taken.{TakesAt, Takes};
 ghost use Rattle.rel_model.specs.Spelling.{OrLevel, Spelled, SpelledStmts, SpellsParams, SpellsDecl, SpellsDecls, SpellsHead, SpellsItem, domain_word};
 ghost use Rattle.rel_model.specs.Stop.{NamePart, SignPart, MeaningPart, DomainPart, MoreDecls, MoreParams, BodyPart, ExprPart, program_parts};
 ghost use Rattle.rel_model.specs.declared.token.Kind.TheVariants.{Keyword as KEYWORD, Word, Sign};

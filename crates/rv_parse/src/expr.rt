@@ -1,6 +1,6 @@
 //! Expressions: chains of operands, a prefix `-`, signs `^`, calls, pairs and parentheses.
 ghost use Rattle.std.specs.Prelude.{◌≡◌, ◌<◌, ◌≤◌, ◌+◌, ◌^◌, ◌∷◌, [], ℕ, List, false, suc, length, MatchResult, MatchOption};
-ghost use Rattle.rel_model.specs.Grammar.{Carets, TakesAt, nesting_limit};
+ghost use Rattle.rel_model.specs.Taken.{Carets, TakesAt, nesting_limit};
 ghost use Rattle.rel_model.specs.Lexed.{Ending as ENDING};
 ghost use Rattle.rel_model.specs.Spelling.{OrLevel, UnaryLevel, PostLevel, PrimLevel, tighter, TakesOne, TakesTwo, TakesDomain, form_of};
 ghost use Rattle.rel_model.specs.Stop.{Part, ExprPart, CallPart, MoreArgs, MoreCarets, SignPart, form_parts, stop_of};

@@ -1,6 +1,7 @@
 //! Expressions: chains of operands, a prefix `-`, signs `^` and parentheses.
 ghost use Rattle.std.specs.Prelude.{◌≡◌, ◌<◌, ◌≤◌, ◌+◌, ◌^◌, ◌∷◌, [], false, length, MatchResult};
-ghost use Rattle.rel_model.specs.Grammar.{Carets, IsOperatorOf, OrLevel, UnaryLevel, PostLevel, PrimLevel, tighter, nesting_limit};
+ghost use Rattle.rel_model.specs.Grammar.{IsOperatorOf, OrLevel, UnaryLevel, PostLevel, PrimLevel, tighter};
+ghost use Rattle.rel_model.specs.Taken.{Carets, nesting_limit};
 ghost use Rattle.rv_parse.specs.Rest.{ExprPart, MoreCarets, sign_of, begins};
 ghost use Rattle.rv_parse.specs.Answers.{Reads, Refuses};
 ghost use Rattle.rv_parse.specs.Expressions.{IsRead, level_of};

@@ -1,6 +1,6 @@
 //! The first token, read as one part of the grammar, with the fault where it is another.
 ghost use Rattle.std.specs.Prelude.{◌≡◌, ◌≤◌, ◌<◌, ◌∷◌, [], false, MatchResult, MatchOption};
-ghost use Rattle.rel_model.specs.Grammar.{TakesAt, Takes, nesting_limit};
+ghost use Rattle.rel_model.specs.Taken.{TakesAt, Takes, nesting_limit};
 ghost use Rattle.rel_model.specs.Stop.{NamePart, NumberPart, FromOne, FilePart, SignPart, WordPart, OpenPart, number_of};
 ghost use Rattle.rel_model.specs.declared.token.Kind.TheVariants.{Keyword as KEYWORD, Word, Number, File, Sign};
 ghost use Rattle.rv_parse.specs.Halts.{what, missing, ending_of, fault_of};

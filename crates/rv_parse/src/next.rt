@@ -1,6 +1,7 @@
 //! The first token, read as one part of the grammar.
 ghost use Rattle.std.specs.Prelude.{◌≡◌, ◌≤◌, ◌∷◌, [], ℕ, true, false, MatchResult, MatchOption};
-ghost use Rattle.rel_model.specs.Grammar.{TakesAt, first_size_limit};
+ghost use Rattle.rel_model.specs.Grammar.{first_size_limit};
+ghost use Rattle.rel_model.specs.Taken.{TakesAt};
 ghost use Rattle.rel_model.specs.declared.token.Kind.TheVariants.{Word, Number, Sign};
 ghost use Rattle.rv_parse.specs.Rest.{NamePart, SignPart, RowCount, ColumnCount, UpTo, RowsPart, begins, begins_up_to};
 ghost use Rattle.rv_parse.specs.Answers.{Reads, ReadsTo, Refuses};

@@ -1,6 +1,6 @@
 //! Listed relations.
 ghost use Rattle.std.specs.Prelude.{◌≡◌, ◌≤◌, ◌∷◌, [], List, MatchResult};
-ghost use Rattle.rel_model.specs.Grammar.{Takes};
+ghost use Rattle.rel_model.specs.Taken.{Takes};
 ghost use Rattle.rel_model.specs.Spelling.{SpellsColumns, SpellsRow, SpellsMoreRows, SpellsRows, SpellsCommand};
 ghost use Rattle.rel_model.specs.Stop.{FromOne, RowsPart, MoreRows, MoreColumns, row_parts};
 ghost use Rattle.rel_model.specs.declared.token.Kind.TheVariants.{Keyword as KEYWORD};

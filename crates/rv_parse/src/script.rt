@@ -1,6 +1,6 @@
 //! Scripts of the whole language.
 ghost use Rattle.std.specs.Prelude.{◌≡◌, ◌<◌, ◌≤◌, ◌^◌, ◌∷◌, [], length, MatchResult, MatchOption, IfOk, IfErr, false};
-ghost use Rattle.rel_model.specs.Grammar.{TakesAt, Takes};
+ghost use Rattle.rel_model.specs.Taken.{TakesAt, Takes};
 ghost use Rattle.rel_model.specs.declared.token.Kind.TheVariants.{Keyword as KEYWORD, Word};
 ghost use Rattle.rv_parse.specs.Openings.{opening_word};
 ghost use Rattle.rel_model.specs.Lexed.{EndsAt};

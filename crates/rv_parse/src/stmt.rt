@@ -1,6 +1,6 @@
 //! Statements.
 ghost use Rattle.std.specs.Prelude.{◌≡◌, ◌<◌, ◌≤◌, ◌^◌, ◌∷◌, [], List, suc, length, MatchResult, MatchOption};
-ghost use Rattle.rel_model.specs.Grammar.{TakesAt, nesting_limit};
+ghost use Rattle.rel_model.specs.Taken.{TakesAt, nesting_limit};
 ghost use Rattle.rel_model.specs.Spelling.{SpelledStmt, SpelledStmts};
 ghost use Rattle.rel_model.specs.Stop.{StmtsPart, MoreStmts};
 ghost use Rattle.rel_model.specs.declared.token.Kind.TheVariants.{Keyword as KEYWORD, Word};

@@ -8,6 +8,7 @@ pub mod Heads
 pub mod Declaring
 pub mod Scoping
 pub mod Items
+pub mod Defining
 pub mod Ranks
 pub mod Paths
 pub mod Unassigned

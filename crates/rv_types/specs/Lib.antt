@@ -1,5 +1,6 @@
 pub mod Found
 pub mod Definitions
+pub mod Defining
 pub mod Scopes
 pub mod Rows
 pub mod Items

@@ -16,6 +16,7 @@ pub data Turns (IsTurn : List (List ℕ) → Type 0) : List (List ℕ) → Type 
 
 -- a path: the names that one run through a statement, or through a row of statements, assigns in order
 abbrev mutual
+  -- a path through a statement assigns these names
   pub IsPathOf : Stmt → List (List ℕ) → Type 0
   -- of `name = value` its name
   IsPathOf (Set at name value) path = path ≡ name ∷ []
@@ -24,6 +25,7 @@ abbrev mutual
   -- of an IF a path of one of its two parts; where ELSE is absent the second has no statement
   IsPathOf (If' at test s first t second) path = IsPathWithin first path ⊎ IsPathWithin second path
 
+  -- a path through a list of statements
   pub IsPathWithin : {m : _} → Row_of-Stmt m → List (List ℕ) → Type 0
   -- of no statement no name
   IsPathWithin end_of-Stmt path = path ≡ []
@@ -37,6 +39,7 @@ IsPath (s ∷ ss) path = (one more : List (List ℕ)) × IsPathOf s one × IsPat
 
 -- a path that leads to an expression: the names that one run from the start of a statement, or of a row of statements, assigns in order before it reads the expression
 abbrev mutual
+  -- a path inside a statement leads to an expression of it
   pub LeadsIn : Stmt → Expr → List (List ℕ) → Type 0
   -- `name = value` reads its value before it assigns
   LeadsIn (Set at name value) e path = (e ≡ value) × (path ≡ [])
@@ -46,6 +49,7 @@ abbrev mutual
   -- an IF reads its test first, and then what one of its two parts reads
   LeadsIn (If' at test s first t second) e path = ((e ≡ test) × (path ≡ [])) ⊎ (LeadsWithin first e path ⊎ LeadsWithin second e path)
 
+  -- the same inside a list of statements
   pub LeadsWithin : {m : _} → Row_of-Stmt m → Expr → List (List ℕ) → Type 0
   -- nothing is read where no statement is
   LeadsWithin end_of-Stmt e path = ⊥
@@ -60,6 +64,7 @@ LeadsTo (s ∷ ss) e path = LeadsIn s e path ⊎ ((one more : List (List ℕ)) �
 -- ---- names that are read
 -- this name stands at this place in an expression as one that is read: not as that of a definition that is called, or of a domain
 abbrev mutual
+  -- an expression reads a name at a place
   pub Reads : Expr → Place → List ℕ → Type 0
   Reads (Ref p m) at name = (p ≡ at) × (m ≡ name)
   Reads (Call' p m shape args) at name = ReadsIn args at name
@@ -70,10 +75,12 @@ abbrev mutual
   Reads (Turned' p x of times) at name = Reads of at name
   Reads (Chain' x first shape rest) at name = Reads first at name ⊎ ReadsAlong rest at name
 
+  -- arguments do
   pub ReadsIn : {m : _} → Row_of-Expr m → Place → List ℕ → Type 0
   ReadsIn end_of-Expr at name = ⊥
   ReadsIn (more_of-Expr e rest) at name = Reads e at name ⊎ ReadsIn rest at name
 
+  -- the links of a chain do
   pub ReadsAlong : {m : _} → Row_of-Link m → Place → List ℕ → Type 0
   ReadsAlong end_of-Link at name = ⊥
   ReadsAlong (more_of-Link p op right rest) at name = Reads right at name ⊎ ReadsAlong rest at name

@@ -1,29 +1,33 @@
 //! Scripts whose names, arguments, assignments and ranks of definitions are right.
-ghost use Rattle.std.specs.Prelude.{◌≡◌, ◌⊎◌, [], None, Some, IfOk, MatchResult};
+ghost use Rattle.std.specs.Prelude.{◌≡◌, ◌⊎◌, [], None, Some, option_copied, IfOk, MatchResult};
 ghost use Rattle.rel_model.specs.declared.faults.TypeFault.TheVariants.{NoMemory as NO_MEMORY};
 ghost use Rattle.rel_model.specs.Checking.{first_fault, items_faults, flaw};
 ghost use Rattle.rv_types.specs.Found.{told};
+ghost use Rattle.rv_types.specs.Defining.{IsDefinition};
 
 use crate::definitions::Definitions;
 use crate::found::{Found, fault_of};
 use crate::item::{check_item, define, rank_of};
+use crate::items_by_name::{ItemsByName, items_by_name};
 use rel_model::NoMemory;
 use rel_model::faults::TypeFault;
 use rel_model::syntax::{Item, Script};
 use std::alloc::Global;
 use std::marker::Model;
 
-/// A script with no fault of names, arguments, assignments or ranks.
+/// A script with no fault of names, arguments, assignments or ranks, and what item of it defines each name.
 #[derive(Drop)]
 pub struct Checked {
     script: Script,
-    definitions: Definitions,
+    items_by_name: ItemsByName,
 }
 
 impl Model for Checked {
-    ghost use Rattle.std.specs.Prelude.{◌≡◌, None};
+    ghost use Rattle.std.specs.Prelude.{◌≡◌, ℕ, List, None};
+    ghost use Rattle.std.specs.List.{position_from};
     ghost use Rattle.rel_model.specs.declared.syntax.Script.{Script};
     ghost use Rattle.rel_model.specs.Checking.{flaw};
+    ghost use Rattle.rv_types.specs.Defining.{defines, number_beside};
     ghost use Rattle.std.specs.Coded.{codes};
     ghost use Rattle.rel_model.specs.contracts.syntax.Script as s;
 
@@ -33,7 +37,7 @@ impl Model for Checked {
 
     ghost view = { λ c. c.script };
 
-    ghost invariant = { λ c. flaw c.script ≡ None };
+    ghost invariant = { λ c. (flaw c.script ≡ None) × ((name : List ℕ) → number_beside c.items_by_name name ≡ position_from (defines name) 0 c.script.items.items) };
 }
 
 /// The first fault of items. Afterwards their definitions stand.
@@ -54,14 +58,14 @@ fn find_fault<'a>(
     Ok(found)
 }
 
-/// The definitions of a script that has no fault.
-fn definitions_of(alloc: Global, script: &Script) -> Result<Definitions, TypeFault>
+/// Whether a script has no fault: its first one is the error.
+fn find_flaw(alloc: Global, script: &Script) -> Result<(), TypeFault>
     ensures { MatchResult result (λ _. flaw script.now ≡ None) (λ f. (f ≡ NO_MEMORY) ⊎ (flaw script.now ≡ Some f)) }
 {
     let mut definitions = Definitions::new(alloc);
     match find_fault(alloc, script.items.as_slice(), &mut definitions) {
         Err(NoMemory) => Err(TypeFault::NoMemory),
-        Ok(None) => Ok(definitions),
+        Ok(None) => Ok(()),
         Ok(Some(found)) => match fault_of(alloc, found) {
             Err(NoMemory) => Err(TypeFault::NoMemory),
             Ok(fault) => Err(fault),
@@ -73,12 +77,15 @@ fn definitions_of(alloc: Global, script: &Script) -> Result<Definitions, TypeFau
 pub fn check(alloc: Global, script: Script) -> Result<Checked, TypeFault>
     ensures { MatchResult result (λ c. (c ≡ script) × (flaw script ≡ None)) (λ f. (f ≡ NO_MEMORY) ⊎ (flaw script ≡ Some f)) }
 {
-    match definitions_of(alloc, &script) {
-        Ok(definitions) => Ok(Checked {
-            script,
-            definitions,
-        }),
+    match find_flaw(alloc, &script) {
         Err(fault) => Err(fault),
+        Ok(()) => match items_by_name(alloc, script.items.as_slice()) {
+            Err(NoMemory) => Err(TypeFault::NoMemory),
+            Ok(items_by_name) => Ok(Checked {
+                script,
+                items_by_name,
+            }),
+        },
     }
 }
 
@@ -89,5 +96,15 @@ impl Checked {
         ensures faultless { flaw self.now ≡ None }
     {
         &self.script
+    }
+
+    /// The function or program of this name, where the script defines it: the item is the only one that does.
+    pub fn definition(&self, name: &[u8]) -> Option<&Item>
+        ensures { IsDefinition self.now.items.items name.now (option_copied result) }
+    {
+        match self.items_by_name.find(name) {
+            None => None,
+            Some(number) => self.script.items.get(number),
+        }
     }
 }

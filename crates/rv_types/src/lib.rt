@@ -8,6 +8,7 @@ mod expression;
 mod found;
 mod head;
 mod item;
+mod items_by_name;
 pub mod laws;
 mod names;
 mod scope;

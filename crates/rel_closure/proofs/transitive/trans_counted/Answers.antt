@@ -1,4 +1,4 @@
-use Rattle.std.proofs.Common.{◌≡◌, ◌<◌, ◌≤◌, ◌+◌, ◌-◌, ◌*◌, ◌^◌, ◌∙◌, ℕ, sym, ap, subst, arith}
+use Rattle.std.proofs.Common.{◌≡◌, ◌<◌, ◌≤◌, ◌+◌, ◌-◌, ◌*◌, ◌^◌, ◌∙◌, ℕ, refl, sym, ap, subst, arith}
 use Rattle.rel_model.specs.Algebra.{HasType}
 use Rattle.rel_model.specs.Worker.{set_of, height_of}
 use Rattle.rel_model.proofs.Workers.{keeps_itself, keeps_trans}
@@ -19,6 +19,8 @@ squares-init g c =
       power = ap (λ (x : ℕ). 2 ^ x) (let e : c.args.steps.now - c.args.steps.now ≡ 0 = omega arith in e);
       rounds = omega arith;
       digits = omega arith;
+      misses = refl;
+      nothing = λ few. omega arith;
       room = omega arith;
     }
 
@@ -40,6 +42,13 @@ returns-in_err-square-clause-room g c =
     let a = c.in_err-square.ensures.room in
     let r = round_room d h (g.C.Core.worker c.args.core.now).made (g.C.Core.worker c.squares.core).made (g.C.Core.worker c.compose.new.self).made (g.C.Core.worker c.compose.new.self).made before (omega (arith, a, u1)) (omega arith) in
     omega (arith, r, rooms)
+
+pub returns-in_err-square-clause-nothing : goal.returns-in_err-square-clause-nothing
+returns-in_err-square-clause-nothing g c few =
+    let z = one-le-pow (c.squares.steps - c.args.steps.now) 2 (omega arith) in
+    let y = c.squares.invariant.power in
+    let under = c.squares-test.true in
+    omega (arith, z, y, under, few)
 
 pub returns-in_err-square-clause-digits : goal.returns-in_err-square-clause-digits
 returns-in_err-square-clause-digits g c =
@@ -68,6 +77,13 @@ returns-in_err-more-clause-room g c =
     let r = round_room d h (g.C.Core.worker c.args.core.now).made (g.C.Core.worker c.squares.core).made (g.C.Core.worker c.compose.new.self).made (g.C.Core.worker c.union.new.self).made before (omega (arith, a, u1)) (omega (arith, b, u2)) in
     omega (arith, r, rooms)
 
+pub returns-in_err-more-clause-nothing : goal.returns-in_err-more-clause-nothing
+returns-in_err-more-clause-nothing g c few =
+    let z = one-le-pow (c.squares.steps - c.args.steps.now) 2 (omega arith) in
+    let y = c.squares.invariant.power in
+    let under = c.squares-test.true in
+    omega (arith, z, y, under, few)
+
 pub returns-in_err-more-clause-digits : goal.returns-in_err-more-clause-digits
 returns-in_err-more-clause-digits g c =
     let under = c.squares-test.true in
@@ -94,6 +110,13 @@ returns-then-same-clause-room g c =
     let b = c.in_ok-more.ensures.room in
     let r = round_room d h (g.C.Core.worker c.args.core.now).made (g.C.Core.worker c.squares.core).made (g.C.Core.worker c.compose.new.self).made (g.C.Core.worker c.union.new.self).made before (omega (arith, a, u1)) (omega (arith, b, u2)) in
     omega (arith, r, rooms)
+
+pub returns-then-same-clause-nothing : goal.returns-then-same-clause-nothing
+returns-then-same-clause-nothing g c few =
+    let z = one-le-pow (c.squares.steps - c.args.steps.now) 2 (omega arith) in
+    let y = c.squares.invariant.power in
+    let under = c.squares-test.true in
+    omega (arith, z, y, under, few)
 
 pub returns-then-same-clause-digits : goal.returns-then-same-clause-digits
 returns-then-same-clause-digits g c =
@@ -148,6 +171,8 @@ squares-preserved g c =
       power = ap (λ (x : ℕ). 2 ^ (x - c.args.steps.now)) c.step.ensures ∙ p;
       rounds = omega (arith, e, fewer);
       digits = omega (arith, under);
+      misses = c.in_ok-more.ensures.cause.done ∙ (c.in_ok-square.ensures.cause.done ∙ i.misses);
+      nothing = λ few. omega (arith, some, under, few);
       room = subst (λ (x : ℕ). (g.C.Core.worker c.union.new.self).made ≤ (g.C.Core.worker c.args.core.now).made + x * (20 * 8 ^ h)) (sym e) r;
     }
 

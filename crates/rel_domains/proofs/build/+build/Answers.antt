@@ -1,5 +1,6 @@
-use Rattle.std.proofs.Common.{rules, ◌≡◌, ◌≢◌, ◌+◌, ◌-◌, ◌^◌, ◌∙◌, ap, arith}
+use Rattle.std.proofs.Common.{rules, ◌≡◌, ◌≢◌, ◌<◌, ◌+◌, ◌-◌, ◌^◌, ◌∙◌, length, ap, arith}
 use Rattle.rel_domains.proofs.Places.{cells_step}
+use Rattle.rel_domains.proofs.Fewness.{room_of_parts}
 use Rattle.rel_domains.proofs.Quartering.{four_of, spans, corner_given, leaf_given}
 use Rattle.rel_domains.proofs.build.+build.Goals as goal
 
@@ -46,3 +47,33 @@ returns-clause-value g t c =
     let four = four_of g.Q.Quads.least c.args.depth c.args.base c.cells_of-part.result c.args.places.now _ _ _ _ _ _ over n c.requires.from c.cut_at.ensures c.cut_at-2.ensures c.cut_at-3.ensures in
     corner_given _ _ _ _ _ g.Q.Quads.least c.args.depth c.args.base c.cells_of-part.result c.args.places.now _ _ _ _ _ _ _ _ _ over n four
     c.in_ok-nw.ensures.value c.in_ok-ne.ensures.keeps c.in_ok-ne.ensures.value c.in_ok-sw.ensures.keeps c.in_ok-sw.ensures.value c.in_ok-se.ensures.keeps c.in_ok-se.ensures.value c.in_ok-corner.ensures.value
+
+pub returns-in_err-ne-clause-few : goal.returns-in_err-ne-clause-few
+returns-in_err-ne-clause-few g t c =
+    let more : 0 < length c.args.places.now = search rules in
+    let r = room_of_parts c.args.places.now c.cut_at.result.0.now c.cut_at.result.1.now c.cut_at-2.result.0.now c.cut_at-2.result.1.now c.cut_at-3.result.0.now c.cut_at-3.result.1.now c.args.depth c.cut_at.ensures.parts c.cut_at-2.ensures.parts c.cut_at-3.ensures.parts more c.if-depth-eq0.false in
+    omega (arith, r, c.in_ok-nw.ensures.few, c.in_err-ne.ensures.few)
+
+pub returns-in_err-sw-clause-few : goal.returns-in_err-sw-clause-few
+returns-in_err-sw-clause-few g t c =
+    let more : 0 < length c.args.places.now = search rules in
+    let r = room_of_parts c.args.places.now c.cut_at.result.0.now c.cut_at.result.1.now c.cut_at-2.result.0.now c.cut_at-2.result.1.now c.cut_at-3.result.0.now c.cut_at-3.result.1.now c.args.depth c.cut_at.ensures.parts c.cut_at-2.ensures.parts c.cut_at-3.ensures.parts more c.if-depth-eq0.false in
+    omega (arith, r, c.in_ok-nw.ensures.few, c.in_ok-ne.ensures.few, c.in_err-sw.ensures.few)
+
+pub returns-in_err-se-clause-few : goal.returns-in_err-se-clause-few
+returns-in_err-se-clause-few g t c =
+    let more : 0 < length c.args.places.now = search rules in
+    let r = room_of_parts c.args.places.now c.cut_at.result.0.now c.cut_at.result.1.now c.cut_at-2.result.0.now c.cut_at-2.result.1.now c.cut_at-3.result.0.now c.cut_at-3.result.1.now c.args.depth c.cut_at.ensures.parts c.cut_at-2.ensures.parts c.cut_at-3.ensures.parts more c.if-depth-eq0.false in
+    omega (arith, r, c.in_ok-nw.ensures.few, c.in_ok-ne.ensures.few, c.in_ok-sw.ensures.few, c.in_err-se.ensures.few)
+
+pub returns-in_err-corner-clause-few : goal.returns-in_err-corner-clause-few
+returns-in_err-corner-clause-few g t c =
+    let more : 0 < length c.args.places.now = search rules in
+    let r = room_of_parts c.args.places.now c.cut_at.result.0.now c.cut_at.result.1.now c.cut_at-2.result.0.now c.cut_at-2.result.1.now c.cut_at-3.result.0.now c.cut_at-3.result.1.now c.args.depth c.cut_at.ensures.parts c.cut_at-2.ensures.parts c.cut_at-3.ensures.parts more c.if-depth-eq0.false in
+    omega (arith, r, c.in_ok-nw.ensures.few, c.in_ok-ne.ensures.few, c.in_ok-sw.ensures.few, c.in_ok-se.ensures.few, c.in_err-corner.ensures.room)
+
+pub returns-clause-few : goal.returns-clause-few
+returns-clause-few g t c =
+    let more : 0 < length c.args.places.now = search rules in
+    let r = room_of_parts c.args.places.now c.cut_at.result.0.now c.cut_at.result.1.now c.cut_at-2.result.0.now c.cut_at-2.result.1.now c.cut_at-3.result.0.now c.cut_at-3.result.1.now c.args.depth c.cut_at.ensures.parts c.cut_at-2.ensures.parts c.cut_at-3.ensures.parts more c.if-depth-eq0.false in
+    omega (arith, r, c.in_ok-nw.ensures.few, c.in_ok-ne.ensures.few, c.in_ok-sw.ensures.few, c.in_ok-se.ensures.few, c.in_ok-corner.ensures.room)

@@ -5,7 +5,7 @@ use Rattle.rel_domains.proofs.Named.{all_subsets, member_rule, epsi_given}
 use Rattle.rel_domains.proofs.power_set.epsi.Goals as goal
 
 pub returns-then-x-ge64-clause-cause : goal.returns-then-x-ge64-clause-cause
-returns-then-x-ge64-clause-cause g c = let s = subst (IsOverSize (2 ^ c.args.x)) (sym c.too_large.ensures) (all_subsets c.args.x c.if-x-ge64.true) in record { size = s; full = search rules; no_memory = search rules }
+returns-then-x-ge64-clause-cause g c = let s = subst (IsOverSize (2 ^ c.args.x)) (sym c.too_large.ensures) (all_subsets c.args.x c.if-x-ge64.true) in record { size = s; full = search rules; no_memory = search rules; done = search rules; wanting = search rules; over = λ _. refl }
 
 pub wide-requires-clause-rule : goal.wide-requires-clause-rule
 wide-requires-clause-rule g c = λ l. member_rule c.args.x _ c.if-x-ge64.false refl l

@@ -1,6 +1,7 @@
-use Rattle.std.proofs.Common.{◌≡◌, ◌+◌, subst, arith}
+use Rattle.std.proofs.Common.{◌≡◌, ◌+◌, ap, subst, arith}
 use Rattle.rel_model.specs.Roots.{height_over}
 use Rattle.rel_domains.proofs.Ruled.{side_limit, ruled_relation, rule_room}
+use Rattle.rel_model.specs.Roots.{relation_room, tree_room}
 use Rattle.rel_domains.proofs.square.relation_by.Goals as goal
 
 pub square-requires-clause-row : goal.square-requires-clause-row
@@ -23,3 +24,21 @@ returns-in-Ok-clause-room g c =
 pub returns-in-Err-clause-room : goal.returns-in-Err-clause-room
 returns-in-Err-clause-room g c =
     let p = rule_room c.bottom.result c.depth_over-depth.result c.args.shape.rows c.args.shape.cols c.depth_over-depth.ensures.value in omega (arith, p, c.square.ensures.room)
+
+pub returns-in-Ok-clause-tree : goal.returns-in-Ok-clause-tree
+returns-in-Ok-clause-tree g c =
+    let a = c.args in
+    let d = c.depth_over-depth.result in
+    let high : g.Q.Quads.least + d ≡ height_over g.Q.Quads.least a.shape.rows a.shape.cols = subst (λ l. l + d ≡ height_over l a.shape.rows a.shape.cols) c.bottom.ensures c.depth_over-depth.ensures.value in
+    let same : tree_room d ≡ relation_room g.Q.Quads.least a.shape.rows a.shape.cols = ap tree_room (omega (arith, high)) in
+    let made = c.in-Ok.ensures.room in
+    omega (arith, same, made)
+
+pub returns-in-Err-clause-tree : goal.returns-in-Err-clause-tree
+returns-in-Err-clause-tree g c =
+    let a = c.args in
+    let d = c.depth_over-depth.result in
+    let high : g.Q.Quads.least + d ≡ height_over g.Q.Quads.least a.shape.rows a.shape.cols = subst (λ l. l + d ≡ height_over l a.shape.rows a.shape.cols) c.bottom.ensures c.depth_over-depth.ensures.value in
+    let same : tree_room d ≡ relation_room g.Q.Quads.least a.shape.rows a.shape.cols = ap tree_room (omega (arith, high)) in
+    let made = c.square.ensures.room in
+    omega (arith, same, made)

@@ -9,6 +9,7 @@ use Rattle.rel_domains.proofs.Halves.{kept_set, root_high, root_count, ranks_hei
 use Rattle.rel_domains.proofs.Named.{rooms_derived}
 use Rattle.rel_domains.proofs.Quartering.{gives_set, gives_has}
 use Rattle.rel_domains.proofs.Ruled.{side_limit, rule_room}
+use Rattle.rel_model.specs.Roots.{relation_room, tree_room}
 use Rattle.rel_domains.proofs.vector.inj.Goals as goal
 
 pub ranks-requires-clause-row : goal.ranks-requires-clause-row
@@ -92,3 +93,19 @@ returns-in-Err-clause-room g c =
     let over = root_high g.Q.Quads.least r.rows r.cols c.bottom.result c.root-vector.result.height c.bottom.ensures c.root-vector.ensures.same_height in
     let p = rule_room g.Q.Quads.least (c.root-vector.result.height - c.bottom.result) r.rows r.cols over in
     omega (arith, p, rooms_derived r.rows r.cols, c.elements-many.ensures.room, c.in-Err.ensures.room)
+
+pub returns-in-Ok-clause-tree : goal.returns-in-Ok-clause-tree
+returns-in-Ok-clause-tree g c =
+    let r = c.args.v in
+    let d : ℕ = c.root-vector.result.height - c.bottom.result in
+    let over = root_high g.Q.Quads.least r.rows r.cols c.bottom.result c.root-vector.result.height c.bottom.ensures c.root-vector.ensures.same_height in
+    let same : tree_room d ≡ relation_room g.Q.Quads.least r.rows r.cols = ap tree_room (omega (arith, over)) in
+    omega (arith, same, c.elements-many.ensures.room, c.in-Ok.ensures.room)
+
+pub returns-in-Err-clause-tree : goal.returns-in-Err-clause-tree
+returns-in-Err-clause-tree g c =
+    let r = c.args.v in
+    let d : ℕ = c.root-vector.result.height - c.bottom.result in
+    let over = root_high g.Q.Quads.least r.rows r.cols c.bottom.result c.root-vector.result.height c.bottom.ensures c.root-vector.ensures.same_height in
+    let same : tree_room d ≡ relation_room g.Q.Quads.least r.rows r.cols = ap tree_room (omega (arith, over)) in
+    omega (arith, same, c.elements-many.ensures.room, c.in-Err.ensures.room)

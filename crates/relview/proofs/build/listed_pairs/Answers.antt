@@ -1,13 +1,13 @@
 use Rattle.std.proofs.Common.{sym, ap, subst, [], length, arith}
 use Rattle.rel_model.specs.State.{lists}
 use Rattle.relview.specs.Listed.{IsListed}
-use Rattle.rel_model.specs.Listed.{IsWithin}
+use Rattle.rel_model.specs.Listed.{AreWithin}
 use Rattle.relview.proofs.Listing.{rows_none, rows_more, count_more}
 use Rattle.relview.proofs.build.listed_pairs.Goals as goal
 
 pub rows-init : goal.rows-init
 rows-init c = record {
-  within = subst (IsWithin c.args.shape.rows c.args.shape.cols) (sym c.new-pairs.ensures.items) tt;
+  within = subst (AreWithin c.args.shape.rows c.args.shape.cols) (sym c.new-pairs.ensures.items) tt;
   pairs = subst (λ ps. IsListed c.args.shape.rows c.args.shape.cols ps (lists [])) (sym c.new-pairs.ensures.items) (rows_none c.args.shape.rows c.args.shape.cols);
   count = omega (arith, ap length c.new-pairs.ensures.items);
 }

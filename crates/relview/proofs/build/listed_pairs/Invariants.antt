@@ -2,12 +2,12 @@ use Rattle.std.proofs.Common.{◌≤◌, length, take}
 use Rattle.rel_model.specs.Cost.{listed_count}
 use Rattle.rel_model.specs.State.{lists}
 use Rattle.relview.specs.Listed.{IsListed}
-use Rattle.rel_model.specs.Listed.{IsWithin}
+use Rattle.rel_model.specs.Listed.{AreWithin}
 use Rattle.relview.proofs.build.listed_pairs.Given as goal
 
 abbrev pub invariant-rows : goal.invariant-rows
 invariant-rows l = record {
-  within : IsWithin l.shape.rows l.shape.cols l.pairs.items;
+  within : AreWithin l.shape.rows l.shape.cols l.pairs.items;
   pairs : IsListed l.shape.rows l.shape.cols l.pairs.items (lists (take l.row-index l.list));
   count : length l.pairs.items ≤ listed_count (take l.row-index l.list);
 }

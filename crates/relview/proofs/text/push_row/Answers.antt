@@ -22,6 +22,7 @@ cells-preserved g c =
           ∙ ap (λ zs. old ++ zs) (sym (map-range_with_len_more (cell R i) 0 j j (omega arith)));
       keeps = keeps_trans _ _ _ inv.keeps c.has.ensures.keeps;
       room = omega (arith, inv.room, c.has.ensures.room);
+      misses = c.has.ensures.misses ∙ inv.misses;
     }
 
 pub returns-clause-text : goal.returns-clause-text

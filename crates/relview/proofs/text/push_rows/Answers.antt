@@ -19,6 +19,7 @@ rows-preserved g c =
           ∙ ap (λ zs. old ++ zs) (sym (lines_more (row_text R) i));
       keeps = keeps_trans _ _ _ inv.keeps c.in_ok-push_row.ensures.keeps;
       room = omega (arith, inv.room, c.in_ok-push_row.ensures.room);
+      misses = c.in_ok-push_row.ensures.misses ∙ inv.misses;
     }
 
 pub returns-clause-text : goal.returns-clause-text

@@ -1,4 +1,4 @@
-use Rattle.std.proofs.Common.{◌≤◌, ◌-◌, length, arith, length-take, length-drop, ℕ}
+use Rattle.std.proofs.Common.{◌≤◌, ◌-◌, ◌∙◌, length, arith, length-take, length-drop, ℕ}
 use Rattle.rv_io.proofs.Pieces.{written_more}
 use Rattle.rv_io.proofs.writing.write_all.Goals as goal
 
@@ -10,4 +10,5 @@ writes-preserved g c =
       within = omega (arith, count);
       written = written_more _ _ _ c.args.bytes.now c.writes.sent c.in-Ok.count c.writes.invariant.within count c.writes.invariant.written c.in-Ok.ensures.bytes;
       later = omega (arith, c.writes.invariant.later, c.write.ensures.later);
+      kept = c.in-Ok.ensures.kept ∙ c.writes.invariant.kept;
     }

@@ -1,7 +1,7 @@
 use Rattle.std.proofs.Common.{◌≡◌, ◌≤◌, ◌-◌, ◌++◌, ℕ, List, ◌∷◌, length}
 use Rattle.rel_model.specs.declared.token.Kind.TheVariants.{Word}
 use Rattle.rel_model.specs.declared.token.Token.{Token}
-use Rattle.rel_model.specs.Grammar.{Takes}
+use Rattle.rel_model.specs.Taken.{Takes}
 use Rattle.rel_model.specs.Spelling.{SpellsMoreNames}
 use Rattle.rel_model.specs.Stop.{Part, NamePart, MoreParams, stop_of}
 use Rattle.rv_parse.specs.Halts.{ending_of}

@@ -1,5 +1,5 @@
 use Rattle.std.proofs.Common.{◌≡◌, ◌+◌, List, ◌∷◌, length}
-use Rattle.rel_model.specs.Grammar.{Carets}
+use Rattle.rel_model.specs.Taken.{Carets}
 use Rattle.rel_model.specs.Lexed.{Ending}
 use Rattle.rel_model.specs.Stop.{Part, MoreCarets, stop_of}
 use Rattle.rv_parse.proofs.expr.carets.Given as goal

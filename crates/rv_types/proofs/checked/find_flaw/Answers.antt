@@ -1,7 +1,7 @@
 use Rattle.std.proofs.Common.{◌∙◌, [], Some, inr, sym, ap}
 use Rattle.rel_model.specs.Checking.{first_fault, items_faults, flaw}
 use Rattle.rv_types.specs.Found.{told}
-use Rattle.rv_types.proofs.checked.definitions_of.Goals as goal
+use Rattle.rv_types.proofs.checked.find_flaw.Goals as goal
 
 pub returns-in-Ok-None : goal.returns-in-Ok-None
 unfolding flaw

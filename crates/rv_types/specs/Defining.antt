@@ -1,0 +1,29 @@
+-- The item of a script that defines a name.
+use Rattle.std.specs.Prelude.{◌≡◌, ◌++◌, cond, Bool, true, false, ℕ, List, [], ◌∷◌, Option, Some, None}
+use Rattle.std.specs.List.{list_any}
+use Rattle.rel_model.specs.declared.syntax.Item.{Item}
+use Rattle.rel_model.specs.declared.syntax.Item.TheVariants.{Function, Program, Command as COMMAND}
+use Rattle.rel_model.specs.Tokens.{same_text}
+
+-- whether an item defines this name: functions and programs define theirs, and commands none
+abbrev pub defines : List ℕ → Item → Bool
+defines name (Function at own params body) = same_text own name
+defines name (Program at own params decls body result) = same_text own name
+defines name (COMMAND command) = false
+
+-- none of the items defines this name
+abbrev pub NoneDefines : List ℕ → List Item → Type 0
+NoneDefines name items = list_any (defines name) items ≡ false
+
+-- what the items of a script give a name
+abbrev pub IsDefinition : List Item → List ℕ → Option Item → Type 0
+-- no definition: none of them defines it
+IsDefinition items name None = NoneDefines name items
+-- an item: it is one of them and defines the name, and none of the others does
+IsDefinition items name (Some item) =
+    (before behind : List Item) × (items ≡ before ++ item ∷ behind) × (defines name item ≡ true) × NoneDefines name before × NoneDefines name behind
+
+-- the number that stands beside a name, the first where the name stands twice
+abbrev pub number_beside : List (List ℕ × ℕ) → List ℕ → Option ℕ
+number_beside [] name = None
+number_beside (entry ∷ entries) name = cond (same_text entry.0 name) (Some entry.1) (number_beside entries name)

@@ -1,0 +1,80 @@
+//! The items of a script that define names, by these names.
+ghost use Rattle.std.specs.Prelude.{◌≡◌, cond, ℕ, List, [], Some, None, IfOk, OnOk};
+ghost use Rattle.std.specs.Option.{option_or};
+ghost use Rattle.std.specs.List.{position_from};
+ghost use Rattle.rel_model.specs.Tokens.{same_text};
+ghost use Rattle.rv_types.specs.Defining.{defines, number_beside};
+
+use indexmap::IndexMap;
+use rel_model::NoMemory;
+use rel_model::syntax::Item;
+use std::alloc::Global;
+use std::marker::Model;
+
+/// The number of the first item that defines a name, counted from 0. It is seen as the names with their numbers.
+#[derive(Drop)]
+pub struct ItemsByName {
+    numbers: IndexMap<Vec<u8>, usize>,
+}
+
+impl Model for ItemsByName {
+    ghost use Rattle.std.specs.Prelude.{ℕ, List, map};
+
+    ghost Value = { List (List ℕ × ℕ) };
+
+    ghost view = { λ m. map (λ e. (e.0.items, e.1)) m.numbers.entries };
+}
+
+impl ItemsByName {
+    /// No item.
+    pub fn new(alloc: Global) -> ItemsByName
+        ensures { result ≡ [] }
+    {
+        ItemsByName {
+            numbers: IndexMap::new(alloc),
+        }
+    }
+
+    /// The number of the item that defines a name.
+    pub fn find(&self, name: &[u8]) -> Option<usize>
+        ensures { result ≡ number_beside self.now name.now }
+    {
+        self.numbers.get(name).copied()
+    }
+
+    /// One more item, where none before it defines its name.
+    fn add(&mut self, alloc: Global, name: &[u8], number: usize) -> Result<(), NoMemory>
+        ensures { OnOk result ((n : List ℕ) → number_beside self.new n ≡ option_or (number_beside self.old n) (cond (same_text name.now n) (Some number) None)) }
+    {
+        match self.find(name) {
+            Some(_) => Ok(()),
+            None => {
+                let key = Vec::from_slice(alloc, name)?;
+                self.numbers.insert(key, number)?;
+                Ok(())
+            }
+        }
+    }
+
+    /// One more item, where it defines a name and none before it does.
+    fn add_item(&mut self, alloc: Global, item: &Item, number: usize) -> Result<(), NoMemory>
+        ensures { OnOk result ((n : List ℕ) → number_beside self.new n ≡ option_or (number_beside self.old n) (cond (defines n item.now) (Some number) None)) }
+    {
+        match item {
+            Item::Function { name, .. } => self.add(alloc, name.bytes(), number),
+            Item::Program { name, .. } => self.add(alloc, name.bytes(), number),
+            Item::Command(_) => Ok(()),
+        }
+    }
+}
+
+/// The items that define names.
+pub fn items_by_name(alloc: Global, items: &[Item]) -> Result<ItemsByName, NoMemory>
+    ensures { IfOk result (λ m. (name : List ℕ) → number_beside m name ≡ position_from (defines name) 0 items.now) }
+{
+    let mut by_name = ItemsByName::new(alloc);
+    'each: for number in 0..items.len() {
+        by_name.add_item(alloc, &items[number], number)?;
+    }
+    Ok(by_name)
+}
