@@ -1,6 +1,9 @@
 //! `relview a.rv`: reads a script, runs it, and writes its page to standard output.
 #![tactic(auto)]
 
+ghost use Rattle.std.specs.Prelude.{◌≡◌};
+ghost use Rattle.std.specs.Process.{exit_status};
+
 pub mod build;
 pub mod evaluate;
 pub mod laws;
@@ -19,26 +22,27 @@ use rv_io::{FileShelf, StdoutSink};
 use std::alloc::AllocError;
 use std::process::ExitCode;
 use std::{env, io};
+use top::Report;
 
 /// The words of the command line, without the program's own name. Words that are no text are words that are not taken.
 fn words_of(rt: HostRuntime) -> Result<Vec<String>, AllocError> {
-    let mut words = Vec::new(rt.alloc());
     match env::args(&rt) {
-        Ok(mut args) => {
-            let _program = args.next();
-            for word in args {
-                words.push(word)?;
-            }
-            Ok(words)
-        }
+        Ok(args) => words::words_behind_name(rt.alloc(), args),
         Err(error) => {
             if error.kind() == io::ErrorKind::OutOfMemory {
                 Err(AllocError)
             } else {
-                Ok(words)
+                Ok(Vec::new(rt.alloc()))
             }
         }
     }
+}
+
+/// The exit status of a report: its status.
+fn exit_code(report: &Report) -> ExitCode
+    ensures { exit_status result ≡ report.now.status }
+{
+    ExitCode::from(report.status)
 }
 
 /// Makes the real shelf and sink, runs the words, and ends with the status.
@@ -50,5 +54,5 @@ fn main(rt: HostRuntime) -> ExitCode {
     let mut shelf = FileShelf::new(alloc, rt);
     let mut sink = StdoutSink::new(io::writer(&rt));
     let report = top::relview(alloc, words.as_slice(), &mut shelf, &mut sink);
-    ExitCode::from(report.status)
+    exit_code(&report)
 }

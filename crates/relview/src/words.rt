@@ -1,6 +1,23 @@
-//! The words of the command line: one, which names a script.
-ghost use Rattle.std.specs.Prelude.{◌≡◌, ◌∷◌, [], String, MatchOption, true, false};
+//! The words of the command line: those behind the program's own name, of which one names a script.
+ghost use Rattle.std.specs.Prelude.{◌≡◌, ◌∷◌, [], drop, String, IfOk, MatchOption, true, false};
+ghost use Rattle.std.specs.Vec.Iter.{into_iter_items};
 ghost use Rattle.relview.specs.Top.{is_script_word, begins_with_hyphen, ends_with_k2, are_taken, texts};
+
+use std::alloc::{AllocError, Global};
+use std::env::Args;
+
+/// The words behind the program's own name, all and in their order.
+pub fn words_behind_name(alloc: Global, args: Args) -> Result<Vec<String>, AllocError>
+    ensures { IfOk result (λ words. words.items ≡ drop 1 (into_iter_items args)) }
+{
+    let mut rest = args;
+    let _name = rest.next();
+    let mut words = Vec::new(alloc);
+    'each: while let Some(word) = rest.next() {
+        words.push(word)?;
+    }
+    Ok(words)
+}
 
 /// Whether a word begins with a hyphen.
 fn begins_with_hyphen(word: &[u8]) -> bool

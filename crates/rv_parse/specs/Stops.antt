@@ -6,7 +6,11 @@ use Rattle.rel_model.specs.declared.faults.ParseFault.TheVariants.{NoMemory}
 use Rattle.rel_model.specs.Spelling.{SpelledBy}
 use Rattle.rel_model.specs.Stop.{stop}
 use Rattle.rv_parse.specs.Halts.{fault_of}
+use Rattle.rv_parse.specs.declared.halt.Wanted.{Wanted}
+use Rattle.rv_parse.specs.declared.halt.Wanted.TheVariants.{Sign, Word}
+use Rattle.rv_parse.specs.declared.halt.Flaw.TheVariants.{Unclosed}
 use Rattle.rv_parse.specs.declared.halt.Halt.{Halt}
+use Rattle.rv_parse.specs.declared.halt.Halt.TheVariants.{Expected as EXPECTED, Broken as BROKEN_OFF, NoMemory as NO_MEMORY}
 
 -- The fault is right for these bytes: memory ran out, or it is the first fault of the text, with its place and words, and then the bytes spell no script.
 abbrev pub StopsAt : List ℕ → ParseFault → Type 0
@@ -15,6 +19,19 @@ StopsAt bytes fault = (fault ≡ NoMemory → ⊥) → (stop bytes ≡ Some faul
 -- the fault that ended the reading, unless memory ran out
 abbrev pub IsFaultOf : Halt → ParseFault → Type 0
 IsFaultOf halt fault = (fault ≡ NoMemory → ⊥) → fault ≡ fault_of halt
+
+-- a token is wanted, whose text the fault holds
+abbrev pub IsToken : Wanted → Type 0
+IsToken (Sign s) = Unit {0}
+IsToken (Word keyword) = Unit {0}
+IsToken _ = ⊥
+
+-- Only of these may the telling want memory: a token that is wanted, a last quote that is missing, and want of memory itself.
+abbrev pub TakesMemory : Halt → Type 0
+TakesMemory (EXPECTED at wanted) = IsToken wanted
+TakesMemory (BROKEN_OFF (Unclosed at)) = Unit {0}
+TakesMemory NO_MEMORY = Unit {0}
+TakesMemory _ = ⊥
 
 -- a text that spells a script has no fault
 abbrev pub ScriptsHaveNoFault : Type 0

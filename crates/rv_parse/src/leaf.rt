@@ -1,9 +1,10 @@
 //! The first token, read as one part of the grammar, with the fault where it is another.
-ghost use Rattle.std.specs.Prelude.{◌≡◌, ◌≤◌, ◌<◌, ◌∷◌, [], false, MatchResult, MatchOption};
+ghost use Rattle.std.specs.Prelude.{◌≡◌, ◌≤◌, ◌<◌, ◌∷◌, [], false, IfErr, MatchResult, MatchOption};
 ghost use Rattle.rel_model.specs.Taken.{TakesAt, Takes, nesting_limit};
 ghost use Rattle.rel_model.specs.Stop.{NamePart, NumberPart, FromOne, FilePart, SignPart, WordPart, OpenPart, number_of};
 ghost use Rattle.rel_model.specs.declared.token.Kind.TheVariants.{Keyword as KEYWORD, Word, Number, File, Sign};
 ghost use Rattle.rv_parse.specs.Halts.{what, missing, ending_of, fault_of};
+ghost use Rattle.rv_parse.specs.declared.halt.Halt.TheVariants.{NoMemory};
 ghost use Rattle.rv_parse.specs.Readers.{Reads, Refuses, begins, begins_word};
 
 use crate::halt::{Ending, Halt, Wanted};
@@ -16,7 +17,8 @@ pub const NESTING_LIMIT: u32 = 40;
 
 /// Something else is wanted in place of the first token, or of the end.
 pub fn missing(tokens: &[Token], end: Ending, wanted: Wanted) -> Halt
-    ensures { fault_of result ≡ missing (what wanted) tokens.now (ending_of end) }
+    ensures fault { fault_of result ≡ missing (what wanted) tokens.now (ending_of end) }
+    ensures memory { result ≡ NoMemory → ⊥ }
 {
     match tokens {
         [first, ..] => Halt::Expected {
@@ -52,7 +54,8 @@ pub fn behind_sign(tokens: &[Token], byte: u8) -> Option<(Place, &[Token])>
 /// This sign.
 #[tactic(auto, using(crate::proofs::Leaves::reads_sign, crate::proofs::Leaves::no_sign))]
 pub fn next_sign(tokens: &[Token], end: Ending, byte: u8) -> Result<(Place, &[Token]), Halt>
-    ensures { MatchResult result (λ x. TakesAt x.0 (Sign byte) tokens.now x.1.now × Reads (ending_of end) (SignPart byte ∷ []) tokens.now x.1.now) (Refuses (ending_of end) (SignPart byte ∷ []) tokens.now) }
+    ensures read { MatchResult result (λ x. TakesAt x.0 (Sign byte) tokens.now x.1.now × Reads (ending_of end) (SignPart byte ∷ []) tokens.now x.1.now) (Refuses (ending_of end) (SignPart byte ∷ []) tokens.now) }
+    ensures memory { IfErr result (λ halt. halt ≡ NoMemory → ⊥) }
 {
     match behind_sign(tokens, byte) {
         Some(found) => Ok(found),
@@ -115,7 +118,8 @@ pub fn behind_word(tokens: &[Token], keyword: Keyword) -> Option<(Place, &[Token
 /// This keyword.
 #[tactic(auto, using(crate::proofs::Leaves::reads_word, crate::proofs::Leaves::no_word))]
 pub fn next_word(tokens: &[Token], end: Ending, keyword: Keyword) -> Result<(Place, &[Token]), Halt>
-    ensures { MatchResult result (λ x. TakesAt x.0 (KEYWORD keyword) tokens.now x.1.now × Reads (ending_of end) (WordPart keyword ∷ []) tokens.now x.1.now) (Refuses (ending_of end) (WordPart keyword ∷ []) tokens.now) }
+    ensures read { MatchResult result (λ x. TakesAt x.0 (KEYWORD keyword) tokens.now x.1.now × Reads (ending_of end) (WordPart keyword ∷ []) tokens.now x.1.now) (Refuses (ending_of end) (WordPart keyword ∷ []) tokens.now) }
+    ensures memory { IfErr result (λ halt. halt ≡ NoMemory → ⊥) }
 {
     match behind_word(tokens, keyword) {
         Some(found) => Ok(found),
@@ -145,7 +149,8 @@ pub fn next_name(
 
 /// A number.
 pub fn next_number(tokens: &[Token], end: Ending) -> Result<(u64, Place, &[Token]), Halt>
-    ensures { MatchResult result (λ x. TakesAt x.1 (Number x.0) tokens.now x.2.now × Reads (ending_of end) (NumberPart ∷ []) tokens.now x.2.now) (Refuses (ending_of end) (NumberPart ∷ []) tokens.now) }
+    ensures read { MatchResult result (λ x. TakesAt x.1 (Number x.0) tokens.now x.2.now × Reads (ending_of end) (NumberPart ∷ []) tokens.now x.2.now) (Refuses (ending_of end) (NumberPart ∷ []) tokens.now) }
+    ensures memory { IfErr result (λ halt. halt ≡ NoMemory → ⊥) }
 {
     let [first, rest @ ..] = tokens else {
         return Err(missing(tokens, end, Wanted::Number));
@@ -158,7 +163,8 @@ pub fn next_number(tokens: &[Token], end: Ending) -> Result<(u64, Place, &[Token
 
 /// A number from 1.
 pub fn next_from_one(tokens: &[Token], end: Ending) -> Result<(u64, Place, &[Token]), Halt>
-    ensures { MatchResult result (λ x. TakesAt x.1 (Number x.0) tokens.now x.2.now × (1 ≤ x.0) × Reads (ending_of end) (FromOne ∷ []) tokens.now x.2.now) (Refuses (ending_of end) (FromOne ∷ []) tokens.now) }
+    ensures read { MatchResult result (λ x. TakesAt x.1 (Number x.0) tokens.now x.2.now × (1 ≤ x.0) × Reads (ending_of end) (FromOne ∷ []) tokens.now x.2.now) (Refuses (ending_of end) (FromOne ∷ []) tokens.now) }
+    ensures memory { IfErr result (λ halt. halt ≡ NoMemory → ⊥) }
 {
     let [first, rest @ ..] = tokens else {
         return Err(missing(tokens, end, Wanted::Number));
@@ -193,7 +199,8 @@ pub fn next_file(alloc: Global, tokens: &[Token], end: Ending) -> Result<(FileTe
 /// The parenthesis that opens one more construct where so many are open.
 #[tactic(auto, using(crate::proofs::Leaves::no_open, crate::proofs::Leaves::opens, crate::proofs::Leaves::opens_too_deep))]
 pub fn open(tokens: &[Token], end: Ending, depth: u32) -> Result<(Place, &[Token]), Halt>
-    ensures { MatchResult result (λ x. TakesAt x.0 (Sign 40) tokens.now x.1.now × (depth < nesting_limit) × Reads (ending_of end) (OpenPart depth ∷ []) tokens.now x.1.now) (Refuses (ending_of end) (OpenPart depth ∷ []) tokens.now) }
+    ensures read { MatchResult result (λ x. TakesAt x.0 (Sign 40) tokens.now x.1.now × (depth < nesting_limit) × Reads (ending_of end) (OpenPart depth ∷ []) tokens.now x.1.now) (Refuses (ending_of end) (OpenPart depth ∷ []) tokens.now) }
+    ensures memory { IfErr result (λ halt. halt ≡ NoMemory → ⊥) }
 {
     let Some((at, rest)) = behind_sign(tokens, b'(') else {
         return Err(missing(tokens, end, Wanted::Sign(b'(')));

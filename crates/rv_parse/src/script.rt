@@ -6,12 +6,13 @@ ghost use Rattle.rv_parse.specs.Openings.{opening_word};
 ghost use Rattle.rel_model.specs.Lexed.{EndsAt};
 ghost use Rattle.rel_model.specs.Spelling.{SpellsItems, Spells, SpelledBy};
 ghost use Rattle.rel_model.specs.Stop.{ItemsPart, stop_of, written};
+ghost use Rattle.rel_model.specs.declared.faults.ParseFault.TheVariants.{NoMemory as NO_MEMORY};
 ghost use Rattle.rel_model.specs.declared.syntax.Place.{Place as PLACE};
 ghost use Rattle.rv_parse.specs.declared.halt.Halt.TheVariants.{Broken as BROKEN};
 ghost use Rattle.rv_parse.specs.Halts.{ending_of, what};
 ghost use Rattle.rv_parse.specs.Got.{RefusesItems};
 ghost use Rattle.rv_parse.specs.Items.{ItemIs, ItemEnds, NoCommand, begins_name};
-ghost use Rattle.rv_parse.specs.Stops.{StopsAt, IsFaultOf};
+ghost use Rattle.rv_parse.specs.Stops.{StopsAt, IsFaultOf, IsToken, TakesMemory};
 
 use crate::command::{Opening, command, opening_of};
 use crate::def::definition;
@@ -143,7 +144,8 @@ fn written(keyword: Keyword) -> &'static [u8]
 
 /// The word for what is wanted.
 fn what_of(alloc: Global, wanted: Wanted) -> Result<What, NoMemory>
-    ensures { IfOk result (λ w. w ≡ what wanted) }
+    ensures word { IfOk result (λ w. w ≡ what wanted) }
+    ensures memory { IfErr result (λ e. IsToken wanted) }
 {
     match wanted {
         Wanted::Item => Ok(What::Item),
@@ -159,7 +161,8 @@ fn what_of(alloc: Global, wanted: Wanted) -> Result<What, NoMemory>
 
 /// The fault that a flaw of a token is.
 fn flaw_fault(alloc: Global, flaw: Flaw) -> ParseFault
-    ensures { IsFaultOf (BROKEN flaw) result }
+    ensures fault { IsFaultOf (BROKEN flaw) result }
+    ensures memory { result ≡ NO_MEMORY → TakesMemory (BROKEN flaw) }
 {
     match flaw {
         Flaw::Byte { at, byte } => ParseFault::Byte { at, byte },
@@ -178,7 +181,8 @@ fn flaw_fault(alloc: Global, flaw: Flaw) -> ParseFault
 
 /// The fault that ended the reading.
 fn fault_of(alloc: Global, halt: Halt) -> ParseFault
-    ensures { IsFaultOf halt result }
+    ensures fault { IsFaultOf halt result }
+    ensures memory { result ≡ NO_MEMORY → TakesMemory halt }
 {
     match halt {
         Halt::Expected { at, wanted } => match what_of(alloc, wanted) {
@@ -198,7 +202,6 @@ fn fault_of(alloc: Global, halt: Halt) -> ParseFault
 /// the nesting 41. At one token a fault of the first kind comes before the others, and a token that
 /// does not fit before one that nests too deep. Takes time and memory in the length of the text; its
 /// recursion is as deep as the nesting.
-
 pub fn parse(alloc: Global, bytes: &[u8]) -> Result<Script, ParseFault>
     requires { length bytes.now ≤ 2 ^ 20 }
     ensures spelled { IfOk result (SpelledBy bytes.now) }

@@ -3,7 +3,7 @@ ghost use Rattle.std.specs.Prelude.{◌≡◌, ◌<◌, ◌≤◌, ◌+◌, ◌*
 ghost use Rattle.std.specs.Option.{SomeIff};
 ghost use Rattle.rel_model.specs.Tokens.{begins_with_quote, run_length, is_word_byte, value_from, behind, behind_all, word_kind, domain_operator_at, file_at, kind_at, tokens_from, tokens_of};
 ghost use Rattle.rv_parse.specs.Lexing.{kind_of, word_at, number_at, Finds, NoTokens, prepended};
-ghost use Rattle.rv_parse.specs.declared.refusals.Refusal.TheVariants.{NoMemory};
+ghost use Rattle.rv_parse.specs.declared.refusals.Refusal.TheVariants.{NoMemory, Unfit};
 
 use crate::bytes::{Class, all_allowed, is_blank, is_digit, is_letter, is_sign, run};
 use crate::refusals::Refusal;
@@ -123,6 +123,7 @@ fn word_at(alloc: Global, bytes: &[u8]) -> Result<(Kind, usize), Refusal>
 fn number_at(bytes: &[u8]) -> Result<(Kind, usize), Refusal>
     ensures within { IfOk result (λ x. x.1 ≤ length bytes.now) }
     ensures kind { Finds (number_at bytes.now) result }
+    ensures memory { IfErr result (λ e. e ≡ Unfit) }
 {
     let count = run(Class::Digit, bytes);
     match number(&bytes[..count]) {

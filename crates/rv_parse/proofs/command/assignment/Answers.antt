@@ -6,7 +6,7 @@ use Rattle.rv_parse.proofs.command.assignment.Goals as goal
 pub returns : goal.returns
 returns c =
     let name = c.in_ok-name.ensures in
-    let s = c.in_ok-rest.ensures in
+    let s = c.in_ok-rest.ensures.read in
     let v = c.in_ok-value.ensures in
     record {
       spelled = λ before b. (c.in_ok-name.rest.now, c.in_ok-rest.rest.now, (c.args.tokens.now, b, (_, name.0)), (_, s.0), v.spelled);

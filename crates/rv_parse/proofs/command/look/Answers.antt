@@ -7,7 +7,7 @@ use Rattle.rv_parse.proofs.command.look.Goals as goal
 pub returns : goal.returns
 returns c =
     let name = c.in_ok-name.ensures in
-    let s = c.in_ok-rest.ensures in
+    let s = c.in_ok-rest.ensures.read in
     let v = c.in_ok-value.ensures in
     record {
       spelled = λ before b. (c.args.tokens.now, c.in_ok-name.rest.now, b, name.0, (c.in_ok-rest.rest.now, (_, s.0), v.spelled));

@@ -6,7 +6,7 @@ use Rattle.rv_parse.proofs.def.declared_program.Goals as goal
 pub returns : goal.returns
 returns c =
     let decls = c.in_ok-decls.ensures in
-    let beg = c.in_ok-rest.ensures in
+    let beg = c.in_ok-rest.ensures.read in
     let tail = c.in_ok-tail.ensures in
     let s = tail.spelled in
     record {

@@ -111,7 +111,7 @@ chain-returns t c =
 pub enclosed-returns : goal.enclosed-returns
 enclosed-returns t c =
     let x = c.in_ok-expr.ensures in
-    let s = c.in_ok-rest.ensures in
+    let s = c.in_ok-rest.ensures.read in
     record {
       spelled = λ before b. enclosed c.args.depth c.in_ok-expr.expr before c.args.tokens.now c.in_ok-expr.rest.now c.in_ok-rest.rest.now c.requires.depth (_, b) x.spelled (_, s.0);
       shorter = omega (arith, x.shorter, ap length s.0);
@@ -121,7 +121,7 @@ enclosed-returns t c =
 pub named-returns-in_ok-rest-in-Some : goal.named-returns-in_ok-rest-in-Some
 named-returns-in_ok-rest-in-Some t c =
     let a = c.in_ok-args-in-Some.ensures in
-    let s = c.in_ok-rest-in-Some.ensures in
+    let s = c.in_ok-rest-in-Some.ensures.read in
     let d = c.args.depth in
     let few : d < 40 = omega arith in
     record {
@@ -140,9 +140,9 @@ named-returns-in-None t c = record {
 pub pair-returns : goal.pair-returns
 pair-returns t c =
     let x = c.in_ok-left.ensures in
-    let comma = c.in_ok-rest.ensures in
+    let comma = c.in_ok-rest.ensures.read in
     let y = c.in_ok-right.ensures in
-    let s = c.in_ok-rest-2.ensures in
+    let s = c.in_ok-rest-2.ensures.read in
     let d = c.args.depth in
     record {
       spelled = λ before b. paired d c.args.at c.in_ok-left-2.left c.in_ok-right-2.right before c.args.tokens.now c.in_ok-left.rest.now c.in_ok-rest.rest.now c.in_ok-right.rest.now c.in_ok-rest-2.rest.now c.requires.depth b (rw c.in_ok-left-2.ensures.ok x.spelled) (_, comma.0) (rw c.in_ok-right-2.ensures.ok y.spelled) (_, s.0);
@@ -176,9 +176,9 @@ unary-returns-in-None t c = unary_by_post _ c.args.depth c.args.tokens.now c.pos
 
 pub with_one-returns : goal.with_one-returns
 with_one-returns t c =
-    let o = c.in_ok-rest.ensures in
+    let o = c.in_ok-rest.ensures.read in
     let x = c.in_ok-argument.ensures in
-    let s = c.in_ok-rest-2.ensures in
+    let s = c.in_ok-rest-2.ensures.read in
     record {
       spelled = λ before b. based c.args.depth c.args.at c.args.base _ c.in_ok-argument.argument before c.args.tokens.now c.in_ok-rest.rest.now c.in_ok-argument.rest.now c.in_ok-rest-2.rest.now o.1 c.requires.form (c.in_ok-push.ensures.items ∙ ap (λ xs. xs ++ c.in_ok-argument.argument ∷ []) c.new-args.ensures.items) b (_, o.0) x.spelled (_, s.0);
       shorter = omega (arith, ap length o.0, x.shorter, ap length s.0);
@@ -187,11 +187,11 @@ with_one-returns t c =
 
 pub with_two-returns : goal.with_two-returns
 with_two-returns t c =
-    let o = c.in_ok-rest.ensures in
+    let o = c.in_ok-rest.ensures.read in
     let x = c.in_ok-first.ensures in
-    let comma = c.in_ok-rest-2.ensures in
+    let comma = c.in_ok-rest-2.ensures.read in
     let y = c.in_ok-second.ensures in
-    let s = c.in_ok-rest-3.ensures in
+    let s = c.in_ok-rest-3.ensures.read in
     let d = c.args.depth in
     record {
       spelled = λ before b. based_twice d c.args.at c.args.base _ c.in_ok-first.first c.in_ok-second.second before c.args.tokens.now c.in_ok-rest.rest.now c.in_ok-first.rest.now c.in_ok-rest-2.rest.now c.in_ok-second.rest.now c.in_ok-rest-3.rest.now o.1 c.requires.form (c.in_ok-push-2.ensures.items ∙ ap (λ xs. xs ++ c.in_ok-second.second ∷ []) (c.in_ok-push.ensures.items ∙ ap (λ xs. xs ++ c.in_ok-first.first ∷ []) c.new-args.ensures.items)) b (_, o.0) x.spelled (_, comma.0) y.spelled (_, s.0);

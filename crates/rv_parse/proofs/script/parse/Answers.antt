@@ -14,4 +14,4 @@ pub returns-in-Ok-clause-fault : goal.returns-in-Ok-clause-fault
 returns-in-Ok-clause-fault c =
     let end = ending_of c.in-Ok.end in
     let halt = c.in-Err-script_of.halt in
-    stopped c.args.bytes.now c.in-Ok.tokens.items end halt c.fault_of.result c.in-Ok.ensures.0 (subst (λ ts. RefusesItems end ts halt) c.as_slice.ensures.value c.in-Err-script_of.ensures) c.fault_of.ensures
+    stopped c.args.bytes.now c.in-Ok.tokens.items end halt c.fault_of.result c.in-Ok.ensures.0 (subst (λ ts. RefusesItems end ts halt) c.as_slice.ensures.value c.in-Err-script_of.ensures) c.fault_of.ensures.fault

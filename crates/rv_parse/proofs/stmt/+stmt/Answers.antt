@@ -10,17 +10,17 @@ pub branched-returns-in_err-rest-in-None : goal.branched-returns-in_err-rest-in-
 branched-returns-in_err-rest-in-None t c =
     let p = err_from_is_err_and c.from_residual-in_err-rest-in-None.result c.from_residual-in_err-rest-in-None.ensures.1 in
     let d = suc c.args.depth in
-    rw (p.1, p.2) (λ n behind. c.in_ok-test.ensures.read (WordPart THEN ∷ StmtsPart d ∷ ElsePart d ∷ WordPart FI ∷ behind) ∙ c.in_ok-rest.ensures.1 (StmtsPart d ∷ ElsePart d ∷ WordPart FI ∷ behind)
-    ∙ c.in_ok-yes.ensures.read (ElsePart d ∷ WordPart FI ∷ behind) ∙ drop_else d c.in_ok-yes.rest.now _ (WordPart FI ∷ behind) c.in-None.ensures ∙ c.in_err-rest-in-None.ensures n behind)
+    rw (p.1, p.2) (λ n behind. c.in_ok-test.ensures.read (WordPart THEN ∷ StmtsPart d ∷ ElsePart d ∷ WordPart FI ∷ behind) ∙ c.in_ok-rest.ensures.read.1 (StmtsPart d ∷ ElsePart d ∷ WordPart FI ∷ behind)
+    ∙ c.in_ok-yes.ensures.read (ElsePart d ∷ WordPart FI ∷ behind) ∙ drop_else d c.in_ok-yes.rest.now _ (WordPart FI ∷ behind) c.in-None.ensures ∙ c.in_err-rest-in-None.ensures.read n behind)
 
 pub branched-returns-in_ok-rest-in-Some : goal.branched-returns-in_ok-rest-in-Some
 branched-returns-in_ok-rest-in-Some t c =
     let d = suc c.args.depth in
     let x = c.in_ok-test.ensures in
-    let then = c.in_ok-rest.ensures in
+    let then = c.in_ok-rest.ensures.read in
     let yes = c.in_ok-yes.ensures in
     let no = c.in_ok-no-in-Some.ensures in
-    let fi = c.in_ok-rest-in-Some.ensures in
+    let fi = c.in_ok-rest-in-Some.ensures.read in
     record {
       spelled = λ before b. branched_twice c.args.depth c.args.at c.in_ok-test.test c.in_ok-yes.yes c.in_ok-no-in-Some.no before c.args.tokens.now c.in_ok-test.rest.now c.in_ok-rest.rest.now c.in_ok-yes.rest.now c.in-Some.behind.now c.in_ok-no-in-Some.rest.now c.in_ok-rest-in-Some.rest.now c.requires.depth b x.spelled (_, then.0) yes.spelled (_, c.in-Some.ensures) no.spelled (_, fi.0);
       shorter = omega (arith, x.shorter, ap length then.0, yes.shorter, ap length c.in-Some.ensures, no.shorter, ap length fi.0);
@@ -32,9 +32,9 @@ pub branched-returns-in_ok-rest-in-None : goal.branched-returns-in_ok-rest-in-No
 branched-returns-in_ok-rest-in-None t c =
     let d = suc c.args.depth in
     let x = c.in_ok-test.ensures in
-    let then = c.in_ok-rest.ensures in
+    let then = c.in_ok-rest.ensures.read in
     let yes = c.in_ok-yes.ensures in
-    let fi = c.in_ok-rest-in-None.ensures in
+    let fi = c.in_ok-rest-in-None.ensures.read in
     record {
       spelled = λ before b. branched c.args.depth c.args.at c.in_ok-test.test c.in_ok-yes.yes c.new-no.result before c.args.tokens.now c.in_ok-test.rest.now c.in_ok-rest.rest.now c.in_ok-yes.rest.now c.in_ok-rest-in-None.rest.now c.requires.depth b x.spelled (_, then.0) yes.spelled c.new-no.ensures.items (_, fi.0);
       shorter = omega (arith, x.shorter, ap length then.0, yes.shorter, ap length fi.0);
@@ -46,9 +46,9 @@ pub looped-returns : goal.looped-returns
 looped-returns t c =
     let d = suc c.args.depth in
     let x = c.in_ok-test.ensures in
-    let does = c.in_ok-rest.ensures in
+    let does = c.in_ok-rest.ensures.read in
     let body = c.in_ok-body.ensures in
-    let od = c.in_ok-rest-2.ensures in
+    let od = c.in_ok-rest-2.ensures.read in
     record {
       spelled = λ before b. looped c.args.depth c.args.at c.in_ok-test.test c.in_ok-body.body before c.args.tokens.now c.in_ok-test.rest.now c.in_ok-rest.rest.now c.in_ok-body.rest.now c.in_ok-rest-2.rest.now c.requires.depth b x.spelled (_, does.0) body.spelled (_, od.0);
       shorter = omega (arith, x.shorter, ap length does.0, body.shorter, ap length od.0);
