@@ -1,6 +1,6 @@
 //! What `check` answers, as a line of text.
 use rel_model::faults::TypeFault;
-use rel_model::syntax::{Name, Place};
+use rel_model::syntax::{Item, Name, Place};
 use rv_parse::parse;
 use rv_types::check;
 use std::alloc::Global;
@@ -53,4 +53,24 @@ pub fn answer(alloc: Global, text: &[u8]) -> Result<String, Fail> {
         }
         Err(fault) => shown(alloc, &fault),
     }
+}
+
+/// What a script tells of the definition of a name: what it is, its place, and how many parameters it has.
+pub fn definition(alloc: Global, text: &[u8], name: &[u8]) -> Result<String, Fail> {
+    if text.len() > MEBIBYTE {
+        return Ok(String::from_str(alloc, "too long")?);
+    }
+    let Ok(script) = parse(alloc, text) else {
+        return Ok(String::from_str(alloc, "no script")?);
+    };
+    let Ok(checked) = check(alloc, script) else {
+        return Ok(String::from_str(alloc, "a fault")?);
+    };
+    let (what, at, params) = match checked.definition(name) {
+        None => return Ok(String::from_str(alloc, "none")?),
+        Some(Item::Function { at, params, .. }) => ("function", *at, params.len()),
+        Some(Item::Program { at, params, .. }) => ("program", *at, params.len()),
+        Some(Item::Command(_)) => return Ok(String::from_str(alloc, "a command")?),
+    };
+    Ok(format!(in alloc; "{what} {}:{} of {params}", at.line, at.column)?)
 }

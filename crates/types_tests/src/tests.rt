@@ -1,5 +1,6 @@
 //! What `check` answers on small scripts, and where.
 mod assigned;
+mod defined;
 mod first;
 mod ranks;
 mod twice;

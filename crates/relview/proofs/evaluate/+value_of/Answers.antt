@@ -64,6 +64,7 @@ links-init g t c =
       paid = paid_first w _ N S _ c.deref-in-Chain.result.now _ c.in_ok-all-in-Chain.all c.as_slice-link-items.result.now
           (ap (cost S) c.in-Chain.is ∙ cost-chain S first rest ∙ ap (λ e. cost S e + cost_of_links S (value S e) rest.items) (sym here) ∙ ap (λ ls. cost S c.deref-in-Chain.result.now + cost_of_links S (value S c.deref-in-Chain.result.now) ls) (sym items))
           c.in_ok-all-in-Chain.ensures.value c.in_ok-all-in-Chain.ensures.room (ap (missing_of_links N) items ∙ known.1);
+      misses = c.in_ok-all-in-Chain.ensures.cause.done;
     }
 
 pub applied-requires-clause-rows : goal.applied-requires-clause-rows
@@ -87,6 +88,7 @@ links-preserved g t c =
           c.links.invariant.ahead c.in_ok-right-in-Chain.ensures.keeps c.in_ok-right-in-Chain.ensures.value c.in_ok-all-in-Chain-2.ensures.keeps c.in_ok-all-in-Chain-2.ensures.value;
       paid = paid_more w (g.C.Core.worker c.links.core) (sized c.args.names.now) (means w c.args.names.now) _ _ c.links.all c.links.link-index items c.link-item.result c.links-test.true c.link-item.is same c.links.invariant.paid
           _ _ c.in_ok-right-in-Chain.right c.in_ok-all-in-Chain-2.all plain.0 laws a.stands c.in_ok-right-in-Chain.ensures.room c.in_ok-all-in-Chain-2.ensures.room c.in_ok-right-in-Chain.ensures.keeps c.in_ok-right-in-Chain.ensures.value c.in_ok-all-in-Chain-2.ensures.value;
+      misses = c.in_ok-all-in-Chain-2.ensures.cause.done ∙ (c.in_ok-right-in-Chain.ensures.cause.done ∙ c.links.invariant.misses);
     }
 
 pub returns-in_err-right-in-Chain-clause-room : goal.returns-in_err-right-in-Chain-clause-room

@@ -1,6 +1,7 @@
 use Rattle.std.proofs.Common.{drop}
 use Rattle.rel_model.specs.Cost.{cost}
 use Rattle.rel_model.specs.Meaning.{shaped, value}
+use Rattle.rel_model.specs.Worker.{MissesNothing}
 use Rattle.relview.specs.Names.{means, sized}
 use Rattle.relview.proofs.Fitting.{IsAhead}
 use Rattle.relview.proofs.Spending.{IsPaid}
@@ -15,4 +16,5 @@ invariant-links g l =
     record {
       ahead : IsAhead w (g.C.Core.worker l.core) (means w l.names) (shaped (means w l.names) l.expr) (value (means w l.names) l.expr) l.all (drop l.link-index l.link-items);
       paid : IsPaid w (g.C.Core.worker l.core) (sized l.names) (means w l.names) (cost (means w l.names) l.expr) l.all (drop l.link-index l.link-items);
+      misses : MissesNothing w (g.C.Core.worker l.core);
     }
