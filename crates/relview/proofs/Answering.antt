@@ -1,16 +1,15 @@
 -- The one session of a run is the whole run.
-use Rattle.std.proofs.Common.{◌≡◌, ◌≢◌, ◌≤◌, ◌∙◌, ℕ, List, [], ◌∷◌, ◌++◌, None, refl, sym, ap, subst, arith, append-nil}
+use Rattle.std.proofs.Common.{◌≡◌, ◌≤◌, ◌∙◌, ℕ, List, [], ◌∷◌, ◌++◌, None, refl, sym, ap, subst, arith, append-nil}
 use Rattle.std.specs.List.{AllByRecursion}
 use Rattle.rel_model.specs.declared.syntax.Script.{Script}
 use Rattle.rel_model.specs.declared.faults.ParseFault.{ParseFault}
 use Rattle.rel_model.specs.declared.faults.ParseFault.TheVariants.{Byte, Expected, TooDeep, NumberTooLarge, NameTooLong, NoMemory}
 use Rattle.rv_parse.specs.Faults.{RefusesFirst}
 use Rattle.rel_model.specs.declared.run.Event.{Event}
-use Rattle.rel_model.specs.declared.run.Outcome.{Outcome}
 use Rattle.rel_model.specs.Grammar.{SpelledBy}
 use Rattle.rel_model.specs.Legal.{LegalItems, IsLegal, no_script}
 use Rattle.rel_model.specs.Stored.{HoldsRun}
-use Rattle.rel_model.specs.Page.{IsRun, page_of, items_page, prefix, refusal_text}
+use Rattle.rel_model.specs.Page.{page_of, items_page, prefix, refusal_text}
 use Rattle.rel_model.specs.Worker.{Worker}
 use Rattle.rel_model.proofs.Runs.{Below, events_of-below}
 use Rattle.relview.specs.declared.session.Run.{Run}

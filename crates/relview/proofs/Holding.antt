@@ -2,15 +2,12 @@
 -- 1. The session's seat saw its relations, and the words hold all that a seat has seen, so its relations stand in them.
 -- 2. As many nodes are stored as the seat made, which are no more than the commands cost.
 -- 3. A full table was counted as missed, and then the seat saw every place taken.
-use Rattle.std.proofs.Common.{◌≡◌, ◌≢◌, ◌<◌, ◌≤◌, ◌+◌, ◌∙◌, ℕ, List, [], ◌∷◌, None, refl, sym, ap, subst, arith}
+use Rattle.std.proofs.Common.{◌≡◌, ◌≢◌, ◌∙◌, ℕ, List, [], ◌∷◌, refl, sym, ap, subst, arith}
 use Rattle.std.specs.Prelude.{IsSome}
-use Rattle.std.specs.List.{AllByRecursion}
-use Rattle.rel_model.specs.declared.Rel.{Rel}
 use Rattle.rel_model.specs.declared.syntax.Script.{Script}
 use Rattle.rel_model.specs.declared.run.Outcome.{Outcome}
 use Rattle.rel_model.specs.declared.run.Outcome.TheVariants.{Nodes}
-use Rattle.rel_model.specs.Relation.{Relation}
-use Rattle.rel_model.specs.Words.{Extends, IsDistinct, IsFull}
+use Rattle.rel_model.specs.Words.{Extends, IsFull}
 use Rattle.rel_model.specs.Equations.{node_words}
 use Rattle.rel_model.specs.Views.{Table, View, IsOf, IsFresh, IsClosed}
 use Rattle.rel_model.specs.Quads.{Work}

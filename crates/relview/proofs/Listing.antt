@@ -1,20 +1,16 @@
 -- Lists of pairs that grow, and the relations of such lists.
-use Rattle.std.proofs.Common.{◌≡◌, ◌<◌, ◌≤◌, ◌+◌, ◌-◌, ◌*◌, ◌^◌, max, ◌&&◌, ◌||◌, ◌∙◌, ℕ, Bool, true, false, eqb, List, [], ◌∷◌, ◌++◌, length, take, drop, get_or, refl, sym, ap, arith, inl, inr, zero, suc, Some}
+use Rattle.std.proofs.Common.{◌≡◌, ◌<◌, ◌≤◌, ◌+◌, ◌-◌, ◌*◌, ◌^◌, max, ◌&&◌, ◌||◌, ◌∙◌, ℕ, Bool, true, false, eqb, List, [], ◌∷◌, ◌++◌, length, take, get_or, refl, sym, ap, arith, inl, inr}
 use Rattle.std.specs.List.{list_any}
 use Rattle.std.proofs.lemmas.Bool.{cases_Bool, and_parts, eqb-true, eq-eqb}
 use Rattle.std.proofs.lemmas.List.{take_more}
-use Rattle.rel_model.specs.declared.Rel.{Rel}
 use Rattle.rel_model.specs.declared.syntax.Column.{Column}
 use Rattle.rel_model.specs.declared.syntax.Row.{Row}
-use Rattle.rel_model.specs.Relation.{Relation, has, relation_of}
-use Rattle.rel_model.specs.Operators.{empty, single, union}
+use Rattle.rel_model.specs.Relation.{relation_of}
 use Rattle.rel_model.specs.State.{lists}
 use Rattle.rel_model.specs.Worker.{height_of, pairs_room}
 use Rattle.rel_model.specs.Cost.{listed_count}
 use Rattle.std.proofs.lemmas.Nat.{mul-le}
-use Rattle.rel_model.proofs.Relations.{has-relation_of, relation_of-agree, rows-relation_of, cols-relation_of}
-use Rattle.rel_model.proofs.Workers.{gives_stands, gives_set, keeps_set}
-use Rattle.rel_model.proofs.OperatorLaws.{relation_of-sizes}
+use Rattle.rel_model.proofs.Relations.{relation_of-agree}
 use Rattle.relview.specs.Listed.{IsListed, Extends}
 use Rattle.rel_model.specs.Listed.{AreWithin, is_among}
 

@@ -1,12 +1,12 @@
 -- What the parts of the top call report, as its one answer.
-use Rattle.std.proofs.Common.{◌≡◌, ◌≢◌, ◌≤◌, ◌⊎◌, inl, inr, ℕ, Bool, true, false, List, [], ◌∷◌, length, map, String, Global, ◌∙◌, sym, ap, subst}
+use Rattle.std.proofs.Common.{◌≡◌, ◌≤◌, ◌⊎◌, inl, inr, ℕ, Bool, true, false, List, [], ◌∷◌, length, map, String, Global, ◌∙◌, sym, ap, subst}
 use Rattle.std.specs.Bool.{MatchBool}
 use Rattle.std.specs.Prelude.{All, IsTrue}
 use Rattle.std.specs.List.{AllByRecursion}
 use Rattle.std.specs.String.{string_bytes}
 use Rattle.std.proofs.lemmas.List.Elements.{recursion_from_All}
 use Rattle.rel_model.specs.Legal.{Trees, IsLegal}
-use Rattle.rel_model.specs.Page.{IsRun, page_of}
+use Rattle.rel_model.specs.Page.{page_of}
 use Rattle.rel_model.specs.Stored.{HoldsRun}
 use Rattle.rv_io.specs.Outside.{Told, IsFile}
 use Rattle.relview.specs.declared.top.Report.{Report}

@@ -1,14 +1,14 @@
 -- How many nodes the value of an expression makes at most.
 -- 1. An operator of the language makes at most two of the algebra.
 -- 2. Along a chain, what was made and what its other links cost come to no more than the cost of the whole.
-use Rattle.std.proofs.Common.{◌≡◌, ◌<◌, ◌≤◌, ◌+◌, ◌*◌, ◌∙◌, ℕ, List, [], ◌∷◌, length, drop, get_or, Option, Some, None, refl, sym, ap, subst, arith}
+use Rattle.std.proofs.Common.{◌≡◌, ◌<◌, ◌≤◌, ◌+◌, ◌∙◌, ℕ, List, ◌∷◌, length, drop, get_or, Option, Some, None, refl, sym, ap, arith}
 use Rattle.std.proofs.lemmas.List.{drop_more}
 use Rattle.rel_model.specs.declared.Rel.{Rel}
 use Rattle.rel_model.specs.declared.syntax.Place.{Place}
 use Rattle.rel_model.specs.declared.syntax.Op2.{Op2}
 use Rattle.rel_model.specs.declared.syntax.Op2.TheVariants.{Or, And, Times, Under, Over}
 use Rattle.rel_model.specs.declared.syntax.Link.{Link}
-use Rattle.rel_model.specs.declared.syntax.Expr.{Expr, Ref}
+use Rattle.rel_model.specs.declared.syntax.Expr.{Expr}
 use Rattle.rel_model.specs.Relation.{Relation}
 use Rattle.rel_model.specs.State.{State}
 use Rattle.rel_model.specs.Meaning.{first_of_both, missing, Shaped, shaped, value, result_of_both}

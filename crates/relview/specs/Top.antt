@@ -1,5 +1,5 @@
 -- What the program answers: which words it takes, the lines that it says instead of a page, and the causes of its statuses.
-use Rattle.std.specs.Prelude.{◌≡◌, ◌≢◌, ◌⊎◌, ◌++◌, ◌&&◌, ◌==◌, ◌≤◌, ◌-◌, not, ℕ, Bool, true, false, cond, List, [], ◌∷◌, length, drop, map, codes, Option, None, String}
+use Rattle.std.specs.Prelude.{◌≡◌, ◌⊎◌, ◌++◌, ◌&&◌, ◌==◌, ◌≤◌, ◌-◌, not, ℕ, Bool, true, false, cond, List, [], ◌∷◌, length, drop, map, codes, Option, None, String}
 use Rattle.std.specs.List.{list_any, list_all}
 use Rattle.std.specs.String.{string_bytes}
 use Rattle.std.specs.declared.alloc.Global.{Global}

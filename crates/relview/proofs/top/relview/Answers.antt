@@ -1,4 +1,4 @@
-use Rattle.std.proofs.Common.{◌∷◌, [], subst}
+use Rattle.std.proofs.Common.{subst}
 use Rattle.relview.specs.Top.{Answers, texts, Usage, Unread, TooLong, usage_line, cannot_read_line, too_long_line, script_limit}
 use Rattle.rv_io.specs.Reading.{RefusesFile}
 use Rattle.relview.proofs.Reporting.{said_answer, said_or_out, run_answer, may_pick_word}
