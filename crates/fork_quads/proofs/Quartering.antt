@@ -9,7 +9,7 @@ use Rattle.rel_model.specs.Cells.{Cells}
 use Rattle.rel_model.specs.Trees.{bottom_height, quartered}
 use Rattle.rel_model.specs.Equations.{side_of}
 use Rattle.rel_model.specs.Quads.{Work, IsWork, QuadStands, IsQuad, quad_cells, KeepsWork, ReadsWork, AreQuarters, quad_room}
-use Rattle.rel_model.specs.Roots.{height_over}
+use Rattle.rel_model.specs.Roots.{height_over, tree_room}
 use Rattle.rel_model.specs.Quarters.{LiesWithin, GivesQuarters}
 use Rattle.rel_model.specs.Worker.{Stands, set_of, HasQuad, quad_set, Gives, GivesQuad, MakesAtMost}
 use Rattle.rel_model.proofs.QuadLaws.{side_of-power}
@@ -78,9 +78,6 @@ pub side_inside : (h n : ℕ) → 3 ≤ h → n ≤ 2 ^ h → n ≤ side_of h
 unfolding bottom_height
 side_inside h n l s = let p = side_of-power h l in omega (arith, p)
 
-pub rect_room : (h : ℕ) (w inside new : Work) → inside ≡ w → KeepsWork (quad_room h) inside new → MakesAtMost (4 * 4 ^ h) (worker_of w) (worker_of new)
+pub rect_room : (h : ℕ) (w inside new : Work) → inside ≡ w → KeepsWork (quad_room h) inside new → MakesAtMost (tree_room (h - 3)) (worker_of w) (worker_of new)
 unfolding bottom_height
-rect_room h w inside new v k =
-    let p = pow-le-pow_right {n = 4} (omega arith) {i = h - 3} {j = h} (omega arith) in
-    let r = k.room in
-    subst (λ (x : Work). MakesAtMost (4 * 4 ^ h) (worker_of x) (worker_of new)) v (omega arith)
+rect_room h w inside new v k = subst (λ (x : Work). MakesAtMost (tree_room (h - 3)) (worker_of x) (worker_of new)) v k.room

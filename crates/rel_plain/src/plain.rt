@@ -88,6 +88,8 @@ impl Core for Plain {
 
     ghost lean = { false };
 
+    ghost least = { 0 };
+
     ghost valid = { valid_law };
 
     ghost row_size = { rows_law };
