@@ -17,7 +17,8 @@ use Rattle.rel_model.specs.Worker.{Worker, Stands, set_of, Gives, Keeps}
 use Rattle.rel_model.specs.Trees.{bottom_height}
 use Rattle.rel_model.specs.Roots.{relation_room}
 use Rattle.rel_model.proofs.Workers.{gives_set, keeps_set}
-use Rattle.relview.specs.Links.{missing_of_links, cost_of_links, IsBoolean}
+use Rattle.relview.specs.Plain.{IsBoolean}
+use Rattle.relview.proofs.Linked.{missing_of_links, cost_of_links}
 use Rattle.relview.specs.Values.{GivesValue}
 use Rattle.relview.proofs.Agreeing.{HasSizes}
 use Rattle.relview.proofs.Fitting.{given_stands, given_set}

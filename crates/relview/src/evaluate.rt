@@ -6,7 +6,7 @@ ghost use Rattle.rel_model.specs.Operators.{complement as complement_of, transpo
 ghost use Rattle.rel_model.specs.Worker.{Stands, set_of, Keeps, MakesAtMost, Gives, HasCause};
 ghost use Rattle.rel_model.specs.Trees.{bottom_height};
 ghost use Rattle.rel_model.specs.Cost.{tree_cost, cost};
-ghost use Rattle.relview.specs.Links.{IsPlain, IsBoolean, IsFit};
+ghost use Rattle.relview.specs.Plain.{IsPlain, IsBoolean, IsFit};
 ghost use Rattle.relview.specs.Names.{rel_of, sized, means, AllStand};
 ghost use Rattle.relview.specs.Values.{fault_of, GivesValue};
 

@@ -10,7 +10,7 @@ ghost use Rattle.rel_model.specs.Trees.{bottom_height};
 ghost use Rattle.rel_model.specs.Cost.{cost, cost_where_due};
 ghost use Rattle.rel_model.specs.Due.{evaluated};
 ghost use Rattle.rel_model.specs.Legal.{MayLackNodes};
-ghost use Rattle.relview.specs.Links.{IsPlain};
+ghost use Rattle.relview.specs.Plain.{IsPlain};
 ghost use Rattle.relview.specs.Names.{rel_of, means, AllStand};
 ghost use Rattle.relview.specs.Ran.{Replies};
 ghost use Rattle.rel_model.specs.Meaning.{known};
@@ -21,7 +21,7 @@ ghost use Rattle.rel_model.specs.declared.run.Outcome.TheVariants.{Done, Ill};
 ghost use Rattle.rel_model.specs.Meaning.{missing, shaped, value};
 ghost use Rattle.rel_model.specs.Worker.{Rose};
 ghost use Rattle.rel_model.specs.Legal.{IsCompound};
-ghost use Rattle.relview.specs.Links.{IsFit};
+ghost use Rattle.relview.specs.Plain.{IsFit};
 ghost use Rattle.relview.specs.Names.{sized};
 ghost use Rattle.relview.specs.Values.{fault_of, GivesValue, lack_outcome};
 

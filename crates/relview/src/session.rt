@@ -8,7 +8,7 @@ ghost use Rattle.rel_model.specs.Cost.{cost, cost_where_due, listed_count, liste
 ghost use Rattle.rel_model.specs.Trees.{bottom_height};
 ghost use Rattle.rel_model.specs.Due.{evaluated};
 ghost use Rattle.rel_model.specs.Legal.{Trees};
-ghost use Rattle.relview.specs.Links.{IsPlain};
+ghost use Rattle.relview.specs.Plain.{IsPlain};
 ghost use Rattle.relview.specs.Names.{means, AllStand};
 ghost use Rattle.relview.specs.Ran.{IsFirstItem, RanTo, Follows, tree_of, Settles, Printed, Assigns, Assigned, Refuses, Refused};
 

@@ -1,7 +1,8 @@
 use Rattle.std.proofs.Common.{◌≡◌, ◌+◌, ◌∙◌, None, sym, ap, subst, rules}
 use Rattle.rel_model.specs.Meaning.{missing, shaped, value}
 use Rattle.relview.specs.Names.{means, sized}
-use Rattle.relview.specs.Links.{missing_of_links, cost_of_links, shaped_of_links, value_of_links, IsFit, IsPlain, ArePlainLinks}
+use Rattle.relview.specs.Plain.{IsFit, IsPlain}
+use Rattle.relview.proofs.Linked.{missing_of_links, cost_of_links, shaped_of_links, value_of_links, ArePlainLinks}
 use Rattle.relview.proofs.Chains.{missing-chain, cost-chain, shaped-chain, value-chain, plain-chain}
 use Rattle.relview.proofs.Values.{means_kept, all_stand_kept}
 use Rattle.rel_model.specs.Cost.{cost}
