@@ -18,7 +18,7 @@ use Rattle.rel_model.specs.Tokens.{is_allowed, reserved_words, domain_operators,
 use Rattle.rel_model.specs.Printing.{printed}
 use Rattle.rel_model.specs.Taken.{TakesAt}
 use Rattle.rel_model.specs.Spelling.{OrLevel, Spelled, SpellsCommand, SpellsItem, SpellsItems}
-use Rattle.rv_parse.specs.Places.{SameUpToPlaces}
+use Rattle.rv_parse.specs.Places.{without_places, SameUpToPlaces}
 use Rattle.rv_parse.specs.Again.{StandsIn, SpellOnly, ReadAgain, PrintsSame, PrintsAgain}
 use Rattle.rv_parse.proofs.Naming.{all_named, named_behind}
 use Rattle.rv_parse.proofs.Pieces.{Lexes, token, then, past, stop_lexes}
@@ -31,7 +31,7 @@ of_text : (d : ℕ) (e : Expr) (i : StandsIn d e) → Reread i.level d e i.rest
 of_text d e i = reread i.spelled (named_behind i.before i.tokens (all_named i.bytes (i.before ++ i.tokens) i.split))
 
 spell_only : (e found : Expr) (tokens rest : List Token) (k : ℕ) → SameUpToPlaces e found → Spelled OrLevel k found tokens rest → SpellOnly e tokens rest
-spell_only e found tokens rest k same s = λ d other left u h h'. let a = agree s u refl h h' in (same ∙ a.same, a.left)
+spell_only e found tokens rest k same s = λ d other left u h h'. let a = agree s u refl h h' in (same ∙ ap without_places a.same, a.left)
 
 pub read_again : (e : Expr) (text : List ℕ) → text ≡ printed e → ReadAgain e text
 read_again e text is = subst (ReadAgain e) (sym is) (λ d k i h at. let p = whole i.level d k e i.rest (of_text d e i) h at in record {
@@ -105,7 +105,7 @@ only_items start end found more p (item ∷ items) tokens s q =
     let c : ItemShape item (Keyword PRINT) more s.0 = subst (λ z. ItemShape item (Keyword PRINT) z s.0) m (subst (λ z. ItemShape item z b.more s.0) k b.shape) in
     let a = agree p c.2 refl (ends_stop end (token end (Sign 46) []) [] refl) (ends_stop s.3.0 s.0 s.1 s.3.1) in
     let none : items ≡ [] = no_items items s.1 s.4 (sym (one_rest refl s.3.1 a.left)) in
-    (c.0, (λ i. c.1 i ∷ none i), a.same)
+    (c.0, (λ i. c.1 i ∷ none i), ap without_places a.same)
 
 some_tokens : {xs ys : List Token} → Some xs ≡ Some ys → xs ≡ ys
 some_tokens e = cc

@@ -14,7 +14,7 @@ use Rattle.rel_model.specs.Taken.{TakesAt, Takes, Carets}
 use Rattle.rel_model.specs.Spelling.{Level, OrLevel, AndLevel, ProdLevel, UnaryLevel, PostLevel, PrimLevel, tighter, IsOperatorOf, Form, TakesOne, TakesTwo, TakesDomain, form_of, Spelled, named, called, based, based_twice, injected, paired, enclosed, turned, negated, chained, alone, Listed, Linked, no_link, one_link}
 use Rattle.rv_parse.specs.Again.{Ends}
 use Rattle.rv_parse.specs.Readers.{begins}
-use Rattle.rv_parse.specs.Places.{Tree, Branches, NameTree, CallTree, BaseTree, InjectTree, PairTree, MinusTree, TurnedTree, ChainTree, NoBranch, MoreBranches, tree_of}
+use Rattle.rv_parse.specs.Places.{Tree, Branches, NameTree, CallTree, BaseTree, InjectTree, PairTree, MinusTree, TurnedTree, ChainTree, NoBranch, MoreBranches, tree_of, nowhere}
 use Rattle.rv_parse.proofs.Fitting.{IsChains, is_chains}
 use Rattle.rv_parse.proofs.Places.{trees_in, branches_in, tree_call, tree_base, tree_pair, tree_minus, tree_turned, tree_chain}
 
@@ -91,6 +91,10 @@ abbrev pub kind_of_first : List Token → Kind → Kind
 kind_of_first [] kind = kind
 kind_of_first (t ∷ ts) kind = t.kind
 
+abbrev pub place_of_first : List Token → Place
+place_of_first [] = nowhere
+place_of_first (t ∷ ts) = t.at
+
 abbrev pub behind_first : List Token → List Token
 behind_first [] = []
 behind_first (t ∷ ts) = ts
@@ -98,6 +102,9 @@ behind_first (t ∷ ts) = ts
 -- the same tokens begin with the same one
 pub one_kind : {at at' : Place} {kind kind' : Kind} {ts ts' rest rest' : List Token} → TakesAt at kind ts rest → TakesAt at' kind' ts' rest' → ts ≡ ts' → kind ≡ kind'
 one_kind {at} {at'} {kind} {kind'} {ts} {ts'} {rest} {rest'} t t' e = ap (λ z. kind_of_first z kind) (sym t ∙ e ∙ t')
+
+pub one_place : {at at' : Place} {kind kind' : Kind} {ts ts' rest rest' : List Token} → TakesAt at kind ts rest → TakesAt at' kind' ts' rest' → ts ≡ ts' → at ≡ at'
+one_place {at} {at'} {kind} {kind'} {ts} {ts'} {rest} {rest'} t t' e = ap place_of_first (sym t ∙ e ∙ t')
 
 pub one_rest : {at at' : Place} {kind kind' : Kind} {ts ts' rest rest' : List Token} → TakesAt at kind ts rest → TakesAt at' kind' ts' rest' → ts ≡ ts' → rest ≡ rest'
 one_rest {at} {at'} {kind} {kind'} {ts} {ts'} {rest} {rest'} t t' e = ap behind_first (sym t ∙ e ∙ t')
@@ -148,7 +155,7 @@ linked_chains (one_link l d x xs sign tokens mid after rest o t s ls) p = is_cha
 -- a first operand with links, if there are any
 abbrev pub chain_tree : Tree → Branches → Tree
 chain_tree t NoBranch = t
-chain_tree t (MoreBranches op right more) = ChainTree t (MoreBranches op right more)
+chain_tree t (MoreBranches at op right more) = ChainTree t (MoreBranches at op right more)
 
 pub chain_tree_of : (t : Tree) (xs : List Link) → 0 < length xs → ChainTree t (branches_in xs) ≡ chain_tree t (branches_in xs)
 chain_tree_of t [] p = absurd (omega arith)
@@ -181,7 +188,7 @@ pub record Negated (d : ℕ) (e : Expr) (tokens rest : List Token) : Type 0 wher
   pub mid : List Token
   pub takes : TakesAt at (Sign 45) tokens mid
   pub inner : Spelled UnaryLevel (suc d) of mid rest
-  pub shape : tree_of e ≡ MinusTree (tree_of of)
+  pub shape : tree_of e ≡ MinusTree at (tree_of of)
 
 pub as_unary : {l : Level} {d : ℕ} {e : Expr} {tokens rest : List Token} → Spelled l d e tokens rest → IsUnary l → Negated d e tokens rest ⊎ Spelled (tighter l) d e tokens rest
 as_unary (named d at text tokens rest t) h = absurd h
@@ -196,10 +203,10 @@ as_unary (negated d at of tokens mid rest l t s) h = inl (record { of = of.value
 as_unary (chained l d first links tokens mid rest s p ls) h = absurd (no_chains_unary l (linked_chains ls p) h)
 as_unary (alone l d x tokens rest s) h = inr s
 
--- an expression with signs ^ behind it, if there are any
-abbrev pub post_tree : Tree → ℕ → Tree
-post_tree t zero = t
-post_tree t (suc n) = TurnedTree t (suc n)
+-- an expression with signs ^ behind it, if there are any, the first at this place
+abbrev pub post_tree : Place → Tree → ℕ → Tree
+post_tree at t zero = t
+post_tree at t (suc n) = TurnedTree at t (suc n)
 
 pub record Posted (l : Level) (d : ℕ) (e : Expr) (tokens rest : List Token) : Type 0 where
   pub of : Expr
@@ -207,7 +214,7 @@ pub record Posted (l : Level) (d : ℕ) (e : Expr) (tokens rest : List Token) : 
   pub mid : List Token
   pub head : Spelled (tighter l) d of tokens mid
   pub signs : Carets times mid rest
-  pub shape : tree_of e ≡ post_tree (tree_of of) times
+  pub shape : tree_of e ≡ post_tree (place_of_first mid) (tree_of of) times
 
 pub as_post : {l : Level} {d : ℕ} {e : Expr} {tokens rest : List Token} → Spelled l d e tokens rest → IsPost l → Posted l d e tokens rest
 as_post (named d at text tokens rest t) h = absurd h
@@ -217,12 +224,12 @@ as_post (based_twice d at base args x y tokens t1 t2 t3 t4 t5 rest l f q t _ _ _
 as_post (injected d at base domain tokens t1 t2 t3 rest l f t _ _ _) h = absurd h
 as_post (paired d at left right tokens t1 t2 t3 t4 rest l t _ _ _ _) h = absurd h
 as_post (enclosed d x tokens mid after rest l _ _ _) h = absurd h
-as_post (turned d at of n tokens mid after rest s t cs) h = record { of = of.value; times = suc n; mid = mid; head = s; signs = (after, (at, t), cs); shape = tree_turned at of (suc n) }
+as_post (turned d at of n tokens mid after rest s t cs) h = record { of = of.value; times = suc n; mid = mid; head = s; signs = (after, (at, t), cs); shape = tree_turned at of (suc n) ∙ ap (λ p. TurnedTree p (tree_of of.value) (suc n)) (sym (ap place_of_first t)) }
 as_post (negated d at of tokens mid rest l t s) h = absurd h
 as_post (chained l d first links tokens mid rest s p ls) h = absurd (no_chains_post l (linked_chains ls p) h)
 as_post (alone l d x tokens rest s) h = record { of = x; times = 0; mid = rest; head = s; signs = refl; shape = refl }
 
-pub record CalledWith (d : ℕ) (e : Expr) (text : List ℕ) (t1 rest : List Token) : Type 0 where
+pub record CalledWith (d : ℕ) (e : Expr) (at : Place) (text : List ℕ) (t1 rest : List Token) : Type 0 where
   pub first : Expr
   pub more : List Expr
   pub t2 : List Token
@@ -232,18 +239,18 @@ pub record CalledWith (d : ℕ) (e : Expr) (text : List ℕ) (t1 rest : List Tok
   pub head : Spelled OrLevel (suc d) first t2 t3
   pub tail : Listed 15 (suc d) more t3 t4
   pub close : Takes (Sign 41) t4 rest
-  pub shape : tree_of e ≡ CallTree text (trees_in (first ∷ more))
+  pub shape : tree_of e ≡ CallTree at text (trees_in (first ∷ more))
 
-pub record OneOf (d : ℕ) (e : Expr) (base : Base) (t1 rest : List Token) : Type 0 where
+pub record OneOf (d : ℕ) (e : Expr) (at : Place) (base : Base) (t1 rest : List Token) : Type 0 where
   pub first : Expr
   pub t2 : List Token
   pub t3 : List Token
   pub opened : Takes (Sign 40) t1 t2
   pub head : Spelled OrLevel (suc d) first t2 t3
   pub close : Takes (Sign 41) t3 rest
-  pub shape : tree_of e ≡ BaseTree base (trees_in (first ∷ []))
+  pub shape : tree_of e ≡ BaseTree at base (trees_in (first ∷ []))
 
-pub record TwoOf (d : ℕ) (e : Expr) (base : Base) (t1 rest : List Token) : Type 0 where
+pub record TwoOf (d : ℕ) (e : Expr) (at : Place) (base : Base) (t1 rest : List Token) : Type 0 where
   pub first : Expr
   pub second : Expr
   pub t2 : List Token
@@ -255,23 +262,23 @@ pub record TwoOf (d : ℕ) (e : Expr) (base : Base) (t1 rest : List Token) : Typ
   pub comma : Takes (Sign 44) t3 t4
   pub tail : Spelled OrLevel (suc d) second t4 t5
   pub close : Takes (Sign 41) t5 rest
-  pub shape : tree_of e ≡ BaseTree base (trees_in (first ∷ second ∷ []))
+  pub shape : tree_of e ≡ BaseTree at base (trees_in (first ∷ second ∷ []))
 
-pub record DomainOf (d : ℕ) (e : Expr) (base : Base) (t1 rest : List Token) : Type 0 where
+pub record DomainOf (d : ℕ) (e : Expr) (at : Place) (base : Base) (t1 rest : List Token) : Type 0 where
   pub domain : List ℕ
   pub t2 : List Token
   pub t3 : List Token
   pub opened : Takes (Sign 40) t1 t2
   pub name : Takes (Word domain) t2 t3
   pub close : Takes (Sign 41) t3 rest
-  pub shape : tree_of e ≡ InjectTree base domain
+  pub shape : tree_of e ≡ InjectTree at base domain
 
 pub record EnclosedIn (d : ℕ) (e : Expr) (t1 rest : List Token) : Type 0 where
   pub t2 : List Token
   pub head : Spelled OrLevel (suc d) e t1 t2
   pub close : Takes (Sign 41) t2 rest
 
-pub record PairedIn (d : ℕ) (e : Expr) (t1 rest : List Token) : Type 0 where
+pub record PairedIn (d : ℕ) (e : Expr) (at : Place) (t1 rest : List Token) : Type 0 where
   pub first : Expr
   pub second : Expr
   pub t2 : List Token
@@ -281,27 +288,27 @@ pub record PairedIn (d : ℕ) (e : Expr) (t1 rest : List Token) : Type 0 where
   pub comma : Takes (Sign 44) t2 t3
   pub tail : Spelled OrLevel (suc d) second t3 t4
   pub close : Takes (Sign 93) t4 rest
-  pub shape : tree_of e ≡ PairTree (tree_of first) (tree_of second)
+  pub shape : tree_of e ≡ PairTree at (tree_of first) (tree_of second)
 
 -- what stands behind a base name or a domain operator, by its form
-abbrev pub BasedOn : Form → ℕ → Expr → Base → List Token → List Token → Type 0
-BasedOn TakesOne d e base t1 rest = OneOf d e base t1 rest
-BasedOn TakesTwo d e base t1 rest = TwoOf d e base t1 rest
-BasedOn TakesDomain d e base t1 rest = DomainOf d e base t1 rest
+abbrev pub BasedOn : Form → ℕ → Expr → Place → Base → List Token → List Token → Type 0
+BasedOn TakesOne d e at base t1 rest = OneOf d e at base t1 rest
+BasedOn TakesTwo d e at base t1 rest = TwoOf d e at base t1 rest
+BasedOn TakesDomain d e at base t1 rest = DomainOf d e at base t1 rest
 
--- what stands behind the first token, by its kind
-abbrev pub PrimShape : ℕ → Expr → Kind → List Token → List Token → Type 0
-PrimShape d e (Word text) t1 rest = ((tree_of e ≡ NameTree text) × (rest ≡ t1)) ⊎ CalledWith d e text t1 rest
-PrimShape d e (BASE base) t1 rest = BasedOn (form_of base) d e base t1 rest
-PrimShape d e (Sign s) t1 rest = ((s ≡ 40) × EnclosedIn d e t1 rest) ⊎ ((s ≡ 91) × PairedIn d e t1 rest)
-PrimShape d e _ t1 rest = ⊥
+-- what stands behind the first token, by its place and kind
+abbrev pub PrimShape : ℕ → Expr → Place → Kind → List Token → List Token → Type 0
+PrimShape d e at (Word text) t1 rest = ((tree_of e ≡ NameTree at text) × (rest ≡ t1)) ⊎ CalledWith d e at text t1 rest
+PrimShape d e at (BASE base) t1 rest = BasedOn (form_of base) d e at base t1 rest
+PrimShape d e at (Sign s) t1 rest = ((s ≡ 40) × EnclosedIn d e t1 rest) ⊎ ((s ≡ 91) × PairedIn d e at t1 rest)
+PrimShape d e at _ t1 rest = ⊥
 
 pub record Primed (d : ℕ) (e : Expr) (tokens rest : List Token) : Type 0 where
   pub at : Place
   pub kind : Kind
   pub t1 : List Token
   pub takes : TakesAt at kind tokens t1
-  pub shape : PrimShape d e kind t1 rest
+  pub shape : PrimShape d e at kind t1 rest
 
 pub as_prim : {l : Level} {d : ℕ} {e : Expr} {tokens rest : List Token} → Spelled l d e tokens rest → IsPrim l → Primed d e tokens rest
 as_prim (named d at text tokens rest t) h = record { at = at; kind = Word text; t1 = rest; takes = t; shape = inl (refl, refl) }
@@ -310,28 +317,28 @@ as_prim (called d at text args first more tokens t1 t2 t3 t4 rest l q t opened s
   kind = Word text;
   t1 = t1;
   takes = t;
-  shape = inr (record { first = first; more = more; t2 = t2; t3 = t3; t4 = t4; opened = opened; head = s; tail = ls; close = close; shape = tree_call at text args ∙ ap (λ es. CallTree text (trees_in es)) q });
+  shape = inr (record { first = first; more = more; t2 = t2; t3 = t3; t4 = t4; opened = opened; head = s; tail = ls; close = close; shape = tree_call at text args ∙ ap (λ es. CallTree at text (trees_in es)) q });
 }
 as_prim (based d at base args x tokens t1 t2 t3 rest l f q t opened s close) h = record {
   at = at;
   kind = BASE base;
   t1 = t1;
   takes = t;
-  shape = subst (λ z. BasedOn z d (BaseCall at base args) base t1 rest) (sym f) (record { first = x; t2 = t2; t3 = t3; opened = opened; head = s; close = close; shape = tree_base at base args ∙ ap (λ es. BaseTree base (trees_in es)) q });
+  shape = subst (λ z. BasedOn z d (BaseCall at base args) at base t1 rest) (sym f) (record { first = x; t2 = t2; t3 = t3; opened = opened; head = s; close = close; shape = tree_base at base args ∙ ap (λ es. BaseTree at base (trees_in es)) q });
 }
 as_prim (based_twice d at base args x y tokens t1 t2 t3 t4 t5 rest l f q t opened s comma u close) h = record {
   at = at;
   kind = BASE base;
   t1 = t1;
   takes = t;
-  shape = subst (λ z. BasedOn z d (BaseCall at base args) base t1 rest) (sym f) (record { first = x; second = y; t2 = t2; t3 = t3; t4 = t4; t5 = t5; opened = opened; head = s; comma = comma; tail = u; close = close; shape = tree_base at base args ∙ ap (λ es. BaseTree base (trees_in es)) q });
+  shape = subst (λ z. BasedOn z d (BaseCall at base args) at base t1 rest) (sym f) (record { first = x; second = y; t2 = t2; t3 = t3; t4 = t4; t5 = t5; opened = opened; head = s; comma = comma; tail = u; close = close; shape = tree_base at base args ∙ ap (λ es. BaseTree at base (trees_in es)) q });
 }
 as_prim (injected d at base domain tokens t1 t2 t3 rest l f t opened name close) h = record {
   at = at;
   kind = BASE base;
   t1 = t1;
   takes = t;
-  shape = subst (λ z. BasedOn z d (Inject at base domain) base t1 rest) (sym f) (record { domain = domain; t2 = t2; t3 = t3; opened = opened; name = name; close = close; shape = refl });
+  shape = subst (λ z. BasedOn z d (Inject at base domain) at base t1 rest) (sym f) (record { domain = domain; t2 = t2; t3 = t3; opened = opened; name = name; close = close; shape = refl });
 }
 as_prim (paired d at left right tokens t1 t2 t3 t4 rest l t s comma u close) h = record {
   at = at;
@@ -347,23 +354,23 @@ as_prim (chained l d first links tokens mid rest s p ls) h = absurd (no_chains_p
 as_prim (alone l d x tokens rest s) h = as_prim s (prim_tighter l h)
 
 -- the same by a first token that is known
-pub prim_at : {at : Place} {d : ℕ} {e : Expr} {tokens others t1 rest : List Token} (kind : Kind) → TakesAt at kind tokens t1 → tokens ≡ others → Spelled PrimLevel d e others rest → PrimShape d e kind t1 rest
+pub prim_at : {at : Place} {d : ℕ} {e : Expr} {tokens others t1 rest : List Token} (kind : Kind) → TakesAt at kind tokens t1 → tokens ≡ others → Spelled PrimLevel d e others rest → PrimShape d e at kind t1 rest
 prim_at {at} {d} {e} {tokens} {others} {t1} {rest} kind t q s =
     let v = as_prim s tt in
-    subst (λ k. PrimShape d e k t1 rest) (sym (one_kind t v.takes q)) (subst (λ z. PrimShape d e v.kind z rest) (sym (one_rest t v.takes q)) v.shape)
+    subst (λ p. PrimShape d e p kind t1 rest) (sym (one_place t v.takes q)) (subst (λ k. PrimShape d e v.at k t1 rest) (sym (one_kind t v.takes q)) (subst (λ z. PrimShape d e v.at v.kind z rest) (sym (one_rest t v.takes q)) v.shape))
 
-pub only_name : (d : ℕ) (e : Expr) (text : List ℕ) (t1 rest : List Token) → PrimShape d e (Word text) t1 rest → begins 40 t1 ≡ false → (tree_of e ≡ NameTree text) × (rest ≡ t1)
-only_name d e text t1 rest (inl x) h = x
-only_name d e text t1 rest (inr c) h = absurd (opened_call c.opened.1 h)
+pub only_name : (d : ℕ) (e : Expr) (at : Place) (text : List ℕ) (t1 rest : List Token) → PrimShape d e at (Word text) t1 rest → begins 40 t1 ≡ false → (tree_of e ≡ NameTree at text) × (rest ≡ t1)
+only_name d e at text t1 rest (inl x) h = x
+only_name d e at text t1 rest (inr c) h = absurd (opened_call c.opened.1 h)
 
-pub only_call : (d : ℕ) (e : Expr) (text : List ℕ) (t1 rest : List Token) → PrimShape d e (Word text) t1 rest → begins 40 t1 ≡ true → begins 40 rest ≡ false → CalledWith d e text t1 rest
-only_call d e text t1 rest (inl x) h k = absurd (false≢true (sym k ∙ ap (begins 40) x.1 ∙ h))
-only_call d e text t1 rest (inr c) h k = c
+pub only_call : (d : ℕ) (e : Expr) (at : Place) (text : List ℕ) (t1 rest : List Token) → PrimShape d e at (Word text) t1 rest → begins 40 t1 ≡ true → begins 40 rest ≡ false → CalledWith d e at text t1 rest
+only_call d e at text t1 rest (inl x) h k = absurd (false≢true (sym k ∙ ap (begins 40) x.1 ∙ h))
+only_call d e at text t1 rest (inr c) h k = c
 
-pub only_enclosed : (d : ℕ) (e : Expr) (t1 rest : List Token) → PrimShape d e (Sign 40) t1 rest → EnclosedIn d e t1 rest
-only_enclosed d e t1 rest (inl x) = x.1
-only_enclosed d e t1 rest (inr x) = let h : 40 ≡ 91 = x.0 in absurd (omega (arith, h))
+pub only_enclosed : (d : ℕ) (e : Expr) (at : Place) (t1 rest : List Token) → PrimShape d e at (Sign 40) t1 rest → EnclosedIn d e t1 rest
+only_enclosed d e at t1 rest (inl x) = x.1
+only_enclosed d e at t1 rest (inr x) = let h : 40 ≡ 91 = x.0 in absurd (omega (arith, h))
 
-pub only_pair : (d : ℕ) (e : Expr) (t1 rest : List Token) → PrimShape d e (Sign 91) t1 rest → PairedIn d e t1 rest
-only_pair d e t1 rest (inl x) = let h : 91 ≡ 40 = x.0 in absurd (omega (arith, h))
-only_pair d e t1 rest (inr x) = x.1
+pub only_pair : (d : ℕ) (e : Expr) (at : Place) (t1 rest : List Token) → PrimShape d e at (Sign 91) t1 rest → PairedIn d e at t1 rest
+only_pair d e at t1 rest (inl x) = let h : 91 ≡ 40 = x.0 in absurd (omega (arith, h))
+only_pair d e at t1 rest (inr x) = x.1

@@ -25,3 +25,6 @@ pub mod Again
 pub mod Places
 pub mod Apart
 pub mod Unambiguous
+pub mod Plain
+pub mod OneStmt
+pub mod OneScript

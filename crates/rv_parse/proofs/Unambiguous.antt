@@ -1,4 +1,4 @@
--- Tokens spell one expression alone, up to places.
+-- Tokens spell one expression alone, with its places.
 -- 1. What stands behind an expression must not go on with it (`Ends`); then where it ends is determined too.
 -- 2. By induction on how the first is spelled: at each level the second is taken apart in the same way (`Chained`, `Posted`, `Primed`), since the first token of an operand, and the operator behind it, decide.
 use Rattle.std.proofs.Common.{◌≡◌, inl, inr, ℕ, false, List, [], refl, sym, ap, ◌∙◌, subst, zero, suc, arith}
@@ -11,23 +11,23 @@ use Rattle.rel_model.specs.declared.token.Token.{Token}
 use Rattle.rel_model.specs.Taken.{TakesAt, Carets}
 use Rattle.rel_model.specs.Spelling.{Level, OrLevel, AndLevel, ProdLevel, UnaryLevel, PostLevel, PrimLevel, tighter, IsOperatorOf, Spelled, named, called, based, based_twice, injected, paired, enclosed, turned, negated, chained, alone, Listed, no_more, one_more, Linked, no_link, one_link}
 use Rattle.rv_parse.specs.Readers.{begins}
-use Rattle.rv_parse.specs.Places.{CallTree, BaseTree, InjectTree, PairTree, MinusTree, NoTree, MoreTrees, SameUpToPlaces, tree_of}
+use Rattle.rv_parse.specs.Places.{CallTree, BaseTree, InjectTree, PairTree, MinusTree, TurnedTree, NoTree, MoreTrees, MoreBranches, tree_of}
 use Rattle.rv_parse.proofs.Fitting.{no_minus}
-use Rattle.rv_parse.proofs.Places.{SameArguments, SameLinks, trees_in, tree_call, tree_base, tree_pair, tree_minus, tree_turned, tree_chain, no_arguments, one_argument, no_links, same_link}
-use Rattle.rv_parse.proofs.Apart.{ends_tighter, ends_comma, ends_close, ends_bracket, ends_operand, goes_on, one_operator, one_kind, one_rest, not_sign, one_word, linked_chains, chain_tree, chain_tree_of, as_chain, as_unary, post_tree, as_post, OneOf, TwoOf, DomainOf, BasedOn, prim_at, only_name, only_call, only_enclosed, only_pair}
+use Rattle.rv_parse.proofs.Places.{trees_in, branches_in, tree_call, tree_base, tree_pair, tree_minus, tree_turned, tree_chain}
+use Rattle.rv_parse.proofs.Apart.{ends_tighter, ends_comma, ends_close, ends_bracket, ends_operand, goes_on, one_operator, one_kind, one_place, one_rest, place_of_first, not_sign, one_word, linked_chains, chain_tree, chain_tree_of, as_chain, as_unary, post_tree, as_post, OneOf, TwoOf, DomainOf, BasedOn, prim_at, only_name, only_call, only_enclosed, only_pair}
 use Rattle.rv_parse.specs.Again.{Ends}
 
 -- ---- the induction
 pub record Agrees (e f : Expr) (rest others : List Token) : Type 0 where
-  pub same : SameUpToPlaces e f
+  pub same : tree_of e ≡ tree_of f
   pub left : rest ≡ others
 
 record AgreesAll (es fs : List Expr) (rest others : List Token) : Type 0 where
-  same : SameArguments es fs
+  same : trees_in es ≡ trees_in fs
   left : rest ≡ others
 
 record AgreesAlong (xs ys : List Link) (rest others : List Token) : Type 0 where
-  same : SameLinks xs ys
+  same : branches_in xs ≡ branches_in ys
   left : rest ≡ others
 
 ends_links : {l : Level} {d : ℕ} {xs : List Link} {tokens rest : List Token} → Linked l d xs tokens rest → Ends l rest → Ends (tighter l) tokens
@@ -44,7 +44,7 @@ ends_carets (suc n) tokens rest s h = ap (begins 40) s.1.1
 
 -- no link there
 no_links_agree : {l : Level} {d : ℕ} {ys : List Link} {tokens others rest : List Token} → Linked l d ys others rest → tokens ≡ others → Ends l tokens → AgreesAlong [] ys tokens rest
-no_links_agree (no_link l d others rest e) q h = record { same = no_links; left = q ∙ sym e }
+no_links_agree (no_link l d others rest e) q h = record { same = refl; left = q ∙ sym e }
 no_links_agree (one_link l d y ys sign others mid after rest o t s ls) q h = absurd (goes_on l y.op sign y.at others mid o t (subst (Ends l) q h))
 
 agree_carets : (n m : ℕ) (tokens others rest behind : List Token) → Carets n tokens rest → Carets m others behind → tokens ≡ others → begins 94 rest ≡ false → begins 94 behind ≡ false → (n ≡ m) × (rest ≡ behind)
@@ -60,43 +60,43 @@ sign_differs s u t t' q n = n (not_sign s u (one_kind t t' q))
 mutual
   pub agree : {l : Level} {d : ℕ} {e : Expr} {tokens rest : List Token} → Spelled l d e tokens rest → {k : ℕ} {f : Expr} {others behind : List Token} → Spelled l k f others behind → tokens ≡ others → Ends l rest → Ends l behind → Agrees e f rest behind
   agree (named d at text tokens rest t) {k} {f} {others} {behind} u q h h' =
-      let c = only_name k f text rest behind (prim_at (Word text) t q u) h in
+      let c = only_name k f at text rest behind (prim_at (Word text) t q u) h in
       record { same = sym c.0; left = sym c.1 }
   agree (called d at text args first more tokens t1 t2 t3 t4 rest l p t opened s ls close) {k} {f} {others} {behind} u q h h' =
-      let c = only_call k f text t1 behind (prim_at (Word text) t q u) (ap (begins 40) opened.1) h' in
+      let c = only_call k f at text t1 behind (prim_at (Word text) t q u) (ap (begins 40) opened.1) h' in
       let a = agree s c.head (one_rest opened.1 c.opened.1 refl) (ends_args ls close.1) (ends_args c.tail c.close.1) in
       let b = agree_listed ls c.tail a.left close.0 c.close.0 rest behind close.1 c.close.1 in
-      record { same = tree_call at text args ∙ ap (λ es. CallTree text (trees_in es)) p ∙ (λ i. CallTree text (MoreTrees (a.same i) (b.same i))) ∙ sym c.shape; left = one_rest close.1 c.close.1 b.left }
+      record { same = tree_call at text args ∙ ap (λ es. CallTree at text (trees_in es)) p ∙ (λ i. CallTree at text (MoreTrees (a.same i) (b.same i))) ∙ sym c.shape; left = one_rest close.1 c.close.1 b.left }
   agree (based d at base args e tokens t1 t2 t3 rest l form p t opened s close) {k} {f} {others} {behind} u q h h' =
-      let c : OneOf k f base t1 behind = subst (λ z. BasedOn z k f base t1 behind) form (prim_at (BASE base) t q u) in
+      let c : OneOf k f at base t1 behind = subst (λ z. BasedOn z k f at base t1 behind) form (prim_at (BASE base) t q u) in
       let a = agree s c.head (one_rest opened.1 c.opened.1 refl) (ends_close close.0 t3 rest close.1) (ends_close c.close.0 c.t3 behind c.close.1) in
-      record { same = tree_base at base args ∙ ap (λ es. BaseTree base (trees_in es)) p ∙ (λ i. BaseTree base (MoreTrees (a.same i) NoTree)) ∙ sym c.shape; left = one_rest close.1 c.close.1 a.left }
+      record { same = tree_base at base args ∙ ap (λ es. BaseTree at base (trees_in es)) p ∙ (λ i. BaseTree at base (MoreTrees (a.same i) NoTree)) ∙ sym c.shape; left = one_rest close.1 c.close.1 a.left }
   agree (based_twice d at base args e x tokens t1 t2 t3 t4 t5 rest l form p t opened s comma s' close) {k} {f} {others} {behind} u q h h' =
-      let c : TwoOf k f base t1 behind = subst (λ z. BasedOn z k f base t1 behind) form (prim_at (BASE base) t q u) in
+      let c : TwoOf k f at base t1 behind = subst (λ z. BasedOn z k f at base t1 behind) form (prim_at (BASE base) t q u) in
       let a = agree s c.head (one_rest opened.1 c.opened.1 refl) (ends_comma comma.0 t3 t4 comma.1) (ends_comma c.comma.0 c.t3 c.t4 c.comma.1) in
       let b = agree s' c.tail (one_rest comma.1 c.comma.1 a.left) (ends_close close.0 t5 rest close.1) (ends_close c.close.0 c.t5 behind c.close.1) in
-      record { same = tree_base at base args ∙ ap (λ es. BaseTree base (trees_in es)) p ∙ (λ i. BaseTree base (MoreTrees (a.same i) (MoreTrees (b.same i) NoTree))) ∙ sym c.shape; left = one_rest close.1 c.close.1 b.left }
+      record { same = tree_base at base args ∙ ap (λ es. BaseTree at base (trees_in es)) p ∙ (λ i. BaseTree at base (MoreTrees (a.same i) (MoreTrees (b.same i) NoTree))) ∙ sym c.shape; left = one_rest close.1 c.close.1 b.left }
   agree (injected d at base domain tokens t1 t2 t3 rest l form t opened name close) {k} {f} {others} {behind} u q h h' =
-      let c : DomainOf k f base t1 behind = subst (λ z. BasedOn z k f base t1 behind) form (prim_at (BASE base) t q u) in
+      let c : DomainOf k f at base t1 behind = subst (λ z. BasedOn z k f at base t1 behind) form (prim_at (BASE base) t q u) in
       let e2 = one_rest opened.1 c.opened.1 refl in
-      record { same = ap (InjectTree base) (one_word domain c.domain (one_kind name.1 c.name.1 e2)) ∙ sym c.shape; left = one_rest close.1 c.close.1 (one_rest name.1 c.name.1 e2) }
+      record { same = ap (InjectTree at base) (one_word domain c.domain (one_kind name.1 c.name.1 e2)) ∙ sym c.shape; left = one_rest close.1 c.close.1 (one_rest name.1 c.name.1 e2) }
   agree (paired d at left right tokens t1 t2 t3 t4 rest l t s comma s' close) {k} {f} {others} {behind} u q h h' =
-      let c = only_pair k f t1 behind (prim_at (Sign 91) t q u) in
+      let c = only_pair k f at t1 behind (prim_at (Sign 91) t q u) in
       let a = agree s c.head refl (ends_comma comma.0 t2 t3 comma.1) (ends_comma c.comma.0 c.t2 c.t3 c.comma.1) in
       let b = agree s' c.tail (one_rest comma.1 c.comma.1 a.left) (ends_bracket close.0 t4 rest close.1) (ends_bracket c.close.0 c.t4 behind c.close.1) in
-      record { same = tree_pair at left right ∙ (λ i. PairTree (a.same i) (b.same i)) ∙ sym c.shape; left = one_rest close.1 c.close.1 b.left }
+      record { same = tree_pair at left right ∙ (λ i. PairTree at (a.same i) (b.same i)) ∙ sym c.shape; left = one_rest close.1 c.close.1 b.left }
   agree (enclosed d e tokens mid after rest l opened s close) {k} {f} {others} {behind} u q h h' =
-      let c = only_enclosed k f mid behind (prim_at (Sign 40) opened.1 q u) in
+      let c = only_enclosed k f opened.0 mid behind (prim_at (Sign 40) opened.1 q u) in
       let a = agree s c.head refl (ends_close close.0 after rest close.1) (ends_close c.close.0 c.t2 behind c.close.1) in
       record { same = a.same; left = one_rest close.1 c.close.1 a.left }
   agree (turned d at of n tokens mid after rest s t cs) {k} {f} {others} {behind} u q h h' =
       let c = as_post u tt in
       let a = agree s c.head q (ap (begins 40) t) (ends_carets c.times c.mid behind c.signs h'.1) in
       let b = agree_carets (suc n) c.times mid c.mid rest behind (after, (at, t), cs) c.signs a.left h.0 h'.0 in
-      record { same = tree_turned at of (suc n) ∙ (λ i. post_tree (a.same i) (b.0 i)) ∙ sym c.shape; left = b.1 }
+      record { same = tree_turned at of (suc n) ∙ ap (λ p. TurnedTree p (tree_of of.value) (suc n)) (sym (ap place_of_first t)) ∙ (λ i. post_tree (place_of_first (a.left i)) (a.same i) (b.0 i)) ∙ sym c.shape; left = b.1 }
   agree (negated d at of tokens mid rest l t s) {k} {f} {others} {behind} u q h h' =
       elim (as_unary u tt) as (λ _. Agrees (Minus at of) f rest behind) [
-        | inl c ↦ (let a = agree s c.inner (one_rest t c.takes q) h h' in record { same = tree_minus at of ∙ ap MinusTree a.same ∙ sym c.shape; left = a.left })
+        | inl c ↦ (let a = agree s c.inner (one_rest t c.takes q) h h' in record { same = tree_minus at of ∙ (λ i. MinusTree (one_place t c.takes q i) (a.same i)) ∙ sym c.shape; left = a.left })
         | inr c ↦ absurd (false≢true (sym (no_minus c tt) ∙ ap (begins 45) (sym q ∙ t)))
       ]
   agree (chained l d first links tokens mid rest s p ls) {k} {f} {others} {behind} u q h h' =
@@ -128,18 +128,18 @@ mutual
       let c = as_post u tt in
       let a = agree s c.head q h.1 (ends_carets c.times c.mid behind c.signs h'.1) in
       let b = agree_carets 0 c.times rest c.mid rest behind refl c.signs a.left h.0 h'.0 in
-      record { same = (λ i. post_tree (a.same i) (b.0 i)) ∙ sym c.shape; left = b.1 }
+      record { same = (λ i. post_tree (place_of_first (a.left i)) (a.same i) (b.0 i)) ∙ sym c.shape; left = b.1 }
   agree (alone PrimLevel d e tokens rest s) u q h h' = agree s u q h h'
 
   agree_listed : {n d : ℕ} {es : List Expr} {tokens rest : List Token} → Listed n d es tokens rest → {m k : ℕ} {fs : List Expr} {others behind : List Token} → Listed m k fs others behind → tokens ≡ others
       → (at at' : Place) (x x' : List Token) → TakesAt at (Sign 41) rest x → TakesAt at' (Sign 41) behind x' → AgreesAll es fs rest behind
-  agree_listed (no_more n d tokens rest e) (no_more m k others behind e') q at at' x x' t t' = record { same = no_arguments; left = e ∙ q ∙ sym e' }
+  agree_listed (no_more n d tokens rest e) (no_more m k others behind e') q at at' x x' t t' = record { same = refl; left = e ∙ q ∙ sym e' }
   agree_listed (no_more n d tokens rest e) (one_more m k y ys others mid after behind comma u us) q at at' x x' t t' = absurd (sign_differs 41 44 t comma.1 (e ∙ q) (λ z. absurd (omega (arith, z))))
   agree_listed (one_more n d y ys tokens mid after rest comma s ss) (no_more m k others behind e') q at at' x x' t t' = absurd (sign_differs 44 41 comma.1 t' (q ∙ sym e') (λ z. absurd (omega (arith, z))))
   agree_listed (one_more n d e es tokens mid after rest comma s ss) (one_more m k y ys others mid' after' behind comma' u us) q at at' x x' t t' =
       let a = agree s u (one_rest comma.1 comma'.1 q) (ends_args ss t) (ends_args us t') in
       let b = agree_listed ss us a.left at at' x x' t t' in
-      record { same = one_argument e y es ys a.same b.same; left = b.left }
+      record { same = (λ i. MoreTrees (a.same i) (b.same i)); left = b.left }
 
   agree_links : {l : Level} {d : ℕ} {xs : List Link} {tokens rest : List Token} → Linked l d xs tokens rest → {k : ℕ} {ys : List Link} {others behind : List Token} → Linked l k ys others behind → tokens ≡ others → Ends l rest → Ends l behind → AgreesAlong xs ys rest behind
   agree_links (no_link l d tokens rest e) us q h h' = no_links_agree us (e ∙ q) h
@@ -148,4 +148,4 @@ mutual
       let e = not_sign sign sign' (one_kind t t' q) in
       let a = agree s u (one_rest t t' q) (ends_links ss h) (ends_links us h') in
       let b = agree_links ss us a.left h h' in
-      record { same = same_link x y xs ys (one_operator l x.op y.op sign o (subst (IsOperatorOf l y.op) (sym e) o')) a.same b.same; left = b.left }
+      record { same = (λ i. MoreBranches (one_place t t' q i) (one_operator l x.op y.op sign o (subst (IsOperatorOf l y.op) (sym e) o') i) (a.same i) (b.same i)); left = b.left }

@@ -13,3 +13,4 @@ pub mod Stops
 pub mod Places
 pub mod Printed
 pub mod Again
+pub mod Plain
