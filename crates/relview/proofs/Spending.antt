@@ -27,18 +27,6 @@ pub one_tree : (least m n : ℕ) → least ≡ bottom_height → relation_room l
 unfolding tree_cost
 one_tree least m n e = ap (λ (x : ℕ). relation_room x m n) e
 
--- ---- one operator
--- an operand and operators on it that make so many trees
-pub paid_trees : (k : ℕ) (start mid last : Worker) (S : State) (e : Expr) (s : Shaped) (r : Rel) → HasSizes mid → GivesValue mid s (value S e) r → mid.made ≤ start.made + cost S e → last.made ≤ mid.made + k * tree_cost r.rows r.cols
-    → last.made ≤ start.made + (cost S e + k * tree_cost (value S e).rows (value S e).cols)
-paid_trees k start mid last S e s r laws g a b =
-    let stands = given_stands mid s (value S e) r g in
-    let set = given_set mid s (value S e) r g in
-    let m : r.rows ≡ (value S e).rows = sym (laws.rows r stands) ∙ ap (λ x. x.rows) set in
-    let n : r.cols ≡ (value S e).cols = sym (laws.cols r stands) ∙ ap (λ x. x.cols) set in
-    let same : tree_cost r.rows r.cols ≡ tree_cost (value S e).rows (value S e).cols = ap (λ x. tree_cost x r.cols) m ∙ ap (tree_cost (value S e).rows) n in
-    omega (arith, a, b, ap (λ x. k * x) same)
-
 -- ---- known names
 pub known_first : (a b : Option (Place × List ℕ)) → first_of_both a b ≡ None → (a ≡ None) × (b ≡ None)
 known_first None b h = (refl, h)

@@ -60,7 +60,6 @@ fn listed_pairs(alloc: Global, shape: Shape, list: &[Row]) -> Result<Vec<(u32, u
 }
 
 /// The relation of the listed pairs.
-#[tactic(auto, using(crate::proofs::Listing::room_of_fewer))]
 pub fn listed<E: Engine>(
     alloc: Global,
     engine: &mut E,
