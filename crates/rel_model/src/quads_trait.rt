@@ -8,7 +8,7 @@ ghost use Rattle.rel_model.specs.Cells.{Cells, no_cells, cells_rect, bits_cells}
 ghost use Rattle.rel_model.specs.Trees.{top_height, quartered};
 ghost use Rattle.rel_model.specs.Roots.{height_over, tree_room};
 ghost use Rattle.rel_model.specs.Quarters.{LiesWithin, GivesQuarters};
-ghost use Rattle.rel_model.specs.Worker.{Worker, Stands, set_of, HasQuad, quad_set, GivesQuad, Gives, Keeps, MakesAtMost, MissesNothing, HasCause};
+ghost use Rattle.rel_model.specs.Worker.{Worker, Stands, set_of, HasQuad, quad_set, GivesQuad, Gives, Keeps, MakesAtMost, MissesNothing, HasCause, FindsQuad};
 
 use crate::core_trait::Core;
 use crate::{Lack, Quad, Rel, Shape};
@@ -53,6 +53,7 @@ pub trait Quads: Core {
         requires se_height { se.height ≡ nw.height }
         requires below { nw.height < top_height }
         ensures value { IfOk result (GivesQuad (Self.worker self.new) (nw.height + 1) (quartered (2 ^ nw.height) (quad_set (Self.worker self.old) nw) (quad_set (Self.worker self.old) ne) (quad_set (Self.worker self.old) sw) (quad_set (Self.worker self.old) se))) }
+        ensures stood { FindsQuad Self.lean (Self.worker self.old) (Self.worker self.new) (nw.height + 1) (quartered (2 ^ nw.height) (quad_set (Self.worker self.old) nw) (quad_set (Self.worker self.old) ne) (quad_set (Self.worker self.old) sw) (quad_set (Self.worker self.old) se)) result }
         ensures keeps { Keeps (Self.worker self.old) (Self.worker self.new) }
         ensures room { MakesAtMost 3 (Self.worker self.old) (Self.worker self.new) }
         ensures cause { HasCause Self.lean (Self.worker self.old) (Self.worker self.new) result };
@@ -71,6 +72,7 @@ pub trait Quads: Core {
     fn block(&mut self, bits: u64) -> Result<Quad, Lack>
         requires none_past { bits < 2 ^ (2 ^ Self.least * 2 ^ Self.least) }
         ensures value { IfOk result (GivesQuad (Self.worker self.new) Self.least (bits_cells (2 ^ Self.least) bits)) }
+        ensures stood { FindsQuad Self.lean (Self.worker self.old) (Self.worker self.new) Self.least (bits_cells (2 ^ Self.least) bits) result }
         ensures keeps { Keeps (Self.worker self.old) (Self.worker self.new) }
         ensures room { MakesAtMost 1 (Self.worker self.old) (Self.worker self.new) }
         ensures cause { HasCause Self.lean (Self.worker self.old) (Self.worker self.new) result };
@@ -82,6 +84,7 @@ pub trait Quads: Core {
         requires row { rows ≤ 2 ^ height }
         requires col { cols ≤ 2 ^ height }
         ensures value { IfOk result (GivesQuad (Self.worker self.new) height (cells_rect rows cols)) }
+        ensures stood { FindsQuad Self.lean (Self.worker self.old) (Self.worker self.new) height (cells_rect rows cols) result }
         ensures keeps { Keeps (Self.worker self.old) (Self.worker self.new) }
         ensures room { MakesAtMost (tree_room (height - Self.least)) (Self.worker self.old) (Self.worker self.new) }
         ensures cause { HasCause Self.lean (Self.worker self.old) (Self.worker self.new) result };
