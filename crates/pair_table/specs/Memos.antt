@@ -12,3 +12,7 @@ pub record Stores (slot word : ℕ) (old new : View) : Type 0 where
 -- where a last memo step left its slot taken, the slot is taken
 abbrev pub IsStillTaken : ℕ → List ℕ → Option (ℕ × ℕ) → Type 0
 IsStillTaken bits words last = IfSome last (λ p. p.1 ≢ 0 → memo_word bits words p.0 ≢ 0)
+
+-- the memo word of a last memo step stands in its slot
+abbrev pub IsStillThere : ℕ → List ℕ → Option (ℕ × ℕ) → Type 0
+IsStillThere bits words last = IfSome last (λ p. memo_word bits words p.0 ≡ p.1)

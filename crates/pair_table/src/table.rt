@@ -4,7 +4,7 @@ ghost use Rattle.std.specs.Mem.Slots.{slots_items, slots_len, IsFull};
 ghost use Rattle.rel_model.specs.Trees.{first_of, second_of};
 ghost use Rattle.rel_model.specs.Equations.{IsMemo, memo_slots};
 ghost use Rattle.rel_model.specs.Views.{Table, View, IsOf, IsKnown, Reads, IsFresh, Interns, Loads, Splits, Joins, IsClosed};
-ghost use Rattle.pair_table.specs.Memos.{Stores, IsStillTaken};
+ghost use Rattle.pair_table.specs.Memos.{Stores, IsStillTaken, IsStillThere};
 
 use crate::probe::intern_word;
 use crate::rule::{Known, Order, Size};
@@ -196,6 +196,7 @@ impl PairTable {
         requires whole { seat.spare + 1 ≡ self.seats }
         ensures closed { IfOk result (λ v. IsClosed self.bits seat v.items) }
         ensures taken { IfOk result (λ v. IsStillTaken self.bits v.items seat.last) }
+        ensures there { self.seats ≡ 1 → IfOk result (λ v. IsStillThere self.bits v.items seat.last) }
     {
         let PairTable {
             table,

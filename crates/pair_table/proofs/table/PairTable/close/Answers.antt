@@ -1,10 +1,10 @@
-use Rattle.std.proofs.Common.{◌≡◌, ◌∙◌, sym, ap, subst, List, ℕ, ◌+◌}
+use Rattle.std.proofs.Common.{◌≡◌, ◌∙◌, sym, ap, subst, List, ℕ, ◌+◌, ◌≢◌, arith}
 use Rattle.rel_model.specs.Views.{Table, View}
 use Rattle.pair_table.specs.declared.rule.Size.{Size}
 use Rattle.pair_table.specs.Held.{view_of}
 use Rattle.rel_model.specs.Views.{IsClosed}
-use Rattle.pair_table.specs.Memos.{IsStillTaken}
-use Rattle.pair_table.proofs.Memoing.{taken_in_end}
+use Rattle.pair_table.specs.Memos.{IsStillTaken, IsStillThere}
+use Rattle.pair_table.proofs.Memoing.{taken_in_end, there_in_end}
 use Rattle.pair_table.proofs.Wrapping.{one_table, closed_from}
 use Rattle.pair_table.proofs.table.PairTable.close.Goals as goal
 
@@ -26,3 +26,12 @@ returns-in-Ok-clause-taken c =
     rw (← c.seat.view_is, ← b)
     (subst (λ (ws : List ℕ). IsStillTaken c.self.inside.table.shared.key.bits ws c.seat.inside.inner.me.0.last) (sym c.in-Ok.ensures)
     (taken_in_end c.self.inside.table.shared.key _ _ c.seat.inside.inner.id c.seat.inside.inner.me.0 c.close_with-closed.ensures.values.2))
+
+pub returns-in-Ok-clause-there : goal.returns-in-Ok-clause-there
+returns-in-Ok-clause-there c o =
+    let b : c.self.inside.table.shared.key.bits ≡ c.args.self.bits = ap (λ (k : Size). k.bits) c.self.invariant.key_is ∙ ap (λ (t : Table). t.bits) c.self.view_is in
+    let one : c.self.inside.table.shared.key.seats ≡ 1 = ap (λ (k : Size). k.seats) c.self.invariant.key_is ∙ ap (λ (t : Table). t.seats) c.self.view_is ∙ o in
+    let live : c.seat.inside.inner.me.0.parts ≢ 0 = (λ z. let p = c.seat.invariant.parts in omega arith) in
+    rw (← c.seat.view_is, ← b)
+    (subst (λ (ws : List ℕ). IsStillThere c.self.inside.table.shared.key.bits ws c.seat.inside.inner.me.0.last) (sym c.in-Ok.ensures)
+    (there_in_end c.self.inside.table.shared.key _ _ c.seat.inside.inner.id c.seat.inside.inner.me.0 c.close_with-closed.ensures.values.2 one live))
