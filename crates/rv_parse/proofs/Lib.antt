@@ -28,3 +28,4 @@ pub mod Unambiguous
 pub mod Plain
 pub mod OneStmt
 pub mod OneScript
+pub mod FirstScripts

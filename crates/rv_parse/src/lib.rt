@@ -22,7 +22,7 @@ mod tokens;
 mod words;
 
 pub use first::parse_first;
-pub use law::{one_script, scripts_have_no_fault};
+pub use law::{first_scripts_are_scripts, one_first_script, one_script, scripts_have_no_fault};
 pub use print::print_expr;
 pub use script::parse;
 
