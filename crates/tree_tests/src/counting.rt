@@ -20,7 +20,7 @@ impl Core for Counting {
 
     ghost lean = { false };
 
-    ghost least = { 0 };
+    ghost least = { 3 };
 
     ghost valid = { λ c r h. valid_law c.plain r h };
 
