@@ -1,7 +1,12 @@
 //! Laws of runs, each a function that does nothing.
-ghost use Rattle.relview.specs.OneRun.{OneRun};
+ghost use Rattle.relview.specs.OneRun.{OneRun, OneRunOfText};
 
 /// A script that runs alone has one list of outcomes, one history but for the roots of its relations, and one page, as long as the table and memory suffice.
 pub fn one_run()
     ensures { OneRun }
+{}
+
+/// The same of a text: whatever it was read as, it has one list of outcomes, one history but for roots, and one page.
+pub fn one_run_of_text()
+    ensures { OneRunOfText }
 {}
