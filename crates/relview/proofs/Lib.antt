@@ -17,3 +17,6 @@ pub mod Answering
 pub mod Holding
 pub mod Reporting
 pub mod OneRun
+pub mod TreeMeaning
+pub mod SameTree
+pub mod OneText

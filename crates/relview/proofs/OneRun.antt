@@ -146,7 +146,7 @@ events_of-alone [] n = refl
 events_of-alone (e ∷ es) n = rw (eq-eqb e.session 1 (omega (arith, n.0.0, n.0.1))) (ap (λ xs. e ∷ xs) (events_of-alone es n.1))
 
 one_script : (script : Script) (H K : List Event) (os ps : List Outcome) → IsLegal (Some script ∷ []) H (os ∷ []) → IsLegal (Some script ∷ []) K (ps ∷ []) → AllByRecursion Sufficed os → AllByRecursion Sufficed ps →
-    AreOneRun (Some script) H K (os ∷ []) (ps ∷ [])
+    AreOneRun H K (os ∷ []) (ps ∷ []) (page_of (Some script ∷ []) H (os ∷ [])) (page_of (Some script ∷ []) K (ps ∷ []))
 unfolding page_of
 one_script script H K os ps l k n m =
     let T : Trees = Some script ∷ [] in
@@ -161,7 +161,7 @@ one_script script H K os ps l k n m =
       one_page = ap (λ x. x ++ []) (items_page-one T H K 1 1 is os states ∙ ap (items_page T K 1 1 is) outcomes);
     }
 
-no_run : (H K : List Event) (os ps : List Outcome) → IsLegal (None ∷ []) H (os ∷ []) → IsLegal (None ∷ []) K (ps ∷ []) → AreOneRun None H K (os ∷ []) (ps ∷ [])
+no_run : (H K : List Event) (os ps : List Outcome) → IsLegal (None ∷ []) H (os ∷ []) → IsLegal (None ∷ []) K (ps ∷ []) → AreOneRun H K (os ∷ []) (ps ∷ []) (page_of (None ∷ []) H (os ∷ [])) (page_of (None ∷ []) K (ps ∷ []))
 unfolding page_of
 no_run H K os ps l k =
     let outcomes : os ≡ ps = l.sessions.0.0 ∙ sym k.sessions.0.0 in
@@ -171,7 +171,7 @@ no_run H K os ps l k =
       one_page = ap (λ x. page_of (None ∷ []) K (x ∷ [])) outcomes;
     }
 
-one : (tree : Option Script) (H K : List Event) (os ps : List (List Outcome)) → IsLegal (tree ∷ []) H os → IsLegal (tree ∷ []) K ps → AllSufficed os → AllSufficed ps → AreOneRun tree H K os ps
+one : (tree : Option Script) (H K : List Event) (os ps : List (List Outcome)) → IsLegal (tree ∷ []) H os → IsLegal (tree ∷ []) K ps → AllSufficed os → AllSufficed ps → AreOneRun H K os ps (page_of (tree ∷ []) H os) (page_of (tree ∷ []) K ps)
 one tree H K [] ps l k n m = absurd l.sessions
 one tree H K (os ∷ (x ∷ xs)) ps l k n m = absurd l.sessions.1
 one tree H K (os ∷ []) [] l k n m = absurd k.sessions
