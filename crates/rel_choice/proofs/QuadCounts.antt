@@ -1,5 +1,6 @@
 -- The counts of quads: of a leaf, by quarters, over several calls, and as a memory keeps them.
-use Rattle.std.proofs.Common.{◌≡◌, ◌<◌, ◌≤◌, ◌+◌, ◌*◌, ◌^◌, ◌&&◌, eqb, cond, suc, ℕ, sym, ap, subst, ◌∙◌, inl, inr, arith, Option, Some}
+use Rattle.std.proofs.Common.{◌≡◌, ◌<◌, ◌≤◌, ◌+◌, ◌*◌, ◌^◌, ◌&&◌, eqb, cond, zero, suc, ℕ, List, [], ◌∷◌, length, refl, sym, ap, subst, ◌∙◌, inl, inr, arith, Option, Some}
+use Rattle.std.specs.Prelude.{Result, Ok, Err, OnErr, IsSome, unwrap_or}
 use Rattle.std.proofs.Math.Nat.{pow-suc, pow-le-pow_right, mul-le-mul}
 use Rattle.std.proofs.lemmas.Bool.{cases_Bool, and_parts, eqb-true}
 use Rattle.std.specs.Int.Count.{ones}
@@ -13,7 +14,7 @@ use Rattle.rel_model.specs.Worker.{Worker, HasQuad, quad_set, GivesQuad, Keeps}
 use Rattle.rel_choice.specs.Counts.{cells_count, quad_count, AreCounts}
 use Rattle.rel_choice.proofs.Sums.{cells_count-none, cells_count-quartered, cells_count-limit}
 use Rattle.rel_choice.proofs.CellCounts.{bits-count, pairs-count}
-use Rattle.rel_choice.proofs.Standing.{zero_set, keeps_quad, keeps_quad_set, gives_quad_set}
+use Rattle.rel_choice.proofs.Standing.{zero_set, keeps_quad, keeps_quad_set, gives_quad, gives_quad_set}
 
 -- the quad named 0
 pub none-count : (w : Worker) (q : Quad) → q.name ≡ 0 → w.quad (record { height = q.height; name = 0 }) ≡ Some no_cells → 0 ≡ quad_count w q
@@ -96,3 +97,24 @@ counts-found w q c found h e = (h q.height q.name c e).1
 pub relation-count : (w : Worker) (r : Relation) (h : ℕ) (q : Quad) → IsRelation r → r.rows ≤ 2 ^ h → r.cols ≤ 2 ^ h → GivesQuad w h (has r) q → quad_count w q ≡ count r
 relation-count w r h q v a b g =
     side-count w q h g.same_height ∙ ap (cells_count (2 ^ h) (2 ^ h)) (gives_quad_set w h (has r) q g) ∙ sym (pairs-count r (2 ^ h) v a b)
+
+-- ---- a relation that has no pair, and one that is counted with no memory
+no-pair : (ps : List (ℕ × ℕ)) → length ps ≡ 0 → ps ≡ []
+no-pair [] e = refl
+no-pair (p ∷ ps) e = absurd (omega (arith, e))
+
+-- its quad is named 0
+pub empty-name : (w : Worker) (r : Relation) (h : ℕ) (q : Quad) → length r.pairs ≡ 0 → GivesQuad w h (has r) q → w.quad (record { height = q.height; name = 0 }) ≡ Some no_cells
+    → (HasQuad w q → HasQuad w (record { height = q.height; name = 0 }) → q.height ≡ q.height → quad_set w q ≡ quad_set w (record { height = q.height; name = 0 }) → q.name ≡ 0) → q.name ≡ 0
+empty-name w r h q e g z one =
+    let none : has r ≡ no_cells = ap (λ (ps : List (ℕ × ℕ)). has (record { rows = r.rows; cols = r.cols; pairs = ps })) (no-pair r.pairs e) in
+    one (gives_quad w h (has r) q g) (subst IsSome (sym z) refl) refl (gives_quad_set w h (has r) q g ∙ none ∙ sym (ap (λ o. unwrap_or o no_cells) z))
+
+some_more : (n m : ℕ) → (n ≡ 0 → m ≡ 0) → 0 < m → 0 < n
+some_more zero m f l = absurd (omega (arith, f refl, l))
+some_more (suc n) m f l = omega arith
+
+-- a refusal of what is not 0 where the one is 0 with the other
+pub refused-some : {T E : Type 0} (r : Result T E) (n m : ℕ) → (n ≡ 0 → m ≡ 0) → OnErr r (0 < m) → OnErr r (0 < n)
+refused-some (Ok v) n m f h = h
+refused-some (Err e) n m f h = some_more n m f h

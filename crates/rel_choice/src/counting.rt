@@ -1,7 +1,8 @@
 //! The number of pairs of a relation.
-ghost use Rattle.std.specs.Prelude.{◌≡◌, ◌<◌, IfOk};
+ghost use Rattle.std.specs.Prelude.{◌≡◌, ◌<◌, IfOk, OnErr};
 ghost use Rattle.std.specs.HashMap.{get};
 ghost use Rattle.rel_model.specs.Choice.{count as count_of};
+ghost use Rattle.rel_model.specs.Roots.{height_over};
 ghost use Rattle.rel_model.specs.Worker.{Stands, set_of, HasQuad, Keeps, MakesAtMost, MissesNothing};
 ghost use Rattle.rel_choice.specs.Counts.{quad_count, same_key, AreCounts};
 
@@ -10,13 +11,15 @@ use rel_model::{NoMemory, Quad, Rel};
 use std::alloc::Global;
 use std::collections::HashMap;
 
-/// How many pairs a relation has (Knuth, for a sum over a shared tree by a memory of its parts).
+/// How many pairs a relation has (Knuth, for a sum over a shared tree by a memory of its parts). A relation with no pair, and one whose tree is a leaf, take no memory.
 pub fn count<Q: Quads>(alloc: Global, q: &mut Q, r: Rel) -> Result<u64, NoMemory>
     requires { Stands (Q.worker q.old) r }
     ensures value { IfOk result (λ n. n ≡ count_of (set_of (Q.worker q.old) r)) }
     ensures keeps { Keeps (Q.worker q.old) (Q.worker q.new) }
     ensures room { MakesAtMost 0 (Q.worker q.old) (Q.worker q.new) }
     ensures misses { MissesNothing (Q.worker q.old) (Q.worker q.new) }
+    ensures some { OnErr result (0 < count_of (set_of (Q.worker q.old) r)) }
+    ensures over { OnErr result (Q.least < height_over Q.least r.rows r.cols) }
 {
     let quad = q.root(r);
     let mut counts = HashMap::new(alloc);
@@ -37,6 +40,8 @@ fn counted<Q: Quads>(
     ensures keeps { Keeps (Q.worker q.old) (Q.worker q.new) }
     ensures room { MakesAtMost 0 (Q.worker q.old) (Q.worker q.new) }
     ensures misses { MissesNothing (Q.worker q.old) (Q.worker q.new) }
+    ensures some { OnErr result (0 < quad.name) }
+    ensures over { OnErr result (Q.least < quad.height) }
 {
     if quad.name == 0 {
         return Ok(0);

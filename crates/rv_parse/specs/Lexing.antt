@@ -1,5 +1,5 @@
 -- Classes of bytes, and what the splitting of a text into tokens answers.
-use Rattle.std.specs.Prelude.{◌≡◌, ◌==◌, ◌^◌, not, ℕ, Bool, List, cond, nat_le, nat_lt, take, Some, None, Option, option_map, ◌++◌, Result, Ok, Err}
+use Rattle.std.specs.Prelude.{◌≡◌, ◌==◌, ◌^◌, not, ℕ, Bool, List, cond, nat_le, nat_lt, take, Some, None, Option, IsSome, option_map, ◌++◌, Result, Ok, Err}
 use Rattle.rel_model.specs.Tokens.{is_word_byte, is_digit, is_file_byte, run_length, value_from, word_kind}
 use Rattle.rel_model.specs.Lexed.{is_comment_byte}
 use Rattle.rel_model.specs.declared.token.Kind.{Kind}
@@ -33,11 +33,11 @@ word_at bs = let n = run_length is_word_byte bs in cond (nat_le n 64) (Some (wor
 abbrev pub number_at : List ℕ → Option (Kind × ℕ)
 number_at bs = let n = run_length is_digit bs in let value = value_from 0 (take n bs) in cond (nat_lt value (2 ^ 64)) (Some (Number value, n)) None
 
--- the answer to what token there is: this one, or that there is none, or no memory
+-- the answer to what token there is: this one, or that there is none; or that there is one, and no memory for it
 abbrev pub Finds : Option (Kind × ℕ) → Result (Kind × ℕ) Refusal → Type 0
 Finds found (Ok x) = found ≡ Some (x.0, x.1)
 Finds found (Err Unfit) = found ≡ None
-Finds found (Err NoMemory) = Unit {0}
+Finds found (Err NoMemory) = IsSome found
 
 -- there are no tokens
 abbrev pub NoTokens : Option (List Token) → Refusal → Type 0

@@ -5,7 +5,7 @@ use Rattle.rel_model.specs.declared.syntax.Expr.{Expr}
 use Rattle.rel_model.specs.declared.syntax.Op2.{Op2}
 use Rattle.rel_model.specs.declared.token.Keyword.{Keyword}
 use Rattle.rel_model.specs.declared.token.Kind.{Kind}
-use Rattle.rel_model.specs.declared.token.Kind.TheVariants.{Number, Sign}
+use Rattle.rel_model.specs.declared.token.Kind.TheVariants.{Number, File, Sign}
 use Rattle.rel_model.specs.declared.token.Token.{Token}
 use Rattle.rel_model.specs.Taken.{TakesAt}
 use Rattle.rel_model.specs.Lexed.{Ending}
@@ -41,6 +41,16 @@ is_number _ = false
 abbrev pub begins_number : List Token → Bool
 begins_number [] = false
 begins_number (token ∷ tokens) = is_number token.kind
+
+-- whether a token is a file text
+abbrev pub is_file : Kind → Bool
+is_file (File text) = true
+is_file _ = false
+
+-- whether a file text comes first
+abbrev pub begins_file : List Token → Bool
+begins_file [] = false
+begins_file (token ∷ tokens) = is_file token.kind
 
 -- whether this keyword comes first
 abbrev pub begins_word : Keyword → List Token → Bool

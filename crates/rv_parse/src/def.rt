@@ -1,5 +1,5 @@
 //! Definitions: functions and programs.
-ghost use Rattle.std.specs.Prelude.{◌≡◌, ◌<◌, ◌≤◌, ◌^◌, ◌∷◌, [], List, length, MatchResult};
+ghost use Rattle.std.specs.Prelude.{◌≡◌, ◌<◌, ◌≤◌, ◌^◌, ◌∷◌, [], List, length, IfErr, MatchResult};
 ghost use Rattle.rel_model.specs.Taken.{TakesAt, Takes};
 ghost use Rattle.rel_model.specs.Spelling.{OrLevel, Spelled, SpelledStmts, SpellsParams, SpellsDecl, SpellsDecls, SpellsHead, SpellsItem, domain_word};
 ghost use Rattle.rel_model.specs.Stop.{NamePart, SignPart, MeaningPart, DomainPart, MoreDecls, MoreParams, BodyPart, ExprPart, program_parts};
@@ -7,6 +7,7 @@ ghost use Rattle.rel_model.specs.declared.token.Kind.TheVariants.{Keyword as KEY
 ghost use Rattle.rel_model.specs.declared.token.Keyword.TheVariants.{Decl as DECL, Beg as BEG};
 ghost use Rattle.rel_model.specs.declared.token.Token.{Token as TOKEN};
 ghost use Rattle.rv_parse.specs.Halts.{ending_of};
+ghost use Rattle.rv_parse.specs.declared.halt.Halt.TheVariants.{NoMemory};
 ghost use Rattle.rv_parse.specs.Readers.{Refuses};
 ghost use Rattle.rv_parse.specs.Got.{Got, ReadsTo, SpellsTail, definition_parts, declared_parts};
 
@@ -49,7 +50,8 @@ fn params(alloc: Global, tokens: &[Token], end: Ending) -> Result<(Vec<Name>, &[
 
 /// PROD or SUM, and whether it is SUM.
 fn domain_word(tokens: &[Token], end: Ending) -> Result<(bool, &[Token]), Halt>
-    ensures { MatchResult result (λ x. Takes (domain_word x.0) tokens.now x.1.now × ReadsTo (ending_of end) (DomainPart ∷ []) (SignPart 40 ∷ NamePart ∷ SignPart 44 ∷ NamePart ∷ SignPart 41 ∷ []) tokens.now x.1.now) (Refuses (ending_of end) (DomainPart ∷ []) tokens.now) }
+    ensures read { MatchResult result (λ x. Takes (domain_word x.0) tokens.now x.1.now × ReadsTo (ending_of end) (DomainPart ∷ []) (SignPart 40 ∷ NamePart ∷ SignPart 44 ∷ NamePart ∷ SignPart 41 ∷ []) tokens.now x.1.now) (Refuses (ending_of end) (DomainPart ∷ []) tokens.now) }
+    ensures memory { IfErr result (λ halt. halt ≡ NoMemory → ⊥) }
 {
     let [first, rest @ ..] = tokens else {
         return Err(missing(tokens, end, Wanted::Word(Keyword::Prod)));

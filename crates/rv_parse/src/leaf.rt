@@ -1,11 +1,12 @@
 //! The first token, read as one part of the grammar, with the fault where it is another.
-ghost use Rattle.std.specs.Prelude.{◌≡◌, ◌≤◌, ◌<◌, ◌∷◌, [], false, IfErr, MatchResult, MatchOption};
+ghost use Rattle.std.specs.Prelude.{◌≡◌, ◌≤◌, ◌<◌, ◌∷◌, [], true, false, IfErr, MatchResult, MatchOption};
 ghost use Rattle.rel_model.specs.Taken.{TakesAt, Takes, nesting_limit};
 ghost use Rattle.rel_model.specs.Stop.{NamePart, NumberPart, FromOne, FilePart, SignPart, WordPart, OpenPart, number_of};
 ghost use Rattle.rel_model.specs.declared.token.Kind.TheVariants.{Keyword as KEYWORD, Word, Number, File, Sign};
 ghost use Rattle.rv_parse.specs.Halts.{what, missing, ending_of, fault_of};
 ghost use Rattle.rv_parse.specs.declared.halt.Halt.TheVariants.{NoMemory};
-ghost use Rattle.rv_parse.specs.Readers.{Reads, Refuses, begins, begins_word};
+ghost use Rattle.rv_parse.specs.Readers.{Reads, Refuses, begins, begins_word, begins_file};
+ghost use Rattle.rv_parse.specs.Items.{begins_name};
 
 use crate::halt::{Ending, Halt, Wanted};
 use rel_model::syntax::{FileText, Name, Place};
@@ -127,13 +128,14 @@ pub fn next_word(tokens: &[Token], end: Ending, keyword: Keyword) -> Result<(Pla
     }
 }
 
-/// A name.
+/// A name, whose copy takes memory.
 pub fn next_name(
     alloc: Global,
     tokens: &[Token],
     end: Ending,
 ) -> Result<(Name, Place, &[Token]), Halt>
-    ensures { MatchResult result (λ x. TakesAt x.1 (Word x.0) tokens.now x.2.now × Reads (ending_of end) (NamePart ∷ []) tokens.now x.2.now) (Refuses (ending_of end) (NamePart ∷ []) tokens.now) }
+    ensures read { MatchResult result (λ x. TakesAt x.1 (Word x.0) tokens.now x.2.now × Reads (ending_of end) (NamePart ∷ []) tokens.now x.2.now) (Refuses (ending_of end) (NamePart ∷ []) tokens.now) }
+    ensures memory { IfErr result (λ halt. halt ≡ NoMemory → begins_name tokens.now ≡ true) }
 {
     let [first, rest @ ..] = tokens else {
         return Err(missing(tokens, end, Wanted::Name));
@@ -180,9 +182,10 @@ pub fn next_from_one(tokens: &[Token], end: Ending) -> Result<(u64, Place, &[Tok
     }
 }
 
-/// A file text.
+/// A file text, whose copy takes memory.
 pub fn next_file(alloc: Global, tokens: &[Token], end: Ending) -> Result<(FileText, &[Token]), Halt>
-    ensures { MatchResult result (λ x. Takes (File x.0) tokens.now x.1.now × Reads (ending_of end) (FilePart ∷ []) tokens.now x.1.now) (Refuses (ending_of end) (FilePart ∷ []) tokens.now) }
+    ensures read { MatchResult result (λ x. Takes (File x.0) tokens.now x.1.now × Reads (ending_of end) (FilePart ∷ []) tokens.now x.1.now) (Refuses (ending_of end) (FilePart ∷ []) tokens.now) }
+    ensures memory { IfErr result (λ halt. halt ≡ NoMemory → begins_file tokens.now ≡ true) }
 {
     let [first, rest @ ..] = tokens else {
         return Err(missing(tokens, end, Wanted::File));

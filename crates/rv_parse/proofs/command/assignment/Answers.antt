@@ -5,7 +5,7 @@ use Rattle.rv_parse.proofs.command.assignment.Goals as goal
 
 pub returns : goal.returns
 returns c =
-    let name = c.in_ok-name.ensures in
+    let name = c.in_ok-name.ensures.read in
     let s = c.in_ok-rest.ensures.read in
     let v = c.in_ok-value.ensures in
     record {

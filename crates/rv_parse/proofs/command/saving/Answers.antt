@@ -5,7 +5,7 @@ use Rattle.rv_parse.proofs.command.saving.Goals as goal
 pub returns : goal.returns
 returns c =
     let v = c.in_ok-value.ensures in
-    let file = c.in_ok-file.ensures in
+    let file = c.in_ok-file.ensures.read in
     record {
       spelled = λ before b. (c.in_ok-value.rest.now, (c.args.tokens.now, b, v.spelled), file.0);
       shorter = omega (arith, v.shorter, ap length file.0.1);

@@ -5,7 +5,7 @@ use Rattle.rv_parse.proofs.def.next_decl.Goals as goal
 
 pub returns-in_ok-decl-in-Some : goal.returns-in_ok-decl-in-Some
 returns-in_ok-decl-in-Some c =
-    let name = c.in_ok-name.ensures in
+    let name = c.in_ok-name.ensures.read in
     let decl = c.in_ok-decl-in-Some.ensures in
     record {
       spelled = decl.spelled c.args.tokens.now c.in_ok-name.rest.now name.0 (_, c.in-Some.ensures);

@@ -21,13 +21,13 @@ returns-in_err-next c =
     let i = c.more.invariant in
     let left : 15 - length i.more ≡ suc (14 - length i.more) = omega (arith, c.more-test.true, c.len.ensures, ap (length {A = List ℕ}) i.all) in
     rw (p.1, p.2) (λ n behind. i.read behind ∙ ap (λ k. stop_of (MoreParams k ∷ behind) c.more.rest.now (ending_of c.args.end)) left
-    ∙ enter_params (14 - length i.more) _ c.more.rest.now c.in-Some.behind.now _ behind c.in-Some.ensures ∙ c.in_err-next.ensures n (MoreParams (14 - length i.more) ∷ behind))
+    ∙ enter_params (14 - length i.more) _ c.more.rest.now c.in-Some.behind.now _ behind c.in-Some.ensures ∙ c.in_err-next.ensures.read n (MoreParams (14 - length i.more) ∷ behind))
 
 pub more-preserved : goal.more-preserved
 more-preserved c =
     let i = c.more.invariant in
     let x = c.in_ok-next.next in
-    let next = c.in_ok-next.ensures in
+    let next = c.in_ok-next.ensures.read in
     let room : length i.more < 15 = omega (arith, c.more-test.true, c.len.ensures, ap (length {A = List ℕ}) i.all) in
     record {
       first = i.first;

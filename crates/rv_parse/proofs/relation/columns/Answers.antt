@@ -8,7 +8,7 @@ pub columns-preserved : goal.columns-preserved
 columns-preserved c =
     let n = c.args.limit in
     let comma = c.in-Some.ensures in
-    let number = c.in_ok-col-2.ensures in
+    let number = c.in_ok-col-2.ensures.read in
     record {
       spelled = rw c.in_ok-push-2.ensures.items (columns_push n c.columns.cols.items (record { col = c.in_ok-col-2.col; at = c.in_ok-col-2.at }) c.args.tokens.now c.columns.rest.now _ c.in_ok-col-2.behind.now c.columns.invariant.spelled (_, comma.0) number.0 number.1 number.2);
       shorter = omega (arith, ap length comma.0, ap length number.0, c.columns.invariant.shorter);

@@ -15,4 +15,4 @@ no_width m tokens mid after NoMemory n r h = tt
 pub returns-in_err-width : goal.returns-in_err-width
 returns-in_err-width c =
     let p = err_from_is_err_and c.from_residual-in_err-width.result c.from_residual-in_err-width.ensures.1 in
-    rw (p.1, p.2) (no_width c.in_ok-height.height c.args.tokens.now c.in_ok-name.rest.now c.in_ok-height.rest.now c.in_err-width.field-0.0 c.in_ok-name.ensures.1 c.in_ok-height.ensures.2 (c.in_err-width.ensures.1 c.in_ok-height.height))
+    rw (p.1, p.2) (no_width c.in_ok-height.height c.args.tokens.now c.in_ok-name.rest.now c.in_ok-height.rest.now c.in_err-width.field-0.0 c.in_ok-name.ensures.read.1 c.in_ok-height.ensures.read.2 (c.in_err-width.ensures.read.1 c.in_ok-height.height))

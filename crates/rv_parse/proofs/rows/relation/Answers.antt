@@ -4,7 +4,7 @@ use Rattle.rv_parse.proofs.rows.relation.Goals as goal
 
 pub returns : goal.returns
 returns c =
-    let name = c.in_ok-name.ensures in
+    let name = c.in_ok-name.ensures.read in
     let m = c.in_ok-rows_total.ensures.read in
     let n = c.in_ok-cols.ensures.read in
     let o = c.in_ok-rest.ensures.read in
