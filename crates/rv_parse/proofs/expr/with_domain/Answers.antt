@@ -6,7 +6,7 @@ use Rattle.rv_parse.proofs.expr.with_domain.Goals as goal
 pub returns : goal.returns
 returns c =
     let o = c.in_ok-rest.ensures.read in
-    let n = c.in_ok-domain.ensures in
+    let n = c.in_ok-domain.ensures.read in
     let s = c.in_ok-rest-2.ensures.read in
     record {
       spelled = λ before t. injected c.args.depth c.args.at c.args.base c.in_ok-domain.domain before c.args.tokens.now c.in_ok-rest.rest.now c.in_ok-domain.rest.now c.in_ok-rest-2.rest.now o.1 c.requires.form t (_, o.0) (_, n.0) (_, s.0);

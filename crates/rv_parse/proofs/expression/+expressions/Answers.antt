@@ -18,20 +18,20 @@ prim-returns-in_err-inner-in-Some t c =
 pub prim-returns-in_err-rest-in-Some : goal.prim-returns-in_err-rest-in-Some
 prim-returns-in_err-rest-in-Some t c =
     let p = err_from_is_err_and c.from_residual-in_err-rest-in-Some.result c.from_residual-in_err-rest-in-Some.ensures.1 in
-    rw (p.1, p.2) (prim_no_close c.args.depth (c.args.depth + 1) c.in-Some.field-0-0 c.in_ok-inner-in-Some.inner c.args.tokens.now c.in-Some.behind.now c.in_ok-inner-in-Some.rest.now c.in_err-rest-in-Some.field-0.0 (add-one c.args.depth) (omega arith) c.in-Some.ensures c.in_ok-inner-in-Some.ensures c.in_err-rest-in-Some.ensures)
+    rw (p.1, p.2) (prim_no_close c.args.depth (c.args.depth + 1) c.in-Some.field-0-0 c.in_ok-inner-in-Some.inner c.args.tokens.now c.in-Some.behind.now c.in_ok-inner-in-Some.rest.now c.in_err-rest-in-Some.field-0.0 (add-one c.args.depth) (omega arith) c.in-Some.ensures c.in_ok-inner-in-Some.ensures c.in_err-rest-in-Some.ensures.read)
 
 pub prim-returns-in_err-name-in-None : goal.prim-returns-in_err-name-in-None
 prim-returns-in_err-name-in-None t c =
     let p = err_from_is_err_and c.from_residual-in_err-name-in-None.result c.from_residual-in_err-name-in-None.ensures.1 in
-    rw (p.1, p.2) (prim_no_name c.args.depth c.args.tokens.now c.in_err-name-in-None.field-0.0 c.in-None.ensures c.in_err-name-in-None.ensures)
+    rw (p.1, p.2) (prim_no_name c.args.depth c.args.tokens.now c.in_err-name-in-None.field-0.0 c.in-None.ensures c.in_err-name-in-None.ensures.read)
 
 pub prim-returns-in_ok-rest-in-Some : goal.prim-returns-in_ok-rest-in-Some
 prim-returns-in_ok-rest-in-Some t c =
-    prim_parens c.args.depth (c.args.depth + 1) c.in-Some.field-0-0 _ c.in_ok-inner-in-Some.inner c.args.tokens.now c.in-Some.behind.now c.in_ok-inner-in-Some.rest.now c.in_ok-rest-in-Some.rest.now (add-one c.args.depth) (omega arith) c.in-Some.ensures c.in_ok-inner-in-Some.ensures c.in_ok-rest-in-Some.ensures.0 c.in_ok-rest-in-Some.ensures.1
+    prim_parens c.args.depth (c.args.depth + 1) c.in-Some.field-0-0 _ c.in_ok-inner-in-Some.inner c.args.tokens.now c.in-Some.behind.now c.in_ok-inner-in-Some.rest.now c.in_ok-rest-in-Some.rest.now (add-one c.args.depth) (omega arith) c.in-Some.ensures c.in_ok-inner-in-Some.ensures c.in_ok-rest-in-Some.ensures.read.0 c.in_ok-rest-in-Some.ensures.read.1
 
 pub prim-returns-in_ok-name-in-None : goal.prim-returns-in_ok-name-in-None
 prim-returns-in_ok-name-in-None t c =
-    prim_name c.args.depth c.in_ok-name-in-None.at c.in_ok-name-in-None.name c.args.tokens.now c.in_ok-name-in-None.rest.now c.in-None.ensures c.in_ok-name-in-None.ensures.0 c.in_ok-name-in-None.ensures.1
+    prim_name c.args.depth c.in_ok-name-in-None.at c.in_ok-name-in-None.name c.args.tokens.now c.in_ok-name-in-None.rest.now c.in-None.ensures c.in_ok-name-in-None.ensures.read.0 c.in_ok-name-in-None.ensures.read.1
 
 pub post-returns-in_err-of : goal.post-returns-in_err-of
 post-returns-in_err-of t c =
