@@ -25,7 +25,7 @@ returns-clause-some g c =
     let w = g.Q.Core.worker c.args.q.now in
     let quad = c.root-quad.result in
     let r = set_of w c.args.r in
-    let least : ℕ = g.Q.Quads.least in
+    let least : ℕ = g.Q.Core.least in
     let h : ℕ = height_over least c.args.r.rows c.args.r.cols in
     let s = gives_quad w h (has r) quad c.root-quad.ensures in
     let low = g.met.Q.Quads.low_height c.args.q.now quad s in
@@ -36,5 +36,5 @@ returns-clause-some g c =
 
 pub returns-clause-over : goal.returns-clause-over
 returns-clause-over g c =
-    let least : ℕ = g.Q.Quads.least in
+    let least : ℕ = g.Q.Core.least in
     subst (λ (h : ℕ). OnErr c.counted.result (least < h)) c.root-quad.ensures.same_height c.counted.ensures.over
