@@ -10,7 +10,7 @@ use Rattle.rel_model.specs.Trees.{bottom_height, top_height, cells, stands}
 use Rattle.rel_model.specs.Equations.{depth_of, side_of}
 use Rattle.rel_model.specs.Views.{Table}
 use Rattle.rel_model.specs.Quads.{Work, IsWork, QuadStands, IsQuad, quad_cells, KeepsWork, ReadsWork, Counts, quad_room}
-use Rattle.rel_model.specs.Roots.{tree_height, root_cells, relation_in}
+use Rattle.rel_model.specs.Roots.{tree_height, relation_room, root_cells, relation_in}
 use Rattle.rel_model.specs.Quarters.{LiesWithin}
 use Rattle.rel_model.specs.Worker.{Stands, set_of, HasQuad, quad_set, Gives, GivesQuad, Keeps, HasCause, MakesAtMost, operator_room}
 use Rattle.rel_model.proofs.QuadLaws.{quad_stays, quad_cells-stay, side_of-power}
@@ -137,6 +137,10 @@ keeps_reading w old new v r = subst (λ (x : Work). Keeps (worker_of x) (worker_
 pub makes_room : (m n : ℕ) (old new : Work) → KeepsWork (quad_room (tree_height m n)) old new → MakesAtMost (operator_room m n) (worker_of old) (worker_of new)
 unfolding Rattle.rel_model.specs.Roots.height_over
 makes_room m n old new k = let a = k.room in let b = quad_room-operator m n in omega arith
+
+pub makes_tree : (m n : ℕ) (old new : Work) → KeepsWork (quad_room (tree_height m n)) old new → MakesAtMost (relation_room 3 m n) (worker_of old) (worker_of new)
+unfolding bottom_height
+makes_tree m n old new k = k.room
 
 -- ---- answers
 pub named_value : {E : Type 0} (w : Work) (m n : ℕ) (f : Cells) (value : Relation) (a : Result Quad E) → m ≤ size_limit → n ≤ size_limit → LiesWithin m n f → relation_of m n f ≡ value → IfOk a (IsQuad w (tree_height m n) f)

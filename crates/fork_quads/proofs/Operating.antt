@@ -1,5 +1,5 @@
 -- The sets that a crew makes are the relations of the algebra's operators.
-use Rattle.std.proofs.Common.{◌≡◌, ◌<◌, ◌≤◌, ◌^◌, ◌&&◌, ◌||◌, ◌↔◌, not, eqb, ℕ, Bool, true, Result, IfOk, refl, sym, ap, subst, ◌∙◌, inl, inr, arith}
+use Rattle.std.proofs.Common.{◌≡◌, ◌<◌, ◌≤◌, ◌^◌, ◌&&◌, ◌||◌, ◌↔◌, not, eqb, ℕ, Bool, true, Result, Ok, IfOk, refl, sym, ap, subst, ◌∙◌, inl, inr, arith}
 use Rattle.std.specs.Prelude.{IsTrue}
 use Rattle.std.proofs.lemmas.Bool.{false≢true, and_parts, and_from, lt-ltb, ltb-true, eqb-true, or_cases, eq-eqb}
 use Rattle.rel_model.specs.declared.Rel.{Rel}
@@ -13,17 +13,18 @@ use Rattle.rel_model.specs.Words.{IsDistinct}
 use Rattle.rel_model.specs.Equations.{side_of}
 use Rattle.rel_model.specs.Quads.{Work, IsWork, IsQuad, quad_cells}
 use Rattle.rel_model.specs.Roots.{tree_height, root_cells}
-use Rattle.rel_model.specs.Worker.{Stands, set_of, Gives}
+use Rattle.rel_model.specs.Worker.{Stands, set_of, Gives, MakesAtMost, MissesNothing, FindsRelation}
 use Rattle.rel_model.specs.Quarters.{LiesWithin}
 use Rattle.rel_model.proofs.Relations.{relation_of-agree}
 use Rattle.rel_model.proofs.OperatorLaws.{relation_of-sizes}
-use Rattle.rel_model.proofs.Workers.{stands_some}
+use Rattle.rel_model.proofs.Workers.{stands_some, gives_stands, gives_set}
 use Rattle.rel_model.proofs.QuadLaws.{empty_quad, side_of-power}
 use Rattle.rel_model.proofs.Heights.{height_over-low, height_over-rows, height_over-cols, height_over-turned}
-use Rattle.rel_model.proofs.Rooting.{one_root}
+use Rattle.rel_model.proofs.Rooting.{one_root, has-cells}
+use Rattle.quad_nodes.specs.Finding.{Finds, FindsQuad}
 use Rattle.fork_quads.specs.Crew.{worker_of, root_quad, named_as, one_cell}
 use Rattle.fork_quads.specs.CrewLaws.{rows_law, cols_law, row_limit_law, col_limit_law}
-use Rattle.fork_quads.proofs.Crewing.{has-root, root_within, tree_height-high, is_quad-relation, named_value}
+use Rattle.fork_quads.proofs.Crewing.{has-root, root_within, root_stands, tree_height-high, is_quad-relation, named_value}
 
 -- ---- sets within sizes
 pub none_within : (m n : ℕ) → LiesWithin m n no_cells
@@ -136,6 +137,61 @@ pub made_value : {E : Type 0} (new : Work) (m n h : ℕ) (f : Cells) (value : Re
     → IfOk a (IsQuad new h f) → result ≡ named_as m n a → IfOk result (Gives (worker_of new) m n value)
 made_value new m n h f value a result lm ln l v eh i e =
     subst (λ (x : Result Rel Lack). IfOk x (Gives (worker_of new) m n value)) (sym e) (named_value new m n f value a lm ln l v (subst (λ (k : ℕ). IfOk a (IsQuad new k f)) eh i))
+
+-- ---- what stands already
+-- the root of a relation that stands is the quad of its set
+root_of_value : (w : Work) (m n : ℕ) (f : Cells) (value : Relation) (rel : Rel) → LiesWithin m n f → relation_of m n f ≡ value → Gives (worker_of w) m n value rel → IsQuad w (tree_height m n) f (root_quad rel)
+root_of_value w m n f value rel l v g =
+    let s = gives_stands (worker_of w) m n value rel g in
+    record {
+      same_height = ap (λ (x : ℕ). tree_height x rel.cols) g.row_size ∙ ap (λ (y : ℕ). tree_height m y) g.col_size;
+      stands = root_stands w rel s;
+      means = sym (has-root w rel s) ∙ ap has (gives_set (worker_of w) m n value rel g ∙ sym v) ∙ has-cells m n f l;
+    }
+
+-- a quad that was found is the root of the relation that stood
+named_found : {E : Type 0} (w inside new : Work) (m n : ℕ) (value : Relation) (rel : Rel) (a : Result Quad E) → inside ≡ w → Gives (worker_of w) m n value rel → Finds inside new (root_quad rel) a
+    → (named_as m n a ≡ Ok rel) × MakesAtMost 0 (worker_of w) (worker_of new) × MissesNothing (worker_of w) (worker_of new)
+named_found w inside new m n value rel a v g h = (
+  ap (named_as m n) h.answer ∙ ap Ok (λ i. record { rows = sym g.row_size i; cols = sym g.col_size i; root = rel.root }),
+  subst (λ (x : Work). MakesAtMost 0 (worker_of x) (worker_of new)) v h.reads.keeps.room,
+  subst (λ (x : Work). MissesNothing (worker_of x) (worker_of new)) v h.reads.misses,
+)
+
+-- a set made at the height of a relation's tree is found, where the relation stood
+pub made_found : {E : Type 0} (w inside new : Work) (m n h : ℕ) (f : Cells) (value : Relation) (a : Result Quad E) (result : Result Rel Lack) → inside ≡ w → LiesWithin m n f → relation_of m n f ≡ value → h ≡ tree_height m n
+    → FindsQuad inside new h f a → result ≡ named_as m n a → FindsRelation true (worker_of w) (worker_of new) m n value result
+made_found w inside new m n h f value a result v l is eh find e =
+    subst (λ (x : Result Rel Lack). FindsRelation true (worker_of w) (worker_of new) m n value x) (sym e)
+    (λ lean rel g. named_found w inside new m n value rel a v g
+        (find (root_quad rel) (subst (λ (x : Work). IsQuad x h f (root_quad rel)) (sym v) (subst (λ (k : ℕ). IsQuad w k f (root_quad rel)) (sym eh) (root_of_value w m n f value rel l is g)))))
+
+-- so is an operator's result on the roots of two relations of one type
+pub lifted_found : {E : Type 0} (op : Cells → Cells → Cells) (of : Relation → Relation → Relation) (w inside new : Work) (r s : Rel) (p q : Quad) (a : Result Quad E) (result : Result Rel Lack) → Lifts op of → inside ≡ w
+    → Stands (worker_of w) r → Stands (worker_of w) s → r.rows ≡ s.rows → r.cols ≡ s.cols → p ≡ root_quad r → q ≡ root_quad s
+    → FindsQuad inside new p.height (op (quad_cells inside p) (quad_cells inside q)) a → result ≡ named_as r.rows r.cols a
+    → FindsRelation true (worker_of w) (worker_of new) r.rows r.cols (of (set_of (worker_of w) r) (set_of (worker_of w) s)) result
+lifted_found op of w inside new r s p q a result l v hr hs er ec ep eq find e =
+    let f : Cells = root_cells w.view.words r in
+    let g : Cells = root_cells w.view.words s in
+    let wg : LiesWithin r.rows r.cols g = subst (λ (x : ℕ). LiesWithin x r.cols g) (sym er) (subst (λ (y : ℕ). LiesWithin s.rows y g) (sym ec) (root_within w s hs)) in
+    let ef : quad_cells inside p ≡ f = ap (λ (x : Work). quad_cells x p) v ∙ ap (quad_cells w) ep in
+    let eg : quad_cells inside q ≡ g = ap (λ (x : Work). quad_cells x q) v ∙ ap (quad_cells w) eq in
+    let set : op (quad_cells inside p) (quad_cells inside q) ≡ op f g = ap (λ (c : Cells). op c (quad_cells inside q)) ef ∙ ap (λ (c : Cells). op f c) eg in
+    made_found w inside new r.rows r.cols p.height (op f g) _ a result v (l.within r.rows r.cols f g (root_within w r hr) wg)
+    (l.is r.rows r.cols (set_of (worker_of w) r) (set_of (worker_of w) s) f g (rows_law w r hr) (cols_law w r hr) (has-root w r hr) (has-root w s hs))
+    (ap (λ (x : Quad). x.height) ep) (subst (λ (c : Cells). FindsQuad inside new p.height c a) set find) e
+
+-- and a transposition
+pub transposed_found : {E : Type 0} (w inside new : Work) (r : Rel) (p : Quad) (a : Result Quad E) (result : Result Rel Lack) → inside ≡ w → Stands (worker_of w) r → p ≡ root_quad r
+    → FindsQuad inside new p.height (cells_transpose (quad_cells inside p)) a → result ≡ named_as r.cols r.rows a
+    → FindsRelation true (worker_of w) (worker_of new) r.cols r.rows (transpose (set_of (worker_of w) r)) result
+transposed_found w inside new r p a result v hr ep find e =
+    let f : Cells = root_cells w.view.words r in
+    let ef : quad_cells inside p ≡ f = ap (λ (x : Work). quad_cells x p) v ∙ ap (quad_cells w) ep in
+    made_found w inside new r.cols r.rows p.height (cells_transpose f) _ a result v (transpose_within r.rows r.cols f (root_within w r hr))
+    (transpose_is r.rows r.cols (set_of (worker_of w) r) f (rows_law w r hr) (cols_law w r hr) (has-root w r hr))
+    (ap (λ (x : Quad). x.height) ep ∙ sym (height_over-turned bottom_height r.rows r.cols)) (subst (λ (c : Cells). FindsQuad inside new p.height (cells_transpose c) a) ef find) e
 
 -- the empty relation has root 0
 pub nothing_value : (w : Work) (m n : ℕ) → IsWork w → m ≤ size_limit → n ≤ size_limit → Gives (worker_of w) m n (empty m n) (record { rows = m; cols = n; root = 0 })

@@ -17,6 +17,7 @@ use Rattle.rel_model.specs.Roots.{height_over, tree_height, root_cells}
 use Rattle.rel_model.specs.Quarters.{LiesWithin}
 use Rattle.rel_model.specs.Worker.{Stands, set_of, Gives, MakesAtMost, height_of, height_of_three, product_room}
 use Rattle.rel_model.proofs.TreeLaws.{same_cells, zero_cells}
+use Rattle.rel_model.proofs.Rooms.{composed_words-most}
 use Rattle.rel_model.proofs.QuadLaws.{side_of-power, quad_cells-stay}
 use Rattle.rel_model.proofs.Somes.{some_passes}
 use Rattle.rel_model.proofs.Composing.{compose-cells}
@@ -151,7 +152,8 @@ product_fits k m n h e =
     let p = below_power d in
     let q = pow-le-pow_right {n = 8} (omega arith) {i = d} {j = height_of_three k m n} (omega arith) in
     let r = one-le-pow d 8 (omega arith) in
-    omega (arith, p, q, r)
+    let s = composed_words-most d in
+    omega (arith, p, q, r, s)
 
 pub makes_product : (w inside new : Work) (r s : Rel) (p q : Quad) → inside ≡ w → r.cols ≡ s.rows → p ≡ root_quad r → q ≡ root_quad s → KeepsWork (3 * (max p.height q.height - bottom_height) + compose_room (max p.height q.height)) inside new
     → MakesAtMost (product_room r.rows r.cols s.cols) (worker_of w) (worker_of new)

@@ -13,11 +13,13 @@ use rel_compose::transpose_quad;
 use rel_model::core_trait::Core;
 use rel_model::{Lack, Rel, Shape};
 
-#[tactic(auto, using(crate::specs::CrewLaws::row_limit_law, crate::specs::CrewLaws::col_limit_law, crate::proofs::Crewing::makes_room))]
+#[tactic(auto, using(crate::specs::CrewLaws::row_limit_law, crate::specs::CrewLaws::col_limit_law, crate::proofs::Crewing::makes_room, crate::proofs::Crewing::makes_tree))]
 impl<'t, G: Gate> Core for Crew<'t, G> {
     ghost worker = { worker_of };
 
     ghost lean = { true };
+
+    ghost least = { 3 };
 
     ghost valid = { valid_law };
 

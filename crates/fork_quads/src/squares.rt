@@ -9,8 +9,6 @@ use rel_model::{Lack, Quad, Rel, Shape};
 
 #[tactic(auto, using(crate::specs::CrewLaws::row_limit_law, crate::specs::CrewLaws::col_limit_law))]
 impl<'t, G: Gate> Quads for Crew<'t, G> {
-    ghost least = { 3 };
-
     ghost least_limit = { least_limit_law };
 
     ghost low_height = { low_height_law };

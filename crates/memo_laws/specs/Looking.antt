@@ -1,8 +1,9 @@
--- What an equation of the code says, and what `look` promises.
+-- What an equation of the code says, and what `look` and `note` promise.
 use Rattle.std.specs.Prelude.{◌≡◌, ◌<◌, ◌^◌, ℕ, Option, Some, None, IfSome, IfNone}
 use Rattle.rel_model.specs.Words.{most_bits}
 use Rattle.rel_model.specs.Equations.{Operator, Union, Inter, Diff, Transpose, Compose, Equation, IsTrueIn, home_slot, word_of_equation}
 use Rattle.rel_model.specs.Views.{View, Keeps}
+use Rattle.pair_table.specs.Memos.{Stores}
 use Rattle.memo_laws.specs.declared.equation.Op.{Op}
 use Rattle.memo_laws.specs.declared.equation.Op.TheVariants.{Union as UNION, Inter as INTER, Diff as DIFF, Transpose as TRANSPOSE, Compose as COMPOSE}
 use Rattle.memo_laws.specs.declared.equation.Equation.{Equation as Stated}
@@ -33,3 +34,7 @@ pub record Looks (op : Operator) (height a b : ℕ) (old new : View) (answer : O
   pub only_none : ((r : ℕ) → r < 2 ^ most_bits → IsWordFor word op height a b r → ⊥) → answer ≡ None
   pub keeps : Keeps old new
   pub made : new.made ≡ old.made
+
+-- an equation was noted: its word was stored in its home slot, which is the last memo step
+abbrev pub Notes : Equation → View → View → Type 0
+Notes e = Stores (home_slot e.a e.b) (word_of_equation e)

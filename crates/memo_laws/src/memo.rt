@@ -2,8 +2,8 @@
 ghost use Rattle.std.specs.Prelude.{◌≡◌, ◌≤◌, true};
 ghost use Rattle.rel_model.specs.Trees.{bottom_height, top_height, stands};
 ghost use Rattle.rel_model.specs.Equations.{Transpose, IsTrueIn, depth_of};
-ghost use Rattle.rel_model.specs.Views.{Table, View, IsOf, Reads};
-ghost use Rattle.memo_laws.specs.Looking.{Looks, equation_of, operator_of};
+ghost use Rattle.rel_model.specs.Views.{Table, View, IsOf};
+ghost use Rattle.memo_laws.specs.Looking.{Looks, Notes, equation_of, operator_of};
 
 use crate::equation::{Equation, Op};
 use crate::word::{result_in, slot_of, word_of};
@@ -31,11 +31,11 @@ pub fn look(table: &PairTable, seat: &mut Seat, op: Op, height: u8, a: u32, b: u
     result_in(word, asked)
 }
 
-/// Notes an equation that is true, in the memo word of its slot.
+/// Notes an equation that is true: its slot held its word right after.
 pub fn note(table: &PairTable, seat: &mut Seat, eq: Equation)
     requires of { IsOf seat.old table.now }
     requires holds { IsTrueIn seat.old.words (equation_of eq) }
-    ensures reads { Reads seat.old seat.new }
+    ensures notes { Notes (equation_of eq) seat.old seat.new }
     ensures of { IsOf seat.new table.now }
 {
     table.memo_store(seat, slot_of(eq.a, eq.b), word_of(eq));

@@ -51,7 +51,7 @@ more f [] w = omega arith
 more f (v ∷ vs) w = let h = more f vs w in omega arith
 
 -- one view's number is at most the total
-at_most : (f : Known → ℕ) (views : List Known) (id : ℕ) (v : Known) → get_elem? views id ≡ some v → f v ≤ total f views
+pub at_most : (f : Known → ℕ) (views : List Known) (id : ℕ) (v : Known) → get_elem? views id ≡ some v → f v ≤ total f views
 at_most f [] id v e = absurd (some-ne-none v (sym e))
 at_most f (x ∷ xs) zero v e = let h : f x ≡ f v = ap f (some-injective x v e) in omega arith
 at_most f (x ∷ xs) (suc id) v e = let h = at_most f xs id v e in omega arith

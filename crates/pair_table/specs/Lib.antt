@@ -1,4 +1,5 @@
 pub mod Probe
+pub mod Memos
 pub mod Rule
 pub mod Tells
 pub mod Held

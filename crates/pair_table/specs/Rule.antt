@@ -7,6 +7,7 @@ use Rattle.rel_model.specs.Words.{Extends, IsSound, stored_count}
 use Rattle.rel_model.specs.Equations.{IsMemo, memo_slots, memo_word, node_words}
 use Rattle.pair_table.specs.declared.rule.Known.{Known}
 use Rattle.pair_table.specs.declared.rule.Size.{Size}
+use Rattle.pair_table.specs.Memos.{IsStillTaken, IsStillThere}
 
 -- the sum of a number over all views
 abbrev pub total : (Known → ℕ) → List Known → ℕ
@@ -24,11 +25,13 @@ pub record NodesHold (size : Size) (words : List ℕ) (views : List Known) : Typ
   pub parts_in_all : total (λ v. v.parts) views ≡ size.seats
   pub few : size.seats < 2 ^ 32
 
--- the whole rule: that of the node words, and each memo word that is not 0 is a true equation at home in its slot
+-- the whole rule: that of the node words, each memo word that is not 0 is a true equation at home in its slot, a slot that a seat found or left taken stays taken, and with one seat its word stays
 pub record Holds {S : Type 0} (size : Size) (s : State S Known) : Type 0 where
   pub long : length s.words ≡ 2 ^ size.bits + memo_slots
   pub nodes : NodesHold size (node_words size.bits s.words) s.views
   pub memo : (slot : ℕ) → slot < memo_slots → memo_word size.bits s.words slot ≢ 0 → IsMemo (node_words size.bits s.words) slot (memo_word size.bits s.words slot)
+  pub taken : (id : ℕ) (v : Known) → get_elem? s.views id ≡ some v → IsStillTaken size.bits s.words v.last
+  pub alone : size.seats ≡ 1 → (id : ℕ) (v : Known) → get_elem? s.views id ≡ some v → v.parts ≢ 0 → IsStillThere size.bits s.words v.last
 
 -- the view of the first seat
 abbrev pub first_view : Size → Known

@@ -36,18 +36,18 @@ pub record NotesCut (spare : ℕ) (old new : Known) : Type 0 where
   pub made : new.made ≡ old.made
   pub last : new.last ≡ old.last
 
--- a load of a memo word: it is 0, or a true equation in the view after it, and it is the last memo load
+-- a load of a memo word: it is 0, or a true equation in the view after it, and it is the last memo step
 pub record SeesMemo (slot found : ℕ) (old new : Known) : Type 0 where
   pub steps : Steps old new
   pub made : new.made ≡ old.made
   pub holds : found ≢ 0 → IsMemo new.words slot found
   pub last : new.last ≡ Some (slot, found)
 
--- a store of a memo word
-pub record StoresMemo (old new : Known) : Type 0 where
+-- a store of a memo word, which is the last memo step
+pub record StoresMemo (slot word : ℕ) (old new : Known) : Type 0 where
   pub steps : Steps old new
   pub made : new.made ≡ old.made
-  pub last : new.last ≡ old.last
+  pub last : new.last ≡ Some (slot, word)
 
 -- ---- the same of a step of the base crate, which leaves the seat's slots as they were
 -- a load of a node word, at the step's word
@@ -66,9 +66,9 @@ cut_tells s m found n = NotesCut s.first m.0 n.0 × (n.1 ≡ m.1)
 abbrev pub memo_load_tells : {S : Type 0} → Step S → Me S Known → ℕ → Me S Known → Type 0
 memo_load_tells s m found n = SeesMemo (s.word - length m.0.words) found m.0 n.0 × (n.1 ≡ m.1)
 
--- a store of a memo word
+-- a store of a memo word, whose slot is found likewise, and whose own word is the first operand
 abbrev pub memo_store_tells : {S : Type 0} → Step S → Me S Known → ℕ → Me S Known → Type 0
-memo_store_tells s m found n = StoresMemo m.0 n.0 × (n.1 ≡ m.1)
+memo_store_tells s m found n = StoresMemo (s.word - length m.0.words) s.first m.0 n.0 × (n.1 ≡ m.1)
 
 -- ---- what a call of several steps tells
 -- on the way from a word's home, in a call that began with the view `old`

@@ -23,7 +23,7 @@ pub struct Known {
     pub parts: u64,
     /// How many spare seats go to the seat that is split off next.
     pub cut: u64,
-    /// The slot and the word of its last memo load.
+    /// The slot of its last memo step, and the word that it loaded or stored there.
     pub last: Option<(u64, u64)>,
 }
 

@@ -79,10 +79,11 @@ pub fn store_memo(
     requires room { table.now.table_id.words ≡ 2 ^ table.now.key.bits + memo_slots }
     requires size { size ≡ 2 ^ table.now.key.bits }
     requires small { size ≤ 2 ^ 24 }
+    requires seen { length seat.old.me.0.words ≡ size }
     requires slot { slot < memo_slots }
     requires canonical { IsDistinct seat.old.me.0.words }
     requires holds { IsMemo seat.old.me.0.words slot word }
-    ensures stores { StoresMemo seat.old.me.0 seat.new.me.0 }
+    ensures stores { StoresMemo slot word seat.old.me.0 seat.new.me.0 }
     ensures of { seat.new.table_id ≡ seat.old.table_id }
     ensures held { seat.new.me.1 ≡ seat.old.me.1 }
 {

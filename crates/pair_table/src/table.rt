@@ -4,6 +4,7 @@ ghost use Rattle.std.specs.Mem.Slots.{slots_items, slots_len, IsFull};
 ghost use Rattle.rel_model.specs.Trees.{first_of, second_of};
 ghost use Rattle.rel_model.specs.Equations.{IsMemo, memo_slots};
 ghost use Rattle.rel_model.specs.Views.{Table, View, IsOf, IsKnown, Reads, IsFresh, Interns, Loads, Splits, Joins, IsClosed};
+ghost use Rattle.pair_table.specs.Memos.{Stores, IsStillTaken, IsStillThere};
 
 use crate::probe::intern_word;
 use crate::rule::{Known, Order, Size};
@@ -145,7 +146,7 @@ impl PairTable {
         requires of { IsOf seat.old self.now }
         requires within { slot < memo_slots }
         requires holds { IsMemo seat.old.words slot word }
-        ensures reads { Reads seat.old seat.new }
+        ensures stores { Stores slot word seat.old seat.new }
         ensures of { IsOf seat.new self.now }
     {
         store_memo(
@@ -193,7 +194,9 @@ impl PairTable {
     pub fn close(self, seat: Seat) -> Result<Vec<u64>, NoMemory>
         requires of { IsOf seat self }
         requires whole { seat.spare + 1 ≡ self.seats }
-        ensures { IfOk result (λ v. IsClosed self.bits seat v.items) }
+        ensures closed { IfOk result (λ v. IsClosed self.bits seat v.items) }
+        ensures taken { IfOk result (λ v. IsStillTaken self.bits v.items seat.last) }
+        ensures there { self.seats ≡ 1 → IfOk result (λ v. IsStillThere self.bits v.items seat.last) }
     {
         let PairTable {
             table,

@@ -1,2 +1,3 @@
 pub mod Finding
 pub mod Halves
+pub mod Noting

@@ -2,7 +2,8 @@
 ghost use Rattle.std.specs.Prelude.{◌≡◌, IfSome, option_map};
 ghost use Rattle.rel_model.specs.Equations.{Transpose, result_of, side_of};
 ghost use Rattle.rel_model.specs.Quads.{Work, QuadStands, IsQuad, quad_cells, ReadsWork};
-ghost use Rattle.memo_laws.specs.Looking.{Looks, operator_of};
+ghost use Rattle.memo_laws.specs.Looking.{Looks, Notes, operator_of};
+ghost use Rattle.quad_nodes.specs.Noting.{equation_between};
 
 use crate::nodes::Nodes;
 use memo_laws::{Equation, Op};
@@ -29,13 +30,14 @@ impl<'t> Nodes<'t> {
         }
     }
 
-    /// Notes that `set(r) = op(set(a), set(b))`.
+    /// Notes that `set(r) = op(set(a), set(b))`: the slot of `a` and `b` held this equation right after.
     pub fn note(&mut self, op: Op, a: Quad, b: Quad, r: Quad)
         requires a_stands { QuadStands self.old a }
         requires b_stands { QuadStands self.old b }
         requires one_height { b.height ≡ a.height }
         requires one_operand { operator_of op ≡ Transpose → b.name ≡ 0 }
         requires holds { IsQuad self.old a.height (result_of (operator_of op) (side_of a.height) (quad_cells self.old a) (quad_cells self.old b)) r }
+        ensures notes { Notes (equation_between (operator_of op) a b r) self.old.view self.new.view }
         ensures reads { ReadsWork self.old self.new }
     {
         let _ = &self.seat;

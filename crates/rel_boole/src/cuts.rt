@@ -1,4 +1,5 @@
 //! What needs no recursion: equal and empty operands, and operands in one order.
+ghost use Rattle.std.specs.Prelude.{◌≡◌, ◌⊎◌, IsSome};
 ghost use Rattle.rel_boole.specs.Cellwise.{CutsOff, IsInOrder};
 
 use crate::boole::Boole;
@@ -6,7 +7,8 @@ use rel_model::Quad;
 
 /// The result where the operands are one, or one of them has no cell.
 pub fn cut_off(op: Boole, a: Quad, b: Quad) -> Option<Quad>
-    ensures { CutsOff op a b result }
+    ensures value { CutsOff op a b result }
+    ensures cuts { (a.name ≡ b.name) ⊎ ((a.name ≡ 0) ⊎ (b.name ≡ 0)) → IsSome result }
 {
     let none = Quad {
         height: a.height,

@@ -123,6 +123,14 @@ still_given w1 w2 w3 m R r walks more t z g k l h e =
     let v = keeps_gives w1 w3 r.rows r.cols (walks_within m R) walks (keeps_trans w1 w2 w3 k l) g in
     gives_as w3 r.rows r.cols _ _ walks (walks_within-still r.rows m R t z (sym (gives_set w3 _ _ _ walks v) ∙ e ∙ gives_set w3 _ _ _ more h)) v
 
+-- the walks of twice as many steps are the closure too
+pub still_enough : (w1 w2 w3 : Worker) (m : ℕ) (R : Relation) (r walks more : Rel) → HasType r.rows r.rows R → 0 < m → Gives w1 r.rows r.cols (walks_within m R) walks → Keeps w1 w2 → Keeps w2 w3
+    → Gives w3 r.rows r.cols (walks_within (m + m) R) more → set_of w3 walks ≡ set_of w3 more → transitive_closure R ≡ walks_within (m + m) R
+still_enough w1 w2 w3 m R r walks more t z g k l h e =
+    let v = keeps_gives w1 w3 r.rows r.cols (walks_within m R) walks (keeps_trans w1 w2 w3 k l) g in
+    let s : walks_within m R ≡ walks_within (m + m) R = sym (gives_set w3 _ _ _ walks v) ∙ e ∙ gives_set w3 _ _ _ more h in
+    sym (walks_within-still r.rows m R t z s) ∙ s
+
 -- as many steps as there are elements
 pub enough_given : (w : Worker) (m : ℕ) (R : Relation) (r walks : Rel) → HasType r.rows r.rows R → r.rows ≤ m → Gives w r.rows r.cols (walks_within m R) walks → Gives w r.rows r.cols (transitive_closure R) walks
 enough_given w m R r walks t l g = gives_as w r.rows r.cols _ _ walks (walks_within-enough r.rows m R t l) g

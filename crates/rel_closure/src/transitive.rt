@@ -1,5 +1,5 @@
-ghost use Rattle.std.specs.Prelude.{◌≡◌, ◌≤◌, ◌+◌, ◌-◌, ◌*◌, ◌^◌, ℕ, max, IfOk};
-ghost use Rattle.rel_model.specs.Closures.{transitive_closure};
+ghost use Rattle.std.specs.Prelude.{◌≡◌, ◌≤◌, ◌+◌, ◌-◌, ◌*◌, ◌^◌, ℕ, max, IfOk, OnOk};
+ghost use Rattle.rel_model.specs.Closures.{walks_within, transitive_closure};
 ghost use Rattle.rel_model.specs.Worker.{Stands, set_of, Keeps, MakesAtMost, Gives, HasCause, derived_room};
 
 use crate::counter::Steps;
@@ -10,7 +10,7 @@ use std::sync::ledger::{Blank, Ledger};
 
 /// `trans(R)`: the pairs that a walk of at least one step joins (Schmidt and Ströhlein), by squares. Each composition is counted.
 ///
-/// After k squares the pairs are those of walks of up to `2^k` steps, and as many steps as there are elements are enough. It stops before where a square adds no pair.
+/// After k squares the pairs are those of walks of up to `2^k` steps, and as many steps as there are elements are enough. It stops before where a square adds no pair. So no fewer are counted than the closure needs: it has the walks of up to `2^k` steps, where k were counted.
 pub fn trans_counted<C: Core, L: Ledger>(
     core: &mut C,
     r: Rel,
@@ -25,6 +25,7 @@ pub fn trans_counted<C: Core, L: Ledger>(
     ensures cause { HasCause C.lean (C.worker core.old) (C.worker core.new) result }
     ensures rises { steps.old ≤ steps.new }
     ensures digits { 2 ^ (steps.new - steps.old) ≤ max 1 (2 * r.rows - 1) }
+    ensures enough { OnOk result (transitive_closure (set_of (C.worker core.old) r) ≡ walks_within (2 ^ (steps.new - steps.old)) (set_of (C.worker core.old) r)) }
 {
     let mut walks = r;
     let mut reach: u64 = 1;

@@ -1,4 +1,4 @@
--- A transposition that stands already is found: over it stand the transposed quarters. Of compositions that is said of empty and of full operands.
+-- A transposition that stands already is found: over it stand the transposed quarters. Of compositions that is said of blocks, and of empty and of full operands.
 use Rattle.std.proofs.Common.{◌≡◌, ℕ, Result, Ok, refl, sym, ap, subst, ◌∙◌, arith}
 use Rattle.rel_model.specs.declared.Quad.{Quad}
 use Rattle.rel_model.specs.Cells.{Cells, block_cells, cells_rect, cells_transpose, cells_compose}
@@ -67,6 +67,11 @@ composed_block s0 s1 s2 s3 a b x y z r sb k l ex ey ez f =
     let e : block_cells z ≡ cells_compose 8 (quad_cells s0 a) (quad_cells s0 b) =
     ez ∙ ap (λ (c : Cells). cells_compose 8 c (block_cells y)) ex ∙ ap (λ (c : Cells). cells_compose 8 (quad_cells s0 a) c) (ey ∙ quad_cells-stay 0 s0 s1 b k.keeps sb) in
     found_later s0 s2 s3 3 3 (block_cells z) (cells_compose 8 (quad_cells s0 a) (quad_cells s0 b)) r (reads_on s0 s1 s2 k l) refl e f
+
+-- the same at a height that is that of blocks
+pub composed_low : {E : Type 0} (v w : Work) (a b : Quad) (r : Result Quad E) → IsWork v → a.height ≡ bottom_height → FindsQuad v w bottom_height (cells_compose (side_of bottom_height) (quad_cells v a) (quad_cells v b)) r
+    → FindsQuad v w a.height (cells_compose (side_of a.height) (quad_cells v a) (quad_cells v b)) r
+composed_low v w a b r i e f = found_later v v w bottom_height a.height _ _ r (reads_itself v i) (sym e) (ap (λ (h : ℕ). cells_compose (side_of h) (quad_cells v a) (quad_cells v b)) (sym e)) f
 
 -- of two full squares the first is the composition
 full_first : (w : Work) (a b : Quad) → IsWork w → QuadStands w a → QuadStands w b → b.height ≡ a.height → quad_cells w a ≡ cells_rect (side_of a.height) (side_of a.height) → quad_cells w b ≡ cells_rect (side_of b.height) (side_of b.height)

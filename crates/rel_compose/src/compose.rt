@@ -4,7 +4,7 @@ ghost use Rattle.rel_model.specs.Cells.{cells_rect, cells_compose};
 ghost use Rattle.rel_model.specs.Trees.{bottom_height};
 ghost use Rattle.rel_model.specs.Equations.{side_of};
 ghost use Rattle.rel_model.specs.Quads.{Work, QuadStands, IsQuad, quad_cells, KeepsWork, Counts, quad_room, compose_room};
-ghost use Rattle.quad_nodes.specs.Finding.{Finds, FindsNone};
+ghost use Rattle.quad_nodes.specs.Finding.{Finds, FindsQuad, FindsNone};
 ghost use Rattle.rel_compose.specs.Products.{BothStand, IsProduct, AreProducts, quarter_room};
 
 use crate::product::{both_full, leaf};
@@ -23,6 +23,7 @@ pub fn compose_quads(nodes: &mut Nodes, a: Quad, b: Quad) -> Result<Quad, Missed
     ensures value { IfOk result (IsQuad nodes.new a.height (cells_compose (side_of a.height) (quad_cells nodes.old a) (quad_cells nodes.old b))) }
     ensures nothing { (a.name ≡ 0) ⊎ (b.name ≡ 0) → FindsNone nodes.old nodes.new a.height result }
     ensures full { quad_cells nodes.old a ≡ cells_rect (side_of a.height) (side_of a.height) → quad_cells nodes.old b ≡ cells_rect (side_of b.height) (side_of b.height) → Finds nodes.old nodes.new a result }
+    ensures blocks { a.height ≡ bottom_height → FindsQuad nodes.old nodes.new a.height (cells_compose (side_of a.height) (quad_cells nodes.old a) (quad_cells nodes.old b)) result }
     ensures keeps { KeepsWork (compose_room a.height) nodes.old nodes.new }
     ensures counts { Counts nodes.old nodes.new result }
 {

@@ -1,8 +1,9 @@
 //! Quads of cells by their places, built bottom up.
-ghost use Rattle.std.specs.Prelude.{◌≡◌, ◌<◌, ◌≤◌, ◌+◌, ◌-◌, ◌*◌, ◌^◌, length, IfOk};
+ghost use Rattle.std.specs.Prelude.{◌≡◌, ◌<◌, ◌≤◌, ◌+◌, ◌^◌, length, IfOk, OnErr};
 ghost use Rattle.std.specs.List.Sorted.{IsNonDecreasing};
 ghost use Rattle.rel_model.specs.Trees.{top_height};
 ghost use Rattle.rel_model.specs.Worker.{GivesQuad, Keeps, MakesAtMost, HasCause, listed_room};
+ghost use Rattle.rel_model.specs.Roots.{tree_room};
 ghost use Rattle.rel_domains.specs.Curve.{AreFrom, cells_at};
 
 use crate::cut::cut_at;
@@ -21,9 +22,10 @@ pub fn build<Q: Quads>(q: &mut Q, depth: u8, base: u64, places: &[u64]) -> Resul
     requires from { AreFrom base (base + 4 ^ (Q.least + depth)) places.now }
     ensures value { IfOk result (GivesQuad (Q.worker q.new) (Q.least + depth) (cells_at Q.least depth base places.now)) }
     ensures keeps { Keeps (Q.worker q.old) (Q.worker q.new) }
-    ensures room { MakesAtMost (2 * 4 ^ depth - 1) (Q.worker q.old) (Q.worker q.new) }
+    ensures room { MakesAtMost (tree_room depth) (Q.worker q.old) (Q.worker q.new) }
     ensures few { MakesAtMost (listed_room (length places.now) depth) (Q.worker q.old) (Q.worker q.new) }
     ensures cause { HasCause Q.lean (Q.worker q.old) (Q.worker q.new) result }
+    ensures some { OnErr result (0 < length places.now) }
 {
     let height = q.bottom() + depth;
     if places.is_empty() {

@@ -1,5 +1,5 @@
 //! Places on the Z-curve.
-ghost use Rattle.std.specs.Prelude.{◌≡◌, ◌<◌, ◌≤◌, ◌+◌, ◌^◌, map, IfOk};
+ghost use Rattle.std.specs.Prelude.{◌≡◌, ◌<◌, ◌≤◌, ◌+◌, ◌^◌, map, length, IfOk, OnErr};
 ghost use Rattle.std.specs.List.{AllByRecursion};
 ghost use Rattle.rel_model.specs.Trees.{top_height};
 ghost use Rattle.rel_model.specs.Listed.{AreWithin};
@@ -47,6 +47,7 @@ pub fn places_of(
     requires within { AreWithin (2 ^ (least + depth)) (2 ^ (least + depth)) pairs.now }
     ensures places { IfOk result (λ v. v.items ≡ map (λ p. place least depth p.0 p.1) pairs.now) }
     ensures limit { IfOk result (λ v. AllByRecursion (λ x. x < 4 ^ (least + depth)) v.items) }
+    ensures some { OnErr result (0 < length pairs.now) }
 {
     let mut places = Vec::new(alloc);
     'pairs: for (i, j) in pairs {

@@ -1,5 +1,6 @@
 //! Relations from listed pairs.
-ghost use Rattle.std.specs.Prelude.{◌≡◌, ◌≤◌, ◌<◌, ◌-◌, ℕ, length, false, IfOk};
+ghost use Rattle.std.specs.Prelude.{◌≡◌, ◌≤◌, ◌<◌, ◌-◌, ℕ, length, true, false, IfOk, OnErr, IsErrOf};
+ghost use Rattle.rel_model.specs.declared.Lack.TheVariants.{NoMemory};
 ghost use Rattle.rel_model.specs.Relation.{relation_of, size_limit};
 ghost use Rattle.rel_model.specs.Worker.{Gives, Keeps, MakesAtMost, HasCause, listed_room, pairs_room};
 ghost use Rattle.rel_model.specs.Roots.{height_over};
@@ -13,7 +14,7 @@ use rel_model::quads_trait::Quads;
 use rel_model::{Lack, Rel, Shape};
 use std::alloc::Global;
 
-/// `{p : p in pairs}`: the relation of listed pairs, in any order, repeats allowed. It sorts, so memory may run out whatever keeps the quads.
+/// `{p : p in pairs}`: the relation of listed pairs, in any order, repeats allowed. It sorts, so memory may run out whatever keeps the quads, but not where no pair is listed; where it runs out over a worker that is lean, no node was made.
 #[tactic(auto, unfolding(rel_model::specs::Trees::top_height))]
 pub fn from_pairs<Q: Quads>(
     alloc: Global,
@@ -29,6 +30,8 @@ pub fn from_pairs<Q: Quads>(
     ensures room { MakesAtMost (pairs_room (length pairs.now) shape.rows shape.cols) (Q.worker q.old) (Q.worker q.new) }
     ensures few { MakesAtMost (listed_room (length pairs.now) (height_over Q.least shape.rows shape.cols - Q.least)) (Q.worker q.old) (Q.worker q.new) }
     ensures cause { HasCause false (Q.worker q.old) (Q.worker q.new) result }
+    ensures some { OnErr result (0 < length pairs.now) }
+    ensures untouched { Q.lean ≡ true → IsErrOf result NoMemory → MakesAtMost 0 (Q.worker q.old) (Q.worker q.new) }
 {
     let least = q.bottom();
     let depth = depth_over(least, shape.rows, shape.cols);

@@ -13,6 +13,8 @@ impl<'t, G: Gate> Core for Works<'t, G> {
 
     ghost lean = { true };
 
+    ghost least = { 3 };
+
     ghost valid = { valid_law };
 
     ghost row_size = { rows_law };

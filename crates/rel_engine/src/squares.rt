@@ -7,8 +7,6 @@ use rel_model::quads_trait::Quads;
 use rel_model::{Lack, Quad, Rel, Shape};
 
 impl<'t, G: Gate> Quads for Works<'t, G> {
-    ghost least = { 3 };
-
     ghost least_limit = { least_limit_law };
 
     ghost low_height = { low_height_law };

@@ -1,8 +1,8 @@
 -- Rooms: what operators on trees place fits in the room of their relations' sizes.
-use Rattle.std.proofs.Common.{◌≡◌, ◌<◌, ◌≤◌, ◌+◌, ◌-◌, ◌*◌, ◌^◌, ◌∙◌, max, suc, ℕ, ap, arith}
+use Rattle.std.proofs.Common.{◌≡◌, ◌<◌, ◌≤◌, ◌+◌, ◌-◌, ◌*◌, ◌^◌, ◌∙◌, max, zero, suc, ℕ, ap, arith}
 use Rattle.std.proofs.Math.Nat.{pow-suc, one-le-pow, pow-le-pow_left, pow-le-pow_right, mul-le-mul_right, mul-le-mul, mul_assoc}
 use Rattle.rel_model.specs.Trees.{bottom_height}
-use Rattle.rel_model.specs.Quads.{quad_room, compose_room}
+use Rattle.rel_model.specs.Quads.{quad_room, composed_words, compose_room}
 use Rattle.rel_model.specs.Worker.{height_of, operator_room, height_of_three, product_room, derived_room, wide_room}
 
 -- the height of a tree that is as high as a number m, and at least that of a block
@@ -15,19 +15,32 @@ pub quad_room-operator : (rows cols : ℕ) → quad_room (max bottom_height (max
 unfolding operator_room
 quad_room-operator rows cols = let p = tree-power 4 (max (height_of rows) (height_of cols)) (omega arith) in omega (arith, p)
 
+-- a composition places at most 3 * 8 ^ d - 2 * 4 ^ d words
+pub composed_words-most : (d : ℕ) → composed_words d + 2 * 4 ^ d ≤ 3 * 8 ^ d
+composed_words-most zero = omega arith
+composed_words-most (suc d) =
+    let i = composed_words-most d in
+    let p : 4 ^ suc d ≡ 4 ^ d * 4 = pow-suc 4 d in
+    let q : 8 ^ suc d ≡ 8 ^ d * 8 = pow-suc 8 d in
+    let r = one-le-pow d 4 (omega arith) in
+    omega (arith, i, p, q, r)
+
 -- what a composition places on the trees of three sizes
 pub compose_room-product : (k m n : ℕ) → compose_room (max bottom_height (height_of_three k m n)) ≤ product_room k m n
 unfolding product_room
-compose_room-product k m n = let q = tree-power 8 (height_of_three k m n) (omega arith) in omega (arith, q)
+compose_room-product k m n =
+    let p = composed_words-most (max bottom_height (height_of_three k m n) - bottom_height) in
+    let q = tree-power 8 (height_of_three k m n) (omega arith) in
+    omega (arith, p, q)
 
 -- ---- the recursion of a composition
 -- a block has room
 pub compose_room-some : (h : ℕ) → bottom_height ≤ h → 1 ≤ compose_room h
-compose_room-some h l =
-    let d : ℕ = h - bottom_height in
-    let p = one-le-pow d 4 (omega arith) in
-    let q = pow-le-pow_left {n = 4} {m = 8} (omega arith) d in
-    omega (arith, p, q)
+compose_room-some h l = some (h - bottom_height)
+  where
+    some : (d : ℕ) → 1 ≤ composed_words d
+    some zero = omega arith
+    some (suc d) = omega arith
 
 -- eight products and four unions of the height below, and the corner of four results, have room
 pub compose_room-next : (h : ℕ) → bottom_height < h → 8 * compose_room (h - 1) + 4 * quad_room (h - 1) + 3 ≤ compose_room h
@@ -35,11 +48,8 @@ unfolding bottom_height
 compose_room-next h l =
     let d : ℕ = h - 1 - 3 in
     let e : h - 3 ≡ suc d = omega arith in
-    let p : 4 ^ (h - 3) ≡ 4 ^ d * 4 = ap (λ (x : ℕ). 4 ^ x) e ∙ pow-suc 4 d in
-    let q : 8 ^ (h - 3) ≡ 8 ^ d * 8 = ap (λ (x : ℕ). 8 ^ x) e ∙ pow-suc 8 d in
-    let r = one-le-pow d 4 (omega arith) in
-    let s = pow-le-pow_left {n = 4} {m = 8} (omega arith) d in
-    omega (arith, p, q, r, s)
+    let p : composed_words (h - 3) ≡ composed_words (suc d) = ap composed_words e in
+    omega (arith, p)
 
 -- ---- rooms of several calls, by the height of three sizes
 pub operator_room-most : (rows cols h : ℕ) → height_of rows ≤ h → height_of cols ≤ h → operator_room rows cols ≤ 4 * 8 ^ h

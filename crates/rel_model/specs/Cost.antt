@@ -1,46 +1,48 @@
--- How many nodes the commands of a run may store: bounds with slack, by the sizes of the relations that they meet.
-use Rattle.std.specs.Prelude.{◌+◌, ◌*◌, ◌^◌, max, ℕ, List, [], ◌∷◌, length, Option, Some, None}
+-- How many nodes the commands of a run may store, by the sizes of the relations that they meet: at most one tree for each operator of the algebra, and of a listed relation what its pairs may take.
+use Rattle.std.specs.Prelude.{◌+◌, ◌-◌, ◌*◌, ◌^◌, ℕ, List, [], ◌∷◌, length, Option, Some, None}
 use Rattle.rel_model.specs.declared.syntax.Row.{Row}
 use Rattle.rel_model.specs.declared.syntax.Op2.{Op2}
 use Rattle.rel_model.specs.declared.syntax.Op2.TheVariants.{Or, And, Times, Under, Over}
 use Rattle.rel_model.specs.declared.syntax.Expr.{Expr, Ref, Call', Base', Inject, Pair', Minus', Turned', Chain', Row_of-Link, end_of-Link, more_of-Link}
 use Rattle.rel_model.specs.declared.syntax.Command.{Command}
-use Rattle.rel_model.specs.declared.syntax.Command.TheVariants.{Relation as RELATION, Print as PRINT}
+use Rattle.rel_model.specs.declared.syntax.Command.TheVariants.{Relation as RELATION, Let, Print as PRINT, List as LIST, Count, Typed, Remove, Snap, At, Load, Save}
 use Rattle.rel_model.specs.declared.syntax.Item.{Item}
-use Rattle.rel_model.specs.declared.syntax.Item.TheVariants.{Command as COMMAND}
+use Rattle.rel_model.specs.declared.syntax.Item.TheVariants.{Function, Program, Command as COMMAND}
 use Rattle.rel_model.specs.declared.syntax.Script.{Script}
 use Rattle.rel_model.specs.declared.run.Event.{Event}
 use Rattle.rel_model.specs.Relation.{Relation}
-use Rattle.rel_model.specs.Worker.{height_of, pairs_room, product_room, wide_room}
+use Rattle.rel_model.specs.Trees.{bottom_height}
+use Rattle.rel_model.specs.Roots.{tree_height, relation_room}
+use Rattle.rel_model.specs.Worker.{listed_room, product_room, wide_room}
 use Rattle.rel_model.specs.State.{State}
 use Rattle.rel_model.specs.Meaning.{value, result_of_both}
 use Rattle.rel_model.specs.Due.{Due, Nothing, Value, Refusal, evaluated}
 use Rattle.rel_model.specs.Legal.{Trees, state_for}
 
 -- ---- expressions
--- a union, an intersection, a complement or transpositions of relations of these sizes
-unfoldable pub boolean_cost : ℕ → ℕ → ℕ
-boolean_cost rows cols = 8 * 4 ^ max (height_of rows) (height_of cols)
+-- one tree of a relation of these sizes, over blocks: a union, an intersection, a difference or a transposition makes no more, nor does the full relation
+unfoldable pub tree_cost : ℕ → ℕ → ℕ
+tree_cost rows cols = relation_room bottom_height rows cols
 
 -- an operator between two relations
 abbrev pub link_cost : Op2 → Relation → Relation → ℕ
-link_cost Or r s = boolean_cost r.rows r.cols
-link_cost And r s = boolean_cost r.rows r.cols
+link_cost Or r s = tree_cost r.rows r.cols
+link_cost And r s = tree_cost r.rows r.cols
 link_cost Times r s = product_room r.rows r.cols s.cols
 link_cost Under r s = wide_room r.rows r.cols s.cols
 link_cost Over r s = wide_room r.rows r.cols s.rows
 
 -- an expression on a state that has its names, where its sizes fit: the sum over its operators
 abbrev mutual
-  -- the cost of an expression
+  -- the cost of an expression: a complement is the full relation and a difference, and many transpositions are at most one
   pub cost : State → Expr → ℕ
   cost state (Ref at name) = 0
   cost state (Call' at name shape args) = 0
   cost state (Base' at base shape args) = 0
   cost state (Inject at base domain) = 0
   cost state (Pair' at p left q right) = 0
-  cost state (Minus' at p of) = cost state of + boolean_cost (value state of).rows (value state of).cols
-  cost state (Turned' at p of times) = cost state of + boolean_cost (value state of).rows (value state of).cols
+  cost state (Minus' at p of) = cost state of + (tree_cost (value state of).rows (value state of).cols + tree_cost (value state of).rows (value state of).cols)
+  cost state (Turned' at p of times) = cost state of + tree_cost (value state of).rows (value state of).cols
   cost state (Chain' p first shape rest) = cost state first + cost_along state (value state first) rest
 
   -- that of the links of a chain, whose value so far is given
@@ -54,22 +56,35 @@ abbrev pub listed_count : List Row → ℕ
 listed_count [] = 0
 listed_count (row ∷ rows) = length row.cols.items + listed_count rows
 
+-- a listed relation of so many pairs, repeats counted: for each pair a block, and the three nodes of a corner at each height above it
+unfoldable pub listed_cost : ℕ → ℕ → ℕ → ℕ
+listed_cost count rows cols = listed_room count (tree_height rows cols - bottom_height)
+
 -- nothing where the command is refused before it computes
 abbrev pub cost_where_due : Due → ℕ → ℕ
 cost_where_due (Value r) n = n
 cost_where_due Nothing n = 0
 cost_where_due (Refusal outcome) n = 0
 
--- a command on a state: of REL the room of its listed pairs, of PRINT the cost of its expression
+-- a command on a state: of REL that of its listed pairs, of PRINT the cost of its expression; the others are in no first script yet
 unfoldable pub cost_of_command : Command → State → ℕ
-cost_of_command (RELATION name rows rows_at cols cols_at list) state = pairs_room (listed_count list.items) rows cols
+cost_of_command (RELATION name rows rows_at cols cols_at list) state = listed_cost (listed_count list.items) rows cols
 cost_of_command (PRINT e) state = cost_where_due (evaluated e state) (cost state e)
-cost_of_command _ state = 0
+cost_of_command (Let name e) state = 0
+cost_of_command (LIST e) state = 0
+cost_of_command (Count e) state = 0
+cost_of_command (Typed e) state = 0
+cost_of_command (Remove at name) state = 0
+cost_of_command (Snap name) state = 0
+cost_of_command (At at name e) state = 0
+cost_of_command (Load name file) state = 0
+cost_of_command (Save e file) state = 0
 
--- an item
+-- an item: a definition costs nothing
 unfoldable pub cost_of_item : Item → State → ℕ
 cost_of_item (COMMAND command) state = cost_of_command command state
-cost_of_item _ state = 0
+cost_of_item (Function at name params body) state = 0
+cost_of_item (Program at name params decls body result) state = 0
 
 -- ---- runs
 -- items from number c on, each on the state just before its first event

@@ -2,9 +2,9 @@
 use Rattle.std.specs.Prelude.{ℕ, List, Option, Some, None}
 use Rattle.rel_model.specs.declared.syntax.Place.{Place}
 use Rattle.rel_model.specs.declared.syntax.Command.{Command}
-use Rattle.rel_model.specs.declared.syntax.Command.TheVariants.{Relation as RELATION, Print as PRINT}
+use Rattle.rel_model.specs.declared.syntax.Command.TheVariants.{Relation as RELATION, Let, Print as PRINT, List as LIST, Count, Typed, Remove, Snap, At, Load, Save}
 use Rattle.rel_model.specs.declared.syntax.Item.{Item}
-use Rattle.rel_model.specs.declared.syntax.Item.TheVariants.{Command as COMMAND}
+use Rattle.rel_model.specs.declared.syntax.Item.TheVariants.{Function, Program, Command as COMMAND}
 use Rattle.rel_model.specs.declared.syntax.Expr.{Expr}
 use Rattle.rel_model.specs.declared.faults.TypeFault.TheVariants.{Unknown}
 use Rattle.rel_model.specs.declared.run.Outcome.{Outcome}
@@ -39,13 +39,22 @@ known_or_ill None d = d
 unfoldable pub evaluated : Expr → State → Due
 evaluated e state = known_or_ill (missing state e) (fitting_or_ill (shaped state e) (value state e))
 
--- what is due of a command: of REL the listed pairs, of PRINT the value
+-- what is due of a command: of REL the listed pairs, of PRINT the value; the others are in no first script yet
 unfoldable pub due_of_command : Command → State → Due
 due_of_command (RELATION name rows rows_at cols cols_at list) state = Value (relation_of rows cols (lists list.items))
 due_of_command (PRINT e) state = evaluated e state
-due_of_command _ state = Nothing
+due_of_command (Let name e) state = Nothing
+due_of_command (LIST e) state = Nothing
+due_of_command (Count e) state = Nothing
+due_of_command (Typed e) state = Nothing
+due_of_command (Remove at name) state = Nothing
+due_of_command (Snap name) state = Nothing
+due_of_command (At at name e) state = Nothing
+due_of_command (Load name file) state = Nothing
+due_of_command (Save e file) state = Nothing
 
--- what is due of an item
+-- what is due of an item: of a definition nothing but that it is done
 unfoldable pub due : Item → State → Due
 due (COMMAND command) state = due_of_command command state
-due _ state = Nothing
+due (Function at name params body) state = Nothing
+due (Program at name params decls body result) state = Nothing

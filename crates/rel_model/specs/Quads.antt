@@ -1,5 +1,5 @@
 -- Quads: squares of cells by their names in a table; what a keeper of quads holds, what its calls keep, and how it counts what it missed.
-use Rattle.std.specs.Prelude.{◌≡◌, ◌≢◌, ◌<◌, ◌≤◌, ◌+◌, ◌-◌, ◌*◌, ◌^◌, min, ℕ, true, Result, Ok, Err}
+use Rattle.std.specs.Prelude.{◌≡◌, ◌≢◌, ◌<◌, ◌≤◌, ◌+◌, ◌-◌, ◌*◌, ◌^◌, min, ℕ, zero, suc, true, Result, Ok, Err}
 use Rattle.rel_model.specs.declared.Quad.{Quad}
 use Rattle.rel_model.specs.Cells.{Cells}
 use Rattle.rel_model.specs.Trees.{bottom_height, top_height, cells, stands, quartered}
@@ -79,9 +79,14 @@ pub record AreQuarters (old new : Work) (q : Quad) (four : Quad × Quad × Quad 
 abbrev pub quad_room : ℕ → ℕ
 quad_room height = 2 * 4 ^ (height - bottom_height) - 1
 
--- a bound on how many words a composition on squares of a height places: 1 for a block, and above it those of eight products, of four unions and of a corner, and one to spare
+-- how many words a composition places at most, so many quarterings above the blocks: 1 for a block, and above it those of eight products and four unions of the quarters, and 3 for their corner
+abbrev pub composed_words : ℕ → ℕ
+composed_words zero = 1
+composed_words (suc d) = 8 * composed_words d + 4 * (2 * 4 ^ d - 1) + 3
+
+-- those of a composition on squares of a height
 abbrev pub compose_room : ℕ → ℕ
-compose_room height = 3 * 8 ^ (height - bottom_height) - 2 * 4 ^ (height - bottom_height)
+compose_room height = composed_words (height - bottom_height)
 
 -- a second keeper is split off: both know as much, and it has missed nothing
 pub record SplitsWork (spare : ℕ) (old new second : Work) : Type 0 where

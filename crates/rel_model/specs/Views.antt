@@ -26,7 +26,7 @@ pub record View : Type 0 where
   pub made : ℕ
   -- how many seats may still be split off
   pub spare : ℕ
-  -- the slot and the word of its last memo load, if there was one
+  -- the slot of its last memo step, and the word that it loaded or stored there, if there was one
   pub last : Option (ℕ × ℕ)
 
 -- the seat is of this table, whose size is within the limits, and its names are canonical
@@ -52,7 +52,7 @@ pub record Keeps (old new : View) : Type 0 where
   pub house : new.house ≡ old.house
   pub spare : new.spare ≡ old.spare
 
--- a call that places no word keeps the count of words made and the last memo load too
+-- a call that places no word keeps the count of words made and the last memo step too
 pub record Reads (old new : View) : Type 0 where
   pub keeps : Keeps old new
   pub made : new.made ≡ old.made
@@ -83,7 +83,7 @@ pub record Interns {E : Type 0} (old new : View) (word : ℕ) (result : Result �
   pub keeps : Keeps old new
   pub last : new.last ≡ old.last
 
--- a memo word is loaded: it is 0, or a true equation at home in its slot, and it is the last memo load
+-- a memo word is loaded: it is 0, or a true equation at home in its slot, and it is the last memo step
 pub record Loads (slot word : ℕ) (old new : View) : Type 0 where
   pub holds : word ≢ 0 → IsMemo new.words slot word
   pub keeps : Keeps old new

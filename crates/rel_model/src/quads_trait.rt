@@ -1,45 +1,42 @@
 //! Relations as trees of quadrants, over whatever keeps them (Brisaboa, Ladra and Navarro, for k²-trees with k = 2).
 //!
 //! Every call keeps all relations and quads that stood, with the same sets, makes at most its room of nodes, and refuses only for its named cause.
-ghost use Rattle.std.specs.Prelude.{◌≡◌, ◌<◌, ◌≤◌, ◌+◌, ◌*◌, ◌^◌, ℕ, Some, IfOk};
+ghost use Rattle.std.specs.Prelude.{◌≡◌, ◌<◌, ◌≤◌, ◌+◌, ◌-◌, ◌*◌, ◌^◌, ℕ, Some, IfOk};
 ghost use Rattle.rel_model.specs.declared.Quad.{Quad};
 ghost use Rattle.rel_model.specs.Relation.{Relation, has, relation_of, size_limit};
 ghost use Rattle.rel_model.specs.Cells.{Cells, no_cells, cells_rect, bits_cells};
 ghost use Rattle.rel_model.specs.Trees.{top_height, quartered};
-ghost use Rattle.rel_model.specs.Roots.{height_over};
+ghost use Rattle.rel_model.specs.Roots.{height_over, tree_room};
 ghost use Rattle.rel_model.specs.Quarters.{LiesWithin, GivesQuarters};
-ghost use Rattle.rel_model.specs.Worker.{Worker, Stands, set_of, HasQuad, quad_set, GivesQuad, Gives, Keeps, MakesAtMost, MissesNothing, HasCause};
+ghost use Rattle.rel_model.specs.Worker.{Worker, Stands, set_of, HasQuad, quad_set, GivesQuad, Gives, Keeps, MakesAtMost, MissesNothing, HasCause, FindsQuad};
 
 use crate::core_trait::Core;
 use crate::{Lack, Quad, Rel, Shape};
 
 /// A worker whose relations are quadrant trees. A quad of height h is a set of cells within a square of side `2 ^ h`.
 pub trait Quads: Core {
-    /// The height of the leaves, at most 3.
-    ghost least: { ℕ };
-
     /// The height of the leaves.
     fn bottom(&self) -> u8
-        ensures { result ≡ least };
+        ensures { result ≡ Self.least };
 
     /// The quad of a relation: its cells are the relation's pairs, and its height is the least from the leaves' on whose side is at least both sizes.
     fn root(&self, r: Rel) -> Quad
         requires { Stands (Self.worker self.now) r }
-        ensures { GivesQuad (Self.worker self.now) (height_over least r.rows r.cols) (has (set_of (Self.worker self.now) r)) result };
+        ensures { GivesQuad (Self.worker self.now) (height_over Self.least r.rows r.cols) (has (set_of (Self.worker self.now) r)) result };
 
     /// `{(i, j) : cell (i, j) is in q}`: the relation of these sizes, within which all cells of `q` lie.
     fn rel(&self, shape: Shape, q: Quad) -> Rel
         requires row_limit { shape.rows ≤ size_limit }
         requires col_limit { shape.cols ≤ size_limit }
         requires stands { HasQuad (Self.worker self.now) q }
-        requires height { q.height ≡ height_over least shape.rows shape.cols }
+        requires height { q.height ≡ height_over Self.least shape.rows shape.cols }
         requires within { LiesWithin shape.rows shape.cols (quad_set (Self.worker self.now) q) }
         ensures { Gives (Self.worker self.now) shape.rows shape.cols (relation_of shape.rows shape.cols (quad_set (Self.worker self.now) q)) result };
 
     /// The quarters of a quad over the leaves: north-west, north-east, south-west and south-east.
     fn quarters(&mut self, q: Quad) -> (Quad, Quad, Quad, Quad)
         requires stands { HasQuad (Self.worker self.old) q }
-        requires over { least < q.height }
+        requires over { Self.least < q.height }
         ensures quarters { GivesQuarters (Self.worker self.old) (Self.worker self.new) q result }
         ensures keeps { Keeps (Self.worker self.old) (Self.worker self.new) }
         ensures room { MakesAtMost 0 (Self.worker self.old) (Self.worker self.new) }
@@ -56,6 +53,7 @@ pub trait Quads: Core {
         requires se_height { se.height ≡ nw.height }
         requires below { nw.height < top_height }
         ensures value { IfOk result (GivesQuad (Self.worker self.new) (nw.height + 1) (quartered (2 ^ nw.height) (quad_set (Self.worker self.old) nw) (quad_set (Self.worker self.old) ne) (quad_set (Self.worker self.old) sw) (quad_set (Self.worker self.old) se))) }
+        ensures stood { FindsQuad Self.lean (Self.worker self.old) (Self.worker self.new) (nw.height + 1) (quartered (2 ^ nw.height) (quad_set (Self.worker self.old) nw) (quad_set (Self.worker self.old) ne) (quad_set (Self.worker self.old) sw) (quad_set (Self.worker self.old) se)) result }
         ensures keeps { Keeps (Self.worker self.old) (Self.worker self.new) }
         ensures room { MakesAtMost 3 (Self.worker self.old) (Self.worker self.new) }
         ensures cause { HasCause Self.lean (Self.worker self.old) (Self.worker self.new) result };
@@ -63,37 +61,39 @@ pub trait Quads: Core {
     /// The cells of a leaf in one word: cell (i, j) is bit `2 ^ bottom * i + j`.
     fn bits(&mut self, q: Quad) -> u64
         requires stands { HasQuad (Self.worker self.old) q }
-        requires leaf { q.height ≡ least }
-        ensures cells { bits_cells (2 ^ least) result ≡ quad_set (Self.worker self.old) q }
-        ensures none_past { result < 2 ^ (2 ^ least * 2 ^ least) }
+        requires leaf { q.height ≡ Self.least }
+        ensures cells { bits_cells (2 ^ Self.least) result ≡ quad_set (Self.worker self.old) q }
+        ensures none_past { result < 2 ^ (2 ^ Self.least * 2 ^ Self.least) }
         ensures keeps { Keeps (Self.worker self.old) (Self.worker self.new) }
         ensures room { MakesAtMost 0 (Self.worker self.old) (Self.worker self.new) }
         ensures misses { MissesNothing (Self.worker self.old) (Self.worker self.new) };
 
     /// The leaf whose cells are in this word: cell (i, j) is bit `2 ^ bottom * i + j`.
     fn block(&mut self, bits: u64) -> Result<Quad, Lack>
-        requires none_past { bits < 2 ^ (2 ^ least * 2 ^ least) }
-        ensures value { IfOk result (GivesQuad (Self.worker self.new) least (bits_cells (2 ^ least) bits)) }
+        requires none_past { bits < 2 ^ (2 ^ Self.least * 2 ^ Self.least) }
+        ensures value { IfOk result (GivesQuad (Self.worker self.new) Self.least (bits_cells (2 ^ Self.least) bits)) }
+        ensures stood { FindsQuad Self.lean (Self.worker self.old) (Self.worker self.new) Self.least (bits_cells (2 ^ Self.least) bits) result }
         ensures keeps { Keeps (Self.worker self.old) (Self.worker self.new) }
         ensures room { MakesAtMost 1 (Self.worker self.old) (Self.worker self.new) }
         ensures cause { HasCause Self.lean (Self.worker self.old) (Self.worker self.new) result };
 
     /// `{(i, j) : i < rows, j < cols}`, in the square of a height.
     fn rect(&mut self, height: u8, rows: u32, cols: u32) -> Result<Quad, Lack>
-        requires low { least ≤ height }
+        requires low { Self.least ≤ height }
         requires high { height ≤ top_height }
         requires row { rows ≤ 2 ^ height }
         requires col { cols ≤ 2 ^ height }
         ensures value { IfOk result (GivesQuad (Self.worker self.new) height (cells_rect rows cols)) }
+        ensures stood { FindsQuad Self.lean (Self.worker self.old) (Self.worker self.new) height (cells_rect rows cols) result }
         ensures keeps { Keeps (Self.worker self.old) (Self.worker self.new) }
-        ensures room { MakesAtMost (4 * 4 ^ height) (Self.worker self.old) (Self.worker self.new) }
+        ensures room { MakesAtMost (tree_room (height - Self.least)) (Self.worker self.old) (Self.worker self.new) }
         ensures cause { HasCause Self.lean (Self.worker self.old) (Self.worker self.new) result };
 
     /// The leaves have at most 64 cells, which one word holds.
-    ghost least_limit: { least ≤ 3 };
+    ghost least_limit: { Self.least ≤ 3 };
 
     /// The heights of quads that stand.
-    ghost low_height: { (quads : Self) (q : Quad) → HasQuad (Self.worker quads) q → least ≤ q.height };
+    ghost low_height: { (quads : Self) (q : Quad) → HasQuad (Self.worker quads) q → Self.least ≤ q.height };
 
     ghost high_height: { (quads : Self) (q : Quad) → HasQuad (Self.worker quads) q → q.height ≤ top_height };
 
@@ -101,7 +101,7 @@ pub trait Quads: Core {
     ghost square: { (quads : Self) (q : Quad) → HasQuad (Self.worker quads) q → LiesWithin (2 ^ q.height) (2 ^ q.height) (quad_set (Self.worker quads) q) };
 
     /// The quad named 0 has no cell, at each height.
-    ghost none: { (quads : Self) (h : ℕ) → least ≤ h → h ≤ top_height → (Self.worker quads).quad (record { height = h; name = 0 }) ≡ Some no_cells };
+    ghost none: { (quads : Self) (h : ℕ) → Self.least ≤ h → h ≤ top_height → (Self.worker quads).quad (record { height = h; name = 0 }) ≡ Some no_cells };
 
     /// Quads of one height with one set have one name.
     ghost one_name: { (quads : Self) (p q : Quad) → HasQuad (Self.worker quads) p → HasQuad (Self.worker quads) q → p.height ≡ q.height → quad_set (Self.worker quads) p ≡ quad_set (Self.worker quads) q → p.name ≡ q.name };

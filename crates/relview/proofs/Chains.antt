@@ -6,7 +6,8 @@ use Rattle.rel_model.specs.Relation.{Relation}
 use Rattle.rel_model.specs.State.{State}
 use Rattle.rel_model.specs.Cost.{cost, cost_along, link_cost}
 use Rattle.rel_model.specs.Meaning.{missing, missing_in, missing_along, first_of_both, Shaped, joined, shaped, shaped_along, result_of_both, value, value_along}
-use Rattle.relview.specs.Links.{missing_of_args, missing_of_links, shaped_of_links, value_of_links, cost_of_links, IsPlain, ArePlain, ArePlainLinks}
+use Rattle.relview.specs.Plain.{IsPlain, ArePlain}
+use Rattle.relview.proofs.Linked.{missing_of_args, missing_of_links, shaped_of_links, value_of_links, cost_of_links, ArePlainLinks}
 
 missing_in-items : (S : State) (n : _) (k : Row_of-Expr n) → missing_in S k ≡ missing_of_args S (items-the_row-Expr n k)
 missing_in-items S _ end_of-Expr = refl

@@ -20,7 +20,7 @@ use Rattle.rel_model.specs.declared.token.Token.{Token}
 use Rattle.rel_model.specs.Grammar.{Level, OrLevel, AndLevel, UnaryLevel, PostLevel, PrimLevel, IsOperatorOf, Spelled, named, enclosed, turned, negated, chained, alone, Linked, last, link, SpellsMoreColumns, SpellsColumns, SpellsRow, SpellsMoreRows, SpellsRows, SpellsCommand, SpellsItem, SpellsItems, SpelledBy}
 use Rattle.rel_model.specs.Taken.{Takes, TakesAt, Carets}
 use Rattle.rel_model.specs.Tokens.{tokens_from, tokens_of, with_token, kind_at, behind, run_length, is_blank, is_allowed}
-use Rattle.relview.specs.Links.{IsPlain, ArePlain, IsBoolean}
+use Rattle.relview.specs.Plain.{IsPlain, ArePlain, IsBoolean}
 use Rattle.relview.specs.Ran.{IsFirstItem}
 
 -- ---- expressions

@@ -14,7 +14,8 @@ use Rattle.rel_model.specs.State.{State}
 use Rattle.rel_model.specs.Meaning.{Shaped, Fits, Misfit, joined, spelling, known, shape_transposed, shape_transposed_by, shaped, value, result_of_both}
 use Rattle.rel_model.specs.Worker.{Worker, Stands, set_of, Gives, Keeps}
 use Rattle.rel_model.proofs.Workers.{gives_stands, gives_set, keeps_set, keeps_trans, stands_some}
-use Rattle.relview.specs.Links.{shaped_of_links, value_of_links, IsFit, IsPlain, IsBoolean, ArePlainLinks}
+use Rattle.relview.specs.Plain.{IsFit, IsPlain, IsBoolean}
+use Rattle.relview.proofs.Linked.{shaped_of_links, value_of_links, ArePlainLinks}
 use Rattle.relview.specs.Values.{GivesValue}
 use Rattle.relview.proofs.Shapes.{misfit_stays}
 

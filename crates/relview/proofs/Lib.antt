@@ -1,3 +1,4 @@
+pub mod Linked
 pub mod Chains
 pub mod Shapes
 pub mod Values

@@ -1,5 +1,5 @@
 -- Lists of pairs that grow, and the relations of such lists.
-use Rattle.std.proofs.Common.{◌≡◌, ◌<◌, ◌≤◌, ◌+◌, ◌-◌, ◌*◌, ◌^◌, max, ◌&&◌, ◌||◌, ◌∙◌, ℕ, Bool, true, false, eqb, List, [], ◌∷◌, ◌++◌, length, take, get_or, refl, sym, ap, arith, inl, inr}
+use Rattle.std.proofs.Common.{◌≡◌, ◌<◌, ◌≤◌, ◌+◌, ◌-◌, ◌*◌, ◌^◌, max, ◌&&◌, ◌||◌, ◌∙◌, ℕ, Bool, true, false, eqb, List, [], ◌∷◌, ◌++◌, length, take, get_or, refl, sym, ap, subst, arith, inl, inr}
 use Rattle.std.specs.List.{list_any}
 use Rattle.std.proofs.lemmas.Bool.{cases_Bool, and_parts, eqb-true, eq-eqb}
 use Rattle.std.proofs.lemmas.List.{take_more}
@@ -7,8 +7,10 @@ use Rattle.rel_model.specs.declared.syntax.Column.{Column}
 use Rattle.rel_model.specs.declared.syntax.Row.{Row}
 use Rattle.rel_model.specs.Relation.{relation_of}
 use Rattle.rel_model.specs.State.{lists}
-use Rattle.rel_model.specs.Worker.{height_of, pairs_room}
-use Rattle.rel_model.specs.Cost.{listed_count}
+use Rattle.rel_model.specs.Trees.{bottom_height}
+use Rattle.rel_model.specs.Roots.{height_over}
+use Rattle.rel_model.specs.Worker.{Worker, MakesAtMost, listed_room}
+use Rattle.rel_model.specs.Cost.{listed_count, listed_cost}
 use Rattle.std.proofs.lemmas.Nat.{mul-le}
 use Rattle.rel_model.proofs.Relations.{relation_of-agree}
 use Rattle.relview.specs.Listed.{IsListed, Extends}
@@ -110,7 +112,14 @@ listed_count-append (r ∷ rs) ss = omega (arith, listed_count-append rs ss)
 pub count_more : (k : ℕ) (rs : List Row) (r : Row) → k < length rs → r ≡ get_or rs k r → listed_count (take (k + 1) rs) ≡ listed_count (take k rs) + length r.cols.items
 count_more k rs r h is = ap listed_count (take_more rs k r h ∙ ap (λ x. take k rs ++ x ∷ []) (sym is)) ∙ listed_count-append (take k rs) (r ∷ []) ∙ omega arith
 
--- the room of fewer pairs
-pub room_of_fewer : (a b m n : ℕ) → a ≤ b → pairs_room a m n ≤ pairs_room b m n
-unfolding pairs_room
-room_of_fewer a b m n l = mul-le (16 * (a + 1)) (4 ^ max (height_of m) (height_of n)) (16 * (b + 1)) (4 ^ max (height_of m) (height_of n)) (omega arith) (omega arith)
+-- the room of fewer pairs, over blocks, is within the cost of the listed ones
+pub room_of_fewer : (least a b m n : ℕ) → least ≡ bottom_height → a ≤ b → listed_room a (height_over least m n - least) ≤ listed_cost b m n
+unfolding listed_cost
+room_of_fewer least a b m n e l =
+    let d : ℕ = height_over bottom_height m n - bottom_height in
+    let same : height_over least m n - least ≡ d = ap (λ (x : ℕ). height_over x m n - x) e in
+    subst (λ (x : ℕ). a * (3 * x + 1) ≤ b * (3 * d + 1)) (sym same) (mul-le a (3 * d + 1) b (3 * d + 1) l (omega arith))
+
+-- so what is made of the pairs that are kept is
+pub listed_fits : (least b m n : ℕ) (ps qs : List (ℕ × ℕ)) (old new : Worker) → least ≡ bottom_height → ps ≡ qs → length qs ≤ b → MakesAtMost (listed_room (length ps) (height_over least m n - least)) old new → MakesAtMost (listed_cost b m n) old new
+listed_fits least b m n ps qs old new e is l made = let a = room_of_fewer least (length ps) b m n e (let s = ap length is in omega (arith, s, l)) in omega (arith, a, made)

@@ -17,7 +17,7 @@ use Rattle.rel_model.specs.Legal.{MayLackNodes, IsCompound}
 use Rattle.rel_model.specs.Cost.{cost, cost_where_due}
 use Rattle.rel_model.specs.Page.{prefix, matrix, refusal_text, reply}
 use Rattle.rel_model.specs.Worker.{Worker}
-use Rattle.relview.specs.Links.{IsFit}
+use Rattle.relview.specs.Plain.{IsFit}
 use Rattle.relview.specs.Names.{means, sized, AllStand}
 use Rattle.relview.specs.Ran.{Replies}
 use Rattle.relview.proofs.Agreeing.{HasSizes, missing-agree, shaped-agree, sized-names, sized-sizes}

@@ -12,7 +12,7 @@ use Rattle.rel_model.specs.State.{State}
 use Rattle.rel_model.specs.Meaning.{Shaped, Fits, Misfit, joined, shape_transposed, shape_transposed_by, shape_of_relation, shaped}
 use Rattle.rel_model.proofs.Relations.{rows-relation_of, cols-relation_of}
 use Rattle.relview.specs.Names.{rel_of, sized}
-use Rattle.relview.specs.Links.{shaped_of_links}
+use Rattle.relview.proofs.Linked.{shaped_of_links}
 
 twice : (s : Shaped) → shape_transposed (shape_transposed s) ≡ s
 twice (Fits m n) = refl

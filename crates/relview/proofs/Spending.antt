@@ -1,5 +1,5 @@
 -- How many nodes the value of an expression makes at most.
--- 1. An operator of the language makes at most two of the algebra.
+-- 1. An operator of the algebra makes at most one tree, and an operator of the language is one or two of them.
 -- 2. Along a chain, what was made and what its other links cost come to no more than the cost of the whole.
 use Rattle.std.proofs.Common.{◌≡◌, ◌<◌, ◌≤◌, ◌+◌, ◌∙◌, ℕ, List, ◌∷◌, length, drop, get_or, Option, Some, None, refl, sym, ap, arith}
 use Rattle.std.proofs.lemmas.List.{drop_more}
@@ -12,29 +12,20 @@ use Rattle.rel_model.specs.declared.syntax.Expr.{Expr}
 use Rattle.rel_model.specs.Relation.{Relation}
 use Rattle.rel_model.specs.State.{State}
 use Rattle.rel_model.specs.Meaning.{first_of_both, missing, Shaped, shaped, value, result_of_both}
-use Rattle.rel_model.specs.Cost.{boolean_cost, cost, link_cost}
-use Rattle.rel_model.specs.Worker.{Worker, Stands, set_of, Gives, Keeps, operator_room}
+use Rattle.rel_model.specs.Cost.{tree_cost, cost, link_cost}
+use Rattle.rel_model.specs.Worker.{Worker, Stands, set_of, Gives, Keeps}
+use Rattle.rel_model.specs.Trees.{bottom_height}
+use Rattle.rel_model.specs.Roots.{relation_room}
 use Rattle.rel_model.proofs.Workers.{gives_set, keeps_set}
-use Rattle.relview.specs.Links.{missing_of_links, cost_of_links, IsBoolean}
+use Rattle.relview.specs.Plain.{IsBoolean}
+use Rattle.relview.proofs.Linked.{missing_of_links, cost_of_links}
 use Rattle.relview.specs.Values.{GivesValue}
 use Rattle.relview.proofs.Agreeing.{HasSizes}
 use Rattle.relview.proofs.Fitting.{given_stands, given_set}
 
-pub two_operators : (m n : ℕ) → boolean_cost m n ≡ operator_room m n + operator_room m n
-unfolding boolean_cost operator_room
-two_operators m n = omega arith
-
--- ---- one operator
--- an operand and an operator on it
-pub paid_one : (start mid last : Worker) (S : State) (e : Expr) (s : Shaped) (r : Rel) → HasSizes mid → GivesValue mid s (value S e) r → mid.made ≤ start.made + cost S e → last.made ≤ mid.made + boolean_cost r.rows r.cols
-    → last.made ≤ start.made + (cost S e + boolean_cost (value S e).rows (value S e).cols)
-paid_one start mid last S e s r laws g a b =
-    let stands = given_stands mid s (value S e) r g in
-    let set = given_set mid s (value S e) r g in
-    let m : r.rows ≡ (value S e).rows = sym (laws.rows r stands) ∙ ap (λ x. x.rows) set in
-    let n : r.cols ≡ (value S e).cols = sym (laws.cols r stands) ∙ ap (λ x. x.cols) set in
-    let same : boolean_cost r.rows r.cols ≡ boolean_cost (value S e).rows (value S e).cols = ap (λ k. boolean_cost k r.cols) m ∙ ap (boolean_cost (value S e).rows) n in
-    omega (arith, a, b, same)
+pub one_tree : (least m n : ℕ) → least ≡ bottom_height → relation_room least m n ≡ tree_cost m n
+unfolding tree_cost
+one_tree least m n e = ap (λ (x : ℕ). relation_room x m n) e
 
 -- ---- known names
 pub known_first : (a b : Option (Place × List ℕ)) → first_of_both a b ≡ None → (a ≡ None) × (b ≡ None)
@@ -42,7 +33,7 @@ known_first None b h = (refl, h)
 known_first (Some x) b h = absurd (let e : Some x ≡ None = h in cc)
 
 -- ---- chains
-link_is_boolean : (op : Op2) (r s : Relation) → IsBoolean op → link_cost op r s ≡ boolean_cost r.rows r.cols
+link_is_boolean : (op : Op2) (r s : Relation) → IsBoolean op → link_cost op r s ≡ tree_cost r.rows r.cols
 link_is_boolean Or r s b = refl
 link_is_boolean And r s b = refl
 link_is_boolean Times r s b = absurd b
@@ -77,9 +68,9 @@ module _ (start now : Worker) (N S T : State) (total : ℕ) (all : Rel) (k : ℕ
   pub paid_right : (next : Worker) → next.made ≤ now.made + cost T l.right → next.made ≤ start.made + total
   paid_right next m = omega (arith, m, right_cost, left_cost, paid.room)
 
-  module _ (next last : Worker) (right joint : Rel) (boolean : IsBoolean l.op) (laws : HasSizes now) (stands : Stands now all) (m : next.made ≤ now.made + cost T l.right) (n : last.made ≤ next.made + boolean_cost all.rows all.cols) where
-    operator_cost : boolean_cost all.rows all.cols ≡ link_cost l.op (set_of now all) (value S l.right)
-    operator_cost = ap (λ x. boolean_cost x all.cols) (sym (laws.rows all stands)) ∙ ap (boolean_cost (set_of now all).rows) (sym (laws.cols all stands)) ∙ sym (link_is_boolean l.op (set_of now all) (value S l.right) boolean)
+  module _ (next last : Worker) (right joint : Rel) (boolean : IsBoolean l.op) (laws : HasSizes now) (stands : Stands now all) (m : next.made ≤ now.made + cost T l.right) (n : last.made ≤ next.made + tree_cost all.rows all.cols) where
+    operator_cost : tree_cost all.rows all.cols ≡ link_cost l.op (set_of now all) (value S l.right)
+    operator_cost = ap (λ x. tree_cost x all.cols) (sym (laws.rows all stands)) ∙ ap (tree_cost (set_of now all).rows) (sym (laws.cols all stands)) ∙ sym (link_is_boolean l.op (set_of now all) (value S l.right) boolean)
 
     pub paid_applied : last.made ≤ start.made + total
     paid_applied = omega (arith, m, n, operator_cost, right_cost, left_cost, paid.room)

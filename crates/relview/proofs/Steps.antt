@@ -25,9 +25,9 @@ use Rattle.rel_model.specs.State.{nothing, assigned, lists}
 use Rattle.rel_model.specs.Tokens.{same_text}
 use Rattle.rel_model.specs.Due.{Due, Value, due, due_of_command, evaluated}
 use Rattle.rel_model.specs.Legal.{Trees, start as begin, item_at, state_after, state_for, LegalItems, IsOutcome, HasEvents}
-use Rattle.rel_model.specs.Cost.{cost, cost_where_due, listed_count, cost_of_command, cost_of_item}
+use Rattle.rel_model.specs.Cost.{cost, cost_where_due, listed_count, listed_cost, cost_of_command, cost_of_item}
 use Rattle.rel_model.specs.Page.{items_page, reply, prefix, refusal_text}
-use Rattle.rel_model.specs.Worker.{Worker, Stands, Keeps, Rose, pairs_room}
+use Rattle.rel_model.specs.Worker.{Worker, Stands, Keeps, Rose}
 use Rattle.rel_model.proofs.Workers.{keeps_trans, keeps_itself, gives_stands}
 use Rattle.rel_model.proofs.Runs.{Below, below-push, below-more, state_after-read, state_after-listed, state_for-new, legal_later, legal_append, legal-length, page_later, page_append}
 use Rattle.relview.specs.declared.session.Run.{Run}
@@ -101,7 +101,7 @@ ran_print T is e c start w v old new k ran kept p room =
 -- a listed relation and its name join the state
 ran_assigned : (T : Trees) (is : List Item) (c : ℕ) (start w v : Worker) (old new : Run) (name : List ℕ) (rows : ℕ) (rows_at : Place) (cols : ℕ) (cols_at : Place) (list : Vec Row Global) → length is + 1 ≡ c →
     item_at T 1 c ≡ Some (Command (RELATION name rows rows_at cols cols_at list)) → RanTo T is start w old → Keeps w v → Assigned c name rows cols (relation_of rows cols (lists list.items)) v old new →
-    v.made ≤ w.made + pairs_room (listed_count list.items) rows cols → RanTo T (is ++ Command (RELATION name rows rows_at cols cols_at list) ∷ []) start v new
+    v.made ≤ w.made + listed_cost (listed_count list.items) rows cols → RanTo T (is ++ Command (RELATION name rows rows_at cols cols_at list) ∷ []) start v new
 unfolding due due_of_command reply assigned cost_of_item cost_of_command
 ran_assigned T is c start w v old new name rows rows_at cols cols_at list k here ran kept a room =
     let H = old.history.items in
@@ -149,7 +149,7 @@ ran_assigned T is c start w v old new name rows rows_at cols cols_at list k here
 
 -- a refusal without an event
 ran_refused : (T : Trees) (is : List Item) (c : ℕ) (start w v : Worker) (old new : Run) (name : List ℕ) (rows : ℕ) (rows_at : Place) (cols : ℕ) (cols_at : Place) (list : Vec Row Global) → length is + 1 ≡ c → RanTo T is start w old → Keeps w v → Refused c w.misses v.misses old new →
-    v.made ≤ w.made + pairs_room (listed_count list.items) rows cols → RanTo T (is ++ Command (RELATION name rows rows_at cols cols_at list) ∷ []) start v new
+    v.made ≤ w.made + listed_cost (listed_count list.items) rows cols → RanTo T (is ++ Command (RELATION name rows rows_at cols cols_at list) ∷ []) start v new
 unfolding due due_of_command reply cost_of_item cost_of_command
 ran_refused T is c start w v old new name rows rows_at cols cols_at list k ran kept r room =
     let H = old.history.items in
@@ -194,7 +194,7 @@ ran_refused T is c start w v old new name rows rows_at cols cols_at list k ran k
 pub ran_relation : (T : Trees) (is : List Item) (c : ℕ) (start w v : Worker) (old new : Run) (name : List ℕ) (rows : ℕ) (rows_at : Place) (cols : ℕ) (cols_at : Place) (list : Vec Row Global) → length is + 1 ≡ c →
     item_at T 1 c ≡ Some (Command (RELATION name rows rows_at cols cols_at list)) → RanTo T is start w old → Keeps w v →
     Assigned c name rows cols (relation_of rows cols (lists list.items)) v old new ⊎ Refused c w.misses v.misses old new →
-    v.made ≤ w.made + pairs_room (listed_count list.items) rows cols → RanTo T (is ++ Command (RELATION name rows rows_at cols cols_at list) ∷ []) start v new
+    v.made ≤ w.made + listed_cost (listed_count list.items) rows cols → RanTo T (is ++ Command (RELATION name rows rows_at cols cols_at list) ∷ []) start v new
 ran_relation T is c start w v old new name rows rows_at cols cols_at list k here ran kept (inl a) room = ran_assigned T is c start w v old new name rows rows_at cols cols_at list k here ran kept a room
 ran_relation T is c start w v old new name rows rows_at cols cols_at list k here ran kept (inr r) room = ran_refused T is c start w v old new name rows rows_at cols cols_at list k ran kept r room
 
@@ -220,7 +220,7 @@ follows_print script k item e w v old new l is eq kept p room start ran =
 
 pub follows_relation : (script : Script) (k : ℕ) (item : Item) (w v : Worker) (old new : Run) (name : List ℕ) (rows : ℕ) (rows_at : Place) (cols : ℕ) (cols_at : Place) (list : Vec Row Global) → k < length script.items.items → item ≡ get_or script.items.items k item →
     item ≡ Command (RELATION name rows rows_at cols cols_at list) → Keeps w v → Assigned (k + 1) name rows cols (relation_of rows cols (lists list.items)) v old new ⊎ Refused (k + 1) w.misses v.misses old new →
-    v.made ≤ w.made + pairs_room (listed_count list.items) rows cols → Follows script k w v old new
+    v.made ≤ w.made + listed_cost (listed_count list.items) rows cols → Follows script k w v old new
 follows_relation script k item w v old new name rows rows_at cols cols_at list l is eq kept a room start ran =
     let T = tree_of script in
     let items = script.items.items in

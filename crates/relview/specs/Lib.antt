@@ -1,8 +1,9 @@
 pub mod Names
-pub mod Links
+pub mod Plain
 pub mod Values
 pub mod Listed
 pub mod Found
 pub mod Ran
 pub mod Top
 pub mod OneRun
+pub mod EnoughRoom

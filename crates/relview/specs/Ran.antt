@@ -22,7 +22,7 @@ use Rattle.rel_model.specs.Cost.{cost_of_items}
 use Rattle.relview.specs.Found.{AreFound}
 use Rattle.rel_model.specs.Page.{items_page, reply, prefix, refusal_text}
 use Rattle.relview.specs.Names.{means, AllStand}
-use Rattle.relview.specs.Links.{IsPlain}
+use Rattle.relview.specs.Plain.{IsPlain}
 use Rattle.rel_model.specs.Relation.{size_limit}
 use Rattle.relview.specs.Values.{lack_outcome}
 use Rattle.relview.specs.declared.session.Run.{Run}

@@ -3,8 +3,9 @@ ghost use Rattle.std.specs.Prelude.{◌≡◌, ◌==◌, ◌&&◌, ◌+◌, ◌�
 ghost use Rattle.std.specs.List.{list_any};
 ghost use Rattle.rel_model.specs.Relation.{relation_of, size_limit};
 ghost use Rattle.rel_model.specs.State.{lists};
-ghost use Rattle.rel_model.specs.Worker.{Keeps, MakesAtMost, Gives, HasCause, pairs_room};
-ghost use Rattle.rel_model.specs.Cost.{listed_count};
+ghost use Rattle.rel_model.specs.Worker.{Keeps, MakesAtMost, Gives, HasCause};
+ghost use Rattle.rel_model.specs.Cost.{listed_count, listed_cost};
+ghost use Rattle.rel_model.specs.Trees.{bottom_height};
 ghost use Rattle.rel_model.specs.Listed.{AreWithin};
 ghost use Rattle.relview.specs.Listed.{Extends, IsListed};
 
@@ -59,18 +60,18 @@ fn listed_pairs(alloc: Global, shape: Shape, list: &[Row]) -> Result<Vec<(u32, u
 }
 
 /// The relation of the listed pairs.
-#[tactic(auto, using(crate::proofs::Listing::room_of_fewer))]
 pub fn listed<E: Engine>(
     alloc: Global,
     engine: &mut E,
     shape: Shape,
     list: &[Row],
 ) -> Result<Rel, Lack>
+    requires blocks { E.least ≡ bottom_height }
     requires row_limit { shape.rows ≤ size_limit }
     requires col_limit { shape.cols ≤ size_limit }
     ensures value { IfOk result (Gives (E.worker engine.new) shape.rows shape.cols (relation_of shape.rows shape.cols (lists list.now))) }
     ensures keeps { Keeps (E.worker engine.old) (E.worker engine.new) }
-    ensures room { MakesAtMost (pairs_room (listed_count list.now) shape.rows shape.cols) (E.worker engine.old) (E.worker engine.new) }
+    ensures room { MakesAtMost (listed_cost (listed_count list.now) shape.rows shape.cols) (E.worker engine.old) (E.worker engine.new) }
     ensures cause { HasCause false (E.worker engine.old) (E.worker engine.new) result }
 {
     let pairs = listed_pairs(alloc, shape, list)?;

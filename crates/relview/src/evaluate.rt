@@ -1,11 +1,12 @@
 //! What an expression comes to on the names of a workspace: its leftmost unknown name, its sizes or the first misfit, its value.
-ghost use Rattle.std.specs.Prelude.{◌≡◌, ◌%◌, Some, None, IfOk, MatchOption, MatchResult};
+ghost use Rattle.std.specs.Prelude.{◌≡◌, ◌+◌, ◌%◌, Some, None, IfOk, MatchOption, MatchResult};
 ghost use Rattle.rel_model.specs.declared.Rel.{Rel};
 ghost use Rattle.rel_model.specs.Meaning.{missing, Fits, Misfit, joined, shaped, shape_transposed_by, value, result_of_both};
 ghost use Rattle.rel_model.specs.Operators.{complement as complement_of, transposed_by};
 ghost use Rattle.rel_model.specs.Worker.{Stands, set_of, Keeps, MakesAtMost, Gives, HasCause};
-ghost use Rattle.rel_model.specs.Cost.{boolean_cost, cost};
-ghost use Rattle.relview.specs.Links.{IsPlain, IsBoolean, IsFit};
+ghost use Rattle.rel_model.specs.Trees.{bottom_height};
+ghost use Rattle.rel_model.specs.Cost.{tree_cost, cost};
+ghost use Rattle.relview.specs.Plain.{IsPlain, IsBoolean, IsFit};
 ghost use Rattle.relview.specs.Names.{rel_of, sized, means, AllStand};
 ghost use Rattle.relview.specs.Values.{fault_of, GivesValue};
 
@@ -145,12 +146,13 @@ pub fn shape_of(names: &[(Name, Rel)], expr: &Expr) -> Result<Shape, Mismatched>
 }
 
 /// `{(i, j) : not (i, j) in r}`: the complement within the sizes.
-#[tactic(auto, using(crate::proofs::Spending::two_operators))]
+#[tactic(auto, using(crate::proofs::Spending::one_tree))]
 fn complement<C: Core>(core: &mut C, r: Rel) -> Result<Rel, Lack>
-    requires { Stands (C.worker core.old) r }
+    requires blocks { C.least ≡ bottom_height }
+    requires standing { Stands (C.worker core.old) r }
     ensures value { IfOk result (Gives (C.worker core.new) r.rows r.cols (complement_of (set_of (C.worker core.old) r))) }
     ensures keeps { Keeps (C.worker core.old) (C.worker core.new) }
-    ensures room { MakesAtMost (boolean_cost r.rows r.cols) (C.worker core.old) (C.worker core.new) }
+    ensures room { MakesAtMost (tree_cost r.rows r.cols + tree_cost r.rows r.cols) (C.worker core.old) (C.worker core.new) }
     ensures cause { HasCause C.lean (C.worker core.old) (C.worker core.new) result }
 {
     let shape = Shape {
@@ -163,8 +165,9 @@ fn complement<C: Core>(core: &mut C, r: Rel) -> Result<Rel, Lack>
 }
 
 /// The union or the intersection.
-#[tactic(auto, using(crate::proofs::Spending::two_operators))]
+#[tactic(auto, using(crate::proofs::Spending::one_tree))]
 fn applied<C: Core>(core: &mut C, op: Op2, r: Rel, s: Rel) -> Result<Rel, Lack>
+    requires blocks { C.least ≡ bottom_height }
     requires op { IsBoolean op }
     requires left { Stands (C.worker core.old) r }
     requires right { Stands (C.worker core.old) s }
@@ -172,7 +175,7 @@ fn applied<C: Core>(core: &mut C, op: Op2, r: Rel, s: Rel) -> Result<Rel, Lack>
     requires cols { r.cols ≡ s.cols }
     ensures value { IfOk result (Gives (C.worker core.new) r.rows r.cols (result_of_both op (set_of (C.worker core.old) r) (set_of (C.worker core.old) s))) }
     ensures keeps { Keeps (C.worker core.old) (C.worker core.new) }
-    ensures room { MakesAtMost (boolean_cost r.rows r.cols) (C.worker core.old) (C.worker core.new) }
+    ensures room { MakesAtMost (tree_cost r.rows r.cols) (C.worker core.old) (C.worker core.new) }
     ensures cause { HasCause C.lean (C.worker core.old) (C.worker core.new) result }
 {
     match op {
@@ -183,12 +186,13 @@ fn applied<C: Core>(core: &mut C, op: Op2, r: Rel, s: Rel) -> Result<Rel, Lack>
 }
 
 /// A relation transposed so many times.
-#[tactic(auto, using(crate::proofs::Spending::two_operators))]
+#[tactic(auto, using(crate::proofs::Spending::one_tree))]
 fn transposed<C: Core>(core: &mut C, r: Rel, times: u32) -> Result<Rel, Lack>
-    requires { Stands (C.worker core.old) r }
+    requires blocks { C.least ≡ bottom_height }
+    requires standing { Stands (C.worker core.old) r }
     ensures value { IfOk result (GivesValue (C.worker core.new) (shape_transposed_by times (Fits r.rows r.cols)) (transposed_by times (set_of (C.worker core.old) r))) }
     ensures keeps { Keeps (C.worker core.old) (C.worker core.new) }
-    ensures room { MakesAtMost (boolean_cost r.rows r.cols) (C.worker core.old) (C.worker core.new) }
+    ensures room { MakesAtMost (tree_cost r.rows r.cols) (C.worker core.old) (C.worker core.new) }
     ensures cause { HasCause C.lean (C.worker core.old) (C.worker core.new) result }
 {
     if times % 2 == 0 {
@@ -201,6 +205,7 @@ fn transposed<C: Core>(core: &mut C, r: Rel, times: u32) -> Result<Rel, Lack>
 
 /// The value of an expression whose names are known and whose sizes fit.
 pub fn value_of<C: Core>(core: &mut C, names: &[(Name, Rel)], expr: &Expr) -> Result<Rel, Lack>
+    requires blocks { C.least ≡ bottom_height }
     requires standing { AllStand (C.worker core.old) names.now }
     requires plain { IsPlain expr.now }
     requires known { missing (sized names.now) expr.now ≡ None }

@@ -17,6 +17,7 @@ use std::alloc::Global;
 const TABLE_BITS: u32 = 20;
 
 /// Runs a script as session 1, over a table of its own.
+#[tactic(auto, unfolding(rel_model::specs::Trees::bottom_height))]
 pub fn answer_of_script(alloc: Global, script: &Script) -> Result<Answer, NoMemory>
     requires few { length script.now.items.items ≤ 2 ^ 20 }
     requires first { All IsFirstItem script.now.items.items }

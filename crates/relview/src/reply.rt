@@ -6,10 +6,11 @@ ghost use Rattle.rel_model.specs.declared.Lack.TheVariants.{Full};
 ghost use Rattle.rel_model.specs.declared.syntax.Command.TheVariants.{Print};
 ghost use Rattle.rel_model.specs.declared.syntax.Item.TheVariants.{Command};
 ghost use Rattle.rel_model.specs.Worker.{Worker, Stands, Keeps, MakesAtMost, MissesNothing, Gives, HasCause};
+ghost use Rattle.rel_model.specs.Trees.{bottom_height};
 ghost use Rattle.rel_model.specs.Cost.{cost, cost_where_due};
 ghost use Rattle.rel_model.specs.Due.{evaluated};
 ghost use Rattle.rel_model.specs.Legal.{MayLackNodes};
-ghost use Rattle.relview.specs.Links.{IsPlain};
+ghost use Rattle.relview.specs.Plain.{IsPlain};
 ghost use Rattle.relview.specs.Names.{rel_of, means, AllStand};
 ghost use Rattle.relview.specs.Ran.{Replies};
 ghost use Rattle.rel_model.specs.Meaning.{known};
@@ -20,7 +21,7 @@ ghost use Rattle.rel_model.specs.declared.run.Outcome.TheVariants.{Done, Ill};
 ghost use Rattle.rel_model.specs.Meaning.{missing, shaped, value};
 ghost use Rattle.rel_model.specs.Worker.{Rose};
 ghost use Rattle.rel_model.specs.Legal.{IsCompound};
-ghost use Rattle.relview.specs.Links.{IsFit};
+ghost use Rattle.relview.specs.Plain.{IsFit};
 ghost use Rattle.relview.specs.Names.{sized};
 ghost use Rattle.relview.specs.Values.{fault_of, GivesValue, lack_outcome};
 
@@ -122,6 +123,7 @@ pub fn lack_reply(alloc: Global, number: u32, lack: Lack) -> Result<Reply, NoMem
 
 /// The value of an expression whose names are known and whose sizes fit. A plain name needs no operator.
 fn known_value<C: Core>(core: &mut C, names: &[(Name, Rel)], expr: &Expr) -> Result<Rel, Lack>
+    requires blocks { C.least ≡ bottom_height }
     requires standing { AllStand (C.worker core.old) names.now }
     requires plain { IsPlain expr.now }
     requires known { missing (sized names.now) expr.now ≡ None }
@@ -148,6 +150,7 @@ pub fn print_reply<C: Core>(
     number: u32,
     expr: &Expr,
 ) -> Result<Reply, Lack>
+    requires blocks { C.least ≡ bottom_height }
     requires standing { AllStand (C.worker core.old) names.now }
     requires plain { IsPlain expr.now }
     ensures reply { IfOk result (λ r. Replies number expr.now (means (C.worker core.old) names.now) r.outcome r.text.items) }

@@ -3,11 +3,12 @@ ghost use Rattle.std.specs.Prelude.{◌≡◌, ◌∷◌, ◌++◌, [], ◌<◌,
 ghost use Rattle.std.specs.Prelude.{All};
 ghost use Rattle.rel_model.specs.Relation.{relation_of, size_limit};
 ghost use Rattle.rel_model.specs.State.{lists};
-ghost use Rattle.rel_model.specs.Worker.{Keeps, MakesAtMost, Gives, HasCause, pairs_room};
-ghost use Rattle.rel_model.specs.Cost.{cost, cost_where_due, listed_count};
+ghost use Rattle.rel_model.specs.Worker.{Keeps, MakesAtMost, Gives, HasCause};
+ghost use Rattle.rel_model.specs.Cost.{cost, cost_where_due, listed_count, listed_cost};
+ghost use Rattle.rel_model.specs.Trees.{bottom_height};
 ghost use Rattle.rel_model.specs.Due.{evaluated};
 ghost use Rattle.rel_model.specs.Legal.{Trees};
-ghost use Rattle.relview.specs.Links.{IsPlain};
+ghost use Rattle.relview.specs.Plain.{IsPlain};
 ghost use Rattle.relview.specs.Names.{means, AllStand};
 ghost use Rattle.relview.specs.Ran.{IsFirstItem, RanTo, Follows, tree_of, Settles, Printed, Assigns, Assigned, Refuses, Refused};
 
@@ -37,6 +38,7 @@ fn settled_reply<E: Engine>(
     number: u32,
     expr: &Expr,
 ) -> Result<Reply, NoMemory>
+    requires blocks { E.least ≡ bottom_height }
     requires standing { AllStand (E.worker engine.old) names.now }
     requires plain { IsPlain expr.now }
     ensures reply { IfOk result (λ r. Settles number expr.now (means (E.worker engine.old) names.now) (E.worker engine.old).misses (E.worker engine.new).misses r.outcome r.text.items) }
@@ -60,12 +62,13 @@ fn named_relation<E: Engine>(
     shape: Shape,
     list: &[Row],
 ) -> Result<(Name, Name, Rel), Lack>
+    requires blocks { E.least ≡ bottom_height }
     requires row_limit { shape.rows ≤ size_limit }
     requires col_limit { shape.cols ≤ size_limit }
     ensures names { IfOk result (λ x. (x.0 ≡ name.now) × (x.1 ≡ name.now)) }
     ensures value { IfOk result (λ x. Gives (E.worker engine.new) shape.rows shape.cols (relation_of shape.rows shape.cols (lists list.now)) x.2) }
     ensures keeps { Keeps (E.worker engine.old) (E.worker engine.new) }
-    ensures room { MakesAtMost (pairs_room (listed_count list.now) shape.rows shape.cols) (E.worker engine.old) (E.worker engine.new) }
+    ensures room { MakesAtMost (listed_cost (listed_count list.now) shape.rows shape.cols) (E.worker engine.old) (E.worker engine.new) }
     ensures cause { HasCause false (E.worker engine.old) (E.worker engine.new) result }
 {
     let kept = name.copied(alloc)?;
@@ -84,6 +87,7 @@ fn run_print<E: Engine>(
     number: u32,
     expr: &Expr,
 ) -> Result<(), NoMemory>
+    requires blocks { E.least ≡ bottom_height }
     requires standing { AllStand (E.worker engine.old) run.old.names.items }
     requires plain { IsPlain expr.now }
     ensures printed { OnOk result (Printed number expr.now (means (E.worker engine.old) run.old.names.items) (E.worker engine.old).misses (E.worker engine.new).misses run.old run.new) }
@@ -136,11 +140,12 @@ fn run_relation<E: Engine>(
     shape: Shape,
     list: &[Row],
 ) -> Result<(), NoMemory>
+    requires blocks { E.least ≡ bottom_height }
     requires row_limit { shape.rows ≤ size_limit }
     requires col_limit { shape.cols ≤ size_limit }
     ensures assigned { OnOk result (Assigned number name.now shape.rows shape.cols (relation_of shape.rows shape.cols (lists list.now)) (E.worker engine.new) run.old run.new ⊎ Refused number (E.worker engine.old).misses (E.worker engine.new).misses run.old run.new) }
     ensures keeps { Keeps (E.worker engine.old) (E.worker engine.new) }
-    ensures room { MakesAtMost (pairs_room (listed_count list.now) shape.rows shape.cols) (E.worker engine.old) (E.worker engine.new) }
+    ensures room { MakesAtMost (listed_cost (listed_count list.now) shape.rows shape.cols) (E.worker engine.old) (E.worker engine.new) }
 {
     match named_relation(alloc, engine, name, shape, list) {
         Ok((kept, noted, rel)) => {
@@ -162,6 +167,7 @@ fn run_item<E: Engine>(
     script: &Script,
     k: usize,
 ) -> Result<(), NoMemory>
+    requires blocks { E.least ≡ bottom_height }
     requires within { k < length script.now.items.items }
     requires few { length script.now.items.items ≤ 2 ^ 20 }
     requires first { All IsFirstItem script.now.items.items }
@@ -202,6 +208,7 @@ pub fn run_script<E: Engine>(
     engine: &mut E,
     script: &Script,
 ) -> Result<Run, NoMemory>
+    requires blocks { E.least ≡ bottom_height }
     requires few { length script.now.items.items ≤ 2 ^ 20 }
     requires first { All IsFirstItem script.now.items.items }
     ensures { IfOk result (λ run. RanTo (tree_of script.now) script.now.items.items (E.worker engine.old) (E.worker engine.new) run) }

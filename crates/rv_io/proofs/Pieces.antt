@@ -1,5 +1,5 @@
 -- What reads and writes of one piece after another come to.
-use Rattle.std.proofs.Common.{◌≡◌, ◌≤◌, ◌+◌, ◌-◌, take, drop, ℕ, List, [], ◌++◌, length, Option, Some, None, sym, ap, ◌∙◌, length-append, length-take, length-drop, take-append-drop, subst, arith, append-nil}
+use Rattle.std.proofs.Common.{◌≡◌, ◌<◌, ◌≤◌, ◌+◌, ◌-◌, take, drop, ℕ, List, [], ◌++◌, length, Option, Some, None, sym, ap, ◌∙◌, length-append, length-take, length-drop, take-append-drop, subst, arith, append-nil}
 use Rattle.std.specs.Io.KnownBytes.{Consumes, Appends, Keeps}
 use Rattle.std.proofs.KnownBytes.{Appends-trans, Consumes-trans}
 use Rattle.std.proofs.Math.Seq.{take-add}
@@ -28,10 +28,10 @@ refused_later start old new before limit (TooLong given) c l r = (r.0, taken_mor
   where
     shifted : TakesOn old.rest new.rest (λ n. length before + n ≡ limit + 1) → TakesOn old.rest new.rest (λ n. 0 + (length before + n) ≡ limit + 1)
     shifted t = record { taken = t.taken; consumed = t.consumed; count = omega (arith, t.count) }
-refused_later start old new before limit NoMemory c l r = taken_more start.rest old.rest new.rest before (λ n. 0 + n ≤ limit) c (shifted r)
+refused_later start old new before limit NoMemory c l r = taken_more start.rest old.rest new.rest before (λ n. (0 < 0 + n) × (0 + n ≤ limit)) c (shifted r)
   where
-    shifted : TakesOn old.rest new.rest (λ n. length before + n ≤ limit) → TakesOn old.rest new.rest (λ n. 0 + (length before + n) ≤ limit)
-    shifted t = record { taken = t.taken; consumed = t.consumed; count = omega (arith, t.count) }
+    shifted : TakesOn old.rest new.rest (λ n. (0 < length before + n) × (length before + n ≤ limit)) → TakesOn old.rest new.rest (λ n. (0 < 0 + (length before + n)) × (0 + (length before + n) ≤ limit))
+    shifted t = record { taken = t.taken; consumed = t.consumed; count = (omega (arith, t.count.0), omega (arith, t.count.1)) }
 
 -- one more write
 pub written_more : (a b c : Option (List ℕ)) (bytes : List ℕ) (sent count : ℕ) → sent ≤ length bytes → count ≤ length bytes - sent → Appends a b (take sent bytes) → Appends b c (take count (take (length bytes - sent) (drop sent bytes))) → Appends a c (take (sent + count) bytes)

@@ -1,5 +1,5 @@
 -- What a file that is read whole gives, why it may be refused, and how much of it was taken.
-use Rattle.std.specs.Prelude.{◌≡◌, ◌≤◌, ◌+◌, ◌⊎◌, ℕ, List, ◌++◌, length, Option, Some, Result, Ok, Err, IfSome}
+use Rattle.std.specs.Prelude.{◌≡◌, ◌<◌, ◌≤◌, ◌+◌, ◌⊎◌, ℕ, List, ◌++◌, length, Option, Some, Result, Ok, Err, IfSome}
 use Rattle.std.specs.Io.KnownBytes.{IsAtEnd, Consumes}
 use Rattle.rv_io.specs.Outside.{Files, Told, Rose, IsOver, IsSpent}
 use Rattle.rv_io.specs.declared.reading.ReadError.{ReadError}
@@ -22,12 +22,12 @@ CountsFault before now (Err NoMemory) = now ≡ before
 abbrev pub HasTaken : Option Files → Option (List ℕ) → List ℕ → (ℕ → Type 0) → Type 0
 HasTaken files rest name as_many = IfSome files (λ fs. (taken : List ℕ) × (left : List ℕ) × (fs name ≡ Some (taken ++ left)) × (rest ≡ Some left) × as_many (length taken))
 
--- how much of the file was taken: all of it; at a fault, at most `limit` bytes, or nothing is left; `limit + 1` bytes of a file that is too long; and else at most `limit`
+-- how much of the file was taken: all of it; at a fault, at most `limit` bytes, or nothing is left; `limit + 1` bytes of a file that is too long; and at want of memory at most `limit` bytes and at least one, so that none is wanted of a file of no bytes
 abbrev pub StopsIn : {T : Type 0} → Result T ReadError → Option Files → Option (List ℕ) → List ℕ → ℕ → Type 0
 StopsIn (Ok bytes) files rest name limit = IsSpent files rest
 StopsIn (Err Fault) files rest name limit = IsSpent files rest ⊎ HasTaken files rest name (λ n. n ≤ limit)
 StopsIn (Err (TooLong given)) files rest name limit = HasTaken files rest name (λ n. n ≡ limit + 1)
-StopsIn (Err NoMemory) files rest name limit = HasTaken files rest name (λ n. n ≤ limit)
+StopsIn (Err NoMemory) files rest name limit = HasTaken files rest name (λ n. (0 < n) × (n ≤ limit))
 
 -- the next bytes, n of them, were read after those that were there, and none only at the end
 pub record ReadsOn (old new : Option (List ℕ)) (before after : List ℕ) (n : ℕ) : Type 0 where
@@ -49,8 +49,8 @@ pub record TakesOn (old new : Option (List ℕ)) (as_many : ℕ → Type 0) : Ty
   pub consumed : Consumes old new taken
   pub count : as_many (length taken)
 
--- why no more was read, where so many bytes were read before, and how many were taken
+-- why no more was read, where so many bytes were read before, and how many were taken: where memory is wanted, one byte at least was read
 abbrev pub RefusesMore : Told → Told → ℕ → ℕ → ReadError → Type 0
 RefusesMore old new before limit Fault = Rose old.faults new.faults × TakesOn old.rest new.rest (λ n. before + n ≤ limit)
 RefusesMore old new before limit (TooLong given) = (given ≡ limit) × TakesOn old.rest new.rest (λ n. before + n ≡ limit + 1)
-RefusesMore old new before limit NoMemory = TakesOn old.rest new.rest (λ n. before + n ≤ limit)
+RefusesMore old new before limit NoMemory = TakesOn old.rest new.rest (λ n. (0 < before + n) × (before + n ≤ limit))

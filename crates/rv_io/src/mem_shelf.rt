@@ -85,6 +85,9 @@ impl Shelf for MemShelf {
         ensures leaves { Leaves (⟦<MemShelf as Shelf>⟧.told self.old)
             (⟦<MemShelf as Shelf>⟧.told self.new) }
         ensures counted { IsCounted result self.old.calls self.new.calls }
+        // No memory is wanted of a file of no bytes.
+        ensures alone { file_at self.old.files.items name.now ≡ Some []
+            → OnErr result (IsTrue (is_listed self.old.calls.failing.items self.old.calls.count)) }
     {
         self.picked.clear();
         self.taken = 0;

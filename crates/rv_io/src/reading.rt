@@ -90,6 +90,9 @@ fn read_piece<S: Shelf>(shelf: &mut S, bytes: &mut Vec<u8>, limit: u64) -> Resul
     let Ok(count) = shelf.read(piece) else {
         return Err(ReadError::Fault);
     };
+    if count == 0 {
+        return Ok(0);
+    }
     if count as u64 > room {
         return Err(ReadError::TooLong { limit });
     }

@@ -1,8 +1,10 @@
 -- The item of a script that defines a name.
-use Rattle.std.specs.Prelude.{◌≡◌, ◌++◌, cond, Bool, true, false, ℕ, List, [], ◌∷◌, Option, Some, None}
+use Rattle.std.specs.Prelude.{◌≡◌, ◌⊎◌, ◌++◌, cond, Bool, true, false, ℕ, List, [], ◌∷◌, Option, Some, None, IsSome}
 use Rattle.std.specs.List.{list_any}
 use Rattle.rel_model.specs.declared.syntax.Item.{Item}
 use Rattle.rel_model.specs.declared.syntax.Item.TheVariants.{Function, Program, Command as COMMAND}
+use Rattle.rel_model.specs.declared.syntax.Script.{Script}
+use Rattle.rel_model.specs.Checking.{flaw}
 use Rattle.rel_model.specs.Tokens.{same_text}
 
 -- whether an item defines this name: functions and programs define theirs, and commands none
@@ -10,6 +12,16 @@ abbrev pub defines : List ℕ → Item → Bool
 defines name (Function at own params body) = same_text own name
 defines name (Program at own params decls body result) = same_text own name
 defines name (COMMAND command) = false
+
+-- whether an item is a definition: a function or a program
+abbrev pub is_definition : Item → Bool
+is_definition (Function at own params body) = true
+is_definition (Program at own params decls body result) = true
+is_definition (COMMAND command) = false
+
+-- what may want memory: a script with a definition, and the telling of a fault
+abbrev pub TakesMemory : Script → Type 0
+TakesMemory script = (list_any is_definition script.items.items ≡ true) ⊎ IsSome (flaw script)
 
 -- none of the items defines this name
 abbrev pub NoneDefines : List ℕ → List Item → Type 0

@@ -1,5 +1,5 @@
 -- Faults as the walk over a script keeps them, with their names still in the script, and the first of them so far.
-use Rattle.std.specs.Prelude.{ℕ, List, [], ◌∷◌, Option, Some, None, option_map}
+use Rattle.std.specs.Prelude.{◌≤◌, ◌^◌, ◌⊎◌, ℕ, List, [], ◌∷◌, Option, Some, None, option_map}
 use Rattle.rel_model.specs.declared.syntax.Place.{Place}
 use Rattle.rel_model.specs.declared.faults.TypeFault.{TypeFault}
 use Rattle.rel_model.specs.declared.faults.TypeFault.TheVariants.{Unknown as UNKNOWN, Arity as ARITY, Unassigned as UNASSIGNED, Rank as RANK, Twice as TWICE}
@@ -22,6 +22,11 @@ fault_as (Arity takes given) at name = ARITY at name takes given
 fault_as Unassigned at name = UNASSIGNED at name
 fault_as Rank at name = RANK at name
 fault_as Twice at name = TWICE at name
+
+-- a number of arguments that the fields of a fault do not hold
+abbrev pub IsTooMany : Cause → Type 0
+IsTooMany (Arity takes given) = (2 ^ 32 ≤ takes) ⊎ (2 ^ 32 ≤ given)
+IsTooMany _ = ⊥
 
 -- the number of a cause
 abbrev pub number_as : Cause → ℕ

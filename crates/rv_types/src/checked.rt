@@ -1,9 +1,10 @@
 //! Scripts whose names, arguments, assignments and ranks of definitions are right.
-ghost use Rattle.std.specs.Prelude.{◌≡◌, ◌⊎◌, [], None, Some, option_copied, IfOk, MatchResult};
+ghost use Rattle.std.specs.Prelude.{◌≡◌, ◌⊎◌, [], None, Some, true, option_copied, IfOk, IfErr, OnErr, MatchResult};
+ghost use Rattle.std.specs.List.{list_any};
 ghost use Rattle.rel_model.specs.declared.faults.TypeFault.TheVariants.{NoMemory as NO_MEMORY};
 ghost use Rattle.rel_model.specs.Checking.{first_fault, items_faults, flaw};
 ghost use Rattle.rv_types.specs.Found.{told};
-ghost use Rattle.rv_types.specs.Defining.{IsDefinition};
+ghost use Rattle.rv_types.specs.Defining.{is_definition, IsDefinition, TakesMemory};
 
 use crate::definitions::Definitions;
 use crate::found::{Found, fault_of};
@@ -47,7 +48,8 @@ fn find_fault<'a>(
     definitions: &mut Definitions,
 ) -> Result<Option<Found<'a>>, NoMemory>
     requires { definitions.old ≡ [] }
-    ensures { IfOk result (λ r. told r ≡ first_fault (items_faults [] items.now)) }
+    ensures fault { IfOk result (λ r. told r ≡ first_fault (items_faults [] items.now)) }
+    ensures memory { OnErr result (list_any is_definition items.now ≡ true) }
 {
     let mut found = None;
     'each: for item in items {
@@ -60,7 +62,8 @@ fn find_fault<'a>(
 
 /// Whether a script has no fault: its first one is the error.
 fn find_flaw(alloc: Global, script: &Script) -> Result<(), TypeFault>
-    ensures { MatchResult result (λ _. flaw script.now ≡ None) (λ f. (f ≡ NO_MEMORY) ⊎ (flaw script.now ≡ Some f)) }
+    ensures fault { MatchResult result (λ _. flaw script.now ≡ None) (λ f. (f ≡ NO_MEMORY) ⊎ (flaw script.now ≡ Some f)) }
+    ensures memory { IfErr result (λ f. f ≡ NO_MEMORY → TakesMemory script.now) }
 {
     let mut definitions = Definitions::new(alloc);
     match find_fault(alloc, script.items.as_slice(), &mut definitions) {
@@ -73,9 +76,10 @@ fn find_flaw(alloc: Global, script: &Script) -> Result<(), TypeFault>
     }
 }
 
-/// Decides names, arguments, assignments and ranks of definitions, and the definitions that commands call: the script, or its first fault by place and then by number.
+/// Decides names, arguments, assignments and ranks of definitions, and the definitions that commands call: the script, or its first fault by place and then by number. Commands alone, where they have no fault, take no memory.
 pub fn check(alloc: Global, script: Script) -> Result<Checked, TypeFault>
-    ensures { MatchResult result (λ c. (c ≡ script) × (flaw script ≡ None)) (λ f. (f ≡ NO_MEMORY) ⊎ (flaw script ≡ Some f)) }
+    ensures checked { MatchResult result (λ c. (c ≡ script) × (flaw script ≡ None)) (λ f. (f ≡ NO_MEMORY) ⊎ (flaw script ≡ Some f)) }
+    ensures memory { IfErr result (λ f. f ≡ NO_MEMORY → TakesMemory script) }
 {
     match find_flaw(alloc, &script) {
         Err(fault) => Err(fault),

@@ -1,7 +1,7 @@
 //! Faults on the way, with their names still in the script, and the first of them.
-ghost use Rattle.std.specs.Prelude.{◌≡◌, ◌==◌, ◌&&◌, ◌||◌, nat_lt, length, Some, IfOk};
+ghost use Rattle.std.specs.Prelude.{◌≡◌, ◌==◌, ◌&&◌, ◌||◌, nat_lt, length, Some, IfOk, OnErr};
 ghost use Rattle.rel_model.specs.Checking.{precedes as precedes_as, domain_operator_text};
-ghost use Rattle.rv_types.specs.Found.{number_as, spelled, fault, told, noting};
+ghost use Rattle.rv_types.specs.Found.{number_as, spelled, fault, fault_as, IsTooMany, told, noting};
 
 use rel_model::NoMemory;
 use rel_model::faults::TypeFault;
@@ -104,12 +104,12 @@ fn owned(alloc: Global, name: Spelled) -> Result<Name, NoMemory>
     }
 }
 
-/// The fault that was found. Numbers of arguments that its fields do not hold want memory.
-pub fn fault_of(alloc: Global, found: Found) -> Result<TypeFault, NoMemory>
-    ensures { IfOk result (λ f. f ≡ fault found.entry) }
+/// The fault that was found, with its name. Numbers of arguments that its fields do not hold want memory.
+fn fault_with(found: Found, name: Name) -> Result<TypeFault, NoMemory>
+    ensures fault { IfOk result (λ f. f ≡ fault_as found.entry.cause found.entry.at name) }
+    ensures memory { OnErr result (IsTooMany found.entry.cause) }
 {
     let at = found.at;
-    let name = owned(alloc, found.name)?;
     match found.cause {
         Cause::Unknown => Ok(TypeFault::Unknown { at, name }),
         Cause::Arity { takes, given } => match (u32::try_from(takes), u32::try_from(given)) {
@@ -125,4 +125,12 @@ pub fn fault_of(alloc: Global, found: Found) -> Result<TypeFault, NoMemory>
         Cause::Rank => Ok(TypeFault::Rank { at, name }),
         Cause::Twice => Ok(TypeFault::Twice { at, name }),
     }
+}
+
+/// The fault that was found.
+pub fn fault_of(alloc: Global, found: Found) -> Result<TypeFault, NoMemory>
+    ensures { IfOk result (λ f. f ≡ fault found.entry) }
+{
+    let name = owned(alloc, found.name)?;
+    fault_with(found, name)
 }

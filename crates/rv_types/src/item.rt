@@ -1,8 +1,9 @@
 //! The faults of an item behind the definitions of earlier ones, and what it defines.
-ghost use Rattle.std.specs.Prelude.{◌≡◌, ◌-◌, ◌^◌, ℕ, List, IfOk, OnOk, option_copied};
+ghost use Rattle.std.specs.Prelude.{◌≡◌, ◌-◌, ◌^◌, true, ℕ, List, IfOk, OnOk, OnErr, option_copied};
 ghost use Rattle.rel_model.specs.Checking.{among, faults_by, assigned_by, called_by_all, rank_of as rank_of_item, item_faults, known_with, definition_of, head_faults, decl_faults, faults, function_scope, program_scope as scope_of_program, no_name, command_faults};
 ghost use Rattle.rv_types.specs.Found.{told, noted as noted_all};
 ghost use Rattle.rv_types.specs.Scopes.{scope_of, OfProgram};
+ghost use Rattle.rv_types.specs.Defining.{is_definition};
 ghost use Rattle.rv_types.specs.Items.{value_of_command, called_by_item, RanksWithin};
 
 use crate::declarations::{check_decls, domains, variables};
@@ -189,7 +190,7 @@ fn check_command<'a>(
     }
 }
 
-/// The first fault so far and of an item of this rank.
+/// The first fault so far and of an item of this rank. A command takes no memory.
 #[tactic(auto, unfolding(rel_model::specs::Checking::item_faults))]
 pub fn check_item<'a>(
     alloc: Global,
@@ -199,7 +200,8 @@ pub fn check_item<'a>(
     so_far: Option<Found<'a>>,
 ) -> Result<Option<Found<'a>>, NoMemory>
     requires { rank ≡ rank_of_item earlier.now item.now }
-    ensures { IfOk result (λ r. told r ≡ noted_all (told so_far.entry) (item_faults earlier.now item.now)) }
+    ensures fault { IfOk result (λ r. told r ≡ noted_all (told so_far.entry) (item_faults earlier.now item.now)) }
+    ensures memory { OnErr result (is_definition item.now ≡ true) }
 {
     match item {
         Item::Function {
@@ -246,7 +248,7 @@ pub fn check_item<'a>(
     }
 }
 
-/// The definitions up to and with an item of this rank.
+/// The definitions up to and with an item of this rank. A command takes no memory.
 #[tactic(auto, unfolding(rel_model::specs::Checking::known_with))]
 pub fn define(
     alloc: Global,
@@ -255,7 +257,8 @@ pub fn define(
     rank: usize,
 ) -> Result<(), NoMemory>
     requires { rank ≡ rank_of_item definitions.old item.now }
-    ensures { OnOk result ((n : List ℕ) → definition_of definitions.new n ≡ definition_of (known_with definitions.old item.now) n) }
+    ensures known { OnOk result ((n : List ℕ) → definition_of definitions.new n ≡ definition_of (known_with definitions.old item.now) n) }
+    ensures memory { OnErr result (is_definition item.now ≡ true) }
 {
     match item {
         Item::Function { name, params, .. } => {

@@ -1,9 +1,9 @@
 //! The items of a script that define names, by these names.
-ghost use Rattle.std.specs.Prelude.{◌≡◌, cond, ℕ, List, [], Some, None, IfOk, OnOk};
+ghost use Rattle.std.specs.Prelude.{◌≡◌, cond, true, ℕ, List, [], Some, None, IfOk, OnOk, OnErr};
 ghost use Rattle.std.specs.Option.{option_or};
-ghost use Rattle.std.specs.List.{position_from};
+ghost use Rattle.std.specs.List.{position_from, list_any};
 ghost use Rattle.rel_model.specs.Tokens.{same_text};
-ghost use Rattle.rv_types.specs.Defining.{defines, number_beside};
+ghost use Rattle.rv_types.specs.Defining.{defines, is_definition, number_beside};
 
 use indexmap::IndexMap;
 use rel_model::NoMemory;
@@ -58,7 +58,8 @@ impl ItemsByName {
 
     /// One more item, where it defines a name and none before it does.
     fn add_item(&mut self, alloc: Global, item: &Item, number: usize) -> Result<(), NoMemory>
-        ensures { OnOk result ((n : List ℕ) → number_beside self.new n ≡ option_or (number_beside self.old n) (cond (defines n item.now) (Some number) None)) }
+        ensures numbers { OnOk result ((n : List ℕ) → number_beside self.new n ≡ option_or (number_beside self.old n) (cond (defines n item.now) (Some number) None)) }
+        ensures memory { OnErr result (is_definition item.now ≡ true) }
     {
         match item {
             Item::Function { name, .. } => self.add(alloc, name.bytes(), number),
@@ -70,7 +71,8 @@ impl ItemsByName {
 
 /// The items that define names.
 pub fn items_by_name(alloc: Global, items: &[Item]) -> Result<ItemsByName, NoMemory>
-    ensures { IfOk result (λ m. (name : List ℕ) → number_beside m name ≡ position_from (defines name) 0 items.now) }
+    ensures numbers { IfOk result (λ m. (name : List ℕ) → number_beside m name ≡ position_from (defines name) 0 items.now) }
+    ensures memory { OnErr result (list_any is_definition items.now ≡ true) }
 {
     let mut by_name = ItemsByName::new(alloc);
     'each: for number in 0..items.len() {

@@ -20,6 +20,8 @@ impl Core for Counting {
 
     ghost lean = { false };
 
+    ghost least = { 3 };
+
     ghost valid = { λ c r h. valid_law c.plain r h };
 
     ghost row_size = { λ c r h. rows_law c.plain r h };

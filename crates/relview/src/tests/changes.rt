@@ -1,4 +1,9 @@
 //! Every change of one byte and every truncation of small scripts.
+#![tactic(auto, unfolding(rel_model::specs::Trees::bottom_height))]
+
+ghost use Rattle.std.specs.Prelude.{◌≡◌};
+ghost use Rattle.rel_model.specs.Trees.{bottom_height};
+
 use super::rules::page_by_the_rules;
 use super::runs::{page_over, small_table};
 use fork_quads::{Crew, OpenGate};
@@ -14,7 +19,9 @@ fn assert_by_the_rules<E: Engine>(
     alloc: Global,
     engine: &mut E,
     text: &[u8],
-) -> Result<bool, Fail> {
+) -> Result<bool, Fail>
+    requires { E.least ≡ bottom_height }
+{
     let (page, status) = page_by_the_rules(alloc, text)?;
     let (written, told) = page_over(rt, alloc, engine, text)?;
     let shown = format!(in alloc; "{text:?}")?;

@@ -1,4 +1,6 @@
 //! A run over a table that has no vacant word.
+#![tactic(auto, unfolding(rel_model::specs::Trees::bottom_height))]
+
 use super::runs::{assert_over, small_table};
 use fork_quads::{Crew, OpenGate};
 use rel_engine::Works;

@@ -1,4 +1,6 @@
 //! Pages, histories and outcomes of worked scripts.
+#![tactic(auto, unfolding(rel_model::specs::Trees::bottom_height))]
+
 use super::runs::{assert_over, assert_page, history_of, outcomes_of, run, small_table};
 use fork_quads::{Crew, OpenGate};
 use rel_engine::Works;

@@ -1,4 +1,6 @@
 //! Runs of the top call over a shelf and a sink in memory.
+ghost use Rattle.std.specs.Prelude.{◌≡◌};
+ghost use Rattle.rel_model.specs.Trees.{bottom_height};
 ghost use Rattle.rel_model.specs.Views.{IsOf};
 
 use crate::session::run_script;
@@ -98,7 +100,9 @@ pub fn page_over<E: Engine>(
     alloc: Global,
     engine: &mut E,
     text: &[u8],
-) -> Result<(Vec<u8>, u8), Fail> {
+) -> Result<(Vec<u8>, u8), Fail>
+    requires { E.least ≡ bottom_height }
+{
     assert!(rt; text.len() <= 1_048_576);
     match parse_first(alloc, text) {
         Ok(script) => {
@@ -123,7 +127,9 @@ pub fn assert_over<E: Engine>(
     text: &str,
     page: &str,
     status: u8,
-) -> Result<(), Fail> {
+) -> Result<(), Fail>
+    requires { E.least ≡ bottom_height }
+{
     let (written, told) = page_over(rt, alloc, engine, text.as_bytes())?;
     assert_eq!(rt; str::from_utf8(written.as_slice())?, page, "at {text}");
     assert_eq!(rt; told, status, "at {text}");

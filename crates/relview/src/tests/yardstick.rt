@@ -1,5 +1,8 @@
 //! Expressions over the table beside plain relations.
+#![tactic(auto, unfolding(rel_model::specs::Trees::bottom_height))]
+
 ghost use Rattle.std.specs.Prelude.{◌≡◌, length, All};
+ghost use Rattle.rel_model.specs.Trees.{bottom_height};
 ghost use Rattle.rel_model.specs.Worker.{Stands};
 ghost use Rattle.relview.specs.Ran.{IsFirstItem};
 ghost use Rattle.relview.specs.Names.{AllStand};
@@ -25,6 +28,7 @@ fn reply_to<C: Core>(
     names: &[(Name, Rel)],
     script: &Script,
 ) -> Result<Vec<u8>, Fail>
+    requires blocks { C.least ≡ bottom_height }
     requires standing { AllStand (C.worker core.old) names.now }
     requires first { All IsFirstItem script.now.items.items }
 {
@@ -45,7 +49,9 @@ fn shown_over<C: Core>(
     alloc: Global,
     core: &mut C,
     text: &str,
-) -> Result<Vec<u8>, Fail> {
+) -> Result<Vec<u8>, Fail>
+    requires { C.least ≡ bottom_height }
+{
     assert!(rt; text.len() <= 1_048_576);
     let shape = Shape { rows: 3, cols: 3 };
     let Ok(first) = core.single(shape, 0, 1) else {

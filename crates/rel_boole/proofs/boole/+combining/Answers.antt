@@ -301,7 +301,7 @@ pub combined-returns-in-Some-clause-stood : goal.combined-returns-in-Some-clause
 combined-returns-in-Some-clause-stood t c q s =
     let w = c.args.nodes.now in
     let i = c.bottom-bottom.ensures.work in
-    found_is w w c.args.a.height (cells_by c.args.op (quad_cells w c.args.a) (quad_cells w c.args.b)) c.in-Some.found (reads_itself w i) (c.in-Some.ensures w i c.requires.a_stands c.requires.b_stands c.requires.one_height) q s
+    found_is w w c.args.a.height (cells_by c.args.op (quad_cells w c.args.a) (quad_cells w c.args.b)) c.in-Some.found (reads_itself w i) (c.in-Some.ensures.value w i c.requires.a_stands c.requires.b_stands c.requires.one_height) q s
 
 pub combined-returns-clause-value : goal.combined-returns-clause-value
 combined-returns-clause-value t c =

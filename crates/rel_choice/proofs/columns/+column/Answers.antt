@@ -4,7 +4,7 @@ use Rattle.rel_choice.proofs.RowHalves.{leaf-side}
 use Rattle.rel_choice.proofs.columns.+column.Goals as goal
 
 pub column_from-column_in-requires-clause-small : goal.column_from-column_in-requires-clause-small
-column_from-column_in-requires-clause-small g t c = leaf-side c.args.quad.height g.Q.Quads.least c.side_of-side.result (c.if-quad-bottom.true ∙ c.bottom.ensures) g.met.Q.Quads.least_limit c.side_of-side.ensures
+column_from-column_in-requires-clause-small g t c = leaf-side c.args.quad.height g.Q.Core.least c.side_of-side.result (c.if-quad-bottom.true ∙ c.bottom.ensures) g.met.Q.Quads.least_limit c.side_of-side.ensures
 
 pub column_of_two-side_of-half-requires : goal.column_of_two-side_of-half-requires
 unfolding top_height

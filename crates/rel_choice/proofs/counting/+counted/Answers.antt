@@ -13,7 +13,7 @@ counted-returns-then-quad-eq0-clause-value g t c =
 
 pub counted-returns-then-quad-bottom-clause-value : goal.counted-returns-then-quad-bottom-clause-value
 counted-returns-then-quad-bottom-clause-value g t c =
-    c.from.ensures ∙ leaf-count (g.Q.Core.worker c.args.q.now) c.args.quad g.Q.Quads.least c.bits-bits.result (c.if-quad-bottom.true ∙ c.bottom.ensures) c.bits-bits.ensures.cells c.bits-bits.ensures.none_past
+    c.from.ensures ∙ leaf-count (g.Q.Core.worker c.args.q.now) c.args.quad g.Q.Core.least c.bits-bits.result (c.if-quad-bottom.true ∙ c.bottom.ensures) c.bits-bits.ensures.cells c.bits-bits.ensures.none_past
 
 pub counted-returns-in-Some-clause-value : goal.counted-returns-in-Some-clause-value
 counted-returns-in-Some-clause-value g t c =

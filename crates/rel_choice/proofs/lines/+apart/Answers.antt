@@ -18,7 +18,7 @@ are_apart-returns-then-b-eq0-clause-value g t c =
     none-apart_right (g.Q.Core.worker c.args.q.now) c.args.a c.args.b c.if-b-eq0.true (g.met.Q.Quads.none c.args.q.now c.args.b.height l h)
 
 pub are_apart-leaves_are_apart-requires : goal.are_apart-leaves_are_apart-requires
-are_apart-leaves_are_apart-requires g t c = leaf-side c.args.a.height g.Q.Quads.least c.side_of-side.result (c.if-a-bottom.true ∙ c.bottom.ensures) g.met.Q.Quads.least_limit c.side_of-side.ensures
+are_apart-leaves_are_apart-requires g t c = leaf-side c.args.a.height g.Q.Core.least c.side_of-side.result (c.if-a-bottom.true ∙ c.bottom.ensures) g.met.Q.Quads.least_limit c.side_of-side.ensures
 
 pub are_apart_over-returns-then-not-are_halves_apart-clause-value : goal.are_apart_over-returns-then-not-are_halves_apart-clause-value
 are_apart_over-returns-then-not-are_halves_apart-clause-value g t c =

@@ -12,7 +12,7 @@ is_single-returns-then-quad-eq0-clause-value g t c =
     none-single (g.Q.Core.worker c.args.q.now) c.args.quad c.if-quad-eq0.true (g.met.Q.Quads.none c.args.q.now c.args.quad.height l h)
 
 pub is_single-leaf_is_single-requires : goal.is_single-leaf_is_single-requires
-is_single-leaf_is_single-requires g t c = leaf-side c.args.quad.height g.Q.Quads.least c.side_of-side.result (c.if-quad-bottom.true ∙ c.bottom.ensures) g.met.Q.Quads.least_limit c.side_of-side.ensures
+is_single-leaf_is_single-requires g t c = leaf-side c.args.quad.height g.Q.Core.least c.side_of-side.result (c.if-quad-bottom.true ∙ c.bottom.ensures) g.met.Q.Quads.least_limit c.side_of-side.ensures
 
 pub is_single_over-returns-then-not-is_single-clause-value : goal.is_single_over-returns-then-not-is_single-clause-value
 is_single_over-returns-then-not-is_single-clause-value g t c =

@@ -9,7 +9,7 @@ pub returns-clause-value : goal.returns-clause-value
 returns-clause-value g c =
     let w = g.Q.Core.worker c.args.q.now in
     let s = c.requires in
-    let least : ℕ = g.Q.Quads.least in
+    let least : ℕ = g.Q.Core.least in
     let m = g.met.Q.Core.row_size c.args.q.now c.args.r s in
     let n = g.met.Q.Core.col_size c.args.q.now c.args.r s in
     let a = height_over-rows least c.args.r.rows c.args.r.cols (g.met.Q.Core.row_limit c.args.q.now c.args.r s) in

@@ -12,7 +12,7 @@ row_from-returns-then-quad-eq0-clause-value g t c =
     none-least (g.Q.Core.worker c.args.q.now) c.args.quad c.args.from c.args.below (g.met.Q.Quads.none c.args.q.now c.args.quad.height l h) (inl c.if-quad-eq0.true)
 
 pub row_from-row_in-requires-clause-small : goal.row_from-row_in-requires-clause-small
-row_from-row_in-requires-clause-small g t c = leaf-side c.args.quad.height g.Q.Quads.least c.side_of-side.result (c.if-quad-bottom.true ∙ c.bottom.ensures) g.met.Q.Quads.least_limit c.side_of-side.ensures
+row_from-row_in-requires-clause-small g t c = leaf-side c.args.quad.height g.Q.Core.least c.side_of-side.result (c.if-quad-bottom.true ∙ c.bottom.ensures) g.met.Q.Quads.least_limit c.side_of-side.ensures
 
 pub row_over-side_of-half-requires : goal.row_over-side_of-half-requires
 unfolding top_height

@@ -15,7 +15,7 @@ returns-clause-value g t c =
     let b = c.bottom.ensures in
     let low = c.requires.low in
     let high = c.requires.high in
-    let over : g.Q.Quads.least < h = omega (arith, n, b, low) in
+    let over : g.Q.Core.least < h = omega (arith, n, b, low) in
     let none : Quad = record { height = h - 1; name = 0 } in
     let given : GivesQuad u (h - 1) no_cells none = record { means = g.met.Q.Quads.none c.steps_of.new.q (h - 1) (omega (arith, over)) (omega (arith, high)); same_height = refl } in
     steps-next u v w h c.in_ok-below.below none c.in_ok-whole.whole c.in_ok-carry.carry (omega (arith, over)) c.in_ok-below.ensures.value given c.in_ok-whole.ensures.keeps c.in_ok-carry.ensures.keeps c.in_ok-whole.ensures.value c.in_ok-carry.ensures.value

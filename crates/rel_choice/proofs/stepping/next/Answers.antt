@@ -20,7 +20,7 @@ returns-then-v-lt2-clause-room g c = let r = operator-derived c.args.v.rows 1 in
 
 pub returns-in_err-step-clause-room : goal.returns-in_err-step-clause-room
 returns-in_err-step-clause-room g c =
-    let r = next-room g.Q.Quads.least c.args.v.rows g.met.Q.Quads.least_limit c.if-v-lt2.false (g.met.Q.Core.row_limit c.args.q.now c.args.v c.requires.stands) in
+    let r = next-room g.Q.Core.least c.args.v.rows g.met.Q.Quads.least_limit c.if-v-lt2.false (g.met.Q.Core.row_limit c.args.q.now c.args.v c.requires.stands) in
     let m = c.in_err-step.ensures.room in
     omega (arith, r, m)
 
@@ -43,7 +43,7 @@ returns-clause-value g c =
 pub returns-clause-room : goal.returns-clause-room
 returns-clause-room g c =
     let n : ℕ = c.args.v.rows in
-    let r = next-room g.Q.Quads.least n g.met.Q.Quads.least_limit c.if-v-lt2.false (g.met.Q.Core.row_limit c.args.q.now c.args.v c.requires.stands) in
+    let r = next-room g.Q.Core.least n g.met.Q.Quads.least_limit c.if-v-lt2.false (g.met.Q.Core.row_limit c.args.q.now c.args.v c.requires.stands) in
     let step = c.in_ok-step.ensures.value in
     let k = c.in_ok-step.ensures.room in
     let m = c.compose.ensures.room in

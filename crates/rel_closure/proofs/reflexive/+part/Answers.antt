@@ -28,6 +28,18 @@ returns-in_err-both-clause-room g t c =
     let r = halves_room (c.args.count / 2) (c.args.count - c.args.count / 2) c.args.count (operator_room c.args.n c.args.n) (omega (arith, some, more)) (omega (arith, some, more)) (omega arith) in
     omega (arith, a, b, u, same, r)
 
+pub returns-clause-room : goal.returns-clause-room
+returns-clause-room g t c =
+    let a = c.in_ok-left.ensures.room in
+    let b = c.in_ok-right.ensures.room in
+    let u = c.in_ok-both.ensures.room in
+    let left = c.in_ok-left.ensures.value in
+    let same : operator_room c.in_ok-left.left.rows c.in_ok-left.left.cols ≡ operator_room c.args.n c.args.n = ap (λ m. operator_room m c.in_ok-left.left.cols) left.row_size ∙ ap (operator_room c.args.n) left.col_size in
+    let some = c.requires.some in
+    let more = c.if-count-eq1.false in
+    let r = halves_room (c.args.count / 2) (c.args.count - c.args.count / 2) c.args.count (operator_room c.args.n c.args.n) (omega (arith, some, more)) (omega (arith, some, more)) (omega arith) in
+    omega (arith, a, b, u, same, r)
+
 pub returns-clause-value : goal.returns-clause-value
 returns-clause-value g t c =
     halves_given (g.C.Core.worker c.part.new.core) (g.C.Core.worker c.part-2.new.core) (g.C.Core.worker c.union.new.self) c.args.n c.args.first (c.args.count / 2) c.args.count c.in_ok-left.left c.in_ok-right.right c.in_ok-both.both

@@ -1,9 +1,12 @@
 use Rattle.std.proofs.Common.{◌≡◌, ◌<◌, ◌≤◌, ◌+◌, ◌-◌, ◌*◌, ◌^◌, ◌∙◌, ℕ, refl, sym, ap, subst, arith}
+use Rattle.rel_model.specs.Relation.{Relation}
+use Rattle.rel_model.specs.Closures.{walks_within}
 use Rattle.rel_model.specs.Algebra.{HasType}
 use Rattle.rel_model.specs.Worker.{set_of, height_of}
 use Rattle.rel_model.proofs.Workers.{keeps_itself, keeps_trans}
+use Rattle.rel_model.proofs.Walking.{walks_within-enough}
 use Rattle.rel_model.proofs.Rooms.{operator_room-most, product_room-most}
-use Rattle.rel_closure.proofs.Closing.{first_given, squared_given, still_given, enough_given, as_high, round_room, rounds_room, fewer_rounds, next_power}
+use Rattle.rel_closure.proofs.Closing.{first_given, squared_given, still_given, still_enough, enough_given, as_high, round_room, rounds_room, fewer_rounds, next_power}
 use Rattle.std.proofs.Math.Nat.{one-le-pow}
 use Rattle.rel_closure.proofs.transitive.trans_counted.Goals as goal
 
@@ -136,6 +139,21 @@ returns-then-same-clause-value g c =
     still_given (g.C.Core.worker c.squares.core) (g.C.Core.worker c.compose.new.self) (g.C.Core.worker c.union.new.self) c.squares.reach (set_of (g.C.Core.worker o) c.args.r) c.args.r c.squares.walks c.in_ok-more.more
     t some c.squares.invariant.gives c.in_ok-square.ensures.keeps c.in_ok-more.ensures.keeps more (c.same.ensures.0 c.if-same.true)
 
+pub returns-then-same-clause-enough : goal.returns-then-same-clause-enough
+returns-then-same-clause-enough g c =
+    let laws = g.met.C.Core in
+    let o = c.args.core.now in
+    let R : Relation = set_of (g.C.Core.worker o) c.args.r in
+    let t : HasType c.args.r.rows c.args.r.rows R = record { valid = laws.valid o c.args.r c.requires.standing; row_size = laws.row_size o c.args.r c.requires.standing; col_size = laws.col_size o c.args.r c.requires.standing ∙ sym c.requires.square } in
+    let some : 0 < c.squares.reach = (let z = one-le-pow (c.squares.steps - c.args.steps.now) 2 (omega arith) in let y = c.squares.invariant.power in omega (arith, z, y)) in
+    let more = squared_given (g.C.Core.worker c.squares.core) (g.C.Core.worker c.compose.new.self) (g.C.Core.worker c.union.new.self) c.squares.reach R c.args.r c.squares.walks c.in_ok-square.square c.in_ok-more.more
+    t some c.squares.invariant.gives c.in_ok-square.ensures.keeps c.in_ok-square.ensures.value c.in_ok-more.ensures.value in
+    let p = next_power c.args.steps.now c.squares.steps c.squares.reach c.squares.invariant.rises c.squares.invariant.power in
+    let q = ap (λ (x : ℕ). 2 ^ (x - c.args.steps.now)) c.step.ensures ∙ p in
+    still_enough (g.C.Core.worker c.squares.core) (g.C.Core.worker c.compose.new.self) (g.C.Core.worker c.union.new.self) c.squares.reach R c.args.r c.squares.walks c.in_ok-more.more
+    t some c.squares.invariant.gives c.in_ok-square.ensures.keeps c.in_ok-more.ensures.keeps more (c.same.ensures.0 c.if-same.true)
+    ∙ ap (λ (x : ℕ). walks_within x R) (sym q)
+
 pub squares-preserved : goal.squares-preserved
 squares-preserved g c =
     let laws = g.met.C.Core in
@@ -183,6 +201,15 @@ returns-clause-value g c =
     let t : HasType c.args.r.rows c.args.r.rows (set_of (g.C.Core.worker o) c.args.r) = record { valid = laws.valid o c.args.r c.requires.standing; row_size = laws.row_size o c.args.r c.requires.standing; col_size = laws.col_size o c.args.r c.requires.standing ∙ sym c.requires.square } in
     let over = c.squares-test.false in
     enough_given (g.C.Core.worker c.squares.core) c.squares.reach (set_of (g.C.Core.worker o) c.args.r) c.args.r c.squares.walks t (omega (arith, over)) c.squares.invariant.gives
+
+pub returns-clause-enough : goal.returns-clause-enough
+returns-clause-enough g c =
+    let laws = g.met.C.Core in
+    let o = c.args.core.now in
+    let R : Relation = set_of (g.C.Core.worker o) c.args.r in
+    let t : HasType c.args.r.rows c.args.r.rows R = record { valid = laws.valid o c.args.r c.requires.standing; row_size = laws.row_size o c.args.r c.requires.standing; col_size = laws.col_size o c.args.r c.requires.standing ∙ sym c.requires.square } in
+    let over = c.squares-test.false in
+    sym (walks_within-enough c.args.r.rows c.squares.reach R t (omega (arith, over))) ∙ ap (λ (x : ℕ). walks_within x R) (sym c.squares.invariant.power)
 
 pub returns-clause-room : goal.returns-clause-room
 returns-clause-room g c =

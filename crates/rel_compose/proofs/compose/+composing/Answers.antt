@@ -1,8 +1,11 @@
 use Rattle.std.proofs.Common.{◌∙◌, refl, sym, ◌≤◌, ◌+◌, ◌-◌, ℕ, Ok, arith}
-use Rattle.rel_model.specs.Quads.{compose_room}
+use Rattle.rel_model.specs.Quads.{compose_room, quad_cells}
 use Rattle.rel_model.proofs.QuadLaws.{keeps_on, keeps_most, quad_stays, is_quad-stays, reads_itself}
 use Rattle.std.proofs.lemmas.Bool.{false≢true}
-use Rattle.rel_compose.proofs.Finding.{full_again, full_block_found}
+use Rattle.rel_model.specs.Cells.{cells_compose}
+use Rattle.rel_model.specs.Equations.{side_of}
+use Rattle.quad_nodes.proofs.Finding.{found_is}
+use Rattle.rel_compose.proofs.Finding.{composed_low, full_again, full_block_found}
 use Rattle.rel_model.proofs.Rooms.{compose_room-next}
 use Rattle.rel_compose.specs.Products.{quarter_room}
 use Rattle.rel_compose.proofs.Multiplying.{composed_none-left, composed_none-right, both_stay, both_at, product_value, products_value, squares, squares-stay, composed_value, composed_now, composed_after, row_below}
@@ -243,3 +246,27 @@ compose_quads-returns-then-both_full-clause-full t c e f = record { answer = ref
 
 pub compose_quads-returns-clause-full : goal.compose_quads-returns-clause-full
 compose_quads-returns-clause-full t c e f = absurd (false≢true (sym c.if-both_full.false ∙ c.both_full.ensures.only_full e f))
+
+-- ---- blocks
+pub compose_quads-returns-then-a-eq0-clause-blocks : goal.compose_quads-returns-then-a-eq0-clause-blocks
+compose_quads-returns-then-a-eq0-clause-blocks t c e q s =
+    let w = c.args.nodes.now in
+    let a = c.args.a in
+    let i = c.bottom-bottom.ensures.work in
+    found_is w w c.args.a.height (cells_compose (side_of c.args.a.height) (quad_cells w a) (quad_cells w c.args.b)) a (reads_itself w i) (composed_none-left w a c.args.b i c.requires.a_stands c.if-a-eq0.true) q s
+
+pub compose_quads-returns-then-b-eq0-clause-blocks : goal.compose_quads-returns-then-b-eq0-clause-blocks
+compose_quads-returns-then-b-eq0-clause-blocks t c e q s =
+    let w = c.args.nodes.now in
+    let b = c.args.b in
+    let i = c.bottom-bottom.ensures.work in
+    found_is w w c.args.a.height (cells_compose (side_of c.args.a.height) (quad_cells w c.args.a) (quad_cells w b)) b (reads_itself w i) (composed_none-right w c.args.a b i c.requires.b_stands c.requires.one_height c.if-b-eq0.true) q s
+
+pub compose_quads-returns-then-a-bottom-clause-blocks : goal.compose_quads-returns-then-a-bottom-clause-blocks
+compose_quads-returns-then-a-bottom-clause-blocks t c e = composed_low c.args.nodes.now c.leaf.new.nodes c.args.a c.args.b c.leaf.result c.bottom-bottom.ensures.work e c.leaf.ensures.stood
+
+pub compose_quads-returns-then-both_full-clause-blocks : goal.compose_quads-returns-then-both_full-clause-blocks
+compose_quads-returns-then-both_full-clause-blocks t c e = absurd (c.if-a-bottom.false (e ∙ sym c.bottom-bottom.ensures.height))
+
+pub compose_quads-returns-clause-blocks : goal.compose_quads-returns-clause-blocks
+compose_quads-returns-clause-blocks t c e = absurd (c.if-a-bottom.false (e ∙ sym c.bottom-bottom.ensures.height))

@@ -13,7 +13,7 @@ returns-then-passes_by-clause-value g t c =
     let laws = g.met.Q.Quads in
     let v = c.args.vector in
     let o = c.args.q.now in
-    let h = 2 ^ (g.Q.Quads.least + c.args.depth) in
+    let h = 2 ^ (g.Q.Core.least + c.args.depth) in
     let e : 2 ^ v.height ≡ h = ap (λ n. 2 ^ n) c.requires.height in
     let f = first_column (quad_set (g.Q.Core.worker o) v) in
     let n = c.requires.many ∙ ap (λ k. count_below k f) e in
@@ -22,41 +22,41 @@ returns-then-passes_by-clause-value g t c =
 
 pub ranks-requires : goal.ranks-requires
 ranks-requires g t c κs within =
-    let p = halves_first _ _ _ g.Q.Quads.least c.args.depth c.args.many c.elements-above.result c.args.vector c.quarters.result c.if-depth-eq0.false c.requires.height c.quarters.ensures.quarters c.requires.many c.elements-above.ensures.count c.elements-above.ensures.keeps in
-    let s = side_step g.Q.Quads.least c.args.depth c.if-depth-eq0.false in
+    let p = halves_first _ _ _ g.Q.Core.least c.args.depth c.args.many c.elements-above.result c.args.vector c.quarters.result c.if-depth-eq0.false c.requires.height c.quarters.ensures.quarters c.requires.many c.elements-above.ensures.count c.elements-above.ensures.keeps in
+    let s = side_step g.Q.Core.least c.args.depth c.if-depth-eq0.false in
     (search rules, (within, (p.upper_stands, (p.upper_height, (p.upper_many, (omega (arith, s, c.requires.row), (let f = p.fits in omega (arith, f, c.requires.before))))))))
 
 pub overflow_sub-many : goal.overflow_sub-many
 overflow_sub-many g t c =
-    let p = halves_first _ _ _ g.Q.Quads.least c.args.depth c.args.many c.elements-above.result c.args.vector c.quarters.result c.if-depth-eq0.false c.requires.height c.quarters.ensures.quarters c.requires.many c.elements-above.ensures.count c.elements-above.ensures.keeps in
+    let p = halves_first _ _ _ g.Q.Core.least c.args.depth c.args.many c.elements-above.result c.args.vector c.quarters.result c.if-depth-eq0.false c.requires.height c.quarters.ensures.quarters c.requires.many c.elements-above.ensures.count c.elements-above.ensures.keeps in
     let f = p.fits in omega (arith, f)
 
 pub ranks-requires-2 : goal.ranks-requires-2
 ranks-requires-2 g t c κs within =
-    let p2 = halves_first _ _ _ g.Q.Quads.least c.args.depth c.args.many c.elements-above.result c.args.vector c.quarters.result c.if-depth-eq0.false c.requires.height c.quarters.ensures.quarters c.requires.many c.elements-above.ensures.count c.elements-above.ensures.keeps in
+    let p2 = halves_first _ _ _ g.Q.Core.least c.args.depth c.args.many c.elements-above.result c.args.vector c.quarters.result c.if-depth-eq0.false c.requires.height c.quarters.ensures.quarters c.requires.many c.elements-above.ensures.count c.elements-above.ensures.keeps in
     let p = halves_later _ _ _ _ _ _ _ _ _ c.in_ok-nw.ensures.keeps p2 in
-    let s = side_step g.Q.Quads.least c.args.depth c.if-depth-eq0.false in
+    let s = side_step g.Q.Core.least c.args.depth c.if-depth-eq0.false in
     (search rules, (within, (p.lower_stands, (p.lower_height, (p.lower_many, (omega (arith, s, c.requires.row), (let f = p.fits in omega (arith, f, c.requires.before))))))))
 
 pub ranks-requires-3 : goal.ranks-requires-3
 ranks-requires-3 g t c κs within =
-    let p2 = halves_first _ _ _ g.Q.Quads.least c.args.depth c.args.many c.elements-above.result c.args.vector c.quarters.result c.if-depth-eq0.false c.requires.height c.quarters.ensures.quarters c.requires.many c.elements-above.ensures.count c.elements-above.ensures.keeps in
+    let p2 = halves_first _ _ _ g.Q.Core.least c.args.depth c.args.many c.elements-above.result c.args.vector c.quarters.result c.if-depth-eq0.false c.requires.height c.quarters.ensures.quarters c.requires.many c.elements-above.ensures.count c.elements-above.ensures.keeps in
     let p = halves_later _ _ _ _ _ _ _ _ _ c.in_ok-ne.ensures.keeps (halves_later _ _ _ _ _ _ _ _ _ c.in_ok-nw.ensures.keeps p2) in
-    let s = side_step g.Q.Quads.least c.args.depth c.if-depth-eq0.false in
-    let half : c.side_of-half.result ≡ 2 ^ (g.Q.Quads.least + (c.args.depth - 1)) = c.side_of-half.ensures ∙ ap (λ k. 2 ^ k) (omega (arith, c.requires.height, c.if-depth-eq0.false)) in
+    let s = side_step g.Q.Core.least c.args.depth c.if-depth-eq0.false in
+    let half : c.side_of-half.result ≡ 2 ^ (g.Q.Core.least + (c.args.depth - 1)) = c.side_of-half.ensures ∙ ap (λ k. 2 ^ k) (omega (arith, c.requires.height, c.if-depth-eq0.false)) in
     (search rules, (within, (p.upper_stands, (p.upper_height, (p.upper_many, (omega (arith, s, half, c.requires.row), (let f = p.fits in omega (arith, f, c.requires.before))))))))
 
 pub overflow_sub-many-2 : goal.overflow_sub-many-2
 overflow_sub-many-2 g t c =
-    let p = halves_first _ _ _ g.Q.Quads.least c.args.depth c.args.many c.elements-above.result c.args.vector c.quarters.result c.if-depth-eq0.false c.requires.height c.quarters.ensures.quarters c.requires.many c.elements-above.ensures.count c.elements-above.ensures.keeps in
+    let p = halves_first _ _ _ g.Q.Core.least c.args.depth c.args.many c.elements-above.result c.args.vector c.quarters.result c.if-depth-eq0.false c.requires.height c.quarters.ensures.quarters c.requires.many c.elements-above.ensures.count c.elements-above.ensures.keeps in
     let f = p.fits in omega (arith, f)
 
 pub ranks-requires-4 : goal.ranks-requires-4
 ranks-requires-4 g t c κs within =
-    let p2 = halves_first _ _ _ g.Q.Quads.least c.args.depth c.args.many c.elements-above.result c.args.vector c.quarters.result c.if-depth-eq0.false c.requires.height c.quarters.ensures.quarters c.requires.many c.elements-above.ensures.count c.elements-above.ensures.keeps in
+    let p2 = halves_first _ _ _ g.Q.Core.least c.args.depth c.args.many c.elements-above.result c.args.vector c.quarters.result c.if-depth-eq0.false c.requires.height c.quarters.ensures.quarters c.requires.many c.elements-above.ensures.count c.elements-above.ensures.keeps in
     let p = halves_later _ _ _ _ _ _ _ _ _ c.in_ok-sw.ensures.keeps (halves_later _ _ _ _ _ _ _ _ _ c.in_ok-ne.ensures.keeps (halves_later _ _ _ _ _ _ _ _ _ c.in_ok-nw.ensures.keeps p2)) in
-    let s = side_step g.Q.Quads.least c.args.depth c.if-depth-eq0.false in
-    let half : c.side_of-half.result ≡ 2 ^ (g.Q.Quads.least + (c.args.depth - 1)) = c.side_of-half.ensures ∙ ap (λ k. 2 ^ k) (omega (arith, c.requires.height, c.if-depth-eq0.false)) in
+    let s = side_step g.Q.Core.least c.args.depth c.if-depth-eq0.false in
+    let half : c.side_of-half.result ≡ 2 ^ (g.Q.Core.least + (c.args.depth - 1)) = c.side_of-half.ensures ∙ ap (λ k. 2 ^ k) (omega (arith, c.requires.height, c.if-depth-eq0.false)) in
     (search rules, (within, (p.lower_stands, (p.lower_height, (p.lower_many, (omega (arith, s, half, c.requires.row), (let f = p.fits in omega (arith, f, c.requires.before))))))))
 
 pub corner-requires-clause-below : goal.corner-requires-clause-below
@@ -73,21 +73,21 @@ corner-requires-2-clause-below g t c =
 
 pub returns-then-above-half-clause-value : goal.returns-then-above-half-clause-value
 returns-then-above-half-clause-value g t c =
-    let d = g.Q.Quads.least + (c.args.depth - 1) in
+    let d = g.Q.Core.least + (c.args.depth - 1) in
     let w1 = g.Q.Core.worker c.quarters.new.self in
     let four = c.quarters.result in
-    let p2 = halves_first _ _ _ g.Q.Quads.least c.args.depth c.args.many c.elements-above.result c.args.vector four c.if-depth-eq0.false c.requires.height c.quarters.ensures.quarters c.requires.many c.elements-above.ensures.count c.elements-above.ensures.keeps in
+    let p2 = halves_first _ _ _ g.Q.Core.least c.args.depth c.args.many c.elements-above.result c.args.vector four c.if-depth-eq0.false c.requires.height c.quarters.ensures.quarters c.requires.many c.elements-above.ensures.count c.elements-above.ensures.keeps in
     let p5 = halves_later _ _ _ _ _ _ _ _ _ c.in_ok-sw.ensures.keeps (halves_later _ _ _ _ _ _ _ _ _ c.in_ok-ne.ensures.keeps (halves_later _ _ _ _ _ _ _ _ _ c.in_ok-nw.ensures.keeps p2)) in
     let one = one_quad four.2 four.0 (let a = p2.upper_height in let b = p2.lower_height in omega (arith, a, b)) c.if-lower-upper.true in
     let same = ap first_column (p2.upper_is ∙ ap (quad_set w1) (sym one) ∙ sym p5.lower_is) in
     let se = ranks_again _ _ _ d c.args.row c.args.before c.side_of-half.result c.elements-above.result _ _ c.in_ok-nw.nw c.if-above-half.true same c.in_ok-nw.ensures.value c.in_ok-ne.ensures.keeps c.in_ok-sw.ensures.keeps in
-    ranks_given _ _ _ _ _ _ _ _ g.Q.Quads.least c.args.depth c.args.many c.args.row c.args.before c.side_of-half.result c.elements-above.result c.args.vector four _ _ _ _ _ c.if-depth-eq0.false c.requires.height
+    ranks_given _ _ _ _ _ _ _ _ g.Q.Core.least c.args.depth c.args.many c.args.row c.args.before c.side_of-half.result c.elements-above.result c.args.vector four _ _ _ _ _ c.if-depth-eq0.false c.requires.height
     c.side_of-half.ensures c.quarters.ensures.quarters c.elements-above.ensures.count p2 c.in_ok-nw.ensures.keeps c.in_ok-nw.ensures.value c.in_ok-ne.ensures.keeps c.in_ok-ne.ensures.value c.in_ok-sw.ensures.keeps c.in_ok-sw.ensures.value
     (keeps_itself _) se c.in_ok-full.ensures.value
 
 pub returns-clause-value : goal.returns-clause-value
 returns-clause-value g t c =
-    let p2 = halves_first _ _ _ g.Q.Quads.least c.args.depth c.args.many c.elements-above.result c.args.vector c.quarters.result c.if-depth-eq0.false c.requires.height c.quarters.ensures.quarters c.requires.many c.elements-above.ensures.count c.elements-above.ensures.keeps in
-    ranks_given _ _ _ _ _ _ _ _ g.Q.Quads.least c.args.depth c.args.many c.args.row c.args.before c.side_of-half.result c.elements-above.result c.args.vector c.quarters.result _ _ _ _ _ c.if-depth-eq0.false c.requires.height
+    let p2 = halves_first _ _ _ g.Q.Core.least c.args.depth c.args.many c.elements-above.result c.args.vector c.quarters.result c.if-depth-eq0.false c.requires.height c.quarters.ensures.quarters c.requires.many c.elements-above.ensures.count c.elements-above.ensures.keeps in
+    ranks_given _ _ _ _ _ _ _ _ g.Q.Core.least c.args.depth c.args.many c.args.row c.args.before c.side_of-half.result c.elements-above.result c.args.vector c.quarters.result _ _ _ _ _ c.if-depth-eq0.false c.requires.height
     c.side_of-half.ensures c.quarters.ensures.quarters c.elements-above.ensures.count p2 c.in_ok-nw.ensures.keeps c.in_ok-nw.ensures.value c.in_ok-ne.ensures.keeps c.in_ok-ne.ensures.value c.in_ok-sw.ensures.keeps c.in_ok-sw.ensures.value
     c.in_ok-se.ensures.keeps c.in_ok-se.ensures.value c.in_ok-corner.ensures.value

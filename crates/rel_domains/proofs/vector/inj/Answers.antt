@@ -17,14 +17,14 @@ ranks-requires-clause-row g c =
     let o = c.args.q.now in
     let l = g.met.Q.Quads.high_height o c.root-vector.result (gives_has (g.Q.Core.worker o) _ _ c.root-vector.result c.root-vector.ensures) in
     let b = g.met.Q.Quads.low_height o c.root-vector.result (gives_has (g.Q.Core.worker o) _ _ c.root-vector.result c.root-vector.ensures) in
-    side_limit (g.Q.Quads.least + (c.root-vector.result.height - c.bottom.result)) (omega (arith, l, b, c.bottom.ensures))
+    side_limit (g.Q.Core.least + (c.root-vector.result.height - c.bottom.result)) (omega (arith, l, b, c.bottom.ensures))
 
 pub rel-requires-clause-height : goal.rel-requires-clause-height
 rel-requires-clause-height g c =
     let laws = g.met.Q.Core in
     let o = c.args.q.now in
     let r = c.args.v in
-    let least = g.Q.Quads.least in
+    let least = g.Q.Core.least in
     let h : ℕ = least + (c.root-vector.result.height - c.bottom.result) in
     let V : Relation = set_of (g.Q.Core.worker o) r in
     let root = c.root-vector.ensures in
@@ -43,7 +43,7 @@ rel-requires-clause-within g c =
     let laws = g.met.Q.Core in
     let o = c.args.q.now in
     let r = c.args.v in
-    let least = g.Q.Quads.least in
+    let least = g.Q.Core.least in
     let h : ℕ = least + (c.root-vector.result.height - c.bottom.result) in
     let V : Relation = set_of (g.Q.Core.worker o) r in
     let root = c.root-vector.ensures in
@@ -64,7 +64,7 @@ returns-in-Ok-clause-value g c =
     let laws = g.met.Q.Core in
     let o = c.args.q.now in
     let r = c.args.v in
-    let least = g.Q.Quads.least in
+    let least = g.Q.Core.least in
     let h : ℕ = least + (c.root-vector.result.height - c.bottom.result) in
     let V : Relation = set_of (g.Q.Core.worker o) r in
     let root = c.root-vector.ensures in
@@ -83,29 +83,29 @@ returns-in-Ok-clause-value g c =
 pub returns-in-Ok-clause-room : goal.returns-in-Ok-clause-room
 returns-in-Ok-clause-room g c =
     let r = c.args.v in
-    let over = root_high g.Q.Quads.least r.rows r.cols c.bottom.result c.root-vector.result.height c.bottom.ensures c.root-vector.ensures.same_height in
-    let p = rule_room g.Q.Quads.least (c.root-vector.result.height - c.bottom.result) r.rows r.cols over in
+    let over = root_high g.Q.Core.least r.rows r.cols c.bottom.result c.root-vector.result.height c.bottom.ensures c.root-vector.ensures.same_height in
+    let p = rule_room g.Q.Core.least (c.root-vector.result.height - c.bottom.result) r.rows r.cols over in
     omega (arith, p, rooms_derived r.rows r.cols, c.elements-many.ensures.room, c.in-Ok.ensures.room)
 
 pub returns-in-Err-clause-room : goal.returns-in-Err-clause-room
 returns-in-Err-clause-room g c =
     let r = c.args.v in
-    let over = root_high g.Q.Quads.least r.rows r.cols c.bottom.result c.root-vector.result.height c.bottom.ensures c.root-vector.ensures.same_height in
-    let p = rule_room g.Q.Quads.least (c.root-vector.result.height - c.bottom.result) r.rows r.cols over in
+    let over = root_high g.Q.Core.least r.rows r.cols c.bottom.result c.root-vector.result.height c.bottom.ensures c.root-vector.ensures.same_height in
+    let p = rule_room g.Q.Core.least (c.root-vector.result.height - c.bottom.result) r.rows r.cols over in
     omega (arith, p, rooms_derived r.rows r.cols, c.elements-many.ensures.room, c.in-Err.ensures.room)
 
 pub returns-in-Ok-clause-tree : goal.returns-in-Ok-clause-tree
 returns-in-Ok-clause-tree g c =
     let r = c.args.v in
     let d : ℕ = c.root-vector.result.height - c.bottom.result in
-    let over = root_high g.Q.Quads.least r.rows r.cols c.bottom.result c.root-vector.result.height c.bottom.ensures c.root-vector.ensures.same_height in
-    let same : tree_room d ≡ relation_room g.Q.Quads.least r.rows r.cols = ap tree_room (omega (arith, over)) in
+    let over = root_high g.Q.Core.least r.rows r.cols c.bottom.result c.root-vector.result.height c.bottom.ensures c.root-vector.ensures.same_height in
+    let same : tree_room d ≡ relation_room g.Q.Core.least r.rows r.cols = ap tree_room (omega (arith, over)) in
     omega (arith, same, c.elements-many.ensures.room, c.in-Ok.ensures.room)
 
 pub returns-in-Err-clause-tree : goal.returns-in-Err-clause-tree
 returns-in-Err-clause-tree g c =
     let r = c.args.v in
     let d : ℕ = c.root-vector.result.height - c.bottom.result in
-    let over = root_high g.Q.Quads.least r.rows r.cols c.bottom.result c.root-vector.result.height c.bottom.ensures c.root-vector.ensures.same_height in
-    let same : tree_room d ≡ relation_room g.Q.Quads.least r.rows r.cols = ap tree_room (omega (arith, over)) in
+    let over = root_high g.Q.Core.least r.rows r.cols c.bottom.result c.root-vector.result.height c.bottom.ensures c.root-vector.ensures.same_height in
+    let same : tree_room d ≡ relation_room g.Q.Core.least r.rows r.cols = ap tree_room (omega (arith, over)) in
     omega (arith, same, c.elements-many.ensures.room, c.in-Err.ensures.room)

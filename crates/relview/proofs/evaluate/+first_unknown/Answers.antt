@@ -1,7 +1,7 @@
 use Rattle.std.proofs.Common.{◌∙◌, sym, ap, rules}
 use Rattle.rel_model.specs.Meaning.{missing}
 use Rattle.relview.specs.Names.{sized}
-use Rattle.relview.specs.Links.{missing_of_args}
+use Rattle.relview.proofs.Linked.{missing_of_args}
 use Rattle.relview.proofs.Chains.{missing-call, missing-base, missing-chain}
 use Rattle.relview.proofs.evaluate.+first_unknown.Goals as goal
 

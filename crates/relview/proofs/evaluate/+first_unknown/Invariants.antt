@@ -1,7 +1,7 @@
 use Rattle.std.proofs.Common.{◌≡◌, drop}
 use Rattle.rel_model.specs.Meaning.{missing}
 use Rattle.relview.specs.Names.{sized}
-use Rattle.relview.specs.Links.{missing_of_args, missing_of_links}
+use Rattle.relview.proofs.Linked.{missing_of_args, missing_of_links}
 use Rattle.relview.proofs.evaluate.+first_unknown.Given as goal
 
 abbrev pub decreases-first_unknown : goal.decreases-first_unknown

@@ -1,7 +1,7 @@
 use Rattle.std.proofs.Common.{◌∙◌, sym, ap}
 use Rattle.rel_model.specs.Meaning.{shaped, Fits, shape_transposed_by}
 use Rattle.relview.specs.Names.{rel_of, sized}
-use Rattle.relview.specs.Links.{shaped_of_links}
+use Rattle.relview.proofs.Linked.{shaped_of_links}
 use Rattle.relview.specs.Values.{fault_of}
 use Rattle.relview.proofs.Chains.{shaped-chain}
 use Rattle.relview.proofs.Shapes.{misfit_turned, misfit_stays, misfit_right, misfit_here, shaped-known, shaped-unknown}

@@ -1,7 +1,8 @@
 use Rattle.std.proofs.Common.{◌≡◌, ◌+◌, ◌∙◌, None, sym, ap, subst, rules}
 use Rattle.rel_model.specs.Meaning.{missing, shaped, value}
 use Rattle.relview.specs.Names.{means, sized}
-use Rattle.relview.specs.Links.{missing_of_links, cost_of_links, shaped_of_links, value_of_links, IsFit, IsPlain, ArePlainLinks}
+use Rattle.relview.specs.Plain.{IsFit, IsPlain}
+use Rattle.relview.proofs.Linked.{missing_of_links, cost_of_links, shaped_of_links, value_of_links, ArePlainLinks}
 use Rattle.relview.proofs.Chains.{missing-chain, cost-chain, shaped-chain, value-chain, plain-chain}
 use Rattle.relview.proofs.Values.{means_kept, all_stand_kept}
 use Rattle.rel_model.specs.Cost.{cost}
@@ -17,7 +18,7 @@ value_of-requires-in-Turned g t c κs within =
     let N = sized c.args.names.now in
     let here = c.deref-in-Turned.ensures in (
       search (rules, the_lemmas),
-      (search rules, (c.requires.standing, (search (rules, here), (subst (λ e. missing N e ≡ None) (sym here) (subst (λ e. missing N e ≡ None) c.in-Turned.is c.requires.known), subst (λ e. IsFit (shaped S e)) (sym here) (fit_turned c.in-Turned.times (shaped S c.in-Turned.of.value) (subst (λ e. IsFit (shaped S e)) c.in-Turned.is c.requires.fits)))))),
+      (search rules, (c.requires.blocks, (c.requires.standing, (search (rules, here), (subst (λ e. missing N e ≡ None) (sym here) (subst (λ e. missing N e ≡ None) c.in-Turned.is c.requires.known), subst (λ e. IsFit (shaped S e)) (sym here) (fit_turned c.in-Turned.times (shaped S c.in-Turned.of.value) (subst (λ e. IsFit (shaped S e)) c.in-Turned.is c.requires.fits))))))),
     )
 
 pub value_of-requires-in-Chain : goal.value_of-requires-in-Chain
@@ -29,7 +30,7 @@ value_of-requires-in-Chain g t c κs within =
     let known = known_first (missing N c.in-Chain.first.value) (missing_of_links N c.in-Chain.rest.items) (sym (missing-chain N c.in-Chain.first c.in-Chain.rest) ∙ ap (missing N) (sym c.in-Chain.is) ∙ c.requires.known) in
     let fits = subst IsFit (shaped-chain S c.in-Chain.first c.in-Chain.rest) (subst (λ e. IsFit (shaped S e)) c.in-Chain.is c.requires.fits) in (
       search (rules, the_lemmas),
-      (search rules, (c.requires.standing, (subst IsPlain (sym here) plain.0, (subst (λ e. missing N e ≡ None) (sym here) known.0, subst (λ e. IsFit (shaped S e)) (sym here) (fit_first S (shaped S c.in-Chain.first.value) c.in-Chain.rest.items fits))))),
+      (search rules, (c.requires.blocks, (c.requires.standing, (subst IsPlain (sym here) plain.0, (subst (λ e. missing N e ≡ None) (sym here) known.0, subst (λ e. IsFit (shaped S e)) (sym here) (fit_first S (shaped S c.in-Chain.first.value) c.in-Chain.rest.items fits)))))),
     )
 
 pub value_of-requires-in-links : goal.value_of-requires-in-links
@@ -42,7 +43,7 @@ value_of-requires-in-links g t c κs within =
     let same = means_kept (g.C.Core.worker c.args.core.now) (g.C.Core.worker c.links.core) c.args.names.now inv.keeps c.requires.standing in
     let known = known_right _ _ (sized c.args.names.now) S _ _ c.links.all c.links.link-index items c.link-item.result c.links-test.true c.link-item.is same c.links.invariant.paid in (
       search (rules, the_lemmas),
-      (search rules, (all_stand_kept (g.C.Core.worker c.args.core.now) (g.C.Core.worker c.links.core) c.args.names.now inv.keeps c.requires.standing, (plain.1, (known, subst (λ T. IsFit (shaped T c.link-item.result.right)) (sym same) fit)))),
+      (search rules, (c.requires.blocks, (all_stand_kept (g.C.Core.worker c.args.core.now) (g.C.Core.worker c.links.core) c.args.names.now inv.keeps c.requires.standing, (plain.1, (known, subst (λ T. IsFit (shaped T c.link-item.result.right)) (sym same) fit))))),
     )
 
 pub links-init : goal.links-init

@@ -1,8 +1,7 @@
 use Rattle.std.proofs.Common.{◌⊎◌, ◌∙◌, ◌+◌, ◌≤◌, ap, subst}
 use Rattle.rel_model.specs.declared.syntax.Item.TheVariants.{Command}
 use Rattle.rel_model.specs.Relation.{relation_of}
-use Rattle.rel_model.specs.Worker.{pairs_room}
-use Rattle.rel_model.specs.Cost.{listed_count}
+use Rattle.rel_model.specs.Cost.{listed_count, listed_cost}
 use Rattle.rel_model.specs.State.{lists}
 use Rattle.relview.specs.Ran.{Assigned, Refused}
 use Rattle.relview.proofs.Steps.{follows_print, follows_relation}
@@ -16,7 +15,7 @@ returns-in_ok-run_relation-in-Relation g c =
     let done = c.in_ok-run_relation-in-Relation.ensures in
     record {
       ran = follows_relation c.args.script.now c.args.k c.index.result.now w v c.args.run.now c.run_relation.new.run i.name i.rows i.rows_at i.cols i.cols_at i.list c.requires.within c.index.ensures (c.in-Command.is ∙ ap Command i.is) done.keeps
-          (subst (λ rs. Assigned (c.args.k + 1) i.name i.rows i.cols (relation_of i.rows i.cols (lists rs)) v c.args.run.now c.run_relation.new.run ⊎ Refused (c.args.k + 1) w.misses v.misses c.args.run.now c.run_relation.new.run) c.as_slice.ensures.value done.assigned) (subst (λ rs. v.made ≤ w.made + pairs_room (listed_count rs) i.rows i.cols) c.as_slice.ensures.value done.room);
+          (subst (λ rs. Assigned (c.args.k + 1) i.name i.rows i.cols (relation_of i.rows i.cols (lists rs)) v c.args.run.now c.run_relation.new.run ⊎ Refused (c.args.k + 1) w.misses v.misses c.args.run.now c.run_relation.new.run) c.as_slice.ensures.value done.assigned) (subst (λ rs. v.made ≤ w.made + listed_cost (listed_count rs) i.rows i.cols) c.as_slice.ensures.value done.room);
     }
 
 pub returns-in_ok-run_print-in-Print : goal.returns-in_ok-run_print-in-Print

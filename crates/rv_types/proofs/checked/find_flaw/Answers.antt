@@ -1,13 +1,18 @@
-use Rattle.std.proofs.Common.{◌∙◌, [], Some, inr, sym, ap}
+use Rattle.std.proofs.Common.{◌∙◌, [], Some, is_some, inr, sym, ap}
 use Rattle.rel_model.specs.Checking.{first_fault, items_faults, flaw}
 use Rattle.rv_types.specs.Found.{told}
 use Rattle.rv_types.proofs.checked.find_flaw.Goals as goal
 
-pub returns-in-Ok-None : goal.returns-in-Ok-None
+pub returns-in-Ok-None-clause-fault : goal.returns-in-Ok-None-clause-fault
 unfolding flaw
-returns-in-Ok-None c = ap (λ xs. first_fault (items_faults [] xs)) (sym c.as_slice.ensures.value) ∙ sym c.in-Ok-None.ensures ∙ ap told c.in-Ok-None.field-0-is
+returns-in-Ok-None-clause-fault c = ap (λ xs. first_fault (items_faults [] xs)) (sym c.as_slice.ensures.value) ∙ sym c.in-Ok-None.ensures.fault ∙ ap told c.in-Ok-None.field-0-is
 
-pub returns : goal.returns
+pub returns-clause-fault : goal.returns-clause-fault
 unfolding flaw
-returns c =
-    inr (ap (λ xs. first_fault (items_faults [] xs)) (sym c.as_slice.ensures.value) ∙ sym c.in-Ok-Some.ensures ∙ ap told c.in-Ok-Some.field-0-is ∙ ap Some (sym c.in-Ok.ensures))
+returns-clause-fault c =
+    inr (ap (λ xs. first_fault (items_faults [] xs)) (sym c.as_slice.ensures.value) ∙ sym c.in-Ok-Some.ensures.fault ∙ ap told c.in-Ok-Some.field-0-is ∙ ap Some (sym c.in-Ok.ensures))
+
+pub returns-in-Err-fault_of-clause-memory : goal.returns-in-Err-fault_of-clause-memory
+unfolding flaw
+returns-in-Err-fault_of-clause-memory c = λ e.
+    inr (ap is_some (ap (λ xs. first_fault (items_faults [] xs)) (sym c.as_slice.ensures.value) ∙ sym c.in-Ok-Some.ensures.fault ∙ ap told c.in-Ok-Some.field-0-is))

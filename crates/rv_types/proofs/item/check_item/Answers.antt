@@ -5,8 +5,8 @@ use Rattle.rv_types.specs.Found.{told, noted}
 use Rattle.rv_types.proofs.Items.{noted-function, noted-program}
 use Rattle.rv_types.proofs.item.check_item.Goals as goal
 
-pub returns-in-Function : goal.returns-in-Function
-returns-in-Function c =
+pub returns-in-Function-clause-fault : goal.returns-in-Function-clause-fault
+returns-in-Function-clause-fault c =
     let E = c.args.earlier.now in
     let t = told c.args.so_far in
     let f = c.in-Function in
@@ -15,8 +15,8 @@ returns-in-Function c =
     (noted-function t E f.at f.name f.params f.body c.as_slice-params.result.now c.args.rank rank c.as_slice-params.ensures.value ∙ ap (λ item. noted t (item_faults E item)) (sym f.is))
     c.check_function.ensures
 
-pub returns-in-Program : goal.returns-in-Program
-returns-in-Program c =
+pub returns-in-Program-clause-fault : goal.returns-in-Program-clause-fault
+returns-in-Program-clause-fault c =
     let E = c.args.earlier.now in
     let t = told c.args.so_far in
     let p = c.in-Program in

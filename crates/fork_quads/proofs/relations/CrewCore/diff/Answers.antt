@@ -2,7 +2,7 @@ use Rattle.rel_model.specs.Cells.{cells_diff}
 use Rattle.rel_model.specs.Operators.{diff}
 use Rattle.rel_model.specs.Quads.{quad_room}
 use Rattle.fork_quads.proofs.Crewing.{stands_root, keeps_counting}
-use Rattle.fork_quads.proofs.Operating.{diff_lifts, lifted_value}
+use Rattle.fork_quads.proofs.Operating.{diff_lifts, lifted_value, lifted_found}
 use Rattle.fork_quads.proofs.relations.CrewCore.diff.Goals as goal
 
 pub diff_quads-quad-requires-clause-a_stands : goal.diff_quads-quad-requires-clause-a_stands
@@ -15,6 +15,11 @@ pub returns-clause-value : goal.returns-clause-value
 returns-clause-value g c =
     lifted_value cells_diff diff c.args.self.now c.self.inside.nodes c.diff_quads-quad.new.nodes c.args.r c.args.s c.root_of.result c.root_of-2.result c.diff_quads-quad.result c.named.result diff_lifts c.self.view_is
     c.requires.left c.requires.right c.requires.rows c.requires.cols c.root_of.ensures c.root_of-2.ensures c.diff_quads-quad.ensures.value c.named.ensures
+
+pub returns-clause-stood : goal.returns-clause-stood
+returns-clause-stood g c =
+    lifted_found cells_diff diff c.args.self.now c.self.inside.nodes c.diff_quads-quad.new.nodes c.args.r c.args.s c.root_of.result c.root_of-2.result c.diff_quads-quad.result c.named.result diff_lifts c.self.view_is
+    c.requires.left c.requires.right c.requires.rows c.requires.cols c.root_of.ensures c.root_of-2.ensures c.diff_quads-quad.ensures.stood c.named.ensures
 
 pub returns-clause-keeps : goal.returns-clause-keeps
 returns-clause-keeps g c =

@@ -3,7 +3,7 @@ use Rattle.rel_model.specs.Cells.{cells_rect}
 use Rattle.rel_model.specs.Operators.{full}
 use Rattle.rel_model.specs.Quads.{quad_room}
 use Rattle.fork_quads.proofs.Crewing.{keeps_counting, tree_fits}
-use Rattle.fork_quads.proofs.Operating.{rect_within, full_is, made_value}
+use Rattle.fork_quads.proofs.Operating.{rect_within, full_is, made_value, made_found}
 use Rattle.fork_quads.proofs.relations.CrewCore.full.Goals as goal
 
 pub rect-quad-requires : goal.rect-quad-requires
@@ -15,6 +15,11 @@ pub returns-clause-value : goal.returns-clause-value
 returns-clause-value g c =
     made_value c.rect-quad.new.self c.args.shape.rows c.args.shape.cols c.height_of_tree-height.result (cells_rect c.args.shape.rows c.args.shape.cols) (full c.args.shape.rows c.args.shape.cols) c.rect-quad.result c.named.result
     c.requires.row_limit c.requires.col_limit (rect_within c.args.shape.rows c.args.shape.cols) (full_is c.args.shape.rows c.args.shape.cols) c.height_of_tree-height.ensures c.rect-quad.ensures.value c.named.ensures
+
+pub returns-clause-stood : goal.returns-clause-stood
+returns-clause-stood g c =
+    made_found c.args.self.now c.self.inside.nodes c.rect-quad.new.self c.args.shape.rows c.args.shape.cols c.height_of_tree-height.result (cells_rect c.args.shape.rows c.args.shape.cols) (full c.args.shape.rows c.args.shape.cols) c.rect-quad.result c.named.result
+    c.self.view_is (rect_within c.args.shape.rows c.args.shape.cols) (full_is c.args.shape.rows c.args.shape.cols) c.height_of_tree-height.ensures c.rect-quad.ensures.stood c.named.ensures
 
 pub returns-clause-keeps : goal.returns-clause-keeps
 returns-clause-keeps g c =
