@@ -18,7 +18,7 @@ use Rattle.rel_model.specs.Relation.{Relation, relation_of}
 use Rattle.rel_model.specs.Operators.{empty, complement, transposed_by}
 use Rattle.rel_model.specs.State.{State, lists}
 use Rattle.rel_model.specs.Meaning.{first_of_both, missing, missing_in, missing_along, Shaped, Fits, joined, shape_transposed_by, shape_of_relation, relation_named, shaped, shaped_along, result_of_both, value, value_along}
-use Rattle.rel_model.specs.Due.{Due, Nothing, Value, outcome_due, fitting_or_ill, known_or_ill, evaluated, due_of_command, due}
+use Rattle.rel_model.specs.Due.{Due, Nothing, Value, Refusal, outcome_due, fitting_or_ill, known_or_ill, evaluated, due_of_command, due}
 use Rattle.rel_model.specs.Legal.{HasAssign, HasRead, HasEvents, IsCommand, MayLackNodes, IsOutcome}
 use Rattle.rel_model.specs.Page.{prefix, matrix, refusal_text, done_text, reply}
 use Rattle.rv_parse.specs.Places.{Tree, NameTree, CallTree, BaseTree, InjectTree, PairTree, MinusTree, TurnedTree, ChainTree, Trees, NoTree, MoreTrees, Branches, NoBranch, MoreBranches, tree_of, trees_of, branches_of}
@@ -170,7 +170,11 @@ may_lack_by _ _ = ⊥
 may_lack-tree : (i : Item) (d : Due) → MayLackNodes i d ≡ may_lack_by (item_tree i) d
 may_lack-tree (COMMAND (PRINT (Ref at name))) (Value r) = refl
 may_lack-tree (COMMAND (PRINT e)) (Value r) = refl
-may_lack-tree i d = refl
+may_lack-tree i (Value r) = refl
+may_lack-tree (COMMAND (PRINT e)) Nothing = refl
+may_lack-tree i Nothing = refl
+may_lack-tree (COMMAND (PRINT e)) (Refusal o) = refl
+may_lack-tree i (Refusal o) = refl
 
 abbrev command_by : ItemTree → Type 0
 command_by (CommandItem c) = Unit {0}
