@@ -1,11 +1,17 @@
 -- The definitions so far: what the entries of a map say of the definition of a name, and what one more at the end changes.
 use Rattle.std.proofs.Common.{◌≡◌, ◌∙◌, ℕ, Bool, true, false, cond, List, [], ◌∷◌, ◌++◌, map, nat_eq, Option, Some, None, option_map, refl, sym, ap}
+use Rattle.std.specs.Prelude.{Result, Ok, Err, OnErr}
 use Rattle.std.specs.Map.{lookup}
 use Rattle.std.specs.Cmp.Lexicographic.{pointwise, nat_list_eq_equiv, same_text as text_of_test}
 use Rattle.rel_model.specs.Tokens.{same_text}
 use Rattle.rel_model.specs.Checking.{Known, definition_of}
 use Rattle.rv_types.specs.declared.definitions.Summary.{Summary}
 use Rattle.rv_types.specs.Definitions.{known_as, summary_of}
+
+-- a fact that holds does at an error
+pub at_error : {T E : Type 0} (r : Result T E) (P : Type 0) → P → OnErr r P
+at_error (Ok v) P p = tt
+at_error (Err e) P p = p
 
 module _ {K : Type 0} (text : K → List ℕ) where
   -- the definitions that entries hold

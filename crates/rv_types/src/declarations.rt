@@ -1,5 +1,5 @@
 //! The faults of a program's declarations, and what they declare.
-ghost use Rattle.std.specs.Prelude.{◌≡◌, ◌||◌, ◌∷◌, [], ℕ, List, IfOk, OnOk};
+ghost use Rattle.std.specs.Prelude.{◌≡◌, ◌<◌, ◌||◌, ◌∷◌, [], ℕ, List, length, IfOk, OnOk, OnErr};
 ghost use Rattle.rel_model.specs.Checking.{among, operand_faults, decl_faults, variables_of, domains_of, name_of as name_of_decl, place_of_decl};
 ghost use Rattle.rv_types.specs.Found.{told, noted as noted_all};
 
@@ -95,7 +95,8 @@ fn add_variable<'a>(names: &mut Names<'a>, decl: &'a Decl) -> Result<(), NoMemor
 
 /// The declared variables.
 pub fn variables<'a>(alloc: Global, decls: &'a [Decl]) -> Result<Names<'a>, NoMemory>
-    ensures { IfOk result (λ r. (n : List ℕ) → among r n ≡ among (variables_of decls.now) n) }
+    ensures names { IfOk result (λ r. (n : List ℕ) → among r n ≡ among (variables_of decls.now) n) }
+    ensures memory { OnErr result (0 < length decls.now) }
 {
     let mut names = Names::new(alloc);
     'each: for decl in decls {
@@ -122,7 +123,8 @@ fn add_domain<'a>(names: &mut Names<'a>, sums: bool, decl: &'a Decl) -> Result<(
 
 /// The declared domains: those of SUM, or those of PROD.
 pub fn domains<'a>(alloc: Global, sums: bool, decls: &'a [Decl]) -> Result<Names<'a>, NoMemory>
-    ensures { IfOk result (λ r. (n : List ℕ) → among r n ≡ among (domains_of sums decls.now) n) }
+    ensures names { IfOk result (λ r. (n : List ℕ) → among r n ≡ among (domains_of sums decls.now) n) }
+    ensures memory { OnErr result (0 < length decls.now) }
 {
     let mut names = Names::new(alloc);
     'each: for decl in decls {

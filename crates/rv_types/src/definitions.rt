@@ -1,5 +1,5 @@
 //! The definitions of the items so far, by name.
-ghost use Rattle.std.specs.Prelude.{◌≡◌, ◌++◌, ◌∷◌, ℕ, List, [], OnOk, option_map};
+ghost use Rattle.std.specs.Prelude.{◌≡◌, ◌++◌, ◌∷◌, ℕ, List, [], None, OnOk, OnErr, option_map};
 ghost use Rattle.rel_model.specs.Checking.{Known, definition_of};
 ghost use Rattle.rv_types.specs.Definitions.{known_as, summary_of};
 
@@ -50,7 +50,8 @@ impl Definitions {
 
     /// One more definition, where the name has none.
     pub fn add(&mut self, alloc: Global, name: &[u8], summary: Summary) -> Result<(), NoMemory>
-        ensures { OnOk result ((n : List ℕ) → definition_of self.new n ≡ definition_of (self.old ++ known_as name.now summary ∷ []) n) }
+        ensures known { OnOk result ((n : List ℕ) → definition_of self.new n ≡ definition_of (self.old ++ known_as name.now summary ∷ []) n) }
+        ensures memory { OnErr result (definition_of self.old name.now ≡ None) }
     {
         match self.find(name) {
             Some(_) => Ok(()),

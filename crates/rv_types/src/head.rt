@@ -1,5 +1,5 @@
 //! The faults at the name of a definition: its rank, and names that were given before.
-ghost use Rattle.std.specs.Prelude.{◌≡◌, ◌||◌, ◌∷◌, [], ℕ, List, cond, nat_lt, IfOk, OnOk};
+ghost use Rattle.std.specs.Prelude.{◌≡◌, ◌<◌, ◌||◌, ◌∷◌, [], ℕ, List, cond, length, nat_lt, IfOk, OnOk, OnErr};
 ghost use Rattle.rel_model.specs.declared.faults.TypeFault.TheVariants.{Rank, Twice};
 ghost use Rattle.rel_model.specs.Checking.{among, names_of, parameter_faults, head_faults, rank_limit};
 ghost use Rattle.rv_types.specs.Found.{told, noted as noted_all};
@@ -54,6 +54,7 @@ fn check_parameters<'a>(
 ) -> Result<Option<Found<'a>>, NoMemory>
     ensures fault { IfOk result (λ r. told r ≡ noted_all (told so_far.entry) (parameter_faults at before.old params.now)) }
     ensures names { OnOk result ((n : List ℕ) → among before.new n ≡ (among params.now n || among before.old n)) }
+    ensures memory { OnErr result (0 < length params.now) }
 {
     let mut found = so_far;
     'each: for param in params {
@@ -113,6 +114,7 @@ pub fn check_head<'a>(
     requires { before.old ≡ [] }
     ensures fault { IfOk result (λ r. told r ≡ noted_all (told so_far.entry) (head_faults earlier.now head.entry.at head.entry.name.now head.entry.params.now head.entry.rank)) }
     ensures names { OnOk result ((n : List ℕ) → among before.new n ≡ among head.entry.params.now n) }
+    ensures memory { OnErr result (0 < length head.entry.params.now) }
 {
     let ranked = check_rank(head, so_far);
     let defined = check_defined(earlier, head, ranked);

@@ -1,5 +1,5 @@
 //! Sets of names of a script, numbered by first use.
-ghost use Rattle.std.specs.Prelude.{◌≡◌, ◌||◌, ◌&&◌, ℕ, List, [], IfOk, OnOk};
+ghost use Rattle.std.specs.Prelude.{◌≡◌, ◌||◌, ◌&&◌, false, ℕ, List, [], IfOk, OnOk, OnErr};
 ghost use Rattle.rel_model.specs.Checking.{among};
 ghost use Rattle.rel_model.specs.Tokens.{same_text};
 
@@ -39,9 +39,10 @@ impl<'a> Names<'a> {
         self.names.contains(name)
     }
 
-    /// One more name.
+    /// One more name. One that is there takes no memory.
     pub fn add(&mut self, name: &'a [u8]) -> Result<(), NoMemory>
-        ensures { OnOk result ((n : List ℕ) → among self.new n ≡ (same_text name.now n || among self.old n)) }
+        ensures names { OnOk result ((n : List ℕ) → among self.new n ≡ (same_text name.now n || among self.old n)) }
+        ensures memory { OnErr result (among self.old name.now ≡ false) }
     {
         self.names.insert(name)?;
         Ok(())

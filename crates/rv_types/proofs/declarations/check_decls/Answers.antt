@@ -16,7 +16,7 @@ each-preserved c =
     let old = c.each.before in
     let new = c.add.new.self in
     c.each.invariant
-    ∙ noted-decl t P old new ds k d c.each-test.true c.decl-item.is (λ n. c.in_ok-add.ensures n ∙ ap (λ q. same_text q n || among old n) (c.bytes.ensures ∙ c.name_of-in-each.ensures))
+    ∙ noted-decl t P old new ds k d c.each-test.true c.decl-item.is (λ n. c.in_ok-add.ensures.names n ∙ ap (λ q. same_text q n || among old n) (c.bytes.ensures ∙ c.name_of-in-each.ensures))
     ∙ ap (λ u. noted (noted u (operand_faults P d)) (decl_faults P new (drop (k + 1) ds)))
     ((λ i. noted t (cond (among old (sym c.name_of.ensures i)) (Twice (sym c.place_of.ensures i) (sym c.name_of.ensures i) ∷ []) [])) ∙ sym c.check_repeated-repeated.ensures)
     ∙ ap (λ u. noted u (decl_faults P new (drop (k + 1) ds))) (sym c.check_operands-found.ensures)

@@ -12,7 +12,7 @@ each-preserved c =
     let p = c.param-item.result in
     let old = c.each.before in
     let new = c.add.new.self in (
-      c.each.invariant.0 ∙ noted-parameter (told c.each.found) c.args.at old new ps k p c.each-test.true c.param-item.is (λ n. c.in_ok-add.ensures n ∙ ap (λ q. same_text q n || among old n) c.bytes.ensures)
+      c.each.invariant.0 ∙ noted-parameter (told c.each.found) c.args.at old new ps k p c.each-test.true c.param-item.is (λ n. c.in_ok-add.ensures.names n ∙ ap (λ q. same_text q n || among old n) c.bytes.ensures)
           ∙ ap (λ u. noted u (parameter_faults c.args.at new (drop (k + 1) ps))) (sym c.check_repeated-found.ensures),
-      λ n. c.each.invariant.1 n ∙ among-parameter old new ps k p n c.each-test.true c.param-item.is (c.in_ok-add.ensures n ∙ ap (λ q. same_text q n || among old n) c.bytes.ensures),
+      λ n. c.each.invariant.1 n ∙ among-parameter old new ps k p n c.each-test.true c.param-item.is (c.in_ok-add.ensures.names n ∙ ap (λ q. same_text q n || among old n) c.bytes.ensures),
     )

@@ -16,7 +16,7 @@ each-preserved c n =
     let took = ap (λ t. old || (t && among second n)) (sym (among-took keys k none n c.each-test.true)) in
     elim c.if-has.branch [
       | then-has+in_ok-add w ↦
-          ap (λ v. among v n) w.self-is ∙ w.in_ok-add.ensures n
+          ap (λ v. among v n) w.self-is ∙ w.in_ok-add.ensures.names n
           ∙ shared-has x n second old seen (among c.each.self n) w.if-has.ensures (c.each.invariant n) ∙ took
       | else-has w ↦
           ap (λ v. among v n) w.self-is ∙ shared-lacks x n second old seen (among c.each.self n) w.if-has.ensures (c.each.invariant n) ∙ took
