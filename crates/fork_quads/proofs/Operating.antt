@@ -164,7 +164,7 @@ pub made_found : {E : Type 0} (w inside new : Work) (m n h : ℕ) (f : Cells) (v
 made_found w inside new m n h f value a result v l is eh find e =
     subst (λ (x : Result Rel Lack). FindsRelation true (worker_of w) (worker_of new) m n value x) (sym e)
     (λ lean rel g. named_found w inside new m n value rel a v g
-        (find (root_quad rel) (subst (λ (x : Work). IsQuad x h f (root_quad rel)) (sym v) (subst (λ (k : ℕ). IsQuad w k f (root_quad rel)) (sym eh) (root_of_value w m n f value rel l is g)))))
+    (find (root_quad rel) (subst (λ (x : Work). IsQuad x h f (root_quad rel)) (sym v) (subst (λ (k : ℕ). IsQuad w k f (root_quad rel)) (sym eh) (root_of_value w m n f value rel l is g)))))
 
 -- so is an operator's result on the roots of two relations of one type
 pub lifted_found : {E : Type 0} (op : Cells → Cells → Cells) (of : Relation → Relation → Relation) (w inside new : Work) (r s : Rel) (p q : Quad) (a : Result Quad E) (result : Result Rel Lack) → Lifts op of → inside ≡ w

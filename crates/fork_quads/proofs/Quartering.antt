@@ -58,11 +58,11 @@ pub told_found : {E : Type 0} (w inside new : Work) (h : ℕ) (f value : Cells) 
 told_found w inside new h f value a result v i s find e =
     subst (λ (x : Result Quad Lack). FindsQuad true (worker_of w) (worker_of new) h value x) (sym e)
     (λ lean q g.
-        let found = find q (subst (λ (x : Work). IsQuad x h f q) (sym v) (subst (λ (c : Cells). IsQuad w h c q) (sym s) (has_is_quad w h value q (subst IsWork v i) g))) in (
-          ap told_as found.answer,
-          subst (λ (x : Work). MakesAtMost 0 (worker_of x) (worker_of new)) v found.reads.keeps.room,
-          subst (λ (x : Work). MissesNothing (worker_of x) (worker_of new)) v found.reads.misses,
-        ))
+    let found = find q (subst (λ (x : Work). IsQuad x h f q) (sym v) (subst (λ (c : Cells). IsQuad w h c q) (sym s) (has_is_quad w h value q (subst IsWork v i) g))) in (
+      ap told_as found.answer,
+      subst (λ (x : Work). MakesAtMost 0 (worker_of x) (worker_of new)) v found.reads.keeps.room,
+      subst (λ (x : Work). MissesNothing (worker_of x) (worker_of new)) v found.reads.misses,
+    ))
 
 -- so is a corner
 pub corner_found : {E : Type 0} (w inside new : Work) (nw ne sw se : Quad) (a : Result Quad E) (result : Result Quad Lack) → inside ≡ w → IsWork inside → HasQuad (worker_of w) nw → HasQuad (worker_of w) ne → HasQuad (worker_of w) sw
