@@ -3,7 +3,7 @@ ghost use Rattle.std.specs.Prelude.{IfOk};
 ghost use Rattle.rel_model.specs.Listed.{AreWithin};
 
 use rel_model::Shape;
-use rel_model::syntax::Row;
+use lang_model::syntax::Row;
 use std::alloc::{AllocError, Global};
 
 /// Adds a listed pair, where it lies within the sizes.

@@ -12,7 +12,7 @@ use pair_table::PairTable;
 use rel_engine::Works;
 use rel_model::core_trait::Core;
 use rel_model::engine_trait::Engine;
-use rel_model::syntax::{Command, Item};
+use lang_model::syntax::{Command, Item};
 use rel_model::{Rel, SIZE_LIMIT, Shape};
 use rv_io::{FileShelf, read_all};
 use rv_parse::parse;

@@ -1,7 +1,7 @@
 //! What `parse` answers, as a line of text.
 use crate::show::shown;
-use rel_model::faults::{ParseFault, What};
-use rel_model::syntax::Place;
+use lang_model::faults::{ParseFault, What};
+use lang_model::syntax::Place;
 use rv_parse::parse;
 use std::alloc::Global;
 use std::test::Fail;

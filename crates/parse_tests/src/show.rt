@@ -5,7 +5,7 @@ mod expression;
 
 use command::push_command;
 use definition::{push_function, push_program};
-use rel_model::syntax::{Item, Name, Place, Script};
+use lang_model::syntax::{Item, Name, Place, Script};
 use std::alloc::Global;
 use std::test::Fail;
 

@@ -1,7 +1,8 @@
 //! All operations of the language on relations, over whatever keeps them.
 //!
 //! Every call keeps all relations and quads that stood, with the same sets, makes at most its room of nodes, and refuses only for its named cause.
-ghost use Rattle.std.specs.Prelude.{◌≡◌, ◌<◌, ◌≤◌, ◌+◌, ◌-◌, ◌*◌, ◌^◌, max, length, IfOk, IfSome, true, false};
+ghost use Rattle.std.specs.Prelude.{◌≡◌, ◌<◌, ◌≤◌, ◌+◌, ◌-◌, ◌*◌, ◌^◌, max, length, IfOk, OnErr, IsErrOf, IfSome, true, false};
+ghost use Rattle.rel_model.specs.declared.Lack.TheVariants.{NoMemory as NO_MEMORY};
 ghost use Rattle.rel_model.specs.Relation.{has, relation_of, size_limit};
 ghost use Rattle.rel_model.specs.Operators.{right_residual, left_residual, symmetric_quotient, identity as identity_of};
 ghost use Rattle.rel_model.specs.Closures.{transitive_closure, reflexive_closure};
@@ -12,12 +13,12 @@ ghost use Rattle.rel_model.specs.Listed.{AreWithin, is_among};
 ghost use Rattle.rel_model.specs.Worker.{Stands, set_of, Gives, Keeps, MakesAtMost, MissesNothing, HasCause, listed_room, pairs_room, operator_room, derived_room, wide_room};
 
 use crate::faults::DomainError;
-use crate::quads_trait::Quads;
+use crate::seated_trait::Seated;
 use crate::{Lack, NoMemory, Rel, Shape};
 use std::alloc::Global;
 
 /// A worker that does all operations of the language (Schmidt and Ströhlein, *Relations and Graphs*).
-pub trait Engine: Quads {
+pub trait Engine: Seated {
     /// `R\S = {(j, k) : (i, j) in r implies (i, k) in s, for all i}`: the right residual, of m × n under m × p.
     fn right(&mut self, r: Rel, s: Rel) -> Result<Rel, Lack>
         requires left { Stands (Self.worker self.old) r }
@@ -161,7 +162,9 @@ pub trait Engine: Quads {
         ensures keeps { Keeps (Self.worker self.old) (Self.worker self.new) }
         ensures room { MakesAtMost (pairs_room (length pairs.now) shape.rows shape.cols) (Self.worker self.old) (Self.worker self.new) }
         ensures few { MakesAtMost (listed_room (length pairs.now) (height_over Self.least shape.rows shape.cols - Self.least)) (Self.worker self.old) (Self.worker self.new) }
-        ensures cause { HasCause false (Self.worker self.old) (Self.worker self.new) result };
+        ensures cause { HasCause false (Self.worker self.old) (Self.worker self.new) result }
+        ensures some { OnErr result (0 < length pairs.now) }
+        ensures untouched { Self.lean ≡ true → IsErrOf result NO_MEMORY → MakesAtMost 0 (Self.worker self.old) (Self.worker self.new) };
 
     /// `{(i, 0) : i is the least element of v}`: a point of a vector that has an element, and the empty vector of one that has none.
     fn point(&mut self, v: Rel) -> Result<Rel, Lack>
@@ -231,7 +234,9 @@ pub trait Engine: Quads {
         ensures value { IfOk result (λ n. n ≡ count_of (set_of (Self.worker self.old) r)) }
         ensures keeps { Keeps (Self.worker self.old) (Self.worker self.new) }
         ensures room { MakesAtMost 0 (Self.worker self.old) (Self.worker self.new) }
-        ensures misses { MissesNothing (Self.worker self.old) (Self.worker self.new) };
+        ensures misses { MissesNothing (Self.worker self.old) (Self.worker self.new) }
+        ensures some { OnErr result (0 < count_of (set_of (Self.worker self.old) r)) }
+        ensures over { OnErr result (Self.least < height_over Self.least r.rows r.cols) };
 
     /// The least pair by row and then by column, of those behind `after` where it is given.
     fn next_pair(&mut self, r: Rel, after: Option<(u32, u32)>) -> Option<(u32, u32)>

@@ -2,10 +2,11 @@
 use Rattle.std.proofs.Common.{◌≡◌, ◌∙◌, ℕ, cond, List, Option, Some, None, refl, sym, ap, ap₂}
 use Rattle.std.specs.Prelude.{option_and_then, option_map, is_some, unwrap_or}
 use Rattle.rel_model.specs.declared.Rel.{Rel}
-use Rattle.rel_model.specs.declared.syntax.Expr.{Expr, Ref, Call', Base', Inject, Pair', Minus', Turned', Chain', Row_of-Expr, end_of-Expr, more_of-Expr, Row_of-Link, end_of-Link, more_of-Link}
+use Rattle.lang_model.specs.declared.syntax.Expr.{Expr, Ref, Call', Base', Inject, Pair', Minus', Turned', Chain', Row_of-Expr, end_of-Expr, more_of-Expr, Row_of-Link, end_of-Link, more_of-Link}
 use Rattle.rel_model.specs.Operators.{empty}
-use Rattle.rel_model.specs.State.{State}
-use Rattle.rel_model.specs.Meaning.{first_of_both, missing, missing_in, missing_along, Shaped, Fits, joined, shape_transposed_by, shape_of_relation, relation_named, shaped, shaped_along}
+use Rattle.lang_model.specs.State.{State}
+use Rattle.lang_model.specs.Missing.{first_of_both, missing, missing_in, missing_along}
+use Rattle.relview.specs.First.Meaning.{Shaped, Fits, joined, shape_transposed_by, shape_of_relation, relation_named, shaped, shaped_along}
 use Rattle.rel_model.specs.Worker.{Worker, Stands, set_of}
 use Rattle.rel_model.proofs.Workers.{stands_some}
 use Rattle.rel_model.proofs.Relations.{rows-relation_of, cols-relation_of}

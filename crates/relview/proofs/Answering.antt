@@ -1,17 +1,18 @@
 -- The one session of a run is the whole run.
 use Rattle.std.proofs.Common.{◌≡◌, ◌≤◌, ◌∙◌, ℕ, List, [], ◌∷◌, ◌++◌, None, refl, sym, ap, subst, arith, append-nil}
 use Rattle.std.specs.List.{AllByRecursion}
-use Rattle.rel_model.specs.declared.syntax.Script.{Script}
-use Rattle.rel_model.specs.declared.faults.ParseFault.{ParseFault}
-use Rattle.rel_model.specs.declared.faults.ParseFault.TheVariants.{Byte, Expected, TooDeep, NumberTooLarge, NameTooLong, NoMemory}
+use Rattle.lang_model.specs.declared.syntax.Script.{Script}
+use Rattle.lang_model.specs.declared.faults.ParseFault.{ParseFault}
+use Rattle.lang_model.specs.declared.faults.ParseFault.TheVariants.{Byte, Expected, TooDeep, NumberTooLarge, NameTooLong, NoMemory}
 use Rattle.rv_parse.specs.Faults.{RefusesFirst}
-use Rattle.rel_model.specs.declared.run.Event.{Event}
-use Rattle.rel_model.specs.Grammar.{SpelledBy}
-use Rattle.rel_model.specs.Legal.{LegalItems, IsLegal, no_script}
-use Rattle.rel_model.specs.Stored.{HoldsRun}
-use Rattle.rel_model.specs.Page.{page_of, items_page, prefix, refusal_text}
+use Rattle.run_model.specs.declared.event.Event.{Event}
+use Rattle.rv_parse.specs.FirstGrammar.{SpelledBy}
+use Rattle.relview.specs.First.Legal.{LegalItems, IsLegal, no_script}
+use Rattle.relview.specs.First.Stored.{HoldsRun}
+use Rattle.relview.specs.First.Page.{page_of, items_page}
+use Rattle.run_model.specs.Texts.{prefix, refusal_text}
 use Rattle.rel_model.specs.Worker.{Worker}
-use Rattle.rel_model.proofs.Runs.{Below, events_of-below}
+use Rattle.relview.proofs.Runs.{Below, events_of-below}
 use Rattle.relview.specs.declared.session.Run.{Run}
 use Rattle.relview.specs.declared.top.Answer.{Answer}
 use Rattle.relview.specs.Top.{Answers, HoldsNothing, table_bits}

@@ -1,11 +1,13 @@
 -- Calls and chains as the code has them, with their arguments and links in a vector: what the definitions say of a row, read off the list. By induction on the row.
 use Rattle.std.proofs.Common.{◌≡◌, ◌+◌, refl, ap, rules}
-use Rattle.rel_model.specs.declared.syntax.Expr.{Row_of-Expr, end_of-Expr, more_of-Expr, items-the_row-Expr, Row_of-Link, end_of-Link, more_of-Link, items-the_row-Link, the_lemmas}
-use Rattle.rel_model.specs.declared.syntax.Expr.TheVariants.{Call, Base, Chain}
+use Rattle.lang_model.specs.declared.syntax.Expr.{Row_of-Expr, end_of-Expr, more_of-Expr, items-the_row-Expr, Row_of-Link, end_of-Link, more_of-Link, items-the_row-Link, the_lemmas}
+use Rattle.lang_model.specs.declared.syntax.Expr.TheVariants.{Call, Base, Chain}
 use Rattle.rel_model.specs.Relation.{Relation}
-use Rattle.rel_model.specs.State.{State}
-use Rattle.rel_model.specs.Cost.{cost, cost_along, link_cost}
-use Rattle.rel_model.specs.Meaning.{missing, missing_in, missing_along, first_of_both, Shaped, joined, shaped, shaped_along, result_of_both, value, value_along}
+use Rattle.lang_model.specs.State.{State}
+use Rattle.relview.specs.First.Cost.{cost, cost_along, link_cost}
+use Rattle.lang_model.specs.Missing.{missing, missing_in, missing_along, first_of_both}
+use Rattle.relview.specs.First.Meaning.{Shaped, joined, shaped, shaped_along, value, value_along}
+use Rattle.lang_model.specs.Mean.{result_of_both}
 use Rattle.relview.specs.Plain.{IsPlain, ArePlain}
 use Rattle.relview.proofs.Linked.{missing_of_args, missing_of_links, shaped_of_links, value_of_links, cost_of_links, ArePlainLinks}
 

@@ -2,22 +2,22 @@
 use Rattle.std.proofs.Common.{◌≡◌, ◌≤◌, ◌+◌, ◌∙◌, ℕ, List, [], ◌∷◌, ◌++◌, length, Option, Some, refl, sym, ap, subst, arith}
 use Rattle.std.specs.Prelude.{IsSome, option_and_then}
 use Rattle.rel_model.specs.declared.Rel.{Rel}
-use Rattle.rel_model.specs.declared.syntax.Place.{Place}
-use Rattle.rel_model.specs.declared.syntax.Command.TheVariants.{Relation as RELATION}
-use Rattle.rel_model.specs.declared.syntax.Item.{Item}
-use Rattle.rel_model.specs.declared.syntax.Item.TheVariants.{Command}
-use Rattle.rel_model.specs.declared.run.Event.{Event}
-use Rattle.rel_model.specs.declared.run.Act.{Act}
-use Rattle.rel_model.specs.declared.run.Act.TheVariants.{Read, Assign, Remove}
+use Rattle.lang_model.specs.declared.syntax.Place.{Place}
+use Rattle.lang_model.specs.declared.syntax.Command.TheVariants.{Relation as RELATION}
+use Rattle.lang_model.specs.declared.syntax.Item.{Item}
+use Rattle.lang_model.specs.declared.syntax.Item.TheVariants.{Command}
+use Rattle.run_model.specs.declared.event.Event.{Event}
+use Rattle.run_model.specs.declared.event.Act.{Act}
+use Rattle.run_model.specs.declared.event.Act.TheVariants.{Read, Assign, Remove}
 use Rattle.rel_model.specs.Relation.{Relation, relation_of}
-use Rattle.rel_model.specs.State.{lists}
-use Rattle.rel_model.specs.Due.{due, due_of_command}
-use Rattle.rel_model.specs.Legal.{Trees, Replay, replay_act, replay_from, item_at, state_for}
-use Rattle.rel_model.specs.Cost.{cost_of_item, cost_of_items}
+use Rattle.lang_model.specs.State.{lists}
+use Rattle.relview.specs.First.Due.{due, due_of_command}
+use Rattle.relview.specs.First.Legal.{Trees, Replay, replay_act, replay_from, item_at, state_for}
+use Rattle.relview.specs.First.Cost.{cost_of_item, cost_of_items}
 use Rattle.rel_model.specs.Roots.{relation_in}
-use Rattle.rel_model.specs.Stored.{value_due, value_assigned, IsStored, AreStored}
+use Rattle.relview.specs.First.Stored.{value_due, value_assigned, IsStored, AreStored}
 use Rattle.rel_model.specs.Worker.{Worker, Keeps}
-use Rattle.rel_model.proofs.Runs.{state_for-old}
+use Rattle.relview.proofs.Runs.{state_for-old}
 use Rattle.relview.specs.Found.{IsFound, AreFound}
 
 -- ---- assigned relations

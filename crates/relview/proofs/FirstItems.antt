@@ -4,22 +4,22 @@ use Rattle.std.specs.Prelude.{All}
 use Rattle.std.specs.List.{AllByRecursion, list_all}
 use Rattle.std.specs.Option.{option_map_or}
 use Rattle.std.proofs.lemmas.List.Elements.{All-from_recursion}
-use Rattle.rel_model.specs.declared.syntax.Place.{Place}
-use Rattle.rel_model.specs.declared.syntax.Op2.{Op2}
-use Rattle.rel_model.specs.declared.syntax.Op2.TheVariants.{Or, And, Times, Under, Over}
-use Rattle.rel_model.specs.declared.syntax.Column.{Column}
-use Rattle.rel_model.specs.declared.syntax.Row.{Row}
-use Rattle.rel_model.specs.declared.syntax.Command.{Command}
-use Rattle.rel_model.specs.declared.syntax.Command.TheVariants.{Relation, Let, Print, List as LIST, Count, Typed, Remove, Snap, At, Load, Save}
-use Rattle.rel_model.specs.declared.syntax.Item.{Item}
-use Rattle.rel_model.specs.declared.syntax.Item.TheVariants.{Command as COMMAND, Function, Program}
-use Rattle.rel_model.specs.declared.syntax.Expr.{Expr, Row_of-Link}
-use Rattle.rel_model.specs.declared.syntax.Script.{Script}
-use Rattle.rel_model.specs.declared.token.Kind.{Kind}
-use Rattle.rel_model.specs.declared.token.Token.{Token}
-use Rattle.rel_model.specs.Grammar.{Level, OrLevel, AndLevel, UnaryLevel, PostLevel, PrimLevel, IsOperatorOf, Spelled, named, enclosed, turned, negated, chained, alone, Linked, last, link, SpellsMoreColumns, SpellsColumns, SpellsRow, SpellsMoreRows, SpellsRows, SpellsCommand, SpellsItem, SpellsItems, SpelledBy}
-use Rattle.rel_model.specs.Taken.{Takes, TakesAt, Carets}
-use Rattle.rel_model.specs.Tokens.{tokens_from, tokens_of, with_token, kind_at, behind, run_length, is_blank, is_allowed}
+use Rattle.lang_model.specs.declared.syntax.Place.{Place}
+use Rattle.lang_model.specs.declared.syntax.Op2.{Op2}
+use Rattle.lang_model.specs.declared.syntax.Op2.TheVariants.{Or, And, Times, Under, Over}
+use Rattle.lang_model.specs.declared.syntax.Column.{Column}
+use Rattle.lang_model.specs.declared.syntax.Row.{Row}
+use Rattle.lang_model.specs.declared.syntax.Command.{Command}
+use Rattle.lang_model.specs.declared.syntax.Command.TheVariants.{Relation, Let, Print, List as LIST, Count, Typed, Remove, Snap, At, Load, Save}
+use Rattle.lang_model.specs.declared.syntax.Item.{Item}
+use Rattle.lang_model.specs.declared.syntax.Item.TheVariants.{Command as COMMAND, Function, Program}
+use Rattle.lang_model.specs.declared.syntax.Expr.{Expr, Row_of-Link}
+use Rattle.lang_model.specs.declared.syntax.Script.{Script}
+use Rattle.lang_model.specs.declared.token.Kind.{Kind}
+use Rattle.lang_model.specs.declared.token.Token.{Token}
+use Rattle.rv_parse.specs.FirstGrammar.{Level, OrLevel, AndLevel, UnaryLevel, PostLevel, PrimLevel, IsOperatorOf, Spelled, named, enclosed, turned, negated, chained, alone, Linked, last, link, SpellsMoreColumns, SpellsColumns, SpellsRow, SpellsMoreRows, SpellsRows, SpellsCommand, SpellsItem, SpellsItems, SpelledBy}
+use Rattle.lang_model.specs.Taken.{Takes, TakesAt, Carets}
+use Rattle.lang_model.specs.Tokens.{tokens_from, tokens_of, with_token, kind_at, behind, run_length, is_blank, is_allowed}
 use Rattle.relview.specs.Plain.{IsPlain, ArePlain, IsBoolean}
 use Rattle.relview.specs.Ran.{IsFirstItem}
 

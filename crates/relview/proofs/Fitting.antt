@@ -3,15 +3,17 @@ use Rattle.std.proofs.Common.{◌≡◌, ◌<◌, ◌+◌, ◌∙◌, ◌&&◌, 
 use Rattle.std.proofs.lemmas.List.{drop_more}
 use Rattle.std.proofs.lemmas.Bool.{cases_Bool, and_parts, eqb-true}
 use Rattle.rel_model.specs.declared.Rel.{Rel}
-use Rattle.rel_model.specs.declared.syntax.Place.{Place}
-use Rattle.rel_model.specs.declared.syntax.Op2.{Op2}
-use Rattle.rel_model.specs.declared.syntax.Op2.TheVariants.{Or, And, Times, Under, Over}
-use Rattle.rel_model.specs.declared.syntax.Link.{Link}
-use Rattle.rel_model.specs.declared.faults.TypeFault.{TypeFault}
-use Rattle.rel_model.specs.declared.faults.TypeFault.TheVariants.{Mismatch}
+use Rattle.lang_model.specs.declared.syntax.Place.{Place}
+use Rattle.lang_model.specs.declared.syntax.Op2.{Op2}
+use Rattle.lang_model.specs.declared.syntax.Op2.TheVariants.{Or, And, Times, Under, Over}
+use Rattle.lang_model.specs.declared.syntax.Link.{Link}
+use Rattle.lang_model.specs.declared.faults.TypeFault.{TypeFault}
+use Rattle.lang_model.specs.declared.faults.TypeFault.TheVariants.{Mismatch}
 use Rattle.rel_model.specs.Relation.{Relation}
-use Rattle.rel_model.specs.State.{State}
-use Rattle.rel_model.specs.Meaning.{Shaped, Fits, Misfit, joined, spelling, known, shape_transposed, shape_transposed_by, shaped, value, result_of_both}
+use Rattle.lang_model.specs.State.{State}
+use Rattle.relview.specs.First.Meaning.{Shaped, Fits, Misfit, joined, shape_transposed, shape_transposed_by, shaped, value}
+use Rattle.lang_model.specs.Types.{spelling, known}
+use Rattle.lang_model.specs.Mean.{result_of_both}
 use Rattle.rel_model.specs.Worker.{Worker, Stands, set_of, Gives, Keeps}
 use Rattle.rel_model.proofs.Workers.{gives_stands, gives_set, keeps_set, keeps_trans, stands_some}
 use Rattle.relview.specs.Plain.{IsFit, IsPlain, IsBoolean}

@@ -4,19 +4,19 @@
 -- 3. A full table was counted as missed, and then the seat saw every place taken.
 use Rattle.std.proofs.Common.{◌≡◌, ◌≢◌, ◌∙◌, ℕ, List, [], ◌∷◌, refl, sym, ap, subst, arith}
 use Rattle.std.specs.Prelude.{IsSome}
-use Rattle.rel_model.specs.declared.syntax.Script.{Script}
-use Rattle.rel_model.specs.declared.run.Outcome.{Outcome}
-use Rattle.rel_model.specs.declared.run.Outcome.TheVariants.{Nodes}
+use Rattle.lang_model.specs.declared.syntax.Script.{Script}
+use Rattle.run_model.specs.declared.outcome.Outcome.{Outcome}
+use Rattle.run_model.specs.declared.outcome.Outcome.TheVariants.{Nodes}
 use Rattle.rel_model.specs.Words.{Extends, IsFull}
 use Rattle.rel_model.specs.Equations.{node_words}
 use Rattle.rel_model.specs.Views.{Table, View, IsOf, IsFresh, IsClosed}
 use Rattle.rel_model.specs.Quads.{Work}
 use Rattle.rel_model.specs.Worker.{Worker, Rose}
 use Rattle.rel_model.specs.Roots.{relation_in}
-use Rattle.rel_model.specs.Grammar.{SpelledBy}
-use Rattle.rel_model.specs.Legal.{start, no_script}
-use Rattle.rel_model.specs.Cost.{cost_of_run}
-use Rattle.rel_model.specs.Stored.{HoldsRun, FillsWhereFull}
+use Rattle.rv_parse.specs.FirstGrammar.{SpelledBy}
+use Rattle.relview.specs.First.Legal.{start, no_script}
+use Rattle.relview.specs.First.Cost.{cost_of_run}
+use Rattle.relview.specs.First.Stored.{HoldsRun, FillsWhereFull}
 use Rattle.rel_model.proofs.Rooting.{relation_in-stays, one_root}
 use Rattle.fork_quads.specs.Crew.{worker_of}
 use Rattle.relview.specs.declared.session.Run.{Run}

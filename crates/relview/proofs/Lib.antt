@@ -20,3 +20,4 @@ pub mod OneRun
 pub mod TreeMeaning
 pub mod SameTree
 pub mod OneText
+pub mod Runs

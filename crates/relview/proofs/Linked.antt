@@ -1,12 +1,14 @@
 -- The links of a chain and the arguments of a call as lists: what the definitions of meaning and cost say of their rows, said of the lists that the code walks.
 use Rattle.std.proofs.Common.{◌+◌, ℕ, List, [], ◌∷◌, Option, None}
-use Rattle.rel_model.specs.declared.syntax.Place.{Place}
-use Rattle.rel_model.specs.declared.syntax.Expr.{Expr}
-use Rattle.rel_model.specs.declared.syntax.Link.{Link}
+use Rattle.lang_model.specs.declared.syntax.Place.{Place}
+use Rattle.lang_model.specs.declared.syntax.Expr.{Expr}
+use Rattle.lang_model.specs.declared.syntax.Link.{Link}
 use Rattle.rel_model.specs.Relation.{Relation}
-use Rattle.rel_model.specs.State.{State}
-use Rattle.rel_model.specs.Cost.{cost, link_cost}
-use Rattle.rel_model.specs.Meaning.{first_of_both, missing, Shaped, joined, shaped, result_of_both, value}
+use Rattle.lang_model.specs.State.{State}
+use Rattle.relview.specs.First.Cost.{cost, link_cost}
+use Rattle.lang_model.specs.Missing.{first_of_both, missing}
+use Rattle.relview.specs.First.Meaning.{Shaped, joined, shaped, value}
+use Rattle.lang_model.specs.Mean.{result_of_both}
 use Rattle.relview.specs.Plain.{IsBoolean, IsPlain}
 
 -- the leftmost unknown name of arguments

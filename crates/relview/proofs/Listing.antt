@@ -3,14 +3,14 @@ use Rattle.std.proofs.Common.{◌≡◌, ◌<◌, ◌≤◌, ◌+◌, ◌-◌, �
 use Rattle.std.specs.List.{list_any}
 use Rattle.std.proofs.lemmas.Bool.{cases_Bool, and_parts, eqb-true, eq-eqb}
 use Rattle.std.proofs.lemmas.List.{take_more}
-use Rattle.rel_model.specs.declared.syntax.Column.{Column}
-use Rattle.rel_model.specs.declared.syntax.Row.{Row}
+use Rattle.lang_model.specs.declared.syntax.Column.{Column}
+use Rattle.lang_model.specs.declared.syntax.Row.{Row}
 use Rattle.rel_model.specs.Relation.{relation_of}
-use Rattle.rel_model.specs.State.{lists}
+use Rattle.lang_model.specs.State.{lists}
 use Rattle.rel_model.specs.Trees.{bottom_height}
 use Rattle.rel_model.specs.Roots.{height_over}
 use Rattle.rel_model.specs.Worker.{Worker, MakesAtMost, listed_room}
-use Rattle.rel_model.specs.Cost.{listed_count, listed_cost}
+use Rattle.relview.specs.First.Cost.{listed_count, listed_cost}
 use Rattle.std.proofs.lemmas.Nat.{mul-le}
 use Rattle.rel_model.proofs.Relations.{relation_of-agree}
 use Rattle.relview.specs.Listed.{IsListed, Extends}

@@ -2,7 +2,7 @@
 use Rattle.std.proofs.Common.{◌≡◌, ◌<◌, ◌≤◌, ◌+◌, ◌∙◌, ℕ, Bool, true, false, cond, List, [], ◌∷◌, ◌++◌, length, take, get_or, Some, None, refl, sym, ap, arith, ◌-◌}
 use Rattle.std.proofs.lemmas.List.{take_more, get_or_default}
 use Rattle.rel_model.specs.declared.Rel.{Rel}
-use Rattle.rel_model.specs.Tokens.{same_text}
+use Rattle.lang_model.specs.Tokens.{same_text}
 use Rattle.relview.specs.Names.{rel_of, later}
 
 pub rel_of-push : (ns : List (List ℕ × Rel)) (name : List ℕ) (r : Rel) (n : List ℕ) → rel_of (ns ++ (name, r) ∷ []) n ≡ cond (same_text name n) (Some r) (rel_of ns n)

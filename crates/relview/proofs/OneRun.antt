@@ -6,19 +6,19 @@ use Rattle.std.proofs.Common.{◌≡◌, ◌≢◌, ◌≤◌, ◌+◌, ◌∙�
 use Rattle.std.specs.List.{list_any, AllByRecursion}
 use Rattle.std.proofs.lemmas.Bool.{eq-eqb}
 use Rattle.std.proofs.lemmas.List.{map-append}
-use Rattle.rel_model.specs.declared.syntax.Command.TheVariants.{Relation as RELATION, Let, Print as PRINT, List as LIST, Count, Typed, Remove as REMOVE, Snap, At, Load, Save}
-use Rattle.rel_model.specs.declared.syntax.Item.{Item}
-use Rattle.rel_model.specs.declared.syntax.Item.TheVariants.{Command as COMMAND, Function, Program}
-use Rattle.rel_model.specs.declared.syntax.Script.{Script}
-use Rattle.rel_model.specs.declared.run.Event.{Event}
-use Rattle.rel_model.specs.declared.run.Act.{Act}
-use Rattle.rel_model.specs.declared.run.Act.TheVariants.{Read, Assign, Remove}
-use Rattle.rel_model.specs.declared.run.Outcome.{Outcome}
-use Rattle.rel_model.specs.declared.run.Outcome.TheVariants.{Done, Parse, Ill, Size, Turns, Nodes, TooLarge, TooLong, NoFile, BadFile, NoMemory}
-use Rattle.rel_model.specs.State.{State, nothing}
-use Rattle.rel_model.specs.Due.{Due, outcome_due, due, due_of_command}
-use Rattle.rel_model.specs.Legal.{Trees, is_of, events_of, Replay, start, replay_act, replay_from, state_after, events_before, state_for, IsEvent, HasAssign, HasRead, HasEvents, IsOutcome, LegalItems, IsLegal}
-use Rattle.rel_model.specs.Page.{reply, items_page, page_of}
+use Rattle.lang_model.specs.declared.syntax.Command.TheVariants.{Relation as RELATION, Let, Print as PRINT, List as LIST, Count, Typed, Remove as REMOVE, Snap, At, Load, Save}
+use Rattle.lang_model.specs.declared.syntax.Item.{Item}
+use Rattle.lang_model.specs.declared.syntax.Item.TheVariants.{Command as COMMAND, Function, Program}
+use Rattle.lang_model.specs.declared.syntax.Script.{Script}
+use Rattle.run_model.specs.declared.event.Event.{Event}
+use Rattle.run_model.specs.declared.event.Act.{Act}
+use Rattle.run_model.specs.declared.event.Act.TheVariants.{Read, Assign, Remove}
+use Rattle.run_model.specs.declared.outcome.Outcome.{Outcome}
+use Rattle.run_model.specs.declared.outcome.Outcome.TheVariants.{Done, Parse, Ill, Size, Turns, Nodes, TooLarge, TooLong, NoFile, BadFile, NoMemory}
+use Rattle.lang_model.specs.State.{State, nothing}
+use Rattle.relview.specs.First.Due.{Due, outcome_due, due, due_of_command}
+use Rattle.relview.specs.First.Legal.{Trees, is_of, events_of, Replay, start, replay_act, replay_from, state_after, events_before, state_for, IsEvent, HasAssign, HasRead, HasEvents, IsOutcome, LegalItems, IsLegal}
+use Rattle.relview.specs.First.Page.{reply, items_page, page_of}
 use Rattle.relview.specs.OneRun.{Sufficed, AllSufficed, rootless_act, rootless, AreOneRun, OneRun}
 
 -- ---- a history without roots

@@ -2,11 +2,11 @@
 -- 1. It spells one first script alone, or it spells none: so two runs read it as scripts of one tree, or both as no script.
 -- 2. Scripts of one tree have the same lawful runs and pages, so both runs are lawful for one of them, and that tree has one run.
 use Rattle.std.proofs.Common.{◌≡◌, ◌∙◌, ℕ, List, [], ◌∷◌, Some, None, sym}
-use Rattle.rel_model.specs.declared.syntax.Script.{Script}
-use Rattle.rel_model.specs.declared.run.Event.{Event}
-use Rattle.rel_model.specs.declared.run.Outcome.{Outcome}
-use Rattle.rel_model.specs.Legal.{Trees, AreReadAs, IsLegal}
-use Rattle.rel_model.specs.Page.{page_of}
+use Rattle.lang_model.specs.declared.syntax.Script.{Script}
+use Rattle.run_model.specs.declared.event.Event.{Event}
+use Rattle.run_model.specs.declared.outcome.Outcome.{Outcome}
+use Rattle.relview.specs.First.Legal.{Trees, AreReadAs, IsLegal}
+use Rattle.relview.specs.First.Page.{page_of}
 use Rattle.rv_parse.specs.Plain.{script_tree}
 use Rattle.rv_parse.proofs.FirstScripts.{one_first_script_law}
 use Rattle.relview.specs.OneRun.{AllSufficed, AreOneRun, OneRunOfText}

@@ -1,21 +1,23 @@
 -- What is due of PRINT, and its reply.
 use Rattle.std.proofs.Common.{◌≡◌, ◌≤◌, ◌+◌, ◌∙◌, ◌++◌, ℕ, List, Some, None, sym, ap, subst}
 use Rattle.rel_model.specs.declared.Rel.{Rel}
-use Rattle.rel_model.specs.declared.syntax.Place.{Place}
-use Rattle.rel_model.specs.declared.syntax.Command.TheVariants.{Print}
-use Rattle.rel_model.specs.declared.syntax.Item.TheVariants.{Command}
-use Rattle.rel_model.specs.declared.syntax.Expr.{Expr}
-use Rattle.rel_model.specs.declared.faults.TypeFault.{TypeFault}
-use Rattle.rel_model.specs.declared.faults.TypeFault.TheVariants.{Unknown}
-use Rattle.rel_model.specs.declared.run.Outcome.{Outcome}
-use Rattle.rel_model.specs.declared.run.Outcome.TheVariants.{Done, Ill}
+use Rattle.lang_model.specs.declared.syntax.Place.{Place}
+use Rattle.lang_model.specs.declared.syntax.Command.TheVariants.{Print}
+use Rattle.lang_model.specs.declared.syntax.Item.TheVariants.{Command}
+use Rattle.lang_model.specs.declared.syntax.Expr.{Expr}
+use Rattle.lang_model.specs.declared.faults.TypeFault.{TypeFault}
+use Rattle.lang_model.specs.declared.faults.TypeFault.TheVariants.{Unknown}
+use Rattle.run_model.specs.declared.outcome.Outcome.{Outcome}
+use Rattle.run_model.specs.declared.outcome.Outcome.TheVariants.{Done, Ill}
 use Rattle.rel_model.specs.Relation.{Relation}
-use Rattle.rel_model.specs.State.{State}
-use Rattle.rel_model.specs.Meaning.{missing, Fits, Misfit, shaped, value}
-use Rattle.rel_model.specs.Due.{Value, Refusal, known_or_ill, fitting_or_ill, evaluated, outcome_due}
-use Rattle.rel_model.specs.Legal.{MayLackNodes, IsCompound}
-use Rattle.rel_model.specs.Cost.{cost, cost_where_due}
-use Rattle.rel_model.specs.Page.{prefix, matrix, refusal_text, reply}
+use Rattle.lang_model.specs.State.{State}
+use Rattle.lang_model.specs.Missing.{missing}
+use Rattle.relview.specs.First.Meaning.{Fits, Misfit, shaped, value}
+use Rattle.relview.specs.First.Due.{Value, Refusal, known_or_ill, fitting_or_ill, evaluated, outcome_due}
+use Rattle.relview.specs.First.Legal.{MayLackNodes, IsCompound}
+use Rattle.relview.specs.First.Cost.{cost, cost_where_due}
+use Rattle.run_model.specs.Texts.{prefix, matrix, refusal_text}
+use Rattle.relview.specs.First.Page.{reply}
 use Rattle.rel_model.specs.Worker.{Worker}
 use Rattle.relview.specs.Plain.{IsFit}
 use Rattle.relview.specs.Names.{means, sized, AllStand}

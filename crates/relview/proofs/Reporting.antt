@@ -5,9 +5,9 @@ use Rattle.std.specs.Prelude.{All, IsTrue}
 use Rattle.std.specs.List.{AllByRecursion}
 use Rattle.std.specs.String.{string_bytes}
 use Rattle.std.proofs.lemmas.List.Elements.{recursion_from_All}
-use Rattle.rel_model.specs.Legal.{Trees, IsLegal}
-use Rattle.rel_model.specs.Page.{page_of}
-use Rattle.rel_model.specs.Stored.{HoldsRun}
+use Rattle.relview.specs.First.Legal.{Trees, IsLegal}
+use Rattle.relview.specs.First.Page.{page_of}
+use Rattle.relview.specs.First.Stored.{HoldsRun}
 use Rattle.rv_io.specs.Outside.{Told, IsFile}
 use Rattle.relview.specs.declared.top.Report.{Report}
 use Rattle.relview.specs.declared.top.Answer.{Answer}

@@ -7,16 +7,16 @@ use Rattle.std.specs.List.{list_any, slice_get}
 use Rattle.std.specs.Option.{option_map_or}
 use Rattle.std.proofs.lemmas.Bool.{false≢true}
 use Rattle.std.proofs.lemmas.Option.{slice_get-map}
-use Rattle.rel_model.specs.declared.syntax.Item.{Item}
-use Rattle.rel_model.specs.declared.syntax.Script.{Script}
-use Rattle.rel_model.specs.declared.run.Event.{Event}
-use Rattle.rel_model.specs.declared.run.Act.{Act}
-use Rattle.rel_model.specs.declared.run.Act.TheVariants.{Read, Assign, Remove}
-use Rattle.rel_model.specs.declared.run.Outcome.{Outcome}
-use Rattle.rel_model.specs.State.{State, nothing}
-use Rattle.rel_model.specs.Due.{due}
-use Rattle.rel_model.specs.Legal.{Trees, item_at, is_of, events_of, Replay, start, assigned_due, replay_act, replay_from, state_after, events_before, state_for, IsOutcome, LegalItems, IsLegal}
-use Rattle.rel_model.specs.Page.{reply, items_page, page_of}
+use Rattle.lang_model.specs.declared.syntax.Item.{Item}
+use Rattle.lang_model.specs.declared.syntax.Script.{Script}
+use Rattle.run_model.specs.declared.event.Event.{Event}
+use Rattle.run_model.specs.declared.event.Act.{Act}
+use Rattle.run_model.specs.declared.event.Act.TheVariants.{Read, Assign, Remove}
+use Rattle.run_model.specs.declared.outcome.Outcome.{Outcome}
+use Rattle.lang_model.specs.State.{State, nothing}
+use Rattle.relview.specs.First.Due.{due}
+use Rattle.relview.specs.First.Legal.{Trees, item_at, is_of, events_of, Replay, start, assigned_due, replay_act, replay_from, state_after, events_before, state_for, IsOutcome, LegalItems, IsLegal}
+use Rattle.relview.specs.First.Page.{reply, items_page, page_of}
 use Rattle.rv_parse.specs.Plain.{ItemTree, item_tree, script_tree}
 use Rattle.relview.proofs.TreeMeaning.{same_due, same_events, same_outcome, same_reply}
 

@@ -2,17 +2,19 @@
 use Rattle.std.proofs.Common.{◌≡◌, ◌∙◌, ◌++◌, inl, inr, ℕ, List, Some, None, refl, sym, ap}
 use Rattle.rel_model.specs.declared.Lack.{Lack}
 use Rattle.rel_model.specs.declared.Lack.TheVariants.{Full, NoMemory as NO_MEMORY}
-use Rattle.rel_model.specs.declared.syntax.Command.TheVariants.{Print}
-use Rattle.rel_model.specs.declared.syntax.Item.TheVariants.{Command}
-use Rattle.rel_model.specs.declared.syntax.Expr.{Expr}
-use Rattle.rel_model.specs.declared.run.Outcome.{Outcome}
-use Rattle.rel_model.specs.declared.run.Outcome.TheVariants.{Nodes, NoMemory}
+use Rattle.lang_model.specs.declared.syntax.Command.TheVariants.{Print}
+use Rattle.lang_model.specs.declared.syntax.Item.TheVariants.{Command}
+use Rattle.lang_model.specs.declared.syntax.Expr.{Expr}
+use Rattle.run_model.specs.declared.outcome.Outcome.{Outcome}
+use Rattle.run_model.specs.declared.outcome.Outcome.TheVariants.{Nodes, NoMemory}
 use Rattle.rel_model.specs.Relation.{Relation}
-use Rattle.rel_model.specs.State.{State}
-use Rattle.rel_model.specs.Meaning.{missing, Shaped, Fits, Misfit, shaped, value}
-use Rattle.rel_model.specs.Due.{known_or_ill, fitting_or_ill, evaluated, outcome_due}
-use Rattle.rel_model.specs.Legal.{MayLackNodes}
-use Rattle.rel_model.specs.Page.{prefix, refusal_text, reply}
+use Rattle.lang_model.specs.State.{State}
+use Rattle.lang_model.specs.Missing.{missing}
+use Rattle.relview.specs.First.Meaning.{Shaped, Fits, Misfit, shaped, value}
+use Rattle.relview.specs.First.Due.{known_or_ill, fitting_or_ill, evaluated, outcome_due}
+use Rattle.relview.specs.First.Legal.{MayLackNodes}
+use Rattle.run_model.specs.Texts.{prefix, refusal_text}
+use Rattle.relview.specs.First.Page.{reply}
 use Rattle.rel_model.specs.Worker.{Rose}
 use Rattle.relview.specs.Ran.{Replies, Settles}
 use Rattle.relview.specs.Values.{lack_outcome}

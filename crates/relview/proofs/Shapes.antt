@@ -3,13 +3,13 @@ use Rattle.std.proofs.Common.{◌≡◌, ◌<◌, ◌+◌, ◌/◌, ◌%◌, ◌
 use Rattle.std.proofs.Math.Nat.{div-add-mod}
 use Rattle.std.proofs.lemmas.List.{drop_more}
 use Rattle.rel_model.specs.declared.Rel.{Rel}
-use Rattle.rel_model.specs.declared.syntax.Place.{Place}
-use Rattle.rel_model.specs.declared.syntax.Expr.{Ref}
-use Rattle.rel_model.specs.declared.syntax.Link.{Link}
-use Rattle.rel_model.specs.declared.faults.TypeFault.{TypeFault}
+use Rattle.lang_model.specs.declared.syntax.Place.{Place}
+use Rattle.lang_model.specs.declared.syntax.Expr.{Ref}
+use Rattle.lang_model.specs.declared.syntax.Link.{Link}
+use Rattle.lang_model.specs.declared.faults.TypeFault.{TypeFault}
 use Rattle.rel_model.specs.Operators.{empty}
-use Rattle.rel_model.specs.State.{State}
-use Rattle.rel_model.specs.Meaning.{Shaped, Fits, Misfit, joined, shape_transposed, shape_transposed_by, shape_of_relation, shaped}
+use Rattle.lang_model.specs.State.{State}
+use Rattle.relview.specs.First.Meaning.{Shaped, Fits, Misfit, joined, shape_transposed, shape_transposed_by, shape_of_relation, shaped}
 use Rattle.rel_model.proofs.Relations.{rows-relation_of, cols-relation_of}
 use Rattle.relview.specs.Names.{rel_of, sized}
 use Rattle.relview.proofs.Linked.{shaped_of_links}

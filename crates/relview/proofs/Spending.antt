@@ -4,15 +4,17 @@
 use Rattle.std.proofs.Common.{◌≡◌, ◌<◌, ◌≤◌, ◌+◌, ◌∙◌, ℕ, List, ◌∷◌, length, drop, get_or, Option, Some, None, refl, sym, ap, arith}
 use Rattle.std.proofs.lemmas.List.{drop_more}
 use Rattle.rel_model.specs.declared.Rel.{Rel}
-use Rattle.rel_model.specs.declared.syntax.Place.{Place}
-use Rattle.rel_model.specs.declared.syntax.Op2.{Op2}
-use Rattle.rel_model.specs.declared.syntax.Op2.TheVariants.{Or, And, Times, Under, Over}
-use Rattle.rel_model.specs.declared.syntax.Link.{Link}
-use Rattle.rel_model.specs.declared.syntax.Expr.{Expr}
+use Rattle.lang_model.specs.declared.syntax.Place.{Place}
+use Rattle.lang_model.specs.declared.syntax.Op2.{Op2}
+use Rattle.lang_model.specs.declared.syntax.Op2.TheVariants.{Or, And, Times, Under, Over}
+use Rattle.lang_model.specs.declared.syntax.Link.{Link}
+use Rattle.lang_model.specs.declared.syntax.Expr.{Expr}
 use Rattle.rel_model.specs.Relation.{Relation}
-use Rattle.rel_model.specs.State.{State}
-use Rattle.rel_model.specs.Meaning.{first_of_both, missing, Shaped, shaped, value, result_of_both}
-use Rattle.rel_model.specs.Cost.{tree_cost, cost, link_cost}
+use Rattle.lang_model.specs.State.{State}
+use Rattle.lang_model.specs.Missing.{first_of_both, missing}
+use Rattle.relview.specs.First.Meaning.{Shaped, shaped, value}
+use Rattle.lang_model.specs.Mean.{result_of_both}
+use Rattle.relview.specs.First.Cost.{tree_cost, cost, link_cost}
 use Rattle.rel_model.specs.Worker.{Worker, Stands, set_of, Gives, Keeps}
 use Rattle.rel_model.specs.Trees.{bottom_height}
 use Rattle.rel_model.specs.Roots.{relation_room}

@@ -10,29 +10,30 @@ use Rattle.rel_model.specs.declared.Lack.{Lack}
 use Rattle.rel_model.specs.declared.Lack.TheVariants.{Full, NoMemory as NO_MEMORY}
 use Rattle.std.specs.declared.alloc.Global.{Global}
 use Rattle.std.specs.declared.vec.Vec.{Vec}
-use Rattle.rel_model.specs.declared.syntax.Place.{Place}
-use Rattle.rel_model.specs.declared.syntax.Row.{Row}
-use Rattle.rel_model.specs.declared.syntax.Command.TheVariants.{Relation as RELATION, Print}
-use Rattle.rel_model.specs.declared.syntax.Item.{Item}
-use Rattle.rel_model.specs.declared.syntax.Item.TheVariants.{Command}
-use Rattle.rel_model.specs.declared.syntax.Expr.{Expr}
-use Rattle.rel_model.specs.declared.run.Event.{Event}
-use Rattle.rel_model.specs.declared.run.Act.TheVariants.{Read, Assign}
-use Rattle.rel_model.specs.declared.run.Outcome.{Outcome}
-use Rattle.rel_model.specs.declared.run.Outcome.TheVariants.{Done, Nodes, NoMemory}
+use Rattle.lang_model.specs.declared.syntax.Place.{Place}
+use Rattle.lang_model.specs.declared.syntax.Row.{Row}
+use Rattle.lang_model.specs.declared.syntax.Command.TheVariants.{Relation as RELATION, Print}
+use Rattle.lang_model.specs.declared.syntax.Item.{Item}
+use Rattle.lang_model.specs.declared.syntax.Item.TheVariants.{Command}
+use Rattle.lang_model.specs.declared.syntax.Expr.{Expr}
+use Rattle.run_model.specs.declared.event.Event.{Event}
+use Rattle.run_model.specs.declared.event.Act.TheVariants.{Read, Assign}
+use Rattle.run_model.specs.declared.outcome.Outcome.{Outcome}
+use Rattle.run_model.specs.declared.outcome.Outcome.TheVariants.{Done, Nodes, NoMemory}
 use Rattle.rel_model.specs.Relation.{relation_of}
-use Rattle.rel_model.specs.State.{nothing, assigned, lists}
-use Rattle.rel_model.specs.Tokens.{same_text}
-use Rattle.rel_model.specs.Due.{Due, Value, due, due_of_command, evaluated}
-use Rattle.rel_model.specs.Legal.{Trees, start as begin, item_at, state_after, state_for, LegalItems, IsOutcome, HasEvents}
-use Rattle.rel_model.specs.Cost.{cost, cost_where_due, listed_count, listed_cost, cost_of_command, cost_of_item}
-use Rattle.rel_model.specs.Page.{items_page, reply, prefix, refusal_text}
+use Rattle.lang_model.specs.State.{nothing, assigned, lists}
+use Rattle.lang_model.specs.Tokens.{same_text}
+use Rattle.relview.specs.First.Due.{Due, Value, due, due_of_command, evaluated}
+use Rattle.relview.specs.First.Legal.{Trees, start as begin, item_at, state_after, state_for, LegalItems, IsOutcome, HasEvents}
+use Rattle.relview.specs.First.Cost.{cost, cost_where_due, listed_count, listed_cost, cost_of_command, cost_of_item}
+use Rattle.relview.specs.First.Page.{items_page, reply}
+use Rattle.run_model.specs.Texts.{prefix, refusal_text}
 use Rattle.rel_model.specs.Worker.{Worker, Stands, Keeps, Rose}
 use Rattle.rel_model.proofs.Workers.{keeps_trans, keeps_itself, gives_stands}
-use Rattle.rel_model.proofs.Runs.{Below, below-push, below-more, state_after-read, state_after-listed, state_for-new, legal_later, legal_append, legal-length, page_later, page_append}
+use Rattle.relview.proofs.Runs.{Below, below-push, below-more, state_after-read, state_after-listed, state_for-new, legal_later, legal_append, legal-length, page_later, page_append}
 use Rattle.relview.specs.declared.session.Run.{Run}
 use Rattle.relview.specs.Names.{rel_of, means, AllStand}
-use Rattle.rel_model.specs.declared.syntax.Script.{Script}
+use Rattle.lang_model.specs.declared.syntax.Script.{Script}
 use Rattle.relview.specs.Ran.{Ran, RanTo, tree_of, Follows, HasMissed, Printed, Assigned, Refused}
 use Rattle.relview.specs.Values.{lack_outcome}
 use Rattle.relview.proofs.Finding.{found_more, found_kept, assigned-listed, cost_later, cost_append}

@@ -5,22 +5,25 @@
 use Rattle.std.proofs.Common.{◌≡◌, ◌∙◌, ◌+◌, ◌==◌, ◌&&◌, ◌||◌, ◌⊎◌, ◌++◌, ℕ, Bool, cond, List, [], ◌∷◌, map, Option, Some, None, refl, sym, ap, ap₂}
 use Rattle.std.specs.Prelude.{is_some}
 use Rattle.std.specs.List.{list_any}
-use Rattle.rel_model.specs.declared.syntax.Place.{Place}
-use Rattle.rel_model.specs.declared.syntax.Row.{Row}
-use Rattle.rel_model.specs.declared.syntax.Expr.{Expr, Ref, Call', Base', Inject, Pair', Minus', Turned', Chain', Row_of-Expr, end_of-Expr, more_of-Expr, Row_of-Link, end_of-Link, more_of-Link}
-use Rattle.rel_model.specs.declared.syntax.Command.TheVariants.{Relation as RELATION, Print as PRINT}
-use Rattle.rel_model.specs.declared.syntax.Item.{Item}
-use Rattle.rel_model.specs.declared.syntax.Item.TheVariants.{Command as COMMAND}
-use Rattle.rel_model.specs.declared.run.Event.{Event}
-use Rattle.rel_model.specs.declared.run.Outcome.{Outcome}
-use Rattle.rel_model.specs.declared.run.Outcome.TheVariants.{Done, Nodes, NoMemory}
+use Rattle.lang_model.specs.declared.syntax.Place.{Place}
+use Rattle.lang_model.specs.declared.syntax.Row.{Row}
+use Rattle.lang_model.specs.declared.syntax.Expr.{Expr, Ref, Call', Base', Inject, Pair', Minus', Turned', Chain', Row_of-Expr, end_of-Expr, more_of-Expr, Row_of-Link, end_of-Link, more_of-Link}
+use Rattle.lang_model.specs.declared.syntax.Command.TheVariants.{Relation as RELATION, Print as PRINT}
+use Rattle.lang_model.specs.declared.syntax.Item.{Item}
+use Rattle.lang_model.specs.declared.syntax.Item.TheVariants.{Command as COMMAND}
+use Rattle.run_model.specs.declared.event.Event.{Event}
+use Rattle.run_model.specs.declared.outcome.Outcome.{Outcome}
+use Rattle.run_model.specs.declared.outcome.Outcome.TheVariants.{Done, Nodes, NoMemory}
 use Rattle.rel_model.specs.Relation.{Relation, relation_of}
 use Rattle.rel_model.specs.Operators.{empty, complement, transposed_by}
-use Rattle.rel_model.specs.State.{State, lists}
-use Rattle.rel_model.specs.Meaning.{first_of_both, missing, missing_in, missing_along, Shaped, Fits, joined, shape_transposed_by, shape_of_relation, relation_named, shaped, shaped_along, result_of_both, value, value_along}
-use Rattle.rel_model.specs.Due.{Due, Nothing, Value, Refusal, outcome_due, fitting_or_ill, known_or_ill, evaluated, due_of_command, due}
-use Rattle.rel_model.specs.Legal.{HasAssign, HasRead, HasEvents, IsCommand, MayLackNodes, IsOutcome}
-use Rattle.rel_model.specs.Page.{prefix, matrix, refusal_text, done_text, reply}
+use Rattle.lang_model.specs.State.{State, lists}
+use Rattle.lang_model.specs.Missing.{first_of_both, missing, missing_in, missing_along}
+use Rattle.relview.specs.First.Meaning.{Shaped, Fits, joined, shape_transposed_by, shape_of_relation, relation_named, shaped, shaped_along, value, value_along}
+use Rattle.lang_model.specs.Mean.{result_of_both}
+use Rattle.relview.specs.First.Due.{Due, Nothing, Value, Refusal, outcome_due, fitting_or_ill, known_or_ill, evaluated, due_of_command, due}
+use Rattle.relview.specs.First.Legal.{HasAssign, HasRead, HasEvents, IsCommand, MayLackNodes, IsOutcome}
+use Rattle.run_model.specs.Texts.{prefix, matrix, refusal_text}
+use Rattle.relview.specs.First.Page.{done_text, reply}
 use Rattle.rv_parse.specs.Places.{Tree, NameTree, CallTree, BaseTree, InjectTree, PairTree, MinusTree, TurnedTree, ChainTree, Trees, NoTree, MoreTrees, Branches, NoBranch, MoreBranches, tree_of, trees_of, branches_of}
 use Rattle.rv_parse.specs.Plain.{RowTree, row_tree, RelationTree, PrintTree, ItemTree, CommandItem, item_tree}
 

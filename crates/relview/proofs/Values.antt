@@ -5,11 +5,11 @@ use Rattle.std.proofs.Math.Nat.{div-add-mod}
 use Rattle.rel_model.specs.declared.Rel.{Rel}
 use Rattle.rel_model.specs.Relation.{IsRelation}
 use Rattle.rel_model.specs.Operators.{full, diff, complement, transpose, transposed_by}
-use Rattle.rel_model.specs.Meaning.{Fits, shape_transposed_by}
+use Rattle.relview.specs.First.Meaning.{Fits, shape_transposed_by}
 use Rattle.rel_model.specs.Worker.{Worker, Stands, set_of, Gives, Keeps}
 use Rattle.rel_model.proofs.Workers.{stands_some, gives_set, keeps_set}
 use Rattle.rel_model.proofs.OperatorLaws.{diff-full, transposed_by-even, transposed_by-odd}
-use Rattle.rel_model.specs.Tokens.{same_text}
+use Rattle.lang_model.specs.Tokens.{same_text}
 use Rattle.relview.specs.Names.{rel_of, later, means, AllStand}
 use Rattle.relview.specs.Values.{GivesValue}
 use Rattle.relview.proofs.Shapes.{even_times, odd_times}

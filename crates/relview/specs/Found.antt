@@ -1,12 +1,12 @@
 -- The relations of assignments, as something that keeps relations finds them.
 use Rattle.std.specs.Prelude.{◌≡◌, ℕ, List, [], ◌∷◌, Option, Some}
 use Rattle.rel_model.specs.declared.Rel.{Rel}
-use Rattle.rel_model.specs.declared.run.Event.{Event}
-use Rattle.rel_model.specs.declared.run.Act.{Act}
-use Rattle.rel_model.specs.declared.run.Act.TheVariants.{Read, Assign, Remove}
+use Rattle.run_model.specs.declared.event.Event.{Event}
+use Rattle.run_model.specs.declared.event.Act.{Act}
+use Rattle.run_model.specs.declared.event.Act.TheVariants.{Read, Assign, Remove}
 use Rattle.rel_model.specs.Relation.{Relation}
-use Rattle.rel_model.specs.Legal.{Trees, Replay, replay_act}
-use Rattle.rel_model.specs.Stored.{value_assigned}
+use Rattle.relview.specs.First.Legal.{Trees, Replay, replay_act}
+use Rattle.relview.specs.First.Stored.{value_assigned}
 
 -- the relation of an assignment is found with the value that it gives
 abbrev pub IsFound : Trees → (Rel → Option Relation) → Replay → ℕ → ℕ → Act → Type 0

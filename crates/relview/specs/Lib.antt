@@ -1,3 +1,4 @@
+pub mod First
 pub mod Names
 pub mod Plain
 pub mod Values

@@ -3,8 +3,8 @@ use Rattle.std.specs.Prelude.{◌≡◌, ℕ, cond, List, [], ◌∷◌, Option,
 use Rattle.rel_model.specs.declared.Rel.{Rel}
 use Rattle.rel_model.specs.Worker.{Worker, Stands}
 use Rattle.rel_model.specs.Operators.{empty}
-use Rattle.rel_model.specs.Tokens.{same_text}
-use Rattle.rel_model.specs.State.{State}
+use Rattle.lang_model.specs.Tokens.{same_text}
+use Rattle.lang_model.specs.State.{State}
 
 -- the second of two, where there is one
 abbrev pub later : {T : Type 0} → Option T → Option T → Option T

@@ -1,14 +1,14 @@
 -- A script that runs alone has one run, as long as the table and memory suffice: as a tree, and as a text.
 use Rattle.std.specs.Prelude.{◌≡◌, ◌≢◌, ℕ, List, [], ◌∷◌, map, Option}
 use Rattle.std.specs.List.{AllByRecursion}
-use Rattle.rel_model.specs.declared.syntax.Script.{Script}
-use Rattle.rel_model.specs.declared.run.Event.{Event}
-use Rattle.rel_model.specs.declared.run.Act.{Act}
-use Rattle.rel_model.specs.declared.run.Act.TheVariants.{Read, Assign, Remove}
-use Rattle.rel_model.specs.declared.run.Outcome.{Outcome}
-use Rattle.rel_model.specs.declared.run.Outcome.TheVariants.{Nodes, NoMemory}
-use Rattle.rel_model.specs.Legal.{IsLegal}
-use Rattle.rel_model.specs.Page.{page_of, IsRun}
+use Rattle.lang_model.specs.declared.syntax.Script.{Script}
+use Rattle.run_model.specs.declared.event.Event.{Event}
+use Rattle.run_model.specs.declared.event.Act.{Act}
+use Rattle.run_model.specs.declared.event.Act.TheVariants.{Read, Assign, Remove}
+use Rattle.run_model.specs.declared.outcome.Outcome.{Outcome}
+use Rattle.run_model.specs.declared.outcome.Outcome.TheVariants.{Nodes, NoMemory}
+use Rattle.relview.specs.First.Legal.{IsLegal}
+use Rattle.relview.specs.First.Page.{page_of, IsRun}
 
 -- the table and memory sufficed for a command: its outcome is neither a full table nor want of memory
 abbrev pub Sufficed : Outcome → Type 0

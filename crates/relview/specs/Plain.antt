@@ -1,8 +1,8 @@
 -- The expressions of union, intersection, complement and transposition, and sizes that fit.
-use Rattle.rel_model.specs.declared.syntax.Op2.{Op2}
-use Rattle.rel_model.specs.declared.syntax.Op2.TheVariants.{Or, And, Times, Under, Over}
-use Rattle.rel_model.specs.declared.syntax.Expr.{Expr, Ref, Call', Base', Inject, Pair', Minus', Turned', Chain', Row_of-Link, end_of-Link, more_of-Link}
-use Rattle.rel_model.specs.Meaning.{Shaped, Fits, Misfit}
+use Rattle.lang_model.specs.declared.syntax.Op2.{Op2}
+use Rattle.lang_model.specs.declared.syntax.Op2.TheVariants.{Or, And, Times, Under, Over}
+use Rattle.lang_model.specs.declared.syntax.Expr.{Expr, Ref, Call', Base', Inject, Pair', Minus', Turned', Chain', Row_of-Link, end_of-Link, more_of-Link}
+use Rattle.relview.specs.First.Meaning.{Shaped, Fits, Misfit}
 
 -- union and intersection
 abbrev pub IsBoolean : Op2 → Type 0

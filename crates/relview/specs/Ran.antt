@@ -4,23 +4,24 @@ use Rattle.std.specs.List.{AllByRecursion}
 use Rattle.rel_model.specs.declared.Rel.{Rel}
 use Rattle.rel_model.specs.declared.Lack.{Lack}
 use Rattle.rel_model.specs.declared.Lack.TheVariants.{Full}
-use Rattle.rel_model.specs.declared.syntax.Command.TheVariants.{Relation as RELATION, Print}
-use Rattle.rel_model.specs.declared.syntax.Item.{Item}
-use Rattle.rel_model.specs.declared.syntax.Item.TheVariants.{Command}
-use Rattle.rel_model.specs.declared.syntax.Expr.{Expr}
-use Rattle.rel_model.specs.declared.syntax.Script.{Script}
-use Rattle.rel_model.specs.declared.run.Event.{Event}
-use Rattle.rel_model.specs.declared.run.Outcome.{Outcome}
-use Rattle.rel_model.specs.declared.run.Outcome.TheVariants.{Done, Nodes}
-use Rattle.rel_model.specs.declared.run.Act.TheVariants.{Read, Assign}
+use Rattle.lang_model.specs.declared.syntax.Command.TheVariants.{Relation as RELATION, Print}
+use Rattle.lang_model.specs.declared.syntax.Item.{Item}
+use Rattle.lang_model.specs.declared.syntax.Item.TheVariants.{Command}
+use Rattle.lang_model.specs.declared.syntax.Expr.{Expr}
+use Rattle.lang_model.specs.declared.syntax.Script.{Script}
+use Rattle.run_model.specs.declared.event.Event.{Event}
+use Rattle.run_model.specs.declared.outcome.Outcome.{Outcome}
+use Rattle.run_model.specs.declared.outcome.Outcome.TheVariants.{Done, Nodes}
+use Rattle.run_model.specs.declared.event.Act.TheVariants.{Read, Assign}
 use Rattle.rel_model.specs.Relation.{Relation}
 use Rattle.rel_model.specs.Worker.{Worker, Keeps, Gives, Rose}
-use Rattle.rel_model.specs.State.{State}
-use Rattle.rel_model.specs.Due.{outcome_due, evaluated}
-use Rattle.rel_model.specs.Legal.{Trees, LegalItems, start as begin, state_after, IsOutcome}
-use Rattle.rel_model.specs.Cost.{cost_of_items}
+use Rattle.lang_model.specs.State.{State}
+use Rattle.relview.specs.First.Due.{outcome_due, evaluated}
+use Rattle.relview.specs.First.Legal.{Trees, LegalItems, start as begin, state_after, IsOutcome}
+use Rattle.relview.specs.First.Cost.{cost_of_items}
 use Rattle.relview.specs.Found.{AreFound}
-use Rattle.rel_model.specs.Page.{items_page, reply, prefix, refusal_text}
+use Rattle.relview.specs.First.Page.{items_page, reply}
+use Rattle.run_model.specs.Texts.{prefix, refusal_text}
 use Rattle.relview.specs.Names.{means, AllStand}
 use Rattle.relview.specs.Plain.{IsPlain}
 use Rattle.rel_model.specs.Relation.{size_limit}

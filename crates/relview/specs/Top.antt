@@ -4,12 +4,12 @@ use Rattle.std.specs.List.{list_any, list_all}
 use Rattle.std.specs.String.{string_bytes}
 use Rattle.std.specs.declared.alloc.Global.{Global}
 use Rattle.std.specs.Io.KnownBytes.{Appends}
-use Rattle.rel_model.specs.Tokens.{same_text}
-use Rattle.rel_model.specs.declared.run.Outcome.{Outcome}
-use Rattle.rel_model.specs.declared.run.Outcome.TheVariants.{Done, NoMemory}
-use Rattle.rel_model.specs.Legal.{no_script}
-use Rattle.rel_model.specs.Page.{IsRun}
-use Rattle.rel_model.specs.Stored.{HoldsRun}
+use Rattle.lang_model.specs.Tokens.{same_text}
+use Rattle.run_model.specs.declared.outcome.Outcome.{Outcome}
+use Rattle.run_model.specs.declared.outcome.Outcome.TheVariants.{Done, NoMemory}
+use Rattle.relview.specs.First.Legal.{no_script}
+use Rattle.relview.specs.First.Page.{IsRun}
+use Rattle.relview.specs.First.Stored.{HoldsRun}
 use Rattle.rv_io.specs.Outside.{Told, Rose, IsFile, IsOver}
 use Rattle.rv_io.specs.Writing.{HasSent}
 use Rattle.std.specs.Bool.{MatchBool}

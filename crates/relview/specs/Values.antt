@@ -1,14 +1,15 @@
 -- What the evaluator answers.
 use Rattle.rel_model.specs.declared.Rel.{Rel}
-use Rattle.rel_model.specs.declared.faults.TypeFault.{TypeFault}
-use Rattle.rel_model.specs.declared.faults.TypeFault.TheVariants.{Mismatch}
+use Rattle.lang_model.specs.declared.faults.TypeFault.{TypeFault}
+use Rattle.lang_model.specs.declared.faults.TypeFault.TheVariants.{Mismatch}
 use Rattle.rel_model.specs.declared.Lack.{Lack}
 use Rattle.rel_model.specs.declared.Lack.TheVariants.{Full, NoMemory as NO_MEMORY}
-use Rattle.rel_model.specs.declared.run.Outcome.{Outcome}
-use Rattle.rel_model.specs.declared.run.Outcome.TheVariants.{Nodes, NoMemory}
+use Rattle.run_model.specs.declared.outcome.Outcome.{Outcome}
+use Rattle.run_model.specs.declared.outcome.Outcome.TheVariants.{Nodes, NoMemory}
 use Rattle.rel_model.specs.Relation.{Relation}
 use Rattle.rel_model.specs.Worker.{Worker, Gives}
-use Rattle.rel_model.specs.Meaning.{Shaped, Fits, Misfit, spelling, known}
+use Rattle.relview.specs.First.Meaning.{Shaped, Fits, Misfit}
+use Rattle.lang_model.specs.Types.{spelling, known}
 use Rattle.relview.specs.declared.evaluate.Mismatched.{Mismatched}
 
 -- the fault of operands that do not fit

@@ -2,16 +2,16 @@
 ghost use Rattle.std.specs.Prelude.{◌≡◌, ◌==◌, ◌&&◌, ◌+◌, ◌≤◌, length, false, IfOk, OnOk};
 ghost use Rattle.std.specs.List.{list_any};
 ghost use Rattle.rel_model.specs.Relation.{relation_of, size_limit};
-ghost use Rattle.rel_model.specs.State.{lists};
+ghost use Rattle.lang_model.specs.State.{lists};
 ghost use Rattle.rel_model.specs.Worker.{Keeps, MakesAtMost, Gives, HasCause};
-ghost use Rattle.rel_model.specs.Cost.{listed_count, listed_cost};
+ghost use Rattle.relview.specs.First.Cost.{listed_count, listed_cost};
 ghost use Rattle.rel_model.specs.Trees.{bottom_height};
 ghost use Rattle.rel_model.specs.Listed.{AreWithin};
 ghost use Rattle.relview.specs.Listed.{Extends, IsListed};
 
 use rel_model::core_trait::Core;
 use rel_model::engine_trait::Engine;
-use rel_model::syntax::Row;
+use lang_model::syntax::Row;
 use rel_model::{Lack, Rel, Shape};
 use std::alloc::{AllocError, Global};
 

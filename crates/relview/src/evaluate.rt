@@ -1,18 +1,20 @@
 //! What an expression comes to on the names of a workspace: its leftmost unknown name, its sizes or the first misfit, its value.
 ghost use Rattle.std.specs.Prelude.{◌≡◌, ◌+◌, ◌%◌, Some, None, IfOk, MatchOption, MatchResult};
 ghost use Rattle.rel_model.specs.declared.Rel.{Rel};
-ghost use Rattle.rel_model.specs.Meaning.{missing, Fits, Misfit, joined, shaped, shape_transposed_by, value, result_of_both};
+ghost use Rattle.lang_model.specs.Missing.{missing};
+ghost use Rattle.relview.specs.First.Meaning.{Fits, Misfit, joined, shaped, shape_transposed_by, value};
+ghost use Rattle.lang_model.specs.Mean.{result_of_both};
 ghost use Rattle.rel_model.specs.Operators.{complement as complement_of, transposed_by};
 ghost use Rattle.rel_model.specs.Worker.{Stands, set_of, Keeps, MakesAtMost, Gives, HasCause};
 ghost use Rattle.rel_model.specs.Trees.{bottom_height};
-ghost use Rattle.rel_model.specs.Cost.{tree_cost, cost};
+ghost use Rattle.relview.specs.First.Cost.{tree_cost, cost};
 ghost use Rattle.relview.specs.Plain.{IsPlain, IsBoolean, IsFit};
 ghost use Rattle.relview.specs.Names.{rel_of, sized, means, AllStand};
 ghost use Rattle.relview.specs.Values.{fault_of, GivesValue};
 
 use crate::names::find;
 use rel_model::core_trait::Core;
-use rel_model::syntax::{Expr, Name, Op2, Place};
+use lang_model::syntax::{Expr, Name, Op2, Place};
 use rel_model::{Lack, Rel, Shape};
 
 /// An operator whose operands do not fit.

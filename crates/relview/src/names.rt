@@ -3,7 +3,7 @@ ghost use Rattle.std.specs.Prelude.{◌≡◌};
 ghost use Rattle.relview.specs.Names.{rel_of};
 
 use rel_model::Rel;
-use rel_model::syntax::Name;
+use lang_model::syntax::Name;
 
 /// The relation of a name: the last that it got.
 pub fn find(names: &[(Name, Rel)], name: &[u8]) -> Option<Rel>

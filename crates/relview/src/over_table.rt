@@ -1,6 +1,6 @@
 //! A script over a fresh node table, and the words of the table in the end.
 ghost use Rattle.std.specs.Prelude.{◌≡◌, ◌∷◌, [], ◌≤◌, ◌^◌, ℕ, List, length, IfOk, All};
-ghost use Rattle.rel_model.specs.Grammar.{SpelledBy};
+ghost use Rattle.rv_parse.specs.FirstGrammar.{SpelledBy};
 ghost use Rattle.relview.specs.Ran.{IsFirstItem};
 ghost use Rattle.relview.specs.Top.{Answers, HoldsNothing};
 
@@ -10,7 +10,7 @@ use fork_quads::{Crew, OpenGate};
 use pair_table::PairTable;
 use rel_engine::Works;
 use rel_model::NoMemory;
-use rel_model::syntax::Script;
+use lang_model::syntax::Script;
 use std::alloc::Global;
 
 /// The bits of a run's table, which has `2 ^ TABLE_BITS` node words.

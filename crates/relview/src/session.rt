@@ -2,12 +2,12 @@
 ghost use Rattle.std.specs.Prelude.{◌≡◌, ◌∷◌, ◌++◌, [], ◌<◌, ◌≤◌, ◌+◌, ◌^◌, ◌⊎◌, ℕ, List, length, take, false, OnOk, IfOk};
 ghost use Rattle.std.specs.Prelude.{All};
 ghost use Rattle.rel_model.specs.Relation.{relation_of, size_limit};
-ghost use Rattle.rel_model.specs.State.{lists};
+ghost use Rattle.lang_model.specs.State.{lists};
 ghost use Rattle.rel_model.specs.Worker.{Keeps, MakesAtMost, Gives, HasCause};
-ghost use Rattle.rel_model.specs.Cost.{cost, cost_where_due, listed_count, listed_cost};
+ghost use Rattle.relview.specs.First.Cost.{cost, cost_where_due, listed_count, listed_cost};
 ghost use Rattle.rel_model.specs.Trees.{bottom_height};
-ghost use Rattle.rel_model.specs.Due.{evaluated};
-ghost use Rattle.rel_model.specs.Legal.{Trees};
+ghost use Rattle.relview.specs.First.Due.{evaluated};
+ghost use Rattle.relview.specs.First.Legal.{Trees};
 ghost use Rattle.relview.specs.Plain.{IsPlain};
 ghost use Rattle.relview.specs.Names.{means, AllStand};
 ghost use Rattle.relview.specs.Ran.{IsFirstItem, RanTo, Follows, tree_of, Settles, Printed, Assigns, Assigned, Refuses, Refused};
@@ -16,8 +16,9 @@ use crate::build::listed;
 use crate::reply::{Reply, lack_reply, print_reply};
 use rel_model::core_trait::Core;
 use rel_model::engine_trait::Engine;
-use rel_model::run::{Act, Event, Outcome};
-use rel_model::syntax::{Command, Expr, Item, Name, Row, Script};
+use run_model::event::{Act, Event};
+use run_model::outcome::Outcome;
+use lang_model::syntax::{Command, Expr, Item, Name, Row, Script};
 use rel_model::{Lack, NoMemory, Rel, Shape};
 use std::alloc::Global;
 

@@ -1,19 +1,19 @@
 //! The texts of replies.
 ghost use Rattle.std.specs.Prelude.{◌≡◌, ◌∷◌, ◌++◌, [], ◌<◌, ◌≤◌, ℕ, List, OnOk, codes, if◌then◌else◌};
 ghost use Rattle.std.specs.Fmt.{decimal};
-ghost use Rattle.rel_model.specs.Meaning.{known, spelling};
-ghost use Rattle.rel_model.specs.Page.{row_text, rows_text, matrix, prefix, place_text, shape_text, refusal_text, outcome_text, type_fault_text, unknown_text, mismatch_text, parse_fault_text, what_text};
+ghost use Rattle.lang_model.specs.Types.{known, spelling};
+ghost use Rattle.run_model.specs.Texts.{row_text, rows_text, matrix, prefix, place_text, shape_text, refusal_text, outcome_text, type_fault_text, unknown_text, mismatch_text, parse_fault_text, what_text};
 ghost use Rattle.rel_model.specs.Worker.{Stands, set_of, Keeps, MakesAtMost, MissesNothing};
-ghost use Rattle.rel_model.specs.declared.faults.TypeFault.TheVariants.{Unknown, Mismatch};
-ghost use Rattle.rel_model.specs.declared.faults.What.TheVariants.{Item};
-ghost use Rattle.rel_model.specs.declared.faults.ParseFault.TheVariants.{Expected};
-ghost use Rattle.rel_model.specs.Legal.{no_script};
-ghost use Rattle.rel_model.specs.declared.run.Outcome.TheVariants.{Ill, Nodes, NoMemory};
+ghost use Rattle.lang_model.specs.declared.faults.TypeFault.TheVariants.{Unknown, Mismatch};
+ghost use Rattle.lang_model.specs.declared.faults.What.TheVariants.{Item};
+ghost use Rattle.lang_model.specs.declared.faults.ParseFault.TheVariants.{Expected};
+ghost use Rattle.relview.specs.First.Legal.{no_script};
+ghost use Rattle.run_model.specs.declared.outcome.Outcome.TheVariants.{Ill, Nodes, NoMemory};
 ghost use Rattle.relview.specs.Values.{fault_of, lack_outcome};
 
 use crate::evaluate::Mismatched;
 use rel_model::core_trait::Core;
-use rel_model::syntax::{Op2, Place};
+use lang_model::syntax::{Op2, Place};
 use rel_model::{Lack, Rel, Shape};
 use std::alloc::{AllocError, Global};
 

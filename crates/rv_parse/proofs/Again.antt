@@ -4,18 +4,18 @@ use Rattle.std.specs.List.{list_all}
 use Rattle.std.proofs.lemmas.Bool.{false≢true}
 use Rattle.std.specs.declared.vec.Vec.{Vec}
 use Rattle.std.specs.declared.alloc.Global.{Global}
-use Rattle.rel_model.specs.declared.syntax.Place.{Place}
-use Rattle.rel_model.specs.declared.syntax.Expr.{Expr}
-use Rattle.rel_model.specs.declared.syntax.Command.TheVariants.{Print}
-use Rattle.rel_model.specs.declared.syntax.Item.{Item}
-use Rattle.rel_model.specs.declared.syntax.Item.TheVariants.{Command as COMMAND}
-use Rattle.rel_model.specs.declared.syntax.Script.{Script}
-use Rattle.rel_model.specs.declared.token.Keyword.TheVariants.{Print as PRINT}
-use Rattle.rel_model.specs.declared.token.Kind.TheVariants.{Keyword, Sign}
-use Rattle.rel_model.specs.declared.token.Token.{Token}
-use Rattle.rel_model.specs.Tokens.{is_allowed, reserved_words, domain_operators, domain_operator_at, word_kind, kind_at, behind, tokens_from, tokens_of}
-use Rattle.rel_model.specs.Printing.{printed}
-use Rattle.rel_model.specs.Spelling.{OrLevel, Spelled, SpelledBy}
+use Rattle.lang_model.specs.declared.syntax.Place.{Place}
+use Rattle.lang_model.specs.declared.syntax.Expr.{Expr}
+use Rattle.lang_model.specs.declared.syntax.Command.TheVariants.{Print}
+use Rattle.lang_model.specs.declared.syntax.Item.{Item}
+use Rattle.lang_model.specs.declared.syntax.Item.TheVariants.{Command as COMMAND}
+use Rattle.lang_model.specs.declared.syntax.Script.{Script}
+use Rattle.lang_model.specs.declared.token.Keyword.TheVariants.{Print as PRINT}
+use Rattle.lang_model.specs.declared.token.Kind.TheVariants.{Keyword, Sign}
+use Rattle.lang_model.specs.declared.token.Token.{Token}
+use Rattle.lang_model.specs.Tokens.{is_allowed, reserved_words, domain_operators, domain_operator_at, word_kind, kind_at, behind, tokens_from, tokens_of}
+use Rattle.lang_model.specs.Printing.{printed}
+use Rattle.lang_model.specs.Spelling.{OrLevel, Spelled, SpelledBy}
 use Rattle.rv_parse.specs.Places.{Tree, tree_of, without_places, SameUpToPlaces}
 use Rattle.rv_parse.specs.Plain.{ItemTree, CommandItem, PrintTree, item_tree, script_tree}
 use Rattle.rv_parse.specs.Again.{StandsIn, SpellOnly, ReadAgain, PrintsSame, PrintsAgain}

@@ -3,13 +3,13 @@ use Rattle.std.proofs.Common.{◌≡◌, ◌≤◌, ◌+◌, ◌-◌, ◌^◌, �
 use Rattle.std.proofs.lemmas.Bool.{false≢true, eqb-true, le-leb, leb-true}
 use Rattle.std.specs.List.{list_all, list_any}
 use Rattle.std.specs.Option.{option_map_or}
-use Rattle.rel_model.specs.declared.syntax.Place.{Place}
-use Rattle.rel_model.specs.declared.token.Kind.{Kind}
-use Rattle.rel_model.specs.declared.token.Token.{Token}
-use Rattle.rel_model.specs.Tokens.{is_allowed, is_blank, is_letter, is_digit, is_word_byte, is_file_byte, is_sign_byte, same_text, found_in, domain_operators, domain_operator_at, begins_with_quote, file_at, value_from, behind, run_length, kind_at, with_token, tokens_from, tokens_of}
+use Rattle.lang_model.specs.declared.syntax.Place.{Place}
+use Rattle.lang_model.specs.declared.token.Kind.{Kind}
+use Rattle.lang_model.specs.declared.token.Token.{Token}
+use Rattle.lang_model.specs.Tokens.{is_allowed, is_blank, is_letter, is_digit, is_word_byte, is_file_byte, is_sign_byte, same_text, found_in, domain_operators, domain_operator_at, begins_with_quote, file_at, value_from, behind, run_length, kind_at, with_token, tokens_from, tokens_of}
 use Rattle.rv_parse.specs.Lexing.{word_at, number_at}
 use Rattle.rv_parse.proofs.Lexing.{kind_letter, kind_digit, kind_quote, kind_sign, word_runs, digit_runs}
-use Rattle.rel_model.specs.Lexed.{Ending, EndsAt, Broken, Lexed, is_comment_byte, before, broken, token_fault, lexed_from, lexed_of}
+use Rattle.lang_model.specs.Lexed.{Ending, EndsAt, Broken, Lexed, is_comment_byte, before, broken, token_fault, lexed_from, lexed_of}
 
 -- ---- tests
 pub both : (p q : Bool) → p ≡ true → q ≡ true → (p && q) ≡ true

@@ -2,18 +2,18 @@
 use Rattle.std.proofs.Common.{◌≡◌, ◌<◌, ◌-◌, ℕ, false, List, [], ◌∷◌, ◌++◌, length, refl, sym, ap, ◌∙◌, subst, append_assoc, arith, length-append, zero, suc, Some, Result, Ok, Err, MatchResult, Bor}
 use Rattle.std.proofs.lemmas.Bool.{false≢true}
 use Rattle.std.proofs.lemmas.List.{append-nil}
-use Rattle.rel_model.specs.declared.syntax.Place.{Place}
-use Rattle.rel_model.specs.declared.syntax.Decl.{Decl}
-use Rattle.rel_model.specs.declared.syntax.Item.{Item}
-use Rattle.rel_model.specs.declared.faults.What.TheVariants.{Token as TOKEN}
-use Rattle.rel_model.specs.declared.token.Keyword.TheVariants.{Beg as BEG, Decl as DECL}
-use Rattle.rel_model.specs.declared.token.Kind.{Kind}
-use Rattle.rel_model.specs.declared.token.Kind.TheVariants.{Keyword as KEYWORD, Sign, Word}
-use Rattle.rel_model.specs.declared.token.Token.{Token}
-use Rattle.rel_model.specs.Taken.{TakesAt, Takes}
-use Rattle.rel_model.specs.Lexed.{Ending}
-use Rattle.rel_model.specs.Spelling.{SpellsMoreNames, SpellsDecl, SpellsMoreDecls, SpellsHead, SpellsItem}
-use Rattle.rel_model.specs.Stop.{Part, NamePart, MoreParams, MeaningPart, DomainPart, MoreDecls, BodyPart, NotBegun, Behind, is_sign, is_word, entered, body_step, stop_of}
+use Rattle.lang_model.specs.declared.syntax.Place.{Place}
+use Rattle.lang_model.specs.declared.syntax.Decl.{Decl}
+use Rattle.lang_model.specs.declared.syntax.Item.{Item}
+use Rattle.lang_model.specs.declared.faults.What.TheVariants.{Token as TOKEN}
+use Rattle.lang_model.specs.declared.token.Keyword.TheVariants.{Beg as BEG, Decl as DECL}
+use Rattle.lang_model.specs.declared.token.Kind.{Kind}
+use Rattle.lang_model.specs.declared.token.Kind.TheVariants.{Keyword as KEYWORD, Sign, Word}
+use Rattle.lang_model.specs.declared.token.Token.{Token}
+use Rattle.lang_model.specs.Taken.{TakesAt, Takes}
+use Rattle.lang_model.specs.Lexed.{Ending}
+use Rattle.lang_model.specs.Spelling.{SpellsMoreNames, SpellsDecl, SpellsMoreDecls, SpellsHead, SpellsItem}
+use Rattle.lang_model.specs.Stop.{Part, NamePart, MoreParams, MeaningPart, DomainPart, MoreDecls, BodyPart, NotBegun, Behind, is_sign, is_word, entered, body_step, stop_of}
 use Rattle.rv_parse.specs.Halts.{missing}
 use Rattle.rv_parse.specs.Readers.{begins, begins_word, Reads, Refuses}
 use Rattle.rv_parse.specs.Got.{Got}

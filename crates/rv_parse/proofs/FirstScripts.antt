@@ -5,20 +5,20 @@
 use Rattle.std.proofs.Common.{◌≡◌, ◌<◌, ℕ, List, [], ◌∷◌, length, refl, sym, ap, ◌∙◌, subst, arith}
 use Rattle.std.specs.declared.boxed.Box.{Box}
 use Rattle.std.specs.declared.alloc.Global.{Global}
-use Rattle.rel_model.specs.declared.syntax.Column.{Column}
-use Rattle.rel_model.specs.declared.syntax.Row.{Row}
-use Rattle.rel_model.specs.declared.syntax.Op2.{Op2}
-use Rattle.rel_model.specs.declared.syntax.Op2.TheVariants.{Or, And}
-use Rattle.rel_model.specs.declared.syntax.Expr.{Expr, Chain, Chain', roll-Expr, roll-out-Expr, Row_of-Link, items-the_row-Link, items_shown-the_row-Link-1}
-use Rattle.rel_model.specs.declared.syntax.Expr.TheVariants.{rolls-Chain, outs-Chain'}
-use Rattle.rel_model.specs.declared.syntax.Expr.TheBlock.{shown-the_row-Link-1}
-use Rattle.rel_model.specs.declared.syntax.Command.{Command}
-use Rattle.rel_model.specs.declared.syntax.Command.TheVariants.{Relation, Print}
-use Rattle.rel_model.specs.declared.syntax.Item.{Item}
-use Rattle.rel_model.specs.declared.syntax.Item.TheVariants.{Command as COMMAND}
-use Rattle.rel_model.specs.declared.token.Token.{Token}
-use Rattle.rel_model.specs.Grammar as G
-use Rattle.rel_model.specs.Spelling as S
+use Rattle.lang_model.specs.declared.syntax.Column.{Column}
+use Rattle.lang_model.specs.declared.syntax.Row.{Row}
+use Rattle.lang_model.specs.declared.syntax.Op2.{Op2}
+use Rattle.lang_model.specs.declared.syntax.Op2.TheVariants.{Or, And}
+use Rattle.lang_model.specs.declared.syntax.Expr.{Expr, Chain, Chain', roll-Expr, roll-out-Expr, Row_of-Link, items-the_row-Link, items_shown-the_row-Link-1}
+use Rattle.lang_model.specs.declared.syntax.Expr.TheVariants.{rolls-Chain, outs-Chain'}
+use Rattle.lang_model.specs.declared.syntax.Expr.TheBlock.{shown-the_row-Link-1}
+use Rattle.lang_model.specs.declared.syntax.Command.{Command}
+use Rattle.lang_model.specs.declared.syntax.Command.TheVariants.{Relation, Print}
+use Rattle.lang_model.specs.declared.syntax.Item.{Item}
+use Rattle.lang_model.specs.declared.syntax.Item.TheVariants.{Command as COMMAND}
+use Rattle.lang_model.specs.declared.token.Token.{Token}
+use Rattle.rv_parse.specs.FirstGrammar as G
+use Rattle.lang_model.specs.Spelling as S
 use Rattle.rv_parse.specs.Plain.{FirstScriptsAreScripts, OneFirstScript}
 use Rattle.rv_parse.proofs.OneScript.{one_script_law}
 

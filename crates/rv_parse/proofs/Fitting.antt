@@ -1,20 +1,20 @@
 -- The tokens of any expression and statement fit. By induction on how they are spelled: each optional and repeated part is entered for what is spelled, and dropped before the token that follows it.
 use Rattle.std.proofs.Common.{◌≡◌, ◌<◌, ℕ, false, List, [], ◌∷◌, ◌++◌, length, refl, sym, ap, ◌∙◌, subst, zero, suc, arith}
 use Rattle.std.proofs.lemmas.Bool.{lt-ltb}
-use Rattle.rel_model.specs.declared.syntax.Place.{Place}
-use Rattle.rel_model.specs.declared.syntax.Op2.{Op2}
-use Rattle.rel_model.specs.declared.syntax.Op2.TheVariants.{Or, And, Times, Under, Over}
-use Rattle.rel_model.specs.declared.syntax.Expr.{Expr}
-use Rattle.rel_model.specs.declared.syntax.Link.{Link}
-use Rattle.rel_model.specs.declared.syntax.Stmt.{Stmt}
-use Rattle.rel_model.specs.declared.token.Keyword.{Keyword}
-use Rattle.rel_model.specs.declared.token.Keyword.TheVariants.{Return as RETURN, While as WHILE, Do as DO, Od as OD, If as IF, Then as THEN, Else as ELSE, Fi as FI}
-use Rattle.rel_model.specs.declared.token.Kind.TheVariants.{Keyword as KEYWORD, Base as BASE, Word, File, Sign}
-use Rattle.rel_model.specs.declared.token.Token.{Token}
-use Rattle.rel_model.specs.Taken.{nesting_limit, TakesAt, Carets}
-use Rattle.rel_model.specs.Lexed.{Ending}
-use Rattle.rel_model.specs.Spelling.{Level, OrLevel, AndLevel, ProdLevel, UnaryLevel, PostLevel, PrimLevel, tighter, IsOperatorOf, Form, TakesOne, TakesTwo, TakesDomain, form_of, Spelled, named, called, based, based_twice, injected, paired, enclosed, turned, negated, chained, alone, Listed, no_more, one_more, Linked, no_link, one_link, SpelledStmt, assigned, looped, branched, branched_twice, SpelledStmts, no_stmt, one_stmt, more_stmts}
-use Rattle.rel_model.specs.Stop.{Part, NamePart, SignPart, WordPart, ExprPart, CallPart, MoreArgs, MoreCarets, MoreLinks, StmtsPart, MoreStmts, ElsePart, form_parts, stop_of}
+use Rattle.lang_model.specs.declared.syntax.Place.{Place}
+use Rattle.lang_model.specs.declared.syntax.Op2.{Op2}
+use Rattle.lang_model.specs.declared.syntax.Op2.TheVariants.{Or, And, Times, Under, Over}
+use Rattle.lang_model.specs.declared.syntax.Expr.{Expr}
+use Rattle.lang_model.specs.declared.syntax.Link.{Link}
+use Rattle.lang_model.specs.declared.syntax.Stmt.{Stmt}
+use Rattle.lang_model.specs.declared.token.Keyword.{Keyword}
+use Rattle.lang_model.specs.declared.token.Keyword.TheVariants.{Return as RETURN, While as WHILE, Do as DO, Od as OD, If as IF, Then as THEN, Else as ELSE, Fi as FI}
+use Rattle.lang_model.specs.declared.token.Kind.TheVariants.{Keyword as KEYWORD, Base as BASE, Word, File, Sign}
+use Rattle.lang_model.specs.declared.token.Token.{Token}
+use Rattle.lang_model.specs.Taken.{nesting_limit, TakesAt, Carets}
+use Rattle.lang_model.specs.Lexed.{Ending}
+use Rattle.lang_model.specs.Spelling.{Level, OrLevel, AndLevel, ProdLevel, UnaryLevel, PostLevel, PrimLevel, tighter, IsOperatorOf, Form, TakesOne, TakesTwo, TakesDomain, form_of, Spelled, named, called, based, based_twice, injected, paired, enclosed, turned, negated, chained, alone, Listed, no_more, one_more, Linked, no_link, one_link, SpelledStmt, assigned, looped, branched, branched_twice, SpelledStmts, no_stmt, one_stmt, more_stmts}
+use Rattle.lang_model.specs.Stop.{Part, NamePart, SignPart, WordPart, ExprPart, CallPart, MoreArgs, MoreCarets, MoreLinks, StmtsPart, MoreStmts, ElsePart, form_parts, stop_of}
 use Rattle.rv_parse.specs.Readers.{begins}
 use Rattle.rv_parse.proofs.Leaves.{reads_sign, reads_word, opens}
 use Rattle.rv_parse.proofs.Optional.{drop_call, enter_call, enter_args, enter_carets}

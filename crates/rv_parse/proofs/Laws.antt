@@ -1,16 +1,16 @@
 -- The tokens of any first script fit. Each repeated part is entered for what is spelled, and dropped before the sign that follows it; expressions by induction on how they are spelled.
 use Rattle.std.proofs.Common.{◌≡◌, ◌≤◌, ℕ, true, false, List, [], ◌∷◌, ◌++◌, refl, sym, ap, ◌∙◌, subst, zero, suc}
 use Rattle.std.proofs.lemmas.Bool.{le-leb, eq-eqb}
-use Rattle.rel_model.specs.declared.syntax.Place.{Place}
-use Rattle.rel_model.specs.declared.syntax.Column.{Column}
-use Rattle.rel_model.specs.declared.syntax.Row.{Row}
-use Rattle.rel_model.specs.declared.syntax.Op2.{Op2}
-use Rattle.rel_model.specs.declared.syntax.Op2.TheVariants.{Or, And}
-use Rattle.rel_model.specs.declared.syntax.Expr.{Expr, Row_of-Link}
-use Rattle.rel_model.specs.declared.token.Kind.TheVariants.{Number, Sign}
-use Rattle.rel_model.specs.declared.token.Token.{Token}
-use Rattle.rel_model.specs.Grammar.{Level, OrLevel, AndLevel, UnaryLevel, PostLevel, PrimLevel, tighter, IsOperatorOf, Spelled, Linked, named, enclosed, turned, negated, chained, alone, last, link, SpellsMoreColumns, SpellsColumns, SpellsRow, SpellsMoreRows, SpellsRows}
-use Rattle.rel_model.specs.Taken.{Carets, Takes, TakesAt}
+use Rattle.lang_model.specs.declared.syntax.Place.{Place}
+use Rattle.lang_model.specs.declared.syntax.Column.{Column}
+use Rattle.lang_model.specs.declared.syntax.Row.{Row}
+use Rattle.lang_model.specs.declared.syntax.Op2.{Op2}
+use Rattle.lang_model.specs.declared.syntax.Op2.TheVariants.{Or, And}
+use Rattle.lang_model.specs.declared.syntax.Expr.{Expr, Row_of-Link}
+use Rattle.lang_model.specs.declared.token.Kind.TheVariants.{Number, Sign}
+use Rattle.lang_model.specs.declared.token.Token.{Token}
+use Rattle.rv_parse.specs.FirstGrammar.{Level, OrLevel, AndLevel, UnaryLevel, PostLevel, PrimLevel, tighter, IsOperatorOf, Spelled, Linked, named, enclosed, turned, negated, chained, alone, last, link, SpellsMoreColumns, SpellsColumns, SpellsRow, SpellsMoreRows, SpellsRows}
+use Rattle.lang_model.specs.Taken.{Carets, Takes, TakesAt}
 use Rattle.rv_parse.specs.Rest.{Part, SignPart, UpTo, RowsPart, MoreRows, MoreColumns, ExprPart, MoreLinks, MoreCarets, sign_of, row_parts, fits, begins, begins_up_to}
 use Rattle.rv_parse.specs.Answers.{Reads}
 use Rattle.rv_parse.proofs.Parts.{more_columns_end, more_columns_step, more_rows_end, more_rows_step, rows_end, rows_step, more_links_step, or_enters, and_enters, post_enters, unary_is_post, unary_negates, prim_encloses, more_carets_step}

@@ -1,10 +1,10 @@
 -- One step over a text: a blank, a comment, a token or a flaw.
 use Rattle.std.proofs.Common.{◌≡◌, ◌<◌, ◌≤◌, ◌+◌, ◌-◌, ℕ, true, false, eqb, List, [], ◌∷◌, ◌++◌, length, drop, get_or, Some, None, refl, sym, ap, ◌∙◌, arith, zero, suc, add-one, append_assoc}
-use Rattle.rel_model.specs.declared.syntax.Place.{Place}
-use Rattle.rel_model.specs.declared.token.Kind.{Kind}
-use Rattle.rel_model.specs.declared.token.Token.{Token}
-use Rattle.rel_model.specs.Tokens.{behind, behind_all, run_length, kind_at, is_blank}
-use Rattle.rel_model.specs.Lexed.{Lexed, is_comment_byte, lexed_from, before, broken, token_fault}
+use Rattle.lang_model.specs.declared.syntax.Place.{Place}
+use Rattle.lang_model.specs.declared.token.Kind.{Kind}
+use Rattle.lang_model.specs.declared.token.Token.{Token}
+use Rattle.lang_model.specs.Tokens.{behind, behind_all, run_length, kind_at, is_blank}
+use Rattle.lang_model.specs.Lexed.{Lexed, is_comment_byte, lexed_from, before, broken, token_fault}
 use Rattle.rv_parse.specs.LexerAnswers.{put_before}
 
 -- inside of a token only the place goes on

@@ -1,11 +1,11 @@
 -- Runs of bytes and the values of digits.
 use Rattle.std.proofs.Common.{◌≡◌, ◌<◌, ◌≤◌, ◌+◌, ◌-◌, ◌*◌, ℕ, true, false, cond, eqb, List, [], ◌∷◌, ◌++◌, length, drop, drop-cons, get_or, take, Option, Some, None, refl, sym, ap, ◌∙◌, arith, zero, suc}
 use Rattle.std.proofs.Math.Seq.{drop-nil}
-use Rattle.rel_model.specs.declared.syntax.Place.{Place}
-use Rattle.rel_model.specs.Tokens.{value_from, behind, behind_all, run_length, tokens_from, kind_at, file_at, domain_operator_at, domain_operators, found_in, is_letter, is_digit, is_sign_byte, is_word_byte, is_blank, with_token}
-use Rattle.rel_model.specs.declared.token.Kind.TheVariants.{Sign}
-use Rattle.rel_model.specs.declared.token.Kind.{Kind}
-use Rattle.rel_model.specs.declared.token.Token.{Token}
+use Rattle.lang_model.specs.declared.syntax.Place.{Place}
+use Rattle.lang_model.specs.Tokens.{value_from, behind, behind_all, run_length, tokens_from, kind_at, file_at, domain_operator_at, domain_operators, found_in, is_letter, is_digit, is_sign_byte, is_word_byte, is_blank, with_token}
+use Rattle.lang_model.specs.declared.token.Kind.TheVariants.{Sign}
+use Rattle.lang_model.specs.declared.token.Kind.{Kind}
+use Rattle.lang_model.specs.declared.token.Token.{Token}
 use Rattle.std.specs.Option.{option_map_or}
 use Rattle.rv_parse.specs.Lexing.{prepended, word_at, number_at}
 use Rattle.std.proofs.Common.{not, add-one, append_assoc}

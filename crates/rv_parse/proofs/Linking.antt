@@ -1,11 +1,11 @@
 -- The links of a chain as a list, as the loop that reads them has them.
 use Rattle.std.proofs.Common.{◌≡◌, ◌<◌, ℕ, List, [], ◌∷◌, ◌++◌, length, refl, subst, sym, arith}
-use Rattle.rel_model.specs.declared.syntax.Expr.{Row_of-Link, end_of-Link, more_of-Link, items-the_row-Link}
-use Rattle.rel_model.specs.declared.syntax.Link.{Link}
-use Rattle.rel_model.specs.declared.token.Kind.TheVariants.{Sign}
-use Rattle.rel_model.specs.declared.token.Token.{Token}
-use Rattle.rel_model.specs.Grammar.{Level, tighter, IsOperatorOf, Spelled, Linked, last, link}
-use Rattle.rel_model.specs.Taken.{TakesAt}
+use Rattle.lang_model.specs.declared.syntax.Expr.{Row_of-Link, end_of-Link, more_of-Link, items-the_row-Link}
+use Rattle.lang_model.specs.declared.syntax.Link.{Link}
+use Rattle.lang_model.specs.declared.token.Kind.TheVariants.{Sign}
+use Rattle.lang_model.specs.declared.token.Token.{Token}
+use Rattle.rv_parse.specs.FirstGrammar.{Level, tighter, IsOperatorOf, Spelled, Linked, last, link}
+use Rattle.lang_model.specs.Taken.{TakesAt}
 use Rattle.rv_parse.specs.declared.expression.Chains.{Chains}
 use Rattle.rv_parse.specs.declared.expression.Chains.TheVariants.{Or, And}
 

@@ -4,12 +4,12 @@ use Rattle.std.proofs.lemmas.Bool.{false≢true, leb-true}
 use Rattle.std.proofs.lemmas.List.{length-take}
 use Rattle.std.specs.List.{list_all}
 use Rattle.std.specs.Option.{option_map_or}
-use Rattle.rel_model.specs.declared.syntax.Place.{Place}
-use Rattle.rel_model.specs.declared.token.Kind.{Kind}
-use Rattle.rel_model.specs.declared.token.Kind.TheVariants.{Keyword, Base as BASE, Word, Number, File, Sign}
-use Rattle.rel_model.specs.declared.token.Token.{Token}
-use Rattle.rel_model.specs.Taken.{TakesAt}
-use Rattle.rel_model.specs.Tokens.{is_allowed, is_blank, is_letter, is_digit, is_word_byte, is_sign_byte, same_text, found_in, reserved_words, domain_operators, domain_operator_at, file_at, word_kind, value_from, behind, run_length, kind_at, with_token, tokens_from, tokens_of}
+use Rattle.lang_model.specs.declared.syntax.Place.{Place}
+use Rattle.lang_model.specs.declared.token.Kind.{Kind}
+use Rattle.lang_model.specs.declared.token.Kind.TheVariants.{Keyword, Base as BASE, Word, Number, File, Sign}
+use Rattle.lang_model.specs.declared.token.Token.{Token}
+use Rattle.lang_model.specs.Taken.{TakesAt}
+use Rattle.lang_model.specs.Tokens.{is_allowed, is_blank, is_letter, is_digit, is_word_byte, is_sign_byte, same_text, found_in, reserved_words, domain_operators, domain_operator_at, file_at, word_kind, value_from, behind, run_length, kind_at, with_token, tokens_from, tokens_of}
 use Rattle.rv_parse.specs.Lexing.{word_at, number_at}
 use Rattle.rv_parse.proofs.Lexing.{kind_letter, kind_digit, kind_quote, kind_sign}
 

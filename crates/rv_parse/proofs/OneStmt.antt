@@ -4,16 +4,16 @@
 -- 3. By induction on how the first is spelled; for expressions by `agree`.
 use Rattle.std.proofs.Common.{◌≡◌, ◌+◌, ◌==◌, ℕ, Bool, true, false, List, refl, sym, ap, ◌∙◌, subst}
 use Rattle.std.proofs.lemmas.Bool.{false≢true, eq-eqb}
-use Rattle.rel_model.specs.declared.syntax.Place.{Place}
-use Rattle.rel_model.specs.declared.syntax.Stmt.{Stmt}
-use Rattle.rel_model.specs.declared.token.Keyword.{Keyword}
-use Rattle.rel_model.specs.declared.token.Keyword.TheVariants.{While as WHILE, If as IF}
-use Rattle.rel_model.specs.declared.token.Kind.{Kind}
-use Rattle.rel_model.specs.declared.token.Kind.TheVariants.{Keyword as KEYWORD, Base as BASE, Word, Number, File, Sign}
-use Rattle.rel_model.specs.declared.token.Token.{Token}
-use Rattle.rel_model.specs.Taken.{TakesAt}
-use Rattle.rel_model.specs.Stop.{number_of}
-use Rattle.rel_model.specs.Spelling.{OrLevel, SpelledStmt, assigned, looped, branched, branched_twice, SpelledStmts, no_stmt, one_stmt, more_stmts}
+use Rattle.lang_model.specs.declared.syntax.Place.{Place}
+use Rattle.lang_model.specs.declared.syntax.Stmt.{Stmt}
+use Rattle.lang_model.specs.declared.token.Keyword.{Keyword}
+use Rattle.lang_model.specs.declared.token.Keyword.TheVariants.{While as WHILE, If as IF}
+use Rattle.lang_model.specs.declared.token.Kind.{Kind}
+use Rattle.lang_model.specs.declared.token.Kind.TheVariants.{Keyword as KEYWORD, Base as BASE, Word, Number, File, Sign}
+use Rattle.lang_model.specs.declared.token.Token.{Token}
+use Rattle.lang_model.specs.Taken.{TakesAt}
+use Rattle.lang_model.specs.Stop.{number_of}
+use Rattle.lang_model.specs.Spelling.{OrLevel, SpelledStmt, assigned, looped, branched, branched_twice, SpelledStmts, no_stmt, one_stmt, more_stmts}
 use Rattle.rv_parse.specs.Again.{Ends}
 use Rattle.rv_parse.specs.Readers.{begins}
 use Rattle.rv_parse.specs.Plain.{SetTree, WhileTree, IfTree, NoStmt, MoreStmts, stmt_tree, stmts_in}

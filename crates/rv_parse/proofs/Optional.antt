@@ -1,15 +1,15 @@
 -- Optional and repeated parts: entered where their first sign comes, and else dropped.
 use Rattle.std.proofs.Common.{◌≡◌, ◌<◌, ◌≤◌, ℕ, true, false, List, [], ◌∷◌, ◌++◌, Some, None, refl, ◌∙◌, suc, zero}
 use Rattle.std.proofs.lemmas.Bool.{eq-eqb, lt-ltb, le-ltb}
-use Rattle.rel_model.specs.declared.syntax.Place.{Place}
-use Rattle.rel_model.specs.declared.faults.ParseFault.TheVariants.{TooDeep}
-use Rattle.rel_model.specs.declared.token.Kind.{Kind}
-use Rattle.rel_model.specs.declared.token.Kind.TheVariants.{Sign}
-use Rattle.rel_model.specs.declared.token.Token.{Token}
-use Rattle.rel_model.specs.Taken.{TakesAt, nesting_limit}
-use Rattle.rel_model.specs.Lexed.{Ending, EndsAt, Broken}
-use Rattle.rel_model.specs.Spelling.{Level, OrLevel, tighter}
-use Rattle.rel_model.specs.Stop.{Part, NamePart, FromOne, SignPart, ExprPart, CallPart, MoreArgs, MoreCarets, MoreLinks, MoreRows, MoreColumns, StmtsPart, MoreStmts, MoreParams, MeaningPart, DomainPart, MoreDecls, NotBegun, where_it, row_parts, is_sign, is_operator, entered, word_of, stop_of}
+use Rattle.lang_model.specs.declared.syntax.Place.{Place}
+use Rattle.lang_model.specs.declared.faults.ParseFault.TheVariants.{TooDeep}
+use Rattle.lang_model.specs.declared.token.Kind.{Kind}
+use Rattle.lang_model.specs.declared.token.Kind.TheVariants.{Sign}
+use Rattle.lang_model.specs.declared.token.Token.{Token}
+use Rattle.lang_model.specs.Taken.{TakesAt, nesting_limit}
+use Rattle.lang_model.specs.Lexed.{Ending, EndsAt, Broken}
+use Rattle.lang_model.specs.Spelling.{Level, OrLevel, tighter}
+use Rattle.lang_model.specs.Stop.{Part, NamePart, FromOne, SignPart, ExprPart, CallPart, MoreArgs, MoreCarets, MoreLinks, MoreRows, MoreColumns, StmtsPart, MoreStmts, MoreParams, MeaningPart, DomainPart, MoreDecls, NotBegun, where_it, row_parts, is_sign, is_operator, entered, word_of, stop_of}
 use Rattle.rv_parse.specs.Readers.{begins, begins_operator}
 
 -- a part that may be dropped, where nothing begins it

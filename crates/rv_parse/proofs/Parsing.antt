@@ -1,14 +1,14 @@
 -- What is read of a text is its script, and what ends the reading is its first fault.
 use Rattle.std.proofs.Common.{◌≡◌, ℕ, List, [], ◌++◌, Some, None, refl, sym, ap, ◌∙◌, subst}
 use Rattle.std.proofs.lemmas.List.{append-nil}
-use Rattle.rel_model.specs.declared.syntax.Place.{Place}
-use Rattle.rel_model.specs.declared.syntax.Item.{Item}
-use Rattle.rel_model.specs.declared.syntax.Script.{Script}
-use Rattle.rel_model.specs.declared.faults.ParseFault.{ParseFault}
-use Rattle.rel_model.specs.declared.token.Token.{Token}
-use Rattle.rel_model.specs.Lexed.{Ending, EndsAt, lexed_of}
-use Rattle.rel_model.specs.Spelling.{SpellsItems, Spells, SpelledBy}
-use Rattle.rel_model.specs.Stop.{stop}
+use Rattle.lang_model.specs.declared.syntax.Place.{Place}
+use Rattle.lang_model.specs.declared.syntax.Item.{Item}
+use Rattle.lang_model.specs.declared.syntax.Script.{Script}
+use Rattle.lang_model.specs.declared.faults.ParseFault.{ParseFault}
+use Rattle.lang_model.specs.declared.token.Token.{Token}
+use Rattle.lang_model.specs.Lexed.{Ending, EndsAt, lexed_of}
+use Rattle.lang_model.specs.Spelling.{SpellsItems, Spells, SpelledBy}
+use Rattle.lang_model.specs.Stop.{stop}
 use Rattle.rv_parse.specs.Halts.{fault_of}
 use Rattle.rv_parse.specs.Got.{RefusesItems}
 use Rattle.rv_parse.specs.Stops.{StopsAt, IsFaultOf}

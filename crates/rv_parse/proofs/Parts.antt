@@ -2,11 +2,11 @@
 use Rattle.std.proofs.Common.{◌≡◌, ◌<◌, ◌≤◌, ℕ, Bool, true, false, cond, List, [], ◌∷◌, ◌++◌, Option, Some, None, append_assoc, refl, ap, suc}
 use Rattle.std.proofs.lemmas.Bool.{false≢true, lt-ltb, le-ltb}
 use Rattle.std.specs.Option.{option_map_or}
-use Rattle.rel_model.specs.declared.token.Kind.{Kind}
-use Rattle.rel_model.specs.declared.token.Kind.TheVariants.{Sign}
-use Rattle.rel_model.specs.declared.token.Token.{Token}
-use Rattle.rel_model.specs.Grammar.{Level, OrLevel, AndLevel, UnaryLevel, PostLevel, PrimLevel, tighter}
-use Rattle.rel_model.specs.Taken.{nesting_limit}
+use Rattle.lang_model.specs.declared.token.Kind.{Kind}
+use Rattle.lang_model.specs.declared.token.Kind.TheVariants.{Sign}
+use Rattle.lang_model.specs.declared.token.Token.{Token}
+use Rattle.rv_parse.specs.FirstGrammar.{Level, OrLevel, AndLevel, UnaryLevel, PostLevel, PrimLevel, tighter}
+use Rattle.lang_model.specs.Taken.{nesting_limit}
 use Rattle.rv_parse.specs.Rest.{Part, NamePart, SignPart, UpTo, RowsPart, MoreRows, MoreColumns, ExprPart, MoreLinks, MoreCarets, is_sign, sign_of, row_parts, followed, prim_entered, unary_entered, expr_entered, entered, can_be_dropped, rest_behind, fits, begins, begins_up_to}
 
 -- ---- parts that one sign begins

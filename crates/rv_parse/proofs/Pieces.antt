@@ -4,17 +4,17 @@ use Rattle.std.proofs.lemmas.Bool.{false≢true, le-leb, eqb-true}
 use Rattle.std.proofs.Math.Seq.{take-append_seam}
 use Rattle.std.specs.List.{list_all}
 use Rattle.std.specs.Option.{option_map_or}
-use Rattle.rel_model.specs.declared.syntax.Place.{Place}
-use Rattle.rel_model.specs.declared.syntax.Op2.{Op2}
-use Rattle.rel_model.specs.declared.syntax.Op2.TheVariants.{Or, And, Times, Under, Over}
-use Rattle.rel_model.specs.declared.syntax.Base.{Base}
-use Rattle.rel_model.specs.declared.syntax.Base.TheVariants.{L, O, I, Ln1, On1, L1n, O1n, Dom, Ran, Trans, Refl, Epsi, Point, Atom, Init, Next, Inj, Empty, Unival, Syq, Eq, Incl, P1, P2, I1, I2}
-use Rattle.rel_model.specs.declared.token.Kind.{Kind}
-use Rattle.rel_model.specs.declared.token.Kind.TheVariants.{Base as BASE, Word, Sign}
-use Rattle.rel_model.specs.declared.token.Token.{Token}
-use Rattle.rel_model.specs.Taken.{Carets}
-use Rattle.rel_model.specs.Tokens.{is_allowed, is_blank, is_letter, is_word_byte, same_text, found_in, reserved_words, domain_operators, domain_operator_at, word_kind, behind, run_length, kind_at, with_token, tokens_from}
-use Rattle.rel_model.specs.Printing.{sign_of, base_text}
+use Rattle.lang_model.specs.declared.syntax.Place.{Place}
+use Rattle.lang_model.specs.declared.syntax.Op2.{Op2}
+use Rattle.lang_model.specs.declared.syntax.Op2.TheVariants.{Or, And, Times, Under, Over}
+use Rattle.lang_model.specs.declared.syntax.Base.{Base}
+use Rattle.lang_model.specs.declared.syntax.Base.TheVariants.{L, O, I, Ln1, On1, L1n, O1n, Dom, Ran, Trans, Refl, Epsi, Point, Atom, Init, Next, Inj, Empty, Unival, Syq, Eq, Incl, P1, P2, I1, I2}
+use Rattle.lang_model.specs.declared.token.Kind.{Kind}
+use Rattle.lang_model.specs.declared.token.Kind.TheVariants.{Base as BASE, Word, Sign}
+use Rattle.lang_model.specs.declared.token.Token.{Token}
+use Rattle.lang_model.specs.Taken.{Carets}
+use Rattle.lang_model.specs.Tokens.{is_allowed, is_blank, is_letter, is_word_byte, same_text, found_in, reserved_words, domain_operators, domain_operator_at, word_kind, behind, run_length, kind_at, with_token, tokens_from}
+use Rattle.lang_model.specs.Printing.{sign_of, base_text}
 use Rattle.rv_parse.specs.Again.{ends_names}
 use Rattle.rv_parse.specs.Lexing.{word_at}
 use Rattle.rv_parse.proofs.Lexing.{kind_letter}

@@ -3,11 +3,11 @@ use Rattle.std.proofs.Common.{◌≡◌, ◌∙◌, ℕ, List, [], ◌∷◌, le
 use Rattle.std.specs.declared.boxed.Box.{Box}
 use Rattle.std.specs.declared.vec.Vec.{Vec}
 use Rattle.std.specs.declared.alloc.Global.{Global}
-use Rattle.rel_model.specs.declared.syntax.Place.{Place}
-use Rattle.rel_model.specs.declared.syntax.Base.{Base}
-use Rattle.rel_model.specs.declared.syntax.Link.{Link}
-use Rattle.rel_model.specs.declared.syntax.Expr.{Expr, Ref, Inject, Row_of-Expr, end_of-Expr, more_of-Expr, items-the_row-Expr, Row_of-Link, end_of-Link, more_of-Link, items-the_row-Link, the_lemmas}
-use Rattle.rel_model.specs.declared.syntax.Expr.TheVariants.{Call, Base as BaseCall, Pair, Minus, Turned, Chain}
+use Rattle.lang_model.specs.declared.syntax.Place.{Place}
+use Rattle.lang_model.specs.declared.syntax.Base.{Base}
+use Rattle.lang_model.specs.declared.syntax.Link.{Link}
+use Rattle.lang_model.specs.declared.syntax.Expr.{Expr, Ref, Inject, Row_of-Expr, end_of-Expr, more_of-Expr, items-the_row-Expr, Row_of-Link, end_of-Link, more_of-Link, items-the_row-Link, the_lemmas}
+use Rattle.lang_model.specs.declared.syntax.Expr.TheVariants.{Call, Base as BaseCall, Pair, Minus, Turned, Chain}
 use Rattle.rv_parse.specs.Places.{Trees, Branches, CallTree, BaseTree, PairTree, MinusTree, TurnedTree, ChainTree, NoTree, MoreTrees, NoBranch, MoreBranches, tree_of, trees_of, branches_of, nowhere, without_places, all_without_places, links_without_places, SameUpToPlaces}
 
 -- the trees of arguments as a list, and those of links

@@ -1,7 +1,7 @@
 -- The trees of statements, read off the vectors that the code has.
 use Rattle.std.proofs.Common.{◌≡◌, refl, ap, rules}
-use Rattle.rel_model.specs.declared.syntax.Stmt.{Row_of-Stmt, end_of-Stmt, more_of-Stmt, items-the_row-Stmt, the_lemmas}
-use Rattle.rel_model.specs.declared.syntax.Stmt.TheVariants.{While, If}
+use Rattle.lang_model.specs.declared.syntax.Stmt.{Row_of-Stmt, end_of-Stmt, more_of-Stmt, items-the_row-Stmt, the_lemmas}
+use Rattle.lang_model.specs.declared.syntax.Stmt.TheVariants.{While, If}
 use Rattle.rv_parse.specs.Places.{tree_of}
 use Rattle.rv_parse.specs.Plain.{WhileTree, IfTree, MoreStmts, stmt_tree, stmt_trees, stmts_in}
 

@@ -3,13 +3,13 @@ use Rattle.std.proofs.Common.{◌≡◌, ◌<◌, ◌+◌, ℕ, true, false, Lis
 use Rattle.std.specs.declared.boxed.Box.{Box}
 use Rattle.std.specs.declared.vec.Vec.{Vec}
 use Rattle.std.specs.declared.alloc.Global.{Global}
-use Rattle.rel_model.specs.declared.syntax.Place.{Place}
-use Rattle.rel_model.specs.declared.syntax.Expr.{Expr, Ref, Minus, Turned, Chain, items_hidden-the_row-Link-1}
-use Rattle.rel_model.specs.declared.syntax.Link.{Link}
-use Rattle.rel_model.specs.declared.token.Kind.TheVariants.{Sign, Word}
-use Rattle.rel_model.specs.declared.token.Token.{Token}
-use Rattle.rel_model.specs.Grammar.{Level, OrLevel, UnaryLevel, PostLevel, PrimLevel, tighter, Spelled, named, enclosed, turned, negated, chained, alone}
-use Rattle.rel_model.specs.Taken.{nesting_limit, TakesAt, Carets}
+use Rattle.lang_model.specs.declared.syntax.Place.{Place}
+use Rattle.lang_model.specs.declared.syntax.Expr.{Expr, Ref, Minus, Turned, Chain, items_hidden-the_row-Link-1}
+use Rattle.lang_model.specs.declared.syntax.Link.{Link}
+use Rattle.lang_model.specs.declared.token.Kind.TheVariants.{Sign, Word}
+use Rattle.lang_model.specs.declared.token.Token.{Token}
+use Rattle.rv_parse.specs.FirstGrammar.{Level, OrLevel, UnaryLevel, PostLevel, PrimLevel, tighter, Spelled, named, enclosed, turned, negated, chained, alone}
+use Rattle.lang_model.specs.Taken.{nesting_limit, TakesAt, Carets}
 use Rattle.rv_parse.specs.Rest.{Part, NamePart, SignPart, ExprPart, MoreLinks, MoreCarets, sign_of, fits, begins}
 use Rattle.rv_parse.specs.Answers.{Reads, Refuses}
 use Rattle.rv_parse.specs.Expressions.{IsRead, level_of}

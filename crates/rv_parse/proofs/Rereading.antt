@@ -5,17 +5,17 @@
 use Rattle.std.proofs.Common.{◌≡◌, ◌<◌, ◌≤◌, ◌⊎◌, inl, inr, ℕ, Bool, true, false, nat_le, nat_lt, List, [], ◌∷◌, ◌++◌, length, replicate, refl, sym, ap, ◌∙◌, subst, zero, suc, arith, append_assoc}
 use Rattle.std.proofs.lemmas.Bool.{leb-true, leb-false, ltb-true, ltb-false}
 use Rattle.std.specs.List.{list_all}
-use Rattle.rel_model.specs.declared.syntax.Place.{Place}
-use Rattle.rel_model.specs.declared.syntax.Op2.{Op2}
-use Rattle.rel_model.specs.declared.syntax.Op2.TheVariants.{Or, And, Times, Under, Over}
-use Rattle.rel_model.specs.declared.syntax.Expr.{Expr, Call, Base as BaseCall, Inject, Pair, Minus, Turned, Chain}
-use Rattle.rel_model.specs.declared.syntax.Link.{Link}
-use Rattle.rel_model.specs.declared.token.Kind.TheVariants.{Base as BASE, Word, Sign}
-use Rattle.rel_model.specs.declared.token.Token.{Token}
-use Rattle.rel_model.specs.Taken.{nesting_limit, Carets}
-use Rattle.rel_model.specs.Tokens.{is_allowed, behind, tokens_from}
-use Rattle.rel_model.specs.Printing.{printed, rank, within, sign_of, base_text, chain_rank}
-use Rattle.rel_model.specs.Spelling.{Level, OrLevel, AndLevel, ProdLevel, UnaryLevel, PostLevel, PrimLevel, tighter, IsOperatorOf, Spelled, named, called, based, based_twice, injected, paired, enclosed, turned, negated, chained, alone, Listed, no_more, one_more, Linked, no_link, one_link}
+use Rattle.lang_model.specs.declared.syntax.Place.{Place}
+use Rattle.lang_model.specs.declared.syntax.Op2.{Op2}
+use Rattle.lang_model.specs.declared.syntax.Op2.TheVariants.{Or, And, Times, Under, Over}
+use Rattle.lang_model.specs.declared.syntax.Expr.{Expr, Call, Base as BaseCall, Inject, Pair, Minus, Turned, Chain}
+use Rattle.lang_model.specs.declared.syntax.Link.{Link}
+use Rattle.lang_model.specs.declared.token.Kind.TheVariants.{Base as BASE, Word, Sign}
+use Rattle.lang_model.specs.declared.token.Token.{Token}
+use Rattle.lang_model.specs.Taken.{nesting_limit, Carets}
+use Rattle.lang_model.specs.Tokens.{is_allowed, behind, tokens_from}
+use Rattle.lang_model.specs.Printing.{printed, rank, within, sign_of, base_text, chain_rank}
+use Rattle.lang_model.specs.Spelling.{Level, OrLevel, AndLevel, ProdLevel, UnaryLevel, PostLevel, PrimLevel, tighter, IsOperatorOf, Spelled, named, called, based, based_twice, injected, paired, enclosed, turned, negated, chained, alone, Listed, no_more, one_more, Linked, no_link, one_link}
 use Rattle.rv_parse.proofs.Places.{no_arguments, one_argument, no_links, same_link}
 use Rattle.rv_parse.specs.Printed.{printed_more_args, printed_all_args, rank_of_links, printed_all_links}
 use Rattle.rv_parse.proofs.Agreeing.{both}

@@ -2,16 +2,16 @@
 use Rattle.std.proofs.Common.{◌≡◌, ◌≤◌, true, false, List, [], ◌∷◌, ◌++◌, refl, sym, ap, ◌∙◌, subst, append_assoc, zero, suc}
 use Rattle.std.proofs.lemmas.Bool.{false≢true}
 use Rattle.std.proofs.lemmas.List.{append-nil}
-use Rattle.rel_model.specs.declared.syntax.Place.{Place}
-use Rattle.rel_model.specs.declared.syntax.Column.{Column}
-use Rattle.rel_model.specs.declared.syntax.Row.{Row}
-use Rattle.rel_model.specs.declared.token.Kind.{Kind}
-use Rattle.rel_model.specs.declared.token.Kind.TheVariants.{Number, Sign}
-use Rattle.rel_model.specs.declared.token.Token.{Token}
-use Rattle.rel_model.specs.Taken.{TakesAt, Takes}
-use Rattle.rel_model.specs.Lexed.{Ending}
-use Rattle.rel_model.specs.Spelling.{SpellsMoreColumns, SpellsColumns, SpellsRow, SpellsMoreRows, SpellsRows}
-use Rattle.rel_model.specs.Stop.{Part, FromOne, RowsPart, MoreRows, MoreColumns, row_parts, NotBegun, entered, fault_at, what_of, step, stop_of}
+use Rattle.lang_model.specs.declared.syntax.Place.{Place}
+use Rattle.lang_model.specs.declared.syntax.Column.{Column}
+use Rattle.lang_model.specs.declared.syntax.Row.{Row}
+use Rattle.lang_model.specs.declared.token.Kind.{Kind}
+use Rattle.lang_model.specs.declared.token.Kind.TheVariants.{Number, Sign}
+use Rattle.lang_model.specs.declared.token.Token.{Token}
+use Rattle.lang_model.specs.Taken.{TakesAt, Takes}
+use Rattle.lang_model.specs.Lexed.{Ending}
+use Rattle.lang_model.specs.Spelling.{SpellsMoreColumns, SpellsColumns, SpellsRow, SpellsMoreRows, SpellsRows}
+use Rattle.lang_model.specs.Stop.{Part, FromOne, RowsPart, MoreRows, MoreColumns, row_parts, NotBegun, entered, fault_at, what_of, step, stop_of}
 use Rattle.rv_parse.specs.Readers.{begins, is_number, begins_number}
 use Rattle.rv_parse.proofs.Optional.{dropped_at, dropped_end, drop_sign, enter_sign, begun_columns, begun_rows}
 

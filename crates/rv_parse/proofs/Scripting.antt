@@ -2,27 +2,27 @@
 use Rattle.std.proofs.Common.{◌≡◌, ◌<◌, ◌≤◌, ℕ, true, false, List, [], ◌∷◌, ◌++◌, length, Some, None, refl, sym, ap, ◌∙◌, subst, zero, suc, arith}
 use Rattle.std.proofs.lemmas.Bool.{false≢true}
 use Rattle.std.proofs.lemmas.List.{append-nil}
-use Rattle.rel_model.specs.declared.syntax.Place.{Place}
-use Rattle.rel_model.specs.declared.syntax.Column.{Column}
-use Rattle.rel_model.specs.declared.syntax.Row.{Row}
-use Rattle.rel_model.specs.declared.syntax.Decl.{Decl}
-use Rattle.rel_model.specs.declared.syntax.Decl.TheVariants.{Variable, Domain}
-use Rattle.rel_model.specs.declared.syntax.Expr.{Expr}
-use Rattle.rel_model.specs.declared.syntax.Command.{Command}
-use Rattle.rel_model.specs.declared.syntax.Command.TheVariants.{Relation, Let, Print, List as ListOf, Count, Typed, Remove, Snap, At, Load, Save}
-use Rattle.rel_model.specs.declared.syntax.Item.{Item}
-use Rattle.rel_model.specs.declared.syntax.Item.TheVariants.{Function, Program, Command as COMMAND}
-use Rattle.rel_model.specs.declared.syntax.Script.{Script}
-use Rattle.rel_model.specs.declared.faults.What.TheVariants.{Item as AN_ITEM}
-use Rattle.rel_model.specs.declared.token.Keyword.{Keyword}
-use Rattle.rel_model.specs.declared.token.Keyword.TheVariants.{Rel as REL, Let as LET, Print as PRINT, List as LIST, Count as COUNT, «Type» as TYPE, Drop as DROP, Snap as SNAP, At as AT, Load as LOAD, Save as SAVE, Decl as DECL, Beg as BEG, End as END, Return as RETURN}
-use Rattle.rel_model.specs.declared.token.Kind.{Kind}
-use Rattle.rel_model.specs.declared.token.Kind.TheVariants.{Keyword as KEYWORD, Word, Number, File, Sign}
-use Rattle.rel_model.specs.declared.token.Token.{Token}
-use Rattle.rel_model.specs.Taken.{TakesAt, Takes}
-use Rattle.rel_model.specs.Lexed.{Ending, EndsAt}
-use Rattle.rel_model.specs.Spelling.{OrLevel, SpellsMoreColumns, SpellsColumns, SpellsRow, SpellsMoreRows, SpellsRows, SpellsMoreNames, SpellsParams, SpellsDecl, SpellsMoreDecls, SpellsDecls, SpellsHead, SpellsValued, SpellsCommand, SpellsItem, SpellsItems, Spells, domain_word}
-use Rattle.rel_model.specs.Stop.{Part, NamePart, NumberPart, FromOne, FilePart, SignPart, WordPart, ExprPart, RowsPart, MoreRows, MoreColumns, MoreParams, BodyPart, MeaningPart, DomainPart, MoreDecls, ItemsPart, NotBegun, Behind, row_parts, program_parts, command_step, item_step, stop_of}
+use Rattle.lang_model.specs.declared.syntax.Place.{Place}
+use Rattle.lang_model.specs.declared.syntax.Column.{Column}
+use Rattle.lang_model.specs.declared.syntax.Row.{Row}
+use Rattle.lang_model.specs.declared.syntax.Decl.{Decl}
+use Rattle.lang_model.specs.declared.syntax.Decl.TheVariants.{Variable, Domain}
+use Rattle.lang_model.specs.declared.syntax.Expr.{Expr}
+use Rattle.lang_model.specs.declared.syntax.Command.{Command}
+use Rattle.lang_model.specs.declared.syntax.Command.TheVariants.{Relation, Let, Print, List as ListOf, Count, Typed, Remove, Snap, At, Load, Save}
+use Rattle.lang_model.specs.declared.syntax.Item.{Item}
+use Rattle.lang_model.specs.declared.syntax.Item.TheVariants.{Function, Program, Command as COMMAND}
+use Rattle.lang_model.specs.declared.syntax.Script.{Script}
+use Rattle.lang_model.specs.declared.faults.What.TheVariants.{Item as AN_ITEM}
+use Rattle.lang_model.specs.declared.token.Keyword.{Keyword}
+use Rattle.lang_model.specs.declared.token.Keyword.TheVariants.{Rel as REL, Let as LET, Print as PRINT, List as LIST, Count as COUNT, «Type» as TYPE, Drop as DROP, Snap as SNAP, At as AT, Load as LOAD, Save as SAVE, Decl as DECL, Beg as BEG, End as END, Return as RETURN}
+use Rattle.lang_model.specs.declared.token.Kind.{Kind}
+use Rattle.lang_model.specs.declared.token.Kind.TheVariants.{Keyword as KEYWORD, Word, Number, File, Sign}
+use Rattle.lang_model.specs.declared.token.Token.{Token}
+use Rattle.lang_model.specs.Taken.{TakesAt, Takes}
+use Rattle.lang_model.specs.Lexed.{Ending, EndsAt}
+use Rattle.lang_model.specs.Spelling.{OrLevel, SpellsMoreColumns, SpellsColumns, SpellsRow, SpellsMoreRows, SpellsRows, SpellsMoreNames, SpellsParams, SpellsDecl, SpellsMoreDecls, SpellsDecls, SpellsHead, SpellsValued, SpellsCommand, SpellsItem, SpellsItems, Spells, domain_word}
+use Rattle.lang_model.specs.Stop.{Part, NamePart, NumberPart, FromOne, FilePart, SignPart, WordPart, ExprPart, RowsPart, MoreRows, MoreColumns, MoreParams, BodyPart, MeaningPart, DomainPart, MoreDecls, ItemsPart, NotBegun, Behind, row_parts, program_parts, command_step, item_step, stop_of}
 use Rattle.rv_parse.specs.Halts.{missing}
 use Rattle.rv_parse.specs.Readers.{begins, begins_number}
 use Rattle.rv_parse.specs.Openings.{opening_word, opening_parts}

@@ -1,18 +1,18 @@
 -- Tokens that don't fit are those of no script.
 use Rattle.std.proofs.Common.{◌≡◌, ◌≤◌, ℕ, true, List, [], ◌∷◌, ◌++◌, Some, None, refl, sym, ap, ◌∙◌, subst}
 use Rattle.std.proofs.lemmas.Bool.{le-leb, false≢true}
-use Rattle.rel_model.specs.declared.syntax.Place.{Place}
-use Rattle.rel_model.specs.declared.syntax.Command.{Command}
-use Rattle.rel_model.specs.declared.syntax.Command.TheVariants.{Relation, Print}
-use Rattle.rel_model.specs.declared.syntax.Item.{Item}
-use Rattle.rel_model.specs.declared.syntax.Item.TheVariants.{Command as COMMAND}
-use Rattle.rel_model.specs.declared.syntax.Script.{Script}
-use Rattle.rel_model.specs.declared.faults.ParseFault.{ParseFault}
-use Rattle.rel_model.specs.declared.token.Kind.TheVariants.{Number, Sign}
-use Rattle.rel_model.specs.declared.token.Token.{Token}
-use Rattle.rel_model.specs.Tokens.{tokens_of}
-use Rattle.rel_model.specs.Grammar.{OrLevel, SpellsCommand, SpellsItem, SpellsItems, Spells, first_size_limit}
-use Rattle.rel_model.specs.Taken.{Takes, TakesAt}
+use Rattle.lang_model.specs.declared.syntax.Place.{Place}
+use Rattle.lang_model.specs.declared.syntax.Command.{Command}
+use Rattle.lang_model.specs.declared.syntax.Command.TheVariants.{Relation, Print}
+use Rattle.lang_model.specs.declared.syntax.Item.{Item}
+use Rattle.lang_model.specs.declared.syntax.Item.TheVariants.{Command as COMMAND}
+use Rattle.lang_model.specs.declared.syntax.Script.{Script}
+use Rattle.lang_model.specs.declared.faults.ParseFault.{ParseFault}
+use Rattle.lang_model.specs.declared.token.Kind.TheVariants.{Number, Sign}
+use Rattle.lang_model.specs.declared.token.Token.{Token}
+use Rattle.lang_model.specs.Tokens.{tokens_of}
+use Rattle.rv_parse.specs.FirstGrammar.{OrLevel, SpellsCommand, SpellsItem, SpellsItems, Spells, first_size_limit}
+use Rattle.lang_model.specs.Taken.{Takes, TakesAt}
 use Rattle.rv_parse.specs.Rest.{Part, Items, NamePart, SignPart, RowCount, ColumnCount, RowsPart, fits, begins, begins_up_to}
 use Rattle.rv_parse.specs.Answers.{FitsNone, NoScript}
 use Rattle.rv_parse.specs.Faults.{RefusesFirst, IsFaultOf}

@@ -1,12 +1,12 @@
 -- A list is spelled with one more at its end.
 use Rattle.std.proofs.Common.{◌≤◌, ◌<◌, ℕ, List, [], ◌∷◌, ◌++◌, length, refl, subst, arith, zero, suc}
-use Rattle.rel_model.specs.declared.syntax.Column.{Column}
-use Rattle.rel_model.specs.declared.syntax.Row.{Row}
-use Rattle.rel_model.specs.declared.syntax.Item.{Item}
-use Rattle.rel_model.specs.declared.token.Kind.TheVariants.{Number, Sign}
-use Rattle.rel_model.specs.declared.token.Token.{Token}
-use Rattle.rel_model.specs.Grammar.{SpellsMoreColumns, SpellsColumns, SpellsRow, SpellsMoreRows, SpellsRows, SpellsItem, SpellsItems}
-use Rattle.rel_model.specs.Taken.{Takes, TakesAt, Carets}
+use Rattle.lang_model.specs.declared.syntax.Column.{Column}
+use Rattle.lang_model.specs.declared.syntax.Row.{Row}
+use Rattle.lang_model.specs.declared.syntax.Item.{Item}
+use Rattle.lang_model.specs.declared.token.Kind.TheVariants.{Number, Sign}
+use Rattle.lang_model.specs.declared.token.Token.{Token}
+use Rattle.rv_parse.specs.FirstGrammar.{SpellsMoreColumns, SpellsColumns, SpellsRow, SpellsMoreRows, SpellsRows, SpellsItem, SpellsItems}
+use Rattle.lang_model.specs.Taken.{Takes, TakesAt, Carets}
 
 more_columns_push : (n : ℕ) (cs : List Column) (c : Column) (start mid after rest : List Token) → SpellsMoreColumns n cs start mid → Takes (Sign 44) mid after → TakesAt c.at (Number c.col) after rest → 1 ≤ c.col → c.col ≤ n → SpellsMoreColumns n (cs ++ c ∷ []) start rest
 more_columns_push n [] c start mid after rest s t k p q = (after, rest, subst (λ z. Takes (Sign 44) z after) s t, k, p, q, refl)

@@ -1,15 +1,15 @@
 -- One step of the readers of statements each.
 use Rattle.std.proofs.Common.{◌≡◌, ℕ, false, List, [], ◌∷◌, ◌++◌, refl, sym, ap, ◌∙◌, subst, append_assoc}
 use Rattle.std.proofs.lemmas.List.{append-nil}
-use Rattle.rel_model.specs.declared.syntax.Place.{Place}
-use Rattle.rel_model.specs.declared.syntax.Stmt.{Stmt}
-use Rattle.rel_model.specs.declared.token.Keyword.TheVariants.{Else as ELSE}
-use Rattle.rel_model.specs.declared.token.Kind.TheVariants.{Keyword as KEYWORD, Sign}
-use Rattle.rel_model.specs.declared.token.Token.{Token}
-use Rattle.rel_model.specs.Taken.{TakesAt, Takes}
-use Rattle.rel_model.specs.Lexed.{Ending}
-use Rattle.rel_model.specs.Spelling.{SpelledStmt, SpelledStmts, no_stmt, one_stmt, more_stmts}
-use Rattle.rel_model.specs.Stop.{Part, StmtsPart, MoreStmts, ElsePart, stop_of}
+use Rattle.lang_model.specs.declared.syntax.Place.{Place}
+use Rattle.lang_model.specs.declared.syntax.Stmt.{Stmt}
+use Rattle.lang_model.specs.declared.token.Keyword.TheVariants.{Else as ELSE}
+use Rattle.lang_model.specs.declared.token.Kind.TheVariants.{Keyword as KEYWORD, Sign}
+use Rattle.lang_model.specs.declared.token.Token.{Token}
+use Rattle.lang_model.specs.Taken.{TakesAt, Takes}
+use Rattle.lang_model.specs.Lexed.{Ending}
+use Rattle.lang_model.specs.Spelling.{SpelledStmt, SpelledStmts, no_stmt, one_stmt, more_stmts}
+use Rattle.lang_model.specs.Stop.{Part, StmtsPart, MoreStmts, ElsePart, stop_of}
 use Rattle.rv_parse.specs.Readers.{begins, begins_word}
 use Rattle.rv_parse.proofs.Optional.{dropped_at, dropped_end, drop_sign, enter_sign, begun_stmts}
 

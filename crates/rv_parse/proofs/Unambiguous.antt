@@ -3,13 +3,13 @@
 -- 2. By induction on how the first is spelled: at each level the second is taken apart in the same way (`Chained`, `Posted`, `Primed`), since the first token of an operand, and the operator behind it, decide.
 use Rattle.std.proofs.Common.{◌≡◌, inl, inr, ℕ, false, List, [], refl, sym, ap, ◌∙◌, subst, zero, suc, arith}
 use Rattle.std.proofs.lemmas.Bool.{false≢true}
-use Rattle.rel_model.specs.declared.syntax.Place.{Place}
-use Rattle.rel_model.specs.declared.syntax.Expr.{Expr, Minus}
-use Rattle.rel_model.specs.declared.syntax.Link.{Link}
-use Rattle.rel_model.specs.declared.token.Kind.TheVariants.{Base as BASE, Word, Sign}
-use Rattle.rel_model.specs.declared.token.Token.{Token}
-use Rattle.rel_model.specs.Taken.{TakesAt, Carets}
-use Rattle.rel_model.specs.Spelling.{Level, OrLevel, AndLevel, ProdLevel, UnaryLevel, PostLevel, PrimLevel, tighter, IsOperatorOf, Spelled, named, called, based, based_twice, injected, paired, enclosed, turned, negated, chained, alone, Listed, no_more, one_more, Linked, no_link, one_link}
+use Rattle.lang_model.specs.declared.syntax.Place.{Place}
+use Rattle.lang_model.specs.declared.syntax.Expr.{Expr, Minus}
+use Rattle.lang_model.specs.declared.syntax.Link.{Link}
+use Rattle.lang_model.specs.declared.token.Kind.TheVariants.{Base as BASE, Word, Sign}
+use Rattle.lang_model.specs.declared.token.Token.{Token}
+use Rattle.lang_model.specs.Taken.{TakesAt, Carets}
+use Rattle.lang_model.specs.Spelling.{Level, OrLevel, AndLevel, ProdLevel, UnaryLevel, PostLevel, PrimLevel, tighter, IsOperatorOf, Spelled, named, called, based, based_twice, injected, paired, enclosed, turned, negated, chained, alone, Listed, no_more, one_more, Linked, no_link, one_link}
 use Rattle.rv_parse.specs.Readers.{begins}
 use Rattle.rv_parse.specs.Places.{CallTree, BaseTree, InjectTree, PairTree, MinusTree, TurnedTree, NoTree, MoreTrees, MoreBranches, tree_of}
 use Rattle.rv_parse.proofs.Fitting.{no_minus}

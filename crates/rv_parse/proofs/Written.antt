@@ -6,17 +6,17 @@ use Rattle.std.specs.declared.boxed.Box.{Box}
 use Rattle.std.specs.declared.vec.Vec.{Vec}
 use Rattle.std.specs.declared.alloc.Global.{Global}
 use Rattle.std.specs.Box.{with_value}
-use Rattle.rel_model.specs.declared.syntax.Place.{Place}
-use Rattle.rel_model.specs.declared.syntax.Op2.{Op2}
-use Rattle.rel_model.specs.declared.syntax.Base.{Base}
-use Rattle.rel_model.specs.declared.syntax.Expr.{Expr, Ref, Call, Base as BaseCall, Inject, Pair, Minus, Turned, Chain}
-use Rattle.rel_model.specs.declared.syntax.Link.{Link}
-use Rattle.rel_model.specs.declared.token.Kind.TheVariants.{Base as BASE, Word, Sign}
-use Rattle.rel_model.specs.declared.token.Token.{Token}
-use Rattle.rel_model.specs.Taken.{nesting_limit}
-use Rattle.rel_model.specs.Tokens.{is_allowed, behind, tokens_from}
-use Rattle.rel_model.specs.Printing.{printed, rank, within, base_text}
-use Rattle.rel_model.specs.Spelling.{Level, OrLevel, AndLevel, ProdLevel, UnaryLevel, PostLevel, PrimLevel, tighter, TakesOne, TakesTwo, TakesDomain, form_of, Spelled, named, called, based, based_twice, injected, paired, turned, negated, chained, alone, Listed, Linked}
+use Rattle.lang_model.specs.declared.syntax.Place.{Place}
+use Rattle.lang_model.specs.declared.syntax.Op2.{Op2}
+use Rattle.lang_model.specs.declared.syntax.Base.{Base}
+use Rattle.lang_model.specs.declared.syntax.Expr.{Expr, Ref, Call, Base as BaseCall, Inject, Pair, Minus, Turned, Chain}
+use Rattle.lang_model.specs.declared.syntax.Link.{Link}
+use Rattle.lang_model.specs.declared.token.Kind.TheVariants.{Base as BASE, Word, Sign}
+use Rattle.lang_model.specs.declared.token.Token.{Token}
+use Rattle.lang_model.specs.Taken.{nesting_limit}
+use Rattle.lang_model.specs.Tokens.{is_allowed, behind, tokens_from}
+use Rattle.lang_model.specs.Printing.{printed, rank, within, base_text}
+use Rattle.lang_model.specs.Spelling.{Level, OrLevel, AndLevel, ProdLevel, UnaryLevel, PostLevel, PrimLevel, tighter, TakesOne, TakesTwo, TakesDomain, form_of, Spelled, named, called, based, based_twice, injected, paired, turned, negated, chained, alone, Listed, Linked}
 use Rattle.rv_parse.specs.Places.{SameUpToPlaces}
 use Rattle.rv_parse.proofs.Places.{SameArguments, SameLinks, same_names, same_calls, same_bases, same_injections, same_pairs, same_minus, same_turned, same_chains, no_arguments, one_argument, same_count, same_count_links}
 use Rattle.rv_parse.specs.Printed.{printed_more_args, printed_all_args, printed_all_links}

@@ -1,12 +1,12 @@
 -- What the reading functions answer: a tree that the tokens spell, and what is left; or that the tokens don't fit.
 use Rattle.std.specs.Prelude.{◌≡◌, ◌++◌, List, [], ◌∷◌, false}
-use Rattle.rel_model.specs.declared.token.Token.{Token}
-use Rattle.rel_model.specs.declared.syntax.Script.{Script}
-use Rattle.rel_model.specs.declared.syntax.Command.{Command}
-use Rattle.rel_model.specs.declared.token.Kind.TheVariants.{Keyword}
-use Rattle.rel_model.specs.declared.token.Keyword.TheVariants.{Rel as REL, Print as PRINT}
-use Rattle.rel_model.specs.Grammar.{OrLevel, SpellsCommand, Spells}
-use Rattle.rel_model.specs.Taken.{Takes}
+use Rattle.lang_model.specs.declared.token.Token.{Token}
+use Rattle.lang_model.specs.declared.syntax.Script.{Script}
+use Rattle.lang_model.specs.declared.syntax.Command.{Command}
+use Rattle.lang_model.specs.declared.token.Kind.TheVariants.{Keyword}
+use Rattle.lang_model.specs.declared.token.Keyword.TheVariants.{Rel as REL, Print as PRINT}
+use Rattle.rv_parse.specs.FirstGrammar.{OrLevel, SpellsCommand, Spells}
+use Rattle.lang_model.specs.Taken.{Takes}
 use Rattle.rv_parse.specs.Rest.{Part, Items, NamePart, RowCount, SignPart, ExprPart, fits}
 use Rattle.rv_parse.specs.declared.first.Opening.{Opening}
 use Rattle.rv_parse.specs.declared.first.Opening.TheVariants.{Relation, Print}

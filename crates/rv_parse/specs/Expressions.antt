@@ -1,8 +1,8 @@
 -- What the readers of expressions answer.
 use Rattle.std.specs.Prelude.{◌<◌, ℕ, List, [], ◌∷◌, length}
-use Rattle.rel_model.specs.declared.syntax.Expr.{Expr}
-use Rattle.rel_model.specs.declared.token.Token.{Token}
-use Rattle.rel_model.specs.Grammar.{Level, OrLevel, AndLevel, Spelled}
+use Rattle.lang_model.specs.declared.syntax.Expr.{Expr}
+use Rattle.lang_model.specs.declared.token.Token.{Token}
+use Rattle.rv_parse.specs.FirstGrammar.{Level, OrLevel, AndLevel, Spelled}
 use Rattle.rv_parse.specs.Rest.{ExprPart}
 use Rattle.rv_parse.specs.Answers.{Reads}
 use Rattle.rv_parse.specs.declared.expression.Chains.{Chains}

@@ -1,10 +1,10 @@
 -- The faults of first scripts.
 use Rattle.std.specs.Prelude.{◌≡◌, ℕ, List}
-use Rattle.rel_model.specs.declared.syntax.Script.{Script}
-use Rattle.rel_model.specs.declared.faults.ParseFault.{ParseFault}
-use Rattle.rel_model.specs.declared.faults.ParseFault.TheVariants.{Byte, Expected, TooDeep, NumberTooLarge, NameTooLong, NoMemory as NO_MEMORY}
-use Rattle.rel_model.specs.declared.faults.What.TheVariants.{Item}
-use Rattle.rel_model.specs.Grammar.{SpelledBy}
+use Rattle.lang_model.specs.declared.syntax.Script.{Script}
+use Rattle.lang_model.specs.declared.faults.ParseFault.{ParseFault}
+use Rattle.lang_model.specs.declared.faults.ParseFault.TheVariants.{Byte, Expected, TooDeep, NumberTooLarge, NameTooLong, NoMemory as NO_MEMORY}
+use Rattle.lang_model.specs.declared.faults.What.TheVariants.{Item}
+use Rattle.rv_parse.specs.FirstGrammar.{SpelledBy}
 use Rattle.rv_parse.specs.declared.refusals.Refusal.{Refusal}
 use Rattle.rv_parse.specs.declared.refusals.Refusal.TheVariants.{Unfit, NoMemory}
 

@@ -1,14 +1,14 @@
 -- What a reader of a part of the grammar answers, and the parts of statements, definitions and commands.
 use Rattle.std.specs.Prelude.{◌≡◌, ◌≤◌, ◌++◌, ℕ, List, [], ◌∷◌, length, suc, Some}
-use Rattle.rel_model.specs.declared.token.Keyword.TheVariants.{Beg as BEG, End as END, Return as RETURN, Do as DO, Od as OD, Then as THEN, Fi as FI}
-use Rattle.rel_model.specs.declared.syntax.Expr.{Expr}
-use Rattle.rel_model.specs.declared.syntax.Stmt.{Stmt}
-use Rattle.rel_model.specs.declared.token.Kind.TheVariants.{Keyword as KEYWORD}
-use Rattle.rel_model.specs.declared.token.Token.{Token}
-use Rattle.rel_model.specs.Taken.{Takes}
-use Rattle.rel_model.specs.Lexed.{Ending}
-use Rattle.rel_model.specs.Spelling.{OrLevel, Spelled, SpelledStmts}
-use Rattle.rel_model.specs.Stop.{Part, NamePart, NumberPart, SignPart, WordPart, ExprPart, StmtsPart, ElsePart, RowsPart, ItemsPart, MoreParams, BodyPart, MeaningPart, MoreDecls, program_parts, stop_of}
+use Rattle.lang_model.specs.declared.token.Keyword.TheVariants.{Beg as BEG, End as END, Return as RETURN, Do as DO, Od as OD, Then as THEN, Fi as FI}
+use Rattle.lang_model.specs.declared.syntax.Expr.{Expr}
+use Rattle.lang_model.specs.declared.syntax.Stmt.{Stmt}
+use Rattle.lang_model.specs.declared.token.Kind.TheVariants.{Keyword as KEYWORD}
+use Rattle.lang_model.specs.declared.token.Token.{Token}
+use Rattle.lang_model.specs.Taken.{Takes}
+use Rattle.lang_model.specs.Lexed.{Ending}
+use Rattle.lang_model.specs.Spelling.{OrLevel, Spelled, SpelledStmts}
+use Rattle.lang_model.specs.Stop.{Part, NamePart, NumberPart, SignPart, WordPart, ExprPart, StmtsPart, ElsePart, RowsPart, ItemsPart, MoreParams, BodyPart, MeaningPart, MoreDecls, program_parts, stop_of}
 use Rattle.rv_parse.specs.Halts.{fault_of}
 use Rattle.rv_parse.specs.Readers.{Reads}
 use Rattle.rv_parse.specs.declared.halt.Halt.{Halt}

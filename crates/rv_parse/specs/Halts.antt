@@ -1,12 +1,12 @@
 -- The faults that the readers' own words for them stand for.
 use Rattle.std.specs.Prelude.{List, [], ◌∷◌}
-use Rattle.rel_model.specs.declared.faults.ParseFault.{ParseFault}
-use Rattle.rel_model.specs.declared.faults.ParseFault.TheVariants.{Byte, Expected, TooDeep, NumberTooLarge, NameTooLong, NoMemory as NO_MEMORY}
-use Rattle.rel_model.specs.declared.faults.What.{What}
-use Rattle.rel_model.specs.declared.faults.What.TheVariants.{Item as AN_ITEM, Expression as AN_EXPRESSION, Name as A_NAME, Number as A_NUMBER, NumberFromOne, FileText, Token as TOKEN}
-use Rattle.rel_model.specs.declared.token.Token.{Token}
-use Rattle.rel_model.specs.Lexed.{Ending, EndsAt, Broken}
-use Rattle.rel_model.specs.Stop.{written}
+use Rattle.lang_model.specs.declared.faults.ParseFault.{ParseFault}
+use Rattle.lang_model.specs.declared.faults.ParseFault.TheVariants.{Byte, Expected, TooDeep, NumberTooLarge, NameTooLong, NoMemory as NO_MEMORY}
+use Rattle.lang_model.specs.declared.faults.What.{What}
+use Rattle.lang_model.specs.declared.faults.What.TheVariants.{Item as AN_ITEM, Expression as AN_EXPRESSION, Name as A_NAME, Number as A_NUMBER, NumberFromOne, FileText, Token as TOKEN}
+use Rattle.lang_model.specs.declared.token.Token.{Token}
+use Rattle.lang_model.specs.Lexed.{Ending, EndsAt, Broken}
+use Rattle.lang_model.specs.Stop.{written}
 use Rattle.rv_parse.specs.declared.halt.Wanted.{Wanted}
 use Rattle.rv_parse.specs.declared.halt.Wanted.TheVariants.{Item, Expression, Name, Number, FromOne, File, Sign, Word}
 use Rattle.rv_parse.specs.declared.halt.Flaw.{Flaw}

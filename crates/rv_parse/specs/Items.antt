@@ -1,13 +1,13 @@
 -- What the readers of items answer.
 use Rattle.std.specs.Prelude.{◌≡◌, ◌<◌, Bool, true, false, List, [], ◌∷◌, length}
-use Rattle.rel_model.specs.declared.syntax.Item.{Item}
-use Rattle.rel_model.specs.declared.token.Kind.TheVariants.{Keyword as KEYWORD, Word, Sign}
-use Rattle.rel_model.specs.declared.token.Kind.{Kind}
-use Rattle.rel_model.specs.declared.token.Token.{Token}
-use Rattle.rel_model.specs.Taken.{Takes}
-use Rattle.rel_model.specs.Lexed.{Ending}
-use Rattle.rel_model.specs.Spelling.{SpellsItem}
-use Rattle.rel_model.specs.Stop.{Step, NotBegun, SignPart, ItemsPart, command_step, stop_of}
+use Rattle.lang_model.specs.declared.syntax.Item.{Item}
+use Rattle.lang_model.specs.declared.token.Kind.TheVariants.{Keyword as KEYWORD, Word, Sign}
+use Rattle.lang_model.specs.declared.token.Kind.{Kind}
+use Rattle.lang_model.specs.declared.token.Token.{Token}
+use Rattle.lang_model.specs.Taken.{Takes}
+use Rattle.lang_model.specs.Lexed.{Ending}
+use Rattle.lang_model.specs.Spelling.{SpellsItem}
+use Rattle.lang_model.specs.Stop.{Step, NotBegun, SignPart, ItemsPart, command_step, stop_of}
 
 -- an item is read up to its full stop
 pub record ItemIs (e : Ending) (item : Item) (tokens rest : List Token) : Type 0 where

@@ -1,9 +1,9 @@
 -- What the splitting of a text into tokens answers, one step at a time.
 use Rattle.std.specs.Prelude.{◌≡◌, ◌≤◌, ℕ, List, ◌++◌, length, drop}
-use Rattle.rel_model.specs.declared.syntax.Place.{Place}
-use Rattle.rel_model.specs.declared.token.Token.{Token}
-use Rattle.rel_model.specs.Tokens.{behind_all}
-use Rattle.rel_model.specs.Lexed.{Lexed, lexed_from, before, broken}
+use Rattle.lang_model.specs.declared.syntax.Place.{Place}
+use Rattle.lang_model.specs.declared.token.Token.{Token}
+use Rattle.lang_model.specs.Tokens.{behind_all}
+use Rattle.lang_model.specs.Lexed.{Lexed, lexed_from, before, broken}
 use Rattle.rv_parse.specs.Halts.{flaw_fault}
 use Rattle.rv_parse.specs.declared.lexer.Lexeme.{Lexeme}
 use Rattle.rv_parse.specs.declared.lexer.Lexeme.TheVariants.{Blank, Token as TOKEN, Broken}

@@ -1,10 +1,10 @@
 -- Classes of bytes, and what the splitting of a text into tokens answers.
 use Rattle.std.specs.Prelude.{◌≡◌, ◌==◌, ◌^◌, not, ℕ, Bool, List, cond, nat_le, nat_lt, take, Some, None, Option, IsSome, option_map, ◌++◌, Result, Ok, Err}
-use Rattle.rel_model.specs.Tokens.{is_word_byte, is_digit, is_file_byte, run_length, value_from, word_kind}
-use Rattle.rel_model.specs.Lexed.{is_comment_byte}
-use Rattle.rel_model.specs.declared.token.Kind.{Kind}
-use Rattle.rel_model.specs.declared.token.Kind.TheVariants.{Keyword as KEYWORD, Base as BASE, Number}
-use Rattle.rel_model.specs.declared.token.Token.{Token}
+use Rattle.lang_model.specs.Tokens.{is_word_byte, is_digit, is_file_byte, run_length, value_from, word_kind}
+use Rattle.lang_model.specs.Lexed.{is_comment_byte}
+use Rattle.lang_model.specs.declared.token.Kind.{Kind}
+use Rattle.lang_model.specs.declared.token.Kind.TheVariants.{Keyword as KEYWORD, Base as BASE, Number}
+use Rattle.lang_model.specs.declared.token.Token.{Token}
 use Rattle.rv_parse.specs.declared.bytes.Class.{Class}
 use Rattle.rv_parse.specs.declared.bytes.Class.TheVariants.{Word, Digit, Comment, File, Remark}
 use Rattle.rv_parse.specs.declared.words.Reserved.{Reserved}

@@ -14,3 +14,4 @@ pub mod Places
 pub mod Printed
 pub mod Again
 pub mod Plain
+pub mod FirstGrammar

@@ -1,9 +1,9 @@
 -- The keywords that open commands, and what is to come behind them.
 use Rattle.std.specs.Prelude.{◌≡◌, List, [], ◌∷◌}
-use Rattle.rel_model.specs.declared.token.Keyword.{Keyword}
-use Rattle.rel_model.specs.declared.token.Keyword.TheVariants.{Rel as REL, Let as LET, Print as PRINT, List as LIST, Count as COUNT, «Type» as TYPE, Drop as DROP, Snap as SNAP, At as AT, Load as LOAD, Save as SAVE}
-use Rattle.rel_model.specs.Spelling.{OrLevel}
-use Rattle.rel_model.specs.Stop.{Part, NamePart, FilePart, SignPart, WordPart, ExprPart, Behind, command_step}
+use Rattle.lang_model.specs.declared.token.Keyword.{Keyword}
+use Rattle.lang_model.specs.declared.token.Keyword.TheVariants.{Rel as REL, Let as LET, Print as PRINT, List as LIST, Count as COUNT, «Type» as TYPE, Drop as DROP, Snap as SNAP, At as AT, Load as LOAD, Save as SAVE}
+use Rattle.lang_model.specs.Spelling.{OrLevel}
+use Rattle.lang_model.specs.Stop.{Part, NamePart, FilePart, SignPart, WordPart, ExprPart, Behind, command_step}
 use Rattle.rv_parse.specs.Got.{relation_parts}
 use Rattle.rv_parse.specs.declared.command.Opening.{Opening}
 use Rattle.rv_parse.specs.declared.command.Opening.TheVariants.{Relation, Let, Print, List as ListOf, Count, «Type» as TypeOf, Drop, Snap, At, Load, Save}

@@ -1,8 +1,8 @@
 -- The texts of arguments and links as lists.
 use Rattle.std.specs.Prelude.{◌++◌, ℕ, nat_le, List, [], ◌∷◌}
-use Rattle.rel_model.specs.declared.syntax.Expr.{Expr}
-use Rattle.rel_model.specs.declared.syntax.Link.{Link}
-use Rattle.rel_model.specs.Printing.{printed, rank, chain_rank, sign_of, within}
+use Rattle.lang_model.specs.declared.syntax.Expr.{Expr}
+use Rattle.lang_model.specs.declared.syntax.Link.{Link}
+use Rattle.lang_model.specs.Printing.{printed, rank, chain_rank, sign_of, within}
 
 -- further arguments, each behind a comma
 abbrev pub printed_more_args : List Expr → List ℕ

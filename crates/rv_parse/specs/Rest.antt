@@ -2,13 +2,13 @@
 use Rattle.std.specs.Prelude.{◌==◌, ◌&&◌, ◌++◌, ℕ, Bool, true, false, cond, List, [], ◌∷◌, Option, Some, None, option_map, nat_le, nat_lt, suc}
 use Rattle.std.specs.List.{list_all}
 use Rattle.std.specs.Option.{option_map_or}
-use Rattle.rel_model.specs.declared.token.Keyword.TheVariants.{Rel as REL, Print as PRINT}
-use Rattle.rel_model.specs.declared.token.Keyword.{Keyword}
-use Rattle.rel_model.specs.declared.token.Kind.{Kind}
-use Rattle.rel_model.specs.declared.token.Kind.TheVariants.{Keyword as KEYWORD, Word, Number, Sign}
-use Rattle.rel_model.specs.declared.token.Token.{Token}
-use Rattle.rel_model.specs.Grammar.{Level, OrLevel, AndLevel, UnaryLevel, PostLevel, PrimLevel, tighter, first_size_limit}
-use Rattle.rel_model.specs.Taken.{nesting_limit}
+use Rattle.lang_model.specs.declared.token.Keyword.TheVariants.{Rel as REL, Print as PRINT}
+use Rattle.lang_model.specs.declared.token.Keyword.{Keyword}
+use Rattle.lang_model.specs.declared.token.Kind.{Kind}
+use Rattle.lang_model.specs.declared.token.Kind.TheVariants.{Keyword as KEYWORD, Word, Number, Sign}
+use Rattle.lang_model.specs.declared.token.Token.{Token}
+use Rattle.rv_parse.specs.FirstGrammar.{Level, OrLevel, AndLevel, UnaryLevel, PostLevel, PrimLevel, tighter, first_size_limit}
+use Rattle.lang_model.specs.Taken.{nesting_limit}
 
 -- Parts of the grammar: items, a name, a sign, the sizes of a relation, its rows, a number from 1 up to another; an expression of a level where so many constructs are open, further links, further ^.
 pub data Part : Type 0 where

@@ -1,10 +1,10 @@
 -- The faults of a text that is no script.
 use Rattle.std.specs.Prelude.{◌≡◌, ℕ, List, None, Some}
-use Rattle.rel_model.specs.declared.syntax.Script.{Script}
-use Rattle.rel_model.specs.declared.faults.ParseFault.{ParseFault}
-use Rattle.rel_model.specs.declared.faults.ParseFault.TheVariants.{NoMemory}
-use Rattle.rel_model.specs.Spelling.{SpelledBy}
-use Rattle.rel_model.specs.Stop.{stop}
+use Rattle.lang_model.specs.declared.syntax.Script.{Script}
+use Rattle.lang_model.specs.declared.faults.ParseFault.{ParseFault}
+use Rattle.lang_model.specs.declared.faults.ParseFault.TheVariants.{NoMemory}
+use Rattle.lang_model.specs.Spelling.{SpelledBy}
+use Rattle.lang_model.specs.Stop.{stop}
 use Rattle.rv_parse.specs.Halts.{fault_of}
 use Rattle.rv_parse.specs.declared.halt.Wanted.{Wanted}
 use Rattle.rv_parse.specs.declared.halt.Wanted.TheVariants.{Sign, Word}

@@ -1,7 +1,7 @@
 //! Classes of bytes, and how far they run.
 ghost use Rattle.std.specs.Prelude.{◌≡◌, ◌≤◌, length};
 ghost use Rattle.std.specs.List.{list_all};
-ghost use Rattle.rel_model.specs.Tokens.{is_letter, is_digit, is_blank, is_sign_byte, is_allowed, run_length};
+ghost use Rattle.lang_model.specs.Tokens.{is_letter, is_digit, is_blank, is_sign_byte, is_allowed, run_length};
 ghost use Rattle.rv_parse.specs.Lexing.{passes};
 
 /// Classes of bytes that run on.

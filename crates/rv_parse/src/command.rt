@@ -1,10 +1,10 @@
 //! Commands.
 ghost use Rattle.std.specs.Prelude.{◌≡◌, ◌<◌, ◌^◌, List, length, MatchResult, MatchOption};
-ghost use Rattle.rel_model.specs.Taken.{Takes};
-ghost use Rattle.rel_model.specs.Spelling.{SpellsCommand};
-ghost use Rattle.rel_model.specs.Stop.{NotBegun, command_step};
-ghost use Rattle.rel_model.specs.declared.token.Kind.TheVariants.{Keyword as KEYWORD};
-ghost use Rattle.rel_model.specs.declared.token.Token.{Token as TOKEN};
+ghost use Rattle.lang_model.specs.Taken.{Takes};
+ghost use Rattle.lang_model.specs.Spelling.{SpellsCommand};
+ghost use Rattle.lang_model.specs.Stop.{NotBegun, command_step};
+ghost use Rattle.lang_model.specs.declared.token.Kind.TheVariants.{Keyword as KEYWORD};
+ghost use Rattle.lang_model.specs.declared.token.Token.{Token as TOKEN};
 ghost use Rattle.rv_parse.specs.Halts.{ending_of};
 ghost use Rattle.rv_parse.specs.Readers.{Refuses};
 ghost use Rattle.rv_parse.specs.Got.{Got};
@@ -15,8 +15,8 @@ use crate::expr::expression;
 use crate::halt::{Ending, Halt};
 use crate::leaf::{next_file, next_name, next_sign, next_word};
 use crate::rows::relation;
-use rel_model::syntax::Command;
-use rel_model::token::{Keyword, Token};
+use lang_model::syntax::Command;
+use lang_model::token::{Keyword, Token};
 use std::alloc::Global;
 
 /// The keywords that open a command.

@@ -1,11 +1,11 @@
 //! Definitions: functions and programs.
 ghost use Rattle.std.specs.Prelude.{◌≡◌, ◌<◌, ◌≤◌, ◌^◌, ◌∷◌, [], List, length, IfErr, MatchResult};
-ghost use Rattle.rel_model.specs.Taken.{TakesAt, Takes};
-ghost use Rattle.rel_model.specs.Spelling.{OrLevel, Spelled, SpelledStmts, SpellsParams, SpellsDecl, SpellsDecls, SpellsHead, SpellsItem, domain_word};
-ghost use Rattle.rel_model.specs.Stop.{NamePart, SignPart, MeaningPart, DomainPart, MoreDecls, MoreParams, BodyPart, ExprPart, program_parts};
-ghost use Rattle.rel_model.specs.declared.token.Kind.TheVariants.{Keyword as KEYWORD, Word, Sign};
-ghost use Rattle.rel_model.specs.declared.token.Keyword.TheVariants.{Decl as DECL, Beg as BEG};
-ghost use Rattle.rel_model.specs.declared.token.Token.{Token as TOKEN};
+ghost use Rattle.lang_model.specs.Taken.{TakesAt, Takes};
+ghost use Rattle.lang_model.specs.Spelling.{OrLevel, Spelled, SpelledStmts, SpellsParams, SpellsDecl, SpellsDecls, SpellsHead, SpellsItem, domain_word};
+ghost use Rattle.lang_model.specs.Stop.{NamePart, SignPart, MeaningPart, DomainPart, MoreDecls, MoreParams, BodyPart, ExprPart, program_parts};
+ghost use Rattle.lang_model.specs.declared.token.Kind.TheVariants.{Keyword as KEYWORD, Word, Sign};
+ghost use Rattle.lang_model.specs.declared.token.Keyword.TheVariants.{Decl as DECL, Beg as BEG};
+ghost use Rattle.lang_model.specs.declared.token.Token.{Token as TOKEN};
 ghost use Rattle.rv_parse.specs.Halts.{ending_of};
 ghost use Rattle.rv_parse.specs.declared.halt.Halt.TheVariants.{NoMemory};
 ghost use Rattle.rv_parse.specs.Readers.{Refuses};
@@ -15,8 +15,8 @@ use crate::expr::expression;
 use crate::halt::{Ending, Halt, Wanted};
 use crate::leaf::{behind_sign, behind_word, missing, next_name, next_sign, next_word};
 use crate::stmt::stmts;
-use rel_model::syntax::{Decl, Expr, Item, Name, Place, Stmt};
-use rel_model::token::{Keyword, Kind, Token};
+use lang_model::syntax::{Decl, Expr, Item, Name, Place, Stmt};
+use lang_model::token::{Keyword, Kind, Token};
 use std::alloc::Global;
 
 /// How many parameters a definition may have.

@@ -1,17 +1,17 @@
 //! Expressions: chains of operands, a prefix `-`, signs `^`, calls, pairs and parentheses.
 ghost use Rattle.std.specs.Prelude.{◌≡◌, ◌<◌, ◌≤◌, ◌+◌, ◌^◌, ◌∷◌, [], ℕ, List, false, suc, length, MatchResult, MatchOption};
-ghost use Rattle.rel_model.specs.Taken.{Carets, TakesAt, nesting_limit};
-ghost use Rattle.rel_model.specs.Lexed.{Ending as ENDING};
-ghost use Rattle.rel_model.specs.Spelling.{OrLevel, UnaryLevel, PostLevel, PrimLevel, tighter, TakesOne, TakesTwo, TakesDomain, form_of};
-ghost use Rattle.rel_model.specs.Stop.{Part, ExprPart, CallPart, MoreArgs, MoreCarets, SignPart, form_parts, stop_of};
-ghost use Rattle.rel_model.specs.declared.token.Kind.TheVariants.{Base as BASE, Word, Sign};
+ghost use Rattle.lang_model.specs.Taken.{Carets, TakesAt, nesting_limit};
+ghost use Rattle.lang_model.specs.Lexed.{Ending as ENDING};
+ghost use Rattle.lang_model.specs.Spelling.{OrLevel, UnaryLevel, PostLevel, PrimLevel, tighter, TakesOne, TakesTwo, TakesDomain, form_of};
+ghost use Rattle.lang_model.specs.Stop.{Part, ExprPart, CallPart, MoreArgs, MoreCarets, SignPart, form_parts, stop_of};
+ghost use Rattle.lang_model.specs.declared.token.Kind.TheVariants.{Base as BASE, Word, Sign};
 ghost use Rattle.rv_parse.specs.Halts.{ending_of};
 ghost use Rattle.rv_parse.specs.Readers.{Reads, Refuses, begins, begins_operator, level_of, form_is, OperatorIs, IsLink, IsRead, IsBehind, AreArguments};
 
 use crate::halt::{Ending, Halt, Wanted};
 use crate::leaf::{NESTING_LIMIT, behind_sign, missing, next_name, next_sign, open};
-use rel_model::syntax::{Base, Expr, Link, Name, Op2, Place};
-use rel_model::token::{Kind, Token};
+use lang_model::syntax::{Base, Expr, Link, Name, Op2, Place};
+use lang_model::token::{Kind, Token};
 use std::alloc::Global;
 
 /// How many arguments a call may have.

@@ -1,15 +1,15 @@
 //! Expressions: chains of operands, a prefix `-`, signs `^` and parentheses.
 ghost use Rattle.std.specs.Prelude.{◌≡◌, ◌<◌, ◌≤◌, ◌+◌, ◌^◌, ◌∷◌, [], false, length, MatchResult};
-ghost use Rattle.rel_model.specs.Grammar.{IsOperatorOf, OrLevel, UnaryLevel, PostLevel, PrimLevel, tighter};
-ghost use Rattle.rel_model.specs.Taken.{Carets, nesting_limit};
+ghost use Rattle.rv_parse.specs.FirstGrammar.{IsOperatorOf, OrLevel, UnaryLevel, PostLevel, PrimLevel, tighter};
+ghost use Rattle.lang_model.specs.Taken.{Carets, nesting_limit};
 ghost use Rattle.rv_parse.specs.Rest.{ExprPart, MoreCarets, sign_of, begins};
 ghost use Rattle.rv_parse.specs.Answers.{Reads, Refuses};
 ghost use Rattle.rv_parse.specs.Expressions.{IsRead, level_of};
 
 use crate::next::{behind_sign, next_name, next_sign};
 use crate::refusals::Refusal;
-use rel_model::syntax::{Expr, Link, Op2};
-use rel_model::token::Token;
+use lang_model::syntax::{Expr, Link, Op2};
+use lang_model::token::Token;
 use std::alloc::Global;
 
 /// How many constructs may be open at once.

@@ -1,6 +1,6 @@
 //! First scripts: items REL and PRINT.
 ghost use Rattle.std.specs.Prelude.{◌≡◌, ◌<◌, ◌≤◌, ◌^◌, ◌∷◌, [], false, length, MatchResult, MatchOption, IfOk, IfErr};
-ghost use Rattle.rel_model.specs.Grammar.{SpellsItem, SpellsItems, SpelledBy, Spells};
+ghost use Rattle.rv_parse.specs.FirstGrammar.{SpellsItem, SpellsItems, SpelledBy, Spells};
 ghost use Rattle.rv_parse.specs.Rest.{Items, fits};
 ghost use Rattle.rv_parse.specs.Answers.{FitsNone, NoScript, OpensItem};
 ghost use Rattle.rv_parse.specs.Faults.{RefusesFirst, IsFaultOf};
@@ -10,9 +10,9 @@ use crate::next::next_sign;
 use crate::refusals::Refusal;
 use crate::relation::relation;
 use crate::tokens::tokens;
-use rel_model::faults::{ParseFault, What};
-use rel_model::syntax::{Command, Item, Place, Script};
-use rel_model::token::{Keyword, Kind, Token};
+use lang_model::faults::{ParseFault, What};
+use lang_model::syntax::{Command, Item, Place, Script};
+use lang_model::token::{Keyword, Kind, Token};
 use std::alloc::Global;
 
 /// The keywords that open an item.

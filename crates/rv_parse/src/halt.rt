@@ -1,6 +1,6 @@
 //! Why reading ends before a script is complete.
-use rel_model::syntax::Place;
-use rel_model::token::Keyword;
+use lang_model::syntax::Place;
+use lang_model::token::Keyword;
 use std::alloc::{AllocError, AllocFailed};
 
 /// What the grammar needs at a place.

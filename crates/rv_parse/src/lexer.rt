@@ -1,6 +1,6 @@
 //! Splits a text into tokens, up to its end or its first byte, number, word or file text that is no token.
 ghost use Rattle.std.specs.Prelude.{◌≡◌, ◌<◌, ◌≤◌, ◌+◌, ◌^◌, ◌∷◌, [], length, drop, get_or, MatchResult};
-ghost use Rattle.rel_model.specs.Lexed.{file_fault, text_fault, token_fault, lexed_of};
+ghost use Rattle.lang_model.specs.Lexed.{file_fault, text_fault, token_fault, lexed_of};
 ghost use Rattle.rv_parse.specs.Halts.{flaw_fault, ending_of};
 ghost use Rattle.rv_parse.specs.LexerAnswers.{Lexes, OnlyMemory};
 
@@ -8,8 +8,8 @@ use crate::bytes::{Class, is_allowed, is_blank, is_digit, is_letter, run};
 use crate::halt::{Ending, Flaw, Halt};
 use crate::refusals::Refusal;
 use crate::tokens::{advance, kind_at, step};
-use rel_model::syntax::Place;
-use rel_model::token::{Kind, Token};
+use lang_model::syntax::Place;
+use lang_model::token::{Kind, Token};
 use std::alloc::Global;
 
 /// What a text begins with.

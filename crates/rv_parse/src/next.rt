@@ -1,16 +1,16 @@
 //! The first token, read as one part of the grammar.
 ghost use Rattle.std.specs.Prelude.{◌≡◌, ◌≤◌, ◌∷◌, [], ℕ, true, false, IfErr, MatchResult, MatchOption};
-ghost use Rattle.rel_model.specs.Grammar.{first_size_limit};
-ghost use Rattle.rel_model.specs.Taken.{TakesAt};
-ghost use Rattle.rel_model.specs.declared.token.Kind.TheVariants.{Word, Number, Sign};
+ghost use Rattle.rv_parse.specs.FirstGrammar.{first_size_limit};
+ghost use Rattle.lang_model.specs.Taken.{TakesAt};
+ghost use Rattle.lang_model.specs.declared.token.Kind.TheVariants.{Word, Number, Sign};
 ghost use Rattle.rv_parse.specs.Rest.{NamePart, SignPart, RowCount, ColumnCount, UpTo, RowsPart, begins, begins_up_to};
 ghost use Rattle.rv_parse.specs.Answers.{Reads, ReadsTo, Refuses};
 ghost use Rattle.rv_parse.specs.Items.{begins_name};
 ghost use Rattle.rv_parse.specs.declared.refusals.Refusal.TheVariants.{NoMemory, Unfit};
 
 use crate::refusals::Refusal;
-use rel_model::syntax::{Name, Place};
-use rel_model::token::{Kind, Token};
+use lang_model::syntax::{Name, Place};
+use lang_model::token::{Kind, Token};
 use std::alloc::Global;
 
 /// The greatest size in a first script.

@@ -1,11 +1,11 @@
 //! The text of an expression.
 ghost use Rattle.std.specs.Prelude.{◌≡◌, ◌++◌, ◌∷◌, ℕ, [], replicate, nat_le, IfOk, OnOk};
-ghost use Rattle.rel_model.specs.Printing.{sign_of, base_text, chain_rank, rank, within, printed};
+ghost use Rattle.lang_model.specs.Printing.{sign_of, base_text, chain_rank, rank, within, printed};
 ghost use Rattle.rv_parse.specs.Again.{StandsIn, ReadAgain, PrintsAgain};
 ghost use Rattle.rv_parse.specs.Printed.{rank_of_links, printed_all_args, printed_all_links};
 
 use rel_model::NoMemory;
-use rel_model::syntax::{Base, Expr, Link, Op2};
+use lang_model::syntax::{Base, Expr, Link, Op2};
 use std::alloc::Global;
 
 /// The sign of an operator.

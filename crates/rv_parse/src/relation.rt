@@ -1,13 +1,13 @@
 //! Listed relations.
 ghost use Rattle.std.specs.Prelude.{◌≡◌, ◌<◌, ◌≤◌, ◌∷◌, [], length, MatchResult};
-ghost use Rattle.rel_model.specs.Grammar.{SpellsColumns, SpellsRow, SpellsRows};
+ghost use Rattle.rv_parse.specs.FirstGrammar.{SpellsColumns, SpellsRow, SpellsRows};
 ghost use Rattle.rv_parse.specs.Rest.{NamePart, RowCount, UpTo, RowsPart, MoreRows, MoreColumns, row_parts};
 ghost use Rattle.rv_parse.specs.Answers.{Reads, Refuses, SpellsBehindRel};
 
 use crate::next::{begins_up_to, behind_sign, next_name, next_sign, next_size, next_up_to};
 use crate::refusals::Refusal;
-use rel_model::syntax::{Column, Command, Row};
-use rel_model::token::Token;
+use lang_model::syntax::{Column, Command, Row};
+use lang_model::token::Token;
 use std::alloc::Global;
 
 /// The columns of a row, each from 1 up to the limit.

@@ -1,19 +1,19 @@
 //! Listed relations.
 ghost use Rattle.std.specs.Prelude.{◌≡◌, ◌≤◌, ◌∷◌, [], List, MatchResult};
-ghost use Rattle.rel_model.specs.Taken.{Takes};
-ghost use Rattle.rel_model.specs.Spelling.{SpellsColumns, SpellsRow, SpellsMoreRows, SpellsRows, SpellsCommand};
-ghost use Rattle.rel_model.specs.Stop.{FromOne, RowsPart, MoreRows, MoreColumns, row_parts};
-ghost use Rattle.rel_model.specs.declared.token.Kind.TheVariants.{Keyword as KEYWORD};
-ghost use Rattle.rel_model.specs.declared.token.Keyword.TheVariants.{Rel as REL};
-ghost use Rattle.rel_model.specs.declared.token.Token.{Token as TOKEN};
+ghost use Rattle.lang_model.specs.Taken.{Takes};
+ghost use Rattle.lang_model.specs.Spelling.{SpellsColumns, SpellsRow, SpellsMoreRows, SpellsRows, SpellsCommand};
+ghost use Rattle.lang_model.specs.Stop.{FromOne, RowsPart, MoreRows, MoreColumns, row_parts};
+ghost use Rattle.lang_model.specs.declared.token.Kind.TheVariants.{Keyword as KEYWORD};
+ghost use Rattle.lang_model.specs.declared.token.Keyword.TheVariants.{Rel as REL};
+ghost use Rattle.lang_model.specs.declared.token.Token.{Token as TOKEN};
 ghost use Rattle.rv_parse.specs.Halts.{ending_of};
 ghost use Rattle.rv_parse.specs.Readers.{Refuses, begins_number};
 ghost use Rattle.rv_parse.specs.Got.{Got, relation_parts};
 
 use crate::halt::{Ending, Halt};
 use crate::leaf::{behind_sign, next_from_one, next_name, next_number, next_sign};
-use rel_model::syntax::{Column, Command, Row};
-use rel_model::token::{Kind, Token};
+use lang_model::syntax::{Column, Command, Row};
+use lang_model::token::{Kind, Token};
 use std::alloc::Global;
 
 /// Whether a number comes first.

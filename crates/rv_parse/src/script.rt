@@ -1,13 +1,13 @@
 //! Scripts of the whole language.
 ghost use Rattle.std.specs.Prelude.{◌≡◌, ◌<◌, ◌≤◌, ◌^◌, ◌∷◌, [], length, MatchResult, MatchOption, IfOk, IfErr, false};
-ghost use Rattle.rel_model.specs.Taken.{TakesAt, Takes};
-ghost use Rattle.rel_model.specs.declared.token.Kind.TheVariants.{Keyword as KEYWORD, Word};
+ghost use Rattle.lang_model.specs.Taken.{TakesAt, Takes};
+ghost use Rattle.lang_model.specs.declared.token.Kind.TheVariants.{Keyword as KEYWORD, Word};
 ghost use Rattle.rv_parse.specs.Openings.{opening_word};
-ghost use Rattle.rel_model.specs.Lexed.{EndsAt};
-ghost use Rattle.rel_model.specs.Spelling.{SpellsItems, Spells, SpelledBy};
-ghost use Rattle.rel_model.specs.Stop.{ItemsPart, stop_of, written};
-ghost use Rattle.rel_model.specs.declared.faults.ParseFault.TheVariants.{NoMemory as NO_MEMORY};
-ghost use Rattle.rel_model.specs.declared.syntax.Place.{Place as PLACE};
+ghost use Rattle.lang_model.specs.Lexed.{EndsAt};
+ghost use Rattle.lang_model.specs.Spelling.{SpellsItems, Spells, SpelledBy};
+ghost use Rattle.lang_model.specs.Stop.{ItemsPart, stop_of, written};
+ghost use Rattle.lang_model.specs.declared.faults.ParseFault.TheVariants.{NoMemory as NO_MEMORY};
+ghost use Rattle.lang_model.specs.declared.syntax.Place.{Place as PLACE};
 ghost use Rattle.rv_parse.specs.declared.halt.Halt.TheVariants.{Broken as BROKEN};
 ghost use Rattle.rv_parse.specs.Halts.{ending_of, what};
 ghost use Rattle.rv_parse.specs.Got.{RefusesItems};
@@ -20,9 +20,9 @@ use crate::halt::{Ending, Flaw, Halt, Wanted};
 use crate::leaf::{missing, next_sign};
 use crate::lexer::lexed;
 use rel_model::NoMemory;
-use rel_model::faults::{ParseFault, What};
-use rel_model::syntax::{Item, Name, Place, Script};
-use rel_model::token::{Keyword, Kind, Token};
+use lang_model::faults::{ParseFault, What};
+use lang_model::syntax::{Item, Name, Place, Script};
+use lang_model::token::{Keyword, Kind, Token};
 use std::alloc::Global;
 
 /// The name that comes first.

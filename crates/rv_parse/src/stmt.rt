@@ -1,11 +1,11 @@
 //! Statements.
 ghost use Rattle.std.specs.Prelude.{◌≡◌, ◌<◌, ◌≤◌, ◌^◌, ◌∷◌, [], List, suc, length, MatchResult, MatchOption};
-ghost use Rattle.rel_model.specs.Taken.{TakesAt, nesting_limit};
-ghost use Rattle.rel_model.specs.Spelling.{SpelledStmt, SpelledStmts};
-ghost use Rattle.rel_model.specs.Stop.{StmtsPart, MoreStmts};
-ghost use Rattle.rel_model.specs.declared.token.Kind.TheVariants.{Keyword as KEYWORD, Word};
-ghost use Rattle.rel_model.specs.declared.token.Keyword.TheVariants.{While as WHILE, If as IF};
-ghost use Rattle.rel_model.specs.declared.token.Token.{Token as TOKEN};
+ghost use Rattle.lang_model.specs.Taken.{TakesAt, nesting_limit};
+ghost use Rattle.lang_model.specs.Spelling.{SpelledStmt, SpelledStmts};
+ghost use Rattle.lang_model.specs.Stop.{StmtsPart, MoreStmts};
+ghost use Rattle.lang_model.specs.declared.token.Kind.TheVariants.{Keyword as KEYWORD, Word};
+ghost use Rattle.lang_model.specs.declared.token.Keyword.TheVariants.{While as WHILE, If as IF};
+ghost use Rattle.lang_model.specs.declared.token.Token.{Token as TOKEN};
 ghost use Rattle.rv_parse.specs.Halts.{ending_of};
 ghost use Rattle.rv_parse.specs.Readers.{Refuses};
 ghost use Rattle.rv_parse.specs.Got.{Got, ReadsTo, set_parts, while_parts, if_parts};
@@ -13,8 +13,8 @@ ghost use Rattle.rv_parse.specs.Got.{Got, ReadsTo, set_parts, while_parts, if_pa
 use crate::expr::{expression, inner};
 use crate::halt::{Ending, Halt};
 use crate::leaf::{NESTING_LIMIT, behind_sign, behind_word, next_sign, next_word};
-use rel_model::syntax::{Name, Place, Stmt};
-use rel_model::token::{Keyword, Kind, Token};
+use lang_model::syntax::{Name, Place, Stmt};
+use lang_model::token::{Keyword, Kind, Token};
 use std::alloc::Global;
 
 /// An assignment behind its name.

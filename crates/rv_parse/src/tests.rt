@@ -3,8 +3,8 @@ mod printing;
 mod show;
 
 use crate::parse_first;
-use rel_model::faults::{ParseFault, What};
-use rel_model::syntax::{Command, Expr, Item, Place};
+use lang_model::faults::{ParseFault, What};
+use lang_model::syntax::{Command, Expr, Item, Place};
 use show::shown;
 use std::alloc::Global;
 use std::test::Fail;

@@ -1,15 +1,15 @@
 //! Splits a text into tokens.
 ghost use Rattle.std.specs.Prelude.{◌≡◌, ◌<◌, ◌≤◌, ◌+◌, ◌*◌, ◌^◌, Some, MatchResult, OnSome, IfOk, IfErr, drop, length, option_map};
 ghost use Rattle.std.specs.Option.{SomeIff};
-ghost use Rattle.rel_model.specs.Tokens.{begins_with_quote, run_length, is_word_byte, value_from, behind, behind_all, word_kind, domain_operator_at, file_at, kind_at, tokens_from, tokens_of};
+ghost use Rattle.lang_model.specs.Tokens.{begins_with_quote, run_length, is_word_byte, value_from, behind, behind_all, word_kind, domain_operator_at, file_at, kind_at, tokens_from, tokens_of};
 ghost use Rattle.rv_parse.specs.Lexing.{kind_of, word_at, number_at, Finds, NoTokens, prepended};
 ghost use Rattle.rv_parse.specs.declared.refusals.Refusal.TheVariants.{NoMemory, Unfit};
 
 use crate::bytes::{Class, all_allowed, is_blank, is_digit, is_letter, is_sign, run};
 use crate::refusals::Refusal;
 use crate::words::{Reserved, domain_operator, reserved_word};
-use rel_model::syntax::{FileText, Name, Place};
-use rel_model::token::{Kind, Token};
+use lang_model::syntax::{FileText, Name, Place};
+use lang_model::token::{Kind, Token};
 use std::alloc::Global;
 
 /// The value of digits, where it is below 2 ^ 64.

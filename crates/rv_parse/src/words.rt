@@ -1,10 +1,10 @@
 //! The words that are no names.
 ghost use Rattle.std.specs.Prelude.{◌≡◌, map, option_map};
-ghost use Rattle.rel_model.specs.Tokens.{found_in, reserved_words, domain_operators};
+ghost use Rattle.lang_model.specs.Tokens.{found_in, reserved_words, domain_operators};
 ghost use Rattle.rv_parse.specs.Lexing.{kind_of};
 
-use rel_model::syntax::Base;
-use rel_model::token::Keyword;
+use lang_model::syntax::Base;
+use lang_model::token::Keyword;
 
 /// What a reserved word stands for.
 #[derive(Clone, Copy, Debug)]

@@ -1,12 +1,12 @@
 -- What faults and ranks depend on: of a scope, which names are parameters, variables, products and sums; of the definitions so far, the definition of each name.
 use Rattle.std.proofs.Common.{◌≡◌, ◌==◌, ◌++◌, ◌||◌, ℕ, Bool, true, false, max, cond, List, [], ◌∷◌, refl, ap}
 use Rattle.std.specs.Option.{option_map_or}
-use Rattle.rel_model.specs.declared.syntax.Place.{Place}
-use Rattle.rel_model.specs.declared.syntax.Base.{Base}
-use Rattle.rel_model.specs.declared.syntax.Expr.{Expr, Ref, Call', Base', Inject, Pair', Minus', Turned', Chain', Row_of-Expr, end_of-Expr, more_of-Expr, Row_of-Link, end_of-Link, more_of-Link}
-use Rattle.rel_model.specs.declared.syntax.Stmt.{Stmt, Set, While', If', Row_of-Stmt, end_of-Stmt, more_of-Stmt}
-use Rattle.rel_model.specs.declared.faults.TypeFault.TheVariants.{Unknown, Arity, Unassigned}
-use Rattle.rel_model.specs.Checking.{Names, among, Known, definition_of, Scope, is_projection, domain_operator_text, ref_faults, call_faults, domain_faults, target_faults, count_in, faults, faults_in, faults_along, rank_named, called, called_in, called_along, assigned_after, faults_of, faults_within, faults_by, called_by, called_within, called_by_all}
+use Rattle.lang_model.specs.declared.syntax.Place.{Place}
+use Rattle.lang_model.specs.declared.syntax.Base.{Base}
+use Rattle.lang_model.specs.declared.syntax.Expr.{Expr, Ref, Call', Base', Inject, Pair', Minus', Turned', Chain', Row_of-Expr, end_of-Expr, more_of-Expr, Row_of-Link, end_of-Link, more_of-Link}
+use Rattle.lang_model.specs.declared.syntax.Stmt.{Stmt, Set, While', If', Row_of-Stmt, end_of-Stmt, more_of-Stmt}
+use Rattle.lang_model.specs.declared.faults.TypeFault.TheVariants.{Unknown, Arity, Unassigned}
+use Rattle.lang_model.specs.Checking.{Names, among, Known, definition_of, Scope, is_projection, domain_operator_text, ref_faults, call_faults, domain_faults, target_faults, count_in, faults, faults_in, faults_along, rank_named, called, called_in, called_along, assigned_after, faults_of, faults_within, faults_by, called_by, called_within, called_by_all}
 
 -- two lists hold the same names
 abbrev pub SameNames : List (List ℕ) → List (List ℕ) → Type 0

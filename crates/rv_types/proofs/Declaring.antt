@@ -1,12 +1,12 @@
 -- Declarations: what one more changes, and that only which names were given counts.
 use Rattle.std.proofs.Common.{◌≡◌, ◌<◌, ◌+◌, ◌++◌, ◌∙◌, ◌||◌, ℕ, cond, List, [], ◌∷◌, length, drop, get_or, Option, refl, sym, ap}
 use Rattle.std.proofs.lemmas.List.{drop_more}
-use Rattle.rel_model.specs.declared.syntax.Decl.{Decl}
-use Rattle.rel_model.specs.declared.syntax.Decl.TheVariants.{Variable, Domain}
-use Rattle.rel_model.specs.declared.faults.TypeFault.{TypeFault}
-use Rattle.rel_model.specs.declared.faults.TypeFault.TheVariants.{Unknown, Twice}
-use Rattle.rel_model.specs.Tokens.{same_text}
-use Rattle.rel_model.specs.Checking.{among, name_of, place_of_decl, operand_faults, decl_faults}
+use Rattle.lang_model.specs.declared.syntax.Decl.{Decl}
+use Rattle.lang_model.specs.declared.syntax.Decl.TheVariants.{Variable, Domain}
+use Rattle.lang_model.specs.declared.faults.TypeFault.{TypeFault}
+use Rattle.lang_model.specs.declared.faults.TypeFault.TheVariants.{Unknown, Twice}
+use Rattle.lang_model.specs.Tokens.{same_text}
+use Rattle.lang_model.specs.Checking.{among, name_of, place_of_decl, operand_faults, decl_faults}
 use Rattle.rv_types.specs.Found.{noted}
 use Rattle.rv_types.proofs.Walks.{noted-append}
 use Rattle.rv_types.proofs.Agreeing.{SameNames}

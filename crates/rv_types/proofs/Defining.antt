@@ -9,14 +9,15 @@ use Rattle.std.specs.List.{list_any, position_from, slice_get, HoldsAt}
 use Rattle.std.specs.Option.{option_or, option_and_then, option_copied, IfSome, MatchOption}
 use Rattle.std.specs.Map.{lookup}
 use Rattle.std.specs.Cmp.Lexicographic.{pointwise, nat_list_eq_equiv, same_text as text_of_test}
-use Rattle.rel_model.specs.declared.syntax.Item.{Item}
-use Rattle.rel_model.specs.declared.syntax.Item.TheVariants.{Function, Program, Command as COMMAND}
-use Rattle.rel_model.specs.declared.syntax.Script.{Script}
-use Rattle.rel_model.specs.declared.faults.TypeFault.{TypeFault}
-use Rattle.rel_model.specs.declared.faults.TypeFault.TheVariants.{Twice}
-use Rattle.rel_model.specs.Tokens.{same_text}
-use Rattle.rel_model.specs.Checking.{among, Known, definition_of, names_of, head_faults, item_faults, known_with, items_faults, first_fault, flaw}
-use Rattle.rv_types.specs.Defining.{defines, NoneDefines, IsDefinition, number_beside}
+use Rattle.lang_model.specs.declared.syntax.Item.{Item}
+use Rattle.lang_model.specs.declared.syntax.Item.TheVariants.{Function, Program, Command as COMMAND}
+use Rattle.lang_model.specs.declared.syntax.Script.{Script}
+use Rattle.lang_model.specs.declared.faults.TypeFault.{TypeFault}
+use Rattle.lang_model.specs.declared.faults.TypeFault.TheVariants.{Twice}
+use Rattle.lang_model.specs.Tokens.{same_text}
+use Rattle.lang_model.specs.Checking.{among, Known, definition_of, names_of, head_faults, item_faults, known_with, items_faults, first_fault, flaw}
+use Rattle.lang_model.specs.Defining.{defines}
+use Rattle.rv_types.specs.Defining.{NoneDefines, IsDefinition, number_beside}
 use Rattle.rv_types.proofs.Naming.{or_known, definition_of-push}
 use Rattle.rv_types.proofs.Heads.{among-names_of}
 

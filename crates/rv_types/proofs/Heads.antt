@@ -1,11 +1,11 @@
 -- Names that were given before: what one more parameter or declaration changes, and that only which names were given counts.
 use Rattle.std.proofs.Common.{◌≡◌, ◌<◌, ◌+◌, ◌++◌, ◌∙◌, ◌||◌, ℕ, Bool, true, false, cond, List, [], ◌∷◌, length, drop, get_or, Option, Some, None, is_some, option_map, refl, sym, ap}
 use Rattle.std.proofs.lemmas.List.{drop_more}
-use Rattle.rel_model.specs.declared.syntax.Place.{Place}
-use Rattle.rel_model.specs.declared.faults.TypeFault.{TypeFault}
-use Rattle.rel_model.specs.declared.faults.TypeFault.TheVariants.{Twice}
-use Rattle.rel_model.specs.Tokens.{same_text}
-use Rattle.rel_model.specs.Checking.{among, Known, definition_of, names_of, parameter_faults}
+use Rattle.lang_model.specs.declared.syntax.Place.{Place}
+use Rattle.lang_model.specs.declared.faults.TypeFault.{TypeFault}
+use Rattle.lang_model.specs.declared.faults.TypeFault.TheVariants.{Twice}
+use Rattle.lang_model.specs.Tokens.{same_text}
+use Rattle.lang_model.specs.Checking.{among, Known, definition_of, names_of, parameter_faults}
 use Rattle.rv_types.specs.declared.definitions.Summary.{Summary}
 use Rattle.rv_types.specs.Definitions.{summary_of}
 use Rattle.rv_types.specs.Found.{noted}

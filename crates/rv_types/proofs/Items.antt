@@ -2,14 +2,14 @@
 use Rattle.std.proofs.Common.{◌≡◌, ◌<◌, ◌+◌, ◌++◌, ◌∙◌, ℕ, max, nat_lt, cond, List, [], ◌∷◌, length, drop, get_or, Option, Some, None, is_some, refl, sym, ap}
 use Rattle.std.proofs.lemmas.List.{drop_more}
 use Rattle.std.specs.Option.{option_map_or}
-use Rattle.rel_model.specs.declared.syntax.Place.{Place}
-use Rattle.rel_model.specs.declared.syntax.Expr.{Expr}
-use Rattle.rel_model.specs.declared.syntax.Item.{Item}
-use Rattle.rel_model.specs.declared.syntax.Item.TheVariants.{Function, Program, Command as COMMAND}
-use Rattle.rel_model.specs.declared.faults.TypeFault.{TypeFault}
-use Rattle.rel_model.specs.declared.faults.TypeFault.TheVariants.{Rank, Twice}
-use Rattle.rel_model.specs.Tokens.{same_text}
-use Rattle.rel_model.specs.Checking.{among, no_name, Known, names_of, Scope, faults, faults_by, assigned_by, rank_limit, parameter_faults, head_faults, decl_faults, function_scope, program_scope, command_scope, rank_of, item_faults, known_with, items_faults}
+use Rattle.lang_model.specs.declared.syntax.Place.{Place}
+use Rattle.lang_model.specs.declared.syntax.Expr.{Expr}
+use Rattle.lang_model.specs.declared.syntax.Item.{Item}
+use Rattle.lang_model.specs.declared.syntax.Item.TheVariants.{Function, Program, Command as COMMAND}
+use Rattle.lang_model.specs.declared.faults.TypeFault.{TypeFault}
+use Rattle.lang_model.specs.declared.faults.TypeFault.TheVariants.{Rank, Twice}
+use Rattle.lang_model.specs.Tokens.{same_text}
+use Rattle.lang_model.specs.Checking.{among, no_name, Known, names_of, Scope, faults, faults_by, assigned_by, rank_limit, parameter_faults, head_faults, decl_faults, function_scope, program_scope, command_scope, rank_of, item_faults, known_with, items_faults}
 use Rattle.rv_types.specs.Found.{noted}
 use Rattle.rv_types.specs.Items.{value_of_command}
 use Rattle.rv_types.proofs.Walks.{noted-append}

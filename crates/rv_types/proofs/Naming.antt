@@ -3,8 +3,8 @@ use Rattle.std.proofs.Common.{◌≡◌, ◌∙◌, ℕ, Bool, true, false, cond
 use Rattle.std.specs.Prelude.{Result, Ok, Err, OnErr}
 use Rattle.std.specs.Map.{lookup}
 use Rattle.std.specs.Cmp.Lexicographic.{pointwise, nat_list_eq_equiv, same_text as text_of_test}
-use Rattle.rel_model.specs.Tokens.{same_text}
-use Rattle.rel_model.specs.Checking.{Known, definition_of}
+use Rattle.lang_model.specs.Tokens.{same_text}
+use Rattle.lang_model.specs.Checking.{Known, definition_of}
 use Rattle.rv_types.specs.declared.definitions.Summary.{Summary}
 use Rattle.rv_types.specs.Definitions.{known_as, summary_of}
 

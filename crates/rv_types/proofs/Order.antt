@@ -1,9 +1,9 @@
 -- The order of faults: it is by three numbers, so the first of a list is the same whether the list is folded from the left or from the right.
 use Rattle.std.proofs.Common.{◌≡◌, ◌∙◌, ◌==◌, ◌&&◌, ◌||◌, ℕ, Bool, true, false, cond, nat_lt, List, [], ◌∷◌, Option, Some, None, refl, sym, ap, arith}
 use Rattle.std.proofs.lemmas.Bool.Decides.{nat_tests}
-use Rattle.rel_model.specs.declared.syntax.Place.{Place}
-use Rattle.rel_model.specs.declared.faults.TypeFault.{TypeFault}
-use Rattle.rel_model.specs.Checking.{place_of, number_of, precedes, first_of_two, first_fault}
+use Rattle.lang_model.specs.declared.syntax.Place.{Place}
+use Rattle.lang_model.specs.declared.faults.TypeFault.{TypeFault}
+use Rattle.lang_model.specs.Checking.{place_of, number_of, precedes, first_of_two, first_fault}
 use Rattle.rv_types.specs.declared.found.Cause.{Cause}
 use Rattle.rv_types.specs.declared.found.Cause.TheVariants.{Unknown, Arity, Unassigned, Rank, Twice}
 use Rattle.rv_types.specs.declared.found.Found.{Found}

@@ -4,9 +4,9 @@
 use Rattle.std.proofs.Common.{◌≡◌, ◌||◌, ◌++◌, ◌∙◌, ℕ, Bool, true, false, List, [], ◌∷◌, refl, sym, ap, subst, inl, inr, ⊎_elim}
 use Rattle.std.proofs.lemmas.Bool.{both_ways, cases_Bool, or_cases, and_parts, and_cases, or_parts, or_from, or_left, or_right, true_from_ne_false}
 use Rattle.std.proofs.lemmas.List.Folds.{list_any-append}
-use Rattle.rel_model.specs.declared.syntax.Stmt.{Stmt, Set, While', If', Row_of-Stmt, end_of-Stmt, more_of-Stmt}
-use Rattle.rel_model.specs.Tokens.{same_text}
-use Rattle.rel_model.specs.Checking.{Names, among, no_name, assigned_after, assigned_behind, assigned_by}
+use Rattle.lang_model.specs.declared.syntax.Stmt.{Stmt, Set, While', If', Row_of-Stmt, end_of-Stmt, more_of-Stmt}
+use Rattle.lang_model.specs.Tokens.{same_text}
+use Rattle.lang_model.specs.Checking.{Names, among, no_name, assigned_after, assigned_behind, assigned_by}
 use Rattle.rv_types.specs.Paths.{no_turn, IsPathOf, IsPathWithin, IsPath, AssignedOnEveryPath}
 
 turned : (a b : Bool) → (b || a) ≡ true → (a || (b || false)) ≡ true

@@ -1,13 +1,13 @@
 -- The scopes that the walk keeps, and those that the definitions speak of: they take the same names.
 use Rattle.std.proofs.Common.{◌≡◌, ◌∙◌, ℕ, true, false, List, [], refl, ap}
 use Rattle.std.specs.Option.{option_map_or}
-use Rattle.rel_model.specs.declared.syntax.Command.{Command}
-use Rattle.rel_model.specs.declared.syntax.Command.TheVariants.{Relation, Let, Print, List as LIST, Count, Typed, Remove, Snap, At, Load, Save}
+use Rattle.lang_model.specs.declared.syntax.Command.{Command}
+use Rattle.lang_model.specs.declared.syntax.Command.TheVariants.{Relation, Let, Print, List as LIST, Count, Typed, Remove, Snap, At, Load, Save}
 use Rattle.rv_types.specs.Items.{value_of_command}
-use Rattle.rel_model.specs.declared.syntax.Expr.{Expr}
-use Rattle.rel_model.specs.declared.syntax.Stmt.{Stmt}
-use Rattle.rel_model.specs.declared.syntax.Decl.{Decl}
-use Rattle.rel_model.specs.Checking.{Names, among, no_name, Known, definition_of, Scope, faults, faults_by, function_scope, program_scope, command_scope, command_faults}
+use Rattle.lang_model.specs.declared.syntax.Expr.{Expr}
+use Rattle.lang_model.specs.declared.syntax.Stmt.{Stmt}
+use Rattle.lang_model.specs.declared.syntax.Decl.{Decl}
+use Rattle.lang_model.specs.Checking.{Names, among, no_name, Known, definition_of, Scope, faults, faults_by, function_scope, program_scope, command_scope, command_faults}
 use Rattle.rv_types.specs.Scopes.{OfProgram}
 use Rattle.rv_types.proofs.Agreeing.{SameNames, Agrees, same-faults, same-faults_by}
 

@@ -1,10 +1,10 @@
 -- What the definitions say of a row of statements, read off the vector that the code has, and what one more statement changes. By induction on the row.
 use Rattle.std.proofs.Common.{◌≡◌, ◌<◌, ◌+◌, ◌++◌, ◌∙◌, ◌||◌, ◌&&◌, ℕ, max, List, ◌∷◌, length, drop, get_or, Option, refl, sym, ap, rules}
 use Rattle.std.proofs.lemmas.List.{drop_more}
-use Rattle.rel_model.specs.declared.syntax.Stmt.{Stmt, Row_of-Stmt, end_of-Stmt, more_of-Stmt, items-the_row-Stmt, the_lemmas}
-use Rattle.rel_model.specs.declared.syntax.Stmt.TheVariants.{While, If}
-use Rattle.rel_model.specs.declared.faults.TypeFault.{TypeFault}
-use Rattle.rel_model.specs.Checking.{Names, Known, Scope, faults, faults_of, faults_within, faults_by, assigned_after, assigned_behind, assigned_by, called, called_by, called_within, called_by_all}
+use Rattle.lang_model.specs.declared.syntax.Stmt.{Stmt, Row_of-Stmt, end_of-Stmt, more_of-Stmt, items-the_row-Stmt, the_lemmas}
+use Rattle.lang_model.specs.declared.syntax.Stmt.TheVariants.{While, If}
+use Rattle.lang_model.specs.declared.faults.TypeFault.{TypeFault}
+use Rattle.lang_model.specs.Checking.{Names, Known, Scope, faults, faults_of, faults_within, faults_by, assigned_after, assigned_behind, assigned_by, called, called_by, called_within, called_by_all}
 use Rattle.rv_types.specs.Found.{noted}
 use Rattle.rv_types.proofs.Walks.{noted-append}
 

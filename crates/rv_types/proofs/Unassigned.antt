@@ -6,13 +6,13 @@ use Rattle.std.proofs.Common.{◌≡◌, ◌||◌, ◌++◌, ◌==◌, ◌⊎◌
 use Rattle.std.proofs.lemmas.Bool.{both_ways, or_parts, or_from, false_from_ne_true}
 use Rattle.std.proofs.lemmas.List.Elements.{Contains-append_left, Contains-append_right, Contains-append_cases, Contains-push, Contains-push_cases}
 use Rattle.std.specs.Option.{option_map_or}
-use Rattle.rel_model.specs.declared.syntax.Place.{Place}
-use Rattle.rel_model.specs.declared.syntax.Base.{Base}
-use Rattle.rel_model.specs.declared.syntax.Expr.{Expr, Ref, Call', Base', Inject, Pair', Minus', Turned', Chain', Row_of-Expr, end_of-Expr, more_of-Expr, Row_of-Link, end_of-Link, more_of-Link}
-use Rattle.rel_model.specs.declared.syntax.Stmt.{Stmt, Set, While', If', Row_of-Stmt, end_of-Stmt, more_of-Stmt}
-use Rattle.rel_model.specs.declared.faults.TypeFault.{TypeFault}
-use Rattle.rel_model.specs.declared.faults.TypeFault.TheVariants.{Unknown, Arity, Unassigned}
-use Rattle.rel_model.specs.Checking.{Names, among, Known, definition_of, Scope, is_projection, domain_operator_text, ref_faults, call_faults, domain_faults, target_faults, count_in, faults, faults_in, faults_along, assigned_after, assigned_by, faults_of, faults_within, faults_by, number_of, place_of}
+use Rattle.lang_model.specs.declared.syntax.Place.{Place}
+use Rattle.lang_model.specs.declared.syntax.Base.{Base}
+use Rattle.lang_model.specs.declared.syntax.Expr.{Expr, Ref, Call', Base', Inject, Pair', Minus', Turned', Chain', Row_of-Expr, end_of-Expr, more_of-Expr, Row_of-Link, end_of-Link, more_of-Link}
+use Rattle.lang_model.specs.declared.syntax.Stmt.{Stmt, Set, While', If', Row_of-Stmt, end_of-Stmt, more_of-Stmt}
+use Rattle.lang_model.specs.declared.faults.TypeFault.{TypeFault}
+use Rattle.lang_model.specs.declared.faults.TypeFault.TheVariants.{Unknown, Arity, Unassigned}
+use Rattle.lang_model.specs.Checking.{Names, among, Known, definition_of, Scope, is_projection, domain_operator_text, ref_faults, call_faults, domain_faults, target_faults, count_in, faults, faults_in, faults_along, assigned_after, assigned_by, faults_of, faults_within, faults_by, number_of, place_of}
 use Rattle.rv_types.specs.Paths.{no_turn, IsPathOf, IsPath, LeadsIn, LeadsWithin, LeadsTo, Reads, ReadsIn, ReadsAlong, IsVariable, UnassignedOnSomePath}
 use Rattle.rv_types.proofs.Paths.{among-append, off_both, stmt-on_each, list-on_each, stmt-avoided, list-avoided}
 

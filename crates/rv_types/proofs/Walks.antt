@@ -1,12 +1,12 @@
 -- What the definitions say of a row of arguments or links, read off the vector that the code has. By induction on the row.
 use Rattle.std.proofs.Common.{◌≡◌, ◌+◌, ◌++◌, ◌∙◌, ℕ, max, List, length, drop, get_or, [], ◌∷◌, ◌<◌, Option, refl, sym, ap, add-one, rules}
 use Rattle.std.proofs.lemmas.List.{drop_more}
-use Rattle.rel_model.specs.declared.syntax.Expr.{Row_of-Expr, end_of-Expr, more_of-Expr, items-the_row-Expr, Row_of-Link, end_of-Link, more_of-Link, items-the_row-Link, the_lemmas}
-use Rattle.rel_model.specs.declared.syntax.Expr.TheVariants.{Call, Base, Chain}
-use Rattle.rel_model.specs.Checking.{Names, Known, Scope, faults, faults_in, faults_along, call_faults, count_in, called, called_in, called_along, rank_named}
-use Rattle.rel_model.specs.declared.syntax.Expr.{Expr}
-use Rattle.rel_model.specs.declared.syntax.Link.{Link}
-use Rattle.rel_model.specs.declared.faults.TypeFault.{TypeFault}
+use Rattle.lang_model.specs.declared.syntax.Expr.{Row_of-Expr, end_of-Expr, more_of-Expr, items-the_row-Expr, Row_of-Link, end_of-Link, more_of-Link, items-the_row-Link, the_lemmas}
+use Rattle.lang_model.specs.declared.syntax.Expr.TheVariants.{Call, Base, Chain}
+use Rattle.lang_model.specs.Checking.{Names, Known, Scope, faults, faults_in, faults_along, call_faults, count_in, called, called_in, called_along, rank_named}
+use Rattle.lang_model.specs.declared.syntax.Expr.{Expr}
+use Rattle.lang_model.specs.declared.syntax.Link.{Link}
+use Rattle.lang_model.specs.declared.faults.TypeFault.{TypeFault}
 use Rattle.rv_types.specs.Found.{noting, noted}
 use Rattle.rv_types.specs.Rows.{faults_of_args, faults_of_links, called_of_args, called_of_links}
 

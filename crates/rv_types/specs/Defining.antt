@@ -1,17 +1,12 @@
 -- The item of a script that defines a name.
 use Rattle.std.specs.Prelude.{◌≡◌, ◌⊎◌, ◌++◌, cond, Bool, true, false, ℕ, List, [], ◌∷◌, Option, Some, None, IsSome}
 use Rattle.std.specs.List.{list_any}
-use Rattle.rel_model.specs.declared.syntax.Item.{Item}
-use Rattle.rel_model.specs.declared.syntax.Item.TheVariants.{Function, Program, Command as COMMAND}
-use Rattle.rel_model.specs.declared.syntax.Script.{Script}
-use Rattle.rel_model.specs.Checking.{flaw}
-use Rattle.rel_model.specs.Tokens.{same_text}
-
--- whether an item defines this name: functions and programs define theirs, and commands none
-abbrev pub defines : List ℕ → Item → Bool
-defines name (Function at own params body) = same_text own name
-defines name (Program at own params decls body result) = same_text own name
-defines name (COMMAND command) = false
+use Rattle.lang_model.specs.declared.syntax.Item.{Item}
+use Rattle.lang_model.specs.declared.syntax.Item.TheVariants.{Function, Program, Command as COMMAND}
+use Rattle.lang_model.specs.declared.syntax.Script.{Script}
+use Rattle.lang_model.specs.Checking.{flaw}
+use Rattle.lang_model.specs.Tokens.{same_text}
+use Rattle.lang_model.specs.Defining.{defines}
 
 -- whether an item is a definition: a function or a program
 abbrev pub is_definition : Item → Bool

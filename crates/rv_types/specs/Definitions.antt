@@ -1,6 +1,6 @@
 -- Definitions as the walk over a script keeps them.
 use Rattle.std.specs.Prelude.{ℕ, List}
-use Rattle.rel_model.specs.Checking.{Known}
+use Rattle.lang_model.specs.Checking.{Known}
 use Rattle.rv_types.specs.declared.definitions.Summary.{Summary}
 
 -- a definition with this name

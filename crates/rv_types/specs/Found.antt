@@ -1,9 +1,9 @@
 -- Faults as the walk over a script keeps them, with their names still in the script, and the first of them so far.
 use Rattle.std.specs.Prelude.{◌≤◌, ◌^◌, ◌⊎◌, ℕ, List, [], ◌∷◌, Option, Some, None, option_map}
-use Rattle.rel_model.specs.declared.syntax.Place.{Place}
-use Rattle.rel_model.specs.declared.faults.TypeFault.{TypeFault}
-use Rattle.rel_model.specs.declared.faults.TypeFault.TheVariants.{Unknown as UNKNOWN, Arity as ARITY, Unassigned as UNASSIGNED, Rank as RANK, Twice as TWICE}
-use Rattle.rel_model.specs.Checking.{domain_operator_text, first_of_two}
+use Rattle.lang_model.specs.declared.syntax.Place.{Place}
+use Rattle.lang_model.specs.declared.faults.TypeFault.{TypeFault}
+use Rattle.lang_model.specs.declared.faults.TypeFault.TheVariants.{Unknown as UNKNOWN, Arity as ARITY, Unassigned as UNASSIGNED, Rank as RANK, Twice as TWICE}
+use Rattle.lang_model.specs.Checking.{domain_operator_text, first_of_two}
 use Rattle.rv_types.specs.declared.found.Spelled.{Spelled}
 use Rattle.rv_types.specs.declared.found.Spelled.TheVariants.{Name, Operator}
 use Rattle.rv_types.specs.declared.found.Cause.{Cause}

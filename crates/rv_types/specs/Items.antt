@@ -1,11 +1,11 @@
 -- What the walk over a script reads off its items.
 use Rattle.std.specs.Prelude.{◌≤◌, ℕ, max, List, Option, Some, None}
-use Rattle.rel_model.specs.declared.syntax.Expr.{Expr}
-use Rattle.rel_model.specs.declared.syntax.Command.{Command}
-use Rattle.rel_model.specs.declared.syntax.Command.TheVariants.{Let, Print, List as LIST, Count, Typed, At, Save}
-use Rattle.rel_model.specs.declared.syntax.Item.{Item}
-use Rattle.rel_model.specs.declared.syntax.Item.TheVariants.{Function, Program, Command as COMMAND}
-use Rattle.rel_model.specs.Checking.{Known, rank_named, called, called_by_all}
+use Rattle.lang_model.specs.declared.syntax.Expr.{Expr}
+use Rattle.lang_model.specs.declared.syntax.Command.{Command}
+use Rattle.lang_model.specs.declared.syntax.Command.TheVariants.{Let, Print, List as LIST, Count, Typed, At, Save}
+use Rattle.lang_model.specs.declared.syntax.Item.{Item}
+use Rattle.lang_model.specs.declared.syntax.Item.TheVariants.{Function, Program, Command as COMMAND}
+use Rattle.lang_model.specs.Checking.{Known, rank_named, called, called_by_all}
 
 -- the expression of a command that has one
 abbrev pub value_of_command : Command → Option Expr

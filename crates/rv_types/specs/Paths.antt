@@ -1,10 +1,10 @@
 -- The paths that a run may take through statements, as the names that it assigns in order, and what it is to be assigned, or unassigned, on them.
 use Rattle.std.specs.Prelude.{◌≡◌, ◌||◌, ◌++◌, ◌⊎◌, ◌↔◌, ℕ, true, false, List, [], ◌∷◌, Contains}
-use Rattle.rel_model.specs.declared.syntax.Place.{Place}
-use Rattle.rel_model.specs.declared.syntax.Expr.{Expr, Ref, Call', Base', Inject, Pair', Minus', Turned', Chain', Row_of-Expr, end_of-Expr, more_of-Expr, Row_of-Link, end_of-Link, more_of-Link}
-use Rattle.rel_model.specs.declared.syntax.Stmt.{Stmt, Set, While', If', Row_of-Stmt, end_of-Stmt, more_of-Stmt}
-use Rattle.rel_model.specs.declared.faults.TypeFault.TheVariants.{Unassigned}
-use Rattle.rel_model.specs.Checking.{Names, among, no_name, Scope, faults, faults_by, assigned_by}
+use Rattle.lang_model.specs.declared.syntax.Place.{Place}
+use Rattle.lang_model.specs.declared.syntax.Expr.{Expr, Ref, Call', Base', Inject, Pair', Minus', Turned', Chain', Row_of-Expr, end_of-Expr, more_of-Expr, Row_of-Link, end_of-Link, more_of-Link}
+use Rattle.lang_model.specs.declared.syntax.Stmt.{Stmt, Set, While', If', Row_of-Stmt, end_of-Stmt, more_of-Stmt}
+use Rattle.lang_model.specs.declared.faults.TypeFault.TheVariants.{Unassigned}
+use Rattle.lang_model.specs.Checking.{Names, among, no_name, Scope, faults, faults_by, assigned_by}
 
 -- ---- paths
 -- the names that the turns of a loop assign, one turn behind another and any number of them

@@ -1,9 +1,9 @@
 -- Arguments and links as lists: their faults, and the greatest rank among the definitions that they call.
 use Rattle.std.specs.Prelude.{ℕ, max, List, [], ◌∷◌, ◌++◌}
-use Rattle.rel_model.specs.declared.syntax.Expr.{Expr}
-use Rattle.rel_model.specs.declared.syntax.Link.{Link}
-use Rattle.rel_model.specs.declared.faults.TypeFault.{TypeFault}
-use Rattle.rel_model.specs.Checking.{Names, Known, Scope, faults, called}
+use Rattle.lang_model.specs.declared.syntax.Expr.{Expr}
+use Rattle.lang_model.specs.declared.syntax.Link.{Link}
+use Rattle.lang_model.specs.declared.faults.TypeFault.{TypeFault}
+use Rattle.lang_model.specs.Checking.{Names, Known, Scope, faults, called}
 
 -- the faults of arguments
 abbrev pub faults_of_args : Scope → Names → List Expr → List TypeFault

@@ -1,7 +1,7 @@
 -- What the names of an expression may be, as the walk over a script keeps it.
 use Rattle.std.specs.Prelude.{◌≡◌, ℕ, List, false, true}
-use Rattle.rel_model.specs.declared.syntax.Decl.{Decl}
-use Rattle.rel_model.specs.Checking.{among, Known, Scope, variables_of, domains_of}
+use Rattle.lang_model.specs.declared.syntax.Decl.{Decl}
+use Rattle.lang_model.specs.Checking.{among, Known, Scope, variables_of, domains_of}
 use Rattle.rv_types.specs.declared.scope.Scope.{Scope as Kept}
 
 -- the scope that is kept

@@ -1,8 +1,8 @@
 //! Scripts whose names, arguments, assignments and ranks of definitions are right.
 ghost use Rattle.std.specs.Prelude.{◌≡◌, ◌⊎◌, [], None, Some, true, option_copied, IfOk, IfErr, OnErr, MatchResult};
 ghost use Rattle.std.specs.List.{list_any};
-ghost use Rattle.rel_model.specs.declared.faults.TypeFault.TheVariants.{NoMemory as NO_MEMORY};
-ghost use Rattle.rel_model.specs.Checking.{first_fault, items_faults, flaw};
+ghost use Rattle.lang_model.specs.declared.faults.TypeFault.TheVariants.{NoMemory as NO_MEMORY};
+ghost use Rattle.lang_model.specs.Checking.{first_fault, items_faults, flaw};
 ghost use Rattle.rv_types.specs.Found.{told};
 ghost use Rattle.rv_types.specs.Defining.{is_definition, IsDefinition, TakesMemory};
 
@@ -11,8 +11,8 @@ use crate::found::{Found, fault_of};
 use crate::item::{check_item, define, rank_of};
 use crate::items_by_name::{ItemsByName, items_by_name};
 use rel_model::NoMemory;
-use rel_model::faults::TypeFault;
-use rel_model::syntax::{Item, Script};
+use lang_model::faults::TypeFault;
+use lang_model::syntax::{Item, Script};
 use std::alloc::Global;
 use std::marker::Model;
 
@@ -26,11 +26,12 @@ pub struct Checked {
 impl Model for Checked {
     ghost use Rattle.std.specs.Prelude.{◌≡◌, ℕ, List, None};
     ghost use Rattle.std.specs.List.{position_from};
-    ghost use Rattle.rel_model.specs.declared.syntax.Script.{Script};
-    ghost use Rattle.rel_model.specs.Checking.{flaw};
-    ghost use Rattle.rv_types.specs.Defining.{defines, number_beside};
+    ghost use Rattle.lang_model.specs.declared.syntax.Script.{Script};
+    ghost use Rattle.lang_model.specs.Checking.{flaw};
+    ghost use Rattle.lang_model.specs.Defining.{defines};
+    ghost use Rattle.rv_types.specs.Defining.{number_beside};
     ghost use Rattle.std.specs.Coded.{codes};
-    ghost use Rattle.rel_model.specs.contracts.syntax.Script as s;
+    ghost use Rattle.lang_model.specs.contracts.syntax.Script as s;
 
     ghost Value = { Script };
 

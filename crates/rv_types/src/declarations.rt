@@ -1,13 +1,13 @@
 //! The faults of a program's declarations, and what they declare.
 ghost use Rattle.std.specs.Prelude.{◌≡◌, ◌<◌, ◌||◌, ◌∷◌, [], ℕ, List, length, IfOk, OnOk, OnErr};
-ghost use Rattle.rel_model.specs.Checking.{among, operand_faults, decl_faults, variables_of, domains_of, name_of as name_of_decl, place_of_decl};
+ghost use Rattle.lang_model.specs.Checking.{among, operand_faults, decl_faults, variables_of, domains_of, name_of as name_of_decl, place_of_decl};
 ghost use Rattle.rv_types.specs.Found.{told, noted as noted_all};
 
 use crate::found::{Cause, Found, Spelled, noted};
 use crate::head::check_repeated;
 use crate::names::Names;
 use rel_model::NoMemory;
-use rel_model::syntax::{Decl, Name, Place};
+use lang_model::syntax::{Decl, Name, Place};
 use std::alloc::Global;
 
 /// A domain is of two parameters: the first of its two names that is none is unknown at the declaration.

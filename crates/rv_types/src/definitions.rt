@@ -1,6 +1,6 @@
 //! The definitions of the items so far, by name.
 ghost use Rattle.std.specs.Prelude.{◌≡◌, ◌++◌, ◌∷◌, ℕ, List, [], None, OnOk, OnErr, option_map};
-ghost use Rattle.rel_model.specs.Checking.{Known, definition_of};
+ghost use Rattle.lang_model.specs.Checking.{Known, definition_of};
 ghost use Rattle.rv_types.specs.Definitions.{known_as, summary_of};
 
 use indexmap::IndexMap;
@@ -23,7 +23,7 @@ pub struct Definitions {
 
 impl Model for Definitions {
     ghost use Rattle.std.specs.Prelude.{List, map};
-    ghost use Rattle.rel_model.specs.Checking.{Known};
+    ghost use Rattle.lang_model.specs.Checking.{Known};
     ghost use Rattle.rv_types.specs.Definitions.{known_as};
 
     ghost Value = { List Known };

@@ -1,6 +1,6 @@
 //! The faults of an expression, and the greatest rank among the definitions that it calls.
 ghost use Rattle.std.specs.Prelude.{◌≡◌};
-ghost use Rattle.rel_model.specs.Checking.{among, faults, called, rank_named as rank_of_name};
+ghost use Rattle.lang_model.specs.Checking.{among, faults, called, rank_named as rank_of_name};
 ghost use Rattle.rv_types.specs.Found.{told, noted as noted_all};
 ghost use Rattle.rv_types.specs.Scopes.{scope_of};
 
@@ -8,7 +8,7 @@ use crate::definitions::Definitions;
 use crate::found::Found;
 use crate::names::Names;
 use crate::scope::{Scope, check_call, check_domain, check_ref};
-use rel_model::syntax::{Expr, Name};
+use lang_model::syntax::{Expr, Name};
 
 /// The first fault so far and of an expression before which these variables are assigned.
 pub fn check_expr<'a>(

@@ -1,11 +1,11 @@
 //! Faults on the way, with their names still in the script, and the first of them.
 ghost use Rattle.std.specs.Prelude.{◌≡◌, ◌==◌, ◌&&◌, ◌||◌, nat_lt, length, Some, IfOk, OnErr};
-ghost use Rattle.rel_model.specs.Checking.{precedes as precedes_as, domain_operator_text};
+ghost use Rattle.lang_model.specs.Checking.{precedes as precedes_as, domain_operator_text};
 ghost use Rattle.rv_types.specs.Found.{number_as, spelled, fault, fault_as, IsTooMany, told, noting};
 
 use rel_model::NoMemory;
-use rel_model::faults::TypeFault;
-use rel_model::syntax::{Base, Name, Place};
+use lang_model::faults::TypeFault;
+use lang_model::syntax::{Base, Name, Place};
 use std::alloc::Global;
 
 /// What a fault names.

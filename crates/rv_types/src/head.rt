@@ -1,14 +1,14 @@
 //! The faults at the name of a definition: its rank, and names that were given before.
 ghost use Rattle.std.specs.Prelude.{◌≡◌, ◌<◌, ◌||◌, ◌∷◌, [], ℕ, List, cond, length, nat_lt, IfOk, OnOk, OnErr};
-ghost use Rattle.rel_model.specs.declared.faults.TypeFault.TheVariants.{Rank, Twice};
-ghost use Rattle.rel_model.specs.Checking.{among, names_of, parameter_faults, head_faults, rank_limit};
+ghost use Rattle.lang_model.specs.declared.faults.TypeFault.TheVariants.{Rank, Twice};
+ghost use Rattle.lang_model.specs.Checking.{among, names_of, parameter_faults, head_faults, rank_limit};
 ghost use Rattle.rv_types.specs.Found.{told, noted as noted_all};
 
 use crate::definitions::Definitions;
 use crate::found::{Cause, Found, Spelled, noted};
 use crate::names::Names;
 use rel_model::NoMemory;
-use rel_model::syntax::{Name, Place};
+use lang_model::syntax::{Name, Place};
 
 /// The greatest rank of a definition.
 const RANK_LIMIT: usize = 16;

@@ -1,6 +1,6 @@
 //! The faults of an item behind the definitions of earlier ones, and what it defines.
 ghost use Rattle.std.specs.Prelude.{◌≡◌, ◌-◌, ◌^◌, true, ℕ, List, IfOk, OnOk, OnErr, option_copied};
-ghost use Rattle.rel_model.specs.Checking.{among, faults_by, assigned_by, called_by_all, rank_of as rank_of_item, item_faults, known_with, definition_of, head_faults, decl_faults, faults, function_scope, program_scope as scope_of_program, no_name, command_faults};
+ghost use Rattle.lang_model.specs.Checking.{among, faults_by, assigned_by, called_by_all, rank_of as rank_of_item, item_faults, known_with, definition_of, head_faults, decl_faults, faults, function_scope, program_scope as scope_of_program, no_name, command_faults};
 ghost use Rattle.rv_types.specs.Found.{told, noted as noted_all};
 ghost use Rattle.rv_types.specs.Scopes.{scope_of, OfProgram};
 ghost use Rattle.rv_types.specs.Defining.{is_definition};
@@ -15,7 +15,7 @@ use crate::names::Names;
 use crate::scope::Scope;
 use crate::statement::{check_stmt, greatest_called_by};
 use rel_model::NoMemory;
-use rel_model::syntax::{Command, Decl, Expr, Item, Stmt};
+use lang_model::syntax::{Command, Decl, Expr, Item, Stmt};
 use std::alloc::Global;
 
 /// The first fault so far and of statements before which these variables are assigned. Afterwards those behind them are.

@@ -2,12 +2,13 @@
 ghost use Rattle.std.specs.Prelude.{◌≡◌, cond, true, ℕ, List, [], Some, None, IfOk, OnOk, OnErr};
 ghost use Rattle.std.specs.Option.{option_or};
 ghost use Rattle.std.specs.List.{position_from, list_any};
-ghost use Rattle.rel_model.specs.Tokens.{same_text};
-ghost use Rattle.rv_types.specs.Defining.{defines, is_definition, number_beside};
+ghost use Rattle.lang_model.specs.Tokens.{same_text};
+ghost use Rattle.lang_model.specs.Defining.{defines};
+ghost use Rattle.rv_types.specs.Defining.{is_definition, number_beside};
 
 use indexmap::IndexMap;
 use rel_model::NoMemory;
-use rel_model::syntax::Item;
+use lang_model::syntax::Item;
 use std::alloc::Global;
 use std::marker::Model;
 

@@ -1,7 +1,7 @@
 //! Sets of names of a script, numbered by first use.
 ghost use Rattle.std.specs.Prelude.{◌≡◌, ◌||◌, ◌&&◌, false, ℕ, List, [], IfOk, OnOk, OnErr};
-ghost use Rattle.rel_model.specs.Checking.{among};
-ghost use Rattle.rel_model.specs.Tokens.{same_text};
+ghost use Rattle.lang_model.specs.Checking.{among};
+ghost use Rattle.lang_model.specs.Tokens.{same_text};
 
 use indexmap::IndexSet;
 use rel_model::NoMemory;

@@ -1,13 +1,13 @@
 //! What the names of an expression may be, and the faults of one name.
 ghost use Rattle.std.specs.Prelude.{◌≡◌};
-ghost use Rattle.rel_model.specs.Checking.{among, ref_faults, call_faults, domain_faults, target_faults};
+ghost use Rattle.lang_model.specs.Checking.{among, ref_faults, call_faults, domain_faults, target_faults};
 ghost use Rattle.rv_types.specs.Found.{told, noted as noted_all};
 ghost use Rattle.rv_types.specs.Scopes.{scope_of};
 
 use crate::definitions::Definitions;
 use crate::found::{Cause, Found, Spelled, noted};
 use crate::names::Names;
-use rel_model::syntax::{Base, Name, Place};
+use lang_model::syntax::{Base, Name, Place};
 
 /// What the names of an expression may be.
 #[derive(Drop)]

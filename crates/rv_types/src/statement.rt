@@ -1,6 +1,6 @@
 //! The faults of a statement, the variables that are assigned behind it, and the greatest rank among the definitions that it calls.
 ghost use Rattle.std.specs.Prelude.{◌≡◌, ℕ, List, IfOk, OnOk};
-ghost use Rattle.rel_model.specs.Checking.{among, faults_of, assigned_after, called_by};
+ghost use Rattle.lang_model.specs.Checking.{among, faults_of, assigned_after, called_by};
 ghost use Rattle.rv_types.specs.Found.{told, noted as noted_all};
 ghost use Rattle.rv_types.specs.Scopes.{scope_of};
 
@@ -10,7 +10,7 @@ use crate::found::Found;
 use crate::names::Names;
 use crate::scope::{Scope, check_target};
 use rel_model::NoMemory;
-use rel_model::syntax::Stmt;
+use lang_model::syntax::Stmt;
 
 /// The first fault so far and of a statement before which these variables are assigned. Afterwards those behind it are.
 pub fn check_stmt<'a>(

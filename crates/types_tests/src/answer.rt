@@ -1,6 +1,6 @@
 //! What `check` answers, as a line of text.
-use rel_model::faults::TypeFault;
-use rel_model::syntax::{Item, Name, Place};
+use lang_model::faults::TypeFault;
+use lang_model::syntax::{Item, Name, Place};
 use rv_parse::parse;
 use rv_types::check;
 use std::alloc::Global;

@@ -1,7 +1,7 @@
 //! Commands written out.
 use super::expression::push_expr;
 use super::{push_name, push_place};
-use rel_model::syntax::{Command, Expr, FileText, Name, Row};
+use lang_model::syntax::{Command, Expr, FileText, Name, Row};
 use std::alloc::Global;
 use std::test::Fail;
 

@@ -1,7 +1,7 @@
 //! Functions and programs written out behind their names.
 use super::expression::push_expr;
 use super::{push_name, push_place};
-use rel_model::syntax::{Decl, Expr, Name, Stmt};
+use lang_model::syntax::{Decl, Expr, Name, Stmt};
 use std::alloc::Global;
 use std::test::Fail;
 

@@ -1,6 +1,6 @@
 //! Expressions written out: operators before their operands, and chains in braces.
 use super::{push_name, push_place};
-use rel_model::syntax::{Base, Expr, Link, Op2};
+use lang_model::syntax::{Base, Expr, Link, Op2};
 use std::alloc::Global;
 use std::test::Fail;
 

@@ -1,7 +1,7 @@
 //! Texts that are cut off: no proper part from the left of an item is a script, and its fault stands at the end or in the last word.
 use crate::fault::{MEBIBYTE, refusal};
-use rel_model::faults::ParseFault;
-use rel_model::syntax::Place;
+use lang_model::faults::ParseFault;
+use lang_model::syntax::Place;
 use rv_parse::parse;
 use std::alloc::Global;
 use std::test::Fail;

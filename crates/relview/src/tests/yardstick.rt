@@ -12,7 +12,7 @@ use crate::reply::print_reply;
 use fork_quads::{Crew, OpenGate};
 use rel_engine::Works;
 use rel_model::core_trait::Core;
-use rel_model::syntax::{Command, Item, Name, Script};
+use lang_model::syntax::{Command, Item, Name, Script};
 use rel_model::{Rel, Shape};
 use rel_plain::Plain;
 use rv_parse::parse_first;

@@ -1,6 +1,6 @@
 //! How expressions are written, against the rule: parentheses stand only where the grammar needs them.
 use crate::{parse, print_expr};
-use rel_model::syntax::{Command, Item};
+use lang_model::syntax::{Command, Item};
 use std::alloc::Global;
 use std::test::Fail;
 

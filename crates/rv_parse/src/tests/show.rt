@@ -1,5 +1,5 @@
 //! Scripts written out, to be compared.
-use rel_model::syntax::{Command, Expr, Item, Name, Op2, Place, Script};
+use lang_model::syntax::{Command, Expr, Item, Name, Op2, Place, Script};
 use std::alloc::Global;
 use std::test::Fail;
 

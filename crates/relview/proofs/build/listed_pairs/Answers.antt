@@ -1,5 +1,5 @@
 use Rattle.std.proofs.Common.{sym, ap, subst, [], length, arith}
-use Rattle.rel_model.specs.State.{lists}
+use Rattle.lang_model.specs.State.{lists}
 use Rattle.relview.specs.Listed.{IsListed}
 use Rattle.rel_model.specs.Listed.{AreWithin}
 use Rattle.relview.proofs.Listing.{rows_none, rows_more, count_more}

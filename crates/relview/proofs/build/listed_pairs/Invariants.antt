@@ -1,6 +1,6 @@
 use Rattle.std.proofs.Common.{◌≤◌, length, take}
-use Rattle.rel_model.specs.Cost.{listed_count}
-use Rattle.rel_model.specs.State.{lists}
+use Rattle.relview.specs.First.Cost.{listed_count}
+use Rattle.lang_model.specs.State.{lists}
 use Rattle.relview.specs.Listed.{IsListed}
 use Rattle.rel_model.specs.Listed.{AreWithin}
 use Rattle.relview.proofs.build.listed_pairs.Given as goal

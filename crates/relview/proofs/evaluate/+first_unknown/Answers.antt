@@ -1,5 +1,5 @@
 use Rattle.std.proofs.Common.{◌∙◌, sym, ap, rules}
-use Rattle.rel_model.specs.Meaning.{missing}
+use Rattle.lang_model.specs.Missing.{missing}
 use Rattle.relview.specs.Names.{sized}
 use Rattle.relview.proofs.Linked.{missing_of_args}
 use Rattle.relview.proofs.Chains.{missing-call, missing-base, missing-chain}

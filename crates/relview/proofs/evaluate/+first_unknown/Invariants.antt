@@ -1,5 +1,5 @@
 use Rattle.std.proofs.Common.{◌≡◌, drop}
-use Rattle.rel_model.specs.Meaning.{missing}
+use Rattle.lang_model.specs.Missing.{missing}
 use Rattle.relview.specs.Names.{sized}
 use Rattle.relview.proofs.Linked.{missing_of_args, missing_of_links}
 use Rattle.relview.proofs.evaluate.+first_unknown.Given as goal

@@ -1,5 +1,5 @@
 use Rattle.std.proofs.Common.{◌∙◌, sym, ap}
-use Rattle.rel_model.specs.Meaning.{shaped, Fits, shape_transposed_by}
+use Rattle.relview.specs.First.Meaning.{shaped, Fits, shape_transposed_by}
 use Rattle.relview.specs.Names.{rel_of, sized}
 use Rattle.relview.proofs.Linked.{shaped_of_links}
 use Rattle.relview.specs.Values.{fault_of}

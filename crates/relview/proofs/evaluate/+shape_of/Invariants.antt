@@ -1,5 +1,5 @@
 use Rattle.std.proofs.Common.{◌≡◌, drop}
-use Rattle.rel_model.specs.Meaning.{shaped, Fits}
+use Rattle.relview.specs.First.Meaning.{shaped, Fits}
 use Rattle.relview.specs.Names.{sized}
 use Rattle.relview.proofs.Linked.{shaped_of_links}
 use Rattle.relview.proofs.evaluate.+shape_of.Given as goal

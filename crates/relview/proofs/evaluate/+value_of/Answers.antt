@@ -1,15 +1,16 @@
 use Rattle.std.proofs.Common.{◌≡◌, ◌+◌, ◌∙◌, None, sym, ap, subst, rules}
-use Rattle.rel_model.specs.Meaning.{missing, shaped, value}
+use Rattle.lang_model.specs.Missing.{missing}
+use Rattle.relview.specs.First.Meaning.{shaped, value}
 use Rattle.relview.specs.Names.{means, sized}
 use Rattle.relview.specs.Plain.{IsFit, IsPlain}
 use Rattle.relview.proofs.Linked.{missing_of_links, cost_of_links, shaped_of_links, value_of_links, ArePlainLinks}
 use Rattle.relview.proofs.Chains.{missing-chain, cost-chain, shaped-chain, value-chain, plain-chain}
 use Rattle.relview.proofs.Values.{means_kept, all_stand_kept}
-use Rattle.rel_model.specs.Cost.{cost}
+use Rattle.relview.specs.First.Cost.{cost}
 use Rattle.relview.proofs.Agreeing.{HasSizes}
 use Rattle.relview.proofs.Spending.{known_first, known_right, paid_first, paid_right, paid_applied, paid_more}
 use Rattle.relview.proofs.Fitting.{fit_turned, fit_first, fit_right, plain_right, ahead_first, ahead_more, ahead_type}
-use Rattle.rel_model.specs.declared.syntax.Expr.{the_lemmas}
+use Rattle.lang_model.specs.declared.syntax.Expr.{the_lemmas}
 use Rattle.relview.proofs.evaluate.+value_of.Goals as goal
 
 pub value_of-requires-in-Turned : goal.value_of-requires-in-Turned

@@ -1,6 +1,6 @@
 use Rattle.std.proofs.Common.{drop}
-use Rattle.rel_model.specs.Cost.{cost}
-use Rattle.rel_model.specs.Meaning.{shaped, value}
+use Rattle.relview.specs.First.Cost.{cost}
+use Rattle.relview.specs.First.Meaning.{shaped, value}
 use Rattle.rel_model.specs.Worker.{MissesNothing}
 use Rattle.relview.specs.Names.{means, sized}
 use Rattle.relview.proofs.Fitting.{IsAhead}

@@ -1,5 +1,5 @@
 use Rattle.std.proofs.Common.{arith}
-use Rattle.rel_model.specs.Meaning.{Fits}
+use Rattle.relview.specs.First.Meaning.{Fits}
 use Rattle.relview.proofs.Shapes.{even_times, odd_times}
 use Rattle.relview.proofs.evaluate.turned_shape.Goals as goal
 

@@ -1,14 +1,14 @@
 -- Words that are full store as many nodes as they have places, which is more than the commands cost.
 use Rattle.std.proofs.Common.{◌≡◌, ◌≢◌, ◌<◌, ◌≤◌, ◌+◌, ◌^◌, ℕ, List, [], ◌∷◌, length, take, arith, length-take}
 use Rattle.std.specs.List.{AllByRecursion}
-use Rattle.rel_model.specs.declared.run.Event.{Event}
-use Rattle.rel_model.specs.declared.run.Outcome.{Outcome}
-use Rattle.rel_model.specs.declared.run.Outcome.TheVariants.{Nodes}
+use Rattle.run_model.specs.declared.event.Event.{Event}
+use Rattle.run_model.specs.declared.outcome.Outcome.{Outcome}
+use Rattle.run_model.specs.declared.outcome.Outcome.TheVariants.{Nodes}
 use Rattle.rel_model.specs.Words.{IsFull, stored_count}
 use Rattle.rel_model.specs.Equations.{node_words}
-use Rattle.rel_model.specs.Legal.{Trees}
-use Rattle.rel_model.specs.Stored.{FillsWhereFull, HoldsRun}
-use Rattle.rel_model.specs.Cost.{cost_of_run}
+use Rattle.relview.specs.First.Legal.{Trees}
+use Rattle.relview.specs.First.Stored.{FillsWhereFull, HoldsRun}
+use Rattle.relview.specs.First.Cost.{cost_of_run}
 use Rattle.rel_model.proofs.Filling.{stored_count-full}
 use Rattle.relview.specs.EnoughRoom.{EnoughRoom}
 use Rattle.relview.proofs.laws.enough_room.Goals as goal

@@ -1,5 +1,5 @@
 use Rattle.std.proofs.Common.{◌∙◌, sym, ap, arith}
-use Rattle.rel_model.specs.Tokens.{same_text}
+use Rattle.lang_model.specs.Tokens.{same_text}
 use Rattle.relview.proofs.Naming.{found_last, found_before}
 use Rattle.relview.proofs.names.find.Goals as goal
 

@@ -1,8 +1,8 @@
 use Rattle.std.proofs.Common.{◌⊎◌, ◌∙◌, ◌+◌, ◌≤◌, ap, subst}
-use Rattle.rel_model.specs.declared.syntax.Item.TheVariants.{Command}
+use Rattle.lang_model.specs.declared.syntax.Item.TheVariants.{Command}
 use Rattle.rel_model.specs.Relation.{relation_of}
-use Rattle.rel_model.specs.Cost.{listed_count, listed_cost}
-use Rattle.rel_model.specs.State.{lists}
+use Rattle.relview.specs.First.Cost.{listed_count, listed_cost}
+use Rattle.lang_model.specs.State.{lists}
 use Rattle.relview.specs.Ran.{Assigned, Refused}
 use Rattle.relview.proofs.Steps.{follows_print, follows_relation}
 use Rattle.relview.proofs.session.run_item.Goals as goal

@@ -1,7 +1,7 @@
 use Rattle.std.proofs.Common.{◌∙◌, ◌++◌, ap, append_assoc}
 use Rattle.std.specs.Prelude.{codes}
-use Rattle.rel_model.specs.Meaning.{known, spelling}
-use Rattle.rel_model.specs.Page.{place_text, shape_text, mismatch_text}
+use Rattle.lang_model.specs.Types.{known, spelling}
+use Rattle.run_model.specs.Texts.{place_text, shape_text, mismatch_text}
 use Rattle.relview.proofs.text.push_mismatch.Goals as goal
 
 pub returns : goal.returns

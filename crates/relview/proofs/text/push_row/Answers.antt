@@ -1,7 +1,7 @@
 use Rattle.std.proofs.Common.{◌∷◌, ◌++◌, [], ◌∙◌, map, sym, ap, arith, append_assoc, cond}
 use Rattle.std.specs.List.{range_with_len}
 use Rattle.std.proofs.lemmas.List.FromFn.{map-range_with_len_more}
-use Rattle.rel_model.specs.Page.{cell, row_text}
+use Rattle.run_model.specs.Texts.{cell, row_text}
 use Rattle.rel_model.specs.Relation.{has}
 use Rattle.rel_model.specs.Worker.{set_of}
 use Rattle.rel_model.proofs.Workers.{keeps_trans, keeps_set}

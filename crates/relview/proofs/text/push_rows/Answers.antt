@@ -1,6 +1,6 @@
 use Rattle.std.proofs.Common.{◌++◌, ◌∙◌, sym, ap, arith, append_assoc}
 use Rattle.std.specs.List.{range_with_len, flat_map}
-use Rattle.rel_model.specs.Page.{row_text, rows_text}
+use Rattle.run_model.specs.Texts.{row_text, rows_text}
 use Rattle.rel_model.specs.Worker.{set_of}
 use Rattle.rel_model.proofs.Workers.{keeps_trans, keeps_set}
 use Rattle.relview.proofs.Texts.{lines_more}

@@ -1,6 +1,6 @@
 use Rattle.std.proofs.Common.{◌∙◌, ◌++◌, ap, append_assoc}
 use Rattle.std.specs.Prelude.{codes}
-use Rattle.rel_model.specs.Page.{place_text, unknown_text}
+use Rattle.run_model.specs.Texts.{place_text, unknown_text}
 use Rattle.relview.proofs.text.push_unknown.Goals as goal
 
 pub returns : goal.returns

@@ -1,5 +1,5 @@
 use Rattle.std.proofs.Common.{◌≡◌, ◌+◌, ◌-◌, ◌≤◌, length, drop}
-use Rattle.rel_model.specs.Tokens.{run_length}
+use Rattle.lang_model.specs.Tokens.{run_length}
 use Rattle.rv_parse.specs.Lexing.{passes}
 use Rattle.rv_parse.proofs.bytes.run.Given as goal
 

@@ -1,6 +1,6 @@
 use Rattle.std.proofs.Common.{◌∷◌, ◌∙◌, ap, arith, length}
-use Rattle.rel_model.specs.Spelling.{OrLevel}
-use Rattle.rel_model.specs.Stop.{SignPart, ExprPart}
+use Rattle.lang_model.specs.Spelling.{OrLevel}
+use Rattle.lang_model.specs.Stop.{SignPart, ExprPart}
 use Rattle.rv_parse.proofs.command.assignment.Goals as goal
 
 pub returns : goal.returns

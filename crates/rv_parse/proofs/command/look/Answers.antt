@@ -1,7 +1,7 @@
 use Rattle.std.proofs.Common.{◌∷◌, ◌∙◌, ap, arith, length}
-use Rattle.rel_model.specs.declared.token.Keyword.TheVariants.{Print as PRINT}
-use Rattle.rel_model.specs.Spelling.{OrLevel}
-use Rattle.rel_model.specs.Stop.{WordPart, ExprPart}
+use Rattle.lang_model.specs.declared.token.Keyword.TheVariants.{Print as PRINT}
+use Rattle.lang_model.specs.Spelling.{OrLevel}
+use Rattle.lang_model.specs.Stop.{WordPart, ExprPart}
 use Rattle.rv_parse.proofs.command.look.Goals as goal
 
 pub returns : goal.returns

@@ -1,5 +1,5 @@
 use Rattle.std.proofs.Common.{◌∷◌, ◌∙◌, ap, arith, length}
-use Rattle.rel_model.specs.Stop.{FilePart}
+use Rattle.lang_model.specs.Stop.{FilePart}
 use Rattle.rv_parse.proofs.command.saving.Goals as goal
 
 pub returns : goal.returns

@@ -1,6 +1,6 @@
 use Rattle.std.proofs.Common.{◌∷◌, ◌++◌, ◌∙◌, ap, arith, length}
-use Rattle.rel_model.specs.declared.token.Keyword.TheVariants.{Beg as BEG}
-use Rattle.rel_model.specs.Stop.{WordPart, program_parts}
+use Rattle.lang_model.specs.declared.token.Keyword.TheVariants.{Beg as BEG}
+use Rattle.lang_model.specs.Stop.{WordPart, program_parts}
 use Rattle.rv_parse.proofs.def.declared_program.Goals as goal
 
 pub returns : goal.returns

@@ -1,5 +1,5 @@
 use Rattle.std.proofs.Common.{◌∙◌, sym, subst}
-use Rattle.rel_model.specs.Spelling.{SpellsDecls}
+use Rattle.lang_model.specs.Spelling.{SpellsDecls}
 use Rattle.rv_parse.proofs.Defs.{drop_decls, decls_all}
 use Rattle.rv_parse.proofs.def.decls.Goals as goal
 

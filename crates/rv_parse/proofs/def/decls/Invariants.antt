@@ -1,8 +1,8 @@
 use Rattle.std.proofs.Common.{◌≡◌, ◌≤◌, ◌++◌, List, ◌∷◌, length}
-use Rattle.rel_model.specs.declared.syntax.Decl.{Decl}
-use Rattle.rel_model.specs.declared.token.Token.{Token}
-use Rattle.rel_model.specs.Spelling.{SpellsDecl, SpellsMoreDecls}
-use Rattle.rel_model.specs.Stop.{Part, NamePart, MeaningPart, MoreDecls, stop_of}
+use Rattle.lang_model.specs.declared.syntax.Decl.{Decl}
+use Rattle.lang_model.specs.declared.token.Token.{Token}
+use Rattle.lang_model.specs.Spelling.{SpellsDecl, SpellsMoreDecls}
+use Rattle.lang_model.specs.Stop.{Part, NamePart, MeaningPart, MoreDecls, stop_of}
 use Rattle.rv_parse.specs.Halts.{ending_of}
 use Rattle.rv_parse.proofs.def.decls.Given as goal
 

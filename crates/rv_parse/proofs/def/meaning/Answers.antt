@@ -1,8 +1,8 @@
 use Rattle.std.proofs.Common.{◌∷◌, [], refl}
-use Rattle.rel_model.specs.declared.token.Keyword.TheVariants.{Beg as BEG, Decl as DECL}
-use Rattle.rel_model.specs.declared.token.Kind.TheVariants.{Keyword as KEYWORD, Sign}
-use Rattle.rel_model.specs.Spelling.{OrLevel}
-use Rattle.rel_model.specs.Stop.{ExprPart, program_parts}
+use Rattle.lang_model.specs.declared.token.Keyword.TheVariants.{Beg as BEG, Decl as DECL}
+use Rattle.lang_model.specs.declared.token.Kind.TheVariants.{Keyword as KEYWORD, Sign}
+use Rattle.lang_model.specs.Spelling.{OrLevel}
+use Rattle.lang_model.specs.Stop.{ExprPart, program_parts}
 use Rattle.rv_parse.specs.Got.{declared_parts}
 use Rattle.rv_parse.proofs.Defs.{body_by}
 use Rattle.rv_parse.proofs.def.meaning.Goals as goal

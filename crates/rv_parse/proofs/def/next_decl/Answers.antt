@@ -1,5 +1,5 @@
 use Rattle.std.proofs.Common.{◌∷◌, ◌∙◌, ap, arith, length}
-use Rattle.rel_model.specs.Stop.{MeaningPart}
+use Rattle.lang_model.specs.Stop.{MeaningPart}
 use Rattle.rv_parse.proofs.Defs.{enter_meaning}
 use Rattle.rv_parse.proofs.def.next_decl.Goals as goal
 

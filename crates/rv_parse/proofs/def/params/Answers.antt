@@ -1,7 +1,7 @@
 use Rattle.std.proofs.Common.{◌≡◌, ◌<◌, ◌-◌, ◌∷◌, ◌++◌, [], ◌∙◌, ℕ, List, length, sym, ap, subst, suc, arith, length-append}
 use Rattle.std.proofs.lemmas.Result.{err_from_is_err_and}
-use Rattle.rel_model.specs.Spelling.{SpellsParams}
-use Rattle.rel_model.specs.Stop.{MoreParams, stop_of}
+use Rattle.lang_model.specs.Spelling.{SpellsParams}
+use Rattle.lang_model.specs.Stop.{MoreParams, stop_of}
 use Rattle.rv_parse.specs.Halts.{ending_of}
 use Rattle.rv_parse.proofs.Defs.{enter_params, drop_params, params_full, names_step, params_step, names_all}
 use Rattle.rv_parse.proofs.def.params.Goals as goal

@@ -1,9 +1,9 @@
 use Rattle.std.proofs.Common.{◌≡◌, ◌≤◌, ◌-◌, ◌++◌, ℕ, List, ◌∷◌, length}
-use Rattle.rel_model.specs.declared.token.Kind.TheVariants.{Word}
-use Rattle.rel_model.specs.declared.token.Token.{Token}
-use Rattle.rel_model.specs.Taken.{Takes}
-use Rattle.rel_model.specs.Spelling.{SpellsMoreNames}
-use Rattle.rel_model.specs.Stop.{Part, NamePart, MoreParams, stop_of}
+use Rattle.lang_model.specs.declared.token.Kind.TheVariants.{Word}
+use Rattle.lang_model.specs.declared.token.Token.{Token}
+use Rattle.lang_model.specs.Taken.{Takes}
+use Rattle.lang_model.specs.Spelling.{SpellsMoreNames}
+use Rattle.lang_model.specs.Stop.{Part, NamePart, MoreParams, stop_of}
 use Rattle.rv_parse.specs.Halts.{ending_of}
 use Rattle.rv_parse.proofs.def.params.Given as goal
 

@@ -1,5 +1,5 @@
 use Rattle.std.proofs.Common.{refl, sym, subst}
-use Rattle.rel_model.specs.Spelling.{SpellsDecls}
+use Rattle.lang_model.specs.Spelling.{SpellsDecls}
 use Rattle.rv_parse.proofs.def.plain_program.Goals as goal
 
 pub returns : goal.returns

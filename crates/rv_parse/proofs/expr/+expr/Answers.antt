@@ -1,9 +1,9 @@
 use Rattle.std.proofs.Common.{◌<◌, ◌+◌, ◌-◌, ◌∷◌, ◌++◌, [], ◌∙◌, length, sym, ap, subst, add-one, suc, arith, length-append}
 use Rattle.std.proofs.lemmas.Bool.{eqb-true, eqb-false}
 use Rattle.std.proofs.lemmas.Result.{err_from_is_err_and}
-use Rattle.rel_model.specs.declared.syntax.Expr.{Expr}
-use Rattle.rel_model.specs.Spelling.{OrLevel, named, called, based, based_twice, paired, enclosed, chained, Linked}
-use Rattle.rel_model.specs.Stop.{ExprPart, SignPart, MoreLinks}
+use Rattle.lang_model.specs.declared.syntax.Expr.{Expr}
+use Rattle.lang_model.specs.Spelling.{OrLevel, named, called, based, based_twice, paired, enclosed, chained, Linked}
+use Rattle.lang_model.specs.Stop.{ExprPart, SignPart, MoreLinks}
 use Rattle.rv_parse.specs.Readers.{level_of}
 use Rattle.rv_parse.proofs.Optional.{enter_call, drop_call, drop_args, drop_links}
 use Rattle.rv_parse.proofs.Exprs.{chain_enters, post_plain, post_turned, post_no_prim, unary_minus, unary_no_operand, unary_by_post, chain_no_first, linked_step, linked_all, chain_no_links, listed_step, args_step, listed_all, args_full}

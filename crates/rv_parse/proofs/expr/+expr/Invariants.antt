@@ -1,9 +1,9 @@
 use Rattle.std.proofs.Common.{◌≡◌, ◌<◌, ◌≤◌, ◌+◌, ◌-◌, ◌*◌, ◌++◌, List, ◌∷◌, length, suc}
-use Rattle.rel_model.specs.declared.syntax.Expr.{Expr}
-use Rattle.rel_model.specs.declared.syntax.Link.{Link}
-use Rattle.rel_model.specs.declared.token.Token.{Token}
-use Rattle.rel_model.specs.Spelling.{OrLevel, Spelled, Listed, Linked, tighter}
-use Rattle.rel_model.specs.Stop.{Part, ExprPart, MoreLinks, MoreArgs, stop_of}
+use Rattle.lang_model.specs.declared.syntax.Expr.{Expr}
+use Rattle.lang_model.specs.declared.syntax.Link.{Link}
+use Rattle.lang_model.specs.declared.token.Token.{Token}
+use Rattle.lang_model.specs.Spelling.{OrLevel, Spelled, Listed, Linked, tighter}
+use Rattle.lang_model.specs.Stop.{Part, ExprPart, MoreLinks, MoreArgs, stop_of}
 use Rattle.rv_parse.specs.Halts.{ending_of}
 use Rattle.rv_parse.specs.Readers.{level_of}
 use Rattle.rv_parse.proofs.Exprs.{chain_rank}

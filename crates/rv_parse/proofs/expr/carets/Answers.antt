@@ -1,5 +1,5 @@
 use Rattle.std.proofs.Common.{◌∙◌, ap, subst, sym, arith, add-one, length}
-use Rattle.rel_model.specs.Taken.{Carets}
+use Rattle.lang_model.specs.Taken.{Carets}
 use Rattle.rv_parse.proofs.Spelling.{carets_push}
 use Rattle.rv_parse.proofs.Optional.{enter_carets}
 use Rattle.rv_parse.proofs.expr.carets.Goals as goal

@@ -1,7 +1,7 @@
 use Rattle.std.proofs.Common.{◌≡◌, ◌+◌, List, ◌∷◌, length}
-use Rattle.rel_model.specs.Taken.{Carets}
-use Rattle.rel_model.specs.Lexed.{Ending}
-use Rattle.rel_model.specs.Stop.{Part, MoreCarets, stop_of}
+use Rattle.lang_model.specs.Taken.{Carets}
+use Rattle.lang_model.specs.Lexed.{Ending}
+use Rattle.lang_model.specs.Stop.{Part, MoreCarets, stop_of}
 use Rattle.rv_parse.proofs.expr.carets.Given as goal
 
 abbrev pub invariant-carets : goal.invariant-carets

@@ -1,6 +1,6 @@
 use Rattle.std.proofs.Common.{◌∷◌, ◌∙◌, ap, arith, length}
-use Rattle.rel_model.specs.Spelling.{injected}
-use Rattle.rel_model.specs.Stop.{NamePart, SignPart}
+use Rattle.lang_model.specs.Spelling.{injected}
+use Rattle.lang_model.specs.Stop.{NamePart, SignPart}
 use Rattle.rv_parse.proofs.expr.with_domain.Goals as goal
 
 pub returns : goal.returns

@@ -1,9 +1,9 @@
 use Rattle.std.proofs.Common.{◌+◌, ◌∷◌, ◌∙◌, length, refl, sym, ap, subst, add-one, arith}
 use Rattle.std.proofs.lemmas.Bool.{eqb-true, eqb-false}
 use Rattle.std.proofs.lemmas.Result.{err_from_is_err_and}
-use Rattle.rel_model.specs.declared.token.Kind.TheVariants.{Sign}
-use Rattle.rel_model.specs.Grammar.{alone}
-use Rattle.rel_model.specs.Taken.{TakesAt}
+use Rattle.lang_model.specs.declared.token.Kind.TheVariants.{Sign}
+use Rattle.rv_parse.specs.FirstGrammar.{alone}
+use Rattle.lang_model.specs.Taken.{TakesAt}
 use Rattle.rv_parse.specs.Rest.{MoreLinks, sign_of}
 use Rattle.rv_parse.specs.Expressions.{level_of}
 use Rattle.rv_parse.proofs.Linking.{SpellsLinks, links_push}

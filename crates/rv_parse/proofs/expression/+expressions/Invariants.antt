@@ -1,5 +1,5 @@
 use Rattle.std.proofs.Common.{◌≡◌, ◌<◌, ◌+◌, ◌-◌, ◌*◌, List, ◌∷◌, length}
-use Rattle.rel_model.specs.Grammar.{Spelled, tighter}
+use Rattle.rv_parse.specs.FirstGrammar.{Spelled, tighter}
 use Rattle.rv_parse.specs.Rest.{Part, ExprPart, MoreLinks, fits}
 use Rattle.rv_parse.specs.Expressions.{level_of}
 use Rattle.rv_parse.proofs.Linking.{chain_rank, SpellsLinks}

@@ -1,5 +1,5 @@
 use Rattle.std.proofs.Common.{◌≡◌, ◌+◌, List, ◌∷◌, length}
-use Rattle.rel_model.specs.Taken.{Carets}
+use Rattle.lang_model.specs.Taken.{Carets}
 use Rattle.rv_parse.specs.Rest.{Part, MoreCarets, fits}
 use Rattle.rv_parse.proofs.expression.carets.Given as goal
 

@@ -1,5 +1,5 @@
 use Rattle.std.proofs.Common.{◌≡◌, ◌≤◌, ◌∷◌, [], length}
-use Rattle.rel_model.specs.Grammar.{SpellsItems}
+use Rattle.rv_parse.specs.FirstGrammar.{SpellsItems}
 use Rattle.rv_parse.specs.Rest.{Items, fits}
 use Rattle.rv_parse.proofs.first.items.Given as goal
 

@@ -1,6 +1,6 @@
 use Rattle.std.proofs.Common.{length, sym, ap, arith}
-use Rattle.rel_model.specs.declared.token.Token.{Token}
-use Rattle.rel_model.specs.Lexed.{lexed_from, lexed_of}
+use Rattle.lang_model.specs.declared.token.Token.{Token}
+use Rattle.lang_model.specs.Lexed.{lexed_from, lexed_of}
 use Rattle.rv_parse.specs.LexerAnswers.{put_before}
 use Rattle.rv_parse.proofs.lexer.lexed.Goals as goal
 

@@ -1,5 +1,5 @@
 use Rattle.std.proofs.Common.{◌≡◌, ◌+◌, ◌-◌, ◌≤◌, length, drop}
-use Rattle.rel_model.specs.Lexed.{lexed_from, lexed_of}
+use Rattle.lang_model.specs.Lexed.{lexed_from, lexed_of}
 use Rattle.rv_parse.specs.LexerAnswers.{put_before}
 use Rattle.rv_parse.proofs.lexer.lexed.Given as goal
 

@@ -1,8 +1,8 @@
 use Rattle.std.proofs.Common.{◌≡◌, ◌∙◌, ◌+◌, ◌-◌, length, drop, take, sym, ap, arith}
 use Rattle.std.proofs.lemmas.Grind.{common_steps}
 use Rattle.std.proofs.lemmas.Bool.{eq-eqb, ne_eqb}
-use Rattle.rel_model.specs.Tokens.{run_length}
-use Rattle.rel_model.specs.Lexed.{is_comment_byte}
+use Rattle.lang_model.specs.Tokens.{run_length}
+use Rattle.lang_model.specs.Lexed.{is_comment_byte}
 use Rattle.rv_parse.proofs.Lexemes.{lexes_blank, lexes_comment, lexes_token}
 use Rattle.rv_parse.proofs.lexer.next_lexeme.Goals as goal
 

@@ -1,5 +1,5 @@
 use Rattle.std.proofs.Common.{◌≡◌, ◌++◌, ◌∷◌, [], ◌∙◌, nat_le, OnOk, append_assoc, sym, ap, subst}
-use Rattle.rel_model.specs.Printing.{rank, within, printed}
+use Rattle.lang_model.specs.Printing.{rank, within, printed}
 use Rattle.rv_parse.specs.Printed.{rank_of_links, printed_all_args, printed_all_links}
 use Rattle.rv_parse.proofs.Printed.{printed_call, printed_base, printed_chain}
 use Rattle.rv_parse.proofs.print.+print.Goals as goal

@@ -1,5 +1,5 @@
 use Rattle.std.proofs.Common.{◌∙◌, sym, ap}
-use Rattle.rel_model.specs.Printing.{rank}
+use Rattle.lang_model.specs.Printing.{rank}
 use Rattle.rv_parse.specs.Printed.{rank_of_links}
 use Rattle.rv_parse.proofs.Printed.{rank_chain}
 use Rattle.rv_parse.proofs.print.rank.Goals as goal

@@ -1,5 +1,5 @@
 use Rattle.std.proofs.Common.{◌≡◌, List, ◌∷◌, length, ◌<◌}
-use Rattle.rel_model.specs.Grammar.{SpellsColumns}
+use Rattle.rv_parse.specs.FirstGrammar.{SpellsColumns}
 use Rattle.rv_parse.specs.Rest.{Part, UpTo, MoreColumns, fits}
 use Rattle.rv_parse.proofs.relation.columns.Given as goal
 

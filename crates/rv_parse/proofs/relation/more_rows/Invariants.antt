@@ -1,5 +1,5 @@
 use Rattle.std.proofs.Common.{◌≡◌, List, ◌∷◌, length, ◌<◌, ◌≤◌}
-use Rattle.rel_model.specs.Grammar.{SpellsRows}
+use Rattle.rv_parse.specs.FirstGrammar.{SpellsRows}
 use Rattle.rv_parse.specs.Rest.{Part, MoreRows, fits}
 use Rattle.rv_parse.proofs.relation.more_rows.Given as goal
 

@@ -1,6 +1,6 @@
 use Rattle.std.proofs.Common.{◌∷◌, [], ◌∙◌, ℕ, List}
 use Rattle.std.proofs.lemmas.Result.{err_from_is_err_and}
-use Rattle.rel_model.specs.declared.token.Token.{Token}
+use Rattle.lang_model.specs.declared.token.Token.{Token}
 use Rattle.rv_parse.specs.Rest.{NamePart, RowCount, ColumnCount}
 use Rattle.rv_parse.specs.Answers.{Reads, ReadsTo, Refuses}
 use Rattle.rv_parse.specs.declared.refusals.Refusal.{Refusal}

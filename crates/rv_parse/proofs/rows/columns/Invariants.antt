@@ -1,8 +1,8 @@
 use Rattle.std.proofs.Common.{◌≡◌, ◌≤◌, ◌++◌, List, ◌∷◌, length}
-use Rattle.rel_model.specs.declared.syntax.Column.{Column}
-use Rattle.rel_model.specs.declared.token.Token.{Token}
-use Rattle.rel_model.specs.Spelling.{SpellsColumns, SpellsMoreColumns}
-use Rattle.rel_model.specs.Stop.{Part, FromOne, MoreColumns, stop_of}
+use Rattle.lang_model.specs.declared.syntax.Column.{Column}
+use Rattle.lang_model.specs.declared.token.Token.{Token}
+use Rattle.lang_model.specs.Spelling.{SpellsColumns, SpellsMoreColumns}
+use Rattle.lang_model.specs.Stop.{Part, FromOne, MoreColumns, stop_of}
 use Rattle.rv_parse.specs.Halts.{ending_of}
 use Rattle.rv_parse.proofs.rows.columns.Given as goal
 

@@ -1,5 +1,5 @@
 use Rattle.std.proofs.Common.{◌∷◌, ◌∙◌, ap, arith, length}
-use Rattle.rel_model.specs.Stop.{NumberPart, SignPart, RowsPart}
+use Rattle.lang_model.specs.Stop.{NumberPart, SignPart, RowsPart}
 use Rattle.rv_parse.proofs.rows.relation.Goals as goal
 
 pub returns : goal.returns

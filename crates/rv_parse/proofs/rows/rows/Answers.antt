@@ -1,6 +1,6 @@
 use Rattle.std.proofs.Common.{◌∷◌, ◌∙◌, sym}
 use Rattle.std.proofs.lemmas.Result.{err_from_is_err_and}
-use Rattle.rel_model.specs.Stop.{MoreRows}
+use Rattle.lang_model.specs.Stop.{MoreRows}
 use Rattle.rv_parse.proofs.RowSteps.{rows_begin, drop_more_rows, rows_all}
 use Rattle.rv_parse.proofs.rows.rows.Goals as goal
 

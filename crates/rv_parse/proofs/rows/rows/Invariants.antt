@@ -1,8 +1,8 @@
 use Rattle.std.proofs.Common.{◌≡◌, ◌≤◌, ◌++◌, List, ◌∷◌, length}
-use Rattle.rel_model.specs.declared.syntax.Row.{Row}
-use Rattle.rel_model.specs.declared.token.Token.{Token}
-use Rattle.rel_model.specs.Spelling.{SpellsRows, SpellsMoreRows}
-use Rattle.rel_model.specs.Stop.{Part, RowsPart, MoreRows, stop_of}
+use Rattle.lang_model.specs.declared.syntax.Row.{Row}
+use Rattle.lang_model.specs.declared.token.Token.{Token}
+use Rattle.lang_model.specs.Spelling.{SpellsRows, SpellsMoreRows}
+use Rattle.lang_model.specs.Stop.{Part, RowsPart, MoreRows, stop_of}
 use Rattle.rv_parse.specs.Halts.{ending_of}
 use Rattle.rv_parse.proofs.rows.rows.Given as goal
 

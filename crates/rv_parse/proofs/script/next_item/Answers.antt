@@ -1,7 +1,7 @@
 use Rattle.std.proofs.Common.{◌∷◌, [], ◌∙◌, ap, arith, length, refl}
 use Rattle.std.proofs.lemmas.Result.{err_from_is_err_and}
-use Rattle.rel_model.specs.declared.token.Kind.TheVariants.{Word}
-use Rattle.rel_model.specs.Stop.{SignPart, ItemsPart}
+use Rattle.lang_model.specs.declared.token.Kind.TheVariants.{Word}
+use Rattle.lang_model.specs.Stop.{SignPart, ItemsPart}
 use Rattle.rv_parse.specs.Got.{definition_parts}
 use Rattle.rv_parse.proofs.Scripting.{item_begins, command_begins}
 use Rattle.rv_parse.proofs.script.next_item.Goals as goal

@@ -1,5 +1,5 @@
 use Rattle.std.proofs.Common.{subst}
-use Rattle.rel_model.specs.Spelling.{Spells}
+use Rattle.lang_model.specs.Spelling.{Spells}
 use Rattle.rv_parse.specs.Halts.{ending_of}
 use Rattle.rv_parse.specs.Got.{RefusesItems}
 use Rattle.rv_parse.proofs.Parsing.{parsed, stopped}

@@ -1,8 +1,8 @@
 use Rattle.std.proofs.Common.{◌∷◌, ◌∙◌, ap, suc, arith, length}
 use Rattle.std.proofs.lemmas.Result.{err_from_is_err_and}
-use Rattle.rel_model.specs.Spelling.{looped, branched, branched_twice}
-use Rattle.rel_model.specs.declared.token.Keyword.TheVariants.{Do as DO, Od as OD, Then as THEN, Fi as FI}
-use Rattle.rel_model.specs.Stop.{WordPart, StmtsPart, ElsePart}
+use Rattle.lang_model.specs.Spelling.{looped, branched, branched_twice}
+use Rattle.lang_model.specs.declared.token.Keyword.TheVariants.{Do as DO, Od as OD, Then as THEN, Fi as FI}
+use Rattle.lang_model.specs.Stop.{WordPart, StmtsPart, ElsePart}
 use Rattle.rv_parse.proofs.Stmts.{drop_else, enter_else, drop_stmts, enter_stmts, stmts_step, stmts_last, stmts_all}
 use Rattle.rv_parse.proofs.stmt.+stmt.Goals as goal
 

@@ -1,6 +1,6 @@
 use Rattle.std.proofs.Common.{◌∷◌, ◌∙◌, ap, arith, length}
-use Rattle.rel_model.specs.Spelling.{OrLevel, assigned}
-use Rattle.rel_model.specs.Stop.{ExprPart}
+use Rattle.lang_model.specs.Spelling.{OrLevel, assigned}
+use Rattle.lang_model.specs.Stop.{ExprPart}
 use Rattle.rv_parse.proofs.stmt.set.Goals as goal
 
 pub returns : goal.returns

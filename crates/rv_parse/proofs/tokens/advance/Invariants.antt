@@ -1,5 +1,5 @@
 use Rattle.std.proofs.Common.{◌≡◌, ◌+◌, ◌-◌, ◌≤◌, drop}
-use Rattle.rel_model.specs.Tokens.{behind_all}
+use Rattle.lang_model.specs.Tokens.{behind_all}
 use Rattle.rv_parse.proofs.tokens.advance.Given as goal
 
 abbrev pub invariant-each : goal.invariant-each

@@ -1,7 +1,7 @@
 use Rattle.std.proofs.Common.{◌≡◌, ◌∙◌, None, cond, take, drop, sym, ap, arith}
 use Rattle.std.proofs.lemmas.Bool.{eq-eqb, ne_eqb}
 use Rattle.std.proofs.lemmas.List.{take_rest}
-use Rattle.rel_model.specs.Tokens.{run_length, is_word_byte, found_in, domain_operators}
+use Rattle.lang_model.specs.Tokens.{run_length, is_word_byte, found_in, domain_operators}
 use Rattle.rv_parse.proofs.Lexing.{operator_short, operator_long}
 use Rattle.rv_parse.proofs.tokens.domain_operator_at.Goals as goal
 

@@ -2,9 +2,9 @@ use Rattle.std.proofs.Common.{◌∙◌, Some, None, cond, get_or, sym, ap, subs
 use Rattle.std.proofs.lemmas.Bool.{eq-eqb, ne_eqb}
 use Rattle.std.proofs.lemmas.List.{take_rest}
 use Rattle.std.specs.Option.{option_map_or}
-use Rattle.rel_model.specs.declared.token.Kind.{Kind}
-use Rattle.rel_model.specs.declared.token.Kind.TheVariants.{Sign}
-use Rattle.rel_model.specs.Tokens.{file_at}
+use Rattle.lang_model.specs.declared.token.Kind.{Kind}
+use Rattle.lang_model.specs.declared.token.Kind.TheVariants.{Sign}
+use Rattle.lang_model.specs.Tokens.{file_at}
 use Rattle.rv_parse.specs.Lexing.{Finds, word_at}
 use Rattle.rv_parse.proofs.Lexing.{kind_letter, kind_digit, kind_quote, kind_sign}
 use Rattle.rv_parse.proofs.tokens.kind_at.Goals as goal

@@ -1,6 +1,6 @@
 use Rattle.std.proofs.Common.{◌≡◌, ◌∙◌, List, Option, [], Some, None, cond, length, sym, ap, refl, arith}
-use Rattle.rel_model.specs.declared.token.Token.{Token}
-use Rattle.rel_model.specs.Tokens.{tokens_from, tokens_of}
+use Rattle.lang_model.specs.declared.token.Token.{Token}
+use Rattle.lang_model.specs.Tokens.{tokens_from, tokens_of}
 use Rattle.rv_parse.specs.Lexing.{prepended}
 use Rattle.rv_parse.proofs.tokens.tokens.Goals as goal
 

@@ -1,5 +1,5 @@
 use Rattle.std.proofs.Common.{◌≡◌, ◌+◌, ◌-◌, ◌≤◌, length, drop}
-use Rattle.rel_model.specs.Tokens.{tokens_from, tokens_of}
+use Rattle.lang_model.specs.Tokens.{tokens_from, tokens_of}
 use Rattle.rv_parse.specs.Lexing.{prepended}
 use Rattle.rv_parse.proofs.tokens.tokens.Given as goal
 

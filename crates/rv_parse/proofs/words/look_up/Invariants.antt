@@ -1,5 +1,5 @@
 use Rattle.std.proofs.Common.{◌≡◌, drop, map}
-use Rattle.rel_model.specs.Tokens.{found_in}
+use Rattle.lang_model.specs.Tokens.{found_in}
 use Rattle.rv_parse.specs.Lexing.{kind_of}
 use Rattle.rv_parse.proofs.words.look_up.Given as goal
 

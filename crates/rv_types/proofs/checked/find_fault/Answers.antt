@@ -1,6 +1,6 @@
 use Rattle.std.proofs.Common.{◌≡◌, ◌∙◌, ◌+◌, [], drop, sym, ap}
 use Rattle.std.proofs.Math.ListN.{drop_of_length-le}
-use Rattle.rel_model.specs.Checking.{items_faults}
+use Rattle.lang_model.specs.Checking.{items_faults}
 use Rattle.rv_types.specs.Found.{told, noted}
 use Rattle.rv_types.proofs.Items.{noted-item}
 use Rattle.rv_types.proofs.Ranks.{RanksWithin-item}

@@ -1,5 +1,5 @@
 use Rattle.std.proofs.Common.{◌≡◌, [], None, drop}
-use Rattle.rel_model.specs.Checking.{items_faults}
+use Rattle.lang_model.specs.Checking.{items_faults}
 use Rattle.rv_types.specs.Items.{RanksWithin}
 use Rattle.rv_types.specs.Found.{told, noted}
 use Rattle.rv_types.proofs.checked.find_fault.Given as goal

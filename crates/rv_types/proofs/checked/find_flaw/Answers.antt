@@ -1,5 +1,5 @@
 use Rattle.std.proofs.Common.{◌∙◌, [], Some, is_some, inr, sym, ap}
-use Rattle.rel_model.specs.Checking.{first_fault, items_faults, flaw}
+use Rattle.lang_model.specs.Checking.{first_fault, items_faults, flaw}
 use Rattle.rv_types.specs.Found.{told}
 use Rattle.rv_types.proofs.checked.find_flaw.Goals as goal
 

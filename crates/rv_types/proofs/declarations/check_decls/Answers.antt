@@ -1,7 +1,7 @@
 use Rattle.std.proofs.Common.{◌∙◌, ◌+◌, ◌||◌, [], ◌∷◌, cond, drop, sym, ap}
-use Rattle.rel_model.specs.declared.faults.TypeFault.TheVariants.{Twice}
-use Rattle.rel_model.specs.Tokens.{same_text}
-use Rattle.rel_model.specs.Checking.{among, decl_faults, operand_faults}
+use Rattle.lang_model.specs.declared.faults.TypeFault.TheVariants.{Twice}
+use Rattle.lang_model.specs.Tokens.{same_text}
+use Rattle.lang_model.specs.Checking.{among, decl_faults, operand_faults}
 use Rattle.rv_types.specs.Found.{told, noted}
 use Rattle.rv_types.proofs.Declaring.{noted-decl}
 use Rattle.rv_types.proofs.declarations.check_decls.Goals as goal

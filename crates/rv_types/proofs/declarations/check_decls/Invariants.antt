@@ -1,5 +1,5 @@
 use Rattle.std.proofs.Common.{◌≡◌, drop}
-use Rattle.rel_model.specs.Checking.{decl_faults}
+use Rattle.lang_model.specs.Checking.{decl_faults}
 use Rattle.rv_types.specs.Found.{told, noted}
 use Rattle.rv_types.proofs.declarations.check_decls.Given as goal
 

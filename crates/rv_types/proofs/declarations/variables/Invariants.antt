@@ -1,5 +1,5 @@
 use Rattle.std.proofs.Common.{◌≡◌, ◌||◌, ℕ, List, drop}
-use Rattle.rel_model.specs.Checking.{among, variables_of}
+use Rattle.lang_model.specs.Checking.{among, variables_of}
 use Rattle.rv_types.proofs.declarations.variables.Given as goal
 
 abbrev pub invariant-each : goal.invariant-each

@@ -1,5 +1,5 @@
 use Rattle.std.proofs.Common.{◌≡◌, drop}
-use Rattle.rel_model.specs.Checking.{among, faults}
+use Rattle.lang_model.specs.Checking.{among, faults}
 use Rattle.rv_types.specs.Found.{told, noted}
 use Rattle.rv_types.specs.Scopes.{scope_of}
 use Rattle.rv_types.specs.Rows.{faults_of_args, faults_of_links}

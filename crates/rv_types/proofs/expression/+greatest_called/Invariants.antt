@@ -1,5 +1,5 @@
 use Rattle.std.proofs.Common.{◌≡◌, max, drop}
-use Rattle.rel_model.specs.Checking.{called}
+use Rattle.lang_model.specs.Checking.{called}
 use Rattle.rv_types.specs.Rows.{called_of_args, called_of_links}
 use Rattle.rv_types.proofs.expression.+greatest_called.Given as goal
 

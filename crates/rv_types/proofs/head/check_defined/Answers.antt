@@ -1,6 +1,6 @@
 use Rattle.std.proofs.Common.{◌∙◌, cond, [], ◌∷◌, ap, sym, option_map}
-use Rattle.rel_model.specs.declared.faults.TypeFault.TheVariants.{Twice}
-use Rattle.rel_model.specs.Checking.{definition_of}
+use Rattle.lang_model.specs.declared.faults.TypeFault.TheVariants.{Twice}
+use Rattle.lang_model.specs.Checking.{definition_of}
 use Rattle.rv_types.specs.Definitions.{summary_of}
 use Rattle.rv_types.specs.Found.{told, noted}
 use Rattle.rv_types.proofs.Heads.{named-none, named-some}

@@ -1,6 +1,6 @@
 use Rattle.std.proofs.Common.{◌∙◌, ◌+◌, ◌||◌, drop, sym, ap}
-use Rattle.rel_model.specs.Tokens.{same_text}
-use Rattle.rel_model.specs.Checking.{among, parameter_faults}
+use Rattle.lang_model.specs.Tokens.{same_text}
+use Rattle.lang_model.specs.Checking.{among, parameter_faults}
 use Rattle.rv_types.specs.Found.{told, noted}
 use Rattle.rv_types.proofs.Heads.{noted-parameter, among-parameter}
 use Rattle.rv_types.proofs.head.check_parameters.Goals as goal

@@ -1,5 +1,5 @@
 use Rattle.std.proofs.Common.{◌≡◌, ◌||◌, ℕ, List, drop}
-use Rattle.rel_model.specs.Checking.{among, parameter_faults}
+use Rattle.lang_model.specs.Checking.{among, parameter_faults}
 use Rattle.rv_types.specs.Found.{told, noted}
 use Rattle.rv_types.proofs.head.check_parameters.Given as goal
 

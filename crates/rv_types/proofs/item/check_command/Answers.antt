@@ -1,6 +1,6 @@
 use Rattle.std.proofs.Common.{◌∙◌, true, [], refl, sym, ap}
 use Rattle.std.specs.Option.{option_map_or}
-use Rattle.rel_model.specs.Checking.{Scope, faults, command_scope, no_name}
+use Rattle.lang_model.specs.Checking.{Scope, faults, command_scope, no_name}
 use Rattle.rv_types.specs.Found.{told, noted}
 use Rattle.rv_types.proofs.Scoping.{faults-command, command_faults-value}
 use Rattle.rv_types.proofs.item.check_command.Goals as goal

@@ -1,6 +1,6 @@
 use Rattle.std.proofs.Common.{false, refl}
 use Rattle.std.proofs.Common.{◌∙◌}
-use Rattle.rel_model.specs.Checking.{Scope}
+use Rattle.lang_model.specs.Checking.{Scope}
 use Rattle.rv_types.specs.Found.{noted}
 use Rattle.rv_types.proofs.Scoping.{faults-function}
 use Rattle.rv_types.proofs.item.check_function.Goals as goal

@@ -1,6 +1,6 @@
 use Rattle.std.proofs.Common.{◌≡◌, ◌∙◌, sym, ap, subst}
 use Rattle.std.specs.Prelude.{IfOk}
-use Rattle.rel_model.specs.Checking.{item_faults, rank_of}
+use Rattle.lang_model.specs.Checking.{item_faults, rank_of}
 use Rattle.rv_types.specs.Found.{told, noted}
 use Rattle.rv_types.proofs.Items.{noted-function, noted-program}
 use Rattle.rv_types.proofs.item.check_item.Goals as goal

@@ -1,5 +1,5 @@
 use Rattle.std.proofs.Common.{◌∙◌, ap}
-use Rattle.rel_model.specs.Checking.{among, no_name, assigned_by}
+use Rattle.lang_model.specs.Checking.{among, no_name, assigned_by}
 use Rattle.rv_types.specs.Found.{noted}
 use Rattle.rv_types.specs.Scopes.{scope_of}
 use Rattle.rv_types.proofs.Declaring.{same-decl_faults}

@@ -1,5 +1,5 @@
 use Rattle.std.proofs.Common.{◌+◌, ◌∙◌, drop, sym, ap}
-use Rattle.rel_model.specs.Checking.{among, faults_by}
+use Rattle.lang_model.specs.Checking.{among, faults_by}
 use Rattle.rv_types.specs.Found.{told, noted}
 use Rattle.rv_types.specs.Scopes.{scope_of}
 use Rattle.rv_types.proofs.Statements.{noted-stmt, assigned-stmt}

@@ -1,5 +1,5 @@
 use Rattle.std.proofs.Common.{◌≡◌, max, drop}
-use Rattle.rel_model.specs.Checking.{called_by_all}
+use Rattle.lang_model.specs.Checking.{called_by_all}
 use Rattle.rv_types.proofs.item.greatest_called_by_all.Given as goal
 
 abbrev pub invariant-each : goal.invariant-each

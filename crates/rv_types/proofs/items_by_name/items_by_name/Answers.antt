@@ -2,7 +2,8 @@ use Rattle.std.proofs.Common.{◌≡◌, ◌∙◌, [], drop, sym, ap}
 use Rattle.std.proofs.Math.ListN.{drop_of_length-le}
 use Rattle.std.specs.List.{position_from}
 use Rattle.std.specs.Option.{option_or}
-use Rattle.rv_types.specs.Defining.{defines, number_beside}
+use Rattle.lang_model.specs.Defining.{defines}
+use Rattle.rv_types.specs.Defining.{number_beside}
 use Rattle.rv_types.proofs.Defining.{position-item, option_or-none}
 use Rattle.rv_types.proofs.items_by_name.items_by_name.Goals as goal
 

@@ -1,6 +1,6 @@
 use Rattle.std.proofs.Common.{◌≡◌, ◌+◌, ◌∙◌, ◌||◌, ◌&&◌, [], drop, sym, ap}
 use Rattle.std.proofs.Math.ListN.{drop_of_length-le}
-use Rattle.rel_model.specs.Checking.{among, faults, faults_of, faults_by, target_faults, assigned_after, assigned_by}
+use Rattle.lang_model.specs.Checking.{among, faults, faults_of, faults_by, target_faults, assigned_after, assigned_by}
 use Rattle.rv_types.specs.Found.{told, noted}
 use Rattle.rv_types.specs.Scopes.{scope_of}
 use Rattle.rv_types.proofs.Sets.{texts}

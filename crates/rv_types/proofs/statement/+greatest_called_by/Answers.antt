@@ -1,5 +1,5 @@
 use Rattle.std.proofs.Common.{◌≡◌, ◌∙◌, ℕ, max, sym, ap, arith}
-use Rattle.rel_model.specs.Checking.{called, called_by, called_by_all}
+use Rattle.lang_model.specs.Checking.{called, called_by, called_by_all}
 use Rattle.rv_types.proofs.Statements.{called-while, called-if}
 use Rattle.rv_types.proofs.statement.+greatest_called_by.Goals as goal
 

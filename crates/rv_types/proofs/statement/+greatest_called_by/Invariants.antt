@@ -1,5 +1,5 @@
 use Rattle.std.proofs.Common.{◌≡◌, max, drop}
-use Rattle.rel_model.specs.Checking.{called_by, called_by_all}
+use Rattle.lang_model.specs.Checking.{called_by, called_by_all}
 use Rattle.rv_types.proofs.statement.+greatest_called_by.Given as goal
 
 abbrev pub decreases-greatest_called_by : goal.decreases-greatest_called_by

@@ -1,7 +1,8 @@
 use Rattle.std.proofs.Common.{◌≡◌, ◌∙◌, Some, None, sym, ap, subst}
 use Rattle.std.specs.List.{position_from, slice_get}
 use Rattle.std.specs.Option.{option_copied}
-use Rattle.rv_types.specs.Defining.{defines, IsDefinition}
+use Rattle.lang_model.specs.Defining.{defines}
+use Rattle.rv_types.specs.Defining.{IsDefinition}
 use Rattle.rv_types.proofs.Defining.{at_position, copied_found, IsDefinition-position}
 use Rattle.rv_types.proofs.checked.Checked.definition.Goals as goal
 

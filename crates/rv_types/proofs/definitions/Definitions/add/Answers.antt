@@ -3,7 +3,7 @@ use Rattle.std.proofs.lemmas.List.{map-append}
 use Rattle.std.specs.Map.{lookup}
 use Rattle.std.specs.Cmp.Lexicographic.{pointwise}
 use Rattle.indexmap.proofs.CallerLemmas.{insert_entry-new}
-use Rattle.rel_model.specs.Checking.{Known, definition_of}
+use Rattle.lang_model.specs.Checking.{Known, definition_of}
 use Rattle.rv_types.specs.Definitions.{known_as, summary_of}
 use Rattle.rv_types.proofs.Naming.{at_error, knowns, lookup-knowns, definition_of-present}
 use Rattle.rv_types.proofs.definitions.Definitions.add.Goals as goal

@@ -1,5 +1,5 @@
 use Rattle.std.proofs.Common.{◌∙◌, option_map, ap}
-use Rattle.rel_model.specs.Checking.{definition_of}
+use Rattle.lang_model.specs.Checking.{definition_of}
 use Rattle.rv_types.specs.Definitions.{summary_of}
 use Rattle.rv_types.proofs.Naming.{lookup-knowns}
 use Rattle.rv_types.proofs.definitions.Definitions.find.Goals as goal

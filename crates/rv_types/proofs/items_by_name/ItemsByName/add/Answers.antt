@@ -4,7 +4,7 @@ use Rattle.std.specs.Map.{lookup}
 use Rattle.std.specs.Option.{option_or}
 use Rattle.std.specs.Cmp.Lexicographic.{pointwise}
 use Rattle.indexmap.proofs.CallerLemmas.{insert_entry-new}
-use Rattle.rel_model.specs.Tokens.{same_text}
+use Rattle.lang_model.specs.Tokens.{same_text}
 use Rattle.rv_types.specs.Defining.{number_beside}
 use Rattle.rv_types.proofs.Defining.{numbered, lookup-numbered, number_beside-push, number_beside-present}
 use Rattle.rv_types.proofs.items_by_name.ItemsByName.add.Goals as goal

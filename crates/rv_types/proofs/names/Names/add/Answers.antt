@@ -1,6 +1,6 @@
 use Rattle.std.proofs.Common.{◌||◌, ◌∙◌, ℕ, List, Bor, ap, sym}
-use Rattle.rel_model.specs.Checking.{among}
-use Rattle.rel_model.specs.Tokens.{same_text}
+use Rattle.lang_model.specs.Checking.{among}
+use Rattle.lang_model.specs.Tokens.{same_text}
 use Rattle.rv_types.proofs.Naming.{at_error}
 use Rattle.rv_types.proofs.Sets.{among-texts, or-cond}
 use Rattle.rv_types.proofs.names.Names.add.Goals as goal

@@ -1,5 +1,5 @@
 use Rattle.std.proofs.Common.{◌||◌, ◌&&◌, ◌∙◌, ℕ, List, [], Bor, take, get_or, sym, ap}
-use Rattle.rel_model.specs.Checking.{among}
+use Rattle.lang_model.specs.Checking.{among}
 use Rattle.rv_types.proofs.Sets.{texts, among-took, shared-has, shared-lacks}
 use Rattle.rv_types.proofs.names.Names.add_shared.Goals as goal
 use Rattle.rv_types.proofs.names.Names.add_shared.Goals.{then-has+in_ok-add, else-has}

@@ -1,5 +1,5 @@
 use Rattle.std.proofs.Common.{◌≡◌, ◌||◌, ◌&&◌, ℕ, List, take}
-use Rattle.rel_model.specs.Checking.{among}
+use Rattle.lang_model.specs.Checking.{among}
 use Rattle.rv_types.proofs.Sets.{texts}
 use Rattle.rv_types.proofs.names.Names.add_shared.Given as goal
 

@@ -1,5 +1,5 @@
 use Rattle.std.proofs.Common.{◌∙◌, ap}
-use Rattle.rel_model.specs.Checking.{among}
+use Rattle.lang_model.specs.Checking.{among}
 use Rattle.rv_types.proofs.Sets.{among-texts}
 use Rattle.rv_types.proofs.names.Names.has.Goals as goal
 

@@ -1,0 +1,90 @@
+-- What the expression of a command comes to on a state: refused before anything is computed, or its meaning.
+use Rattle.std.specs.Prelude.{◌≡◌, ℕ, List, [], ◌∷◌, ◌++◌, Option, Some, None, option_map}
+use Rattle.std.specs.List.{AllByRecursion}
+use Rattle.lang_model.specs.declared.syntax.Place.{Place}
+use Rattle.lang_model.specs.declared.syntax.Expr.{
+  Expr,
+  Ref,
+  Call',
+  Base',
+  Inject,
+  Pair',
+  Minus',
+  Turned',
+  Chain',
+  Row_of-Expr,
+  end_of-Expr,
+  more_of-Expr,
+  Row_of-Link,
+  end_of-Link,
+  more_of-Link,
+}
+use Rattle.lang_model.specs.declared.syntax.Script.{Script}
+use Rattle.lang_model.specs.declared.faults.TypeFault.{TypeFault}
+use Rattle.lang_model.specs.declared.faults.TypeFault.TheVariants.{Unknown}
+use Rattle.rel_model.specs.Relation.{Relation}
+use Rattle.lang_model.specs.State.{State}
+use Rattle.lang_model.specs.Missing.{missing}
+use Rattle.lang_model.specs.Outcomes.{Came}
+use Rattle.lang_model.specs.Types.{Fits, Misfit, Typed, sizes}
+use Rattle.lang_model.specs.Shape.{Types, static_type}
+use Rattle.lang_model.specs.Mean.{meaning}
+
+-- an expression is refused ahead of all computing, or comes to what it means
+pub data Evaluated : Type 0 where
+  Ahead : TypeFault → Evaluated
+  Comes : Came Relation → Evaluated
+
+-- the types of the relations of a state
+abbrev pub types_in : State → Types
+types_in state name = option_map sizes (state name)
+
+-- a static fault comes before the meaning
+abbrev pub unless_misfit : Typed → Came Relation → Evaluated
+unless_misfit (Misfit fault) came = Ahead fault
+unless_misfit (Fits shape) came = Comes came
+
+-- an unknown name comes before both
+abbrev pub unless_missing : Option (Place × List ℕ) → Evaluated → Evaluated
+unless_missing (Some name) rest = Ahead (Unknown name.0 name.1)
+unless_missing None rest = rest
+
+-- the leftmost name that the state lacks, or the first static fault, or the meaning with so many turns
+unfoldable pub evaluated : Script → State → Expr → ℕ → Evaluated
+evaluated script state e turns =
+    unless_missing (missing state e)
+    (unless_misfit (static_type script (types_in state) e) (meaning script state e turns))
+
+-- ---- the names of an expression
+-- the relation names that an expression of a command uses, from the left, repeats kept
+abbrev mutual
+  -- those of an expression
+  pub names_in : Expr → List (List ℕ)
+  names_in (Ref at name) = name ∷ []
+  names_in (Call' at name shape args) = names_in_all args
+  names_in (Base' at base shape args) = names_in_all args
+  names_in (Inject at base domain) = []
+  names_in (Pair' at p left q right) = names_in left ++ names_in right
+  names_in (Minus' at p of) = names_in of
+  names_in (Turned' at p of times) = names_in of
+  names_in (Chain' p first shape rest) = names_in first ++ names_along rest
+
+  -- those of arguments
+  pub names_in_all : {m : _} → Row_of-Expr m → List (List ℕ)
+  names_in_all end_of-Expr = []
+  names_in_all (more_of-Expr e rest) = names_in e ++ names_in_all rest
+
+  -- those of the links of a chain
+  pub names_along : {m : _} → Row_of-Link m → List (List ℕ)
+  names_along end_of-Link = []
+  names_along (more_of-Link at op right rest) = names_in right ++ names_along rest
+
+-- two states have the same relations of these names
+abbrev pub AgreeOn : State → State → List (List ℕ) → Type 0
+AgreeOn s t = AllByRecursion (λ name. s name ≡ t name)
+
+-- what an expression comes to depends on the names alone that it uses
+abbrev pub EvaluatedByNames : Type 0
+EvaluatedByNames =
+    (script : Script) (s t : State) (e : Expr) (turns : ℕ)
+    → AgreeOn s t (names_in e) → evaluated script s e turns ≡ evaluated script t e turns

@@ -1,0 +1,306 @@
+-- The meaning of expressions, statements and calls of definitions on a state: a value and the turns that are left, or
+-- the first refusal, and how many nodes may be made on the way there. It recurses on how deep calls may stand in one
+-- another, on the text, and on the turns of each loop.
+use Rattle.std.specs.Prelude.{◌==◌, ◌&&◌, ◌+◌, ◌-◌, ◌*◌, ◌^◌, not, nat_lt, min, max, cond, zero, suc, ℕ, Bool, List, [], ◌∷◌, ◌++◌, length, Option, Some, None}
+use Rattle.lang_model.specs.declared.syntax.Place.{Place}
+use Rattle.lang_model.specs.declared.syntax.Op2.{Op2}
+use Rattle.lang_model.specs.declared.syntax.Op2.TheVariants.{Or, And, Times, Under, Over}
+use Rattle.lang_model.specs.declared.syntax.Base.{Base}
+use Rattle.lang_model.specs.declared.syntax.Base.TheVariants.{L, O, I, Ln1, On1, L1n, O1n, Dom, Ran, Trans, Refl, Epsi, Point, Atom, Init, Next, Inj, Empty, Unival, Syq, Eq, Incl, P1, P2, I1}
+use Rattle.lang_model.specs.declared.syntax.Expr.{Expr, Ref, Call', Base', Inject, Pair', Minus', Turned', Chain', Row_of-Expr, end_of-Expr, more_of-Expr, Row_of-Link, end_of-Link, more_of-Link}
+use Rattle.lang_model.specs.declared.syntax.Link.{Link}
+use Rattle.lang_model.specs.declared.syntax.Stmt.{Stmt, Set, While', If', Row_of-Stmt, end_of-Stmt, more_of-Stmt}
+use Rattle.lang_model.specs.declared.syntax.Decl.{Decl}
+use Rattle.lang_model.specs.declared.syntax.Decl.TheVariants.{Variable, Domain}
+use Rattle.lang_model.specs.declared.syntax.Item.{Item}
+use Rattle.lang_model.specs.declared.syntax.Item.TheVariants.{Function, Program, Command as COMMAND}
+use Rattle.lang_model.specs.declared.syntax.Script.{Script}
+use Rattle.lang_model.specs.declared.faults.TypeFault.TheVariants.{Unknown, Arity, Rank}
+use Rattle.rel_model.specs.Relation.{Relation, has, relation_of, size_limit}
+use Rattle.rel_model.specs.Cells.{some_below}
+use Rattle.rel_model.specs.Operators.{empty, full, union, inter, complement, transposed_by, compose, right_residual, left_residual, identity, symmetric_quotient}
+use Rattle.rel_model.specs.Choice.{point, atom, init, next, dom, ran, is_unival, inj}
+use Rattle.rel_model.specs.Closures.{transitive_closure, reflexive_closure}
+use Rattle.rel_model.specs.Domains.{first_projection, second_projection, left_injection, right_injection, membership, pairing}
+use Rattle.rel_model.specs.Worker.{derived_room, wide_room}
+use Rattle.lang_model.specs.State.{State, nothing, assigned}
+use Rattle.lang_model.specs.Checking.{rank_limit, domain_operator_text}
+use Rattle.lang_model.specs.Tokens.{same_text}
+use Rattle.lang_model.specs.Defining.{defines}
+use Rattle.lang_model.specs.Rooms.{tree_cost, link_cost}
+use Rattle.lang_model.specs.Outcomes.{Ill, Size, Turns, no_cost, Came, got, refused, and_then, Operation, Makes, Refuses, with_turns}
+use Rattle.lang_model.specs.Types.{Typed, Fits, Misfit, sizes, typed_link, typed_pair, typed_base, typed_base_of_two, typed_test}
+
+-- ---- single operations
+-- what an operator makes of two relations
+abbrev pub result_of_both : Op2 → Relation → Relation → Relation
+result_of_both Or r s = union r s
+result_of_both And r s = inter r s
+result_of_both Times r s = compose r s
+result_of_both Under r s = right_residual r s
+result_of_both Over r s = left_residual r s
+
+-- a test of types comes first
+abbrev pub fitting : Typed → Operation → Operation
+fitting (Fits shape) made = made
+fitting (Misfit fault) made = Refuses (Ill fault)
+
+-- and then the size of the result; a size that is told ends at 2 ^ 64 - 1
+abbrev pub limited : Place → ℕ → Operation → Operation
+limited at wanted made = cond (nat_lt size_limit wanted) (Refuses (Size at (min wanted (2 ^ 64 - 1)))) made
+
+-- an operator between two relations
+unfoldable pub linked : Place → Op2 → Relation → Relation → Operation
+linked at op r s = fitting (typed_link at op (sizes r) (sizes s)) (Makes (result_of_both op r s) (link_cost op r s))
+
+-- the complement: the full relation and a difference
+unfoldable pub complemented : Relation → Operation
+complemented r = Makes (complement r) (λ leaf. tree_cost r.rows r.cols leaf + tree_cost r.rows r.cols leaf)
+
+-- so many transpositions, of which one at most is made
+unfoldable pub turned : ℕ → Relation → Operation
+turned times r = Makes (transposed_by times r) (tree_cost r.rows r.cols)
+
+-- the pairing
+unfoldable pub paired : Place → Relation → Relation → Operation
+paired at r s =
+    fitting (typed_pair at (sizes r) (sizes s))
+    (limited at (r.cols * s.cols) (Makes (pairing r s) (λ leaf. wide_room r.rows (max r.cols s.cols) (r.cols * s.cols))))
+
+-- a relation of one row and one column, full for yes
+unfoldable pub answer_of_test : Bool → Relation
+answer_of_test b = relation_of 1 1 (λ i j. b)
+
+-- whether each pair of the first is in the second
+abbrev pub is_within : Relation → Relation → Bool
+is_within r s = not (some_below r.rows (λ i. some_below r.cols (λ j. has r i j && not (has s i j))))
+
+-- whether there is no pair
+abbrev pub is_empty : Relation → Bool
+is_empty r = not (some_below r.rows (λ i. some_below r.cols (λ j. has r i j)))
+
+-- the value and the cost of a base call of one operand that fits; no text spells such a call of any other base name
+abbrev pub base_made : Base → Relation → Operation
+base_made L r = Makes (full r.rows r.cols) (tree_cost r.rows r.cols)
+base_made O r = Makes (empty r.rows r.cols) no_cost
+base_made I r = Makes (identity r.rows) (tree_cost r.rows r.rows)
+base_made Ln1 r = Makes (full r.rows 1) (tree_cost r.rows 1)
+base_made On1 r = Makes (empty r.rows 1) no_cost
+base_made L1n r = Makes (full 1 r.cols) (tree_cost 1 r.cols)
+base_made O1n r = Makes (empty 1 r.cols) no_cost
+base_made Dom r = Makes (dom r) (λ leaf. derived_room r.rows r.cols 1)
+base_made Ran r = Makes (ran r) (λ leaf. derived_room r.rows r.cols 1)
+base_made Trans r = Makes (transitive_closure r) (λ leaf. derived_room r.rows r.rows r.rows)
+base_made Refl r = Makes (reflexive_closure r) (λ leaf. wide_room r.rows r.rows r.rows)
+base_made Epsi r = Makes (membership r.rows) (tree_cost r.rows (2 ^ r.rows))
+base_made Point r = Makes (point r) (λ leaf. derived_room r.rows 1 1)
+base_made Atom r = Makes (atom r) (λ leaf. derived_room r.rows r.cols 1)
+base_made Init r = Makes (init r) (λ leaf. derived_room r.rows 1 1)
+base_made Next r = Makes (next r) (λ leaf. derived_room r.rows 1 1)
+base_made Inj r = Makes (inj r) (tree_cost r.rows r.cols)
+base_made Empty r = Makes (answer_of_test (is_empty r)) (tree_cost 1 1)
+base_made Unival r = Makes (answer_of_test (is_unival r)) (tree_cost 1 1)
+base_made _ r = Makes (empty 0 0) no_cost
+
+-- the size that a base call of one operand computes: that of a power set, and all others compute none
+abbrev pub base_wants : Base → Relation → ℕ
+base_wants Epsi r = 2 ^ r.rows
+base_wants _ r = 0
+
+-- those of two operands; no text spells such a call of any other base name
+abbrev pub base_made_of_two : Base → Relation → Relation → Operation
+base_made_of_two Syq r s = Makes (symmetric_quotient r s) (λ leaf. wide_room r.rows r.cols s.cols)
+base_made_of_two Eq r s = Makes (answer_of_test (is_within r s && is_within s r)) (tree_cost 1 1)
+base_made_of_two Incl r s = Makes (answer_of_test (is_within r s)) (λ leaf. tree_cost r.rows r.cols leaf + tree_cost 1 1 leaf)
+base_made_of_two _ r s = Makes (empty 0 0) no_cost
+
+-- a base call of these operands; no text spells one of none or of more than two
+unfoldable pub based : Place → Base → List Relation → Operation
+based at base [] = Makes (empty 0 0) no_cost
+based at base (r ∷ []) = fitting (typed_base at base (sizes r)) (limited at (base_wants base r) (base_made base r))
+based at base (r ∷ s ∷ []) = fitting (typed_base_of_two at base (sizes r) (sizes s)) (base_made_of_two base r s)
+based at base (r ∷ s ∷ t ∷ ts) = Makes (empty 0 0) no_cost
+
+-- a domain operator of domains of x and of y elements: the last line is that of i-2, and no text spells any other
+abbrev pub domain_made : Place → Base → ℕ → ℕ → Operation
+domain_made at P1 x y = limited at (x * y) (Makes (first_projection x y) (tree_cost (x * y) x))
+domain_made at P2 x y = limited at (x * y) (Makes (second_projection x y) (tree_cost (x * y) y))
+domain_made at I1 x y = limited at (x + y) (Makes (left_injection x y) (tree_cost x (x + y)))
+domain_made at _ x y = limited at (x + y) (Makes (right_injection x y) (tree_cost y (x + y)))
+
+-- the two names of a declared domain
+abbrev pub domain_named : List Decl → List ℕ → Option (List ℕ × List ℕ)
+domain_named [] name = None
+domain_named (Variable at own ∷ decls) name = domain_named decls name
+domain_named (Domain at own sum left right ∷ decls) name =
+    cond (same_text own name) (Some (left, right)) (domain_named decls name)
+
+-- a domain operator, where the domain is declared and its two names have relations: their rows are the two sizes
+abbrev pub injected_of : Place → Base → Option Relation → Option Relation → Operation
+injected_of at base (Some a) (Some b) = domain_made at base a.rows b.rows
+injected_of at base _ _ = Refuses (Ill (Unknown at (domain_operator_text base)))
+
+abbrev pub injected_by : State → Place → Base → Option (List ℕ × List ℕ) → Operation
+injected_by state at base None = Refuses (Ill (Unknown at (domain_operator_text base)))
+injected_by state at base (Some names) = injected_of at base (state names.0) (state names.1)
+
+-- the relation of a name
+abbrev pub named : Place → List ℕ → Option Relation → Operation
+named at name None = Refuses (Ill (Unknown at name))
+named at name (Some r) = Makes r no_cost
+
+-- whether the value of a test is full, where it is a test
+abbrev pub where_fitting : Typed → Bool → ℕ → Came Bool
+where_fitting (Fits shape) b n = got b n
+where_fitting (Misfit fault) b n = refused (Ill fault)
+
+abbrev pub tested : Place → Relation → ℕ → Came Bool
+tested at r n = where_fitting (typed_test at (sizes r)) (has r 0 0) n
+
+-- ---- expressions
+-- what a call means: at a place, of a name, with these arguments and so many turns left
+abbrev pub Calls : Type 0
+Calls = Place → List ℕ → List Relation → ℕ → Came Relation
+
+-- what an expression stands in: what calls mean there, and the declarations of its program
+pub record Around : Type 0 where
+  pub calls : Calls
+  pub decls : List Decl
+
+abbrev pub around_with : Calls → List Decl → Around
+around_with calls decls = record { calls = calls; decls = decls }
+
+-- the meaning of an expression, with so many turns left: operands from the left, and then the operator
+abbrev mutual
+  -- that of an expression
+  pub mean : Around → State → Expr → ℕ → Came Relation
+  mean around state (Ref at name) n = with_turns (named at name (state name)) n
+  mean around state (Call' at name shape args) n =
+      and_then (means around state [] args n) (λ values m. around.calls at name values m)
+  mean around state (Base' at base shape args) n =
+      and_then (means around state [] args n) (λ values m. with_turns (based at base values) m)
+  mean around state (Inject at base domain) n =
+      with_turns (injected_by state at base (domain_named around.decls domain)) n
+  mean around state (Pair' at p left q right) n =
+      and_then (mean around state left n)
+      (λ r m. and_then (mean around state right m) (λ s k. with_turns (paired at r s) k))
+  mean around state (Minus' at p of) n = and_then (mean around state of n) (λ r m. with_turns (complemented r) m)
+  mean around state (Turned' at p of times) n = and_then (mean around state of n) (λ r m. with_turns (turned times r) m)
+  mean around state (Chain' p first shape rest) n =
+      and_then (mean around state first n) (λ r m. mean_along around state r rest m)
+
+  -- that of arguments, from the left; the values so far are given
+  pub means : Around → State → List Relation → {m : _} → Row_of-Expr m → ℕ → Came (List Relation)
+  means around state values end_of-Expr n = got values n
+  means around state values (more_of-Expr e rest) n =
+      and_then (mean around state e n) (λ r m. means around state (values ++ r ∷ []) rest m)
+
+  -- that of the links of a chain, whose value so far is given
+  pub mean_along : Around → State → Relation → {m : _} → Row_of-Link m → ℕ → Came Relation
+  mean_along around state r end_of-Link n = got r n
+  mean_along around state r (more_of-Link at op right rest) n =
+      and_then (mean around state right n)
+      (λ s m. and_then (with_turns (linked at op r s) m) (λ t k. mean_along around state t rest k))
+
+-- the same of a list of arguments, and of a list of links
+abbrev pub means_by : Around → State → List Relation → List Expr → ℕ → Came (List Relation)
+means_by around state values [] n = got values n
+means_by around state values (e ∷ es) n =
+    and_then (mean around state e n) (λ r m. means_by around state (values ++ r ∷ []) es m)
+
+abbrev pub mean_by : Around → State → Relation → List Link → ℕ → Came Relation
+mean_by around state r [] n = got r n
+mean_by around state r (l ∷ ls) n =
+    and_then (mean around state l.right n)
+    (λ s m. and_then (with_turns (linked l.at l.op r s) m) (λ t k. mean_by around state t ls k))
+
+-- ---- loops
+-- a turn of a loop, and what comes after it: with no turn left it is refused
+abbrev pub one_turn : Place → (State → ℕ → Came State) → (State → ℕ → Came State) → State → ℕ → Came State
+one_turn at body next state zero = refused (Turns at)
+one_turn at body next state (suc n) = and_then (body state n) next
+
+-- the test of a loop; where it is full, a turn
+abbrev pub round :
+    Place → (State → ℕ → Came Bool) → (State → ℕ → Came State) → (State → ℕ → Came State) → State → ℕ → Came State
+round at test body next state n = and_then (test state n) (λ b m. cond b (one_turn at body next state m) (got state m))
+
+-- so many rounds at most; a loop with n turns left has no more than n + 1
+abbrev pub rounds : Place → (State → ℕ → Came Bool) → (State → ℕ → Came State) → ℕ → State → ℕ → Came State
+rounds at test body zero state n = refused (Turns at)
+rounds at test body (suc k) state n = round at test body (rounds at test body k) state n
+
+-- WHILE test DO body OD
+abbrev pub looped : Place → (State → ℕ → Came Bool) → (State → ℕ → Came State) → State → ℕ → Came State
+looped at test body state n = rounds at test body (suc n) state n
+
+-- ---- statements
+-- the test of a WHILE or an IF
+abbrev pub mean_test : Around → Place → Expr → State → ℕ → Came Bool
+mean_test around at test state n = and_then (mean around state test n) (tested at)
+
+-- the state behind statements, and the turns that they leave
+abbrev mutual
+  -- behind a statement
+  pub run : Around → Stmt → State → ℕ → Came State
+  run around (Set at name value) state n = and_then (mean around state value n) (λ r m. got (assigned name r state) m)
+  run around (While' at test s body) state n = looped at (mean_test around at test) (run_within around body) state n
+  run around (If' at test s first t second) state n =
+      and_then (mean_test around at test state n)
+      (λ b m. cond b (run_within around first state m) (run_within around second state m))
+
+  -- behind a list of statements
+  pub run_within : Around → {m : _} → Row_of-Stmt m → State → ℕ → Came State
+  run_within around end_of-Stmt state n = got state n
+  run_within around (more_of-Stmt s rest) state n = and_then (run around s state n) (λ t m. run_within around rest t m)
+
+-- the same of a list of statements
+abbrev pub run_by : Around → List Stmt → State → ℕ → Came State
+run_by around [] state n = got state n
+run_by around (s ∷ ss) state n = and_then (run around s state n) (λ t m. run_by around ss t m)
+
+-- ---- definitions
+-- parameters with their values
+abbrev pub bound_first : List ℕ → (List Relation → State) → List Relation → State
+bound_first p rest [] = nothing
+bound_first p rest (v ∷ vs) = assigned p v (rest vs)
+
+abbrev pub bound : List (List ℕ) → List Relation → State
+bound [] = λ vs. nothing
+bound (p ∷ ps) = bound_first p (bound ps)
+
+-- the first item that defines a name
+abbrev pub item_named : List Item → List ℕ → Option Item
+item_named [] name = None
+item_named (item ∷ items) name = cond (defines name item) (Some item) (item_named items name)
+
+-- a definition with its parameters bound, inside which calls have this meaning
+abbrev pub body_of : Calls → List Relation → Item → ℕ → Came Relation
+body_of calls values (Function at name params body) n = mean (around_with calls []) (bound params.items values) body n
+body_of calls values (Program at name params decls body result) n =
+    let around = around_with calls decls.items in
+    and_then (run_by around body.items (bound params.items values) n) (λ state m. mean around state result m)
+body_of calls values (COMMAND command) n = got (empty 0 0) n
+
+-- how many parameters a definition has
+abbrev pub takes_arguments : Item → ℕ
+takes_arguments (Function at name params body) = length params.items
+takes_arguments (Program at name params decls body result) = length params.items
+takes_arguments (COMMAND command) = 0
+
+-- a call of a definition that takes as many arguments
+abbrev pub called : Calls → Place → List ℕ → Option Item → List Relation → ℕ → Came Relation
+called calls at name None values n = refused (Ill (Unknown at name))
+called calls at name (Some item) values n =
+    cond (takes_arguments item == length values) (body_of calls values item n)
+    (refused (Ill (Arity at name (takes_arguments item) (length values))))
+
+-- what calls mean where at most so many definitions may stand in one another
+abbrev pub calls_within : List Item → ℕ → Calls
+calls_within items zero at name values n = refused (Ill (Rank at name))
+calls_within items (suc rank) at name values n =
+    called (calls_within items rank) at name (item_named items name) values n
+
+-- the meaning of an expression of a command
+abbrev pub meaning : Script → State → Expr → ℕ → Came Relation
+meaning script state e n = mean (around_with (calls_within script.items.items rank_limit) []) state e n

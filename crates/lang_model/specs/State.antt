@@ -1,0 +1,26 @@
+-- The workspace: which relation a name has.
+use Rattle.std.specs.Prelude.{◌==◌, ◌&&◌, ◌+◌, ℕ, Bool, cond, List, Option, Some, None}
+use Rattle.std.specs.List.{list_any}
+use Rattle.lang_model.specs.declared.syntax.Row.{Row}
+use Rattle.rel_model.specs.Relation.{Relation}
+use Rattle.lang_model.specs.Tokens.{same_text}
+
+-- the relation of each name that has one
+abbrev pub State : Type 0
+State = List ℕ → Option Relation
+
+-- the workspace in which no name has a relation
+unfoldable pub nothing : State
+nothing name = None
+
+-- the state in which this name has this relation
+unfoldable pub assigned : List ℕ → Relation → State → State
+assigned name r state = λ n. cond (same_text name n) (Some r) (state n)
+
+-- the state without this name
+unfoldable pub removed : List ℕ → State → State
+removed name state = λ n. cond (same_text name n) None (state n)
+
+-- whether the rows list the pair (i, j); rows and columns are listed from 1, and pairs count from 0
+unfoldable pub lists : List Row → ℕ → ℕ → Bool
+lists rows i j = list_any (λ r. (r.row == i + 1) && list_any (λ c. c.col == j + 1) r.cols.items) rows

@@ -1,0 +1,185 @@
+-- The types of operators and base calls. A size is known or not; where all sizes of the operands are known, these are
+-- the tests that evaluation makes.
+use Rattle.std.specs.Prelude.{◌==◌, ◌&&◌, ◌+◌, ◌*◌, ◌^◌, nat_lt, cond, zero, suc, ℕ, Bool, true, List, codes, Option, Some, None}
+use Rattle.lang_model.specs.declared.syntax.Place.{Place}
+use Rattle.lang_model.specs.declared.syntax.Op2.{Op2}
+use Rattle.lang_model.specs.declared.syntax.Op2.TheVariants.{Or, And, Times, Under, Over}
+use Rattle.lang_model.specs.declared.syntax.Base.{Base}
+use Rattle.lang_model.specs.declared.syntax.Base.TheVariants.{L, O, I, Ln1, On1, L1n, O1n, Dom, Ran, Trans, Refl, Epsi, Point, Atom, Init, Next, Inj, Empty, Unival, Syq, Eq, Incl, P1, P2, I1, I2}
+use Rattle.lang_model.specs.declared.faults.TypeFault.{TypeFault}
+use Rattle.lang_model.specs.declared.faults.TypeFault.TheVariants.{Mismatch, NotSquare, NotVector, NotTest}
+use Rattle.lang_model.specs.declared.faults.StaticShape.{StaticShape}
+use Rattle.rel_model.specs.Relation.{Relation, size_limit}
+use Rattle.lang_model.specs.Missing.{first_of_both}
+
+-- what a test comes to: what passes, or the fault
+pub data Passed (T : Type 0) : Type 0 where
+  Fits : T → Passed T
+  Misfit : TypeFault → Passed T
+
+-- the type of an operation
+abbrev pub Typed : Type 0
+Typed = Passed StaticShape
+
+-- sizes that are known
+abbrev pub known : ℕ → ℕ → StaticShape
+known m n = record { rows = Some m; cols = Some n }
+
+-- the type of a relation
+abbrev pub sizes : Relation → StaticShape
+sizes r = known r.rows r.cols
+
+-- a type with these sizes, where they are known
+abbrev pub type_of : Option ℕ → Option ℕ → StaticShape
+type_of m n = record { rows = m; cols = n }
+
+-- a test between two sizes: it fails exactly where both are known and differ
+abbrev pub agree : Option ℕ → Option ℕ → Bool
+agree (Some m) (Some n) = m == n
+agree (Some m) None = true
+agree None n = true
+
+-- a test on one size
+abbrev pub may_be : ℕ → Option ℕ → Bool
+may_be n m = agree m (Some n)
+
+-- a size that is computed from one or two sizes: known where they are, and where it is within the limit
+abbrev pub within_limit : ℕ → Option ℕ
+within_limit n = cond (nat_lt size_limit n) None (Some n)
+
+abbrev pub computed : (ℕ → ℕ) → Option ℕ → Option ℕ
+computed f None = None
+computed f (Some m) = within_limit (f m)
+
+abbrev pub computed_of_two : (ℕ → ℕ → ℕ) → Option ℕ → Option ℕ → Option ℕ
+computed_of_two f None n = None
+computed_of_two f (Some m) n = computed (f m) n
+
+-- ---- operators between two
+-- how an operator is written
+abbrev pub spelling : Op2 → List ℕ
+spelling Or = codes "|"
+spelling And = codes "&"
+spelling Times = codes "*"
+spelling Under = codes "\\"
+spelling Over = codes "/"
+
+-- whether an operator takes operands of these types
+abbrev pub takes : Op2 → StaticShape → StaticShape → Bool
+takes Or s t = agree s.rows t.rows && agree s.cols t.cols
+takes And s t = agree s.rows t.rows && agree s.cols t.cols
+takes Times s t = agree s.cols t.rows
+takes Under s t = agree s.rows t.rows
+takes Over s t = agree s.cols t.cols
+
+-- the type of its result
+abbrev pub type_of_link : Op2 → StaticShape → StaticShape → StaticShape
+type_of_link Or s t = type_of (first_of_both s.rows t.rows) (first_of_both s.cols t.cols)
+type_of_link And s t = type_of (first_of_both s.rows t.rows) (first_of_both s.cols t.cols)
+type_of_link Times s t = type_of s.rows t.cols
+type_of_link Under s t = type_of s.cols t.cols
+type_of_link Over s t = type_of s.rows t.rows
+
+-- R | S, R & S, R * S, R \ S, R / S
+abbrev pub typed_link : Place → Op2 → StaticShape → StaticShape → Typed
+typed_link at op s t = cond (takes op s t) (Fits (type_of_link op s t)) (Misfit (Mismatch at (spelling op) s t))
+
+-- [R, S]: as many rows; the columns are multiplied
+abbrev pub typed_pair : Place → StaticShape → StaticShape → Typed
+typed_pair at s t =
+    cond (agree s.rows t.rows)
+    (Fits (type_of (first_of_both s.rows t.rows) (computed_of_two (λ n q. n * q) s.cols t.cols)))
+    (Misfit (Mismatch at (codes "[") s t))
+
+-- ---- transposition
+abbrev pub type_turned : StaticShape → StaticShape
+type_turned s = type_of s.cols s.rows
+
+abbrev pub type_turned_by : ℕ → StaticShape → StaticShape
+type_turned_by zero s = s
+type_turned_by (suc n) s = type_turned (type_turned_by n s)
+
+-- ---- base calls
+-- how a base name is written
+abbrev pub base_text : Base → List ℕ
+base_text L = codes "L"
+base_text O = codes "O"
+base_text I = codes "I"
+base_text Ln1 = codes "Ln1"
+base_text On1 = codes "On1"
+base_text L1n = codes "L1n"
+base_text O1n = codes "O1n"
+base_text Dom = codes "dom"
+base_text Ran = codes "ran"
+base_text Trans = codes "trans"
+base_text Refl = codes "refl"
+base_text Epsi = codes "epsi"
+base_text Point = codes "point"
+base_text Atom = codes "atom"
+base_text Init = codes "init"
+base_text Next = codes "next"
+base_text Inj = codes "inj"
+base_text Empty = codes "empty"
+base_text Unival = codes "unival"
+base_text Syq = codes "syq"
+base_text Eq = codes "eq"
+base_text Incl = codes "incl"
+base_text P1 = codes "p-1"
+base_text P2 = codes "p-2"
+base_text I1 = codes "i-1"
+base_text I2 = codes "i-2"
+
+-- the operand is square: the type has the known one of its sizes twice
+abbrev pub square : Place → Base → StaticShape → Typed
+square at base s =
+    cond (agree s.rows s.cols) (let n = first_of_both s.rows s.cols in Fits (type_of n n))
+    (Misfit (NotSquare at (base_text base) s))
+
+-- the operand has one column
+abbrev pub vector : Place → Base → StaticShape → StaticShape → Typed
+vector at base s t = cond (may_be 1 s.cols) (Fits t) (Misfit (NotVector at (base_text base) s))
+
+-- a base call of one operand; no text spells such a call of any other base name
+abbrev pub typed_base : Place → Base → StaticShape → Typed
+typed_base at L s = Fits s
+typed_base at O s = Fits s
+typed_base at I s = square at I s
+typed_base at Ln1 s = Fits (type_of s.rows (Some 1))
+typed_base at On1 s = Fits (type_of s.rows (Some 1))
+typed_base at L1n s = Fits (type_of (Some 1) s.cols)
+typed_base at O1n s = Fits (type_of (Some 1) s.cols)
+typed_base at Dom s = Fits (type_of s.rows (Some 1))
+typed_base at Ran s = Fits (type_of s.cols (Some 1))
+typed_base at Trans s = square at Trans s
+typed_base at Refl s = square at Refl s
+typed_base at Epsi s = vector at Epsi s (type_of s.rows (computed (λ m. 2 ^ m) s.rows))
+typed_base at Point s = vector at Point s (type_of s.rows (Some 1))
+typed_base at Atom s = Fits s
+typed_base at Init s = vector at Init s (type_of s.rows (Some 1))
+typed_base at Next s = vector at Next s (type_of s.rows (Some 1))
+typed_base at Inj s = vector at Inj s (type_of None s.rows)
+typed_base at Empty s = Fits (known 1 1)
+typed_base at Unival s = Fits (known 1 1)
+typed_base at _ s = Fits (known 0 0)
+
+-- a base call of two operands; no text spells such a call of any other base name
+abbrev pub typed_base_of_two : Place → Base → StaticShape → StaticShape → Typed
+typed_base_of_two at Syq s t =
+    cond (agree s.rows t.rows) (Fits (type_of s.cols t.cols)) (Misfit (Mismatch at (base_text Syq) s t))
+typed_base_of_two at Eq s t =
+    cond (agree s.rows t.rows && agree s.cols t.cols) (Fits (known 1 1)) (Misfit (Mismatch at (base_text Eq) s t))
+typed_base_of_two at Incl s t =
+    cond (agree s.rows t.rows && agree s.cols t.cols) (Fits (known 1 1)) (Misfit (Mismatch at (base_text Incl) s t))
+typed_base_of_two at _ s t = Fits (known 0 0)
+
+-- the domain operators of domains of x and of y elements: the last line is that of i-2, and no text spells any other
+abbrev pub type_of_domain : Base → Option ℕ → Option ℕ → StaticShape
+type_of_domain P1 x y = type_of (computed_of_two (λ m n. m * n) x y) x
+type_of_domain P2 x y = type_of (computed_of_two (λ m n. m * n) x y) y
+type_of_domain I1 x y = type_of x (computed_of_two (λ m n. m + n) x y)
+type_of_domain _ x y = type_of y (computed_of_two (λ m n. m + n) x y)
+
+-- ---- tests
+-- the test of a WHILE or an IF has one row and one column
+abbrev pub typed_test : Place → StaticShape → Typed
+typed_test at s = cond (may_be 1 s.rows && may_be 1 s.cols) (Fits s) (Misfit (NotTest at s))

@@ -1,0 +1,9 @@
+//! The language: its trees and tokens, its grammar and faults, what its expressions mean, and what they cost.
+#![tactic(auto)]
+
+pub mod faults;
+pub mod laws;
+pub mod syntax;
+#[cfg(test)]
+mod tests;
+pub mod token;

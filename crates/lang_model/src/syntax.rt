@@ -1,0 +1,342 @@
+//! Scripts as trees. Each place is that of the name, number or sign beside it.
+ghost use Rattle.std.specs.Prelude.{◌≡◌, ◌≤◌, length, IfOk};
+
+use rel_model::NoMemory;
+use std::alloc::Global;
+use std::marker::Model;
+
+/// A place in a text: line and column, both counted from 1, a column in bytes.
+#[derive(Clone, Copy, Debug, PartialEq, Eq)]
+pub struct Place {
+    pub line: u32,
+    pub column: u32,
+}
+
+/// A name of 1 to 64 bytes.
+#[derive(Drop)]
+pub struct Name {
+    bytes: Vec<u8>,
+}
+
+impl Model for Name {
+    ghost use Rattle.std.specs.Prelude.{List, ℕ, length, ◌≤◌};
+
+    ghost Value = { List ℕ };
+
+    ghost view = { λ n. n.bytes.items };
+
+    ghost invariant = { λ n. (1 ≤ length n.bytes.items) × (length n.bytes.items ≤ 64) };
+}
+
+impl Name {
+    /// The name with these bytes.
+    pub fn new(alloc: Global, bytes: &[u8]) -> Result<Name, NoMemory>
+        requires { (1 ≤ length bytes.now) × (length bytes.now ≤ 64) }
+        ensures { IfOk result (λ n. n ≡ bytes.now) }
+    {
+        let bytes = Vec::from_slice(alloc, bytes)?;
+        Ok(Name { bytes })
+    }
+
+    /// The same name once more.
+    pub fn copied(&self, alloc: Global) -> Result<Name, NoMemory>
+        ensures { IfOk result (λ n. n ≡ self.now) }
+    {
+        Name::new(alloc, self.bytes.as_slice())
+    }
+
+    /// Its bytes.
+    pub fn bytes(&self) -> &[u8]
+        ensures { result.now ≡ self.now }
+    {
+        self.bytes.as_slice()
+    }
+}
+
+/// The text of a file's name, of 1 to 255 bytes.
+#[derive(Drop)]
+pub struct FileText {
+    bytes: Vec<u8>,
+}
+
+impl Model for FileText {
+    ghost use Rattle.std.specs.Prelude.{List, ℕ, length, ◌≤◌};
+
+    ghost Value = { List ℕ };
+
+    ghost view = { λ n. n.bytes.items };
+
+    ghost invariant = { λ n. (1 ≤ length n.bytes.items) × (length n.bytes.items ≤ 255) };
+}
+
+impl FileText {
+    /// The text with these bytes.
+    pub fn new(alloc: Global, bytes: &[u8]) -> Result<FileText, NoMemory>
+        requires { (1 ≤ length bytes.now) × (length bytes.now ≤ 255) }
+        ensures { IfOk result (λ n. n ≡ bytes.now) }
+    {
+        let bytes = Vec::from_slice(alloc, bytes)?;
+        Ok(FileText { bytes })
+    }
+
+    /// The same text once more.
+    pub fn copied(&self, alloc: Global) -> Result<FileText, NoMemory>
+        ensures { IfOk result (λ n. n ≡ self.now) }
+    {
+        FileText::new(alloc, self.bytes.as_slice())
+    }
+
+    /// Its bytes.
+    pub fn bytes(&self) -> &[u8]
+        ensures { result.now ≡ self.now }
+    {
+        self.bytes.as_slice()
+    }
+}
+
+/// The base names, and the four domain operators behind them.
+#[derive(Clone, Copy, Debug, PartialEq, Eq)]
+pub enum Base {
+    L,
+    O,
+    I,
+    Ln1,
+    On1,
+    L1n,
+    O1n,
+    Dom,
+    Ran,
+    Trans,
+    Refl,
+    Epsi,
+    Point,
+    Atom,
+    Init,
+    Next,
+    Inj,
+    Empty,
+    Unival,
+    Syq,
+    Eq,
+    Incl,
+    P1,
+    P2,
+    I1,
+    I2,
+}
+
+/// The operators of chains: `|`, `&`, `*`, `\` and `/`.
+#[derive(Clone, Copy, Debug, PartialEq, Eq)]
+pub enum Op2 {
+    Or,
+    And,
+    Times,
+    Under,
+    Over,
+}
+
+/// An expression. Parentheses make no node.
+#[cycle(expr)]
+#[derive(Drop)]
+pub enum Expr {
+    /// A relation's name, a parameter or a variable.
+    Ref {
+        at: Place,
+        name: Name,
+    },
+    /// A call of a definition.
+    Call {
+        at: Place,
+        name: Name,
+        args: Vec<Expr>,
+    },
+    /// A call of a base name.
+    Base {
+        at: Place,
+        base: Base,
+        args: Vec<Expr>,
+    },
+    /// A projection or an injection of a declared domain.
+    Inject {
+        at: Place,
+        base: Base,
+        domain: Name,
+    },
+    /// `[left, right]`.
+    Pair {
+        at: Place,
+        left: Box<Expr>,
+        right: Box<Expr>,
+    },
+    /// `-of`.
+    Minus {
+        at: Place,
+        of: Box<Expr>,
+    },
+    /// `of^`, with so many `^`.
+    Turned {
+        at: Place,
+        of: Box<Expr>,
+        times: u32,
+    },
+    /// Two or more operands of one level of precedence, read from the left.
+    Chain {
+        first: Box<Expr>,
+        rest: Vec<Link>,
+    },
+}
+
+/// An operator of a chain and its right operand.
+#[cycle(expr)]
+#[derive(Drop)]
+pub struct Link {
+    pub at: Place,
+    pub op: Op2,
+    pub right: Expr,
+}
+
+/// A declaration of a program.
+#[derive(Drop)]
+pub enum Decl {
+    /// A variable.
+    Variable {
+        at: Place,
+        name: Name,
+    },
+    /// A sum or product of the domains of two parameters.
+    Domain {
+        at: Place,
+        name: Name,
+        sum: bool,
+        left: Name,
+        right: Name,
+    },
+}
+
+/// A statement of a program.
+#[derive(Drop)]
+pub enum Stmt {
+    /// `name = value`.
+    Set {
+        at: Place,
+        name: Name,
+        value: Expr,
+    },
+    /// `WHILE test DO body OD`.
+    While {
+        at: Place,
+        test: Expr,
+        body: Vec<Stmt>,
+    },
+    /// `IF test THEN yes ELSE no FI`.
+    If {
+        at: Place,
+        test: Expr,
+        yes: Vec<Stmt>,
+        no: Vec<Stmt>,
+    },
+}
+
+/// A column of a listed row.
+#[derive(Clone, Copy, Debug, PartialEq, Eq)]
+pub struct Column {
+    pub col: u64,
+    pub at: Place,
+}
+
+/// A row of a listed relation.
+#[derive(Drop)]
+pub struct Row {
+    pub row: u64,
+    pub at: Place,
+    pub cols: Vec<Column>,
+}
+
+/// A command.
+#[derive(Drop)]
+pub enum Command {
+    /// `REL name rows cols { list }`.
+    Relation {
+        name: Name,
+        rows: u64,
+        rows_at: Place,
+        cols: u64,
+        cols_at: Place,
+        list: Vec<Row>,
+    },
+    /// `LET name = value`.
+    Let {
+        name: Name,
+        value: Expr,
+    },
+    /// `PRINT value`.
+    Print {
+        value: Expr,
+    },
+    /// `LIST value`.
+    List {
+        value: Expr,
+    },
+    /// `COUNT value`.
+    Count {
+        value: Expr,
+    },
+    /// `TYPE value`.
+    Typed {
+        value: Expr,
+    },
+    /// `DROP name`.
+    Remove {
+        at: Place,
+        name: Name,
+    },
+    /// `SNAP name`.
+    Snap {
+        name: Name,
+    },
+    /// `AT name PRINT value`.
+    At {
+        at: Place,
+        name: Name,
+        value: Expr,
+    },
+    /// `LOAD name "file"`.
+    Load {
+        name: Name,
+        file: FileText,
+    },
+    /// `SAVE value "file"`.
+    Save {
+        value: Expr,
+        file: FileText,
+    },
+}
+
+/// An item of a script.
+#[derive(Drop)]
+pub enum Item {
+    /// `name(params) = body`.
+    Function {
+        at: Place,
+        name: Name,
+        params: Vec<Name>,
+        body: Expr,
+    },
+    /// `name(params) DECL decls BEG body RETURN result END`.
+    Program {
+        at: Place,
+        name: Name,
+        params: Vec<Name>,
+        decls: Vec<Decl>,
+        body: Vec<Stmt>,
+        result: Expr,
+    },
+    /// A command.
+    Command(Command),
+}
+
+/// A script.
+#[derive(Drop)]
+pub struct Script {
+    pub items: Vec<Item>,
+}

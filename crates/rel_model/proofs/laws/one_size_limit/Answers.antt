@@ -1,0 +1,7 @@
+use Rattle.std.proofs.Common.{refl}
+use Rattle.rel_model.specs.Trees.{top_height}
+use Rattle.rel_model.proofs.laws.one_size_limit.Goals as goal
+
+pub returns-clause-side : goal.returns-clause-side
+unfolding top_height
+returns-clause-side c = refl

@@ -1,0 +1,22 @@
+//! Events of the workspace.
+use lang_model::syntax::Name;
+use rel_model::Rel;
+
+/// What an event does to the workspace.
+#[derive(Drop)]
+pub enum Act {
+    /// Nothing: the command took its relations here.
+    Read,
+    /// The name has the relation from here on.
+    Assign { name: Name, rel: Rel },
+    /// The name is gone from here on.
+    Remove { name: Name },
+}
+
+/// One event of the workspace. Sessions and commands count from 1.
+#[derive(Drop)]
+pub struct Event {
+    pub session: u32,
+    pub command: u32,
+    pub act: Act,
+}

@@ -1,0 +1,42 @@
+//! What comes of commands.
+use lang_model::faults::{ParseFault, TypeFault};
+use lang_model::syntax::{FileText, Place};
+
+/// What a limit counts.
+#[derive(Clone, Copy, Debug, PartialEq, Eq)]
+pub enum Unit {
+    Cells,
+    Pairs,
+}
+
+/// What came of a command.
+#[derive(Drop)]
+pub enum Outcome {
+    Done,
+    Parse(ParseFault),
+    Ill(TypeFault),
+    Size { at: Place, wanted: u64, limit: u64 },
+    Turns { at: Place, limit: u64 },
+    Nodes,
+    TooLarge { wanted: u64, unit: Unit },
+    TooLong { bits: u64 },
+    NoFile { name: FileText },
+    BadFile { name: FileText, kind: BadFile },
+    NoMemory,
+}
+
+/// Why bytes are no relation file.
+#[derive(Clone, Copy, Debug, PartialEq, Eq)]
+pub enum BadFile {
+    Short,
+    Magic,
+    Sizes,
+    Height,
+    Lengths,
+    ZeroGroup { at: u64 },
+    Outside { at: u64 },
+    Padding,
+    Rest,
+    Full,
+    NoMemory,
+}
