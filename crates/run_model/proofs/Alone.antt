@@ -1,0 +1,263 @@
+-- One script alone: its run is lawful exactly if it is the one that the script decides.
+-- 1. An item that does nothing is due the same on each state, so that it does not matter which one it is said to see.
+-- 2. An item that does something sees the workspace behind the events of the items before it.
+-- 3. So the items of a lawful run come to what the computing definition says, one after another, and back.
+use Rattle.std.proofs.Common.{◌≡◌, ◌⊎◌, ◌+◌, ℕ, suc, List, [], ◌∷◌, ◌++◌, map, length, Option, Some, None, refl, sym, ap, subst, ◌∙◌, arith, inl, inr, append_assoc, add-zero}
+use Rattle.std.specs.Prelude.{slice_get}
+use Rattle.std.specs.List.{AllByRecursion}
+use Rattle.lang_model.specs.declared.syntax.Command.TheVariants.{
+  Relation as RELATION,
+  Let,
+  Print as PRINT,
+  List as LIST,
+  Count,
+  Typed,
+  Remove as DROP,
+  Snap,
+  At,
+  Load,
+  Save,
+}
+use Rattle.lang_model.specs.declared.syntax.Item.{Item}
+use Rattle.lang_model.specs.declared.syntax.Item.TheVariants.{Function, Program, Command as COMMAND}
+use Rattle.lang_model.specs.declared.syntax.Script.{Script}
+use Rattle.run_model.specs.declared.event.Event.{Event}
+use Rattle.run_model.specs.declared.outcome.Outcome.{Outcome}
+use Rattle.run_model.specs.Inputs.{Input, script_at, item_at}
+use Rattle.run_model.specs.Due.{Workspace, Due, Nothing, Value, Refused, outcome_due, due, due_of_command, gives}
+use Rattle.run_model.specs.Steps.{Ending, Succeeds, Fails, LacksMemory, ending, Snapshots, snapped, keep, kept_at, snaps_behind, snap_for, steps_from}
+use Rattle.run_model.specs.Events.{Deed, Reads, Removes, Entry, entry_of, entries, giving, first_of, reads_of, HasDeeds, AreEvents}
+use Rattle.run_model.specs.Outcomes.{IsOutcome, AreOutcomes}
+use Rattle.run_model.specs.States.{start, replay, gifts_due, state_for}
+use Rattle.run_model.specs.Solo.{Told, state_behind, deeds_due, solo_from, Suffices}
+use Rattle.run_model.proofs.Refusing.{FailsWell, due_fails_well}
+use Rattle.run_model.proofs.Entries.{entry, heads, not_empty, split, map_append, Below, From, below_more, below_append, below_own, from_own, from_append, from_less}
+use Rattle.run_model.proofs.Behind.{replay_append, read_stays, given_stays, behind, sees_now}
+
+-- ---- deeds
+abbrev deed_count : List Deed → ℕ
+deed_count [] = 0
+deed_count (x ∷ xs) = 1
+
+some_deed : (x : Deed) (xs : List Deed) → x ∷ xs ≡ [] → ⊥
+some_deed x xs h = let e : 1 ≡ 0 = ap deed_count h in omega (arith, e)
+
+-- the deeds of an outcome that is due are those that are due
+deeds_are : (item : Item) (d : Due) (deeds : List Deed) → FailsWell d → HasDeeds (ending (outcome_due d)) item d deeds → deeds ≡ deeds_due item d
+deeds_are item Nothing deeds f h = h
+deeds_are item (Value r) deeds f h = h
+deeds_are item (Refused when outcome) deeds f h = subst (λ x. HasDeeds x item (Refused when outcome) deeds) f h
+
+has_deeds : (item : Item) (d : Due) → FailsWell d → HasDeeds (ending (outcome_due d)) item d (deeds_due item d)
+has_deeds item Nothing f = refl
+has_deeds item (Value r) f = refl
+has_deeds item (Refused when outcome) f = subst (λ x. HasDeeds x item (Refused when outcome) (reads_of item)) (sym f) refl
+
+-- ---- items that do nothing
+module _ (input : Input) (script : Script) where
+  -- what is due, and which snapshots are kept, is the same on each state
+  pub record Ignores (item : Item) : Type 0 where
+    pub same_due : (s t : Workspace) (snap : Option Workspace) → due input script item s snap ≡ due input script item t snap
+    pub same_snaps : (o : Outcome) (s t : Workspace) (snaps : Snapshots) → snaps_behind item o s snaps ≡ snaps_behind item o t snaps
+
+  kept_none : (x : Ending) (item : Item) → snapped item ≡ None → (s t : Workspace) (snaps : Snapshots) → kept_at x item s snaps ≡ kept_at x item t snaps
+  kept_none Succeeds item n s t snaps = ap (λ o. keep o s snaps) n ∙ sym (ap (λ o. keep o t snaps) n)
+  kept_none Fails item n s t snaps = refl
+  kept_none LacksMemory item n s t snaps = refl
+
+  keeps_none : (item : Item) → snapped item ≡ None → (o : Outcome) (s t : Workspace) (snaps : Snapshots) →
+      snaps_behind item o s snaps ≡ snaps_behind item o t snaps
+  keeps_none item n o s t snaps = kept_none (ending o) item n s t snaps
+
+  -- an item that begins with a deed does something
+  does : (item : Item) (x : Deed) → first_of item ≡ x ∷ [] → (y : Deed) → reads_of item ≡ y ∷ [] → (d : Due) → deeds_due item d ≡ [] → ⊥
+  does item x f y r Nothing h = some_deed x (giving (gives item Nothing)) (sym (ap (λ l. l ++ giving (gives item Nothing)) f) ∙ h)
+  does item x f y r (Value v) h = some_deed x (giving (gives item (Value v))) (sym (ap (λ l. l ++ giving (gives item (Value v))) f) ∙ h)
+  does item x f y r (Refused when outcome) h = some_deed y [] (sym r ∙ h)
+
+  -- an item without deeds ignores the workspace
+  ignores : (item : Item) (d : Due) → deeds_due item d ≡ [] → Ignores item
+  unfolding due due_of_command
+  ignores (COMMAND (RELATION name rows rows_at cols cols_at list)) d h =
+      record { same_due = λ s t snap. refl; same_snaps = keeps_none (COMMAND (RELATION name rows rows_at cols cols_at list)) refl }
+  ignores (COMMAND (Let name e)) d h = absurd (does (COMMAND (Let name e)) Reads refl Reads refl d h)
+  ignores (COMMAND (PRINT e)) d h = absurd (does (COMMAND (PRINT e)) Reads refl Reads refl d h)
+  ignores (COMMAND (LIST e)) d h = absurd (does (COMMAND (LIST e)) Reads refl Reads refl d h)
+  ignores (COMMAND (Count e)) d h = absurd (does (COMMAND (Count e)) Reads refl Reads refl d h)
+  ignores (COMMAND (Typed e)) d h = absurd (does (COMMAND (Typed e)) Reads refl Reads refl d h)
+  ignores (COMMAND (DROP at name)) d h = absurd (does (COMMAND (DROP at name)) (Removes name) refl Reads refl d h)
+  ignores (COMMAND (Snap name)) d h = absurd (does (COMMAND (Snap name)) Reads refl Reads refl d h)
+  ignores (COMMAND (At at name e)) d h =
+      record { same_due = λ s t snap. refl; same_snaps = keeps_none (COMMAND (At at name e)) refl }
+  ignores (COMMAND (Load name file)) d h =
+      record { same_due = λ s t snap. refl; same_snaps = keeps_none (COMMAND (Load name file)) refl }
+  ignores (COMMAND (Save e file)) d h = absurd (does (COMMAND (Save e file)) Reads refl Reads refl d h)
+  ignores (Function at name params body) d h =
+      record { same_due = λ s t snap. refl; same_snaps = keeps_none (Function at name params body) refl }
+  ignores (Program at name params decls body result) d h =
+      record { same_due = λ s t snap. refl; same_snaps = keeps_none (Program at name params decls body result) refl }
+
+-- ---- numbers of entries
+-- the entries of steps from number c on
+events_from : (input : Input) (script : Script) (f : ℕ → Workspace) (items : List Item) (outcomes : List Outcome) (c : ℕ) (snaps : Snapshots) (log : List Entry) →
+    AreEvents input script 1 (steps_from f c snaps items outcomes) log → From c log
+events_from input script f [] outcomes c snaps log h = subst (From c) (sym h) tt
+events_from input script f (item ∷ items) [] c snaps log h = subst (From c) (sym h) tt
+events_from input script f (item ∷ items) (o ∷ outcomes) c snaps log h =
+    subst (From c) (sym h.2)
+    (from_append c (entries 1 c h.0) h.1 (from_own c h.0)
+    (from_less c h.1 (events_from input script f items outcomes (c + 1) (snaps_behind item o (f c) snaps) h.1 h.4)))
+
+-- and of the computing definition
+pub solo_numbers : (input : Input) (script : Script) (items : List Item) (c : ℕ) (state : Workspace) (snaps : Snapshots) →
+    From c (solo_from input script c state snaps items).log
+solo_numbers input script [] c state snaps = tt
+solo_numbers input script (item ∷ items) c state snaps =
+    let d = due input script item state (snap_for item snaps) in
+    let more = solo_numbers input script items (c + 1) (state_behind item d state) (snaps_behind item (outcome_due d) state snaps) in
+    from_append c (entries 1 c (deeds_due item d))
+    (solo_from input script (c + 1) (state_behind item d state) (snaps_behind item (outcome_due d) state snaps) items).log
+    (from_own c (deeds_due item d)) (from_less c _ more)
+
+-- ---- the two directions
+module _ (input : Input) (script : Script) (only : script_at input 1 ≡ Some script) (history : List Event) where
+  abbrev state_of : ℕ → Workspace
+  state_of = state_for input history 1
+
+  abbrev now_behind : List Event → Workspace
+  now_behind done = (replay (gifts_due input) start done).now
+
+  -- an item sees the workspace of then, or it does not matter
+  sees : (c : ℕ) (item : Item) (d : Due) (done mine rest : List Event) (state : Workspace) → now_behind done ≡ state →
+      history ≡ done ++ (mine ++ rest) → Below c done → From (c + 1) (map entry_of rest) →
+      map entry_of mine ≡ entries 1 c (deeds_due item d) → (state_of c ≡ state) ⊎ Ignores input script item
+  sees c item d done [] rest state now h b f own = inr (ignores input script item d (no_deeds (deeds_due item d) (sym own)))
+    where
+      no_deeds : (deeds : List Deed) → entries 1 c deeds ≡ [] → deeds ≡ []
+      no_deeds [] e = refl
+      no_deeds (x ∷ xs) e = absurd (not_empty (entry 1 c x) (entries 1 c xs) e)
+  sees c item d done (e ∷ es) rest state now h b f own =
+      let n = first_number (deeds_due item d) own in
+      inl (ap (λ l. state_for input l 1 c) h ∙ (sees_now input c done e (es ++ rest) b n.0 n.1 ∙ now))
+    where
+      first_number : (deeds : List Deed) → entry_of e ∷ map entry_of es ≡ entries 1 c deeds → (e.session ≡ 1) × (e.command ≡ c)
+      first_number [] k = absurd (not_empty (entry_of e) (map entry_of es) k)
+      first_number (x ∷ xs) k =
+          let q = heads (entry_of e) (entry 1 c x) (map entry_of es) (entries 1 c xs) k in
+          (ap (λ (y : Entry). y.session) q, ap (λ (y : Entry). y.command) q)
+
+  due_seen : (c : ℕ) (item : Item) (state : Workspace) (snap : Option Workspace) → (state_of c ≡ state) ⊎ Ignores input script item →
+      due input script item (state_of c) snap ≡ due input script item state snap
+  due_seen c item state snap (inl e) = ap (λ s. due input script item s snap) e
+  due_seen c item state snap (inr i) = i.same_due (state_of c) state snap
+
+  snaps_seen : (c : ℕ) (item : Item) (state : Workspace) (o : Outcome) (snaps : Snapshots) → (state_of c ≡ state) ⊎ Ignores input script item →
+      snaps_behind item o (state_of c) snaps ≡ snaps_behind item o state snaps
+  snaps_seen c item state o snaps (inl e) = ap (λ s. snaps_behind item o s snaps) e
+  snaps_seen c item state o snaps (inr i) = i.same_snaps o (state_of c) state snaps
+
+  -- behind the events of one more item
+  goes_on : (c : ℕ) (item : Item) (snap : Option Workspace) (state : Workspace) (done mine : List Event) → Below c done →
+      now_behind done ≡ state → item_at script c ≡ Some item →
+      map entry_of mine ≡ entries 1 c (deeds_due item (due input script item state snap)) →
+      now_behind (done ++ mine) ≡ state_behind item (due input script item state snap) state
+  goes_on c item snap state done mine b now at own =
+      ap (λ p. p.now) (replay_append (gifts_due input) start done mine)
+      ∙ behind input script only c state snap (replay (gifts_due input) start done) now
+      (read_stays (gifts_due input) c done start b) (given_stays (gifts_due input) c done start b) mine item at
+      (due input script item state snap) refl own
+
+  abbrev Placed : ℕ → List Item → Type 0
+  Placed c items = (k : ℕ) → item_at script (c + k) ≡ slice_get items k
+
+  placed_here : (c : ℕ) (item : Item) (items : List Item) → Placed c (item ∷ items) → item_at script c ≡ Some item
+  placed_here c item items h = ap (item_at script) (sym (add-zero c)) ∙ h 0
+
+  placed_later : (c : ℕ) (item : Item) (items : List Item) → Placed c (item ∷ items) → Placed (c + 1) items
+  placed_later c item items h k = ap (item_at script) (later c k) ∙ h (suc k)
+    where
+      later : (c k : ℕ) → (c + 1) + k ≡ c + suc k
+      later c k = omega arith
+
+  is_due : (item : Item) (d : Due) (o : Outcome) → IsOutcome item d o → Suffices o → o ≡ outcome_due d
+  is_due item d o (inl e) s = e
+  is_due item d o (inr (inl e)) s = absurd (s.0 e.0)
+  is_due item d o (inr (inr e)) s = absurd (s.1 e.0)
+
+  abbrev alone : ℕ → Workspace → Snapshots → List Item → Told
+  alone c state snaps items = solo_from input script c state snaps items
+
+  pub to_solo : (items : List Item) (outcomes : List Outcome) (c : ℕ) (snaps : Snapshots) (state : Workspace) (done rest : List Event) →
+      Below c done → now_behind done ≡ state → history ≡ done ++ rest → Placed c items → length outcomes ≡ length items →
+      AreEvents input script 1 (steps_from state_of c snaps items outcomes) (map entry_of rest) →
+      AreOutcomes input script (steps_from state_of c snaps items outcomes) → AllByRecursion Suffices outcomes →
+      (outcomes ≡ (alone c state snaps items).outcomes) × (map entry_of rest ≡ (alone c state snaps items).log)
+  to_solo [] [] c snaps state done rest b now h placed l ev oc su = (refl, ev)
+  to_solo [] (o ∷ outcomes) c snaps state done rest b now h placed l ev oc su = absurd (omega (arith, l))
+  to_solo (item ∷ items) [] c snaps state done rest b now h placed l ev oc su = absurd (omega (arith, l))
+  to_solo (item ∷ items) (o ∷ outcomes) c snaps state done rest b now h placed l ev oc su =
+      let snap = snap_for item snaps in
+      let d' = due input script item (state_of c) snap in
+      let d = due input script item state snap in
+      let told = is_due item d' o oc.0 su.0 in
+      let deeds = deeds_are item d' ev.0 (due_fails_well input script item (state_of c) snap) (subst (λ x. HasDeeds (ending x) item d' ev.0) told ev.3) in
+      let parts = split rest (entries 1 c ev.0) ev.1 ev.2 in
+      let mine = parts.0 in
+      let later = parts.1 in
+      let whole : history ≡ done ++ (mine ++ later) = h ∙ ap (λ t. done ++ t) parts.2 in
+      let own' : map entry_of mine ≡ entries 1 c (deeds_due item d') = parts.3 ∙ ap (entries 1 c) deeds in
+      let numbers = subst (From (c + 1)) (sym parts.4) (events_from input script state_of items outcomes (c + 1) (snaps_behind item o (state_of c) snaps) ev.1 ev.4) in
+      let seen = sees c item d' done mine later state now whole b numbers own' in
+      let same : d' ≡ d = due_seen c item state snap seen in
+      let own : map entry_of mine ≡ entries 1 c (deeds_due item d) = own' ∙ ap (λ x. entries 1 c (deeds_due item x)) same in
+      let told_d : o ≡ outcome_due d = told ∙ ap outcome_due same in
+      let snaps_same : snaps_behind item o (state_of c) snaps ≡ snaps_behind item (outcome_due d) state snaps =
+      snaps_seen c item state o snaps seen ∙ ap (λ x. snaps_behind item x state snaps) told_d in
+      let r = to_solo items outcomes (c + 1) (snaps_behind item o (state_of c) snaps) (state_behind item d state) (done ++ mine) later
+      (below_append (c + 1) done mine (below_more c done b) (below_own c mine (deeds_due item d) own))
+      (goes_on c item snap state done mine b now (placed_here c item items placed) own)
+      (whole ∙ sym (append_assoc done mine later)) (placed_later c item items placed) (omega (arith, l))
+      (subst (AreEvents input script 1 (steps_from state_of (c + 1) (snaps_behind item o (state_of c) snaps) items outcomes)) (sym parts.4) ev.4)
+      oc.1 su.1 in (
+        (λ i. told_d i ∷ (r.0 ∙ ap (λ z. (alone (c + 1) (state_behind item d state) z items).outcomes) snaps_same) i),
+        ap (map entry_of) parts.2 ∙ (map_append mine later
+            ∙ (λ i. own i ++ (r.1 ∙ ap (λ z. (alone (c + 1) (state_behind item d state) z items).log) snaps_same) i)),
+      )
+
+  pub from_solo : (items : List Item) (c : ℕ) (snaps : Snapshots) (state : Workspace) (done rest : List Event) →
+      Below c done → now_behind done ≡ state → history ≡ done ++ rest → Placed c items →
+      map entry_of rest ≡ (alone c state snaps items).log →
+      AreEvents input script 1 (steps_from state_of c snaps items (alone c state snaps items).outcomes) (map entry_of rest)
+      × AreOutcomes input script (steps_from state_of c snaps items (alone c state snaps items).outcomes)
+  from_solo [] c snaps state done rest b now h placed log = (log, tt)
+  from_solo (item ∷ items) c snaps state done rest b now h placed log =
+      let snap = snap_for item snaps in
+      let d' = due input script item (state_of c) snap in
+      let d = due input script item state snap in
+      let behind_it = snaps_behind item (outcome_due d) state snaps in
+      let next = alone (c + 1) (state_behind item d state) behind_it items in
+      let parts = split rest (entries 1 c (deeds_due item d)) next.log log in
+      let mine = parts.0 in
+      let later = parts.1 in
+      let whole : history ≡ done ++ (mine ++ later) = h ∙ ap (λ t. done ++ t) parts.2 in
+      let numbers = subst (From (c + 1)) (sym parts.4) (solo_numbers input script items (c + 1) (state_behind item d state) behind_it) in
+      let seen = sees c item d done mine later state now whole b numbers parts.3 in
+      let same : d' ≡ d = due_seen c item state snap seen in
+      let snaps_same : snaps_behind item (outcome_due d) (state_of c) snaps ≡ behind_it = snaps_seen c item state (outcome_due d) snaps seen in
+      let r = from_solo items (c + 1) behind_it (state_behind item d state) (done ++ mine) later
+      (below_append (c + 1) done mine (below_more c done b) (below_own c mine (deeds_due item d) parts.3))
+      (goes_on c item snap state done mine b now (placed_here c item items placed) parts.3)
+      (whole ∙ sym (append_assoc done mine later)) (placed_later c item items placed) parts.4 in
+      let well = due_fails_well input script item state snap in (
+        (
+          deeds_due item d,
+          map entry_of later,
+          ap (map entry_of) parts.2 ∙ (map_append mine later ∙ ap (λ t. t ++ map entry_of later) parts.3),
+          subst (λ x. HasDeeds (ending (outcome_due d)) item x (deeds_due item d)) (sym same) (has_deeds item d well),
+          subst (λ z. AreEvents input script 1 (steps_from state_of (c + 1) z items next.outcomes) (map entry_of later)) (sym snaps_same) r.0,
+        ),
+        (
+          inl (ap outcome_due (sym same)),
+          subst (λ z. AreOutcomes input script (steps_from state_of (c + 1) z items next.outcomes)) (sym snaps_same) r.1,
+        ),
+      )

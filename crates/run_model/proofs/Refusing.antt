@@ -1,0 +1,183 @@
+-- What is due is never want of memory, and a refusal that is due is one that an outcome tells as a failure.
+use Rattle.std.proofs.Common.{◌≡◌, ◌*◌, nat_lt, length, ℕ, Bool, true, false, cond, List, [], ◌∷◌, Option, Some, None, refl}
+use Rattle.lang_model.specs.declared.syntax.Place.{Place}
+use Rattle.lang_model.specs.declared.syntax.Column.{Column}
+use Rattle.lang_model.specs.declared.syntax.Row.{Row}
+use Rattle.lang_model.specs.declared.syntax.Expr.{Expr}
+use Rattle.lang_model.specs.declared.syntax.Command.TheVariants.{
+  Relation as RELATION,
+  Let,
+  Print as PRINT,
+  List as LIST,
+  Count,
+  Typed,
+  Remove as DROP,
+  Snap,
+  At,
+  Load,
+  Save,
+}
+use Rattle.lang_model.specs.declared.syntax.Item.{Item}
+use Rattle.lang_model.specs.declared.syntax.Item.TheVariants.{Function, Program, Command as COMMAND}
+use Rattle.lang_model.specs.declared.syntax.Script.{Script}
+use Rattle.run_model.specs.declared.outcome.BadFile.{BadFile}
+use Rattle.run_model.specs.declared.outcome.Unit.TheVariants.{Cells, Pairs}
+use Rattle.run_model.specs.declared.outcome.Outcome.{Outcome}
+use Rattle.run_model.specs.declared.outcome.Outcome.TheVariants.{Size as SIZE, TooLarge, TooLong}
+use Rattle.rel_model.specs.Relation.{Relation, relation_of, size_limit}
+use Rattle.lang_model.specs.State.{lists}
+use Rattle.lang_model.specs.Missing.{first_of_both}
+use Rattle.lang_model.specs.Outcomes.{Refusal, Ill, Size, Turns, Answer, Got, Not}
+use Rattle.lang_model.specs.Eval.{Evaluated, Ahead, Comes, evaluated}
+use Rattle.run_model.specs.Names.{lookup}
+use Rattle.run_model.specs.Inputs.{Input, file_named}
+use Rattle.run_model.specs.Files.{k2_fault, bits_count}
+use Rattle.run_model.specs.Due.{
+  Workspace,
+  Due,
+  Late,
+  Nothing,
+  Value,
+  Refused,
+  print_limit,
+  list_limit,
+  save_limit,
+  within,
+  printed,
+  listed,
+  saved,
+  outcome_of,
+  due_of_answer,
+  due_of_value,
+  due_of,
+  over,
+  columns_over,
+  rows_over,
+  listing_over,
+  unless_over,
+  due_of_bytes,
+  due_of_file,
+  due_of_drop,
+  due_on_snapshot,
+  due_of_command,
+  due,
+}
+use Rattle.run_model.specs.Steps.{Fails, ending}
+
+-- a refusal that is due fails
+abbrev pub FailsWell : Due → Type 0
+FailsWell Nothing = Unit {0}
+FailsWell (Value r) = Unit {0}
+FailsWell (Refused when outcome) = ending outcome ≡ Fails
+
+abbrev OverFails : Option Outcome → Type 0
+OverFails None = Unit {0}
+OverFails (Some outcome) = ending outcome ≡ Fails
+
+passes_or_fails : (b : Bool) (outcome : Outcome) → ending outcome ≡ Fails → OverFails (cond b (Some outcome) None)
+passes_or_fails true outcome h = h
+passes_or_fails false outcome h = tt
+
+over_fails : (at : Place) (wanted limit : ℕ) → OverFails (over at wanted limit)
+over_fails at wanted limit = passes_or_fails (nat_lt limit wanted) (SIZE at wanted limit) refl
+
+first_fails : (a b : Option Outcome) → OverFails a → OverFails b → OverFails (first_of_both a b)
+first_fails None b h k = k
+first_fails (Some o) b h k = h
+
+columns_fail : (cols : ℕ) (cs : List Column) → OverFails (columns_over cols cs)
+columns_fail cols [] = tt
+columns_fail cols (c ∷ cs) =
+    first_fails (over c.at c.col cols) (columns_over cols cs) (over_fails c.at c.col cols) (columns_fail cols cs)
+
+rows_fail : (rows cols : ℕ) (rs : List Row) → OverFails (rows_over rows cols rs)
+rows_fail rows cols [] = tt
+rows_fail rows cols (r ∷ rs) =
+    first_fails (over r.at r.row rows) (first_of_both (columns_over cols r.cols.items) (rows_over rows cols rs)) (over_fails r.at r.row rows)
+    (first_fails (columns_over cols r.cols.items) (rows_over rows cols rs) (columns_fail cols r.cols.items) (rows_fail rows cols rs))
+
+listing_fails : (rows : ℕ) (rows_at : Place) (cols : ℕ) (cols_at : Place) (list : List Row) →
+    OverFails (listing_over rows rows_at cols cols_at list)
+unfolding listing_over
+listing_fails rows rows_at cols cols_at list =
+    first_fails (over rows_at rows size_limit)
+    (first_of_both (over cols_at cols size_limit) (rows_over rows cols list)) (over_fails rows_at rows size_limit)
+    (first_fails (over cols_at cols size_limit) (rows_over rows cols list) (over_fails cols_at cols size_limit)
+    (rows_fail rows cols list))
+
+unless_fails : (o : Option Outcome) (r : Relation) → OverFails o → FailsWell (unless_over o r)
+unless_fails None r h = tt
+unless_fails (Some outcome) r h = h
+
+one_fails : (b : Bool) (outcome : Outcome) (r : Relation) → ending outcome ≡ Fails →
+    FailsWell (cond b (Refused Late outcome) (Value r))
+one_fails true outcome r h = h
+one_fails false outcome r h = tt
+
+within_fails : (limit wanted : ℕ) (outcome : Outcome) (r : Relation) → ending outcome ≡ Fails →
+    FailsWell (within limit wanted outcome r)
+within_fails limit wanted outcome r h = one_fails (nat_lt limit wanted) outcome r h
+
+meaning_fails : (turns : ℕ) (why : Refusal) → ending (outcome_of turns why) ≡ Fails
+meaning_fails turns (Ill fault) = refl
+meaning_fails turns (Size at wanted) = refl
+meaning_fails turns (Turns at) = refl
+
+answer_fails : (then : Relation → Due) (turns : ℕ) (a : Answer Relation) → ((r : Relation) → FailsWell (then r)) →
+    FailsWell (due_of_answer then turns a)
+answer_fails then turns (Got r left) h = h r
+answer_fails then turns (Not why) h = meaning_fails turns why
+
+value_fails : (then : Relation → Due) (turns : ℕ) (v : Evaluated) → ((r : Relation) → FailsWell (then r)) →
+    FailsWell (due_of_value then turns v)
+value_fails then turns (Ahead fault) h = refl
+value_fails then turns (Comes came) h = answer_fails then turns came.answer h
+
+printed_fails : (r : Relation) → FailsWell (printed r)
+printed_fails r = within_fails print_limit (r.rows * r.cols) (TooLarge (r.rows * r.cols) Cells) r refl
+
+listed_fails : (r : Relation) → FailsWell (listed r)
+listed_fails r = within_fails list_limit (length r.pairs) (TooLarge (length r.pairs) Pairs) r refl
+
+saved_fails : (r : Relation) → FailsWell (saved r)
+saved_fails r = within_fails save_limit (bits_count r) (TooLong (bits_count r)) r refl
+
+bytes_fail : (file bytes : List ℕ) (o : Option BadFile) → FailsWell (due_of_bytes file bytes o)
+bytes_fail file bytes None = tt
+bytes_fail file bytes (Some kind) = refl
+
+file_fails : (file : List ℕ) (o : Option (List ℕ)) → FailsWell (due_of_file file o)
+file_fails file None = refl
+file_fails file (Some bytes) = bytes_fail file bytes (k2_fault bytes)
+
+drop_fails : (at : Place) (name : List ℕ) (o : Option Relation) → FailsWell (due_of_drop at name o)
+drop_fails at name None = refl
+drop_fails at name (Some r) = tt
+
+module _ (input : Input) (script : Script) where
+  of_fails : (then : Relation → Due) (e : Expr) (s : Workspace) → ((r : Relation) → FailsWell (then r)) →
+      FailsWell (due_of input script then e s)
+  of_fails then e s h = value_fails then input.turns (evaluated script (lookup s) e input.turns) h
+
+  snap_fails : (at : Place) (name : List ℕ) (e : Expr) (o : Option Workspace) →
+      FailsWell (due_on_snapshot input script at name e o)
+  snap_fails at name e None = refl
+  snap_fails at name e (Some s) = of_fails printed e s printed_fails
+
+  pub due_fails_well : (item : Item) (s : Workspace) (snap : Option Workspace) → FailsWell (due input script item s snap)
+  unfolding due due_of_command
+  due_fails_well (COMMAND (RELATION name rows rows_at cols cols_at list)) s snap =
+      unless_fails (listing_over rows rows_at cols cols_at list.items) (relation_of rows cols (lists list.items))
+      (listing_fails rows rows_at cols cols_at list.items)
+  due_fails_well (COMMAND (Let name e)) s snap = of_fails Value e s (λ r. tt)
+  due_fails_well (COMMAND (PRINT e)) s snap = of_fails printed e s printed_fails
+  due_fails_well (COMMAND (LIST e)) s snap = of_fails listed e s listed_fails
+  due_fails_well (COMMAND (Count e)) s snap = of_fails Value e s (λ r. tt)
+  due_fails_well (COMMAND (Typed e)) s snap = of_fails Value e s (λ r. tt)
+  due_fails_well (COMMAND (DROP at name)) s snap = drop_fails at name (lookup s name)
+  due_fails_well (COMMAND (Snap name)) s snap = tt
+  due_fails_well (COMMAND (At at name e)) s snap = snap_fails at name e snap
+  due_fails_well (COMMAND (Load name file)) s snap = file_fails file (file_named input.files file)
+  due_fails_well (COMMAND (Save e file)) s snap = of_fails saved e s saved_fails
+  due_fails_well (Function at name params body) s snap = tt
+  due_fails_well (Program at name params decls body result) s snap = tt

@@ -1,0 +1,120 @@
+-- How many nodes the commands of a run may make, by the height of the leaves of the workers that make them: of an
+-- expression the cost of its meaning, each turn of a loop counted; of a listed or loaded relation what its pairs may
+-- take; and none where what is due is early.
+use Rattle.std.specs.Prelude.{◌+◌, ◌-◌, ℕ, List, [], ◌∷◌, length, Option, Some, None}
+use Rattle.lang_model.specs.declared.syntax.Row.{Row}
+use Rattle.lang_model.specs.declared.syntax.Expr.{Expr}
+use Rattle.lang_model.specs.declared.syntax.Command.{Command}
+use Rattle.lang_model.specs.declared.syntax.Command.TheVariants.{
+  Relation as RELATION,
+  Let,
+  Print as PRINT,
+  List as LIST,
+  Count,
+  Typed,
+  Remove as DROP,
+  Snap,
+  At,
+  Load,
+  Save,
+}
+use Rattle.lang_model.specs.declared.syntax.Item.{Item}
+use Rattle.lang_model.specs.declared.syntax.Item.TheVariants.{Function, Program, Command as COMMAND}
+use Rattle.lang_model.specs.declared.syntax.Script.{Script}
+use Rattle.run_model.specs.declared.event.Event.{Event}
+use Rattle.run_model.specs.declared.outcome.Outcome.{Outcome}
+use Rattle.rel_model.specs.Relation.{Relation}
+use Rattle.rel_model.specs.Roots.{height_over}
+use Rattle.rel_model.specs.Worker.{listed_room}
+use Rattle.lang_model.specs.Eval.{Evaluated, Ahead, Comes, evaluated}
+use Rattle.run_model.specs.Names.{lookup}
+use Rattle.run_model.specs.Inputs.{Input, Reading, NoScript, Flawed, Runs}
+use Rattle.run_model.specs.Due.{Workspace, Due, Nothing, Value, Refused}
+use Rattle.run_model.specs.Steps.{Step, due_at}
+use Rattle.run_model.specs.Legal.{steps_in}
+
+-- ---- listed pairs
+-- how many pairs rows list, repeats counted
+abbrev pub listed_count : List Row → ℕ
+listed_count [] = 0
+listed_count (row ∷ rows) = length row.cols.items + listed_count rows
+
+-- a relation of so many pairs, repeats counted: for each pair a leaf, and the three nodes of a corner at each height
+-- above it
+unfoldable pub listed_cost : ℕ → ℕ → ℕ → ℕ → ℕ
+listed_cost leaf count rows cols = listed_room count (height_over leaf rows cols - leaf)
+
+-- ---- commands
+-- the cost of what an expression comes to: a fault ahead of all computing costs nothing
+abbrev pub cost_of_value : ℕ → Evaluated → ℕ
+cost_of_value leaf (Ahead fault) = 0
+cost_of_value leaf (Comes came) = came.cost leaf
+
+-- an expression on a workspace
+abbrev pub cost_of : ℕ → Input → Script → Expr → Workspace → ℕ
+cost_of leaf input script e state = cost_of_value leaf (evaluated script (lookup state) e input.turns)
+
+-- an expression on a snapshot, where there is one
+abbrev pub cost_on_snapshot : ℕ → Input → Script → Expr → Option Workspace → ℕ
+cost_on_snapshot leaf input script e None = 0
+cost_on_snapshot leaf input script e (Some snap) = cost_of leaf input script e snap
+
+-- so many nodes where a value is due
+abbrev pub where_value : Due → (Relation → ℕ) → ℕ
+where_value Nothing cost = 0
+where_value (Value r) cost = cost r
+where_value (Refused when outcome) cost = 0
+
+-- a relation of so many pairs, repeats counted
+abbrev pub cost_of_pairs : ℕ → ℕ → Relation → ℕ
+cost_of_pairs leaf count r = listed_cost leaf count r.rows r.cols
+
+-- a command, of which this is due on a workspace with the snapshot that it asks
+abbrev pub cost_of_command : ℕ → Input → Script → Command → Workspace → Option Workspace → Due → ℕ
+cost_of_command leaf input script (RELATION name rows rows_at cols cols_at list) state snap d =
+    where_value d (cost_of_pairs leaf (listed_count list.items))
+cost_of_command leaf input script (Let name e) state snap d = cost_of leaf input script e state
+cost_of_command leaf input script (PRINT e) state snap d = cost_of leaf input script e state
+cost_of_command leaf input script (LIST e) state snap d = cost_of leaf input script e state
+cost_of_command leaf input script (Count e) state snap d = cost_of leaf input script e state
+cost_of_command leaf input script (Typed e) state snap d = cost_of leaf input script e state
+cost_of_command leaf input script (DROP at name) state snap d = 0
+cost_of_command leaf input script (Snap name) state snap d = 0
+cost_of_command leaf input script (At at name e) state snap d = cost_on_snapshot leaf input script e snap
+cost_of_command leaf input script (Load name file) state snap d = where_value d (λ r. cost_of_pairs leaf (length r.pairs) r)
+cost_of_command leaf input script (Save e file) state snap d = cost_of leaf input script e state
+
+-- an item: a definition costs nothing
+abbrev pub cost_of_item : ℕ → Input → Script → Item → Workspace → Option Workspace → Due → ℕ
+cost_of_item leaf input script (COMMAND command) state snap d = cost_of_command leaf input script command state snap d
+cost_of_item leaf input script (Function at name params body) state snap d = 0
+cost_of_item leaf input script (Program at name params decls body result) state snap d = 0
+
+-- ---- runs
+-- a step
+unfoldable pub cost_of_step : ℕ → Input → Script → Step → ℕ
+cost_of_step leaf input script step =
+    cost_of_item leaf input script step.item step.state step.snap (due_at input script step)
+
+-- the steps of a session
+abbrev pub cost_of_steps : ℕ → Input → Script → List Step → ℕ
+cost_of_steps leaf input script [] = 0
+cost_of_steps leaf input script (step ∷ steps) = cost_of_step leaf input script step + cost_of_steps leaf input script steps
+
+-- a session: a script that does not run costs nothing
+abbrev pub cost_of_session : ℕ → Input → List Event → ℕ → Reading → List Outcome → ℕ
+cost_of_session leaf input history s (NoScript fault) outcomes = 0
+cost_of_session leaf input history s (Flawed fault) outcomes = 0
+cost_of_session leaf input history s (Runs script) outcomes =
+    cost_of_steps leaf input script (steps_in input history s script outcomes)
+
+-- sessions from number s on
+abbrev pub cost_of_sessions : ℕ → Input → List Event → ℕ → List Reading → List (List Outcome) → ℕ
+cost_of_sessions leaf input history s (reading ∷ readings) (outcomes ∷ others) =
+    cost_of_session leaf input history s reading outcomes + cost_of_sessions leaf input history (s + 1) readings others
+cost_of_sessions leaf input history s [] others = 0
+cost_of_sessions leaf input history s (reading ∷ readings) [] = 0
+
+-- a run
+unfoldable pub cost_of_run : ℕ → Input → List Event → List (List Outcome) → ℕ
+cost_of_run leaf input history outcomes = cost_of_sessions leaf input history 1 input.readings outcomes

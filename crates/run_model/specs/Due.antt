@@ -1,0 +1,222 @@
+-- What is due of an item: that it is done, with a value or with none, or a refusal.
+use Rattle.std.specs.Prelude.{◌*◌, ◌^◌, nat_lt, cond, ℕ, List, [], ◌∷◌, length, Option, Some, None}
+use Rattle.lang_model.specs.declared.syntax.Place.{Place}
+use Rattle.lang_model.specs.declared.syntax.Column.{Column}
+use Rattle.lang_model.specs.declared.syntax.Row.{Row}
+use Rattle.lang_model.specs.declared.syntax.Expr.{Expr}
+use Rattle.lang_model.specs.declared.syntax.Command.{Command}
+use Rattle.lang_model.specs.declared.syntax.Command.TheVariants.{
+  Relation as RELATION,
+  Let,
+  Print as PRINT,
+  List as LIST,
+  Count,
+  Typed,
+  Remove as DROP,
+  Snap,
+  At,
+  Load,
+  Save,
+}
+use Rattle.lang_model.specs.declared.syntax.Item.{Item}
+use Rattle.lang_model.specs.declared.syntax.Item.TheVariants.{Function, Program, Command as COMMAND}
+use Rattle.lang_model.specs.declared.syntax.Script.{Script}
+use Rattle.lang_model.specs.declared.faults.TypeFault.TheVariants.{Unknown}
+use Rattle.run_model.specs.declared.outcome.BadFile.{BadFile}
+use Rattle.run_model.specs.declared.outcome.Unit.TheVariants.{Cells, Pairs}
+use Rattle.run_model.specs.declared.outcome.Outcome.{Outcome}
+use Rattle.run_model.specs.declared.outcome.Outcome.TheVariants.{
+  Done,
+  Ill as ILL,
+  Size as SIZE,
+  Turns as TURNS,
+  TooLarge,
+  TooLong,
+  NoFile,
+  BadFile as BAD_FILE,
+}
+use Rattle.rel_model.specs.Relation.{Relation, relation_of, size_limit}
+use Rattle.lang_model.specs.State.{lists}
+use Rattle.lang_model.specs.Missing.{first_of_both}
+use Rattle.lang_model.specs.Outcomes.{Refusal, Ill, Size, Turns, Answer, Got, Not}
+use Rattle.lang_model.specs.Eval.{Evaluated, Ahead, Comes, evaluated}
+use Rattle.run_model.specs.Names.{Names, lookup}
+use Rattle.run_model.specs.Inputs.{Input, file_named}
+use Rattle.run_model.specs.Files.{k2_fault, k2_relation, bits_count}
+
+-- the workspace: which relation each name has
+abbrev pub Workspace : Type 0
+Workspace = Names Relation
+
+-- ---- what may be due
+-- a refusal is early where nothing was computed before it: no node was asked for
+pub data When : Type 0 where
+  Early : When
+  Late : When
+
+-- what is due of an item
+pub data Due : Type 0 where
+  -- that it is done, and shows nothing
+  Nothing : Due
+  -- that it is done with this value, which it shows, saves, or gives its name
+  Value : Relation → Due
+  -- that it is refused
+  Refused : When → Outcome → Due
+
+-- the outcome that is due
+abbrev pub outcome_due : Due → Outcome
+outcome_due Nothing = Done
+outcome_due (Value r) = Done
+outcome_due (Refused when outcome) = outcome
+
+-- ---- limits
+-- how many cells are printed at most
+abbrev pub print_limit : ℕ
+print_limit = 2 ^ 20
+
+-- how many pairs are listed at most
+abbrev pub list_limit : ℕ
+list_limit = 2 ^ 20
+
+-- how many bits of a relation's tree are saved at most
+abbrev pub save_limit : ℕ
+save_limit = 2 ^ 26
+
+-- a value that passes a limit is refused, and else is due
+abbrev pub within : ℕ → ℕ → Outcome → Relation → Due
+within limit wanted outcome r = cond (nat_lt limit wanted) (Refused Late outcome) (Value r)
+
+-- a value to be printed has no more cells than the limit
+abbrev pub printed : Relation → Due
+printed r = within print_limit (r.rows * r.cols) (TooLarge (r.rows * r.cols) Cells) r
+
+-- a value to be listed has no more pairs
+abbrev pub listed : Relation → Due
+listed r = within list_limit (length r.pairs) (TooLarge (length r.pairs) Pairs) r
+
+-- a value to be saved has no more bits
+abbrev pub saved : Relation → Due
+saved r = within save_limit (bits_count r) (TooLong (bits_count r)) r
+
+-- ---- expressions
+-- a refusal of the meaning, with the limit that was passed
+abbrev pub outcome_of : ℕ → Refusal → Outcome
+outcome_of turns (Ill fault) = ILL fault
+outcome_of turns (Size at wanted) = SIZE at wanted size_limit
+outcome_of turns (Turns at) = TURNS at turns
+
+-- what is due where the meaning comes to this: what its value is for, or its refusal
+abbrev pub due_of_answer : (Relation → Due) → ℕ → Answer Relation → Due
+due_of_answer then turns (Got r left) = then r
+due_of_answer then turns (Not why) = Refused Late (outcome_of turns why)
+
+-- what is due where an expression comes to this: a fault ahead of all computing is early
+abbrev pub due_of_value : (Relation → Due) → ℕ → Evaluated → Due
+due_of_value then turns (Ahead fault) = Refused Early (ILL fault)
+due_of_value then turns (Comes came) = due_of_answer then turns came.answer
+
+-- what is due of an expression on a workspace, with what its value is for
+abbrev pub due_of : Input → Script → (Relation → Due) → Expr → Workspace → Due
+due_of input script then e state = due_of_value then input.turns (evaluated script (lookup state) e input.turns)
+
+-- ---- listed relations
+-- a number that passes its limit, with its place
+abbrev pub over : Place → ℕ → ℕ → Option Outcome
+over at wanted limit = cond (nat_lt limit wanted) (Some (SIZE at wanted limit)) None
+
+-- the first column that passes the number of columns
+abbrev pub columns_over : ℕ → List Column → Option Outcome
+columns_over cols [] = None
+columns_over cols (c ∷ cs) = first_of_both (over c.at c.col cols) (columns_over cols cs)
+
+-- the first row that passes the number of rows, or column that passes the number of columns, in the order of the text
+abbrev pub rows_over : ℕ → ℕ → List Row → Option Outcome
+rows_over rows cols [] = None
+rows_over rows cols (r ∷ rs) =
+    first_of_both (over r.at r.row rows) (first_of_both (columns_over cols r.cols.items) (rows_over rows cols rs))
+
+-- the first number of a listed relation that passes its limit, in the order of the text
+unfoldable pub listing_over : ℕ → Place → ℕ → Place → List Row → Option Outcome
+listing_over rows rows_at cols cols_at list =
+    first_of_both (over rows_at rows size_limit)
+    (first_of_both (over cols_at cols size_limit) (rows_over rows cols list))
+
+-- a refusal where there is one, and else a value
+abbrev pub unless_over : Option Outcome → Relation → Due
+unless_over (Some outcome) r = Refused Early outcome
+unless_over None r = Value r
+
+-- ---- files
+-- a file is no relation file, or its relation is due
+abbrev pub due_of_bytes : List ℕ → List ℕ → Option BadFile → Due
+due_of_bytes file bytes (Some kind) = Refused Early (BAD_FILE file kind)
+due_of_bytes file bytes None = Value (k2_relation bytes)
+
+-- there is no file of this name, or its bytes decide
+abbrev pub due_of_file : List ℕ → Option (List ℕ) → Due
+due_of_file file None = Refused Early (NoFile file)
+due_of_file file (Some bytes) = due_of_bytes file bytes (k2_fault bytes)
+
+-- ---- names
+-- a name that has a relation may be taken away
+abbrev pub due_of_drop : Place → List ℕ → Option Relation → Due
+due_of_drop at name None = Refused Early (ILL (Unknown at name))
+due_of_drop at name (Some r) = Nothing
+
+-- an expression is printed on a snapshot, where the session has one of this name
+abbrev pub due_on_snapshot : Input → Script → Place → List ℕ → Expr → Option Workspace → Due
+due_on_snapshot input script at name e None = Refused Early (ILL (Unknown at name))
+due_on_snapshot input script at name e (Some snap) = due_of input script printed e snap
+
+-- ---- items
+-- what is due of a command on a workspace, with the snapshot that it names
+unfoldable pub due_of_command : Input → Script → Command → Workspace → Option Workspace → Due
+due_of_command input script (RELATION name rows rows_at cols cols_at list) state snap =
+    unless_over (listing_over rows rows_at cols cols_at list.items) (relation_of rows cols (lists list.items))
+due_of_command input script (Let name e) state snap = due_of input script Value e state
+due_of_command input script (PRINT e) state snap = due_of input script printed e state
+due_of_command input script (LIST e) state snap = due_of input script listed e state
+due_of_command input script (Count e) state snap = due_of input script Value e state
+due_of_command input script (Typed e) state snap = due_of input script Value e state
+due_of_command input script (DROP at name) state snap = due_of_drop at name (lookup state name)
+due_of_command input script (Snap name) state snap = Nothing
+due_of_command input script (At at name e) state snap = due_on_snapshot input script at name e snap
+due_of_command input script (Load name file) state snap = due_of_file file (file_named input.files file)
+due_of_command input script (Save e file) state snap = due_of input script saved e state
+
+-- what is due of an item: of a definition, that it is done
+unfoldable pub due : Input → Script → Item → Workspace → Option Workspace → Due
+due input script (COMMAND command) state snap = due_of_command input script command state snap
+due input script (Function at name params body) state snap = Nothing
+due input script (Program at name params decls body result) state snap = Nothing
+
+-- ---- what a value is given to
+-- names, each with the value that it is given
+abbrev pub Gifts : Type 0
+Gifts = List (List ℕ × Relation)
+
+-- a name gets a value, where one is due
+abbrev pub given : List ℕ → Due → Gifts
+given name Nothing = []
+given name (Value r) = (name, r) ∷ []
+given name (Refused when outcome) = []
+
+-- the names that a command gives values, in order, each with its value
+abbrev pub gives_of_command : Command → Due → Gifts
+gives_of_command (RELATION name rows rows_at cols cols_at list) d = given name d
+gives_of_command (Let name e) d = given name d
+gives_of_command (PRINT e) d = []
+gives_of_command (LIST e) d = []
+gives_of_command (Count e) d = []
+gives_of_command (Typed e) d = []
+gives_of_command (DROP at name) d = []
+gives_of_command (Snap name) d = []
+gives_of_command (At at name e) d = []
+gives_of_command (Load name file) d = given name d
+gives_of_command (Save e file) d = []
+
+-- those of an item
+abbrev pub gives : Item → Due → Gifts
+gives (COMMAND command) d = gives_of_command command d
+gives (Function at name params body) d = []
+gives (Program at name params decls body result) d = []

@@ -1,0 +1,65 @@
+-- What a run is given.
+use Rattle.std.specs.Prelude.{◌≡◌, ◌-◌, ℕ, Bool, cond, List, [], ◌∷◌, Option, Some, None, slice_get, option_and_then}
+use Rattle.lang_model.specs.declared.syntax.Item.{Item}
+use Rattle.lang_model.specs.declared.syntax.Script.{Script}
+use Rattle.lang_model.specs.declared.faults.ParseFault.{ParseFault}
+use Rattle.lang_model.specs.declared.faults.TypeFault.{TypeFault}
+use Rattle.lang_model.specs.Tokens.{same_text}
+use Rattle.lang_model.specs.Spelling.{SpelledBy}
+use Rattle.lang_model.specs.Stop.{stop}
+use Rattle.lang_model.specs.Checking.{flaw}
+
+-- how the bytes of a script are read
+pub data Reading : Type 0 where
+  -- they are no script, and this is the first fault
+  NoScript : ParseFault → Reading
+  -- they are a script with this flaw, and nothing of it runs
+  Flawed : TypeFault → Reading
+  -- they are a script that runs
+  Runs : Script → Reading
+
+-- a relation file of the command line
+pub record RelationFile : Type 0 where
+  pub name : List ℕ
+  pub bytes : List ℕ
+
+-- what a run is given: its scripts as they are read, its relation files, and the options that it depends on
+pub record Input : Type 0 where
+  pub readings : List Reading
+  pub files : List RelationFile
+  -- how many turns an expression's loops may take
+  pub turns : ℕ
+  -- whether the page ends with the history
+  pub history : Bool
+
+-- the bytes are read so
+abbrev pub IsReading : List ℕ → Reading → Type 0
+IsReading bytes (NoScript fault) = ((script : Script) → SpelledBy bytes script → ⊥) × (stop bytes ≡ Some fault)
+IsReading bytes (Flawed fault) = (script : Script) × SpelledBy bytes script × (flaw script ≡ Some fault)
+IsReading bytes (Runs script) = SpelledBy bytes script × (flaw script ≡ None)
+
+-- the bytes of all scripts are
+abbrev pub AreReadings : List (List ℕ) → List Reading → Type 0
+AreReadings [] [] = Unit {0}
+AreReadings (bytes ∷ scripts) (reading ∷ readings) = IsReading bytes reading × AreReadings scripts readings
+AreReadings [] (reading ∷ readings) = ⊥
+AreReadings (bytes ∷ scripts) [] = ⊥
+
+-- the script that runs, where one does
+abbrev pub script_of : Reading → Option Script
+script_of (NoScript fault) = None
+script_of (Flawed fault) = None
+script_of (Runs script) = Some script
+
+-- the script of session s, from 1 on
+unfoldable pub script_at : Input → ℕ → Option Script
+script_at input s = option_and_then script_of (slice_get input.readings (s - 1))
+
+-- item c of a script, from 1 on
+unfoldable pub item_at : Script → ℕ → Option Item
+item_at script c = slice_get script.items.items (c - 1)
+
+-- the bytes of the first relation file of this name
+abbrev pub file_named : List RelationFile → List ℕ → Option (List ℕ)
+file_named [] name = None
+file_named (file ∷ files) name = cond (same_text file.name name) (Some file.bytes) (file_named files name)

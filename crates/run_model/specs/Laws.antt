@@ -1,0 +1,95 @@
+-- What items see of the workspace.
+use Rattle.std.specs.Prelude.{◌≡◌, ℕ, List, [], ◌∷◌, Option, Some, None}
+use Rattle.lang_model.specs.declared.syntax.Command.{Command}
+use Rattle.lang_model.specs.declared.syntax.Command.TheVariants.{
+  Relation as RELATION,
+  Let,
+  Print as PRINT,
+  List as LIST,
+  Count,
+  Typed,
+  Remove as DROP,
+  Snap,
+  At,
+  Load,
+  Save,
+}
+use Rattle.lang_model.specs.declared.syntax.Item.{Item}
+use Rattle.lang_model.specs.declared.syntax.Item.TheVariants.{Function, Program, Command as COMMAND}
+use Rattle.lang_model.specs.declared.syntax.Script.{Script}
+use Rattle.lang_model.specs.Eval.{names_in, AgreeOn}
+use Rattle.run_model.specs.Names.{lookup}
+use Rattle.run_model.specs.Inputs.{Input}
+use Rattle.run_model.specs.Due.{Early, Late, Workspace, Due, Nothing, Value, Refused, due}
+use Rattle.run_model.specs.Outcomes.{WantsNodes}
+use Rattle.run_model.specs.Cost.{cost_of_command, cost_of_item}
+
+-- the names whose relations a command takes from the workspace
+abbrev pub names_of_command : Command → List (List ℕ)
+names_of_command (RELATION name rows rows_at cols cols_at list) = []
+names_of_command (Let name e) = names_in e
+names_of_command (PRINT e) = names_in e
+names_of_command (LIST e) = names_in e
+names_of_command (Count e) = names_in e
+names_of_command (Typed e) = names_in e
+names_of_command (DROP at name) = name ∷ []
+names_of_command (Snap name) = []
+names_of_command (At at name e) = []
+names_of_command (Load name file) = []
+names_of_command (Save e file) = names_in e
+
+-- and those that it takes from the snapshot that it asks
+abbrev pub names_of_snapshot : Command → List (List ℕ)
+names_of_snapshot (RELATION name rows rows_at cols cols_at list) = []
+names_of_snapshot (Let name e) = []
+names_of_snapshot (PRINT e) = []
+names_of_snapshot (LIST e) = []
+names_of_snapshot (Count e) = []
+names_of_snapshot (Typed e) = []
+names_of_snapshot (DROP at name) = []
+names_of_snapshot (Snap name) = []
+names_of_snapshot (At at name e) = names_in e
+names_of_snapshot (Load name file) = []
+names_of_snapshot (Save e file) = []
+
+-- the names that an item takes from the workspace: a definition takes none
+abbrev pub names_taken : Item → List (List ℕ)
+names_taken (COMMAND command) = names_of_command command
+names_taken (Function at name params body) = []
+names_taken (Program at name params decls body result) = []
+
+-- and those that it takes from the snapshot that it asks
+abbrev pub names_asked : Item → List (List ℕ)
+names_asked (COMMAND command) = names_of_snapshot command
+names_asked (Function at name params body) = []
+names_asked (Program at name params decls body result) = []
+
+-- both snapshots are there, with the same relations of these names, or both are not
+abbrev pub SnapsAgree : Option Workspace → Option Workspace → List (List ℕ) → Type 0
+SnapsAgree None None names = Unit {0}
+SnapsAgree (Some s) (Some t) names = AgreeOn (lookup s) (lookup t) names
+SnapsAgree None (Some t) names = ⊥
+SnapsAgree (Some s) None names = ⊥
+
+-- What is due of an item, and its cost, depend on the relations of the names alone that it takes. So a session that
+-- took those with the values that they have in a history is due what the history makes due.
+abbrev pub DueByNames : Type 0
+DueByNames =
+    (input : Input) (script : Script) (item : Item) (s t : Workspace) (snap other : Option Workspace)
+    → AgreeOn (lookup s) (lookup t) (names_taken item) → SnapsAgree snap other (names_asked item)
+    → (due input script item s snap ≡ due input script item t other)
+    × ((leaf : ℕ) (d : Due) → cost_of_item leaf input script item s snap d ≡ cost_of_item leaf input script item t other d)
+
+-- what is due is early
+abbrev pub IsEarly : Due → Type 0
+IsEarly Nothing = ⊥
+IsEarly (Value r) = ⊥
+IsEarly (Refused Early outcome) = Unit {0}
+IsEarly (Refused Late outcome) = ⊥
+
+-- No node is asked for before an early refusal, nor by a command that a full table cannot refuse.
+pub record FreeCommands : Type 0 where
+  pub early : (leaf : ℕ) (input : Input) (script : Script) (item : Item) (s : Workspace) (snap : Option Workspace) →
+      IsEarly (due input script item s snap) → cost_of_item leaf input script item s snap (due input script item s snap) ≡ 0
+  pub plain : (leaf : ℕ) (input : Input) (script : Script) (command : Command) (s : Workspace) (snap : Option Workspace) (d : Due) →
+      (WantsNodes command → ⊥) → cost_of_command leaf input script command s snap d ≡ 0

@@ -1,0 +1,94 @@
+-- Which outcomes are lawful of an item of which this is due.
+use Rattle.std.specs.Prelude.{◌≡◌, ◌⊎◌, List}
+use Rattle.std.specs.List.{AllByRecursion}
+use Rattle.lang_model.specs.declared.syntax.Expr.{
+  Expr,
+  Ref,
+  Call',
+  Base',
+  Inject,
+  Pair',
+  Minus',
+  Turned',
+  Chain',
+}
+use Rattle.lang_model.specs.declared.syntax.Command.{Command}
+use Rattle.lang_model.specs.declared.syntax.Command.TheVariants.{
+  Relation as RELATION,
+  Let,
+  Print as PRINT,
+  List as LIST,
+  Count,
+  Typed,
+  Remove as DROP,
+  Snap,
+  At,
+  Load,
+  Save,
+}
+use Rattle.lang_model.specs.declared.syntax.Item.{Item}
+use Rattle.lang_model.specs.declared.syntax.Item.TheVariants.{Function, Program, Command as COMMAND}
+use Rattle.lang_model.specs.declared.syntax.Script.{Script}
+use Rattle.run_model.specs.declared.outcome.Outcome.{Outcome}
+use Rattle.run_model.specs.declared.outcome.Outcome.TheVariants.{Nodes, NoMemory}
+use Rattle.run_model.specs.Inputs.{Input}
+use Rattle.run_model.specs.Due.{When, Early, Late, Due, Nothing, Value, Refused, outcome_due}
+use Rattle.run_model.specs.Steps.{Step, due_at}
+
+-- an expression that is more than a name
+abbrev pub IsCompound : Expr → Type 0
+IsCompound (Ref at name) = ⊥
+IsCompound (Call' at name shape args) = Unit {0}
+IsCompound (Base' at base shape args) = Unit {0}
+IsCompound (Inject at base domain) = Unit {0}
+IsCompound (Pair' at p left q right) = Unit {0}
+IsCompound (Minus' at p of) = Unit {0}
+IsCompound (Turned' at p of times) = Unit {0}
+IsCompound (Chain' p first shape rest) = Unit {0}
+
+-- a command that makes a relation or applies an operator, so that a full table may refuse it
+abbrev pub WantsNodes : Command → Type 0
+WantsNodes (RELATION name rows rows_at cols cols_at list) = Unit {0}
+WantsNodes (Let name e) = IsCompound e
+WantsNodes (PRINT e) = IsCompound e
+WantsNodes (LIST e) = IsCompound e
+WantsNodes (Count e) = IsCompound e
+WantsNodes (Typed e) = IsCompound e
+WantsNodes (DROP at name) = ⊥
+WantsNodes (Snap name) = ⊥
+WantsNodes (At at name e) = IsCompound e
+WantsNodes (Load name file) = Unit {0}
+WantsNodes (Save e file) = IsCompound e
+
+-- a refusal that is early comes before any node is asked for
+abbrev pub IsLate : When → Type 0
+IsLate Early = ⊥
+IsLate Late = Unit {0}
+
+-- what is due is not early
+abbrev pub IsNotEarly : Due → Type 0
+IsNotEarly Nothing = Unit {0}
+IsNotEarly (Value r) = Unit {0}
+IsNotEarly (Refused when outcome) = IsLate when
+
+-- the table may have been full for a command that wants nodes, where what is due is not early
+abbrev pub MayLackNodes : Item → Due → Type 0
+MayLackNodes (COMMAND command) d = WantsNodes command × IsNotEarly d
+MayLackNodes (Function at name params body) d = ⊥
+MayLackNodes (Program at name params decls body result) d = ⊥
+
+-- memory may have run out for any command, and for no definition
+abbrev pub MayLackMemory : Item → Type 0
+MayLackMemory (COMMAND command) = Unit {0}
+MayLackMemory (Function at name params body) = ⊥
+MayLackMemory (Program at name params decls body result) = ⊥
+
+-- the outcome is the one that is due; or the table was full; or memory ran out
+abbrev pub IsOutcome : Item → Due → Outcome → Type 0
+IsOutcome item d outcome =
+    (outcome ≡ outcome_due d)
+    ⊎ (((outcome ≡ Nodes) × MayLackNodes item d) ⊎ ((outcome ≡ NoMemory) × MayLackMemory item))
+
+-- each step's outcome is lawful
+abbrev pub AreOutcomes : Input → Script → List Step → Type 0
+AreOutcomes input script = AllByRecursion (λ step. IsOutcome step.item (due_at input script step) step.outcome)

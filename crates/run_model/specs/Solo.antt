@@ -1,0 +1,103 @@
+-- The one run of a script that runs alone, where neither nodes nor memory run out: a function of the input.
+use Rattle.std.specs.Prelude.{◌≡◌, ◌≢◌, ◌+◌, ◌↔◌, ℕ, List, [], ◌∷◌, ◌++◌, map}
+use Rattle.std.specs.List.{AllByRecursion}
+use Rattle.lang_model.specs.declared.syntax.Command.{Command}
+use Rattle.lang_model.specs.declared.syntax.Command.TheVariants.{
+  Relation as RELATION,
+  Let,
+  Print as PRINT,
+  List as LIST,
+  Count,
+  Typed,
+  Remove as DROP,
+  Snap,
+  At,
+  Load,
+  Save,
+}
+use Rattle.lang_model.specs.declared.syntax.Item.{Item}
+use Rattle.lang_model.specs.declared.syntax.Item.TheVariants.{Function, Program, Command as COMMAND}
+use Rattle.lang_model.specs.declared.syntax.Script.{Script}
+use Rattle.run_model.specs.declared.event.Event.{Event}
+use Rattle.run_model.specs.declared.outcome.Outcome.{Outcome}
+use Rattle.run_model.specs.declared.outcome.Outcome.TheVariants.{Parse, Ill, Nodes, NoMemory}
+use Rattle.run_model.specs.Names.{no_names, set, remove}
+use Rattle.run_model.specs.Inputs.{Input, Reading, NoScript, Flawed, Runs}
+use Rattle.run_model.specs.Due.{Workspace, Due, Nothing, Value, Refused, Gifts, outcome_due, due, gives}
+use Rattle.run_model.specs.Steps.{Snapshots, snaps_behind, snap_for}
+use Rattle.run_model.specs.Events.{Deed, Entry, entry_of, entries, done_deeds, reads_of}
+use Rattle.run_model.specs.Legal.{IsLegal}
+
+-- the outcomes of a script, and its events without the roots of their relations
+pub record Told : Type 0 where
+  pub outcomes : List Outcome
+  pub log : List Entry
+
+-- ---- one item
+-- the names of gifts have their values
+abbrev pub set_all : Gifts → Workspace → Workspace
+set_all [] state = state
+set_all (gift ∷ gifts) state = set_all gifts (set gift.0 gift.1 state)
+
+-- the name that a command takes away
+abbrev pub without_dropped : Command → Workspace → Workspace
+without_dropped (RELATION name rows rows_at cols cols_at list) state = state
+without_dropped (Let name e) state = state
+without_dropped (PRINT e) state = state
+without_dropped (LIST e) state = state
+without_dropped (Count e) state = state
+without_dropped (Typed e) state = state
+without_dropped (DROP at name) state = remove name state
+without_dropped (Snap name) state = state
+without_dropped (At at name e) state = state
+without_dropped (Load name file) state = state
+without_dropped (Save e file) state = state
+
+-- the same of items
+abbrev pub without : Item → Workspace → Workspace
+without (COMMAND command) state = without_dropped command state
+without (Function at name params body) state = state
+without (Program at name params decls body result) state = state
+
+-- the workspace behind an item of which this is due: a refused one leaves it as it is
+abbrev pub state_behind : Item → Due → Workspace → Workspace
+state_behind item Nothing state = set_all (gives item Nothing) (without item state)
+state_behind item (Value r) state = set_all (gives item (Value r)) (without item state)
+state_behind item (Refused when outcome) state = state
+
+-- what an item does of which this is due
+abbrev pub deeds_due : Item → Due → List Deed
+deeds_due item Nothing = done_deeds item Nothing
+deeds_due item (Value r) = done_deeds item (Value r)
+deeds_due item (Refused when outcome) = reads_of item
+
+-- ---- all items
+-- one more outcome, and its entries, before the others
+abbrev pub telling : Outcome → List Entry → Told → Told
+telling outcome mine rest = record { outcomes = outcome ∷ rest.outcomes; log = mine ++ rest.log }
+
+-- items from number c on, from this workspace and these snapshots: each comes to what is due of it
+abbrev pub solo_from : Input → Script → ℕ → Workspace → Snapshots → List Item → Told
+solo_from input script c state snaps [] = record { outcomes = []; log = [] }
+solo_from input script c state snaps (item ∷ items) =
+    let d = due input script item state (snap_for item snaps) in
+    telling (outcome_due d) (entries 1 c (deeds_due item d))
+    (solo_from input script (c + 1) (state_behind item d state) (snaps_behind item (outcome_due d) state snaps) items)
+
+-- one script: its one fault, or its items from the empty workspace on
+unfoldable pub solo : Input → Reading → Told
+solo input (NoScript fault) = record { outcomes = Parse fault ∷ []; log = [] }
+solo input (Flawed fault) = record { outcomes = Ill fault ∷ []; log = [] }
+solo input (Runs script) = solo_from input script 1 no_names no_names script.items.items
+
+-- an outcome that is due alone: neither nodes nor memory ran out
+abbrev pub Suffices : Outcome → Type 0
+Suffices outcome = (outcome ≢ Nodes) × (outcome ≢ NoMemory)
+
+-- the run of one script where nothing ran out is lawful exactly if it is the one that the script alone decides
+abbrev pub SoloIsLegal : Type 0
+SoloIsLegal =
+    (input : Input) (reading : Reading) (history : List Event) (outcomes : List Outcome)
+    → input.readings ≡ reading ∷ [] → AllByRecursion Suffices outcomes
+    → IsLegal input history (outcomes ∷ [])
+    ↔ ((outcomes ≡ (solo input reading).outcomes) × (map entry_of history ≡ (solo input reading).log))

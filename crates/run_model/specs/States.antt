@@ -1,0 +1,86 @@
+-- The workspace after events, by what is due of the commands that assigned.
+use Rattle.std.specs.Prelude.{◌==◌, ◌&&◌, ◌+◌, ℕ, Bool, cond, List, [], ◌∷◌, filter, Option, Some, None, slice_get}
+use Rattle.std.specs.List.{list_any}
+use Rattle.std.specs.Option.{option_map_or}
+use Rattle.lang_model.specs.declared.syntax.Item.{Item}
+use Rattle.lang_model.specs.declared.syntax.Script.{Script}
+use Rattle.run_model.specs.declared.event.Event.{Event}
+use Rattle.run_model.specs.declared.event.Act.{Act}
+use Rattle.run_model.specs.declared.event.Act.TheVariants.{Read, Assign, Remove}
+use Rattle.rel_model.specs.Relation.{Relation}
+use Rattle.run_model.specs.Names.{Names, no_names, set, remove}
+use Rattle.run_model.specs.Inputs.{Input, script_at, item_at}
+use Rattle.run_model.specs.Due.{Workspace, Gifts, due, gives}
+
+-- ---- events of commands
+-- the event is of this command
+abbrev pub is_of : ℕ → ℕ → Event → Bool
+is_of s c e = (e.session == s) && (e.command == c)
+
+-- the events of a session
+abbrev pub events_of : ℕ → List Event → List Event
+events_of s = filter (λ e. e.session == s)
+
+-- the events before the first of a command
+abbrev pub events_before : ℕ → ℕ → List Event → List Event
+events_before s c [] = []
+events_before s c (e ∷ es) = cond (is_of s c e) [] (e ∷ events_before s c es)
+
+-- ---- replay
+-- what names have now; what they had at the last read of each command, which is nothing where it has none; and how many
+-- names each command has given something
+pub record Replay (V : Type 0) : Type 0 where
+  pub now : Names V
+  pub at_read : ℕ → ℕ → Names V
+  pub given : ℕ → ℕ → ℕ
+
+-- a thing for one command, in place of what was there
+abbrev pub at_command : {V : Type 0} → ℕ → ℕ → V → (ℕ → ℕ → V) → ℕ → ℕ → V
+at_command s c v f t d = cond ((t == s) && (d == c)) v (f t d)
+
+-- before the first event
+abbrev pub start : {V : Type 0} → Replay V
+start = record { now = no_names; at_read = λ s c. no_names; given = λ s c. 0 }
+
+-- a name gets the value of a gift, where there is one
+abbrev pub set_by : List ℕ → Option (List ℕ × Relation) → Workspace → Workspace
+set_by name None state = state
+set_by name (Some gift) state = set name gift.1 state
+
+-- An event's step: a read changes nothing; the j-th assignment of a command gives its name the j-th value that is due
+-- of the command on the state at its last read; a removal takes its name away.
+abbrev pub replay_act : (ℕ → ℕ → Workspace → Gifts) → ℕ → ℕ → Act → Replay Relation → Replay Relation
+replay_act gifts s c Read p = record { now = p.now; at_read = at_command s c p.now p.at_read; given = p.given }
+replay_act gifts s c (Assign name rel) p = record {
+  now = set_by name (slice_get (gifts s c (p.at_read s c)) (p.given s c)) p.now;
+  at_read = p.at_read;
+  given = at_command s c (p.given s c + 1) p.given;
+}
+replay_act gifts s c (Remove name) p = record { now = remove name p.now; at_read = p.at_read; given = p.given }
+
+-- the steps of events in order
+abbrev pub replay : (ℕ → ℕ → Workspace → Gifts) → Replay Relation → List Event → Replay Relation
+replay gifts p [] = p
+replay gifts p (e ∷ es) = replay gifts (replay_act gifts e.session e.command e.act p) es
+
+-- ---- states of a run
+-- what an item gives on a state: no command that gives anything asks a snapshot
+abbrev pub gifts_of_item : Input → Script → Workspace → Item → Gifts
+gifts_of_item input script state item = gives item (due input script item state None)
+
+-- what command c of a script gives on a state
+abbrev pub gifts_of_script : Input → ℕ → Workspace → Script → Gifts
+gifts_of_script input c state script = option_map_or (gifts_of_item input script state) (item_at script c) []
+
+-- what command c of session s gives on a state
+unfoldable pub gifts_due : Input → ℕ → ℕ → Workspace → Gifts
+gifts_due input s c state = option_map_or (gifts_of_script input c state) (script_at input s) []
+
+-- the workspace after these events
+unfoldable pub state_after : Input → List Event → Workspace
+state_after input es = (replay (gifts_due input) start es).now
+
+-- the state just before the first event of command c of session s, and the empty one where it has none
+unfoldable pub state_for : Input → List Event → ℕ → ℕ → Workspace
+state_for input history s c =
+    cond (list_any (is_of s c) history) (state_after input (events_before s c history)) no_names
