@@ -79,7 +79,7 @@ fn push_rows<C: Core>(core: &mut C, out: &mut Vec<u8>, rel: Rel) -> Result<(), A
 }
 
 /// Adds a matrix with its sizes.
-#[tactic(auto, unfolding(rel_model::specs::Page::matrix))]
+#[tactic(auto, unfolding(run_model::specs::Texts::matrix))]
 pub fn push_matrix<C: Core>(
     alloc: Global,
     core: &mut C,
@@ -101,7 +101,7 @@ pub fn push_matrix<C: Core>(
 }
 
 /// Adds `LINE:COLUMN: `.
-#[tactic(auto, unfolding(rel_model::specs::Page::place_text))]
+#[tactic(auto, unfolding(run_model::specs::Texts::place_text))]
 fn push_place(alloc: Global, out: &mut Vec<u8>, at: Place) -> Result<(), AllocError>
     ensures { OnOk result (out.new.items ≡ out.old.items ++ place_text at) }
 {
@@ -113,7 +113,7 @@ fn push_place(alloc: Global, out: &mut Vec<u8>, at: Place) -> Result<(), AllocEr
 }
 
 /// Adds `M x N`.
-#[tactic(auto, unfolding(rel_model::specs::Page::shape_text))]
+#[tactic(auto, unfolding(run_model::specs::Texts::shape_text))]
 fn push_shape(alloc: Global, out: &mut Vec<u8>, shape: Shape) -> Result<(), AllocError>
     ensures { OnOk result (out.new.items ≡ out.old.items ++ shape_text (known shape.rows shape.cols)) }
 {
@@ -124,7 +124,7 @@ fn push_shape(alloc: Global, out: &mut Vec<u8>, shape: Shape) -> Result<(), Allo
 }
 
 /// Adds that a name is unknown.
-#[tactic(auto, unfolding(rel_model::specs::Page::unknown_text))]
+#[tactic(auto, unfolding(run_model::specs::Texts::unknown_text))]
 fn push_unknown(alloc: Global, out: &mut Vec<u8>, at: Place, name: &[u8]) -> Result<(), AllocError>
     ensures { OnOk result (out.new.items ≡ out.old.items ++ unknown_text at name.now) }
 {
@@ -135,7 +135,7 @@ fn push_unknown(alloc: Global, out: &mut Vec<u8>, at: Place, name: &[u8]) -> Res
 }
 
 /// Adds the refusal of an unknown name.
-#[tactic(auto, unfolding(rel_model::specs::Page::refusal_text, rel_model::specs::Page::outcome_text, rel_model::specs::Page::type_fault_text))]
+#[tactic(auto, unfolding(run_model::specs::Texts::refusal_text, run_model::specs::Texts::outcome_text, run_model::specs::Texts::type_fault_text))]
 pub fn refuse_unknown(
     alloc: Global,
     out: &mut Vec<u8>,
@@ -164,7 +164,7 @@ pub fn sign_of(op: Op2) -> &'static [u8]
 }
 
 /// Adds that operands do not fit.
-#[tactic(auto, unfolding(rel_model::specs::Page::mismatch_text))]
+#[tactic(auto, unfolding(run_model::specs::Texts::mismatch_text))]
 fn push_mismatch(alloc: Global, out: &mut Vec<u8>, mismatched: Mismatched) -> Result<(), AllocError>
     ensures { OnOk result (out.new.items ≡ out.old.items ++ mismatch_text mismatched.at (spelling mismatched.op) (known mismatched.left.rows mismatched.left.cols) (known mismatched.right.rows mismatched.right.cols)) }
 {
@@ -178,7 +178,7 @@ fn push_mismatch(alloc: Global, out: &mut Vec<u8>, mismatched: Mismatched) -> Re
 }
 
 /// Adds the refusal of operands that do not fit.
-#[tactic(auto, unfolding(rel_model::specs::Page::refusal_text, rel_model::specs::Page::outcome_text, rel_model::specs::Page::type_fault_text))]
+#[tactic(auto, unfolding(run_model::specs::Texts::refusal_text, run_model::specs::Texts::outcome_text, run_model::specs::Texts::type_fault_text))]
 pub fn refuse_mismatch(
     alloc: Global,
     out: &mut Vec<u8>,
@@ -193,7 +193,7 @@ pub fn refuse_mismatch(
 }
 
 /// Adds that an item is expected at the first place.
-#[tactic(auto, unfolding(rel_model::specs::Page::parse_fault_text, rel_model::specs::Page::what_text))]
+#[tactic(auto, unfolding(run_model::specs::Texts::parse_fault_text, run_model::specs::Texts::what_text))]
 fn push_item(alloc: Global, out: &mut Vec<u8>) -> Result<(), AllocError>
     ensures { OnOk result (out.new.items ≡ out.old.items ++ parse_fault_text (Expected (record { line = 1; column = 1 }) Item)) }
 {
@@ -204,7 +204,7 @@ fn push_item(alloc: Global, out: &mut Vec<u8>) -> Result<(), AllocError>
 }
 
 /// Adds the refusal of bytes that are no script.
-#[tactic(auto, unfolding(rel_model::specs::Page::refusal_text, rel_model::specs::Page::outcome_text))]
+#[tactic(auto, unfolding(run_model::specs::Texts::refusal_text, run_model::specs::Texts::outcome_text))]
 pub fn refuse_item(alloc: Global, out: &mut Vec<u8>) -> Result<(), AllocError>
     ensures { OnOk result (out.new.items ≡ out.old.items ++ refusal_text no_script) }
 {
@@ -215,7 +215,7 @@ pub fn refuse_item(alloc: Global, out: &mut Vec<u8>) -> Result<(), AllocError>
 }
 
 /// Adds why an operator gave nothing.
-#[tactic(auto, unfolding(rel_model::specs::Page::refusal_text, rel_model::specs::Page::outcome_text))]
+#[tactic(auto, unfolding(run_model::specs::Texts::refusal_text, run_model::specs::Texts::outcome_text))]
 pub fn push_lack(out: &mut Vec<u8>, lack: Lack) -> Result<(), AllocError>
     ensures { OnOk result (out.new.items ≡ out.old.items ++ refusal_text (lack_outcome lack)) }
 {

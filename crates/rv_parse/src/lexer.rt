@@ -24,7 +24,7 @@ enum Lexeme {
 }
 
 /// Why a file text is none, by the place of its first quote and the bytes behind it.
-#[tactic(auto, unfolding(rel_model::specs::Lexed::file_fault))]
+#[tactic(auto, unfolding(lang_model::specs::Lexed::file_fault))]
 fn text_flaw(quote: Place, bytes: &[u8]) -> Flaw
     requires line { quote.line + 1 + length bytes.now < 2 ^ 32 }
     requires column { quote.column + 1 + length bytes.now < 2 ^ 32 }
@@ -55,7 +55,7 @@ fn stopped_text(quote: Place, at: Place, next: u8) -> Flaw
 }
 
 /// Why the first byte begins no token.
-#[tactic(auto, unfolding(rel_model::specs::Lexed::token_fault))]
+#[tactic(auto, unfolding(lang_model::specs::Lexed::token_fault))]
 fn flaw(at: Place, bytes: &[u8]) -> Flaw
     requires first { 0 < length bytes.now }
     requires line { at.line + length bytes.now < 2 ^ 32 }

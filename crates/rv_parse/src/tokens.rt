@@ -39,7 +39,7 @@ fn next_value(value: u64, digit: u64) -> Option<u64>
 }
 
 /// The place behind a byte.
-#[tactic(auto, unfolding(rel_model::specs::Tokens::behind))]
+#[tactic(auto, unfolding(lang_model::specs::Tokens::behind))]
 pub fn step(at: Place, b: u8) -> Place
     requires line { at.line + 1 < 2 ^ 32 }
     requires column { at.column + 1 < 2 ^ 32 }
@@ -77,7 +77,7 @@ pub fn advance(at: Place, bytes: &[u8], n: usize) -> Place
 }
 
 /// A keyword, a base name or a name.
-#[tactic(auto, unfolding(rel_model::specs::Tokens::word_kind))]
+#[tactic(auto, unfolding(lang_model::specs::Tokens::word_kind))]
 fn word_kind(alloc: Global, word: &[u8]) -> Result<Kind, Refusal>
     requires { (1 ≤ length word.now) × (length word.now ≤ 64) }
     ensures kind { IfOk result (λ kind. kind ≡ word_kind word.now) }
@@ -133,7 +133,7 @@ fn number_at(bytes: &[u8]) -> Result<(Kind, usize), Refusal>
 }
 
 /// The file text behind whose first quote the bytes stand, and how many bytes it has with its quotes.
-#[tactic(auto, unfolding(rel_model::specs::Tokens::file_at))]
+#[tactic(auto, unfolding(lang_model::specs::Tokens::file_at))]
 fn file_at(alloc: Global, bytes: &[u8]) -> Result<(Kind, usize), Refusal>
     ensures within { IfOk result (λ x. (1 ≤ x.1) × (x.1 ≤ length bytes.now + 1)) }
     ensures kind { Finds (file_at bytes.now) result }

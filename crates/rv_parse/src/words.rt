@@ -82,7 +82,7 @@ fn look_up(text: &[u8], table: &[(&str, Reserved)]) -> Option<Reserved>
 }
 
 /// What a reserved word stands for.
-#[tactic(auto, unfolding(rel_model::specs::Tokens::reserved_words))]
+#[tactic(auto, unfolding(lang_model::specs::Tokens::reserved_words))]
 pub fn reserved_word(word: &[u8]) -> Option<Reserved>
     ensures { option_map kind_of result ≡ found_in word.now reserved_words }
 {
@@ -90,7 +90,7 @@ pub fn reserved_word(word: &[u8]) -> Option<Reserved>
 }
 
 /// What a domain operator stands for.
-#[tactic(auto, unfolding(rel_model::specs::Tokens::domain_operators))]
+#[tactic(auto, unfolding(lang_model::specs::Tokens::domain_operators))]
 pub fn domain_operator(text: &[u8]) -> Option<Reserved>
     ensures { option_map kind_of result ≡ found_in text.now domain_operators }
 {

@@ -104,7 +104,7 @@ fn check_defined<'a>(
 }
 
 /// The faults at the name of a definition. Afterwards the parameters are among the names.
-#[tactic(auto, unfolding(rel_model::specs::Checking::head_faults))]
+#[tactic(auto, unfolding(lang_model::specs::Checking::head_faults))]
 pub fn check_head<'a>(
     earlier: &Definitions,
     head: Head<'a>,

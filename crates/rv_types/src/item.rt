@@ -76,7 +76,7 @@ fn value_of(command: &Command) -> Option<&Expr>
 }
 
 /// The rank of the definition of an item, or 0 for a command.
-#[tactic(auto, unfolding(rel_model::specs::Checking::rank_of))]
+#[tactic(auto, unfolding(lang_model::specs::Checking::rank_of))]
 pub fn rank_of(earlier: &Definitions, item: &Item) -> usize
     requires { RanksWithin (2 ^ 64 - 2) earlier.now }
     ensures { result ≡ rank_of_item earlier.now item.now }
@@ -191,7 +191,7 @@ fn check_command<'a>(
 }
 
 /// The first fault so far and of an item of this rank. A command takes no memory.
-#[tactic(auto, unfolding(rel_model::specs::Checking::item_faults))]
+#[tactic(auto, unfolding(lang_model::specs::Checking::item_faults))]
 pub fn check_item<'a>(
     alloc: Global,
     earlier: &Definitions,
@@ -249,7 +249,7 @@ pub fn check_item<'a>(
 }
 
 /// The definitions up to and with an item of this rank. A command takes no memory.
-#[tactic(auto, unfolding(rel_model::specs::Checking::known_with))]
+#[tactic(auto, unfolding(lang_model::specs::Checking::known_with))]
 pub fn define(
     alloc: Global,
     definitions: &mut Definitions,

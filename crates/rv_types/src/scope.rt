@@ -25,7 +25,7 @@ pub struct Scope<'a, 'd> {
 }
 
 /// A name is a relation's, a parameter, or a variable that is assigned on every path before it.
-#[tactic(auto, unfolding(rel_model::specs::Checking::ref_faults))]
+#[tactic(auto, unfolding(lang_model::specs::Checking::ref_faults))]
 pub fn check_ref<'a>(
     scope: &Scope<'a, '_>,
     assigned: &Names<'a>,
@@ -56,7 +56,7 @@ pub fn check_ref<'a>(
 }
 
 /// A call is of a definition of an earlier item, with as many arguments as it takes.
-#[tactic(auto, unfolding(rel_model::specs::Checking::call_faults))]
+#[tactic(auto, unfolding(lang_model::specs::Checking::call_faults))]
 pub fn check_call<'a>(
     scope: &Scope<'a, '_>,
     at: Place,
@@ -89,7 +89,7 @@ pub fn check_call<'a>(
 }
 
 /// A projection is of a declared product, and an injection of a declared sum.
-#[tactic(auto, unfolding(rel_model::specs::Checking::domain_faults))]
+#[tactic(auto, unfolding(lang_model::specs::Checking::domain_faults))]
 pub fn check_domain<'a>(
     scope: &Scope<'a, '_>,
     at: Place,
@@ -118,7 +118,7 @@ pub fn check_domain<'a>(
 }
 
 /// An assignment is to a declared variable.
-#[tactic(auto, unfolding(rel_model::specs::Checking::target_faults))]
+#[tactic(auto, unfolding(lang_model::specs::Checking::target_faults))]
 pub fn check_target<'a>(
     scope: &Scope<'a, '_>,
     at: Place,
