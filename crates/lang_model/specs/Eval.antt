@@ -55,6 +55,22 @@ evaluated script state e turns =
     unless_missing (missing state e)
     (unless_misfit (static_type script (types_in state) e) (meaning script state e turns))
 
+-- the cost of what an expression comes to: a fault ahead of all computing costs nothing
+abbrev pub cost_of_value : ℕ → Evaluated → ℕ
+cost_of_value leaf (Ahead fault) = 0
+cost_of_value leaf (Comes came) = came.cost leaf
+
+-- an expression that is more than a name
+abbrev pub IsCompound : Expr → Type 0
+IsCompound (Ref at name) = ⊥
+IsCompound (Call' at name shape args) = Unit {0}
+IsCompound (Base' at base shape args) = Unit {0}
+IsCompound (Inject at base domain) = Unit {0}
+IsCompound (Pair' at p left q right) = Unit {0}
+IsCompound (Minus' at p of) = Unit {0}
+IsCompound (Turned' at p of times) = Unit {0}
+IsCompound (Chain' p first shape rest) = Unit {0}
+
 -- ---- the names of an expression
 -- the relation names that an expression of a command uses, from the left, repeats kept
 abbrev mutual

@@ -37,7 +37,8 @@ use Rattle.run_model.specs.Due.{
   due_of_command,
   due,
 }
-use Rattle.run_model.specs.Cost.{cost_of_value, cost_of, cost_on_snapshot, cost_of_item}
+use Rattle.run_model.specs.Cost.{cost_of, cost_on_snapshot, cost_of_item}
+use Rattle.lang_model.specs.Eval.{cost_of_value}
 use Rattle.run_model.specs.Laws.{names_taken, names_asked, SnapsAgree, DueByNames}
 
 module _ (input : Input) (script : Script) where

@@ -26,7 +26,7 @@ use Rattle.run_model.specs.declared.outcome.Outcome.{Outcome}
 use Rattle.rel_model.specs.Relation.{Relation}
 use Rattle.rel_model.specs.Roots.{height_over}
 use Rattle.rel_model.specs.Worker.{listed_room}
-use Rattle.lang_model.specs.Eval.{Evaluated, Ahead, Comes, evaluated}
+use Rattle.lang_model.specs.Eval.{evaluated, cost_of_value}
 use Rattle.run_model.specs.Names.{lookup}
 use Rattle.run_model.specs.Inputs.{Input, Reading, NoScript, Flawed, Runs}
 use Rattle.run_model.specs.Due.{Workspace, Due, Nothing, Value, Refused}
@@ -45,11 +45,6 @@ unfoldable pub listed_cost : ℕ → ℕ → ℕ → ℕ → ℕ
 listed_cost leaf count rows cols = listed_room count (height_over leaf rows cols - leaf)
 
 -- ---- commands
--- the cost of what an expression comes to: a fault ahead of all computing costs nothing
-abbrev pub cost_of_value : ℕ → Evaluated → ℕ
-cost_of_value leaf (Ahead fault) = 0
-cost_of_value leaf (Comes came) = came.cost leaf
-
 -- an expression on a workspace
 abbrev pub cost_of : ℕ → Input → Script → Expr → Workspace → ℕ
 cost_of leaf input script e state = cost_of_value leaf (evaluated script (lookup state) e input.turns)

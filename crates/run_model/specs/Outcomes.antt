@@ -1,17 +1,7 @@
 -- Which outcomes are lawful of an item of which this is due.
 use Rattle.std.specs.Prelude.{◌≡◌, ◌⊎◌, List}
 use Rattle.std.specs.List.{AllByRecursion}
-use Rattle.lang_model.specs.declared.syntax.Expr.{
-  Expr,
-  Ref,
-  Call',
-  Base',
-  Inject,
-  Pair',
-  Minus',
-  Turned',
-  Chain',
-}
+use Rattle.lang_model.specs.Eval.{IsCompound}
 use Rattle.lang_model.specs.declared.syntax.Command.{Command}
 use Rattle.lang_model.specs.declared.syntax.Command.TheVariants.{
   Relation as RELATION,
@@ -34,17 +24,6 @@ use Rattle.run_model.specs.declared.outcome.Outcome.TheVariants.{Nodes, NoMemory
 use Rattle.run_model.specs.Inputs.{Input}
 use Rattle.run_model.specs.Due.{When, Early, Late, Due, Nothing, Value, Refused, outcome_due}
 use Rattle.run_model.specs.Steps.{Step, due_at}
-
--- an expression that is more than a name
-abbrev pub IsCompound : Expr → Type 0
-IsCompound (Ref at name) = ⊥
-IsCompound (Call' at name shape args) = Unit {0}
-IsCompound (Base' at base shape args) = Unit {0}
-IsCompound (Inject at base domain) = Unit {0}
-IsCompound (Pair' at p left q right) = Unit {0}
-IsCompound (Minus' at p of) = Unit {0}
-IsCompound (Turned' at p of times) = Unit {0}
-IsCompound (Chain' p first shape rest) = Unit {0}
 
 -- a command that makes a relation or applies an operator, so that a full table may refuse it
 abbrev pub WantsNodes : Command → Type 0
