@@ -32,7 +32,8 @@ use Rattle.lang_model.specs.Eval.{Evaluated, Ahead, Comes, unless_misfit, unless
 use Rattle.run_model.specs.Names.{lookup}
 use Rattle.run_model.specs.Inputs.{Input}
 use Rattle.run_model.specs.Files.{bits_count}
-use Rattle.run_model.specs.Due.{Late, Workspace, Due, Nothing, Value, Refused, print_limit, list_limit, save_limit, printed, listed, saved, due_of_answer, due_of_value, due_of, due_on_snapshot, due_of_command, due}
+use Rattle.run_model.specs.Due.{Late, Workspace, Due, Nothing, Value, Refused, printed, listed, saved, due_of_answer, due_of_value, due_of, due_on_snapshot, due_of_command, due}
+use Rattle.run_model.specs.Limits.{print_limit, list_limit, save_limit}
 use Rattle.run_model.specs.Outcomes.{WantsNodes}
 use Rattle.lang_model.specs.Eval.{IsCompound}
 use Rattle.run_model.specs.Cost.{cost_of, cost_on_snapshot, where_value, cost_of_command, cost_of_item}

@@ -39,9 +39,6 @@ use Rattle.run_model.specs.Due.{
   Nothing,
   Value,
   Refused,
-  print_limit,
-  list_limit,
-  save_limit,
   within,
   printed,
   listed,
@@ -62,6 +59,7 @@ use Rattle.run_model.specs.Due.{
   due_of_command,
   due,
 }
+use Rattle.run_model.specs.Limits.{print_limit, list_limit, save_limit}
 use Rattle.run_model.specs.Steps.{Fails, ending}
 
 -- a refusal that is due fails

@@ -1,5 +1,5 @@
 -- What is due of an item: that it is done, with a value or with none, or a refusal.
-use Rattle.std.specs.Prelude.{◌*◌, ◌^◌, nat_lt, cond, ℕ, List, [], ◌∷◌, length, Option, Some, None}
+use Rattle.std.specs.Prelude.{◌*◌, nat_lt, cond, ℕ, List, [], ◌∷◌, length, Option, Some, None}
 use Rattle.lang_model.specs.declared.syntax.Place.{Place}
 use Rattle.lang_model.specs.declared.syntax.Column.{Column}
 use Rattle.lang_model.specs.declared.syntax.Row.{Row}
@@ -42,6 +42,7 @@ use Rattle.lang_model.specs.Outcomes.{Refusal, Ill, Size, Turns, Answer, Got, No
 use Rattle.lang_model.specs.Eval.{Evaluated, Ahead, Comes, evaluated}
 use Rattle.run_model.specs.Names.{Names, lookup}
 use Rattle.run_model.specs.Inputs.{Input, file_named}
+use Rattle.run_model.specs.Limits.{print_limit, list_limit, save_limit}
 use Rattle.run_model.specs.Files.{k2_fault, k2_relation, bits_count}
 
 -- the workspace: which relation each name has
@@ -70,18 +71,6 @@ outcome_due (Value r) = Done
 outcome_due (Refused when outcome) = outcome
 
 -- ---- limits
--- how many cells are printed at most
-abbrev pub print_limit : ℕ
-print_limit = 2 ^ 20
-
--- how many pairs are listed at most
-abbrev pub list_limit : ℕ
-list_limit = 2 ^ 20
-
--- how many bits of a relation's tree are saved at most
-abbrev pub save_limit : ℕ
-save_limit = 2 ^ 26
-
 -- a value that passes a limit is refused, and else is due
 abbrev pub within : ℕ → ℕ → Outcome → Relation → Due
 within limit wanted outcome r = cond (nat_lt limit wanted) (Refused Late outcome) (Value r)

@@ -1,6 +1,7 @@
 pub mod Names
 pub mod Inputs
 pub mod Files
+pub mod Limits
 pub mod Due
 pub mod Steps
 pub mod Events

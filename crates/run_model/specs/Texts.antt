@@ -17,6 +17,9 @@ use Rattle.run_model.specs.declared.outcome.Unit.TheVariants.{Cells, Pairs}
 use Rattle.run_model.specs.declared.outcome.Outcome.{Outcome}
 use Rattle.run_model.specs.declared.outcome.Outcome.TheVariants.{Done, Parse, Ill, Size, Turns, Nodes, TooLarge, TooLong, NoFile, BadFile as BAD_FILE, NoMemory}
 use Rattle.rel_model.specs.Relation.{Relation, has}
+use Rattle.lang_model.specs.Taken.{nesting_limit}
+use Rattle.lang_model.specs.Checking.{rank_limit}
+use Rattle.run_model.specs.Limits.{print_limit, list_limit, save_limit}
 
 -- `S.C: `
 abbrev pub prefix : ℕ → ℕ → List ℕ
@@ -67,7 +70,7 @@ what_text (Token text) = text
 unfoldable pub parse_fault_text : ParseFault → List ℕ
 parse_fault_text (Byte at byte) = place_text at ++ codes "byte " ++ decimal byte ++ codes " is not allowed"
 parse_fault_text (Expected at what) = place_text at ++ codes "expected " ++ what_text what
-parse_fault_text (TooDeep at) = place_text at ++ codes "nested deeper than 40"
+parse_fault_text (TooDeep at) = place_text at ++ codes "nested deeper than " ++ decimal nesting_limit
 parse_fault_text (NumberTooLarge at) = place_text at ++ codes "number over 64 bits"
 parse_fault_text (NameTooLong at) = place_text at ++ codes "name too long"
 parse_fault_text PARSE_NO_MEMORY = codes "no memory"
@@ -85,7 +88,7 @@ unfoldable pub type_fault_text : TypeFault → List ℕ
 type_fault_text (Unknown at name) = unknown_text at name
 type_fault_text (Arity at name takes given) = place_text at ++ name ++ codes " takes " ++ decimal takes ++ codes " arguments, not " ++ decimal given
 type_fault_text (Unassigned at name) = place_text at ++ name ++ codes " may be read before it is assigned"
-type_fault_text (Rank at name) = place_text at ++ name ++ codes " has a rank over 16"
+type_fault_text (Rank at name) = place_text at ++ name ++ codes " has a rank over " ++ decimal rank_limit
 type_fault_text (Mismatch at op left right) = mismatch_text at op left right
 type_fault_text (NotSquare at op shape) = place_text at ++ op ++ codes " needs a square relation, not " ++ shape_text shape
 type_fault_text (NotVector at op shape) = place_text at ++ op ++ codes " needs one column, not " ++ shape_text shape
@@ -112,6 +115,11 @@ abbrev pub unit_text : COUNTED → List ℕ
 unit_text Cells = codes " cells"
 unit_text Pairs = codes " pairs"
 
+-- the limit of it
+abbrev pub unit_limit : COUNTED → ℕ
+unit_limit Cells = print_limit
+unit_limit Pairs = list_limit
+
 -- a text in quotes
 abbrev pub quoted : List ℕ → List ℕ
 quoted text = 34 ∷ [] ++ text ++ 34 ∷ []
@@ -124,8 +132,8 @@ outcome_text (Ill fault) = type_fault_text fault
 outcome_text (Size at wanted limit) = place_text at ++ codes "size " ++ decimal wanted ++ codes " passes the limit " ++ decimal limit
 outcome_text (Turns at limit) = place_text at ++ codes "more than " ++ decimal limit ++ codes " turns"
 outcome_text Nodes = codes "no free node word"
-outcome_text (TooLarge wanted counted) = decimal wanted ++ unit_text counted ++ codes " pass the limit 1048576"
-outcome_text (TooLong bits) = decimal bits ++ codes " bits pass the limit 67108864"
+outcome_text (TooLarge wanted counted) = decimal wanted ++ unit_text counted ++ codes " pass the limit " ++ decimal (unit_limit counted)
+outcome_text (TooLong bits) = decimal bits ++ codes " bits pass the limit " ++ decimal save_limit
 outcome_text (NoFile name) = codes "no file " ++ quoted name
 outcome_text (BAD_FILE name kind) = codes "file " ++ quoted name ++ codes " is bad: " ++ bad_file_text kind
 outcome_text NoMemory = codes "no memory"

@@ -1,0 +1,4 @@
+pub mod Standing
+pub mod Marking
+pub mod Lines
+pub mod Chains

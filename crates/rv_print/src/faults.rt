@@ -1,0 +1,351 @@
+//! The texts of refusals: each call adds why something was refused.
+ghost use Rattle.std.specs.Prelude.{◌≡◌, ◌≢◌, ◌++◌, List, ℕ, OnOk, IfOk};
+ghost use Rattle.lang_model.specs.declared.faults.TypeFault.TheVariants.{Arity};
+ghost use Rattle.run_model.specs.Texts.{place_text, what_text, parse_fault_text, unknown_text, mismatch_text, type_fault_text, bad_file_text, unit_text, unit_limit, quoted, outcome_text, refusal_text};
+ghost use Rattle.run_model.specs.declared.outcome.Outcome.TheVariants.{Done, Size, Turns, TooLarge, TooLong, NoFile, BadFile as BAD_FILE};
+
+use crate::limits::{LIST_LIMIT, NESTING_LIMIT, PRINT_LIMIT, RANK_LIMIT, SAVE_LIMIT};
+use crate::pieces::{push_number, push_place, push_shape};
+use lang_model::faults::{ParseFault, StaticShape, TypeFault, What};
+use lang_model::syntax::{FileText, Name, Place};
+use rel_model::NoMemory;
+use run_model::outcome::{BadFile, Outcome, Unit};
+use std::alloc::{AllocError, Global};
+
+/// `refused: TEXT`, a line: why a command was refused.
+#[tactic(auto, unfolding(run_model::specs::Texts::refusal_text))]
+pub fn fault_text(alloc: Global, outcome: &Outcome) -> Result<Vec<u8>, NoMemory>
+    requires { outcome.now ≢ Done }
+    ensures { IfOk result (λ v. v.items ≡ refusal_text outcome.now) }
+{
+    let mut out = Vec::new(alloc);
+    out.extend_from_slice(b"refused: ")?;
+    push_outcome(alloc, &mut out, outcome)?;
+    out.push(b'\n')?;
+    Ok(out)
+}
+
+/// Adds why a command was refused.
+#[tactic(auto, unfolding(run_model::specs::Texts::outcome_text))]
+fn push_outcome(alloc: Global, out: &mut Vec<u8>, outcome: &Outcome) -> Result<(), AllocError>
+    ensures { OnOk result (out.new.items ≡ out.old.items ++ outcome_text outcome.now) }
+{
+    match outcome {
+        Outcome::Done => Ok(()),
+        Outcome::Parse(fault) => push_parse_fault(alloc, out, fault),
+        Outcome::Ill(fault) => push_type_fault(alloc, out, fault),
+        Outcome::Size { at, wanted, limit } => push_size_over(alloc, out, *at, *wanted, *limit),
+        Outcome::Turns { at, limit } => push_turns(alloc, out, *at, *limit),
+        Outcome::Nodes => out.extend_from_slice(b"no free node word"),
+        Outcome::TooLarge { wanted, unit } => push_too_large(alloc, out, *wanted, *unit),
+        Outcome::TooLong { bits } => push_too_long(alloc, out, *bits),
+        Outcome::NoFile { name } => push_no_file(out, name),
+        Outcome::BadFile { name, kind } => push_bad(alloc, out, name, *kind),
+        Outcome::NoMemory => out.extend_from_slice(b"no memory"),
+    }
+}
+
+// ---- what commands come to
+/// Adds that a size passes its limit.
+#[tactic(auto, unfolding(run_model::specs::Texts::outcome_text))]
+fn push_size_over(
+    alloc: Global,
+    out: &mut Vec<u8>,
+    at: Place,
+    wanted: u64,
+    limit: u64,
+) -> Result<(), AllocError>
+    ensures { OnOk result (out.new.items ≡ out.old.items ++ outcome_text (Size at wanted limit)) }
+{
+    push_place(alloc, out, at)?;
+    out.extend_from_slice(b"size ")?;
+    push_number(alloc, out, wanted)?;
+    out.extend_from_slice(b" passes the limit ")?;
+    push_number(alloc, out, limit)?;
+    Ok(())
+}
+
+/// Adds that loops took too many turns.
+#[tactic(auto, unfolding(run_model::specs::Texts::outcome_text))]
+fn push_turns(alloc: Global, out: &mut Vec<u8>, at: Place, limit: u64) -> Result<(), AllocError>
+    ensures { OnOk result (out.new.items ≡ out.old.items ++ outcome_text (Turns at limit)) }
+{
+    push_place(alloc, out, at)?;
+    out.extend_from_slice(b"more than ")?;
+    push_number(alloc, out, limit)?;
+    out.extend_from_slice(b" turns")?;
+    Ok(())
+}
+
+/// What a limit counts.
+fn unit_name(unit: Unit) -> &'static [u8]
+    ensures { result.now ≡ unit_text unit }
+{
+    match unit {
+        Unit::Cells => b" cells",
+        Unit::Pairs => b" pairs",
+    }
+}
+
+/// The limit of it.
+fn limit_of(unit: Unit) -> u64
+    ensures { result ≡ unit_limit unit }
+{
+    match unit {
+        Unit::Cells => PRINT_LIMIT,
+        Unit::Pairs => LIST_LIMIT,
+    }
+}
+
+/// Adds that a relation has too many cells or pairs to be shown.
+#[tactic(auto, unfolding(run_model::specs::Texts::outcome_text))]
+fn push_too_large(
+    alloc: Global,
+    out: &mut Vec<u8>,
+    wanted: u64,
+    unit: Unit,
+) -> Result<(), AllocError>
+    ensures { OnOk result (out.new.items ≡ out.old.items ++ outcome_text (TooLarge wanted unit)) }
+{
+    push_number(alloc, out, wanted)?;
+    out.extend_from_slice(unit_name(unit))?;
+    out.extend_from_slice(b" pass the limit ")?;
+    push_number(alloc, out, limit_of(unit))?;
+    Ok(())
+}
+
+/// Adds that a relation's tree has too many bits to be saved.
+#[tactic(auto, unfolding(run_model::specs::Texts::outcome_text))]
+fn push_too_long(alloc: Global, out: &mut Vec<u8>, bits: u64) -> Result<(), AllocError>
+    ensures { OnOk result (out.new.items ≡ out.old.items ++ outcome_text (TooLong bits)) }
+{
+    push_number(alloc, out, bits)?;
+    out.extend_from_slice(b" bits pass the limit ")?;
+    push_number(alloc, out, SAVE_LIMIT)?;
+    Ok(())
+}
+
+// ---- relation files
+/// Adds a text in quotes.
+fn push_quoted(out: &mut Vec<u8>, text: &[u8]) -> Result<(), AllocError>
+    ensures { OnOk result (out.new.items ≡ out.old.items ++ quoted text.now) }
+{
+    out.push(b'"')?;
+    out.extend_from_slice(text)?;
+    out.push(b'"')?;
+    Ok(())
+}
+
+/// Adds that there is no file of a name.
+#[tactic(auto, unfolding(run_model::specs::Texts::outcome_text))]
+fn push_no_file(out: &mut Vec<u8>, name: &FileText) -> Result<(), AllocError>
+    ensures { OnOk result (out.new.items ≡ out.old.items ++ outcome_text (NoFile name.now)) }
+{
+    out.extend_from_slice(b"no file ")?;
+    push_quoted(out, name.bytes())?;
+    Ok(())
+}
+
+/// Adds that a file is no relation file.
+#[tactic(auto, unfolding(run_model::specs::Texts::outcome_text))]
+fn push_bad(
+    alloc: Global,
+    out: &mut Vec<u8>,
+    name: &FileText,
+    kind: BadFile,
+) -> Result<(), AllocError>
+    ensures { OnOk result (out.new.items ≡ out.old.items ++ outcome_text (BAD_FILE name.now kind)) }
+{
+    out.extend_from_slice(b"file ")?;
+    push_quoted(out, name.bytes())?;
+    out.extend_from_slice(b" is bad: ")?;
+    push_kind(alloc, out, kind)?;
+    Ok(())
+}
+
+/// Adds why bytes are no relation file.
+#[tactic(auto, unfolding(run_model::specs::Texts::bad_file_text))]
+fn push_kind(alloc: Global, out: &mut Vec<u8>, kind: BadFile) -> Result<(), AllocError>
+    ensures { OnOk result (out.new.items ≡ out.old.items ++ bad_file_text kind) }
+{
+    match kind {
+        BadFile::Short => out.extend_from_slice(b"short"),
+        BadFile::Magic => out.extend_from_slice(b"magic"),
+        BadFile::Sizes => out.extend_from_slice(b"sizes"),
+        BadFile::Height => out.extend_from_slice(b"height"),
+        BadFile::Lengths => out.extend_from_slice(b"lengths"),
+        BadFile::ZeroGroup { at } => {
+            out.extend_from_slice(b"zero group at ")?;
+            push_number(alloc, out, at)
+        }
+        BadFile::Outside { at } => {
+            out.extend_from_slice(b"pair outside at ")?;
+            push_number(alloc, out, at)
+        }
+        BadFile::Padding => out.extend_from_slice(b"padding"),
+        BadFile::Rest => out.extend_from_slice(b"rest"),
+        BadFile::Full => out.extend_from_slice(b"no free node word"),
+        BadFile::NoMemory => out.extend_from_slice(b"no memory"),
+    }
+}
+
+// ---- grammar
+/// Adds what the grammar needs.
+#[tactic(auto, unfolding(run_model::specs::Texts::what_text))]
+fn push_what(out: &mut Vec<u8>, what: &What) -> Result<(), AllocError>
+    ensures { OnOk result (out.new.items ≡ out.old.items ++ what_text what.now) }
+{
+    match what {
+        What::Item => out.extend_from_slice(b"an item"),
+        What::Expression => out.extend_from_slice(b"an expression"),
+        What::Name => out.extend_from_slice(b"a name"),
+        What::Number => out.extend_from_slice(b"a number"),
+        What::NumberFromOne => out.extend_from_slice(b"a number from 1"),
+        What::FileText => out.extend_from_slice(b"a file text"),
+        What::Token(text) => out.extend_from_slice(text.bytes()),
+    }
+}
+
+/// Adds why bytes are no script.
+#[tactic(auto, unfolding(run_model::specs::Texts::parse_fault_text))]
+fn push_parse_fault(alloc: Global, out: &mut Vec<u8>, fault: &ParseFault) -> Result<(), AllocError>
+    ensures { OnOk result (out.new.items ≡ out.old.items ++ parse_fault_text fault.now) }
+{
+    match fault {
+        ParseFault::Byte { at, byte } => {
+            push_place(alloc, out, *at)?;
+            out.extend_from_slice(b"byte ")?;
+            push_number(alloc, out, u64::from(*byte))?;
+            out.extend_from_slice(b" is not allowed")
+        }
+        ParseFault::Expected { at, what } => {
+            push_place(alloc, out, *at)?;
+            out.extend_from_slice(b"expected ")?;
+            push_what(out, what)
+        }
+        ParseFault::TooDeep { at } => {
+            push_place(alloc, out, *at)?;
+            out.extend_from_slice(b"nested deeper than ")?;
+            push_number(alloc, out, NESTING_LIMIT)
+        }
+        ParseFault::NumberTooLarge { at } => {
+            push_place(alloc, out, *at)?;
+            out.extend_from_slice(b"number over 64 bits")
+        }
+        ParseFault::NameTooLong { at } => {
+            push_place(alloc, out, *at)?;
+            out.extend_from_slice(b"name too long")
+        }
+        ParseFault::NoMemory => out.extend_from_slice(b"no memory"),
+    }
+}
+
+// ---- meaning
+/// Adds that a name has no relation, at its place.
+#[tactic(auto, unfolding(run_model::specs::Texts::unknown_text))]
+fn push_unknown(alloc: Global, out: &mut Vec<u8>, at: Place, name: &Name) -> Result<(), AllocError>
+    ensures { OnOk result (out.new.items ≡ out.old.items ++ unknown_text at name.now) }
+{
+    push_place(alloc, out, at)?;
+    out.extend_from_slice(b"unknown name ")?;
+    out.extend_from_slice(name.bytes())?;
+    Ok(())
+}
+
+/// Adds what is said of a name, at its place.
+fn push_said(
+    alloc: Global,
+    out: &mut Vec<u8>,
+    at: Place,
+    name: &Name,
+    said: &[u8],
+) -> Result<(), AllocError>
+    ensures { OnOk result (out.new.items ≡ out.old.items ++ (place_text at ++ name.now ++ said.now)) }
+{
+    push_place(alloc, out, at)?;
+    out.extend_from_slice(name.bytes())?;
+    out.extend_from_slice(said)?;
+    Ok(())
+}
+
+/// Adds that a definition takes so many arguments.
+#[tactic(auto, unfolding(run_model::specs::Texts::type_fault_text))]
+fn push_arity(
+    alloc: Global,
+    out: &mut Vec<u8>,
+    at: Place,
+    name: &Name,
+    takes: u32,
+    given: u32,
+) -> Result<(), AllocError>
+    ensures { OnOk result (out.new.items ≡ out.old.items ++ type_fault_text (Arity at name.now takes given)) }
+{
+    push_said(alloc, out, at, name, b" takes ")?;
+    push_number(alloc, out, u64::from(takes))?;
+    out.extend_from_slice(b" arguments, not ")?;
+    push_number(alloc, out, u64::from(given))?;
+    Ok(())
+}
+
+/// Adds that operands do not fit.
+#[tactic(auto, unfolding(run_model::specs::Texts::mismatch_text))]
+fn push_mismatch(
+    alloc: Global,
+    out: &mut Vec<u8>,
+    at: Place,
+    op: &Name,
+    left: StaticShape,
+    right: StaticShape,
+) -> Result<(), AllocError>
+    ensures { OnOk result (out.new.items ≡ out.old.items ++ mismatch_text at op.now left right) }
+{
+    push_said(alloc, out, at, op, b" does not fit ")?;
+    push_shape(alloc, out, left)?;
+    out.extend_from_slice(b" and ")?;
+    push_shape(alloc, out, right)?;
+    Ok(())
+}
+
+/// Adds why an expression or a script has no meaning.
+#[tactic(auto, unfolding(run_model::specs::Texts::type_fault_text))]
+fn push_type_fault(alloc: Global, out: &mut Vec<u8>, fault: &TypeFault) -> Result<(), AllocError>
+    ensures { OnOk result (out.new.items ≡ out.old.items ++ type_fault_text fault.now) }
+{
+    match fault {
+        TypeFault::Unknown { at, name } => push_unknown(alloc, out, *at, name),
+        TypeFault::Arity {
+            at,
+            name,
+            takes,
+            given,
+        } => push_arity(alloc, out, *at, name, *takes, *given),
+        TypeFault::Unassigned { at, name } => {
+            push_said(alloc, out, *at, name, b" may be read before it is assigned")
+        }
+        TypeFault::Rank { at, name } => {
+            push_said(alloc, out, *at, name, b" has a rank over ")?;
+            push_number(alloc, out, RANK_LIMIT)
+        }
+        TypeFault::Mismatch {
+            at,
+            op,
+            left,
+            right,
+        } => push_mismatch(alloc, out, *at, op, *left, *right),
+        TypeFault::NotSquare { at, op, shape } => {
+            push_said(alloc, out, *at, op, b" needs a square relation, not ")?;
+            push_shape(alloc, out, *shape)
+        }
+        TypeFault::NotVector { at, op, shape } => {
+            push_said(alloc, out, *at, op, b" needs one column, not ")?;
+            push_shape(alloc, out, *shape)
+        }
+        TypeFault::NotTest { at, shape } => {
+            push_place(alloc, out, *at)?;
+            out.extend_from_slice(b"a test must be 1 x 1, not ")?;
+            push_shape(alloc, out, *shape)
+        }
+        TypeFault::Twice { at, name } => { push_said(alloc, out, *at, name, b" is defined twice") }
+        TypeFault::NoMemory => out.extend_from_slice(b"no memory"),
+    }
+}

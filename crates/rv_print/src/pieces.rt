@@ -1,0 +1,69 @@
+//! The parts of which texts are made: each call adds its text behind what is there.
+ghost use Rattle.std.specs.Prelude.{◌≡◌, ◌++◌, OnOk};
+ghost use Rattle.std.specs.Fmt.{decimal};
+ghost use Rattle.run_model.specs.Texts.{place_text, size_text, shape_text};
+ghost use Rattle.run_model.specs.Page.{sizes_text};
+
+use lang_model::faults::StaticShape;
+use lang_model::syntax::Place;
+use std::alloc::{AllocError, Global};
+
+/// Adds a number in decimal.
+pub(crate) fn push_number(alloc: Global, out: &mut Vec<u8>, n: u64) -> Result<(), AllocError>
+    ensures { OnOk result (out.new.items ≡ out.old.items ++ decimal n) }
+{
+    let text = n.to_string(alloc)?;
+    out.extend_from_slice(text.as_bytes())
+}
+
+/// Adds `M x N`.
+pub(crate) fn push_sizes(
+    alloc: Global,
+    out: &mut Vec<u8>,
+    rows: u32,
+    cols: u32,
+) -> Result<(), AllocError>
+    ensures { OnOk result (out.new.items ≡ out.old.items ++ sizes_text rows cols) }
+{
+    push_number(alloc, out, u64::from(rows))?;
+    out.extend_from_slice(b" x ")?;
+    push_number(alloc, out, u64::from(cols))?;
+    Ok(())
+}
+
+/// Adds `LINE:COLUMN: `.
+#[tactic(auto, unfolding(run_model::specs::Texts::place_text))]
+pub(crate) fn push_place(alloc: Global, out: &mut Vec<u8>, at: Place) -> Result<(), AllocError>
+    ensures { OnOk result (out.new.items ≡ out.old.items ++ place_text at) }
+{
+    push_number(alloc, out, u64::from(at.line))?;
+    out.extend_from_slice(b":")?;
+    push_number(alloc, out, u64::from(at.column))?;
+    out.extend_from_slice(b": ")?;
+    Ok(())
+}
+
+/// Adds a size, or `?` where it is unknown.
+fn push_size(alloc: Global, out: &mut Vec<u8>, size: Option<u32>) -> Result<(), AllocError>
+    ensures { OnOk result (out.new.items ≡ out.old.items ++ size_text size) }
+{
+    match size {
+        Some(n) => push_number(alloc, out, u64::from(n)),
+        None => out.extend_from_slice(b"?"),
+    }
+}
+
+/// Adds `M x N` of sizes that may be unknown.
+#[tactic(auto, unfolding(run_model::specs::Texts::shape_text))]
+pub(crate) fn push_shape(
+    alloc: Global,
+    out: &mut Vec<u8>,
+    shape: StaticShape,
+) -> Result<(), AllocError>
+    ensures { OnOk result (out.new.items ≡ out.old.items ++ shape_text shape) }
+{
+    push_size(alloc, out, shape.rows)?;
+    out.extend_from_slice(b" x ")?;
+    push_size(alloc, out, shape.cols)?;
+    Ok(())
+}

@@ -1,0 +1,11 @@
+//! Tests of the texts that the program writes, beside the texts that its formats prescribe.
+#![tactic(auto)]
+
+#[cfg(test)]
+mod history;
+#[cfg(test)]
+mod made;
+#[cfg(test)]
+mod refusals;
+#[cfg(test)]
+mod shown;
