@@ -3,3 +3,4 @@ pub mod Operating
 pub mod Quartering
 pub mod Placing
 pub mod Products
+pub mod Seating

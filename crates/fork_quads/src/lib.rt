@@ -6,6 +6,7 @@ mod gate;
 mod product;
 mod relations;
 mod roots;
+mod seats;
 mod single;
 mod squares;
 
