@@ -9,7 +9,7 @@ use Rattle.turn_book.specs.Entries.{Entry}
 use Rattle.turn_book.specs.declared.rule.Known.{Known}
 use Rattle.turn_book.specs.declared.rule.Opening.{Opening}
 use Rattle.turn_book.specs.Logs.{Begins, MakeUp, weigh, weigh_all}
-use Rattle.turn_book.specs.Views.{Origin}
+use Rattle.turn_book.specs.Origins.{Origin}
 use Rattle.turn_book.specs.Rule.{total, lists, first_view, Holds}
 use Rattle.turn_book.proofs.Listing.{begins_whole, same_at}
 use Rattle.turn_book.proofs.Ruling.{cases_eq, none_some, total_two}

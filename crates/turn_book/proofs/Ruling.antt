@@ -15,7 +15,7 @@ use Rattle.atomic_table.proofs.Lists.{at_set, at_snoc, at_longer, set_here, set_
 use Rattle.turn_book.specs.Entries.{Entry}
 use Rattle.turn_book.specs.declared.rule.Known.{Known}
 use Rattle.turn_book.specs.Logs.{Begins, Within, EachWithin, weigh, weigh_all}
-use Rattle.turn_book.specs.Views.{Origin}
+use Rattle.turn_book.specs.Origins.{Origin}
 use Rattle.turn_book.specs.Rule.{waiting_for, waiting, total, lists, IsSpent, Counted, Queued, Logged, IsOut, Placed, HoldsAt, left_of, right_of, both_of, spent}
 use Rattle.turn_book.specs.Tells.{drawn, holding, given, settled, draw_tells, look_tells, serve_tells, settle_tells}
 use Rattle.turn_book.proofs.Listing.{next_number, begins_itself, begins_more, begins_both, behind, longer_whole, longer_one, shorter_one, none_within, within_added, each_within_more, each_within_both, weigh_append, weigh_all_append, set_at, same_at}

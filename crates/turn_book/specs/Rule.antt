@@ -8,7 +8,8 @@ use Rattle.turn_book.specs.Entries.{Entry}
 use Rattle.turn_book.specs.declared.rule.Known.{Known}
 use Rattle.turn_book.specs.declared.rule.Opening.{Opening}
 use Rattle.turn_book.specs.Logs.{Begins, EachWithin, weigh, weigh_all}
-use Rattle.turn_book.specs.Views.{Origin, longer, shorter}
+use Rattle.turn_book.specs.Origins.{Origin}
+use Rattle.turn_book.specs.Views.{longer, shorter}
 
 -- one for a ticket, and nothing for none
 abbrev pub waiting_for : Option ℕ → ℕ

@@ -4,7 +4,7 @@ use Rattle.atomic_table.specs.Table.{Me, Step}
 use Rattle.turn_book.specs.Entries.{Entry}
 use Rattle.turn_book.specs.declared.rule.Known.{Known}
 use Rattle.turn_book.specs.Logs.{Begins}
-use Rattle.turn_book.specs.Views.{Origin}
+use Rattle.turn_book.specs.Origins.{Origin}
 
 module _ {S : Type 0} where
   -- a ticket is drawn

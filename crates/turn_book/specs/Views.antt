@@ -7,27 +7,31 @@ use Rattle.turn_book.specs.Entries.{Entry}
 abbrev pub House : Type 0
 House = Gv
 
--- with what a value began: names with relations, and names with numbers
+-- with what a value began: two finite maps, from names to relations and from names to numbers, each as a list of its pairs
+-- a name is the list of its bytes, and a relation its rows, its columns and its name in the table
 pub record Start : Type 0 where
-  pub relations : List (ℕ × ℕ)
-  pub numbers : List (ℕ × ℕ)
+  pub relations : List (List ℕ × (ℕ × ℕ × ℕ))
+  pub numbers : List (List ℕ × ℕ)
 
--- what never changes of a kept value
-pub record Origin : Type 0 where
-  pub house : House
-  pub start : Start
+-- nothing was there before
+abbrev pub no_start : Start
+no_start = record { relations = []; numbers = [] }
 
 -- a turn book
 pub record Book : Type 0 where
+  -- which one it is
   pub book : Gv
+  -- for how many passes it was made
   pub passes : ℕ
 
 -- a pass
 pub record View : Type 0 where
   -- the book of which it is
   pub book : Gv
-  -- what never changes of the book's value
-  pub origin : Origin
+  -- the house of the book's value
+  pub house : House
+  -- with what the book's value began
+  pub start : Start
   -- the log as it was last seen
   pub seen : List Entry
   -- the entries that were added by it
@@ -39,10 +43,11 @@ pub record View : Type 0 where
   -- whether it holds the turn
   pub turn : Bool
 
--- the longer and the shorter of two lists
+-- the longer of two lists
 abbrev pub longer : List Entry → List Entry → List Entry
 longer xs ys = cond (ltb (length xs) (length ys)) ys xs
 
+-- the shorter of two lists
 abbrev pub shorter : List Entry → List Entry → List Entry
 shorter xs ys = cond (ltb (length xs) (length ys)) xs ys
 
@@ -51,29 +56,44 @@ abbrev pub lists_of : View → List (List Entry)
 lists_of v = v.mine ∷ v.joined
 
 -- the first pass of a book
-abbrev pub first_pass : Gv → Origin → ℕ → View
-first_pass book origin passes = record { book = book; origin = origin; seen = []; mine = []; joined = []; spare = passes - 1; turn = false }
+abbrev pub first_pass : Gv → House → Start → ℕ → View
+first_pass book house start passes = record { book = book; house = house; start = start; seen = []; mine = []; joined = []; spare = passes - 1; turn = false }
 
 -- a book that was made, and its first pass
-pub record IsFresh (passes : ℕ) (origin : Origin) (made : Book × View) : Type 0 where
+pub record IsFresh (passes : ℕ) (house : House) (start : Start) (made : Book × View) : Type 0 where
   pub passes_are : made.0.passes ≡ passes
-  pub pass_is : made.1 ≡ first_pass made.0.book origin passes
+  pub pass_is : made.1 ≡ first_pass made.0.book house start passes
+
+-- a pass is of this book, and holds no turn
+pub record IsReady (book : Book) (pass : View) : Type 0 where
+  pub of : pass.book ≡ book.book
+  pub idle : pass.turn ≡ false
+
+-- a pass keeps all but what it saw and entered
+pub record IsKept (old new : View) : Type 0 where
+  pub book : new.book ≡ old.book
+  pub house : new.house ≡ old.house
+  pub start : new.start ≡ old.start
+  pub joined : new.joined ≡ old.joined
+  pub spare : new.spare ≡ old.spare
+  pub turn : new.turn ≡ old.turn
 
 -- a turn is taken: the log is seen
 abbrev pub with_turn : List Entry → View → View
-with_turn log v = record { book = v.book; origin = v.origin; seen = log; mine = v.mine; joined = v.joined; spare = v.spare; turn = true }
+with_turn log v = record { book = v.book; house = v.house; start = v.start; seen = log; mine = v.mine; joined = v.joined; spare = v.spare; turn = true }
 
 -- a turn is given back: the new entries are the pass's own
 abbrev pub with_log : List Entry → View → View
-with_log log v = record { book = v.book; origin = v.origin; seen = log; mine = v.mine ++ drop (length v.seen) log; joined = v.joined; spare = v.spare; turn = false }
+with_log log v = record { book = v.book; house = v.house; start = v.start; seen = log; mine = v.mine ++ drop (length v.seen) log; joined = v.joined; spare = v.spare; turn = false }
 
--- a second pass is split off
+-- what is left of a pass when a second one is split off
 abbrev pub less_one : View → View
-less_one v = record { book = v.book; origin = v.origin; seen = v.seen; mine = v.mine; joined = v.joined; spare = v.spare - 1; turn = v.turn }
+less_one v = record { book = v.book; house = v.house; start = v.start; seen = v.seen; mine = v.mine; joined = v.joined; spare = v.spare - 1; turn = v.turn }
 
+-- the second pass
 abbrev pub split_off : View → View
-split_off v = record { book = v.book; origin = v.origin; seen = v.seen; mine = []; joined = []; spare = 0; turn = false }
+split_off v = record { book = v.book; house = v.house; start = v.start; seen = v.seen; mine = []; joined = []; spare = 0; turn = false }
 
--- two passes become one
+-- two passes become one: the longer log is seen, and the lists of both are kept
 abbrev pub with_other : View → View → View
-with_other v w = record { book = v.book; origin = v.origin; seen = longer v.seen w.seen; mine = v.mine; joined = v.joined ++ lists_of w; spare = v.spare + w.spare + 1; turn = v.turn }
+with_other v w = record { book = v.book; house = v.house; start = v.start; seen = longer v.seen w.seen; mine = v.mine; joined = v.joined ++ lists_of w; spare = v.spare + w.spare + 1; turn = v.turn }

@@ -1,7 +1,7 @@
 //! What is kept, the rule of a book, what a pass knows, and what each kind of step tells it.
 ghost use Rattle.std.specs.Prelude.{List};
 ghost use Rattle.turn_book.specs.Entries.{Entry};
-ghost use Rattle.turn_book.specs.Views.{Origin};
+ghost use Rattle.turn_book.specs.Views.{House, Start};
 
 use atomic_table::{Join, Play, Split, TableRule};
 use rel_model::run::Event;
@@ -13,8 +13,11 @@ pub trait Kept {
     /// Its entries, the oldest first.
     ghost log: { Self → List Entry };
 
-    /// The identity to which it belongs, and the names with which it began.
-    ghost origin: { Self → Origin };
+    /// The identity to which it belongs.
+    ghost house: { Self → House };
+
+    /// The names with which it began.
+    ghost start: { Self → Start };
 }
 
 /// How a book was made.
@@ -48,9 +51,10 @@ pub struct Known<S> {
 pub struct Order;
 
 impl<S: Kept> TableRule<Option<S>, Known<S>, Opening<S>> for Order {
+    ghost use Rattle.turn_book.specs.Origins.{origin_of};
     ghost use Rattle.turn_book.specs.Rule.{Holds, first_view};
 
-    ghost holds = { Holds S.log S.origin };
+    ghost holds = { Holds S.log (origin_of S.house S.start) };
 
     ghost first = { first_view };
 }
@@ -68,9 +72,10 @@ impl<S> Play<Option<S>, Known<S>> for Draw {
 pub struct Look;
 
 impl<S: Kept> Play<Option<S>, Known<S>> for Look {
+    ghost use Rattle.turn_book.specs.Origins.{origin_of};
     ghost use Rattle.turn_book.specs.Tells.{look_tells};
 
-    ghost then = { look_tells S.log S.origin };
+    ghost then = { look_tells S.log (origin_of S.house S.start) };
 }
 
 /// The next number is served.
