@@ -5,4 +5,6 @@ pub mod Origins
 pub mod Rule
 pub mod Tells
 pub mod Held
+pub mod Turns
+pub mod Joined
 pub mod Laws
