@@ -1,7 +1,8 @@
 -- The rule at the start, and what it says in the end.
 -- In the end one pass stands for all, so every other was joined away and holds no entry. So the value is at home, the one pass has seen its whole log, and its lists make up the log.
-use Rattle.std.proofs.Common.{◌≡◌, ◌<◌, ◌≢◌, ◌^◌, zero, suc, ℕ, false, List, [], ◌∷◌, length, refl, sym, ap, subst, ◌∙◌, inl, inr, arith, Option, Some}
+use Rattle.std.proofs.Common.{◌≡◌, ◌<◌, ◌≢◌, ◌+◌, ◌%◌, ◌^◌, zero, suc, ℕ, false, List, [], ◌∷◌, length, refl, sym, ap, subst, ◌∙◌, inl, inr, arith, Option, Some}
 use Rattle.std.proofs.lemmas.Bool.{true≢false}
+use Rattle.std.proofs.Math.Nat.{mod-eq_of_lt}
 use mathlib.Core.Option.{some, some-injective, some-ne-none}
 use lib.ListN.{get_elem?}
 use Rattle.atomic_table.specs.Table.{State, opening, Final, Seen}
@@ -30,12 +31,12 @@ module _ {S : Type 0} where
   total_alone f (x ∷ xs) (suc id) v e h = let a = h 0 x refl (λ s. omega arith) in let b = total_alone f xs id v e (λ j u k n. h (suc j) u k (λ s. n (omega arith))) in omega arith
 
   module _ (log : S → List Entry) (origin : S → Origin) where
-    pub opening_ruled : (key : Opening S) → log key.first.value ≡ [] → key.passes < 2 ^ 32 → key.passes ≢ 0 → Holds log origin key (opening (0 ∷ 0 ∷ []) (Some key.first.value ∷ []) (first_view key))
-    opening_ruled key empty few some_left =
+    pub opening_ruled : (key : Opening S) (number : ℕ) → number < 2 ^ 64 → log key.first.value ≡ [] → key.passes < 2 ^ 32 → key.passes ≢ 0 → Holds log origin key (opening (number ∷ number ∷ []) (Some key.first.value ∷ []) (first_view key))
+    opening_ruled key number fits empty few some_left =
         let v : Known S = first_view key in
         record {
-          ticket = 0;
-          serving = 0;
+          ticket = number;
+          serving = number;
           present = [];
           words = refl;
           counted = record {
@@ -44,9 +45,9 @@ module _ {S : Type 0} where
             idle = λ i u h z. absurd (some_left (ap (λ (k : Known S). k.parts) (only_one v u i h).1 ∙ z));
           };
           queued = record {
-            served = 0;
-            serving_is = refl;
-            ticket_is = refl;
+            served = number;
+            serving_is = sym (mod-eq_of_lt fits);
+            ticket_is = sym (mod-eq_of_lt fits) ∙ ap (λ (k : ℕ). k % 2 ^ 64) (let e : number ≡ number + 0 = omega arith in e);
             in_line = λ i u t h k. none_some (ap (λ (k : Known S). k.ticket) (only_one v u i h).1 ∙ k);
             apart = λ i j x y t hx hy kx ky. (only_one v x i hx).0 ∙ sym (only_one v y j hy).0;
           };

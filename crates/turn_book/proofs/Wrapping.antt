@@ -24,10 +24,10 @@ module _ {S : Type 0} (log : S → List Entry) (house : S → House) (start : S 
   Ruled key s = Holds log (origin_of house start) key s
 
   -- a book is made
-  pub made_ruled : (key : Opening S) (first : S) (slots : List (Option S)) → key.first.value ≡ first → slots ≡ Some first ∷ [] → log first ≡ [] → key.passes < 2 ^ 32 → 1 ≤ key.passes → Ruled key (opening (0 ∷ 0 ∷ []) slots (first_view key))
-  made_ruled key first slots e s empty few some_left =
-      subst (λ (l : List (Option S)). Ruled key (opening (0 ∷ 0 ∷ []) l (first_view key))) (ap (λ (x : S). Some x ∷ []) e ∙ sym s)
-      (opening_ruled log (origin_of house start) key (ap log e ∙ empty) few (λ z. omega arith))
+  pub made_ruled : (key : Opening S) (first : S) (number : ℕ) (slots : List (Option S)) → number < 2 ^ 64 → key.first.value ≡ first → slots ≡ Some first ∷ [] → log first ≡ [] → key.passes < 2 ^ 32 → 1 ≤ key.passes → Ruled key (opening (number ∷ number ∷ []) slots (first_view key))
+  made_ruled key first number slots fits e s empty few some_left =
+      subst (λ (l : List (Option S)). Ruled key (opening (number ∷ number ∷ []) l (first_view key))) (ap (λ (x : S). Some x ∷ []) e ∙ sym s)
+      (opening_ruled log (origin_of house start) key number fits (ap log e ∙ empty) few (λ z. omega arith))
 
   -- a value that is given back belongs to the house of its pass, and began with the same
   pub same_origin : (o : Option S) (first value : S) → o ≡ Some first → house value ≡ house_in house o → start value ≡ start_in start o → (x : S) → o ≡ Some x → origin_of house start value ≡ origin_of house start x

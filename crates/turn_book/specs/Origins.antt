@@ -1,5 +1,5 @@
 -- What never changes of a kept value: the house to which it belongs, and with what it began.
-use Rattle.std.specs.Prelude.{◌≡◌, Option, Some, None}
+use Rattle.std.specs.Prelude.{Option, Some, None}
 use base.Stored.{coded_ℕ}
 use Rattle.turn_book.specs.Views.{House, Start, no_start}
 

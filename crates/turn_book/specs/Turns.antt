@@ -1,5 +1,5 @@
 -- The turns of one session: each took a log that begins with all that the session had seen, and put one entry behind it.
-use Rattle.std.specs.Prelude.{◌≡◌, Bool, true, List, [], ◌∷◌, ◌++◌, map}
+use Rattle.std.specs.Prelude.{◌≡◌, Bool, List, [], ◌∷◌, ◌++◌}
 use Rattle.turn_book.specs.Entries.{Entry}
 use Rattle.turn_book.specs.Logs.{Begins, pick}
 

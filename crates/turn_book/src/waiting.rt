@@ -17,7 +17,7 @@ const LOOKS_BEFORE: u32 = 200;
 const LOOKS_IN_LINE: u32 = 200;
 
 /// How many of these looks have no other thread run between them.
-const QUICK_LOOKS: u32 = 40;
+const QUICK_LOOKS: u32 = 10;
 
 /// A pause between two looks: it gets longer, and from some look on another thread may run.
 fn pause(look: u32) {
