@@ -1,15 +1,16 @@
 -- Each step keeps the rule.
--- 1. A ticket that is drawn is the next number behind those of the passes that wait, so it is another one (`drawn_queued`).
+-- 1. A ticket that is drawn is the next number behind those of the passes that wait, so it is another one (`drawn_queued`), also where it is drawn only if it is a number that was named (`draw_where_allowed`).
 -- 2. Where the own ticket is served, no other pass has the turn, since no other has that ticket. So the value is at home, and its log is the present one (`look_goes`).
 -- 3. While a pass holds the turn the present log is the one that it took. With its new entries behind it, its own list and the log grow alike (`serve_goes`).
 -- 4. A split cuts the number of passes in two, and a join adds the numbers and keeps the longer log (`split_allowed`, `join_allowed`). After it a load shows that the shorter log begins the longer (`settle_goes`).
 use Rattle.std.proofs.Common.{◌≡◌, ◌<◌, ◌≤◌, ◌≢◌, ◌⊎◌, ◌+◌, ◌-◌, ◌%◌, ◌^◌, eqb, zero, suc, ℕ, Bool, true, false, List, [], ◌∷◌, ◌++◌, length, drop, set, refl, sym, ap, subst, ◌∙◌, inl, inr, arith, get_or, Option, Some, None}
 use Rattle.std.proofs.Math.ListN.{length-set}
 use Rattle.std.proofs.lemmas.List.{append-nil}
-use Rattle.std.proofs.lemmas.Bool.{cases_Bool, eqb-true, eqb-false, true≢false}
+use Rattle.std.proofs.lemmas.Bool.{cases_Bool, eqb-true, eqb-false, eq-eqb, ne_eqb, true≢false}
 use mathlib.Core.Option.{some, some-injective, some-ne-none}
 use mathlib.Core.Option as maybe
 use lib.ListN.{get_elem?}
+use prog.Atomic.{either}
 use Rattle.atomic_table.specs.Table.{State, Me, Act, step, stepped, keeps, takes, gives, Valid, carried_after, Allows, Splits, Joins}
 use Rattle.atomic_table.proofs.Lists.{at_set, at_snoc, at_longer, set_here, set_else, set_again, one_turn}
 use Rattle.turn_book.specs.Entries.{Entry}
@@ -17,7 +18,7 @@ use Rattle.turn_book.specs.declared.rule.Known.{Known}
 use Rattle.turn_book.specs.Logs.{Begins, Within, EachWithin, weigh, weigh_all}
 use Rattle.turn_book.specs.Origins.{Origin}
 use Rattle.turn_book.specs.Rule.{waiting_for, waiting, total, lists, IsSpent, Counted, Queued, Logged, IsOut, Placed, HoldsAt, left_of, right_of, both_of, spent}
-use Rattle.turn_book.specs.Tells.{drawn, holding, given, settled, draw_tells, look_tells, serve_tells, settle_tells}
+use Rattle.turn_book.specs.Tells.{drawn, holding, given, settled, draw_tells, draw_where_tells, look_tells, serve_tells, settle_tells}
 use Rattle.turn_book.proofs.Listing.{next_number, begins_itself, begins_more, begins_both, behind, longer_whole, longer_one, shorter_one, none_within, within_added, each_within_more, each_within_both, weigh_append, weigh_all_append, set_at, same_at}
 
 -- two numbers are equal or not
@@ -413,6 +414,49 @@ module _ {S : Type 0} where
             },
             refl,
           )
+
+      -- the same where it is the number that was named
+      pub draw_where_allowed : (slots id number next : ℕ) (m : Me (Option S) (Known S)) → next ≡ (number + 1) % 2 ^ 64 → m.0.parts ≢ 0 → m.0.ticket ≡ None → m.0.turn ≡ false
+          → Allows Rule slots id m 0 (λ n. either (eqb n number) next n) (draw_where_tells (step slots 0 number next maybe.none) m)
+      draw_where_allowed slots id number next m is live none idle s r homes at fits =
+          subst (λ (ws : List ℕ). Goes id m 0 (λ n. either (eqb n number) next n) (draw_where_tells (step slots 0 number next maybe.none) m) ws s.homes s.views) (sym r.words) (elim (cases_eq r.ticket number) [
+            | inl e ↦
+                (let w = drawn r.ticket m.0 in
+                let found : either (eqb r.ticket number) next r.ticket ≡ (r.ticket + 1) % 2 ^ 64 = ap (λ b. either b next r.ticket) (eq-eqb r.ticket number e) ∙ (is ∙ ap (λ (k : ℕ). (k + 1) % 2 ^ 64) (sym e)) in (
+                  w,
+                  keeps,
+                  tt,
+                  record {
+                    ticket = (r.ticket + 1) % 2 ^ 64;
+                    serving = r.serving;
+                    present = r.present;
+                    words = ap (λ (k : ℕ). k ∷ r.serving ∷ []) found;
+                    counted = counted_set passes s.views id m.0 w r.counted at refl live;
+                    queued = drawn_queued r.ticket r.serving s.views id m.0 w r.queued (few_wait passes s.views r.counted) at none refl;
+                    logged = logged_same r.present s.views id m.0 w r.logged at refl (r.logged.told id m.0 at) refl refl;
+                    placed = placed_same r.serving r.present s.homes s.views id m.0 w r.placed at idle refl (λ _. r.placed.one_origin id m.0 at live);
+                  },
+                  record { there = λ _. ap (λ (k : ℕ). (drawn k m.0, m.1)) e; gone = λ n. absurd (n e) },
+                ))
+            | inr other ↦
+                (let same : s.views ≡ set s.views id m.0 = sym (set_again s.views id m.0 at) in
+                let found : either (eqb r.ticket number) next r.ticket ≡ r.ticket = ap (λ b. either b next r.ticket) (ne_eqb r.ticket number other) in (
+                  m.0,
+                  keeps,
+                  tt,
+                  record {
+                    ticket = r.ticket;
+                    serving = r.serving;
+                    present = r.present;
+                    words = ap (λ (k : ℕ). k ∷ r.serving ∷ []) found;
+                    counted = subst (Counted passes) same r.counted;
+                    queued = subst (Queued r.ticket r.serving) same r.queued;
+                    logged = subst (Logged r.present) same r.logged;
+                    placed = subst (Placed log origin first r.serving r.present s.homes) same r.placed;
+                  },
+                  record { there = λ e. absurd (other e); gone = λ _. refl },
+                ))
+          ])
 
       -- ---- a look at the number that is served
       -- where it is the own ticket, no other pass has the turn

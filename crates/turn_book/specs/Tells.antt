@@ -27,6 +27,15 @@ module _ {S : Type 0} where
   abbrev pub draw_tells : Step (Option S) → Me (Option S) (Known S) → ℕ → Me (Option S) (Known S) → Type 0
   draw_tells s m found n = n ≡ (drawn found m.0, m.1)
 
+  -- a ticket is drawn, where it is this number; else nothing changes
+  pub record DrawWhereTells (number : ℕ) (m : Me (Option S) (Known S)) (found : ℕ) (n : Me (Option S) (Known S)) : Type 0 where
+    pub there : found ≡ number → n ≡ (drawn number m.0, m.1)
+    pub gone : found ≢ number → n ≡ m
+
+  -- the same, of the step
+  abbrev pub draw_where_tells : Step (Option S) → Me (Option S) (Known S) → ℕ → Me (Option S) (Known S) → Type 0
+  draw_where_tells s m found n = DrawWhereTells s.first m found n
+
   -- the value is taken: its log begins with what was seen, and it has the book's origin
   abbrev pub TakesValue : (S → List Entry) → (S → Origin) → Me (Option S) (Known S) → Me (Option S) (Known S) → Type 0
   TakesValue log origin m n = (y : S) × (n ≡ (holding (log y) m.0, (0, Some y) ∷ m.1)) × Begins m.0.seen (log y) × ((x : S) → m.0.origin ≡ Some x → origin y ≡ origin x)

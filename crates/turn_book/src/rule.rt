@@ -68,6 +68,15 @@ impl<S> Play<Option<S>, Known<S>> for Draw {
     ghost then = { draw_tells };
 }
 
+/// A ticket is drawn, where it is the number that was named.
+pub struct DrawWhere;
+
+impl<S> Play<Option<S>, Known<S>> for DrawWhere {
+    ghost use Rattle.turn_book.specs.Tells.{draw_where_tells};
+
+    ghost then = { draw_where_tells };
+}
+
 /// A look at the number that is served.
 pub struct Look;
 

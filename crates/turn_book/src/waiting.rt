@@ -1,46 +1,55 @@
 //! How a pass waits for its turn: a short while awake, and then asleep.
-ghost use Rattle.std.specs.Prelude.{◌≡◌, ◌≢◌, ◌≤◌, ◌<◌, ◌+◌, true, false, Some};
+ghost use Rattle.std.specs.Prelude.{◌≡◌, ◌≢◌, ◌≤◌, ◌<◌, ◌+◌, true, false, None, Some};
 ghost use Rattle.turn_book.specs.Origins.{origin_of};
-ghost use Rattle.turn_book.specs.Tells.{TakesValue};
+ghost use Rattle.turn_book.specs.Tells.{drawn, TakesValue};
 
 use crate::rule::{Kept, Known, Opening, Order};
-use crate::steps::look;
+use crate::steps::{draw, draw_where, look};
 use atomic_table::{Seat, Shared};
 use std::hint::spin_loop;
 use std::sync::Wait;
 use std::thread::yield_now;
 
-/// How often a pass looks whether the turn is free, before it draws a ticket all the same.
+/// How often a pass with no ticket looks whether the turn is free, before it draws one all the same.
 const LOOKS_BEFORE: u32 = 200;
 
 /// How often a pass with a ticket looks for its turn, before it sleeps.
-const LOOKS_IN_LINE: u32 = 200;
+const LOOKS_IN_LINE: u32 = 100;
 
-/// How many of these looks have no other thread run between them.
-const QUICK_LOOKS: u32 = 10;
+/// The longest pause between two looks, and how many looks of a pass with no ticket let no other thread run.
+const LONG: u32 = 10;
 
-/// A pause between two looks: it gets longer, and from some look on another thread may run.
+/// A pause between two looks, which gets longer from look to look.
 fn pause(look: u32) {
-    if look < QUICK_LOOKS {
-        for _ in 0..look {
-            spin_loop();
-        }
-    } else {
-        yield_now();
+    for _ in 0..look.min(LONG) {
+        spin_loop();
     }
 }
 
-/// Waits a short while until nobody has a ticket, so that a thread that runs may go on without waking another.
-pub fn hold_back<S: Kept>(table: &Shared<Option<S>, Known<S>, Opening<S>, Order>)
+/// Draws a ticket: as soon as nobody has one, so that a thread that runs may go on without waking another, and after a short while all the same.
+pub fn draw_in_time<S: Kept>(
+    table: &Shared<Option<S>, Known<S>, Opening<S>, Order>,
+    seat: &mut Seat<Option<S>, Known<S>>,
+) -> u64
+    requires of { seat.old.table_id ≡ table.now.table_id }
     requires words { table.now.table_id.words ≡ 2 }
+    requires live { seat.old.me.0.parts ≢ 0 }
+    requires idle { (seat.old.me.0.ticket ≡ None) × (seat.old.me.0.turn ≡ false) }
+    ensures drawn { seat.new.me ≡ (drawn result seat.old.me.0, seat.old.me.1) }
+    ensures of { seat.new.table_id ≡ seat.old.table_id }
 {
     'looks: for i in 0..LOOKS_BEFORE {
         let serving = table.peek(1);
-        if table.peek(0) == serving {
-            return;
+        if table.peek(0) == serving && draw_where(table, seat, serving) {
+            return serving;
         }
-        pause(i);
+        if i < LONG {
+            pause(i);
+        } else {
+            yield_now();
+        }
     }
+    draw(table, seat)
 }
 
 /// Waits a short while until the own ticket is served, and says whether it was, and the value was taken.
