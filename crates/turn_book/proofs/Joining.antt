@@ -1,7 +1,7 @@
 -- Passes are joined one after another: what is known after some of them is known after one more.
-use Rattle.std.proofs.Common.{◌≡◌, ◌+◌, List, [], ◌∷◌, ◌++◌, refl, sym, ap, ◌∙◌, arith, append_assoc}
+use Rattle.std.proofs.Common.{◌≡◌, ◌+◌, List, [], ◌∷◌, ◌++◌, refl, sym, ap, ◌∙◌, arith, append_assoc, All}
 use Rattle.std.proofs.lemmas.List.{append-nil}
-use Rattle.std.specs.List.{AllByRecursion}
+use Rattle.std.proofs.lemmas.List.Elements.{All-append, All-cons, All-nil}
 use Rattle.turn_book.specs.Entries.{Entry}
 use Rattle.turn_book.specs.Logs.{Begins}
 use Rattle.turn_book.specs.Views.{View, lists_of, with_other}
@@ -18,9 +18,10 @@ places_more [] p = omega arith
 places_more (q ∷ ps) p = let i = places_more ps p in omega arith
 
 -- what each has seen begins a longer log
-each_on : (ps : List View) (p : View) (xs ys : List Entry) → AllByRecursion (λ q. Begins q.seen xs) ps → Begins xs ys → Begins p.seen ys → AllByRecursion (λ q. Begins q.seen ys) (ps ++ p ∷ [])
-each_on [] p xs ys h b e = (e, tt)
-each_on (q ∷ ps) p xs ys h b e = (begins_on q.seen xs ys h.0 b, each_on ps p xs ys h.1 b e)
+each_on : (ps : List View) (p : View) (xs ys : List Entry) → All (λ q. Begins q.seen xs) ps → Begins xs ys → Begins p.seen ys → All (λ q. Begins q.seen ys) (ps ++ p ∷ [])
+each_on ps p xs ys h b e =
+    let begins : View → Type 0 = λ q. Begins q.seen ys in
+    All-append begins ps (p ∷ []) (λ k d l. begins_on _ xs ys (h k d l) b) (All-cons begins p [] e (All-nil begins))
 
 -- no pass was joined yet
 pub joins_none : (old : View) → JoinsAll [] old old
@@ -33,7 +34,7 @@ joins_none old = record {
   joined = sym (append-nil old.joined);
   spare = omega arith;
   own_seen = begins_itself old.seen;
-  each_seen = tt;
+  each_seen = All-nil (λ q. Begins q.seen old.seen);
 }
 
 pub joins_one_more : (ps : List View) (p old mid new : View) → JoinsAll ps old mid → new ≡ with_other mid p → Begins mid.seen new.seen → Begins p.seen new.seen → JoinsAll (ps ++ p ∷ []) old new

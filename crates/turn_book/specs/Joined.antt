@@ -1,6 +1,5 @@
 -- Passes that are joined to one, one after another.
-use Rattle.std.specs.Prelude.{◌≡◌, ◌+◌, ℕ, List, [], ◌∷◌, ◌++◌}
-use Rattle.std.specs.List.{AllByRecursion}
+use Rattle.std.specs.Prelude.{◌≡◌, ◌+◌, ℕ, List, [], ◌∷◌, ◌++◌, All}
 use Rattle.turn_book.specs.Entries.{Entry}
 use Rattle.turn_book.specs.Logs.{Begins}
 use Rattle.turn_book.specs.Views.{View, lists_of}
@@ -25,4 +24,4 @@ pub record JoinsAll (passes : List View) (old new : View) : Type 0 where
   pub joined : new.joined ≡ old.joined ++ all_lists passes
   pub spare : new.spare ≡ old.spare + places passes
   pub own_seen : Begins old.seen new.seen
-  pub each_seen : AllByRecursion (λ p. Begins p.seen new.seen) passes
+  pub each_seen : All (λ p. Begins p.seen new.seen) passes
