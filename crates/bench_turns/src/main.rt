@@ -7,13 +7,12 @@ ghost use Rattle.bench_turns.specs.Works.{IsWork};
 
 use rel_model::run::{Act, Event};
 use std::alloc::Global;
-use std::io;
 use std::rt::Clock;
 use std::sync::Wait;
 use std::sync::atomic::{AtomicU64, Ordering};
-use std::thread;
 use std::thread::Threads;
 use std::time::Instant;
+use std::{io, thread};
 use turn_book::{Kept, Pass, TurnBook};
 
 /// What is kept: a list of events.
@@ -44,13 +43,7 @@ pub struct Work {
 }
 
 /// One turn: an event is put behind the others.
-fn turn<R: Wait>(
-    rt: &R,
-    book: &TurnBook<Diary>,
-    pass: &mut Pass<Diary>,
-    session: u32,
-    command: u32,
-)
+fn turn<R: Wait>(rt: &R, book: &TurnBook<Diary>, pass: &mut Pass<Diary>, session: u32, command: u32)
     requires ready { IsReady book.now pass.old }
     ensures ready { IsReady book.now pass.new }
 {
@@ -67,13 +60,7 @@ fn turn<R: Wait>(
 }
 
 #[inline(never)]
-fn turns<R: Wait>(
-    rt: &R,
-    book: &TurnBook<Diary>,
-    pass: &mut Pass<Diary>,
-    session: u32,
-    count: u32,
-)
+fn turns<R: Wait>(rt: &R, book: &TurnBook<Diary>, pass: &mut Pass<Diary>, session: u32, count: u32)
     requires ready { IsReady book.now pass.old }
     ensures ready { IsReady book.now pass.new }
 {
