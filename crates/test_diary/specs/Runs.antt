@@ -1,5 +1,5 @@
 -- What a session does to its pass, and what a run of sessions at once reports.
-use Rattle.std.specs.Prelude.{◌≡◌, ◌⊎◌, ◌<◌, ◌+◌, ℕ, List, [], ◌++◌, length, slice_index, slice_index_or, map}
+use Rattle.std.specs.Prelude.{◌≡◌, ◌⊎◌, ◌<◌, ◌+◌, ℕ, List, [], ◌++◌, length, slice_index, slice_index_or}
 use Rattle.turn_book.specs.Entries.{Entry}
 use Rattle.turn_book.specs.Logs.{pick}
 use Rattle.turn_book.specs.Views.{View, Book, IsReady, IsKept}

@@ -13,7 +13,7 @@ use Rattle.turn_book.specs.Logs.{Begins, MakeUp, weigh, weigh_all}
 use Rattle.turn_book.specs.Origins.{Origin}
 use Rattle.turn_book.specs.Rule.{total, lists, first_view, Holds}
 use Rattle.turn_book.proofs.Listing.{begins_whole, same_at}
-use Rattle.turn_book.proofs.Ruling.{cases_eq, none_some, total_two}
+use Rattle.turn_book.proofs.Keeping.{cases_eq, none_some, total_two}
 
 module _ {S : Type 0} where
   only_one : (v u : Known S) (i : ℕ) → get_elem? (v ∷ []) i ≡ some u → (i ≡ 0) × (v ≡ u)

@@ -48,9 +48,17 @@ module _ {S : Type 0} where
   abbrev pub look_tells : (S → List Entry) → (S → Origin) → Step (Option S) → Me (Option S) (Known S) → ℕ → Me (Option S) (Known S) → Type 0
   look_tells log origin s m found n = LookTells log origin m found n
 
+  -- the value is in hand: its log begins with what was seen, and it has the book's origin
+  abbrev pub HasValue : (S → List Entry) → (S → Origin) → Me (Option S) (Known S) → Type 0
+  HasValue log origin m = (y : S) × (m.1 ≡ (0, Some y) ∷ []) × Begins m.0.seen (log y) × ((x : S) → m.0.origin ≡ Some x → origin y ≡ origin x)
+
   -- the next number is served, and the value is given back
+  abbrev pub GivesValue : (S → List Entry) → Me (Option S) (Known S) → Me (Option S) (Known S) → Type 0
+  GivesValue log m n = (y : S) → m.1 ≡ (0, Some y) ∷ [] → n ≡ (given (log y) m.0, [])
+
+  -- the same, of the step
   abbrev pub serve_tells : (S → List Entry) → Step (Option S) → Me (Option S) (Known S) → ℕ → Me (Option S) (Known S) → Type 0
-  serve_tells log s m found n = (y : S) → m.1 ≡ (0, Some y) ∷ [] → n ≡ (given (log y) m.0, [])
+  serve_tells log s m found n = GivesValue log m n
 
   -- a load after a join: what was told is the beginning of what was seen
   abbrev pub settle_tells : Step (Option S) → Me (Option S) (Known S) → ℕ → Me (Option S) (Known S) → Type 0

@@ -16,12 +16,15 @@ const LOOKS_BEFORE: u32 = 200;
 /// How often a pass with a ticket looks for its turn, before it sleeps.
 const LOOKS_IN_LINE: u32 = 100;
 
-/// The longest pause between two looks, and how many looks of a pass with no ticket let no other thread run.
-const LONG: u32 = 10;
+/// How many looks of a pass with no ticket let no other thread run.
+const QUICK_LOOKS: u32 = 10;
+
+/// The longest pause between two looks, in steps of the processor's own pause.
+const LONGEST_PAUSE: u32 = 10;
 
 /// A pause between two looks, which gets longer from look to look.
 fn pause(look: u32) {
-    for _ in 0..look.min(LONG) {
+    for _ in 0..look.min(LONGEST_PAUSE) {
         spin_loop();
     }
 }
@@ -43,7 +46,7 @@ pub fn draw_in_time<S: Kept>(
         if table.peek(0) == serving && draw_where(table, seat, serving) {
             return serving;
         }
-        if i < LONG {
+        if i < QUICK_LOOKS {
             pause(i);
         } else {
             yield_now();

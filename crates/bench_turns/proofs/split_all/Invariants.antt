@@ -1,4 +1,4 @@
-use Rattle.std.proofs.Common.{◌≡◌, ◌≤◌, ◌+◌, length, vec_len, vec_capacity, All}
+use Rattle.std.proofs.Common.{◌≡◌, ◌+◌, length, vec_len, vec_capacity, All}
 use Rattle.turn_book.specs.Views.{IsReady}
 use Rattle.bench_turns.specs.Works.{IsWork}
 use Rattle.bench_turns.proofs.split_all.Given as goal
