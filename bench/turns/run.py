@@ -28,7 +28,7 @@ def run(command, passes, turns):
 
 
 print("passes   turns   proved: best  middle   mutex: best  middle   ratio")
-for passes, turns in ((1, 1_000_000), (2, 1_000), (4, 1_000), (8, 1_000), (8, 20_000), (64, 1_000)):
+for passes, turns in ((1, 100_000), (2, 1_000), (4, 1_000), (8, 1_000), (8, 20_000), (64, 1_000)):
     ours, theirs = [], []
     for _ in range(rounds):
         ours.append(run(program, passes, turns))
