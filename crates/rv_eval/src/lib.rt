@@ -1,0 +1,15 @@
+//! Evaluates expressions of the whole language over any engine.
+#![tactic(auto)]
+
+mod bases;
+mod call;
+mod domain_calls;
+mod faults;
+mod halt;
+mod names;
+mod operators;
+mod steps;
+mod walk;
+
+pub use call::eval;
+pub use halt::Refused;
