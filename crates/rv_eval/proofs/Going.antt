@@ -34,7 +34,7 @@ halted_ends old mid new a (Err h) m c = halted_before old mid new a h m c
 
 -- ---- going on
 -- where an evaluation stands: what is left to do has its answer, and with what it spent so far its cost
-pub record Goes {T : Type 0} (old now : Worker) (before left : ℕ) (total rest : Came T) : Type 0 where
+pub record Goes (leaf : ℕ) {T : Type 0} (old now : Worker) (before left : ℕ) (total rest : Came T) : Type 0 where
   pub spent : ℕ
   pub same_answer : total.answer ≡ rest.answer
   pub same_cost : total.cost leaf ≡ spent + rest.cost leaf
@@ -194,4 +194,4 @@ ends_noted {leaf = leaf} {X = X} old now n m total t there (Err h) o e g = subst
 
 -- after a call that only reads
 pub after_reading : {leaf : ℕ} {T X : Type 0} (old mid new : Worker) (n m : ℕ) (total : Came T) (is : X → T) (r : Result X Halt) → Keeps old mid → mid.made ≤ old.made + 0 → Ends leaf mid new n m total is r → Ends leaf old new n m total is r
-after_reading old mid new n m total is r k none e = goes_last old mid new n n m total total is r (record { spent = 0; same_answer = refl; same_cost = omega arith; keeps = k; room = none; turns = omega arith }) e
+after_reading {leaf = leaf} old mid new n m total is r k none e = goes_last {leaf = leaf} old mid new n n m total total is r (record { spent = 0; same_answer = refl; same_cost = omega arith; keeps = k; room = none; turns = omega arith }) e

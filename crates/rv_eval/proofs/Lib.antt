@@ -1,8 +1,12 @@
-mod Going
-mod Operating
-mod Domains
-mod States
-mod Named
-mod Unfolding
-mod Weights
-mod Calling
+pub mod Going
+pub mod Operating
+pub mod Domains
+pub mod Testing
+pub mod Basing
+pub mod States
+pub mod Named
+pub mod Unfolding
+pub mod Weights
+pub mod Calling
+pub mod Lacking
+pub mod Telling

@@ -1,22 +1,17 @@
 //! Pairs and domain operators, whose results may be too large.
-ghost use Rattle.std.specs.Prelude.{◌≡◌, ◌≤◌, ◌⊎◌, length, codes, IfOk};
+ghost use Rattle.std.specs.Prelude.{◌≡◌, ◌≤◌, IfOk};
 ghost use Rattle.rel_model.specs.Relation.{size_limit};
 ghost use Rattle.rel_model.specs.Worker.{Stands, set_of};
-ghost use Rattle.rel_model.specs.declared.Lack.TheVariants.{NoMemory as NO_MEMORY};
-ghost use Rattle.lang_model.specs.declared.faults.TypeFault.TheVariants.{Mismatch};
 ghost use Rattle.lang_model.specs.Outcomes.{with_turns};
-ghost use Rattle.lang_model.specs.Types.{known};
 ghost use Rattle.lang_model.specs.Mean.{paired, domain_made};
-ghost use Rattle.rv_eval.specs.declared.halt.Halt.TheVariants.{Ill, Lack as LACK};
 ghost use Rattle.rv_eval.specs.Ends.{Ends, domain_lifted};
 
+use crate::faults::no_pair;
 use crate::halt::Halt;
-use crate::operators::type_of;
-use lang_model::faults::TypeFault;
-use lang_model::syntax::{Base, Name, Place};
+use lang_model::syntax::{Base, Place};
 use rel_model::engine_trait::Engine;
 use rel_model::faults::DomainError;
-use rel_model::{Lack, NoMemory, Rel};
+use rel_model::{Lack, Rel};
 use std::alloc::Global;
 
 /// What an operation gives whose result may be too large.
@@ -28,21 +23,6 @@ pub fn lift_domain(at: Place, given: Result<Rel, DomainError>) -> Result<Rel, Ha
         Err(DomainError::Size { wanted, .. }) => Err(Halt::Size { at, wanted }),
         Err(DomainError::Full) => Err(Halt::Lack(Lack::Full)),
         Err(DomainError::NoMemory) => Err(Halt::Lack(Lack::NoMemory)),
-    }
-}
-
-/// Operands of a pair that do not fit.
-fn no_pair(alloc: Global, at: Place, r: Rel, s: Rel) -> Halt
-    ensures { (result ≡ Ill (Mismatch at (codes "[") (known r.rows r.cols) (known s.rows s.cols))) ⊎ (result ≡ LACK NO_MEMORY) }
-{
-    match Name::new(alloc, b"[") {
-        Ok(op) => Halt::Ill(TypeFault::Mismatch {
-            at,
-            op,
-            left: type_of(r),
-            right: type_of(s),
-        }),
-        Err(NoMemory) => Halt::Lack(Lack::NoMemory),
     }
 }
 

@@ -3,13 +3,15 @@
 
 mod bases;
 mod call;
+mod comparisons;
 mod domain_calls;
 mod faults;
 mod halt;
+mod missing;
 mod names;
 mod operators;
 mod steps;
 mod walk;
 
-pub use call::eval;
+pub use call::value_of;
 pub use halt::Refused;

@@ -1,19 +1,16 @@
 //! `-R`, `R^` and the operators between two relations, with their tests of types.
-ghost use Rattle.std.specs.Prelude.{◌≡◌, ◌%◌, ◌⊎◌, length, true, Some, IfOk};
+ghost use Rattle.std.specs.Prelude.{◌≡◌, ◌%◌, true, IfOk};
 ghost use Rattle.rel_model.specs.Worker.{Stands, set_of};
-ghost use Rattle.rel_model.specs.declared.Lack.TheVariants.{NoMemory as NO_MEMORY};
-ghost use Rattle.lang_model.specs.declared.faults.TypeFault.TheVariants.{Mismatch};
 ghost use Rattle.lang_model.specs.Outcomes.{with_turns};
-ghost use Rattle.lang_model.specs.Types.{spelling, known, takes as takes_types};
+ghost use Rattle.lang_model.specs.Types.{known, takes as takes_types};
 ghost use Rattle.lang_model.specs.Mean.{linked, complemented, turned};
-ghost use Rattle.rv_eval.specs.declared.halt.Halt.TheVariants.{Ill, Lack as LACK};
 ghost use Rattle.rv_eval.specs.Ends.{Ends, lifted};
 
+use crate::faults::mismatch;
 use crate::halt::Halt;
-use lang_model::faults::{StaticShape, TypeFault};
-use lang_model::syntax::{Name, Op2, Place};
+use lang_model::syntax::{Op2, Place};
 use rel_model::engine_trait::Engine;
-use rel_model::{Lack, NoMemory, Rel, Shape};
+use rel_model::{Lack, Rel, Shape};
 use std::alloc::Global;
 
 /// What an operation of a worker gives.
@@ -23,30 +20,6 @@ pub fn lift(given: Result<Rel, Lack>) -> Result<Rel, Halt>
     match given {
         Ok(rel) => Ok(rel),
         Err(lack) => Err(Halt::Lack(lack)),
-    }
-}
-
-/// The type of a relation.
-pub fn type_of(r: Rel) -> StaticShape
-    ensures { result ≡ known r.rows r.cols }
-{
-    StaticShape {
-        rows: Some(r.rows),
-        cols: Some(r.cols),
-    }
-}
-
-/// How an operator is written.
-fn sign_of(op: Op2) -> &'static [u8]
-    ensures sign { result.now ≡ spelling op }
-    ensures one { length result.now ≡ 1 }
-{
-    match op {
-        Op2::Or => b"|",
-        Op2::And => b"&",
-        Op2::Times => b"*",
-        Op2::Under => b"\\",
-        Op2::Over => b"/",
     }
 }
 
@@ -60,21 +33,6 @@ fn takes(op: Op2, r: Rel, s: Rel) -> bool
         Op2::Times => r.cols == s.rows,
         Op2::Under => r.rows == s.rows,
         Op2::Over => r.cols == s.cols,
-    }
-}
-
-/// Operands that do not fit.
-fn mismatch(alloc: Global, at: Place, op: Op2, r: Rel, s: Rel) -> Halt
-    ensures { (result ≡ Ill (Mismatch at (spelling op) (known r.rows r.cols) (known s.rows s.cols))) ⊎ (result ≡ LACK NO_MEMORY) }
-{
-    match Name::new(alloc, sign_of(op)) {
-        Ok(op) => Halt::Ill(TypeFault::Mismatch {
-            at,
-            op,
-            left: type_of(r),
-            right: type_of(s),
-        }),
-        Err(NoMemory) => Halt::Lack(Lack::NoMemory),
     }
 }
 

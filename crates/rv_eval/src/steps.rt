@@ -10,11 +10,10 @@ ghost use Rattle.lang_model.specs.Mean.{tested, injected_by, domain_named};
 ghost use Rattle.rv_eval.specs.Names.{rel_of, beside, state_of, AllStand};
 ghost use Rattle.rv_eval.specs.Ends.{Ends};
 
-use crate::faults::{no_domain, unknown, wrong_count};
+use crate::faults::{no_domain, type_of, unknown, wrong_count};
 use crate::halt::Halt;
 use crate::names::{bind, find, set};
 use crate::domain_calls::domain_call;
-use crate::operators::type_of;
 use rel_model::engine_trait::Engine;
 use lang_model::faults::TypeFault;
 use lang_model::syntax::{Base, Decl, Name, Place};

@@ -9,6 +9,8 @@ use Rattle.lang_model.specs.Mean.{based, answer_of_test}
 use Rattle.rv_eval.proofs.Going.{after_reading}
 use Rattle.rv_eval.proofs.Operating.{one_made, by_sizes}
 use Rattle.rv_eval.proofs.Domains.{tree_of, said}
+use Rattle.rv_eval.proofs.Testing.{empty_test}
+use Rattle.rv_eval.proofs.Basing.{other_base}
 use Rattle.rv_eval.proofs.bases.plain_base.Goals as goal
 
 pub returns-in-L-clause-ends : goal.returns-in-L-clause-ends
@@ -125,11 +127,28 @@ returns-in-Atom-clause-ends g c =
     said w v _ _ _ _ (ap (λ b. based c.args.at b (R ∷ [])) c.in-Atom.is ∙ by_sizes w c.args.at r rm rn (λ m n. Makes (atom R) (λ leaf. derived_room m n 1))) c.lift-in-Atom.ensures
     (one_made w v g.E.Core.lean _ _ _ _ c.atom.result c.atom.ensures.value c.atom.ensures.keeps c.atom.ensures.room c.atom.ensures.cause)
 
+pub returns-in-Empty-clause-ends : goal.returns-in-Empty-clause-ends
+unfolding based
+returns-in-Empty-clause-ends g c =
+    let w = g.E.Core.worker c.args.engine.now in
+    let u = g.E.Core.worker c.truth.new.engine in
+    let r = c.args.r in
+    let rm = g.met.E.Core.row_size c.args.engine.now r c.requires.standing in
+    let rn = g.met.E.Core.col_size c.args.engine.now r c.requires.standing in
+    let same = empty_test (set_of w r) r.rows r.cols c.is_empty-yes.result (g.met.E.Core.valid c.args.engine.now r c.requires.standing) rm rn c.is_empty-yes.ensures in
+    said w u _ _ _ _ (ap (λ b. based c.args.at b (set_of w r ∷ [])) c.in-Empty.is ∙ ap (λ b. Makes (answer_of_test b) (tree_cost 1 1)) same) refl c.truth.ensures.ends
+
 pub returns-in-Unival-clause-ends : goal.returns-in-Unival-clause-ends
 unfolding based
 returns-in-Unival-clause-ends g c =
     let w = g.E.Core.worker c.args.engine.now in
     let v = g.E.Core.worker c.unival-yes.new.self in
-    let u = g.E.Core.worker c.truth.new.engine in
+    let u = g.E.Core.worker c.truth-in-Unival.new.engine in
     let none : v.made ≤ w.made + 0 = c.unival-yes.ensures.room in
-    said w u _ _ _ _ (ap (λ b. based c.args.at b (set_of w c.args.r ∷ [])) c.in-Unival.is ∙ ap (λ b. Makes (answer_of_test b) (tree_cost 1 1)) (sym c.unival-yes.ensures.value)) refl (after_reading w v u 0 0 _ _ _ c.unival-yes.ensures.keeps none c.truth.ensures.ends)
+    said w u _ _ _ _ (ap (λ b. based c.args.at b (set_of w c.args.r ∷ [])) c.in-Unival.is ∙ ap (λ b. Makes (answer_of_test b) (tree_cost 1 1)) (sym c.unival-yes.ensures.value)) refl (after_reading w v u 0 0 _ _ _ c.unival-yes.ensures.keeps none c.truth-in-Unival.ensures.ends)
+
+pub returns-in_default-clause-ends : goal.returns-in_default-clause-ends
+returns-in_default-clause-ends g c =
+    let w = g.E.Core.worker c.args.engine.now in
+    let u = g.E.Core.worker c.none_given.new.engine in
+    said w u _ _ _ _ (other_base c.args.at c.args.base (set_of w c.args.r) c.requires.demands c.in_default.not-L c.in_default.not-O c.in_default.not-Ln1 c.in_default.not-On1 c.in_default.not-L1n c.in_default.not-O1n c.in_default.not-Dom c.in_default.not-Ran c.in_default.not-Atom c.in_default.not-Empty c.in_default.not-Unival) refl c.none_given.ensures.ends

@@ -9,6 +9,7 @@ use Rattle.lang_model.specs.Outcomes.{Makes}
 use Rattle.lang_model.specs.Mean.{based, limited}
 use Rattle.rv_eval.proofs.Operating.{one_made, vector_fits}
 use Rattle.rv_eval.proofs.Domains.{tree_of, said, domain_ends}
+use Rattle.rv_eval.proofs.Basing.{last_vector}
 use Rattle.rv_eval.proofs.bases.vector_base.Goals as goal
 
 pub returns-in-Epsi-clause-ends : goal.returns-in-Epsi-clause-ends
@@ -61,9 +62,9 @@ returns-in-Next-clause-ends g c =
     said w v _ _ _ _ (ap (λ b. based c.args.at b (R ∷ [])) c.in-Next.is ∙ vector_fits w c.args.at r rm rn Next _ (λ m n. Makes (next R) (λ leaf. derived_room m 1 1)) c.requires.one_column) c.lift-in-Next.ensures
     (one_made w v g.E.Core.lean _ _ _ _ c.next.result c.next.ensures.value c.next.ensures.keeps c.next.ensures.room c.next.ensures.cause)
 
-pub returns-in-Inj-clause-ends : goal.returns-in-Inj-clause-ends
+pub returns-in_default-clause-ends : goal.returns-in_default-clause-ends
 unfolding based
-returns-in-Inj-clause-ends g c =
+returns-in_default-clause-ends g c =
     let w = g.E.Core.worker c.args.engine.now in
     let v = g.E.Core.worker c.inj.new.self in
     let r = c.args.r in
@@ -72,5 +73,5 @@ returns-in-Inj-clause-ends g c =
     let rn = g.met.E.Core.col_size c.args.engine.now r c.requires.standing in
     let made : v.made ≤ w.made + relation_room g.E.Core.least (r.rows) (r.cols) = c.inj.ensures.tree in
     let tree = tree_of g.E.Core.least (r.rows) (r.cols) in
-    said w v _ _ _ _ (ap (λ b. based c.args.at b (R ∷ [])) c.in-Inj.is ∙ vector_fits w c.args.at r rm rn Inj _ (λ m n. Makes (inj R) (tree_cost m n)) c.requires.one_column) c.lift-in-Inj.ensures
+    said w v _ _ _ _ (ap (λ b. based c.args.at b (R ∷ [])) (last_vector c.args.base c.requires.demands c.in_default.not-Epsi c.in_default.not-Point c.in_default.not-Init c.in_default.not-Next) ∙ vector_fits w c.args.at r rm rn Inj _ (λ m n. Makes (inj R) (tree_cost m n)) c.requires.one_column) c.lift-in_default.ensures
     (one_made w v g.E.Core.lean _ _ _ _ c.inj.result c.inj.ensures.value c.inj.ensures.keeps (omega (arith, made, tree)) c.inj.ensures.cause)

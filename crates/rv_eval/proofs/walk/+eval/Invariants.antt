@@ -35,7 +35,7 @@ invariant-eval_args-args-2 g l =
     let a = around_with (calls_within l.checked.items.items l.rank) l.decls in
     let s = state_of w l.names in
     record {
-      goes : Goes w v l.fn.turns l.turns (means_by a s [] l.args l.fn.turns) (means_by a s (map (set_of v) l.values.items) (drop l.arg-index l.args) l.turns);
+      goes : Goes g.E.Core.least w v l.fn.turns l.turns (means_by a s [] l.args l.fn.turns) (means_by a s (map (set_of v) l.values.items) (drop l.arg-index l.args) l.turns);
       stands : AllByRecursion (Stands v) l.values.items;
     }
 
@@ -46,7 +46,7 @@ invariant-eval_expr-links g l =
     let a = around_with (calls_within l.checked.items.items l.rank) l.decls in
     let s = state_of w l.names in
     record {
-      goes : Goes w v l.fn.turns l.turns (mean a s l.expr l.fn.turns) (mean_by a s (set_of v l.all) (drop l.next-index l.next-items) l.turns);
+      goes : Goes g.E.Core.least w v l.fn.turns l.turns (mean a s l.expr l.fn.turns) (mean_by a s (set_of v l.all) (drop l.next-index l.next-items) l.turns);
       stands : Stands v l.all;
     }
 
@@ -56,7 +56,7 @@ invariant-run_stmts-stmts g l =
     let v = g.E.Core.worker l.engine in
     let a = around_with (calls_within l.checked.items.items l.rank) l.decls in
     record {
-      goes : Goes w v l.fn.turns l.turns (run_by a l.stmts (state_of w l.fn.names.items) l.fn.turns) (run_by a (drop l.stmt-index l.stmts) (state_of v l.names.items) l.turns);
+      goes : Goes g.E.Core.least w v l.fn.turns l.turns (run_by a l.stmts (state_of w l.fn.names.items) l.fn.turns) (run_by a (drop l.stmt-index l.stmts) (state_of v l.names.items) l.turns);
       stands : AllStand v l.names.items;
     }
 
@@ -68,7 +68,7 @@ invariant-run_while-turns g l =
     let test = mean_test a l.at l.test in
     let body = run_by a l.body in
     record {
-      bound : (k : ℕ) × (l.turns ≤ k) × Goes w v l.fn.turns l.turns (looped l.at test body (state_of w l.fn.names.items) l.fn.turns) (rounds l.at test body (suc k) (state_of v l.names.items) l.turns);
+      bound : (k : ℕ) × (l.turns ≤ k) × Goes g.E.Core.least w v l.fn.turns l.turns (looped l.at test body (state_of w l.fn.names.items) l.fn.turns) (rounds l.at test body (suc k) (state_of v l.names.items) l.turns);
       stands : AllStand v l.names.items;
     }
 

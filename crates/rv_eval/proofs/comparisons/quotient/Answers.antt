@@ -1,11 +1,9 @@
-use Rattle.std.proofs.Common.{◌∙◌, ◌∷◌, [], ap}
-use Rattle.rel_model.specs.Worker.{set_of}
+use Rattle.std.proofs.Common.{ap}
 use Rattle.lang_model.specs.Outcomes.{with_turns}
-use Rattle.lang_model.specs.Mean.{based}
 use Rattle.rv_eval.proofs.Going.{refuses}
 use Rattle.rv_eval.proofs.Operating.{one_made}
 use Rattle.rv_eval.proofs.Domains.{said, syq_fits, syq_misfit}
-use Rattle.rv_eval.proofs.bases.base_of_two.Goals as goal
+use Rattle.rv_eval.proofs.comparisons.quotient.Goals as goal
 
 pub returns-then-r-s-clause-ends : goal.returns-then-r-s-clause-ends
 returns-then-r-s-clause-ends g c =
@@ -17,7 +15,7 @@ returns-then-r-s-clause-ends g c =
     let rn = g.met.E.Core.col_size c.args.engine.now r c.requires.left in
     let sm = g.met.E.Core.row_size c.args.engine.now s c.requires.right in
     let sn = g.met.E.Core.col_size c.args.engine.now s c.requires.right in
-    said w v _ _ _ _ (ap (λ b. based c.args.at b (set_of w r ∷ set_of w s ∷ [])) c.in-Syq.is ∙ syq_fits w c.args.at r s rm rn sm sn c.if-r-s.true) c.lift.ensures
+    said w v _ _ _ _ (syq_fits w c.args.at r s rm rn sm sn c.if-r-s.true) c.lift.ensures
     (one_made w v g.E.Core.lean _ _ _ _ c.syq.result c.syq.ensures.value c.syq.ensures.keeps c.syq.ensures.room c.syq.ensures.cause)
 
 pub returns-else-r-s-clause-ends : goal.returns-else-r-s-clause-ends
@@ -29,4 +27,4 @@ returns-else-r-s-clause-ends g c =
     let rn = g.met.E.Core.col_size c.args.engine.now r c.requires.left in
     let sm = g.met.E.Core.row_size c.args.engine.now s c.requires.right in
     let sn = g.met.E.Core.col_size c.args.engine.now s c.requires.right in
-    refuses w 0 _ _ _ _ (ap (λ o. with_turns o 0) (ap (λ b. based c.args.at b (set_of w r ∷ set_of w s ∷ [])) c.in-Syq.is ∙ syq_misfit w c.args.at r s rm rn sm sn c.if-r-s.false)) c.no_quotient.ensures
+    refuses w 0 _ _ _ _ (ap (λ o. with_turns o 0) (syq_misfit w c.args.at r s rm rn sm sn c.if-r-s.false)) c.not_alike.ensures
