@@ -2,8 +2,8 @@
 ghost use Rattle.std.specs.Prelude.{IfOk};
 ghost use Rattle.rel_model.specs.Listed.{AreWithin};
 
-use rel_model::Shape;
 use lang_model::syntax::Row;
+use rel_model::Shape;
 use std::alloc::{AllocError, Global};
 
 /// Adds a listed pair, where it lies within the sizes.

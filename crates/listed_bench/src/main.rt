@@ -8,11 +8,11 @@ ghost use Rattle.rel_model.specs.Worker.{Stands, Keeps};
 
 use crate::listing::listed_pairs;
 use fork_quads::{Crew, OpenGate};
+use lang_model::syntax::{Command, Item};
 use pair_table::PairTable;
 use rel_engine::Works;
 use rel_model::core_trait::Core;
 use rel_model::engine_trait::Engine;
-use lang_model::syntax::{Command, Item};
 use rel_model::{Rel, SIZE_LIMIT, Shape};
 use rv_io::{FileShelf, read_all};
 use rv_parse::parse;

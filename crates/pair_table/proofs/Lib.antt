@@ -1,3 +1,4 @@
+pub mod Homing
 pub mod Placing
 pub mod Probing
 pub mod Ruling

@@ -69,7 +69,7 @@ pub table_from : (id : TableId) (key : Size) (bits seats count : ℕ) → 10 ≤
 table_from id key bits seats count a b e w z k =
     let low : 2 ^ 10 ≤ 2 ^ bits = pow_mono a in
     let high : 2 ^ bits ≤ 2 ^ 24 = pow_mono b in
-    record { words = w; slots = z; key_is = k; count_is = omega arith; small = omega arith; not_none = omega arith }
+    record { words = w; slots = z; key_is = k; count_is = omega arith; few_bits = b; small = omega arith; not_none = omega arith }
 
 pub fresh_from : {S : Type 0} (id seat : TableId) (me : Me S Known) (bits seats : ℕ) → 10 ≤ bits → bits ≤ 24 → 1 ≤ seats → seat ≡ id → me ≡ (first_view (record { bits = bits; seats = seats }), [])
     → IsFresh bits seats (record { house = house_of id; bits = bits; seats = seats }, view_of seat me (seats - 1))

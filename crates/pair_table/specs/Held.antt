@@ -2,7 +2,7 @@
 use Rattle.std.specs.Prelude.{◌≡◌, ◌≤◌, ◌<◌, ◌+◌, ◌^◌, ℕ, []}
 use Rattle.atomic_table.specs.Table.{Me}
 use Rattle.atomic_table.specs.Seated.{TableId, table_id_coded}
-use Rattle.rel_model.specs.Words.{IsDistinct}
+use Rattle.rel_model.specs.Words.{IsDistinct, most_bits}
 use Rattle.rel_model.specs.Equations.{memo_slots}
 use Rattle.rel_model.specs.Views.{House, View}
 use Rattle.pair_table.specs.declared.rule.Known.{Known}
@@ -18,6 +18,7 @@ pub record IsTable (id : TableId) (key : Size) (count bits seats : ℕ) : Type 0
   pub slots : id.slots ≡ 0
   pub key_is : key ≡ record { bits = bits; seats = seats }
   pub count_is : count + 2 ≡ 2 ^ bits
+  pub few_bits : bits ≤ most_bits
   pub small : count + 2 ≤ 2 ^ 24
   pub not_none : 0 < count
 

@@ -1,6 +1,7 @@
 //! Interned pairs and blocks: a table of words that any number of seats share, in which equal sets have equal names.
 #![tactic(auto)]
 
+mod home;
 mod laws;
 mod probe;
 mod rule;

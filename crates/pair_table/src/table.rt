@@ -76,7 +76,13 @@ impl PairTable {
         ensures interns { Interns seat.old seat.new word result }
         ensures of { IsOf seat.new self.now }
     {
-        intern_word(&self.table.shared, &mut seat.inner, self.count, word)
+        intern_word(
+            &self.table.shared,
+            &mut seat.inner,
+            self.bits,
+            self.count,
+            word,
+        )
     }
 
     /// The one name of a pair of names.

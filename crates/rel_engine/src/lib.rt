@@ -4,6 +4,7 @@
 mod identity;
 mod operations;
 mod relations;
+mod seats;
 mod squares;
 mod works;
 

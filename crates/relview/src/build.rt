@@ -9,9 +9,9 @@ ghost use Rattle.rel_model.specs.Trees.{bottom_height};
 ghost use Rattle.rel_model.specs.Listed.{AreWithin};
 ghost use Rattle.relview.specs.Listed.{Extends, IsListed};
 
+use lang_model::syntax::Row;
 use rel_model::core_trait::Core;
 use rel_model::engine_trait::Engine;
-use lang_model::syntax::Row;
 use rel_model::{Lack, Rel, Shape};
 use std::alloc::{AllocError, Global};
 

@@ -13,8 +13,8 @@ ghost use Rattle.relview.specs.Names.{rel_of, sized, means, AllStand};
 ghost use Rattle.relview.specs.Values.{fault_of, GivesValue};
 
 use crate::names::find;
-use rel_model::core_trait::Core;
 use lang_model::syntax::{Expr, Name, Op2, Place};
+use rel_model::core_trait::Core;
 use rel_model::{Lack, Rel, Shape};
 
 /// An operator whose operands do not fit.

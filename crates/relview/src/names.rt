@@ -2,8 +2,8 @@
 ghost use Rattle.std.specs.Prelude.{◌≡◌};
 ghost use Rattle.relview.specs.Names.{rel_of};
 
-use rel_model::Rel;
 use lang_model::syntax::Name;
+use rel_model::Rel;
 
 /// The relation of a name: the last that it got.
 pub fn find(names: &[(Name, Rel)], name: &[u8]) -> Option<Rel>

@@ -7,10 +7,10 @@ ghost use Rattle.relview.specs.Top.{Answers, HoldsNothing};
 use crate::session::run_script;
 use crate::top::Answer;
 use fork_quads::{Crew, OpenGate};
+use lang_model::syntax::Script;
 use pair_table::PairTable;
 use rel_engine::Works;
 use rel_model::NoMemory;
-use lang_model::syntax::Script;
 use std::alloc::Global;
 
 /// The bits of a run's table, which has `2 ^ TABLE_BITS` node words.

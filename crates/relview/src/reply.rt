@@ -29,11 +29,11 @@ ghost use Rattle.relview.specs.Values.{fault_of, GivesValue, lack_outcome};
 use crate::evaluate::{Mismatched, first_unknown, shape_of, value_of};
 use crate::names::find;
 use crate::text::{push_lack, push_matrix, push_prefix, refuse_mismatch, refuse_unknown, sign_of};
-use rel_model::core_trait::Core;
 use lang_model::faults::{StaticShape, TypeFault};
-use run_model::outcome::Outcome;
 use lang_model::syntax::{Expr, Name, Place};
+use rel_model::core_trait::Core;
 use rel_model::{Lack, NoMemory, Rel, Shape};
+use run_model::outcome::Outcome;
 use std::alloc::Global;
 
 /// What a command comes to: its outcome and the text of its reply.

@@ -14,12 +14,12 @@ ghost use Rattle.relview.specs.Ran.{IsFirstItem, RanTo, Follows, tree_of, Settle
 
 use crate::build::listed;
 use crate::reply::{Reply, lack_reply, print_reply};
+use lang_model::syntax::{Command, Expr, Item, Name, Row, Script};
 use rel_model::core_trait::Core;
 use rel_model::engine_trait::Engine;
+use rel_model::{Lack, NoMemory, Rel, Shape};
 use run_model::event::{Act, Event};
 use run_model::outcome::Outcome;
-use lang_model::syntax::{Command, Expr, Item, Name, Row, Script};
-use rel_model::{Lack, NoMemory, Rel, Shape};
 use std::alloc::Global;
 
 /// What the items so far have made.

@@ -12,8 +12,8 @@ ghost use Rattle.run_model.specs.declared.outcome.Outcome.TheVariants.{Ill, Node
 ghost use Rattle.relview.specs.Values.{fault_of, lack_outcome};
 
 use crate::evaluate::Mismatched;
-use rel_model::core_trait::Core;
 use lang_model::syntax::{Op2, Place};
+use rel_model::core_trait::Core;
 use rel_model::{Lack, Rel, Shape};
 use std::alloc::{AllocError, Global};
 

@@ -12,11 +12,11 @@ use crate::lines::{empty_report, say_too_long, say_unread, say_usage, write_text
 use crate::over_table::{answer_of_script, words_of_nothing};
 use crate::text::{push_prefix, refuse_item};
 use crate::words::script_word;
-use rel_model::NoMemory;
 use lang_model::faults::{ParseFault, What};
+use lang_model::syntax::Place;
+use rel_model::NoMemory;
 use run_model::event::Event;
 use run_model::outcome::Outcome;
-use lang_model::syntax::Place;
 use rv_io::{ReadError, Shelf, Sink, read_all};
 use rv_parse::parse_first;
 use std::alloc::Global;

@@ -4,8 +4,8 @@ ghost use Rattle.lang_model.specs.Printing.{sign_of, base_text, chain_rank, rank
 ghost use Rattle.rv_parse.specs.Again.{StandsIn, ReadAgain, PrintsAgain};
 ghost use Rattle.rv_parse.specs.Printed.{rank_of_links, printed_all_args, printed_all_links};
 
-use rel_model::NoMemory;
 use lang_model::syntax::{Base, Expr, Link, Op2};
+use rel_model::NoMemory;
 use std::alloc::Global;
 
 /// The sign of an operator.

@@ -19,10 +19,10 @@ use crate::def::definition;
 use crate::halt::{Ending, Flaw, Halt, Wanted};
 use crate::leaf::{missing, next_sign};
 use crate::lexer::lexed;
-use rel_model::NoMemory;
 use lang_model::faults::{ParseFault, What};
 use lang_model::syntax::{Item, Name, Place, Script};
 use lang_model::token::{Keyword, Kind, Token};
+use rel_model::NoMemory;
 use std::alloc::Global;
 
 /// The name that comes first.

@@ -10,9 +10,9 @@ use crate::definitions::Definitions;
 use crate::found::{Found, fault_of};
 use crate::item::{check_item, define, rank_of};
 use crate::items_by_name::{ItemsByName, items_by_name};
-use rel_model::NoMemory;
 use lang_model::faults::TypeFault;
 use lang_model::syntax::{Item, Script};
+use rel_model::NoMemory;
 use std::alloc::Global;
 use std::marker::Model;
 

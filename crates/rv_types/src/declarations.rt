@@ -6,8 +6,8 @@ ghost use Rattle.rv_types.specs.Found.{told, noted as noted_all};
 use crate::found::{Cause, Found, Spelled, noted};
 use crate::head::check_repeated;
 use crate::names::Names;
-use rel_model::NoMemory;
 use lang_model::syntax::{Decl, Name, Place};
+use rel_model::NoMemory;
 use std::alloc::Global;
 
 /// A domain is of two parameters: the first of its two names that is none is unknown at the declaration.

@@ -3,9 +3,9 @@ ghost use Rattle.std.specs.Prelude.{◌≡◌, ◌==◌, ◌&&◌, ◌||◌, nat
 ghost use Rattle.lang_model.specs.Checking.{precedes as precedes_as, domain_operator_text};
 ghost use Rattle.rv_types.specs.Found.{number_as, spelled, fault, fault_as, IsTooMany, told, noting};
 
-use rel_model::NoMemory;
 use lang_model::faults::TypeFault;
 use lang_model::syntax::{Base, Name, Place};
+use rel_model::NoMemory;
 use std::alloc::Global;
 
 /// What a fault names.

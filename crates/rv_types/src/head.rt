@@ -7,8 +7,8 @@ ghost use Rattle.rv_types.specs.Found.{told, noted as noted_all};
 use crate::definitions::Definitions;
 use crate::found::{Cause, Found, Spelled, noted};
 use crate::names::Names;
-use rel_model::NoMemory;
 use lang_model::syntax::{Name, Place};
+use rel_model::NoMemory;
 
 /// The greatest rank of a definition.
 const RANK_LIMIT: usize = 16;

@@ -14,8 +14,8 @@ use crate::head::{Head, check_head};
 use crate::names::Names;
 use crate::scope::Scope;
 use crate::statement::{check_stmt, greatest_called_by};
-use rel_model::NoMemory;
 use lang_model::syntax::{Command, Decl, Expr, Item, Stmt};
+use rel_model::NoMemory;
 use std::alloc::Global;
 
 /// The first fault so far and of statements before which these variables are assigned. Afterwards those behind them are.

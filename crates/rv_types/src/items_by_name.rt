@@ -7,8 +7,8 @@ ghost use Rattle.lang_model.specs.Defining.{defines};
 ghost use Rattle.rv_types.specs.Defining.{is_definition, number_beside};
 
 use indexmap::IndexMap;
-use rel_model::NoMemory;
 use lang_model::syntax::Item;
+use rel_model::NoMemory;
 use std::alloc::Global;
 use std::marker::Model;
 

@@ -9,8 +9,8 @@ use crate::expression::{check_expr, greatest_called};
 use crate::found::Found;
 use crate::names::Names;
 use crate::scope::{Scope, check_target};
-use rel_model::NoMemory;
 use lang_model::syntax::Stmt;
+use rel_model::NoMemory;
 
 /// The first fault so far and of a statement before which these variables are assigned. Afterwards those behind it are.
 pub fn check_stmt<'a>(

@@ -10,6 +10,8 @@ use Rattle.lang_model.specs.declared.faults.StaticShape.{StaticShape}
 use Rattle.rel_model.specs.Relation.{Relation}
 use Rattle.rel_model.specs.Operators.{empty, union, inter, complement, transposed_by, compose, right_residual, left_residual}
 use Rattle.lang_model.specs.State.{State}
+use Rattle.lang_model.specs.Types.{known, spelling}
+use Rattle.lang_model.specs.Mean.{result_of_both}
 
 -- ---- sizes
 -- the sizes of an expression, or its first misfit in the order of evaluation

@@ -21,7 +21,7 @@ use Rattle.run_model.specs.declared.outcome.Unit.TheVariants.{Cells, Pairs}
 use Rattle.run_model.specs.declared.event.Event.{Event}
 use Rattle.run_model.specs.declared.outcome.Outcome.{Outcome}
 use Rattle.run_model.specs.declared.outcome.Outcome.TheVariants.{Done, Parse, Ill, Size, Turns, Nodes, TooLarge, TooLong, NoFile, BadFile as BAD_FILE, NoMemory}
-use Rattle.rel_model.specs.Relation.{Relation, has}
+use Rattle.run_model.specs.Texts.{prefix, matrix, refusal_text}
 use Rattle.relview.specs.First.Due.{Due, Value, due}
 use Rattle.relview.specs.First.Legal.{Trees, AreReadAs, IsLegal, state_for}
 

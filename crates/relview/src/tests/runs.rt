@@ -5,12 +5,12 @@ ghost use Rattle.rel_model.specs.Views.{IsOf};
 
 use crate::session::run_script;
 use crate::top::{Report, relview, status_of};
+use lang_model::faults::{ParseFault, StaticShape, TypeFault, What};
+use lang_model::syntax::{Name, Place};
 use pair_table::{PairTable, Seat};
 use rel_model::engine_trait::Engine;
-use lang_model::faults::{ParseFault, StaticShape, TypeFault, What};
 use run_model::event::{Act, Event};
 use run_model::outcome::Outcome;
-use lang_model::syntax::{Name, Place};
 use rv_io::{MemShelf, MemSink, NoMemory};
 use rv_parse::parse_first;
 use std::alloc::{AllocError, Global};

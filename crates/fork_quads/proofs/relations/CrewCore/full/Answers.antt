@@ -1,4 +1,4 @@
-use Rattle.std.proofs.Common.{◌≤◌, arith}
+use Rattle.std.proofs.Common.{arith}
 use Rattle.rel_model.specs.Cells.{cells_rect}
 use Rattle.rel_model.specs.Operators.{full}
 use Rattle.rel_model.specs.Quads.{quad_room}

@@ -1,0 +1,5 @@
+use Rattle.turn_book.specs.Views.{IsReady}
+use Rattle.bench_turns.proofs.turns.Given as goal
+
+abbrev pub invariant-turns : goal.invariant-turns
+invariant-turns g l = IsReady l.fn.book l.pass

@@ -1,0 +1,10 @@
+pub mod Entries
+pub mod Logs
+pub mod Views
+pub mod Origins
+pub mod Rule
+pub mod Tells
+pub mod Held
+pub mod Turns
+pub mod Joined
+pub mod Laws
