@@ -20,7 +20,8 @@ HasHalted old new answer (LACK Full) = Rose old.misses new.misses
 HasHalted old new answer (LACK NoMemory) = Unit {0}
 
 -- an evaluation ends as its meaning does, in a worker whose leaves have this height
-pub record Ends (leaf : ℕ) {T X : Type 0} (old new : Worker) (before left : ℕ) (came : Came T) (is : X → T) (result : Result X Halt) : Type 0 where
+pub record Ends (leaf : ℕ) {T X : Type 0}
+    (old new : Worker) (before left : ℕ) (came : Came T) (is : X → T) (result : Result X Halt) : Type 0 where
   -- a value is that of the meaning, and as many turns are left
   pub value : IfOk result (λ x. came.answer ≡ Got (is x) left)
   -- anything else has its cause

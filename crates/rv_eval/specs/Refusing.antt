@@ -31,7 +31,8 @@ told turns (LACK NO_MEMORY) = NoMemory
 abbrev pub IsAnswer : Worker → Worker → ℕ → Answer Relation → Result Rel Refused → Type 0
 IsAnswer old new turns answer (Ok rel) = (left : ℕ) × (answer ≡ Got (set_of new rel) left)
 IsAnswer old new turns answer (Err (IllRefused fault)) = answer ≡ Not (Ill fault)
-IsAnswer old new turns answer (Err (SizeRefused at wanted limit)) = (answer ≡ Not (Size at wanted)) × (limit ≡ size_limit)
+IsAnswer old new turns answer (Err (SizeRefused at wanted limit)) =
+    (answer ≡ Not (Size at wanted)) × (limit ≡ size_limit)
 IsAnswer old new turns answer (Err (TurnsRefused at limit)) = (answer ≡ Not (Turns at)) × (limit ≡ turns)
 IsAnswer old new turns answer (Err Nodes) = Rose old.misses new.misses
 IsAnswer old new turns answer (Err NoMemory) = Unit {0}

@@ -173,7 +173,8 @@ fn base_of_one<E: Engine>(
     }
 }
 
-/// A base call. Of none or of more than two operands, which no text gives, the empty relation of no rows and no columns.
+/// A base call. Of none or of more than two operands, which no text gives, the empty relation of no rows and no
+/// columns.
 pub fn base_call<E: Engine>(
     alloc: Global,
     engine: &mut E,

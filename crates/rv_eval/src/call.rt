@@ -104,8 +104,8 @@ fn meaning_of<E: Engine>(
     }
 }
 
-/// The value of an expression of a command on these names, or why it has none: first the leftmost name that is not among them, for
-/// which nothing is computed, and then its meaning. Static faults are not looked for ahead.
+/// The value of an expression of a command on these names, or why it has none: first the leftmost name that is not
+/// among them, for which nothing is computed, and then its meaning. Static faults are not looked for ahead.
 pub fn value_of<E: Engine>(
     alloc: Global,
     engine: &mut E,

@@ -26,7 +26,8 @@ pub fn set(
     name: &Name,
     rel: Rel,
 ) -> Result<(), NoMemory>
-    ensures { OnOk result ((n : List ℕ) → rel_of names.new.items n ≡ cond (same_text name.now n) (Some rel) (rel_of names.old.items n)) }
+    ensures { OnOk result ((n : List ℕ) →
+        rel_of names.new.items n ≡ cond (same_text name.now n) (Some rel) (rel_of names.old.items n)) }
 {
     let count = names.len();
     'each: for i in 0..count {

@@ -10,13 +10,13 @@ ghost use Rattle.lang_model.specs.Mean.{tested, injected_by, domain_named};
 ghost use Rattle.rv_eval.specs.Names.{rel_of, beside, state_of, AllStand};
 ghost use Rattle.rv_eval.specs.Ends.{Ends};
 
+use crate::domain_calls::domain_call;
 use crate::faults::{no_domain, type_of, unknown, wrong_count};
 use crate::halt::Halt;
 use crate::names::{bind, find, set};
-use crate::domain_calls::domain_call;
-use rel_model::engine_trait::Engine;
 use lang_model::faults::TypeFault;
 use lang_model::syntax::{Base, Decl, Name, Place};
+use rel_model::engine_trait::Engine;
 use rel_model::{Lack, NoMemory, Rel};
 use std::alloc::Global;
 
@@ -27,7 +27,8 @@ pub fn value_of_name(
     at: Place,
     name: &Name,
 ) -> Result<Rel, Halt>
-    ensures { MatchResult result (λ r. rel_of names.now name.now ≡ Some r) (λ e. (e ≡ LACK NO_MEMORY) ⊎ ((rel_of names.now name.now ≡ None) × (e ≡ Ill (Unknown at name.now)))) }
+    ensures { MatchResult result (λ r. rel_of names.now name.now ≡ Some r)
+        (λ e. (e ≡ LACK NO_MEMORY) ⊎ ((rel_of names.now name.now ≡ None) × (e ≡ Ill (Unknown at name.now)))) }
 {
     match find(names, name.bytes()) {
         Some(rel) => Ok(rel),
@@ -43,7 +44,9 @@ pub fn bound_names(
     params: &[Name],
     values: &[Rel],
 ) -> Result<Vec<(Name, Rel)>, Halt>
-    ensures { MatchResult result (λ v. (length params.now ≡ length values.now) × (v.items ≡ beside params.now values.now)) (λ e. (e ≡ LACK NO_MEMORY) ⊎ (((length params.now == length values.now) ≡ false) × (e ≡ Ill (Arity at name.now (length params.now) (length values.now))))) }
+    ensures { MatchResult result (λ v. (length params.now ≡ length values.now) × (v.items ≡ beside params.now values.now))
+        (λ e. (e ≡ LACK NO_MEMORY) ⊎ (((length params.now == length values.now) ≡ false)
+        × (e ≡ Ill (Arity at name.now (length params.now) (length values.now))))) }
 {
     if params.len() != values.len() {
         return Err(wrong_count(alloc, at, name, params.len(), values.len()));
@@ -61,7 +64,8 @@ pub fn assign(
     name: &Name,
     rel: Rel,
 ) -> Result<(), Halt>
-    ensures assigned { OnOk result ((n : List ℕ) → rel_of names.new.items n ≡ cond (same_text name.now n) (Some rel) (rel_of names.old.items n)) }
+    ensures assigned { OnOk result ((n : List ℕ) →
+        rel_of names.new.items n ≡ cond (same_text name.now n) (Some rel) (rel_of names.old.items n)) }
     ensures memory { IfErr result (λ e. e ≡ LACK NO_MEMORY) }
 {
     match set(alloc, names, name, rel) {
@@ -88,7 +92,8 @@ pub fn decide<E: Engine>(alloc: Global, engine: &mut E, at: Place, value: Rel) -
 
 /// The names of a declared domain, where the declaration is of this one.
 fn domain_of<'a>(decl: &'a Decl, domain: &Name) -> Option<(&'a Name, &'a Name)>
-    ensures { MatchOption result (domain_named (decl.now ∷ []) domain.now ≡ None) (λ x. domain_named (decl.now ∷ []) domain.now ≡ Some (x.0.now, x.1.now)) }
+    ensures { MatchOption result (domain_named (decl.now ∷ []) domain.now ≡ None)
+        (λ x. domain_named (decl.now ∷ []) domain.now ≡ Some (x.0.now, x.1.now)) }
 {
     match decl {
         Decl::Variable { .. } => None,
@@ -109,7 +114,8 @@ fn domain_of<'a>(decl: &'a Decl, domain: &Name) -> Option<(&'a Name, &'a Name)>
 
 /// The two names of a declared domain.
 fn find_domain<'a>(decls: &'a [Decl], domain: &Name) -> Option<(&'a Name, &'a Name)>
-    ensures { MatchOption result (domain_named decls.now domain.now ≡ None) (λ x. domain_named decls.now domain.now ≡ Some (x.0.now, x.1.now)) }
+    ensures { MatchOption result (domain_named decls.now domain.now ≡ None)
+        (λ x. domain_named decls.now domain.now ≡ Some (x.0.now, x.1.now)) }
 {
     'each: for decl in decls {
         if let Some(found) = domain_of(decl, domain) {

@@ -6,14 +6,14 @@ ghost use Rattle.lang_model.specs.Mean.{mean, means_by, mean_test, around_with, 
 ghost use Rattle.rv_eval.specs.Names.{state_of, AllStand};
 ghost use Rattle.rv_eval.specs.Ends.{Ends};
 
-use crate::faults::{too_deep, unknown};
-use crate::halt::Halt;
 use crate::bases::base_call;
 use crate::domain_calls::pair;
+use crate::faults::{too_deep, unknown};
+use crate::halt::Halt;
 use crate::operators::{complement, link, transposed};
 use crate::steps::{assign, bound_names, decide, inject, value_of_name};
-use rel_model::engine_trait::Engine;
 use lang_model::syntax::{Decl, Expr, Item, Name, Place, Stmt};
+use rel_model::engine_trait::Engine;
 use rel_model::{Lack, Rel};
 use rv_types::Checked;
 use std::alloc::Global;

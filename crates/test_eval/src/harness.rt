@@ -1,5 +1,5 @@
-//! Runs scripts of definitions, REL, LET and PRINT by the evaluator and by lists, and tells what comes of each PRINT and of each
-//! refused LET.
+//! Runs scripts of definitions, REL, LET and PRINT by the evaluator and by lists, and tells what comes of each
+//! PRINT and of each refused LET.
 ghost use Rattle.std.specs.Prelude.{◌≡◌, ◌++◌, ◌∷◌, [], OnOk, IfOk, IsTrue};
 ghost use Rattle.rel_model.specs.Listed.{AreWithin};
 ghost use Rattle.rel_model.specs.Worker.{Stands, Keeps};
@@ -133,12 +133,7 @@ fn tell(to: &mut String, line: &str) -> Result<(), Fail> {
 }
 
 /// Gives a name its relation.
-fn put(
-    alloc: Global,
-    env: &mut Vec<(Name, Rel)>,
-    name: &Name,
-    rel: Rel,
-) -> Result<(), Fail>
+fn put(alloc: Global, env: &mut Vec<(Name, Rel)>, name: &Name, rel: Rel) -> Result<(), Fail>
     ensures { OnOk result (env.new.items ≡ env.old.items ++ (name.now, rel) ∷ []) }
 {
     let own = name.copied(alloc)?;
@@ -216,7 +211,13 @@ fn run_command<E: Engine>(
     ensures standing { OnOk result (AllStand (E.worker engine.new) env.new.items) }
 {
     match command {
-        Command::Relation { name, rows, cols, list, .. } => {
+        Command::Relation {
+            name,
+            rows,
+            cols,
+            list,
+            ..
+        } => {
             let list = listed(alloc, *rows, *cols, list.as_slice())?;
             let rel = stored(alloc, engine, &list)?;
             put(alloc, env, name, rel)?;
@@ -224,7 +225,15 @@ fn run_command<E: Engine>(
             Ok(())
         }
         Command::Let { name, value } => run_expr(
-            alloc, engine, checked, env, names, told, Some(name), value, turns,
+            alloc,
+            engine,
+            checked,
+            env,
+            names,
+            told,
+            Some(name),
+            value,
+            turns,
         ),
         Command::Print { value } => run_expr(
             alloc, engine, checked, env, names, told, None, value, turns,

@@ -71,6 +71,7 @@ impl Listed {
 }
 
 /// What says which pairs are in a result: an operator and its operands, or a domain operator and two sizes.
+#[derive(Clone, Copy)]
 pub(crate) enum Clause<'a> {
     Link(Op2, &'a Listed, &'a Listed),
     Minus(&'a Listed),
@@ -159,7 +160,8 @@ fn is_injected(base: Base, x: u32, y: u32, i: u32, j: u32) -> bool {
     }
 }
 
-/// Whether a walk of at least one step leads from one element to another: as many rounds as there are elements, each over all pairs.
+/// Whether a walk of at least one step leads from one element to another: as many rounds as there are elements, each
+/// over all pairs.
 fn is_reached(r: &Listed, i: u32, j: u32) -> bool {
     let mut reached: u64 = 0;
     'rounds: for _ in 0..r.rows {

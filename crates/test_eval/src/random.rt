@@ -3,6 +3,7 @@ use std::alloc::Global;
 use std::test::Fail;
 
 /// A source of pseudo-random numbers.
+#[derive(Drop)]
 pub(crate) struct Source {
     pub(crate) state: u64,
 }
@@ -20,19 +21,50 @@ impl Source {
 
 /// Templates of square relations: `#` is one more, `%` a vector, `?` a relation of one row and one column.
 const SQUARES: [&[u8]; 20] = [
-    b"A", b"B", b"-#", b"#^", b"(#|#)", b"(#&#)", b"(#*#)", b"(#\\#)", b"(#/#)", b"syq(#,#)",
-    b"trans(#)", b"refl(#)", b"atom(#)", b"(%*%^)", b"I(#)", b"(#^^)", b"F(#,#)", b"G(#,#)",
-    b"(#*#|#&-#)", b"L(#)",
+    b"A",
+    b"B",
+    b"-#",
+    b"#^",
+    b"(#|#)",
+    b"(#&#)",
+    b"(#*#)",
+    b"(#\\#)",
+    b"(#/#)",
+    b"syq(#,#)",
+    b"trans(#)",
+    b"refl(#)",
+    b"atom(#)",
+    b"(%*%^)",
+    b"I(#)",
+    b"(#^^)",
+    b"F(#,#)",
+    b"G(#,#)",
+    b"(#*#|#&-#)",
+    b"L(#)",
 ];
 
 /// Templates of vectors.
 const VECTORS: [&[u8]; 9] = [
-    b"V", b"dom(#)", b"ran(#)", b"point(%)", b"init(%)", b"next(%)", b"(#*%)", b"-%", b"(%|%)",
+    b"V",
+    b"dom(#)",
+    b"ran(#)",
+    b"point(%)",
+    b"init(%)",
+    b"next(%)",
+    b"(#*%)",
+    b"-%",
+    b"(%|%)",
 ];
 
 /// Templates of tests.
 const TESTS: [&[u8]; 7] = [
-    b"empty(#)", b"eq(#,#)", b"incl(%,%)", b"unival(#)", b"-?", b"(?&?)", b"(?|?)",
+    b"empty(#)",
+    b"eq(#,#)",
+    b"incl(%,%)",
+    b"unival(#)",
+    b"-?",
+    b"(?&?)",
+    b"(?|?)",
 ];
 
 /// The templates of a kind.
@@ -113,8 +145,14 @@ pub(crate) fn definitions(
     text.extend_from_slice(b"F(A,B) = A & -B | A * B^.\n")?;
     text.extend_from_slice(b"G(A,B) DECL V, p BEG V = dom(A); p = init(V);\nWHILE -empty(p) & ")?;
     text.extend_from_slice(b"-eq(B, L(B)) DO V = ")?;
-    text.extend_from_slice(if source.below(4) == 0 { b"-V" } else { b"B * V" })?;
-    text.extend_from_slice(b"; p = next(p) OD;\nIF unival(A) THEN V = V | p FI RETURN V * V^ END.\n")?;
+    text.extend_from_slice(if source.below(4) == 0 {
+        b"-V"
+    } else {
+        b"B * V"
+    })?;
+    text.extend_from_slice(
+        b"; p = next(p) OD;\nIF unival(A) THEN V = V | p FI RETURN V * V^ END.\n",
+    )?;
     Ok(())
 }
 

@@ -27,12 +27,7 @@ fn sign(op: Op2) -> &'static [u8] {
 }
 
 /// The relation of a clause.
-pub(crate) fn made(
-    alloc: Global,
-    rows: u32,
-    cols: u32,
-    clause: &Clause,
-) -> Result<Answer, Fail> {
+pub(crate) fn made(alloc: Global, rows: u32, cols: u32, clause: &Clause) -> Result<Answer, Fail> {
     Ok(Answer::Value(counted_out(alloc, rows, cols, clause)?))
 }
 
@@ -86,7 +81,8 @@ pub(crate) fn paired(alloc: Global, at: Place, r: &Listed, s: &Listed) -> Result
     made_within(alloc, at, wanted, r.rows, cols, &Clause::Pair(r, s))
 }
 
-/// The spelling, the test and the result's sizes of a base call of one operand: test 1 wants a square, test 2 one column.
+/// The spelling, the test and the result's sizes of a base call of one operand: test 1 wants a square, test 2 one
+/// column.
 fn rule(base: Base, r: &Listed) -> (&'static [u8], u8, u32, u32) {
     let (m, n) = (r.rows, r.cols);
     match base {
@@ -127,7 +123,11 @@ pub(crate) fn based(alloc: Global, at: Place, base: Base, r: &Listed) -> Result<
         return Ok(Answer::Refused(text::unfit(alloc, "NotVector", name, at, own)?));
     }
     if base == Base::Epsi && r.rows > 24 {
-        let wanted = if r.rows > 63 { u64::MAX } else { 1 << r.rows.min(63) };
+        let wanted = if r.rows > 63 {
+            u64::MAX
+        } else {
+            1 << r.rows.min(63)
+        };
         return Ok(Answer::Refused(text::size(alloc, at, wanted)?));
     }
     made(alloc, rows, cols, &Clause::Base(base, r))

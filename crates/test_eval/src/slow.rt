@@ -1,5 +1,5 @@
-//! The meaning of the language on lists of pairs, case by case from its text: slow and plain. Each step into a part takes one of
-//! so much fuel.
+//! The meaning of the language on lists of pairs, case by case from its text: slow and plain. Each step into a
+//! part takes one of so much fuel.
 use crate::listed::{Clause, Listed};
 use crate::simple::{Answer, based, compared, injected, linked, made, paired};
 use crate::text;
@@ -41,18 +41,21 @@ impl Names {
 }
 
 /// What statements come to.
+#[derive(Drop)]
 enum Ran {
     On,
     Refused(String),
 }
 
 /// What arguments come to.
+#[derive(Drop)]
 enum Values {
     All(Vec<Listed>),
     Refused(String),
 }
 
-/// What does not change inside a definition: the script, the declarations, and how many definitions may still stand in one another.
+/// What does not change inside a definition: the script, the declarations, and how many definitions may still stand in
+/// one another.
 #[derive(Clone, Copy)]
 pub(crate) struct Scope<'a> {
     pub(crate) script: &'a Script,
@@ -79,7 +82,7 @@ pub(crate) fn value(
             None => Ok(Answer::Refused(text::named(alloc, "Unknown", name.bytes(), *at)?)),
         },
         Expr::Call { at, name, args } => {
-            match values(alloc, fuel - 1, scope, names, args.as_slice(), turns)? {
+            match values_of(alloc, fuel - 1, scope, names, args.as_slice(), turns)? {
                 Values::All(list) => {
                     called(alloc, fuel - 1, scope, *at, name, list.as_slice(), turns)
                 }
@@ -87,7 +90,7 @@ pub(crate) fn value(
             }
         }
         Expr::Base { at, base, args } => {
-            match values(alloc, fuel - 1, scope, names, args.as_slice(), turns)? {
+            match values_of(alloc, fuel - 1, scope, names, args.as_slice(), turns)? {
                 Values::All(list) => base_call(alloc, *at, *base, list.as_slice()),
                 Values::Refused(why) => Ok(Answer::Refused(why)),
             }
@@ -138,7 +141,7 @@ pub(crate) fn value(
 
 /// The values of arguments, from the left.
 #[cycle(slow)]
-fn values(
+fn values_of(
     alloc: Global,
     fuel: u32,
     scope: &Scope,
@@ -178,7 +181,13 @@ fn inject(
     domain: &Name,
 ) -> Result<Answer, Fail> {
     'decls: for decl in decls {
-        if let Decl::Domain { name, left, right, .. } = decl {
+        if let Decl::Domain {
+            name,
+            left,
+            right,
+            ..
+        } = decl
+        {
             if name.bytes() == domain.bytes() {
                 if let (Some(a), Some(b)) = (names.find(left.bytes()), names.find(right.bytes())) {
                     return injected(alloc, at, base, a.rows, b.rows);
@@ -232,12 +241,28 @@ fn called(
     match definition(script, name) {
         Some(Item::Function { params, body, .. }) => {
             let names = bound(alloc, params.as_slice(), list)?;
-            let inner = Scope { script, decls: &[], rank };
+            let inner = Scope {
+                script,
+                decls: &[],
+                rank,
+            };
             value(alloc, fuel - 1, &inner, &names, body, turns)
         }
-        Some(Item::Program { params, decls, body, result, .. }) => {
+        Some(
+            Item::Program {
+                params,
+                decls,
+                body,
+                result,
+                ..
+            },
+        ) => {
             let mut names = bound(alloc, params.as_slice(), list)?;
-            let inner = Scope { script, decls: decls.as_slice(), rank };
+            let inner = Scope {
+                script,
+                decls: decls.as_slice(),
+                rank,
+            };
             match run(alloc, fuel - 1, &inner, &mut names, body.as_slice(), turns)? {
                 Ran::On => value(alloc, fuel - 1, &inner, &names, result, turns),
                 Ran::Refused(why) => Ok(Answer::Refused(why)),
@@ -288,7 +313,11 @@ fn run(
     }
     'stmts: for stmt in stmts {
         let ran = match stmt {
-            Stmt::Set { name, value: right, .. } => {
+            Stmt::Set {
+                name,
+                value: right,
+                ..
+            } => {
                 match value(alloc, fuel - 1, scope, names, right, turns)? {
                     Answer::Value(list) => {
                         names.put(alloc, name.bytes(), list)?;
@@ -305,7 +334,16 @@ fn run(
                 }
             }
             Stmt::While { at, test, body } => {
-                repeat(alloc, fuel - 1, scope, names, *at, test, body.as_slice(), turns)?
+                repeat(
+                    alloc,
+                    fuel - 1,
+                    scope,
+                    names,
+                    *at,
+                    test,
+                    body.as_slice(),
+                    turns,
+                )?
             }
         };
         match ran {

@@ -1,5 +1,7 @@
-//! The evaluator over a node table, beside the meaning on lists of pairs: each construct, each refusal, loops, and pseudo-random
-//! scripts.
+//! The evaluator over a node table, beside the meaning on lists of pairs: each construct, each refusal,
+//! loops, and pseudo-random scripts.
+ghost use Rattle.rel_model.specs.Views.{IsOf};
+
 use crate::harness::answers;
 use crate::random::{Source, relation, script};
 use fork_quads::{Crew, OpenGate};
@@ -8,8 +10,6 @@ use rel_engine::Works;
 use std::alloc::Global;
 use std::process::Abort;
 use std::test::Fail;
-
-ghost use Rattle.rel_model.specs.Views.{IsOf};
 
 /// A table of 2^20 node words, and its first seat.
 fn table(rt: &impl Abort, alloc: Global) -> (PairTable, Seat)
@@ -26,16 +26,31 @@ const CASES: [(&str, &str); 34] = [
     ("PRINT a.", "Unknown a 1:7"),
     ("PRINT f(A).", "Unknown f 1:7"),
     ("REL A 1 1 {}.\nPRINT b | c.", "Unknown b 2:7"),
-    ("REL A 1 2 {}.\nREL B 2 1 {}.\nPRINT A | B | c.", "Unknown c 3:15"),
-    ("REL A 1 2 {}.\nREL B 2 1 {}.\nPRINT A | B.", "Mismatch | 3:9 1x2 2x1"),
-    ("REL A 1 2 {}.\nREL B 2 1 {}.\nPRINT A & B.", "Mismatch & 3:9 1x2 2x1"),
+    (
+        "REL A 1 2 {}.\nREL B 2 1 {}.\nPRINT A | B | c.",
+        "Unknown c 3:15",
+    ),
+    (
+        "REL A 1 2 {}.\nREL B 2 1 {}.\nPRINT A | B.",
+        "Mismatch | 3:9 1x2 2x1",
+    ),
+    (
+        "REL A 1 2 {}.\nREL B 2 1 {}.\nPRINT A & B.",
+        "Mismatch & 3:9 1x2 2x1",
+    ),
     ("REL A 1 2 {}.\nPRINT A * A.", "Mismatch * 2:9 1x2 1x2"),
     ("REL A 1 2 {}.\nPRINT A \\ A^.", "Mismatch \\ 2:9 1x2 2x1"),
     ("REL A 1 2 {}.\nPRINT A / A^.", "Mismatch / 2:9 1x2 2x1"),
     ("REL A 1 2 {}.\nPRINT [A, A^].", "Mismatch [ 2:7 1x2 2x1"),
-    ("REL A 1 2 {}.\nPRINT syq(A, A^).", "Mismatch syq 2:7 1x2 2x1"),
+    (
+        "REL A 1 2 {}.\nPRINT syq(A, A^).",
+        "Mismatch syq 2:7 1x2 2x1",
+    ),
     ("REL A 1 2 {}.\nPRINT eq(A, A^).", "Mismatch eq 2:7 1x2 2x1"),
-    ("REL A 1 2 {}.\nPRINT incl(A, A^).", "Mismatch incl 2:7 1x2 2x1"),
+    (
+        "REL A 1 2 {}.\nPRINT incl(A, A^).",
+        "Mismatch incl 2:7 1x2 2x1",
+    ),
     ("REL A 1 2 {}.\nPRINT I(A).", "NotSquare I 2:7 1x2"),
     ("REL A 1 2 {}.\nPRINT trans(A).", "NotSquare trans 2:7 1x2"),
     ("REL A 1 2 {}.\nPRINT refl(A).", "NotSquare refl 2:7 1x2"),
@@ -46,7 +61,10 @@ const CASES: [(&str, &str); 34] = [
     ("REL A 1 2 {}.\nPRINT inj(A).", "NotVector inj 2:7 1x2"),
     ("REL A 1 4097 {}.\nPRINT [A, A].", "Size 2:7 16785409"),
     ("REL V 25 1 {}.\nPRINT epsi(V).", "Size 2:7 33554432"),
-    ("REL V 64 1 {}.\nPRINT epsi(V).", "Size 2:7 18446744073709551615"),
+    (
+        "REL V 64 1 {}.\nPRINT epsi(V).",
+        "Size 2:7 18446744073709551615",
+    ),
     (
         "P(x,y) DECL d = PROD(x,y) BEG RETURN p-2(d) END.\nREL A 4097 1 {}.\nPRINT P(A,A).",
         "Size 1:38 16785409",
@@ -115,11 +133,49 @@ IF unival(x) THEN n = n & x ELSE n = -n FI RETURN n END.
 
 /// One expression a construct.
 const EXPRESSIONS: [&str; 44] = [
-    "A | B", "A & B", "A * C", "A \\ B", "A / B", "C / C", "-A", "A^", "A^^", "A^^^", "[A, B]",
-    "[A, V]", "L(A)", "O(A)", "I(A)", "Ln1(A)", "On1(A)", "L1n(A)", "O1n(A)", "dom(A)", "ran(A)",
-    "trans(A)", "refl(A)", "trans(A * C)", "epsi(V)", "point(V)", "atom(A)", "init(V)", "next(V)",
-    "inj(V)", "empty(A)", "unival(A)", "syq(A, B)", "eq(A, B)", "eq(A, A^^)", "incl(A, B)",
-    "incl(A & B, B)", "PA(A, V)", "PB(A, C)", "IA(A, C)", "IB(V, C)", "F(A, B)", "W(A)",
+    "A | B",
+    "A & B",
+    "A * C",
+    "A \\ B",
+    "A / B",
+    "C / C",
+    "-A",
+    "A^",
+    "A^^",
+    "A^^^",
+    "[A, B]",
+    "[A, V]",
+    "L(A)",
+    "O(A)",
+    "I(A)",
+    "Ln1(A)",
+    "On1(A)",
+    "L1n(A)",
+    "O1n(A)",
+    "dom(A)",
+    "ran(A)",
+    "trans(A)",
+    "refl(A)",
+    "trans(A * C)",
+    "epsi(V)",
+    "point(V)",
+    "atom(A)",
+    "init(V)",
+    "next(V)",
+    "inj(V)",
+    "empty(A)",
+    "unival(A)",
+    "syq(A, B)",
+    "eq(A, B)",
+    "eq(A, A^^)",
+    "incl(A, B)",
+    "incl(A & B, B)",
+    "PA(A, V)",
+    "PB(A, C)",
+    "IA(A, C)",
+    "IB(V, C)",
+    "F(A, B)",
+    "W(A)",
     "A * C * A | -A & B",
 ];
 
@@ -146,7 +202,11 @@ fn each_construct_at_small_sizes_and_at_one_over_8_is_its_meaning(
                 text.extend_from_slice(format!(in alloc; "PRINT {expression}.\n")?.as_bytes())?;
             }
             let told = answers(alloc, &mut works, text.as_slice(), 7)?;
-            assert_eq!(&rt; told.by_engine.as_str(), told.by_lists.as_str(), "at {m} x {n}");
+            assert_eq!(&rt;
+                told.by_engine.as_str(),
+                told.by_lists.as_str(),
+                "at {m} x {n}"
+            );
             assert!(&rt; !told.by_engine.contains("fuel"));
         }
     }
@@ -164,7 +224,11 @@ fn pseudo_random_scripts_are_answered_by_their_meaning(rt: HostRuntime) -> Resul
         let size = 1 + (seed % 5) as u32;
         let text = script(alloc, seed, size, 12)?;
         let told = answers(alloc, &mut works, text.as_slice(), 7)?;
-        assert_eq!(&rt; told.by_engine.as_str(), told.by_lists.as_str(), "of seed {seed}");
+        assert_eq!(&rt;
+            told.by_engine.as_str(),
+            told.by_lists.as_str(),
+            "of seed {seed}"
+        );
         assert!(&rt; !told.by_engine.contains("fuel"));
         if !told.by_engine.contains("Turns") {
             values = values.wrapping_add(1);

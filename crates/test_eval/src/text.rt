@@ -62,7 +62,10 @@ pub(crate) fn turns(alloc: Global, at: Place) -> Result<String, Fail> {
 
 /// Sizes that are known; one that is not known is told as the greatest number.
 fn sizes(shape: &StaticShape) -> (u32, u32) {
-    (shape.rows.unwrap_or(u32::MAX), shape.cols.unwrap_or(u32::MAX))
+    (
+        shape.rows.unwrap_or(u32::MAX),
+        shape.cols.unwrap_or(u32::MAX),
+    )
 }
 
 /// A fault.
@@ -75,7 +78,13 @@ pub(crate) fn fault(alloc: Global, fault: &TypeFault) -> Result<String, Fail> {
             name,
             takes,
             given,
-        } => wrong_count(alloc, name.bytes(), *at, u64::from(*takes), u64::from(*given)),
+        } => wrong_count(
+            alloc,
+            name.bytes(),
+            *at,
+            u64::from(*takes),
+            u64::from(*given),
+        ),
         TypeFault::Mismatch {
             at,
             op,
