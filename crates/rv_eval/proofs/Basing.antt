@@ -1,0 +1,138 @@
+-- Base calls: which operands they take, and those that no text spells.
+use Rattle.std.proofs.Common.{◌≡◌, ◌≢◌, ◌≤◌, ◌+◌, ◌∙◌, ◌==◌, ◌&&◌, ℕ, Bool, true, false, cond, List, [], ◌∷◌, length, refl, sym, ap, arith, Result}
+use Rattle.std.proofs.lemmas.Bool.{and_from}
+use Rattle.rel_model.specs.declared.Rel.{Rel}
+use Rattle.lang_model.specs.declared.syntax.Place.{Place}
+use Rattle.lang_model.specs.declared.syntax.Base.{Base}
+use Rattle.lang_model.specs.declared.syntax.Base.TheVariants.{L, O, I, Ln1, On1, L1n, O1n, Dom, Ran, Trans, Refl, Epsi, Point, Atom, Init, Next, Inj, Empty, Unival, Syq, Eq, Incl}
+use Rattle.lang_model.specs.declared.faults.TypeFault.TheVariants.{Mismatch}
+use Rattle.rel_model.specs.Relation.{Relation}
+use Rattle.rel_model.specs.Operators.{empty}
+use Rattle.rel_model.specs.Worker.{Worker, set_of, Keeps}
+use Rattle.lang_model.specs.Rooms.{tree_cost}
+use Rattle.lang_model.specs.Outcomes.{Cost, no_cost, Ill, Operation, Makes, Refuses, with_turns}
+use Rattle.lang_model.specs.Types.{Fits, Misfit, known, sizes, base_text}
+use Rattle.lang_model.specs.Mean.{fitting, based, answer_of_test, is_within}
+use Rattle.rv_eval.specs.declared.halt.Halt.{Halt}
+use Rattle.rv_eval.specs.declared.bases.Demand.TheVariants.{Nothing, Square, OneColumn}
+use Rattle.rv_eval.specs.Demands.{demanded}
+use Rattle.rv_eval.specs.Ends.{Ends}
+use Rattle.rv_eval.proofs.Going.{goes_last}
+use Rattle.rv_eval.proofs.Operating.{same_type, equal_sizes}
+
+-- ---- the last case of each kind
+pub last_square : (base : Base) → demanded base ≡ Square → base ≢ I → base ≢ Trans → base ≡ Refl
+last_square I d a b = absurd (a refl)
+last_square Trans d a b = absurd (b refl)
+last_square Refl d a b = refl
+last_square Epsi d a b = absurd (let x : OneColumn ≡ Square = d in cc)
+last_square Point d a b = absurd (let x : OneColumn ≡ Square = d in cc)
+last_square Init d a b = absurd (let x : OneColumn ≡ Square = d in cc)
+last_square Next d a b = absurd (let x : OneColumn ≡ Square = d in cc)
+last_square Inj d a b = absurd (let x : OneColumn ≡ Square = d in cc)
+last_square base d a b = absurd (let x : Nothing ≡ Square = d in cc)
+
+pub last_vector : (base : Base) → demanded base ≡ OneColumn → base ≢ Epsi → base ≢ Point → base ≢ Init → base ≢ Next → base ≡ Inj
+last_vector Epsi d a b e f = absurd (a refl)
+last_vector Point d a b e f = absurd (b refl)
+last_vector Init d a b e f = absurd (e refl)
+last_vector Next d a b e f = absurd (f refl)
+last_vector Inj d a b e f = refl
+last_vector I d a b e f = absurd (let x : Square ≡ OneColumn = d in cc)
+last_vector Trans d a b e f = absurd (let x : Square ≡ OneColumn = d in cc)
+last_vector Refl d a b e f = absurd (let x : Square ≡ OneColumn = d in cc)
+last_vector base d a b e f = absurd (let x : Nothing ≡ OneColumn = d in cc)
+
+-- ---- calls that no text spells
+pub other_base : (at : Place) (base : Base) (r : Relation) → demanded base ≡ Nothing → base ≢ L → base ≢ O → base ≢ Ln1 → base ≢ On1
+    → base ≢ L1n → base ≢ O1n → base ≢ Dom → base ≢ Ran → base ≢ Atom → base ≢ Empty → base ≢ Unival
+    → based at base (r ∷ []) ≡ Makes (empty 0 0) no_cost
+unfolding based
+other_base at L r d l o m n p q f g h i j = absurd (l refl)
+other_base at O r d l o m n p q f g h i j = absurd (o refl)
+other_base at Ln1 r d l o m n p q f g h i j = absurd (m refl)
+other_base at On1 r d l o m n p q f g h i j = absurd (n refl)
+other_base at L1n r d l o m n p q f g h i j = absurd (p refl)
+other_base at O1n r d l o m n p q f g h i j = absurd (q refl)
+other_base at Dom r d l o m n p q f g h i j = absurd (f refl)
+other_base at Ran r d l o m n p q f g h i j = absurd (g refl)
+other_base at Atom r d l o m n p q f g h i j = absurd (h refl)
+other_base at Empty r d l o m n p q f g h i j = absurd (i refl)
+other_base at Unival r d l o m n p q f g h i j = absurd (j refl)
+other_base at I r d l o m n p q f g h i j = absurd (let x : Square ≡ Nothing = d in cc)
+other_base at Trans r d l o m n p q f g h i j = absurd (let x : Square ≡ Nothing = d in cc)
+other_base at Refl r d l o m n p q f g h i j = absurd (let x : Square ≡ Nothing = d in cc)
+other_base at Epsi r d l o m n p q f g h i j = absurd (let x : OneColumn ≡ Nothing = d in cc)
+other_base at Point r d l o m n p q f g h i j = absurd (let x : OneColumn ≡ Nothing = d in cc)
+other_base at Init r d l o m n p q f g h i j = absurd (let x : OneColumn ≡ Nothing = d in cc)
+other_base at Next r d l o m n p q f g h i j = absurd (let x : OneColumn ≡ Nothing = d in cc)
+other_base at Inj r d l o m n p q f g h i j = absurd (let x : OneColumn ≡ Nothing = d in cc)
+other_base at base r d l o m n p q f g h i j = refl
+
+pub other_two : (at : Place) (base : Base) (r s : Relation) → base ≢ Syq → base ≢ Eq → base ≢ Incl → based at base (r ∷ s ∷ []) ≡ Makes (empty 0 0) no_cost
+unfolding based
+other_two at Syq r s a b c = absurd (a refl)
+other_two at Eq r s a b c = absurd (b refl)
+other_two at Incl r s a b c = absurd (c refl)
+other_two at base r s a b c = refl
+
+pub other_count : (at : Place) (base : Base) (rs : List Relation) → length rs ≢ 1 → length rs ≢ 2 → based at base rs ≡ Makes (empty 0 0) no_cost
+unfolding based
+other_count at base [] a b = refl
+other_count at base (r ∷ []) a b = absurd (a refl)
+other_count at base (r ∷ s ∷ []) a b = absurd (b refl)
+other_count at base (r ∷ s ∷ t ∷ ts) a b = refl
+
+-- ---- two operands of one type
+module _ (w : Worker) (at : Place) (r s : Rel) (rm : (set_of w r).rows ≡ r.rows) (rn : (set_of w r).cols ≡ r.cols) (sm : (set_of w s).rows ≡ s.rows) (sn : (set_of w s).cols ≡ s.cols) where
+  tested_both : (b : Bool) → ((r.rows == s.rows) && (r.cols == s.cols)) ≡ b → (((set_of w r).rows == (set_of w s).rows) && ((set_of w r).cols == (set_of w s).cols)) ≡ b
+  tested_both b e =
+      let R = set_of w r in
+      let S = set_of w s in
+      ap (λ x. (x == S.rows) && (R.cols == S.cols)) rm ∙ ap (λ x. (r.rows == x) && (R.cols == S.cols)) sm
+      ∙ ap (λ x. (r.rows == s.rows) && (x == S.cols)) rn ∙ ap (λ x. (r.rows == s.rows) && (r.cols == x)) sn ∙ e
+
+  pub eq_fits : ((r.rows == s.rows) && (r.cols == s.cols)) ≡ true
+      → based at Eq (set_of w r ∷ set_of w s ∷ []) ≡ Makes (answer_of_test (is_within (set_of w r) (set_of w s) && is_within (set_of w s) (set_of w r))) (tree_cost 1 1)
+  unfolding based
+  eq_fits e =
+      let R = set_of w r in
+      let S = set_of w s in
+      ap (λ b. fitting (cond b (Fits (known 1 1)) (Misfit (Mismatch at (base_text Eq) (sizes R) (sizes S)))) (Makes (answer_of_test (is_within R S && is_within S R)) (tree_cost 1 1))) (tested_both true e)
+
+  pub eq_misfit : ((r.rows == s.rows) && (r.cols == s.cols)) ≡ false
+      → based at Eq (set_of w r ∷ set_of w s ∷ []) ≡ Refuses (Ill (Mismatch at (base_text Eq) (known r.rows r.cols) (known s.rows s.cols)))
+  unfolding based
+  eq_misfit e =
+      let R = set_of w r in
+      let S = set_of w s in
+      ap (λ b. fitting (cond b (Fits (known 1 1)) (Misfit (Mismatch at (base_text Eq) (sizes R) (sizes S)))) (Makes (answer_of_test (is_within R S && is_within S R)) (tree_cost 1 1))) (tested_both false e)
+      ∙ ap (λ x. Refuses (Ill (Mismatch at (base_text Eq) x (sizes S)))) (same_type w r rm rn)
+      ∙ ap (λ x. Refuses (Ill (Mismatch at (base_text Eq) (known r.rows r.cols) x))) (same_type w s sm sn)
+
+  pub incl_fits : ((r.rows == s.rows) && (r.cols == s.cols)) ≡ true
+      → based at Incl (set_of w r ∷ set_of w s ∷ []) ≡ Makes (answer_of_test (is_within (set_of w r) (set_of w s))) (λ leaf. tree_cost r.rows r.cols leaf + tree_cost 1 1 leaf)
+  unfolding based
+  incl_fits e =
+      let R = set_of w r in
+      let S = set_of w s in
+      ap (λ b. fitting (cond b (Fits (known 1 1)) (Misfit (Mismatch at (base_text Incl) (sizes R) (sizes S)))) (Makes (answer_of_test (is_within R S)) (λ leaf. tree_cost R.rows R.cols leaf + tree_cost 1 1 leaf))) (tested_both true e)
+      ∙ ap (λ m. Makes (answer_of_test (is_within R S)) (λ leaf. tree_cost m R.cols leaf + tree_cost 1 1 leaf)) rm
+      ∙ ap (λ n. Makes (answer_of_test (is_within R S)) (λ leaf. tree_cost r.rows n leaf + tree_cost 1 1 leaf)) rn
+
+  pub incl_misfit : ((r.rows == s.rows) && (r.cols == s.cols)) ≡ false
+      → based at Incl (set_of w r ∷ set_of w s ∷ []) ≡ Refuses (Ill (Mismatch at (base_text Incl) (known r.rows r.cols) (known s.rows s.cols)))
+  unfolding based
+  incl_misfit e =
+      let R = set_of w r in
+      let S = set_of w s in
+      ap (λ b. fitting (cond b (Fits (known 1 1)) (Misfit (Mismatch at (base_text Incl) (sizes R) (sizes S)))) (Makes (answer_of_test (is_within R S)) (λ leaf. tree_cost R.rows R.cols leaf + tree_cost 1 1 leaf))) (tested_both false e)
+      ∙ ap (λ x. Refuses (Ill (Mismatch at (base_text Incl) x (sizes S)))) (same_type w r rm rn)
+      ∙ ap (λ x. Refuses (Ill (Mismatch at (base_text Incl) (known r.rows r.cols) x))) (same_type w s sm sn)
+
+-- a second operation after a first that made no more than its cost
+pub after_made : {leaf : ℕ} (old mid new : Worker) (value : Relation) (c d : Cost) (r : Result Rel Halt) → Keeps old mid → mid.made ≤ old.made + c leaf
+    → Ends leaf mid new 0 0 (with_turns (Makes value d) 0) (set_of new) r → Ends leaf old new 0 0 (with_turns (Makes value (λ l. c l + d l)) 0) (set_of new) r
+after_made {leaf = leaf} old mid new value c d r k m e =
+    goes_last old mid new 0 0 0 (with_turns (Makes value (λ l. c l + d l)) 0) (with_turns (Makes value d) 0) (set_of new) r
+    (record { spent = c leaf; same_answer = refl; same_cost = refl; keeps = k; room = m; turns = omega arith }) e

@@ -1,0 +1,197 @@
+-- How an evaluation goes on: what it still has to do, and what it spent so far. Each step of the code is one lemma here.
+use Rattle.std.proofs.Common.{◌≡◌, ◌≤◌, ◌+◌, ◌∙◌, ◌⊎◌, inl, inr, ℕ, refl, sym, ap, subst, arith, Result, Ok, Err, IfOk, IfErr, OnOk}
+use Rattle.lang_model.specs.declared.faults.TypeFault.{TypeFault}
+use Rattle.rel_model.specs.declared.Lack.TheVariants.{Full, NoMemory}
+use Rattle.rel_model.specs.Worker.{Worker, Keeps, Rose}
+use Rattle.rel_model.specs.Relation.{Relation}
+use Rattle.rel_model.proofs.Workers.{keeps_itself, keeps_trans}
+use Rattle.rv_eval.specs.declared.halt.Halt.{Halt}
+use Rattle.rv_eval.specs.declared.halt.Halt.TheVariants.{Ill as ILL, Size as SIZE, Turns as TURNS, Lack as LACK}
+use Rattle.lang_model.specs.Outcomes.{Refusal, Ill, Answer, Got, Not, Came, got, refused, following, and_then, Operation, Makes, Refuses, with_turns}
+use Rattle.rv_eval.specs.Ends.{HasHalted, Ends}
+
+-- ---- causes
+pub rose_before : (a b c : ℕ) → a ≤ b → Rose b c → Rose a c
+rose_before a b c h r = grind (arith, h, r)
+
+halted_before : {T : Type 0} (old mid new : Worker) (a : Answer T) (h : Halt) → old.misses ≤ mid.misses → HasHalted mid new a h → HasHalted old new a h
+halted_before old mid new a (ILL f) m c = c
+halted_before old mid new a (SIZE at w) m c = c
+halted_before old mid new a (TURNS at) m c = c
+halted_before old mid new a (LACK Full) m c = rose_before old.misses mid.misses new.misses m c
+halted_before old mid new a (LACK NoMemory) m c = tt
+
+halted_through : {T U : Type 0} (old new : Worker) (a : Answer U) (next : U → ℕ → Came T) (h : Halt) → HasHalted old new a h → HasHalted old new (following a next).answer h
+halted_through old new a next (ILL f) c = ap (λ x. (following x next).answer) c
+halted_through old new a next (SIZE at w) c = ap (λ x. (following x next).answer) c
+halted_through old new a next (TURNS at) c = ap (λ x. (following x next).answer) c
+halted_through old new a next (LACK Full) c = c
+halted_through old new a next (LACK NoMemory) c = tt
+
+halted_ends : {T X : Type 0} (old mid new : Worker) (a : Answer T) (r : Result X Halt) → old.misses ≤ mid.misses → IfErr r (HasHalted mid new a) → IfErr r (HasHalted old new a)
+halted_ends old mid new a (Ok x) m c = tt
+halted_ends old mid new a (Err h) m c = halted_before old mid new a h m c
+
+-- ---- going on
+-- where an evaluation stands: what is left to do has its answer, and with what it spent so far its cost
+pub record Goes (leaf : ℕ) {T : Type 0} (old now : Worker) (before left : ℕ) (total rest : Came T) : Type 0 where
+  pub spent : ℕ
+  pub same_answer : total.answer ≡ rest.answer
+  pub same_cost : total.cost leaf ≡ spent + rest.cost leaf
+  pub keeps : Keeps old now
+  pub room : now.made ≤ old.made + spent
+  pub turns : left ≤ before
+
+-- at first
+pub goes_start : {leaf : ℕ} {T : Type 0} (w : Worker) (n : ℕ) (total : Came T) → Goes leaf w w n n total total
+goes_start w n total = record { spent = 0; same_answer = refl; same_cost = omega arith; keeps = keeps_itself w; room = omega arith; turns = omega arith }
+
+-- the rest in other words
+pub goes_as : {leaf : ℕ} {T : Type 0} (old now : Worker) (n m : ℕ) (total rest same : Came T) → rest ≡ same → Goes leaf old now n m total rest → Goes leaf old now n m total same
+goes_as {leaf = leaf} old now n m total rest same e g = subst (λ x. Goes leaf old now n m total x) e g
+
+-- a turn is taken
+pub goes_turn : {leaf : ℕ} {T : Type 0} (old now : Worker) (n m k : ℕ) (total rest : Came T) → k ≤ m → Goes leaf old now n m total rest → Goes leaf old now n k total rest
+goes_turn old now n m k total rest h g = record { spent = g.spent; same_answer = g.same_answer; same_cost = g.same_cost; keeps = g.keeps; room = g.room; turns = omega (arith, h, g.turns) }
+
+-- a step has its value
+pub goes_on : {leaf : ℕ} {T U X : Type 0} (old mid now : Worker) (n m k : ℕ) (total : Came T) (x : Came U) (next : U → ℕ → Came T) (is : X → U) (v : X) →
+    Goes leaf old mid n m total (and_then x next) → Ends leaf mid now m k x is (Ok v) → Goes leaf old now n k total (next (is v) k)
+goes_on {leaf = leaf} old mid now n m k total x next is v g e =
+    let cost : (following x.answer next).cost leaf ≡ (next (is v) k).cost leaf = ap (λ a. (following a next).cost leaf) e.value in
+    let all : total.cost leaf ≡ g.spent + (x.cost leaf + (following x.answer next).cost leaf) = g.same_cost in
+    let more : now.made ≤ mid.made + x.cost leaf = e.room in
+    record {
+      spent = g.spent + x.cost leaf;
+      same_answer = g.same_answer ∙ ap (λ a. (following a next).answer) e.value;
+      same_cost = omega (arith, all, cost);
+      keeps = keeps_trans old mid now g.keeps e.keeps;
+      room = omega (arith, g.room, more);
+      turns = omega (arith, g.turns, e.turns);
+    }
+
+-- a step ends without a value
+pub goes_err : {leaf : ℕ} {T U X Y : Type 0} (old mid new : Worker) (n m k : ℕ) (total : Came T) (x : Came U) (next : U → ℕ → Came T) (is : X → U) (js : Y → T) (h : Halt) →
+    Goes leaf old mid n m total (and_then x next) → Ends leaf mid new m k x is (Err h) → Ends leaf old new n k total js (Err h)
+goes_err {leaf = leaf} old mid new n m k total x next is js h g e =
+    let all : total.cost leaf ≡ g.spent + (x.cost leaf + (following x.answer next).cost leaf) = g.same_cost in
+    let more : new.made ≤ mid.made + x.cost leaf = e.room in
+    let c : HasHalted old new (following x.answer next).answer h = halted_through old new x.answer next h (halted_before old mid new x.answer h g.keeps.misses e.halted) in
+    record {
+      value = tt;
+      halted = subst (λ a. HasHalted old new a h) (sym g.same_answer) c;
+      keeps = keeps_trans old mid new g.keeps e.keeps;
+      room = omega (arith, g.room, more, all);
+      turns = omega (arith, g.turns, e.turns);
+    }
+
+-- the last step
+pub goes_last : {leaf : ℕ} {T X : Type 0} (old mid new : Worker) (n m k : ℕ) (total rest : Came T) (is : X → T) (r : Result X Halt) →
+    Goes leaf old mid n m total rest → Ends leaf mid new m k rest is r → Ends leaf old new n k total is r
+goes_last {leaf = leaf} old mid new n m k total rest is r g e =
+    let more : new.made ≤ mid.made + rest.cost leaf = e.room in
+    record {
+      value = subst (λ a. IfOk r (λ x. a ≡ Got (is x) k)) (sym g.same_answer) e.value;
+      halted = subst (λ a. IfErr r (HasHalted old new a)) (sym g.same_answer) (halted_ends old mid new rest.answer r g.keeps.misses e.halted);
+      keeps = keeps_trans old mid new g.keeps e.keeps;
+      room = omega (arith, g.room, more, g.same_cost);
+      turns = omega (arith, g.turns, e.turns);
+    }
+
+-- nothing is left to do
+pub goes_got : {leaf : ℕ} {T X : Type 0} (old now : Worker) (n m : ℕ) (total : Came T) (t : T) (is : X → T) (v : X) → t ≡ is v → Goes leaf old now n m total (got t m) → Ends leaf old now n m total is (Ok v)
+goes_got old now n m total t is v s g = record {
+  value = g.same_answer ∙ ap (λ x. Got x m) s;
+  halted = tt;
+  keeps = g.keeps;
+  room = omega (arith, g.room, g.same_cost);
+  turns = g.turns;
+}
+
+-- what is left is a refusal
+pub goes_not : {leaf : ℕ} {T X : Type 0} (old now : Worker) (n m : ℕ) (total : Came T) (why : Refusal) (is : X → T) (h : Halt) →
+    ((a : Answer T) → a ≡ Not why → HasHalted old now a h) → Goes leaf old now n m total (refused why) → Ends leaf old now n m total is (Err h)
+goes_not old now n m total why is h c g = record { value = tt; halted = c total.answer g.same_answer; keeps = g.keeps; room = omega (arith, g.room, g.same_cost); turns = g.turns }
+
+-- memory runs out
+pub goes_lack : {leaf : ℕ} {T X : Type 0} (old now : Worker) (n m : ℕ) (total rest : Came T) (is : X → T) → Goes leaf old now n m total rest → Ends leaf old now n m total is (Err (LACK NoMemory))
+goes_lack old now n m total rest is g = record { value = tt; halted = tt; keeps = g.keeps; room = omega (arith, g.room, g.same_cost); turns = g.turns }
+
+-- ---- single operations, which take no turn
+abbrev pub timed : {T : Type 0} → ℕ → Answer T → Answer T
+timed n (Got x m) = Got x n
+timed n (Not r) = Not r
+
+halted_timed : {T : Type 0} (old new : Worker) (n : ℕ) (a : Answer T) (h : Halt) → HasHalted old new a h → HasHalted old new (timed n a) h
+halted_timed old new n a (ILL f) c = ap (timed n) c
+halted_timed old new n a (SIZE at w) c = ap (timed n) c
+halted_timed old new n a (TURNS at) c = ap (timed n) c
+halted_timed old new n a (LACK Full) c = c
+halted_timed old new n a (LACK NoMemory) c = tt
+
+value_timed : {T X : Type 0} (n : ℕ) (a : Answer T) (is : X → T) (r : Result X Halt) → IfOk r (λ x. a ≡ Got (is x) 0) → IfOk r (λ x. timed n a ≡ Got (is x) n)
+value_timed n a is (Ok x) v = ap (timed n) v
+value_timed n a is (Err h) v = tt
+
+all_halted_timed : {T X : Type 0} (old new : Worker) (n : ℕ) (a : Answer T) (r : Result X Halt) → IfErr r (HasHalted old new a) → IfErr r (HasHalted old new (timed n a))
+all_halted_timed old new n a (Ok x) c = tt
+all_halted_timed old new n a (Err h) c = halted_timed old new n a h c
+
+pub ends_timed : {leaf : ℕ} {T X : Type 0} (old new : Worker) (n : ℕ) (came then : Came T) (is : X → T) (r : Result X Halt) → then.answer ≡ timed n came.answer → then.cost leaf ≡ came.cost leaf → Ends leaf old new 0 0 came is r → Ends leaf old new n n then is r
+ends_timed {leaf = leaf} old new n came then is r a c e =
+    let more : new.made ≤ old.made + came.cost leaf = e.room in
+    record {
+      value = subst (λ x. IfOk r (λ v. x ≡ Got (is v) n)) (sym a) (value_timed n came.answer is r e.value);
+      halted = subst (λ x. IfErr r (HasHalted old new x)) (sym a) (all_halted_timed old new n came.answer r e.halted);
+      keeps = e.keeps;
+      room = omega (arith, more, c);
+      turns = omega arith;
+    }
+
+operation_answer : (n : ℕ) (o : Operation) → (with_turns o n).answer ≡ timed n (with_turns o 0).answer
+operation_answer n (Makes r c) = refl
+operation_answer n (Refuses f) = refl
+
+operation_cost : (leaf n : ℕ) (o : Operation) → (with_turns o n).cost leaf ≡ (with_turns o 0).cost leaf
+operation_cost leaf n (Makes r c) = refl
+operation_cost leaf n (Refuses f) = refl
+
+-- an operation, with so many turns left
+pub ends_operation : {leaf : ℕ} {X : Type 0} (old new : Worker) (n : ℕ) (o : Operation) (is : X → Relation) (r : Result X Halt) → Ends leaf old new 0 0 (with_turns o 0) is r → Ends leaf old new n n (with_turns o n) is r
+ends_operation {leaf = leaf} old new n o is r e = ends_timed old new n (with_turns o 0) (with_turns o n) is r (operation_answer n o) (operation_cost leaf n o) e
+
+-- ---- the first step
+pub first_err : {leaf : ℕ} {T U X Y : Type 0} (old new : Worker) (n k : ℕ) (total : Came T) (x : Came U) (next : U → ℕ → Came T) (is : X → U) (js : Y → T) (h : Halt) →
+    total ≡ and_then x next → Ends leaf old new n k x is (Err h) → Ends leaf old new n k total js (Err h)
+first_err old new n k total x next is js h e ends = goes_err old old new n n k total x next is js h (goes_as old old n n total total (and_then x next) e (goes_start old n total)) ends
+
+pub first_on : {leaf : ℕ} {T U X : Type 0} (old now : Worker) (n k : ℕ) (total : Came T) (x : Came U) (next : U → ℕ → Came T) (is : X → U) (v : X) →
+    total ≡ and_then x next → Ends leaf old now n k x is (Ok v) → Goes leaf old now n k total (next (is v) k)
+first_on old now n k total x next is v e ends = goes_on old old now n n k total x next is v (goes_as old old n n total total (and_then x next) e (goes_start old n total)) ends
+
+-- the only step
+pub only_step : {leaf : ℕ} {T X : Type 0} (old new : Worker) (n k : ℕ) (total rest : Came T) (is : X → T) (r : Result X Halt) → total ≡ rest → Ends leaf old new n k rest is r → Ends leaf old new n k total is r
+only_step {leaf = leaf} old new n k total rest is r e ends = subst (λ x. Ends leaf old new n k x is r) (sym e) ends
+
+-- nothing is done but to refuse, or memory runs out
+pub refuses : {leaf : ℕ} {T X : Type 0} (w : Worker) (n : ℕ) (total : Came T) (fault : TypeFault) (is : X → T) (h : Halt) →
+    total ≡ refused (Ill fault) → (h ≡ ILL fault) ⊎ (h ≡ LACK NoMemory) → Ends leaf w w n n total is (Err h)
+refuses {leaf = leaf} {X = X} w n total fault is h e (inl a) = subst (λ x. Ends leaf {X = X} w w n n total is (Err x)) (sym a)
+    (goes_not w w n n total (Ill fault) is (ILL fault) (λ b c. c) (goes_as w w n n total total (refused (Ill fault)) e (goes_start w n total)))
+refuses {leaf = leaf} {X = X} w n total fault is h e (inr b) = subst (λ x. Ends leaf {X = X} w w n n total is (Err x)) (sym b) (goes_lack w w n n total total is (goes_start w n total))
+
+pub lacks : {leaf : ℕ} {T X : Type 0} (w : Worker) (n : ℕ) (total : Came T) (is : X → T) (h : Halt) → h ≡ LACK NoMemory → Ends leaf w w n n total is (Err h)
+lacks {leaf = leaf} {X = X} w n total is h b = subst (λ x. Ends leaf {X = X} w w n n total is (Err x)) (sym b) (goes_lack w w n n total total is (goes_start w n total))
+
+-- a value that is noted, or want of memory
+pub ok_map : {X E : Type 0} {P Q : Type 0} (r : Result X E) → (P → Q) → OnOk r P → OnOk r Q
+ok_map (Ok x) f p = f p
+ok_map (Err e) f p = tt
+
+pub ends_noted : {leaf : ℕ} {T X : Type 0} (old now : Worker) (n m : ℕ) (total : Came T) (t there : T) (r : Result X Halt) → OnOk r (there ≡ t) → IfErr r (λ e. e ≡ LACK NoMemory) → Goes leaf old now n m total (got t m) → Ends leaf old now n m total (λ x. there) r
+ends_noted old now n m total t there (Ok x) o e g = goes_got old now n m total t (λ y. there) x (sym o) g
+ends_noted {leaf = leaf} {X = X} old now n m total t there (Err h) o e g = subst (λ x. Ends leaf {X = X} old now n m total (λ y. there) (Err x)) (sym e) (goes_lack old now n m total (got t m) (λ y. there) g)
+
+-- after a call that only reads
+pub after_reading : {leaf : ℕ} {T X : Type 0} (old mid new : Worker) (n m : ℕ) (total : Came T) (is : X → T) (r : Result X Halt) → Keeps old mid → mid.made ≤ old.made + 0 → Ends leaf mid new n m total is r → Ends leaf old new n m total is r
+after_reading {leaf = leaf} old mid new n m total is r k none e = goes_last {leaf = leaf} old mid new n n m total total is r (record { spent = 0; same_answer = refl; same_cost = omega arith; keeps = k; room = none; turns = omega arith }) e

@@ -1,0 +1,12 @@
+pub mod Going
+pub mod Operating
+pub mod Domains
+pub mod Testing
+pub mod Basing
+pub mod States
+pub mod Named
+pub mod Unfolding
+pub mod Weights
+pub mod Calling
+pub mod Lacking
+pub mod Telling

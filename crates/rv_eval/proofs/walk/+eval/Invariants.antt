@@ -1,0 +1,76 @@
+use Rattle.std.proofs.Common.{◌≤◌, ◌+◌, ◌*◌, ℕ, suc, [], map, drop}
+use Rattle.std.specs.List.{AllByRecursion}
+use Rattle.rel_model.specs.Worker.{Stands, set_of}
+use Rattle.lang_model.specs.Mean.{mean, means_by, mean_by, mean_test, around_with, calls_within, run_by, looped, rounds}
+use Rattle.rv_eval.specs.Names.{state_of, AllStand}
+use Rattle.rv_eval.proofs.Going.{Goes}
+use Rattle.rv_eval.proofs.Weights.{weight, weight_of_args, weight_stmt, weight_by, scale}
+use Rattle.rv_eval.proofs.walk.+eval.Given as goal
+
+abbrev pub decreases-call : goal.decreases-call
+decreases-call g l = l.rank * scale l.checked.now.items.items
+
+abbrev pub decreases-eval_args : goal.decreases-eval_args
+decreases-eval_args g l = l.rank * scale l.checked.now.items.items + (4 * weight_of_args l.args.now + 1)
+
+abbrev pub decreases-eval_expr : goal.decreases-eval_expr
+decreases-eval_expr g l = l.rank * scale l.checked.now.items.items + 4 * weight l.expr.now
+
+abbrev pub decreases-run_stmt : goal.decreases-run_stmt
+decreases-run_stmt g l = l.rank * scale l.checked.now.items.items + 4 * weight_stmt l.stmt.now
+
+abbrev pub decreases-run_stmts : goal.decreases-run_stmts
+decreases-run_stmts g l = l.rank * scale l.checked.now.items.items + (4 * weight_by l.stmts.now + 2)
+
+abbrev pub decreases-run_while : goal.decreases-run_while
+decreases-run_while g l = l.rank * scale l.checked.now.items.items + (4 * (weight l.test.now + weight_by l.body.now) + 3)
+
+abbrev pub decreases-test_of : goal.decreases-test_of
+decreases-test_of g l = l.rank * scale l.checked.now.items.items + (4 * weight l.test.now + 1)
+
+abbrev pub invariant-eval_args-args-2 : goal.invariant-eval_args-args-2
+invariant-eval_args-args-2 g l =
+    let w = g.E.Core.worker l.fn.engine in
+    let v = g.E.Core.worker l.engine in
+    let a = around_with (calls_within l.checked.items.items l.rank) l.decls in
+    let s = state_of w l.names in
+    record {
+      goes : Goes g.E.Core.least w v l.fn.turns l.turns (means_by a s [] l.args l.fn.turns) (means_by a s (map (set_of v) l.values.items) (drop l.arg-index l.args) l.turns);
+      stands : AllByRecursion (Stands v) l.values.items;
+    }
+
+abbrev pub invariant-eval_expr-links : goal.invariant-eval_expr-links
+invariant-eval_expr-links g l =
+    let w = g.E.Core.worker l.fn.engine in
+    let v = g.E.Core.worker l.engine in
+    let a = around_with (calls_within l.checked.items.items l.rank) l.decls in
+    let s = state_of w l.names in
+    record {
+      goes : Goes g.E.Core.least w v l.fn.turns l.turns (mean a s l.expr l.fn.turns) (mean_by a s (set_of v l.all) (drop l.next-index l.next-items) l.turns);
+      stands : Stands v l.all;
+    }
+
+abbrev pub invariant-run_stmts-stmts : goal.invariant-run_stmts-stmts
+invariant-run_stmts-stmts g l =
+    let w = g.E.Core.worker l.fn.engine in
+    let v = g.E.Core.worker l.engine in
+    let a = around_with (calls_within l.checked.items.items l.rank) l.decls in
+    record {
+      goes : Goes g.E.Core.least w v l.fn.turns l.turns (run_by a l.stmts (state_of w l.fn.names.items) l.fn.turns) (run_by a (drop l.stmt-index l.stmts) (state_of v l.names.items) l.turns);
+      stands : AllStand v l.names.items;
+    }
+
+abbrev pub invariant-run_while-turns : goal.invariant-run_while-turns
+invariant-run_while-turns g l =
+    let w = g.E.Core.worker l.fn.engine in
+    let v = g.E.Core.worker l.engine in
+    let a = around_with (calls_within l.checked.items.items l.rank) l.decls in
+    let test = mean_test a l.at l.test in
+    let body = run_by a l.body in
+    record {
+      bound : (k : ℕ) × (l.turns ≤ k) × Goes g.E.Core.least w v l.fn.turns l.turns (looped l.at test body (state_of w l.fn.names.items) l.fn.turns) (rounds l.at test body (suc k) (state_of v l.names.items) l.turns);
+      stands : AllStand v l.names.items;
+    }
+
+abbrev pub decreases-run_while-turns : goal.decreases-run_while-turns
+decreases-run_while-turns g l = l.turns

@@ -1,0 +1,33 @@
+-- The names of an evaluation and their relations; of several of one name the first counts.
+use Rattle.std.specs.Prelude.{◌≡◌, ℕ, cond, List, [], ◌∷◌, Option, Some, None, option_and_then, option_map}
+use Rattle.rel_model.specs.declared.Rel.{Rel}
+use Rattle.rel_model.specs.Operators.{empty}
+use Rattle.rel_model.specs.Worker.{Worker, Stands}
+use Rattle.lang_model.specs.Tokens.{same_text}
+use Rattle.lang_model.specs.State.{State}
+
+-- the relation of a name
+abbrev pub rel_of : List (List ℕ × Rel) → List ℕ → Option Rel
+rel_of [] name = None
+rel_of (n ∷ ns) name = cond (same_text n.0 name) (Some n.1) (rel_of ns name)
+
+-- the state that the names mean in a worker
+abbrev pub state_of : Worker → List (List ℕ × Rel) → State
+state_of w names name = option_and_then w.relation (rel_of names name)
+
+-- the state in which each name has an empty relation of its sizes
+abbrev pub sized : List (List ℕ × Rel) → State
+sized names name = option_map (λ r. empty r.rows r.cols) (rel_of names name)
+
+-- all relations of the names stand
+abbrev pub AllStand : Worker → List (List ℕ × Rel) → Type 0
+AllStand w names = (name : List ℕ) (r : Rel) → rel_of names name ≡ Some r → Stands w r
+
+-- parameters beside their values
+abbrev pub beside_first : List ℕ → (List Rel → List (List ℕ × Rel)) → List Rel → List (List ℕ × Rel)
+beside_first p rest [] = []
+beside_first p rest (v ∷ vs) = (p, v) ∷ rest vs
+
+abbrev pub beside : List (List ℕ) → List Rel → List (List ℕ × Rel)
+beside [] = λ vs. []
+beside (p ∷ ps) = beside_first p (beside ps)

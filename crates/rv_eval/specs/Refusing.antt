@@ -1,0 +1,52 @@
+-- What the public call answers.
+use Rattle.std.specs.Prelude.{◌≡◌, ℕ, Result, Ok, Err}
+use Rattle.rel_model.specs.declared.Rel.{Rel}
+use Rattle.rel_model.specs.declared.Lack.TheVariants.{Full, NoMemory as NO_MEMORY}
+use Rattle.lang_model.specs.declared.faults.TypeFault.{TypeFault}
+use Rattle.lang_model.specs.declared.faults.TypeFault.TheVariants.{NoMemory as FAULT_NO_MEMORY}
+use Rattle.rel_model.specs.Relation.{Relation, size_limit}
+use Rattle.rel_model.specs.Worker.{Worker, Stands, set_of, Rose, MissesNothing}
+use Rattle.lang_model.specs.Outcomes.{Ill, Size, Turns, Answer, Got, Not}
+use Rattle.lang_model.specs.Eval.{Evaluated, Ahead, Comes}
+use Rattle.rv_eval.specs.declared.halt.Halt.{Halt}
+use Rattle.rv_eval.specs.declared.halt.Halt.TheVariants.{Ill as ILL, Size as SIZE, Turns as TURNS, Lack as LACK}
+use Rattle.rv_eval.specs.declared.halt.Refused.{Refused}
+use Rattle.rv_eval.specs.declared.halt.Refused.TheVariants.{Ill as IllRefused, Size as SizeRefused, Turns as TurnsRefused, Nodes, NoMemory}
+
+-- a fault as a refusal: want of memory is none of the operands
+abbrev pub told_ill : TypeFault → Refused
+told_ill FAULT_NO_MEMORY = NoMemory
+told_ill fault = IllRefused fault
+
+-- a refusal with its limits
+abbrev pub told : ℕ → Halt → Refused
+told turns (ILL fault) = told_ill fault
+told turns (SIZE at wanted) = SizeRefused at wanted size_limit
+told turns (TURNS at) = TurnsRefused at turns
+told turns (LACK Full) = Nodes
+told turns (LACK NO_MEMORY) = NoMemory
+
+-- the answer is that of the meaning: its value, or its refusal with the limit that it passed; or the table was full, or
+-- memory ran out
+abbrev pub IsAnswer : Worker → Worker → ℕ → Answer Relation → Result Rel Refused → Type 0
+IsAnswer old new turns answer (Ok rel) = (left : ℕ) × (answer ≡ Got (set_of new rel) left)
+IsAnswer old new turns answer (Err (IllRefused fault)) = answer ≡ Not (Ill fault)
+IsAnswer old new turns answer (Err (SizeRefused at wanted limit)) =
+    (answer ≡ Not (Size at wanted)) × (limit ≡ size_limit)
+IsAnswer old new turns answer (Err (TurnsRefused at limit)) = (answer ≡ Not (Turns at)) × (limit ≡ turns)
+IsAnswer old new turns answer (Err Nodes) = Rose old.misses new.misses
+IsAnswer old new turns answer (Err NoMemory) = Unit {0}
+
+-- what is refused ahead of all computing is refused for this fault, or memory ran out
+abbrev pub IsRefusedFor : TypeFault → Result Rel Refused → Type 0
+IsRefusedFor fault (Ok rel) = ⊥
+IsRefusedFor fault (Err (IllRefused own)) = own ≡ fault
+IsRefusedFor fault (Err (SizeRefused at wanted limit)) = ⊥
+IsRefusedFor fault (Err (TurnsRefused at limit)) = ⊥
+IsRefusedFor fault (Err Nodes) = ⊥
+IsRefusedFor fault (Err NoMemory) = Unit {0}
+
+-- the answer is what the expression comes to; where that is a fault ahead of all computing, no place was missing
+abbrev pub IsEvaluated : Worker → Worker → ℕ → Evaluated → Result Rel Refused → Type 0
+IsEvaluated old new turns (Ahead fault) result = IsRefusedFor fault result × MissesNothing old new
+IsEvaluated old new turns (Comes came) result = IsAnswer old new turns came.answer result

@@ -1,0 +1,210 @@
+//! The faults of an evaluation: names without a meaning, and operands that do not fit.
+ghost use Rattle.std.specs.Prelude.{◌≡◌, ◌≤◌, ◌<◌, ◌⊎◌, length, codes, Some};
+ghost use Rattle.rel_model.specs.declared.Lack.TheVariants.{NoMemory as NO_MEMORY};
+ghost use Rattle.lang_model.specs.declared.faults.TypeFault.TheVariants.{Unknown, Arity, Rank, Mismatch, NotSquare, NotVector};
+ghost use Rattle.lang_model.specs.Checking.{domain_operator_text};
+ghost use Rattle.lang_model.specs.Types.{spelling, known, base_text};
+ghost use Rattle.rv_eval.specs.declared.halt.Halt.TheVariants.{Ill, Lack as LACK};
+
+use crate::halt::Halt;
+use lang_model::faults::{StaticShape, TypeFault};
+use lang_model::syntax::{Base, Name, Op2, Place};
+use rel_model::{Lack, NoMemory, Rel};
+use std::alloc::Global;
+
+/// A name that has no meaning where it stands.
+pub fn unknown(alloc: Global, at: Place, name: &Name) -> Halt
+    ensures { (result ≡ Ill (Unknown at name.now)) ⊎ (result ≡ LACK NO_MEMORY) }
+{
+    match name.copied(alloc) {
+        Ok(name) => Halt::Ill(TypeFault::Unknown { at, name }),
+        Err(NoMemory) => Halt::Lack(Lack::NoMemory),
+    }
+}
+
+/// Calls that stand in one another too deep.
+pub fn too_deep(alloc: Global, at: Place, name: &Name) -> Halt
+    ensures { (result ≡ Ill (Rank at name.now)) ⊎ (result ≡ LACK NO_MEMORY) }
+{
+    match name.copied(alloc) {
+        Ok(name) => Halt::Ill(TypeFault::Rank { at, name }),
+        Err(NoMemory) => Halt::Lack(Lack::NoMemory),
+    }
+}
+
+/// A call with another number of arguments.
+pub fn wrong_count(alloc: Global, at: Place, name: &Name, takes: usize, given: usize) -> Halt
+    ensures { (result ≡ Ill (Arity at name.now takes given)) ⊎ (result ≡ LACK NO_MEMORY) }
+{
+    let (Ok(takes), Ok(given)) = (u32::try_from(takes), u32::try_from(given)) else {
+        return Halt::Lack(Lack::NoMemory);
+    };
+    match name.copied(alloc) {
+        Ok(name) => Halt::Ill(TypeFault::Arity {
+            at,
+            name,
+            takes,
+            given,
+        }),
+        Err(NoMemory) => Halt::Lack(Lack::NoMemory),
+    }
+}
+
+/// How a domain operator is written.
+fn domain_text(base: Base) -> &'static [u8]
+    ensures text { result.now ≡ domain_operator_text base }
+    ensures some { length result.now ≡ 3 }
+{
+    match base {
+        Base::P1 => b"p-1",
+        Base::P2 => b"p-2",
+        Base::I1 => b"i-1",
+        _ => b"i-2",
+    }
+}
+
+/// A domain operator of a domain that is not declared.
+pub fn no_domain(alloc: Global, at: Place, base: Base) -> Halt
+    ensures { (result ≡ Ill (Unknown at (domain_operator_text base))) ⊎ (result ≡ LACK NO_MEMORY) }
+{
+    match Name::new(alloc, domain_text(base)) {
+        Ok(name) => Halt::Ill(TypeFault::Unknown { at, name }),
+        Err(NoMemory) => Halt::Lack(Lack::NoMemory),
+    }
+}
+
+/// The type of a relation.
+pub fn type_of(r: Rel) -> StaticShape
+    ensures { result ≡ known r.rows r.cols }
+{
+    StaticShape {
+        rows: Some(r.rows),
+        cols: Some(r.cols),
+    }
+}
+
+/// How an operator is written.
+fn sign_of(op: Op2) -> &'static [u8]
+    ensures sign { result.now ≡ spelling op }
+    ensures one { length result.now ≡ 1 }
+{
+    match op {
+        Op2::Or => b"|",
+        Op2::And => b"&",
+        Op2::Times => b"*",
+        Op2::Under => b"\\",
+        Op2::Over => b"/",
+    }
+}
+
+/// Operands that do not fit.
+pub fn mismatch(alloc: Global, at: Place, op: Op2, r: Rel, s: Rel) -> Halt
+    ensures { let fault = Mismatch at (spelling op) (known r.rows r.cols) (known s.rows s.cols) in
+        (result ≡ Ill fault) ⊎ (result ≡ LACK NO_MEMORY) }
+{
+    match Name::new(alloc, sign_of(op)) {
+        Ok(op) => Halt::Ill(TypeFault::Mismatch {
+            at,
+            op,
+            left: type_of(r),
+            right: type_of(s),
+        }),
+        Err(NoMemory) => Halt::Lack(Lack::NoMemory),
+    }
+}
+
+/// Operands of a pair that do not fit.
+pub fn no_pair(alloc: Global, at: Place, r: Rel, s: Rel) -> Halt
+    ensures { let fault = Mismatch at (codes "[") (known r.rows r.cols) (known s.rows s.cols) in
+        (result ≡ Ill fault) ⊎ (result ≡ LACK NO_MEMORY) }
+{
+    match Name::new(alloc, b"[") {
+        Ok(op) => Halt::Ill(TypeFault::Mismatch {
+            at,
+            op,
+            left: type_of(r),
+            right: type_of(s),
+        }),
+        Err(NoMemory) => Halt::Lack(Lack::NoMemory),
+    }
+}
+
+/// How a base name is written.
+fn text_of(base: Base) -> &'static [u8]
+    ensures text { result.now ≡ base_text base }
+    ensures some { 1 ≤ length result.now }
+    ensures short { length result.now ≤ 64 }
+{
+    match base {
+        Base::L => b"L",
+        Base::O => b"O",
+        Base::I => b"I",
+        Base::Ln1 => b"Ln1",
+        Base::On1 => b"On1",
+        Base::L1n => b"L1n",
+        Base::O1n => b"O1n",
+        Base::Dom => b"dom",
+        Base::Ran => b"ran",
+        Base::Trans => b"trans",
+        Base::Refl => b"refl",
+        Base::Epsi => b"epsi",
+        Base::Point => b"point",
+        Base::Atom => b"atom",
+        Base::Init => b"init",
+        Base::Next => b"next",
+        Base::Inj => b"inj",
+        Base::Empty => b"empty",
+        Base::Unival => b"unival",
+        Base::Syq => b"syq",
+        Base::Eq => b"eq",
+        Base::Incl => b"incl",
+        Base::P1 => b"p-1",
+        Base::P2 => b"p-2",
+        Base::I1 => b"i-1",
+        Base::I2 => b"i-2",
+    }
+}
+
+/// An operand that is not square.
+pub fn not_square(alloc: Global, at: Place, base: Base, r: Rel) -> Halt
+    ensures { (result ≡ Ill (NotSquare at (base_text base) (known r.rows r.cols))) ⊎ (result ≡ LACK NO_MEMORY) }
+{
+    match Name::new(alloc, text_of(base)) {
+        Ok(op) => Halt::Ill(TypeFault::NotSquare {
+            at,
+            op,
+            shape: type_of(r),
+        }),
+        Err(NoMemory) => Halt::Lack(Lack::NoMemory),
+    }
+}
+
+/// An operand of another number of columns than one.
+pub fn not_vector(alloc: Global, at: Place, base: Base, r: Rel) -> Halt
+    ensures { (result ≡ Ill (NotVector at (base_text base) (known r.rows r.cols))) ⊎ (result ≡ LACK NO_MEMORY) }
+{
+    match Name::new(alloc, text_of(base)) {
+        Ok(op) => Halt::Ill(TypeFault::NotVector {
+            at,
+            op,
+            shape: type_of(r),
+        }),
+        Err(NoMemory) => Halt::Lack(Lack::NoMemory),
+    }
+}
+
+/// Operands of a base call that do not fit one another.
+pub fn not_alike(alloc: Global, at: Place, base: Base, r: Rel, s: Rel) -> Halt
+    ensures { let fault = Mismatch at (base_text base) (known r.rows r.cols) (known s.rows s.cols) in
+        (result ≡ Ill fault) ⊎ (result ≡ LACK NO_MEMORY) }
+{
+    match Name::new(alloc, text_of(base)) {
+        Ok(op) => Halt::Ill(TypeFault::Mismatch {
+            at,
+            op,
+            left: type_of(r),
+            right: type_of(s),
+        }),
+        Err(NoMemory) => Halt::Lack(Lack::NoMemory),
+    }
+}

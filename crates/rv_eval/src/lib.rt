@@ -1,0 +1,17 @@
+//! Evaluates expressions of the whole language over any engine.
+#![tactic(auto)]
+
+mod bases;
+mod call;
+mod comparisons;
+mod domain_calls;
+mod faults;
+mod halt;
+mod missing;
+mod names;
+mod operators;
+mod steps;
+mod walk;
+
+pub use call::value_of;
+pub use halt::Refused;

@@ -1,0 +1,451 @@
+//! Evaluates expressions, calls and statements.
+ghost use Rattle.std.specs.Prelude.{◌≡◌, ◌≤◌, ◌<◌, [], ℕ, List, map, IfOk, OnOk};
+ghost use Rattle.std.specs.List.{AllByRecursion};
+ghost use Rattle.rel_model.specs.Worker.{Stands, set_of};
+ghost use Rattle.lang_model.specs.Mean.{mean, means_by, mean_test, around_with, calls_within, run, run_by, looped};
+ghost use Rattle.rv_eval.specs.Names.{state_of, AllStand};
+ghost use Rattle.rv_eval.specs.Ends.{Ends};
+
+use crate::bases::base_call;
+use crate::domain_calls::pair;
+use crate::faults::{too_deep, unknown};
+use crate::halt::Halt;
+use crate::operators::{complement, link, transposed};
+use crate::steps::{assign, bound_names, decide, inject, value_of_name};
+use lang_model::syntax::{Decl, Expr, Item, Name, Place, Stmt};
+use rel_model::engine_trait::Engine;
+use rel_model::{Lack, Rel};
+use rv_types::Checked;
+use std::alloc::Global;
+
+/// The value of an expression, with this many turns left.
+#[cycle(eval)]
+pub fn eval_expr<E: Engine>(
+    alloc: Global,
+    engine: &mut E,
+    checked: &Checked,
+    decls: &[Decl],
+    names: &[(Name, Rel)],
+    rank: u32,
+    expr: &Expr,
+    turns: &mut u64,
+) -> Result<Rel, Halt>
+    requires standing { AllStand (E.worker engine.old) names.now }
+    ensures ends { let w = E.worker engine.old in
+        let a = around_with (calls_within checked.now.items.items rank) decls.now in
+        let m = mean a (state_of w names.now) expr.now turns.old in
+        Ends E.least w (E.worker engine.new) turns.old turns.new m (set_of (E.worker engine.new)) result }
+    ensures stands { IfOk result (Stands (E.worker engine.new)) }
+{
+    match expr {
+        Expr::Ref { at, name } => value_of_name(alloc, names, *at, name),
+        Expr::Call { at, name, args } => {
+            let values = match eval_args(
+                alloc,
+                engine,
+                checked,
+                decls,
+                names,
+                rank,
+                args.as_slice(),
+                turns,
+            ) {
+                Ok(values) => values,
+                Err(halt) => return Err(halt),
+            };
+            call(
+                alloc,
+                engine,
+                checked,
+                rank,
+                *at,
+                name,
+                values.as_slice(),
+                turns,
+            )
+        }
+        Expr::Base { at, base, args } => {
+            let values = match eval_args(
+                alloc,
+                engine,
+                checked,
+                decls,
+                names,
+                rank,
+                args.as_slice(),
+                turns,
+            ) {
+                Ok(values) => values,
+                Err(halt) => return Err(halt),
+            };
+            base_call(alloc, engine, *at, *base, values.as_slice())
+        }
+        Expr::Inject { at, base, domain } => inject(
+            alloc, engine, decls, names, *at, *base, domain,
+        ),
+        Expr::Pair { at, left, right } => {
+            let first = match eval_expr(alloc, engine, checked, decls, names, rank, left, turns) {
+                Ok(first) => first,
+                Err(halt) => return Err(halt),
+            };
+            let second = match eval_expr(alloc, engine, checked, decls, names, rank, right, turns) {
+                Ok(second) => second,
+                Err(halt) => return Err(halt),
+            };
+            pair(alloc, engine, *at, first, second)
+        }
+        Expr::Minus { of, .. } => {
+            let operand = match eval_expr(alloc, engine, checked, decls, names, rank, of, turns) {
+                Ok(operand) => operand,
+                Err(halt) => return Err(halt),
+            };
+            complement(engine, operand)
+        }
+        Expr::Turned { of, times, .. } => {
+            let operand = match eval_expr(alloc, engine, checked, decls, names, rank, of, turns) {
+                Ok(operand) => operand,
+                Err(halt) => return Err(halt),
+            };
+            transposed(engine, operand, *times)
+        }
+        Expr::Chain { first, rest } => {
+            let mut all = match eval_expr(
+                alloc, engine, checked, decls, names, rank, first, turns,
+            ) {
+                Ok(all) => all,
+                Err(halt) => return Err(halt),
+            };
+            'links: for next in rest.as_slice() {
+                let right = match eval_expr(
+                    alloc,
+                    engine,
+                    checked,
+                    decls,
+                    names,
+                    rank,
+                    &next.right,
+                    turns,
+                ) {
+                    Ok(right) => right,
+                    Err(halt) => return Err(halt),
+                };
+                all = match link(alloc, engine, next.at, next.op, all, right) {
+                    Ok(joint) => joint,
+                    Err(halt) => return Err(halt),
+                };
+            }
+            Ok(all)
+        }
+    }
+}
+
+/// The values of arguments, from the left.
+#[cycle(eval)]
+fn eval_args<E: Engine>(
+    alloc: Global,
+    engine: &mut E,
+    checked: &Checked,
+    decls: &[Decl],
+    names: &[(Name, Rel)],
+    rank: u32,
+    args: &[Expr],
+    turns: &mut u64,
+) -> Result<Vec<Rel>, Halt>
+    requires standing { AllStand (E.worker engine.old) names.now }
+    ensures ends { let w = E.worker engine.old in
+        let a = around_with (calls_within checked.now.items.items rank) decls.now in
+        let m = means_by a (state_of w names.now) [] args.now turns.old in
+        let v = E.worker engine.new in
+        Ends E.least w v turns.old turns.new m (λ x. map (set_of v) x.items) result }
+    ensures stands { IfOk result (λ v. AllByRecursion (Stands (E.worker engine.new)) v.items) }
+{
+    let mut values = Vec::new(alloc);
+    'args: for arg in args {
+        let value = match eval_expr(alloc, engine, checked, decls, names, rank, arg, turns) {
+            Ok(value) => value,
+            Err(halt) => return Err(halt),
+        };
+        match values.push(value) {
+            Ok(()) => {}
+            Err(_) => return Err(Halt::Lack(Lack::NoMemory)),
+        }
+    }
+    Ok(values)
+}
+
+/// The value of a call of a definition.
+#[cycle(eval)]
+fn call<E: Engine>(
+    alloc: Global,
+    engine: &mut E,
+    checked: &Checked,
+    rank: u32,
+    at: Place,
+    name: &Name,
+    values: &[Rel],
+    turns: &mut u64,
+) -> Result<Rel, Halt>
+    requires standing { AllByRecursion (Stands (E.worker engine.old)) values.now }
+    ensures ends { let w = E.worker engine.old in
+        let m = calls_within checked.now.items.items rank at name.now (map (set_of w) values.now) turns.old in
+        Ends E.least w (E.worker engine.new) turns.old turns.new m (set_of (E.worker engine.new)) result }
+    ensures stands { IfOk result (Stands (E.worker engine.new)) }
+{
+    if rank == 0 {
+        return Err(too_deep(alloc, at, name));
+    }
+    match checked.definition(name.bytes()) {
+        Some(Item::Function { params, body, .. }) => {
+            let bound = match bound_names(alloc, at, name, params.as_slice(), values) {
+                Ok(bound) => bound,
+                Err(halt) => return Err(halt),
+            };
+            eval_expr(
+                alloc,
+                engine,
+                checked,
+                &[],
+                bound.as_slice(),
+                rank - 1,
+                body,
+                turns,
+            )
+        }
+        Some(
+            Item::Program {
+                params,
+                decls,
+                body,
+                result,
+                ..
+            },
+        ) => {
+            let mut bound = match bound_names(alloc, at, name, params.as_slice(), values) {
+                Ok(bound) => bound,
+                Err(halt) => return Err(halt),
+            };
+            match run_stmts(
+                alloc,
+                engine,
+                checked,
+                decls.as_slice(),
+                &mut bound,
+                rank - 1,
+                body.as_slice(),
+                turns,
+            ) {
+                Ok(()) => {}
+                Err(halt) => return Err(halt),
+            }
+            eval_expr(
+                alloc,
+                engine,
+                checked,
+                decls.as_slice(),
+                bound.as_slice(),
+                rank - 1,
+                result,
+                turns,
+            )
+        }
+        Some(Item::Command(_)) => Err(unknown(alloc, at, name)),
+        None => Err(unknown(alloc, at, name)),
+    }
+}
+
+/// Whether a test holds.
+#[cycle(eval)]
+fn test_of<E: Engine>(
+    alloc: Global,
+    engine: &mut E,
+    checked: &Checked,
+    decls: &[Decl],
+    names: &[(Name, Rel)],
+    rank: u32,
+    at: Place,
+    test: &Expr,
+    turns: &mut u64,
+) -> Result<bool, Halt>
+    requires standing { AllStand (E.worker engine.old) names.now }
+    ensures ends { let w = E.worker engine.old in
+        let a = around_with (calls_within checked.now.items.items rank) decls.now in
+        let m = mean_test a at test.now (state_of w names.now) turns.old in
+        Ends E.least w (E.worker engine.new) turns.old turns.new m (λ b. b) result }
+{
+    let value = match eval_expr(alloc, engine, checked, decls, names, rank, test, turns) {
+        Ok(value) => value,
+        Err(halt) => return Err(halt),
+    };
+    decide(alloc, engine, at, value)
+}
+
+/// Runs a statement.
+#[cycle(eval)]
+fn run_stmt<E: Engine>(
+    alloc: Global,
+    engine: &mut E,
+    checked: &Checked,
+    decls: &[Decl],
+    names: &mut Vec<(Name, Rel)>,
+    rank: u32,
+    stmt: &Stmt,
+    turns: &mut u64,
+) -> Result<(), Halt>
+    requires standing { AllStand (E.worker engine.old) names.old.items }
+    ensures ends { let w = E.worker engine.old in
+        let a = around_with (calls_within checked.now.items.items rank) decls.now in
+        let m = run a stmt.now (state_of w names.old.items) turns.old in
+        let v = E.worker engine.new in
+        Ends E.least w v turns.old turns.new m (λ _. state_of v names.new.items) result }
+    ensures stands { OnOk result (AllStand (E.worker engine.new) names.new.items) }
+{
+    match stmt {
+        Stmt::Set { name, value, .. } => {
+            let rel = match eval_expr(
+                alloc,
+                engine,
+                checked,
+                decls,
+                names.as_slice(),
+                rank,
+                value,
+                turns,
+            ) {
+                Ok(rel) => rel,
+                Err(halt) => return Err(halt),
+            };
+            assign(alloc, names, name, rel)
+        }
+        Stmt::While { at, test, body } => run_while(
+            alloc,
+            engine,
+            checked,
+            decls,
+            names,
+            rank,
+            *at,
+            test,
+            body.as_slice(),
+            turns,
+        ),
+        Stmt::If { at, test, yes, no } => {
+            let holds = match test_of(
+                alloc,
+                engine,
+                checked,
+                decls,
+                names.as_slice(),
+                rank,
+                *at,
+                test,
+                turns,
+            ) {
+                Ok(holds) => holds,
+                Err(halt) => return Err(halt),
+            };
+            if holds {
+                run_stmts(
+                    alloc,
+                    engine,
+                    checked,
+                    decls,
+                    names,
+                    rank,
+                    yes.as_slice(),
+                    turns,
+                )
+            } else {
+                run_stmts(
+                    alloc,
+                    engine,
+                    checked,
+                    decls,
+                    names,
+                    rank,
+                    no.as_slice(),
+                    turns,
+                )
+            }
+        }
+    }
+}
+
+/// Runs a WHILE.
+#[cycle(eval)]
+fn run_while<E: Engine>(
+    alloc: Global,
+    engine: &mut E,
+    checked: &Checked,
+    decls: &[Decl],
+    names: &mut Vec<(Name, Rel)>,
+    rank: u32,
+    at: Place,
+    test: &Expr,
+    body: &[Stmt],
+    turns: &mut u64,
+) -> Result<(), Halt>
+    requires standing { AllStand (E.worker engine.old) names.old.items }
+    ensures ends { let w = E.worker engine.old in
+        let a = around_with (calls_within checked.now.items.items rank) decls.now in
+        let m = looped at (mean_test a at test.now) (run_by a body.now) (state_of w names.old.items) turns.old in
+        let v = E.worker engine.new in
+        Ends E.least w v turns.old turns.new m (λ _. state_of v names.new.items) result }
+    ensures stands { OnOk result (AllStand (E.worker engine.new) names.new.items) }
+{
+    'turns: loop {
+        let holds = match test_of(
+            alloc,
+            engine,
+            checked,
+            decls,
+            names.as_slice(),
+            rank,
+            at,
+            test,
+            turns,
+        ) {
+            Ok(holds) => holds,
+            Err(halt) => return Err(halt),
+        };
+        if !holds {
+            return Ok(());
+        }
+        if *turns == 0 {
+            return Err(Halt::Turns { at });
+        }
+        *turns -= 1;
+        match run_stmts(alloc, engine, checked, decls, names, rank, body, turns) {
+            Ok(()) => {}
+            Err(halt) => return Err(halt),
+        }
+    }
+}
+
+/// Runs statements in order.
+#[cycle(eval)]
+fn run_stmts<E: Engine>(
+    alloc: Global,
+    engine: &mut E,
+    checked: &Checked,
+    decls: &[Decl],
+    names: &mut Vec<(Name, Rel)>,
+    rank: u32,
+    stmts: &[Stmt],
+    turns: &mut u64,
+) -> Result<(), Halt>
+    requires standing { AllStand (E.worker engine.old) names.old.items }
+    ensures ends { let w = E.worker engine.old in
+        let a = around_with (calls_within checked.now.items.items rank) decls.now in
+        let m = run_by a stmts.now (state_of w names.old.items) turns.old in
+        let v = E.worker engine.new in
+        Ends E.least w v turns.old turns.new m (λ _. state_of v names.new.items) result }
+    ensures stands { OnOk result (AllStand (E.worker engine.new) names.new.items) }
+{
+    'stmts: for stmt in stmts {
+        match run_stmt(alloc, engine, checked, decls, names, rank, stmt, turns) {
+            Ok(()) => {}
+            Err(halt) => return Err(halt),
+        }
+    }
+    Ok(())
+}
