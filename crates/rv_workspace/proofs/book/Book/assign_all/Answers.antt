@@ -1,0 +1,34 @@
+use Rattle.std.proofs.Common.{◌≡◌, ◌∙◌, ap, sym, subst}
+use Rattle.std.specs.Prelude.{OnOk}
+use Rattle.rv_workspace.specs.Books.{names_of}
+use Rattle.rv_workspace.specs.Giving.{set_all}
+use Rattle.run_model.specs.Carried.{carried}
+use Rattle.rv_workspace.proofs.Keeping.{names_after_gifts, in_step_after_gifts, stands_after_gifts, gifts_learnt, archive_stands}
+use Rattle.rv_workspace.proofs.book.Book.assign_all.Goals as goal
+
+pub invariant_of-self : goal.invariant_of-self
+invariant_of-self g c =
+    let w = g.E.Core.worker in
+    let t = c.give_all in
+    let s = c.args.session in
+    let k = c.args.command in
+    let gifts = c.args.list.items in
+    let old = c.self.inside.history.items in
+    let new = t.new.history.items in
+    let i = c.self.invariant in
+    let l = c.exchange.ensures.other in (
+      in_step_after_gifts t.result s k gifts c.self.inside.names t.new.names old new i.0 t.ensures.value t.ensures.err t.ensures.entered t.ensures.err_history,
+      record {
+        stand = stands_after_gifts (w c.exchange.new.other) t.result s k gifts old new
+            (gifts_learnt (w c.args.mine.now) (w c.exchange.new.other) gifts l.other_holds c.requires.stand) t.ensures.entered t.ensures.err_history
+            (archive_stands (w c.self.inside.archive) (w c.args.mine.now) (w c.exchange.new.other) old l i.1.stand);
+        spare = l.stays.keeps.spare ∙ i.1.spare;
+        made = l.stays.made ∙ i.1.made;
+      },
+    )
+
+pub returns-clause-names : goal.returns-clause-names
+returns-clause-names g c =
+    let t = c.give_all in
+    subst (λ k. OnOk t.result (carried t.new.history.items ≡ set_all c.args.list.items (names_of k))) c.self.view_is
+    (names_after_gifts t.result c.args.session c.args.command c.args.list.items c.self.inside.history.items t.new.history.items t.ensures.entered)

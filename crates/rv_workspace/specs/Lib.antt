@@ -1,0 +1,4 @@
+pub mod Books
+pub mod Entering
+pub mod Giving
+pub mod Picking

@@ -1,0 +1,173 @@
+//! The book of names, whose relations stand in its archive.
+ghost use Rattle.std.specs.Prelude.{◌≡◌, ◌∷◌, ◌++◌, [], All, IfOk, OnOk, OnErr};
+ghost use Rattle.std.specs.Option.{option_map};
+ghost use Rattle.rel_model.specs.Worker.{Stands};
+ghost use Rattle.rel_model.specs.Seats.{Kin, Stays, Learns};
+ghost use Rattle.run_model.specs.Names.{lookup, set};
+ghost use Rattle.rv_workspace.specs.Books.{Held, IsBook, StandAlike, names_of};
+ghost use Rattle.rv_workspace.specs.Entering.{read_of, assign_of, assigns, dropped, drop_entries, IsDropAnswer};
+ghost use Rattle.rv_workspace.specs.Giving.{set_all};
+ghost use Rattle.rv_workspace.specs.Picking.{picked};
+
+use crate::dropping::drop_one;
+use crate::giving::give_all;
+use crate::name_map::NameMap;
+use crate::reading::{View, take_view};
+use crate::refused::DropRefused;
+use lang_model::syntax::Name;
+use rel_model::exchange::exchange;
+use rel_model::seated_trait::Seated;
+use rel_model::{NoMemory, Rel};
+use run_model::event::Event;
+use std::alloc::Global;
+use std::marker::Model;
+
+/// Names with their relations, what happened to them, and a worker in which all these relations stand.
+#[derive(Drop)]
+pub struct Book<E: Seated> {
+    archive: E,
+    names: NameMap,
+    history: Vec<Event>,
+}
+
+impl<E: Seated> Model for Book<E> {
+    ghost use Rattle.std.specs.Prelude.{◌≡◌};
+    ghost use Rattle.run_model.specs.Carried.{carried};
+    ghost use Rattle.rv_workspace.specs.Books.{Held, IsBook};
+
+    ghost Value = { Held E };
+
+    ghost view = { λ b. record { history = b.history.items; archive = b.archive } };
+
+    ghost invariant = { λ b. (b.names ≡ carried b.history.items)
+        × IsBook E.worker (record { history = b.history.items; archive = b.archive }) };
+}
+
+impl<E: Seated> Book<E> {
+    /// A book with no names, over a worker of which one other may be split off.
+    pub fn new(alloc: Global, archive: E) -> Book<E>
+        requires spare { (E.worker archive).spare ≡ 1 }
+        requires made { (E.worker archive).made ≡ 0 }
+        ensures { result ≡ record { history = []; archive = archive } }
+    {
+        Book {
+            archive,
+            names: NameMap::new(alloc),
+            history: Vec::new(alloc),
+        }
+    }
+
+    /// The wanted names with their relations, or all, which another worker learns. The read is entered.
+    pub fn read(
+        &mut self,
+        alloc: Global,
+        session: u32,
+        command: u32,
+        wanted: Option<&[Name]>,
+        mine: &mut E,
+    ) -> Result<View, NoMemory>
+        requires kin { Kin (E.worker mine.old) (E.worker self.old.archive) }
+        ensures names { IfOk result (λ v. v.names.items ≡ picked (option_map (λ x. x.now) wanted.entry) (names_of self.old)) }
+        ensures stand { IfOk result (λ v. StandAlike (E.worker self.old.archive) (E.worker mine.new) v.names.items) }
+        ensures entered { OnOk result (self.new.history ≡ self.old.history ++ read_of session command ∷ []) }
+        ensures as_before { OnErr result (self.new.history ≡ self.old.history) }
+        ensures same_names { names_of self.new ≡ names_of self.old }
+        ensures archive { Learns (E.worker self.old.archive) (E.worker mine.old) (E.worker self.new.archive) }
+        ensures mine { Learns (E.worker mine.old) (E.worker self.old.archive) (E.worker mine.new) }
+    {
+        let _ = &self.archive;
+        exchange(mine, &mut self.archive);
+        take_view(&self.names, &mut self.history, alloc, session, command, wanted)
+    }
+
+    /// Each name of the list has its relation from here on, that of its last place, or all names stay. An assignment
+    /// is entered for each place, in order. The archive learns the relations, with all that stands in the worker that
+    /// has them.
+    pub fn assign_all(
+        &mut self,
+        alloc: Global,
+        session: u32,
+        command: u32,
+        list: Vec<(Name, Rel)>,
+        mine: &mut E,
+    ) -> Result<(), NoMemory>
+        requires kin { Kin (E.worker mine.old) (E.worker self.old.archive) }
+        requires stand { All (λ gift. Stands (E.worker mine.old) gift.1) list.items }
+        ensures names { OnOk result (names_of self.new ≡ set_all list.items (names_of self.old)) }
+        ensures entered { OnOk result (self.new.history ≡ self.old.history ++ assigns session command list.items) }
+        ensures as_before { OnErr result (self.new.history ≡ self.old.history) }
+        ensures archive { Learns (E.worker self.old.archive) (E.worker mine.old) (E.worker self.new.archive) }
+        ensures mine { Learns (E.worker mine.old) (E.worker self.old.archive) (E.worker mine.new) }
+    {
+        let _ = &self.archive;
+        exchange(mine, &mut self.archive);
+        give_all(&mut self.names, &mut self.history, alloc, session, command, list)
+    }
+
+    /// The name has this relation from here on, or all stays. The assignment is entered.
+    pub fn assign(
+        &mut self,
+        alloc: Global,
+        session: u32,
+        command: u32,
+        name: Name,
+        rel: Rel,
+        mine: &mut E,
+    ) -> Result<(), NoMemory>
+        requires kin { Kin (E.worker mine.old) (E.worker self.old.archive) }
+        requires stands { Stands (E.worker mine.old) rel }
+        ensures names { OnOk result (names_of self.new ≡ set name rel (names_of self.old)) }
+        ensures entered { OnOk result (self.new.history ≡ self.old.history ++ assign_of session command (name, rel) ∷ []) }
+        ensures as_before { OnErr result (self.new.history ≡ self.old.history) }
+        ensures archive { Stays (E.worker self.old.archive) (E.worker self.new.archive) }
+        ensures mine { Stays (E.worker mine.old) (E.worker mine.new) }
+    {
+        let _ = &self.archive;
+        let _ = &mine;
+        let Ok(mut list) = Vec::with_capacity(alloc, 1) else {
+            return Err(NoMemory);
+        };
+        list.push_reserved((name, rel));
+        self.assign_all(alloc, session, command, list, mine)
+    }
+
+    /// The name has no relation from here on, and the removal is entered. It is refused where there is no such name,
+    /// and then the read is entered.
+    pub fn drop_name(
+        &mut self,
+        alloc: Global,
+        session: u32,
+        command: u32,
+        name: &Name,
+    ) -> Result<(), DropRefused>
+        ensures names { names_of self.new ≡ dropped name.now result (names_of self.old) }
+        ensures answer { IsDropAnswer (lookup (names_of self.old) name.now) name.now result }
+        ensures entered { self.new.history ≡ self.old.history ++ drop_entries session command name.now result }
+        ensures archive { self.new.archive ≡ self.old.archive }
+    {
+        let _ = &self.archive;
+        drop_one(&mut self.names, &mut self.history, alloc, session, command, name)
+    }
+
+    /// What happened to the names, the first event first.
+    pub fn history(&self) -> &[Event]
+        ensures value { result.now ≡ self.now.history }
+        ensures book { IsBook E.worker self.now }
+    {
+        self.history.as_slice()
+    }
+
+    /// The archive and the history. It takes no memory.
+    pub fn into_parts(self) -> (E, Vec<Event>)
+        ensures archive { result.0 ≡ self.archive }
+        ensures history { result.1.items ≡ self.history }
+        ensures book { IsBook E.worker self }
+    {
+        let Book {
+            archive,
+            names: _,
+            history,
+        } = self;
+        (archive, history)
+    }
+}

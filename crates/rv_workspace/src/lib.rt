@@ -1,0 +1,15 @@
+//! The book of names that sessions share: its names, its history, and the archive in which their relations stand.
+#![tactic(auto)]
+
+mod book;
+mod dropping;
+mod giving;
+mod key;
+mod kept;
+mod name_map;
+mod reading;
+mod refused;
+
+pub use book::Book;
+pub use reading::View;
+pub use refused::DropRefused;
