@@ -77,7 +77,14 @@ impl<E: Seated> Book<E> {
     {
         let _ = &self.archive;
         exchange(mine, &mut self.archive);
-        take_view(&self.names, &mut self.history, alloc, session, command, wanted)
+        take_view(
+            &self.names,
+            &mut self.history,
+            alloc,
+            session,
+            command,
+            wanted,
+        )
     }
 
     /// Each name of the list has its relation from here on, that of its last place, or all names stay. An assignment
@@ -101,7 +108,14 @@ impl<E: Seated> Book<E> {
     {
         let _ = &self.archive;
         exchange(mine, &mut self.archive);
-        give_all(&mut self.names, &mut self.history, alloc, session, command, list)
+        give_all(
+            &mut self.names,
+            &mut self.history,
+            alloc,
+            session,
+            command,
+            list,
+        )
     }
 
     /// The name has this relation from here on, or all stays. The assignment is entered.
@@ -146,7 +160,14 @@ impl<E: Seated> Book<E> {
         ensures archive { self.new.archive ≡ self.old.archive }
     {
         let _ = &self.archive;
-        drop_one(&mut self.names, &mut self.history, alloc, session, command, name)
+        drop_one(
+            &mut self.names,
+            &mut self.history,
+            alloc,
+            session,
+            command,
+            name,
+        )
     }
 
     /// What happened to the names, the first event first.
