@@ -4,8 +4,8 @@
 mod book;
 mod dropping;
 mod giving;
-mod key;
 mod kept;
+mod key;
 mod name_map;
 mod reading;
 mod refused;

@@ -19,12 +19,7 @@ pub struct View {
 }
 
 /// The name is found too, where it has a relation.
-fn pick(
-    names: &NameMap,
-    found: &mut NameMap,
-    alloc: Global,
-    name: &Name,
-) -> Result<(), NoMemory>
+fn pick(names: &NameMap, found: &mut NameMap, alloc: Global, name: &Name) -> Result<(), NoMemory>
     ensures { OnOk result (found.new ≡ with_name name.now (lookup names.now name.now) found.old) }
 {
     let key = Key::of(name.copied(alloc)?);
@@ -38,11 +33,7 @@ fn pick(
 }
 
 /// Those of the names that are wanted.
-fn wanted_of(
-    names: &NameMap,
-    alloc: Global,
-    wanted: &[Name],
-) -> Result<Vec<(Name, Rel)>, NoMemory>
+fn wanted_of(names: &NameMap, alloc: Global, wanted: &[Name]) -> Result<Vec<(Name, Rel)>, NoMemory>
     ensures { IfOk result (λ v. v.items ≡ among wanted.now names.now) }
 {
     names.in_order();

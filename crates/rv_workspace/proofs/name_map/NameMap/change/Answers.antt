@@ -12,7 +12,7 @@ returns-in_default c some =
     let m = c.self.inside.map.entries in
     let n = c.args.name.now in
     let none : lookup c.args.self.now n ≡ None =
-        sym (ap (λ x. lookup x n) c.self.view_is) ∙ sym (lookup-lookup m n) ∙ sym c.get_mut.ensures.value ∙ ap option_copied_mut c.in_default.is in
+    sym (ap (λ x. lookup x n) c.self.view_is) ∙ sym (lookup-lookup m n) ∙ sym c.get_mut.ensures.value ∙ ap option_copied_mut c.in_default.is in
     absurd (false≢true (sym (ap is_some none) ∙ some))
 
 pub invariant_of-self-2 : goal.invariant_of-self-2
