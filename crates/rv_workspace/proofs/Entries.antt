@@ -2,7 +2,7 @@
 --
 -- 1. A key is put into its place by the same recursion on both sides, which differ in how they write a choice by order.
 -- 2. Where keys increase, the first that ties with a name is the only one: all behind it are greater.
-use Rattle.std.proofs.Common.{◌≡◌, ◌∙◌, ◌&&◌, ℕ, Bool, true, false, cond, not, T, List, [], ◌∷◌, is_some, Option, Some, None, Ordering, Less, Equal, Greater, refl, sym, ap, subst}
+use Rattle.std.proofs.Common.{◌≡◌, ◌∙◌, ◌&&◌, ℕ, Bool, true, false, cond, not, T, List, [], ◌∷◌, is_some, Some, None, Ordering, Less, Equal, Greater, refl, sym, ap, subst}
 use Rattle.std.specs.Prelude.{IsSome}
 use Rattle.std.specs.Ordering.{match_ordering, is_lt, is_eq, eq_by_cmp}
 use Rattle.std.specs.FinMap.Entries.{by_order, below_all, is_sorted}

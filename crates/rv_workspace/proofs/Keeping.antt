@@ -1,18 +1,18 @@
 -- What a book keeps over each of its calls, whatever the call answers: its names are those that its history leaves, and the relations of its history stand.
-use Rattle.std.proofs.Common.{◌≡◌, ◌∙◌, ℕ, Bool, true, false, cond, List, [], ◌∷◌, ◌++◌, append-nil, Option, Some, None, Result, Ok, Err, refl, sym, ap, subst}
+use Rattle.std.proofs.Common.{◌≡◌, ◌∙◌, ℕ, Bool, true, false, cond, List, [], ◌∷◌, ◌++◌, append-nil, Option, Some, None, Result, Ok, Err, sym, ap, subst}
 use Rattle.std.specs.Prelude.{All, IsSome, OnOk, OnErr, IfOk}
 use Rattle.std.proofs.lemmas.List.Elements.{All-nil, All-cons, All-append, All-weaker}
 use Rattle.rel_model.specs.declared.Rel.{Rel}
-use Rattle.rel_model.specs.Worker.{Worker, Stands, Keeps}
+use Rattle.rel_model.specs.Worker.{Worker, Stands}
 use Rattle.rel_model.specs.Seats.{Holds, Learns}
 use Rattle.rel_model.proofs.Workers.{keeps_stands}
 use Rattle.run_model.specs.declared.event.Event.{Event}
-use Rattle.run_model.specs.Names.{lookup, set, remove}
+use Rattle.run_model.specs.Names.{lookup}
 use Rattle.run_model.specs.Carried.{Carried, carried}
 use Rattle.rv_workspace.specs.declared.refused.DropRefused.{DropRefused}
 use Rattle.rv_workspace.specs.declared.refused.DropRefused.TheVariants.{Unknown, NoMemory}
-use Rattle.rv_workspace.specs.Books.{EventStands, HistoryStands, NamesStand, StandAlike, Held, IsBook, names_of}
-use Rattle.rv_workspace.specs.Entering.{read_of, removal, assign_of, assigns, refusal_entries, drop_entries, dropped}
+use Rattle.rv_workspace.specs.Books.{EventStands, HistoryStands, NamesStand, StandAlike, Held}
+use Rattle.rv_workspace.specs.Entering.{read_of, removal, assigns, refusal_entries, drop_entries, dropped}
 use Rattle.rv_workspace.specs.Giving.{set_all}
 use Rattle.rv_workspace.specs.Picking.{picked, among, is_among}
 use Rattle.rv_workspace.proofs.Picking.{lookup-among}
@@ -42,7 +42,7 @@ pub stands_after_read : {T U : Type 0} (w : Worker) (r : Result T U) (s c : ℕ)
 stands_after_read w (Ok x) s c old new e d h = subst (HistoryStands w) (sym e) (read_stands w s c old h)
 stands_after_read w (Err x) s c old new e d h = subst (HistoryStands w) (sym d) h
 
-held_stands : (a b : Worker) (r : Rel) → Holds a b → Stands a r → Stands b r
+pub held_stands : (a b : Worker) (r : Rel) → Holds a b → Stands a r → Stands b r
 held_stands a b r h s = subst IsSome (sym (h.same r s)) s
 
 alike : (a m : Worker) (names : Carried) → NamesStand a names → Holds a m → StandAlike a m names

@@ -2,7 +2,7 @@
 ghost use Rattle.std.specs.Prelude.{◌≡◌, ◌∷◌, ◌++◌, [], All, IfOk, OnOk, OnErr};
 ghost use Rattle.std.specs.Option.{option_map};
 ghost use Rattle.rel_model.specs.Worker.{Stands};
-ghost use Rattle.rel_model.specs.Seats.{Kin, Stays, Learns};
+ghost use Rattle.rel_model.specs.Seats.{Kin, Learns};
 ghost use Rattle.run_model.specs.Names.{lookup, set};
 ghost use Rattle.rv_workspace.specs.Books.{Held, IsBook, StandAlike, names_of};
 ghost use Rattle.rv_workspace.specs.Entering.{read_of, assign_of, assigns, dropped, drop_entries, IsDropAnswer};
@@ -10,7 +10,7 @@ ghost use Rattle.rv_workspace.specs.Giving.{set_all};
 ghost use Rattle.rv_workspace.specs.Picking.{picked};
 
 use crate::dropping::drop_one;
-use crate::giving::give_all;
+use crate::giving::{give_all, give_one};
 use crate::name_map::NameMap;
 use crate::reading::{View, take_view};
 use crate::refused::DropRefused;
@@ -118,7 +118,8 @@ impl<E: Seated> Book<E> {
         )
     }
 
-    /// The name has this relation from here on, or all stays. The assignment is entered.
+    /// The name has this relation from here on, or all stays. The assignment is entered, and the
+    /// archive learns the relation, with all that stands in the worker that has it.
     pub fn assign(
         &mut self,
         alloc: Global,
@@ -133,16 +134,20 @@ impl<E: Seated> Book<E> {
         ensures names { OnOk result (names_of self.new ≡ set name rel (names_of self.old)) }
         ensures entered { OnOk result (self.new.history ≡ self.old.history ++ assign_of session command (name, rel) ∷ []) }
         ensures as_before { OnErr result (self.new.history ≡ self.old.history) }
-        ensures archive { Stays (E.worker self.old.archive) (E.worker self.new.archive) }
-        ensures mine { Stays (E.worker mine.old) (E.worker mine.new) }
+        ensures archive { Learns (E.worker self.old.archive) (E.worker mine.old) (E.worker self.new.archive) }
+        ensures mine { Learns (E.worker mine.old) (E.worker self.old.archive) (E.worker mine.new) }
     {
         let _ = &self.archive;
-        let _ = &mine;
-        let Ok(mut list) = Vec::with_capacity(alloc, 1) else {
-            return Err(NoMemory);
-        };
-        list.push_reserved((name, rel));
-        self.assign_all(alloc, session, command, list, mine)
+        exchange(mine, &mut self.archive);
+        give_one(
+            &mut self.names,
+            &mut self.history,
+            alloc,
+            session,
+            command,
+            name,
+            rel,
+        )
     }
 
     /// The name has no relation from here on, and the removal is entered. It is refused where there is no such name,

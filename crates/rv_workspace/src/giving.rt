@@ -96,3 +96,23 @@ pub(crate) fn give_all(
     enter_all(history, session, command, list);
     Ok(())
 }
+
+/// One name gets its relation, and the history its assignment, or neither changes.
+pub(crate) fn give_one(
+    names: &mut NameMap,
+    history: &mut Vec<Event>,
+    alloc: Global,
+    session: u32,
+    command: u32,
+    name: Name,
+    rel: Rel,
+) -> Result<(), NoMemory>
+    ensures value { OnOk result (names.new ≡ set_all ((name, rel) ∷ []) names.old) }
+    ensures entered { OnOk result (history.new.items ≡ history.old.items ++ assigns session command ((name, rel) ∷ [])) }
+    ensures err { OnErr result (names.new ≡ names.old) }
+    ensures err_history { OnErr result (history.new.items ≡ history.old.items) }
+{
+    let mut list = Vec::with_capacity(alloc, 1)?;
+    list.push_reserved((name, rel));
+    give_all(names, history, alloc, session, command, list)
+}

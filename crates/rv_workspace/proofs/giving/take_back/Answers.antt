@@ -1,4 +1,4 @@
-use Rattle.std.proofs.Common.{◌≡◌, ◌∙◌, ◌++◌, ◌∷◌, [], ap, arith}
+use Rattle.std.proofs.Common.{◌∙◌, ◌++◌, ap, arith}
 use Rattle.std.specs.Option.{option_to_list}
 use Rattle.rv_workspace.proofs.Journals.{led_back, led_none}
 use Rattle.rv_workspace.proofs.giving.take_back.Goals as goal

@@ -1,23 +1,34 @@
-use Rattle.std.proofs.Common.{◌≡◌, ◌∙◌, ◌++◌, ◌∷◌, [], ap, sym, subst}
+use Rattle.std.proofs.Common.{◌≡◌, ◌∙◌, ◌∷◌, [], refl, subst}
 use Rattle.std.specs.Prelude.{OnOk}
 use Rattle.rv_workspace.specs.Books.{names_of}
 use Rattle.rv_workspace.specs.Giving.{set_all}
-use Rattle.rv_workspace.specs.Entering.{assigns}
-use Rattle.rv_workspace.proofs.Keeping.{one_gift}
+use Rattle.run_model.specs.Carried.{carried}
+use Rattle.rv_workspace.proofs.Keeping.{names_after_gifts, in_step_after_gifts, stands_after_gifts, one_gift, held_stands, archive_stands}
 use Rattle.rv_workspace.proofs.book.Book.assign.Goals as goal
 
-pub assign_all-requires-clause-stand : goal.assign_all-requires-clause-stand
-assign_all-requires-clause-stand g c =
-    one_gift (g.E.Core.worker c.args.mine.now) c.in-Ok.list.items c.push_reserved.new.self.items (c.args.name, c.args.rel) c.in-Ok.ensures.items c.push_reserved.ensures.items c.requires.stands
+pub invariant_of-self : goal.invariant_of-self
+invariant_of-self g c =
+    let w = g.E.Core.worker in
+    let t = c.give_one in
+    let s = c.args.session in
+    let k = c.args.command in
+    let gifts = (c.args.name, c.args.rel) ∷ [] in
+    let old = c.self.inside.history.items in
+    let new = t.new.history.items in
+    let i = c.self.invariant in
+    let l = c.exchange.ensures.other in (
+      in_step_after_gifts t.result s k gifts c.self.inside.names t.new.names old new i.0 t.ensures.value t.ensures.err t.ensures.entered t.ensures.err_history,
+      record {
+        stand = stands_after_gifts (w c.exchange.new.other) t.result s k gifts old new
+            (one_gift (w c.exchange.new.other) [] gifts (c.args.name, c.args.rel) refl refl (held_stands (w c.args.mine.now) (w c.exchange.new.other) c.args.rel l.other_holds c.requires.stands)) t.ensures.entered t.ensures.err_history
+            (archive_stands (w c.self.inside.archive) (w c.args.mine.now) (w c.exchange.new.other) old l i.1.stand);
+        spare = l.stays.keeps.spare ∙ i.1.spare;
+        made = l.stays.made ∙ i.1.made;
+      },
+    )
 
 pub returns-clause-names : goal.returns-clause-names
 returns-clause-names g c =
-    let t = c.assign_all in
-    let one = c.push_reserved.ensures.items ∙ ap (λ xs. xs ++ (c.args.name, c.args.rel) ∷ []) c.in-Ok.ensures.items in
-    subst (λ xs. OnOk t.result (names_of t.new.self ≡ set_all xs (names_of c.args.self.now))) one t.ensures.names
-
-pub returns-clause-entered : goal.returns-clause-entered
-returns-clause-entered g c =
-    let t = c.assign_all in
-    let one = c.push_reserved.ensures.items ∙ ap (λ xs. xs ++ (c.args.name, c.args.rel) ∷ []) c.in-Ok.ensures.items in
-    subst (λ xs. OnOk t.result (t.new.self.history ≡ c.args.self.now.history ++ assigns c.args.session c.args.command xs)) one t.ensures.entered
+    let t = c.give_one in
+    subst (λ k. OnOk t.result (carried t.new.history.items ≡ set_all ((c.args.name, c.args.rel) ∷ []) (names_of k))) c.self.view_is
+    (names_after_gifts t.result c.args.session c.args.command ((c.args.name, c.args.rel) ∷ []) c.self.inside.history.items t.new.history.items t.ensures.entered)

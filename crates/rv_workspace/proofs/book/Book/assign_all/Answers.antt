@@ -1,4 +1,4 @@
-use Rattle.std.proofs.Common.{◌≡◌, ◌∙◌, ap, sym, subst}
+use Rattle.std.proofs.Common.{◌≡◌, ◌∙◌, subst}
 use Rattle.std.specs.Prelude.{OnOk}
 use Rattle.rv_workspace.specs.Books.{names_of}
 use Rattle.rv_workspace.specs.Giving.{set_all}
