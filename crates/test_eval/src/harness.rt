@@ -1,5 +1,7 @@
 //! Runs scripts of definitions, REL, LET and PRINT by the evaluator and by lists, and tells what comes of each
 //! PRINT and of each refused LET.
+#![tactic(auto, using(rv_eval::proofs::States::all_stand_kept, crate::proofs::Standing::all_stand_behind, rel_model::proofs::Workers::keeps_stands, rel_model::proofs::Workers::keeps_trans, rel_model::proofs::Workers::gives_stands))]
+
 ghost use Rattle.std.specs.Prelude.{◌≡◌, ◌++◌, ◌∷◌, [], OnOk, IfOk, IsTrue};
 ghost use Rattle.rel_model.specs.Listed.{AreWithin};
 ghost use Rattle.rel_model.specs.Worker.{Stands, Keeps};
@@ -141,7 +143,7 @@ fn put(alloc: Global, env: &mut Vec<(Name, Rel)>, name: &Name, rel: Rel) -> Resu
     Ok(())
 }
 
-/// An expression by lists: its value, and what is told of it.
+/// An expression by lists: its value, or the text of its refusal.
 fn by_lists(
     alloc: Global,
     checked: &Checked,
@@ -161,14 +163,32 @@ fn by_lists(
     value(alloc, FUEL, &scope, names, expr, &mut left)
 }
 
-/// Tells an expression both ways, and binds its values to a name where one is given.
-fn run_expr<E: Engine>(
+/// Tells an expression by lists, or binds its value to a name where one is given.
+fn tell_by_lists(
+    alloc: Global,
+    checked: &Checked,
+    names: &mut Names,
+    to: &mut String,
+    bound: Option<&Name>,
+    expr: &Expr,
+    turns: u64,
+) -> Result<(), Fail> {
+    match by_lists(alloc, checked, names, expr, turns)? {
+        Answer::Refused(why) => tell(to, why.as_str()),
+        Answer::Value(list) => match bound {
+            None => tell(to, text::value(alloc, &list)?.as_str()),
+            Some(name) => names.put(alloc, name.bytes(), list),
+        },
+    }
+}
+
+/// Tells an expression by the evaluator, or binds its value to a name where one is given.
+fn tell_by_engine<E: Engine>(
     alloc: Global,
     engine: &mut E,
     checked: &Checked,
     env: &mut Vec<(Name, Rel)>,
-    names: &mut Names,
-    told: &mut Told,
+    to: &mut String,
     bound: Option<&Name>,
     expr: &Expr,
     turns: u64,
@@ -176,24 +196,33 @@ fn run_expr<E: Engine>(
     requires standing { AllStand (E.worker engine.old) env.old.items }
     ensures standing { OnOk result (AllStand (E.worker engine.new) env.new.items) }
 {
-    match by_lists(alloc, checked, names, expr, turns)? {
-        Answer::Refused(why) => tell(&mut told.by_lists, why.as_str())?,
-        Answer::Value(list) => match bound {
-            None => tell(&mut told.by_lists, text::value(alloc, &list)?.as_str())?,
-            Some(name) => names.put(alloc, name.bytes(), list)?,
-        },
-    }
     match value_of(alloc, engine, checked, env.as_slice(), expr, turns) {
-        Err(why) => tell(&mut told.by_engine, refusal(alloc, &why, turns)?.as_str())?,
+        Err(why) => tell(to, refusal(alloc, &why, turns)?.as_str()),
         Ok(rel) => match bound {
             None => {
                 let list = taken(alloc, engine, rel)?;
-                tell(&mut told.by_engine, text::value(alloc, &list)?.as_str())?;
+                tell(to, text::value(alloc, &list)?.as_str())
             }
-            Some(name) => put(alloc, env, name, rel)?,
+            Some(name) => put(alloc, env, name, rel),
         },
     }
-    Ok(())
+}
+
+/// Stores a listed relation under its name, both ways.
+fn store<E: Engine>(
+    alloc: Global,
+    engine: &mut E,
+    env: &mut Vec<(Name, Rel)>,
+    names: &mut Names,
+    name: &Name,
+    list: Listed,
+) -> Result<(), Fail>
+    requires standing { AllStand (E.worker engine.old) env.old.items }
+    ensures standing { OnOk result (AllStand (E.worker engine.new) env.new.items) }
+{
+    let rel = stored(alloc, engine, &list)?;
+    names.put(alloc, name.bytes(), list)?;
+    put(alloc, env, name, rel)
 }
 
 /// Runs a command of a script.
@@ -219,25 +248,51 @@ fn run_command<E: Engine>(
             ..
         } => {
             let list = listed(alloc, *rows, *cols, list.as_slice())?;
-            let rel = stored(alloc, engine, &list)?;
-            put(alloc, env, name, rel)?;
-            names.put(alloc, name.bytes(), list)?;
-            Ok(())
+            store(alloc, engine, env, names, name, list)
         }
-        Command::Let { name, value } => run_expr(
-            alloc,
-            engine,
-            checked,
-            env,
-            names,
-            told,
-            Some(name),
-            value,
-            turns,
-        ),
-        Command::Print { value } => run_expr(
-            alloc, engine, checked, env, names, told, None, value, turns,
-        ),
+        Command::Let { name, value } => {
+            let bound = Some(name);
+            tell_by_lists(
+                alloc,
+                checked,
+                names,
+                &mut told.by_lists,
+                bound,
+                value,
+                turns,
+            )?;
+            tell_by_engine(
+                alloc,
+                engine,
+                checked,
+                env,
+                &mut told.by_engine,
+                bound,
+                value,
+                turns,
+            )
+        }
+        Command::Print { value } => {
+            tell_by_lists(
+                alloc,
+                checked,
+                names,
+                &mut told.by_lists,
+                None,
+                value,
+                turns,
+            )?;
+            tell_by_engine(
+                alloc,
+                engine,
+                checked,
+                env,
+                &mut told.by_engine,
+                None,
+                value,
+                turns,
+            )
+        }
         _ => Err(Fail::new("another command")),
     }
 }
