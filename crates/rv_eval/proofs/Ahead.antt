@@ -1,0 +1,62 @@
+-- The types of names are those of the state that they mean.
+use Rattle.std.proofs.Common.{◌≡◌, ◌∙◌, ℕ, Bool, true, false, cond, List, [], ◌∷◌, map, Option, Some, None, refl, sym, ap}
+use Rattle.std.specs.Prelude.{option_and_then, option_map}
+use Rattle.rel_model.specs.declared.Rel.{Rel}
+use Rattle.rel_model.specs.Worker.{Worker, Stands, set_of}
+use Rattle.rel_model.proofs.Workers.{stands_some}
+use Rattle.lang_model.specs.declared.syntax.Expr.{Expr}
+use Rattle.lang_model.specs.declared.syntax.Script.{Script}
+use Rattle.lang_model.specs.declared.faults.StaticShape.{StaticShape}
+use Rattle.lang_model.specs.declared.faults.TypeFault.{TypeFault}
+use Rattle.lang_model.specs.Tokens.{same_text}
+use Rattle.lang_model.specs.State.{State}
+use Rattle.lang_model.specs.Missing.{missing}
+use Rattle.lang_model.specs.Types.{Fits, Misfit, known, sizes}
+use Rattle.lang_model.specs.Shape.{Types, static_type}
+use Rattle.lang_model.specs.Mean.{meaning}
+use Rattle.lang_model.specs.Eval.{Evaluated, Ahead, Comes, types_in, unless_missing, unless_misfit, evaluated}
+use Rattle.rv_types.specs.Shaping.{types_of}
+use Rattle.rv_eval.specs.Names.{rel_of, state_of, typed_pair_of, AllStand}
+
+-- the laws of a worker about sizes
+pub record HasSizes (w : Worker) : Type 0 where
+  pub rows : (r : Rel) → Stands w r → (set_of w r).rows ≡ r.rows
+  pub cols : (r : Rel) → Stands w r → (set_of w r).cols ≡ r.cols
+
+types-pairs : (env : List (List ℕ × Rel)) (n : List ℕ)
+    → types_of (map typed_pair_of env) n ≡ option_map (λ (r : Rel). known r.rows r.cols) (rel_of env n)
+types-pairs [] n = refl
+types-pairs (x ∷ xs) n = at (same_text x.0 n) (types-pairs xs n)
+  where
+    at : (b : Bool) → types_of (map typed_pair_of xs) n ≡ option_map (λ (r : Rel). known r.rows r.cols) (rel_of xs n)
+        → cond b (Some (known x.1.rows x.1.cols)) (types_of (map typed_pair_of xs) n)
+        ≡ option_map (λ (r : Rel). known r.rows r.cols) (cond b (Some x.1) (rel_of xs n))
+    at true e = refl
+    at false e = e
+
+types-state : (w : Worker) (env : List (List ℕ × Rel)) → HasSizes w → AllStand w env → (n : List ℕ)
+    → option_map (λ (r : Rel). known r.rows r.cols) (rel_of env n) ≡ types_in (state_of w env) n
+types-state w env laws s n = at (rel_of env n) (s n)
+  where
+    at : (o : Option Rel) → ((r : Rel) → o ≡ Some r → Stands w r)
+        → option_map (λ (r : Rel). known r.rows r.cols) o ≡ option_map sizes (option_and_then w.relation o)
+    at None h = refl
+    at (Some r) h =
+        sym (ap (option_map sizes) (stands_some w r (h r refl)) ∙ ap (λ m. Some (known m (set_of w r).cols)) (laws.rows r (h r refl))
+        ∙ ap (λ k. Some (known r.rows k)) (laws.cols r (h r refl)))
+
+pub same_types : (w : Worker) (env : List (List ℕ × Rel)) → HasSizes w → AllStand w env
+    → types_of (map typed_pair_of env) ≡ types_in (state_of w env)
+same_types w env laws s = λ i n. (types-pairs env n ∙ types-state w env laws s n) i
+
+-- ---- what comes ahead
+module _ (script : Script) (s : State) (e : Expr) (turns : ℕ) (known_names : missing s e ≡ None) where
+  unfolded : evaluated script s e turns ≡ unless_misfit (static_type script (types_in s) e) (meaning script s e turns)
+  unfolding evaluated
+  unfolded = ap (λ o. unless_missing o (unless_misfit (static_type script (types_in s) e) (meaning script s e turns))) known_names
+
+  pub misfit_ahead : (fault : TypeFault) → static_type script (types_in s) e ≡ Misfit fault → evaluated script s e turns ≡ Ahead fault
+  misfit_ahead fault m = unfolded ∙ ap (λ t. unless_misfit t (meaning script s e turns)) m
+
+  pub fits_comes : (t : StaticShape) → static_type script (types_in s) e ≡ Fits t → evaluated script s e turns ≡ Comes (meaning script s e turns)
+  fits_comes t f = unfolded ∙ ap (λ t. unless_misfit t (meaning script s e turns)) f
