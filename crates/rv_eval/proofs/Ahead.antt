@@ -1,5 +1,6 @@
 -- The types of names are those of the state that they mean.
-use Rattle.std.proofs.Common.{◌≡◌, ◌∙◌, ℕ, Bool, true, false, cond, List, [], ◌∷◌, map, Option, Some, None, refl, sym, ap}
+use Rattle.std.proofs.Common.{◌≡◌, ◌<◌, ◌+◌, ◌++◌, ◌∙◌, length, take, get_or, ℕ, Bool, true, false, cond, List, [], ◌∷◌, map, Option, Some, None, refl, sym, ap}
+use Rattle.std.proofs.lemmas.List.{take_more}
 use Rattle.std.specs.Prelude.{option_and_then, option_map}
 use Rattle.rel_model.specs.declared.Rel.{Rel}
 use Rattle.rel_model.specs.Worker.{Worker, Stands, set_of}
@@ -48,6 +49,15 @@ types-state w env laws s n = at (rel_of env n) (s n)
 pub same_types : (w : Worker) (env : List (List ℕ × Rel)) → HasSizes w → AllStand w env
     → types_of (map typed_pair_of env) ≡ types_in (state_of w env)
 same_types w env laws s = λ i n. (types-pairs env n ∙ types-state w env laws s n) i
+
+typed-append : (xs : List (List ℕ × Rel)) (x : List ℕ × Rel) → map typed_pair_of (xs ++ x ∷ []) ≡ map typed_pair_of xs ++ typed_pair_of x ∷ []
+typed-append [] x = refl
+typed-append (y ∷ ys) x = ap (λ zs. typed_pair_of y ∷ zs) (typed-append ys x)
+
+pub typed-step : (env : List (List ℕ × Rel)) (k : ℕ) (x : List ℕ × Rel) → k < length env → x ≡ get_or env k x
+    → map typed_pair_of (take (k + 1) env) ≡ map typed_pair_of (take k env) ++ typed_pair_of x ∷ []
+typed-step env k x h is =
+    ap (map typed_pair_of) (take_more env k x h ∙ ap (λ y. take k env ++ y ∷ []) (sym is)) ∙ typed-append (take k env) x
 
 -- ---- what comes ahead
 module _ (script : Script) (s : State) (e : Expr) (turns : ℕ) (known_names : missing s e ≡ None) where

@@ -112,9 +112,10 @@ fn types_of_names(alloc: Global, env: &[(Name, Rel)]) -> Result<Vec<(Name, Stati
     ensures { IfOk result (λ v. v.items ≡ map typed_pair_of env.now) }
 {
     let mut types = Vec::new(alloc);
-    'each: for i in 0..env.len() {
-        let own = env[i].0.copied(alloc)?;
-        types.push((own, type_of(env[i].1)))?;
+    'each: for pair in env {
+        let own = pair.0.copied(alloc)?;
+        let shape = type_of(pair.1);
+        types.push((own, shape))?;
     }
     Ok(types)
 }
@@ -156,11 +157,11 @@ pub fn eval<E: Engine>(
         let e = evaluated checked.now (state_of w env.now) expr.now turns in
         MakesAtMost (cost_of_value E.least e) w (E.worker engine.new) }
 {
-    if let Some((at, name)) = first_missing(env, expr) {
-        return Err(refusal(turns, unknown(alloc, at, name)));
+    match first_missing(env, expr) {
+        Some((at, name)) => Err(refusal(turns, unknown(alloc, at, name))),
+        None => match static_fault(alloc, checked, env, expr) {
+            Some(fault) => Err(ill(fault)),
+            None => meaning_of(alloc, engine, checked, env, expr, turns),
+        },
     }
-    if let Some(fault) = static_fault(alloc, checked, env, expr) {
-        return Err(ill(fault));
-    }
-    meaning_of(alloc, engine, checked, env, expr, turns)
 }

@@ -3,4 +3,4 @@ use Rattle.rv_eval.specs.Names.{typed_pair_of}
 use Rattle.rv_eval.proofs.call.types_of_names.Given as goal
 
 abbrev pub invariant-each : goal.invariant-each
-invariant-each l = l.types.items ≡ map typed_pair_of (take l.i l.env)
+invariant-each l = l.types.items ≡ map typed_pair_of (take l.pair-index l.env)
