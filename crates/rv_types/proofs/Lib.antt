@@ -12,3 +12,9 @@ pub mod Defining
 pub mod Ranks
 pub mod Paths
 pub mod Unassigned
+pub mod Computing
+pub mod Bound
+pub mod Passing
+pub mod Weights
+pub mod Unfolding
+pub mod Calling

@@ -5,3 +5,5 @@ pub mod Scopes
 pub mod Rows
 pub mod Items
 pub mod Paths
+pub mod Shaping
+pub mod Around

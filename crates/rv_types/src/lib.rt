@@ -1,6 +1,7 @@
-//! Decides before a script runs whether its names, arguments, assignments and ranks of definitions are right, and which fault stands first.
+//! Decides before a script runs whether its names, arguments, assignments and ranks of definitions are right, and which fault stands first; finds the static types of expressions.
 #![tactic(auto)]
 
+mod bases;
 mod checked;
 mod declarations;
 mod definitions;
@@ -10,8 +11,16 @@ mod head;
 mod item;
 mod items_by_name;
 pub mod laws;
+mod misfits;
 mod names;
+mod operators;
 mod scope;
+mod shape;
+mod sizes;
 mod statement;
+mod types_of_names;
+mod typing;
+mod typing_steps;
 
 pub use checked::{Checked, check};
+pub use shape::shape_of;

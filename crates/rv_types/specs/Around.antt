@@ -1,0 +1,7 @@
+-- What an expression stands in, as the walk over types keeps it.
+use Rattle.lang_model.specs.Shape.{AroundTypes, around_types, types_of_calls}
+use Rattle.rv_types.specs.declared.typing.Around.{Around}
+
+-- the types of calls there, and the declarations of its program
+abbrev pub around_of : Around → AroundTypes
+around_of around = around_types (types_of_calls around.checked.now.items.items around.rank) around.decls.now
