@@ -121,7 +121,12 @@ fn types_of_names(alloc: Global, env: &[(Name, Rel)]) -> Result<Vec<(Name, Stati
 }
 
 /// The first static fault of an expression of a command on these names, or want of memory.
-fn static_fault(alloc: Global, checked: &Checked, env: &[(Name, Rel)], expr: &Expr) -> Option<TypeFault>
+fn static_fault(
+    alloc: Global,
+    checked: &Checked,
+    env: &[(Name, Rel)],
+    expr: &Expr,
+) -> Option<TypeFault>
     ensures { let t = static_type checked.now (types_of (map typed_pair_of env.now)) expr.now in
         MatchOption result ((s : StaticShape) × (t ≡ Fits s)) (λ f. (f ≡ FAULT_NO_MEMORY) ⊎ (t ≡ Misfit f)) }
 {

@@ -14,7 +14,7 @@ use crate::text;
 use lang_model::syntax::{Command, Expr, Item, Name, Row};
 use rel_model::engine_trait::Engine;
 use rel_model::{Rel, Shape};
-use rv_eval::{Refused, value_of};
+use rv_eval::{Refused, eval};
 use rv_types::{Checked, check};
 use std::alloc::Global;
 use std::test::Fail;
@@ -196,7 +196,7 @@ fn tell_by_engine<E: Engine>(
     requires standing { AllStand (E.worker engine.old) env.old.items }
     ensures standing { OnOk result (AllStand (E.worker engine.new) env.new.items) }
 {
-    match value_of(alloc, engine, checked, env.as_slice(), expr, turns) {
+    match eval(alloc, engine, checked, env.as_slice(), expr, turns) {
         Err(why) => tell(to, refusal(alloc, &why, turns)?.as_str()),
         Ok(rel) => match bound {
             None => {

@@ -152,9 +152,10 @@ fn is_based(base: Base, r: &Listed, i: u32, j: u32) -> bool {
 
 /// Of a domain operator of domains of x and y elements.
 fn is_injected(base: Base, x: u32, y: u32, i: u32, j: u32) -> bool {
+    let q = y.max(1);
     match base {
-        Base::P1 => i / y.max(1) == j,
-        Base::P2 => i % y.max(1) == j,
+        Base::P1 => i / q == j,
+        Base::P2 => i % q == j,
         Base::I1 => i == j,
         _ => x.wrapping_add(i) == j,
     }

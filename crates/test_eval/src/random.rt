@@ -15,7 +15,8 @@ impl Source {
             .state
             .wrapping_mul(6364136223846793005)
             .wrapping_add(1442695040888963407);
-        (self.state >> 33) % bound.max(1)
+        let most = bound.max(1);
+        (self.state >> 33) % most
     }
 }
 

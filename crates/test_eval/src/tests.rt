@@ -221,7 +221,7 @@ fn pseudo_random_scripts_are_answered_by_their_meaning(rt: HostRuntime) -> Resul
     let mut works = Works::new(Crew::new(&table, seat, 1, &gate));
     let mut values: usize = 0;
     'seeds: for seed in 0..40 {
-        let size = 1 + (seed % 5) as u32;
+        let size = ((seed % 5) as u32).wrapping_add(1);
         let text = script(alloc, seed, size, 12)?;
         let told = answers(alloc, &mut works, text.as_slice(), 7)?;
         assert_eq!(&rt;
