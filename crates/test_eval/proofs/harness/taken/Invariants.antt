@@ -1,5 +1,0 @@
-use Rattle.rel_model.specs.Worker.{Stands, Keeps}
-use Rattle.test_eval.proofs.harness.taken.Given as goal
-
-abbrev pub invariant-pairs : goal.invariant-pairs
-invariant-pairs g l = Stands (g.E.Core.worker l.engine) l.fn.rel × Keeps (g.E.Core.worker l.fn.engine) (g.E.Core.worker l.engine)

@@ -1,4 +1,0 @@
-use Rattle.test_eval.proofs.slow.+unknown.Given as goal
-
-abbrev pub decreases-unknown : goal.decreases-unknown
-decreases-unknown l = l.fuel
