@@ -10,3 +10,4 @@ pub mod Weights
 pub mod Calling
 pub mod Lacking
 pub mod Telling
+pub mod Ahead

@@ -4,7 +4,9 @@ use Rattle.rel_model.specs.declared.Rel.{Rel}
 use Rattle.rel_model.specs.Operators.{empty}
 use Rattle.rel_model.specs.Worker.{Worker, Stands}
 use Rattle.lang_model.specs.Tokens.{same_text}
+use Rattle.lang_model.specs.declared.faults.StaticShape.{StaticShape}
 use Rattle.lang_model.specs.State.{State}
+use Rattle.lang_model.specs.Types.{known}
 
 -- the relation of a name
 abbrev pub rel_of : List (List ℕ × Rel) → List ℕ → Option Rel
@@ -18,6 +20,10 @@ state_of w names name = option_and_then w.relation (rel_of names name)
 -- the state in which each name has an empty relation of its sizes
 abbrev pub sized : List (List ℕ × Rel) → State
 sized names name = option_map (λ r. empty r.rows r.cols) (rel_of names name)
+
+-- a name with the type of its relation
+abbrev pub typed_pair_of : List ℕ × Rel → List ℕ × StaticShape
+typed_pair_of n = (n.0, known n.1.rows n.1.cols)
 
 -- all relations of the names stand
 abbrev pub AllStand : Worker → List (List ℕ × Rel) → Type 0

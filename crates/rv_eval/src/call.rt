@@ -1,27 +1,30 @@
 //! The public call.
-ghost use Rattle.std.specs.Prelude.{◌≡◌, ◌≤◌, IfOk, IsErrOf};
+ghost use Rattle.std.specs.Prelude.{◌≡◌, ◌≤◌, ◌⊎◌, map, IfOk, IsErrOf, MatchOption};
 ghost use Rattle.rel_model.specs.declared.Lack.TheVariants.{Full};
 ghost use Rattle.rel_model.specs.Worker.{Stands, set_of, Keeps, MakesAtMost};
 ghost use Rattle.lang_model.specs.declared.faults.TypeFault.TheVariants.{NoMemory as FAULT_NO_MEMORY};
-ghost use Rattle.lang_model.specs.Missing.{missing};
 ghost use Rattle.lang_model.specs.Mean.{meaning};
-ghost use Rattle.lang_model.specs.Eval.{Comes, unless_missing, cost_of_value, IsCompound};
+ghost use Rattle.lang_model.specs.declared.faults.StaticShape.{StaticShape};
+ghost use Rattle.lang_model.specs.Types.{Fits, Misfit};
+ghost use Rattle.lang_model.specs.Shape.{static_type};
+ghost use Rattle.lang_model.specs.Eval.{evaluated, cost_of_value, IsCompound};
+ghost use Rattle.rv_types.specs.Shaping.{types_of};
 ghost use Rattle.rv_eval.specs.declared.halt.Halt.TheVariants.{Lack as LACK};
 ghost use Rattle.rv_eval.specs.declared.halt.Refused.TheVariants.{Ill as ILL_REFUSED, Nodes};
-ghost use Rattle.rv_eval.specs.Names.{state_of, AllStand};
+ghost use Rattle.rv_eval.specs.Names.{state_of, typed_pair_of, AllStand};
 ghost use Rattle.rv_eval.specs.Ends.{Ends};
 ghost use Rattle.rv_eval.specs.Refusing.{told, told_ill, IsAnswer, IsEvaluated};
 
-use crate::faults::unknown;
+use crate::faults::{type_of, unknown};
 use crate::halt::{Halt, Refused};
 use crate::missing::first_missing;
 use crate::steps::value_of_name;
 use crate::walk::eval_expr;
-use lang_model::faults::TypeFault;
+use lang_model::faults::{StaticShape, TypeFault};
 use lang_model::syntax::{Expr, Name};
 use rel_model::engine_trait::Engine;
-use rel_model::{Lack, Rel, SIZE_LIMIT};
-use rv_types::Checked;
+use rel_model::{Lack, NoMemory, Rel, SIZE_LIMIT};
+use rv_types::{Checked, shape_of};
 use std::alloc::Global;
 
 /// How deep calls of definitions may stand in one another.
@@ -104,9 +107,42 @@ fn meaning_of<E: Engine>(
     }
 }
 
+/// The types of names.
+fn types_of_names(alloc: Global, env: &[(Name, Rel)]) -> Result<Vec<(Name, StaticShape)>, NoMemory>
+    ensures { IfOk result (λ v. v.items ≡ map typed_pair_of env.now) }
+{
+    let mut types = Vec::new(alloc);
+    'each: for pair in env {
+        let own = pair.0.copied(alloc)?;
+        let shape = type_of(pair.1);
+        types.push((own, shape))?;
+    }
+    Ok(types)
+}
+
+/// The first static fault of an expression of a command on these names, or want of memory.
+fn static_fault(
+    alloc: Global,
+    checked: &Checked,
+    env: &[(Name, Rel)],
+    expr: &Expr,
+) -> Option<TypeFault>
+    ensures { let t = static_type checked.now (types_of (map typed_pair_of env.now)) expr.now in
+        MatchOption result ((s : StaticShape) × (t ≡ Fits s)) (λ f. (f ≡ FAULT_NO_MEMORY) ⊎ (t ≡ Misfit f)) }
+{
+    let names = match types_of_names(alloc, env) {
+        Ok(names) => names,
+        Err(NoMemory) => return Some(TypeFault::NoMemory),
+    };
+    match shape_of(alloc, checked, expr, names.as_slice()) {
+        Ok(_) => None,
+        Err(fault) => Some(fault),
+    }
+}
+
 /// The value of an expression of a command on these names, or why it has none: first the leftmost name that is not
-/// among them, for which nothing is computed, and then its meaning. Static faults are not looked for ahead.
-pub fn value_of<E: Engine>(
+/// among them, then the first static fault, for neither of which anything is computed, and then its meaning.
+pub fn eval<E: Engine>(
     alloc: Global,
     engine: &mut E,
     checked: &Checked,
@@ -116,20 +152,21 @@ pub fn value_of<E: Engine>(
 ) -> Result<Rel, Refused>
     requires standing { AllStand (E.worker engine.old) env.now }
     ensures answer { let w = E.worker engine.old in
-        let s = state_of w env.now in
-        let e = unless_missing (missing s expr.now) (Comes (meaning checked.now s expr.now turns)) in
+        let e = evaluated checked.now (state_of w env.now) expr.now turns in
         IsEvaluated w (E.worker engine.new) turns e result }
     ensures compound { IsErrOf result Nodes → IsCompound expr.now }
     ensures memory { IsErrOf result (ILL_REFUSED FAULT_NO_MEMORY) → ⊥ }
     ensures stands { IfOk result (Stands (E.worker engine.new)) }
     ensures keeps { Keeps (E.worker engine.old) (E.worker engine.new) }
     ensures room { let w = E.worker engine.old in
-        let s = state_of w env.now in
-        let e = unless_missing (missing s expr.now) (Comes (meaning checked.now s expr.now turns)) in
+        let e = evaluated checked.now (state_of w env.now) expr.now turns in
         MakesAtMost (cost_of_value E.least e) w (E.worker engine.new) }
 {
     match first_missing(env, expr) {
         Some((at, name)) => Err(refusal(turns, unknown(alloc, at, name))),
-        None => meaning_of(alloc, engine, checked, env, expr, turns),
+        None => match static_fault(alloc, checked, env, expr) {
+            Some(fault) => Err(ill(fault)),
+            None => meaning_of(alloc, engine, checked, env, expr, turns),
+        },
     }
 }

@@ -13,5 +13,5 @@ mod operators;
 mod steps;
 mod walk;
 
-pub use call::value_of;
+pub use call::eval;
 pub use halt::Refused;
