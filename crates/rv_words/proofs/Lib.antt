@@ -1,0 +1,6 @@
+pub mod Digits
+pub mod Lexing
+pub mod Rules
+pub mod Walking
+pub mod Splitting
+pub mod Finding

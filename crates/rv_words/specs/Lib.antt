@@ -1,0 +1,4 @@
+pub mod Uses
+pub mod Said
+pub mod Shown
+pub mod Simple

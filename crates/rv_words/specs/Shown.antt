@@ -1,0 +1,34 @@
+-- How a contract sees the words, the options that are read off them, and what clap finds in them.
+use Rattle.std.specs.Prelude.{◌≡◌, ℕ, List, [], map, Option, Some, None, unwrap_or, option_map, String}
+use Rattle.std.specs.String.{string_bytes}
+use Rattle.std.specs.declared.alloc.Global.{Global}
+use Rattle.clap.specs.Words.{found_of, matched_of, raw_values}
+use Rattle.clap.specs.declared.parser.matches.ArgMatches.{ArgMatches}
+use Rattle.rv_words.specs.Uses.{Word, Use, values_of}
+use Rattle.rv_words.specs.Said.{Said}
+use Rattle.rv_words.specs.declared.options.Options.{Options}
+
+-- the bytes of the words
+abbrev pub texts : List (String Global) → List Word
+texts = map string_bytes
+
+-- what options say
+abbrev pub shown : Options → Said
+shown options = record {
+  workers = options.workers;
+  nodes = options.nodes;
+  turns = options.turns;
+  history = options.history;
+  number = options.number;
+  scripts = texts options.scripts.items;
+  relations = texts options.relations.items;
+}
+
+-- the values that clap found under a name
+abbrev pub found_values : ArgMatches → Word → List Word
+found_values matches name = unwrap_or (option_map raw_values (matched_of (found_of matches) name)) []
+
+-- clap found the uses: under each name their values
+abbrev pub Finds : Option (List Use) → ArgMatches → Type 0
+Finds None matches = ⊥
+Finds (Some uses) matches = (name : Word) → found_values matches name ≡ values_of uses name

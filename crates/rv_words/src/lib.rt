@@ -1,0 +1,11 @@
+//! The words of the command line: which of them are taken, and what they say.
+#![tactic(auto)]
+
+pub(crate) mod command;
+pub(crate) mod files;
+pub(crate) mod numbers;
+pub mod options;
+#[cfg(test)]
+mod tests;
+
+pub use options::{Options, WordsError, words_of};
