@@ -140,6 +140,7 @@ abbrev pub injected_of : Place → Base → Option Relation → Option Relation 
 injected_of at base (Some a) (Some b) = domain_made at base a.rows b.rows
 injected_of at base _ _ = Refuses (Ill (Unknown at (domain_operator_text base)))
 
+-- and where the domain is declared
 abbrev pub injected_by : State → Place → Base → Option (List ℕ × List ℕ) → Operation
 injected_by state at base None = Refuses (Ill (Unknown at (domain_operator_text base)))
 injected_by state at base (Some names) = injected_of at base (state names.0) (state names.1)
@@ -154,6 +155,7 @@ abbrev pub where_fitting : Typed → Bool → ℕ → Came Bool
 where_fitting (Fits shape) b n = got b n
 where_fitting (Misfit fault) b n = refused (Ill fault)
 
+-- the value of a test: one row and one column, and whether it is full
 abbrev pub tested : Place → Relation → ℕ → Came Bool
 tested at r n = where_fitting (typed_test at (sizes r)) (has r 0 0) n
 
@@ -167,6 +169,7 @@ pub record Around : Type 0 where
   pub calls : Calls
   pub decls : List Decl
 
+-- a definition in which calls mean this, with these declarations
 abbrev pub around_with : Calls → List Decl → Around
 around_with calls decls = record { calls = calls; decls = decls }
 
@@ -208,6 +211,7 @@ means_by around state values [] n = got values n
 means_by around state values (e ∷ es) n =
     and_then (mean around state e n) (λ r m. means_by around state (values ++ r ∷ []) es m)
 
+-- the same of a list of links
 abbrev pub mean_by : Around → State → Relation → List Link → ℕ → Came Relation
 mean_by around state r [] n = got r n
 mean_by around state r (l ∷ ls) n =
@@ -265,6 +269,7 @@ abbrev pub bound_first : List ℕ → (List Relation → State) → List Relatio
 bound_first p rest [] = nothing
 bound_first p rest (v ∷ vs) = assigned p v (rest vs)
 
+-- all parameters with their values
 abbrev pub bound : List (List ℕ) → List Relation → State
 bound [] = λ vs. nothing
 bound (p ∷ ps) = bound_first p (bound ps)

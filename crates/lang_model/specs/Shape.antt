@@ -25,9 +25,11 @@ passing (Misfit fault) next = Misfit fault
 abbrev pub Types : Type 0
 Types = List ℕ → Option StaticShape
 
+-- no name has a type
 unfoldable pub no_types : Types
 no_types name = None
 
+-- this name has this type, and all others what they had
 unfoldable pub typed_as : List ℕ → StaticShape → Types → Types
 typed_as name s types = λ n. cond (same_text name n) (Some s) (types n)
 
@@ -36,6 +38,7 @@ pub record AroundTypes : Type 0 where
   pub calls : Place → List ℕ → List StaticShape → Typed
   pub decls : List Decl
 
+-- the type of a name, where it has one
 abbrev pub typed_name : Place → List ℕ → Option StaticShape → Typed
 typed_name at name None = Misfit (Unknown at name)
 typed_name at name (Some s) = Fits s
@@ -47,10 +50,12 @@ typed_based at base (s ∷ []) = typed_base at base s
 typed_based at base (s ∷ t ∷ []) = typed_base_of_two at base s t
 typed_based at base (s ∷ t ∷ u ∷ us) = Fits (known 0 0)
 
+-- a domain operator, where both names of its domain have types: their rows are the sizes of the two domains
 abbrev pub typed_injected_of : Place → Base → Option StaticShape → Option StaticShape → Typed
 typed_injected_of at base (Some a) (Some b) = Fits (type_of_domain base a.rows b.rows)
 typed_injected_of at base _ _ = Misfit (Unknown at (domain_operator_text base))
 
+-- and where the domain is declared
 abbrev pub typed_injected : Types → Place → Base → Option (List ℕ × List ℕ) → Typed
 typed_injected types at base None = Misfit (Unknown at (domain_operator_text base))
 typed_injected types at base (Some names) = typed_injected_of at base (types names.0) (types names.1)
@@ -94,6 +99,7 @@ set_type at name s types None = Fits (typed_as name s types)
 set_type at name s types (Some t) =
     cond (keeps_size t.rows s.rows && keeps_size t.cols s.cols) (Fits types) (Misfit (Mismatch at (codes "=") t s))
 
+-- the test of a WHILE or an IF: its expression first, and then its sizes
 abbrev pub shape_test : AroundTypes → Place → Expr → Types → Typed
 shape_test around at test types = passing (shape around types test) (λ s. typed_test at s)
 
@@ -114,6 +120,7 @@ abbrev mutual
   typed_within around (more_of-Stmt s rest) types =
       passing (typed_behind around s types) (λ more. typed_within around rest more)
 
+-- the same of a list of statements
 abbrev pub typed_by : AroundTypes → List Stmt → Types → Passed Types
 typed_by around [] types = Fits types
 typed_by around (s ∷ ss) types = passing (typed_behind around s types) (λ more. typed_by around ss more)
@@ -123,13 +130,16 @@ abbrev pub types_first : List ℕ → (List StaticShape → Types) → List Stat
 types_first p rest [] = no_types
 types_first p rest (s ∷ ss) = typed_as p s (rest ss)
 
+-- parameters with the types of the arguments
 abbrev pub types_bound : List (List ℕ) → List StaticShape → Types
 types_bound [] = λ ss. no_types
 types_bound (p ∷ ps) = types_first p (types_bound ps)
 
+-- a definition in which calls have these types, with these declarations
 abbrev pub around_types : (Place → List ℕ → List StaticShape → Typed) → List Decl → AroundTypes
 around_types calls decls = record { calls = calls; decls = decls }
 
+-- the type of a definition whose arguments have these types: of a program that of its result behind its statements
 abbrev pub type_of_body : (Place → List ℕ → List StaticShape → Typed) → List StaticShape → Item → Typed
 type_of_body calls ss (Function at name params body) = shape (around_types calls []) (types_bound params.items ss) body
 type_of_body calls ss (Program at name params decls body result) =
@@ -137,6 +147,7 @@ type_of_body calls ss (Program at name params decls body result) =
     (λ types. shape (around_types calls decls.items) types result)
 type_of_body calls ss (COMMAND command) = Fits (known 0 0)
 
+-- a call of a definition that takes as many arguments
 abbrev pub type_of_called :
     (Place → List ℕ → List StaticShape → Typed) → Place → List ℕ → Option Item → List StaticShape → Typed
 type_of_called calls at name None ss = Misfit (Unknown at name)
@@ -144,6 +155,7 @@ type_of_called calls at name (Some item) ss =
     cond (takes_arguments item == length ss) (type_of_body calls ss item)
     (Misfit (Arity at name (takes_arguments item) (length ss)))
 
+-- the types of calls where at most so many definitions may stand in one another
 abbrev pub types_of_calls : List Item → ℕ → Place → List ℕ → List StaticShape → Typed
 types_of_calls items zero at name ss = Misfit (Rank at name)
 types_of_calls items (suc rank) at name ss =

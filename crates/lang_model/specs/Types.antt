@@ -47,10 +47,12 @@ may_be n m = agree m (Some n)
 abbrev pub within_limit : ℕ → Option ℕ
 within_limit n = cond (nat_lt size_limit n) None (Some n)
 
+-- one that is computed from one size
 abbrev pub computed : (ℕ → ℕ) → Option ℕ → Option ℕ
 computed f None = None
 computed f (Some m) = within_limit (f m)
 
+-- one that is computed from two
 abbrev pub computed_of_two : (ℕ → ℕ → ℕ) → Option ℕ → Option ℕ → Option ℕ
 computed_of_two f None n = None
 computed_of_two f (Some m) n = computed (f m) n
@@ -95,6 +97,7 @@ typed_pair at s t =
 abbrev pub type_turned : StaticShape → StaticShape
 type_turned s = type_of s.cols s.rows
 
+-- transposed so many times
 abbrev pub type_turned_by : ℕ → StaticShape → StaticShape
 type_turned_by zero s = s
 type_turned_by (suc n) s = type_turned (type_turned_by n s)
