@@ -33,12 +33,12 @@ fn draws_go_on_from_script_to_script_and_the_last_32_bits_count(
     rt: HostRuntime,
 ) -> Result<(), Fail> {
     let alloc = rt.alloc();
-    let mut state: u64 = 5;
+    let mut state: u32 = 5;
     for _ in 0..128 {
-        state = (1_664_525 * state + 1_013_904_223) % 4_294_967_296;
+        state = state.wrapping_mul(1_664_525).wrapping_add(1_013_904_223);
     }
     let scripts = generate(alloc, 5)?;
-    let later = generate(alloc, state)?;
+    let later = generate(alloc, u64::from(state))?;
     assert!(rt; scripts.len() == 8 && later.len() == 8);
     let second = &scripts[1].as_slice();
     let first = &later[0].as_slice();

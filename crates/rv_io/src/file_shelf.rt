@@ -98,14 +98,11 @@ impl<R: Files + Drop> Shelf for FileShelf<R> {
 /// renamed over it. Where that fails, the new file is removed.
 fn replace<R: Files>(rt: &R, alloc: Global, name: &str, bytes: &[u8]) -> io::Result<()> {
     let (beside, file) = file_beside(rt, alloc, name)?;
-    let mut moved = write_whole(file, bytes);
-    if let Ok(()) = moved {
-        moved = fs::rename(rt, beside.as_str(), name);
-    }
-    if let Err(_) = moved {
+    let replaced = write_whole(file, bytes).and_then(|()| fs::rename(rt, beside.as_str(), name));
+    if replaced.is_err() {
         let _ = fs::remove_file(rt, beside.as_str());
     }
-    moved
+    replaced
 }
 
 /// Makes a new file in the folder of the file of this name. Its name is short, so that it fits

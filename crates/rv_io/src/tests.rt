@@ -163,19 +163,19 @@ fn a_put_that_fails_leaves_all_other_files_and_is_no_fault_of_reading(
     for name in ["a", "b", "c"] {
         let mut shelf = two_files(alloc, 0)?;
         assert!(rt; shelf.put(name, &[9]).is_err(), "{name}");
-        assert_eq!(rt; (shelf.faults(), shelf.put_faults()), (0, 1), "{name}");
+        assert!(rt; shelf.faults() == 0 && shelf.put_faults() == 1);
         for (other, bytes) in [("a", [1, 2].as_slice()), ("b", [3].as_slice())] {
             if other != name {
                 let found = read_all(alloc, &mut shelf, other, 5)?;
-                assert_eq!(rt; found.as_slice(), bytes, "{other} after {name}");
+                assert_eq!(rt; found.as_slice(), bytes);
             }
         }
-        assert!(rt; shelf.put(name, &[9]).is_ok(), "{name}");
+        assert!(rt; shelf.put(name, &[9]).is_ok());
     }
     let mut shelf = two_files(alloc, 1)?;
     assert!(rt; shelf.put("a", &[9]).is_ok());
     assert!(rt; shelf.pick("a").is_err());
-    assert_eq!(rt; (shelf.faults(), shelf.put_faults()), (1, 0));
+    assert!(rt; shelf.faults() == 1 && shelf.put_faults() == 0);
     Ok(())
 }
 

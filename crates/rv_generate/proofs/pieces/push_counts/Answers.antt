@@ -1,4 +1,4 @@
-use Rattle.std.proofs.Common.{◌≡◌, ◌++◌, codes}
+use Rattle.std.proofs.Common.{◌++◌, codes}
 use Rattle.std.specs.Fmt.{decimal}
 use Rattle.rv_generate.specs.Generator.{counts_text}
 use Rattle.rv_generate.proofs.Behind.{begun, then_one, then_two}

@@ -1,5 +1,5 @@
 use Rattle.std.proofs.Common.{◌≡◌, ◌%◌, ◌^◌, ◌∙◌, ap, sym, arith}
-use Rattle.rv_generate.specs.Generator.{after, scripts_from, texts_of, generated}
+use Rattle.rv_generate.specs.Generator.{scripts_from, texts_of, generated}
 use Rattle.rv_generate.proofs.Drawing.{after-none, scripts-more, draws-more}
 use Rattle.rv_generate.proofs.scripts.generate.Goals as goal
 

@@ -1,4 +1,4 @@
-use Rattle.std.proofs.Common.{◌≡◌, ◌∙◌, ◌∷◌, [], ◌++◌, ap, codes}
+use Rattle.std.proofs.Common.{◌∙◌, ◌∷◌, [], ◌++◌, ap, codes}
 use Rattle.std.specs.Fmt.{decimal}
 use Rattle.rv_generate.specs.Generator.{rows_text, closure_text, counts_text, script_text}
 use Rattle.rv_generate.proofs.Behind.{begun, then_one}
