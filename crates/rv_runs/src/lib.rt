@@ -1,0 +1,8 @@
+//! Runs: all sessions at once over one book of names, from the bytes of the scripts to the page.
+#![tactic(auto)]
+
+mod ended;
+mod together;
+
+pub use ended::Ended;
+pub use together::run_all;
