@@ -1,2 +1,5 @@
 pub mod Asking
 pub mod Alike
+pub mod Dues
+pub mod Accounts
+pub mod Lawful

@@ -3,6 +3,7 @@
 
 mod ended;
 mod together;
+mod work;
 
 pub use ended::Ended;
 pub use together::run_all;
