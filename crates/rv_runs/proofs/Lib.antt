@@ -3,3 +3,4 @@ pub mod Alike
 pub mod Dues
 pub mod Accounts
 pub mod Lawful
+pub mod Joining

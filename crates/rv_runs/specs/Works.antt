@@ -78,14 +78,18 @@ module _ {E : Type 0} where
       pub from_one : 1 ≤ work.number
       pub at_most : work.number ≤ count
 
-    -- and after it
-    pub record IsRun (leaf : ℕ) (given : Input) (scripts : List (List ℕ)) (book : Book) (work : Work E) : Type 0 where
+    -- a piece of work that can be joined
+    pub record CanJoin (book : Book) (work : Work E) : Type 0 where
       pub ready : IsReady book work.pass
       pub no_joined : work.pass.joined ≡ []
       pub no_spare : work.pass.spare ≡ 0
       pub kin : (worker work.engine).house ≡ work.pass.house
       pub seats : (worker work.engine).spare ≡ 64
-      pub ran : IfSome work.told (HasRun leaf given work.number (bytes_of scripts work.number) (worker work.engine) work.pass)
+
+    -- what its session told, it did with the bytes of its script
+    abbrev pub RanWhereTold : ℕ → Input → List (List ℕ) → Work E → Type 0
+    RanWhereTold leaf given scripts work =
+        IfSome work.told (HasRun leaf given work.number (bytes_of scripts work.number) (worker work.engine) work.pass)
 
     -- how many nodes the workers of works made
     abbrev pub made_by : List (Work E) → ℕ

@@ -1,7 +1,7 @@
 //! One session at its work.
 ghost use Rattle.std.specs.Prelude.{◌≡◌, ◌≤◌, ◌^◌, length, map, vec_len, All};
 ghost use Rattle.rv_sessions.specs.Telling.{input_of};
-ghost use Rattle.rv_runs.specs.Works.{IsFresh, IsRun};
+ghost use Rattle.rv_runs.specs.Works.{IsFresh, CanJoin, RanWhereTold};
 
 use rel_model::engine_trait::Engine;
 use rv_sessions::{Loaded, Transcript, run};
@@ -31,7 +31,8 @@ pub fn run_work<R: Wait, E: Engine + Drop>(
 )
     requires limits { All (λ v. vec_len v ≤ 2 ^ 20) scripts.now }
     requires fresh { IsFresh E.worker book.now (length scripts.now) work.old }
-    ensures run { IsRun E.worker E.least (input_of files.now turns) (map (λ v. v.items) scripts.now) book.now work.new }
+    ensures ran { RanWhereTold E.worker E.least (input_of files.now turns) (map (λ v. v.items) scripts.now) work.new }
+    ensures joins { CanJoin E.worker book.now work.new }
     ensures number { work.new.number ≡ work.old.number }
     ensures house { work.new.pass.house ≡ work.old.pass.house }
 {
