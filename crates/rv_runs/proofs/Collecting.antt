@@ -29,6 +29,7 @@ use Rattle.rv_sessions.specs.Telling.{input_of, texts_of, saved_all}
 use Rattle.rv_sessions.specs.Running.{one_for_nodes, nodes_in, RoseBy}
 use Rattle.rv_sessions.specs.Sessions.{DidReading}
 use Rattle.rv_runs.specs.declared.work.Work.{Work}
+use Rattle.rv_runs.specs.Pages.{text_of_session, saved_by_session, page_told}
 use Rattle.rv_runs.specs.Runs.{input_with, MissedWhereFull, CameTo}
 use Rattle.rv_runs.specs.Works.{HasRun, IsAbsorbed, bytes_of, CanJoin, RanWhereTold, Numbered, TakesAll, SplitsWorkers, made_by, pass_of, told_of}
 use Rattle.rv_runs.proofs.Accounts.{Part, Account, Accounts, outcomes_of, text_told, saved_told, made_in}
@@ -77,7 +78,8 @@ module _ {E : Type 0} (worker : E → Worker) (scripts : List (List ℕ)) where
   have_run leaf given s (w ∷ ws) [] e r n = absurd (too_few w ws e)
   have_run leaf given s (w ∷ ws) (t ∷ ts) e r n = (
     (let here = subst (λ o. IfSome o (HasRun leaf given w.number (bytes_of scripts w.number) (worker w.engine) w.pass)) (first_told w ws t ts e) (r 0 w (omega arith)) in
-    let number : w.number ≡ s = n 0 w (omega arith) in
+    let at : w.number ≡ 0 + s = n 0 w (omega arith) in
+    let number : w.number ≡ s = omega arith in
     subst (λ m. HasRun leaf given m (bytes_of scripts w.number) (worker w.engine) w.pass t) number here),
     have_run leaf given (s + 1) ws ts (later_told w ws t ts e) (λ k d l. r (suc k) d (omega arith)) (later_numbers s w ws n),
   )
@@ -154,17 +156,11 @@ all_missed leaf given all log s (p ∷ ps) h = (
 )
 
 -- ---- texts and files by transcripts
-abbrev pub all_texts : List Transcript → List ℕ
-all_texts = flat_map (λ t. texts_of t.replies.items)
-
-abbrev pub all_saves : List Transcript → List SavedFile
-all_saves = flat_map (λ t. saved_all t.saves.items)
-
-text_by : (parts : List Part) → flat_map text_told parts ≡ all_texts (map (λ p. p.told) parts)
+text_by : (parts : List Part) → flat_map text_told parts ≡ flat_map text_of_session (map (λ p. p.told) parts)
 text_by [] = refl
 text_by (p ∷ ps) = ap (λ (l : List ℕ). text_told p ++ l) (text_by ps)
 
-saved_by : (parts : List Part) → flat_map saved_told parts ≡ all_saves (map (λ p. p.told) parts)
+saved_by : (parts : List Part) → flat_map saved_told parts ≡ flat_map saved_by_session (map (λ p. p.told) parts)
 saved_by [] = refl
 saved_by (p ∷ ps) = ap (λ (l : List SavedFile). saved_told p ++ l) (saved_by ps)
 
@@ -225,7 +221,7 @@ module _ {E : Type 0} (worker : E → Worker) (leaf : ℕ) (scripts : List (List
     law = lawful leaf files turns asked new log parts all_accounts (in_range leaf (input_of files turns) parts log runs make_up)
 
     pub came_to : (outcomes : List (List Outcome)) (text : List ℕ) (saved : List SavedFile) → outcomes ≡ map (λ t. t.outcomes.items) told
-        → text ≡ all_texts told ++ cond asked (flat_map event_line log) [] → saved ≡ all_saves told
+        → text ≡ page_told told log asked → saved ≡ flat_map saved_by_session told
         → CameTo leaf scripts files turns asked old new log outcomes text saved
     unfolding page saves cost_of_run
     came_to outcomes text saved os ts ss =
@@ -237,8 +233,8 @@ module _ {E : Type 0} (worker : E → Worker) (leaf : ℕ) (scripts : List (List
           run = record {
             read = subst (λ (l : List (List ℕ)). AreReadings l q.readings) (same_bytes worker scripts [] scripts works told refl g.all_told g.numbers g.long) q.read;
             legal = q.legal;
-            page_shown = ts ∙ ap (λ (l : List ℕ). l ++ cond asked (flat_map event_line log) []) (ap all_texts (sym told_are) ∙ (sym (text_by parts) ∙ q.text));
-            files_put = ss ∙ (ap all_saves (sym told_are) ∙ (sym (saved_by parts) ∙ q.saved));
+            page_shown = ts ∙ ap (λ (l : List ℕ). l ++ cond asked (flat_map event_line log) []) (ap (flat_map text_of_session) (sym told_are) ∙ (sym (text_by parts) ∙ q.text));
+            files_put = ss ∙ (ap (flat_map saved_by_session) (sym told_are) ∙ (sym (saved_by parts) ∙ q.saved));
           };
           due = q.due;
           stand = history_stands kept new (λ x s. held_stands kept new x r.archive_joins.other_holds s) log r.stand;
