@@ -20,7 +20,7 @@ use Rattle.turn_book.specs.Entries.{Entry}
 use Rattle.turn_book.specs.Logs.{Begins, MakeUp}
 use Rattle.turn_book.specs.Views.{Book, View, lists_of}
 use Rattle.turn_book.specs.Joined.{JoinsAll, all_lists}
-use Rattle.rv_workspace.specs.Books.{HistoryStands}
+use Rattle.rv_workspace.specs.Books.{HistoryStands, Held, IsBook}
 use Rattle.rv_workspace.proofs.Keeping.{held_stands}
 use Rattle.rv_workspace.proofs.Replaying.{history_stands}
 use Rattle.rv_sessions.specs.declared.transcript.Loaded.{Loaded}
@@ -167,6 +167,15 @@ saved_by (p ∷ ps) = ap (λ (l : List SavedFile). saved_told p ++ l) (saved_by 
 outcomes_by : (parts : List Part) → map outcomes_of parts ≡ map (λ t. t.outcomes.items) (map (λ p. p.told) parts)
 outcomes_by [] = refl
 outcomes_by (p ∷ ps) = ap (λ (l : List (List Outcome)). outcomes_of p ∷ l) (outcomes_by ps)
+
+-- ---- the book in the end
+pub kept_stands : {E : Type 0} (worker : E → Worker) (book : Held E) (archive : E) (log : List Event) → IsBook worker book → archive ≡ book.archive → log ≡ book.history
+    → HistoryStands (worker archive) log × ((worker archive).spare ≡ 1) × ((worker archive).made ≡ 0)
+kept_stands worker book archive log b a l = (
+  subst (λ (x : _). HistoryStands (worker x) log) (sym a) (subst (λ (h : List Event). HistoryStands (worker book.archive) h) (sym l) b.stand),
+  ap (λ x. (worker x).spare) a ∙ b.spare,
+  ap (λ x. (worker x).made) a ∙ b.made,
+)
 
 -- ---- the run
 module _ {E : Type 0} (worker : E → Worker) (leaf : ℕ) (scripts : List (List ℕ)) (files : List Loaded) (turns : ℕ) (asked : Bool) where
