@@ -3,27 +3,20 @@
 --    all were joined it knows that its own events are those of its number, and that all stands there that stood in its own.
 -- 2. A script that did not run made nothing, and has no event.
 -- 3. One that ran has the same steps in the other worker, and is asked the same by the run's input.
-use Rattle.std.specs.List.{AllByRecursion, flat_map}
-use Rattle.std.proofs.Common.{◌≡◌, ◌<◌, ◌≤◌, ◌+◌, ◌++◌, ℕ, Bool, false, List, [], ◌∷◌, length, Option, Some, None, refl, sym, ap, subst, ◌∙◌, map, arith}
+use Rattle.std.proofs.Common.{◌≡◌, ◌≤◌, ◌+◌, ◌++◌, ℕ, Bool, false, List, [], ◌∷◌, sym, ap, subst, ◌∙◌, map, arith}
 use Rattle.rel_model.specs.declared.Rel.{Rel}
 use Rattle.rel_model.specs.Relation.{Relation}
-use Rattle.rel_model.specs.Worker.{Worker, set_of, MakesAtMost}
+use Rattle.rel_model.specs.Worker.{Worker, set_of}
 use Rattle.lang_model.specs.declared.syntax.Script.{Script}
 use Rattle.run_model.specs.declared.event.Event.{Event}
 use Rattle.run_model.specs.declared.outcome.Outcome.{Outcome}
-use Rattle.run_model.specs.declared.outcome.Outcome.TheVariants.{Parse, Ill, Nodes}
-use Rattle.run_model.specs.Inputs.{Input, Reading, NoScript, Flawed, Runs, IsReading, AreReadings}
-use Rattle.run_model.specs.Steps.{steps}
-use Rattle.run_model.specs.States.{start, events_of, gifts_due, state_for}
-use Rattle.run_model.specs.Carried.{AllHaveDue}
-use Rattle.run_model.specs.Legal.{IsLegal, steps_in}
-use Rattle.run_model.specs.Page.{SavedFile, replies, refusals, saves_of, session_page, sessions_page, session_saves, sessions_saves}
-use Rattle.run_model.specs.Cost.{cost_of_steps, cost_of_session, cost_of_sessions}
-use Rattle.run_model.specs.Turns.{BeginsLog, Turn, put_by, state_taken}
-use Rattle.run_model.specs.Sessions.{RunsTurns, SessionRan, SessionsRan, steps_taken}
-use Rattle.run_model.proofs.Taking.{taken_is_state}
-use Rattle.run_model.proofs.Values.{sessions_make_due}
-use Rattle.run_model.proofs.Whole.{closed_log_is_legal}
+use Rattle.run_model.specs.declared.outcome.Outcome.TheVariants.{Parse, Ill}
+use Rattle.run_model.specs.Inputs.{Input, Reading, NoScript, Flawed, Runs}
+use Rattle.run_model.specs.States.{events_of}
+use Rattle.run_model.specs.Page.{SavedFile, replies, refusals, saves_of}
+use Rattle.run_model.specs.Cost.{cost_of_steps}
+use Rattle.run_model.specs.Turns.{BeginsLog, Turn, put_by}
+use Rattle.run_model.specs.Sessions.{RunsTurns, steps_taken}
 use Rattle.turn_book.specs.Views.{View}
 use Rattle.rv_sessions.specs.declared.transcript.Loaded.{Loaded}
 use Rattle.rv_sessions.specs.declared.transcript.Transcript.{Transcript}
@@ -33,7 +26,6 @@ use Rattle.rv_runs.specs.Runs.{input_with}
 use Rattle.rv_runs.specs.Works.{HasRun, IsAbsorbed}
 use Rattle.rv_runs.proofs.Asking.{input_of_both, replies_alike, saves_alike, all_costs_alike, turns_alike}
 use Rattle.rv_runs.proofs.Alike.{steps_alike, runs_alike}
-use Rattle.rv_runs.proofs.Dues.{all_ran}
 
 -- a session that has ended: its script, its worker, its pass and its transcript
 pub record Part : Type 0 where

@@ -3,7 +3,7 @@
 -- 2. So the names that events leave have the same values, and each command took the same state.
 -- 3. So the session has the same steps, and ran its script in the same turns.
 use Rattle.std.specs.List.{AllByRecursion}
-use Rattle.std.proofs.Common.{◌≡◌, ◌+◌, ℕ, zero, suc, Bool, true, false, cond, eqb, not, List, [], ◌∷◌, Option, Some, None, Ordering, Less, Equal, Greater, refl, sym, ap, subst, ◌∙◌, map, arith, All}
+use Rattle.std.proofs.Common.{◌≡◌, ◌+◌, ℕ, suc, Bool, true, false, cond, eqb, not, List, [], ◌∷◌, Option, Some, None, Ordering, Less, Equal, Greater, refl, sym, ap, subst, ◌∙◌, map, arith}
 use Rattle.std.specs.Prelude.{unwrap_or}
 use Rattle.std.specs.Ordering.{eq_by_cmp}
 use Rattle.std.specs.FinMap.Entries.{by_order}
@@ -26,12 +26,12 @@ use Rattle.run_model.specs.Steps.{snapped, steps}
 use Rattle.run_model.specs.States.{Replay, start}
 use Rattle.run_model.specs.Carried.{Carried, carry_act, carry, carried, valued}
 use Rattle.run_model.specs.Laws.{names_taken}
-use Rattle.run_model.specs.Lifting.{OneWhereKept, LooksAlike, LookAlike, MeanAlike}
+use Rattle.run_model.specs.Lifting.{OneWhereKept, LookAlike, MeanAlike}
 use Rattle.run_model.specs.Turns.{Turn, put_by, taken, state_taken}
 use Rattle.run_model.specs.Sessions.{rel_of, RunsTurns, steps_taken}
 use Rattle.run_model.proofs.Lifted.{other_worker_runs_alike}
-use Rattle.rv_workspace.specs.Books.{EventStands, HistoryStands}
-use Rattle.rv_sessions.specs.Standing.{TurnStands, TurnsStand}
+use Rattle.rv_workspace.specs.Books.{HistoryStands}
+use Rattle.rv_sessions.specs.Standing.{TurnsStand}
 
 -- ---- values of names
 module _ (means : Rel → Relation) where

@@ -3,18 +3,17 @@
 -- 2. Their passes make up the closed log, so each has its account, and together they are a lawful run.
 -- 3. The worker that took them all in holds every relation of the history, and counts what they made and missed.
 use Rattle.std.specs.List.{AllByRecursion, flat_map}
-use Rattle.std.specs.Prelude.{IfSome, min}
-use Rattle.std.proofs.Common.{◌≡◌, ◌<◌, ◌≤◌, ◌+◌, ◌-◌, ◌*◌, ◌^◌, ◌++◌, ℕ, zero, suc, Bool, cond, List, [], ◌∷◌, length, Option, Some, None, refl, sym, ap, subst, ◌∙◌, map, arith, get_or, All, append_assoc}
+use Rattle.std.specs.Prelude.{IfSome}
+use Rattle.std.proofs.Common.{◌≡◌, ◌<◌, ◌+◌, ◌-◌, ◌++◌, ℕ, suc, Bool, cond, List, [], ◌∷◌, length, Some, refl, sym, ap, subst, ◌∙◌, map, arith, get_or, All, append_assoc}
 use Rattle.std.proofs.lemmas.List.{get_or-append-add}
-use Rattle.rel_model.specs.declared.Rel.{Rel}
-use Rattle.rel_model.specs.Worker.{Worker, Stands, set_of}
-use Rattle.rel_model.specs.Seats.{SplitsWorker, JoinsWorker, Holds}
+use Rattle.rel_model.specs.Worker.{Worker}
+use Rattle.rel_model.specs.Seats.{SplitsWorker, JoinsWorker}
 use Rattle.run_model.specs.declared.event.Event.{Event}
 use Rattle.run_model.specs.declared.outcome.Outcome.{Outcome}
-use Rattle.run_model.specs.declared.outcome.Outcome.TheVariants.{Nodes, Parse, Ill}
+use Rattle.run_model.specs.declared.outcome.Outcome.TheVariants.{Parse, Ill}
 use Rattle.run_model.specs.Inputs.{Input, Reading, NoScript, Flawed, Runs, AreReadings}
-use Rattle.run_model.specs.Page.{SavedFile, event_line, page, saves, sessions_page, sessions_saves}
-use Rattle.run_model.specs.Cost.{cost_of_run, cost_of_sessions}
+use Rattle.run_model.specs.Page.{SavedFile, event_line, page, saves}
+use Rattle.run_model.specs.Cost.{cost_of_run}
 use Rattle.run_model.specs.Turns.{BeginsLog}
 use Rattle.turn_book.specs.Entries.{Entry}
 use Rattle.turn_book.specs.Logs.{Begins, MakeUp}
@@ -25,15 +24,15 @@ use Rattle.rv_workspace.proofs.Keeping.{held_stands}
 use Rattle.rv_workspace.proofs.Replaying.{history_stands}
 use Rattle.rv_sessions.specs.declared.transcript.Loaded.{Loaded}
 use Rattle.rv_sessions.specs.declared.transcript.Transcript.{Transcript}
-use Rattle.rv_sessions.specs.Telling.{input_of, texts_of, saved_all}
+use Rattle.rv_sessions.specs.Telling.{input_of}
 use Rattle.rv_sessions.specs.Running.{one_for_nodes, nodes_in, RoseBy}
 use Rattle.rv_sessions.specs.Sessions.{DidReading}
 use Rattle.rv_runs.specs.declared.work.Work.{Work}
 use Rattle.rv_runs.specs.Pages.{text_of_session, saved_by_session, page_told}
-use Rattle.rv_runs.specs.Runs.{input_with, MissedWhereFull, CameTo}
+use Rattle.rv_runs.specs.Runs.{MissedWhereFull, CameTo}
 use Rattle.rv_runs.specs.Works.{HasRun, IsAbsorbed, bytes_of, CanJoin, RanWhereTold, Numbered, TakesAll, SplitsWorkers, made_by, pass_of, told_of}
-use Rattle.rv_runs.proofs.Accounts.{Part, Account, Accounts, outcomes_of, text_told, saved_told, made_in}
-use Rattle.rv_runs.proofs.Joining.{length_more, absorbed_on, joins_first, joins_second, one_list_each}
+use Rattle.rv_runs.proofs.Accounts.{Part, Accounts, outcomes_of, text_told, saved_told, made_in}
+use Rattle.rv_runs.proofs.Joining.{length_more, absorbed_on, joins_first, one_list_each}
 use Rattle.rv_runs.proofs.Lawful.{Lawful, lawful}
 use Rattle.rv_runs.proofs.Sharing.{AllHaveRun, mine_of, in_range, accounts}
 
@@ -78,9 +77,9 @@ module _ {E : Type 0} (worker : E → Worker) (scripts : List (List ℕ)) where
   have_run leaf given s (w ∷ ws) [] e r n = absurd (too_few w ws e)
   have_run leaf given s (w ∷ ws) (t ∷ ts) e r n = (
     (let here = subst (λ o. IfSome o (HasRun leaf given w.number (bytes_of scripts w.number) (worker w.engine) w.pass)) (first_told w ws t ts e) (r 0 w (omega arith)) in
-    let at : w.number ≡ 0 + s = n 0 w (omega arith) in
-    let number : w.number ≡ s = omega arith in
-    subst (λ m. HasRun leaf given m (bytes_of scripts w.number) (worker w.engine) w.pass t) number here),
+        let at : w.number ≡ 0 + s = n 0 w (omega arith) in
+        let number : w.number ≡ s = omega arith in
+        subst (λ m. HasRun leaf given m (bytes_of scripts w.number) (worker w.engine) w.pass t) number here),
     have_run leaf given (s + 1) ws ts (later_told w ws t ts e) (λ k d l. r (suc k) d (omega arith)) (later_numbers s w ws n),
   )
 
@@ -122,7 +121,7 @@ module _ {E : Type 0} (worker : E → Worker) (scripts : List (List ℕ)) where
       let long = length_more pre b in
       let here : bytes_of scripts w.number ≡ b = ap (λ k. get_or scripts k []) at ∙ (ap (λ (l : List (List ℕ)). get_or l (length pre + 0) []) is ∙ get_or-append-add pre (b ∷ rest) 0 []) in
       (λ i. here i ∷ same_bytes (pre ++ b ∷ []) rest ws ts (is ∙ sym (append_assoc pre (b ∷ []) rest)) (later_told w ws t ts e)
-        (λ k d m. later_numbers (length pre + 1) w ws n k d m ∙ next k long) (omega arith) i)
+      (λ k d m. later_numbers (length pre + 1) w ws n k d m ∙ next k long) (omega arith) i)
     where
       next : (k : ℕ) → length (pre ++ b ∷ []) ≡ length pre + 1 → k + (length pre + 1 + 1) ≡ k + (length (pre ++ b ∷ []) + 1)
       next k e = omega arith
@@ -203,7 +202,7 @@ module _ {E : Type 0} (worker : E → Worker) (leaf : ℕ) (scripts : List (List
     pub kept_made : kept.made ≡ 0
 
   module _ (book : Book) (works : List (Work E)) (told : List Transcript) (mid pass : View) (log : List Event)
-    (old first early late archived kept new : Worker) (g : Gathered book works told mid pass log) (r : Returned works old first early late archived kept new log) where
+      (old first early late archived kept new : Worker) (g : Gathered book works told mid pass log) (r : Returned works old first early late archived kept new log) where
     abbrev parts : List Part
     parts = parts_of worker scripts works told
 

@@ -1,15 +1,12 @@
 -- Works are joined one after another: what is known after some of them is known after one more.
-use Rattle.std.proofs.Common.{◌≡◌, ◌<◌, ◌≤◌, ◌+◌, ◌-◌, ◌*◌, ◌^◌, suc, ℕ, List, [], ◌∷◌, ◌++◌, map, length, refl, sym, ap, subst, ◌∙◌, arith, All, Option, Some, inl, inr}
+use Rattle.std.proofs.Common.{◌≡◌, ◌<◌, ◌+◌, ◌-◌, ◌*◌, ◌^◌, suc, ℕ, List, [], ◌∷◌, ◌++◌, map, length, refl, sym, ap, subst, ◌∙◌, arith, All, Some}
 use Rattle.std.specs.Prelude.{IsSome, min}
 use Rattle.std.proofs.lemmas.List.Elements.{All-append, All-cons, All-nil, All-weaker}
-use Rattle.rel_model.specs.declared.Rel.{Rel}
-use Rattle.rel_model.specs.declared.Quad.{Quad}
-use Rattle.rel_model.specs.Worker.{Worker, Stands, HasQuad}
+use Rattle.rel_model.specs.Worker.{Worker}
 use Rattle.rel_model.specs.Seats.{Holds, JoinsWorker}
 use Rattle.turn_book.specs.Logs.{Begins}
 use Rattle.turn_book.specs.Views.{View, with_other}
 use Rattle.turn_book.specs.Joined.{places, all_lists, JoinsAll}
-use Rattle.turn_book.specs.Entries.{Entry}
 use Rattle.turn_book.proofs.Joining.{joins_one_more}
 use Rattle.turn_book.specs.Views.{Book}
 use Rattle.rv_sessions.specs.declared.transcript.Transcript.{Transcript}

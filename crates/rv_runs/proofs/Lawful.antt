@@ -3,12 +3,11 @@
 -- 2. So the closed log is lawful, and its assigned relations have the values that are due.
 -- 3. Then the states that each session took are those of the closed log, and so are replies, files and cost.
 use Rattle.std.specs.List.{AllByRecursion, flat_map}
-use Rattle.std.proofs.Common.{◌≡◌, ◌<◌, ◌≤◌, ◌+◌, ◌++◌, ℕ, Bool, List, [], ◌∷◌, length, refl, sym, ap, subst, ◌∙◌, map, arith}
+use Rattle.std.proofs.Common.{◌≡◌, ◌≤◌, ◌+◌, ◌++◌, ℕ, Bool, List, [], ◌∷◌, length, refl, sym, ap, subst, ◌∙◌, map, arith}
 use Rattle.rel_model.specs.declared.Rel.{Rel}
 use Rattle.rel_model.specs.Relation.{Relation}
 use Rattle.rel_model.specs.Worker.{Worker, set_of}
 use Rattle.run_model.specs.declared.event.Event.{Event}
-use Rattle.run_model.specs.declared.outcome.Outcome.{Outcome}
 use Rattle.run_model.specs.Inputs.{Input, Reading, NoScript, Flawed, Runs, AreReadings}
 use Rattle.run_model.specs.Steps.{steps}
 use Rattle.run_model.specs.States.{start, gifts_due, state_for}
@@ -24,7 +23,7 @@ use Rattle.run_model.proofs.Whole.{closed_log_is_legal}
 use Rattle.rv_sessions.specs.declared.transcript.Loaded.{Loaded}
 use Rattle.rv_sessions.specs.Telling.{input_of}
 use Rattle.rv_runs.specs.Runs.{input_with}
-use Rattle.rv_runs.proofs.Accounts.{Part, Account, Accounts, outcomes_of, text_told, saved_told, made_in, ToldScript, Told, AllTold, told_reading}
+use Rattle.rv_runs.proofs.Accounts.{Part, Accounts, outcomes_of, text_told, saved_told, made_in, ToldScript, Told, AllTold, told_reading}
 use Rattle.rv_runs.proofs.Dues.{all_ran}
 
 -- the run of sessions that ended

@@ -3,8 +3,7 @@
 -- 2. All events of a session's own are of its number.
 -- 3. So the events of each number in the closed log are its session's own, and none is of another number.
 use Rattle.std.specs.List.{AllByRecursion, filter}
-use Rattle.std.specs.Prelude.{IfSome}
-use Rattle.std.proofs.Common.{◌≡◌, ◌<◌, ◌≤◌, ◌≢◌, ◌+◌, ◌-◌, ◌++◌, ◌⊎◌, ℕ, zero, suc, Bool, true, false, cond, eqb, List, [], ◌∷◌, length, Option, Some, None, refl, sym, ap, subst, ◌∙◌, map, inl, inr, arith, get_or, All}
+use Rattle.std.proofs.Common.{◌≡◌, ◌<◌, ◌≤◌, ◌≢◌, ◌+◌, ◌++◌, ◌⊎◌, ℕ, zero, suc, Bool, true, cond, eqb, List, [], ◌∷◌, length, refl, sym, ap, subst, ◌∙◌, map, inl, inr, arith, get_or}
 use Rattle.std.proofs.lemmas.Bool.{cases_Bool, cases_lt, eq-eqb, ne_eqb}
 use Rattle.rel_model.specs.Worker.{Worker}
 use Rattle.run_model.specs.declared.event.Event.{Event}
@@ -17,7 +16,7 @@ use Rattle.turn_book.proofs.Sharing.{its_own, no_ones}
 use Rattle.rv_sessions.specs.declared.transcript.Transcript.{Transcript}
 use Rattle.rv_sessions.specs.Sessions.{DidReading}
 use Rattle.rv_runs.specs.Works.{HasRun, IsAbsorbed}
-use Rattle.rv_runs.proofs.Accounts.{Part, Account, Accounts}
+use Rattle.rv_runs.proofs.Accounts.{Part, Accounts}
 
 -- ---- tests of numbers
 abbrev is_of : ℕ → Event → Bool

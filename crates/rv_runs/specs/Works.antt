@@ -1,6 +1,5 @@
 -- The work of sessions at once: what is known of it before and after its session runs, and of all when it is joined.
 use Rattle.std.specs.Prelude.{◌≡◌, ◌<◌, ◌≤◌, ◌+◌, ◌-◌, ◌*◌, ℕ, List, [], ◌∷◌, length, slice_index_or, All, Option, IfSome}
-use Rattle.std.specs.List.{AllByRecursion}
 use Rattle.rel_model.specs.Worker.{Worker}
 use Rattle.rel_model.specs.Seats.{Holds}
 use Rattle.run_model.specs.Inputs.{Input}

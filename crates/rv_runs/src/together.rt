@@ -20,7 +20,7 @@ use std::thread::Threads;
 use turn_book::{Pass, TurnBook};
 
 /// The most sessions of a run.
-pub const MOST: usize = 64;
+const MOST: usize = 64;
 
 /// The spare workers of each session.
 const SEATS: u32 = 64;

@@ -7,7 +7,7 @@ use Rattle.turn_book.specs.Views.{lists_of}
 use Rattle.rv_runs.specs.Pages.{page_told}
 use Rattle.rv_runs.specs.Works.{SplitsWorkers}
 use Rattle.rv_runs.proofs.Joining.{one_place_each}
-use Rattle.rv_runs.proofs.Collecting.{Gathered, Returned, came_to, kept_stands}
+use Rattle.rv_runs.proofs.Collecting.{came_to, kept_stands}
 use Rattle.rv_runs.proofs.together.run_all.Goals as goal
 
 pub close-requires-clause-whole : goal.close-requires-clause-whole

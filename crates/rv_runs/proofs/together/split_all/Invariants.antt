@@ -1,4 +1,4 @@
-use Rattle.std.proofs.Common.{◌≡◌, ◌+◌, ◌*◌, length, vec_len, vec_capacity, All}
+use Rattle.std.proofs.Common.{◌≡◌, ◌+◌, length, vec_len, vec_capacity, All}
 use Rattle.turn_book.specs.Views.{IsReady}
 use Rattle.rv_runs.specs.Works.{IsFresh, Numbered, HaveHouse, SplitsWorkers}
 use Rattle.rv_runs.proofs.together.split_all.Given as goal
