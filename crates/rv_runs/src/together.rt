@@ -71,10 +71,12 @@ fn run_works<E: Engine + Drop + Send, R: Threads + Wait + Sync>(
     requires limits { All (λ v. vec_len v ≤ 2 ^ 20) scripts.now }
     requires fresh { All (IsFresh E.worker book.now (length scripts.now)) works.old.items }
     requires numbers { Numbered works.old.items }
-    ensures ran { All (RanWhereTold E.worker E.least (input_of files.now turns) (map (λ v. v.items) scripts.now)) works.new.items }
+    ensures ran { All (RanWhereTold E.worker E.least (input_of files.now turns) (map (λ v. v.items) scripts.now))
+        works.new.items }
     ensures joins { All (CanJoin E.worker book.now) works.new.items }
     ensures numbers { Numbered works.new.items }
-    ensures houses { (k : ℕ) (d : _) → k < length works.old.items → (slice_index_or works.new.items k d).pass.house ≡ (slice_index_or works.old.items k d).pass.house }
+    ensures houses { (k : ℕ) (d : _) → k < length works.old.items →
+        (slice_index_or works.new.items k d).pass.house ≡ (slice_index_or works.old.items k d).pass.house }
     ensures length { vec_len works.new ≡ vec_len works.old }
 {
     thread::for_each_mut(
@@ -140,7 +142,8 @@ pub fn run_all<R: Threads + Wait + Sync, E: Engine + Drop + Send>(
     requires spare { (E.worker engine).spare ≡ 65 * length scripts.now + 2 }
     requires made { (E.worker engine).made ≡ 0 }
     requires misses { (E.worker engine).misses ≡ 0 }
-    ensures { IfOk result (IsEnded E.worker E.least (map (λ v. v.items) scripts.now) files.now turns history (E.worker engine)) }
+    ensures { IfOk result
+        (IsEnded E.worker E.least (map (λ v. v.items) scripts.now) files.now turns history (E.worker engine)) }
 {
     let Ok(mut works) = Vec::with_capacity(alloc, scripts.len()) else {
         return Err(NoMemory);
