@@ -1,4 +1,7 @@
 -- Works are joined one after another: what is known after some of them is known after one more.
+-- 1. A worker that takes in another holds all that stood in either, and has missed something where either has.
+-- 2. So it does after each piece of work, with what all of them made and had to spare.
+-- 3. The passes of works hold one list of events each, and stand for one place each.
 use Rattle.std.proofs.Common.{◌≡◌, ◌<◌, ◌+◌, ◌-◌, ◌*◌, ◌^◌, suc, ℕ, List, [], ◌∷◌, ◌++◌, map, length, refl, sym, ap, subst, ◌∙◌, arith, All, Some}
 use Rattle.std.specs.Prelude.{IsSome, min}
 use Rattle.std.proofs.lemmas.List.Elements.{All-append, All-cons, All-nil, All-weaker}
