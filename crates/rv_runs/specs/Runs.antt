@@ -1,0 +1,46 @@
+-- What a run promises of its scripts, however its sessions take their turns.
+use Rattle.std.specs.Prelude.{◌≡◌, ◌<◌, ℕ, Bool, List, map}
+use Rattle.std.specs.List.{AllByRecursion}
+use Rattle.rel_model.specs.Worker.{Worker, set_of, MakesAtMost}
+use Rattle.run_model.specs.declared.event.Event.{Event}
+use Rattle.run_model.specs.declared.outcome.Outcome.{Outcome}
+use Rattle.run_model.specs.declared.outcome.Outcome.TheVariants.{Nodes}
+use Rattle.run_model.specs.Inputs.{Input, Reading}
+use Rattle.run_model.specs.Page.{SavedFile}
+use Rattle.run_model.specs.States.{start, gifts_due}
+use Rattle.run_model.specs.Carried.{AllHaveDue}
+use Rattle.run_model.specs.Cost.{cost_of_run}
+use Rattle.run_model.specs.Run.{IsRun}
+use Rattle.rv_workspace.specs.Books.{HistoryStands}
+use Rattle.rv_sessions.specs.declared.transcript.Loaded.{Loaded}
+use Rattle.rv_sessions.specs.Telling.{file_of, saved_all}
+use Rattle.rv_runs.specs.declared.ended.Ended.{Ended}
+
+-- what a run is given, with its scripts as they are read
+abbrev pub input_with : List Reading → List Loaded → ℕ → Bool → Input
+input_with readings files turns history =
+    record { readings = readings; files = map file_of files; turns = turns; history = history }
+
+-- a full table among the outcomes is a miss that is counted
+abbrev pub MissedWhereFull : ℕ → List Outcome → Type 0
+MissedWhereFull misses = AllByRecursion (λ o. o ≡ Nodes → 0 < misses)
+
+-- A run that came to a worker with this history, these outcomes, this page and these files: they are a lawful run of what
+-- the scripts are read as; each assigned relation stands in the worker with the value that is due; no more nodes were made
+-- than the commands may cost; a full table was counted as a miss; and the worker is at its table, with as many to spare.
+pub record CameTo (leaf : ℕ) (scripts : List (List ℕ)) (files : List Loaded) (turns : ℕ) (asked : Bool) (old new : Worker)
+    (history : List Event) (outcomes : List (List Outcome)) (page : List ℕ) (saves : List SavedFile) : Type 0 where
+  pub readings : List Reading
+  pub run : IsRun scripts (input_with readings files turns asked) history outcomes page saves
+  pub due : AllHaveDue (gifts_due (input_with readings files turns asked)) (set_of new) start history
+  pub stand : HistoryStands new history
+  pub cost : MakesAtMost (cost_of_run leaf (input_with readings files turns asked) history outcomes) old new
+  pub missed : AllByRecursion (MissedWhereFull new.misses) outcomes
+  pub house : new.house ≡ old.house
+  pub spare : new.spare ≡ old.spare
+
+-- what the caller of a run has of it
+abbrev pub IsEnded : {E : Type 0} → (E → Worker) → ℕ → List (List ℕ) → List Loaded → ℕ → Bool → Worker → Ended E → Type 0
+IsEnded worker leaf scripts files turns asked old ended =
+    CameTo leaf scripts files turns asked old (worker ended.engine)
+    ended.history.items (map (λ v. v.items) ended.outcomes.items) ended.page.items (saved_all ended.saves.items)

@@ -1,0 +1,104 @@
+-- The work of sessions at once: what is known of it before and after its session runs, and of all when it is joined.
+use Rattle.std.specs.Prelude.{◌≡◌, ◌<◌, ◌≤◌, ◌+◌, ◌-◌, ◌*◌, ℕ, List, [], ◌∷◌, length, slice_index_or, All, Option, IfSome}
+use Rattle.rel_model.specs.Worker.{Worker}
+use Rattle.rel_model.specs.Seats.{Holds}
+use Rattle.run_model.specs.Inputs.{Input}
+use Rattle.turn_book.specs.Views.{Book, House, View, IsReady}
+use Rattle.rv_sessions.specs.declared.transcript.Transcript.{Transcript}
+use Rattle.rv_sessions.specs.Sessions.{RanBytes}
+use Rattle.rv_runs.specs.declared.work.Work.{Work}
+
+-- the bytes of script number s, from 1 on
+abbrev pub bytes_of : List (List ℕ) → ℕ → List ℕ
+bytes_of scripts s = slice_index_or scripts (s - 1) []
+
+-- a session ran these bytes in a worker and a pass of its own, which were new
+pub record HasRun (leaf : ℕ) (given : Input) (s : ℕ) (bytes : List ℕ) (own : Worker) (pass : View)
+    (told : Transcript) : Type 0 where
+  pub first : Worker
+  pub before : View
+  pub ran : RanBytes leaf given s bytes first own before pass told
+  pub no_made : first.made ≡ 0
+  pub no_misses : first.misses ≡ 0
+  pub no_seen : before.seen ≡ []
+  pub no_mine : before.mine ≡ []
+
+-- a worker was joined into another: all that stood in it stands there, and if it missed, so did the other
+pub record IsAbsorbed (own all : Worker) : Type 0 where
+  pub holds : Holds own all
+  pub missed : 0 < own.misses → 0 < all.misses
+
+-- all passes are split off
+pub record SplitsAll (old new : View) : Type 0 where
+  pub book : new.book ≡ old.book
+  pub house : new.house ≡ old.house
+  pub seen : new.seen ≡ old.seen
+  pub mine : new.mine ≡ old.mine
+  pub joined : new.joined ≡ old.joined
+  pub turn : new.turn ≡ old.turn
+  pub spare : new.spare ≡ 0
+
+-- so many workers with 64 spare ones each are split off
+pub record SplitsWorkers (count : ℕ) (old new : Worker) : Type 0 where
+  pub house : new.house ≡ old.house
+  pub made : new.made ≡ old.made
+  pub misses : new.misses ≡ old.misses
+  pub spare : new.spare + 65 * count ≡ old.spare
+
+module _ {E : Type 0} where
+  -- sessions count from 1, in order
+  abbrev pub Numbered : List (Work E) → Type 0
+  Numbered works = (k : ℕ) (d : Work E) → k < length works → (slice_index_or works k d).number ≡ k + 1
+
+  -- the passes of all works are of one house
+  abbrev pub HaveHouse : House → List (Work E) → Type 0
+  HaveHouse house works = All (λ work. work.pass.house ≡ house) works
+
+  -- the pass of a piece of work
+  abbrev pub pass_of : Work E → View
+  pass_of work = work.pass
+
+  -- what its session told
+  abbrev pub told_of : Work E → Option Transcript
+  told_of work = work.told
+
+  module _ (worker : E → Worker) where
+    -- a piece of work before its session runs
+    pub record IsFresh (book : Book) (count : ℕ) (work : Work E) : Type 0 where
+      pub ready : IsReady book work.pass
+      pub no_seen : work.pass.seen ≡ []
+      pub no_mine : work.pass.mine ≡ []
+      pub no_joined : work.pass.joined ≡ []
+      pub no_spare : work.pass.spare ≡ 0
+      pub kin : (worker work.engine).house ≡ work.pass.house
+      pub seats : (worker work.engine).spare ≡ 64
+      pub no_made : (worker work.engine).made ≡ 0
+      pub no_misses : (worker work.engine).misses ≡ 0
+      pub from_one : 1 ≤ work.number
+      pub at_most : work.number ≤ count
+
+    -- a piece of work that can be joined
+    pub record CanJoin (book : Book) (work : Work E) : Type 0 where
+      pub ready : IsReady book work.pass
+      pub no_joined : work.pass.joined ≡ []
+      pub no_spare : work.pass.spare ≡ 0
+      pub kin : (worker work.engine).house ≡ work.pass.house
+      pub seats : (worker work.engine).spare ≡ 64
+
+    -- what its session told, it did with the bytes of its script
+    abbrev pub RanWhereTold : ℕ → Input → List (List ℕ) → Work E → Type 0
+    RanWhereTold leaf given scripts work =
+        IfSome work.told (HasRun leaf given work.number (bytes_of scripts work.number) (worker work.engine) work.pass)
+
+    -- how many nodes the workers of works made
+    abbrev pub made_by : List (Work E) → ℕ
+    made_by [] = 0
+    made_by (work ∷ works) = (worker work.engine).made + made_by works
+
+    -- the workers of works are joined into one
+    pub record TakesAll (works : List (Work E)) (old new : Worker) : Type 0 where
+      pub own : IsAbsorbed old new
+      pub each : All (λ work. IsAbsorbed (worker work.engine) new) works
+      pub made : new.made ≡ old.made + made_by works
+      pub spare : new.spare ≡ old.spare + 65 * length works
+      pub house : new.house ≡ old.house

@@ -1,0 +1,10 @@
+//! Runs: all sessions at once over one book of names, from the bytes of the scripts to the page.
+#![tactic(auto)]
+
+mod ended;
+mod page;
+mod together;
+mod work;
+
+pub use ended::Ended;
+pub use together::run_all;

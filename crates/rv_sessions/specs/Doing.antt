@@ -1,0 +1,92 @@
+-- What one item of a session did: its turns, and its events, outcome, reply, save and cost on the state that it took.
+use Rattle.std.specs.Prelude.{◌≡◌, ◌+◌, ◌++◌, ℕ, List, [], ◌∷◌, map, Option, Some, None, option_and_then}
+use Rattle.std.specs.Option.{option_map}
+use Rattle.std.specs.List.{AllByRecursion, flat_map}
+use Rattle.rel_model.specs.declared.Rel.{Rel}
+use Rattle.rel_model.specs.Worker.{Worker, set_of, Keeps, MakesAtMost, Rose}
+use Rattle.lang_model.specs.declared.syntax.Item.{Item}
+use Rattle.lang_model.specs.declared.syntax.Script.{Script}
+use Rattle.run_model.specs.declared.event.Event.{Event}
+use Rattle.run_model.specs.declared.outcome.Outcome.{Outcome}
+use Rattle.run_model.specs.declared.outcome.Outcome.TheVariants.{Nodes}
+use Rattle.run_model.specs.Names.{lookup, set}
+use Rattle.run_model.specs.Inputs.{Input}
+use Rattle.run_model.specs.Due.{Workspace, Due, due, gives}
+use Rattle.run_model.specs.Steps.{Ending, Succeeds, Fails, LacksMemory, ending, snapped, asked}
+use Rattle.run_model.specs.Events.{Deed, deed_of, HasDeeds}
+use Rattle.run_model.specs.Outcomes.{IsOutcome}
+use Rattle.run_model.specs.Page.{SavedFile, reply, save_at}
+use Rattle.run_model.specs.Cost.{cost_of_item}
+use Rattle.run_model.specs.Carried.{Carried, carried}
+use Rattle.run_model.specs.Turns.{Turn, put_by, AreTurns}
+use Rattle.run_model.specs.Sessions.{rel_of, HasValuesAt}
+use Rattle.turn_book.specs.Views.{View, IsKept}
+use Rattle.rv_sessions.specs.Standing.{TurnsStand, Kept, KeptStand, meant}
+
+-- ---- turns
+-- a turn is of this command
+abbrev pub IsBy : ℕ → ℕ → Turn → Type 0
+IsBy s c t = (t.put.session ≡ s) × (t.put.command ≡ c)
+
+-- the log that the first of a command's turns took, and none where it has no turn
+abbrev pub first_took : List Turn → List Event
+first_took [] = []
+first_took (t ∷ ts) = t.took
+
+-- what turns do
+abbrev pub deeds_by : List Turn → List Deed
+deeds_by = map (λ t. deed_of t.put.act)
+
+-- the relations that turns assign
+abbrev pub rels_by : List Turn → List Rel
+rels_by = flat_map (λ t. rel_of t.put.act)
+
+-- a pass went through these turns, whose events are its own
+pub record GoesThrough (ts : List Turn) (before after : View) : Type 0 where
+  pub turns : AreTurns ts before.seen after.seen
+  pub mine : after.mine ≡ before.mine ++ map put_by ts
+  pub kept : IsKept before after
+
+-- ---- snapshots
+-- a snapshot of this name, where there is one to keep, takes the place of an earlier one
+abbrev pub keep : Option (List ℕ) → Carried → Kept → Kept
+keep None state snaps = snaps
+keep (Some name) state snaps = set name state snaps
+
+-- what an item that ended so leaves: a SNAP that is done keeps what it took
+abbrev pub kept_behind : Ending → Item → Carried → Kept → Kept
+kept_behind Succeeds item state snaps = keep (snapped item) state snaps
+kept_behind Fails item state snaps = snaps
+kept_behind LacksMemory item state snaps = snaps
+
+-- the snapshot that an item asks, as it means in a worker
+abbrev pub snap_meant : Worker → Item → Kept → Option Workspace
+snap_meant w item snaps = option_map (meant w) (option_and_then (lookup snaps) (asked item))
+
+-- ---- items
+-- the workspace that the first of an item's turns took
+abbrev pub state_of_turns : Worker → List Turn → Workspace
+state_of_turns w ts = meant w (carried (first_took ts))
+
+-- what is due of an item on what it took
+abbrev pub due_on : Input → Script → Item → Worker → Kept → List Turn → Due
+due_on input script item w snaps ts = due input script item (state_of_turns w ts) (snap_meant w item snaps)
+
+-- item c of session s, in a worker with leaves of this height
+pub record Did (leaf : ℕ) (input : Input) (script : Script) (s c : ℕ) (item : Item) (old new : Worker)
+    (before after : View) (snaps left : Kept) (outcome : Outcome) (text : List ℕ) (saved : List SavedFile) : Type 0 where
+  pub ts : List Turn
+  pub through : GoesThrough ts before after
+  pub own : AllByRecursion (IsBy s c) ts
+  pub stand : TurnsStand new ts
+  pub deeds : HasDeeds (ending outcome) item (due_on input script item new snaps ts) (deeds_by ts)
+  pub lawful : IsOutcome item (due_on input script item new snaps ts) outcome
+  pub values : HasValuesAt (ending outcome) (set_of new) (rels_by ts) (gives item (due_on input script item new snaps ts))
+  pub text_is : text ≡ reply s c item (due_on input script item new snaps ts) outcome
+  pub saved_is : saved ≡ save_at (ending outcome) item (due_on input script item new snaps ts)
+  pub snaps_left : left ≡ kept_behind (ending outcome) item (carried (first_took ts)) snaps
+  pub snaps_stand : KeptStand new left
+  pub room : MakesAtMost (cost_of_item leaf input script item (state_of_turns new ts) (snap_meant new item snaps)
+      (due_on input script item new snaps ts)) old new
+  pub missed : outcome ≡ Nodes → Rose old.misses new.misses
+  pub keeps : Keeps old new

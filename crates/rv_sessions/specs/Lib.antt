@@ -1,0 +1,5 @@
+pub mod Telling
+pub mod Standing
+pub mod Doing
+pub mod Running
+pub mod Sessions

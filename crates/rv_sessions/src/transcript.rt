@@ -1,0 +1,44 @@
+//! What a session is given and what it tells.
+use lang_model::syntax::FileText;
+use run_model::outcome::Outcome;
+
+/// A relation file of the command line.
+#[derive(Drop)]
+pub struct Loaded {
+    pub name: String,
+    pub bytes: Vec<u8>,
+}
+
+/// A file to be put after the page.
+#[derive(Drop)]
+pub struct Save {
+    pub name: FileText,
+    pub bytes: Vec<u8>,
+}
+
+/// The reply to a command, behind the numbers of its session and its own.
+#[derive(Drop)]
+pub enum Reply {
+    /// None: the command is done, and shows nothing.
+    Nothing,
+    /// A text of its own.
+    Told {
+        session: u32,
+        command: u32,
+        body: Vec<u8>,
+    },
+    /// That memory ran out, for which no memory is taken.
+    NoMemory {
+        session: u32,
+        command: u32,
+    },
+}
+
+/// What came of a session: of each item its outcome and its reply, and the files to be put, in order. A script that does
+/// not run has one outcome and one reply, with number 0.
+#[derive(Drop)]
+pub struct Transcript {
+    pub replies: Vec<Reply>,
+    pub saves: Vec<Save>,
+    pub outcomes: Vec<Outcome>,
+}
