@@ -1,0 +1,13 @@
+//! Relation files of version 1: the bits of a k²-tree behind a header.
+#![tactic(auto)]
+
+mod bits;
+mod corners;
+mod header;
+mod levels;
+mod limits;
+mod read;
+mod sides;
+
+pub use limits::{HEADER, SAVE_LIMIT};
+pub use read::read_k2;
