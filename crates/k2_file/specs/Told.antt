@@ -5,6 +5,7 @@ use Rattle.run_model.specs.declared.outcome.BadFile.{BadFile}
 use Rattle.run_model.specs.declared.outcome.BadFile.TheVariants.{Short, Magic, Sizes, Height, Lengths, ZeroGroup, Outside, Padding, Rest, Full, NoMemory}
 use Rattle.lang_model.specs.Tokens.{same_text}
 use Rattle.rel_model.specs.Relation.{size_limit}
+use Rattle.rel_model.specs.Listed.{AreWithin}
 use Rattle.run_model.specs.Files.{
   Corner,
   unpacked,
@@ -136,3 +137,4 @@ pub record IsListed (bytes : List ℕ) (listed : Listed) : Type 0 where
   pub row_limit : listed.shape.rows ≤ size_limit
   pub col_limit : listed.shape.cols ≤ size_limit
   pub pairs_are : listed.pairs.items ≡ pairs_told bytes
+  pub inside : AreWithin listed.shape.rows listed.shape.cols listed.pairs.items

@@ -1,5 +1,5 @@
 //! Submatrices, each by its first row and its first column.
-ghost use Rattle.std.specs.Prelude.{◌≡◌, ◌<◌, ◌≤◌, ◌+◌, ◌*◌, ◌^◌, ◌++◌, OnOk, IfOk, length, drop};
+ghost use Rattle.std.specs.Prelude.{◌≡◌, ◌<◌, ◌≤◌, ◌+◌, ◌*◌, ◌^◌, ◌++◌, ◌&&◌, ◌∷◌, [], not, nat_lt, cond, OnOk, IfOk, length, drop};
 ghost use Rattle.std.specs.List.{flat_map};
 ghost use Rattle.run_model.specs.Files.{quarters, chosen, cell_outside};
 ghost use Rattle.k2_file.specs.Told.{bits_told, AreInside};
@@ -40,6 +40,16 @@ pub(crate) fn quarters_of(
     Ok(out)
 }
 
+/// Adds a submatrix whose bit is set.
+fn push_if(out: &mut Vec<(u32, u32)>, is_set: bool, corner: (u32, u32)) -> Result<(), AllocError>
+    ensures { OnOk result (out.new.items ≡ out.old.items ++ cond is_set (corner ∷ []) []) }
+{
+    if is_set {
+        out.push(corner)?;
+    }
+    Ok(())
+}
+
 /// The submatrices whose bits, from a place on, are set.
 pub(crate) fn chosen_of(
     alloc: Global,
@@ -52,11 +62,16 @@ pub(crate) fn chosen_of(
 {
     let mut out = Vec::new(alloc);
     'corners: for i in 0..corners.len() {
-        if bits.is_set(from + i as u64) {
-            out.push(corners[i])?;
-        }
+        push_if(&mut out, bits.is_set(from + i as u64), corners[i])?;
     }
     Ok(out)
+}
+
+/// Whether a cell is set and outside the sizes.
+fn is_set_outside(rows: u32, cols: u32, cell: (u32, u32), is_set: bool) -> bool
+    ensures { result ≡ (is_set && not (nat_lt cell.0 rows && nat_lt cell.1 cols)) }
+{
+    is_set && !(cell.0 < rows && cell.1 < cols)
 }
 
 /// The number of the first cell outside the sizes whose bit is set, counted from a number.
@@ -72,7 +87,7 @@ pub(crate) fn first_outside(
     ensures { result ≡ cell_outside rows cols at cells.now (bits_told bits.now.count bits.now.bytes.now) }
 {
     'cells: for i in 0..cells.len() {
-        if bits.is_set(i as u64) && (rows <= cells[i].0 || cols <= cells[i].1) {
+        if is_set_outside(rows, cols, cells[i], bits.is_set(i as u64)) {
             return Some(at + i as u64);
         }
     }

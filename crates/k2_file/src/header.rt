@@ -1,5 +1,6 @@
 //! The header of a relation file: its name, sizes, height and counts of bits.
-ghost use Rattle.std.specs.Prelude.{◌≡◌, ◌<◌, ◌≤◌, ◌+◌, ◌*◌, ◌^◌, IfOk, length, result_err};
+ghost use Rattle.std.specs.Prelude.{◌≡◌, ◌<◌, ◌≤◌, ◌+◌, ◌*◌, ◌^◌, IfOk, length};
+ghost use Rattle.std.specs.Result.{result_err};
 ghost use Rattle.run_model.specs.Files.{bytes_for, part};
 ghost use Rattle.k2_file.specs.Told.{AreFields, IsHeader, groups_of, header_fault};
 
@@ -108,7 +109,10 @@ pub(crate) fn read_header(bytes: &[u8]) -> Result<Header, BadFile>
         return Err(BadFile::Magic);
     }
     let header = Header::decode(bytes);
-    if SIZE_LIMIT < header.rows || SIZE_LIMIT < header.cols {
+    if SIZE_LIMIT < header.rows {
+        return Err(BadFile::Sizes);
+    }
+    if SIZE_LIMIT < header.cols {
         return Err(BadFile::Sizes);
     }
     if header.height != height_of_file(header.rows, header.cols) {

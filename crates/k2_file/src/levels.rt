@@ -1,5 +1,5 @@
 //! The levels of a file's tree: whether its bits are theirs, its groups of four, and the cells that it tells of.
-ghost use Rattle.std.specs.Prelude.{◌≡◌, ◌<◌, ◌≤◌, ◌+◌, ◌-◌, ◌*◌, ◌^◌, ◌++◌, IfOk, length, take, drop, true, false};
+ghost use Rattle.std.specs.Prelude.{◌≡◌, ◌==◌, ◌<◌, ◌≤◌, ◌+◌, ◌-◌, ◌*◌, ◌^◌, ◌++◌, IfOk, length, take, drop, true, false};
 ghost use Rattle.std.specs.List.{flat_map, slice_index_or};
 ghost use Rattle.run_model.specs.Files.{whole, quarters, chosen, levels_fit, zero_group, cells_below};
 ghost use Rattle.k2_file.specs.Told.{bits_told, groups_of, group_is_set, fault_of_levels, AreInside};
@@ -25,7 +25,17 @@ fn do_levels_fit(tree: &Bits<'_>, levels: u8, first: u64, cell_count: u64) -> bo
         groups = tree.ones(from, width);
         from += width;
     }
-    from == tree.count && cell_count % 4 == 0 && cell_count / 4 == groups
+    if from != tree.count {
+        return false;
+    }
+    are_of_groups(cell_count, groups)
+}
+
+/// Whether these are the cells of so many groups of four.
+fn are_of_groups(cells: u64, groups: u64) -> bool
+    ensures { result ≡ (cells == 4 * groups) }
+{
+    cells % 4 == 0 && cells / 4 == groups
 }
 
 /// Whether a bit of T and L, one behind the other, is set.
@@ -102,7 +112,7 @@ fn next_level(
     ensures { IfOk result (λ v. v.items ≡ chosen (flat_map (quarters (2 ^ level)) corners.now) (drop from (bits_told tree.now.count tree.now.bytes.now))) }
 {
     let quarters = quarters_of(alloc, side_of(level), corners)?;
-    chosen_of(alloc, &quarters, tree, from)
+    chosen_of(alloc, quarters.as_slice(), tree, from)
 }
 
 /// The whole matrix, unless the relation is empty.
@@ -133,8 +143,8 @@ pub(crate) fn cells_of(
     let mut from = 0;
     'levels: for done in 1..header.height {
         let width = 4 * corners.len() as u64;
-        corners = next_level(alloc, tree, header.height - done, &corners, from)?;
+        corners = next_level(alloc, tree, header.height - done, corners.as_slice(), from)?;
         from += width;
     }
-    quarters_of(alloc, 1, &corners)
+    quarters_of(alloc, 1, corners.as_slice())
 }

@@ -119,7 +119,10 @@ fn fault_in_end(
     requires cell_bytes { cells.now.bytes.now ≡ part bytes.now (29 + bytes_for header.now.tree_count) (bytes_for header.now.cell_count) }
     ensures { result ≡ end_fault bytes.now }
 {
-    if tree.padding() != 0 || cells.padding() != 0 {
+    if tree.padding() != 0 {
+        return Some(BadFile::Padding);
+    }
+    if cells.padding() != 0 {
         return Some(BadFile::Padding);
     }
     if bytes.len() as u64 != header.end() {

@@ -1,0 +1,10 @@
+pub mod ReadApart
+pub mod ReadBits
+pub mod ReadCounting
+pub mod ReadFaults
+pub mod ReadGroups
+pub mod ReadHeader
+pub mod ReadLevels
+pub mod ReadListed
+pub mod ReadPowers
+pub mod ReadWalk
