@@ -7,8 +7,9 @@ use Rattle.run_model.specs.declared.outcome.BadFile.{BadFile}
 use Rattle.run_model.specs.declared.outcome.BadFile.TheVariants.{Short, Magic, Sizes, Height}
 use Rattle.lang_model.specs.Tokens.{same_text}
 use Rattle.rel_model.specs.Relation.{size_limit}
-use Rattle.run_model.specs.Files.{header_length, fields, part, file_height, unless, first_of_all}
-use Rattle.k2_file.specs.Told.{end_of, header_fault}
+use Rattle.run_model.specs.Files.{header_length, bytes_for, fields, part, file_height, unless, first_of_all}
+use Rattle.k2_file.specs.declared.header.Header.{Header}
+use Rattle.k2_file.specs.Told.{AreFields, end_of, header_fault}
 
 -- byteorder's numbers are std's
 pub number_4 : (xs : List ℕ) → big_number 4 xs ≡ from_be_bytes w32 xs
@@ -110,3 +111,15 @@ module _ (bytes : List ℕ) where
         five-header bytes ∙ five-5 _ _ _ _ _ (le-leb 29 (length bytes) l) n sizes-pass
         (eq-eqb (fields bytes).height (file_height (fields bytes).rows (fields bytes).cols) h)
         ∙ five-none _ (le-leb (end_of bytes) (length bytes) e)
+
+-- ---- by a header
+module _ (bytes : List ℕ) (h : Header) (w : AreFields bytes h) where
+  pub same-height : file_height h.rows h.cols ≡ file_height (fields bytes).rows (fields bytes).cols
+  same-height = ap (λ (n : ℕ). file_height n h.cols) w.rows_are ∙ ap (λ (n : ℕ). file_height (fields bytes).rows n) w.cols_are
+
+  pub same-end : 29 + bytes_for h.tree_count + bytes_for h.cell_count ≡ end_of bytes
+  same-end = ap (λ (n : ℕ). 29 + bytes_for n + bytes_for h.cell_count) w.tree_is ∙ ap (λ (n : ℕ). 29 + bytes_for (fields bytes).tree_count + bytes_for n) w.cells_are
+
+pub height-least : (rows cols : ℕ) → 1 ≤ file_height rows cols
+unfolding file_height
+height-least rows cols = omega arith

@@ -1,9 +1,12 @@
 -- The levels of a tree's bits, and how many bits they are at most.
-use Rattle.std.proofs.Common.{◌≡◌, ◌==◌, ◌&&◌, ◌+◌, ◌-◌, ◌*◌, ◌/◌, ◌^◌, ◌<◌, ◌≤◌, ℕ, zero, suc, Bool, true, false, cond, leb, List, [], ◌∷◌, length, take, drop, refl, sym, ap, ◌∙◌, arith}
+use Rattle.std.proofs.Common.{◌≡◌, ◌==◌, ◌&&◌, ◌+◌, ◌-◌, ◌*◌, ◌/◌, ◌^◌, ◌<◌, ◌≤◌, ℕ, zero, suc, Bool, true, false, cond, leb, Option, None, List, [], ◌∷◌, ◌++◌, length, take, drop, refl, sym, ap, ◌∙◌, arith}
 use Rattle.std.proofs.lemmas.List.{length-drop, length-take, drop-drop, drop_all, drop_more}
 use Rattle.std.proofs.lemmas.Bool.{and_parts, leb-true, le-leb, lt-leb, eqb-true, false≢true}
 use Rattle.std.proofs.Math.Nat.{mul-le-mul_left, mul-le-mul_right, pow-le-pow_right}
-use Rattle.run_model.specs.Files.{number_of_bit, ones, no_bits, levels_fit}
+use Rattle.run_model.specs.Files.{number_of_bit, ones, no_bits, levels_fit, zero_group, unless, found_at, first_of_all}
+use Rattle.run_model.specs.declared.outcome.BadFile.{BadFile}
+use Rattle.run_model.specs.declared.outcome.BadFile.TheVariants.{Lengths, ZeroGroup}
+use Rattle.k2_file.specs.Told.{groups_of, fault_of_levels}
 
 -- so many levels are passed: those that are left fit exactly where all do
 pub record IsLevel (levels first : ℕ) (xs : List Bool) (cell_count done groups from : ℕ) : Type 0 where
@@ -105,3 +108,21 @@ fit-few k g bits cell_count h l one =
     let c = most-lt k in
     let d : 2 ^ (2 * k + 3) ≤ 2 ^ 49 = pow-le-pow_right {n = 2} (omega arith) {i = 2 * k + 3} {j = 49} (omega arith) in
     omega (arith, a, b, c, d)
+
+-- one group at most
+pub groups-few : (tree_count cell_count : ℕ) → groups_of tree_count cell_count ≤ 1
+groups-few tree_count cell_count = one ((tree_count == 0) && (cell_count == 0))
+  where
+    one : (b : Bool) → cond b 0 1 ≤ 1
+    one true = omega arith
+    one false = omega arith
+
+levels-pass : (b : Bool) (o : Option BadFile) → first_of_all (unless b Lengths ∷ o ∷ []) ≡ None → b ≡ true
+levels-pass true o h = refl
+levels-pass false o h = cc
+
+-- where the tests of the levels pass, the levels fit
+pub levels-good : (height groups : ℕ) (tree cells : List Bool) (cell_count : ℕ) → fault_of_levels height groups tree cells cell_count ≡ None
+    → levels_fit (height - 1) groups tree cell_count ≡ true
+levels-good height groups tree cells cell_count h =
+    levels-pass (levels_fit (height - 1) groups tree cell_count) (found_at ZeroGroup (zero_group 0 (tree ++ cells))) h

@@ -207,10 +207,15 @@ pub record NoneOutside (rows cols at : ℕ) (ps : List Corner) (xs : List Bool) 
 pub outside-none : (rows cols at : ℕ) (ps : List Corner) (xs : List Bool) → NoneOutside rows cols at ps xs 0
 outside-none rows cols at ps xs = let e : at + 0 ≡ at = omega arith in record { same = ap (λ (n : ℕ). cell_outside rows cols n ps xs) (sym e) }
 
-pub outside-more : (rows cols at : ℕ) (ps : List Corner) (xs : List Bool) (i : ℕ) (d : Corner) → NoneOutside rows cols at ps xs i → i < length ps → i < length xs
-    → (get_or xs i false && not (ltb (get_or ps i d).0 rows && ltb (get_or ps i d).1 cols)) ≡ false → NoneOutside rows cols at ps xs (i + 1)
-outside-more rows cols at ps xs i d w l m t =
-    record { same = w.same ∙ outside-step rows cols at ps xs i d l m ∙ ap (λ b. cond b (Some (at + i)) (cell_outside rows cols (at + (i + 1)) (drop (i + 1) ps) (drop (i + 1) xs))) t }
+pub outside-more : (rows cols at : ℕ) (ps : List Corner) (xs : List Bool) (i : ℕ) (d : Corner) (b : Bool) → NoneOutside rows cols at ps xs i → i < length ps → i < length xs
+    → b ≡ get_or xs i false → false ≡ (b && not (ltb (get_or ps i d).0 rows && ltb (get_or ps i d).1 cols)) → NoneOutside rows cols at ps xs (i + 1)
+outside-more rows cols at ps xs i d b w l m s t =
+    let p = get_or ps i d in
+    let rest = cell_outside rows cols (at + (i + 1)) (drop (i + 1) ps) (drop (i + 1) xs) in
+    record {
+      same = w.same ∙ outside-step rows cols at ps xs i d l m
+          ∙ ap (λ c. cond c (Some (at + i)) rest) (ap (λ c. c && not (ltb p.0 rows && ltb p.1 cols)) (sym s) ∙ sym t)
+    }
 
 pub outside-here : (rows cols at : ℕ) (ps : List Corner) (xs : List Bool) (i : ℕ) (d : Corner) → NoneOutside rows cols at ps xs i → i < length ps → i < length xs
     → (get_or xs i false && not (ltb (get_or ps i d).0 rows && ltb (get_or ps i d).1 cols)) ≡ true → cell_outside rows cols at ps xs ≡ Some (at + i)

@@ -1,5 +1,6 @@
 //! The header of a relation file: its name, sizes, height and counts of bits.
-ghost use Rattle.std.specs.Prelude.{◌≡◌, ◌<◌, ◌≤◌, ◌+◌, ◌*◌, ◌^◌, IfOk, length};
+ghost use Rattle.std.specs.Prelude.{◌≡◌, ◌<◌, ◌≤◌, ◌+◌, ◌*◌, ◌^◌, IfOk, length, take, codes};
+ghost use Rattle.lang_model.specs.Tokens.{same_text};
 ghost use Rattle.std.specs.Result.{result_err};
 ghost use Rattle.run_model.specs.Files.{bytes_for, part};
 ghost use Rattle.k2_file.specs.Told.{AreFields, IsHeader, groups_of, header_fault};
@@ -97,6 +98,14 @@ fn part_of(bytes: &[u8], at: u64, count: u64) -> Bits<'_>
     Bits { bytes, count }
 }
 
+/// Whether the bytes begin with the name of the format.
+fn has_name(bytes: &[u8]) -> bool
+    requires { 4 ≤ length bytes.now }
+    ensures { result ≡ same_text (take 4 bytes.now) (codes "RVK1") }
+{
+    &bytes[..4] == b"RVK1".as_slice()
+}
+
 /// The header of a file, or the first of its tests that the bytes fail.
 pub(crate) fn read_header(bytes: &[u8]) -> Result<Header, BadFile>
     ensures header { IfOk result (IsHeader bytes.now) }
@@ -105,7 +114,7 @@ pub(crate) fn read_header(bytes: &[u8]) -> Result<Header, BadFile>
     if bytes.len() < HEADER {
         return Err(BadFile::Short);
     }
-    if &bytes[..4] != b"RVK1".as_slice() {
+    if !has_name(bytes) {
         return Err(BadFile::Magic);
     }
     let header = Header::decode(bytes);

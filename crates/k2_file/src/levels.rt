@@ -146,5 +146,6 @@ pub(crate) fn cells_of(
         corners = next_level(alloc, tree, header.height - done, corners.as_slice(), from)?;
         from += width;
     }
-    quarters_of(alloc, 1, corners.as_slice())
+    let cells = quarters_of(alloc, 1, corners.as_slice())?;
+    Ok(cells)
 }

@@ -30,3 +30,19 @@ levels-preserved c =
     subst (λ (g : ℕ). IsLevel c.args.levels c.args.first xs c.args.cell_count (c.levels.counter + 1) g (c.levels.from + 4 * c.levels.groups)) (sym c.ones-groups.ensures.value)
     (level-more c.args.levels c.args.first xs c.args.cell_count c.levels.counter c.levels.groups c.levels.from c.levels.invariant c.levels-test.true
     (subst (λ (m : ℕ). c.levels.groups ≤ (m - c.levels.from) / 4) (sym n) c.if-tree-from.false))
+
+pub returns-then-from-tree : goal.returns-then-from-tree
+returns-then-from-tree c =
+    let tree = c.args.tree.now in
+    let xs = bits_told tree.count tree.bytes.now in
+    let n : length xs ≡ tree.count = length-told tree.count tree.bytes.now tree.fits in
+    sym (level-left c.args.levels c.args.first xs c.args.cell_count c.levels.counter c.levels.groups c.levels.from c.levels.invariant c.levels-test.false
+    (λ e. c.if-from-tree.true (e ∙ n)))
+
+pub returns : goal.returns
+returns c =
+    let tree = c.args.tree.now in
+    let xs = bits_told tree.count tree.bytes.now in
+    let n : length xs ≡ tree.count = length-told tree.count tree.bytes.now tree.fits in
+    c.are_of_groups.ensures
+    ∙ sym (level-all c.args.levels c.args.first xs c.args.cell_count c.levels.counter c.levels.groups c.levels.from c.levels.invariant c.levels-test.false (c.if-from-tree.false ∙ sym n))
