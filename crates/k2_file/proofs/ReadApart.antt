@@ -2,7 +2,7 @@
 -- 1. Two submatrices of a side are apart where no place lies in both. A list is apart where each is apart from all that follow.
 -- 2. The quarters of one submatrix are apart, and so are quarters of two that are apart, since a quarter lies in its whole.
 -- 3. To choose keeps a list apart. So the cells of each level are apart, down to side 1, where apart is distinct.
-use Rattle.std.proofs.Common.{◌≡◌, ◌==◌, ◌&&◌, ◌||◌, ◌+◌, ◌*◌, ◌^◌, ◌<◌, ◌≤◌, ℕ, zero, suc, Bool, true, false, List, [], ◌∷◌, ◌++◌, length, take, drop, refl, sym, ap, ◌∙◌, subst, inl, inr, arith}
+use Rattle.std.proofs.Common.{◌≡◌, ◌==◌, ◌&&◌, ◌+◌, ◌^◌, ◌<◌, ◌≤◌, ℕ, zero, suc, Bool, true, false, List, [], ◌∷◌, ◌++◌, length, take, drop, refl, subst, arith}
 use Rattle.std.specs.List.{AllByRecursion, flat_map}
 use Rattle.std.proofs.lemmas.Bool.{and_parts, eqb-true, false_from_ne_true, or_from}
 use Rattle.rel_model.specs.Listed.{is_among}
@@ -46,9 +46,13 @@ all-chosen P (p ∷ ps) (false ∷ bits) h = all-chosen P ps bits h.1
 covers-quarters : (side : ℕ) (p : Corner) → AllByRecursion (Covers side p) (quarters side p)
 covers-quarters side p = (
   (λ i j (w : LiesIn side p i j). record { south = omega arith; north = omega arith; east = omega arith; west = omega arith }),
-  ((λ i j (w : LiesIn side (p.0, p.1 + side) i j). record { south = omega arith; north = omega arith; east = omega arith; west = omega arith }),
-  ((λ i j (w : LiesIn side (p.0 + side, p.1) i j). record { south = omega arith; north = omega arith; east = omega arith; west = omega arith }),
-  ((λ i j (w : LiesIn side (p.0 + side, p.1 + side) i j). record { south = omega arith; north = omega arith; east = omega arith; west = omega arith }), tt)))
+  (
+    (λ i j (w : LiesIn side (p.0, p.1 + side) i j). record { south = omega arith; north = omega arith; east = omega arith; west = omega arith }),
+    (
+      (λ i j (w : LiesIn side (p.0 + side, p.1) i j). record { south = omega arith; north = omega arith; east = omega arith; west = omega arith }),
+      ((λ i j (w : LiesIn side (p.0 + side, p.1 + side) i j). record { south = omega arith; north = omega arith; east = omega arith; west = omega arith }), tt),
+    ),
+  ),
 )
 
 apart-inside : (side : ℕ) (p q a b : Corner) → Apart (side + side) p q → Covers side p a → Covers side q b → Apart side a b
@@ -60,13 +64,23 @@ apart-from side p a x q h = all-weaker (Covers side q) (Apart side a) (λ b y. a
 
 apart-own : (side : ℕ) (p : Corner) → AreApart side (quarters side p)
 apart-own side p = (
-  ((λ i j (v : LiesIn side p i j) (w : LiesIn side (p.0, p.1 + side) i j). absurd (omega arith)),
-  ((λ i j (v : LiesIn side p i j) (w : LiesIn side (p.0 + side, p.1) i j). absurd (omega arith)),
-  ((λ i j (v : LiesIn side p i j) (w : LiesIn side (p.0 + side, p.1 + side) i j). absurd (omega arith)), tt))),
-  ((((λ i j (v : LiesIn side (p.0, p.1 + side) i j) (w : LiesIn side (p.0 + side, p.1) i j). absurd (omega arith)),
-  ((λ i j (v : LiesIn side (p.0, p.1 + side) i j) (w : LiesIn side (p.0 + side, p.1 + side) i j). absurd (omega arith)), tt))),
-  (((λ i j (v : LiesIn side (p.0 + side, p.1) i j) (w : LiesIn side (p.0 + side, p.1 + side) i j). absurd (omega arith)), tt),
-  (tt, tt)))
+  (
+    (λ i j (v : LiesIn side p i j) (w : LiesIn side (p.0, p.1 + side) i j). absurd (omega arith)),
+    (
+      (λ i j (v : LiesIn side p i j) (w : LiesIn side (p.0 + side, p.1) i j). absurd (omega arith)),
+      ((λ i j (v : LiesIn side p i j) (w : LiesIn side (p.0 + side, p.1 + side) i j). absurd (omega arith)), tt),
+    ),
+  ),
+  (
+    ((
+      (λ i j (v : LiesIn side (p.0, p.1 + side) i j) (w : LiesIn side (p.0 + side, p.1) i j). absurd (omega arith)),
+      ((λ i j (v : LiesIn side (p.0, p.1 + side) i j) (w : LiesIn side (p.0 + side, p.1 + side) i j). absurd (omega arith)), tt),
+    )),
+    (
+      ((λ i j (v : LiesIn side (p.0 + side, p.1) i j) (w : LiesIn side (p.0 + side, p.1 + side) i j). absurd (omega arith)), tt),
+      (tt, tt),
+    ),
+  ),
 )
 
 apart-append : (side : ℕ) (xs ys : List Corner) → AreApart side xs → AreApart side ys → AllByRecursion (λ x. AllByRecursion (Apart side x) ys) xs

@@ -2,9 +2,9 @@
 -- 1. Two tests that never both pass: what passes one of them is counted by both counts together.
 -- 2. A pair of the grid is found there once at least.
 -- 3. So by induction on the list: its first pair, and the pairs of its rest, in which the first is not.
-use Rattle.std.proofs.Common.{◌≡◌, ◌==◌, ◌&&◌, ◌||◌, ◌+◌, ◌<◌, ◌≤◌, ℕ, Bool, true, false, cond, List, [], ◌∷◌, length, refl, sym, ap, ◌∙◌, arith}
-use Rattle.std.specs.List.{filter, list_any, AllByRecursion}
-use Rattle.std.proofs.lemmas.Bool.{false≢true, and_parts, and_from, eqb-true, eq-eqb, both_ways}
+use Rattle.std.proofs.Common.{◌≡◌, ◌==◌, ◌&&◌, ◌||◌, ◌+◌, ◌≤◌, ℕ, Bool, true, false, cond, List, [], ◌∷◌, length, refl, ap, ◌∙◌, arith}
+use Rattle.std.specs.List.{filter, list_any}
+use Rattle.std.proofs.lemmas.Bool.{false≢true, and_parts, eqb-true, both_ways}
 use Rattle.std.proofs.lemmas.Bool.Decides.{nat_tests}
 use Rattle.rel_model.specs.Relation.{grid, relation_of}
 use Rattle.rel_model.specs.Listed.{AreWithin, is_among}
@@ -53,8 +53,8 @@ length-among rows cols (p ∷ ps) w d =
     let never : (q : ℕ × ℕ) → own q ≡ true → others q ≡ true → ⊥ = λ q a b. apart q a b in
     let sum = either-filter own others never (grid rows cols) in
     let one : 1 ≤ length (filter own (grid rows cols)) =
-      some-filter own (grid rows cols)
-      (any-agree own (λ q. (q.0 == p.0) && (q.1 == p.1)) (λ q. turned q) (grid rows cols) ∙ grid-member rows cols p.0 p.1 w.0.0 w.0.1) in
+    some-filter own (grid rows cols)
+    (any-agree own (λ q. (q.0 == p.0) && (q.1 == p.1)) (λ q. turned q) (grid rows cols) ∙ grid-member rows cols p.0 p.1 w.0.0 w.0.1) in
     let rest : length ps ≤ length (filter others (grid rows cols)) = length-among rows cols ps w.1 d.1 in
     omega (arith, sum, one, rest)
   where

@@ -1,11 +1,11 @@
 -- The tests of a file in the groups in which they are made: the header, the levels, the cells and the end.
-use Rattle.std.proofs.Common.{◌≡◌, ◌==◌, ◌&&◌, ◌+◌, ◌-◌, ◌≤◌, ◌<◌, ℕ, Bool, true, false, cond, leb, List, [], ◌∷◌, ◌++◌, length, take, drop, codes, nat_le, Option, Some, None, refl, sym, ap, ◌∙◌, arith}
+use Rattle.std.proofs.Common.{◌≡◌, ◌==◌, ◌&&◌, ◌-◌, ℕ, Bool, true, false, List, [], ◌∷◌, ◌++◌, length, take, drop, codes, nat_le, Option, Some, None, refl, ap, ◌∙◌}
 use Rattle.run_model.specs.declared.outcome.BadFile.{BadFile}
 use Rattle.run_model.specs.declared.outcome.BadFile.TheVariants.{Short, Magic, Sizes, Height, Lengths, ZeroGroup, Outside, Padding, Rest, Full, NoMemory}
 use Rattle.lang_model.specs.Missing.{first_of_both}
 use Rattle.lang_model.specs.Tokens.{same_text}
 use Rattle.rel_model.specs.Relation.{size_limit}
-use Rattle.run_model.specs.Files.{Fields, bytes_for, header_length, fields, file_height, levels_fit, first_groups, zero_group, cells_told, cell_outside, ones, unless, found_at, first_of_all, k2_fault}
+use Rattle.run_model.specs.Files.{header_length, fields, file_height, levels_fit, first_groups, zero_group, cells_told, cell_outside, ones, unless, found_at, first_of_all, k2_fault}
 use Rattle.k2_file.specs.Told.{end_of, header_fault, fault_of_levels, outside_fault, end_fault, IsFaultOf}
 
 -- the tests of the levels

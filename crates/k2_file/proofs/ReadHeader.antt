@@ -1,5 +1,5 @@
 -- The numbers of a header, and the first of its tests that fails.
-use Rattle.std.proofs.Common.{◌≡◌, ◌==◌, ◌&&◌, ◌+◌, ◌-◌, ◌*◌, ◌^◌, ◌≤◌, ◌<◌, ℕ, Bool, true, false, leb, eqb, List, [], ◌∷◌, length, take, drop, get_or, codes, Option, Some, None, refl, sym, ap, ◌∙◌, arith}
+use Rattle.std.proofs.Common.{◌≡◌, ◌==◌, ◌&&◌, ◌+◌, ◌≤◌, ◌<◌, ℕ, Bool, true, false, leb, List, [], ◌∷◌, length, take, get_or, codes, Option, Some, None, refl, ap, ◌∙◌, arith}
 use Rattle.std.specs.Int.{w32, w64, from_be_bytes}
 use Rattle.byteorder.specs.Endian.{big_number}
 use Rattle.std.proofs.lemmas.Bool.{le-leb, lt-leb, and_from, and_left, and_right, eq-eqb, ne_eqb}

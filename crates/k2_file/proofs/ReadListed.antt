@@ -1,16 +1,16 @@
 -- What a file's parts tell, by its header; and the relation of the cells that are listed.
-use Rattle.std.proofs.Common.{◌≡◌, ◌==◌, ◌&&◌, ◌+◌, ◌-◌, ◌*◌, ◌≤◌, ◌<◌, ℕ, Bool, true, false, cond, leb, List, [], ◌∷◌, length, take, drop, Option, Some, None, Err, refl, sym, ap, ◌∙◌, subst, arith}
-use Rattle.std.proofs.lemmas.Bool.{and_from, eq-eqb, ne_eqb, and_left, and_right}
+use Rattle.std.proofs.Common.{◌≡◌, ◌==◌, ◌&&◌, ◌+◌, ◌-◌, ◌*◌, ◌≤◌, ℕ, Bool, true, false, List, [], ◌∷◌, length, take, drop, Option, Some, None, Err, refl, sym, ap, ◌∙◌, subst, arith}
+use Rattle.std.proofs.lemmas.Bool.{eq-eqb, ne_eqb}
 use Rattle.std.proofs.Math.Nat.{mul-le-mul_right}
 use Rattle.rel_model.specs.declared.Rel.{Rel}
 use Rattle.rel_model.specs.Relation.{Relation, relation_of}
 use Rattle.rel_model.specs.Listed.{is_among}
 use Rattle.rel_model.specs.Roots.{height_over}
-use Rattle.rel_model.specs.Worker.{Worker, Gives, MakesAtMost, MissesNothing, listed_room}
+use Rattle.rel_model.specs.Worker.{Worker, Gives, listed_room}
 use Rattle.run_model.specs.declared.outcome.BadFile.{BadFile}
 use Rattle.run_model.specs.declared.outcome.BadFile.TheVariants.{Short, Magic, Sizes, Height, Lengths, ZeroGroup, Outside, Padding, Rest, Full, NoMemory}
 use Rattle.run_model.specs.Cost.{listed_cost}
-use Rattle.run_model.specs.Files.{Corner, whole, header_length, bytes_for, part, unpacked, fields, ones, cells_below, cells_told, cell_outside, chosen, unless, found_at, first_of_all, k2_fault, k2_relation}
+use Rattle.run_model.specs.Files.{whole, header_length, bytes_for, part, unpacked, fields, ones, cells_below, cells_told, cell_outside, chosen, unless, found_at, first_of_all, k2_fault, k2_relation}
 use Rattle.k2_file.specs.declared.header.Header.{Header}
 use Rattle.k2_file.specs.declared.read.Listed.{Listed}
 use Rattle.k2_file.specs.Told.{bits_told, groups_of, fault_of_levels, told_by, end_of, end_fault, outside_fault, pairs_told, AreFields, IsFaultOf, IsListed}
@@ -181,8 +181,8 @@ room-listed leaf bytes listed w =
     let depth = height_over leaf listed.shape.rows listed.shape.cols - leaf in
     let more : listed_room (length listed.pairs.items) depth ≤ listed_room (length r.pairs) depth = mul-le-mul_right (3 * depth + 1) (listed-few bytes listed w) in
     let same : listed_room (length r.pairs) depth ≡ listed_cost leaf (length r.pairs) r.rows r.cols =
-      ap (λ (n : ℕ). listed_room (length r.pairs) (height_over leaf n listed.shape.cols - leaf)) (w.rows_are ∙ sym (rows-of bytes))
-      ∙ ap (λ (n : ℕ). listed_room (length r.pairs) (height_over leaf r.rows n - leaf)) (w.cols_are ∙ sym (cols-of bytes)) in
+    ap (λ (n : ℕ). listed_room (length r.pairs) (height_over leaf n listed.shape.cols - leaf)) (w.rows_are ∙ sym (rows-of bytes))
+    ∙ ap (λ (n : ℕ). listed_room (length r.pairs) (height_over leaf r.rows n - leaf)) (w.cols_are ∙ sym (cols-of bytes)) in
     let whole_cost : cost_of_file leaf bytes ≡ listed_cost leaf (length r.pairs) r.rows r.cols = ap (λ o. cost_unless o (listed_cost leaf (length r.pairs) r.rows r.cols)) w.good in
     omega (arith, more, same, whole_cost)
 

@@ -2,15 +2,15 @@
 -- 1. At each level so many submatrices stand as the level has groups, so the bits of their quarters are there.
 -- 2. They lie in the greatest square, so no corner is out of range.
 -- 3. The cells below them are those below the whole matrix.
-use Rattle.std.proofs.Common.{◌≡◌, ◌==◌, ◌&&◌, ◌+◌, ◌-◌, ◌*◌, ◌^◌, ◌<◌, ◌≤◌, ℕ, zero, suc, Bool, true, false, cond, not, leb, ltb, Option, Some, None, inl, inr, List, [], ◌∷◌, ◌++◌, length, take, drop, get_or, refl, sym, ap, ◌∙◌, subst, arith, append_assoc}
+use Rattle.std.proofs.Common.{◌≡◌, ◌==◌, ◌&&◌, ◌+◌, ◌*◌, ◌^◌, ◌<◌, ◌≤◌, ℕ, zero, suc, Bool, true, false, cond, not, leb, ltb, Some, None, inl, inr, List, [], ◌∷◌, ◌++◌, length, take, drop, get_or, refl, sym, ap, ◌∙◌, subst, arith, append_assoc}
 use Rattle.std.specs.List.{AllByRecursion, flat_map}
-use Rattle.std.proofs.lemmas.List.{append-nil, length-drop, drop-drop, drop_more, drop_all, take_more}
+use Rattle.std.proofs.lemmas.List.{append-nil, length-drop, drop-drop, drop_more, drop_all}
 use Rattle.std.proofs.lemmas.Bool.{and_parts, leb-true, ltb-true, eqb-true, cases_Bool}
 use Rattle.std.proofs.Math.Nat.{pow-le-pow_right}
 use Rattle.rel_model.proofs.Grid.{all-weaker}
 use Rattle.rel_model.specs.Listed.{AreWithin}
-use Rattle.run_model.specs.Files.{Corner, whole, quarters, chosen, ones, no_bits, levels_fit, cells_below, cell_outside, number_of_bit}
-use Rattle.k2_file.specs.Told.{AreInside, groups_of}
+use Rattle.run_model.specs.Files.{Corner, whole, quarters, chosen, ones, no_bits, levels_fit, cells_below, cell_outside}
+use Rattle.k2_file.specs.Told.{AreInside}
 use Rattle.k2_file.proofs.ReadApart.{all-quarters, all-chosen, two-halves}
 
 pub length-quarters : (side : ℕ) (ps : List Corner) → length (flat_map (quarters side) ps) ≡ 4 * length ps
@@ -181,7 +181,7 @@ chosen-more ps xs from i out more d b w l m t e =
     let p = get_or ps i d in
     record {
       same = ap (λ zs. zs ++ rest) e ∙ chosen-one b p out rest ∙ ap (λ c. out ++ cond c (p ∷ rest) rest) t
-          ∙ ap (λ zs. out ++ zs) (sym (chosen-step ps xs i from d l m)) ∙ w.same
+          ∙ ap (λ zs. out ++ zs) (sym (chosen-step ps xs i from d l m)) ∙ w.same;
     }
 
 pub chosen-all : (ps : List Corner) (xs : List Bool) (from i : ℕ) (out : List Corner) → IsChosen ps xs from i out → length ps ≤ i → out ≡ chosen ps (drop from xs)
@@ -214,7 +214,7 @@ outside-more rows cols at ps xs i d b w l m s t =
     let rest = cell_outside rows cols (at + (i + 1)) (drop (i + 1) ps) (drop (i + 1) xs) in
     record {
       same = w.same ∙ outside-step rows cols at ps xs i d l m
-          ∙ ap (λ c. cond c (Some (at + i)) rest) (ap (λ c. c && not (ltb p.0 rows && ltb p.1 cols)) (sym s) ∙ sym t)
+          ∙ ap (λ c. cond c (Some (at + i)) rest) (ap (λ c. c && not (ltb p.0 rows && ltb p.1 cols)) (sym s) ∙ sym t);
     }
 
 pub outside-here : (rows cols at : ℕ) (ps : List Corner) (xs : List Bool) (i : ℕ) (d : Corner) → NoneOutside rows cols at ps xs i → i < length ps → i < length xs
@@ -231,9 +231,10 @@ within-chosen rows cols at [] xs h = tt
 within-chosen rows cols at (p ∷ ps) [] h = tt
 within-chosen rows cols at (p ∷ ps) (true ∷ xs) h =
     elim (cases_Bool (ltb p.0 rows && ltb p.1 cols)) [
-      | inl t ↦ (let k = and_parts (ltb p.0 rows) (ltb p.1 cols) t in
-          ((ltb-true p.0 rows k.0, ltb-true p.1 cols k.1),
-          within-chosen rows cols (at + 1) ps xs (sym (ap (λ b. cond (not b) (Some at) (cell_outside rows cols (at + 1) ps xs)) t) ∙ h)))
+      | inl t ↦ (let k = and_parts (ltb p.0 rows) (ltb p.1 cols) t in (
+        (ltb-true p.0 rows k.0, ltb-true p.1 cols k.1),
+        within-chosen rows cols (at + 1) ps xs (sym (ap (λ b. cond (not b) (Some at) (cell_outside rows cols (at + 1) ps xs)) t) ∙ h),
+      ))
       | inr t ↦ (let bad : Some at ≡ None = sym (ap (λ b. cond (not b) (Some at) (cell_outside rows cols (at + 1) ps xs)) t) ∙ h in cc)
     ]
 within-chosen rows cols at (p ∷ ps) (false ∷ xs) h = within-chosen rows cols (at + 1) ps xs h

@@ -8,11 +8,7 @@ use crate::bits::Bits;
 use std::alloc::{AllocError, Global};
 
 /// Adds the quarters, of this side, of a submatrix.
-fn push_quarters(
-    out: &mut Vec<(u32, u32)>,
-    side: u32,
-    corner: (u32, u32),
-) -> Result<(), AllocError>
+fn push_quarters(out: &mut Vec<(u32, u32)>, side: u32, corner: (u32, u32)) -> Result<(), AllocError>
     requires row { corner.0 + side ≤ 2 ^ 24 }
     requires col { corner.1 + side ≤ 2 ^ 24 }
     ensures { OnOk result (out.new.items ≡ out.old.items ++ quarters side corner) }

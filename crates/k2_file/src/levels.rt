@@ -84,12 +84,7 @@ pub(crate) fn fault_in_levels(header: &Header, tree: &Bits<'_>, cells: &Bits<'_>
     requires cells { cells.now.count ≡ header.now.cell_count }
     ensures { result ≡ fault_of_levels header.now.height (groups_of header.now.tree_count header.now.cell_count) (bits_told tree.now.count tree.now.bytes.now) (bits_told cells.now.count cells.now.bytes.now) header.now.cell_count }
 {
-    if !do_levels_fit(
-        tree,
-        header.height - 1,
-        header.groups(),
-        header.cell_count,
-    ) {
+    if !do_levels_fit(tree, header.height - 1, header.groups(), header.cell_count) {
         return Some(BadFile::Lengths);
     }
     match first_zero_group(tree, cells) {

@@ -105,12 +105,7 @@ fn pairs_of(
 }
 
 /// The first test of the end that the bytes fail: the bits behind the ends of T and L are not set, and no byte is left.
-fn fault_in_end(
-    bytes: &[u8],
-    header: &Header,
-    tree: &Bits<'_>,
-    cells: &Bits<'_>,
-) -> Option<BadFile>
+fn fault_in_end(bytes: &[u8], header: &Header, tree: &Bits<'_>, cells: &Bits<'_>) -> Option<BadFile>
     requires fields { AreFields bytes.now header.now }
     requires tree { tree.now.count ≡ header.now.tree_count }
     requires cells { cells.now.count ≡ header.now.cell_count }

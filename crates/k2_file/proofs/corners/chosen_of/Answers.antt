@@ -1,5 +1,5 @@
 -- One corner more is chosen where its bit is set.
-use Rattle.std.proofs.Common.{◌≡◌, ◌<◌, ◌+◌, length, arith}
+use Rattle.std.proofs.Common.{◌≡◌, length, arith}
 use Rattle.k2_file.specs.Told.{bits_told}
 use Rattle.k2_file.proofs.ReadBits.{length-told}
 use Rattle.k2_file.proofs.ReadWalk.{chosen-more}

@@ -1,5 +1,5 @@
 -- A cell that is not set or not outside is passed over.
-use Rattle.std.proofs.Common.{◌≡◌, ◌<◌, length, arith}
+use Rattle.std.proofs.Common.{◌≡◌, length, arith}
 use Rattle.k2_file.specs.Told.{bits_told}
 use Rattle.k2_file.proofs.ReadBits.{length-told}
 use Rattle.k2_file.proofs.ReadWalk.{outside-more}

@@ -1,5 +1,5 @@
 -- The walk, level by level, ends at the cells.
-use Rattle.std.proofs.Common.{◌≡◌, ◌+◌, ◌-◌, ◌*◌, ◌^◌, ◌<◌, ◌≤◌, ◌∙◌, ℕ, suc, take, drop, length, sym, ap, subst, refl, arith}
+use Rattle.std.proofs.Common.{◌≡◌, ◌+◌, ◌-◌, ◌*◌, ◌^◌, ◌∙◌, ℕ, suc, take, drop, length, sym, ap, subst, refl, arith}
 use Rattle.std.specs.List.{flat_map}
 use Rattle.run_model.specs.Files.{whole, quarters, chosen}
 use Rattle.k2_file.specs.Told.{bits_told, groups_of, told_by, AreInside}
@@ -62,7 +62,7 @@ levels-preserved c =
     let e : k ≡ suc j = omega (arith, c.levels-test.true) in
     let many : length ps ≡ c.len.result = omega (arith, ap length c.as_slice.ensures.value, c.as_slice.ensures.len, c.len.ensures) in
     let is : next ≡ chosen (flat_map (quarters (2 ^ k)) ps) (drop c.levels.from xs) =
-      c.in_ok-corners-2.ensures ∙ ap (λ qs. chosen (flat_map (quarters (2 ^ k)) qs) (drop c.levels.from xs)) c.as_slice.ensures.value in
+    c.in_ok-corners-2.ensures ∙ ap (λ qs. chosen (flat_map (quarters (2 ^ k)) qs) (drop c.levels.from xs)) c.as_slice.ensures.value in
     subst (λ (n : ℕ). IsWalk (told_by header xs) header.cell_count xs j next (c.levels.from + 4 * n)) many
     (walk-next (told_by header xs) header.cell_count xs k j ps next c.levels.from c.levels.invariant e is)
 

@@ -1,8 +1,8 @@
 -- Each level's bits are there, or not; and below the last none is left.
-use Rattle.std.proofs.Common.{◌≡◌, ◌+◌, ◌-◌, ◌*◌, ◌/◌, ◌<◌, ◌≤◌, ◌∙◌, ℕ, List, Bool, length, sym, subst, arith}
+use Rattle.std.proofs.Common.{◌≡◌, ◌+◌, ◌-◌, ◌*◌, ◌/◌, ◌<◌, ◌≤◌, ◌∙◌, ℕ, length, sym, subst, arith}
 use Rattle.k2_file.specs.Told.{bits_told}
 use Rattle.k2_file.proofs.ReadBits.{length-told}
-use Rattle.k2_file.proofs.ReadLevels.{IsLevel, level-none, level-more, level-short, level-all, level-left}
+use Rattle.k2_file.proofs.ReadLevels.{IsLevel, level-more, level-short, level-all, level-left}
 use Rattle.k2_file.proofs.levels.do_levels_fit.Goals as goal
 
 pub overflow_sub-tree : goal.overflow_sub-tree

@@ -12,5 +12,5 @@ first_zero_group-requires c =
     let xs = bits_told tree.count tree.bytes.now in
     let n = length-told tree.count tree.bytes.now tree.fits in
     let few : length xs + header.cell_count < 2 ^ 50 =
-      fit-few (header.height - 1) c.groups.result xs header.cell_count (sym c.if-not-do_levels_fit.ensures) (omega arith) c.groups.ensures.limit in
+    fit-few (header.height - 1) c.groups.result xs header.cell_count (sym c.if-not-do_levels_fit.ensures) (omega arith) c.groups.ensures.limit in
     omega (arith, n, few, c.requires.tree, c.requires.cells)

@@ -1,5 +1,5 @@
 -- A place before the end of T is one of T, and else one of L.
-use Rattle.std.proofs.Common.{◌≡◌, ◌-◌, ◌<◌, ◌≤◌, ◌∙◌, length, false, sym, arith}
+use Rattle.std.proofs.Common.{◌≡◌, ◌∙◌, length, false, sym, arith}
 use Rattle.std.proofs.Math.ListN.{get_or-append}
 use Rattle.std.proofs.lemmas.List.{get_or-append_right}
 use Rattle.k2_file.specs.Told.{bits_told}

@@ -12,7 +12,7 @@ first_outside-requires-clause-numbers c =
     let xs = bits_told tree.count tree.bytes.now in
     let n = length-told tree.count tree.bytes.now tree.fits in
     let few : length xs + header.cell_count < 2 ^ 50 =
-      fit-few (header.height - 1) (groups_of header.tree_count header.cell_count) xs header.cell_count c.requires.fit (omega (arith, c.requires.least, c.requires.top))
-      (groups-few header.tree_count header.cell_count) in
+    fit-few (header.height - 1) (groups_of header.tree_count header.cell_count) xs header.cell_count c.requires.fit (omega (arith, c.requires.least, c.requires.top))
+    (groups-few header.tree_count header.cell_count) in
     let same = ap length c.as_slice.ensures.value in
     omega (arith, n, few, same, c.requires.tree, c.in-Ok.ensures.count)

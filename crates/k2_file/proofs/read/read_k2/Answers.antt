@@ -13,16 +13,18 @@ returns-in-Ok-from_pairs-clause-answer g c =
     let listed = c.in-Ok.listed in
     let shape = listed.shape in
     let rel = c.in-Ok-from_pairs.rel in
-    let is = c.in-Ok.ensures.listed in
-    (is.good, gives-listed w c.args.bytes.now listed rel is
-    (subst (λ ps. Gives w shape.rows shape.cols (relation_of shape.rows shape.cols (is_among ps)) rel) c.as_slice.ensures.value c.in-Ok-from_pairs.ensures.value))
+    let is = c.in-Ok.ensures.listed in (
+      is.good,
+      gives-listed w c.args.bytes.now listed rel is
+          (subst (λ ps. Gives w shape.rows shape.cols (relation_of shape.rows shape.cols (is_among ps)) rel) c.as_slice.ensures.value c.in-Ok-from_pairs.ensures.value),
+    )
 
 pub returns-in-Ok-from_pairs-clause-room : goal.returns-in-Ok-from_pairs-clause-room
 returns-in-Ok-from_pairs-clause-room g c =
     let leaf = g.E.Core.least in
     let listed = c.in-Ok.listed in
     let few = subst (λ ps. MakesAtMost (listed_room (length ps) (height_over leaf listed.shape.rows listed.shape.cols - leaf)) (g.E.Core.worker c.args.engine.now) (g.E.Core.worker c.from_pairs.new.self))
-      c.as_slice.ensures.value c.in-Ok-from_pairs.ensures.few in
+    c.as_slice.ensures.value c.in-Ok-from_pairs.ensures.few in
     omega (arith, few, room-listed leaf c.args.bytes.now listed c.in-Ok.ensures.listed)
 
 pub returns-in-Err-Full-clause-room : goal.returns-in-Err-Full-clause-room
@@ -30,7 +32,7 @@ returns-in-Err-Full-clause-room g c =
     let leaf = g.E.Core.least in
     let listed = c.in-Ok.listed in
     let few = subst (λ ps. MakesAtMost (listed_room (length ps) (height_over leaf listed.shape.rows listed.shape.cols - leaf)) (g.E.Core.worker c.args.engine.now) (g.E.Core.worker c.from_pairs.new.self))
-      c.as_slice.ensures.value c.in-Err-Full.ensures.few in
+    c.as_slice.ensures.value c.in-Err-Full.ensures.few in
     omega (arith, few, room-listed leaf c.args.bytes.now listed c.in-Ok.ensures.listed)
 
 pub returns-clause-room : goal.returns-clause-room
@@ -38,5 +40,5 @@ returns-clause-room g c =
     let leaf = g.E.Core.least in
     let listed = c.in-Ok.listed in
     let few = subst (λ ps. MakesAtMost (listed_room (length ps) (height_over leaf listed.shape.rows listed.shape.cols - leaf)) (g.E.Core.worker c.args.engine.now) (g.E.Core.worker c.from_pairs.new.self))
-      c.as_slice.ensures.value c.in-Err-NoMemory.ensures.few in
+    c.as_slice.ensures.value c.in-Err-NoMemory.ensures.few in
     omega (arith, few, room-listed leaf c.args.bytes.now listed c.in-Ok.ensures.listed)

@@ -1,9 +1,9 @@
 -- The groups of tests, one by one; where all pass, the pairs are the file's.
-use Rattle.std.proofs.Common.{◌≡◌, ◌+◌, ◌-◌, ◌<◌, ◌^◌, ◌∙◌, List, ℕ, length, None, sym, ap, subst, arith}
+use Rattle.std.proofs.Common.{◌≡◌, ◌+◌, ◌-◌, ◌<◌, ◌^◌, ◌∙◌, length, None, sym, ap, subst, arith}
 use Rattle.rel_model.specs.Listed.{AreWithin}
 use Rattle.run_model.specs.declared.outcome.BadFile.TheVariants.{Outside}
 use Rattle.run_model.specs.Files.{found_at, cell_outside}
-use Rattle.k2_file.specs.Told.{bits_told, groups_of, told_by, header_fault, outside_fault}
+use Rattle.k2_file.specs.Told.{bits_told, groups_of, told_by, outside_fault}
 use Rattle.k2_file.proofs.ReadBits.{length-told}
 use Rattle.k2_file.proofs.ReadFaults.{level_fault, fault-header, fault-levels, fault-outside, fault-end, fault-moves, is-fault}
 use Rattle.k2_file.proofs.ReadLevels.{fit-few, groups-few, levels-good}
@@ -22,7 +22,7 @@ returns-in-Some-clause-fault c =
     let tree = c.tree-tree.result in
     let cells = c.cells-cells.result in
     let parts : AreParts bytes h tree.count tree.bytes.now cells.count cells.bytes.now =
-      record { numbers = c.in-Ok.ensures.header.numbers; tree_same = c.tree-tree.ensures.count; tree_bytes = c.tree-tree.ensures.bytes; cells_same = c.cells-cells.ensures.count; cell_bytes = c.cells-cells.ensures.bytes } in
+    record { numbers = c.in-Ok.ensures.header.numbers; tree_same = c.tree-tree.ensures.count; tree_bytes = c.tree-tree.ensures.bytes; cells_same = c.cells-cells.ensures.count; cell_bytes = c.cells-cells.ensures.bytes } in
     is-fault bytes c.in-Some.fault (fault-levels bytes c.in-Some.fault (sym c.in-Ok.ensures.fault) (levels-told _ _ _ _ _ _ parts ∙ sym c.in-Some.ensures))
 
 pub returns-in-Err-pairs_of-clause-fault : goal.returns-in-Err-pairs_of-clause-fault
@@ -32,7 +32,7 @@ returns-in-Err-pairs_of-clause-fault c =
     let tree = c.tree-tree.result in
     let cells = c.cells-cells.result in
     let parts : AreParts bytes h tree.count tree.bytes.now cells.count cells.bytes.now =
-      record { numbers = c.in-Ok.ensures.header.numbers; tree_same = c.tree-tree.ensures.count; tree_bytes = c.tree-tree.ensures.bytes; cells_same = c.cells-cells.ensures.count; cell_bytes = c.cells-cells.ensures.bytes } in
+    record { numbers = c.in-Ok.ensures.header.numbers; tree_same = c.tree-tree.ensures.count; tree_bytes = c.tree-tree.ensures.bytes; cells_same = c.cells-cells.ensures.count; cell_bytes = c.cells-cells.ensures.bytes } in
     let xs = bits_told tree.count tree.bytes.now in
     let ys = bits_told cells.count cells.bytes.now in
     let level : level_fault bytes ≡ None = levels-told _ _ _ _ _ _ parts ∙ sym c.in_default.ensures in
@@ -50,8 +50,8 @@ fault_in_end-requires-clause-few c =
     let n = length-told tree.count tree.bytes.now tree.fits in
     let fit = levels-good h.height (groups_of h.tree_count h.cell_count) xs ys h.cell_count (sym c.in_default.ensures) in
     let few : length xs + h.cell_count < 2 ^ 50 =
-      fit-few (h.height - 1) (groups_of h.tree_count h.cell_count) xs h.cell_count fit (omega (arith, c.in-Ok.ensures.header.least, c.in-Ok.ensures.header.top))
-      (groups-few h.tree_count h.cell_count) in
+    fit-few (h.height - 1) (groups_of h.tree_count h.cell_count) xs h.cell_count fit (omega (arith, c.in-Ok.ensures.header.least, c.in-Ok.ensures.header.top))
+    (groups-few h.tree_count h.cell_count) in
     omega (arith, n, few, c.tree-tree.ensures.count)
 
 pub returns-in-Some-fault_in_end-clause-fault : goal.returns-in-Some-fault_in_end-clause-fault
@@ -61,7 +61,7 @@ returns-in-Some-fault_in_end-clause-fault c =
     let tree = c.tree-tree.result in
     let cells = c.cells-cells.result in
     let parts : AreParts bytes h tree.count tree.bytes.now cells.count cells.bytes.now =
-      record { numbers = c.in-Ok.ensures.header.numbers; tree_same = c.tree-tree.ensures.count; tree_bytes = c.tree-tree.ensures.bytes; cells_same = c.cells-cells.ensures.count; cell_bytes = c.cells-cells.ensures.bytes } in
+    record { numbers = c.in-Ok.ensures.header.numbers; tree_same = c.tree-tree.ensures.count; tree_bytes = c.tree-tree.ensures.bytes; cells_same = c.cells-cells.ensures.count; cell_bytes = c.cells-cells.ensures.bytes } in
     let level : level_fault bytes ≡ None = levels-told _ _ _ _ _ _ parts ∙ sym c.in_default.ensures in
     let outside : outside_fault bytes ≡ None = sym (outside-told _ _ _ _ _ _ parts) ∙ ap (found_at Outside) c.in-Ok-pairs_of.ensures.inside in
     is-fault bytes c.in-Some-fault_in_end.fault (fault-end bytes (sym c.in-Ok.ensures.fault) level outside ∙ sym c.in-Some-fault_in_end.ensures)
@@ -73,7 +73,7 @@ returns-clause-listed c =
     let tree = c.tree-tree.result in
     let cells = c.cells-cells.result in
     let parts : AreParts bytes h tree.count tree.bytes.now cells.count cells.bytes.now =
-      record { numbers = c.in-Ok.ensures.header.numbers; tree_same = c.tree-tree.ensures.count; tree_bytes = c.tree-tree.ensures.bytes; cells_same = c.cells-cells.ensures.count; cell_bytes = c.cells-cells.ensures.bytes } in
+    record { numbers = c.in-Ok.ensures.header.numbers; tree_same = c.tree-tree.ensures.count; tree_bytes = c.tree-tree.ensures.bytes; cells_same = c.cells-cells.ensures.count; cell_bytes = c.cells-cells.ensures.bytes } in
     let xs = bits_told tree.count tree.bytes.now in
     let ys = bits_told cells.count cells.bytes.now in
     let level : level_fault bytes ≡ None = levels-told _ _ _ _ _ _ parts ∙ sym c.in_default.ensures in

@@ -20,5 +20,4 @@ returns-clause-value c =
     c.powers.invariant.0 ∙ ap (powers_below c.args.size) k ∙ powers-all c.args.size
 
 pub returns-clause-limit : goal.returns-clause-limit
-
 returns-clause-limit c = omega (arith, c.powers.invariant.1, c.powers.auto.k-end)

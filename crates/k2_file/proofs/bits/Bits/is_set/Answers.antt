@@ -1,5 +1,5 @@
 -- The bit that is shifted down is the bit of the byte at its place.
-use Rattle.std.proofs.Common.{◌==◌, ◌-◌, ◌/◌, ◌%◌, ◌∙◌, get_or, false, sym, ap, arith}
+use Rattle.std.proofs.Common.{◌==◌, ◌-◌, ◌/◌, ◌%◌, ◌∙◌, get_or, false, sym, ap}
 use Rattle.std.proofs.lemmas.Nat.Bits.{shr_and_one}
 use Rattle.k2_file.proofs.ReadBits.{get-told}
 use Rattle.k2_file.proofs.bits.Bits.is_set.Goals as goal
