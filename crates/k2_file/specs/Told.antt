@@ -7,6 +7,7 @@ use Rattle.lang_model.specs.Tokens.{same_text}
 use Rattle.rel_model.specs.Relation.{size_limit}
 use Rattle.rel_model.specs.Listed.{AreWithin}
 use Rattle.run_model.specs.Files.{Corner, unpacked, bytes_for, header_length, fields, file_height, levels_fit, zero_group, whole, cells_below, cells_told, cell_outside, chosen, k2_fault, ones, unless, found_at, first_of_all}
+use Rattle.k2_file.specs.declared.bits.Bits.{Bits}
 use Rattle.k2_file.specs.declared.header.Header.{Header}
 use Rattle.k2_file.specs.declared.read.Listed.{Listed}
 
@@ -14,7 +15,15 @@ use Rattle.k2_file.specs.declared.read.Listed.{Listed}
 unfoldable pub bits_told : ℕ → List ℕ → List Bool
 bits_told count bytes = take count (unpacked bytes)
 
--- the submatrices of twice this side lie in the greatest square
+-- the bits that are told of its bytes
+abbrev pub bits_in : Bits → List Bool
+bits_in bits = bits_told bits.count bits.bytes.now
+
+-- those of T and L, one behind the other
+abbrev pub both_in : Bits → Bits → List Bool
+both_in tree cells = bits_in tree ++ bits_in cells
+
+-- submatrices of this side lie in the greatest square
 abbrev pub AreInside : ℕ → List Corner → Type 0
 AreInside side = AllByRecursion (λ p. (p.0 + side ≤ 2 ^ 24) × (p.1 + side ≤ 2 ^ 24))
 
@@ -74,6 +83,22 @@ fault_of_levels height groups tree cells cell_count =
     ∷ found_at ZeroGroup (zero_group 0 (tree ++ cells))
     ∷ []
     )
+
+-- whether the bits T are those of the header's levels
+abbrev pub fit_by : Header → Bits → Bool
+fit_by h tree = levels_fit (h.height - 1) (groups_of h.tree_count h.cell_count) (bits_in tree) h.cell_count
+
+-- the first test of the tree that the bits fail, by the header
+abbrev pub levels_by : Header → Bits → Bits → Option BadFile
+levels_by h tree cells = fault_of_levels h.height (groups_of h.tree_count h.cell_count) (bits_in tree) (bits_in cells) h.cell_count
+
+-- the cells that the last level tells of, by the header and the bits T
+abbrev pub cells_by : Header → Bits → List Corner
+cells_by h tree = told_by h (bits_in tree)
+
+-- the first of these cells outside the sizes whose bit is set
+abbrev pub outside_by : Header → Bits → Bits → Option ℕ
+outside_by h tree cells = cell_outside h.rows h.cols h.tree_count (cells_by h tree) (bits_in cells)
 
 -- the first test of the end that bytes fail
 unfoldable pub end_fault : List ℕ → Option BadFile

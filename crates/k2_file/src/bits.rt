@@ -1,8 +1,5 @@
 //! Bits in bytes, the highest of each byte first.
-ghost use Rattle.std.specs.Prelude.{◌≡◌, ◌<◌, ◌≤◌, ◌+◌, ◌*◌, ◌^◌, length, take, drop, false};
-ghost use Rattle.std.specs.List.{slice_index_or};
-ghost use Rattle.run_model.specs.Files.{ones, unpacked};
-ghost use Rattle.k2_file.specs.Told.{bits_told};
+ghost use Rattle.std.specs.Prelude.{◌≤◌, ◌*◌, length};
 
 /// So many bits of bytes. 24 bytes.
 #[derive(Drop)]
@@ -13,10 +10,15 @@ pub(crate) struct Bits<'a> {
 }
 
 impl Bits<'_> {
+    ghost use Rattle.std.specs.Prelude.{◌≡◌, ◌<◌, ◌+◌, ◌^◌, take, drop, false};
+    ghost use Rattle.std.specs.List.{slice_index_or};
+    ghost use Rattle.run_model.specs.Files.{ones, unpacked};
+    ghost use Rattle.k2_file.specs.Told.{bits_in};
+
     /// Whether a bit is set.
     pub(crate) fn is_set(&self, place: u64) -> bool
         requires { place < self.now.count }
-        ensures { result ≡ slice_index_or (bits_told self.now.count self.now.bytes.now) place false }
+        ensures { result ≡ slice_index_or (bits_in self.now) place false }
     {
         let byte = self.bytes[(place / 8) as usize];
         (byte >> ((7 - place % 8) as u32)) & 1 == 1
@@ -25,7 +27,7 @@ impl Bits<'_> {
     /// How many bits are set of so many from a place on.
     pub(crate) fn ones(&self, from: u64, count: u64) -> u64
         requires { from + count ≤ self.now.count }
-        ensures value { result ≡ ones (take count (drop from (bits_told self.now.count self.now.bytes.now))) }
+        ensures value { result ≡ ones (take count (drop from (bits_in self.now))) }
         ensures limit { result ≤ count }
     {
         let mut found = 0;

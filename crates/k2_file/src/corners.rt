@@ -2,7 +2,7 @@
 ghost use Rattle.std.specs.Prelude.{◌≡◌, ◌<◌, ◌≤◌, ◌+◌, ◌*◌, ◌^◌, ◌++◌, ◌&&◌, ◌∷◌, [], not, nat_lt, cond, OnOk, IfOk, length, drop};
 ghost use Rattle.std.specs.List.{flat_map};
 ghost use Rattle.run_model.specs.Files.{quarters, chosen, cell_outside};
-ghost use Rattle.k2_file.specs.Told.{bits_told, AreInside};
+ghost use Rattle.k2_file.specs.Told.{AreInside, bits_in};
 
 use crate::bits::Bits;
 use std::alloc::{AllocError, Global};
@@ -54,7 +54,7 @@ pub(crate) fn chosen_of(
     from: u64,
 ) -> Result<Vec<(u32, u32)>, AllocError>
     requires { from + length corners.now ≤ bits.now.count }
-    ensures { IfOk result (λ v. v.items ≡ chosen corners.now (drop from (bits_told bits.now.count bits.now.bytes.now))) }
+    ensures { IfOk result (λ v. v.items ≡ chosen corners.now (drop from (bits_in bits.now))) }
 {
     let mut out = Vec::new(alloc);
     'corners: for i in 0..corners.len() {
@@ -80,7 +80,7 @@ pub(crate) fn first_outside(
 ) -> Option<u64>
     requires bits { length cells.now ≤ bits.now.count }
     requires numbers { at + length cells.now < 2 ^ 64 }
-    ensures { result ≡ cell_outside rows cols at cells.now (bits_told bits.now.count bits.now.bytes.now) }
+    ensures { result ≡ cell_outside rows cols at cells.now (bits_in bits.now) }
 {
     'cells: for i in 0..cells.len() {
         if is_set_outside(rows, cols, cells[i], bits.is_set(i as u64)) {

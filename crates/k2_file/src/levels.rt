@@ -1,8 +1,8 @@
 //! The levels of a file's tree: whether its bits are theirs, its groups of four, and the cells that it tells of.
-ghost use Rattle.std.specs.Prelude.{◌≡◌, ◌==◌, ◌<◌, ◌≤◌, ◌+◌, ◌-◌, ◌*◌, ◌^◌, ◌++◌, IfOk, length, take, drop, true, false};
+ghost use Rattle.std.specs.Prelude.{◌≡◌, ◌==◌, ◌<◌, ◌≤◌, ◌+◌, ◌*◌, ◌^◌, IfOk, length, take, drop, true, false};
 ghost use Rattle.std.specs.List.{flat_map, slice_index_or};
-ghost use Rattle.run_model.specs.Files.{whole, quarters, chosen, levels_fit, zero_group, cells_below};
-ghost use Rattle.k2_file.specs.Told.{bits_told, groups_of, group_is_set, fault_of_levels, AreInside};
+ghost use Rattle.run_model.specs.Files.{whole, quarters, chosen, levels_fit, zero_group};
+ghost use Rattle.k2_file.specs.Told.{AreInside, bits_in, both_in, cells_by, fit_by, group_is_set, levels_by};
 
 use crate::bits::Bits;
 use crate::corners::{chosen_of, quarters_of};
@@ -13,7 +13,7 @@ use std::alloc::{AllocError, Global};
 
 /// Whether the bits of T are those of so many levels, of which the first has so many groups, with so many cells below.
 fn do_levels_fit(tree: &Bits<'_>, levels: u8, first: u64, cell_count: u64) -> bool
-    ensures { result ≡ levels_fit levels first (bits_told tree.now.count tree.now.bytes.now) cell_count }
+    ensures { result ≡ levels_fit levels first (bits_in tree.now) cell_count }
 {
     let mut groups = first;
     let mut from = 0;
@@ -41,7 +41,7 @@ fn are_of_groups(cells: u64, groups: u64) -> bool
 /// Whether a bit of T and L, one behind the other, is set.
 fn is_set_of(tree: &Bits<'_>, cells: &Bits<'_>, place: u64) -> bool
     requires { place < tree.now.count + cells.now.count }
-    ensures { result ≡ slice_index_or (bits_told tree.now.count tree.now.bytes.now ++ bits_told cells.now.count cells.now.bytes.now) place false }
+    ensures { result ≡ slice_index_or (both_in tree.now cells.now) place false }
 {
     if place < tree.count {
         tree.is_set(place)
@@ -54,7 +54,7 @@ fn is_set_of(tree: &Bits<'_>, cells: &Bits<'_>, place: u64) -> bool
 fn has_set(tree: &Bits<'_>, cells: &Bits<'_>, at: u64) -> bool
     requires fits { tree.now.count + cells.now.count < 2 ^ 64 }
     requires place { at + 4 ≤ tree.now.count + cells.now.count }
-    ensures { result ≡ group_is_set (bits_told tree.now.count tree.now.bytes.now ++ bits_told cells.now.count cells.now.bytes.now) at }
+    ensures { result ≡ group_is_set (both_in tree.now cells.now) at }
 {
     is_set_of(tree, cells, at)
         || is_set_of(tree, cells, at + 1)
@@ -65,7 +65,7 @@ fn has_set(tree: &Bits<'_>, cells: &Bits<'_>, at: u64) -> bool
 /// The first bit of the first group of four of T and L without a set bit.
 fn first_zero_group(tree: &Bits<'_>, cells: &Bits<'_>) -> Option<u64>
     requires { tree.now.count + cells.now.count < 2 ^ 64 }
-    ensures { result ≡ zero_group 0 (bits_told tree.now.count tree.now.bytes.now ++ bits_told cells.now.count cells.now.bytes.now) }
+    ensures { result ≡ zero_group 0 (both_in tree.now cells.now) }
 {
     'groups: for group in 0..(tree.count + cells.count) / 4 {
         let at = 4 * group;
@@ -82,7 +82,7 @@ pub(crate) fn fault_in_levels(header: &Header, tree: &Bits<'_>, cells: &Bits<'_>
     requires top { header.now.height ≤ 24 }
     requires tree { tree.now.count ≡ header.now.tree_count }
     requires cells { cells.now.count ≡ header.now.cell_count }
-    ensures { result ≡ fault_of_levels header.now.height (groups_of header.now.tree_count header.now.cell_count) (bits_told tree.now.count tree.now.bytes.now) (bits_told cells.now.count cells.now.bytes.now) header.now.cell_count }
+    ensures { result ≡ levels_by header.now tree.now cells.now }
 {
     if !do_levels_fit(tree, header.height - 1, header.groups(), header.cell_count) {
         return Some(BadFile::Lengths);
@@ -104,7 +104,7 @@ fn next_level(
     requires level { level ≤ 24 }
     requires inside { AreInside (2 ^ level) corners.now }
     requires bits { from + 4 * length corners.now ≤ tree.now.count }
-    ensures { IfOk result (λ v. v.items ≡ chosen (flat_map (quarters (2 ^ level)) corners.now) (drop from (bits_told tree.now.count tree.now.bytes.now))) }
+    ensures { IfOk result (λ v. v.items ≡ chosen (flat_map (quarters (2 ^ level)) corners.now) (drop from (bits_in tree.now))) }
 {
     let quarters = quarters_of(alloc, side_of(level), corners)?;
     chosen_of(alloc, quarters.as_slice(), tree, from)
@@ -130,8 +130,8 @@ pub(crate) fn cells_of(
 ) -> Result<Vec<(u32, u32)>, AllocError>
     requires least { 1 ≤ header.now.height }
     requires top { header.now.height ≤ 24 }
-    requires fit { levels_fit (header.now.height - 1) (groups_of header.now.tree_count header.now.cell_count) (bits_told tree.now.count tree.now.bytes.now) header.now.cell_count ≡ true }
-    ensures cells { IfOk result (λ v. v.items ≡ cells_below (header.now.height - 1) (take (groups_of header.now.tree_count header.now.cell_count) whole) (bits_told tree.now.count tree.now.bytes.now)) }
+    requires fit { fit_by header.now tree.now ≡ true }
+    ensures cells { IfOk result (λ v. v.items ≡ cells_by header.now tree.now) }
     ensures count { IfOk result (λ v. length v.items ≡ header.now.cell_count) }
 {
     let mut corners = first_level(alloc, header.groups())?;

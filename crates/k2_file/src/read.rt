@@ -1,10 +1,10 @@
 //! Relation files that are read: the tests in their order, the list of pairs, and one relation of it.
-ghost use Rattle.std.specs.Prelude.{◌≡◌, ◌≤◌, ◌+◌, ◌-◌, ◌*◌, ◌<◌, ◌^◌, None, true, IfOk, IfErr, length, take};
+ghost use Rattle.std.specs.Prelude.{◌≡◌, ◌≤◌, ◌+◌, ◌<◌, ◌^◌, None, true, IfOk, IfErr};
 ghost use Rattle.rel_model.specs.Worker.{Keeps, MakesAtMost};
-ghost use Rattle.run_model.specs.Files.{whole, bytes_for, part, found_at, levels_fit, cells_below, cell_outside, chosen, k2_fault};
+ghost use Rattle.run_model.specs.Files.{bytes_for, part, found_at, chosen, k2_fault};
 ghost use Rattle.run_model.specs.declared.outcome.BadFile.TheVariants.{Outside as OUTSIDE};
 ghost use Rattle.k2_file.specs.Reading.{IsRead, cost_of_file};
-ghost use Rattle.k2_file.specs.Told.{bits_told, groups_of, told_by, end_fault, AreFields, IsFaultOf, IsListed};
+ghost use Rattle.k2_file.specs.Told.{AreFields, IsFaultOf, IsListed, bits_in, cells_by, end_fault, fit_by, outside_by};
 
 use crate::bits::Bits;
 use crate::corners::{chosen_of, first_outside};
@@ -80,10 +80,10 @@ fn pairs_of(
     requires top { header.now.height ≤ 24 }
     requires tree { tree.now.count ≡ header.now.tree_count }
     requires cells { cells.now.count ≡ header.now.cell_count }
-    requires fit { levels_fit (header.now.height - 1) (groups_of header.now.tree_count header.now.cell_count) (bits_told tree.now.count tree.now.bytes.now) header.now.cell_count ≡ true }
-    ensures inside { IfOk result (λ v. cell_outside header.now.rows header.now.cols header.now.tree_count (told_by header.now (bits_told tree.now.count tree.now.bytes.now)) (bits_told cells.now.count cells.now.bytes.now) ≡ None) }
-    ensures pairs { IfOk result (λ v. v.items ≡ chosen (told_by header.now (bits_told tree.now.count tree.now.bytes.now)) (bits_told cells.now.count cells.now.bytes.now)) }
-    ensures fault { IfErr result (IsFaultOf (found_at OUTSIDE (cell_outside header.now.rows header.now.cols header.now.tree_count (told_by header.now (bits_told tree.now.count tree.now.bytes.now)) (bits_told cells.now.count cells.now.bytes.now)))) }
+    requires fit { fit_by header.now tree.now ≡ true }
+    ensures inside { IfOk result (λ v. outside_by header.now tree.now cells.now ≡ None) }
+    ensures pairs { IfOk result (λ v. v.items ≡ chosen (cells_by header.now tree.now) (bits_in cells.now)) }
+    ensures fault { IfErr result (IsFaultOf (found_at OUTSIDE (outside_by header.now tree.now cells.now))) }
 {
     let told = match cells_of(alloc, header, tree) {
         Ok(told) => told,
