@@ -1,3 +1,5 @@
+pub mod LawBits
+pub mod LawTree
 pub mod ReadApart
 pub mod ReadBits
 pub mod ReadCounting
