@@ -3,7 +3,7 @@
 -- 2. So the bits of a number of k bits, the highest first, grow by one behind; and those of a byte whose rest is 0 are these and no set bit.
 -- 3. By induction: unpacked, the packed bits are the bits and fewer than eight more that are not set.
 -- 4. Bytes with the same bits are the same. So bytes whose last bits are not set are those of their first bits.
-use Rattle.std.proofs.Common.{◌≡◌, ◌==◌, ◌+◌, ◌-◌, ◌*◌, ◌/◌, ◌%◌, ◌^◌, ◌<◌, ◌≤◌, ℕ, zero, suc, Bool, true, false, cond, eqb, List, [], ◌∷◌, ◌++◌, length, map, take, drop, get_or, replicate, refl, sym, ap, ◌∙◌, subst, inl, inr, arith, append_assoc, zero-add}
+use Rattle.std.proofs.Common.{◌≡◌, ◌==◌, ◌+◌, ◌-◌, ◌*◌, ◌/◌, ◌%◌, ◌^◌, ◌<◌, ◌≤◌, ℕ, zero, suc, Bool, true, false, cond, eqb, List, [], ◌∷◌, ◌++◌, length, map, take, drop, get_or, replicate, refl, sym, ap, ◌∙◌, subst, inl, inr, arith, append_assoc, zero-add, add-one}
 use Rattle.std.specs.List.{flat_map, range_with_len, AllByRecursion}
 use Rattle.std.specs.Int.{bit_at}
 use Rattle.std.proofs.lemmas.Bool.{cases_eq, cases_lt, eqb-true, eqb-false, eq-eqb, ne_eqb}
@@ -13,6 +13,7 @@ use Rattle.std.proofs.lemmas.Nat.Bits.{bit_at_lowest, bit_at-suc, bit_at-lt, bit
 use Rattle.std.proofs.lemmas.List.{append-nil, length-append, length-replicate, length-take-le, length-drop, ext_get_or, take_at, drop_at, get_or_append_left, get_or-append_right, get_or-replicate, take-append-drop}
 use Rattle.std.proofs.lemmas.List.FromFn.{get_or-map-range_with_len, length-map-range_with_len, map-range_with_len_more}
 use Rattle.run_model.specs.Files.{number_of_bit, packed, unpacked, bytes_for, ones}
+use Rattle.k2_file.proofs.ReadApart.{two-halves}
 use Rattle.k2_file.proofs.ReadBits.{length-unpacked}
 
 -- the k bits of a number, the highest first
@@ -83,11 +84,15 @@ top-shifted k v l =
 abbrev pub pad : ℕ → ℕ
 pad n = (8 - n % 8) % 8
 
+some-bits : (k : ℕ) → (suc k == 0) ≡ false
+some-bits k = ne_eqb (suc k) 0 (λ e. absurd (omega (arith, e)))
+
 unpack-none : (k v : ℕ) → k < 8 → unpacked (packed v k []) ≡ top k v ++ replicate (pad k) false
 unpack-none zero v l = refl
 unpack-none (suc k) v l =
     let e : 8 - suc k ≡ pad (suc k) = omega (arith, l) in
-    append-nil (top 8 (v * 2 ^ (8 - suc k))) ∙ top-shifted (suc k) v (omega (arith, l)) ∙ ap (λ (n : ℕ). top (suc k) v ++ replicate n false) e
+    ap (λ c. unpacked (cond c [] (v * 2 ^ (8 - suc k) ∷ []))) (some-bits k) ∙ append-nil (top 8 (v * 2 ^ (8 - suc k))) ∙ top-shifted (suc k) v (omega (arith, l))
+    ∙ ap (λ (n : ℕ). top (suc k) v ++ replicate n false) e
 
 unpack-packed : (bits : List Bool) (k v : ℕ) → k < 8 → unpacked (packed v k bits) ≡ top k v ++ (bits ++ replicate (pad (k + length bits)) false)
 unpack-packed [] k v l = let e : k + 0 ≡ k = omega arith in unpack-none k v l ∙ ap (λ (n : ℕ). top k v ++ replicate (pad n) false) (sym e)
@@ -183,14 +188,15 @@ bit-small false = omega arith
 
 all-packed : (bits : List Bool) (k v : ℕ) → k < 8 → v < 2 ^ k → AllByRecursion (λ b. b < 256) (packed v k bits)
 all-packed [] zero v l h = tt
-all-packed [] (suc k) v l h = (shifted-small (suc k) v (omega (arith, l)) h, tt)
+all-packed [] (suc k) v l h =
+    subst (λ c. AllByRecursion (λ x. x < 256) (cond c [] (v * 2 ^ (8 - suc k) ∷ []))) (sym (some-bits k)) (shifted-small (suc k) v (omega (arith, l)) h, tt)
 all-packed (b ∷ bits) k v l h = elim (cases_eq k 7) [
   | inl e ↦ (let t = eq-eqb k 7 e in
       let p : 2 ^ k ≡ 128 = ap (λ (n : ℕ). 2 ^ n) e in
       subst (λ c. AllByRecursion (λ x. x < 256) (cond c (w ∷ packed 0 0 bits) (packed w (k + 1) bits))) (sym t)
       (omega (arith, h, p, bit-small b), all-packed bits 0 0 (omega arith) (omega arith)))
   | inr n ↦ (let t = ne_eqb k 7 n in
-      let p : 2 ^ (k + 1) ≡ 2 * 2 ^ k = grind arith in
+      let p : 2 ^ (k + 1) ≡ 2 ^ k + 2 ^ k = ap (λ (m : ℕ). 2 ^ m) (add-one k) ∙ two-halves k in
       subst (λ c. AllByRecursion (λ x. x < 256) (cond c (w ∷ packed 0 0 bits) (packed w (k + 1) bits))) (sym t)
       (all-packed bits (k + 1) w (omega (arith, n, l)) (omega (arith, h, p, bit-small b))))
 ]

@@ -86,14 +86,14 @@ cells-tree r (suc k) ps =
 abbrev pub lies : ℕ → Corner → Corner → Bool
 lies side p q = (leb p.0 q.0 && ltb q.0 (p.0 + side)) && (leb p.1 q.1 && ltb q.1 (p.1 + side))
 
-lies-in : (side : ℕ) (p q : Corner) → lies side p q ≡ true → LiesIn side p q.0 q.1
+pub lies-in : (side : ℕ) (p q : Corner) → lies side p q ≡ true → LiesIn side p q.0 q.1
 lies-in side p q h =
     let t = and_parts (leb p.0 q.0 && ltb q.0 (p.0 + side)) (leb p.1 q.1 && ltb q.1 (p.1 + side)) h in
     let a = and_parts (leb p.0 q.0) (ltb q.0 (p.0 + side)) t.0 in
     let b = and_parts (leb p.1 q.1) (ltb q.1 (p.1 + side)) t.1 in
     record { south = leb-true p.0 q.0 a.0; north = ltb-true q.0 (p.0 + side) a.1; east = leb-true p.1 q.1 b.0; west = ltb-true q.1 (p.1 + side) b.1 }
 
-in-lies : (side : ℕ) (p q : Corner) → LiesIn side p q.0 q.1 → lies side p q ≡ true
+pub in-lies : (side : ℕ) (p q : Corner) → LiesIn side p q.0 q.1 → lies side p q ≡ true
 in-lies side p q w =
     and_from (leb p.0 q.0 && ltb q.0 (p.0 + side)) (leb p.1 q.1 && ltb q.1 (p.1 + side))
     (and_from (leb p.0 q.0) (ltb q.0 (p.0 + side)) (le-leb p.0 q.0 w.south) (lt-ltb q.0 (p.0 + side) w.north))
@@ -130,7 +130,7 @@ in-quarter side p q w = elim (cases_lt q.0 (p.0 + side)) [
 ]
 
 -- a test that each of a list passes, at a quarter that is found
-any-quarter : (f g : Corner → Bool) → ((s : Corner) → f s ≡ true → g s ≡ true) → (xs : List Corner) → list_any f xs ≡ true → list_any g xs ≡ true
+pub any-quarter : (f g : Corner → Bool) → ((s : Corner) → f s ≡ true → g s ≡ true) → (xs : List Corner) → list_any f xs ≡ true → list_any g xs ≡ true
 any-quarter f g h xs e = let w = find-any f xs e in w.others g (h w.one w.passes)
 
 -- a submatrix that has a pair has a quarter that has it
@@ -147,7 +147,7 @@ four-any false false true d h = refl
 four-any false false false true h = refl
 four-any false false false false h = h
 
-all-filter-passes : (f : Corner → Bool) (ps : List Corner) → AllByRecursion (λ p. f p ≡ true) (filter f ps)
+pub all-filter-passes : (f : Corner → Bool) (ps : List Corner) → AllByRecursion (λ p. f p ≡ true) (filter f ps)
 all-filter-passes f [] = tt
 all-filter-passes f (p ∷ ps) = elim (cases_Bool (f p)) [
   | inl t ↦ subst (λ b. AllByRecursion (λ q. f q ≡ true) (cond b (p ∷ filter f ps) (filter f ps))) (sym t) (t, all-filter-passes f ps)
@@ -207,7 +207,7 @@ any-append-right g [] ys h = h
 any-append-right g (x ∷ xs) ys h = or_right (g x) (list_any g (xs ++ ys)) (any-append-right g xs ys h)
 
 -- one that passes both tests is kept by the one and found by the other
-any-filter : (f g : Corner → Bool) → ((x : Corner) → g x ≡ true → f x ≡ true) → (xs : List Corner) → list_any g xs ≡ true → list_any g (filter f xs) ≡ true
+pub any-filter : (f g : Corner → Bool) → ((x : Corner) → g x ≡ true → f x ≡ true) → (xs : List Corner) → list_any g xs ≡ true → list_any g (filter f xs) ≡ true
 any-filter f g h [] e = absurd (false≢true e)
 any-filter f g h (x ∷ xs) e = elim (cases_Bool (g x)) [
   | inl t ↦ subst (λ b. list_any g (cond b (x ∷ filter f xs) (filter f xs)) ≡ true) (sym (h x t)) (or_left (g x) (list_any g (filter f xs)) t)

@@ -1,3 +1,4 @@
+pub mod LawRelation
 pub mod LawBits
 pub mod LawTree
 pub mod ReadApart

@@ -71,12 +71,12 @@ ones-le (true ∷ bits) = let h = ones-le bits in omega (arith, h)
 ones-le (false ∷ bits) = let h = ones-le bits in omega (arith, h)
 
 -- how many bits levels have at most below one group, with the cells
-abbrev most : ℕ → ℕ
+abbrev pub most : ℕ → ℕ
 most zero = 4
 most (suc k) = 4 + 4 * most k
 
 -- bits that fit are at most so many for each group
-fit-most : (k g : ℕ) (bits : List Bool) (cell_count : ℕ) → levels_fit k g bits cell_count ≡ true → length bits + cell_count ≤ g * most k
+pub fit-most : (k g : ℕ) (bits : List Bool) (cell_count : ℕ) → levels_fit k g bits cell_count ≡ true → length bits + cell_count ≤ g * most k
 fit-most zero g [] cell_count h = let e = eqb-true cell_count (4 * g) h in omega (arith, e)
 fit-most zero g (b ∷ bits) cell_count h = absurd (false≢true h)
 fit-most (suc k) g bits cell_count h =

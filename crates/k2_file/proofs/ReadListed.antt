@@ -20,18 +20,18 @@ use Rattle.k2_file.proofs.ReadCounting.{AreDistinct, length-relation_of}
 use Rattle.k2_file.proofs.ReadApart.{distinct-cells}
 
 -- a function of five
-same-five : {A : Type 0} (F : ℕ → ℕ → ℕ → List Bool → List Bool → A) {a a' b b' c c' : ℕ} {xs xs' ys ys' : List Bool} → a ≡ a' → b ≡ b' → c ≡ c' → xs ≡ xs' → ys ≡ ys'
+pub same-five : {A : Type 0} (F : ℕ → ℕ → ℕ → List Bool → List Bool → A) {a a' b b' c c' : ℕ} {xs xs' ys ys' : List Bool} → a ≡ a' → b ≡ b' → c ≡ c' → xs ≡ xs' → ys ≡ ys'
     → F a b c xs ys ≡ F a' b' c' xs' ys'
 same-five F {a} {a'} {b} {b'} {c} {c'} {xs} {xs'} {ys} {ys'} p q r s t =
     ap (λ (n : ℕ). F n b c xs ys) p ∙ ap (λ (n : ℕ). F a' n c xs ys) q ∙ ap (λ (n : ℕ). F a' b' n xs ys) r
     ∙ ap (λ (zs : List Bool). F a' b' c' zs ys) s ∙ ap (λ (zs : List Bool). F a' b' c' xs' zs) t
 
 -- ---- the bits of a file
-tree-is : (bytes : List ℕ) → (fields bytes).tree ≡ unpacked (part bytes header_length (bytes_for (fields bytes).tree_count))
+pub tree-is : (bytes : List ℕ) → (fields bytes).tree ≡ unpacked (part bytes header_length (bytes_for (fields bytes).tree_count))
 unfolding fields
 tree-is bytes = refl
 
-cells-is : (bytes : List ℕ) → (fields bytes).cells ≡ unpacked (part bytes (header_length + bytes_for (fields bytes).tree_count) (bytes_for (fields bytes).cell_count))
+pub cells-is : (bytes : List ℕ) → (fields bytes).cells ≡ unpacked (part bytes (header_length + bytes_for (fields bytes).tree_count) (bytes_for (fields bytes).cell_count))
 unfolding fields
 cells-is bytes = refl
 
@@ -84,10 +84,10 @@ module _ (bytes : List ℕ) (h : Header) (tree_count : ℕ) (tree : List ℕ) (c
       ∙ same-five (λ rows cols t xs ys. found_at Outside (cell_outside rows cols t (cells_told f) ys)) w.numbers.rows_are w.numbers.cols_are w.numbers.tree_is tree-told cells-told
 
 -- ---- the end
-two : Bool → Bool → Bool → Option BadFile
+pub two : Bool → Bool → Bool → Option BadFile
 two a b c = first_of_all (unless (a && b) Padding ∷ unless c Rest ∷ [])
 
-two-end : (bytes : List ℕ) → end_fault bytes
+pub two-end : (bytes : List ℕ) → end_fault bytes
     ≡ two (ones (drop (fields bytes).tree_count (fields bytes).tree) == 0) (ones (drop (fields bytes).cell_count (fields bytes).cells) == 0) (length bytes == end_of bytes)
 unfolding end_fault two
 two-end bytes = refl
@@ -104,7 +104,7 @@ two-rest : (a b c : Bool) → a ≡ true → b ≡ true → c ≡ false → two 
 unfolding two
 two-rest a b c x y z = ap (λ t. two t b c) x ∙ ap (λ t. two true t c) y ∙ ap (λ t. two true true t) z
 
-two-none : (a b c : Bool) → a ≡ true → b ≡ true → c ≡ true → two a b c ≡ None
+pub two-none : (a b c : Bool) → a ≡ true → b ≡ true → c ≡ true → two a b c ≡ None
 unfolding two
 two-none a b c x y z = ap (λ t. two t b c) x ∙ ap (λ t. two true t c) y ∙ ap (λ t. two true true t) z
 
@@ -144,11 +144,11 @@ relation-listed bytes listed w =
     ∙ ap (λ (n : ℕ). relation_of n listed.shape.cols (is_among (pairs_told bytes))) w.rows_are
     ∙ ap (λ (n : ℕ). relation_of f.rows n (is_among (pairs_told bytes))) w.cols_are
 
-rows-of : (bytes : List ℕ) → (k2_relation bytes).rows ≡ (fields bytes).rows
+pub rows-of : (bytes : List ℕ) → (k2_relation bytes).rows ≡ (fields bytes).rows
 unfolding k2_relation relation_of
 rows-of bytes = refl
 
-cols-of : (bytes : List ℕ) → (k2_relation bytes).cols ≡ (fields bytes).cols
+pub cols-of : (bytes : List ℕ) → (k2_relation bytes).cols ≡ (fields bytes).cols
 unfolding k2_relation relation_of
 cols-of bytes = refl
 
