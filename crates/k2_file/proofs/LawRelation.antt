@@ -15,7 +15,7 @@ use Rattle.k2_file.proofs.ReadLevels.{fit-most}
 use Rattle.k2_file.proofs.LawTree.{level, below, lies, lies-in, in-lies, Found, find-any, any-quarter, any-filter, all-filter-passes, fit-tree, in-below}
 
 -- one that a test finds, with what holds of all
-any-all : (f : Corner → Bool) (P : Corner → Type 0) (xs : List Corner) → AllByRecursion P xs → list_any f xs ≡ true → (x : Corner) × (f x ≡ true) × P x
+pub any-all : (f : Corner → Bool) (P : Corner → Type 0) (xs : List Corner) → AllByRecursion P xs → list_any f xs ≡ true → (x : Corner) × (f x ≡ true) × P x
 any-all f P [] a h = absurd (false≢true h)
 any-all f P (x ∷ xs) a h = elim (cases_Bool (f x)) [
   | inl t ↦ (x, t, a.0)
@@ -45,7 +45,7 @@ outside-tree rows cols r v (c ∷ cs) at =
 
 -- ---- the relation of the cells
 -- the test of a place
-abbrev place : ℕ → ℕ → Corner → Bool
+abbrev pub place : ℕ → ℕ → Corner → Bool
 place i j p = (p.0 == i) && (p.1 == j)
 
 -- a cell at a place in which a pair is
@@ -71,7 +71,7 @@ meets-cell r i j s h e =
     let d : w.one.1 ≡ j = omega (arith, v.east, v.west, b) in
     w.others (place i j) (and_from (w.one.0 == i) (w.one.1 == j) (eq-eqb w.one.0 i c) (eq-eqb w.one.1 j d))
 
-lies-place : (i j : ℕ) (s : Corner) → lies 1 s (i, j) ≡ true → place i j s ≡ true
+pub lies-place : (i j : ℕ) (s : Corner) → lies 1 s (i, j) ≡ true → place i j s ≡ true
 lies-place i j s h =
     let v = lies-in 1 s (i, j) h in
     let a : s.0 ≡ i = omega (arith, v.south, v.north) in

@@ -25,10 +25,10 @@ abbrev pub below : Relation → ℕ → List Corner → List Corner
 below r zero ps = next r 0 ps
 below r (suc k) ps = below r k (next r (suc k) ps)
 
-quarters-met : (r : Relation) (k : ℕ) (ps : List Corner) → quarters_met r (2 ^ k) ps ≡ next r k ps
+pub quarters-met : (r : Relation) (k : ℕ) (ps : List Corner) → quarters_met r (2 ^ k) ps ≡ next r k ps
 quarters-met r k ps = ap (λ (s : ℕ). flat_map (quarters (2 ^ k)) (filter (meets r s) ps)) (sym (two-halves k))
 
-inner-step : (r : Relation) (k : ℕ) (ps : List Corner) → inner_bits r (suc k) ps ≡ map (meets r (2 ^ suc k)) (next r (suc k) ps) ++ inner_bits r k (next r (suc k) ps)
+pub inner-step : (r : Relation) (k : ℕ) (ps : List Corner) → inner_bits r (suc k) ps ≡ map (meets r (2 ^ suc k)) (next r (suc k) ps) ++ inner_bits r k (next r (suc k) ps)
 inner-step r k ps = ap (λ qs. map (meets r (2 ^ suc k)) qs ++ inner_bits r k qs) (quarters-met r (suc k) ps)
 
 pub cell-bits : (r : Relation) (k : ℕ) (ps : List Corner) → cell_bits r k ps ≡ map (meets r 1) (below r k ps)
@@ -195,14 +195,14 @@ groups-tree r k j ps qs =
     ∙ groups-cells r j qs (0 + length (inner_bits r k ps)) []
 
 -- ---- each pair is among the cells
-any-append-left : (g : Corner → Bool) (xs ys : List Corner) → list_any g xs ≡ true → list_any g (xs ++ ys) ≡ true
+pub any-append-left : (g : Corner → Bool) (xs ys : List Corner) → list_any g xs ≡ true → list_any g (xs ++ ys) ≡ true
 any-append-left g [] ys h = absurd (false≢true h)
 any-append-left g (x ∷ xs) ys h = elim (cases_Bool (g x)) [
   | inl t ↦ or_left (g x) (list_any g (xs ++ ys)) t
   | inr t ↦ or_right (g x) (list_any g (xs ++ ys)) (any-append-left g xs ys (ap (λ b. b || list_any g xs) (sym t) ∙ h))
 ]
 
-any-append-right : (g : Corner → Bool) (xs ys : List Corner) → list_any g ys ≡ true → list_any g (xs ++ ys) ≡ true
+pub any-append-right : (g : Corner → Bool) (xs ys : List Corner) → list_any g ys ≡ true → list_any g (xs ++ ys) ≡ true
 any-append-right g [] ys h = h
 any-append-right g (x ∷ xs) ys h = or_right (g x) (list_any g (xs ++ ys)) (any-append-right g xs ys h)
 

@@ -1,3 +1,5 @@
+pub mod LawBack
+pub mod LawFile
 pub mod LawRelation
 pub mod LawBits
 pub mod LawTree

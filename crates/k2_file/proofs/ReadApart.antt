@@ -22,7 +22,7 @@ abbrev pub Apart : ℕ → Corner → Corner → Type 0
 Apart side p q = (i j : ℕ) → LiesIn side p i j → LiesIn side q i j → ⊥
 
 -- each place of the first, of this side, lies in the second, of twice the side
-abbrev Covers : ℕ → Corner → Corner → Type 0
+abbrev pub Covers : ℕ → Corner → Corner → Type 0
 Covers side p q = (i j : ℕ) → LiesIn side q i j → LiesIn (side + side) p i j
 
 -- each is apart from all that follow
@@ -43,7 +43,7 @@ all-chosen P (p ∷ ps) [] h = tt
 all-chosen P (p ∷ ps) (true ∷ bits) h = (h.0, all-chosen P ps bits h.1)
 all-chosen P (p ∷ ps) (false ∷ bits) h = all-chosen P ps bits h.1
 
-covers-quarters : (side : ℕ) (p : Corner) → AllByRecursion (Covers side p) (quarters side p)
+pub covers-quarters : (side : ℕ) (p : Corner) → AllByRecursion (Covers side p) (quarters side p)
 covers-quarters side p = (
   (λ i j (w : LiesIn side p i j). record { south = omega arith; north = omega arith; east = omega arith; west = omega arith }),
   (
@@ -88,7 +88,7 @@ apart-append : (side : ℕ) (xs ys : List Corner) → AreApart side xs → AreAp
 apart-append side [] ys a b c = b
 apart-append side (x ∷ xs) ys a b c = (all-append (Apart side x) xs ys a.0 c.0, apart-append side xs ys a.1 b c.1)
 
-apart-quarters : (side : ℕ) (ps : List Corner) → AreApart (side + side) ps → AreApart side (flat_map (quarters side) ps)
+pub apart-quarters : (side : ℕ) (ps : List Corner) → AreApart (side + side) ps → AreApart side (flat_map (quarters side) ps)
 apart-quarters side [] h = tt
 apart-quarters side (p ∷ ps) h =
     apart-append side (quarters side p) (flat_map (quarters side) ps) (apart-own side p) (apart-quarters side ps h.1)
@@ -96,7 +96,7 @@ apart-quarters side (p ∷ ps) h =
     (λ a x. all-quarters (Apart (side + side) p) (Apart side a) side (apart-from side p a x) ps h.0)
     (quarters side p) (covers-quarters side p))
 
-apart-chosen : (side : ℕ) (ps : List Corner) (bits : List Bool) → AreApart side ps → AreApart side (chosen ps bits)
+pub apart-chosen : (side : ℕ) (ps : List Corner) (bits : List Bool) → AreApart side ps → AreApart side (chosen ps bits)
 apart-chosen side [] bits h = tt
 apart-chosen side (p ∷ ps) [] h = tt
 apart-chosen side (p ∷ ps) (true ∷ bits) h = (all-chosen (Apart side p) ps bits h.0, apart-chosen side ps bits h.1)
@@ -128,7 +128,7 @@ distinct-apart : (ps : List Corner) → AreApart 1 ps → AreDistinct ps
 distinct-apart [] h = tt
 distinct-apart (p ∷ ps) h = (apart-one p ps h.0, distinct-apart ps h.1)
 
-apart-whole : (side groups : ℕ) → AreApart side (take groups whole)
+pub apart-whole : (side groups : ℕ) → AreApart side (take groups whole)
 apart-whole side zero = tt
 apart-whole side (suc zero) = (tt, tt)
 apart-whole side (suc (suc groups)) = (tt, tt)

@@ -7,6 +7,7 @@ use Rattle.run_model.specs.declared.outcome.BadFile.{BadFile}
 use Rattle.run_model.specs.declared.outcome.BadFile.TheVariants.{Short, Magic, Sizes, Height}
 use Rattle.lang_model.specs.Tokens.{same_text}
 use Rattle.rel_model.specs.Relation.{size_limit}
+use Rattle.rel_model.proofs.Heights.{height_of-limit}
 use Rattle.run_model.specs.Files.{header_length, bytes_for, fields, part, file_height, unless, first_of_all}
 use Rattle.k2_file.specs.declared.header.Header.{Header}
 use Rattle.k2_file.specs.Told.{AreFields, end_of, header_fault}
@@ -123,3 +124,7 @@ module _ (bytes : List ℕ) (h : Header) (w : AreFields bytes h) where
 pub height-least : (rows cols : ℕ) → 1 ≤ file_height rows cols
 unfolding file_height
 height-least rows cols = omega arith
+
+pub height-most : (rows cols : ℕ) → file_height rows cols ≤ 24
+unfolding file_height
+height-most rows cols = omega (arith, height_of-limit rows, height_of-limit cols)
