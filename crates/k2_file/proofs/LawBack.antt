@@ -49,10 +49,10 @@ abbrev pub in_cells : List Corner → ℕ → Corner → Bool
 in_cells S side p = list_any (lies side p) S
 
 -- each of a list has a cell, and each cell is in one of them
-abbrev HaveCells : List Corner → ℕ → List Corner → Type 0
+abbrev pub HaveCells : List Corner → ℕ → List Corner → Type 0
 HaveCells S side ps = AllByRecursion (λ p. in_cells S side p ≡ true) ps
 
-abbrev Owned : List Corner → ℕ → List Corner → Type 0
+abbrev pub Owned : List Corner → ℕ → List Corner → Type 0
 Owned S side ps = AllByRecursion (λ x. list_any (λ p. lies side p x) ps ≡ true) S
 
 -- ---- one level: the bits say which quarters have a cell
@@ -69,7 +69,7 @@ every : (A : Corner → Type 0) → ((q : Corner) → A q) → (qs : List Corner
 every A f [] = tt
 every A f (q ∷ qs) = (f q, every A f qs)
 
-level-bits : (S : List Corner) (side : ℕ) (qs : List Corner) (bits : List Bool) → length bits ≡ length qs → AreApart side qs → HaveCells S side (chosen qs bits) → Owned S side (chosen qs bits)
+pub level-bits : (S : List Corner) (side : ℕ) (qs : List Corner) (bits : List Bool) → length bits ≡ length qs → AreApart side qs → HaveCells S side (chosen qs bits) → Owned S side (chosen qs bits)
     → map (in_cells S side) qs ≡ bits
 level-bits S side qs bits l a have own =
     map-bits (in_cells S side) qs bits l have
@@ -86,7 +86,7 @@ group-some true o at h = (refl, h)
 group-some false o at h = cc
 
 -- behind so many groups
-zero-rest : (n at : ℕ) (bits rest : List Bool) → length bits ≡ 4 * n → zero_group at (bits ++ rest) ≡ None → zero_group (at + 4 * n) rest ≡ None
+pub zero-rest : (n at : ℕ) (bits rest : List Bool) → length bits ≡ 4 * n → zero_group at (bits ++ rest) ≡ None → zero_group (at + 4 * n) rest ≡ None
 zero-rest zero at [] rest l h = let e : at + 4 * 0 ≡ at = omega arith in ap (λ (m : ℕ). zero_group m rest) e ∙ h
 zero-rest zero at (a ∷ bits) rest l h = absurd (omega (arith, l))
 zero-rest (suc n) at [] rest l h = absurd (omega (arith, l))
@@ -101,7 +101,7 @@ zero-rest (suc n) at (a ∷ b ∷ c ∷ d ∷ bits) rest l h =
 covered : (S : List Corner) (side : ℕ) (p q : Corner) → Covers side p q → in_cells S side q ≡ true → in_cells S (side + side) p ≡ true
 covered S side p q c h = any-quarter (lies side q) (lies (side + side) p) (λ x e. in-lies (side + side) p x (c x.0 x.1 (lies-in side q x e))) S h
 
-have-up : (S : List Corner) (side : ℕ) (ps : List Corner) (at : ℕ) (bits rest : List Bool) → length bits ≡ 4 * length ps → zero_group at (bits ++ rest) ≡ None
+pub have-up : (S : List Corner) (side : ℕ) (ps : List Corner) (at : ℕ) (bits rest : List Bool) → length bits ≡ 4 * length ps → zero_group at (bits ++ rest) ≡ None
     → HaveCells S side (chosen (flat_map (quarters side) ps) bits) → HaveCells S (side + side) ps
 have-up S side [] at bits rest l z h = tt
 have-up S side (p ∷ ps) at [] rest l z h = absurd (omega (arith, l))
@@ -159,22 +159,22 @@ any-whole side x (p ∷ ps) h = elim (any-split (λ s. lies side s x) (quarters 
   | inr t ↦ or_right (lies (side + side) p x) _ (any-whole side x ps t)
 ]
 
-own-up : (S : List Corner) (side : ℕ) (ps : List Corner) (bits : List Bool) → Owned S side (chosen (flat_map (quarters side) ps) bits) → Owned S (side + side) ps
+pub own-up : (S : List Corner) (side : ℕ) (ps : List Corner) (bits : List Bool) → Owned S side (chosen (flat_map (quarters side) ps) bits) → Owned S (side + side) ps
 own-up S side ps bits h =
     all-weaker (λ x. list_any (λ p. lies side p x) (chosen (flat_map (quarters side) ps) bits) ≡ true) (λ x. list_any (λ p. lies (side + side) p x) ps ≡ true)
     (λ x e. any-whole side x ps (any-chosen (λ p. lies side p x) (flat_map (quarters side) ps) bits e)) S h
 
 -- each of a list is found in it
-all-self : (g : Corner → Corner → Bool) → ((x : Corner) → g x x ≡ true) → (xs : List Corner) → AllByRecursion (λ x. list_any (g x) xs ≡ true) xs
+pub all-self : (g : Corner → Corner → Bool) → ((x : Corner) → g x x ≡ true) → (xs : List Corner) → AllByRecursion (λ x. list_any (g x) xs ≡ true) xs
 all-self g h [] = tt
 all-self g h (x ∷ xs) =
     (or_left (g x x) (list_any (g x) xs) (h x),
     all-weaker (λ y. list_any (g y) xs ≡ true) (λ y. list_any (g y) (x ∷ xs) ≡ true) (λ y e. or_right (g y x) (list_any (g y) xs) e) xs (all-self g h xs))
 
-lies-self : (x : Corner) → lies 1 x x ≡ true
+pub lies-self : (x : Corner) → lies 1 x x ≡ true
 lies-self x = in-lies 1 x x (record { south = omega arith; north = omega arith; east = omega arith; west = omega arith })
 
-chosen-front : (qs : List Corner) (bits rest : List Bool) → length bits ≡ length qs → chosen qs (bits ++ rest) ≡ chosen qs bits
+pub chosen-front : (qs : List Corner) (bits rest : List Bool) → length bits ≡ length qs → chosen qs (bits ++ rest) ≡ chosen qs bits
 chosen-front [] bits rest l = refl
 chosen-front (q ∷ qs) [] rest l = absurd (omega (arith, l))
 chosen-front (q ∷ qs) (b ∷ bits) rest l = ap (λ zs. cond b (q ∷ zs) zs) (chosen-front qs bits rest (omega (arith, l)))

@@ -24,20 +24,20 @@ use Rattle.k2_file.proofs.LawTree.{level, below, cell-bits, chosen-map, fit-tree
 use Rattle.k2_file.proofs.LawRelation.{outside-tree, relation-tree, height-rows, height-cols, cover-whole, groups-whole}
 
 -- the header of a relation's file
-unfoldable head : Relation → List ℕ
+unfoldable pub head : Relation → List ℕ
 head r =
     codes "RVK1" ++ to_be_bytes w32 r.rows ++ to_be_bytes w32 r.cols ++ file_height r.rows r.cols ∷ []
     ++ to_be_bytes w64 (length (tree_part r)) ++ to_be_bytes w64 (length (cell_part r))
 
 -- how far the levels of a relation's file go
-abbrev deep : Relation → ℕ
+abbrev pub deep : Relation → ℕ
 deep r = file_height r.rows r.cols - 1
 
-tree-part : (r : Relation) → tree_part r ≡ inner_bits r (deep r) whole
+pub tree-part : (r : Relation) → tree_part r ≡ inner_bits r (deep r) whole
 unfolding tree_part
 tree-part r = refl
 
-cell-part : (r : Relation) → cell_part r ≡ cell_bits r (deep r) whole
+pub cell-part : (r : Relation) → cell_part r ≡ cell_bits r (deep r) whole
 unfolding cell_part
 cell-part r = refl
 
@@ -53,7 +53,7 @@ few-bits r =
     omega (arith, h, ap length (tree-part r), ap length (cell-part r))
 
 -- ---- the parts of the file
-k2-parts : (r : Relation) → k2 r ≡ (head r ++ packed 0 0 (tree_part r)) ++ packed 0 0 (cell_part r)
+pub k2-parts : (r : Relation) → k2 r ≡ (head r ++ packed 0 0 (tree_part r)) ++ packed 0 0 (cell_part r)
 unfolding k2 head
 k2-parts r = refl
 

@@ -1,3 +1,4 @@
+pub mod LawClimb
 pub mod LawBack
 pub mod LawFile
 pub mod LawRelation

@@ -41,10 +41,10 @@ unfolding fields
 cell_count-is bytes = refl
 
 -- ---- five tests
-five : Bool → Bool → Bool → Bool → Bool → Option BadFile
+pub five : Bool → Bool → Bool → Bool → Bool → Option BadFile
 five a b c d e = first_of_all (unless a Short ∷ unless b Magic ∷ unless c Sizes ∷ unless d Height ∷ unless e Short ∷ [])
 
-five-header : (bytes : List ℕ) → header_fault bytes ≡ five (leb header_length (length bytes)) (same_text (take 4 bytes) (codes "RVK1"))
+pub five-header : (bytes : List ℕ) → header_fault bytes ≡ five (leb header_length (length bytes)) (same_text (take 4 bytes) (codes "RVK1"))
     (leb (fields bytes).rows size_limit && leb (fields bytes).cols size_limit)
     ((fields bytes).height == file_height (fields bytes).rows (fields bytes).cols) (leb (end_of bytes) (length bytes))
 unfolding header_fault five
