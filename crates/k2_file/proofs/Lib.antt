@@ -1,3 +1,4 @@
+pub mod LawBytes
 pub mod LawClimb
 pub mod LawBack
 pub mod LawFile

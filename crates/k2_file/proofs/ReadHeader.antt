@@ -41,7 +41,7 @@ unfolding fields
 cell_count-is bytes = refl
 
 -- ---- five tests
-pub five : Bool → Bool → Bool → Bool → Bool → Option BadFile
+unfoldable pub five : Bool → Bool → Bool → Bool → Bool → Option BadFile
 five a b c d e = first_of_all (unless a Short ∷ unless b Magic ∷ unless c Sizes ∷ unless d Height ∷ unless e Short ∷ [])
 
 pub five-header : (bytes : List ℕ) → header_fault bytes ≡ five (leb header_length (length bytes)) (same_text (take 4 bytes) (codes "RVK1"))

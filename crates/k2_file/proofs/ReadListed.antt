@@ -84,7 +84,7 @@ module _ (bytes : List ℕ) (h : Header) (tree_count : ℕ) (tree : List ℕ) (c
       ∙ same-five (λ rows cols t xs ys. found_at Outside (cell_outside rows cols t (cells_told f) ys)) w.numbers.rows_are w.numbers.cols_are w.numbers.tree_is tree-told cells-told
 
 -- ---- the end
-pub two : Bool → Bool → Bool → Option BadFile
+unfoldable pub two : Bool → Bool → Bool → Option BadFile
 two a b c = first_of_all (unless (a && b) Padding ∷ unless c Rest ∷ [])
 
 pub two-end : (bytes : List ℕ) → end_fault bytes

@@ -4,10 +4,12 @@
 mod bits;
 mod corners;
 mod header;
+mod laws;
 mod levels;
 mod limits;
 mod read;
 mod sides;
 
+pub use laws::files_laws;
 pub use limits::{HEADER, SAVE_LIMIT};
 pub use read::read_k2;
