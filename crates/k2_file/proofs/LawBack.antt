@@ -2,16 +2,13 @@
 -- 1. From below: each submatrix that stands has a chosen cell, and each chosen cell lies in one that stands.
 -- 2. A quarter whose bit is not set is apart from the chosen ones, so it has no cell. So the bits say which quarters have one.
 -- 3. A group has a set bit, so its submatrix has a cell: the same holds one level up.
-use Rattle.std.proofs.Common.{◌≡◌, ◌==◌, ◌&&◌, ◌||◌, ◌+◌, ◌-◌, ◌*◌, ◌^◌, ◌<◌, ◌≤◌, ◌⊎◌, ℕ, zero, suc, Bool, true, false, cond, leb, List, [], ◌∷◌, ◌++◌, length, map, take, drop, Option, Some, None, refl, sym, ap, ◌∙◌, subst, inl, inr, arith, append_assoc}
-use Rattle.std.specs.List.{filter, list_any, flat_map, AllByRecursion}
-use Rattle.std.proofs.lemmas.Bool.{cases_Bool, and_parts, or_left, or_right, or_cases, false≢true, leb-true, eqb-true, false_from_ne_true}
-use Rattle.std.proofs.lemmas.List.{length-take-le, length-drop, take-append-drop, append-nil}
-use Rattle.rel_model.specs.Relation.{Relation}
+use Rattle.std.proofs.Common.{◌≡◌, ◌||◌, ◌+◌, ◌*◌, ◌⊎◌, ℕ, zero, suc, Bool, true, false, cond, List, [], ◌∷◌, ◌++◌, length, map, Option, Some, None, refl, ap, ◌∙◌, inl, inr, arith}
+use Rattle.std.specs.List.{list_any, flat_map, AllByRecursion}
+use Rattle.std.proofs.lemmas.Bool.{or_left, or_right, or_cases, false≢true, false_from_ne_true}
 use Rattle.rel_model.proofs.Grid.{all-weaker}
-use Rattle.run_model.specs.Files.{Corner, whole, quarters, meets, inner_bits, cell_bits, ones, no_bits, levels_fit, zero_group, chosen, cells_below}
-use Rattle.k2_file.proofs.ReadApart.{LiesIn, Apart, Covers, AreApart, all-chosen, covers-quarters, apart-quarters, apart-chosen, two-halves}
-use Rattle.k2_file.proofs.ReadWalk.{length-quarters, length-chosen}
-use Rattle.k2_file.proofs.LawTree.{level, next, lies, lies-in, in-lies, any-quarter, quarters-met, inner-step, chosen-map, cell-bits}
+use Rattle.run_model.specs.Files.{Corner, quarters, zero_group, chosen}
+use Rattle.k2_file.proofs.ReadApart.{Apart, Covers, AreApart, all-chosen, covers-quarters}
+use Rattle.k2_file.proofs.LawTree.{lies, lies-in, in-lies, any-quarter}
 use Rattle.k2_file.proofs.LawRelation.{any-all}
 
 -- what holds of those that are not chosen
@@ -167,9 +164,10 @@ own-up S side ps bits h =
 -- each of a list is found in it
 pub all-self : (g : Corner → Corner → Bool) → ((x : Corner) → g x x ≡ true) → (xs : List Corner) → AllByRecursion (λ x. list_any (g x) xs ≡ true) xs
 all-self g h [] = tt
-all-self g h (x ∷ xs) =
-    (or_left (g x x) (list_any (g x) xs) (h x),
-    all-weaker (λ y. list_any (g y) xs ≡ true) (λ y. list_any (g y) (x ∷ xs) ≡ true) (λ y e. or_right (g y x) (list_any (g y) xs) e) xs (all-self g h xs))
+all-self g h (x ∷ xs) = (
+  or_left (g x x) (list_any (g x) xs) (h x),
+  all-weaker (λ y. list_any (g y) xs ≡ true) (λ y. list_any (g y) (x ∷ xs) ≡ true) (λ y e. or_right (g y x) (list_any (g y) xs) e) xs (all-self g h xs),
+)
 
 pub lies-self : (x : Corner) → lies 1 x x ≡ true
 lies-self x = in-lies 1 x x (record { south = omega arith; north = omega arith; east = omega arith; west = omega arith })

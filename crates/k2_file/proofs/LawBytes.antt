@@ -2,24 +2,23 @@
 -- 1. Where no test fails, each test passes.
 -- 2. So the bits of the file are those of the tree of its relation.
 -- 3. And the header's bytes are those of its numbers, and the others those of the bits.
-use Rattle.std.proofs.Common.{◌≡◌, ◌==◌, ◌&&◌, ◌+◌, ◌-◌, ◌*◌, ◌^◌, ◌<◌, ◌≤◌, ℕ, zero, suc, Bool, true, false, cond, leb, List, [], ◌∷◌, ◌++◌, length, take, drop, get_or, codes, Option, Some, None, refl, sym, ap, ◌∙◌, subst, inl, inr, arith}
-use Rattle.std.specs.List.{AllByRecursion, flat_map, list_any, filter}
+use Rattle.std.proofs.Common.{◌≡◌, ◌+◌, ◌-◌, ◌*◌, ◌^◌, ◌<◌, ◌≤◌, ℕ, zero, suc, Bool, true, false, cond, List, [], ◌∷◌, ◌++◌, length, take, drop, get_or, codes, Option, Some, None, refl, sym, ap, ◌∙◌, arith}
+use Rattle.std.specs.List.{AllByRecursion, list_any}
 use Rattle.std.specs.Int.{w32, w64, to_be_bytes, from_be_bytes}
-use Rattle.std.proofs.lemmas.Bool.{cases_Bool, and_parts, leb-true, eqb-true}
+use Rattle.std.proofs.lemmas.Bool.{leb-true, eqb-true}
 use Rattle.std.proofs.lemmas.Slice.Eq.{bytes_eq-Decides}
 use Rattle.std.proofs.lemmas.Nat.{be_bytes_4, be_bytes_8}
 use Rattle.std.proofs.lemmas.List.{length-take-le, length-drop, take_all, drop_more}
 use Rattle.std.proofs.Math.Seq.{take-add}
 use Rattle.lang_model.specs.Missing.{first_of_both}
-use Rattle.lang_model.specs.Tokens.{same_text}
-use Rattle.rel_model.specs.Relation.{Relation, relation_of, size_limit}
-use Rattle.rel_model.specs.Listed.{is_among, AreWithin}
+use Rattle.rel_model.specs.Relation.{Relation}
+use Rattle.rel_model.specs.Listed.{AreWithin}
 use Rattle.run_model.specs.declared.outcome.BadFile.{BadFile}
 use Rattle.run_model.specs.declared.outcome.BadFile.TheVariants.{Lengths, ZeroGroup, Outside}
-use Rattle.run_model.specs.Files.{Corner, whole, quarters, meets, inner_bits, cell_bits, tree_part, cell_part, file_height, first_groups, packed, unpacked, bytes_for, part, header_length, fields, ones, levels_fit, zero_group, chosen, cells_below, cells_told, cell_outside, unless, found_at, first_of_all, k2, k2_fault, k2_relation}
+use Rattle.run_model.specs.Files.{Corner, whole, meets, inner_bits, cell_bits, tree_part, cell_part, file_height, first_groups, packed, bytes_for, part, header_length, fields, ones, levels_fit, zero_group, chosen, cells_below, cells_told, cell_outside, unless, found_at, first_of_all, k2, k2_fault, k2_relation}
 use Rattle.k2_file.specs.Told.{groups_of, header_fault, outside_fault, end_fault, end_of, pairs_told}
 use Rattle.k2_file.proofs.ReadFaults.{level_fault, fault-parts}
-use Rattle.k2_file.proofs.ReadHeader.{five, five-header, rows-is, cols-is, height-is, tree_count-is, cell_count-is, height-least}
+use Rattle.k2_file.proofs.ReadHeader.{five, five-header, rows-is, cols-is, height-is, tree_count-is, cell_count-is}
 use Rattle.k2_file.proofs.ReadListed.{two, two-end, tree-is, cells-is, rows-of, cols-of}
 use Rattle.k2_file.proofs.ReadBits.{length-unpacked}
 use Rattle.k2_file.proofs.ReadLevels.{groups-few}
@@ -184,7 +183,7 @@ module _ (bytes : List ℕ) (small : AllByRecursion (λ b. b < 256) bytes) (none
       let T = take f.tree_count f.tree in
       let L = take f.cell_count f.cells in
       let fit : levels_fit k (length (take groups whole)) T (length L) ≡ true =
-        ap (λ (n : ℕ). levels_fit k n T (length L)) (length-few groups (groups-few f.tree_count f.cell_count)) ∙ ap (λ (n : ℕ). levels_fit k groups T n) length-cells ∙ w.fit in
+      ap (λ (n : ℕ). levels_fit k n T (length L)) (length-few groups (groups-few f.tree_count f.cell_count)) ∙ ap (λ (n : ℕ). levels_fit k groups T n) length-cells ∙ w.fit in
       back (k2_relation bytes) (chosen (cells_told f) L) same-cells k (take groups whole) T L 0 (apart-whole (2 ^ suc k) groups) fit w.groups refl
 
   deep-is : deep (k2_relation bytes) ≡ (fields bytes).height - 1
@@ -237,17 +236,17 @@ module _ (bytes : List ℕ) (small : AllByRecursion (λ b. b < 256) bytes) (none
       let q = k2_relation bytes in
       let l = w.long in
       let four : (at : ℕ) → at + 4 ≤ 29 → (n : ℕ) → n ≡ from_be_bytes w32 (part bytes at 4) → to_be_bytes w32 n ≡ part bytes at 4 =
-        λ at m n e. be_bytes_4 (part bytes at 4) n (length-part bytes at 4 (omega (arith, m, l))) (small-at (part bytes at 4) (small-part bytes at 4 small)) e in
+      λ at m n e. be_bytes_4 (part bytes at 4) n (length-part bytes at 4 (omega (arith, m, l))) (small-at (part bytes at 4) (small-part bytes at 4 small)) e in
       let eight : (at : ℕ) → at + 8 ≤ 29 → (n : ℕ) → n ≡ from_be_bytes w64 (part bytes at 8) → to_be_bytes w64 n ≡ part bytes at 8 =
-        λ at m n e. be_bytes_8 (part bytes at 8) n (length-part bytes at 8 (omega (arith, m, l))) (small-at (part bytes at 8) (small-part bytes at 8 small)) e in
+      λ at m n e. be_bytes_8 (part bytes at 8) n (length-part bytes at 8 (omega (arith, m, l))) (small-at (part bytes at 8) (small-part bytes at 8 small)) e in
       let rows : to_be_bytes w32 q.rows ≡ part bytes 4 4 = four 4 (omega arith) q.rows (rows-of bytes ∙ rows-is bytes) in
       let cols : to_be_bytes w32 q.cols ≡ part bytes 8 4 = four 8 (omega arith) q.cols (cols-of bytes ∙ cols-is bytes) in
       let high : file_height q.rows q.cols ≡ get_or bytes 12 0 =
-        ap (λ (n : ℕ). file_height n q.cols) (rows-of bytes) ∙ ap (λ (n : ℕ). file_height f.rows n) (cols-of bytes) ∙ sym w.high ∙ height-is bytes in
+      ap (λ (n : ℕ). file_height n q.cols) (rows-of bytes) ∙ ap (λ (n : ℕ). file_height f.rows n) (cols-of bytes) ∙ sym w.high ∙ height-is bytes in
       let tree : to_be_bytes w64 (length (tree_part q)) ≡ part bytes 13 8 =
-        eight 13 (omega arith) (length (tree_part q)) (ap length tree-same ∙ length-tree ∙ tree_count-is bytes) in
+      eight 13 (omega arith) (length (tree_part q)) (ap length tree-same ∙ length-tree ∙ tree_count-is bytes) in
       let cells : to_be_bytes w64 (length (cell_part q)) ≡ part bytes 21 8 =
-        eight 21 (omega arith) (length (cell_part q)) (ap length cells-same ∙ length-cells ∙ cell_count-is bytes) in
+      eight 21 (omega arith) (length (cell_part q)) (ap length cells-same ∙ length-cells ∙ cell_count-is bytes) in
       let byte : file_height q.rows q.cols ∷ [] ≡ part bytes 12 1 = ap (λ (n : ℕ). n ∷ []) high ∙ sym (one-byte 12 (omega (arith, l))) in
       same-six (codes "RVK1") (to_be_bytes w32 q.rows) (to_be_bytes w32 q.cols) (file_height q.rows q.cols ∷ []) (to_be_bytes w64 (length (tree_part q))) (to_be_bytes w64 (length (cell_part q)))
       (sym w.name) rows cols byte tree cells

@@ -1,12 +1,12 @@
 -- The tree's bits from below: all levels, and a relation by its list.
-use Rattle.std.proofs.Common.{◌≡◌, ◌==◌, ◌&&◌, ◌||◌, ◌+◌, ◌*◌, ◌^◌, ◌<◌, ◌≤◌, ℕ, zero, suc, Bool, true, false, leb, List, [], ◌∷◌, ◌++◌, length, map, take, drop, Option, None, refl, sym, ap, ◌∙◌, subst, inl, inr, arith, append_assoc}
+use Rattle.std.proofs.Common.{◌≡◌, ◌==◌, ◌||◌, ◌+◌, ◌*◌, ◌^◌, ◌<◌, ℕ, zero, suc, Bool, true, false, leb, List, [], ◌∷◌, ◌++◌, length, map, take, drop, None, refl, sym, ap, ◌∙◌, subst, inl, inr, arith, append_assoc}
 use Rattle.std.specs.List.{filter, list_any, flat_map, AllByRecursion}
-use Rattle.std.proofs.lemmas.Bool.{cases_Bool, and_parts, and_from, or_left, or_right, false≢true, leb-true, eqb-true, eq-eqb, false_from_ne_true, both_ways}
+use Rattle.std.proofs.lemmas.Bool.{cases_Bool, and_parts, and_from, or_left, or_right, false≢true, leb-true, eqb-true, eq-eqb, false_from_ne_true}
 use Rattle.std.proofs.lemmas.List.{length-take-le, take-append-drop, append-nil, take_all}
 use Rattle.rel_model.specs.Relation.{Relation, relation_of, grid}
 use Rattle.rel_model.specs.Listed.{is_among, AreWithin}
 use Rattle.rel_model.proofs.Grid.{grid-member}
-use Rattle.run_model.specs.Files.{Corner, whole, quarters, meets, inner_bits, cell_bits, ones, levels_fit, zero_group, chosen, cells_below}
+use Rattle.run_model.specs.Files.{Corner, quarters, meets, inner_bits, cell_bits, ones, levels_fit, zero_group, chosen, cells_below}
 use Rattle.k2_file.proofs.ReadApart.{AreApart, apart-quarters, apart-chosen, two-halves}
 use Rattle.k2_file.proofs.ReadWalk.{length-quarters, length-chosen}
 use Rattle.k2_file.proofs.LawTree.{level, lies, any-quarter, any-filter, all-filter-passes, quarters-met, inner-step, chosen-map, cell-bits}
@@ -60,7 +60,7 @@ module _ (r : Relation) (S : List Corner) (same : (side : ℕ) (p : Corner) → 
       let cs : chosen qs T ≡ C = ap (chosen qs) (sym join) ∙ chosen-front qs bits rest (lb ∙ sym lq) in
       let ds : drop (length qs) T ≡ rest = ap (λ (m : ℕ). drop m T) lq in
       let e1 : S ≡ chosen (cells_below k C rest) L =
-        e ∙ ap (λ zs. chosen (cells_below k zs (drop (length qs) T)) L) cs ∙ ap (λ xs. chosen (cells_below k C xs) L) ds in
+      e ∙ ap (λ zs. chosen (cells_below k zs (drop (length qs) T)) L) cs ∙ ap (λ xs. chosen (cells_below k C xs) L) ds in
       let aq : AreApart s qs = apart-quarters s ps (subst (λ x. AreApart x ps) (two-halves (suc k)) a) in
       let i = back k C rest L (at + n) (apart-chosen s qs bits aq) fit1 zr e1 in
       let is : map (meets r s) qs ≡ bits = map-agree s qs ∙ level-bits S s qs bits (lb ∙ sym lq) aq i.have i.own in

@@ -2,23 +2,22 @@
 -- 1. Its first 29 bytes are the fields; the bytes of T and of L stand behind.
 -- 2. So each field is the number that was written, and the bits are those of the tree.
 -- 3. The tests pass, group by group, and the cells that are chosen are the relation's.
-use Rattle.std.proofs.Common.{◌≡◌, ◌==◌, ◌&&◌, ◌+◌, ◌-◌, ◌*◌, ◌^◌, ◌<◌, ◌≤◌, ℕ, suc, Bool, true, false, cond, List, [], ◌∷◌, ◌++◌, length, map, take, drop, get_or, codes, Option, Some, None, refl, sym, ap, ◌∙◌, subst, arith}
+use Rattle.std.proofs.Common.{◌≡◌, ◌==◌, ◌&&◌, ◌+◌, ◌-◌, ◌^◌, ◌<◌, ◌≤◌, ℕ, suc, Bool, true, false, cond, List, [], ◌∷◌, ◌++◌, length, map, take, drop, codes, Option, None, refl, sym, ap, ◌∙◌, subst, arith}
 use Rattle.std.specs.List.{filter}
 use Rattle.std.specs.Int.{w32, w64, to_be_bytes}
 use Rattle.std.proofs.lemmas.Bool.{eq-eqb}
 use Rattle.std.proofs.lemmas.List.{length-append, take_at, drop_at, take_all, drop-drop, append-nil}
 use Rattle.std.proofs.lemmas.Nat.{from_be_bytes-to_be_bytes_4, from_be_bytes-to_be_bytes_8}
-use Rattle.rel_model.specs.Relation.{Relation, IsRelation, has, relation_of, size_limit}
+use Rattle.rel_model.specs.Relation.{Relation, IsRelation, relation_of, size_limit}
 use Rattle.rel_model.specs.Listed.{is_among}
 use Rattle.lang_model.specs.Tokens.{same_text}
-use Rattle.run_model.specs.declared.outcome.BadFile.{BadFile}
 use Rattle.run_model.specs.declared.outcome.BadFile.TheVariants.{Lengths, ZeroGroup, Outside}
 use Rattle.run_model.specs.Files.{Corner, whole, meets, inner_bits, cell_bits, tree_part, cell_part, file_height, packed, unpacked, bytes_for, part, header_length, fields, ones, levels_fit, zero_group, chosen, cells_below, cells_told, cell_outside, unless, found_at, first_of_all, k2, k2_fault, k2_relation}
 use Rattle.k2_file.specs.Told.{groups_of, fault_of_levels, header_fault, outside_fault, end_fault, end_of}
 use Rattle.k2_file.proofs.ReadFaults.{level_fault, fault-end}
 use Rattle.k2_file.proofs.ReadHeader.{rows-is, cols-is, height-is, tree_count-is, cell_count-is, header-good, height-least, height-most}
 use Rattle.k2_file.proofs.ReadLevels.{fit-few}
-use Rattle.k2_file.proofs.ReadListed.{same-five, tree-is, cells-is, two, two-end, two-none}
+use Rattle.k2_file.proofs.ReadListed.{same-five, tree-is, cells-is, two-end, two-none}
 use Rattle.k2_file.proofs.LawBits.{length-packed, ones-packed, take-packed}
 use Rattle.k2_file.proofs.LawTree.{level, below, cell-bits, chosen-map, fit-tree, cells-tree, groups-tree}
 use Rattle.k2_file.proofs.LawRelation.{outside-tree, relation-tree, height-rows, height-cols, cover-whole, groups-whole}
@@ -49,7 +48,7 @@ level-few false = omega arith
 few-bits : (r : Relation) → length (tree_part r) + length (cell_part r) < 2 ^ 50
 few-bits r =
     let h = fit-few (deep r) (length (level r (deep r) whole)) (inner_bits r (deep r) whole) (length (cell_bits r (deep r) whole)) (fit-tree r (deep r) whole)
-      (omega (arith, height-least r.rows r.cols, height-most r.rows r.cols)) (level-few (meets r (2 ^ suc (deep r)) (0, 0))) in
+    (omega (arith, height-least r.rows r.cols, height-most r.rows r.cols)) (level-few (meets r (2 ^ suc (deep r)) (0, 0))) in
     omega (arith, h, ap length (tree-part r), ap length (cell-part r))
 
 -- ---- the parts of the file
@@ -168,11 +167,11 @@ module _ (r : Relation) (v : IsRelation r) (a : r.rows ≤ size_limit) (b : r.co
       let groups = groups_of (length (tree_part r)) (length (cell_part r)) in
       let count : groups ≡ length (level r k whole) = sym (length-groups ((length (tree_part r) == 0) && (length (cell_part r) == 0))) ∙ ap length level-length in
       let fit : levels_fit k groups (tree_part r) (length (cell_part r)) ≡ true =
-        ap (λ (n : ℕ). levels_fit k n (tree_part r) (length (cell_part r))) count
-        ∙ ap (λ xs. levels_fit k (length (level r k whole)) xs (length (cell_part r))) (tree-part r)
-        ∙ ap (λ xs. levels_fit k (length (level r k whole)) T (length xs)) (cell-part r) ∙ fit-tree r k whole in
+      ap (λ (n : ℕ). levels_fit k n (tree_part r) (length (cell_part r))) count
+      ∙ ap (λ xs. levels_fit k (length (level r k whole)) xs (length (cell_part r))) (tree-part r)
+      ∙ ap (λ xs. levels_fit k (length (level r k whole)) T (length xs)) (cell-part r) ∙ fit-tree r k whole in
       let none : zero_group 0 (tree_part r ++ cell_part r) ≡ None =
-        ap (λ xs. zero_group 0 (xs ++ cell_part r)) (tree-part r) ∙ ap (λ xs. zero_group 0 (T ++ xs)) (cell-part r) ∙ groups-tree r k k whole whole in
+      ap (λ xs. zero_group 0 (xs ++ cell_part r)) (tree-part r) ∙ ap (λ xs. zero_group 0 (T ++ xs)) (cell-part r) ∙ groups-tree r k k whole whole in
       same-five (λ height t l xs ys. fault_of_levels height (groups_of t l) xs ys l) (height-file r) (tree_count-file r) (cell_count-file r) (tree-bits r) (cells-bits r)
       ∙ two-tests (levels_fit k groups (tree_part r) (length (cell_part r))) (zero_group 0 (tree_part r ++ cell_part r)) fit none
 

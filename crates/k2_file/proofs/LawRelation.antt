@@ -1,5 +1,5 @@
 -- The relation of a tree's cells is the relation whose tree it is, and no cell is outside its sizes.
-use Rattle.std.proofs.Common.{◌≡◌, ◌==◌, ◌&&◌, ◌||◌, ◌+◌, ◌-◌, ◌*◌, ◌^◌, ◌<◌, ◌≤◌, ℕ, zero, suc, Bool, true, false, cond, not, leb, ltb, List, [], ◌∷◌, ◌++◌, length, map, take, drop, Option, Some, None, refl, sym, ap, ◌∙◌, subst, inl, inr, arith}
+use Rattle.std.proofs.Common.{◌≡◌, ◌==◌, ◌&&◌, ◌||◌, ◌+◌, ◌*◌, ◌^◌, ◌<◌, ◌≤◌, ℕ, zero, suc, Bool, true, false, cond, not, leb, ltb, List, [], ◌∷◌, length, map, take, Some, None, refl, sym, ap, ◌∙◌, inl, inr, arith}
 use Rattle.std.specs.List.{filter, list_any, AllByRecursion}
 use Rattle.std.proofs.lemmas.Bool.{cases_Bool, and_parts, and_from, false≢true, eqb-true, eq-eqb, lt-ltb, both_ways, false_from_ne_true, leb-true}
 use Rattle.rel_model.specs.Relation.{Relation, IsRelation, has, relation_of, size_limit}
@@ -8,11 +8,10 @@ use Rattle.rel_model.specs.Worker.{height_of}
 use Rattle.rel_model.proofs.Relations.{of_itself, relation_of-agree}
 use Rattle.rel_model.proofs.Heights.{height_of-covers}
 use Rattle.std.proofs.Math.Nat.{pow-le-pow_right}
-use Rattle.run_model.specs.Files.{Corner, whole, quarters, meets, inner_bits, cell_bits, levels_fit, cell_outside, file_height}
+use Rattle.run_model.specs.Files.{Corner, whole, meets, inner_bits, cell_bits, levels_fit, cell_outside, file_height}
 use Rattle.k2_file.specs.Told.{groups_of}
-use Rattle.k2_file.proofs.ReadApart.{LiesIn}
 use Rattle.k2_file.proofs.ReadLevels.{fit-most}
-use Rattle.k2_file.proofs.LawTree.{level, below, lies, lies-in, in-lies, Found, find-any, any-quarter, any-filter, all-filter-passes, fit-tree, in-below}
+use Rattle.k2_file.proofs.LawTree.{level, below, lies, lies-in, in-lies, find-any, any-quarter, any-filter, all-filter-passes, fit-tree, in-below}
 
 -- one that a test finds, with what holds of all
 pub any-all : (f : Corner → Bool) (P : Corner → Type 0) (xs : List Corner) → AllByRecursion P xs → list_any f xs ≡ true → (x : Corner) × (f x ≡ true) × P x
@@ -143,7 +142,7 @@ groups-whole r k =
     elim (cases_Bool (meets r (2 ^ suc k) (0, 0))) [
       | inl t ↦ (let one : levels_fit k 1 tree (length cells) ≡ true = ap (λ b. levels_fit k (length {A = Corner} (cond b ((0, 0) ∷ []) [])) tree (length cells)) (sym t) ∙ fit in
           let test : ((length tree == 0) && (length cells == 0)) ≡ false = false_from_ne_true ((length tree == 0) && (length cells == 0)) (λ e. (let p = and_parts (length tree == 0) (length cells == 0) e in
-            no-bits-fit k tree (length cells) one (eqb-true (length tree) 0 p.0) (eqb-true (length cells) 0 p.1))) in
+          no-bits-fit k tree (length cells) one (eqb-true (length tree) 0 p.0) (eqb-true (length cells) 0 p.1))) in
           ap (λ b. take (cond b 0 1) whole) test ∙ sym (ap (λ b. cond {A = List Corner} b ((0, 0) ∷ []) []) t))
       | inr t ↦ (let none : levels_fit k 0 tree (length cells) ≡ true = ap (λ b. levels_fit k (length {A = Corner} (cond b ((0, 0) ∷ []) [])) tree (length cells)) (sym t) ∙ fit in
           let few = fit-most k 0 tree (length cells) none in

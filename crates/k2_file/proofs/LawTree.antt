@@ -2,13 +2,12 @@
 -- 1. At each level the submatrices that have a pair stand for the groups; their quarters are those of which the next bits tell.
 -- 2. So to choose by the bits is to keep those that have a pair, and each count is that of the level before.
 -- 3. A submatrix that has a pair has a quarter that has it, so no group is without a set bit, and each pair is among the cells.
-use Rattle.std.proofs.Common.{◌≡◌, ◌==◌, ◌&&◌, ◌||◌, ◌+◌, ◌-◌, ◌*◌, ◌^◌, ◌<◌, ◌≤◌, ℕ, zero, suc, Bool, true, false, cond, not, leb, ltb, List, [], ◌∷◌, ◌++◌, length, map, take, drop, Option, Some, None, refl, sym, ap, ◌∙◌, subst, inl, inr, arith, append_assoc}
+use Rattle.std.proofs.Common.{◌≡◌, ◌==◌, ◌&&◌, ◌||◌, ◌+◌, ◌*◌, ◌^◌, ℕ, zero, suc, Bool, true, false, cond, leb, ltb, List, [], ◌∷◌, ◌++◌, length, map, take, drop, Some, None, refl, sym, ap, ◌∙◌, subst, inl, inr, arith, append_assoc}
 use Rattle.std.specs.List.{filter, list_any, flat_map, AllByRecursion}
-use Rattle.std.proofs.lemmas.Bool.{cases_Bool, cases_lt, and_parts, and_from, or_left, or_right, false≢true, leb-true, ltb-true, le-leb, lt-ltb, eqb-true, eq-eqb, both_ways}
-use Rattle.std.proofs.lemmas.List.{length-append, length-map, take_at, drop_at, append-nil, drop_all}
-use Rattle.rel_model.specs.Relation.{Relation, has}
-use Rattle.rel_model.specs.Listed.{is_among}
-use Rattle.run_model.specs.Files.{Corner, quarters, meets, quarters_met, inner_bits, cell_bits, ones, number_of_bit, levels_fit, zero_group, chosen, cells_below, cell_outside}
+use Rattle.std.proofs.lemmas.Bool.{cases_Bool, cases_lt, and_parts, and_from, or_left, or_right, false≢true, leb-true, ltb-true, le-leb, lt-ltb, eqb-true, eq-eqb}
+use Rattle.std.proofs.lemmas.List.{length-append, length-map, take_at, drop_at, append-nil}
+use Rattle.rel_model.specs.Relation.{Relation}
+use Rattle.run_model.specs.Files.{Corner, quarters, meets, quarters_met, inner_bits, cell_bits, ones, number_of_bit, levels_fit, zero_group, chosen, cells_below}
 use Rattle.k2_file.proofs.ReadApart.{LiesIn, two-halves}
 use Rattle.k2_file.proofs.ReadWalk.{length-quarters}
 
@@ -212,9 +211,9 @@ any-filter f g h [] e = absurd (false≢true e)
 any-filter f g h (x ∷ xs) e = elim (cases_Bool (g x)) [
   | inl t ↦ subst (λ b. list_any g (cond b (x ∷ filter f xs) (filter f xs)) ≡ true) (sym (h x t)) (or_left (g x) (list_any g (filter f xs)) t)
   | inr t ↦ (let rest = any-filter f g h xs (ap (λ b. b || list_any g xs) (sym t) ∙ e) in elim (cases_Bool (f x)) [
-      | inl u ↦ subst (λ b. list_any g (cond b (x ∷ filter f xs) (filter f xs)) ≡ true) (sym u) (or_right (g x) (list_any g (filter f xs)) rest)
-      | inr u ↦ subst (λ b. list_any g (cond b (x ∷ filter f xs) (filter f xs)) ≡ true) (sym u) rest
-    ])
+    | inl u ↦ subst (λ b. list_any g (cond b (x ∷ filter f xs) (filter f xs)) ≡ true) (sym u) (or_right (g x) (list_any g (filter f xs)) rest)
+    | inr u ↦ subst (λ b. list_any g (cond b (x ∷ filter f xs) (filter f xs)) ≡ true) (sym u) rest
+  ])
 ]
 
 any-quarters : (side : ℕ) (q : Corner) (ps : List Corner) → list_any (λ p. lies (side + side) p q) ps ≡ true → list_any (λ s. lies side s q) (flat_map (quarters side) ps) ≡ true
