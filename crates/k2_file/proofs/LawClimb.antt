@@ -1,4 +1,6 @@
 -- The tree's bits from below: all levels, and a relation by its list.
+-- 1. By induction over the levels: below a list of submatrices that are apart, the bits of T and L are those of the relation of the chosen cells.
+-- 2. The relation of a list has the list's pairs, so what a test finds in the one it finds in the other.
 use Rattle.std.proofs.Common.{◌≡◌, ◌==◌, ◌||◌, ◌+◌, ◌*◌, ◌^◌, ◌<◌, ℕ, zero, suc, Bool, true, false, leb, List, [], ◌∷◌, ◌++◌, length, map, take, drop, None, refl, sym, ap, ◌∙◌, subst, inl, inr, arith, append_assoc}
 use Rattle.std.specs.List.{filter, list_any, flat_map, AllByRecursion}
 use Rattle.std.proofs.lemmas.Bool.{cases_Bool, and_parts, and_from, or_left, or_right, false≢true, leb-true, eqb-true, eq-eqb, false_from_ne_true}

@@ -1,4 +1,7 @@
 -- The relation of a tree's cells is the relation whose tree it is, and no cell is outside its sizes.
+-- 1. A cell that has a pair is the place of the pair, which lies within the sizes.
+-- 2. Each pair is within the whole matrix, and so among the cells: those that have a pair are the places of the pairs.
+-- 3. The whole matrix is the one group of the first level where it has a pair, and then there are bits; else there is none.
 use Rattle.std.proofs.Common.{◌≡◌, ◌==◌, ◌&&◌, ◌||◌, ◌+◌, ◌*◌, ◌^◌, ◌<◌, ◌≤◌, ℕ, zero, suc, Bool, true, false, cond, not, leb, ltb, List, [], ◌∷◌, length, map, take, Some, None, refl, sym, ap, ◌∙◌, inl, inr, arith}
 use Rattle.std.specs.List.{filter, list_any, AllByRecursion}
 use Rattle.std.proofs.lemmas.Bool.{cases_Bool, and_parts, and_from, false≢true, eqb-true, eq-eqb, lt-ltb, both_ways, false_from_ne_true, leb-true}

@@ -1,4 +1,7 @@
 -- The tests of a file in the groups in which they are made: the header, the levels, the cells and the end.
+-- 1. The first fault of two lists of tests, one behind the other, is that of the first list, or else that of the second.
+-- 2. So a group's fault is the file's where the groups before it have none.
+-- 3. No test says that the table is full, since each names its own fault.
 use Rattle.std.proofs.Common.{◌≡◌, ◌==◌, ◌&&◌, ◌-◌, ℕ, Bool, true, false, List, [], ◌∷◌, ◌++◌, length, take, drop, codes, nat_le, Option, Some, None, refl, ap, ◌∙◌}
 use Rattle.run_model.specs.declared.outcome.BadFile.{BadFile}
 use Rattle.run_model.specs.declared.outcome.BadFile.TheVariants.{Short, Magic, Sizes, Height, Lengths, ZeroGroup, Outside, Padding, Rest, Full, NoMemory}

@@ -1,4 +1,6 @@
 -- The numbers of a header, and the first of its tests that fails.
+-- 1. Each field is the number in its bytes, by `byteorder` as by std.
+-- 2. The tests are five truth values in a row; where the first ones are true and the next is false, the fault is the next one's.
 use Rattle.std.proofs.Common.{◌≡◌, ◌==◌, ◌&&◌, ◌+◌, ◌≤◌, ◌<◌, ℕ, Bool, true, false, leb, List, [], ◌∷◌, length, take, get_or, codes, Option, Some, None, refl, ap, ◌∙◌, arith}
 use Rattle.std.specs.Int.{w32, w64, from_be_bytes}
 use Rattle.byteorder.specs.Endian.{big_number}

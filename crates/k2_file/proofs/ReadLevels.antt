@@ -1,4 +1,7 @@
 -- The levels of a tree's bits, and how many bits they are at most.
+-- 1. So many levels are passed: those that are left fit exactly where all do. One level more is one step of the definition.
+-- 2. A group has four groups below at most, so bits that fit are at most a sum of powers of 4 for each group of the first level.
+-- 3. A file has at most 24 levels and one group at first, so it has fewer than 2 ^ 50 bits.
 use Rattle.std.proofs.Common.{◌≡◌, ◌==◌, ◌&&◌, ◌+◌, ◌-◌, ◌*◌, ◌/◌, ◌^◌, ◌<◌, ◌≤◌, ℕ, zero, suc, Bool, true, false, cond, leb, Option, None, List, [], ◌∷◌, ◌++◌, length, take, drop, refl, sym, ap, ◌∙◌, arith}
 use Rattle.std.proofs.lemmas.List.{length-drop, length-take, drop-drop, drop_all, drop_more}
 use Rattle.std.proofs.lemmas.Bool.{and_parts, leb-true, le-leb, lt-leb, eqb-true, false≢true}

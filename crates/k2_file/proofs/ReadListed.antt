@@ -1,4 +1,7 @@
 -- What a file's parts tell, by its header; and the relation of the cells that are listed.
+-- 1. A header has the numbers of the fields, so what is said of its parts is said of the file's: a function of five is the same at the same five.
+-- 2. The relation of the listed pairs is the file's, by its definition.
+-- 3. The list is distinct, so it is no longer than the relation, and its room is within the file's cost.
 use Rattle.std.proofs.Common.{◌≡◌, ◌==◌, ◌&&◌, ◌+◌, ◌-◌, ◌*◌, ◌≤◌, ℕ, Bool, true, false, List, [], ◌∷◌, length, take, drop, Option, Some, None, Err, refl, sym, ap, ◌∙◌, subst, arith}
 use Rattle.std.proofs.lemmas.Bool.{eq-eqb, ne_eqb}
 use Rattle.std.proofs.Math.Nat.{mul-le-mul_right}
