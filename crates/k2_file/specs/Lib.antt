@@ -1,0 +1,4 @@
+pub mod Squares
+pub mod Levels
+pub mod Counts
+pub mod Writing
