@@ -1,5 +1,5 @@
 -- The bits below squares: by quarters, over several calls, and as a memory keeps them.
-use Rattle.std.proofs.Common.{◌≡◌, ◌<◌, ◌≤◌, ◌+◌, ◌-◌, ◌*◌, ◌^◌, ◌&&◌, eqb, cond, zero, suc, ℕ, true, false, refl, sym, ap, subst, ◌∙◌, inl, inr, arith, Option, Some, None}
+use Rattle.std.proofs.Common.{◌≡◌, ◌≤◌, ◌+◌, ◌^◌, ◌&&◌, eqb, cond, zero, suc, ℕ, true, false, refl, sym, ap, subst, ◌∙◌, inl, inr, arith, Option, Some, None}
 use Rattle.std.proofs.Math.Nat.{pow-le-pow_right}
 use Rattle.std.proofs.lemmas.Bool.{cases_Bool, and_parts, eqb-true}
 use Rattle.rel_model.specs.declared.Quad.{Quad}
@@ -7,7 +7,7 @@ use Rattle.rel_model.specs.Cells.{Cells}
 use Rattle.rel_model.specs.Worker.{Worker, HasQuad, quad_set, Keeps}
 use Rattle.rel_model.proofs.Workers.{keeps_trans}
 use Rattle.k2_file.specs.declared.squares.Square.{Square}
-use Rattle.k2_file.specs.declared.squares.Square.TheVariants.{Tree, Part}
+use Rattle.k2_file.specs.declared.squares.Square.TheVariants.{Tree}
 use Rattle.k2_file.specs.Squares.{piece, some_cell, square_cells, IsSquare, Shows, ShowsFour}
 use Rattle.k2_file.specs.Counts.{bits_under, square_bits, part_bits, IsFull, IsFullPart, quad_bits, AreCounts}
 use Rattle.k2_file.proofs.WriteLevels.{under-limit}

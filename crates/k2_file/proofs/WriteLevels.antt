@@ -2,7 +2,7 @@
 -- 1. The submatrices of a level that meet the relation are the sets of that level: the quarters of a piece are the pieces of the quarters.
 -- 2. So the bits of each level are those of the sets, by induction on the levels.
 -- 3. A level has four bits for each set of the level above, which all have a cell; so the bits below a set are four and those below its quarters.
-use Rattle.std.proofs.Common.{◌≡◌, ◌≤◌, ◌+◌, ◌-◌, ◌*◌, ◌^◌, cond, zero, suc, ℕ, Bool, true, false, List, [], ◌∷◌, ◌++◌, length, map, filter, refl, sym, ap, subst, ◌∙◌, inl, inr, arith, length-append}
+use Rattle.std.proofs.Common.{◌≡◌, ◌≤◌, ◌+◌, ◌-◌, ◌*◌, ◌^◌, zero, suc, ℕ, true, false, List, [], ◌∷◌, ◌++◌, length, map, filter, refl, sym, ap, subst, ◌∙◌, inl, inr, arith, length-append}
 use Rattle.std.proofs.lemmas.Bool.{cases_Bool}
 use Rattle.std.proofs.lemmas.List.Elements.{filter-append}
 use Rattle.std.proofs.Math.Nat.{pow-suc}

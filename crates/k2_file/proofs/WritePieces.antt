@@ -1,8 +1,8 @@
 -- Pieces of sets of cells: when two are one, pieces of pieces, quarters, and which have a cell.
 -- 1. Two pieces are one where their sets agree on the cells within them; so a piece of a piece is a piece.
 -- 2. A piece of a relation has a cell exactly where the relation meets its submatrix.
-use Rattle.std.proofs.Common.{◌≡◌, ◌<◌, ◌≤◌, ◌+◌, ◌-◌, ◌^◌, ◌&&◌, ◌||◌, ltb, leb, zero, suc, ℕ, Bool, true, false, List, [], ◌∷◌, refl, sym, ap, subst, ◌∙◌, inl, inr, arith}
-use Rattle.std.proofs.lemmas.Bool.{cases_Bool, cases_lt, or_cases, or_right, and_parts, and_from, lt-ltb, le-ltb, ltb-true, leb-true, le-leb, false≢true}
+use Rattle.std.proofs.Common.{◌≡◌, ◌<◌, ◌≤◌, ◌+◌, ◌-◌, ◌&&◌, ◌||◌, ltb, leb, ℕ, Bool, true, false, List, [], ◌∷◌, refl, sym, ap, ◌∙◌, inl, inr, arith}
+use Rattle.std.proofs.lemmas.Bool.{cases_lt, or_cases, or_right, and_parts, and_from, lt-ltb, le-ltb, ltb-true, leb-true, le-leb, false≢true}
 use Rattle.std.specs.List.{list_any}
 use Rattle.rel_model.specs.Cells.{Cells, no_cells, some_below}
 use Rattle.rel_model.specs.Relation.{Relation, has}
@@ -10,9 +10,9 @@ use Rattle.rel_model.specs.Trees.{quartered}
 use Rattle.rel_model.specs.Quarters.{LiesWithin}
 use Rattle.rel_model.proofs.TreeLaws.{same_cells}
 use Rattle.rel_model.proofs.Pairs.{same, member, same-true, same_itself}
-use Rattle.rel_model.proofs.Somes.{same_truth, not_true, some_from, some_passes, some_none}
-use Rattle.run_model.specs.Files.{Corner, meets, quarters}
-use Rattle.k2_file.specs.Squares.{piece, some_cell, four_pieces}
+use Rattle.rel_model.proofs.Somes.{same_truth, not_true, some_from, some_passes}
+use Rattle.run_model.specs.Files.{Corner, meets}
+use Rattle.k2_file.specs.Squares.{piece, some_cell}
 
 -- ---- a piece cell by cell
 pub piece-in : (m a b : ℕ) (f : Cells) (i j : ℕ) → i < m → j < m → piece m a b f i j ≡ f (a + i) (b + j)

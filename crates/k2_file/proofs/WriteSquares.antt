@@ -1,5 +1,5 @@
 -- What squares show: windows within a leaf, quads over the leaves, and their quarters.
-use Rattle.std.proofs.Common.{◌≡◌, ◌<◌, ◌≤◌, ◌+◌, ◌-◌, ◌^◌, ◌||◌, zero, suc, ℕ, Bool, true, false, refl, sym, ap, subst, ◌∙◌, inl, inr, arith, Option, Some, None}
+use Rattle.std.proofs.Common.{◌≡◌, ◌≤◌, ◌+◌, ◌-◌, ◌^◌, ◌||◌, suc, ℕ, Bool, true, false, refl, sym, ap, subst, ◌∙◌, inl, inr, arith, Option, Some, None}
 use Rattle.std.specs.Prelude.{IsSome, unwrap_or}
 use Rattle.std.proofs.lemmas.Bool.{cases_Bool, cases_lt}
 use Rattle.std.proofs.Math.Nat.{pow-suc, pow-le-pow_right}
@@ -12,9 +12,9 @@ use Rattle.rel_model.proofs.Workers.{keeps_trans}
 use Rattle.k2_file.specs.declared.windows.Window.{Window}
 use Rattle.k2_file.specs.declared.squares.Square.{Square}
 use Rattle.k2_file.specs.declared.squares.Square.TheVariants.{Tree, Part}
-use Rattle.k2_file.specs.Squares.{piece, some_cell, window_cells, square_cells, IsWindow, IsLeafWindow, IsSquare, IsShown, Shows, ShowsFour, IsShownPart, ShowsWindow, ShowsFourWindows}
+use Rattle.k2_file.specs.Squares.{piece, some_cell, window_cells, square_cells, IsWindow, IsLeafWindow, IsSquare, Shows, ShowsFour, IsShownPart, ShowsWindow, ShowsFourWindows}
 use Rattle.k2_file.proofs.WriteHeights.{side-small}
-use Rattle.k2_file.proofs.WritePieces.{piece-in, piece-piece, piece-none, no_piece, piece-nw, piece-ne, piece-sw, piece-se}
+use Rattle.k2_file.proofs.WritePieces.{piece-piece, piece-none, no_piece, piece-nw, piece-ne, piece-sw, piece-se}
 
 -- ---- what a worker keeps
 pub keeps_quad : (a b : Worker) (q : Quad) → Keeps a b → HasQuad a q → HasQuad b q

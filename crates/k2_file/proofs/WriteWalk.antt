@@ -1,5 +1,5 @@
 -- The walk over the levels: what the squares of a level add, one square more, and one level more.
-use Rattle.std.proofs.Common.{◌≡◌, ◌<◌, ◌≤◌, ◌+◌, ◌-◌, ◌^◌, cond, zero, suc, ℕ, Bool, true, false, List, [], ◌∷◌, ◌++◌, length, get_or, take, map, filter, refl, sym, ap, subst, ◌∙◌, arith, append_assoc, Option, Some, None}
+use Rattle.std.proofs.Common.{◌≡◌, ◌<◌, ◌≤◌, ◌+◌, ◌-◌, ◌^◌, cond, zero, suc, ℕ, Bool, List, [], ◌∷◌, ◌++◌, length, get_or, take, map, filter, refl, sym, ap, subst, ◌∙◌, arith, append_assoc, Option, Some, None}
 use Rattle.std.specs.Prelude.{is_some}
 use Rattle.std.specs.List.{flat_map, AllByRecursion}
 use Rattle.std.proofs.Math.Seq.{take-suc}
@@ -11,7 +11,7 @@ use Rattle.rel_model.specs.Relation.{Relation}
 use Rattle.rel_model.specs.Worker.{Worker, Keeps}
 use Rattle.run_model.specs.Files.{file_height, tree_part, cell_part}
 use Rattle.k2_file.specs.declared.squares.Square.{Square}
-use Rattle.k2_file.specs.Squares.{piece, some_cell, four_pieces, square_cells, IsSquare, Shows, ShowsFour}
+use Rattle.k2_file.specs.Squares.{piece, some_cell, square_cells, IsSquare, Shows, ShowsFour}
 use Rattle.k2_file.specs.Levels.{quarter_bits, quarters_met, level_bits, next_level, upper_bits, lowest_bits, first_level, AreSquares, Adds, list_of}
 use Rattle.k2_file.proofs.WriteLevels.{map-append, tree-levels, cell-levels}
 use Rattle.k2_file.proofs.WriteSquares.{square-stays, square_cells-stay}

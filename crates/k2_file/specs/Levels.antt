@@ -3,9 +3,10 @@ use Rattle.std.specs.Prelude.{◌≡◌, ◌+◌, ◌^◌, zero, suc, ℕ, Bool,
 use Rattle.std.specs.List.{flat_map, AllByRecursion}
 use Rattle.rel_model.specs.Cells.{Cells}
 use Rattle.rel_model.specs.Relation.{Relation, has}
-use Rattle.rel_model.specs.Worker.{Worker}
+use Rattle.rel_model.specs.Worker.{Worker, set_of}
+use Rattle.rel_model.specs.declared.Rel.{Rel}
 use Rattle.k2_file.specs.declared.squares.Square.{Square}
-use Rattle.k2_file.specs.Squares.{piece, some_cell, four_pieces, square_cells, IsSquare}
+use Rattle.k2_file.specs.Squares.{piece, some_cell, four_pieces, square_cells, square_set, IsSquare}
 
 -- whether each quarter of side m of a set has a cell
 abbrev pub quarter_bits : ℕ → Cells → List Bool
@@ -46,6 +47,26 @@ pub record AreSquares (w : Worker) (least h : ℕ) (squares : List Square) (fs :
 pub record Adds (old new : Worker) (least h : ℕ) (before after : List Square) (more : List Cells) : Type 0 where
   pub sound : AllByRecursion (IsSquare new least h) after
   pub means : map (square_cells new (2 ^ h)) after ≡ map (square_cells old (2 ^ h)) before ++ more
+
+-- the bits of the quarters, of a height, of a square
+abbrev pub bits_of : Worker → ℕ → Square → List Bool
+bits_of w h s = quarter_bits (2 ^ h) (square_set w (h + 1) s)
+
+-- its quarters that have a cell were added
+abbrev pub AddsQuarters : Worker → Worker → ℕ → ℕ → Square → List Square → List Square → Type 0
+AddsQuarters old new least h s before after = Adds old new least h before after (quarters_met (2 ^ h) (square_set old (h + 1) s))
+
+-- the bits of a level of squares, whose quarters are of a height
+abbrev pub bits_of_all : Worker → ℕ → List Square → List Bool
+bits_of_all w h squares = level_bits (2 ^ h) (map (square_cells w (2 ^ (h + 1))) squares)
+
+-- the squares of the next level, which are of that height
+abbrev pub AreNext : Worker → Worker → ℕ → ℕ → List Square → List Square → Type 0
+AreNext old new least h squares next = AreSquares new least h next (next_level (2 ^ h) (map (square_cells old (2 ^ (h + 1))) squares))
+
+-- the square of a relation, where it has a pair
+abbrev pub IsFirst : Worker → Worker → ℕ → ℕ → Rel → List Square → Type 0
+IsFirst old new least h rel squares = AreSquares new least h squares (first_level h (set_of old rel))
 
 -- the square that is there
 abbrev pub list_of : Option Square → List Square

@@ -2,3 +2,4 @@ pub mod Squares
 pub mod Levels
 pub mod Counts
 pub mod Writing
+pub mod Packing

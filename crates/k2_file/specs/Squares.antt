@@ -1,8 +1,10 @@
 -- Squares of cells as the walk over a relation's tree has them: pieces of sets, and what a square stands for.
 use Rattle.std.specs.Prelude.{◌≡◌, ◌<◌, ◌≤◌, ◌+◌, ◌^◌, ◌&&◌, nat_lt, ℕ, Bool, true, false, List, [], ◌∷◌, Option, Some, None}
 use Rattle.rel_model.specs.Cells.{Cells, some_below, bits_cells}
-use Rattle.rel_model.specs.Worker.{Worker, HasQuad, quad_set}
+use Rattle.rel_model.specs.Relation.{has}
+use Rattle.rel_model.specs.Worker.{Worker, set_of, HasQuad, quad_set}
 use Rattle.rel_model.specs.declared.Quad.{Quad}
+use Rattle.rel_model.specs.declared.Rel.{Rel}
 use Rattle.k2_file.specs.declared.windows.Window.{Window}
 use Rattle.k2_file.specs.declared.squares.Square.{Square}
 use Rattle.k2_file.specs.declared.squares.Square.TheVariants.{Tree, Part}
@@ -23,6 +25,10 @@ four_pieces m f = piece m 0 0 f ∷ piece m 0 m f ∷ piece m m 0 f ∷ piece m 
 abbrev pub window_cells : ℕ → Window → Cells
 window_cells m v = piece m v.row v.col (bits_cells v.side v.bits)
 
+-- those of a window of a height
+abbrev pub window_set : ℕ → Window → Cells
+window_set h v = window_cells (2 ^ h) v
+
 -- a window of side m lies in a square of side 8
 pub record IsWindow (m : ℕ) (v : Window) : Type 0 where
   pub side : v.side ≤ 8
@@ -40,6 +46,18 @@ pub record IsLeafWindow (least : ℕ) (f : Cells) (v : Window) : Type 0 where
 abbrev pub square_cells : Worker → ℕ → Square → Cells
 square_cells w m (Tree q) = piece m 0 0 (quad_set w q)
 square_cells w m (Part v) = window_cells m v
+
+-- those of a square of a height
+abbrev pub square_set : Worker → ℕ → Square → Cells
+square_set w h s = square_cells w (2 ^ h) s
+
+-- those of a quad
+abbrev pub quad_piece : Worker → Quad → Cells
+quad_piece w q = piece (2 ^ q.height) 0 0 (quad_set w q)
+
+-- the pairs of a relation in the square of a height
+abbrev pub rel_piece : Worker → ℕ → Rel → Cells
+rel_piece w h rel = piece (2 ^ h) 0 0 (has (set_of w rel))
 
 -- a square has this height: a quad over the leaves stands with it, and a window lies in its leaf
 abbrev pub IsSquare : Worker → ℕ → ℕ → Square → Type 0

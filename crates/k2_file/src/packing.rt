@@ -1,6 +1,7 @@
 //! Bits as bytes, the first bit highest.
-ghost use Rattle.std.specs.Prelude.{◌≡◌, ◌<◌, ◌≤◌, ◌-◌, ◌*◌, ◌^◌, ◌++◌, ◌∷◌, Bool, List, OnOk, IfOk};
+ghost use Rattle.std.specs.Prelude.{◌≡◌, ◌<◌, ◌≤◌, ◌-◌, ◌*◌, ◌^◌, ◌++◌, OnOk, IfOk};
 ghost use Rattle.run_model.specs.Files.{packed};
+ghost use Rattle.k2_file.specs.Packing.{PacksBit};
 
 use std::alloc::AllocError;
 
@@ -31,7 +32,7 @@ fn push_bit(out: &mut Vec<u8>, begun: Begun, bit: bool) -> Result<Begun, AllocEr
     requires value { begun.value < 2 ^ begun.held }
     ensures held { IfOk result (λ b. b.held < 8) }
     ensures value { IfOk result (λ b. b.value < 2 ^ b.held) }
-    ensures bytes { IfOk result (λ b. (rest : List Bool) → out.new.items ++ packed b.value b.held rest ≡ out.old.items ++ packed begun.value begun.held (bit ∷ rest)) }
+    ensures bytes { IfOk result (λ b. PacksBit out.old.items begun bit out.new.items b) }
 {
     let value = 2 * begun.value + u8::from(bit);
     if begun.held != 7 {

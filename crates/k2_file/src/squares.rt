@@ -1,10 +1,8 @@
 //! Squares of cells of a relation, over the leaves and within them, and their quarters.
 ghost use Rattle.std.specs.Prelude.{◌≡◌, ◌<◌, ◌≤◌, ◌+◌, ◌-◌, ◌^◌};
-ghost use Rattle.rel_model.specs.Cells.{bits_cells};
-ghost use Rattle.rel_model.specs.Relation.{has};
-ghost use Rattle.rel_model.specs.Worker.{Stands, set_of, HasQuad, quad_set, Keeps, MakesAtMost, MissesNothing};
+ghost use Rattle.rel_model.specs.Worker.{Stands, HasQuad, quad_set, Keeps, MakesAtMost, MissesNothing};
 ghost use Rattle.run_model.specs.Files.{file_height};
-ghost use Rattle.k2_file.specs.Squares.{piece, IsWindow, window_cells, IsLeafWindow, IsSquare, square_cells, Shows, ShowsWindow, ShowsFour, ShowsFourWindows};
+ghost use Rattle.k2_file.specs.Squares.{piece, rel_piece, quad_piece, window_set, square_set, IsWindow, IsLeafWindow, IsSquare, Shows, ShowsWindow, ShowsFour, ShowsFourWindows};
 
 use crate::heights::small_side;
 use crate::windows::{Window, has_cell};
@@ -42,7 +40,7 @@ fn leaf_window<E: Engine>(engine: &mut E, quad: Quad) -> Window
 fn shown_window(window: Window, height: u8) -> Option<Square>
     requires window { IsWindow (2 ^ height) window }
     requires small { height ≤ 3 }
-    ensures { ShowsWindow height (window_cells (2 ^ height) window) result }
+    ensures { ShowsWindow height (window_set height window) result }
 {
     if has_cell(window, small_side(height)) {
         Some(Square::Part(window))
@@ -54,7 +52,7 @@ fn shown_window(window: Window, height: u8) -> Option<Square>
 /// A quad, where it has a cell.
 fn shown_quad<E: Engine>(engine: &mut E, quad: Quad) -> Option<Square>
     requires stands { HasQuad (E.worker engine.old) quad }
-    ensures shows { Shows (E.worker engine.new) E.least quad.height (piece (2 ^ quad.height) 0 0 (quad_set (E.worker engine.old) quad)) result }
+    ensures shows { Shows (E.worker engine.new) E.least quad.height (quad_piece (E.worker engine.old) quad) result }
     ensures keeps { Keeps (E.worker engine.old) (E.worker engine.new) }
     ensures room { MakesAtMost 0 (E.worker engine.old) (E.worker engine.new) }
     ensures misses { MissesNothing (E.worker engine.old) (E.worker engine.new) }
@@ -73,7 +71,7 @@ fn shown_quad<E: Engine>(engine: &mut E, quad: Quad) -> Option<Square>
 pub(crate) fn first_square<E: Engine>(engine: &mut E, rel: Rel, height: u8) -> Option<Square>
     requires stands { Stands (E.worker engine.old) rel }
     requires height { height ≡ file_height rel.rows rel.cols }
-    ensures shows { Shows (E.worker engine.new) E.least height (piece (2 ^ height) 0 0 (has (set_of (E.worker engine.old) rel))) result }
+    ensures shows { Shows (E.worker engine.new) E.least height (rel_piece (E.worker engine.old) height rel) result }
     ensures keeps { Keeps (E.worker engine.old) (E.worker engine.new) }
     ensures room { MakesAtMost 0 (E.worker engine.old) (E.worker engine.new) }
     ensures misses { MissesNothing (E.worker engine.old) (E.worker engine.new) }
@@ -98,7 +96,7 @@ fn quad_quarters<E: Engine>(
 )
     requires stands { HasQuad (E.worker engine.old) quad }
     requires over { E.least < quad.height }
-    ensures shows { ShowsFour (E.worker engine.new) E.least (quad.height - 1) (piece (2 ^ quad.height) 0 0 (quad_set (E.worker engine.old) quad)) result }
+    ensures shows { ShowsFour (E.worker engine.new) E.least (quad.height - 1) (quad_piece (E.worker engine.old) quad) result }
     ensures keeps { Keeps (E.worker engine.old) (E.worker engine.new) }
     ensures room { MakesAtMost 0 (E.worker engine.old) (E.worker engine.new) }
     ensures misses { MissesNothing (E.worker engine.old) (E.worker engine.new) }
@@ -117,7 +115,7 @@ fn shown_quarter(window: Window, below: u8, right: u8, height: u8) -> Option<Squ
     requires small { height ≤ 2 }
     requires below { below ≤ 2 ^ height }
     requires right { right ≤ 2 ^ height }
-    ensures { ShowsWindow height (piece (2 ^ height) below right (window_cells (2 ^ (height + 1)) window)) result }
+    ensures { ShowsWindow height (piece (2 ^ height) below right (window_set (height + 1) window)) result }
 {
     let quarter = Window {
         row: window.row + below,
@@ -139,7 +137,7 @@ fn window_quarters(
 )
     requires window { IsWindow (2 ^ (height + 1)) window }
     requires small { height ≤ 2 }
-    ensures { ShowsFourWindows height (window_cells (2 ^ (height + 1)) window) result }
+    ensures { ShowsFourWindows height (window_set (height + 1) window) result }
 {
     let half = small_side(height);
     (
@@ -162,7 +160,7 @@ pub(crate) fn quarters_of<E: Engine>(
     Option<Square>,
 )
     requires { IsSquare (E.worker engine.old) E.least (height + 1) square }
-    ensures shows { ShowsFour (E.worker engine.new) E.least height (square_cells (E.worker engine.old) (2 ^ (height + 1)) square) result }
+    ensures shows { ShowsFour (E.worker engine.new) E.least height (square_set (E.worker engine.old) (height + 1) square) result }
     ensures keeps { Keeps (E.worker engine.old) (E.worker engine.new) }
     ensures room { MakesAtMost 0 (E.worker engine.old) (E.worker engine.new) }
     ensures misses { MissesNothing (E.worker engine.old) (E.worker engine.new) }

@@ -1,10 +1,10 @@
 //! The walk over the levels of a relation's tree, from the root to the cells.
-ghost use Rattle.std.specs.Prelude.{◌≡◌, ◌≤◌, ◌+◌, ◌^◌, ◌++◌, ◌∷◌, [], map, is_some, OnOk, IfOk};
+ghost use Rattle.std.specs.Prelude.{◌≡◌, ◌≤◌, ◌+◌, ◌++◌, ◌∷◌, [], is_some, OnOk, IfOk};
 ghost use Rattle.std.specs.List.{AllByRecursion};
 ghost use Rattle.rel_model.specs.Worker.{Stands, set_of, Keeps, MakesAtMost, MissesNothing};
 ghost use Rattle.run_model.specs.Files.{file_height, tree_part, cell_part};
-ghost use Rattle.k2_file.specs.Squares.{IsSquare, square_cells};
-ghost use Rattle.k2_file.specs.Levels.{level_bits, quarter_bits, next_level, quarters_met, first_level, AreSquares, Adds, list_of};
+ghost use Rattle.k2_file.specs.Squares.{IsSquare};
+ghost use Rattle.k2_file.specs.Levels.{bits_of, bits_of_all, list_of, IsFirst, AreNext, AddsQuarters};
 
 use crate::squares::{Square, first_square, quarters_of};
 use rel_model::Rel;
@@ -55,7 +55,7 @@ fn first_squares<E: Engine>(
 ) -> Result<Vec<Square>, AllocError>
     requires stands { Stands (E.worker engine.old) rel }
     requires height { height ≡ file_height rel.rows rel.cols }
-    ensures squares { IfOk result (λ v. AreSquares (E.worker engine.new) E.least height v.items (first_level height (set_of (E.worker engine.old) rel))) }
+    ensures squares { IfOk result (λ v. IsFirst (E.worker engine.old) (E.worker engine.new) E.least height rel v.items) }
     ensures keeps { Keeps (E.worker engine.old) (E.worker engine.new) }
     ensures room { MakesAtMost 0 (E.worker engine.old) (E.worker engine.new) }
     ensures misses { MissesNothing (E.worker engine.old) (E.worker engine.new) }
@@ -76,8 +76,8 @@ fn push_level<E: Engine>(
     bits: &mut Vec<bool>,
 ) -> Result<Vec<Square>, AllocError>
     requires { AllByRecursion (IsSquare (E.worker engine.old) E.least (height + 1)) squares.now.items }
-    ensures bits { OnOk result (bits.new.items ≡ bits.old.items ++ level_bits (2 ^ height) (map (square_cells (E.worker engine.old) (2 ^ (height + 1))) squares.now.items)) }
-    ensures next { IfOk result (λ v. AreSquares (E.worker engine.new) E.least height v.items (next_level (2 ^ height) (map (square_cells (E.worker engine.old) (2 ^ (height + 1))) squares.now.items))) }
+    ensures bits { OnOk result (bits.new.items ≡ bits.old.items ++ bits_of_all (E.worker engine.old) height squares.now.items) }
+    ensures next { IfOk result (λ v. AreNext (E.worker engine.old) (E.worker engine.new) E.least height squares.now.items v.items) }
     ensures keeps { Keeps (E.worker engine.old) (E.worker engine.new) }
     ensures room { MakesAtMost 0 (E.worker engine.old) (E.worker engine.new) }
     ensures misses { MissesNothing (E.worker engine.old) (E.worker engine.new) }
@@ -99,8 +99,9 @@ fn push_square<E: Engine>(
 ) -> Result<(), AllocError>
     requires square { IsSquare (E.worker engine.old) E.least (height + 1) square }
     requires next { AllByRecursion (IsSquare (E.worker engine.old) E.least height) next.old.items }
-    ensures bits { OnOk result (bits.new.items ≡ bits.old.items ++ quarter_bits (2 ^ height) (square_cells (E.worker engine.old) (2 ^ (height + 1)) square)) }
-    ensures next { OnOk result (Adds (E.worker engine.old) (E.worker engine.new) E.least height next.old.items next.new.items (quarters_met (2 ^ height) (square_cells (E.worker engine.old) (2 ^ (height + 1)) square))) }
+    ensures bits { OnOk result (bits.new.items ≡ bits.old.items ++ bits_of (E.worker engine.old) height square) }
+    ensures next { OnOk result
+        (AddsQuarters (E.worker engine.old) (E.worker engine.new) E.least height square next.old.items next.new.items) }
     ensures keeps { Keeps (E.worker engine.old) (E.worker engine.new) }
     ensures room { MakesAtMost 0 (E.worker engine.old) (E.worker engine.new) }
     ensures misses { MissesNothing (E.worker engine.old) (E.worker engine.new) }
@@ -136,7 +137,7 @@ fn push_cells<E: Engine>(
     bits: &mut Vec<bool>,
 ) -> Result<(), AllocError>
     requires { AllByRecursion (IsSquare (E.worker engine.old) E.least 1) squares.now.items }
-    ensures bits { OnOk result (bits.new.items ≡ bits.old.items ++ level_bits 1 (map (square_cells (E.worker engine.old) 2) squares.now.items)) }
+    ensures bits { OnOk result (bits.new.items ≡ bits.old.items ++ bits_of_all (E.worker engine.old) 0 squares.now.items) }
     ensures keeps { Keeps (E.worker engine.old) (E.worker engine.new) }
     ensures room { MakesAtMost 0 (E.worker engine.old) (E.worker engine.new) }
     ensures misses { MissesNothing (E.worker engine.old) (E.worker engine.new) }
@@ -154,7 +155,7 @@ fn push_four<E: Engine>(
     bits: &mut Vec<bool>,
 ) -> Result<(), AllocError>
     requires { IsSquare (E.worker engine.old) E.least 1 square }
-    ensures bits { OnOk result (bits.new.items ≡ bits.old.items ++ quarter_bits 1 (square_cells (E.worker engine.old) 2 square)) }
+    ensures bits { OnOk result (bits.new.items ≡ bits.old.items ++ bits_of (E.worker engine.old) 0 square) }
     ensures keeps { Keeps (E.worker engine.old) (E.worker engine.new) }
     ensures room { MakesAtMost 0 (E.worker engine.old) (E.worker engine.new) }
     ensures misses { MissesNothing (E.worker engine.old) (E.worker engine.new) }

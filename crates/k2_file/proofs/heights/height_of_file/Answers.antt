@@ -1,4 +1,4 @@
-use Rattle.std.proofs.Common.{◌≡◌, ◌<◌, ◌≤◌, ◌+◌, ◌-◌, ◌^◌, ◌∙◌, ap, arith, ℕ}
+use Rattle.std.proofs.Common.{◌≡◌, ◌<◌, ◌+◌, ◌-◌, ◌^◌, ap, arith, ℕ}
 use Rattle.k2_file.proofs.WriteHeights.{file_height-found}
 use Rattle.k2_file.proofs.heights.height_of_file.Goals as goal
 

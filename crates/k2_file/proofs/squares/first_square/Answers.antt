@@ -1,4 +1,4 @@
-use Rattle.std.proofs.Common.{◌≡◌, ◌<◌, ◌≤◌, ◌∙◌, ◌^◌, ℕ, sym, ap, subst, arith}
+use Rattle.std.proofs.Common.{◌<◌, ◌∙◌, ◌^◌, ℕ, sym, subst, arith}
 use Rattle.rel_model.specs.Cells.{Cells}
 use Rattle.rel_model.specs.Relation.{has}
 use Rattle.rel_model.specs.Roots.{height_over}

@@ -1,9 +1,7 @@
-use Rattle.std.proofs.Common.{◌≡◌, ◌+◌, ◌^◌, sym, ap, subst, ◌∙◌, ℕ}
-use Rattle.rel_model.specs.Worker.{quad_set}
-use Rattle.k2_file.specs.Squares.{IsSquare, square_cells, ShowsFour}
+use Rattle.std.proofs.Common.{◌+◌, subst}
+use Rattle.k2_file.specs.Squares.{IsSquare}
 use Rattle.k2_file.specs.declared.squares.Square.{Square}
-use Rattle.k2_file.specs.declared.squares.Square.TheVariants.{Tree, Part}
-use Rattle.k2_file.proofs.WriteSquares.{window-small, windows-show, four-at}
+use Rattle.k2_file.proofs.WriteSquares.{window-small}
 use Rattle.k2_file.proofs.squares.quarters_of.Goals as goal
 
 pub window_quarters-requires-clause-small : goal.window_quarters-requires-clause-small

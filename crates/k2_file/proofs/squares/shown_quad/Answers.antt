@@ -1,4 +1,4 @@
-use Rattle.std.proofs.Common.{◌≤◌, ◌∙◌, ℕ, refl, sym, arith}
+use Rattle.std.proofs.Common.{refl, arith}
 use Rattle.rel_model.specs.Worker.{quad_set}
 use Rattle.k2_file.proofs.WriteSquares.{leaf-is_window, leaf-shows, none-shown, full-quad}
 use Rattle.k2_file.proofs.squares.shown_quad.Goals as goal

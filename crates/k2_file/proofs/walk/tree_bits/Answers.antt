@@ -1,4 +1,4 @@
-use Rattle.std.proofs.Common.{◌≡◌, ◌-◌, ◌∙◌, ℕ, Bool, List, sym, subst, arith}
+use Rattle.std.proofs.Common.{◌-◌, ◌∙◌, ℕ, Bool, List, sym, subst, arith}
 use Rattle.rel_model.specs.Worker.{set_of}
 use Rattle.rel_model.proofs.Workers.{keeps_trans}
 use Rattle.k2_file.proofs.WriteHeights.{file_height-sizes}

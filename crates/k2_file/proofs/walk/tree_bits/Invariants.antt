@@ -1,4 +1,3 @@
-use Rattle.std.proofs.Common.{◌≡◌}
 use Rattle.rel_model.specs.Worker.{set_of, Keeps, MakesAtMost, MissesNothing}
 use Rattle.k2_file.proofs.WriteWalk.{Walk}
 use Rattle.k2_file.proofs.walk.tree_bits.Given as goal

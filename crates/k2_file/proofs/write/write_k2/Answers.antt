@@ -1,4 +1,4 @@
-use Rattle.std.proofs.Common.{◌≡◌, ◌∙◌, ◌++◌, [], ℕ, Bool, List, length, sym, ap, arith}
+use Rattle.std.proofs.Common.{◌≡◌, ◌∙◌, ◌++◌, ℕ, Bool, List, ap, arith}
 use Rattle.rel_model.specs.Worker.{set_of}
 use Rattle.rel_model.proofs.Workers.{keeps_set}
 use Rattle.run_model.specs.Files.{packed, tree_part, cell_part}
