@@ -1,4 +1,7 @@
--- The bits below squares: by quarters, over several calls, and as a memory keeps them.
+-- The bits below squares: by quarters, over several calls, and as a memory keeps them (Knuth, for a sum over a shared tree by a memory of its parts).
+-- 1. What is shown has the bits of its set, and a set with no cell has none below it.
+-- 2. Squares keep their bits over calls, so the sum of the quarters' bits and four are those of the square.
+-- 3. A quad is noted by its height and name, which have its set as long as it stands.
 use Rattle.std.proofs.Common.{◌≡◌, ◌≤◌, ◌+◌, ◌^◌, ◌&&◌, eqb, cond, zero, suc, ℕ, true, false, refl, sym, ap, subst, ◌∙◌, inl, inr, arith, Option, Some, None}
 use Rattle.std.proofs.Math.Nat.{pow-le-pow_right}
 use Rattle.std.proofs.lemmas.Bool.{cases_Bool, and_parts, eqb-true}

@@ -1,4 +1,4 @@
--- Pieces of sets of cells: when two are one, pieces of pieces, quarters, and which have a cell.
+-- Pieces of sets of cells: when two are one, pieces of pieces, quarters, and which have a cell (Brisaboa, Ladra and Navarro, whose trees ask submatrices for a cell).
 -- 1. Two pieces are one where their sets agree on the cells within them; so a piece of a piece is a piece.
 -- 2. A piece of a relation has a cell exactly where the relation meets its submatrix.
 use Rattle.std.proofs.Common.{◌≡◌, ◌<◌, ◌≤◌, ◌+◌, ◌-◌, ◌&&◌, ◌||◌, ltb, leb, ℕ, Bool, true, false, List, [], ◌∷◌, refl, sym, ap, ◌∙◌, inl, inr, arith}

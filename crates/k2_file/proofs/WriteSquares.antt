@@ -1,4 +1,8 @@
 -- What squares show: windows within a leaf, quads over the leaves, and their quarters.
+-- 1. What a worker keeps: a square that stands goes on standing, with its cells.
+-- 2. A leaf is a window of itself, and a quarter of a window is a window of the same word.
+-- 3. A quad has no cell exactly where it is named 0, since quads of one height with one set have one name.
+-- 4. The quarters of a quad are the pieces of its set; each is shown some calls before the last, and stays.
 use Rattle.std.proofs.Common.{◌≡◌, ◌≤◌, ◌+◌, ◌-◌, ◌^◌, ◌||◌, suc, ℕ, Bool, true, false, refl, sym, ap, subst, ◌∙◌, inl, inr, arith, Option, Some, None}
 use Rattle.std.specs.Prelude.{IsSome, unwrap_or}
 use Rattle.std.proofs.lemmas.Bool.{cases_Bool, cases_lt}

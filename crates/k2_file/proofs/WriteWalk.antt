@@ -1,4 +1,7 @@
--- The walk over the levels: what the squares of a level add, one square more, and one level more.
+-- The walk over the levels: what the squares of a level add, one square more, and one level more (Brisaboa, Ladra and Navarro, for the order of the bits).
+-- 1. A quarter is shown by a square or by none, so whether there is one is its bit.
+-- 2. A level's bits and next squares are those of its squares, one behind another.
+-- 3. At each level the bits so far and those still to come are all the bits.
 use Rattle.std.proofs.Common.{◌≡◌, ◌<◌, ◌≤◌, ◌+◌, ◌-◌, ◌^◌, cond, zero, suc, ℕ, Bool, List, [], ◌∷◌, ◌++◌, length, get_or, take, map, filter, refl, sym, ap, subst, ◌∙◌, arith, append_assoc, Option, Some, None}
 use Rattle.std.specs.Prelude.{is_some}
 use Rattle.std.specs.List.{flat_map, AllByRecursion}
