@@ -15,3 +15,10 @@ pub mod ReadLevels
 pub mod ReadListed
 pub mod ReadPowers
 pub mod ReadWalk
+pub mod WritePieces
+pub mod WriteLevels
+pub mod WriteHeights
+pub mod WriteSquares
+pub mod WriteCounts
+pub mod WriteWalk
+pub mod WriteBytes
