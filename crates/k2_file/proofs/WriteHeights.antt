@@ -1,4 +1,4 @@
--- The height of a file: the least from 1 on whose side is at least both sizes.
+-- The height of a file: its bounds, and those of squares within a leaf.
 use Rattle.std.proofs.Common.{◌≡◌, ◌<◌, ◌≤◌, ◌-◌, ◌^◌, max, ℕ, refl, sym, ap, ◌∙◌, inl, inr, arith}
 use Rattle.std.proofs.lemmas.Bool.{cases_lt}
 use Rattle.std.proofs.Math.Nat.{pow-le-pow_right}
@@ -10,10 +10,6 @@ use Rattle.run_model.specs.Files.{file_height}
 pub file_height-over : (m n : ℕ) → file_height m n ≡ height_over 1 m n
 unfolding file_height height_over
 file_height-over m n = refl
-
-pub file_height-found : (m n most h : ℕ) → m ≤ size_limit → n ≤ size_limit → most ≡ max m n → 1 ≤ h → most ≤ 2 ^ h → (1 < h → 2 ^ (h - 1) < most) → h ≡ file_height m n
-file_height-found m n most h a b e l u k =
-    sym (height_over-is 1 m n h a b l (omega arith) (omega arith) (λ o. let p : 2 ^ (h - 1) < most = k o in elim (cases_lt (2 ^ (h - 1)) m) [ inl x ↦ inl x | inr x ↦ inr (omega arith) ])) ∙ sym (file_height-over m n)
 
 pub file_height-high : (m n : ℕ) → file_height m n ≤ 24
 file_height-high m n = let e = file_height-over m n in let h = height_over-high 1 m n (omega arith) in omega (arith, e, h)

@@ -5,7 +5,6 @@ mod bits;
 mod corners;
 mod counting;
 mod header;
-mod heights;
 mod laws;
 mod levels;
 mod limits;

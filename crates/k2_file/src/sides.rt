@@ -14,6 +14,14 @@ pub(crate) fn side_of(height: u8) -> u32
     1u32 << height
 }
 
+/// The side of a square of a leaf.
+pub(crate) fn small_side(height: u8) -> u8
+    requires { height ≤ 3 }
+    ensures { result ≡ 2 ^ height }
+{
+    1u8 << height
+}
+
 /// The least height whose side is at least a size.
 fn height_of_size(size: u32) -> u8
     ensures value { result ≡ height_of size }
@@ -32,6 +40,7 @@ fn height_of_size(size: u32) -> u8
 #[tactic(auto, unfolding(run_model::specs::Files::file_height))]
 pub(crate) fn height_of_file(rows: u32, cols: u32) -> u8
     ensures value { result ≡ file_height rows cols }
+    ensures low { 1 ≤ result }
     ensures limit { result ≤ 24 }
 {
     height_of_size(rows).max(height_of_size(cols)).max(1)

@@ -4,7 +4,7 @@ ghost use Rattle.rel_model.specs.Worker.{Stands, HasQuad, quad_set, Keeps, Makes
 ghost use Rattle.run_model.specs.Files.{file_height};
 ghost use Rattle.k2_file.specs.Squares.{piece, rel_piece, quad_piece, window_set, square_set, IsWindow, IsLeafWindow, IsSquare, Shows, ShowsWindow, ShowsFour, ShowsFourWindows};
 
-use crate::heights::small_side;
+use crate::sides::small_side;
 use crate::windows::{Window, has_cell};
 use rel_model::engine_trait::Engine;
 use rel_model::{Quad, Rel};

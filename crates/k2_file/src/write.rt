@@ -7,10 +7,10 @@ ghost use Rattle.run_model.specs.Files.{k2, bits_count};
 ghost use Rattle.k2_file.specs.Writing.{IsTooLong, header_bytes};
 
 use crate::counting::count_bits;
-use crate::heights::height_of_file;
 use crate::limits::SAVE_LIMIT;
 use crate::packing::push_packed;
 use crate::refused::WriteRefused;
+use crate::sides::height_of_file;
 use crate::walk::tree_bits;
 use byteorder::{BigEndian, ByteOrder};
 use rel_model::Rel;
