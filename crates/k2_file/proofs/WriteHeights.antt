@@ -1,10 +1,8 @@
 -- The height of a file: its bounds, and those of squares within a leaf.
-use Rattle.std.proofs.Common.{◌≡◌, ◌<◌, ◌≤◌, ◌-◌, ◌^◌, max, ℕ, refl, sym, ap, ◌∙◌, inl, inr, arith}
-use Rattle.std.proofs.lemmas.Bool.{cases_lt}
+use Rattle.std.proofs.Common.{◌≡◌, ◌<◌, ◌≤◌, ◌^◌, ℕ, refl, sym, ap, ◌∙◌, arith}
 use Rattle.std.proofs.Math.Nat.{pow-le-pow_right}
-use Rattle.rel_model.specs.Relation.{size_limit}
 use Rattle.rel_model.specs.Roots.{height_over}
-use Rattle.rel_model.proofs.Heights.{height_over-is, height_over-high}
+use Rattle.rel_model.proofs.Heights.{height_over-high}
 use Rattle.run_model.specs.Files.{file_height}
 
 pub file_height-over : (m n : ℕ) → file_height m n ≡ height_over 1 m n
