@@ -1,0 +1,24 @@
+//! Relation files of version 1: a header, and the bits of a relation's k²-tree with k = 2 (Brisaboa, Ladra and Navarro).
+#![tactic(auto)]
+
+mod bits;
+mod corners;
+mod counting;
+mod header;
+mod laws;
+mod levels;
+mod limits;
+mod packing;
+mod read;
+mod refused;
+mod sides;
+mod squares;
+mod walk;
+mod windows;
+mod write;
+
+pub use laws::files_laws;
+pub use limits::{HEADER, SAVE_LIMIT};
+pub use read::read_k2;
+pub use refused::WriteRefused;
+pub use write::write_k2;

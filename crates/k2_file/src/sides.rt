@@ -1,0 +1,47 @@
+//! Heights of squares, and their sides.
+ghost use Rattle.std.specs.Prelude.{◌≡◌, ◌≤◌, ◌^◌};
+ghost use Rattle.rel_model.specs.Worker.{height_of};
+ghost use Rattle.run_model.specs.Files.{file_height};
+
+/// The greatest height of a square.
+const TOP: u8 = 24;
+
+/// The side of a square of a height.
+pub(crate) fn side_of(height: u8) -> u32
+    requires { height ≤ 24 }
+    ensures { result ≡ 2 ^ height }
+{
+    1u32 << height
+}
+
+/// The side of a square of a leaf.
+pub(crate) fn small_side(height: u8) -> u8
+    requires { height ≤ 3 }
+    ensures { result ≡ 2 ^ height }
+{
+    1u8 << height
+}
+
+/// The least height whose side is at least a size.
+fn height_of_size(size: u32) -> u8
+    ensures value { result ≡ height_of size }
+    ensures limit { result ≤ 24 }
+{
+    let mut height = 0;
+    'powers: for k in 0..TOP {
+        if side_of(k) < size {
+            height += 1;
+        }
+    }
+    height
+}
+
+/// The least height from 1 on whose square holds both sizes.
+#[tactic(auto, unfolding(run_model::specs::Files::file_height))]
+pub(crate) fn height_of_file(rows: u32, cols: u32) -> u8
+    ensures value { result ≡ file_height rows cols }
+    ensures low { 1 ≤ result }
+    ensures limit { result ≤ 24 }
+{
+    height_of_size(rows).max(height_of_size(cols)).max(1)
+}
