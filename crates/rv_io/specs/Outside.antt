@@ -1,5 +1,5 @@
 -- What a shelf tells of its files, what a call of a shelf or a sink leaves, and why it may fail.
-use Rattle.std.specs.Prelude.{◌≡◌, ◌≤◌, ◌<◌, ◌+◌, ◌-◌, ◌^◌, min, Bool, IsTrue, ℕ, List, [], length, Option, Some, None, Result, OnErr, IfOk, IfSome}
+use Rattle.std.specs.Prelude.{◌≡◌, ◌≢◌, ◌≤◌, ◌<◌, ◌+◌, ◌-◌, ◌^◌, min, Bool, IsTrue, ℕ, List, [], length, Option, Some, None, Result, OnErr, IfOk, IfSome}
 use Rattle.std.specs.Io.KnownBytes.{IsAtEnd}
 
 -- a map from names to the bytes of the files
@@ -29,6 +29,21 @@ pub record Leaves (old new : Told) : Type 0 where
   pub may_pick : (name : List ℕ) → IsTrue (old.may_pick name) → IsTrue (new.may_pick name)
   -- the count of failed picks and reads did not fall
   pub faults : old.faults ≤ new.faults
+
+-- what each put leaves of the reading
+pub record KeepsReading (old new : Told) : Type 0 where
+  -- what is left to read is as it was
+  pub rest : new.rest ≡ old.rest
+  -- the count of failed picks and reads is as it was
+  pub faults : new.faults ≡ old.faults
+  -- each name that could be picked still can
+  pub may_pick : (name : List ℕ) → IsTrue (old.may_pick name) → IsTrue (new.may_pick name)
+
+-- all files but that of this name are as they were; files that are told after a put were told before it
+abbrev pub KeepsOthers : Option Files → Option Files → List ℕ → Type 0
+KeepsOthers old None name = Unit {0}
+KeepsOthers None (Some files) name = ⊥
+KeepsOthers (Some before) (Some files) name = (other : List ℕ) → other ≢ name → files other ≡ before other
 
 -- the last value of a count of faults
 abbrev pub last_count : ℕ

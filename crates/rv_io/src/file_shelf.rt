@@ -1,13 +1,18 @@
-//! Real files. They tell no content: what is left of a file is told only where the runtime's files tell it.
+//! Real files. They tell no content: what is left of a file is told only where the runtime's files tell it. A file
+//! is replaced whole or not at all.
 ghost use Rattle.std.specs.Prelude.{◌≡◌, ◌↔◌, [], None, Some, true, IsSome, IsOk, OnOk};
 ghost use Rattle.rv_io.specs.Outside.{Leaves, HasCause};
 ghost use Rattle.rv_io.specs.Files.{left_in};
 
 use crate::{Failed, Shelf};
 use std::alloc::Global;
-use std::fs::File;
-use std::io::{BufReader, Read};
+use std::fs::{File, OpenFile};
+use std::io::{BufReader, ErrorKind, Read, Write};
 use std::rt::Files;
+use std::{fs, io};
+
+/// How many names are tried for the file beside the one that is put.
+const TRIES: u32 = 1000;
 
 /// The files that a runtime opens, each behind std's buffered reader.
 #[derive(Drop)]
@@ -16,6 +21,7 @@ pub struct FileShelf<R: Files + Drop> {
     alloc: Global,
     file: Option<BufReader<R::File>>,
     faults: u64,
+    put_faults: u64,
 }
 
 impl<R: Files + Drop> FileShelf<R> {
@@ -35,6 +41,7 @@ impl<R: Files + Drop> FileShelf<R> {
             alloc,
             file: None,
             faults: 0,
+            put_faults: 0,
         }
     }
 }
@@ -44,7 +51,7 @@ impl<R: Files + Drop> Shelf for FileShelf<R> {
       files = None;
       rest = left_in R.File.remaining s.file;
       faults = s.faults;
-      put_faults = 0;
+      put_faults = s.put_faults;
       may_pick = λ _. true;
     } };
 
@@ -77,4 +84,46 @@ impl<R: Files + Drop> Shelf for FileShelf<R> {
         self.faults = self.faults.saturating_add(1);
         Err(Failed)
     }
+
+    fn put(&mut self, name: &str, bytes: &[u8]) -> Result<(), Failed> {
+        if let Ok(()) = replace(&self.rt, self.alloc, name, bytes) {
+            return Ok(());
+        }
+        self.put_faults = self.put_faults.saturating_add(1);
+        Err(Failed)
+    }
+}
+
+/// Replaces the file of this name: the bytes are written to a new file beside it, which is then
+/// renamed over it. Where that fails, the new file is removed.
+fn replace<R: Files>(rt: &R, alloc: Global, name: &str, bytes: &[u8]) -> io::Result<()> {
+    let (beside, file) = file_beside(rt, alloc, name)?;
+    let replaced = write_whole(file, bytes).and_then(|()| fs::rename(rt, beside.as_str(), name));
+    if replaced.is_err() {
+        let _ = fs::remove_file(rt, beside.as_str());
+    }
+    replaced
+}
+
+/// Makes a new file in the folder of the file of this name. Its name is short, so that it fits
+/// wherever `name` fits, and no other file has it.
+fn file_beside<R: Files>(rt: &R, alloc: Global, name: &str) -> io::Result<(String, R::File)> {
+    'numbers: for number in 0..TRIES {
+        let beside = match name.rsplit_once('/') {
+            Some((folder, _)) => format!(in alloc; "{folder}/put-{number}.part")?,
+            None => format!(in alloc; "put-{number}.part")?,
+        };
+        match File::create_new(rt, beside.as_str()) {
+            Ok(file) => return Ok((beside, file)),
+            Err(error) if error.kind() == ErrorKind::AlreadyExists => {}
+            Err(error) => return Err(error),
+        }
+    }
+    Err(io::Error::from(ErrorKind::AlreadyExists))
+}
+
+/// Writes all of `bytes` to a file, through to where it is kept.
+fn write_whole<F: Write + OpenFile + Drop>(mut file: F, bytes: &[u8]) -> io::Result<()> {
+    file.write_all(bytes)?;
+    file.sync_all()
 }

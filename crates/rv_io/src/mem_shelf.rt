@@ -1,19 +1,21 @@
 //! A shelf in memory, which tells everything, and of which chosen calls fail.
-ghost use Rattle.std.specs.Prelude.{MatchOption, ◌≡◌, ◌<◌, ◌≤◌, ◌↔◌, [], Option, Some, None, true, drop, length, IfOk, IsOk, IfSome, OnOk, OnErr, IsTrue};
+ghost use Rattle.std.specs.Prelude.{MatchOption, ◌≡◌, ◌≢◌, ◌<◌, ◌≤◌, ◌↔◌, ℕ, List, [], Option, Some, None, true, drop, length, position, IfOk, IsOk, IfSome, OnOk, OnErr, IsTrue};
 ghost use Rattle.std.specs.Io.{ReadsAtMost};
 ghost use Rattle.std.specs.Io.KnownBytes.{ReadConsumes};
-ghost use Rattle.rv_io.specs.Outside.{Leaves, IsPicked, IsSpent};
-ghost use Rattle.rv_io.specs.Memory.{file_at, is_listed, IsCounted};
+ghost use Rattle.rv_io.specs.Outside.{Leaves, KeepsReading, KeepsOthers, HasCause, IsPicked, IsSpent, IsFile};
+ghost use Rattle.rv_io.specs.Memory.{has_name, file_at, is_listed, IsCounted, IsPutCounted};
 
 use crate::calls::Calls;
 use crate::{Failed, NoMemory, Shelf};
-use std::alloc::Global;
+use std::alloc::{AllocError, Global};
 
-/// A shelf in memory. Each pick and each read is a call, and the calls are numbered from 0.
+/// A shelf in memory. Each pick, each read and each put is a call, and the calls are numbered from 0.
 #[derive(Drop)]
 pub struct MemShelf {
+    alloc: Global,
     files: Vec<(String, Vec<u8>)>,
     calls: Calls,
+    put_faults: u64,
     picked: Vec<u8>,
     taken: usize,
     ghost within: { taken ≤ length picked.items },
@@ -40,8 +42,10 @@ impl MemShelf {
             ≡ record { failing = failing; count = 0; faults = 0 }) }
     {
         Ok(MemShelf {
+            alloc,
             files,
             calls: Calls::new(failing),
+            put_faults: 0,
             picked: Vec::new(alloc),
             taken: 0,
         })
@@ -52,6 +56,13 @@ impl MemShelf {
         ensures { result ≡ (⟦<MemShelf as Shelf>⟧.told self.now).faults }
     {
         self.calls.faults()
+    }
+
+    /// How many puts failed.
+    pub fn put_faults(&self) -> u64
+        ensures { result ≡ (⟦<MemShelf as Shelf>⟧.told self.now).put_faults }
+    {
+        self.put_faults
     }
 }
 
@@ -68,12 +79,40 @@ fn find<'a>(files: &'a [(String, Vec<u8>)], name: &str) -> Option<&'a [u8]>
     None
 }
 
+/// The place of the first file of this name.
+fn place_of(files: &[(String, Vec<u8>)], name: &str) -> Option<usize>
+    ensures { result ≡ position (has_name name.now) files.now }
+{
+    files.iter().position(|file| file.0.as_str() == name)
+}
+
+/// Gives the file of this name these bytes: the first of that name, or a new one behind all others.
+/// Where memory is refused all files stay.
+fn set_file(
+    alloc: Global,
+    files: &mut Vec<(String, Vec<u8>)>,
+    name: &str,
+    bytes: &[u8],
+) -> Result<(), AllocError>
+    ensures file { OnOk result (file_at files.new.items name.now ≡ Some bytes.now) }
+    ensures others { (other : List ℕ) → other ≢ name.now
+        → file_at files.new.items other ≡ file_at files.old.items other }
+    ensures stay { OnErr result (files.new.items ≡ files.old.items) }
+{
+    let bytes = Vec::from_slice(alloc, bytes)?;
+    match place_of(files.as_slice(), name) {
+        Some(place) => files[place].1 = bytes,
+        None => files.push((String::from_str(alloc, name)?, bytes))?,
+    }
+    Ok(())
+}
+
 impl Shelf for MemShelf {
     ghost told = { λ s. record {
       files = Some (file_at s.files.items);
       rest = Some (drop s.taken s.picked.items);
       faults = s.calls.faults;
-      put_faults = 0;
+      put_faults = s.put_faults;
       may_pick = λ _. true;
     } };
 
@@ -126,5 +165,29 @@ impl Shelf for MemShelf {
         buf[..count].copy_from_slice(&self.picked[self.taken..self.taken + count]);
         self.taken += count;
         Ok(count)
+    }
+
+    fn put(&mut self, name: &str, bytes: &[u8]) -> Result<(), Failed>
+        ensures file { OnOk result (IsFile (⟦<MemShelf as Shelf>⟧.told self.new).files name.now
+            bytes.now) }
+        ensures others { KeepsOthers (⟦<MemShelf as Shelf>⟧.told self.old).files
+            (⟦<MemShelf as Shelf>⟧.told self.new).files name.now }
+        // A file in memory is put whole or not at all.
+        ensures stay { OnErr result ((⟦<MemShelf as Shelf>⟧.told self.new).files
+            ≡ (⟦<MemShelf as Shelf>⟧.told self.old).files) }
+        ensures reading { KeepsReading (⟦<MemShelf as Shelf>⟧.told self.old)
+            (⟦<MemShelf as Shelf>⟧.told self.new) }
+        ensures later { self.old.put_faults ≤ self.new.put_faults }
+        ensures cause { HasCause self.old.put_faults self.new.put_faults result }
+        ensures counted { IsPutCounted result self.old.calls self.new.calls self.old.put_faults
+            self.new.put_faults }
+    {
+        if !self.calls.begins_to_fail() {
+            if let Ok(()) = set_file(self.alloc, &mut self.files, name, bytes) {
+                return Ok(());
+            }
+        }
+        self.put_faults = self.put_faults.saturating_add(1);
+        Err(Failed)
     }
 }

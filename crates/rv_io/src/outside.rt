@@ -2,7 +2,7 @@
 ghost use Rattle.std.specs.Prelude.{◌≡◌, ◌≤◌, ◌<◌, ◌↔◌, ℕ, List, [], length, IsTrue, Option, IfOk, IfSome, OnOk, OnErr};
 ghost use Rattle.std.specs.Io.{ReadsAtMost};
 ghost use Rattle.std.specs.Io.KnownBytes.{ReadConsumes, WriteAppends};
-ghost use Rattle.rv_io.specs.Outside.{Told, Leaves, HasCause, IsPicked, IsSpent, TakesSome};
+ghost use Rattle.rv_io.specs.Outside.{Told, Leaves, KeepsReading, KeepsOthers, HasCause, IsPicked, IsSpent, IsFile, TakesSome};
 
 /// The outside refused: a call of a shelf or a sink did not do its work.
 #[derive(Clone, Copy, Debug, PartialEq, Eq)]
@@ -12,7 +12,8 @@ pub struct Failed;
 #[derive(Clone, Copy, Debug, PartialEq, Eq)]
 pub struct NoMemory;
 
-/// A shelf of files, of which one at a time is picked and then read from its first byte on.
+/// A shelf of files, of which one at a time is picked and then read from its first byte on. Files are
+/// put whole.
 pub trait Shelf {
     /// What the shelf tells of itself.
     ghost told: { Self → Told };
@@ -38,6 +39,16 @@ pub trait Shelf {
         ensures leaves { Leaves (told self.old) (told self.new) }
         ensures cause { HasCause (told self.old).faults (told self.new).faults result }
         ensures kept { OnOk result ((told self.new).faults ≡ (told self.old).faults) };
+
+    /// Makes the file of this name hold exactly `bytes`, also where there was none. After a fault
+    /// nothing is known of that one file. All other files stay, and so does what is left to read.
+    fn put(&mut self, name: &str, bytes: &[u8]) -> Result<(), Failed>
+        ensures file { OnOk result (IsFile (told self.new).files name.now bytes.now) }
+        ensures others { KeepsOthers (told self.old).files (told self.new).files name.now }
+        ensures reading { KeepsReading (told self.old) (told self.new) }
+        ensures later { (told self.old).put_faults ≤ (told self.new).put_faults }
+        ensures cause { HasCause (told self.old).put_faults (told self.new).put_faults result }
+        ensures kept { OnOk result ((told self.new).put_faults ≡ (told self.old).put_faults) };
 }
 
 /// What takes bytes, one after another.

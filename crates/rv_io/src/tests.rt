@@ -123,6 +123,62 @@ fn a_read_that_failed_takes_nothing(rt: HostRuntime) -> Result<(), Fail> {
     Ok(())
 }
 
+/// A shelf with the files `a`, of the bytes 1 and 2, and `b`, of the byte 3, of which one call fails.
+fn two_files(alloc: Global, failing: u64) -> Result<MemShelf, AllocError> {
+    let mut files = Vec::new(alloc);
+    files.push((String::from_str(alloc, "a")?, vec![in alloc; 1u8, 2]?))?;
+    files.push((String::from_str(alloc, "b")?, vec![in alloc; 3u8]?))?;
+    let calls = vec![in alloc; failing]?;
+    match MemShelf::new(alloc, files, calls) {
+        Ok(shelf) => Ok(shelf),
+        Err(NoMemory) => Err(AllocError),
+    }
+}
+
+#[test]
+fn a_file_has_the_bytes_that_were_put_last_and_others_stay(rt: HostRuntime) -> Result<(), Fail> {
+    let alloc = rt.alloc();
+    let mut shelf = two_files(alloc, NEVER)?;
+    assert!(rt; shelf.pick("a").is_ok());
+    for (name, bytes) in [("c", [4, 5]), ("a", [6, 7]), ("c", [8, 9])] {
+        assert!(rt; shelf.put(name, &bytes).is_ok(), "{name}");
+    }
+    // What was picked before the puts is read on.
+    let mut rest = [0u8; 4];
+    assert!(rt; shelf.read(&mut rest) == Ok(2));
+    assert_eq!(rt; rest, [1, 2, 0, 0]);
+    let wanted: [(&str, &[u8]); 3] = [("a", &[6, 7]), ("b", &[3]), ("c", &[8, 9])];
+    for (name, bytes) in wanted {
+        let found = read_all(alloc, &mut shelf, name, 5)?;
+        assert_eq!(rt; found.as_slice(), bytes, "{name}");
+    }
+    Ok(())
+}
+
+#[test]
+fn a_put_that_fails_leaves_all_other_files_and_is_no_fault_of_reading(
+    rt: HostRuntime,
+) -> Result<(), Fail> {
+    let alloc = rt.alloc();
+    for name in ["a", "b", "c"] {
+        let mut shelf = two_files(alloc, 0)?;
+        assert!(rt; shelf.put(name, &[9]).is_err(), "{name}");
+        assert!(rt; shelf.faults() == 0 && shelf.put_faults() == 1);
+        for (other, bytes) in [("a", [1, 2].as_slice()), ("b", [3].as_slice())] {
+            if other != name {
+                let found = read_all(alloc, &mut shelf, other, 5)?;
+                assert_eq!(rt; found.as_slice(), bytes);
+            }
+        }
+        assert!(rt; shelf.put(name, &[9]).is_ok());
+    }
+    let mut shelf = two_files(alloc, 1)?;
+    assert!(rt; shelf.put("a", &[9]).is_ok());
+    assert!(rt; shelf.pick("a").is_err());
+    assert!(rt; shelf.faults() == 1 && shelf.put_faults() == 0);
+    Ok(())
+}
+
 #[test]
 fn a_sink_in_memory_keeps_what_it_took_and_counts_the_writes_that_fail(
     rt: HostRuntime,
@@ -250,6 +306,40 @@ fn a_real_file_is_read_and_what_is_no_file_is_a_fault(rt: HostRuntime) -> Result
     assert!(rt; shelf.pick("sample.rv").is_err());
     let mut rest = [0u8; 4];
     assert!(rt; shelf.read(&mut rest) == Ok(0));
+    Ok(())
+}
+
+#[test]
+fn a_real_file_is_replaced_whole_or_not_at_all(rt: HostRuntime) -> Result<(), Fail> {
+    let alloc = rt.alloc();
+    fs::create_dir(&rt, "made")?;
+    // A file that has the name which is tried first stays as it is.
+    fs::write(&rt, "made/put-0.part", b"mine")?;
+    let mut shelf = FileShelf::new(alloc, rt);
+    for bytes in [b"one".as_slice(), b"another", b""] {
+        assert!(rt; shelf.put("made/a.k2", bytes).is_ok());
+        let found = read_all(alloc, &mut shelf, "made/a.k2", 9)?;
+        assert_eq!(rt; found.as_slice(), bytes);
+    }
+    // What was picked is read on, though its file is replaced.
+    assert!(rt; shelf.put("a.k2", b"old").is_ok());
+    assert!(rt; shelf.pick("a.k2").is_ok());
+    assert!(rt; shelf.put("a.k2", b"new").is_ok());
+    let mut rest = [0u8; 4];
+    assert!(rt; shelf.read(&mut rest) == Ok(3));
+    assert_eq!(rt; rest, *b"old\0");
+    for name in ["made", "no/a.k2", ""] {
+        assert!(rt; shelf.put(name, b"lost").is_err(), "{name}");
+    }
+    let mine = read_all(alloc, &mut shelf, "made/put-0.part", 9)?;
+    assert_eq!(rt; mine.as_slice(), b"mine".as_slice());
+    for beside in ["put-0.part", "made/put-1.part"] {
+        assert!(rt; !fs::exists(&rt, beside)?, "{beside}");
+    }
+    for file in ["made/put-0.part", "made/a.k2", "a.k2"] {
+        fs::remove_file(&rt, file)?;
+    }
+    fs::remove_dir(&rt, "made")?;
     Ok(())
 }
 
