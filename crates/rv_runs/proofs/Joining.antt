@@ -25,6 +25,10 @@ map_append : {X Y : Type 0} (f : X → Y) (xs ys : List X) → map f (xs ++ ys) 
 map_append f [] ys = refl
 map_append f (x ∷ xs) ys = ap (λ (l : List _). f x ∷ l) (map_append f xs ys)
 
+pub length_more : {X : Type 0} (ys : List X) (w : X) → length (ys ++ w ∷ []) ≡ length ys + 1
+length_more [] w = omega arith
+length_more (y ∷ ys) w = let i = length_more ys w in omega arith
+
 -- ---- workers
 holds_itself : (a : Worker) → Holds a a
 holds_itself a = record { same = λ r s. refl; same_quads = λ q s. refl }
@@ -54,10 +58,6 @@ module _ {E : Type 0} (worker : E → Worker) where
   made_more : (ys : List (Work E)) (w : Work E) → made_by worker (ys ++ w ∷ []) ≡ made_by worker ys + (worker w.engine).made
   made_more [] w = omega arith
   made_more (y ∷ ys) w = let i = made_more ys w in omega arith
-
-  length_more : (ys : List (Work E)) (w : Work E) → length (ys ++ w ∷ []) ≡ length ys + 1
-  length_more [] w = omega arith
-  length_more (y ∷ ys) w = let i = length_more ys w in omega arith
 
   pub takes_none : (old : Worker) → TakesAll worker [] old old
   takes_none old = record {

@@ -4,3 +4,5 @@ pub mod Dues
 pub mod Accounts
 pub mod Lawful
 pub mod Joining
+pub mod Sharing
+pub mod Collecting

@@ -2,6 +2,7 @@
 #![tactic(auto)]
 
 mod ended;
+mod page;
 mod together;
 mod work;
 

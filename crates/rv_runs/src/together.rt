@@ -7,6 +7,7 @@ ghost use Rattle.rv_runs.specs.Runs.{IsEnded};
 ghost use Rattle.rv_runs.specs.Works.{IsFresh, CanJoin, RanWhereTold, Numbered, HaveHouse, SplitsAll, SplitsWorkers, TakesAll, pass_of, told_of};
 
 use crate::ended::Ended;
+use crate::page::{make_page, take_apart};
 use crate::work::{Work, run_work};
 use rel_model::NoMemory;
 use rel_model::engine_trait::Engine;
@@ -131,7 +132,7 @@ pub fn run_all<R: Threads + Wait + Sync, E: Engine + Drop + Send>(
     files: &[Loaded],
     turns: u64,
     history: bool,
-    engine: E,
+    mut engine: E,
 ) -> Result<Ended<E>, NoMemory>
     requires some { 1 ≤ length scripts.now }
     requires few { length scripts.now ≤ 64 }
@@ -141,6 +142,32 @@ pub fn run_all<R: Threads + Wait + Sync, E: Engine + Drop + Send>(
     requires misses { (E.worker engine).misses ≡ 0 }
     ensures { IfOk result (IsEnded E.worker E.least (map (λ v. v.items) scripts.now) files.now turns history (E.worker engine)) }
 {
-    let _ = (rt, alloc, scripts, files, turns, history, engine);
-    Err(NoMemory)
+    let Ok(mut works) = Vec::with_capacity(alloc, scripts.len()) else {
+        return Err(NoMemory);
+    };
+    let Ok(mut told) = Vec::with_capacity(alloc, scripts.len()) else {
+        return Err(NoMemory);
+    };
+    let archive = engine.split(1);
+    let first = Book::new(alloc, archive);
+    let Ok((book, mut pass)) = TurnBook::make(alloc, first, scripts.len() as u32 + 1) else {
+        return Err(NoMemory);
+    };
+    split_all(&book, &mut pass, &mut engine, scripts.len(), &mut works);
+    run_works(rt, alloc, scripts, files, turns, &book, &mut works);
+    let whole = join_all(&book, &mut pass, &mut engine, works, &mut told);
+    let (archive, events) = book.close(pass).into_parts();
+    engine.join(archive);
+    if !whole {
+        return Err(NoMemory);
+    }
+    let page = make_page(alloc, told.as_slice(), events.as_slice(), history)?;
+    let (outcomes, saves) = take_apart(alloc, told)?;
+    Ok(Ended {
+        engine,
+        history: events,
+        outcomes,
+        page,
+        saves,
+    })
 }

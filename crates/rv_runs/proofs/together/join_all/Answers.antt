@@ -8,7 +8,7 @@ use Rattle.turn_book.proofs.Joining.{joins_none}
 use Rattle.rv_sessions.specs.declared.transcript.Transcript.{Transcript}
 use Rattle.rv_runs.specs.declared.work.Work.{Work}
 use Rattle.rv_runs.specs.Works.{CanJoin, TakesAll, pass_of, told_of}
-use Rattle.rv_runs.proofs.Joining.{there, takes_none, takes_more, joins_more, told_more}
+use Rattle.rv_runs.proofs.Joining.{there, length_more, takes_none, takes_more, joins_more, told_more}
 use Rattle.rv_runs.proofs.together.join_all.Goals as goal
 
 pub works-preserved-in-Some-answer : goal.works-preserved-in-Some-answer
@@ -22,7 +22,7 @@ works-preserved-in-Some-answer g c =
       search rules,
       search rules,
       items ∙ sym (append_assoc c.works.yielded (w ∷ []) (into_iter_items c.next.new.self)),
-      search rules,
+      (let long = length_more c.works.yielded w in let few = i.3 in omega arith),
       search rules,
       λ t. subst (λ (l : List Transcript). map (λ u. Some u) l ≡ map told_of (c.works.yielded ++ w ∷ [])) (sym c.push_reserved.ensures.items)
           (told_more c.works.told.items c.in-Some-answer.transcript c.works.yielded w c.in-Some-answer.is (i.5 t)),
@@ -41,7 +41,7 @@ works-preserved g c =
       search rules,
       search rules,
       items ∙ sym (append_assoc c.works.yielded (w ∷ []) (into_iter_items c.next.new.self)),
-      search rules,
+      (let long = length_more c.works.yielded w in let few = i.3 in omega arith),
       search rules,
       λ t. absurd (true≢false (sym t)),
       joins_more c.works.yielded w c.args.pass.now c.works.pass c.join_pass.new.pass i.6 e.joins e.begins e.other_begins,

@@ -1,0 +1,155 @@
+-- Works whose sessions told something, as parts of a run: their passes make up the closed log.
+-- 1. The parts of a run are the works, each with its script and its transcript.
+-- 2. All events of a session's own are of its number.
+-- 3. So the events of each number in the closed log are its session's own, and none is of another number.
+use Rattle.std.specs.List.{AllByRecursion, filter}
+use Rattle.std.specs.Prelude.{IfSome}
+use Rattle.std.proofs.Common.{◌≡◌, ◌<◌, ◌≤◌, ◌≢◌, ◌+◌, ◌-◌, ◌++◌, ◌⊎◌, ℕ, zero, suc, Bool, true, false, cond, eqb, List, [], ◌∷◌, length, Option, Some, None, refl, sym, ap, subst, ◌∙◌, map, inl, inr, arith, get_or, All}
+use Rattle.std.proofs.lemmas.Bool.{cases_Bool, cases_lt, eq-eqb, ne_eqb}
+use Rattle.rel_model.specs.Worker.{Worker}
+use Rattle.run_model.specs.declared.event.Event.{Event}
+use Rattle.run_model.specs.Inputs.{Input, Reading, NoScript, Flawed, Runs}
+use Rattle.run_model.specs.States.{events_of}
+use Rattle.run_model.specs.Turns.{BeginsLog, Turn, put_by}
+use Rattle.turn_book.specs.Logs.{MakeUp, pick}
+use Rattle.turn_book.specs.Views.{View}
+use Rattle.turn_book.proofs.Sharing.{its_own, no_ones}
+use Rattle.rv_sessions.specs.declared.transcript.Transcript.{Transcript}
+use Rattle.rv_sessions.specs.Sessions.{DidReading}
+use Rattle.rv_runs.specs.Works.{HasRun, IsAbsorbed}
+use Rattle.rv_runs.proofs.Accounts.{Part, Account, Accounts}
+
+-- ---- tests of numbers
+abbrev is_of : ℕ → Event → Bool
+is_of s e = eqb e.session s
+
+pick_is_filter : (is : Event → Bool) (xs : List Event) → pick is xs ≡ filter is xs
+pick_is_filter is [] = refl
+pick_is_filter is (x ∷ xs) = ap (λ (l : List Event). cond (is x) (x ∷ l) l) (pick_is_filter is xs)
+
+-- all of these are of this session
+abbrev AreOf : ℕ → List Event → Type 0
+AreOf s = AllByRecursion (λ e. e.session ≡ s)
+
+pick_own : (s : ℕ) (xs : List Event) → AreOf s xs → pick (is_of s) xs ≡ xs
+pick_own s [] h = refl
+pick_own s (x ∷ xs) h = (λ i. cond (eq-eqb x.session s h.0 i) (x ∷ pick_own s xs h.1 i) (pick_own s xs h.1 i))
+
+pick_other : (s r : ℕ) (xs : List Event) → AreOf s xs → s ≢ r → pick (is_of r) xs ≡ []
+pick_other s r [] h d = refl
+pick_other s r (x ∷ xs) h d = (λ i. cond (ne_eqb x.session r (λ e. d (sym h.0 ∙ e)) i) (x ∷ pick_other s r xs h.1 d i) (pick_other s r xs h.1 d i))
+
+-- ---- a session's own events
+puts_own : (s : ℕ) (ts : List Turn) → AllByRecursion (λ t. t.put.session ≡ s) ts → AreOf s (map put_by ts)
+puts_own s [] h = tt
+puts_own s (t ∷ ts) h = (h.0, puts_own s ts h.1)
+
+did_own : (leaf : ℕ) (given : Input) (s : ℕ) (reading : Reading) (old new : Worker) (before after : View) (told : Transcript)
+    → DidReading leaf given s reading old new before after told → before.mine ≡ [] → AreOf s after.mine
+did_own leaf given s (NoScript fault) old new before after told d none = subst (AreOf s) (sym (d.nothing.mine ∙ none)) tt
+did_own leaf given s (Flawed fault) old new before after told d none = subst (AreOf s) (sym (d.nothing.mine ∙ none)) tt
+did_own leaf given s (Runs script) old new before after told d none =
+    subst (AreOf s) (sym (d.mine ∙ ap (λ l. l ++ map put_by d.ts) none)) (puts_own s d.ts d.runs.own)
+
+-- each part ran, from number s on
+abbrev pub AllHaveRun : ℕ → Input → ℕ → List Part → Type 0
+AllHaveRun leaf given s [] = Unit {0}
+AllHaveRun leaf given s (part ∷ parts) = HasRun leaf given s part.bytes part.own part.pass part.told × AllHaveRun leaf given (s + 1) parts
+
+-- the events of a part's own
+abbrev pub mine_of : Part → List Event
+mine_of part = part.pass.mine
+
+module _ (leaf : ℕ) (given : Input) where
+  own_at : (s k : ℕ) (parts : List Part) → AllHaveRun leaf given s parts → AreOf (s + k) (get_or (map mine_of parts) k [])
+  own_at s k [] h = tt
+  own_at s zero (part ∷ parts) h = subst (λ n. AreOf n part.pass.mine) (same s) (did_own leaf given s h.0.ran.reading h.0.first part.own h.0.before part.pass part.told h.0.ran.did h.0.no_mine)
+    where
+      same : (s : ℕ) → s ≡ s + 0
+      same s = omega arith
+  own_at s (suc k) (part ∷ parts) h = subst (λ n. AreOf n (get_or (map mine_of parts) k [])) (later s k) (own_at (s + 1) k parts h.1)
+    where
+      later : (s k : ℕ) → (s + 1) + k ≡ s + suc k
+      later s k = omega arith
+
+  -- ---- the closed log
+  module _ (parts : List Part) (log : List Event) (ran : AllHaveRun leaf given 1 parts) (makes : MakeUp ([] ∷ map mine_of parts) log) where
+    list_past : (ps : List Part) (k : ℕ) → length ps ≤ k → get_or (map mine_of ps) k [] ≡ []
+    list_past [] k l = refl
+    list_past (p ∷ ps) zero l = absurd (omega arith)
+    list_past (p ∷ ps) (suc k) l = list_past ps k (omega arith)
+
+    length_mine : (ps : List Part) → length (map mine_of ps) ≡ length ps
+    length_mine [] = refl
+    length_mine (p ∷ ps) = let i = length_mine ps in omega arith
+
+    others : (k j : ℕ) → j ≢ suc k → pick (is_of (1 + k)) (get_or ([] ∷ map mine_of parts) j []) ≡ []
+    others k zero n = refl
+    others k (suc j) n = pick_other (1 + j) (1 + k) (get_or (map mine_of parts) j []) (own_at 1 j parts ran) (λ e. n (omega arith))
+
+    -- the events of a session's number are its own
+    events_at : (k : ℕ) → k < length parts → events_of (1 + k) log ≡ get_or (map mine_of parts) k []
+    events_at k l =
+        sym (pick_is_filter (is_of (1 + k)) log)
+        ∙ its_own (is_of (1 + k)) ([] ∷ map mine_of parts) log (suc k) makes (let w = length_mine parts in omega arith)
+        (pick_own (1 + k) (get_or (map mine_of parts) k []) (own_at 1 k parts ran)) (others k)
+
+    none_else : (s : ℕ) → (s ≡ 0) ⊎ (length parts < s) → (j : ℕ) → pick (is_of s) (get_or ([] ∷ map mine_of parts) j []) ≡ []
+    none_else s o zero = refl
+    none_else s o (suc j) = elim (cases_lt j (length parts)) [
+      | inl l ↦ pick_other (1 + j) s (get_or (map mine_of parts) j []) (own_at 1 j parts ran) (apart o l)
+      | inr l ↦ ap (pick (is_of s)) (list_past parts j l)
+    ]
+      where
+        apart : (s ≡ 0) ⊎ (length parts < s) → j < length parts → 1 + j ≢ s
+        apart (inl z) l e = omega arith
+        apart (inr g) l e = omega arith
+
+    -- each event is of one of the sessions
+    pub in_range : AllByRecursion (λ e. (1 ≤ e.session) × (e.session ≤ length parts)) log
+    in_range = numbered log (λ s o. no_ones (is_of s) ([] ∷ map mine_of parts) log makes (none_else s o))
+      where
+        wrong : (e : Event) (es : List Event) → ((s : ℕ) → (s ≡ 0) ⊎ (length parts < s) → pick (is_of s) (e ∷ es) ≡ []) → (e.session ≡ 0) ⊎ (length parts < e.session) → ⊥
+        wrong e es h o =
+            let t : eqb e.session e.session ≡ true = eq-eqb e.session e.session refl in
+            let k : length (e ∷ pick (is_of e.session) es) ≡ 0 = ap length (sym (ap (λ (b : Bool). cond b (e ∷ pick (is_of e.session) es) (pick (is_of e.session) es)) t) ∙ h e.session o) in omega arith
+
+        later : (e : Event) (es : List Event) → ((s : ℕ) → (s ≡ 0) ⊎ (length parts < s) → pick (is_of s) (e ∷ es) ≡ []) → (s : ℕ) → (s ≡ 0) ⊎ (length parts < s) → pick (is_of s) es ≡ []
+        later e es h s o = elim (cases_Bool (eqb e.session s)) [
+          | inl t ↦ (let k : length (e ∷ pick (is_of s) es) ≡ 0 = ap length (sym (ap (λ (b : Bool). cond b (e ∷ pick (is_of s) es) (pick (is_of s) es)) t) ∙ h s o) in absurd (omega arith))
+          | inr f ↦ sym (ap (λ (b : Bool). cond b (e ∷ pick (is_of s) es) (pick (is_of s) es)) f) ∙ h s o
+        ]
+
+        numbered : (es : List Event) → ((s : ℕ) → (s ≡ 0) ⊎ (length parts < s) → pick (is_of s) es ≡ []) → AllByRecursion (λ e. (1 ≤ e.session) × (e.session ≤ length parts)) es
+        numbered [] h = tt
+        numbered (e ∷ es) h = (
+          (
+            elim (cases_lt 0 e.session) [ inl l ↦ omega arith | inr g ↦ absurd (wrong e es h (inl (omega arith))) ],
+            elim (cases_lt (length parts) e.session) [ inl l ↦ absurd (wrong e es h (inr l)) | inr g ↦ g ],
+          ),
+          numbered es (later e es h),
+        )
+
+    module _ (all : Worker) where
+      accounts_from : (s : ℕ) (ps : List Part) → AllHaveRun leaf given s ps → AllByRecursion (λ p. IsAbsorbed p.own all) ps → AllByRecursion (λ p. BeginsLog p.pass.seen log) ps
+          → ((k : ℕ) → k < length ps → events_of (s + k) log ≡ get_or (map mine_of ps) k []) → Accounts leaf given all log s ps
+      accounts_from s [] r a b e = tt
+      accounts_from s (p ∷ ps) r a b e = (
+        record {
+          has_run = r.0;
+          absorbed = a.0;
+          begins = b.0;
+          events = subst (λ n. events_of n log ≡ p.pass.mine) (same s) (e 0 (omega arith));
+        },
+        accounts_from (s + 1) ps r.1 a.1 b.1 (λ k l. subst (λ n. events_of n log ≡ get_or (map mine_of ps) k []) (later s k) (e (suc k) (omega arith))),
+      )
+        where
+          same : (s : ℕ) → s + 0 ≡ s
+          same s = omega arith
+
+          later : (s k : ℕ) → s + suc k ≡ (s + 1) + k
+          later s k = omega arith
+
+      -- all sessions have their accounts
+      pub accounts : AllByRecursion (λ p. IsAbsorbed p.own all) parts → AllByRecursion (λ p. BeginsLog p.pass.seen log) parts → Accounts leaf given all log 1 parts
+      accounts a b = accounts_from 1 parts ran a b events_at
