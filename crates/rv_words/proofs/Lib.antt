@@ -4,4 +4,3 @@ pub mod Rules
 pub mod Walking
 pub mod Splitting
 pub mod Finding
-pub mod Telling
