@@ -3,7 +3,7 @@
 --    relations stand in them, with the values that they have in the worker, which are due.
 -- 2. As many nodes are stored as the worker made, which are no more than the commands may cost.
 -- 3. A full table was counted as a miss, and then the seat saw every place taken.
-use Rattle.std.proofs.Common.{◌≡◌, ◌≢◌, ◌<◌, ◌∙◌, ℕ, Bool, List, [], ◌∷◌, Option, Some, None, refl, sym, ap, subst, arith}
+use Rattle.std.proofs.Common.{◌≡◌, ◌≢◌, ◌<◌, ◌+◌, ◌∙◌, ℕ, Bool, List, [], ◌∷◌, Option, Some, None, refl, sym, ap, subst, arith}
 use Rattle.std.specs.Prelude.{IsSome, All, unwrap_or}
 use Rattle.std.specs.List.{AllByRecursion}
 use Rattle.std.proofs.lemmas.List.Elements.{All-head, All-tail}
@@ -93,3 +93,8 @@ holds_run bits seats table seat last w words scripts files turns asked history o
       cost = omega (arith, c.counted, ap (λ v. v.made) view, came.cost, fresh.none_made);
       full = all_fill outcomes w.misses nodes (λ m. full_stays last.words nodes c.holds (full m)) came.missed;
     }
+
+-- as many seats as were made are there to be closed
+pub whole_table : (bits seats : ℕ) (table : Table) (seat last : View) (w : Work) → IsFresh bits seats (table, seat) → (worker_of w).spare ≡ (worker_of (record { table = table; view = seat; misses = 0 })).spare
+    → last ≡ w.view → last.spare + 1 ≡ table.seats
+whole_table bits seats table seat last w fresh spare view = ap (λ v. v.spare + 1) view ∙ ap (λ n. n + 1) spare ∙ fresh.spare_is ∙ sym fresh.seats_are

@@ -4,3 +4,7 @@ pub mod Taking
 pub mod Wording
 pub mod Limits
 pub mod Reporting
+pub mod Stopping
+pub mod Texts
+pub mod Lexemes
+pub mod SaveNames

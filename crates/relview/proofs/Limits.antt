@@ -6,7 +6,7 @@ use Rattle.std.proofs.lemmas.List.FromFn.{length-map-range_with_len}
 use Rattle.std.proofs.lemmas.Fmt.{length-decimal-le_succ}
 use Rattle.std.specs.Prelude.{if◌then◌else◌, All, codes}
 use Rattle.std.specs.Fmt.{decimal}
-use Rattle.std.specs.List.{range_with_len}
+use Rattle.std.specs.List.{range_with_len, AllByRecursion}
 use Rattle.std.specs.declared.vec.Vec.{Vec}
 use Rattle.std.specs.declared.alloc.Global.{Global}
 use Rattle.rv_words.specs.Uses.{Word}
@@ -28,14 +28,14 @@ limit_of_script word e = ap (λ b. cond b relation_limit script_limit) e
 pub taken_short : (files : Option Files) (words : List Word) (vs : List (Vec ℕ Global)) → AreTaken files (scripts_in words) (map (λ v. v.items) vs) → All IsShort vs
 taken_short files [] [] h = All-nil IsShort
 taken_short files [] (v ∷ vs) h = absurd h
-taken_short files (word ∷ words) vs h = by_kind (is_relation_word word) refl vs h
+taken_short files (word ∷ words) vs h = by_kind (λ us. taken_short files words us) (is_relation_word word) refl vs h
   where
-    by_kind : (b : Bool) → is_relation_word word ≡ b → (us : List (Vec ℕ Global)) → AreTaken files (if b then scripts_in words else word ∷ scripts_in words) (map (λ v. v.items) us) → All IsShort us
-    by_kind true e us k = taken_short files words us k
-    by_kind false e [] k = absurd k
-    by_kind false e (u ∷ us) k =
+    by_kind : ((us : List (Vec ℕ Global)) → AreTaken files (scripts_in words) (map (λ v. v.items) us) → All IsShort us) → (b : Bool) → is_relation_word word ≡ b → (us : List (Vec ℕ Global)) → AreTaken files (if b then scripts_in words else word ∷ scripts_in words) (map (λ v. v.items) us) → All IsShort us
+    by_kind h true e us k = h us k
+    by_kind h false e [] k = absurd k
+    by_kind h false e (u ∷ us) k =
         let within = subst (λ m. length u.items ≤ m) (limit_of_script word e) k.0.1 in
-        All-cons IsShort u us (omega (arith, within)) (taken_short files words us k.1)
+        All-cons IsShort u us (omega (arith, within)) (h us k.1)
 
 -- as many files as words
 pub taken-length : (files : Option Files) (words : List Word) (bs : List (List ℕ)) → AreTaken files words bs → length bs ≡ length words
@@ -70,3 +70,59 @@ rows_short x zero h = let one = one_row_short x zero h in omega (arith, one)
 rows_short x (suc n) h =
     let c : length (codes "; ") ≡ 2 = refl in
     omega (arith, c, rows_short x n (omega arith), one_row_short x (suc n) h, length-append (rows_text x n) (codes "; " ++ row_of x (suc n)), length-append (codes "; ") (row_of x (suc n)))
+
+-- a text of two pieces, each within a bound
+both : {xs ys : List ℕ} {a b : ℕ} → length xs ≤ a → length ys ≤ b → length (xs ++ ys) ≤ a + b
+both {xs} {ys} h k = omega (arith, length-append xs ys, h, k)
+
+-- a text of so many bytes
+exact : {xs : List ℕ} {n : ℕ} → length xs ≡ n → length xs ≤ n
+exact e = omega (arith, e)
+
+digits_short : (s : ℕ) → s ≤ 8 → length (decimal s) ≤ 9
+digits_short s h = omega (arith, length-decimal-le_succ s (omega arith))
+
+closure_short : (s : ℕ) → s ≤ 8 → length (closure_text s) ≤ 6 + (9 + (10 + (9 + (10 + (9 + 1)))))
+unfolding closure_text
+closure_short s h =
+    let d = digits_short s h in
+    both {codes " LET C"} (exact refl) (both d (both {codes " = trans(G"} (exact refl) (both d (both {codes "). COUNT C"} (exact refl) (both d (exact {codes "."} refl))))))
+
+counts_short : (s : ℕ) → s ≤ 8 → length (counts_text s) ≤ 8 + (9 + (4 + (9 + (14 + (9 + (2 + (9 + 2)))))))
+unfolding counts_text
+counts_short s h =
+    let d = digits_short s h in
+    both {codes " COUNT C"} (exact refl) (both d (both {codes " & C"} (exact refl) (both d (both {codes "^. COUNT syq(C"} (exact refl) (both d (both {codes ",C"} (exact refl) (both d (exact {codes ")."} refl))))))))
+
+-- a whole script
+script_short : (x s : ℕ) → s ≤ 8 → length (script_text x s) ≤ 2 ^ 20
+unfolding script_text
+script_short x s h =
+    let rows = rows_short x 63 (omega arith) in
+    let whole : length (script_text x s) ≤ 5 + (9 + (8 + (200 * 64 + (2 + ((6 + (9 + (10 + (9 + (10 + (9 + 1)))))) + ((8 + (9 + (4 + (9 + (14 + (9 + (2 + (9 + 2)))))))) + 1)))))) =
+        both {codes "REL G"} (exact refl) (both (digits_short s h) (both {codes " 64 64 {"} (exact refl) (both rows (both {codes "}."} (exact refl) (both (closure_short s h) (both (counts_short s h) (exact {10 ∷ []} refl))))))) in
+    omega (arith, whole)
+
+-- of texts within the limit the vectors are
+vectors_short : (vs : List (Vec ℕ Global)) (texts : List (List ℕ)) → map (λ v. v.items) vs ≡ texts → AllByRecursion (λ t. length t ≤ 2 ^ 20) texts → All IsShort vs
+vectors_short vs texts e h = go vs (subst (AllByRecursion (λ t. length t ≤ 2 ^ 20)) (sym e) h)
+  where
+    go : (us : List (Vec ℕ Global)) → AllByRecursion (λ t. length t ≤ 2 ^ 20) (map (λ v. v.items) us) → All IsShort us
+    go [] k = All-nil IsShort
+    go (u ∷ us) k = All-cons IsShort u us k.0 (go us k.1)
+
+-- the eight scripts of a number
+generated_short : (number : ℕ) → AllByRecursion (λ t. length t ≤ 2 ^ 20) (generated number)
+unfolding generated
+generated_short number =
+    let x = number % 2 ^ 32 in
+    (script_short (after x 0) 1 (omega arith), script_short (after x 128) 2 (omega arith), script_short (after x 256) 3 (omega arith), script_short (after x 384) 4 (omega arith),
+    script_short (after x 512) 5 (omega arith), script_short (after x 640) 6 (omega arith), script_short (after x 768) 7 (omega arith), script_short (after x 896) 8 (omega arith), tt)
+
+pub made_short : (vs : List (Vec ℕ Global)) (number : ℕ) → map (λ v. v.items) vs ≡ generated number → All IsShort vs
+made_short vs number e = vectors_short vs (generated number) e (generated_short number)
+
+-- they are eight
+pub eight : (vs : List (Vec ℕ Global)) (number : ℕ) → map (λ v. v.items) vs ≡ generated number → length vs ≡ 8
+unfolding generated
+eight vs number e = sym (length-map vs (λ v. v.items)) ∙ ap length e ∙ length-map-range_with_len (λ k. script_text (after (number % 2 ^ 32) (128 * k)) (k + 1)) 0 8

@@ -4,6 +4,8 @@ use Rattle.std.proofs.lemmas.Bool.{false≢true}
 use Rattle.std.proofs.lemmas.Slice.Eq.{bytes_eq-Decides}
 use Rattle.lang_model.specs.Tokens.{same_text}
 use Rattle.run_model.specs.Page.{SavedFile}
+use Rattle.rv_sessions.specs.declared.transcript.Save.{Save}
+use Rattle.rv_sessions.specs.Telling.{saved_of, saved_all}
 use Rattle.rv_io.specs.Outside.{Files, Told, Rose, IsFile, KeepsOthers}
 use Rattle.relview.specs.Writing.{with_file, with_files, HasPut, HasPutBut, HasLost}
 
@@ -41,5 +43,5 @@ put_but None (Some m) (Some now) made lost h k = absurd h
 put_but (Some before) (Some m) (Some now) made lost h k = λ name other. k name other ∙ h name
 
 -- one file goes over from those to be put to those that were
-pub place_moves : (all made rest : List SavedFile) (save : SavedFile) (tail : List SavedFile) → all ≡ made ++ rest → rest ≡ save ∷ tail → all ≡ (made ++ save ∷ []) ++ tail
-place_moves all made rest save tail e f = e ∙ ap (λ r. made ++ r) f ∙ sym (append_assoc made (save ∷ []) tail)
+pub place_rest : (all made : List SavedFile) (rest tail : List Save) (save : Save) → rest ≡ save ∷ tail → all ≡ made ++ saved_all rest → all ≡ (made ++ saved_of save ∷ []) ++ saved_all tail
+place_rest all made rest tail save e place = place ∙ ap (λ r. made ++ saved_all r) e ∙ sym (append_assoc made (saved_of save ∷ []) (saved_all tail))

@@ -1,7 +1,10 @@
 -- Files that are read one after another, and what is said of the FILE words behind them.
 use Rattle.std.proofs.Common.{◌≡◌, ◌≤◌, ◌∙◌, ℕ, Bool, true, false, cond, List, [], ◌∷◌, ◌++◌, length, map, Option, Some, None, refl, sym, ap, subst, append_assoc, append-nil, arith}
 use Rattle.std.proofs.lemmas.Bool.{cases_Bool}
-use Rattle.std.specs.Prelude.{if◌then◌else◌}
+use Rattle.std.specs.Prelude.{if◌then◌else◌, String}
+use Rattle.std.specs.String.{string_bytes}
+use Rattle.std.specs.declared.alloc.Global.{Global}
+use Rattle.rv_words.specs.Shown.{texts}
 use Rattle.run_model.specs.Inputs.{RelationFile}
 use Rattle.rv_words.specs.Uses.{Word}
 use Rattle.rv_words.specs.Said.{is_relation_word, scripts_in, relations_in}
@@ -16,12 +19,12 @@ scripts_in-append [] word = by_kind (is_relation_word word)
     by_kind : (b : Bool) → (if b then [] else word ∷ []) ≡ cond b [] (word ∷ [])
     by_kind true = refl
     by_kind false = refl
-scripts_in-append (x ∷ xs) word = by_kind (is_relation_word x)
+scripts_in-append (x ∷ xs) word = by_kind (scripts_in-append xs word) (is_relation_word x)
   where
-    by_kind : (b : Bool) → (if b then scripts_in (xs ++ word ∷ []) else x ∷ scripts_in (xs ++ word ∷ []))
+    by_kind : scripts_in (xs ++ word ∷ []) ≡ scripts_in xs ++ cond (is_relation_word word) [] (word ∷ []) → (b : Bool) → (if b then scripts_in (xs ++ word ∷ []) else x ∷ scripts_in (xs ++ word ∷ []))
         ≡ (if b then scripts_in xs else x ∷ scripts_in xs) ++ cond (is_relation_word word) [] (word ∷ [])
-    by_kind true = scripts_in-append xs word
-    by_kind false = ap (λ ws. x ∷ ws) (scripts_in-append xs word)
+    by_kind h true = h
+    by_kind h false = ap (λ ws. x ∷ ws) h
 
 relations_in-append : (words : List Word) (word : Word) → relations_in (words ++ word ∷ []) ≡ relations_in words ++ cond (is_relation_word word) (word ∷ []) []
 relations_in-append [] word = by_kind (is_relation_word word)
@@ -29,12 +32,12 @@ relations_in-append [] word = by_kind (is_relation_word word)
     by_kind : (b : Bool) → (if b then word ∷ [] else []) ≡ cond b (word ∷ []) []
     by_kind true = refl
     by_kind false = refl
-relations_in-append (x ∷ xs) word = by_kind (is_relation_word x)
+relations_in-append (x ∷ xs) word = by_kind (relations_in-append xs word) (is_relation_word x)
   where
-    by_kind : (b : Bool) → (if b then x ∷ relations_in (xs ++ word ∷ []) else relations_in (xs ++ word ∷ []))
+    by_kind : relations_in (xs ++ word ∷ []) ≡ relations_in xs ++ cond (is_relation_word word) (word ∷ []) [] → (b : Bool) → (if b then x ∷ relations_in (xs ++ word ∷ []) else relations_in (xs ++ word ∷ []))
         ≡ (if b then x ∷ relations_in xs else relations_in xs) ++ cond (is_relation_word word) (word ∷ []) []
-    by_kind true = ap (λ ws. x ∷ ws) (relations_in-append xs word)
-    by_kind false = relations_in-append xs word
+    by_kind h true = ap (λ ws. x ∷ ws) h
+    by_kind h false = h
 
 -- files taken, and then others
 taken-append : (files : Option Files) (xs ys : List Word) (bs cs : List (List ℕ)) → AreTaken files xs bs → AreTaken files ys cs → AreTaken files (xs ++ ys) (bs ++ cs)
@@ -88,8 +91,8 @@ within_more files [] word h bytes t = ((bytes, t), tt)
 within_more files (x ∷ xs) word h bytes t = (h.0, within_more files xs word h.1 bytes t)
 
 -- one word goes over from those to be read to those that were
-pub word_moves : (all before rest : List Word) (word : Word) (tail : List Word) → all ≡ before ++ rest → rest ≡ word ∷ tail → all ≡ (before ++ word ∷ []) ++ tail
-word_moves all before rest word tail e f = e ∙ ap (λ r. before ++ r) f ∙ sym (append_assoc before (word ∷ []) tail)
+pub word_rest : (all before : List Word) (rest tail : List (String Global)) (name : String Global) → rest ≡ name ∷ tail → all ≡ before ++ texts rest → all ≡ (before ++ string_bytes name ∷ []) ++ texts tail
+word_rest all before rest tail name e place = place ∙ ap (λ r. before ++ texts r) e ∙ sym (append_assoc before (string_bytes name ∷ []) (texts tail))
 
 -- what two calls leave, one after the other
 pub leaves_then : (a b c : Told) → Leaves a b → Leaves b c → Leaves a c
