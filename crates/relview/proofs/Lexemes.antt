@@ -1,7 +1,8 @@
 -- Each file text among the tokens of a text is ASCII.
 use Rattle.std.proofs.Common.{◌≡◌, ◌<◌, ◌≤◌, ◌+◌, ◌-◌, ◌∙◌, ℕ, zero, suc, Bool, true, false, cond, List, [], ◌∷◌, take, drop, length, Option, Some, None, refl, sym, ap, subst, arith}
 use Rattle.std.proofs.lemmas.Bool.{false≢true, and_parts, leb-true}
-use Rattle.std.specs.Prelude.{◌==◌, ◌&&◌, not, nat_le, nat_lt, is_some, unwrap_or, option_map, option_map_or, slice_index}
+use Rattle.std.specs.Prelude.{◌==◌, ◌&&◌, not, nat_le, nat_lt, is_some, unwrap_or, option_map, slice_index, ◌^◌}
+use Rattle.std.specs.Option.{option_map_or}
 use Rattle.std.specs.List.{AllByRecursion, list_all}
 use Rattle.std.specs.Str.{IsAscii}
 use Rattle.lang_model.specs.declared.syntax.Place.{Place}
@@ -30,9 +31,12 @@ ascii_run (b ∷ bs) = by_byte (ascii_run bs) (is_file_byte b) refl
         let most = leb-true b 126 (and_parts (nat_le b 126) (not (b == 34)) parts.1).0 in
         omega (arith, most)
 
+    one_more : b < 128 → (n : ℕ) → IsAscii (take n bs) → IsAscii (take (suc n) (b ∷ bs))
+    one_more l n h zero = l
+    one_more l n h (suc i) = h i
+
     more : b < 128 → (n : ℕ) → IsAscii (take n bs) → IsAscii (take (n + 1) (b ∷ bs))
-    more l n h zero = l
-    more l n h (suc i) = h i
+    more l n h = let e : suc n ≡ n + 1 = omega arith in subst (λ m. IsAscii (take m (b ∷ bs))) e (one_more l n h)
 
     by_byte : IsAscii (take (run_length is_file_byte bs) bs) → (t : Bool) → is_file_byte b ≡ t → IsAscii (take (cond t (run_length is_file_byte bs + 1) 0) (b ∷ bs))
     by_byte h true e = more (low e) (run_length is_file_byte bs) h

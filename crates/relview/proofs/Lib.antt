@@ -1,3 +1,4 @@
+pub mod Rest
 pub mod Holding
 pub mod Putting
 pub mod Taking
@@ -8,3 +9,5 @@ pub mod Stopping
 pub mod Texts
 pub mod Lexemes
 pub mod SaveNames
+pub mod GivenRun
+pub mod Naming

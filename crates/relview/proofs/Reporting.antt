@@ -71,3 +71,7 @@ answers words said so mid sn o n scripts files report g h = by_ran report.ran h
         → MatchBool b (HasRun words so sn o n report) (HasStopped words so sn o n report)
     by_ran true r = ran words said so mid sn o n scripts files report g r
     by_ran false r = stopped words so mid sn o n report g.no_put r
+
+-- nothing ran
+pub answers_stopped : (words : List Word) (so sn : Told) (o n : Sunk) (report : Report) → report.ran ≡ false → HasStopped words so sn o n report → Answers words so sn o n report
+answers_stopped words so sn o n report r h = subst (λ b. MatchBool b (HasRun words so sn o n report) (HasStopped words so sn o n report)) (sym r) h

@@ -23,7 +23,8 @@ use Rattle.run_model.specs.declared.event.Event.{Event}
 use Rattle.run_model.specs.declared.outcome.Outcome.{Outcome}
 use Rattle.run_model.specs.Inputs.{Input, Reading, NoScript, Flawed, Runs, AreReadings}
 use Rattle.run_model.specs.Due.{Due, Nothing, Value, Refused, Workspace}
-use Rattle.run_model.specs.Steps.{Ending, Succeeds, Fails, LacksMemory, ending, Step, Snapshots, steps, steps_from, snaps_behind, no_names, due_at}
+use Rattle.run_model.specs.Steps.{Ending, Succeeds, Fails, LacksMemory, ending, Step, Snapshots, steps, steps_from, snaps_behind, due_at}
+use Rattle.run_model.specs.Names.{no_names}
 use Rattle.run_model.specs.States.{state_for}
 use Rattle.run_model.specs.Page.{SavedFile, saved_by, saved_of, done_save, save_at, saves_of, session_saves, sessions_saves, saves}
 use Rattle.rv_sessions.specs.declared.transcript.Save.{Save as SaveFile}
@@ -32,67 +33,67 @@ use Rattle.relview.proofs.Texts.{AreTexts, behind_at, behind, text_taken, behind
 use Rattle.relview.proofs.Lexemes.{texts_of}
 
 -- ---- what is left behind an item
-more_columns : (cs : List Column) {tokens rest : List Token} → SpellsMoreColumns cs tokens rest → AreTexts tokens → AreTexts rest
-more_columns [] s h = subst AreTexts (sym s) h
-more_columns (c ∷ cs) s h = more_columns cs s.5 (behind_at s.3 (behind s.2 h))
+more_columns : (cs : List Column) (tokens rest : List Token) → SpellsMoreColumns cs tokens rest → AreTexts tokens → AreTexts rest
+more_columns [] tokens rest s h = subst AreTexts (sym s) h
+more_columns (c ∷ cs) tokens rest s h = more_columns cs _ _ s.5 (behind_at s.3 (behind s.2 h))
 
-columns : (cs : List Column) {tokens rest : List Token} → SpellsColumns cs tokens rest → AreTexts tokens → AreTexts rest
-columns [] s h = absurd s
-columns (c ∷ cs) s h = more_columns cs s.3 (behind_at s.1 h)
+columns : (cs : List Column) (tokens rest : List Token) → SpellsColumns cs tokens rest → AreTexts tokens → AreTexts rest
+columns [] tokens rest s h = absurd s
+columns (c ∷ cs) tokens rest s h = more_columns cs _ _ s.3 (behind_at s.1 h)
 
-one_row : (row : Row) {tokens rest : List Token} → SpellsRow row tokens rest → AreTexts tokens → AreTexts rest
-one_row row s h = columns row.cols.items s.5 (behind s.4 (behind_at s.2 h))
+one_row : (row : Row) (tokens rest : List Token) → SpellsRow row tokens rest → AreTexts tokens → AreTexts rest
+one_row row tokens rest s h = columns row.cols.items _ _ s.5 (behind s.4 (behind_at s.2 h))
 
-more_rows : (rows : List Row) {tokens rest : List Token} → SpellsMoreRows rows tokens rest → AreTexts tokens → AreTexts rest
-more_rows [] s h = subst AreTexts (sym s) h
-more_rows (row ∷ rows) s h = more_rows rows s.4 (one_row row s.3 (behind s.2 h))
+more_rows : (rows : List Row) (tokens rest : List Token) → SpellsMoreRows rows tokens rest → AreTexts tokens → AreTexts rest
+more_rows [] tokens rest s h = subst AreTexts (sym s) h
+more_rows (row ∷ rows) tokens rest s h = more_rows rows _ _ s.4 (one_row row _ _ s.3 (behind s.2 h))
 
-all_rows : (rows : List Row) {tokens rest : List Token} → SpellsRows rows tokens rest → AreTexts tokens → AreTexts rest
-all_rows [] s h = subst AreTexts (sym s) h
-all_rows (row ∷ rows) s h = more_rows rows s.2 (one_row row s.1 h)
+all_rows : (rows : List Row) (tokens rest : List Token) → SpellsRows rows tokens rest → AreTexts tokens → AreTexts rest
+all_rows [] tokens rest s h = subst AreTexts (sym s) h
+all_rows (row ∷ rows) tokens rest s h = more_rows rows _ _ s.2 (one_row row _ _ s.1 h)
 
-more_names : (names : List (List ℕ)) {tokens rest : List Token} → SpellsMoreNames names tokens rest → AreTexts tokens → AreTexts rest
-more_names [] s h = subst AreTexts (sym s) h
-more_names (name ∷ names) s h = more_names names s.4 (behind s.3 (behind s.2 h))
+more_names : (names : List (List ℕ)) (tokens rest : List Token) → SpellsMoreNames names tokens rest → AreTexts tokens → AreTexts rest
+more_names [] tokens rest s h = subst AreTexts (sym s) h
+more_names (name ∷ names) tokens rest s h = more_names names _ _ s.4 (behind s.3 (behind s.2 h))
 
-params : (names : List (List ℕ)) {tokens rest : List Token} → SpellsParams names tokens rest → AreTexts tokens → AreTexts rest
-params [] s h = absurd s
-params (name ∷ names) s h = more_names names s.3 (behind s.1 h)
+params : (names : List (List ℕ)) (tokens rest : List Token) → SpellsParams names tokens rest → AreTexts tokens → AreTexts rest
+params [] tokens rest s h = absurd s
+params (name ∷ names) tokens rest s h = more_names names _ _ s.3 (behind s.1 h)
 
-one_decl : (decl : Decl) {tokens rest : List Token} → SpellsDecl decl tokens rest → AreTexts tokens → AreTexts rest
-one_decl (Variable at name) s h = behind_at s h
-one_decl (Domain at name sum left right) s h =
+one_decl : (decl : Decl) (tokens rest : List Token) → SpellsDecl decl tokens rest → AreTexts tokens → AreTexts rest
+one_decl (Variable at name) tokens rest s h = behind_at s h
+one_decl (Domain at name sum left right) tokens rest s h =
     behind s.14 (behind s.13 (behind s.12 (behind s.11 (behind s.10 (behind s.9 (behind s.8 (behind_at s.7 h)))))))
 
-more_decls : (decls : List Decl) {tokens rest : List Token} → SpellsMoreDecls decls tokens rest → AreTexts tokens → AreTexts rest
-more_decls [] s h = subst AreTexts (sym s) h
-more_decls (decl ∷ decls) s h = more_decls decls s.4 (one_decl decl s.3 (behind s.2 h))
+more_decls : (decls : List Decl) (tokens rest : List Token) → SpellsMoreDecls decls tokens rest → AreTexts tokens → AreTexts rest
+more_decls [] tokens rest s h = subst AreTexts (sym s) h
+more_decls (decl ∷ decls) tokens rest s h = more_decls decls _ _ s.4 (one_decl decl _ _ s.3 (behind s.2 h))
 
-all_decls : (decls : List Decl) {tokens rest : List Token} → SpellsDecls decls tokens rest → AreTexts tokens → AreTexts rest
-all_decls [] s h = subst AreTexts (sym s) h
-all_decls (decl ∷ decls) s h = more_decls decls s.4 (one_decl decl s.3 (behind s.2 h))
+all_decls : (decls : List Decl) (tokens rest : List Token) → SpellsDecls decls tokens rest → AreTexts tokens → AreTexts rest
+all_decls [] tokens rest s h = subst AreTexts (sym s) h
+all_decls (decl ∷ decls) tokens rest s h = more_decls decls _ _ s.4 (one_decl decl _ _ s.3 (behind s.2 h))
 
-head : (at : Place) (name : List ℕ) (names : List (List ℕ)) {tokens rest : List Token} → SpellsHead at name names tokens rest → AreTexts tokens → AreTexts rest
-head at name names s h = behind s.6 (params names s.5 (behind s.4 (behind_at s.3 h)))
+head : (at : Place) (name : List ℕ) (names : List (List ℕ)) (tokens rest : List Token) → SpellsHead at name names tokens rest → AreTexts tokens → AreTexts rest
+head at name names tokens rest s h = behind s.6 (params names _ _ s.5 (behind s.4 (behind_at s.3 h)))
 
-one_command : (command : Command) {tokens rest : List Token} → SpellsCommand command tokens rest → AreTexts tokens → AreTexts rest
-one_command (REL name rows rows_at cols cols_at list) s h = behind s.10 (all_rows list.items s.9 (behind s.8 (behind_at s.7 (behind_at s.6 (behind s.5.2 (behind s.5.1 h))))))
-one_command (Let name value) s h = behind_expr s.4 (behind s.3 (behind s.2.2 (behind s.2.1 h)))
-one_command (Print value) s h = behind_expr s.2 (behind s.1 h)
-one_command (LIST value) s h = behind_expr s.2 (behind s.1 h)
-one_command (Count value) s h = behind_expr s.2 (behind s.1 h)
-one_command (Typed value) s h = behind_expr s.2 (behind s.1 h)
-one_command (Remove at name) s h = behind_at s.2 (behind s.1 h)
-one_command (Snap name) s h = behind s.2 (behind s.1 h)
-one_command (At at name value) s h = behind_expr s.4.2 (behind s.4.1 (behind_at s.3 (behind s.2 h)))
-one_command (Load name file) s h = behind s.2 (behind s.1.2 (behind s.1.1 h))
-one_command (Save value file) s h = behind s.2 (behind_expr s.1.2 (behind s.1.1 h))
+one_command : (command : Command) (tokens rest : List Token) → SpellsCommand command tokens rest → AreTexts tokens → AreTexts rest
+one_command (REL name rows rows_at cols cols_at list) tokens rest s h = behind s.10 (all_rows list.items _ _ s.9 (behind s.8 (behind_at s.7 (behind_at s.6 (behind s.5.2 (behind s.5.1 h))))))
+one_command (Let name value) tokens rest s h = behind_expr s.4 (behind s.3 (behind s.2.2 (behind s.2.1 h)))
+one_command (Print value) tokens rest s h = behind_expr s.2 (behind s.1 h)
+one_command (LIST value) tokens rest s h = behind_expr s.2 (behind s.1 h)
+one_command (Count value) tokens rest s h = behind_expr s.2 (behind s.1 h)
+one_command (Typed value) tokens rest s h = behind_expr s.2 (behind s.1 h)
+one_command (Remove at name) tokens rest s h = behind_at s.2 (behind s.1 h)
+one_command (Snap name) tokens rest s h = behind s.2 (behind s.1 h)
+one_command (At at name value) tokens rest s h = behind_expr s.4.2 (behind s.4.1 (behind_at s.3 (behind s.2 h)))
+one_command (Load name file) tokens rest s h = behind s.2 (behind s.1.2 (behind s.1.1 h))
+one_command (Save value file) tokens rest s h = behind s.2 (behind_expr s.1.2 (behind s.1.1 h))
 
-one_item : (item : Item) {tokens rest : List Token} → SpellsItem item tokens rest → AreTexts tokens → AreTexts rest
-one_item (Function at name ps body) s h = behind_expr s.4 (behind s.3 (head at name ps.items s.2 h))
-one_item (Program at name ps decls body result) s h =
-    behind s.12 (behind_expr s.11 (behind s.10 (behind_stmts s.9 (behind s.8 (all_decls decls.items s.7 (head at name ps.items s.6 h))))))
-one_item (COMMAND command) s h = one_command command s h
+one_item : (item : Item) (tokens rest : List Token) → SpellsItem item tokens rest → AreTexts tokens → AreTexts rest
+one_item (Function at name ps body) tokens rest s h = behind_expr s.4 (behind s.3 (head at name ps.items _ _ s.2 h))
+one_item (Program at name ps decls body result) tokens rest s h =
+    behind s.12 (behind_expr s.11 (behind s.10 (behind_stmts s.9 (behind s.8 (all_decls decls.items _ _ s.7 (head at name ps.items _ _ s.6 h))))))
+one_item (COMMAND command) tokens rest s h = one_command command _ _ s h
 
 -- ---- saves
 -- files whose names are ASCII
@@ -103,27 +104,27 @@ AreNamed = AllByRecursion (λ f. IsAscii f.name)
 abbrev SavesNamed : Item → Type 0
 SavesNamed item = (r : Relation) → AreNamed (saved_of item r)
 
-command_saves : (command : Command) {tokens rest : List Token} → SpellsCommand command tokens rest → AreTexts tokens → (r : Relation) → AreNamed (saved_by command r)
-command_saves (REL name rows rows_at cols cols_at list) s h r = tt
-command_saves (Let name value) s h r = tt
-command_saves (Print value) s h r = tt
-command_saves (LIST value) s h r = tt
-command_saves (Count value) s h r = tt
-command_saves (Typed value) s h r = tt
-command_saves (Remove at name) s h r = tt
-command_saves (Snap name) s h r = tt
-command_saves (At at name value) s h r = tt
-command_saves (Load name file) s h r = tt
-command_saves (Save value file) s h r = (text_taken s.2 (behind_expr s.1.2 (behind s.1.1 h)), tt)
+command_saves : (command : Command) (tokens rest : List Token) → SpellsCommand command tokens rest → AreTexts tokens → (r : Relation) → AreNamed (saved_by command r)
+command_saves (REL name rows rows_at cols cols_at list) tokens rest s h r = tt
+command_saves (Let name value) tokens rest s h r = tt
+command_saves (Print value) tokens rest s h r = tt
+command_saves (LIST value) tokens rest s h r = tt
+command_saves (Count value) tokens rest s h r = tt
+command_saves (Typed value) tokens rest s h r = tt
+command_saves (Remove at name) tokens rest s h r = tt
+command_saves (Snap name) tokens rest s h r = tt
+command_saves (At at name value) tokens rest s h r = tt
+command_saves (Load name file) tokens rest s h r = tt
+command_saves (Save value file) tokens rest s h r = (text_taken s.2 (behind_expr s.1.2 (behind s.1.1 h)), tt)
 
-item_saves : (item : Item) {tokens rest : List Token} → SpellsItem item tokens rest → AreTexts tokens → SavesNamed item
-item_saves (Function at name ps body) s h r = tt
-item_saves (Program at name ps decls body result) s h r = tt
-item_saves (COMMAND command) s h r = command_saves command s h r
+item_saves : (item : Item) (tokens rest : List Token) → SpellsItem item tokens rest → AreTexts tokens → SavesNamed item
+item_saves (Function at name ps body) tokens rest s h r = tt
+item_saves (Program at name ps decls body result) tokens rest s h r = tt
+item_saves (COMMAND command) tokens rest s h r = command_saves command _ _ s h r
 
-items_save : (items : List Item) {tokens rest : List Token} → SpellsItems items tokens rest → AreTexts tokens → AllByRecursion SavesNamed items
-items_save [] s h = tt
-items_save (item ∷ items) s h = (item_saves item s.2 h, items_save items s.4 (behind s.3 (one_item item s.2 h)))
+items_save : (items : List Item) (tokens rest : List Token) → SpellsItems items tokens rest → AreTexts tokens → AllByRecursion SavesNamed items
+items_save [] tokens rest s h = tt
+items_save (item ∷ items) tokens rest s h = (item_saves item _ _ s.2 h, items_save items _ _ s.4 (behind s.3 (one_item item _ _ s.2 h)))
 
 -- ---- runs
 named-append : (xs ys : List SavedFile) → AreNamed xs → AreNamed ys → AreNamed (xs ++ ys)
@@ -150,7 +151,7 @@ steps_named input script state_of c snaps (item ∷ items) (outcome ∷ outcomes
 script_named : (input : Input) (history : List Event) (s : ℕ) (bytes : List ℕ) (script : Script) (outcomes : List Outcome) → SpelledBy bytes script → AreNamed (session_saves input history s (Runs script) outcomes)
 unfolding saves_of steps
 script_named input history s bytes script outcomes spelled =
-    steps_named input script (state_for input history s) 1 no_names script.items.items outcomes (items_save script.items.items spelled.2 (texts_of bytes spelled.0 spelled.1))
+    steps_named input script (state_for input history s) 1 no_names script.items.items outcomes (items_save script.items.items _ _ spelled.2 (texts_of bytes spelled.0 spelled.1))
 
 sessions_named : (input : Input) (history : List Event) (s : ℕ) (scripts : List (List ℕ)) (readings : List Reading) (outcomes : List (List Outcome)) → AreReadings scripts readings → AreNamed (sessions_saves input history s readings outcomes)
 sessions_named input history s [] [] outcomes h = tt

@@ -39,9 +39,9 @@ behind t h = behind_at t.1 h
 pub text_taken : {text : List ℕ} {tokens rest : List Token} → Takes (File text) tokens rest → AreTexts tokens → IsAscii text
 text_taken t h = (subst AreTexts t.1 h).0
 
-behind_carets : (n : ℕ) {tokens rest : List Token} → Carets n tokens rest → AreTexts tokens → AreTexts rest
-behind_carets zero c h = subst AreTexts (sym c) h
-behind_carets (suc n) c h = behind_carets n c.2 (behind c.1 h)
+behind_carets : (n : ℕ) (tokens rest : List Token) → Carets n tokens rest → AreTexts tokens → AreTexts rest
+behind_carets zero tokens rest c h = subst AreTexts (sym c) h
+behind_carets (suc n) tokens rest c h = behind_carets n c.0 rest c.2 (behind c.1 h)
 
 mutual
   pub behind_expr : {l : Level} {d : ℕ} {x : Expr} {tokens rest : List Token} → Spelled l d x tokens rest → AreTexts tokens → AreTexts rest
@@ -53,7 +53,7 @@ mutual
   behind_expr (injected d at base domain tokens t1 t2 t3 rest l f t opened name close) h = behind close (behind name (behind opened (behind_at t h)))
   behind_expr (paired d at left right tokens t1 t2 t3 t4 rest l t s comma r close) h = behind close (behind_expr r (behind comma (behind_expr s (behind_at t h))))
   behind_expr (enclosed d x tokens mid after rest l paren s close) h = behind close (behind_expr s (behind paren h))
-  behind_expr (turned d at of n tokens mid after rest s t cs) h = behind_carets n cs (behind_at t (behind_expr s h))
+  behind_expr (turned d at of n tokens mid after rest s t cs) h = behind_carets n after rest cs (behind_at t (behind_expr s h))
   behind_expr (negated d at of tokens mid rest l t s) h = behind_expr s (behind_at t h)
   behind_expr (chained l d first links tokens mid rest s p ls) h = behind_linked ls (behind_expr s h)
   behind_expr (alone l d x tokens rest s) h = behind_expr s h
@@ -70,8 +70,8 @@ mutual
   behind_stmt : {d : ℕ} {x : Stmt} {tokens rest : List Token} → SpelledStmt d x tokens rest → AreTexts tokens → AreTexts rest
   behind_stmt (assigned d at name value tokens t1 t2 rest t is s) h = behind_expr s (behind is (behind_at t h))
   behind_stmt (looped d at test body tokens t1 t2 t3 t4 rest l t s w ss od) h = behind od (behind_stmts ss (behind w (behind_expr s (behind_at t h))))
-  behind_stmt (branched d at test yes no tokens t1 t2 t3 t4 rest l t s w ss e fi) h = behind fi (behind_stmts ss (behind w (behind_expr s (behind_at t h))))
-  behind_stmt (branched_twice d at test yes no tokens t1 t2 t3 t4 t5 t6 rest l t s w ss o rs fi) h =
+  behind_stmt (branched d at test left right tokens t1 t2 t3 t4 rest l t s w ss e fi) h = behind fi (behind_stmts ss (behind w (behind_expr s (behind_at t h))))
+  behind_stmt (branched_twice d at test left right tokens t1 t2 t3 t4 t5 t6 rest l t s w ss o rs fi) h =
       behind fi (behind_stmts rs (behind o (behind_stmts ss (behind w (behind_expr s (behind_at t h))))))
 
   pub behind_stmts : {d : ℕ} {xs : List Stmt} {tokens rest : List Token} → SpelledStmts d xs tokens rest → AreTexts tokens → AreTexts rest

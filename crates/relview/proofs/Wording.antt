@@ -4,8 +4,8 @@ use Rattle.std.proofs.lemmas.Bool.{false≢true, and_parts, leb-true}
 use Rattle.std.specs.Prelude.{if◌then◌else◌, ◌&&◌, nat_le, is_some, unwrap_or, option_map, option_and_then}
 use Rattle.std.specs.List.{list_all}
 use Rattle.std.specs.Str.Parse.{digits_value}
-use Rattle.rv_words.specs.Uses.{Word, Use, uses_in, values_of, file_name}
-use Rattle.rv_words.specs.Said.{Said, said_by, said_from, with_files, are_files_taken, is_file_word, is_number, number_within, number_or, scripts_in, relations_in, fits_gen, most_files}
+use Rattle.rv_words.specs.Uses.{Word, Use, uses_in, values_of, workers_name, nodes_name, turns_name, gen_name, history_name, file_name}
+use Rattle.rv_words.specs.Said.{Said, said_by, said_from, with_files, are_files_taken, is_file_word, is_number, number_within, number_or, gen_number, switched, scripts_in, relations_in, fits_gen, most_files}
 use Rattle.relview.specs.Given.{file_words}
 
 -- ---- options
@@ -52,16 +52,33 @@ of_files workers nodes turns history number files said low high e =
     let c = and_parts (nat_le (length (relations_in files)) most_files) (fits_gen number (length (scripts_in files)) (length files)) b.1 in
     subst (λ s. IsOf s files) t.1 (record { low = low; high = high; scripts_are = refl; relations_are = refl; few = leb-true (length (scripts_in files)) most_files b.0; fits = c.1 })
 
--- the values under all names
-of_values : (values : Word → List Word) (said : Said) → said_from values ≡ Some said → IsOf said (values file_name)
-of_values values said e =
-    let workers = and_then _ _ said e in
-    let nodes = and_then _ _ said workers.2 in
-    let turns = and_then _ _ said nodes.2 in
-    let history = and_then _ _ said turns.2 in
-    let number = and_then _ _ said history.2 in
-    let range = number_in 10 24 20 nodes.0 _ (omega arith) (omega arith) nodes.1 in
-    of_files workers.0 nodes.0 turns.0 history.0 number.0 (values file_name) said range.0 range.1 number.2
+-- what is said, step by step
+module _ (values : Word → List Word) where
+  abbrev with_number : ℕ → ℕ → ℕ → Bool → Option ℕ → Option Said
+  with_number workers nodes turns history number = with_files workers nodes turns history number (values file_name)
+
+  abbrev with_history : ℕ → ℕ → ℕ → Bool → Option Said
+  with_history workers nodes turns history = option_and_then (with_number workers nodes turns history) (gen_number (values gen_name))
+
+  abbrev with_turns : ℕ → ℕ → ℕ → Option Said
+  with_turns workers nodes turns = option_and_then (with_history workers nodes turns) (switched (values history_name))
+
+  abbrev with_nodes : ℕ → ℕ → Option Said
+  with_nodes workers nodes = option_and_then (with_turns workers nodes) (number_or 0 1000000000 1000000 (values turns_name))
+
+  abbrev with_workers : ℕ → Option Said
+  with_workers workers = option_and_then (with_nodes workers) (number_or 10 24 20 (values nodes_name))
+
+  -- the values under all names
+  of_values : (said : Said) → said_from values ≡ Some said → IsOf said (values file_name)
+  of_values said e =
+      let workers = and_then with_workers (number_or 1 64 1 (values workers_name)) said e in
+      let nodes = and_then (with_nodes workers.0) (number_or 10 24 20 (values nodes_name)) said workers.2 in
+      let turns = and_then (with_turns workers.0 nodes.0) (number_or 0 1000000000 1000000 (values turns_name)) said nodes.2 in
+      let history = and_then (with_history workers.0 nodes.0 turns.0) (switched (values history_name)) said turns.2 in
+      let number = and_then (with_number workers.0 nodes.0 turns.0 history.0) (gen_number (values gen_name)) said history.2 in
+      let range = number_in 10 24 20 nodes.0 (values nodes_name) (omega arith) (omega arith) nodes.1 in
+      of_files workers.0 nodes.0 turns.0 history.0 number.0 (values file_name) said range.0 range.1 number.2
 
 -- words in the set
 pub of_words : (words : List Word) (said : Said) → said_by words ≡ Some said → IsOf said (file_words words)

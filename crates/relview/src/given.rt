@@ -104,9 +104,29 @@ pub fn read_files<'a, S: Shelf>(
         scripts: Vec::new(alloc),
         files: Vec::new(alloc),
     };
+    match read_each(alloc, shelf, names, &mut given) {
+        Ok(()) => Ok(given),
+        Err(halt) => Err(halt),
+    }
+}
+
+/// Reads the files of FILE words and adds each to the others, of which there are none.
+fn read_each<'a, S: Shelf>(
+    alloc: Global,
+    shelf: &mut S,
+    names: &'a [String],
+    given: &mut Given,
+) -> Result<(), Halt<'a>>
+    requires may_pick { All (λ name. IsTrue ((S.told shelf.old).may_pick (string_bytes name))) names.now }
+    requires no_scripts { given.old.scripts.items ≡ [] }
+    requires no_files { given.old.files.items ≡ [] }
+    ensures given { OnOk result (GivesFiles (S.told shelf.old).files (texts names.now) given.new) }
+    ensures halted { IfErr result (IsHalted (S.told shelf.old) (S.told shelf.new) (texts names.now)) }
+    ensures leaves { Leaves (S.told shelf.old) (S.told shelf.new) }
+{
     let mut rest = names;
     'names: while let [name, tail @ ..] = rest {
-        match read_file(alloc, shelf, name.as_str(), &mut given) {
+        match read_file(alloc, shelf, name.as_str(), given) {
             Ok(()) => {}
             Err(error) => {
                 return Err(Halt {
@@ -117,5 +137,5 @@ pub fn read_files<'a, S: Shelf>(
         }
         rest = tail;
     }
-    Ok(given)
+    Ok(())
 }

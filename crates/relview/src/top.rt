@@ -66,8 +66,8 @@ fn refuse_words<K: Sink>(alloc: Global, sink: &mut K, error: WordsError) -> Repo
 /// Answers a file that was not read.
 fn refuse_file<K: Sink>(alloc: Global, sink: &mut K, halt: Halt) -> Report
     ensures ran { result.ran ≡ false }
-    ensures stopped { (words : List Word) (before now : Told) → HasNoPut before now → IsFirst words before halt.name.now
-        → RefusesFile before now halt.name.now (limit_of halt.name.now) halt.error
+    ensures stopped { (words : List Word) (before now : Told) → HasNoPut before now → IsFirst words before halt.entry.name.now
+        → RefusesFile before now halt.entry.name.now (limit_of halt.entry.name.now) halt.entry.error
         → HasStopped words before now (sunk (K.written sink.old) (K.faults sink.old)) (sunk (K.written sink.new) (K.faults sink.new)) result }
 {
     match halt.error {

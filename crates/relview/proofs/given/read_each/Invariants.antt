@@ -5,7 +5,7 @@ use Rattle.rv_io.specs.Outside.{Leaves}
 use Rattle.rv_words.specs.Uses.{Word}
 use Rattle.rv_words.specs.Shown.{texts}
 use Rattle.relview.specs.Given.{GivesFiles, AreWithin}
-use Rattle.relview.proofs.given.read_files.Given as goal
+use Rattle.relview.proofs.given.read_each.Given as goal
 
 abbrev pub invariant-names : goal.invariant-names
 invariant-names g l = record {
