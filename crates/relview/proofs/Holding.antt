@@ -15,6 +15,7 @@ use Rattle.run_model.specs.declared.outcome.Outcome.{Outcome}
 use Rattle.run_model.specs.declared.outcome.Outcome.TheVariants.{Nodes}
 use Rattle.run_model.specs.Page.{SavedFile}
 use Rattle.run_model.specs.Sessions.{rel_of}
+use Rattle.run_model.specs.States.{gifts_due}
 use Rattle.run_model.specs.Stored.{HoldsRun, FillsWhereFull, AreInWords}
 use Rattle.rel_model.specs.Words.{Extends, IsFull, IsDistinct}
 use Rattle.rel_model.specs.Equations.{node_words}
@@ -88,7 +89,7 @@ holds_run bits seats table seat last w words scripts files turns asked history o
         λ rel s. let here = ap (λ f. f rel) seen in relation_in-stays last.words nodes rel c.holds of.canonical distinct (subst IsSome (sym here) s) ∙ here in
     record {
       sound = c.sound;
-      stored = due_is_stored _ (set_of (worker_of w)) nodes history came.due (events_in (worker_of w) nodes history found came.stand);
+      stored = due_is_stored (gifts_due (input_with came.readings files turns asked)) (set_of (worker_of w)) nodes history came.due (events_in (worker_of w) nodes history found came.stand);
       one_root = one_root nodes distinct;
       cost = omega (arith, c.counted, ap (λ v. v.made) view, came.cost, fresh.none_made);
       full = all_fill outcomes w.misses nodes (λ m. full_stays last.words nodes c.holds (full m)) came.missed;

@@ -86,13 +86,13 @@ closure_short : (s : ℕ) → s ≤ 8 → length (closure_text s) ≤ 6 + (9 + (
 unfolding closure_text
 closure_short s h =
     let d = digits_short s h in
-    both {codes " LET C"} (exact refl) (both d (both {codes " = trans(G"} (exact refl) (both d (both {codes "). COUNT C"} (exact refl) (both d (exact {codes "."} refl))))))
+    both {xs = codes " LET C"} (exact refl) (both d (both {xs = codes " = trans(G"} (exact refl) (both d (both {xs = codes "). COUNT C"} (exact refl) (both d (exact {xs = codes "."} refl))))))
 
 counts_short : (s : ℕ) → s ≤ 8 → length (counts_text s) ≤ 8 + (9 + (4 + (9 + (14 + (9 + (2 + (9 + 2)))))))
 unfolding counts_text
 counts_short s h =
     let d = digits_short s h in
-    both {codes " COUNT C"} (exact refl) (both d (both {codes " & C"} (exact refl) (both d (both {codes "^. COUNT syq(C"} (exact refl) (both d (both {codes ",C"} (exact refl) (both d (exact {codes ")."} refl))))))))
+    both {xs = codes " COUNT C"} (exact refl) (both d (both {xs = codes " & C"} (exact refl) (both d (both {xs = codes "^. COUNT syq(C"} (exact refl) (both d (both {xs = codes ",C"} (exact refl) (both d (exact {xs = codes ")."} refl))))))))
 
 -- a whole script
 script_short : (x s : ℕ) → s ≤ 8 → length (script_text x s) ≤ 2 ^ 20
@@ -100,7 +100,7 @@ unfolding script_text
 script_short x s h =
     let rows = rows_short x 63 (omega arith) in
     let whole : length (script_text x s) ≤ 5 + (9 + (8 + (200 * 64 + (2 + ((6 + (9 + (10 + (9 + (10 + (9 + 1)))))) + ((8 + (9 + (4 + (9 + (14 + (9 + (2 + (9 + 2)))))))) + 1)))))) =
-        both {codes "REL G"} (exact refl) (both (digits_short s h) (both {codes " 64 64 {"} (exact refl) (both rows (both {codes "}."} (exact refl) (both (closure_short s h) (both (counts_short s h) (exact {10 ∷ []} refl))))))) in
+        both {xs = codes "REL G"} (exact refl) (both (digits_short s h) (both {xs = codes " 64 64 {"} (exact refl) (both rows (both {xs = codes "}."} (exact refl) (both (closure_short s h) (both (counts_short s h) (exact {xs = 10 ∷ []} refl))))))) in
     omega (arith, whole)
 
 -- of texts within the limit the vectors are

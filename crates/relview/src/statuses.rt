@@ -37,18 +37,42 @@ fn all_done(outcomes: &[Outcome]) -> bool
     outcomes.iter().all(|outcome| is_done(outcome))
 }
 
+/// Whether memory ran out in a command of some session.
+fn any_out(outcomes: &[Vec<Outcome>]) -> bool
+    ensures { result ≡ list_any (list_any is_no_memory) (map (λ v. v.items) outcomes.now) }
+{
+    let mut rest = outcomes;
+    'sessions: while let [session, tail @ ..] = rest {
+        if any_no_memory(session.as_slice()) {
+            return true;
+        }
+        rest = tail;
+    }
+    false
+}
+
+/// Whether each command of each session was done.
+fn all_in(outcomes: &[Vec<Outcome>]) -> bool
+    ensures { result ≡ list_all (list_all is_done) (map (λ v. v.items) outcomes.now) }
+{
+    let mut rest = outcomes;
+    'sessions: while let [session, tail @ ..] = rest {
+        if !all_done(session.as_slice()) {
+            return false;
+        }
+        rest = tail;
+    }
+    true
+}
+
 /// The status of a run whose page and files were written whole.
 #[tactic(auto, unfolding(crate::specs::Top::status_of))]
 pub fn status_of(outcomes: &[Vec<Outcome>]) -> u8
     ensures { result ≡ status_of (map (λ v. v.items) outcomes.now) }
 {
-    let out = outcomes
-        .iter()
-        .any(|session| any_no_memory(session.as_slice()));
-    let done = outcomes.iter().all(|session| all_done(session.as_slice()));
-    if out {
+    if any_out(outcomes) {
         5
-    } else if done {
+    } else if all_in(outcomes) {
         0
     } else {
         1
