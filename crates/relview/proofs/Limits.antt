@@ -71,37 +71,41 @@ rows_short x (suc n) h =
     let c : length (codes "; ") ≡ 2 = refl in
     omega (arith, c, rows_short x n (omega arith), one_row_short x (suc n) h, length-append (rows_text x n) (codes "; " ++ row_of x (suc n)), length-append (codes "; ") (row_of x (suc n)))
 
--- a text of two pieces, each within a bound
-both : {xs ys : List ℕ} {a b : ℕ} → length xs ≤ a → length ys ≤ b → length (xs ++ ys) ≤ a + b
-both {xs} {ys} h k = omega (arith, length-append xs ys, h, k)
+-- a piece of so many bytes, and then others
+piece : (xs ys : List ℕ) (n b : ℕ) → length xs ≡ n → length ys ≤ b → length (xs ++ ys) ≤ n + b
+piece xs ys n b e h = omega (arith, length-append xs ys, e, h)
 
--- a text of so many bytes
-exact : {xs : List ℕ} {n : ℕ} → length xs ≡ n → length xs ≤ n
-exact e = omega (arith, e)
+-- a piece of at most so many, and then others
+bounded : (xs ys : List ℕ) (a b : ℕ) → length xs ≤ a → length ys ≤ b → length (xs ++ ys) ≤ a + b
+bounded xs ys a b h k = omega (arith, length-append xs ys, h, k)
 
-digits_short : (s : ℕ) → s ≤ 8 → length (decimal s) ≤ 9
-digits_short s h = omega (arith, length-decimal-le_succ s (omega arith))
+-- the digits of the number of a script, and then others
+digits : (s b : ℕ) (ys : List ℕ) → s ≤ 8 → length ys ≤ b → length (decimal s ++ ys) ≤ 9 + b
+digits s b ys h k = omega (arith, length-append (decimal s) ys, length-decimal-le_succ s (omega arith), h, k)
+
+exact : (xs : List ℕ) (n : ℕ) → length xs ≡ n → length xs ≤ n
+exact xs n e = omega (arith, e)
 
 closure_short : (s : ℕ) → s ≤ 8 → length (closure_text s) ≤ 6 + (9 + (10 + (9 + (10 + (9 + 1)))))
 unfolding closure_text
 closure_short s h =
-    let d = digits_short s h in
-    both {xs = codes " LET C"} (exact refl) (both d (both {xs = codes " = trans(G"} (exact refl) (both d (both {xs = codes "). COUNT C"} (exact refl) (both d (exact {xs = codes "."} refl))))))
+    piece (codes " LET C") _ 6 _ refl (digits s _ _ h (piece (codes " = trans(G") _ 10 _ refl (digits s _ _ h (piece (codes "). COUNT C") _ 10 _ refl (digits s _ _ h (exact (codes ".") 1 refl))))))
 
 counts_short : (s : ℕ) → s ≤ 8 → length (counts_text s) ≤ 8 + (9 + (4 + (9 + (14 + (9 + (2 + (9 + 2)))))))
 unfolding counts_text
 counts_short s h =
-    let d = digits_short s h in
-    both {xs = codes " COUNT C"} (exact refl) (both d (both {xs = codes " & C"} (exact refl) (both d (both {xs = codes "^. COUNT syq(C"} (exact refl) (both d (both {xs = codes ",C"} (exact refl) (both d (exact {xs = codes ")."} refl))))))))
+    piece (codes " COUNT C") _ 8 _ refl (digits s _ _ h (piece (codes " & C") _ 4 _ refl (digits s _ _ h (piece (codes "^. COUNT syq(C") _ 14 _ refl (digits s _ _ h
+    (piece (codes ",C") _ 2 _ refl (digits s _ _ h (exact (codes ").") 2 refl))))))))
 
 -- a whole script
 script_short : (x s : ℕ) → s ≤ 8 → length (script_text x s) ≤ 2 ^ 20
 unfolding script_text
 script_short x s h =
     let rows = rows_short x 63 (omega arith) in
-    let whole : length (script_text x s) ≤ 5 + (9 + (8 + (200 * 64 + (2 + ((6 + (9 + (10 + (9 + (10 + (9 + 1)))))) + ((8 + (9 + (4 + (9 + (14 + (9 + (2 + (9 + 2)))))))) + 1)))))) =
-        both {xs = codes "REL G"} (exact refl) (both (digits_short s h) (both {xs = codes " 64 64 {"} (exact refl) (both rows (both {xs = codes "}."} (exact refl) (both (closure_short s h) (both (counts_short s h) (exact {xs = 10 ∷ []} refl))))))) in
-    omega (arith, whole)
+    let end = bounded (counts_text s) (10 ∷ []) 66 1 (omega (arith, counts_short s h)) (exact (10 ∷ []) 1 refl) in
+    let closed = bounded (closure_text s) _ 54 _ (omega (arith, closure_short s h)) end in
+    let all = piece (codes "REL G") _ 5 _ refl (digits s _ _ h (piece (codes " 64 64 {") _ 8 _ refl (bounded (rows_text x 63) _ 12800 _ (omega (arith, rows)) (piece (codes "}.") _ 2 _ refl closed)))) in
+    omega (arith, all)
 
 -- of texts within the limit the vectors are
 vectors_short : (vs : List (Vec ℕ Global)) (texts : List (List ℕ)) → map (λ v. v.items) vs ≡ texts → AllByRecursion (λ t. length t ≤ 2 ^ 20) texts → All IsShort vs
@@ -116,8 +120,8 @@ generated_short : (number : ℕ) → AllByRecursion (λ t. length t ≤ 2 ^ 20) 
 unfolding generated
 generated_short number =
     let x = number % 2 ^ 32 in
-    (script_short (after x 0) 1 (omega arith), script_short (after x 128) 2 (omega arith), script_short (after x 256) 3 (omega arith), script_short (after x 384) 4 (omega arith),
-    script_short (after x 512) 5 (omega arith), script_short (after x 640) 6 (omega arith), script_short (after x 768) 7 (omega arith), script_short (after x 896) 8 (omega arith), tt)
+    (script_short (after x 0) 1 (omega arith), (script_short (after x 128) 2 (omega arith), (script_short (after x 256) 3 (omega arith), (script_short (after x 384) 4 (omega arith),
+    (script_short (after x 512) 5 (omega arith), (script_short (after x 640) 6 (omega arith), (script_short (after x 768) 7 (omega arith), (script_short (after x 896) 8 (omega arith), tt))))))))
 
 pub made_short : (vs : List (Vec ℕ Global)) (number : ℕ) → map (λ v. v.items) vs ≡ generated number → All IsShort vs
 made_short vs number e = vectors_short vs (generated number) e (generated_short number)
