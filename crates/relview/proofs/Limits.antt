@@ -49,63 +49,91 @@ taken-length files (word ∷ words) [] h = absurd h
 drawn_short : (x : ℕ) → value_of x ≤ 64
 drawn_short x = omega arith
 
+-- a piece of so many bytes behind others
+more_of : (xs ys : List ℕ) (a n : ℕ) → length xs ≤ a → length ys ≡ n → length (xs ++ ys) ≤ a + n
+more_of xs ys a n h e = omega (arith, length-append xs ys, h, e)
+
+-- a piece of at most so many behind others
+more_upto : (xs ys : List ℕ) (a b : ℕ) → length xs ≤ a → length ys ≤ b → length (xs ++ ys) ≤ a + b
+more_upto xs ys a b h k = omega (arith, length-append xs ys, h, k)
+
+-- the digits of the number of a script behind others
+more_digits : (xs : List ℕ) (a s : ℕ) → length xs ≤ a → s ≤ 8 → length (xs ++ decimal s) ≤ a + 9
+more_digits xs a s h k = omega (arith, length-append xs (decimal s), length-decimal-le_succ s (omega arith), h, k)
+
+exact : (xs : List ℕ) (n : ℕ) → length xs ≡ n → length xs ≤ n
+exact xs n e = omega (arith, e)
+
 -- a row of a graph
-row_short : (row a b : ℕ) → row ≤ 64 → a ≤ 64 → b ≤ 64 → length (row_text row a b) ≤ 198
+row_short : (row a b : ℕ) → row ≤ 64 → a ≤ 64 → b ≤ 64 → length (row_text row a b) ≤ 197
 unfolding row_text
 row_short row a b hr ha hb =
-    let c : length (codes ":") ≡ 1 = refl in
-    let d : length (codes ",") ≡ 1 = refl in
-    omega (arith, c, d, length-append (decimal row) (codes ":" ++ decimal a ++ codes "," ++ decimal b), length-append (codes ":") (decimal a ++ codes "," ++ decimal b),
-    length-append (decimal a) (codes "," ++ decimal b), length-append (codes ",") (decimal b), length-decimal-le_succ row (omega arith), length-decimal-le_succ a (omega arith),
-    length-decimal-le_succ b (omega arith))
+    let first : length (decimal row) ≤ 65 = omega (arith, length-decimal-le_succ row (omega arith)) in
+    let second : length (decimal a) ≤ 65 = omega (arith, length-decimal-le_succ a (omega arith)) in
+    let third : length (decimal b) ≤ 65 = omega (arith, length-decimal-le_succ b (omega arith)) in
+    let c : List ℕ = decimal row ++ codes ":" in
+    let d : List ℕ = c ++ decimal a in
+    let e : List ℕ = d ++ codes "," in
+    more_upto e (decimal b) 132 65 (more_of d (codes ",") 131 1 (more_upto c (decimal a) 66 65 (more_of (decimal row) (codes ":") 65 1 first refl) second) refl) third
 
-one_row_short : (x i : ℕ) → i ≤ 63 → length (row_of x i) ≤ 198
+one_row_short : (x i : ℕ) → i ≤ 63 → length (row_of x i) ≤ 197
 unfolding row_of
 one_row_short x i h = row_short (i + 1) (draw x (2 * i)) (draw x (2 * i + 1)) (omega arith) (drawn_short (after x (2 * i + 1))) (drawn_short (after x (2 * i + 1 + 1)))
+
+-- one row more
+row_more : (rows row : List ℕ) (n : ℕ) → length rows ≤ 200 * (n + 1) → length row ≤ 197 → length (rows ++ codes "; " ++ row) ≤ 200 * (suc n + 1)
+row_more rows row n h k =
+    let all = more_upto (rows ++ codes "; ") row (200 * (n + 1) + 2) 197 (more_of rows (codes "; ") (200 * (n + 1)) 2 h refl) k in
+    omega (arith, all)
 
 -- the rows of a graph
 rows_short : (x n : ℕ) → n ≤ 63 → length (rows_text x n) ≤ 200 * (n + 1)
 unfolding rows_text
 rows_short x zero h = let one = one_row_short x zero h in omega (arith, one)
-rows_short x (suc n) h =
-    let c : length (codes "; ") ≡ 2 = refl in
-    omega (arith, c, rows_short x n (omega arith), one_row_short x (suc n) h, length-append (rows_text x n) (codes "; " ++ row_of x (suc n)), length-append (codes "; ") (row_of x (suc n)))
+rows_short x (suc n) h = row_more (rows_text x n) (row_of x (suc n)) n (rows_short x n (omega arith)) (one_row_short x (suc n) h)
 
--- a piece of so many bytes, and then others
-piece : (xs ys : List ℕ) (n b : ℕ) → length xs ≡ n → length ys ≤ b → length (xs ++ ys) ≤ n + b
-piece xs ys n b e h = omega (arith, length-append xs ys, e, h)
-
--- a piece of at most so many, and then others
-bounded : (xs ys : List ℕ) (a b : ℕ) → length xs ≤ a → length ys ≤ b → length (xs ++ ys) ≤ a + b
-bounded xs ys a b h k = omega (arith, length-append xs ys, h, k)
-
--- the digits of the number of a script, and then others
-digits : (s b : ℕ) (ys : List ℕ) → s ≤ 8 → length ys ≤ b → length (decimal s ++ ys) ≤ 9 + b
-digits s b ys h k = omega (arith, length-append (decimal s) ys, length-decimal-le_succ s (omega arith), h, k)
-
-exact : (xs : List ℕ) (n : ℕ) → length xs ≡ n → length xs ≤ n
-exact xs n e = omega (arith, e)
-
-closure_short : (s : ℕ) → s ≤ 8 → length (closure_text s) ≤ 6 + (9 + (10 + (9 + (10 + (9 + 1)))))
+closure_short : (s : ℕ) → s ≤ 8 → length (closure_text s) ≤ 54
 unfolding closure_text
 closure_short s h =
-    piece (codes " LET C") _ 6 _ refl (digits s _ _ h (piece (codes " = trans(G") _ 10 _ refl (digits s _ _ h (piece (codes "). COUNT C") _ 10 _ refl (digits s _ _ h (exact (codes ".") 1 refl))))))
+    let a : List ℕ = codes " LET C" in
+    let b : List ℕ = a ++ decimal s in
+    let c : List ℕ = b ++ codes " = trans(G" in
+    let d : List ℕ = c ++ decimal s in
+    let e : List ℕ = d ++ codes "). COUNT C" in
+    let f : List ℕ = e ++ decimal s in
+    more_of f (codes ".") 53 1 (more_digits e 44 s (more_of d (codes "). COUNT C") 34 10 (more_digits c 25 s (more_of b (codes " = trans(G") 15 10 (more_digits a 6 s (exact a 6 refl) h) refl) h) refl) h) refl
 
-counts_short : (s : ℕ) → s ≤ 8 → length (counts_text s) ≤ 8 + (9 + (4 + (9 + (14 + (9 + (2 + (9 + 2)))))))
+counts_short : (s : ℕ) → s ≤ 8 → length (counts_text s) ≤ 66
 unfolding counts_text
 counts_short s h =
-    piece (codes " COUNT C") _ 8 _ refl (digits s _ _ h (piece (codes " & C") _ 4 _ refl (digits s _ _ h (piece (codes "^. COUNT syq(C") _ 14 _ refl (digits s _ _ h
-    (piece (codes ",C") _ 2 _ refl (digits s _ _ h (exact (codes ").") 2 refl))))))))
+    let a : List ℕ = codes " COUNT C" in
+    let b : List ℕ = a ++ decimal s in
+    let c : List ℕ = b ++ codes " & C" in
+    let d : List ℕ = c ++ decimal s in
+    let e : List ℕ = d ++ codes "^. COUNT syq(C" in
+    let f : List ℕ = e ++ decimal s in
+    let g : List ℕ = f ++ codes ",C" in
+    let i : List ℕ = g ++ decimal s in
+    more_of i (codes ").") 64 2 (more_digits g 55 s (more_of f (codes ",C") 53 2 (more_digits e 44 s (more_of d (codes "^. COUNT syq(C") 30 14 (more_digits c 21 s
+    (more_of b (codes " & C") 17 4 (more_digits a 8 s (exact a 8 refl) h) refl) h) refl) h) refl) h) refl
 
 -- a whole script
-script_short : (x s : ℕ) → s ≤ 8 → length (script_text x s) ≤ 2 ^ 20
+script_bound : (x s : ℕ) → s ≤ 8 → length (script_text x s) ≤ 12945
 unfolding script_text
-script_short x s h =
-    let rows = rows_short x 63 (omega arith) in
-    let end = bounded (counts_text s) (10 ∷ []) 66 1 (omega (arith, counts_short s h)) (exact (10 ∷ []) 1 refl) in
-    let closed = bounded (closure_text s) _ 54 _ (omega (arith, closure_short s h)) end in
-    let all = piece (codes "REL G") _ 5 _ refl (digits s _ _ h (piece (codes " 64 64 {") _ 8 _ refl (bounded (rows_text x 63) _ 12800 _ (omega (arith, rows)) (piece (codes "}.") _ 2 _ refl closed)))) in
-    omega (arith, all)
+script_bound x s h =
+    let rows : length (rows_text x 63) ≤ 12800 = omega (arith, rows_short x 63 (omega arith)) in
+    let a : List ℕ = codes "REL G" in
+    let b : List ℕ = a ++ decimal s in
+    let c : List ℕ = b ++ codes " 64 64 {" in
+    let d : List ℕ = c ++ rows_text x 63 in
+    let e : List ℕ = d ++ codes "}." in
+    let f : List ℕ = e ++ closure_text s in
+    let g : List ℕ = f ++ counts_text s in
+    more_of g (10 ∷ []) 12944 1 (more_upto f (counts_text s) 12878 66 (more_upto e (closure_text s) 12824 54 (more_of d (codes "}.") 12822 2 (more_upto c (rows_text x 63) 22 12800
+    (more_of b (codes " 64 64 {") 14 8 (more_digits a 5 s (exact a 5 refl) h) refl) rows) refl) (closure_short s h)) (counts_short s h)) refl
+
+script_short : (x s : ℕ) → s ≤ 8 → length (script_text x s) ≤ 2 ^ 20
+script_short x s h = omega (arith, script_bound x s h)
 
 -- of texts within the limit the vectors are
 vectors_short : (vs : List (Vec ℕ Global)) (texts : List (List ℕ)) → map (λ v. v.items) vs ≡ texts → AllByRecursion (λ t. length t ≤ 2 ^ 20) texts → All IsShort vs
