@@ -86,7 +86,7 @@ holds_run bits seats table seat last w words scripts files turns asked history o
     let distinct = c.sound.nodes.distinct in
     let seen : relation_in last.words ≡ relation_in w.view.words = ap (λ v. relation_in v.words) view in
     let found : (rel : Rel) → Stands (worker_of w) rel → relation_in nodes rel ≡ relation_in w.view.words rel =
-        λ rel s. let here = ap (λ f. f rel) seen in relation_in-stays last.words nodes rel c.holds of.canonical distinct (subst IsSome (sym here) s) ∙ here in
+    λ rel s. let here = ap (λ f. f rel) seen in relation_in-stays last.words nodes rel c.holds of.canonical distinct (subst IsSome (sym here) s) ∙ here in
     record {
       sound = c.sound;
       stored = due_is_stored (gifts_due (input_with came.readings files turns asked)) (set_of (worker_of w)) nodes history came.due (events_in (worker_of w) nodes history found came.stand);

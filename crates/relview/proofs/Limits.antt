@@ -147,9 +147,19 @@ vectors_short vs texts e h = go vs (subst (AllByRecursion (λ t. length t ≤ 2 
 generated_short : (number : ℕ) → AllByRecursion (λ t. length t ≤ 2 ^ 20) (generated number)
 unfolding generated
 generated_short number =
-    let x = number % 2 ^ 32 in
-    (script_short (after x 0) 1 (omega arith), (script_short (after x 128) 2 (omega arith), (script_short (after x 256) 3 (omega arith), (script_short (after x 384) 4 (omega arith),
-    (script_short (after x 512) 5 (omega arith), (script_short (after x 640) 6 (omega arith), (script_short (after x 768) 7 (omega arith), (script_short (after x 896) 8 (omega arith), tt))))))))
+    let x = number % 2 ^ 32 in (
+      script_short (after x 0) 1 (omega arith),
+      (
+        script_short (after x 128) 2 (omega arith),
+        (
+          script_short (after x 256) 3 (omega arith),
+          (
+            script_short (after x 384) 4 (omega arith),
+            (script_short (after x 512) 5 (omega arith), (script_short (after x 640) 6 (omega arith), (script_short (after x 768) 7 (omega arith), (script_short (after x 896) 8 (omega arith), tt)))),
+          ),
+        ),
+      ),
+    )
 
 pub made_short : (vs : List (Vec ℕ Global)) (number : ℕ) → map (λ v. v.items) vs ≡ generated number → All IsShort vs
 made_short vs number e = vectors_short vs (generated number) e (generated_short number)

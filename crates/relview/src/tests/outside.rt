@@ -20,7 +20,14 @@ fn words_outside_the_set_are_answered_by_the_usage_line(rt: HostRuntime) -> Resu
         ["-"].as_slice(),
     ] {
         // A shelf whose call 0 fails is not asked.
-        let ran = run_with(&rt, alloc, words, [("a.rv", b"".as_slice())].as_slice(), 0, NEVER)?;
+        let ran = run_with(
+            &rt,
+            alloc,
+            words,
+            [("a.rv", b"".as_slice())].as_slice(),
+            0,
+            NEVER,
+        )?;
         assert_written(&rt, &ran, USAGE, 2, "words outside the set")?;
         assert_stopped(&rt, &ran, "words outside the set");
         assert_eq!(rt; ran.shelf_faults, 0);

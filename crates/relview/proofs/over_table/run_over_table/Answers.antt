@@ -10,14 +10,14 @@ pub close-requires-clause-of : goal.close-requires-clause-of
 unfolding bottom_height
 close-requires-clause-of g c =
     let came = subst (λ w. CameTo bottom_height (map (λ v. v.items) c.args.scripts.now) c.args.files.now c.args.options.now.turns c.args.options.now.history (worker_of w) (worker_of c.in_ok-ended.ended.engine)
-        c.in_ok-ended.ended.history.items (map (λ v. v.items) c.in_ok-ended.ended.outcomes.items) c.in_ok-ended.ended.page.items (saved_all c.in_ok-ended.ended.saves.items)) (c.new-works.ensures ∙ c.new-crew.ensures) c.in_ok-ended.ensures in
+    c.in_ok-ended.ended.history.items (map (λ v. v.items) c.in_ok-ended.ended.outcomes.items) c.in_ok-ended.ended.page.items (saved_all c.in_ok-ended.ended.saves.items)) (c.new-works.ensures ∙ c.new-crew.ensures) c.in_ok-ended.ensures in
     of_table c.in_ok-table.table c.in_ok-table.seat c.into_seat-seat.result c.in_ok-ended.ended.engine came.house c.into_seat-seat.ensures.of
 
 pub close-requires-clause-whole : goal.close-requires-clause-whole
 unfolding bottom_height
 close-requires-clause-whole g c =
     let came = subst (λ w. CameTo bottom_height (map (λ v. v.items) c.args.scripts.now) c.args.files.now c.args.options.now.turns c.args.options.now.history (worker_of w) (worker_of c.in_ok-ended.ended.engine)
-        c.in_ok-ended.ended.history.items (map (λ v. v.items) c.in_ok-ended.ended.outcomes.items) c.in_ok-ended.ended.page.items (saved_all c.in_ok-ended.ended.saves.items)) (c.new-works.ensures ∙ c.new-crew.ensures) c.in_ok-ended.ensures in
+    c.in_ok-ended.ended.history.items (map (λ v. v.items) c.in_ok-ended.ended.outcomes.items) c.in_ok-ended.ended.page.items (saved_all c.in_ok-ended.ended.saves.items)) (c.new-works.ensures ∙ c.new-crew.ensures) c.in_ok-ended.ensures in
     whole_table c.args.options.now.nodes _ c.in_ok-table.table c.in_ok-table.seat c.into_seat-seat.result c.in_ok-ended.ended.engine c.in_ok-table.ensures came.spare c.into_seat-seat.ensures.view
 
 pub returns : goal.returns
@@ -28,7 +28,7 @@ returns g c =
     let ended = c.in_ok-ended.ended in
     let last = c.into_seat-seat in
     let came = subst (λ w. CameTo bottom_height (map (λ v. v.items) c.args.scripts.now) c.args.files.now c.args.options.now.turns c.args.options.now.history (worker_of w) (worker_of c.in_ok-ended.ended.engine)
-        c.in_ok-ended.ended.history.items (map (λ v. v.items) c.in_ok-ended.ended.outcomes.items) c.in_ok-ended.ended.page.items (saved_all c.in_ok-ended.ended.saves.items)) (c.new-works.ensures ∙ c.new-crew.ensures) c.in_ok-ended.ensures in
+    c.in_ok-ended.ended.history.items (map (λ v. v.items) c.in_ok-ended.ended.outcomes.items) c.in_ok-ended.ended.page.items (saved_all c.in_ok-ended.ended.saves.items)) (c.new-works.ensures ∙ c.new-crew.ensures) c.in_ok-ended.ensures in
     let of = of_table table seat last.result ended.engine came.house last.ensures.of in
     record {
       readings = came.readings;
