@@ -1,85 +1,101 @@
--- The words of a table in the end hold the run of its session.
--- 1. The session's seat saw its relations, and the words hold all that a seat has seen, so its relations stand in them.
--- 2. As many nodes are stored as the seat made, which are no more than the commands cost.
--- 3. A full table was counted as missed, and then the seat saw every place taken.
-use Rattle.std.proofs.Common.{◌≡◌, ◌≢◌, ◌∙◌, ℕ, List, [], ◌∷◌, refl, sym, ap, subst, arith}
-use Rattle.std.specs.Prelude.{IsSome}
-use Rattle.lang_model.specs.declared.syntax.Script.{Script}
+-- The words of a table in the end hold the run of its sessions.
+-- 1. The seat that is given back saw all relations of the history, and the words hold all that it has seen, so these
+--    relations stand in them, with the values that they have in the worker, which are due.
+-- 2. As many nodes are stored as the worker made, which are no more than the commands may cost.
+-- 3. A full table was counted as a miss, and then the seat saw every place taken.
+use Rattle.std.proofs.Common.{◌≡◌, ◌≢◌, ◌<◌, ◌+◌, ◌∙◌, ℕ, Bool, List, [], ◌∷◌, Option, Some, None, refl, sym, ap, subst, arith}
+use Rattle.std.specs.Prelude.{IsSome, All, unwrap_or}
+use Rattle.std.specs.List.{AllByRecursion}
+use Rattle.std.proofs.lemmas.List.Elements.{All-head, All-tail}
+use Rattle.std.proofs.lemmas.Bool.{false≢true}
+use Rattle.rel_model.specs.declared.Rel.{Rel}
+use Rattle.rel_model.specs.Relation.{Relation}
+use Rattle.run_model.specs.declared.event.Event.{Event}
 use Rattle.run_model.specs.declared.outcome.Outcome.{Outcome}
 use Rattle.run_model.specs.declared.outcome.Outcome.TheVariants.{Nodes}
-use Rattle.rel_model.specs.Words.{Extends, IsFull}
+use Rattle.run_model.specs.Page.{SavedFile}
+use Rattle.run_model.specs.Sessions.{rel_of}
+use Rattle.run_model.specs.States.{gifts_due}
+use Rattle.run_model.specs.Stored.{HoldsRun, FillsWhereFull, AreInWords}
+use Rattle.rel_model.specs.Words.{Extends, IsFull, IsDistinct}
 use Rattle.rel_model.specs.Equations.{node_words}
+use Rattle.rel_model.specs.Trees.{bottom_height}
 use Rattle.rel_model.specs.Views.{Table, View, IsOf, IsFresh, IsClosed}
 use Rattle.rel_model.specs.Quads.{Work}
-use Rattle.rel_model.specs.Worker.{Worker, Rose}
+use Rattle.rel_model.specs.Worker.{Worker, Stands, set_of}
 use Rattle.rel_model.specs.Roots.{relation_in}
-use Rattle.rv_parse.specs.FirstGrammar.{SpelledBy}
-use Rattle.relview.specs.First.Legal.{start, no_script}
-use Rattle.relview.specs.First.Cost.{cost_of_run}
-use Rattle.relview.specs.First.Stored.{HoldsRun, FillsWhereFull}
 use Rattle.rel_model.proofs.Rooting.{relation_in-stays, one_root}
-use Rattle.fork_quads.specs.Crew.{worker_of}
-use Rattle.relview.specs.declared.session.Run.{Run}
-use Rattle.relview.specs.declared.top.Answer.{Answer}
-use Rattle.relview.specs.Ran.{RanTo, tree_of, HasMissed}
-use Rattle.relview.specs.Top.{Answers, table_bits, HoldsNothing}
-use Rattle.relview.proofs.Finding.{found_later, found_stored}
-use Rattle.relview.proofs.Answering.{legal_of_script, page_of_script}
+use Rattle.fork_quads.specs.Crew.{house_of, worker_of}
+use Rattle.fork_quads.proofs.Crewing.{house_of-injective}
+use Rattle.run_model.proofs.Carrying.{due_is_stored}
+use Rattle.rv_workspace.specs.Books.{HistoryStands, EventStands}
+use Rattle.rv_sessions.specs.declared.transcript.Loaded.{Loaded}
+use Rattle.rv_runs.specs.Runs.{CameTo, MissedWhereFull, input_with}
 
+-- ---- full tables
 -- taken places stay taken
 full_stays : (old new : List ℕ) → Extends old new → IsFull old → IsFull new
 full_stays old new x f n a b = λ z. f n a (let e = x.same_length in omega arith) (sym (x.kept n (f n a (let e = x.same_length in omega arith))) ∙ z)
 
--- a full table that was answered was missed, and then all is taken
-fills : (os : List Outcome) (misses : ℕ) (words : List ℕ) → (misses ≢ 0 → IsFull words) → HasMissed os 0 misses → FillsWhereFull words os
+-- a full table among the outcomes of a session was missed, and then all is taken
+fills : (os : List Outcome) (misses : ℕ) (words : List ℕ) → (misses ≢ 0 → IsFull words) → MissedWhereFull misses os → FillsWhereFull words os
 fills [] misses words f h = tt
-fills (o ∷ os) misses words f h = ((λ e. f (rose_some (h.0 e))), fills os misses words f h.1)
+fills (o ∷ os) misses words f h = ((λ e. f (some (h.0 e))), fills os misses words f h.1)
   where
-    rose_some : Rose 0 misses → misses ≢ 0
-    rose_some r z = absurd (omega (arith, r, z))
+    some : 0 < misses → misses ≢ 0
+    some r z = absurd (omega (arith, r, z))
 
--- a session over a fresh table, whose seat was given back and closed
-pub holds_script : (script : Script) (run : Run) (table : Table) (seat last : View) (w : Work) (words : List ℕ) → IsFresh table_bits 1 (table, seat)
-    → RanTo (tree_of script) script.items.items (worker_of (record { table = table; view = seat; misses = 0 })) (worker_of w) run
-    → last ≡ w.view → IsOf last w.table → (w.misses ≢ 0 → IsFull last.words) → IsClosed table.bits last words
-    → HoldsRun table_bits (tree_of script) run.history.items (run.outcomes.items ∷ []) words
-unfolding cost_of_run
-holds_script script run table seat last w words fresh ran view of full closed =
+-- the same of all sessions
+all_fill : (oss : List (List Outcome)) (misses : ℕ) (words : List ℕ) → (misses ≢ 0 → IsFull words) → AllByRecursion (MissedWhereFull misses) oss → AllByRecursion (FillsWhereFull words) oss
+all_fill [] misses words f h = tt
+all_fill (os ∷ oss) misses words f h = (fills os misses words f h.0, all_fill oss misses words f h.1)
+
+-- ---- stored relations
+-- a relation that stands has its set
+set_stands : (o : Option Relation) → IsSome o → o ≡ Some (unwrap_or o (record { rows = 0; cols = 0; pairs = [] }))
+set_stands (Some r) h = refl
+set_stands None h = absurd (false≢true h)
+
+-- relations that stand in a worker stand in words where each of them is found
+rels_in : (w : Worker) (words : List ℕ) (rels : List Rel) → ((rel : Rel) → Stands w rel → relation_in words rel ≡ w.relation rel)
+    → AllByRecursion (Stands w) rels → AllByRecursion (λ rel. relation_in words rel ≡ Some (set_of w rel)) rels
+rels_in w words [] f h = tt
+rels_in w words (rel ∷ rels) f h = (f rel h.0 ∙ set_stands (w.relation rel) h.0, rels_in w words rels f h.1)
+
+-- so do those of events
+events_in : (w : Worker) (words : List ℕ) (es : List Event) → ((rel : Rel) → Stands w rel → relation_in words rel ≡ w.relation rel)
+    → HistoryStands w es → AreInWords words (set_of w) es
+events_in w words [] f h = tt
+events_in w words (e ∷ es) f h = (rels_in w words (rel_of e.act) f (All-head (EventStands w) e es h), events_in w words es f (All-tail (EventStands w) e es h))
+
+-- ---- the words
+-- the seat that is given back is of the table that was made
+pub of_table : (table : Table) (seat last : View) (w : Work) → (worker_of w).house ≡ (worker_of (record { table = table; view = seat; misses = 0 })).house
+    → IsOf last w.table → IsOf last table
+of_table table seat last w house of = subst (λ t. IsOf last t) (house_of-injective w.table table house) of
+
+-- a run over a fresh table, whose seat was given back and closed
+pub holds_run : (bits seats : ℕ) (table : Table) (seat last : View) (w : Work) (words : List ℕ) (scripts : List (List ℕ)) (files : List Loaded) (turns : ℕ) (asked : Bool)
+    (history : List Event) (outcomes : List (List Outcome)) (page : List ℕ) (saves : List SavedFile) → IsFresh bits seats (table, seat)
+    → (came : CameTo bottom_height scripts files turns asked (worker_of (record { table = table; view = seat; misses = 0 })) (worker_of w) history outcomes page saves)
+    → last ≡ w.view → IsOf last table → (w.misses ≢ 0 → IsFull last.words) → IsClosed table.bits last words
+    → HoldsRun bits (input_with came.readings files turns asked) history outcomes words
+holds_run bits seats table seat last w words scripts files turns asked history outcomes page saves fresh came view of full closed =
     let c = subst (λ b. IsClosed b last words) fresh.bits_are closed in
-    let nodes = node_words table_bits words in
+    let nodes = node_words bits words in
     let distinct = c.sound.nodes.distinct in
-    let ran_words : relation_in w.view.words ≡ relation_in last.words = ap (λ v. relation_in v.words) (sym view) in
-    let found = found_stored (tree_of script) nodes start run.history.items
-    (found_later (tree_of script) (relation_in w.view.words) (relation_in nodes) start run.history.items
-    (λ rel r e. let here : relation_in last.words rel ≡ _ = ap (λ f. f rel) (sym ran_words) ∙ e in relation_in-stays last.words nodes rel c.holds of.canonical distinct (subst IsSome (sym here) refl) ∙ here) ran.found) in
+    let seen : relation_in last.words ≡ relation_in w.view.words = ap (λ v. relation_in v.words) view in
+    let found : (rel : Rel) → Stands (worker_of w) rel → relation_in nodes rel ≡ relation_in w.view.words rel =
+    λ rel s. let here = ap (λ f. f rel) seen in relation_in-stays last.words nodes rel c.holds of.canonical distinct (subst IsSome (sym here) s) ∙ here in
     record {
       sound = c.sound;
-      stored = found;
+      stored = due_is_stored (gifts_due (input_with came.readings files turns asked)) (set_of (worker_of w)) nodes history came.due (events_in (worker_of w) nodes history found came.stand);
       one_root = one_root nodes distinct;
-      cost = omega (arith, c.counted, ap (λ v. v.made) view, ran.room, fresh.none_made);
-      full = (fills run.outcomes.items w.misses nodes (λ m. full_stays last.words nodes c.holds (full m)) ran.missed, tt);
+      cost = omega (arith, c.counted, ap (λ v. v.made) view, came.cost, fresh.none_made);
+      full = all_fill outcomes w.misses nodes (λ m. full_stays last.words nodes c.holds (full m)) came.missed;
     }
 
--- a table over which nothing ran
-pub holds_nothing : (table : Table) (seat : View) (words : List ℕ) → IsFresh table_bits 1 (table, seat) → IsClosed table.bits seat words → HoldsNothing words
-holds_nothing table seat words fresh closed =
-    let c = subst (λ b. IsClosed b seat words) fresh.bits_are closed in
-    record {
-      sound = c.sound;
-      stored = tt;
-      one_root = one_root (node_words table_bits words) c.sound.nodes.distinct;
-      cost = omega (arith, c.counted, fresh.none_made);
-      full = (((λ e. absurd (other e)), tt), tt);
-    }
-  where
-    other : no_script ≡ Nodes → ⊥
-    other e = cc
-
--- so a script's answer is lawful, and its words hold the run
-pub answers_script : (script : Script) (run : Run) (a : Answer) (begin now : Worker) → RanTo (tree_of script) script.items.items begin now run
-    → a.history.items ≡ run.history.items → a.outcomes.items ≡ run.outcomes.items → a.page.items ≡ run.page.items
-    → HoldsRun table_bits (tree_of script) run.history.items (run.outcomes.items ∷ []) a.words.items → (bytes : List ℕ) → SpelledBy bytes script → Answers bytes a
-answers_script script run a begin now ran eh eo ep holds bytes spelled = record {
-  lawful = record { trees = tree_of script; read = (spelled, tt); legal = rw (eh, eo) (legal_of_script script begin now run ran); shown = rw (eh, eo, ep) (page_of_script script begin now run ran) };
-  holds = rw (eh, eo) holds;
-}
+-- as many seats as were made are there to be closed
+pub whole_table : (bits seats : ℕ) (table : Table) (seat last : View) (w : Work) → IsFresh bits seats (table, seat) → (worker_of w).spare ≡ (worker_of (record { table = table; view = seat; misses = 0 })).spare
+    → last ≡ w.view → last.spare + 1 ≡ table.seats
+whole_table bits seats table seat last w fresh spare view = ap (λ v. v.spare + 1) view ∙ ap (λ n. n + 1) spare ∙ fresh.spare_is ∙ sym fresh.seats_are

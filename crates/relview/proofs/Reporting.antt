@@ -1,73 +1,77 @@
--- What the parts of the top call report, as its one answer.
-use Rattle.std.proofs.Common.{◌≡◌, ◌≤◌, ◌⊎◌, inl, inr, ℕ, Bool, true, false, List, [], ◌∷◌, length, map, String, Global, ◌∙◌, sym, ap, subst}
+-- From what was given to a run, and what it came to, to the answer to the words.
+use Rattle.std.proofs.Common.{◌≡◌, ◌∙◌, ℕ, Bool, true, false, List, [], ◌∷◌, map, Option, Some, None, refl, sym, ap, subst, inl, inr}
 use Rattle.std.specs.Bool.{MatchBool}
-use Rattle.std.specs.Prelude.{All, IsTrue}
-use Rattle.std.specs.List.{AllByRecursion}
-use Rattle.std.specs.String.{string_bytes}
-use Rattle.std.proofs.lemmas.List.Elements.{recursion_from_All}
-use Rattle.relview.specs.First.Legal.{Trees, IsLegal}
-use Rattle.relview.specs.First.Page.{page_of}
-use Rattle.relview.specs.First.Stored.{HoldsRun}
-use Rattle.rv_io.specs.Outside.{Told, IsFile}
-use Rattle.relview.specs.declared.top.Report.{Report}
-use Rattle.relview.specs.declared.top.Answer.{Answer}
-use Rattle.relview.specs.Top.{Answers, table_bits, texts, are_taken, script_limit, status_of, Sunk, IsSaid, IsWritten, HasRun, HasStopped, Reports, Says, IsOut}
+use Rattle.run_model.specs.declared.outcome.Outcome.{Outcome}
+use Rattle.run_model.specs.Page.{SavedFile}
+use Rattle.rv_words.specs.Uses.{Word}
+use Rattle.rv_words.specs.Said.{Said, said_by}
+use Rattle.rv_sessions.specs.declared.transcript.Loaded.{Loaded}
+use Rattle.rv_sessions.specs.Telling.{file_of}
+use Rattle.rv_runs.specs.Runs.{input_with}
+use Rattle.rv_io.specs.Outside.{Told, Rose}
+use Rattle.relview.specs.declared.report.Report.{Report}
+use Rattle.relview.specs.Given.{AreScripts, AreTaken, names_of, bytes_of}
+use Rattle.relview.specs.Writing.{Sunk, IsTold, Told_whole, Unwritten, Unput, HasPut, HasPutBut, HasLost, HasNoPut}
+use Rattle.relview.specs.Top.{HasRun, HasStopped, RanGiven, GaveUp, Answers, AnswersGiven}
 
--- a run, or a stop, by whether it ran
-abbrev pub IsAnswer : List (List ℕ) → Told → Told → Sunk → Sunk → Report → Type 0
-IsAnswer words shelf_old shelf_new old new report = MatchBool report.ran (HasRun words shelf_old.files old new report) (HasStopped words shelf_old shelf_new old new report)
+-- what was told of a shelf that stood as another did is told of that one
+told_from : (so mid sn : Told) (o n : Sunk) (page : List ℕ) (saves : List SavedFile) (whole status : ℕ) → HasNoPut so mid → IsTold mid sn o n page saves whole status → IsTold so sn o n page saves whole status
+told_from so mid sn o n page saves whole status k (Told_whole s a put) = Told_whole s a (subst (λ f. HasPut f sn.files saves) k.files put)
+told_from so mid sn o n page saves whole status k (Unwritten sent s h r none) = Unwritten sent s h r (record { files = none.files ∙ k.files; put_faults = none.put_faults ∙ k.put_faults })
+told_from so mid sn o n page saves whole status k (Unput s a lost) = Unput s a (record {
+  made = lost.made;
+  lost = lost.lost;
+  rest = lost.rest;
+  place = lost.place;
+  put = subst (λ f. HasPutBut f sn.files lost.made lost.lost.name) k.files lost.put;
+  rose = subst (λ f. Rose f sn.put_faults) k.put_faults lost.rose;
+})
 
--- a line and its cause
-pub said_answer : (words : List (List ℕ)) (a b : Told) (old new : Sunk) (report : Report) (line : List ℕ) (status : ℕ) → Says line status old new report → IsSaid words a b line status → IsAnswer words a b old new report
-said_answer words a b old new report line status s i =
-    rw s.stopped (record { no_history = s.no_history; no_outcomes = s.no_outcomes; no_words = s.no_words; answer = inl (line, status, i, s.written) })
+-- what the words give a run
+pub record GivesRun (words : List Word) (said : Said) (so mid : Told) (scripts : List (List ℕ)) (files : List Loaded) : Type 0 where
+  pub taken : said_by words ≡ Some said
+  pub scripts_are : AreScripts said.number so.files said.scripts scripts
+  pub named : names_of (map file_of files) ≡ said.relations
+  pub loaded : AreTaken so.files said.relations (bytes_of (map file_of files))
+  pub no_put : HasNoPut so mid
 
-pub out_answer : (words : List (List ℕ)) (a b : Told) (old new : Sunk) (report : Report) → IsOut report → new.written ≡ old.written → IsAnswer words a b old new report
-out_answer words a b old new report o e = rw o.stopped (record { no_history = o.no_history; no_outcomes = o.no_outcomes; no_words = o.no_words; answer = inr (o.status, e) })
+ran : (words : List Word) (said : Said) (so mid sn : Told) (o n : Sunk) (scripts : List (List ℕ)) (files : List Loaded) (report : Report) → GivesRun words said so mid scripts files
+    → RanGiven said.nodes scripts files said.turns said.history mid sn o n report → HasRun words so sn o n report
+ran words said so mid sn o n scripts files report g r = record {
+  said = said;
+  taken = g.taken;
+  input = input_with r.readings files said.turns said.history;
+  given = record {
+    scripts = scripts;
+    given = g.scripts_are;
+    read = r.read;
+    named = g.named;
+    loaded = g.loaded;
+    turns = refl;
+    history = refl;
+  };
+  legal = r.legal;
+  holds = r.holds;
+  told = told_from so mid sn o n _ _ _ _ g.no_put r.told;
+}
 
-pub said_or_out : (words : List (List ℕ)) (a b : Told) (old new : Sunk) (report : Report) (line : List ℕ) (status : ℕ) → Says line status old new report ⊎ (IsOut report × (new.written ≡ old.written)) → IsSaid words a b line status → IsAnswer words a b old new report
-said_or_out words a b old new report line status (inl s) i = said_answer words a b old new report line status s i
-said_or_out words a b old new report line status (inr o) i = out_answer words a b old new report o.0 o.1
+stopped : (words : List Word) (so mid sn : Told) (o n : Sunk) (report : Report) → HasNoPut so mid → GaveUp mid sn o n report → HasStopped words so sn o n report
+stopped words so mid sn o n report k h = record {
+  empty = h.empty;
+  no_put = record { files = h.no_put.files ∙ k.files; put_faults = h.no_put.put_faults ∙ k.put_faults };
+  answer = inr h.answer;
+}
 
--- a run and its page
-pub run_answer : (words : List (List ℕ)) (a b : Told) (old new : Sunk) (report : Report) (answer : Answer) (name bytes : List ℕ) → words ≡ name ∷ [] → are_taken words ≡ true → IsFile a.files name bytes → length bytes ≤ script_limit →
-    Answers bytes answer → Reports answer old new report → IsAnswer words a b old new report
-run_answer words a b old new report answer name bytes named taken file within answers reports = by_ran report.ran reports
+-- the answer to the words
+pub answers : (words : List Word) (said : Said) (so mid sn : Told) (o n : Sunk) (scripts : List (List ℕ)) (files : List Loaded) (report : Report) → GivesRun words said so mid scripts files
+    → AnswersGiven said.nodes scripts files said.turns said.history mid sn o n report → Answers words so sn o n report
+answers words said so mid sn o n scripts files report g h = by_ran report.ran h
   where
-    trees : Trees
-    trees = answers.lawful.trees
+    by_ran : (b : Bool) → MatchBool b (RanGiven said.nodes scripts files said.turns said.history mid sn o n report) (GaveUp mid sn o n report)
+        → MatchBool b (HasRun words so sn o n report) (HasStopped words so sn o n report)
+    by_ran true r = ran words said so mid sn o n scripts files report g r
+    by_ran false r = stopped words so mid sn o n report g.no_put r
 
-    by_ran : (ran : Bool) →
-        MatchBool ran
-        ((report.history.items ≡ answer.history.items) × (map (λ v. v.items) report.outcomes.items ≡ answer.outcomes.items ∷ []) × (report.words.items ≡ answer.words.items) × IsWritten old new answer.page.items (status_of answer.outcomes.items) report.status)
-        ((report.history.items ≡ []) × (report.outcomes.items ≡ []) × (report.words.items ≡ []) × (report.status ≡ 5) × (new.written ≡ old.written)) →
-        MatchBool ran (HasRun words a.files old new report) (HasStopped words a b old new report)
-    by_ran true r = record {
-      name = name;
-      bytes = bytes;
-      outcomes = answer.outcomes.items;
-      page = answer.page.items;
-      named = named;
-      taken = taken;
-      file = file;
-      within = within;
-      one_session = r.1;
-      lawful = record { trees = trees; read = answers.lawful.read; legal = subst (λ h. IsLegal trees h (answer.outcomes.items ∷ [])) (sym r.0) answers.lawful.legal; shown = answers.lawful.shown ∙ ap (λ h. page_of trees h (answer.outcomes.items ∷ [])) (sym r.0) };
-      holds = subst (λ h. HoldsRun table_bits trees h (answer.outcomes.items ∷ []) report.words.items) (sym r.0) (subst (HoldsRun table_bits trees answer.history.items (answer.outcomes.items ∷ [])) (sym r.2) answers.holds);
-      written = r.3;
-    }
-    by_ran false r = record { no_history = r.0; no_outcomes = r.1; no_words = r.2; answer = inr (r.3, r.4) }
-
--- the one word may be picked
-pub may_pick_word : (may : List ℕ → Bool) (words : List (String Global)) (name : List ℕ) → All (λ w. IsTrue (may (string_bytes w))) words → texts words ≡ name ∷ [] → IsTrue (may name)
-may_pick_word may words name h e = at words (recursion_from_All (λ w. IsTrue (may (string_bytes w))) words h) e
-  where
-    head : {x y : List ℕ} {xs ys : List (List ℕ)} → x ∷ xs ≡ y ∷ ys → x ≡ y
-    head e = cc
-
-    none : {y : List ℕ} {ys : List (List ℕ)} → [] ≡ y ∷ ys → ⊥
-    none e = cc
-
-    at : (ws : List (String Global)) → AllByRecursion (λ w. IsTrue (may (string_bytes w))) ws → texts ws ≡ name ∷ [] → IsTrue (may name)
-    at [] h e = absurd (none e)
-    at (w ∷ ws) h e = subst (λ n. IsTrue (may n)) (head e) h.0
+-- nothing ran
+pub answers_stopped : (words : List Word) (so sn : Told) (o n : Sunk) (report : Report) → report.ran ≡ false → HasStopped words so sn o n report → Answers words so sn o n report
+answers_stopped words so sn o n report r h = subst (λ b. MatchBool b (HasRun words so sn o n report) (HasStopped words so sn o n report)) (sym r) h

@@ -1,10 +1,5 @@
-pub mod First
-pub mod Names
-pub mod Plain
-pub mod Values
-pub mod Listed
-pub mod Found
-pub mod Ran
+pub mod Finished
+pub mod Given
+pub mod Lines
+pub mod Writing
 pub mod Top
-pub mod OneRun
-pub mod EnoughRoom

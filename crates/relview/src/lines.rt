@@ -1,14 +1,14 @@
 //! The lines that are written in place of a page, each with its status.
-ghost use Rattle.std.specs.Prelude.{◌≡◌, ◌⊎◌, [], IfOk, false};
-ghost use Rattle.relview.specs.Top.{usage_line, cannot_read_line, too_long_line, IsWritten, Says, IsOut};
+ghost use Rattle.std.specs.Prelude.{◌≡◌, ◌⊎◌, IfOk};
+ghost use Rattle.relview.specs.Lines.{usage_line, cannot_read_line, too_long_line};
+ghost use Rattle.relview.specs.Writing.{IsWritten, IsOut, sunk};
 
-use crate::top::Report;
 use rv_io::{Sink, write_all};
 use std::alloc::{AllocError, Global};
 
 /// Writes a text, and gives the status: 4 where a write failed, and else the one that is passed.
-pub fn write_text<K: Sink>(sink: &mut K, text: &[u8], status: u8) -> u8
-    ensures { IsWritten (record { written = K.written sink.old; faults = K.faults sink.old }) (record { written = K.written sink.new; faults = K.faults sink.new }) text.now status result }
+fn write_text<K: Sink>(sink: &mut K, text: &[u8], status: u8) -> u8
+    ensures { IsWritten (sunk (K.written sink.old) (K.faults sink.old)) (sunk (K.written sink.new) (K.faults sink.new)) text.now status result }
 {
     match write_all(sink, text) {
         Ok(()) => status,
@@ -16,33 +16,8 @@ pub fn write_text<K: Sink>(sink: &mut K, text: &[u8], status: u8) -> u8
     }
 }
 
-/// The report of a run that did not come to its end.
-pub fn empty_report(alloc: Global, status: u8) -> Report
-    ensures stopped { result.ran ≡ false }
-    ensures status { result.status ≡ status }
-    ensures no_history { result.history.items ≡ [] }
-    ensures no_outcomes { result.outcomes.items ≡ [] }
-    ensures no_words { result.words.items ≡ [] }
-{
-    Report {
-        status,
-        ran: false,
-        history: Vec::new(alloc),
-        outcomes: Vec::new(alloc),
-        words: Vec::new(alloc),
-    }
-}
-
-/// Writes a line in place of a page.
-fn say<K: Sink>(alloc: Global, sink: &mut K, line: &[u8], status: u8) -> Report
-    ensures { Says line.now status (record { written = K.written sink.old; faults = K.faults sink.old }) (record { written = K.written sink.new; faults = K.faults sink.new }) result }
-{
-    let status = write_text(sink, line, status);
-    empty_report(alloc, status)
-}
-
-/// The line for words that are not taken.
-#[tactic(auto, unfolding(crate::specs::Top::usage_line))]
+/// The line for words outside the set.
+#[tactic(auto, unfolding(crate::specs::Lines::usage_line))]
 fn usage_line() -> &'static [u8]
     ensures { result.now ≡ usage_line }
 {
@@ -50,7 +25,7 @@ fn usage_line() -> &'static [u8]
 }
 
 /// The line for a file that the shelf did not give.
-#[tactic(auto, unfolding(crate::specs::Top::cannot_read_line))]
+#[tactic(auto, unfolding(crate::specs::Lines::cannot_read_line))]
 fn cannot_read_line(alloc: Global, name: &str) -> Result<Vec<u8>, AllocError>
     ensures { IfOk result (λ v. v.items ≡ cannot_read_line name.now) }
 {
@@ -60,8 +35,8 @@ fn cannot_read_line(alloc: Global, name: &str) -> Result<Vec<u8>, AllocError>
     Ok(line)
 }
 
-/// The line for a script over the limit.
-#[tactic(auto, unfolding(crate::specs::Top::too_long_line))]
+/// The line for a file over its limit.
+#[tactic(auto, unfolding(crate::specs::Lines::too_long_line))]
 fn too_long_line(alloc: Global, name: &str) -> Result<Vec<u8>, AllocError>
     ensures { IfOk result (λ v. v.items ≡ too_long_line name.now) }
 {
@@ -72,29 +47,31 @@ fn too_long_line(alloc: Global, name: &str) -> Result<Vec<u8>, AllocError>
     Ok(line)
 }
 
-/// Reports that the words are not taken.
-pub fn say_usage<K: Sink>(alloc: Global, sink: &mut K) -> Report
-    ensures { Says usage_line 2 (record { written = K.written sink.old; faults = K.faults sink.old }) (record { written = K.written sink.new; faults = K.faults sink.new }) result }
+/// Says that the words are outside the set, and gives the status.
+pub fn say_usage<K: Sink>(sink: &mut K) -> u8
+    ensures { IsWritten (sunk (K.written sink.old) (K.faults sink.old)) (sunk (K.written sink.new) (K.faults sink.new)) usage_line 2 result }
 {
-    say(alloc, sink, usage_line(), 2)
+    write_text(sink, usage_line(), 2)
 }
 
-/// Reports that a file was not read, or that memory ran out.
-pub fn say_unread<K: Sink>(alloc: Global, sink: &mut K, name: &str) -> Report
-    ensures { Says (cannot_read_line name.now) 3 (record { written = K.written sink.old; faults = K.faults sink.old }) (record { written = K.written sink.new; faults = K.faults sink.new }) result ⊎ (IsOut result × (K.written sink.new ≡ K.written sink.old)) }
+/// Says that a file was not read, and gives the status; 5 with nothing written where memory ran out.
+pub fn say_unread<K: Sink>(alloc: Global, sink: &mut K, name: &str) -> u8
+    ensures { IsWritten (sunk (K.written sink.old) (K.faults sink.old)) (sunk (K.written sink.new) (K.faults sink.new)) (cannot_read_line name.now) 3 result
+        ⊎ IsOut (sunk (K.written sink.old) (K.faults sink.old)) (sunk (K.written sink.new) (K.faults sink.new)) result }
 {
     match cannot_read_line(alloc, name) {
-        Ok(line) => say(alloc, sink, line.as_slice(), 3),
-        Err(_) => empty_report(alloc, 5),
+        Ok(line) => write_text(sink, line.as_slice(), 3),
+        Err(_) => 5,
     }
 }
 
-/// Reports that a script is too long, or that memory ran out.
-pub fn say_too_long<K: Sink>(alloc: Global, sink: &mut K, name: &str) -> Report
-    ensures { Says (too_long_line name.now) 3 (record { written = K.written sink.old; faults = K.faults sink.old }) (record { written = K.written sink.new; faults = K.faults sink.new }) result ⊎ (IsOut result × (K.written sink.new ≡ K.written sink.old)) }
+/// Says that a file is over its limit, and gives the status; 5 with nothing written where memory ran out.
+pub fn say_too_long<K: Sink>(alloc: Global, sink: &mut K, name: &str) -> u8
+    ensures { IsWritten (sunk (K.written sink.old) (K.faults sink.old)) (sunk (K.written sink.new) (K.faults sink.new)) (too_long_line name.now) 3 result
+        ⊎ IsOut (sunk (K.written sink.old) (K.faults sink.old)) (sunk (K.written sink.new) (K.faults sink.new)) result }
 {
     match too_long_line(alloc, name) {
-        Ok(line) => say(alloc, sink, line.as_slice(), 3),
-        Err(_) => empty_report(alloc, 5),
+        Ok(line) => write_text(sink, line.as_slice(), 3),
+        Err(_) => 5,
     }
 }

@@ -1,30 +1,27 @@
-//! `relview a.rv`: reads a script, runs it, and writes its page to standard output.
+//! `relview FILE...`: runs scripts at once, and writes their page to standard output and their files beside it.
 #![tactic(auto)]
 
 ghost use Rattle.std.specs.Prelude.{◌≡◌};
 ghost use Rattle.std.specs.Process.{exit_status};
 
-pub mod build;
-pub mod evaluate;
-pub mod laws;
+pub mod given;
 pub mod lines;
-pub mod names;
 pub mod over_table;
-pub mod reply;
-pub mod session;
+pub mod report;
+pub mod statuses;
 #[cfg(test)]
 mod tests;
-pub mod text;
 pub mod top;
 pub mod words;
+pub mod writing;
 
+use report::Report;
 use rv_io::{FileShelf, StdoutSink};
 use std::alloc::AllocError;
 use std::process::ExitCode;
 use std::{env, io};
-use top::Report;
 
-/// The words of the command line, without the program's own name. Words that are no text are words that are not taken.
+/// The words of the command line, without the program's own name. Words that are no text are words outside the set.
 fn words_of(rt: HostRuntime) -> Result<Vec<String>, AllocError> {
     match env::args(&rt) {
         Ok(args) => words::words_behind_name(rt.alloc(), args),
@@ -53,6 +50,6 @@ fn main(rt: HostRuntime) -> ExitCode {
     };
     let mut shelf = FileShelf::new(alloc, rt);
     let mut sink = StdoutSink::new(io::writer(&rt));
-    let report = top::relview(alloc, words.as_slice(), &mut shelf, &mut sink);
+    let report = top::relview(&rt, alloc, words.as_slice(), &mut shelf, &mut sink);
     exit_code(&report)
 }

@@ -1,48 +1,88 @@
-//! A script over a fresh node table, and the words of the table in the end.
-ghost use Rattle.std.specs.Prelude.{◌≡◌, ◌∷◌, [], ◌≤◌, ◌^◌, ℕ, List, length, IfOk, All};
-ghost use Rattle.rv_parse.specs.FirstGrammar.{SpelledBy};
-ghost use Rattle.relview.specs.Ran.{IsFirstItem};
-ghost use Rattle.relview.specs.Top.{Answers, HoldsNothing};
+//! Scripts at once over a fresh node table, and the words of the table in the end.
+ghost use Rattle.std.specs.Prelude.{◌≡◌, ◌≤◌, ◌^◌, length, map, vec_len, All, IfOk};
+ghost use Rattle.relview.specs.Finished.{IsFinished};
 
-use crate::session::run_script;
-use crate::top::Answer;
-use fork_quads::{Crew, OpenGate};
-use lang_model::syntax::Script;
+use fork_quads::{Crew, Gate};
 use pair_table::PairTable;
 use rel_engine::Works;
 use rel_model::NoMemory;
+use run_model::event::Event;
+use run_model::outcome::Outcome;
+use rv_runs::{Ended, run_all};
+use rv_sessions::{Loaded, Save};
+use rv_words::Options;
 use std::alloc::Global;
+use std::sync::Wait;
+use std::thread::Threads;
 
-/// The bits of a run's table, which has `2 ^ TABLE_BITS` node words.
-const TABLE_BITS: u32 = 20;
-
-/// Runs a script as session 1, over a table of its own.
-#[tactic(auto, unfolding(rel_model::specs::Trees::bottom_height))]
-pub fn answer_of_script(alloc: Global, script: &Script) -> Result<Answer, NoMemory>
-    requires few { length script.now.items.items ≤ 2 ^ 20 }
-    requires first { All IsFirstItem script.now.items.items }
-    ensures { IfOk result (λ a. (bytes : List ℕ) → SpelledBy bytes script.now → Answers bytes a) }
-{
-    let (table, seat) = PairTable::make(alloc, TABLE_BITS, 1)?;
-    let gate = OpenGate;
-    let crew = Crew::new(&table, seat, 1, &gate);
-    let mut works = Works::new(crew);
-    let run = run_script(alloc, &mut works, script)?;
-    let seat = works.into_seat();
-    let words = table.close(seat)?;
-    Ok(Answer {
-        history: run.history,
-        outcomes: run.outcomes,
-        page: run.page,
-        words,
-    })
+/// A run that came to its end: its history, the outcomes of each session in the order of the scripts, the page, the files
+/// to be put after it, and the words of the table over which it ran.
+#[derive(Drop)]
+pub struct Finished {
+    pub history: Vec<Event>,
+    pub outcomes: Vec<Vec<Outcome>>,
+    pub page: Vec<u8>,
+    pub saves: Vec<Save>,
+    pub words: Vec<u64>,
 }
 
-/// The words of a table over which nothing ran.
-pub fn words_of_nothing(alloc: Global) -> Result<Vec<u64>, NoMemory>
-    ensures { IfOk result (λ v. HoldsNothing v.items) }
+/// Says of vectors of bytes that each is as long as its bytes, which a slice tells of itself.
+fn know_lengths(scripts: &[Vec<u8>])
+    requires { All (λ v. length v.items ≤ 2 ^ 20) scripts.now }
+    ensures { All (λ v. vec_len v ≤ 2 ^ 20) scripts.now }
 {
-    let (table, seat) = PairTable::make(alloc, TABLE_BITS, 1)?;
+    'scripts: for i in 0..scripts.len() {
+        let _bytes = scripts[i].as_slice();
+    }
+}
+
+/// Runs all scripts at once over a table of their own, with 65 seats for each and 3 more.
+///
+/// Each session works with one worker, whatever number the options name.
+#[tactic(auto, unfolding(rel_model::specs::Trees::bottom_height))]
+pub fn run_over_table<R: Threads + Wait + Sync, G: Gate + Sync>(
+    rt: &R,
+    alloc: Global,
+    options: &Options,
+    scripts: &[Vec<u8>],
+    files: &[Loaded],
+    gate: &G,
+) -> Result<Finished, NoMemory>
+    requires low { 10 ≤ options.now.nodes }
+    requires high { options.now.nodes ≤ 24 }
+    requires some { 1 ≤ length scripts.now }
+    requires few { length scripts.now ≤ 64 }
+    requires limits { All (λ v. length v.items ≤ 2 ^ 20) scripts.now }
+    ensures { IfOk result (IsFinished options.now.nodes (map (λ v. v.items) scripts.now) files.now options.now.turns options.now.history) }
+{
+    know_lengths(scripts);
+    let seats = 65 * scripts.len() as u32 + 3;
+    let (table, seat) = PairTable::make(alloc, options.nodes, seats)?;
+    let crew = Crew::new(&table, seat, 1, gate);
+    let works = Works::new(crew);
+    let ended = run_all(
+        rt,
+        alloc,
+        scripts,
+        files,
+        options.turns,
+        options.history,
+        works,
+    )?;
+    let Ended {
+        engine,
+        history,
+        outcomes,
+        page,
+        saves,
+    } = ended;
+    let seat = engine.into_seat();
     let words = table.close(seat)?;
-    Ok(words)
+    Ok(Finished {
+        history,
+        outcomes,
+        page,
+        saves,
+        words,
+    })
 }

@@ -1,8 +1,3 @@
-//! What runs of the program write, with which status, history and outcomes.
-mod changes;
-mod full;
+//! What runs of the program write, with which status.
 mod outside;
-mod pages;
-mod rules;
 mod runs;
-mod yardstick;

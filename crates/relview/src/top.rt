@@ -1,186 +1,228 @@
-//! The top call: reads the script that the words name, runs it, and writes its page.
-ghost use Rattle.std.specs.Prelude.{◌≡◌, ◌∷◌, ◌++◌, [], ◌≤◌, ◌^◌, ◌≢◌, ◌⊎◌, ℕ, List, length, IfOk, OnOk, IsTrue, MatchBool, true, false, map, All};
-ghost use Rattle.std.specs.Io.KnownBytes.{Appends};
-ghost use Rattle.std.specs.String.{string_bytes};
-ghost use Rattle.rv_io.specs.Outside.{Told, Leaves, Rose};
-ghost use Rattle.std.specs.List.{list_any, list_all};
-ghost use Rattle.run_model.specs.Texts.{prefix, refusal_text};
-ghost use Rattle.relview.specs.First.Legal.{no_script};
-ghost use Rattle.relview.specs.Top.{texts, status_of, usage_line, cannot_read_line, too_long_line, IsSaid, IsWritten, HasRun, HasStopped, Answers, HoldsNothing, Sunk, Reports, Says, IsOut, is_no_memory, is_done};
+//! The top call: reads the words and the files, runs the scripts at once, and writes their page and their files.
+ghost use Rattle.std.specs.Prelude.{◌≡◌, ◌≤◌, ◌^◌, true, false, List, [], Some, None, map, length, IsTrue, All};
+ghost use Rattle.std.specs.Str.{IsUtf8};
+ghost use Rattle.rv_io.specs.Outside.{Told};
+ghost use Rattle.rv_io.specs.Reading.{RefusesFile};
+ghost use Rattle.rv_sessions.specs.Telling.{saved_all};
+ghost use Rattle.rv_words.specs.Said.{said_by};
+ghost use Rattle.rv_words.specs.Uses.{Word};
+ghost use Rattle.rv_words.specs.Shown.{texts, shown};
+ghost use Rattle.rv_words.specs.declared.options.WordsError.TheVariants as words_error;
+ghost use Rattle.relview.specs.Given.{file_words, limit_of};
+ghost use Rattle.relview.specs.Lines.{IsFirst};
+ghost use Rattle.relview.specs.Writing.{IsTold, HasNoPut, sunk};
+ghost use Rattle.relview.specs.Top.{Answers, AnswersGiven, HasStopped, status_of};
 
-use crate::lines::{empty_report, say_too_long, say_unread, say_usage, write_text};
-use crate::over_table::{answer_of_script, words_of_nothing};
-use crate::text::{push_prefix, refuse_item};
-use crate::words::script_word;
-use lang_model::faults::{ParseFault, What};
-use lang_model::syntax::Place;
+use crate::given::{Halt, read_files};
+use crate::lines::{say_too_long, say_unread, say_usage};
+use crate::over_table::{Finished, run_over_table};
+use crate::report::{Report, empty_report};
+use crate::statuses::status_of;
+use crate::writing::tell;
+use fork_quads::{Gate, OpenGate};
 use rel_model::NoMemory;
-use run_model::event::Event;
-use run_model::outcome::Outcome;
-use rv_io::{ReadError, Shelf, Sink, read_all};
-use rv_parse::parse_first;
+use rv_generate::generate;
+use rv_io::{ReadError, Shelf, Sink};
+use rv_sessions::Loaded;
+use rv_words::{Options, WordsError, files_of, words_of};
 use std::alloc::Global;
+use std::sync::Wait;
+use std::thread::Threads;
 
-/// The most bytes of a script.
-pub const SCRIPT_LIMIT: u64 = 1_048_576;
-
-/// What a run reports. Without `ran` the lists are empty.
-#[derive(Drop)]
-pub struct Report {
-    /// 0 done, 1 refused, 2 usage, 3 not read, 4 not written, 5 want of memory.
-    pub status: u8,
-    pub ran: bool,
-    /// The events of the workspace, in their order.
-    pub history: Vec<Event>,
-    /// A list of outcomes for each script.
-    pub outcomes: Vec<Vec<Outcome>>,
-    /// The words of the table over which the scripts ran, in the end.
-    pub words: Vec<u64>,
-}
-
-/// What a text comes to.
-#[derive(Drop)]
-pub struct Answer {
-    pub history: Vec<Event>,
-    pub outcomes: Vec<Outcome>,
-    pub page: Vec<u8>,
-    /// The words of the table over which it ran.
-    pub words: Vec<u64>,
-}
-
-/// The answer to bytes that are no script.
-fn refused(alloc: Global) -> Result<Answer, NoMemory>
-    ensures answer { IfOk result (λ a. (a.history.items ≡ []) × (a.outcomes.items ≡ no_script ∷ []) × (a.page.items ≡ prefix 1 0 ++ refusal_text no_script)) }
-    ensures words { IfOk result (λ a. HoldsNothing a.words.items) }
-{
-    let words = words_of_nothing(alloc)?;
-    let history = Vec::new(alloc);
-    let mut outcomes = Vec::new(alloc);
-    outcomes.push(Outcome::Parse(ParseFault::Expected {
-        at: Place { line: 1, column: 1 },
-        what: What::Item,
-    }))?;
-    let mut page = Vec::new(alloc);
-    push_prefix(alloc, &mut page, 1, 0)?;
-    refuse_item(alloc, &mut page)?;
-    Ok(Answer {
-        history,
-        outcomes,
-        page,
-        words,
-    })
-}
-
-/// Runs a text as session 1.
-pub fn answer_to(alloc: Global, bytes: &[u8]) -> Result<Answer, NoMemory>
-    requires { length bytes.now ≤ 2 ^ 20 }
-    ensures { IfOk result (Answers bytes.now) }
-{
-    match parse_first(alloc, bytes) {
-        Ok(script) => {
-            let answer = answer_of_script(alloc, &script)?;
-            Ok(answer)
-        }
-        Err(fault) => match fault {
-            ParseFault::NoMemory => Err(NoMemory),
-            _ => {
-                let answer = refused(alloc)?;
-                Ok(answer)
-            }
-        },
-    }
-}
-
-fn is_no_memory(outcome: &Outcome) -> bool
-    ensures { result ≡ is_no_memory outcome.now }
-{
-    match outcome {
-        Outcome::NoMemory => true,
-        _ => false,
-    }
-}
-
-fn is_done(outcome: &Outcome) -> bool
-    ensures { result ≡ is_done outcome.now }
-{
-    match outcome {
-        Outcome::Done => true,
-        _ => false,
-    }
-}
-
-/// Whether memory ran out in a command.
-fn any_no_memory(outcomes: &[Outcome]) -> bool
-    ensures { result ≡ list_any is_no_memory outcomes.now }
-{
-    outcomes.iter().any(|outcome| is_no_memory(outcome))
-}
-
-/// Whether each command was done.
-fn all_done(outcomes: &[Outcome]) -> bool
-    ensures { result ≡ list_all is_done outcomes.now }
-{
-    outcomes.iter().all(|outcome| is_done(outcome))
-}
-
-/// The status of a run that was written.
-#[tactic(auto, unfolding(crate::specs::Top::status_of))]
-pub fn status_of(outcomes: &[Outcome]) -> u8
-    ensures { result ≡ status_of outcomes.now }
-{
-    if any_no_memory(outcomes) {
-        5
-    } else if all_done(outcomes) {
-        0
-    } else {
-        1
-    }
-}
-
-/// Writes the page of an answer.
-fn report_of<K: Sink>(alloc: Global, sink: &mut K, answer: Answer) -> Report
-    ensures { Reports answer (record { written = K.written sink.old; faults = K.faults sink.old }) (record { written = K.written sink.new; faults = K.faults sink.new }) result }
-{
-    let whole = status_of(answer.outcomes.as_slice());
-    let mut outcomes = Vec::new(alloc);
-    let Ok(()) = outcomes.push(answer.outcomes) else {
-        return empty_report(alloc, 5);
-    };
-    let status = write_text(sink, answer.page.as_slice(), whole);
-    Report {
-        status,
-        ran: true,
-        history: answer.history,
-        outcomes,
-        words: answer.words,
-    }
-}
-
-/// Reads the script that the one word names, runs it as session 1, and writes its page, or a line that says why there is none.
-pub fn relview<S: Shelf, K: Sink>(
+/// Runs the scripts that the words name, at once, and writes their page and then their files; or a line that says why
+/// nothing ran.
+pub fn relview<R: Threads + Wait + Sync, S: Shelf, K: Sink>(
+    rt: &R,
     alloc: Global,
     words: &[String],
     shelf: &mut S,
     sink: &mut K,
 ) -> Report
-    requires may_pick { All (λ w. IsTrue ((S.told shelf.old).may_pick (string_bytes w))) words.now }
-    ensures answer { MatchBool result.ran
-        (HasRun (texts words.now) (S.told shelf.old).files (record { written = K.written sink.old; faults = K.faults sink.old }) (record { written = K.written sink.new; faults = K.faults sink.new }) result)
-        (HasStopped (texts words.now) (S.told shelf.old) (S.told shelf.new) (record { written = K.written sink.old; faults = K.faults sink.old }) (record { written = K.written sink.new; faults = K.faults sink.new }) result) }
-    ensures leaves { Leaves (S.told shelf.old) (S.told shelf.new) }
+    requires may_pick { All (λ w. IsTrue ((S.told shelf.old).may_pick w)) (file_words (texts words.now)) }
+    ensures { Answers (texts words.now) (S.told shelf.old) (S.told shelf.new)
+        (sunk (K.written sink.old) (K.faults sink.old)) (sunk (K.written sink.new) (K.faults sink.new)) result }
 {
-    let Some(word) = script_word(words) else {
-        return say_usage(alloc, sink);
+    match words_of(alloc, words) {
+        Ok(options) => run_options(rt, alloc, words, &options, shelf, sink, &OpenGate),
+        Err(error) => refuse_words(alloc, sink, error),
+    }
+}
+
+/// Answers words that are not taken.
+fn refuse_words<K: Sink>(alloc: Global, sink: &mut K, error: WordsError) -> Report
+    ensures ran { result.ran ≡ false }
+    ensures stopped { (words : List Word) (before now : Told) → HasNoPut before now → (error ≡ words_error.Usage → said_by words ≡ None)
+        → HasStopped words before now (sunk (K.written sink.old) (K.faults sink.old)) (sunk (K.written sink.new) (K.faults sink.new)) result }
+{
+    match error {
+        WordsError::Usage => {
+            let status = say_usage(sink);
+            empty_report(alloc, status)
+        }
+        WordsError::NoMemory => empty_report(alloc, 5),
+    }
+}
+
+/// Answers a file that was not read.
+fn refuse_file<K: Sink>(alloc: Global, sink: &mut K, halt: Halt) -> Report
+    ensures ran { result.ran ≡ false }
+    ensures stopped { (words : List Word) (before now : Told) → HasNoPut before now → IsFirst words before halt.entry.name.now
+        → RefusesFile before now halt.entry.name.now (limit_of halt.entry.name.now) halt.entry.error
+        → HasStopped words before now (sunk (K.written sink.old) (K.faults sink.old)) (sunk (K.written sink.new) (K.faults sink.new)) result }
+{
+    match halt.error {
+        ReadError::Fault => {
+            let status = say_unread(alloc, sink, halt.name);
+            empty_report(alloc, status)
+        }
+        ReadError::TooLong { limit: _ } => {
+            let status = say_too_long(alloc, sink, halt.name);
+            empty_report(alloc, status)
+        }
+        ReadError::NoMemory => empty_report(alloc, 5),
+    }
+}
+
+/// Runs the scripts that are generated, or those that the words name.
+fn run_options<R: Threads + Wait + Sync, S: Shelf, K: Sink, G: Gate + Sync>(
+    rt: &R,
+    alloc: Global,
+    words: &[String],
+    options: &Options,
+    shelf: &mut S,
+    sink: &mut K,
+    gate: &G,
+) -> Report
+    requires taken { said_by (texts words.now) ≡ Some (shown options.now) }
+    requires may_pick { All (λ w. IsTrue ((S.told shelf.old).may_pick w)) (file_words (texts words.now)) }
+    ensures { Answers (texts words.now) (S.told shelf.old) (S.told shelf.new)
+        (sunk (K.written sink.old) (K.faults sink.old)) (sunk (K.written sink.new) (K.faults sink.new)) result }
+{
+    match options.number {
+        Some(number) => run_generated(rt, alloc, options, number, shelf, sink, gate),
+        None => run_named(rt, alloc, words, options, shelf, sink, gate),
+    }
+}
+
+/// Runs the scripts that are generated from a number.
+fn run_generated<R: Threads + Wait + Sync, S: Shelf, K: Sink, G: Gate + Sync>(
+    rt: &R,
+    alloc: Global,
+    options: &Options,
+    number: u64,
+    shelf: &mut S,
+    sink: &mut K,
+    gate: &G,
+) -> Report
+    requires low { 10 ≤ options.now.nodes }
+    requires high { options.now.nodes ≤ 24 }
+    requires number { options.now.number ≡ Some number }
+    requires none { options.now.relations.items ≡ [] }
+    ensures { (words : List Word) → said_by words ≡ Some (shown options.now)
+        → Answers words (S.told shelf.old) (S.told shelf.new)
+        (sunk (K.written sink.old) (K.faults sink.old)) (sunk (K.written sink.new) (K.faults sink.new)) result }
+{
+    let files: Vec<Loaded> = Vec::new(alloc);
+    match generate(alloc, number) {
+        Ok(scripts) => run_given(
+            rt,
+            alloc,
+            options,
+            scripts.as_slice(),
+            files.as_slice(),
+            shelf,
+            sink,
+            gate,
+        ),
+        Err(_) => empty_report(alloc, 5),
+    }
+}
+
+/// Reads the files that the words name, and runs the scripts among them.
+fn run_named<R: Threads + Wait + Sync, S: Shelf, K: Sink, G: Gate + Sync>(
+    rt: &R,
+    alloc: Global,
+    words: &[String],
+    options: &Options,
+    shelf: &mut S,
+    sink: &mut K,
+    gate: &G,
+) -> Report
+    requires taken { said_by (texts words.now) ≡ Some (shown options.now) }
+    requires number { options.now.number ≡ None }
+    requires may_pick { All (λ w. IsTrue ((S.told shelf.old).may_pick w)) (file_words (texts words.now)) }
+    ensures { Answers (texts words.now) (S.told shelf.old) (S.told shelf.new)
+        (sunk (K.written sink.old) (K.faults sink.old)) (sunk (K.written sink.new) (K.faults sink.new)) result }
+{
+    let names = match files_of(alloc, words) {
+        Ok(names) => names,
+        Err(error) => return refuse_words(alloc, sink, error),
     };
-    match read_all(alloc, shelf, word, SCRIPT_LIMIT) {
-        Ok(bytes) => match answer_to(alloc, bytes.as_slice()) {
-            Ok(answer) => report_of(alloc, sink, answer),
-            Err(_) => empty_report(alloc, 5),
-        },
-        Err(error) => match error {
-            ReadError::Fault => say_unread(alloc, sink, word),
-            ReadError::TooLong { limit: _ } => say_too_long(alloc, sink, word),
-            ReadError::NoMemory => empty_report(alloc, 5),
-        },
+    match read_files(alloc, shelf, names.as_slice()) {
+        Ok(given) => run_given(
+            rt,
+            alloc,
+            options,
+            given.scripts.as_slice(),
+            given.files.as_slice(),
+            shelf,
+            sink,
+            gate,
+        ),
+        Err(halt) => refuse_file(alloc, sink, halt),
+    }
+}
+
+/// Runs scripts over a table of their own, and writes what they came to.
+fn run_given<R: Threads + Wait + Sync, S: Shelf, K: Sink, G: Gate + Sync>(
+    rt: &R,
+    alloc: Global,
+    options: &Options,
+    scripts: &[Vec<u8>],
+    files: &[Loaded],
+    shelf: &mut S,
+    sink: &mut K,
+    gate: &G,
+) -> Report
+    requires low { 10 ≤ options.now.nodes }
+    requires high { options.now.nodes ≤ 24 }
+    requires some { 1 ≤ length scripts.now }
+    requires few { length scripts.now ≤ 64 }
+    requires limits { All (λ v. length v.items ≤ 2 ^ 20) scripts.now }
+    ensures { AnswersGiven options.now.nodes (map (λ v. v.items) scripts.now) files.now options.now.turns options.now.history
+        (S.told shelf.old) (S.told shelf.new)
+        (sunk (K.written sink.old) (K.faults sink.old)) (sunk (K.written sink.new) (K.faults sink.new)) result }
+{
+    match run_over_table(rt, alloc, options, scripts, files, gate) {
+        Ok(finished) => report_of(shelf, sink, finished),
+        Err(NoMemory) => empty_report(alloc, 5),
+    }
+}
+
+/// Writes the page and the files of a run, and reports it.
+fn report_of<S: Shelf, K: Sink>(shelf: &mut S, sink: &mut K, finished: Finished) -> Report
+    requires { All (λ save. IsUtf8 save.name) finished.saves.items }
+    ensures ran { result.ran ≡ true }
+    ensures history { result.history.items ≡ finished.history.items }
+    ensures outcomes { result.outcomes.items ≡ finished.outcomes.items }
+    ensures words { result.words.items ≡ finished.words.items }
+    ensures told { IsTold (S.told shelf.old) (S.told shelf.new) (sunk (K.written sink.old) (K.faults sink.old)) (sunk (K.written sink.new) (K.faults sink.new))
+        finished.page.items (saved_all finished.saves.items) (status_of (map (λ v. v.items) finished.outcomes.items)) result.status }
+{
+    let Finished {
+        history,
+        outcomes,
+        page,
+        saves,
+        words,
+    } = finished;
+    let whole = status_of(outcomes.as_slice());
+    let status = tell(shelf, sink, page.as_slice(), saves.as_slice(), whole);
+    Report {
+        status,
+        ran: true,
+        history,
+        outcomes,
+        words,
     }
 }

@@ -4,7 +4,7 @@ use Rattle.std.specs.String.{string_bytes}
 use Rattle.std.specs.declared.alloc.Global.{Global}
 use Rattle.clap.specs.Words.{found_of, matched_of, raw_values}
 use Rattle.clap.specs.declared.parser.matches.ArgMatches.{ArgMatches}
-use Rattle.rv_words.specs.Uses.{Word, Use, values_of}
+use Rattle.rv_words.specs.Uses.{Word, Use, values_of, uses_in, file_name}
 use Rattle.rv_words.specs.Said.{Said}
 use Rattle.rv_words.specs.declared.options.Options.{Options}
 
@@ -32,3 +32,7 @@ found_values matches name = unwrap_or (option_map raw_values (matched_of (found_
 abbrev pub Finds : Option (List Use) → ArgMatches → Type 0
 Finds None matches = ⊥
 Finds (Some uses) matches = (name : Word) → found_values matches name ≡ values_of uses name
+
+-- the FILE words of the words, in the order in which they stand; none where the words are read as no uses
+abbrev pub files_told : List Word → Option (List Word)
+files_told words = option_map (λ uses. values_of uses file_name) (uses_in words)

@@ -117,3 +117,16 @@ pub fn scripts_in(alloc: Global, files: &[&str]) -> Result<Vec<String>, AllocErr
     }
     Ok(names)
 }
+
+/// All FILE words, in their order.
+pub fn files_in(alloc: Global, files: &[&str]) -> Result<Vec<String>, AllocError>
+    ensures { IfOk result (λ names. texts names.items ≡ map (λ file. file.now) files.now) }
+{
+    let mut names = Vec::new(alloc);
+    let mut rest = files;
+    'each: while let [file, tail @ ..] = rest {
+        names.push(String::from_str(alloc, file)?)?;
+        rest = tail;
+    }
+    Ok(names)
+}

@@ -8,4 +8,4 @@ pub mod options;
 #[cfg(test)]
 mod tests;
 
-pub use options::{Options, WordsError, words_of};
+pub use options::{Options, WordsError, files_of, words_of};

@@ -1,11 +1,12 @@
 //! The options of a run, and how they are read off the words.
 ghost use Rattle.std.specs.Prelude.{◌≡◌, IfOk, IfErr, Some, None, codes, map};
 ghost use Rattle.rv_words.specs.Said as said;
-ghost use Rattle.rv_words.specs.Shown.{texts, shown, found_values};
+ghost use Rattle.rv_words.specs.Shown.{texts, shown, found_values, files_told};
+ghost use Rattle.rv_words.specs.Uses.{uses_in};
 ghost use Rattle.rv_words.specs.declared.options.WordsError.TheVariants as words_error;
 
 use crate::command::found;
-use crate::files::{are_files_taken, relations_in, scripts_in};
+use crate::files::{are_files_taken, files_in, relations_in, scripts_in};
 use crate::numbers::{gen_number, number_or, switched};
 use clap::ArgMatches;
 use std::alloc::Global;
@@ -134,4 +135,29 @@ fn options_of(alloc: Global, matches: &ArgMatches) -> Result<Options, WordsError
         history,
         number,
     )
+}
+
+/// The FILE words of the words, scripts and relation files, in the order in which they stand.
+///
+/// The answer is `Usage` only where the words are outside the set.
+pub fn files_of(alloc: Global, words: &[String]) -> Result<Vec<String>, WordsError>
+    ensures files { IfOk result (λ files. files_told (texts words.now) ≡ Some (texts files.items)) }
+    ensures usage { IfErr result (λ error. error ≡ words_error.Usage → uses_in (texts words.now) ≡ None) }
+{
+    match found(alloc, words) {
+        Ok(matches) => found_files(alloc, &matches),
+        Err(error) => Err(error),
+    }
+}
+
+/// The FILE words that clap found.
+fn found_files(alloc: Global, matches: &ArgMatches) -> Result<Vec<String>, WordsError>
+    ensures files { IfOk result (λ files. texts files.items ≡ found_values matches.now (codes "file")) }
+    ensures memory { IfErr result (λ error. error ≡ words_error.NoMemory) }
+{
+    let named = match matches.get_raw("file") {
+        Some(files) => files_in(alloc, files),
+        None => files_in(alloc, &[]),
+    };
+    named.map_err(|_| WordsError::NoMemory)
 }

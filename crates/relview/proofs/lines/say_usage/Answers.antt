@@ -1,9 +1,9 @@
 use Rattle.std.proofs.Common.{subst}
-use Rattle.relview.specs.Top.{Says, Sunk}
+use Rattle.relview.specs.Writing.{IsWritten, sunk}
 use Rattle.relview.proofs.lines.say_usage.Goals as goal
 
 pub returns : goal.returns
 returns g c =
-    let old : Sunk = record { written = g.K.Sink.written c.args.sink.now; faults = g.K.Sink.faults c.args.sink.now } in
-    let new : Sunk = record { written = g.K.Sink.written c.say.new.sink; faults = g.K.Sink.faults c.say.new.sink } in
-    subst (λ l. Says l 2 old new c.say.result) c.usage_line.ensures c.say.ensures
+    let old = sunk (g.K.Sink.written c.args.sink.now) (g.K.Sink.faults c.args.sink.now) in
+    let new = sunk (g.K.Sink.written c.write_text.new.sink) (g.K.Sink.faults c.write_text.new.sink) in
+    subst (λ l. IsWritten old new l 2 c.write_text.result) c.usage_line.ensures c.write_text.ensures

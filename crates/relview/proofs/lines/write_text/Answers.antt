@@ -1,5 +1,5 @@
 use Rattle.std.proofs.Common.{refl}
-use Rattle.relview.specs.Top.{Whole, Part}
+use Rattle.relview.specs.Writing.{Whole, Part}
 use Rattle.relview.proofs.lines.write_text.Goals as goal
 
 pub returns-in-Ok : goal.returns-in-Ok

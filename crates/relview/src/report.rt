@@ -1,0 +1,36 @@
+//! What a run reports.
+ghost use Rattle.std.specs.Prelude.{◌≡◌, false};
+ghost use Rattle.relview.specs.Top.{IsEmpty};
+
+use run_model::event::Event;
+use run_model::outcome::Outcome;
+use std::alloc::Global;
+
+/// What a run reports. Without `ran` the lists are empty.
+#[derive(Drop)]
+pub struct Report {
+    /// 0 done, 1 refused, 2 usage, 3 not read, 4 not written, 5 want of memory.
+    pub status: u8,
+    pub ran: bool,
+    /// The events of the workspace, in their order.
+    pub history: Vec<Event>,
+    /// A list of outcomes for each script.
+    pub outcomes: Vec<Vec<Outcome>>,
+    /// The words of the table over which the scripts ran, in the end.
+    pub words: Vec<u64>,
+}
+
+/// The report of a run that did not come to its end.
+pub fn empty_report(alloc: Global, status: u8) -> Report
+    ensures stopped { result.ran ≡ false }
+    ensures status { result.status ≡ status }
+    ensures empty { IsEmpty result }
+{
+    Report {
+        status,
+        ran: false,
+        history: Vec::new(alloc),
+        outcomes: Vec::new(alloc),
+        words: Vec::new(alloc),
+    }
+}
