@@ -4,4 +4,6 @@
 #[cfg(test)]
 mod made;
 #[cfg(test)]
+mod read;
+#[cfg(test)]
 mod written;
