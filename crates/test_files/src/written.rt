@@ -177,7 +177,7 @@ fn what_passes_the_limit_is_refused_with_its_bits(rt: HostRuntime) {
     let gate = OpenGate;
     let mut engine = Works::new(Crew::new(&table, seat, 1, &gate));
     'cases: for (side, wanted) in [
-        (512, Ok(29 + 10_923 + 32_768)),
+        (4096, Ok(29 + 699_051 + 2_097_152)),
         (8192, Err(89_478_484)),
         (1_048_576, Err(1_466_015_503_700)),
         (16_777_216, Err(375_299_968_947_540)),
