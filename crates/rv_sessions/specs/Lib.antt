@@ -1,5 +1,9 @@
 pub mod Telling
 pub mod Standing
+pub mod Told
+pub mod Turning
+pub mod Valuing
+pub mod Showing
 pub mod Doing
 pub mod Running
 pub mod Sessions

@@ -1,8 +1,13 @@
 //! Sessions: each runs a script against the book of names that all sessions share.
 #![tactic(auto)]
 
+mod by;
+mod form;
+mod names;
 mod session;
 mod transcript;
+mod turns;
+mod value;
 
 pub use session::run;
 pub use transcript::{Loaded, Reply, Save, Transcript};

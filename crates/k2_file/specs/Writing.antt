@@ -1,0 +1,17 @@
+-- When a relation is not written, and the header of a file.
+use Rattle.std.specs.Prelude.{◌≡◌, ◌<◌, ℕ, List, [], ◌∷◌, ◌++◌, codes}
+use Rattle.std.specs.Int.{w32, w64, to_be_bytes}
+use Rattle.run_model.specs.Limits.{save_limit}
+use Rattle.k2_file.specs.declared.refused.WriteRefused.{WriteRefused}
+use Rattle.k2_file.specs.declared.refused.WriteRefused.TheVariants.{TooLong, NoMemory}
+
+-- a relation is not written: it has more bits than the limit, and that many; or memory ran out
+abbrev pub IsTooLong : ℕ → WriteRefused → Type 0
+IsTooLong count (TooLong bits) = (save_limit < count) × (bits ≡ count)
+IsTooLong count NoMemory = Unit {0}
+
+-- the header of these sizes, height and numbers of bits
+abbrev pub header_bytes : ℕ → ℕ → ℕ → ℕ → ℕ → List ℕ
+header_bytes rows cols height tree cells =
+    codes "RVK1" ++ to_be_bytes w32 rows ++ to_be_bytes w32 cols ++ height ∷ []
+    ++ to_be_bytes w64 tree ++ to_be_bytes w64 cells
