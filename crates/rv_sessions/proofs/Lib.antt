@@ -1,0 +1,5 @@
+pub mod FoldingTurns
+pub mod FoldingKept
+pub mod FoldingSteps
+pub mod FoldingValues
+pub mod Folding
