@@ -5,10 +5,10 @@
 --    of the later worker, name by name.
 -- 3. So the steps are those of before, and one more behind them; and so are their events, outcomes, values, replies,
 --    files and cost.
-use Rattle.std.proofs.Common.{◌≡◌, ◌≤◌, ◌+◌, ℕ, List, [], ◌∷◌, ◌++◌, map, length, Some, refl, sym, ap, subst, ◌∙◌, arith, append-nil, length-append}
+use Rattle.std.proofs.Common.{◌≡◌, ◌≤◌, ◌+◌, ℕ, List, [], ◌∷◌, ◌++◌, map, length, Some, refl, sym, ap, subst, ◌∙◌, arith, length-append}
 use Rattle.std.specs.Prelude.{◌^◌, ◌-◌, min, slice_get}
 use Rattle.std.specs.List.{AllByRecursion}
-use Rattle.rel_model.specs.Worker.{Worker, set_of, Keeps, MakesAtMost}
+use Rattle.rel_model.specs.Worker.{Worker, set_of, MakesAtMost}
 use Rattle.rel_model.proofs.Workers.{keeps_itself, keeps_trans}
 use Rattle.lang_model.specs.declared.syntax.Item.{Item}
 use Rattle.lang_model.specs.declared.syntax.Script.{Script}
@@ -16,7 +16,7 @@ use Rattle.run_model.specs.declared.outcome.Outcome.{Outcome}
 use Rattle.run_model.specs.Names.{no_names}
 use Rattle.run_model.specs.Inputs.{Input}
 use Rattle.run_model.specs.Due.{Workspace, gives}
-use Rattle.run_model.specs.Steps.{Snapshots, Step, due_at, ending, snaps_behind, snap_for, steps}
+use Rattle.run_model.specs.Steps.{Step, due_at, ending, snaps_behind, snap_for, steps}
 use Rattle.run_model.specs.Events.{entry_of, AreEvents}
 use Rattle.run_model.specs.Outcomes.{IsOutcome, AreOutcomes}
 use Rattle.run_model.specs.Page.{SavedFile, replies, saves_of}
@@ -31,28 +31,28 @@ use Rattle.rv_sessions.specs.Standing.{TurnStands, Kept, meant, meant_all}
 use Rattle.rv_sessions.specs.Doing.{first_took, deeds_by, state_of_turns, snap_meant, Did}
 use Rattle.rv_sessions.specs.Running.{snaps_after, nodes_in, RoseBy, IsAmong, RanSoFar}
 use Rattle.rv_sessions.specs.Sessions.{RanScript}
-use Rattle.rv_sessions.proofs.FoldingTurns.{all_append, all_weaker, kept_itself, through_append, among_more, taken_old, taken_new, rels_new, entries_by, entries_append, taken_stands, turns_stand}
+use Rattle.rv_sessions.proofs.FoldingTurns.{all_append, all_weaker, through_none, through_append, among_more, taken_old, taken_new, rels_new, entries_by, entries_append, taken_stands, turns_stand}
 use Rattle.rv_sessions.proofs.FoldingKept.{carried_stands, meant_same, all_meant_same, behind_meant, snap_is_meant}
 use Rattle.rv_sessions.proofs.FoldingSteps.{steps_agree, snaps_agree, step_at, steps_none, snaps_none, steps_push, snaps_push, numbered, few_more, events_push, cost_push, replies_push, saves_push}
 use Rattle.rv_sessions.proofs.FoldingValues.{values_more, nodes_push, rose_more}
 
-module _ (leaf : ℕ) (input : Input) (script : Script) (s : ℕ) where
-  abbrev SoFar : Worker → Worker → View → View → Kept → List Outcome → List ℕ → List SavedFile → Type 0
-  SoFar = RanSoFar leaf input script s
+turned : (n : ℕ) → 1 + n ≡ n + 1
+turned n = omega arith
 
+module _ (leaf : ℕ) (input : Input) (script : Script) (s : ℕ) where
   -- ---- nothing yet
   no_steps : (w : Worker) → steps_taken (set_of w) [] script [] ≡ []
   unfolding steps
   no_steps w = steps_none (state_taken (set_of w) []) script.items.items 1 no_names
 
   -- before the first item nothing is done
-  pub nothing_yet : (w : Worker) (v : View) → SoFar w w v v [] [] [] []
+  pub nothing_yet : (w : Worker) (v : View) → RanSoFar leaf input script s w w v v [] [] [] []
   unfolding replies saves_of
   nothing_yet w v =
       let none = sym (no_steps w) in
       record {
         ts = [];
-        through = record { turns = ([], sym (append-nil v.seen)); mine = sym (append-nil v.mine); kept = kept_itself v };
+        through = through_none v;
         own = tt;
         stand = tt;
         snaps_are = sym (snaps_none (state_taken (set_of w) []) script.items.items 1 no_names);
@@ -77,7 +77,7 @@ module _ (leaf : ℕ) (input : Input) (script : Script) (s : ℕ) where
   -- ---- one item more
   module _ (old mid new : Worker) (before between after : View) (snaps left : Kept) (outcomes : List Outcome) (text : List ℕ) (saved : List SavedFile)
       (item : Item) (outcome : Outcome) (more_text : List ℕ) (more_saved : List SavedFile) (there : slice_get script.items.items (length outcomes) ≡ Some item)
-      (r : SoFar old mid before between snaps outcomes text saved)
+      (r : RanSoFar leaf input script s old mid before between snaps outcomes text saved)
       (d : Did leaf input script s (length outcomes + 1) item mid new between after snaps left outcome more_text more_saved) where
     abbrev count : ℕ
     count = length outcomes
@@ -107,9 +107,6 @@ module _ (leaf : ℕ) (input : Input) (script : Script) (s : ℕ) where
 
     own_state : later (1 + count) ≡ state_of_turns new d.ts
     own_state = ap later (turned count) ∙ ap (λ log. meant new (carried log)) (taken_new s count r.ts d.ts r.own d.own)
-      where
-        turned : (n : ℕ) → 1 + n ≡ n + 1
-        turned n = omega arith
 
     -- ---- snapshots
     snaps_before : snaps_after later 1 no_names script.items.items outcomes ≡ meant_all new snaps
@@ -133,9 +130,6 @@ module _ (leaf : ℕ) (input : Input) (script : Script) (s : ℕ) where
       snap = (ap (snap_for item) snaps_before ∙ snap_is_meant new item snaps) i;
       outcome = outcome;
     }
-      where
-        turned : (n : ℕ) → 1 + n ≡ n + 1
-        turned n = omega arith
 
     steps_are : done ++ step ∷ [] ≡ steps_taken (set_of new) all script (outcomes ++ outcome ∷ [])
     unfolding steps
@@ -178,9 +172,8 @@ module _ (leaf : ℕ) (input : Input) (script : Script) (s : ℕ) where
     one_longer : count + 1 ≡ length (outcomes ++ outcome ∷ [])
     one_longer = let l = length-append outcomes (outcome ∷ []) in omega arith
 
-    -- one item behind those that are done
-    pub one_more : SoFar old new before after left (outcomes ++ outcome ∷ []) (text ++ more_text) (saved ++ more_saved)
-    one_more = record {
+    joined : RanSoFar leaf input script s old new before after left (outcomes ++ outcome ∷ []) (text ++ more_text) (saved ++ more_saved)
+    joined = record {
       ts = all;
       through = through_append r.ts d.ts before between after r.through d.through;
       own = subst (λ n. AllByRecursion (IsAmong s n) all) one_longer (among_more s count r.ts d.ts r.own d.own);
@@ -198,31 +191,44 @@ module _ (leaf : ℕ) (input : Input) (script : Script) (s : ℕ) where
       keeps = keeps_trans old mid new r.keeps d.keeps;
     }
 
-  -- ---- all items
-  -- where there are as many outcomes as items, the script ran whole
-  module _ (old new : Worker) (before after : View) (snaps : Kept) (outcomes : List Outcome) (text : List ℕ) (saved : List SavedFile)
-      (r : SoFar old new before after snaps outcomes text saved) (each : length outcomes ≡ length script.items.items) where
-    pub all_ran : RunsTurns input (set_of new) s script outcomes r.ts before.seen after.seen
-    all_ran = record {
-      turns = r.through.turns;
-      own = all_weaker (IsAmong s (length outcomes)) (λ (t : Turn). t.put.session ≡ s) (λ t h. h.0) r.ts r.own;
-      each = each;
-      events = r.events;
-      outcomes_due = r.outcomes_due;
-      values = r.values;
-    }
+module _ {leaf : ℕ} {input : Input} {script : Script} {s : ℕ} where
+  -- one item behind those that are done
+  pub one_more : {old mid new : Worker} {before between after : View} {snaps left : Kept} {outcomes : List Outcome} {text more_text : List ℕ}
+      {saved more_saved : List SavedFile} {item : Item} {outcome : Outcome} →
+      RanSoFar leaf input script s old mid before between snaps outcomes text saved →
+      slice_get script.items.items (length outcomes) ≡ Some item →
+      Did leaf input script s (length outcomes + 1) item mid new between after snaps left outcome more_text more_saved →
+      RanSoFar leaf input script s old new before after left (outcomes ++ outcome ∷ []) (text ++ more_text) (saved ++ more_saved)
+  one_more {old} {mid} {new} {before} {between} {after} {snaps} {left} {outcomes} {text} {more_text} {saved} {more_saved} {item} {outcome} r there d =
+      joined leaf input script s old mid new before between after snaps left outcomes text saved item outcome more_text more_saved there r d
 
-    pub whole_script : (told : Transcript) → told.outcomes.items ≡ outcomes → texts_of told.replies.items ≡ text → saved_all told.saves.items ≡ saved →
-        RanScript leaf input s script old new before after told
-    whole_script told os is_text is_saved =
-        let back = sym os in
-        record {
-          ts = r.ts;
-          runs = subst (λ l. RunsTurns input (set_of new) s script l r.ts before.seen after.seen) back all_ran;
-          mine = r.through.mine;
-          stand = r.stand;
-          text = is_text ∙ (r.text_is ∙ ap (λ l. replies input script s (steps_taken (set_of new) r.ts script l)) back);
-          saved = is_saved ∙ (r.saved_is ∙ ap (λ l. saves_of input script (steps_taken (set_of new) r.ts script l)) back);
-          room = subst (λ l. MakesAtMost (cost_of_steps leaf input script (steps_taken (set_of new) r.ts script l)) old new) back r.room;
-          missed = subst (λ l. RoseBy (nodes_in l) old.misses new.misses) back r.missed;
-        }
+  -- where there are as many outcomes as items, the script ran in the turns so far
+  pub runs_turns : {old new : Worker} {before after : View} {snaps : Kept} {outcomes : List Outcome} {text : List ℕ} {saved : List SavedFile}
+      (r : RanSoFar leaf input script s old new before after snaps outcomes text saved) → length outcomes ≡ length script.items.items →
+      RunsTurns input (set_of new) s script outcomes r.ts before.seen after.seen
+  runs_turns {outcomes = outcomes} r each = record {
+    turns = r.through.turns;
+    own = all_weaker (IsAmong s (length outcomes)) (λ (t : Turn). t.put.session ≡ s) (λ t h. h.0) r.ts r.own;
+    each = each;
+    events = r.events;
+    outcomes_due = r.outcomes_due;
+    values = r.values;
+  }
+
+  -- and a transcript that tells what came of it tells of the script
+  pub whole_script : {old new : Worker} {before after : View} {snaps : Kept} {outcomes : List Outcome} {text : List ℕ} {saved : List SavedFile} →
+      RanSoFar leaf input script s old new before after snaps outcomes text saved → length outcomes ≡ length script.items.items →
+      (told : Transcript) → told.outcomes.items ≡ outcomes → texts_of told.replies.items ≡ text → saved_all told.saves.items ≡ saved →
+      RanScript leaf input s script old new before after told
+  whole_script {old} {new} {before} {after} r each told os is_text is_saved =
+      let back = sym os in
+      record {
+        ts = r.ts;
+        runs = subst (λ l. RunsTurns input (set_of new) s script l r.ts before.seen after.seen) back (runs_turns r each);
+        mine = r.through.mine;
+        stand = r.stand;
+        text = is_text ∙ (r.text_is ∙ ap (λ l. replies input script s (steps_taken (set_of new) r.ts script l)) back);
+        saved = is_saved ∙ (r.saved_is ∙ ap (λ l. saves_of input script (steps_taken (set_of new) r.ts script l)) back);
+        room = subst (λ l. MakesAtMost (cost_of_steps leaf input script (steps_taken (set_of new) r.ts script l)) old new) back r.room;
+        missed = subst (λ l. RoseBy (nodes_in l) old.misses new.misses) back r.missed;
+      }

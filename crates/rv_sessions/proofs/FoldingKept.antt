@@ -4,7 +4,7 @@
 -- 2. What stands keeps its set. So what stands means the same in the second worker as in the first, name by name, and so
 --    do snapshots.
 -- 3. To mean goes name by name: it passes into a look-up, and into a map that is set.
-use Rattle.std.proofs.Common.{◌≡◌, ℕ, Bool, true, false, cond, not, List, [], ◌∷◌, map, Option, Some, None, Ordering, Less, Equal, Greater, refl, sym, ap, ◌∙◌}
+use Rattle.std.proofs.Common.{◌≡◌, ℕ, Bool, true, false, cond, not, List, [], ◌∷◌, Option, Some, None, Ordering, Less, Equal, Greater, refl, sym, ap, ◌∙◌}
 use Rattle.std.specs.Prelude.{option_and_then}
 use Rattle.std.specs.List.{AllByRecursion}
 use Rattle.std.specs.Option.{option_map}
@@ -19,7 +19,6 @@ use Rattle.run_model.specs.declared.event.Event.{Event}
 use Rattle.run_model.specs.declared.event.Act.{Act}
 use Rattle.run_model.specs.declared.event.Act.TheVariants.{Read, Assign, Remove}
 use Rattle.run_model.specs.Names.{compare, Names, lookup, set, remove}
-use Rattle.run_model.specs.Due.{Workspace}
 use Rattle.run_model.specs.Steps.{Ending, Succeeds, Fails, LacksMemory, Snapshots, snapped, asked, keep as keep_state, kept_at, snap_for}
 use Rattle.run_model.specs.States.{Replay, start}
 use Rattle.run_model.specs.Carried.{Carried, carry_act, carry, carried}
@@ -30,29 +29,34 @@ use Rattle.rv_sessions.specs.Doing.{keep, kept_behind, snap_meant}
 use Rattle.rv_sessions.proofs.FoldingTurns.{all_weaker}
 
 -- ---- what stands
-module _ (w : Worker) where
-  in_order : (o : Ordering) (x y z : Carried) → AllNamesStand w x → AllNamesStand w y → AllNamesStand w z → AllNamesStand w (by_order o x y z)
+-- where all that a map has is so, and what it gets, all that it has then is so
+module _ {V : Type 0} (P : V → Type 0) where
+  abbrev Each : Names V → Type 0
+  Each = AllByRecursion (λ entry. P entry.1)
+
+  in_order : (o : Ordering) (x y z : Names V) → Each x → Each y → Each z → Each (by_order o x y z)
   in_order Less x y z h k l = h
   in_order Equal x y z h k l = k
   in_order Greater x y z h k l = l
 
-  set_stands : (name : List ℕ) (rel : Rel) (m : Carried) → Stands w rel → AllNamesStand w m → AllNamesStand w (set name rel m)
-  set_stands name rel [] s h = (s, tt)
-  set_stands name rel (e ∷ es) s h =
-      in_order (compare name e.0) ((name, rel) ∷ e ∷ es) ((e.0, rel) ∷ es) (e ∷ set name rel es) (s, h) (s, h.1) (h.0, set_stands name rel es s h.1)
+  set_each : (name : List ℕ) (v : V) (m : Names V) → P v → Each m → Each (set name v m)
+  set_each name v [] s h = (s, tt)
+  set_each name v (e ∷ es) s h =
+      in_order (compare name e.0) ((name, v) ∷ e ∷ es) ((e.0, v) ∷ es) (e ∷ set name v es) (s, h) (s, h.1) (h.0, set_each name v es s h.1)
 
-  kept_stands : (b : Bool) (e : List ℕ × Rel) (es : Carried) → Stands w e.1 → AllNamesStand w es → AllNamesStand w (cond b (e ∷ es) es)
-  kept_stands true e es s h = (s, h)
-  kept_stands false e es s h = h
+  kept_each : (b : Bool) (e : List ℕ × V) (es : Names V) → P e.1 → Each es → Each (cond b (e ∷ es) es)
+  kept_each true e es s h = (s, h)
+  kept_each false e es s h = h
 
-  remove_stands : (name : List ℕ) (m : Carried) → AllNamesStand w m → AllNamesStand w (remove name m)
-  remove_stands name [] h = tt
-  remove_stands name (e ∷ es) h = kept_stands (not (eq_by_cmp compare name e.0)) e (remove name es) h.0 (remove_stands name es h.1)
+  remove_each : (name : List ℕ) (m : Names V) → Each m → Each (remove name m)
+  remove_each name [] h = tt
+  remove_each name (e ∷ es) h = kept_each (not (eq_by_cmp compare name e.0)) e (remove name es) h.0 (remove_each name es h.1)
 
+module _ (w : Worker) where
   act_stands : (s c : ℕ) (act : Act) (p : Replay Rel) → AllByRecursion (Stands w) (rel_of act) → AllNamesStand w p.now → AllNamesStand w (carry_act s c act p).now
   act_stands s c Read p h all = all
-  act_stands s c (Assign name rel) p h all = set_stands name rel p.now h.0 all
-  act_stands s c (Remove name) p h all = remove_stands name p.now all
+  act_stands s c (Assign name rel) p h all = set_each (Stands w) name rel p.now h.0 all
+  act_stands s c (Remove name) p h all = remove_each (Stands w) name p.now all
 
   carry_stands : (es : List Event) (p : Replay Rel) → HistoryStands w es → AllNamesStand w p.now → AllNamesStand w (carry p es).now
   carry_stands [] p h all = all
@@ -73,6 +77,23 @@ module _ (v w : Worker) (k : Keeps v w) where
   pub all_meant_same : (snaps : Kept) → KeptStand v snaps → meant_all v snaps ≡ meant_all w snaps
   all_meant_same [] h = refl
   all_meant_same (e ∷ es) h = let i = all_meant_same es h.1 in λ j. (e.0, meant_same e.1 h.0 j) ∷ i j
+
+  -- what stood of snapshots stands
+  pub snaps_stand : (snaps : Kept) → KeptStand v snaps → KeptStand w snaps
+  snaps_stand snaps h =
+      all_weaker (λ entry. AllNamesStand v entry.1) (λ entry. AllNamesStand w entry.1)
+      (λ e s. all_weaker (λ entry. Stands v entry.1) (λ entry. Stands w entry.1) (λ x h. keeps_stands v w x.1 k h) e.1 s) snaps h
+
+  -- so does what an item leaves, where the log that it took stands
+  pub left_stands : (x : Ending) (item : Item) (log : List Event) (snaps : Kept) → HistoryStands w log → KeptStand v snaps →
+      KeptStand w (kept_behind x item (carried log) snaps)
+  left_stands Succeeds item log snaps h s = put_stands (snapped item)
+    where
+      put_stands : (o : Option (List ℕ)) → KeptStand w (keep o (carried log) snaps)
+      put_stands None = snaps_stand snaps s
+      put_stands (Some name) = set_each (AllNamesStand w) name (carried log) snaps (carried_stands w log h) (snaps_stand snaps s)
+  left_stands Fails item log snaps h s = snaps_stand snaps s
+  left_stands LacksMemory item log snaps h s = snaps_stand snaps s
 
 -- ---- name by name
 module _ (w : Worker) where

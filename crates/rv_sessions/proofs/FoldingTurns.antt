@@ -4,8 +4,8 @@
 --    the later command took the log of the first of them.
 -- 3. In the same way the events of each command have the same relations with the later ones as without.
 -- 4. All that stood in a worker stands where its relations are kept.
-use Rattle.std.proofs.Common.{◌≡◌, ◌≤◌, ◌+◌, ℕ, Bool, true, false, cond, eqb, List, [], ◌∷◌, ◌++◌, map, refl, sym, ap, ◌∙◌, arith, append_assoc}
-use Rattle.std.specs.List.{AllByRecursion, flat_map}
+use Rattle.std.proofs.Common.{◌≡◌, ◌≤◌, ◌+◌, ℕ, Bool, true, false, cond, eqb, List, [], ◌∷◌, ◌++◌, map, refl, sym, ap, ◌∙◌, arith, append_assoc, append-nil}
+use Rattle.std.specs.List.{AllByRecursion}
 use Rattle.std.proofs.lemmas.Bool.{eq-eqb, ne_eqb}
 use Rattle.std.proofs.lemmas.List.{map-append}
 use Rattle.std.proofs.lemmas.List.Elements.{All-nil}
@@ -44,7 +44,7 @@ turns_append : (ts us : List Turn) (a b c : List Event) → AreTurns ts a b → 
 turns_append [] us a b c h k = turns_from us a b c h k
 turns_append (t ∷ ts) us a b c h k = (h.0, turns_append ts us (t.took ++ t.put ∷ []) b c h.1 k)
 
-pub kept_itself : (v : View) → IsKept v v
+kept_itself : (v : View) → IsKept v v
 kept_itself v = record { book = refl; house = refl; start = refl; joined = refl; spare = refl; turn = refl }
 
 kept_on : (u v w : View) → IsKept u v → IsKept v w → IsKept u w
@@ -56,6 +56,10 @@ kept_on u v w h k = record {
   spare = k.spare ∙ h.spare;
   turn = k.turn ∙ h.turn;
 }
+
+-- a pass that stands where it stood went through no turn
+pub through_none : (v : View) → GoesThrough [] v v
+through_none v = record { turns = ([], sym (append-nil v.seen)); mine = sym (append-nil v.mine); kept = kept_itself v }
 
 -- a pass that went through turns and then through others went through all of them
 pub through_append : (ts us : List Turn) (u v w : View) → GoesThrough ts u v → GoesThrough us v w → GoesThrough (ts ++ us) u w
@@ -128,7 +132,12 @@ module _ (w : Worker) where
   picked P true x y h k = h
   picked P false x y h k = k
 
-  -- the relations of each log that a command took
+  -- the relations of the log of the first turn
+  pub first_stands : (ts : List Turn) → TurnsStand w ts → HistoryStands w (first_took ts)
+  first_stands [] h = All-nil (EventStands w)
+  first_stands (t ∷ ts) h = h.0.log
+
+  -- those of each log that a command took
   pub taken_stands : (c : ℕ) (ts : List Turn) → TurnsStand w ts → HistoryStands w (taken c ts)
   taken_stands c [] h = All-nil (EventStands w)
   taken_stands c (t ∷ ts) h = picked (HistoryStands w) (eqb t.put.command c) t.took (taken c ts) h.0.log (taken_stands c ts h.1)
