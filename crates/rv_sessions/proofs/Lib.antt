@@ -1,1 +1,6 @@
 pub mod Turning
+pub mod FoldingTurns
+pub mod FoldingKept
+pub mod FoldingSteps
+pub mod FoldingValues
+pub mod Folding
