@@ -1,6 +1,13 @@
 pub mod Turning
+pub mod Naming
+pub mod Valuing
+pub mod Keeping
+pub mod Looking
 pub mod FoldingTurns
 pub mod FoldingKept
 pub mod FoldingSteps
 pub mod FoldingValues
 pub mod Folding
+pub mod Building
+pub mod Acting
+pub mod Telling

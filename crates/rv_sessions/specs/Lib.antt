@@ -1,9 +1,11 @@
 pub mod Telling
 pub mod Standing
 pub mod Told
+pub mod Keeping
 pub mod Turning
 pub mod Valuing
 pub mod Showing
 pub mod Doing
+pub mod Acting
 pub mod Running
 pub mod Sessions

@@ -9,18 +9,17 @@ use Rattle.run_model.specs.declared.outcome.Outcome.TheVariants.{NoMemory as NO_
 use Rattle.run_model.specs.Due.{Due, Late, Value, Refused as REFUSED, printed, listed, saved, due_of_value}
 use Rattle.run_model.specs.Files.{k2}
 use Rattle.run_model.specs.Page.{listing, count_text, type_text}
-use Rattle.run_model.specs.Steps.{ending, Fails}
 use Rattle.run_model.specs.Texts.{matrix}
 use Rattle.rv_sessions.specs.declared.form.Form.{Form}
-use Rattle.rv_sessions.specs.declared.form.Form.TheVariants.{Matrix, Listing, Count, Type, File}
-use Rattle.rv_sessions.specs.Valuing.{Stopped}
+use Rattle.rv_sessions.specs.declared.form.Form.TheVariants.{Matrix, Listing, Count, Typed, File}
+use Rattle.rv_sessions.specs.Valuing.{IsRefusal, Stopped}
 
 -- what is due of a value that is wanted in a form
 abbrev pub wanted_in : Form → Relation → Due
 wanted_in Matrix = printed
 wanted_in Listing = listed
 wanted_in Count = Value
-wanted_in Type = Value
+wanted_in Typed = Value
 wanted_in File = saved
 
 -- its bytes in that form
@@ -28,13 +27,13 @@ abbrev pub bytes_in : Form → Relation → List ℕ
 bytes_in Matrix = matrix
 bytes_in Listing = listing
 bytes_in Count = count_text
-bytes_in Type = type_text
+bytes_in Typed = type_text
 bytes_in File = k2
 
 -- a value is shown, or has too many cells, pairs or bits to be shown, or memory ran out
 abbrev pub IsShown : Form → Relation → Result (List ℕ) Outcome → Type 0
 IsShown form r (Ok bytes) = (wanted_in form r ≡ Value r) × (bytes ≡ bytes_in form r)
-IsShown form r (Err o) = ((wanted_in form r ≡ REFUSED Late o) × (ending o ≡ Fails)) ⊎ (o ≡ NO_MEMORY)
+IsShown form r (Err o) = ((wanted_in form r ≡ REFUSED Late o) × IsRefusal o) ⊎ (o ≡ NO_MEMORY)
 
 -- an expression is shown: its value is due, and these are its bytes; or it is refused
 abbrev pub CameShown : Form → Worker → Worker → Expr → ℕ → Evaluated → Result (List ℕ) Outcome → Type 0

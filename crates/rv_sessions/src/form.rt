@@ -17,7 +17,7 @@ pub(crate) enum Form {
     Matrix,
     Listing,
     Count,
-    Type,
+    Typed,
     File,
 }
 
@@ -67,7 +67,7 @@ pub(crate) fn shown<E: Engine>(
             Ok(text) => Ok(text),
             Err(NoMemory) => Err(Outcome::NoMemory),
         },
-        Form::Type => match shape_text(alloc, rel) {
+        Form::Typed => match shape_text(alloc, rel) {
             Ok(text) => Ok(text),
             Err(NoMemory) => Err(Outcome::NoMemory),
         },
