@@ -6,6 +6,7 @@
 -- 3. Then the item did what the value, or the refusal, wants.
 use Rattle.std.proofs.Common.{◌≡◌, ◌∙◌, ◌⊎◌, ◌≤◌, ◌+◌, inl, inr, arith, ℕ, List, [], ◌∷◌, ◌++◌, append-nil, Result, Ok, Err, Some, None, Option, refl, sym, ap, subst}
 use Rattle.std.specs.List.{AllByRecursion}
+use Rattle.rel_model.specs.declared.Rel.{Rel}
 use Rattle.rel_model.specs.Relation.{Relation}
 use Rattle.rel_model.specs.Worker.{Worker, set_of, Keeps, MakesAtMost, Rose}
 use Rattle.rel_model.specs.Seats.{Stays}
@@ -40,9 +41,9 @@ use Rattle.rv_sessions.specs.declared.form.Form.{Form}
 use Rattle.rv_sessions.specs.Standing.{Kept, KeptStand, meant}
 use Rattle.rv_sessions.specs.Doing.{GoesThrough, Did, keep, due_on, state_of_turns, snap_meant}
 use Rattle.rv_sessions.specs.Turning.{TookTurn}
-use Rattle.rv_sessions.specs.Valuing.{IsNotAhead, WasFull, Stopped}
+use Rattle.rv_sessions.specs.Valuing.{IsNotAhead, WasFull, Stopped, CameTo}
 use Rattle.rv_sessions.specs.Showing.{CameShown, wanted_in}
-use Rattle.rv_sessions.specs.Acting.{turn_of, WasNotRead, WasRead, WasShown, on_log, IsValueItem}
+use Rattle.rv_sessions.specs.Acting.{turn_of, WasNotRead, WasRead, WasShown, WasValued, on_log, IsReadItem, IsValueItem}
 use Rattle.rv_sessions.proofs.FoldingKept.{meant_same, carried_stands}
 use Rattle.rv_sessions.proofs.Looking.{wanted_agree}
 use Rattle.rv_sessions.proofs.Building.{Went, lacks, full, refuses, is_done}
@@ -119,13 +120,38 @@ was_shown leaf form input script s c e old mid new before after log turns ws nam
           (subst (λ u. new.made ≤ mid.made + cost_of_value leaf u) v room);
     }
 
+came_before : (old mid new : Worker) (e : Expr) (turns : ℕ) (v : Evaluated) (r : Result Rel Outcome) →
+    mid.misses ≡ old.misses → CameTo mid new e turns v r → CameTo old new e turns v r
+came_before old mid new e turns v (Ok rel) m h = h
+came_before old mid new e turns v (Err o) m h = λ then. stopped_before old mid new e turns v then o m (h then)
+
+pub was_valued : (leaf : ℕ) (input : Input) (script : Script) (s c : ℕ) (e : Expr) (old mid new : Worker) (before after : PASS)
+    (log : List Event) (turns : ℕ) (ws : List (List ℕ)) (names : Carried) (result : Result Rel Outcome) →
+    TookTurn old mid before after log (read_of s c ∷ []) → ws ≡ names_in e → names ≡ picked (Some ws) (carried log) → Keeps mid new →
+    CameTo mid new e turns (evaluated script (state_of mid names) e turns) result →
+    MakesAtMost (cost_of_value leaf (evaluated script (state_of mid names) e turns)) mid new → input.turns ≡ turns →
+    WasValued leaf input script s c e old new before after log result
+was_valued leaf input script s c e old mid new before after log turns ws names result t w n k came room i =
+    let a : AgreeOn (state_of mid names) (lookup (meant mid (carried log))) (names_in e) =
+        subst (AgreeOn (state_of mid names) (lookup (meant mid (carried log)))) w (wanted_agree mid ws log names t.stand n) in
+    let v : evaluated script (state_of mid names) e turns ≡ on_log input script e new log =
+        on_names input script e mid new log turns names t.stand k a i in
+    record {
+      read = was_read t k;
+      came = came_before old mid new e input.turns (on_log input script e new log) result t.stays.misses
+          (subst (λ u. CameTo mid new e u (on_log input script e new log) result) (sym i)
+          (subst (λ u. CameTo mid new e turns u result) v came));
+      room = subst (λ m. new.made ≤ m + cost_of leaf input script e (meant new (carried log))) t.stays.made
+          (subst (λ u. new.made ≤ mid.made + cost_of_value leaf u) v room);
+    }
+
 -- ---- 3
 late_answer : (then : Relation → Due) (turns : ℕ) (a : Answer Relation) → ((r : Relation) → IsNotEarly (then r)) →
     IsNotEarly (due_of_answer then turns a)
 late_answer then turns (Got r left) h = h r
 late_answer then turns (Not why) h = tt
 
-late_value : (then : Relation → Due) (turns : ℕ) (v : Evaluated) → IsNotAhead v → ((r : Relation) → IsNotEarly (then r)) →
+pub late_value : (then : Relation → Due) (turns : ℕ) (v : Evaluated) → IsNotAhead v → ((r : Relation) → IsNotEarly (then r)) →
     IsNotEarly (due_of_value then turns v)
 late_value then turns (Ahead fault) n h = absurd n
 late_value then turns (Comes came) n h = late_answer then turns came.answer h
@@ -134,8 +160,7 @@ nothing_made : (a b x : ℕ) → b ≡ a → b ≤ a + x
 nothing_made a b x e = omega (arith, e)
 
 module _ (leaf : ℕ) (input : Input) (script : Script) (s c : ℕ) (item : Item) (e : Expr) (then : Relation → Due)
-    (text : List ℕ → Relation → List ℕ) (files : Relation → List SavedFile) (old new : Worker) (before after : PASS) (snaps : Kept)
-    (v : IsValueItem item e then text files) (stood : KeptStand old snaps) where
+    (old new : Worker) (before after : PASS) (snaps : Kept) (v : IsReadItem item e then) (stood : KeptStand old snaps) where
   -- memory ran out before anything was read
   pub unread_did : WasNotRead old new before after →
       Did leaf input script s c item old new before after snaps snaps NO_MEMORY (prefix s c ++ refusal_text NO_MEMORY) []
@@ -151,7 +176,7 @@ module _ (leaf : ℕ) (input : Input) (script : Script) (s c : ℕ) (item : Item
 
   module _ (log : List Event) (read : WasRead s c old new before after log)
       (room : MakesAtMost (cost_of leaf input script e (meant new (carried log))) old new) where
-    went : Went leaf input script s c item old new before after snaps (turn_of log (read_of s c) ∷ [])
+    pub went : Went leaf input script s c item old new before after snaps (turn_of log (read_of s c) ∷ [])
     went = record {
       through = read.through;
       own = ((refl, refl), tt);
@@ -161,20 +186,8 @@ module _ (leaf : ℕ) (input : Input) (script : Script) (s c : ℕ) (item : Item
       keeps = read.keeps;
     }
 
-    value_due : due_on input script item new snaps (turn_of log (read_of s c) ∷ []) ≡ due_of_value then input.turns (on_log input script e new log)
+    pub value_due : due_on input script item new snaps (turn_of log (read_of s c) ∷ []) ≡ due_of_value then input.turns (on_log input script e new log)
     value_due = v.due_is input script (meant new (carried log)) (snap_meant new item snaps)
-
-    -- the value is due
-    pub shown_did : (r : Relation) → due_of_value then input.turns (on_log input script e new log) ≡ Value r →
-        Did leaf input script s c item old new before after snaps snaps Done (text (prefix s c) r) (files r)
-    shown_did r h =
-        let d : Due = due_on input script item new snaps (turn_of log (read_of s c) ∷ []) in
-        let dd : d ≡ Value r = value_due ∙ h in
-        is_done went snaps (text (prefix s c) r) (files r) (ap outcome_due dd) (sym (v.done d))
-        (subst (HaveValues (set_of new) []) (sym (v.none_given d)) tt)
-        (sym (ap (done_text (prefix s c) item) dd ∙ v.shows (prefix s c) r))
-        (sym (ap (done_save item) dd ∙ v.saves r))
-        (sym (ap (λ o. keep o (carried log) snaps) v.no_snapped))
 
     -- it is refused, or the table was full
     pub stopped_did : (o : Outcome) → (o ≡ NO_MEMORY → ⊥) → Stopped old new e input.turns (on_log input script e new log) then o →
@@ -191,3 +204,16 @@ module _ (leaf : ℕ) (input : Input) (script : Script) (s c : ℕ) (item : Item
     -- memory ran out
     pub lack_did : Did leaf input script s c item old new before after snaps snaps NO_MEMORY (prefix s c ++ refusal_text NO_MEMORY) []
     lack_did = lacks went v.memory ([], v.reads)
+
+    -- the value is due, and is shown or saved
+    pub shown_did : (text : List ℕ → Relation → List ℕ) (files : Relation → List SavedFile) → IsValueItem item e then text files → (r : Relation) →
+        due_of_value then input.turns (on_log input script e new log) ≡ Value r →
+        Did leaf input script s c item old new before after snaps snaps Done (text (prefix s c) r) (files r)
+    shown_did text files u r h =
+        let d : Due = due_on input script item new snaps (turn_of log (read_of s c) ∷ []) in
+        let dd : d ≡ Value r = value_due ∙ h in
+        is_done went snaps (text (prefix s c) r) (files r) (ap outcome_due dd) (sym (u.done d))
+        (subst (HaveValues (set_of new) []) (sym (u.none_given d)) tt)
+        (sym (ap (done_text (prefix s c) item) dd ∙ u.shows (prefix s c) r))
+        (sym (ap (done_save item) dd ∙ u.saves r))
+        (sym (ap (λ o. keep o (carried log) snaps) u.no_snapped))

@@ -8,6 +8,12 @@ pub mod FoldingKept
 pub mod FoldingSteps
 pub mod FoldingValues
 pub mod Folding
+pub mod ListedPairs
+pub mod Overs
 pub mod Building
 pub mod Acting
 pub mod Telling
+pub mod Assigning
+pub mod Loading
+pub mod Asking
+pub mod Items

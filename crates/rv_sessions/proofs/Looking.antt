@@ -64,7 +64,7 @@ found_before true o r e = e
 found_before false o r e = absurd (no_rel r e)
 
 -- ---- 3
-valued-lookup : (means : Rel → Relation) (c : Carried) (n : List ℕ) → lookup (valued means c) n ≡ option_map means (lookup c n)
+pub valued-lookup : (means : Rel → Relation) (c : Carried) (n : List ℕ) → lookup (valued means c) n ≡ option_map means (lookup c n)
 valued-lookup means [] n = refl
 valued-lookup means (e ∷ es) n = at (eq_by_cmp compare n e.0) (valued-lookup means es n)
   where
@@ -98,7 +98,7 @@ wanted_stand w ws log names h e =
 same_rel : (a b : Rel) → Some a ≡ Some b → a ≡ b
 same_rel a b k = cc
 
-found_first : (w : Worker) (b : Bool) (x : Rel) (o : Option Rel) (r : Rel) → Stands w x → (o ≡ Some r → Stands w r) →
+pub found_first : (w : Worker) (b : Bool) (x : Rel) (o : Option Rel) (r : Rel) → Stands w x → (o ≡ Some r → Stands w r) →
     cond b (Some x) o ≡ Some r → Stands w r
 found_first w true x o r s h k = subst (Stands w) (same_rel x r k) s
 found_first w false x o r s h k = h k

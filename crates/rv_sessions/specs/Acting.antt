@@ -15,7 +15,7 @@ use Rattle.run_model.specs.declared.outcome.Outcome.TheVariants.{NoMemory as NO_
 use Rattle.run_model.specs.Names.{lookup}
 use Rattle.run_model.specs.Inputs.{Input}
 use Rattle.run_model.specs.Due.{Workspace, Due, due, due_of, gives}
-use Rattle.run_model.specs.Steps.{snapped, asked}
+use Rattle.run_model.specs.Steps.{snapped}
 use Rattle.run_model.specs.Events.{Deed, Reads, reads_of, done_deeds}
 use Rattle.run_model.specs.Outcomes.{MayLackNodes, MayLackMemory, IsNotEarly}
 use Rattle.run_model.specs.Page.{SavedFile, shown, saved_of}
@@ -68,9 +68,8 @@ ShownInTurn leaf form input script s c e old new before after result =
     ⊎ ((log : List Event) × WasShown leaf form input script s c e old new before after log result)
 
 -- ---- items that take a value
--- an item that reads, and shows and saves what its expression comes to
-pub record IsValueItem (item : Item) (e : Expr) (then : Relation → Due) (text : List ℕ → Relation → List ℕ)
-    (files : Relation → List SavedFile) : Type 0 where
+-- an item that reads, and wants the value of an expression for this
+pub record IsReadItem (item : Item) (e : Expr) (then : Relation → Due) : Type 0 where
   pub due_is : (input : Input) (script : Script) (state : Workspace) (snap : Option Workspace) →
       due input script item state snap ≡ due_of input script then e state
   pub cost_is : (leaf : ℕ) (input : Input) (script : Script) (state : Workspace) (snap : Option Workspace) (d : Due) →
@@ -79,12 +78,16 @@ pub record IsValueItem (item : Item) (e : Expr) (then : Relation → Due) (text 
   pub late : (r : Relation) → IsNotEarly (then r)
   pub memory : MayLackMemory item
   pub reads : reads_of item ≡ Reads ∷ []
+
+-- one that shows the value, or saves it, and gives no name anything
+pub record IsValueItem (item : Item) (e : Expr) (then : Relation → Due) (text : List ℕ → Relation → List ℕ)
+    (files : Relation → List SavedFile) : Type 0 where
+  pub reading : IsReadItem item e then
   pub done : (d : Due) → done_deeds item d ≡ Reads ∷ []
   pub none_given : (d : Due) → gives item d ≡ []
   pub shows : (numbers : List ℕ) (r : Relation) → shown numbers item r ≡ text numbers r
   pub saves : (r : Relation) → saved_of item r ≡ files r
   pub no_snapped : snapped item ≡ None
-  pub no_asked : asked item ≡ None
 
 -- ---- what an item did
 -- the item was done or refused, as it is told; or memory ran out
@@ -93,3 +96,17 @@ DidItem leaf input script s c item old new before after snaps left (Ok told) =
     Did leaf input script s c item old new before after snaps left told.outcome (text_of told.reply) (saved_by told.save)
 DidItem leaf input script s c item old new before after snaps left (Err lack) =
     Did leaf input script s c item old new before after snaps left NO_MEMORY (prefix s c ++ refusal_text NO_MEMORY) []
+
+-- ---- values
+-- an expression had a value on the log that its command read
+pub record WasValued (leaf : ℕ) (input : Input) (script : Script) (s c : ℕ) (e : Expr) (old new : Worker)
+    (before after : PASS) (log : List Event) (result : Result Rel Outcome) : Type 0 where
+  pub read : WasRead s c old new before after log
+  pub came : CameTo old new e input.turns (on_log input script e new log) result
+  pub room : MakesAtMost (cost_of leaf input script e (meant new (carried log))) old new
+
+-- that; or memory ran out before anything was read
+abbrev pub ValuedInTurn : ℕ → Input → Script → ℕ → ℕ → Expr → Worker → Worker → PASS → PASS → Result Rel Outcome → Type 0
+ValuedInTurn leaf input script s c e old new before after result =
+    (WasNotRead old new before after × (result ≡ Err NO_MEMORY))
+    ⊎ ((log : List Event) × WasValued leaf input script s c e old new before after log result)

@@ -1,6 +1,8 @@
 pub mod Telling
 pub mod Standing
 pub mod Told
+pub mod Listed
+pub mod Reading
 pub mod Keeping
 pub mod Turning
 pub mod Valuing

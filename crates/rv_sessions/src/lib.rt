@@ -2,7 +2,12 @@
 #![tactic(auto)]
 
 mod by;
+mod dropping;
+mod files;
 mod form;
+mod giving;
+mod item;
+mod listing;
 mod names;
 mod session;
 mod showing;

@@ -1,7 +1,6 @@
-use Rattle.std.proofs.Common.{[], ◌∷◌, Ok, Err, refl}
+use Rattle.std.proofs.Common.{Ok, Err, refl}
 use Rattle.run_model.specs.Due.{saved}
 use Rattle.rv_sessions.specs.declared.form.Form.TheVariants.{File}
-use Rattle.rv_sessions.specs.Showing.{bytes_in}
 use Rattle.rv_sessions.proofs.Acting.{unread_did}
 use Rattle.rv_sessions.proofs.Telling.{plain, untouched, shown_not_done, save_ok, save_err}
 use Rattle.rv_sessions.proofs.showing.save.Goals as goal
@@ -10,8 +9,8 @@ pub returns-in_default : goal.returns-in_default
 returns-in_default g c input snaps item i stood v =
     let a = c.args in
     let w = g.E.Core.worker a.engine.now in
-    unread_did g.E.Core.least input a.checked.now a.by.session a.by.command item a.expr.now saved (λ numbers r. [])
-    (λ r. record { name = a.file.now; bytes = bytes_in File r } ∷ []) w w a.pass.now a.pass.now snaps v stood (untouched w a.pass.now)
+    unread_did g.E.Core.least input a.checked.now a.by.session a.by.command item a.expr.now saved w w a.pass.now a.pass.now snaps v.reading stood
+    (untouched w a.pass.now)
 
 pub refused-requires : goal.refused-requires
 refused-requires g c =
