@@ -108,9 +108,9 @@ pub was_shown : (leaf : ℕ) (form : Form) (input : Input) (script : Script) (s 
     WasShown leaf form input script s c e old new before after log result
 was_shown leaf form input script s c e old mid new before after log turns ws names result t w n k came room i =
     let a : AgreeOn (state_of mid names) (lookup (meant mid (carried log))) (names_in e) =
-        subst (AgreeOn (state_of mid names) (lookup (meant mid (carried log)))) w (wanted_agree mid ws log names t.stand n) in
+    subst (AgreeOn (state_of mid names) (lookup (meant mid (carried log)))) w (wanted_agree mid ws log names t.stand n) in
     let v : evaluated script (state_of mid names) e turns ≡ on_log input script e new log =
-        on_names input script e mid new log turns names t.stand k a i in
+    on_names input script e mid new log turns names t.stand k a i in
     record {
       read = was_read t k;
       came = shown_before form old mid new e input.turns (on_log input script e new log) result t.stays.misses
@@ -133,9 +133,9 @@ pub was_valued : (leaf : ℕ) (input : Input) (script : Script) (s c : ℕ) (e :
     WasValued leaf input script s c e old new before after log result
 was_valued leaf input script s c e old mid new before after log turns ws names result t w n k came room i =
     let a : AgreeOn (state_of mid names) (lookup (meant mid (carried log))) (names_in e) =
-        subst (AgreeOn (state_of mid names) (lookup (meant mid (carried log)))) w (wanted_agree mid ws log names t.stand n) in
+    subst (AgreeOn (state_of mid names) (lookup (meant mid (carried log)))) w (wanted_agree mid ws log names t.stand n) in
     let v : evaluated script (state_of mid names) e turns ≡ on_log input script e new log =
-        on_names input script e mid new log turns names t.stand k a i in
+    on_names input script e mid new log turns names t.stand k a i in
     record {
       read = was_read t k;
       came = came_before old mid new e input.turns (on_log input script e new log) result t.stays.misses
@@ -196,7 +196,7 @@ module _ (leaf : ℕ) (input : Input) (script : Script) (s c : ℕ) (item : Item
     stopped_did o n (inr (inl h)) =
         let d : Due = due_on input script item new snaps (turn_of log (read_of s c) ∷ []) in
         let late : IsNotEarly d =
-            subst IsNotEarly (sym value_due) (late_value then input.turns (on_log input script e new log) h.1.not_ahead v.late) in
+        subst IsNotEarly (sym value_due) (late_value then input.turns (on_log input script e new log) h.1.not_ahead v.late) in
         subst (λ x. Did leaf input script s c item old new before after snaps snaps x (prefix s c ++ refusal_text x) []) (sym h.0)
         (full went (v.nodes d h.1.compound late) h.1.rose (sym v.reads))
     stopped_did o n (inr (inr h)) = absurd (n h)

@@ -138,9 +138,9 @@ module _ (leaf : ℕ) (input : Input) (script : Script) (s c : ℕ) (at : Place)
     at_shown bytes h room =
         let r : Relation = h.0 in
         let w : Went leaf input script s c item old new p p snaps [] =
-            record { through = through_none p; own = tt; stand = tt; snaps_stood = stood; room = room_is room; keeps = k } in
+        record { through = through_none p; own = tt; stand = tt; snaps_stood = stood; room = room_is room; keeps = k } in
         let dd : due_on input script item new snaps [] ≡ Value r =
-            due_is ∙ ap (due_of_value printed input.turns) (sym one) ∙ ap (λ t. due_of_value printed t before_) i ∙ h.1 in
+        due_is ∙ ap (due_of_value printed input.turns) (sym one) ∙ ap (λ t. due_of_value printed t before_) i ∙ h.1 in
         is_done w snaps (prefix s c ++ bytes) [] (ap outcome_due dd) refl tt
         (ap (λ b. prefix s c ++ b) h.2 ∙ sym (ap (done_text (prefix s c) item) dd)) (sym (at_saves at name e (due_on input script item new snaps []))) refl
 

@@ -108,16 +108,18 @@ module _ (leaf : ℕ) (input : Input) (script : Script) (s c : ℕ) (name : List
         through = through_append (turn_of log (read_of s c) ∷ []) (turn_of taken (assign_of s c (name, rel)) ∷ []) before between after
             value.read.through (through_one t);
         own = ((refl, refl), ((refl, refl), tt));
-        stand = (record { log = history_stands mid new (λ x h. keeps_stands mid new x k h) log value.read.stand; own = tt },
-            (record { log = t.stand; own = (keeps_stands mid new rel k value.came.0, tt) }, tt));
+        stand = (
+          record { log = history_stands mid new (λ x h. keeps_stands mid new x k h) log value.read.stand; own = tt },
+          (record { log = t.stand; own = (keeps_stands mid new rel k value.came.0, tt) }, tt),
+        );
         snaps_stood = stood;
         room = room_later (assign_of s c (name, rel) ∷ []) taken t;
         keeps = keeps_trans old mid new value.read.keeps k;
       } in
       let d : Due = due_on input script (COMMAND (LET name e)) new snaps ts in
       let dd : d ≡ Value (set_of new rel) =
-          (let_item name e).due_is input script (meant new (carried log)) None
-          ∙ value_later input script e mid new log rel value.read.stand k value.came.0 (value.came.1 Value) in
+      (let_item name e).due_is input script (meant new (carried log)) None
+      ∙ value_later input script e mid new log rel value.read.stand k value.came.0 (value.came.1 Value) in
       is_done w snaps [] [] (ap outcome_due dd)
       (ap (λ m. Reads ∷ Gives name m rel.cols ∷ []) (sym rows) ∙ ap (λ n. Reads ∷ Gives name (set_of new rel).rows n ∷ []) (sym cols)
       ∙ sym (ap (done_deeds (COMMAND (LET name e))) dd))
@@ -290,7 +292,7 @@ module _ (leaf : ℕ) (input : Input) (script : Script) (s c : ℕ) (name : List
         Did leaf input script s c item old new before after snaps snaps Done [] []
     list_given new after rel own n v t =
         let t1 : TookTurn mid new before after t.0 (assign_of s c (name, rel) ∷ []) =
-            subst (λ m. TookTurn mid new before after t.0 (assign_of s c (m, rel) ∷ [])) n t.1 in
+        subst (λ m. TookTurn mid new before after t.0 (assign_of s c (m, rel) ∷ [])) n t.1 in
         let l : Keeps mid new = t1.stays.keeps in
         let st : Stands mid rel = gives_stands mid rows cols value rel v in
         unread_gives leaf input script s c item old new before after snaps stood (keeps_trans old mid new k l) reads_nothing name rel value t.0

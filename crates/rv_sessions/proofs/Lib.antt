@@ -16,4 +16,8 @@ pub mod Telling
 pub mod Assigning
 pub mod Loading
 pub mod Asking
+pub mod Given
+pub mod Defined
+pub mod Noting
 pub mod Items
+pub mod Refusing

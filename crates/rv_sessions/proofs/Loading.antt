@@ -158,12 +158,12 @@ module _ (leaf : ℕ) (input : Input) (script : Script) (s c : ℕ) (name file :
           Did leaf input script s c item old new before after snaps snaps Done [] []
       read_given new after rel own n whole v t =
           let t1 : TookTurn mid new before after t.0 (assign_of s c (name, rel) ∷ []) =
-              subst (λ m. TookTurn mid new before after t.0 (assign_of s c (m, rel) ∷ [])) n t.1 in
+          subst (λ m. TookTurn mid new before after t.0 (assign_of s c (m, rel) ∷ [])) n t.1 in
           let l : Keeps mid new = t1.stays.keeps in
           let r : Relation = k2_relation bytes in
           let st : Stands mid rel = gives_stands mid r.rows r.cols r rel v in
           let d : due input script item (meant new (carried t.0)) (snap_meant new item snaps) ≡ Value r =
-              due_bytes (meant new (carried t.0)) (snap_meant new item snaps) ∙ ap (due_of_bytes file bytes) whole in
+          due_bytes (meant new (carried t.0)) (snap_meant new item snaps) ∙ ap (due_of_bytes file bytes) whole in
           unread_gives leaf input script s c item old new before after snaps stood (keeps_trans old mid new k l) reads_nothing name rel r t.0
           (through_one t1) t1.stand (keeps_stands mid new rel l st) (keeps_set mid new rel l st ∙ gives_set mid r.rows r.cols r rel v)
           (sym v.row_size) (sym v.col_size) d refl refl (λ numbers. refl) refl

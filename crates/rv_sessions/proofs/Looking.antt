@@ -49,9 +49,10 @@ or_left a b e = ap (λ x. x || b) e
 -- what is so of all that is wanted
 each : (P : List ℕ → Type 0) (ws : List (List ℕ)) → ((n : List ℕ) → is_among ws n ≡ true → P n) → AllByRecursion P ws
 each P [] h = tt
-each P (w ∷ ws) h =
-    (h w (or_left (eq_by_cmp compare w w) (list_any (eq_by_cmp compare w) ws) (self w)),
-    each P ws (λ n k. h n (or_right (eq_by_cmp compare n w) (list_any (eq_by_cmp compare n) ws) k)))
+each P (w ∷ ws) h = (
+  h w (or_left (eq_by_cmp compare w w) (list_any (eq_by_cmp compare w) ws) (self w)),
+  each P ws (λ n k. h n (or_right (eq_by_cmp compare n w) (list_any (eq_by_cmp compare n) ws) k)),
+)
 
 wanted_found : (ws : List (List ℕ)) (c : Carried) (n : List ℕ) → is_among ws n ≡ true → rel_of (among ws c) n ≡ lookup c n
 wanted_found ws c n h = rel_of-lookup (among ws c) n ∙ lookup-among ws c n ∙ ap (λ b. cond b (lookup c n) None) h

@@ -40,7 +40,7 @@ same_err x y e = cc
 full_is_not_done : NODES ≡ Done → ⊥
 full_is_not_done e = cc
 
-lack_is_not_done : NO_MEMORY ≡ Done → ⊥
+pub lack_is_not_done : NO_MEMORY ≡ Done → ⊥
 lack_is_not_done e = cc
 
 -- what stops an expression is no success
@@ -82,9 +82,12 @@ module _ (leaf : ℕ) (form : Form) (input : Input) (script : Script) (s c : ℕ
       (r : Relation) × (bytes ≡ bytes_in form r)
       × Did leaf input script s c item old new before after snaps snaps Done (text (prefix s c) r) (files r)
   ok_did bytes (inl h) = absurd (ok_is_no_err bytes NO_MEMORY h.1)
-  ok_did bytes (inr h) =
-      (h.1.came.0, h.1.came.2, shown_did leaf input script s c item e (wanted_in form) old new before after snaps v.reading stood
-      h.0 h.1.read h.1.room text files v h.1.came.0 h.1.came.1)
+  ok_did bytes (inr h) = (
+    h.1.came.0,
+    h.1.came.2,
+    shown_did leaf input script s c item e (wanted_in form) old new before after snaps v.reading stood
+        h.0 h.1.read h.1.room text files v h.1.came.0 h.1.came.1,
+  )
 
   -- a refusal that is told
   err_did : (o : Outcome) (result : Result Told LACK) → ShownInTurn leaf form input script s c e old new before after (Err o) →

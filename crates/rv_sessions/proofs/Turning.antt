@@ -39,7 +39,7 @@ pub took : (old new : Worker) (before mid after : PASS) (log history puts : List
     HistoryStands new log → Stays old new → TookTurn old new before after log puts
 took old new before mid after log history puts idle m b a e h s =
     let all : after ≡ with_log (log ++ puts) (with_turn log before) =
-        a ∙ ap (λ z. with_log z mid) e ∙ ap (with_log (log ++ puts)) m in
+    a ∙ ap (λ z. with_log z mid) e ∙ ap (with_log (log ++ puts)) m in
     subst (λ p. TookTurn old new before p log puts) (sym all)
     (record {
       begins = b;

@@ -8,6 +8,7 @@ pub mod Turning
 pub mod Valuing
 pub mod Showing
 pub mod Doing
+pub mod Noting
 pub mod Acting
 pub mod Running
 pub mod Sessions

@@ -106,7 +106,15 @@ fn show_kept<E: Engine>(
         DidItem E.least input checked.now by.session by.command (COMMAND (AT at name expr.now)) (E.worker engine.old)
         (E.worker engine.new) pass pass snaps snaps result }
 {
-    match shown_on(alloc, engine, checked, turns, view.names.as_slice(), Form::Matrix, expr) {
+    match shown_on(
+        alloc,
+        engine,
+        checked,
+        turns,
+        view.names.as_slice(),
+        Form::Matrix,
+        expr,
+    ) {
         Ok(body) => Ok(Told {
             outcome: Outcome::Done,
             reply: Reply::Told {
@@ -153,7 +161,11 @@ pub(crate) fn show_at<E: Engine>(
             Ok(told) => Ok(told),
             Err(lack) => Err(lack),
         },
-        None => match refused(alloc, by, Outcome::Ill(TypeFault::Unknown { at, name: text })) {
+        None => match refused(
+            alloc,
+            by,
+            Outcome::Ill(TypeFault::Unknown { at, name: text }),
+        ) {
             Ok(told) => Ok(told),
             Err(lack) => Err(lack),
         },

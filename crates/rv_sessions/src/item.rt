@@ -55,19 +55,65 @@ fn run_command<E: Engine, W: Wait>(
             alloc, by, book, wait, pass, engine, name, *rows, *rows_at, *cols, *cols_at, list,
         ),
         Command::Let { name, value } => {
-            let_value(alloc, by, checked, turns, book, wait, pass, engine, name, value)
+            let_value(
+                alloc, by, checked, turns, book, wait, pass, engine, name, value,
+            )
         }
         Command::Print { value } => {
-            show(alloc, by, checked, turns, book, wait, pass, engine, Form::Matrix, value)
+            show(
+                alloc,
+                by,
+                checked,
+                turns,
+                book,
+                wait,
+                pass,
+                engine,
+                Form::Matrix,
+                value,
+            )
         }
         Command::List { value } => {
-            show(alloc, by, checked, turns, book, wait, pass, engine, Form::Listing, value)
+            show(
+                alloc,
+                by,
+                checked,
+                turns,
+                book,
+                wait,
+                pass,
+                engine,
+                Form::Listing,
+                value,
+            )
         }
         Command::Count { value } => {
-            show(alloc, by, checked, turns, book, wait, pass, engine, Form::Count, value)
+            show(
+                alloc,
+                by,
+                checked,
+                turns,
+                book,
+                wait,
+                pass,
+                engine,
+                Form::Count,
+                value,
+            )
         }
         Command::Typed { value } => {
-            show(alloc, by, checked, turns, book, wait, pass, engine, Form::Typed, value)
+            show(
+                alloc,
+                by,
+                checked,
+                turns,
+                book,
+                wait,
+                pass,
+                engine,
+                Form::Typed,
+                value,
+            )
         }
         Command::Remove { at, name } => {
             drop_name(alloc, by, book, wait, pass, engine, *at, name)
@@ -80,7 +126,9 @@ fn run_command<E: Engine, W: Wait>(
             load(alloc, by, files, book, wait, pass, engine, name, file)
         }
         Command::Save { value, file } => {
-            save(alloc, by, checked, turns, book, wait, pass, engine, value, file)
+            save(
+                alloc, by, checked, turns, book, wait, pass, engine, value, file,
+            )
         }
     }
 }

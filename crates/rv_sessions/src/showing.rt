@@ -51,7 +51,15 @@ fn shown_in_turn<E: Engine, W: Wait>(
         return Err(Outcome::NoMemory);
     };
     match read_turn(alloc, by, book, wait, pass, engine, Some(wanted.as_slice())) {
-        Ok(view) => shown_on(alloc, engine, checked, turns, view.names.as_slice(), form, expr),
+        Ok(view) => shown_on(
+            alloc,
+            engine,
+            checked,
+            turns,
+            view.names.as_slice(),
+            form,
+            expr,
+        ),
         Err(NoMemory) => Err(Outcome::NoMemory),
     }
 }
@@ -76,7 +84,9 @@ pub(crate) fn show<E: Engine, W: Wait>(
         DidItem E.least input checked.now by.session by.command item (E.worker engine.old) (E.worker engine.new)
         pass.old pass.new snaps snaps result }
 {
-    match shown_in_turn(alloc, by, checked, turns, book, wait, pass, engine, form, expr) {
+    match shown_in_turn(
+        alloc, by, checked, turns, book, wait, pass, engine, form, expr,
+    ) {
         Ok(body) => Ok(Told {
             outcome: Outcome::Done,
             reply: Reply::Told {
@@ -118,7 +128,18 @@ pub(crate) fn save<E: Engine, W: Wait>(
     let Ok(name) = file.copied(alloc) else {
         return Err(NoMemory);
     };
-    match shown_in_turn(alloc, by, checked, turns, book, wait, pass, engine, Form::File, expr) {
+    match shown_in_turn(
+        alloc,
+        by,
+        checked,
+        turns,
+        book,
+        wait,
+        pass,
+        engine,
+        Form::File,
+        expr,
+    ) {
         Ok(bytes) => Ok(Told {
             outcome: Outcome::Done,
             reply: Reply::Nothing,

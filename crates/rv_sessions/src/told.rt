@@ -6,8 +6,8 @@ ghost use Rattle.rv_sessions.specs.Telling.{TellsRefusal};
 
 use crate::by::By;
 use crate::transcript::{Reply, Save};
-use run_model::outcome::Outcome;
 use rel_model::NoMemory;
+use run_model::outcome::Outcome;
 use rv_print::fault_text;
 use std::alloc::Global;
 

@@ -24,7 +24,7 @@ show_kept-requires g c =
     let a = c.args in
     record {
       stood = kept_stands (g.E.Core.worker a.engine.now) a.snaps.now a.name.now c.in-Some.view.now.names.items c.requires.stood
-          (ap (lookup a.snaps.now) (sym (c.of.ensures ∙ c.in-Ok.ensures)) ∙ sym c.in-Some.ensures);
+          (ap (lookup a.snaps.now) (sym (c.of-key.ensures ∙ c.in-Ok.ensures)) ∙ sym c.in-Some.ensures);
     }
 
 pub returns-in-Ok-refused : goal.returns-in-Ok-refused
@@ -34,7 +34,7 @@ returns-in-Ok-refused g c input pass i =
     as_told (Did g.E.Core.least input a.checked.now a.by.session a.by.command (COMMAND (AT a.at a.name.now a.expr.now)) w w pass pass a.snaps.now a.snaps.now)
     a.by.session a.by.command (ILL (Unknown a.at c.in-Ok-copied.text)) c.in-Ok-refused.told c.in-Ok-refused.ensures
     (at_unknown g.E.Core.least input a.checked.now a.by.session a.by.command a.at a.name.now a.expr.now w pass a.snaps.now c.requires.stood
-    (ap (lookup a.snaps.now) (sym (c.of.ensures ∙ c.in-Ok.ensures)) ∙ sym c.in-None.ensures) c.in-Ok-copied.text c.in-Ok-copied.ensures)
+    (ap (lookup a.snaps.now) (sym (c.of-key.ensures ∙ c.in-Ok.ensures)) ∙ sym c.in-None.ensures) c.in-Ok-copied.text c.in-Ok-copied.ensures)
 
 pub returns : goal.returns
 returns g c input pass i =

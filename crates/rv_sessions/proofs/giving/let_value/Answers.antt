@@ -34,8 +34,8 @@ returns-in-Ok-assign_turn g c input snaps i stood =
     let r = c.in-Ok-value_in_turn.rel in
     let t = c.in-Ok-assign_turn.ensures.assigned in
     let st = keeps_stands (w c.value_in_turn.new.engine) n r t.1.stays.keeps
-        (value_stands g.E.Core.least input a.checked.now a.by.session a.by.command a.expr.now (w a.engine.now) (w c.value_in_turn.new.engine)
-        a.pass.now c.value_in_turn.new.pass r (c.in-Ok-value_in_turn.ensures.value input i)) in
+    (value_stands g.E.Core.least input a.checked.now a.by.session a.by.command a.expr.now (w a.engine.now) (w c.value_in_turn.new.engine)
+    a.pass.now c.value_in_turn.new.pass r (c.in-Ok-value_in_turn.ensures.value input i)) in
     subst (λ z. Did g.E.Core.least input a.checked.now a.by.session a.by.command (COMMAND (LET a.name.now a.expr.now)) (w a.engine.now) n
     a.pass.now c.assign_turn.new.pass snaps snaps z.outcome (text_of z.reply) (saved_by z.save)) (sym c.done.ensures)
     (let_ok g.E.Core.least input a.checked.now a.by.session a.by.command a.name.now a.expr.now (w a.engine.now) (w c.value_in_turn.new.engine) n

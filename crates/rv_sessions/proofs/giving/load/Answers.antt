@@ -1,9 +1,12 @@
-use Rattle.std.proofs.Common.{◌≡◌, ◌∙◌, Ok, Err, Some, None, map, sym, ap}
+use Rattle.std.proofs.Common.{◌≡◌, ◌∙◌, Result, Ok, Err, Some, None, map, sym, ap}
 use Rattle.std.specs.Option.{option_map}
 use Rattle.lang_model.specs.declared.syntax.Item.TheVariants.{Command as COMMAND}
 use Rattle.lang_model.specs.declared.syntax.Command.TheVariants.{Load as LOAD}
 use Rattle.run_model.specs.Inputs.{file_named}
 use Rattle.run_model.specs.declared.outcome.Outcome.TheVariants.{NoFile}
+use Rattle.rel_model.specs.declared.NoMemory.{NoMemory as LACK}
+use Rattle.turn_book.specs.Views.{View as PASS}
+use Rattle.rv_sessions.specs.declared.told.Told.{Told}
 use Rattle.rv_sessions.specs.Acting.{DidItem}
 use Rattle.rv_sessions.specs.Doing.{Did}
 use Rattle.rv_sessions.specs.Telling.{file_of}
@@ -21,7 +24,7 @@ pub returns : goal.returns
 returns g c input script snaps f stood =
     let a = c.args in
     let w = g.E.Core.worker in
-    let P = λ e p r. DidItem g.E.Core.least input script a.by.session a.by.command (COMMAND (LOAD a.name.now a.file.now)) (w a.engine.now) (w e) a.pass.now p snaps snaps r in
+    let P : g.row.E.Denot → PASS → Result Told LACK → Type 0 = λ e p r. DidItem g.E.Core.least input script a.by.session a.by.command (COMMAND (LOAD a.name.now a.file.now)) (w a.engine.now) (w e) a.pass.now p snaps snaps r in
     let m = c.match-file_named in
     let found = ap (λ fs. file_named fs a.file.now) f ∙ ap (file_named (map file_of a.files.now)) (sym c.bytes.ensures) ∙ sym c.file_named.ensures in
     elim m.branch [

@@ -1,10 +1,13 @@
-use Rattle.std.proofs.Common.{◌∙◌, Ok, Err, sym, ap, subst}
+use Rattle.std.proofs.Common.{◌∙◌, Result, Ok, Err, sym, ap, subst}
 use Rattle.run_model.specs.Due.{listing_over}
 use Rattle.rv_sessions.specs.Valuing.{IsRefusal}
 use Rattle.rv_sessions.proofs.Overs.{over_refuses, within_limits}
 use Rattle.rv_sessions.proofs.Assigning.{list_refused}
 use Rattle.lang_model.specs.declared.syntax.Item.TheVariants.{Command as COMMAND}
 use Rattle.lang_model.specs.declared.syntax.Command.TheVariants.{Relation as RELATION}
+use Rattle.rel_model.specs.declared.NoMemory.{NoMemory as LACK}
+use Rattle.turn_book.specs.Views.{View as PASS}
+use Rattle.rv_sessions.specs.declared.told.Told.{Told}
 use Rattle.rv_sessions.specs.Acting.{DidItem}
 use Rattle.rv_sessions.proofs.Telling.{moved}
 use Rattle.rv_sessions.proofs.giving.relation.Goals as goal
@@ -32,8 +35,8 @@ pub returns : goal.returns
 returns g c input script snaps stood =
     let a = c.args in
     let w = g.E.Core.worker in
-    let P = λ e p r. DidItem g.E.Core.least input script a.by.session a.by.command
-        (COMMAND (RELATION a.name.now a.rows a.rows_at a.cols a.cols_at a.list.now)) (w a.engine.now) (w e) a.pass.now p snaps snaps r in
+    let P : g.row.E.Denot → PASS → Result Told LACK → Type 0 = λ e p r. DidItem g.E.Core.least input script a.by.session a.by.command
+    (COMMAND (RELATION a.name.now a.rows a.rows_at a.cols a.cols_at a.list.now)) (w a.engine.now) (w e) a.pass.now p snaps snaps r in
     let m = c.match-first_over in
     elim m.branch [
       | in-Some+in-Ok b ↦ moved P m.engine a.engine.now m.pass a.pass.now m.result (Ok b.in-Ok.told) b.engine-is b.pass-is b.result-is

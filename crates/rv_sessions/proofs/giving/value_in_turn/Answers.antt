@@ -21,5 +21,5 @@ returns-in-Ok-read_turn-clause-value g c input i =
       was_valued g.E.Core.least input c.args.checked.now c.args.by.session c.args.by.command c.args.expr.now
           (w c.args.engine.now) (w c.read_turn.new.engine) (w s.new.engine) c.args.pass.now c.read_turn.new.pass r.0 c.args.turns
           c.as_slice.result.now c.as_slice-in-Ok-read_turn.result.now s.result
-          r.1 (c.as_slice.ensures.value ∙ c.in-Ok.ensures) (c.as_slice-in-Ok-read_turn.ensures.value ∙ r.2) s.ensures.keeps s.ensures.came s.ensures.room i
+          r.1 (c.as_slice.ensures.value ∙ c.in-Ok.ensures) (c.as_slice-in-Ok-read_turn.ensures.value ∙ r.2) s.ensures.keeps s.ensures.came s.ensures.room i,
     )
