@@ -1,5 +1,14 @@
 pub mod Telling
 pub mod Standing
+pub mod Told
+pub mod Listed
+pub mod Reading
+pub mod Keeping
+pub mod Turning
+pub mod Valuing
+pub mod Showing
 pub mod Doing
+pub mod Noting
+pub mod Acting
 pub mod Running
 pub mod Sessions

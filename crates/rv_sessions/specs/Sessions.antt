@@ -1,10 +1,15 @@
 -- What a session promises of its script, whatever the others do.
-use Rattle.std.specs.Prelude.{◌≡◌, ◌++◌, ℕ, List, [], ◌∷◌, map}
+use Rattle.std.specs.Prelude.{◌≡◌, ◌≢◌, ◌⊎◌, ◌++◌, ℕ, List, [], ◌∷◌, map, Option, Some, None, Result, Ok, Err}
 use Rattle.rel_model.specs.Worker.{Worker, set_of, MakesAtMost, MissesNothing}
 use Rattle.lang_model.specs.declared.faults.ParseFault.{ParseFault}
+use Rattle.lang_model.specs.declared.faults.ParseFault.TheVariants.{NoMemory as NO_MEMORY_TO_PARSE}
+use Rattle.lang_model.specs.declared.faults.TypeFault.{TypeFault}
+use Rattle.lang_model.specs.declared.faults.TypeFault.TheVariants.{NoMemory as NO_MEMORY_TO_CHECK}
 use Rattle.lang_model.specs.declared.syntax.Script.{Script}
+use Rattle.lang_model.specs.Checking.{flaw}
+use Rattle.lang_model.specs.Spelling.{SpelledBy}
 use Rattle.run_model.specs.declared.outcome.Outcome.{Outcome}
-use Rattle.run_model.specs.declared.outcome.Outcome.TheVariants.{Parse, Ill}
+use Rattle.run_model.specs.declared.outcome.Outcome.TheVariants.{Parse, Ill, NoMemory}
 use Rattle.run_model.specs.Inputs.{Input, Reading, NoScript, Flawed, Runs, IsReading}
 use Rattle.run_model.specs.Page.{replies, refusals, saves_of}
 use Rattle.run_model.specs.Cost.{cost_of_steps}
@@ -56,3 +61,28 @@ pub record RanBytes (leaf : ℕ) (input : Input) (s : ℕ) (bytes : List ℕ) (o
   pub reading : Reading
   pub reads : IsReading bytes reading
   pub did : DidReading leaf input s reading old new before after told
+
+-- the outcome that tells why a script does not run
+abbrev pub refusal_of : Reading → Option Outcome
+refusal_of (NoScript fault) = Some (Parse fault)
+refusal_of (Flawed fault) = Some (Ill fault)
+refusal_of (Runs script) = None
+
+-- the bytes were read: as a script without a flaw, or as what is refused so; or memory ran out
+abbrev pub IsRead : List ℕ → Result Script Outcome → Type 0
+IsRead bytes (Ok script) = SpelledBy bytes script × (flaw script ≡ None)
+IsRead bytes (Err outcome) =
+    (outcome ≡ NoMemory)
+    ⊎ ((reading : Reading) × IsReading bytes reading × (refusal_of reading ≡ Some outcome))
+
+-- a fault of bytes is told as one: want of memory as itself
+abbrev pub TellsFault : ParseFault → Outcome → Type 0
+TellsFault fault outcome =
+    ((fault ≡ NO_MEMORY_TO_PARSE) × (outcome ≡ NoMemory))
+    ⊎ ((fault ≢ NO_MEMORY_TO_PARSE) × (outcome ≡ Parse fault))
+
+-- a flaw of a script as well
+abbrev pub TellsFlaw : TypeFault → Outcome → Type 0
+TellsFlaw flaw outcome =
+    ((flaw ≡ NO_MEMORY_TO_CHECK) × (outcome ≡ NoMemory))
+    ⊎ ((flaw ≢ NO_MEMORY_TO_CHECK) × (outcome ≡ Ill flaw))

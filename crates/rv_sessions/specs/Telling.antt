@@ -1,5 +1,5 @@
 -- What a transcript tells, and what a session is given, in the words of runs.
-use Rattle.std.specs.Prelude.{ℕ, false, List, [], ◌++◌, map}
+use Rattle.std.specs.Prelude.{◌≡◌, ◌≢◌, ℕ, false, List, [], ◌∷◌, ◌++◌, map, Option, Some, None, Result, Ok, Err}
 use Rattle.std.specs.List.{flat_map}
 use Rattle.std.specs.String.{string_bytes}
 use Rattle.run_model.specs.declared.outcome.Outcome.TheVariants.{NoMemory as NO_MEMORY}
@@ -9,6 +9,9 @@ use Rattle.run_model.specs.Texts.{prefix, refusal_text}
 use Rattle.rv_sessions.specs.declared.transcript.Loaded.{Loaded}
 use Rattle.rv_sessions.specs.declared.transcript.Save.{Save}
 use Rattle.rv_sessions.specs.declared.transcript.Reply.{Reply}
+use Rattle.rv_sessions.specs.declared.told.Told.{Told as TOLD}
+use Rattle.rel_model.specs.declared.NoMemory.{NoMemory as NO_MEMORY_ERROR}
+use Rattle.run_model.specs.declared.outcome.Outcome.{Outcome}
 use Rattle.rv_sessions.specs.declared.transcript.Reply.TheVariants.{Nothing, Told, NoMemory}
 
 -- a relation file of the command line
@@ -36,3 +39,15 @@ saved_of s = record { name = s.name; bytes = s.bytes.items }
 -- all of them
 abbrev pub saved_all : List Save → List SavedFile
 saved_all = map saved_of
+
+-- the file that an item saves
+abbrev pub saved_by : Option Save → List SavedFile
+saved_by None = []
+saved_by (Some s) = saved_of s ∷ []
+
+-- a refusal is told with its numbers; or memory ran out, which is no refusal
+abbrev pub TellsRefusal : ℕ → ℕ → Outcome → Result TOLD NO_MEMORY_ERROR → Type 0
+TellsRefusal s c outcome (Ok told) =
+    (told.outcome ≡ outcome) × (text_of told.reply ≡ prefix s c ++ refusal_text outcome) × (told.save ≡ None)
+    × (outcome ≢ NO_MEMORY)
+TellsRefusal s c outcome (Err lack) = Unit {0}

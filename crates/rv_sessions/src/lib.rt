@@ -1,8 +1,21 @@
 //! Sessions: each runs a script against the book of names that all sessions share.
 #![tactic(auto)]
 
+mod by;
+mod dropping;
+mod files;
+mod form;
+mod giving;
+mod item;
+mod listing;
+mod names;
 mod session;
+mod showing;
+mod snapshots;
+mod told;
 mod transcript;
+mod turns;
+mod value;
 
 pub use session::run;
 pub use transcript::{Loaded, Reply, Save, Transcript};

@@ -1,17 +1,208 @@
 //! A session from its bytes to its transcript.
-ghost use Rattle.std.specs.Prelude.{◌≡◌, ◌≤◌, ◌^◌, length, IfOk, OnErr};
+ghost use Rattle.std.specs.Prelude.{◌≡◌, ◌≢◌, ◌≤◌, ◌<◌, ◌+◌, ◌^◌, ◌++◌, ◌∷◌, [], length, vec_len, vec_capacity, IfOk, OnErr};
 ghost use Rattle.rel_model.specs.Worker.{Keeps};
+ghost use Rattle.run_model.specs.declared.outcome.Outcome.TheVariants.{Done, NoMemory as NO_MEMORY};
 ghost use Rattle.turn_book.specs.Views.{IsReady, IsKept};
-ghost use Rattle.rv_sessions.specs.Telling.{input_of};
-ghost use Rattle.rv_sessions.specs.Sessions.{RanBytes, DidNothing};
+ghost use Rattle.rv_sessions.specs.Telling.{input_of, texts_of, saved_all};
+ghost use Rattle.rv_sessions.specs.Noting.{IsBare, TellsOne, outcome_in, text_in, saved_in};
+ghost use Rattle.rv_sessions.specs.Running.{RanSoFar};
+ghost use Rattle.rv_sessions.specs.Sessions.{RanBytes, RanScript, DidNothing, IsRead, TellsFault, TellsFlaw};
+ghost use Rattle.rv_sessions.specs.Standing.{Kept};
 
-use crate::transcript::{Loaded, Transcript};
+use crate::by::By;
+use crate::item::run_item;
+use crate::snapshots::Snapshots;
+use crate::told::Told;
+use crate::transcript::{Loaded, Reply, Transcript};
+use lang_model::faults::{ParseFault, TypeFault};
 use rel_model::NoMemory;
 use rel_model::engine_trait::Engine;
+use run_model::outcome::Outcome;
+use rv_parse::parse;
+use rv_print::fault_text;
+use rv_types::{Checked, check};
 use rv_workspace::Book;
 use std::alloc::Global;
 use std::sync::Wait;
 use turn_book::{Pass, TurnBook};
+
+/// Notes what an item came to. It takes no memory.
+fn note(by: By, told: Result<Told, NoMemory>, lists: &mut Transcript)
+    requires replies { vec_len lists.old.replies < vec_capacity lists.old.replies }
+    requires saves { vec_len lists.old.saves < vec_capacity lists.old.saves }
+    requires outcomes { vec_len lists.old.outcomes < vec_capacity lists.old.outcomes }
+    ensures outcome { lists.new.outcomes.items ≡ lists.old.outcomes.items ++ outcome_in told ∷ [] }
+    ensures text { texts_of lists.new.replies.items ≡ texts_of lists.old.replies.items ++ text_in by.session by.command told }
+    ensures saved { saved_all lists.new.saves.items ≡ saved_all lists.old.saves.items ++ saved_in told }
+    ensures replies_len { vec_len lists.new.replies ≡ vec_len lists.old.replies + 1 }
+    ensures saves_len { vec_len lists.new.saves ≤ vec_len lists.old.saves + 1 }
+    ensures outcomes_len { vec_len lists.new.outcomes ≡ vec_len lists.old.outcomes + 1 }
+    ensures replies_capacity { vec_capacity lists.new.replies ≡ vec_capacity lists.old.replies }
+    ensures saves_capacity { vec_capacity lists.new.saves ≡ vec_capacity lists.old.saves }
+    ensures outcomes_capacity { vec_capacity lists.new.outcomes ≡ vec_capacity lists.old.outcomes }
+{
+    match told {
+        Ok(
+            Told {
+                outcome,
+                reply,
+                save,
+            },
+        ) => {
+            lists.outcomes.push_reserved(outcome);
+            lists.replies.push_reserved(reply);
+            if let Some(save) = save {
+                lists.saves.push_reserved(save);
+            }
+        }
+        Err(NoMemory) => {
+            lists.outcomes.push_reserved(Outcome::NoMemory);
+            lists.replies.push_reserved(Reply::NoMemory {
+                session: by.session,
+                command: by.command,
+            });
+        }
+    }
+}
+
+/// Runs all items, one after another.
+fn run_items<E: Engine, W: Wait>(
+    alloc: Global,
+    number: u32,
+    checked: &Checked,
+    files: &[Loaded],
+    turns: u64,
+    book: &TurnBook<Book<E>>,
+    wait: &W,
+    pass: &mut Pass<Book<E>>,
+    engine: &mut E,
+    lists: &mut Transcript,
+)
+    requires ready { IsReady book.now pass.old }
+    requires kin { pass.old.house ≡ (E.worker engine.old).house }
+    requires few { length checked.now.items.items < 2 ^ 32 }
+    requires bare { IsBare (length checked.now.items.items) lists.old }
+    ensures ran { (snaps : Kept) × RanSoFar E.least (input_of files.now turns) checked.now number (E.worker engine.old) (E.worker engine.new)
+        pass.old pass.new snaps lists.new.outcomes.items (texts_of lists.new.replies.items) (saved_all lists.new.saves.items) }
+    ensures each { length lists.new.outcomes.items ≡ length checked.now.items.items }
+{
+    let mut snaps = Snapshots::new(alloc);
+    let items = checked.script().items.as_slice();
+    'items: for i in 0..items.len() {
+        let by = By {
+            session: number,
+            command: i as u32 + 1,
+        };
+        let told = run_item(
+            alloc, by, checked, files, turns, book, wait, pass, engine, &mut snaps, &items[i],
+        );
+        note(by, told, lists);
+    }
+}
+
+/// Empty lists with room for so many items.
+fn room_for(alloc: Global, items: usize) -> Result<Transcript, NoMemory>
+    ensures { IfOk result (IsBare items) }
+{
+    Ok(Transcript {
+        replies: Vec::with_capacity(alloc, items)?,
+        saves: Vec::with_capacity(alloc, items)?,
+        outcomes: Vec::with_capacity(alloc, items)?,
+    })
+}
+
+/// The transcript of one refusal, with number 0.
+fn one_refusal(alloc: Global, number: u32, outcome: Outcome) -> Result<Transcript, NoMemory>
+    requires { outcome ≢ Done }
+    ensures { IfOk result (TellsOne number outcome) }
+{
+    let body = fault_text(alloc, &outcome)?;
+    let mut lists = room_for(alloc, 1)?;
+    lists.outcomes.push_reserved(outcome);
+    lists.replies.push_reserved(Reply::Told {
+        session: number,
+        command: 0,
+        body,
+    });
+    Ok(lists)
+}
+
+/// The transcript of bytes that do not run. Want of memory is no refusal of theirs.
+fn not_run(alloc: Global, number: u32, outcome: Outcome) -> Result<Transcript, NoMemory>
+    requires { outcome ≢ Done }
+    ensures { IfOk result (λ t. TellsOne number outcome t × (outcome ≢ NO_MEMORY)) }
+{
+    match outcome {
+        Outcome::NoMemory => Err(NoMemory),
+        _ => one_refusal(alloc, number, outcome),
+    }
+}
+
+/// Runs a script without a flaw.
+///
+/// More items than a command's number can count would want more memory than there is: so that is the answer.
+fn run_checked<E: Engine, W: Wait>(
+    alloc: Global,
+    number: u32,
+    checked: &Checked,
+    files: &[Loaded],
+    turns: u64,
+    book: &TurnBook<Book<E>>,
+    wait: &W,
+    pass: &mut Pass<Book<E>>,
+    engine: &mut E,
+) -> Result<Transcript, NoMemory>
+    requires ready { IsReady book.now pass.old }
+    requires kin { pass.old.house ≡ (E.worker engine.old).house }
+    ensures ran { IfOk result (RanScript E.least (input_of files.now turns) number checked.now (E.worker engine.old) (E.worker engine.new) pass.old pass.new) }
+    ensures none { OnErr result (DidNothing (E.worker engine.old) (E.worker engine.new) pass.old pass.new) }
+    ensures kept { IsKept pass.old pass.new }
+    ensures keeps { Keeps (E.worker engine.old) (E.worker engine.new) }
+{
+    let items = checked.script().items.len();
+    if items as u64 > u32::MAX as u64 {
+        return Err(NoMemory);
+    }
+    let mut lists = room_for(alloc, items)?;
+    run_items(
+        alloc, number, checked, files, turns, book, wait, pass, engine, &mut lists,
+    );
+    Ok(lists)
+}
+
+/// The script that bytes spell, if it has no flaw: else the outcome that tells why it does not run.
+fn read_script(alloc: Global, bytes: &[u8]) -> Result<Checked, Outcome>
+    requires { length bytes.now ≤ 2 ^ 20 }
+    ensures { IsRead bytes.now result }
+{
+    match parse(alloc, bytes) {
+        Ok(script) => match check(alloc, script) {
+            Ok(checked) => Ok(checked),
+            Err(flaw) => Err(told_flaw(flaw)),
+        },
+        Err(fault) => Err(told_fault(fault)),
+    }
+}
+
+/// What a fault of bytes is told as.
+fn told_fault(fault: ParseFault) -> Outcome
+    ensures { TellsFault fault result }
+{
+    match fault {
+        ParseFault::NoMemory => Outcome::NoMemory,
+        _ => Outcome::Parse(fault),
+    }
+}
+
+/// What a flaw of a script is told as.
+fn told_flaw(flaw: TypeFault) -> Outcome
+    ensures { TellsFlaw flaw result }
+{
+    match flaw {
+        TypeFault::NoMemory => Outcome::NoMemory,
+        _ => Outcome::Ill(flaw),
+    }
+}
 
 /// Runs the script of a session against the book of names, each read, assignment and removal in a turn of its own.
 ///
@@ -37,6 +228,13 @@ pub fn run<E: Engine, W: Wait>(
     ensures kept { IsKept pass.old pass.new }
     ensures keeps { Keeps (E.worker engine.old) (E.worker engine.new) }
 {
-    let _ = &pass;
-    Err(NoMemory)
+    match read_script(alloc, script) {
+        Ok(checked) => run_checked(
+            alloc, number, &checked, files, turns, book, wait, pass, engine,
+        ),
+        Err(outcome) => {
+            let _ = &pass;
+            not_run(alloc, number, outcome)
+        }
+    }
 }

@@ -87,6 +87,17 @@ impl<E: Seated> Book<E> {
         )
     }
 
+    /// Another worker learns all that stands in the archive. Names and history stay.
+    pub fn teach(&mut self, mine: &mut E)
+        requires kin { Kin (E.worker mine.old) (E.worker self.old.archive) }
+        ensures history { self.new.history ≡ self.old.history }
+        ensures archive { Learns (E.worker self.old.archive) (E.worker mine.old) (E.worker self.new.archive) }
+        ensures mine { Learns (E.worker mine.old) (E.worker self.old.archive) (E.worker mine.new) }
+    {
+        let _ = &self.archive;
+        exchange(mine, &mut self.archive);
+    }
+
     /// Each name of the list has its relation from here on, that of its last place, or all names stay. An assignment
     /// is entered for each place, in order. The archive learns the relations, with all that stands in the worker that
     /// has them.

@@ -11,7 +11,7 @@ use std::marker::Model;
 
 /// A name that is ordered by its bytes.
 #[derive(Drop)]
-pub(crate) struct Key {
+pub struct Key {
     name: Name,
 }
 
@@ -25,14 +25,14 @@ impl Model for Key {
 
 impl Key {
     /// This name as a key.
-    pub(crate) fn of(name: Name) -> Key
+    pub fn of(name: Name) -> Key
         ensures { result ≡ name }
     {
         Key { name }
     }
 
     /// The key as a name.
-    pub(crate) fn into_name(self) -> Name
+    pub fn into_name(self) -> Name
         ensures { result ≡ self }
     {
         let Key { name } = self;
@@ -40,7 +40,7 @@ impl Key {
     }
 
     /// Its name.
-    pub(crate) fn name(&self) -> &Name
+    pub fn name(&self) -> &Name
         ensures { result.now ≡ self.now }
     {
         &self.name

@@ -11,5 +11,6 @@ mod reading;
 mod refused;
 
 pub use book::Book;
+pub use key::Key;
 pub use reading::View;
 pub use refused::DropRefused;

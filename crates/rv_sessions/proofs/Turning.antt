@@ -1,0 +1,92 @@
+-- A turn of a command, from what the book and its call say.
+use Rattle.std.proofs.Common.{◌≡◌, ◌∙◌, ℕ, false, List, [], ◌∷◌, ◌++◌, append-nil, length, drop, Result, Ok, Err, Option, refl, sym, ap, subst}
+use Rattle.std.specs.Prelude.{OnOk, OnErr, IfOk}
+use Rattle.rel_model.specs.declared.NoMemory.{NoMemory}
+use Rattle.rel_model.specs.declared.Rel.{Rel}
+use Rattle.rel_model.specs.Seats.{Holds, Learns, Stays}
+use Rattle.rel_model.specs.Worker.{Worker, Stands}
+use Rattle.run_model.specs.declared.event.Event.{Event}
+use Rattle.run_model.specs.Names.{lookup}
+use Rattle.run_model.specs.Carried.{carried}
+use Rattle.run_model.specs.Turns.{BeginsLog}
+use Rattle.turn_book.specs.Views.{View as PASS, IsKept, with_turn, with_log}
+use Rattle.rv_workspace.specs.declared.reading.View.{View}
+use Rattle.rv_workspace.specs.declared.refused.DropRefused.{DropRefused}
+use Rattle.rv_workspace.specs.Books.{HistoryStands}
+use Rattle.rv_workspace.specs.Entering.{read_of, assign_of, drop_entries, IsDropAnswer}
+use Rattle.rv_workspace.specs.Picking.{picked}
+use Rattle.rv_workspace.proofs.Keeping.{held_stands}
+use Rattle.rv_workspace.proofs.Replaying.{history_stands}
+use Rattle.rv_sessions.specs.Turning.{TookTurn, ReadTurn, AssignTurn, DropTurn}
+
+-- what stands in an archive stands where that was learnt
+pub learnt : (archive mine new : Worker) (log : List Event) → HistoryStands archive log → Learns mine archive new → HistoryStands new log
+learnt archive mine new log h l = history_stands archive new (λ r s. held_stands archive new r l.other_holds s) log h
+
+-- behind a list stands what was added to it
+pub drop-append : (xs ys : List Event) → drop (length xs) (xs ++ ys) ≡ ys
+drop-append [] ys = refl
+drop-append (x ∷ xs) ys = drop-append xs ys
+
+-- a log that goes back begins with the one that was taken
+pub begins_back : (log history puts : List Event) (mid before : PASS) → mid ≡ with_turn log before → history ≡ log ++ puts →
+    BeginsLog mid.seen history
+begins_back log history puts mid before m e = (puts, e ∙ ap (λ xs. xs ++ puts) (sym (ap (λ p. p.seen) m)))
+
+-- a pass that took a turn and gave it back
+pub took : (old new : Worker) (before mid after : PASS) (log history puts : List Event) → before.turn ≡ false →
+    mid ≡ with_turn log before → BeginsLog before.seen log → after ≡ with_log history mid → history ≡ log ++ puts →
+    HistoryStands new log → Stays old new → TookTurn old new before after log puts
+took old new before mid after log history puts idle m b a e h s =
+    let all : after ≡ with_log (log ++ puts) (with_turn log before) =
+    a ∙ ap (λ z. with_log z mid) e ∙ ap (with_log (log ++ puts)) m in
+    subst (λ p. TookTurn old new before p log puts) (sym all)
+    (record {
+      begins = b;
+      seen = refl;
+      mine = ap (λ z. before.mine ++ z) (drop-append log puts);
+      kept = record { book = refl; house = refl; start = refl; joined = refl; spare = refl; turn = sym idle };
+      stand = h;
+      stays = s;
+    })
+
+-- a history that stays is what was there with nothing behind it
+pub with_nothing : (log history : List Event) → history ≡ log → history ≡ log ++ []
+with_nothing log history e = e ∙ sym (append-nil log)
+
+-- ---- a read
+pub read_begins : (s c : ℕ) (result : Result View NoMemory) (log history : List Event) (mid before : PASS) →
+    mid ≡ with_turn log before → OnOk result (history ≡ log ++ read_of s c ∷ []) → OnErr result (history ≡ log) →
+    BeginsLog mid.seen history
+read_begins s c (Ok view) log history mid before m e d = begins_back log history (read_of s c ∷ []) mid before m e
+read_begins s c (Err refused) log history mid before m e d = begins_back log history [] mid before m (with_nothing log history d)
+
+pub read_took : (s c : ℕ) (wanted : Option (List (List ℕ))) (old new : Worker) (before mid after : PASS)
+    (log history : List Event) (result : Result View NoMemory) → before.turn ≡ false →
+    mid ≡ with_turn log before → BeginsLog before.seen log → after ≡ with_log history mid →
+    OnOk result (history ≡ log ++ read_of s c ∷ []) → OnErr result (history ≡ log) →
+    IfOk result (λ v. v.names.items ≡ picked wanted (carried log)) →
+    HistoryStands new log → Stays old new → ReadTurn s c wanted old new before after result
+read_took s c wanted old new before mid after log history (Ok view) idle m b a e d n h t =
+    (log, took old new before mid after log history (read_of s c ∷ []) idle m b a e h t, n)
+read_took s c wanted old new before mid after log history (Err refused) idle m b a e d n h t =
+    (log, took old new before mid after log history [] idle m b a (with_nothing log history d) h t)
+
+-- ---- an assignment
+pub assign_begins : (s c : ℕ) (name : List ℕ) (rel : Rel) (result : Result (Unit {0}) NoMemory) (log history : List Event)
+    (mid before : PASS) → mid ≡ with_turn log before → OnOk result (history ≡ log ++ assign_of s c (name, rel) ∷ []) →
+    OnErr result (history ≡ log) → BeginsLog mid.seen history
+assign_begins s c name rel (Ok done) log history mid before m e d =
+    begins_back log history (assign_of s c (name, rel) ∷ []) mid before m e
+assign_begins s c name rel (Err refused) log history mid before m e d =
+    begins_back log history [] mid before m (with_nothing log history d)
+
+pub assign_took : (s c : ℕ) (name : List ℕ) (rel : Rel) (old new : Worker) (before mid after : PASS)
+    (log history : List Event) (result : Result (Unit {0}) NoMemory) → before.turn ≡ false →
+    mid ≡ with_turn log before → BeginsLog before.seen log → after ≡ with_log history mid →
+    OnOk result (history ≡ log ++ assign_of s c (name, rel) ∷ []) → OnErr result (history ≡ log) →
+    HistoryStands new log → Stays old new → AssignTurn s c name rel old new before after result
+assign_took s c name rel old new before mid after log history (Ok done) idle m b a e d h t =
+    (log, took old new before mid after log history (assign_of s c (name, rel) ∷ []) idle m b a e h t)
+assign_took s c name rel old new before mid after log history (Err refused) idle m b a e d h t =
+    (log, took old new before mid after log history [] idle m b a (with_nothing log history d) h t)

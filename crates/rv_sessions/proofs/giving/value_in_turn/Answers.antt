@@ -1,0 +1,25 @@
+use Rattle.std.proofs.Common.{◌∙◌, inr}
+use Rattle.rv_sessions.proofs.Looking.{wanted_stand}
+use Rattle.rv_sessions.proofs.Acting.{was_valued}
+use Rattle.rv_sessions.proofs.giving.value_in_turn.Goals as goal
+
+pub value_on-requires : goal.value_on-requires
+value_on-requires g c =
+    let r = c.in-Ok-read_turn.ensures.read in
+    record {
+      standing = wanted_stand (g.E.Core.worker c.read_turn.new.engine) c.as_slice.result.now r.0 c.as_slice-in-Ok-read_turn.result.now r.1.stand
+          (c.as_slice-in-Ok-read_turn.ensures.value ∙ r.2);
+    }
+
+pub returns-in-Ok-read_turn-clause-value : goal.returns-in-Ok-read_turn-clause-value
+returns-in-Ok-read_turn-clause-value g c input i =
+    let w = g.E.Core.worker in
+    let r = c.in-Ok-read_turn.ensures.read in
+    let s = c.value_on in
+    inr (
+      r.0,
+      was_valued g.E.Core.least input c.args.checked.now c.args.by.session c.args.by.command c.args.expr.now
+          (w c.args.engine.now) (w c.read_turn.new.engine) (w s.new.engine) c.args.pass.now c.read_turn.new.pass r.0 c.args.turns
+          c.as_slice.result.now c.as_slice-in-Ok-read_turn.result.now s.result
+          r.1 (c.as_slice.ensures.value ∙ c.in-Ok.ensures) (c.as_slice-in-Ok-read_turn.ensures.value ∙ r.2) s.ensures.keeps s.ensures.came s.ensures.room i,
+    )

@@ -1,0 +1,96 @@
+use Rattle.std.proofs.Common.{sym, subst}
+use Rattle.lang_model.specs.declared.syntax.Item.TheVariants.{Command as COMMAND}
+use Rattle.lang_model.specs.declared.syntax.Command.TheVariants.{Print as PRINT, List as LIST, Count as COUNT, Typed as TYPED, Save as SAVE}
+use Rattle.rv_sessions.specs.Telling.{input_of}
+use Rattle.rv_sessions.specs.Acting.{DidItem}
+use Rattle.rv_sessions.proofs.Given.{given_turns, given_files}
+use Rattle.rv_sessions.proofs.Items.{print_item, list_item, count_item, type_item, save_item}
+use Rattle.rv_sessions.proofs.item.run_command.Goals as goal
+
+pub returns-in-Relation : goal.returns-in-Relation
+returns-in-Relation g c =
+    let a = c.args in
+    let w = g.E.Core.worker in
+    let i = input_of a.files.now a.turns in
+    subst (λ x. DidItem g.E.Core.least i a.checked.now a.by.session a.by.command (COMMAND x) (w a.engine.now) (w c.relation.new.engine) a.pass.now c.relation.new.pass a.snaps.now a.snaps.now c.relation.result)
+    (sym c.in-Relation.is) (c.relation.ensures i a.checked.now a.snaps.now c.requires.stood)
+
+pub returns-in-Let : goal.returns-in-Let
+returns-in-Let g c =
+    let a = c.args in
+    let w = g.E.Core.worker in
+    let i = input_of a.files.now a.turns in
+    subst (λ x. DidItem g.E.Core.least i a.checked.now a.by.session a.by.command (COMMAND x) (w a.engine.now) (w c.let_value.new.engine) a.pass.now c.let_value.new.pass a.snaps.now a.snaps.now c.let_value.result)
+    (sym c.in-Let.is) (c.let_value.ensures i a.snaps.now (given_turns a.files.now a.turns) c.requires.stood)
+
+pub returns-in-Print : goal.returns-in-Print
+returns-in-Print g c =
+    let a = c.args in
+    let w = g.E.Core.worker in
+    let i = input_of a.files.now a.turns in
+    subst (λ x. DidItem g.E.Core.least i a.checked.now a.by.session a.by.command (COMMAND x) (w a.engine.now) (w c.show.new.engine) a.pass.now c.show.new.pass a.snaps.now a.snaps.now c.show.result)
+    (sym c.in-Print.is) (c.show.ensures i a.snaps.now (COMMAND (PRINT c.in-Print.value)) (given_turns a.files.now a.turns) c.requires.stood (print_item c.in-Print.value))
+
+pub returns-in-List : goal.returns-in-List
+returns-in-List g c =
+    let a = c.args in
+    let w = g.E.Core.worker in
+    let i = input_of a.files.now a.turns in
+    subst (λ x. DidItem g.E.Core.least i a.checked.now a.by.session a.by.command (COMMAND x) (w a.engine.now) (w c.show-in-List.new.engine) a.pass.now c.show-in-List.new.pass a.snaps.now a.snaps.now c.show-in-List.result)
+    (sym c.in-List.is) (c.show-in-List.ensures i a.snaps.now (COMMAND (LIST c.in-List.value)) (given_turns a.files.now a.turns) c.requires.stood (list_item c.in-List.value))
+
+pub returns-in-Count : goal.returns-in-Count
+returns-in-Count g c =
+    let a = c.args in
+    let w = g.E.Core.worker in
+    let i = input_of a.files.now a.turns in
+    subst (λ x. DidItem g.E.Core.least i a.checked.now a.by.session a.by.command (COMMAND x) (w a.engine.now) (w c.show-in-Count.new.engine) a.pass.now c.show-in-Count.new.pass a.snaps.now a.snaps.now c.show-in-Count.result)
+    (sym c.in-Count.is) (c.show-in-Count.ensures i a.snaps.now (COMMAND (COUNT c.in-Count.value)) (given_turns a.files.now a.turns) c.requires.stood (count_item c.in-Count.value))
+
+pub returns-in-Typed : goal.returns-in-Typed
+returns-in-Typed g c =
+    let a = c.args in
+    let w = g.E.Core.worker in
+    let i = input_of a.files.now a.turns in
+    subst (λ x. DidItem g.E.Core.least i a.checked.now a.by.session a.by.command (COMMAND x) (w a.engine.now) (w c.show-in-Typed.new.engine) a.pass.now c.show-in-Typed.new.pass a.snaps.now a.snaps.now c.show-in-Typed.result)
+    (sym c.in-Typed.is) (c.show-in-Typed.ensures i a.snaps.now (COMMAND (TYPED c.in-Typed.value)) (given_turns a.files.now a.turns) c.requires.stood (type_item c.in-Typed.value))
+
+pub returns-in-Remove : goal.returns-in-Remove
+returns-in-Remove g c =
+    let a = c.args in
+    let w = g.E.Core.worker in
+    let i = input_of a.files.now a.turns in
+    subst (λ x. DidItem g.E.Core.least i a.checked.now a.by.session a.by.command (COMMAND x) (w a.engine.now) (w c.drop_name.new.engine) a.pass.now c.drop_name.new.pass a.snaps.now a.snaps.now c.drop_name.result)
+    (sym c.in-Remove.is) (c.drop_name.ensures i a.checked.now a.snaps.now c.requires.stood)
+
+pub returns-in-Snap : goal.returns-in-Snap
+returns-in-Snap g c =
+    let a = c.args in
+    let w = g.E.Core.worker in
+    let i = input_of a.files.now a.turns in
+    subst (λ x. DidItem g.E.Core.least i a.checked.now a.by.session a.by.command (COMMAND x) (w a.engine.now) (w c.snap.new.engine) a.pass.now c.snap.new.pass a.snaps.now c.snap.new.snaps c.snap.result)
+    (sym c.in-Snap.is) (c.snap.ensures i a.checked.now)
+
+pub returns-in-At : goal.returns-in-At
+returns-in-At g c =
+    let a = c.args in
+    let w = g.E.Core.worker in
+    let i = input_of a.files.now a.turns in
+    subst (λ x. DidItem g.E.Core.least i a.checked.now a.by.session a.by.command (COMMAND x) (w a.engine.now) (w c.show_at.new.engine) a.pass.now a.pass.now a.snaps.now a.snaps.now c.show_at.result)
+    (sym c.in-At.is) (c.show_at.ensures i a.pass.now (given_turns a.files.now a.turns))
+
+pub returns-in-Load : goal.returns-in-Load
+returns-in-Load g c =
+    let a = c.args in
+    let w = g.E.Core.worker in
+    let i = input_of a.files.now a.turns in
+    subst (λ x. DidItem g.E.Core.least i a.checked.now a.by.session a.by.command (COMMAND x) (w a.engine.now) (w c.load.new.engine) a.pass.now c.load.new.pass a.snaps.now a.snaps.now c.load.result)
+    (sym c.in-Load.is) (c.load.ensures i a.checked.now a.snaps.now (given_files a.files.now a.turns) c.requires.stood)
+
+pub returns-in-Save : goal.returns-in-Save
+returns-in-Save g c =
+    let a = c.args in
+    let w = g.E.Core.worker in
+    let i = input_of a.files.now a.turns in
+    subst (λ x. DidItem g.E.Core.least i a.checked.now a.by.session a.by.command (COMMAND x) (w a.engine.now) (w c.save.new.engine) a.pass.now c.save.new.pass a.snaps.now a.snaps.now c.save.result)
+    (sym c.in-Save.is) (c.save.ensures i a.snaps.now (COMMAND (SAVE c.in-Save.value c.in-Save.file)) (given_turns a.files.now a.turns) c.requires.stood (save_item c.in-Save.value c.in-Save.file))

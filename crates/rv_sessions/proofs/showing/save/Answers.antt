@@ -1,0 +1,45 @@
+use Rattle.std.proofs.Common.{Ok, Err, refl}
+use Rattle.run_model.specs.Due.{saved}
+use Rattle.rv_sessions.specs.declared.form.Form.TheVariants.{File}
+use Rattle.rv_sessions.proofs.Acting.{unread_did}
+use Rattle.rv_sessions.proofs.Telling.{plain, untouched, shown_not_done, save_ok, save_err}
+use Rattle.rv_sessions.proofs.showing.save.Goals as goal
+
+pub returns-in_default : goal.returns-in_default
+returns-in_default g c input snaps item i stood v =
+    let a = c.args in
+    let w = g.E.Core.worker a.engine.now in
+    unread_did g.E.Core.least input a.checked.now a.by.session a.by.command item a.expr.now saved w w a.pass.now a.pass.now snaps v.reading stood
+    (untouched w a.pass.now)
+
+pub refused-requires : goal.refused-requires
+refused-requires g c =
+    let a = c.args in
+    let w = g.E.Core.worker in
+    let p = plain a.turns in
+    shown_not_done g.E.Core.least File p a.checked.now a.by.session a.by.command a.expr.now (w a.engine.now)
+    (w c.shown_in_turn.new.engine) a.pass.now c.shown_in_turn.new.pass c.in-Err.outcome (c.in-Err.ensures p refl)
+
+pub returns-in-Ok-shown_in_turn : goal.returns-in-Ok-shown_in_turn
+returns-in-Ok-shown_in_turn g c input snaps item i stood v =
+    let a = c.args in
+    let w = g.E.Core.worker in
+    save_ok g.E.Core.least File input a.checked.now a.by.session a.by.command item a.expr.now (w a.engine.now)
+    (w c.shown_in_turn.new.engine) a.pass.now c.shown_in_turn.new.pass snaps a.file.now c.in-Ok.name c.in-Ok-shown_in_turn.bytes.items
+    c.in-Ok.ensures v stood (c.in-Ok-shown_in_turn.ensures input i)
+
+pub returns-in-Ok-refused : goal.returns-in-Ok-refused
+returns-in-Ok-refused g c input snaps item i stood v =
+    let a = c.args in
+    let w = g.E.Core.worker in
+    save_err g.E.Core.least File input a.checked.now a.by.session a.by.command item a.expr.now (w a.engine.now)
+    (w c.shown_in_turn.new.engine) a.pass.now c.shown_in_turn.new.pass snaps a.file.now c.in-Err.outcome (Ok c.in-Ok-refused.told)
+    v stood (c.in-Err.ensures input i) c.in-Ok-refused.ensures
+
+pub returns : goal.returns
+returns g c input snaps item i stood v =
+    let a = c.args in
+    let w = g.E.Core.worker in
+    save_err g.E.Core.least File input a.checked.now a.by.session a.by.command item a.expr.now (w a.engine.now)
+    (w c.shown_in_turn.new.engine) a.pass.now c.shown_in_turn.new.pass snaps a.file.now c.in-Err.outcome (Err c.in-Err-refused.lack)
+    v stood (c.in-Err.ensures input i) tt

@@ -1,0 +1,32 @@
+use Rattle.std.proofs.Common.{◌∙◌, ◌++◌, ap, subst}
+use Rattle.run_model.specs.Names.{lookup}
+use Rattle.run_model.specs.Carried.{carried}
+use Rattle.rv_workspace.specs.Entering.{drop_entries, IsDropAnswer}
+use Rattle.rv_sessions.proofs.Turning.{learnt, begins_back, took}
+use Rattle.rv_sessions.proofs.turns.drop_turn.Goals as goal
+
+pub put-requires-clause-begins : goal.put-requires-clause-begins
+put-requires-clause-begins g c =
+    let t = c.take-taken in
+    let d = c.drop_name-dropped in
+    begins_back t.result.history d.new.self.history (drop_entries c.args.by.session c.args.by.command c.args.name.now d.result) t.new.pass c.args.pass.now
+    t.ensures.takes (d.ensures.entered ∙ ap (λ z. z ++ drop_entries c.args.by.session c.args.by.command c.args.name.now d.result) c.teach.ensures.history)
+
+pub returns : goal.returns
+returns g c =
+    let t = c.take-taken in
+    let d = c.drop_name-dropped in
+    let w = g.E.Core.worker in
+    let n = c.args.name.now in
+    let puts = drop_entries c.args.by.session c.args.by.command n d.result in
+    record {
+      dropped = (
+        t.result.history,
+        took (w c.args.engine.now) (w c.teach.new.mine) c.args.pass.now t.new.pass c.put.new.pass t.result.history d.new.self.history puts
+            c.requires.ready.idle t.ensures.takes t.ensures.begins c.put.ensures
+            (d.ensures.entered ∙ ap (λ z. z ++ puts) c.teach.ensures.history)
+            (learnt (w t.result.archive) (w c.args.engine.now) (w c.teach.new.mine) t.result.history c.history.ensures.book.stand c.teach.ensures.mine)
+            c.teach.ensures.mine.stays,
+        subst (λ h. IsDropAnswer (lookup (carried h) n) n d.result) c.teach.ensures.history d.ensures.answer,
+      );
+    }

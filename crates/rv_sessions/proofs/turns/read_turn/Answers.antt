@@ -1,0 +1,25 @@
+use Rattle.std.proofs.Common.{◌≡◌, ◌∙◌, List, [], ◌∷◌, ◌++◌, Result, Ok, Err, refl, sym, ap}
+use Rattle.run_model.specs.Carried.{carried}
+use Rattle.rv_sessions.specs.Turning.{ReadTurn}
+use Rattle.rv_sessions.proofs.Turning.{learnt, begins_back, took, with_nothing, read_begins, read_took}
+use Rattle.rv_sessions.proofs.turns.read_turn.Goals as goal
+
+pub put-requires-clause-begins : goal.put-requires-clause-begins
+put-requires-clause-begins g c =
+    let t = c.take-taken in
+    let r = c.read-view in
+    read_begins c.args.by.session c.args.by.command r.result t.result.history r.new.self.history t.new.pass c.args.pass.now
+    t.ensures.takes r.ensures.entered r.ensures.as_before
+
+pub returns : goal.returns
+returns g c =
+    let t = c.take-taken in
+    let r = c.read-view in
+    let w = g.E.Core.worker in
+    record {
+      read = read_took c.args.by.session c.args.by.command _ (w c.args.engine.now) (w r.new.mine) c.args.pass.now t.new.pass c.put.new.pass
+          t.result.history r.new.self.history r.result c.requires.ready.idle t.ensures.takes t.ensures.begins c.put.ensures
+          r.ensures.entered r.ensures.as_before r.ensures.names
+          (learnt (w t.result.archive) (w c.args.engine.now) (w r.new.mine) t.result.history c.history.ensures.book.stand r.ensures.mine)
+          r.ensures.mine.stays;
+    }

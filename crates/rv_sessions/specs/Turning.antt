@@ -1,0 +1,43 @@
+-- What each kind of turn of a command does.
+use Rattle.std.specs.Prelude.{◌≡◌, ◌++◌, ℕ, List, [], ◌∷◌, Option, Result, Ok, Err}
+use Rattle.rel_model.specs.declared.NoMemory.{NoMemory}
+use Rattle.rel_model.specs.declared.Rel.{Rel}
+use Rattle.rel_model.specs.Seats.{Stays}
+use Rattle.rel_model.specs.Worker.{Worker}
+use Rattle.run_model.specs.declared.event.Event.{Event}
+use Rattle.run_model.specs.Names.{lookup}
+use Rattle.run_model.specs.Carried.{carried}
+use Rattle.run_model.specs.Turns.{BeginsLog}
+use Rattle.turn_book.specs.Views.{View as PASS, IsKept}
+use Rattle.rv_workspace.specs.declared.reading.View.{View}
+use Rattle.rv_workspace.specs.declared.refused.DropRefused.{DropRefused}
+use Rattle.rv_workspace.specs.Books.{HistoryStands}
+use Rattle.rv_workspace.specs.Entering.{read_of, assign_of, drop_entries, IsDropAnswer}
+use Rattle.rv_workspace.specs.Picking.{picked}
+
+-- a turn took this log, whose relations stand in the worker then, and put these events behind it
+pub record TookTurn (old new : Worker) (before after : PASS) (log puts : List Event) : Type 0 where
+  pub begins : BeginsLog before.seen log
+  pub seen : after.seen ≡ log ++ puts
+  pub mine : after.mine ≡ before.mine ++ puts
+  pub kept : IsKept before after
+  pub stand : HistoryStands new log
+  pub stays : Stays old new
+
+-- a read: the wanted names of the log that was taken; or memory ran out, and nothing was put
+abbrev pub ReadTurn : ℕ → ℕ → Option (List (List ℕ)) → Worker → Worker → PASS → PASS → Result View NoMemory → Type 0
+ReadTurn s c wanted old new before after (Ok view) =
+    (log : List Event) × TookTurn old new before after log (read_of s c ∷ []) × (view.names.items ≡ picked wanted (carried log))
+ReadTurn s c wanted old new before after (Err refused) = (log : List Event) × TookTurn old new before after log []
+
+-- an assignment; or memory ran out, and nothing was put
+abbrev pub AssignTurn : ℕ → ℕ → List ℕ → Rel → Worker → Worker → PASS → PASS → Result (Unit {0}) NoMemory → Type 0
+AssignTurn s c name rel old new before after (Ok done) =
+    (log : List Event) × TookTurn old new before after log (assign_of s c (name, rel) ∷ [])
+AssignTurn s c name rel old new before after (Err refused) = (log : List Event) × TookTurn old new before after log []
+
+-- a drop of a name: its removal, or its read where it is unknown; or memory ran out, and nothing was put
+abbrev pub DropTurn : ℕ → ℕ → List ℕ → Worker → Worker → PASS → PASS → Result (Unit {0}) DropRefused → Type 0
+DropTurn s c name old new before after result =
+    (log : List Event) × TookTurn old new before after log (drop_entries s c name result)
+    × IsDropAnswer (lookup (carried log) name) name result

@@ -1,0 +1,173 @@
+//! DROP, and the two commands of snapshots.
+ghost use Rattle.std.specs.Prelude.{◌≡◌, ℕ, List, Some};
+ghost use Rattle.lang_model.specs.declared.syntax.Place.{Place as PLACE};
+ghost use Rattle.run_model.specs.Names.{lookup};
+ghost use Rattle.lang_model.specs.declared.syntax.Script.{Script as SCRIPT};
+ghost use Rattle.lang_model.specs.declared.syntax.Item.TheVariants.{Command as COMMAND};
+ghost use Rattle.lang_model.specs.declared.syntax.Command.TheVariants.{Remove as DROP, Snap as SNAP, At as AT};
+ghost use Rattle.run_model.specs.Inputs.{Input};
+ghost use Rattle.turn_book.specs.Views.{View as PASS, IsReady};
+ghost use Rattle.rv_sessions.specs.Acting.{DidItem};
+ghost use Rattle.rv_sessions.specs.Standing.{AllNamesStand, Kept, KeptStand};
+
+use crate::by::By;
+use crate::form::Form;
+use crate::snapshots::Snapshots;
+use crate::told::{Told, refused};
+use crate::transcript::Reply;
+use crate::turns::{drop_turn, read_turn};
+use crate::value::shown_on;
+use lang_model::faults::TypeFault;
+use lang_model::syntax::{Expr, Name, Place};
+use rel_model::NoMemory;
+use rel_model::engine_trait::Engine;
+use run_model::outcome::Outcome;
+use rv_types::Checked;
+use rv_workspace::{Book, DropRefused, Key, View};
+use std::alloc::Global;
+use std::sync::Wait;
+use turn_book::{Pass, TurnBook};
+
+/// Runs DROP: the removal of a name, or one read where there is no such name.
+pub(crate) fn drop_name<E: Engine, W: Wait>(
+    alloc: Global,
+    by: By,
+    book: &TurnBook<Book<E>>,
+    wait: &W,
+    pass: &mut Pass<Book<E>>,
+    engine: &mut E,
+    at: Place,
+    name: &Name,
+) -> Result<Told, NoMemory>
+    requires ready { IsReady book.now pass.old }
+    requires kin { pass.old.house ≡ (E.worker engine.old).house }
+    ensures { (input : Input) (script : SCRIPT) (snaps : Kept) → KeptStand (E.worker engine.old) snaps →
+        DidItem E.least input script by.session by.command (COMMAND (DROP at name.now)) (E.worker engine.old)
+        (E.worker engine.new) pass.old pass.new snaps snaps result }
+{
+    match drop_turn(alloc, by, book, wait, pass, engine, name) {
+        Ok(()) => Ok(Told::done()),
+        Err(DropRefused::Unknown { name }) => {
+            match refused(alloc, by, Outcome::Ill(TypeFault::Unknown { at, name })) {
+                Ok(told) => Ok(told),
+                Err(lack) => Err(lack),
+            }
+        }
+        Err(DropRefused::NoMemory) => Err(NoMemory),
+    }
+}
+
+/// Runs SNAP: one read of all names, which are kept under a name.
+pub(crate) fn snap<E: Engine, W: Wait>(
+    alloc: Global,
+    by: By,
+    book: &TurnBook<Book<E>>,
+    wait: &W,
+    pass: &mut Pass<Book<E>>,
+    engine: &mut E,
+    snaps: &mut Snapshots,
+    name: &Name,
+) -> Result<Told, NoMemory>
+    requires ready { IsReady book.now pass.old }
+    requires kin { pass.old.house ≡ (E.worker engine.old).house }
+    requires stood { KeptStand (E.worker engine.old) snaps.old }
+    ensures { (input : Input) (script : SCRIPT) →
+        DidItem E.least input script by.session by.command (COMMAND (SNAP name.now)) (E.worker engine.old)
+        (E.worker engine.new) pass.old pass.new snaps.old snaps.new result }
+{
+    let _ = &pass;
+    let _ = &snaps;
+    let Ok(own) = name.copied(alloc) else {
+        return Err(NoMemory);
+    };
+    let view = match read_turn(alloc, by, book, wait, pass, engine, None) {
+        Ok(view) => view,
+        Err(lack) => return Err(lack),
+    };
+    match snaps.keep(own, view) {
+        Ok(()) => Ok(Told::done()),
+        Err(lack) => Err(lack),
+    }
+}
+
+/// The matrix of a value on kept names.
+fn show_kept<E: Engine>(
+    alloc: Global,
+    by: By,
+    checked: &Checked,
+    turns: u64,
+    engine: &mut E,
+    view: &View,
+    expr: &Expr,
+) -> Result<Told, NoMemory>
+    requires stood { AllNamesStand (E.worker engine.old) view.now.names.items }
+    ensures { (input : Input) (pass : PASS) (snaps : Kept) (at : PLACE) (name : List ℕ) → input.turns ≡ turns →
+        KeptStand (E.worker engine.old) snaps → lookup snaps name ≡ Some view.now.names.items →
+        DidItem E.least input checked.now by.session by.command (COMMAND (AT at name expr.now)) (E.worker engine.old)
+        (E.worker engine.new) pass pass snaps snaps result }
+{
+    match shown_on(
+        alloc,
+        engine,
+        checked,
+        turns,
+        view.names.as_slice(),
+        Form::Matrix,
+        expr,
+    ) {
+        Ok(body) => Ok(Told {
+            outcome: Outcome::Done,
+            reply: Reply::Told {
+                session: by.session,
+                command: by.command,
+                body,
+            },
+            save: None,
+        }),
+        Err(outcome) => match refused(alloc, by, outcome) {
+            Ok(told) => Ok(told),
+            Err(lack) => Err(lack),
+        },
+    }
+}
+
+/// Runs AT: the matrix of a value on a snapshot, without a turn.
+pub(crate) fn show_at<E: Engine>(
+    alloc: Global,
+    by: By,
+    checked: &Checked,
+    turns: u64,
+    engine: &mut E,
+    snaps: &Snapshots,
+    at: Place,
+    name: &Name,
+    expr: &Expr,
+) -> Result<Told, NoMemory>
+    requires stood { KeptStand (E.worker engine.old) snaps.now }
+    ensures { (input : Input) (pass : PASS) → input.turns ≡ turns →
+        DidItem E.least input checked.now by.session by.command (COMMAND (AT at name.now expr.now)) (E.worker engine.old)
+        (E.worker engine.new) pass pass snaps.now snaps.now result }
+{
+    let _ = engine.bottom();
+    let Ok(own) = name.copied(alloc) else {
+        return Err(NoMemory);
+    };
+    let Ok(text) = name.copied(alloc) else {
+        return Err(NoMemory);
+    };
+    let key = Key::of(own);
+    match snaps.get(&key) {
+        Some(view) => match show_kept(alloc, by, checked, turns, engine, view, expr) {
+            Ok(told) => Ok(told),
+            Err(lack) => Err(lack),
+        },
+        None => match refused(
+            alloc,
+            by,
+            Outcome::Ill(TypeFault::Unknown { at, name: text }),
+        ) {
+            Ok(told) => Ok(told),
+            Err(lack) => Err(lack),
+        },
+    }
+}

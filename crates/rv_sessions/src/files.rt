@@ -1,0 +1,19 @@
+//! The relation files of the command line.
+ghost use Rattle.std.specs.Prelude.{◌≡◌, map};
+ghost use Rattle.std.specs.Option.{option_map};
+ghost use Rattle.run_model.specs.Inputs.{file_named};
+ghost use Rattle.rv_sessions.specs.Telling.{file_of};
+
+use crate::transcript::Loaded;
+
+/// The bytes of the first file of this name.
+pub(crate) fn file_named<'a>(files: &'a [Loaded], name: &[u8]) -> Option<&'a [u8]>
+    ensures { option_map (λ b. b.now) result ≡ file_named (map file_of files.now) name.now }
+{
+    'files: for file in files {
+        if file.name.as_bytes() == name {
+            return Some(file.bytes.as_slice());
+        }
+    }
+    None
+}

@@ -1,0 +1,55 @@
+//! The snapshots of a session: names with the relations that all names had when they were kept.
+ghost use Rattle.std.specs.Prelude.{◌≡◌, [], IfOk, OnOk, OnErr};
+ghost use Rattle.std.specs.Option.{option_map};
+ghost use Rattle.run_model.specs.Names.{lookup, set};
+
+use lang_model::syntax::Name;
+use rel_model::NoMemory;
+use rv_workspace::{Key, View};
+use std::alloc::Global;
+use std::collections::BTreeMap;
+use std::marker::Model;
+
+/// Snapshots by their names, each found in logarithmic time.
+#[derive(Drop)]
+pub(crate) struct Snapshots {
+    map: BTreeMap<Key, View>,
+}
+
+impl Model for Snapshots {
+    ghost use Rattle.rv_sessions.specs.Standing.{Kept};
+    ghost use Rattle.rv_sessions.specs.Keeping.{kept_of};
+
+    ghost Value = { Kept };
+
+    ghost view = { λ s. kept_of s.map.entries };
+}
+
+impl Snapshots {
+    /// No snapshots.
+    pub(crate) fn new(alloc: Global) -> Snapshots
+        ensures { result ≡ [] }
+    {
+        Snapshots {
+            map: BTreeMap::new(alloc),
+        }
+    }
+
+    /// Keeps a snapshot, in place of an earlier one of its name.
+    pub(crate) fn keep(&mut self, name: Name, view: View) -> Result<(), NoMemory>
+        ensures value { OnOk result (self.new ≡ set name view.names.items self.old) }
+        ensures err { OnErr result (self.new ≡ self.old) }
+    {
+        match self.map.insert(Key::of(name), view) {
+            Ok(_) => Ok(()),
+            Err(_) => Err(NoMemory),
+        }
+    }
+
+    /// The snapshot of a name.
+    pub(crate) fn get(&self, name: &Key) -> Option<&View>
+        ensures { option_map (λ v. v.now.names.items) result ≡ lookup self.now name.now }
+    {
+        self.map.get(name)
+    }
+}

@@ -1,0 +1,16 @@
+use Rattle.std.proofs.Common.{◌∙◌}
+use Rattle.rv_workspace.proofs.Keeping.{archive_stands}
+use Rattle.rv_workspace.proofs.book.Book.teach.Goals as goal
+
+pub invariant_of-self : goal.invariant_of-self
+invariant_of-self g c =
+    let w = g.E.Core.worker in
+    let i = c.self.invariant in
+    let l = c.exchange.ensures.other in (
+      i.0,
+      record {
+        stand = archive_stands (w c.self.inside.archive) (w c.args.mine.now) (w c.exchange.new.other) c.self.inside.history.items l i.1.stand;
+        spare = l.stays.keeps.spare ∙ i.1.spare;
+        made = l.stays.made ∙ i.1.made;
+      },
+    )
