@@ -11,13 +11,19 @@ const SCRIPT_LIMIT: usize = 1_048_576;
 #[test]
 fn words_outside_the_set_are_answered_by_the_usage_line(rt: HostRuntime) -> Result<(), Fail> {
     let alloc = rt.alloc();
-    for words in [
-        [].as_slice(),
-        ["--workers", "0", "a.rv"].as_slice(),
-        ["--turns", "5", "--turns", "5", "a.rv"].as_slice(),
-        ["--gen", "1", "a.rv"].as_slice(),
-        ["a.k2"].as_slice(),
-        ["-"].as_slice(),
+    for (words, what) in [
+        ([].as_slice(), "no word"),
+        (["--workers", "0", "a.rv"].as_slice(), "no worker"),
+        (
+            ["--turns", "5", "--turns", "5", "a.rv"].as_slice(),
+            "an option twice",
+        ),
+        (
+            ["--gen", "1", "a.rv"].as_slice(),
+            "a file beside generated scripts",
+        ),
+        (["a.k2"].as_slice(), "no script"),
+        (["-"].as_slice(), "a hyphen alone"),
     ] {
         // A shelf whose call 0 fails is not asked.
         let ran = run_with(
@@ -28,8 +34,8 @@ fn words_outside_the_set_are_answered_by_the_usage_line(rt: HostRuntime) -> Resu
             0,
             NEVER,
         )?;
-        assert_written(&rt, &ran, USAGE, 2, "words outside the set")?;
-        assert_stopped(&rt, &ran, "words outside the set");
+        assert_written(&rt, &ran, USAGE, 2, what)?;
+        assert_stopped(&rt, &ran, what);
         assert_eq!(rt; ran.shelf_faults, 0);
     }
     Ok(())
