@@ -45,10 +45,11 @@ AreTaken files (word ∷ words) [] = ⊥
 abbrev pub AreWithin : Option Files → List Word → Type 0
 AreWithin files = AllByRecursion (λ word. (bytes : List ℕ) × IsTaken files word bytes)
 
--- the names of relation files, and their bytes
+-- the names of relation files
 abbrev pub names_of : List RelationFile → List Word
 names_of = map (λ file. file.name)
 
+-- their bytes
 abbrev pub bytes_of : List RelationFile → List (List ℕ)
 bytes_of = map (λ file. file.bytes)
 
