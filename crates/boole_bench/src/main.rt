@@ -3,7 +3,7 @@
 
 ghost use Rattle.std.specs.Prelude.{◌≡◌, ◌<◌, ◌≤◌, ◌+◌, IfOk};
 ghost use Rattle.rel_model.specs.Trees.{bottom_height, top_height};
-ghost use Rattle.rel_model.specs.Quads.{Work, IsWork, QuadStands};
+ghost use Rattle.rel_model.specs.Quads.{Keeper, IsKeeper, QuadStands};
 ghost use Rattle.boole_bench.specs.Holding.{Holds, Made};
 
 use pair_table::{Missed, PairTable};
@@ -45,7 +45,7 @@ fn random_block(seed: u64, chance: u64) -> (u64, u64) {
 fn random_quad(nodes: &mut Nodes, height: u8, seed: u64, chance: u64) -> Result<(Quad, u64), Missed>
     requires low { bottom_height ≤ height }
     requires high { height ≤ top_height }
-    requires work { IsWork nodes.old }
+    requires work { IsKeeper nodes.old }
     ensures made { IfOk result (λ x. Made nodes.new height x.0) }
     ensures holds { Holds nodes.old nodes.new }
 {
@@ -86,7 +86,7 @@ fn name_of(found: Result<Quad, Missed>) -> u32 {
 
 /// The name of an operator's result, or 0 where the table is full.
 fn applied(nodes: &mut Nodes, operator: Operator, a: Quad, b: Quad) -> u32
-    requires work { IsWork nodes.old }
+    requires work { IsKeeper nodes.old }
     requires a_stands { QuadStands nodes.old a }
     requires b_stands { QuadStands nodes.old b }
     requires one_height { b.height ≡ a.height }
@@ -108,7 +108,7 @@ fn measure<R: Print + Clock>(
     a: Quad,
     b: Quad,
 ) -> io::Result<()>
-    requires work { IsWork nodes.old }
+    requires work { IsKeeper nodes.old }
     requires a_stands { QuadStands nodes.old a }
     requires b_stands { QuadStands nodes.old b }
     requires one_height { b.height ≡ a.height }

@@ -9,7 +9,7 @@ use Rattle.rel_model.specs.Cells.{Cells, no_cells}
 use Rattle.rel_model.specs.Trees.{bottom_height, top_height, cells, stands}
 use Rattle.rel_model.specs.Equations.{depth_of, side_of}
 use Rattle.rel_model.specs.Views.{Table}
-use Rattle.rel_model.specs.Quads.{Work, IsWork, QuadStands, IsQuad, quad_cells, KeepsWork, ReadsWork, Counts, quad_room}
+use Rattle.rel_model.specs.Quads.{Keeper, IsKeeper, QuadStands, IsQuad, quad_cells, KeepsQuads, ReadsQuads, Counts, quad_room}
 use Rattle.rel_model.specs.Roots.{tree_height, relation_room, root_cells, relation_in}
 use Rattle.rel_model.specs.Quarters.{LiesWithin}
 use Rattle.rel_model.specs.Worker.{Stands, set_of, HasQuad, quad_set, Gives, GivesQuad, Keeps, HasCause, MakesAtMost, operator_room}
@@ -56,33 +56,33 @@ tree_fits m n h a b e = subst (Fits m n) (sym e) (
 
 -- ---- quads
 -- a quad that the worker has stands
-pub has_quad-stands : (w : Work) (q : Quad) → HasQuad (worker_of w) q → QuadStands w q
+pub has_quad-stands : (w : Keeper) (q : Quad) → HasQuad (worker_of w) q → QuadStands w q
 has_quad-stands w q h = let s = quad_in-named w.view.words q h in record { low = s.low; high = s.high; standing = s.standing }
 
 -- a quad that stands is one that the worker has, with its set
-pub stands-quad_in : (w : Work) (q : Quad) → IsWork w → QuadStands w q → quad_in w.view.words q ≡ Some (quad_cells w q)
+pub stands-quad_in : (w : Keeper) (q : Quad) → IsKeeper w → QuadStands w q → quad_in w.view.words q ≡ Some (quad_cells w q)
 stands-quad_in w q i s = quad_in-is w.view.words q.height q.name i.of.canonical s.low s.high s.standing
 
-pub stands-has_quad : (w : Work) (q : Quad) → IsWork w → QuadStands w q → HasQuad (worker_of w) q
+pub stands-has_quad : (w : Keeper) (q : Quad) → IsKeeper w → QuadStands w q → HasQuad (worker_of w) q
 stands-has_quad w q i s = subst IsSome (sym (stands-quad_in w q i s)) refl
 
-pub quad_set-cells : (w : Work) (q : Quad) → IsWork w → QuadStands w q → quad_set (worker_of w) q ≡ quad_cells w q
+pub quad_set-cells : (w : Keeper) (q : Quad) → IsKeeper w → QuadStands w q → quad_set (worker_of w) q ≡ quad_cells w q
 quad_set-cells w q i s = ap (λ o. unwrap_or o no_cells) (stands-quad_in w q i s)
 
-pub is_quad-gives : (w : Work) (h : ℕ) (f : Cells) (q : Quad) → IsWork w → IsQuad w h f q → GivesQuad (worker_of w) h f q
+pub is_quad-gives : (w : Keeper) (h : ℕ) (f : Cells) (q : Quad) → IsKeeper w → IsQuad w h f q → GivesQuad (worker_of w) h f q
 is_quad-gives w h f q i s = record { means = stands-quad_in w q i s.stands ∙ ap (λ (c : Cells). Some c) s.means; same_height = s.same_height }
 
 -- ---- relations
 -- the set of a relation that stands
-pub set_of-root : (w : Work) (r : Rel) → Stands (worker_of w) r → set_of (worker_of w) r ≡ relation_of r.rows r.cols (root_cells w.view.words r)
+pub set_of-root : (w : Keeper) (r : Rel) → Stands (worker_of w) r → set_of (worker_of w) r ≡ relation_of r.rows r.cols (root_cells w.view.words r)
 set_of-root w r h = ap (λ o. unwrap_or o (record { rows = 0; cols = 0; pairs = [] })) (rooted-relation_in w.view.words r (relation_in-rooted w.view.words r h))
 
 -- its membership is the set of its root
-pub has-root : (w : Work) (r : Rel) → Stands (worker_of w) r → has (set_of (worker_of w) r) ≡ root_cells w.view.words r
+pub has-root : (w : Keeper) (r : Rel) → Stands (worker_of w) r → has (set_of (worker_of w) r) ≡ root_cells w.view.words r
 has-root w r h = ap has (set_of-root w r h) ∙ has-cells r.rows r.cols (root_cells w.view.words r) (relation_in-rooted w.view.words r h).within
 
 -- its root stands, at the height of its tree
-pub root_stands : (w : Work) (r : Rel) → Stands (worker_of w) r → QuadStands w (root_quad r)
+pub root_stands : (w : Keeper) (r : Rel) → Stands (worker_of w) r → QuadStands w (root_quad r)
 root_stands w r h = record {
   low = height_over-low bottom_height r.rows r.cols;
   high = tree_height-high r.rows r.cols;
@@ -90,14 +90,14 @@ root_stands w r h = record {
 }
 
 -- the same in the words of a call: of the keeper inside a worker, whose root was found
-pub stands_root : (w inside : Work) (r : Rel) (q : Quad) → inside ≡ w → Stands (worker_of w) r → q ≡ root_quad r → QuadStands inside q
-stands_root w inside r q v h e = subst (λ (x : Work). QuadStands x q) (sym v) (subst (QuadStands w) (sym e) (root_stands w r h))
+pub stands_root : (w inside : Keeper) (r : Rel) (q : Quad) → inside ≡ w → Stands (worker_of w) r → q ≡ root_quad r → QuadStands inside q
+stands_root w inside r q v h e = subst (λ (x : Keeper). QuadStands x q) (sym v) (subst (QuadStands w) (sym e) (root_stands w r h))
 
-pub root_within : (w : Work) (r : Rel) → Stands (worker_of w) r → LiesWithin r.rows r.cols (root_cells w.view.words r)
+pub root_within : (w : Keeper) (r : Rel) → Stands (worker_of w) r → LiesWithin r.rows r.cols (root_cells w.view.words r)
 root_within w r h = (relation_in-rooted w.view.words r h).within
 
 -- a quad of that height within the sizes is the root of a relation
-pub is_quad-relation : (w : Work) (m n : ℕ) (f : Cells) (q : Quad) → m ≤ size_limit → n ≤ size_limit → LiesWithin m n f → IsQuad w (tree_height m n) f q → Gives (worker_of w) m n (relation_of m n f) (record { rows = m; cols = n; root = q.name })
+pub is_quad-relation : (w : Keeper) (m n : ℕ) (f : Cells) (q : Quad) → m ≤ size_limit → n ≤ size_limit → LiesWithin m n f → IsQuad w (tree_height m n) f q → Gives (worker_of w) m n (relation_of m n f) (record { rows = m; cols = n; root = q.name })
 is_quad-relation w m n f q a b l s =
     let e : cells w.view.words (depth_of (tree_height m n)) q.name ≡ f = ap (λ (h : ℕ). cells w.view.words (depth_of h) q.name) (sym s.same_height) ∙ s.means in
     let r : IsRooted w.view.words (record { rows = m; cols = n; root = q.name }) = record {
@@ -110,12 +110,12 @@ is_quad-relation w m n f q a b l s =
 
 -- ---- what calls keep
 -- a count never falls
-pub counts_grow : {T E : Type 0} (old new : Work) (r : Result T E) → IsWork old → Counts old new r → old.misses ≤ new.misses
+pub counts_grow : {T E : Type 0} (old new : Keeper) (r : Result T E) → IsKeeper old → Counts old new r → old.misses ≤ new.misses
 counts_grow old new (Ok x) i c = omega (arith, c)
 counts_grow old new (Err e) i c = let b = i.counted in omega (arith, c)
 
 -- all that stood stands
-pub keeps_worker : (most : ℕ) (old new : Work) → KeepsWork most old new → old.misses ≤ new.misses → Keeps (worker_of old) (worker_of new)
+pub keeps_worker : (most : ℕ) (old new : Keeper) → KeepsQuads most old new → old.misses ≤ new.misses → Keeps (worker_of old) (worker_of new)
 keeps_worker most old new k m = record {
   same = λ r h. relation_in-stays old.view.words new.view.words r k.seen k.before.of.canonical k.after.of.canonical h;
   same_quads = λ q h.
@@ -127,35 +127,35 @@ keeps_worker most old new k m = record {
   made = k.grows;
 }
 
-pub keeps_counting : {T E : Type 0} (most : ℕ) (w old new : Work) (r : Result T E) → old ≡ w → KeepsWork most old new → Counts old new r → Keeps (worker_of w) (worker_of new)
-keeps_counting most w old new r v k c = subst (λ (x : Work). Keeps (worker_of x) (worker_of new)) v (keeps_worker most old new k (counts_grow old new r k.before c))
+pub keeps_counting : {T E : Type 0} (most : ℕ) (w old new : Keeper) (r : Result T E) → old ≡ w → KeepsQuads most old new → Counts old new r → Keeps (worker_of w) (worker_of new)
+keeps_counting most w old new r v k c = subst (λ (x : Keeper). Keeps (worker_of x) (worker_of new)) v (keeps_worker most old new k (counts_grow old new r k.before c))
 
-pub keeps_reading : (w old new : Work) → old ≡ w → ReadsWork old new → Keeps (worker_of w) (worker_of new)
-keeps_reading w old new v r = subst (λ (x : Work). Keeps (worker_of x) (worker_of new)) v (keeps_worker 0 old new r.keeps (omega (arith, r.misses)))
+pub keeps_reading : (w old new : Keeper) → old ≡ w → ReadsQuads old new → Keeps (worker_of w) (worker_of new)
+keeps_reading w old new v r = subst (λ (x : Keeper). Keeps (worker_of x) (worker_of new)) v (keeps_worker 0 old new r.keeps (omega (arith, r.misses)))
 
 -- room
-pub makes_room : (m n : ℕ) (old new : Work) → KeepsWork (quad_room (tree_height m n)) old new → MakesAtMost (operator_room m n) (worker_of old) (worker_of new)
+pub makes_room : (m n : ℕ) (old new : Keeper) → KeepsQuads (quad_room (tree_height m n)) old new → MakesAtMost (operator_room m n) (worker_of old) (worker_of new)
 unfolding Rattle.rel_model.specs.Roots.height_over
 makes_room m n old new k = let a = k.room in let b = quad_room-operator m n in omega arith
 
-pub makes_tree : (m n : ℕ) (old new : Work) → KeepsWork (quad_room (tree_height m n)) old new → MakesAtMost (relation_room 3 m n) (worker_of old) (worker_of new)
+pub makes_tree : (m n : ℕ) (old new : Keeper) → KeepsQuads (quad_room (tree_height m n)) old new → MakesAtMost (relation_room 3 m n) (worker_of old) (worker_of new)
 unfolding bottom_height
 makes_tree m n old new k = k.room
 
 -- ---- answers
-pub named_value : {E : Type 0} (w : Work) (m n : ℕ) (f : Cells) (value : Relation) (a : Result Quad E) → m ≤ size_limit → n ≤ size_limit → LiesWithin m n f → relation_of m n f ≡ value → IfOk a (IsQuad w (tree_height m n) f)
+pub named_value : {E : Type 0} (w : Keeper) (m n : ℕ) (f : Cells) (value : Relation) (a : Result Quad E) → m ≤ size_limit → n ≤ size_limit → LiesWithin m n f → relation_of m n f ≡ value → IfOk a (IsQuad w (tree_height m n) f)
     → IfOk (named_as m n a) (Gives (worker_of w) m n value)
 named_value w m n f value (Err e) r c l v h = tt
 named_value w m n f value (Ok q) r c l v h = subst (λ (x : Relation). Gives (worker_of w) m n x (record { rows = m; cols = n; root = q.name })) v (is_quad-relation w m n f q r c l h)
 
-pub named_cause : {E : Type 0} (old new : Work) (m n : ℕ) (a : Result Quad E) → Counts old new a → HasCause true (worker_of old) (worker_of new) (named_as m n a)
+pub named_cause : {E : Type 0} (old new : Keeper) (m n : ℕ) (a : Result Quad E) → Counts old new a → HasCause true (worker_of old) (worker_of new) (named_as m n a)
 named_cause old new m n (Err e) c = record { full = λ h. omega (arith, c); no_memory = λ l h. absurd (cc); done = tt; wanting = λ h. absurd (cc) }
 named_cause old new m n (Ok q) c = record { full = λ h. absurd (cc); no_memory = λ l h. absurd (cc); done = c; wanting = λ h. absurd (cc) }
 
-pub told_value : {E : Type 0} (w : Work) (h : ℕ) (f : Cells) (a : Result Quad E) → IsWork w → IfOk a (IsQuad w h f) → IfOk (told_as a) (GivesQuad (worker_of w) h f)
+pub told_value : {E : Type 0} (w : Keeper) (h : ℕ) (f : Cells) (a : Result Quad E) → IsKeeper w → IfOk a (IsQuad w h f) → IfOk (told_as a) (GivesQuad (worker_of w) h f)
 told_value w h f (Err e) i x = tt
 told_value w h f (Ok q) i x = is_quad-gives w h f q i x
 
-pub told_cause : {E : Type 0} (old new : Work) (a : Result Quad E) → Counts old new a → HasCause true (worker_of old) (worker_of new) (told_as a)
+pub told_cause : {E : Type 0} (old new : Keeper) (a : Result Quad E) → Counts old new a → HasCause true (worker_of old) (worker_of new) (told_as a)
 told_cause old new (Err e) c = record { full = λ h. omega (arith, c); no_memory = λ l h. absurd (cc); done = tt; wanting = λ h. absurd (cc) }
 told_cause old new (Ok q) c = record { full = λ h. absurd (cc); no_memory = λ l h. absurd (cc); done = c; wanting = λ h. absurd (cc) }

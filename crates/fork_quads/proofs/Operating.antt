@@ -11,7 +11,7 @@ use Rattle.rel_model.specs.Operators.{empty, full, single, union, inter, diff, t
 use Rattle.rel_model.specs.Trees.{bottom_height}
 use Rattle.rel_model.specs.Words.{IsDistinct}
 use Rattle.rel_model.specs.Equations.{side_of}
-use Rattle.rel_model.specs.Quads.{Work, IsWork, IsQuad, quad_cells}
+use Rattle.rel_model.specs.Quads.{Keeper, IsKeeper, IsQuad, quad_cells}
 use Rattle.rel_model.specs.Roots.{tree_height, root_cells}
 use Rattle.rel_model.specs.Worker.{Stands, set_of, Gives, MakesAtMost, MissesNothing, FindsRelation}
 use Rattle.rel_model.specs.Quarters.{LiesWithin}
@@ -103,7 +103,7 @@ pub diff_lifts : Lifts cells_diff diff
 diff_lifts = record { within = λ m n f g v w. diff_within m n f g v; is = diff_is }
 
 -- what it gives on the roots of two relations of one type
-pub lifted_value : {E : Type 0} (op : Cells → Cells → Cells) (of : Relation → Relation → Relation) (w inside new : Work) (r s : Rel) (p q : Quad) (a : Result Quad E) (result : Result Rel Lack) → Lifts op of → inside ≡ w
+pub lifted_value : {E : Type 0} (op : Cells → Cells → Cells) (of : Relation → Relation → Relation) (w inside new : Keeper) (r s : Rel) (p q : Quad) (a : Result Quad E) (result : Result Rel Lack) → Lifts op of → inside ≡ w
     → Stands (worker_of w) r → Stands (worker_of w) s → r.rows ≡ s.rows → r.cols ≡ s.cols → p ≡ root_quad r → q ≡ root_quad s
     → IfOk a (IsQuad new p.height (op (quad_cells inside p) (quad_cells inside q))) → result ≡ named_as r.rows r.cols a
     → IfOk result (Gives (worker_of new) r.rows r.cols (of (set_of (worker_of w) r) (set_of (worker_of w) s)))
@@ -111,8 +111,8 @@ lifted_value op of w inside new r s p q a result l v hr hs er ec ep eq h e =
     let f : Cells = root_cells w.view.words r in
     let g : Cells = root_cells w.view.words s in
     let wg : LiesWithin r.rows r.cols g = subst (λ (x : ℕ). LiesWithin x r.cols g) (sym er) (subst (λ (y : ℕ). LiesWithin s.rows y g) (sym ec) (root_within w s hs)) in
-    let ef : quad_cells inside p ≡ f = ap (λ (x : Work). quad_cells x p) v ∙ ap (quad_cells w) ep in
-    let eg : quad_cells inside q ≡ g = ap (λ (x : Work). quad_cells x q) v ∙ ap (quad_cells w) eq in
+    let ef : quad_cells inside p ≡ f = ap (λ (x : Keeper). quad_cells x p) v ∙ ap (quad_cells w) ep in
+    let eg : quad_cells inside q ≡ g = ap (λ (x : Keeper). quad_cells x q) v ∙ ap (quad_cells w) eq in
     let h' : IfOk a (IsQuad new (tree_height r.rows r.cols) (op f g)) =
     subst (λ (k : ℕ). IfOk a (IsQuad new k (op f g))) (ap (λ (x : Quad). x.height) ep) (subst (λ (c : Cells). IfOk a (IsQuad new p.height c)) (ap (λ (c : Cells). op c (quad_cells inside q)) ef ∙ ap (λ (c : Cells). op f c) eg) h) in
     subst (λ (x : Result Rel Lack). IfOk x (Gives (worker_of new) r.rows r.cols (of (set_of (worker_of w) r) (set_of (worker_of w) s)))) (sym e)
@@ -120,12 +120,12 @@ lifted_value op of w inside new r s p q a result l v hr hs er ec ep eq h e =
     (l.is r.rows r.cols (set_of (worker_of w) r) (set_of (worker_of w) s) f g (rows_law w r hr) (cols_law w r hr) (has-root w r hr) (has-root w s hs)) h')
 
 -- the transposition on the root of a relation
-pub transposed_value : {E : Type 0} (w inside new : Work) (r : Rel) (p : Quad) (a : Result Quad E) (result : Result Rel Lack) → inside ≡ w → Stands (worker_of w) r → p ≡ root_quad r
+pub transposed_value : {E : Type 0} (w inside new : Keeper) (r : Rel) (p : Quad) (a : Result Quad E) (result : Result Rel Lack) → inside ≡ w → Stands (worker_of w) r → p ≡ root_quad r
     → IfOk a (IsQuad new p.height (cells_transpose (quad_cells inside p))) → result ≡ named_as r.cols r.rows a
     → IfOk result (Gives (worker_of new) r.cols r.rows (transpose (set_of (worker_of w) r)))
 transposed_value w inside new r p a result v hr ep h e =
     let f : Cells = root_cells w.view.words r in
-    let ef : quad_cells inside p ≡ f = ap (λ (x : Work). quad_cells x p) v ∙ ap (quad_cells w) ep in
+    let ef : quad_cells inside p ≡ f = ap (λ (x : Keeper). quad_cells x p) v ∙ ap (quad_cells w) ep in
     let h' : IfOk a (IsQuad new (tree_height r.cols r.rows) (cells_transpose f)) =
     subst (λ (k : ℕ). IfOk a (IsQuad new k (cells_transpose f))) (ap (λ (x : Quad). x.height) ep ∙ sym (height_over-turned bottom_height r.rows r.cols)) (subst (λ (c : Cells). IfOk a (IsQuad new p.height c)) (ap cells_transpose ef) h) in
     subst (λ (x : Result Rel Lack). IfOk x (Gives (worker_of new) r.cols r.rows (transpose (set_of (worker_of w) r)))) (sym e)
@@ -133,14 +133,14 @@ transposed_value w inside new r p a result v hr ep h e =
     (transpose_is r.rows r.cols (set_of (worker_of w) r) f (rows_law w r hr) (cols_law w r hr) (has-root w r hr)) h')
 
 -- a set made at the height of a relation's tree
-pub made_value : {E : Type 0} (new : Work) (m n h : ℕ) (f : Cells) (value : Relation) (a : Result Quad E) (result : Result Rel Lack) → m ≤ size_limit → n ≤ size_limit → LiesWithin m n f → relation_of m n f ≡ value → h ≡ tree_height m n
+pub made_value : {E : Type 0} (new : Keeper) (m n h : ℕ) (f : Cells) (value : Relation) (a : Result Quad E) (result : Result Rel Lack) → m ≤ size_limit → n ≤ size_limit → LiesWithin m n f → relation_of m n f ≡ value → h ≡ tree_height m n
     → IfOk a (IsQuad new h f) → result ≡ named_as m n a → IfOk result (Gives (worker_of new) m n value)
 made_value new m n h f value a result lm ln l v eh i e =
     subst (λ (x : Result Rel Lack). IfOk x (Gives (worker_of new) m n value)) (sym e) (named_value new m n f value a lm ln l v (subst (λ (k : ℕ). IfOk a (IsQuad new k f)) eh i))
 
 -- ---- what stands already
 -- the root of a relation that stands is the quad of its set
-root_of_value : (w : Work) (m n : ℕ) (f : Cells) (value : Relation) (rel : Rel) → LiesWithin m n f → relation_of m n f ≡ value → Gives (worker_of w) m n value rel → IsQuad w (tree_height m n) f (root_quad rel)
+root_of_value : (w : Keeper) (m n : ℕ) (f : Cells) (value : Relation) (rel : Rel) → LiesWithin m n f → relation_of m n f ≡ value → Gives (worker_of w) m n value rel → IsQuad w (tree_height m n) f (root_quad rel)
 root_of_value w m n f value rel l v g =
     let s = gives_stands (worker_of w) m n value rel g in
     record {
@@ -150,24 +150,24 @@ root_of_value w m n f value rel l v g =
     }
 
 -- a quad that was found is the root of the relation that stood
-named_found : {E : Type 0} (w inside new : Work) (m n : ℕ) (value : Relation) (rel : Rel) (a : Result Quad E) → inside ≡ w → Gives (worker_of w) m n value rel → Finds inside new (root_quad rel) a
+named_found : {E : Type 0} (w inside new : Keeper) (m n : ℕ) (value : Relation) (rel : Rel) (a : Result Quad E) → inside ≡ w → Gives (worker_of w) m n value rel → Finds inside new (root_quad rel) a
     → (named_as m n a ≡ Ok rel) × MakesAtMost 0 (worker_of w) (worker_of new) × MissesNothing (worker_of w) (worker_of new)
 named_found w inside new m n value rel a v g h = (
   ap (named_as m n) h.answer ∙ ap Ok (λ i. record { rows = sym g.row_size i; cols = sym g.col_size i; root = rel.root }),
-  subst (λ (x : Work). MakesAtMost 0 (worker_of x) (worker_of new)) v h.reads.keeps.room,
-  subst (λ (x : Work). MissesNothing (worker_of x) (worker_of new)) v h.reads.misses,
+  subst (λ (x : Keeper). MakesAtMost 0 (worker_of x) (worker_of new)) v h.reads.keeps.room,
+  subst (λ (x : Keeper). MissesNothing (worker_of x) (worker_of new)) v h.reads.misses,
 )
 
 -- a set made at the height of a relation's tree is found, where the relation stood
-pub made_found : {E : Type 0} (w inside new : Work) (m n h : ℕ) (f : Cells) (value : Relation) (a : Result Quad E) (result : Result Rel Lack) → inside ≡ w → LiesWithin m n f → relation_of m n f ≡ value → h ≡ tree_height m n
+pub made_found : {E : Type 0} (w inside new : Keeper) (m n h : ℕ) (f : Cells) (value : Relation) (a : Result Quad E) (result : Result Rel Lack) → inside ≡ w → LiesWithin m n f → relation_of m n f ≡ value → h ≡ tree_height m n
     → FindsQuad inside new h f a → result ≡ named_as m n a → FindsRelation true (worker_of w) (worker_of new) m n value result
 made_found w inside new m n h f value a result v l is eh find e =
     subst (λ (x : Result Rel Lack). FindsRelation true (worker_of w) (worker_of new) m n value x) (sym e)
     (λ lean rel g. named_found w inside new m n value rel a v g
-    (find (root_quad rel) (subst (λ (x : Work). IsQuad x h f (root_quad rel)) (sym v) (subst (λ (k : ℕ). IsQuad w k f (root_quad rel)) (sym eh) (root_of_value w m n f value rel l is g)))))
+    (find (root_quad rel) (subst (λ (x : Keeper). IsQuad x h f (root_quad rel)) (sym v) (subst (λ (k : ℕ). IsQuad w k f (root_quad rel)) (sym eh) (root_of_value w m n f value rel l is g)))))
 
 -- so is an operator's result on the roots of two relations of one type
-pub lifted_found : {E : Type 0} (op : Cells → Cells → Cells) (of : Relation → Relation → Relation) (w inside new : Work) (r s : Rel) (p q : Quad) (a : Result Quad E) (result : Result Rel Lack) → Lifts op of → inside ≡ w
+pub lifted_found : {E : Type 0} (op : Cells → Cells → Cells) (of : Relation → Relation → Relation) (w inside new : Keeper) (r s : Rel) (p q : Quad) (a : Result Quad E) (result : Result Rel Lack) → Lifts op of → inside ≡ w
     → Stands (worker_of w) r → Stands (worker_of w) s → r.rows ≡ s.rows → r.cols ≡ s.cols → p ≡ root_quad r → q ≡ root_quad s
     → FindsQuad inside new p.height (op (quad_cells inside p) (quad_cells inside q)) a → result ≡ named_as r.rows r.cols a
     → FindsRelation true (worker_of w) (worker_of new) r.rows r.cols (of (set_of (worker_of w) r) (set_of (worker_of w) s)) result
@@ -175,44 +175,44 @@ lifted_found op of w inside new r s p q a result l v hr hs er ec ep eq find e =
     let f : Cells = root_cells w.view.words r in
     let g : Cells = root_cells w.view.words s in
     let wg : LiesWithin r.rows r.cols g = subst (λ (x : ℕ). LiesWithin x r.cols g) (sym er) (subst (λ (y : ℕ). LiesWithin s.rows y g) (sym ec) (root_within w s hs)) in
-    let ef : quad_cells inside p ≡ f = ap (λ (x : Work). quad_cells x p) v ∙ ap (quad_cells w) ep in
-    let eg : quad_cells inside q ≡ g = ap (λ (x : Work). quad_cells x q) v ∙ ap (quad_cells w) eq in
+    let ef : quad_cells inside p ≡ f = ap (λ (x : Keeper). quad_cells x p) v ∙ ap (quad_cells w) ep in
+    let eg : quad_cells inside q ≡ g = ap (λ (x : Keeper). quad_cells x q) v ∙ ap (quad_cells w) eq in
     let set : op (quad_cells inside p) (quad_cells inside q) ≡ op f g = ap (λ (c : Cells). op c (quad_cells inside q)) ef ∙ ap (λ (c : Cells). op f c) eg in
     made_found w inside new r.rows r.cols p.height (op f g) _ a result v (l.within r.rows r.cols f g (root_within w r hr) wg)
     (l.is r.rows r.cols (set_of (worker_of w) r) (set_of (worker_of w) s) f g (rows_law w r hr) (cols_law w r hr) (has-root w r hr) (has-root w s hs))
     (ap (λ (x : Quad). x.height) ep) (subst (λ (c : Cells). FindsQuad inside new p.height c a) set find) e
 
 -- and a transposition
-pub transposed_found : {E : Type 0} (w inside new : Work) (r : Rel) (p : Quad) (a : Result Quad E) (result : Result Rel Lack) → inside ≡ w → Stands (worker_of w) r → p ≡ root_quad r
+pub transposed_found : {E : Type 0} (w inside new : Keeper) (r : Rel) (p : Quad) (a : Result Quad E) (result : Result Rel Lack) → inside ≡ w → Stands (worker_of w) r → p ≡ root_quad r
     → FindsQuad inside new p.height (cells_transpose (quad_cells inside p)) a → result ≡ named_as r.cols r.rows a
     → FindsRelation true (worker_of w) (worker_of new) r.cols r.rows (transpose (set_of (worker_of w) r)) result
 transposed_found w inside new r p a result v hr ep find e =
     let f : Cells = root_cells w.view.words r in
-    let ef : quad_cells inside p ≡ f = ap (λ (x : Work). quad_cells x p) v ∙ ap (quad_cells w) ep in
+    let ef : quad_cells inside p ≡ f = ap (λ (x : Keeper). quad_cells x p) v ∙ ap (quad_cells w) ep in
     made_found w inside new r.cols r.rows p.height (cells_transpose f) _ a result v (transpose_within r.rows r.cols f (root_within w r hr))
     (transpose_is r.rows r.cols (set_of (worker_of w) r) f (rows_law w r hr) (cols_law w r hr) (has-root w r hr))
     (ap (λ (x : Quad). x.height) ep ∙ sym (height_over-turned bottom_height r.rows r.cols)) (subst (λ (c : Cells). FindsQuad inside new p.height (cells_transpose c) a) ef find) e
 
 -- the empty relation has root 0
-pub nothing_value : (w : Work) (m n : ℕ) → IsWork w → m ≤ size_limit → n ≤ size_limit → Gives (worker_of w) m n (empty m n) (record { rows = m; cols = n; root = 0 })
+pub nothing_value : (w : Keeper) (m n : ℕ) → IsKeeper w → m ≤ size_limit → n ≤ size_limit → Gives (worker_of w) m n (empty m n) (record { rows = m; cols = n; root = 0 })
 nothing_value w m n i lm ln =
     subst (λ (x : Relation). Gives (worker_of w) m n x (record { rows = m; cols = n; root = 0 })) (empty_is m n)
     (is_quad-relation w m n no_cells (record { height = tree_height m n; name = 0 }) lm ln (none_within m n) (empty_quad w (tree_height m n) 0 i (height_over-low bottom_height m n) (tree_height-high m n) refl))
 
 -- ---- roots compared
 -- of two relations of one type the roots are equal exactly where the relations are
-pub same_decides : (w inside : Work) (r s : Rel) (t : Bool) → inside ≡ w → IsWork inside → Stands (worker_of w) r → Stands (worker_of w) s → r.rows ≡ s.rows → r.cols ≡ s.cols → t ≡ eqb r.root s.root
+pub same_decides : (w inside : Keeper) (r s : Rel) (t : Bool) → inside ≡ w → IsKeeper inside → Stands (worker_of w) r → Stands (worker_of w) s → r.rows ≡ s.rows → r.cols ≡ s.cols → t ≡ eqb r.root s.root
     → IsTrue t ↔ (set_of (worker_of w) r ≡ set_of (worker_of w) s)
 same_decides w inside r s t v i hr hs er ec e =
-    let k = one_root w.view.words (subst (λ (x : Work). IsDistinct x.view.words) v i.of.canonical) r s (set_of (worker_of w) r) (set_of (worker_of w) s) er ec (stands_some (worker_of w) r hr) (stands_some (worker_of w) s hs) in (
+    let k = one_root w.view.words (subst (λ (x : Keeper). IsDistinct x.view.words) v i.of.canonical) r s (set_of (worker_of w) r) (set_of (worker_of w) s) er ec (stands_some (worker_of w) r hr) (stands_some (worker_of w) s hs) in (
       (λ is. k.0 (eqb-true r.root s.root (sym e ∙ is))),
       (λ is. e ∙ eq-eqb r.root s.root (k.1 is)),
     )
 
 -- the root is 0 exactly where the relation is empty
-pub empty_decides : (w inside : Work) (r : Rel) (t : Bool) → inside ≡ w → IsWork inside → Stands (worker_of w) r → t ≡ eqb r.root 0 → IsTrue t ↔ (set_of (worker_of w) r ≡ empty r.rows r.cols)
+pub empty_decides : (w inside : Keeper) (r : Rel) (t : Bool) → inside ≡ w → IsKeeper inside → Stands (worker_of w) r → t ≡ eqb r.root 0 → IsTrue t ↔ (set_of (worker_of w) r ≡ empty r.rows r.cols)
 empty_decides w inside r t v i hr e =
-    let i' : IsWork w = subst IsWork v i in
+    let i' : IsKeeper w = subst IsKeeper v i in
     let k = one_root w.view.words i'.of.canonical r (record { rows = r.rows; cols = r.cols; root = 0 }) (set_of (worker_of w) r) (empty r.rows r.cols) refl refl (stands_some (worker_of w) r hr)
     (nothing_value w r.rows r.cols i' (row_limit_law w r hr) (col_limit_law w r hr)).means in (
       (λ is. k.0 (eqb-true r.root 0 (sym e ∙ is))),
@@ -221,7 +221,7 @@ empty_decides w inside r t v i hr e =
 
 -- ---- cells
 -- a cell within the sizes lies within the square
-pub cell_in : (w : Work) (r : Rel) (q : Quad) (i j : ℕ) → Stands (worker_of w) r → q ≡ root_quad r → i < r.rows → j < r.cols → (i < side_of q.height) × (j < side_of q.height)
+pub cell_in : (w : Keeper) (r : Rel) (q : Quad) (i j : ℕ) → Stands (worker_of w) r → q ≡ root_quad r → i < r.rows → j < r.cols → (i < side_of q.height) × (j < side_of q.height)
 cell_in w r q i j h e a b =
     let l = height_over-low bottom_height r.rows r.cols in
     let p = height_over-rows bottom_height r.rows r.cols (row_limit_law w r h) in
@@ -230,5 +230,5 @@ cell_in w r q i j h e a b =
     (omega arith, omega arith)
 
 -- it is in the relation where it is in the set of the root
-pub has_value : (w inside : Work) (r : Rel) (q : Quad) (i j : ℕ) (t : Bool) → inside ≡ w → Stands (worker_of w) r → q ≡ root_quad r → t ≡ quad_cells inside q i j → t ≡ has (set_of (worker_of w) r) i j
-has_value w inside r q i j t v h e d = d ∙ ap (λ (x : Work). quad_cells x q i j) v ∙ ap (λ (x : Quad). quad_cells w x i j) e ∙ ap (λ (c : Cells). c i j) (sym (has-root w r h))
+pub has_value : (w inside : Keeper) (r : Rel) (q : Quad) (i j : ℕ) (t : Bool) → inside ≡ w → Stands (worker_of w) r → q ≡ root_quad r → t ≡ quad_cells inside q i j → t ≡ has (set_of (worker_of w) r) i j
+has_value w inside r q i j t v h e d = d ∙ ap (λ (x : Keeper). quad_cells x q i j) v ∙ ap (λ (x : Quad). quad_cells w x i j) e ∙ ap (λ (c : Cells). c i j) (sym (has-root w r h))

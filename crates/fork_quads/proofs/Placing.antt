@@ -7,7 +7,7 @@ use Rattle.rel_model.specs.declared.Quad.{Quad}
 use Rattle.rel_model.specs.Cells.{Cells, no_cells, block_cells}
 use Rattle.rel_model.specs.Trees.{bottom_height, top_height, quartered}
 use Rattle.rel_model.specs.Equations.{side_of}
-use Rattle.rel_model.specs.Quads.{Work, IsWork, IsQuad, quad_cells}
+use Rattle.rel_model.specs.Quads.{Keeper, IsKeeper, IsQuad, quad_cells}
 use Rattle.rel_model.proofs.TreeLaws.{same_cells}
 use Rattle.rel_model.proofs.QuadLaws.{empty_quad, is_quad-height, corner_value, side_of-next}
 use Rattle.fork_quads.specs.Crew.{one_cell, placed}
@@ -84,16 +84,16 @@ one_quartered m i j = same_cells _ _ (λ a b. elim (cases_Bool (ltb a m)) [
     joined e f = cc
 
 -- a quad that is placed here or not
-pub placed_is : (w : Work) (h : ℕ) (f : Cells) (here : Bool) (one : Quad) → IsWork w → bottom_height ≤ h → h ≤ top_height → IsQuad w h f one → IsQuad w h (cond here f no_cells) (placed here one)
+pub placed_is : (w : Keeper) (h : ℕ) (f : Cells) (here : Bool) (one : Quad) → IsKeeper w → bottom_height ≤ h → h ≤ top_height → IsQuad w h f one → IsQuad w h (cond here f no_cells) (placed here one)
 placed_is w h f true one i l t s = s
 placed_is w h f false one i l t s = is_quad-height w one.height h no_cells (record { height = one.height; name = 0 }) s.same_height (empty_quad w one.height 0 i s.stands.low s.stands.high refl)
 
 -- a quad of a height, placed by what was found
-pub placed_as : (w : Work) (h : ℕ) (f : Cells) (here there : Bool) (one q : Quad) → IsWork w → bottom_height ≤ h → h ≤ top_height → IsQuad w h f one → here ≡ there → q ≡ placed here one → IsQuad w h (cond there f no_cells) q
+pub placed_as : (w : Keeper) (h : ℕ) (f : Cells) (here there : Bool) (one q : Quad) → IsKeeper w → bottom_height ≤ h → h ≤ top_height → IsQuad w h f one → here ≡ there → q ≡ placed here one → IsQuad w h (cond there f no_cells) q
 placed_as w h f here there one q i l t s b e = subst (IsQuad w h (cond there f no_cells)) (sym e) (subst (λ (x : Bool). IsQuad w h (cond x f no_cells) (placed here one)) b (placed_is w h f here one i l t s))
 
 -- the corner of one cell
-pub one_corner : {E : Type 0} (v w : Work) (h m i j row col : ℕ) (one nw ne sw se : Quad) (r : Result Quad E) → IsWork v → bottom_height < h → h ≤ top_height → m ≡ side_of (h - 1) → row ≡ in_half m i → col ≡ in_half m j
+pub one_corner : {E : Type 0} (v w : Keeper) (h m i j row col : ℕ) (one nw ne sw se : Quad) (r : Result Quad E) → IsKeeper v → bottom_height < h → h ≤ top_height → m ≡ side_of (h - 1) → row ≡ in_half m i → col ≡ in_half m j
     → IsQuad v (h - 1) (one_cell row col) one → nw ≡ placed (ltb i m && ltb j m) one → ne ≡ placed (ltb i m && not (ltb j m)) one → sw ≡ placed (not (ltb i m) && ltb j m) one → se ≡ placed (not (ltb i m) && not (ltb j m)) one
     → IfOk r (IsQuad w (nw.height + 1) (quartered (side_of nw.height) (quad_cells v nw) (quad_cells v ne) (quad_cells v sw) (quad_cells v se))) → IfOk r (IsQuad w h (one_cell i j))
 one_corner v w h m i j row col one nw ne sw se r d l t em er ec s e0 e1 e2 e3 k =

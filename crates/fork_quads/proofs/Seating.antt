@@ -2,7 +2,7 @@
 use Rattle.std.proofs.Common.{◌≡◌, ◌∙◌, ℕ, Some, sym, ap, subst}
 use Rattle.rel_model.specs.Cells.{Cells}
 use Rattle.rel_model.specs.Words.{Extends}
-use Rattle.rel_model.specs.Quads.{Work, IsWork, QuadStands, SplitsWork, JoinsWork}
+use Rattle.rel_model.specs.Quads.{Keeper, IsKeeper, QuadStands, SplitsKeeper, JoinsKeeper}
 use Rattle.rel_model.specs.Equations.{depth_of}
 use Rattle.rel_model.proofs.TreeLaws.{kept_stands, kept_cells}
 use Rattle.rel_model.proofs.Rooting.{relation_in-stays}
@@ -11,7 +11,7 @@ use Rattle.fork_quads.specs.Crew.{house_of, worker_of}
 use Rattle.fork_quads.proofs.Crewing.{house_of-injective, has_quad-stands, stands-quad_in}
 
 -- all that stood stands where more words are seen
-pub seen_holds : (old new : Work) → IsWork old → IsWork new → Extends old.view.words new.view.words → Holds (worker_of old) (worker_of new)
+pub seen_holds : (old new : Keeper) → IsKeeper old → IsKeeper new → Extends old.view.words new.view.words → Holds (worker_of old) (worker_of new)
 seen_holds old new a b x = record {
   same = λ r h. relation_in-stays old.view.words new.view.words r x a.of.canonical b.of.canonical h;
   same_quads = λ q h.
@@ -23,7 +23,7 @@ seen_holds old new a b x = record {
 }
 
 -- a keeper that is split is a worker that is split
-pub splits_worker : (spare : ℕ) (old new second : Work) → IsWork old → SplitsWork spare old new second → SplitsWorker spare (worker_of old) (worker_of new) (worker_of second)
+pub splits_worker : (spare : ℕ) (old new second : Keeper) → IsKeeper old → SplitsKeeper spare old new second → SplitsWorker spare (worker_of old) (worker_of new) (worker_of second)
 splits_worker spare old new second i s =
     let x : Extends old.view.words second.view.words = subst (λ ws. Extends old.view.words ws) (sym s.views.words) s.views.seen in
     record {
@@ -41,7 +41,7 @@ splits_worker spare old new second i s =
     }
 
 -- keepers that are joined are workers that are joined
-pub joins_worker : (old other new : Work) → IsWork old → IsWork other → JoinsWork old other new → JoinsWorker (worker_of old) (worker_of other) (worker_of new)
+pub joins_worker : (old other new : Keeper) → IsKeeper old → IsKeeper other → JoinsKeeper old other new → JoinsWorker (worker_of old) (worker_of other) (worker_of new)
 joins_worker old other new i j s = record {
   holds = seen_holds old new i s.after s.views.seen;
   other_holds = seen_holds other new j s.after s.views.also_seen;
@@ -53,14 +53,14 @@ joins_worker old other new i j s = record {
 }
 
 -- the same of the keepers inside workers
-pub splits_inside : (spare : ℕ) (w old new second : Work) → old ≡ w → IsWork old → SplitsWork spare old new second → SplitsWorker spare (worker_of w) (worker_of new) (worker_of second)
-splits_inside spare w old new second v i s = subst (λ (x : Work). SplitsWorker spare (worker_of x) (worker_of new) (worker_of second)) v (splits_worker spare old new second i s)
+pub splits_inside : (spare : ℕ) (w old new second : Keeper) → old ≡ w → IsKeeper old → SplitsKeeper spare old new second → SplitsWorker spare (worker_of w) (worker_of new) (worker_of second)
+splits_inside spare w old new second v i s = subst (λ (x : Keeper). SplitsWorker spare (worker_of x) (worker_of new) (worker_of second)) v (splits_worker spare old new second i s)
 
-pub joins_inside : (w u old other new : Work) → old ≡ w → other ≡ u → IsWork old → IsWork other → JoinsWork old other new → JoinsWorker (worker_of w) (worker_of u) (worker_of new)
+pub joins_inside : (w u old other new : Keeper) → old ≡ w → other ≡ u → IsKeeper old → IsKeeper other → JoinsKeeper old other new → JoinsWorker (worker_of w) (worker_of u) (worker_of new)
 joins_inside w u old other new v x i j s =
-    subst (λ (y : Work). JoinsWorker (worker_of w) (worker_of y) (worker_of new)) x
-    (subst (λ (y : Work). JoinsWorker (worker_of y) (worker_of other) (worker_of new)) v (joins_worker old other new i j s))
+    subst (λ (y : Keeper). JoinsWorker (worker_of w) (worker_of y) (worker_of new)) x
+    (subst (λ (y : Keeper). JoinsWorker (worker_of y) (worker_of other) (worker_of new)) v (joins_worker old other new i j s))
 
 -- workers of one house are keepers of one table
-pub one_table : (a b : Work) → Kin (worker_of a) (worker_of b) → a.table ≡ b.table
+pub one_table : (a b : Keeper) → Kin (worker_of a) (worker_of b) → a.table ≡ b.table
 one_table a b e = house_of-injective a.table b.table e

@@ -9,7 +9,7 @@ use Rattle.rel_model.specs.Cells.{Cells, no_cells, some_below}
 use Rattle.rel_model.specs.Trees.{bottom_height, top_height, cells, stands}
 use Rattle.rel_model.specs.Equations.{depth_of}
 use Rattle.rel_model.specs.Views.{House, Table}
-use Rattle.rel_model.specs.Quads.{Work}
+use Rattle.rel_model.specs.Quads.{Keeper}
 use Rattle.rel_model.specs.Roots.{tree_height, relation_in}
 use Rattle.rel_model.specs.Worker.{Worker}
 
@@ -34,7 +34,7 @@ abbrev pub house_of : Table → House
 house_of table = gcons table.house (gcons (gnum table.bits) (gnum table.seats))
 
 -- a keeper of quads as a worker: its relations are those whose roots stand in the words that its seat has seen
-abbrev pub worker_of : Work → Worker
+abbrev pub worker_of : Keeper → Worker
 worker_of w = record { relation = relation_in w.view.words; quad = quad_in w.view.words; misses = w.misses; made = w.view.made; house = house_of w.table; spare = w.view.spare }
 
 -- ---- roots

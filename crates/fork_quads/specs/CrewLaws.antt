@@ -10,7 +10,7 @@ use Rattle.rel_model.specs.Cells.{Cells, no_cells, some_below}
 use Rattle.rel_model.specs.Trees.{bottom_height, top_height, cells, stands}
 use Rattle.rel_model.specs.Words.{IsDistinct}
 use Rattle.rel_model.specs.Equations.{depth_of}
-use Rattle.rel_model.specs.Quads.{Work, quad_cells}
+use Rattle.rel_model.specs.Quads.{Keeper, quad_cells}
 use Rattle.rel_model.specs.Roots.{root_cells}
 use Rattle.rel_model.specs.Quarters.{LiesWithin}
 use Rattle.rel_model.specs.Worker.{Stands, set_of, HasQuad, quad_set}
@@ -117,36 +117,36 @@ quad_in-is words h n d l t s = elim (cases_Bool (eqb n 0)) [
 ]
 
 -- the set of a quad that stands, by its name
-quad_set_is : (w : Work) (q : Quad) → IsDistinct w.view.words → HasQuad (worker_of w) q → quad_set (worker_of w) q ≡ quad_cells w q
+quad_set_is : (w : Keeper) (q : Quad) → IsDistinct w.view.words → HasQuad (worker_of w) q → quad_set (worker_of w) q ≡ quad_cells w q
 quad_set_is w q d h = let s = quad_in-named w.view.words q h in ap (λ o. unwrap_or o no_cells) (quad_in-is w.view.words q.height q.name d s.low s.high s.standing)
 
 -- a quad named 0 has no cell
-quad_set_none : (w : Work) (q : Quad) → HasQuad (worker_of w) q → q.name ≡ 0 → quad_set (worker_of w) q ≡ no_cells
+quad_set_none : (w : Keeper) (q : Quad) → HasQuad (worker_of w) q → q.name ≡ 0 → quad_set (worker_of w) q ≡ no_cells
 quad_set_none w q h z = let s = quad_in-named w.view.words q h in ap (λ o. unwrap_or o no_cells) (quad_in-none w.view.words q.height q.name s.low s.high z)
 
 -- ---- laws of relations
 -- the set of a relation that stands, by its root
-set_is : (w : Work) (r : Rel) → Stands (worker_of w) r → set_of (worker_of w) r ≡ relation_of r.rows r.cols (root_cells w.view.words r)
+set_is : (w : Keeper) (r : Rel) → Stands (worker_of w) r → set_of (worker_of w) r ≡ relation_of r.rows r.cols (root_cells w.view.words r)
 set_is w r h = ap (λ o. unwrap_or o (record { rows = 0; cols = 0; pairs = [] })) (rooted-relation_in w.view.words r (relation_in-rooted w.view.words r h))
 
 -- what stands is a relation
-pub valid_law : (w : Work) (r : Rel) → Stands (worker_of w) r → IsRelation (set_of (worker_of w) r)
+pub valid_law : (w : Keeper) (r : Rel) → Stands (worker_of w) r → IsRelation (set_of (worker_of w) r)
 valid_law w r h = subst IsRelation (sym (set_is w r h)) (IsRelation-relation_of r.rows r.cols (root_cells w.view.words r))
 
 -- it has as many rows as its name says
-pub rows_law : (w : Work) (r : Rel) → Stands (worker_of w) r → (set_of (worker_of w) r).rows ≡ r.rows
+pub rows_law : (w : Keeper) (r : Rel) → Stands (worker_of w) r → (set_of (worker_of w) r).rows ≡ r.rows
 rows_law w r h = ap (λ x. x.rows) (set_is w r h) ∙ rows-relation_of r.rows r.cols (root_cells w.view.words r)
 
 -- it has as many columns as its name says
-pub cols_law : (w : Work) (r : Rel) → Stands (worker_of w) r → (set_of (worker_of w) r).cols ≡ r.cols
+pub cols_law : (w : Keeper) (r : Rel) → Stands (worker_of w) r → (set_of (worker_of w) r).cols ≡ r.cols
 cols_law w r h = ap (λ x. x.cols) (set_is w r h) ∙ cols-relation_of r.rows r.cols (root_cells w.view.words r)
 
 -- its rows are within the limit
-pub row_limit_law : (w : Work) (r : Rel) → Stands (worker_of w) r → r.rows ≤ size_limit
+pub row_limit_law : (w : Keeper) (r : Rel) → Stands (worker_of w) r → r.rows ≤ size_limit
 row_limit_law w r h = (relation_in-rooted w.view.words r h).row_limit
 
 -- its columns are within the limit
-pub col_limit_law : (w : Work) (r : Rel) → Stands (worker_of w) r → r.cols ≤ size_limit
+pub col_limit_law : (w : Keeper) (r : Rel) → Stands (worker_of w) r → r.cols ≤ size_limit
 col_limit_law w r h = (relation_in-rooted w.view.words r h).col_limit
 
 -- ---- laws of quads
@@ -155,16 +155,16 @@ pub least_limit_law : 3 ≤ 3
 least_limit_law = omega arith
 
 -- no quad is below the leaves
-pub low_height_law : (w : Work) (q : Quad) → HasQuad (worker_of w) q → 3 ≤ q.height
+pub low_height_law : (w : Keeper) (q : Quad) → HasQuad (worker_of w) q → 3 ≤ q.height
 unfolding bottom_height
 low_height_law w q h = (quad_in-named w.view.words q h).low
 
 -- no quad is over the greatest height
-pub high_height_law : (w : Work) (q : Quad) → HasQuad (worker_of w) q → q.height ≤ top_height
+pub high_height_law : (w : Keeper) (q : Quad) → HasQuad (worker_of w) q → q.height ≤ top_height
 high_height_law w q h = (quad_in-named w.view.words q h).high
 
 -- the cells of a quad lie within its square
-pub square_law : (w : Work) (q : Quad) → HasQuad (worker_of w) q → LiesWithin (2 ^ q.height) (2 ^ q.height) (quad_set (worker_of w) q)
+pub square_law : (w : Keeper) (q : Quad) → HasQuad (worker_of w) q → LiesWithin (2 ^ q.height) (2 ^ q.height) (quad_set (worker_of w) q)
 square_law w q h =
     let s = quad_in-named w.view.words q h in
     let p = side_of-power q.height s.low in
@@ -177,12 +177,12 @@ square_law w q h =
     within v = record { row = v.row; col = v.col }
 
 -- the quad named 0 has no cell, at each height
-pub none_law : (w : Work) (h : ℕ) → 3 ≤ h → h ≤ top_height → quad_in w.view.words (record { height = h; name = 0 }) ≡ Some no_cells
+pub none_law : (w : Keeper) (h : ℕ) → 3 ≤ h → h ≤ top_height → quad_in w.view.words (record { height = h; name = 0 }) ≡ Some no_cells
 unfolding bottom_height
 none_law w h l t = quad_in-none w.view.words h 0 l t refl
 
 -- quads of one height with one set have one name
-pub one_name_law : (w : Work) (p q : Quad) → HasQuad (worker_of w) p → HasQuad (worker_of w) q → p.height ≡ q.height → quad_set (worker_of w) p ≡ quad_set (worker_of w) q → p.name ≡ q.name
+pub one_name_law : (w : Keeper) (p q : Quad) → HasQuad (worker_of w) p → HasQuad (worker_of w) q → p.height ≡ q.height → quad_set (worker_of w) p ≡ quad_set (worker_of w) q → p.name ≡ q.name
 one_name_law w p q h k e f =
     let s = quad_in-named w.view.words p h in
     let t = quad_in-named w.view.words q k in
@@ -191,7 +191,7 @@ one_name_law w p q h k e f =
       | inr d ↦ one w p q h k s t d e f
     ]
   where
-    one : (w : Work) (p q : Quad) → HasQuad (worker_of w) p → HasQuad (worker_of w) q → IsNamed w.view.words p → IsNamed w.view.words q → IsDistinct w.view.words → p.height ≡ q.height → quad_set (worker_of w) p ≡ quad_set (worker_of w) q → p.name ≡ q.name
+    one : (w : Keeper) (p q : Quad) → HasQuad (worker_of w) p → HasQuad (worker_of w) q → IsNamed w.view.words p → IsNamed w.view.words q → IsDistinct w.view.words → p.height ≡ q.height → quad_set (worker_of w) p ≡ quad_set (worker_of w) q → p.name ≡ q.name
     one w p q h k s t d e f =
         one_set_one_name w.view.words d (depth_of p.height) p.name q.name s.standing (subst (λ (x : ℕ). stands w.view.words (depth_of x) q.name ≡ true) (sym e) t.standing)
         (sym (quad_set_is w p d h) ∙ f ∙ quad_set_is w q d k ∙ ap (λ (x : ℕ). cells w.view.words (depth_of x) q.name) (sym e))

@@ -2,7 +2,7 @@
 ghost use Rattle.std.specs.Prelude.{◌≡◌, ◌≢◌, ◌≤◌};
 ghost use Rattle.rel_model.specs.Words.{IsFull};
 ghost use Rattle.rel_model.specs.Views.{IsOf};
-ghost use Rattle.rel_model.specs.Quads.{Work};
+ghost use Rattle.rel_model.specs.Quads.{Keeper};
 
 use crate::gate::Gate;
 use pair_table::{PairTable, Seat};
@@ -18,9 +18,9 @@ pub struct Crew<'t, G: Gate> {
 }
 
 impl<'t, G: Gate> Model for Crew<'t, G> {
-    ghost use Rattle.rel_model.specs.Quads.{Work};
+    ghost use Rattle.rel_model.specs.Quads.{Keeper};
 
-    ghost Value = { Work };
+    ghost Value = { Keeper };
 
     ghost view = { λ c. c.nodes };
 }

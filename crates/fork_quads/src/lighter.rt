@@ -1,6 +1,6 @@
 //! Whether halves of the middle are lighter than the whole, by the quads under them.
 ghost use Rattle.std.specs.Prelude.{◌≡◌, ◌≤◌, ◌*◌, length};
-ghost use Rattle.rel_model.specs.Quads.{Work, QuadStands, ReadsWork};
+ghost use Rattle.rel_model.specs.Quads.{Keeper, QuadStands, ReadsQuads};
 ghost use Rattle.fork_quads.specs.Middle.{AreStanding};
 
 use quad_nodes::Nodes;
@@ -12,7 +12,7 @@ fn met_under(nodes: &mut Nodes, q: Quad, least: u8, seen: &mut [u32], met: u32) 
     requires places { length seen.old ≡ 16384 }
     ensures same_places { length seen.new ≡ 16384 }
     ensures few { met ≤ 16384 → result ≤ 16384 }
-    ensures reads { ReadsWork nodes.old nodes.new }
+    ensures reads { ReadsQuads nodes.old nodes.new }
 {
     let bottom = nodes.bottom();
     if q.name == 0 || met >= 16384 {
@@ -38,7 +38,7 @@ fn met_under(nodes: &mut Nodes, q: Quad, least: u8, seen: &mut [u32], met: u32) 
 fn weight(nodes: &mut Nodes, q: Quad, least: u8) -> u64
     requires stands { QuadStands nodes.old q }
     ensures few { result ≤ 16384 }
-    ensures reads { ReadsWork nodes.old nodes.new }
+    ensures reads { ReadsQuads nodes.old nodes.new }
 {
     let mut seen = [0; 16384];
     met_under(nodes, q, least, &mut seen, 0) as u64
@@ -49,7 +49,7 @@ fn weights(nodes: &mut Nodes, a: Quad, b: Quad, least: u8) -> u64
     requires a_stands { QuadStands nodes.old a }
     requires b_stands { QuadStands nodes.old b }
     ensures few { result ≤ 16384 * 16384 }
-    ensures reads { ReadsWork nodes.old nodes.new }
+    ensures reads { ReadsQuads nodes.old nodes.new }
 {
     let first = weight(nodes, a, least);
     let second = weight(nodes, b, least);
@@ -67,7 +67,7 @@ pub(crate) fn lighter(
     requires whole_stands { AreStanding nodes.old whole }
     requires first_stands { AreStanding nodes.old first }
     requires second_stands { AreStanding nodes.old second }
-    ensures reads { ReadsWork nodes.old nodes.new }
+    ensures reads { ReadsQuads nodes.old nodes.new }
 {
     let of_whole = weights(nodes, whole.0, whole.1, least);
     let of_first = weights(nodes, first.0, first.1, least);

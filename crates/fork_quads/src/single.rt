@@ -3,7 +3,7 @@ ghost use Rattle.std.specs.Prelude.{◌≡◌, ◌<◌, ◌≤◌, ◌-◌, ◌&
 ghost use Rattle.rel_model.specs.Cells.{block_cells};
 ghost use Rattle.rel_model.specs.Trees.{bottom_height, top_height};
 ghost use Rattle.rel_model.specs.Equations.{side_of};
-ghost use Rattle.rel_model.specs.Quads.{Work, IsQuad, KeepsWork, Counts, quad_room};
+ghost use Rattle.rel_model.specs.Quads.{Keeper, IsQuad, KeepsQuads, Counts, quad_room};
 ghost use Rattle.fork_quads.specs.Crew.{one_cell, placed as placed_quad};
 
 use pair_table::Missed;
@@ -47,7 +47,7 @@ pub(crate) fn single_quad(nodes: &mut Nodes, height: u8, i: u32, j: u32) -> Resu
     requires row { i < side_of height }
     requires col { j < side_of height }
     ensures value { IfOk result (IsQuad nodes.new height (one_cell i j)) }
-    ensures keeps { KeepsWork (quad_room height) nodes.old nodes.new }
+    ensures keeps { KeepsQuads (quad_room height) nodes.old nodes.new }
     ensures counts { Counts nodes.old nodes.new result }
 {
     let bottom = nodes.bottom();

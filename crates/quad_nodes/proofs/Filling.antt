@@ -7,7 +7,7 @@ use Rattle.rel_model.specs.declared.Quad.{Quad}
 use Rattle.rel_model.specs.Cells.{Cells, cells_rect, block_cells}
 use Rattle.rel_model.specs.Trees.{bottom_height, first_of, second_of, rows_at, cols_at, cells, quartered, paired}
 use Rattle.rel_model.specs.Equations.{depth_of, side_of}
-use Rattle.rel_model.specs.Quads.{Work, IsWork, quad_cells, QuadStands}
+use Rattle.rel_model.specs.Quads.{Keeper, IsKeeper, quad_cells, QuadStands}
 use Rattle.rel_model.proofs.TreeLaws.{same_cells, Within, cells_within, paired_halves, one_set_one_name}
 use Rattle.rel_model.proofs.Squares.{four_squares}
 use Rattle.rel_model.proofs.QuadLaws.{depth_of-next, side_of-next}
@@ -48,7 +48,7 @@ full_quarters m =
     ∙ ap (λ (x : ℕ). quartered m (cells_rect x x) (cells_rect x (m + m - m)) (cells_rect (m + m - m) x) (cells_rect (m + m - m) (m + m - m))) a
     ∙ ap (λ (y : ℕ). quartered m (cells_rect m m) (cells_rect m y) (cells_rect y m) (cells_rect y y)) b)
 
-pub full_by_quarter : (s0 s1 s2 : Work) (q : Quad) (north south west east : ℕ) → QuadStands s0 q → bottom_height < q.height → Halve s0 s1 q.name north south → north ≡ south → Halve s1 s2 north west east → west ≡ east
+pub full_by_quarter : (s0 s1 s2 : Keeper) (q : Quad) (north south west east : ℕ) → QuadStands s0 q → bottom_height < q.height → Halve s0 s1 q.name north south → north ≡ south → Halve s1 s2 north west east → west ≡ east
     → cells s2.view.words (depth_of (q.height - 1)) west ≡ all_of (side_of (q.height - 1)) → quad_cells s0 q ≡ all_of (side_of q.height)
 full_by_quarter s0 s1 s2 q north south west east s l h0 ns h1 we full =
     let k : ℕ = depth_of (q.height - 1) in
@@ -65,7 +65,7 @@ full_by_quarter s0 s1 s2 q north south west east s l h0 ns h1 we full =
     ∙ ap all_of (sym (side_of-next q.height l))
 
 -- what the halves need
-pub stands_below : (s0 s1 s2 : Work) (q : Quad) (north south west east : ℕ) → QuadStands s0 q → bottom_height < q.height → Halve s0 s1 q.name north south → Halve s1 s2 north west east → QuadStands s2 (record { height = q.height - 1; name = west })
+pub stands_below : (s0 s1 s2 : Keeper) (q : Quad) (north south west east : ℕ) → QuadStands s0 q → bottom_height < q.height → Halve s0 s1 q.name north south → Halve s1 s2 north west east → QuadStands s2 (record { height = q.height - 1; name = west })
 stands_below s0 s1 s2 q north south west east s l h0 h1 =
     let h = halves_stand s0 s1 q north south s l h0 in
     record { low = omega arith; high = (let e = s.high in omega arith); standing = (h1 (depth_of (q.height - 1)) h.first).first }
@@ -78,12 +78,12 @@ only_full_block bits l e =
     eq-eqb bits (2 ^ 64 - 1) (same_block bits (2 ^ 64 - 1) l (omega arith) (e ∙ sym full))
 
 -- the halves of a full square are one name, of two full squares of the height below
-pub record FullHalves (w : Work) (h north south : ℕ) : Type 0 where
+pub record FullHalves (w : Keeper) (h north south : ℕ) : Type 0 where
   pub same : north ≡ south
   pub row : cells w.view.words (suc (depth_of h)) north ≡ paired (depth_of h) (all_of (side_of h)) (all_of (side_of h))
   pub within : Within (rows_at (depth_of h)) (cols_at (depth_of h)) (all_of (side_of h))
 
-pub full_halves : (s0 s1 : Work) (q : Quad) (north south : ℕ) → IsWork s1 → QuadStands s0 q → bottom_height < q.height → Halve s0 s1 q.name north south → quad_cells s0 q ≡ all_of (side_of q.height) → FullHalves s1 (q.height - 1) north south
+pub full_halves : (s0 s1 : Keeper) (q : Quad) (north south : ℕ) → IsKeeper s1 → QuadStands s0 q → bottom_height < q.height → Halve s0 s1 q.name north south → quad_cells s0 q ≡ all_of (side_of q.height) → FullHalves s1 (q.height - 1) north south
 full_halves s0 s1 q north south i s l h0 full =
     let W : List ℕ = s1.view.words in
     let b : ℕ = q.height - 1 in
@@ -109,11 +109,11 @@ full_halves s0 s1 q north south i s l h0 full =
     }
 
 -- the halves of its halves are one name too, that of a full square
-pub record FullQuarters (w : Work) (h west east : ℕ) : Type 0 where
+pub record FullQuarters (w : Keeper) (h west east : ℕ) : Type 0 where
   pub same : west ≡ east
   pub full : cells w.view.words (depth_of h) west ≡ all_of (side_of h)
 
-pub full_quarters_are : (s0 s1 s2 : Work) (q : Quad) (north south west east : ℕ) → IsWork s1 → IsWork s2 → QuadStands s0 q → bottom_height < q.height → Halve s0 s1 q.name north south → Halve s1 s2 north west east → quad_cells s0 q ≡ all_of (side_of q.height) → FullQuarters s2 (q.height - 1) west east
+pub full_quarters_are : (s0 s1 s2 : Keeper) (q : Quad) (north south west east : ℕ) → IsKeeper s1 → IsKeeper s2 → QuadStands s0 q → bottom_height < q.height → Halve s0 s1 q.name north south → Halve s1 s2 north west east → quad_cells s0 q ≡ all_of (side_of q.height) → FullQuarters s2 (q.height - 1) west east
 full_quarters_are s0 s1 s2 q north south west east i1 i2 s l h0 h1 full =
     let k : ℕ = depth_of (q.height - 1) in
     let m : ℕ = side_of (q.height - 1) in

@@ -11,7 +11,7 @@ use Rattle.rel_model.specs.Trees.{bottom_height, top_height, first_of, second_of
 use Rattle.rel_model.specs.Words.{IsDistinct}
 use Rattle.rel_model.specs.Equations.{depth_of, side_of}
 use Rattle.rel_model.specs.Views.{View, IsSet, Interns}
-use Rattle.rel_model.specs.Quads.{Work, IsWork, quad_cells, QuadStands, IsQuad, KeepsWork, ReadsWork, Counts}
+use Rattle.rel_model.specs.Quads.{Keeper, IsKeeper, quad_cells, QuadStands, IsQuad, KeepsQuads, ReadsQuads, Counts}
 use Rattle.rel_model.proofs.TreeLaws.{stored_not_0, stored_below, parts_stand, paired_halves, cells_within, one_set_one_name, same_cells, Within, out_of}
 use Rattle.rel_model.proofs.Squares.{rows_at-twice, cols_at-twice, four_squares}
 use Rattle.rel_model.proofs.QuadLaws.{depth_of-next, is_quad-stays, reads_itself, reads_on, set_after}
@@ -22,7 +22,7 @@ use Rattle.quad_nodes.specs.Finding.{Finds, FindsQuad, FindsPair}
 no_answer : {T E : Type 0} (e : E) (x : T) (r : Result T E) → r ≡ Err e → r ≢ Ok x
 no_answer e x r p q = cc
 
-pub not_missed : {T E : Type 0} (v w : Work) (e : E) (x : T) → Finds v w x (Err e) → ⊥
+pub not_missed : {T E : Type 0} (v w : Keeper) (e : E) (x : T) → Finds v w x (Err e) → ⊥
 not_missed v w e x f = no_answer e x (Err e) refl f.answer
 
 -- ---- words that stand
@@ -49,7 +49,7 @@ interns_again v w word n (Ok m) dv dw h x i =
     record { answer = ap Ok e; made = elim i.made [ inl a ↦ a | inr p ↦ absurd (p.absent n x) ] }
 
 -- a call that made nothing and missed nothing only read
-reads_from : {T E : Type 0} (m : ℕ) (v w : Work) (x : T) (r : Result T E) → KeepsWork m v w → Counts v w r → r ≡ Ok x → w.view.made ≡ v.view.made → ReadsWork v w
+reads_from : {T E : Type 0} (m : ℕ) (v w : Keeper) (x : T) (r : Result T E) → KeepsQuads m v w → Counts v w r → r ≡ Ok x → w.view.made ≡ v.view.made → ReadsQuads v w
 reads_from {T} {E} m v w x r k c e made =
     let missed : Counts {T = T} {E = E} v w (Ok x) = subst (λ (y : Result T E). Counts v w y) e c in
     record {
@@ -73,20 +73,20 @@ pair_word v k n a b f g d s t u =
 no_word : (words : List ℕ) (k n : ℕ) → stands words (suc k) n ≡ true → get_or words n 0 ≡ 0 → n ≡ 0
 no_word words k n s z = elim (or_cases _ _ s) [ inl e ↦ eqb-true n 0 e | inr e ↦ absurd (stored_not_0 words n (and_parts _ _ e).0 z) ]
 
-pub pair_found : {E : Type 0} (v w : Work) (a b : ℕ) (r : Result ℕ E) → a + b ≢ 0 → KeepsWork 1 v w → Counts v w r → Interns v.view w.view (a * 2 ^ 32 + b) r → FindsPair v w a b r
+pub pair_found : {E : Type 0} (v w : Keeper) (a b : ℕ) (r : Result ℕ E) → a + b ≢ 0 → KeepsQuads 1 v w → Counts v w r → Interns v.view w.view (a * 2 ^ 32 + b) r → FindsPair v w a b r
 pair_found v w a b r h k c i depth name f g s t u =
     let some : a * 2 ^ 32 + b ≢ 0 = omega arith in
     let x = interns_again v.view w.view (a * 2 ^ 32 + b) name r k.before.of.canonical k.after.of.canonical some (pair_word v.view depth name a b f g k.before.of.canonical s t u) i in
     record { answer = x.answer; reads = reads_from 1 v w name r k c x.answer x.made }
 
 -- a word of which a name stands is not missed
-pub pair_missed : {D E : Type 0} (v w : Work) (u : View) (a b : ℕ) (e : D) (r : Result ℕ E) → a + b ≢ 0 → IsDistinct v.view.words → IsDistinct u.words → Interns v.view u (a * 2 ^ 32 + b) (Err e) → FindsPair v w a b r
+pub pair_missed : {D E : Type 0} (v w : Keeper) (u : View) (a b : ℕ) (e : D) (r : Result ℕ E) → a + b ≢ 0 → IsDistinct v.view.words → IsDistinct u.words → Interns v.view u (a * 2 ^ 32 + b) (Err e) → FindsPair v w a b r
 pair_missed v w u a b e r h d n i depth name f g s t x =
     let some : a * 2 ^ 32 + b ≢ 0 = omega arith in
     absurd (no_answer e name (Err e) refl (interns_again v.view u (a * 2 ^ 32 + b) name (Err e) d n some (pair_word v.view depth name a b f g d s t x) i).answer)
 
 -- nothing beside nothing
-pub pair_found-none : {E : Type 0} (v : Work) (a b : ℕ) → a ≡ 0 → b ≡ 0 → IsWork v → FindsPair {E = E} v v a b (Ok 0)
+pub pair_found-none : {E : Type 0} (v : Keeper) (a b : ℕ) → a ≡ 0 → b ≡ 0 → IsKeeper v → FindsPair {E = E} v v a b (Ok 0)
 pair_found-none v a b x y i depth name f g s t u =
     let e : get_or v.view.words name 0 ≡ 0 = (let z = pair_word v.view depth name a b f g i.of.canonical s t u in omega arith) in
     record { answer = ap Ok (sym (no_word v.view.words depth name u.standing e)); reads = reads_itself v i }
@@ -97,7 +97,7 @@ abbrev quad_of : ℕ → ℕ → Quad
 quad_of h n = record { height = h; name = n }
 
 -- two quads of one height and one set are one
-pub one_quad : (w : Work) (h : ℕ) (f : Cells) (p q : Quad) → IsWork w → IsQuad w h f p → IsQuad w h f q → p ≡ q
+pub one_quad : (w : Keeper) (h : ℕ) (f : Cells) (p q : Quad) → IsKeeper w → IsQuad w h f p → IsQuad w h f q → p ≡ q
 one_quad w h f p q i s t =
     let e : p.height ≡ q.height = s.same_height ∙ sym t.same_height in
     let a : stands w.view.words (depth_of q.height) p.name ≡ true = subst (λ (x : ℕ). stands w.view.words (depth_of x) p.name ≡ true) e s.stands.standing in
@@ -107,17 +107,17 @@ one_quad w h f p q i s t =
     ap (λ (x : ℕ). quad_of x p.name) e ∙ ap (λ (x : ℕ). quad_of q.height x) n
 
 -- a quad that is the result is the one that stood
-pub found_is : {E : Type 0} (v w : Work) (h : ℕ) (f : Cells) (p : Quad) → ReadsWork v w → IsQuad w h f p → FindsQuad {E = E} v w h f (Ok p)
+pub found_is : {E : Type 0} (v w : Keeper) (h : ℕ) (f : Cells) (p : Quad) → ReadsQuads v w → IsQuad w h f p → FindsQuad {E = E} v w h f (Ok p)
 found_is v w h f p r s q t = record { answer = ap Ok (one_quad w h f p q r.keeps.after s (is_quad-stays 0 v w h f q r.keeps t)); reads = r }
 
 -- ---- blocks
 -- the word of a block that stands is its bits
-block_word : (w : Work) (bits : ℕ) (q : Quad) → IsDistinct w.view.words → bits < 2 ^ 64 → IsQuad w bottom_height (block_cells bits) q → get_or w.view.words q.name 0 ≡ bits
+block_word : (w : Keeper) (bits : ℕ) (q : Quad) → IsDistinct w.view.words → bits < 2 ^ 64 → IsQuad w bottom_height (block_cells bits) q → get_or w.view.words q.name 0 ≡ bits
 unfolding bottom_height
 block_word w bits q d l s =
     same_block (get_or w.view.words q.name 0) bits (d.fits q.name) l (ap (λ (x : ℕ). cells w.view.words (depth_of x) q.name) (sym s.same_height) ∙ s.means)
 
-pub block_found : {E : Type 0} (v w : Work) (bits n : ℕ) → bits ≢ 0 → bits < 2 ^ 64 → KeepsWork 1 v w → w.misses ≡ v.misses → Interns {E = E} v.view w.view bits (Ok n) → FindsQuad {E = E} v w bottom_height (block_cells bits) (Ok (record { height = bottom_height; name = n }))
+pub block_found : {E : Type 0} (v w : Keeper) (bits n : ℕ) → bits ≢ 0 → bits < 2 ^ 64 → KeepsQuads 1 v w → w.misses ≡ v.misses → Interns {E = E} v.view w.view bits (Ok n) → FindsQuad {E = E} v w bottom_height (block_cells bits) (Ok (record { height = bottom_height; name = n }))
 block_found {E} v w bits n h l k c i q s =
     let d = k.before.of.canonical in
     let x = interns_again {E = E} v.view w.view bits q.name (Ok n) d k.after.of.canonical h (block_word v bits q d l s) i in
@@ -126,13 +126,13 @@ block_found {E} v w bits n h l k c i q s =
     ap (λ (m : ℕ). quad_of bottom_height m) e ∙ ap (λ (m : ℕ). quad_of m q.name) (sym s.same_height) in
     record { answer = ap Ok y; reads = reads_from {E = E} 1 v w n (Ok n) k c refl x.made }
 
-pub block_missed : {D E : Type 0} (v w : Work) (u : View) (bits : ℕ) (e : D) (r : Result Quad E) → bits ≢ 0 → bits < 2 ^ 64 → IsDistinct v.view.words → IsDistinct u.words → Interns v.view u bits (Err e) → FindsQuad v w bottom_height (block_cells bits) r
+pub block_missed : {D E : Type 0} (v w : Keeper) (u : View) (bits : ℕ) (e : D) (r : Result Quad E) → bits ≢ 0 → bits < 2 ^ 64 → IsDistinct v.view.words → IsDistinct u.words → Interns v.view u bits (Err e) → FindsQuad v w bottom_height (block_cells bits) r
 block_missed v w u bits e r h l d n i q s =
     absurd (no_answer e q.name (Err e) refl (interns_again v.view u bits q.name (Err e) d n h (block_word v bits q d l s) i).answer)
 
 -- ---- quarters
 -- a set of a quad lies within its square
-pub quad_within : (w : Work) (h n : ℕ) → Within (side_of h) (side_of h) (cells w.view.words (depth_of h) n)
+pub quad_within : (w : Keeper) (h n : ℕ) → Within (side_of h) (side_of h) (cells w.view.words (depth_of h) n)
 quad_within w h n =
     let d : ℕ = h - bottom_height in
     let f : Cells = cells w.view.words (twice d) n in
@@ -188,7 +188,7 @@ quartered_parts m f0 f1 f2 f3 g0 g1 g2 g3 a b e = record {
 }
 
 -- the quarters over which a quad stands, and its two halves, by their names
-pub record QuartersStood (w : Work) (h : ℕ) (q : Quad) (f0 f1 f2 f3 : Cells) : Type 0 where
+pub record QuartersStood (w : Keeper) (h : ℕ) (q : Quad) (f0 f1 f2 f3 : Cells) : Type 0 where
   pub north : ℕ
   pub south : ℕ
   pub nw : ℕ
@@ -204,7 +204,7 @@ pub record QuartersStood (w : Work) (h : ℕ) (q : Quad) (f0 f1 f2 f3 : Cells) :
   pub sw_is : IsQuad w h f2 (record { height = h; name = sw })
   pub se_is : IsQuad w h f3 (record { height = h; name = se })
 
-pub quarters_stood : (w : Work) (h : ℕ) (q : Quad) (f0 f1 f2 f3 : Cells) → IsWork w → bottom_height ≤ h → AreWithin (side_of h) f0 f1 f2 f3 → IsQuad w (h + 1) (quartered (side_of h) f0 f1 f2 f3) q → QuartersStood w h q f0 f1 f2 f3
+pub quarters_stood : (w : Keeper) (h : ℕ) (q : Quad) (f0 f1 f2 f3 : Cells) → IsKeeper w → bottom_height ≤ h → AreWithin (side_of h) f0 f1 f2 f3 → IsQuad w (h + 1) (quartered (side_of h) f0 f1 f2 f3) q → QuartersStood w h q f0 f1 f2 f3
 quarters_stood w h q f0 f1 f2 f3 i low a s =
     let W : List ℕ = w.view.words in
     let d : ℕ = h - bottom_height in
@@ -248,14 +248,14 @@ quarters_stood w h q f0 f1 f2 f3 i low a s =
 
 -- ---- corners
 -- the set of a quad as that of its name, at the height of another
-set_at : (w : Work) (h : ℕ) (q : Quad) → q.height ≡ h → QuadStands w q → IsSet w.view (depth_of h) q.name (quad_cells w q)
+set_at : (w : Keeper) (h : ℕ) (q : Quad) → q.height ≡ h → QuadStands w q → IsSet w.view (depth_of h) q.name (quad_cells w q)
 set_at w h q e s = record {
   standing = subst (λ (m : ℕ). stands w.view.words (depth_of m) q.name ≡ true) e s.standing;
   means = sym (ap (λ (m : ℕ). cells w.view.words (depth_of m) q.name) e);
 }
 
 -- four quads that stand at one height
-pub record FourStand (w : Work) (nw ne sw se : Quad) : Type 0 where
+pub record FourStand (w : Keeper) (nw ne sw se : Quad) : Type 0 where
   pub nw_stands : QuadStands w nw
   pub ne_stands : QuadStands w ne
   pub sw_stands : QuadStands w sw
@@ -265,25 +265,25 @@ pub record FourStand (w : Work) (nw ne sw se : Quad) : Type 0 where
   pub se_height : se.height ≡ nw.height
 
 -- the set of the corner of four quads
-abbrev pub corner_cells : Work → Quad → Quad → Quad → Quad → Cells
+abbrev pub corner_cells : Keeper → Quad → Quad → Quad → Quad → Cells
 corner_cells w nw ne sw se = quartered (side_of nw.height) (quad_cells w nw) (quad_cells w ne) (quad_cells w sw) (quad_cells w se)
 
-abbrev pub CornerStood : Work → Quad → Quad → Quad → Quad → Quad → Type 0
+abbrev pub CornerStood : Keeper → Quad → Quad → Quad → Quad → Quad → Type 0
 CornerStood w nw ne sw se q = QuartersStood w nw.height q (quad_cells w nw) (quad_cells w ne) (quad_cells w sw) (quad_cells w se)
 
 -- the cells of a quad lie within the square of a height
-pub within_at : (w : Work) (h : ℕ) (q : Quad) → q.height ≡ h → Within (side_of h) (side_of h) (quad_cells w q)
+pub within_at : (w : Keeper) (h : ℕ) (q : Quad) → q.height ≡ h → Within (side_of h) (side_of h) (quad_cells w q)
 within_at w h q e = subst (λ (x : ℕ). Within (side_of x) (side_of x) (quad_cells w q)) e (quad_within w q.height q.name)
 
-pub corner_stood : (w : Work) (nw ne sw se q : Quad) → IsWork w → FourStand w nw ne sw se → IsQuad w (nw.height + 1) (corner_cells w nw ne sw se) q → CornerStood w nw ne sw se q
+pub corner_stood : (w : Keeper) (nw ne sw se q : Quad) → IsKeeper w → FourStand w nw ne sw se → IsQuad w (nw.height + 1) (corner_cells w nw ne sw se) q → CornerStood w nw ne sw se q
 corner_stood w nw ne sw se q i f s =
     quarters_stood w nw.height q (quad_cells w nw) (quad_cells w ne) (quad_cells w sw) (quad_cells w se) i f.nw_stands.low
     (record { nw = within_at w nw.height nw refl; ne = within_at w nw.height ne f.ne_height; sw = within_at w nw.height sw f.sw_height; se = within_at w nw.height se f.se_height }) s
 
-pub corner_north : {E : Type 0} (s0 s1 : Work) (nw ne sw se q : Quad) (r : Result ℕ E) → FourStand s0 nw ne sw se → (c : CornerStood s0 nw ne sw se q) → FindsPair s0 s1 nw.name ne.name r → Finds s0 s1 c.north r
+pub corner_north : {E : Type 0} (s0 s1 : Keeper) (nw ne sw se q : Quad) (r : Result ℕ E) → FourStand s0 nw ne sw se → (c : CornerStood s0 nw ne sw se q) → FindsPair s0 s1 nw.name ne.name r → Finds s0 s1 c.north r
 corner_north s0 s1 nw ne sw se q r f c p = p (depth_of nw.height) c.north (quad_cells s0 nw) (quad_cells s0 ne) (set_at s0 nw.height nw refl f.nw_stands) (set_at s0 nw.height ne f.ne_height f.ne_stands) c.north_is
 
-pub corner_south : {E : Type 0} (s0 s1 s2 : Work) (nw ne sw se q : Quad) (r : Result ℕ E) → FourStand s0 nw ne sw se → (c : CornerStood s0 nw ne sw se q) → ReadsWork s0 s1 → FindsPair s1 s2 sw.name se.name r → Finds s0 s2 c.south r
+pub corner_south : {E : Type 0} (s0 s1 s2 : Keeper) (nw ne sw se q : Quad) (r : Result ℕ E) → FourStand s0 nw ne sw se → (c : CornerStood s0 nw ne sw se q) → ReadsQuads s0 s1 → FindsPair s1 s2 sw.name se.name r → Finds s0 s2 c.south r
 corner_south s0 s1 s2 nw ne sw se q r f c k p =
     let h : ℕ = nw.height in
     let g = p (depth_of h) c.south (quad_cells s0 sw) (quad_cells s0 se) (set_after 0 s0 s1 (depth_of h) sw.name _ k.keeps (set_at s0 h sw f.sw_height f.sw_stands))
@@ -291,7 +291,7 @@ corner_south s0 s1 s2 nw ne sw se q r f c k p =
     record { answer = g.answer; reads = reads_on s0 s1 s2 k g.reads }
 
 -- both halves as they stood
-pub corner_whole : {E : Type 0} (s0 s2 s3 : Work) (nw ne sw se q : Quad) (north south : ℕ) (r : Result ℕ E) → (c : CornerStood s0 nw ne sw se q) → ReadsWork s0 s2 → north ≡ c.north → south ≡ c.south → FindsPair s2 s3 north south r → Finds s0 s3 q.name r
+pub corner_whole : {E : Type 0} (s0 s2 s3 : Keeper) (nw ne sw se q : Quad) (north south : ℕ) (r : Result ℕ E) → (c : CornerStood s0 nw ne sw se q) → ReadsQuads s0 s2 → north ≡ c.north → south ≡ c.south → FindsPair s2 s3 north south r → Finds s0 s3 q.name r
 corner_whole {E} s0 s2 s3 nw ne sw se q north south r c k x y p =
     let k0 : ℕ = depth_of nw.height in
     let a = subst (λ (n : ℕ). IsSet s0.view (suc k0) n (paired k0 (quad_cells s0 nw) (quad_cells s0 ne))) (sym x) c.north_is in
@@ -300,11 +300,11 @@ corner_whole {E} s0 s2 s3 nw ne sw se q north south r c k x y p =
     record { answer = g.answer; reads = reads_on s0 s2 s3 k g.reads }
 
 -- the name that was answered
-pub the_answer : {T E : Type 0} (v w : Work) (x y : T) → Finds {E = E} v w x (Ok y) → y ≡ x
+pub the_answer : {T E : Type 0} (v w : Keeper) (x y : T) → Finds {E = E} v w x (Ok y) → y ≡ x
 the_answer v w x y f = IfOk-at_ok (λ z. y ≡ z) f.answer refl
 
 -- the quad of the name that was answered
-pub corner_found : {E : Type 0} (v w : Work) (h : ℕ) (q : Quad) (name : ℕ) → q.height ≡ h + 1 → Finds {E = E} v w q.name (Ok name) → Finds {E = E} v w q (Ok (quad_of (h + 1) name))
+pub corner_found : {E : Type 0} (v w : Keeper) (h : ℕ) (q : Quad) (name : ℕ) → q.height ≡ h + 1 → Finds {E = E} v w q.name (Ok name) → Finds {E = E} v w q (Ok (quad_of (h + 1) name))
 corner_found {E} v w h q name e f =
     let n : name ≡ q.name = the_answer {E = E} v w q.name name f in
     let y : quad_of (h + 1) name ≡ q = ap (λ (m : ℕ). quad_of (h + 1) m) n ∙ ap (λ (m : ℕ). quad_of m q.name) (sym e) in
@@ -312,11 +312,11 @@ corner_found {E} v w h q name e f =
 
 -- ---- recursions
 -- a quad under another name for it
-renamed : (w : Work) (h : ℕ) (f : Cells) (p q : Quad) → p ≡ q → IsQuad w h f q → IsQuad w h f p
+renamed : (w : Keeper) (h : ℕ) (f : Cells) (p q : Quad) → p ≡ q → IsQuad w h f q → IsQuad w h f p
 renamed w h f p q e s = subst (λ (x : Quad). IsQuad w h f x) (sym e) s
 
 -- the corner of the four quarters that stood is the quad over them
-pub four_found : {E : Type 0} (s2 s6 s7 : Work) (h : ℕ) (f0 f1 f2 f3 : Cells) (q nw ne sw se : Quad) (r : Result Quad E) → (c : QuartersStood s2 h q f0 f1 f2 f3) → ReadsWork s2 s6
+pub four_found : {E : Type 0} (s2 s6 s7 : Keeper) (h : ℕ) (f0 f1 f2 f3 : Cells) (q nw ne sw se : Quad) (r : Result Quad E) → (c : QuartersStood s2 h q f0 f1 f2 f3) → ReadsQuads s2 s6
     → nw ≡ record { height = h; name = c.nw } → ne ≡ record { height = h; name = c.ne } → sw ≡ record { height = h; name = c.sw } → se ≡ record { height = h; name = c.se }
     → FindsQuad s6 s7 (nw.height + 1) (corner_cells s6 nw ne sw se) r → Finds s2 s7 q r
 four_found s2 s6 s7 h f0 f1 f2 f3 q nw ne sw se r c k e0 e1 e2 e3 p =
@@ -335,18 +335,18 @@ four_found s2 s6 s7 h f0 f1 f2 f3 q nw ne sw se r c k e0 e1 e2 e3 p =
     record { answer = g.answer; reads = reads_on s2 s6 s7 k g.reads }
 
 -- what is found after a call that reads, under equal heights and sets
-pub found_later : {E : Type 0} (u v w : Work) (h k : ℕ) (f g : Cells) (r : Result Quad E) → ReadsWork u v → h ≡ k → f ≡ g → FindsQuad v w h f r → FindsQuad u w k g r
+pub found_later : {E : Type 0} (u v w : Keeper) (h k : ℕ) (f g : Cells) (r : Result Quad E) → ReadsQuads u v → h ≡ k → f ≡ g → FindsQuad v w h f r → FindsQuad u w k g r
 found_later u v w h k f g r x e d p q s =
     let t = is_quad-stays 0 u v k g q x.keeps s in
     let y = p q (record { same_height = t.same_height ∙ sym e; stands = t.stands; means = t.means ∙ sym d }) in
     record { answer = y.answer; reads = reads_on u v w x y.reads }
 
 -- what is found between calls that read
-pub found_after : {E : Type 0} (t u v w : Work) (q r : Quad) → ReadsWork t u → Finds {E = E} u v q (Ok r) → ReadsWork v w → Finds {E = E} t w q (Ok r)
+pub found_after : {E : Type 0} (t u v w : Keeper) (q r : Quad) → ReadsQuads t u → Finds {E = E} u v q (Ok r) → ReadsQuads v w → Finds {E = E} t w q (Ok r)
 found_after t u v w q r k f l = record { answer = f.answer; reads = reads_on t v w (reads_on t u v k f.reads) l }
 
 -- two quads that were found one after the other
-pub both_found : {E : Type 0} (u v w : Work) (p q a b : Quad) → Finds {E = E} u v p (Ok a) → Finds {E = E} v w q (Ok b) → Finds {T = Quad × Quad} {E = E} u w (p, q) (Ok (a, b))
+pub both_found : {E : Type 0} (u v w : Keeper) (p q a b : Quad) → Finds {E = E} u v p (Ok a) → Finds {E = E} v w q (Ok b) → Finds {T = Quad × Quad} {E = E} u w (p, q) (Ok (a, b))
 both_found {E} u v w p q a b f g =
     let x : a ≡ p = the_answer {E = E} u v p a f in
     let y : b ≡ q = the_answer {E = E} v w q b g in

@@ -5,7 +5,7 @@ use Rattle.rel_model.specs.Cells.{Cells, block_cells}
 use Rattle.rel_model.specs.Trees.{bottom_height, top_height, cells, stands, first_of, second_of, quartered, paired}
 use Rattle.rel_model.specs.Equations.{depth_of, side_of}
 use Rattle.rel_model.specs.Views.{IsSet, Interns}
-use Rattle.rel_model.specs.Quads.{Work, IsWork, quad_cells, QuadStands, IsQuad, KeepsWork, ReadsWork, AreQuarters}
+use Rattle.rel_model.specs.Quads.{Keeper, IsKeeper, quad_cells, QuadStands, IsQuad, KeepsQuads, ReadsQuads, AreQuarters}
 use Rattle.rel_model.proofs.TreeLaws.{kept_stands, kept_cells, parts_stand, zero_cells}
 use Rattle.rel_model.proofs.NamesStand.{block_set}
 use Rattle.rel_model.proofs.Squares.{four_squares}
@@ -13,11 +13,11 @@ use Rattle.rel_model.proofs.QuadLaws.{depth_of-next, set_after, empty_quad}
 use Rattle.quad_nodes.specs.Halves.{AreHalves, IsPaired}
 
 -- a set that stands has the same cells after a call
-same_after : (m : ℕ) (v w : Work) (k n : ℕ) → KeepsWork m v w → stands v.view.words k n ≡ true → cells w.view.words k n ≡ cells v.view.words k n
+same_after : (m : ℕ) (v w : Keeper) (k n : ℕ) → KeepsQuads m v w → stands v.view.words k n ≡ true → cells w.view.words k n ≡ cells v.view.words k n
 same_after m v w k n x s = kept_cells v.view.words w.view.words x.seen x.before.of.canonical.none_at_0 x.after.of.canonical.none_at_0 k n s
 
 -- the names that are read of a name are its halves
-pub halves_are : (v w : Work) (n a b : ℕ) → KeepsWork 0 v w → a ≡ first_of (get_or v.view.words n 0) → b ≡ second_of (get_or v.view.words n 0) → (k : ℕ) → stands v.view.words (suc k) n ≡ true → AreHalves v w k n a b
+pub halves_are : (v w : Keeper) (n a b : ℕ) → KeepsQuads 0 v w → a ≡ first_of (get_or v.view.words n 0) → b ≡ second_of (get_or v.view.words n 0) → (k : ℕ) → stands v.view.words (suc k) n ≡ true → AreHalves v w k n a b
 halves_are v w n a b x e f k s =
     let p = parts_stand v.view.words x.before.of.canonical k n s in
     let sa : stands v.view.words k a ≡ true = subst (λ (m : ℕ). stands v.view.words k m ≡ true) (sym e) p.0 in
@@ -32,20 +32,20 @@ halves_are v w n a b x e f k s =
     }
 
 -- the names of two halves at each depth
-abbrev pub Halve : Work → Work → ℕ → ℕ → ℕ → Type 0
+abbrev pub Halve : Keeper → Keeper → ℕ → ℕ → ℕ → Type 0
 Halve v w n a b = (k : ℕ) → stands v.view.words (suc k) n ≡ true → AreHalves v w k n a b
 
 -- the halves of a quad stand over its quarters
-pub halves_stand : (v w : Work) (q : Quad) (a b : ℕ) → QuadStands v q → bottom_height < q.height → Halve v w q.name a b → AreHalves v w (suc (depth_of (q.height - 1))) q.name a b
+pub halves_stand : (v w : Keeper) (q : Quad) (a b : ℕ) → QuadStands v q → bottom_height < q.height → Halve v w q.name a b → AreHalves v w (suc (depth_of (q.height - 1))) q.name a b
 halves_stand v w q a b s l h = h (suc (depth_of (q.height - 1))) (subst (λ (m : ℕ). stands v.view.words m q.name ≡ true) (depth_of-next q.height l) s.standing)
 
-pub quarters_are : (s0 s1 s2 s3 : Work) (q : Quad) (north south nw ne sw se : ℕ) → QuadStands s0 q → bottom_height < q.height → ReadsWork s0 s1 → ReadsWork s1 s2 → ReadsWork s2 s3
+pub quarters_are : (s0 s1 s2 s3 : Keeper) (q : Quad) (north south nw ne sw se : ℕ) → QuadStands s0 q → bottom_height < q.height → ReadsQuads s0 s1 → ReadsQuads s1 s2 → ReadsQuads s2 s3
     → Halve s0 s1 q.name north south → Halve s1 s2 north nw ne → Halve s2 s3 south sw se
     → AreQuarters s0 s3 q (record { height = q.height - 1; name = nw }, record { height = q.height - 1; name = ne }, record { height = q.height - 1; name = sw }, record { height = q.height - 1; name = se })
 quarters_are s0 s1 s2 s3 q north south nw ne sw se s l r0 r1 r2 h0 h1 h2 =
     let k : ℕ = depth_of (q.height - 1) in
-    let x1 : KeepsWork 0 s1 s2 = r1.keeps in
-    let x2 : KeepsWork 0 s2 s3 = r2.keeps in
+    let x1 : KeepsQuads 0 s1 s2 = r1.keeps in
+    let x2 : KeepsQuads 0 s2 s3 = r2.keeps in
     let h = halves_stand s0 s1 q north south s l h0 in
     let n = h1 k h.first in
     let ss : stands s2.view.words (suc k) south ≡ true = kept_stands s1.view.words s2.view.words x1.seen (suc k) south h.second in
@@ -69,15 +69,15 @@ quarters_are s0 s1 s2 s3 q north south nw ne sw se s l r0 r1 r2 h0 h1 h2 =
     }
 
 -- the set of a quad that stands, as that of its name
-pub set_of-quad : (w : Work) (h : ℕ) (q : Quad) → q.height ≡ h → QuadStands w q → IsSet w.view (depth_of h) q.name (quad_cells w q)
+pub set_of-quad : (w : Keeper) (h : ℕ) (q : Quad) → q.height ≡ h → QuadStands w q → IsSet w.view (depth_of h) q.name (quad_cells w q)
 set_of-quad w h q e s = record {
   standing = subst (λ (m : ℕ). stands w.view.words (depth_of m) q.name ≡ true) e s.standing;
   means = sym (ap (λ (m : ℕ). cells w.view.words (depth_of m) q.name) e);
 }
 
-pub corner_is : (l m n : ℕ) (s0 s1 s2 s3 : Work) (nw ne sw se : Quad) (north south name : ℕ) → QuadStands s0 nw → QuadStands s0 ne → QuadStands s0 sw → QuadStands s0 se
+pub corner_is : (l m n : ℕ) (s0 s1 s2 s3 : Keeper) (nw ne sw se : Quad) (north south name : ℕ) → QuadStands s0 nw → QuadStands s0 ne → QuadStands s0 sw → QuadStands s0 se
     → ne.height ≡ nw.height → sw.height ≡ nw.height → se.height ≡ nw.height → nw.height < top_height
-    → KeepsWork l s0 s1 → KeepsWork m s1 s2 → KeepsWork n s2 s3 → IsPaired s0 s1 nw.name ne.name north → IsPaired s1 s2 sw.name se.name south → IsPaired s2 s3 north south name
+    → KeepsQuads l s0 s1 → KeepsQuads m s1 s2 → KeepsQuads n s2 s3 → IsPaired s0 s1 nw.name ne.name north → IsPaired s1 s2 sw.name se.name south → IsPaired s2 s3 north south name
     → IsQuad s3 (nw.height + 1) (quartered (side_of nw.height) (quad_cells s0 nw) (quad_cells s0 ne) (quad_cells s0 sw) (quad_cells s0 se)) (record { height = nw.height + 1; name = name })
 corner_is l m n s0 s1 s2 s3 nw ne sw se north south name a b c d eb ec ed t k0 k1 k2 p0 p1 p2 =
     let h : ℕ = nw.height in
@@ -95,18 +95,18 @@ corner_is l m n s0 s1 s2 s3 nw ne sw se north south name a b c d eb ec ed t k0 k
     }
 
 -- a pair of two names that stand at one depth stands at the next
-pub pair_known : (v w : Work) (a b n : ℕ) (k : ℕ) → IsPaired v w a b n → stands v.view.words k a ≡ true → stands v.view.words k b ≡ true → stands w.view.words (suc k) n ≡ true
+pub pair_known : (v w : Keeper) (a b n : ℕ) (k : ℕ) → IsPaired v w a b n → stands v.view.words k a ≡ true → stands v.view.words k b ≡ true → stands w.view.words (suc k) n ≡ true
 pair_known v w a b n k p s t = (p k _ _ (record { standing = s; means = refl }) (record { standing = t; means = refl })).standing
 
 -- the block with no cell is the quad of name 0
-pub empty_block : (w : Work) (bits : ℕ) → IsWork w → bits ≡ 0 → IsQuad w bottom_height (block_cells bits) (record { height = bottom_height; name = 0 })
+pub empty_block : (w : Keeper) (bits : ℕ) → IsKeeper w → bits ≡ 0 → IsQuad w bottom_height (block_cells bits) (record { height = bottom_height; name = 0 })
 unfolding bottom_height top_height
 empty_block w bits i e =
     let q = empty_quad w 3 0 i (omega arith) (omega arith) refl in
     record { same_height = refl; stands = q.stands; means = q.means ∙ sym (ap block_cells e ∙ ap block_cells (sym i.of.canonical.none_at_0) ∙ zero_cells w.view.words i.of.canonical.none_at_0 0) }
 
 -- the answer of an intern of a block is its quad
-pub block_is : {E : Type 0} (v : Work) (w : Work) (bits n : ℕ) → bits ≢ 0 → Interns {E = E} v.view w.view bits (Ok n) → IsQuad w bottom_height (block_cells bits) (record { height = bottom_height; name = n })
+pub block_is : {E : Type 0} (v : Keeper) (w : Keeper) (bits n : ℕ) → bits ≢ 0 → Interns {E = E} v.view w.view bits (Ok n) → IsQuad w bottom_height (block_cells bits) (record { height = bottom_height; name = n })
 unfolding bottom_height top_height
 block_is v w bits n h i =
     let s = block_set v.view w.view bits n h i in

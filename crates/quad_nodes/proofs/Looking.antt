@@ -4,10 +4,10 @@ use Rattle.rel_model.specs.declared.Quad.{Quad}
 use Rattle.rel_model.specs.Cells.{Cells}
 use Rattle.rel_model.specs.Trees.{cells}
 use Rattle.rel_model.specs.Equations.{Operator, IsTrueIn, result_of, depth_of, side_of}
-use Rattle.rel_model.specs.Quads.{Work, quad_cells, QuadStands, IsQuad, ReadsWork}
+use Rattle.rel_model.specs.Quads.{Keeper, quad_cells, QuadStands, IsQuad, ReadsQuads}
 use Rattle.rel_model.proofs.QuadLaws.{quad_cells-stay}
 
-pub looked_up : (v w : Work) (op : Operator) (a b : Quad) (n : ℕ) → ReadsWork v w → QuadStands v a → QuadStands v b → b.height ≡ a.height → IsTrueIn w.view.words (record { op = op; height = a.height; a = a.name; b = b.name; r = n })
+pub looked_up : (v w : Keeper) (op : Operator) (a b : Quad) (n : ℕ) → ReadsQuads v w → QuadStands v a → QuadStands v b → b.height ≡ a.height → IsTrueIn w.view.words (record { op = op; height = a.height; a = a.name; b = b.name; r = n })
     → IsQuad w a.height (result_of op (side_of a.height) (quad_cells v a) (quad_cells v b)) (record { height = a.height; name = n })
 looked_up v w op a b n r s t e h =
     let f : Cells → Cells → Cells = result_of op (side_of a.height) in

@@ -5,7 +5,7 @@ use Rattle.rel_model.specs.declared.Quad.{Quad}
 use Rattle.rel_model.specs.Cells.{Cells, no_cells, cells_rect}
 use Rattle.rel_model.specs.Trees.{bottom_height, top_height, cells, stands, twice, side, quartered, paired}
 use Rattle.rel_model.specs.Equations.{depth_of, side_of}
-use Rattle.rel_model.specs.Quads.{Work, IsWork, quad_cells, QuadStands, IsQuad, KeepsWork}
+use Rattle.rel_model.specs.Quads.{Keeper, IsKeeper, quad_cells, QuadStands, IsQuad, KeepsQuads}
 use Rattle.rel_model.proofs.TreeLaws.{same_cells, Within}
 use Rattle.rel_model.proofs.Squares.{is_square-twice, rows_at-twice, cols_at-twice}
 use Rattle.rel_model.proofs.QuadLaws.{depth_of-next, side_of-next, is_quad-stays, empty_quad}
@@ -35,13 +35,13 @@ half_within i m l = elim (cases_Bool (ltb i m)) [
 ]
 
 -- the quarter of a cell stands, and has the cell at its place there
-pub record IsPlace (v w : Work) (q quarter : Quad) (i j row col : ℕ) : Type 0 where
+pub record IsPlace (v w : Keeper) (q quarter : Quad) (i j row col : ℕ) : Type 0 where
   pub standing : QuadStands w quarter
   pub row_in : row < side_of quarter.height
   pub col_in : col < side_of quarter.height
   pub same : quad_cells v q i j ≡ quad_cells w quarter row col
 
-pub place_is : (s0 s1 s2 : Work) (q : Quad) (i j m north south wide row west east name col : ℕ) → QuadStands s0 q → bottom_height < q.height → i < side_of q.height → j < side_of q.height → m ≡ side_of (q.height - 1)
+pub place_is : (s0 s1 s2 : Keeper) (q : Quad) (i j m north south wide row west east name col : ℕ) → QuadStands s0 q → bottom_height < q.height → i < side_of q.height → j < side_of q.height → m ≡ side_of (q.height - 1)
     → Halve s0 s1 q.name north south → wide ≡ cond (ltb i m) north south → row ≡ cond (ltb i m) i (i - m) → Halve s1 s2 wide west east → name ≡ cond (ltb j m) west east → col ≡ cond (ltb j m) j (j - m)
     → IsPlace s0 s2 q (record { height = q.height - 1; name = name }) i j row col
 place_is s0 s1 s2 q i j m north south wide row west east name col s l li lj em h0 ew er h1 en ec =
@@ -113,15 +113,15 @@ pub cells_rect-zero : (m n : ℕ) → m ≡ 0 → cells_rect m n ≡ no_cells
 cells_rect-zero m n e = same_cells _ _ (λ i j. and_left (ltb i m) (ltb j n) (le-ltb i m (omega arith)))
 
 -- the quad of name 0 is a rectangle with no cell
-pub rect_none : (w : Work) (h m n : ℕ) → IsWork w → bottom_height ≤ h → h ≤ top_height → (m ≡ 0) ⊎ (n ≡ 0) → IsQuad w h (cells_rect m n) (record { height = h; name = 0 })
+pub rect_none : (w : Keeper) (h m n : ℕ) → IsKeeper w → bottom_height ≤ h → h ≤ top_height → (m ≡ 0) ⊎ (n ≡ 0) → IsQuad w h (cells_rect m n) (record { height = h; name = 0 })
 rect_none w h m n i l t z =
     let q = empty_quad w h 0 i l t refl in
     let e : cells_rect m n ≡ no_cells = elim z [ inl x ↦ cells_rect-zero m n x | inr x ↦ cells_rect-none m n x ] in
     record { same_height = refl; stands = q.stands; means = q.means ∙ sym e }
 
 -- the corner of four rectangles is a rectangle
-pub rect_corner : {E : Type 0} (s0 s1 s2 : Work) (h m rows cols top : ℕ) (nw ne sw se : Quad) (r : Result Quad E) → bottom_height < h → top ≡ min rows (side_of (h - 1))
-    → AreBeside s0 (h - 1) top cols (nw, ne) → AreBeside s1 (h - 1) (rows - top) cols (sw, se) → KeepsWork m s0 s1
+pub rect_corner : {E : Type 0} (s0 s1 s2 : Keeper) (h m rows cols top : ℕ) (nw ne sw se : Quad) (r : Result Quad E) → bottom_height < h → top ≡ min rows (side_of (h - 1))
+    → AreBeside s0 (h - 1) top cols (nw, ne) → AreBeside s1 (h - 1) (rows - top) cols (sw, se) → KeepsQuads m s0 s1
     → IfOk r (IsQuad s2 (nw.height + 1) (quartered (side_of nw.height) (quad_cells s1 nw) (quad_cells s1 ne) (quad_cells s1 sw) (quad_cells s1 se)))
     → IfOk r (IsQuad s2 h (cells_rect rows cols))
 rect_corner s0 s1 s2 h m rows cols top nw ne sw se (Err e) l et a b k v = tt
@@ -146,7 +146,7 @@ rect_corner s0 s1 s2 h m rows cols top nw ne sw se (Ok q) l et a b k v =
     }
 
 -- two rectangles with the same rows and as many columns are one quad
-pub beside_twice : (w : Work) (h rows cols left : ℕ) (q : Quad) → left ≡ min cols (side_of h) → cols - left ≡ left → IsQuad w h (cells_rect rows left) q → AreBeside w h rows cols (q, q)
+pub beside_twice : (w : Keeper) (h rows cols left : ℕ) (q : Quad) → left ≡ min cols (side_of h) → cols - left ≡ left → IsQuad w h (cells_rect rows left) q → AreBeside w h rows cols (q, q)
 beside_twice w h rows cols left q e f s =
     let g : left ≡ cols - side_of h = omega arith in
     record {
@@ -154,7 +154,7 @@ beside_twice w h rows cols left q e f s =
       east = subst (λ (x : ℕ). IsQuad w h (cells_rect rows x) q) g s;
     }
 
-pub beside_each : (m : ℕ) (v w : Work) (h rows cols left : ℕ) (p q : Quad) → left ≡ min cols (side_of h) → KeepsWork m v w → IsQuad v h (cells_rect rows left) p → IsQuad w h (cells_rect rows (cols - left)) q → AreBeside w h rows cols (p, q)
+pub beside_each : (m : ℕ) (v w : Keeper) (h rows cols left : ℕ) (p q : Quad) → left ≡ min cols (side_of h) → KeepsQuads m v w → IsQuad v h (cells_rect rows left) p → IsQuad w h (cells_rect rows (cols - left)) q → AreBeside w h rows cols (p, q)
 beside_each m v w h rows cols left p q e k s t =
     let g : cols - left ≡ cols - side_of h = omega arith in
     record {
@@ -162,7 +162,7 @@ beside_each m v w h rows cols left p q e k s t =
       east = subst (λ (x : ℕ). IsQuad w h (cells_rect rows x) q) g t;
     }
 
-pub beside_again : (w : Work) (h rows r cols : ℕ) (p : Quad × Quad) → rows ≡ r → AreBeside w h rows cols p → AreBeside w h r cols p
+pub beside_again : (w : Keeper) (h rows r cols : ℕ) (p : Quad × Quad) → rows ≡ r → AreBeside w h rows cols p → AreBeside w h r cols p
 beside_again w h rows r cols p e a = subst (λ (x : ℕ). AreBeside w h x cols p) e a
 
 -- ---- rectangles that stand
@@ -174,7 +174,7 @@ rect_within m rows cols a b = record {
 }
 
 -- its quarters stand, of a height over that of blocks
-pub rect_stood : (w : Work) (h rows cols top : ℕ) (q : Quad) → IsWork w → bottom_height < h → rows ≤ side_of h → cols ≤ side_of h → top ≡ min rows (side_of (h - 1)) → IsQuad w h (cells_rect rows cols) q
+pub rect_stood : (w : Keeper) (h rows cols top : ℕ) (q : Quad) → IsKeeper w → bottom_height < h → rows ≤ side_of h → cols ≤ side_of h → top ≡ min rows (side_of (h - 1)) → IsQuad w h (cells_rect rows cols) q
     → QuartersStood w (h - 1) q (cells_rect top (min cols (side_of (h - 1)))) (cells_rect top (cols - side_of (h - 1))) (cells_rect (rows - top) (min cols (side_of (h - 1)))) (cells_rect (rows - top) (cols - side_of (h - 1)))
 rect_stood w h rows cols top q i l a b et s =
     let m : ℕ = side_of (h - 1) in

@@ -5,19 +5,19 @@ use Rattle.rel_model.specs.Cells.{Cells, cells_rect}
 use Rattle.rel_model.specs.Trees.{cells, stands, paired}
 use Rattle.rel_model.specs.Views.{IsSet}
 use Rattle.rel_model.specs.Equations.{side_of}
-use Rattle.rel_model.specs.Quads.{Work, IsQuad}
+use Rattle.rel_model.specs.Quads.{Keeper, IsQuad}
 
 -- two names stand at a depth, and pairing their sets gives that of the name at the next depth
-pub record AreHalves (old new : Work) (depth name left right : ℕ) : Type 0 where
+pub record AreHalves (old new : Keeper) (depth name left right : ℕ) : Type 0 where
   pub first : stands new.view.words depth left ≡ true
   pub second : stands new.view.words depth right ≡ true
   pub means : cells old.view.words (suc depth) name ≡ paired depth (cells new.view.words depth left) (cells new.view.words depth right)
 
 -- the name of two names has the pairing of their sets, at each depth at which both stand
-abbrev pub IsPaired : Work → Work → ℕ → ℕ → ℕ → Type 0
+abbrev pub IsPaired : Keeper → Keeper → ℕ → ℕ → ℕ → Type 0
 IsPaired old new left right name = (depth : ℕ) (f g : Cells) → IsSet old.view depth left f → IsSet old.view depth right g → IsSet new.view (suc depth) name (paired depth f g)
 
 -- two rectangles side by side: the first columns, as many as a square of the height has, and those behind them
-pub record AreBeside (w : Work) (height rows cols : ℕ) (pair : Quad × Quad) : Type 0 where
+pub record AreBeside (w : Keeper) (height rows cols : ℕ) (pair : Quad × Quad) : Type 0 where
   pub west : IsQuad w height (cells_rect rows (min cols (side_of height))) pair.0
   pub east : IsQuad w height (cells_rect rows (cols - side_of height)) pair.1

@@ -1,7 +1,7 @@
 //! Whether a cell is in the set of a quad.
 ghost use Rattle.std.specs.Prelude.{◌≡◌, ◌<◌, ◌-◌, cond, nat_lt};
 ghost use Rattle.rel_model.specs.Equations.{side_of};
-ghost use Rattle.rel_model.specs.Quads.{Work, QuadStands, quad_cells, ReadsWork};
+ghost use Rattle.rel_model.specs.Quads.{Keeper, QuadStands, quad_cells, ReadsQuads};
 ghost use Rattle.rel_model.specs.Cells.{block_cells};
 
 use crate::nodes::Nodes;
@@ -36,7 +36,7 @@ impl<'t> Nodes<'t> {
         requires row { i < side_of q.height }
         requires col { j < side_of q.height }
         ensures value { result ≡ quad_cells self.old q i j }
-        ensures reads { ReadsWork self.old self.new }
+        ensures reads { ReadsQuads self.old self.new }
     {
         if q.height == self.bottom() {
             let bits = self.bits(q);

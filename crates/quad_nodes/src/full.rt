@@ -2,7 +2,7 @@
 ghost use Rattle.std.specs.Prelude.{◌≡◌, true};
 ghost use Rattle.rel_model.specs.Cells.{cells_rect};
 ghost use Rattle.rel_model.specs.Equations.{side_of};
-ghost use Rattle.rel_model.specs.Quads.{Work, QuadStands, quad_cells, ReadsWork};
+ghost use Rattle.rel_model.specs.Quads.{Keeper, QuadStands, quad_cells, ReadsQuads};
 
 use crate::nodes::Nodes;
 use rel_model::Quad;
@@ -13,7 +13,7 @@ impl<'t> Nodes<'t> {
         requires stands { QuadStands self.old q }
         ensures full { result ≡ true → quad_cells self.old q ≡ cells_rect (side_of q.height) (side_of q.height) }
         ensures only_full { quad_cells self.old q ≡ cells_rect (side_of q.height) (side_of q.height) → result ≡ true }
-        ensures reads { ReadsWork self.old self.new }
+        ensures reads { ReadsQuads self.old self.new }
     {
         if q.height == self.bottom() {
             return self.bits(q) == u64::MAX;

@@ -2,7 +2,7 @@
 ghost use Rattle.std.specs.Prelude.{◌≡◌, ℕ, suc, true, IfOk, Ok};
 ghost use Rattle.rel_model.specs.Trees.{stands};
 ghost use Rattle.rel_model.specs.Views.{IsKnown};
-ghost use Rattle.rel_model.specs.Quads.{Work, KeepsWork, ReadsWork, Counts};
+ghost use Rattle.rel_model.specs.Quads.{Keeper, KeepsQuads, ReadsQuads, Counts};
 ghost use Rattle.quad_nodes.specs.Halves.{AreHalves, IsPaired};
 ghost use Rattle.quad_nodes.specs.Finding.{FindsPair};
 
@@ -14,7 +14,7 @@ impl<'t> Nodes<'t> {
     pub(crate) fn halves(&mut self, name: u32) -> (u32, u32)
         requires { IsKnown self.old.view name }
         ensures halves { (k : ℕ) → stands self.old.view.words (suc k) name ≡ true → AreHalves self.old self.new k name result.0 result.1 }
-        ensures reads { ReadsWork self.old self.new }
+        ensures reads { ReadsQuads self.old self.new }
     {
         let _ = &self.seat;
         if name == 0 {
@@ -30,7 +30,7 @@ impl<'t> Nodes<'t> {
         ensures value { IfOk result (IsPaired self.old self.new left right) }
         ensures nothing { left ≡ 0 → right ≡ 0 → result ≡ Ok 0 }
         ensures stood { FindsPair self.old self.new left right result }
-        ensures keeps { KeepsWork 1 self.old self.new }
+        ensures keeps { KeepsQuads 1 self.old self.new }
         ensures counts { Counts self.old self.new result }
     {
         let _ = &self.seat;

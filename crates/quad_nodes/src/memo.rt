@@ -1,7 +1,7 @@
 //! What an operator made of quads is noted, and looked up again.
 ghost use Rattle.std.specs.Prelude.{◌≡◌, IfSome, option_map};
 ghost use Rattle.rel_model.specs.Equations.{Transpose, result_of, side_of};
-ghost use Rattle.rel_model.specs.Quads.{Work, QuadStands, IsQuad, quad_cells, ReadsWork};
+ghost use Rattle.rel_model.specs.Quads.{Keeper, QuadStands, IsQuad, quad_cells, ReadsQuads};
 ghost use Rattle.memo_laws.specs.Looking.{Looks, Notes, operator_of};
 ghost use Rattle.quad_nodes.specs.Noting.{equation_between};
 
@@ -18,7 +18,7 @@ impl<'t> Nodes<'t> {
         requires one_operand { operator_of op ≡ Transpose → b.name ≡ 0 }
         ensures found { IfSome result (IsQuad self.new a.height (result_of (operator_of op) (side_of a.height) (quad_cells self.old a) (quad_cells self.old b))) }
         ensures looks { Looks (operator_of op) a.height a.name b.name self.old.view self.new.view (option_map (λ q. q.name) result) }
-        ensures reads { ReadsWork self.old self.new }
+        ensures reads { ReadsQuads self.old self.new }
     {
         let _ = &self.seat;
         match memo_laws::look(self.table, &mut self.seat, op, a.height, a.name, b.name) {
@@ -38,7 +38,7 @@ impl<'t> Nodes<'t> {
         requires one_operand { operator_of op ≡ Transpose → b.name ≡ 0 }
         requires holds { IsQuad self.old a.height (result_of (operator_of op) (side_of a.height) (quad_cells self.old a) (quad_cells self.old b)) r }
         ensures notes { Notes (equation_between (operator_of op) a b r) self.old.view self.new.view }
-        ensures reads { ReadsWork self.old self.new }
+        ensures reads { ReadsQuads self.old self.new }
     {
         let _ = &self.seat;
         let eq = Equation {

@@ -11,11 +11,11 @@ pub struct Nodes<'t> {
 }
 
 impl<'t> Model for Nodes<'t> {
-    ghost use Rattle.rel_model.specs.Quads.{Work, IsWork};
+    ghost use Rattle.rel_model.specs.Quads.{Keeper, IsKeeper};
 
-    ghost Value = { Work };
+    ghost Value = { Keeper };
 
     ghost view = { λ n. record { table = n.table.now; view = n.seat; misses = n.misses } };
 
-    ghost invariant = { λ n. IsWork (record { table = n.table.now; view = n.seat; misses = n.misses }) };
+    ghost invariant = { λ n. IsKeeper (record { table = n.table.now; view = n.seat; misses = n.misses }) };
 }

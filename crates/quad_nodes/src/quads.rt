@@ -3,7 +3,7 @@ ghost use Rattle.std.specs.Prelude.{◌≡◌, ◌<◌, ◌+◌, IfOk, Ok};
 ghost use Rattle.rel_model.specs.Cells.{block_cells};
 ghost use Rattle.rel_model.specs.Trees.{bottom_height, top_height, quartered};
 ghost use Rattle.rel_model.specs.Equations.{side_of};
-ghost use Rattle.rel_model.specs.Quads.{Work, IsWork, QuadStands, IsQuad, quad_cells, AreQuarters, KeepsWork, ReadsWork, Counts};
+ghost use Rattle.rel_model.specs.Quads.{Keeper, IsKeeper, QuadStands, IsQuad, quad_cells, AreQuarters, KeepsQuads, ReadsQuads, Counts};
 ghost use Rattle.quad_nodes.specs.Finding.{FindsQuad};
 
 use crate::nodes::Nodes;
@@ -16,7 +16,7 @@ impl<'t> Nodes<'t> {
     #[tactic(auto, unfolding(rel_model::specs::Trees::bottom_height))]
     pub fn bottom(&self) -> u8
         ensures height { result ≡ bottom_height }
-        ensures work { IsWork self.now }
+        ensures work { IsKeeper self.now }
     {
         let _ = &self.seat;
         3
@@ -27,7 +27,7 @@ impl<'t> Nodes<'t> {
         requires stands { QuadStands self.old q }
         requires over { bottom_height < q.height }
         ensures quarters { AreQuarters self.old self.new q result }
-        ensures reads { ReadsWork self.old self.new }
+        ensures reads { ReadsQuads self.old self.new }
     {
         let (north, south) = self.halves(q.name);
         let (nw, ne) = self.halves(north);
@@ -53,7 +53,7 @@ impl<'t> Nodes<'t> {
         requires b_over { bottom_height < b.height }
         ensures first { AreQuarters self.old self.new a result.0 }
         ensures second { AreQuarters self.old self.new b result.1 }
-        ensures reads { ReadsWork self.old self.new }
+        ensures reads { ReadsQuads self.old self.new }
     {
         let first = self.quarters(a);
         let second = self.quarters(b);
@@ -73,7 +73,7 @@ impl<'t> Nodes<'t> {
         ensures value { IfOk result (IsQuad self.new (nw.height + 1) (quartered (side_of nw.height) (quad_cells self.old nw) (quad_cells self.old ne) (quad_cells self.old sw) (quad_cells self.old se))) }
         ensures nothing { nw.name ≡ 0 → ne.name ≡ 0 → sw.name ≡ 0 → se.name ≡ 0 → result ≡ Ok (record { height = nw.height + 1; name = 0 }) }
         ensures stood { FindsQuad self.old self.new (nw.height + 1) (quartered (side_of nw.height) (quad_cells self.old nw) (quad_cells self.old ne) (quad_cells self.old sw) (quad_cells self.old se)) result }
-        ensures keeps { KeepsWork 3 self.old self.new }
+        ensures keeps { KeepsQuads 3 self.old self.new }
         ensures counts { Counts self.old self.new result }
     {
         let north = self.pair(nw.name, ne.name)?;
@@ -90,7 +90,7 @@ impl<'t> Nodes<'t> {
         requires stands { QuadStands self.old q }
         requires bottom { q.height ≡ bottom_height }
         ensures cells { block_cells result ≡ quad_cells self.old q }
-        ensures reads { ReadsWork self.old self.new }
+        ensures reads { ReadsQuads self.old self.new }
     {
         let _ = &self.seat;
         if q.name == 0 {
@@ -105,7 +105,7 @@ impl<'t> Nodes<'t> {
         ensures value { IfOk result (IsQuad self.new bottom_height (block_cells bits)) }
         ensures nothing { bits ≡ 0 → result ≡ Ok (record { height = bottom_height; name = 0 }) }
         ensures stood { FindsQuad self.old self.new bottom_height (block_cells bits) result }
-        ensures keeps { KeepsWork 1 self.old self.new }
+        ensures keeps { KeepsQuads 1 self.old self.new }
         ensures counts { Counts self.old self.new result }
     {
         let _ = &self.seat;

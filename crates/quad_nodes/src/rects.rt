@@ -3,7 +3,7 @@ ghost use Rattle.std.specs.Prelude.{◌≡◌, ◌≢◌, ◌⊎◌, ◌<◌, �
 ghost use Rattle.rel_model.specs.Cells.{cells_rect};
 ghost use Rattle.rel_model.specs.Trees.{bottom_height, top_height};
 ghost use Rattle.rel_model.specs.Equations.{side_of};
-ghost use Rattle.rel_model.specs.Quads.{Work, IsQuad, KeepsWork, Counts, quad_room};
+ghost use Rattle.rel_model.specs.Quads.{Keeper, IsQuad, KeepsQuads, Counts, quad_room};
 ghost use Rattle.quad_nodes.specs.Halves.{AreBeside};
 ghost use Rattle.quad_nodes.specs.Finding.{FindsQuad, FindsBoth};
 
@@ -26,7 +26,7 @@ impl<'t> Nodes<'t> {
         ensures value { IfOk result (IsQuad self.new height (cells_rect rows cols)) }
         ensures nothing { (rows ≡ 0) ⊎ (cols ≡ 0) → result ≡ Ok (record { height = height; name = 0 }) }
         ensures stood { FindsQuad self.old self.new height (cells_rect rows cols) result }
-        ensures keeps { KeepsWork (quad_room height) self.old self.new }
+        ensures keeps { KeepsQuads (quad_room height) self.old self.new }
         ensures counts { Counts self.old self.new result }
     {
         let bottom = self.bottom();
@@ -54,7 +54,7 @@ impl<'t> Nodes<'t> {
         requires col { cols ≤ side_of height + side_of height }
         ensures value { IfOk result (AreBeside self.new height rows cols) }
         ensures stood { FindsBoth self.old self.new height (cells_rect rows (min cols (side_of height))) (cells_rect rows (cols - side_of height)) result }
-        ensures keeps { KeepsWork (quad_room height + quad_room height) self.old self.new }
+        ensures keeps { KeepsQuads (quad_room height + quad_room height) self.old self.new }
         ensures counts { Counts self.old self.new result }
     {
         let left = cols.min(side_of_height(height));

@@ -1,7 +1,7 @@
 //! Nodes as seats: made over one, split and joined, and given back.
 ghost use Rattle.std.specs.Prelude.{◌≡◌, ◌<◌};
 ghost use Rattle.rel_model.specs.Views.{IsOf};
-ghost use Rattle.rel_model.specs.Quads.{Work, IsWork, SplitsWork, JoinsWork};
+ghost use Rattle.rel_model.specs.Quads.{Keeper, IsKeeper, SplitsKeeper, JoinsKeeper};
 
 use crate::nodes::Nodes;
 use pair_table::{PairTable, Seat};
@@ -11,7 +11,7 @@ impl<'t> Nodes<'t> {
     pub fn new(table: &'t PairTable, seat: Seat) -> Nodes<'t>
         requires of { IsOf seat table.now }
         ensures value { result ≡ record { table = table.now; view = seat; misses = 0 } }
-        ensures work { IsWork result }
+        ensures work { IsKeeper result }
     {
         Nodes {
             table,
@@ -23,7 +23,7 @@ impl<'t> Nodes<'t> {
     /// Splits off a second keeper, which knows as much, has so many spare seats, and has missed nothing.
     pub fn split(&mut self, spare: u32) -> Nodes<'t>
         requires fewer { spare < self.old.view.spare }
-        ensures { SplitsWork spare self.old self.new result }
+        ensures { SplitsKeeper spare self.old self.new result }
     {
         let seat = self.table.split(&mut self.seat, spare);
         Nodes {
@@ -43,7 +43,7 @@ impl<'t> Nodes<'t> {
     /// Both as one, which knows what either knew and counts what both missed.
     pub fn join(&mut self, other: Nodes<'t>)
         requires one_table { other.table ≡ self.old.table }
-        ensures { JoinsWork self.old other.entry self.new }
+        ensures { JoinsKeeper self.old other.entry self.new }
     {
         let Nodes {
             table: _,
@@ -57,7 +57,7 @@ impl<'t> Nodes<'t> {
     /// The seat, which is given back.
     pub fn into_seat(self) -> Seat
         ensures view { result ≡ self.entry.view }
-        ensures work { IsWork self.entry }
+        ensures work { IsKeeper self.entry }
     {
         self.seat
     }

@@ -4,15 +4,15 @@ use Rattle.rel_model.specs.declared.Quad.{Quad}
 use Rattle.rel_model.specs.Cells.{Cells}
 use Rattle.rel_model.specs.Trees.{quartered}
 use Rattle.rel_model.specs.Equations.{Operator, result_of, side_of}
-use Rattle.rel_model.specs.Quads.{Work, quad_cells, QuadStands, IsQuad, KeepsWork, AreQuarters}
+use Rattle.rel_model.specs.Quads.{Keeper, quad_cells, QuadStands, IsQuad, KeepsQuads, AreQuarters}
 use Rattle.rel_model.proofs.QuadLaws.{keeps_on, keeps_itself, quad_cells-stay, is_quad-stays, quarters-before, result_later, is_quad-height, corner_value}
 use Rattle.rel_boole.specs.declared.boole.Boole.{Boole}
 use Rattle.rel_boole.specs.Cellwise.{cells_by, operator_for}
 use Rattle.rel_boole.proofs.Cutting.{by_quarters, result_of-by}
 
-pub combined_value : {E : Type 0} (m0 m1 m2 m3 : ℕ) (op : Boole) (s0 s1 s2 s3 s4 s5 s6 s7 : Work) (a b : Quad) (fa fb : Quad × Quad × Quad × Quad) (nw ne sw se : Quad) (r : Result Quad E)
-    → QuadStands s0 a → QuadStands s0 b → b.height ≡ a.height → KeepsWork 0 s0 s1 → AreQuarters s1 s2 a fa → AreQuarters s1 s2 b fb
-    → KeepsWork m0 s2 s3 → KeepsWork m1 s3 s4 → KeepsWork m2 s4 s5 → KeepsWork m3 s5 s6
+pub combined_value : {E : Type 0} (m0 m1 m2 m3 : ℕ) (op : Boole) (s0 s1 s2 s3 s4 s5 s6 s7 : Keeper) (a b : Quad) (fa fb : Quad × Quad × Quad × Quad) (nw ne sw se : Quad) (r : Result Quad E)
+    → QuadStands s0 a → QuadStands s0 b → b.height ≡ a.height → KeepsQuads 0 s0 s1 → AreQuarters s1 s2 a fa → AreQuarters s1 s2 b fb
+    → KeepsQuads m0 s2 s3 → KeepsQuads m1 s3 s4 → KeepsQuads m2 s4 s5 → KeepsQuads m3 s5 s6
     → IsQuad s3 fa.0.height (cells_by op (quad_cells s2 fa.0) (quad_cells s2 fb.0)) nw → IsQuad s4 fa.1.height (cells_by op (quad_cells s3 fa.1) (quad_cells s3 fb.1)) ne
     → IsQuad s5 fa.2.height (cells_by op (quad_cells s4 fa.2) (quad_cells s4 fb.2)) sw → IsQuad s6 fa.3.height (cells_by op (quad_cells s5 fa.3) (quad_cells s5 fb.3)) se
     → IfOk r (IsQuad s7 (nw.height + 1) (quartered (side_of nw.height) (quad_cells s6 nw) (quad_cells s6 ne) (quad_cells s6 sw) (quad_cells s6 se)))
@@ -38,7 +38,7 @@ combined_value {E} m0 m1 m2 m3 op s0 s1 s2 s3 s4 s5 s6 s7 a b fa fb nw ne sw se 
     record { same_height = y.same_height ∙ pa.nw_height; stands = y.stands; means = y.means ∙ by_quarters op s0 s2 a b fa fb eh pa pb }
 
 -- the result as an equation says it
-pub as_equation : (m : ℕ) (op : Boole) (o : Operator) (v w : Work) (a b r : Quad) → o ≡ operator_for op → KeepsWork m v w → QuadStands v a → QuadStands v b
+pub as_equation : (m : ℕ) (op : Boole) (o : Operator) (v w : Keeper) (a b r : Quad) → o ≡ operator_for op → KeepsQuads m v w → QuadStands v a → QuadStands v b
     → IsQuad w a.height (cells_by op (quad_cells v a) (quad_cells v b)) r → IsQuad w a.height (result_of o (side_of a.height) (quad_cells w a) (quad_cells w b)) r
 as_equation m op o v w a b r e k s t i = record {
   same_height = i.same_height;

@@ -4,7 +4,7 @@ use Rattle.rel_model.specs.declared.Quad.{Quad}
 use Rattle.rel_model.specs.Cells.{Cells, no_cells}
 use Rattle.rel_model.specs.Trees.{cells, quartered}
 use Rattle.rel_model.specs.Equations.{Transpose, result_of, depth_of, side_of}
-use Rattle.rel_model.specs.Quads.{Work, IsWork, quad_cells, QuadStands, IsQuad, AreQuarters}
+use Rattle.rel_model.specs.Quads.{Keeper, IsKeeper, quad_cells, QuadStands, IsQuad, AreQuarters}
 use Rattle.rel_model.proofs.TreeLaws.{same_cells}
 use Rattle.rel_model.proofs.Squares.{each_cell-quartered}
 use Rattle.rel_model.proofs.QuadLaws.{empty_quad}
@@ -22,14 +22,14 @@ same_by INTER h false = refl
 same_by DIFF h x = absurd (h refl)
 
 -- a quad named 0 has no cell
-named_0 : (w : Work) (q : Quad) → IsWork w → QuadStands w q → q.name ≡ 0 → quad_cells w q ≡ no_cells
+named_0 : (w : Keeper) (q : Quad) → IsKeeper w → QuadStands w q → q.name ≡ 0 → quad_cells w q ≡ no_cells
 named_0 w q i s e = (empty_quad w q.height q.name i s.low s.high e).means
 
 -- two quads of one height and one name have one set
-one_name : (w : Work) (a b : Quad) → b.height ≡ a.height → a.name ≡ b.name → quad_cells w b ≡ quad_cells w a
+one_name : (w : Keeper) (a b : Quad) → b.height ≡ a.height → a.name ≡ b.name → quad_cells w b ≡ quad_cells w a
 one_name w a b e f = ap (λ (x : ℕ). cells w.view.words (depth_of x) b.name) e ∙ ap (λ (x : ℕ). cells w.view.words (depth_of a.height) x) (sym f)
 
-itself : (w : Work) (a : Quad) (f : Cells) → QuadStands w a → quad_cells w a ≡ f → IsQuad w a.height f a
+itself : (w : Keeper) (a : Quad) (f : Cells) → QuadStands w a → quad_cells w a ≡ f → IsQuad w a.height f a
 itself w a f s e = record { same_height = refl; stands = s; means = e }
 
 -- the first operand is the result
@@ -49,7 +49,7 @@ cut_second op a b z n w i s t e =
     record { same_height = e; stands = t; means = f }
 
 -- the result has no cell
-pub cut_none : (op : Boole) (a b : Quad) → ((w : Work) → IsWork w → QuadStands w a → QuadStands w b → b.height ≡ a.height → (i j : ℕ) → holds_by op (quad_cells w a i j) (quad_cells w b i j) ≡ false)
+pub cut_none : (op : Boole) (a b : Quad) → ((w : Keeper) → IsKeeper w → QuadStands w a → QuadStands w b → b.height ≡ a.height → (i j : ℕ) → holds_by op (quad_cells w a i j) (quad_cells w b i j) ≡ false)
     → CutsOff op a b (Some (record { height = a.height; name = 0 }))
 cut_none op a b z w i s t e =
     let q = empty_quad w a.height 0 i s.low s.high refl in
@@ -113,14 +113,14 @@ holds_by-exchanged INTER h false true = refl
 holds_by-exchanged INTER h false false = refl
 holds_by-exchanged DIFF h x y = absurd (h refl)
 
-pub record Ordered (w : Work) (op : Boole) (a b first second : Quad) : Type 0 where
+pub record Ordered (w : Keeper) (op : Boole) (a b first second : Quad) : Type 0 where
   pub first_stands : QuadStands w first
   pub second_stands : QuadStands w second
   pub first_height : first.height ≡ a.height
   pub one_height : second.height ≡ first.height
   pub same : cells_by op (quad_cells w first) (quad_cells w second) ≡ cells_by op (quad_cells w a) (quad_cells w b)
 
-pub ordered : (w : Work) (op : Boole) (a b : Quad) (pair : Quad × Quad) → QuadStands w a → QuadStands w b → b.height ≡ a.height → IsInOrder op a b pair → Ordered w op a b pair.0 pair.1
+pub ordered : (w : Keeper) (op : Boole) (a b : Quad) (pair : Quad × Quad) → QuadStands w a → QuadStands w b → b.height ≡ a.height → IsInOrder op a b pair → Ordered w op a b pair.0 pair.1
 ordered w op a b pair s t e o = elim o [
   | inl p ↦ subst (λ (x : Quad × Quad). Ordered w op a b x.0 x.1) (sym p) (record { first_stands = s; second_stands = t; first_height = refl; one_height = e; same = refl })
   | inr p ↦ subst (λ (x : Quad × Quad). Ordered w op a b x.0 x.1) (sym p.1)
@@ -145,7 +145,7 @@ no_transpose INTER e = cc
 no_transpose DIFF e = cc
 
 -- ---- quarters
-pub by_quarters : (op : Boole) (v w : Work) (a b : Quad) (fa fb : Quad × Quad × Quad × Quad) → b.height ≡ a.height → AreQuarters v w a fa → AreQuarters v w b fb
+pub by_quarters : (op : Boole) (v w : Keeper) (a b : Quad) (fa fb : Quad × Quad × Quad × Quad) → b.height ≡ a.height → AreQuarters v w a fa → AreQuarters v w b fb
     → quartered (side_of fa.0.height) (cells_by op (quad_cells w fa.0) (quad_cells w fb.0)) (cells_by op (quad_cells w fa.1) (quad_cells w fb.1)) (cells_by op (quad_cells w fa.2) (quad_cells w fb.2)) (cells_by op (quad_cells w fa.3) (quad_cells w fb.3))
     ≡ cells_by op (quad_cells v a) (quad_cells v b)
 by_quarters op v w a b fa fb e p q =

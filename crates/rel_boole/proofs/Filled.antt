@@ -5,7 +5,7 @@ use Rattle.rel_model.specs.declared.Quad.{Quad}
 use Rattle.rel_model.specs.Cells.{Cells, no_cells, cells_rect}
 use Rattle.rel_model.specs.Trees.{bottom_height, side}
 use Rattle.rel_model.specs.Equations.{Operator, result_of, depth_of, side_of}
-use Rattle.rel_model.specs.Quads.{Work, quad_cells, QuadStands, IsQuad, ReadsWork}
+use Rattle.rel_model.specs.Quads.{Keeper, quad_cells, QuadStands, IsQuad, ReadsQuads}
 use Rattle.rel_model.proofs.TreeLaws.{same_cells, cells_within}
 use Rattle.rel_model.proofs.Squares.{rows_at-twice, cols_at-twice}
 use Rattle.rel_model.proofs.QuadLaws.{reads_on, quad_stays, quad_cells-stay, empty_quad}
@@ -15,7 +15,7 @@ use Rattle.rel_boole.specs.Cellwise.{cells_by, operator_for, CutsOffFull}
 use Rattle.rel_boole.proofs.Cutting.{result_of-by}
 
 -- a quad lies within its square
-pub square_has : (w : Work) (q : Quad) (i j : ℕ) → quad_cells w q i j ≡ true → cells_rect (side_of q.height) (side_of q.height) i j ≡ true
+pub square_has : (w : Keeper) (q : Quad) (i j : ℕ) → quad_cells w q i j ≡ true → cells_rect (side_of q.height) (side_of q.height) i j ≡ true
 square_has w q i j h =
     let d : ℕ = q.height - bottom_height in
     let v = cells_within w.view.words (depth_of q.height) q.name in
@@ -59,10 +59,10 @@ same_square : (a b : Quad) → b.height ≡ a.height → all_cells b ≡ all_cel
 same_square a b e = ap (λ (x : ℕ). cells_rect (side_of x) (side_of x)) e
 
 -- the square of the other quad has the cells of a quad
-other_has : (w : Work) (a b : Quad) → b.height ≡ a.height → (i j : ℕ) → quad_cells w b i j ≡ true → all_cells a i j ≡ true
+other_has : (w : Keeper) (a b : Quad) → b.height ≡ a.height → (i j : ℕ) → quad_cells w b i j ≡ true → all_cells a i j ≡ true
 other_has w a b e i j h = ap (λ (c : Cells). c i j) (sym (same_square a b e)) ∙ square_has w b i j h
 
-other_has_back : (w : Work) (a b : Quad) → b.height ≡ a.height → (i j : ℕ) → quad_cells w a i j ≡ true → all_cells b i j ≡ true
+other_has_back : (w : Keeper) (a b : Quad) → b.height ≡ a.height → (i j : ℕ) → quad_cells w a i j ≡ true → all_cells b i j ≡ true
 other_has_back w a b e i j h = ap (λ (c : Cells). c i j) (same_square a b e) ∙ square_has w a i j h
 
 pub union_full_first : (a b : Quad) (s : Bool) → CutsOffFull UNION a b true s (Some a)
@@ -87,7 +87,7 @@ diff_full_second a b r w i p q e f g =
     record { same_height = refl; stands = n.stands; means = n.means ∙ sym (ap (λ (c : Cells). cells_by DIFF (quad_cells w a) c) (g refl) ∙ same_cells _ no_cells (λ x y. diff_full (all_cells b x y) (quad_cells w a x y) (other_has_back w a b e x y))) }
 
 -- ---- seen from before the calls
-pub found_full : (s0 s1 s2 : Work) (op : Boole) (a b : Quad) (a_full b_full : Bool) (r : Option Quad) → QuadStands s0 a → QuadStands s0 b → b.height ≡ a.height → ReadsWork s0 s1 → ReadsWork s1 s2
+pub found_full : (s0 s1 s2 : Keeper) (op : Boole) (a b : Quad) (a_full b_full : Bool) (r : Option Quad) → QuadStands s0 a → QuadStands s0 b → b.height ≡ a.height → ReadsQuads s0 s1 → ReadsQuads s1 s2
     → (a_full ≡ true → quad_cells s0 a ≡ all_cells a) → (b_full ≡ true → quad_cells s1 b ≡ all_cells b) → CutsOffFull op a b a_full b_full r
     → IfSome r (IsQuad s2 a.height (cells_by op (quad_cells s0 a) (quad_cells s0 b)))
 found_full s0 s1 s2 op a b a_full b_full r sa sb e r0 r1 fa fb c =
@@ -99,5 +99,5 @@ found_full s0 s1 s2 op a b a_full b_full r sa sb e r0 r1 fa fb c =
     subst (λ (f : Cells). IfSome r (IsQuad s2 a.height f)) (ap (λ (f : Cells). cells_by op f (quad_cells s2 b)) ea ∙ ap (λ (f : Cells). cells_by op (quad_cells s0 a) f) eb) d
 
 -- what was looked up, cell by cell
-pub looked_by : (w : Work) (o : Operator) (op : Boole) (h m : ℕ) (f g : Cells) (r : Quad) → o ≡ operator_for op → IsQuad w h (result_of o m f g) r → IsQuad w h (cells_by op f g) r
+pub looked_by : (w : Keeper) (o : Operator) (op : Boole) (h m : ℕ) (f g : Cells) (r : Quad) → o ≡ operator_for op → IsQuad w h (result_of o m f g) r → IsQuad w h (cells_by op f g) r
 looked_by w o op h m f g r e i = subst (λ (c : Cells). IsQuad w h c r) (ap (λ (x : Operator). result_of x m f g) e ∙ result_of-by op m f g) i

@@ -5,7 +5,7 @@ use Rattle.rel_model.specs.declared.Quad.{Quad}
 use Rattle.rel_model.specs.Cells.{Cells, block_cells}
 use Rattle.rel_model.specs.Trees.{bottom_height}
 use Rattle.rel_model.specs.Equations.{side_of}
-use Rattle.rel_model.specs.Quads.{Work, quad_cells, QuadStands, IsQuad, ReadsWork, AreQuarters}
+use Rattle.rel_model.specs.Quads.{Keeper, quad_cells, QuadStands, IsQuad, ReadsQuads, AreQuarters}
 use Rattle.rel_model.proofs.TreeLaws.{Within}
 use Rattle.rel_model.proofs.QuadLaws.{quad_cells-stay, is_quad-stays, quarters-before, reads_on}
 use Rattle.quad_nodes.specs.Finding.{Finds, FindsQuad}
@@ -29,10 +29,10 @@ cells_by-within op m f g a b = record {
 }
 
 -- the results on the quarters stand, and the quad over them
-abbrev pub ResultsStood : Boole → Work → Quad × Quad × Quad × Quad → Quad × Quad × Quad × Quad → Quad → Type 0
+abbrev pub ResultsStood : Boole → Keeper → Quad × Quad × Quad × Quad → Quad × Quad × Quad × Quad → Quad → Type 0
 ResultsStood op w fa fb q = QuartersStood w fa.0.height q (cells_by op (quad_cells w fa.0) (quad_cells w fb.0)) (cells_by op (quad_cells w fa.1) (quad_cells w fb.1)) (cells_by op (quad_cells w fa.2) (quad_cells w fb.2)) (cells_by op (quad_cells w fa.3) (quad_cells w fb.3))
 
-pub results_stood : (op : Boole) (s0 s1 s2 : Work) (a b q : Quad) (fa fb : Quad × Quad × Quad × Quad) → QuadStands s0 a → QuadStands s0 b → b.height ≡ a.height → ReadsWork s0 s1 → ReadsWork s1 s2 → AreQuarters s1 s2 a fa → AreQuarters s1 s2 b fb
+pub results_stood : (op : Boole) (s0 s1 s2 : Keeper) (a b q : Quad) (fa fb : Quad × Quad × Quad × Quad) → QuadStands s0 a → QuadStands s0 b → b.height ≡ a.height → ReadsQuads s0 s1 → ReadsQuads s1 s2 → AreQuarters s1 s2 a fa → AreQuarters s1 s2 b fb
     → IsQuad s0 a.height (cells_by op (quad_cells s0 a) (quad_cells s0 b)) q → ResultsStood op s2 fa fb q
 results_stood op s0 s1 s2 a b q fa fb sa sb eh k01 k12 qa qb s =
     let pa = quarters-before 0 s0 s1 s2 a fa k01.keeps sa qa in
@@ -57,7 +57,7 @@ results_stood op s0 s1 s2 a b q fa fb sa sb eh k01 k12 qa qb s =
     (record { same_height = t.same_height ∙ sym pa.nw_height; stands = t.stands; means = t.means ∙ sym (by_quarters op s0 s2 a b fa fb eh pa pb) })
 
 -- one of the four calls finds its result
-pub quarter_found : {E : Type 0} (op : Boole) (s2 s3 s4 : Work) (h : ℕ) (a b q : Quad) (r : Result Quad E) → a.height ≡ h → QuadStands s2 a → QuadStands s2 b → ReadsWork s2 s3 → IsQuad s2 h (cells_by op (quad_cells s2 a) (quad_cells s2 b)) q
+pub quarter_found : {E : Type 0} (op : Boole) (s2 s3 s4 : Keeper) (h : ℕ) (a b q : Quad) (r : Result Quad E) → a.height ≡ h → QuadStands s2 a → QuadStands s2 b → ReadsQuads s2 s3 → IsQuad s2 h (cells_by op (quad_cells s2 a) (quad_cells s2 b)) q
     → FindsQuad s3 s4 a.height (cells_by op (quad_cells s3 a) (quad_cells s3 b)) r → Finds s2 s4 q r
 quarter_found op s2 s3 s4 h a b q r e sa sb k s p =
     let x = is_quad-stays 0 s2 s3 h _ q k.keeps s in
@@ -70,7 +70,7 @@ quarter_found op s2 s3 s4 h a b q r e sa sb k s p =
     record { answer = g.answer; reads = reads_on s2 s3 s4 k g.reads }
 
 -- the block of a leaf is found
-pub leaf_found : {E : Type 0} (op : Boole) (s0 s1 s2 s3 : Work) (a b : Quad) (x y z : ℕ) (r : Result Quad E) → QuadStands s0 b → ReadsWork s0 s1 → ReadsWork s1 s2 → block_cells x ≡ quad_cells s0 a → block_cells y ≡ quad_cells s1 b
+pub leaf_found : {E : Type 0} (op : Boole) (s0 s1 s2 s3 : Keeper) (a b : Quad) (x y z : ℕ) (r : Result Quad E) → QuadStands s0 b → ReadsQuads s0 s1 → ReadsQuads s1 s2 → block_cells x ≡ quad_cells s0 a → block_cells y ≡ quad_cells s1 b
     → block_cells z ≡ cells_by op (block_cells x) (block_cells y) → FindsQuad s2 s3 bottom_height (block_cells z) r → FindsQuad s0 s3 bottom_height (cells_by op (quad_cells s0 a) (quad_cells s0 b)) r
 leaf_found op s0 s1 s2 s3 a b x y z r sb k l ex ey ez f =
     let e : block_cells z ≡ cells_by op (quad_cells s0 a) (quad_cells s0 b) =
@@ -78,5 +78,5 @@ leaf_found op s0 s1 s2 s3 a b x y z r sb k l ex ey ez f =
     found_later s0 s2 s3 bottom_height bottom_height (block_cells z) (cells_by op (quad_cells s0 a) (quad_cells s0 b)) r (reads_on s0 s1 s2 k l) refl e f
 
 -- a result under an equal height and set
-pub value_as : {E : Type 0} (w : Work) (h k : ℕ) (f g : Cells) (r : Result Quad E) → h ≡ k → f ≡ g → IfOk r (IsQuad w h f) → IfOk r (IsQuad w k g)
+pub value_as : {E : Type 0} (w : Keeper) (h k : ℕ) (f g : Cells) (r : Result Quad E) → h ≡ k → f ≡ g → IfOk r (IsQuad w h f) → IfOk r (IsQuad w k g)
 value_as w h k f g r e d v = subst (λ (c : Cells). IfOk r (IsQuad w k c)) d (subst (λ (x : ℕ). IfOk r (IsQuad w x f)) e v)

@@ -1,7 +1,7 @@
 //! The recursion over the operator.
 ghost use Rattle.std.specs.Prelude.{◌≡◌, ◌<◌, IfOk};
 ghost use Rattle.rel_model.specs.Trees.{bottom_height};
-ghost use Rattle.rel_model.specs.Quads.{Work, QuadStands, IsQuad, quad_cells, KeepsWork, Counts, quad_room};
+ghost use Rattle.rel_model.specs.Quads.{Keeper, QuadStands, IsQuad, quad_cells, KeepsQuads, Counts, quad_room};
 ghost use Rattle.quad_nodes.specs.Finding.{FindsQuad};
 ghost use Rattle.rel_boole.specs.Cellwise.{cells_by};
 
@@ -28,7 +28,7 @@ pub fn combined(nodes: &mut Nodes, op: Boole, a: Quad, b: Quad) -> Result<Quad, 
     requires one_height { b.height ≡ a.height }
     ensures value { IfOk result (IsQuad nodes.new a.height (cells_by op (quad_cells nodes.old a) (quad_cells nodes.old b))) }
     ensures stood { FindsQuad nodes.old nodes.new a.height (cells_by op (quad_cells nodes.old a) (quad_cells nodes.old b)) result }
-    ensures keeps { KeepsWork (quad_room a.height) nodes.old nodes.new }
+    ensures keeps { KeepsQuads (quad_room a.height) nodes.old nodes.new }
     ensures counts { Counts nodes.old nodes.new result }
 {
     let bottom = nodes.bottom();
@@ -51,7 +51,7 @@ fn combined_over(nodes: &mut Nodes, op: Boole, a: Quad, b: Quad) -> Result<Quad,
     requires over { bottom_height < a.height }
     ensures value { IfOk result (IsQuad nodes.new a.height (cells_by op (quad_cells nodes.old a) (quad_cells nodes.old b))) }
     ensures stood { FindsQuad nodes.old nodes.new a.height (cells_by op (quad_cells nodes.old a) (quad_cells nodes.old b)) result }
-    ensures keeps { KeepsWork (quad_room a.height) nodes.old nodes.new }
+    ensures keeps { KeepsQuads (quad_room a.height) nodes.old nodes.new }
     ensures counts { Counts nodes.old nodes.new result }
 {
     if let Some(found) = found_before(nodes, op, a, b) {

@@ -1,6 +1,6 @@
 //! What is known without going by quarters: full operands, and what was noted.
 ghost use Rattle.std.specs.Prelude.{◌≡◌, IfSome};
-ghost use Rattle.rel_model.specs.Quads.{Work, QuadStands, IsQuad, quad_cells, ReadsWork};
+ghost use Rattle.rel_model.specs.Quads.{Keeper, QuadStands, IsQuad, quad_cells, ReadsQuads};
 ghost use Rattle.memo_laws.specs.Looking.{operator_of};
 ghost use Rattle.rel_boole.specs.Cellwise.{cells_by, operator_for, CutsOffFull};
 
@@ -53,7 +53,7 @@ fn cut_off_full(nodes: &mut Nodes, op: Boole, a: Quad, b: Quad) -> Option<Quad>
     requires b_stands { QuadStands nodes.old b }
     requires one_height { b.height ≡ a.height }
     ensures found { IfSome result (IsQuad nodes.new a.height (cells_by op (quad_cells nodes.old a) (quad_cells nodes.old b))) }
-    ensures reads { ReadsWork nodes.old nodes.new }
+    ensures reads { ReadsQuads nodes.old nodes.new }
 {
     let a_full = nodes.is_full(a);
     let b_full = nodes.is_full(b);
@@ -66,7 +66,7 @@ pub fn found_before(nodes: &mut Nodes, op: Boole, a: Quad, b: Quad) -> Option<Qu
     requires b_stands { QuadStands nodes.old b }
     requires one_height { b.height ≡ a.height }
     ensures found { IfSome result (IsQuad nodes.new a.height (cells_by op (quad_cells nodes.old a) (quad_cells nodes.old b))) }
-    ensures reads { ReadsWork nodes.old nodes.new }
+    ensures reads { ReadsQuads nodes.old nodes.new }
 {
     if let Some(found) = cut_off_full(nodes, op, a, b) {
         return Some(found);

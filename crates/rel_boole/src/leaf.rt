@@ -2,7 +2,7 @@
 ghost use Rattle.std.specs.Prelude.{◌≡◌, IfOk};
 ghost use Rattle.rel_model.specs.Cells.{block_cells};
 ghost use Rattle.rel_model.specs.Trees.{bottom_height};
-ghost use Rattle.rel_model.specs.Quads.{Work, QuadStands, IsQuad, quad_cells, KeepsWork, Counts};
+ghost use Rattle.rel_model.specs.Quads.{Keeper, QuadStands, IsQuad, quad_cells, KeepsQuads, Counts};
 ghost use Rattle.quad_nodes.specs.Finding.{FindsQuad};
 ghost use Rattle.rel_boole.specs.Cellwise.{cells_by};
 
@@ -31,7 +31,7 @@ pub fn leaf(nodes: &mut Nodes, op: Boole, a: Quad, b: Quad) -> Result<Quad, Miss
     requires b_bottom { b.height ≡ bottom_height }
     ensures value { IfOk result (IsQuad nodes.new bottom_height (cells_by op (quad_cells nodes.old a) (quad_cells nodes.old b))) }
     ensures stood { FindsQuad nodes.old nodes.new bottom_height (cells_by op (quad_cells nodes.old a) (quad_cells nodes.old b)) result }
-    ensures keeps { KeepsWork 1 nodes.old nodes.new }
+    ensures keeps { KeepsQuads 1 nodes.old nodes.new }
     ensures counts { Counts nodes.old nodes.new result }
 {
     let first = nodes.bits(a);

@@ -1,7 +1,7 @@
 //! The three operators.
 ghost use Rattle.std.specs.Prelude.{◌≡◌, IfOk};
 ghost use Rattle.rel_model.specs.Cells.{cells_union, cells_inter, cells_diff};
-ghost use Rattle.rel_model.specs.Quads.{Work, QuadStands, IsQuad, quad_cells, KeepsWork, Counts, quad_room};
+ghost use Rattle.rel_model.specs.Quads.{Keeper, QuadStands, IsQuad, quad_cells, KeepsQuads, Counts, quad_room};
 ghost use Rattle.quad_nodes.specs.Finding.{FindsQuad};
 
 use crate::boole::{Boole, combined};
@@ -16,7 +16,7 @@ pub fn union_quads(nodes: &mut Nodes, a: Quad, b: Quad) -> Result<Quad, Missed>
     requires one_height { b.height ≡ a.height }
     ensures value { IfOk result (IsQuad nodes.new a.height (cells_union (quad_cells nodes.old a) (quad_cells nodes.old b))) }
     ensures stood { FindsQuad nodes.old nodes.new a.height (cells_union (quad_cells nodes.old a) (quad_cells nodes.old b)) result }
-    ensures keeps { KeepsWork (quad_room a.height) nodes.old nodes.new }
+    ensures keeps { KeepsQuads (quad_room a.height) nodes.old nodes.new }
     ensures counts { Counts nodes.old nodes.new result }
 {
     combined(nodes, Boole::Union, a, b)
@@ -29,7 +29,7 @@ pub fn inter_quads(nodes: &mut Nodes, a: Quad, b: Quad) -> Result<Quad, Missed>
     requires one_height { b.height ≡ a.height }
     ensures value { IfOk result (IsQuad nodes.new a.height (cells_inter (quad_cells nodes.old a) (quad_cells nodes.old b))) }
     ensures stood { FindsQuad nodes.old nodes.new a.height (cells_inter (quad_cells nodes.old a) (quad_cells nodes.old b)) result }
-    ensures keeps { KeepsWork (quad_room a.height) nodes.old nodes.new }
+    ensures keeps { KeepsQuads (quad_room a.height) nodes.old nodes.new }
     ensures counts { Counts nodes.old nodes.new result }
 {
     combined(nodes, Boole::Inter, a, b)
@@ -42,7 +42,7 @@ pub fn diff_quads(nodes: &mut Nodes, a: Quad, b: Quad) -> Result<Quad, Missed>
     requires one_height { b.height ≡ a.height }
     ensures value { IfOk result (IsQuad nodes.new a.height (cells_diff (quad_cells nodes.old a) (quad_cells nodes.old b))) }
     ensures stood { FindsQuad nodes.old nodes.new a.height (cells_diff (quad_cells nodes.old a) (quad_cells nodes.old b)) result }
-    ensures keeps { KeepsWork (quad_room a.height) nodes.old nodes.new }
+    ensures keeps { KeepsQuads (quad_room a.height) nodes.old nodes.new }
     ensures counts { Counts nodes.old nodes.new result }
 {
     combined(nodes, Boole::Diff, a, b)

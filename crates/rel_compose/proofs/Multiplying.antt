@@ -8,7 +8,7 @@ use Rattle.rel_model.specs.declared.Quad.{Quad}
 use Rattle.rel_model.specs.Cells.{Cells, no_cells, cells_rect, cells_union, cells_compose, some_below}
 use Rattle.rel_model.specs.Trees.{bottom_height, quartered, side}
 use Rattle.rel_model.specs.Equations.{side_of}
-use Rattle.rel_model.specs.Quads.{Work, IsWork, quad_cells, QuadStands, IsQuad, KeepsWork, ReadsWork, AreQuarters}
+use Rattle.rel_model.specs.Quads.{Keeper, IsKeeper, quad_cells, QuadStands, IsQuad, KeepsQuads, ReadsQuads, AreQuarters}
 use Rattle.rel_model.proofs.TreeLaws.{same_cells}
 use Rattle.rel_model.proofs.Composing.{cells_compose-quartered}
 use Rattle.rel_model.proofs.QuadLaws.{keeps_on, keeps_itself, quad_stays, quad_cells-stay, is_quad-stays, side_of-next, empty_quad, quarters-before, result_later, corner_value}
@@ -28,12 +28,12 @@ none_right zero f i j = refl
 none_right (suc m) f i j = ap (λ b. b || cells_compose m f no_cells i j) (and_false (f i m)) ∙ none_right m f i j
 
 -- a quad named 0 composed with another
-pub composed_none-left : (w : Work) (a b : Quad) → IsWork w → QuadStands w a → a.name ≡ 0 → IsQuad w a.height (cells_compose (side_of a.height) (quad_cells w a) (quad_cells w b)) a
+pub composed_none-left : (w : Keeper) (a b : Quad) → IsKeeper w → QuadStands w a → a.name ≡ 0 → IsQuad w a.height (cells_compose (side_of a.height) (quad_cells w a) (quad_cells w b)) a
 composed_none-left w a b i s e =
     let z : quad_cells w a ≡ no_cells = (empty_quad w a.height a.name i s.low s.high e).means in
     record { same_height = refl; stands = s; means = z ∙ sym (ap (λ (c : Cells). cells_compose (side_of a.height) c (quad_cells w b)) z ∙ same_cells _ no_cells (none_left (side_of a.height) (quad_cells w b))) }
 
-pub composed_none-right : (w : Work) (a b : Quad) → IsWork w → QuadStands w b → b.height ≡ a.height → b.name ≡ 0 → IsQuad w a.height (cells_compose (side_of a.height) (quad_cells w a) (quad_cells w b)) b
+pub composed_none-right : (w : Keeper) (a b : Quad) → IsKeeper w → QuadStands w b → b.height ≡ a.height → b.name ≡ 0 → IsQuad w a.height (cells_compose (side_of a.height) (quad_cells w a) (quad_cells w b)) b
 composed_none-right w a b i s h e =
     let z : quad_cells w b ≡ no_cells = (empty_quad w b.height b.name i s.low s.high e).means in
     record { same_height = h; stands = s; means = z ∙ sym (ap (λ (c : Cells). cells_compose (side_of a.height) (quad_cells w a) c) z ∙ same_cells _ no_cells (none_right (side_of a.height) (quad_cells w a))) }
@@ -64,7 +64,7 @@ some_side : (d : ℕ) → 0 < side d
 some_side zero = omega arith
 some_side (suc d) = let i = some_side d in omega (arith, i)
 
-pub composed_full : (s0 s1 s2 : Work) (a b : Quad) → ReadsWork s0 s1 → ReadsWork s1 s2 → QuadStands s0 a → b.height ≡ a.height → QuadStands s0 b
+pub composed_full : (s0 s1 s2 : Keeper) (a b : Quad) → ReadsQuads s0 s1 → ReadsQuads s1 s2 → QuadStands s0 a → b.height ≡ a.height → QuadStands s0 b
     → quad_cells s0 a ≡ cells_rect (side_of a.height) (side_of a.height) → quad_cells s1 b ≡ cells_rect (side_of b.height) (side_of b.height)
     → IsQuad s2 a.height (cells_compose (side_of a.height) (quad_cells s0 a) (quad_cells s0 b)) a
 composed_full s0 s1 s2 a b r0 r1 sa e sb fa fb =
@@ -79,12 +79,12 @@ composed_full s0 s1 s2 a b r0 r1 sa e sb fa fb =
     }
 
 -- ---- rows and columns
-pub both_stay : (m : ℕ) (v w : Work) (h : ℕ) (p : Quad × Quad) → KeepsWork m v w → BothStand v h p → BothStand w h p
+pub both_stay : (m : ℕ) (v w : Keeper) (h : ℕ) (p : Quad × Quad) → KeepsQuads m v w → BothStand v h p → BothStand w h p
 both_stay m v w h p k b = record { first = quad_stays m v w p.0 k b.first; second = quad_stays m v w p.1 k b.second; first_height = b.first_height; second_height = b.second_height }
 
 -- two compositions and their union
-pub product_value : {E : Type 0} (m0 m1 : ℕ) (s0 s1 s2 s3 : Work) (row column : Quad × Quad) (first second : Quad) (r : Result Quad E)
-    → BothStand s0 row.0.height row → BothStand s0 row.0.height column → KeepsWork m0 s0 s1 → KeepsWork m1 s1 s2
+pub product_value : {E : Type 0} (m0 m1 : ℕ) (s0 s1 s2 s3 : Keeper) (row column : Quad × Quad) (first second : Quad) (r : Result Quad E)
+    → BothStand s0 row.0.height row → BothStand s0 row.0.height column → KeepsQuads m0 s0 s1 → KeepsQuads m1 s1 s2
     → IsQuad s1 row.0.height (cells_compose (side_of row.0.height) (quad_cells s0 row.0) (quad_cells s0 column.0)) first
     → IsQuad s2 row.1.height (cells_compose (side_of row.1.height) (quad_cells s1 row.1) (quad_cells s1 column.1)) second
     → IfOk r (IsQuad s3 first.height (cells_union (quad_cells s2 first) (quad_cells s2 second)))
@@ -102,7 +102,7 @@ product_value m0 m1 s0 s1 s2 s3 row column first second (Ok q) sr sc k0 k1 f0 f1
     }
 
 -- a product seen from a state before the call
-pub product_before : (m : ℕ) (u v w : Work) (row column : Quad × Quad) (q : Quad) → KeepsWork m u v → BothStand u row.0.height row → BothStand u row.0.height column → IsProduct v w row column q → IsProduct u w row column q
+pub product_before : (m : ℕ) (u v w : Keeper) (row column : Quad × Quad) (q : Quad) → KeepsQuads m u v → BothStand u row.0.height row → BothStand u row.0.height column → IsProduct v w row column q → IsProduct u w row column q
 product_before m u v w row column q k sr sc i =
     let n : ℕ = side_of row.0.height in
     record {
@@ -116,23 +116,23 @@ product_before m u v w row column q k sr sc i =
     }
 
 -- a product in a state after the call
-product_after : (m : ℕ) (u w z : Work) (row column : Quad × Quad) (q : Quad) → KeepsWork m w z → IsProduct u w row column q → IsProduct u z row column q
+product_after : (m : ℕ) (u w z : Keeper) (row column : Quad × Quad) (q : Quad) → KeepsQuads m w z → IsProduct u w row column q → IsProduct u z row column q
 product_after m u w z row column q k i = is_quad-stays m w z row.0.height (row_by_column (side_of row.0.height) (quad_cells u row.0) (quad_cells u row.1) (quad_cells u column.0) (quad_cells u column.1)) q k i
 
 -- two products, one after the other
-pub products_value : (m0 m1 : ℕ) (s0 s1 s2 : Work) (row west east : Quad × Quad) (p q : Quad) → BothStand s0 row.0.height row → BothStand s0 row.0.height east → KeepsWork m0 s0 s1 → KeepsWork m1 s1 s2
+pub products_value : (m0 m1 : ℕ) (s0 s1 s2 : Keeper) (row west east : Quad × Quad) (p q : Quad) → BothStand s0 row.0.height row → BothStand s0 row.0.height east → KeepsQuads m0 s0 s1 → KeepsQuads m1 s1 s2
     → IsProduct s0 s1 row west p → IsProduct s1 s2 row east q → AreProducts s0 s2 row west east (p, q)
 products_value m0 m1 s0 s1 s2 row west east p q sr se k0 k1 a b = record { first = product_after m1 s0 s1 s2 row west p k1 a; second = product_before m0 s0 s1 s2 row east q k0 sr se b }
 
 -- ---- the square
 -- the rows and columns of two squares by their quarters
-pub record Squares (w : Work) (height : ℕ) (fa fb : Quad × Quad × Quad × Quad) : Type 0 where
+pub record Squares (w : Keeper) (height : ℕ) (fa fb : Quad × Quad × Quad × Quad) : Type 0 where
   pub north : BothStand w height (fa.0, fa.1)
   pub south : BothStand w height (fa.2, fa.3)
   pub west : BothStand w height (fb.0, fb.2)
   pub east : BothStand w height (fb.1, fb.3)
 
-pub squares : (t w : Work) (a b : Quad) (fa fb : Quad × Quad × Quad × Quad) → b.height ≡ a.height → AreQuarters t w a fa → AreQuarters t w b fb → Squares w fa.0.height fa fb
+pub squares : (t w : Keeper) (a b : Quad) (fa fb : Quad × Quad × Quad × Quad) → b.height ≡ a.height → AreQuarters t w a fa → AreQuarters t w b fb → Squares w fa.0.height fa fb
 squares t w a b fa fb e p q =
     let a0 = p.nw_height in
     let a1 = p.ne_height in
@@ -149,7 +149,7 @@ squares t w a b fa fb e p q =
       east = record { first = q.ne; second = q.se; first_height = omega arith; second_height = omega arith };
     }
 
-pub squares-stay : (m : ℕ) (v w : Work) (h : ℕ) (fa fb : Quad × Quad × Quad × Quad) → KeepsWork m v w → Squares v h fa fb → Squares w h fa fb
+pub squares-stay : (m : ℕ) (v w : Keeper) (h : ℕ) (fa fb : Quad × Quad × Quad × Quad) → KeepsQuads m v w → Squares v h fa fb → Squares w h fa fb
 squares-stay m v w h fa fb k s = record {
   north = both_stay m v w h (fa.0, fa.1) k s.north;
   south = both_stay m v w h (fa.2, fa.3) k s.south;
@@ -158,11 +158,11 @@ squares-stay m v w h fa fb k s = record {
 }
 
 -- a pair that stands at a height stands at that of another quad
-pub both_at : (w : Work) (h k : ℕ) (p : Quad × Quad) → k ≡ h → BothStand w h p → BothStand w k p
+pub both_at : (w : Keeper) (h k : ℕ) (p : Quad × Quad) → k ≡ h → BothStand w h p → BothStand w k p
 both_at w h k p e b = subst (λ (x : ℕ). BothStand w x p) (sym e) b
 
-pub composed_value : {E : Type 0} (m0 m1 : ℕ) (s0 s1 s2 s3 s4 s5 : Work) (a b : Quad) (fa fb : Quad × Quad × Quad × Quad) (nw ne sw se : Quad) (r : Result Quad E)
-    → bottom_height < a.height → QuadStands s0 a → QuadStands s0 b → b.height ≡ a.height → KeepsWork 0 s0 s1 → AreQuarters s1 s2 a fa → AreQuarters s1 s2 b fb → KeepsWork m0 s2 s3 → KeepsWork m1 s3 s4
+pub composed_value : {E : Type 0} (m0 m1 : ℕ) (s0 s1 s2 s3 s4 s5 : Keeper) (a b : Quad) (fa fb : Quad × Quad × Quad × Quad) (nw ne sw se : Quad) (r : Result Quad E)
+    → bottom_height < a.height → QuadStands s0 a → QuadStands s0 b → b.height ≡ a.height → KeepsQuads 0 s0 s1 → AreQuarters s1 s2 a fa → AreQuarters s1 s2 b fb → KeepsQuads m0 s2 s3 → KeepsQuads m1 s3 s4
     → AreProducts s2 s3 (fa.0, fa.1) (fb.0, fb.2) (fb.1, fb.3) (nw, ne) → AreProducts s3 s4 (fa.2, fa.3) (fb.0, fb.2) (fb.1, fb.3) (sw, se)
     → IfOk r (IsQuad s5 (nw.height + 1) (quartered (side_of nw.height) (quad_cells s4 nw) (quad_cells s4 ne) (quad_cells s4 sw) (quad_cells s4 se)))
     → IfOk r (IsQuad s5 a.height (cells_compose (side_of a.height) (quad_cells s0 a) (quad_cells s0 b)))
@@ -197,7 +197,7 @@ composed_value {E} m0 m1 s0 s1 s2 s3 s4 s5 a b fa fb nw ne sw se (Ok q) l sa sb 
     }
 
 -- the result as an equation says it
-pub composed_now : (m : ℕ) (v w : Work) (a b r : Quad) → KeepsWork m v w → QuadStands v a → QuadStands v b → IsQuad w a.height (cells_compose (side_of a.height) (quad_cells v a) (quad_cells v b)) r
+pub composed_now : (m : ℕ) (v w : Keeper) (a b r : Quad) → KeepsQuads m v w → QuadStands v a → QuadStands v b → IsQuad w a.height (cells_compose (side_of a.height) (quad_cells v a) (quad_cells v b)) r
     → IsQuad w a.height (cells_compose (side_of a.height) (quad_cells w a) (quad_cells w b)) r
 composed_now m v w a b r k s t i = record {
   same_height = i.same_height;
@@ -206,11 +206,11 @@ composed_now m v w a b r k s t i = record {
 }
 
 -- seen from before a call that reads
-pub composed_after : {E : Type 0} (v w z : Work) (a b : Quad) (r : Result Quad E) → ReadsWork v w → QuadStands v a → QuadStands v b → IfOk r (IsQuad z a.height (cells_compose (side_of a.height) (quad_cells w a) (quad_cells w b)))
+pub composed_after : {E : Type 0} (v w z : Keeper) (a b : Quad) (r : Result Quad E) → ReadsQuads v w → QuadStands v a → QuadStands v b → IfOk r (IsQuad z a.height (cells_compose (side_of a.height) (quad_cells w a) (quad_cells w b)))
     → IfOk r (IsQuad z a.height (cells_compose (side_of a.height) (quad_cells v a) (quad_cells v b)))
 composed_after v w z a b r k s t i =
     subst (λ (c : Cells). IfOk r (IsQuad z a.height c)) (ap (λ (c : Cells). cells_compose (side_of a.height) c (quad_cells w b)) (quad_cells-stay 0 v w a k.keeps s) ∙ ap (λ (c : Cells). cells_compose (side_of a.height) (quad_cells v a) c) (quad_cells-stay 0 v w b k.keeps t)) i
 
 -- the room of a row of products of the height below
-pub row_below : (h k : ℕ) (v w : Work) → k + 1 ≡ h → KeepsWork (quarter_room k + quarter_room k) v w → KeepsWork (quarter_room (h - 1) + quarter_room (h - 1)) v w
-row_below h k v w e x = subst (λ (n : ℕ). KeepsWork (quarter_room n + quarter_room n) v w) (let g : k ≡ h - 1 = omega arith in g) x
+pub row_below : (h k : ℕ) (v w : Keeper) → k + 1 ≡ h → KeepsQuads (quarter_room k + quarter_room k) v w → KeepsQuads (quarter_room (h - 1) + quarter_room (h - 1)) v w
+row_below h k v w e x = subst (λ (n : ℕ). KeepsQuads (quarter_room n + quarter_room n) v w) (let g : k ≡ h - 1 = omega arith in g) x

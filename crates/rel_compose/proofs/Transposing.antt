@@ -5,24 +5,24 @@ use Rattle.rel_model.specs.declared.Quad.{Quad}
 use Rattle.rel_model.specs.Cells.{Cells, no_cells, cells_rect, cells_transpose}
 use Rattle.rel_model.specs.Trees.{quartered}
 use Rattle.rel_model.specs.Equations.{depth_of, side_of}
-use Rattle.rel_model.specs.Quads.{Work, IsWork, quad_cells, QuadStands, IsQuad, KeepsWork, ReadsWork, AreQuarters}
+use Rattle.rel_model.specs.Quads.{Keeper, IsKeeper, quad_cells, QuadStands, IsQuad, KeepsQuads, ReadsQuads, AreQuarters}
 use Rattle.rel_model.proofs.TreeLaws.{zero_stands, same_cells}
 use Rattle.rel_model.proofs.Composing.{cells_transpose-quartered}
 use Rattle.rel_model.proofs.QuadLaws.{keeps_on, keeps_itself, quad_stays, quad_cells-stay, is_quad-stays, empty_quad, quarters-before, result_later, is_quad-height, corner_value}
 
 -- the quad of name 0 stands at the height of any quad
-pub none_stands : (w : Work) (a : Quad) → QuadStands w a → QuadStands w (record { height = a.height; name = 0 })
+pub none_stands : (w : Keeper) (a : Quad) → QuadStands w a → QuadStands w (record { height = a.height; name = 0 })
 none_stands w a s = record { low = s.low; high = s.high; standing = zero_stands w.view.words (depth_of a.height) }
 
 -- a quad named 0 is its own transposition
-pub transposed_none : (w : Work) (a : Quad) → IsWork w → QuadStands w a → a.name ≡ 0 → IsQuad w a.height (cells_transpose (quad_cells w a)) a
+pub transposed_none : (w : Keeper) (a : Quad) → IsKeeper w → QuadStands w a → a.name ≡ 0 → IsQuad w a.height (cells_transpose (quad_cells w a)) a
 transposed_none w a i s e =
     let z : quad_cells w a ≡ no_cells = (empty_quad w a.height a.name i s.low s.high e).means in
     record { same_height = refl; stands = s; means = z ∙ sym (ap (λ (c : Cells). cells_transpose c) z) }
 
-pub transposed_value : {E : Type 0} (m0 m1 m2 m3 : ℕ) (s0 s1 s2 s3 s4 s5 s6 s7 : Work) (a : Quad) (four : Quad × Quad × Quad × Quad) (nw ne sw se : Quad) (r : Result Quad E)
-    → QuadStands s0 a → KeepsWork 0 s0 s1 → AreQuarters s1 s2 a four
-    → KeepsWork m0 s2 s3 → KeepsWork m1 s3 s4 → KeepsWork m2 s4 s5 → KeepsWork m3 s5 s6
+pub transposed_value : {E : Type 0} (m0 m1 m2 m3 : ℕ) (s0 s1 s2 s3 s4 s5 s6 s7 : Keeper) (a : Quad) (four : Quad × Quad × Quad × Quad) (nw ne sw se : Quad) (r : Result Quad E)
+    → QuadStands s0 a → KeepsQuads 0 s0 s1 → AreQuarters s1 s2 a four
+    → KeepsQuads m0 s2 s3 → KeepsQuads m1 s3 s4 → KeepsQuads m2 s4 s5 → KeepsQuads m3 s5 s6
     → IsQuad s3 four.0.height (cells_transpose (quad_cells s2 four.0)) nw → IsQuad s4 four.2.height (cells_transpose (quad_cells s3 four.2)) ne
     → IsQuad s5 four.1.height (cells_transpose (quad_cells s4 four.1)) sw → IsQuad s6 four.3.height (cells_transpose (quad_cells s5 four.3)) se
     → IfOk r (IsQuad s7 (nw.height + 1) (quartered (side_of nw.height) (quad_cells s6 nw) (quad_cells s6 ne) (quad_cells s6 sw) (quad_cells s6 se)))
@@ -51,15 +51,15 @@ transposed_value {E} m0 m1 m2 m3 s0 s1 s2 s3 s4 s5 s6 s7 a four nw ne sw se (Ok 
     }
 
 -- the result as an equation says it
-pub transposed_now : (m : ℕ) (v w : Work) (a r : Quad) → KeepsWork m v w → QuadStands v a → IsQuad w a.height (cells_transpose (quad_cells v a)) r → IsQuad w a.height (cells_transpose (quad_cells w a)) r
+pub transposed_now : (m : ℕ) (v w : Keeper) (a r : Quad) → KeepsQuads m v w → QuadStands v a → IsQuad w a.height (cells_transpose (quad_cells v a)) r → IsQuad w a.height (cells_transpose (quad_cells w a)) r
 transposed_now m v w a r k s i = record { same_height = i.same_height; stands = i.stands; means = i.means ∙ ap (λ (c : Cells). cells_transpose c) (sym (quad_cells-stay m v w a k s)) }
 
 -- a square with every cell is its own transposition
 rect_transposed : (m : ℕ) → cells_transpose (cells_rect m m) ≡ cells_rect m m
 rect_transposed m = same_cells _ _ (λ i j. and_comm (ltb j m) (ltb i m))
 
-pub transposed_full : (v w : Work) (a : Quad) → ReadsWork v w → QuadStands v a → quad_cells v a ≡ cells_rect (side_of a.height) (side_of a.height) → IsQuad w a.height (cells_transpose (quad_cells v a)) a
+pub transposed_full : (v w : Keeper) (a : Quad) → ReadsQuads v w → QuadStands v a → quad_cells v a ≡ cells_rect (side_of a.height) (side_of a.height) → IsQuad w a.height (cells_transpose (quad_cells v a)) a
 transposed_full v w a r s f = record { same_height = refl; stands = quad_stays 0 v w a r.keeps s; means = quad_cells-stay 0 v w a r.keeps s ∙ f ∙ sym (rect_transposed (side_of a.height)) ∙ ap (λ (c : Cells). cells_transpose c) (sym f) }
 
-pub transposed_after : {E : Type 0} (v w z : Work) (a : Quad) (r : Result Quad E) → ReadsWork v w → QuadStands v a → IfOk r (IsQuad z a.height (cells_transpose (quad_cells w a))) → IfOk r (IsQuad z a.height (cells_transpose (quad_cells v a)))
+pub transposed_after : {E : Type 0} (v w z : Keeper) (a : Quad) (r : Result Quad E) → ReadsQuads v w → QuadStands v a → IfOk r (IsQuad z a.height (cells_transpose (quad_cells w a))) → IfOk r (IsQuad z a.height (cells_transpose (quad_cells v a)))
 transposed_after v w z a r k s i = subst (λ (c : Cells). IfOk r (IsQuad z a.height (cells_transpose c))) (quad_cells-stay 0 v w a k.keeps s) i

@@ -3,10 +3,10 @@ use Rattle.std.specs.Prelude.{◌≡◌, ◌+◌, ℕ}
 use Rattle.rel_model.specs.declared.Quad.{Quad}
 use Rattle.rel_model.specs.Cells.{Cells, cells_union, cells_compose}
 use Rattle.rel_model.specs.Equations.{side_of}
-use Rattle.rel_model.specs.Quads.{Work, quad_cells, QuadStands, IsQuad, quad_room, compose_room}
+use Rattle.rel_model.specs.Quads.{Keeper, quad_cells, QuadStands, IsQuad, quad_room, compose_room}
 
 -- two quads of one height stand
-pub record BothStand (w : Work) (height : ℕ) (pair : Quad × Quad) : Type 0 where
+pub record BothStand (w : Keeper) (height : ℕ) (pair : Quad × Quad) : Type 0 where
   pub first : QuadStands w pair.0
   pub second : QuadStands w pair.1
   pub first_height : pair.0.height ≡ height
@@ -17,11 +17,11 @@ abbrev pub row_by_column : ℕ → Cells → Cells → Cells → Cells → Cells
 row_by_column m a b e g = cells_union (cells_compose m a e) (cells_compose m b g)
 
 -- the quad is the product of a row and a column
-abbrev pub IsProduct : Work → Work → Quad × Quad → Quad × Quad → Quad → Type 0
+abbrev pub IsProduct : Keeper → Keeper → Quad × Quad → Quad × Quad → Quad → Type 0
 IsProduct old new row column q = IsQuad new row.0.height (row_by_column (side_of row.0.height) (quad_cells old row.0) (quad_cells old row.1) (quad_cells old column.0) (quad_cells old column.1)) q
 
 -- the two quads are the products of a row and two columns
-pub record AreProducts (old new : Work) (row west east : Quad × Quad) (pair : Quad × Quad) : Type 0 where
+pub record AreProducts (old new : Keeper) (row west east : Quad × Quad) (pair : Quad × Quad) : Type 0 where
   pub first : IsProduct old new row west pair.0
   pub second : IsProduct old new row east pair.1
 

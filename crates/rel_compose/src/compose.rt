@@ -3,7 +3,7 @@ ghost use Rattle.std.specs.Prelude.{◌≡◌, ◌⊎◌, ◌<◌, ◌+◌, IfOk
 ghost use Rattle.rel_model.specs.Cells.{cells_rect, cells_compose};
 ghost use Rattle.rel_model.specs.Trees.{bottom_height};
 ghost use Rattle.rel_model.specs.Equations.{side_of};
-ghost use Rattle.rel_model.specs.Quads.{Work, QuadStands, IsQuad, quad_cells, KeepsWork, Counts, quad_room, compose_room};
+ghost use Rattle.rel_model.specs.Quads.{Keeper, QuadStands, IsQuad, quad_cells, KeepsQuads, Counts, quad_room, compose_room};
 ghost use Rattle.quad_nodes.specs.Finding.{Finds, FindsQuad, FindsNone};
 ghost use Rattle.rel_compose.specs.Products.{BothStand, IsProduct, AreProducts, quarter_room};
 
@@ -24,7 +24,7 @@ pub fn compose_quads(nodes: &mut Nodes, a: Quad, b: Quad) -> Result<Quad, Missed
     ensures nothing { (a.name ≡ 0) ⊎ (b.name ≡ 0) → FindsNone nodes.old nodes.new a.height result }
     ensures full { quad_cells nodes.old a ≡ cells_rect (side_of a.height) (side_of a.height) → quad_cells nodes.old b ≡ cells_rect (side_of b.height) (side_of b.height) → Finds nodes.old nodes.new a result }
     ensures blocks { a.height ≡ bottom_height → FindsQuad nodes.old nodes.new a.height (cells_compose (side_of a.height) (quad_cells nodes.old a) (quad_cells nodes.old b)) result }
-    ensures keeps { KeepsWork (compose_room a.height) nodes.old nodes.new }
+    ensures keeps { KeepsQuads (compose_room a.height) nodes.old nodes.new }
     ensures counts { Counts nodes.old nodes.new result }
 {
     let bottom = nodes.bottom();
@@ -51,7 +51,7 @@ fn composed_over(nodes: &mut Nodes, a: Quad, b: Quad) -> Result<Quad, Missed>
     requires one_height { b.height ≡ a.height }
     requires over { bottom_height < a.height }
     ensures value { IfOk result (IsQuad nodes.new a.height (cells_compose (side_of a.height) (quad_cells nodes.old a) (quad_cells nodes.old b))) }
-    ensures keeps { KeepsWork (compose_room a.height) nodes.old nodes.new }
+    ensures keeps { KeepsQuads (compose_room a.height) nodes.old nodes.new }
     ensures counts { Counts nodes.old nodes.new result }
 {
     if let Some(found) = nodes.look(Op::Compose, a, b) {
@@ -77,7 +77,7 @@ fn row_of_products(
     requires west_stands { BothStand nodes.old row.0.height west }
     requires east_stands { BothStand nodes.old row.0.height east }
     ensures value { IfOk result (AreProducts nodes.old nodes.new row west east) }
-    ensures keeps { KeepsWork (quarter_room row.0.height + quarter_room row.0.height) nodes.old nodes.new }
+    ensures keeps { KeepsQuads (quarter_room row.0.height + quarter_room row.0.height) nodes.old nodes.new }
     ensures counts { Counts nodes.old nodes.new result }
 {
     let first = product(nodes, row, west)?;
@@ -91,7 +91,7 @@ fn product(nodes: &mut Nodes, row: (Quad, Quad), column: (Quad, Quad)) -> Result
     requires row_stands { BothStand nodes.old row.0.height row }
     requires column_stands { BothStand nodes.old row.0.height column }
     ensures value { IfOk result (IsProduct nodes.old nodes.new row column) }
-    ensures keeps { KeepsWork (quarter_room row.0.height) nodes.old nodes.new }
+    ensures keeps { KeepsQuads (quarter_room row.0.height) nodes.old nodes.new }
     ensures counts { Counts nodes.old nodes.new result }
 {
     let first = compose_quads(nodes, row.0, column.0)?;

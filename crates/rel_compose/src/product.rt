@@ -3,7 +3,7 @@ ghost use Rattle.std.specs.Prelude.{◌≡◌, true, IfOk};
 ghost use Rattle.rel_model.specs.Cells.{cells_rect, cells_compose};
 ghost use Rattle.rel_model.specs.Trees.{bottom_height};
 ghost use Rattle.rel_model.specs.Equations.{side_of};
-ghost use Rattle.rel_model.specs.Quads.{Work, QuadStands, IsQuad, quad_cells, KeepsWork, ReadsWork, Counts};
+ghost use Rattle.rel_model.specs.Quads.{Keeper, QuadStands, IsQuad, quad_cells, KeepsQuads, ReadsQuads, Counts};
 ghost use Rattle.quad_nodes.specs.Finding.{FindsQuad};
 
 use leaf_block::block_compose;
@@ -19,7 +19,7 @@ pub fn leaf(nodes: &mut Nodes, a: Quad, b: Quad) -> Result<Quad, Missed>
     requires b_bottom { b.height ≡ bottom_height }
     ensures value { IfOk result (IsQuad nodes.new bottom_height (cells_compose (side_of bottom_height) (quad_cells nodes.old a) (quad_cells nodes.old b))) }
     ensures stood { FindsQuad nodes.old nodes.new bottom_height (cells_compose (side_of bottom_height) (quad_cells nodes.old a) (quad_cells nodes.old b)) result }
-    ensures keeps { KeepsWork 1 nodes.old nodes.new }
+    ensures keeps { KeepsQuads 1 nodes.old nodes.new }
     ensures counts { Counts nodes.old nodes.new result }
 {
     let first = nodes.bits(a);
@@ -34,7 +34,7 @@ pub fn both_full(nodes: &mut Nodes, a: Quad, b: Quad) -> bool
     requires one_height { b.height ≡ a.height }
     ensures full { result ≡ true → IsQuad nodes.new a.height (cells_compose (side_of a.height) (quad_cells nodes.old a) (quad_cells nodes.old b)) a }
     ensures only_full { quad_cells nodes.old a ≡ cells_rect (side_of a.height) (side_of a.height) → quad_cells nodes.old b ≡ cells_rect (side_of b.height) (side_of b.height) → result ≡ true }
-    ensures reads { ReadsWork nodes.old nodes.new }
+    ensures reads { ReadsQuads nodes.old nodes.new }
 {
     if !nodes.is_full(a) {
         return false;

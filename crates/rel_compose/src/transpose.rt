@@ -2,7 +2,7 @@
 ghost use Rattle.std.specs.Prelude.{◌≡◌, ◌<◌, IfOk};
 ghost use Rattle.rel_model.specs.Cells.{cells_transpose};
 ghost use Rattle.rel_model.specs.Trees.{bottom_height};
-ghost use Rattle.rel_model.specs.Quads.{Work, QuadStands, IsQuad, quad_cells, KeepsWork, Counts, quad_room};
+ghost use Rattle.rel_model.specs.Quads.{Keeper, QuadStands, IsQuad, quad_cells, KeepsQuads, Counts, quad_room};
 ghost use Rattle.quad_nodes.specs.Finding.{FindsQuad};
 
 use leaf_block::block_transpose;
@@ -17,7 +17,7 @@ pub fn transpose_quad(nodes: &mut Nodes, a: Quad) -> Result<Quad, Missed>
     requires stands { QuadStands nodes.old a }
     ensures value { IfOk result (IsQuad nodes.new a.height (cells_transpose (quad_cells nodes.old a))) }
     ensures stood { FindsQuad nodes.old nodes.new a.height (cells_transpose (quad_cells nodes.old a)) result }
-    ensures keeps { KeepsWork (quad_room a.height) nodes.old nodes.new }
+    ensures keeps { KeepsQuads (quad_room a.height) nodes.old nodes.new }
     ensures counts { Counts nodes.old nodes.new result }
 {
     let bottom = nodes.bottom();
@@ -41,7 +41,7 @@ fn transposed_over(nodes: &mut Nodes, a: Quad) -> Result<Quad, Missed>
     requires over { bottom_height < a.height }
     ensures value { IfOk result (IsQuad nodes.new a.height (cells_transpose (quad_cells nodes.old a))) }
     ensures stood { FindsQuad nodes.old nodes.new a.height (cells_transpose (quad_cells nodes.old a)) result }
-    ensures keeps { KeepsWork (quad_room a.height) nodes.old nodes.new }
+    ensures keeps { KeepsQuads (quad_room a.height) nodes.old nodes.new }
     ensures counts { Counts nodes.old nodes.new result }
 {
     let none = Quad {

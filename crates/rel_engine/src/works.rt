@@ -2,7 +2,7 @@
 ghost use Rattle.std.specs.Prelude.{◌≡◌, ◌≢◌};
 ghost use Rattle.rel_model.specs.Words.{IsFull};
 ghost use Rattle.rel_model.specs.Views.{IsOf};
-ghost use Rattle.rel_model.specs.Quads.{Work};
+ghost use Rattle.rel_model.specs.Quads.{Keeper};
 
 use fork_quads::{Crew, Gate};
 use pair_table::Seat;
@@ -15,9 +15,9 @@ pub struct Works<'t, G: Gate> {
 }
 
 impl<'t, G: Gate> Model for Works<'t, G> {
-    ghost use Rattle.rel_model.specs.Quads.{Work};
+    ghost use Rattle.rel_model.specs.Quads.{Keeper};
 
-    ghost Value = { Work };
+    ghost Value = { Keeper };
 
     ghost view = { λ w. w.crew };
 }

@@ -8,12 +8,12 @@ use Rattle.rel_model.specs.Trees.{bottom_height, top_height, cells, stands, twic
 use Rattle.rel_model.specs.Words.{Extends, IsFull, IsFullOfOthers}
 use Rattle.rel_model.specs.Equations.{depth_of, side_of}
 use Rattle.rel_model.specs.Views.{View, IsSet, IsKnown}
-use Rattle.rel_model.specs.Quads.{Work, IsWork, quad_cells, QuadStands, IsQuad, KeepsWork, ReadsWork, one_more_miss, Counts, AreQuarters, quad_room}
+use Rattle.rel_model.specs.Quads.{Keeper, IsKeeper, quad_cells, QuadStands, IsQuad, KeepsQuads, ReadsQuads, one_more_miss, Counts, AreQuarters, quad_room}
 use Rattle.rel_model.proofs.TreeLaws.{zero_stands, zero_cells, kept_stands, kept_cells, stored_not_0}
 use Rattle.rel_model.proofs.NamesStand.{extends_on, set_stays}
 
 -- ---- what calls keep adds up
-pub keeps_on : (m n : ℕ) (u v w : Work) → KeepsWork m u v → KeepsWork n v w → KeepsWork (m + n) u w
+pub keeps_on : (m n : ℕ) (u v w : Keeper) → KeepsQuads m u v → KeepsQuads n v w → KeepsQuads (m + n) u w
 keeps_on m n u v w s t = record {
   before = s.before;
   after = t.after;
@@ -25,7 +25,7 @@ keeps_on m n u v w s t = record {
   room = (let a = s.room in let b = t.room in omega arith);
 }
 
-pub keeps_most : (m n : ℕ) (u v : Work) → m ≤ n → KeepsWork m u v → KeepsWork n u v
+pub keeps_most : (m n : ℕ) (u v : Keeper) → m ≤ n → KeepsQuads m u v → KeepsQuads n u v
 keeps_most m n u v l s = record {
   before = s.before;
   after = s.after;
@@ -37,7 +37,7 @@ keeps_most m n u v l s = record {
   room = (let a = s.room in omega arith);
 }
 
-pub keeps_itself : (w : Work) (most : ℕ) → IsWork w → KeepsWork most w w
+pub keeps_itself : (w : Keeper) (most : ℕ) → IsKeeper w → KeepsQuads most w w
 keeps_itself w most i = record {
   before = i;
   after = i;
@@ -49,14 +49,14 @@ keeps_itself w most i = record {
   room = omega arith;
 }
 
-pub reads_itself : (w : Work) → IsWork w → ReadsWork w w
+pub reads_itself : (w : Keeper) → IsKeeper w → ReadsQuads w w
 reads_itself w i = record { keeps = keeps_itself w 0 i; misses = refl }
 
-pub reads_on : (u v w : Work) → ReadsWork u v → ReadsWork v w → ReadsWork u w
+pub reads_on : (u v w : Keeper) → ReadsQuads u v → ReadsQuads v w → ReadsQuads u w
 reads_on u v w s t = record { keeps = keeps_on 0 0 u v w s.keeps t.keeps; misses = t.misses ∙ s.misses }
 
 -- a count after calls that missed nothing
-pub counts_on : {T E : Type 0} (u v w : Work) (r : Result T E) → v.misses ≡ u.misses → Counts v w r → Counts u w r
+pub counts_on : {T E : Type 0} (u v w : Keeper) (r : Result T E) → v.misses ≡ u.misses → Counts v w r → Counts u w r
 counts_on u v w (Ok x) e c = c ∙ e
 counts_on u v w (Err x) e c = c ∙ ap one_more_miss e
 
@@ -68,14 +68,14 @@ pub full_stays : (v w : List ℕ) → Extends v w → IsFull v → IsFull w
 full_stays v w x h n low high z = let s = h n low (subst (λ (m : ℕ). n < m) x.same_length high) in s (sym (x.kept n s) ∙ z)
 
 -- ---- a quad stays
-pub quad_stays : (m : ℕ) (v w : Work) (q : Quad) → KeepsWork m v w → QuadStands v q → QuadStands w q
+pub quad_stays : (m : ℕ) (v w : Keeper) (q : Quad) → KeepsQuads m v w → QuadStands v q → QuadStands w q
 quad_stays m v w q k s = record { low = s.low; high = s.high; standing = kept_stands v.view.words w.view.words k.seen (depth_of q.height) q.name s.standing }
 
-pub quad_cells-stay : (m : ℕ) (v w : Work) (q : Quad) → KeepsWork m v w → QuadStands v q → quad_cells w q ≡ quad_cells v q
+pub quad_cells-stay : (m : ℕ) (v w : Keeper) (q : Quad) → KeepsQuads m v w → QuadStands v q → quad_cells w q ≡ quad_cells v q
 quad_cells-stay m v w q k s =
     kept_cells v.view.words w.view.words k.seen k.before.of.canonical.none_at_0 k.after.of.canonical.none_at_0 (depth_of q.height) q.name s.standing
 
-pub is_quad-stays : (m : ℕ) (v w : Work) (h : ℕ) (f : Cells) (q : Quad) → KeepsWork m v w → IsQuad v h f q → IsQuad w h f q
+pub is_quad-stays : (m : ℕ) (v w : Keeper) (h : ℕ) (f : Cells) (q : Quad) → KeepsQuads m v w → IsQuad v h f q → IsQuad w h f q
 is_quad-stays m v w h f q k s = record {
   same_height = s.same_height;
   stands = quad_stays m v w q k s.stands;
@@ -119,18 +119,18 @@ unfolding bottom_height
 side_of-power h l = side-power (h - 3) ∙ ap (λ (k : ℕ). 2 ^ k) (let e : h - 3 + 3 ≡ h = omega arith in e)
 
 -- ---- names of quads
-pub quad_known : (w : Work) (q : Quad) → QuadStands w q → IsKnown w.view q.name
+pub quad_known : (w : Keeper) (q : Quad) → QuadStands w q → IsKnown w.view q.name
 quad_known w q s = known w.view (depth_of q.height) q.name s.standing
 
 -- a name that stands at a depth in one state is known in a later one
-pub known_after : (m : ℕ) (v w : Work) (k n : ℕ) → KeepsWork m v w → stands v.view.words k n ≡ true → IsKnown w.view n
+pub known_after : (m : ℕ) (v w : Keeper) (k n : ℕ) → KeepsQuads m v w → stands v.view.words k n ≡ true → IsKnown w.view n
 known_after m v w k n x s = known w.view k n (kept_stands v.view.words w.view.words x.seen k n s)
 
-pub set_after : (m : ℕ) (v w : Work) (k n : ℕ) (f : Cells) → KeepsWork m v w → IsSet v.view k n f → IsSet w.view k n f
+pub set_after : (m : ℕ) (v w : Keeper) (k n : ℕ) (f : Cells) → KeepsQuads m v w → IsSet v.view k n f → IsSet w.view k n f
 set_after m v w k n f x s = set_stays v.view w.view x.seen x.before.of.canonical x.after.of.canonical k n f s
 
 -- the quad of name 0 has no cell
-pub empty_quad : (w : Work) (h n : ℕ) → IsWork w → bottom_height ≤ h → h ≤ top_height → n ≡ 0 → IsQuad w h no_cells (record { height = h; name = n })
+pub empty_quad : (w : Keeper) (h n : ℕ) → IsKeeper w → bottom_height ≤ h → h ≤ top_height → n ≡ 0 → IsQuad w h no_cells (record { height = h; name = n })
 empty_quad w h n i l t e = record {
   same_height = refl;
   stands = record { low = l; high = t; standing = subst (λ (m : ℕ). stands w.view.words (depth_of h) m ≡ true) (sym e) (zero_stands w.view.words (depth_of h)) };
@@ -152,7 +152,7 @@ room-some h l = let a = one-le-pow (h - bottom_height) 4 (omega arith) in omega 
 
 -- ---- quarters and corners over several calls
 -- quarters stay quarters
-pub quarters-stay : (m : ℕ) (u v w : Work) (q : Quad) (four : Quad × Quad × Quad × Quad) → KeepsWork m v w → AreQuarters u v q four → AreQuarters u w q four
+pub quarters-stay : (m : ℕ) (u v w : Keeper) (q : Quad) (four : Quad × Quad × Quad × Quad) → KeepsQuads m v w → AreQuarters u v q four → AreQuarters u w q four
 quarters-stay m u v w q four k a = record {
   nw = quad_stays m v w four.0 k a.nw;
   ne = quad_stays m v w four.1 k a.ne;
@@ -170,7 +170,7 @@ quarters-stay m u v w q four k a = record {
 }
 
 -- the quarters of a quad that stood before
-pub quarters-before : (m : ℕ) (t u v : Work) (q : Quad) (four : Quad × Quad × Quad × Quad) → KeepsWork m t u → QuadStands t q → AreQuarters u v q four → AreQuarters t v q four
+pub quarters-before : (m : ℕ) (t u v : Keeper) (q : Quad) (four : Quad × Quad × Quad × Quad) → KeepsQuads m t u → QuadStands t q → AreQuarters u v q four → AreQuarters t v q four
 quarters-before m t u v q four k s a = record {
   nw = a.nw;
   ne = a.ne;
@@ -184,7 +184,7 @@ quarters-before m t u v q four k s a = record {
 }
 
 -- the result of an operator on two quads, seen from a state before the call and in one after it
-pub result_later : (m n : ℕ) (u v w z : Work) (op : Cells → Cells → Cells) (h : ℕ) (a b r : Quad) → KeepsWork m u v → KeepsWork n w z → QuadStands u a → QuadStands u b
+pub result_later : (m n : ℕ) (u v w z : Keeper) (op : Cells → Cells → Cells) (h : ℕ) (a b r : Quad) → KeepsQuads m u v → KeepsQuads n w z → QuadStands u a → QuadStands u b
     → IsQuad w h (op (quad_cells v a) (quad_cells v b)) r → IsQuad z h (op (quad_cells u a) (quad_cells u b)) r
 result_later m n u v w z op h a b r k l s t i =
     let j = is_quad-stays n w z h (op (quad_cells v a) (quad_cells v b)) r l i in
@@ -195,11 +195,11 @@ result_later m n u v w z op h a b r k l s t i =
     }
 
 -- a height as a number that is known to be it
-pub is_quad-height : (w : Work) (h k : ℕ) (f : Cells) (q : Quad) → h ≡ k → IsQuad w h f q → IsQuad w k f q
+pub is_quad-height : (w : Keeper) (h k : ℕ) (f : Cells) (q : Quad) → h ≡ k → IsQuad w h f q → IsQuad w k f q
 is_quad-height w h k f q e i = subst (λ (x : ℕ). IsQuad w x f q) e i
 
 -- the corner of four quads with known sets
-pub corner_value : {E : Type 0} (v w : Work) (h : ℕ) (f0 f1 f2 f3 : Cells) (nw ne sw se : Quad) (r : Result Quad E) → IsQuad v h f0 nw → IsQuad v h f1 ne → IsQuad v h f2 sw → IsQuad v h f3 se
+pub corner_value : {E : Type 0} (v w : Keeper) (h : ℕ) (f0 f1 f2 f3 : Cells) (nw ne sw se : Quad) (r : Result Quad E) → IsQuad v h f0 nw → IsQuad v h f1 ne → IsQuad v h f2 sw → IsQuad v h f3 se
     → IfOk r (IsQuad w (nw.height + 1) (quartered (side_of nw.height) (quad_cells v nw) (quad_cells v ne) (quad_cells v sw) (quad_cells v se))) → IfOk r (IsQuad w (h + 1) (quartered (side_of h) f0 f1 f2 f3))
 corner_value v w h f0 f1 f2 f3 nw ne sw se (Err e) a b c d i = tt
 corner_value v w h f0 f1 f2 f3 nw ne sw se (Ok q) a b c d i = record {
@@ -214,5 +214,5 @@ corner_value v w h f0 f1 f2 f3 nw ne sw se (Ok q) a b c d i = record {
 }
 
 -- the room of the height below
-pub room_below : (h k : ℕ) (v w : Work) → k + 1 ≡ h → KeepsWork (quad_room k) v w → KeepsWork (quad_room (h - 1)) v w
-room_below h k v w e x = subst (λ (n : ℕ). KeepsWork (quad_room n) v w) (let g : k ≡ h - 1 = omega arith in g) x
+pub room_below : (h k : ℕ) (v w : Keeper) → k + 1 ≡ h → KeepsQuads (quad_room k) v w → KeepsQuads (quad_room (h - 1)) v w
+room_below h k v w e x = subst (λ (n : ℕ). KeepsQuads (quad_room n) v w) (let g : k ≡ h - 1 = omega arith in g) x

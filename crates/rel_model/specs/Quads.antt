@@ -8,7 +8,7 @@ use Rattle.rel_model.specs.Equations.{depth_of, side_of}
 use Rattle.rel_model.specs.Views.{Table, View, IsOf, Splits, Joins}
 
 -- what a keeper of quads holds
-pub record Work : Type 0 where
+pub record Keeper : Type 0 where
   -- the table on which it works
   pub table : Table
   -- what its seat knows
@@ -17,31 +17,31 @@ pub record Work : Type 0 where
   pub misses : ℕ
 
 -- the seat is of the table, the count has 64 bits, and where a place was missing every place is taken, as the view shows
-pub record IsWork (w : Work) : Type 0 where
+pub record IsKeeper (w : Keeper) : Type 0 where
   pub of : IsOf w.view w.table
   pub counted : w.misses < 2 ^ 64
   pub full : w.misses ≢ 0 → IsFull w.view.words
 
 -- the set of a quad, of which no cell lies outside its square
-abbrev pub quad_cells : Work → Quad → Cells
+abbrev pub quad_cells : Keeper → Quad → Cells
 quad_cells w q = cells w.view.words (depth_of q.height) q.name
 
 -- a quad stands: its height is that of a square, and its name stands at the depth of that height
-pub record QuadStands (w : Work) (q : Quad) : Type 0 where
+pub record QuadStands (w : Keeper) (q : Quad) : Type 0 where
   pub low : bottom_height ≤ q.height
   pub high : q.height ≤ top_height
   pub standing : stands w.view.words (depth_of q.height) q.name ≡ true
 
 -- a quad of this height stands, with this set
-pub record IsQuad (w : Work) (height : ℕ) (f : Cells) (q : Quad) : Type 0 where
+pub record IsQuad (w : Keeper) (height : ℕ) (f : Cells) (q : Quad) : Type 0 where
   pub same_height : q.height ≡ height
   pub stands : QuadStands w q
   pub means : quad_cells w q ≡ f
 
 -- a call keeps the table, the spare seats and all that was seen, and places at most so many words
-pub record KeepsWork (most : ℕ) (old new : Work) : Type 0 where
-  pub before : IsWork old
-  pub after : IsWork new
+pub record KeepsQuads (most : ℕ) (old new : Keeper) : Type 0 where
+  pub before : IsKeeper old
+  pub after : IsKeeper new
   pub table : new.table ≡ old.table
   pub seen : Extends old.view.words new.view.words
   pub house : new.view.house ≡ old.view.house
@@ -50,8 +50,8 @@ pub record KeepsWork (most : ℕ) (old new : Work) : Type 0 where
   pub room : new.view.made ≤ old.view.made + most
 
 -- a call that reads places no word and misses nothing
-pub record ReadsWork (old new : Work) : Type 0 where
-  pub keeps : KeepsWork 0 old new
+pub record ReadsQuads (old new : Keeper) : Type 0 where
+  pub keeps : KeepsQuads 0 old new
   pub misses : new.misses ≡ old.misses
 
 -- one more, up to the last value of the count
@@ -59,12 +59,12 @@ abbrev pub one_more_miss : ℕ → ℕ
 one_more_miss n = min (n + 1) (2 ^ 64 - 1)
 
 -- a call that missed a place counts it once, and one that succeeded counts nothing
-abbrev pub Counts : {T E : Type 0} → Work → Work → Result T E → Type 0
+abbrev pub Counts : {T E : Type 0} → Keeper → Keeper → Result T E → Type 0
 Counts old new (Ok x) = new.misses ≡ old.misses
 Counts old new (Err e) = new.misses ≡ one_more_miss old.misses
 
 -- the quarters of a quad: north-west, north-east, south-west and south-east
-pub record AreQuarters (old new : Work) (q : Quad) (four : Quad × Quad × Quad × Quad) : Type 0 where
+pub record AreQuarters (old new : Keeper) (q : Quad) (four : Quad × Quad × Quad × Quad) : Type 0 where
   pub nw : QuadStands new four.0
   pub ne : QuadStands new four.1
   pub sw : QuadStands new four.2
@@ -89,18 +89,18 @@ abbrev pub compose_room : ℕ → ℕ
 compose_room height = composed_words (height - bottom_height)
 
 -- a second keeper is split off: both know as much, and it has missed nothing
-pub record SplitsWork (spare : ℕ) (old new second : Work) : Type 0 where
+pub record SplitsKeeper (spare : ℕ) (old new second : Keeper) : Type 0 where
   pub views : Splits spare old.view new.view second.view
   pub table : new.table ≡ old.table
   pub second_table : second.table ≡ old.table
   pub misses : new.misses ≡ old.misses
   pub second_misses : second.misses ≡ 0
-  pub after : IsWork new
-  pub second_after : IsWork second
+  pub after : IsKeeper new
+  pub second_after : IsKeeper second
 
 -- two keepers become one, which knows what either knew, and counts what both missed, up to the last value of the count
-pub record JoinsWork (old other new : Work) : Type 0 where
+pub record JoinsKeeper (old other new : Keeper) : Type 0 where
   pub views : Joins old.view other.view new.view
   pub table : new.table ≡ old.table
   pub misses : new.misses ≡ min (old.misses + other.misses) (2 ^ 64 - 1)
-  pub after : IsWork new
+  pub after : IsKeeper new

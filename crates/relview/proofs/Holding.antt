@@ -21,7 +21,7 @@ use Rattle.rel_model.specs.Words.{Extends, IsFull, IsDistinct}
 use Rattle.rel_model.specs.Equations.{node_words}
 use Rattle.rel_model.specs.Trees.{bottom_height}
 use Rattle.rel_model.specs.Views.{Table, View, IsOf, IsFresh, IsClosed}
-use Rattle.rel_model.specs.Quads.{Work}
+use Rattle.rel_model.specs.Quads.{Keeper}
 use Rattle.rel_model.specs.Worker.{Worker, Stands, set_of}
 use Rattle.rel_model.specs.Roots.{relation_in}
 use Rattle.rel_model.proofs.Rooting.{relation_in-stays, one_root}
@@ -70,12 +70,12 @@ events_in w words (e ∷ es) f h = (rels_in w words (rel_of e.act) f (All-head (
 
 -- ---- the words
 -- the seat that is given back is of the table that was made
-pub of_table : (table : Table) (seat last : View) (w : Work) → (worker_of w).house ≡ (worker_of (record { table = table; view = seat; misses = 0 })).house
+pub of_table : (table : Table) (seat last : View) (w : Keeper) → (worker_of w).house ≡ (worker_of (record { table = table; view = seat; misses = 0 })).house
     → IsOf last w.table → IsOf last table
 of_table table seat last w house of = subst (λ t. IsOf last t) (house_of-injective w.table table house) of
 
 -- a run over a fresh table, whose seat was given back and closed
-pub holds_run : (bits seats : ℕ) (table : Table) (seat last : View) (w : Work) (words : List ℕ) (scripts : List (List ℕ)) (files : List Loaded) (turns : ℕ) (asked : Bool)
+pub holds_run : (bits seats : ℕ) (table : Table) (seat last : View) (w : Keeper) (words : List ℕ) (scripts : List (List ℕ)) (files : List Loaded) (turns : ℕ) (asked : Bool)
     (history : List Event) (outcomes : List (List Outcome)) (page : List ℕ) (saves : List SavedFile) → IsFresh bits seats (table, seat)
     → (came : CameTo bottom_height scripts files turns asked (worker_of (record { table = table; view = seat; misses = 0 })) (worker_of w) history outcomes page saves)
     → last ≡ w.view → IsOf last table → (w.misses ≢ 0 → IsFull last.words) → IsClosed table.bits last words
@@ -96,6 +96,6 @@ holds_run bits seats table seat last w words scripts files turns asked history o
     }
 
 -- as many seats as were made are there to be closed
-pub whole_table : (bits seats : ℕ) (table : Table) (seat last : View) (w : Work) → IsFresh bits seats (table, seat) → (worker_of w).spare ≡ (worker_of (record { table = table; view = seat; misses = 0 })).spare
+pub whole_table : (bits seats : ℕ) (table : Table) (seat last : View) (w : Keeper) → IsFresh bits seats (table, seat) → (worker_of w).spare ≡ (worker_of (record { table = table; view = seat; misses = 0 })).spare
     → last ≡ w.view → last.spare + 1 ≡ table.seats
 whole_table bits seats table seat last w fresh spare view = ap (λ v. v.spare + 1) view ∙ ap (λ n. n + 1) spare ∙ fresh.spare_is ∙ sym fresh.seats_are

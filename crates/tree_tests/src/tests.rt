@@ -5,7 +5,7 @@ ghost use Rattle.std.specs.Prelude.{◌≡◌, ◌≢◌, ◌<◌, ◌≤◌, �
 ghost use Rattle.rel_model.specs.Equations.{Transpose};
 ghost use Rattle.rel_model.specs.Trees.{bottom_height, top_height};
 ghost use Rattle.rel_model.specs.Equations.{side_of};
-ghost use Rattle.rel_model.specs.Quads.{Work, IsWork, QuadStands};
+ghost use Rattle.rel_model.specs.Quads.{Keeper, IsKeeper, QuadStands};
 ghost use Rattle.rel_model.specs.Worker.{Worker, Stands, Keeps};
 ghost use Rattle.rel_model.specs.Views.{IsOf};
 ghost use Rattle.memo_laws.specs.Looking.{operator_of};

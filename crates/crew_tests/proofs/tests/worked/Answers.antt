@@ -1,6 +1,6 @@
 use Rattle.std.proofs.Common.{◌≡◌, ◌∙◌, ap, subst}
 use Rattle.rel_model.specs.Views.{Table, IsOf}
-use Rattle.rel_model.specs.Quads.{Work}
+use Rattle.rel_model.specs.Quads.{Keeper}
 use Rattle.fork_quads.proofs.Crewing.{house_of-injective}
 use Rattle.crew_tests.proofs.tests.worked.Goals as goal
 
@@ -10,4 +10,4 @@ returns g c =
     let now : Table = c.goes_by_quarters.new.quads.table in
     let made : Table = c.new-crew.result.table in
     let kept : now ≡ made = house_of-injective now made (c.goes_by_quarters.ensures.keeps.house ∙ c.plain_of-r.ensures.keeps.house ∙ c.full_is_a_rectangle.ensures.keeps.house) in
-    record { of = subst (λ (t : Table). IsOf c.into_seat.result t) (kept ∙ ap (λ (w : Work). w.table) c.new-crew.ensures) c.into_seat.ensures.of }
+    record { of = subst (λ (t : Table). IsOf c.into_seat.result t) (kept ∙ ap (λ (w : Keeper). w.table) c.new-crew.ensures) c.into_seat.ensures.of }

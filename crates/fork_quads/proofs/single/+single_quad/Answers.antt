@@ -2,7 +2,7 @@ use Rattle.std.proofs.Common.{◌≡◌, ◌<◌, ◌≤◌, ◌+◌, ◌-◌, c
 use Rattle.rel_model.specs.declared.Quad.{Quad}
 use Rattle.rel_model.specs.Cells.{Cells, no_cells}
 use Rattle.rel_model.specs.Trees.{bottom_height, top_height}
-use Rattle.rel_model.specs.Quads.{Work, IsWork, IsQuad, quad_room}
+use Rattle.rel_model.specs.Quads.{Keeper, IsKeeper, IsQuad, quad_room}
 use Rattle.rel_model.proofs.QuadLaws.{keeps_on, keeps_most, rooms-next}
 use Rattle.fork_quads.specs.Crew.{placed}
 use Rattle.fork_quads.proofs.Placing.{placed_as, one_corner, in_half-below}
@@ -25,13 +25,13 @@ single_quad-requires t c =
     )
 
 -- each quarter stands, at the height below
-quarter : (here : Bool) (w : Work) (h : ℕ) (f : Cells) (one q : Quad) → IsWork w → bottom_height ≤ h → h ≤ top_height → IsQuad w h f one → q ≡ placed here one → IsQuad w h (cond here f no_cells) q
+quarter : (here : Bool) (w : Keeper) (h : ℕ) (f : Cells) (one q : Quad) → IsKeeper w → bottom_height ≤ h → h ≤ top_height → IsQuad w h f one → q ≡ placed here one → IsQuad w h (cond here f no_cells) q
 quarter here w h f one q i l t s e = placed_as w h f here here one q i l t s refl e
 
 pub corner-requires : goal.corner-requires
 corner-requires t c =
     let over : bottom_height < c.args.height = (let e = c.bottom-bottom.ensures.height in let l = c.requires.low in let n = c.if-height-bottom.false in omega arith) in
-    let w : Work = c.single_quad.new.nodes in
+    let w : Keeper = c.single_quad.new.nodes in
     let h : ℕ = c.args.height - 1 in
     let low : bottom_height ≤ h = omega arith in
     let high : h ≤ top_height = (let l = c.requires.high in omega arith) in
