@@ -1,7 +1,7 @@
 #!/usr/bin/env python3
 """Compares the proved table with the same probe in plain C, in alternating runs.
 
-    cd crates/table_bench && rt run && ../../bench/run.py out/table_bench [ROUNDS]
+    cd crates/bench_table && rt run && ../../bench/run.py out/bench_table [ROUNDS]
 
 Prints, for each size, load and number of threads, millions of interns per second
 of both, for inserts and for hits, and the ratio of the times. Each is from the

@@ -1,7 +1,7 @@
 #!/usr/bin/env python3
 """Compares the operators on trees with the same ones in plain C, in alternating runs.
 
-    cd crates/boole_bench && rt run && ../../bench/boole/run.py out/boole_bench [ROUNDS]
+    cd crates/bench_boole && rt run && ../../bench/boole/run.py out/bench_boole [ROUNDS]
 
 Prints, for each density and operator, the milliseconds of both, cold, the ratio
 of the times, microseconds of both when the call is made again, and the nodes made

@@ -1,11 +1,11 @@
 #!/usr/bin/env python3
 """Times listed relations: the whole program, and the library at sizes that its scripts do not have yet.
 
-    ./relview examples/first.rv && (cd crates/listed_bench && rt run)
-    bench/listed/run.py crates/relview/out/relview crates/listed_bench/out/listed_bench [ROUNDS]
+    ./relview examples/first.rv && (cd crates/bench_listed && rt run)
+    bench/listed/run.py crates/relview/out/relview crates/bench_listed/out/bench_listed [ROUNDS]
 
 The program runs scripts of one REL of pseudo-random pairs in 1000 x 1000, the greatest
-sizes that scripts list for now, and a PRINT of a small union. `listed_bench` reads scripts
+sizes that scripts list for now, and a PRINT of a small union. `bench_listed` reads scripts
 of one such REL in 4096 x 4096 and two small ones, by the parser of the whole language, and
 builds the relations over an engine with a table of the program's size, unites the small
 ones, and counts. Prints for each number of listed pairs the bytes of the script, the

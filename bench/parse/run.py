@@ -1,7 +1,7 @@
 #!/usr/bin/env python3
 """Times the parser on scripts of three shapes and three lengths.
 
-    cd crates/parse_bench && rt run && ../../bench/parse/run.py out/parse_bench [ROUNDS]
+    cd crates/bench_parse && rt run && ../../bench/parse/run.py out/bench_parse [ROUNDS]
 
 Prints, for each shape and number of names, rows or items, the bytes of the script,
 the milliseconds of one call of `parse`, the megabytes (10^6 bytes) a second and the

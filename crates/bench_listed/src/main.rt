@@ -1,0 +1,113 @@
+//! How long listed relations take: `bench_listed a.rv` reads a script of three REL, builds their relations in one table, unites the last two, and prints how many pairs the first and the union have.
+#![tactic(auto)]
+
+mod listing;
+
+ghost use Rattle.std.specs.Prelude.{◌≤◌, ◌^◌, length, IfSome};
+ghost use Rattle.rel_model.specs.Worker.{Stands, Keeps};
+
+use crate::listing::listed_pairs;
+use fork_quads::{Crew, OpenGate};
+use lang_model::syntax::{Command, Item};
+use pair_table::PairTable;
+use rel_engine::Works;
+use rel_model::core_trait::Core;
+use rel_model::engine_trait::Engine;
+use rel_model::{Rel, SIZE_LIMIT, Shape};
+use rv_io::{FileShelf, read_all};
+use rv_parse::parse;
+use std::alloc::Global;
+use std::io;
+
+/// The most bytes of a script.
+const SCRIPT_LIMIT: u64 = 1_048_576;
+
+/// The bits of the program's table.
+const TABLE_BITS: u32 = 20;
+
+/// The relation of an item that is a REL.
+fn built<E: Engine>(alloc: Global, engine: &mut E, item: &Item) -> Option<Rel>
+    ensures standing { IfSome result (Stands (E.worker engine.new)) }
+    ensures keeps { Keeps (E.worker engine.old) (E.worker engine.new) }
+{
+    let Item::Command(
+        Command::Relation {
+            rows,
+            cols,
+            list,
+            ..
+        },
+    ) = item
+    else {
+        return None;
+    };
+    if *rows > u64::from(SIZE_LIMIT) || *cols > u64::from(SIZE_LIMIT) {
+        return None;
+    }
+    let shape = Shape {
+        rows: *rows as u32,
+        cols: *cols as u32,
+    };
+    let Ok(pairs) = listed_pairs(alloc, shape, list.as_slice()) else {
+        return None;
+    };
+    match engine.from_pairs(alloc, shape, pairs.as_slice()) {
+        Ok(rel) => Some(rel),
+        Err(_) => None,
+    }
+}
+
+/// How many pairs the first of three listed relations has, and how many the union of the others.
+fn counts<E: Engine>(alloc: Global, engine: &mut E, items: &[Item]) -> Option<(u64, u64)> {
+    let [large, left, right] = items else {
+        return None;
+    };
+    let many = built(alloc, engine, large)?;
+    let r = built(alloc, engine, left)?;
+    let s = built(alloc, engine, right)?;
+    if r.rows != s.rows || r.cols != s.cols {
+        return None;
+    }
+    let Ok(both) = engine.union(r, s) else {
+        return None;
+    };
+    let Ok(pairs) = engine.count(alloc, many) else {
+        return None;
+    };
+    match engine.count(alloc, both) {
+        Ok(few) => Some((pairs, few)),
+        Err(_) => None,
+    }
+}
+
+/// The counts of a script over a table of its own.
+fn counted(alloc: Global, script: &[u8]) -> Option<(u64, u64)>
+    requires { length script.now ≤ 2 ^ 20 }
+{
+    let Ok(script) = parse(alloc, script) else {
+        return None;
+    };
+    let Ok((table, seat)) = PairTable::make(alloc, TABLE_BITS, 1) else {
+        return None;
+    };
+    let gate = OpenGate;
+    let mut works = Works::new(Crew::new(&table, seat, 1, &gate));
+    counts(alloc, &mut works, script.items.as_slice())
+}
+
+fn main(rt: HostRuntime) -> io::Result<()> {
+    let alloc = rt.alloc();
+    let mut words = std::env::args(&rt)?;
+    let _program = words.next();
+    let Some(name) = words.next() else {
+        return println!(rt; "usage: bench_listed FILE");
+    };
+    let mut shelf = FileShelf::new(alloc, rt);
+    let Ok(script) = read_all(alloc, &mut shelf, name.as_str(), SCRIPT_LIMIT) else {
+        return println!(rt; "bench_listed: cannot read");
+    };
+    match counted(alloc, script.as_slice()) {
+        Some((pairs, few)) => println!(rt; "{pairs} {few}"),
+        None => println!(rt; "bench_listed: not three relations that fit"),
+    }
+}

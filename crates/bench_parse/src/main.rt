@@ -1,0 +1,88 @@
+//! How long `parse` takes: `bench_parse SHAPE COUNT`, over one chain of so many names, one relation of so many rows, or so many items.
+#![tactic(auto)]
+
+use rv_parse::parse;
+use std::alloc::Global;
+use std::io;
+use std::rt::Clock;
+use std::time::Instant;
+
+/// The greatest length of a script in bytes.
+const SCRIPT_LIMIT: usize = 1_048_576;
+
+/// How a script begins, the part that it repeats, and how it ends.
+#[derive(Clone, Copy)]
+struct Shape {
+    front: &'static str,
+    part: &'static str,
+    behind: &'static str,
+}
+
+/// The shape of a name.
+fn shape_of(name: &str) -> Option<Shape> {
+    match name {
+        "chain" => Some(Shape {
+            front: "PRINT ab",
+            part: "|ab",
+            behind: ".",
+        }),
+        "rows" => Some(Shape {
+            front: "REL A 99999 999 {12345:678",
+            part: ";12345:678",
+            behind: "}.",
+        }),
+        "items" => Some(Shape {
+            front: "PRINT AB.",
+            part: "\nPRINT AB.",
+            behind: "\n",
+        }),
+        _ => None,
+    }
+}
+
+/// A script in which so many names, rows or items stand.
+fn script(alloc: Global, shape: Shape, count: u64) -> io::Result<String> {
+    let mut text = String::from_str(alloc, shape.front)?;
+    'parts: for _part in 1..count {
+        text.push_str(shape.part)?;
+    }
+    text.push_str(shape.behind)?;
+    Ok(text)
+}
+
+/// Prints the nanoseconds that a script is read in, its bytes and its items.
+fn measure<R: Print + Clock>(rt: &R, alloc: Global, text: &str) -> io::Result<()> {
+    if text.len() > SCRIPT_LIMIT {
+        return println!(rt; "too long");
+    }
+    let start = Instant::now(rt)?;
+    let read = parse(alloc, text.as_bytes());
+    let taken = start.elapsed(rt)?.as_nanos();
+    match read {
+        Ok(script) => println!(rt; "{taken} {} {}", text.len(), script.items.len()),
+        Err(_) => println!(rt; "refused"),
+    }
+}
+
+/// The next word as a number, or 0.
+fn number(word: Option<String>) -> u64 {
+    match word {
+        Some(word) => word.as_str().parse().unwrap_or(0),
+        None => 0,
+    }
+}
+
+fn main(rt: HostRuntime) -> io::Result<()> {
+    let mut words = std::env::args(&rt)?;
+    let _program = words.next();
+    let shape = match words.next() {
+        Some(word) => shape_of(word.as_str()),
+        None => None,
+    };
+    let count = number(words.next());
+    let Some(shape) = shape else {
+        return println!(rt; "usage: bench_parse chain|rows|items COUNT");
+    };
+    let text = script(rt.alloc(), shape, count)?;
+    measure(&rt, rt.alloc(), text.as_str())
+}

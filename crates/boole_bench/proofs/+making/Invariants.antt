@@ -1,8 +1,0 @@
-use Rattle.std.proofs.Common.{◌≡◌, ◌<◌, ◌≤◌, ◌+◌, IfOk, ℕ, ◌-◌, ◌*◌, length}
-use Rattle.rel_model.specs.Trees.{bottom_height, top_height}
-use Rattle.rel_model.specs.Quads.{Keeper, IsKeeper, QuadStands}
-use Rattle.boole_bench.specs.Holding.{Holds, Made}
-use Rattle.boole_bench.proofs.+making.Given as goal
-
-abbrev pub decreases-random_quad : goal.decreases-random_quad
-decreases-random_quad l = l.height

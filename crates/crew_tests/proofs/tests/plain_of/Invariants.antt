@@ -1,6 +1,0 @@
-use Rattle.std.proofs.Common.{◌≡◌}
-use Rattle.rel_model.specs.Worker.{Stands, Keeps}
-use Rattle.crew_tests.proofs.tests.plain_of.Given as goal
-
-abbrev pub invariant-pairs : goal.invariant-pairs
-invariant-pairs g l = Stands (g.P.Core.worker l.plain) l.r × (l.r.rows ≡ l.shape.rows) × (l.r.cols ≡ l.shape.cols) × Keeps (g.P.Core.worker l.fn.plain) (g.P.Core.worker l.plain)

@@ -1,0 +1,6 @@
+use Rattle.std.proofs.Common.{◌≡◌}
+use Rattle.rel_model.specs.Quads.{QuadStands}
+use Rattle.test_trees.proofs.tests.what_an_operator_made_of_a_cycle_is_found_right_after_it.Given as goal
+
+abbrev pub invariant-operators : goal.invariant-operators
+invariant-operators g l = QuadStands l.nodes l.cycle × QuadStands l.nodes l.other × (l.other.height ≡ l.cycle.height)
