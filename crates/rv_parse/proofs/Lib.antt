@@ -1,10 +1,5 @@
 pub mod Lexing
-pub mod Parts
 pub mod Spelling
-pub mod Linking
-pub mod Reading
-pub mod Laws
-pub mod Scripts
 pub mod Lexemes
 pub mod Leaves
 pub mod Exprs
@@ -28,4 +23,3 @@ pub mod Unambiguous
 pub mod Plain
 pub mod OneStmt
 pub mod OneScript
-pub mod FirstScripts

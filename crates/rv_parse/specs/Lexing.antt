@@ -1,12 +1,11 @@
--- Classes of bytes, and what the splitting of a text into tokens answers.
-use Rattle.std.specs.Prelude.{◌≡◌, ◌==◌, ◌^◌, not, ℕ, Bool, List, cond, nat_le, nat_lt, take, Some, None, Option, IsSome, option_map, ◌++◌, Result, Ok, Err}
+-- Classes of bytes, and what the reading of one token answers.
+use Rattle.std.specs.Prelude.{◌≡◌, ◌^◌, ℕ, Bool, List, cond, nat_le, nat_lt, take, Some, None, Option, IsSome, Result, Ok, Err}
 use Rattle.lang_model.specs.Tokens.{is_word_byte, is_digit, is_file_byte, run_length, value_from, word_kind}
 use Rattle.lang_model.specs.Lexed.{is_comment_byte}
 use Rattle.lang_model.specs.declared.token.Kind.{Kind}
 use Rattle.lang_model.specs.declared.token.Kind.TheVariants.{Keyword as KEYWORD, Base as BASE, Number}
-use Rattle.lang_model.specs.declared.token.Token.{Token}
 use Rattle.rv_parse.specs.declared.bytes.Class.{Class}
-use Rattle.rv_parse.specs.declared.bytes.Class.TheVariants.{Word, Digit, Comment, File, Remark}
+use Rattle.rv_parse.specs.declared.bytes.Class.TheVariants.{Word, Digit, Comment, File}
 use Rattle.rv_parse.specs.declared.words.Reserved.{Reserved}
 use Rattle.rv_parse.specs.declared.words.Reserved.TheVariants.{Keyword, Base}
 use Rattle.rv_parse.specs.declared.refusals.Refusal.{Refusal}
@@ -16,9 +15,8 @@ use Rattle.rv_parse.specs.declared.refusals.Refusal.TheVariants.{Unfit, NoMemory
 abbrev pub passes : Class → ℕ → Bool
 passes Word b = is_word_byte b
 passes Digit b = is_digit b
-passes Comment b = not (b == 10)
 passes File b = is_file_byte b
-passes Remark b = is_comment_byte b
+passes Comment b = is_comment_byte b
 
 -- the token that a reserved word is
 abbrev pub kind_of : Reserved → Kind
@@ -38,12 +36,3 @@ abbrev pub Finds : Option (Kind × ℕ) → Result (Kind × ℕ) Refusal → Typ
 Finds found (Ok x) = found ≡ Some (x.0, x.1)
 Finds found (Err Unfit) = found ≡ None
 Finds found (Err NoMemory) = IsSome found
-
--- there are no tokens
-abbrev pub NoTokens : Option (List Token) → Refusal → Type 0
-NoTokens tokens Unfit = tokens ≡ None
-NoTokens tokens NoMemory = Unit {0}
-
--- these tokens in front of those
-abbrev pub prepended : List Token → Option (List Token) → Option (List Token)
-prepended front rest = option_map (λ ts. front ++ ts) rest

@@ -1,8 +1,4 @@
 pub mod Lexing
-pub mod Rest
-pub mod Answers
-pub mod Expressions
-pub mod Faults
 pub mod Halts
 pub mod LexerAnswers
 pub mod Readers
@@ -14,4 +10,3 @@ pub mod Places
 pub mod Printed
 pub mod Again
 pub mod Plain
-pub mod FirstGrammar

@@ -10,7 +10,6 @@ use Rattle.lang_model.specs.declared.syntax.Command.TheVariants.{Relation, Let, 
 use Rattle.lang_model.specs.declared.syntax.Item.{Item}
 use Rattle.lang_model.specs.declared.syntax.Item.TheVariants.{Function, Program, Command as COMMAND}
 use Rattle.lang_model.specs.declared.syntax.Script.{Script}
-use Rattle.rv_parse.specs.FirstGrammar.{SpelledBy as SpelledFirst}
 use Rattle.lang_model.specs.Spelling.{SpelledBy}
 use Rattle.rv_parse.specs.Places.{Tree, tree_of}
 
@@ -102,15 +101,7 @@ item_tree (COMMAND command) = CommandItem (command_tree command)
 abbrev pub script_tree : Script → List ItemTree
 script_tree script = map item_tree script.items.items
 
--- ---- the laws
+-- ---- the law
 -- whatever scripts the same bytes spell, they have one tree
 abbrev pub OneScript : Type 0
 OneScript = (bytes : List ℕ) (script other : Script) → SpelledBy bytes script → SpelledBy bytes other → script_tree script ≡ script_tree other
-
--- a first script is a script of the whole language
-abbrev pub FirstScriptsAreScripts : Type 0
-FirstScriptsAreScripts = (bytes : List ℕ) (script : Script) → SpelledFirst bytes script → SpelledBy bytes script
-
--- whatever first scripts the same bytes spell, they have one tree
-abbrev pub OneFirstScript : Type 0
-OneFirstScript = (bytes : List ℕ) (script other : Script) → SpelledFirst bytes script → SpelledFirst bytes other → script_tree script ≡ script_tree other

@@ -1,6 +1,5 @@
 //! Classes of bytes, and how far they run.
 ghost use Rattle.std.specs.Prelude.{◌≡◌, ◌≤◌, length};
-ghost use Rattle.std.specs.List.{list_all};
 ghost use Rattle.lang_model.specs.Tokens.{is_letter, is_digit, is_blank, is_sign_byte, is_allowed, run_length};
 ghost use Rattle.rv_parse.specs.Lexing.{passes};
 
@@ -11,12 +10,10 @@ pub enum Class {
     Word,
     /// Digits.
     Digit,
-    /// All but a line feed.
-    Comment,
     /// What may stand in a file text.
     File,
     /// What may stand in a comment.
-    Remark,
+    Comment,
 }
 
 /// `A` to `Z` and `a` to `z`.
@@ -61,9 +58,8 @@ fn passes(class: Class, b: u8) -> bool
     match class {
         Class::Word => is_letter(b) || (is_digit(b) || b == 95),
         Class::Digit => is_digit(b),
-        Class::Comment => b != 10,
         Class::File => 32 <= b && (b <= 126 && !(b == 34)),
-        Class::Remark => is_allowed(b) && !(b == 10),
+        Class::Comment => is_allowed(b) && !(b == 10),
     }
 }
 
@@ -77,11 +73,4 @@ pub fn run(class: Class, bytes: &[u8]) -> usize
         n += 1;
     }
     n
-}
-
-/// Whether every byte may stand in a script.
-pub fn all_allowed(bytes: &[u8]) -> bool
-    ensures { result ≡ list_all is_allowed bytes.now }
-{
-    bytes.iter().all(|b| is_allowed(*b))
 }

@@ -87,7 +87,7 @@ fn next_lexeme(alloc: Global, at: Place, bytes: &[u8]) -> Result<Lexeme, Halt>
         return Ok(Lexeme::Blank(1));
     }
     if first == 35 {
-        let count = run(Class::Remark, &bytes[1..]);
+        let count = run(Class::Comment, &bytes[1..]);
         return Ok(Lexeme::Blank(count + 1));
     }
     match kind_at(alloc, bytes) {

@@ -1,15 +1,15 @@
-//! Splits a text into tokens.
-ghost use Rattle.std.specs.Prelude.{◌≡◌, ◌<◌, ◌≤◌, ◌+◌, ◌*◌, ◌^◌, Some, MatchResult, OnSome, IfOk, IfErr, drop, length, option_map};
+//! The token that begins some bytes, and the place behind it.
+ghost use Rattle.std.specs.Prelude.{◌≡◌, ◌<◌, ◌≤◌, ◌+◌, ◌*◌, ◌^◌, OnSome, IfOk, IfErr, length, option_map};
 ghost use Rattle.std.specs.Option.{SomeIff};
-ghost use Rattle.lang_model.specs.Tokens.{begins_with_quote, run_length, is_word_byte, value_from, behind, behind_all, word_kind, domain_operator_at, file_at, kind_at, tokens_from, tokens_of};
-ghost use Rattle.rv_parse.specs.Lexing.{kind_of, word_at, number_at, Finds, NoTokens, prepended};
+ghost use Rattle.lang_model.specs.Tokens.{begins_with_quote, run_length, is_word_byte, value_from, behind, behind_all, word_kind, domain_operator_at, file_at, kind_at};
+ghost use Rattle.rv_parse.specs.Lexing.{kind_of, word_at, number_at, Finds};
 ghost use Rattle.rv_parse.specs.declared.refusals.Refusal.TheVariants.{NoMemory, Unfit};
 
-use crate::bytes::{Class, all_allowed, is_blank, is_digit, is_letter, is_sign, run};
+use crate::bytes::{Class, is_digit, is_letter, is_sign, run};
 use crate::refusals::Refusal;
 use crate::words::{Reserved, domain_operator, reserved_word};
 use lang_model::syntax::{FileText, Name, Place};
-use lang_model::token::{Kind, Token};
+use lang_model::token::Kind;
 use std::alloc::Global;
 
 /// The value of digits, where it is below 2 ^ 64.
@@ -192,53 +192,4 @@ fn kind_of(meaning: Reserved) -> Kind
         Reserved::Keyword(keyword) => Kind::Keyword(keyword),
         Reserved::Base(base) => Kind::Base(base),
     }
-}
-
-/// Goes on by a blank, a comment or a token, and answers how many bytes it had.
-fn next(alloc: Global, out: &mut Vec<Token>, at: Place, rest: &[u8]) -> Result<usize, Refusal>
-    requires { 0 < length rest.now }
-    ensures within { IfOk result (λ n. (1 ≤ n) × (n ≤ length rest.now)) }
-    ensures same { IfOk result (λ n. prepended out.old.items (tokens_from 0 at rest.now) ≡ prepended out.new.items (tokens_from 0 (behind_all n at rest.now) (drop n rest.now))) }
-    ensures grown { length out.new.items ≤ length out.old.items + 1 }
-    ensures none { IfErr result (NoTokens (tokens_from 0 at rest.now)) }
-{
-    let first = rest[0];
-    if is_blank(first) {
-        return Ok(1);
-    }
-    if first == 35 {
-        let count = run(Class::Comment, &rest[1..]);
-        return Ok(count + 1);
-    }
-    match kind_at(alloc, rest) {
-        Ok((kind, count)) => {
-            out.push(Token { at, kind })?;
-            Ok(count)
-        }
-        Err(refusal) => Err(refusal),
-    }
-}
-
-/// The tokens of a text.
-pub fn tokens(alloc: Global, bytes: &[u8]) -> Result<Vec<Token>, Refusal>
-    requires { length bytes.now ≤ 2 ^ 20 }
-    ensures value { MatchResult result (λ v. tokens_of bytes.now ≡ Some v.items) (NoTokens (tokens_of bytes.now)) }
-    ensures count { IfOk result (λ v. length v.items ≤ length bytes.now) }
-{
-    if !all_allowed(bytes) {
-        return Err(Refusal::Unfit);
-    }
-    let mut out = Vec::new(alloc);
-    let mut at = Place { line: 1, column: 1 };
-    let mut i = 0;
-    'each: while i < bytes.len() {
-        let rest = &bytes[i..];
-        let count = match next(alloc, &mut out, at, rest) {
-            Ok(count) => count,
-            Err(refusal) => return Err(refusal),
-        };
-        at = advance(at, rest, count);
-        i += count;
-    }
-    Ok(out)
 }

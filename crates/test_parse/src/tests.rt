@@ -1,4 +1,4 @@
-//! What scripts are read as, and at which token and why texts are refused.
+//! What scripts are read as, at which token and why texts are refused, and how expressions are written.
 mod bytes;
 mod definitions;
 mod expressions;
@@ -8,6 +8,7 @@ mod limits;
 mod nesting;
 mod places;
 mod prefixes;
+mod printing;
 mod shapes;
 mod statements;
 mod tables;

@@ -1,12 +1,14 @@
 //! How expressions are written, against the rule: parentheses stand only where the grammar needs them.
-use crate::{parse, print_expr};
+use crate::fault::MEBIBYTE;
+use crate::text::times;
 use lang_model::syntax::{Command, Item};
+use rv_parse::{parse, print_expr};
 use std::alloc::Global;
 use std::test::Fail;
 
 /// The text of the expression that a script of one PRINT has.
 fn again(alloc: Global, script: &[u8]) -> Result<Vec<u8>, Fail> {
-    if script.len() > super::MEBIBYTE {
+    if script.len() > MEBIBYTE {
         return Ok(Vec::from_slice(alloc, b"too long")?);
     }
     let Ok(script) = parse(alloc, script) else {
@@ -51,11 +53,12 @@ fn parentheses_stand_only_where_the_grammar_needs_them(rt: HostRuntime) -> Resul
 
 #[test]
 fn a_chain_of_20_000_links_is_printed(rt: HostRuntime) -> Result<(), Fail> {
-    let script = super::repeated(rt.alloc(), b"PRINT A", b"|A", 20_000, b".")?;
-    let text = super::repeated(rt.alloc(), b"A", b"|A", 20_000, b"")?;
+    let links = times(rt.alloc(), "|A", 20_000)?;
+    let script = format!(in rt.alloc(); "PRINT A{links}.")?;
+    let text = format!(in rt.alloc(); "A{links}")?;
     assert_eq!(rt;
-        again(rt.alloc(), script.as_slice())?.as_slice(),
-        text.as_slice()
+        again(rt.alloc(), script.as_bytes())?.as_slice(),
+        text.as_bytes()
     );
     Ok(())
 }
