@@ -3,16 +3,16 @@
 
     tools/build.py [NAME]     NAME is a crate of crates.txt, `relview` where none is given
 
-A crate is begun once all crates that it stands on are done, those with the longest chain above them first; as many at
-once as there are processors, and as memory allows. What is done is kept: after an interrupt the next call goes on there.
-Nothing is written to standard output. Exit status 0, or 70 where a crate was not proved or built, with the end of its
-report and the name of the file that has the whole of it.
+The proofs are made by one `rt all check`, which works on several crates at once; the program is built once all are proved.
+What is done is kept: after an interrupt the next call goes on there. Nothing is written to standard output. Exit status 0,
+or 70 where a crate was not proved or built, with the end of its report and the name of the file that has the whole of it.
 """
 import os
 import signal
 import subprocess
 import sys
 import tempfile
+import threading
 import time
 
 TOP = os.path.dirname(os.path.dirname(os.path.abspath(__file__)))
@@ -21,60 +21,33 @@ ROOM = 3
 
 
 def crates_below(name):
-    """For each crate that NAME stands on, and for itself, the repository's crates that it names."""
+    """The crates of crates.txt that NAME stands on, and itself; none where there is no such crate."""
     named = {}
     with open(os.path.join(TOP, "crates.txt"), encoding="utf-8") as lines:
         for line in lines:
             head, colon, deps = line.split("#")[0].partition(":")
             if colon:
                 named[head.split()[0]] = deps.split()
-    below = {}
-    wanted = [name]
+    below = set()
+    wanted = [name] if name in named else []
     while wanted:
         crate = wanted.pop()
         if crate in named and crate not in below:
-            below[crate] = [dep for dep in named[crate] if dep in named]
-            wanted.extend(below[crate])
+            below.add(crate)
+            wanted.extend(named[crate])
     return below
 
 
-def lines_of(crate):
-    """How many lines of code, definitions and proofs a crate has: about in the measure of which it takes time."""
-    count = 0
-    for folder, _, files in os.walk(os.path.join(TOP, "crates", crate)):
-        if "out" in os.path.relpath(folder, TOP).split(os.sep):
-            continue
-        for name in files:
-            if name.endswith((".rt", ".antt")):
-                with open(os.path.join(folder, name), "rb") as file:
-                    count += file.read().count(b"\n")
-    return count
-
-
-def chain_above(below):
-    """How many lines the longest chain of crates has that ends on each crate, itself counted."""
-    length = {}
-
-    def of(crate):
-        if crate not in length:
-            above = [other for other, deps in below.items() if crate in deps]
-            length[crate] = lines_of(crate) + max((of(other) for other in above), default=0)
-        return length[crate]
-
-    for crate in below:
-        of(crate)
-    return length
-
-
 def places():
-    """How many crates may be worked on at once."""
+    """How many crates may be worked on at once: two more than there are processors, since a crate that waits for those
+    below it takes a place too, and as memory allows."""
     cores = len(os.sched_getaffinity(0))
     try:
         with open("/proc/meminfo", encoding="ascii") as lines:
             free = next(int(line.split()[1]) for line in lines if line.startswith("MemAvailable:"))
     except (OSError, StopIteration):
         return cores
-    return max(1, min(cores, free // (ROOM << 20)))
+    return max(1, min(cores + 2, free // (ROOM << 20)))
 
 
 class Progress:
@@ -96,71 +69,75 @@ class Progress:
             sys.stderr.write("\n")
 
 
-def begin(crate, program, logs):
-    """Starts the proof and the build of a crate in a process group of its own."""
-    words = ["rt", "run", "--", "data/a.rv"] if crate == program else ["rt", "lib"]
-    log = open(os.path.join(logs, crate + ".log"), "wb")
+def begin(words, crate, log):
+    """Starts a command in a crate's folder and a process group of its own."""
     folder = os.path.join(TOP, "crates", crate)
-    return subprocess.Popen(words, cwd=folder, stdin=subprocess.DEVNULL, stdout=log, stderr=log, start_new_session=True)
+    return subprocess.Popen(words, cwd=folder, stdin=subprocess.DEVNULL, stdout=subprocess.PIPE, stderr=log, start_new_session=True)
 
 
-def is_done(crate, program, status):
-    """Whether the work on a crate came to its end: of the program, whether it is there."""
-    if crate != program:
-        return status == 0
-    return os.access(os.path.join(TOP, "crates", program, "out", program), os.X_OK)
-
-
-def end_all(running):
-    for process in running.values():
+def end(process):
+    """Ends a command that still runs, with all that it started."""
+    if process.poll() is None:
         try:
             os.killpg(process.pid, signal.SIGTERM)
         except ProcessLookupError:
             pass
-    for process in running.values():
         process.wait()
 
 
-def fail(crate, logs):
-    path = os.path.join(logs, crate + ".log")
-    with open(path, "rb") as log:
-        end = log.read().decode("utf-8", "replace").splitlines()[-20:]
-    sys.stderr.write("\n".join(end) + f"\nrelview: {crate} was not proved; the whole report is in {path}\n")
-    return 70
+def prove(program, log, progress):
+    """Proves the crates below the program and itself, and says how many are done; whether all are proved."""
+    process = begin(["rt", "all", "check", "--jobs", str(places())], program, log)
+    done = 0
+    clock = threading.Event()
+    if progress.in_place:
+        threading.Thread(target=lambda: tick(clock, progress, lambda: done), daemon=True).start()
+    try:
+        for line in process.stdout:
+            log.write(line)
+            if line.startswith(b"== ") and line.strip() != b"== summary":
+                done += 1
+                progress.tell(done)
+        return process.wait() == 0
+    finally:
+        clock.set()
+        end(process)
+
+
+def tick(clock, progress, done):
+    """Rewrites the line from time to time, so that its minutes go on while a long proof runs."""
+    while not clock.wait(15):
+        progress.tell(done())
+
+
+def compile_program(program, log):
+    """Builds the proved program, and runs it once on a script of its own; whether it is there then."""
+    process = begin(["rt", "run", "--", "data/a.rv"], program, log)
+    try:
+        log.write(process.stdout.read())
+        process.wait()
+    finally:
+        end(process)
+    return os.access(os.path.join(TOP, "crates", program, "out", program), os.X_OK)
 
 
 def build(program):
-    below = crates_below(program)
-    if program not in below:
+    crates = crates_below(program)
+    if not crates:
         sys.stderr.write(f"relview: crates.txt has no crate {program}\n")
         return 70
-    chain = chain_above(below)
-    logs = tempfile.mkdtemp(prefix="relview-")
-    progress = Progress(len(below))
-    done, running = set(), {}
+    path = os.path.join(tempfile.mkdtemp(prefix="relview-"), "report")
+    progress = Progress(len(crates))
     progress.tell(0)
-    try:
-        while len(done) < len(below):
-            ready = [c for c in below if c not in done and c not in running and done.issuperset(below[c])]
-            ready.sort(key=lambda c: (-chain[c], c))
-            while ready and (not running or len(running) < places()):
-                crate = ready.pop(0)
-                running[crate] = begin(crate, program, logs)
-            for crate, process in list(running.items()):
-                status = process.poll()
-                if status is None:
-                    continue
-                del running[crate]
-                if not is_done(crate, program, status):
-                    progress.end()
-                    return fail(crate, logs)
-                done.add(crate)
-                progress.tell(len(done))
-            time.sleep(0.2)
-    finally:
-        end_all(running)
+    with open(path, "wb", buffering=0) as log:
+        is_built = prove(program, log, progress) and compile_program(program, log)
     progress.end()
-    return 0
+    if is_built:
+        return 0
+    with open(path, "rb") as log:
+        report = log.read().decode("utf-8", "replace").splitlines()[-20:]
+    sys.stderr.write("\n".join(report) + f"\nrelview: {program} was not proved and built; the whole report is in {path}\n")
+    return 70
 
 
 if __name__ == "__main__":
