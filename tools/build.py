@@ -111,8 +111,8 @@ def tick(clock, progress, done):
 
 
 def compile_program(program, log):
-    """Builds the proved program, and runs it once on a script of its own; whether it is there then."""
-    process = begin(["rt", "run", "--", "data/a.rv"], program, log)
+    """Builds the proved program, which runs once with no words; whether it is there then."""
+    process = begin(["rt", "run"], program, log)
     try:
         log.write(process.stdout.read())
         process.wait()
