@@ -3,6 +3,7 @@ ghost use Rattle.std.specs.Prelude.{◌≡◌, ◌<◌, ◌≤◌, ◌+◌, ◌*
 ghost use Rattle.std.specs.Int.{bit_at};
 ghost use Rattle.rel_model.specs.Cells.{bits_cells};
 ghost use Rattle.rel_model.specs.Choice.{count_below};
+ghost use Rattle.rel_model.specs.Relation.{size_limit};
 ghost use Rattle.rel_domains.specs.Ranks.{first_column, ranked};
 
 use crate::heights::side_of;
@@ -35,7 +36,7 @@ pub fn count_in(least: u8, vector: u64) -> u32
 fn with_rank(bits: u64, side: u32, row: u32, rank: u32, x: u32) -> u64
     requires side { side ≤ 8 }
     requires within { x < side }
-    requires row { row + side ≤ 2 ^ 24 }
+    requires row { row + side ≤ size_limit }
     requires small { bits < 2 ^ (side * side) }
     ensures cells { (i k : ℕ) → i < side → k < side → (bit_at result (side * i + k) == 1) ≡ ((bit_at bits (side * i + k) == 1) || ((k == x) && (rank == row + i))) }
     ensures small { result < 2 ^ (side * side) }
@@ -50,8 +51,8 @@ fn with_rank(bits: u64, side: u32, row: u32, rank: u32, x: u32) -> u64
 /// The leaf that has, from a row on, the elements of a vector in order, so many of which come before.
 pub fn ranks_in(least: u8, vector: u64, row: u32, before: u32) -> u64
     requires low { least ≤ 3 }
-    requires row { row + 2 ^ least ≤ 2 ^ 24 }
-    requires before { before ≤ 2 ^ 24 }
+    requires row { row + 2 ^ least ≤ size_limit }
+    requires before { before ≤ size_limit }
     ensures cells { bits_cells (2 ^ least) result ≡ ranked (2 ^ least) row before (first_column (bits_cells (2 ^ least) vector)) }
     ensures none_past { result < 2 ^ (2 ^ least * 2 ^ least) }
 {

@@ -1,6 +1,7 @@
 //! Squares that no pair of a rule meets, and squares that are like others.
 ghost use Rattle.std.specs.Prelude.{◌≡◌, ◌<◌, ◌≤◌, ◌+◌, ◌*◌, ◌%◌, ◌^◌, ◌⊎◌, ℕ, IsTrue};
 ghost use Rattle.rel_model.specs.Cells.{no_cells};
+ghost use Rattle.rel_model.specs.Relation.{size_limit};
 ghost use Rattle.rel_domains.specs.Rules.{IsRule, rule_cells, window};
 
 use crate::rule::Rule;
@@ -9,9 +10,9 @@ use rel_model::Shape;
 /// A row, from one on, before which none has its remainder from `col` on and below `col + side`.
 fn first_with(by: u32, row: u32, col: u32, side: u32) -> u32
     requires by { 0 < by }
-    requires by_limit { by ≤ 2 ^ 24 }
-    requires row { row ≤ 2 ^ 24 }
-    requires col { col + side ≤ 2 ^ 24 }
+    requires by_limit { by ≤ size_limit }
+    requires row { row ≤ size_limit }
+    requires col { col + side ≤ size_limit }
     ensures { (k : ℕ) → row ≤ k → k < result → (k % by < col) ⊎ (col + side ≤ k % by) }
 {
     let at = row % by;
@@ -28,8 +29,8 @@ fn first_with(by: u32, row: u32, col: u32, side: u32) -> u32
 pub fn misses(shape: Shape, rule: Rule, row: u32, col: u32, side: u32) -> bool
     requires rule { IsRule shape.rows rule }
     requires side { 0 < side }
-    requires row { row + side ≤ 2 ^ 24 }
-    requires col { col + side ≤ 2 ^ 24 }
+    requires row { row + side ≤ size_limit }
+    requires col { col + side ≤ size_limit }
     ensures { IsTrue result → window side row col (rule_cells shape.rows shape.cols rule) ≡ no_cells }
 {
     if row >= shape.rows || col >= shape.cols {
@@ -48,7 +49,7 @@ pub fn misses(shape: Shape, rule: Rule, row: u32, col: u32, side: u32) -> bool
 pub fn repeats(shape: Shape, rule: Rule, row: u32, half: u32) -> bool
     requires rule { IsRule shape.rows rule }
     requires half { 0 < half }
-    requires row { row + 2 * half ≤ 2 ^ 24 }
+    requires row { row + 2 * half ≤ size_limit }
     ensures { IsTrue result → (col : ℕ) → window half (row + half) col (rule_cells shape.rows shape.cols rule) ≡ window half row col (rule_cells shape.rows shape.cols rule) }
 {
     if row + 2 * half > shape.rows {
@@ -64,8 +65,8 @@ pub fn repeats(shape: Shape, rule: Rule, row: u32, half: u32) -> bool
 /// Whether a square is seen to have the same cells as the one half its side down and to the right.
 pub fn goes_on(shape: Shape, rule: Rule, row: u32, col: u32, half: u32) -> bool
     requires rule { IsRule shape.rows rule }
-    requires row { row + 2 * half ≤ 2 ^ 24 }
-    requires col { col + 2 * half ≤ 2 ^ 24 }
+    requires row { row + 2 * half ≤ size_limit }
+    requires col { col + 2 * half ≤ size_limit }
     ensures { IsTrue result → window half (row + half) (col + half) (rule_cells shape.rows shape.cols rule) ≡ window half row col (rule_cells shape.rows shape.cols rule) }
 {
     if row + 2 * half > shape.rows || col + 2 * half > shape.cols {

@@ -1,6 +1,7 @@
 //! Rows of a rule in a leaf, bit after bit.
 ghost use Rattle.std.specs.Prelude.{◌≡◌, ◌<◌, ◌≤◌, ◌+◌, ◌*◌, ◌^◌, ◌==◌, ◌&&◌, nat_lt, ℕ};
 ghost use Rattle.std.specs.Int.{bit_at};
+ghost use Rattle.rel_model.specs.Relation.{size_limit};
 ghost use Rattle.rel_domains.specs.Rules.{IsRule, rule_cells};
 
 use crate::rule::Rule;
@@ -9,7 +10,7 @@ use rel_model::Shape;
 /// The cell in one column of a row, from a column on: column `col + k` is bit k.
 fn one_cell(cols: u32, at: u32, col: u32, side: u32) -> u64
     requires side { side ≤ 8 }
-    requires col { col + side ≤ 2 ^ 24 }
+    requires col { col + side ≤ size_limit }
     ensures cells { (k : ℕ) → k < side → (bit_at result k == 1) ≡ (nat_lt (col + k) cols && (at == col + k)) }
     ensures small { result < 2 ^ side }
 {
@@ -40,7 +41,7 @@ fn octet(block: u32, i: u32) -> u64
 fn members(cols: u32, i: u32, col: u32, side: u32) -> u64
     requires side { side ≤ 8 }
     requires row { i < 32 }
-    requires col { col + side ≤ 2 ^ 24 }
+    requires col { col + side ≤ size_limit }
     ensures cells { (k : ℕ) → k < side → (bit_at result k == 1) ≡ (nat_lt (col + k) cols && (bit_at (col + k) i == 1)) }
     ensures small { result < 2 ^ side }
 {
@@ -55,8 +56,8 @@ fn members(cols: u32, i: u32, col: u32, side: u32) -> u64
 pub fn row_at(shape: Shape, rule: Rule, i: u32, col: u32, side: u32) -> u64
     requires rule { IsRule shape.rows rule }
     requires side { side ≤ 8 }
-    requires row { i < 2 ^ 24 }
-    requires col { col + side ≤ 2 ^ 24 }
+    requires row { i < size_limit }
+    requires col { col + side ≤ size_limit }
     ensures cells { (k : ℕ) → k < side → (bit_at result k == 1) ≡ rule_cells shape.rows shape.cols rule i (col + k) }
     ensures small { result < 2 ^ side }
 {

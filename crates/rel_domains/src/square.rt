@@ -19,8 +19,8 @@ use rel_model::{Lack, Quad, Rel, Shape};
 fn word_at(least: u8, shape: Shape, rule: Rule, row: u32, col: u32) -> u64
     requires low { least ≤ 3 }
     requires rule { IsRule shape.rows rule }
-    requires row { row + 2 ^ least ≤ 2 ^ 24 }
-    requires col { col + 2 ^ least ≤ 2 ^ 24 }
+    requires row { row + 2 ^ least ≤ size_limit }
+    requires col { col + 2 ^ least ≤ size_limit }
     ensures cells { bits_cells (2 ^ least) result ≡ window (2 ^ least) row col (rule_cells shape.rows shape.cols rule) }
     ensures none_past { result < 2 ^ (2 ^ least * 2 ^ least) }
 {
@@ -45,8 +45,8 @@ fn square<Q: Quads>(
 ) -> Result<Quad, Lack>
     requires high { Q.least + depth ≤ top_height }
     requires rule { IsRule shape.rows rule }
-    requires row { row + 2 ^ (Q.least + depth) ≤ 2 ^ 24 }
-    requires col { col + 2 ^ (Q.least + depth) ≤ 2 ^ 24 }
+    requires row { row + 2 ^ (Q.least + depth) ≤ size_limit }
+    requires col { col + 2 ^ (Q.least + depth) ≤ size_limit }
     ensures value { IfOk result (GivesQuad (Q.worker q.new) (Q.least + depth) (window (2 ^ (Q.least + depth)) row col (rule_cells shape.rows shape.cols rule))) }
     ensures keeps { Keeps (Q.worker q.old) (Q.worker q.new) }
     ensures room { MakesAtMost (tree_room depth) (Q.worker q.old) (Q.worker q.new) }

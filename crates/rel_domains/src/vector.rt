@@ -2,6 +2,7 @@
 ghost use Rattle.std.specs.Prelude.{◌≡◌, ◌<◌, ◌≤◌, ◌+◌, ◌-◌, ◌*◌, ◌^◌, ℕ, IsTrue, IfOk};
 ghost use Rattle.rel_model.specs.Cells.{no_cells};
 ghost use Rattle.rel_model.specs.Choice.{holds, count_below, inj as inj_of};
+ghost use Rattle.rel_model.specs.Relation.{size_limit};
 ghost use Rattle.rel_model.specs.Trees.{top_height};
 ghost use Rattle.rel_model.specs.Worker.{Stands, set_of, HasQuad, quad_set, Gives, GivesQuad, Keeps, MakesAtMost, MissesNothing, HasCause, derived_room};
 ghost use Rattle.rel_domains.specs.Ranks.{first_column, ranked};
@@ -17,7 +18,7 @@ use rel_model::{Lack, Quad, Rel, Shape};
 fn elements<Q: Quads>(q: &mut Q, vector: Quad) -> u32
     requires { HasQuad (Q.worker q.old) vector }
     ensures count { result ≡ count_below (2 ^ vector.height) (first_column (quad_set (Q.worker q.old) vector)) }
-    ensures limit { result ≤ 2 ^ 24 }
+    ensures limit { result ≤ size_limit }
     ensures keeps { Keeps (Q.worker q.old) (Q.worker q.new) }
     ensures room { MakesAtMost 0 (Q.worker q.old) (Q.worker q.new) }
     ensures misses { MissesNothing (Q.worker q.old) (Q.worker q.new) }
@@ -39,8 +40,8 @@ fn elements<Q: Quads>(q: &mut Q, vector: Quad) -> u32
 
 /// Whether no rank of a vector is one of the rows of a square.
 fn passes_by(side: u32, many: u32, row: u32, before: u32) -> bool
-    requires row { row + side ≤ 2 ^ 24 }
-    requires before { before + many ≤ 2 ^ 24 }
+    requires row { row + side ≤ size_limit }
+    requires before { before + many ≤ size_limit }
     ensures { IsTrue result → (i k : ℕ) → i < side → k < many → before + k ≡ row + i → ⊥ }
 {
     many == 0 || row + side <= before || before + many <= row
@@ -59,8 +60,8 @@ fn ranks<Q: Quads>(
     requires stands { HasQuad (Q.worker q.old) vector }
     requires height { vector.height ≡ Q.least + depth }
     requires many { many ≡ count_below (2 ^ vector.height) (first_column (quad_set (Q.worker q.old) vector)) }
-    requires row { row + 2 ^ (Q.least + depth) ≤ 2 ^ 24 }
-    requires before { before + many ≤ 2 ^ 24 }
+    requires row { row + 2 ^ (Q.least + depth) ≤ size_limit }
+    requires before { before + many ≤ size_limit }
     ensures value { IfOk result (GivesQuad (Q.worker q.new) (Q.least + depth) (ranked (2 ^ (Q.least + depth)) row before (first_column (quad_set (Q.worker q.old) vector)))) }
     ensures keeps { Keeps (Q.worker q.old) (Q.worker q.new) }
     ensures room { MakesAtMost (tree_room depth) (Q.worker q.old) (Q.worker q.new) }
