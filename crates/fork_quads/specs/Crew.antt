@@ -1,4 +1,5 @@
--- What a crew holds, as a worker: relations by their roots, and quads by their names, in the words that its seat has seen.
+-- What a crew holds, as a worker: relations by their roots, and quads by their names, in the words that its seat has
+-- seen.
 use Rattle.std.specs.Prelude.{◌==◌, ◌^◌, ◌&&◌, ◌||◌, not, nat_le, cond, ℕ, Bool, List, length, slice_index, Option, Some, None, Result, Ok, Err}
 use base.Stored.{gnum, gcons}
 use Rattle.rel_model.specs.declared.Rel.{Rel}
@@ -15,19 +16,26 @@ use Rattle.rel_model.specs.Worker.{Worker}
 
 -- whether a word of these stands at a place before n too, or has more than 64 bits
 abbrev pub is_spoilt : List ℕ → ℕ → Bool
-is_spoilt words n = nat_le (2 ^ 64) (slice_index words n) || (not (slice_index words n == 0) && some_below n (λ m. slice_index words m == slice_index words n))
+is_spoilt words n = nat_le (2 ^ 64) (slice_index words n)
+    || (not (slice_index words n == 0) && some_below n (λ m. slice_index words m == slice_index words n))
 
--- whether names are canonical in the words, as they are in those of every seat: places 0 and 1 are vacant, no word stands at two places, and each word has 64 bits
+-- whether names are canonical in the words, as they are in those of every seat: places 0 and 1 are vacant, no word
+-- stands at two places, and each word has 64 bits
 unfoldable pub is_canonical : List ℕ → Bool
-is_canonical words = ((slice_index words 0 == 0) && (slice_index words 1 == 0)) && not (some_below (length words) (is_spoilt words))
+is_canonical words = ((slice_index words 0 == 0) && (slice_index words 1 == 0))
+    && not (some_below (length words) (is_spoilt words))
 
--- the set of a name at a height: none of name 0; else that of a name that stands at the depth of the height, where names are canonical
+-- the set of a name at a height: none of name 0; else that of a name that stands at the depth of the height, where
+-- names are canonical
 abbrev pub named_set : List ℕ → ℕ → ℕ → Option Cells
-named_set words height name = cond (name == 0) (Some no_cells) (cond (is_canonical words && stands words (depth_of height) name) (Some (cells words (depth_of height) name)) None)
+named_set words height name = cond (name == 0) (Some no_cells)
+    (cond (is_canonical words && stands words (depth_of height) name) (Some (cells words (depth_of height) name))
+    None)
 
 -- the set of a quad that stands in the words, which is of the height of a square
 unfoldable pub quad_in : List ℕ → Quad → Option Cells
-quad_in words q = cond (nat_le bottom_height q.height && nat_le q.height top_height) (named_set words q.height q.name) None
+quad_in words q = cond (nat_le bottom_height q.height && nat_le q.height top_height) (named_set words q.height q.name)
+    None
 
 -- a table as one value: which it is, its size, and for how many seats it is
 abbrev pub house_of : Table → House
@@ -35,7 +43,8 @@ house_of table = gcons table.house (gcons (gnum table.bits) (gnum table.seats))
 
 -- a keeper of quads as a worker: its relations are those whose roots stand in the words that its seat has seen
 abbrev pub worker_of : Keeper → Worker
-worker_of w = record { relation = relation_in w.view.words; quad = quad_in w.view.words; misses = w.misses; made = w.view.made; house = house_of w.table; spare = w.view.spare }
+worker_of w = record { relation = relation_in w.view.words; quad = quad_in w.view.words; misses = w.misses;
+    made = w.view.made; house = house_of w.table; spare = w.view.spare }
 
 -- ---- roots
 -- the quad of the root of a relation

@@ -28,13 +28,16 @@ canonical_means words e =
     let a = and_parts _ _ e in
     let b = and_parts _ _ a.0 in
     let z : get_or words 0 0 ≡ 0 = eqb-true _ 0 b.0 in
-    let clean : (n : ℕ) → n < length words → is_spoilt words n ≡ false = λ n l. some_below-false (length words) (is_spoilt words) (not-true _ a.1) n l in
-    let placed : (n : ℕ) → get_or words n 0 ≢ 0 → n < length words = λ n h. elim (cases_lt n (length words)) [ inl l ↦ l | inr l ↦ absurd (h (get_or_past words n 0 l)) ] in
+    let clean : (n : ℕ) → n < length words → is_spoilt words n
+        ≡ false = λ n l. some_below-false (length words) (is_spoilt words) (not-true _ a.1) n l in
+    let placed : (n : ℕ) → get_or words n 0 ≢ 0 → n < length words = λ n h. elim
+        (cases_lt n (length words)) [ inl l ↦ l | inr l ↦ absurd (h (get_or_past words n 0 l)) ] in
     let later : (m n : ℕ) → m < n → get_or words n 0 ≢ 0 → get_or words m 0 ≢ get_or words n 0 = λ m n l h q.
     let c = or_parts _ _ (clean n (placed n h)) in
     elim (and_cases _ _ c.1) [
       | inl x ↦ false≢true (sym x ∙ not_from_false _ (ne_eqb (get_or words n 0) 0 h))
-      | inr x ↦ eqb-false (get_or words m 0) (get_or words n 0) (some_below-false n (λ k. eqb (get_or words k 0) (get_or words n 0)) x m l) q
+      | inr x ↦ eqb-false (get_or words m 0) (get_or words n 0)
+          (some_below-false n (λ k. eqb (get_or words k 0) (get_or words n 0)) x m l) q
     ] in
     record {
       none_at_0 = z;
@@ -48,7 +51,9 @@ canonical_means words e =
       ];
       fits = λ n. elim (cases_eq (get_or words n 0) 0) [
         | inl x ↦ omega (arith, x)
-        | inr x ↦ (let c = or_parts _ _ (clean n (placed n x)) in elim (cases_lt (get_or words n 0) (2 ^ 64)) [ inl l ↦ l | inr l ↦ absurd (false≢true (sym c.0 ∙ le-leb (2 ^ 64) (get_or words n 0) l)) ])
+        | inr x ↦ (let c = or_parts _ _ (clean n (placed n x)) in elim
+            (cases_lt (get_or words n 0) (2 ^ 64)) [ inl l ↦ l | inr l ↦ absurd
+            (false≢true (sym c.0 ∙ le-leb (2 ^ 64) (get_or words n 0) l)) ])
       ];
     }
 
@@ -65,10 +70,13 @@ canonical_from words d =
       | inr e ↦ e
     ]
 
-    alone : (n : ℕ) → (not (eqb (get_or words n 0) 0) && some_below n (λ m. eqb (get_or words m 0) (get_or words n 0))) ≡ false
+    alone : (n : ℕ) → (not (eqb (get_or words n 0) 0) && some_below n
+        (λ m. eqb (get_or words m 0) (get_or words n 0))) ≡ false
     alone n = elim (cases_eq (get_or words n 0) 0) [
       | inl x ↦ and_left _ _ (not_from_true _ (eq-eqb _ 0 x))
-      | inr x ↦ and_right' (not (eqb (get_or words n 0) 0)) _ (some_below-none n (λ m. eqb (get_or words m 0) (get_or words n 0)) (λ m l. ne_eqb (get_or words m 0) (get_or words n 0)
+      | inr x ↦ and_right' (not (eqb (get_or words n 0) 0)) _
+          (some_below-none n (λ m. eqb (get_or words m 0) (get_or words n 0))
+          (λ m l. ne_eqb (get_or words m 0) (get_or words n 0)
           (λ q. let e = d.one_place n m x (sym q) in omega (arith, e))))
     ]
       where
@@ -95,43 +103,56 @@ quad_in-named words q h = elim (cases_Bool (leb bottom_height q.height && leb q.
     at : bottom_height ≤ q.height → q.height ≤ top_height → IsSome (named_set words q.height q.name) → IsNamed words q
     at l t s = elim (cases_Bool (eqb q.name 0)) [
       | inl z ↦ let n = eqb-true q.name 0 z in
-          record { low = l; high = t; standing = subst (λ (x : ℕ). stands words (depth_of q.height) x ≡ true) (sym n) (zero_stands words (depth_of q.height)); canonical = inl n }
+          record { low = l; high = t; standing = subst (λ (x : ℕ). stands words (depth_of q.height) x ≡ true) (sym n)
+              (zero_stands words (depth_of q.height)); canonical = inl n }
       | inr z ↦ elim (cases_Bool (is_canonical words && stands words (depth_of q.height) q.name)) [
-        | inl c ↦ let p = and_parts _ _ c in record { low = l; high = t; standing = p.1; canonical = inr (canonical_means words p.0) }
+        | inl c ↦ let p = and_parts _ _ c in record { low = l; high = t; standing = p.1;
+            canonical = inr (canonical_means words p.0) }
         | inr c ↦ absurd (false≢true (rw (z, c) at s))
       ]
     ]
 
 -- its set: none of name 0, and else that of its name
-pub quad_in-none : (words : List ℕ) (h n : ℕ) → bottom_height ≤ h → h ≤ top_height → n ≡ 0 → quad_in words (record { height = h; name = n }) ≡ Some no_cells
+pub quad_in-none : (words : List ℕ) (h n : ℕ) → bottom_height ≤ h → h ≤ top_height → n ≡ 0
+    → quad_in words (record { height = h; name = n }) ≡ Some no_cells
 unfolding quad_in
 quad_in-none words h n l t z = rw (and_from _ _ (le-leb bottom_height h l) (le-leb h top_height t), eq-eqb n 0 z) refl
 
 -- the set of a quad whose name stands is that of its name
-pub quad_in-is : (words : List ℕ) (h n : ℕ) → IsDistinct words → bottom_height ≤ h → h ≤ top_height → stands words (depth_of h) n ≡ true → quad_in words (record { height = h; name = n }) ≡ Some (cells words (depth_of h) n)
+pub quad_in-is : (words : List ℕ) (h n : ℕ) → IsDistinct words → bottom_height ≤ h → h ≤ top_height
+    → stands words (depth_of h) n ≡ true → quad_in words (record { height = h; name = n })
+    ≡ Some (cells words (depth_of h) n)
 unfolding quad_in
 quad_in-is words h n d l t s = elim (cases_Bool (eqb n 0)) [
   | inl z ↦ let e = eqb-true n 0 z in
-      quad_in-none words h n l t e ∙ ap (λ (c : Cells). Some c) (sym (ap (cells words (depth_of h)) e ∙ zero_cells words d.none_at_0 (depth_of h)))
-  | inr z ↦ rw (and_from _ _ (le-leb bottom_height h l) (le-leb h top_height t), z, and_from _ _ (canonical_from words d) s) refl
+      quad_in-none words h n l t e ∙ ap (λ (c : Cells). Some c)
+          (sym (ap (cells words (depth_of h)) e ∙ zero_cells words d.none_at_0 (depth_of h)))
+  | inr z ↦ rw (and_from _ _ (le-leb bottom_height h l) (le-leb h top_height t), z,
+      and_from _ _ (canonical_from words d) s) refl
 ]
 
 -- the set of a quad that stands, by its name
-quad_set_is : (w : Keeper) (q : Quad) → IsDistinct w.view.words → HasQuad (worker_of w) q → quad_set (worker_of w) q ≡ quad_cells w q
-quad_set_is w q d h = let s = quad_in-named w.view.words q h in ap (λ o. unwrap_or o no_cells) (quad_in-is w.view.words q.height q.name d s.low s.high s.standing)
+quad_set_is : (w : Keeper) (q : Quad) → IsDistinct w.view.words → HasQuad (worker_of w) q
+    → quad_set (worker_of w) q ≡ quad_cells w q
+quad_set_is w q d h = let s = quad_in-named w.view.words q h in ap (λ o. unwrap_or o no_cells)
+    (quad_in-is w.view.words q.height q.name d s.low s.high s.standing)
 
 -- a quad named 0 has no cell
 quad_set_none : (w : Keeper) (q : Quad) → HasQuad (worker_of w) q → q.name ≡ 0 → quad_set (worker_of w) q ≡ no_cells
-quad_set_none w q h z = let s = quad_in-named w.view.words q h in ap (λ o. unwrap_or o no_cells) (quad_in-none w.view.words q.height q.name s.low s.high z)
+quad_set_none w q h z = let s = quad_in-named w.view.words q h in ap (λ o. unwrap_or o no_cells)
+    (quad_in-none w.view.words q.height q.name s.low s.high z)
 
 -- ---- laws of relations
 -- the set of a relation that stands, by its root
-set_is : (w : Keeper) (r : Rel) → Stands (worker_of w) r → set_of (worker_of w) r ≡ relation_of r.rows r.cols (root_cells w.view.words r)
-set_is w r h = ap (λ o. unwrap_or o (record { rows = 0; cols = 0; pairs = [] })) (rooted-relation_in w.view.words r (relation_in-rooted w.view.words r h))
+set_is : (w : Keeper) (r : Rel) → Stands (worker_of w) r
+    → set_of (worker_of w) r ≡ relation_of r.rows r.cols (root_cells w.view.words r)
+set_is w r h = ap (λ o. unwrap_or o (record { rows = 0; cols = 0; pairs = [] }))
+    (rooted-relation_in w.view.words r (relation_in-rooted w.view.words r h))
 
 -- what stands is a relation
 pub valid_law : (w : Keeper) (r : Rel) → Stands (worker_of w) r → IsRelation (set_of (worker_of w) r)
-valid_law w r h = subst IsRelation (sym (set_is w r h)) (IsRelation-relation_of r.rows r.cols (root_cells w.view.words r))
+valid_law w r h = subst IsRelation (sym (set_is w r h))
+    (IsRelation-relation_of r.rows r.cols (root_cells w.view.words r))
 
 -- it has as many rows as its name says
 pub rows_law : (w : Keeper) (r : Rel) → Stands (worker_of w) r → (set_of (worker_of w) r).rows ≡ r.rows
@@ -164,25 +185,30 @@ pub high_height_law : (w : Keeper) (q : Quad) → HasQuad (worker_of w) q → q.
 high_height_law w q h = (quad_in-named w.view.words q h).high
 
 -- the cells of a quad lie within its square
-pub square_law : (w : Keeper) (q : Quad) → HasQuad (worker_of w) q → LiesWithin (2 ^ q.height) (2 ^ q.height) (quad_set (worker_of w) q)
+pub square_law : (w : Keeper) (q : Quad) → HasQuad (worker_of w) q
+    → LiesWithin (2 ^ q.height) (2 ^ q.height) (quad_set (worker_of w) q)
 square_law w q h =
     let s = quad_in-named w.view.words q h in
     let p = side_of-power q.height s.low in
     elim s.canonical [
-      | inl z ↦ subst (λ (c : Cells). LiesWithin (2 ^ q.height) (2 ^ q.height) c) (sym (quad_set_none w q h z)) (record { row = λ i j x. absurd (false≢true x); col = λ i j x. absurd (false≢true x) })
-      | inr d ↦ subst (λ (c : Cells). LiesWithin (2 ^ q.height) (2 ^ q.height) c) (sym (quad_set_is w q d h)) (subst (λ (m : ℕ). LiesWithin m m (quad_cells w q)) p (within (square_within w.view.words q.height q.name)))
+      | inl z ↦ subst (λ (c : Cells). LiesWithin (2 ^ q.height) (2 ^ q.height) c) (sym (quad_set_none w q h z))
+          (record { row = λ i j x. absurd (false≢true x); col = λ i j x. absurd (false≢true x) })
+      | inr d ↦ subst (λ (c : Cells). LiesWithin (2 ^ q.height) (2 ^ q.height) c) (sym (quad_set_is w q d h))
+          (subst (λ (m : ℕ). LiesWithin m m (quad_cells w q)) p (within (square_within w.view.words q.height q.name)))
     ]
   where
     within : {m n : ℕ} {f : Cells} → Within m n f → LiesWithin m n f
     within v = record { row = v.row; col = v.col }
 
 -- the quad named 0 has no cell, at each height
-pub none_law : (w : Keeper) (h : ℕ) → 3 ≤ h → h ≤ top_height → quad_in w.view.words (record { height = h; name = 0 }) ≡ Some no_cells
+pub none_law : (w : Keeper) (h : ℕ) → 3 ≤ h → h ≤ top_height
+    → quad_in w.view.words (record { height = h; name = 0 }) ≡ Some no_cells
 unfolding bottom_height
 none_law w h l t = quad_in-none w.view.words h 0 l t refl
 
 -- quads of one height with one set have one name
-pub one_name_law : (w : Keeper) (p q : Quad) → HasQuad (worker_of w) p → HasQuad (worker_of w) q → p.height ≡ q.height → quad_set (worker_of w) p ≡ quad_set (worker_of w) q → p.name ≡ q.name
+pub one_name_law : (w : Keeper) (p q : Quad) → HasQuad (worker_of w) p → HasQuad (worker_of w) q → p.height ≡ q.height
+    → quad_set (worker_of w) p ≡ quad_set (worker_of w) q → p.name ≡ q.name
 one_name_law w p q h k e f =
     let s = quad_in-named w.view.words p h in
     let t = quad_in-named w.view.words q k in
@@ -191,7 +217,11 @@ one_name_law w p q h k e f =
       | inr d ↦ one w p q h k s t d e f
     ]
   where
-    one : (w : Keeper) (p q : Quad) → HasQuad (worker_of w) p → HasQuad (worker_of w) q → IsNamed w.view.words p → IsNamed w.view.words q → IsDistinct w.view.words → p.height ≡ q.height → quad_set (worker_of w) p ≡ quad_set (worker_of w) q → p.name ≡ q.name
+    one : (w : Keeper) (p q : Quad) → HasQuad (worker_of w) p → HasQuad (worker_of w) q → IsNamed w.view.words p
+        → IsNamed w.view.words q → IsDistinct w.view.words → p.height ≡ q.height
+        → quad_set (worker_of w) p ≡ quad_set (worker_of w) q → p.name ≡ q.name
     one w p q h k s t d e f =
-        one_set_one_name w.view.words d (depth_of p.height) p.name q.name s.standing (subst (λ (x : ℕ). stands w.view.words (depth_of x) q.name ≡ true) (sym e) t.standing)
-        (sym (quad_set_is w p d h) ∙ f ∙ quad_set_is w q d k ∙ ap (λ (x : ℕ). cells w.view.words (depth_of x) q.name) (sym e))
+        one_set_one_name w.view.words d (depth_of p.height) p.name q.name s.standing
+            (subst (λ (x : ℕ). stands w.view.words (depth_of x) q.name ≡ true) (sym e) t.standing)
+        (sym (quad_set_is w p d h) ∙ f ∙ quad_set_is w q d k
+            ∙ ap (λ (x : ℕ). cells w.view.words (depth_of x) q.name) (sym e))

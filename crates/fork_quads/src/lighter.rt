@@ -6,7 +6,8 @@ ghost use Rattle.fork_quads.specs.Middle.{AreStanding};
 use quad_nodes::Nodes;
 use rel_model::Quad;
 
-/// Counts the quads of a height and above under a quad, on to those met before; a name is told from those met before by its place.
+/// Counts the quads of a height and above under a quad, on to those met before; a name is told from those met before
+/// by its place.
 fn met_under(nodes: &mut Nodes, q: Quad, least: u8, seen: &mut [u32], met: u32) -> u32
     requires stands { QuadStands nodes.old q }
     requires places { length seen.old ≡ 16384 }
@@ -33,7 +34,8 @@ fn met_under(nodes: &mut Nodes, q: Quad, least: u8, seen: &mut [u32], met: u32) 
     met_under(nodes, se, least, seen, third)
 }
 
-/// How many quads of a height and above are under a quad, counted to 16384. It is a call of its own, so that its array is on the stack once.
+/// How many quads of a height and above are under a quad, counted to 16384. It is a call of its own, so that its
+/// array is on the stack once.
 #[inline(never)]
 fn weight(nodes: &mut Nodes, q: Quad, least: u8) -> u64
     requires stands { QuadStands nodes.old q }

@@ -1,4 +1,5 @@
--- The faults that a script has before it runs, and the first of them: names, arguments, assignments and ranks of definitions, and the definitions that commands call.
+-- The faults that a script has before it runs, and the first of them: names, arguments, assignments and ranks of
+-- definitions, and the definitions that commands call.
 use Rattle.std.specs.Prelude.{◌==◌, ◌&&◌, ◌||◌, ◌+◌, not, nat_lt, max, cond, ℕ, Bool, true, false, List, [], ◌∷◌, ◌++◌, length, map, codes, Option, Some, None}
 use Rattle.std.specs.List.{list_any}
 use Rattle.std.specs.Option.{option_map_or}
@@ -71,15 +72,18 @@ is_projection _ = false
 -- a name is a relation's, a parameter, or a variable that is assigned on every path before it
 unfoldable pub ref_faults : Scope → Names → Place → List ℕ → List TypeFault
 ref_faults scope assigned at name =
-    cond (scope.is_command || among scope.parameters name) [] (cond (among scope.variables name) (cond (assigned name) [] (Unassigned at name ∷ [])) (Unknown at name ∷ []))
+    cond (scope.is_command || among scope.parameters name) [] (cond (among scope.variables name)
+        (cond (assigned name) [] (Unassigned at name ∷ [])) (Unknown at name ∷ []))
 
 -- a call is of a definition of an earlier item, with as many arguments as it takes
 unfoldable pub call_faults : Scope → Place → List ℕ → ℕ → List TypeFault
-call_faults scope at name given = option_map_or (λ d. cond (d.takes == given) [] (Arity at name d.takes given ∷ [])) (definition_of scope.earlier name) (Unknown at name ∷ [])
+call_faults scope at name given = option_map_or (λ d. cond (d.takes == given) [] (Arity at name d.takes given ∷ []))
+    (definition_of scope.earlier name) (Unknown at name ∷ [])
 
 -- a projection is of a declared product, and an injection of a declared sum
 unfoldable pub domain_faults : Scope → Place → Base → List ℕ → List TypeFault
-domain_faults scope at base domain = cond (among (cond (is_projection base) scope.products scope.sums) domain) [] (Unknown at (domain_operator_text base) ∷ [])
+domain_faults scope at base domain = cond (among (cond (is_projection base) scope.products scope.sums)
+    domain) [] (Unknown at (domain_operator_text base) ∷ [])
 
 -- how many expressions are in a row
 abbrev pub count_in : {m : _} → Row_of-Expr m → ℕ
@@ -91,7 +95,8 @@ abbrev mutual
   -- the faults of an expression, in the order of its places
   pub faults : Scope → Names → Expr → List TypeFault
   faults scope assigned (Ref at name) = ref_faults scope assigned at name
-  faults scope assigned (Call' at name shape args) = call_faults scope at name (count_in args) ++ faults_in scope assigned args
+  faults scope assigned (Call' at name shape args) = call_faults scope at name (count_in args)
+      ++ faults_in scope assigned args
   faults scope assigned (Base' at base shape args) = faults_in scope assigned args
   faults scope assigned (Inject at base domain) = domain_faults scope at base domain
   faults scope assigned (Pair' at p left q right) = faults scope assigned left ++ faults scope assigned right
@@ -107,7 +112,8 @@ abbrev mutual
   -- those of the links of a chain
   pub faults_along : Scope → Names → {m : _} → Row_of-Link m → List TypeFault
   faults_along scope assigned end_of-Link = []
-  faults_along scope assigned (more_of-Link at op right rest) = faults scope assigned right ++ faults_along scope assigned rest
+  faults_along scope assigned (more_of-Link at op right rest) = faults scope assigned right
+      ++ faults_along scope assigned rest
 
 -- ---- ranks
 -- the greatest rank of a definition
@@ -142,13 +148,15 @@ abbrev mutual
   called_along earlier (more_of-Link at op right rest) = max (called earlier right) (called_along earlier rest)
 
 -- ---- statements
--- the variables that are assigned on every path behind a statement: behind an IF those of both parts too; behind a WHILE those from before, since its body may run no time
+-- the variables that are assigned on every path behind a statement: behind an IF those of both parts too; behind a
+-- WHILE those from before, since its body may run no time
 abbrev mutual
   -- the names that are assigned behind a statement
   pub assigned_after : Names → Stmt → Names
   assigned_after before (Set at name value) = λ n. same_text name n || before n
   assigned_after before (While' at test s body) = before
-  assigned_after before (If' at test s first t second) = λ n. before n || (assigned_behind before first n && assigned_behind before second n)
+  assigned_after before (If' at test s first t second) = λ n. before n
+      || (assigned_behind before first n && assigned_behind before second n)
 
   -- those behind a list of statements
   pub assigned_behind : Names → {m : _} → Row_of-Stmt m → Names
@@ -170,12 +178,14 @@ abbrev mutual
   pub faults_of : Scope → Names → Stmt → List TypeFault
   faults_of scope before (Set at name value) = target_faults scope at name ++ faults scope before value
   faults_of scope before (While' at test s body) = faults scope before test ++ faults_within scope before body
-  faults_of scope before (If' at test s first t second) = faults scope before test ++ (faults_within scope before first ++ faults_within scope before second)
+  faults_of scope before (If' at test s first t second) = faults scope before test
+      ++ (faults_within scope before first ++ faults_within scope before second)
 
   -- those of a list of statements
   pub faults_within : Scope → Names → {m : _} → Row_of-Stmt m → List TypeFault
   faults_within scope before end_of-Stmt = []
-  faults_within scope before (more_of-Stmt s rest) = faults_of scope before s ++ faults_within scope (assigned_after before s) rest
+  faults_within scope before (more_of-Stmt s rest) = faults_of scope before s
+      ++ faults_within scope (assigned_after before s) rest
 
 -- the same of a list of statements
 abbrev pub faults_by : Scope → Names → List Stmt → List TypeFault
@@ -188,7 +198,8 @@ abbrev mutual
   pub called_by : List Known → Stmt → ℕ
   called_by earlier (Set at name value) = called earlier value
   called_by earlier (While' at test s body) = max (called earlier test) (called_within earlier body)
-  called_by earlier (If' at test s first t second) = max (called earlier test) (max (called_within earlier first) (called_within earlier second))
+  called_by earlier (If' at test s first t second) = max (called earlier test)
+      (max (called_within earlier first) (called_within earlier second))
 
   -- that of a list of statements
   pub called_within : List Known → {m : _} → Row_of-Stmt m → ℕ
@@ -216,23 +227,27 @@ variables_of (Domain at name sum left right ∷ ds) = variables_of ds
 abbrev pub domains_of : Bool → List Decl → List (List ℕ)
 domains_of sums [] = []
 domains_of sums (Variable at name ∷ ds) = domains_of sums ds
-domains_of sums (Domain at name sum left right ∷ ds) = cond (cond sums sum (not sum)) (name ∷ domains_of sums ds) (domains_of sums ds)
+domains_of sums (Domain at name sum left right ∷ ds) = cond (cond sums sum (not sum)) (name ∷ domains_of sums ds)
+    (domains_of sums ds)
 
 -- a domain is of two parameters; the first that is none is named, at the declaration
 abbrev pub operand_faults : List (List ℕ) → Decl → List TypeFault
 operand_faults parameters (Variable at name) = []
-operand_faults parameters (Domain at name sum left right) = cond (among parameters left) (cond (among parameters right) [] (Unknown at right ∷ [])) (Unknown at left ∷ [])
+operand_faults parameters (Domain at name sum left right) = cond (among parameters left)
+    (cond (among parameters right) [] (Unknown at right ∷ [])) (Unknown at left ∷ [])
 
 -- the place of a declaration
 abbrev pub place_of_decl : Decl → Place
 place_of_decl (Variable at name) = at
 place_of_decl (Domain at name sum left right) = at
 
--- declarations whose name was given before, to a parameter or in an earlier declaration, and those with operands that are no parameters
+-- declarations whose name was given before, to a parameter or in an earlier declaration, and those with operands that
+-- are no parameters
 abbrev pub decl_faults : List (List ℕ) → List (List ℕ) → List Decl → List TypeFault
 decl_faults parameters before [] = []
 decl_faults parameters before (d ∷ ds) =
-    (cond (among before (name_of d)) (Twice (place_of_decl d) (name_of d) ∷ []) [] ++ operand_faults parameters d) ++ decl_faults parameters (name_of d ∷ before) ds
+    (cond (among before (name_of d)) (Twice (place_of_decl d) (name_of d) ∷ []) [] ++ operand_faults parameters d)
+        ++ decl_faults parameters (name_of d ∷ before) ds
 
 -- parameters whose name was given before, at the place of the definition's name
 abbrev pub parameter_faults : Place → List (List ℕ) → List (List ℕ) → List TypeFault
@@ -243,28 +258,34 @@ parameter_faults at before (p ∷ ps) = cond (among before p) (Twice at p ∷ []
 abbrev pub names_of : List Known → List (List ℕ)
 names_of = map (λ d. d.name)
 
--- the faults at the name of a definition of this rank: it is over the limit, or the name was defined before, or a parameter stands twice
+-- the faults at the name of a definition of this rank: it is over the limit, or the name was defined before, or a
+-- parameter stands twice
 unfoldable pub head_faults : List Known → Place → List ℕ → List (List ℕ) → ℕ → List TypeFault
 head_faults earlier at name parameters rank =
-    cond (nat_lt rank_limit rank) (Rank at name ∷ []) [] ++ (cond (among (names_of earlier) name) (Twice at name ∷ []) [] ++ parameter_faults at [] parameters)
+    cond (nat_lt rank_limit rank) (Rank at name ∷ []) []
+        ++ (cond (among (names_of earlier) name) (Twice at name ∷ []) [] ++ parameter_faults at [] parameters)
 
 -- what the names of a function may be
 abbrev pub function_scope : List Known → List (List ℕ) → Scope
-function_scope earlier parameters = record { is_command = false; parameters = parameters; variables = []; products = []; sums = []; earlier = earlier }
+function_scope earlier parameters = record { is_command = false; parameters = parameters; variables = [];
+    products = []; sums = []; earlier = earlier }
 
 -- what the names of a program may be
 abbrev pub program_scope : List Known → List (List ℕ) → List Decl → Scope
 program_scope earlier parameters decls =
-    record { is_command = false; parameters = parameters; variables = variables_of decls; products = domains_of false decls; sums = domains_of true decls; earlier = earlier }
+    record { is_command = false; parameters = parameters; variables = variables_of decls;
+        products = domains_of false decls; sums = domains_of true decls; earlier = earlier }
 
 -- what the names of a command may be
 abbrev pub command_scope : List Known → Scope
-command_scope earlier = record { is_command = true; parameters = []; variables = []; products = []; sums = []; earlier = earlier }
+command_scope earlier = record { is_command = true; parameters = []; variables = []; products = []; sums = [];
+    earlier = earlier }
 
 -- the rank of a definition: 1 more than the greatest rank of the earlier definitions that it calls, or 1
 unfoldable pub rank_of : List Known → Item → ℕ
 rank_of earlier (Function at name params body) = called earlier body + 1
-rank_of earlier (Program at name params decls body result) = max (called_by_all earlier body.items) (called earlier result) + 1
+rank_of earlier (Program at name params decls body result) = max (called_by_all earlier body.items)
+    (called earlier result) + 1
 rank_of earlier (COMMAND command) = 0
 
 -- ---- scripts
@@ -282,17 +303,22 @@ command_faults earlier _ = []
 -- the faults of an item behind earlier ones
 unfoldable pub item_faults : List Known → Item → List TypeFault
 item_faults earlier (Function at name params body) =
-    head_faults earlier at name params.items (rank_of earlier (Function at name params body)) ++ faults (function_scope earlier params.items) no_name body
+    head_faults earlier at name params.items (rank_of earlier (Function at name params body))
+        ++ faults (function_scope earlier params.items) no_name body
 item_faults earlier (Program at name params decls body result) =
     let scope = program_scope earlier params.items decls.items in
     head_faults earlier at name params.items (rank_of earlier (Program at name params decls body result))
-    ++ (decl_faults params.items params.items decls.items ++ (faults_by scope no_name body.items ++ faults scope (assigned_by no_name body.items) result))
+    ++ (decl_faults params.items params.items decls.items
+        ++ (faults_by scope no_name body.items ++ faults scope (assigned_by no_name body.items) result))
 item_faults earlier (COMMAND command) = command_faults earlier command
 
 -- the definitions up to and with an item
 unfoldable pub known_with : List Known → Item → List Known
-known_with earlier (Function at name params body) = earlier ++ record { name = name; takes = length params.items; rank = rank_of earlier (Function at name params body) } ∷ []
-known_with earlier (Program at name params decls body result) = earlier ++ record { name = name; takes = length params.items; rank = rank_of earlier (Program at name params decls body result) } ∷ []
+known_with earlier (Function at name params body) = earlier
+    ++ record { name = name; takes = length params.items; rank = rank_of earlier (Function at name params body) } ∷ []
+known_with earlier (Program at name params decls body result) = earlier
+    ++ record { name = name; takes = length params.items;
+    rank = rank_of earlier (Program at name params decls body result) } ∷ []
 known_with earlier (COMMAND command) = earlier
 
 -- the faults of items behind earlier ones
@@ -332,7 +358,8 @@ unfoldable pub precedes : TypeFault → TypeFault → Bool
 precedes f g =
     let p = place_of f in
     let q = place_of g in
-    nat_lt p.line q.line || ((p.line == q.line) && (nat_lt p.column q.column || ((p.column == q.column) && nat_lt (number_of f) (number_of g))))
+    nat_lt p.line q.line || ((p.line == q.line) && (nat_lt p.column q.column
+        || ((p.column == q.column) && nat_lt (number_of f) (number_of g))))
 
 -- the first of two faults, and the left one where none precedes
 abbrev pub first_of_two : TypeFault → Option TypeFault → TypeFault

@@ -23,19 +23,23 @@ pub record Lexed : Type 0 where
 abbrev pub is_comment_byte : ℕ → Bool
 is_comment_byte b = is_allowed b && not (b == 10)
 
--- The fault of a file text of at most 255 bytes, by the bytes behind these: its end is missing, it is empty, or a byte in it is not allowed.
+-- The fault of a file text of at most 255 bytes, by the bytes behind these: its end is missing, it is empty, or a
+-- byte in it is not allowed.
 abbrev pub text_fault : Place → Place → List ℕ → ParseFault
 text_fault quote there [] = Expected there (TOKEN (34 ∷ []))
-text_fault quote there (b ∷ bs) = cond (b == 34) (Expected quote FileText) (cond (is_allowed b) (Expected there (TOKEN (34 ∷ []))) (Byte there b))
+text_fault quote there (b ∷ bs) = cond (b == 34) (Expected quote FileText)
+    (cond (is_allowed b) (Expected there (TOKEN (34 ∷ []))) (Byte there b))
 
 -- the fault of a file text that is none, by the place of its first quote and the bytes behind it
 unfoldable pub file_fault : Place → List ℕ → ParseFault
 file_fault quote bs =
-    let n = run_length is_file_byte bs in cond (nat_lt 255 n) (NameTooLong quote) (text_fault quote (behind_all n (behind 34 quote) bs) (drop n bs))
+    let n = run_length is_file_byte bs in cond (nat_lt 255 n) (NameTooLong quote)
+        (text_fault quote (behind_all n (behind 34 quote) bs) (drop n bs))
 
 -- the fault of a byte that begins no token, with the bytes behind it
 unfoldable pub token_fault : Place → ℕ → List ℕ → ParseFault
-token_fault at b bs = cond (is_letter b) (NameTooLong at) (cond (is_digit b) (NumberTooLarge at) (cond (b == 34) (file_fault at bs) (Byte at b)))
+token_fault at b bs = cond (is_letter b) (NameTooLong at)
+    (cond (is_digit b) (NumberTooLarge at) (cond (b == 34) (file_fault at bs) (Byte at b)))
 
 -- a token before the others
 abbrev pub before : Place → Kind → Lexed → Lexed
@@ -52,7 +56,8 @@ lexed_from (suc k) at (b ∷ bs) = lexed_from k (behind b at) bs
 lexed_from zero at (b ∷ bs) =
     cond (is_blank b) (lexed_from 0 (behind b at) bs)
     (cond (b == 35) (lexed_from (run_length is_comment_byte bs) (behind b at) bs)
-    (option_map_or (λ t. before at t.0 (lexed_from (t.1 - 1) (behind b at) bs)) (kind_at (b ∷ bs)) (broken (token_fault at b bs))))
+    (option_map_or (λ t. before at t.0 (lexed_from (t.1 - 1) (behind b at) bs)) (kind_at (b ∷ bs))
+        (broken (token_fault at b bs))))
 
 -- the tokens of a text up to its end or its first fault
 unfoldable pub lexed_of : List ℕ → Lexed

@@ -65,7 +65,8 @@ turned times r = Makes (transposed_by times r) (tree_cost r.rows r.cols)
 unfoldable pub paired : Place → Relation → Relation → Operation
 paired at r s =
     fitting (typed_pair at (sizes r) (sizes s))
-    (limited at (r.cols * s.cols) (Makes (pairing r s) (λ leaf. wide_room r.rows (max r.cols s.cols) (r.cols * s.cols))))
+    (limited at (r.cols * s.cols) (Makes (pairing r s)
+        (λ leaf. wide_room r.rows (max r.cols s.cols) (r.cols * s.cols))))
 
 -- a relation of one row and one column, full for yes
 unfoldable pub answer_of_test : Bool → Relation
@@ -111,7 +112,8 @@ base_wants _ r = 0
 abbrev pub base_made_of_two : Base → Relation → Relation → Operation
 base_made_of_two Syq r s = Makes (symmetric_quotient r s) (λ leaf. wide_room r.rows r.cols s.cols)
 base_made_of_two Eq r s = Makes (answer_of_test (is_within r s && is_within s r)) (tree_cost 1 1)
-base_made_of_two Incl r s = Makes (answer_of_test (is_within r s)) (λ leaf. tree_cost r.rows r.cols leaf + tree_cost 1 1 leaf)
+base_made_of_two Incl r s = Makes (answer_of_test (is_within r s))
+    (λ leaf. tree_cost r.rows r.cols leaf + tree_cost 1 1 leaf)
 base_made_of_two _ r s = Makes (empty 0 0) no_cost
 
 -- a base call of these operands; no text spells one of none or of more than two

@@ -65,7 +65,8 @@ rank _ = 5
 abbrev pub within : Bool → List ℕ → List ℕ
 within needed text = cond needed (40 ∷ text ++ 41 ∷ []) text
 
--- The text of an expression. An operand of a chain stands in parentheses where it is a chain of the same or a looser level, that of - where it is a chain, and that of ^ where it is a chain or has a - or a ^ in front.
+-- The text of an expression. An operand of a chain stands in parentheses where it is a chain of the same or a looser
+-- level, that of - where it is a chain, and that of ^ where it is a chain or has a - or a ^ in front.
 abbrev mutual
   -- the text of an expression
   pub printed : Expr → List ℕ
@@ -76,7 +77,8 @@ abbrev mutual
   printed (Pair' at p left q right) = 91 ∷ printed left ++ 44 ∷ printed right ++ 93 ∷ []
   printed (Minus' at p of) = 45 ∷ within (nat_lt (rank of) 3) (printed of)
   printed (Turned' at p of times) = within (nat_lt (rank of) 5) (printed of) ++ replicate times 94
-  printed (Chain' p first shape links) = within (nat_le (rank first) (links_rank links)) (printed first) ++ printed_links (links_rank links) links
+  printed (Chain' p first shape links) = within (nat_le (rank first) (links_rank links)) (printed first)
+      ++ printed_links (links_rank links) links
 
   -- arguments, with commas between them
   pub printed_args : {m : _} → Row_of-Expr m → List ℕ
@@ -91,4 +93,5 @@ abbrev mutual
   -- the links of a chain of so loose operators
   pub printed_links : ℕ → {m : _} → Row_of-Link m → List ℕ
   printed_links n end_of-Link = []
-  printed_links n (more_of-Link at op right links) = sign_of op ∷ within (nat_le (rank right) n) (printed right) ++ printed_links n links
+  printed_links n (more_of-Link at op right links) = sign_of op ∷ within (nat_le (rank right) n) (printed right)
+      ++ printed_links n links

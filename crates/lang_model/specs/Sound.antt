@@ -38,4 +38,5 @@ Covers types state = (name : List ℕ) → CoversAt (types name) (state name)
 
 -- a known static size of an expression is the size of its value
 abbrev pub StaticSizesHold : Type 0
-StaticSizesHold = (script : Script) (types : Types) (state : State) (e : Expr) (n : ℕ) → Covers types state → Agree Describes (static_type script types e) (meaning script state e n).answer
+StaticSizesHold = (script : Script) (types : Types) (state : State) (e : Expr) (n : ℕ) → Covers types state
+    → Agree Describes (static_type script types e) (meaning script state e n).answer

@@ -1,4 +1,5 @@
--- Which tokens spell a tree of the whole language, one case for each line of the grammar. Each relation has the tokens before and after.
+-- Which tokens spell a tree of the whole language, one case for each line of the grammar. Each relation has the
+-- tokens before and after.
 use Rattle.std.specs.Prelude.{◌≡◌, ◌≤◌, ◌<◌, ℕ, Bool, cond, List, [], ◌∷◌, length, suc, Some}
 use Rattle.lang_model.specs.declared.syntax.Place.{Place}
 use Rattle.lang_model.specs.declared.syntax.Column.{Column}
@@ -31,21 +32,25 @@ use Rattle.lang_model.specs.Taken.{nesting_limit, TakesAt, Takes, Carets}
 -- { "," NUMBER }, each at least 1
 abbrev pub SpellsMoreColumns : List Column → List Token → List Token → Type 0
 SpellsMoreColumns [] tokens rest = rest ≡ tokens
-SpellsMoreColumns (c ∷ cs) tokens rest = (mid after : List Token) × Takes (Sign 44) tokens mid × TakesAt c.at (Number c.col) mid after × (1 ≤ c.col) × SpellsMoreColumns cs after rest
+SpellsMoreColumns (c ∷ cs) tokens rest = (mid after : List Token) × Takes (Sign 44) tokens mid
+    × TakesAt c.at (Number c.col) mid after × (1 ≤ c.col) × SpellsMoreColumns cs after rest
 
 -- NUMBER { "," NUMBER }
 abbrev pub SpellsColumns : List Column → List Token → List Token → Type 0
 SpellsColumns [] tokens rest = ⊥
-SpellsColumns (c ∷ cs) tokens rest = (mid : List Token) × TakesAt c.at (Number c.col) tokens mid × (1 ≤ c.col) × SpellsMoreColumns cs mid rest
+SpellsColumns (c ∷ cs) tokens rest = (mid : List Token) × TakesAt c.at (Number c.col) tokens mid × (1 ≤ c.col)
+    × SpellsMoreColumns cs mid rest
 
 -- row = NUMBER ":" NUMBER { "," NUMBER }
 abbrev pub SpellsRow : Row → List Token → List Token → Type 0
-SpellsRow row tokens rest = (mid after : List Token) × TakesAt row.at (Number row.row) tokens mid × (1 ≤ row.row) × Takes (Sign 58) mid after × SpellsColumns row.cols.items after rest
+SpellsRow row tokens rest = (mid after : List Token) × TakesAt row.at (Number row.row) tokens mid × (1 ≤ row.row)
+    × Takes (Sign 58) mid after × SpellsColumns row.cols.items after rest
 
 -- { ";" row }
 abbrev pub SpellsMoreRows : List Row → List Token → List Token → Type 0
 SpellsMoreRows [] tokens rest = rest ≡ tokens
-SpellsMoreRows (row ∷ rows) tokens rest = (mid after : List Token) × Takes (Sign 59) tokens mid × SpellsRow row mid after × SpellsMoreRows rows after rest
+SpellsMoreRows (row ∷ rows) tokens rest = (mid after : List Token) × Takes (Sign 59) tokens mid
+    × SpellsRow row mid after × SpellsMoreRows rows after rest
 
 -- [ row { ";" row } ]
 abbrev pub SpellsRows : List Row → List Token → List Token → Type 0
@@ -97,66 +102,109 @@ form_of I1 = TakesDomain
 form_of I2 = TakesDomain
 form_of _ = TakesOne
 
--- The tokens of an expression at a level of the grammar, where so many constructs are open around it; those of further arguments, at most so many; and those of the links of a chain.
+-- The tokens of an expression at a level of the grammar, where so many constructs are open around it; those of
+-- further arguments, at most so many; and those of the links of a chain.
 mutual
   -- an expression
   pub data Spelled : Level → ℕ → Expr → List Token → List Token → Type 0 where
-    named : (d : ℕ) (at : Place) (text : List ℕ) (tokens rest : List Token) → TakesAt at (Word text) tokens rest → Spelled PrimLevel d (Ref at text) tokens rest
-    called : (d : ℕ) (at : Place) (text : List ℕ) (args : Vec Expr Global) (first : Expr) (more : List Expr) (tokens t1 t2 t3 t4 rest : List Token) → d < nesting_limit → args.items ≡ first ∷ more
-        → TakesAt at (Word text) tokens t1 → Takes (Sign 40) t1 t2 → Spelled OrLevel (suc d) first t2 t3 → Listed 15 (suc d) more t3 t4 → Takes (Sign 41) t4 rest → Spelled PrimLevel d (Call at text args) tokens rest
-    based : (d : ℕ) (at : Place) (base : Base) (args : Vec Expr Global) (e : Expr) (tokens t1 t2 t3 rest : List Token) → d < nesting_limit → form_of base ≡ TakesOne → args.items ≡ e ∷ []
-        → TakesAt at (BASE base) tokens t1 → Takes (Sign 40) t1 t2 → Spelled OrLevel (suc d) e t2 t3 → Takes (Sign 41) t3 rest → Spelled PrimLevel d (BaseCall at base args) tokens rest
-    based_twice : (d : ℕ) (at : Place) (base : Base) (args : Vec Expr Global) (e f : Expr) (tokens t1 t2 t3 t4 t5 rest : List Token) → d < nesting_limit → form_of base ≡ TakesTwo → args.items ≡ e ∷ f ∷ []
-        → TakesAt at (BASE base) tokens t1 → Takes (Sign 40) t1 t2 → Spelled OrLevel (suc d) e t2 t3 → Takes (Sign 44) t3 t4 → Spelled OrLevel (suc d) f t4 t5 → Takes (Sign 41) t5 rest → Spelled PrimLevel d (BaseCall at base args) tokens rest
-    injected : (d : ℕ) (at : Place) (base : Base) (domain : List ℕ) (tokens t1 t2 t3 rest : List Token) → d < nesting_limit → form_of base ≡ TakesDomain
-        → TakesAt at (BASE base) tokens t1 → Takes (Sign 40) t1 t2 → Takes (Word domain) t2 t3 → Takes (Sign 41) t3 rest → Spelled PrimLevel d (Inject at base domain) tokens rest
-    paired : (d : ℕ) (at : Place) (left right : Box Expr Global) (tokens t1 t2 t3 t4 rest : List Token) → d < nesting_limit
-        → TakesAt at (Sign 91) tokens t1 → Spelled OrLevel (suc d) left.value t1 t2 → Takes (Sign 44) t2 t3 → Spelled OrLevel (suc d) right.value t3 t4 → Takes (Sign 93) t4 rest → Spelled PrimLevel d (Pair at left right) tokens rest
-    enclosed : (d : ℕ) (e : Expr) (tokens mid after rest : List Token) → d < nesting_limit → Takes (Sign 40) tokens mid → Spelled OrLevel (suc d) e mid after → Takes (Sign 41) after rest → Spelled PrimLevel d e tokens rest
-    turned : (d : ℕ) (at : Place) (of : Box Expr Global) (n : ℕ) (tokens mid after rest : List Token) → Spelled PrimLevel d of.value tokens mid → TakesAt at (Sign 94) mid after → Carets n after rest → Spelled PostLevel d (Turned at of (suc n)) tokens rest
-    negated : (d : ℕ) (at : Place) (of : Box Expr Global) (tokens mid rest : List Token) → d < nesting_limit → TakesAt at (Sign 45) tokens mid → Spelled UnaryLevel (suc d) of.value mid rest → Spelled UnaryLevel d (Minus at of) tokens rest
-    chained : (l : Level) (d : ℕ) (first : Box Expr Global) (links : Vec Link Global) (tokens mid rest : List Token) → Spelled (tighter l) d first.value tokens mid → 0 < length links.items → Linked l d links.items mid rest → Spelled l d (Chain first links) tokens rest
-    alone : (l : Level) (d : ℕ) (e : Expr) (tokens rest : List Token) → Spelled (tighter l) d e tokens rest → Spelled l d e tokens rest
+    named : (d : ℕ) (at : Place) (text : List ℕ) (tokens rest : List Token) → TakesAt at (Word text) tokens rest
+        → Spelled PrimLevel d (Ref at text) tokens rest
+    called : (d : ℕ) (at : Place) (text : List ℕ) (args : Vec Expr Global) (first : Expr) (more : List Expr)
+        (tokens t1 t2 t3 t4 rest : List Token) → d < nesting_limit → args.items ≡ first ∷ more
+        → TakesAt at (Word text) tokens t1 → Takes (Sign 40) t1 t2 → Spelled OrLevel (suc d) first t2 t3
+            → Listed 15 (suc d) more t3 t4 → Takes (Sign 41) t4 rest
+            → Spelled PrimLevel d (Call at text args) tokens rest
+    based : (d : ℕ) (at : Place) (base : Base) (args : Vec Expr Global) (e : Expr) (tokens t1 t2 t3 rest : List Token)
+        → d < nesting_limit → form_of base ≡ TakesOne → args.items ≡ e ∷ []
+        → TakesAt at (BASE base) tokens t1 → Takes (Sign 40) t1 t2 → Spelled OrLevel (suc d) e t2 t3
+            → Takes (Sign 41) t3 rest → Spelled PrimLevel d (BaseCall at base args) tokens rest
+    based_twice : (d : ℕ) (at : Place) (base : Base) (args : Vec Expr Global) (e f : Expr)
+        (tokens t1 t2 t3 t4 t5 rest : List Token) → d < nesting_limit → form_of base ≡ TakesTwo
+        → args.items ≡ e ∷ f ∷ []
+        → TakesAt at (BASE base) tokens t1 → Takes (Sign 40) t1 t2 → Spelled OrLevel (suc d) e t2 t3
+            → Takes (Sign 44) t3 t4 → Spelled OrLevel (suc d) f t4 t5 → Takes (Sign 41) t5 rest
+            → Spelled PrimLevel d (BaseCall at base args) tokens rest
+    injected : (d : ℕ) (at : Place) (base : Base) (domain : List ℕ) (tokens t1 t2 t3 rest : List Token)
+        → d < nesting_limit → form_of base ≡ TakesDomain
+        → TakesAt at (BASE base) tokens t1 → Takes (Sign 40) t1 t2 → Takes (Word domain) t2 t3
+            → Takes (Sign 41) t3 rest → Spelled PrimLevel d (Inject at base domain) tokens rest
+    paired : (d : ℕ) (at : Place) (left right : Box Expr Global) (tokens t1 t2 t3 t4 rest : List Token)
+        → d < nesting_limit
+        → TakesAt at (Sign 91) tokens t1 → Spelled OrLevel (suc d) left.value t1 t2 → Takes (Sign 44) t2 t3
+            → Spelled OrLevel (suc d) right.value t3 t4 → Takes (Sign 93) t4 rest
+            → Spelled PrimLevel d (Pair at left right) tokens rest
+    enclosed : (d : ℕ) (e : Expr) (tokens mid after rest : List Token) → d < nesting_limit
+        → Takes (Sign 40) tokens mid → Spelled OrLevel (suc d) e mid after → Takes (Sign 41) after rest
+        → Spelled PrimLevel d e tokens rest
+    turned : (d : ℕ) (at : Place) (of : Box Expr Global) (n : ℕ) (tokens mid after rest : List Token)
+        → Spelled PrimLevel d of.value tokens mid → TakesAt at (Sign 94) mid after → Carets n after rest
+        → Spelled PostLevel d (Turned at of (suc n)) tokens rest
+    negated : (d : ℕ) (at : Place) (of : Box Expr Global) (tokens mid rest : List Token) → d < nesting_limit
+        → TakesAt at (Sign 45) tokens mid → Spelled UnaryLevel (suc d) of.value mid rest
+        → Spelled UnaryLevel d (Minus at of) tokens rest
+    chained : (l : Level) (d : ℕ) (first : Box Expr Global) (links : Vec Link Global) (tokens mid rest : List Token)
+        → Spelled (tighter l) d first.value tokens mid → 0 < length links.items → Linked l d links.items mid rest
+        → Spelled l d (Chain first links) tokens rest
+    alone : (l : Level) (d : ℕ) (e : Expr) (tokens rest : List Token) → Spelled (tighter l) d e tokens rest
+        → Spelled l d e tokens rest
 
   -- { "," expr }
   pub data Listed : ℕ → ℕ → List Expr → List Token → List Token → Type 0 where
     no_more : (n d : ℕ) (tokens rest : List Token) → rest ≡ tokens → Listed n d [] tokens rest
-    one_more : (n d : ℕ) (e : Expr) (es : List Expr) (tokens mid after rest : List Token) → Takes (Sign 44) tokens mid → Spelled OrLevel d e mid after → Listed n d es after rest → Listed (suc n) d (e ∷ es) tokens rest
+    one_more : (n d : ℕ) (e : Expr) (es : List Expr) (tokens mid after rest : List Token) → Takes (Sign 44) tokens mid
+        → Spelled OrLevel d e mid after → Listed n d es after rest → Listed (suc n) d (e ∷ es) tokens rest
 
   -- { operator operand }
   pub data Linked : Level → ℕ → List Link → List Token → List Token → Type 0 where
     no_link : (l : Level) (d : ℕ) (tokens rest : List Token) → rest ≡ tokens → Linked l d [] tokens rest
-    one_link : (l : Level) (d : ℕ) (x : Link) (xs : List Link) (sign : ℕ) (tokens mid after rest : List Token) → IsOperatorOf l x.op sign → TakesAt x.at (Sign sign) tokens mid → Spelled (tighter l) d x.right mid after → Linked l d xs after rest → Linked l d (x ∷ xs) tokens rest
+    one_link : (l : Level) (d : ℕ) (x : Link) (xs : List Link) (sign : ℕ) (tokens mid after rest : List Token)
+        → IsOperatorOf l x.op sign → TakesAt x.at (Sign sign) tokens mid → Spelled (tighter l) d x.right mid after
+        → Linked l d xs after rest → Linked l d (x ∷ xs) tokens rest
 
 -- ---- statements
 -- The tokens of a statement where so many constructs are open around it, and of a list of statements.
 mutual
   -- a statement
   pub data SpelledStmt : ℕ → Stmt → List Token → List Token → Type 0 where
-    assigned : (d : ℕ) (at : Place) (name : List ℕ) (value : Expr) (tokens t1 t2 rest : List Token) → TakesAt at (Word name) tokens t1 → Takes (Sign 61) t1 t2 → Spelled OrLevel d value t2 rest → SpelledStmt d (Set at name value) tokens rest
-    looped : (d : ℕ) (at : Place) (test : Expr) (body : Vec Stmt Global) (tokens t1 t2 t3 t4 rest : List Token) → d < nesting_limit
-        → TakesAt at (Keyword WHILE) tokens t1 → Spelled OrLevel (suc d) test t1 t2 → Takes (Keyword DO) t2 t3 → SpelledStmts (suc d) body.items t3 t4 → Takes (Keyword OD) t4 rest → SpelledStmt d (While at test body) tokens rest
-    branched : (d : ℕ) (at : Place) (test : Expr) (yes no : Vec Stmt Global) (tokens t1 t2 t3 t4 rest : List Token) → d < nesting_limit
-        → TakesAt at (Keyword IF) tokens t1 → Spelled OrLevel (suc d) test t1 t2 → Takes (Keyword THEN) t2 t3 → SpelledStmts (suc d) yes.items t3 t4 → no.items ≡ [] → Takes (Keyword FI) t4 rest → SpelledStmt d (If at test yes no) tokens rest
-    branched_twice : (d : ℕ) (at : Place) (test : Expr) (yes no : Vec Stmt Global) (tokens t1 t2 t3 t4 t5 t6 rest : List Token) → d < nesting_limit
-        → TakesAt at (Keyword IF) tokens t1 → Spelled OrLevel (suc d) test t1 t2 → Takes (Keyword THEN) t2 t3 → SpelledStmts (suc d) yes.items t3 t4 → Takes (Keyword ELSE) t4 t5 → SpelledStmts (suc d) no.items t5 t6 → Takes (Keyword FI) t6 rest → SpelledStmt d (If at test yes no) tokens rest
+    assigned : (d : ℕ) (at : Place) (name : List ℕ) (value : Expr) (tokens t1 t2 rest : List Token)
+        → TakesAt at (Word name) tokens t1 → Takes (Sign 61) t1 t2 → Spelled OrLevel d value t2 rest
+        → SpelledStmt d (Set at name value) tokens rest
+    looped : (d : ℕ) (at : Place) (test : Expr) (body : Vec Stmt Global) (tokens t1 t2 t3 t4 rest : List Token)
+        → d < nesting_limit
+        → TakesAt at (Keyword WHILE) tokens t1 → Spelled OrLevel (suc d) test t1 t2 → Takes (Keyword DO) t2 t3
+            → SpelledStmts (suc d) body.items t3 t4 → Takes (Keyword OD) t4 rest
+            → SpelledStmt d (While at test body) tokens rest
+    branched : (d : ℕ) (at : Place) (test : Expr) (yes no : Vec Stmt Global) (tokens t1 t2 t3 t4 rest : List Token)
+        → d < nesting_limit
+        → TakesAt at (Keyword IF) tokens t1 → Spelled OrLevel (suc d) test t1 t2 → Takes (Keyword THEN) t2 t3
+            → SpelledStmts (suc d) yes.items t3 t4 → no.items ≡ [] → Takes (Keyword FI) t4 rest
+            → SpelledStmt d (If at test yes no) tokens rest
+    branched_twice : (d : ℕ) (at : Place) (test : Expr) (yes no : Vec Stmt Global)
+        (tokens t1 t2 t3 t4 t5 t6 rest : List Token) → d < nesting_limit
+        → TakesAt at (Keyword IF) tokens t1 → Spelled OrLevel (suc d) test t1 t2 → Takes (Keyword THEN) t2 t3
+            → SpelledStmts (suc d) yes.items t3 t4 → Takes (Keyword ELSE) t4 t5 → SpelledStmts (suc d) no.items t5 t6
+            → Takes (Keyword FI) t6 rest → SpelledStmt d (If at test yes no) tokens rest
 
   -- stmts = [ stmt [ ";" stmts ] ]
   pub data SpelledStmts : ℕ → List Stmt → List Token → List Token → Type 0 where
     no_stmt : (d : ℕ) (tokens rest : List Token) → rest ≡ tokens → SpelledStmts d [] tokens rest
-    one_stmt : (d : ℕ) (s : Stmt) (tokens rest : List Token) → SpelledStmt d s tokens rest → SpelledStmts d (s ∷ []) tokens rest
-    more_stmts : (d : ℕ) (s : Stmt) (ss : List Stmt) (tokens mid after rest : List Token) → SpelledStmt d s tokens mid → Takes (Sign 59) mid after → SpelledStmts d ss after rest → SpelledStmts d (s ∷ ss) tokens rest
+    one_stmt : (d : ℕ) (s : Stmt) (tokens rest : List Token) → SpelledStmt d s tokens rest
+        → SpelledStmts d (s ∷ []) tokens rest
+    more_stmts : (d : ℕ) (s : Stmt) (ss : List Stmt) (tokens mid after rest : List Token) → SpelledStmt d s tokens mid
+        → Takes (Sign 59) mid after → SpelledStmts d ss after rest → SpelledStmts d (s ∷ ss) tokens rest
 
 -- ---- definitions
 -- { "," NAME }
 abbrev pub SpellsMoreNames : List (List ℕ) → List Token → List Token → Type 0
 SpellsMoreNames [] tokens rest = rest ≡ tokens
-SpellsMoreNames (name ∷ names) tokens rest = (mid after : List Token) × Takes (Sign 44) tokens mid × Takes (Word name) mid after × SpellsMoreNames names after rest
+SpellsMoreNames (name ∷ names) tokens rest = (mid after : List Token) × Takes (Sign 44) tokens mid
+    × Takes (Word name) mid after × SpellsMoreNames names after rest
 
 -- NAME { "," NAME }, at most 16 names
 abbrev pub SpellsParams : List (List ℕ) → List Token → List Token → Type 0
 SpellsParams [] tokens rest = ⊥
-SpellsParams (name ∷ names) tokens rest = (mid : List Token) × Takes (Word name) tokens mid × (length names ≤ 15) × SpellsMoreNames names mid rest
+SpellsParams (name ∷ names) tokens rest = (mid : List Token) × Takes (Word name) tokens mid × (length names ≤ 15)
+    × SpellsMoreNames names mid rest
 
 -- the keyword of a sum or a product
 abbrev pub domain_word : Bool → Kind
@@ -166,22 +214,26 @@ domain_word sum = Keyword (cond sum SUM PROD)
 abbrev pub SpellsDecl : Decl → List Token → List Token → Type 0
 SpellsDecl (Variable at name) tokens rest = TakesAt at (Word name) tokens rest
 SpellsDecl (Domain at name sum left right) tokens rest =
-    (t1 t2 t3 t4 t5 t6 t7 : List Token) × TakesAt at (Word name) tokens t1 × Takes (Sign 61) t1 t2 × Takes (domain_word sum) t2 t3 × Takes (Sign 40) t3 t4
+    (t1 t2 t3 t4 t5 t6 t7 : List Token) × TakesAt at (Word name) tokens t1 × Takes (Sign 61) t1 t2
+        × Takes (domain_word sum) t2 t3 × Takes (Sign 40) t3 t4
     × Takes (Word left) t4 t5 × Takes (Sign 44) t5 t6 × Takes (Word right) t6 t7 × Takes (Sign 41) t7 rest
 
 -- { "," decl }
 abbrev pub SpellsMoreDecls : List Decl → List Token → List Token → Type 0
 SpellsMoreDecls [] tokens rest = rest ≡ tokens
-SpellsMoreDecls (decl ∷ decls) tokens rest = (mid after : List Token) × Takes (Sign 44) tokens mid × SpellsDecl decl mid after × SpellsMoreDecls decls after rest
+SpellsMoreDecls (decl ∷ decls) tokens rest = (mid after : List Token) × Takes (Sign 44) tokens mid
+    × SpellsDecl decl mid after × SpellsMoreDecls decls after rest
 
 -- [ DECL decl { "," decl } ]
 abbrev pub SpellsDecls : List Decl → List Token → List Token → Type 0
 SpellsDecls [] tokens rest = rest ≡ tokens
-SpellsDecls (decl ∷ decls) tokens rest = (mid after : List Token) × Takes (Keyword DECL) tokens mid × SpellsDecl decl mid after × SpellsMoreDecls decls after rest
+SpellsDecls (decl ∷ decls) tokens rest = (mid after : List Token) × Takes (Keyword DECL) tokens mid
+    × SpellsDecl decl mid after × SpellsMoreDecls decls after rest
 
 -- NAME "(" NAME { "," NAME } ")"
 abbrev pub SpellsHead : Place → List ℕ → List (List ℕ) → List Token → List Token → Type 0
-SpellsHead at name params tokens rest = (t1 t2 t3 : List Token) × TakesAt at (Word name) tokens t1 × Takes (Sign 40) t1 t2 × SpellsParams params t2 t3 × Takes (Sign 41) t3 rest
+SpellsHead at name params tokens rest = (t1 t2 t3 : List Token) × TakesAt at (Word name) tokens t1
+    × Takes (Sign 40) t1 t2 × SpellsParams params t2 t3 × Takes (Sign 41) t3 rest
 
 -- ---- scripts
 -- a keyword and a name
@@ -195,31 +247,41 @@ SpellsValued kind value tokens rest = (mid : List Token) × Takes kind tokens mi
 -- command, by the alternatives of its line
 abbrev pub SpellsCommand : Command → List Token → List Token → Type 0
 SpellsCommand (Relation name rows rows_at cols cols_at list) tokens rest =
-    (t1 t2 t3 t4 t5 : List Token) × SpellsNamed (Keyword REL) name tokens t1 × TakesAt rows_at (Number rows) t1 t2 × TakesAt cols_at (Number cols) t2 t3
+    (t1 t2 t3 t4 t5 : List Token) × SpellsNamed (Keyword REL) name tokens t1 × TakesAt rows_at (Number rows) t1 t2
+        × TakesAt cols_at (Number cols) t2 t3
     × Takes (Sign 123) t3 t4 × SpellsRows list.items t4 t5 × Takes (Sign 125) t5 rest
-SpellsCommand (Let name value) tokens rest = (t1 t2 : List Token) × SpellsNamed (Keyword LET) name tokens t1 × Takes (Sign 61) t1 t2 × Spelled OrLevel 0 value t2 rest
+SpellsCommand (Let name value) tokens rest = (t1 t2 : List Token) × SpellsNamed (Keyword LET) name tokens t1
+    × Takes (Sign 61) t1 t2 × Spelled OrLevel 0 value t2 rest
 SpellsCommand (Print value) tokens rest = SpellsValued (Keyword PRINT) value tokens rest
 SpellsCommand (ListOf value) tokens rest = SpellsValued (Keyword LIST) value tokens rest
 SpellsCommand (Count value) tokens rest = SpellsValued (Keyword COUNT) value tokens rest
 SpellsCommand (Typed value) tokens rest = SpellsValued (Keyword TYPE) value tokens rest
-SpellsCommand (Remove at name) tokens rest = (mid : List Token) × Takes (Keyword DROP) tokens mid × TakesAt at (Word name) mid rest
+SpellsCommand (Remove at name) tokens rest = (mid : List Token) × Takes (Keyword DROP) tokens mid
+    × TakesAt at (Word name) mid rest
 SpellsCommand (Snap name) tokens rest = SpellsNamed (Keyword SNAP) name tokens rest
-SpellsCommand (At at name value) tokens rest = (t1 t2 : List Token) × Takes (Keyword AT) tokens t1 × TakesAt at (Word name) t1 t2 × SpellsValued (Keyword PRINT) value t2 rest
-SpellsCommand (Load name file) tokens rest = (mid : List Token) × SpellsNamed (Keyword LOAD) name tokens mid × Takes (File file) mid rest
-SpellsCommand (Save value file) tokens rest = (mid : List Token) × SpellsValued (Keyword SAVE) value tokens mid × Takes (File file) mid rest
+SpellsCommand (At at name value) tokens rest = (t1 t2 : List Token) × Takes (Keyword AT) tokens t1
+    × TakesAt at (Word name) t1 t2 × SpellsValued (Keyword PRINT) value t2 rest
+SpellsCommand (Load name file) tokens rest = (mid : List Token) × SpellsNamed (Keyword LOAD) name tokens mid
+    × Takes (File file) mid rest
+SpellsCommand (Save value file) tokens rest = (mid : List Token) × SpellsValued (Keyword SAVE) value tokens mid
+    × Takes (File file) mid rest
 
 -- item = def | command, and def = NAME "(" NAME { "," NAME } ")" ( "=" expr | program )
 abbrev pub SpellsItem : Item → List Token → List Token → Type 0
-SpellsItem (Function at name params body) tokens rest = (t1 t2 : List Token) × SpellsHead at name params.items tokens t1 × Takes (Sign 61) t1 t2 × Spelled OrLevel 0 body t2 rest
+SpellsItem (Function at name params body) tokens rest = (t1 t2 : List Token)
+    × SpellsHead at name params.items tokens t1 × Takes (Sign 61) t1 t2 × Spelled OrLevel 0 body t2 rest
 SpellsItem (Program at name params decls body result) tokens rest =
-    (t1 t2 t3 t4 t5 t6 : List Token) × SpellsHead at name params.items tokens t1 × SpellsDecls decls.items t1 t2 × Takes (Keyword BEG) t2 t3
-    × SpelledStmts 0 body.items t3 t4 × Takes (Keyword RETURN) t4 t5 × Spelled OrLevel 0 result t5 t6 × Takes (Keyword END) t6 rest
+    (t1 t2 t3 t4 t5 t6 : List Token) × SpellsHead at name params.items tokens t1 × SpellsDecls decls.items t1 t2
+        × Takes (Keyword BEG) t2 t3
+    × SpelledStmts 0 body.items t3 t4 × Takes (Keyword RETURN) t4 t5 × Spelled OrLevel 0 result t5 t6
+        × Takes (Keyword END) t6 rest
 SpellsItem (COMMAND command) tokens rest = SpellsCommand command tokens rest
 
 -- script = { item "." }
 abbrev pub SpellsItems : List Item → List Token → List Token → Type 0
 SpellsItems [] tokens rest = rest ≡ tokens
-SpellsItems (item ∷ items) tokens rest = (mid after : List Token) × SpellsItem item tokens mid × Takes (Sign 46) mid after × SpellsItems items after rest
+SpellsItems (item ∷ items) tokens rest = (mid after : List Token) × SpellsItem item tokens mid
+    × Takes (Sign 46) mid after × SpellsItems items after rest
 
 -- the tokens spell the script
 abbrev pub Spells : Script → List Token → Type 0

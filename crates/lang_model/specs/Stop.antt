@@ -1,4 +1,5 @@
--- Where a text goes wrong: a recogniser of the grammar over the parts that are still to come, from the left, without trees and without looking ahead.
+-- Where a text goes wrong: a recogniser of the grammar over the parts that are still to come, from the left, without
+-- trees and without looking ahead.
 use Rattle.std.specs.Prelude.{◌==◌, ◌++◌, ℕ, Bool, true, false, cond, List, [], ◌∷◌, Option, Some, None, option_map, unwrap_or, nat_lt, codes, zero, suc}
 use Rattle.lang_model.specs.declared.faults.ParseFault.{ParseFault}
 use Rattle.lang_model.specs.declared.faults.ParseFault.TheVariants.{Expected, TooDeep}
@@ -14,7 +15,8 @@ use Rattle.lang_model.specs.Taken.{nesting_limit}
 use Rattle.lang_model.specs.Spelling.{Level, OrLevel, AndLevel, ProdLevel, UnaryLevel, PostLevel, PrimLevel, tighter, Form, TakesOne, TakesTwo, TakesDomain, form_of}
 use Rattle.lang_model.specs.Lexed.{Ending, EndsAt, Broken, lexed_of}
 
--- Parts of the grammar. A number behind an expression, a statement or a sign that opens a construct says how many constructs are open around it; one behind further names or arguments, how many may still come.
+-- Parts of the grammar. A number behind an expression, a statement or a sign that opens a construct says how many
+-- constructs are open around it; one behind further names or arguments, how many may still come.
 pub data Part : Type 0 where
   NamePart : Part
   NumberPart : Part
@@ -41,7 +43,8 @@ pub data Part : Type 0 where
   MoreDecls : Part
   ItemsPart : Part
 
--- what a part does with a token: the token doesn't begin it; another word is expected in its place; the token opens too many constructs; or these parts are to come behind it
+-- what a part does with a token: the token doesn't begin it; another word is expected in its place; the token opens
+-- too many constructs; or these parts are to come behind it
 pub data Step : Type 0 where
   NotBegun : Step
   Instead : What → Step
@@ -87,7 +90,8 @@ row_parts = FromOne ∷ SignPart 58 ∷ FromOne ∷ MoreColumns ∷ []
 -- what stands behind a base name or a domain operator
 abbrev pub form_parts : Form → ℕ → List Part
 form_parts TakesOne d = OpenPart d ∷ ExprPart OrLevel (suc d) ∷ SignPart 41 ∷ []
-form_parts TakesTwo d = OpenPart d ∷ ExprPart OrLevel (suc d) ∷ SignPart 44 ∷ ExprPart OrLevel (suc d) ∷ SignPart 41 ∷ []
+form_parts TakesTwo d = OpenPart d ∷ ExprPart OrLevel (suc d) ∷ SignPart 44 ∷ ExprPart OrLevel (suc d) ∷ SignPart 41
+    ∷ []
 form_parts TakesDomain d = OpenPart d ∷ NamePart ∷ SignPart 41 ∷ []
 
 -- prim
@@ -96,17 +100,21 @@ prim_step d (Word name) = Behind (CallPart d ∷ [])
 prim_step d (BASE base) = Behind (form_parts (form_of base) d)
 prim_step d (Sign s) =
     cond (s == 40) (opening d (ExprPart OrLevel (suc d) ∷ SignPart 41 ∷ []))
-    (cond (s == 91) (opening d (ExprPart OrLevel (suc d) ∷ SignPart 44 ∷ ExprPart OrLevel (suc d) ∷ SignPart 93 ∷ [])) NotBegun)
+    (cond (s == 91) (opening d (ExprPart OrLevel (suc d) ∷ SignPart 44 ∷ ExprPart OrLevel (suc d) ∷ SignPart 93 ∷ []))
+        NotBegun)
 prim_step d _ = NotBegun
 
 -- unary = "-" unary | post, and post = prim { "^" }
 abbrev pub unary_step : ℕ → Kind → Step
-unary_step d kind = cond (is_sign 45 kind) (opening d (ExprPart UnaryLevel (suc d) ∷ [])) (followed (MoreCarets ∷ []) (prim_step d kind))
+unary_step d kind = cond (is_sign 45 kind) (opening d (ExprPart UnaryLevel (suc d) ∷ []))
+    (followed (MoreCarets ∷ []) (prim_step d kind))
 
 -- an expression of each level
 abbrev pub expr_step : Level → ℕ → Kind → Step
-expr_step OrLevel d kind = followed (MoreLinks OrLevel d ∷ []) (followed (MoreLinks AndLevel d ∷ []) (followed (MoreLinks ProdLevel d ∷ []) (unary_step d kind)))
-expr_step AndLevel d kind = followed (MoreLinks AndLevel d ∷ []) (followed (MoreLinks ProdLevel d ∷ []) (unary_step d kind))
+expr_step OrLevel d kind = followed (MoreLinks OrLevel d ∷ [])
+    (followed (MoreLinks AndLevel d ∷ []) (followed (MoreLinks ProdLevel d ∷ []) (unary_step d kind)))
+expr_step AndLevel d kind = followed (MoreLinks AndLevel d ∷ [])
+    (followed (MoreLinks ProdLevel d ∷ []) (unary_step d kind))
 expr_step ProdLevel d kind = followed (MoreLinks ProdLevel d ∷ []) (unary_step d kind)
 expr_step UnaryLevel d kind = unary_step d kind
 expr_step PostLevel d kind = followed (MoreCarets ∷ []) (prim_step d kind)
@@ -115,8 +123,10 @@ expr_step PrimLevel d kind = prim_step d kind
 -- stmts, by the token of its first statement
 abbrev pub stmts_step : ℕ → Kind → Step
 stmts_step d (Word name) = Behind (SignPart 61 ∷ ExprPart OrLevel d ∷ MoreStmts d ∷ [])
-stmts_step d (KEYWORD WHILE) = opening d (ExprPart OrLevel (suc d) ∷ WordPart DO ∷ StmtsPart (suc d) ∷ WordPart OD ∷ MoreStmts d ∷ [])
-stmts_step d (KEYWORD IF) = opening d (ExprPart OrLevel (suc d) ∷ WordPart THEN ∷ StmtsPart (suc d) ∷ ElsePart (suc d) ∷ WordPart FI ∷ MoreStmts d ∷ [])
+stmts_step d (KEYWORD WHILE) = opening d (ExprPart OrLevel (suc d) ∷ WordPart DO ∷ StmtsPart (suc d) ∷ WordPart OD
+    ∷ MoreStmts d ∷ [])
+stmts_step d (KEYWORD IF) = opening d (ExprPart OrLevel (suc d) ∷ WordPart THEN ∷ StmtsPart (suc d) ∷ ElsePart (suc d)
+    ∷ WordPart FI ∷ MoreStmts d ∷ [])
 stmts_step d _ = NotBegun
 
 -- what a program has from BEG on, behind it
@@ -203,7 +213,8 @@ entered (SignPart s) kind = where_it (is_sign s kind) []
 entered (WordPart word) kind = where_it (is_word word kind) []
 entered (OpenPart d) kind = cond (is_sign 40 kind) (opening d []) NotBegun
 entered (ExprPart l d) kind = expr_step l d kind
-entered (CallPart d) kind = cond (is_sign 40 kind) (opening d (ExprPart OrLevel (suc d) ∷ MoreArgs 15 (suc d) ∷ SignPart 41 ∷ [])) NotBegun
+entered (CallPart d) kind = cond (is_sign 40 kind) (opening d
+    (ExprPart OrLevel (suc d) ∷ MoreArgs 15 (suc d) ∷ SignPart 41 ∷ [])) NotBegun
 entered (MoreArgs zero d) kind = NotBegun
 entered (MoreArgs (suc n) d) kind = where_it (is_sign 44 kind) (ExprPart OrLevel d ∷ MoreArgs n d ∷ [])
 entered MoreCarets kind = where_it (is_sign 94 kind) (MoreCarets ∷ [])
@@ -250,7 +261,8 @@ written THEN = codes "THEN"
 written ELSE = codes "ELSE"
 written FI = codes "FI"
 
--- the word of a part that must come: what it begins with, or the first alternative of its choice; none for optional and repeated parts
+-- the word of a part that must come: what it begins with, or the first alternative of its choice; none for optional
+-- and repeated parts
 abbrev pub word_of : Part → Option What
 word_of NamePart = Some Name
 word_of NumberPart = Some A_NUMBER
@@ -286,7 +298,8 @@ first_of (Instead what) word parts others = Instead what
 first_of NotBegun None parts others = others
 first_of NotBegun (Some what) parts others = NotBegun
 
--- The parts behind a token, or why it doesn't fit: the first part that is not dropped decides. Optional and repeated parts are dropped where the token doesn't begin them.
+-- The parts behind a token, or why it doesn't fit: the first part that is not dropped decides. Optional and repeated
+-- parts are dropped where the token doesn't begin them.
 abbrev pub step : Kind → List Part → Step
 step kind [] = NotBegun
 step kind (part ∷ parts) = first_of (entered part kind) (word_of part) parts (step kind parts)
@@ -303,10 +316,12 @@ abbrev pub fault_of_end : List Part → Ending → Option ParseFault
 fault_of_end parts (EndsAt place) = option_map (λ what. Expected place what) (needed parts)
 fault_of_end parts (Broken fault) = Some fault
 
--- The fault of the tokens where these parts are to come, if there is one: the first token or end that doesn't fit, or that opens too many constructs, or the fault at which the tokens end.
+-- The fault of the tokens where these parts are to come, if there is one: the first token or end that doesn't fit, or
+-- that opens too many constructs, or the fault at which the tokens end.
 abbrev pub stop_of : List Part → List Token → Ending → Option ParseFault
 stop_of parts [] ending = fault_of_end parts ending
-stop_of parts (token ∷ tokens) ending = fault_at token.at (what_of parts) (step token.kind parts) (λ next. stop_of next tokens ending)
+stop_of parts (token ∷ tokens) ending = fault_at token.at (what_of parts) (step token.kind parts)
+    (λ next. stop_of next tokens ending)
 
 -- the fault of a text, if it is no script
 abbrev pub stop : List ℕ → Option ParseFault

@@ -1,4 +1,5 @@
--- Tokens that a tree takes from the front, and how deep constructs may be nested. Each relation has the tokens before and after.
+-- Tokens that a tree takes from the front, and how deep constructs may be nested. Each relation has the tokens before
+-- and after.
 use Rattle.std.specs.Prelude.{◌≡◌, ℕ, List, ◌∷◌, zero, suc}
 use Rattle.lang_model.specs.declared.syntax.Place.{Place}
 use Rattle.lang_model.specs.declared.token.Kind.{Kind}

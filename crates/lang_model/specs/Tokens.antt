@@ -48,7 +48,8 @@ is_sign_byte b = list_any (λ s. s == b) signs
 
 -- the place behind a byte
 unfoldable pub behind : ℕ → Place → Place
-behind b at = cond (b == 10) (record { line = at.line + 1; column = 1 }) (record { line = at.line; column = at.column + 1 })
+behind b at = cond (b == 10) (record { line = at.line + 1; column = 1 })
+    (record { line = at.line; column = at.column + 1 })
 
 -- how many bytes from the front pass
 abbrev pub run_length : (ℕ → Bool) → List ℕ → ℕ
@@ -63,14 +64,21 @@ value_from v (d ∷ ds) = value_from (10 * v + (d - 48)) ds
 -- the words that are no names, with what they are
 unfoldable pub reserved_words : List (List ℕ × Kind)
 reserved_words =
-    (codes "REL", Keyword REL) ∷ (codes "LET", Keyword LET) ∷ (codes "PRINT", Keyword PRINT) ∷ (codes "LIST", Keyword LIST) ∷ (codes "COUNT", Keyword COUNT)
-    ∷ (codes "TYPE", Keyword TYPE) ∷ (codes "DROP", Keyword DROP) ∷ (codes "SNAP", Keyword SNAP) ∷ (codes "AT", Keyword AT) ∷ (codes "LOAD", Keyword LOAD)
-    ∷ (codes "SAVE", Keyword SAVE) ∷ (codes "DECL", Keyword DECL) ∷ (codes "PROD", Keyword PROD) ∷ (codes "SUM", Keyword SUM) ∷ (codes "BEG", Keyword BEG)
-    ∷ (codes "END", Keyword END) ∷ (codes "RETURN", Keyword RETURN) ∷ (codes "WHILE", Keyword WHILE) ∷ (codes "DO", Keyword DO) ∷ (codes "OD", Keyword OD)
+    (codes "REL", Keyword REL) ∷ (codes "LET", Keyword LET) ∷ (codes "PRINT", Keyword PRINT)
+        ∷ (codes "LIST", Keyword LIST) ∷ (codes "COUNT", Keyword COUNT)
+    ∷ (codes "TYPE", Keyword TYPE) ∷ (codes "DROP", Keyword DROP) ∷ (codes "SNAP", Keyword SNAP)
+        ∷ (codes "AT", Keyword AT) ∷ (codes "LOAD", Keyword LOAD)
+    ∷ (codes "SAVE", Keyword SAVE) ∷ (codes "DECL", Keyword DECL) ∷ (codes "PROD", Keyword PROD)
+        ∷ (codes "SUM", Keyword SUM) ∷ (codes "BEG", Keyword BEG)
+    ∷ (codes "END", Keyword END) ∷ (codes "RETURN", Keyword RETURN) ∷ (codes "WHILE", Keyword WHILE)
+        ∷ (codes "DO", Keyword DO) ∷ (codes "OD", Keyword OD)
     ∷ (codes "IF", Keyword IF) ∷ (codes "THEN", Keyword THEN) ∷ (codes "ELSE", Keyword ELSE) ∷ (codes "FI", Keyword FI)
-    ∷ (codes "L", BASE L) ∷ (codes "O", BASE O) ∷ (codes "I", BASE I) ∷ (codes "Ln1", BASE Ln1) ∷ (codes "On1", BASE On1) ∷ (codes "L1n", BASE L1n) ∷ (codes "O1n", BASE O1n)
-    ∷ (codes "dom", BASE Dom) ∷ (codes "ran", BASE Ran) ∷ (codes "trans", BASE Trans) ∷ (codes "refl", BASE Refl) ∷ (codes "epsi", BASE Epsi) ∷ (codes "point", BASE Point)
-    ∷ (codes "atom", BASE Atom) ∷ (codes "init", BASE Init) ∷ (codes "next", BASE Next) ∷ (codes "inj", BASE Inj) ∷ (codes "empty", BASE Empty) ∷ (codes "unival", BASE Unival)
+    ∷ (codes "L", BASE L) ∷ (codes "O", BASE O) ∷ (codes "I", BASE I) ∷ (codes "Ln1", BASE Ln1)
+        ∷ (codes "On1", BASE On1) ∷ (codes "L1n", BASE L1n) ∷ (codes "O1n", BASE O1n)
+    ∷ (codes "dom", BASE Dom) ∷ (codes "ran", BASE Ran) ∷ (codes "trans", BASE Trans) ∷ (codes "refl", BASE Refl)
+        ∷ (codes "epsi", BASE Epsi) ∷ (codes "point", BASE Point)
+    ∷ (codes "atom", BASE Atom) ∷ (codes "init", BASE Init) ∷ (codes "next", BASE Next) ∷ (codes "inj", BASE Inj)
+        ∷ (codes "empty", BASE Empty) ∷ (codes "unival", BASE Unival)
     ∷ (codes "syq", BASE Syq) ∷ (codes "eq", BASE Eq) ∷ (codes "incl", BASE Incl) ∷ []
 
 -- what the first entry with this text is
@@ -84,11 +92,13 @@ word_kind w = unwrap_or (found_in w reserved_words) (Word w)
 
 -- the domain operators
 unfoldable pub domain_operators : List (List ℕ × Kind)
-domain_operators = (codes "p-1", BASE P1) ∷ (codes "p-2", BASE P2) ∷ (codes "i-1", BASE I1) ∷ (codes "i-2", BASE I2) ∷ []
+domain_operators = (codes "p-1", BASE P1) ∷ (codes "p-2", BASE P2) ∷ (codes "i-1", BASE I1) ∷ (codes "i-2", BASE I2)
+    ∷ []
 
 -- the domain operator that begins these bytes, behind which no letter, digit or _ follows
 unfoldable pub domain_operator_at : List ℕ → Option Kind
-domain_operator_at (a ∷ b ∷ c ∷ bs) = cond (nat_eq (run_length is_word_byte bs) 0) (found_in (a ∷ b ∷ c ∷ []) domain_operators) None
+domain_operator_at (a ∷ b ∷ c ∷ bs) = cond (nat_eq (run_length is_word_byte bs) 0)
+    (found_in (a ∷ b ∷ c ∷ []) domain_operators) None
 domain_operator_at _ = None
 
 -- whether a quote comes first
@@ -109,8 +119,10 @@ kind_at (b ∷ bs) =
     let word = run_length is_word_byte (b ∷ bs) in
     let digits = run_length is_digit (b ∷ bs) in
     let value = value_from 0 (take digits (b ∷ bs)) in
-    cond (is_letter b) (option_map_or (λ kind. Some (kind, 3)) (domain_operator_at (b ∷ bs)) (cond (nat_le word 64) (Some (word_kind (take word (b ∷ bs)), word)) None))
-    (cond (is_digit b) (cond (nat_lt value (2 ^ 64)) (Some (Number value, digits)) None) (cond (b == 34) (file_at bs) (cond (is_sign_byte b) (Some (Sign b, 1)) None)))
+    cond (is_letter b) (option_map_or (λ kind. Some (kind, 3)) (domain_operator_at (b ∷ bs))
+        (cond (nat_le word 64) (Some (word_kind (take word (b ∷ bs)), word)) None))
+    (cond (is_digit b) (cond (nat_lt value (2 ^ 64)) (Some (Number value, digits)) None)
+        (cond (b == 34) (file_at bs) (cond (is_sign_byte b) (Some (Sign b, 1)) None)))
 
 -- a token before the others, where these are some
 abbrev pub with_token : Place → Kind → Option (List Token) → Option (List Token)

@@ -30,7 +30,8 @@ InterIsAnd = (a b : ℕ) → block_cells (bit_and a b) ≡ cells_inter (block_ce
 
 -- the word-and of a block with the complement of another has the difference of their cells
 abbrev pub DiffIsAndNot : Type 0
-DiffIsAndNot = (a b : ℕ) → b < 2 ^ 64 → block_cells (bit_and a (bit_not w64 b)) ≡ cells_diff (block_cells a) (block_cells b)
+DiffIsAndNot = (a b : ℕ) → b < 2 ^ 64 → block_cells (bit_and a (bit_not w64 b))
+    ≡ cells_diff (block_cells a) (block_cells b)
 
 -- two blocks are equal exactly where their sets are
 abbrev pub SameCellsSameBlock : Type 0

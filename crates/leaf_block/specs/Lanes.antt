@@ -4,7 +4,8 @@ use Rattle.std.specs.Prelude.{◌≡◌, ◌*◌, ◌/◌, ◌%◌, ◌^◌, ◌
 -- Sixteen bytes: in each lane that of the row where the first has all the bits asked for, and 0 elsewhere.
 pub record IsPicked (rows bits row picked : List ℕ) : Type 0 where
   pub len : length picked ≡ 16
-  pub lanes : (i : ℕ) → i < 16 → slice_index picked i ≡ cond (bit_and (slice_index rows i) (slice_index bits i) == slice_index bits i) (slice_index row i) 0
+  pub lanes : (i : ℕ) → i < 16 → slice_index picked i ≡ cond
+      (bit_and (slice_index rows i) (slice_index bits i) == slice_index bits i) (slice_index row i) 0
   pub fits : (i : ℕ) → i < 16 → slice_index picked i < 2 ^ 8
 
 -- a word in which the bits of the mask are exchanged with those s places after them

@@ -15,7 +15,8 @@ fn picked(rows: u8x16, bits: u8x16, row: u8x16) -> u8x16
 
 /// Cell (i, j) where some k has cell (i, k) in `a` and cell (k, j) in `b`.
 ///
-/// The eight rows of `a` lie in the lanes twice. Step k takes row k of `b` into each of the first eight lanes whose row has
+/// The eight rows of `a` lie in the lanes twice. Step k takes row k of `b` into each of the first eight lanes whose
+/// row has
 /// column k, and row k + 4 into each of the last eight whose row has column k + 4.
 pub fn block_compose(a: u64, b: u64) -> u64
     ensures { block_cells result ≡ cells_compose 8 (block_cells a) (block_cells b) }

@@ -18,7 +18,8 @@ fn swap(x: u64x1, by: u64, mask: u64) -> u64x1
 
 /// Cell (i, j) where (j, i) is in `a`.
 ///
-/// Three swaps, of the squares that lie across in each square of 2, of 4 and of 8 rows. The eight rows are one lane of 64 bits.
+/// Three swaps, of the squares that lie across in each square of 2, of 4 and of 8 rows. The eight rows are one lane
+/// of 64 bits.
 pub fn block_transpose(a: u64) -> u64
     ensures { block_cells result ≡ cells_transpose (block_cells a) }
 {

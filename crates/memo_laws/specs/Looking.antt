@@ -24,7 +24,8 @@ equation_of e = record { op = operator_of e.op; height = e.height; a = e.a; b = 
 abbrev pub IsWordFor : ℕ → Operator → ℕ → ℕ → ℕ → ℕ → Type 0
 IsWordFor word op height a b r = word ≡ word_of_equation (record { op = op; height = height; a = a; b = b; r = r })
 
--- an equation with this operator, height and operands was looked up: the last memo load is that of its home slot, and there is an answer exactly where the word is such an equation, which then is true and has this result
+-- an equation with this operator, height and operands was looked up: the last memo load is that of its home slot, and
+-- there is an answer exactly where the word is such an equation, which then is true and has this result
 pub record Looks (op : Operator) (height a b : ℕ) (old new : View) (answer : Option ℕ) : Type 0 where
   pub word : ℕ
   pub last : new.last ≡ Some (home_slot a b, word)

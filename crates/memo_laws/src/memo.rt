@@ -9,7 +9,8 @@ use crate::equation::{Equation, Op};
 use crate::word::{result_in, slot_of, word_of};
 use pair_table::{PairTable, Seat};
 
-/// `set(r) = op(set(a), set(b))` for the answer `r`: the result of the equation with this operator, height and operands, where the memo word of its slot is one.
+/// `set(r) = op(set(a), set(b))` for the answer `r`: the result of the equation with this operator, height and
+/// operands, where the memo word of its slot is one.
 pub fn look(table: &PairTable, seat: &mut Seat, op: Op, height: u8, a: u32, b: u32) -> Option<u32>
     requires of { IsOf seat.old table.now }
     requires low { bottom_height ≤ height }

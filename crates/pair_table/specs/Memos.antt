@@ -3,7 +3,8 @@ use Rattle.std.specs.Prelude.{◌≡◌, ◌≢◌, ℕ, List, Option, Some, IfS
 use Rattle.rel_model.specs.Equations.{memo_word}
 use Rattle.rel_model.specs.Views.{View, Keeps}
 
--- a memo word is stored: what was seen stays, no word is made, and the seat's last memo step is that of this slot, which then held this word
+-- a memo word is stored: what was seen stays, no word is made, and the seat's last memo step is that of this slot,
+-- which then held this word
 pub record Stores (slot word : ℕ) (old new : View) : Type 0 where
   pub keeps : Keeps old new
   pub made : new.made ≡ old.made

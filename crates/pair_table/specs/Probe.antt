@@ -4,7 +4,8 @@ use Rattle.rel_model.specs.Words.{place_at}
 
 -- the first t places from a word's home on hold other words
 abbrev pub Passed : List ℕ → ℕ → ℕ → Type 0
-Passed words word t = (s : ℕ) → s < t → (slice_index words (place_at (length words) word s) ≢ 0) × (slice_index words (place_at (length words) word s) ≢ word)
+Passed words word t = (s : ℕ) → s < t → (slice_index words (place_at (length words) word s) ≢ 0)
+    × (slice_index words (place_at (length words) word s) ≢ word)
 
 -- a place behind places that all hold other words, so that the word may be placed there if it is vacant
 pub record IsNext (words : List ℕ) (word n : ℕ) : Type 0 where

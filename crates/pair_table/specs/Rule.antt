@@ -14,7 +14,8 @@ abbrev pub total : (Known → ℕ) → List Known → ℕ
 total f [] = 0
 total f (v ∷ vs) = f v + total f vs
 
--- the rule of the node words: they are sound; each seat that was not joined away has seen, and was told of, no other words; together the seats placed as many words as are stored, and stand for as many seats as the table has
+-- the rule of the node words: they are sound; each seat that was not joined away has seen, and was told of, no other
+-- words; together the seats placed as many words as are stored, and stand for as many seats as the table has
 pub record NodesHold (size : Size) (words : List ℕ) (views : List Known) : Type 0 where
   pub size_is : length words ≡ 2 ^ size.bits
   pub sound : IsSound words
@@ -25,21 +26,26 @@ pub record NodesHold (size : Size) (words : List ℕ) (views : List Known) : Typ
   pub parts_in_all : total (λ v. v.parts) views ≡ size.seats
   pub few : size.seats < 2 ^ 32
 
--- the whole rule: that of the node words, each memo word that is not 0 is a true equation at home in its slot, a slot that a seat found or left taken stays taken, and with one seat its word stays
+-- the whole rule: that of the node words, each memo word that is not 0 is a true equation at home in its slot, a slot
+-- that a seat found or left taken stays taken, and with one seat its word stays
 pub record Holds {S : Type 0} (size : Size) (s : State S Known) : Type 0 where
   pub long : length s.words ≡ 2 ^ size.bits + memo_slots
   pub nodes : NodesHold size (node_words size.bits s.words) s.views
-  pub memo : (slot : ℕ) → slot < memo_slots → memo_word size.bits s.words slot ≢ 0 → IsMemo (node_words size.bits s.words) slot (memo_word size.bits s.words slot)
+  pub memo : (slot : ℕ) → slot < memo_slots → memo_word size.bits s.words slot ≢ 0
+      → IsMemo (node_words size.bits s.words) slot (memo_word size.bits s.words slot)
   pub taken : (id : ℕ) (v : Known) → get_elem? s.views id ≡ some v → IsStillTaken size.bits s.words v.last
-  pub alone : size.seats ≡ 1 → (id : ℕ) (v : Known) → get_elem? s.views id ≡ some v → v.parts ≢ 0 → IsStillThere size.bits s.words v.last
+  pub alone : size.seats ≡ 1 → (id : ℕ) (v : Known) → get_elem? s.views id ≡ some v → v.parts ≢ 0
+      → IsStillThere size.bits s.words v.last
 
 -- the view of the first seat
 abbrev pub first_view : Size → Known
-first_view size = record { words = replicate (2 ^ size.bits) 0; told = replicate (2 ^ size.bits) 0; made = 0; parts = size.seats; cut = 0; last = None }
+first_view size = record { words = replicate (2 ^ size.bits) 0; told = replicate (2 ^ size.bits) 0; made = 0;
+    parts = size.seats; cut = 0; last = None }
 
 -- what a seat keeps when a second one is split off
 abbrev pub left_of : Known → Known
-left_of v = record { words = v.words; told = v.told; made = v.made; parts = v.parts - (v.cut + 1); cut = v.cut; last = v.last }
+left_of v = record { words = v.words; told = v.told; made = v.made; parts = v.parts - (v.cut + 1); cut = v.cut;
+    last = v.last }
 
 -- what the second seat gets
 abbrev pub right_of : Known → Known
@@ -47,7 +53,8 @@ right_of v = record { words = v.words; told = v.told; made = 0; parts = v.cut + 
 
 -- what one seat is when another was joined to it: it is told of what the other has seen
 abbrev pub both_of : Known → Known → Known
-both_of v w = record { words = v.words; told = w.words; made = v.made + w.made; parts = v.parts + w.parts; cut = 0; last = v.last }
+both_of v w = record { words = v.words; told = w.words; made = v.made + w.made; parts = v.parts + w.parts; cut = 0;
+    last = v.last }
 
 -- what is left of a seat that was joined to another
 abbrev pub spent : Known

@@ -21,7 +21,8 @@ pub record SeesWord (place found : ℕ) (old new : Known) : Type 0 where
   pub made : new.made ≡ old.made
   pub last : new.last ≡ old.last
 
--- a compare-exchange of a node word from 0: where 0 was found, the own word was placed, and stood nowhere in the view before; else the word that was found is seen
+-- a compare-exchange of a node word from 0: where 0 was found, the own word was placed, and stood nowhere in the view
+-- before; else the word that was found is seen
 pub record TriesWord (place word found : ℕ) (old new : Known) : Type 0 where
   pub steps : Steps old new
   pub lost : found ≢ 0 → (slice_index new.words place ≡ found) × (new.made ≡ old.made)

@@ -21,8 +21,10 @@ FindsNone old new height result = Finds {T = Quad} old new (record { height = he
 
 -- a name of the pairing of two names' sets that stood already is found
 abbrev pub FindsPair : {E : Type 0} → Keeper → Keeper → ℕ → ℕ → Result ℕ E → Type 0
-FindsPair old new left right result = (depth name : ℕ) (f g : Cells) → IsSet old.view depth left f → IsSet old.view depth right g → IsSet old.view (suc depth) name (paired depth f g) → Finds old new name result
+FindsPair old new left right result = (depth name : ℕ) (f g : Cells) → IsSet old.view depth left f
+    → IsSet old.view depth right g → IsSet old.view (suc depth) name (paired depth f g) → Finds old new name result
 
 -- two quads of this height and these sets that stood already are found
 abbrev pub FindsBoth : {E : Type 0} → Keeper → Keeper → ℕ → Cells → Cells → Result (Quad × Quad) E → Type 0
-FindsBoth old new height f g result = (p q : Quad) → IsQuad old height f p → IsQuad old height g q → Finds old new (p, q) result
+FindsBoth old new height f g result = (p q : Quad) → IsQuad old height f p → IsQuad old height g q
+    → Finds old new (p, q) result

@@ -11,11 +11,13 @@ use Rattle.rel_model.specs.Quads.{Keeper, IsQuad}
 pub record AreHalves (old new : Keeper) (depth name left right : ℕ) : Type 0 where
   pub first : stands new.view.words depth left ≡ true
   pub second : stands new.view.words depth right ≡ true
-  pub means : cells old.view.words (suc depth) name ≡ paired depth (cells new.view.words depth left) (cells new.view.words depth right)
+  pub means : cells old.view.words (suc depth) name ≡ paired depth (cells new.view.words depth left)
+      (cells new.view.words depth right)
 
 -- the name of two names has the pairing of their sets, at each depth at which both stand
 abbrev pub IsPaired : Keeper → Keeper → ℕ → ℕ → ℕ → Type 0
-IsPaired old new left right name = (depth : ℕ) (f g : Cells) → IsSet old.view depth left f → IsSet old.view depth right g → IsSet new.view (suc depth) name (paired depth f g)
+IsPaired old new left right name = (depth : ℕ) (f g : Cells) → IsSet old.view depth left f
+    → IsSet old.view depth right g → IsSet new.view (suc depth) name (paired depth f g)
 
 -- two rectangles side by side: the first columns, as many as a square of the height has, and those behind them
 pub record AreBeside (w : Keeper) (height rows cols : ℕ) (pair : Quad × Quad) : Type 0 where

@@ -13,7 +13,8 @@ impl<'t> Nodes<'t> {
     /// The names of both halves of a name.
     pub(crate) fn halves(&mut self, name: u32) -> (u32, u32)
         requires { IsKnown self.old.view name }
-        ensures halves { (k : ℕ) → stands self.old.view.words (suc k) name ≡ true → AreHalves self.old self.new k name result.0 result.1 }
+        ensures halves { (k : ℕ) → stands self.old.view.words (suc k) name ≡ true
+            → AreHalves self.old self.new k name result.0 result.1 }
         ensures reads { ReadsQuads self.old self.new }
     {
         let _ = &self.seat;

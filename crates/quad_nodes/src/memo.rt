@@ -16,8 +16,10 @@ impl<'t> Nodes<'t> {
         requires b_stands { QuadStands self.old b }
         requires one_height { b.height ≡ a.height }
         requires one_operand { operator_of op ≡ Transpose → b.name ≡ 0 }
-        ensures found { IfSome result (IsQuad self.new a.height (result_of (operator_of op) (side_of a.height) (quad_cells self.old a) (quad_cells self.old b))) }
-        ensures looks { Looks (operator_of op) a.height a.name b.name self.old.view self.new.view (option_map (λ q. q.name) result) }
+        ensures found { IfSome result (IsQuad self.new a.height
+            (result_of (operator_of op) (side_of a.height) (quad_cells self.old a) (quad_cells self.old b))) }
+        ensures looks { Looks (operator_of op) a.height a.name b.name self.old.view self.new.view
+            (option_map (λ q. q.name) result) }
         ensures reads { ReadsQuads self.old self.new }
     {
         let _ = &self.seat;
@@ -36,7 +38,8 @@ impl<'t> Nodes<'t> {
         requires b_stands { QuadStands self.old b }
         requires one_height { b.height ≡ a.height }
         requires one_operand { operator_of op ≡ Transpose → b.name ≡ 0 }
-        requires holds { IsQuad self.old a.height (result_of (operator_of op) (side_of a.height) (quad_cells self.old a) (quad_cells self.old b)) r }
+        requires holds { IsQuad self.old a.height (result_of (operator_of op) (side_of a.height)
+            (quad_cells self.old a) (quad_cells self.old b)) r }
         ensures notes { Notes (equation_between (operator_of op) a b r) self.old.view self.new.view }
         ensures reads { ReadsQuads self.old self.new }
     {

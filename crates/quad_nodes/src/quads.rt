@@ -60,7 +60,8 @@ impl<'t> Nodes<'t> {
         (first, second)
     }
 
-    /// The quad with these quarters; of four quads with no cell it is the one with no cell, whatever the table has room for.
+    /// The quad with these quarters; of four quads with no cell it is the one with no cell, whatever the table has
+    /// room for.
     pub fn corner(&mut self, nw: Quad, ne: Quad, sw: Quad, se: Quad) -> Result<Quad, Missed>
         requires nw_stands { QuadStands self.old nw }
         requires ne_stands { QuadStands self.old ne }
@@ -70,9 +71,14 @@ impl<'t> Nodes<'t> {
         requires sw_height { sw.height ≡ nw.height }
         requires se_height { se.height ≡ nw.height }
         requires below { nw.height < top_height }
-        ensures value { IfOk result (IsQuad self.new (nw.height + 1) (quartered (side_of nw.height) (quad_cells self.old nw) (quad_cells self.old ne) (quad_cells self.old sw) (quad_cells self.old se))) }
-        ensures nothing { nw.name ≡ 0 → ne.name ≡ 0 → sw.name ≡ 0 → se.name ≡ 0 → result ≡ Ok (record { height = nw.height + 1; name = 0 }) }
-        ensures stood { FindsQuad self.old self.new (nw.height + 1) (quartered (side_of nw.height) (quad_cells self.old nw) (quad_cells self.old ne) (quad_cells self.old sw) (quad_cells self.old se)) result }
+        ensures value { IfOk result (IsQuad self.new (nw.height + 1)
+            (quartered (side_of nw.height) (quad_cells self.old nw) (quad_cells self.old ne) (quad_cells self.old sw)
+            (quad_cells self.old se))) }
+        ensures nothing { nw.name ≡ 0 → ne.name ≡ 0 → sw.name ≡ 0 → se.name ≡ 0
+            → result ≡ Ok (record { height = nw.height + 1; name = 0 }) }
+        ensures stood { FindsQuad self.old self.new (nw.height + 1)
+            (quartered (side_of nw.height) (quad_cells self.old nw) (quad_cells self.old ne) (quad_cells self.old sw)
+            (quad_cells self.old se)) result }
         ensures keeps { KeepsQuads 3 self.old self.new }
         ensures counts { Counts self.old self.new result }
     {
@@ -99,7 +105,8 @@ impl<'t> Nodes<'t> {
         self.table.block_of(&mut self.seat, q.name)
     }
 
-    /// The quad of a block, of which cell (i, j) is bit 8i + j; of no cell it is the one with no cell, whatever the table has room for.
+    /// The quad of a block, of which cell (i, j) is bit 8i + j; of no cell it is the one with no cell, whatever the
+    /// table has room for.
     #[tactic(auto, unfolding(rel_model::specs::Trees::bottom_height))]
     pub fn block(&mut self, bits: u64) -> Result<Quad, Missed>
         ensures value { IfOk result (IsQuad self.new bottom_height (block_cells bits)) }

@@ -14,7 +14,8 @@ use pair_table::Missed;
 use rel_model::Quad;
 
 impl<'t> Nodes<'t> {
-    /// Cell (i, j) where i < rows and j < cols, in the square of a height; of no row or no column it is the quad with no cell, whatever the table has room for.
+    /// Cell (i, j) where i < rows and j < cols, in the square of a height; of no row or no column it is the quad with
+    /// no cell, whatever the table has room for.
     ///
     /// Equal quarters are made once, so the full square takes two words for each height.
     #[cycle(rects)]
@@ -53,7 +54,8 @@ impl<'t> Nodes<'t> {
         requires row { rows ≤ side_of height }
         requires col { cols ≤ side_of height + side_of height }
         ensures value { IfOk result (AreBeside self.new height rows cols) }
-        ensures stood { FindsBoth self.old self.new height (cells_rect rows (min cols (side_of height))) (cells_rect rows (cols - side_of height)) result }
+        ensures stood { FindsBoth self.old self.new height (cells_rect rows (min cols (side_of height)))
+            (cells_rect rows (cols - side_of height)) result }
         ensures keeps { KeepsQuads (quad_room height + quad_room height) self.old self.new }
         ensures counts { Counts self.old self.new result }
     {

@@ -25,14 +25,18 @@ operator_for DIFF = Diff
 
 -- where there is an answer, it is the operator's result, wherever both operands stand
 abbrev pub CutsOff : Boole → Quad → Quad → Option Quad → Type 0
-CutsOff op a b answer = (w : Keeper) → IsKeeper w → QuadStands w a → QuadStands w b → b.height ≡ a.height → IfSome answer (IsQuad w a.height (cells_by op (quad_cells w a) (quad_cells w b)))
+CutsOff op a b answer = (w : Keeper) → IsKeeper w → QuadStands w a → QuadStands w b → b.height ≡ a.height
+    → IfSome answer (IsQuad w a.height (cells_by op (quad_cells w a) (quad_cells w b)))
 
 -- both operands as they are, or exchanged where that makes no difference
 abbrev pub IsInOrder : Boole → Quad → Quad → Quad × Quad → Type 0
 IsInOrder op a b pair = (pair ≡ (a, b)) ⊎ ((op ≢ DIFF) × (pair ≡ (b, a)))
 
--- where there is an answer, it is the operator's result, wherever both operands stand, and have all cells of their square where they are said to be full
+-- where there is an answer, it is the operator's result, wherever both operands stand, and have all cells of their
+-- square where they are said to be full
 abbrev pub CutsOffFull : Boole → Quad → Quad → Bool → Bool → Option Quad → Type 0
-CutsOffFull op a b a_full b_full answer = (w : Keeper) → IsKeeper w → QuadStands w a → QuadStands w b → b.height ≡ a.height
-    → (a_full ≡ true → quad_cells w a ≡ cells_rect (side_of a.height) (side_of a.height)) → (b_full ≡ true → quad_cells w b ≡ cells_rect (side_of b.height) (side_of b.height))
+CutsOffFull op a b a_full b_full answer = (w : Keeper) → IsKeeper w → QuadStands w a → QuadStands w b
+    → b.height ≡ a.height
+    → (a_full ≡ true → quad_cells w a ≡ cells_rect (side_of a.height) (side_of a.height))
+        → (b_full ≡ true → quad_cells w b ≡ cells_rect (side_of b.height) (side_of b.height))
     → IfSome answer (IsQuad w a.height (cells_by op (quad_cells w a) (quad_cells w b)))

@@ -26,8 +26,10 @@ pub fn combined(nodes: &mut Nodes, op: Boole, a: Quad, b: Quad) -> Result<Quad, 
     requires a_stands { QuadStands nodes.old a }
     requires b_stands { QuadStands nodes.old b }
     requires one_height { b.height ≡ a.height }
-    ensures value { IfOk result (IsQuad nodes.new a.height (cells_by op (quad_cells nodes.old a) (quad_cells nodes.old b))) }
-    ensures stood { FindsQuad nodes.old nodes.new a.height (cells_by op (quad_cells nodes.old a) (quad_cells nodes.old b)) result }
+    ensures value { IfOk result (IsQuad nodes.new a.height
+        (cells_by op (quad_cells nodes.old a) (quad_cells nodes.old b))) }
+    ensures stood { FindsQuad nodes.old nodes.new a.height
+        (cells_by op (quad_cells nodes.old a) (quad_cells nodes.old b)) result }
     ensures keeps { KeepsQuads (quad_room a.height) nodes.old nodes.new }
     ensures counts { Counts nodes.old nodes.new result }
 {
@@ -42,15 +44,18 @@ pub fn combined(nodes: &mut Nodes, op: Boole, a: Quad, b: Quad) -> Result<Quad, 
     combined_over(nodes, op, first, second)
 }
 
-/// The same over the blocks: a full operand is cut off, what was noted is looked up, and what is left goes by quarters and is noted.
+/// The same over the blocks: a full operand is cut off, what was noted is looked up, and what is left goes by
+/// quarters and is noted.
 #[cycle(combining)]
 fn combined_over(nodes: &mut Nodes, op: Boole, a: Quad, b: Quad) -> Result<Quad, Missed>
     requires a_stands { QuadStands nodes.old a }
     requires b_stands { QuadStands nodes.old b }
     requires one_height { b.height ≡ a.height }
     requires over { bottom_height < a.height }
-    ensures value { IfOk result (IsQuad nodes.new a.height (cells_by op (quad_cells nodes.old a) (quad_cells nodes.old b))) }
-    ensures stood { FindsQuad nodes.old nodes.new a.height (cells_by op (quad_cells nodes.old a) (quad_cells nodes.old b)) result }
+    ensures value { IfOk result (IsQuad nodes.new a.height
+        (cells_by op (quad_cells nodes.old a) (quad_cells nodes.old b))) }
+    ensures stood { FindsQuad nodes.old nodes.new a.height
+        (cells_by op (quad_cells nodes.old a) (quad_cells nodes.old b)) result }
     ensures keeps { KeepsQuads (quad_room a.height) nodes.old nodes.new }
     ensures counts { Counts nodes.old nodes.new result }
 {

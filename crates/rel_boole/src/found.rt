@@ -52,7 +52,8 @@ fn cut_off_full(nodes: &mut Nodes, op: Boole, a: Quad, b: Quad) -> Option<Quad>
     requires a_stands { QuadStands nodes.old a }
     requires b_stands { QuadStands nodes.old b }
     requires one_height { b.height ≡ a.height }
-    ensures found { IfSome result (IsQuad nodes.new a.height (cells_by op (quad_cells nodes.old a) (quad_cells nodes.old b))) }
+    ensures found { IfSome result (IsQuad nodes.new a.height
+        (cells_by op (quad_cells nodes.old a) (quad_cells nodes.old b))) }
     ensures reads { ReadsQuads nodes.old nodes.new }
 {
     let a_full = nodes.is_full(a);
@@ -65,7 +66,8 @@ pub fn found_before(nodes: &mut Nodes, op: Boole, a: Quad, b: Quad) -> Option<Qu
     requires a_stands { QuadStands nodes.old a }
     requires b_stands { QuadStands nodes.old b }
     requires one_height { b.height ≡ a.height }
-    ensures found { IfSome result (IsQuad nodes.new a.height (cells_by op (quad_cells nodes.old a) (quad_cells nodes.old b))) }
+    ensures found { IfSome result (IsQuad nodes.new a.height
+        (cells_by op (quad_cells nodes.old a) (quad_cells nodes.old b))) }
     ensures reads { ReadsQuads nodes.old nodes.new }
 {
     if let Some(found) = cut_off_full(nodes, op, a, b) {

@@ -29,8 +29,10 @@ pub fn leaf(nodes: &mut Nodes, op: Boole, a: Quad, b: Quad) -> Result<Quad, Miss
     requires b_stands { QuadStands nodes.old b }
     requires a_bottom { a.height ≡ bottom_height }
     requires b_bottom { b.height ≡ bottom_height }
-    ensures value { IfOk result (IsQuad nodes.new bottom_height (cells_by op (quad_cells nodes.old a) (quad_cells nodes.old b))) }
-    ensures stood { FindsQuad nodes.old nodes.new bottom_height (cells_by op (quad_cells nodes.old a) (quad_cells nodes.old b)) result }
+    ensures value { IfOk result (IsQuad nodes.new bottom_height
+        (cells_by op (quad_cells nodes.old a) (quad_cells nodes.old b))) }
+    ensures stood { FindsQuad nodes.old nodes.new bottom_height
+        (cells_by op (quad_cells nodes.old a) (quad_cells nodes.old b)) result }
     ensures keeps { KeepsQuads 1 nodes.old nodes.new }
     ensures counts { Counts nodes.old nodes.new result }
 {

@@ -14,8 +14,10 @@ pub fn union_quads(nodes: &mut Nodes, a: Quad, b: Quad) -> Result<Quad, Missed>
     requires a_stands { QuadStands nodes.old a }
     requires b_stands { QuadStands nodes.old b }
     requires one_height { b.height ≡ a.height }
-    ensures value { IfOk result (IsQuad nodes.new a.height (cells_union (quad_cells nodes.old a) (quad_cells nodes.old b))) }
-    ensures stood { FindsQuad nodes.old nodes.new a.height (cells_union (quad_cells nodes.old a) (quad_cells nodes.old b)) result }
+    ensures value { IfOk result (IsQuad nodes.new a.height
+        (cells_union (quad_cells nodes.old a) (quad_cells nodes.old b))) }
+    ensures stood { FindsQuad nodes.old nodes.new a.height
+        (cells_union (quad_cells nodes.old a) (quad_cells nodes.old b)) result }
     ensures keeps { KeepsQuads (quad_room a.height) nodes.old nodes.new }
     ensures counts { Counts nodes.old nodes.new result }
 {
@@ -27,8 +29,10 @@ pub fn inter_quads(nodes: &mut Nodes, a: Quad, b: Quad) -> Result<Quad, Missed>
     requires a_stands { QuadStands nodes.old a }
     requires b_stands { QuadStands nodes.old b }
     requires one_height { b.height ≡ a.height }
-    ensures value { IfOk result (IsQuad nodes.new a.height (cells_inter (quad_cells nodes.old a) (quad_cells nodes.old b))) }
-    ensures stood { FindsQuad nodes.old nodes.new a.height (cells_inter (quad_cells nodes.old a) (quad_cells nodes.old b)) result }
+    ensures value { IfOk result (IsQuad nodes.new a.height
+        (cells_inter (quad_cells nodes.old a) (quad_cells nodes.old b))) }
+    ensures stood { FindsQuad nodes.old nodes.new a.height
+        (cells_inter (quad_cells nodes.old a) (quad_cells nodes.old b)) result }
     ensures keeps { KeepsQuads (quad_room a.height) nodes.old nodes.new }
     ensures counts { Counts nodes.old nodes.new result }
 {
@@ -40,8 +44,10 @@ pub fn diff_quads(nodes: &mut Nodes, a: Quad, b: Quad) -> Result<Quad, Missed>
     requires a_stands { QuadStands nodes.old a }
     requires b_stands { QuadStands nodes.old b }
     requires one_height { b.height ≡ a.height }
-    ensures value { IfOk result (IsQuad nodes.new a.height (cells_diff (quad_cells nodes.old a) (quad_cells nodes.old b))) }
-    ensures stood { FindsQuad nodes.old nodes.new a.height (cells_diff (quad_cells nodes.old a) (quad_cells nodes.old b)) result }
+    ensures value { IfOk result (IsQuad nodes.new a.height
+        (cells_diff (quad_cells nodes.old a) (quad_cells nodes.old b))) }
+    ensures stood { FindsQuad nodes.old nodes.new a.height
+        (cells_diff (quad_cells nodes.old a) (quad_cells nodes.old b)) result }
     ensures keeps { KeepsQuads (quad_room a.height) nodes.old nodes.new }
     ensures counts { Counts nodes.old nodes.new result }
 {

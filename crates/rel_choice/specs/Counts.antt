@@ -24,4 +24,5 @@ same_key a b = nat_eq a.0 b.0 && nat_eq a.1 b.1
 
 -- each quad in the memory stands, and has as many cells as is noted there
 abbrev pub AreCounts : Worker → (ℕ × ℕ → Option ℕ) → Type 0
-AreCounts w found = (h n c : ℕ) → found (h, n) ≡ Some c → HasQuad w (record { height = h; name = n }) × (c ≡ quad_count w (record { height = h; name = n }))
+AreCounts w found = (h n c : ℕ) → found (h, n) ≡ Some c
+    → HasQuad w (record { height = h; name = n }) × (c ≡ quad_count w (record { height = h; name = n }))

@@ -26,4 +26,5 @@ quads_apart w a b = rows_apart (2 ^ a.height) (2 ^ a.height) (quad_set w a) (qua
 
 -- whether no row has a cell in both of two halves, each of two quads side by side
 abbrev pub halves_apart : Worker → Quad × Quad → Quad × Quad → Bool
-halves_apart w a b = (quads_apart w a.0 b.0 && quads_apart w a.0 b.1) && (quads_apart w a.1 b.0 && quads_apart w a.1 b.1)
+halves_apart w a b = (quads_apart w a.0 b.0 && quads_apart w a.0 b.1)
+    && (quads_apart w a.1 b.0 && quads_apart w a.1 b.1)

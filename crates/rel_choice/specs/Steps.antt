@@ -27,6 +27,8 @@ pub record GivesSteps (w : Worker) (height : ℕ) (steps : Steps) : Type 0 where
 abbrev pub steps_room : ℕ → ℕ → ℕ
 steps_room least height = 6 * (height - least) + 2
 
--- how many nodes the relation of the steps below n may take: the full relation, the steps of its height, and their intersection
+-- how many nodes the relation of the steps below n may take: the full relation, the steps of its height, and their
+-- intersection
 unfoldable pub step_room : ℕ → ℕ → ℕ
-step_room least n = operator_room n n + steps_room least (height_over least n n) + operator_room (2 ^ height_over least n n) (2 ^ height_over least n n)
+step_room least n = operator_room n n + steps_room least (height_over least n n) + operator_room
+    (2 ^ height_over least n n) (2 ^ height_over least n n)

@@ -7,7 +7,8 @@ use crate::walking::next_pair;
 use rel_model::quads_trait::Quads;
 use rel_model::{Lack, Rel, Shape};
 
-/// `{(i, 0) : i is the least element of v}`: a point of a vector that has an element, and the empty vector of one that has none.
+/// `{(i, 0) : i is the least element of v}`: a point of a vector that has an element, and the empty vector of one
+/// that has none.
 pub fn point<Q: Quads>(q: &mut Q, v: Rel) -> Result<Rel, Lack>
     requires stands { Stands (Q.worker q.old) v }
     requires column { v.cols ≡ 1 }

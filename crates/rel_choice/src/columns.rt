@@ -1,4 +1,5 @@
-//! The next cell of a row, down the path of the row. An eastern half that is the western again is not looked at where that has no cell.
+//! The next cell of a row, down the path of the row. An eastern half that is the western again is not looked at where
+//! that has no cell.
 ghost use Rattle.std.specs.Prelude.{◌≡◌, ◌<◌, ◌≤◌, ◌+◌, ◌^◌};
 ghost use Rattle.rel_model.specs.Trees.{beside};
 ghost use Rattle.rel_model.specs.Worker.{HasQuad, quad_set, Keeps, MakesAtMost, MissesNothing};
@@ -74,7 +75,8 @@ fn column_of_two<Q: Quads>(
     requires one_height { east.height ≡ west.height }
     requires row_within { row < 2 ^ west.height }
     requires within { below ≤ 2 ^ west.height + 2 ^ west.height }
-    ensures value { IsLeast (beside (2 ^ west.height) (quad_set (Q.worker q.old) west) (quad_set (Q.worker q.old) east) row) from below result }
+    ensures value { IsLeast (beside (2 ^ west.height) (quad_set (Q.worker q.old) west)
+        (quad_set (Q.worker q.old) east) row) from below result }
     ensures keeps { Keeps (Q.worker q.old) (Q.worker q.new) }
     ensures room { MakesAtMost 0 (Q.worker q.old) (Q.worker q.new) }
     ensures misses { MissesNothing (Q.worker q.old) (Q.worker q.new) }

@@ -11,7 +11,8 @@ use rel_model::{NoMemory, Quad, Rel};
 use std::alloc::Global;
 use std::collections::HashMap;
 
-/// How many pairs a relation has (Knuth, for a sum over a shared tree by a memory of its parts). A relation with no pair, and one whose tree is a leaf, take no memory.
+/// How many pairs a relation has (Knuth, for a sum over a shared tree by a memory of its parts). A relation with no
+/// pair, and one whose tree is a leaf, take no memory.
 pub fn count<Q: Quads>(alloc: Global, q: &mut Q, r: Rel) -> Result<u64, NoMemory>
     requires { Stands (Q.worker q.old) r }
     ensures value { IfOk result (λ n. n ≡ count_of (set_of (Q.worker q.old) r)) }

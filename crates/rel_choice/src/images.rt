@@ -12,7 +12,8 @@ pub fn dom<Q: Quads>(q: &mut Q, r: Rel) -> Result<Rel, Lack>
     ensures value { IfOk result (Gives (Q.worker q.new) r.rows 1 (dom_of (set_of (Q.worker q.old) r))) }
     ensures keeps { Keeps (Q.worker q.old) (Q.worker q.new) }
     ensures room { MakesAtMost (derived_room r.rows r.cols 1) (Q.worker q.old) (Q.worker q.new) }
-    ensures few { MakesAtMost (operator_room r.cols 1 + product_room r.rows r.cols 1) (Q.worker q.old) (Q.worker q.new) }
+    ensures few { MakesAtMost (operator_room r.cols 1 + product_room r.rows r.cols 1) (Q.worker q.old)
+        (Q.worker q.new) }
     ensures cause { HasCause Q.lean (Q.worker q.old) (Q.worker q.new) result }
 {
     rows_met(q, r)
@@ -24,7 +25,8 @@ pub fn ran<Q: Quads>(q: &mut Q, r: Rel) -> Result<Rel, Lack>
     ensures value { IfOk result (Gives (Q.worker q.new) r.cols 1 (ran_of (set_of (Q.worker q.old) r))) }
     ensures keeps { Keeps (Q.worker q.old) (Q.worker q.new) }
     ensures room { MakesAtMost (derived_room r.rows r.cols 1) (Q.worker q.old) (Q.worker q.new) }
-    ensures few { MakesAtMost (operator_room r.rows r.cols + (operator_room r.rows 1 + product_room r.cols r.rows 1)) (Q.worker q.old) (Q.worker q.new) }
+    ensures few { MakesAtMost (operator_room r.rows r.cols + (operator_room r.rows 1 + product_room r.cols r.rows 1))
+        (Q.worker q.old) (Q.worker q.new) }
     ensures cause { HasCause Q.lean (Q.worker q.old) (Q.worker q.new) result }
 {
     let turned = q.transpose(r)?;
@@ -36,7 +38,8 @@ fn rows_met<Q: Quads>(q: &mut Q, r: Rel) -> Result<Rel, Lack>
     requires { Stands (Q.worker q.old) r }
     ensures value { IfOk result (Gives (Q.worker q.new) r.rows 1 (dom_of (set_of (Q.worker q.old) r))) }
     ensures keeps { Keeps (Q.worker q.old) (Q.worker q.new) }
-    ensures room { MakesAtMost (operator_room r.cols 1 + product_room r.rows r.cols 1) (Q.worker q.old) (Q.worker q.new) }
+    ensures room { MakesAtMost (operator_room r.cols 1 + product_room r.rows r.cols 1) (Q.worker q.old)
+        (Q.worker q.new) }
     ensures cause { HasCause Q.lean (Q.worker q.old) (Q.worker q.new) result }
 {
     let all = q.full(Shape {

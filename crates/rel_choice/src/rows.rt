@@ -1,4 +1,5 @@
-//! The next row that has a cell. A half in which none can be less than what was found is not looked at, nor one that is the other half again.
+//! The next row that has a cell. A half in which none can be less than what was found is not looked at, nor one that
+//! is the other half again.
 ghost use Rattle.std.specs.Prelude.{◌≡◌, ◌<◌, ◌≤◌, ◌^◌};
 ghost use Rattle.rel_model.specs.Worker.{HasQuad, quad_set, Keeps, MakesAtMost, MissesNothing};
 ghost use Rattle.rel_choice.specs.Leasts.{IsLeast, row_meets, row_meets_either};
@@ -64,7 +65,8 @@ fn row_of_two<Q: Quads>(q: &mut Q, west: Quad, east: Quad, from: u32, below: u32
     requires east_stands { HasQuad (Q.worker q.old) east }
     requires one_height { east.height ≡ west.height }
     requires within { below ≤ 2 ^ west.height }
-    ensures value { IsLeast (row_meets_either (2 ^ west.height) (quad_set (Q.worker q.old) west) (quad_set (Q.worker q.old) east)) from below result }
+    ensures value { IsLeast (row_meets_either (2 ^ west.height) (quad_set (Q.worker q.old) west)
+        (quad_set (Q.worker q.old) east)) from below result }
     ensures keeps { Keeps (Q.worker q.old) (Q.worker q.new) }
     ensures room { MakesAtMost 0 (Q.worker q.old) (Q.worker q.new) }
     ensures misses { MissesNothing (Q.worker q.old) (Q.worker q.new) }

@@ -3,7 +3,8 @@ ghost use Rattle.std.specs.Prelude.{◌≡◌, ◌<◌, ◌+◌, ◌-◌, ◌^�
 use std::marker::Model;
 use std::sync::ledger::{Blank, Book, Ledger, Share};
 
-/// A count of steps, which never falls. The ledger `L` keeps it exactly; the number that can be read stops at its last value. 8 bytes.
+/// A count of steps, which never falls. The ledger `L` keeps it exactly; the number that can be read stops at its
+/// last value. 8 bytes.
 #[derive(Drop)]
 pub struct Steps<L: Ledger> {
     count: u64,

@@ -49,7 +49,8 @@ pub fn identity<C: Core>(core: &mut C, n: u32) -> Result<Rel, Lack>
 pub fn refl<C: Core>(core: &mut C, r: Rel) -> Result<Rel, Lack>
     requires standing { Stands (C.worker core.old) r }
     requires square { r.rows ≡ r.cols }
-    ensures value { IfOk result (Gives (C.worker core.new) r.rows r.cols (reflexive_closure (set_of (C.worker core.old) r))) }
+    ensures value { IfOk result (Gives (C.worker core.new) r.rows r.cols
+        (reflexive_closure (set_of (C.worker core.old) r))) }
     ensures keeps { Keeps (C.worker core.old) (C.worker core.new) }
     ensures room { MakesAtMost (wide_room r.rows r.rows r.rows) (C.worker core.old) (C.worker core.new) }
     ensures cause { HasCause C.lean (C.worker core.old) (C.worker core.new) result }

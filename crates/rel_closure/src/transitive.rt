@@ -8,9 +8,12 @@ use rel_model::{Lack, Rel};
 use std::marker::Brand;
 use std::sync::ledger::{Blank, Ledger};
 
-/// `trans(R)`: the pairs that a walk of at least one step joins (Schmidt and Ströhlein), by squares. Each composition is counted.
+/// `trans(R)`: the pairs that a walk of at least one step joins (Schmidt and Ströhlein), by squares. Each composition
+/// is counted.
 ///
-/// After k squares the pairs are those of walks of up to `2^k` steps, and as many steps as there are elements are enough. It stops before where a square adds no pair. So no fewer are counted than the closure needs: it has the walks of up to `2^k` steps, where k were counted.
+/// After k squares the pairs are those of walks of up to `2^k` steps, and as many steps as there are elements are
+/// enough. It stops before where a square adds no pair. So no fewer are counted than the closure needs: it has the
+/// walks of up to `2^k` steps, where k were counted.
 pub fn trans_counted<C: Core, L: Ledger>(
     core: &mut C,
     r: Rel,
@@ -18,14 +21,16 @@ pub fn trans_counted<C: Core, L: Ledger>(
 ) -> Result<Rel, Lack>
     requires standing { Stands (C.worker core.old) r }
     requires square { r.rows ≡ r.cols }
-    ensures value { IfOk result (Gives (C.worker core.new) r.rows r.cols (transitive_closure (set_of (C.worker core.old) r))) }
+    ensures value { IfOk result (Gives (C.worker core.new) r.rows r.cols
+        (transitive_closure (set_of (C.worker core.old) r))) }
     ensures keeps { Keeps (C.worker core.old) (C.worker core.new) }
     ensures room { MakesAtMost (derived_room r.rows r.rows r.rows) (C.worker core.old) (C.worker core.new) }
     ensures nothing { r.rows ≤ 1 → MakesAtMost 0 (C.worker core.old) (C.worker core.new) }
     ensures cause { HasCause C.lean (C.worker core.old) (C.worker core.new) result }
     ensures rises { steps.old ≤ steps.new }
     ensures digits { 2 ^ (steps.new - steps.old) ≤ max 1 (2 * r.rows - 1) }
-    ensures enough { OnOk result (transitive_closure (set_of (C.worker core.old) r) ≡ walks_within (2 ^ (steps.new - steps.old)) (set_of (C.worker core.old) r)) }
+    ensures enough { OnOk result (transitive_closure (set_of (C.worker core.old) r)
+        ≡ walks_within (2 ^ (steps.new - steps.old)) (set_of (C.worker core.old) r)) }
 {
     let mut walks = r;
     let mut reach: u64 = 1;
@@ -49,7 +54,8 @@ fn trans_alone<C: Core, L: Ledger>(core: &mut C, r: Rel, blank: Blank) -> Result
     requires name { blank.name ≡ L.name }
     requires parts { blank.parts ≡ L.parts }
     requires some { blank.parts ≡ 1 }
-    ensures value { IfOk result (Gives (C.worker core.new) r.rows r.cols (transitive_closure (set_of (C.worker core.old) r))) }
+    ensures value { IfOk result (Gives (C.worker core.new) r.rows r.cols
+        (transitive_closure (set_of (C.worker core.old) r))) }
     ensures keeps { Keeps (C.worker core.old) (C.worker core.new) }
     ensures room { MakesAtMost (derived_room r.rows r.rows r.rows) (C.worker core.old) (C.worker core.new) }
     ensures nothing { r.rows ≤ 1 → MakesAtMost 0 (C.worker core.old) (C.worker core.new) }
@@ -66,7 +72,8 @@ fn trans_alone<C: Core, L: Ledger>(core: &mut C, r: Rel, blank: Blank) -> Result
 pub fn trans<C: Core>(core: &mut C, r: Rel) -> Result<Rel, Lack>
     requires standing { Stands (C.worker core.old) r }
     requires square { r.rows ≡ r.cols }
-    ensures value { IfOk result (Gives (C.worker core.new) r.rows r.cols (transitive_closure (set_of (C.worker core.old) r))) }
+    ensures value { IfOk result (Gives (C.worker core.new) r.rows r.cols
+        (transitive_closure (set_of (C.worker core.old) r))) }
     ensures keeps { Keeps (C.worker core.old) (C.worker core.new) }
     ensures room { MakesAtMost (derived_room r.rows r.rows r.rows) (C.worker core.old) (C.worker core.new) }
     ensures nothing { r.rows ≤ 1 → MakesAtMost 0 (C.worker core.old) (C.worker core.new) }

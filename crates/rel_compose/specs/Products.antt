@@ -18,7 +18,9 @@ row_by_column m a b e g = cells_union (cells_compose m a e) (cells_compose m b g
 
 -- the quad is the product of a row and a column
 abbrev pub IsProduct : Keeper → Keeper → Quad × Quad → Quad × Quad → Quad → Type 0
-IsProduct old new row column q = IsQuad new row.0.height (row_by_column (side_of row.0.height) (quad_cells old row.0) (quad_cells old row.1) (quad_cells old column.0) (quad_cells old column.1)) q
+IsProduct old new row column q = IsQuad new row.0.height
+    (row_by_column (side_of row.0.height) (quad_cells old row.0) (quad_cells old row.1) (quad_cells old column.0)
+    (quad_cells old column.1)) q
 
 -- the two quads are the products of a row and two columns
 pub record AreProducts (old new : Keeper) (row west east : Quad × Quad) (pair : Quad × Quad) : Type 0 where

@@ -20,10 +20,14 @@ pub fn compose_quads(nodes: &mut Nodes, a: Quad, b: Quad) -> Result<Quad, Missed
     requires a_stands { QuadStands nodes.old a }
     requires b_stands { QuadStands nodes.old b }
     requires one_height { b.height ≡ a.height }
-    ensures value { IfOk result (IsQuad nodes.new a.height (cells_compose (side_of a.height) (quad_cells nodes.old a) (quad_cells nodes.old b))) }
+    ensures value { IfOk result (IsQuad nodes.new a.height
+        (cells_compose (side_of a.height) (quad_cells nodes.old a) (quad_cells nodes.old b))) }
     ensures nothing { (a.name ≡ 0) ⊎ (b.name ≡ 0) → FindsNone nodes.old nodes.new a.height result }
-    ensures full { quad_cells nodes.old a ≡ cells_rect (side_of a.height) (side_of a.height) → quad_cells nodes.old b ≡ cells_rect (side_of b.height) (side_of b.height) → Finds nodes.old nodes.new a result }
-    ensures blocks { a.height ≡ bottom_height → FindsQuad nodes.old nodes.new a.height (cells_compose (side_of a.height) (quad_cells nodes.old a) (quad_cells nodes.old b)) result }
+    ensures full { quad_cells nodes.old a ≡ cells_rect (side_of a.height) (side_of a.height)
+        → quad_cells nodes.old b ≡ cells_rect (side_of b.height) (side_of b.height)
+        → Finds nodes.old nodes.new a result }
+    ensures blocks { a.height ≡ bottom_height → FindsQuad nodes.old nodes.new a.height
+        (cells_compose (side_of a.height) (quad_cells nodes.old a) (quad_cells nodes.old b)) result }
     ensures keeps { KeepsQuads (compose_room a.height) nodes.old nodes.new }
     ensures counts { Counts nodes.old nodes.new result }
 {
@@ -50,7 +54,8 @@ fn composed_over(nodes: &mut Nodes, a: Quad, b: Quad) -> Result<Quad, Missed>
     requires b_stands { QuadStands nodes.old b }
     requires one_height { b.height ≡ a.height }
     requires over { bottom_height < a.height }
-    ensures value { IfOk result (IsQuad nodes.new a.height (cells_compose (side_of a.height) (quad_cells nodes.old a) (quad_cells nodes.old b))) }
+    ensures value { IfOk result (IsQuad nodes.new a.height
+        (cells_compose (side_of a.height) (quad_cells nodes.old a) (quad_cells nodes.old b))) }
     ensures keeps { KeepsQuads (compose_room a.height) nodes.old nodes.new }
     ensures counts { Counts nodes.old nodes.new result }
 {

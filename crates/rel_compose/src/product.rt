@@ -17,8 +17,10 @@ pub fn leaf(nodes: &mut Nodes, a: Quad, b: Quad) -> Result<Quad, Missed>
     requires b_stands { QuadStands nodes.old b }
     requires a_bottom { a.height ≡ bottom_height }
     requires b_bottom { b.height ≡ bottom_height }
-    ensures value { IfOk result (IsQuad nodes.new bottom_height (cells_compose (side_of bottom_height) (quad_cells nodes.old a) (quad_cells nodes.old b))) }
-    ensures stood { FindsQuad nodes.old nodes.new bottom_height (cells_compose (side_of bottom_height) (quad_cells nodes.old a) (quad_cells nodes.old b)) result }
+    ensures value { IfOk result (IsQuad nodes.new bottom_height
+        (cells_compose (side_of bottom_height) (quad_cells nodes.old a) (quad_cells nodes.old b))) }
+    ensures stood { FindsQuad nodes.old nodes.new bottom_height
+        (cells_compose (side_of bottom_height) (quad_cells nodes.old a) (quad_cells nodes.old b)) result }
     ensures keeps { KeepsQuads 1 nodes.old nodes.new }
     ensures counts { Counts nodes.old nodes.new result }
 {
@@ -32,8 +34,10 @@ pub fn both_full(nodes: &mut Nodes, a: Quad, b: Quad) -> bool
     requires a_stands { QuadStands nodes.old a }
     requires b_stands { QuadStands nodes.old b }
     requires one_height { b.height ≡ a.height }
-    ensures full { result ≡ true → IsQuad nodes.new a.height (cells_compose (side_of a.height) (quad_cells nodes.old a) (quad_cells nodes.old b)) a }
-    ensures only_full { quad_cells nodes.old a ≡ cells_rect (side_of a.height) (side_of a.height) → quad_cells nodes.old b ≡ cells_rect (side_of b.height) (side_of b.height) → result ≡ true }
+    ensures full { result ≡ true → IsQuad nodes.new a.height
+        (cells_compose (side_of a.height) (quad_cells nodes.old a) (quad_cells nodes.old b)) a }
+    ensures only_full { quad_cells nodes.old a ≡ cells_rect (side_of a.height) (side_of a.height)
+        → quad_cells nodes.old b ≡ cells_rect (side_of b.height) (side_of b.height) → result ≡ true }
     ensures reads { ReadsQuads nodes.old nodes.new }
 {
     if !nodes.is_full(a) {

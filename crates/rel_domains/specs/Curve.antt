@@ -15,7 +15,8 @@ within_half m i = cond (nat_lt i m) i (i - m)
 -- the place of cell (i, j) in a square that stands so many quarterings above leaves of side 2 ^ least
 abbrev pub place : ℕ → ℕ → ℕ → ℕ → ℕ
 place least zero i j = 2 ^ least * i + j
-place least (suc d) i j = (2 * half (2 ^ (least + d)) i + half (2 ^ (least + d)) j) * 4 ^ (least + d) + place least d (within_half (2 ^ (least + d)) i) (within_half (2 ^ (least + d)) j)
+place least (suc d) i j = (2 * half (2 ^ (least + d)) i + half (2 ^ (least + d)) j) * 4 ^ (least + d) + place least d
+    (within_half (2 ^ (least + d)) i) (within_half (2 ^ (least + d)) j)
 
 -- whether a number is in a list
 abbrev pub holds : List ℕ → ℕ → Bool

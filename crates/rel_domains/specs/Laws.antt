@@ -1,4 +1,5 @@
--- Laws of projections, injections and membership (Schmidt and Ströhlein, Relations and Graphs), with what holds where a domain is empty.
+-- Laws of projections, injections and membership (Schmidt and Ströhlein, Relations and Graphs), with what holds where
+-- a domain is empty.
 use Rattle.std.specs.Prelude.{◌≡◌, ◌≢◌, ◌+◌, ◌*◌, ◌^◌, ℕ}
 use Rattle.rel_model.specs.Operators.{empty, full, union, inter, transpose, compose, symmetric_quotient, identity}
 use Rattle.rel_model.specs.Domains.{first_projection, second_projection, left_injection, right_injection, membership}
@@ -6,7 +7,8 @@ use Rattle.rel_model.specs.Domains.{first_projection, second_projection, left_in
 -- the projections p and q of a product of x and y elements
 pub record AreProjections (x y : ℕ) : Type 0 where
   -- p*p^ & q*q^ = I: a pair is known by its parts
-  pub faithful : inter (compose (first_projection x y) (transpose (first_projection x y))) (compose (second_projection x y) (transpose (second_projection x y))) ≡ identity (x * y)
+  pub faithful : inter (compose (first_projection x y) (transpose (first_projection x y)))
+      (compose (second_projection x y) (transpose (second_projection x y))) ≡ identity (x * y)
   -- p^*p = I where the second factor has an element, and p^*p = O where it has none
   pub first_onto : y ≢ 0 → compose (transpose (first_projection x y)) (first_projection x y) ≡ identity x
   pub first_none : y ≡ 0 → compose (transpose (first_projection x y)) (first_projection x y) ≡ empty x x
@@ -25,7 +27,8 @@ pub record AreInjections (x y : ℕ) : Type 0 where
   -- i*k^ = O
   pub apart : compose (left_injection x y) (transpose (right_injection x y)) ≡ empty x y
   -- i^*i | k^*k = I
-  pub together : union (compose (transpose (left_injection x y)) (left_injection x y)) (compose (transpose (right_injection x y)) (right_injection x y)) ≡ identity (x + y)
+  pub together : union (compose (transpose (left_injection x y)) (left_injection x y))
+      (compose (transpose (right_injection x y)) (right_injection x y)) ≡ identity (x + y)
 
 -- laws of products
 abbrev pub ProjectionLaws : Type 0

@@ -13,7 +13,8 @@ passes (Quotient by) i j = i / by == j
 passes (Remainder by) i j = i % by == j
 passes Member i j = bit_at j i == 1
 
--- a rule can be asked of so many rows: it shifts by no more than a size, divides by one that is not 0, and asks for bits of numbers up to the limit
+-- a rule can be asked of so many rows: it shifts by no more than a size, divides by one that is not 0, and asks for
+-- bits of numbers up to the limit
 abbrev pub IsRule : ℕ → Rule → Type 0
 IsRule rows (Shift by) = by ≤ size_limit
 IsRule rows (Quotient by) = 0 < by

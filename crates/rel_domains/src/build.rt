@@ -13,14 +13,16 @@ use rel_model::core_trait::Core;
 use rel_model::quads_trait::Quads;
 use rel_model::{Lack, Quad};
 
-/// The quad of the cells whose places, counted from a base on, are listed in order, so many quarterings above the leaves.
+/// The quad of the cells whose places, counted from a base on, are listed in order, so many quarterings above the
+/// leaves.
 #[tactic(auto, unfolding(rel_model::specs::Trees::top_height), using(crate::proofs::Places::cells_step, crate::proofs::Places::power_step, crate::proofs::Places::some_cells))]
 pub fn build<Q: Quads>(q: &mut Q, depth: u8, base: u64, places: &[u64]) -> Result<Quad, Lack>
     requires high { Q.least + depth ≤ top_height }
     requires base { base + 4 ^ (Q.least + depth) ≤ 4 ^ top_height }
     requires order { IsNonDecreasing places.now }
     requires from { AreFrom base (base + 4 ^ (Q.least + depth)) places.now }
-    ensures value { IfOk result (GivesQuad (Q.worker q.new) (Q.least + depth) (cells_at Q.least depth base places.now)) }
+    ensures value { IfOk result (GivesQuad (Q.worker q.new) (Q.least + depth)
+        (cells_at Q.least depth base places.now)) }
     ensures keeps { Keeps (Q.worker q.old) (Q.worker q.new) }
     ensures room { MakesAtMost (tree_room depth) (Q.worker q.old) (Q.worker q.new) }
     ensures few { MakesAtMost (listed_room (length places.now) depth) (Q.worker q.old) (Q.worker q.new) }

@@ -38,7 +38,8 @@ fn with_rank(bits: u64, side: u32, row: u32, rank: u32, x: u32) -> u64
     requires within { x < side }
     requires row { row + side ≤ size_limit }
     requires small { bits < 2 ^ (side * side) }
-    ensures cells { (i k : ℕ) → i < side → k < side → (bit_at result (side * i + k) == 1) ≡ ((bit_at bits (side * i + k) == 1) || ((k == x) && (rank == row + i))) }
+    ensures cells { (i k : ℕ) → i < side → k < side → (bit_at result (side * i + k) == 1)
+        ≡ ((bit_at bits (side * i + k) == 1) || ((k == x) && (rank == row + i))) }
     ensures small { result < 2 ^ (side * side) }
 {
     if row <= rank && rank < row + side {
@@ -53,7 +54,8 @@ pub fn ranks_in(least: u8, vector: u64, row: u32, before: u32) -> u64
     requires low { least ≤ 3 }
     requires row { row + 2 ^ least ≤ size_limit }
     requires before { before ≤ size_limit }
-    ensures cells { bits_cells (2 ^ least) result ≡ ranked (2 ^ least) row before (first_column (bits_cells (2 ^ least) vector)) }
+    ensures cells { bits_cells (2 ^ least) result ≡ ranked (2 ^ least) row before
+        (first_column (bits_cells (2 ^ least) vector)) }
     ensures none_past { result < 2 ^ (2 ^ least * 2 ^ least) }
 {
     let side = side_of(least);

@@ -50,7 +50,8 @@ pub fn repeats(shape: Shape, rule: Rule, row: u32, half: u32) -> bool
     requires rule { IsRule shape.rows rule }
     requires half { 0 < half }
     requires row { row + 2 * half ≤ size_limit }
-    ensures { IsTrue result → (col : ℕ) → window half (row + half) col (rule_cells shape.rows shape.cols rule) ≡ window half row col (rule_cells shape.rows shape.cols rule) }
+    ensures { IsTrue result → (col : ℕ) → window half (row + half) col (rule_cells shape.rows shape.cols rule)
+        ≡ window half row col (rule_cells shape.rows shape.cols rule) }
 {
     if row + 2 * half > shape.rows {
         return false;
@@ -67,7 +68,8 @@ pub fn goes_on(shape: Shape, rule: Rule, row: u32, col: u32, half: u32) -> bool
     requires rule { IsRule shape.rows rule }
     requires row { row + 2 * half ≤ size_limit }
     requires col { col + 2 * half ≤ size_limit }
-    ensures { IsTrue result → window half (row + half) (col + half) (rule_cells shape.rows shape.cols rule) ≡ window half row col (rule_cells shape.rows shape.cols rule) }
+    ensures { IsTrue result → window half (row + half) (col + half) (rule_cells shape.rows shape.cols rule)
+        ≡ window half row col (rule_cells shape.rows shape.cols rule) }
 {
     if row + 2 * half > shape.rows || col + 2 * half > shape.cols {
         return false;

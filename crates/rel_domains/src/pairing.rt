@@ -15,12 +15,14 @@ use rel_model::faults::DomainError;
 use rel_model::quads_trait::Quads;
 use rel_model::{Lack, Rel, SIZE_LIMIT, Shape};
 
-/// `{(i, c) : (i, j) in r and row c has column j}`: a relation through the converse of that of a rule, which has so many rows.
+/// `{(i, c) : (i, j) in r and row c has column j}`: a relation through the converse of that of a rule, which has so
+/// many rows.
 fn through<Q: Quads>(q: &mut Q, r: Rel, cols: u32, rule: Rule) -> Result<Rel, Lack>
     requires stands { Stands (Q.worker q.old) r }
     requires limit { cols ≤ size_limit }
     requires rule { IsRule cols rule }
-    ensures value { IfOk result (Gives (Q.worker q.new) r.rows cols (compose_of (set_of (Q.worker q.old) r) (transpose_of (relation_of cols r.cols (passes rule))))) }
+    ensures value { IfOk result (Gives (Q.worker q.new) r.rows cols
+        (compose_of (set_of (Q.worker q.old) r) (transpose_of (relation_of cols r.cols (passes rule))))) }
     ensures keeps { Keeps (Q.worker q.old) (Q.worker q.new) }
     ensures room { MakesAtMost (24 * 8 ^ height_of_three r.rows r.cols cols) (Q.worker q.old) (Q.worker q.new) }
     ensures cause { HasCause Q.lean (Q.worker q.old) (Q.worker q.new) result }
@@ -42,7 +44,8 @@ fn paired<Q: Quads>(q: &mut Q, r: Rel, s: Rel, cols: u32) -> Result<Rel, Lack>
     requires rows { r.rows ≡ s.rows }
     requires cols { cols ≡ r.cols * s.cols }
     requires limit { cols ≤ size_limit }
-    ensures value { IfOk result (Gives (Q.worker q.new) r.rows cols (pairing (set_of (Q.worker q.old) r) (set_of (Q.worker q.old) s))) }
+    ensures value { IfOk result (Gives (Q.worker q.new) r.rows cols
+        (pairing (set_of (Q.worker q.old) r) (set_of (Q.worker q.old) s))) }
     ensures keeps { Keeps (Q.worker q.old) (Q.worker q.new) }
     ensures room { MakesAtMost (wide_room r.rows (max r.cols s.cols) cols) (Q.worker q.old) (Q.worker q.new) }
     ensures cause { HasCause Q.lean (Q.worker q.old) (Q.worker q.new) result }
@@ -54,16 +57,19 @@ fn paired<Q: Quads>(q: &mut Q, r: Rel, s: Rel, cols: u32) -> Result<Rel, Lack>
     Ok(both)
 }
 
-/// `[R,S] = {(i, j * n + k) : (i, j) in r and (i, k) in s}`: the pairing of two relations of as many rows (Schmidt and Ströhlein, *Relations and Graphs*), where s has n columns. It is refused where its columns are over the limit.
+/// `[R,S] = {(i, j * n + k) : (i, j) in r and (i, k) in s}`: the pairing of two relations of as many rows (Schmidt
+/// and Ströhlein, *Relations and Graphs*), where s has n columns. It is refused where its columns are over the limit.
 ///
 /// It is `(R * p^) & (S * q^)`, with the projections p and q of the product of their columns.
 pub fn fork<Q: Quads>(q: &mut Q, r: Rel, s: Rel) -> Result<Rel, DomainError>
     requires left { Stands (Q.worker q.old) r }
     requires right { Stands (Q.worker q.old) s }
     requires rows { r.rows ≡ s.rows }
-    ensures value { IfOk result (Gives (Q.worker q.new) r.rows (r.cols * s.cols) (pairing (set_of (Q.worker q.old) r) (set_of (Q.worker q.old) s))) }
+    ensures value { IfOk result (Gives (Q.worker q.new) r.rows (r.cols * s.cols)
+        (pairing (set_of (Q.worker q.old) r) (set_of (Q.worker q.old) s))) }
     ensures keeps { Keeps (Q.worker q.old) (Q.worker q.new) }
-    ensures room { MakesAtMost (wide_room r.rows (max r.cols s.cols) (r.cols * s.cols)) (Q.worker q.old) (Q.worker q.new) }
+    ensures room { MakesAtMost (wide_room r.rows (max r.cols s.cols) (r.cols * s.cols)) (Q.worker q.old)
+        (Q.worker q.new) }
     ensures nothing { size_limit < r.cols * s.cols → MakesAtMost 0 (Q.worker q.old) (Q.worker q.new) }
     ensures cause { HasDomainCause Q.lean (r.cols * s.cols) (Q.worker q.old) (Q.worker q.new) result }
 {

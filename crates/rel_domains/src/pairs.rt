@@ -14,7 +14,9 @@ use rel_model::quads_trait::Quads;
 use rel_model::{Lack, Rel, Shape};
 use std::alloc::Global;
 
-/// `{p : p in pairs}`: the relation of listed pairs, in any order, repeats allowed. It sorts, so memory may run out whatever keeps the quads, but not where no pair is listed; where it runs out over a worker that is lean, no node was made.
+/// `{p : p in pairs}`: the relation of listed pairs, in any order, repeats allowed. It sorts, so memory may run out
+/// whatever keeps the quads, but not where no pair is listed; where it runs out over a worker that is lean, no node
+/// was made.
 #[tactic(auto, unfolding(rel_model::specs::Trees::top_height))]
 pub fn from_pairs<Q: Quads>(
     alloc: Global,
@@ -25,10 +27,12 @@ pub fn from_pairs<Q: Quads>(
     requires row_limit { shape.rows ≤ size_limit }
     requires col_limit { shape.cols ≤ size_limit }
     requires within { AreWithin shape.rows shape.cols pairs.now }
-    ensures value { IfOk result (Gives (Q.worker q.new) shape.rows shape.cols (relation_of shape.rows shape.cols (is_among pairs.now))) }
+    ensures value { IfOk result (Gives (Q.worker q.new) shape.rows shape.cols
+        (relation_of shape.rows shape.cols (is_among pairs.now))) }
     ensures keeps { Keeps (Q.worker q.old) (Q.worker q.new) }
     ensures room { MakesAtMost (pairs_room (length pairs.now) shape.rows shape.cols) (Q.worker q.old) (Q.worker q.new) }
-    ensures few { MakesAtMost (listed_room (length pairs.now) (height_over Q.least shape.rows shape.cols - Q.least)) (Q.worker q.old) (Q.worker q.new) }
+    ensures few { MakesAtMost (listed_room (length pairs.now) (height_over Q.least shape.rows shape.cols - Q.least))
+        (Q.worker q.old) (Q.worker q.new) }
     ensures cause { HasCause false (Q.worker q.old) (Q.worker q.new) result }
     ensures some { OnErr result (0 < length pairs.now) }
     ensures untouched { Q.lean ≡ true → IsErrOf result NoMemory → MakesAtMost 0 (Q.worker q.old) (Q.worker q.new) }

@@ -47,7 +47,8 @@ fn square<Q: Quads>(
     requires rule { IsRule shape.rows rule }
     requires row { row + 2 ^ (Q.least + depth) ≤ size_limit }
     requires col { col + 2 ^ (Q.least + depth) ≤ size_limit }
-    ensures value { IfOk result (GivesQuad (Q.worker q.new) (Q.least + depth) (window (2 ^ (Q.least + depth)) row col (rule_cells shape.rows shape.cols rule))) }
+    ensures value { IfOk result (GivesQuad (Q.worker q.new) (Q.least + depth)
+        (window (2 ^ (Q.least + depth)) row col (rule_cells shape.rows shape.cols rule))) }
     ensures keeps { Keeps (Q.worker q.old) (Q.worker q.new) }
     ensures room { MakesAtMost (tree_room depth) (Q.worker q.old) (Q.worker q.new) }
     ensures cause { HasCause Q.lean (Q.worker q.old) (Q.worker q.new) result }
@@ -83,7 +84,8 @@ pub fn relation_by<Q: Quads>(q: &mut Q, shape: Shape, rule: Rule) -> Result<Rel,
     requires row_limit { shape.rows ≤ size_limit }
     requires col_limit { shape.cols ≤ size_limit }
     requires rule { IsRule shape.rows rule }
-    ensures value { IfOk result (Gives (Q.worker q.new) shape.rows shape.cols (relation_of shape.rows shape.cols (passes rule))) }
+    ensures value { IfOk result (Gives (Q.worker q.new) shape.rows shape.cols
+        (relation_of shape.rows shape.cols (passes rule))) }
     ensures keeps { Keeps (Q.worker q.old) (Q.worker q.new) }
     ensures room { MakesAtMost (operator_room shape.rows shape.cols) (Q.worker q.old) (Q.worker q.new) }
     ensures tree { MakesAtMost (relation_room Q.least shape.rows shape.cols) (Q.worker q.old) (Q.worker q.new) }

@@ -62,7 +62,8 @@ fn ranks<Q: Quads>(
     requires many { many ≡ count_below (2 ^ vector.height) (first_column (quad_set (Q.worker q.old) vector)) }
     requires row { row + 2 ^ (Q.least + depth) ≤ size_limit }
     requires before { before + many ≤ size_limit }
-    ensures value { IfOk result (GivesQuad (Q.worker q.new) (Q.least + depth) (ranked (2 ^ (Q.least + depth)) row before (first_column (quad_set (Q.worker q.old) vector)))) }
+    ensures value { IfOk result (GivesQuad (Q.worker q.new) (Q.least + depth)
+        (ranked (2 ^ (Q.least + depth)) row before (first_column (quad_set (Q.worker q.old) vector)))) }
     ensures keeps { Keeps (Q.worker q.old) (Q.worker q.new) }
     ensures room { MakesAtMost (tree_room depth) (Q.worker q.old) (Q.worker q.new) }
     ensures cause { HasCause Q.lean (Q.worker q.old) (Q.worker q.new) result }
@@ -98,12 +99,14 @@ fn ranks<Q: Quads>(
     Ok(corner)
 }
 
-/// `{(r, x) : x is element number r of v, from 0}`: the elements of a vector in order, the injection of the subset that it is (Schmidt and Ströhlein, *Relations and Graphs*), with as many rows as it has elements.
+/// `{(r, x) : x is element number r of v, from 0}`: the elements of a vector in order, the injection of the subset
+/// that it is (Schmidt and Ströhlein, *Relations and Graphs*), with as many rows as it has elements.
 #[tactic(auto, unfolding(rel_model::specs::Trees::top_height))]
 pub fn inj<Q: Quads>(q: &mut Q, v: Rel) -> Result<Rel, Lack>
     requires stands { Stands (Q.worker q.old) v }
     requires one_column { v.cols ≡ 1 }
-    ensures value { IfOk result (Gives (Q.worker q.new) (count_below v.rows (holds (set_of (Q.worker q.old) v))) v.rows (inj_of (set_of (Q.worker q.old) v))) }
+    ensures value { IfOk result (Gives (Q.worker q.new) (count_below v.rows (holds (set_of (Q.worker q.old) v)))
+        v.rows (inj_of (set_of (Q.worker q.old) v))) }
     ensures keeps { Keeps (Q.worker q.old) (Q.worker q.new) }
     ensures room { MakesAtMost (derived_room v.rows v.cols v.cols) (Q.worker q.old) (Q.worker q.new) }
     ensures tree { MakesAtMost (relation_room Q.least v.rows v.cols) (Q.worker q.old) (Q.worker q.new) }

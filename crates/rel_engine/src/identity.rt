@@ -34,7 +34,8 @@ pub fn with_identity<Q: Quads>(q: &mut Q, r: Rel) -> Result<Rel, Lack>
     ensures value { IfOk result (Gives (Q.worker q.new) r.rows r.cols (reflexive_closure (set_of (Q.worker q.old) r))) }
     ensures keeps { Keeps (Q.worker q.old) (Q.worker q.new) }
     ensures room { MakesAtMost (wide_room r.rows r.rows r.rows) (Q.worker q.old) (Q.worker q.new) }
-    ensures few { MakesAtMost (relation_room Q.least r.rows r.rows + operator_room r.rows r.cols) (Q.worker q.old) (Q.worker q.new) }
+    ensures few { MakesAtMost (relation_room Q.least r.rows r.rows + operator_room r.rows r.cols) (Q.worker q.old)
+        (Q.worker q.new) }
     ensures cause { HasCause Q.lean (Q.worker q.old) (Q.worker q.new) result }
 {
     let same = identity_of(q, r.rows)?;

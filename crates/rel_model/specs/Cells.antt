@@ -1,4 +1,5 @@
--- Sets of cells, as tests on a row and a column, and the operators on them. The tree words and the blocks speak of these; two sets are compared as functions.
+-- Sets of cells, as tests on a row and a column, and the operators on them. The tree words and the blocks speak of
+-- these; two sets are compared as functions.
 use Rattle.std.specs.Prelude.{◌==◌, ◌+◌, ◌*◌, ◌&&◌, ◌||◌, not, nat_lt, zero, suc, ℕ, Bool, false}
 use Rattle.std.specs.Int.{bit_at}
 

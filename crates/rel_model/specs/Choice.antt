@@ -1,4 +1,5 @@
--- Choice, domains of definition and walks over pairs. The choice that point and atom make, init, next and the order of pairs are this project's; the rest is Schmidt and Ströhlein's.
+-- Choice, domains of definition and walks over pairs. The choice that point and atom make, init, next and the order
+-- of pairs are this project's; the rest is Schmidt and Ströhlein's.
 use Rattle.std.specs.Prelude.{◌==◌, ◌&&◌, ◌+◌, ◌-◌, not, nat_lt, cond, zero, suc, ℕ, Bool, List, [], ◌∷◌, filter, length, Option, Some, None}
 use Rattle.rel_model.specs.Relation.{Relation, before, has, relation_of}
 use Rattle.rel_model.specs.Cells.{some_below}
@@ -26,7 +27,8 @@ point v = relation_of v.rows 1 (λ i j. holds v i && not (some_below i (holds v)
 
 -- the least pair of a relation by row and then by column, or the empty relation
 unfoldable pub atom : Relation → Relation
-atom r = relation_of r.rows r.cols (λ i j. has r i j && (not (some_below i (row_has r)) && not (some_below j (has r i))))
+atom r = relation_of r.rows r.cols (λ i j. has r i j && (not (some_below i (row_has r))
+    && not (some_below j (has r i))))
 
 -- the vector of element 0 of the rows of another, empty where there are none
 unfoldable pub init : Relation → Relation

@@ -3,7 +3,8 @@ use Rattle.std.specs.Prelude.{◌≡◌, ◌==◌, ◌&&◌, ◌||◌, zero, suc
 use Rattle.rel_model.specs.Relation.{Relation, has, relation_of}
 use Rattle.rel_model.specs.Cells.{some_below}
 
--- whether there is a walk of so many steps: of one step it is a pair, and of one step more it is a pair and a walk from its end; no walk has no step
+-- whether there is a walk of so many steps: of one step it is a pair, and of one step more it is a pair and a walk
+-- from its end; no walk has no step
 abbrev pub walk : Relation → ℕ → ℕ → ℕ → Bool
 walk r zero x y = false
 walk r (suc zero) x y = has r x y
@@ -13,7 +14,8 @@ walk r (suc (suc k)) x y = some_below r.cols (λ z. has r x z && walk r (suc k) 
 unfoldable pub walks_within : ℕ → Relation → Relation
 walks_within m r = relation_of r.rows r.cols (λ x y. some_below m (λ k. walk r (suc k) x y))
 
--- the transitive closure: (x, y) where there is a walk from x to y of at least one step; none needs more steps than there are elements
+-- the transitive closure: (x, y) where there is a walk from x to y of at least one step; none needs more steps than
+-- there are elements
 unfoldable pub transitive_closure : Relation → Relation
 transitive_closure r = walks_within r.rows r
 

@@ -1,4 +1,5 @@
--- Products, sums and power sets of domains, each relation by its membership clause (Schmidt and Ströhlein, Relations and Graphs). The numbering of pairs, sums and subsets is this project's.
+-- Products, sums and power sets of domains, each relation by its membership clause (Schmidt and Ströhlein, Relations
+-- and Graphs). The numbering of pairs, sums and subsets is this project's.
 use Rattle.std.specs.Prelude.{◌≡◌, ◌<◌, ◌≤◌, ◌==◌, ◌&&◌, ◌+◌, ◌-◌, ◌*◌, ◌/◌, ◌%◌, ◌^◌, min, ℕ, Bool, true, Result, IfOk, IfErr, IsErrOf}
 use Rattle.std.specs.Int.{bit_at}
 use Rattle.rel_model.specs.declared.faults.DomainError.{DomainError}
@@ -26,18 +27,22 @@ right_injection x y = relation_of y (x + y) (λ j s. s == x + j)
 unfoldable pub membership : ℕ → Relation
 membership x = relation_of x (2 ^ x) (λ i s. bit_at s i == 1)
 
--- the pairing of two relations of as many rows: (i, j * q + k) where (i, j) is in the first and (i, k) in the second, which has q columns
+-- the pairing of two relations of as many rows: (i, j * q + k) where (i, j) is in the first and (i, k) in the second,
+-- which has q columns
 unfoldable pub pairing : Relation → Relation → Relation
 pairing r s = relation_of r.rows (r.cols * s.cols) (λ i c. has r i (c / s.cols) && has s i (c % s.cols))
 
--- a refusal for its size comes exactly where a size of the result is over the limit, with that size or the last number of 64 bits
+-- a refusal for its size comes exactly where a size of the result is over the limit, with that size or the last
+-- number of 64 bits
 abbrev pub IsOverSize : ℕ → DomainError → Type 0
 IsOverSize wanted (Size w limit) = (size_limit < wanted) × (w ≡ min wanted (2 ^ 64 - 1)) × (limit ≡ size_limit)
 IsOverSize wanted Full = wanted ≤ size_limit
 IsOverSize wanted NoMemory = wanted ≤ size_limit
 
--- a refusal has its cause: the size that is wanted, over the limit, for which no place is looked for, or that of an operator
-pub record HasDomainCause {T : Type 0} (lean : Bool) (wanted : ℕ) (old new : Worker) (result : Result T DomainError) : Type 0 where
+-- a refusal has its cause: the size that is wanted, over the limit, for which no place is looked for, or that of an
+-- operator
+pub record HasDomainCause {T : Type 0} (lean : Bool) (wanted : ℕ) (old new : Worker)
+    (result : Result T DomainError) : Type 0 where
   pub size : IfErr result (IsOverSize wanted)
   pub full : IsErrOf result Full → Rose old.misses new.misses
   pub no_memory : lean ≡ true → IsErrOf result NoMemory → ⊥

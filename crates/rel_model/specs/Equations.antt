@@ -36,7 +36,8 @@ depth_of height = twice (height - bottom_height)
 abbrev pub side_of : ℕ → ℕ
 side_of height = side (height - bottom_height)
 
--- the three names stand at the height, and the set of r is the operator's of the other two; a transposition has no second operand
+-- the three names stand at the height, and the set of r is the operator's of the other two; a transposition has no
+-- second operand
 pub record IsTrueIn (words : List ℕ) (e : Equation) : Type 0 where
   pub low : bottom_height ≤ e.height
   pub high : e.height ≤ top_height
@@ -44,7 +45,8 @@ pub record IsTrueIn (words : List ℕ) (e : Equation) : Type 0 where
   pub b_stands : stands words (depth_of e.height) e.b ≡ true
   pub r_stands : stands words (depth_of e.height) e.r ≡ true
   pub one_operand : e.op ≡ Transpose → e.b ≡ 0
-  pub means : cells words (depth_of e.height) e.r ≡ result_of e.op (side_of e.height) (cells words (depth_of e.height) e.a) (cells words (depth_of e.height) e.b)
+  pub means : cells words (depth_of e.height) e.r ≡ result_of e.op (side_of e.height)
+      (cells words (depth_of e.height) e.a) (cells words (depth_of e.height) e.b)
 
 -- an operator's number in a memo word
 abbrev pub code_of : Operator → ℕ
@@ -90,4 +92,5 @@ memo_word bits words slot = slice_index words (2 ^ bits + slot)
 pub record IsSoundTable (bits : ℕ) (words : List ℕ) : Type 0 where
   pub size : length words ≡ 2 ^ bits + memo_slots
   pub nodes : IsSound (node_words bits words)
-  pub memo : (slot : ℕ) → slot < memo_slots → memo_word bits words slot ≢ 0 → IsMemo (node_words bits words) slot (memo_word bits words slot)
+  pub memo : (slot : ℕ) → slot < memo_slots → memo_word bits words slot ≢ 0
+      → IsMemo (node_words bits words) slot (memo_word bits words slot)

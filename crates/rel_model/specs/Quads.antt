@@ -1,4 +1,5 @@
--- Quads: squares of cells by their names in a table; what a keeper of quads holds, what its calls keep, and how it counts what it missed.
+-- Quads: squares of cells by their names in a table; what a keeper of quads holds, what its calls keep, and how it
+-- counts what it missed.
 use Rattle.std.specs.Prelude.{◌≡◌, ◌≢◌, ◌<◌, ◌≤◌, ◌+◌, ◌-◌, ◌*◌, ◌^◌, min, ℕ, zero, suc, true, Result, Ok, Err}
 use Rattle.rel_model.specs.declared.Quad.{Quad}
 use Rattle.rel_model.specs.Cells.{Cells}
@@ -16,7 +17,8 @@ pub record Keeper : Type 0 where
   -- how often a place for a word was missing
   pub misses : ℕ
 
--- the seat is of the table, the count has 64 bits, and where a place was missing every place is taken, as the view shows
+-- the seat is of the table, the count has 64 bits, and where a place was missing every place is taken, as the view
+-- shows
 pub record IsKeeper (w : Keeper) : Type 0 where
   pub of : IsOf w.view w.table
   pub counted : w.misses < 2 ^ 64
@@ -73,13 +75,16 @@ pub record AreQuarters (old new : Keeper) (q : Quad) (four : Quad × Quad × Qua
   pub ne_height : four.1.height + 1 ≡ q.height
   pub sw_height : four.2.height + 1 ≡ q.height
   pub se_height : four.3.height + 1 ≡ q.height
-  pub means : quad_cells old q ≡ quartered (side_of four.0.height) (quad_cells new four.0) (quad_cells new four.1) (quad_cells new four.2) (quad_cells new four.3)
+  pub means : quad_cells old q ≡ quartered (side_of four.0.height) (quad_cells new four.0) (quad_cells new four.1)
+      (quad_cells new four.2) (quad_cells new four.3)
 
--- how many words an operator on squares of a height places at most: 1 for a block, and above it those of four results and 3 for their corner
+-- how many words an operator on squares of a height places at most: 1 for a block, and above it those of four results
+-- and 3 for their corner
 abbrev pub quad_room : ℕ → ℕ
 quad_room height = 2 * 4 ^ (height - bottom_height) - 1
 
--- how many words a composition places at most, so many quarterings above the blocks: 1 for a block, and above it those of eight products and four unions of the quarters, and 3 for their corner
+-- how many words a composition places at most, so many quarterings above the blocks: 1 for a block, and above it
+-- those of eight products and four unions of the quarters, and 3 for their corner
 abbrev pub composed_words : ℕ → ℕ
 composed_words zero = 1
 composed_words (suc d) = 8 * composed_words d + 4 * (2 * 4 ^ d - 1) + 3

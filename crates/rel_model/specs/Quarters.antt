@@ -20,4 +20,5 @@ pub record GivesQuarters (old new : Worker) (quad : Quad) (four : Quad × Quad �
   pub ne_height : four.1.height + 1 ≡ quad.height
   pub sw_height : four.2.height + 1 ≡ quad.height
   pub se_height : four.3.height + 1 ≡ quad.height
-  pub means : quad_set old quad ≡ quartered (2 ^ four.0.height) (quad_set new four.0) (quad_set new four.1) (quad_set new four.2) (quad_set new four.3)
+  pub means : quad_set old quad ≡ quartered (2 ^ four.0.height) (quad_set new four.0) (quad_set new four.1)
+      (quad_set new four.2) (quad_set new four.3)

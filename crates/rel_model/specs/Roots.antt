@@ -1,4 +1,5 @@
--- Relations by their roots in the words of a table (the k²-trees of Brisaboa, Ladra and Navarro, with k = 2, that end in blocks of 8 by 8).
+-- Relations by their roots in the words of a table (the k²-trees of Brisaboa, Ladra and Navarro, with k = 2, that end
+-- in blocks of 8 by 8).
 use Rattle.std.specs.Prelude.{◌≡◌, ◌&&◌, ◌↔◌, ◌-◌, ◌*◌, ◌^◌, not, nat_lt, nat_le, max, cond, ℕ, Bool, List, Option, Some, None}
 use Rattle.rel_model.specs.declared.Rel.{Rel}
 use Rattle.rel_model.specs.Relation.{Relation, relation_of, size_limit}
@@ -7,7 +8,8 @@ use Rattle.rel_model.specs.Trees.{bottom_height, cells, stands}
 use Rattle.rel_model.specs.Equations.{depth_of, side_of}
 use Rattle.rel_model.specs.Worker.{height_of}
 
--- the height of the tree of a relation over leaves of a height: the least from theirs on whose side is at least both sizes
+-- the height of the tree of a relation over leaves of a height: the least from theirs on whose side is at least both
+-- sizes
 unfoldable pub height_over : ℕ → ℕ → ℕ → ℕ
 height_over least rows cols = max least (max (height_of rows) (height_of cols))
 
@@ -15,7 +17,8 @@ height_over least rows cols = max least (max (height_of rows) (height_of cols))
 abbrev pub tree_height : ℕ → ℕ → ℕ
 tree_height rows cols = height_over bottom_height rows cols
 
--- how many nodes a tree has at most, so many quarterings above the leaves: 1 for a leaf, and above it those of four quarters and 3 for their corner
+-- how many nodes a tree has at most, so many quarterings above the leaves: 1 for a leaf, and above it those of four
+-- quarters and 3 for their corner
 abbrev pub tree_room : ℕ → ℕ
 tree_room depth = 2 * 4 ^ depth - 1
 
@@ -31,11 +34,13 @@ lies_within m rows cols f = not (some_below m (λ i. some_below m (λ j. f i j &
 abbrev pub root_cells : List ℕ → Rel → Cells
 root_cells words rel = cells words (depth_of (tree_height rel.rows rel.cols)) rel.root
 
--- whether a relation stands in the words: its sizes are within the limit, its root stands at the depth of its height, and has no cell outside its sizes
+-- whether a relation stands in the words: its sizes are within the limit, its root stands at the depth of its height,
+-- and has no cell outside its sizes
 unfoldable pub stands_in : List ℕ → Rel → Bool
 stands_in words rel =
     (nat_le rel.rows size_limit && nat_le rel.cols size_limit)
-    && (stands words (depth_of (tree_height rel.rows rel.cols)) rel.root && lies_within (side_of (tree_height rel.rows rel.cols)) rel.rows rel.cols (root_cells words rel))
+    && (stands words (depth_of (tree_height rel.rows rel.cols)) rel.root
+        && lies_within (side_of (tree_height rel.rows rel.cols)) rel.rows rel.cols (root_cells words rel))
 
 -- the relation that the words give, where it stands
 unfoldable pub relation_in : List ℕ → Rel → Option Relation
@@ -43,4 +48,5 @@ relation_in words rel = cond (stands_in words rel) (Some (relation_of rel.rows r
 
 -- of two relations of one type that stand in the words, the roots are equal exactly if the relations are
 abbrev pub HasOneRootEach : List ℕ → Type 0
-HasOneRootEach words = (a b : Rel) (r s : Relation) → a.rows ≡ b.rows → a.cols ≡ b.cols → relation_in words a ≡ Some r → relation_in words b ≡ Some s → (a.root ≡ b.root) ↔ (r ≡ s)
+HasOneRootEach words = (a b : Rel) (r s : Relation) → a.rows ≡ b.rows → a.cols ≡ b.cols → relation_in words a ≡ Some r
+    → relation_in words b ≡ Some s → (a.root ≡ b.root) ↔ (r ≡ s)

@@ -13,7 +13,8 @@ pub record Holds (old new : Worker) : Type 0 where
 abbrev pub Kin : Worker → Worker → Type 0
 Kin a b = a.house ≡ b.house
 
--- a second worker is split off: all that stood stands in both; it has missed and made nothing, and has so many spare workers; the first loses these and one
+-- a second worker is split off: all that stood stands in both; it has missed and made nothing, and has so many spare
+-- workers; the first loses these and one
 pub record SplitsWorker (spare : ℕ) (old new second : Worker) : Type 0 where
   pub holds : Holds old new
   pub second_holds : Holds old second
@@ -27,7 +28,8 @@ pub record SplitsWorker (spare : ℕ) (old new second : Worker) : Type 0 where
   pub spares : new.spare + spare + 1 ≡ old.spare
   pub second_spare : second.spare ≡ spare
 
--- two workers become one: all that stood in either stands there; it counts what both missed, up to the last value of the count, and what both made, and has the spare workers of both and one more
+-- two workers become one: all that stood in either stands there; it counts what both missed, up to the last value of
+-- the count, and what both made, and has the spare workers of both and one more
 pub record JoinsWorker (old other new : Worker) : Type 0 where
   pub holds : Holds old new
   pub other_holds : Holds other new

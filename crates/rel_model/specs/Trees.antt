@@ -1,5 +1,6 @@
 -- Trees in the words of a table. A name is a place in the list of words, and a word that is 0 is vacant.
--- The depth of a level is how many pairings it stands above the blocks of 8 by 8: level l of the trees is depth l - 6, and a square of side 2 ^ h is at depth 2 * (h - 3).
+-- The depth of a level is how many pairings it stands above the blocks of 8 by 8: level l of the trees is depth l -
+-- 6, and a square of side 2 ^ h is at depth 2 * (h - 3).
 use Rattle.std.specs.Prelude.{◌==◌, ◌+◌, ◌-◌, ◌/◌, ◌%◌, ◌^◌, ◌&&◌, ◌||◌, not, nat_lt, cond, zero, suc, ℕ, Bool, true, List, slice_index}
 use Rattle.rel_model.specs.Cells.{Cells, block_cells}
 
@@ -49,16 +50,19 @@ paired k f g = cond (is_square k) (beside (cols_at k) f g) (above (rows_at k) f 
 -- the cells of a name at a depth: the bits of its word, or the pairing of the cells of its two names
 abbrev pub cells : List ℕ → ℕ → ℕ → Cells
 cells words zero n = block_cells (slice_index words n)
-cells words (suc k) n = paired k (cells words k (first_of (slice_index words n))) (cells words k (second_of (slice_index words n)))
+cells words (suc k) n = paired k (cells words k (first_of (slice_index words n)))
+    (cells words k (second_of (slice_index words n)))
 
 -- whether a name has a word
 abbrev pub is_stored : List ℕ → ℕ → Bool
 is_stored words n = not (slice_index words n == 0)
 
--- whether a name stands at a depth: name 0 does, a stored name does at depth 0, and a stored name does whose two names stand at the depth below
+-- whether a name stands at a depth: name 0 does, a stored name does at depth 0, and a stored name does whose two
+-- names stand at the depth below
 abbrev pub stands : List ℕ → ℕ → ℕ → Bool
 stands words zero n = (n == 0) || is_stored words n
-stands words (suc k) n = (n == 0) || (is_stored words n && (stands words k (first_of (slice_index words n)) && stands words k (second_of (slice_index words n))))
+stands words (suc k) n = (n == 0) || (is_stored words n
+    && (stands words k (first_of (slice_index words n)) && stands words k (second_of (slice_index words n))))
 
 -- the depth of a square of side 8 * 2 ^ d
 abbrev pub twice : ℕ → ℕ
@@ -72,4 +76,5 @@ side (suc d) = side d + side d
 
 -- four sets of side m as one
 abbrev pub quartered : ℕ → Cells → Cells → Cells → Cells → Cells
-quartered m nw ne sw se i j = cond (nat_lt i m) (cond (nat_lt j m) (nw i j) (ne i (j - m))) (cond (nat_lt j m) (sw (i - m) j) (se (i - m) (j - m)))
+quartered m nw ne sw se i j = cond (nat_lt i m) (cond (nat_lt j m) (nw i j) (ne i (j - m)))
+    (cond (nat_lt j m) (sw (i - m) j) (se (i - m) (j - m)))

@@ -74,7 +74,8 @@ pub record IsPlacedNow {E : Type 0} (old new : View) (word : ℕ) (result : Resu
   pub absent : (n : ℕ) → slice_index old.words n ≢ word
   pub answered : IsOk result
 
--- a word is interned: the answer is its one name, and there is none exactly where every place holds another word; none was made unless the word was placed
+-- a word is interned: the answer is its one name, and there is none exactly where every place holds another word;
+-- none was made unless the word was placed
 pub record Interns {E : Type 0} (old new : View) (word : ℕ) (result : Result ℕ E) : Type 0 where
   pub named : IfOk result (λ n. (2 ≤ n) × (slice_index new.words n ≡ word))
   pub missed : IsErr result → IsFullOfOthers new.words word

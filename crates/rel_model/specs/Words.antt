@@ -1,4 +1,5 @@
--- The node words of a table. A name is a place in a list of words, 0 stands for no word, and places 0 and 1 stay vacant.
+-- The node words of a table. A name is a place in a list of words, 0 stands for no word, and places 0 and 1 stay
+-- vacant.
 use Rattle.std.specs.Prelude.{◌≡◌, ◌≢◌, ◌<◌, ◌≤◌, ◌+◌, ◌-◌, ◌*◌, ◌%◌, ◌^◌, ℕ, List, [], ◌∷◌, ◌==◌, if◌then◌else◌, slice_index, length}
 use Rattle.rel_model.specs.Trees.{first_of, second_of}
 
@@ -51,7 +52,8 @@ pub record IsSound (words : List ℕ) : Type 0 where
 
 -- every place from 2 on holds another word
 abbrev pub IsFullOfOthers : List ℕ → ℕ → Type 0
-IsFullOfOthers words word = (n : ℕ) → 2 ≤ n → n < length words → (slice_index words n ≢ 0) × (slice_index words n ≢ word)
+IsFullOfOthers words word = (n : ℕ) → 2 ≤ n → n < length words
+    → (slice_index words n ≢ 0) × (slice_index words n ≢ word)
 
 -- every place from 2 on is taken
 abbrev pub IsFull : List ℕ → Type 0

@@ -1,6 +1,7 @@
 //! All operations of the language on relations, over whatever keeps them.
 //!
-//! Every call keeps all relations and quads that stood, with the same sets, makes at most its room of nodes, and refuses only for its named cause.
+//! Every call keeps all relations and quads that stood, with the same sets, makes at most its room of nodes, and
+//! refuses only for its named cause.
 ghost use Rattle.std.specs.Prelude.{◌≡◌, ◌<◌, ◌≤◌, ◌+◌, ◌-◌, ◌*◌, ◌^◌, max, length, IfOk, OnErr, IsErrOf, IfSome, true, false};
 ghost use Rattle.rel_model.specs.declared.Lack.TheVariants.{NoMemory as NO_MEMORY};
 ghost use Rattle.rel_model.specs.Relation.{has, relation_of, size_limit};
@@ -24,7 +25,8 @@ pub trait Engine: Seated {
         requires left { Stands (Self.worker self.old) r }
         requires right { Stands (Self.worker self.old) s }
         requires rows { r.rows ≡ s.rows }
-        ensures value { IfOk result (Gives (Self.worker self.new) r.cols s.cols (right_residual (set_of (Self.worker self.old) r) (set_of (Self.worker self.old) s))) }
+        ensures value { IfOk result (Gives (Self.worker self.new) r.cols s.cols
+            (right_residual (set_of (Self.worker self.old) r) (set_of (Self.worker self.old) s))) }
         ensures keeps { Keeps (Self.worker self.old) (Self.worker self.new) }
         ensures room { MakesAtMost (derived_room r.rows r.cols s.cols) (Self.worker self.old) (Self.worker self.new) }
         ensures cause { HasCause Self.lean (Self.worker self.old) (Self.worker self.new) result };
@@ -34,17 +36,20 @@ pub trait Engine: Seated {
         requires left { Stands (Self.worker self.old) s }
         requires right { Stands (Self.worker self.old) r }
         requires cols { s.cols ≡ r.cols }
-        ensures value { IfOk result (Gives (Self.worker self.new) s.rows r.rows (left_residual (set_of (Self.worker self.old) s) (set_of (Self.worker self.old) r))) }
+        ensures value { IfOk result (Gives (Self.worker self.new) s.rows r.rows
+            (left_residual (set_of (Self.worker self.old) s) (set_of (Self.worker self.old) r))) }
         ensures keeps { Keeps (Self.worker self.old) (Self.worker self.new) }
         ensures room { MakesAtMost (derived_room s.rows s.cols r.rows) (Self.worker self.old) (Self.worker self.new) }
         ensures cause { HasCause Self.lean (Self.worker self.old) (Self.worker self.new) result };
 
-    /// `syq(R,S) = {(j, k) : (i, j) in r exactly if (i, k) in s, for all i}`: the symmetric quotient, of m × n and m × p.
+    /// `syq(R,S) = {(j, k) : (i, j) in r exactly if (i, k) in s, for all i}`: the symmetric quotient, of m × n and m
+    /// × p.
     fn syq(&mut self, r: Rel, s: Rel) -> Result<Rel, Lack>
         requires left { Stands (Self.worker self.old) r }
         requires right { Stands (Self.worker self.old) s }
         requires rows { r.rows ≡ s.rows }
-        ensures value { IfOk result (Gives (Self.worker self.new) r.cols s.cols (symmetric_quotient (set_of (Self.worker self.old) r) (set_of (Self.worker self.old) s))) }
+        ensures value { IfOk result (Gives (Self.worker self.new) r.cols s.cols
+            (symmetric_quotient (set_of (Self.worker self.old) r) (set_of (Self.worker self.old) s))) }
         ensures keeps { Keeps (Self.worker self.old) (Self.worker self.new) }
         ensures room { MakesAtMost (wide_room r.rows r.cols s.cols) (Self.worker self.old) (Self.worker self.new) }
         ensures cause { HasCause Self.lean (Self.worker self.old) (Self.worker self.new) result };
@@ -53,7 +58,8 @@ pub trait Engine: Seated {
     fn trans(&mut self, r: Rel) -> Result<Rel, Lack>
         requires standing { Stands (Self.worker self.old) r }
         requires square { r.rows ≡ r.cols }
-        ensures value { IfOk result (Gives (Self.worker self.new) r.rows r.cols (transitive_closure (set_of (Self.worker self.old) r))) }
+        ensures value { IfOk result (Gives (Self.worker self.new) r.rows r.cols
+            (transitive_closure (set_of (Self.worker self.old) r))) }
         ensures keeps { Keeps (Self.worker self.old) (Self.worker self.new) }
         ensures room { MakesAtMost (derived_room r.rows r.rows r.rows) (Self.worker self.old) (Self.worker self.new) }
         ensures nothing { r.rows ≤ 1 → MakesAtMost 0 (Self.worker self.old) (Self.worker self.new) }
@@ -63,10 +69,12 @@ pub trait Engine: Seated {
     fn refl(&mut self, r: Rel) -> Result<Rel, Lack>
         requires standing { Stands (Self.worker self.old) r }
         requires square { r.rows ≡ r.cols }
-        ensures value { IfOk result (Gives (Self.worker self.new) r.rows r.cols (reflexive_closure (set_of (Self.worker self.old) r))) }
+        ensures value { IfOk result (Gives (Self.worker self.new) r.rows r.cols
+            (reflexive_closure (set_of (Self.worker self.old) r))) }
         ensures keeps { Keeps (Self.worker self.old) (Self.worker self.new) }
         ensures room { MakesAtMost (wide_room r.rows r.rows r.rows) (Self.worker self.old) (Self.worker self.new) }
-        ensures few { MakesAtMost (relation_room Self.least r.rows r.rows + operator_room r.rows r.cols) (Self.worker self.old) (Self.worker self.new) }
+        ensures few { MakesAtMost (relation_room Self.least r.rows r.rows + operator_room r.rows r.cols)
+            (Self.worker self.old) (Self.worker self.new) }
         ensures cause { HasCause Self.lean (Self.worker self.old) (Self.worker self.new) result };
 
     /// `I = {(i, i)}`: the identity of n elements.
@@ -78,7 +86,8 @@ pub trait Engine: Seated {
         ensures tree { MakesAtMost (relation_room Self.least n n) (Self.worker self.old) (Self.worker self.new) }
         ensures cause { HasCause Self.lean (Self.worker self.old) (Self.worker self.new) result };
 
-    /// `{(i * y + j, i)}`: the projection of a product to its first factor. It is refused where the product is over the limit.
+    /// `{(i * y + j, i)}`: the projection of a product to its first factor. It is refused where the product is over
+    /// the limit.
     fn first(&mut self, x: u32, y: u32) -> Result<Rel, DomainError>
         requires x_limit { x ≤ size_limit }
         requires y_limit { y ≤ size_limit }
@@ -89,7 +98,8 @@ pub trait Engine: Seated {
         ensures nothing { size_limit < x * y → MakesAtMost 0 (Self.worker self.old) (Self.worker self.new) }
         ensures cause { HasDomainCause Self.lean (x * y) (Self.worker self.old) (Self.worker self.new) result };
 
-    /// `{(i * y + j, j)}`: the projection of a product to its second factor. It is refused where the product is over the limit.
+    /// `{(i * y + j, j)}`: the projection of a product to its second factor. It is refused where the product is over
+    /// the limit.
     fn second(&mut self, x: u32, y: u32) -> Result<Rel, DomainError>
         requires x_limit { x ≤ size_limit }
         requires y_limit { y ≤ size_limit }
@@ -122,7 +132,8 @@ pub trait Engine: Seated {
         ensures nothing { size_limit < x + y → MakesAtMost 0 (Self.worker self.old) (Self.worker self.new) }
         ensures cause { HasDomainCause Self.lean (x + y) (Self.worker self.old) (Self.worker self.new) result };
 
-    /// `{(i, s) : bit i of s is 1}`: membership of elements in subsets, of x rows and 2 ^ x columns. It is refused where 2 ^ x is over the limit.
+    /// `{(i, s) : bit i of s is 1}`: membership of elements in subsets, of x rows and 2 ^ x columns. It is refused
+    /// where 2 ^ x is over the limit.
     fn epsi(&mut self, x: u32) -> Result<Rel, DomainError>
         requires { x ≤ size_limit }
         ensures value { IfOk result (Gives (Self.worker self.new) x (2 ^ x) (membership x)) }
@@ -132,54 +143,71 @@ pub trait Engine: Seated {
         ensures nothing { size_limit < 2 ^ x → MakesAtMost 0 (Self.worker self.old) (Self.worker self.new) }
         ensures cause { HasDomainCause Self.lean (2 ^ x) (Self.worker self.old) (Self.worker self.new) result };
 
-    /// `[R,S] = {(i, j * n + k) : (i, j) in r and (i, k) in s}`: the pairing of two relations of as many rows, where s has n columns. It is refused where its columns are over the limit.
+    /// `[R,S] = {(i, j * n + k) : (i, j) in r and (i, k) in s}`: the pairing of two relations of as many rows, where
+    /// s has n columns. It is refused where its columns are over the limit.
     fn fork(&mut self, r: Rel, s: Rel) -> Result<Rel, DomainError>
         requires left { Stands (Self.worker self.old) r }
         requires right { Stands (Self.worker self.old) s }
         requires rows { r.rows ≡ s.rows }
-        ensures value { IfOk result (Gives (Self.worker self.new) r.rows (r.cols * s.cols) (pairing (set_of (Self.worker self.old) r) (set_of (Self.worker self.old) s))) }
+        ensures value { IfOk result (Gives (Self.worker self.new) r.rows (r.cols * s.cols)
+            (pairing (set_of (Self.worker self.old) r) (set_of (Self.worker self.old) s))) }
         ensures keeps { Keeps (Self.worker self.old) (Self.worker self.new) }
-        ensures room { MakesAtMost (wide_room r.rows (max r.cols s.cols) (r.cols * s.cols)) (Self.worker self.old) (Self.worker self.new) }
+        ensures room { MakesAtMost (wide_room r.rows (max r.cols s.cols) (r.cols * s.cols)) (Self.worker self.old)
+            (Self.worker self.new) }
         ensures nothing { size_limit < r.cols * s.cols → MakesAtMost 0 (Self.worker self.old) (Self.worker self.new) }
-        ensures cause { HasDomainCause Self.lean (r.cols * s.cols) (Self.worker self.old) (Self.worker self.new) result };
+        ensures cause { HasDomainCause Self.lean (r.cols * s.cols) (Self.worker self.old) (Self.worker self.new)
+            result };
 
     /// The elements of a vector in order: row r has the element of v that r elements precede.
     fn inj(&mut self, v: Rel) -> Result<Rel, Lack>
         requires stands { Stands (Self.worker self.old) v }
         requires one_column { v.cols ≡ 1 }
-        ensures value { IfOk result (Gives (Self.worker self.new) (count_below v.rows (holds (set_of (Self.worker self.old) v))) v.rows (inj_of (set_of (Self.worker self.old) v))) }
+        ensures value { IfOk result (Gives (Self.worker self.new)
+            (count_below v.rows (holds (set_of (Self.worker self.old) v))) v.rows
+            (inj_of (set_of (Self.worker self.old) v))) }
         ensures keeps { Keeps (Self.worker self.old) (Self.worker self.new) }
         ensures room { MakesAtMost (derived_room v.rows v.cols v.cols) (Self.worker self.old) (Self.worker self.new) }
-        ensures tree { MakesAtMost (relation_room Self.least v.rows v.cols) (Self.worker self.old) (Self.worker self.new) }
+        ensures tree { MakesAtMost (relation_room Self.least v.rows v.cols) (Self.worker self.old)
+            (Self.worker self.new) }
         ensures cause { HasCause Self.lean (Self.worker self.old) (Self.worker self.new) result };
 
-    /// `{p : p in pairs}`: the relation of listed pairs, in any order, repeats allowed. It sorts, so memory may run out even where the worker is lean.
+    /// `{p : p in pairs}`: the relation of listed pairs, in any order, repeats allowed. It sorts, so memory may run
+    /// out even where the worker is lean.
     fn from_pairs(&mut self, alloc: Global, shape: Shape, pairs: &[(u32, u32)]) -> Result<Rel, Lack>
         requires row_limit { shape.rows ≤ size_limit }
         requires col_limit { shape.cols ≤ size_limit }
         requires within { AreWithin shape.rows shape.cols pairs.now }
-        ensures value { IfOk result (Gives (Self.worker self.new) shape.rows shape.cols (relation_of shape.rows shape.cols (is_among pairs.now))) }
+        ensures value { IfOk result (Gives (Self.worker self.new) shape.rows shape.cols
+            (relation_of shape.rows shape.cols (is_among pairs.now))) }
         ensures keeps { Keeps (Self.worker self.old) (Self.worker self.new) }
-        ensures room { MakesAtMost (pairs_room (length pairs.now) shape.rows shape.cols) (Self.worker self.old) (Self.worker self.new) }
-        ensures few { MakesAtMost (listed_room (length pairs.now) (height_over Self.least shape.rows shape.cols - Self.least)) (Self.worker self.old) (Self.worker self.new) }
+        ensures room { MakesAtMost (pairs_room (length pairs.now) shape.rows shape.cols) (Self.worker self.old)
+            (Self.worker self.new) }
+        ensures few { MakesAtMost (listed_room (length pairs.now)
+            (height_over Self.least shape.rows shape.cols - Self.least)) (Self.worker self.old)
+            (Self.worker self.new) }
         ensures cause { HasCause false (Self.worker self.old) (Self.worker self.new) result }
         ensures some { OnErr result (0 < length pairs.now) }
-        ensures untouched { Self.lean ≡ true → IsErrOf result NO_MEMORY → MakesAtMost 0 (Self.worker self.old) (Self.worker self.new) };
+        ensures untouched { Self.lean ≡ true → IsErrOf result NO_MEMORY
+            → MakesAtMost 0 (Self.worker self.old) (Self.worker self.new) };
 
-    /// `{(i, 0) : i is the least element of v}`: a point of a vector that has an element, and the empty vector of one that has none.
+    /// `{(i, 0) : i is the least element of v}`: a point of a vector that has an element, and the empty vector of one
+    /// that has none.
     fn point(&mut self, v: Rel) -> Result<Rel, Lack>
         requires stands { Stands (Self.worker self.old) v }
         requires column { v.cols ≡ 1 }
-        ensures value { IfOk result (Gives (Self.worker self.new) v.rows 1 (point_of (set_of (Self.worker self.old) v))) }
+        ensures value { IfOk result (Gives (Self.worker self.new) v.rows 1
+            (point_of (set_of (Self.worker self.old) v))) }
         ensures keeps { Keeps (Self.worker self.old) (Self.worker self.new) }
         ensures room { MakesAtMost (derived_room v.rows 1 1) (Self.worker self.old) (Self.worker self.new) }
         ensures few { MakesAtMost (operator_room v.rows 1) (Self.worker self.old) (Self.worker self.new) }
         ensures cause { HasCause Self.lean (Self.worker self.old) (Self.worker self.new) result };
 
-    /// `{(i, j) : (i, j) is the least pair of r by row and then by column}`, and the empty relation of one that has none.
+    /// `{(i, j) : (i, j) is the least pair of r by row and then by column}`, and the empty relation of one that has
+    /// none.
     fn atom(&mut self, r: Rel) -> Result<Rel, Lack>
         requires { Stands (Self.worker self.old) r }
-        ensures value { IfOk result (Gives (Self.worker self.new) r.rows r.cols (atom_of (set_of (Self.worker self.old) r))) }
+        ensures value { IfOk result (Gives (Self.worker self.new) r.rows r.cols
+            (atom_of (set_of (Self.worker self.old) r))) }
         ensures keeps { Keeps (Self.worker self.old) (Self.worker self.new) }
         ensures room { MakesAtMost (derived_room r.rows r.cols 1) (Self.worker self.old) (Self.worker self.new) }
         ensures few { MakesAtMost (operator_room r.rows r.cols) (Self.worker self.old) (Self.worker self.new) }
@@ -189,7 +217,8 @@ pub trait Engine: Seated {
     fn init(&mut self, v: Rel) -> Result<Rel, Lack>
         requires stands { Stands (Self.worker self.old) v }
         requires column { v.cols ≡ 1 }
-        ensures value { IfOk result (Gives (Self.worker self.new) v.rows 1 (init_of (set_of (Self.worker self.old) v))) }
+        ensures value { IfOk result (Gives (Self.worker self.new) v.rows 1
+            (init_of (set_of (Self.worker self.old) v))) }
         ensures keeps { Keeps (Self.worker self.old) (Self.worker self.new) }
         ensures room { MakesAtMost (derived_room v.rows 1 1) (Self.worker self.old) (Self.worker self.new) }
         ensures few { MakesAtMost (operator_room v.rows 1) (Self.worker self.old) (Self.worker self.new) }
@@ -199,7 +228,8 @@ pub trait Engine: Seated {
     fn next(&mut self, v: Rel) -> Result<Rel, Lack>
         requires stands { Stands (Self.worker self.old) v }
         requires column { v.cols ≡ 1 }
-        ensures value { IfOk result (Gives (Self.worker self.new) v.rows 1 (next_of (set_of (Self.worker self.old) v))) }
+        ensures value { IfOk result (Gives (Self.worker self.new) v.rows 1
+            (next_of (set_of (Self.worker self.old) v))) }
         ensures keeps { Keeps (Self.worker self.old) (Self.worker self.new) }
         ensures room { MakesAtMost (derived_room v.rows 1 1) (Self.worker self.old) (Self.worker self.new) }
         ensures cause { HasCause Self.lean (Self.worker self.old) (Self.worker self.new) result };

@@ -1,6 +1,7 @@
 //! Relations as trees of quadrants, over whatever keeps them (Brisaboa, Ladra and Navarro, for k²-trees with k = 2).
 //!
-//! Every call keeps all relations and quads that stood, with the same sets, makes at most its room of nodes, and refuses only for its named cause.
+//! Every call keeps all relations and quads that stood, with the same sets, makes at most its room of nodes, and
+//! refuses only for its named cause.
 ghost use Rattle.std.specs.Prelude.{◌≡◌, ◌<◌, ◌≤◌, ◌+◌, ◌-◌, ◌*◌, ◌^◌, ℕ, Some, IfOk};
 ghost use Rattle.rel_model.specs.declared.Quad.{Quad};
 ghost use Rattle.rel_model.specs.Relation.{Relation, has, relation_of, size_limit};
@@ -19,10 +20,12 @@ pub trait Quads: Core {
     fn bottom(&self) -> u8
         ensures { result ≡ Self.least };
 
-    /// The quad of a relation: its cells are the relation's pairs, and its height is the least from the leaves' on whose side is at least both sizes.
+    /// The quad of a relation: its cells are the relation's pairs, and its height is the least from the leaves' on
+    /// whose side is at least both sizes.
     fn root(&self, r: Rel) -> Quad
         requires { Stands (Self.worker self.now) r }
-        ensures { GivesQuad (Self.worker self.now) (height_over Self.least r.rows r.cols) (has (set_of (Self.worker self.now) r)) result };
+        ensures { GivesQuad (Self.worker self.now) (height_over Self.least r.rows r.cols)
+            (has (set_of (Self.worker self.now) r)) result };
 
     /// `{(i, j) : cell (i, j) is in q}`: the relation of these sizes, within which all cells of `q` lie.
     fn rel(&self, shape: Shape, q: Quad) -> Rel
@@ -31,7 +34,8 @@ pub trait Quads: Core {
         requires stands { HasQuad (Self.worker self.now) q }
         requires height { q.height ≡ height_over Self.least shape.rows shape.cols }
         requires within { LiesWithin shape.rows shape.cols (quad_set (Self.worker self.now) q) }
-        ensures { Gives (Self.worker self.now) shape.rows shape.cols (relation_of shape.rows shape.cols (quad_set (Self.worker self.now) q)) result };
+        ensures { Gives (Self.worker self.now) shape.rows shape.cols
+            (relation_of shape.rows shape.cols (quad_set (Self.worker self.now) q)) result };
 
     /// The quarters of a quad over the leaves: north-west, north-east, south-west and south-east.
     fn quarters(&mut self, q: Quad) -> (Quad, Quad, Quad, Quad)
@@ -52,8 +56,12 @@ pub trait Quads: Core {
         requires sw_height { sw.height ≡ nw.height }
         requires se_height { se.height ≡ nw.height }
         requires below { nw.height < top_height }
-        ensures value { IfOk result (GivesQuad (Self.worker self.new) (nw.height + 1) (quartered (2 ^ nw.height) (quad_set (Self.worker self.old) nw) (quad_set (Self.worker self.old) ne) (quad_set (Self.worker self.old) sw) (quad_set (Self.worker self.old) se))) }
-        ensures stood { FindsQuad Self.lean (Self.worker self.old) (Self.worker self.new) (nw.height + 1) (quartered (2 ^ nw.height) (quad_set (Self.worker self.old) nw) (quad_set (Self.worker self.old) ne) (quad_set (Self.worker self.old) sw) (quad_set (Self.worker self.old) se)) result }
+        ensures value { IfOk result (GivesQuad (Self.worker self.new) (nw.height + 1)
+            (quartered (2 ^ nw.height) (quad_set (Self.worker self.old) nw) (quad_set (Self.worker self.old) ne)
+            (quad_set (Self.worker self.old) sw) (quad_set (Self.worker self.old) se))) }
+        ensures stood { FindsQuad Self.lean (Self.worker self.old) (Self.worker self.new) (nw.height + 1)
+            (quartered (2 ^ nw.height) (quad_set (Self.worker self.old) nw) (quad_set (Self.worker self.old) ne)
+            (quad_set (Self.worker self.old) sw) (quad_set (Self.worker self.old) se)) result }
         ensures keeps { Keeps (Self.worker self.old) (Self.worker self.new) }
         ensures room { MakesAtMost 3 (Self.worker self.old) (Self.worker self.new) }
         ensures cause { HasCause Self.lean (Self.worker self.old) (Self.worker self.new) result };
@@ -72,7 +80,8 @@ pub trait Quads: Core {
     fn block(&mut self, bits: u64) -> Result<Quad, Lack>
         requires none_past { bits < 2 ^ (2 ^ Self.least * 2 ^ Self.least) }
         ensures value { IfOk result (GivesQuad (Self.worker self.new) Self.least (bits_cells (2 ^ Self.least) bits)) }
-        ensures stood { FindsQuad Self.lean (Self.worker self.old) (Self.worker self.new) Self.least (bits_cells (2 ^ Self.least) bits) result }
+        ensures stood { FindsQuad Self.lean (Self.worker self.old) (Self.worker self.new) Self.least
+            (bits_cells (2 ^ Self.least) bits) result }
         ensures keeps { Keeps (Self.worker self.old) (Self.worker self.new) }
         ensures room { MakesAtMost 1 (Self.worker self.old) (Self.worker self.new) }
         ensures cause { HasCause Self.lean (Self.worker self.old) (Self.worker self.new) result };
@@ -84,7 +93,8 @@ pub trait Quads: Core {
         requires row { rows ≤ 2 ^ height }
         requires col { cols ≤ 2 ^ height }
         ensures value { IfOk result (GivesQuad (Self.worker self.new) height (cells_rect rows cols)) }
-        ensures stood { FindsQuad Self.lean (Self.worker self.old) (Self.worker self.new) height (cells_rect rows cols) result }
+        ensures stood { FindsQuad Self.lean (Self.worker self.old) (Self.worker self.new) height
+            (cells_rect rows cols) result }
         ensures keeps { Keeps (Self.worker self.old) (Self.worker self.new) }
         ensures room { MakesAtMost (tree_room (height - Self.least)) (Self.worker self.old) (Self.worker self.new) }
         ensures cause { HasCause Self.lean (Self.worker self.old) (Self.worker self.new) result };

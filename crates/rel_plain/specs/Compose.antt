@@ -12,4 +12,5 @@ pub record IsComposed (left right composed : List (ℕ × ℕ)) : Type 0 where
   -- in order
   pub increasing : IsIncreasing composed
   -- (i, k) is in it exactly where some (i, j) is in the first and (j, k) in the second
-  pub members : (i k : ℕ) → list_any (λ p. (p.0 == i) && (p.1 == k)) composed ≡ list_any (λ p. (p.0 == i) && list_any (λ q. (q.0 == p.1) && (q.1 == k)) right) left
+  pub members : (i k : ℕ) → list_any (λ p. (p.0 == i) && (p.1 == k)) composed
+      ≡ list_any (λ p. (p.0 == i) && list_any (λ q. (q.0 == p.1) && (q.1 == k)) right) left

@@ -15,7 +15,8 @@ pub record IsKept (k : Relation) : Type 0 where
 
 -- what is kept, as a relation of these sizes; none where its sizes are others, or past the limit
 abbrev pub kept_as : Rel → Relation → Option Relation
-kept_as r k = cond ((k.rows == r.rows) && (k.cols == r.cols) && nat_le r.rows size_limit && nat_le r.cols size_limit) (Some (relation_of r.rows r.cols (has k))) None
+kept_as r k = cond ((k.rows == r.rows) && (k.cols == r.cols) && nat_le r.rows size_limit && nat_le r.cols size_limit)
+    (Some (relation_of r.rows r.cols (has k))) None
 
 -- a relation stands where its root is the place of a kept one of its sizes
 unfoldable pub relation_at : List Relation → Rel → Option Relation

@@ -23,7 +23,9 @@ pub standing : (ks : List Relation) (r : Rel) → Stands (worker_of ks) r → St
 unfolding relation_at
 standing ks r h = by_place (slice_get ks r.root) refl h
   where
-    by_test : (k : Relation) → slice_get ks r.root ≡ Some k → (b : Bool) → ((eqb k.rows r.rows && eqb k.cols r.cols) && leb r.rows size_limit) && leb r.cols size_limit ≡ b → IsSome (cond b (Some (relation_of r.rows r.cols (has k))) None) → Standing ks r
+    by_test : (k : Relation) → slice_get ks r.root ≡ Some k → (b : Bool)
+        → ((eqb k.rows r.rows && eqb k.cols r.cols) && leb r.rows size_limit) && leb r.cols size_limit ≡ b
+        → IsSome (cond b (Some (relation_of r.rows r.cols (has k))) None) → Standing ks r
     by_test k at true e s =
         let a = and_parts _ _ e in
         let b = and_parts _ _ a.0 in
@@ -35,7 +37,8 @@ standing ks r h = by_place (slice_get ks r.root) refl h
           cols = eqb-true _ _ c.1;
           row_limit = leb-true r.rows size_limit b.1;
           col_limit = leb-true r.cols size_limit a.1;
-          means = ap (option_and_then (kept_as r)) at ∙ ap (λ t. cond t (Some (relation_of r.rows r.cols (has k))) None) e;
+          means = ap (option_and_then (kept_as r)) at ∙ ap
+              (λ t. cond t (Some (relation_of r.rows r.cols (has k))) None) e;
         }
     by_test k at false e s = absurd (false≢true s)
 
@@ -44,20 +47,24 @@ standing ks r h = by_place (slice_get ks r.root) refl h
     by_place (Some k) at s = by_test k at _ refl s
 
 -- its set is the kept one, by membership
-set_is : (ks : List Relation) (r : Rel) (s : Standing ks r) → set_of (worker_of ks) r ≡ relation_of r.rows r.cols (has s.kept)
+set_is : (ks : List Relation) (r : Rel) (s : Standing ks r)
+    → set_of (worker_of ks) r ≡ relation_of r.rows r.cols (has s.kept)
 set_is ks r s = ap (λ o. unwrap_or o (record { rows = 0; cols = 0; pairs = [] })) s.means
 
 -- what stands is a relation
 pub valid_law : (ks : List Relation) (r : Rel) → Stands (worker_of ks) r → IsRelation (set_of (worker_of ks) r)
-valid_law ks r h = let s = standing ks r h in subst IsRelation (sym (set_is ks r s)) (IsRelation-relation_of r.rows r.cols (has s.kept))
+valid_law ks r h = let s = standing ks r h in subst IsRelation (sym (set_is ks r s))
+    (IsRelation-relation_of r.rows r.cols (has s.kept))
 
 -- it has as many rows as its name says
 pub rows_law : (ks : List Relation) (r : Rel) → Stands (worker_of ks) r → (set_of (worker_of ks) r).rows ≡ r.rows
-rows_law ks r h = let s = standing ks r h in ap (λ x. x.rows) (set_is ks r s) ∙ rows-relation_of r.rows r.cols (has s.kept)
+rows_law ks r h = let s = standing ks r h in ap (λ x. x.rows) (set_is ks r s)
+    ∙ rows-relation_of r.rows r.cols (has s.kept)
 
 -- it has as many columns as its name says
 pub cols_law : (ks : List Relation) (r : Rel) → Stands (worker_of ks) r → (set_of (worker_of ks) r).cols ≡ r.cols
-cols_law ks r h = let s = standing ks r h in ap (λ x. x.cols) (set_is ks r s) ∙ cols-relation_of r.rows r.cols (has s.kept)
+cols_law ks r h = let s = standing ks r h in ap (λ x. x.cols) (set_is ks r s)
+    ∙ cols-relation_of r.rows r.cols (has s.kept)
 
 -- its rows are within the limit
 pub row_limit_law : (ks : List Relation) (r : Rel) → Stands (worker_of ks) r → r.rows ≤ size_limit

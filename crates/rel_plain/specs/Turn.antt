@@ -8,4 +8,5 @@ pub record IsTurned (pairs turned : List (ℕ × ℕ)) : Type 0 where
   -- in order
   pub increasing : IsIncreasing turned
   -- (i, j) is in it exactly where (j, i) is in the first
-  pub members : (i j : ℕ) → list_any (λ p. (p.0 == i) && (p.1 == j)) turned ≡ list_any (λ p. (p.0 == j) && (p.1 == i)) pairs
+  pub members : (i j : ℕ) → list_any (λ p. (p.0 == i) && (p.1 == j)) turned
+      ≡ list_any (λ p. (p.0 == j) && (p.1 == i)) pairs

@@ -17,7 +17,8 @@ use rel_model::{Lack, Rel, Shape};
 use std::alloc::Global;
 use std::marker::Model;
 
-/// The relations that were made, in the order in which they were made: the name of a relation is its place. A pair takes 8 bytes, and no relation is dropped before the worker.
+/// The relations that were made, in the order in which they were made: the name of a relation is its place. A pair
+/// takes 8 bytes, and no relation is dropped before the worker.
 #[derive(Drop)]
 pub struct Plain {
     alloc: Global,
@@ -48,7 +49,8 @@ impl Plain {
     fn pairs_of(&self, r: Rel) -> &[(u32, u32)]
         requires { Stands (worker_of self.now) r }
         ensures kept { IsKept (record { rows = r.rows; cols = r.cols; pairs = result.now }) }
-        ensures means { set_of (worker_of self.now) r ≡ relation_of r.rows r.cols (has (record { rows = r.rows; cols = r.cols; pairs = result.now })) }
+        ensures means { set_of (worker_of self.now) r ≡ relation_of r.rows r.cols
+            (has (record { rows = r.rows; cols = r.cols; pairs = result.now })) }
     {
         let kept = &self.kept[r.root as usize];
         kept.pairs()
@@ -57,7 +59,8 @@ impl Plain {
     /// Keeps one more relation, behind those that stand.
     fn keep(&mut self, rows: u32, cols: u32, pairs: Vec<(u32, u32)>) -> Result<Rel, Lack>
         requires { IsKept (record { rows = rows; cols = cols; pairs = pairs.items }) }
-        ensures value { IfOk result (Gives (worker_of self.new) rows cols (relation_of rows cols (has (record { rows = rows; cols = cols; pairs = pairs.items })))) }
+        ensures value { IfOk result (Gives (worker_of self.new) rows cols
+            (relation_of rows cols (has (record { rows = rows; cols = cols; pairs = pairs.items })))) }
         ensures keeps { Keeps (worker_of self.old) (worker_of self.new) }
         ensures cause { HasCause false (worker_of self.old) (worker_of self.new) result }
     {
@@ -74,7 +77,9 @@ impl Plain {
         requires right { Stands (worker_of self.old) s }
         requires rows { r.rows ≡ s.rows }
         requires cols { r.cols ≡ s.cols }
-        ensures value { IfOk result (Gives (worker_of self.new) r.rows r.cols (relation_of r.rows r.cols (λ i j. picked part (has (set_of (worker_of self.old) r) i j) (has (set_of (worker_of self.old) s) i j)))) }
+        ensures value { IfOk result (Gives (worker_of self.new) r.rows r.cols
+            (relation_of r.rows r.cols (λ i j. picked part (has (set_of (worker_of self.old) r) i j)
+            (has (set_of (worker_of self.old) s) i j)))) }
         ensures keeps { Keeps (worker_of self.old) (worker_of self.new) }
         ensures cause { HasCause false (worker_of self.old) (worker_of self.new) result }
     {

@@ -8,9 +8,11 @@ use rel_model::{Lack, Rel, Shape};
 /// `{(i, j) : not (i, j) in r}`: what the full relation has and this one lacks.
 pub fn complement<C: Core>(core: &mut C, r: Rel) -> Result<Rel, Lack>
     requires { Stands (C.worker core.old) r }
-    ensures value { IfOk result (Gives (C.worker core.new) r.rows r.cols (complement_of (set_of (C.worker core.old) r))) }
+    ensures value { IfOk result (Gives (C.worker core.new) r.rows r.cols
+        (complement_of (set_of (C.worker core.old) r))) }
     ensures keeps { Keeps (C.worker core.old) (C.worker core.new) }
-    ensures room { MakesAtMost (operator_room r.rows r.cols + operator_room r.rows r.cols) (C.worker core.old) (C.worker core.new) }
+    ensures room { MakesAtMost (operator_room r.rows r.cols + operator_room r.rows r.cols) (C.worker core.old)
+        (C.worker core.new) }
     ensures cause { HasCause C.lean (C.worker core.old) (C.worker core.new) result }
 {
     let shape = Shape {

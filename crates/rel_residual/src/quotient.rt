@@ -13,7 +13,8 @@ pub fn syq<C: Core>(core: &mut C, r: Rel, s: Rel) -> Result<Rel, Lack>
     requires left { Stands (C.worker core.old) r }
     requires right { Stands (C.worker core.old) s }
     requires rows { r.rows ≡ s.rows }
-    ensures value { IfOk result (Gives (C.worker core.new) r.cols s.cols (symmetric_quotient (set_of (C.worker core.old) r) (set_of (C.worker core.old) s))) }
+    ensures value { IfOk result (Gives (C.worker core.new) r.cols s.cols
+        (symmetric_quotient (set_of (C.worker core.old) r) (set_of (C.worker core.old) s))) }
     ensures keeps { Keeps (C.worker core.old) (C.worker core.new) }
     ensures room { MakesAtMost (wide_room r.rows r.cols s.cols) (C.worker core.old) (C.worker core.new) }
     ensures cause { HasCause C.lean (C.worker core.old) (C.worker core.new) result }

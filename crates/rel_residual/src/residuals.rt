@@ -13,7 +13,8 @@ pub fn right<C: Core>(core: &mut C, r: Rel, s: Rel) -> Result<Rel, Lack>
     requires left { Stands (C.worker core.old) r }
     requires right { Stands (C.worker core.old) s }
     requires rows { r.rows ≡ s.rows }
-    ensures value { IfOk result (Gives (C.worker core.new) r.cols s.cols (right_residual (set_of (C.worker core.old) r) (set_of (C.worker core.old) s))) }
+    ensures value { IfOk result (Gives (C.worker core.new) r.cols s.cols
+        (right_residual (set_of (C.worker core.old) r) (set_of (C.worker core.old) s))) }
     ensures keeps { Keeps (C.worker core.old) (C.worker core.new) }
     ensures room { MakesAtMost (derived_room r.rows r.cols s.cols) (C.worker core.old) (C.worker core.new) }
     ensures cause { HasCause C.lean (C.worker core.old) (C.worker core.new) result }
@@ -32,7 +33,8 @@ pub fn left<C: Core>(core: &mut C, s: Rel, r: Rel) -> Result<Rel, Lack>
     requires left { Stands (C.worker core.old) s }
     requires right { Stands (C.worker core.old) r }
     requires cols { s.cols ≡ r.cols }
-    ensures value { IfOk result (Gives (C.worker core.new) s.rows r.rows (left_residual (set_of (C.worker core.old) s) (set_of (C.worker core.old) r))) }
+    ensures value { IfOk result (Gives (C.worker core.new) s.rows r.rows
+        (left_residual (set_of (C.worker core.old) s) (set_of (C.worker core.old) r))) }
     ensures keeps { Keeps (C.worker core.old) (C.worker core.new) }
     ensures room { MakesAtMost (derived_room s.rows s.cols r.rows) (C.worker core.old) (C.worker core.new) }
     ensures cause { HasCause C.lean (C.worker core.old) (C.worker core.new) result }

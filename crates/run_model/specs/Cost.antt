@@ -76,7 +76,8 @@ cost_of_command leaf input script (Typed e) state snap d = cost_of leaf input sc
 cost_of_command leaf input script (DROP at name) state snap d = 0
 cost_of_command leaf input script (Snap name) state snap d = 0
 cost_of_command leaf input script (At at name e) state snap d = cost_on_snapshot leaf input script e snap
-cost_of_command leaf input script (Load name file) state snap d = where_value d (λ r. cost_of_pairs leaf (length r.pairs) r)
+cost_of_command leaf input script (Load name file) state snap d = where_value d
+    (λ r. cost_of_pairs leaf (length r.pairs) r)
 cost_of_command leaf input script (Save e file) state snap d = cost_of leaf input script e state
 
 -- an item: a definition costs nothing
@@ -94,7 +95,8 @@ cost_of_step leaf input script step =
 -- the steps of a session
 abbrev pub cost_of_steps : ℕ → Input → Script → List Step → ℕ
 cost_of_steps leaf input script [] = 0
-cost_of_steps leaf input script (step ∷ steps) = cost_of_step leaf input script step + cost_of_steps leaf input script steps
+cost_of_steps leaf input script (step ∷ steps) = cost_of_step leaf input script step + cost_of_steps leaf input script
+    steps
 
 -- a session: a script that does not run costs nothing
 abbrev pub cost_of_session : ℕ → Input → List Event → ℕ → Reading → List Outcome → ℕ

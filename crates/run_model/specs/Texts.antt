@@ -81,16 +81,19 @@ unknown_text at name = place_text at ++ codes "unknown name " ++ name
 
 -- at a place: an operator does not take its operands
 unfoldable pub mismatch_text : Place → List ℕ → StaticShape → StaticShape → List ℕ
-mismatch_text at op left right = place_text at ++ op ++ codes " does not fit " ++ shape_text left ++ codes " and " ++ shape_text right
+mismatch_text at op left right = place_text at ++ op ++ codes " does not fit " ++ shape_text left ++ codes " and "
+    ++ shape_text right
 
 -- why an expression has no meaning
 unfoldable pub type_fault_text : TypeFault → List ℕ
 type_fault_text (Unknown at name) = unknown_text at name
-type_fault_text (Arity at name takes given) = place_text at ++ name ++ codes " takes " ++ decimal takes ++ codes " arguments, not " ++ decimal given
+type_fault_text (Arity at name takes given) = place_text at ++ name ++ codes " takes " ++ decimal takes
+    ++ codes " arguments, not " ++ decimal given
 type_fault_text (Unassigned at name) = place_text at ++ name ++ codes " may be read before it is assigned"
 type_fault_text (Rank at name) = place_text at ++ name ++ codes " has a rank over " ++ decimal rank_limit
 type_fault_text (Mismatch at op left right) = mismatch_text at op left right
-type_fault_text (NotSquare at op shape) = place_text at ++ op ++ codes " needs a square relation, not " ++ shape_text shape
+type_fault_text (NotSquare at op shape) = place_text at ++ op ++ codes " needs a square relation,
+    not " ++ shape_text shape
 type_fault_text (NotVector at op shape) = place_text at ++ op ++ codes " needs one column, not " ++ shape_text shape
 type_fault_text (NotTest at shape) = place_text at ++ codes "a test must be 1 x 1, not " ++ shape_text shape
 type_fault_text (Twice at name) = place_text at ++ name ++ codes " is defined twice"
@@ -129,10 +132,12 @@ unfoldable pub outcome_text : Outcome → List ℕ
 outcome_text Done = []
 outcome_text (Parse fault) = parse_fault_text fault
 outcome_text (Ill fault) = type_fault_text fault
-outcome_text (Size at wanted limit) = place_text at ++ codes "size " ++ decimal wanted ++ codes " passes the limit " ++ decimal limit
+outcome_text (Size at wanted limit) = place_text at ++ codes "size " ++ decimal wanted ++ codes " passes the limit "
+    ++ decimal limit
 outcome_text (Turns at limit) = place_text at ++ codes "more than " ++ decimal limit ++ codes " turns"
 outcome_text Nodes = codes "no free node word"
-outcome_text (TooLarge wanted counted) = decimal wanted ++ unit_text counted ++ codes " pass the limit " ++ decimal (unit_limit counted)
+outcome_text (TooLarge wanted counted) = decimal wanted ++ unit_text counted ++ codes " pass the limit "
+    ++ decimal (unit_limit counted)
 outcome_text (TooLong bits) = decimal bits ++ codes " bits pass the limit " ++ decimal save_limit
 outcome_text (NoFile name) = codes "no file " ++ quoted name
 outcome_text (BAD_FILE name kind) = codes "file " ++ quoted name ++ codes " is bad: " ++ bad_file_text kind

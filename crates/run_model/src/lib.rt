@@ -1,4 +1,5 @@
-//! Runs: what a run is given, its events and outcomes, which of them are lawful, what it shows, saves and costs, and what the words of a table hold of it.
+//! Runs: what a run is given, its events and outcomes, which of them are lawful, what it shows, saves and costs, and
+//! what the words of a table hold of it.
 #![tactic(auto)]
 
 pub mod event;

@@ -39,17 +39,20 @@ rows_text x (suc n) = rows_text x n ++ codes "; " ++ row_of x (suc n)
 
 -- ` LET Cs = trans(Gs). COUNT Cs.`: the closure of graph s, and the number of its pairs
 unfoldable pub closure_text : ℕ → List ℕ
-closure_text s = codes " LET C" ++ decimal s ++ codes " = trans(G" ++ decimal s ++ codes "). COUNT C" ++ decimal s ++ codes "."
+closure_text s = codes " LET C" ++ decimal s ++ codes " = trans(G" ++ decimal s ++ codes "). COUNT C" ++ decimal s
+    ++ codes "."
 
 -- ` COUNT Cs & Cs^. COUNT syq(Cs,Cs).`: the pairs that reach each other, and the pairs of equal columns of the closure
 unfoldable pub counts_text : ℕ → List ℕ
 counts_text s =
-    codes " COUNT C" ++ decimal s ++ codes " & C" ++ decimal s ++ codes "^. COUNT syq(C" ++ decimal s ++ codes ",C" ++ decimal s ++ codes ")."
+    codes " COUNT C" ++ decimal s ++ codes " & C" ++ decimal s
+        ++ codes "^. COUNT syq(C" ++ decimal s ++ codes ",C" ++ decimal s ++ codes ")."
 
 -- script s, drawn from state x on: a graph of 64 vertices by rows, and the questions on it; one line
 unfoldable pub script_text : ℕ → ℕ → List ℕ
 script_text x s =
-    codes "REL G" ++ decimal s ++ codes " 64 64 {" ++ rows_text x 63 ++ codes "}." ++ closure_text s ++ counts_text s ++ 10 ∷ []
+    codes "REL G" ++ decimal s ++ codes " 64 64 {" ++ rows_text x 63 ++ codes "}." ++ closure_text s ++ counts_text s
+        ++ 10 ∷ []
 
 -- the scripts 1 to n, drawn from state x on: each has 128 draws, and they go on from script to script
 abbrev pub scripts_from : ℕ → ℕ → List (List ℕ)

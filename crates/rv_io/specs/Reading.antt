@@ -11,18 +11,23 @@ RefusesFile old new name limit Fault = Rose old.faults new.faults
 RefusesFile old new name limit (TooLong given) = (given ≡ limit) × IsOver old.files name limit
 RefusesFile old new name limit NoMemory = Unit {0}
 
--- the count of faults of the shelf rose exactly where the answer is a fault: where a file was read, was too long or met want of memory it stayed
+-- the count of faults of the shelf rose exactly where the answer is a fault: where a file was read, was too long or
+-- met want of memory it stayed
 abbrev pub CountsFault : {T : Type 0} → ℕ → ℕ → Result T ReadError → Type 0
 CountsFault before now (Ok v) = now ≡ before
 CountsFault before now (Err Fault) = Rose before now
 CountsFault before now (Err (TooLong given)) = now ≡ before
 CountsFault before now (Err NoMemory) = now ≡ before
 
--- bytes were taken from the front of the file of this name, as many as the condition says, and the others are left; where the files are told
+-- bytes were taken from the front of the file of this name, as many as the condition says, and the others are left;
+-- where the files are told
 abbrev pub HasTaken : Option Files → Option (List ℕ) → List ℕ → (ℕ → Type 0) → Type 0
-HasTaken files rest name as_many = IfSome files (λ fs. (taken : List ℕ) × (left : List ℕ) × (fs name ≡ Some (taken ++ left)) × (rest ≡ Some left) × as_many (length taken))
+HasTaken files rest name as_many = IfSome files (λ fs. (taken : List ℕ) × (left : List ℕ)
+    × (fs name ≡ Some (taken ++ left)) × (rest ≡ Some left) × as_many (length taken))
 
--- how much of the file was taken: all of it; at a fault, at most `limit` bytes, or nothing is left; `limit + 1` bytes of a file that is too long; and at want of memory at most `limit` bytes and at least one, so that none is wanted of a file of no bytes
+-- how much of the file was taken: all of it; at a fault, at most `limit` bytes, or nothing is left; `limit + 1` bytes
+-- of a file that is too long; and at want of memory at most `limit` bytes and at least one, so that none is wanted of
+-- a file of no bytes
 abbrev pub StopsIn : {T : Type 0} → Result T ReadError → Option Files → Option (List ℕ) → List ℕ → ℕ → Type 0
 StopsIn (Ok bytes) files rest name limit = IsSpent files rest
 StopsIn (Err Fault) files rest name limit = IsSpent files rest ⊎ HasTaken files rest name (λ n. n ≤ limit)
@@ -49,8 +54,11 @@ pub record TakesOn (old new : Option (List ℕ)) (as_many : ℕ → Type 0) : Ty
   pub consumed : Consumes old new taken
   pub count : as_many (length taken)
 
--- why no more was read, where so many bytes were read before, and how many were taken: where memory is wanted, one byte at least was read
+-- why no more was read, where so many bytes were read before, and how many were taken: where memory is wanted, one
+-- byte at least was read
 abbrev pub RefusesMore : Told → Told → ℕ → ℕ → ReadError → Type 0
-RefusesMore old new before limit Fault = Rose old.faults new.faults × TakesOn old.rest new.rest (λ n. before + n ≤ limit)
-RefusesMore old new before limit (TooLong given) = (given ≡ limit) × TakesOn old.rest new.rest (λ n. before + n ≡ limit + 1)
+RefusesMore old new before limit Fault = Rose old.faults new.faults
+    × TakesOn old.rest new.rest (λ n. before + n ≤ limit)
+RefusesMore old new before limit (TooLong given) = (given ≡ limit)
+    × TakesOn old.rest new.rest (λ n. before + n ≡ limit + 1)
 RefusesMore old new before limit NoMemory = TakesOn old.rest new.rest (λ n. (0 < before + n) × (before + n ≤ limit))

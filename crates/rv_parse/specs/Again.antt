@@ -26,25 +26,35 @@ abbrev pub ends_names : List ℕ → Bool
 ends_names [] = true
 ends_names (b ∷ bs) = not (is_word_byte b || (b == 45))
 
--- the first token does not go on with an expression of a level: it is no operator of that level or a tighter one, no ^, and no parenthesis behind a name
+-- the first token does not go on with an expression of a level: it is no operator of that level or a tighter one, no
+-- ^, and no parenthesis behind a name
 abbrev pub Ends : Level → List Token → Type 0
 Ends PrimLevel rest = begins 40 rest ≡ false
 Ends PostLevel rest = (begins 94 rest ≡ false) × (begins 40 rest ≡ false)
 Ends UnaryLevel rest = (begins 94 rest ≡ false) × (begins 40 rest ≡ false)
 Ends ProdLevel rest = (begins_operator ProdLevel rest ≡ false) × ((begins 94 rest ≡ false) × (begins 40 rest ≡ false))
-Ends AndLevel rest = (begins_operator AndLevel rest ≡ false) × ((begins_operator ProdLevel rest ≡ false) × ((begins 94 rest ≡ false) × (begins 40 rest ≡ false)))
-Ends OrLevel rest = (begins_operator OrLevel rest ≡ false) × ((begins_operator AndLevel rest ≡ false) × ((begins_operator ProdLevel rest ≡ false) × ((begins 94 rest ≡ false) × (begins 40 rest ≡ false))))
+Ends AndLevel rest = (begins_operator AndLevel rest ≡ false)
+    × ((begins_operator ProdLevel rest ≡ false) × ((begins 94 rest ≡ false) × (begins 40 rest ≡ false)))
+Ends OrLevel rest = (begins_operator OrLevel rest ≡ false)
+    × ((begins_operator AndLevel rest ≡ false) × ((begins_operator ProdLevel rest ≡ false)
+    × ((begins 94 rest ≡ false) × (begins 40 rest ≡ false))))
 
--- whatever else these tokens spell up to a token that does not go on with it is the same expression up to places, and ends at the same token
+-- whatever else these tokens spell up to a token that does not go on with it is the same expression up to places, and
+-- ends at the same token
 abbrev pub SpellOnly : Expr → List Token → List Token → Type 0
-SpellOnly e tokens rest = (d : ℕ) (other : Expr) (left : List Token) → Spelled OrLevel d other tokens left → Ends OrLevel rest → Ends OrLevel left → SameUpToPlaces e other × (rest ≡ left)
+SpellOnly e tokens rest = (d : ℕ) (other : Expr) (left : List Token) → Spelled OrLevel d other tokens left
+    → Ends OrLevel rest → Ends OrLevel left → SameUpToPlaces e other × (rest ≡ left)
 
--- The text stands for the expression where so many constructs are open: from any place on, and before any bytes that go on with no name, its tokens spell an expression that is the same up to places, up to the tokens of the bytes behind it; and they spell no other.
+-- The text stands for the expression where so many constructs are open: from any place on, and before any bytes that
+-- go on with no name, its tokens spell an expression that is the same up to places, up to the tokens of the bytes
+-- behind it; and they spell no other.
 pub record StandsFor (d : ℕ) (e : Expr) (text : List ℕ) (at : Place) : Type 0 where
   pub found : Expr
   pub end : Place
   pub same : SameUpToPlaces e found
-  pub again : (behind : List ℕ) (rest : List Token) → ends_names behind ≡ true → tokens_from 0 end behind ≡ Some rest → (tokens : List Token) × (tokens_from 0 at (text ++ behind) ≡ Some tokens) × Spelled OrLevel d found tokens rest × SpellOnly e tokens rest
+  pub again : (behind : List ℕ) (rest : List Token) → ends_names behind ≡ true → tokens_from 0 end behind ≡ Some rest
+      → (tokens : List Token) × (tokens_from 0 at (text ++ behind) ≡ Some tokens)
+      × Spelled OrLevel d found tokens rest × SpellOnly e tokens rest
 
 -- the text stands for the expression in each place where no more constructs are open than where the expression stands
 abbrev pub ReadAgain : Expr → List ℕ → Type 0
@@ -58,7 +68,8 @@ PrintsSame e script = (found : Expr) × (script.items.items ≡ COMMAND (Print f
 abbrev pub printing : List ℕ → List ℕ
 printing text = codes "PRINT " ++ text ++ codes "."
 
--- The text behind PRINT is a script, and each script that it is prints the same expression up to places. So, where it is not too long, this is what `parse` gives.
+-- The text behind PRINT is a script, and each script that it is prints the same expression up to places. So, where it
+-- is not too long, this is what `parse` gives.
 pub record PrintsAgain (e : Expr) (text : List ℕ) : Type 0 where
   pub script : Script
   pub spelled : SpelledBy (printing text) script

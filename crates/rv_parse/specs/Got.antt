@@ -15,14 +15,16 @@ use Rattle.rv_parse.specs.declared.halt.Halt.{Halt}
 use Rattle.rv_parse.specs.declared.halt.Halt.TheVariants.{NoMemory}
 
 -- Something is read: the tokens spell it, no more of them are left, and they are what these parts take.
-pub record Got (e : Ending) (parts : List Part) (spells : List Token → List Token → Type 0) (tokens rest : List Token) : Type 0 where
+pub record Got (e : Ending) (parts : List Part) (spells : List Token → List Token → Type 0)
+    (tokens rest : List Token) : Type 0 where
   pub spelled : spells tokens rest
   pub shorter : length rest ≤ length tokens
   pub read : Reads e parts tokens rest
 
 -- whatever is to come behind, from the first parts the tokens up to `rest` lead to the others
 abbrev pub ReadsTo : Ending → List Part → List Part → List Token → List Token → Type 0
-ReadsTo e parts others tokens rest = (behind : List Part) → stop_of (parts ++ behind) tokens e ≡ stop_of (others ++ behind) rest e
+ReadsTo e parts others tokens rest = (behind : List Part)
+    → stop_of (parts ++ behind) tokens e ≡ stop_of (others ++ behind) rest e
 
 -- the tokens are no items, unless memory ran out
 abbrev pub RefusesItems : Ending → List Token → Halt → Type 0
@@ -50,7 +52,8 @@ definition_parts = SignPart 40 ∷ NamePart ∷ MoreParams 15 ∷ SignPart 41 �
 
 -- the statements and the result of a program, behind BEG
 abbrev pub SpellsTail : List Stmt → Expr → List Token → List Token → Type 0
-SpellsTail body result tokens rest = (t1 t2 t3 : List Token) × SpelledStmts 0 body tokens t1 × Takes (KEYWORD RETURN) t1 t2 × Spelled OrLevel 0 result t2 t3 × Takes (KEYWORD END) t3 rest
+SpellsTail body result tokens rest = (t1 t2 t3 : List Token) × SpelledStmts 0 body tokens t1
+    × Takes (KEYWORD RETURN) t1 t2 × Spelled OrLevel 0 result t2 t3 × Takes (KEYWORD END) t3 rest
 
 -- a program with declarations behind DECL
 abbrev pub declared_parts : List Part

@@ -17,7 +17,8 @@ Within n bs = (1 ≤ n) × (n ≤ length bs)
 -- the bytes begin with a blank or a comment of so many bytes, with a token, or with a flaw
 abbrev pub Lexes : Place → List ℕ → Lexeme → Type 0
 Lexes at bs (Blank n) = Within n bs × (lexed_from 0 at bs ≡ lexed_from 0 (behind_all n at bs) (drop n bs))
-Lexes at bs (TOKEN kind n) = Within n bs × (lexed_from 0 at bs ≡ before at kind (lexed_from 0 (behind_all n at bs) (drop n bs)))
+Lexes at bs (TOKEN kind n) = Within n bs × (lexed_from 0 at bs
+    ≡ before at kind (lexed_from 0 (behind_all n at bs) (drop n bs)))
 Lexes at bs (Broken flaw) = lexed_from 0 at bs ≡ broken (flaw_fault flaw)
 
 -- memory ran out

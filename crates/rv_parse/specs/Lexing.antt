@@ -29,7 +29,8 @@ word_at bs = let n = run_length is_word_byte bs in cond (nat_le n 64) (Some (wor
 
 -- the number that begins these bytes, where it is not too large, and how many bytes it has
 abbrev pub number_at : List ℕ → Option (Kind × ℕ)
-number_at bs = let n = run_length is_digit bs in let value = value_from 0 (take n bs) in cond (nat_lt value (2 ^ 64)) (Some (Number value, n)) None
+number_at bs = let n = run_length is_digit bs in let value = value_from 0 (take n bs) in cond (nat_lt value (2 ^ 64))
+    (Some (Number value, n)) None
 
 -- the answer to what token there is: this one, or that there is none; or that there is one, and no memory for it
 abbrev pub Finds : Option (Kind × ℕ) → Result (Kind × ℕ) Refusal → Type 0

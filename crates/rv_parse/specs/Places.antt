@@ -1,11 +1,13 @@
--- The tree of an expression: what stands in the vectors and boxes that the code has, and all places. And when two expressions are the same up to places: without their places they are one tree.
+-- The tree of an expression: what stands in the vectors and boxes that the code has, and all places. And when two
+-- expressions are the same up to places: without their places they are one tree.
 use Rattle.std.specs.Prelude.{◌≡◌, ℕ, List}
 use Rattle.lang_model.specs.declared.syntax.Place.{Place}
 use Rattle.lang_model.specs.declared.syntax.Op2.{Op2}
 use Rattle.lang_model.specs.declared.syntax.Base.{Base}
 use Rattle.lang_model.specs.declared.syntax.Expr.{Expr, Ref, Call', Base', Inject, Pair', Minus', Turned', Chain', Row_of-Link, end_of-Link, more_of-Link, Row_of-Expr, end_of-Expr, more_of-Expr}
 
--- A tree with its places: a name, a call of a definition or a base name, a domain operator, a pair, a prefix -, signs ^, and a chain; its arguments; and the operators of a chain with their right operands.
+-- A tree with its places: a name, a call of a definition or a base name, a domain operator, a pair, a prefix -, signs
+-- ^, and a chain; its arguments; and the operators of a chain with their right operands.
 mutual
   pub data Tree : Type 0 where
     NameTree : Place → List ℕ → Tree
@@ -70,7 +72,8 @@ abbrev mutual
   -- those of links
   pub links_without_places : Branches → Branches
   links_without_places NoBranch = NoBranch
-  links_without_places (MoreBranches at op right links) = MoreBranches nowhere op (without_places right) (links_without_places links)
+  links_without_places (MoreBranches at op right links) = MoreBranches nowhere op (without_places right)
+      (links_without_places links)
 
 -- one tree, at other places
 abbrev pub SameUpToPlaces : Expr → Expr → Type 0

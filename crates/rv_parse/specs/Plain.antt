@@ -1,4 +1,5 @@
--- The tree of a script: what stands in the vectors and boxes that the code has, with all places, names and file texts. And that a text spells one such tree alone.
+-- The tree of a script: what stands in the vectors and boxes that the code has, with all places, names and file
+-- texts. And that a text spells one such tree alone.
 use Rattle.std.specs.Prelude.{◌≡◌, ℕ, List, [], ◌∷◌, map}
 use Rattle.lang_model.specs.declared.syntax.Place.{Place}
 use Rattle.lang_model.specs.declared.syntax.Column.{Column}
@@ -73,7 +74,8 @@ pub data CommandTree : Type 0 where
 
 -- the tree of a command
 abbrev pub command_tree : Command → CommandTree
-command_tree (Relation name rows rows_at cols cols_at list) = RelationTree name rows rows_at cols cols_at (map row_tree list.items)
+command_tree (Relation name rows rows_at cols cols_at list) = RelationTree name rows rows_at cols cols_at
+    (map row_tree list.items)
 command_tree (Let name value) = LetTree name (tree_of value)
 command_tree (Print value) = PrintTree (tree_of value)
 command_tree (ListOf value) = ListTree (tree_of value)
@@ -94,7 +96,8 @@ pub data ItemTree : Type 0 where
 -- the tree of an item
 abbrev pub item_tree : Item → ItemTree
 item_tree (Function at name params body) = FunctionTree at name params.items (tree_of body)
-item_tree (Program at name params decls body result) = ProgramTree at name params.items decls.items (stmts_in body.items) (tree_of result)
+item_tree (Program at name params decls body result) = ProgramTree at name params.items decls.items
+    (stmts_in body.items) (tree_of result)
 item_tree (COMMAND command) = CommandItem (command_tree command)
 
 -- the tree of a script: those of its items
@@ -104,4 +107,5 @@ script_tree script = map item_tree script.items.items
 -- ---- the law
 -- whatever scripts the same bytes spell, they have one tree
 abbrev pub OneScript : Type 0
-OneScript = (bytes : List ℕ) (script other : Script) → SpelledBy bytes script → SpelledBy bytes other → script_tree script ≡ script_tree other
+OneScript = (bytes : List ℕ) (script other : Script) → SpelledBy bytes script → SpelledBy bytes other
+    → script_tree script ≡ script_tree other

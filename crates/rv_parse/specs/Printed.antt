@@ -22,4 +22,5 @@ rank_of_links (x ∷ xs) = chain_rank x.op
 -- the links of a chain of so loose operators
 abbrev pub printed_all_links : ℕ → List Link → List ℕ
 printed_all_links n [] = []
-printed_all_links n (x ∷ xs) = sign_of x.op ∷ within (nat_le (rank x.right) n) (printed x.right) ++ printed_all_links n xs
+printed_all_links n (x ∷ xs) = sign_of x.op ∷ within (nat_le (rank x.right) n) (printed x.right)
+    ++ printed_all_links n xs

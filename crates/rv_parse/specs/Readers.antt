@@ -1,4 +1,5 @@
--- What the readers answer: a tree that the tokens spell, and what is left of these; or the fault of the tokens. Both whatever is to come behind.
+-- What the readers answer: a tree that the tokens spell, and what is left of these; or the fault of the tokens. Both
+-- whatever is to come behind.
 use Rattle.std.specs.Prelude.{◌≡◌, ◌<◌, ◌≤◌, ◌++◌, ℕ, Bool, true, false, List, [], ◌∷◌, length, Option, Some, None}
 use Rattle.lang_model.specs.declared.syntax.Place.{Place}
 use Rattle.lang_model.specs.declared.syntax.Expr.{Expr}
@@ -25,7 +26,8 @@ Reads e parts tokens rest = (behind : List Part) → stop_of (parts ++ behind) t
 
 -- whatever is to come behind these parts, the tokens have this fault, unless memory ran out
 abbrev pub Refuses : Ending → List Part → List Token → Halt → Type 0
-Refuses e parts tokens halt = (halt ≡ NoMemory → ⊥) → (behind : List Part) → stop_of (parts ++ behind) tokens e ≡ Some (fault_of halt)
+Refuses e parts tokens halt = (halt ≡ NoMemory → ⊥) → (behind : List Part)
+    → stop_of (parts ++ behind) tokens e ≡ Some (fault_of halt)
 
 -- whether this sign comes first
 abbrev pub begins : ℕ → List Token → Bool
@@ -84,16 +86,19 @@ pub record IsLink (l : Level) (op : Op2) (at : Place) (tokens rest : List Token)
   pub sign : ℕ
   pub operator : IsOperatorOf l op sign
   pub takes : TakesAt at (Sign sign) tokens rest
-  pub entered : (e : Ending) (d : ℕ) (behind : List Part) → stop_of (MoreLinks l d ∷ behind) tokens e ≡ stop_of (ExprPart (tighter l) d ∷ MoreLinks l d ∷ behind) rest e
+  pub entered : (e : Ending) (d : ℕ) (behind : List Part)
+      → stop_of (MoreLinks l d ∷ behind) tokens e ≡ stop_of (ExprPart (tighter l) d ∷ MoreLinks l d ∷ behind) rest e
 
--- An expression of a level is read where so many constructs are open: the tokens spell it, fewer of them are left, and they are what its part takes.
+-- An expression of a level is read where so many constructs are open: the tokens spell it, fewer of them are left,
+-- and they are what its part takes.
 pub record IsRead (e : Ending) (l : Level) (d : ℕ) (x : Expr) (tokens rest : List Token) : Type 0 where
   pub spelled : Spelled l d x tokens rest
   pub shorter : length rest < length tokens
   pub read : Reads e (ExprPart l d ∷ []) tokens rest
 
 -- The rest of an expression is read behind its first token, by these parts.
-pub record IsBehind (e : Ending) (at : Place) (kind : Kind) (parts : List Part) (d : ℕ) (x : Expr) (tokens rest : List Token) : Type 0 where
+pub record IsBehind (e : Ending) (at : Place) (kind : Kind) (parts : List Part) (d : ℕ) (x : Expr)
+    (tokens rest : List Token) : Type 0 where
   pub spelled : (before : List Token) → TakesAt at kind before tokens → Spelled PrimLevel d x before rest
   pub shorter : length rest ≤ length tokens
   pub read : Reads e parts tokens rest

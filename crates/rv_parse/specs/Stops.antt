@@ -12,9 +12,11 @@ use Rattle.rv_parse.specs.declared.halt.Flaw.TheVariants.{Unclosed}
 use Rattle.rv_parse.specs.declared.halt.Halt.{Halt}
 use Rattle.rv_parse.specs.declared.halt.Halt.TheVariants.{Expected as EXPECTED, Broken as BROKEN_OFF, NoMemory as NO_MEMORY}
 
--- The fault is right for these bytes: memory ran out, or it is the first fault of the text, with its place and words, and then the bytes spell no script.
+-- The fault is right for these bytes: memory ran out, or it is the first fault of the text, with its place and words,
+-- and then the bytes spell no script.
 abbrev pub StopsAt : List ℕ → ParseFault → Type 0
-StopsAt bytes fault = (fault ≡ NoMemory → ⊥) → (stop bytes ≡ Some fault) × ((script : Script) → SpelledBy bytes script → ⊥)
+StopsAt bytes fault = (fault ≡ NoMemory → ⊥) → (stop bytes ≡ Some fault)
+    × ((script : Script) → SpelledBy bytes script → ⊥)
 
 -- the fault that ended the reading, unless memory ran out
 abbrev pub IsFaultOf : Halt → ParseFault → Type 0
@@ -26,7 +28,8 @@ IsToken (Sign s) = Unit {0}
 IsToken (Word keyword) = Unit {0}
 IsToken _ = ⊥
 
--- Only of these may the telling want memory: a token that is wanted, a last quote that is missing, and want of memory itself.
+-- Only of these may the telling want memory: a token that is wanted, a last quote that is missing, and want of memory
+-- itself.
 abbrev pub TakesMemory : Halt → Type 0
 TakesMemory (EXPECTED at wanted) = IsToken wanted
 TakesMemory (BROKEN_OFF (Unclosed at)) = Unit {0}

@@ -58,7 +58,9 @@ pub fn opening_of(keyword: Keyword) -> Option<Opening>
 /// An assignment behind LET.
 fn assignment(alloc: Global, tokens: &[Token], end: Ending) -> Result<(Command, &[Token]), Halt>
     requires { length tokens.now < 2 ^ 32 }
-    ensures { MatchResult result (λ x. Got (ending_of end) (opening_parts LET) (λ t r. (before : List TOKEN) → Takes (KEYWORD (opening_word LET)) before t → SpellsCommand x.0 before r) tokens.now x.1.now) (Refuses (ending_of end) (opening_parts LET) tokens.now) }
+    ensures { MatchResult result (λ x. Got (ending_of end) (opening_parts LET)
+        (λ t r. (before : List TOKEN) → Takes (KEYWORD (opening_word LET)) before t → SpellsCommand x.0 before r)
+        tokens.now x.1.now) (Refuses (ending_of end) (opening_parts LET) tokens.now) }
 {
     let (name, _, rest) = next_name(alloc, tokens, end)?;
     let (_, rest) = next_sign(rest, end, b'=')?;
@@ -70,7 +72,9 @@ fn assignment(alloc: Global, tokens: &[Token], end: Ending) -> Result<(Command, 
 /// A look at a snapshot behind AT.
 fn look(alloc: Global, tokens: &[Token], end: Ending) -> Result<(Command, &[Token]), Halt>
     requires { length tokens.now < 2 ^ 32 }
-    ensures { MatchResult result (λ x. Got (ending_of end) (opening_parts AT) (λ t r. (before : List TOKEN) → Takes (KEYWORD (opening_word AT)) before t → SpellsCommand x.0 before r) tokens.now x.1.now) (Refuses (ending_of end) (opening_parts AT) tokens.now) }
+    ensures { MatchResult result (λ x. Got (ending_of end) (opening_parts AT)
+        (λ t r. (before : List TOKEN) → Takes (KEYWORD (opening_word AT)) before t → SpellsCommand x.0 before r)
+        tokens.now x.1.now) (Refuses (ending_of end) (opening_parts AT) tokens.now) }
 {
     let (name, at, rest) = next_name(alloc, tokens, end)?;
     let (_, rest) = next_word(rest, end, Keyword::Print)?;
@@ -81,7 +85,9 @@ fn look(alloc: Global, tokens: &[Token], end: Ending) -> Result<(Command, &[Toke
 
 /// A relation's file behind LOAD.
 fn loading(alloc: Global, tokens: &[Token], end: Ending) -> Result<(Command, &[Token]), Halt>
-    ensures { MatchResult result (λ x. Got (ending_of end) (opening_parts LOAD) (λ t r. (before : List TOKEN) → Takes (KEYWORD (opening_word LOAD)) before t → SpellsCommand x.0 before r) tokens.now x.1.now) (Refuses (ending_of end) (opening_parts LOAD) tokens.now) }
+    ensures { MatchResult result (λ x. Got (ending_of end) (opening_parts LOAD)
+        (λ t r. (before : List TOKEN) → Takes (KEYWORD (opening_word LOAD)) before t → SpellsCommand x.0 before r)
+        tokens.now x.1.now) (Refuses (ending_of end) (opening_parts LOAD) tokens.now) }
 {
     let (name, _, rest) = next_name(alloc, tokens, end)?;
     let (file, rest) = next_file(alloc, rest, end)?;
@@ -92,7 +98,9 @@ fn loading(alloc: Global, tokens: &[Token], end: Ending) -> Result<(Command, &[T
 /// A value and its file behind SAVE.
 fn saving(alloc: Global, tokens: &[Token], end: Ending) -> Result<(Command, &[Token]), Halt>
     requires { length tokens.now < 2 ^ 32 }
-    ensures { MatchResult result (λ x. Got (ending_of end) (opening_parts SAVE) (λ t r. (before : List TOKEN) → Takes (KEYWORD (opening_word SAVE)) before t → SpellsCommand x.0 before r) tokens.now x.1.now) (Refuses (ending_of end) (opening_parts SAVE) tokens.now) }
+    ensures { MatchResult result (λ x. Got (ending_of end) (opening_parts SAVE)
+        (λ t r. (before : List TOKEN) → Takes (KEYWORD (opening_word SAVE)) before t → SpellsCommand x.0 before r)
+        tokens.now x.1.now) (Refuses (ending_of end) (opening_parts SAVE) tokens.now) }
 {
     let (value, rest) = expression(alloc, tokens, end, 0)?;
     let (file, rest) = next_file(alloc, rest, end)?;
@@ -108,7 +116,9 @@ pub fn command(
     end: Ending,
 ) -> Result<(Command, &[Token]), Halt>
     requires { length tokens.now < 2 ^ 32 }
-    ensures { MatchResult result (λ x. Got (ending_of end) (opening_parts opening) (λ t r. (before : List TOKEN) → Takes (KEYWORD (opening_word opening)) before t → SpellsCommand x.0 before r) tokens.now x.1.now) (Refuses (ending_of end) (opening_parts opening) tokens.now) }
+    ensures { MatchResult result (λ x. Got (ending_of end) (opening_parts opening)
+        (λ t r. (before : List TOKEN) → Takes (KEYWORD (opening_word opening)) before t → SpellsCommand x.0 before r)
+        tokens.now x.1.now) (Refuses (ending_of end) (opening_parts opening) tokens.now) }
 {
     match opening {
         Opening::Relation => relation(alloc, tokens, end),

@@ -31,7 +31,8 @@ struct Tail {
 
 /// The parameters of a definition.
 fn params(alloc: Global, tokens: &[Token], end: Ending) -> Result<(Vec<Name>, &[Token]), Halt>
-    ensures { MatchResult result (λ x. Got (ending_of end) (NamePart ∷ MoreParams 15 ∷ []) (SpellsParams x.0.items) tokens.now x.1.now) (Refuses (ending_of end) (NamePart ∷ MoreParams 15 ∷ []) tokens.now) }
+    ensures { MatchResult result (λ x. Got (ending_of end) (NamePart ∷ MoreParams 15 ∷ []) (SpellsParams x.0.items)
+        tokens.now x.1.now) (Refuses (ending_of end) (NamePart ∷ MoreParams 15 ∷ []) tokens.now) }
 {
     let mut params = Vec::new(alloc);
     let (first, _, behind) = next_name(alloc, tokens, end)?;
@@ -50,7 +51,9 @@ fn params(alloc: Global, tokens: &[Token], end: Ending) -> Result<(Vec<Name>, &[
 
 /// PROD or SUM, and whether it is SUM.
 fn domain_word(tokens: &[Token], end: Ending) -> Result<(bool, &[Token]), Halt>
-    ensures read { MatchResult result (λ x. Takes (domain_word x.0) tokens.now x.1.now × ReadsTo (ending_of end) (DomainPart ∷ []) (SignPart 40 ∷ NamePart ∷ SignPart 44 ∷ NamePart ∷ SignPart 41 ∷ []) tokens.now x.1.now) (Refuses (ending_of end) (DomainPart ∷ []) tokens.now) }
+    ensures read { MatchResult result (λ x. Takes (domain_word x.0) tokens.now x.1.now
+        × ReadsTo (ending_of end) (DomainPart ∷ []) (SignPart 40 ∷ NamePart ∷ SignPart 44 ∷ NamePart ∷ SignPart 41
+        ∷ []) tokens.now x.1.now) (Refuses (ending_of end) (DomainPart ∷ []) tokens.now) }
     ensures memory { IfErr result (λ halt. halt ≡ NoMemory → ⊥) }
 {
     let [first, rest @ ..] = tokens else {
@@ -71,7 +74,9 @@ fn domain(
     tokens: &[Token],
     end: Ending,
 ) -> Result<(Decl, &[Token]), Halt>
-    ensures { MatchResult result (λ x. Got (ending_of end) (DomainPart ∷ []) (λ t r. (before mid : List TOKEN) → TakesAt at (Word name) before mid → Takes (Sign 61) mid t → SpellsDecl x.0 before r) tokens.now x.1.now) (Refuses (ending_of end) (DomainPart ∷ []) tokens.now) }
+    ensures { MatchResult result (λ x. Got (ending_of end) (DomainPart ∷ [])
+        (λ t r. (before mid : List TOKEN) → TakesAt at (Word name) before mid → Takes (Sign 61) mid t
+        → SpellsDecl x.0 before r) tokens.now x.1.now) (Refuses (ending_of end) (DomainPart ∷ []) tokens.now) }
 {
     let (sum, rest) = domain_word(tokens, end)?;
     let (_, rest) = next_sign(rest, end, b'(')?;
@@ -94,7 +99,8 @@ fn domain(
 /// A declaration.
 #[tactic(auto, using(crate::proofs::Defs::drop_meaning, crate::proofs::Defs::enter_meaning))]
 fn next_decl(alloc: Global, tokens: &[Token], end: Ending) -> Result<(Decl, &[Token]), Halt>
-    ensures { MatchResult result (λ x. Got (ending_of end) (NamePart ∷ MeaningPart ∷ []) (SpellsDecl x.0) tokens.now x.1.now) (Refuses (ending_of end) (NamePart ∷ MeaningPart ∷ []) tokens.now) }
+    ensures { MatchResult result (λ x. Got (ending_of end) (NamePart ∷ MeaningPart ∷ []) (SpellsDecl x.0) tokens.now
+        x.1.now) (Refuses (ending_of end) (NamePart ∷ MeaningPart ∷ []) tokens.now) }
 {
     let (name, at, rest) = next_name(alloc, tokens, end)?;
     match behind_sign(rest, b'=') {
@@ -109,7 +115,9 @@ fn next_decl(alloc: Global, tokens: &[Token], end: Ending) -> Result<(Decl, &[To
 /// The declarations behind DECL.
 #[tactic(auto, using(crate::proofs::Defs::drop_decls, crate::proofs::Defs::enter_decls))]
 fn decls(alloc: Global, tokens: &[Token], end: Ending) -> Result<(Vec<Decl>, &[Token]), Halt>
-    ensures { MatchResult result (λ x. Got (ending_of end) (NamePart ∷ MeaningPart ∷ MoreDecls ∷ []) (λ t r. (before : List TOKEN) → Takes (KEYWORD DECL) before t → SpellsDecls x.0.items before r) tokens.now x.1.now) (Refuses (ending_of end) (NamePart ∷ MeaningPart ∷ MoreDecls ∷ []) tokens.now) }
+    ensures { MatchResult result (λ x. Got (ending_of end) (NamePart ∷ MeaningPart ∷ MoreDecls ∷ [])
+        (λ t r. (before : List TOKEN) → Takes (KEYWORD DECL) before t → SpellsDecls x.0.items before r) tokens.now
+        x.1.now) (Refuses (ending_of end) (NamePart ∷ MeaningPart ∷ MoreDecls ∷ []) tokens.now) }
 {
     let (first, behind) = next_decl(alloc, tokens, end)?;
     let mut decls = Vec::new(alloc);
@@ -126,7 +134,8 @@ fn decls(alloc: Global, tokens: &[Token], end: Ending) -> Result<(Vec<Decl>, &[T
 /// The statements and the result of a program, behind BEG.
 fn program_end(alloc: Global, tokens: &[Token], end: Ending) -> Result<(Tail, &[Token]), Halt>
     requires { length tokens.now < 2 ^ 32 }
-    ensures { MatchResult result (λ x. Got (ending_of end) program_parts (SpellsTail x.0.body.items x.0.result) tokens.now x.1.now) (Refuses (ending_of end) program_parts tokens.now) }
+    ensures { MatchResult result (λ x. Got (ending_of end) program_parts (SpellsTail x.0.body.items x.0.result)
+        tokens.now x.1.now) (Refuses (ending_of end) program_parts tokens.now) }
 {
     let (body, rest) = stmts(alloc, tokens, end, 0)?;
     let (_, rest) = next_word(rest, end, Keyword::Return)?;
@@ -145,7 +154,10 @@ fn function_body(
     end: Ending,
 ) -> Result<(Item, &[Token]), Halt>
     requires { length tokens.now < 2 ^ 32 }
-    ensures { MatchResult result (λ x. Got (ending_of end) (ExprPart OrLevel 0 ∷ []) (λ t r. (before mid : List TOKEN) → SpellsHead at name params.items before mid → Takes (Sign 61) mid t → SpellsItem x.0 before r) tokens.now x.1.now) (Refuses (ending_of end) (ExprPart OrLevel 0 ∷ []) tokens.now) }
+    ensures { MatchResult result (λ x. Got (ending_of end) (ExprPart OrLevel 0 ∷ [])
+        (λ t r. (before mid : List TOKEN) → SpellsHead at name params.items before mid → Takes (Sign 61) mid t
+        → SpellsItem x.0 before r) tokens.now x.1.now)
+        (Refuses (ending_of end) (ExprPart OrLevel 0 ∷ []) tokens.now) }
 {
     let (body, rest) = expression(alloc, tokens, end, 0)?;
     let item = Item::Function {
@@ -167,7 +179,9 @@ fn plain_program(
     end: Ending,
 ) -> Result<(Item, &[Token]), Halt>
     requires { length tokens.now < 2 ^ 32 }
-    ensures { MatchResult result (λ x. Got (ending_of end) program_parts (λ t r. (before mid : List TOKEN) → SpellsHead at name params.items before mid → Takes (KEYWORD BEG) mid t → SpellsItem x.0 before r) tokens.now x.1.now) (Refuses (ending_of end) program_parts tokens.now) }
+    ensures { MatchResult result (λ x. Got (ending_of end) program_parts
+        (λ t r. (before mid : List TOKEN) → SpellsHead at name params.items before mid → Takes (KEYWORD BEG) mid t
+        → SpellsItem x.0 before r) tokens.now x.1.now) (Refuses (ending_of end) program_parts tokens.now) }
 {
     let (tail, rest) = program_end(alloc, tokens, end)?;
     let decls = Vec::new(alloc);
@@ -192,7 +206,9 @@ fn declared_program(
     end: Ending,
 ) -> Result<(Item, &[Token]), Halt>
     requires { length tokens.now < 2 ^ 32 }
-    ensures { MatchResult result (λ x. Got (ending_of end) declared_parts (λ t r. (before mid : List TOKEN) → SpellsHead at name params.items before mid → Takes (KEYWORD DECL) mid t → SpellsItem x.0 before r) tokens.now x.1.now) (Refuses (ending_of end) declared_parts tokens.now) }
+    ensures { MatchResult result (λ x. Got (ending_of end) declared_parts
+        (λ t r. (before mid : List TOKEN) → SpellsHead at name params.items before mid → Takes (KEYWORD DECL) mid t
+        → SpellsItem x.0 before r) tokens.now x.1.now) (Refuses (ending_of end) declared_parts tokens.now) }
 {
     let (decls, rest) = decls(alloc, tokens, end)?;
     let (_, rest) = next_word(rest, end, Keyword::Beg)?;
@@ -219,7 +235,9 @@ fn meaning(
     end: Ending,
 ) -> Result<(Item, &[Token]), Halt>
     requires { length tokens.now < 2 ^ 32 }
-    ensures { MatchResult result (λ x. Got (ending_of end) (BodyPart ∷ []) (λ t r. (before : List TOKEN) → SpellsHead at name params.items before t → SpellsItem x.0 before r) tokens.now x.1.now) (Refuses (ending_of end) (BodyPart ∷ []) tokens.now) }
+    ensures { MatchResult result (λ x. Got (ending_of end) (BodyPart ∷ [])
+        (λ t r. (before : List TOKEN) → SpellsHead at name params.items before t → SpellsItem x.0 before r) tokens.now
+        x.1.now) (Refuses (ending_of end) (BodyPart ∷ []) tokens.now) }
 {
     if let Some((_, behind)) = behind_sign(tokens, b'=') {
         return function_body(alloc, at, name, params, behind, end);
@@ -242,7 +260,9 @@ pub fn definition<'a>(
     end: Ending,
 ) -> Result<(Item, &'a [Token]), Halt>
     requires { length tokens.now < 2 ^ 32 }
-    ensures { MatchResult result (λ x. Got (ending_of end) definition_parts (λ t r. (before : List TOKEN) → TakesAt at (Word name.now) before t → SpellsItem x.0 before r) tokens.now x.1.now) (Refuses (ending_of end) definition_parts tokens.now) }
+    ensures { MatchResult result (λ x. Got (ending_of end) definition_parts
+        (λ t r. (before : List TOKEN) → TakesAt at (Word name.now) before t → SpellsItem x.0 before r) tokens.now
+        x.1.now) (Refuses (ending_of end) definition_parts tokens.now) }
 {
     let name = name.copied(alloc)?;
     let (_, rest) = next_sign(tokens, end, b'(')?;

@@ -57,7 +57,8 @@ fn operator_of(level: Chains, sign: u8) -> Option<Op2>
 
 /// The operator of a level that comes first.
 fn operator(level: Chains, tokens: &[Token]) -> Option<(Op2, Place, &[Token])>
-    ensures { MatchOption result (begins_operator (level_of level) tokens.now ≡ false) (λ x. IsLink (level_of level) x.0 x.1 tokens.now x.2.now) }
+    ensures { MatchOption result (begins_operator (level_of level) tokens.now ≡ false)
+        (λ x. IsLink (level_of level) x.0 x.1 tokens.now x.2.now) }
 {
     let [first, rest @ ..] = tokens else {
         return None;
@@ -109,7 +110,8 @@ fn with_domain(
     depth: u32,
 ) -> Result<(Expr, &[Token]), Halt>
     requires form { form_of base ≡ TakesDomain }
-    ensures { MatchResult result (λ x. IsBehind (ending_of end) at (BASE base) (form_parts TakesDomain depth) depth x.0 tokens.now x.1.now) (Refuses (ending_of end) (form_parts TakesDomain depth) tokens.now) }
+    ensures { MatchResult result (λ x. IsBehind (ending_of end) at (BASE base) (form_parts TakesDomain depth) depth
+        x.0 tokens.now x.1.now) (Refuses (ending_of end) (form_parts TakesDomain depth) tokens.now) }
 {
     let (_, rest) = open(tokens, end, depth)?;
     let (domain, _, rest) = next_name(alloc, rest, end)?;
@@ -127,7 +129,8 @@ pub fn inner(
 ) -> Result<(Expr, &[Token]), Halt>
     requires depth { depth < nesting_limit }
     requires count { length tokens.now < 2 ^ 32 }
-    ensures { MatchResult result (λ x. IsRead (ending_of end) OrLevel (suc depth) x.0 tokens.now x.1.now) (Refuses (ending_of end) (ExprPart OrLevel (suc depth) ∷ []) tokens.now) }
+    ensures { MatchResult result (λ x. IsRead (ending_of end) OrLevel (suc depth) x.0 tokens.now x.1.now)
+        (Refuses (ending_of end) (ExprPart OrLevel (suc depth) ∷ []) tokens.now) }
 {
     chain(alloc, tokens, end, depth + 1, Chains::Or)
 }
@@ -144,7 +147,8 @@ fn with_one(
 ) -> Result<(Expr, &[Token]), Halt>
     requires form { form_of base ≡ TakesOne }
     requires count { length tokens.now < 2 ^ 32 }
-    ensures { MatchResult result (λ x. IsBehind (ending_of end) at (BASE base) (form_parts TakesOne depth) depth x.0 tokens.now x.1.now) (Refuses (ending_of end) (form_parts TakesOne depth) tokens.now) }
+    ensures { MatchResult result (λ x. IsBehind (ending_of end) at (BASE base) (form_parts TakesOne depth) depth x.0
+        tokens.now x.1.now) (Refuses (ending_of end) (form_parts TakesOne depth) tokens.now) }
 {
     let (_, rest) = open(tokens, end, depth)?;
     let (argument, rest) = inner(alloc, rest, end, depth)?;
@@ -166,7 +170,8 @@ fn with_two(
 ) -> Result<(Expr, &[Token]), Halt>
     requires form { form_of base ≡ TakesTwo }
     requires count { length tokens.now < 2 ^ 32 }
-    ensures { MatchResult result (λ x. IsBehind (ending_of end) at (BASE base) (form_parts TakesTwo depth) depth x.0 tokens.now x.1.now) (Refuses (ending_of end) (form_parts TakesTwo depth) tokens.now) }
+    ensures { MatchResult result (λ x. IsBehind (ending_of end) at (BASE base) (form_parts TakesTwo depth) depth x.0
+        tokens.now x.1.now) (Refuses (ending_of end) (form_parts TakesTwo depth) tokens.now) }
 {
     let (_, rest) = open(tokens, end, depth)?;
     let (first, rest) = inner(alloc, rest, end, depth)?;
@@ -190,7 +195,8 @@ fn based(
     depth: u32,
 ) -> Result<(Expr, &[Token]), Halt>
     requires count { length tokens.now < 2 ^ 32 }
-    ensures { MatchResult result (λ x. IsBehind (ending_of end) at (BASE base) (form_parts (form_of base) depth) depth x.0 tokens.now x.1.now) (Refuses (ending_of end) (form_parts (form_of base) depth) tokens.now) }
+    ensures { MatchResult result (λ x. IsBehind (ending_of end) at (BASE base) (form_parts (form_of base) depth) depth
+        x.0 tokens.now x.1.now) (Refuses (ending_of end) (form_parts (form_of base) depth) tokens.now) }
 {
     match form_of(base) {
         Form::One => with_one(alloc, base, at, tokens, end, depth),
@@ -209,7 +215,8 @@ fn arguments(
 ) -> Result<(Vec<Expr>, &[Token]), Halt>
     requires depth { depth < nesting_limit }
     requires count { length tokens.now < 2 ^ 32 }
-    ensures { MatchResult result (λ x. AreArguments (ending_of end) (suc depth) x.0.items tokens.now x.1.now) (Refuses (ending_of end) (ExprPart OrLevel (suc depth) ∷ MoreArgs 15 (suc depth) ∷ []) tokens.now) }
+    ensures { MatchResult result (λ x. AreArguments (ending_of end) (suc depth) x.0.items tokens.now x.1.now)
+        (Refuses (ending_of end) (ExprPart OrLevel (suc depth) ∷ MoreArgs 15 (suc depth) ∷ []) tokens.now) }
 {
     let mut args = Vec::new(alloc);
     let (first, behind) = inner(alloc, tokens, end, depth)?;
@@ -237,7 +244,8 @@ fn named<'a>(
     depth: u32,
 ) -> Result<(Expr, &'a [Token]), Halt>
     requires count { length tokens.now < 2 ^ 32 }
-    ensures { MatchResult result (λ x. IsBehind (ending_of end) at (Word name.now) (CallPart depth ∷ []) depth x.0 tokens.now x.1.now) (Refuses (ending_of end) (CallPart depth ∷ []) tokens.now) }
+    ensures { MatchResult result (λ x. IsBehind (ending_of end) at (Word name.now) (CallPart depth ∷ []) depth x.0
+        tokens.now x.1.now) (Refuses (ending_of end) (CallPart depth ∷ []) tokens.now) }
 {
     let name = name.copied(alloc)?;
     match behind_sign(tokens, b'(') {
@@ -264,7 +272,9 @@ fn enclosed(
 ) -> Result<(Expr, &[Token]), Halt>
     requires depth { depth < nesting_limit }
     requires count { length tokens.now < 2 ^ 32 }
-    ensures { MatchResult result (λ x. IsBehind (ending_of end) at (Sign 40) (ExprPart OrLevel (suc depth) ∷ SignPart 41 ∷ []) depth x.0 tokens.now x.1.now) (Refuses (ending_of end) (ExprPart OrLevel (suc depth) ∷ SignPart 41 ∷ []) tokens.now) }
+    ensures { MatchResult result (λ x. IsBehind (ending_of end) at (Sign 40)
+        (ExprPart OrLevel (suc depth) ∷ SignPart 41 ∷ []) depth x.0 tokens.now x.1.now)
+        (Refuses (ending_of end) (ExprPart OrLevel (suc depth) ∷ SignPart 41 ∷ []) tokens.now) }
 {
     let (expr, rest) = inner(alloc, tokens, end, depth)?;
     let (_, rest) = next_sign(rest, end, b')')?;
@@ -282,7 +292,10 @@ fn pair(
 ) -> Result<(Expr, &[Token]), Halt>
     requires depth { depth < nesting_limit }
     requires count { length tokens.now < 2 ^ 32 }
-    ensures { MatchResult result (λ x. IsBehind (ending_of end) at (Sign 91) (ExprPart OrLevel (suc depth) ∷ SignPart 44 ∷ ExprPart OrLevel (suc depth) ∷ SignPart 93 ∷ []) depth x.0 tokens.now x.1.now) (Refuses (ending_of end) (ExprPart OrLevel (suc depth) ∷ SignPart 44 ∷ ExprPart OrLevel (suc depth) ∷ SignPart 93 ∷ []) tokens.now) }
+    ensures { MatchResult result (λ x. IsBehind (ending_of end) at (Sign 91)
+        (ExprPart OrLevel (suc depth) ∷ SignPart 44 ∷ ExprPart OrLevel (suc depth) ∷ SignPart 93 ∷ []) depth x.0
+        tokens.now x.1.now) (Refuses (ending_of end) (ExprPart OrLevel (suc depth) ∷ SignPart 44
+        ∷ ExprPart OrLevel (suc depth) ∷ SignPart 93 ∷ []) tokens.now) }
 {
     let (left, rest) = inner(alloc, tokens, end, depth)?;
     let (_, rest) = next_sign(rest, end, b',')?;
@@ -298,7 +311,8 @@ fn pair(
 fn prim(alloc: Global, tokens: &[Token], end: Ending, depth: u32) -> Result<(Expr, &[Token]), Halt>
     requires depth { depth ≤ nesting_limit }
     requires count { length tokens.now < 2 ^ 32 }
-    ensures { MatchResult result (λ x. IsRead (ending_of end) PrimLevel depth x.0 tokens.now x.1.now) (Refuses (ending_of end) (ExprPart PrimLevel depth ∷ []) tokens.now) }
+    ensures { MatchResult result (λ x. IsRead (ending_of end) PrimLevel depth x.0 tokens.now x.1.now)
+        (Refuses (ending_of end) (ExprPart PrimLevel depth ∷ []) tokens.now) }
 {
     let [first, rest @ ..] = tokens else {
         return Err(missing(tokens, end, Wanted::Expression));
@@ -329,7 +343,8 @@ fn prim(alloc: Global, tokens: &[Token], end: Ending, depth: u32) -> Result<(Exp
 fn post(alloc: Global, tokens: &[Token], end: Ending, depth: u32) -> Result<(Expr, &[Token]), Halt>
     requires depth { depth ≤ nesting_limit }
     requires count { length tokens.now < 2 ^ 32 }
-    ensures { MatchResult result (λ x. IsRead (ending_of end) PostLevel depth x.0 tokens.now x.1.now) (Refuses (ending_of end) (ExprPart PostLevel depth ∷ []) tokens.now) }
+    ensures { MatchResult result (λ x. IsRead (ending_of end) PostLevel depth x.0 tokens.now x.1.now)
+        (Refuses (ending_of end) (ExprPart PostLevel depth ∷ []) tokens.now) }
 {
     let (of, rest) = prim(alloc, tokens, end, depth)?;
     match behind_sign(rest, b'^') {
@@ -348,7 +363,8 @@ fn post(alloc: Global, tokens: &[Token], end: Ending, depth: u32) -> Result<(Exp
 fn unary(alloc: Global, tokens: &[Token], end: Ending, depth: u32) -> Result<(Expr, &[Token]), Halt>
     requires depth { depth ≤ nesting_limit }
     requires count { length tokens.now < 2 ^ 32 }
-    ensures { MatchResult result (λ x. IsRead (ending_of end) UnaryLevel depth x.0 tokens.now x.1.now) (Refuses (ending_of end) (ExprPart UnaryLevel depth ∷ []) tokens.now) }
+    ensures { MatchResult result (λ x. IsRead (ending_of end) UnaryLevel depth x.0 tokens.now x.1.now)
+        (Refuses (ending_of end) (ExprPart UnaryLevel depth ∷ []) tokens.now) }
 {
     match behind_sign(tokens, b'-') {
         Some((at, behind)) => {
@@ -374,7 +390,8 @@ fn operand(
 ) -> Result<(Expr, &[Token]), Halt>
     requires depth { depth ≤ nesting_limit }
     requires count { length tokens.now < 2 ^ 32 }
-    ensures { MatchResult result (λ x. IsRead (ending_of end) (tighter (level_of level)) depth x.0 tokens.now x.1.now) (Refuses (ending_of end) (ExprPart (tighter (level_of level)) depth ∷ []) tokens.now) }
+    ensures { MatchResult result (λ x. IsRead (ending_of end) (tighter (level_of level)) depth x.0 tokens.now x.1.now)
+        (Refuses (ending_of end) (ExprPart (tighter (level_of level)) depth ∷ []) tokens.now) }
 {
     match level {
         Chains::Or => chain(alloc, tokens, end, depth, Chains::And),
@@ -394,7 +411,8 @@ fn chain(
 ) -> Result<(Expr, &[Token]), Halt>
     requires depth { depth ≤ nesting_limit }
     requires count { length tokens.now < 2 ^ 32 }
-    ensures { MatchResult result (λ x. IsRead (ending_of end) (level_of level) depth x.0 tokens.now x.1.now) (Refuses (ending_of end) (ExprPart (level_of level) depth ∷ []) tokens.now) }
+    ensures { MatchResult result (λ x. IsRead (ending_of end) (level_of level) depth x.0 tokens.now x.1.now)
+        (Refuses (ending_of end) (ExprPart (level_of level) depth ∷ []) tokens.now) }
 {
     let (first, behind) = operand(alloc, tokens, end, depth, level)?;
     let mut rest = behind;
@@ -420,7 +438,8 @@ pub fn expression(
 ) -> Result<(Expr, &[Token]), Halt>
     requires depth { depth ≤ nesting_limit }
     requires count { length tokens.now < 2 ^ 32 }
-    ensures { MatchResult result (λ x. IsRead (ending_of end) OrLevel depth x.0 tokens.now x.1.now) (Refuses (ending_of end) (ExprPart OrLevel depth ∷ []) tokens.now) }
+    ensures { MatchResult result (λ x. IsRead (ending_of end) OrLevel depth x.0 tokens.now x.1.now)
+        (Refuses (ending_of end) (ExprPart OrLevel depth ∷ []) tokens.now) }
 {
     chain(alloc, tokens, end, depth, Chains::Or)
 }

@@ -55,7 +55,9 @@ pub fn behind_sign(tokens: &[Token], byte: u8) -> Option<(Place, &[Token])>
 /// This sign.
 #[tactic(auto, using(crate::proofs::Leaves::reads_sign, crate::proofs::Leaves::no_sign))]
 pub fn next_sign(tokens: &[Token], end: Ending, byte: u8) -> Result<(Place, &[Token]), Halt>
-    ensures read { MatchResult result (λ x. TakesAt x.0 (Sign byte) tokens.now x.1.now × Reads (ending_of end) (SignPart byte ∷ []) tokens.now x.1.now) (Refuses (ending_of end) (SignPart byte ∷ []) tokens.now) }
+    ensures read { MatchResult result (λ x. TakesAt x.0 (Sign byte) tokens.now x.1.now
+        × Reads (ending_of end) (SignPart byte ∷ []) tokens.now x.1.now)
+        (Refuses (ending_of end) (SignPart byte ∷ []) tokens.now) }
     ensures memory { IfErr result (λ halt. halt ≡ NoMemory → ⊥) }
 {
     match behind_sign(tokens, byte) {
@@ -99,7 +101,8 @@ fn number_of(keyword: Keyword) -> u8
 /// What stands behind this keyword, where it comes first.
 #[tactic(auto, using(crate::proofs::Leaves::one_number))]
 pub fn behind_word(tokens: &[Token], keyword: Keyword) -> Option<(Place, &[Token])>
-    ensures { MatchOption result (begins_word keyword tokens.now ≡ false) (λ x. TakesAt x.0 (KEYWORD keyword) tokens.now x.1.now) }
+    ensures { MatchOption result (begins_word keyword tokens.now ≡ false)
+        (λ x. TakesAt x.0 (KEYWORD keyword) tokens.now x.1.now) }
 {
     let [first, rest @ ..] = tokens else {
         return None;
@@ -119,7 +122,9 @@ pub fn behind_word(tokens: &[Token], keyword: Keyword) -> Option<(Place, &[Token
 /// This keyword.
 #[tactic(auto, using(crate::proofs::Leaves::reads_word, crate::proofs::Leaves::no_word))]
 pub fn next_word(tokens: &[Token], end: Ending, keyword: Keyword) -> Result<(Place, &[Token]), Halt>
-    ensures read { MatchResult result (λ x. TakesAt x.0 (KEYWORD keyword) tokens.now x.1.now × Reads (ending_of end) (WordPart keyword ∷ []) tokens.now x.1.now) (Refuses (ending_of end) (WordPart keyword ∷ []) tokens.now) }
+    ensures read { MatchResult result (λ x. TakesAt x.0 (KEYWORD keyword) tokens.now x.1.now
+        × Reads (ending_of end) (WordPart keyword ∷ []) tokens.now x.1.now)
+        (Refuses (ending_of end) (WordPart keyword ∷ []) tokens.now) }
     ensures memory { IfErr result (λ halt. halt ≡ NoMemory → ⊥) }
 {
     match behind_word(tokens, keyword) {
@@ -134,7 +139,9 @@ pub fn next_name(
     tokens: &[Token],
     end: Ending,
 ) -> Result<(Name, Place, &[Token]), Halt>
-    ensures read { MatchResult result (λ x. TakesAt x.1 (Word x.0) tokens.now x.2.now × Reads (ending_of end) (NamePart ∷ []) tokens.now x.2.now) (Refuses (ending_of end) (NamePart ∷ []) tokens.now) }
+    ensures read { MatchResult result (λ x. TakesAt x.1 (Word x.0) tokens.now x.2.now
+        × Reads (ending_of end) (NamePart ∷ []) tokens.now x.2.now)
+        (Refuses (ending_of end) (NamePart ∷ []) tokens.now) }
     ensures memory { IfErr result (λ halt. halt ≡ NoMemory → begins_name tokens.now ≡ true) }
 {
     let [first, rest @ ..] = tokens else {
@@ -151,7 +158,9 @@ pub fn next_name(
 
 /// A number.
 pub fn next_number(tokens: &[Token], end: Ending) -> Result<(u64, Place, &[Token]), Halt>
-    ensures read { MatchResult result (λ x. TakesAt x.1 (Number x.0) tokens.now x.2.now × Reads (ending_of end) (NumberPart ∷ []) tokens.now x.2.now) (Refuses (ending_of end) (NumberPart ∷ []) tokens.now) }
+    ensures read { MatchResult result (λ x. TakesAt x.1 (Number x.0) tokens.now x.2.now
+        × Reads (ending_of end) (NumberPart ∷ []) tokens.now x.2.now)
+        (Refuses (ending_of end) (NumberPart ∷ []) tokens.now) }
     ensures memory { IfErr result (λ halt. halt ≡ NoMemory → ⊥) }
 {
     let [first, rest @ ..] = tokens else {
@@ -165,7 +174,9 @@ pub fn next_number(tokens: &[Token], end: Ending) -> Result<(u64, Place, &[Token
 
 /// A number from 1.
 pub fn next_from_one(tokens: &[Token], end: Ending) -> Result<(u64, Place, &[Token]), Halt>
-    ensures read { MatchResult result (λ x. TakesAt x.1 (Number x.0) tokens.now x.2.now × (1 ≤ x.0) × Reads (ending_of end) (FromOne ∷ []) tokens.now x.2.now) (Refuses (ending_of end) (FromOne ∷ []) tokens.now) }
+    ensures read { MatchResult result (λ x. TakesAt x.1 (Number x.0) tokens.now x.2.now × (1 ≤ x.0)
+        × Reads (ending_of end) (FromOne ∷ []) tokens.now x.2.now)
+        (Refuses (ending_of end) (FromOne ∷ []) tokens.now) }
     ensures memory { IfErr result (λ halt. halt ≡ NoMemory → ⊥) }
 {
     let [first, rest @ ..] = tokens else {
@@ -184,7 +195,9 @@ pub fn next_from_one(tokens: &[Token], end: Ending) -> Result<(u64, Place, &[Tok
 
 /// A file text, whose copy takes memory.
 pub fn next_file(alloc: Global, tokens: &[Token], end: Ending) -> Result<(FileText, &[Token]), Halt>
-    ensures read { MatchResult result (λ x. Takes (File x.0) tokens.now x.1.now × Reads (ending_of end) (FilePart ∷ []) tokens.now x.1.now) (Refuses (ending_of end) (FilePart ∷ []) tokens.now) }
+    ensures read { MatchResult result (λ x. Takes (File x.0) tokens.now x.1.now
+        × Reads (ending_of end) (FilePart ∷ []) tokens.now x.1.now)
+        (Refuses (ending_of end) (FilePart ∷ []) tokens.now) }
     ensures memory { IfErr result (λ halt. halt ≡ NoMemory → begins_file tokens.now ≡ true) }
 {
     let [first, rest @ ..] = tokens else {
@@ -202,7 +215,9 @@ pub fn next_file(alloc: Global, tokens: &[Token], end: Ending) -> Result<(FileTe
 /// The parenthesis that opens one more construct where so many are open.
 #[tactic(auto, using(crate::proofs::Leaves::no_open, crate::proofs::Leaves::opens, crate::proofs::Leaves::opens_too_deep))]
 pub fn open(tokens: &[Token], end: Ending, depth: u32) -> Result<(Place, &[Token]), Halt>
-    ensures read { MatchResult result (λ x. TakesAt x.0 (Sign 40) tokens.now x.1.now × (depth < nesting_limit) × Reads (ending_of end) (OpenPart depth ∷ []) tokens.now x.1.now) (Refuses (ending_of end) (OpenPart depth ∷ []) tokens.now) }
+    ensures read { MatchResult result (λ x. TakesAt x.0 (Sign 40) tokens.now x.1.now × (depth < nesting_limit)
+        × Reads (ending_of end) (OpenPart depth ∷ []) tokens.now x.1.now)
+        (Refuses (ending_of end) (OpenPart depth ∷ []) tokens.now) }
     ensures memory { IfErr result (λ halt. halt ≡ NoMemory → ⊥) }
 {
     let Some((at, rest)) = behind_sign(tokens, b'(') else {

@@ -100,7 +100,8 @@ fn next_lexeme(alloc: Global, at: Place, bytes: &[u8]) -> Result<Lexeme, Halt>
 /// The tokens of a text up to its end or its first flaw.
 pub fn lexed(alloc: Global, bytes: &[u8]) -> Result<(Vec<Token>, Ending), Halt>
     requires { length bytes.now ≤ 2 ^ 20 }
-    ensures { MatchResult result (λ x. (lexed_of bytes.now ≡ record { tokens = x.0.items; ending = ending_of x.1 }) × (length x.0.items ≤ length bytes.now)) OnlyMemory }
+    ensures { MatchResult result (λ x. (lexed_of bytes.now ≡ record { tokens = x.0.items; ending = ending_of x.1 })
+        × (length x.0.items ≤ length bytes.now)) OnlyMemory }
 {
     let mut out = Vec::new(alloc);
     let mut at = Place { line: 1, column: 1 };

@@ -131,7 +131,8 @@ fn write_args(text: &mut Vec<u8>, args: &[Expr]) -> Result<(), NoMemory>
 /// A word more, and arguments in parentheses.
 #[cycle(print)]
 fn write_call(text: &mut Vec<u8>, word: &[u8], args: &[Expr]) -> Result<(), NoMemory>
-    ensures { OnOk result (text.new.items ≡ text.old.items ++ (word.now ++ (40 ∷ printed_all_args args.now ++ 41 ∷ []))) }
+    ensures { OnOk result (text.new.items ≡ text.old.items
+        ++ (word.now ++ (40 ∷ printed_all_args args.now ++ 41 ∷ []))) }
 {
     text.extend_from_slice(word)?;
     text.push(b'(')?;

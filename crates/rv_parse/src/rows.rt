@@ -32,7 +32,8 @@ fn begins_number(tokens: &[Token]) -> bool
 /// The columns of a row.
 #[tactic(auto, using(crate::proofs::RowSteps::drop_columns))]
 fn columns(alloc: Global, tokens: &[Token], end: Ending) -> Result<(Vec<Column>, &[Token]), Halt>
-    ensures { MatchResult result (λ x. Got (ending_of end) (FromOne ∷ MoreColumns ∷ []) (SpellsColumns x.0.items) tokens.now x.1.now) (Refuses (ending_of end) (FromOne ∷ MoreColumns ∷ []) tokens.now) }
+    ensures { MatchResult result (λ x. Got (ending_of end) (FromOne ∷ MoreColumns ∷ []) (SpellsColumns x.0.items)
+        tokens.now x.1.now) (Refuses (ending_of end) (FromOne ∷ MoreColumns ∷ []) tokens.now) }
 {
     let (col, at, mut rest) = next_from_one(tokens, end)?;
     let mut cols = Vec::new(alloc);
@@ -47,7 +48,8 @@ fn columns(alloc: Global, tokens: &[Token], end: Ending) -> Result<(Vec<Column>,
 
 /// A row.
 fn row(alloc: Global, tokens: &[Token], end: Ending) -> Result<(Row, &[Token]), Halt>
-    ensures { MatchResult result (λ x. Got (ending_of end) row_parts (SpellsRow x.0) tokens.now x.1.now) (Refuses (ending_of end) row_parts tokens.now) }
+    ensures { MatchResult result (λ x. Got (ending_of end) row_parts (SpellsRow x.0) tokens.now x.1.now)
+        (Refuses (ending_of end) row_parts tokens.now) }
 {
     let (row, at, rest) = next_from_one(tokens, end)?;
     let (_, rest) = next_sign(rest, end, b':')?;
@@ -58,7 +60,8 @@ fn row(alloc: Global, tokens: &[Token], end: Ending) -> Result<(Row, &[Token]), 
 /// The rows between the braces.
 #[tactic(auto, using(crate::proofs::RowSteps::drop_rows, crate::proofs::RowSteps::drop_more_rows))]
 fn rows(alloc: Global, tokens: &[Token], end: Ending) -> Result<(Vec<Row>, &[Token]), Halt>
-    ensures { MatchResult result (λ x. Got (ending_of end) (RowsPart ∷ []) (SpellsRows x.0.items) tokens.now x.1.now) (Refuses (ending_of end) (RowsPart ∷ []) tokens.now) }
+    ensures { MatchResult result (λ x. Got (ending_of end) (RowsPart ∷ []) (SpellsRows x.0.items) tokens.now x.1.now)
+        (Refuses (ending_of end) (RowsPart ∷ []) tokens.now) }
 {
     let mut rows = Vec::new(alloc);
     if !begins_number(tokens) {
@@ -77,7 +80,9 @@ fn rows(alloc: Global, tokens: &[Token], end: Ending) -> Result<(Vec<Row>, &[Tok
 
 /// The relation behind REL.
 pub fn relation(alloc: Global, tokens: &[Token], end: Ending) -> Result<(Command, &[Token]), Halt>
-    ensures { MatchResult result (λ x. Got (ending_of end) relation_parts (λ t r. (before : List TOKEN) → Takes (KEYWORD REL) before t → SpellsCommand x.0 before r) tokens.now x.1.now) (Refuses (ending_of end) relation_parts tokens.now) }
+    ensures { MatchResult result (λ x. Got (ending_of end) relation_parts
+        (λ t r. (before : List TOKEN) → Takes (KEYWORD REL) before t → SpellsCommand x.0 before r) tokens.now x.1.now)
+        (Refuses (ending_of end) relation_parts tokens.now) }
 {
     let (name, _, rest) = next_name(alloc, tokens, end)?;
     let (rows_total, rows_at, rest) = next_number(rest, end)?;

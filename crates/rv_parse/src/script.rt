@@ -59,7 +59,8 @@ fn first_opening(tokens: &[Token]) -> Option<(Opening, &[Token])>
 fn next_item(alloc: Global, tokens: &[Token], end: Ending) -> Result<(Item, &[Token]), Halt>
     requires first { 0 < length tokens.now }
     requires count { length tokens.now < 2 ^ 32 }
-    ensures { MatchResult result (λ x. ItemIs (ending_of end) x.0 tokens.now x.1.now) (RefusesItems (ending_of end) tokens.now) }
+    ensures { MatchResult result (λ x. ItemIs (ending_of end) x.0 tokens.now x.1.now)
+        (RefusesItems (ending_of end) tokens.now) }
 {
     if let Some((name, at, behind)) = first_name(tokens) {
         let (item, rest) = definition(alloc, name, at, behind, end)?;
@@ -76,7 +77,8 @@ fn next_item(alloc: Global, tokens: &[Token], end: Ending) -> Result<(Item, &[To
 fn whole_item(alloc: Global, tokens: &[Token], end: Ending) -> Result<(Item, &[Token]), Halt>
     requires first { 0 < length tokens.now }
     requires count { length tokens.now < 2 ^ 32 }
-    ensures { MatchResult result (λ x. ItemEnds (ending_of end) x.0 tokens.now x.1.now) (RefusesItems (ending_of end) tokens.now) }
+    ensures { MatchResult result (λ x. ItemEnds (ending_of end) x.0 tokens.now x.1.now)
+        (RefusesItems (ending_of end) tokens.now) }
 {
     let (item, rest) = next_item(alloc, tokens, end)?;
     let (_, rest) = next_sign(rest, end, b'.')?;
@@ -86,7 +88,9 @@ fn whole_item(alloc: Global, tokens: &[Token], end: Ending) -> Result<(Item, &[T
 /// All items.
 fn items(alloc: Global, tokens: &[Token], end: Ending) -> Result<Vec<Item>, Halt>
     requires { length tokens.now < 2 ^ 32 }
-    ensures { MatchResult result (λ v. SpellsItems v.items tokens.now [] × (stop_of (ItemsPart ∷ []) tokens.now (ending_of end) ≡ stop_of (ItemsPart ∷ []) [] (ending_of end))) (RefusesItems (ending_of end) tokens.now) }
+    ensures { MatchResult result (λ v. SpellsItems v.items tokens.now []
+        × (stop_of (ItemsPart ∷ []) tokens.now (ending_of end) ≡ stop_of (ItemsPart ∷ []) [] (ending_of end)))
+        (RefusesItems (ending_of end) tokens.now) }
 {
     let mut items = Vec::new(alloc);
     let mut rest = tokens;
@@ -101,7 +105,8 @@ fn items(alloc: Global, tokens: &[Token], end: Ending) -> Result<Vec<Item>, Halt
 /// The script that the tokens spell up to the end of the text.
 fn script_of(alloc: Global, tokens: &[Token], end: Ending) -> Result<Script, Halt>
     requires { length tokens.now < 2 ^ 32 }
-    ensures { MatchResult result (λ script. Spells script tokens.now × ((place : PLACE) × (ending_of end ≡ EndsAt place))) (RefusesItems (ending_of end) tokens.now) }
+    ensures { MatchResult result (λ script. Spells script tokens.now
+        × ((place : PLACE) × (ending_of end ≡ EndsAt place))) (RefusesItems (ending_of end) tokens.now) }
 {
     let items = items(alloc, tokens, end)?;
     match end {

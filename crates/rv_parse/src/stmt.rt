@@ -28,7 +28,9 @@ fn set<'a>(
 ) -> Result<(Stmt, &'a [Token]), Halt>
     requires depth { depth ≤ nesting_limit }
     requires count { length tokens.now < 2 ^ 32 }
-    ensures { MatchResult result (λ x. Got (ending_of end) (set_parts depth) (λ t r. (before : List TOKEN) → TakesAt at (Word name.now) before t → SpelledStmt depth x.0 before r) tokens.now x.1.now) (Refuses (ending_of end) (set_parts depth) tokens.now) }
+    ensures { MatchResult result (λ x. Got (ending_of end) (set_parts depth)
+        (λ t r. (before : List TOKEN) → TakesAt at (Word name.now) before t → SpelledStmt depth x.0 before r)
+        tokens.now x.1.now) (Refuses (ending_of end) (set_parts depth) tokens.now) }
 {
     let name = name.copied(alloc)?;
     let (_, rest) = next_sign(tokens, end, b'=')?;
@@ -46,7 +48,9 @@ fn inner_stmts(
 ) -> Result<(Vec<Stmt>, &[Token]), Halt>
     requires depth { depth < nesting_limit }
     requires count { length tokens.now < 2 ^ 32 }
-    ensures { MatchResult result (λ x. Got (ending_of end) (StmtsPart (suc depth) ∷ []) (SpelledStmts (suc depth) x.0.items) tokens.now x.1.now) (Refuses (ending_of end) (StmtsPart (suc depth) ∷ []) tokens.now) }
+    ensures { MatchResult result (λ x. Got (ending_of end) (StmtsPart (suc depth) ∷ [])
+        (SpelledStmts (suc depth) x.0.items) tokens.now x.1.now)
+        (Refuses (ending_of end) (StmtsPart (suc depth) ∷ []) tokens.now) }
 {
     stmts(alloc, tokens, end, depth + 1)
 }
@@ -62,7 +66,9 @@ fn looped(
 ) -> Result<(Stmt, &[Token]), Halt>
     requires depth { depth < nesting_limit }
     requires count { length tokens.now < 2 ^ 32 }
-    ensures { MatchResult result (λ x. Got (ending_of end) (while_parts depth) (λ t r. (before : List TOKEN) → TakesAt at (KEYWORD WHILE) before t → SpelledStmt depth x.0 before r) tokens.now x.1.now) (Refuses (ending_of end) (while_parts depth) tokens.now) }
+    ensures { MatchResult result (λ x. Got (ending_of end) (while_parts depth)
+        (λ t r. (before : List TOKEN) → TakesAt at (KEYWORD WHILE) before t → SpelledStmt depth x.0 before r)
+        tokens.now x.1.now) (Refuses (ending_of end) (while_parts depth) tokens.now) }
 {
     let (test, rest) = inner(alloc, tokens, end, depth)?;
     let (_, rest) = next_word(rest, end, Keyword::Do)?;
@@ -82,7 +88,9 @@ fn branched(
 ) -> Result<(Stmt, &[Token]), Halt>
     requires depth { depth < nesting_limit }
     requires count { length tokens.now < 2 ^ 32 }
-    ensures { MatchResult result (λ x. Got (ending_of end) (if_parts depth) (λ t r. (before : List TOKEN) → TakesAt at (KEYWORD IF) before t → SpelledStmt depth x.0 before r) tokens.now x.1.now) (Refuses (ending_of end) (if_parts depth) tokens.now) }
+    ensures { MatchResult result (λ x. Got (ending_of end) (if_parts depth)
+        (λ t r. (before : List TOKEN) → TakesAt at (KEYWORD IF) before t → SpelledStmt depth x.0 before r) tokens.now
+        x.1.now) (Refuses (ending_of end) (if_parts depth) tokens.now) }
 {
     let (test, rest) = inner(alloc, tokens, end, depth)?;
     let (_, rest) = next_word(rest, end, Keyword::Then)?;
@@ -111,7 +119,10 @@ fn next_stmt(
 ) -> Result<Option<(Stmt, &[Token])>, Halt>
     requires depth { depth ≤ nesting_limit }
     requires count { length tokens.now < 2 ^ 32 }
-    ensures { MatchResult result (λ o. MatchOption o (ReadsTo (ending_of end) (StmtsPart depth ∷ []) [] tokens.now tokens.now) (λ x. SpelledStmt depth x.0 tokens.now x.1.now × (length x.1.now < length tokens.now) × ReadsTo (ending_of end) (StmtsPart depth ∷ []) (MoreStmts depth ∷ []) tokens.now x.1.now)) (Refuses (ending_of end) (StmtsPart depth ∷ []) tokens.now) }
+    ensures { MatchResult result (λ o. MatchOption o (ReadsTo (ending_of end) (StmtsPart depth ∷ []) [] tokens.now
+        tokens.now) (λ x. SpelledStmt depth x.0 tokens.now x.1.now × (length x.1.now < length tokens.now)
+        × ReadsTo (ending_of end) (StmtsPart depth ∷ []) (MoreStmts depth ∷ []) tokens.now x.1.now))
+        (Refuses (ending_of end) (StmtsPart depth ∷ []) tokens.now) }
 {
     let [first, rest @ ..] = tokens else {
         return Ok(None);
@@ -150,7 +161,8 @@ pub fn stmts(
 ) -> Result<(Vec<Stmt>, &[Token]), Halt>
     requires depth { depth ≤ nesting_limit }
     requires count { length tokens.now < 2 ^ 32 }
-    ensures { MatchResult result (λ x. Got (ending_of end) (StmtsPart depth ∷ []) (SpelledStmts depth x.0.items) tokens.now x.1.now) (Refuses (ending_of end) (StmtsPart depth ∷ []) tokens.now) }
+    ensures { MatchResult result (λ x. Got (ending_of end) (StmtsPart depth ∷ []) (SpelledStmts depth x.0.items)
+        tokens.now x.1.now) (Refuses (ending_of end) (StmtsPart depth ∷ []) tokens.now) }
 {
     let mut stmts = Vec::new(alloc);
     let mut rest = tokens;

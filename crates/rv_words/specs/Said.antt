@@ -14,7 +14,8 @@ is_number text = nat_le 1 (length text) && (nat_le (length text) 20 && list_all 
 -- the number that a value writes, where it lies from `least` to `most`
 abbrev pub number_within : ℕ → ℕ → Word → Option ℕ
 number_within least most text =
-    if is_number text && (nat_le least (digits_value 10 text) && nat_le (digits_value 10 text) most) then Some (digits_value 10 text) else None
+    if is_number text && (nat_le least (digits_value 10 text) && nat_le (digits_value 10 text) most) then Some
+        (digits_value 10 text) else None
 
 -- the number of an option that stands at most once, and without it the default
 abbrev pub number_or : ℕ → ℕ → ℕ → List Word → Option ℕ
@@ -57,7 +58,8 @@ scripts_in (word ∷ rest) = if is_relation_word word then scripts_in rest else 
 abbrev pub most_files : ℕ
 most_files = 64
 
--- whether a number of scripts and of FILE words fits: with --gen there is no FILE word, and without it at least one script
+-- whether a number of scripts and of FILE words fits: with --gen there is no FILE word, and without it at least one
+-- script
 abbrev pub fits_gen : Option ℕ → ℕ → ℕ → Bool
 fits_gen (Some number) scripts files = files == 0
 fits_gen None scripts files = nat_le 1 scripts
@@ -95,7 +97,8 @@ with_files workers nodes turns history number files = if are_files_taken number 
 -- what the values say that stand under each name: 1 to 64 workers, 2 ^ 10 to 2 ^ 24 node words, up to 1000000000 turns
 abbrev pub said_from : (Word → List Word) → Option Said
 said_from values = option_and_then (λ workers. option_and_then (λ nodes. option_and_then (λ turns.
-    option_and_then (λ history. option_and_then (λ number. with_files workers nodes turns history number (values file_name))
+    option_and_then (λ history. option_and_then (λ number. with_files workers nodes turns history number
+        (values file_name))
     (gen_number (values gen_name)))
     (switched (values history_name)))
     (number_or 0 1000000000 1000000 (values turns_name)))

@@ -28,4 +28,5 @@ bare = on_top (λ s. record s { no_binary_name = true; disable_help_flag = true 
 
 -- the command: four options that take a value, one that takes none, and FILE words
 abbrev pub app : App
-app = with_rule (with_rule (with_rule (with_rule (with_rule (with_rule bare (valued workers_name)) (valued nodes_name)) (valued turns_name)) (valued gen_name)) history) file
+app = with_rule (with_rule (with_rule (with_rule (with_rule (with_rule bare (valued workers_name))
+    (valued nodes_name)) (valued turns_name)) (valued gen_name)) history) file

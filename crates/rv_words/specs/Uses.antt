@@ -15,7 +15,8 @@ is_hyphen byte = byte == 45
 abbrev pub is_equals : ℕ → Bool
 is_equals byte = byte == 61
 
--- a word is plain, where it is a FILE word or the value of the option before it; or ends the options; or is a long option, with its name and the value behind =; or is foreign, and stands in no taken words
+-- a word is plain, where it is a FILE word or the value of the option before it; or ends the options; or is a long
+-- option, with its name and the value behind =; or is foreign, and stands in no taken words
 pub data Kind : Type 0 where
   plain : Kind
   ends : Kind
@@ -63,7 +64,8 @@ file_name = codes "file"
 
 -- whether an option of this name takes a value
 abbrev pub takes_value : Word → Bool
-takes_value name = bytes_eq workers_name name || (bytes_eq nodes_name name || (bytes_eq turns_name name || bytes_eq gen_name name))
+takes_value name = bytes_eq workers_name name || (bytes_eq nodes_name name
+    || (bytes_eq turns_name name || bytes_eq gen_name name))
 
 -- an option or a FILE word as it stands in the words: its name, and its value, which is empty for --history
 pub record Use : Type 0 where
@@ -79,7 +81,8 @@ abbrev pub used : Word → Word → Option (List Use) → Option (List Use)
 used name value rest = option_map (λ uses. record { name = name; value = value } ∷ uses) rest
 
 -- ---- from the left
--- an option that takes a value: behind =, or the next word. `next` reads the other words, where an option may wait for its value
+-- an option that takes a value: behind =, or the next word. `next` reads the other words, where an option may wait
+-- for its value
 abbrev pub valued_uses : Word → Option Word → (Option Word → Option (List Use)) → Option (List Use)
 valued_uses name (Some value) next = used name value (next None)
 valued_uses name None next = next (Some name)
@@ -92,7 +95,8 @@ switch_uses None next = used history_name [] (next None)
 -- a long option
 abbrev pub long_uses : Word → Option Word → (Option Word → Option (List Use)) → Option (List Use)
 long_uses name value next =
-    if bytes_eq history_name name then switch_uses value next else (if takes_value name then valued_uses name value next else None)
+    if bytes_eq history_name name then switch_uses value next
+        else (if takes_value name then valued_uses name value next else None)
 
 -- a word, where no option waits for its value
 abbrev pub free_uses : Kind → Word → List Word → (Option Word → Option (List Use)) → Option (List Use)
@@ -111,7 +115,8 @@ abbrev pub word_uses : Option Word → Word → List Word → (Option Word → O
 word_uses None word rest next = free_uses (kind_of word) word rest next
 word_uses (Some name) word rest next = value_uses (kind_of word) name word next
 
--- what stands in the words, from the left, where an option may wait for its value; none where the words are outside the set
+-- what stands in the words, from the left, where an option may wait for its value; none where the words are outside
+-- the set
 abbrev pub uses_from : List Word → Option Word → Option (List Use)
 uses_from [] waiting = if is_some waiting then None else Some []
 uses_from (word ∷ rest) waiting = word_uses waiting word rest (uses_from rest)
@@ -123,4 +128,5 @@ uses_in words = uses_from words None
 -- the values that stand under a name, in their order
 abbrev pub values_of : List Use → Word → List Word
 values_of [] name = []
-values_of (use_here ∷ rest) name = if bytes_eq use_here.name name then use_here.value ∷ values_of rest name else values_of rest name
+values_of (use_here ∷ rest) name = if bytes_eq use_here.name name then use_here.value
+    ∷ values_of rest name else values_of rest name

@@ -65,7 +65,8 @@ fn with_files(
 ) -> Result<Options, WordsError>
     ensures taken { IfOk result (λ options. said.with_files numbers.0 numbers.1 numbers.2 history number
         (map (λ file. file.now) files.now) ≡ Some (shown options)) }
-    ensures usage { IfErr result (λ error. error ≡ words_error.Usage → said.with_files numbers.0 numbers.1 numbers.2 history number
+    ensures usage { IfErr result (λ error. error ≡ words_error.Usage
+        → said.with_files numbers.0 numbers.1 numbers.2 history number
         (map (λ file. file.now) files.now) ≡ None) }
 {
     if !are_files_taken(number, files) {
@@ -99,7 +100,8 @@ fn with_found_files(
 ) -> Result<Options, WordsError>
     ensures taken { IfOk result (λ options. said.with_files numbers.0 numbers.1 numbers.2 history number
         (found_values matches.now (codes "file")) ≡ Some (shown options)) }
-    ensures usage { IfErr result (λ error. error ≡ words_error.Usage → said.with_files numbers.0 numbers.1 numbers.2 history number
+    ensures usage { IfErr result (λ error. error ≡ words_error.Usage
+        → said.with_files numbers.0 numbers.1 numbers.2 history number
         (found_values matches.now (codes "file")) ≡ None) }
 {
     match matches.get_raw("file") {
@@ -111,7 +113,8 @@ fn with_found_files(
 /// The options that the found values give.
 fn options_of(alloc: Global, matches: &ArgMatches) -> Result<Options, WordsError>
     ensures taken { IfOk result (λ options. said.said_from (found_values matches.now) ≡ Some (shown options)) }
-    ensures usage { IfErr result (λ error. error ≡ words_error.Usage → said.said_from (found_values matches.now) ≡ None) }
+    ensures usage { IfErr result (λ error. error ≡ words_error.Usage
+        → said.said_from (found_values matches.now) ≡ None) }
 {
     let Some(workers) = number_or(matches, "workers", 1, 64, 1) else {
         return Err(WordsError::Usage);

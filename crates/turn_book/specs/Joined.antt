@@ -14,7 +14,8 @@ abbrev pub places : List View → ℕ
 places [] = 0
 places (p ∷ ps) = p.spare + 1 + places ps
 
--- one pass after these were joined to it: it holds their lists behind its own, and the log that it has seen begins with what each of them had seen
+-- one pass after these were joined to it: it holds their lists behind its own, and the log that it has seen begins
+-- with what each of them had seen
 pub record JoinsAll (passes : List View) (old new : View) : Type 0 where
   pub book : new.book ≡ old.book
   pub house : new.house ≡ old.house

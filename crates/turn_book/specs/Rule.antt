@@ -43,13 +43,16 @@ module _ {S : Type 0} where
     pub few : passes < 2 ^ 32
     pub idle : (id : ℕ) (v : Known S) → get_elem? views id ≡ some v → v.parts ≡ 0 → IsSpent v
 
-  -- tickets and turns, counted modulo 2^64: as many turns were served as there were tickets drawn, but for those of the passes that wait, which have the numbers that come next, each another one
+  -- tickets and turns, counted modulo 2^64: as many turns were served as there were tickets drawn, but for those of
+  -- the passes that wait, which have the numbers that come next, each another one
   pub record Queued (ticket serving : ℕ) (views : List (Known S)) : Type 0 where
     pub served : ℕ
     pub serving_is : serving ≡ served % 2 ^ 64
     pub ticket_is : ticket ≡ (served + total waiting views) % 2 ^ 64
-    pub in_line : (id : ℕ) (v : Known S) (t : ℕ) → get_elem? views id ≡ some v → v.ticket ≡ Some t → (k : ℕ) × (k < total waiting views) × (t ≡ (served + k) % 2 ^ 64)
-    pub apart : (i j : ℕ) (v w : Known S) (t : ℕ) → get_elem? views i ≡ some v → get_elem? views j ≡ some w → v.ticket ≡ Some t → w.ticket ≡ Some t → i ≡ j
+    pub in_line : (id : ℕ) (v : Known S) (t : ℕ) → get_elem? views id ≡ some v → v.ticket ≡ Some t
+        → (k : ℕ) × (k < total waiting views) × (t ≡ (served + k) % 2 ^ 64)
+    pub apart : (i j : ℕ) (v w : Known S) (t : ℕ) → get_elem? views i ≡ some v → get_elem? views j ≡ some w
+        → v.ticket ≡ Some t → w.ticket ≡ Some t → i ≡ j
 
   -- what a pass has seen and added, in the present log
   pub record Logged (present : List Entry) (views : List (Known S)) : Type 0 where
@@ -59,7 +62,8 @@ module _ {S : Type 0} where
     pub in_order : (id : ℕ) (v : Known S) → get_elem? views id ≡ some v → EachWithin (lists v) present
     pub exactly : (h : Entry → ℕ) → total (λ v. weigh_all h (lists v)) views ≡ weigh h present
 
-  -- the value stands in the slot, or the pass whose turn it is has it; while it is out, the present log is the one with which it was taken
+  -- the value stands in the slot, or the pass whose turn it is has it; while it is out, the present log is the one
+  -- with which it was taken
   module _ (log : S → List Entry) (origin : S → Origin) (first : S) where
     pub record IsHome (present : List Entry) (home : maybe.Option (Option S)) (views : List (Known S)) : Type 0 where
       pub value : S
@@ -74,10 +78,13 @@ module _ {S : Type 0} where
       pub at : get_elem? views holder ≡ some view
       pub holds : view.turn ≡ true
 
-    pub record Placed (serving : ℕ) (present : List Entry) (homes : List (maybe.Option (Option S))) (views : List (Known S)) : Type 0 where
+    pub record Placed (serving : ℕ) (present : List Entry) (homes : List (maybe.Option (Option S)))
+        (views : List (Known S)) : Type 0 where
       pub one_slot : length homes ≡ 1
-      pub place : ((home : maybe.Option (Option S)) × (get_elem? homes 0 ≡ some home) × IsHome present home views) ⊎ IsOut views
-      pub turn_is : (id : ℕ) (v : Known S) → get_elem? views id ≡ some v → v.turn ≡ true → (v.ticket ≡ Some serving) × (v.seen ≡ present)
+      pub place : ((home : maybe.Option (Option S)) × (get_elem? homes 0 ≡ some home) × IsHome present home views)
+          ⊎ IsOut views
+      pub turn_is : (id : ℕ) (v : Known S) → get_elem? views id ≡ some v → v.turn ≡ true
+          → (v.ticket ≡ Some serving) × (v.seen ≡ present)
       pub one_origin : (id : ℕ) (v : Known S) → get_elem? views id ≡ some v → v.parts ≢ 0 → v.origin ≡ Some first
 
     pub record HoldsAt (passes : ℕ) (s : State (Option S) (Known S)) : Type 0 where
@@ -96,19 +103,23 @@ module _ {S : Type 0} where
 
   -- the view of the first pass
   abbrev pub first_view : Opening S → Known S
-  first_view key = record { origin = Some key.first.value; parts = key.passes; ticket = None; turn = false; seen = []; told = []; mine = []; joined = [] }
+  first_view key = record { origin = Some key.first.value; parts = key.passes; ticket = None; turn = false; seen = [];
+      told = []; mine = []; joined = [] }
 
   -- what a pass keeps when a second one is split off
   abbrev pub left_of : Known S → Known S
-  left_of v = record { origin = v.origin; parts = v.parts - 1; ticket = v.ticket; turn = v.turn; seen = v.seen; told = v.told; mine = v.mine; joined = v.joined }
+  left_of v = record { origin = v.origin; parts = v.parts - 1; ticket = v.ticket; turn = v.turn; seen = v.seen;
+      told = v.told; mine = v.mine; joined = v.joined }
 
   -- what the second pass gets
   abbrev pub right_of : Known S → Known S
-  right_of v = record { origin = v.origin; parts = 1; ticket = None; turn = false; seen = v.seen; told = []; mine = []; joined = [] }
+  right_of v = record { origin = v.origin; parts = 1; ticket = None; turn = false;
+      seen = v.seen; told = []; mine = []; joined = [] }
 
   -- what one pass is when another was joined to it: it keeps the longer of both logs, and has been told of the shorter
   abbrev pub both_of : Known S → Known S → Known S
-  both_of v w = record { origin = v.origin; parts = v.parts + w.parts; ticket = v.ticket; turn = v.turn; seen = longer v.seen w.seen; told = shorter v.seen w.seen; mine = v.mine; joined = v.joined ++ lists w }
+  both_of v w = record { origin = v.origin; parts = v.parts + w.parts; ticket = v.ticket; turn = v.turn;
+      seen = longer v.seen w.seen; told = shorter v.seen w.seen; mine = v.mine; joined = v.joined ++ lists w }
 
   -- what is left of a pass that was joined to another
   abbrev pub spent : Known S

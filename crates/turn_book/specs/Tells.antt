@@ -9,26 +9,31 @@ use Rattle.turn_book.specs.Origins.{Origin}
 module _ {S : Type 0} where
   -- a ticket is drawn
   abbrev pub drawn : ℕ → Known S → Known S
-  drawn t v = record { origin = v.origin; parts = v.parts; ticket = Some t; turn = false; seen = v.seen; told = v.told; mine = v.mine; joined = v.joined }
+  drawn t v = record { origin = v.origin; parts = v.parts; ticket = Some t; turn = false; seen = v.seen;
+      told = v.told; mine = v.mine; joined = v.joined }
 
   -- the turn has come, and the log is seen
   abbrev pub holding : List Entry → Known S → Known S
-  holding log v = record { origin = v.origin; parts = v.parts; ticket = v.ticket; turn = true; seen = log; told = v.told; mine = v.mine; joined = v.joined }
+  holding log v = record { origin = v.origin; parts = v.parts; ticket = v.ticket; turn = true; seen = log;
+      told = v.told; mine = v.mine; joined = v.joined }
 
   -- the turn is given back
   abbrev pub given : List Entry → Known S → Known S
-  given log v = record { origin = v.origin; parts = v.parts; ticket = None; turn = false; seen = log; told = v.told; mine = v.mine ++ drop (length v.seen) log; joined = v.joined }
+  given log v = record { origin = v.origin; parts = v.parts; ticket = None; turn = false; seen = log; told = v.told;
+      mine = v.mine ++ drop (length v.seen) log; joined = v.joined }
 
   -- what was told is seen
   abbrev pub settled : Known S → Known S
-  settled v = record { origin = v.origin; parts = v.parts; ticket = v.ticket; turn = v.turn; seen = v.seen; told = []; mine = v.mine; joined = v.joined }
+  settled v = record { origin = v.origin; parts = v.parts; ticket = v.ticket; turn = v.turn; seen = v.seen; told = [];
+      mine = v.mine; joined = v.joined }
 
   -- a ticket is drawn, which is the number found
   abbrev pub draw_tells : Step (Option S) → Me (Option S) (Known S) → ℕ → Me (Option S) (Known S) → Type 0
   draw_tells s m found n = n ≡ (drawn found m.0, m.1)
 
   -- a ticket is drawn, where it is this number; else nothing changes
-  pub record DrawWhereTells (number : ℕ) (m : Me (Option S) (Known S)) (found : ℕ) (n : Me (Option S) (Known S)) : Type 0 where
+  pub record DrawWhereTells (number : ℕ) (m : Me (Option S) (Known S)) (found : ℕ)
+      (n : Me (Option S) (Known S)) : Type 0 where
     pub there : found ≡ number → n ≡ (drawn number m.0, m.1)
     pub gone : found ≢ number → n ≡ m
 
@@ -38,26 +43,32 @@ module _ {S : Type 0} where
 
   -- the value is taken: its log begins with what was seen, and it has the book's origin
   abbrev pub TakesValue : (S → List Entry) → (S → Origin) → Me (Option S) (Known S) → Me (Option S) (Known S) → Type 0
-  TakesValue log origin m n = (y : S) × (n ≡ (holding (log y) m.0, (0, Some y) ∷ m.1)) × Begins m.0.seen (log y) × ((x : S) → m.0.origin ≡ Some x → origin y ≡ origin x)
+  TakesValue log origin m n = (y : S) × (n ≡ (holding (log y) m.0, (0, Some y) ∷ m.1)) × Begins m.0.seen (log y)
+      × ((x : S) → m.0.origin ≡ Some x → origin y ≡ origin x)
 
-  -- a look at the number that is served: at the own ticket the value is taken, whose log begins with what was seen; else nothing changes
-  pub record LookTells (log : S → List Entry) (origin : S → Origin) (m : Me (Option S) (Known S)) (found : ℕ) (n : Me (Option S) (Known S)) : Type 0 where
+  -- a look at the number that is served: at the own ticket the value is taken, whose log begins with what was seen;
+  -- else nothing changes
+  pub record LookTells (log : S → List Entry) (origin : S → Origin) (m : Me (Option S) (Known S)) (found : ℕ)
+      (n : Me (Option S) (Known S)) : Type 0 where
     pub own : m.0.ticket ≡ Some found → TakesValue log origin m n
     pub other : m.0.ticket ≢ Some found → n ≡ m
 
-  abbrev pub look_tells : (S → List Entry) → (S → Origin) → Step (Option S) → Me (Option S) (Known S) → ℕ → Me (Option S) (Known S) → Type 0
+  abbrev pub look_tells : (S → List Entry) → (S → Origin) → Step (Option S) → Me (Option S) (Known S) → ℕ
+      → Me (Option S) (Known S) → Type 0
   look_tells log origin s m found n = LookTells log origin m found n
 
   -- the value is in hand: its log begins with what was seen, and it has the book's origin
   abbrev pub HasValue : (S → List Entry) → (S → Origin) → Me (Option S) (Known S) → Type 0
-  HasValue log origin m = (y : S) × (m.1 ≡ (0, Some y) ∷ []) × Begins m.0.seen (log y) × ((x : S) → m.0.origin ≡ Some x → origin y ≡ origin x)
+  HasValue log origin m = (y : S) × (m.1 ≡ (0, Some y) ∷ []) × Begins m.0.seen (log y)
+      × ((x : S) → m.0.origin ≡ Some x → origin y ≡ origin x)
 
   -- the next number is served, and the value is given back
   abbrev pub GivesValue : (S → List Entry) → Me (Option S) (Known S) → Me (Option S) (Known S) → Type 0
   GivesValue log m n = (y : S) → m.1 ≡ (0, Some y) ∷ [] → n ≡ (given (log y) m.0, [])
 
   -- the same, of the step
-  abbrev pub serve_tells : (S → List Entry) → Step (Option S) → Me (Option S) (Known S) → ℕ → Me (Option S) (Known S) → Type 0
+  abbrev pub serve_tells : (S → List Entry) → Step (Option S) → Me (Option S) (Known S) → ℕ → Me (Option S) (Known S)
+      → Type 0
   serve_tells log s m found n = GivesValue log m n
 
   -- a load after a join: what was told is the beginning of what was seen

@@ -1,4 +1,5 @@
--- The turns of one session: each took a log that begins with all that the session had seen, and put one entry behind it.
+-- The turns of one session: each took a log that begins with all that the session had seen, and put one entry behind
+-- it.
 use Rattle.std.specs.Prelude.{◌≡◌, Bool, List, [], ◌∷◌, ◌++◌}
 use Rattle.turn_book.specs.Entries.{Entry}
 use Rattle.turn_book.specs.Logs.{Begins, pick}
@@ -16,11 +17,14 @@ abbrev pub Turns : List Turn → List Entry → List Entry → Type 0
 Turns [] old new = Begins old new
 Turns (t ∷ ts) old new = Begins old t.0 × Turns ts (t.0 ++ t.1 ∷ []) new
 
--- each turn's log stands in a log before the turn's entry, and has of the session's entries those done before and those of the turns before
+-- each turn's log stands in a log before the turn's entry, and has of the session's entries those done before and
+-- those of the turns before
 abbrev pub Stand : (Entry → Bool) → List Entry → List Turn → List Entry → Type 0
 Stand is done [] log = Unit {0}
-Stand is done (t ∷ ts) log = ((rest : List Entry) × (log ≡ t.0 ++ t.1 ∷ rest)) × (pick is t.0 ≡ done) × Stand is (done ++ t.1 ∷ []) ts log
+Stand is done (t ∷ ts) log = ((rest : List Entry) × (log ≡ t.0 ++ t.1 ∷ rest)) × (pick is t.0 ≡ done)
+    × Stand is (done ++ t.1 ∷ []) ts log
 
 -- one of the turns took just what stands before this entry, and put it there
 abbrev pub IsTurnOf : List Turn → List Entry → Entry → Type 0
-IsTurnOf ts before e = (earlier later : List Turn) × (t : Turn) × (ts ≡ earlier ++ t ∷ later) × (t.0 ≡ before) × (t.1 ≡ e)
+IsTurnOf ts before e = (earlier later : List Turn) × (t : Turn) × (ts ≡ earlier ++ t ∷ later) × (t.0 ≡ before)
+    × (t.1 ≡ e)

@@ -29,7 +29,8 @@ fn pause(look: u32) {
     }
 }
 
-/// Draws a ticket: as soon as nobody has one, so that a thread that runs may go on without waking another, and after a short while all the same.
+/// Draws a ticket: as soon as nobody has one, so that a thread that runs may go on without waking another, and after
+/// a short while all the same.
 pub fn draw_in_time<S: Kept>(
     table: &Shared<Option<S>, Known<S>, Opening<S>, Order>,
     seat: &mut Seat<Option<S>, Known<S>>,
@@ -124,7 +125,8 @@ pub fn wait_for<S: Kept, R: Wait>(
     }
 }
 
-/// Wakes those that sleep, where another pass has a ticket: the number that is served now is not the next one to be drawn.
+/// Wakes those that sleep, where another pass has a ticket: the number that is served now is not the next one to be
+/// drawn.
 pub fn wake<S: Kept>(table: &Shared<Option<S>, Known<S>, Opening<S>, Order>, served: u64)
     requires words { table.now.table_id.words ≡ 2 }
 {
