@@ -43,8 +43,14 @@ house_of table = gcons table.house (gcons (gnum table.bits) (gnum table.seats))
 
 -- a keeper of quads as a worker: its relations are those whose roots stand in the words that its seat has seen
 abbrev pub worker_of : Keeper → Worker
-worker_of w = record { relation = relation_in w.view.words; quad = quad_in w.view.words; misses = w.misses;
-    made = w.view.made; house = house_of w.table; spare = w.view.spare }
+worker_of w = record {
+  relation = relation_in w.view.words;
+  quad = quad_in w.view.words;
+  misses = w.misses;
+  made = w.view.made;
+  house = house_of w.table;
+  spare = w.view.spare;
+}
 
 -- ---- roots
 -- the quad of the root of a relation

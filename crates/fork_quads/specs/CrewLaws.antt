@@ -29,9 +29,9 @@ canonical_means words e =
     let b = and_parts _ _ a.0 in
     let z : get_or words 0 0 ≡ 0 = eqb-true _ 0 b.0 in
     let clean : (n : ℕ) → n < length words → is_spoilt words n
-        ≡ false = λ n l. some_below-false (length words) (is_spoilt words) (not-true _ a.1) n l in
+    ≡ false = λ n l. some_below-false (length words) (is_spoilt words) (not-true _ a.1) n l in
     let placed : (n : ℕ) → get_or words n 0 ≢ 0 → n < length words = λ n h. elim
-        (cases_lt n (length words)) [ inl l ↦ l | inr l ↦ absurd (h (get_or_past words n 0 l)) ] in
+    (cases_lt n (length words)) [ inl l ↦ l | inr l ↦ absurd (h (get_or_past words n 0 l)) ] in
     let later : (m n : ℕ) → m < n → get_or words n 0 ≢ 0 → get_or words m 0 ≢ get_or words n 0 = λ m n l h q.
     let c = or_parts _ _ (clean n (placed n h)) in
     elim (and_cases _ _ c.1) [
@@ -52,8 +52,11 @@ canonical_means words e =
       fits = λ n. elim (cases_eq (get_or words n 0) 0) [
         | inl x ↦ omega (arith, x)
         | inr x ↦ (let c = or_parts _ _ (clean n (placed n x)) in elim
-            (cases_lt (get_or words n 0) (2 ^ 64)) [ inl l ↦ l | inr l ↦ absurd
-            (false≢true (sym c.0 ∙ le-leb (2 ^ 64) (get_or words n 0) l)) ])
+            (cases_lt (get_or words n 0) (2 ^ 64)) [
+              | inl l ↦ l
+              | inr l ↦ absurd
+                  (false≢true (sym c.0 ∙ le-leb (2 ^ 64) (get_or words n 0) l))
+            ])
       ];
     }
 
@@ -103,11 +106,20 @@ quad_in-named words q h = elim (cases_Bool (leb bottom_height q.height && leb q.
     at : bottom_height ≤ q.height → q.height ≤ top_height → IsSome (named_set words q.height q.name) → IsNamed words q
     at l t s = elim (cases_Bool (eqb q.name 0)) [
       | inl z ↦ let n = eqb-true q.name 0 z in
-          record { low = l; high = t; standing = subst (λ (x : ℕ). stands words (depth_of q.height) x ≡ true) (sym n)
-              (zero_stands words (depth_of q.height)); canonical = inl n }
+          record {
+            low = l;
+            high = t;
+            standing = subst (λ (x : ℕ). stands words (depth_of q.height) x ≡ true) (sym n)
+                (zero_stands words (depth_of q.height));
+            canonical = inl n;
+          }
       | inr z ↦ elim (cases_Bool (is_canonical words && stands words (depth_of q.height) q.name)) [
-        | inl c ↦ let p = and_parts _ _ c in record { low = l; high = t; standing = p.1;
-            canonical = inr (canonical_means words p.0) }
+        | inl c ↦ let p = and_parts _ _ c in record {
+          low = l;
+          high = t;
+          standing = p.1;
+          canonical = inr (canonical_means words p.0);
+        }
         | inr c ↦ absurd (false≢true (rw (z, c) at s))
       ]
     ]
@@ -126,9 +138,12 @@ unfolding quad_in
 quad_in-is words h n d l t s = elim (cases_Bool (eqb n 0)) [
   | inl z ↦ let e = eqb-true n 0 z in
       quad_in-none words h n l t e ∙ ap (λ (c : Cells). Some c)
-          (sym (ap (cells words (depth_of h)) e ∙ zero_cells words d.none_at_0 (depth_of h)))
-  | inr z ↦ rw (and_from _ _ (le-leb bottom_height h l) (le-leb h top_height t), z,
-      and_from _ _ (canonical_from words d) s) refl
+      (sym (ap (cells words (depth_of h)) e ∙ zero_cells words d.none_at_0 (depth_of h)))
+  | inr z ↦ rw (
+    and_from _ _ (le-leb bottom_height h l) (le-leb h top_height t),
+    z,
+    and_from _ _ (canonical_from words d) s,
+  ) refl
 ]
 
 -- the set of a quad that stands, by its name
@@ -222,6 +237,6 @@ one_name_law w p q h k e f =
         → quad_set (worker_of w) p ≡ quad_set (worker_of w) q → p.name ≡ q.name
     one w p q h k s t d e f =
         one_set_one_name w.view.words d (depth_of p.height) p.name q.name s.standing
-            (subst (λ (x : ℕ). stands w.view.words (depth_of x) q.name ≡ true) (sym e) t.standing)
+        (subst (λ (x : ℕ). stands w.view.words (depth_of x) q.name ≡ true) (sym e) t.standing)
         (sym (quad_set_is w p d h) ∙ f ∙ quad_set_is w q d k
-            ∙ ap (λ (x : ℕ). cells w.view.words (depth_of x) q.name) (sym e))
+        ∙ ap (λ (x : ℕ). cells w.view.words (depth_of x) q.name) (sym e))

@@ -73,7 +73,7 @@ is_projection _ = false
 unfoldable pub ref_faults : Scope → Names → Place → List ℕ → List TypeFault
 ref_faults scope assigned at name =
     cond (scope.is_command || among scope.parameters name) [] (cond (among scope.variables name)
-        (cond (assigned name) [] (Unassigned at name ∷ [])) (Unknown at name ∷ []))
+    (cond (assigned name) [] (Unassigned at name ∷ [])) (Unknown at name ∷ []))
 
 -- a call is of a definition of an earlier item, with as many arguments as it takes
 unfoldable pub call_faults : Scope → Place → List ℕ → ℕ → List TypeFault
@@ -247,7 +247,7 @@ abbrev pub decl_faults : List (List ℕ) → List (List ℕ) → List Decl → L
 decl_faults parameters before [] = []
 decl_faults parameters before (d ∷ ds) =
     (cond (among before (name_of d)) (Twice (place_of_decl d) (name_of d) ∷ []) [] ++ operand_faults parameters d)
-        ++ decl_faults parameters (name_of d ∷ before) ds
+    ++ decl_faults parameters (name_of d ∷ before) ds
 
 -- parameters whose name was given before, at the place of the definition's name
 abbrev pub parameter_faults : Place → List (List ℕ) → List (List ℕ) → List TypeFault
@@ -263,23 +263,41 @@ names_of = map (λ d. d.name)
 unfoldable pub head_faults : List Known → Place → List ℕ → List (List ℕ) → ℕ → List TypeFault
 head_faults earlier at name parameters rank =
     cond (nat_lt rank_limit rank) (Rank at name ∷ []) []
-        ++ (cond (among (names_of earlier) name) (Twice at name ∷ []) [] ++ parameter_faults at [] parameters)
+    ++ (cond (among (names_of earlier) name) (Twice at name ∷ []) [] ++ parameter_faults at [] parameters)
 
 -- what the names of a function may be
 abbrev pub function_scope : List Known → List (List ℕ) → Scope
-function_scope earlier parameters = record { is_command = false; parameters = parameters; variables = [];
-    products = []; sums = []; earlier = earlier }
+function_scope earlier parameters = record {
+  is_command = false;
+  parameters = parameters;
+  variables = [];
+  products = [];
+  sums = [];
+  earlier = earlier;
+}
 
 -- what the names of a program may be
 abbrev pub program_scope : List Known → List (List ℕ) → List Decl → Scope
 program_scope earlier parameters decls =
-    record { is_command = false; parameters = parameters; variables = variables_of decls;
-        products = domains_of false decls; sums = domains_of true decls; earlier = earlier }
+    record {
+      is_command = false;
+      parameters = parameters;
+      variables = variables_of decls;
+      products = domains_of false decls;
+      sums = domains_of true decls;
+      earlier = earlier;
+    }
 
 -- what the names of a command may be
 abbrev pub command_scope : List Known → Scope
-command_scope earlier = record { is_command = true; parameters = []; variables = []; products = []; sums = [];
-    earlier = earlier }
+command_scope earlier = record {
+  is_command = true;
+  parameters = [];
+  variables = [];
+  products = [];
+  sums = [];
+  earlier = earlier;
+}
 
 -- the rank of a definition: 1 more than the greatest rank of the earlier definitions that it calls, or 1
 unfoldable pub rank_of : List Known → Item → ℕ
@@ -304,12 +322,12 @@ command_faults earlier _ = []
 unfoldable pub item_faults : List Known → Item → List TypeFault
 item_faults earlier (Function at name params body) =
     head_faults earlier at name params.items (rank_of earlier (Function at name params body))
-        ++ faults (function_scope earlier params.items) no_name body
+    ++ faults (function_scope earlier params.items) no_name body
 item_faults earlier (Program at name params decls body result) =
     let scope = program_scope earlier params.items decls.items in
     head_faults earlier at name params.items (rank_of earlier (Program at name params decls body result))
     ++ (decl_faults params.items params.items decls.items
-        ++ (faults_by scope no_name body.items ++ faults scope (assigned_by no_name body.items) result))
+    ++ (faults_by scope no_name body.items ++ faults scope (assigned_by no_name body.items) result))
 item_faults earlier (COMMAND command) = command_faults earlier command
 
 -- the definitions up to and with an item
@@ -317,8 +335,11 @@ unfoldable pub known_with : List Known → Item → List Known
 known_with earlier (Function at name params body) = earlier
     ++ record { name = name; takes = length params.items; rank = rank_of earlier (Function at name params body) } ∷ []
 known_with earlier (Program at name params decls body result) = earlier
-    ++ record { name = name; takes = length params.items;
-    rank = rank_of earlier (Program at name params decls body result) } ∷ []
+    ++ record {
+      name = name;
+      takes = length params.items;
+      rank = rank_of earlier (Program at name params decls body result);
+    } ∷ []
 known_with earlier (COMMAND command) = earlier
 
 -- the faults of items behind earlier ones
@@ -359,7 +380,7 @@ precedes f g =
     let p = place_of f in
     let q = place_of g in
     nat_lt p.line q.line || ((p.line == q.line) && (nat_lt p.column q.column
-        || ((p.column == q.column) && nat_lt (number_of f) (number_of g))))
+    || ((p.column == q.column) && nat_lt (number_of f) (number_of g))))
 
 -- the first of two faults, and the left one where none precedes
 abbrev pub first_of_two : TypeFault → Option TypeFault → TypeFault

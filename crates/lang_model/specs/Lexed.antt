@@ -34,7 +34,7 @@ text_fault quote there (b ∷ bs) = cond (b == 34) (Expected quote FileText)
 unfoldable pub file_fault : Place → List ℕ → ParseFault
 file_fault quote bs =
     let n = run_length is_file_byte bs in cond (nat_lt 255 n) (NameTooLong quote)
-        (text_fault quote (behind_all n (behind 34 quote) bs) (drop n bs))
+    (text_fault quote (behind_all n (behind 34 quote) bs) (drop n bs))
 
 -- the fault of a byte that begins no token, with the bytes behind it
 unfoldable pub token_fault : Place → ℕ → List ℕ → ParseFault
@@ -57,7 +57,7 @@ lexed_from zero at (b ∷ bs) =
     cond (is_blank b) (lexed_from 0 (behind b at) bs)
     (cond (b == 35) (lexed_from (run_length is_comment_byte bs) (behind b at) bs)
     (option_map_or (λ t. before at t.0 (lexed_from (t.1 - 1) (behind b at) bs)) (kind_at (b ∷ bs))
-        (broken (token_fault at b bs))))
+    (broken (token_fault at b bs))))
 
 -- the tokens of a text up to its end or its first fault
 unfoldable pub lexed_of : List ℕ → Lexed

@@ -66,7 +66,7 @@ unfoldable pub paired : Place → Relation → Relation → Operation
 paired at r s =
     fitting (typed_pair at (sizes r) (sizes s))
     (limited at (r.cols * s.cols) (Makes (pairing r s)
-        (λ leaf. wide_room r.rows (max r.cols s.cols) (r.cols * s.cols))))
+    (λ leaf. wide_room r.rows (max r.cols s.cols) (r.cols * s.cols))))
 
 -- a relation of one row and one column, full for yes
 unfoldable pub answer_of_test : Bool → Relation

@@ -112,27 +112,27 @@ mutual
     called : (d : ℕ) (at : Place) (text : List ℕ) (args : Vec Expr Global) (first : Expr) (more : List Expr)
         (tokens t1 t2 t3 t4 rest : List Token) → d < nesting_limit → args.items ≡ first ∷ more
         → TakesAt at (Word text) tokens t1 → Takes (Sign 40) t1 t2 → Spelled OrLevel (suc d) first t2 t3
-            → Listed 15 (suc d) more t3 t4 → Takes (Sign 41) t4 rest
-            → Spelled PrimLevel d (Call at text args) tokens rest
+        → Listed 15 (suc d) more t3 t4 → Takes (Sign 41) t4 rest
+        → Spelled PrimLevel d (Call at text args) tokens rest
     based : (d : ℕ) (at : Place) (base : Base) (args : Vec Expr Global) (e : Expr) (tokens t1 t2 t3 rest : List Token)
         → d < nesting_limit → form_of base ≡ TakesOne → args.items ≡ e ∷ []
         → TakesAt at (BASE base) tokens t1 → Takes (Sign 40) t1 t2 → Spelled OrLevel (suc d) e t2 t3
-            → Takes (Sign 41) t3 rest → Spelled PrimLevel d (BaseCall at base args) tokens rest
+        → Takes (Sign 41) t3 rest → Spelled PrimLevel d (BaseCall at base args) tokens rest
     based_twice : (d : ℕ) (at : Place) (base : Base) (args : Vec Expr Global) (e f : Expr)
         (tokens t1 t2 t3 t4 t5 rest : List Token) → d < nesting_limit → form_of base ≡ TakesTwo
         → args.items ≡ e ∷ f ∷ []
         → TakesAt at (BASE base) tokens t1 → Takes (Sign 40) t1 t2 → Spelled OrLevel (suc d) e t2 t3
-            → Takes (Sign 44) t3 t4 → Spelled OrLevel (suc d) f t4 t5 → Takes (Sign 41) t5 rest
-            → Spelled PrimLevel d (BaseCall at base args) tokens rest
+        → Takes (Sign 44) t3 t4 → Spelled OrLevel (suc d) f t4 t5 → Takes (Sign 41) t5 rest
+        → Spelled PrimLevel d (BaseCall at base args) tokens rest
     injected : (d : ℕ) (at : Place) (base : Base) (domain : List ℕ) (tokens t1 t2 t3 rest : List Token)
         → d < nesting_limit → form_of base ≡ TakesDomain
         → TakesAt at (BASE base) tokens t1 → Takes (Sign 40) t1 t2 → Takes (Word domain) t2 t3
-            → Takes (Sign 41) t3 rest → Spelled PrimLevel d (Inject at base domain) tokens rest
+        → Takes (Sign 41) t3 rest → Spelled PrimLevel d (Inject at base domain) tokens rest
     paired : (d : ℕ) (at : Place) (left right : Box Expr Global) (tokens t1 t2 t3 t4 rest : List Token)
         → d < nesting_limit
         → TakesAt at (Sign 91) tokens t1 → Spelled OrLevel (suc d) left.value t1 t2 → Takes (Sign 44) t2 t3
-            → Spelled OrLevel (suc d) right.value t3 t4 → Takes (Sign 93) t4 rest
-            → Spelled PrimLevel d (Pair at left right) tokens rest
+        → Spelled OrLevel (suc d) right.value t3 t4 → Takes (Sign 93) t4 rest
+        → Spelled PrimLevel d (Pair at left right) tokens rest
     enclosed : (d : ℕ) (e : Expr) (tokens mid after rest : List Token) → d < nesting_limit
         → Takes (Sign 40) tokens mid → Spelled OrLevel (suc d) e mid after → Takes (Sign 41) after rest
         → Spelled PrimLevel d e tokens rest
@@ -172,18 +172,18 @@ mutual
     looped : (d : ℕ) (at : Place) (test : Expr) (body : Vec Stmt Global) (tokens t1 t2 t3 t4 rest : List Token)
         → d < nesting_limit
         → TakesAt at (Keyword WHILE) tokens t1 → Spelled OrLevel (suc d) test t1 t2 → Takes (Keyword DO) t2 t3
-            → SpelledStmts (suc d) body.items t3 t4 → Takes (Keyword OD) t4 rest
-            → SpelledStmt d (While at test body) tokens rest
+        → SpelledStmts (suc d) body.items t3 t4 → Takes (Keyword OD) t4 rest
+        → SpelledStmt d (While at test body) tokens rest
     branched : (d : ℕ) (at : Place) (test : Expr) (yes no : Vec Stmt Global) (tokens t1 t2 t3 t4 rest : List Token)
         → d < nesting_limit
         → TakesAt at (Keyword IF) tokens t1 → Spelled OrLevel (suc d) test t1 t2 → Takes (Keyword THEN) t2 t3
-            → SpelledStmts (suc d) yes.items t3 t4 → no.items ≡ [] → Takes (Keyword FI) t4 rest
-            → SpelledStmt d (If at test yes no) tokens rest
+        → SpelledStmts (suc d) yes.items t3 t4 → no.items ≡ [] → Takes (Keyword FI) t4 rest
+        → SpelledStmt d (If at test yes no) tokens rest
     branched_twice : (d : ℕ) (at : Place) (test : Expr) (yes no : Vec Stmt Global)
         (tokens t1 t2 t3 t4 t5 t6 rest : List Token) → d < nesting_limit
         → TakesAt at (Keyword IF) tokens t1 → Spelled OrLevel (suc d) test t1 t2 → Takes (Keyword THEN) t2 t3
-            → SpelledStmts (suc d) yes.items t3 t4 → Takes (Keyword ELSE) t4 t5 → SpelledStmts (suc d) no.items t5 t6
-            → Takes (Keyword FI) t6 rest → SpelledStmt d (If at test yes no) tokens rest
+        → SpelledStmts (suc d) yes.items t3 t4 → Takes (Keyword ELSE) t4 t5 → SpelledStmts (suc d) no.items t5 t6
+        → Takes (Keyword FI) t6 rest → SpelledStmt d (If at test yes no) tokens rest
 
   -- stmts = [ stmt [ ";" stmts ] ]
   pub data SpelledStmts : ℕ → List Stmt → List Token → List Token → Type 0 where
@@ -215,7 +215,7 @@ abbrev pub SpellsDecl : Decl → List Token → List Token → Type 0
 SpellsDecl (Variable at name) tokens rest = TakesAt at (Word name) tokens rest
 SpellsDecl (Domain at name sum left right) tokens rest =
     (t1 t2 t3 t4 t5 t6 t7 : List Token) × TakesAt at (Word name) tokens t1 × Takes (Sign 61) t1 t2
-        × Takes (domain_word sum) t2 t3 × Takes (Sign 40) t3 t4
+    × Takes (domain_word sum) t2 t3 × Takes (Sign 40) t3 t4
     × Takes (Word left) t4 t5 × Takes (Sign 44) t5 t6 × Takes (Word right) t6 t7 × Takes (Sign 41) t7 rest
 
 -- { "," decl }
@@ -248,7 +248,7 @@ SpellsValued kind value tokens rest = (mid : List Token) × Takes kind tokens mi
 abbrev pub SpellsCommand : Command → List Token → List Token → Type 0
 SpellsCommand (Relation name rows rows_at cols cols_at list) tokens rest =
     (t1 t2 t3 t4 t5 : List Token) × SpellsNamed (Keyword REL) name tokens t1 × TakesAt rows_at (Number rows) t1 t2
-        × TakesAt cols_at (Number cols) t2 t3
+    × TakesAt cols_at (Number cols) t2 t3
     × Takes (Sign 123) t3 t4 × SpellsRows list.items t4 t5 × Takes (Sign 125) t5 rest
 SpellsCommand (Let name value) tokens rest = (t1 t2 : List Token) × SpellsNamed (Keyword LET) name tokens t1
     × Takes (Sign 61) t1 t2 × Spelled OrLevel 0 value t2 rest
@@ -272,9 +272,9 @@ SpellsItem (Function at name params body) tokens rest = (t1 t2 : List Token)
     × SpellsHead at name params.items tokens t1 × Takes (Sign 61) t1 t2 × Spelled OrLevel 0 body t2 rest
 SpellsItem (Program at name params decls body result) tokens rest =
     (t1 t2 t3 t4 t5 t6 : List Token) × SpellsHead at name params.items tokens t1 × SpellsDecls decls.items t1 t2
-        × Takes (Keyword BEG) t2 t3
+    × Takes (Keyword BEG) t2 t3
     × SpelledStmts 0 body.items t3 t4 × Takes (Keyword RETURN) t4 t5 × Spelled OrLevel 0 result t5 t6
-        × Takes (Keyword END) t6 rest
+    × Takes (Keyword END) t6 rest
 SpellsItem (COMMAND command) tokens rest = SpellsCommand command tokens rest
 
 -- script = { item "." }

@@ -101,7 +101,7 @@ prim_step d (BASE base) = Behind (form_parts (form_of base) d)
 prim_step d (Sign s) =
     cond (s == 40) (opening d (ExprPart OrLevel (suc d) ∷ SignPart 41 ∷ []))
     (cond (s == 91) (opening d (ExprPart OrLevel (suc d) ∷ SignPart 44 ∷ ExprPart OrLevel (suc d) ∷ SignPart 93 ∷ []))
-        NotBegun)
+    NotBegun)
 prim_step d _ = NotBegun
 
 -- unary = "-" unary | post, and post = prim { "^" }

@@ -65,20 +65,20 @@ value_from v (d ∷ ds) = value_from (10 * v + (d - 48)) ds
 unfoldable pub reserved_words : List (List ℕ × Kind)
 reserved_words =
     (codes "REL", Keyword REL) ∷ (codes "LET", Keyword LET) ∷ (codes "PRINT", Keyword PRINT)
-        ∷ (codes "LIST", Keyword LIST) ∷ (codes "COUNT", Keyword COUNT)
+    ∷ (codes "LIST", Keyword LIST) ∷ (codes "COUNT", Keyword COUNT)
     ∷ (codes "TYPE", Keyword TYPE) ∷ (codes "DROP", Keyword DROP) ∷ (codes "SNAP", Keyword SNAP)
-        ∷ (codes "AT", Keyword AT) ∷ (codes "LOAD", Keyword LOAD)
+    ∷ (codes "AT", Keyword AT) ∷ (codes "LOAD", Keyword LOAD)
     ∷ (codes "SAVE", Keyword SAVE) ∷ (codes "DECL", Keyword DECL) ∷ (codes "PROD", Keyword PROD)
-        ∷ (codes "SUM", Keyword SUM) ∷ (codes "BEG", Keyword BEG)
+    ∷ (codes "SUM", Keyword SUM) ∷ (codes "BEG", Keyword BEG)
     ∷ (codes "END", Keyword END) ∷ (codes "RETURN", Keyword RETURN) ∷ (codes "WHILE", Keyword WHILE)
-        ∷ (codes "DO", Keyword DO) ∷ (codes "OD", Keyword OD)
+    ∷ (codes "DO", Keyword DO) ∷ (codes "OD", Keyword OD)
     ∷ (codes "IF", Keyword IF) ∷ (codes "THEN", Keyword THEN) ∷ (codes "ELSE", Keyword ELSE) ∷ (codes "FI", Keyword FI)
     ∷ (codes "L", BASE L) ∷ (codes "O", BASE O) ∷ (codes "I", BASE I) ∷ (codes "Ln1", BASE Ln1)
-        ∷ (codes "On1", BASE On1) ∷ (codes "L1n", BASE L1n) ∷ (codes "O1n", BASE O1n)
+    ∷ (codes "On1", BASE On1) ∷ (codes "L1n", BASE L1n) ∷ (codes "O1n", BASE O1n)
     ∷ (codes "dom", BASE Dom) ∷ (codes "ran", BASE Ran) ∷ (codes "trans", BASE Trans) ∷ (codes "refl", BASE Refl)
-        ∷ (codes "epsi", BASE Epsi) ∷ (codes "point", BASE Point)
+    ∷ (codes "epsi", BASE Epsi) ∷ (codes "point", BASE Point)
     ∷ (codes "atom", BASE Atom) ∷ (codes "init", BASE Init) ∷ (codes "next", BASE Next) ∷ (codes "inj", BASE Inj)
-        ∷ (codes "empty", BASE Empty) ∷ (codes "unival", BASE Unival)
+    ∷ (codes "empty", BASE Empty) ∷ (codes "unival", BASE Unival)
     ∷ (codes "syq", BASE Syq) ∷ (codes "eq", BASE Eq) ∷ (codes "incl", BASE Incl) ∷ []
 
 -- what the first entry with this text is
@@ -120,9 +120,9 @@ kind_at (b ∷ bs) =
     let digits = run_length is_digit (b ∷ bs) in
     let value = value_from 0 (take digits (b ∷ bs)) in
     cond (is_letter b) (option_map_or (λ kind. Some (kind, 3)) (domain_operator_at (b ∷ bs))
-        (cond (nat_le word 64) (Some (word_kind (take word (b ∷ bs)), word)) None))
+    (cond (nat_le word 64) (Some (word_kind (take word (b ∷ bs)), word)) None))
     (cond (is_digit b) (cond (nat_lt value (2 ^ 64)) (Some (Number value, digits)) None)
-        (cond (b == 34) (file_at bs) (cond (is_sign_byte b) (Some (Sign b, 1)) None)))
+    (cond (b == 34) (file_at bs) (cond (is_sign_byte b) (Some (Sign b, 1)) None)))
 
 -- a token before the others, where these are some
 abbrev pub with_token : Place → Kind → Option (List Token) → Option (List Token)

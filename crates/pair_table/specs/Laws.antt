@@ -15,7 +15,7 @@ abbrev pub NamesStay : Type 0
 NamesStay = (old new : List ℕ) → Extends old new → IsDistinct old → IsDistinct new
     → ((name : ℕ) → slice_index old name ≢ 0 → slice_index new name ≡ slice_index old name)
     × ((depth name : ℕ) → stands old depth name ≡ true
-        → (stands new depth name ≡ true) × (cells new depth name ≡ cells old depth name))
+    → (stands new depth name ≡ true) × (cells new depth name ≡ cells old depth name))
 
 -- in any view a name whose word is the pair of two names that stand at one depth stands at the next, with the pairing
 -- of their sets; a name whose word is a block stands at depth 0
@@ -31,4 +31,4 @@ KidsStand v = (depth name : ℕ) → stands v.words (suc depth) name ≡ true
     → (stands v.words depth (first_of (slice_index v.words name)) ≡ true)
     × (stands v.words depth (second_of (slice_index v.words name)) ≡ true)
     × (cells v.words (suc depth) name ≡ paired depth (cells v.words depth (first_of (slice_index v.words name)))
-        (cells v.words depth (second_of (slice_index v.words name))))
+    (cells v.words depth (second_of (slice_index v.words name))))

@@ -39,13 +39,25 @@ pub record Holds {S : Type 0} (size : Size) (s : State S Known) : Type 0 where
 
 -- the view of the first seat
 abbrev pub first_view : Size → Known
-first_view size = record { words = replicate (2 ^ size.bits) 0; told = replicate (2 ^ size.bits) 0; made = 0;
-    parts = size.seats; cut = 0; last = None }
+first_view size = record {
+  words = replicate (2 ^ size.bits) 0;
+  told = replicate (2 ^ size.bits) 0;
+  made = 0;
+  parts = size.seats;
+  cut = 0;
+  last = None;
+}
 
 -- what a seat keeps when a second one is split off
 abbrev pub left_of : Known → Known
-left_of v = record { words = v.words; told = v.told; made = v.made; parts = v.parts - (v.cut + 1); cut = v.cut;
-    last = v.last }
+left_of v = record {
+  words = v.words;
+  told = v.told;
+  made = v.made;
+  parts = v.parts - (v.cut + 1);
+  cut = v.cut;
+  last = v.last;
+}
 
 -- what the second seat gets
 abbrev pub right_of : Known → Known
@@ -53,8 +65,14 @@ right_of v = record { words = v.words; told = v.told; made = 0; parts = v.cut + 
 
 -- what one seat is when another was joined to it: it is told of what the other has seen
 abbrev pub both_of : Known → Known → Known
-both_of v w = record { words = v.words; told = w.words; made = v.made + w.made; parts = v.parts + w.parts; cut = 0;
-    last = v.last }
+both_of v w = record {
+  words = v.words;
+  told = w.words;
+  made = v.made + w.made;
+  parts = v.parts + w.parts;
+  cut = 0;
+  last = v.last;
+}
 
 -- what is left of a seat that was joined to another
 abbrev pub spent : Known

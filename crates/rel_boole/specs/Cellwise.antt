@@ -38,5 +38,5 @@ abbrev pub CutsOffFull : Boole → Quad → Quad → Bool → Bool → Option Qu
 CutsOffFull op a b a_full b_full answer = (w : Keeper) → IsKeeper w → QuadStands w a → QuadStands w b
     → b.height ≡ a.height
     → (a_full ≡ true → quad_cells w a ≡ cells_rect (side_of a.height) (side_of a.height))
-        → (b_full ≡ true → quad_cells w b ≡ cells_rect (side_of b.height) (side_of b.height))
+    → (b_full ≡ true → quad_cells w b ≡ cells_rect (side_of b.height) (side_of b.height))
     → IfSome answer (IsQuad w a.height (cells_by op (quad_cells w a) (quad_cells w b)))

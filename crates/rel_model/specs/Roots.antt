@@ -40,7 +40,7 @@ unfoldable pub stands_in : List ℕ → Rel → Bool
 stands_in words rel =
     (nat_le rel.rows size_limit && nat_le rel.cols size_limit)
     && (stands words (depth_of (tree_height rel.rows rel.cols)) rel.root
-        && lies_within (side_of (tree_height rel.rows rel.cols)) rel.rows rel.cols (root_cells words rel))
+    && lies_within (side_of (tree_height rel.rows rel.cols)) rel.rows rel.cols (root_cells words rel))
 
 -- the relation that the words give, where it stands
 unfoldable pub relation_in : List ℕ → Rel → Option Relation

@@ -79,7 +79,7 @@ DueByNames =
     → AgreeOn (lookup s) (lookup t) (names_taken item) → SnapsAgree snap other (names_asked item)
     → (due input script item s snap ≡ due input script item t other)
     × ((leaf : ℕ) (d : Due) → cost_of_item leaf input script item s snap d
-        ≡ cost_of_item leaf input script item t other d)
+    ≡ cost_of_item leaf input script item t other d)
 
 -- what is due is early
 abbrev pub IsEarly : Due → Type 0
@@ -92,7 +92,7 @@ IsEarly (Refused Late outcome) = ⊥
 pub record FreeCommands : Type 0 where
   pub early : (leaf : ℕ) (input : Input) (script : Script) (item : Item) (s : Workspace) (snap : Option Workspace) →
       IsEarly (due input script item s snap) → cost_of_item leaf input script item s snap
-          (due input script item s snap) ≡ 0
+      (due input script item s snap) ≡ 0
   pub plain : (leaf : ℕ) (input : Input) (script : Script) (command : Command) (s : Workspace)
       (snap : Option Workspace) (d : Due) →
       (WantsNodes command → ⊥) → cost_of_command leaf input script command s snap d ≡ 0

@@ -92,8 +92,8 @@ type_fault_text (Arity at name takes given) = place_text at ++ name ++ codes " t
 type_fault_text (Unassigned at name) = place_text at ++ name ++ codes " may be read before it is assigned"
 type_fault_text (Rank at name) = place_text at ++ name ++ codes " has a rank over " ++ decimal rank_limit
 type_fault_text (Mismatch at op left right) = mismatch_text at op left right
-type_fault_text (NotSquare at op shape) = place_text at ++ op ++ codes " needs a square relation,
-    not " ++ shape_text shape
+type_fault_text (NotSquare at op shape) = place_text at ++ op
+    ++ codes " needs a square relation, not " ++ shape_text shape
 type_fault_text (NotVector at op shape) = place_text at ++ op ++ codes " needs one column, not " ++ shape_text shape
 type_fault_text (NotTest at shape) = place_text at ++ codes "a test must be 1 x 1, not " ++ shape_text shape
 type_fault_text (Twice at name) = place_text at ++ name ++ codes " is defined twice"

@@ -46,13 +46,13 @@ closure_text s = codes " LET C" ++ decimal s ++ codes " = trans(G" ++ decimal s 
 unfoldable pub counts_text : ℕ → List ℕ
 counts_text s =
     codes " COUNT C" ++ decimal s ++ codes " & C" ++ decimal s
-        ++ codes "^. COUNT syq(C" ++ decimal s ++ codes ",C" ++ decimal s ++ codes ")."
+    ++ codes "^. COUNT syq(C" ++ decimal s ++ codes ",C" ++ decimal s ++ codes ")."
 
 -- script s, drawn from state x on: a graph of 64 vertices by rows, and the questions on it; one line
 unfoldable pub script_text : ℕ → ℕ → List ℕ
 script_text x s =
     codes "REL G" ++ decimal s ++ codes " 64 64 {" ++ rows_text x 63 ++ codes "}." ++ closure_text s ++ counts_text s
-        ++ 10 ∷ []
+    ++ 10 ∷ []
 
 -- the scripts 1 to n, drawn from state x on: each has 128 draws, and they go on from script to script
 abbrev pub scripts_from : ℕ → ℕ → List (List ℕ)

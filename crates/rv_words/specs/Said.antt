@@ -15,7 +15,7 @@ is_number text = nat_le 1 (length text) && (nat_le (length text) 20 && list_all 
 abbrev pub number_within : ℕ → ℕ → Word → Option ℕ
 number_within least most text =
     if is_number text && (nat_le least (digits_value 10 text) && nat_le (digits_value 10 text) most) then Some
-        (digits_value 10 text) else None
+    (digits_value 10 text) else None
 
 -- the number of an option that stands at most once, and without it the default
 abbrev pub number_or : ℕ → ℕ → ℕ → List Word → Option ℕ
@@ -98,7 +98,7 @@ with_files workers nodes turns history number files = if are_files_taken number 
 abbrev pub said_from : (Word → List Word) → Option Said
 said_from values = option_and_then (λ workers. option_and_then (λ nodes. option_and_then (λ turns.
     option_and_then (λ history. option_and_then (λ number. with_files workers nodes turns history number
-        (values file_name))
+    (values file_name))
     (gen_number (values gen_name)))
     (switched (values history_name)))
     (number_or 0 1000000000 1000000 (values turns_name)))

@@ -96,7 +96,7 @@ switch_uses None next = used history_name [] (next None)
 abbrev pub long_uses : Word → Option Word → (Option Word → Option (List Use)) → Option (List Use)
 long_uses name value next =
     if bytes_eq history_name name then switch_uses value next
-        else (if takes_value name then valued_uses name value next else None)
+    else (if takes_value name then valued_uses name value next else None)
 
 -- a word, where no option waits for its value
 abbrev pub free_uses : Kind → Word → List Word → (Option Word → Option (List Use)) → Option (List Use)

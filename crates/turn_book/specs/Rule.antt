@@ -103,23 +103,55 @@ module _ {S : Type 0} where
 
   -- the view of the first pass
   abbrev pub first_view : Opening S → Known S
-  first_view key = record { origin = Some key.first.value; parts = key.passes; ticket = None; turn = false; seen = [];
-      told = []; mine = []; joined = [] }
+  first_view key = record {
+    origin = Some key.first.value;
+    parts = key.passes;
+    ticket = None;
+    turn = false;
+    seen = [];
+    told = [];
+    mine = [];
+    joined = [];
+  }
 
   -- what a pass keeps when a second one is split off
   abbrev pub left_of : Known S → Known S
-  left_of v = record { origin = v.origin; parts = v.parts - 1; ticket = v.ticket; turn = v.turn; seen = v.seen;
-      told = v.told; mine = v.mine; joined = v.joined }
+  left_of v = record {
+    origin = v.origin;
+    parts = v.parts - 1;
+    ticket = v.ticket;
+    turn = v.turn;
+    seen = v.seen;
+    told = v.told;
+    mine = v.mine;
+    joined = v.joined;
+  }
 
   -- what the second pass gets
   abbrev pub right_of : Known S → Known S
-  right_of v = record { origin = v.origin; parts = 1; ticket = None; turn = false;
-      seen = v.seen; told = []; mine = []; joined = [] }
+  right_of v = record {
+    origin = v.origin;
+    parts = 1;
+    ticket = None;
+    turn = false;
+    seen = v.seen;
+    told = [];
+    mine = [];
+    joined = [];
+  }
 
   -- what one pass is when another was joined to it: it keeps the longer of both logs, and has been told of the shorter
   abbrev pub both_of : Known S → Known S → Known S
-  both_of v w = record { origin = v.origin; parts = v.parts + w.parts; ticket = v.ticket; turn = v.turn;
-      seen = longer v.seen w.seen; told = shorter v.seen w.seen; mine = v.mine; joined = v.joined ++ lists w }
+  both_of v w = record {
+    origin = v.origin;
+    parts = v.parts + w.parts;
+    ticket = v.ticket;
+    turn = v.turn;
+    seen = longer v.seen w.seen;
+    told = shorter v.seen w.seen;
+    mine = v.mine;
+    joined = v.joined ++ lists w;
+  }
 
   -- what is left of a pass that was joined to another
   abbrev pub spent : Known S

@@ -9,23 +9,55 @@ use Rattle.turn_book.specs.Origins.{Origin}
 module _ {S : Type 0} where
   -- a ticket is drawn
   abbrev pub drawn : ℕ → Known S → Known S
-  drawn t v = record { origin = v.origin; parts = v.parts; ticket = Some t; turn = false; seen = v.seen;
-      told = v.told; mine = v.mine; joined = v.joined }
+  drawn t v = record {
+    origin = v.origin;
+    parts = v.parts;
+    ticket = Some t;
+    turn = false;
+    seen = v.seen;
+    told = v.told;
+    mine = v.mine;
+    joined = v.joined;
+  }
 
   -- the turn has come, and the log is seen
   abbrev pub holding : List Entry → Known S → Known S
-  holding log v = record { origin = v.origin; parts = v.parts; ticket = v.ticket; turn = true; seen = log;
-      told = v.told; mine = v.mine; joined = v.joined }
+  holding log v = record {
+    origin = v.origin;
+    parts = v.parts;
+    ticket = v.ticket;
+    turn = true;
+    seen = log;
+    told = v.told;
+    mine = v.mine;
+    joined = v.joined;
+  }
 
   -- the turn is given back
   abbrev pub given : List Entry → Known S → Known S
-  given log v = record { origin = v.origin; parts = v.parts; ticket = None; turn = false; seen = log; told = v.told;
-      mine = v.mine ++ drop (length v.seen) log; joined = v.joined }
+  given log v = record {
+    origin = v.origin;
+    parts = v.parts;
+    ticket = None;
+    turn = false;
+    seen = log;
+    told = v.told;
+    mine = v.mine ++ drop (length v.seen) log;
+    joined = v.joined;
+  }
 
   -- what was told is seen
   abbrev pub settled : Known S → Known S
-  settled v = record { origin = v.origin; parts = v.parts; ticket = v.ticket; turn = v.turn; seen = v.seen; told = [];
-      mine = v.mine; joined = v.joined }
+  settled v = record {
+    origin = v.origin;
+    parts = v.parts;
+    ticket = v.ticket;
+    turn = v.turn;
+    seen = v.seen;
+    told = [];
+    mine = v.mine;
+    joined = v.joined;
+  }
 
   -- a ticket is drawn, which is the number found
   abbrev pub draw_tells : Step (Option S) → Me (Option S) (Known S) → ℕ → Me (Option S) (Known S) → Type 0

@@ -58,8 +58,16 @@ lists_of v = v.mine ∷ v.joined
 
 -- the first pass of a book
 abbrev pub first_pass : Gv → House → Start → ℕ → View
-first_pass book house start passes = record { book = book; house = house; start = start; seen = []; mine = [];
-    joined = []; spare = passes - 1; turn = false }
+first_pass book house start passes = record {
+  book = book;
+  house = house;
+  start = start;
+  seen = [];
+  mine = [];
+  joined = [];
+  spare = passes - 1;
+  turn = false;
+}
 
 -- a book that was made, and its first pass
 pub record IsFresh (passes : ℕ) (house : House) (start : Start) (made : Book × View) : Type 0 where
@@ -82,25 +90,65 @@ pub record IsKept (old new : View) : Type 0 where
 
 -- a turn is taken: the log is seen
 abbrev pub with_turn : List Entry → View → View
-with_turn log v = record { book = v.book; house = v.house; start = v.start; seen = log; mine = v.mine;
-    joined = v.joined; spare = v.spare; turn = true }
+with_turn log v = record {
+  book = v.book;
+  house = v.house;
+  start = v.start;
+  seen = log;
+  mine = v.mine;
+  joined = v.joined;
+  spare = v.spare;
+  turn = true;
+}
 
 -- a turn is given back: the new entries are the pass's own
 abbrev pub with_log : List Entry → View → View
-with_log log v = record { book = v.book; house = v.house; start = v.start; seen = log;
-    mine = v.mine ++ drop (length v.seen) log; joined = v.joined; spare = v.spare; turn = false }
+with_log log v = record {
+  book = v.book;
+  house = v.house;
+  start = v.start;
+  seen = log;
+  mine = v.mine ++ drop (length v.seen) log;
+  joined = v.joined;
+  spare = v.spare;
+  turn = false;
+}
 
 -- what is left of a pass when a second one is split off
 abbrev pub less_one : View → View
-less_one v = record { book = v.book; house = v.house; start = v.start; seen = v.seen; mine = v.mine;
-    joined = v.joined; spare = v.spare - 1; turn = v.turn }
+less_one v = record {
+  book = v.book;
+  house = v.house;
+  start = v.start;
+  seen = v.seen;
+  mine = v.mine;
+  joined = v.joined;
+  spare = v.spare - 1;
+  turn = v.turn;
+}
 
 -- the second pass
 abbrev pub split_off : View → View
-split_off v = record { book = v.book; house = v.house; start = v.start; seen = v.seen; mine = []; joined = [];
-    spare = 0; turn = false }
+split_off v = record {
+  book = v.book;
+  house = v.house;
+  start = v.start;
+  seen = v.seen;
+  mine = [];
+  joined = [];
+  spare = 0;
+  turn = false;
+}
 
 -- two passes become one: the longer log is seen, and the lists of both are kept
 abbrev pub with_other : View → View → View
-with_other v w = record { book = v.book; house = v.house; start = v.start; seen = longer v.seen w.seen; mine = v.mine;
-    joined = v.joined ++ lists_of w; spare = v.spare + w.spare + 1; turn = v.turn }
+with_other v w = record {
+  book = v.book;
+  house = v.house;
+  start = v.start;
+  seen = longer v.seen w.seen;
+  mine = v.mine;
+  joined = v.joined ++ lists_of w;
+  spare = v.spare + w.spare + 1;
+  turn = v.turn;
+}
