@@ -129,16 +129,8 @@ module _ {S : Type 0} where
 
   -- what the second pass gets
   abbrev pub right_of : Known S → Known S
-  right_of v = record {
-    origin = v.origin;
-    parts = 1;
-    ticket = None;
-    turn = false;
-    seen = v.seen;
-    told = [];
-    mine = [];
-    joined = [];
-  }
+  right_of v =
+      record { origin = v.origin; parts = 1; ticket = None; turn = false; seen = v.seen; told = []; mine = []; joined = [] }
 
   -- what one pass is when another was joined to it: it keeps the longer of both logs, and has been told of the shorter
   abbrev pub both_of : Known S → Known S → Known S
