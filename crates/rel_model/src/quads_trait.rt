@@ -108,11 +108,14 @@ pub trait Quads: Core {
     ghost high_height: { (quads : Self) (q : Quad) → HasQuad (Self.worker quads) q → q.height ≤ top_height };
 
     /// The cells of a quad lie within its square.
-    ghost square: { (quads : Self) (q : Quad) → HasQuad (Self.worker quads) q → LiesWithin (2 ^ q.height) (2 ^ q.height) (quad_set (Self.worker quads) q) };
+    ghost square: { (quads : Self) (q : Quad) → HasQuad (Self.worker quads) q
+        → LiesWithin (2 ^ q.height) (2 ^ q.height) (quad_set (Self.worker quads) q) };
 
     /// The quad named 0 has no cell, at each height.
-    ghost none: { (quads : Self) (h : ℕ) → Self.least ≤ h → h ≤ top_height → (Self.worker quads).quad (record { height = h; name = 0 }) ≡ Some no_cells };
+    ghost none: { (quads : Self) (h : ℕ) → Self.least ≤ h → h ≤ top_height
+        → (Self.worker quads).quad (record { height = h; name = 0 }) ≡ Some no_cells };
 
     /// Quads of one height with one set have one name.
-    ghost one_name: { (quads : Self) (p q : Quad) → HasQuad (Self.worker quads) p → HasQuad (Self.worker quads) q → p.height ≡ q.height → quad_set (Self.worker quads) p ≡ quad_set (Self.worker quads) q → p.name ≡ q.name };
+    ghost one_name: { (quads : Self) (p q : Quad) → HasQuad (Self.worker quads) p → HasQuad (Self.worker quads) q
+        → p.height ≡ q.height → quad_set (Self.worker quads) p ≡ quad_set (Self.worker quads) q → p.name ≡ q.name };
 }
