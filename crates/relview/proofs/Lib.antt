@@ -11,3 +11,4 @@ pub mod Lexemes
 pub mod SaveNames
 pub mod GivenRun
 pub mod Naming
+pub mod Completing
