@@ -12,3 +12,4 @@ pub mod SaveNames
 pub mod GivenRun
 pub mod Naming
 pub mod Completing
+pub mod Beginning

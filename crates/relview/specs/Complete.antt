@@ -1,5 +1,5 @@
 -- What a run came to where nothing was wanting: neither memory, nor a place in the table, nor a call outside.
-use Rattle.std.specs.Prelude.{◌≡◌, ◌≢◌, ◌+◌, ℕ, List, [], ◌∷◌}
+use Rattle.std.specs.Prelude.{◌≡◌, ◌≢◌, ◌≤◌, ◌⊎◌, ◌+◌, ℕ, true, List, [], ◌∷◌, length, Some}
 use Rattle.std.specs.List.{AllByRecursion}
 use Rattle.std.specs.Io.KnownBytes.{Appends}
 use Rattle.rel_model.specs.Words.{IsFull}
@@ -12,10 +12,12 @@ use Rattle.run_model.specs.Due.{outcome_due}
 use Rattle.run_model.specs.Steps.{due_at}
 use Rattle.run_model.specs.Legal.{steps_in}
 use Rattle.run_model.specs.Page.{page, saves}
-use Rattle.rv_io.specs.Outside.{Told, Rose}
+use Rattle.rv_io.specs.Outside.{Files, Told, Rose}
 use Rattle.rv_words.specs.Uses.{Word}
+use Rattle.rv_words.specs.Said.{Said, said_by}
+use Rattle.relview.specs.Given.{file_words, limit_of}
 use Rattle.relview.specs.Writing.{Sunk, HasPut}
-use Rattle.relview.specs.Top.{HasRun, outcomes_of, status_of}
+use Rattle.relview.specs.Top.{HasRun, Answers, outcomes_of, status_of}
 use Rattle.relview.specs.declared.report.Report.{Report}
 
 -- memory ran out for no command
@@ -65,3 +67,22 @@ CompleteRuns =
     (run : HasRun words shelf_old shelf_new old new report)
     → NothingLacked words shelf_old shelf_new old new report run
     → IsComplete words shelf_old shelf_new old new report run
+
+-- ---- that a run begins
+-- nothing stood in the way of a run: the words are in the set, no pick, read or write failed, the shelf tells its files, and
+-- the file of each FILE word is within its limit
+pub record NothingStopped (words : List Word) (shelf_old shelf_new : Told) (old new : Sunk) : Type 0 where
+  pub said : Said
+  pub taken : said_by words ≡ Some said
+  pub reads : Rose shelf_old.faults shelf_new.faults → ⊥
+  pub writes : Rose old.faults new.faults → ⊥
+  pub files : Files
+  pub told : shelf_old.files ≡ Some files
+  pub within : AllByRecursion (λ word. (bytes : List ℕ) → files word ≡ Some bytes → length bytes ≤ limit_of word) (file_words words)
+
+-- where nothing stood in the way the scripts ran, or memory ran out
+abbrev pub RunsBegin : Type 0
+RunsBegin =
+    (words : List Word) (shelf_old shelf_new : Told) (old new : Sunk) (report : Report)
+    → Answers words shelf_old shelf_new old new report → NothingStopped words shelf_old shelf_new old new
+    → (report.ran ≡ true) ⊎ (report.status ≡ 5)
