@@ -3,3 +3,4 @@ pub mod Given
 pub mod Lines
 pub mod Writing
 pub mod Top
+pub mod Complete

@@ -5,6 +5,7 @@ ghost use Rattle.std.specs.Prelude.{◌≡◌};
 ghost use Rattle.std.specs.Process.{exit_status};
 
 pub mod given;
+pub mod law;
 pub mod lines;
 pub mod over_table;
 pub mod report;

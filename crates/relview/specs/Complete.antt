@@ -1,0 +1,88 @@
+-- What a run came to where nothing was wanting: neither memory, nor a place in the table, nor a call outside.
+use Rattle.std.specs.Prelude.{◌≡◌, ◌≢◌, ◌≤◌, ◌⊎◌, ◌+◌, ℕ, true, List, [], ◌∷◌, length, Some}
+use Rattle.std.specs.List.{AllByRecursion}
+use Rattle.std.specs.Io.KnownBytes.{Appends}
+use Rattle.rel_model.specs.Words.{IsFull}
+use Rattle.rel_model.specs.Equations.{node_words}
+use Rattle.run_model.specs.declared.event.Event.{Event}
+use Rattle.run_model.specs.declared.outcome.Outcome.{Outcome}
+use Rattle.run_model.specs.declared.outcome.Outcome.TheVariants.{Parse, Ill, NoMemory}
+use Rattle.run_model.specs.Inputs.{Input, Reading, NoScript, Flawed, Runs}
+use Rattle.run_model.specs.Due.{outcome_due}
+use Rattle.run_model.specs.Steps.{due_at}
+use Rattle.run_model.specs.Legal.{steps_in}
+use Rattle.run_model.specs.Page.{page, saves}
+use Rattle.rv_io.specs.Outside.{Files, Told, Rose}
+use Rattle.rv_words.specs.Uses.{Word}
+use Rattle.rv_words.specs.Said.{Said, said_by}
+use Rattle.relview.specs.Given.{file_words, limit_of}
+use Rattle.relview.specs.Writing.{Sunk, HasPut}
+use Rattle.relview.specs.Top.{HasRun, Answers, outcomes_of, status_of}
+use Rattle.relview.specs.declared.report.Report.{Report}
+
+-- memory ran out for no command
+abbrev pub HadMemory : List (List Outcome) → Type 0
+HadMemory = AllByRecursion (AllByRecursion (λ outcome. outcome ≢ NoMemory))
+
+-- the outcomes of a session are those that are due, each on what its item saw
+abbrev pub CameDue : Input → List Event → ℕ → Reading → List Outcome → Type 0
+CameDue input history s (NoScript fault) outcomes = outcomes ≡ Parse fault ∷ []
+CameDue input history s (Flawed fault) outcomes = outcomes ≡ Ill fault ∷ []
+CameDue input history s (Runs script) outcomes =
+    AllByRecursion (λ step. step.outcome ≡ outcome_due (due_at input script step)) (steps_in input history s script outcomes)
+
+-- the same of the sessions from number s on
+abbrev pub AllCameDue : Input → List Event → ℕ → List Reading → List (List Outcome) → Type 0
+AllCameDue input history s [] [] = Unit {0}
+AllCameDue input history s (reading ∷ readings) (outcomes ∷ others) =
+    CameDue input history s reading outcomes × AllCameDue input history (s + 1) readings others
+AllCameDue input history s [] (outcomes ∷ others) = ⊥
+AllCameDue input history s (reading ∷ readings) [] = ⊥
+
+-- no write and no put failed, and neither count stands at its last value
+pub record NoneFailed (shelf_old shelf_new : Told) (old new : Sunk) : Type 0 where
+  pub writes : Rose old.faults new.faults → ⊥
+  pub puts : Rose shelf_old.put_faults shelf_new.put_faults → ⊥
+
+-- nothing was wanting in a run: no command lacked memory, the words have a vacant place, and no write and no put failed
+pub record NothingLacked (words : List Word) (shelf_old shelf_new : Told) (old new : Sunk) (report : Report)
+    (run : HasRun words shelf_old shelf_new old new report) : Type 0 where
+  pub memory : HadMemory (outcomes_of report)
+  pub vacant : IsFull (node_words run.said.nodes report.words.items) → ⊥
+  pub outside : NoneFailed shelf_old shelf_new old new
+
+-- such a run is complete: each outcome is the due one, the page was written whole, its files were put, and the status is
+-- that of the outcomes
+pub record IsComplete (words : List Word) (shelf_old shelf_new : Told) (old new : Sunk) (report : Report)
+    (run : HasRun words shelf_old shelf_new old new report) : Type 0 where
+  pub due : AllCameDue run.input report.history.items 1 run.input.readings (outcomes_of report)
+  pub written : Appends old.written new.written (page run.input report.history.items (outcomes_of report))
+  pub put : HasPut shelf_old.files shelf_new.files (saves run.input report.history.items (outcomes_of report))
+  pub status : report.status ≡ status_of (outcomes_of report)
+
+-- a run in which nothing was wanting is complete
+abbrev pub CompleteRuns : Type 0
+CompleteRuns =
+    (words : List Word) (shelf_old shelf_new : Told) (old new : Sunk) (report : Report)
+    (run : HasRun words shelf_old shelf_new old new report)
+    → NothingLacked words shelf_old shelf_new old new report run
+    → IsComplete words shelf_old shelf_new old new report run
+
+-- ---- that a run begins
+-- nothing stood in the way of a run: the words are in the set, no pick, read or write failed, the shelf tells its files, and
+-- the file of each FILE word is within its limit
+pub record NothingStopped (words : List Word) (shelf_old shelf_new : Told) (old new : Sunk) : Type 0 where
+  pub said : Said
+  pub taken : said_by words ≡ Some said
+  pub reads : Rose shelf_old.faults shelf_new.faults → ⊥
+  pub writes : Rose old.faults new.faults → ⊥
+  pub files : Files
+  pub told : shelf_old.files ≡ Some files
+  pub within : AllByRecursion (λ word. (bytes : List ℕ) → files word ≡ Some bytes → length bytes ≤ limit_of word) (file_words words)
+
+-- where nothing stood in the way the scripts ran, or memory ran out
+abbrev pub RunsBegin : Type 0
+RunsBegin =
+    (words : List Word) (shelf_old shelf_new : Told) (old new : Sunk) (report : Report)
+    → Answers words shelf_old shelf_new old new report → NothingStopped words shelf_old shelf_new old new
+    → (report.ran ≡ true) ⊎ (report.status ≡ 5)
