@@ -1,0 +1,133 @@
+#!/usr/bin/env python3
+"""Times whole runs of the program by what they ask for: the start, sessions, closures, sets of sets.
+
+    bench/scale/run.py [ROUNDS] [WORD..]     the groups of these words alone: start, sessions, closure, subsets
+
+Each row is one run in a process of its own: seconds and the most memory that it held, the best of ROUNDS (3), and the
+last line of its page. A run over 100 seconds is ended and says so.
+"""
+import os
+import random
+import subprocess
+import sys
+import tempfile
+import time
+from pathlib import Path
+
+TOP = Path(__file__).resolve().parent.parent.parent
+RELVIEW = TOP / "crates" / "relview" / "out" / "relview"
+sys.dont_write_bytecode = True
+sys.path.insert(0, str(TOP / "tools"))
+from relations import Relation, k2  # noqa: E402
+
+SECONDS = 100
+MOST = ["--nodes", "24"]
+KERNELS = """KERNELS(G) DECL e, breaks BEG e = epsi(Ln1(G)); breaks = (e & G*e) | -(e | G*e); RETURN -ran(breaks) END.
+LOAD G "g.k2". COUNT KERNELS(G)."""
+STABLE = """MAXIMAL(Order, v) = v & -((Order & -I(Order))*v).
+STABLE(G) DECL e BEG e = epsi(Ln1(G)); RETURN MAXIMAL(e \\ e, -ran(e & G*e)) END.
+LOAD G "g.k2". COUNT STABLE(G | G^)."""
+CLOSURE = 'LOAD G "g.k2". COUNT trans(G).'
+
+
+def random_graph(vertices, steps, seed=1):
+    """A graph with so many steps from each vertex, to vertices picked at random."""
+    lot = random.Random(seed)
+    pairs = ((x, lot.randrange(vertices) + 1) for x in range(1, vertices + 1) for _ in range(steps))
+    return Relation(vertices, vertices, pairs)
+
+
+def acyclic(vertices, steps, seed=1):
+    """A graph whose steps lead to later vertices."""
+    lot = random.Random(seed)
+    pairs = ((x, lot.randrange(x, vertices) + 1) for x in range(1, vertices) for _ in range(steps))
+    return Relation(vertices, vertices, pairs)
+
+
+def cycle(vertices):
+    """A directed cycle."""
+    return Relation(vertices, vertices, ((x, x % vertices + 1) for x in range(1, vertices + 1)))
+
+
+def grid(side):
+    """A square grid of steps to the right and down."""
+    right = ((row * side + at, row * side + at + 1) for row in range(side) for at in range(1, side))
+    down = ((row * side + at, row * side + at + side) for row in range(side - 1) for at in range(1, side + 1))
+    return Relation(side * side, side * side, [*right, *down])
+
+
+def cases():
+    """The group, the label, the words, the scripts and the relation of each row."""
+    for bits in (10, 16, 20, 22, 24):
+        yield "start", f"one script, --nodes {bits}", ["--nodes", str(bits)], [""], None
+    for count in (1, 8, 64):
+        yield "sessions", f"{count} scripts of one REL and one COUNT", [], ["REL A 4 4 {1:2}. COUNT A."] * count, None
+    for workers in (1, 8):
+        yield "sessions", f"--gen 0 --workers {workers}", ["--gen", "0", "--workers", str(workers)], [], None
+    for vertices in (500, 1000, 2000, 4000):
+        yield "closure", f"random, {vertices} vertices, 2 steps each", MOST, [CLOSURE], random_graph(vertices, 2)
+    for vertices in (1000, 2000, 4000, 8000):
+        yield "closure", f"acyclic, {vertices} vertices, 2 steps each", MOST, [CLOSURE], acyclic(vertices, 2)
+    for vertices in (1000, 1000000):
+        yield "closure", f"a cycle of {vertices}", MOST, [CLOSURE], cycle(vertices)
+    for side in (16, 32, 64):
+        yield "closure", f"a grid of {side} by {side}", MOST, [CLOSURE], grid(side)
+    for elements in (12, 16, 20, 24):
+        script = f"REL v {elements} 1 {{}}. COUNT epsi(v)."
+        yield "subsets", f"membership in the subsets of {elements}", MOST, [script], None
+    for elements in (12, 16, 20):
+        script = f"REL v {elements} 1 {{}}. COUNT epsi(v) \\ epsi(v)."
+        yield "subsets", f"inclusion of the subsets of {elements}", MOST, [script], None
+    for vertices in (12, 16, 20, 24):
+        yield "subsets", f"kernels of a cycle of {vertices}", MOST, [KERNELS], cycle(vertices)
+    for vertices in (12, 16, 18):
+        label = f"kernels of a random graph, {vertices} vertices, 3 steps each"
+        yield "subsets", label, MOST, [KERNELS], random_graph(vertices, 3)
+    for vertices in (10, 12, 14):
+        label = f"maximal independent sets of a cycle of {vertices}, by inclusion"
+        yield "subsets", label, MOST, [STABLE], cycle(vertices)
+
+
+def measured(words, folder):
+    """Seconds, megabytes, status and the last line of the page of one run."""
+    with tempfile.TemporaryFile() as page:
+        began = time.perf_counter()
+        run = subprocess.Popen([str(RELVIEW), *words], cwd=folder, stdout=page)
+        while True:
+            ended, status, usage = os.wait4(run.pid, os.WNOHANG)
+            if ended:
+                break
+            if time.perf_counter() - began > SECONDS:
+                run.kill()
+                os.wait4(run.pid, 0)
+                return SECONDS, 0, -1, "ended"
+            time.sleep(0.001)
+        took = time.perf_counter() - began
+        page.seek(0)
+        lines = page.read().decode().splitlines()
+    return took, usage.ru_maxrss / 1024, os.waitstatus_to_exitcode(status), lines[-1] if lines else ""
+
+
+def main():
+    rounds = int(sys.argv[1]) if len(sys.argv) > 1 else 3
+    wanted = sys.argv[2:]
+    for group, label, words, scripts, relation in cases():
+        if wanted and group not in wanted:
+            continue
+        with tempfile.TemporaryDirectory() as name:
+            files = []
+            for number, script in enumerate(scripts, 1):
+                files.append(f"s{number}.rv")
+                (Path(name) / files[-1]).write_text(script)
+            if relation:
+                files.append("g.k2")
+                (Path(name) / "g.k2").write_bytes(k2(relation, None))
+            rows = []
+            while len(rows) < rounds and (not rows or rows[-1][2] >= 0):
+                rows.append(measured([*words, *files], name))
+        took, memory, status, last = min(rows)
+        print(f"{group:9} {label:62} {took:8.3f} s {memory:6.0f} MB  status {status}  {last[:70]}", flush=True)
+
+
+if __name__ == "__main__":
+    main()
