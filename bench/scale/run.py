@@ -1,11 +1,12 @@
 #!/usr/bin/env python3
-"""Times whole runs of the program by what they ask for: the start, sessions, closures, sets of sets.
+"""Times whole runs of the program by what they ask for: the start, sessions, closures, large relations, sets of sets.
 
-    bench/scale/run.py [ROUNDS] [WORD..]     the groups of these words alone: start, sessions, closure, subsets
+    bench/scale/run.py [ROUNDS] [WORD..]     the groups of these words alone: start, sessions, closure, large, subsets
 
-Each row is one run in a process of its own: seconds and the most memory that it held, the best of ROUNDS (3), and the
-last line of its page. A run over 100 seconds is ended and says so.
+Each row is one run in a process of its own, the best of ROUNDS (3): seconds by the clock, seconds of the processor, the
+most memory that it held, its status and the last line of its page. A run over 100 seconds is ended and says so.
 """
+import multiprocessing
 import os
 import random
 import subprocess
@@ -57,21 +58,24 @@ def grid(side):
 
 
 def cases():
-    """The group, the label, the words, the scripts and the relation of each row."""
+    """The group, the label, the words, the scripts of each row, and how its relation is made."""
     for bits in (10, 16, 20, 22, 24):
         yield "start", f"one script, --nodes {bits}", ["--nodes", str(bits)], [""], None
     for count in (1, 8, 64):
         yield "sessions", f"{count} scripts of one REL and one COUNT", [], ["REL A 4 4 {1:2}. COUNT A."] * count, None
     for workers in (1, 8):
         yield "sessions", f"--gen 0 --workers {workers}", ["--gen", "0", "--workers", str(workers)], [], None
-    for vertices in (500, 1000, 2000, 4000):
-        yield "closure", f"random, {vertices} vertices, 2 steps each", MOST, [CLOSURE], random_graph(vertices, 2)
     for vertices in (1000, 2000, 4000, 8000):
-        yield "closure", f"acyclic, {vertices} vertices, 2 steps each", MOST, [CLOSURE], acyclic(vertices, 2)
+        yield "closure", f"random, {vertices} vertices, 2 steps each", MOST, [CLOSURE], (random_graph, vertices, 2)
+    for vertices in (1000, 4000, 16000):
+        yield "closure", f"acyclic, {vertices} vertices, 2 steps each", MOST, [CLOSURE], (acyclic, vertices, 2)
     for vertices in (1000, 1000000):
-        yield "closure", f"a cycle of {vertices}", MOST, [CLOSURE], cycle(vertices)
-    for side in (16, 32, 64):
-        yield "closure", f"a grid of {side} by {side}", MOST, [CLOSURE], grid(side)
+        yield "closure", f"a cycle of {vertices}", MOST, [CLOSURE], (cycle, vertices)
+    for side in (32, 64, 128):
+        yield "closure", f"a grid of {side} by {side}", MOST, [CLOSURE], (grid, side)
+    for what in ("COUNT G", "COUNT G^", "COUNT G | G^", "REL v 1000000 1 {1:1}. COUNT G^*v"):
+        label = f"a random map of 1000000: {what.partition('COUNT ')[2]}"
+        yield "large", label, MOST, [f'LOAD G "g.k2". {what}.'], (random_graph, 1000000, 1)
     for elements in (12, 16, 20, 24):
         script = f"REL v {elements} 1 {{}}. COUNT epsi(v)."
         yield "subsets", f"membership in the subsets of {elements}", MOST, [script], None
@@ -79,17 +83,20 @@ def cases():
         script = f"REL v {elements} 1 {{}}. COUNT epsi(v) \\ epsi(v)."
         yield "subsets", f"inclusion of the subsets of {elements}", MOST, [script], None
     for vertices in (12, 16, 20, 24):
-        yield "subsets", f"kernels of a cycle of {vertices}", MOST, [KERNELS], cycle(vertices)
-    for vertices in (12, 16, 18):
-        label = f"kernels of a random graph, {vertices} vertices, 3 steps each"
-        yield "subsets", label, MOST, [KERNELS], random_graph(vertices, 3)
+        yield "subsets", f"kernels of a cycle of {vertices}", MOST, [KERNELS], (cycle, vertices)
+    for vertices in (16, 20, 24):
+        yield "subsets", f"kernels of an acyclic graph of {vertices}", MOST, [KERNELS], (acyclic, vertices, 3)
     for vertices in (10, 12, 14):
-        label = f"maximal independent sets of a cycle of {vertices}, by inclusion"
-        yield "subsets", label, MOST, [STABLE], cycle(vertices)
+        yield "subsets", f"maximal independent sets of a cycle of {vertices}", MOST, [STABLE], (cycle, vertices)
+
+
+def write_relation(path, maker, *arguments):
+    """Writes a relation file."""
+    Path(path).write_bytes(k2(maker(*arguments), None))
 
 
 def measured(words, folder):
-    """Seconds, megabytes, status and the last line of the page of one run."""
+    """Seconds by the clock and of the processor, mebibytes, status and the last line of the page of one run."""
     with tempfile.TemporaryFile() as page:
         began = time.perf_counter()
         run = subprocess.Popen([str(RELVIEW), *words], cwd=folder, stdout=page)
@@ -100,12 +107,13 @@ def measured(words, folder):
             if time.perf_counter() - began > SECONDS:
                 run.kill()
                 os.wait4(run.pid, 0)
-                return SECONDS, 0, -1, "ended"
+                return SECONDS, SECONDS, 0, -1, "ended"
             time.sleep(0.001)
         took = time.perf_counter() - began
         page.seek(0)
         lines = page.read().decode().splitlines()
-    return took, usage.ru_maxrss / 1024, os.waitstatus_to_exitcode(status), lines[-1] if lines else ""
+    spent = usage.ru_utime + usage.ru_stime
+    return took, spent, usage.ru_maxrss / 1024, os.waitstatus_to_exitcode(status), lines[-1] if lines else ""
 
 
 def main():
@@ -120,13 +128,16 @@ def main():
                 files.append(f"s{number}.rv")
                 (Path(name) / files[-1]).write_text(script)
             if relation:
+                # in a process of its own: what this one holds is counted to those that it starts
                 files.append("g.k2")
-                (Path(name) / "g.k2").write_bytes(k2(relation, None))
+                maker = multiprocessing.Process(target=write_relation, args=(Path(name) / "g.k2", *relation))
+                maker.start()
+                maker.join()
             rows = []
-            while len(rows) < rounds and (not rows or rows[-1][2] >= 0):
+            while len(rows) < rounds and (not rows or rows[-1][3] >= 0):
                 rows.append(measured([*words, *files], name))
-        took, memory, status, last = min(rows)
-        print(f"{group:9} {label:62} {took:8.3f} s {memory:6.0f} MB  status {status}  {last[:70]}", flush=True)
+        took, spent, memory, status, last = (min(column) for column in zip(*rows))
+        print(f"{label:58} {took:8.3f} s {spent:8.3f} s {memory:5.0f} MiB  {status}  {last[:60]}", flush=True)
 
 
 if __name__ == "__main__":
