@@ -1,7 +1,7 @@
 #!/usr/bin/env python3
-"""Times whole runs of the program by what they ask for: the start, sessions, closures, large relations, sets of sets.
+"""Times whole runs of the program: the start, sessions, closures, vectors, large relations, sets of sets.
 
-    bench/scale/run.py [ROUNDS] [WORD..]     the groups of these words alone: start, sessions, closure, large, subsets
+    bench/scale/run.py [ROUNDS] [GROUP..]     start, sessions, closure, vector, large, subsets; all without a GROUP
 
 Each row is one run in a process of its own, the best of ROUNDS (3): seconds by the clock, seconds of the processor, the
 most memory that it held, its status and the last line of its page. A run over 100 seconds is ended and says so.
@@ -28,6 +28,9 @@ LOAD G "g.k2". COUNT KERNELS(G)."""
 STABLE = """MAXIMAL(Order, v) = v & -((Order & -I(Order))*v).
 STABLE(G) DECL e BEG e = epsi(Ln1(G)); RETURN MAXIMAL(e \\ e, -ran(e & G*e)) END.
 LOAD G "g.k2". COUNT STABLE(G | G^)."""
+REACHED = """REACHED(G, v) DECL found, more BEG found = v; more = found | G^*found;
+WHILE -eq(found, more) DO found = more; more = found | G^*found OD RETURN found END.
+LOAD G "g.k2". REL v SIZE 1 {1:1}. COUNT REACHED(G, v)."""
 CLOSURE = 'LOAD G "g.k2". COUNT trans(G).'
 
 
@@ -73,6 +76,9 @@ def cases():
         yield "closure", f"a cycle of {vertices}", MOST, [CLOSURE], (cycle, vertices)
     for side in (32, 64, 128):
         yield "closure", f"a grid of {side} by {side}", MOST, [CLOSURE], (grid, side)
+    for vertices in (8000, 100000):
+        script = REACHED.replace("SIZE", str(vertices))
+        yield "vector", f"what 1 reaches, random, {vertices} vertices", MOST, [script], (random_graph, vertices, 2)
     for what in ("COUNT G", "COUNT G^", "COUNT G | G^", "REL v 1000000 1 {1:1}. COUNT G^*v"):
         label = f"a random map of 1000000: {what.partition('COUNT ')[2]}"
         yield "large", label, MOST, [f'LOAD G "g.k2". {what}.'], (random_graph, 1000000, 1)
@@ -116,28 +122,41 @@ def measured(words, folder):
     return took, spent, usage.ru_maxrss / 1024, os.waitstatus_to_exitcode(status), lines[-1] if lines else ""
 
 
+def file_of(relation, made):
+    """The file of a relation, which is written once, by a process of its own: what this one holds is counted to those
+    that it starts."""
+    path = Path(made) / ("_".join(str(word) for word in (relation[0].__name__, *relation[1:])) + ".k2")
+    if not path.exists():
+        maker = multiprocessing.Process(target=write_relation, args=(path, *relation))
+        maker.start()
+        maker.join()
+    return path
+
+
+def row(words, scripts, relation, rounds, made):
+    """The best of some runs of these scripts, with the relation as g.k2."""
+    with tempfile.TemporaryDirectory() as folder:
+        files = []
+        for number, script in enumerate(scripts, 1):
+            files.append(f"s{number}.rv")
+            (Path(folder) / files[-1]).write_text(script)
+        if relation:
+            files.append("g.k2")
+            (Path(folder) / "g.k2").symlink_to(file_of(relation, made))
+        runs = []
+        while len(runs) < rounds and (not runs or runs[-1][3] >= 0):
+            runs.append(measured([*words, *files], folder))
+    return [min(column) for column in zip(*runs)]
+
+
 def main():
     rounds = int(sys.argv[1]) if len(sys.argv) > 1 else 3
     wanted = sys.argv[2:]
-    for group, label, words, scripts, relation in cases():
-        if wanted and group not in wanted:
-            continue
-        with tempfile.TemporaryDirectory() as name:
-            files = []
-            for number, script in enumerate(scripts, 1):
-                files.append(f"s{number}.rv")
-                (Path(name) / files[-1]).write_text(script)
-            if relation:
-                # in a process of its own: what this one holds is counted to those that it starts
-                files.append("g.k2")
-                maker = multiprocessing.Process(target=write_relation, args=(Path(name) / "g.k2", *relation))
-                maker.start()
-                maker.join()
-            rows = []
-            while len(rows) < rounds and (not rows or rows[-1][3] >= 0):
-                rows.append(measured([*words, *files], name))
-        took, spent, memory, status, last = (min(column) for column in zip(*rows))
-        print(f"{label:58} {took:8.3f} s {spent:8.3f} s {memory:5.0f} MiB  {status}  {last[:60]}", flush=True)
+    with tempfile.TemporaryDirectory() as made:
+        for group, label, words, scripts, relation in cases():
+            if not wanted or group in wanted:
+                took, spent, memory, status, last = row(words, scripts, relation, rounds, made)
+                print(f"{label:58} {took:8.3f} s {spent:8.3f} s {memory:5.0f} MiB  {status}  {last[:60]}", flush=True)
 
 
 if __name__ == "__main__":
