@@ -1,3 +1,4 @@
 pub mod Transposing
 pub mod Multiplying
 pub mod Finding
+pub mod Fitting
