@@ -3,8 +3,8 @@ use Rattle.rel_model.proofs.QuadLaws.{quad_stays}
 use Rattle.rel_compose.proofs.Fitting.{side_small}
 use Rattle.rel_compose.proofs.dense.rows_pay.Goals as goal
 
-pub is_dense-2-requires-clause-stands : goal.is_dense-2-requires-clause-stands
-is_dense-2-requires-clause-stands c = quad_stays 0 c.args.nodes.now c.is_dense.new.nodes c.args.b c.is_dense.ensures.keeps c.requires.b_stands
+pub is_dense-requires-2-clause-stands : goal.is_dense-requires-2-clause-stands
+is_dense-requires-2-clause-stands c = quad_stays 0 c.args.nodes.now c.is_dense.new.nodes c.args.b c.is_dense.ensures.reads.keeps c.requires.b_stands
 
 pub returns-clause-small : goal.returns-clause-small
 returns-clause-small c e = side_small c.args.a.height c.requires.a_stands.low (omega arith)
