@@ -2,3 +2,4 @@ pub mod Transposing
 pub mod Multiplying
 pub mod Finding
 pub mod Fitting
+pub mod Summing

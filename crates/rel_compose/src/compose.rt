@@ -7,9 +7,10 @@ ghost use Rattle.rel_model.specs.Quads.{Keeper, QuadStands, IsQuad, quad_cells, 
 ghost use Rattle.quad_nodes.specs.Finding.{Finds, FindsQuad, FindsNone};
 ghost use Rattle.rel_compose.specs.Products.{BothStand, IsProduct, AreProducts, quarter_room};
 
-use crate::dense::{TALLEST, rows_pay};
+use crate::dense::{TALLEST, rows_pay, sums_pay};
 use crate::product::{both_full, leaf};
 use crate::rows::noted_by_rows;
+use crate::sums::noted_by_sums;
 use memo_laws::Op;
 use pair_table::Missed;
 use quad_nodes::Nodes;
@@ -104,6 +105,9 @@ fn composed_over(nodes: &mut Nodes, a: Quad, b: Quad, tallest: u8) -> Result<Qua
     }
     if rows_pay(nodes, a, b, tallest) {
         return noted_by_rows(nodes, a, b);
+    }
+    if sums_pay(nodes, a, b, tallest) {
+        return noted_by_sums(nodes, a, b);
     }
     by_quarters(nodes, a, b, tallest)
 }

@@ -5,6 +5,7 @@ mod compose;
 mod dense;
 mod product;
 mod rows;
+mod sums;
 mod transpose;
 
 pub use compose::{compose_by_quarters, compose_quads};

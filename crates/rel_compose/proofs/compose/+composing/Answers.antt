@@ -9,6 +9,7 @@ use Rattle.rel_compose.proofs.Finding.{composed_low, full_again, full_block_foun
 use Rattle.rel_model.proofs.Rooms.{compose_room-next}
 use Rattle.rel_compose.specs.Products.{quarter_room}
 use Rattle.rel_compose.proofs.Multiplying.{composed_none-left, composed_none-right, both_stay, both_at, product_value, products_value, squares, squares-stay, composed_value, composed_now, composed_after, row_below}
+use Rattle.rel_compose.proofs.Fitting.{three_reads}
 use Rattle.rel_compose.proofs.compose.+composing.Goals as goal
 
 pub composed-returns-then-a-eq0-clause-value : goal.composed-returns-then-a-eq0-clause-value
@@ -282,17 +283,42 @@ composed_over-noted_by_rows-requires-clause-b_stands t c =
     let k = reads_on c.args.nodes.now c.look.new.self c.rows_pay.new.nodes c.look.ensures.reads c.rows_pay.ensures.reads in
     quad_stays 0 c.args.nodes.now c.rows_pay.new.nodes c.args.b k.keeps c.requires.b_stands
 
+pub composed_over-sums_pay-requires-clause-a_stands : goal.composed_over-sums_pay-requires-clause-a_stands
+composed_over-sums_pay-requires-clause-a_stands t c =
+    let k = reads_on c.args.nodes.now c.look.new.self c.rows_pay.new.nodes c.look.ensures.reads c.rows_pay.ensures.reads in
+    quad_stays 0 c.args.nodes.now c.rows_pay.new.nodes c.args.a k.keeps c.requires.a_stands
+
+pub composed_over-sums_pay-requires-clause-b_stands : goal.composed_over-sums_pay-requires-clause-b_stands
+composed_over-sums_pay-requires-clause-b_stands t c =
+    let k = reads_on c.args.nodes.now c.look.new.self c.rows_pay.new.nodes c.look.ensures.reads c.rows_pay.ensures.reads in
+    quad_stays 0 c.args.nodes.now c.rows_pay.new.nodes c.args.b k.keeps c.requires.b_stands
+
+pub composed_over-noted_by_sums-requires-clause-a_stands : goal.composed_over-noted_by_sums-requires-clause-a_stands
+composed_over-noted_by_sums-requires-clause-a_stands t c =
+    let k = three_reads c.args.nodes.now c.look.new.self c.rows_pay.new.nodes c.sums_pay.new.nodes c.look.ensures.reads c.rows_pay.ensures.reads c.sums_pay.ensures.reads in
+    quad_stays 0 c.args.nodes.now c.sums_pay.new.nodes c.args.a k.keeps c.requires.a_stands
+
+pub composed_over-noted_by_sums-requires-clause-b_stands : goal.composed_over-noted_by_sums-requires-clause-b_stands
+composed_over-noted_by_sums-requires-clause-b_stands t c =
+    let k = three_reads c.args.nodes.now c.look.new.self c.rows_pay.new.nodes c.sums_pay.new.nodes c.look.ensures.reads c.rows_pay.ensures.reads c.sums_pay.ensures.reads in
+    quad_stays 0 c.args.nodes.now c.sums_pay.new.nodes c.args.b k.keeps c.requires.b_stands
+
 pub composed_over-by_quarters-requires : goal.composed_over-by_quarters-requires
 composed_over-by_quarters-requires t c =
-    let k = reads_on c.args.nodes.now c.look.new.self c.rows_pay.new.nodes c.look.ensures.reads c.rows_pay.ensures.reads in
-    (omega arith, (quad_stays 0 c.args.nodes.now c.rows_pay.new.nodes c.args.a k.keeps c.requires.a_stands, (quad_stays 0 c.args.nodes.now c.rows_pay.new.nodes c.args.b k.keeps c.requires.b_stands, (c.requires.one_height, c.requires.over))))
+    let k = three_reads c.args.nodes.now c.look.new.self c.rows_pay.new.nodes c.sums_pay.new.nodes c.look.ensures.reads c.rows_pay.ensures.reads c.sums_pay.ensures.reads in
+    (omega arith, (quad_stays 0 c.args.nodes.now c.sums_pay.new.nodes c.args.a k.keeps c.requires.a_stands, (quad_stays 0 c.args.nodes.now c.sums_pay.new.nodes c.args.b k.keeps c.requires.b_stands, (c.requires.one_height, c.requires.over))))
 
 pub composed_over-returns-then-rows_pay-clause-value : goal.composed_over-returns-then-rows_pay-clause-value
 composed_over-returns-then-rows_pay-clause-value t c =
     let k = reads_on c.args.nodes.now c.look.new.self c.rows_pay.new.nodes c.look.ensures.reads c.rows_pay.ensures.reads in
     composed_after c.args.nodes.now c.rows_pay.new.nodes c.noted_by_rows.new.nodes c.args.a c.args.b c.noted_by_rows.result k c.requires.a_stands c.requires.b_stands c.noted_by_rows.ensures.value
 
+pub composed_over-returns-then-sums_pay-clause-value : goal.composed_over-returns-then-sums_pay-clause-value
+composed_over-returns-then-sums_pay-clause-value t c =
+    let k = three_reads c.args.nodes.now c.look.new.self c.rows_pay.new.nodes c.sums_pay.new.nodes c.look.ensures.reads c.rows_pay.ensures.reads c.sums_pay.ensures.reads in
+    composed_after c.args.nodes.now c.sums_pay.new.nodes c.noted_by_sums.new.nodes c.args.a c.args.b c.noted_by_sums.result k c.requires.a_stands c.requires.b_stands c.noted_by_sums.ensures.value
+
 pub composed_over-returns-clause-value : goal.composed_over-returns-clause-value
 composed_over-returns-clause-value t c =
-    let k = reads_on c.args.nodes.now c.look.new.self c.rows_pay.new.nodes c.look.ensures.reads c.rows_pay.ensures.reads in
-    composed_after c.args.nodes.now c.rows_pay.new.nodes c.by_quarters.new.nodes c.args.a c.args.b c.by_quarters.result k c.requires.a_stands c.requires.b_stands c.by_quarters.ensures.value
+    let k = three_reads c.args.nodes.now c.look.new.self c.rows_pay.new.nodes c.sums_pay.new.nodes c.look.ensures.reads c.rows_pay.ensures.reads c.sums_pay.ensures.reads in
+    composed_after c.args.nodes.now c.sums_pay.new.nodes c.by_quarters.new.nodes c.args.a c.args.b c.by_quarters.result k c.requires.a_stands c.requires.b_stands c.by_quarters.ensures.value
