@@ -1,5 +1,5 @@
 -- Rows with no column, and windows with no cell.
-use Rattle.std.proofs.Common.{◌≡◌, ◌<◌, ◌≤◌, ◌+◌, ◌-◌, ◌*◌, ◌&&◌, ◌||◌, ltb, ℕ, Bool, true, false, List, length, refl, sym, ap, ◌∙◌, inl, inr, arith, get_or, replicate}
+use Rattle.std.proofs.Common.{◌≡◌, ◌<◌, ◌≤◌, ◌+◌, ◌-◌, ◌*◌, ◌||◌, ltb, ℕ, Bool, true, false, List, length, refl, sym, ap, ◌∙◌, inl, inr, arith, get_or, replicate}
 use Rattle.std.specs.Int.{bit_at}
 use Rattle.std.proofs.lemmas.Bool.{false≢true, cases_lt, cases_eq, le-ltb, ne_eqb, and_left, and_right, or_left, or_right}
 use Rattle.std.proofs.lemmas.List.{get_or_default, get_or-replicate, length-replicate}

@@ -1,5 +1,5 @@
 -- The composition by rows beside that by quarters: its room, and the sides of its squares.
-use Rattle.std.proofs.Common.{◌≡◌, ◌≤◌, ◌+◌, ◌-◌, ◌*◌, ◌^◌, zero, suc, ℕ, arith}
+use Rattle.std.proofs.Common.{◌≡◌, ◌≤◌, ◌-◌, ◌*◌, ◌^◌, zero, suc, ℕ, arith}
 use Rattle.std.proofs.Math.Nat.{pow-suc, one-le-pow, pow-le-pow_right}
 use Rattle.rel_model.specs.Trees.{bottom_height}
 use Rattle.rel_model.specs.Equations.{side_of}

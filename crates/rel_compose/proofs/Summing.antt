@@ -2,7 +2,7 @@
 -- 1. A window that lies within a quarter of a square is a window of that quarter, and the window of a union is the union of the windows.
 -- 2. A quarter of a product is the union of two products of quarters, so a window of a product is the union of windows of two products of half the side.
 -- 3. Down to squares of 256 rows and columns these are added to rows; the quad of a product is gathered from such sums.
-use Rattle.std.proofs.Common.{◌≡◌, ◌<◌, ◌≤◌, ◌+◌, ◌-◌, ◌%◌, ◌^◌, ◌&&◌, ◌||◌, ◌⊎◌, ◌≢◌, ltb, zero, suc, ℕ, Bool, true, false, Result, Ok, Err, IfOk, refl, sym, ap, subst, ◌∙◌, inl, inr, arith}
+use Rattle.std.proofs.Common.{◌≡◌, ◌<◌, ◌≤◌, ◌+◌, ◌-◌, ◌%◌, ◌^◌, ◌&&◌, ◌||◌, ◌⊎◌, ◌≢◌, ltb, zero, suc, ℕ, Bool, true, false, Result, IfOk, refl, sym, ap, subst, ◌∙◌, inl, inr, arith}
 use Rattle.std.proofs.lemmas.Bool.{cases_lt, le-ltb, and_left, and_right}
 use Rattle.std.proofs.Math.Nat.{pow-le-pow_right}
 use Rattle.rel_model.specs.declared.Quad.{Quad}

@@ -15,14 +15,8 @@ use quad_nodes::{Nodes, side_of_height};
 use rel_model::Quad;
 use row_quads::{add_product, gather_quad};
 
-
 /// The half of two in which a place lies, and the place within it.
-fn half_at(
-    first: (Quad, Quad),
-    second: (Quad, Quad),
-    place: u32,
-    half: u32,
-) -> ((Quad, Quad), u32)
+fn half_at(first: (Quad, Quad), second: (Quad, Quad), place: u32, half: u32) -> ((Quad, Quad), u32)
     ensures { IsHalf first second place half result.0 result.1 }
 {
     if place < half {

@@ -1,4 +1,4 @@
-use Rattle.std.proofs.Common.{◌<◌, ◌≤◌, ◌+◌, length, arith}
+use Rattle.std.proofs.Common.{◌<◌, ◌+◌, length, arith}
 use Rattle.bit_rows.proofs.Clearing.{columns_none, columns_more, columns_fewer}
 use Rattle.bit_rows.proofs.clear.columns_of.Goals as goal
 

@@ -1,4 +1,4 @@
-use Rattle.std.proofs.Common.{◌<◌, ◌*◌, arith}
+use Rattle.std.proofs.Common.{arith}
 use Rattle.bit_rows.proofs.Clearing.{none_more}
 use Rattle.bit_rows.proofs.clear.has_none.Goals as goal
 

@@ -1,5 +1,3 @@
-use Rattle.std.proofs.Common.{◌<◌, arith}
-use Rattle.rel_model.specs.Trees.{bottom_height}
 use Rattle.rel_model.proofs.QuadLaws.{quad_stays}
 use Rattle.rel_compose.proofs.Summing.{over_8}
 use Rattle.rel_compose.proofs.dense.has_many.Goals as goal

@@ -1,4 +1,4 @@
-use Rattle.std.proofs.Common.{◌≤◌, arith}
+use Rattle.std.proofs.Common.{arith}
 use Rattle.rel_model.proofs.QuadLaws.{quad_stays}
 use Rattle.rel_compose.proofs.Fitting.{side_small}
 use Rattle.rel_compose.proofs.dense.rows_pay.Goals as goal

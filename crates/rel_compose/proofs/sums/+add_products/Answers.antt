@@ -1,11 +1,8 @@
-use Rattle.std.proofs.Common.{◌≡◌, ◌<◌, ◌≤◌, ◌+◌, ◌-◌, ◌%◌, ◌∙◌, sym, ap, subst, arith}
+use Rattle.std.proofs.Common.{◌<◌, ◌∙◌, sym, subst, arith}
 use Rattle.rel_model.specs.Trees.{bottom_height}
-use Rattle.rel_model.specs.Equations.{side_of}
-use Rattle.rel_model.proofs.QuadLaws.{quad_stays, side_of-next}
+use Rattle.rel_model.proofs.QuadLaws.{quad_stays}
 use Rattle.bit_rows.specs.Rows.{rows_cells}
-use Rattle.rel_compose.specs.Products.{BothStand}
-use Rattle.rel_compose.proofs.Multiplying.{squares, both_at}
-use Rattle.rel_compose.proofs.Summing.{Crossing, crossing_of, low_at, side_small_8, whole_added, sums_added, none_left_added, none_right_added}
+use Rattle.rel_compose.proofs.Summing.{crossing_of, low_at, side_small_8, whole_added, sums_added, none_left_added, none_right_added}
 use Rattle.rel_compose.proofs.sums.+add_products.Goals as goal
 
 -- squares of 256 rows

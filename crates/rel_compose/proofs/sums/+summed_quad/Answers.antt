@@ -1,9 +1,9 @@
-use Rattle.std.proofs.Common.{◌≡◌, ◌<◌, ◌≤◌, ◌+◌, ◌-◌, ◌%◌, ℕ, ◌∙◌, ap, arith}
-use Rattle.rel_model.specs.Trees.{bottom_height, top_height}
+use Rattle.std.proofs.Common.{◌≡◌, ◌<◌, ◌≤◌, ◌+◌, ◌-◌, ◌%◌, ℕ, arith}
+use Rattle.rel_model.specs.Trees.{bottom_height}
 use Rattle.rel_model.specs.Cells.{cells_compose}
 use Rattle.rel_model.specs.Equations.{side_of}
 use Rattle.rel_model.specs.Quads.{quad_cells, quad_room}
-use Rattle.rel_model.proofs.QuadLaws.{keeps_on, keeps_most, keeps_itself, quad_stays, rooms-next, side_of-next}
+use Rattle.rel_model.proofs.QuadLaws.{keeps_on, keeps_most, quad_stays, rooms-next, side_of-next}
 use Rattle.row_quads.proofs.Placing.{gathered_value}
 use Rattle.rel_compose.proofs.Summing.{low_at, side_of_by_256, product_later, window_quad, eight_value, eight_keeps, eight_in, side_most}
 use Rattle.rel_compose.proofs.sums.+summed_quad.Goals as goal

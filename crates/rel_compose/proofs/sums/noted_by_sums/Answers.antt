@@ -1,4 +1,4 @@
-use Rattle.std.proofs.Common.{◌≤◌, ◌+◌, refl, arith}
+use Rattle.std.proofs.Common.{◌≤◌, ◌+◌, arith}
 use Rattle.rel_model.specs.Quads.{quad_room, compose_room}
 use Rattle.rel_model.proofs.QuadLaws.{keeps_on, keeps_most, quad_stays, is_quad-stays}
 use Rattle.rel_compose.proofs.Multiplying.{composed_now}
