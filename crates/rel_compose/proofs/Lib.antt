@@ -1,3 +1,5 @@
 pub mod Transposing
 pub mod Multiplying
 pub mod Finding
+pub mod Fitting
+pub mod Summing

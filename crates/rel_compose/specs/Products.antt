@@ -1,5 +1,5 @@
 -- Rows and columns of quads, and their products.
-use Rattle.std.specs.Prelude.{◌≡◌, ◌+◌, ℕ}
+use Rattle.std.specs.Prelude.{◌≡◌, ◌<◌, ◌≤◌, ◌+◌, ◌-◌, ◌⊎◌, ℕ}
 use Rattle.rel_model.specs.declared.Quad.{Quad}
 use Rattle.rel_model.specs.Cells.{Cells, cells_union, cells_compose}
 use Rattle.rel_model.specs.Equations.{side_of}
@@ -30,3 +30,8 @@ pub record AreProducts (old new : Keeper) (row west east : Quad × Quad) (pair :
 -- how many words two compositions and their union place at most
 abbrev pub quarter_room : ℕ → ℕ
 quarter_room height = compose_room height + compose_room height + quad_room height
+
+-- the half of two in which a place lies, and the place within it
+pub record IsHalf (first second : Quad × Quad) (place half : ℕ) (pair : Quad × Quad) (rest : ℕ) : Type 0 where
+  pub which : ((place < half) × (pair ≡ first) × (rest ≡ place))
+      ⊎ ((half ≤ place) × (pair ≡ second) × (rest ≡ place - half))

@@ -2,8 +2,11 @@
 #![tactic(auto)]
 
 mod compose;
+mod dense;
 mod product;
+mod rows;
+mod sums;
 mod transpose;
 
-pub use compose::compose_quads;
+pub use compose::{compose_by_quarters, compose_quads};
 pub use transpose::transpose_quad;

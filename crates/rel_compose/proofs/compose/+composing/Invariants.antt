@@ -1,14 +1,17 @@
 use Rattle.std.proofs.Common.{◌+◌, ◌*◌}
 use Rattle.rel_compose.proofs.compose.+composing.Given as goal
 
-abbrev pub decreases-compose_quads : goal.decreases-compose_quads
-decreases-compose_quads l = 4 * l.a.height + 3
+abbrev pub decreases-composed : goal.decreases-composed
+decreases-composed l = 5 * l.a.height + 4
 
 abbrev pub decreases-composed_over : goal.decreases-composed_over
-decreases-composed_over l = 4 * l.a.height + 2
+decreases-composed_over l = 5 * l.a.height + 3
+
+abbrev pub decreases-by_quarters : goal.decreases-by_quarters
+decreases-by_quarters l = 5 * l.a.height + 2
 
 abbrev pub decreases-row_of_products : goal.decreases-row_of_products
-decreases-row_of_products l = 4 * l.row.0.height + 5
+decreases-row_of_products l = 5 * l.row.0.height + 6
 
 abbrev pub decreases-product : goal.decreases-product
-decreases-product l = 4 * l.row.0.height + 4
+decreases-product l = 5 * l.row.0.height + 5

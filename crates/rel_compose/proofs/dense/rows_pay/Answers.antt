@@ -1,0 +1,10 @@
+use Rattle.std.proofs.Common.{arith}
+use Rattle.rel_model.proofs.QuadLaws.{quad_stays}
+use Rattle.rel_compose.proofs.Fitting.{side_small}
+use Rattle.rel_compose.proofs.dense.rows_pay.Goals as goal
+
+pub is_dense-requires-2-clause-stands : goal.is_dense-requires-2-clause-stands
+is_dense-requires-2-clause-stands c = quad_stays 0 c.args.nodes.now c.is_dense.new.nodes c.args.b c.is_dense.ensures.reads.keeps c.requires.b_stands
+
+pub returns-clause-small : goal.returns-clause-small
+returns-clause-small c e = side_small c.args.a.height c.requires.a_stands.low (omega arith)

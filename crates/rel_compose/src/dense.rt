@@ -1,0 +1,172 @@
+//! Whether two squares are so dense that their product is quicker by rows of bits than by quarters.
+ghost use Rattle.std.specs.Prelude.{◌≡◌, ◌<◌, ◌≤◌, true, length};
+ghost use Rattle.rel_model.specs.Trees.{bottom_height};
+ghost use Rattle.rel_model.specs.Equations.{side_of};
+ghost use Rattle.rel_model.specs.Quads.{Keeper, QuadStands, ReadsQuads};
+
+use quad_nodes::Nodes;
+use rel_model::Quad;
+
+/// The greatest height of squares that are composed by rows, or by sums of rows.
+pub(crate) const TALLEST: u8 = 13;
+
+/// How many different quads are under a dense square of a height, at least.
+fn least_under(height: u8) -> u32 {
+    match height {
+        8 => 40,
+        7 => 20,
+        _ => 10,
+    }
+}
+
+/// Counts the quads under a quad, on to those met before and up to a bound; a name is told from those met before by
+/// its place.
+fn met_under(nodes: &mut Nodes, q: Quad, seen: &mut [u32], met: u32, most: u32) -> u32
+    requires stands { QuadStands nodes.old q }
+    requires places { length seen.old ≡ 256 }
+    ensures same_places { length seen.new ≡ 256 }
+    ensures reads { ReadsQuads nodes.old nodes.new }
+{
+    let bottom = nodes.bottom();
+    if q.name == 0 || met >= most {
+        return met;
+    }
+    let place = (q.name % 256) as usize;
+    if seen[place] == q.name {
+        return met;
+    }
+    seen[place] = q.name;
+    if q.height == bottom {
+        return met + 1;
+    }
+    let (nw, ne, sw, se) = nodes.quarters(q);
+    let first = met_under(nodes, nw, seen, met + 1, most);
+    let second = met_under(nodes, ne, seen, first, most);
+    let third = met_under(nodes, sw, seen, second, most);
+    met_under(nodes, se, seen, third, most)
+}
+
+/// Whether a square with these quarters may be dense: at most one has no cell, and the first and the last differ, as
+/// they do not in many regular relations.
+fn may_be_dense(four: (Quad, Quad, Quad, Quad)) -> bool {
+    let (nw, ne, sw, se) = four;
+    if nw.name == se.name {
+        return false;
+    }
+    if nw.name == 0 || se.name == 0 {
+        return ne.name != 0 && sw.name != 0;
+    }
+    ne.name != 0 || sw.name != 0
+}
+
+/// Whether a quad may be dense by its quarters, and has many different quads under it.
+///
+/// It is a call of its own, so that its array is on the stack once.
+#[inline(never)]
+fn is_dense(nodes: &mut Nodes, q: Quad) -> bool
+    requires stands { QuadStands nodes.old q }
+    requires over { bottom_height < q.height }
+    ensures reads { ReadsQuads nodes.old nodes.new }
+{
+    let four = nodes.quarters(q);
+    if !may_be_dense(four) {
+        return false;
+    }
+    let most = least_under(q.height);
+    let mut seen = [0; 256];
+    met_under(nodes, q, &mut seen, 0, most) >= most
+}
+
+/// Whether two quads of one height, which is at most `tallest` and that of rows, are both dense.
+pub(crate) fn rows_pay(nodes: &mut Nodes, a: Quad, b: Quad, tallest: u8) -> bool
+    requires a_stands { QuadStands nodes.old a }
+    requires b_stands { QuadStands nodes.old b }
+    requires one_height { b.height ≡ a.height }
+    requires over { bottom_height < a.height }
+    ensures small { result ≡ true → side_of a.height ≤ 256 }
+    ensures reads { ReadsQuads nodes.old nodes.new }
+{
+    let _ = nodes.bottom();
+    if a.height < 6 || a.height > 8 || a.height > tallest {
+        return false;
+    }
+    if !is_dense(nodes, a) {
+        return false;
+    }
+    is_dense(nodes, b)
+}
+
+/// How many different dense squares of 256 rows are under a square whose products are summed, at least.
+fn least_dense(height: u8) -> u32 {
+    match height {
+        9 => 2,
+        10 => 4,
+        11 => 16,
+        12 => 64,
+        _ => 256,
+    }
+}
+
+/// Counts the dense squares of 256 rows under a quad, on to those met before; a name is told from those met before by
+/// its place.
+fn dense_under(nodes: &mut Nodes, q: Quad, seen: &mut [u32], met: u32) -> u32
+    requires stands { QuadStands nodes.old q }
+    requires tall { 8 ≤ q.height }
+    requires places { length seen.old ≡ 1024 }
+    ensures same_places { length seen.new ≡ 1024 }
+    ensures reads { ReadsQuads nodes.old nodes.new }
+{
+    let _ = nodes.bottom();
+    if q.name == 0 {
+        return met;
+    }
+    let place = (q.name % 1024) as usize;
+    if seen[place] == q.name {
+        return met;
+    }
+    seen[place] = q.name;
+    if q.height == 8 {
+        return met.saturating_add(u32::from(is_dense(nodes, q)));
+    }
+    let (nw, ne, sw, se) = nodes.quarters(q);
+    let first = dense_under(nodes, nw, seen, met);
+    let second = dense_under(nodes, ne, seen, first);
+    let third = dense_under(nodes, sw, seen, second);
+    dense_under(nodes, se, seen, third)
+}
+
+/// Whether many different dense squares of 256 rows are under a quad.
+///
+/// It is a call of its own, so that its array is on the stack once.
+#[inline(never)]
+fn has_many(nodes: &mut Nodes, q: Quad) -> bool
+    requires stands { QuadStands nodes.old q }
+    requires over { 8 < q.height }
+    ensures reads { ReadsQuads nodes.old nodes.new }
+{
+    let _ = nodes.bottom();
+    let four = nodes.quarters(q);
+    if !may_be_dense(four) {
+        return false;
+    }
+    let mut seen = [0; 1024];
+    dense_under(nodes, q, &mut seen, 0) >= least_dense(q.height)
+}
+
+/// Whether two quads of one height, which is at most `tallest` and over that of rows, both have many dense squares.
+pub(crate) fn sums_pay(nodes: &mut Nodes, a: Quad, b: Quad, tallest: u8) -> bool
+    requires a_stands { QuadStands nodes.old a }
+    requires b_stands { QuadStands nodes.old b }
+    requires one_height { b.height ≡ a.height }
+    ensures tall { result ≡ true → 8 ≤ a.height }
+    ensures reads { ReadsQuads nodes.old nodes.new }
+{
+    let _ = nodes.bottom();
+    if a.height < 9 || a.height > tallest {
+        return false;
+    }
+    if !has_many(nodes, a) {
+        return false;
+    }
+    has_many(nodes, b)
+}

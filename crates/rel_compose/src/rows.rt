@@ -1,0 +1,27 @@
+//! The composition by rows of bits, which is noted.
+ghost use Rattle.std.specs.Prelude.{◌≡◌, ◌≤◌, IfOk};
+ghost use Rattle.rel_model.specs.Cells.{cells_compose};
+ghost use Rattle.rel_model.specs.Equations.{side_of};
+ghost use Rattle.rel_model.specs.Quads.{Keeper, QuadStands, IsQuad, quad_cells, KeepsQuads, Counts, compose_room};
+
+use memo_laws::Op;
+use pair_table::Missed;
+use quad_nodes::Nodes;
+use rel_model::Quad;
+use row_quads::compose_by_rows;
+
+/// The composition of two quads of one height, whose side is at most 256.
+pub(crate) fn noted_by_rows(nodes: &mut Nodes, a: Quad, b: Quad) -> Result<Quad, Missed>
+    requires a_stands { QuadStands nodes.old a }
+    requires b_stands { QuadStands nodes.old b }
+    requires one_height { b.height ≡ a.height }
+    requires small { side_of a.height ≤ 256 }
+    ensures value { IfOk result (IsQuad nodes.new a.height
+        (cells_compose (side_of a.height) (quad_cells nodes.old a) (quad_cells nodes.old b))) }
+    ensures keeps { KeepsQuads (compose_room a.height) nodes.old nodes.new }
+    ensures counts { Counts nodes.old nodes.new result }
+{
+    let found = compose_by_rows(nodes, a, b)?;
+    nodes.note(Op::Compose, a, b, found);
+    Ok(found)
+}

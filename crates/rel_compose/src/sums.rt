@@ -1,0 +1,135 @@
+//! The composition of two large squares: the partial products of each square of 256 rows and columns are summed in rows of bits, and only their sum is named.
+ghost use Rattle.std.specs.Prelude.{◌≡◌, ◌<◌, ◌≤◌, ◌+◌, ◌%◌, length, IfOk};
+ghost use Rattle.rel_model.specs.Cells.{cells_union, cells_compose};
+ghost use Rattle.rel_model.specs.Trees.{top_height};
+ghost use Rattle.rel_model.specs.Equations.{side_of};
+ghost use Rattle.rel_model.specs.Quads.{Keeper, QuadStands, IsQuad, quad_cells, KeepsQuads, ReadsQuads, Counts, quad_room, compose_room};
+ghost use Rattle.bit_rows.specs.Rows.{rows_cells};
+ghost use Rattle.bit_rows.specs.Places.{window};
+ghost use Rattle.rel_compose.specs.Products.{IsHalf};
+
+use bit_rows::{Row, no_rows};
+use memo_laws::Op;
+use pair_table::Missed;
+use quad_nodes::{Nodes, side_of_height};
+use rel_model::Quad;
+use row_quads::{add_product, gather_quad};
+
+/// The half of two in which a place lies, and the place within it.
+fn half_at(first: (Quad, Quad), second: (Quad, Quad), place: u32, half: u32) -> ((Quad, Quad), u32)
+    ensures { IsHalf first second place half result.0 result.1 }
+{
+    if place < half {
+        return (first, place);
+    }
+    (second, place - half)
+}
+
+/// Adds to rows the cells of a composition within 256 rows and columns, from a row and a column on.
+fn add_products(nodes: &mut Nodes, a: Quad, b: Quad, row: u32, col: u32, z: &mut [Row])
+    requires a_stands { QuadStands nodes.old a }
+    requires b_stands { QuadStands nodes.old b }
+    requires one_height { b.height ≡ a.height }
+    requires tall { 8 ≤ a.height }
+    requires row_on { row % 256 ≡ 0 }
+    requires col_on { col % 256 ≡ 0 }
+    requires row_in { row < side_of a.height }
+    requires col_in { col < side_of a.height }
+    requires z_len { length z.old ≡ 256 }
+    ensures len { length z.new ≡ 256 }
+    ensures cells { rows_cells z.new ≡ cells_union (rows_cells z.old) (window row col 256
+        (cells_compose (side_of a.height) (quad_cells nodes.old a) (quad_cells nodes.old b))) }
+    ensures reads { ReadsQuads nodes.old nodes.new }
+{
+    let _ = nodes.bottom();
+    if a.name == 0 {
+        return;
+    }
+    if b.name == 0 {
+        return;
+    }
+    if a.height == 8 {
+        add_product(nodes, a, b, z);
+        return;
+    }
+    let half = side_of_height(a.height - 1);
+    let (fa, fb) = nodes.quarters_of_both(a, b);
+    let (left, inner_row) = half_at((fa.0, fa.1), (fa.2, fa.3), row, half);
+    let (right, inner_col) = half_at((fb.0, fb.2), (fb.1, fb.3), col, half);
+    add_products(nodes, left.0, right.0, inner_row, inner_col, z);
+    add_products(nodes, left.1, right.1, inner_row, inner_col, z);
+}
+
+/// The quad of a composition's cells within 256 rows and columns, from a row and a column on.
+///
+/// The rows are on the stack, 8 KB, so this is a call of its own.
+#[inline(never)]
+fn sum_at(nodes: &mut Nodes, a: Quad, b: Quad, row: u32, col: u32) -> Result<Quad, Missed>
+    requires a_stands { QuadStands nodes.old a }
+    requires b_stands { QuadStands nodes.old b }
+    requires one_height { b.height ≡ a.height }
+    requires tall { 8 ≤ a.height }
+    requires row_on { row % 256 ≡ 0 }
+    requires col_on { col % 256 ≡ 0 }
+    requires row_in { row < side_of a.height }
+    requires col_in { col < side_of a.height }
+    ensures value { IfOk result (IsQuad nodes.new 8 (window row col (side_of 8)
+        (cells_compose (side_of a.height) (quad_cells nodes.old a) (quad_cells nodes.old b)))) }
+    ensures keeps { KeepsQuads (quad_room 8) nodes.old nodes.new }
+    ensures counts { Counts nodes.old nodes.new result }
+{
+    let mut z = no_rows();
+    add_products(nodes, a, b, row, col, &mut z);
+    gather_quad(nodes, &z, 8, 0, 0)
+}
+
+/// The quad of a height of a composition's cells from a row and a column on.
+fn summed_quad(
+    nodes: &mut Nodes,
+    a: Quad,
+    b: Quad,
+    height: u8,
+    row: u32,
+    col: u32,
+) -> Result<Quad, Missed>
+    requires a_stands { QuadStands nodes.old a }
+    requires b_stands { QuadStands nodes.old b }
+    requires one_height { b.height ≡ a.height }
+    requires tall { 8 ≤ height }
+    requires within { height ≤ a.height }
+    requires row_on { row % 256 ≡ 0 }
+    requires col_on { col % 256 ≡ 0 }
+    requires row_in { row + side_of height ≤ side_of a.height }
+    requires col_in { col + side_of height ≤ side_of a.height }
+    ensures value { IfOk result (IsQuad nodes.new height (window row col (side_of height)
+        (cells_compose (side_of a.height) (quad_cells nodes.old a) (quad_cells nodes.old b)))) }
+    ensures keeps { KeepsQuads (quad_room height) nodes.old nodes.new }
+    ensures counts { Counts nodes.old nodes.new result }
+{
+    let _ = nodes.bottom();
+    if height == 8 {
+        return sum_at(nodes, a, b, row, col);
+    }
+    let half = side_of_height(height - 1);
+    let nw = summed_quad(nodes, a, b, height - 1, row, col)?;
+    let ne = summed_quad(nodes, a, b, height - 1, row, col + half)?;
+    let sw = summed_quad(nodes, a, b, height - 1, row + half, col)?;
+    let se = summed_quad(nodes, a, b, height - 1, row + half, col + half)?;
+    nodes.corner(nw, ne, sw, se)
+}
+
+/// The composition of two quads of one height from 8 on, by sums, which is noted.
+pub(crate) fn noted_by_sums(nodes: &mut Nodes, a: Quad, b: Quad) -> Result<Quad, Missed>
+    requires a_stands { QuadStands nodes.old a }
+    requires b_stands { QuadStands nodes.old b }
+    requires one_height { b.height ≡ a.height }
+    requires tall { 8 ≤ a.height }
+    ensures value { IfOk result (IsQuad nodes.new a.height
+        (cells_compose (side_of a.height) (quad_cells nodes.old a) (quad_cells nodes.old b))) }
+    ensures keeps { KeepsQuads (compose_room a.height) nodes.old nodes.new }
+    ensures counts { Counts nodes.old nodes.new result }
+{
+    let found = summed_quad(nodes, a, b, a.height, 0, 0)?;
+    nodes.note(Op::Compose, a, b, found);
+    Ok(found)
+}
