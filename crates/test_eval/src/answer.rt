@@ -1,0 +1,294 @@
+//! What `parse`, `check` and `eval` answer to a script as a text, and what the slow evaluator says of it.
+ghost use Rattle.std.specs.Prelude.{◌≡◌, ◌++◌, [], ◌∷◌};
+ghost use Rattle.rel_model.specs.Worker.{Stands, Keeps};
+ghost use Rattle.rv_eval.specs.Names.{AllStand};
+
+use crate::listed::{Listed, none_of, put as put_pair};
+use crate::made::{pairs_of, told};
+use crate::slow::{Named, evaluated, set};
+use crate::texts::{
+    add, count_text, fault_text, made, pairs_text, parse_text, refusal_text, size_fault,
+};
+use lang_model::syntax::{Command, Expr, Item, Name, Row, Script};
+use rel_model::Rel;
+use rel_model::engine_trait::Engine;
+use rv_eval::eval;
+use rv_parse::parse;
+use rv_types::{Checked, check};
+use std::alloc::Global;
+use std::process::Abort;
+
+/// What a command shows of the value of its expression.
+#[derive(Clone, Copy, Debug, PartialEq, Eq)]
+enum View {
+    Pairs,
+    Count,
+    Sizes,
+}
+
+/// The script of a text and that it is checked, or the fault.
+pub(crate) fn checked_of(rt: &impl Abort, alloc: Global, text: &[u8]) -> Result<Checked, String> {
+    if text.len() > 1_048_576 {
+        panic!(rt; "too long");
+    }
+    match parse(alloc, text) {
+        Ok(script) => match check(alloc, script) {
+            Ok(checked) => Ok(checked),
+            Err(fault) => Err(fault_text(rt, alloc, &fault)),
+        },
+        Err(fault) => Err(parse_text(rt, alloc, &fault)),
+    }
+}
+
+/// The listed pairs of a REL, or the first number that passes its size.
+fn listed(
+    rt: &impl Abort,
+    alloc: Global,
+    rows: u64,
+    cols: u64,
+    list: &[Row],
+) -> Result<Listed, String> {
+    let (Ok(m), Ok(n)) = (u32::try_from(rows), u32::try_from(cols)) else {
+        panic!(rt; "too large");
+    };
+    let mut found = none_of(alloc, m, n);
+    'rows: for row in list {
+        if row.row > rows {
+            return Err(size_fault(rt, alloc, row.at, row.row, rows));
+        }
+        'cols: for col in row.cols.as_slice() {
+            if col.col > cols {
+                return Err(size_fault(rt, alloc, col.at, col.col, cols));
+            }
+            match (u32::try_from(row.row), u32::try_from(col.col)) {
+                (Ok(i), Ok(j)) => put_pair(rt, &mut found, i.wrapping_sub(1), j.wrapping_sub(1)),
+                _ => panic!(rt; "too large"),
+            }
+        }
+    }
+    Ok(found)
+}
+
+/// The text of a view of a list.
+fn list_text(rt: &impl Abort, alloc: Global, view: View, list: &Listed) -> String {
+    match view {
+        View::Pairs => pairs_text(rt, alloc, list),
+        View::Count => count_text(rt, alloc, list.rows, list.cols, list.pairs.len() as u64),
+        View::Sizes => made(rt, format!(in alloc; "{}x{}", list.rows, list.cols)),
+    }
+}
+
+/// The text of a view of a relation.
+fn rel_text<E: Engine>(rt: &impl Abort, alloc: Global, engine: &mut E, view: View, r: Rel) -> String
+    requires { Stands (E.worker engine.old) r }
+    ensures { Keeps (E.worker engine.old) (E.worker engine.new) }
+{
+    match view {
+        View::Pairs => {
+            let list = pairs_of(rt, alloc, engine, r);
+            pairs_text(rt, alloc, &list)
+        }
+        View::Count => match engine.count(alloc, r) {
+            Ok(count) => count_text(rt, alloc, r.rows, r.cols, count),
+            Err(_) => panic!(rt; "no memory"),
+        },
+        View::Sizes => made(rt, format!(in alloc; "{}x{}", r.rows, r.cols)),
+    }
+}
+
+/// The view and the expression of a command that shows one.
+fn shown(command: &Command) -> Option<(View, &Expr)> {
+    match command {
+        Command::Print { value } => Some((View::Pairs, value)),
+        Command::List { value } => Some((View::Pairs, value)),
+        Command::Count { value } => Some((View::Count, value)),
+        Command::Typed { value } => Some((View::Sizes, value)),
+        _ => None,
+    }
+}
+
+/// Puts a name with its relation behind the others.
+fn push(rt: &impl Abort, alloc: Global, names: &mut Vec<(Name, Rel)>, name: &Name, rel: Rel)
+    ensures { names.new.items ≡ names.old.items ++ (name.now, rel) ∷ [] }
+{
+    let Ok(own) = name.copied(alloc) else {
+        panic!(rt; "no memory");
+    };
+    if names.push((own, rel)).is_err() {
+        panic!(rt; "no memory");
+    }
+}
+
+/// The same of a relation that stands, behind others that stand.
+pub(crate) fn put<E: Engine>(
+    rt: &impl Abort,
+    alloc: Global,
+    engine: &E,
+    names: &mut Vec<(Name, Rel)>,
+    name: &Name,
+    rel: Rel,
+)
+    requires names { AllStand (E.worker engine.now) names.old.items }
+    requires rel { Stands (E.worker engine.now) rel }
+    ensures { AllStand (E.worker engine.now) names.new.items }
+{
+    push(rt, alloc, names, name, rel)
+}
+
+/// What an engine answers to a command, where it answers anything.
+#[tactic(auto, using(crate::proofs::Standing::names_kept))]
+fn step<E: Engine>(
+    rt: &impl Abort,
+    alloc: Global,
+    engine: &mut E,
+    checked: &Checked,
+    names: &mut Vec<(Name, Rel)>,
+    command: &Command,
+    turns: u64,
+) -> Option<String>
+    requires { AllStand (E.worker engine.old) names.old.items }
+    ensures { AllStand (E.worker engine.new) names.new.items }
+{
+    match command {
+        Command::Relation {
+            name,
+            rows,
+            cols,
+            list,
+            ..
+        } => match listed(rt, alloc, *rows, *cols, list.as_slice()) {
+            Ok(list) => {
+                let rel = told(rt, alloc, engine, &list);
+                put(rt, alloc, engine, names, name, rel);
+                None
+            }
+            Err(text) => Some(text),
+        },
+        Command::Let { name, value } => {
+            match eval(alloc, engine, checked, names.as_slice(), value, turns) {
+                Ok(rel) => {
+                    put(rt, alloc, engine, names, name, rel);
+                    None
+                }
+                Err(refused) => Some(refusal_text(rt, alloc, &refused)),
+            }
+        }
+        _ => match shown(command) {
+            Some((view, value)) => {
+                match eval(alloc, engine, checked, names.as_slice(), value, turns) {
+                    Ok(rel) => Some(rel_text(rt, alloc, engine, view, rel)),
+                    Err(refused) => Some(refusal_text(rt, alloc, &refused)),
+                }
+            }
+            None => None,
+        },
+    }
+}
+
+/// Puts an answer behind others, parted by ` / `.
+fn put_answer(rt: &impl Abort, text: &mut String, answer: Option<String>) {
+    if let Some(answer) = answer {
+        if !text.as_str().is_empty() {
+            add(rt, text, " / ");
+        }
+        add(rt, text, answer.as_str());
+    }
+}
+
+/// What an engine answers to the commands of a script.
+#[tactic(auto, using(crate::proofs::Standing::no_names))]
+pub(crate) fn answers<E: Engine>(
+    rt: &impl Abort,
+    alloc: Global,
+    engine: &mut E,
+    checked: &Checked,
+    turns: u64,
+) -> String {
+    let mut names: Vec<(Name, Rel)> = Vec::new(alloc);
+    let mut text = String::new(alloc);
+    'items: for item in checked.script().items.as_slice() {
+        if let Item::Command(command) = item {
+            let answer = step(rt, alloc, engine, checked, &mut names, command, turns);
+            put_answer(rt, &mut text, answer);
+        }
+    }
+    text
+}
+
+/// What `parse`, `check` or an engine answers to a text.
+pub(crate) fn answer<E: Engine>(
+    rt: &impl Abort,
+    alloc: Global,
+    engine: &mut E,
+    text: &[u8],
+    turns: u64,
+) -> String {
+    match checked_of(rt, alloc, text) {
+        Ok(checked) => answers(rt, alloc, engine, &checked, turns),
+        Err(fault) => fault,
+    }
+}
+
+/// What the slow evaluator says of a command, where it says anything.
+fn slow_step(
+    rt: &impl Abort,
+    alloc: Global,
+    script: &Script,
+    names: &mut Vec<Named>,
+    command: &Command,
+    turns: u64,
+) -> Option<String> {
+    let items = script.items.as_slice();
+    match command {
+        Command::Relation {
+            name,
+            rows,
+            cols,
+            list,
+            ..
+        } => match listed(rt, alloc, *rows, *cols, list.as_slice()) {
+            Ok(list) => {
+                set(rt, alloc, names, name.bytes(), list);
+                None
+            }
+            Err(text) => Some(text),
+        },
+        Command::Let { name, value } => {
+            match evaluated(rt, alloc, items, names.as_slice(), value, turns) {
+                Ok(list) => {
+                    set(rt, alloc, names, name.bytes(), list);
+                    None
+                }
+                Err(refused) => Some(refusal_text(rt, alloc, &refused)),
+            }
+        }
+        _ => match shown(command) {
+            Some((view, value)) => {
+                match evaluated(rt, alloc, items, names.as_slice(), value, turns) {
+                    Ok(list) => Some(list_text(rt, alloc, view, &list)),
+                    Err(refused) => Some(refusal_text(rt, alloc, &refused)),
+                }
+            }
+            None => None,
+        },
+    }
+}
+
+/// What the slow evaluator says of the commands of a script.
+pub(crate) fn slow_answers(
+    rt: &impl Abort,
+    alloc: Global,
+    checked: &Checked,
+    turns: u64,
+) -> String {
+    let mut names: Vec<Named> = Vec::new(alloc);
+    let mut text = String::new(alloc);
+    let script = checked.script();
+    'items: for item in script.items.as_slice() {
+        if let Item::Command(command) = item {
+            let answer = slow_step(rt, alloc, script, &mut names, command, turns);
+            put_answer(rt, &mut text, answer);
+        }
+    }
+    text
+}

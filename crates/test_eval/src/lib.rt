@@ -1,0 +1,23 @@
+//! Tests of the evaluator over a node table: beside a slow evaluator over lists of pairs, and each refusal with its place.
+#![tactic(auto)]
+
+#[cfg(test)]
+mod answer;
+#[cfg(test)]
+mod formulas;
+#[cfg(test)]
+mod listed;
+#[cfg(test)]
+mod made;
+#[cfg(test)]
+mod operators;
+#[cfg(test)]
+mod scripts;
+#[cfg(test)]
+mod slow;
+#[cfg(test)]
+mod table;
+#[cfg(test)]
+mod tests;
+#[cfg(test)]
+mod texts;

@@ -1,0 +1,121 @@
+//! Tables of cases as texts: a case a line.
+ghost use Rattle.std.specs.Prelude.{◌<◌, length, IfSome};
+
+use crate::answer::{answer, answers, checked_of, slow_answers};
+use crate::texts::{add, made};
+use rel_model::engine_trait::Engine;
+use std::alloc::Global;
+use std::process::Abort;
+
+/// What parts a script and its answer.
+const ARROW: &[u8] = b" => ";
+
+/// Where the arrow of a line begins.
+fn arrow(line: &[u8]) -> Option<usize>
+    ensures { IfSome result (λ place. place < length line.now) }
+{
+    'places: for place in 0..line.len() {
+        if line[place..].starts_with(ARROW) {
+            return Some(place);
+        }
+    }
+    None
+}
+
+/// Puts bytes behind others.
+pub(crate) fn append(rt: &impl Abort, bytes: &mut Vec<u8>, more: &[u8]) {
+    if bytes.extend_from_slice(more).is_err() {
+        panic!(rt; "no memory");
+    }
+}
+
+/// The lines of a table.
+pub(crate) fn lines(rt: &impl Abort, alloc: Global, table: &str) -> Vec<Vec<u8>> {
+    let mut found = Vec::new(alloc);
+    let mut line: Vec<u8> = Vec::new(alloc);
+    'bytes: for byte in table.as_bytes() {
+        if *byte != b'\n' {
+            append(rt, &mut line, &[*byte]);
+        } else if !line.is_empty() {
+            let done = std::mem::replace(&mut line, Vec::new(alloc));
+            if found.push(done).is_err() {
+                panic!(rt; "no memory");
+            }
+        }
+    }
+    found
+}
+
+/// What a line is answered, where that is something else than it says.
+fn other_answer<E: Engine>(
+    rt: &impl Abort,
+    alloc: Global,
+    engine: &mut E,
+    line: &[u8],
+    turns: u64,
+) -> Option<String> {
+    let Some(place) = arrow(line) else {
+        panic!(rt; "no arrow");
+    };
+    let given = answer(rt, alloc, engine, &line[..place], turns);
+    if line[place..].strip_prefix(ARROW) == Some(given.as_bytes()) {
+        None
+    } else {
+        Some(given)
+    }
+}
+
+/// Notes an answer that differs, with the number of its case.
+pub(crate) fn note(
+    rt: &impl Abort,
+    alloc: Global,
+    wrong: &mut String,
+    number: usize,
+    answer: &str,
+) {
+    let text = made(rt, format!(in alloc; "{number}: {answer}; "));
+    add(rt, wrong, text.as_str());
+}
+
+/// The lines of a table that are answered otherwise than they say, each by its number and what it is answered.
+pub(crate) fn wrong_lines<E: Engine>(
+    rt: &impl Abort,
+    alloc: Global,
+    engine: &mut E,
+    table: &str,
+    turns: u64,
+) -> String {
+    let mut wrong = String::new(alloc);
+    let mut number: usize = 0;
+    let all = lines(rt, alloc, table);
+    'lines: for line in all.as_slice() {
+        number = number.wrapping_add(1);
+        if let Some(given) = other_answer(rt, alloc, engine, line.as_slice(), turns) {
+            note(rt, alloc, &mut wrong, number, given.as_str());
+        }
+    }
+    wrong
+}
+
+/// What an engine answers to a script, where that is something else than the slow evaluator says.
+pub(crate) fn differing<E: Engine>(
+    rt: &impl Abort,
+    alloc: Global,
+    engine: &mut E,
+    text: &[u8],
+    turns: u64,
+) -> Option<String> {
+    match checked_of(rt, alloc, text) {
+        Ok(checked) => {
+            let given = answers(rt, alloc, engine, &checked, turns);
+            let wanted = slow_answers(rt, alloc, &checked, turns);
+            if given.as_str() == wanted.as_str() {
+                None
+            } else {
+                let both = format!(in alloc; "{} for {}", given.as_str(), wanted.as_str());
+                Some(made(rt, both))
+            }
+        }
+        Err(fault) => Some(fault),
+    }
+}

@@ -1,0 +1,31 @@
+//! Scripts of definitions and loops by chance, beside the slow evaluator, with few turns.
+use crate::made::table;
+use crate::scripts::script;
+use crate::table::{differing, note};
+use fork_quads::{Crew, OpenGate};
+use rel_engine::Works;
+
+#[test]
+fn scripts_by_chance_come_to_what_the_slow_evaluator_says(rt: HostRuntime) {
+    let alloc = rt.alloc();
+    let (table, seat) = table(&rt, alloc, 20);
+    let gate = OpenGate;
+    let mut engine = Works::new(Crew::new(&table, seat, 8, &gate));
+    let mut wrong = String::new(alloc);
+    'sizes: for (elements, first, last) in [
+        (0, 1, 11),
+        (1, 11, 31),
+        (2, 31, 81),
+        (3, 81, 161),
+        (5, 161, 201),
+    ] {
+        'seeds: for seed in first..last {
+            let text = script(&rt, alloc, seed, elements);
+            let turns = seed % 7;
+            if let Some(given) = differing(&rt, alloc, &mut engine, text.as_slice(), turns) {
+                note(&rt, alloc, &mut wrong, seed as usize, given.as_str());
+            }
+        }
+    }
+    assert_eq!(&rt; wrong.as_str(), "");
+}
