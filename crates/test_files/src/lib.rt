@@ -2,8 +2,16 @@
 #![tactic(auto)]
 
 #[cfg(test)]
+mod chance;
+#[cfg(test)]
+mod changed;
+#[cfg(test)]
+mod hex;
+#[cfg(test)]
 mod made;
 #[cfg(test)]
 mod read;
+#[cfg(test)]
+mod slow;
 #[cfg(test)]
 mod written;

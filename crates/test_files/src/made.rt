@@ -6,7 +6,7 @@ ghost use Rattle.rel_model.specs.Worker.{Stands, Keeps};
 
 use pair_table::{PairTable, Seat};
 use rel_model::engine_trait::Engine;
-use rel_model::{Rel, Shape};
+use rel_model::{Rel, SIZE_LIMIT, Shape};
 use std::alloc::Global;
 use std::process::Abort;
 
@@ -17,6 +17,13 @@ pub(crate) fn table(rt: &impl Abort, alloc: Global) -> (PairTable, Seat)
     match PairTable::make(alloc, 16, 1) {
         Ok(made) => made,
         Err(_) => panic!(rt; "no memory"),
+    }
+}
+
+/// Adds something to a list.
+pub(crate) fn put<T: Drop>(rt: &impl Abort, list: &mut Vec<T>, item: T) {
+    if list.push(item).is_err() {
+        panic!(rt; "no memory");
     }
 }
 
@@ -45,7 +52,7 @@ pub(crate) fn told<E: Engine>(
     ensures keeps { Keeps (E.worker engine.old) (E.worker engine.new) }
 {
     let shape = Shape { rows, cols };
-    assert!(rt; shape.rows <= 2000 && shape.cols <= 2000);
+    assert!(rt; shape.rows <= SIZE_LIMIT && shape.cols <= SIZE_LIMIT);
     assert!(rt; lie_within(pairs, shape));
     match engine.from_pairs(alloc, shape, pairs) {
         Ok(rel) => rel,

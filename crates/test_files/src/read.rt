@@ -226,7 +226,7 @@ fn small_files_are_read_as_their_relations(rt: HostRuntime) {
 }
 
 /// Asserts that what a relation is written as is read back as the relation.
-fn comes_back<E: Engine>(rt: &impl Abort, alloc: Global, engine: &mut E, rel: Rel)
+pub(crate) fn comes_back<E: Engine>(rt: &impl Abort, alloc: Global, engine: &mut E, rel: Rel)
     requires { Stands (E.worker engine.old) rel }
     ensures { Keeps (E.worker engine.old) (E.worker engine.new) }
 {

@@ -8,4 +8,6 @@ mod made;
 #[cfg(test)]
 mod refusals;
 #[cfg(test)]
+mod rows;
+#[cfg(test)]
 mod shown;

@@ -203,10 +203,10 @@ fn what_commands_come_to_is_told(rt: HostRuntime) {
         (
             Outcome::Size {
                 at,
-                wanted: 2_097_152,
+                wanted: 33_554_432,
                 limit: 16_777_216,
             },
-            "refused: 1:22: size 2097152 passes the limit 16777216\n",
+            "refused: 1:22: size 33554432 passes the limit 16777216\n",
         ),
         (
             Outcome::Turns { at, limit: 7 },

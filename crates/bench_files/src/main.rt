@@ -1,0 +1,249 @@
+//! How long relations take to be written as files, to be read back and to be shown: `bench_files BITS TASK HEIGHT PAIRS`, in tables of 2^BITS words, of a relation of 2^HEIGHT rows and columns.
+//!
+//! The tasks are `random`, so many pairs by chance written and read, and `full`, all pairs; `matrix` and `listing` of so many pairs by chance; and `check`, which writes and reads and tells no time.
+#![tactic(auto)]
+
+mod chance;
+
+ghost use Rattle.std.specs.Prelude.{◌≡◌, ◌≤◌, ◌<◌, IfSome};
+ghost use Rattle.rel_model.specs.Relation.{size_limit};
+ghost use Rattle.rel_model.specs.Worker.{Stands};
+
+use crate::chance::pairs_within;
+use fork_quads::{Crew, OpenGate};
+use k2_file::{read_k2, write_k2};
+use pair_table::PairTable;
+use rel_engine::Works;
+use rel_model::core_trait::Core;
+use rel_model::engine_trait::Engine;
+use rel_model::{Rel, Shape};
+use rv_print::{listing, matrix};
+use std::alloc::Global;
+use std::io;
+use std::rt::Clock;
+use std::time::Instant;
+
+/// What is measured.
+#[derive(Clone, Copy, PartialEq, Eq)]
+enum Task {
+    Check,
+    Random,
+    Full,
+    Matrix,
+    Listing,
+}
+
+/// A task, and the sizes and the number of pairs of its relation.
+#[derive(Clone, Copy)]
+struct Work {
+    task: Task,
+    side: u32,
+    pairs: u64,
+}
+
+/// The relation of a task.
+fn built<E: Engine>(alloc: Global, engine: &mut E, work: Work) -> Option<Rel>
+    requires some { 0 < work.side }
+    requires few { work.side ≤ size_limit }
+    ensures { IfSome result (Stands (E.worker engine.new)) }
+{
+    let shape = Shape {
+        rows: work.side,
+        cols: work.side,
+    };
+    if work.task == Task::Full {
+        return match engine.full(shape) {
+            Ok(rel) => Some(rel),
+            Err(_) => None,
+        };
+    }
+    let Ok(pairs) = pairs_within(alloc, work.side, work.pairs) else {
+        return None;
+    };
+    match engine.from_pairs(alloc, shape, pairs.as_slice()) {
+        Ok(rel) => Some(rel),
+        Err(_) => None,
+    }
+}
+
+/// The sum of bytes, each with its place mixed in.
+fn sum_of(bytes: &[u8]) -> u64 {
+    let mut sum: u64 = 0;
+    'bytes: for byte in bytes {
+        sum = sum.wrapping_mul(31).wrapping_add(u64::from(*byte));
+    }
+    sum
+}
+
+/// Prints how long a relation takes to be written, or only what was written, and gives the bytes.
+fn measure_writing<R: Print + Clock, E: Engine>(
+    rt: &R,
+    alloc: Global,
+    engine: &mut E,
+    work: Work,
+    rel: Rel,
+) -> io::Result<Vec<u8>>
+    requires { Stands (E.worker engine.old) rel }
+{
+    let start = Instant::now(rt)?;
+    let answer = write_k2(alloc, engine, rel);
+    let time = start.elapsed(rt)?.as_nanos();
+    let Ok(bytes) = answer else {
+        println!(rt; "not written")?;
+        return Ok(Vec::new(alloc));
+    };
+    let sum = sum_of(bytes.as_slice());
+    if work.task == Task::Check {
+        println!(rt; "{} bytes, of the sum {sum}", bytes.len())?;
+    } else {
+        println!(rt; "write {time} {} {sum} {}", bytes.len(), rel.root)?;
+    }
+    Ok(bytes)
+}
+
+/// Prints how long a file takes to be read, or only what was read.
+fn measure_reading<R: Print + Clock, E: Engine>(
+    rt: &R,
+    alloc: Global,
+    engine: &mut E,
+    work: Work,
+    bytes: &[u8],
+) -> io::Result<()> {
+    let start = Instant::now(rt)?;
+    let answer = read_k2(alloc, engine, bytes);
+    let time = start.elapsed(rt)?.as_nanos();
+    let Ok(rel) = answer else {
+        return println!(rt; "not read");
+    };
+    if work.task == Task::Check {
+        return println!(rt; "read as the name {}", rel.root);
+    }
+    println!(rt; "read {time} {}", rel.root)
+}
+
+/// Prints how long a matrix or a listing takes.
+fn measure_showing<R: Print + Clock, E: Engine>(
+    rt: &R,
+    alloc: Global,
+    engine: &mut E,
+    task: Task,
+    rel: Rel,
+) -> io::Result<()>
+    requires { Stands (E.worker engine.old) rel }
+{
+    let start = Instant::now(rt)?;
+    let answer = match task {
+        Task::Matrix => matrix(alloc, engine, rel),
+        _ => listing(alloc, engine, rel),
+    };
+    let time = start.elapsed(rt)?.as_nanos();
+    match answer {
+        Ok(text) => println!(rt; "show {time} {}", text.len()),
+        Err(_) => println!(rt; "not shown"),
+    }
+}
+
+/// Builds the relation of a task in a table of its own and writes or shows it, and gives the bytes that were written.
+fn first_table<R: Print + Clock>(
+    rt: &R,
+    alloc: Global,
+    bits: u32,
+    work: Work,
+) -> io::Result<Vec<u8>>
+    requires low { 10 ≤ bits }
+    requires high { bits ≤ 24 }
+    requires some { 0 < work.side }
+    requires few { work.side ≤ size_limit }
+{
+    let Ok((table, seat)) = PairTable::make(alloc, bits, 1) else {
+        println!(rt; "no table")?;
+        return Ok(Vec::new(alloc));
+    };
+    let gate = OpenGate;
+    let mut engine = Works::new(Crew::new(&table, seat, 1, &gate));
+    let Some(rel) = built(alloc, &mut engine, work) else {
+        println!(rt; "no relation")?;
+        return Ok(Vec::new(alloc));
+    };
+    match work.task {
+        Task::Matrix | Task::Listing => {
+            measure_showing(rt, alloc, &mut engine, work.task, rel)?;
+            Ok(Vec::new(alloc))
+        }
+        _ => measure_writing(rt, alloc, &mut engine, work, rel),
+    }
+}
+
+/// Reads a file into a table of its own, and once more where its nodes stand.
+fn second_table<R: Print + Clock>(
+    rt: &R,
+    alloc: Global,
+    bits: u32,
+    work: Work,
+    bytes: &[u8],
+) -> io::Result<()>
+    requires low { 10 ≤ bits }
+    requires high { bits ≤ 24 }
+{
+    let Ok((table, seat)) = PairTable::make(alloc, bits, 1) else {
+        return println!(rt; "no table");
+    };
+    let gate = OpenGate;
+    let mut engine = Works::new(Crew::new(&table, seat, 1, &gate));
+    measure_reading(rt, alloc, &mut engine, work, bytes)?;
+    measure_reading(rt, alloc, &mut engine, work, bytes)
+}
+
+/// The next word as a number, or 0.
+fn number(word: Option<String>) -> u64 {
+    match word {
+        Some(word) => word.as_str().parse().unwrap_or(0),
+        None => 0,
+    }
+}
+
+/// The task of a name.
+fn task_of(word: Option<String>) -> Option<Task> {
+    let word = word?;
+    match word.as_str() {
+        "check" => Some(Task::Check),
+        "random" => Some(Task::Random),
+        "full" => Some(Task::Full),
+        "matrix" => Some(Task::Matrix),
+        "listing" => Some(Task::Listing),
+        _ => None,
+    }
+}
+
+/// The side of a square of a height.
+fn side_of(height: u64) -> u32
+    requires { height ≤ 24 }
+    ensures some { 0 < result }
+    ensures few { result ≤ size_limit }
+{
+    let side = 1u32 << (height as u32);
+    side.min(16_777_216).max(1)
+}
+
+fn main(rt: HostRuntime) -> io::Result<()> {
+    let mut words = std::env::args(&rt)?;
+    let _program = words.next();
+    let bits = number(words.next());
+    let task = task_of(words.next());
+    let height = number(words.next());
+    let pairs = number(words.next());
+    let Some(task) = task else {
+        return println!(rt; "usage: bench_files BITS TASK HEIGHT PAIRS");
+    };
+    if bits < 10 || bits > 24 || height > 24 {
+        return println!(rt; "usage: bench_files BITS TASK HEIGHT PAIRS");
+    }
+    let alloc = rt.alloc();
+    let side = side_of(height);
+    let work = Work { task, side, pairs };
+    let bytes = first_table(&rt, alloc, bits as u32, work)?;
+    match task {
+        Task::Matrix | Task::Listing => Ok(()),
+        _ => second_table(&rt, alloc, bits as u32, work, bytes.as_slice()),
+    }
+}
