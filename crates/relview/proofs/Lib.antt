@@ -11,3 +11,5 @@ pub mod Lexemes
 pub mod SaveNames
 pub mod GivenRun
 pub mod Naming
+pub mod Lonely
+pub mod Roomy

@@ -3,3 +3,5 @@ pub mod Given
 pub mod Lines
 pub mod Writing
 pub mod Top
+pub mod Alone
+pub mod Ending

@@ -1,0 +1,19 @@
+//! Laws of the program's runs, each a function that does nothing.
+ghost use Rattle.relview.specs.Alone.{AloneIsSolo, AloneIsOneRun, EnoughRoom};
+
+/// A script that runs alone, where the table and memory suffice, comes to the outcomes and to the history, but for the
+/// roots of its relations, that the input decides.
+pub fn alone_is_solo()
+    ensures { AloneIsSolo }
+{}
+
+/// Two runs of one input of one script, where the table and memory suffice, have the same outcomes, the same history but
+/// for roots, the same page and the same files.
+pub fn alone_is_one_run()
+    ensures { AloneIsOneRun }
+{}
+
+/// A run whose commands cost less than its table has places for nodes finds no full table.
+pub fn enough_room()
+    ensures { EnoughRoom }
+{}
