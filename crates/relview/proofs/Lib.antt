@@ -11,5 +11,7 @@ pub mod Lexemes
 pub mod SaveNames
 pub mod GivenRun
 pub mod Naming
+pub mod Lonely
+pub mod Roomy
 pub mod Completing
 pub mod Beginning

@@ -1,5 +1,5 @@
 //! Scripts at once over a fresh node table, and the words of the table in the end.
-ghost use Rattle.std.specs.Prelude.{◌≡◌, ◌≤◌, ◌^◌, length, map, vec_len, All, IfOk};
+ghost use Rattle.std.specs.Prelude.{◌≡◌, ◌≤◌, ◌^◌, length, map, All, IfOk};
 ghost use Rattle.relview.specs.Finished.{IsFinished};
 
 use fork_quads::{Crew, Gate};
@@ -26,16 +26,6 @@ pub struct Finished {
     pub words: Vec<u64>,
 }
 
-/// Says of vectors of bytes that each is as long as its bytes, which a slice tells of itself.
-fn know_lengths(scripts: &[Vec<u8>])
-    requires { All (λ v. length v.items ≤ 2 ^ 20) scripts.now }
-    ensures { All (λ v. vec_len v ≤ 2 ^ 20) scripts.now }
-{
-    'scripts: for i in 0..scripts.len() {
-        let _bytes = scripts[i].as_slice();
-    }
-}
-
 /// Runs all scripts at once over a table of their own, with 65 seats for each and 3 more.
 ///
 /// Each session works with one worker, whatever number the options name.
@@ -55,7 +45,6 @@ pub fn run_over_table<R: Threads + Wait + Sync, G: Gate + Sync>(
     requires limits { All (λ v. length v.items ≤ 2 ^ 20) scripts.now }
     ensures { IfOk result (IsFinished options.now.nodes (map (λ v. v.items) scripts.now) files.now options.now.turns options.now.history) }
 {
-    know_lengths(scripts);
     let seats = 65 * scripts.len() as u32 + 3;
     let (table, seat) = PairTable::make(alloc, options.nodes, seats)?;
     let crew = Crew::new(&table, seat, 1, gate);
@@ -67,6 +56,7 @@ pub fn run_over_table<R: Threads + Wait + Sync, G: Gate + Sync>(
         files,
         options.turns,
         options.history,
+        gate,
         works,
     )?;
     let Ended {

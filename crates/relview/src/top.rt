@@ -42,8 +42,25 @@ pub fn relview<R: Threads + Wait + Sync, S: Shelf, K: Sink>(
     ensures { Answers (texts words.now) (S.told shelf.old) (S.told shelf.new)
         (sunk (K.written sink.old) (K.faults sink.old)) (sunk (K.written sink.new) (K.faults sink.new)) result }
 {
+    relview_gated(rt, alloc, words, shelf, sink, &OpenGate)
+}
+
+/// The same, with a gate that is told when each session begins and when it has ended, by the session's number and
+/// 1,000,000 more. Sessions are numbered from 1, in the order of the words.
+pub fn relview_gated<R: Threads + Wait + Sync, S: Shelf, K: Sink, G: Gate + Sync>(
+    rt: &R,
+    alloc: Global,
+    words: &[String],
+    shelf: &mut S,
+    sink: &mut K,
+    gate: &G,
+) -> Report
+    requires may_pick { All (λ w. IsTrue ((S.told shelf.old).may_pick w)) (file_words (texts words.now)) }
+    ensures { Answers (texts words.now) (S.told shelf.old) (S.told shelf.new)
+        (sunk (K.written sink.old) (K.faults sink.old)) (sunk (K.written sink.new) (K.faults sink.new)) result }
+{
     match words_of(alloc, words) {
-        Ok(options) => run_options(rt, alloc, words, &options, shelf, sink, &OpenGate),
+        Ok(options) => run_options(rt, alloc, words, &options, shelf, sink, gate),
         Err(error) => refuse_words(alloc, sink, error),
     }
 }

@@ -1,12 +1,15 @@
 //! The words of the command line: those behind the program's own name.
-ghost use Rattle.std.specs.Prelude.{◌≡◌, drop, IfOk};
+ghost use Rattle.std.specs.Prelude.{◌≡◌, drop, IfOk, IsErr};
 ghost use Rattle.std.specs.Vec.Iter.{into_iter_items};
+ghost use Rattle.rv_words.specs.Shown.{texts};
+ghost use Rattle.relview.specs.Ending.{words_in, HadNoRoom};
 
 use std::alloc::{AllocError, Global};
 use std::env::Args;
+use std::io;
 
 /// The words behind the program's own name, all and in their order.
-pub fn words_behind_name(alloc: Global, args: Args) -> Result<Vec<String>, AllocError>
+fn words_behind_name(alloc: Global, args: Args) -> Result<Vec<String>, AllocError>
     ensures { IfOk result (λ words. words.items ≡ drop 1 (into_iter_items args)) }
 {
     let mut rest = args;
@@ -16,4 +19,18 @@ pub fn words_behind_name(alloc: Global, args: Args) -> Result<Vec<String>, Alloc
         words.push(word)?;
     }
     Ok(words)
+}
+
+/// The words of what the system gave for the command line. Where that is no text there are none, which is outside the set.
+pub fn words_given(alloc: Global, args: io::Result<Args>) -> Result<Vec<String>, AllocError>
+    ensures words { IfOk result (λ words. texts words.items ≡ words_in args) }
+    ensures memory { HadNoRoom args → IsErr result }
+{
+    match args {
+        Ok(args) => words_behind_name(alloc, args),
+        Err(error) => match error.kind() {
+            io::ErrorKind::OutOfMemory => Err(AllocError),
+            _ => Ok(Vec::new(alloc)),
+        },
+    }
 }

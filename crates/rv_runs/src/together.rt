@@ -9,6 +9,7 @@ ghost use Rattle.rv_runs.specs.Works.{IsFresh, CanJoin, RanWhereTold, Numbered, 
 use crate::ended::Ended;
 use crate::page::{make_page, take_apart};
 use crate::work::{Work, run_work};
+use fork_quads::Gate;
 use rel_model::NoMemory;
 use rel_model::engine_trait::Engine;
 use rv_sessions::{Loaded, Transcript};
@@ -59,16 +60,18 @@ fn split_all<E: Engine + Drop>(
 }
 
 /// Runs the sessions of all works at once.
-fn run_works<E: Engine + Drop + Send, R: Threads + Wait + Sync>(
+fn run_works<E: Engine + Drop + Send, R: Threads + Wait + Sync, G: Gate + Sync>(
     rt: &R,
     alloc: Global,
     scripts: &[Vec<u8>],
     files: &[Loaded],
     turns: u64,
     book: &TurnBook<Book<E>>,
+    gate: &G,
     works: &mut Vec<Work<E>>,
 )
-    requires limits { All (λ v. vec_len v ≤ 2 ^ 20) scripts.now }
+    requires few { length scripts.now ≤ 64 }
+    requires limits { All (λ v. length v.items ≤ 2 ^ 20) scripts.now }
     requires fresh { All (IsFresh E.worker book.now (length scripts.now)) works.old.items }
     requires numbers { Numbered works.old.items }
     ensures ran { All (RanWhereTold E.worker E.least (input_of files.now turns) (map (λ v. v.items) scripts.now))
@@ -83,7 +86,7 @@ fn run_works<E: Engine + Drop + Send, R: Threads + Wait + Sync>(
         rt,
         works.as_mut_slice(),
         MOST,
-        &|_, work| run_work(rt, alloc, scripts, files, turns, book, work),
+        &|_, work| run_work(rt, alloc, scripts, files, turns, book, gate, work),
     );
 }
 
@@ -126,19 +129,21 @@ fn join_all<E: Engine + Drop>(
 /// Runs all scripts at once, a session for each, whose commands take turns at one book of names.
 ///
 /// A script that does not run is told by its one fault, and the others run. An answer is a lawful run of the scripts, with
-/// its page and its files. Where memory for the lists of the run is wanting, there is none.
-pub fn run_all<R: Threads + Wait + Sync, E: Engine + Drop + Send>(
+/// its page and its files. Where memory for the lists of the run is wanting, there is none. The gate is told when each
+/// session begins and when it has ended, by its number and 1,000,000 more.
+pub fn run_all<R: Threads + Wait + Sync, E: Engine + Drop + Send, G: Gate + Sync>(
     rt: &R,
     alloc: Global,
     scripts: &[Vec<u8>],
     files: &[Loaded],
     turns: u64,
     history: bool,
+    gate: &G,
     mut engine: E,
 ) -> Result<Ended<E>, NoMemory>
     requires some { 1 ≤ length scripts.now }
     requires few { length scripts.now ≤ 64 }
-    requires limits { All (λ v. vec_len v ≤ 2 ^ 20) scripts.now }
+    requires limits { All (λ v. length v.items ≤ 2 ^ 20) scripts.now }
     requires spare { (E.worker engine).spare ≡ 65 * length scripts.now + 2 }
     requires made { (E.worker engine).made ≡ 0 }
     requires misses { (E.worker engine).misses ≡ 0 }
@@ -157,7 +162,7 @@ pub fn run_all<R: Threads + Wait + Sync, E: Engine + Drop + Send>(
         return Err(NoMemory);
     };
     split_all(&book, &mut pass, &mut engine, scripts.len(), &mut works);
-    run_works(rt, alloc, scripts, files, turns, &book, &mut works);
+    run_works(rt, alloc, scripts, files, turns, &book, gate, &mut works);
     let whole = join_all(&book, &mut pass, &mut engine, works, &mut told);
     let (archive, events) = book.close(pass).into_parts();
     engine.join(archive);

@@ -1,14 +1,18 @@
 //! One session at its work.
-ghost use Rattle.std.specs.Prelude.{◌≡◌, ◌≤◌, ◌^◌, length, map, vec_len, All};
+ghost use Rattle.std.specs.Prelude.{◌≡◌, ◌≤◌, ◌^◌, length, map, All};
 ghost use Rattle.rv_sessions.specs.Telling.{input_of};
 ghost use Rattle.rv_runs.specs.Works.{IsFresh, CanJoin, RanWhereTold};
 
+use fork_quads::Gate;
 use rel_model::engine_trait::Engine;
 use rv_sessions::{Loaded, Transcript, run};
 use rv_workspace::Book;
 use std::alloc::Global;
 use std::sync::Wait;
 use turn_book::{Pass, TurnBook};
+
+/// What is added to the number of a session, where its gate is told of it.
+const SESSIONS: u32 = 1_000_000;
 
 /// The work of one session: its number, from 1 on, with all that it needs, and what it told.
 #[derive(Drop)]
@@ -20,16 +24,20 @@ pub struct Work<E: Engine> {
 }
 
 /// Runs the session of a piece of work. Where memory is wanting, it tells nothing.
-pub fn run_work<R: Wait, E: Engine + Drop>(
+///
+/// The gate is told when the session begins and when it has ended, by its number and 1,000,000 more.
+pub fn run_work<R: Wait, E: Engine + Drop, G: Gate>(
     rt: &R,
     alloc: Global,
     scripts: &[Vec<u8>],
     files: &[Loaded],
     turns: u64,
     book: &TurnBook<Book<E>>,
+    gate: &G,
     work: &mut Work<E>,
 )
-    requires limits { All (λ v. vec_len v ≤ 2 ^ 20) scripts.now }
+    requires few { length scripts.now ≤ 64 }
+    requires limits { All (λ v. length v.items ≤ 2 ^ 20) scripts.now }
     requires fresh { IsFresh E.worker book.now (length scripts.now) work.old }
     ensures ran { RanWhereTold E.worker E.least (input_of files.now turns) (map (λ v. v.items) scripts.now) work.new }
     ensures joins { CanJoin E.worker book.now work.new }
@@ -37,6 +45,8 @@ pub fn run_work<R: Wait, E: Engine + Drop>(
     ensures house { work.new.pass.house ≡ work.old.pass.house }
 {
     let script = scripts[work.number as usize - 1].as_slice();
+    let piece = SESSIONS + work.number;
+    gate.enter(piece);
     let ran = run(
         alloc,
         work.number,
@@ -48,5 +58,6 @@ pub fn run_work<R: Wait, E: Engine + Drop>(
         &mut work.pass,
         &mut work.engine,
     );
+    gate.leave(piece);
     work.told = ran.ok();
 }

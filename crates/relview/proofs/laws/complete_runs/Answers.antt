@@ -1,5 +1,5 @@
 use Rattle.relview.proofs.Completing.{complete_runs_law}
-use Rattle.relview.proofs.law.complete_runs.Goals as goal
+use Rattle.relview.proofs.laws.complete_runs.Goals as goal
 
 pub returns : goal.returns
 returns c = complete_runs_law

@@ -1,6 +1,0 @@
-use Rattle.std.proofs.Common.{◌≤◌, ◌^◌, vec_len}
-use Rattle.std.specs.List.{AllWithin}
-use Rattle.relview.proofs.over_table.know_lengths.Given as goal
-
-abbrev pub invariant-scripts : goal.invariant-scripts
-invariant-scripts l = AllWithin (λ v. vec_len v ≤ 2 ^ 20) l.fn.scripts 0 l.i

@@ -1,0 +1,33 @@
+//! Laws of the program's runs, each a function that does nothing.
+ghost use Rattle.relview.specs.Alone.{AloneIsSolo, AloneIsOneRun, EnoughRoom};
+ghost use Rattle.relview.specs.Complete.{CompleteRuns, RunsBegin};
+
+/// A script that runs alone, where the table and memory suffice, comes to the outcomes and to the history, but for the
+/// roots of its relations, that the input decides.
+pub fn alone_is_solo()
+    ensures { AloneIsSolo }
+{}
+
+/// Two runs of one input of one script, where the table and memory suffice, have the same outcomes, the same history but
+/// for roots, the same page and the same files.
+pub fn alone_is_one_run()
+    ensures { AloneIsOneRun }
+{}
+
+/// A run whose commands cost less than its table has places for nodes finds no full table.
+pub fn enough_room()
+    ensures { EnoughRoom }
+{}
+
+/// A run in which nothing was wanting is complete: where no command lacked memory, the words of the table have a vacant
+/// place, and no write and no put failed, each outcome is the one that is due, the page was written whole and its files
+/// were put.
+pub fn complete_runs()
+    ensures { CompleteRuns }
+{}
+
+/// Where nothing stands in the way the scripts run, or memory runs out: the words are in the set, no pick, read or write
+/// fails, and each file is within its limit.
+pub fn runs_begin()
+    ensures { RunsBegin }
+{}
