@@ -13,9 +13,9 @@ pub(crate) const TALLEST: u8 = 13;
 /// How many different quads are under a dense square of a height, at least.
 fn least_under(height: u8) -> u32 {
     match height {
-        8 => 40,
-        7 => 20,
-        _ => 10,
+        8 => 80,
+        7 => 40,
+        _ => 20,
     }
 }
 
