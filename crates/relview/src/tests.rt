@@ -1,3 +1,7 @@
 //! What runs of the program write, with which status.
+mod faults;
+mod files;
+mod gates;
 mod outside;
+mod pages;
 mod runs;

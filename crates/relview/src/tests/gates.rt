@@ -1,0 +1,147 @@
+//! Sessions at once, as a gate sees them.
+use super::runs::{assert_written, run_gated};
+use fork_quads::Gate;
+use run_model::event::{Act, Event};
+use std::alloc::{AllocError, Global};
+use std::hint::spin_loop;
+use std::sync::atomic::{AtomicBool, AtomicU32, Ordering};
+use std::test::Fail;
+
+/// How often a session that is held looks for the other one at most.
+const LOOKS: u32 = 100_000_000;
+
+/// What a gate is told of a session that begins, and of one that has ended.
+const BEGUN: u32 = 1;
+
+const ENDED: u32 = 10;
+
+/// Holds one session until another one has begun, and counts what it is told.
+#[derive(Drop)]
+struct Holding {
+    held: u32,
+    awaited: u32,
+    of_held: AtomicU32,
+    of_awaited: AtomicU32,
+    of_others: AtomicU32,
+    gave_up: AtomicBool,
+}
+
+impl Holding {
+    /// Holds one piece until the other has begun.
+    fn new(held: u32, awaited: u32) -> Holding {
+        Holding {
+            held,
+            awaited,
+            of_held: AtomicU32::new(0),
+            of_awaited: AtomicU32::new(0),
+            of_others: AtomicU32::new(0),
+            gave_up: AtomicBool::new(false),
+        }
+    }
+
+    /// The count of what is told of a piece.
+    fn count_of(&self, piece: u32) -> &AtomicU32 {
+        if piece == self.held {
+            &self.of_held
+        } else if piece == self.awaited {
+            &self.of_awaited
+        } else {
+            &self.of_others
+        }
+    }
+
+    /// Waits until the other session has begun, and gives up after so many looks.
+    fn hold(&self) {
+        for _ in 0..LOOKS {
+            if self.of_awaited.load(Ordering::SeqCst) > 0 {
+                return;
+            }
+            spin_loop();
+        }
+        self.gave_up.store(true, Ordering::SeqCst);
+    }
+}
+
+impl Gate for Holding {
+    fn enter(&self, piece: u32) {
+        let _ = self.count_of(piece).fetch_add(BEGUN, Ordering::SeqCst);
+        if piece == self.held {
+            self.hold();
+        }
+    }
+
+    fn leave(&self, piece: u32) {
+        let _ = self.count_of(piece).fetch_add(ENDED, Ordering::SeqCst);
+    }
+}
+
+/// The commands of the events of a session, in their order, as digits.
+fn commands_of(history: &[Event], session: u32) -> u32 {
+    let mut digits = 0u32;
+    for event in history {
+        if event.session == session {
+            digits = digits.wrapping_mul(10).wrapping_add(event.command);
+        }
+    }
+    digits
+}
+
+/// What a line of the history says of an act of the two scripts.
+fn deed_of(act: &Act) -> &'static str {
+    match act {
+        Act::Assign { .. } => "assign X 1 x 1",
+        Act::Read => "read",
+        Act::Remove { .. } => "drop X",
+    }
+}
+
+/// The page that a history makes of two scripts that each assign X and print it: what a session printed is what the last
+/// assignment before its own read gave.
+fn page_of(alloc: Global, history: &[Event]) -> Result<String, AllocError> {
+    let (mut cell, mut first, mut second) = ('?', '?', '?');
+    let mut lines = String::new(alloc);
+    for event in history {
+        let (session, command) = (event.session, event.command);
+        match event.act {
+            Act::Assign { .. } => cell = if session == 1 { '1' } else { '.' },
+            Act::Read => {
+                if session == 1 {
+                    first = cell;
+                } else {
+                    second = cell;
+                }
+            }
+            Act::Remove { .. } => cell = '?',
+        }
+        let deed = deed_of(&event.act);
+        lines.push_str(format!(in alloc; "{session}.{command} {deed}\n")?.as_str())?;
+    }
+    format!(in alloc; "1.2: 1 x 1\n{first}\n2.2: 1 x 1\n{second}\n{lines}")
+}
+
+#[test]
+fn two_sessions_go_on_at_once_and_print_what_the_history_says(rt: HostRuntime) -> Result<(), Fail> {
+    let alloc = rt.alloc();
+    let files = [
+        ("a.rv", b"REL X 1 1 {1:1}. PRINT X.".as_slice()),
+        ("b.rv", b"REL X 1 1 {}. PRINT X."),
+    ];
+    for (held, awaited) in [(1_000_001, 1_000_002), (1_000_002, 1_000_001)] {
+        let gate = Holding::new(held, awaited);
+        let ran = run_gated(&rt, alloc, "--history a.rv b.rv", files.as_slice(), &gate)?;
+        assert!(rt;
+            !gate.gave_up.load(Ordering::SeqCst),
+            "{held} was held too long"
+        );
+        assert_eq!(rt; gate.of_held.load(Ordering::SeqCst), BEGUN + ENDED);
+        assert_eq!(rt; gate.of_awaited.load(Ordering::SeqCst), BEGUN + ENDED);
+        assert_eq!(rt; gate.of_others.load(Ordering::SeqCst), 0);
+        let history = ran.report.history.as_slice();
+        assert_eq!(rt; history.len(), 4);
+        assert_eq!(rt; commands_of(history, 1), 12);
+        assert_eq!(rt; commands_of(history, 2), 12);
+        let page = page_of(alloc, history)?;
+        assert_written(&rt, &ran, page.as_str(), 0, "two sessions")?;
+    }
+    Ok(())
+}
