@@ -11,3 +11,8 @@ pub mod Calling
 pub mod Lacking
 pub mod Telling
 pub mod Ahead
+pub mod Faultless
+pub mod Calls
+pub mod Knowing
+pub mod Known
+pub mod Ills

@@ -2,3 +2,5 @@ pub mod Names
 pub mod Ends
 pub mod Refusing
 pub mod Demands
+pub mod Faultless
+pub mod Unknown

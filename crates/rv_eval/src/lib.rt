@@ -7,6 +7,7 @@ mod comparisons;
 mod domain_calls;
 mod faults;
 mod halt;
+pub mod law;
 mod missing;
 mod names;
 mod operators;

@@ -40,41 +40,17 @@ pub fn eval_expr<E: Engine>(
     match expr {
         Expr::Ref { at, name } => value_of_name(alloc, names, *at, name),
         Expr::Call { at, name, args } => {
-            let values = match eval_args(
-                alloc,
-                engine,
-                checked,
-                decls,
-                names,
-                rank,
-                args.as_slice(),
-                turns,
-            ) {
+            let args = args.as_slice();
+            let values = match eval_args(alloc, engine, checked, decls, names, rank, args, turns) {
                 Ok(values) => values,
                 Err(halt) => return Err(halt),
             };
-            call(
-                alloc,
-                engine,
-                checked,
-                rank,
-                *at,
-                name,
-                values.as_slice(),
-                turns,
-            )
+            let values = values.as_slice();
+            call(alloc, engine, checked, rank, *at, name, values, turns)
         }
         Expr::Base { at, base, args } => {
-            let values = match eval_args(
-                alloc,
-                engine,
-                checked,
-                decls,
-                names,
-                rank,
-                args.as_slice(),
-                turns,
-            ) {
+            let args = args.as_slice();
+            let values = match eval_args(alloc, engine, checked, decls, names, rank, args, turns) {
                 Ok(values) => values,
                 Err(halt) => return Err(halt),
             };
@@ -116,15 +92,9 @@ pub fn eval_expr<E: Engine>(
                 Err(halt) => return Err(halt),
             };
             'links: for next in rest.as_slice() {
+                let operand = &next.right;
                 let right = match eval_expr(
-                    alloc,
-                    engine,
-                    checked,
-                    decls,
-                    names,
-                    rank,
-                    &next.right,
-                    turns,
+                    alloc, engine, checked, decls, names, rank, operand, turns,
                 ) {
                     Ok(right) => right,
                     Err(halt) => return Err(halt),
@@ -200,16 +170,8 @@ fn call<E: Engine>(
                 Ok(bound) => bound,
                 Err(halt) => return Err(halt),
             };
-            eval_expr(
-                alloc,
-                engine,
-                checked,
-                &[],
-                bound.as_slice(),
-                rank - 1,
-                body,
-                turns,
-            )
+            let names = bound.as_slice();
+            eval_expr(alloc, engine, checked, &[], names, rank - 1, body, turns)
         }
         Some(
             Item::Program {
@@ -344,27 +306,11 @@ fn run_stmt<E: Engine>(
                 Err(halt) => return Err(halt),
             };
             if holds {
-                run_stmts(
-                    alloc,
-                    engine,
-                    checked,
-                    decls,
-                    names,
-                    rank,
-                    yes.as_slice(),
-                    turns,
-                )
+                let stmts = yes.as_slice();
+                run_stmts(alloc, engine, checked, decls, names, rank, stmts, turns)
             } else {
-                run_stmts(
-                    alloc,
-                    engine,
-                    checked,
-                    decls,
-                    names,
-                    rank,
-                    no.as_slice(),
-                    turns,
-                )
+                let stmts = no.as_slice();
+                run_stmts(alloc, engine, checked, decls, names, rank, stmts, turns)
             }
         }
     }

@@ -25,8 +25,8 @@ pub call-eval_expr-requires : goal.call-eval_expr-requires
 call-eval_expr-requires g t c κs within =
     let d = subst (λ x. IsDefinition c.args.checked.now.items.items x (Some c.in-Some-Function.field-0.now)) c.bytes.ensures c.in-Some-Function.ensures in
     let fall = function_falls c.args.checked.now.items.items c.args.rank c.args.name.now c.in-Some-Function.field-0.now c.if-rank-eq0.false d _ _ _ _ c.in-Some-Function.field-0-is in
-    let bound : c.as_slice-in-Some-Function.result.now ≡ beside c.as_slice.result.now c.args.values.now = c.as_slice-in-Some-Function.ensures.value ∙ c.in-Ok.ensures.1 in
-    let stand : AllStand (g.E.Core.worker c.args.engine.now) c.as_slice-in-Some-Function.result.now = subst (AllStand (g.E.Core.worker c.args.engine.now)) (sym bound) (all_stand_bound (g.E.Core.worker c.args.engine.now) c.as_slice.result.now c.args.values.now c.requires.standing) in (
+    let bound : c.as_slice-names.result.now ≡ beside c.as_slice.result.now c.args.values.now = c.as_slice-names.ensures.value ∙ c.in-Ok.ensures.1 in
+    let stand : AllStand (g.E.Core.worker c.args.engine.now) c.as_slice-names.result.now = subst (AllStand (g.E.Core.worker c.args.engine.now)) (sym bound) (all_stand_bound (g.E.Core.worker c.args.engine.now) c.as_slice.result.now c.args.values.now c.requires.standing) in (
       search (rules, fall),
       (search rules, stand),
     )
@@ -76,8 +76,8 @@ pub call-returns-in-Ok-clause-ends : goal.call-returns-in-Ok-clause-ends
 call-returns-in-Ok-clause-ends g t c =
     let items = c.args.checked.now.items.items in
     let d = subst (λ x. IsDefinition items x (Some c.in-Some-Function.field-0.now)) c.bytes.ensures c.in-Some-Function.ensures in
-    let bound : c.as_slice-in-Some-Function.result.now ≡ beside c.as_slice.result.now c.args.values.now = c.as_slice-in-Some-Function.ensures.value ∙ c.in-Ok.ensures.1 in
-    let e = function_means items c.args.rank c.args.name.now c.in-Some-Function.field-0.now c.if-rank-eq0.false d c.args.at (g.E.Core.worker c.args.engine.now) c.as_slice.result.now c.args.values.now c.as_slice-in-Some-Function.result.now c.args.turns.now
+    let bound : c.as_slice-names.result.now ≡ beside c.as_slice.result.now c.args.values.now = c.as_slice-names.ensures.value ∙ c.in-Ok.ensures.1 in
+    let e = function_means items c.args.rank c.args.name.now c.in-Some-Function.field-0.now c.if-rank-eq0.false d c.args.at (g.E.Core.worker c.args.engine.now) c.as_slice.result.now c.args.values.now c.as_slice-names.result.now c.args.turns.now
     c.in-Ok.ensures.0 bound c.requires.standing _ _ _ _ c.in-Some-Function.field-0-is c.as_slice.ensures.value in
     only_step _ _ _ _ _ _ _ _ e c.eval_expr.ensures.ends
 
@@ -158,7 +158,7 @@ eval_args-args-2-preserved g t c =
 -- ---- expressions
 pub eval_expr-eval_args-requires : goal.eval_expr-eval_args-requires
 eval_expr-eval_args-requires g t c κs within =
-    let w : weight c.args.expr.now ≡ weight_of_args c.as_slice.result.now + 1 = ap weight c.in-Call.is ∙ weight-call c.in-Call.at c.in-Call.name c.in-Call.args ∙ ap (λ es. weight_of_args es + 1) (sym c.as_slice.ensures.value) in (
+    let w : weight c.args.expr.now ≡ weight_of_args c.as_slice-args.result.now + 1 = ap weight c.in-Call.is ∙ weight-call c.in-Call.at c.in-Call.name c.in-Call.args ∙ ap (λ es. weight_of_args es + 1) (sym c.as_slice-args.ensures.value) in (
       search (rules, w),
       (search rules, c.requires.standing),
     )
@@ -168,11 +168,11 @@ eval_expr-returns-in-Err-clause-ends g t c =
     let a = around_with (calls_within c.args.checked.now.items.items c.args.rank) c.args.decls.now in
     let s = state_of (g.E.Core.worker c.args.engine.now) c.args.names.now in
     let n = c.args.turns.now in
-    first_err _ _ _ _ _ _ _ _ _ _ (ap (λ e. mean a s e n) c.in-Call.is ∙ mean-call a s c.in-Call.at c.in-Call.name c.in-Call.args n ∙ ap (λ es. and_then (means_by a s [] es n) (λ values m. a.calls c.in-Call.at c.in-Call.name values m)) (sym c.as_slice.ensures.value)) c.in-Err.ensures.ends
+    first_err _ _ _ _ _ _ _ _ _ _ (ap (λ e. mean a s e n) c.in-Call.is ∙ mean-call a s c.in-Call.at c.in-Call.name c.in-Call.args n ∙ ap (λ es. and_then (means_by a s [] es n) (λ values m. a.calls c.in-Call.at c.in-Call.name values m)) (sym c.as_slice-args.ensures.value)) c.in-Err.ensures.ends
 
 pub eval_expr-eval_args-requires-in-Base : goal.eval_expr-eval_args-requires-in-Base
 eval_expr-eval_args-requires-in-Base g t c κs within =
-    let w : weight c.args.expr.now ≡ weight_of_args c.as_slice-in-Base.result.now + 1 = ap weight c.in-Base.is ∙ weight-base c.in-Base.at c.in-Base.base c.in-Base.args ∙ ap (λ es. weight_of_args es + 1) (sym c.as_slice-in-Base.ensures.value) in (
+    let w : weight c.args.expr.now ≡ weight_of_args c.as_slice-args-in-Base.result.now + 1 = ap weight c.in-Base.is ∙ weight-base c.in-Base.at c.in-Base.base c.in-Base.args ∙ ap (λ es. weight_of_args es + 1) (sym c.as_slice-args-in-Base.ensures.value) in (
       search (rules, w),
       (search rules, c.requires.standing),
     )
@@ -182,7 +182,7 @@ eval_expr-returns-in-Err-eval_args-clause-ends g t c =
     let a = around_with (calls_within c.args.checked.now.items.items c.args.rank) c.args.decls.now in
     let s = state_of (g.E.Core.worker c.args.engine.now) c.args.names.now in
     let n = c.args.turns.now in
-    first_err _ _ _ _ _ _ _ _ _ _ (ap (λ e. mean a s e n) c.in-Base.is ∙ mean-base a s c.in-Base.at c.in-Base.base c.in-Base.args n ∙ ap (λ es. and_then (means_by a s [] es n) (λ values m. with_turns (based c.in-Base.at c.in-Base.base values) m)) (sym c.as_slice-in-Base.ensures.value)) c.in-Err-eval_args.ensures.ends
+    first_err _ _ _ _ _ _ _ _ _ _ (ap (λ e. mean a s e n) c.in-Base.is ∙ mean-base a s c.in-Base.at c.in-Base.base c.in-Base.args n ∙ ap (λ es. and_then (means_by a s [] es n) (λ values m. with_turns (based c.in-Base.at c.in-Base.base values) m)) (sym c.as_slice-args-in-Base.ensures.value)) c.in-Err-eval_args.ensures.ends
 
 pub eval_expr-returns-in-Err-eval_expr-clause-ends : goal.eval_expr-returns-in-Err-eval_expr-clause-ends
 eval_expr-returns-in-Err-eval_expr-clause-ends g t c =
@@ -308,10 +308,10 @@ eval_expr-returns-in-Ok-clause-ends g t c =
     let a = around_with (calls_within c.args.checked.now.items.items c.args.rank) c.args.decls.now in
     let s = state_of w c.args.names.now in
     let n = c.args.turns.now in
-    let e = ap (λ x. mean a s x n) c.in-Call.is ∙ mean-call a s c.in-Call.at c.in-Call.name c.in-Call.args n ∙ ap (λ es. and_then (means_by a s [] es n) (λ values m. a.calls c.in-Call.at c.in-Call.name values m)) (sym c.as_slice.ensures.value) in
+    let e = ap (λ x. mean a s x n) c.in-Call.is ∙ mean-call a s c.in-Call.at c.in-Call.name c.in-Call.args n ∙ ap (λ es. and_then (means_by a s [] es n) (λ values m. a.calls c.in-Call.at c.in-Call.name values m)) (sym c.as_slice-args.ensures.value) in
     let u = g.E.Core.worker c.eval_args.new.engine in
     let goes = first_on _ _ _ _ _ _ _ _ _ e c.in-Ok.ensures.ends in
-    goes_last _ _ _ _ _ _ _ _ _ _ (goes_as _ _ _ _ _ _ _ (ap (λ xs. a.calls c.in-Call.at c.in-Call.name (map (set_of u) xs) c.eval_args.new.turns) (sym c.as_slice-in-Call.ensures.value)) goes) c.call.ensures.ends
+    goes_last _ _ _ _ _ _ _ _ _ _ (goes_as _ _ _ _ _ _ _ (ap (λ xs. a.calls c.in-Call.at c.in-Call.name (map (set_of u) xs) c.eval_args.new.turns) (sym c.as_slice-values.ensures.value)) goes) c.call.ensures.ends
 
 pub eval_expr-returns-in-Ok-eval_args-clause-ends : goal.eval_expr-returns-in-Ok-eval_args-clause-ends
 eval_expr-returns-in-Ok-eval_args-clause-ends g t c =
@@ -319,10 +319,10 @@ eval_expr-returns-in-Ok-eval_args-clause-ends g t c =
     let a = around_with (calls_within c.args.checked.now.items.items c.args.rank) c.args.decls.now in
     let s = state_of w c.args.names.now in
     let n = c.args.turns.now in
-    let e = ap (λ x. mean a s x n) c.in-Base.is ∙ mean-base a s c.in-Base.at c.in-Base.base c.in-Base.args n ∙ ap (λ es. and_then (means_by a s [] es n) (λ values m. with_turns (based c.in-Base.at c.in-Base.base values) m)) (sym c.as_slice-in-Base.ensures.value) in
+    let e = ap (λ x. mean a s x n) c.in-Base.is ∙ mean-base a s c.in-Base.at c.in-Base.base c.in-Base.args n ∙ ap (λ es. and_then (means_by a s [] es n) (λ values m. with_turns (based c.in-Base.at c.in-Base.base values) m)) (sym c.as_slice-args-in-Base.ensures.value) in
     let u = g.E.Core.worker c.eval_args-in-Base.new.engine in
     let goes = first_on _ _ _ _ _ _ _ _ _ e c.in-Ok-eval_args.ensures.ends in
-    goes_last _ _ _ _ _ _ _ _ _ _ (goes_as _ _ _ _ _ _ _ (ap (λ xs. with_turns (based c.in-Base.at c.in-Base.base (map (set_of u) xs)) c.eval_args-in-Base.new.turns) (sym c.as_slice-in-Base-2.ensures.value)) goes) (ends_operation _ _ _ _ _ _ c.base_call.ensures.ends)
+    goes_last _ _ _ _ _ _ _ _ _ _ (goes_as _ _ _ _ _ _ _ (ap (λ xs. with_turns (based c.in-Base.at c.in-Base.base (map (set_of u) xs)) c.eval_args-in-Base.new.turns) (sym c.as_slice.ensures.value)) goes) (ends_operation _ _ _ _ _ _ c.base_call.ensures.ends)
 
 pub eval_expr-returns-in-Inject-clause-ends : goal.eval_expr-returns-in-Inject-clause-ends
 eval_expr-returns-in-Inject-clause-ends g t c =
@@ -405,7 +405,7 @@ run_stmt-run_stmts-requires g t c κs within =
     let w = g.E.Core.worker c.args.engine.now in
     let v = g.E.Core.worker c.test_of.new.engine in
     let all : weight_stmt c.args.stmt.now ≡ weight c.in-If.test + (weight_by c.in-If.yes.items + weight_by c.in-If.no.items) + 1 = ap weight_stmt c.in-If.is ∙ weight-if c.in-If.at c.in-If.test c.in-If.yes c.in-If.no in
-    let part : weight_by c.as_slice-then-holds.result.now ≡ weight_by c.in-If.yes.items = ap weight_by c.as_slice-then-holds.ensures.value in
+    let part : weight_by c.as_slice-stmts.result.now ≡ weight_by c.in-If.yes.items = ap weight_by c.as_slice-stmts.ensures.value in
     let stand : AllStand v c.args.names.now.items = all_stand_kept w v c.args.names.now.items c.in-Ok-test_of.ensures.ends.keeps c.requires.standing in (
       search (rules, all, part),
       (search rules, stand),
@@ -416,7 +416,7 @@ run_stmt-run_stmts-requires-else-holds g t c κs within =
     let w = g.E.Core.worker c.args.engine.now in
     let v = g.E.Core.worker c.test_of.new.engine in
     let all : weight_stmt c.args.stmt.now ≡ weight c.in-If.test + (weight_by c.in-If.yes.items + weight_by c.in-If.no.items) + 1 = ap weight_stmt c.in-If.is ∙ weight-if c.in-If.at c.in-If.test c.in-If.yes c.in-If.no in
-    let part : weight_by c.as_slice-else-holds.result.now ≡ weight_by c.in-If.no.items = ap weight_by c.as_slice-else-holds.ensures.value in
+    let part : weight_by c.as_slice-stmts-else-holds.result.now ≡ weight_by c.in-If.no.items = ap weight_by c.as_slice-stmts-else-holds.ensures.value in
     let stand : AllStand v c.args.names.now.items = all_stand_kept w v c.args.names.now.items c.in-Ok-test_of.ensures.ends.keeps c.requires.standing in (
       search (rules, all, part),
       (search rules, stand),
@@ -457,7 +457,7 @@ run_stmt-returns-then-holds-clause-ends g t c =
     let m = c.test_of.new.turns in
     let kept : s ≡ state_of v c.args.names.now.items = sym (state_kept w v c.args.names.now.items c.in-Ok-test_of.ensures.ends.keeps c.requires.standing) in
     let goes = first_on _ _ _ _ _ _ _ _ _ e c.in-Ok-test_of.ensures.ends in
-    let taken = ap (λ b. cond b (run_by a c.in-If.yes.items s m) (run_by a c.in-If.no.items s m)) c.if-holds.true ∙ ap (λ ss. run_by a ss s m) (sym c.as_slice-then-holds.ensures.value) ∙ ap (λ x. run_by a c.as_slice-then-holds.result.now x m) kept in
+    let taken = ap (λ b. cond b (run_by a c.in-If.yes.items s m) (run_by a c.in-If.no.items s m)) c.if-holds.true ∙ ap (λ ss. run_by a ss s m) (sym c.as_slice-stmts.ensures.value) ∙ ap (λ x. run_by a c.as_slice-stmts.result.now x m) kept in
     goes_last _ _ _ _ _ _ _ _ _ _ (goes_as _ _ _ _ _ _ _ taken goes) c.run_stmts.ensures.ends
 
 pub run_stmt-returns-else-holds-clause-ends : goal.run_stmt-returns-else-holds-clause-ends
@@ -473,7 +473,7 @@ run_stmt-returns-else-holds-clause-ends g t c =
     let m = c.test_of.new.turns in
     let kept : s ≡ state_of v c.args.names.now.items = sym (state_kept w v c.args.names.now.items c.in-Ok-test_of.ensures.ends.keeps c.requires.standing) in
     let goes = first_on _ _ _ _ _ _ _ _ _ e c.in-Ok-test_of.ensures.ends in
-    let taken = ap (λ b. cond b (run_by a c.in-If.yes.items s m) (run_by a c.in-If.no.items s m)) c.if-holds.false ∙ ap (λ ss. run_by a ss s m) (sym c.as_slice-else-holds.ensures.value) ∙ ap (λ x. run_by a c.as_slice-else-holds.result.now x m) kept in
+    let taken = ap (λ b. cond b (run_by a c.in-If.yes.items s m) (run_by a c.in-If.no.items s m)) c.if-holds.false ∙ ap (λ ss. run_by a ss s m) (sym c.as_slice-stmts-else-holds.ensures.value) ∙ ap (λ x. run_by a c.as_slice-stmts-else-holds.result.now x m) kept in
     goes_last _ _ _ _ _ _ _ _ _ _ (goes_as _ _ _ _ _ _ _ taken goes) c.run_stmts-else-holds.ensures.ends
 
 pub run_stmts-run_stmt-requires : goal.run_stmts-run_stmt-requires
