@@ -22,3 +22,4 @@ pub mod WriteSquares
 pub mod WriteCounts
 pub mod WriteWalk
 pub mod WriteBytes
+pub mod WriteRows
