@@ -1,0 +1,17 @@
+//! Tests of sessions and runs over a node table: each command with each outcome, files, rows, turns by hand, and many sessions at once.
+#![tactic(auto)]
+
+#[cfg(test)]
+mod commands;
+#[cfg(test)]
+mod files;
+#[cfg(test)]
+mod folded;
+#[cfg(test)]
+mod made;
+#[cfg(test)]
+mod racing;
+#[cfg(test)]
+mod rows;
+#[cfg(test)]
+mod turns;

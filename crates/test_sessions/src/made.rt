@@ -1,0 +1,322 @@
+//! What scripts come to over a node table: one of them as a session over a book of its own, or all at once.
+ghost use Rattle.std.specs.Prelude.{◌≡◌, ◌≤◌, ◌^◌, length, vec_len, All, IsTrue};
+
+use fork_quads::{Crew, OpenGate};
+use pair_table::PairTable;
+use rel_engine::Works;
+use rel_model::NoMemory;
+use rel_model::engine_trait::Engine;
+use run_model::event::Event;
+use run_model::outcome::Outcome;
+use rv_print::event_line;
+use rv_runs::{Ended, run_all};
+use rv_sessions::{Loaded, Reply, Save, Transcript, run};
+use rv_workspace::Book;
+use std::alloc::{AllocError, Global};
+use std::process::Abort;
+use std::sync::Wait;
+use std::test::Fail;
+use std::thread::Threads;
+use turn_book::TurnBook;
+
+/// The most bytes of a script.
+const SCRIPT_LIMIT: usize = 1_048_576;
+
+/// How many turns the loops of an expression may take, the binary logarithm of the table's node words, and the number of
+/// workers.
+#[derive(Clone, Copy, Debug)]
+pub(crate) struct Options {
+    pub(crate) turns: u64,
+    pub(crate) nodes: u32,
+    pub(crate) workers: u32,
+}
+
+/// What scripts came to: the outcomes by letters, with a stroke between two sessions; the page; the events; and the files
+/// to be put.
+#[derive(Drop)]
+pub(crate) struct Came {
+    pub(crate) outcomes: Vec<u8>,
+    pub(crate) page: Vec<u8>,
+    pub(crate) history: Vec<Event>,
+    pub(crate) saves: Vec<Save>,
+}
+
+/// The letter of an outcome.
+fn letter_of(outcome: &Outcome) -> u8 {
+    match outcome {
+        Outcome::Done => b'.',
+        Outcome::Parse(_) => b'p',
+        Outcome::Ill(_) => b'i',
+        Outcome::Size { .. } => b's',
+        Outcome::Turns { .. } => b't',
+        Outcome::Nodes => b'n',
+        Outcome::TooLarge { .. } => b'l',
+        Outcome::TooLong { .. } => b'b',
+        Outcome::NoFile { .. } => b'f',
+        Outcome::BadFile { .. } => b'k',
+        Outcome::NoMemory => b'm',
+    }
+}
+
+/// Adds the letters of a session's outcomes.
+fn push_letters(out: &mut Vec<u8>, outcomes: &[Outcome]) -> Result<(), AllocError> {
+    for outcome in outcomes {
+        out.push(letter_of(outcome))?;
+    }
+    Ok(())
+}
+
+/// Adds a reply behind the numbers of its session and its command.
+fn push_reply(alloc: Global, out: &mut Vec<u8>, reply: &Reply) -> Result<(), AllocError> {
+    match reply {
+        Reply::Nothing => Ok(()),
+        Reply::Told {
+            session,
+            command,
+            body,
+        } => {
+            let numbers = format!(in alloc; "{session}.{command}: ")?;
+            out.extend_from_slice(numbers.as_bytes())?;
+            out.extend_from_slice(body.as_slice())
+        }
+        Reply::NoMemory { session, command } => {
+            let line = format!(in alloc; "{session}.{command}: refused: no memory\n")?;
+            out.extend_from_slice(line.as_bytes())
+        }
+    }
+}
+
+/// Adds a line for each event.
+pub(crate) fn push_history(
+    alloc: Global,
+    out: &mut Vec<u8>,
+    history: &[Event],
+) -> Result<(), AllocError> {
+    for event in history {
+        match event_line(alloc, event) {
+            Ok(line) => out.extend_from_slice(line.as_slice())?,
+            Err(NoMemory) => return Err(AllocError),
+        }
+    }
+    Ok(())
+}
+
+/// Relation files by their names and bytes.
+pub(crate) fn loaded(alloc: Global, files: &[(&str, &[u8])]) -> Result<Vec<Loaded>, AllocError> {
+    let mut out = Vec::new(alloc);
+    for (name, bytes) in files {
+        out.push(Loaded {
+            name: String::from_str(alloc, name)?,
+            bytes: Vec::from_slice(alloc, bytes)?,
+        })?;
+    }
+    Ok(out)
+}
+
+/// The bytes of scripts.
+pub(crate) fn scripts_of(alloc: Global, texts: &[&str]) -> Result<Vec<Vec<u8>>, AllocError> {
+    let mut out = Vec::new(alloc);
+    for text in texts {
+        out.push(Vec::from_slice(alloc, text.as_bytes())?)?;
+    }
+    Ok(out)
+}
+
+/// Whether no script passes the limit.
+fn are_short(scripts: &[Vec<u8>]) -> bool
+    ensures { IsTrue result → All (λ v. vec_len v ≤ 2 ^ 20) scripts.now }
+{
+    'scripts: for i in 0..scripts.len() {
+        if scripts[i].len() > SCRIPT_LIMIT {
+            return false;
+        }
+    }
+    true
+}
+
+/// Asserts that options are within their limits.
+fn assert_fit(rt: &impl Abort, options: Options)
+    ensures least { 10 ≤ options.nodes }
+    ensures most { options.nodes ≤ 24 }
+    ensures some { 1 ≤ options.workers }
+    ensures few { options.workers ≤ 64 }
+{
+    assert!(rt; options.nodes >= 10 && options.nodes <= 24);
+    assert!(rt; options.workers >= 1 && options.workers <= 64);
+}
+
+/// Runs a script as the first session over a book of its own. What it told, and what happened.
+fn session_over<R: Wait + Abort, E: Engine + Drop>(
+    rt: &R,
+    alloc: Global,
+    turns: u64,
+    script: &[u8],
+    files: &[Loaded],
+    mut engine: E,
+) -> (Transcript, Vec<Event>)
+    requires limit { length script.now ≤ 2 ^ 20 }
+    requires spare { (E.worker engine).spare ≡ 66 }
+    requires made { (E.worker engine).made ≡ 0 }
+{
+    let archive = engine.split(1);
+    let first = Book::new(alloc, archive);
+    let Ok((book, mut pass)) = TurnBook::make(alloc, first, 1) else {
+        panic!(rt; "no memory")
+    };
+    let ran = run(
+        alloc,
+        1,
+        script,
+        files,
+        turns,
+        &book,
+        rt,
+        &mut pass,
+        &mut engine,
+    );
+    let (_, history) = book.close(pass).into_parts();
+    let Ok(transcript) = ran else {
+        panic!(rt; "no memory")
+    };
+    (transcript, history)
+}
+
+/// Runs a script alone: its replies, and then its history.
+#[tactic(auto, unfolding(rel_model::specs::Trees::bottom_height))]
+pub(crate) fn run_alone<R: Wait + Abort>(
+    rt: &R,
+    alloc: Global,
+    options: Options,
+    script: &str,
+    files: &[Loaded],
+) -> Result<Came, AllocError> {
+    assert_fit(rt, options);
+    let script = script.as_bytes();
+    assert!(rt; script.len() <= SCRIPT_LIMIT);
+    let Ok((table, seat)) = PairTable::make(alloc, options.nodes, 67) else {
+        panic!(rt; "no memory")
+    };
+    let gate = OpenGate;
+    let works = Works::new(Crew::new(&table, seat, options.workers, &gate));
+    let (transcript, history) = session_over(rt, alloc, options.turns, script, files, works);
+    let Transcript {
+        replies,
+        saves,
+        outcomes,
+    } = transcript;
+    let mut letters = Vec::new(alloc);
+    push_letters(&mut letters, outcomes.as_slice())?;
+    let mut page = Vec::new(alloc);
+    for reply in &replies {
+        push_reply(alloc, &mut page, reply)?;
+    }
+    push_history(alloc, &mut page, history.as_slice())?;
+    Ok(Came {
+        outcomes: letters,
+        page,
+        history,
+        saves,
+    })
+}
+
+/// Runs scripts at once over a table with a seat for each session and its workers.
+#[tactic(auto, unfolding(rel_model::specs::Trees::bottom_height))]
+pub(crate) fn run_at_once<R: Threads + Wait + Abort + Sync>(
+    rt: &R,
+    alloc: Global,
+    options: Options,
+    scripts: &[Vec<u8>],
+    files: &[Loaded],
+    history: bool,
+) -> Result<Came, AllocError> {
+    assert_fit(rt, options);
+    assert!(rt; scripts.len() >= 1 && scripts.len() <= 64);
+    assert!(rt; are_short(scripts));
+    let seats = 65 * scripts.len() as u32 + 3;
+    let Ok((table, seat)) = PairTable::make(alloc, options.nodes, seats) else {
+        panic!(rt; "no memory")
+    };
+    let gate = OpenGate;
+    let works = Works::new(Crew::new(&table, seat, options.workers, &gate));
+    let Ok(ended) = run_all(rt, alloc, scripts, files, options.turns, history, works) else {
+        panic!(rt; "no memory")
+    };
+    let Ended {
+        engine: _,
+        history,
+        outcomes,
+        page,
+        saves,
+    } = ended;
+    let mut letters = Vec::new(alloc);
+    let mut first = true;
+    for own in &outcomes {
+        if !first {
+            letters.push(b'/')?;
+        }
+        push_letters(&mut letters, own.as_slice())?;
+        first = false;
+    }
+    Ok(Came {
+        outcomes: letters,
+        page,
+        history,
+        saves,
+    })
+}
+
+/// Asserts what scripts came to.
+pub(crate) fn assert_came(
+    rt: &impl Abort,
+    came: &Came,
+    outcomes: &str,
+    page: &str,
+    saves: &[(&str, &[u8])],
+    what: &str,
+) -> Result<(), Fail> {
+    let letters = str::from_utf8(came.outcomes.as_slice())?;
+    assert_eq!(rt; letters, outcomes, "at {what}");
+    let text = str::from_utf8(came.page.as_slice())?;
+    assert_eq!(rt; text, page, "at {what}");
+    assert_eq!(rt; came.saves.len(), saves.len(), "at {what}");
+    let mut i = 0;
+    for save in &came.saves {
+        let Some((name, bytes)) = saves.get(i) else {
+            panic!(rt; "a file too many at {what}")
+        };
+        assert!(rt; save.name.bytes() == name.as_bytes(), "{name} at {what}");
+        assert!(rt;
+            save.bytes.as_slice() == *bytes,
+            "the bytes of {name} at {what}"
+        );
+        i += 1;
+    }
+    Ok(())
+}
+
+/// Asserts what a script comes to, as a session over a book of its own and as a run of one script: its outcomes by letters,
+/// its replies and then its history, and its files.
+pub(crate) fn comes_to<R: Threads + Wait + Abort + Sync>(
+    rt: &R,
+    alloc: Global,
+    options: Options,
+    script: &str,
+    files: &[(&str, &[u8])],
+    outcomes: &str,
+    page: &str,
+    saves: &[(&str, &[u8])],
+) -> Result<(), Fail> {
+    let files = loaded(alloc, files)?;
+    let alone = run_alone(rt, alloc, options, script, files.as_slice())?;
+    assert_came(rt, &alone, outcomes, page, saves, script)?;
+    let scripts = scripts_of(alloc, [script].as_slice())?;
+    let ran = run_at_once(
+        rt,
+        alloc,
+        options,
+        scripts.as_slice(),
+        files.as_slice(),
+        true,
+    )?;
+    assert_came(rt, &ran, outcomes, page, saves, script)
+}

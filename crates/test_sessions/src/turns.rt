@@ -1,0 +1,185 @@
+//! Two sessions at one book, turn by turn: a name that is dropped between the read and the assignment of another session.
+#![tactic(auto, using(rel_model::proofs::Workers::keeps_stands, rel_model::proofs::Workers::keeps_trans, rel_model::proofs::Workers::gives_stands))]
+
+ghost use Rattle.std.specs.Prelude.{◌≡◌};
+ghost use Rattle.rel_model.specs.Worker.{Keeps, Stands};
+ghost use Rattle.turn_book.specs.Views.{IsReady, IsKept};
+
+use crate::made::push_history;
+use fork_quads::{Crew, OpenGate};
+use lang_model::syntax::Name;
+use pair_table::PairTable;
+use rel_engine::Works;
+use rel_model::core_trait::Core;
+use rel_model::engine_trait::Engine;
+use rel_model::seated_trait::Seated;
+use rel_model::{Rel, Shape};
+use run_model::event::Event;
+use rv_workspace::{Book, DropRefused};
+use std::alloc::Global;
+use std::process::Abort;
+use std::sync::Wait;
+use std::test::Fail;
+use turn_book::{Pass, TurnBook};
+
+/// The one name.
+fn name_x(rt: &impl Abort, alloc: Global) -> Name {
+    match Name::new(alloc, b"X") {
+        Ok(name) => name,
+        Err(_) => panic!(rt; "no memory"),
+    }
+}
+
+/// Reads the name in a turn, and asserts what it has.
+fn reads<R: Wait + Abort, E: Engine + Drop>(
+    rt: &R,
+    alloc: Global,
+    book: &TurnBook<Book<E>>,
+    pass: &mut Pass<Book<E>>,
+    engine: &mut E,
+    session: u32,
+    command: u32,
+    wanted: Option<Rel>,
+)
+    requires ready { IsReady book.now pass.old }
+    requires kin { pass.old.house ≡ (E.worker engine.old).house }
+    ensures kept { IsKept pass.old pass.new }
+    ensures keeps { Keeps (E.worker engine.old) (E.worker engine.new) }
+{
+    let mut names = Vec::new(alloc);
+    assert!(rt; names.push(name_x(rt, alloc)).is_ok());
+    let mut taken = book.take(rt, pass);
+    let view = taken.read(alloc, session, command, Some(names.as_slice()), engine);
+    book.put(pass, taken);
+    let Ok(view) = view else {
+        panic!(rt; "no memory")
+    };
+    match (view.names.first(), wanted) {
+        (Some(first), Some(rel)) => assert!(rt;
+            first.0.bytes() == b"X".as_slice() && first.1 == rel
+        ),
+        (None, None) => {}
+        _ => panic!(rt; "{session}.{command} read something else"),
+    }
+}
+
+/// Gives the name a relation in a turn.
+fn assigns<R: Wait + Abort, E: Engine + Drop>(
+    rt: &R,
+    alloc: Global,
+    book: &TurnBook<Book<E>>,
+    pass: &mut Pass<Book<E>>,
+    engine: &mut E,
+    session: u32,
+    command: u32,
+    rel: Rel,
+)
+    requires ready { IsReady book.now pass.old }
+    requires kin { pass.old.house ≡ (E.worker engine.old).house }
+    requires stands { Stands (E.worker engine.old) rel }
+    ensures kept { IsKept pass.old pass.new }
+    ensures keeps { Keeps (E.worker engine.old) (E.worker engine.new) }
+{
+    let name = name_x(rt, alloc);
+    let mut taken = book.take(rt, pass);
+    let assigned = taken.assign(alloc, session, command, name, rel, engine);
+    book.put(pass, taken);
+    assert!(rt; assigned.is_ok());
+}
+
+/// Drops the name in a turn, and says whether it was there.
+fn drops<R: Wait + Abort, E: Engine + Drop>(
+    rt: &R,
+    alloc: Global,
+    book: &TurnBook<Book<E>>,
+    pass: &mut Pass<Book<E>>,
+    session: u32,
+    command: u32,
+) -> bool
+    requires ready { IsReady book.now pass.old }
+    ensures kept { IsKept pass.old pass.new }
+{
+    let name = name_x(rt, alloc);
+    let mut taken = book.take(rt, pass);
+    let dropped = taken.drop_name(alloc, session, command, &name);
+    book.put(pass, taken);
+    match dropped {
+        Ok(()) => true,
+        Err(DropRefused::Unknown { name }) => {
+            assert!(rt; name.bytes() == b"X".as_slice());
+            false
+        }
+        Err(DropRefused::NoMemory) => panic!(rt; "no memory"),
+    }
+}
+
+/// Two sessions take turns: the second drops the name that the first has read and then assigns. What happened.
+fn dropped_between<R: Wait + Abort, E: Engine + Drop>(
+    rt: &R,
+    alloc: Global,
+    mut mine: E,
+) -> Vec<Event>
+    requires spare { (E.worker mine).spare ≡ 66 }
+    requires made { (E.worker mine).made ≡ 0 }
+{
+    let archive = mine.split(1);
+    let mut theirs = mine.split(1);
+    let shape = Shape { rows: 1, cols: 1 };
+    let Ok(full) = mine.full(shape) else {
+        panic!(rt; "refused")
+    };
+    let Ok(empty) = mine.empty(shape) else {
+        panic!(rt; "refused")
+    };
+    let Ok((book, mut first)) = TurnBook::make(alloc, Book::new(alloc, archive), 2) else {
+        panic!(rt; "no memory")
+    };
+    let mut second = book.split_pass(&mut first);
+    assigns(rt, alloc, &book, &mut first, &mut mine, 1, 1, full);
+    reads(rt, alloc, &book, &mut first, &mut mine, 1, 2, Some(full));
+    assert!(rt;
+        drops(rt, alloc, &book, &mut second, 2, 1),
+        "not there before the assignment"
+    );
+    reads(rt, alloc, &book, &mut second, &mut theirs, 2, 2, None);
+    assigns(rt, alloc, &book, &mut first, &mut mine, 1, 2, empty);
+    reads(
+        rt,
+        alloc,
+        &book,
+        &mut second,
+        &mut theirs,
+        2,
+        3,
+        Some(empty),
+    );
+    assert!(rt;
+        drops(rt, alloc, &book, &mut first, 1, 3),
+        "not there behind the assignment"
+    );
+    assert!(rt;
+        !drops(rt, alloc, &book, &mut second, 2, 4),
+        "there behind its drop"
+    );
+    book.join_pass(&mut first, second);
+    let (_, history) = book.close(first).into_parts();
+    history
+}
+
+#[test]
+fn an_assignment_behind_a_drop_brings_the_name_back(rt: HostRuntime) -> Result<(), Fail> {
+    let alloc = rt.alloc();
+    let Ok((table, seat)) = PairTable::make(alloc, 10, 67) else {
+        panic!(rt; "no memory")
+    };
+    let gate = OpenGate;
+    let works = Works::new(Crew::new(&table, seat, 1, &gate));
+    let history = dropped_between(&rt, alloc, works);
+    let mut lines = Vec::new(alloc);
+    push_history(alloc, &mut lines, history.as_slice())?;
+    assert_eq!(rt;
+        str::from_utf8(lines.as_slice())?,
+        "1.1 assign X 1 x 1\n1.2 read\n2.1 drop X\n2.2 read\n1.2 assign X 1 x 1\n2.3 read\n1.3 drop X\n2.4 read\n"
+    );
+    Ok(())
+}
