@@ -95,10 +95,11 @@ def svg(relation, options, marks):
     above = labels(options.columns, columns) if named else []
     left = 8 + 7 * max((len(word) for word in beside), default=0)
     top = 8 + 7 * max((len(word) for word in above), default=0)
-    width, height = left + columns * side + 8, top + rows * side + 28
     told = f"{relation.rows} x {relation.columns}, pairs {len(relation.pairs)}"
     if block > 1:
         told += f"; a square is {block} by {block}"
+    # the text below may be wider than the grid
+    width, height = left + max(columns * side, 7 * len(told)) + 8, top + rows * side + 28
     lines = [
         f'<svg xmlns="http://www.w3.org/2000/svg" width="{width}" height="{height}" viewBox="0 0 {width} {height}"'
         ' font-family="monospace" font-size="11">',

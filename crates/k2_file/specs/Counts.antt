@@ -11,7 +11,8 @@ abbrev pub bits_under : ℕ → Cells → ℕ
 bits_under zero f = 0
 bits_under (suc k) f =
     cond (some_cell (2 ^ suc k) f)
-    (4 + bits_under k (piece (2 ^ k) 0 0 f) + bits_under k (piece (2 ^ k) 0 (2 ^ k) f) + bits_under k (piece (2 ^ k) (2 ^ k) 0 f) + bits_under k (piece (2 ^ k) (2 ^ k) (2 ^ k) f))
+    (4 + bits_under k (piece (2 ^ k) 0 0 f) + bits_under k (piece (2 ^ k) 0 (2 ^ k) f) + bits_under k
+    (piece (2 ^ k) (2 ^ k) 0 f) + bits_under k (piece (2 ^ k) (2 ^ k) (2 ^ k) f))
     0
 
 -- those below a square
@@ -43,4 +44,5 @@ same_key a b = nat_eq a.0 b.0 && nat_eq a.1 b.1
 
 -- each quad in the memory stands, and has as many bits below it as is noted there
 abbrev pub AreCounts : Worker → (ℕ × ℕ → Option ℕ) → Type 0
-AreCounts w found = (h n c : ℕ) → found (h, n) ≡ Some c → HasQuad w (record { height = h; name = n }) × (c ≡ quad_bits w (record { height = h; name = n }))
+AreCounts w found = (h n c : ℕ) → found (h, n) ≡ Some c
+    → HasQuad w (record { height = h; name = n }) × (c ≡ quad_bits w (record { height = h; name = n }))

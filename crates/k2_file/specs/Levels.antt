@@ -54,7 +54,8 @@ bits_of w h s = quarter_bits (2 ^ h) (square_set w (h + 1) s)
 
 -- its quarters that have a cell were added
 abbrev pub AddsQuarters : Worker → Worker → ℕ → ℕ → Square → List Square → List Square → Type 0
-AddsQuarters old new least h s before after = Adds old new least h before after (quarters_met (2 ^ h) (square_set old (h + 1) s))
+AddsQuarters old new least h s before after = Adds old new least h before after
+    (quarters_met (2 ^ h) (square_set old (h + 1) s))
 
 -- the bits of a level of squares, whose quarters are of a height
 abbrev pub bits_of_all : Worker → ℕ → List Square → List Bool
@@ -62,7 +63,8 @@ bits_of_all w h squares = level_bits (2 ^ h) (map (square_cells w (2 ^ (h + 1)))
 
 -- the squares of the next level, which are of that height
 abbrev pub AreNext : Worker → Worker → ℕ → ℕ → List Square → List Square → Type 0
-AreNext old new least h squares next = AreSquares new least h next (next_level (2 ^ h) (map (square_cells old (2 ^ (h + 1))) squares))
+AreNext old new least h squares next = AreSquares new least h next
+    (next_level (2 ^ h) (map (square_cells old (2 ^ (h + 1))) squares))
 
 -- the square of a relation, where it has a pair
 abbrev pub IsFirst : Worker → Worker → ℕ → ℕ → Rel → List Square → Type 0

@@ -23,7 +23,8 @@ use Rattle.run_model.specs.Cost.{listed_cost}
 abbrev pub IsFault : Worker → Worker → List ℕ → BadFile → Type 0
 IsFault old new bytes fault = (k2_fault bytes ≡ Some fault) × MissesNothing old new × MakesAtMost 0 old new
 
--- what comes of bytes: the relation of their cells where no test fails, or the first test that fails, for which no node was asked; or the table was full, or memory ran out
+-- what comes of bytes: the relation of their cells where no test fails, or the first test that fails, for which no
+-- node was asked; or the table was full, or memory ran out
 abbrev pub IsRead : Worker → Worker → List ℕ → Result Rel BadFile → Type 0
 IsRead old new bytes (Ok rel) =
     (k2_fault bytes ≡ None) × Gives new (k2_relation bytes).rows (k2_relation bytes).cols (k2_relation bytes) rel

@@ -76,7 +76,8 @@ Shows w least h f None = some_cell (2 ^ h) f ≡ false
 Shows w least h f (Some s) = IsShown w least h f s
 
 -- its quarters are shown, of half its side
-pub record ShowsFour (w : Worker) (least h : ℕ) (f : Cells) (four : Option Square × Option Square × Option Square × Option Square) : Type 0 where
+pub record ShowsFour (w : Worker) (least h : ℕ) (f : Cells)
+    (four : Option Square × Option Square × Option Square × Option Square) : Type 0 where
   pub nw : Shows w least h (piece (2 ^ h) 0 0 f) four.0
   pub ne : Shows w least h (piece (2 ^ h) 0 (2 ^ h) f) four.1
   pub sw : Shows w least h (piece (2 ^ h) (2 ^ h) 0 f) four.2
@@ -95,7 +96,8 @@ ShowsWindow h f (Some (Tree q)) = ⊥
 ShowsWindow h f (Some (Part v)) = IsShownPart h f v
 
 -- its quarters are
-pub record ShowsFourWindows (h : ℕ) (f : Cells) (four : Option Square × Option Square × Option Square × Option Square) : Type 0 where
+pub record ShowsFourWindows (h : ℕ) (f : Cells) (four : Option Square × Option Square × Option Square
+    × Option Square) : Type 0 where
   pub nw : ShowsWindow h (piece (2 ^ h) 0 0 f) four.0
   pub ne : ShowsWindow h (piece (2 ^ h) 0 (2 ^ h) f) four.1
   pub sw : ShowsWindow h (piece (2 ^ h) (2 ^ h) 0 f) four.2

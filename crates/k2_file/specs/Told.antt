@@ -35,7 +35,8 @@ groups_of tree_count cell_count = cond ((tree_count == 0) && (cell_count == 0)) 
 abbrev pub group_is_set : List Bool → ℕ → Bool
 group_is_set bits at =
     slice_index_or bits at false
-    || (slice_index_or bits (at + 1) false || (slice_index_or bits (at + 2) false || slice_index_or bits (at + 3) false))
+    || (slice_index_or bits (at + 1) false || (slice_index_or bits (at + 2) false
+    || slice_index_or bits (at + 3) false))
 
 -- a header has the numbers of the fields
 pub record AreFields (bytes : List ℕ) (h : Header) : Type 0 where
@@ -90,7 +91,8 @@ fit_by h tree = levels_fit (h.height - 1) (groups_of h.tree_count h.cell_count) 
 
 -- the first test of the tree that the bits fail, by the header
 abbrev pub levels_by : Header → Bits → Bits → Option BadFile
-levels_by h tree cells = fault_of_levels h.height (groups_of h.tree_count h.cell_count) (bits_in tree) (bits_in cells) h.cell_count
+levels_by h tree cells = fault_of_levels h.height (groups_of h.tree_count h.cell_count) (bits_in tree) (bits_in cells)
+    h.cell_count
 
 -- the cells that the last level tells of, by the header and the bits T
 abbrev pub cells_by : Header → Bits → List Corner

@@ -11,7 +11,8 @@ use rel_model::{NoMemory, Rel};
 use std::alloc::Global;
 use std::collections::HashMap;
 
-/// How many bits the tree of a relation has: four for each square of its levels that has a pair (Knuth, for a sum over a shared tree by a memory of its parts).
+/// How many bits the tree of a relation has: four for each square of its levels that has a pair (Knuth, for a sum
+/// over a shared tree by a memory of its parts).
 pub(crate) fn count_bits<E: Engine>(
     alloc: Global,
     engine: &mut E,

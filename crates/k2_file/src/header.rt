@@ -81,7 +81,8 @@ impl Header {
     pub(crate) fn cells<'a>(&self, bytes: &'a [u8]) -> Bits<'a>
         requires { 29 + bytes_for self.now.tree_count + bytes_for self.now.cell_count ≤ length bytes.now }
         ensures count { result.count ≡ self.now.cell_count }
-        ensures bytes { result.bytes.now ≡ part bytes.now (29 + bytes_for self.now.tree_count) (bytes_for self.now.cell_count) }
+        ensures bytes { result.bytes.now ≡ part bytes.now (29 + bytes_for self.now.tree_count)
+            (bytes_for self.now.cell_count) }
     {
         part_of(bytes, 29 + bytes_of_bits(self.tree_count), self.cell_count)
     }

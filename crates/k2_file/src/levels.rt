@@ -104,7 +104,8 @@ fn next_level(
     requires level { level ≤ 24 }
     requires inside { AreInside (2 ^ level) corners.now }
     requires bits { from + 4 * length corners.now ≤ tree.now.count }
-    ensures { IfOk result (λ v. v.items ≡ chosen (flat_map (quarters (2 ^ level)) corners.now) (drop from (bits_in tree.now))) }
+    ensures { IfOk result (λ v. v.items ≡ chosen (flat_map (quarters (2 ^ level)) corners.now)
+        (drop from (bits_in tree.now))) }
 {
     let quarters = quarters_of(alloc, side_of(level), corners)?;
     chosen_of(alloc, quarters.as_slice(), tree, from)

@@ -1,4 +1,5 @@
-//! Relation files of version 1: a header, and the bits of a relation's k²-tree with k = 2 (Brisaboa, Ladra and Navarro).
+//! Relation files of version 1: a header, and the bits of a relation's k²-tree with k = 2 (Brisaboa, Ladra and
+//! Navarro).
 #![tactic(auto)]
 
 mod bits;

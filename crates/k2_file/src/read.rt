@@ -111,7 +111,8 @@ fn fault_in_end(bytes: &[u8], header: &Header, tree: &Bits<'_>, cells: &Bits<'_>
     requires cells { cells.now.count ≡ header.now.cell_count }
     requires few { header.now.tree_count + header.now.cell_count < 2 ^ 60 }
     requires tree_bytes { tree.now.bytes.now ≡ part bytes.now 29 (bytes_for header.now.tree_count) }
-    requires cell_bytes { cells.now.bytes.now ≡ part bytes.now (29 + bytes_for header.now.tree_count) (bytes_for header.now.cell_count) }
+    requires cell_bytes { cells.now.bytes.now ≡ part bytes.now (29 + bytes_for header.now.tree_count)
+        (bytes_for header.now.cell_count) }
     ensures { result ≡ end_fault bytes.now }
 {
     if tree.padding() != 0 {

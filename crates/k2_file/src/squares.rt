@@ -96,7 +96,8 @@ fn quad_quarters<E: Engine>(
 )
     requires stands { HasQuad (E.worker engine.old) quad }
     requires over { E.least < quad.height }
-    ensures shows { ShowsFour (E.worker engine.new) E.least (quad.height - 1) (quad_piece (E.worker engine.old) quad) result }
+    ensures shows { ShowsFour (E.worker engine.new) E.least (quad.height - 1) (quad_piece (E.worker engine.old) quad)
+        result }
     ensures keeps { Keeps (E.worker engine.old) (E.worker engine.new) }
     ensures room { MakesAtMost 0 (E.worker engine.old) (E.worker engine.new) }
     ensures misses { MissesNothing (E.worker engine.old) (E.worker engine.new) }
@@ -160,7 +161,8 @@ pub(crate) fn quarters_of<E: Engine>(
     Option<Square>,
 )
     requires { IsSquare (E.worker engine.old) E.least (height + 1) square }
-    ensures shows { ShowsFour (E.worker engine.new) E.least height (square_set (E.worker engine.old) (height + 1) square) result }
+    ensures shows { ShowsFour (E.worker engine.new) E.least height
+        (square_set (E.worker engine.old) (height + 1) square) result }
     ensures keeps { Keeps (E.worker engine.old) (E.worker engine.new) }
     ensures room { MakesAtMost 0 (E.worker engine.old) (E.worker engine.new) }
     ensures misses { MissesNothing (E.worker engine.old) (E.worker engine.new) }

@@ -55,7 +55,8 @@ fn first_squares<E: Engine>(
 ) -> Result<Vec<Square>, AllocError>
     requires stands { Stands (E.worker engine.old) rel }
     requires height { height ≡ file_height rel.rows rel.cols }
-    ensures squares { IfOk result (λ v. IsFirst (E.worker engine.old) (E.worker engine.new) E.least height rel v.items) }
+    ensures squares { IfOk result (λ v. IsFirst (E.worker engine.old) (E.worker engine.new) E.least height rel
+        v.items) }
     ensures keeps { Keeps (E.worker engine.old) (E.worker engine.new) }
     ensures room { MakesAtMost 0 (E.worker engine.old) (E.worker engine.new) }
     ensures misses { MissesNothing (E.worker engine.old) (E.worker engine.new) }
@@ -76,8 +77,10 @@ fn push_level<E: Engine>(
     bits: &mut Vec<bool>,
 ) -> Result<Vec<Square>, AllocError>
     requires { AllByRecursion (IsSquare (E.worker engine.old) E.least (height + 1)) squares.now.items }
-    ensures bits { OnOk result (bits.new.items ≡ bits.old.items ++ bits_of_all (E.worker engine.old) height squares.now.items) }
-    ensures next { IfOk result (λ v. AreNext (E.worker engine.old) (E.worker engine.new) E.least height squares.now.items v.items) }
+    ensures bits { OnOk result (bits.new.items ≡ bits.old.items
+        ++ bits_of_all (E.worker engine.old) height squares.now.items) }
+    ensures next { IfOk result (λ v. AreNext (E.worker engine.old) (E.worker engine.new) E.least height
+        squares.now.items v.items) }
     ensures keeps { Keeps (E.worker engine.old) (E.worker engine.new) }
     ensures room { MakesAtMost 0 (E.worker engine.old) (E.worker engine.new) }
     ensures misses { MissesNothing (E.worker engine.old) (E.worker engine.new) }
@@ -137,7 +140,8 @@ fn push_cells<E: Engine>(
     bits: &mut Vec<bool>,
 ) -> Result<(), AllocError>
     requires { AllByRecursion (IsSquare (E.worker engine.old) E.least 1) squares.now.items }
-    ensures bits { OnOk result (bits.new.items ≡ bits.old.items ++ bits_of_all (E.worker engine.old) 0 squares.now.items) }
+    ensures bits { OnOk result (bits.new.items ≡ bits.old.items
+        ++ bits_of_all (E.worker engine.old) 0 squares.now.items) }
     ensures keeps { Keeps (E.worker engine.old) (E.worker engine.new) }
     ensures room { MakesAtMost 0 (E.worker engine.old) (E.worker engine.new) }
     ensures misses { MissesNothing (E.worker engine.old) (E.worker engine.new) }

@@ -1,4 +1,5 @@
-//! The composition of two large squares: the partial products of each square of 256 rows and columns are summed in rows of bits, and only their sum is named.
+//! The composition of two large squares: the partial products of each square of 256 rows and columns are summed in
+//! rows of bits, and only their sum is named.
 ghost use Rattle.std.specs.Prelude.{◌≡◌, ◌<◌, ◌≤◌, ◌+◌, ◌%◌, length, IfOk};
 ghost use Rattle.rel_model.specs.Cells.{cells_union, cells_compose};
 ghost use Rattle.rel_model.specs.Trees.{top_height};

@@ -42,7 +42,8 @@ AloneIsSolo =
     → IsSolo ran.input report
 
 -- two reports have the same outcomes, the same history but for roots, and told the same page and the same files
-pub record AreOneRun (a b : Told) (o n : Sunk) (first : Report) (c d : Told) (p q : Sunk) (second : Report) : Type 0 where
+pub record AreOneRun (a b : Told) (o n : Sunk) (first : Report) (c d : Told) (p q : Sunk)
+    (second : Report) : Type 0 where
   pub outcomes : outcomes_of first ≡ outcomes_of second
   pub history : map entry_of first.history.items ≡ map entry_of second.history.items
   pub page : List ℕ

@@ -29,7 +29,8 @@ abbrev pub CameDue : Input → List Event → ℕ → Reading → List Outcome �
 CameDue input history s (NoScript fault) outcomes = outcomes ≡ Parse fault ∷ []
 CameDue input history s (Flawed fault) outcomes = outcomes ≡ Ill fault ∷ []
 CameDue input history s (Runs script) outcomes =
-    AllByRecursion (λ step. step.outcome ≡ outcome_due (due_at input script step)) (steps_in input history s script outcomes)
+    AllByRecursion (λ step. step.outcome ≡ outcome_due (due_at input script step))
+    (steps_in input history s script outcomes)
 
 -- the same of the sessions from number s on
 abbrev pub AllCameDue : Input → List Event → ℕ → List Reading → List (List Outcome) → Type 0
@@ -51,8 +52,8 @@ pub record NothingLacked (words : List Word) (shelf_old shelf_new : Told) (old n
   pub vacant : IsFull (node_words run.said.nodes report.words.items) → ⊥
   pub outside : NoneFailed shelf_old shelf_new old new
 
--- such a run is complete: each outcome is the due one, the page was written whole, its files were put, and the status is
--- that of the outcomes
+-- such a run is complete: each outcome is the due one, the page was written whole, its files were put, and the status
+-- is that of the outcomes
 pub record IsComplete (words : List Word) (shelf_old shelf_new : Told) (old new : Sunk) (report : Report)
     (run : HasRun words shelf_old shelf_new old new report) : Type 0 where
   pub due : AllCameDue run.input report.history.items 1 run.input.readings (outcomes_of report)
@@ -69,8 +70,8 @@ CompleteRuns =
     → IsComplete words shelf_old shelf_new old new report run
 
 -- ---- that a run begins
--- nothing stood in the way of a run: the words are in the set, no pick, read or write failed, the shelf tells its files, and
--- the file of each FILE word is within its limit
+-- nothing stood in the way of a run: the words are in the set, no pick, read or write failed, the shelf tells its
+-- files, and the file of each FILE word is within its limit
 pub record NothingStopped (words : List Word) (shelf_old shelf_new : Told) (old new : Sunk) : Type 0 where
   pub said : Said
   pub taken : said_by words ≡ Some said
@@ -78,7 +79,8 @@ pub record NothingStopped (words : List Word) (shelf_old shelf_new : Told) (old 
   pub writes : Rose old.faults new.faults → ⊥
   pub files : Files
   pub told : shelf_old.files ≡ Some files
-  pub within : AllByRecursion (λ word. (bytes : List ℕ) → files word ≡ Some bytes → length bytes ≤ limit_of word) (file_words words)
+  pub within : AllByRecursion (λ word. (bytes : List ℕ) → files word ≡ Some bytes → length bytes ≤ limit_of word)
+      (file_words words)
 
 -- where nothing stood in the way the scripts ran, or memory ran out
 abbrev pub RunsBegin : Type 0

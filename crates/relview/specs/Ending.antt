@@ -29,8 +29,8 @@ abbrev pub HadNoRoom : Arguments → Type 0
 HadNoRoom (Ok args) = ⊥
 HadNoRoom (Err error) = error_kind error ≡ OutOfMemory
 
--- The program ended with the status of a report, which answers the words that the system gave; and where there was no memory
--- for these, nothing was read, put or written.
+-- The program ended with the status of a report, which answers the words that the system gave; and where there was no
+-- memory for these, nothing was read, put or written.
 pub record EndsWith (given : Arguments) (shelf_old shelf_new : Told) (old new : Sunk) (code : ExitCode) : Type 0 where
   pub report : Report
   pub status : exit_status code ≡ report.status

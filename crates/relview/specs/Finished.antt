@@ -8,8 +8,8 @@ use Rattle.rv_sessions.specs.Telling.{saved_all}
 use Rattle.rv_runs.specs.Runs.{input_with}
 use Rattle.relview.specs.declared.over_table.Finished.{Finished}
 
--- A run of these scripts over a table of so many bits came to its end: history, outcomes, page and files are a lawful run of
--- what the scripts are read as, and the words of the table hold it.
+-- A run of these scripts over a table of so many bits came to its end: history, outcomes, page and files are a lawful
+-- run of what the scripts are read as, and the words of the table hold it.
 pub record IsFinished (bits : ℕ) (scripts : List (List ℕ)) (files : List Loaded) (turns : ℕ) (asked : Bool)
     (finished : Finished) : Type 0 where
   pub readings : List Reading

@@ -54,19 +54,23 @@ abbrev pub bytes_of : List RelationFile → List (List ℕ)
 bytes_of = map (λ file. file.bytes)
 
 -- the files of FILE words: the scripts in their order, and the relation files in theirs, by their names
-pub record Gives (files : Option Files) (words : List Word) (scripts : List (List ℕ)) (loaded : List RelationFile) : Type 0 where
+pub record Gives (files : Option Files) (words : List Word) (scripts : List (List ℕ))
+    (loaded : List RelationFile) : Type 0 where
   pub scripts_are : AreTaken files (scripts_in words) scripts
   pub named : names_of loaded ≡ relations_in words
   pub loaded_are : AreTaken files (relations_in words) (bytes_of loaded)
 
 -- the same of what was read
 abbrev pub GivesFiles : Option Files → List Word → Given → Type 0
-GivesFiles files words given = Gives files words (map (λ v. v.items) given.scripts.items) (map file_of given.files.items)
+GivesFiles files words given = Gives files words (map (λ v. v.items) given.scripts.items)
+    (map file_of given.files.items)
 
 -- a file joined what was read, as a script or as a relation file
 pub record Adds (name : Word) (bytes : List ℕ) (old new : Given) : Type 0 where
-  pub scripts : map (λ v. v.items) new.scripts.items ≡ map (λ v. v.items) old.scripts.items ++ cond (is_relation_word name) [] (bytes ∷ [])
-  pub files : map file_of new.files.items ≡ map file_of old.files.items ++ cond (is_relation_word name) (record { name = name; bytes = bytes } ∷ []) []
+  pub scripts : map (λ v. v.items) new.scripts.items ≡ map (λ v. v.items) old.scripts.items
+      ++ cond (is_relation_word name) [] (bytes ∷ [])
+  pub files : map file_of new.files.items ≡ map file_of old.files.items
+      ++ cond (is_relation_word name) (record { name = name; bytes = bytes } ∷ []) []
 
 -- a file was not read: those before it were, and the shelf or the reader refused it
 pub record IsHalted (old new : Told) (words : List Word) (halt : Halt) : Type 0 where

@@ -30,5 +30,7 @@ pub record IsFirst (words : List Word) (old : Told) (name : Word) : Type 0 where
 -- FILE word is over its limit.
 pub data IsSaid (words : List Word) (old new : Told) : List ℕ → ℕ → Type 0 where
   Usage : said_by words ≡ None → IsSaid words old new usage_line 2
-  Unread : (name : Word) → IsFirst words old name → Rose old.faults new.faults → IsSaid words old new (cannot_read_line name) 3
-  TooLong : (name : Word) → IsFirst words old name → IsOver old.files name (limit_of name) → IsSaid words old new (too_long_line name) 3
+  Unread : (name : Word) → IsFirst words old name → Rose old.faults new.faults
+      → IsSaid words old new (cannot_read_line name) 3
+  TooLong : (name : Word) → IsFirst words old name → IsOver old.files name (limit_of name)
+      → IsSaid words old new (too_long_line name) 3

@@ -32,7 +32,8 @@ is_done _ = false
 
 -- 5 where memory ran out in a command, else 1 where some command or script was refused, else 0
 unfoldable pub status_of : List (List Outcome) → ℕ
-status_of outcomes = cond (list_any (list_any is_no_memory) outcomes) 5 (cond (list_all (list_all is_done) outcomes) 0 1)
+status_of outcomes = cond (list_any (list_any is_no_memory) outcomes) 5
+    (cond (list_all (list_all is_done) outcomes) 0 1)
 
 -- ---- runs
 -- the outcomes of a report, by sessions
@@ -57,14 +58,18 @@ pub record HasRun (words : List Word) (shelf_old shelf_new : Told) (old new : Su
       (saves input report.history.items (outcomes_of report)) (status_of (outcomes_of report)) report.status
 
 -- these scripts ran, with these relation files and options; the same of what the scripts are read as
-pub record RanGiven (bits : ℕ) (scripts : List (List ℕ)) (files : List Loaded) (turns : ℕ) (asked : Bool) (shelf_old shelf_new : Told)
+pub record RanGiven (bits : ℕ) (scripts : List (List ℕ)) (files : List Loaded) (turns : ℕ) (asked : Bool)
+    (shelf_old shelf_new : Told)
     (old new : Sunk) (report : Report) : Type 0 where
   pub readings : List Reading
   pub read : AreReadings scripts readings
   pub legal : IsLegal (input_with readings files turns asked) report.history.items (outcomes_of report)
-  pub holds : HoldsRun bits (input_with readings files turns asked) report.history.items (outcomes_of report) report.words.items
-  pub told : IsTold shelf_old shelf_new old new (page (input_with readings files turns asked) report.history.items (outcomes_of report))
-      (saves (input_with readings files turns asked) report.history.items (outcomes_of report)) (status_of (outcomes_of report)) report.status
+  pub holds : HoldsRun bits (input_with readings files turns asked) report.history.items (outcomes_of report)
+      report.words.items
+  pub told : IsTold shelf_old shelf_new old new (page (input_with readings files turns asked) report.history.items
+      (outcomes_of report))
+      (saves (input_with readings files turns asked) report.history.items (outcomes_of report))
+      (status_of (outcomes_of report)) report.status
 
 -- the report has no history, no outcomes and no words
 pub record IsEmpty (report : Report) : Type 0 where
@@ -94,9 +99,11 @@ pub record HasStopped (words : List Word) (shelf_old shelf_new : Told) (old new 
 -- a run answered the words: its scripts ran, or nothing did
 abbrev pub Answers : List Word → Told → Told → Sunk → Sunk → Report → Type 0
 Answers words shelf_old shelf_new old new report =
-    MatchBool report.ran (HasRun words shelf_old shelf_new old new report) (HasStopped words shelf_old shelf_new old new report)
+    MatchBool report.ran (HasRun words shelf_old shelf_new old new report)
+    (HasStopped words shelf_old shelf_new old new report)
 
 -- scripts that were given ran, or nothing did
 abbrev pub AnswersGiven : ℕ → List (List ℕ) → List Loaded → ℕ → Bool → Told → Told → Sunk → Sunk → Report → Type 0
 AnswersGiven bits scripts files turns asked shelf_old shelf_new old new report =
-    MatchBool report.ran (RanGiven bits scripts files turns asked shelf_old shelf_new old new report) (GaveUp shelf_old shelf_new old new report)
+    MatchBool report.ran (RanGiven bits scripts files turns asked shelf_old shelf_new old new report)
+    (GaveUp shelf_old shelf_new old new report)

@@ -19,7 +19,8 @@ sunk written faults = record { written = written; faults = faults }
 -- a text was written: whole, with this status; or, with status 4, a part of it, where a write failed
 pub data IsWritten (old new : Sunk) (text : List ℕ) (whole status : ℕ) : Type 0 where
   Whole : status ≡ whole → Appends old.written new.written text → IsWritten old new text whole status
-  Part : (sent : ℕ) → status ≡ 4 → HasSent old.written new.written text sent → Rose old.faults new.faults → IsWritten old new text whole status
+  Part : (sent : ℕ) → status ≡ 4 → HasSent old.written new.written text sent → Rose old.faults new.faults
+      → IsWritten old new text whole status
 
 -- for want of memory nothing was written
 pub record IsOut (old new : Sunk) (status : ℕ) : Type 0 where
@@ -63,9 +64,11 @@ pub record HasNoPut (old new : Told) : Type 0 where
   pub files : new.files ≡ old.files
   pub put_faults : new.put_faults ≡ old.put_faults
 
--- A page was written and then its files were put: both whole, with this status; or, with status 4, a part of the page and no
--- file, where a write failed; or, with status 4, the whole page and the files before one of them, where its put failed.
-pub data IsTold (shelf_old shelf_new : Told) (old new : Sunk) (page : List ℕ) (saves : List SavedFile) (whole status : ℕ) : Type 0 where
+-- A page was written and then its files were put: both whole, with this status; or, with status 4, a part of the page
+-- and no file, where a write failed; or, with status 4, the whole page and the files before one of them, where its
+-- put failed.
+pub data IsTold (shelf_old shelf_new : Told) (old new : Sunk) (page : List ℕ) (saves : List SavedFile)
+    (whole status : ℕ) : Type 0 where
   Told_whole : status ≡ whole → Appends old.written new.written page → HasPut shelf_old.files shelf_new.files saves
       → IsTold shelf_old shelf_new old new page saves whole status
   Unwritten : (sent : ℕ) → status ≡ 4 → HasSent old.written new.written page sent → Rose old.faults new.faults

@@ -78,7 +78,8 @@ fn read_file<S: Shelf>(
     given: &mut Given,
 ) -> Result<(), ReadError>
     requires { IsTrue ((S.told shelf.old).may_pick name.now) }
-    ensures added { OnOk result ((bytes : List ℕ) × IsTaken (S.told shelf.old).files name.now bytes × Adds name.now bytes given.old given.new) }
+    ensures added { OnOk result ((bytes : List ℕ) × IsTaken (S.told shelf.old).files name.now bytes
+        × Adds name.now bytes given.old given.new) }
     ensures refused { IfErr result (RefusesFile (S.told shelf.old) (S.told shelf.new) name.now (limit_of name.now)) }
     ensures kept { OnOk result ((S.told shelf.new).faults ≡ (S.told shelf.old).faults) }
     ensures leaves { Leaves (S.told shelf.old) (S.told shelf.new) }

@@ -8,8 +8,8 @@ pub fn alone_is_solo()
     ensures { AloneIsSolo }
 {}
 
-/// Two runs of one input of one script, where the table and memory suffice, have the same outcomes, the same history but
-/// for roots, the same page and the same files.
+/// Two runs of one input of one script, where the table and memory suffice, have the same outcomes, the same history
+/// but for roots, the same page and the same files.
 pub fn alone_is_one_run()
     ensures { AloneIsOneRun }
 {}
@@ -26,8 +26,8 @@ pub fn complete_runs()
     ensures { CompleteRuns }
 {}
 
-/// Where nothing stands in the way the scripts run, or memory runs out: the words are in the set, no pick, read or write
-/// fails, and each file is within its limit.
+/// Where nothing stands in the way the scripts run, or memory runs out: the words are in the set, no pick, read or
+/// write fails, and each file is within its limit.
 pub fn runs_begin()
     ensures { RunsBegin }
 {}

@@ -8,7 +8,8 @@ use std::alloc::{AllocError, Global};
 
 /// Writes a text, and gives the status: 4 where a write failed, and else the one that is passed.
 fn write_text<K: Sink>(sink: &mut K, text: &[u8], status: u8) -> u8
-    ensures { IsWritten (sunk (K.written sink.old) (K.faults sink.old)) (sunk (K.written sink.new) (K.faults sink.new)) text.now status result }
+    ensures { IsWritten (sunk (K.written sink.old) (K.faults sink.old))
+        (sunk (K.written sink.new) (K.faults sink.new)) text.now status result }
 {
     match write_all(sink, text) {
         Ok(()) => status,
@@ -49,14 +50,16 @@ fn too_long_line(alloc: Global, name: &str) -> Result<Vec<u8>, AllocError>
 
 /// Says that the words are outside the set, and gives the status.
 pub fn say_usage<K: Sink>(sink: &mut K) -> u8
-    ensures { IsWritten (sunk (K.written sink.old) (K.faults sink.old)) (sunk (K.written sink.new) (K.faults sink.new)) usage_line 2 result }
+    ensures { IsWritten (sunk (K.written sink.old) (K.faults sink.old))
+        (sunk (K.written sink.new) (K.faults sink.new)) usage_line 2 result }
 {
     write_text(sink, usage_line(), 2)
 }
 
 /// Says that a file was not read, and gives the status; 5 with nothing written where memory ran out.
 pub fn say_unread<K: Sink>(alloc: Global, sink: &mut K, name: &str) -> u8
-    ensures { IsWritten (sunk (K.written sink.old) (K.faults sink.old)) (sunk (K.written sink.new) (K.faults sink.new)) (cannot_read_line name.now) 3 result
+    ensures { IsWritten (sunk (K.written sink.old) (K.faults sink.old))
+        (sunk (K.written sink.new) (K.faults sink.new)) (cannot_read_line name.now) 3 result
         ⊎ IsOut (sunk (K.written sink.old) (K.faults sink.old)) (sunk (K.written sink.new) (K.faults sink.new)) result }
 {
     match cannot_read_line(alloc, name) {
@@ -67,7 +70,8 @@ pub fn say_unread<K: Sink>(alloc: Global, sink: &mut K, name: &str) -> u8
 
 /// Says that a file is over its limit, and gives the status; 5 with nothing written where memory ran out.
 pub fn say_too_long<K: Sink>(alloc: Global, sink: &mut K, name: &str) -> u8
-    ensures { IsWritten (sunk (K.written sink.old) (K.faults sink.old)) (sunk (K.written sink.new) (K.faults sink.new)) (too_long_line name.now) 3 result
+    ensures { IsWritten (sunk (K.written sink.old) (K.faults sink.old))
+        (sunk (K.written sink.new) (K.faults sink.new)) (too_long_line name.now) 3 result
         ⊎ IsOut (sunk (K.written sink.old) (K.faults sink.old)) (sunk (K.written sink.new) (K.faults sink.new)) result }
 {
     match too_long_line(alloc, name) {

@@ -15,8 +15,8 @@ use std::alloc::Global;
 use std::sync::Wait;
 use std::thread::Threads;
 
-/// A run that came to its end: its history, the outcomes of each session in the order of the scripts, the page, the files
-/// to be put after it, and the words of the table over which it ran.
+/// A run that came to its end: its history, the outcomes of each session in the order of the scripts, the page, the
+/// files to be put after it, and the words of the table over which it ran.
 #[derive(Drop)]
 pub struct Finished {
     pub history: Vec<Event>,
@@ -43,7 +43,8 @@ pub fn run_over_table<R: Threads + Wait + Sync, G: Gate + Sync>(
     requires some { 1 ≤ length scripts.now }
     requires few { length scripts.now ≤ 64 }
     requires limits { All (λ v. length v.items ≤ 2 ^ 20) scripts.now }
-    ensures { IfOk result (IsFinished options.now.nodes (map (λ v. v.items) scripts.now) files.now options.now.turns options.now.history) }
+    ensures { IfOk result (IsFinished options.now.nodes (map (λ v. v.items) scripts.now) files.now options.now.turns
+        options.now.history) }
 {
     let seats = 65 * scripts.len() as u32 + 3;
     let (table, seat) = PairTable::make(alloc, options.nodes, seats)?;

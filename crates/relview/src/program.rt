@@ -16,8 +16,8 @@ use std::process::ExitCode;
 use std::sync::Wait;
 use std::thread::Threads;
 
-/// Runs the words behind the program's own name. Where there is no memory for them, nothing is read, put or written, and
-/// the status is 5.
+/// Runs the words behind the program's own name. Where there is no memory for them, nothing is read, put or written,
+/// and the status is 5.
 fn run_arguments<R: Threads + Wait + Sync, S: Shelf, K: Sink>(
     rt: &R,
     alloc: Global,

@@ -68,7 +68,8 @@ pub fn relview_gated<R: Threads + Wait + Sync, S: Shelf, K: Sink, G: Gate + Sync
 /// Answers words that are not taken.
 fn refuse_words<K: Sink>(alloc: Global, sink: &mut K, error: WordsError) -> Report
     ensures ran { result.ran ≡ false }
-    ensures stopped { (words : List Word) (before now : Told) → HasNoPut before now → (error ≡ words_error.Usage → said_by words ≡ None)
+    ensures stopped { (words : List Word) (before now : Told) → HasNoPut before now
+        → (error ≡ words_error.Usage → said_by words ≡ None)
         → HasStopped words before now (sunk (K.written sink.old) (K.faults sink.old)) (sunk (K.written sink.new) (K.faults sink.new)) result }
 {
     match error {
@@ -83,7 +84,8 @@ fn refuse_words<K: Sink>(alloc: Global, sink: &mut K, error: WordsError) -> Repo
 /// Answers a file that was not read.
 fn refuse_file<K: Sink>(alloc: Global, sink: &mut K, halt: Halt) -> Report
     ensures ran { result.ran ≡ false }
-    ensures stopped { (words : List Word) (before now : Told) → HasNoPut before now → IsFirst words before halt.entry.name.now
+    ensures stopped { (words : List Word) (before now : Told) → HasNoPut before now
+        → IsFirst words before halt.entry.name.now
         → RefusesFile before now halt.entry.name.now (limit_of halt.entry.name.now) halt.entry.error
         → HasStopped words before now (sunk (K.written sink.old) (K.faults sink.old)) (sunk (K.written sink.new) (K.faults sink.new)) result }
 {
@@ -206,7 +208,8 @@ fn run_given<R: Threads + Wait + Sync, S: Shelf, K: Sink, G: Gate + Sync>(
     requires some { 1 ≤ length scripts.now }
     requires few { length scripts.now ≤ 64 }
     requires limits { All (λ v. length v.items ≤ 2 ^ 20) scripts.now }
-    ensures { AnswersGiven options.now.nodes (map (λ v. v.items) scripts.now) files.now options.now.turns options.now.history
+    ensures { AnswersGiven options.now.nodes (map (λ v. v.items) scripts.now) files.now options.now.turns
+        options.now.history
         (S.told shelf.old) (S.told shelf.new)
         (sunk (K.written sink.old) (K.faults sink.old)) (sunk (K.written sink.new) (K.faults sink.new)) result }
 {
@@ -223,7 +226,8 @@ fn report_of<S: Shelf, K: Sink>(shelf: &mut S, sink: &mut K, finished: Finished)
     ensures history { result.history.items ≡ finished.history.items }
     ensures outcomes { result.outcomes.items ≡ finished.outcomes.items }
     ensures words { result.words.items ≡ finished.words.items }
-    ensures told { IsTold (S.told shelf.old) (S.told shelf.new) (sunk (K.written sink.old) (K.faults sink.old)) (sunk (K.written sink.new) (K.faults sink.new))
+    ensures told { IsTold (S.told shelf.old) (S.told shelf.new) (sunk (K.written sink.old) (K.faults sink.old))
+        (sunk (K.written sink.new) (K.faults sink.new))
         finished.page.items (saved_all finished.saves.items) (status_of (map (λ v. v.items) finished.outcomes.items)) result.status }
 {
     let Finished {

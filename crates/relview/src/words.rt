@@ -21,7 +21,8 @@ fn words_behind_name(alloc: Global, args: Args) -> Result<Vec<String>, AllocErro
     Ok(words)
 }
 
-/// The words of what the system gave for the command line. Where that is no text there are none, which is outside the set.
+/// The words of what the system gave for the command line. Where that is no text there are none, which is outside the
+/// set.
 pub fn words_given(alloc: Global, args: io::Result<Args>) -> Result<Vec<String>, AllocError>
     ensures words { IfOk result (λ words. texts words.items ≡ words_in args) }
     ensures memory { HadNoRoom args → IsErr result }

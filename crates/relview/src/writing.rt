@@ -40,8 +40,8 @@ fn put_files<S: Shelf>(shelf: &mut S, saves: &[Save]) -> Result<(), Failed>
     Ok(())
 }
 
-/// Writes a page and then puts the files, and gives the status: 4 where a write or a put failed, and else the one that is
-/// passed.
+/// Writes a page and then puts the files, and gives the status: 4 where a write or a put failed, and else the one
+/// that is passed.
 pub fn tell<S: Shelf, K: Sink>(
     shelf: &mut S,
     sink: &mut K,

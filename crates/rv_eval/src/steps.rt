@@ -44,7 +44,8 @@ pub fn bound_names(
     params: &[Name],
     values: &[Rel],
 ) -> Result<Vec<(Name, Rel)>, Halt>
-    ensures { MatchResult result (λ v. (length params.now ≡ length values.now) × (v.items ≡ beside params.now values.now))
+    ensures { MatchResult result (λ v. (length params.now ≡ length values.now)
+        × (v.items ≡ beside params.now values.now))
         (λ e. (e ≡ LACK NO_MEMORY) ⊎ (((length params.now == length values.now) ≡ false)
         × (e ≡ Ill (Arity at name.now (length params.now) (length values.now))))) }
 {

@@ -44,7 +44,8 @@ pub fn listing<E: Engine>(alloc: Global, engine: &mut E, rel: Rel) -> Result<Vec
 
 /// Adds `M x N, pairs K` and a line feed.
 fn push_head(alloc: Global, out: &mut Vec<u8>, rel: Rel, count: u64) -> Result<(), AllocError>
-    ensures { OnOk result (out.new.items ≡ out.old.items ++ sizes_text rel.rows rel.cols ++ codes ", pairs " ++ decimal count ++ line_feed) }
+    ensures { OnOk result (out.new.items ≡ out.old.items ++ sizes_text rel.rows rel.cols
+        ++ codes ", pairs " ++ decimal count ++ line_feed) }
 {
     push_sizes(alloc, out, rel.rows, rel.cols)?;
     out.extend_from_slice(b", pairs ")?;
@@ -74,7 +75,8 @@ fn push_pairs<E: Engine>(
 ) -> Result<(), AllocError>
     requires standing { Stands (E.worker engine.old) rel }
     requires counted { count ≡ length (set_of (E.worker engine.old) rel).pairs }
-    ensures text { OnOk result (out.new.items ≡ out.old.items ++ flat_map pair_text (set_of (E.worker engine.old) rel).pairs) }
+    ensures text { OnOk result (out.new.items ≡ out.old.items
+        ++ flat_map pair_text (set_of (E.worker engine.old) rel).pairs) }
     ensures keeps { Keeps (E.worker engine.old) (E.worker engine.new) }
     ensures room { MakesAtMost 0 (E.worker engine.old) (E.worker engine.new) }
     ensures misses { MissesNothing (E.worker engine.old) (E.worker engine.new) }

@@ -156,7 +156,9 @@ fn push_two<E: Engine>(
     requires one_height { east.height ≡ west.height }
     requires row { row < 2 ^ west.height }
     requires cols { cols ≤ 2 ^ west.height + 2 ^ west.height }
-    ensures text { OnOk result (out.new.items ≡ out.old.items ++ marks (beside (2 ^ west.height) (quad_set (E.worker engine.old) west) (quad_set (E.worker engine.old) east) row) cols) }
+    ensures text { OnOk result (out.new.items ≡ out.old.items
+        ++ marks (beside (2 ^ west.height) (quad_set (E.worker engine.old) west) (quad_set (E.worker engine.old) east)
+        row) cols) }
     ensures keeps { Keeps (E.worker engine.old) (E.worker engine.new) }
     ensures room { MakesAtMost 0 (E.worker engine.old) (E.worker engine.new) }
     ensures misses { MissesNothing (E.worker engine.old) (E.worker engine.new) }

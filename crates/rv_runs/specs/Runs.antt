@@ -25,10 +25,12 @@ input_with readings files turns history =
 abbrev pub MissedWhereFull : ℕ → List Outcome → Type 0
 MissedWhereFull misses = AllByRecursion (λ o. o ≡ Nodes → 0 < misses)
 
--- A run that came to a worker with this history, these outcomes, this page and these files: they are a lawful run of what
--- the scripts are read as; each assigned relation stands in the worker with the value that is due; no more nodes were made
--- than the commands may cost; a full table was counted as a miss; and the worker is at its table, with as many to spare.
-pub record CameTo (leaf : ℕ) (scripts : List (List ℕ)) (files : List Loaded) (turns : ℕ) (asked : Bool) (old new : Worker)
+-- A run that came to a worker with this history, these outcomes, this page and these files: they are a lawful run of
+-- what the scripts are read as; each assigned relation stands in the worker with the value that is due; no more nodes
+-- were made than the commands may cost; a full table was counted as a miss; and the worker is at its table, with as
+-- many to spare.
+pub record CameTo (leaf : ℕ) (scripts : List (List ℕ)) (files : List Loaded) (turns : ℕ) (asked : Bool)
+    (old new : Worker)
     (history : List Event) (outcomes : List (List Outcome)) (page : List ℕ) (saves : List SavedFile) : Type 0 where
   pub readings : List Reading
   pub run : IsRun scripts (input_with readings files turns asked) history outcomes page saves
@@ -40,7 +42,8 @@ pub record CameTo (leaf : ℕ) (scripts : List (List ℕ)) (files : List Loaded)
   pub spare : new.spare ≡ old.spare
 
 -- what the caller of a run has of it
-abbrev pub IsEnded : {E : Type 0} → (E → Worker) → ℕ → List (List ℕ) → List Loaded → ℕ → Bool → Worker → Ended E → Type 0
+abbrev pub IsEnded : {E : Type 0} → (E → Worker) → ℕ → List (List ℕ) → List Loaded → ℕ → Bool → Worker → Ended E
+    → Type 0
 IsEnded worker leaf scripts files turns asked old ended =
     CameTo leaf scripts files turns asked old (worker ended.engine)
     ended.history.items (map (λ v. v.items) ended.outcomes.items) ended.page.items (saved_all ended.saves.items)

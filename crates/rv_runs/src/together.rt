@@ -128,9 +128,9 @@ fn join_all<E: Engine + Drop>(
 
 /// Runs all scripts at once, a session for each, whose commands take turns at one book of names.
 ///
-/// A script that does not run is told by its one fault, and the others run. An answer is a lawful run of the scripts, with
-/// its page and its files. Where memory for the lists of the run is wanting, there is none. The gate is told when each
-/// session begins and when it has ended, by its number and 1,000,000 more.
+/// A script that does not run is told by its one fault, and the others run. An answer is a lawful run of the scripts,
+/// with its page and its files. Where memory for the lists of the run is wanting, there is none. The gate is told
+/// when each session begins and when it has ended, by its number and 1,000,000 more.
 pub fn run_all<R: Threads + Wait + Sync, E: Engine + Drop + Send, G: Gate + Sync>(
     rt: &R,
     alloc: Global,

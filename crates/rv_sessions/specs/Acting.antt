@@ -62,7 +62,8 @@ pub record WasShown (leaf : ℕ) (form : Form) (input : Input) (script : Script)
   pub room : MakesAtMost (cost_of leaf input script e (meant new (carried log))) old new
 
 -- that; or memory ran out before anything was read
-abbrev pub ShownInTurn : ℕ → Form → Input → Script → ℕ → ℕ → Expr → Worker → Worker → PASS → PASS → Result (List ℕ) Outcome → Type 0
+abbrev pub ShownInTurn : ℕ → Form → Input → Script → ℕ → ℕ → Expr → Worker → Worker → PASS → PASS
+    → Result (List ℕ) Outcome → Type 0
 ShownInTurn leaf form input script s c e old new before after result =
     (WasNotRead old new before after × (result ≡ Err NO_MEMORY))
     ⊎ ((log : List Event) × WasShown leaf form input script s c e old new before after log result)
@@ -91,9 +92,11 @@ pub record IsValueItem (item : Item) (e : Expr) (then : Relation → Due) (text 
 
 -- ---- what an item did
 -- the item was done or refused, as it is told; or memory ran out
-abbrev pub DidItem : ℕ → Input → Script → ℕ → ℕ → Item → Worker → Worker → PASS → PASS → Kept → Kept → Result Told NoMemory → Type 0
+abbrev pub DidItem : ℕ → Input → Script → ℕ → ℕ → Item → Worker → Worker → PASS → PASS → Kept → Kept
+    → Result Told NoMemory → Type 0
 DidItem leaf input script s c item old new before after snaps left (Ok told) =
-    Did leaf input script s c item old new before after snaps left told.outcome (text_of told.reply) (saved_by told.save)
+    Did leaf input script s c item old new before after snaps left told.outcome (text_of told.reply)
+    (saved_by told.save)
 DidItem leaf input script s c item old new before after snaps left (Err lack) =
     Did leaf input script s c item old new before after snaps left NO_MEMORY (prefix s c ++ refusal_text NO_MEMORY) []
 
@@ -106,7 +109,8 @@ pub record WasValued (leaf : ℕ) (input : Input) (script : Script) (s c : ℕ) 
   pub room : MakesAtMost (cost_of leaf input script e (meant new (carried log))) old new
 
 -- that; or memory ran out before anything was read
-abbrev pub ValuedInTurn : ℕ → Input → Script → ℕ → ℕ → Expr → Worker → Worker → PASS → PASS → Result Rel Outcome → Type 0
+abbrev pub ValuedInTurn : ℕ → Input → Script → ℕ → ℕ → Expr → Worker → Worker → PASS → PASS → Result Rel Outcome
+    → Type 0
 ValuedInTurn leaf input script s c e old new before after result =
     (WasNotRead old new before after × (result ≡ Err NO_MEMORY))
     ⊎ ((log : List Event) × WasValued leaf input script s c e old new before after log result)

@@ -74,14 +74,16 @@ due_on input script item w snaps ts = due input script item (state_of_turns w ts
 
 -- item c of session s, in a worker with leaves of this height
 pub record Did (leaf : ℕ) (input : Input) (script : Script) (s c : ℕ) (item : Item) (old new : Worker)
-    (before after : View) (snaps left : Kept) (outcome : Outcome) (text : List ℕ) (saved : List SavedFile) : Type 0 where
+    (before after : View) (snaps left : Kept) (outcome : Outcome) (text : List ℕ)
+    (saved : List SavedFile) : Type 0 where
   pub ts : List Turn
   pub through : GoesThrough ts before after
   pub own : AllByRecursion (IsBy s c) ts
   pub stand : TurnsStand new ts
   pub deeds : HasDeeds (ending outcome) item (due_on input script item new snaps ts) (deeds_by ts)
   pub lawful : IsOutcome item (due_on input script item new snaps ts) outcome
-  pub values : HasValuesAt (ending outcome) (set_of new) (rels_by ts) (gives item (due_on input script item new snaps ts))
+  pub values : HasValuesAt (ending outcome) (set_of new) (rels_by ts)
+      (gives item (due_on input script item new snaps ts))
   pub text_is : text ≡ reply s c item (due_on input script item new snaps ts) outcome
   pub saved_is : saved ≡ save_at (ending outcome) item (due_on input script item new snaps ts)
   pub snaps_left : left ≡ kept_behind (ending outcome) item (carried (first_took ts)) snaps

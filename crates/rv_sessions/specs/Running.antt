@@ -79,7 +79,8 @@ pub record RanSoFar (leaf : ℕ) (input : Input) (script : Script) (s : ℕ) (ol
   pub few : length outcomes ≤ length script.items.items
   pub events : AreEvents input script s (steps_taken (set_of new) ts script outcomes) (map entry_of (map put_by ts))
   pub outcomes_due : AreOutcomes input script (steps_taken (set_of new) ts script outcomes)
-  pub values : AllByRecursion (HasValues input script (set_of new) (map put_by ts)) (steps_taken (set_of new) ts script outcomes)
+  pub values : AllByRecursion (HasValues input script (set_of new) (map put_by ts))
+      (steps_taken (set_of new) ts script outcomes)
   pub text_is : text ≡ replies input script s (steps_taken (set_of new) ts script outcomes)
   pub saved_is : saved ≡ saves_of input script (steps_taken (set_of new) ts script outcomes)
   pub room : MakesAtMost (cost_of_steps leaf input script (steps_taken (set_of new) ts script outcomes)) old new

@@ -29,9 +29,12 @@ pub record RanScript (leaf : ℕ) (input : Input) (s : ℕ) (script : Script) (o
   pub runs : RunsTurns input (set_of new) s script told.outcomes.items ts before.seen after.seen
   pub mine : after.mine ≡ before.mine ++ map put_by ts
   pub stand : TurnsStand new ts
-  pub text : texts_of told.replies.items ≡ replies input script s (steps_taken (set_of new) ts script told.outcomes.items)
-  pub saved : saved_all told.saves.items ≡ saves_of input script (steps_taken (set_of new) ts script told.outcomes.items)
-  pub room : MakesAtMost (cost_of_steps leaf input script (steps_taken (set_of new) ts script told.outcomes.items)) old new
+  pub text : texts_of told.replies.items ≡ replies input script s
+      (steps_taken (set_of new) ts script told.outcomes.items)
+  pub saved : saved_all told.saves.items ≡ saves_of input script
+      (steps_taken (set_of new) ts script told.outcomes.items)
+  pub room : MakesAtMost (cost_of_steps leaf input script (steps_taken (set_of new) ts script told.outcomes.items))
+      old new
   pub missed : RoseBy (nodes_in told.outcomes.items) old.misses new.misses
 
 -- a session that took no turn, made no node and missed none
@@ -42,7 +45,8 @@ pub record DidNothing (old new : Worker) (before after : View) : Type 0 where
   pub misses : MissesNothing old new
 
 -- a script that does not run: its one fault, the reply that tells it, and nothing else
-pub record Refused (s : ℕ) (outcome : Outcome) (old new : Worker) (before after : View) (told : Transcript) : Type 0 where
+pub record Refused (s : ℕ) (outcome : Outcome) (old new : Worker) (before after : View)
+    (told : Transcript) : Type 0 where
   pub outcomes : told.outcomes.items ≡ outcome ∷ []
   pub text : texts_of told.replies.items ≡ refusals s (outcome ∷ [])
   pub saved : told.saves.items ≡ []

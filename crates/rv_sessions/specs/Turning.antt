@@ -27,7 +27,8 @@ pub record TookTurn (old new : Worker) (before after : PASS) (log puts : List Ev
 -- a read: the wanted names of the log that was taken; or memory ran out, and nothing was put
 abbrev pub ReadTurn : ℕ → ℕ → Option (List (List ℕ)) → Worker → Worker → PASS → PASS → Result View NoMemory → Type 0
 ReadTurn s c wanted old new before after (Ok view) =
-    (log : List Event) × TookTurn old new before after log (read_of s c ∷ []) × (view.names.items ≡ picked wanted (carried log))
+    (log : List Event) × TookTurn old new before after log (read_of s c ∷ [])
+    × (view.names.items ≡ picked wanted (carried log))
 ReadTurn s c wanted old new before after (Err refused) = (log : List Event) × TookTurn old new before after log []
 
 -- an assignment; or memory ran out, and nothing was put

@@ -263,7 +263,8 @@ pub(crate) fn load<E: Engine, W: Wait>(
 ) -> Result<Told, NoMemory>
     requires ready { IsReady book.now pass.old }
     requires kin { pass.old.house ≡ (E.worker engine.old).house }
-    ensures { (input : Input) (script : SCRIPT) (snaps : Kept) → input.files ≡ map file_of files.now → KeptStand (E.worker engine.old) snaps →
+    ensures { (input : Input) (script : SCRIPT) (snaps : Kept) → input.files ≡ map file_of files.now
+        → KeptStand (E.worker engine.old) snaps →
         DidItem E.least input script by.session by.command (COMMAND (LOAD name.now file.now)) (E.worker engine.old)
         (E.worker engine.new) pass.old pass.new snaps snaps result }
 {

@@ -32,7 +32,8 @@ fn note(by: By, told: Result<Told, NoMemory>, lists: &mut Transcript)
     requires saves { vec_len lists.old.saves < vec_capacity lists.old.saves }
     requires outcomes { vec_len lists.old.outcomes < vec_capacity lists.old.outcomes }
     ensures outcome { lists.new.outcomes.items ≡ lists.old.outcomes.items ++ outcome_in told ∷ [] }
-    ensures text { texts_of lists.new.replies.items ≡ texts_of lists.old.replies.items ++ text_in by.session by.command told }
+    ensures text { texts_of lists.new.replies.items ≡ texts_of lists.old.replies.items
+        ++ text_in by.session by.command told }
     ensures saved { saved_all lists.new.saves.items ≡ saved_all lists.old.saves.items ++ saved_in told }
     ensures replies_len { vec_len lists.new.replies ≡ vec_len lists.old.replies + 1 }
     ensures saves_len { vec_len lists.new.saves ≤ vec_len lists.old.saves + 1 }
@@ -82,7 +83,8 @@ fn run_items<E: Engine, W: Wait>(
     requires kin { pass.old.house ≡ (E.worker engine.old).house }
     requires few { length checked.now.items.items < 2 ^ 32 }
     requires bare { IsBare (length checked.now.items.items) lists.old }
-    ensures ran { (snaps : Kept) × RanSoFar E.least (input_of files.now turns) checked.now number (E.worker engine.old) (E.worker engine.new)
+    ensures ran { (snaps : Kept) × RanSoFar E.least (input_of files.now turns) checked.now number
+        (E.worker engine.old) (E.worker engine.new)
         pass.old pass.new snaps lists.new.outcomes.items (texts_of lists.new.replies.items) (saved_all lists.new.saves.items) }
     ensures each { length lists.new.outcomes.items ≡ length checked.now.items.items }
 {
@@ -154,7 +156,8 @@ fn run_checked<E: Engine, W: Wait>(
 ) -> Result<Transcript, NoMemory>
     requires ready { IsReady book.now pass.old }
     requires kin { pass.old.house ≡ (E.worker engine.old).house }
-    ensures ran { IfOk result (RanScript E.least (input_of files.now turns) number checked.now (E.worker engine.old) (E.worker engine.new) pass.old pass.new) }
+    ensures ran { IfOk result (RanScript E.least (input_of files.now turns) number checked.now (E.worker engine.old)
+        (E.worker engine.new) pass.old pass.new) }
     ensures none { OnErr result (DidNothing (E.worker engine.old) (E.worker engine.new) pass.old pass.new) }
     ensures kept { IsKept pass.old pass.new }
     ensures keeps { Keeps (E.worker engine.old) (E.worker engine.new) }
@@ -223,7 +226,8 @@ pub fn run<E: Engine, W: Wait>(
     requires limit { length script.now ≤ 2 ^ 20 }
     requires ready { IsReady book.now pass.old }
     requires kin { pass.old.house ≡ (E.worker engine.old).house }
-    ensures ran { IfOk result (RanBytes E.least (input_of files.now turns) number script.now (E.worker engine.old) (E.worker engine.new) pass.old pass.new) }
+    ensures ran { IfOk result (RanBytes E.least (input_of files.now turns) number script.now (E.worker engine.old)
+        (E.worker engine.new) pass.old pass.new) }
     ensures none { OnErr result (DidNothing (E.worker engine.old) (E.worker engine.new) pass.old pass.new) }
     ensures kept { IsKept pass.old pass.new }
     ensures keeps { Keeps (E.worker engine.old) (E.worker engine.new) }

@@ -79,7 +79,8 @@ pub(crate) fn show<E: Engine, W: Wait>(
 ) -> Result<Told, NoMemory>
     requires ready { IsReady book.now pass.old }
     requires kin { pass.old.house ≡ (E.worker engine.old).house }
-    ensures { (input : Input) (snaps : Kept) (item : ITEM) → input.turns ≡ turns → KeptStand (E.worker engine.old) snaps →
+    ensures { (input : Input) (snaps : Kept) (item : ITEM) → input.turns ≡ turns
+        → KeptStand (E.worker engine.old) snaps →
         IsValueItem item expr.now (wanted_in form) (λ numbers r. numbers ++ bytes_in form r) (λ r. []) →
         DidItem E.least input checked.now by.session by.command item (E.worker engine.old) (E.worker engine.new)
         pass.old pass.new snaps snaps result }
@@ -118,7 +119,8 @@ pub(crate) fn save<E: Engine, W: Wait>(
 ) -> Result<Told, NoMemory>
     requires ready { IsReady book.now pass.old }
     requires kin { pass.old.house ≡ (E.worker engine.old).house }
-    ensures { (input : Input) (snaps : Kept) (item : ITEM) → input.turns ≡ turns → KeptStand (E.worker engine.old) snaps →
+    ensures { (input : Input) (snaps : Kept) (item : ITEM) → input.turns ≡ turns
+        → KeptStand (E.worker engine.old) snaps →
         IsValueItem item expr.now (wanted_in FILE) (λ numbers r. [])
         (λ r. record { name = file.now; bytes = bytes_in FILE r } ∷ []) →
         DidItem E.least input checked.now by.session by.command item (E.worker engine.old) (E.worker engine.new)

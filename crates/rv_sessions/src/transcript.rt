@@ -34,8 +34,8 @@ pub enum Reply {
     },
 }
 
-/// What came of a session: of each item its outcome and its reply, and the files to be put, in order. A script that does
-/// not run has one outcome and one reply, with number 0.
+/// What came of a session: of each item its outcome and its reply, and the files to be put, in order. A script that
+/// does not run has one outcome and one reply, with number 0.
 #[derive(Drop)]
 pub struct Transcript {
     pub replies: Vec<Reply>,

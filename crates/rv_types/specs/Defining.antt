@@ -28,7 +28,8 @@ abbrev pub IsDefinition : List Item → List ℕ → Option Item → Type 0
 IsDefinition items name None = NoneDefines name items
 -- an item: it is one of them and defines the name, and none of the others does
 IsDefinition items name (Some item) =
-    (before behind : List Item) × (items ≡ before ++ item ∷ behind) × (defines name item ≡ true) × NoneDefines name before × NoneDefines name behind
+    (before behind : List Item) × (items ≡ before ++ item ∷ behind) × (defines name item ≡ true)
+    × NoneDefines name before × NoneDefines name behind
 
 -- the number that stands beside a name, the first where the name stands twice
 abbrev pub number_beside : List (List ℕ × ℕ) → List ℕ → Option ℕ

@@ -21,7 +21,8 @@ value_of_command _ = None
 -- the greatest rank among the definitions that an item calls, or 0 where it calls none
 abbrev pub called_by_item : List Known → Item → ℕ
 called_by_item earlier (Function at name params body) = called earlier body
-called_by_item earlier (Program at name params decls body result) = max (called_by_all earlier body.items) (called earlier result)
+called_by_item earlier (Program at name params decls body result) = max (called_by_all earlier body.items)
+    (called earlier result)
 called_by_item earlier (COMMAND command) = 0
 
 -- no definition has a rank over this

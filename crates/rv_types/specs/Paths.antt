@@ -1,4 +1,5 @@
--- The paths that a run may take through statements, as the names that it assigns in order, and what it is to be assigned, or unassigned, on them.
+-- The paths that a run may take through statements, as the names that it assigns in order, and what it is to be
+-- assigned, or unassigned, on them.
 use Rattle.std.specs.Prelude.{◌≡◌, ◌||◌, ◌++◌, ◌⊎◌, ◌↔◌, ℕ, true, false, List, [], ◌∷◌, Contains}
 use Rattle.lang_model.specs.declared.syntax.Place.{Place}
 use Rattle.lang_model.specs.declared.syntax.Expr.{Expr, Ref, Call', Base', Inject, Pair', Minus', Turned', Chain', Row_of-Expr, end_of-Expr, more_of-Expr, Row_of-Link, end_of-Link, more_of-Link}
@@ -30,39 +31,47 @@ abbrev mutual
   -- of no statement no name
   IsPathWithin end_of-Stmt path = path ≡ []
   -- of more a path of the first, and then one of the rest
-  IsPathWithin (more_of-Stmt s rest) path = (one more : List (List ℕ)) × IsPathOf s one × IsPathWithin rest more × (path ≡ one ++ more)
+  IsPathWithin (more_of-Stmt s rest) path = (one more : List (List ℕ)) × IsPathOf s one × IsPathWithin rest more
+      × (path ≡ one ++ more)
 
 -- the same of a list of statements
 abbrev pub IsPath : List Stmt → List (List ℕ) → Type 0
 IsPath [] path = path ≡ []
 IsPath (s ∷ ss) path = (one more : List (List ℕ)) × IsPathOf s one × IsPath ss more × (path ≡ one ++ more)
 
--- a path that leads to an expression: the names that one run from the start of a statement, or of a row of statements, assigns in order before it reads the expression
+-- a path that leads to an expression: the names that one run from the start of a statement, or of a row of
+-- statements, assigns in order before it reads the expression
 abbrev mutual
   -- a path inside a statement leads to an expression of it
   pub LeadsIn : Stmt → Expr → List (List ℕ) → Type 0
   -- `name = value` reads its value before it assigns
   LeadsIn (Set at name value) e path = (e ≡ value) × (path ≡ [])
-  -- a WHILE reads its test behind any number of turns, and what its body reads behind any number of turns and the path that leads there in the body
+  -- a WHILE reads its test behind any number of turns, and what its body reads behind any number of turns and the
+  -- path that leads there in the body
   LeadsIn (While' at test s body) e path =
-      ((e ≡ test) × Turns (IsPathWithin body) path) ⊎ ((turns rest : List (List ℕ)) × Turns (IsPathWithin body) turns × LeadsWithin body e rest × (path ≡ turns ++ rest))
+      ((e ≡ test) × Turns (IsPathWithin body) path) ⊎ ((turns rest : List (List ℕ)) × Turns (IsPathWithin body) turns
+      × LeadsWithin body e rest × (path ≡ turns ++ rest))
   -- an IF reads its test first, and then what one of its two parts reads
-  LeadsIn (If' at test s first t second) e path = ((e ≡ test) × (path ≡ [])) ⊎ (LeadsWithin first e path ⊎ LeadsWithin second e path)
+  LeadsIn (If' at test s first t second) e path = ((e ≡ test) × (path ≡ []))
+      ⊎ (LeadsWithin first e path ⊎ LeadsWithin second e path)
 
   -- the same inside a list of statements
   pub LeadsWithin : {m : _} → Row_of-Stmt m → Expr → List (List ℕ) → Type 0
   -- nothing is read where no statement is
   LeadsWithin end_of-Stmt e path = ⊥
   -- more read what the first reads, and then, behind a path of the first, what the rest reads
-  LeadsWithin (more_of-Stmt s rest) e path = LeadsIn s e path ⊎ ((one more : List (List ℕ)) × IsPathOf s one × LeadsWithin rest e more × (path ≡ one ++ more))
+  LeadsWithin (more_of-Stmt s rest) e path = LeadsIn s e path
+      ⊎ ((one more : List (List ℕ)) × IsPathOf s one × LeadsWithin rest e more × (path ≡ one ++ more))
 
 -- the same of a list of statements
 abbrev pub LeadsTo : List Stmt → Expr → List (List ℕ) → Type 0
 LeadsTo [] e path = ⊥
-LeadsTo (s ∷ ss) e path = LeadsIn s e path ⊎ ((one more : List (List ℕ)) × IsPathOf s one × LeadsTo ss e more × (path ≡ one ++ more))
+LeadsTo (s ∷ ss) e path = LeadsIn s e path ⊎ ((one more : List (List ℕ)) × IsPathOf s one × LeadsTo ss e more
+    × (path ≡ one ++ more))
 
 -- ---- names that are read
--- this name stands at this place in an expression as one that is read: not as that of a definition that is called, or of a domain
+-- this name stands at this place in an expression as one that is read: not as that of a definition that is called, or
+-- of a domain
 abbrev mutual
   -- an expression reads a name at a place
   pub Reads : Expr → Place → List ℕ → Type 0
@@ -95,7 +104,8 @@ pub record CountsAsAssigned (ss : List Stmt) (name : List ℕ) : Type 0 where
   -- where none was assigned before: exactly if each path through them assigns it
   pub from_none : (assigned_by no_name ss name ≡ true) ↔ IsOnEachPath ss name
   -- in general: exactly if it was assigned before or each path through them assigns it
-  pub from_others : (before : Names) → (assigned_by before ss name ≡ true) ↔ ((before name ≡ true) ⊎ IsOnEachPath ss name)
+  pub from_others : (before : Names) → (assigned_by before ss name ≡ true) ↔ ((before name ≡ true)
+      ⊎ IsOnEachPath ss name)
 
 -- assigned on every path is what the walk over sets of names says
 abbrev pub AssignedOnEveryPath : Type 0
@@ -103,19 +113,26 @@ AssignedOnEveryPath = (ss : List Stmt) (name : List ℕ) → CountsAsAssigned ss
 
 -- a name that is a declared variable's: not in a command, and no parameter's
 abbrev pub IsVariable : Scope → List ℕ → Type 0
-IsVariable scope name = ((scope.is_command || among scope.parameters name) ≡ false) × (among scope.variables name ≡ true)
+IsVariable scope name = ((scope.is_command || among scope.parameters name) ≡ false)
+    × (among scope.variables name ≡ true)
 
 -- a variable is unassigned at a place
-pub record CountsAsUnassigned (scope : Scope) (before : Names) (ss : List Stmt) (at : Place) (name : List ℕ) : Type 0 where
-  -- in statements: exactly if it was not assigned before, and a path leads to an expression that reads it at this place and does not assign it
+pub record CountsAsUnassigned (scope : Scope) (before : Names) (ss : List Stmt) (at : Place)
+    (name : List ℕ) : Type 0 where
+  -- in statements: exactly if it was not assigned before, and a path leads to an expression that reads it at this
+  -- place and does not assign it
   pub in_statements :
       Contains (faults_by scope before ss) (Unassigned at name)
-      ↔ (IsVariable scope name × (before name ≡ false) × ((e : Expr) × (path : List (List ℕ)) × LeadsTo ss e path × Reads e at name × (among path name ≡ false)))
-  -- in an expression behind them: exactly if it was not assigned before, the expression reads it at this place, and a path through them does not assign it
+      ↔ (IsVariable scope name × (before name ≡ false)
+      × ((e : Expr) × (path : List (List ℕ)) × LeadsTo ss e path × Reads e at name × (among path name ≡ false)))
+  -- in an expression behind them: exactly if it was not assigned before, the expression reads it at this place, and a
+  -- path through them does not assign it
   pub behind_them : (e : Expr) →
       Contains (faults scope (assigned_by before ss) e) (Unassigned at name)
-      ↔ (IsVariable scope name × (before name ≡ false) × Reads e at name × ((path : List (List ℕ)) × IsPath ss path × (among path name ≡ false)))
+      ↔ (IsVariable scope name × (before name ≡ false) × Reads e at name
+      × ((path : List (List ℕ)) × IsPath ss path × (among path name ≡ false)))
 
 -- unassigned is what some path leaves unassigned
 abbrev pub UnassignedOnSomePath : Type 0
-UnassignedOnSomePath = (scope : Scope) (before : Names) (ss : List Stmt) (at : Place) (name : List ℕ) → CountsAsUnassigned scope before ss at name
+UnassignedOnSomePath = (scope : Scope) (before : Names) (ss : List Stmt) (at : Place) (name : List ℕ)
+    → CountsAsUnassigned scope before ss at name

@@ -6,10 +6,18 @@ use Rattle.rv_types.specs.declared.scope.Scope.{Scope as Kept}
 
 -- the scope that is kept
 abbrev pub scope_of : Kept → Scope
-scope_of kept = record { is_command = kept.is_command; parameters = kept.parameters; variables = kept.variables; products = kept.products; sums = kept.sums; earlier = kept.earlier.now }
+scope_of kept = record {
+  is_command = kept.is_command;
+  parameters = kept.parameters;
+  variables = kept.variables;
+  products = kept.products;
+  sums = kept.sums;
+  earlier = kept.earlier.now;
+}
 
 -- a scope of a program with these parameters and declarations behind these definitions
-pub record OfProgram (earlier : List Known) (parameters : List (List ℕ)) (decls : List Decl) (scope : Scope) : Type 0 where
+pub record OfProgram (earlier : List Known) (parameters : List (List ℕ)) (decls : List Decl)
+    (scope : Scope) : Type 0 where
   pub kind : scope.is_command ≡ false
   pub parameters_kept : scope.parameters ≡ parameters
   pub earlier_kept : scope.earlier ≡ earlier

@@ -63,7 +63,8 @@ fn find_fault<'a>(
 
 /// Whether a script has no fault: its first one is the error.
 fn find_flaw(alloc: Global, script: &Script) -> Result<(), TypeFault>
-    ensures fault { MatchResult result (λ _. flaw script.now ≡ None) (λ f. (f ≡ NO_MEMORY) ⊎ (flaw script.now ≡ Some f)) }
+    ensures fault { MatchResult result (λ _. flaw script.now ≡ None)
+        (λ f. (f ≡ NO_MEMORY) ⊎ (flaw script.now ≡ Some f)) }
     ensures memory { IfErr result (λ f. f ≡ NO_MEMORY → TakesMemory script.now) }
 {
     let mut definitions = Definitions::new(alloc);
@@ -77,9 +78,11 @@ fn find_flaw(alloc: Global, script: &Script) -> Result<(), TypeFault>
     }
 }
 
-/// Decides names, arguments, assignments and ranks of definitions, and the definitions that commands call: the script, or its first fault by place and then by number. Commands alone, where they have no fault, take no memory.
+/// Decides names, arguments, assignments and ranks of definitions, and the definitions that commands call: the
+/// script, or its first fault by place and then by number. Commands alone, where they have no fault, take no memory.
 pub fn check(alloc: Global, script: Script) -> Result<Checked, TypeFault>
-    ensures checked { MatchResult result (λ c. (c ≡ script) × (flaw script ≡ None)) (λ f. (f ≡ NO_MEMORY) ⊎ (flaw script ≡ Some f)) }
+    ensures checked { MatchResult result (λ c. (c ≡ script) × (flaw script ≡ None))
+        (λ f. (f ≡ NO_MEMORY) ⊎ (flaw script ≡ Some f)) }
     ensures memory { IfErr result (λ f. f ≡ NO_MEMORY → TakesMemory script) }
 {
     match find_flaw(alloc, &script) {

@@ -71,7 +71,8 @@ pub fn check_decls<'a>(
     decls: &'a [Decl],
     so_far: Option<Found<'a>>,
 ) -> Result<Option<Found<'a>>, NoMemory>
-    ensures { IfOk result (λ r. told r ≡ noted_all (told so_far.entry) (decl_faults parameters.now parameters.now decls.now)) }
+    ensures { IfOk result (λ r. told r ≡ noted_all (told so_far.entry)
+        (decl_faults parameters.now parameters.now decls.now)) }
 {
     let mut before = parameters.copied()?;
     let mut found = so_far;
@@ -85,7 +86,8 @@ pub fn check_decls<'a>(
 
 /// One more name, where a declaration is of a variable.
 fn add_variable<'a>(names: &mut Names<'a>, decl: &'a Decl) -> Result<(), NoMemory>
-    ensures { OnOk result ((n : List ℕ) → among names.new n ≡ (among (variables_of (decl.now ∷ [])) n || among names.old n)) }
+    ensures { OnOk result ((n : List ℕ) → among names.new n
+        ≡ (among (variables_of (decl.now ∷ [])) n || among names.old n)) }
 {
     match decl {
         Decl::Variable { name, .. } => names.add(name.bytes()),
@@ -107,7 +109,8 @@ pub fn variables<'a>(alloc: Global, decls: &'a [Decl]) -> Result<Names<'a>, NoMe
 
 /// One more name, where a declaration is of a domain of this kind.
 fn add_domain<'a>(names: &mut Names<'a>, sums: bool, decl: &'a Decl) -> Result<(), NoMemory>
-    ensures { OnOk result ((n : List ℕ) → among names.new n ≡ (among (domains_of sums (decl.now ∷ [])) n || among names.old n)) }
+    ensures { OnOk result ((n : List ℕ) → among names.new n
+        ≡ (among (domains_of sums (decl.now ∷ [])) n || among names.old n)) }
 {
     match decl {
         Decl::Variable { .. } => Ok(()),

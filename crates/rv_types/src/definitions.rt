@@ -50,7 +50,8 @@ impl Definitions {
 
     /// One more definition, where the name has none.
     pub fn add(&mut self, alloc: Global, name: &[u8], summary: Summary) -> Result<(), NoMemory>
-        ensures known { OnOk result ((n : List ℕ) → definition_of self.new n ≡ definition_of (self.old ++ known_as name.now summary ∷ []) n) }
+        ensures known { OnOk result ((n : List ℕ) → definition_of self.new n
+            ≡ definition_of (self.old ++ known_as name.now summary ∷ []) n) }
         ensures memory { OnErr result (definition_of self.old name.now ≡ None) }
     {
         match self.find(name) {

@@ -29,7 +29,8 @@ pub fn check_repeated<'a>(
     name: &'a Name,
     so_far: Option<Found<'a>>,
 ) -> Option<Found<'a>>
-    ensures { told result ≡ noted_all (told so_far.entry) (cond (among before.now name.now) (Twice at name.now ∷ []) []) }
+    ensures { told result ≡ noted_all (told so_far.entry)
+        (cond (among before.now name.now) (Twice at name.now ∷ []) []) }
 {
     if before.has(name.bytes()) {
         noted(
@@ -52,7 +53,8 @@ fn check_parameters<'a>(
     params: &'a [Name],
     so_far: Option<Found<'a>>,
 ) -> Result<Option<Found<'a>>, NoMemory>
-    ensures fault { IfOk result (λ r. told r ≡ noted_all (told so_far.entry) (parameter_faults at before.old params.now)) }
+    ensures fault { IfOk result (λ r. told r ≡ noted_all (told so_far.entry)
+        (parameter_faults at before.old params.now)) }
     ensures names { OnOk result ((n : List ℕ) → among before.new n ≡ (among params.now n || among before.old n)) }
     ensures memory { OnErr result (0 < length params.now) }
 {
@@ -66,7 +68,8 @@ fn check_parameters<'a>(
 
 /// A rank over the limit.
 fn check_rank<'a>(head: Head<'a>, so_far: Option<Found<'a>>) -> Option<Found<'a>>
-    ensures { told result ≡ noted_all (told so_far.entry) (cond (nat_lt rank_limit head.entry.rank) (Rank head.entry.at head.entry.name.now ∷ []) []) }
+    ensures { told result ≡ noted_all (told so_far.entry)
+        (cond (nat_lt rank_limit head.entry.rank) (Rank head.entry.at head.entry.name.now ∷ []) []) }
 {
     if head.rank > RANK_LIMIT {
         noted(
@@ -88,7 +91,8 @@ fn check_defined<'a>(
     head: Head<'a>,
     so_far: Option<Found<'a>>,
 ) -> Option<Found<'a>>
-    ensures { told result ≡ noted_all (told so_far.entry) (cond (among (names_of earlier.now) head.entry.name.now) (Twice head.entry.at head.entry.name.now ∷ []) []) }
+    ensures { told result ≡ noted_all (told so_far.entry)
+        (cond (among (names_of earlier.now) head.entry.name.now) (Twice head.entry.at head.entry.name.now ∷ []) []) }
 {
     match earlier.find(head.name.bytes()) {
         None => so_far,
@@ -112,7 +116,8 @@ pub fn check_head<'a>(
     so_far: Option<Found<'a>>,
 ) -> Result<Option<Found<'a>>, NoMemory>
     requires { before.old ≡ [] }
-    ensures fault { IfOk result (λ r. told r ≡ noted_all (told so_far.entry) (head_faults earlier.now head.entry.at head.entry.name.now head.entry.params.now head.entry.rank)) }
+    ensures fault { IfOk result (λ r. told r ≡ noted_all (told so_far.entry)
+        (head_faults earlier.now head.entry.at head.entry.name.now head.entry.params.now head.entry.rank)) }
     ensures names { OnOk result ((n : List ℕ) → among before.new n ≡ among head.entry.params.now n) }
     ensures memory { OnErr result (0 < length head.entry.params.now) }
 {

@@ -18,15 +18,18 @@ use lang_model::syntax::{Command, Decl, Expr, Item, Stmt};
 use rel_model::NoMemory;
 use std::alloc::Global;
 
-/// The first fault so far and of statements before which these variables are assigned. Afterwards those behind them are.
+/// The first fault so far and of statements before which these variables are assigned. Afterwards those behind them
+/// are.
 fn check_stmts<'a>(
     scope: &Scope<'a, '_>,
     assigned: &mut Names<'a>,
     stmts: &'a [Stmt],
     so_far: Option<Found<'a>>,
 ) -> Result<Option<Found<'a>>, NoMemory>
-    ensures fault { IfOk result (λ r. told r ≡ noted_all (told so_far.entry) (faults_by (scope_of scope.now) (among assigned.old) stmts.now)) }
-    ensures assigned { OnOk result ((n : List ℕ) → among assigned.new n ≡ assigned_by (among assigned.old) stmts.now n) }
+    ensures fault { IfOk result (λ r. told r ≡ noted_all (told so_far.entry)
+        (faults_by (scope_of scope.now) (among assigned.old) stmts.now)) }
+    ensures assigned { OnOk result ((n : List ℕ) → among assigned.new n
+        ≡ assigned_by (among assigned.old) stmts.now n) }
 {
     let mut found = so_far;
     'each: for stmt in stmts {
@@ -94,7 +97,8 @@ fn check_last<'a>(
     expr: &'a Expr,
     so_far: Option<Found<'a>>,
 ) -> Option<Found<'a>>
-    ensures { told result ≡ noted_all (told so_far.entry) (faults (scope_of scope.entry) (among assigned.entry) expr.now) }
+    ensures { told result ≡ noted_all (told so_far.entry)
+        (faults (scope_of scope.entry) (among assigned.entry) expr.now) }
 {
     check_expr(&scope, &assigned, expr, so_far)
 }
@@ -107,7 +111,9 @@ fn check_function<'a>(
     body: &'a Expr,
     so_far: Option<Found<'a>>,
 ) -> Result<Option<Found<'a>>, NoMemory>
-    ensures { IfOk result (λ r. told r ≡ noted_all (noted_all (told so_far.entry) (head_faults earlier.now head.entry.at head.entry.name.now head.entry.params.now head.entry.rank)) (faults (function_scope earlier.now head.entry.params.now) no_name body.now)) }
+    ensures { IfOk result (λ r. told r ≡ noted_all (noted_all (told so_far.entry)
+        (head_faults earlier.now head.entry.at head.entry.name.now head.entry.params.now head.entry.rank))
+        (faults (function_scope earlier.now head.entry.params.now) no_name body.now)) }
 {
     let mut parameters = Names::new(alloc);
     let found = check_head(earlier, head, &mut parameters, so_far)?;
@@ -154,7 +160,11 @@ fn check_program<'a>(
     value: &'a Expr,
     so_far: Option<Found<'a>>,
 ) -> Result<Option<Found<'a>>, NoMemory>
-    ensures { IfOk result (λ r. let scope = scope_of_program earlier.now head.entry.params.now decls.now in told r ≡ noted_all (noted_all (noted_all (noted_all (told so_far.entry) (head_faults earlier.now head.entry.at head.entry.name.now head.entry.params.now head.entry.rank)) (decl_faults head.entry.params.now head.entry.params.now decls.now)) (faults_by scope no_name body.now)) (faults scope (assigned_by no_name body.now) value.now)) }
+    ensures { IfOk result (λ r. let scope = scope_of_program earlier.now head.entry.params.now decls.now in told r
+        ≡ noted_all (noted_all (noted_all (noted_all (told so_far.entry)
+        (head_faults earlier.now head.entry.at head.entry.name.now head.entry.params.now head.entry.rank))
+        (decl_faults head.entry.params.now head.entry.params.now decls.now)) (faults_by scope no_name body.now))
+        (faults scope (assigned_by no_name body.now) value.now)) }
 {
     let mut parameters = Names::new(alloc);
     let named = check_head(earlier, head, &mut parameters, so_far)?;
@@ -257,7 +267,8 @@ pub fn define(
     rank: usize,
 ) -> Result<(), NoMemory>
     requires { rank ≡ rank_of_item definitions.old item.now }
-    ensures known { OnOk result ((n : List ℕ) → definition_of definitions.new n ≡ definition_of (known_with definitions.old item.now) n) }
+    ensures known { OnOk result ((n : List ℕ) → definition_of definitions.new n
+        ≡ definition_of (known_with definitions.old item.now) n) }
     ensures memory { OnErr result (is_definition item.now ≡ true) }
 {
     match item {

@@ -45,7 +45,8 @@ impl ItemsByName {
 
     /// One more item, where none before it defines its name.
     fn add(&mut self, alloc: Global, name: &[u8], number: usize) -> Result<(), NoMemory>
-        ensures { OnOk result ((n : List ℕ) → number_beside self.new n ≡ option_or (number_beside self.old n) (cond (same_text name.now n) (Some number) None)) }
+        ensures { OnOk result ((n : List ℕ) → number_beside self.new n
+            ≡ option_or (number_beside self.old n) (cond (same_text name.now n) (Some number) None)) }
     {
         match self.find(name) {
             Some(_) => Ok(()),
@@ -59,7 +60,8 @@ impl ItemsByName {
 
     /// One more item, where it defines a name and none before it does.
     fn add_item(&mut self, alloc: Global, item: &Item, number: usize) -> Result<(), NoMemory>
-        ensures numbers { OnOk result ((n : List ℕ) → number_beside self.new n ≡ option_or (number_beside self.old n) (cond (defines n item.now) (Some number) None)) }
+        ensures numbers { OnOk result ((n : List ℕ) → number_beside self.new n
+            ≡ option_or (number_beside self.old n) (cond (defines n item.now) (Some number) None)) }
         ensures memory { OnErr result (is_definition item.now ≡ true) }
     {
         match item {
@@ -72,7 +74,8 @@ impl ItemsByName {
 
 /// The items that define names.
 pub fn items_by_name(alloc: Global, items: &[Item]) -> Result<ItemsByName, NoMemory>
-    ensures numbers { IfOk result (λ m. (name : List ℕ) → number_beside m name ≡ position_from (defines name) 0 items.now) }
+    ensures numbers { IfOk result (λ m. (name : List ℕ)
+        → number_beside m name ≡ position_from (defines name) 0 items.now) }
     ensures memory { OnErr result (list_any is_definition items.now ≡ true) }
 {
     let mut by_name = ItemsByName::new(alloc);

@@ -58,7 +58,8 @@ impl<'a> Names<'a> {
 
     /// All that two other sets share.
     pub fn add_shared(&mut self, first: &Names<'a>, second: &Names<'a>) -> Result<(), NoMemory>
-        ensures { OnOk result ((n : List ℕ) → among self.new n ≡ (among self.old n || (among first.now n && among second.now n))) }
+        ensures { OnOk result ((n : List ℕ) → among self.new n
+            ≡ (among self.old n || (among first.now n && among second.now n))) }
     {
         'each: for name in first.names.as_slice() {
             if second.has(*name) {

@@ -33,7 +33,8 @@ pub fn check_ref<'a>(
     name: &'a Name,
     so_far: Option<Found<'a>>,
 ) -> Option<Found<'a>>
-    ensures { told result ≡ noted_all (told so_far.entry) (ref_faults (scope_of scope.now) (among assigned.now) at name.now) }
+    ensures { told result ≡ noted_all (told so_far.entry)
+        (ref_faults (scope_of scope.now) (among assigned.now) at name.now) }
 {
     if scope.is_command || scope.parameters.has(name.bytes()) {
         return so_far;

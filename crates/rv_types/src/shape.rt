@@ -14,7 +14,8 @@ use std::alloc::Global;
 /// How many definitions may stand in one another.
 const RANK_LIMIT: u32 = 16;
 
-/// The static type of an expression of a command on names with these types, or its first misfit in the order of evaluation, each statement once in the order of the text.
+/// The static type of an expression of a command on names with these types, or its first misfit in the order of
+/// evaluation, each statement once in the order of the text.
 pub fn shape_of(
     alloc: Global,
     checked: &Checked,

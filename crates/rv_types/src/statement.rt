@@ -1,4 +1,5 @@
-//! The faults of a statement, the variables that are assigned behind it, and the greatest rank among the definitions that it calls.
+//! The faults of a statement, the variables that are assigned behind it, and the greatest rank among the definitions
+//! that it calls.
 ghost use Rattle.std.specs.Prelude.{◌≡◌, ℕ, List, IfOk, OnOk};
 ghost use Rattle.lang_model.specs.Checking.{among, faults_of, assigned_after, called_by};
 ghost use Rattle.rv_types.specs.Found.{told, noted as noted_all};
@@ -19,8 +20,10 @@ pub fn check_stmt<'a>(
     stmt: &'a Stmt,
     so_far: Option<Found<'a>>,
 ) -> Result<Option<Found<'a>>, NoMemory>
-    ensures fault { IfOk result (λ r. told r ≡ noted_all (told so_far.entry) (faults_of (scope_of scope.now) (among assigned.old) stmt.now)) }
-    ensures assigned { OnOk result ((n : List ℕ) → among assigned.new n ≡ assigned_after (among assigned.old) stmt.now n) }
+    ensures fault { IfOk result (λ r. told r ≡ noted_all (told so_far.entry)
+        (faults_of (scope_of scope.now) (among assigned.old) stmt.now)) }
+    ensures assigned { OnOk result ((n : List ℕ) → among assigned.new n
+        ≡ assigned_after (among assigned.old) stmt.now n) }
 {
     match stmt {
         Stmt::Set { at, name, value } => {

@@ -14,7 +14,8 @@ use lang_model::faults::{StaticShape, TypeFault};
 use lang_model::syntax::{Decl, Expr, Item, Link, Name, Place, Stmt};
 use std::alloc::Global;
 
-/// What an expression stands in: the script, how many definitions may stand in one another from here, and the declarations of its program.
+/// What an expression stands in: the script, how many definitions may stand in one another from here, and the
+/// declarations of its program.
 #[derive(Clone, Copy)]
 pub struct Around<'a> {
     pub checked: &'a Checked,

@@ -67,7 +67,8 @@ impl<E: Seated> Book<E> {
         mine: &mut E,
     ) -> Result<View, NoMemory>
         requires kin { Kin (E.worker mine.old) (E.worker self.old.archive) }
-        ensures names { IfOk result (λ v. v.names.items ≡ picked (option_map (λ x. x.now) wanted.entry) (names_of self.old)) }
+        ensures names { IfOk result (λ v. v.names.items
+            ≡ picked (option_map (λ x. x.now) wanted.entry) (names_of self.old)) }
         ensures stand { IfOk result (λ v. StandAlike (E.worker self.old.archive) (E.worker mine.new) v.names.items) }
         ensures entered { OnOk result (self.new.history ≡ self.old.history ++ read_of session command ∷ []) }
         ensures as_before { OnErr result (self.new.history ≡ self.old.history) }
@@ -143,7 +144,8 @@ impl<E: Seated> Book<E> {
         requires kin { Kin (E.worker mine.old) (E.worker self.old.archive) }
         requires stands { Stands (E.worker mine.old) rel }
         ensures names { OnOk result (names_of self.new ≡ set name rel (names_of self.old)) }
-        ensures entered { OnOk result (self.new.history ≡ self.old.history ++ assign_of session command (name, rel) ∷ []) }
+        ensures entered { OnOk result (self.new.history
+            ≡ self.old.history ++ assign_of session command (name, rel) ∷ []) }
         ensures as_before { OnErr result (self.new.history ≡ self.old.history) }
         ensures archive { Learns (E.worker self.old.archive) (E.worker mine.old) (E.worker self.new.archive) }
         ensures mine { Learns (E.worker mine.old) (E.worker self.old.archive) (E.worker mine.new) }

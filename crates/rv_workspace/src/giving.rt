@@ -21,7 +21,8 @@ fn put_one(
 ) -> Result<(), NoMemory>
     requires room { vec_len journal.old < vec_capacity journal.old }
     ensures value { OnOk result (names.new ≡ set gift.now.0 gift.now.1 names.old) }
-    ensures noted { OnOk result (journal.new.items ≡ journal.old.items ++ (gift.now.0, lookup names.old gift.now.0) ∷ []) }
+    ensures noted { OnOk result (journal.new.items ≡ journal.old.items ++ (gift.now.0, lookup names.old gift.now.0)
+        ∷ []) }
     ensures err { OnErr result (names.new ≡ names.old) }
     ensures err_journal { OnErr result (journal.new.items ≡ journal.old.items) }
     ensures len { OnOk result (vec_len journal.new ≡ vec_len journal.old + 1) }
@@ -108,7 +109,8 @@ pub(crate) fn give_one(
     rel: Rel,
 ) -> Result<(), NoMemory>
     ensures value { OnOk result (names.new ≡ set_all ((name, rel) ∷ []) names.old) }
-    ensures entered { OnOk result (history.new.items ≡ history.old.items ++ assigns session command ((name, rel) ∷ [])) }
+    ensures entered { OnOk result (history.new.items ≡ history.old.items
+        ++ assigns session command ((name, rel) ∷ [])) }
     ensures err { OnErr result (names.new ≡ names.old) }
     ensures err_history { OnErr result (history.new.items ≡ history.old.items) }
 {
