@@ -22,4 +22,3 @@ pub mod WriteSquares
 pub mod WriteCounts
 pub mod WriteWalk
 pub mod WriteBytes
-pub mod WriteRows

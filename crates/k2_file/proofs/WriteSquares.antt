@@ -76,7 +76,7 @@ leaf-is_window least h f v l i =
     let b = i.col in
     record { side = i.side; row = omega (arith, p, a); col = omega (arith, p, b) }
 
-pub leaf-cells : (least m : ℕ) (f : Cells) (v : Window) → IsLeafWindow least f v → window_cells m v ≡ piece m 0 0 f
+leaf-cells : (least m : ℕ) (f : Cells) (v : Window) → IsLeafWindow least f v → window_cells m v ≡ piece m 0 0 f
 leaf-cells least m f v i =
     ap (λ (x : ℕ). piece m x v.col (bits_cells v.side v.bits)) i.row ∙ ap (λ (x : ℕ). piece m 0 x (bits_cells v.side v.bits)) i.col ∙ ap (piece m 0 0) i.means
 

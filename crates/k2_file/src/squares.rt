@@ -57,12 +57,12 @@ fn shown_quad<E: Engine>(engine: &mut E, quad: Quad) -> Option<Square>
     ensures room { MakesAtMost 0 (E.worker engine.old) (E.worker engine.new) }
     ensures misses { MissesNothing (E.worker engine.old) (E.worker engine.new) }
 {
-    if quad.name == 0 {
-        return None;
-    }
     if quad.height == engine.bottom() {
         let window = leaf_window(engine, quad);
-        return Some(Square::Part(window));
+        return shown_window(window, quad.height);
+    }
+    if quad.name == 0 {
+        return None;
     }
     Some(Square::Tree(quad))
 }

@@ -27,29 +27,8 @@ fn cell(window: Window, i: u8, j: u8) -> bool
     (window.bits >> (window.side * row + col)) & 1 == 1
 }
 
-/// Two to the power of a small number.
-fn power(bits: u8) -> u64
-    requires { bits ≤ 8 }
-    ensures { result ≡ 2 ^ bits }
-{
-    1u64 << bits
-}
-
-/// Whether a row of a window of a side has a cell: whether the bits of the row are not all 0.
+/// Whether a row of a window of a side has a cell.
 fn row_has_cell(window: Window, side: u8, i: u8) -> bool
-    requires window { IsWindow side window }
-    requires row { i < side }
-    ensures { result ≡ some_below side (window_cells side window i) }
-{
-    let row = window.row + i;
-    if window.side <= row || window.side < window.col + side {
-        return some_in_row(window, side, i);
-    }
-    (window.bits >> (window.side * row + window.col)) % power(side) != 0
-}
-
-/// The same cell by cell, where the window is larger than its leaf.
-fn some_in_row(window: Window, side: u8, i: u8) -> bool
     requires window { IsWindow side window }
     requires row { i < side }
     ensures { result ≡ some_below side (window_cells side window i) }

@@ -1,30 +1,23 @@
--- A quad has a cell where its name is not 0; a leaf is a window of itself.
-use Rattle.std.proofs.Common.{◌^◌, refl, arith}
+use Rattle.std.proofs.Common.{refl, arith}
 use Rattle.rel_model.specs.Worker.{quad_set}
-use Rattle.k2_file.proofs.WriteSquares.{leaf-is_window, leaf-cells, none-shown, full-quad}
+use Rattle.k2_file.proofs.WriteSquares.{leaf-is_window, leaf-shows, none-shown, full-quad}
 use Rattle.k2_file.proofs.squares.shown_quad.Goals as goal
+
+pub shown_window-requires-clause-window : goal.shown_window-requires-clause-window
+shown_window-requires-clause-window g c =
+    let limit = g.met.E.Quads.least_limit in
+    let here = c.bottom.ensures in
+    leaf-is_window g.E.Core.least c.args.quad.height (quad_set (g.E.Core.worker c.args.engine.now) c.args.quad) c.leaf_window-window.result (omega (arith, limit, here, c.if-quad-bottom.true)) c.leaf_window-window.ensures.window
+
+pub returns-then-quad-bottom-clause-shows : goal.returns-then-quad-bottom-clause-shows
+returns-then-quad-bottom-clause-shows g c =
+    leaf-shows (g.E.Core.worker c.leaf_window-window.new.engine) g.E.Core.least c.args.quad.height (quad_set (g.E.Core.worker c.args.engine.now) c.args.quad) c.leaf_window-window.result c.shown_window.result c.leaf_window-window.ensures.window c.shown_window.ensures
 
 pub returns-then-quad-eq0-clause-shows : goal.returns-then-quad-eq0-clause-shows
 returns-then-quad-eq0-clause-shows g c =
     let low = g.met.E.Quads.low_height c.args.engine.now c.args.quad c.requires.stands in
     let high = g.met.E.Quads.high_height c.args.engine.now c.args.quad c.requires.stands in
     none-shown (g.E.Core.worker c.args.engine.now) c.args.quad c.if-quad-eq0.true (g.met.E.Quads.none c.args.engine.now c.args.quad.height low high)
-
-pub returns-then-quad-bottom-clause-shows : goal.returns-then-quad-bottom-clause-shows
-returns-then-quad-bottom-clause-shows g c =
-    let w = g.E.Core.worker c.args.engine.now in
-    let q = c.args.quad in
-    let limit = g.met.E.Quads.least_limit in
-    let here = c.bottom.ensures in
-    let low = g.met.E.Quads.low_height c.args.engine.now q c.requires.stands in
-    let high = g.met.E.Quads.high_height c.args.engine.now q c.requires.stands in
-    let leaf = c.leaf_window-window.ensures.window in
-    record {
-      square = leaf-is_window g.E.Core.least q.height (quad_set w q) c.leaf_window-window.result (omega (arith, limit, here, c.if-quad-bottom.true)) leaf;
-      means = leaf-cells g.E.Core.least (2 ^ q.height) (quad_set w q) c.leaf_window-window.result leaf;
-      some = full-quad w q c.requires.stands (g.met.E.Quads.square c.args.engine.now q c.requires.stands) (g.met.E.Quads.none c.args.engine.now q.height low high)
-          (g.met.E.Quads.one_name c.args.engine.now q (record { height = q.height; name = 0 })) c.if-quad-eq0.false;
-    }
 
 pub returns-clause-shows : goal.returns-clause-shows
 returns-clause-shows g c =
