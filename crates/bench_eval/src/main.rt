@@ -1,0 +1,229 @@
+//! How long evaluations take, and the engine's calls of them alone: `bench_eval TASK COUNT`.
+//!
+//! The tasks are `turns`, a loop of COUNT turns that complements a relation of one row and one column; `calls`, the same
+//! with a call of a function in each turn, and with an assignment in its place; and `chain`, a union of COUNT operands. Each
+//! line has a name, COUNT and nanoseconds.
+#![tactic(auto)]
+
+mod alone;
+mod scripts;
+mod task;
+
+ghost use Rattle.std.specs.Prelude.{◌≡◌, [], ◌∷◌, codes, IfSome};
+ghost use Rattle.rel_model.specs.Worker.{Stands, Keeps};
+ghost use Rattle.rv_eval.specs.Names.{AllStand};
+
+use crate::alone::{turns_alone, unions_alone};
+use crate::scripts::{chain, checked_of, expression};
+use crate::task::{MOST, Task, number, task_of};
+use fork_quads::{Crew, OpenGate};
+use lang_model::syntax::{Expr, Name};
+use pair_table::PairTable;
+use rel_engine::Works;
+use rel_model::engine_trait::Engine;
+use rel_model::{Rel, Shape};
+use rv_eval::{Refused, eval};
+use rv_types::Checked;
+use std::alloc::Global;
+use std::io;
+use std::rt::Clock;
+use std::time::Instant;
+
+/// A loop that complements its variable in each turn.
+const COMPLEMENTS: &str = "W(C) DECL x BEG x = C; WHILE C DO x = -x OD RETURN x END. PRINT W(A).";
+
+/// A loop that assigns its variable to itself in each turn.
+const ASSIGNMENTS: &str = "W(C) DECL x BEG x = C; WHILE C DO x = x OD RETURN x END. PRINT W(A).";
+
+/// A loop that calls a function in each turn.
+const CALLS: &str =
+    "F(R) = R. W(C) DECL x BEG x = C; WHILE C DO x = F(x) OD RETURN x END. PRINT W(A).";
+
+/// The full relation of one row and one column.
+fn point<E: Engine>(engine: &mut E) -> Option<Rel>
+    ensures { IfSome result (λ r. Stands (E.worker engine.new) r × (r.rows ≡ 1) × (r.cols ≡ 1)) }
+{
+    match engine.full(Shape { rows: 1, cols: 1 }) {
+        Ok(rel) => Some(rel),
+        Err(_) => None,
+    }
+}
+
+/// The name A with a relation.
+fn beside(alloc: Global, rel: Rel) -> Option<Vec<(Name, Rel)>>
+    ensures { IfSome result (λ names. names.items ≡ (codes "A", rel) ∷ []) }
+{
+    let mut names = Vec::new(alloc);
+    let Ok(name) = Name::new(alloc, b"A") else {
+        return None;
+    };
+    if names.push((name, rel)).is_err() {
+        return None;
+    }
+    Some(names)
+}
+
+/// The same of a relation that stands.
+#[tactic(auto, using(crate::proofs::Standing::one_name))]
+fn named<E: Engine>(alloc: Global, engine: &E, rel: Rel) -> Option<Vec<(Name, Rel)>>
+    requires { Stands (E.worker engine.now) rel }
+    ensures { IfSome result (λ names. AllStand (E.worker engine.now) names.items) }
+{
+    match beside(alloc, rel) {
+        Some(names) => Some(names),
+        None => None,
+    }
+}
+
+/// How an evaluation ended.
+fn end_of(answer: &Result<Rel, Refused>) -> &'static str {
+    match answer {
+        Ok(_) => "value",
+        Err(Refused::Turns { .. }) => "turns",
+        Err(_) => "refused",
+    }
+}
+
+/// Prints how long an evaluation of the last item of a script takes.
+fn measure_eval<R: Print + Clock, E: Engine>(
+    rt: &R,
+    alloc: Global,
+    engine: &mut E,
+    label: &str,
+    text: &[u8],
+    names: &[(Name, Rel)],
+    turns: u64,
+) -> io::Result<()>
+    requires { AllStand (E.worker engine.old) names.now }
+    ensures { Keeps (E.worker engine.old) (E.worker engine.new) }
+{
+    let Some(checked) = checked_of(alloc, text) else {
+        return println!(rt; "no script");
+    };
+    let Some(expr) = expression(&checked) else {
+        return println!(rt; "no expression");
+    };
+    let start = Instant::now(rt)?;
+    let answer = eval(alloc, engine, &checked, names, expr, turns);
+    let time = start.elapsed(rt)?.as_nanos();
+    let end = end_of(&answer);
+    println!(rt; "{label} {turns} {time} {end}")
+}
+
+/// Prints how long the engine's calls of so many turns take.
+fn measure_turns_alone<R: Print + Clock, E: Engine>(
+    rt: &R,
+    engine: &mut E,
+    r: Rel,
+    count: u64,
+) -> io::Result<()>
+    requires { Stands (E.worker engine.old) r × (r.rows ≡ 1) × (r.cols ≡ 1) }
+{
+    let start = Instant::now(rt)?;
+    let end = turns_alone(engine, r, count);
+    let time = start.elapsed(rt)?.as_nanos();
+    println!(rt;
+        "turns-alone {count} {time} {}",
+        if end.is_some() { "value" } else { "refused" }
+    )
+}
+
+/// Prints how long so many unions take, one fewer than operands.
+fn measure_unions_alone<R: Print + Clock, E: Engine>(
+    rt: &R,
+    engine: &mut E,
+    r: Rel,
+    count: u64,
+) -> io::Result<()>
+    requires { Stands (E.worker engine.old) r }
+{
+    let start = Instant::now(rt)?;
+    let end = unions_alone(engine, r, count);
+    let time = start.elapsed(rt)?.as_nanos();
+    println!(rt;
+        "chain-alone {count} {time} {}",
+        if end.is_some() { "value" } else { "refused" }
+    )
+}
+
+/// Measures a task over an engine.
+#[tactic(auto, using(crate::proofs::Standing::names_kept, rel_model::proofs::Workers::keeps_stands))]
+fn measure<R: Print + Clock, E: Engine>(
+    rt: &R,
+    alloc: Global,
+    engine: &mut E,
+    task: Task,
+    count: u32,
+) -> io::Result<()> {
+    let Some(rel) = point(engine) else {
+        return println!(rt; "no table");
+    };
+    let Some(names) = named(alloc, engine, rel) else {
+        return println!(rt; "no memory");
+    };
+    let names = names.as_slice();
+    let turns = u64::from(count);
+    match task {
+        Task::Turns => {
+            measure_eval(
+                rt,
+                alloc,
+                engine,
+                "turns",
+                COMPLEMENTS.as_bytes(),
+                names,
+                turns,
+            )?;
+            measure_turns_alone(rt, engine, rel, turns)
+        }
+        Task::Calls => {
+            measure_eval(rt, alloc, engine, "calls", CALLS.as_bytes(), names, turns)?;
+            measure_eval(
+                rt,
+                alloc,
+                engine,
+                "assignments",
+                ASSIGNMENTS.as_bytes(),
+                names,
+                turns,
+            )
+        }
+        Task::Chain => {
+            let Ok(text) = chain(alloc, count) else {
+                return println!(rt; "no memory");
+            };
+            measure_eval(rt, alloc, engine, "chain", text.as_slice(), names, turns)?;
+            measure_unions_alone(rt, engine, rel, turns)
+        }
+    }
+}
+
+/// Measures a task in a table of its own.
+fn measure_alone<R: Print + Clock>(
+    rt: &R,
+    alloc: Global,
+    task: Task,
+    count: u32,
+) -> io::Result<()> {
+    let Ok((table, seat)) = PairTable::make(alloc, 16, 1) else {
+        return println!(rt; "no table");
+    };
+    let gate = OpenGate;
+    let mut works = Works::new(Crew::new(&table, seat, 1, &gate));
+    measure(rt, alloc, &mut works, task, count)
+}
+
+fn main(rt: HostRuntime) -> io::Result<()> {
+    let mut words = std::env::args(&rt)?;
+    let _program = words.next();
+    let task = task_of(words.next());
+    let count = number(words.next());
+    let Some(task) = task else {
+        return println!(rt; "usage: bench_eval TASK COUNT");
+    };
+    if count == 0 || count > MOST {
+        return println!(rt; "usage: bench_eval TASK COUNT");
+    }
+    let alloc = rt.alloc();
+    measure_alone(&rt, alloc, task, count as u32)
+}
