@@ -10,6 +10,9 @@ use rel_model::Quad;
 /// The greatest height of squares that are composed by rows, or by sums of rows.
 pub(crate) const TALLEST: u8 = 13;
 
+/// How many of the sixteen squares two heights below a dense square have a cell, at least.
+const MOST_FILLED: u32 = 12;
+
 /// How many different quads are under a dense square of a height, at least.
 fn least_under(height: u8) -> u32 {
     match height {
@@ -59,6 +62,39 @@ fn may_be_dense(four: (Quad, Quad, Quad, Quad)) -> bool {
     ne.name != 0 || sw.name != 0
 }
 
+/// How many quarters of a quad have a cell; of a block none are counted.
+fn filled_quarters(nodes: &mut Nodes, q: Quad) -> u32
+    requires stands { QuadStands nodes.old q }
+    ensures reads { ReadsQuads nodes.old nodes.new }
+{
+    let bottom = nodes.bottom();
+    if q.name == 0 || q.height == bottom {
+        return 0;
+    }
+    let (nw, ne, sw, se) = nodes.quarters(q);
+    let north = u32::from(nw.name != 0).saturating_add(u32::from(ne.name != 0));
+    let south = u32::from(sw.name != 0).saturating_add(u32::from(se.name != 0));
+    north.saturating_add(south)
+}
+
+/// Whether most of the sixteen quarters of four quads have a cell, as they have in squares of 256 rows that are dense.
+fn are_filled(nodes: &mut Nodes, four: (Quad, Quad, Quad, Quad)) -> bool
+    requires nw { QuadStands nodes.old four.0 }
+    requires ne { QuadStands nodes.old four.1 }
+    requires sw { QuadStands nodes.old four.2 }
+    requires se { QuadStands nodes.old four.3 }
+    ensures reads { ReadsQuads nodes.old nodes.new }
+{
+    let (nw, ne, sw, se) = four;
+    let first = filled_quarters(nodes, nw);
+    let second = filled_quarters(nodes, ne);
+    let third = filled_quarters(nodes, sw);
+    let fourth = filled_quarters(nodes, se);
+    let north = first.saturating_add(second);
+    let south = third.saturating_add(fourth);
+    north.saturating_add(south) >= MOST_FILLED
+}
+
 /// Whether a quad may be dense by its quarters, and has many different quads under it.
 ///
 /// It is a call of its own, so that its array is on the stack once.
@@ -70,6 +106,9 @@ fn is_dense(nodes: &mut Nodes, q: Quad) -> bool
 {
     let four = nodes.quarters(q);
     if !may_be_dense(four) {
+        return false;
+    }
+    if !are_filled(nodes, four) {
         return false;
     }
     let most = least_under(q.height);
