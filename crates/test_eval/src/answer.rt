@@ -5,7 +5,8 @@ ghost use Rattle.rv_eval.specs.Names.{AllStand};
 
 use crate::listed::{Listed, none_of, put as put_pair};
 use crate::made::{pairs_of, told};
-use crate::slow::{Named, evaluated, set};
+use crate::named::{Named, set};
+use crate::slow::evaluated;
 use crate::texts::{
     add, count_text, fault_text, made, pairs_text, parse_text, refusal_text, size_fault,
 };

@@ -1,4 +1,4 @@
-//! Tests of the evaluator over a node table: beside a slow evaluator over lists of pairs, and each refusal with its place.
+//! Tests of the evaluator over a node table: beside a slow evaluator over lists of pairs, and each refusal.
 #![tactic(auto)]
 
 #[cfg(test)]
@@ -9,6 +9,8 @@ mod formulas;
 mod listed;
 #[cfg(test)]
 mod made;
+#[cfg(test)]
+mod named;
 #[cfg(test)]
 mod operators;
 #[cfg(test)]

@@ -1,9 +1,10 @@
 //! The slow evaluator: the meaning of expressions, statements and calls on lists of pairs.
 //!
 //! Each function has so many steps in one another to take, one less than its caller, and ends the test where none is left.
-ghost use Rattle.std.specs.Prelude.{◌≡◌, ◌+◌, ◌<◌, length, IfSome};
+ghost use Rattle.std.specs.Prelude.{◌≡◌, ◌+◌};
 
 use crate::listed::{Listed, copy};
+use crate::named::{Named, find, set};
 use crate::operators::{
     base_call, complement, domain_call, link, pair, spelled, transposed, type_of,
 };
@@ -12,57 +13,6 @@ use lang_model::syntax::{Base, Decl, Expr, Item, Name, Place, Stmt};
 use rv_eval::Refused;
 use std::alloc::Global;
 use std::process::Abort;
-
-/// A name with its value.
-#[derive(Drop)]
-pub(crate) struct Named {
-    name: Vec<u8>,
-    value: Listed,
-}
-
-/// Where a name stands.
-fn place_of(names: &[Named], name: &[u8]) -> Option<usize>
-    ensures { IfSome result (λ place. place < length names.now) }
-{
-    'places: for place in 0..names.len() {
-        if names[place].name.as_slice() == name {
-            return Some(place);
-        }
-    }
-    None
-}
-
-/// Gives a name its value.
-pub(crate) fn set(
-    rt: &impl Abort,
-    alloc: Global,
-    names: &mut Vec<Named>,
-    name: &[u8],
-    value: Listed,
-) {
-    if let Some(place) = place_of(names.as_slice(), name) {
-        names[place].value = value;
-        return;
-    }
-    match Vec::from_slice(alloc, name) {
-        Ok(name) => {
-            if names.push(Named { name, value }).is_err() {
-                panic!(rt; "no memory");
-            }
-        }
-        Err(_) => panic!(rt; "no memory"),
-    }
-}
-
-/// The value of a name.
-fn find<'a>(names: &'a [Named], name: &[u8]) -> Option<&'a Listed> {
-    'names: for named in names {
-        if named.name.as_slice() == name {
-            return Some(&named.value);
-        }
-    }
-    None
-}
 
 /// What a name has no meaning for.
 fn unknown(rt: &impl Abort, alloc: Global, at: Place, name: &[u8]) -> Refused {
