@@ -15,9 +15,10 @@ static uint64_t *words, count;
 static uint64_t made, asked, *kept, room;
 #endif
 
+// the time of the processor, so that what else runs on the machine adds little to it
 static uint64_t now(void) {
     struct timespec time;
-    clock_gettime(CLOCK_MONOTONIC, &time);
+    clock_gettime(CLOCK_PROCESS_CPUTIME_ID, &time);
     return (uint64_t)time.tv_sec * 1000000000ull + (uint64_t)time.tv_nsec;
 }
 
@@ -26,7 +27,8 @@ static void make_table(int bits) {
     count = (1ull << bits) - 2;
     free(words);
     words = malloc(sizeof(uint64_t) << bits);
-    memset(words, 0, sizeof(uint64_t) << bits);
+    for (uint64_t i = 0; i < 1ull << bits; i++)
+        ((volatile uint64_t *)words)[i] = 0; // each page is written here, and not when the first node comes
 }
 
 static uint32_t intern(uint64_t word) {
@@ -362,6 +364,7 @@ int main(int argc, char **argv) {
     uint64_t length = 0, sum = 0, start = now();
     uint8_t *bytes = written(1ull << height, 1ull << height, name, &length);
     uint64_t time = now() - start;
+    (void)time;
     if (!bytes)
         return printf("not written\n"), 0;
     for (uint64_t i = 0; i < length; i++)

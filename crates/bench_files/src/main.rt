@@ -1,6 +1,6 @@
 //! How long relations take to be written as files, to be read back and to be shown: `bench_files BITS TASK HEIGHT PAIRS`, in tables of 2^BITS words, of a relation of 2^HEIGHT rows and columns.
 //!
-//! The tasks are `random`, so many pairs by chance written and read, and `full`, all pairs; `matrix` and `listing` of so many pairs by chance; and `check`, which writes and reads and tells no time.
+//! Times are of the processor, in nanoseconds, so that what else runs on the machine adds little to them. The tasks are `random`, so many pairs by chance written and read, and `full`, all pairs; `matrix` and `listing` of so many pairs by chance; and `check`, which writes and reads and tells no time.
 #![tactic(auto)]
 
 mod chance;
@@ -20,8 +20,7 @@ use rel_model::{Rel, Shape};
 use rv_print::{listing, matrix};
 use std::alloc::Global;
 use std::io;
-use std::rt::Clock;
-use std::time::Instant;
+use std::rt::CpuClock;
 
 /// What is measured.
 #[derive(Clone, Copy, PartialEq, Eq)]
@@ -76,7 +75,7 @@ fn sum_of(bytes: &[u8]) -> u64 {
 }
 
 /// Prints how long a relation takes to be written, or only what was written, and gives the bytes.
-fn measure_writing<R: Print + Clock, E: Engine>(
+fn measure_writing<R: Print + CpuClock, E: Engine>(
     rt: &R,
     alloc: Global,
     engine: &mut E,
@@ -85,9 +84,9 @@ fn measure_writing<R: Print + Clock, E: Engine>(
 ) -> io::Result<Vec<u8>>
     requires { Stands (E.worker engine.old) rel }
 {
-    let start = Instant::now(rt)?;
+    let start = rt.process_cpu_time()?.as_nanos();
     let answer = write_k2(alloc, engine, rel);
-    let time = start.elapsed(rt)?.as_nanos();
+    let time = rt.process_cpu_time()?.as_nanos().saturating_sub(start);
     let Ok(bytes) = answer else {
         println!(rt; "not written")?;
         return Ok(Vec::new(alloc));
@@ -102,16 +101,16 @@ fn measure_writing<R: Print + Clock, E: Engine>(
 }
 
 /// Prints how long a file takes to be read, or only what was read.
-fn measure_reading<R: Print + Clock, E: Engine>(
+fn measure_reading<R: Print + CpuClock, E: Engine>(
     rt: &R,
     alloc: Global,
     engine: &mut E,
     work: Work,
     bytes: &[u8],
 ) -> io::Result<()> {
-    let start = Instant::now(rt)?;
+    let start = rt.process_cpu_time()?.as_nanos();
     let answer = read_k2(alloc, engine, bytes);
-    let time = start.elapsed(rt)?.as_nanos();
+    let time = rt.process_cpu_time()?.as_nanos().saturating_sub(start);
     let Ok(rel) = answer else {
         return println!(rt; "not read");
     };
@@ -122,7 +121,7 @@ fn measure_reading<R: Print + Clock, E: Engine>(
 }
 
 /// Prints how long a matrix or a listing takes.
-fn measure_showing<R: Print + Clock, E: Engine>(
+fn measure_showing<R: Print + CpuClock, E: Engine>(
     rt: &R,
     alloc: Global,
     engine: &mut E,
@@ -131,12 +130,12 @@ fn measure_showing<R: Print + Clock, E: Engine>(
 ) -> io::Result<()>
     requires { Stands (E.worker engine.old) rel }
 {
-    let start = Instant::now(rt)?;
+    let start = rt.process_cpu_time()?.as_nanos();
     let answer = match task {
         Task::Matrix => matrix(alloc, engine, rel),
         _ => listing(alloc, engine, rel),
     };
-    let time = start.elapsed(rt)?.as_nanos();
+    let time = rt.process_cpu_time()?.as_nanos().saturating_sub(start);
     match answer {
         Ok(text) => println!(rt; "show {time} {}", text.len()),
         Err(_) => println!(rt; "not shown"),
@@ -144,7 +143,7 @@ fn measure_showing<R: Print + Clock, E: Engine>(
 }
 
 /// Builds the relation of a task in a table of its own and writes or shows it, and gives the bytes that were written.
-fn first_table<R: Print + Clock>(
+fn first_table<R: Print + CpuClock>(
     rt: &R,
     alloc: Global,
     bits: u32,
@@ -175,7 +174,7 @@ fn first_table<R: Print + Clock>(
 }
 
 /// Reads a file into a table of its own, and once more where its nodes stand.
-fn second_table<R: Print + Clock>(
+fn second_table<R: Print + CpuClock>(
     rt: &R,
     alloc: Global,
     bits: u32,
