@@ -6,3 +6,4 @@ pub mod Lawful
 pub mod Joining
 pub mod Sharing
 pub mod Collecting
+pub mod Alone

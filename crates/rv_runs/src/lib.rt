@@ -2,9 +2,11 @@
 #![tactic(auto)]
 
 mod ended;
+mod law;
 mod page;
 mod together;
 mod work;
 
 pub use ended::Ended;
+pub use law::one_script_runs_alone;
 pub use together::run_all;
