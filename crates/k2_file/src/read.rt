@@ -22,7 +22,8 @@ pub(crate) struct Listed {
     pub(crate) pairs: Vec<(u32, u32)>,
 }
 
-/// The relation of a file's bytes, in time linear in its bits but for a sort of its pairs, or the first of the tests that they fail.
+/// The relation of a file's bytes, in time linear in its bits but for a sort of its pairs, or the first of the tests
+/// that they fail.
 ///
 /// A file that fails a test asks no node of the engine.
 pub fn read_k2<E: Engine>(alloc: Global, engine: &mut E, bytes: &[u8]) -> Result<Rel, BadFile>

@@ -11,8 +11,8 @@ use Rattle.run_model.specs.Solo.{solo, Suffices}
 use Rattle.rv_sessions.specs.declared.transcript.Loaded.{Loaded}
 use Rattle.rv_runs.specs.Runs.{input_with, CameTo}
 
--- The outcomes, and the events without the roots of their relations, are those that the script alone decides; and page and
--- files are those of these outcomes, with any history of these events.
+-- The outcomes, and the events without the roots of their relations, are those that the script alone decides; and
+-- page and files are those of these outcomes, with any history of these events.
 pub record IsSolo (input : Input) (reading : Reading) (history : List Event) (outcomes : List (List Outcome))
     (shown : List ℕ) (files : List SavedFile) : Type 0 where
   pub outcomes_told : outcomes ≡ (solo input reading).outcomes ∷ []
@@ -36,7 +36,8 @@ AllSuffice = AllByRecursion (AllByRecursion Suffices)
 -- what a run of one script came to, where neither nodes nor memory ran out, is what the script alone decides
 abbrev pub OneScriptRunsAlone : Type 0
 OneScriptRunsAlone =
-    (leaf : ℕ) (bytes : List ℕ) (files : List Loaded) (turns : ℕ) (asked : Bool) (old new : Worker) (history : List Event)
+    (leaf : ℕ) (bytes : List ℕ) (files : List Loaded) (turns : ℕ) (asked : Bool) (old new : Worker)
+    (history : List Event)
     (outcomes : List (List Outcome)) (shown : List ℕ) (saved : List SavedFile)
     → CameTo leaf (bytes ∷ []) files turns asked old new history outcomes shown saved → AllSuffice outcomes
     → RanAlone bytes files turns asked history outcomes shown saved

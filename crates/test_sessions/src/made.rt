@@ -1,5 +1,5 @@
 //! What scripts come to over a node table: one of them as a session over a book of its own, or all at once.
-ghost use Rattle.std.specs.Prelude.{◌≡◌, ◌≤◌, ◌^◌, length, vec_len, All, IsTrue};
+ghost use Rattle.std.specs.Prelude.{◌≡◌, ◌≤◌, ◌^◌, length, All, IsTrue};
 
 use fork_quads::{Crew, OpenGate};
 use pair_table::PairTable;
@@ -124,10 +124,10 @@ pub(crate) fn scripts_of(alloc: Global, texts: &[&str]) -> Result<Vec<Vec<u8>>, 
 
 /// Whether no script passes the limit.
 fn are_short(scripts: &[Vec<u8>]) -> bool
-    ensures { IsTrue result → All (λ v. vec_len v ≤ 2 ^ 20) scripts.now }
+    ensures { IsTrue result → All (λ v. length v.items ≤ 2 ^ 20) scripts.now }
 {
     'scripts: for i in 0..scripts.len() {
-        if scripts[i].len() > SCRIPT_LIMIT {
+        if scripts[i].as_slice().len() > SCRIPT_LIMIT {
             return false;
         }
     }
@@ -238,7 +238,16 @@ pub(crate) fn run_at_once<R: Threads + Wait + Abort + Sync>(
     };
     let gate = OpenGate;
     let works = Works::new(Crew::new(&table, seat, options.workers, &gate));
-    let Ok(ended) = run_all(rt, alloc, scripts, files, options.turns, history, works) else {
+    let Ok(ended) = run_all(
+        rt,
+        alloc,
+        scripts,
+        files,
+        options.turns,
+        history,
+        &gate,
+        works,
+    ) else {
         panic!(rt; "no memory")
     };
     let Ended {
