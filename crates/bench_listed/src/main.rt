@@ -5,9 +5,11 @@ mod listing;
 
 ghost use Rattle.std.specs.Prelude.{◌≤◌, ◌^◌, length, IfSome};
 ghost use Rattle.rel_model.specs.Worker.{Stands, Keeps};
+ghost use Rattle.lang_model.specs.Limits.{script_limit};
 
 use crate::listing::listed_pairs;
 use fork_quads::{Crew, OpenGate};
+use lang_model::limits::SCRIPT_LIMIT;
 use lang_model::syntax::{Command, Item};
 use pair_table::PairTable;
 use rel_engine::Works;
@@ -18,9 +20,6 @@ use rv_io::{FileShelf, read_all};
 use rv_parse::parse;
 use std::alloc::Global;
 use std::io;
-
-/// The most bytes of a script.
-const SCRIPT_LIMIT: u64 = 1_048_576;
 
 /// The bits of the program's table.
 const TABLE_BITS: u32 = 20;
@@ -82,7 +81,7 @@ fn counts<E: Engine>(alloc: Global, engine: &mut E, items: &[Item]) -> Option<(u
 
 /// The counts of a script over a table of its own.
 fn counted(alloc: Global, script: &[u8]) -> Option<(u64, u64)>
-    requires { length script.now ≤ 2 ^ 20 }
+    requires { length script.now ≤ script_limit }
 {
     let Ok(script) = parse(alloc, script) else {
         return None;
@@ -103,7 +102,7 @@ fn main(rt: HostRuntime) -> io::Result<()> {
         return println!(rt; "usage: bench_listed FILE");
     };
     let mut shelf = FileShelf::new(alloc, rt);
-    let Ok(script) = read_all(alloc, &mut shelf, name.as_str(), SCRIPT_LIMIT) else {
+    let Ok(script) = read_all(alloc, &mut shelf, name.as_str(), SCRIPT_LIMIT as u64) else {
         return println!(rt; "bench_listed: cannot read");
     };
     match counted(alloc, script.as_slice()) {

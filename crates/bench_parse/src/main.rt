@@ -1,14 +1,12 @@
 //! How long `parse` takes: `bench_parse SHAPE COUNT`, over one chain of so many names, one relation of so many rows, or so many items.
 #![tactic(auto)]
 
+use lang_model::limits::SCRIPT_LIMIT;
 use rv_parse::parse;
 use std::alloc::Global;
 use std::io;
 use std::rt::Clock;
 use std::time::Instant;
-
-/// The greatest length of a script in bytes.
-const SCRIPT_LIMIT: usize = 1_048_576;
 
 /// How a script begins, the part that it repeats, and how it ends.
 #[derive(Clone, Copy)]

@@ -6,7 +6,7 @@ ghost use Rattle.fork_quads.specs.Crew.{root_quad, named_as, told_as};
 
 use pair_table::Missed;
 use quad_nodes::side_of_height;
-use rel_model::{Lack, Quad, Rel};
+use rel_model::{Lack, Quad, Rel, TOP_HEIGHT};
 
 /// The height of the tree of a relation: the least from the leaves' on whose side is at least both sizes.
 pub(crate) fn height_of_tree(rows: u32, cols: u32) -> u8
@@ -15,12 +15,12 @@ pub(crate) fn height_of_tree(rows: u32, cols: u32) -> u8
     ensures { result ≡ tree_height rows cols }
 {
     let most = rows.max(cols);
-    'heights: for height in 3..24 {
+    'heights: for height in 3..TOP_HEIGHT {
         if most <= side_of_height(height) {
             return height;
         }
     }
-    24
+    TOP_HEIGHT
 }
 
 /// The quad of the root of a relation.

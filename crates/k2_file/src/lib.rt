@@ -19,7 +19,7 @@ mod windows;
 mod write;
 
 pub use laws::files_laws;
-pub use limits::{HEADER, SAVE_LIMIT};
+pub use limits::HEADER;
 pub use read::read_k2;
 pub use refused::WriteRefused;
 pub use write::write_k2;

@@ -7,7 +7,6 @@ ghost use Rattle.run_model.specs.Files.{k2, bits_count};
 ghost use Rattle.k2_file.specs.Writing.{IsTooLong, header_bytes};
 
 use crate::counting::count_bits;
-use crate::limits::SAVE_LIMIT;
 use crate::packing::push_packed;
 use crate::refused::WriteRefused;
 use crate::sides::height_of_file;
@@ -15,6 +14,7 @@ use crate::walk::tree_bits;
 use byteorder::{BigEndian, ByteOrder};
 use rel_model::Rel;
 use rel_model::engine_trait::Engine;
+use run_model::limits::SAVE_LIMIT;
 use std::alloc::{AllocError, Global};
 
 /// `RVK1`, the sizes, the height, the numbers of bits, and the bits of a relation's tree, level by level.

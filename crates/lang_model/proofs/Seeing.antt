@@ -22,7 +22,7 @@ use Rattle.lang_model.specs.declared.syntax.Expr.{
 use Rattle.lang_model.specs.declared.faults.StaticShape.{StaticShape}
 use Rattle.rel_model.specs.Relation.{Relation}
 use Rattle.lang_model.specs.State.{State}
-use Rattle.lang_model.specs.Checking.{rank_limit}
+use Rattle.lang_model.specs.Limits.{rank_limit}
 use Rattle.lang_model.specs.Missing.{missing, missing_in, missing_along, first_of_both}
 use Rattle.lang_model.specs.Outcomes.{and_then, with_turns}
 use Rattle.lang_model.specs.Types.{Fits, Typed, sizes, typed_link, typed_pair, type_turned_by}

@@ -9,7 +9,7 @@ use Rattle.lang_model.specs.declared.faults.StaticShape.{StaticShape}
 use Rattle.lang_model.specs.declared.faults.TypeFault.TheVariants.{Arity}
 use Rattle.rel_model.specs.Relation.{Relation}
 use Rattle.lang_model.specs.State.{State, nothing, assigned}
-use Rattle.lang_model.specs.Checking.{rank_limit}
+use Rattle.lang_model.specs.Limits.{rank_limit}
 use Rattle.lang_model.specs.Tokens.{same_text}
 use Rattle.lang_model.specs.Outcomes.{Ill, Answer, Got, Not, refused, following}
 use Rattle.lang_model.specs.Types.{Passed, Fits, Misfit}

@@ -116,10 +116,6 @@ abbrev mutual
       ++ faults_along scope assigned rest
 
 -- ---- ranks
--- the greatest rank of a definition
-abbrev pub rank_limit : ℕ
-rank_limit = 16
-
 -- the rank of the definition of a name, or 0 where there is none
 abbrev pub rank_named : List Known → List ℕ → ℕ
 rank_named earlier name = option_map_or (λ d. d.rank) (definition_of earlier name) 0

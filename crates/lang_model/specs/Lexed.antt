@@ -1,6 +1,7 @@
 -- The tokens with which a text begins, up to its end or to the first byte, number, word or file text that is no token.
 use Rattle.std.specs.Prelude.{◌==◌, ◌&&◌, ◌-◌, not, nat_lt, ℕ, Bool, cond, List, [], ◌∷◌, drop, zero, suc}
 use Rattle.std.specs.Option.{option_map_or}
+use Rattle.lang_model.specs.Limits.{file_text_limit}
 use Rattle.lang_model.specs.declared.syntax.Place.{Place}
 use Rattle.lang_model.specs.declared.faults.ParseFault.{ParseFault}
 use Rattle.lang_model.specs.declared.faults.ParseFault.TheVariants.{Byte, Expected, NumberTooLarge, NameTooLong}
@@ -23,7 +24,7 @@ pub record Lexed : Type 0 where
 abbrev pub is_comment_byte : ℕ → Bool
 is_comment_byte b = is_allowed b && not (b == 10)
 
--- The fault of a file text of at most 255 bytes, by the bytes behind these: its end is missing, it is empty, or a
+-- The fault of a file text within its limit, by the bytes behind these: its end is missing, it is empty, or a
 -- byte in it is not allowed.
 abbrev pub text_fault : Place → Place → List ℕ → ParseFault
 text_fault quote there [] = Expected there (TOKEN (34 ∷ []))
@@ -33,7 +34,7 @@ text_fault quote there (b ∷ bs) = cond (b == 34) (Expected quote FileText)
 -- the fault of a file text that is none, by the place of its first quote and the bytes behind it
 unfoldable pub file_fault : Place → List ℕ → ParseFault
 file_fault quote bs =
-    let n = run_length is_file_byte bs in cond (nat_lt 255 n) (NameTooLong quote)
+    let n = run_length is_file_byte bs in cond (nat_lt file_text_limit n) (NameTooLong quote)
     (text_fault quote (behind_all n (behind 34 quote) bs) (drop n bs))
 
 -- the fault of a byte that begins no token, with the bytes behind it

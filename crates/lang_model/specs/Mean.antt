@@ -24,7 +24,8 @@ use Rattle.rel_model.specs.Closures.{transitive_closure, reflexive_closure}
 use Rattle.rel_model.specs.Domains.{first_projection, second_projection, left_injection, right_injection, membership, pairing}
 use Rattle.rel_model.specs.Worker.{derived_room, wide_room}
 use Rattle.lang_model.specs.State.{State, nothing, assigned}
-use Rattle.lang_model.specs.Checking.{rank_limit, domain_operator_text}
+use Rattle.lang_model.specs.Checking.{domain_operator_text}
+use Rattle.lang_model.specs.Limits.{rank_limit}
 use Rattle.lang_model.specs.Tokens.{same_text}
 use Rattle.lang_model.specs.Defining.{defines}
 use Rattle.lang_model.specs.Rooms.{tree_cost, link_cost}

@@ -11,7 +11,8 @@ use Rattle.lang_model.specs.declared.syntax.Item.TheVariants.{Function, Program,
 use Rattle.lang_model.specs.declared.syntax.Script.{Script}
 use Rattle.lang_model.specs.declared.faults.TypeFault.TheVariants.{Unknown, Arity, Rank, Mismatch}
 use Rattle.lang_model.specs.declared.faults.StaticShape.{StaticShape}
-use Rattle.lang_model.specs.Checking.{rank_limit, domain_operator_text}
+use Rattle.lang_model.specs.Checking.{domain_operator_text}
+use Rattle.lang_model.specs.Limits.{rank_limit}
 use Rattle.lang_model.specs.Tokens.{same_text}
 use Rattle.lang_model.specs.Types.{known, Passed, Fits, Misfit, Typed, typed_link, typed_pair, type_turned_by, typed_base, typed_base_of_two, type_of_domain, typed_test}
 use Rattle.lang_model.specs.Mean.{domain_named, item_named, takes_arguments}

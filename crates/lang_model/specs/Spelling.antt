@@ -26,7 +26,8 @@ use Rattle.lang_model.specs.declared.token.Kind.{Kind}
 use Rattle.lang_model.specs.declared.token.Kind.TheVariants.{Keyword, Base as BASE, Word, Number, File, Sign}
 use Rattle.lang_model.specs.declared.token.Token.{Token}
 use Rattle.lang_model.specs.Tokens.{tokens_of}
-use Rattle.lang_model.specs.Taken.{nesting_limit, TakesAt, Takes, Carets}
+use Rattle.lang_model.specs.Taken.{TakesAt, Takes, Carets}
+use Rattle.lang_model.specs.Limits.{nesting_limit, more_limit}
 
 -- ---- listed relations
 -- { "," NUMBER }, each at least 1
@@ -112,7 +113,7 @@ mutual
     called : (d : ℕ) (at : Place) (text : List ℕ) (args : Vec Expr Global) (first : Expr) (more : List Expr)
         (tokens t1 t2 t3 t4 rest : List Token) → d < nesting_limit → args.items ≡ first ∷ more
         → TakesAt at (Word text) tokens t1 → Takes (Sign 40) t1 t2 → Spelled OrLevel (suc d) first t2 t3
-        → Listed 15 (suc d) more t3 t4 → Takes (Sign 41) t4 rest
+        → Listed more_limit (suc d) more t3 t4 → Takes (Sign 41) t4 rest
         → Spelled PrimLevel d (Call at text args) tokens rest
     based : (d : ℕ) (at : Place) (base : Base) (args : Vec Expr Global) (e : Expr) (tokens t1 t2 t3 rest : List Token)
         → d < nesting_limit → form_of base ≡ TakesOne → args.items ≡ e ∷ []
@@ -200,10 +201,10 @@ SpellsMoreNames [] tokens rest = rest ≡ tokens
 SpellsMoreNames (name ∷ names) tokens rest = (mid after : List Token) × Takes (Sign 44) tokens mid
     × Takes (Word name) mid after × SpellsMoreNames names after rest
 
--- NAME { "," NAME }, at most 16 names
+-- NAME { "," NAME }, with a bound on the names behind the first
 abbrev pub SpellsParams : List (List ℕ) → List Token → List Token → Type 0
 SpellsParams [] tokens rest = ⊥
-SpellsParams (name ∷ names) tokens rest = (mid : List Token) × Takes (Word name) tokens mid × (length names ≤ 15)
+SpellsParams (name ∷ names) tokens rest = (mid : List Token) × Takes (Word name) tokens mid × (length names ≤ more_limit)
     × SpellsMoreNames names mid rest
 
 -- the keyword of a sum or a product

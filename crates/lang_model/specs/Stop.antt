@@ -11,7 +11,7 @@ use Rattle.lang_model.specs.declared.token.Keyword.TheVariants.{Rel as REL, Let 
 use Rattle.lang_model.specs.declared.token.Kind.{Kind}
 use Rattle.lang_model.specs.declared.token.Kind.TheVariants.{Keyword as KEYWORD, Base as BASE, Word, Number, File, Sign}
 use Rattle.lang_model.specs.declared.token.Token.{Token}
-use Rattle.lang_model.specs.Taken.{nesting_limit}
+use Rattle.lang_model.specs.Limits.{nesting_limit, more_limit}
 use Rattle.lang_model.specs.Spelling.{Level, OrLevel, AndLevel, ProdLevel, UnaryLevel, PostLevel, PrimLevel, tighter, Form, TakesOne, TakesTwo, TakesDomain, form_of}
 use Rattle.lang_model.specs.Lexed.{Ending, EndsAt, Broken, lexed_of}
 
@@ -163,7 +163,7 @@ command_step _ = NotBegun
 
 -- an item, by its first token
 abbrev pub item_step : Kind → Step
-item_step (Word name) = Behind (SignPart 40 ∷ NamePart ∷ MoreParams 15 ∷ SignPart 41 ∷ BodyPart ∷ [])
+item_step (Word name) = Behind (SignPart 40 ∷ NamePart ∷ MoreParams more_limit ∷ SignPart 41 ∷ BodyPart ∷ [])
 item_step (KEYWORD keyword) = command_step keyword
 item_step _ = NotBegun
 
@@ -214,7 +214,7 @@ entered (WordPart word) kind = where_it (is_word word kind) []
 entered (OpenPart d) kind = cond (is_sign 40 kind) (opening d []) NotBegun
 entered (ExprPart l d) kind = expr_step l d kind
 entered (CallPart d) kind = cond (is_sign 40 kind) (opening d
-    (ExprPart OrLevel (suc d) ∷ MoreArgs 15 (suc d) ∷ SignPart 41 ∷ [])) NotBegun
+    (ExprPart OrLevel (suc d) ∷ MoreArgs more_limit (suc d) ∷ SignPart 41 ∷ [])) NotBegun
 entered (MoreArgs zero d) kind = NotBegun
 entered (MoreArgs (suc n) d) kind = where_it (is_sign 44 kind) (ExprPart OrLevel d ∷ MoreArgs n d ∷ [])
 entered MoreCarets kind = where_it (is_sign 94 kind) (MoreCarets ∷ [])

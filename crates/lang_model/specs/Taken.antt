@@ -6,10 +6,6 @@ use Rattle.lang_model.specs.declared.token.Kind.{Kind}
 use Rattle.lang_model.specs.declared.token.Kind.TheVariants.{Sign}
 use Rattle.lang_model.specs.declared.token.Token.{Token}
 
--- how many constructs may be open at once
-abbrev pub nesting_limit : ℕ
-nesting_limit = 40
-
 -- the first token is of this kind and stands there
 abbrev pub TakesAt : Place → Kind → List Token → List Token → Type 0
 TakesAt at kind tokens rest = tokens ≡ record { at = at; kind = kind } ∷ rest

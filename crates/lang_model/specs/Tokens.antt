@@ -3,6 +3,7 @@ use Rattle.std.specs.Prelude.{◌==◌, ◌&&◌, ◌||◌, ◌+◌, ◌-◌, �
 use Rattle.std.specs.List.{list_any, list_all}
 use Rattle.std.specs.Option.{option_map_or}
 use lib.Pointwise.{pointwise}
+use Rattle.lang_model.specs.Limits.{name_limit, file_text_limit}
 use Rattle.lang_model.specs.declared.syntax.Place.{Place}
 use Rattle.lang_model.specs.declared.syntax.Base.TheVariants.{L, O, I, Ln1, On1, L1n, O1n, Dom, Ran, Trans, Refl, Epsi, Point, Atom, Init, Next, Inj, Empty, Unival, Syq, Eq, Incl, P1, P2, I1, I2}
 use Rattle.lang_model.specs.declared.token.Keyword.TheVariants.{Rel as REL, Let as LET, Print as PRINT, List as LIST, Count as COUNT, «Type» as TYPE, Drop as DROP, Snap as SNAP, At as AT, Load as LOAD, Save as SAVE, Decl as DECL, Prod as PROD, Sum as SUM, Beg as BEG, End as END, Return as RETURN, While as WHILE, Do as DO, Od as OD, If as IF, Then as THEN, Else as ELSE, Fi as FI}
@@ -106,11 +107,11 @@ abbrev pub begins_with_quote : List ℕ → Bool
 begins_with_quote [] = false
 begins_with_quote (b ∷ bs) = b == 34
 
--- a file text of 1 to 255 bytes, whose bytes and last quote stand behind its first quote
+-- a file text within its limit, whose bytes and last quote stand behind its first quote
 unfoldable pub file_at : List ℕ → Option (Kind × ℕ)
 file_at bs =
     let n = run_length is_file_byte bs in
-    cond ((nat_le 1 n && nat_le n 255) && begins_with_quote (drop n bs)) (Some (File (take n bs), n + 2)) None
+    cond ((nat_le 1 n && nat_le n file_text_limit) && begins_with_quote (drop n bs)) (Some (File (take n bs), n + 2)) None
 
 -- the token that begins these bytes, and how many it has
 unfoldable pub kind_at : List ℕ → Option (Kind × ℕ)
@@ -120,7 +121,7 @@ kind_at (b ∷ bs) =
     let digits = run_length is_digit (b ∷ bs) in
     let value = value_from 0 (take digits (b ∷ bs)) in
     cond (is_letter b) (option_map_or (λ kind. Some (kind, 3)) (domain_operator_at (b ∷ bs))
-    (cond (nat_le word 64) (Some (word_kind (take word (b ∷ bs)), word)) None))
+    (cond (nat_le word name_limit) (Some (word_kind (take word (b ∷ bs)), word)) None))
     (cond (is_digit b) (cond (nat_lt value (2 ^ 64)) (Some (Number value, digits)) None)
     (cond (b == 34) (file_at bs) (cond (is_sign_byte b) (Some (Sign b, 1)) None)))
 

@@ -1,7 +1,23 @@
 //! Laws of the language, each a function that does nothing.
+ghost use Rattle.std.specs.Prelude.{◌≡◌, ◌+◌};
+ghost use Rattle.lang_model.specs.Limits.{script_limit, name_limit, file_text_limit, nesting_limit, more_limit, rank_limit};
 ghost use Rattle.lang_model.specs.Eval.{EvaluatedByNames};
 ghost use Rattle.lang_model.specs.Laws.{StateLaws};
 ghost use Rattle.lang_model.specs.Sound.{StaticSizesHold};
+
+use crate::limits::{
+    FILE_TEXT_LIMIT, NAME_LIMIT, NESTING_LIMIT, PARAMETER_LIMIT, RANK_LIMIT, SCRIPT_LIMIT,
+};
+
+/// Each limit of a text is one number in the code and in the definitions.
+pub fn one_limit_each()
+    ensures script { SCRIPT_LIMIT ≡ script_limit }
+    ensures name { NAME_LIMIT ≡ name_limit }
+    ensures file_text { FILE_TEXT_LIMIT ≡ file_text_limit }
+    ensures nesting { NESTING_LIMIT ≡ nesting_limit }
+    ensures parameters { PARAMETER_LIMIT ≡ more_limit + 1 }
+    ensures rank { RANK_LIMIT ≡ rank_limit }
+{}
 
 /// A name that is assigned has that relation, one that is taken away has none, and all others stay.
 pub fn laws_of_the_workspace()

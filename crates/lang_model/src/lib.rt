@@ -3,6 +3,7 @@
 
 pub mod faults;
 pub mod laws;
+pub mod limits;
 pub mod syntax;
 #[cfg(test)]
 mod tests;

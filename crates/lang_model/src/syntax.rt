@@ -1,5 +1,6 @@
 //! Scripts as trees. Each place is that of the name, number or sign beside it.
 ghost use Rattle.std.specs.Prelude.{◌≡◌, ◌≤◌, length, IfOk};
+ghost use Rattle.lang_model.specs.Limits.{name_limit, file_text_limit};
 
 use rel_model::NoMemory;
 use std::alloc::Global;
@@ -20,18 +21,19 @@ pub struct Name {
 
 impl Model for Name {
     ghost use Rattle.std.specs.Prelude.{List, ℕ, length, ◌≤◌};
+    ghost use Rattle.lang_model.specs.Limits.{name_limit};
 
     ghost Value = { List ℕ };
 
     ghost view = { λ n. n.bytes.items };
 
-    ghost invariant = { λ n. (1 ≤ length n.bytes.items) × (length n.bytes.items ≤ 64) };
+    ghost invariant = { λ n. (1 ≤ length n.bytes.items) × (length n.bytes.items ≤ name_limit) };
 }
 
 impl Name {
     /// The name with these bytes.
     pub fn new(alloc: Global, bytes: &[u8]) -> Result<Name, NoMemory>
-        requires { (1 ≤ length bytes.now) × (length bytes.now ≤ 64) }
+        requires { (1 ≤ length bytes.now) × (length bytes.now ≤ name_limit) }
         ensures { IfOk result (λ n. n ≡ bytes.now) }
     {
         let bytes = Vec::from_slice(alloc, bytes)?;
@@ -61,18 +63,19 @@ pub struct FileText {
 
 impl Model for FileText {
     ghost use Rattle.std.specs.Prelude.{List, ℕ, length, ◌≤◌};
+    ghost use Rattle.lang_model.specs.Limits.{file_text_limit};
 
     ghost Value = { List ℕ };
 
     ghost view = { λ n. n.bytes.items };
 
-    ghost invariant = { λ n. (1 ≤ length n.bytes.items) × (length n.bytes.items ≤ 255) };
+    ghost invariant = { λ n. (1 ≤ length n.bytes.items) × (length n.bytes.items ≤ file_text_limit) };
 }
 
 impl FileText {
     /// The text with these bytes.
     pub fn new(alloc: Global, bytes: &[u8]) -> Result<FileText, NoMemory>
-        requires { (1 ≤ length bytes.now) × (length bytes.now ≤ 255) }
+        requires { (1 ≤ length bytes.now) × (length bytes.now ≤ file_text_limit) }
         ensures { IfOk result (λ n. n ≡ bytes.now) }
     {
         let bytes = Vec::from_slice(alloc, bytes)?;

@@ -19,7 +19,7 @@ pub record IsTable (id : TableId) (key : Size) (count bits seats : ℕ) : Type 0
   pub key_is : key ≡ record { bits = bits; seats = seats }
   pub count_is : count + 2 ≡ 2 ^ bits
   pub few_bits : bits ≤ most_bits
-  pub small : count + 2 ≤ 2 ^ 24
+  pub small : count + 2 ≤ 2 ^ most_bits
   pub not_none : 0 < count
 
 -- a seat stands for itself and its spare seats, and its names are canonical

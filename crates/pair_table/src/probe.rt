@@ -33,7 +33,7 @@ pub fn intern_word(
     requires bits { 2 ^ bits ≡ count + 2 }
     requires few { bits ≤ most_bits }
     requires size { length seat.old.me.0.words ≡ count + 2 }
-    requires small { count + 2 ≤ 2 ^ 24 }
+    requires small { count + 2 ≤ 2 ^ most_bits }
     requires not_none { 0 < count }
     requires canonical { IsDistinct seat.old.me.0.words }
     requires some { word ≢ 0 }

@@ -1,6 +1,6 @@
 //! Each kind of atomic step of a table, under its rule.
 ghost use Rattle.std.specs.Prelude.{◌≡◌, ◌≢◌, ◌<◌, ◌≤◌, ◌^◌, ◌+◌, [], length};
-ghost use Rattle.rel_model.specs.Words.{IsDistinct};
+ghost use Rattle.rel_model.specs.Words.{IsDistinct, most_bits};
 ghost use Rattle.rel_model.specs.Equations.{IsMemo, memo_slots};
 ghost use Rattle.pair_table.specs.Probe.{IsNext};
 ghost use Rattle.pair_table.specs.Tells.{SeesWord, TriesWord, SeesMemo, StoresMemo, IsLeft, IsRight, IsBoth};
@@ -56,7 +56,7 @@ pub fn load_memo(
     requires live { seat.old.me.0.parts ≢ 0 }
     requires room { table.now.table_id.words ≡ 2 ^ table.now.key.bits + memo_slots }
     requires size { size ≡ 2 ^ table.now.key.bits }
-    requires small { size ≤ 2 ^ 24 }
+    requires small { size ≤ 2 ^ most_bits }
     requires seen { length seat.old.me.0.words ≡ size }
     requires slot { slot < memo_slots }
     ensures sees { SeesMemo slot result seat.old.me.0 seat.new.me.0 }
@@ -78,7 +78,7 @@ pub fn store_memo(
     requires live { seat.old.me.0.parts ≢ 0 }
     requires room { table.now.table_id.words ≡ 2 ^ table.now.key.bits + memo_slots }
     requires size { size ≡ 2 ^ table.now.key.bits }
-    requires small { size ≤ 2 ^ 24 }
+    requires small { size ≤ 2 ^ most_bits }
     requires seen { length seat.old.me.0.words ≡ size }
     requires slot { slot < memo_slots }
     requires canonical { IsDistinct seat.old.me.0.words }

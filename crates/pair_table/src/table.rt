@@ -1,6 +1,7 @@
 //! The table whose words any number of seats share, by single atomic steps.
 ghost use Rattle.std.specs.Prelude.{◌≡◌, ◌≢◌, ◌<◌, ◌≤◌, ◌+◌, ◌-◌, ◌*◌, ◌/◌, ◌%◌, ◌^◌, slice_index, IfOk};
 ghost use Rattle.std.specs.Mem.Slots.{slots_items, slots_len, IsFull};
+ghost use Rattle.rel_model.specs.Words.{most_bits};
 ghost use Rattle.rel_model.specs.Trees.{first_of, second_of};
 ghost use Rattle.rel_model.specs.Equations.{IsMemo, memo_slots};
 ghost use Rattle.rel_model.specs.Views.{Table, View, IsOf, IsKnown, Reads, IsFresh, Interns, Loads, Splits, Joins, IsClosed};
@@ -228,7 +229,7 @@ fn size_of_bits(bits: u32) -> usize
     requires high { bits ≤ MOST_BITS }
     ensures size { result ≡ 2 ^ bits }
     ensures large { 2 ≤ result }
-    ensures small { result ≤ 2 ^ 24 }
+    ensures small { result ≤ 2 ^ most_bits }
 {
     1 << bits
 }

@@ -1,12 +1,13 @@
 //! Lines of a leaf, which lies in one word.
 ghost use Rattle.std.specs.Prelude.{◌≡◌, ◌<◌, ◌≤◌, ◌&&◌, ◌^◌};
+ghost use Rattle.rel_model.specs.Relation.{size_height};
 ghost use Rattle.rel_model.specs.Cells.{bits_cells, some_below};
 ghost use Rattle.rel_choice.specs.Leasts.{IsLeast, row_meets};
 ghost use Rattle.rel_choice.specs.Lines.{passes_twice, single_rows, rows_apart};
 
 /// The side of a square of a height.
 pub(crate) fn side_of(height: u8) -> u32
-    requires { height ≤ 24 }
+    requires { height ≤ size_height }
     ensures { result ≡ 2 ^ height }
 {
     1u32 << height

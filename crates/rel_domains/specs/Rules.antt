@@ -1,7 +1,7 @@
 -- Sets of cells by a rule on a row and a column, and their squares.
 use Rattle.std.specs.Prelude.{◌==◌, ◌<◌, ◌≤◌, ◌+◌, ◌/◌, ◌%◌, ◌&&◌, nat_lt, ℕ, Bool}
 use Rattle.std.specs.Int.{bit_at}
-use Rattle.rel_model.specs.Relation.{size_limit}
+use Rattle.rel_model.specs.Relation.{size_limit, size_height}
 use Rattle.rel_model.specs.Cells.{Cells}
 use Rattle.rel_domains.specs.declared.rule.Rule.{Rule}
 use Rattle.rel_domains.specs.declared.rule.Rule.TheVariants.{Shift, Quotient, Remainder, Member}
@@ -19,7 +19,7 @@ abbrev pub IsRule : ℕ → Rule → Type 0
 IsRule rows (Shift by) = by ≤ size_limit
 IsRule rows (Quotient by) = 0 < by
 IsRule rows (Remainder by) = (0 < by) × (by ≤ size_limit)
-IsRule rows Member = rows ≤ 24
+IsRule rows Member = rows ≤ size_height
 
 -- the cells that pass a rule, within so many rows and columns
 abbrev pub rule_cells : ℕ → ℕ → Rule → Cells

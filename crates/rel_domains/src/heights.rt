@@ -5,8 +5,7 @@ ghost use Rattle.rel_model.specs.Trees.{top_height};
 ghost use Rattle.rel_model.specs.Worker.{height_of};
 ghost use Rattle.rel_model.specs.Roots.{height_over};
 
-/// The greatest height of a square.
-const TOP: u8 = 24;
+use rel_model::TOP_HEIGHT;
 
 /// The side of a square of a height.
 pub fn side_of(height: u8) -> u32
@@ -32,7 +31,7 @@ fn height_of(size: u32) -> u8
     ensures limit { result ≤ top_height }
 {
     let mut height = 0;
-    'powers: for k in 0..TOP {
+    'powers: for k in 0..TOP_HEIGHT {
         if side_of(k) < size {
             height += 1;
         }

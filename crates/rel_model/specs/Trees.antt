@@ -2,6 +2,7 @@
 -- The depth of a level is how many pairings it stands above the blocks of 8 by 8: level l of the trees is depth l -
 -- 6, and a square of side 2 ^ h is at depth 2 * (h - 3).
 use Rattle.std.specs.Prelude.{◌==◌, ◌+◌, ◌-◌, ◌/◌, ◌%◌, ◌^◌, ◌&&◌, ◌||◌, not, nat_lt, cond, zero, suc, ℕ, Bool, true, List, slice_index}
+use Rattle.rel_model.specs.Relation.{size_height}
 use Rattle.rel_model.specs.Cells.{Cells, block_cells}
 
 -- the height of a block: squares of side 2 ^ 3 are the leaves
@@ -10,7 +11,7 @@ bottom_height = 3
 
 -- the greatest height of a square
 unfoldable pub top_height : ℕ
-top_height = 24
+top_height = size_height
 
 -- the first name of a pair
 abbrev pub first_of : ℕ → ℕ

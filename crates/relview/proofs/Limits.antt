@@ -13,7 +13,8 @@ use Rattle.rv_words.specs.Uses.{Word}
 use Rattle.rv_words.specs.Said.{is_relation_word, scripts_in}
 use Rattle.rv_io.specs.Outside.{Files}
 use Rattle.rv_generate.specs.Generator.{generated, scripts_from, script_text, rows_text, row_of, row_text, closure_text, counts_text, draw, value_of, after}
-use Rattle.relview.specs.Given.{limit_of, script_limit, relation_limit, IsTaken, AreTaken}
+use Rattle.lang_model.specs.Limits.{script_limit}
+use Rattle.relview.specs.Given.{limit_of, relation_limit, IsTaken, AreTaken}
 
 -- ---- scripts that were read
 -- a script in a vector, within the limit

@@ -1,6 +1,7 @@
 -- What the words of the command line and the files of the shelf give a run.
 use Rattle.std.specs.Prelude.{◌≡◌, ◌≤◌, ◌++◌, ℕ, cond, List, [], ◌∷◌, length, map, unwrap_or, Option, Some, None}
 use Rattle.std.specs.List.{AllByRecursion}
+use Rattle.lang_model.specs.Limits.{script_limit}
 use Rattle.run_model.specs.Inputs.{Input, RelationFile, AreReadings}
 use Rattle.rv_words.specs.Uses.{Word}
 use Rattle.rv_words.specs.Said.{Said, is_relation_word, scripts_in, relations_in}
@@ -13,10 +14,6 @@ use Rattle.relview.specs.declared.given.Given.{Given}
 use Rattle.relview.specs.declared.given.Halt.{Halt}
 
 -- ---- limits
--- the most bytes of a script
-abbrev pub script_limit : ℕ
-script_limit = 1048576
-
 -- the most bytes of a relation file
 abbrev pub relation_limit : ℕ
 relation_limit = 8388638

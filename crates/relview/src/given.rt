@@ -8,12 +8,10 @@ ghost use Rattle.rv_words.specs.Said.{is_relation_word, scripts_in, relations_in
 ghost use Rattle.rv_words.specs.Shown.{texts};
 ghost use Rattle.relview.specs.Given.{limit_of, IsTaken, IsHalted, GivesFiles, Adds};
 
+use lang_model::limits::SCRIPT_LIMIT;
 use rv_io::{ReadError, Shelf, read_all};
 use rv_sessions::Loaded;
 use std::alloc::Global;
-
-/// The most bytes of a script.
-const SCRIPT_LIMIT: u64 = 1_048_576;
 
 /// The most bytes of a relation file.
 const RELATION_LIMIT: u64 = 8_388_638;
@@ -48,7 +46,7 @@ fn limit_of(word: &str) -> u64
     if is_relation_word(word.as_bytes()) {
         RELATION_LIMIT
     } else {
-        SCRIPT_LIMIT
+        SCRIPT_LIMIT as u64
     }
 }
 

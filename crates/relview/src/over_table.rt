@@ -1,5 +1,6 @@
 //! Scripts at once over a fresh node table, and the words of the table in the end.
 ghost use Rattle.std.specs.Prelude.{◌≡◌, ◌≤◌, ◌^◌, length, map, All, IfOk};
+ghost use Rattle.lang_model.specs.Limits.{script_limit};
 ghost use Rattle.relview.specs.Finished.{IsFinished};
 
 use fork_quads::{Crew, Gate};
@@ -42,7 +43,7 @@ pub fn run_over_table<R: Threads + Wait + Sync, G: Gate + Sync>(
     requires high { options.now.nodes ≤ 24 }
     requires some { 1 ≤ length scripts.now }
     requires few { length scripts.now ≤ 64 }
-    requires limits { All (λ v. length v.items ≤ 2 ^ 20) scripts.now }
+    requires limits { All (λ v. length v.items ≤ script_limit) scripts.now }
     ensures { IfOk result (IsFinished options.now.nodes (map (λ v. v.items) scripts.now) files.now options.now.turns
         options.now.history) }
 {

@@ -1,6 +1,7 @@
 //! The top call: reads the words and the files, runs the scripts at once, and writes their page and their files.
 ghost use Rattle.std.specs.Prelude.{◌≡◌, ◌≤◌, ◌^◌, true, false, List, [], Some, None, map, length, IsTrue, All};
 ghost use Rattle.std.specs.Str.{IsUtf8};
+ghost use Rattle.lang_model.specs.Limits.{script_limit};
 ghost use Rattle.rv_io.specs.Outside.{Told};
 ghost use Rattle.rv_io.specs.Reading.{RefusesFile};
 ghost use Rattle.rv_sessions.specs.Telling.{saved_all};
@@ -207,7 +208,7 @@ fn run_given<R: Threads + Wait + Sync, S: Shelf, K: Sink, G: Gate + Sync>(
     requires high { options.now.nodes ≤ 24 }
     requires some { 1 ≤ length scripts.now }
     requires few { length scripts.now ≤ 64 }
-    requires limits { All (λ v. length v.items ≤ 2 ^ 20) scripts.now }
+    requires limits { All (λ v. length v.items ≤ script_limit) scripts.now }
     ensures { AnswersGiven options.now.nodes (map (λ v. v.items) scripts.now) files.now options.now.turns
         options.now.history
         (S.told shelf.old) (S.told shelf.new)

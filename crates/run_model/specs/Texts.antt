@@ -17,8 +17,7 @@ use Rattle.run_model.specs.declared.outcome.Unit.TheVariants.{Cells, Pairs}
 use Rattle.run_model.specs.declared.outcome.Outcome.{Outcome}
 use Rattle.run_model.specs.declared.outcome.Outcome.TheVariants.{Done, Parse, Ill, Size, Turns, Nodes, TooLarge, TooLong, NoFile, BadFile as BAD_FILE, NoMemory}
 use Rattle.rel_model.specs.Relation.{Relation, has}
-use Rattle.lang_model.specs.Taken.{nesting_limit}
-use Rattle.lang_model.specs.Checking.{rank_limit}
+use Rattle.lang_model.specs.Limits.{nesting_limit, rank_limit}
 use Rattle.run_model.specs.Limits.{print_limit, list_limit, save_limit}
 
 -- `S.C: `

@@ -22,7 +22,8 @@ use Rattle.lang_model.specs.State.{State, assigned}
 use Rattle.lang_model.specs.Defining.{defines}
 use Rattle.lang_model.specs.Missing.{missing}
 use Rattle.lang_model.specs.Outcomes.{Ill, refused, with_turns}
-use Rattle.lang_model.specs.Checking.{among, no_name, Known, definition_of, is_projection, faults, faults_by, called, called_in, called_along, rank_named, domains_of, operand_faults, decl_faults, head_faults, function_scope, program_scope, command_scope, rank_limit, rank_of, command_faults, item_faults, known_with, items_faults, flaw}
+use Rattle.lang_model.specs.Checking.{among, no_name, Known, definition_of, is_projection, faults, faults_by, called, called_in, called_along, rank_named, domains_of, operand_faults, decl_faults, head_faults, function_scope, program_scope, command_scope, rank_of, command_faults, item_faults, known_with, items_faults, flaw}
+use Rattle.lang_model.specs.Limits.{rank_limit}
 use Rattle.lang_model.specs.Mean.{Calls, injected_of, injected_by, domain_named, bound, item_named, takes_arguments, body_of, called as called_as, calls_within, around_with, mean}
 use Rattle.rv_types.specs.Items.{value_of_command, RanksWithin}
 use Rattle.rv_types.proofs.Defining.{no_fault}

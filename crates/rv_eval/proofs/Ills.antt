@@ -6,7 +6,8 @@ use Rattle.lang_model.specs.declared.faults.TypeFault.TheVariants.{Unknown, Arit
 use Rattle.rel_model.specs.Relation.{Relation}
 use Rattle.lang_model.specs.State.{State}
 use Rattle.lang_model.specs.Outcomes.{Ill}
-use Rattle.lang_model.specs.Checking.{rank_limit, place_of}
+use Rattle.lang_model.specs.Checking.{place_of}
+use Rattle.lang_model.specs.Limits.{rank_limit}
 use Rattle.lang_model.specs.Types.{sizes}
 use Rattle.lang_model.specs.Mean.{calls_within}
 use Rattle.lang_model.specs.Shape.{types_of_calls}

@@ -4,6 +4,7 @@ use Rattle.lang_model.specs.declared.syntax.Base.TheVariants.{I, Trans, Refl, Ep
 use Rattle.rv_eval.specs.declared.bases.Demand.{Demand}
 use Rattle.rv_eval.specs.declared.bases.Demand.TheVariants.{Nothing, Square, OneColumn}
 
+-- the test of a base call
 abbrev pub demanded : Base → Demand
 demanded I = Square
 demanded Trans = Square

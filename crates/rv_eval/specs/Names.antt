@@ -29,11 +29,12 @@ typed_pair_of n = (n.0, known n.1.rows n.1.cols)
 abbrev pub AllStand : Worker → List (List ℕ × Rel) → Type 0
 AllStand w names = (name : List ℕ) (r : Rel) → rel_of names name ≡ Some r → Stands w r
 
--- parameters beside their values
+-- the first parameter beside the first value, and the other parameters, as given, beside the others
 abbrev pub beside_first : List ℕ → (List Rel → List (List ℕ × Rel)) → List Rel → List (List ℕ × Rel)
 beside_first p rest [] = []
 beside_first p rest (v ∷ vs) = (p, v) ∷ rest vs
 
+-- parameters beside their values, as far as both go
 abbrev pub beside : List (List ℕ) → List Rel → List (List ℕ × Rel)
 beside [] = λ vs. []
 beside (p ∷ ps) = beside_first p (beside ps)

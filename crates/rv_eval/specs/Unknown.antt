@@ -17,7 +17,8 @@ use Rattle.lang_model.specs.State.{State}
 use Rattle.lang_model.specs.Missing.{missing}
 use Rattle.lang_model.specs.Outcomes.{Ill, Not}
 use Rattle.lang_model.specs.Types.{Passed, Fits, Misfit, Typed, typed_link}
-use Rattle.lang_model.specs.Checking.{rank_limit, place_of, flaw}
+use Rattle.lang_model.specs.Checking.{place_of, flaw}
+use Rattle.lang_model.specs.Limits.{rank_limit}
 use Rattle.lang_model.specs.Mean.{item_named, meaning}
 use Rattle.lang_model.specs.Shape.{Types, AroundTypes, around_types, types_bound, shape, shapes, typed_behind, typed_within, typed_by, types_of_calls, static_type}
 use Rattle.lang_model.specs.Eval.{types_in}

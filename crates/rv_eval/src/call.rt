@@ -21,14 +21,12 @@ use crate::missing::first_missing;
 use crate::steps::value_of_name;
 use crate::walk::eval_expr;
 use lang_model::faults::{StaticShape, TypeFault};
+use lang_model::limits::RANK_LIMIT;
 use lang_model::syntax::{Expr, Name};
 use rel_model::engine_trait::Engine;
 use rel_model::{Lack, NoMemory, Rel, SIZE_LIMIT};
 use rv_types::{Checked, shape_of};
 use std::alloc::Global;
-
-/// How deep calls of definitions may stand in one another.
-const RANK_LIMIT: u32 = 16;
 
 /// A fault as a refusal.
 fn ill(fault: TypeFault) -> Refused

@@ -1,6 +1,7 @@
 //! The faults of an evaluation: names without a meaning, and operands that do not fit.
 ghost use Rattle.std.specs.Prelude.{◌≡◌, ◌≤◌, ◌<◌, ◌⊎◌, length, codes, Some};
 ghost use Rattle.rel_model.specs.declared.Lack.TheVariants.{NoMemory as NO_MEMORY};
+ghost use Rattle.lang_model.specs.Limits.{name_limit};
 ghost use Rattle.lang_model.specs.declared.faults.TypeFault.TheVariants.{Unknown, Arity, Rank, Mismatch, NotSquare, NotVector};
 ghost use Rattle.lang_model.specs.Checking.{domain_operator_text};
 ghost use Rattle.lang_model.specs.Types.{spelling, known, base_text};
@@ -133,7 +134,7 @@ pub fn no_pair(alloc: Global, at: Place, r: Rel, s: Rel) -> Halt
 fn text_of(base: Base) -> &'static [u8]
     ensures text { result.now ≡ base_text base }
     ensures some { 1 ≤ length result.now }
-    ensures short { length result.now ≤ 64 }
+    ensures short { length result.now ≤ name_limit }
 {
     match base {
         Base::L => b"L",

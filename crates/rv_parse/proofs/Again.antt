@@ -19,7 +19,7 @@ use Rattle.lang_model.specs.Spelling.{OrLevel, Spelled, SpelledBy}
 use Rattle.rv_parse.specs.Places.{Tree, tree_of, without_places, SameUpToPlaces}
 use Rattle.rv_parse.specs.Plain.{ItemTree, CommandItem, PrintTree, item_tree, script_tree}
 use Rattle.rv_parse.specs.Again.{StandsIn, SpellOnly, ReadAgain, PrintsSame, PrintsAgain}
-use Rattle.rv_parse.proofs.Naming.{all_named, named_behind}
+use Rattle.rv_tokens.proofs.Naming.{all_named, named_behind}
 use Rattle.rv_parse.proofs.Pieces.{Lexes, token, then, past, stop_lexes}
 use Rattle.rv_parse.proofs.Unambiguous.{agree}
 use Rattle.rv_parse.proofs.OneScript.{one_script_law}

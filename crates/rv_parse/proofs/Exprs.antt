@@ -10,7 +10,8 @@ use Rattle.lang_model.specs.declared.syntax.Link.{Link}
 use Rattle.lang_model.specs.declared.faults.What.TheVariants.{Expression}
 use Rattle.lang_model.specs.declared.token.Kind.TheVariants.{Sign}
 use Rattle.lang_model.specs.declared.token.Token.{Token}
-use Rattle.lang_model.specs.Taken.{TakesAt, Takes, Carets, nesting_limit}
+use Rattle.lang_model.specs.Taken.{TakesAt, Takes, Carets}
+use Rattle.lang_model.specs.Limits.{nesting_limit}
 use Rattle.lang_model.specs.Lexed.{Ending, EndsAt, Broken}
 use Rattle.lang_model.specs.Spelling.{Level, OrLevel, AndLevel, ProdLevel, UnaryLevel, PostLevel, PrimLevel, tighter, Spelled, Listed, Linked, turned, negated, alone, no_more, one_more, no_link, one_link}
 use Rattle.lang_model.specs.Stop.{Part, ExprPart, MoreLinks, MoreCarets, MoreArgs, Step, NotBegun, Instead, Deeper, Behind, followed, first_of, fault_at, expr_step, unary_step, prim_step, stop_of}

@@ -9,7 +9,8 @@ use Rattle.lang_model.specs.declared.token.Keyword.{Keyword}
 use Rattle.lang_model.specs.declared.token.Keyword.TheVariants.{Rel as REL, Let as LET, Print as PRINT, List as LIST, Count as COUNT, «Type» as TYPE, Drop as DROP, Snap as SNAP, At as AT, Load as LOAD, Save as SAVE, Decl as DECL, Prod as PROD, Sum as SUM, Beg as BEG, End as END, Return as RETURN, While as WHILE, Do as DO, Od as OD, If as IF, Then as THEN, Else as ELSE, Fi as FI}
 use Rattle.lang_model.specs.declared.token.Kind.TheVariants.{Keyword as KEYWORD, Sign}
 use Rattle.lang_model.specs.declared.token.Token.{Token}
-use Rattle.lang_model.specs.Taken.{TakesAt, nesting_limit}
+use Rattle.lang_model.specs.Taken.{TakesAt}
+use Rattle.lang_model.specs.Limits.{nesting_limit}
 use Rattle.lang_model.specs.Lexed.{Ending, EndsAt, Broken}
 use Rattle.lang_model.specs.Stop.{Part, SignPart, WordPart, OpenPart, NotBegun, entered, word_of, number_of, written, stop_of}
 use Rattle.rv_parse.specs.Halts.{missing}

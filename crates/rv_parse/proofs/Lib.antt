@@ -1,6 +1,4 @@
-pub mod Lexing
 pub mod Spelling
-pub mod Lexemes
 pub mod Leaves
 pub mod Exprs
 pub mod Optional
@@ -9,10 +7,8 @@ pub mod RowSteps
 pub mod Defs
 pub mod Fitting
 pub mod Scripting
-pub mod Agreeing
 pub mod Parsing
 pub mod Printed
-pub mod Naming
 pub mod Pieces
 pub mod Written
 pub mod Rereading

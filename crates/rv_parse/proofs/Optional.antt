@@ -6,7 +6,8 @@ use Rattle.lang_model.specs.declared.faults.ParseFault.TheVariants.{TooDeep}
 use Rattle.lang_model.specs.declared.token.Kind.{Kind}
 use Rattle.lang_model.specs.declared.token.Kind.TheVariants.{Sign}
 use Rattle.lang_model.specs.declared.token.Token.{Token}
-use Rattle.lang_model.specs.Taken.{TakesAt, nesting_limit}
+use Rattle.lang_model.specs.Taken.{TakesAt}
+use Rattle.lang_model.specs.Limits.{nesting_limit}
 use Rattle.lang_model.specs.Lexed.{Ending, EndsAt, Broken}
 use Rattle.lang_model.specs.Spelling.{Level, OrLevel, tighter}
 use Rattle.lang_model.specs.Stop.{Part, NamePart, FromOne, SignPart, ExprPart, CallPart, MoreArgs, MoreCarets, MoreLinks, MoreRows, MoreColumns, StmtsPart, MoreStmts, MoreParams, MeaningPart, DomainPart, MoreDecls, NotBegun, where_it, row_parts, is_sign, is_operator, entered, word_of, stop_of}

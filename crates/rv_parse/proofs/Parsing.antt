@@ -13,7 +13,7 @@ use Rattle.rv_parse.specs.Halts.{fault_of}
 use Rattle.rv_parse.specs.Got.{RefusesItems}
 use Rattle.rv_parse.specs.Stops.{StopsAt, IsFaultOf}
 use Rattle.rv_parse.specs.declared.halt.Halt.{Halt}
-use Rattle.rv_parse.proofs.Agreeing.{split_where_lexed, lexed_where_split}
+use Rattle.rv_tokens.proofs.Agreeing.{split_where_lexed, lexed_where_split}
 use Rattle.rv_parse.proofs.Scripting.{spelled_fits}
 
 pub parsed : (bytes : List ℕ) (ts : List Token) (e : Ending) (script : Script) → lexed_of bytes ≡ record { tokens = ts; ending = e } → Spells script ts → ((place : Place) × (e ≡ EndsAt place)) → SpelledBy bytes script

@@ -16,10 +16,10 @@ use Rattle.lang_model.specs.Taken.{Carets}
 use Rattle.lang_model.specs.Tokens.{is_allowed, is_blank, is_letter, is_word_byte, same_text, found_in, reserved_words, domain_operators, domain_operator_at, word_kind, behind, run_length, kind_at, with_token, tokens_from}
 use Rattle.lang_model.specs.Printing.{sign_of, base_text}
 use Rattle.rv_parse.specs.Again.{ends_names}
-use Rattle.rv_parse.specs.Lexing.{word_at}
-use Rattle.rv_parse.proofs.Lexing.{kind_letter}
-use Rattle.rv_parse.proofs.Naming.{IsName}
-use Rattle.rv_parse.proofs.Agreeing.{both, word_allowed}
+use Rattle.rv_tokens.specs.Lexing.{word_at}
+use Rattle.rv_tokens.proofs.Lexing.{kind_letter}
+use Rattle.rv_tokens.proofs.Naming.{IsName}
+use Rattle.rv_tokens.proofs.Agreeing.{both, word_allowed}
 
 -- From a place on the bytes have the tokens that `put` sets before those of the bytes left, from the place `end` on.
 abbrev pub Lexes : Place → List ℕ → (List Token → List Token) → Place → List ℕ → Type 0

@@ -1,5 +1,6 @@
 -- What a reader of a part of the grammar answers, and the parts of statements, definitions and commands.
 use Rattle.std.specs.Prelude.{◌≡◌, ◌≤◌, ◌++◌, ℕ, List, [], ◌∷◌, length, suc, Some}
+use Rattle.lang_model.specs.Limits.{more_limit}
 use Rattle.lang_model.specs.declared.token.Keyword.TheVariants.{Beg as BEG, End as END, Return as RETURN, Do as DO, Od as OD, Then as THEN, Fi as FI}
 use Rattle.lang_model.specs.declared.syntax.Expr.{Expr}
 use Rattle.lang_model.specs.declared.syntax.Stmt.{Stmt}
@@ -48,7 +49,7 @@ relation_parts = NamePart ∷ NumberPart ∷ NumberPart ∷ SignPart 123 ∷ Row
 
 -- a definition behind its name
 abbrev pub definition_parts : List Part
-definition_parts = SignPart 40 ∷ NamePart ∷ MoreParams 15 ∷ SignPart 41 ∷ BodyPart ∷ []
+definition_parts = SignPart 40 ∷ NamePart ∷ MoreParams more_limit ∷ SignPart 41 ∷ BodyPart ∷ []
 
 -- the statements and the result of a program, behind BEG
 abbrev pub SpellsTail : List Stmt → Expr → List Token → List Token → Type 0

@@ -1,6 +1,4 @@
-pub mod Lexing
 pub mod Halts
-pub mod LexerAnswers
 pub mod Readers
 pub mod Got
 pub mod Openings

@@ -1,6 +1,7 @@
 -- What the readers answer: a tree that the tokens spell, and what is left of these; or the fault of the tokens. Both
 -- whatever is to come behind.
 use Rattle.std.specs.Prelude.{◌≡◌, ◌<◌, ◌≤◌, ◌++◌, ℕ, Bool, true, false, List, [], ◌∷◌, length, Option, Some, None}
+use Rattle.lang_model.specs.Limits.{more_limit}
 use Rattle.lang_model.specs.declared.syntax.Place.{Place}
 use Rattle.lang_model.specs.declared.syntax.Expr.{Expr}
 use Rattle.lang_model.specs.declared.syntax.Op2.{Op2}
@@ -103,13 +104,13 @@ pub record IsBehind (e : Ending) (at : Place) (kind : Kind) (parts : List Part) 
   pub shorter : length rest ≤ length tokens
   pub read : Reads e parts tokens rest
 
--- One to 16 arguments are read.
+-- One argument or more are read.
 pub record AreArguments (e : Ending) (d : ℕ) (args : List Expr) (tokens rest : List Token) : Type 0 where
   pub first : Expr
   pub more : List Expr
   pub all : args ≡ first ∷ more
   pub mid : List Token
   pub head : Spelled OrLevel d first tokens mid
-  pub tail : Listed 15 d more mid rest
+  pub tail : Listed more_limit d more mid rest
   pub shorter : length rest < length tokens
-  pub read : Reads e (ExprPart OrLevel d ∷ MoreArgs 15 d ∷ []) tokens rest
+  pub read : Reads e (ExprPart OrLevel d ∷ MoreArgs more_limit d ∷ []) tokens rest

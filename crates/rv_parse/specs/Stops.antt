@@ -8,7 +8,7 @@ use Rattle.lang_model.specs.Stop.{stop}
 use Rattle.rv_parse.specs.Halts.{fault_of}
 use Rattle.rv_parse.specs.declared.halt.Wanted.{Wanted}
 use Rattle.rv_parse.specs.declared.halt.Wanted.TheVariants.{Sign, Word}
-use Rattle.rv_parse.specs.declared.halt.Flaw.TheVariants.{Unclosed}
+use Rattle.rv_tokens.specs.declared.ending.Flaw.TheVariants.{Unclosed}
 use Rattle.rv_parse.specs.declared.halt.Halt.{Halt}
 use Rattle.rv_parse.specs.declared.halt.Halt.TheVariants.{Expected as EXPECTED, Broken as BROKEN_OFF, NoMemory as NO_MEMORY}
 

@@ -5,18 +5,19 @@ ghost use Rattle.lang_model.specs.Spelling.{SpellsCommand};
 ghost use Rattle.lang_model.specs.Stop.{NotBegun, command_step};
 ghost use Rattle.lang_model.specs.declared.token.Kind.TheVariants.{Keyword as KEYWORD};
 ghost use Rattle.lang_model.specs.declared.token.Token.{Token as TOKEN};
-ghost use Rattle.rv_parse.specs.Halts.{ending_of};
+ghost use Rattle.rv_tokens.specs.Endings.{ending_of};
 ghost use Rattle.rv_parse.specs.Readers.{Refuses};
 ghost use Rattle.rv_parse.specs.Got.{Got};
 ghost use Rattle.rv_parse.specs.Openings.{Opens, opening_word, opening_parts};
 ghost use Rattle.rv_parse.specs.declared.command.Opening.TheVariants.{Let as LET, At as AT, Load as LOAD, Save as SAVE};
 
 use crate::expr::expression;
-use crate::halt::{Ending, Halt};
+use crate::halt::Halt;
 use crate::leaf::{next_file, next_name, next_sign, next_word};
 use crate::rows::relation;
 use lang_model::syntax::Command;
 use lang_model::token::{Keyword, Token};
+use rv_tokens::Ending;
 use std::alloc::Global;
 
 /// The keywords that open a command.

@@ -1,26 +1,26 @@
 //! Definitions: functions and programs.
 ghost use Rattle.std.specs.Prelude.{◌≡◌, ◌<◌, ◌≤◌, ◌^◌, ◌∷◌, [], List, length, IfErr, MatchResult};
+ghost use Rattle.lang_model.specs.Limits.{more_limit};
 ghost use Rattle.lang_model.specs.Taken.{TakesAt, Takes};
 ghost use Rattle.lang_model.specs.Spelling.{OrLevel, Spelled, SpelledStmts, SpellsParams, SpellsDecl, SpellsDecls, SpellsHead, SpellsItem, domain_word};
 ghost use Rattle.lang_model.specs.Stop.{NamePart, SignPart, MeaningPart, DomainPart, MoreDecls, MoreParams, BodyPart, ExprPart, program_parts};
 ghost use Rattle.lang_model.specs.declared.token.Kind.TheVariants.{Keyword as KEYWORD, Word, Sign};
 ghost use Rattle.lang_model.specs.declared.token.Keyword.TheVariants.{Decl as DECL, Beg as BEG};
 ghost use Rattle.lang_model.specs.declared.token.Token.{Token as TOKEN};
-ghost use Rattle.rv_parse.specs.Halts.{ending_of};
+ghost use Rattle.rv_tokens.specs.Endings.{ending_of};
 ghost use Rattle.rv_parse.specs.declared.halt.Halt.TheVariants.{NoMemory};
 ghost use Rattle.rv_parse.specs.Readers.{Refuses};
 ghost use Rattle.rv_parse.specs.Got.{Got, ReadsTo, SpellsTail, definition_parts, declared_parts};
 
 use crate::expr::expression;
-use crate::halt::{Ending, Halt, Wanted};
+use crate::halt::{Halt, Wanted};
 use crate::leaf::{behind_sign, behind_word, missing, next_name, next_sign, next_word};
 use crate::stmt::stmts;
+use lang_model::limits::PARAMETER_LIMIT;
 use lang_model::syntax::{Decl, Expr, Item, Name, Place, Stmt};
 use lang_model::token::{Keyword, Kind, Token};
+use rv_tokens::Ending;
 use std::alloc::Global;
-
-/// How many parameters a definition may have.
-const PARAMETER_LIMIT: usize = 16;
 
 /// What BEG and what stands behind it spell.
 #[derive(Drop)]
@@ -31,8 +31,8 @@ struct Tail {
 
 /// The parameters of a definition.
 fn params(alloc: Global, tokens: &[Token], end: Ending) -> Result<(Vec<Name>, &[Token]), Halt>
-    ensures { MatchResult result (λ x. Got (ending_of end) (NamePart ∷ MoreParams 15 ∷ []) (SpellsParams x.0.items)
-        tokens.now x.1.now) (Refuses (ending_of end) (NamePart ∷ MoreParams 15 ∷ []) tokens.now) }
+    ensures { MatchResult result (λ x. Got (ending_of end) (NamePart ∷ MoreParams more_limit ∷ []) (SpellsParams x.0.items)
+        tokens.now x.1.now) (Refuses (ending_of end) (NamePart ∷ MoreParams more_limit ∷ []) tokens.now) }
 {
     let mut params = Vec::new(alloc);
     let (first, _, behind) = next_name(alloc, tokens, end)?;

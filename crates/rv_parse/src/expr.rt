@@ -1,21 +1,21 @@
 //! Expressions: chains of operands, a prefix `-`, signs `^`, calls, pairs and parentheses.
 ghost use Rattle.std.specs.Prelude.{◌≡◌, ◌<◌, ◌≤◌, ◌+◌, ◌^◌, ◌∷◌, [], ℕ, List, false, suc, length, MatchResult, MatchOption};
-ghost use Rattle.lang_model.specs.Taken.{Carets, TakesAt, nesting_limit};
+ghost use Rattle.lang_model.specs.Taken.{Carets, TakesAt};
+ghost use Rattle.lang_model.specs.Limits.{nesting_limit, more_limit};
 ghost use Rattle.lang_model.specs.Lexed.{Ending as ENDING};
 ghost use Rattle.lang_model.specs.Spelling.{OrLevel, UnaryLevel, PostLevel, PrimLevel, tighter, TakesOne, TakesTwo, TakesDomain, form_of};
 ghost use Rattle.lang_model.specs.Stop.{Part, ExprPart, CallPart, MoreArgs, MoreCarets, SignPart, form_parts, stop_of};
 ghost use Rattle.lang_model.specs.declared.token.Kind.TheVariants.{Base as BASE, Word, Sign};
-ghost use Rattle.rv_parse.specs.Halts.{ending_of};
+ghost use Rattle.rv_tokens.specs.Endings.{ending_of};
 ghost use Rattle.rv_parse.specs.Readers.{Reads, Refuses, begins, begins_operator, level_of, form_is, OperatorIs, IsLink, IsRead, IsBehind, AreArguments};
 
-use crate::halt::{Ending, Halt, Wanted};
-use crate::leaf::{NESTING_LIMIT, behind_sign, missing, next_name, next_sign, open};
+use crate::halt::{Halt, Wanted};
+use crate::leaf::{behind_sign, missing, next_name, next_sign, open};
+use lang_model::limits::{NESTING_LIMIT, PARAMETER_LIMIT};
 use lang_model::syntax::{Base, Expr, Link, Name, Op2, Place};
 use lang_model::token::{Kind, Token};
+use rv_tokens::Ending;
 use std::alloc::Global;
-
-/// How many arguments a call may have.
-const ARGUMENT_LIMIT: usize = 16;
 
 /// The levels of chains.
 #[derive(Clone, Copy, Debug)]
@@ -216,13 +216,13 @@ fn arguments(
     requires depth { depth < nesting_limit }
     requires count { length tokens.now < 2 ^ 32 }
     ensures { MatchResult result (λ x. AreArguments (ending_of end) (suc depth) x.0.items tokens.now x.1.now)
-        (Refuses (ending_of end) (ExprPart OrLevel (suc depth) ∷ MoreArgs 15 (suc depth) ∷ []) tokens.now) }
+        (Refuses (ending_of end) (ExprPart OrLevel (suc depth) ∷ MoreArgs more_limit (suc depth) ∷ []) tokens.now) }
 {
     let mut args = Vec::new(alloc);
     let (first, behind) = inner(alloc, tokens, end, depth)?;
     args.push(first)?;
     let mut rest = behind;
-    'more: while args.len() < ARGUMENT_LIMIT {
+    'more: while args.len() < PARAMETER_LIMIT {
         let Some((_, behind)) = behind_sign(rest, b',') else {
             return Ok((args, rest));
         };

@@ -1,6 +1,7 @@
 //! Why reading ends before a script is complete.
 use lang_model::syntax::Place;
 use lang_model::token::Keyword;
+use rv_tokens::Flaw;
 use std::alloc::{AllocError, AllocFailed};
 
 /// What the grammar needs at a place.
@@ -14,24 +15,6 @@ pub enum Wanted {
     File,
     Sign(u8),
     Word(Keyword),
-}
-
-/// Why the tokens of a text end before it does.
-#[derive(Clone, Copy, Debug)]
-pub enum Flaw {
-    Byte { at: Place, byte: u8 },
-    NumberTooLarge { at: Place },
-    NameTooLong { at: Place },
-    /// A file text without its last quote.
-    Unclosed { at: Place },
-    EmptyText { at: Place },
-}
-
-/// How a text ends behind its tokens.
-#[derive(Clone, Copy, Debug)]
-pub enum Ending {
-    At(Place),
-    Broken(Flaw),
 }
 
 /// Why a part of the grammar is not read.

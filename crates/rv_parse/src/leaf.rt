@@ -1,20 +1,21 @@
 //! The first token, read as one part of the grammar, with the fault where it is another.
 ghost use Rattle.std.specs.Prelude.{◌≡◌, ◌≤◌, ◌<◌, ◌∷◌, [], true, false, IfErr, MatchResult, MatchOption};
-ghost use Rattle.lang_model.specs.Taken.{TakesAt, Takes, nesting_limit};
+ghost use Rattle.lang_model.specs.Taken.{TakesAt, Takes};
+ghost use Rattle.lang_model.specs.Limits.{nesting_limit};
 ghost use Rattle.lang_model.specs.Stop.{NamePart, NumberPart, FromOne, FilePart, SignPart, WordPart, OpenPart, number_of};
 ghost use Rattle.lang_model.specs.declared.token.Kind.TheVariants.{Keyword as KEYWORD, Word, Number, File, Sign};
-ghost use Rattle.rv_parse.specs.Halts.{what, missing, ending_of, fault_of};
+ghost use Rattle.rv_parse.specs.Halts.{what, missing, fault_of};
+ghost use Rattle.rv_tokens.specs.Endings.{ending_of};
 ghost use Rattle.rv_parse.specs.declared.halt.Halt.TheVariants.{NoMemory};
 ghost use Rattle.rv_parse.specs.Readers.{Reads, Refuses, begins, begins_word, begins_file};
 ghost use Rattle.rv_parse.specs.Items.{begins_name};
 
-use crate::halt::{Ending, Halt, Wanted};
+use crate::halt::{Halt, Wanted};
+use lang_model::limits::NESTING_LIMIT;
 use lang_model::syntax::{FileText, Name, Place};
 use lang_model::token::{Keyword, Kind, Token};
+use rv_tokens::Ending;
 use std::alloc::Global;
-
-/// How many constructs may be open at once.
-pub const NESTING_LIMIT: u32 = 40;
 
 /// Something else is wanted in place of the first token, or of the end.
 pub fn missing(tokens: &[Token], end: Ending, wanted: Wanted) -> Halt

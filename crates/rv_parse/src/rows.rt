@@ -6,14 +6,15 @@ ghost use Rattle.lang_model.specs.Stop.{FromOne, RowsPart, MoreRows, MoreColumns
 ghost use Rattle.lang_model.specs.declared.token.Kind.TheVariants.{Keyword as KEYWORD};
 ghost use Rattle.lang_model.specs.declared.token.Keyword.TheVariants.{Rel as REL};
 ghost use Rattle.lang_model.specs.declared.token.Token.{Token as TOKEN};
-ghost use Rattle.rv_parse.specs.Halts.{ending_of};
+ghost use Rattle.rv_tokens.specs.Endings.{ending_of};
 ghost use Rattle.rv_parse.specs.Readers.{Refuses, begins_number};
 ghost use Rattle.rv_parse.specs.Got.{Got, relation_parts};
 
-use crate::halt::{Ending, Halt};
+use crate::halt::Halt;
 use crate::leaf::{behind_sign, next_from_one, next_name, next_number, next_sign};
 use lang_model::syntax::{Column, Command, Row};
 use lang_model::token::{Kind, Token};
+use rv_tokens::Ending;
 use std::alloc::Global;
 
 /// Whether a number comes first.

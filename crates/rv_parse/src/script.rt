@@ -1,5 +1,6 @@
 //! Scripts of the whole language.
 ghost use Rattle.std.specs.Prelude.{◌≡◌, ◌<◌, ◌≤◌, ◌^◌, ◌∷◌, [], length, MatchResult, MatchOption, IfOk, IfErr, false};
+ghost use Rattle.lang_model.specs.Limits.{name_limit, script_limit};
 ghost use Rattle.lang_model.specs.Taken.{TakesAt, Takes};
 ghost use Rattle.lang_model.specs.declared.token.Kind.TheVariants.{Keyword as KEYWORD, Word};
 ghost use Rattle.rv_parse.specs.Openings.{opening_word};
@@ -9,20 +10,21 @@ ghost use Rattle.lang_model.specs.Stop.{ItemsPart, stop_of, written};
 ghost use Rattle.lang_model.specs.declared.faults.ParseFault.TheVariants.{NoMemory as NO_MEMORY};
 ghost use Rattle.lang_model.specs.declared.syntax.Place.{Place as PLACE};
 ghost use Rattle.rv_parse.specs.declared.halt.Halt.TheVariants.{Broken as BROKEN};
-ghost use Rattle.rv_parse.specs.Halts.{ending_of, what};
+ghost use Rattle.rv_parse.specs.Halts.{what};
+ghost use Rattle.rv_tokens.specs.Endings.{ending_of};
 ghost use Rattle.rv_parse.specs.Got.{RefusesItems};
 ghost use Rattle.rv_parse.specs.Items.{ItemIs, ItemEnds, NoCommand, begins_name};
 ghost use Rattle.rv_parse.specs.Stops.{StopsAt, IsFaultOf, IsToken, TakesMemory};
 
 use crate::command::{Opening, command, opening_of};
 use crate::def::definition;
-use crate::halt::{Ending, Flaw, Halt, Wanted};
+use crate::halt::{Halt, Wanted};
 use crate::leaf::{missing, next_sign};
-use crate::lexer::lexed;
 use lang_model::faults::{ParseFault, What};
 use lang_model::syntax::{Item, Name, Place, Script};
 use lang_model::token::{Keyword, Kind, Token};
 use rel_model::NoMemory;
+use rv_tokens::{Ending, Flaw, lexed};
 use std::alloc::Global;
 
 /// The name that comes first.
@@ -117,7 +119,7 @@ fn script_of(alloc: Global, tokens: &[Token], end: Ending) -> Result<Script, Hal
 
 /// How a keyword is written.
 fn written(keyword: Keyword) -> &'static [u8]
-    ensures { (result.now ≡ written keyword) × (1 ≤ length result.now) × (length result.now ≤ 64) }
+    ensures { (result.now ≡ written keyword) × (1 ≤ length result.now) × (length result.now ≤ name_limit) }
 {
     match keyword {
         Keyword::Rel => b"REL",
@@ -208,7 +210,7 @@ fn fault_of(alloc: Global, halt: Halt) -> ParseFault
 /// does not fit before one that nests too deep. Takes time and memory in the length of the text; its
 /// recursion is as deep as the nesting.
 pub fn parse(alloc: Global, bytes: &[u8]) -> Result<Script, ParseFault>
-    requires { length bytes.now ≤ 2 ^ 20 }
+    requires { length bytes.now ≤ script_limit }
     ensures spelled { IfOk result (SpelledBy bytes.now) }
     ensures fault { IfErr result (StopsAt bytes.now) }
 {

@@ -1,20 +1,23 @@
 //! Statements.
 ghost use Rattle.std.specs.Prelude.{◌≡◌, ◌<◌, ◌≤◌, ◌^◌, ◌∷◌, [], List, suc, length, MatchResult, MatchOption};
-ghost use Rattle.lang_model.specs.Taken.{TakesAt, nesting_limit};
+ghost use Rattle.lang_model.specs.Taken.{TakesAt};
+ghost use Rattle.lang_model.specs.Limits.{nesting_limit};
 ghost use Rattle.lang_model.specs.Spelling.{SpelledStmt, SpelledStmts};
 ghost use Rattle.lang_model.specs.Stop.{StmtsPart, MoreStmts};
 ghost use Rattle.lang_model.specs.declared.token.Kind.TheVariants.{Keyword as KEYWORD, Word};
 ghost use Rattle.lang_model.specs.declared.token.Keyword.TheVariants.{While as WHILE, If as IF};
 ghost use Rattle.lang_model.specs.declared.token.Token.{Token as TOKEN};
-ghost use Rattle.rv_parse.specs.Halts.{ending_of};
+ghost use Rattle.rv_tokens.specs.Endings.{ending_of};
 ghost use Rattle.rv_parse.specs.Readers.{Refuses};
 ghost use Rattle.rv_parse.specs.Got.{Got, ReadsTo, set_parts, while_parts, if_parts};
 
 use crate::expr::{expression, inner};
-use crate::halt::{Ending, Halt};
-use crate::leaf::{NESTING_LIMIT, behind_sign, behind_word, next_sign, next_word};
+use crate::halt::Halt;
+use crate::leaf::{behind_sign, behind_word, next_sign, next_word};
+use lang_model::limits::NESTING_LIMIT;
 use lang_model::syntax::{Name, Place, Stmt};
 use lang_model::token::{Keyword, Kind, Token};
+use rv_tokens::Ending;
 use std::alloc::Global;
 
 /// An assignment behind its name.

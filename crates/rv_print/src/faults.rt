@@ -4,11 +4,12 @@ ghost use Rattle.lang_model.specs.declared.faults.TypeFault.TheVariants.{Arity};
 ghost use Rattle.run_model.specs.Texts.{place_text, what_text, parse_fault_text, unknown_text, mismatch_text, type_fault_text, bad_file_text, unit_text, unit_limit, quoted, outcome_text, refusal_text};
 ghost use Rattle.run_model.specs.declared.outcome.Outcome.TheVariants.{Done, Size, Turns, TooLarge, TooLong, NoFile, BadFile as BAD_FILE};
 
-use crate::limits::{LIST_LIMIT, NESTING_LIMIT, PRINT_LIMIT, RANK_LIMIT, SAVE_LIMIT};
 use crate::pieces::{push_number, push_place, push_shape};
 use lang_model::faults::{ParseFault, StaticShape, TypeFault, What};
+use lang_model::limits::{NESTING_LIMIT, RANK_LIMIT};
 use lang_model::syntax::{FileText, Name, Place};
 use rel_model::NoMemory;
+use run_model::limits::{LIST_LIMIT, PRINT_LIMIT, SAVE_LIMIT};
 use run_model::outcome::{BadFile, Outcome, Unit};
 use std::alloc::{AllocError, Global};
 
@@ -226,7 +227,7 @@ fn push_parse_fault(alloc: Global, out: &mut Vec<u8>, fault: &ParseFault) -> Res
         ParseFault::TooDeep { at } => {
             push_place(alloc, out, *at)?;
             out.extend_from_slice(b"nested deeper than ")?;
-            push_number(alloc, out, NESTING_LIMIT)
+            push_number(alloc, out, u64::from(NESTING_LIMIT))
         }
         ParseFault::NumberTooLarge { at } => {
             push_place(alloc, out, *at)?;
@@ -324,7 +325,7 @@ fn push_type_fault(alloc: Global, out: &mut Vec<u8>, fault: &TypeFault) -> Resul
         }
         TypeFault::Rank { at, name } => {
             push_said(alloc, out, *at, name, b" has a rank over ")?;
-            push_number(alloc, out, RANK_LIMIT)
+            push_number(alloc, out, u64::from(RANK_LIMIT))
         }
         TypeFault::Mismatch {
             at,

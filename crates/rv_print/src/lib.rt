@@ -3,7 +3,6 @@
 
 mod faults;
 mod history;
-mod limits;
 mod pairs;
 mod pieces;
 mod refused;
@@ -12,7 +11,6 @@ mod sizes;
 
 pub use faults::fault_text;
 pub use history::event_line;
-pub use limits::{LIST_LIMIT, NESTING_LIMIT, PRINT_LIMIT, RANK_LIMIT, SAVE_LIMIT};
 pub use pairs::listing;
 pub use refused::PrintRefused;
 pub use rows::matrix;

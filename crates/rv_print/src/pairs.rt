@@ -8,11 +8,11 @@ ghost use Rattle.run_model.specs.Page.{pair_text, sizes_text, line_feed, listing
 ghost use Rattle.run_model.specs.declared.outcome.Unit.TheVariants.{Pairs};
 ghost use Rattle.rv_print.specs.Refusals.{IsOver};
 
-use crate::limits::LIST_LIMIT;
 use crate::pieces::{push_number, push_sizes};
 use crate::refused::PrintRefused;
 use rel_model::Rel;
 use rel_model::engine_trait::Engine;
+use run_model::limits::LIST_LIMIT;
 use run_model::outcome::Unit;
 use std::alloc::{AllocError, Global};
 

@@ -1,5 +1,6 @@
 //! The matrix of a relation: a line for each row. A row is a walk over the quads that it meets.
 ghost use Rattle.std.specs.Prelude.{◌≡◌, ◌<◌, ◌≤◌, ◌+◌, ◌*◌, ◌^◌, ◌++◌, OnOk, IfOk, IfErr, Err, false};
+ghost use Rattle.rel_model.specs.Relation.{size_height};
 ghost use Rattle.rel_model.specs.Cells.{bits_cells};
 ghost use Rattle.rel_model.specs.Trees.{beside};
 ghost use Rattle.rel_model.specs.Worker.{Stands, set_of, HasQuad, quad_set, Keeps, MakesAtMost, MissesNothing};
@@ -9,11 +10,11 @@ ghost use Rattle.run_model.specs.declared.outcome.Unit.TheVariants.{Cells};
 ghost use Rattle.rv_print.specs.Marks.{mark, marks};
 ghost use Rattle.rv_print.specs.Refusals.{IsOver};
 
-use crate::limits::PRINT_LIMIT;
 use crate::pieces::push_sizes;
 use crate::refused::PrintRefused;
 use rel_model::engine_trait::Engine;
 use rel_model::{Quad, Rel};
+use run_model::limits::PRINT_LIMIT;
 use run_model::outcome::Unit;
 use std::alloc::{AllocError, Global};
 
@@ -80,7 +81,7 @@ fn push_row<E: Engine>(
 
 /// The side of a square of a height.
 fn side_of(height: u8) -> u32
-    requires { height ≤ 24 }
+    requires { height ≤ size_height }
     ensures { result ≡ 2 ^ height }
 {
     1u32 << height

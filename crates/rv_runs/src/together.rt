@@ -1,5 +1,6 @@
 //! All sessions of a run at once.
 ghost use Rattle.std.specs.Prelude.{◌≡◌, ◌≤◌, ◌<◌, ◌+◌, ◌*◌, ◌^◌, ℕ, true, [], length, map, slice_index_or, vec_capacity, vec_len, All, IfOk, Some};
+ghost use Rattle.lang_model.specs.Limits.{script_limit};
 ghost use Rattle.turn_book.specs.Joined.{JoinsAll};
 ghost use Rattle.turn_book.specs.Views.{IsReady};
 ghost use Rattle.rv_sessions.specs.Telling.{input_of};
@@ -71,7 +72,7 @@ fn run_works<E: Engine + Drop + Send, R: Threads + Wait + Sync, G: Gate + Sync>(
     works: &mut Vec<Work<E>>,
 )
     requires few { length scripts.now ≤ 64 }
-    requires limits { All (λ v. length v.items ≤ 2 ^ 20) scripts.now }
+    requires limits { All (λ v. length v.items ≤ script_limit) scripts.now }
     requires fresh { All (IsFresh E.worker book.now (length scripts.now)) works.old.items }
     requires numbers { Numbered works.old.items }
     ensures ran { All (RanWhereTold E.worker E.least (input_of files.now turns) (map (λ v. v.items) scripts.now))
@@ -143,7 +144,7 @@ pub fn run_all<R: Threads + Wait + Sync, E: Engine + Drop + Send, G: Gate + Sync
 ) -> Result<Ended<E>, NoMemory>
     requires some { 1 ≤ length scripts.now }
     requires few { length scripts.now ≤ 64 }
-    requires limits { All (λ v. length v.items ≤ 2 ^ 20) scripts.now }
+    requires limits { All (λ v. length v.items ≤ script_limit) scripts.now }
     requires spare { (E.worker engine).spare ≡ 65 * length scripts.now + 2 }
     requires made { (E.worker engine).made ≡ 0 }
     requires misses { (E.worker engine).misses ≡ 0 }

@@ -1,5 +1,6 @@
 //! One session at its work.
 ghost use Rattle.std.specs.Prelude.{◌≡◌, ◌≤◌, ◌^◌, length, map, All};
+ghost use Rattle.lang_model.specs.Limits.{script_limit};
 ghost use Rattle.rv_sessions.specs.Telling.{input_of};
 ghost use Rattle.rv_runs.specs.Works.{IsFresh, CanJoin, RanWhereTold};
 
@@ -37,7 +38,7 @@ pub fn run_work<R: Wait, E: Engine + Drop, G: Gate>(
     work: &mut Work<E>,
 )
     requires few { length scripts.now ≤ 64 }
-    requires limits { All (λ v. length v.items ≤ 2 ^ 20) scripts.now }
+    requires limits { All (λ v. length v.items ≤ script_limit) scripts.now }
     requires fresh { IsFresh E.worker book.now (length scripts.now) work.old }
     ensures ran { RanWhereTold E.worker E.least (input_of files.now turns) (map (λ v. v.items) scripts.now) work.new }
     ensures joins { CanJoin E.worker book.now work.new }

@@ -1,6 +1,7 @@
 //! A session from its bytes to its transcript.
 ghost use Rattle.std.specs.Prelude.{◌≡◌, ◌≢◌, ◌≤◌, ◌<◌, ◌+◌, ◌^◌, ◌++◌, ◌∷◌, [], length, vec_len, vec_capacity, IfOk, OnErr};
 ghost use Rattle.rel_model.specs.Worker.{Keeps};
+ghost use Rattle.lang_model.specs.Limits.{script_limit};
 ghost use Rattle.run_model.specs.declared.outcome.Outcome.TheVariants.{Done, NoMemory as NO_MEMORY};
 ghost use Rattle.turn_book.specs.Views.{IsReady, IsKept};
 ghost use Rattle.rv_sessions.specs.Telling.{input_of, texts_of, saved_all};
@@ -175,7 +176,7 @@ fn run_checked<E: Engine, W: Wait>(
 
 /// The script that bytes spell, if it has no flaw: else the outcome that tells why it does not run.
 fn read_script(alloc: Global, bytes: &[u8]) -> Result<Checked, Outcome>
-    requires { length bytes.now ≤ 2 ^ 20 }
+    requires { length bytes.now ≤ script_limit }
     ensures { IsRead bytes.now result }
 {
     match parse(alloc, bytes) {
@@ -223,7 +224,7 @@ pub fn run<E: Engine, W: Wait>(
     pass: &mut Pass<Book<E>>,
     engine: &mut E,
 ) -> Result<Transcript, NoMemory>
-    requires limit { length script.now ≤ 2 ^ 20 }
+    requires limit { length script.now ≤ script_limit }
     requires ready { IsReady book.now pass.old }
     requires kin { pass.old.house ≡ (E.worker engine.old).house }
     ensures ran { IfOk result (RanBytes E.least (input_of files.now turns) number script.now (E.worker engine.old)

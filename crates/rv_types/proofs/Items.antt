@@ -9,7 +9,8 @@ use Rattle.lang_model.specs.declared.syntax.Item.TheVariants.{Function, Program,
 use Rattle.lang_model.specs.declared.faults.TypeFault.{TypeFault}
 use Rattle.lang_model.specs.declared.faults.TypeFault.TheVariants.{Rank, Twice}
 use Rattle.lang_model.specs.Tokens.{same_text}
-use Rattle.lang_model.specs.Checking.{among, no_name, Known, names_of, Scope, faults, faults_by, assigned_by, rank_limit, parameter_faults, head_faults, decl_faults, function_scope, program_scope, command_scope, rank_of, item_faults, known_with, items_faults}
+use Rattle.lang_model.specs.Checking.{among, no_name, Known, names_of, Scope, faults, faults_by, assigned_by, parameter_faults, head_faults, decl_faults, function_scope, program_scope, command_scope, rank_of, item_faults, known_with, items_faults}
+use Rattle.lang_model.specs.Limits.{rank_limit}
 use Rattle.rv_types.specs.Found.{noted}
 use Rattle.rv_types.specs.Items.{value_of_command}
 use Rattle.rv_types.proofs.Walks.{noted-append}

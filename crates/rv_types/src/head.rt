@@ -1,17 +1,16 @@
 //! The faults at the name of a definition: its rank, and names that were given before.
 ghost use Rattle.std.specs.Prelude.{◌≡◌, ◌<◌, ◌||◌, ◌∷◌, [], ℕ, List, cond, length, nat_lt, IfOk, OnOk, OnErr};
 ghost use Rattle.lang_model.specs.declared.faults.TypeFault.TheVariants.{Rank, Twice};
-ghost use Rattle.lang_model.specs.Checking.{among, names_of, parameter_faults, head_faults, rank_limit};
+ghost use Rattle.lang_model.specs.Checking.{among, names_of, parameter_faults, head_faults};
+ghost use Rattle.lang_model.specs.Limits.{rank_limit};
 ghost use Rattle.rv_types.specs.Found.{told, noted as noted_all};
 
 use crate::definitions::Definitions;
 use crate::found::{Cause, Found, Spelled, noted};
 use crate::names::Names;
+use lang_model::limits::RANK_LIMIT;
 use lang_model::syntax::{Name, Place};
 use rel_model::NoMemory;
-
-/// The greatest rank of a definition.
-const RANK_LIMIT: usize = 16;
 
 /// The name of a definition, its place, its parameters and its rank.
 #[derive(Clone, Copy)]
@@ -71,7 +70,7 @@ fn check_rank<'a>(head: Head<'a>, so_far: Option<Found<'a>>) -> Option<Found<'a>
     ensures { told result ≡ noted_all (told so_far.entry)
         (cond (nat_lt rank_limit head.entry.rank) (Rank head.entry.at head.entry.name.now ∷ []) []) }
 {
-    if head.rank > RANK_LIMIT {
+    if head.rank > RANK_LIMIT as usize {
         noted(
             so_far,
             Found {

@@ -1,5 +1,6 @@
 //! Faults of types, with their names.
 ghost use Rattle.std.specs.Prelude.{◌≡◌, ◌≤◌, length};
+ghost use Rattle.lang_model.specs.Limits.{name_limit};
 ghost use Rattle.lang_model.specs.declared.faults.TypeFault.TheVariants.{Mismatch, NotSquare, NotVector};
 ghost use Rattle.lang_model.specs.Types.{base_text};
 ghost use Rattle.rv_types.specs.Found.{fault_as, spelled};
@@ -30,7 +31,7 @@ pub fn mismatch(
     right: StaticShape,
 ) -> TypeFault
     requires some { 1 ≤ length text.now }
-    requires short { length text.now ≤ 64 }
+    requires short { length text.now ≤ name_limit }
     ensures { Tells (Mismatch at text.now left right) result }
 {
     match Name::new(alloc, text) {
@@ -48,7 +49,7 @@ pub fn mismatch(
 pub fn text_of(base: Base) -> &'static [u8]
     ensures text { result.now ≡ base_text base }
     ensures some { 1 ≤ length result.now }
-    ensures short { length result.now ≤ 64 }
+    ensures short { length result.now ≤ name_limit }
 {
     match base {
         Base::L => b"L",

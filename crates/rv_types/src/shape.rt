@@ -8,11 +8,9 @@ ghost use Rattle.rv_types.specs.Shaping.{types_of};
 use crate::checked::Checked;
 use crate::typing::{Around, type_of_expr};
 use lang_model::faults::{StaticShape, TypeFault};
+use lang_model::limits::RANK_LIMIT;
 use lang_model::syntax::{Expr, Name};
 use std::alloc::Global;
-
-/// How many definitions may stand in one another.
-const RANK_LIMIT: u32 = 16;
 
 /// The static type of an expression of a command on names with these types, or its first misfit in the order of
 /// evaluation, each statement once in the order of the text.

@@ -8,10 +8,11 @@ abbrev pub Word : Type 0
 Word = List ℕ
 
 -- ---- what a word looks like
--- a hyphen, and the equals sign
+-- the hyphen
 abbrev pub is_hyphen : ℕ → Bool
 is_hyphen byte = byte == 45
 
+-- the equals sign
 abbrev pub is_equals : ℕ → Bool
 is_equals byte = byte == 61
 
@@ -43,22 +44,27 @@ kind_of (first ∷ []) = plain
 kind_of (first ∷ second ∷ rest) = if is_hyphen first then hyphen_kind second rest else plain
 
 -- ---- the arguments
--- the names of the options, and the name under which FILE words stand
+-- the option of the number of workers
 abbrev pub workers_name : Word
 workers_name = codes "workers"
 
+-- the option of the binary logarithm of the node words
 abbrev pub nodes_name : Word
 nodes_name = codes "nodes"
 
+-- the option of the turns of loops
 abbrev pub turns_name : Word
 turns_name = codes "turns"
 
+-- the option of the number of a generated script
 abbrev pub gen_name : Word
 gen_name = codes "gen"
 
+-- the option that asks for the history
 abbrev pub history_name : Word
 history_name = codes "history"
 
+-- the name under which FILE words stand
 abbrev pub file_name : Word
 file_name = codes "file"
 

@@ -1,7 +1,9 @@
 //! What scripts come to over a node table: one of them as a session over a book of its own, or all at once.
 ghost use Rattle.std.specs.Prelude.{◌≡◌, ◌≤◌, ◌^◌, length, All, IsTrue};
+ghost use Rattle.lang_model.specs.Limits.{script_limit};
 
 use fork_quads::{Crew, OpenGate};
+use lang_model::limits::SCRIPT_LIMIT;
 use pair_table::PairTable;
 use rel_engine::Works;
 use rel_model::NoMemory;
@@ -18,9 +20,6 @@ use std::sync::Wait;
 use std::test::Fail;
 use std::thread::Threads;
 use turn_book::TurnBook;
-
-/// The most bytes of a script.
-const SCRIPT_LIMIT: usize = 1_048_576;
 
 /// How many turns the loops of an expression may take, the binary logarithm of the table's node words, and the number of
 /// workers.
@@ -124,7 +123,7 @@ pub(crate) fn scripts_of(alloc: Global, texts: &[&str]) -> Result<Vec<Vec<u8>>, 
 
 /// Whether no script passes the limit.
 fn are_short(scripts: &[Vec<u8>]) -> bool
-    ensures { IsTrue result → All (λ v. length v.items ≤ 2 ^ 20) scripts.now }
+    ensures { IsTrue result → All (λ v. length v.items ≤ script_limit) scripts.now }
 {
     'scripts: for i in 0..scripts.len() {
         if scripts[i].as_slice().len() > SCRIPT_LIMIT {
@@ -154,7 +153,7 @@ fn session_over<R: Wait + Abort, E: Engine + Drop>(
     files: &[Loaded],
     mut engine: E,
 ) -> (Transcript, Vec<Event>)
-    requires limit { length script.now ≤ 2 ^ 20 }
+    requires limit { length script.now ≤ script_limit }
     requires spare { (E.worker engine).spare ≡ 66 }
     requires made { (E.worker engine).made ≡ 0 }
 {

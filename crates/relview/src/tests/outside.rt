@@ -1,12 +1,10 @@
 //! Words outside the set, files that are not read, and lines that are not written.
 use super::runs::{NEVER, assert_stopped, assert_written, run_with};
+use lang_model::limits::SCRIPT_LIMIT;
 use std::test::Fail;
 
 const USAGE: &str =
     "usage: relview [--workers N] [--nodes K] [--turns T] [--history] [--gen NUMBER] FILE...\n";
-
-/// The most bytes of a script.
-const SCRIPT_LIMIT: usize = 1_048_576;
 
 #[test]
 fn words_outside_the_set_are_answered_by_the_usage_line(rt: HostRuntime) -> Result<(), Fail> {

@@ -3,7 +3,7 @@ use Rattle.lang_model.specs.declared.syntax.Decl.{Decl}
 use Rattle.lang_model.specs.declared.token.Token.{Token}
 use Rattle.lang_model.specs.Spelling.{SpellsDecl, SpellsMoreDecls}
 use Rattle.lang_model.specs.Stop.{Part, NamePart, MeaningPart, MoreDecls, stop_of}
-use Rattle.rv_parse.specs.Halts.{ending_of}
+use Rattle.rv_tokens.specs.Endings.{ending_of}
 use Rattle.rv_parse.proofs.def.decls.Given as goal
 
 abbrev pub invariant-decls : goal.invariant-decls

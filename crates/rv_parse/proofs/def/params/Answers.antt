@@ -2,7 +2,7 @@ use Rattle.std.proofs.Common.{◌≡◌, ◌<◌, ◌-◌, ◌∷◌, ◌++◌, 
 use Rattle.std.proofs.lemmas.Result.{err_from_is_err_and}
 use Rattle.lang_model.specs.Spelling.{SpellsParams}
 use Rattle.lang_model.specs.Stop.{MoreParams, stop_of}
-use Rattle.rv_parse.specs.Halts.{ending_of}
+use Rattle.rv_tokens.specs.Endings.{ending_of}
 use Rattle.rv_parse.proofs.Defs.{enter_params, drop_params, params_full, names_step, params_step, names_all}
 use Rattle.rv_parse.proofs.def.params.Goals as goal
 

@@ -4,7 +4,7 @@ use Rattle.lang_model.specs.declared.token.Token.{Token}
 use Rattle.lang_model.specs.Taken.{Takes}
 use Rattle.lang_model.specs.Spelling.{SpellsMoreNames}
 use Rattle.lang_model.specs.Stop.{Part, NamePart, MoreParams, stop_of}
-use Rattle.rv_parse.specs.Halts.{ending_of}
+use Rattle.rv_tokens.specs.Endings.{ending_of}
 use Rattle.rv_parse.proofs.def.params.Given as goal
 
 abbrev pub invariant-more : goal.invariant-more

@@ -4,7 +4,7 @@ use Rattle.lang_model.specs.declared.syntax.Link.{Link}
 use Rattle.lang_model.specs.declared.token.Token.{Token}
 use Rattle.lang_model.specs.Spelling.{OrLevel, Spelled, Listed, Linked, tighter}
 use Rattle.lang_model.specs.Stop.{Part, ExprPart, MoreLinks, MoreArgs, stop_of}
-use Rattle.rv_parse.specs.Halts.{ending_of}
+use Rattle.rv_tokens.specs.Endings.{ending_of}
 use Rattle.rv_parse.specs.Readers.{level_of}
 use Rattle.rv_parse.proofs.Exprs.{chain_rank}
 use Rattle.rv_parse.proofs.expr.+expr.Given as goal

@@ -3,7 +3,7 @@ use Rattle.lang_model.specs.declared.syntax.Column.{Column}
 use Rattle.lang_model.specs.declared.token.Token.{Token}
 use Rattle.lang_model.specs.Spelling.{SpellsColumns, SpellsMoreColumns}
 use Rattle.lang_model.specs.Stop.{Part, FromOne, MoreColumns, stop_of}
-use Rattle.rv_parse.specs.Halts.{ending_of}
+use Rattle.rv_tokens.specs.Endings.{ending_of}
 use Rattle.rv_parse.proofs.rows.columns.Given as goal
 
 abbrev pub invariant-columns : goal.invariant-columns

@@ -3,7 +3,7 @@ use Rattle.lang_model.specs.declared.syntax.Row.{Row}
 use Rattle.lang_model.specs.declared.token.Token.{Token}
 use Rattle.lang_model.specs.Spelling.{SpellsRows, SpellsMoreRows}
 use Rattle.lang_model.specs.Stop.{Part, RowsPart, MoreRows, stop_of}
-use Rattle.rv_parse.specs.Halts.{ending_of}
+use Rattle.rv_tokens.specs.Endings.{ending_of}
 use Rattle.rv_parse.proofs.rows.rows.Given as goal
 
 abbrev pub invariant-rows : goal.invariant-rows

@@ -3,7 +3,7 @@ use Rattle.lang_model.specs.declared.syntax.Item.{Item}
 use Rattle.lang_model.specs.declared.token.Token.{Token}
 use Rattle.lang_model.specs.Spelling.{SpellsItems}
 use Rattle.lang_model.specs.Stop.{ItemsPart, stop_of}
-use Rattle.rv_parse.specs.Halts.{ending_of}
+use Rattle.rv_tokens.specs.Endings.{ending_of}
 use Rattle.rv_parse.proofs.Parsing.{items_all}
 use Rattle.rv_parse.proofs.script.items.Goals as goal
 

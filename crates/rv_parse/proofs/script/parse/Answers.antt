@@ -1,6 +1,6 @@
 use Rattle.std.proofs.Common.{subst}
 use Rattle.lang_model.specs.Spelling.{Spells}
-use Rattle.rv_parse.specs.Halts.{ending_of}
+use Rattle.rv_tokens.specs.Endings.{ending_of}
 use Rattle.rv_parse.specs.Got.{RefusesItems}
 use Rattle.rv_parse.proofs.Parsing.{parsed, stopped}
 use Rattle.rv_parse.proofs.script.parse.Goals as goal

@@ -3,7 +3,7 @@ use Rattle.lang_model.specs.declared.syntax.Stmt.{Stmt}
 use Rattle.lang_model.specs.declared.token.Token.{Token}
 use Rattle.lang_model.specs.Spelling.{SpelledStmts}
 use Rattle.lang_model.specs.Stop.{Part, StmtsPart, stop_of}
-use Rattle.rv_parse.specs.Halts.{ending_of}
+use Rattle.rv_tokens.specs.Endings.{ending_of}
 use Rattle.rv_parse.proofs.stmt.+stmt.Given as goal
 
 abbrev pub decreases-stmts : goal.decreases-stmts

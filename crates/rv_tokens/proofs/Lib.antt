@@ -1,0 +1,4 @@
+pub mod Lexing
+pub mod Lexemes
+pub mod Agreeing
+pub mod Naming
