@@ -8,6 +8,8 @@ mod files;
 #[cfg(test)]
 mod folded;
 #[cfg(test)]
+mod held;
+#[cfg(test)]
 mod made;
 #[cfg(test)]
 mod racing;

@@ -2,7 +2,7 @@
 ghost use Rattle.std.specs.Prelude.{◌≡◌, ◌≤◌, ◌^◌, length, All, IsTrue};
 ghost use Rattle.lang_model.specs.Limits.{script_limit};
 
-use fork_quads::{Crew, OpenGate};
+use fork_quads::{Crew, Gate, OpenGate};
 use lang_model::limits::SCRIPT_LIMIT;
 use pair_table::PairTable;
 use rel_engine::Works;
@@ -218,15 +218,16 @@ pub(crate) fn run_alone<R: Wait + Abort>(
     })
 }
 
-/// Runs scripts at once over a table with a seat for each session and its workers.
+/// Runs scripts at once over a table with a seat for each session and its workers, through a gate.
 #[tactic(auto, unfolding(rel_model::specs::Trees::bottom_height))]
-pub(crate) fn run_at_once<R: Threads + Wait + Abort + Sync>(
+pub(crate) fn run_at_once<R: Threads + Wait + Abort + Sync, G: Gate + Sync>(
     rt: &R,
     alloc: Global,
     options: Options,
     scripts: &[Vec<u8>],
     files: &[Loaded],
     history: bool,
+    gate: &G,
 ) -> Result<Came, AllocError> {
     assert_fit(rt, options);
     assert!(rt; scripts.len() >= 1 && scripts.len() <= 64);
@@ -235,8 +236,7 @@ pub(crate) fn run_at_once<R: Threads + Wait + Abort + Sync>(
     let Ok((table, seat)) = PairTable::make(alloc, options.nodes, seats) else {
         panic!(rt; "no memory")
     };
-    let gate = OpenGate;
-    let works = Works::new(Crew::new(&table, seat, options.workers, &gate));
+    let works = Works::new(Crew::new(&table, seat, options.workers, gate));
     let Ok(ended) = run_all(
         rt,
         alloc,
@@ -244,7 +244,7 @@ pub(crate) fn run_at_once<R: Threads + Wait + Abort + Sync>(
         files,
         options.turns,
         history,
-        &gate,
+        gate,
         works,
     ) else {
         panic!(rt; "no memory")
@@ -325,6 +325,7 @@ pub(crate) fn comes_to<R: Threads + Wait + Abort + Sync>(
         scripts.as_slice(),
         files.as_slice(),
         true,
+        &OpenGate,
     )?;
     assert_came(rt, &ran, outcomes, page, saves, script)
 }

@@ -1,7 +1,9 @@
 //! Sessions at once over one name: each printed cell, each unknown name and each drop beside the fold of the history that the
 //! run tells.
 use crate::folded::{command_of, page_by};
+use crate::held::{Holding, Rule};
 use crate::made::{Options, loaded, run_at_once};
+use fork_quads::{Gate, OpenGate};
 use std::alloc::{AllocError, Global};
 use std::process::Abort;
 use std::sync::Wait;
@@ -32,12 +34,13 @@ fn script_of(alloc: Global, letters: &[u8]) -> Result<Vec<u8>, AllocError> {
     Ok(out)
 }
 
-/// Runs sessions at once, and asserts that their page is what their history says, and that no command but an unknown name is
+/// Runs sessions at once through a gate, and asserts that their page is what their history says, and that no command but an unknown name is
 /// refused.
-fn race<R: Threads + Wait + Abort + Sync>(
+fn race<R: Threads + Wait + Abort + Sync, G: Gate + Sync>(
     rt: &R,
     alloc: Global,
     letters: &[Vec<u8>],
+    gate: &G,
 ) -> Result<(), Fail> {
     let files = loaded(alloc, [].as_slice())?;
     let mut scripts = Vec::new(alloc);
@@ -52,6 +55,7 @@ fn race<R: Threads + Wait + Abort + Sync>(
         scripts.as_slice(),
         files.as_slice(),
         true,
+        gate,
     )?;
     let page = page_by(rt, alloc, letters, ran.history.as_slice(), true)?;
     let told = str::from_utf8(ran.page.as_slice())?;
@@ -75,7 +79,7 @@ fn replies_are_those_of_the_history(rt: HostRuntime) -> Result<(), Fail> {
         letters.push(letters_of(alloc, second.0, second.1, second.2)?)?;
         letters.push(letters_of(alloc, third.0, third.1, third.2)?)?;
         'times: for _ in 0..times {
-            race(&rt, alloc, letters.as_slice())?;
+            race(&rt, alloc, letters.as_slice(), &OpenGate)?;
         }
     }
     Ok(())
@@ -88,5 +92,30 @@ fn eight_sessions_complement_one_name_fifty_times_each(rt: HostRuntime) -> Resul
     'sessions: for _ in 0..8 {
         letters.push(letters_of(alloc, "0", "NP", 50)?)?;
     }
-    race(&rt, alloc, letters.as_slice())
+    race(&rt, alloc, letters.as_slice(), &OpenGate)
+}
+
+#[test]
+fn sixty_four_sessions_pass_gates_of_each_kind(rt: HostRuntime) -> Result<(), Fail> {
+    let alloc = rt.alloc();
+    'rules: for rule in [
+        Rule::Open,
+        Rule::UntilBegun(64),
+        Rule::UntilEnded(32, 32),
+        Rule::UntilEnded(63, 1),
+        Rule::OddUntilEnded(32),
+    ] {
+        let mut letters = Vec::new(alloc);
+        'sessions: for s in 0..64 {
+            let first = if s % 2 == 0 { "0P" } else { "1" };
+            let again = if s % 4 == 3 { "DP" } else { "NP" };
+            letters.push(letters_of(alloc, first, again, 3)?)?;
+        }
+        let gate = Holding::new(rule);
+        race(&rt, alloc, letters.as_slice(), &gate)?;
+        assert!(rt; !gate.gave_up(), "{rule:?}");
+        assert_eq!(rt; gate.begun(), 64);
+        assert_eq!(rt; gate.ended(), 64);
+    }
+    Ok(())
 }

@@ -1,6 +1,7 @@
 //! Runs whose pages were worked out by hand: loops and their limits, kernels of a cycle, names that are not there, snapshots,
 //! and two sessions that do not meet.
 use crate::made::{Options, assert_came, comes_to, loaded, run_at_once, scripts_of};
+use fork_quads::OpenGate;
 use std::test::Fail;
 
 /// The kernels of a directed cycle of twelve vertices.
@@ -142,6 +143,7 @@ fn sessions_that_do_not_meet_have_one_page(rt: HostRuntime) -> Result<(), Fail> 
             scripts.as_slice(),
             files.as_slice(),
             history,
+            &OpenGate,
         )?;
         assert_came(&rt, &ran, outcomes, page, [].as_slice(), second)?;
     }
