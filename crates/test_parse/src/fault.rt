@@ -1,13 +1,11 @@
 //! What `parse` answers, as a line of text.
 use crate::show::shown;
 use lang_model::faults::{ParseFault, What};
+use lang_model::limits::SCRIPT_LIMIT;
 use lang_model::syntax::Place;
 use rv_parse::parse;
 use std::alloc::Global;
 use std::test::Fail;
-
-/// The greatest length of a script in bytes.
-pub const MEBIBYTE: usize = 1_048_576;
 
 /// What the grammar needs, in words.
 fn wanted(alloc: Global, what: &What) -> Result<String, Fail> {
@@ -48,7 +46,7 @@ pub fn reply(alloc: Global, fault: &ParseFault) -> Result<String, Fail> {
 
 /// The fault of a text, or `read` where it is a script.
 pub fn refusal(alloc: Global, text: &[u8]) -> Result<String, Fail> {
-    if text.len() > MEBIBYTE {
+    if text.len() > SCRIPT_LIMIT {
         return Ok(String::from_str(alloc, "too long")?);
     }
     match parse(alloc, text) {
@@ -59,7 +57,7 @@ pub fn refusal(alloc: Global, text: &[u8]) -> Result<String, Fail> {
 
 /// The script of a text written out, or its fault.
 pub fn answer(alloc: Global, text: &[u8]) -> Result<String, Fail> {
-    if text.len() > MEBIBYTE {
+    if text.len() > SCRIPT_LIMIT {
         return Ok(String::from_str(alloc, "too long")?);
     }
     match parse(alloc, text) {

@@ -1,16 +1,4 @@
-//! What scripts are read as, at which token and why texts are refused, and how expressions are written.
+//! What many texts have in common: single bytes, texts that are cut off, and a long chain.
 mod bytes;
-mod definitions;
-mod expressions;
-mod items;
-mod lengths;
-mod limits;
-mod nesting;
-mod places;
+mod chain;
 mod prefixes;
-mod printing;
-mod shapes;
-mod statements;
-mod tables;
-mod tokens;
-mod words;

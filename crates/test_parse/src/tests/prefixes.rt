@@ -1,6 +1,7 @@
 //! Texts that are cut off: no proper part from the left of an item is a script, and its fault stands at the end or in the last word.
-use crate::fault::{MEBIBYTE, refusal};
+use crate::fault::refusal;
 use lang_model::faults::ParseFault;
+use lang_model::limits::SCRIPT_LIMIT;
 use lang_model::syntax::Place;
 use rv_parse::parse;
 use std::alloc::Global;
@@ -25,7 +26,7 @@ const ITEMS: [&str; 13] = [
 
 /// Where the fault of a text is, if it is no script.
 fn place(alloc: Global, text: &[u8]) -> Option<Place> {
-    if text.len() > MEBIBYTE {
+    if text.len() > SCRIPT_LIMIT {
         return None;
     }
     match parse(alloc, text) {
@@ -94,26 +95,6 @@ fn a_script_may_be_cut_behind_full_stops_alone(rt: HostRuntime) -> Result<(), Fa
         let cut = &bytes[..count];
         let is_read = place(rt.alloc(), cut).is_none();
         assert_eq!(rt; is_read, ends_with_a_full_stop(cut), "at {count}");
-    }
-    Ok(())
-}
-
-#[test]
-fn a_small_script_that_is_cut_off(rt: HostRuntime) -> Result<(), Fail> {
-    let text = b"REL A 2 2 {1:2}. PRINT -(A*A).";
-    for (count, want) in [
-        (5, "1:6: expected a number"),
-        (13, "1:14: expected a number"),
-        (14, "1:15: expected }"),
-        (16, "read"),
-        (20, "1:21: expected ("),
-        (24, "1:25: expected an expression"),
-        (28, "1:29: expected )"),
-        (29, "1:30: expected ."),
-        (30, "read"),
-    ] {
-        let given = refusal(rt.alloc(), &text[..count])?;
-        assert_eq!(rt; given.as_str(), want, "at {count}");
     }
     Ok(())
 }

@@ -1,0 +1,81 @@
+//! A case as a line: a script, in which control bytes stand as their pictures, and repeated parts in brackets.
+use crate::fault::{answer, refusal};
+use crate::printed::printed;
+use std::alloc::Global;
+use std::test::Fail;
+
+/// What a byte of a line stands in.
+#[derive(Clone, Copy, Debug)]
+enum Inside {
+    Text,
+    /// Behind `«`, how often the part is to stand.
+    Count,
+    /// Behind the blank, the part up to `»`.
+    Part,
+}
+
+/// A line with each part in brackets as often as they say: `«3 ab»` is `ababab`.
+fn repeated(alloc: Global, line: &[u8]) -> Result<Vec<u8>, Fail> {
+    let mut out = Vec::new(alloc);
+    let mut part: Vec<u8> = Vec::new(alloc);
+    let mut count: usize = 0;
+    let mut inside = Inside::Text;
+    'bytes: for byte in line {
+        match (inside, *byte) {
+            (_, 0xc2) => {}
+            (_, 0xab) => {
+                count = 0;
+                inside = Inside::Count;
+            }
+            (_, 0xbb) => {
+                'times: for _ in 0..count {
+                    out.extend_from_slice(part.as_slice())?;
+                }
+                part.clear();
+                inside = Inside::Text;
+            }
+            (Inside::Count, b' ') => inside = Inside::Part,
+            (Inside::Count, digit) => {
+                count = count
+                    .wrapping_mul(10)
+                    .wrapping_add(usize::from(digit.wrapping_sub(b'0')));
+            }
+            (Inside::Part, other) => part.push(other)?,
+            (Inside::Text, other) => out.push(other)?,
+        }
+    }
+    Ok(out)
+}
+
+/// Bytes in which control bytes stood as their pictures, of U+2400 on.
+fn without_pictures(alloc: Global, line: &[u8]) -> Result<Vec<u8>, Fail> {
+    let mut bytes = Vec::new(alloc);
+    let mut is_picture = false;
+    'bytes: for byte in line {
+        match *byte {
+            0xe2 => {}
+            0x90 => is_picture = true,
+            other => {
+                bytes.push(if is_picture {
+                    other.wrapping_sub(0x80)
+                } else {
+                    other
+                })?;
+                is_picture = false;
+            }
+        }
+    }
+    Ok(bytes)
+}
+
+/// What a case is answered: the script written out, or its fault. Behind `?` only whether it is read, behind `!` the
+/// expression of its PRINT as it is written.
+pub fn answered(alloc: Global, line: &str) -> Result<String, Fail> {
+    let line = repeated(alloc, line.as_bytes())?;
+    let text = without_pictures(alloc, line.as_slice())?;
+    match text.as_slice() {
+        [b'?', script @ ..] => refusal(alloc, script),
+        [b'!', script @ ..] => printed(alloc, script),
+        script => answer(alloc, script),
+    }
+}

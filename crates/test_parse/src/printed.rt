@@ -1,0 +1,23 @@
+//! How expressions are written.
+use lang_model::limits::SCRIPT_LIMIT;
+use lang_model::syntax::{Command, Item};
+use rv_parse::{parse, print_expr};
+use std::alloc::Global;
+use std::test::Fail;
+
+/// The text of the expression that a script of one PRINT has.
+pub fn printed(alloc: Global, script: &[u8]) -> Result<String, Fail> {
+    if script.len() > SCRIPT_LIMIT {
+        return Ok(String::from_str(alloc, "too long")?);
+    }
+    let Ok(script) = parse(alloc, script) else {
+        return Ok(String::from_str(alloc, "no script")?);
+    };
+    let [Item::Command(Command::Print { value })] = script.items.as_slice() else {
+        return Ok(String::from_str(alloc, "another item")?);
+    };
+    match print_expr(alloc, value) {
+        Ok(text) => Ok(String::from_str(alloc, str::from_utf8(text.as_slice())?)?),
+        Err(_) => Ok(String::from_str(alloc, "no memory")?),
+    }
+}
