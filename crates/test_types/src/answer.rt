@@ -1,12 +1,11 @@
 //! What `check` answers, as a line of text.
 use lang_model::faults::TypeFault;
-use lang_model::syntax::{Item, Name, Place};
+use lang_model::limits::SCRIPT_LIMIT;
+use lang_model::syntax::{Name, Place};
 use rv_parse::parse;
 use rv_types::check;
 use std::alloc::Global;
 use std::test::Fail;
-
-const MEBIBYTE: usize = 1_048_576;
 
 /// A kind of faults, the name and the place.
 fn line(alloc: Global, kind: &str, name: &Name, at: Place) -> Result<String, Fail> {
@@ -36,7 +35,7 @@ fn shown(alloc: Global, fault: &TypeFault) -> Result<String, Fail> {
 
 /// The fault of a script, or `none`.
 pub fn answer(alloc: Global, text: &[u8]) -> Result<String, Fail> {
-    if text.len() > MEBIBYTE {
+    if text.len() > SCRIPT_LIMIT {
         return Ok(String::from_str(alloc, "too long")?);
     }
     let Ok(script) = parse(alloc, text) else {
@@ -53,24 +52,4 @@ pub fn answer(alloc: Global, text: &[u8]) -> Result<String, Fail> {
         }
         Err(fault) => shown(alloc, &fault),
     }
-}
-
-/// What a script tells of the definition of a name: what it is, its place, and how many parameters it has.
-pub fn definition(alloc: Global, text: &[u8], name: &[u8]) -> Result<String, Fail> {
-    if text.len() > MEBIBYTE {
-        return Ok(String::from_str(alloc, "too long")?);
-    }
-    let Ok(script) = parse(alloc, text) else {
-        return Ok(String::from_str(alloc, "no script")?);
-    };
-    let Ok(checked) = check(alloc, script) else {
-        return Ok(String::from_str(alloc, "a fault")?);
-    };
-    let (what, at, params) = match checked.definition(name) {
-        None => return Ok(String::from_str(alloc, "none")?),
-        Some(Item::Function { at, params, .. }) => ("function", *at, params.len()),
-        Some(Item::Program { at, params, .. }) => ("program", *at, params.len()),
-        Some(Item::Command(_)) => return Ok(String::from_str(alloc, "a command")?),
-    };
-    Ok(format!(in alloc; "{what} {}:{} of {params}", at.line, at.column)?)
 }

@@ -1,10 +1,34 @@
 //! What a checked script tells of the definition of a name.
-use crate::answer::definition;
+use lang_model::limits::SCRIPT_LIMIT;
+use lang_model::syntax::Item;
+use rv_parse::parse;
+use rv_types::check;
+use std::alloc::Global;
 use std::test::Fail;
 
 /// Four definitions, and a relation.
 const SCRIPT: &[u8] =
     b"F(R) = R. G(R,S) BEG RETURN R END. REL A 2 2 {}.\nFF(R) = F(R). f(R,S,T) = G(R,S).";
+
+/// What a script tells of the definition of a name: what it is, its place, and how many parameters it has.
+fn definition(alloc: Global, text: &[u8], name: &[u8]) -> Result<String, Fail> {
+    if text.len() > SCRIPT_LIMIT {
+        return Ok(String::from_str(alloc, "too long")?);
+    }
+    let Ok(script) = parse(alloc, text) else {
+        return Ok(String::from_str(alloc, "no script")?);
+    };
+    let Ok(checked) = check(alloc, script) else {
+        return Ok(String::from_str(alloc, "a fault")?);
+    };
+    let (what, at, params) = match checked.definition(name) {
+        None => return Ok(String::from_str(alloc, "none")?),
+        Some(Item::Function { at, params, .. }) => ("function", *at, params.len()),
+        Some(Item::Program { at, params, .. }) => ("program", *at, params.len()),
+        Some(Item::Command(_)) => return Ok(String::from_str(alloc, "a command")?),
+    };
+    Ok(format!(in alloc; "{what} {}:{} of {params}", at.line, at.column)?)
+}
 
 #[test]
 fn each_definition_is_told_by_its_name(rt: HostRuntime) -> Result<(), Fail> {
