@@ -8,14 +8,3 @@ pub mod Defs
 pub mod Fitting
 pub mod Scripting
 pub mod Parsing
-pub mod Printed
-pub mod Pieces
-pub mod Written
-pub mod Rereading
-pub mod Again
-pub mod Places
-pub mod Apart
-pub mod Unambiguous
-pub mod Plain
-pub mod OneStmt
-pub mod OneScript

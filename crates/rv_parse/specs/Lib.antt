@@ -4,7 +4,3 @@ pub mod Got
 pub mod Openings
 pub mod Items
 pub mod Stops
-pub mod Places
-pub mod Printed
-pub mod Again
-pub mod Plain

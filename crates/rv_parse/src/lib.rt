@@ -7,11 +7,9 @@ mod expr;
 mod halt;
 mod law;
 mod leaf;
-mod print;
 mod rows;
 mod script;
 mod stmt;
 
-pub use law::{one_script, scripts_have_no_fault};
-pub use print::print_expr;
+pub use law::scripts_have_no_fault;
 pub use script::parse;

@@ -1,7 +1,8 @@
 //! How expressions are written.
 use lang_model::limits::SCRIPT_LIMIT;
 use lang_model::syntax::{Command, Item};
-use rv_parse::{parse, print_expr};
+use rv_parse::parse;
+use rv_spell::print_expr;
 use std::alloc::Global;
 use std::test::Fail;
 

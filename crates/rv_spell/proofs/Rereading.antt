@@ -17,13 +17,13 @@ use Rattle.lang_model.specs.Limits.{nesting_limit}
 use Rattle.lang_model.specs.Tokens.{is_allowed, behind, tokens_from}
 use Rattle.lang_model.specs.Printing.{printed, rank, within, sign_of, base_text, chain_rank}
 use Rattle.lang_model.specs.Spelling.{Level, OrLevel, AndLevel, ProdLevel, UnaryLevel, PostLevel, PrimLevel, tighter, IsOperatorOf, Spelled, named, called, based, based_twice, injected, paired, enclosed, turned, negated, chained, alone, Listed, no_more, one_more, Linked, no_link, one_link}
-use Rattle.rv_parse.proofs.Places.{no_arguments, one_argument, no_links, same_link}
-use Rattle.rv_parse.specs.Printed.{printed_more_args, printed_all_args, rank_of_links, printed_all_links}
+use Rattle.rv_spell.proofs.Places.{no_arguments, one_argument, no_links, same_link}
+use Rattle.rv_spell.specs.Printed.{printed_more_args, printed_all_args, rank_of_links, printed_all_links}
 use Rattle.rv_tokens.proofs.Agreeing.{both}
-use Rattle.rv_parse.proofs.Printed.{printed_call, printed_base, printed_inject, printed_pair, printed_minus, printed_turned, printed_chain, rank_call, rank_base, rank_pair, rank_minus, rank_turned, rank_chain}
+use Rattle.rv_spell.proofs.Printed.{printed_call, printed_base, printed_inject, printed_pair, printed_minus, printed_turned, printed_chain, rank_call, rank_base, rank_pair, rank_minus, rank_turned, rank_chain}
 use Rattle.rv_tokens.proofs.Naming.{AllNamed, named_first}
-use Rattle.rv_parse.proofs.Pieces.{token, then, nothing, open_lexes, close_lexes, comma_lexes, operator_lexes, operator_allowed, carets_allowed, past, name_allowed, base_allowed}
-use Rattle.rv_parse.proofs.Written.{level_rank, rank_bound, looser, Read, Stands, ReadMore, ReadLinks, all_allowed, read_name, read_call, read_one, read_two, read_injection, read_pair, read_turned, read_minus, read_chain, args_end, further_end, link_as, as_text}
+use Rattle.rv_spell.proofs.Pieces.{token, then, nothing, open_lexes, close_lexes, comma_lexes, operator_lexes, operator_allowed, carets_allowed, past, name_allowed, base_allowed}
+use Rattle.rv_spell.proofs.Written.{level_rank, rank_bound, looser, Read, Stands, ReadMore, ReadLinks, all_allowed, read_name, read_call, read_one, read_two, read_injection, read_pair, read_turned, read_minus, read_chain, args_end, further_end, link_as, as_text}
 
 -- ---- what is shown of an expression
 -- An expression that was spelled on a level: the level on which it holds together, its text there, and that it was spelled in parentheses where that is looser.

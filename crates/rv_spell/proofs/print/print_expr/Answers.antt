@@ -1,6 +1,6 @@
 use Rattle.std.proofs.Common.{rules}
-use Rattle.rv_parse.proofs.Again.{read_again, prints_again}
-use Rattle.rv_parse.proofs.print.print_expr.Goals as goal
+use Rattle.rv_spell.proofs.Again.{read_again, prints_again}
+use Rattle.rv_spell.proofs.print.print_expr.Goals as goal
 
 pub returns-clause-again : goal.returns-clause-again
 returns-clause-again c = read_again c.args.expr.now c.write_expr.new.text.items (search rules)

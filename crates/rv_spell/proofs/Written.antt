@@ -17,13 +17,13 @@ use Rattle.lang_model.specs.Limits.{nesting_limit}
 use Rattle.lang_model.specs.Tokens.{is_allowed, behind, tokens_from}
 use Rattle.lang_model.specs.Printing.{printed, rank, within, base_text}
 use Rattle.lang_model.specs.Spelling.{Level, OrLevel, AndLevel, ProdLevel, UnaryLevel, PostLevel, PrimLevel, tighter, TakesOne, TakesTwo, TakesDomain, form_of, Spelled, named, called, based, based_twice, injected, paired, turned, negated, chained, alone, Listed, Linked}
-use Rattle.rv_parse.specs.Places.{SameUpToPlaces}
-use Rattle.rv_parse.proofs.Places.{SameArguments, SameLinks, same_names, same_calls, same_bases, same_injections, same_pairs, same_minus, same_turned, same_chains, no_arguments, one_argument, same_count, same_count_links}
-use Rattle.rv_parse.specs.Printed.{printed_more_args, printed_all_args, printed_all_links}
-use Rattle.rv_parse.specs.Again.{ends_names}
+use Rattle.rv_spell.specs.Places.{SameUpToPlaces}
+use Rattle.rv_spell.proofs.Places.{SameArguments, SameLinks, same_names, same_calls, same_bases, same_injections, same_pairs, same_minus, same_turned, same_chains, no_arguments, one_argument, same_count, same_count_links}
+use Rattle.rv_spell.specs.Printed.{printed_more_args, printed_all_args, printed_all_links}
+use Rattle.rv_spell.specs.Again.{ends_names}
 use Rattle.rv_tokens.proofs.Agreeing.{both}
 use Rattle.rv_tokens.proofs.Naming.{IsName}
-use Rattle.rv_parse.proofs.Pieces.{Lexes, token, then, nothing, open_lexes, close_lexes, bracket_lexes, unbracket_lexes, comma_lexes, minus_lexes, operator_ends, carets, behind_carets, carets_lex, carets_spell, past, name_lexes, base_lexes}
+use Rattle.rv_spell.proofs.Pieces.{Lexes, token, then, nothing, open_lexes, close_lexes, bracket_lexes, unbracket_lexes, comma_lexes, minus_lexes, operator_ends, carets, behind_carets, carets_lex, carets_spell, past, name_lexes, base_lexes}
 
 -- ---- levels
 -- how tightly the expressions of a level hold together at least

@@ -1,8 +1,8 @@
 //! The text of an expression.
 ghost use Rattle.std.specs.Prelude.{◌≡◌, ◌++◌, ◌∷◌, ℕ, [], replicate, nat_le, IfOk, OnOk};
 ghost use Rattle.lang_model.specs.Printing.{sign_of, base_text, chain_rank, rank, within, printed};
-ghost use Rattle.rv_parse.specs.Again.{StandsIn, ReadAgain, PrintsAgain};
-ghost use Rattle.rv_parse.specs.Printed.{rank_of_links, printed_all_args, printed_all_links};
+ghost use Rattle.rv_spell.specs.Again.{StandsIn, ReadAgain, PrintsAgain};
+ghost use Rattle.rv_spell.specs.Printed.{rank_of_links, printed_all_args, printed_all_links};
 
 use lang_model::syntax::{Base, Expr, Link, Op2};
 use rel_model::NoMemory;

@@ -21,12 +21,12 @@ use Rattle.lang_model.specs.declared.token.Kind.TheVariants.{Keyword as KEYWORD,
 use Rattle.lang_model.specs.declared.token.Token.{Token}
 use Rattle.lang_model.specs.Taken.{TakesAt}
 use Rattle.lang_model.specs.Spelling.{OrLevel, SpellsMoreColumns, SpellsColumns, SpellsRow, SpellsMoreRows, SpellsRows, SpellsMoreNames, SpellsParams, domain_word, SpellsDecl, SpellsMoreDecls, SpellsDecls, SpellsHead, SpellsNamed, SpellsValued, SpellsCommand, SpellsItem, SpellsItems}
-use Rattle.rv_parse.specs.Again.{Ends}
+use Rattle.rv_spell.specs.Again.{Ends}
 use Rattle.rv_parse.specs.Readers.{begins}
-use Rattle.rv_parse.specs.Plain.{row_tree, RelationTree, LetTree, PrintTree, ListTree, CountTree, TypedTree, RemoveTree, SnapTree, AtTree, LoadTree, SaveTree, command_tree, FunctionTree, ProgramTree, CommandItem, item_tree, OneScript}
-use Rattle.rv_parse.proofs.Apart.{one_kind, one_place, one_rest, one_word, ends_stop}
-use Rattle.rv_parse.proofs.Unambiguous.{Agrees, agree}
-use Rattle.rv_parse.proofs.OneStmt.{code_of, differ, ends_keyword, closing, agree_stmts}
+use Rattle.rv_spell.specs.Plain.{row_tree, RelationTree, LetTree, PrintTree, ListTree, CountTree, TypedTree, RemoveTree, SnapTree, AtTree, LoadTree, SaveTree, command_tree, FunctionTree, ProgramTree, CommandItem, item_tree, OneScript}
+use Rattle.rv_spell.proofs.Apart.{one_kind, one_place, one_rest, one_word, ends_stop}
+use Rattle.rv_spell.proofs.Unambiguous.{Agrees, agree}
+use Rattle.rv_spell.proofs.OneStmt.{code_of, differ, ends_keyword, closing, agree_stmts}
 
 one_number : (v w : ℕ) → Number v ≡ Number w → v ≡ w
 one_number v w e = cc

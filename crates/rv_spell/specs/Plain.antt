@@ -12,7 +12,7 @@ use Rattle.lang_model.specs.declared.syntax.Item.{Item}
 use Rattle.lang_model.specs.declared.syntax.Item.TheVariants.{Function, Program, Command as COMMAND}
 use Rattle.lang_model.specs.declared.syntax.Script.{Script}
 use Rattle.lang_model.specs.Spelling.{SpelledBy}
-use Rattle.rv_parse.specs.Places.{Tree, tree_of}
+use Rattle.rv_spell.specs.Places.{Tree, tree_of}
 
 -- ---- listed relations
 -- a row: its number, its place and its columns

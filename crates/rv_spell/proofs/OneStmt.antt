@@ -14,12 +14,12 @@ use Rattle.lang_model.specs.declared.token.Token.{Token}
 use Rattle.lang_model.specs.Taken.{TakesAt}
 use Rattle.lang_model.specs.Stop.{number_of}
 use Rattle.lang_model.specs.Spelling.{OrLevel, SpelledStmt, assigned, looped, branched, branched_twice, SpelledStmts, no_stmt, one_stmt, more_stmts}
-use Rattle.rv_parse.specs.Again.{Ends}
+use Rattle.rv_spell.specs.Again.{Ends}
 use Rattle.rv_parse.specs.Readers.{begins}
-use Rattle.rv_parse.specs.Plain.{SetTree, WhileTree, IfTree, NoStmt, MoreStmts, stmt_tree, stmts_in}
-use Rattle.rv_parse.proofs.Apart.{one_kind, one_place, one_rest, one_word}
-use Rattle.rv_parse.proofs.Plain.{stmt_tree-while, stmt_tree-if}
-use Rattle.rv_parse.proofs.Unambiguous.{agree}
+use Rattle.rv_spell.specs.Plain.{SetTree, WhileTree, IfTree, NoStmt, MoreStmts, stmt_tree, stmts_in}
+use Rattle.rv_spell.proofs.Apart.{one_kind, one_place, one_rest, one_word}
+use Rattle.rv_spell.proofs.Plain.{stmt_tree-while, stmt_tree-if}
+use Rattle.rv_spell.proofs.Unambiguous.{agree}
 
 -- ---- tokens
 -- a number that tells the keywords and the other kinds of tokens apart, and the signs among themselves

@@ -1,8 +1,8 @@
 use Rattle.std.proofs.Common.{◌≡◌, ◌++◌, ◌∷◌, [], ◌∙◌, nat_le, OnOk, append_assoc, sym, ap, subst}
 use Rattle.lang_model.specs.Printing.{rank, within, printed}
-use Rattle.rv_parse.specs.Printed.{rank_of_links, printed_all_args, printed_all_links}
-use Rattle.rv_parse.proofs.Printed.{printed_call, printed_base, printed_chain}
-use Rattle.rv_parse.proofs.print.+print.Goals as goal
+use Rattle.rv_spell.specs.Printed.{rank_of_links, printed_all_args, printed_all_links}
+use Rattle.rv_spell.proofs.Printed.{printed_call, printed_base, printed_chain}
+use Rattle.rv_spell.proofs.print.+print.Goals as goal
 
 pub write_expr-returns-in-Call : goal.write_expr-returns-in-Call
 write_expr-returns-in-Call t c =

@@ -16,15 +16,15 @@ use Rattle.lang_model.specs.declared.token.Token.{Token}
 use Rattle.lang_model.specs.Tokens.{is_allowed, reserved_words, domain_operators, domain_operator_at, word_kind, kind_at, behind, tokens_from, tokens_of}
 use Rattle.lang_model.specs.Printing.{printed}
 use Rattle.lang_model.specs.Spelling.{OrLevel, Spelled, SpelledBy}
-use Rattle.rv_parse.specs.Places.{Tree, tree_of, without_places, SameUpToPlaces}
-use Rattle.rv_parse.specs.Plain.{ItemTree, CommandItem, PrintTree, item_tree, script_tree}
-use Rattle.rv_parse.specs.Again.{StandsIn, SpellOnly, ReadAgain, PrintsSame, PrintsAgain}
+use Rattle.rv_spell.specs.Places.{Tree, tree_of, without_places, SameUpToPlaces}
+use Rattle.rv_spell.specs.Plain.{ItemTree, CommandItem, PrintTree, item_tree, script_tree}
+use Rattle.rv_spell.specs.Again.{StandsIn, SpellOnly, ReadAgain, PrintsSame, PrintsAgain}
 use Rattle.rv_tokens.proofs.Naming.{all_named, named_behind}
-use Rattle.rv_parse.proofs.Pieces.{Lexes, token, then, past, stop_lexes}
-use Rattle.rv_parse.proofs.Unambiguous.{agree}
-use Rattle.rv_parse.proofs.OneScript.{one_script_law}
-use Rattle.rv_parse.proofs.Written.{all_allowed}
-use Rattle.rv_parse.proofs.Rereading.{Reread, whole, reread}
+use Rattle.rv_spell.proofs.Pieces.{Lexes, token, then, past, stop_lexes}
+use Rattle.rv_spell.proofs.Unambiguous.{agree}
+use Rattle.rv_spell.proofs.OneScript.{one_script_law}
+use Rattle.rv_spell.proofs.Written.{all_allowed}
+use Rattle.rv_spell.proofs.Rereading.{Reread, whole, reread}
 
 of_text : (d : ℕ) (e : Expr) (i : StandsIn d e) → Reread i.level d e i.rest
 of_text d e i = reread i.spelled (named_behind i.before i.tokens (all_named i.bytes (i.before ++ i.tokens) i.split))

@@ -1,0 +1,11 @@
+pub mod Printed
+pub mod Pieces
+pub mod Written
+pub mod Rereading
+pub mod Again
+pub mod Places
+pub mod Apart
+pub mod Unambiguous
+pub mod Plain
+pub mod OneStmt
+pub mod OneScript

@@ -1,0 +1,4 @@
+pub mod Places
+pub mod Printed
+pub mod Again
+pub mod Plain
