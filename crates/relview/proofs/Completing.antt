@@ -25,7 +25,7 @@ use Rattle.run_model.specs.Stored.{FillsWhereFull}
 use Rattle.rv_io.specs.Outside.{Told}
 use Rattle.rv_words.specs.Uses.{Word}
 use Rattle.relview.specs.Writing.{Sunk, IsTold, Told_whole, Unwritten, Unput, HasPut}
-use Rattle.std.specs.Io.KnownBytes.{Appends}
+use Rattle.rv_io.specs.Writing.{Grows}
 use Rattle.relview.specs.Top.{HasRun, outcomes_of, status_of}
 use Rattle.relview.specs.Complete.{HadMemory, CameDue, AllCameDue, NoneFailed, NothingLacked, IsComplete, CompleteRuns}
 use Rattle.relview.specs.declared.report.Report.{Report}
@@ -94,7 +94,7 @@ all_come words vacant (os ∷ all) memory fills =
 
 -- ---- what was told
 record ToldWhole (so sn : Told) (o n : Sunk) (text : List ℕ) (files : List SavedFile) (whole status : ℕ) : Type 0 where
-  written : Appends o.written n.written text
+  written : Grows o.written n.written text
   put : HasPut so.files sn.files files
   same : status ≡ whole
 
