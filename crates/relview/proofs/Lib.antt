@@ -15,4 +15,4 @@ pub mod Lonely
 pub mod Roomy
 pub mod Completing
 pub mod Beginning
-pub mod Surely
+pub mod Unfailing

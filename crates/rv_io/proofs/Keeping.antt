@@ -55,6 +55,7 @@ placed bytes name content all start middle end place whole s m e =
   where
     long : length (bytes ++ name) ≡ length bytes + length name
     long = length-append bytes name
+
     at_name : between ((bytes ++ name) ++ content) place.name place.content ≡ name
     at_name =
         between-grown (bytes ++ name) content place.name place.content (omega (arith, s, m, long)) (omega (arith, m))
@@ -62,6 +63,7 @@ placed bytes name content all start middle end place whole s m e =
         ∙ ap (λ xs. take (place.content - length bytes) xs) (drop-append_seam bytes name)
         ∙ ap (λ k. take k name) (omega (arith, m, long))
         ∙ take_all (length name) name (omega arith)
+
     at_content : between ((bytes ++ name) ++ content) place.content place.end ≡ content
     at_content =
         ap (λ k. take (place.end - k) (drop k ((bytes ++ name) ++ content))) m
@@ -77,6 +79,7 @@ between-split bytes from at to l m =
   where
     gap : to - from ≡ (at - from) + (to - at)
     gap = omega (arith, l, m)
+
     back : from + (at - from) ≡ at
     back = omega (arith, l)
 
@@ -105,6 +108,7 @@ within-added b old new more name content places now place grown w p e =
   where
     others : AreWithin new places
     others = subst (λ bytes. AreWithin bytes places) (sym grown) (within-grown old more places w)
+
     by : (b : Bool) → AreWithin new (cond b (place ∷ places) places)
     by true = (p.within, others)
     by false = others

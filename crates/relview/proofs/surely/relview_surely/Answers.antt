@@ -1,5 +1,5 @@
 use Rattle.std.proofs.Common.{refl}
-use Rattle.relview.proofs.Surely.{is_sure}
+use Rattle.relview.proofs.Unfailing.{is_sure}
 use Rattle.relview.proofs.surely.relview_surely.Goals as goal
 
 pub returns : goal.returns

@@ -16,4 +16,4 @@ returns-in-Ok-clause-added c =
     let old = c.args.self.now in
     let placed : IsPlaced c.args.name.now c.args.content.now c.append.new.bytes.items c.in_ok-place.place = subst (λ name. IsPlaced name c.args.content.now c.append.new.bytes.items c.in_ok-place.place) c.as_bytes.ensures.value c.in_ok-place.ensures.placed in
     λ other. subst (λ places. kept_at c.append.new.bytes.items places other ≡ with_first c.args.name.now c.args.content.now (kept_at old.bytes.items old.places.items) other) (sym c.in-Ok.ensures.items)
-      (kept_at-added old.bytes.items c.append.new.bytes.items grown.0 c.args.name.now c.args.content.now old.places.items c.in_ok-place.place other grown.1 old.within placed)
+    (kept_at-added old.bytes.items c.append.new.bytes.items grown.0 c.args.name.now c.args.content.now old.places.items c.in_ok-place.place other grown.1 old.within placed)

@@ -1,6 +1,6 @@
 -- Where no count of faults can rise, a run begins and is complete.
-use Rattle.std.proofs.Common.{◌≡◌, ◌≤◌, ◌+◌, ◌⊎◌, ℕ, Bool, true, false, List, [], ◌∷◌, Option, Some, map, ap, sym, subst, arith}
-use Rattle.std.specs.Prelude.{All, IsTrue, unwrap_or, AllPass}
+use Rattle.std.proofs.Common.{◌≡◌, ◌≤◌, ◌+◌, ◌⊎◌, ℕ, Bool, true, false, List, [], ◌∷◌, Option, Some, ◌&&◌, map, ap, sym, subst, arith}
+use Rattle.std.specs.Prelude.{All, IsTrue, unwrap_or}
 use Rattle.std.specs.List.{list_all}
 use Rattle.std.specs.String.{string_bytes}
 use Rattle.std.specs.declared.string.String.{String}
@@ -41,15 +41,16 @@ is_sure words so sn o n report faults put_faults writes answers = record {
   });
 }
 
+-- a test and more tests
+both : (b first second : Bool) → (first ≡ true → second ≡ true) → (b && first) ≡ true → (b && second) ≡ true
+both true first second f e = f e
+both false first second f e = e
+
 -- what passes for all names passes for their texts
 texts_pass : (test : List ℕ → Bool) (names : List (String Global)) → list_all (λ name. test (string_bytes name)) names ≡ true → list_all test (texts names) ≡ true
 texts_pass test [] e = e
-texts_pass test (name ∷ names) e = by (test (string_bytes name)) e
-  where
-    by : (b : Bool) → cond b (list_all (λ n. test (string_bytes n)) names) false ≡ true → cond b (list_all test (texts names)) false ≡ true
-    by true e = texts_pass test names e
-    by false e = e
+texts_pass test (name ∷ names) e = both (test (string_bytes name)) _ _ (texts_pass test names) e
 
 -- so for the FILE words, where these are the names
 pub files_pass : (test : List ℕ → Bool) (words : List Word) (names : List (String Global)) → files_told words ≡ Some (texts names) → list_all (λ name. test (string_bytes name)) names ≡ true → All (λ w. IsTrue (test w)) (file_words words)
-files_pass test words names told e = subst (λ ws. All (λ w. IsTrue (test w)) ws) (sym (ap (λ files. unwrap_or files []) told)) (AllPass-from_list_all (texts names) (texts_pass test names e))
+files_pass test words names told e = subst (λ ws. All (λ w. IsTrue (test w)) ws) (sym (ap (λ files. unwrap_or files []) told)) (AllPass-from_list_all test (texts names) (texts_pass test names e))
