@@ -20,6 +20,8 @@ DOMOPS = frozenset((b"p-1", b"p-2", b"i-1", b"i-2"))
 DEEPEST = 40
 MOST = 16
 RANKS = 16
+# The rules on names, in the order in which they are told at one place.
+UNKNOWN, ARITY, UNASSIGNED, RANK, TWICE = range(5)
 
 
 class Fault(Exception):
@@ -394,7 +396,7 @@ class Checker:
         self.arity, self.rank, self.faults = {}, {}, []
 
     def fault(self, place, rule, words):
-        """Notes a fault."""
+        """Notes a fault of a rule: at one place the first rule comes first, and of one rule the fault that was noted first."""
         self.faults.append((place, rule, len(self.faults), words))
 
     def calls(self, names):
@@ -403,11 +405,11 @@ class Checker:
         for what, text, place, *more_of in names:
             if what == "call":
                 if text not in self.arity:
-                    self.fault(place, 2, f"unknown name {text}")
+                    self.fault(place, UNKNOWN, f"unknown name {text}")
                 else:
                     rank = max(rank, self.rank[text])
                     if self.arity[text] != more_of[0]:
-                        self.fault(place, 4, f"{text} takes {self.arity[text]} arguments, not {more_of[0]}")
+                        self.fault(place, ARITY, f"{text} takes {self.arity[text]} arguments, not {more_of[0]}")
         return rank
 
     def command(self, items):
@@ -427,18 +429,18 @@ class Checker:
         self.calls(names)
         for what, text, place, *_ in names:
             if what == "domain":
-                self.fault(place, 2, f"unknown name {text}")
+                self.fault(place, UNKNOWN, f"unknown name {text}")
 
     def definition(self, items):
         """A definition of a function or a program."""
         _, name, place = items.next()
         parameters, ranks = [], [0]
         if name in self.arity:
-            self.fault(place, 1, f"{name} is defined twice")
+            self.fault(place, TWICE, f"{name} is defined twice")
         while items.next()[0] != ")":
             parameter = items.next()[1]
             if parameter in parameters:
-                self.fault(place, 1, f"{parameter} is defined twice")
+                self.fault(place, TWICE, f"{parameter} is defined twice")
             parameters.append(parameter)
         variables, domains = set(), {}
 
@@ -447,11 +449,11 @@ class Checker:
             for what, text, where, *more_of in names:
                 if what == "ref" and text in variables:
                     if text not in assigned and text not in parameters:
-                        self.fault(where, 5, f"{text} may be read before it is assigned")
+                        self.fault(where, UNASSIGNED, f"{text} may be read before it is assigned")
                 elif what == "unknown" or what == "ref" and text not in parameters:
-                    self.fault(where, 2, f"unknown name {text}")
+                    self.fault(where, UNKNOWN, f"unknown name {text}")
                 elif what == "domain" and domains.get(more_of[0]) != text[0]:
-                    self.fault(where, 2, f"unknown name {text}")
+                    self.fault(where, UNKNOWN, f"unknown name {text}")
 
         if items.passes("="):
             names = []
@@ -469,7 +471,7 @@ class Checker:
             read(names, flow(statements, variables, frozenset(), read))
         rank = 1 + max(ranks)
         if rank > RANKS:
-            self.fault(place, 6, f"{name} has a rank over 16")
+            self.fault(place, RANK, f"{name} has a rank over 16")
         self.arity[name], self.rank[name] = len(parameters), rank
 
     def declarations(self, items, parameters, variables, domains):
@@ -477,7 +479,7 @@ class Checker:
         while True:
             _, text, where = items.next()
             if text in parameters or text in variables or text in domains:
-                self.fault(where, 1, f"{text} is defined twice")
+                self.fault(where, TWICE, f"{text} is defined twice")
             if items.passes("="):
                 domains.setdefault(text, "p" if items.next()[0] == "PROD" else "i")
                 items.next()
@@ -487,7 +489,7 @@ class Checker:
                 items.next()
                 strange = [part for part in (left, right) if part not in parameters]
                 if strange:
-                    self.fault(where, 2, f"unknown name {strange[0]}")
+                    self.fault(where, UNKNOWN, f"unknown name {strange[0]}")
             else:
                 variables.add(text)
             if not items.passes(","):

@@ -1,5 +1,5 @@
 -- Where no count of faults can rise, a run begins and is complete.
-use Rattle.std.proofs.Common.{◌≡◌, ◌≤◌, ◌+◌, ◌⊎◌, ℕ, Bool, true, false, List, [], ◌∷◌, Option, Some, ◌&&◌, map, ap, sym, subst, arith}
+use Rattle.std.proofs.Common.{◌≡◌, ℕ, Bool, true, false, List, [], ◌∷◌, Some, ◌&&◌, ap, sym, subst, arith}
 use Rattle.std.specs.Prelude.{All, IsTrue, unwrap_or}
 use Rattle.std.specs.List.{list_all}
 use Rattle.std.specs.String.{string_bytes}
