@@ -42,7 +42,10 @@ fn a_word_that_names_no_file_is_seen(rt: HostRuntime) -> Result<(), Fail> {
     let shelf = shelf_of(alloc, "", 0)?;
     for (word, wanted) in [("a.rv", true), ("b.rv", false), ("--workers", false)] {
         let words = vec![in alloc; String::from_str(alloc, word)?]?;
-        assert!(rt; has_files(alloc, words.as_slice(), &shelf) == wanted, "{word}");
+        assert!(rt;
+            has_files(alloc, words.as_slice(), &shelf) == wanted,
+            "{word}"
+        );
     }
     Ok(())
 }

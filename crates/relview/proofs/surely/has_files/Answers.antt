@@ -12,4 +12,4 @@ returns-in-Ok c =
     let kept = c.args.shelf.now.kept in
     let test = λ (name : List ℕ). is_some (kept_at kept.bytes.items kept.places.items name) in
     λ all. files_pass test (texts c.args.words.now) c.in-Ok.names.items c.in-Ok.ensures.files
-      (sym (ap (λ names. list_all (λ name. test (string_bytes name)) names) c.as_slice.ensures.value) ∙ sym c.has_all.ensures ∙ all)
+    (sym (ap (λ names. list_all (λ name. test (string_bytes name)) names) c.as_slice.ensures.value) ∙ sym c.has_all.ensures ∙ all)
