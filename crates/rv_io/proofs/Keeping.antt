@@ -1,14 +1,13 @@
 -- What files that are kept one behind another in one row of bytes tell, as the bytes grow.
-use Rattle.std.proofs.Common.{◌≡◌, ◌≢◌, ◌<◌, ◌≤◌, ◌+◌, ◌-◌, ℕ, Bool, true, false, cond, List, [], ◌∷◌, ◌++◌, Option, Some, None, length, take, drop, nat_eq, refl, sym, ap, ◌∙◌, subst, inl, inr, arith, length-append, length-drop, drop-drop, take-append-drop, take-add, length-take}
-use Rattle.std.specs.List.{AllByRecursion}
-use lib.Seq.{take-append-le, drop-append-le, drop-append_seam, take-append_seam, take_all}
+use Rattle.std.proofs.Common.{◌≡◌, ◌≢◌, ◌≤◌, ◌+◌, ◌-◌, ℕ, Bool, true, false, cond, List, [], ◌∷◌, ◌++◌, Option, Some, length, take, drop, nat_eq, refl, sym, ap, ◌∙◌, subst, inl, inr, arith, length-append, length-drop, drop-drop, take-add, length-take}
+use lib.Seq.{take-append-le, drop-append-le, drop-append_seam, take_all}
 use lib.Pointwise.{pointwise}
 use Rattle.std.specs.Prelude.{is_some}
 use Rattle.std.proofs.lemmas.List.{take_at}
 use Rattle.std.proofs.lemmas.Bool.{cases_Bool}
 use Rattle.std.proofs.lemmas.Slice.Eq.{bytes_eq-Decides}
 use Rattle.rv_io.specs.declared.kept.Place.{Place}
-use Rattle.rv_io.specs.Sure.{between, name_in, content_in, is_named, kept_at, IsWithin, AreWithin, IsPlaced, with_first}
+use Rattle.rv_io.specs.Sure.{between, content_in, is_named, kept_at, IsWithin, AreWithin, IsPlaced, with_first}
 
 -- bytes within those that were there stay as they are
 pub between-grown : (bytes more : List ℕ) (from to : ℕ) → from ≤ to → to ≤ length bytes → between (bytes ++ more) from to ≡ between bytes from to
