@@ -1,15 +1,14 @@
 -- A run begins where nothing stands in its way.
-use Rattle.std.proofs.Common.{◌≡◌, ◌⊎◌, ◌≤◌, ◌<◌, ◌++◌, ◌∙◌, ℕ, Bool, true, false, List, [], ◌∷◌, Option, Some, None, length, refl, sym, ap, subst, inl, inr, arith}
+use Rattle.std.proofs.Common.{◌≡◌, ◌⊎◌, ◌≤◌, ◌++◌, ◌∙◌, ℕ, Bool, true, false, List, [], ◌∷◌, Option, Some, None, length, refl, sym, ap, subst, inl, inr, arith}
 use Rattle.std.specs.Bool.{MatchBool}
 use Rattle.std.specs.List.{AllByRecursion}
 use Rattle.rv_io.specs.Outside.{Files, Told, IsOver}
 use Rattle.rv_words.specs.Uses.{Word}
-use Rattle.rv_words.specs.Said.{Said, said_by}
 use Rattle.relview.specs.declared.report.Report.{Report}
-use Rattle.relview.specs.Given.{file_words, limit_of}
-use Rattle.relview.specs.Lines.{IsSaid, IsFirst, Usage, Unread, TooLong}
-use Rattle.relview.specs.Writing.{Sunk, IsWritten, Whole, Part, IsOut}
-use Rattle.relview.specs.Top.{HasRun, HasStopped, Says, Answers}
+use Rattle.relview.specs.Given.{limit_of}
+use Rattle.relview.specs.Lines.{IsSaid, Usage, Unread, TooLong}
+use Rattle.relview.specs.Writing.{Sunk, IsOut}
+use Rattle.relview.specs.Top.{HasRun, HasStopped, Says}
 use Rattle.relview.specs.Complete.{NothingStopped, RunsBegin}
 
 -- what holds of all elements holds of one among them

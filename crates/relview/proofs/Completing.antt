@@ -4,7 +4,7 @@
 --    one; memory did not run out.
 -- 2. The steps of a session have its outcomes, so what holds of all outcomes holds of those of the steps.
 -- 3. Of the three ways in which a page and its files are told the other two have a count that rose.
-use Rattle.std.proofs.Common.{◌≡◌, ◌≢◌, ◌⊎◌, ◌+◌, ℕ, List, [], ◌∷◌, inl, inr}
+use Rattle.std.proofs.Common.{◌≡◌, ◌≢◌, ◌+◌, ℕ, List, [], ◌∷◌, inl, inr}
 use Rattle.std.specs.List.{AllByRecursion}
 use Rattle.lang_model.specs.declared.syntax.Item.{Item}
 use Rattle.lang_model.specs.declared.syntax.Script.{Script}
@@ -23,12 +23,10 @@ use Rattle.run_model.specs.Legal.{LegalSession, LegalSessions, steps_in}
 use Rattle.run_model.specs.Page.{page, saves, SavedFile}
 use Rattle.run_model.specs.Stored.{FillsWhereFull}
 use Rattle.rv_io.specs.Outside.{Told}
-use Rattle.rv_words.specs.Uses.{Word}
 use Rattle.relview.specs.Writing.{Sunk, IsTold, Told_whole, Unwritten, Unput, HasPut}
-use Rattle.std.specs.Io.KnownBytes.{Appends}
-use Rattle.relview.specs.Top.{HasRun, outcomes_of, status_of}
-use Rattle.relview.specs.Complete.{HadMemory, CameDue, AllCameDue, NoneFailed, NothingLacked, IsComplete, CompleteRuns}
-use Rattle.relview.specs.declared.report.Report.{Report}
+use Rattle.rv_io.specs.Writing.{Grows}
+use Rattle.relview.specs.Top.{outcomes_of, status_of}
+use Rattle.relview.specs.Complete.{HadMemory, CameDue, AllCameDue, NoneFailed, CompleteRuns}
 
 -- ---- one outcome
 -- neither a full table nor out of memory
@@ -94,7 +92,7 @@ all_come words vacant (os ∷ all) memory fills =
 
 -- ---- what was told
 record ToldWhole (so sn : Told) (o n : Sunk) (text : List ℕ) (files : List SavedFile) (whole status : ℕ) : Type 0 where
-  written : Appends o.written n.written text
+  written : Grows o.written n.written text
   put : HasPut so.files sn.files files
   same : status ≡ whole
 

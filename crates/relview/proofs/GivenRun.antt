@@ -1,9 +1,9 @@
 -- A run over a table whose page and files were told answers what was given.
-use Rattle.std.proofs.Common.{◌≡◌, ◌∙◌, ℕ, Bool, true, false, List, map, refl, sym, ap, subst}
+use Rattle.std.proofs.Common.{◌≡◌, ℕ, Bool, true, false, List, map, refl, sym, subst}
 use Rattle.std.specs.Prelude.{All}
 use Rattle.std.specs.Bool.{MatchBool}
 use Rattle.std.specs.Str.{IsUtf8}
-use Rattle.run_model.specs.Page.{page, saves}
+use Rattle.run_model.specs.Page.{page}
 use Rattle.rv_sessions.specs.declared.transcript.Loaded.{Loaded}
 use Rattle.rv_sessions.specs.Telling.{saved_all}
 use Rattle.rv_runs.specs.Runs.{input_with}
@@ -11,8 +11,8 @@ use Rattle.rv_io.specs.Outside.{Told}
 use Rattle.relview.specs.declared.report.Report.{Report}
 use Rattle.relview.specs.declared.over_table.Finished.{Finished}
 use Rattle.relview.specs.Finished.{IsFinished}
-use Rattle.relview.specs.Writing.{Sunk, IsTold, HasNoPut}
-use Rattle.relview.specs.Top.{RanGiven, GaveUp, AnswersGiven, IsEmpty, status_of, outcomes_of}
+use Rattle.relview.specs.Writing.{Sunk, IsTold}
+use Rattle.relview.specs.Top.{RanGiven, GaveUp, AnswersGiven, IsEmpty, status_of}
 use Rattle.relview.proofs.SaveNames.{saves_named}
 
 -- the names of its files are text

@@ -4,7 +4,7 @@
 -- 2. As many nodes are stored as the worker made, which are no more than the commands may cost.
 -- 3. A full table was counted as a miss, and then the seat saw every place taken.
 use Rattle.std.proofs.Common.{◌≡◌, ◌≢◌, ◌<◌, ◌+◌, ◌∙◌, ℕ, Bool, List, [], ◌∷◌, Option, Some, None, refl, sym, ap, subst, arith}
-use Rattle.std.specs.Prelude.{IsSome, All, unwrap_or}
+use Rattle.std.specs.Prelude.{IsSome, unwrap_or}
 use Rattle.std.specs.List.{AllByRecursion}
 use Rattle.std.proofs.lemmas.List.Elements.{All-head, All-tail}
 use Rattle.std.proofs.lemmas.Bool.{false≢true}
@@ -12,12 +12,11 @@ use Rattle.rel_model.specs.declared.Rel.{Rel}
 use Rattle.rel_model.specs.Relation.{Relation}
 use Rattle.run_model.specs.declared.event.Event.{Event}
 use Rattle.run_model.specs.declared.outcome.Outcome.{Outcome}
-use Rattle.run_model.specs.declared.outcome.Outcome.TheVariants.{Nodes}
 use Rattle.run_model.specs.Page.{SavedFile}
 use Rattle.run_model.specs.Sessions.{rel_of}
 use Rattle.run_model.specs.States.{gifts_due}
 use Rattle.run_model.specs.Stored.{HoldsRun, FillsWhereFull, AreInWords}
-use Rattle.rel_model.specs.Words.{Extends, IsFull, IsDistinct}
+use Rattle.rel_model.specs.Words.{Extends, IsFull}
 use Rattle.rel_model.specs.Equations.{node_words}
 use Rattle.rel_model.specs.Trees.{bottom_height}
 use Rattle.rel_model.specs.Views.{Table, View, IsOf, IsFresh, IsClosed}
@@ -25,7 +24,7 @@ use Rattle.rel_model.specs.Quads.{Keeper}
 use Rattle.rel_model.specs.Worker.{Worker, Stands, set_of}
 use Rattle.rel_model.specs.Roots.{relation_in}
 use Rattle.rel_model.proofs.Rooting.{relation_in-stays, one_root}
-use Rattle.fork_quads.specs.Crew.{house_of, worker_of}
+use Rattle.fork_quads.specs.Crew.{worker_of}
 use Rattle.fork_quads.proofs.Crewing.{house_of-injective}
 use Rattle.run_model.proofs.Carrying.{due_is_stored}
 use Rattle.rv_workspace.specs.Books.{HistoryStands, EventStands}

@@ -1,15 +1,15 @@
 -- Each file text among the tokens of a text is ASCII.
-use Rattle.std.proofs.Common.{◌≡◌, ◌<◌, ◌≤◌, ◌+◌, ◌-◌, ◌∙◌, ℕ, zero, suc, Bool, true, false, cond, List, [], ◌∷◌, take, drop, length, Option, Some, None, refl, sym, ap, subst, arith}
+use Rattle.std.proofs.Common.{◌≡◌, ◌<◌, ◌+◌, ◌-◌, ℕ, zero, suc, Bool, true, false, cond, List, [], ◌∷◌, take, Option, Some, None, refl, ap, subst, arith}
 use Rattle.std.proofs.lemmas.Bool.{false≢true, and_parts, leb-true}
-use Rattle.std.specs.Prelude.{◌==◌, ◌&&◌, not, nat_le, nat_lt, is_some, unwrap_or, option_map, slice_index, ◌^◌}
+use Rattle.std.specs.Prelude.{◌==◌, ◌&&◌, not, nat_le, nat_lt, is_some, unwrap_or, ◌^◌}
 use Rattle.std.specs.Option.{option_map_or}
-use Rattle.std.specs.List.{AllByRecursion, list_all}
+use Rattle.std.specs.List.{list_all}
 use Rattle.std.specs.Str.{IsAscii}
 use Rattle.lang_model.specs.declared.syntax.Place.{Place}
 use Rattle.lang_model.specs.declared.token.Kind.{Kind}
 use Rattle.lang_model.specs.declared.token.Kind.TheVariants.{Keyword, Base, Word, Number, File, Sign}
 use Rattle.lang_model.specs.declared.token.Token.{Token}
-use Rattle.lang_model.specs.Tokens.{same_text, is_blank, is_allowed, is_digit, is_letter, is_word_byte, is_file_byte, is_sign_byte, run_length, value_from, behind, found_in, reserved_words, word_kind, domain_operators, domain_operator_at, begins_with_quote, file_at, kind_at, with_token, tokens_from, tokens_of}
+use Rattle.lang_model.specs.Tokens.{same_text, is_blank, is_allowed, is_digit, is_letter, is_word_byte, is_file_byte, is_sign_byte, run_length, value_from, behind, found_in, reserved_words, word_kind, domain_operators, domain_operator_at, file_at, kind_at, with_token, tokens_from, tokens_of}
 use Rattle.relview.proofs.Texts.{HasText, AreTexts}
 
 -- what stands in an option

@@ -15,3 +15,4 @@ pub mod Lonely
 pub mod Roomy
 pub mod Completing
 pub mod Beginning
+pub mod Unfailing

@@ -1,20 +1,20 @@
 -- Scripts that were read, and those that are generated, are within the limit of a script.
-use Rattle.std.proofs.Common.{◌≡◌, ◌≤◌, ◌<◌, ◌+◌, ◌*◌, ◌^◌, ◌%◌, ◌∙◌, ℕ, Bool, true, false, cond, List, [], ◌∷◌, ◌++◌, length, map, Option, refl, sym, ap, subst, arith, zero, suc}
+use Rattle.std.proofs.Common.{◌≡◌, ◌≤◌, ◌+◌, ◌*◌, ◌^◌, ◌%◌, ◌∙◌, ℕ, Bool, true, false, cond, List, [], ◌∷◌, ◌++◌, length, map, Option, refl, sym, ap, subst, arith, zero, suc}
 use Rattle.std.proofs.lemmas.List.{length-map, length-append}
 use Rattle.std.proofs.lemmas.List.Elements.{All-cons, All-nil}
 use Rattle.std.proofs.lemmas.List.FromFn.{length-map-range_with_len}
 use Rattle.std.proofs.lemmas.Fmt.{length-decimal-le_succ}
 use Rattle.std.specs.Prelude.{if◌then◌else◌, All, codes}
 use Rattle.std.specs.Fmt.{decimal}
-use Rattle.std.specs.List.{range_with_len, AllByRecursion}
+use Rattle.std.specs.List.{AllByRecursion}
 use Rattle.std.specs.declared.vec.Vec.{Vec}
 use Rattle.std.specs.declared.alloc.Global.{Global}
 use Rattle.rv_words.specs.Uses.{Word}
 use Rattle.rv_words.specs.Said.{is_relation_word, scripts_in}
 use Rattle.rv_io.specs.Outside.{Files}
-use Rattle.rv_generate.specs.Generator.{generated, scripts_from, script_text, rows_text, row_of, row_text, closure_text, counts_text, draw, value_of, after}
+use Rattle.rv_generate.specs.Generator.{generated, script_text, rows_text, row_of, row_text, closure_text, counts_text, draw, value_of, after}
 use Rattle.lang_model.specs.Limits.{script_limit}
-use Rattle.relview.specs.Given.{limit_of, relation_limit, IsTaken, AreTaken}
+use Rattle.relview.specs.Given.{limit_of, relation_limit, AreTaken}
 
 -- ---- scripts that were read
 -- a script in a vector, within the limit

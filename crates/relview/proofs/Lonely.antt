@@ -2,23 +2,23 @@
 -- 1. Words that name one script give one reading, and a lawful run of one reading has one list of outcomes.
 -- 2. A lawful run of one script for which all sufficed is the one that the script decides (`one_script_has_one_run` of
 --    `run_model`), and two such have one page and the same files (`one_script_has_one_page`).
-use Rattle.std.proofs.Common.{◌≡◌, ◌∙◌, ℕ, List, [], ◌∷◌, map, Option, Some, None, refl, sym, ap, subst}
+use Rattle.std.proofs.Common.{◌≡◌, ◌∙◌, ℕ, List, [], ◌∷◌, Option, refl, sym, ap, subst}
 use Rattle.std.specs.List.{AllByRecursion}
 use Rattle.run_model.specs.declared.event.Event.{Event}
 use Rattle.run_model.specs.declared.outcome.Outcome.{Outcome}
 use Rattle.run_model.specs.Inputs.{Input, Reading, AreReadings}
 use Rattle.run_model.specs.Legal.{IsLegal, LegalSessions}
-use Rattle.run_model.specs.Page.{SavedFile, page, saves}
-use Rattle.run_model.specs.Solo.{Suffices, solo}
+use Rattle.run_model.specs.Page.{page, saves}
+use Rattle.run_model.specs.Solo.{Suffices}
 use Rattle.run_model.proofs.Solo.{solo_is_legal}
 use Rattle.run_model.proofs.Rootless.{one_script_one_page}
-use Rattle.rv_io.specs.Outside.{Files, Told}
+use Rattle.rv_io.specs.Outside.{Files}
 use Rattle.rv_words.specs.Uses.{Word}
 use Rattle.rv_words.specs.Said.{Said}
 use Rattle.relview.specs.Given.{IsInput, AreScripts, AreTaken}
-use Rattle.relview.specs.Writing.{Sunk, IsTold}
-use Rattle.relview.specs.Top.{HasRun, outcomes_of, status_of}
-use Rattle.relview.specs.Alone.{AllSuffice, NameOne, IsSolo, AloneIsSolo, AreOneRun, AloneIsOneRun}
+use Rattle.relview.specs.Writing.{IsTold}
+use Rattle.relview.specs.Top.{outcomes_of, status_of}
+use Rattle.relview.specs.Alone.{AllSuffice, NameOne, AloneIsSolo, AloneIsOneRun}
 
 -- ---- one of each
 one_taken : (files : Option Files) (word : Word) (scripts : List (List ℕ)) → AreTaken files (word ∷ []) scripts

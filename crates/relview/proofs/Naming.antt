@@ -1,22 +1,21 @@
 -- What the words give a run: the files that they name, or the scripts that are generated.
-use Rattle.std.proofs.Common.{◌≡◌, ◌≤◌, ◌∙◌, ℕ, Bool, true, false, List, [], ◌∷◌, length, map, Option, Some, None, refl, sym, ap, subst, arith}
+use Rattle.std.proofs.Common.{◌≡◌, ◌≤◌, ◌∙◌, ℕ, Bool, true, List, [], ◌∷◌, length, map, Some, None, refl, sym, ap, subst, arith}
 use Rattle.std.proofs.lemmas.Bool.{leb-true, eqb-true}
 use Rattle.std.proofs.lemmas.List.{length-map}
 use Rattle.std.proofs.lemmas.List.Elements.{All-cons, All-nil, All-head, All-tail}
-use Rattle.std.specs.Prelude.{All, IsTrue, String, unwrap_or, ◌==◌}
+use Rattle.std.specs.Prelude.{All, IsTrue, String, unwrap_or}
 use Rattle.std.specs.String.{string_bytes}
 use Rattle.std.specs.declared.vec.Vec.{Vec}
 use Rattle.std.specs.declared.alloc.Global.{Global}
 use Rattle.rv_words.specs.Uses.{Word}
-use Rattle.rv_words.specs.Said.{Said, said_by, scripts_in, relations_in, fits_gen}
+use Rattle.rv_words.specs.Said.{said_by, scripts_in, relations_in, fits_gen}
 use Rattle.rv_words.specs.Shown.{texts, shown, files_told}
 use Rattle.rv_words.specs.declared.options.Options.{Options}
 use Rattle.rv_sessions.specs.Telling.{file_of}
 use Rattle.rv_generate.specs.Generator.{generated}
 use Rattle.rv_io.specs.Outside.{Told, Leaves}
 use Rattle.relview.specs.declared.given.Given.{Given}
-use Rattle.relview.specs.Given.{file_words, AreScripts, AreTaken, GivesFiles, names_of, bytes_of}
-use Rattle.relview.specs.Writing.{HasNoPut}
+use Rattle.relview.specs.Given.{file_words, AreScripts, AreTaken, GivesFiles, bytes_of}
 use Rattle.relview.proofs.Wording.{IsOf, of_words}
 use Rattle.relview.proofs.Limits.{IsShort, taken_short, taken-length}
 use Rattle.relview.proofs.Reporting.{GivesRun}

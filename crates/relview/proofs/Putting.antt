@@ -1,13 +1,13 @@
 -- Files that are put one after another.
-use Rattle.std.proofs.Common.{◌≡◌, ◌≢◌, ◌∙◌, ℕ, Bool, true, false, cond, List, [], ◌∷◌, ◌++◌, Option, Some, None, refl, sym, ap, subst, append_assoc}
+use Rattle.std.proofs.Common.{◌≡◌, ◌∙◌, ℕ, Bool, true, false, cond, List, [], ◌∷◌, ◌++◌, Option, Some, None, refl, sym, ap, subst, append_assoc}
 use Rattle.std.proofs.lemmas.Bool.{false≢true}
 use Rattle.std.proofs.lemmas.Slice.Eq.{bytes_eq-Decides}
 use Rattle.lang_model.specs.Tokens.{same_text}
 use Rattle.run_model.specs.Page.{SavedFile}
 use Rattle.rv_sessions.specs.declared.transcript.Save.{Save}
 use Rattle.rv_sessions.specs.Telling.{saved_of, saved_all}
-use Rattle.rv_io.specs.Outside.{Files, Told, Rose, IsFile, KeepsOthers}
-use Rattle.relview.specs.Writing.{with_file, with_files, HasPut, HasPutBut, HasLost}
+use Rattle.rv_io.specs.Outside.{Files, IsFile, KeepsOthers}
+use Rattle.relview.specs.Writing.{with_file, with_files, HasPut, HasPutBut}
 
 -- one more is put last
 with_files-append : (before : Files) (made : List SavedFile) (save : SavedFile) (name : List ℕ) → with_files before (made ++ save ∷ []) name ≡ with_file (with_files before made) save name

@@ -1,7 +1,6 @@
 -- From what was given to a run, and what it came to, to the answer to the words.
-use Rattle.std.proofs.Common.{◌≡◌, ◌∙◌, ℕ, Bool, true, false, List, [], ◌∷◌, map, Option, Some, None, refl, sym, ap, subst, inl, inr}
+use Rattle.std.proofs.Common.{◌≡◌, ◌∙◌, ℕ, Bool, true, false, List, map, Some, refl, sym, subst, inr}
 use Rattle.std.specs.Bool.{MatchBool}
-use Rattle.run_model.specs.declared.outcome.Outcome.{Outcome}
 use Rattle.run_model.specs.Page.{SavedFile}
 use Rattle.rv_words.specs.Uses.{Word}
 use Rattle.rv_words.specs.Said.{Said, said_by}
@@ -11,7 +10,7 @@ use Rattle.rv_runs.specs.Runs.{input_with}
 use Rattle.rv_io.specs.Outside.{Told, Rose}
 use Rattle.relview.specs.declared.report.Report.{Report}
 use Rattle.relview.specs.Given.{AreScripts, AreTaken, names_of, bytes_of}
-use Rattle.relview.specs.Writing.{Sunk, IsTold, Told_whole, Unwritten, Unput, HasPut, HasPutBut, HasLost, HasNoPut}
+use Rattle.relview.specs.Writing.{Sunk, IsTold, Told_whole, Unwritten, Unput, HasPut, HasPutBut, HasNoPut}
 use Rattle.relview.specs.Top.{HasRun, HasStopped, RanGiven, GaveUp, Answers, AnswersGiven}
 
 -- what was told of a shelf that stood as another did is told of that one

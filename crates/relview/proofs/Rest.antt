@@ -1,5 +1,5 @@
 -- A slice whose first element is taken is that element and the rest.
-use Rattle.std.proofs.Common.{◌≡◌, ◌≤◌, ◌-◌, ◌∙◌, ℕ, List, [], ◌∷◌, length, take, drop, slice_index_or, suc, refl, sym, ap, arith}
+use Rattle.std.proofs.Common.{◌≡◌, ◌≤◌, ◌-◌, ◌∙◌, List, [], ◌∷◌, length, take, drop, slice_index_or, suc, refl, sym, ap, arith}
 
 take_whole : {A : Type 0} (xs : List A) → take (length xs) xs ≡ xs
 take_whole [] = refl

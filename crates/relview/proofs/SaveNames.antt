@@ -1,5 +1,5 @@
 -- Each file of a run has a name that is text, since it is the file text of a SAVE.
-use Rattle.std.proofs.Common.{◌≡◌, ◌+◌, ◌∙◌, ℕ, List, [], ◌∷◌, ◌++◌, map, Some, refl, sym, ap, subst}
+use Rattle.std.proofs.Common.{◌≡◌, ◌+◌, ℕ, List, [], ◌∷◌, ◌++◌, sym, subst}
 use Rattle.std.specs.Prelude.{All}
 use Rattle.std.specs.List.{AllByRecursion, flat_map}
 use Rattle.std.specs.Str.{IsAscii, IsUtf8}
@@ -16,19 +16,18 @@ use Rattle.lang_model.specs.declared.syntax.Item.TheVariants.{Function, Program,
 use Rattle.lang_model.specs.declared.syntax.Script.{Script}
 use Rattle.lang_model.specs.declared.syntax.Place.{Place}
 use Rattle.lang_model.specs.declared.token.Token.{Token}
-use Rattle.lang_model.specs.Tokens.{tokens_of}
-use Rattle.lang_model.specs.Spelling.{SpellsMoreColumns, SpellsColumns, SpellsRow, SpellsMoreRows, SpellsRows, SpellsMoreNames, SpellsParams, SpellsDecl, SpellsMoreDecls, SpellsDecls, SpellsHead, SpellsNamed, SpellsValued, SpellsCommand, SpellsItem, SpellsItems, SpelledBy}
+use Rattle.lang_model.specs.Spelling.{SpellsMoreColumns, SpellsColumns, SpellsRow, SpellsMoreRows, SpellsRows, SpellsMoreNames, SpellsParams, SpellsDecl, SpellsMoreDecls, SpellsDecls, SpellsHead, SpellsCommand, SpellsItem, SpellsItems, SpelledBy}
 use Rattle.rel_model.specs.Relation.{Relation}
 use Rattle.run_model.specs.declared.event.Event.{Event}
 use Rattle.run_model.specs.declared.outcome.Outcome.{Outcome}
 use Rattle.run_model.specs.Inputs.{Input, Reading, NoScript, Flawed, Runs, AreReadings}
 use Rattle.run_model.specs.Due.{Due, Nothing, Value, Refused, Workspace}
-use Rattle.run_model.specs.Steps.{Ending, Succeeds, Fails, LacksMemory, ending, Step, Snapshots, steps, steps_from, snaps_behind, due_at}
+use Rattle.run_model.specs.Steps.{Ending, Succeeds, Fails, LacksMemory, ending, Snapshots, steps, steps_from, snaps_behind, due_at}
 use Rattle.run_model.specs.Names.{no_names}
 use Rattle.run_model.specs.States.{state_for}
 use Rattle.run_model.specs.Page.{SavedFile, saved_by, saved_of, done_save, save_at, saves_of, session_saves, sessions_saves, saves}
 use Rattle.rv_sessions.specs.declared.transcript.Save.{Save as SaveFile}
-use Rattle.rv_sessions.specs.Telling.{saved_of as file_of_save, saved_all}
+use Rattle.rv_sessions.specs.Telling.{saved_all}
 use Rattle.relview.proofs.Texts.{AreTexts, behind_at, behind, text_taken, behind_expr, behind_stmts}
 use Rattle.relview.proofs.Lexemes.{texts_of}
 

@@ -1,5 +1,5 @@
 -- Runs that did not begin: each line with its cause.
-use Rattle.std.proofs.Common.{◌≡◌, ◌⊎◌, ◌∙◌, ℕ, List, Some, None, refl, sym, subst, inl, inr}
+use Rattle.std.proofs.Common.{◌≡◌, ◌⊎◌, ◌∙◌, ℕ, List, Some, refl, sym, subst, inl, inr}
 use Rattle.rv_words.specs.Uses.{Word}
 use Rattle.rv_words.specs.Said.{Said, said_by}
 use Rattle.rv_io.specs.Outside.{Told, Leaves}

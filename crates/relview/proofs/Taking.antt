@@ -1,6 +1,5 @@
 -- Files that are read one after another, and what is said of the FILE words behind them.
-use Rattle.std.proofs.Common.{◌≡◌, ◌≤◌, ◌∙◌, ℕ, Bool, true, false, cond, List, [], ◌∷◌, ◌++◌, length, map, Option, Some, None, refl, sym, ap, subst, append_assoc, append-nil, arith}
-use Rattle.std.proofs.lemmas.Bool.{cases_Bool}
+use Rattle.std.proofs.Common.{◌≡◌, ◌∙◌, ℕ, Bool, true, false, cond, List, [], ◌∷◌, ◌++◌, Option, refl, sym, ap, append_assoc, append-nil, arith}
 use Rattle.std.specs.Prelude.{if◌then◌else◌, String}
 use Rattle.std.specs.String.{string_bytes}
 use Rattle.std.specs.declared.alloc.Global.{Global}
@@ -8,7 +7,6 @@ use Rattle.rv_words.specs.Shown.{texts}
 use Rattle.run_model.specs.Inputs.{RelationFile}
 use Rattle.rv_words.specs.Uses.{Word}
 use Rattle.rv_words.specs.Said.{is_relation_word, scripts_in, relations_in}
-use Rattle.rv_sessions.specs.Telling.{file_of}
 use Rattle.rv_io.specs.Outside.{Files, Told, Leaves}
 use Rattle.relview.specs.Given.{IsTaken, AreTaken, AreWithin, Gives, names_of, bytes_of}
 

@@ -2,7 +2,7 @@
 -- 1. Each token of a text that is a file text has printing bytes alone.
 -- 2. A tree of the grammar takes tokens from the front, so what it leaves are such tokens too.
 -- 3. So each SAVE of a script has such a text, and each file of a run is one of a SAVE.
-use Rattle.std.proofs.Common.{◌≡◌, ◌<◌, ◌≤◌, ◌∙◌, ℕ, zero, suc, List, [], ◌∷◌, refl, sym, ap, subst, arith}
+use Rattle.std.proofs.Common.{ℕ, zero, suc, List, sym, subst}
 use Rattle.std.specs.List.{AllByRecursion}
 use Rattle.std.specs.Str.{IsAscii}
 use Rattle.lang_model.specs.declared.syntax.Expr.{Expr}

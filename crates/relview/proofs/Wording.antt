@@ -1,11 +1,11 @@
 -- What words in the set say of the FILE words and of the size of the table.
-use Rattle.std.proofs.Common.{◌≡◌, ◌≤◌, ◌∙◌, ℕ, Bool, true, false, List, [], ◌∷◌, length, Option, Some, None, refl, sym, ap, subst, arith}
+use Rattle.std.proofs.Common.{◌≡◌, ◌≤◌, ℕ, Bool, true, false, List, [], ◌∷◌, length, Option, Some, None, refl, sym, ap, subst, arith}
 use Rattle.std.proofs.lemmas.Bool.{false≢true, and_parts, leb-true}
 use Rattle.std.specs.Prelude.{if◌then◌else◌, ◌&&◌, nat_le, is_some, unwrap_or, option_map, option_and_then}
 use Rattle.std.specs.List.{list_all}
 use Rattle.std.specs.Str.Parse.{digits_value}
-use Rattle.rv_words.specs.Uses.{Word, Use, uses_in, values_of, workers_name, nodes_name, turns_name, gen_name, history_name, file_name}
-use Rattle.rv_words.specs.Said.{Said, said_by, said_from, with_files, are_files_taken, is_file_word, is_number, number_within, number_or, gen_number, switched, scripts_in, relations_in, fits_gen, most_files}
+use Rattle.rv_words.specs.Uses.{Word, uses_in, values_of, workers_name, nodes_name, turns_name, gen_name, history_name, file_name}
+use Rattle.rv_words.specs.Said.{Said, said_by, said_from, with_files, are_files_taken, is_file_word, is_number, number_or, gen_number, switched, scripts_in, relations_in, fits_gen, most_files}
 use Rattle.relview.specs.Given.{file_words}
 
 -- ---- options

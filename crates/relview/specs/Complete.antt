@@ -1,7 +1,6 @@
 -- What a run came to where nothing was wanting: neither memory, nor a place in the table, nor a call outside.
 use Rattle.std.specs.Prelude.{◌≡◌, ◌≢◌, ◌≤◌, ◌⊎◌, ◌+◌, ℕ, true, List, [], ◌∷◌, length, Some}
 use Rattle.std.specs.List.{AllByRecursion}
-use Rattle.std.specs.Io.KnownBytes.{Appends}
 use Rattle.rel_model.specs.Words.{IsFull}
 use Rattle.rel_model.specs.Equations.{node_words}
 use Rattle.run_model.specs.declared.event.Event.{Event}
@@ -13,6 +12,7 @@ use Rattle.run_model.specs.Steps.{due_at}
 use Rattle.run_model.specs.Legal.{steps_in}
 use Rattle.run_model.specs.Page.{page, saves}
 use Rattle.rv_io.specs.Outside.{Files, Told, Rose}
+use Rattle.rv_io.specs.Writing.{Grows}
 use Rattle.rv_words.specs.Uses.{Word}
 use Rattle.rv_words.specs.Said.{Said, said_by}
 use Rattle.relview.specs.Given.{file_words, limit_of}
@@ -57,7 +57,7 @@ pub record NothingLacked (words : List Word) (shelf_old shelf_new : Told) (old n
 pub record IsComplete (words : List Word) (shelf_old shelf_new : Told) (old new : Sunk) (report : Report)
     (run : HasRun words shelf_old shelf_new old new report) : Type 0 where
   pub due : AllCameDue run.input report.history.items 1 run.input.readings (outcomes_of report)
-  pub written : Appends old.written new.written (page run.input report.history.items (outcomes_of report))
+  pub written : Grows old.written new.written (page run.input report.history.items (outcomes_of report))
   pub put : HasPut shelf_old.files shelf_new.files (saves run.input report.history.items (outcomes_of report))
   pub status : report.status ≡ status_of (outcomes_of report)
 

@@ -1,5 +1,5 @@
 -- What a run over a table comes to.
-use Rattle.std.specs.Prelude.{◌≡◌, ℕ, Bool, List, map}
+use Rattle.std.specs.Prelude.{ℕ, Bool, List, map}
 use Rattle.run_model.specs.Inputs.{Reading}
 use Rattle.run_model.specs.Run.{IsRun}
 use Rattle.run_model.specs.Stored.{HoldsRun}

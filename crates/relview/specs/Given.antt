@@ -8,7 +8,7 @@ use Rattle.rv_words.specs.Said.{Said, is_relation_word, scripts_in, relations_in
 use Rattle.rv_words.specs.Shown.{files_told}
 use Rattle.rv_generate.specs.Generator.{generated}
 use Rattle.rv_sessions.specs.Telling.{file_of}
-use Rattle.rv_io.specs.Outside.{Files, Told, Rose, IsFile}
+use Rattle.rv_io.specs.Outside.{Files, Told, IsFile}
 use Rattle.rv_io.specs.Reading.{RefusesFile}
 use Rattle.relview.specs.declared.given.Given.{Given}
 use Rattle.relview.specs.declared.given.Halt.{Halt}

@@ -6,3 +6,4 @@ pub mod Top
 pub mod Alone
 pub mod Ending
 pub mod Complete
+pub mod Surely

@@ -1,5 +1,5 @@
 -- The lines that are written in place of a page.
-use Rattle.std.specs.Prelude.{◌≡◌, ◌++◌, ℕ, List, [], ◌∷◌, codes, Option, Some, None}
+use Rattle.std.specs.Prelude.{◌≡◌, ◌++◌, ℕ, List, [], ◌∷◌, codes, Some, None}
 use Rattle.rv_words.specs.Uses.{Word}
 use Rattle.rv_words.specs.Said.{Said, said_by}
 use Rattle.rv_io.specs.Outside.{Told, Rose, IsOver}

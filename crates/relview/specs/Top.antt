@@ -1,8 +1,7 @@
 -- What the program promises of each run.
-use Rattle.std.specs.Prelude.{◌≡◌, ◌⊎◌, ℕ, Bool, true, false, cond, List, [], ◌∷◌, map, Some}
+use Rattle.std.specs.Prelude.{◌≡◌, ◌⊎◌, ℕ, Bool, true, false, cond, List, [], map, Some}
 use Rattle.std.specs.List.{list_any, list_all}
 use Rattle.std.specs.Bool.{MatchBool}
-use Rattle.run_model.specs.declared.event.Event.{Event}
 use Rattle.run_model.specs.declared.outcome.Outcome.{Outcome}
 use Rattle.run_model.specs.declared.outcome.Outcome.TheVariants.{Done, NoMemory}
 use Rattle.run_model.specs.Inputs.{Input, Reading, AreReadings}

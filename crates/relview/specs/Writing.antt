@@ -1,10 +1,9 @@
 -- What a text leaves in the sink, and what files that are put leave on the shelf.
 use Rattle.std.specs.Prelude.{◌≡◌, ◌≢◌, ◌++◌, ℕ, cond, List, [], ◌∷◌, Option, Some, None}
-use Rattle.std.specs.Io.KnownBytes.{Appends}
 use Rattle.lang_model.specs.Tokens.{same_text}
 use Rattle.run_model.specs.Page.{SavedFile}
 use Rattle.rv_io.specs.Outside.{Files, Told, Rose}
-use Rattle.rv_io.specs.Writing.{HasSent}
+use Rattle.rv_io.specs.Writing.{Grows, HasSent}
 
 -- ---- texts
 -- what a sink holds, and how many of its writes failed
@@ -18,7 +17,7 @@ sunk written faults = record { written = written; faults = faults }
 
 -- a text was written: whole, with this status; or, with status 4, a part of it, where a write failed
 pub data IsWritten (old new : Sunk) (text : List ℕ) (whole status : ℕ) : Type 0 where
-  Whole : status ≡ whole → Appends old.written new.written text → IsWritten old new text whole status
+  Whole : status ≡ whole → Grows old.written new.written text → IsWritten old new text whole status
   Part : (sent : ℕ) → status ≡ 4 → HasSent old.written new.written text sent → Rose old.faults new.faults
       → IsWritten old new text whole status
 
@@ -69,9 +68,9 @@ pub record HasNoPut (old new : Told) : Type 0 where
 -- put failed.
 pub data IsTold (shelf_old shelf_new : Told) (old new : Sunk) (page : List ℕ) (saves : List SavedFile)
     (whole status : ℕ) : Type 0 where
-  Told_whole : status ≡ whole → Appends old.written new.written page → HasPut shelf_old.files shelf_new.files saves
+  Told_whole : status ≡ whole → Grows old.written new.written page → HasPut shelf_old.files shelf_new.files saves
       → IsTold shelf_old shelf_new old new page saves whole status
   Unwritten : (sent : ℕ) → status ≡ 4 → HasSent old.written new.written page sent → Rose old.faults new.faults
       → HasNoPut shelf_old shelf_new → IsTold shelf_old shelf_new old new page saves whole status
-  Unput : status ≡ 4 → Appends old.written new.written page → HasLost shelf_old shelf_new saves
+  Unput : status ≡ 4 → Grows old.written new.written page → HasLost shelf_old shelf_new saves
       → IsTold shelf_old shelf_new old new page saves whole status

@@ -8,6 +8,7 @@ pub mod over_table;
 pub mod program;
 pub mod report;
 pub mod statuses;
+pub mod surely;
 #[cfg(test)]
 mod tests;
 pub mod top;

@@ -5,3 +5,4 @@ mod gates;
 mod outside;
 mod pages;
 mod runs;
+mod surely;

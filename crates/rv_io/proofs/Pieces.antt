@@ -1,14 +1,14 @@
 -- What reads and writes of one piece after another come to.
 use Rattle.std.proofs.Common.{◌≡◌, ◌<◌, ◌≤◌, ◌+◌, ◌-◌, take, drop, ℕ, List, [], ◌++◌, length, Option, Some, None, sym, ap, ◌∙◌, length-append, length-take, length-drop, take-append-drop, subst, arith, append-nil}
 use Rattle.std.specs.Io.KnownBytes.{Consumes, Appends, Keeps}
-use Rattle.std.proofs.KnownBytes.{Appends-trans, Consumes-trans}
+use Rattle.std.proofs.KnownBytes.{Consumes-trans}
 use Rattle.std.proofs.Math.Seq.{take-add}
-use Rattle.std.proofs.lemmas.List.{take-take, take_at, drop-drop}
+use Rattle.std.proofs.lemmas.List.{take-take, take_at, drop-drop, append_assoc}
 use Rattle.rv_io.specs.declared.reading.ReadError.{ReadError}
 use Rattle.rv_io.specs.declared.reading.ReadError.TheVariants.{Fault, TooLong, NoMemory}
 use Rattle.rv_io.specs.Outside.{Told}
 use Rattle.rv_io.specs.Reading.{TakesOn, RefusesMore}
-use Rattle.rv_io.specs.Writing.{HasPassed}
+use Rattle.rv_io.specs.Writing.{Grows, HasPassed}
 
 -- what was taken after others is taken with them
 taken_more : (start old new : Option (List ℕ)) (before : List ℕ) (as_many : ℕ → Type 0) → Consumes start old before → (t : TakesOn old new (λ n. as_many (length before + n))) → TakesOn start new as_many
@@ -33,9 +33,21 @@ refused_later start old new before limit NoMemory c l r = taken_more start.rest 
     shifted : TakesOn old.rest new.rest (λ n. (0 < length before + n) × (length before + n ≤ limit)) → TakesOn old.rest new.rest (λ n. (0 < 0 + (length before + n)) × (0 + (length before + n) ≤ limit))
     shifted t = record { taken = t.taken; consumed = t.consumed; count = (omega (arith, t.count.0), omega (arith, t.count.1)) }
 
+-- what grew by some bytes and then by others grew by both
+grows_on : (a b c : Option (List ℕ)) (first second : List ℕ) → Grows a b first → Grows b c second → Grows a c (first ++ second)
+grows_on a b None first second p q = tt
+grows_on a None (Some zs) first second p q = absurd q
+grows_on None (Some ys) (Some zs) first second p q = absurd p
+grows_on (Some xs) (Some ys) (Some zs) first second p q = q ∙ ap (λ bs. bs ++ second) p ∙ append_assoc xs first second
+
+-- where nothing was taken nothing grew
+pub grows_not : (a : Option (List ℕ)) → Grows a a []
+grows_not None = tt
+grows_not (Some xs) = sym (append-nil xs)
+
 -- one more write
-pub written_more : (a b c : Option (List ℕ)) (bytes : List ℕ) (sent count : ℕ) → sent ≤ length bytes → count ≤ length bytes - sent → Appends a b (take sent bytes) → Appends b c (take count (take (length bytes - sent) (drop sent bytes))) → Appends a c (take (sent + count) bytes)
-written_more a b c bytes sent count l k p q = subst (Appends a c) joined (Appends-trans a b c _ _ p q)
+pub written_more : (a b c : Option (List ℕ)) (bytes : List ℕ) (sent count : ℕ) → sent ≤ length bytes → count ≤ length bytes - sent → Grows a b (take sent bytes) → Grows b c (take count (take (length bytes - sent) (drop sent bytes))) → Grows a c (take (sent + count) bytes)
+written_more a b c bytes sent count l k p q = subst (Grows a c) joined (grows_on a b c _ _ p q)
   where
     joined : take sent bytes ++ take count (take (length bytes - sent) (drop sent bytes)) ≡ take (sent + count) bytes
     joined = ap (λ zs. take sent bytes ++ zs) (take-take count (length bytes - sent) (drop sent bytes) k) ∙ sym (take-add sent count bytes)

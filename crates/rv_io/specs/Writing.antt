@@ -1,13 +1,23 @@
 -- What a text that is not written whole leaves in the sink.
-use Rattle.std.specs.Prelude.{◌≤◌, ◌<◌, ℕ, List, length, take, Option}
+use Rattle.std.specs.Prelude.{◌≡◌, ◌≤◌, ◌<◌, ◌++◌, ℕ, List, length, take, Option, Some, None, Result, MatchResult}
 use Rattle.std.specs.Io.KnownBytes.{Appends}
+
+-- the bytes that a sink tells are those that it told before and then these; one that tells now told before
+abbrev pub Grows : Option (List ℕ) → Option (List ℕ) → List ℕ → Type 0
+Grows old None bytes = Unit {0}
+Grows None (Some now) bytes = ⊥
+Grows (Some before) (Some now) bytes = now ≡ before ++ bytes
+
+-- a write took the bytes that it answers for, and none where it failed
+abbrev pub TakesIn : {E : Type 0} → Option (List ℕ) → Option (List ℕ) → Result ℕ E → List ℕ → Type 0
+TakesIn old new result bytes = MatchResult result (λ n. Grows old new (take n bytes)) (λ _. new ≡ old)
 
 -- the sink took exactly the first `sent` bytes, and not all
 pub record HasSent (old new : Option (List ℕ)) (bytes : List ℕ) (sent : ℕ) : Type 0 where
   -- some bytes were not sent
   pub part : sent < length bytes
   -- the bytes that the sink took
-  pub taken : Appends old new (take sent bytes)
+  pub taken : Grows old new (take sent bytes)
 
 -- at most one piece from the front of the bytes was passed on, or nothing
 pub record HasPassed (old new : Option (List ℕ)) (bytes : List ℕ) : Type 0 where

@@ -3,11 +3,14 @@
 
 pub(crate) mod calls;
 pub mod file_shelf;
+pub(crate) mod kept;
 pub mod mem_shelf;
 pub mod mem_sink;
 pub mod outside;
 pub mod reading;
 pub mod stdout_sink;
+pub mod sure_shelf;
+pub mod sure_sink;
 #[cfg(test)]
 mod tests;
 pub mod writing;
@@ -18,4 +21,6 @@ pub use mem_sink::MemSink;
 pub use outside::{Failed, NoMemory, Shelf, Sink};
 pub use reading::{ReadError, read_all};
 pub use stdout_sink::StdoutSink;
+pub use sure_shelf::SureShelf;
+pub use sure_sink::SureSink;
 pub use writing::{WriteError, write_all};

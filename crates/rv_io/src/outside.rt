@@ -1,8 +1,9 @@
 //! What the program knows of the outside: a shelf of files and a sink of bytes, either of which may fail at any call.
 ghost use Rattle.std.specs.Prelude.{◌≡◌, ◌≤◌, ◌<◌, ◌↔◌, ℕ, List, [], length, IsTrue, Option, IfOk, IfSome, OnOk, OnErr};
 ghost use Rattle.std.specs.Io.{ReadsAtMost};
-ghost use Rattle.std.specs.Io.KnownBytes.{ReadConsumes, WriteAppends};
+ghost use Rattle.std.specs.Io.KnownBytes.{ReadConsumes};
 ghost use Rattle.rv_io.specs.Outside.{Told, Leaves, KeepsReading, KeepsOthers, HasCause, IsPicked, IsSpent, IsFile, TakesSome};
+ghost use Rattle.rv_io.specs.Writing.{TakesIn};
 
 /// The outside refused: a call of a shelf or a sink did not do its work.
 #[derive(Clone, Copy, Debug, PartialEq, Eq)]
@@ -63,7 +64,7 @@ pub trait Sink {
     fn write(&mut self, bytes: &[u8]) -> Result<usize, Failed>
         requires { 0 < length bytes.now }
         ensures some { TakesSome result bytes.now }
-        ensures bytes { WriteAppends (written self.old) (written self.new) result bytes.now }
+        ensures bytes { TakesIn (written self.old) (written self.new) result bytes.now }
         ensures later { faults self.old ≤ faults self.new }
         ensures cause { HasCause (faults self.old) (faults self.new) result }
         ensures kept { OnOk result (faults self.new ≡ faults self.old) };

@@ -1,3 +1,5 @@
+mod sure;
+
 use crate::{
     FileShelf, MemShelf, MemSink, NoMemory, ReadError, Shelf, Sink, StdoutSink, WriteError,
     read_all, write_all,

@@ -1,8 +1,7 @@
 //! Texts written whole.
 ghost use Rattle.std.specs.Prelude.{◌≡◌, ◌≤◌, OnOk, IfErr};
-ghost use Rattle.std.specs.Io.KnownBytes.{Appends};
 ghost use Rattle.rv_io.specs.Outside.{HasCause};
-ghost use Rattle.rv_io.specs.Writing.{HasSent};
+ghost use Rattle.rv_io.specs.Writing.{Grows, HasSent};
 
 use crate::Sink;
 
@@ -17,7 +16,7 @@ pub struct WriteError {
 ///
 /// It stops at the first write that fails: the sink then took exactly the first `sent` bytes.
 pub fn write_all<K: Sink>(sink: &mut K, bytes: &[u8]) -> Result<(), WriteError>
-    ensures all { OnOk result (Appends (K.written sink.old) (K.written sink.new) bytes.now) }
+    ensures all { OnOk result (Grows (K.written sink.old) (K.written sink.new) bytes.now) }
     ensures sent { IfErr result (λ e. HasSent (K.written sink.old) (K.written sink.new) bytes.now
         e.sent) }
     ensures later { K.faults sink.old ≤ K.faults sink.new }

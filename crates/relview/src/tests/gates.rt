@@ -4,8 +4,11 @@ use fork_quads::Gate;
 use run_model::event::{Act, Event};
 use std::alloc::{AllocError, Global};
 use std::hint::spin_loop;
+use std::process::Abort;
+use std::sync::Wait;
 use std::sync::atomic::{AtomicBool, AtomicU32, Ordering};
 use std::test::Fail;
+use std::thread::Threads;
 
 /// How often a session that is held looks for the other one at most.
 const LOOKS: u32 = 100_000_000;
@@ -119,29 +122,44 @@ fn page_of(alloc: Global, history: &[Event]) -> Result<String, AllocError> {
     format!(in alloc; "1.2: 1 x 1\n{first}\n2.2: 1 x 1\n{second}\n{lines}")
 }
 
-#[test]
-fn two_sessions_go_on_at_once_and_print_what_the_history_says(rt: HostRuntime) -> Result<(), Fail> {
-    let alloc = rt.alloc();
+/// How often each of the two runs is made.
+const TIMES: u32 = 20;
+
+/// Runs the two scripts with one session held until the other has begun, and asserts that the page is what the history
+/// says.
+fn run_held<R: Threads + Wait + Abort + Sync>(
+    rt: &R,
+    alloc: Global,
+    held: u32,
+    awaited: u32,
+) -> Result<(), Fail> {
     let files = [
         ("a.rv", b"REL X 1 1 {1:1}. PRINT X.".as_slice()),
         ("b.rv", b"REL X 1 1 {}. PRINT X."),
     ];
-    for (held, awaited) in [(1_000_001, 1_000_002), (1_000_002, 1_000_001)] {
-        let gate = Holding::new(held, awaited);
-        let ran = run_gated(&rt, alloc, "--history a.rv b.rv", files.as_slice(), &gate)?;
-        assert!(rt;
-            !gate.gave_up.load(Ordering::SeqCst),
-            "{held} was held too long"
-        );
-        assert_eq!(rt; gate.of_held.load(Ordering::SeqCst), BEGUN + ENDED);
-        assert_eq!(rt; gate.of_awaited.load(Ordering::SeqCst), BEGUN + ENDED);
-        assert_eq!(rt; gate.of_others.load(Ordering::SeqCst), 0);
-        let history = ran.report.history.as_slice();
-        assert_eq!(rt; history.len(), 4);
-        assert_eq!(rt; commands_of(history, 1), 12);
-        assert_eq!(rt; commands_of(history, 2), 12);
-        let page = page_of(alloc, history)?;
-        assert_written(&rt, &ran, page.as_str(), 0, "two sessions")?;
+    let gate = Holding::new(held, awaited);
+    let ran = run_gated(rt, alloc, "--history a.rv b.rv", files.as_slice(), &gate)?;
+    assert!(rt;
+        !gate.gave_up.load(Ordering::SeqCst),
+        "{held} was held too long"
+    );
+    assert_eq!(rt; gate.of_held.load(Ordering::SeqCst), BEGUN + ENDED);
+    assert_eq!(rt; gate.of_awaited.load(Ordering::SeqCst), BEGUN + ENDED);
+    assert_eq!(rt; gate.of_others.load(Ordering::SeqCst), 0);
+    let history = ran.report.history.as_slice();
+    assert_eq!(rt; history.len(), 4);
+    assert_eq!(rt; commands_of(history, 1), 12);
+    assert_eq!(rt; commands_of(history, 2), 12);
+    let page = page_of(alloc, history)?;
+    assert_written(rt, &ran, page.as_str(), 0, "two sessions")
+}
+
+#[test]
+fn two_sessions_go_on_at_once_and_print_what_the_history_says(rt: HostRuntime) -> Result<(), Fail> {
+    let alloc = rt.alloc();
+    'times: for _ in 0..TIMES {
+        run_held(&rt, alloc, 1_000_001, 1_000_002)?;
+        run_held(&rt, alloc, 1_000_002, 1_000_001)?;
     }
     Ok(())
 }

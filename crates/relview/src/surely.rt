@@ -1,0 +1,52 @@
+//! The program over a shelf and a sink of which no call fails.
+ghost use Rattle.std.specs.Prelude.{◌≡◌, true, All, IsTrue};
+ghost use Rattle.std.specs.List.{list_all};
+ghost use Rattle.std.specs.String.{string_bytes};
+ghost use Rattle.rv_words.specs.Shown.{texts};
+ghost use Rattle.relview.specs.Given.{file_words};
+ghost use Rattle.relview.specs.Writing.{sunk};
+ghost use Rattle.relview.specs.Surely.{IsSure};
+
+use crate::report::Report;
+use crate::top::relview;
+use rv_io::{Shelf, Sink, SureShelf, SureSink};
+use rv_words::files_of;
+use std::alloc::Global;
+use std::sync::Wait;
+use std::thread::Threads;
+
+/// Runs the scripts that the words name over a shelf and a sink that never fail: where the words are right and the files
+/// are within their limits the scripts run, or memory runs out; and a run for which memory and the table suffice is
+/// complete.
+pub fn relview_surely<R: Threads + Wait + Sync>(
+    rt: &R,
+    alloc: Global,
+    words: &[String],
+    shelf: &mut SureShelf,
+    sink: &mut SureSink,
+) -> Report
+    requires may_pick { All (λ w. IsTrue ((⟦<SureShelf as Shelf>⟧.told shelf.old).may_pick w)) (file_words (texts words.now)) }
+    ensures { IsSure (texts words.now) (⟦<SureShelf as Shelf>⟧.told shelf.old) (⟦<SureShelf as Shelf>⟧.told shelf.new)
+        (sunk (⟦<SureSink as Sink>⟧.written sink.old) (⟦<SureSink as Sink>⟧.faults sink.old))
+        (sunk (⟦<SureSink as Sink>⟧.written sink.new) (⟦<SureSink as Sink>⟧.faults sink.new)) result }
+{
+    relview(rt, alloc, words, shelf, sink)
+}
+
+/// Whether each FILE word of the words names a file of the shelf; no where memory runs out, and for wrong words.
+pub fn has_files(alloc: Global, words: &[String], shelf: &SureShelf) -> bool
+    ensures { result ≡ true
+        → All (λ w. IsTrue ((⟦<SureShelf as Shelf>⟧.told shelf.now).may_pick w)) (file_words (texts words.now)) }
+{
+    match files_of(alloc, words) {
+        Ok(names) => has_all(names.as_slice(), shelf),
+        Err(_) => false,
+    }
+}
+
+/// Whether each name is that of a file of the shelf.
+fn has_all(names: &[String], shelf: &SureShelf) -> bool
+    ensures { result ≡ list_all (λ name. (⟦<SureShelf as Shelf>⟧.told shelf.now).may_pick (string_bytes name)) names.now }
+{
+    names.iter().all(|name| shelf.has(name.as_str()))
+}
