@@ -4,7 +4,7 @@ use Rattle.std.proofs.lemmas.List.{drop_more, length-drop}
 use Rattle.run_model.specs.Files.{zero_group}
 use Rattle.k2_file.specs.Told.{group_is_set}
 
-drop-four : (xs : List Bool) (at : ℕ) → at + 4 ≤ length xs
+pub drop-four : (xs : List Bool) (at : ℕ) → at + 4 ≤ length xs
     → drop at xs ≡ get_or xs at false ∷ get_or xs (at + 1) false ∷ get_or xs (at + 2) false ∷ get_or xs (at + 3) false ∷ drop (at + 4) xs
 drop-four xs at l =
     let a : at + 1 + 1 ≡ at + 2 = omega arith in
