@@ -1,5 +1,5 @@
 -- The word of a leaf: each cell sets its own bit.
-use Rattle.std.proofs.Common.{◌≡◌, ◌≢◌, ◌==◌, ◌<◌, ◌≤◌, ◌+◌, ◌-◌, ◌*◌, ◌%◌, ◌^◌, ◌∙◌, ◌||◌, ◌&&◌, max, ltb, ℕ, Bool, true, false, cond, List, [], ◌∷◌, ◌++◌, length, ◌×◌, sym, ap, refl, arith, inl, inr, bit_or}
+use Rattle.std.proofs.Common.{◌≡◌, ◌≢◌, ◌==◌, ◌<◌, ◌≤◌, ◌+◌, ◌-◌, ◌*◌, ◌%◌, ◌^◌, ◌∙◌, ◌||◌, ◌&&◌, max, ltb, ℕ, Bool, true, false, cond, List, [], ◌∷◌, ◌++◌, length, sym, ap, refl, arith, inl, inr, bit_or}
 use Rattle.std.specs.Int.{bit_at}
 use Rattle.std.specs.List.{list_any}
 use Rattle.std.proofs.Math.Pow.{pow_mono}
@@ -90,6 +90,9 @@ bit-small n word s a b = let p : 2 ^ (1 + s) ≤ 2 ^ n = pow_mono {i = 1 + s} {j
 
 pub place-below : (m i j : ℕ) → i < m → j < m → m * i + j < m * m
 place-below m i j a b = let p : m * (i + 1) ≤ m * m = mul-le m (i + 1) m m (omega arith) (omega arith) in omega arith
+
+pub place-few : (m i j : ℕ) → m ≤ 8 → i < m → j < m → m * i + j < 64
+place-few m i j l a b = let p = place-below m i j a b in let q : m * m ≤ 8 * 8 = mul-le m m 8 8 l l in omega (arith, p, q)
 
 -- ---- four quarters, one after another
 add-two : (w s t p q : Bool) → ((w || (s && (t && p))) || (s && (t && q))) ≡ (w || (s && (t && (p || q))))

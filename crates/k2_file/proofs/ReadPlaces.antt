@@ -1,5 +1,5 @@
 -- Places in the levels of a tree: the group at the first of them, and how they move on past it.
-use Rattle.std.proofs.Common.{◌≡◌, ◌==◌, ◌+◌, ◌-◌, ◌*◌, ◌^◌, ◌<◌, ◌≤◌, ◌×◌, ℕ, zero, suc, Bool, true, false, cond, List, [], ◌∷◌, ◌++◌, length, take, drop, get_or, refl, sym, ap, ◌∙◌, subst, arith}
+use Rattle.std.proofs.Common.{◌≡◌, ◌==◌, ◌+◌, ◌-◌, ◌*◌, ◌^◌, ◌<◌, ◌≤◌, ℕ, zero, suc, Bool, true, false, cond, List, [], ◌∷◌, ◌++◌, length, take, drop, get_or, refl, sym, ap, ◌∙◌, subst, arith}
 use Rattle.std.proofs.lemmas.List.{length-append, length-drop}
 use Rattle.std.proofs.lemmas.Bool.Decides.{nat_tests}
 use Rattle.run_model.specs.Files.{number_of_bit}
@@ -57,7 +57,7 @@ at-group tree cells places here below height a b c d h e l g = record {
 pub group-moves : (tree cells : List Bool) (places here b0 b1 b2 b3 b4 after now : List ℕ) (height : ℕ) (a b c d : Bool) → length places ≡ height → places ≡ here ++ b0 → length here ≡ 1
     → IsAtGroup tree cells places b0 height a b c d (drop (4 * (get_or here 0 0 + 1)) (level_of (height == 1) tree cells))
     → MovesOn tree cells (number_of_bit a) b0 b1 → MovesOn tree cells (number_of_bit b) b1 b2 → MovesOn tree cells (number_of_bit c) b2 b3 → MovesOn tree cells (number_of_bit d) b3 b4
-    → now ≡ get_or here 0 0 + 1 ∷ [] → after ≡ now ++ b4 → MovesOn tree cells 1 places after
+    → now ≡ (get_or here 0 0 + 1) ∷ [] → after ≡ now ++ b4 → MovesOn tree cells 1 places after
 group-moves tree cells places here b0 b1 b2 b3 b4 after now height a b c d h e l g m1 m2 m3 m4 n f =
     let x = get_or here 0 0 in
     let level = level_of (height == 1) tree cells in

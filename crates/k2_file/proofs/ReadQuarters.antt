@@ -2,7 +2,7 @@
 -- 1. The group of a square tells which quarters are read; each is read from what the quarters before it left.
 -- 2. The pairs of a submatrix are those of the whole matrix, moved to it.
 -- 3. So the cells of a square are those of its quarters, each in its place.
-use Rattle.std.proofs.Common.{◌≡◌, ◌==◌, ◌&&◌, ◌||◌, ◌+◌, ◌-◌, ◌*◌, ◌^◌, ◌<◌, ◌≤◌, ◌×◌, ltb, leb, ℕ, zero, suc, Bool, true, false, cond, List, [], ◌∷◌, ◌++◌, length, take, drop, map, refl, sym, ap, ◌∙◌, subst, inl, inr, arith}
+use Rattle.std.proofs.Common.{◌≡◌, ◌==◌, ◌&&◌, ◌||◌, ◌+◌, ◌-◌, ◌*◌, ◌^◌, ◌<◌, ◌≤◌, ltb, leb, ℕ, zero, suc, Bool, true, false, cond, List, [], ◌∷◌, ◌++◌, length, take, drop, map, refl, sym, ap, ◌∙◌, subst, inl, inr, arith}
 use Rattle.std.specs.List.{flat_map, list_any, AllByRecursion}
 use Rattle.std.proofs.lemmas.List.Folds.{list_any-append}
 use Rattle.std.proofs.lemmas.Bool.{cases_lt, lt-ltb, le-ltb, le-leb, lt-leb}
@@ -54,13 +54,13 @@ chosen-four side p false false false false xs = refl
 -- a group, and the rests of the levels below it as its quarters leave them
 module _ (a b c d : Bool) (xs : List Bool) (r0 r1 r2 r3 : List (List Bool)) (e1 : r1 ≡ behind (number_of_bit a) r0) (e2 : r2 ≡ behind (number_of_bit b) r1)
     (e3 : r3 ≡ behind (number_of_bit c) r2) where
-  abbrev bits : List Bool
-  bits = a ∷ b ∷ c ∷ d ∷ xs
+  abbrev group : List Bool
+  group = a ∷ b ∷ c ∷ d ∷ xs
 
   no_more : number_of_bit d + 0 ≡ number_of_bit d
   no_more = omega arith
 
-  pub group-behind : (r4 : List (List Bool)) → r4 ≡ behind (number_of_bit d) r3 → behind 1 (bits ∷ r0) ≡ xs ∷ r4
+  pub group-behind : (r4 : List (List Bool)) → r4 ≡ behind (number_of_bit d) r3 → behind 1 (group ∷ r0) ≡ xs ∷ r4
   group-behind r4 e4 =
       ap (λ rs. xs ∷ rs) (
       behind-add (number_of_bit a) (number_of_bit b + (number_of_bit c + (number_of_bit d + 0))) r0
@@ -71,7 +71,7 @@ module _ (a b c d : Bool) (xs : List Bool) (r0 r1 r2 r3 : List (List Bool)) (e1 
       ∙ ap (behind (number_of_bit d + 0)) (sym e3)
       ∙ ap (λ (n : ℕ). behind n r3) no_more ∙ sym e4)
 
-  pub group-count : count_below 1 (bits ∷ r0)
+  pub group-count : count_below 1 (group ∷ r0)
       ≡ count_below (number_of_bit a) r0 + (count_below (number_of_bit b) r1 + (count_below (number_of_bit c) r2 + count_below (number_of_bit d) r3))
   group-count =
       let na = count_below (number_of_bit a) r0 in
@@ -86,7 +86,7 @@ module _ (a b c d : Bool) (xs : List Bool) (r0 r1 r2 r3 : List (List Bool)) (e1 
       ∙ count-add (number_of_bit c) (number_of_bit d + 0) r2
       ∙ ap (λ (n : ℕ). nc + n) (ap (count_below (number_of_bit d + 0)) (sym e3) ∙ ap (λ (n : ℕ). count_below n r3) no_more)))
 
-  pub group-there : AreThere 1 (bits ∷ r0)
+  pub group-there : AreThere 1 (group ∷ r0)
       → (AreThere (number_of_bit a) r0) × (AreThere (number_of_bit b) r1) × (AreThere (number_of_bit c) r2) × (AreThere (number_of_bit d) r3)
   group-there h =
       let s = there-split (number_of_bit a) (number_of_bit b + (number_of_bit c + (number_of_bit d + 0))) r0 h.1 in
@@ -95,7 +95,7 @@ module _ (a b c d : Bool) (xs : List Bool) (r0 r1 r2 r3 : List (List Bool)) (e1 
       let v = subst (λ (n : ℕ). AreThere n r3) no_more (subst (AreThere (number_of_bit d + 0)) (sym e3) u.1) in
       (s.0, t.0, u.0, v)
 
-  pub group-pairs : (side : ℕ) (p : Corner) → side ≡ 2 ^ length r0 → pairs_below (p ∷ []) (bits ∷ r0)
+  pub group-pairs : (side : ℕ) (p : Corner) → side ≡ 2 ^ length r0 → pairs_below (p ∷ []) (group ∷ r0)
       ≡ pairs_below (part_at a p) r0 ++ (pairs_below (part_at b (p.0, p.1 + side)) r1
       ++ (pairs_below (part_at c (p.0 + side, p.1)) r2 ++ pairs_below (part_at d (p.0 + side, p.1 + side)) r3))
   group-pairs side p e =
@@ -103,7 +103,7 @@ module _ (a b c d : Bool) (xs : List Bool) (r0 r1 r2 r3 : List (List Bool)) (e1 
       let pb = part_at b (p.0, p.1 + side) in
       let pc = part_at c (p.0 + side, p.1) in
       let pd = part_at d (p.0 + side, p.1 + side) in
-      ap (λ (m : ℕ). pairs_below (chosen (flat_map (quarters m) (p ∷ [])) bits) r0) (sym e)
+      ap (λ (m : ℕ). pairs_below (chosen (flat_map (quarters m) (p ∷ [])) group) r0) (sym e)
       ∙ ap (λ ps. pairs_below ps r0) (chosen-four side p a b c d xs)
       ∙ pairs-append pa (pb ++ (pc ++ pd)) r0
       ∙ ap (λ ps. pairs_below pa r0 ++ ps) (
@@ -236,28 +236,53 @@ no_move i = omega arith
 first-place : (i : ℕ) → leb 0 i ≡ true
 first-place i = le-leb 0 i (omega arith)
 
+module _ (m : ℕ) (a b c e : Cells) (i j : ℕ) where
+  quartered-nw : i < m → j < m → a i j ≡ quartered m a b c e i j
+  quartered-nw p q = rw (lt-ltb i m p, lt-ltb j m q) refl
+
+  quartered-ne : i < m → m ≤ j → b i (j - m) ≡ quartered m a b c e i j
+  quartered-ne p q = rw (lt-ltb i m p, le-ltb j m q) refl
+
+  quartered-sw : m ≤ i → j < m → c (i - m) j ≡ quartered m a b c e i j
+  quartered-sw p q = rw (le-ltb i m p, lt-ltb j m q) refl
+
+  quartered-se : m ≤ i → m ≤ j → e (i - m) (j - m) ≡ quartered m a b c e i j
+  quartered-se p q = rw (le-ltb i m p, le-ltb j m q) refl
+
 pub four-quartered : (m : ℕ) (f0 f1 f2 f3 : Cells) → IsWithin m f0 → IsWithin m f1 → IsWithin m f2 → IsWithin m f3
     → four_asked m f0 f1 f2 f3 ≡ quartered m f0 f1 f2 f3
 four-quartered m f0 f1 f2 f3 w0 w1 w2 w3 = same_cells _ _ (λ i j.
     let z = no_move i in
     let y = no_move j in
+    let a = leb 0 i in
+    let b = leb 0 j in
+    let s = leb m i in
+    let t = leb m j in
+    let g0 = f0 (i - 0) (j - 0) in
+    let g1 = f1 (i - 0) (j - m) in
+    let g2 = f2 (i - m) (j - 0) in
+    let g3 = f3 (i - m) (j - m) in
+    let x0 : Bool = (a && b) && g0 in
+    let x1 : Bool = (a && t) && g1 in
+    let x2 : Bool = (s && b) && g2 in
+    let x3 : Bool = (s && t) && g3 in
     elim (cases_lt i m) [
       | inl p ↦ elim (cases_lt j m) [
-        | inl q ↦ quarter-nw _ _ _ _ (asked-col _ _ _ (lt-leb m j q)) (asked-row _ _ _ (lt-leb m i p)) (asked-row _ _ _ (lt-leb m i p))
-            ∙ asked-in _ _ _ (first-place i) (first-place j) ∙ ap (λ (n : ℕ). f0 n (j - 0)) z ∙ ap (λ (n : ℕ). f0 i n) y
-            ∙ (let s = lt-ltb i m p in let t = lt-ltb j m q in rw (s, t) refl)
-        | inr q ↦ quarter-ne _ _ _ _ (asked-none _ _ _ (w0.col (i - 0) (j - 0) (omega arith))) (asked-row _ _ _ (lt-leb m i p)) (asked-row _ _ _ (lt-leb m i p))
-            ∙ asked-in _ _ _ (first-place i) (le-leb m j q) ∙ ap (λ (n : ℕ). f1 n (j - m)) z
-            ∙ (let s = lt-ltb i m p in let t = le-ltb j m q in rw (s, t) refl)
+        | inl q ↦ quarter-nw x0 x1 x2 x3 (asked-col a t g1 (lt-leb m j q)) (asked-row s b g2 (lt-leb m i p)) (asked-row s t g3 (lt-leb m i p))
+            ∙ asked-in a b g0 (first-place i) (first-place j) ∙ ap (λ (n : ℕ). f0 n (j - 0)) z ∙ ap (λ (n : ℕ). f0 i n) y
+            ∙ quartered-nw m f0 f1 f2 f3 i j p q
+        | inr q ↦ quarter-ne x0 x1 x2 x3 (asked-none a b g0 (w0.col (i - 0) (j - 0) (omega arith))) (asked-row s b g2 (lt-leb m i p)) (asked-row s t g3 (lt-leb m i p))
+            ∙ asked-in a t g1 (first-place i) (le-leb m j q) ∙ ap (λ (n : ℕ). f1 n (j - m)) z
+            ∙ quartered-ne m f0 f1 f2 f3 i j p q
       ]
       | inr p ↦ elim (cases_lt j m) [
-        | inl q ↦ quarter-sw _ _ _ _ (asked-none _ _ _ (w0.row (i - 0) (j - 0) (omega arith))) (asked-col _ _ _ (lt-leb m j q)) (asked-col _ _ _ (lt-leb m j q))
-            ∙ asked-in _ _ _ (le-leb m i p) (first-place j) ∙ ap (λ (n : ℕ). f2 (i - m) n) y
-            ∙ (let s = le-ltb i m p in let t = lt-ltb j m q in rw (s, t) refl)
-        | inr q ↦ quarter-se _ _ _ _ (asked-none _ _ _ (w0.row (i - 0) (j - 0) (omega arith))) (asked-none _ _ _ (w1.row (i - 0) (j - m) (omega arith)))
-            (asked-none _ _ _ (w2.col (i - m) (j - 0) (omega arith)))
-            ∙ asked-in _ _ _ (le-leb m i p) (le-leb m j q)
-            ∙ (let s = le-ltb i m p in let t = le-ltb j m q in rw (s, t) refl)
+        | inl q ↦ quarter-sw x0 x1 x2 x3 (asked-none a b g0 (w0.row (i - 0) (j - 0) (omega arith))) (asked-col a t g1 (lt-leb m j q)) (asked-col s t g3 (lt-leb m j q))
+            ∙ asked-in s b g2 (le-leb m i p) (first-place j) ∙ ap (λ (n : ℕ). f2 (i - m) n) y
+            ∙ quartered-sw m f0 f1 f2 f3 i j p q
+        | inr q ↦ quarter-se x0 x1 x2 x3 (asked-none a b g0 (w0.row (i - 0) (j - 0) (omega arith))) (asked-none a t g1 (w1.row (i - 0) (j - m) (omega arith)))
+            (asked-none s b g2 (w2.col (i - m) (j - 0) (omega arith)))
+            ∙ asked-in s t g3 (le-leb m i p) (le-leb m j q)
+            ∙ quartered-se m f0 f1 f2 f3 i j p q
       ]
     ])
 
@@ -268,11 +293,13 @@ pub square-asked : (a b c d : Bool) (xs : List Bool) (r0 r1 r2 r3 : List (List B
     ≡ four_asked m (cells_of_part a r0) (cells_of_part b r1) (cells_of_part c r2) (cells_of_part d r3)
 square-asked a b c d xs r0 r1 r2 r3 m e1 e2 e3 e = same_cells _ _ (λ i j.
     let p0 = pairs_below (part_at a (0, 0)) r0 in
-    let p1 = pairs_below (part_at b (0, 0 + m)) r1 in
-    let p2 = pairs_below (part_at c (0 + m, 0)) r2 in
-    let p3 = pairs_below (part_at d (0 + m, 0 + m)) r3 in
+    let p1 = pairs_below (part_at b (0, m)) r1 in
+    let p2 = pairs_below (part_at c (m, 0)) r2 in
+    let p3 = pairs_below (part_at d (m, m)) r3 in
+    let z : 0 + m ≡ m = omega arith in
     let test : Corner → Bool = λ q. (q.0 == i) && (q.1 == j) in
     ap (λ ps. is_among ps i j) (group-pairs a b c d xs r0 r1 r2 r3 e1 e2 e3 m (0, 0) e)
+    ∙ ap (λ (n : ℕ). is_among (p0 ++ (pairs_below (part_at b (0, n)) r1 ++ (pairs_below (part_at c (n, 0)) r2 ++ pairs_below (part_at d (n, n)) r3))) i j) z
     ∙ list_any-append test p0 (p1 ++ (p2 ++ p3))
     ∙ ap (λ t. is_among p0 i j || t) (list_any-append test p1 (p2 ++ p3))
     ∙ ap (λ t. is_among p0 i j || (is_among p1 i j || t)) (list_any-append test p2 p3)

@@ -45,13 +45,16 @@ length-pairs ps (bits ∷ rests) =
     ∙ ap (λ (n : ℕ). count_below n rests) (length-chosen qs bits ∙ ap (λ (n : ℕ). ones (take n bits)) (length-quarters (2 ^ length rests) ps))
 
 -- ---- numbers of groups
+ones-none : (k : ℕ) → ones (take k []) ≡ 0
+ones-none zero = refl
+ones-none (suc k) = refl
+
 pub ones-split : (n m : ℕ) (bits : List Bool) → ones (take (n + m) bits) ≡ ones (take n bits) + ones (take m (drop n bits))
-ones-split zero m bits = refl
-ones-split (suc n) m [] = ones-none m
+ones-split zero m bits = let e : 0 + m ≡ m = omega arith in ap (λ (k : ℕ). ones (take k bits)) e ∙ none-before (ones (take m bits))
   where
-    ones-none : (m : ℕ) → 0 ≡ ones (take m [])
-    ones-none zero = refl
-    ones-none (suc m) = refl
+    none-before : (n : ℕ) → n ≡ 0 + n
+    none-before n = omega arith
+ones-split (suc n) m [] = let a = ones-none (suc n + m) in let b = ones-none m in omega (arith, a, b)
 ones-split (suc n) m (b ∷ bits) =
     let h = ones-split n m bits in
     let e : suc n + m ≡ suc (n + m) = omega arith in
@@ -79,7 +82,7 @@ four-more : (n : ℕ) → 4 * suc n ≡ suc (suc (suc (suc (4 * n))))
 four-more n = omega arith
 
 pub groups-split : (n m : ℕ) (bits : List Bool) → AreGroups (n + m) bits → AreGroups n bits × AreGroups m (drop (4 * n) bits)
-groups-split zero m bits h = (tt, h)
+groups-split zero m bits h = let e : 0 + m ≡ m = omega arith in (tt, subst (λ (k : ℕ). AreGroups k bits) e h)
 groups-split (suc n) m (a ∷ b ∷ c ∷ d ∷ bits) h =
     let e : suc n + m ≡ suc (n + m) = omega arith in
     let g = subst (λ (k : ℕ). AreGroups k (a ∷ b ∷ c ∷ d ∷ bits)) e h in
@@ -133,14 +136,15 @@ groups-long (suc n) (a ∷ b ∷ c ∷ []) h = absurd h
 -- no group without a set bit is found, so each has one
 pub groups-none : (n at : ℕ) (bits : List Bool) → zero_group at bits ≡ None → 4 * n ≤ length bits → AreGroups n bits
 groups-none zero at bits h l = tt
-groups-none (suc n) at (a ∷ b ∷ c ∷ d ∷ bits) h l = one a b c d h
+groups-none (suc n) at (a ∷ b ∷ c ∷ d ∷ bits) h l = one a b c d (λ e. groups-none n (at + 4) bits e (omega arith)) h
   where
-    one : (a b c d : Bool) → cond (a || (b || (c || d))) (zero_group (at + 4) bits) (Some at) ≡ None → ((a || (b || (c || d))) ≡ true) × AreGroups n bits
-    one true b c d h = (refl, groups-none n (at + 4) bits h (omega arith))
-    one false true c d h = (refl, groups-none n (at + 4) bits h (omega arith))
-    one false false true d h = (refl, groups-none n (at + 4) bits h (omega arith))
-    one false false false true h = (refl, groups-none n (at + 4) bits h (omega arith))
-    one false false false false h = cc
+    one : (a b c d : Bool) → (zero_group (at + 4) bits ≡ None → AreGroups n bits) → cond (a || (b || (c || d))) (zero_group (at + 4) bits) (Some at) ≡ None
+        → ((a || (b || (c || d))) ≡ true) × AreGroups n bits
+    one true b c d f h = (refl, f h)
+    one false true c d f h = (refl, f h)
+    one false false true d f h = (refl, f h)
+    one false false false true f h = (refl, f h)
+    one false false false false f h = cc
 groups-none (suc n) at [] h l = absurd (omega arith)
 groups-none (suc n) at (a ∷ []) h l = absurd (omega arith)
 groups-none (suc n) at (a ∷ b ∷ []) h l = absurd (omega arith)

@@ -1,7 +1,8 @@
 -- Where the levels of a tree begin: from there on each level has the groups that it owes, and the pairs below are those that the file tells.
-use Rattle.std.proofs.Common.{◌≡◌, ◌==◌, ◌&&◌, ◌+◌, ◌-◌, ◌*◌, ◌^◌, ◌<◌, ◌≤◌, ◌×◌, leb, ltb, not, ℕ, zero, suc, Bool, true, false, cond, Some, None, List, [], ◌∷◌, ◌++◌, length, take, drop, refl, sym, ap, ◌∙◌, subst, arith}
+use Rattle.std.proofs.Common.{◌≡◌, ◌==◌, ◌&&◌, ◌+◌, ◌-◌, ◌*◌, ◌^◌, ◌<◌, ◌≤◌, leb, ltb, not, ℕ, zero, suc, Bool, true, false, cond, Some, None, List, [], ◌∷◌, ◌++◌, length, take, drop, refl, sym, ap, ◌∙◌, subst, arith}
 use Rattle.std.specs.List.{flat_map, AllByRecursion}
 use Rattle.std.proofs.lemmas.List.{length-append, length-drop, drop-drop, drop_all}
+use Rattle.std.proofs.lemmas.Bool.Decides.{nat_tests}
 use Rattle.std.proofs.lemmas.Bool.{and_parts, leb-true, lt-ltb, eqb-true, false≢true}
 use Rattle.rel_model.specs.Listed.{AreWithin}
 use Rattle.rel_model.proofs.Grid.{all-weaker}
@@ -19,14 +20,18 @@ pub length-rests : (tree cells : List Bool) (places : List ℕ) → length (rest
 length-rests tree cells [] = refl
 length-rests tree cells (at ∷ places) = let h = length-rests tree cells places in omega (arith, h)
 
+some-level : (k : ℕ) → (suc k == 0) ≡ false
+some-level k = grind (arith, nat_tests)
+
 -- the rests of a level above the cells
-rests-above : (tree cells : List Bool) (k n from : ℕ) → rests_at tree cells (starts_of (suc k) n from tree)
+pub rests-above : (tree cells : List Bool) (k n from : ℕ) → rests_at tree cells (starts_of (suc k) n from tree)
     ≡ drop (4 * from) tree ∷ rests_at tree cells (starts_of k (ones (take (4 * n) (drop (4 * from) tree))) (from + n) tree)
 rests-above tree cells k n from =
     let below = starts_of k (ones (take (4 * n) (drop (4 * from) tree))) (from + n) tree in
     ap (λ (m : ℕ). drop (4 * from) (cond (m == 0) cells tree) ∷ rests_at tree cells below) (length-starts k (ones (take (4 * n) (drop (4 * from) tree))) (from + n) tree)
+    ∙ ap (λ b. drop (4 * from) (cond b cells tree) ∷ rests_at tree cells below) (some-level k)
 
-moved-on : (from n : ℕ) (tree : List Bool) → drop (4 * (from + n)) tree ≡ drop (4 * n) (drop (4 * from) tree)
+pub moved-on : (from n : ℕ) (tree : List Bool) → drop (4 * (from + n)) tree ≡ drop (4 * n) (drop (4 * from) tree)
 moved-on from n tree = let e : 4 * (from + n) ≡ 4 * from + 4 * n = omega arith in ap (λ (k : ℕ). drop k tree) e ∙ sym (drop-drop (4 * n) (4 * from) tree)
 
 -- the pairs below

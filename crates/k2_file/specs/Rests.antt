@@ -1,11 +1,11 @@
 -- The bits of a tree that are still to be read, a list for each level: from the level below a square down to the
 -- cells. The k-th set bit of a level owns the k-th group of four of the next, so what is read quarter by quarter, depth
 -- first, comes in the order of each level.
-use Rattle.std.specs.Prelude.{◌≡◌, ◌==◌, ◌&&◌, ◌||◌, ◌+◌, ◌*◌, ◌^◌, nat_lt, cond, zero, suc, ℕ, Bool, true, List, [], ◌∷◌, length, take, drop}
+use Rattle.std.specs.Prelude.{◌≡◌, ◌==◌, ◌&&◌, ◌||◌, ◌+◌, ◌*◌, ◌^◌, nat_lt, cond, zero, suc, ℕ, Bool, true, List, [], ◌∷◌, length, take, drop, Option, None}
 use Rattle.std.specs.List.{flat_map}
 use Rattle.rel_model.specs.Cells.{Cells}
 use Rattle.rel_model.specs.Listed.{is_among}
-use Rattle.run_model.specs.Files.{Corner, whole, quarters, chosen, ones}
+use Rattle.run_model.specs.Files.{Corner, whole, quarters, chosen, ones, cell_outside}
 
 -- the rests behind so many groups of the first level, and behind the groups that their set bits own below it
 abbrev pub behind : ℕ → List (List Bool) → List (List Bool)
@@ -60,3 +60,20 @@ starts_of (suc levels) groups from tree =
 pub record MovesOn (tree cells : List Bool) (n : ℕ) (old new : List ℕ) : Type 0 where
   pub many : length new ≡ length old
   pub rests : rests_at tree cells new ≡ behind n (rests_at tree cells old)
+
+-- how many groups the last level has below so many submatrices
+abbrev pub groups_below : ℕ → List (List Bool) → ℕ
+groups_below n [] = 0
+groups_below n (bits ∷ rests) = cond (length rests == 0) n (groups_below (ones (take (4 * n) bits)) rests)
+
+-- the number of the first set cell outside the sizes below submatrices, counted from this number
+abbrev pub outside_below : ℕ → ℕ → ℕ → List Corner → List (List Bool) → Option ℕ
+outside_below rows cols at ps [] = None
+outside_below rows cols at ps (bits ∷ rests) = cond (length rests == 0)
+    (cell_outside rows cols at (flat_map (quarters (2 ^ length rests)) ps) bits)
+    (outside_below rows cols at (chosen (flat_map (quarters (2 ^ length rests)) ps) bits) rests)
+
+-- the last of several places
+abbrev pub last_place : List ℕ → ℕ
+last_place [] = 0
+last_place (at ∷ places) = cond (length places == 0) at (last_place places)

@@ -5,11 +5,9 @@ use Rattle.run_model.specs.declared.outcome.BadFile.{BadFile}
 use Rattle.run_model.specs.declared.outcome.BadFile.TheVariants.{Short, Magic, Sizes, Height, Lengths, ZeroGroup, Outside, Padding, Rest, Full, NoMemory}
 use Rattle.lang_model.specs.Tokens.{same_text}
 use Rattle.rel_model.specs.Relation.{size_limit}
-use Rattle.rel_model.specs.Listed.{AreWithin}
 use Rattle.run_model.specs.Files.{Corner, unpacked, bytes_for, header_length, fields, file_height, levels_fit, zero_group, whole, cells_below, cells_told, cell_outside, chosen, k2_fault, ones, unless, found_at, first_of_all}
 use Rattle.k2_file.specs.declared.bits.Bits.{Bits}
 use Rattle.k2_file.specs.declared.header.Header.{Header}
-use Rattle.k2_file.specs.declared.read.Listed.{Listed}
 
 -- so many bits of bytes
 unfoldable pub bits_told : ℕ → List ℕ → List Bool
@@ -135,13 +133,3 @@ IsFaultOf found (ZeroGroup at) = found ≡ Some (ZeroGroup at)
 IsFaultOf found (Outside at) = found ≡ Some (Outside at)
 IsFaultOf found Padding = found ≡ Some Padding
 IsFaultOf found Rest = found ≡ Some Rest
-
--- the list of a file's pairs, with its sizes, where the bytes pass all tests
-pub record IsListed (bytes : List ℕ) (listed : Listed) : Type 0 where
-  pub good : k2_fault bytes ≡ None
-  pub rows_are : listed.shape.rows ≡ (fields bytes).rows
-  pub cols_are : listed.shape.cols ≡ (fields bytes).cols
-  pub row_limit : listed.shape.rows ≤ size_limit
-  pub col_limit : listed.shape.cols ≤ size_limit
-  pub pairs_are : listed.pairs.items ≡ pairs_told bytes
-  pub inside : AreWithin listed.shape.rows listed.shape.cols listed.pairs.items

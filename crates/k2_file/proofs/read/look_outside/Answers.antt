@@ -1,9 +1,13 @@
--- Bits that fit are few.
-use Rattle.std.proofs.Common.{◌+◌, ◌-◌, ◌<◌, ◌^◌, length, ap, arith}
+-- Sizes as great as the side leave no cell outside; and bits that fit are few.
+use Rattle.std.proofs.Common.{◌≡◌, ◌+◌, ◌-◌, ◌<◌, ◌≤◌, ◌^◌, suc, length, subst, ap, arith}
 use Rattle.k2_file.specs.Told.{bits_told, groups_of}
 use Rattle.k2_file.proofs.ReadBits.{length-told}
 use Rattle.k2_file.proofs.ReadLevels.{fit-few, groups-few}
-use Rattle.k2_file.proofs.read.pairs_of.Goals as goal
+use Rattle.k2_file.proofs.ReadStarts.{square-inside}
+use Rattle.k2_file.proofs.read.look_outside.Goals as goal
+
+pub returns-then-side-header-2-clause-inside : goal.returns-then-side-header-2-clause-inside
+returns-then-side-header-2-clause-inside c = ?
 
 pub first_outside-requires-clause-numbers : goal.first_outside-requires-clause-numbers
 first_outside-requires-clause-numbers c =
