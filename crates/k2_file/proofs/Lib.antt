@@ -28,3 +28,4 @@ pub mod ReadBuilding
 pub mod ReadStarts
 pub mod ReadLeaves
 pub mod ReadPlaces
+pub mod ReadRoot

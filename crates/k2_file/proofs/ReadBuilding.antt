@@ -1,14 +1,19 @@
 -- Quads that are built from the leaves upwards: their corner has the cells of the square, and the nodes are few.
-use Rattle.std.proofs.Common.{◌≡◌, ◌≢◌, ◌<◌, ◌≤◌, ◌+◌, ◌-◌, ◌*◌, ◌^◌, ℕ, suc, Bool, true, false, cond, List, [], ◌∷◌, length, refl, sym, ap, ◌∙◌, subst, arith, Some}
+use Rattle.std.proofs.Common.{◌≡◌, ◌==◌, ◌&&◌, ◌||◌, ltb, inl, inr, ◌≢◌, ◌<◌, ◌≤◌, ◌+◌, ◌-◌, ◌*◌, ◌^◌, ℕ, suc, Bool, true, false, cond, List, [], ◌∷◌, length, refl, sym, ap, ◌∙◌, subst, arith, Some}
 use Rattle.std.specs.Prelude.{IsSome, unwrap_or}
 use Rattle.rel_model.specs.declared.Quad.{Quad}
 use Rattle.rel_model.specs.Cells.{Cells, no_cells}
-use Rattle.rel_model.specs.Listed.{is_among}
-use Rattle.rel_model.specs.Trees.{quartered}
+use Rattle.std.specs.List.{AllByRecursion}
+use Rattle.std.proofs.lemmas.Nat.{mul-le}
+use Rattle.std.proofs.lemmas.Bool.{cases_lt, lt-ltb, ne_eqb}
+use Rattle.rel_model.specs.Listed.{is_among, AreWithin}
+use Rattle.rel_model.proofs.TreeLaws.{same_cells}
+use Rattle.k2_file.proofs.ReadStarts.{pairs-within}
+use Rattle.rel_model.specs.Trees.{quartered, top_height}
 use Rattle.rel_model.specs.Quarters.{LiesWithin}
 use Rattle.rel_model.specs.Worker.{Worker, HasQuad, quad_set, GivesQuad, Keeps, listed_room}
-use Rattle.run_model.specs.Files.{number_of_bit}
-use Rattle.k2_file.specs.Rests.{behind, count_below, AreThere, cells_of_part}
+use Rattle.run_model.specs.Files.{whole, number_of_bit}
+use Rattle.k2_file.specs.Rests.{behind, pairs_below, count_below, AreThere, cells_of_part, cells_inside}
 use Rattle.k2_file.proofs.ReadRests.{count-some}
 use Rattle.k2_file.proofs.ReadQuarters.{IsWithin, four-quartered, square-asked, group-count, pairs-none}
 
@@ -98,13 +103,90 @@ room-of-four a b c d n t e some over =
     omega (arith, e, some, f, g, h, i, j)
 
 -- the nodes of a square's quarters and of their corner
-pub room-built : (t : ℕ) (a b c d : Bool) (bits xs : List Bool) (r0 r1 r2 r3 : List (List Bool)) → t ≢ 0 → bits ≡ a ∷ b ∷ c ∷ d ∷ xs
+pub room-built : (t low : ℕ) (a b c d : Bool) (bits xs : List Bool) (r0 r1 r2 r3 : List (List Bool)) → t ≡ low + 1 → bits ≡ a ∷ b ∷ c ∷ d ∷ xs
     → r1 ≡ behind (number_of_bit a) r0 → r2 ≡ behind (number_of_bit b) r1 → r3 ≡ behind (number_of_bit c) r2 → AreThere 1 (bits ∷ r0)
-    → listed_room (count_below (number_of_bit a) r0) (t - 1) + (listed_room (count_below (number_of_bit b) r1) (t - 1)
-    + (listed_room (count_below (number_of_bit c) r2) (t - 1) + (listed_room (count_below (number_of_bit d) r3) (t - 1) + 3)))
+    → listed_room (count_below (number_of_bit a) r0) low + (listed_room (count_below (number_of_bit b) r1) low
+    + (listed_room (count_below (number_of_bit c) r2) low + (listed_room (count_below (number_of_bit d) r3) low + 3)))
     ≤ listed_room (count_below 1 (bits ∷ r0)) t
-room-built t a b c d bits xs r0 r1 r2 r3 over eb e1 e2 e3 h =
+room-built t low a b c d bits xs r0 r1 r2 r3 up eb e1 e2 e3 h =
     let n = ap (λ ys. count_below 1 (ys ∷ r0)) eb ∙ group-count a b c d xs r0 r1 r2 r3 e1 e2 e3 in
     let s = count-some 1 (bits ∷ r0) h in
-    room-of-four (count_below (number_of_bit a) r0) (count_below (number_of_bit b) r1) (count_below (number_of_bit c) r2) (count_below (number_of_bit d) r3)
-    (count_below 1 (bits ∷ r0)) t n (omega (arith, s)) over
+    let e : t - 1 ≡ low = omega (arith, up) in
+    subst (λ (k : ℕ). listed_room (count_below (number_of_bit a) r0) k + (listed_room (count_below (number_of_bit b) r1) k + (listed_room (count_below (number_of_bit c) r2) k
+    + (listed_room (count_below (number_of_bit d) r3) k + 3))) ≤ listed_room (count_below 1 (bits ∷ r0)) t) e
+    (room-of-four (count_below (number_of_bit a) r0) (count_below (number_of_bit b) r1) (count_below (number_of_bit c) r2) (count_below (number_of_bit d) r3)
+    (count_below 1 (bits ∷ r0)) t n (omega (arith, s)) (omega (arith, up)))
+
+-- the node of a leaf
+pub some-room : (n d : ℕ) → 1 ≤ n → 1 ≤ listed_room n d
+some-room n d l = let p : 1 * 1 ≤ n * (3 * d + 1) = mul-le 1 1 n (3 * d + 1) l (omega arith) in omega (arith, p)
+
+-- heights
+pub high-top : (h : ℕ) → h ≤ 24 → h ≤ top_height
+unfolding top_height
+high-top h l = l
+
+pub below-top : (h : ℕ) → h < 24 → h < top_height
+unfolding top_height
+below-top h l = l
+
+-- a leaf has the cells of its square, where they lie within it
+inside-itself : (m : ℕ) (f : Cells) → IsWithin m f → cells_inside m f ≡ f
+inside-itself m f w = same_cells _ _ (λ i j. elim (cases_lt i m) [
+  | inl x ↦ elim (cases_lt j m) [
+    | inl y ↦ (let s = lt-ltb i m x in let t = lt-ltb j m y in both (ltb i m) (ltb j m) (f i j) s t)
+    | inr y ↦ none (ltb i m) (ltb j m) (f i j) (w.col i j y)
+  ]
+  | inr x ↦ none (ltb i m) (ltb j m) (f i j) (w.row i j x)
+])
+  where
+    both : (s t b : Bool) → s ≡ true → t ≡ true → (s && (t && b)) ≡ b
+    both s t b p q = rw (p, q) refl
+
+    none : (s t b : Bool) → b ≡ false → (s && (t && b)) ≡ b
+    none true true b p = refl
+    none true false b p = sym p
+    none false t b p = sym p
+
+among-within : (m : ℕ) (ps : List (ℕ × ℕ)) → AreWithin m m ps → IsWithin m (is_among ps)
+among-within m [] h = record { row = λ i j l. refl; col = λ i j l. refl }
+among-within m (p ∷ ps) h =
+    let w = among-within m ps h.1 in
+    record {
+      row = λ i j l. out-row (p.0 == i) (p.1 == j) (is_among ps i j) (ne_eqb p.0 i (λ e. apart p.0 i e h.0.0 l)) (w.row i j l);
+      col = λ i j l. out-col (p.0 == i) (p.1 == j) (is_among ps i j) (ne_eqb p.1 j (λ e. apart p.1 j e h.0.1 l)) (w.col i j l);
+    }
+  where
+    apart : (x i : ℕ) → x ≡ i → x < m → m ≤ i → ⊥
+    apart x i e a b = omega (arith, e, a, b)
+
+    out-row : (a b c : Bool) → a ≡ false → c ≡ false → ((a && b) || c) ≡ false
+    out-row a b c e d = rw (e, d) refl
+
+    out-col : (a b c : Bool) → b ≡ false → c ≡ false → ((a && b) || c) ≡ false
+    out-col true b c e d = rw (e, d) refl
+    out-col false b c e d = d
+
+part-within : (b : Bool) (rests : List (List Bool)) → IsWithin (2 ^ length rests) (cells_of_part b rests)
+part-within b rests = among-within (2 ^ length rests) (pairs_below (cond b whole []) rests) (pairs-within (2 ^ length rests) (2 ^ length rests) rests (cond b whole []) (start b))
+  where
+    start : (b : Bool) → AllByRecursion (λ p. (p.0 + 2 ^ length rests ≤ 2 ^ length rests) × (p.1 + 2 ^ length rests ≤ 2 ^ length rests)) (cond b whole [])
+    start true = ((omega arith, omega arith), tt)
+    start false = tt
+
+-- where the square is as high as the rests, its cells lie within it
+pub part-inside : (h : ℕ) (b : Bool) (rests : List (List Bool)) → length rests ≡ h → cells_inside (2 ^ h) (cells_of_part b rests) ≡ cells_of_part b rests
+part-inside h b rests e = inside-itself (2 ^ h) (cells_of_part b rests) (subst (λ (n : ℕ). IsWithin (2 ^ n) (cells_of_part b rests)) e (part-within b rests))
+
+-- no cell of a square that has none lies within a side
+pub none-inside : (w : Worker) (h low : ℕ) (b : Bool) (rests : List (List Bool)) → h ≡ low → b ≡ false → w.quad (record { height = low; name = 0 }) ≡ Some no_cells
+    → GivesQuad w h (cells_inside (2 ^ h) (cells_of_part b rests)) (record { height = low; name = 0 })
+none-inside w h low b rests e f q = record {
+  means = q ∙ ap Some (same_cells _ _ (λ i j. sym (ap (λ ps. ltb i (2 ^ h) && (ltb j (2 ^ h) && is_among ps i j)) (ap (λ t. pairs_below (cond t whole []) rests) f ∙ pairs-none rests) ∙ none (ltb i (2 ^ h)) (ltb j (2 ^ h)))));
+  same_height = sym e;
+}
+  where
+    none : (s t : Bool) → (s && (t && false)) ≡ false
+    none true true = refl
+    none true false = refl
+    none false t = refl

@@ -6,7 +6,7 @@ use Rattle.std.proofs.Math.Pow.{pow_mono}
 use Rattle.std.proofs.lemmas.Bool.{cases_Bool, cases_lt, eqb-true, eqb-false, eq-eqb, ne_eqb, lt-ltb, le-ltb, ltb-true}
 use Rattle.std.proofs.lemmas.Bool.Decides.{nat_tests}
 use Rattle.std.proofs.lemmas.Nat.{pow_pos, pow-add, mul-le, or_lt}
-use Rattle.std.proofs.lemmas.Nat.Bits.{bit_at_or, bit_at-lt, bit_at-pow_same, bit_at-pow_other}
+use Rattle.std.proofs.lemmas.Nat.Bits.{bit_at_or, bit_at-lt, bit_at-pow_same, bit_at-pow_other, bit_at-zero}
 use Rattle.std.proofs.lemmas.List.Folds.{list_any-append}
 use Rattle.rel_model.specs.Cells.{Cells, cells_union, bits_cells}
 use Rattle.rel_model.specs.Listed.{is_among}
@@ -134,3 +134,15 @@ group-added m w0 w1 w2 w3 w4 p a b c d bits xs r0 r1 r2 r3 side e eb e1 e2 e3 h1
     h4 ∙ ap (λ w. u w l4) (h3 ∙ ap (λ w. u w l3) h2) ∙ added-both m (u w1 l2) l3 l4 ∙ added-both m w1 l2 (l3 ++ l4)
     ∙ ap (λ w. u w (l2 ++ (l3 ++ l4))) h1 ∙ added-both m w0 l1 (l2 ++ (l3 ++ l4))
     ∙ ap (u w0) (sym (ap (λ ys. pairs_below (p ∷ []) (ys ∷ r0)) eb ∙ group-pairs a b c d xs r0 r1 r2 r3 e1 e2 e3 side p e))
+
+-- a word that began with no cell
+pub word-cells : (n m word : ℕ) (f : Cells) → m ≡ n → bits_cells m word ≡ cells_union (bits_cells m 0) (cells_inside m f) → bits_cells n word ≡ cells_inside n f
+word-cells n m word f e h =
+    ap (λ (k : ℕ). bits_cells k word) (sym e) ∙ h
+    ∙ same_cells _ _ (λ i j. ap (λ b. (ltb i m && (ltb j m && b)) || cells_inside m f i j) (ap (λ (b : ℕ). b == 1) (bit_at-zero (m * i + j))) ∙ none (ltb i m) (ltb j m) (cells_inside m f i j))
+    ∙ ap (λ (k : ℕ). cells_inside k f) e
+  where
+    none : (s t b : Bool) → ((s && (t && false)) || b) ≡ b
+    none true true b = refl
+    none true false b = refl
+    none false t b = refl

@@ -1,9 +1,10 @@
 -- Places in the levels of a tree: the group at the first of them, and how they move on past it.
-use Rattle.std.proofs.Common.{◌≡◌, ◌==◌, ◌+◌, ◌-◌, ◌*◌, ◌^◌, ◌<◌, ◌≤◌, ℕ, zero, suc, Bool, true, false, cond, List, [], ◌∷◌, ◌++◌, length, take, drop, get_or, refl, sym, ap, ◌∙◌, subst, arith}
+use Rattle.std.proofs.Common.{◌≡◌, ◌==◌, ◌+◌, ◌-◌, ◌*◌, ◌^◌, ◌<◌, ◌≤◌, ℕ, zero, suc, Bool, true, false, cond, List, [], ◌∷◌, ◌++◌, length, take, drop, get_or, set, refl, sym, ap, ◌∙◌, subst, arith}
 use Rattle.std.proofs.lemmas.List.{length-append, length-drop}
 use Rattle.std.proofs.lemmas.Bool.Decides.{nat_tests}
 use Rattle.run_model.specs.Files.{number_of_bit}
 use Rattle.k2_file.specs.Rests.{behind, AreThere, rests_at, MovesOn}
+use Rattle.k2_file.proofs.ReadApart.{two-halves}
 use Rattle.k2_file.proofs.ReadRests.{groups-long}
 use Rattle.k2_file.proofs.ReadQuarters.{group-behind, group-there}
 
@@ -71,3 +72,45 @@ group-moves tree cells places here b0 b1 b2 b3 b4 after now height a b c d h e l
           ∙ group-behind a b c d (drop (4 * (x + 1)) level) (rests_at tree cells b0) (rests_at tree cells b1) (rests_at tree cells b2) (rests_at tree cells b3)
           m1.rests m2.rests m3.rests (rests_at tree cells b4) m4.rests);
     }
+
+-- ---- nothing read
+behind-none : (rests : List (List Bool)) → behind 0 rests ≡ rests
+behind-none [] = refl
+behind-none (bits ∷ rests) = ap (λ rs. bits ∷ rs) (behind-none rests)
+
+pub moves-none : (tree cells : List Bool) (b : Bool) (places : List ℕ) → b ≡ false → MovesOn tree cells (number_of_bit b) places places
+moves-none tree cells b places e = record { many = refl; rests = sym (ap (λ t. behind (number_of_bit t) (rests_at tree cells places)) e ∙ behind-none (rests_at tree cells places)) }
+
+pub no-places : (tree cells : List Bool) (places : List ℕ) (height : ℕ) → length places ≡ height → height ≡ 0 → rests_at tree cells places ≡ []
+no-places tree cells [] height h e = refl
+no-places tree cells (x ∷ places) height h e = absurd (omega (arith, h, e))
+
+pub place-set : (here : List ℕ) (x : ℕ) → length here ≡ 1 → set here 0 x ≡ x ∷ []
+place-set [] x e = absurd (omega (arith, e))
+place-set (y ∷ []) x e = refl
+place-set (y ∷ z ∷ here) x e = absurd (omega (arith, e))
+
+-- ---- the quarters of a square that is there
+module _ (tree cells : List Bool) (places b0 : List ℕ) (height : ℕ) (a b c d : Bool) (xs : List Bool) (g : IsAtGroup tree cells places b0 height a b c d xs)
+    (t : AreThere 1 (rests_at tree cells places)) where
+  abbrev r0 : List (List Bool)
+  r0 = rests_at tree cells b0
+
+  own : AreThere 1 ((a ∷ b ∷ c ∷ d ∷ xs) ∷ r0)
+  own = subst (AreThere 1) g.rests t
+
+  pub nw-there : AreThere (number_of_bit a) r0
+  nw-there = (group-there a b c d xs r0 _ _ _ refl refl refl own).0
+
+  pub ne-there : (b1 : List ℕ) → MovesOn tree cells (number_of_bit a) b0 b1 → AreThere (number_of_bit b) (rests_at tree cells b1)
+  ne-there b1 m = (group-there a b c d xs r0 _ _ _ m.rests refl refl own).1
+
+  pub sw-there : (b1 b2 : List ℕ) → MovesOn tree cells (number_of_bit a) b0 b1 → MovesOn tree cells (number_of_bit b) b1 b2 → AreThere (number_of_bit c) (rests_at tree cells b2)
+  sw-there b1 b2 m n = (group-there a b c d xs r0 _ _ _ m.rests n.rests refl own).2
+
+  pub se-there : (b1 b2 b3 : List ℕ) → MovesOn tree cells (number_of_bit a) b0 b1 → MovesOn tree cells (number_of_bit b) b1 b2 → MovesOn tree cells (number_of_bit c) b2 b3
+      → AreThere (number_of_bit d) (rests_at tree cells b3)
+  se-there b1 b2 b3 m n o = (group-there a b c d xs r0 _ _ _ m.rests n.rests o.rests own).3
+
+pub halves : (h : ℕ) → (h ≡ 0 → ⊥) → 2 ^ h ≡ 2 ^ (h - 1) + 2 ^ (h - 1)
+halves h n = let e : suc (h - 1) ≡ h = omega (arith, n) in ap (λ (k : ℕ). 2 ^ k) (sym e) ∙ two-halves (h - 1)

@@ -1,7 +1,8 @@
 -- Where the levels of a tree begin: from there on each level has the groups that it owes, and the pairs below are those that the file tells.
-use Rattle.std.proofs.Common.{◌≡◌, ◌==◌, ◌&&◌, ◌+◌, ◌-◌, ◌*◌, ◌^◌, ◌<◌, ◌≤◌, leb, ltb, not, ℕ, zero, suc, Bool, true, false, cond, Some, None, List, [], ◌∷◌, ◌++◌, length, take, drop, refl, sym, ap, ◌∙◌, subst, arith}
+use Rattle.std.proofs.Common.{◌≡◌, ◌==◌, ◌&&◌, ◌+◌, ◌-◌, ◌*◌, ◌^◌, ◌<◌, ◌≤◌, leb, ltb, not, ℕ, zero, suc, Bool, true, false, cond, Some, None, List, [], ◌∷◌, ◌++◌, length, take, drop, set, replicate, append_assoc, refl, sym, ap, ◌∙◌, subst, arith}
 use Rattle.std.specs.List.{flat_map, AllByRecursion}
-use Rattle.std.proofs.lemmas.List.{length-append, length-drop, drop-drop, drop_all}
+use Rattle.std.proofs.lemmas.List.{length-append, length-drop, length-set, drop-drop, drop_all}
+use Rattle.std.proofs.lemmas.Grind.{common_steps}
 use Rattle.std.proofs.lemmas.Bool.Decides.{nat_tests}
 use Rattle.std.proofs.lemmas.Bool.{and_parts, leb-true, lt-ltb, eqb-true, false≢true}
 use Rattle.rel_model.specs.Listed.{AreWithin}
@@ -153,3 +154,78 @@ square-inside rows cols at k groups tree cells a b =
     start zero = tt
     start (suc zero) = ((omega arith, omega arith), tt)
     start (suc (suc n)) = ((omega arith, omega arith), tt)
+
+-- ---- the places where the levels begin, one level after another
+-- the places of the levels so far stand, the others are 0, and those that are left follow
+pub record AreStarts (tree : List Bool) (cell_count height first level : ℕ) (places : List ℕ) (groups from : ℕ) : Type 0 where
+  pub many : length places ≡ 24
+  pub low : 1 ≤ level
+  pub same : take (level - 1) places ++ starts_of (height - level) groups from tree ≡ starts_of (height - 1) first 0 tree
+  pub zeros : drop (level - 1) places ≡ replicate (25 - level) 0
+  pub fit : levels_fit (height - level) groups (drop (4 * from) tree) cell_count ≡ true
+  pub within : 4 * from ≤ length tree
+
+pub starts-none : (tree : List Bool) (cell_count height first : ℕ) → levels_fit (height - 1) first tree cell_count ≡ true
+    → AreStarts tree cell_count height first 1 (replicate 24 0) first 0
+starts-none tree cell_count height first h = record { many = refl; low = omega arith; same = refl; zeros = refl; fit = h; within = omega arith }
+
+-- the bits of the next level are there
+pub starts-room : (tree : List Bool) (cell_count height first level : ℕ) (places : List ℕ) (groups from : ℕ) → AreStarts tree cell_count height first level places groups from
+    → level < height → 4 * from + 4 * groups ≤ length tree
+starts-room tree cell_count height first level places groups from w l =
+    let bits = drop (4 * from) tree in
+    let one : height - level ≡ suc (height - (level + 1)) = omega (arith, l) in
+    let h = subst (λ (k : ℕ). levels_fit k groups bits cell_count ≡ true) one w.fit in
+    let t = and_parts (leb (4 * groups) (length bits)) (levels_fit (height - (level + 1)) (ones (take (4 * groups) bits)) (drop (4 * groups) bits) cell_count) h in
+    omega (arith, leb-true (4 * groups) (length bits) t.0, length-drop (4 * from) tree, w.within)
+
+take-next : (n : ℕ) (xs : List ℕ) (x : ℕ) → n < length xs → take (n + 1) (set xs n x) ≡ take n xs ++ x ∷ []
+take-next n xs x l = grind (arith, common_steps)
+
+drop-next : (n m : ℕ) (xs : List ℕ) (x : ℕ) → drop n xs ≡ replicate (suc m) 0 → n < length xs → drop (n + 1) (set xs n x) ≡ replicate m 0
+drop-next zero m (y ∷ xs) x h l = cc
+drop-next zero m [] x h l = absurd (omega (arith, l))
+drop-next (suc n) m (y ∷ xs) x h l =
+    let e : suc n + 1 ≡ suc (n + 1) = omega arith in
+    ap (λ (k : ℕ). drop k (set (y ∷ xs) (suc n) x)) e ∙ drop-next n m xs x h (omega (arith, l))
+drop-next (suc n) m [] x h l = absurd (omega (arith, l))
+
+pub starts-more : (tree : List Bool) (cell_count height first level : ℕ) (places : List ℕ) (groups from : ℕ) → AreStarts tree cell_count height first level places groups from
+    → level < height → height ≤ 24
+    → AreStarts tree cell_count height first (level + 1) (set places (level - 1) from) (ones (take (4 * groups) (drop (4 * from) tree))) (from + groups)
+starts-more tree cell_count height first level places groups from w l top =
+    let bits = drop (4 * from) tree in
+    let n = level - 1 in
+    let one : height - level ≡ suc (height - (level + 1)) = omega (arith, l) in
+    let h = subst (λ (k : ℕ). levels_fit k groups bits cell_count ≡ true) one w.fit in
+    let t = and_parts (leb (4 * groups) (length bits)) (levels_fit (height - (level + 1)) (ones (take (4 * groups) bits)) (drop (4 * groups) bits) cell_count) h in
+    let next : level + 1 - 1 ≡ n + 1 = omega (arith, w.low) in
+    let at : n < length places = omega (arith, w.many, w.low, l, top) in
+    let fewer : 25 - level ≡ suc (25 - (level + 1)) = omega (arith, l, top) in
+    let below = starts_of (height - (level + 1)) (ones (take (4 * groups) bits)) (from + groups) tree in
+    record {
+      many = length-set places n from ∙ w.many;
+      low = omega arith;
+      same = ap (λ (k : ℕ). take k (set places n from) ++ below) next ∙ ap (λ ys. ys ++ below) (take-next n places from at)
+          ∙ append_assoc (take n places) (from ∷ []) below ∙ ap (λ (k : ℕ). take n places ++ starts_of k groups from tree) (sym one) ∙ w.same;
+      zeros = ap (λ (k : ℕ). drop k (set places n from)) next ∙ drop-next n (25 - (level + 1)) places from (w.zeros ∙ ap (λ (k : ℕ). replicate k 0) fewer) at;
+      fit = ap (λ ys. levels_fit (height - (level + 1)) (ones (take (4 * groups) bits)) ys cell_count) (moved-on from groups tree) ∙ t.1;
+      within = omega (arith, leb-true (4 * groups) (length bits) t.0, length-drop (4 * from) tree, w.within);
+    }
+
+take-last : (n m : ℕ) (xs : List ℕ) → drop n xs ≡ replicate (suc m) 0 → take (n + 1) xs ≡ take n xs ++ 0 ∷ []
+take-last zero m [] h = cc
+take-last zero m (x ∷ xs) h = cc
+take-last (suc n) m [] h = cc
+take-last (suc n) m (x ∷ xs) h =
+    let e : suc n + 1 ≡ suc (n + 1) = omega arith in ap (λ (k : ℕ). take k (x ∷ xs)) e ∙ ap (λ ys. x ∷ ys) (take-last n m xs h)
+
+pub starts-all : (tree : List Bool) (cell_count height first level : ℕ) (places : List ℕ) (groups from : ℕ) → AreStarts tree cell_count height first level places groups from
+    → level ≡ height → height ≤ 24 → take height places ≡ starts_of (height - 1) first 0 tree
+starts-all tree cell_count height first level places groups from w e top =
+    let n = level - 1 in
+    let next : height ≡ n + 1 = omega (arith, e, w.low) in
+    let none : height - level ≡ 0 = omega (arith, e) in
+    let fewer : 25 - level ≡ suc (24 - level) = omega (arith, e, top) in
+    ap (λ (k : ℕ). take k places) next ∙ take-last n (24 - level) places (w.zeros ∙ ap (λ (k : ℕ). replicate k 0) fewer)
+    ∙ ap (λ (k : ℕ). take n places ++ starts_of k groups from tree) (sym none) ∙ w.same

@@ -51,6 +51,7 @@ pub record IsHeader (bytes : List ℕ) (h : Header) : Type 0 where
   pub col_limit : h.cols ≤ size_limit
   pub least : 1 ≤ h.height
   pub top : h.height ≤ 24
+  pub is_height : h.height ≡ file_height h.rows h.cols
   pub long : header_length + bytes_for h.tree_count + bytes_for h.cell_count ≤ length bytes
 
 -- where the parts end

@@ -36,9 +36,11 @@ impl Bits<'_> {
     /// The group of four with this number.
     pub(crate) fn group(&self, number: u64) -> Group
         requires { 4 * number + 4 ≤ self.now.count }
-        ensures { drop (4 * number) (bits_in self.now) ≡ result.nw ∷ result.ne ∷ result.sw ∷ result.se
+        ensures bits { drop (4 * number) (bits_in self.now) ≡ result.nw ∷ result.ne ∷ result.sw ∷ result.se
             ∷ drop (4 * (number + 1)) (bits_in self.now) }
+        ensures limit { 4 * number + 4 < 2 ^ 64 }
     {
+        let _count = self.count;
         let byte = self.bytes[(number / 2) as usize];
         let low = 4 * (1 - (number % 2) as u32);
         Group {

@@ -1,5 +1,5 @@
 //! The parts of a file's tree, T and L, and the groups of their levels.
-ghost use Rattle.std.specs.Prelude.{◌≡◌, ◌<◌, ◌≤◌, ◌+◌, ◌*◌, ◌∷◌, length, drop};
+ghost use Rattle.std.specs.Prelude.{◌≡◌, ◌<◌, ◌≤◌, ◌+◌, ◌*◌, ◌^◌, ◌∷◌, length, drop};
 ghost use Rattle.k2_file.specs.Depth.{level_in};
 
 use crate::bits::{Bits, Group};
@@ -15,8 +15,9 @@ impl Parts<'_> {
     /// The group of four with this number, of L or of T.
     pub(crate) fn group(&self, number: u64, is_last: bool) -> Group
         requires { 4 * number + 4 ≤ length (level_in is_last self.now) }
-        ensures { drop (4 * number) (level_in is_last self.now) ≡ result.nw ∷ result.ne ∷ result.sw ∷ result.se
+        ensures bits { drop (4 * number) (level_in is_last self.now) ≡ result.nw ∷ result.ne ∷ result.sw ∷ result.se
             ∷ drop (4 * (number + 1)) (level_in is_last self.now) }
+        ensures limit { 4 * number + 4 < 2 ^ 64 }
     {
         if is_last {
             self.cells.group(number)

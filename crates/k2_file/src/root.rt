@@ -12,6 +12,7 @@ ghost use Rattle.k2_file.specs.Form.{IsWhole, pairs_in};
 use crate::build::{built_leaf, built_part};
 use crate::header::Header;
 use crate::parts::Parts;
+use crate::sides::height_of_tree;
 use crate::starts::starts;
 use rel_model::engine_trait::Engine;
 use rel_model::{Lack, Quad, Rel, Shape};
@@ -46,7 +47,7 @@ fn built_root<E: Engine>(
     ensures cause { HasCause E.lean (E.worker engine.old) (E.worker engine.new) result }
 {
     let low = engine.bottom();
-    if low < height && (1 < shape.rows || 1 < shape.cols) {
+    if low < height_of_tree(low, shape.rows, shape.cols) {
         return built_part(engine, parts, places, is_set, height);
     }
     if !is_set {

@@ -14,7 +14,8 @@ pub(crate) fn starts(tree: &Bits<'_>, height: u8, groups: u64, cell_count: u64) 
     requires low { 1 ≤ height }
     requires high { height ≤ 24 }
     requires fit { levels_fit (height - 1) groups (bits_in tree.now) cell_count ≡ true }
-    ensures { take height result ≡ starts_of (height - 1) groups 0 (bits_in tree.now) }
+    ensures value { take height result ≡ starts_of (height - 1) groups 0 (bits_in tree.now) }
+    ensures many { length result ≡ 24 }
 {
     let mut places = [0; TOP];
     let mut groups = groups;

@@ -4,8 +4,8 @@ use Rattle.std.proofs.lemmas.Nat.Bits.{shr_and_one}
 use Rattle.k2_file.proofs.ReadGroups.{group-told}
 use Rattle.k2_file.proofs.bits.Bits.group.Goals as goal
 
-pub returns : goal.returns
-returns c =
+pub returns-clause-bits : goal.returns-clause-bits
+returns-clause-bits c =
     let bits = c.args.self.now in
     let byte = get_or bits.bytes.now (c.args.number / 2) 0 in
     let low = 4 * (1 - c.args.number % 2) in
