@@ -1,7 +1,7 @@
 -- Groups of four bits: the first without a set bit, group by group.
-use Rattle.std.proofs.Common.{◌≡◌, ◌==◌, ◌+◌, ◌-◌, ◌*◌, ◌/◌, ◌%◌, ◌<◌, ◌≤◌, ℕ, Bool, true, false, cond, List, [], ◌∷◌, length, drop, get_or, Some, None, refl, sym, ap, ◌∙◌, arith}
-use Rattle.std.proofs.lemmas.List.{drop_more, length-drop}
-use Rattle.run_model.specs.Files.{zero_group}
+use Rattle.std.proofs.Common.{◌≡◌, ◌==◌, ◌+◌, ◌-◌, ◌*◌, ◌/◌, ◌%◌, ◌<◌, ◌≤◌, ℕ, zero, suc, Bool, true, false, cond, List, [], ◌∷◌, length, take, drop, get_or, Some, None, refl, sym, ap, ◌∙◌, arith}
+use Rattle.std.proofs.lemmas.List.{drop_more, drop-drop, length-drop}
+use Rattle.run_model.specs.Files.{zero_group, ones, number_of_bit}
 use Rattle.std.specs.Int.{bit_at}
 use Rattle.k2_file.specs.Told.{bits_told, group_is_set}
 use Rattle.k2_file.proofs.ReadBits.{length-told, get-told}
@@ -75,3 +75,30 @@ group-told count bytes number low a b c d h l e p q r s =
     drop-four xs at (omega (arith, n, l))
     ∙ four-same (ap (λ (x : ℕ). get_or xs x false) z ∙ one 0 (omega arith) ∙ ap has z2 ∙ sym p) (one 1 (omega arith) ∙ ap has y2 ∙ sym q)
     (one 2 (omega arith) ∙ ap has x2 ∙ sym r) (one 3 (omega arith) ∙ ap has w2 ∙ sym s) (ap (λ (x : ℕ). drop x xs) next)
+
+-- ---- the set bits of groups
+ones-none : (k : ℕ) → ones (take k []) ≡ 0
+ones-none zero = refl
+ones-none (suc k) = refl
+
+ones-both : (n m : ℕ) (bits : List Bool) → ones (take (n + m) bits) ≡ ones (take n bits) + ones (take m (drop n bits))
+ones-both zero m bits = let e : 0 + m ≡ m = omega arith in ap (λ (k : ℕ). ones (take k bits)) e ∙ none-before (ones (take m bits))
+  where
+    none-before : (n : ℕ) → n ≡ 0 + n
+    none-before n = omega arith
+ones-both (suc n) m [] = let a = ones-none (suc n + m) in let b = ones-none m in omega (arith, a, b)
+ones-both (suc n) m (b ∷ bits) =
+    let h = ones-both n m bits in
+    let e : suc n + m ≡ suc (n + m) = omega arith in
+    ap (λ (k : ℕ). ones (take k (b ∷ bits))) e ∙ omega (arith, h)
+
+-- one group more
+pub group-ones : (xs : List Bool) (from i : ℕ) (a b c d : Bool) (ys : List Bool) → drop (4 * (from + i)) xs ≡ a ∷ b ∷ c ∷ d ∷ ys
+    → ones (take (4 * (i + 1)) (drop (4 * from) xs)) ≡ ones (take (4 * i) (drop (4 * from) xs)) + (number_of_bit a + (number_of_bit b + (number_of_bit c + number_of_bit d)))
+group-ones xs from i a b c d ys h =
+    let zs = drop (4 * from) xs in
+    let e : 4 * (i + 1) ≡ 4 * i + 4 = omega arith in
+    let f : 4 * from + 4 * i ≡ 4 * (from + i) = omega arith in
+    let here : drop (4 * i) zs ≡ a ∷ b ∷ c ∷ d ∷ ys = drop-drop (4 * i) (4 * from) xs ∙ ap (λ (k : ℕ). drop k xs) f ∙ h in
+    let four : ones (take 4 (drop (4 * i) zs)) ≡ number_of_bit a + (number_of_bit b + (number_of_bit c + (number_of_bit d + 0))) = ap (λ vs. ones (take 4 vs)) here in
+    ap (λ (k : ℕ). ones (take k zs)) e ∙ ones-both (4 * i) 4 zs ∙ omega (arith, four)

@@ -2,16 +2,16 @@
 -- 1. The group of a square tells which quarters are read; each is read from what the quarters before it left.
 -- 2. The pairs of a submatrix are those of the whole matrix, moved to it.
 -- 3. So the cells of a square are those of its quarters, each in its place.
-use Rattle.std.proofs.Common.{◌≡◌, ◌==◌, ◌&&◌, ◌||◌, ◌+◌, ◌-◌, ◌*◌, ◌^◌, ◌<◌, ◌≤◌, ltb, leb, ℕ, zero, suc, Bool, true, false, cond, List, [], ◌∷◌, ◌++◌, length, take, drop, map, refl, sym, ap, ◌∙◌, subst, inl, inr, arith}
-use Rattle.std.specs.List.{flat_map, list_any, AllByRecursion}
+use Rattle.std.proofs.Common.{◌≡◌, ◌==◌, ◌&&◌, ◌||◌, ◌+◌, ◌-◌, ◌^◌, ◌<◌, ◌≤◌, leb, ℕ, Bool, true, false, cond, List, [], ◌∷◌, ◌++◌, length, map, refl, sym, ap, ◌∙◌, subst, inl, inr, arith}
+use Rattle.std.specs.List.{flat_map}
 use Rattle.std.proofs.lemmas.List.Folds.{list_any-append}
 use Rattle.std.proofs.lemmas.Bool.{cases_lt, lt-ltb, le-ltb, le-leb, lt-leb}
 use Rattle.std.proofs.lemmas.Bool.Decides.{nat_tests}
 use Rattle.rel_model.specs.Cells.{Cells}
 use Rattle.rel_model.specs.Trees.{quartered}
-use Rattle.rel_model.specs.Listed.{is_among, AreWithin}
+use Rattle.rel_model.specs.Listed.{is_among}
 use Rattle.rel_model.proofs.TreeLaws.{same_cells}
-use Rattle.run_model.specs.Files.{Corner, whole, quarters, chosen, ones, number_of_bit}
+use Rattle.run_model.specs.Files.{Corner, whole, quarters, chosen, number_of_bit}
 use Rattle.k2_file.specs.Rests.{behind, pairs_below, count_below, AreThere, cells_of_part}
 use Rattle.k2_file.proofs.ReadRests.{pairs-append, behind-add, count-add, there-split}
 

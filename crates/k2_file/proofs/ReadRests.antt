@@ -2,11 +2,11 @@
 -- 1. To choose among submatrices one behind the other is to choose among the first, and among the others by the bits behind theirs.
 -- 2. So, level by level, the pairs below submatrices one behind the other are the pairs below the first, and those below the others by the rests behind theirs.
 -- 3. Places that move on by a group at each set bit therefore come, square by square, where each level's order has them.
-use Rattle.std.proofs.Common.{◌≡◌, ◌==◌, ◌&&◌, ◌||◌, ◌+◌, ◌-◌, ◌*◌, ◌^◌, ◌<◌, ◌≤◌, ℕ, zero, suc, Bool, true, false, cond, Some, None, List, [], ◌∷◌, ◌++◌, length, take, drop, refl, sym, ap, ◌∙◌, subst, arith, append_assoc}
+use Rattle.std.proofs.Common.{◌≡◌, ◌||◌, ◌+◌, ◌*◌, ◌^◌, ◌≤◌, ℕ, zero, suc, Bool, true, false, cond, Some, None, List, [], ◌∷◌, ◌++◌, length, take, drop, refl, sym, ap, ◌∙◌, subst, arith}
 use Rattle.std.specs.List.{flat_map}
-use Rattle.std.proofs.lemmas.List.{append-nil, length-drop, length-append, drop-drop}
+use Rattle.std.proofs.lemmas.List.{drop-drop}
 use Rattle.std.proofs.lemmas.List.Concat.{flat_map-append}
-use Rattle.run_model.specs.Files.{Corner, whole, quarters, chosen, ones, zero_group, number_of_bit}
+use Rattle.run_model.specs.Files.{Corner, quarters, chosen, ones, zero_group, number_of_bit}
 use Rattle.k2_file.specs.Rests.{behind, pairs_below, count_below, AreGroups, AreThere}
 use Rattle.k2_file.proofs.ReadWalk.{length-quarters, length-chosen}
 

@@ -1,5 +1,5 @@
 -- The root of a file: from where its levels begin, the pairs below are the file's.
-use Rattle.std.proofs.Common.{◌≡◌, ◌==◌, ◌&&◌, ◌-◌, ◌*◌, ◌^◌, ◌<◌, ◌≤◌, ltb, ℕ, zero, suc, Bool, true, false, cond, inl, inr, Some, List, [], ◌∷◌, length, take, drop, refl, sym, ap, ◌∙◌, subst, arith}
+use Rattle.std.proofs.Common.{◌≡◌, ◌==◌, ◌&&◌, ◌-◌, ◌^◌, ◌<◌, ◌≤◌, ltb, ℕ, zero, suc, Bool, true, false, cond, inl, inr, Some, List, [], ◌∷◌, length, take, refl, sym, ap, ◌∙◌, subst, arith}
 use Rattle.std.proofs.lemmas.Bool.{and_parts, lt-ltb, or_cases, eqb-true, false≢true}
 use Rattle.rel_model.specs.declared.Quad.{Quad}
 use Rattle.rel_model.specs.declared.Rel.{Rel}
@@ -20,7 +20,6 @@ use Rattle.k2_file.proofs.ReadBits.{length-told}
 use Rattle.k2_file.proofs.ReadWalk.{length-whole}
 use Rattle.k2_file.proofs.ReadRests.{length-pairs}
 use Rattle.k2_file.proofs.ReadStarts.{starts-pairs, starts-there}
-use Rattle.k2_file.proofs.ReadListed.{form-within}
 use Rattle.k2_file.proofs.ReadBuilding.{gives-set}
 
 one-or-none : (n : ℕ) → n ≤ 1 → number_of_bit (n == 1) ≡ n

@@ -1,14 +1,14 @@
 -- Where the levels of a tree begin: from there on each level has the groups that it owes, and the pairs below are those that the file tells.
 use Rattle.std.proofs.Common.{◌≡◌, ◌==◌, ◌&&◌, ◌+◌, ◌-◌, ◌*◌, ◌^◌, ◌<◌, ◌≤◌, leb, ltb, not, ℕ, zero, suc, Bool, true, false, cond, Some, None, List, [], ◌∷◌, ◌++◌, length, take, drop, set, replicate, append_assoc, refl, sym, ap, ◌∙◌, subst, arith}
 use Rattle.std.specs.List.{flat_map, AllByRecursion}
-use Rattle.std.proofs.lemmas.List.{length-append, length-drop, length-set, drop-drop, drop_all}
+use Rattle.std.proofs.lemmas.List.{length-append, length-drop, length-set, drop-drop}
 use Rattle.std.proofs.lemmas.Grind.{common_steps}
 use Rattle.std.proofs.lemmas.Bool.Decides.{nat_tests}
 use Rattle.std.proofs.lemmas.Bool.{and_parts, leb-true, lt-ltb, eqb-true, false≢true}
 use Rattle.rel_model.specs.Listed.{AreWithin}
 use Rattle.rel_model.proofs.Grid.{all-weaker}
 use Rattle.run_model.specs.Files.{Corner, whole, quarters, chosen, ones, no_bits, levels_fit, zero_group, cells_below, cell_outside}
-use Rattle.k2_file.specs.Rests.{pairs_below, count_below, AreGroups, AreThere, rests_at, starts_of}
+use Rattle.k2_file.specs.Rests.{pairs_below, AreGroups, AreThere, rests_at, starts_of}
 use Rattle.k2_file.proofs.ReadApart.{all-quarters, all-chosen, two-halves}
 use Rattle.k2_file.proofs.ReadRests.{groups-split, groups-none, groups-front}
 use Rattle.k2_file.proofs.ReadWalk.{length-quarters, length-chosen}

@@ -1,5 +1,5 @@
 -- The rests of a file's levels by places in its parts, and what is read from there.
-use Rattle.std.specs.Prelude.{◌≡◌, ◌==◌, cond, ℕ, Bool, List, length}
+use Rattle.std.specs.Prelude.{cond, ℕ, Bool, List}
 use Rattle.k2_file.specs.declared.parts.Parts.{Parts}
 use Rattle.k2_file.specs.Told.{bits_in}
 use Rattle.k2_file.specs.Rests.{rests_at, MovesOn}

@@ -1,11 +1,11 @@
 -- What the parts of a file tell: its bits as a list, its header, and the tests in the groups in which they are made.
-use Rattle.std.specs.Prelude.{◌≡◌, ◌==◌, ◌&&◌, ◌||◌, ◌+◌, ◌-◌, ◌^◌, ◌≤◌, ◌++◌, nat_le, cond, ℕ, Bool, false, List, [], ◌∷◌, length, take, drop, codes, Option, Some, None}
+use Rattle.std.specs.Prelude.{◌≡◌, ◌==◌, ◌&&◌, ◌||◌, ◌+◌, ◌-◌, ◌^◌, ◌≤◌, ◌++◌, nat_le, cond, ℕ, Bool, false, List, [], ◌∷◌, length, take, drop, codes, Option, Some}
 use Rattle.std.specs.List.{AllByRecursion, slice_index_or}
 use Rattle.run_model.specs.declared.outcome.BadFile.{BadFile}
 use Rattle.run_model.specs.declared.outcome.BadFile.TheVariants.{Short, Magic, Sizes, Height, Lengths, ZeroGroup, Outside, Padding, Rest, Full, NoMemory}
 use Rattle.lang_model.specs.Tokens.{same_text}
 use Rattle.rel_model.specs.Relation.{size_limit}
-use Rattle.run_model.specs.Files.{Corner, unpacked, bytes_for, header_length, fields, file_height, levels_fit, zero_group, whole, cells_below, cells_told, cell_outside, chosen, k2_fault, ones, unless, found_at, first_of_all}
+use Rattle.run_model.specs.Files.{Corner, unpacked, bytes_for, header_length, fields, file_height, levels_fit, zero_group, whole, cells_below, cells_told, cell_outside, chosen, ones, unless, found_at, first_of_all}
 use Rattle.k2_file.specs.declared.bits.Bits.{Bits}
 use Rattle.k2_file.specs.declared.header.Header.{Header}
 

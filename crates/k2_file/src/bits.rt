@@ -18,6 +18,20 @@ pub(crate) struct Group {
     pub(crate) se: bool,
 }
 
+impl Group {
+    ghost use Rattle.std.specs.Prelude.{◌≡◌, ◌+◌, ◌≤◌};
+    ghost use Rattle.run_model.specs.Files.{number_of_bit};
+
+    /// How many of the four bits are set.
+    fn ones(self) -> u64
+        ensures value { result ≡ number_of_bit self.nw + (number_of_bit self.ne + (number_of_bit self.sw
+            + number_of_bit self.se)) }
+        ensures limit { result ≤ 4 }
+    {
+        u64::from(self.nw) + (u64::from(self.ne) + (u64::from(self.sw) + u64::from(self.se)))
+    }
+}
+
 impl Bits<'_> {
     ghost use Rattle.std.specs.Prelude.{◌≡◌, ◌<◌, ◌+◌, ◌^◌, ◌∷◌, take, drop, false};
     ghost use Rattle.std.specs.List.{slice_index_or};
@@ -49,6 +63,19 @@ impl Bits<'_> {
             sw: (byte >> (low + 1)) & 1 == 1,
             se: (byte >> low) & 1 == 1,
         }
+    }
+
+    /// How many bits are set in so many groups from a number on.
+    pub(crate) fn ones_in_groups(&self, from: u64, groups: u64) -> u64
+        requires { 4 * from + 4 * groups ≤ self.now.count }
+        ensures value { result ≡ ones (take (4 * groups) (drop (4 * from) (bits_in self.now))) }
+        ensures limit { result ≤ 4 * groups }
+    {
+        let mut found = 0;
+        'groups: for i in 0..groups {
+            found += self.group(from + i).ones();
+        }
+        found
     }
 
     /// How many bits are set of so many from a place on.

@@ -85,7 +85,13 @@ fn look_outside(
         Ok(told) => told,
         Err(_) => return Err(BadFile::NoMemory),
     };
-    match first_outside(header.rows, header.cols, header.tree_count, told.as_slice(), cells) {
+    match first_outside(
+        header.rows,
+        header.cols,
+        header.tree_count,
+        told.as_slice(),
+        cells,
+    ) {
         Some(at) => Err(BadFile::Outside { at }),
         None => Ok(()),
     }

@@ -22,7 +22,7 @@ pub(crate) fn starts(tree: &Bits<'_>, height: u8, groups: u64, cell_count: u64) 
     let mut from = 0;
     'levels: for level in 1..height {
         places[level as usize - 1] = from;
-        let next = tree.ones(4 * from, 4 * groups);
+        let next = tree.ones_in_groups(from, groups);
         from += groups;
         groups = next;
     }

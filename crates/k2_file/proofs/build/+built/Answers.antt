@@ -1,13 +1,13 @@
 -- Each quarter is built from what the quarters before it left; their corner has the cells of the square.
-use Rattle.std.proofs.Common.{rules, ◌≡◌, ◌==◌, ◌<◌, ◌≤◌, ◌+◌, ◌-◌, ◌*◌, ◌^◌, ◌∙◌, ◌∷◌, [], ◌++◌, cond, length, drop, get_or, set, ℕ, Bool, true, false, List, refl, sym, ap, subst, arith}
+use Rattle.std.proofs.Common.{rules, ◌≡◌, ◌==◌, ◌+◌, ◌-◌, ◌*◌, ◌^◌, ◌∙◌, ◌∷◌, ◌++◌, length, drop, get_or, set, ℕ, Bool, true, List, refl, sym, ap, subst, arith}
 use Rattle.std.specs.Prelude.{IfOk}
 use Rattle.rel_model.specs.declared.Quad.{Quad}
 use Rattle.rel_model.specs.Cells.{Cells}
-use Rattle.rel_model.specs.Worker.{GivesQuad, Keeps, MakesAtMost, listed_room}
+use Rattle.rel_model.specs.Worker.{GivesQuad, listed_room}
 use Rattle.rel_model.proofs.Workers.{keeps_trans}
 use Rattle.run_model.specs.Files.{number_of_bit}
 use Rattle.k2_file.specs.Told.{bits_in}
-use Rattle.k2_file.specs.Rests.{behind, AreThere, count_below, cells_of_part, cells_inside, rests_at, MovesOn}
+use Rattle.k2_file.specs.Rests.{AreThere, count_below, cells_of_part, cells_inside, rests_at}
 use Rattle.k2_file.proofs.ReadStarts.{length-rests}
 use Rattle.k2_file.proofs.ReadRests.{count-some}
 use Rattle.k2_file.proofs.ReadBuilding.{none-built, part-inside, some-room, high-top, below-top, corner-built, room-built}

@@ -1,10 +1,10 @@
 -- The word of the leaf has the cells of the submatrix.
-use Rattle.std.proofs.Common.{◌≡◌, ◌≤◌, ◌+◌, ◌-◌, ◌^◌, ◌∙◌, true, sym, ap, subst, arith}
+use Rattle.std.proofs.Common.{◌≡◌, ◌^◌, ◌∙◌, true, ap, subst, arith}
 use Rattle.std.specs.Prelude.{IfOk}
-use Rattle.rel_model.specs.Cells.{Cells, bits_cells}
+use Rattle.rel_model.specs.Cells.{Cells}
 use Rattle.rel_model.specs.Worker.{GivesQuad}
 use Rattle.k2_file.specs.Told.{bits_in}
-use Rattle.k2_file.specs.Rests.{rests_at, cells_of_part, cells_inside}
+use Rattle.k2_file.specs.Rests.{rests_at, cells_of_part}
 use Rattle.k2_file.proofs.WriteHeights.{side-small}
 use Rattle.k2_file.proofs.ReadLeaves.{word-cells}
 use Rattle.k2_file.proofs.build.built_leaf.Goals as goal

@@ -1,5 +1,5 @@
 -- Each quarter adds its cells, where the places stand.
-use Rattle.std.proofs.Common.{rules, ◌≡◌, ◌<◌, ◌≤◌, ◌+◌, ◌-◌, ◌*◌, ◌^◌, ◌∙◌, ◌∷◌, [], ◌++◌, ◌==◌, cond, length, drop, get_or, set, ℕ, Bool, true, false, List, refl, sym, ap, subst, arith}
+use Rattle.std.proofs.Common.{rules, ◌≡◌, ◌<◌, ◌+◌, ◌-◌, ◌*◌, ◌^◌, ◌∙◌, ◌∷◌, [], ◌++◌, ◌==◌, cond, length, drop, get_or, set, ℕ, Bool, List, refl, sym, ap, subst, arith}
 use Rattle.rel_model.specs.Cells.{cells_union, bits_cells}
 use Rattle.rel_model.specs.Listed.{is_among}
 use Rattle.run_model.specs.Files.{Corner, number_of_bit}
@@ -53,9 +53,25 @@ with_part-first-requires t c =
     let there = subst (λ b. AreThere (number_of_bit b) (rests_at T L c.args.places.now)) c.if-not-is_set.false c.requires.there in
     let half = c.small_side-half.ensures in
     let two = halves h c.if-height-eq0.false in
-    let falls : h - 1 < t = search (rules, c.if-height-eq0.false) in
-    (falls, (omega (arith, at.many), (omega (arith, c.requires.low), (c.requires.side, (omega (arith, c.requires.row, two, half), (omega (arith, c.requires.col, two, half),
-    (nw-there T L c.args.places.now b0 h g.nw g.ne g.sw g.se _ at there, c.requires.none_past)))))))
+    let falls : h - 1 < t = search (rules, c.if-height-eq0.false) in (
+      falls,
+      (
+        omega (arith, at.many),
+        (
+          omega (arith, c.requires.low),
+          (
+            c.requires.side,
+            (
+              omega (arith, c.requires.row, two, half),
+              (
+                omega (arith, c.requires.col, two, half),
+                (nw-there T L c.args.places.now b0 h g.nw g.ne g.sw g.se _ at there, c.requires.none_past),
+              ),
+            ),
+          ),
+        ),
+      ),
+    )
 
 pub with_part-second-requires : goal.with_part-second-requires
 with_part-second-requires t c =
@@ -69,9 +85,25 @@ with_part-second-requires t c =
     let there = subst (λ b. AreThere (number_of_bit b) (rests_at T L c.args.places.now)) c.if-not-is_set.false c.requires.there in
     let half = c.small_side-half.ensures in
     let two = halves h c.if-height-eq0.false in
-    let falls : h - 1 < t = search (rules, c.if-height-eq0.false) in
-    (falls, (omega (arith, at.many, c.with_part-first.ensures.moves.many), (omega (arith, c.requires.low), (c.requires.side, (omega (arith, c.requires.row, two, half), (omega (arith, c.requires.col, two, half),
-    (ne-there T L c.args.places.now b0 h g.nw g.ne g.sw g.se _ at there c.with_part-first.new.places c.with_part-first.ensures.moves, c.with_part-first.ensures.none_past)))))))
+    let falls : h - 1 < t = search (rules, c.if-height-eq0.false) in (
+      falls,
+      (
+        omega (arith, at.many, c.with_part-first.ensures.moves.many),
+        (
+          omega (arith, c.requires.low),
+          (
+            c.requires.side,
+            (
+              omega (arith, c.requires.row, two, half),
+              (
+                omega (arith, c.requires.col, two, half),
+                (ne-there T L c.args.places.now b0 h g.nw g.ne g.sw g.se _ at there c.with_part-first.new.places c.with_part-first.ensures.moves, c.with_part-first.ensures.none_past),
+              ),
+            ),
+          ),
+        ),
+      ),
+    )
 
 pub with_part-third-requires : goal.with_part-third-requires
 with_part-third-requires t c =
@@ -85,9 +117,25 @@ with_part-third-requires t c =
     let there = subst (λ b. AreThere (number_of_bit b) (rests_at T L c.args.places.now)) c.if-not-is_set.false c.requires.there in
     let half = c.small_side-half.ensures in
     let two = halves h c.if-height-eq0.false in
-    let falls : h - 1 < t = search (rules, c.if-height-eq0.false) in
-    (falls, (omega (arith, at.many, c.with_part-first.ensures.moves.many, c.with_part-second.ensures.moves.many), (omega (arith, c.requires.low), (c.requires.side, (omega (arith, c.requires.row, two, half), (omega (arith, c.requires.col, two, half),
-    (sw-there T L c.args.places.now b0 h g.nw g.ne g.sw g.se _ at there c.with_part-first.new.places c.with_part-second.new.places c.with_part-first.ensures.moves c.with_part-second.ensures.moves, c.with_part-second.ensures.none_past)))))))
+    let falls : h - 1 < t = search (rules, c.if-height-eq0.false) in (
+      falls,
+      (
+        omega (arith, at.many, c.with_part-first.ensures.moves.many, c.with_part-second.ensures.moves.many),
+        (
+          omega (arith, c.requires.low),
+          (
+            c.requires.side,
+            (
+              omega (arith, c.requires.row, two, half),
+              (
+                omega (arith, c.requires.col, two, half),
+                (sw-there T L c.args.places.now b0 h g.nw g.ne g.sw g.se _ at there c.with_part-first.new.places c.with_part-second.new.places c.with_part-first.ensures.moves c.with_part-second.ensures.moves, c.with_part-second.ensures.none_past),
+              ),
+            ),
+          ),
+        ),
+      ),
+    )
 
 pub with_part-requires : goal.with_part-requires
 with_part-requires t c =
@@ -101,9 +149,25 @@ with_part-requires t c =
     let there = subst (λ b. AreThere (number_of_bit b) (rests_at T L c.args.places.now)) c.if-not-is_set.false c.requires.there in
     let half = c.small_side-half.ensures in
     let two = halves h c.if-height-eq0.false in
-    let falls : h - 1 < t = search (rules, c.if-height-eq0.false) in
-    (falls, (omega (arith, at.many, c.with_part-first.ensures.moves.many, c.with_part-second.ensures.moves.many, c.with_part-third.ensures.moves.many), (omega (arith, c.requires.low), (c.requires.side, (omega (arith, c.requires.row, two, half), (omega (arith, c.requires.col, two, half),
-    (se-there T L c.args.places.now b0 h g.nw g.ne g.sw g.se _ at there c.with_part-first.new.places c.with_part-second.new.places c.with_part-third.new.places c.with_part-first.ensures.moves c.with_part-second.ensures.moves c.with_part-third.ensures.moves, c.with_part-third.ensures.none_past)))))))
+    let falls : h - 1 < t = search (rules, c.if-height-eq0.false) in (
+      falls,
+      (
+        omega (arith, at.many, c.with_part-first.ensures.moves.many, c.with_part-second.ensures.moves.many, c.with_part-third.ensures.moves.many),
+        (
+          omega (arith, c.requires.low),
+          (
+            c.requires.side,
+            (
+              omega (arith, c.requires.row, two, half),
+              (
+                omega (arith, c.requires.col, two, half),
+                (se-there T L c.args.places.now b0 h g.nw g.ne g.sw g.se _ at there c.with_part-first.new.places c.with_part-second.new.places c.with_part-third.new.places c.with_part-first.ensures.moves c.with_part-second.ensures.moves c.with_part-third.ensures.moves, c.with_part-third.ensures.none_past),
+              ),
+            ),
+          ),
+        ),
+      ),
+    )
 
 pub returns-clause-cells : goal.returns-clause-cells
 returns-clause-cells t c =

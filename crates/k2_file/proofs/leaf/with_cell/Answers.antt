@@ -1,5 +1,5 @@
 -- The bit of the cell.
-use Rattle.std.proofs.Common.{◌≡◌, ◌≤◌, ◌<◌, ◌+◌, ◌*◌, ◌^◌, ◌∙◌, sym, ap, subst, arith, bit_or}
+use Rattle.std.proofs.Common.{◌<◌, ◌+◌, ◌*◌, ◌^◌, ◌∙◌, sym, ap, subst, bit_or}
 use Rattle.rel_model.specs.Cells.{bits_cells}
 use Rattle.k2_file.proofs.ReadLeaves.{cell-set, bit-shifted, bit-small, place-below, place-few}
 use Rattle.k2_file.proofs.leaf.with_cell.Goals as goal

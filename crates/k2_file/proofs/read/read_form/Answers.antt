@@ -1,5 +1,5 @@
 -- The groups of tests, one by one; where all pass, the pairs are the file's.
-use Rattle.std.proofs.Common.{◌≡◌, ◌+◌, ◌-◌, ◌<◌, ◌^◌, ◌∙◌, length, None, sym, ap, subst, arith}
+use Rattle.std.proofs.Common.{◌≡◌, ◌+◌, ◌-◌, ◌<◌, ◌^◌, ◌∙◌, length, None, sym, ap, arith}
 use Rattle.run_model.specs.declared.outcome.BadFile.TheVariants.{Outside}
 use Rattle.run_model.specs.Files.{found_at, cell_outside}
 use Rattle.k2_file.specs.Told.{bits_told, groups_of, told_by, outside_fault}

@@ -1,7 +1,7 @@
 -- From where the levels begin, the pairs below the root are the file's.
-use Rattle.std.proofs.Common.{◌≡◌, ◌==◌, ◌≤◌, ◌+◌, ◌-◌, ◌^◌, ◌∙◌, length, sym, ap, subst, arith}
+use Rattle.std.proofs.Common.{◌-◌, ◌^◌, ◌∙◌, ap, arith}
 use Rattle.rel_model.specs.Roots.{height_over}
-use Rattle.rel_model.specs.Worker.{MakesAtMost, listed_room}
+use Rattle.rel_model.specs.Worker.{listed_room}
 use Rattle.run_model.specs.Files.{levels_fit}
 use Rattle.k2_file.specs.Told.{bits_in}
 use Rattle.k2_file.specs.Form.{pairs_in}

@@ -1,10 +1,10 @@
 -- A tree over the leaves is as high as the file; and otherwise one leaf holds it.
-use Rattle.std.proofs.Common.{◌≡◌, ◌≤◌, ◌+◌, ◌-◌, ◌^◌, ◌∙◌, length, true, false, refl, sym, ap, subst, arith}
+use Rattle.std.proofs.Common.{◌≡◌, ◌≤◌, ◌-◌, ◌^◌, ◌∙◌, true, sym, ap, subst, arith}
 use Rattle.std.specs.Prelude.{IfOk}
 use Rattle.rel_model.specs.Cells.{Cells}
 use Rattle.rel_model.specs.Roots.{height_over}
 use Rattle.rel_model.specs.Worker.{GivesQuad, MakesAtMost, listed_room}
-use Rattle.rel_model.proofs.Heights.{height_over-low, height_over-high}
+use Rattle.rel_model.proofs.Heights.{height_over-low}
 use Rattle.run_model.specs.Files.{number_of_bit}
 use Rattle.k2_file.specs.Told.{bits_in}
 use Rattle.k2_file.specs.Rests.{AreThere, count_below, cells_of_part, cells_inside, rests_at}

@@ -1,4 +1,3 @@
-use Rattle.std.proofs.Common.{◌-◌}
 use Rattle.k2_file.specs.Told.{bits_told}
 use Rattle.k2_file.proofs.ReadStarts.{AreStarts}
 use Rattle.k2_file.proofs.starts.starts.Given as goal

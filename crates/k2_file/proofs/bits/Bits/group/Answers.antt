@@ -1,5 +1,5 @@
 -- The half of the byte has the four bits.
-use Rattle.std.proofs.Common.{◌≡◌, ◌==◌, ◌+◌, ◌-◌, ◌*◌, ◌/◌, ◌%◌, get_or, ap, refl, arith}
+use Rattle.std.proofs.Common.{◌==◌, ◌+◌, ◌-◌, ◌*◌, ◌/◌, ◌%◌, get_or, ap, refl}
 use Rattle.std.proofs.lemmas.Nat.Bits.{shr_and_one}
 use Rattle.k2_file.proofs.ReadGroups.{group-told}
 use Rattle.k2_file.proofs.bits.Bits.group.Goals as goal
