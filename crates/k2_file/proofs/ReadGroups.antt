@@ -81,7 +81,8 @@ ones-none : (k : ℕ) → ones (take k []) ≡ 0
 ones-none zero = refl
 ones-none (suc k) = refl
 
-ones-both : (n m : ℕ) (bits : List Bool) → ones (take (n + m) bits) ≡ ones (take n bits) + ones (take m (drop n bits))
+-- those of the front and of the rest
+pub ones-both : (n m : ℕ) (bits : List Bool) → ones (take (n + m) bits) ≡ ones (take n bits) + ones (take m (drop n bits))
 ones-both zero m bits = let e : 0 + m ≡ m = omega arith in ap (λ (k : ℕ). ones (take k bits)) e ∙ none-before (ones (take m bits))
   where
     none-before : (n : ℕ) → n ≡ 0 + n

@@ -8,6 +8,7 @@ use Rattle.std.proofs.lemmas.List.{drop-drop}
 use Rattle.std.proofs.lemmas.List.Concat.{flat_map-append}
 use Rattle.run_model.specs.Files.{Corner, quarters, chosen, ones, zero_group, number_of_bit}
 use Rattle.k2_file.specs.Rests.{behind, pairs_below, count_below, AreGroups, AreThere}
+use Rattle.k2_file.proofs.ReadGroups.{ones-both}
 use Rattle.k2_file.proofs.ReadWalk.{length-quarters, length-chosen}
 
 -- ---- parts one behind the other
@@ -45,23 +46,8 @@ length-pairs ps (bits ∷ rests) =
     ∙ ap (λ (n : ℕ). count_below n rests) (length-chosen qs bits ∙ ap (λ (n : ℕ). ones (take n bits)) (length-quarters (2 ^ length rests) ps))
 
 -- ---- numbers of groups
-ones-none : (k : ℕ) → ones (take k []) ≡ 0
-ones-none zero = refl
-ones-none (suc k) = refl
-
-pub ones-split : (n m : ℕ) (bits : List Bool) → ones (take (n + m) bits) ≡ ones (take n bits) + ones (take m (drop n bits))
-ones-split zero m bits = let e : 0 + m ≡ m = omega arith in ap (λ (k : ℕ). ones (take k bits)) e ∙ none-before (ones (take m bits))
-  where
-    none-before : (n : ℕ) → n ≡ 0 + n
-    none-before n = omega arith
-ones-split (suc n) m [] = let a = ones-none (suc n + m) in let b = ones-none m in omega (arith, a, b)
-ones-split (suc n) m (b ∷ bits) =
-    let h = ones-split n m bits in
-    let e : suc n + m ≡ suc (n + m) = omega arith in
-    ap (λ (k : ℕ). ones (take k (b ∷ bits))) e ∙ omega (arith, h)
-
 pub ones-four : (n m : ℕ) (bits : List Bool) → ones (take (4 * (n + m)) bits) ≡ ones (take (4 * n) bits) + ones (take (4 * m) (drop (4 * n) bits))
-ones-four n m bits = let e : 4 * (n + m) ≡ 4 * n + 4 * m = omega arith in ap (λ (k : ℕ). ones (take k bits)) e ∙ ones-split (4 * n) (4 * m) bits
+ones-four n m bits = let e : 4 * (n + m) ≡ 4 * n + 4 * m = omega arith in ap (λ (k : ℕ). ones (take k bits)) e ∙ ones-both (4 * n) (4 * m) bits
 
 pub behind-add : (n m : ℕ) (rests : List (List Bool)) → behind (n + m) rests ≡ behind m (behind n rests)
 behind-add n m [] = refl
