@@ -22,3 +22,10 @@ pub mod WriteSquares
 pub mod WriteCounts
 pub mod WriteWalk
 pub mod WriteBytes
+pub mod ReadRests
+pub mod ReadQuarters
+pub mod ReadBuilding
+pub mod ReadStarts
+pub mod ReadLeaves
+pub mod ReadPlaces
+pub mod ReadRoot

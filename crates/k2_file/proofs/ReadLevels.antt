@@ -2,7 +2,7 @@
 -- 1. So many levels are passed: those that are left fit exactly where all do. One level more is one step of the definition.
 -- 2. A group has four groups below at most, so bits that fit are at most a sum of powers of 4 for each group of the first level.
 -- 3. A file has at most 24 levels and one group at first, so it has fewer than 2 ^ 50 bits.
-use Rattle.std.proofs.Common.{◌≡◌, ◌==◌, ◌&&◌, ◌+◌, ◌-◌, ◌*◌, ◌/◌, ◌^◌, ◌<◌, ◌≤◌, ℕ, zero, suc, Bool, true, false, cond, leb, Option, None, List, [], ◌∷◌, ◌++◌, length, take, drop, refl, sym, ap, ◌∙◌, arith}
+use Rattle.std.proofs.Common.{◌≡◌, ◌==◌, ◌&&◌, ◌+◌, ◌-◌, ◌*◌, ◌/◌, ◌^◌, ◌<◌, ◌≤◌, ℕ, zero, suc, Bool, true, false, cond, leb, Option, None, Some, List, [], ◌∷◌, ◌++◌, length, take, drop, refl, sym, ap, ◌∙◌, arith}
 use Rattle.std.proofs.lemmas.List.{length-drop, length-take, drop-drop, drop_all, drop_more}
 use Rattle.std.proofs.lemmas.Bool.{and_parts, leb-true, le-leb, lt-leb, eqb-true, false≢true}
 use Rattle.std.proofs.Math.Nat.{mul-le-mul_right, pow-le-pow_right}
@@ -129,3 +129,14 @@ pub levels-good : (height groups : ℕ) (tree cells : List Bool) (cell_count : �
     → levels_fit (height - 1) groups tree cell_count ≡ true
 levels-good height groups tree cells cell_count h =
     levels-pass (levels_fit (height - 1) groups tree cell_count) (found_at ZeroGroup (zero_group 0 (tree ++ cells))) h
+
+levels-found : (b : Bool) (found : Option ℕ) → first_of_all (unless b Lengths ∷ found_at ZeroGroup found ∷ []) ≡ None → found ≡ None
+levels-found true None h = refl
+levels-found true (Some at) h = cc
+levels-found false found h = cc
+
+-- and no group is without a set bit
+pub levels-whole : (height groups : ℕ) (tree cells : List Bool) (cell_count : ℕ) → fault_of_levels height groups tree cells cell_count ≡ None
+    → zero_group 0 (tree ++ cells) ≡ None
+levels-whole height groups tree cells cell_count h =
+    levels-found (levels_fit (height - 1) groups tree cell_count) (zero_group 0 (tree ++ cells)) h

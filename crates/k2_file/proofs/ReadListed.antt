@@ -7,7 +7,7 @@ use Rattle.std.proofs.lemmas.Bool.{eq-eqb, ne_eqb}
 use Rattle.std.proofs.Math.Nat.{mul-le-mul_right}
 use Rattle.rel_model.specs.declared.Rel.{Rel}
 use Rattle.rel_model.specs.Relation.{Relation, relation_of}
-use Rattle.rel_model.specs.Listed.{is_among}
+use Rattle.rel_model.specs.Listed.{is_among, AreWithin}
 use Rattle.rel_model.specs.Roots.{height_over}
 use Rattle.rel_model.specs.Worker.{Worker, Gives, listed_room}
 use Rattle.run_model.specs.declared.outcome.BadFile.{BadFile}
@@ -15,12 +15,14 @@ use Rattle.run_model.specs.declared.outcome.BadFile.TheVariants.{Short, Magic, S
 use Rattle.run_model.specs.Cost.{listed_cost}
 use Rattle.run_model.specs.Files.{whole, header_length, bytes_for, part, unpacked, fields, ones, cells_below, cells_told, cell_outside, chosen, unless, found_at, first_of_all, k2_fault, k2_relation}
 use Rattle.k2_file.specs.declared.header.Header.{Header}
-use Rattle.k2_file.specs.declared.read.Listed.{Listed}
-use Rattle.k2_file.specs.Told.{bits_told, groups_of, fault_of_levels, told_by, end_of, end_fault, outside_fault, pairs_told, AreFields, IsFaultOf, IsListed}
+use Rattle.k2_file.specs.declared.root.Form.{Form}
+use Rattle.k2_file.specs.Form.{pairs_in, IsWhole, IsFormOf}
+use Rattle.k2_file.specs.Told.{bits_told, groups_of, fault_of_levels, told_by, end_of, end_fault, outside_fault, pairs_told, AreFields, IsFaultOf}
 use Rattle.k2_file.specs.Reading.{IsRead, cost_unless, cost_of_file}
 use Rattle.k2_file.proofs.ReadFaults.{level_fault}
 use Rattle.k2_file.proofs.ReadCounting.{AreDistinct, length-relation_of}
 use Rattle.k2_file.proofs.ReadApart.{distinct-cells}
+use Rattle.k2_file.proofs.ReadWalk.{within-chosen}
 
 -- a function of five
 pub same-five : {A : Type 0} (F : ℕ → ℕ → ℕ → List Bool → List Bool → A) {a a' b b' c c' : ℕ} {xs xs' ys ys' : List Bool} → a ≡ a' → b ≡ b' → c ≡ c' → xs ≡ xs' → ys ≡ ys'
@@ -138,14 +140,14 @@ module _ (bytes : List ℕ) (h : Header) (tree_count : ℕ) (tree : List ℕ) (c
       two-end bytes ∙ two-none _ _ _ (eq-eqb _ 0 (sym tree-behind ∙ t)) (eq-eqb _ 0 (sym cells-behind ∙ l)) (eq-eqb _ (end_of bytes) (e ∙ end-same))
 
 -- ---- the relation
-pub relation-listed : (bytes : List ℕ) (listed : Listed) → IsListed bytes listed
-    → relation_of listed.shape.rows listed.shape.cols (is_among listed.pairs.items) ≡ k2_relation bytes
+pub relation-formed : (bytes : List ℕ) (form : Form) → IsFormOf bytes form
+    → relation_of form.header.rows form.header.cols (is_among (pairs_in form)) ≡ k2_relation bytes
 unfolding k2_relation pairs_told
-relation-listed bytes listed w =
+relation-formed bytes form w =
     let f = fields bytes in
-    ap (λ ps. relation_of listed.shape.rows listed.shape.cols (is_among ps)) w.pairs_are
-    ∙ ap (λ (n : ℕ). relation_of n listed.shape.cols (is_among (pairs_told bytes))) w.rows_are
-    ∙ ap (λ (n : ℕ). relation_of f.rows n (is_among (pairs_told bytes))) w.cols_are
+    ap (λ ps. relation_of form.header.rows form.header.cols (is_among ps)) w.pairs
+    ∙ ap (λ (n : ℕ). relation_of n form.header.cols (is_among (pairs_told bytes))) w.numbers.rows_are
+    ∙ ap (λ (n : ℕ). relation_of f.rows n (is_among (pairs_told bytes))) w.numbers.cols_are
 
 pub rows-of : (bytes : List ℕ) → (k2_relation bytes).rows ≡ (fields bytes).rows
 unfolding k2_relation relation_of
@@ -155,37 +157,44 @@ pub cols-of : (bytes : List ℕ) → (k2_relation bytes).cols ≡ (fields bytes)
 unfolding k2_relation relation_of
 cols-of bytes = refl
 
--- a worker that gives the relation of the list gives the file's
-pub gives-listed : (new : Worker) (bytes : List ℕ) (listed : Listed) (rel : Rel) → IsListed bytes listed
-    → Gives new listed.shape.rows listed.shape.cols (relation_of listed.shape.rows listed.shape.cols (is_among listed.pairs.items)) rel
+-- a worker that gives the relation of the form gives the file's
+pub gives-formed : (new : Worker) (bytes : List ℕ) (form : Form) (rel : Rel) → IsFormOf bytes form
+    → Gives new form.header.rows form.header.cols (relation_of form.header.rows form.header.cols (is_among (pairs_in form))) rel
     → Gives new (k2_relation bytes).rows (k2_relation bytes).cols (k2_relation bytes) rel
-gives-listed new bytes listed rel w g = record {
-  means = g.means ∙ ap (λ r. Some r) (relation-listed bytes listed w);
-  row_size = g.row_size ∙ w.rows_are ∙ sym (rows-of bytes);
-  col_size = g.col_size ∙ w.cols_are ∙ sym (cols-of bytes);
+gives-formed new bytes form rel w g = record {
+  means = g.means ∙ ap (λ r. Some r) (relation-formed bytes form w);
+  row_size = g.row_size ∙ w.numbers.rows_are ∙ sym (rows-of bytes);
+  col_size = g.col_size ∙ w.numbers.cols_are ∙ sym (cols-of bytes);
 }
 
 distinct-told : (bytes : List ℕ) → AreDistinct (pairs_told bytes)
 unfolding pairs_told cells_told
 distinct-told bytes = let f = fields bytes in distinct-cells (f.height - 1) _ (take f.tree_count f.tree) (take f.cell_count f.cells)
 
--- the list has no more pairs than the relation
-listed-few : (bytes : List ℕ) (listed : Listed) → IsListed bytes listed → length listed.pairs.items ≤ length (k2_relation bytes).pairs
-listed-few bytes listed w =
-    subst (λ (r : Relation). length listed.pairs.items ≤ length r.pairs) (relation-listed bytes listed w)
-    (length-relation_of listed.shape.rows listed.shape.cols listed.pairs.items w.inside (subst (λ ps. AreDistinct ps) (sym w.pairs_are) (distinct-told bytes)))
+-- the pairs lie within the sizes
+pub form-within : (form : Form) → IsWhole form → AreWithin form.header.rows form.header.cols (pairs_in form)
+form-within form w =
+    within-chosen form.header.rows form.header.cols form.header.tree_count (told_by form.header (bits_told form.parts.tree.count form.parts.tree.bytes.now))
+    (bits_told form.parts.cells.count form.parts.cells.bytes.now) w.inside
+
+-- the form has no more pairs than the relation
+form-few : (bytes : List ℕ) (form : Form) → IsFormOf bytes form → length (pairs_in form) ≤ length (k2_relation bytes).pairs
+form-few bytes form w =
+    subst (λ (r : Relation). length (pairs_in form) ≤ length r.pairs) (relation-formed bytes form w)
+    (length-relation_of form.header.rows form.header.cols (pairs_in form) (form-within form w.is_whole) (subst (λ ps. AreDistinct ps) (sym w.pairs) (distinct-told bytes)))
 
 -- so its room is within the file's cost
-pub room-listed : (leaf : ℕ) (bytes : List ℕ) (listed : Listed) → IsListed bytes listed
-    → listed_room (length listed.pairs.items) (height_over leaf listed.shape.rows listed.shape.cols - leaf) ≤ cost_of_file leaf bytes
+pub room-formed : (leaf : ℕ) (bytes : List ℕ) (form : Form) → IsFormOf bytes form
+    → listed_room (length (pairs_in form)) (height_over leaf form.header.rows form.header.cols - leaf) ≤ cost_of_file leaf bytes
 unfolding cost_of_file listed_cost
-room-listed leaf bytes listed w =
+room-formed leaf bytes form w =
     let r = k2_relation bytes in
-    let depth = height_over leaf listed.shape.rows listed.shape.cols - leaf in
-    let more : listed_room (length listed.pairs.items) depth ≤ listed_room (length r.pairs) depth = mul-le-mul_right (3 * depth + 1) (listed-few bytes listed w) in
+    let n = length (pairs_in form) in
+    let depth = height_over leaf form.header.rows form.header.cols - leaf in
+    let more : listed_room n depth ≤ listed_room (length r.pairs) depth = mul-le-mul_right (3 * depth + 1) (form-few bytes form w) in
     let same : listed_room (length r.pairs) depth ≡ listed_cost leaf (length r.pairs) r.rows r.cols =
-    ap (λ (n : ℕ). listed_room (length r.pairs) (height_over leaf n listed.shape.cols - leaf)) (w.rows_are ∙ sym (rows-of bytes))
-    ∙ ap (λ (n : ℕ). listed_room (length r.pairs) (height_over leaf r.rows n - leaf)) (w.cols_are ∙ sym (cols-of bytes)) in
+    ap (λ (m : ℕ). listed_room (length r.pairs) (height_over leaf m form.header.cols - leaf)) (w.numbers.rows_are ∙ sym (rows-of bytes))
+    ∙ ap (λ (m : ℕ). listed_room (length r.pairs) (height_over leaf r.rows m - leaf)) (w.numbers.cols_are ∙ sym (cols-of bytes)) in
     let whole_cost : cost_of_file leaf bytes ≡ listed_cost leaf (length r.pairs) r.rows r.cols = ap (λ o. cost_unless o (listed_cost leaf (length r.pairs) r.rows r.cols)) w.good in
     omega (arith, more, same, whole_cost)
 

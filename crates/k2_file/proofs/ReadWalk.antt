@@ -46,7 +46,7 @@ inside-whole k zero l = tt
 inside-whole k (suc zero) l = let h : 2 ^ suc k ≤ 2 ^ 24 = pow-le-pow_right {n = 2} (omega arith) {i = suc k} {j = 24} (omega arith) in ((omega arith, omega arith), tt)
 inside-whole k (suc (suc n)) l = let h : 2 ^ suc k ≤ 2 ^ 24 = pow-le-pow_right {n = 2} (omega arith) {i = suc k} {j = 24} (omega arith) in ((omega arith, omega arith), tt)
 
-length-whole : (groups : ℕ) → groups ≤ 1 → length (take groups whole) ≡ groups
+pub length-whole : (groups : ℕ) → groups ≤ 1 → length (take groups whole) ≡ groups
 length-whole zero l = refl
 length-whole (suc zero) l = refl
 length-whole (suc (suc n)) l = absurd (omega arith)

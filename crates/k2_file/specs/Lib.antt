@@ -1,5 +1,8 @@
 pub mod Reading
 pub mod Told
+pub mod Rests
+pub mod Depth
+pub mod Form
 pub mod Squares
 pub mod Levels
 pub mod Counts

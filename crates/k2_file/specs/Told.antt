@@ -1,15 +1,13 @@
 -- What the parts of a file tell: its bits as a list, its header, and the tests in the groups in which they are made.
-use Rattle.std.specs.Prelude.{◌≡◌, ◌==◌, ◌&&◌, ◌||◌, ◌+◌, ◌-◌, ◌^◌, ◌≤◌, ◌++◌, nat_le, cond, ℕ, Bool, false, List, [], ◌∷◌, length, take, drop, codes, Option, Some, None}
+use Rattle.std.specs.Prelude.{◌≡◌, ◌==◌, ◌&&◌, ◌||◌, ◌+◌, ◌-◌, ◌^◌, ◌≤◌, ◌++◌, nat_le, cond, ℕ, Bool, false, List, [], ◌∷◌, length, take, drop, codes, Option, Some}
 use Rattle.std.specs.List.{AllByRecursion, slice_index_or}
 use Rattle.run_model.specs.declared.outcome.BadFile.{BadFile}
 use Rattle.run_model.specs.declared.outcome.BadFile.TheVariants.{Short, Magic, Sizes, Height, Lengths, ZeroGroup, Outside, Padding, Rest, Full, NoMemory}
 use Rattle.lang_model.specs.Tokens.{same_text}
 use Rattle.rel_model.specs.Relation.{size_limit}
-use Rattle.rel_model.specs.Listed.{AreWithin}
-use Rattle.run_model.specs.Files.{Corner, unpacked, bytes_for, header_length, fields, file_height, levels_fit, zero_group, whole, cells_below, cells_told, cell_outside, chosen, k2_fault, ones, unless, found_at, first_of_all}
+use Rattle.run_model.specs.Files.{Corner, unpacked, bytes_for, header_length, fields, file_height, levels_fit, zero_group, whole, cells_below, cells_told, cell_outside, chosen, ones, unless, found_at, first_of_all}
 use Rattle.k2_file.specs.declared.bits.Bits.{Bits}
 use Rattle.k2_file.specs.declared.header.Header.{Header}
-use Rattle.k2_file.specs.declared.read.Listed.{Listed}
 
 -- so many bits of bytes
 unfoldable pub bits_told : ℕ → List ℕ → List Bool
@@ -53,6 +51,7 @@ pub record IsHeader (bytes : List ℕ) (h : Header) : Type 0 where
   pub col_limit : h.cols ≤ size_limit
   pub least : 1 ≤ h.height
   pub top : h.height ≤ 24
+  pub is_height : h.height ≡ file_height h.rows h.cols
   pub long : header_length + bytes_for h.tree_count + bytes_for h.cell_count ≤ length bytes
 
 -- where the parts end
@@ -135,13 +134,3 @@ IsFaultOf found (ZeroGroup at) = found ≡ Some (ZeroGroup at)
 IsFaultOf found (Outside at) = found ≡ Some (Outside at)
 IsFaultOf found Padding = found ≡ Some Padding
 IsFaultOf found Rest = found ≡ Some Rest
-
--- the list of a file's pairs, with its sizes, where the bytes pass all tests
-pub record IsListed (bytes : List ℕ) (listed : Listed) : Type 0 where
-  pub good : k2_fault bytes ≡ None
-  pub rows_are : listed.shape.rows ≡ (fields bytes).rows
-  pub cols_are : listed.shape.cols ≡ (fields bytes).cols
-  pub row_limit : listed.shape.rows ≤ size_limit
-  pub col_limit : listed.shape.cols ≤ size_limit
-  pub pairs_are : listed.pairs.items ≡ pairs_told bytes
-  pub inside : AreWithin listed.shape.rows listed.shape.cols listed.pairs.items

@@ -15,17 +15,18 @@ use std::alloc::{AllocError, Global};
 fn do_levels_fit(tree: &Bits<'_>, levels: u8, first: u64, cell_count: u64) -> bool
     ensures { result ≡ levels_fit levels first (bits_in tree.now) cell_count }
 {
+    let _count = tree.count;
     let mut groups = first;
     let mut from = 0;
     'levels: for _ in 0..levels {
-        if (tree.count - from) / 4 < groups {
+        if tree.count / 4 - from < groups {
             return false;
         }
-        let width = 4 * groups;
-        groups = tree.ones(from, width);
-        from += width;
+        let next = tree.ones_in_groups(from, groups);
+        from += groups;
+        groups = next;
     }
-    if from != tree.count {
+    if 4 * from != tree.count {
         return false;
     }
     are_of_groups(cell_count, groups)

@@ -3,17 +3,22 @@
 #![tactic(auto)]
 
 mod bits;
+mod build;
 mod corners;
 mod counting;
 mod header;
 mod laws;
+mod leaf;
 mod levels;
 mod limits;
 mod packing;
+mod parts;
 mod read;
 mod refused;
+mod root;
 mod sides;
 mod squares;
+mod starts;
 mod walk;
 mod windows;
 mod write;

@@ -1,29 +1,25 @@
-//! Relation files that are read: the tests in their order, the list of pairs, and one relation of it.
-ghost use Rattle.std.specs.Prelude.{◌≡◌, ◌≤◌, ◌+◌, ◌<◌, ◌^◌, None, true, IfOk, IfErr};
+//! Relation files that are read: the tests in their order, and then the relation from its leaves upwards.
+ghost use Rattle.std.specs.Prelude.{◌≡◌, ◌≤◌, ◌+◌, ◌<◌, ◌^◌, None, true, IfErr, OnOk, IfOk};
 ghost use Rattle.rel_model.specs.Worker.{Keeps, MakesAtMost};
-ghost use Rattle.run_model.specs.Files.{bytes_for, part, found_at, chosen, k2_fault};
+ghost use Rattle.run_model.specs.Files.{bytes_for, part, found_at, k2_fault};
 ghost use Rattle.run_model.specs.declared.outcome.BadFile.TheVariants.{Outside as OUTSIDE};
 ghost use Rattle.k2_file.specs.Reading.{IsRead, cost_of_file};
-ghost use Rattle.k2_file.specs.Told.{AreFields, IsFaultOf, IsListed, bits_in, cells_by, end_fault, fit_by, outside_by};
+ghost use Rattle.k2_file.specs.Told.{AreFields, IsFaultOf, end_fault, fit_by, outside_by};
+ghost use Rattle.k2_file.specs.Form.{IsFormOf};
 
 use crate::bits::Bits;
-use crate::corners::{chosen_of, first_outside};
+use crate::corners::first_outside;
 use crate::header::{Header, read_header};
 use crate::levels::{cells_of, fault_in_levels};
+use crate::parts::Parts;
+use crate::root::{Form, built_relation};
+use crate::sides::side_of;
 use rel_model::engine_trait::Engine;
-use rel_model::{Lack, Rel, Shape};
+use rel_model::{Lack, Rel};
 use run_model::outcome::BadFile;
 use std::alloc::Global;
 
-/// The type of a relation and a list of its pairs. 40 bytes.
-#[derive(Drop)]
-pub(crate) struct Listed {
-    pub(crate) shape: Shape,
-    pub(crate) pairs: Vec<(u32, u32)>,
-}
-
-/// The relation of a file's bytes, in time linear in its bits but for a sort of its pairs, or the first of the tests
-/// that they fail.
+/// The relation of a file's bytes, in time linear in its bits, or the first of the tests that they fail.
 ///
 /// A file that fails a test asks no node of the engine.
 pub fn read_k2<E: Engine>(alloc: Global, engine: &mut E, bytes: &[u8]) -> Result<Rel, BadFile>
@@ -31,20 +27,20 @@ pub fn read_k2<E: Engine>(alloc: Global, engine: &mut E, bytes: &[u8]) -> Result
     ensures keeps { Keeps (E.worker engine.old) (E.worker engine.new) }
     ensures room { MakesAtMost (cost_of_file E.least bytes.now) (E.worker engine.old) (E.worker engine.new) }
 {
-    let listed = match read_listed(alloc, bytes) {
-        Ok(listed) => listed,
+    let form = match read_form(alloc, bytes) {
+        Ok(form) => form,
         Err(fault) => return Err(fault),
     };
-    match engine.from_pairs(alloc, listed.shape, listed.pairs.as_slice()) {
+    match built_relation(engine, &form) {
         Ok(rel) => Ok(rel),
         Err(Lack::Full) => Err(BadFile::Full),
         Err(Lack::NoMemory) => Err(BadFile::NoMemory),
     }
 }
 
-/// The pairs of a file, or the first of the tests that its bytes fail.
-fn read_listed(alloc: Global, bytes: &[u8]) -> Result<Listed, BadFile>
-    ensures listed { IfOk result (IsListed bytes.now) }
+/// The form of a file, or the first of the tests that its bytes fail.
+fn read_form(alloc: Global, bytes: &[u8]) -> Result<Form<'_>, BadFile>
+    ensures form { IfOk result (IsFormOf bytes.now) }
     ensures fault { IfErr result (IsFaultOf (k2_fault bytes.now)) }
 {
     let header = match read_header(bytes) {
@@ -56,52 +52,48 @@ fn read_listed(alloc: Global, bytes: &[u8]) -> Result<Listed, BadFile>
     if let Some(fault) = fault_in_levels(&header, &tree, &cells) {
         return Err(fault);
     }
-    let pairs = match pairs_of(alloc, &header, &tree, &cells) {
-        Ok(pairs) => pairs,
-        Err(fault) => return Err(fault),
-    };
+    if let Err(fault) = look_outside(alloc, &header, &tree, &cells) {
+        return Err(fault);
+    }
     if let Some(fault) = fault_in_end(bytes, &header, &tree, &cells) {
         return Err(fault);
     }
-    let shape = Shape {
-        rows: header.rows,
-        cols: header.cols,
-    };
-    Ok(Listed { shape, pairs })
+    let parts = Parts { tree, cells };
+    Ok(Form { header, parts })
 }
 
-/// The cells whose bits are set, or the first of them outside the sizes.
-fn pairs_of(
+/// Whether no cell whose bit is set is outside the sizes, or the first that is.
+fn look_outside(
     alloc: Global,
     header: &Header,
     tree: &Bits<'_>,
     cells: &Bits<'_>,
-) -> Result<Vec<(u32, u32)>, BadFile>
+) -> Result<(), BadFile>
     requires least { 1 ≤ header.now.height }
     requires top { header.now.height ≤ 24 }
     requires tree { tree.now.count ≡ header.now.tree_count }
     requires cells { cells.now.count ≡ header.now.cell_count }
     requires fit { fit_by header.now tree.now ≡ true }
-    ensures inside { IfOk result (λ v. outside_by header.now tree.now cells.now ≡ None) }
-    ensures pairs { IfOk result (λ v. v.items ≡ chosen (cells_by header.now tree.now) (bits_in cells.now)) }
+    ensures inside { OnOk result (outside_by header.now tree.now cells.now ≡ None) }
     ensures fault { IfErr result (IsFaultOf (found_at OUTSIDE (outside_by header.now tree.now cells.now))) }
 {
+    let side = side_of(header.height);
+    if side <= header.rows && side <= header.cols {
+        return Ok(());
+    }
     let told = match cells_of(alloc, header, tree) {
         Ok(told) => told,
         Err(_) => return Err(BadFile::NoMemory),
     };
-    if let Some(at) = first_outside(
+    match first_outside(
         header.rows,
         header.cols,
         header.tree_count,
         told.as_slice(),
         cells,
     ) {
-        return Err(BadFile::Outside { at });
-    }
-    match chosen_of(alloc, told.as_slice(), cells, 0) {
-        Ok(pairs) => Ok(pairs),
-        Err(_) => Err(BadFile::NoMemory),
+        Some(at) => Err(BadFile::Outside { at }),
+        None => Ok(()),
     }
 }
 

@@ -1,6 +1,7 @@
 //! Heights of squares, and their sides.
 ghost use Rattle.std.specs.Prelude.{◌≡◌, ◌≤◌, ◌^◌};
 ghost use Rattle.rel_model.specs.Worker.{height_of};
+ghost use Rattle.rel_model.specs.Roots.{height_over};
 ghost use Rattle.run_model.specs.Files.{file_height};
 
 /// The greatest height of a square.
@@ -34,6 +35,14 @@ fn height_of_size(size: u32) -> u8
         }
     }
     height
+}
+
+/// The height of the tree of a relation of these sizes over leaves of a height.
+#[tactic(auto, unfolding(rel_model::specs::Roots::height_over))]
+pub(crate) fn height_of_tree(least: u8, rows: u32, cols: u32) -> u8
+    ensures { result ≡ height_over least rows cols }
+{
+    least.max(height_of_size(rows).max(height_of_size(cols)))
 }
 
 /// The least height from 1 on whose square holds both sizes.

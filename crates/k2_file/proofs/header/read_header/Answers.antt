@@ -51,6 +51,7 @@ returns-clause-header c =
       col_limit = c.if-header-gt-SIZE_LIMIT-2.false;
       least = omega (arith, c.if-header-height_of_file.false, c.height_of_file.ensures.value, height-least h.rows h.cols);
       top = omega (arith, c.if-header-height_of_file.false, c.height_of_file.ensures.limit);
+      is_height = c.if-header-height_of_file.false ∙ c.height_of_file.ensures.value;
       long = omega (arith, c.end.ensures, c.if-bytes-end.false);
     }
 
