@@ -4,7 +4,7 @@ use Rattle.std.specs.List.{AllByRecursion, slice_index_or}
 use Rattle.run_model.specs.declared.outcome.BadFile.{BadFile}
 use Rattle.run_model.specs.declared.outcome.BadFile.TheVariants.{Short, Magic, Sizes, Height, Lengths, ZeroGroup, Outside, Padding, Rest, Full, NoMemory}
 use Rattle.lang_model.specs.Tokens.{same_text}
-use Rattle.rel_model.specs.Relation.{size_limit}
+use Rattle.rel_model.specs.Relation.{size_limit, size_height}
 use Rattle.run_model.specs.Files.{Corner, unpacked, bytes_for, header_length, fields, file_height, levels_fit, zero_group, whole, cells_below, cells_told, cell_outside, chosen, ones, unless, found_at, first_of_all}
 use Rattle.k2_file.specs.declared.bits.Bits.{Bits}
 use Rattle.k2_file.specs.declared.header.Header.{Header}
@@ -23,7 +23,7 @@ both_in tree cells = bits_in tree ++ bits_in cells
 
 -- submatrices of this side lie in the greatest square
 abbrev pub AreInside : ℕ → List Corner → Type 0
-AreInside side = AllByRecursion (λ p. (p.0 + side ≤ 2 ^ 24) × (p.1 + side ≤ 2 ^ 24))
+AreInside side = AllByRecursion (λ p. (p.0 + side ≤ size_limit) × (p.1 + side ≤ size_limit))
 
 -- how many groups the first level has, by the counts of the bits: none of the empty relation, and else one
 abbrev pub groups_of : ℕ → ℕ → ℕ
@@ -50,7 +50,7 @@ pub record IsHeader (bytes : List ℕ) (h : Header) : Type 0 where
   pub row_limit : h.rows ≤ size_limit
   pub col_limit : h.cols ≤ size_limit
   pub least : 1 ≤ h.height
-  pub top : h.height ≤ 24
+  pub top : h.height ≤ size_height
   pub is_height : h.height ≡ file_height h.rows h.cols
   pub long : header_length + bytes_for h.tree_count + bytes_for h.cell_count ≤ length bytes
 

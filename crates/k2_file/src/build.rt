@@ -1,5 +1,6 @@
 //! Quads of a file's bits, from the leaves upwards, each node asked for once.
 ghost use Rattle.std.specs.Prelude.{◌≡◌, ◌<◌, ◌≤◌, ◌+◌, ◌-◌, ◌^◌, length, true, IfOk, OnOk};
+ghost use Rattle.rel_model.specs.Relation.{size_height};
 ghost use Rattle.rel_model.specs.Worker.{GivesQuad, Keeps, MakesAtMost, HasCause, listed_room};
 ghost use Rattle.run_model.specs.Files.{number_of_bit};
 ghost use Rattle.k2_file.specs.Rests.{AreThere, count_below, cells_of_part, cells_inside};
@@ -44,7 +45,7 @@ pub(crate) fn built_part<E: Engine>(
 ) -> Result<Quad, Lack>
     requires places { length places.old ≡ height }
     requires low { E.least ≤ height }
-    requires high { height ≤ 24 }
+    requires high { height ≤ size_height }
     requires there { AreThere (number_of_bit is_set) (rests_in parts.now places.old) }
     ensures value { IfOk result (GivesQuad (E.worker engine.new) height (cells_of_part is_set
         (rests_in parts.now places.old))) }
@@ -73,7 +74,7 @@ fn built_square<E: Engine>(
 ) -> Result<Quad, Lack>
     requires places { length places.old ≡ height }
     requires low { E.least < height }
-    requires high { height ≤ 24 }
+    requires high { height ≤ size_height }
     requires there { AreThere 1 (rests_in parts.now places.old) }
     ensures value { IfOk result (GivesQuad (E.worker engine.new) height (cells_of_part true
         (rests_in parts.now places.old))) }

@@ -1,6 +1,7 @@
 //! Submatrices, each by its first row and its first column.
 ghost use Rattle.std.specs.Prelude.{◌≡◌, ◌<◌, ◌≤◌, ◌+◌, ◌*◌, ◌^◌, ◌++◌, ◌&&◌, ◌∷◌, [], not, nat_lt, cond, OnOk, IfOk, length, drop};
 ghost use Rattle.std.specs.List.{flat_map};
+ghost use Rattle.rel_model.specs.Relation.{size_limit};
 ghost use Rattle.run_model.specs.Files.{quarters, chosen, cell_outside};
 ghost use Rattle.k2_file.specs.Told.{AreInside, bits_in};
 
@@ -9,8 +10,8 @@ use std::alloc::{AllocError, Global};
 
 /// Adds the quarters, of this side, of a submatrix.
 fn push_quarters(out: &mut Vec<(u32, u32)>, side: u32, corner: (u32, u32)) -> Result<(), AllocError>
-    requires row { corner.0 + side ≤ 2 ^ 24 }
-    requires col { corner.1 + side ≤ 2 ^ 24 }
+    requires row { corner.0 + side ≤ size_limit }
+    requires col { corner.1 + side ≤ size_limit }
     ensures { OnOk result (out.new.items ≡ out.old.items ++ quarters side corner) }
 {
     out.push(corner)?;

@@ -1,6 +1,7 @@
 //! The number of bits of a relation's tree.
 ghost use Rattle.std.specs.Prelude.{◌≡◌, ◌<◌, ◌≤◌, IfOk};
 ghost use Rattle.std.specs.HashMap.{get};
+ghost use Rattle.rel_model.specs.Relation.{size_height};
 ghost use Rattle.rel_model.specs.Worker.{Stands, set_of, Keeps, MakesAtMost, MissesNothing};
 ghost use Rattle.run_model.specs.Files.{file_height, bits_count};
 ghost use Rattle.k2_file.specs.Counts.{same_key, AreCounts, IsFull, IsFullPart, square_bits, part_bits};
@@ -39,7 +40,7 @@ fn counted_part<E: Engine>(
     part: Option<Square>,
     height: u8,
 ) -> Result<u64, NoMemory>
-    requires high { height ≤ 24 }
+    requires high { height ≤ size_height }
     requires full { IsFullPart (E.worker engine.old) E.least height part }
     requires known { AreCounts (E.worker engine.old) (get same_key counts.old) }
     ensures value { IfOk result (λ n. n ≡ part_bits (E.worker engine.old) height part) }
@@ -62,7 +63,7 @@ fn counted_square<E: Engine>(
     square: Square,
     height: u8,
 ) -> Result<u64, NoMemory>
-    requires high { height ≤ 24 }
+    requires high { height ≤ size_height }
     requires full { IsFull (E.worker engine.old) E.least height square }
     requires known { AreCounts (E.worker engine.old) (get same_key counts.old) }
     ensures value { IfOk result (λ n. n ≡ square_bits (E.worker engine.old) height square) }
@@ -94,7 +95,7 @@ fn counted_below<E: Engine>(
     height: u8,
 ) -> Result<u64, NoMemory>
     requires low { 1 ≤ height }
-    requires high { height ≤ 24 }
+    requires high { height ≤ size_height }
     requires full { IsFull (E.worker engine.old) E.least height square }
     requires known { AreCounts (E.worker engine.old) (get same_key counts.old) }
     ensures value { IfOk result (λ n. n ≡ square_bits (E.worker engine.old) height square) }

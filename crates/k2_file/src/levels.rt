@@ -1,6 +1,7 @@
 //! The levels of a file's tree: whether its bits are theirs, its groups of four, and the cells that it tells of.
 ghost use Rattle.std.specs.Prelude.{◌≡◌, ◌==◌, ◌<◌, ◌≤◌, ◌+◌, ◌*◌, ◌^◌, IfOk, length, take, drop, true, false};
 ghost use Rattle.std.specs.List.{flat_map, slice_index_or};
+ghost use Rattle.rel_model.specs.Relation.{size_height};
 ghost use Rattle.run_model.specs.Files.{whole, quarters, chosen, levels_fit, zero_group};
 ghost use Rattle.k2_file.specs.Told.{AreInside, bits_in, both_in, cells_by, fit_by, group_is_set, levels_by};
 
@@ -80,7 +81,7 @@ fn first_zero_group(tree: &Bits<'_>, cells: &Bits<'_>) -> Option<u64>
 /// The first test of the tree that the bits fail.
 pub(crate) fn fault_in_levels(header: &Header, tree: &Bits<'_>, cells: &Bits<'_>) -> Option<BadFile>
     requires least { 1 ≤ header.now.height }
-    requires top { header.now.height ≤ 24 }
+    requires top { header.now.height ≤ size_height }
     requires tree { tree.now.count ≡ header.now.tree_count }
     requires cells { cells.now.count ≡ header.now.cell_count }
     ensures { result ≡ levels_by header.now tree.now cells.now }
@@ -102,7 +103,7 @@ fn next_level(
     corners: &[(u32, u32)],
     from: u64,
 ) -> Result<Vec<(u32, u32)>, AllocError>
-    requires level { level ≤ 24 }
+    requires level { level ≤ size_height }
     requires inside { AreInside (2 ^ level) corners.now }
     requires bits { from + 4 * length corners.now ≤ tree.now.count }
     ensures { IfOk result (λ v. v.items ≡ chosen (flat_map (quarters (2 ^ level)) corners.now)
@@ -131,7 +132,7 @@ pub(crate) fn cells_of(
     tree: &Bits<'_>,
 ) -> Result<Vec<(u32, u32)>, AllocError>
     requires least { 1 ≤ header.now.height }
-    requires top { header.now.height ≤ 24 }
+    requires top { header.now.height ≤ size_height }
     requires fit { fit_by header.now tree.now ≡ true }
     ensures cells { IfOk result (λ v. v.items ≡ cells_by header.now tree.now) }
     ensures count { IfOk result (λ v. length v.items ≡ header.now.cell_count) }

@@ -1,5 +1,6 @@
 //! Relation files that are read: the tests in their order, and then the relation from its leaves upwards.
 ghost use Rattle.std.specs.Prelude.{◌≡◌, ◌≤◌, ◌+◌, ◌<◌, ◌^◌, None, true, IfErr, OnOk, IfOk};
+ghost use Rattle.rel_model.specs.Relation.{size_height};
 ghost use Rattle.rel_model.specs.Worker.{Keeps, MakesAtMost};
 ghost use Rattle.run_model.specs.Files.{bytes_for, part, found_at, k2_fault};
 ghost use Rattle.run_model.specs.declared.outcome.BadFile.TheVariants.{Outside as OUTSIDE};
@@ -70,7 +71,7 @@ fn look_outside(
     cells: &Bits<'_>,
 ) -> Result<(), BadFile>
     requires least { 1 ≤ header.now.height }
-    requires top { header.now.height ≤ 24 }
+    requires top { header.now.height ≤ size_height }
     requires tree { tree.now.count ≡ header.now.tree_count }
     requires cells { cells.now.count ≡ header.now.cell_count }
     requires fit { fit_by header.now tree.now ≡ true }

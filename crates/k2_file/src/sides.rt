@@ -1,15 +1,15 @@
 //! Heights of squares, and their sides.
 ghost use Rattle.std.specs.Prelude.{◌≡◌, ◌≤◌, ◌^◌};
+ghost use Rattle.rel_model.specs.Relation.{size_height};
 ghost use Rattle.rel_model.specs.Worker.{height_of};
 ghost use Rattle.rel_model.specs.Roots.{height_over};
 ghost use Rattle.run_model.specs.Files.{file_height};
 
-/// The greatest height of a square.
-const TOP: u8 = 24;
+use rel_model::TOP_HEIGHT;
 
 /// The side of a square of a height.
 pub(crate) fn side_of(height: u8) -> u32
-    requires { height ≤ 24 }
+    requires { height ≤ size_height }
     ensures { result ≡ 2 ^ height }
 {
     1u32 << height
@@ -26,10 +26,10 @@ pub(crate) fn small_side(height: u8) -> u8
 /// The least height whose side is at least a size.
 fn height_of_size(size: u32) -> u8
     ensures value { result ≡ height_of size }
-    ensures limit { result ≤ 24 }
+    ensures limit { result ≤ size_height }
 {
     let mut height = 0;
-    'powers: for k in 0..TOP {
+    'powers: for k in 0..TOP_HEIGHT {
         if side_of(k) < size {
             height += 1;
         }
@@ -50,7 +50,7 @@ pub(crate) fn height_of_tree(least: u8, rows: u32, cols: u32) -> u8
 pub(crate) fn height_of_file(rows: u32, cols: u32) -> u8
     ensures value { result ≡ file_height rows cols }
     ensures low { 1 ≤ result }
-    ensures limit { result ≤ 24 }
+    ensures limit { result ≤ size_height }
 {
     height_of_size(rows).max(height_of_size(cols)).max(1)
 }
