@@ -1,7 +1,7 @@
 """A slow reader of scripts, written from docs/language.md: whether a text is a script, and else its first fault.
 
-It follows the definitions and not the program. The text is read by the grammar (grammar.py). A text that fits is read once
-more, as definitions and commands, and its names are checked.
+It follows the definitions and not the program. The text is read by the grammar (grammar.py). A text that fits is read
+once more, as definitions and commands, and its names are checked.
 """
 from grammar import Fault, fitting
 
