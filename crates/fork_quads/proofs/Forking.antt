@@ -2,7 +2,7 @@
 -- 1. What stood before a split stands in both, and what stood in either stands after they are joined (`Sees`).
 -- 2. What two do on a split adds up after the join: words placed, and misses (`joined_keeps`, `joined_misses`).
 -- 3. So two groups of pieces, at once or one after the other, are one group (`both_did`, `then_did`).
-use Rattle.std.proofs.Common.{◌≡◌, ◌≢◌, ◌<◌, ◌≤◌, ◌+◌, ◌-◌, ◌*◌, ◌^◌, min, zero, suc, ℕ, List, get_or, Result, Ok, Err, IfOk, refl, sym, ap, subst, ◌∙◌, inl, inr, arith}
+use Rattle.std.proofs.Common.{◌≡◌, ◌≢◌, ◌<◌, ◌≤◌, ◌+◌, ◌-◌, ◌*◌, ◌/◌, ◌^◌, min, zero, suc, ℕ, List, get_or, Result, Ok, Err, IfOk, refl, sym, ap, subst, ◌∙◌, inl, inr, arith}
 use Rattle.std.specs.Prelude.{IsOk, IsErr}
 use Rattle.std.proofs.lemmas.Bool.{cases_lt}
 use Rattle.std.proofs.Math.Nat.{add-mul}
@@ -10,14 +10,16 @@ use Rattle.rel_model.specs.declared.Quad.{Quad}
 use Rattle.rel_model.specs.Cells.{Cells}
 use Rattle.rel_model.specs.Words.{Extends}
 use Rattle.rel_model.specs.Equations.{Compose, result_of, depth_of, side_of}
-use Rattle.rel_model.specs.Quads.{Keeper, IsKeeper, quad_cells, QuadStands, IsQuad, KeepsQuads, ReadsQuads, SplitsKeeper, JoinsKeeper}
+use Rattle.rel_model.specs.Quads.{Keeper, IsKeeper, quad_cells, QuadStands, IsQuad, KeepsQuads, ReadsQuads, Counts, SplitsKeeper, JoinsKeeper}
 use Rattle.rel_model.specs.Worker.{Rose}
 use Rattle.rel_model.proofs.TreeLaws.{kept_stands, kept_cells}
 use Rattle.rel_model.proofs.NamesStand.{extends_on}
 use Rattle.rel_model.proofs.QuadLaws.{keeps_on, keeps_itself, reads_itself, reads_on}
 use Rattle.memo_laws.specs.Looking.{operator_of}
+use Rattle.quad_nodes.specs.Finding.{Finds, FindsQuad}
+use Rattle.quad_nodes.proofs.Finding.{not_missed}
 use Rattle.fork_quads.specs.declared.pieces.Job.{Job}
-use Rattle.fork_quads.specs.Forks.{part, piece_room, TellsMisses, HasSet, IsQuiet, job_set, CanDo, HavePieces, HadPieces, DidPieces, AreMerged, AreBoth}
+use Rattle.fork_quads.specs.Forks.{part, piece_room, TellsMisses, HasSet, IsQuiet, job_set, CanDo, CanGroup, HavePieces, HadPieces, DidPieces, AreAll, AreMerged, AreBoth}
 
 -- ---- what one keeper has seen of another
 -- all that the one has seen the other has
@@ -209,3 +211,55 @@ then_did {E} old mid new job from middle past p second answer c l m top a b e =
           let r = b.stood o (had_seen old mid job middle past x c (had_after old job from middle past l h)) in
           record { answered = both_answered (Ok p) second answer middle e q.answered r.answered; reads = reads_on old mid new q.reads r.reads };
     }
+
+-- ---- one piece
+pub one_did : {D E : Type 0} (old new : Keeper) (job : Job) (n : ℕ) (q : Quad) (quads : List Quad) (r : Result Quad D) → n < 64 → AreAll q quads → r ≡ Ok q → CanDo old job
+    → IfOk r (IsQuad new (job.a.height - job.cuts) (part job.a.height job.cuts n (job_set old job)))
+    → (operator_of job.op ≢ Compose → FindsQuad old new (job.a.height - job.cuts) (part job.a.height job.cuts n (job_set old job)) r)
+    → KeepsQuads (piece_room (operator_of job.op) job.a.height job.cuts) old new → Counts old new r → DidPieces {E = E} old new job n (n + 1) (Ok quads)
+one_did {D} {E} old new job n q quads r l all e c v s k m =
+    let is : IsQuad new (job.a.height - job.cuts) (part job.a.height job.cuts n (job_set old job)) q = subst (λ (x : Result Quad D). IfOk x (IsQuad new (job.a.height - job.cuts) (part job.a.height job.cuts n (job_set old job)))) e v in
+    let none : Counts {T = Quad} {E = D} old new (Ok q) = subst (λ (x : Result Quad D). Counts old new x) e m in
+    record {
+      value = λ i a b d. let g : i ≡ n = omega arith in
+          subst (λ (z : Quad). IsQuad new (job.a.height - job.cuts) (part job.a.height job.cuts i (job_set old job)) z) (sym (all i d (omega arith)))
+          (subst (λ (j : ℕ). IsQuad new (job.a.height - job.cuts) (part job.a.height job.cuts j (job_set old job)) q) (sym g) is);
+      keeps = keeps_as (piece_room (operator_of job.op) job.a.height job.cuts) _ old new (one_more n (piece_room (operator_of job.op) job.a.height job.cuts)) k;
+      misses = none;
+      stood = λ o h. let p = h n (omega arith) (omega arith) in record { answered = refl; reads = (s o p.quad p.is).reads };
+    }
+  where
+    one_more : (n r : ℕ) → r ≡ (n + 1 - n) * r
+    one_more n r = let g : n + 1 - n ≡ 1 = omega arith in rw g (omega arith)
+
+pub none_did : {D E : Type 0} (old new : Keeper) (job : Job) (n : ℕ) (x : D) (y : E) (r : Result Quad D) → r ≡ Err x
+    → (operator_of job.op ≢ Compose → FindsQuad old new (job.a.height - job.cuts) (part job.a.height job.cuts n (job_set old job)) r)
+    → KeepsQuads (piece_room (operator_of job.op) job.a.height job.cuts) old new → Counts old new r → DidPieces {E = E} old new job n (n + 1) (Err y)
+none_did {D} {E} old new job n x y r e s k m = record {
+  value = tt;
+  keeps = keeps_as (piece_room (operator_of job.op) job.a.height job.cuts) _ old new (let g : n + 1 - n ≡ 1 = omega arith in rw g (omega arith)) k;
+  misses = (let b : Counts {T = Quad} {E = D} old new (Err x) = subst (λ (z : Result Quad D). Counts old new z) e m in omega (arith, b));
+  stood = λ o h. let p = h n (omega arith) (omega arith) in absurd (not_missed old new x p.quad (subst (λ (z : Result Quad D). Finds old new p.quad z) e (s o p.quad p.is)));
+}
+
+-- ---- halves of a group
+pub group_first : (s : ℕ) (old own other : Keeper) (job : Job) (from count : ℕ) → IsKeeper old → SplitsKeeper s old own other → s ≡ count - count / 2 - 1 → count ≢ 1 → CanGroup old job from count → CanGroup own job from (count / 2)
+group_first s old own other job from count i p e n c =
+    let a = c.some in
+    let b = c.seats in
+    let d = c.within in
+    let v = p.views.spares in
+    record { can = can_seen old own job (split_first s old own other i p) c.can; some = omega arith; seats = omega arith; within = omega arith }
+
+pub group_second : (s : ℕ) (old own other : Keeper) (job : Job) (from count : ℕ) → IsKeeper old → SplitsKeeper s old own other → s ≡ count - count / 2 - 1 → count ≢ 1 → CanGroup old job from count → CanGroup other job (from + count / 2) (count - count / 2)
+group_second s old own other job from count i p e n c =
+    let a = c.some in
+    let b = c.seats in
+    let d = c.within in
+    let v = p.views.second_spare in
+    record { can = can_seen old other job (split_second s old own other i p) c.can; some = omega arith; seats = omega arith; within = omega arith }
+
+-- what was split is of one table
+pub split_table : {D E : Type 0} (s : ℕ) (old own other mine theirs : Keeper) (job : Job) (a b c d : ℕ) (first : Result (List Quad) D) (second : Result (List Quad) E) → SplitsKeeper s old own other → DidPieces own mine job a b first → DidPieces other theirs job c d second
+    → theirs.table ≡ mine.table
+split_table s old own other mine theirs job a b c d first second p x y = y.keeps.table ∙ p.second_table ∙ sym p.table ∙ sym x.keeps.table

@@ -1,9 +1,9 @@
 -- Two arrays of quads as one: the first up to a number, and the second from there on.
-use Rattle.std.proofs.Common.{◌≡◌, ◌≢◌, ◌<◌, ◌≤◌, ◌+◌, min, ℕ, List, length, get_or, set, refl, sym, ap, ◌∙◌, inl, inr, arith}
+use Rattle.std.proofs.Common.{◌≡◌, ◌≢◌, ◌<◌, ◌≤◌, ◌+◌, min, ℕ, List, length, get_or, replicate, set, refl, sym, ap, ◌∙◌, inl, inr, arith}
 use Rattle.std.proofs.lemmas.Bool.{cases_eq}
-use Rattle.std.proofs.lemmas.List.{length-set, get_or-set_same, get_or-set_other, get_or_default}
+use Rattle.std.proofs.lemmas.List.{length-set, get_or-set_same, get_or-set_other, get_or-replicate}
 use Rattle.rel_model.specs.declared.Quad.{Quad}
-use Rattle.fork_quads.specs.Forks.{AreMerged}
+use Rattle.fork_quads.specs.Forks.{AreAll, AreMerged}
 
 -- the first so many are copied
 pub record AreCopied (first second both : List Quad) (k : ℕ) : Type 0 where
@@ -30,3 +30,7 @@ copied_all first second both from k e s = record {
   before = λ n d l t. s.before n d (omega arith) t;
   after = λ n d l t. s.after n d (omega arith) t;
 }
+
+-- ---- one quad in every place
+pub filled_all : (q : Quad) → AreAll q (replicate 64 q)
+filled_all q n d l = get_or-replicate 64 n q d l

@@ -154,6 +154,10 @@ tiled w height (suc c) number quads = quartered (side_of (height - 1)) (tiled w 
     (tiled w (height - 1) c (4 * number + 1) quads) (tiled w (height - 1) c (4 * number + 2) quads)
     (tiled w (height - 1) c (4 * number + 2 + 1) quads)
 
+-- a quad stands in the place of each of 64 pieces
+abbrev pub AreAll : Quad → List Quad → Type 0
+AreAll quad quads = (n : ℕ) (d : Quad) → n < 64 → slice_index_or quads n d ≡ quad
+
 -- two lists of quads as one: the first up to a number, and the second from there on
 pub record AreMerged (first second : List Quad) (from : ℕ) (all : List Quad) : Type 0 where
   pub before : (n : ℕ) (d : Quad) → n < from → n < 64 → slice_index_or all n d ≡ slice_index_or first n d

@@ -2,39 +2,42 @@
 ghost use Rattle.std.specs.Prelude.{◌≤◌, ◌<◌, ◌+◌, ◌-◌};
 ghost use Rattle.std.specs.Thread.{IsSync};
 ghost use Rattle.rel_model.specs.Quads.{Keeper};
-ghost use Rattle.fork_quads.specs.Forks.{CanDo, CanGroup, DidPieces, AreMerged, AreBoth};
+ghost use Rattle.fork_quads.specs.Forks.{CanDo, CanGroup, DidPieces, AreAll, AreMerged, AreBoth};
 
 use crate::gate::Gate;
 use crate::pieces::{Job, piece};
 use pair_table::Missed;
 use quad_nodes::Nodes;
 use rel_model::Quad;
-use std::thread::{Threads, join};
+use std::thread::{Threads, join_mut};
 
 /// The quads of all pieces, each in the place of its number.
 pub(crate) type Pieces = [Quad; 64];
 
+/// A quad in the place of every piece.
+fn filled(quad: Quad) -> Pieces
+    ensures { AreAll quad result }
+{
+    [quad; 64]
+}
+
 /// One piece between the calls of the gate.
-fn one<'t, G: Gate>(
-    gate: &G,
-    job: Job,
-    mut nodes: Nodes<'t>,
-    number: u32,
-) -> (Nodes<'t>, Result<Pieces, Missed>)
-    requires can { CanDo nodes job }
+fn one<G: Gate>(gate: &G, job: Job, nodes: &mut Nodes, number: u32) -> Result<Pieces, Missed>
+    requires can { CanDo nodes.old job }
     requires within { number < 64 }
-    ensures { DidPieces nodes.entry result.0 job number (number + 1) result.1 }
+    ensures { DidPieces nodes.old nodes.new job number (number + 1) result }
 {
     gate.enter(number);
-    let answer = piece(&mut nodes, job, number);
+    let answer = piece(nodes, job, number);
     gate.leave(number);
     match answer {
-        Ok(quad) => (nodes, Ok([quad; 64])),
-        Err(Missed) => (nodes, Err(Missed)),
+        Ok(quad) => Ok(filled(quad)),
+        Err(Missed) => Err(Missed),
     }
 }
 
 /// The first pieces up to a number, and the second from there on.
+#[tactic(auto, using(crate::proofs::Merging::copied_none, crate::proofs::Merging::copied_one, crate::proofs::Merging::copied_all))]
 fn merged(first: Pieces, second: Pieces, from: u32) -> Pieces
     ensures { AreMerged first second from result }
 {
@@ -45,36 +48,37 @@ fn merged(first: Pieces, second: Pieces, from: u32) -> Pieces
     both
 }
 
-/// Does a group of pieces at once, and gives the nodes back.
-fn group<'t, R: Threads + Sync, G: Gate + Sync>(
+/// Does a group of pieces at once, each on nodes of its own.
+fn group<R: Threads + Sync, G: Gate + Sync>(
     rt: &R,
     gate: &G,
     job: Job,
-    mut nodes: Nodes<'t>,
+    nodes: &mut Nodes,
     from: u32,
     count: u32,
-) -> (Nodes<'t>, Result<Pieces, Missed>)
-    requires { CanGroup nodes job from count }
-    ensures { DidPieces nodes.entry result.0 job from (from + count) result.1 }
+) -> Result<Pieces, Missed>
+    requires { CanGroup nodes.old job from count }
+    ensures { DidPieces nodes.old nodes.new job from (from + count) result }
 {
     if count == 1 {
         return one(gate, job, nodes, from);
     }
+    let _ = nodes.bottom();
     let half = count / 2;
-    let other = nodes.split(count - half - 1);
-    let ((mut mine, first), (theirs, second)) = join(
+    let mut other = nodes.split(count - half - 1);
+    let (first, second) = join_mut(
         rt,
-        || -> (Nodes, Result<Pieces, Missed>)
-            requires { IsSync R.row × IsSync G.row × CanGroup nodes job from half }
-            ensures { DidPieces nodes.entry result.0 job from (from + half) result.1 }
+        &mut || -> Result<Pieces, Missed>
+            requires { IsSync R.row × IsSync G.row × CanGroup nodes.now job from half }
+            ensures { DidPieces nodes.entry.now nodes.exit.now job from (from + half) result }
         { group(rt, gate, job, nodes, from, half) },
-        || -> (Nodes, Result<Pieces, Missed>)
+        &mut || -> Result<Pieces, Missed>
             requires { IsSync R.row × IsSync G.row × CanGroup other job (from + half) (count - half) }
-            ensures { DidPieces other.entry result.0 job (from + half) (from + count) result.1 }
-        { group(rt, gate, job, other, from + half, count - half) },
+            ensures { DidPieces other.entry other.exit job (from + half) (from + count) result }
+        { group(rt, gate, job, &mut other, from + half, count - half) },
     );
-    mine.join(theirs);
-    (mine, both(first, second, from + half))
+    nodes.join(other);
+    both(first, second, from + half)
 }
 
 /// The pieces of two groups as those of one, where both have theirs.
@@ -107,9 +111,10 @@ pub(crate) fn groups<R: Threads + Sync, G: Gate + Sync>(
     requires within { past ≤ 64 }
     ensures { DidPieces nodes.old nodes.new job from past result }
 {
+    let _ = nodes.bottom();
     let count = workers.min(past - from);
-    let seat = nodes.split(count - 1);
-    let (seat, found) = group(rt, gate, job, seat, from, count);
+    let mut seat = nodes.split(count - 1);
+    let found = group(rt, gate, job, &mut seat, from, count);
     nodes.join(seat);
     let found = found?;
     if from + count == past {
