@@ -14,7 +14,7 @@ use Rattle.rel_model.specs.Quads.{Keeper, IsKeeper, quad_cells, QuadStands, IsQu
 use Rattle.rel_model.specs.Worker.{Rose}
 use Rattle.rel_model.proofs.TreeLaws.{kept_stands, kept_cells}
 use Rattle.rel_model.proofs.NamesStand.{extends_on}
-use Rattle.rel_model.proofs.QuadLaws.{keeps_on, keeps_itself, reads_itself, reads_on}
+use Rattle.rel_model.proofs.QuadLaws.{keeps_on, keeps_most, keeps_itself, reads_itself, reads_on}
 use Rattle.memo_laws.specs.Looking.{operator_of}
 use Rattle.quad_nodes.specs.Finding.{Finds, FindsQuad}
 use Rattle.quad_nodes.proofs.Finding.{not_missed}
@@ -263,3 +263,29 @@ group_second s old own other job from count i p e n c =
 pub split_table : {D E : Type 0} (s : ℕ) (old own other mine theirs : Keeper) (job : Job) (a b c d : ℕ) (first : Result (List Quad) D) (second : Result (List Quad) E) → SplitsKeeper s old own other → DidPieces own mine job a b first → DidPieces other theirs job c d second
     → theirs.table ≡ mine.table
 split_table s old own other mine theirs job a b c d first second p x y = y.keeps.table ∙ p.second_table ∙ sym p.table ∙ sym x.keeps.table
+
+-- ---- groups one after another
+-- a group that was refused counts for all
+pub did_longer : {E : Type 0} (old new : Keeper) (job : Job) (from middle past : ℕ) (r : Result (List Quad) E) → IsErr r → from ≤ middle → middle ≤ past → DidPieces old new job from middle r → DidPieces old new job from past r
+did_longer old new job from middle past (Ok p) e l m a = absurd (cc)
+did_longer old new job from middle past (Err x) e l m a = record {
+  value = tt;
+  keeps = (let b = rooms_both from middle past (piece_room (operator_of job.op) job.a.height job.cuts) l m in keeps_most _ _ old new (omega (arith, b)) a.keeps);
+  misses = a.misses;
+  stood = λ o h. a.stood o (had_before old job from middle past m h);
+}
+
+pub did_all : {E : Type 0} (old new : Keeper) (job : Job) (from middle past : ℕ) (r : Result (List Quad) E) → middle ≡ past → DidPieces old new job from middle r → DidPieces old new job from past r
+did_all old new job from middle past r e a = subst (λ (n : ℕ). DidPieces old new job from n r) e a
+
+-- a group on a split, and those after it
+pub groups_did : {E : Type 0} (old mid new : Keeper) (job : Job) (from middle past : ℕ) (first second answer : Result (List Quad) E) → IsOk first → CanDo old job → from ≤ middle → middle ≤ past → past ≤ 64
+    → DidPieces old mid job from middle first → DidPieces mid new job middle past second → AreBoth first second middle answer → DidPieces old new job from past answer
+groups_did old mid new job from middle past (Ok p) second answer ok c l m top a b e = then_did old mid new job from middle past p second answer c l m top a b e
+groups_did old mid new job from middle past (Err x) second answer ok c l m top a b e = absurd (cc)
+
+-- a seat for a group
+pub seat_can : (s : ℕ) (old own other : Keeper) (job : Job) (from count past : ℕ) → IsKeeper old → SplitsKeeper s old own other → s ≡ count - 1 → 1 ≤ count → from + count ≤ past → past ≤ 64 → CanDo old job → CanGroup other job from count
+seat_can s old own other job from count past i p e o l t c =
+    let v = p.views.second_spare in
+    record { can = can_seen old other job (split_second s old own other i p) c; some = o; seats = omega arith; within = omega arith }

@@ -14,6 +14,7 @@ use Rattle.rel_model.proofs.Rooms.{composed_words-most}
 use Rattle.row_quads.proofs.Placing.{quad_within}
 use Rattle.memo_laws.specs.Looking.{operator_of}
 use Rattle.quad_nodes.specs.Finding.{Finds, FindsQuad}
+use Rattle.quad_nodes.proofs.Finding.{found_later}
 use Rattle.fork_quads.specs.declared.pieces.Job.{Job}
 use Rattle.fork_quads.specs.Middle.{whole_words, whole_room}
 use Rattle.fork_quads.specs.Forks.{number_before, part, work_room, product_words, piece_room, corner_words, fork_words, fork_room, TellsMisses, HasSet, IsQuiet, job_set, CanDo, HavePieces, HadPieces, DidPieces, HoldPieces, tiled}
@@ -207,3 +208,25 @@ product_keeps u v w h k c s e r l =
     let n = product_words-next h c s ∙ ap (λ (x : ℕ). product_words x (c - 1) + product_words x (c - 1) + quad_room (x - (c - 1))) g in
     let m : ℕ = product_words k (c - 1) + product_words k (c - 1) + quad_room (k - (c - 1)) in
     subst (λ (x : ℕ). KeepsQuads x u w) (sym n) (keeps_most (0 + m) m u w (omega arith) (keeps_on 0 m u v w r.keeps l))
+
+-- ---- how many pieces
+pub pieces_some : (c past : ℕ) → past ≡ 4 ^ c → 0 < past
+pieces_some c past e = let a = one-le-pow c 4 (omega arith) in omega arith
+
+pub pieces_few : (c past : ℕ) → c ≤ 3 → past ≡ 4 ^ c → past ≤ 64
+pieces_few zero past l e = omega arith
+pieces_few (suc zero) past l e = omega arith
+pieces_few (suc (suc zero)) past l e = omega arith
+pieces_few (suc (suc (suc zero))) past l e = omega arith
+pieces_few (suc (suc (suc (suc c)))) past l e = absurd (omega (arith, l))
+
+-- ---- after a look
+pub after_value : {E : Type 0} (m : ℕ) (v w z : Keeper) (job : Job) (r : Result Quad E) → KeepsQuads m v w → CanDo v job → IfOk r (IsQuad z job.a.height (job_set w job)) → IfOk r (IsQuad z job.a.height (job_set v job))
+after_value m v w z job r k c i = subst (λ (f : Cells). IfOk r (IsQuad z job.a.height f)) (set_seen v w job (keeps_sees m v w k) c) i
+
+pub after_found : {E : Type 0} (v w z : Keeper) (job : Job) (r : Result Quad E) → ReadsQuads v w → CanDo v job → FindsQuad w z job.a.height (job_set w job) r → FindsQuad v z job.a.height (job_set v job) r
+after_found v w z job r k c f = found_later v w z job.a.height job.a.height _ _ r k refl (set_seen v w job (keeps_sees 0 v w k.keeps) c) f
+
+-- before a note
+pub later_found : {E : Type 0} (v w z : Keeper) (h : ℕ) (f : Cells) (q : Quad) → ReadsQuads w z → FindsQuad {E = E} v w h f (Ok q) → FindsQuad {E = E} v z h f (Ok q)
+later_found v w z h f q k find x s = let g = find x s in record { answer = g.answer; reads = reads_on v w z g.reads k }

@@ -285,3 +285,11 @@ last_few (suc zero) l = omega arith
 last_few (suc (suc zero)) l = omega arith
 last_few (suc (suc (suc zero))) l = omega arith
 last_few (suc (suc (suc (suc c)))) l = absurd (omega (arith, l))
+
+pub corners_next : (c : ℕ) → c ≢ 0 → corner_words c ≡ corner_words (c - 1) + corner_words (c - 1) + (corner_words (c - 1) + corner_words (c - 1)) + 3
+corners_next zero h = absurd (h refl)
+corners_next (suc c) h = let e : suc c - 1 ≡ c = omega arith in rw e refl
+
+-- the second of two squares, of pieces as they were before the first
+pub second_west : (m : ℕ) (s0 s1 s2 : Keeper) (h c p : ℕ) (quads : List Quad) (q : Quad) → KeepsQuads m s0 s1 → HoldPieces s0 (h - c) c p quads → IsQuad s2 h (tiled s1 h c p quads) q → IsQuad s2 h (tiled s0 h c p quads) q
+second_west m s0 s1 s2 h c p quads q k hold s = subst (λ (f : Cells). IsQuad s2 h f q) (tiled-stay m s0 s1 h c p quads k hold) s

@@ -78,9 +78,12 @@ fn put_together<R: Threads + Sync, G: Gate + Sync>(
     ensures keeps { KeepsQuads (fork_room (operator_of job.op) job.a.height) nodes.old nodes.new }
     ensures misses { TellsMisses nodes.old nodes.new result }
 {
+    let _ = nodes.bottom();
     let past = count_of(job.cuts);
-    let found = groups(team.rt, team.gate, team.workers, nodes, job, 0, past)?;
-    gathered(nodes, &found, job.a.height, job.cuts, 0)
+    match groups(team.rt, team.gate, team.workers, nodes, job, 0, past) {
+        Ok(found) => gathered(nodes, &found, job.a.height, job.cuts, 0),
+        Err(Missed) => Err(Missed),
+    }
 }
 
 /// An operator on two quads of one height by its pieces. What was noted of both is looked up first, and what is found
@@ -105,9 +108,11 @@ fn forked<R: Threads + Sync, G: Gate + Sync>(
     if let Some(found) = nodes.look(job.op, job.a, job.b) {
         return Ok(found);
     }
-    let found = put_together(team, nodes, job)?;
-    nodes.note(job.op, job.a, job.b, found);
-    Ok(found)
+    let answer = put_together(team, nodes, job);
+    if let Ok(found) = answer {
+        nodes.note(job.op, job.a, job.b, found);
+    }
+    answer
 }
 
 /// An operator on two quads of one height, by the workers of a team where it is worth while.

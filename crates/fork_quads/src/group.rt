@@ -116,10 +116,12 @@ pub(crate) fn groups<R: Threads + Sync, G: Gate + Sync>(
     let mut seat = nodes.split(count - 1);
     let found = group(rt, gate, job, &mut seat, from, count);
     nodes.join(seat);
-    let found = found?;
     if from + count == past {
-        return Ok(found);
+        return found;
     }
-    let rest = groups(rt, gate, workers, nodes, job, from + count, past)?;
-    Ok(merged(found, rest, from + count))
+    if found.is_err() {
+        return found;
+    }
+    let rest = groups(rt, gate, workers, nodes, job, from + count, past);
+    both(found, rest, from + count)
 }
