@@ -27,6 +27,7 @@ use rv_types::Checked;
 use std::alloc::Global;
 use std::io;
 use std::rt::Clock;
+use std::thread::Threads;
 use std::time::Instant;
 
 /// A loop that complements its variable in each turn.
@@ -199,7 +200,7 @@ fn measure<R: Print + Clock, E: Engine>(
 }
 
 /// Measures a task in a table of its own.
-fn measure_alone<R: Print + Clock>(
+fn measure_alone<R: Print + Clock + Threads + Sync>(
     rt: &R,
     alloc: Global,
     task: Task,
@@ -209,7 +210,7 @@ fn measure_alone<R: Print + Clock>(
         return println!(rt; "no table");
     };
     let gate = OpenGate;
-    let mut works = Works::new(Crew::new(&table, seat, 1, &gate));
+    let mut works = Works::new(Crew::new(rt, &table, seat, 1, &gate));
     measure(rt, alloc, &mut works, task, count)
 }
 

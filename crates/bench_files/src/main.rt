@@ -21,6 +21,7 @@ use rv_print::{listing, matrix};
 use std::alloc::Global;
 use std::io;
 use std::rt::CpuClock;
+use std::thread::Threads;
 
 /// What is measured.
 #[derive(Clone, Copy, PartialEq, Eq)]
@@ -143,7 +144,7 @@ fn measure_showing<R: Print + CpuClock, E: Engine>(
 }
 
 /// Builds the relation of a task in a table of its own and writes or shows it, and gives the bytes that were written.
-fn first_table<R: Print + CpuClock>(
+fn first_table<R: Print + CpuClock + Threads + Sync>(
     rt: &R,
     alloc: Global,
     bits: u32,
@@ -159,7 +160,7 @@ fn first_table<R: Print + CpuClock>(
         return Ok(Vec::new(alloc));
     };
     let gate = OpenGate;
-    let mut engine = Works::new(Crew::new(&table, seat, 1, &gate));
+    let mut engine = Works::new(Crew::new(rt, &table, seat, 1, &gate));
     let Some(rel) = built(alloc, &mut engine, work) else {
         println!(rt; "no relation")?;
         return Ok(Vec::new(alloc));
@@ -174,7 +175,7 @@ fn first_table<R: Print + CpuClock>(
 }
 
 /// Reads a file into a table of its own, and once more where its nodes stand.
-fn second_table<R: Print + CpuClock>(
+fn second_table<R: Print + CpuClock + Threads + Sync>(
     rt: &R,
     alloc: Global,
     bits: u32,
@@ -188,7 +189,7 @@ fn second_table<R: Print + CpuClock>(
         return println!(rt; "no table");
     };
     let gate = OpenGate;
-    let mut engine = Works::new(Crew::new(&table, seat, 1, &gate));
+    let mut engine = Works::new(Crew::new(rt, &table, seat, 1, &gate));
     measure_reading(rt, alloc, &mut engine, work, bytes)?;
     measure_reading(rt, alloc, &mut engine, work, bytes)
 }

@@ -19,6 +19,7 @@ use rel_model::{Lack, Rel, Shape};
 use std::alloc::Global;
 use std::io;
 use std::rt::Clock;
+use std::thread::Threads;
 use std::time::Instant;
 
 /// The most vertices of a graph.
@@ -141,7 +142,7 @@ fn measure<R: Print + Clock, E: Engine>(
 }
 
 /// Measures a task in a table of its own.
-fn measure_alone<R: Print + Clock>(
+fn measure_alone<R: Print + Clock + Threads + Sync>(
     rt: &R,
     alloc: Global,
     bits: u32,
@@ -158,7 +159,7 @@ fn measure_alone<R: Print + Clock>(
         return println!(rt; "no table");
     };
     let gate = OpenGate;
-    let mut works = Works::new(Crew::new(&table, seat, 1, &gate));
+    let mut works = Works::new(Crew::new(rt, &table, seat, 1, &gate));
     measure(rt, alloc, &mut works, task, size, way)
 }
 

@@ -20,6 +20,7 @@ use rv_io::{FileShelf, read_all};
 use rv_parse::parse;
 use std::alloc::Global;
 use std::io;
+use std::thread::Threads;
 
 /// The bits of the program's table.
 const TABLE_BITS: u32 = 20;
@@ -80,7 +81,7 @@ fn counts<E: Engine>(alloc: Global, engine: &mut E, items: &[Item]) -> Option<(u
 }
 
 /// The counts of a script over a table of its own.
-fn counted(alloc: Global, script: &[u8]) -> Option<(u64, u64)>
+fn counted<R: Threads + Sync>(rt: &R, alloc: Global, script: &[u8]) -> Option<(u64, u64)>
     requires { length script.now ≤ script_limit }
 {
     let Ok(script) = parse(alloc, script) else {
@@ -90,7 +91,7 @@ fn counted(alloc: Global, script: &[u8]) -> Option<(u64, u64)>
         return None;
     };
     let gate = OpenGate;
-    let mut works = Works::new(Crew::new(&table, seat, 1, &gate));
+    let mut works = Works::new(Crew::new(rt, &table, seat, 1, &gate));
     counts(alloc, &mut works, script.items.as_slice())
 }
 
@@ -105,7 +106,7 @@ fn main(rt: HostRuntime) -> io::Result<()> {
     let Ok(script) = read_all(alloc, &mut shelf, name.as_str(), SCRIPT_LIMIT as u64) else {
         return println!(rt; "bench_listed: cannot read");
     };
-    match counted(alloc, script.as_slice()) {
+    match counted(&rt, alloc, script.as_slice()) {
         Some((pairs, few)) => println!(rt; "{pairs} {few}"),
         None => println!(rt; "bench_listed: not three relations that fit"),
     }

@@ -8,16 +8,18 @@ use crate::gate::Gate;
 use pair_table::{PairTable, Seat};
 use quad_nodes::Nodes;
 use std::marker::Model;
+use std::thread::Threads;
 
-/// A worker over a node table, of one seat there. 40 bytes.
+/// A worker over a node table, of one seat there, with what lets it start threads. 48 bytes.
 #[derive(Drop)]
-pub struct Crew<'t, G: Gate> {
+pub struct Crew<'t, R: Threads + Sync, G: Gate + Sync> {
+    pub(crate) rt: &'t R,
     pub(crate) nodes: Nodes<'t>,
     pub(crate) workers: u32,
     pub(crate) gate: &'t G,
 }
 
-impl<'t, G: Gate> Model for Crew<'t, G> {
+impl<'t, R: Threads + Sync, G: Gate + Sync> Model for Crew<'t, R, G> {
     ghost use Rattle.rel_model.specs.Quads.{Keeper};
 
     ghost Value = { Keeper };
@@ -25,17 +27,24 @@ impl<'t, G: Gate> Model for Crew<'t, G> {
     ghost view = { λ c. c.nodes };
 }
 
-impl<'t, G: Gate> Crew<'t, G> {
+impl<'t, R: Threads + Sync, G: Gate + Sync> Crew<'t, R, G> {
     /// The relations and quads of a table, for the seat; nothing was missed yet.
     ///
     /// Every number of workers works on the caller's seat, one piece after another, and no gate is called.
-    pub fn new(table: &'t PairTable, seat: Seat, workers: u32, gate: &'t G) -> Crew<'t, G>
+    pub fn new(
+        rt: &'t R,
+        table: &'t PairTable,
+        seat: Seat,
+        workers: u32,
+        gate: &'t G,
+    ) -> Crew<'t, R, G>
         requires some { 1 ≤ workers }
         requires few { workers ≤ 64 }
         requires of { IsOf seat table.now }
         ensures { result ≡ record { table = table.now; view = seat; misses = 0 } }
     {
         Crew {
+            rt,
             nodes: Nodes::new(table, seat),
             workers,
             gate,

@@ -2,12 +2,14 @@
 use crate::crew::Crew;
 use crate::gate::Gate;
 use rel_model::seated_trait::Seated;
+use std::thread::Threads;
 
-impl<'t, G: Gate> Seated for Crew<'t, G> {
+impl<'t, R: Threads + Sync, G: Gate + Sync> Seated for Crew<'t, R, G> {
     /// A second crew, over a seat that is split off.
-    fn split(&mut self, spare: u32) -> Crew<'t, G> {
+    fn split(&mut self, spare: u32) -> Crew<'t, R, G> {
         let _ = self.nodes.bottom();
         Crew {
+            rt: self.rt,
             nodes: self.nodes.split(spare),
             workers: self.workers,
             gate: self.gate,
@@ -15,8 +17,9 @@ impl<'t, G: Gate> Seated for Crew<'t, G> {
     }
 
     /// Both as one, over the seats joined.
-    fn join(&mut self, other: Crew<'t, G>) {
+    fn join(&mut self, other: Crew<'t, R, G>) {
         let Crew {
+            rt: _,
             nodes,
             workers: _,
             gate: _,

@@ -6,9 +6,10 @@ use crate::gate::Gate;
 use crate::roots::{root_of, told};
 use rel_model::quads_trait::Quads;
 use rel_model::{Lack, Quad, Rel, Shape};
+use std::thread::Threads;
 
 #[tactic(auto, using(crate::specs::CrewLaws::row_limit_law, crate::specs::CrewLaws::col_limit_law))]
-impl<'t, G: Gate> Quads for Crew<'t, G> {
+impl<'t, R: Threads + Sync, G: Gate + Sync> Quads for Crew<'t, R, G> {
     ghost least_limit = { least_limit_law };
 
     ghost low_height = { low_height_law };

@@ -7,8 +7,9 @@ use crate::works::Works;
 use fork_quads::Gate;
 use rel_model::core_trait::Core;
 use rel_model::{Lack, Rel, Shape};
+use std::thread::Threads;
 
-impl<'t, G: Gate> Core for Works<'t, G> {
+impl<'t, R: Threads + Sync, G: Gate + Sync> Core for Works<'t, R, G> {
     ghost worker = { worker_of };
 
     ghost lean = { true };

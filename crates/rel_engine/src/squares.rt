@@ -5,8 +5,9 @@ use crate::works::Works;
 use fork_quads::Gate;
 use rel_model::quads_trait::Quads;
 use rel_model::{Lack, Quad, Rel, Shape};
+use std::thread::Threads;
 
-impl<'t, G: Gate> Quads for Works<'t, G> {
+impl<'t, R: Threads + Sync, G: Gate + Sync> Quads for Works<'t, R, G> {
     ghost least_limit = { least_limit_law };
 
     ghost low_height = { low_height_law };

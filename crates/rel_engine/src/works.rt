@@ -7,14 +7,15 @@ ghost use Rattle.rel_model.specs.Quads.{Keeper};
 use fork_quads::{Crew, Gate};
 use pair_table::Seat;
 use std::marker::Model;
+use std::thread::Threads;
 
-/// A worker over a node table that does all operations of the language. 40 bytes.
+/// A worker over a node table that does all operations of the language. 48 bytes.
 #[derive(Drop)]
-pub struct Works<'t, G: Gate> {
-    pub(crate) crew: Crew<'t, G>,
+pub struct Works<'t, R: Threads + Sync, G: Gate + Sync> {
+    pub(crate) crew: Crew<'t, R, G>,
 }
 
-impl<'t, G: Gate> Model for Works<'t, G> {
+impl<'t, R: Threads + Sync, G: Gate + Sync> Model for Works<'t, R, G> {
     ghost use Rattle.rel_model.specs.Quads.{Keeper};
 
     ghost Value = { Keeper };
@@ -22,9 +23,9 @@ impl<'t, G: Gate> Model for Works<'t, G> {
     ghost view = { λ w. w.crew };
 }
 
-impl<'t, G: Gate> Works<'t, G> {
+impl<'t, R: Threads + Sync, G: Gate + Sync> Works<'t, R, G> {
     /// All operations, over a crew's table and seat.
-    pub fn new(crew: Crew<'t, G>) -> Works<'t, G>
+    pub fn new(crew: Crew<'t, R, G>) -> Works<'t, R, G>
         ensures { result ≡ crew.entry }
     {
         Works { crew }

@@ -49,7 +49,7 @@ pub fn run_over_table<R: Threads + Wait + Sync, G: Gate + Sync>(
 {
     let seats = 65 * scripts.len() as u32 + 3;
     let (table, seat) = PairTable::make(alloc, options.nodes, seats)?;
-    let crew = Crew::new(&table, seat, 1, gate);
+    let crew = Crew::new(rt, &table, seat, 1, gate);
     let works = Works::new(crew);
     let ended = run_all(
         rt,

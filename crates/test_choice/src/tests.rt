@@ -222,7 +222,7 @@ fn all_relations_of_sizes_up_to_3_are_answered_as_by_lists(rt: HostRuntime) {
     let alloc = rt.alloc();
     let (table, seat) = table(&rt, alloc);
     let gate = OpenGate;
-    let mut crew = Crew::new(&table, seat, 1, &gate);
+    let mut crew = Crew::new(&rt, &table, seat, 1, &gate);
     'rows: for rows in 0..4 {
         'cols: for cols in 0..4 {
             'sets: for bits in 0..512 {
@@ -243,7 +243,7 @@ fn all_relations_of_size_4_by_at_most_3_are_answered_as_by_lists(rt: HostRuntime
     let alloc = rt.alloc();
     let (table, seat) = table(&rt, alloc);
     let gate = OpenGate;
-    let mut crew = Crew::new(&table, seat, 1, &gate);
+    let mut crew = Crew::new(&rt, &table, seat, 1, &gate);
     'shapes: for (rows, cols) in [
         (0, 4),
         (4, 0),
@@ -271,7 +271,7 @@ fn one_in_sixteen_relations_of_sizes_4_and_4_is_answered_as_by_lists(rt: HostRun
     let alloc = rt.alloc();
     let (table, seat) = table(&rt, alloc);
     let gate = OpenGate;
-    let mut crew = Crew::new(&table, seat, 1, &gate);
+    let mut crew = Crew::new(&rt, &table, seat, 1, &gate);
     let shape = Shape { rows: 4, cols: 4 };
     let mut state: u64 = 4;
     'sets: for _ in 0..4096 {
@@ -286,7 +286,7 @@ fn all_vectors_of_up_to_8_rows_are_answered_as_by_lists(rt: HostRuntime) {
     let alloc = rt.alloc();
     let (table, seat) = table(&rt, alloc);
     let gate = OpenGate;
-    let mut crew = Crew::new(&table, seat, 1, &gate);
+    let mut crew = Crew::new(&rt, &table, seat, 1, &gate);
     'sizes: for rows in 0..9 {
         'sets: for bits in 0..256 {
             if bits >> rows != 0 {
@@ -303,7 +303,7 @@ fn pseudo_random_relations_are_answered_as_by_lists(rt: HostRuntime) {
     let alloc = rt.alloc();
     let (table, seat) = table(&rt, alloc);
     let gate = OpenGate;
-    let mut crew = Crew::new(&table, seat, 1, &gate);
+    let mut crew = Crew::new(&rt, &table, seat, 1, &gate);
     'shapes: for (rows, cols) in [
         (40, 40),
         (17, 33),
@@ -330,7 +330,7 @@ fn a_full_relation_of_2_to_the_48_pairs_is_counted(rt: HostRuntime) {
     let alloc = rt.alloc();
     let (table, seat) = table(&rt, alloc);
     let gate = OpenGate;
-    let mut crew = Crew::new(&table, seat, 1, &gate);
+    let mut crew = Crew::new(&rt, &table, seat, 1, &gate);
     let side = 16_777_216;
     let Ok(full) = crew.full(Shape {
         rows: side,
@@ -355,7 +355,7 @@ fn the_pairs_of_one_row_and_of_one_column_of_the_greatest_size_are_found(rt: Hos
     let alloc = rt.alloc();
     let (table, seat) = table(&rt, alloc);
     let gate = OpenGate;
-    let mut crew = Crew::new(&table, seat, 1, &gate);
+    let mut crew = Crew::new(&rt, &table, seat, 1, &gate);
     let side = 16_777_216;
     let wide = Shape {
         rows: 1,

@@ -17,6 +17,7 @@ use rel_plain::Plain;
 use rel_residual::{left as left_residual, right as right_residual, syq};
 use std::alloc::Global;
 use std::process::Abort;
+use std::thread::Threads;
 
 /// A table of 2^18 node words, and its first seat.
 fn table(rt: &impl Abort, alloc: Global) -> (PairTable, Seat)
@@ -380,7 +381,7 @@ fn goes_by_quarters<Q: Quads>(rt: &impl Abort, quads: &mut Q, q: Quad)
 #[test]
 fn a_crew_answers_as_plain_relations_on_all_relations_up_to_2_by_2(rt: HostRuntime) {
     let (table, seat) = table(&rt, rt.alloc());
-    let mut crew = Crew::new(&table, seat, 1, &OpenGate);
+    let mut crew = Crew::new(&rt, &table, seat, 1, &OpenGate);
     let mut plain = Plain::new(rt.alloc());
     'shapes: for (rows, cols, count) in [
         (0, 0, 1),
@@ -405,7 +406,7 @@ fn a_crew_answers_as_plain_relations_on_all_relations_up_to_2_by_2(rt: HostRunti
 #[test]
 fn a_crew_answers_as_plain_relations_on_pseudo_random_ones(rt: HostRuntime) {
     let (table, seat) = table(&rt, rt.alloc());
-    let mut crew = Crew::new(&table, seat, 8, &OpenGate);
+    let mut crew = Crew::new(&rt, &table, seat, 8, &OpenGate);
     let mut plain = Plain::new(rt.alloc());
     'shapes: for (rows, cols) in [(40, 40), (1, 40), (40, 1), (17, 33), (3, 40), (9, 8)] {
         random_agree(&rt, &mut crew, &mut plain, Shape { rows, cols }, 60);
@@ -416,11 +417,11 @@ fn a_crew_answers_as_plain_relations_on_pseudo_random_ones(rt: HostRuntime) {
 }
 
 /// Works with a crew on the seat of a table, and gives the seat back.
-fn worked(rt: &impl Abort, table: &PairTable, seat: Seat) -> Seat
+fn worked<R: Threads + Abort + Sync>(rt: &R, table: &PairTable, seat: Seat) -> Seat
     requires of { IsOf seat table.now }
     ensures of { IsOf result table.now }
 {
-    let mut crew = Crew::new(table, seat, 1, &OpenGate);
+    let mut crew = Crew::new(rt, table, seat, 1, &OpenGate);
     let shape = Shape { rows: 40, cols: 33 };
     full_is_a_rectangle(rt, &mut crew, shape);
     let r = plain_of(rt, &mut crew, shape, 90, 5);

@@ -34,7 +34,7 @@ fn projections_and_injections_of_all_sizes_up_to_4_are_those_counted_out(rt: Hos
     let alloc = rt.alloc();
     let (table, seat) = table(&rt, alloc);
     let gate = OpenGate;
-    let mut crew = Crew::new(&table, seat, 1, &gate);
+    let mut crew = Crew::new(&rt, &table, seat, 1, &gate);
     'firsts: for x in 0..5 {
         'seconds: for y in 0..5 {
             are_counted_out(&rt, alloc, &mut crew, x, y);
@@ -47,7 +47,7 @@ fn projections_and_injections_of_larger_sizes_are_those_counted_out(rt: HostRunt
     let alloc = rt.alloc();
     let (table, seat) = table(&rt, alloc);
     let gate = OpenGate;
-    let mut crew = Crew::new(&table, seat, 1, &gate);
+    let mut crew = Crew::new(&rt, &table, seat, 1, &gate);
     'sizes: for (x, y) in [
         (0, 40),
         (40, 0),
@@ -80,7 +80,7 @@ fn a_subset_has_the_elements_of_its_bits(rt: HostRuntime) {
     let alloc = rt.alloc();
     let (table, seat) = table(&rt, alloc);
     let gate = OpenGate;
-    let mut crew = Crew::new(&table, seat, 1, &gate);
+    let mut crew = Crew::new(&rt, &table, seat, 1, &gate);
     'sizes: for (x, subsets) in [
         (0, 1),
         (1, 2),

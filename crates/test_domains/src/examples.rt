@@ -17,7 +17,7 @@ use std::process::Abort;
 fn three_elements_are_members_of_these_of_eight_subsets(rt: HostRuntime) {
     let (table, seat) = table(&rt, rt.alloc());
     let gate = OpenGate;
-    let mut crew = Crew::new(&table, seat, 1, &gate);
+    let mut crew = Crew::new(&rt, &table, seat, 1, &gate);
     let given = epsi(&mut crew, 3);
     is_given(
         &rt,
@@ -46,7 +46,7 @@ fn three_elements_are_members_of_these_of_eight_subsets(rt: HostRuntime) {
 fn the_projection_of_a_product_with_an_empty_factor_is_empty(rt: HostRuntime) {
     let (table, seat) = table(&rt, rt.alloc());
     let gate = OpenGate;
-    let mut crew = Crew::new(&table, seat, 1, &gate);
+    let mut crew = Crew::new(&rt, &table, seat, 1, &gate);
     let given = first(&mut crew, 2, 0);
     is_given(&rt, &mut crew, given, 0, 2, &[]);
     let given = second(&mut crew, 0, 2);
@@ -57,7 +57,7 @@ fn the_projection_of_a_product_with_an_empty_factor_is_empty(rt: HostRuntime) {
 fn the_elements_1_and_3_of_4_are_numbered_0_and_1(rt: HostRuntime) {
     let (table, seat) = table(&rt, rt.alloc());
     let gate = OpenGate;
-    let mut crew = Crew::new(&table, seat, 1, &gate);
+    let mut crew = Crew::new(&rt, &table, seat, 1, &gate);
     let v = of_pairs(
         &rt,
         &mut crew,
@@ -72,7 +72,7 @@ fn the_elements_1_and_3_of_4_are_numbered_0_and_1(rt: HostRuntime) {
 fn two_and_one_elements_are_injected_into_their_sum_of_three(rt: HostRuntime) {
     let (table, seat) = table(&rt, rt.alloc());
     let gate = OpenGate;
-    let mut crew = Crew::new(&table, seat, 1, &gate);
+    let mut crew = Crew::new(&rt, &table, seat, 1, &gate);
     let given = inl(&mut crew, 2, 1);
     is_given(&rt, &mut crew, given, 2, 3, &[(0, 0), (1, 1)]);
     let given = inr(&mut crew, 2, 1);
@@ -93,7 +93,7 @@ fn is_refused(rt: &impl Abort, given: Result<Rel, DomainError>, size: u64) {
 fn a_product_of_the_greatest_sizes_is_refused_with_its_size(rt: HostRuntime) {
     let (table, seat) = table(&rt, rt.alloc());
     let gate = OpenGate;
-    let mut crew = Crew::new(&table, seat, 1, &gate);
+    let mut crew = Crew::new(&rt, &table, seat, 1, &gate);
     is_refused(
         &rt,
         first(&mut crew, 16_777_216, 16_777_216),
@@ -110,7 +110,7 @@ fn a_product_of_the_greatest_sizes_is_refused_with_its_size(rt: HostRuntime) {
 fn subsets_without_number_are_refused_with_the_last_number(rt: HostRuntime) {
     let (table, seat) = table(&rt, rt.alloc());
     let gate = OpenGate;
-    let mut crew = Crew::new(&table, seat, 1, &gate);
+    let mut crew = Crew::new(&rt, &table, seat, 1, &gate);
     is_refused(&rt, epsi(&mut crew, 64), 18_446_744_073_709_551_615);
     is_refused(&rt, epsi(&mut crew, 16_777_216), 18_446_744_073_709_551_615);
 }
@@ -136,7 +136,7 @@ fn has_its_last<Q: Quads>(
 fn a_size_one_over_the_limit_is_refused(rt: HostRuntime) {
     let (table, seat) = table(&rt, rt.alloc());
     let gate = OpenGate;
-    let mut crew = Crew::new(&table, seat, 1, &gate);
+    let mut crew = Crew::new(&rt, &table, seat, 1, &gate);
     is_refused(&rt, first(&mut crew, 4097, 4096), 16_781_312);
     is_refused(&rt, second(&mut crew, 257, 65_281), 16_777_217);
     is_refused(&rt, inl(&mut crew, SIZE_LIMIT, 1), 16_777_217);
@@ -157,7 +157,7 @@ fn a_size_one_over_the_limit_is_refused(rt: HostRuntime) {
 fn a_size_at_the_limit_is_not_refused(rt: HostRuntime) {
     let (table, seat) = table(&rt, rt.alloc());
     let gate = OpenGate;
-    let mut crew = Crew::new(&table, seat, 1, &gate);
+    let mut crew = Crew::new(&rt, &table, seat, 1, &gate);
     let half = 8_388_608;
     let given = inl(&mut crew, SIZE_LIMIT, 0);
     has_its_last(&rt, &mut crew, given, SIZE_LIMIT, SIZE_LIMIT);

@@ -59,7 +59,7 @@ fn are_projected<Q: Quads>(rt: &impl Abort, q: &mut Q, x: u32, y: u32)
 fn the_projections_of_a_product_with_one_element_are_the_identity_and_full(rt: HostRuntime) {
     let (table, seat) = table(&rt, rt.alloc());
     let gate = OpenGate;
-    let mut crew = Crew::new(&table, seat, 1, &gate);
+    let mut crew = Crew::new(&rt, &table, seat, 1, &gate);
     are_projected(&rt, &mut crew, SIZE_LIMIT, 1);
     are_projected(&rt, &mut crew, 1, SIZE_LIMIT);
 }
@@ -68,7 +68,7 @@ fn the_projections_of_a_product_with_one_element_are_the_identity_and_full(rt: H
 fn the_projections_of_products_of_powers_of_two_are_those_of_the_parts(rt: HostRuntime) {
     let (table, seat) = table(&rt, rt.alloc());
     let gate = OpenGate;
-    let mut crew = Crew::new(&table, seat, 1, &gate);
+    let mut crew = Crew::new(&rt, &table, seat, 1, &gate);
     'sizes: for (x, y) in [(1024, 1024), (16, 1_048_576), (256, 65_536)] {
         assert!(&rt; x <= SIZE_LIMIT && y <= SIZE_LIMIT);
         are_projected(&rt, &mut crew, x, y);
@@ -79,7 +79,7 @@ fn the_projections_of_products_of_powers_of_two_are_those_of_the_parts(rt: HostR
 fn the_projections_of_products_of_other_sizes_are_those_of_the_parts(rt: HostRuntime) {
     let (table, seat) = table(&rt, rt.alloc());
     let gate = OpenGate;
-    let mut crew = Crew::new(&table, seat, 1, &gate);
+    let mut crew = Crew::new(&rt, &table, seat, 1, &gate);
     'sizes: for (x, y) in [(3, 5_592_405), (200, 301)] {
         assert!(&rt; x <= SIZE_LIMIT && y <= SIZE_LIMIT);
         are_projected(&rt, &mut crew, x, y);
@@ -111,7 +111,7 @@ fn are_numbered_as_they_are<Q: Quads>(rt: &impl Abort, q: &mut Q, rows: u32)
 fn all_elements_of_full_vectors_are_their_own_numbers(rt: HostRuntime) {
     let (table, seat) = table(&rt, rt.alloc());
     let gate = OpenGate;
-    let mut crew = Crew::new(&table, seat, 1, &gate);
+    let mut crew = Crew::new(&rt, &table, seat, 1, &gate);
     are_numbered_as_they_are(&rt, &mut crew, SIZE_LIMIT);
     are_numbered_as_they_are(&rt, &mut crew, 10_000_000);
 }

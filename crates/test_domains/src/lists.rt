@@ -70,7 +70,7 @@ fn all_relations_of_sizes_up_to_3_are_made_of_their_lists(rt: HostRuntime) {
     let alloc = rt.alloc();
     let (table, seat) = table(&rt, alloc);
     let gate = OpenGate;
-    let mut crew = Crew::new(&table, seat, 1, &gate);
+    let mut crew = Crew::new(&rt, &table, seat, 1, &gate);
     'rows: for rows in 0..4 {
         'cols: for cols in 0..4 {
             'sets: for bits in 0..512 {
@@ -92,7 +92,7 @@ fn relations_of_sizes_up_to_40_are_made_of_lists_in_any_order(rt: HostRuntime) {
     let alloc = rt.alloc();
     let (table, seat) = table(&rt, alloc);
     let gate = OpenGate;
-    let mut crew = Crew::new(&table, seat, 1, &gate);
+    let mut crew = Crew::new(&rt, &table, seat, 1, &gate);
     let mut state = 3;
     'rounds: for round in 0..40 {
         state = stepped(state);
@@ -148,7 +148,7 @@ fn all_relations_of_sizes_up_to_2_are_paired_as_by_lists(rt: HostRuntime) {
     let alloc = rt.alloc();
     let (table, seat) = table(&rt, alloc);
     let gate = OpenGate;
-    let mut crew = Crew::new(&table, seat, 1, &gate);
+    let mut crew = Crew::new(&rt, &table, seat, 1, &gate);
     'rows: for rows in 0..3 {
         'lefts: for n in 0..3 {
             'rights: for k in 0..3 {
@@ -172,7 +172,7 @@ fn relations_of_sizes_up_to_40_are_paired_as_by_lists(rt: HostRuntime) {
     let alloc = rt.alloc();
     let (table, seat) = table(&rt, alloc);
     let gate = OpenGate;
-    let mut crew = Crew::new(&table, seat, 1, &gate);
+    let mut crew = Crew::new(&rt, &table, seat, 1, &gate);
     'sizes: for (rows, n, k) in [
         (0, 2, 3),
         (3, 0, 2),
@@ -221,7 +221,7 @@ fn elements_of_all_vectors_of_up_to_8_rows_are_numbered_in_order(rt: HostRuntime
     let alloc = rt.alloc();
     let (table, seat) = table(&rt, alloc);
     let gate = OpenGate;
-    let mut crew = Crew::new(&table, seat, 1, &gate);
+    let mut crew = Crew::new(&rt, &table, seat, 1, &gate);
     'sizes: for rows in 0..9 {
         'sets: for bits in 0..256 {
             if bits >> rows == 0 {
@@ -237,7 +237,7 @@ fn elements_of_longer_vectors_are_numbered_in_order(rt: HostRuntime) {
     let alloc = rt.alloc();
     let (table, seat) = table(&rt, alloc);
     let gate = OpenGate;
-    let mut crew = Crew::new(&table, seat, 1, &gate);
+    let mut crew = Crew::new(&rt, &table, seat, 1, &gate);
     'sizes: for rows in [9, 15, 16, 17, 24, 32, 33, 40, 64, 100, 200] {
         assert!(&rt; rows <= 200);
         'choices: for (one_in, seed) in [(1, 1), (2, 2), (2, 3), (5, 5), (99, 6)] {

@@ -221,7 +221,7 @@ fn all_operations_on_all_relations_up_to_2_by_2_are_their_membership_clauses(rt:
     let alloc = rt.alloc();
     let (table, seat) = table(&rt, alloc);
     let gate = OpenGate;
-    let mut works = Works::new(Crew::new(&table, seat, 1, &gate));
+    let mut works = Works::new(Crew::new(&rt, &table, seat, 1, &gate));
     let mut fitting: u64 = 0;
     'lefts: for (rows, cols, count) in SMALL {
         'left: for number in 0..count {
@@ -245,7 +245,7 @@ fn all_operations_on_pseudo_random_relations_up_to_24_by_24_are_their_membership
     let alloc = rt.alloc();
     let (table, seat) = table(&rt, alloc);
     let gate = OpenGate;
-    let mut works = Works::new(Crew::new(&table, seat, 8, &gate));
+    let mut works = Works::new(Crew::new(&rt, &table, seat, 8, &gate));
     'cases: for (rows, cols, others, more, one_in) in [
         (24, 24, 24, 24, 12),
         (24, 1, 24, 1, 3),

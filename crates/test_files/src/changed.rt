@@ -41,7 +41,7 @@ fn a_file_with_one_change_is_told_by_its_first_fault(rt: HostRuntime) {
     let alloc = rt.alloc();
     let (table, seat) = table(&rt, alloc);
     let gate = OpenGate;
-    let mut engine = Works::new(Crew::new(&table, seat, 1, &gate));
+    let mut engine = Works::new(Crew::new(&rt, &table, seat, 1, &gate));
     'files: for (hex, kind, at) in [
         // the two pairs of the corners of 4 by 4, and what one change makes of them
         (
@@ -253,7 +253,7 @@ fn files_by_chance_are_answered_as_the_ten_tests_say(rt: HostRuntime) {
     let alloc = rt.alloc();
     let (table, seat) = table(&rt, alloc);
     let gate = OpenGate;
-    let mut engine = Works::new(Crew::new(&table, seat, 1, &gate));
+    let mut engine = Works::new(Crew::new(&rt, &table, seat, 1, &gate));
     let mut chance = Chance { state: 1 };
     let mut seen: u32 = 0;
     'files: for _ in 0..2000 {
@@ -296,7 +296,7 @@ fn files_with_one_bit_turned_are_answered_as_the_ten_tests_say(rt: HostRuntime) 
     let alloc = rt.alloc();
     let (table, seat) = table(&rt, alloc);
     let gate = OpenGate;
-    let mut engine = Works::new(Crew::new(&table, seat, 1, &gate));
+    let mut engine = Works::new(Crew::new(&rt, &table, seat, 1, &gate));
     let mut chance = Chance { state: 2 };
     'relations: for (rows, cols, count) in [
         (1, 1, 1),
@@ -322,7 +322,7 @@ fn relations_by_chance_are_written_and_read_back(rt: HostRuntime) {
     let alloc = rt.alloc();
     let (table, seat) = table(&rt, alloc);
     let gate = OpenGate;
-    let mut engine = Works::new(Crew::new(&table, seat, 1, &gate));
+    let mut engine = Works::new(Crew::new(&rt, &table, seat, 1, &gate));
     let mut chance = Chance { state: 3 };
     'relations: for (rows, cols, count) in [
         (1, 1, 1),

@@ -41,7 +41,7 @@ fn small_files_with_one_fault_are_told_which(rt: HostRuntime) {
     let alloc = rt.alloc();
     let (table, seat) = table(&rt, alloc);
     let gate = OpenGate;
-    let mut engine = Works::new(Crew::new(&table, seat, 1, &gate));
+    let mut engine = Works::new(Crew::new(&rt, &table, seat, 1, &gate));
     'cases: for (sizes, height, counts, parts, fault) in [
         ([0, 0], 0, [0, 0], &[][..], BadFile::Height),
         ([0, 0], 2, [0, 0], &[][..], BadFile::Height),
@@ -121,7 +121,7 @@ fn headers_with_one_fault_are_told_which(rt: HostRuntime) {
     let alloc = rt.alloc();
     let (table, seat) = table(&rt, alloc);
     let gate = OpenGate;
-    let mut engine = Works::new(Crew::new(&table, seat, 1, &gate));
+    let mut engine = Works::new(Crew::new(&rt, &table, seat, 1, &gate));
     'cases: for (bytes, fault) in [
         (&[][..], BadFile::Short),
         (&[83, 86, 75, 49][..], BadFile::Short),
@@ -185,7 +185,7 @@ fn small_files_are_read_as_their_relations(rt: HostRuntime) {
     let alloc = rt.alloc();
     let (table, seat) = table(&rt, alloc);
     let gate = OpenGate;
-    let mut engine = Works::new(Crew::new(&table, seat, 1, &gate));
+    let mut engine = Works::new(Crew::new(&rt, &table, seat, 1, &gate));
     'cases: for (sizes, height, counts, parts, pairs) in [
         ([0, 0], 1, [0, 0], &[][..], &[][..]),
         ([0, 3], 2, [0, 0], &[][..], &[][..]),
@@ -242,7 +242,7 @@ fn what_was_written_is_read_back(rt: HostRuntime) {
     let alloc = rt.alloc();
     let (table, seat) = table(&rt, alloc);
     let gate = OpenGate;
-    let mut engine = Works::new(Crew::new(&table, seat, 1, &gate));
+    let mut engine = Works::new(Crew::new(&rt, &table, seat, 1, &gate));
     'listed: for (rows, cols, pairs) in [
         (0, 0, &[][..]),
         (2000, 1, &[][..]),

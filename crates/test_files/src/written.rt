@@ -37,7 +37,7 @@ fn small_relations_are_written_byte_for_byte(rt: HostRuntime) {
     let alloc = rt.alloc();
     let (table, seat) = table(&rt, alloc);
     let gate = OpenGate;
-    let mut engine = Works::new(Crew::new(&table, seat, 1, &gate));
+    let mut engine = Works::new(Crew::new(&rt, &table, seat, 1, &gate));
     'cases: for (rows, cols, pairs, wanted) in [
         (
             0,
@@ -175,7 +175,7 @@ fn what_passes_the_limit_is_refused_with_its_bits(rt: HostRuntime) {
     let alloc = rt.alloc();
     let (table, seat) = table(&rt, alloc);
     let gate = OpenGate;
-    let mut engine = Works::new(Crew::new(&table, seat, 1, &gate));
+    let mut engine = Works::new(Crew::new(&rt, &table, seat, 1, &gate));
     'cases: for (side, wanted) in [
         (4096, Ok(29 + 699_051 + 2_097_152)),
         (8192, Err(89_478_484)),

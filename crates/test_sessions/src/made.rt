@@ -182,7 +182,7 @@ fn session_over<R: Wait + Abort, E: Engine + Drop>(
 
 /// Runs a script alone: its replies, and then its history.
 #[tactic(auto, unfolding(rel_model::specs::Trees::bottom_height))]
-pub(crate) fn run_alone<R: Wait + Abort>(
+pub(crate) fn run_alone<R: Threads + Wait + Abort + Sync>(
     rt: &R,
     alloc: Global,
     options: Options,
@@ -196,7 +196,7 @@ pub(crate) fn run_alone<R: Wait + Abort>(
         panic!(rt; "no memory")
     };
     let gate = OpenGate;
-    let works = Works::new(Crew::new(&table, seat, options.workers, &gate));
+    let works = Works::new(Crew::new(rt, &table, seat, options.workers, &gate));
     let (transcript, history) = session_over(rt, alloc, options.turns, script, files, works);
     let Transcript {
         replies,
@@ -236,7 +236,7 @@ pub(crate) fn run_at_once<R: Threads + Wait + Abort + Sync, G: Gate + Sync>(
     let Ok((table, seat)) = PairTable::make(alloc, options.nodes, seats) else {
         panic!(rt; "no memory")
     };
-    let works = Works::new(Crew::new(&table, seat, options.workers, gate));
+    let works = Works::new(Crew::new(rt, &table, seat, options.workers, gate));
     let Ok(ended) = run_all(
         rt,
         alloc,

@@ -173,7 +173,7 @@ fn an_assignment_behind_a_drop_brings_the_name_back(rt: HostRuntime) -> Result<(
         panic!(rt; "no memory")
     };
     let gate = OpenGate;
-    let works = Works::new(Crew::new(&table, seat, 1, &gate));
+    let works = Works::new(Crew::new(&rt, &table, seat, 1, &gate));
     let history = dropped_between(&rt, alloc, works);
     let mut lines = Vec::new(alloc);
     push_history(alloc, &mut lines, history.as_slice())?;

@@ -16,7 +16,7 @@ fn an_injection_of_no_element_has_no_row(rt: HostRuntime) {
     let alloc = rt.alloc();
     let (table, seat) = table(&rt, alloc);
     let gate = OpenGate;
-    let mut engine = Works::new(Crew::new(&table, seat, 1, &gate));
+    let mut engine = Works::new(Crew::new(&rt, &table, seat, 1, &gate));
     let Ok(none) = engine.empty(Shape { rows: 3, cols: 3 }) else {
         panic!(&rt; "refused")
     };
@@ -37,7 +37,7 @@ fn a_projection_of_a_product_with_an_empty_factor_is_not_onto(rt: HostRuntime) {
     let alloc = rt.alloc();
     let (table, seat) = table(&rt, alloc);
     let gate = OpenGate;
-    let mut engine = Works::new(Crew::new(&table, seat, 1, &gate));
+    let mut engine = Works::new(Crew::new(&rt, &table, seat, 1, &gate));
     let Ok(first) = engine.first(2, 0) else {
         panic!(&rt; "refused")
     };
@@ -62,7 +62,7 @@ fn a_power_set_over_the_limit_is_refused_with_its_size(rt: HostRuntime) {
     let alloc = rt.alloc();
     let (table, seat) = table(&rt, alloc);
     let gate = OpenGate;
-    let mut engine = Works::new(Crew::new(&table, seat, 1, &gate));
+    let mut engine = Works::new(Crew::new(&rt, &table, seat, 1, &gate));
     let refused = DomainError::Size {
         wanted: 33_554_432,
         limit: 16_777_216,
@@ -75,7 +75,7 @@ fn a_matrix_and_a_listing_over_the_limit_are_refused_with_their_numbers(rt: Host
     let alloc = rt.alloc();
     let (table, seat) = table(&rt, alloc);
     let gate = OpenGate;
-    let mut engine = Works::new(Crew::new(&table, seat, 1, &gate));
+    let mut engine = Works::new(Crew::new(&rt, &table, seat, 1, &gate));
     let shape = Shape {
         rows: 2000,
         cols: 2000,

@@ -43,7 +43,7 @@ fn rows_and_columns_stand_in_their_places(rt: HostRuntime) {
     let alloc = rt.alloc();
     let (table, seat) = table(&rt, alloc);
     let gate = OpenGate;
-    let mut engine = Works::new(Crew::new(&table, seat, 1, &gate));
+    let mut engine = Works::new(Crew::new(&rt, &table, seat, 1, &gate));
     'cases: for (rows, cols, pairs, as_matrix, as_listing) in [
         (0, 0, &[][..], "0 x 0\n", "0 x 0, pairs 0\n"),
         (0, 3, &[][..], "0 x 3\n", "0 x 3, pairs 0\n"),
@@ -118,7 +118,7 @@ fn types_and_numbers_of_pairs_are_lines(rt: HostRuntime) {
     let alloc = rt.alloc();
     let (table, seat) = table(&rt, alloc);
     let gate = OpenGate;
-    let mut engine = Works::new(Crew::new(&table, seat, 1, &gate));
+    let mut engine = Works::new(Crew::new(&rt, &table, seat, 1, &gate));
     let rel = told(&rt, alloc, &mut engine, 2, 3, &[(0, 0), (1, 2)]);
     is_counted(&rt, alloc, &mut engine, rel, "2 x 3\n", "2\n");
     match engine.epsi(10) {
@@ -132,7 +132,7 @@ fn what_passes_a_limit_is_refused_and_what_meets_it_is_shown(rt: HostRuntime) {
     let alloc = rt.alloc();
     let (table, seat) = table(&rt, alloc);
     let gate = OpenGate;
-    let mut engine = Works::new(Crew::new(&table, seat, 1, &gate));
+    let mut engine = Works::new(Crew::new(&rt, &table, seat, 1, &gate));
     let Ok(full) = engine.full(Shape {
         rows: 2000,
         cols: 2000,

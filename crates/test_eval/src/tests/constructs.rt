@@ -143,7 +143,7 @@ fn each_construct_is_its_formula(rt: HostRuntime) {
     let alloc = rt.alloc();
     let (table, seat) = table(&rt, alloc, 20);
     let gate = OpenGate;
-    let mut engine = Works::new(Crew::new(&table, seat, 1, &gate));
+    let mut engine = Works::new(Crew::new(&rt, &table, seat, 1, &gate));
     let all = lines(&rt, alloc, EXPRESSIONS);
     let mut wrong = String::new(alloc);
     'sizes: for elements in [0, 1, 2, 3, 9] {

@@ -15,6 +15,7 @@ use rv_eval::{Refused, eval};
 use rv_types::Checked;
 use std::alloc::Global;
 use std::process::Abort;
+use std::thread::Threads;
 
 /// The script: the directed cycle of 20 elements, and which of them are joined by a walk and not by one step.
 const SCRIPT: &str =
@@ -56,10 +57,10 @@ fn fill<E: Engine>(rt: &impl Abort, alloc: Global, engine: &mut E, most: u32) ->
 }
 
 /// How many blocks a table of 2^10 words has room for beside the cycle.
-fn room(rt: &impl Abort, alloc: Global, cycle: &Listed) -> u32 {
+fn room<R: Threads + Abort + Sync>(rt: &R, alloc: Global, cycle: &Listed) -> u32 {
     let (table, seat) = table(rt, alloc, 10);
     let gate = OpenGate;
-    let mut engine = Works::new(Crew::new(&table, seat, 1, &gate));
+    let mut engine = Works::new(Crew::new(rt, &table, seat, 1, &gate));
     let _cycle = told(rt, alloc, &mut engine, cycle);
     fill(rt, alloc, &mut engine, 2000)
 }
@@ -116,8 +117,8 @@ fn is_answered<E: Engine>(
 }
 
 /// The same in a table of its own that has this many blocks beside the cycle.
-fn is_answered_beside(
-    rt: &impl Abort,
+fn is_answered_beside<R: Threads + Abort + Sync>(
+    rt: &R,
     alloc: Global,
     checked: &Checked,
     cycle: &Listed,
@@ -126,7 +127,7 @@ fn is_answered_beside(
 ) -> bool {
     let (table, seat) = table(rt, alloc, 10);
     let gate = OpenGate;
-    let mut engine = Works::new(Crew::new(&table, seat, 1, &gate));
+    let mut engine = Works::new(Crew::new(rt, &table, seat, 1, &gate));
     let a = told(rt, alloc, &mut engine, cycle);
     assert_eq!(rt; fill(rt, alloc, &mut engine, blocks), blocks);
     let b = told(rt, alloc, &mut engine, cycle);

@@ -10,7 +10,7 @@ fn scripts_by_chance_come_to_what_the_slow_evaluator_says(rt: HostRuntime) {
     let alloc = rt.alloc();
     let (table, seat) = table(&rt, alloc, 20);
     let gate = OpenGate;
-    let mut engine = Works::new(Crew::new(&table, seat, 8, &gate));
+    let mut engine = Works::new(Crew::new(&rt, &table, seat, 8, &gate));
     let mut wrong = String::new(alloc);
     'sizes: for (elements, first, last) in [
         (0, 1, 11),

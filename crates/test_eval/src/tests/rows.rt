@@ -37,7 +37,7 @@ fn small_scripts_have_their_answers(rt: HostRuntime) {
     let alloc = rt.alloc();
     let (table, seat) = table(&rt, alloc, 20);
     let gate = OpenGate;
-    let mut engine = Works::new(Crew::new(&table, seat, 1, &gate));
+    let mut engine = Works::new(Crew::new(&rt, &table, seat, 1, &gate));
     let wrong = wrong_lines(&rt, alloc, &mut engine, CASES, 7);
     assert_eq!(&rt; wrong.as_str(), "");
 }

@@ -1,0 +1,4 @@
+use Rattle.fork_quads.proofs.pieces.+place.Given as goal
+
+abbrev pub decreases-place : goal.decreases-place
+decreases-place l = l.cuts

@@ -1,0 +1,151 @@
+//! Operators that are forked: their pieces are done by the workers of a team.
+ghost use Rattle.std.specs.Prelude.{◌≡◌, ◌≢◌, ◌<◌, ◌≤◌, ◌+◌, ◌^◌, IfOk};
+ghost use Rattle.rel_model.specs.Trees.{bottom_height};
+ghost use Rattle.rel_model.specs.Equations.{Compose, Transpose, result_of, side_of};
+ghost use Rattle.rel_model.specs.Quads.{Keeper, QuadStands, IsQuad, quad_cells, KeepsQuads};
+ghost use Rattle.memo_laws.specs.Looking.{operator_of};
+ghost use Rattle.quad_nodes.specs.Finding.{FindsQuad};
+ghost use Rattle.fork_quads.specs.Middle.{most_turns};
+ghost use Rattle.fork_quads.specs.Forks.{CanDo, TellsMisses, job_set, fork_room};
+
+use crate::gate::Gate;
+use crate::gather::gathered;
+use crate::group::groups;
+use crate::middle::Halving;
+use crate::pieces::{Job, alone};
+use memo_laws::Op;
+use pair_table::Missed;
+use quad_nodes::Nodes;
+use rel_model::Quad;
+use std::thread::Threads;
+
+/// The most workers of a crew.
+const MOST_WORKERS: u32 = 64;
+
+/// What lets work be forked: that threads may be started, a gate, and how many workers there are.
+pub(crate) struct Team<'t, R: Threads + Sync, G: Gate + Sync> {
+    pub rt: &'t R,
+    pub gate: &'t G,
+    pub workers: u32,
+}
+
+/// How often the result of an operator on quads of a height is cut in four, so that there is a piece for each worker.
+#[tactic(auto, unfolding(rel_model::specs::Trees::bottom_height))]
+fn cuts_for(workers: u32, height: u8) -> u8
+    requires low { bottom_height ≤ height }
+    ensures few { result ≤ 3 }
+    ensures deep { bottom_height + result ≤ height }
+    ensures some { 0 < result → 2 ≤ workers }
+{
+    if workers < 2 || workers > MOST_WORKERS {
+        return 0;
+    }
+    let enough: u8 = match workers {
+        0..=4 => 1,
+        5..=16 => 2,
+        _ => 3,
+    };
+    enough.min(height - 3)
+}
+
+/// How many pieces there are after so many cuts.
+fn count_of(cuts: u8) -> u32
+    requires few { cuts ≤ 3 }
+    ensures { result ≡ 4 ^ cuts }
+{
+    match cuts {
+        0 => 1,
+        1 => 4,
+        2 => 16,
+        _ => 64,
+    }
+}
+
+/// All pieces of an operator's result, put together.
+fn put_together<R: Threads + Sync, G: Gate + Sync>(
+    team: &Team<'_, R, G>,
+    nodes: &mut Nodes,
+    job: Job,
+) -> Result<Quad, Missed>
+    requires can { CanDo nodes.old job }
+    requires some { 1 ≤ team.now.workers }
+    requires seats { team.now.workers ≤ nodes.old.view.spare }
+    requires cut { job.cuts ≤ 3 }
+    requires over { 0 < job.cuts }
+    ensures value { IfOk result (IsQuad nodes.new job.a.height (job_set nodes.old job)) }
+    ensures stood { operator_of job.op ≢ Compose → FindsQuad nodes.old nodes.new job.a.height
+        (job_set nodes.old job) result }
+    ensures keeps { KeepsQuads (fork_room (operator_of job.op) job.a.height) nodes.old nodes.new }
+    ensures misses { TellsMisses nodes.old nodes.new result }
+{
+    let _ = nodes.bottom();
+    let past = count_of(job.cuts);
+    match groups(team.rt, team.gate, team.workers, nodes, job, 0, past) {
+        Ok(found) => gathered(nodes, &found, job.a.height, job.cuts, 0),
+        Err(Missed) => Err(Missed),
+    }
+}
+
+/// An operator on two quads of one height by its pieces. What was noted of both is looked up first, and what is found
+/// is noted.
+fn forked<R: Threads + Sync, G: Gate + Sync>(
+    team: &Team<'_, R, G>,
+    nodes: &mut Nodes,
+    job: Job,
+) -> Result<Quad, Missed>
+    requires can { CanDo nodes.old job }
+    requires one_operand { operator_of job.op ≡ Transpose → job.b.name ≡ 0 }
+    requires some { 1 ≤ team.now.workers }
+    requires seats { team.now.workers ≤ nodes.old.view.spare }
+    requires cut { job.cuts ≤ 3 }
+    requires over { 0 < job.cuts }
+    ensures value { IfOk result (IsQuad nodes.new job.a.height (job_set nodes.old job)) }
+    ensures stood { operator_of job.op ≢ Compose → FindsQuad nodes.old nodes.new job.a.height
+        (job_set nodes.old job) result }
+    ensures keeps { KeepsQuads (fork_room (operator_of job.op) job.a.height) nodes.old nodes.new }
+    ensures misses { TellsMisses nodes.old nodes.new result }
+{
+    if let Some(found) = nodes.look(job.op, job.a, job.b) {
+        return Ok(found);
+    }
+    let answer = put_together(team, nodes, job);
+    if let Ok(found) = answer {
+        nodes.note(job.op, job.a, job.b, found);
+    }
+    answer
+}
+
+/// An operator on two quads of one height, by the workers of a team where it is worth while.
+pub(crate) fn worked<R: Threads + Sync, G: Gate + Sync>(
+    team: &Team<'_, R, G>,
+    nodes: &mut Nodes,
+    op: Op,
+    a: Quad,
+    b: Quad,
+    pieces: Halving,
+) -> Result<Quad, Missed>
+    requires a_stands { QuadStands nodes.old a }
+    requires b_stands { QuadStands nodes.old b }
+    requires one_height { b.height ≡ a.height }
+    requires one_operand { operator_of op ≡ Transpose → b.name ≡ 0 }
+    requires few { pieces.turns ≤ most_turns }
+    ensures value { IfOk result (IsQuad nodes.new a.height (result_of (operator_of op) (side_of a.height)
+        (quad_cells nodes.old a) (quad_cells nodes.old b))) }
+    ensures stood { operator_of op ≢ Compose → FindsQuad nodes.old nodes.new a.height
+        (result_of (operator_of op) (side_of a.height) (quad_cells nodes.old a) (quad_cells nodes.old b)) result }
+    ensures keeps { KeepsQuads (fork_room (operator_of op) a.height) nodes.old nodes.new }
+    ensures misses { TellsMisses nodes.old nodes.new result }
+{
+    let cuts = cuts_for(team.workers, a.height);
+    if cuts == 0 || nodes.spare() < team.workers {
+        return alone(nodes, op, a, b, pieces);
+    }
+    let job = Job {
+        op,
+        a,
+        b,
+        pieces,
+        cuts,
+    };
+    forked(team, nodes, job)
+}

@@ -1,0 +1,127 @@
+//! Groups of pieces, those of a group at once, each on a split of the nodes.
+ghost use Rattle.std.specs.Prelude.{◌≤◌, ◌<◌, ◌+◌, ◌-◌};
+ghost use Rattle.std.specs.Thread.{IsSync};
+ghost use Rattle.rel_model.specs.Quads.{Keeper};
+ghost use Rattle.fork_quads.specs.Forks.{CanDo, CanGroup, DidPieces, AreAll, AreMerged, AreBoth};
+
+use crate::gate::Gate;
+use crate::pieces::{Job, piece};
+use pair_table::Missed;
+use quad_nodes::Nodes;
+use rel_model::Quad;
+use std::thread::{Threads, join_mut};
+
+/// The quads of all pieces, each in the place of its number.
+pub(crate) type Pieces = [Quad; 64];
+
+/// A quad in the place of every piece.
+fn filled(quad: Quad) -> Pieces
+    ensures { AreAll quad result }
+{
+    [quad; 64]
+}
+
+/// One piece between the calls of the gate.
+fn one<G: Gate>(gate: &G, job: Job, nodes: &mut Nodes, number: u32) -> Result<Pieces, Missed>
+    requires can { CanDo nodes.old job }
+    requires within { number < 64 }
+    ensures { DidPieces nodes.old nodes.new job number (number + 1) result }
+{
+    gate.enter(number);
+    let answer = piece(nodes, job, number);
+    gate.leave(number);
+    match answer {
+        Ok(quad) => Ok(filled(quad)),
+        Err(Missed) => Err(Missed),
+    }
+}
+
+/// The first pieces up to a number, and the second from there on.
+#[tactic(auto, using(crate::proofs::Merging::copied_none, crate::proofs::Merging::copied_one, crate::proofs::Merging::copied_all))]
+fn merged(first: Pieces, second: Pieces, from: u32) -> Pieces
+    ensures { AreMerged first second from result }
+{
+    let mut both = second;
+    'numbers: for k in 0..from.min(64) as usize {
+        both[k] = first[k];
+    }
+    both
+}
+
+/// Does a group of pieces at once, each on nodes of its own.
+fn group<R: Threads + Sync, G: Gate + Sync>(
+    rt: &R,
+    gate: &G,
+    job: Job,
+    nodes: &mut Nodes,
+    from: u32,
+    count: u32,
+) -> Result<Pieces, Missed>
+    requires { CanGroup nodes.old job from count }
+    ensures { DidPieces nodes.old nodes.new job from (from + count) result }
+{
+    if count == 1 {
+        return one(gate, job, nodes, from);
+    }
+    let _ = nodes.bottom();
+    let half = count / 2;
+    let mut other = nodes.split(count - half - 1);
+    let (first, second) = join_mut(
+        rt,
+        &mut || -> Result<Pieces, Missed>
+            requires { IsSync R.row × IsSync G.row × CanGroup nodes.now job from half }
+            ensures { DidPieces nodes.entry.now nodes.exit.now job from (from + half) result }
+        { group(rt, gate, job, nodes, from, half) },
+        &mut || -> Result<Pieces, Missed>
+            requires { IsSync R.row × IsSync G.row × CanGroup other job (from + half) (count - half) }
+            ensures { DidPieces other.entry other.exit job (from + half) (from + count) result }
+        { group(rt, gate, job, &mut other, from + half, count - half) },
+    );
+    nodes.join(other);
+    both(first, second, from + half)
+}
+
+/// The pieces of two groups as those of one, where both have theirs.
+fn both(
+    first: Result<Pieces, Missed>,
+    second: Result<Pieces, Missed>,
+    from: u32,
+) -> Result<Pieces, Missed>
+    ensures { AreBoth first second from result }
+{
+    let first = first?;
+    let second = second?;
+    Ok(merged(first, second, from))
+}
+
+/// Does all pieces from a number on, in groups of as many as there are workers, one group after another.
+pub(crate) fn groups<R: Threads + Sync, G: Gate + Sync>(
+    rt: &R,
+    gate: &G,
+    workers: u32,
+    nodes: &mut Nodes,
+    job: Job,
+    from: u32,
+    past: u32,
+) -> Result<Pieces, Missed>
+    requires can { CanDo nodes.old job }
+    requires some { 1 ≤ workers }
+    requires seats { workers ≤ nodes.old.view.spare }
+    requires more { from < past }
+    requires within { past ≤ 64 }
+    ensures { DidPieces nodes.old nodes.new job from past result }
+{
+    let _ = nodes.bottom();
+    let count = workers.min(past - from);
+    let mut seat = nodes.split(count - 1);
+    let found = group(rt, gate, job, &mut seat, from, count);
+    nodes.join(seat);
+    if from + count == past {
+        return found;
+    }
+    if found.is_err() {
+        return found;
+    }
+    let rest = groups(rt, gate, workers, nodes, job, from + count, past);
+    both(found, rest, from + count)
+}

@@ -1,0 +1,228 @@
+//! The pieces of an operator's result: the squares into which it is cut, each done by itself.
+ghost use Rattle.std.specs.Prelude.{◌≡◌, ◌≢◌, ◌≤◌, ◌+◌, ◌-◌, IfOk};
+ghost use Rattle.rel_model.specs.Cells.{cells_union};
+ghost use Rattle.rel_model.specs.Trees.{bottom_height};
+ghost use Rattle.rel_model.specs.Equations.{Compose, result_of, side_of};
+ghost use Rattle.rel_model.specs.Quads.{Keeper, QuadStands, IsQuad, quad_cells, KeepsQuads, ReadsQuads, Counts, quad_room};
+ghost use Rattle.memo_laws.specs.Looking.{operator_of};
+ghost use Rattle.quad_nodes.specs.Finding.{FindsQuad};
+ghost use Rattle.rel_compose.specs.Products.{BothStand};
+ghost use Rattle.fork_quads.specs.Middle.{most_turns};
+ghost use Rattle.fork_quads.specs.Forks.{nth, place_at_cut, part, source, work_room, piece_room, product_words, product_of, job_set, CanDo};
+
+use crate::middle::{Halving, composed};
+use memo_laws::Op;
+use pair_table::Missed;
+use quad_nodes::Nodes;
+use rel_boole::{diff_quads, inter_quads, union_quads};
+use rel_compose::transpose_quad;
+use rel_model::Quad;
+
+/// An operator on two quads of one height, cut so often. A transposition has no second operand.
+#[derive(Clone, Copy)]
+pub(crate) struct Job {
+    pub op: Op,
+    pub a: Quad,
+    pub b: Quad,
+    pub pieces: Halving,
+    pub cuts: u8,
+}
+
+/// An operator on two quads of one height, without cuts.
+pub(crate) fn alone(
+    nodes: &mut Nodes,
+    op: Op,
+    a: Quad,
+    b: Quad,
+    pieces: Halving,
+) -> Result<Quad, Missed>
+    requires a_stands { QuadStands nodes.old a }
+    requires b_stands { QuadStands nodes.old b }
+    requires one_height { b.height ≡ a.height }
+    requires few { pieces.turns ≤ most_turns }
+    ensures value { IfOk result (IsQuad nodes.new a.height (result_of (operator_of op) (side_of a.height)
+        (quad_cells nodes.old a) (quad_cells nodes.old b))) }
+    ensures stood { operator_of op ≢ Compose → FindsQuad nodes.old nodes.new a.height
+        (result_of (operator_of op) (side_of a.height) (quad_cells nodes.old a) (quad_cells nodes.old b)) result }
+    ensures keeps { KeepsQuads (work_room (operator_of op) a.height) nodes.old nodes.new }
+    ensures counts { Counts nodes.old nodes.new result }
+{
+    match op {
+        Op::Union => union_quads(nodes, a, b),
+        Op::Inter => inter_quads(nodes, a, b),
+        Op::Diff => diff_quads(nodes, a, b),
+        Op::Transpose => transpose_quad(nodes, a),
+        Op::Compose => composed(nodes, a, b, pieces),
+    }
+}
+
+/// The place among four squares, at the cut after which so many follow.
+fn place(cuts: u8, number: u32) -> u32
+    ensures { result ≡ place_at_cut cuts number }
+{
+    if cuts == 0 {
+        return number % 4;
+    }
+    place(cuts - 1, number / 4)
+}
+
+/// One of four quads, by its place.
+fn picked(four: (Quad, Quad, Quad, Quad), k: u32) -> Quad
+    ensures { result ≡ nth k four.0 four.1 four.2 four.3 }
+{
+    match k {
+        0 => four.0,
+        1 => four.1,
+        2 => four.2,
+        _ => four.3,
+    }
+}
+
+/// The place of the square of the first operand of which a square of the result is made.
+fn source_of(op: Op, k: u32) -> u32
+    ensures { result ≡ source (operator_of op) k }
+{
+    match op {
+        Op::Transpose => match k {
+            1 => 2,
+            2 => 1,
+            _ => k,
+        },
+        _ => k,
+    }
+}
+
+/// The square of an operator's result of a number, where it is cut so often. A composition is done otherwise.
+fn square_part(
+    nodes: &mut Nodes,
+    op: Op,
+    a: Quad,
+    b: Quad,
+    cuts: u8,
+    number: u32,
+    pieces: Halving,
+) -> Result<Quad, Missed>
+    requires a_stands { QuadStands nodes.old a }
+    requires b_stands { QuadStands nodes.old b }
+    requires one_height { b.height ≡ a.height }
+    requires no_product { operator_of op ≢ Compose }
+    requires deep { bottom_height + cuts ≤ a.height }
+    requires few { pieces.turns ≤ most_turns }
+    ensures value { IfOk result (IsQuad nodes.new (a.height - cuts) (part a.height cuts number
+        (result_of (operator_of op) (side_of a.height) (quad_cells nodes.old a) (quad_cells nodes.old b)))) }
+    ensures stood { FindsQuad nodes.old nodes.new (a.height - cuts) (part a.height cuts number
+        (result_of (operator_of op) (side_of a.height) (quad_cells nodes.old a) (quad_cells nodes.old b))) result }
+    ensures keeps { KeepsQuads (quad_room (a.height - cuts)) nodes.old nodes.new }
+    ensures counts { Counts nodes.old nodes.new result }
+{
+    if cuts == 0 {
+        return alone(nodes, op, a, b, pieces);
+    }
+    let (fa, fb) = nodes.quarters_of_both(a, b);
+    let k = place(cuts - 1, number);
+    let left = picked(fa, source_of(op, k));
+    let right = picked(fb, k);
+    square_part(nodes, op, left, right, cuts - 1, number, pieces)
+}
+
+/// Two of four quads: those of the north or the south, of the west or the east.
+fn row_of(four: (Quad, Quad, Quad, Quad), k: u32) -> (Quad, Quad)
+    ensures first { result.0 ≡ nth k four.0 four.0 four.2 four.2 }
+    ensures second { result.1 ≡ nth k four.1 four.1 four.3 four.3 }
+{
+    match k {
+        0 | 1 => (four.0, four.1),
+        _ => (four.2, four.3),
+    }
+}
+
+/// The quads of the west or the east.
+fn column_of(four: (Quad, Quad, Quad, Quad), k: u32) -> (Quad, Quad)
+    ensures first { result.0 ≡ nth k four.0 four.1 four.0 four.1 }
+    ensures second { result.1 ≡ nth k four.2 four.3 four.2 four.3 }
+{
+    match k {
+        0 | 2 => (four.0, four.2),
+        _ => (four.1, four.3),
+    }
+}
+
+/// The square of a composition of a number, where it is cut so often: the sum of its partial products, two at each
+/// cut.
+#[cycle(multiplying)]
+fn product_part(
+    nodes: &mut Nodes,
+    a: Quad,
+    b: Quad,
+    cuts: u8,
+    number: u32,
+    pieces: Halving,
+) -> Result<Quad, Missed>
+    requires a_stands { QuadStands nodes.old a }
+    requires b_stands { QuadStands nodes.old b }
+    requires one_height { b.height ≡ a.height }
+    requires deep { bottom_height + cuts ≤ a.height }
+    requires few { pieces.turns ≤ most_turns }
+    ensures value { IfOk result (IsQuad nodes.new (a.height - cuts) (product_of nodes.old a b cuts number)) }
+    ensures keeps { KeepsQuads (product_words a.height cuts) nodes.old nodes.new }
+    ensures counts { Counts nodes.old nodes.new result }
+{
+    let _ = nodes.bottom();
+    let none = Quad {
+        height: a.height - cuts,
+        name: 0,
+    };
+    if a.name == 0 {
+        return Ok(none);
+    }
+    if b.name == 0 {
+        return Ok(none);
+    }
+    if cuts == 0 {
+        return composed(nodes, a, b, pieces);
+    }
+    let (fa, fb) = nodes.quarters_of_both(a, b);
+    let k = place(cuts - 1, number);
+    sum_part(nodes, row_of(fa, k), column_of(fb, k), cuts - 1, number, pieces)
+}
+
+/// The square of a number in the product of a row and a column.
+#[cycle(multiplying)]
+fn sum_part(
+    nodes: &mut Nodes,
+    row: (Quad, Quad),
+    column: (Quad, Quad),
+    cuts: u8,
+    number: u32,
+    pieces: Halving,
+) -> Result<Quad, Missed>
+    requires row_stands { BothStand nodes.old row.0.height row }
+    requires column_stands { BothStand nodes.old row.0.height column }
+    requires deep { bottom_height + cuts ≤ row.0.height }
+    requires few { pieces.turns ≤ most_turns }
+    ensures value { IfOk result (IsQuad nodes.new (row.0.height - cuts) (cells_union
+        (product_of nodes.old row.0 column.0 cuts number) (product_of nodes.old row.1 column.1 cuts number))) }
+    ensures keeps { KeepsQuads (product_words row.0.height cuts + product_words row.0.height cuts
+        + quad_room (row.0.height - cuts)) nodes.old nodes.new }
+    ensures counts { Counts nodes.old nodes.new result }
+{
+    let first = product_part(nodes, row.0, column.0, cuts, number, pieces)?;
+    let second = product_part(nodes, row.1, column.1, cuts, number, pieces)?;
+    union_quads(nodes, first, second)
+}
+
+/// The piece of a number.
+pub(crate) fn piece(nodes: &mut Nodes, job: Job, number: u32) -> Result<Quad, Missed>
+    requires { CanDo nodes.old job }
+    ensures value { IfOk result (IsQuad nodes.new (job.a.height - job.cuts)
+        (part job.a.height job.cuts number (job_set nodes.old job))) }
+    ensures stood { operator_of job.op ≢ Compose → FindsQuad nodes.old nodes.new (job.a.height - job.cuts)
+        (part job.a.height job.cuts number (job_set nodes.old job)) result }
+    ensures keeps { KeepsQuads (piece_room (operator_of job.op) job.a.height job.cuts) nodes.old nodes.new }
+    ensures counts { Counts nodes.old nodes.new result }
+{
+    match job.op {
+        Op::Compose => product_part(nodes, job.a, job.b, job.cuts, number, job.pieces),
+        _ => square_part(nodes, job.op, job.a, job.b, job.cuts, number, job.pieces),
+    }
+}
