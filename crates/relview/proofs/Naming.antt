@@ -43,6 +43,12 @@ nodes_low words options e = (of_words words (shown options) e).low
 pub nodes_high : (words : List Word) (options : Options) → said_by words ≡ Some (shown options) → options.nodes ≤ 24
 nodes_high words options e = (of_words words (shown options) e).high
 
+pub workers_some : (words : List Word) (options : Options) → said_by words ≡ Some (shown options) → 1 ≤ options.workers
+workers_some words options e = (of_words words (shown options) e).manned
+
+pub workers_few : (words : List Word) (options : Options) → said_by words ≡ Some (shown options) → options.workers ≤ 64
+workers_few words options e = (of_words words (shown options) e).crew
+
 -- ---- files that are named
 -- what was read of the FILE words
 pub record IsNamed (words : List Word) (options : Options) (names : List Word) (so mid : Told) (given : Given) : Type 0 where

@@ -37,20 +37,22 @@ number_in least most default n (first ∷ second ∷ rest) low high e = absurd (
 pub record IsOf (said : Said) (files : List Word) : Type 0 where
   pub low : 10 ≤ said.nodes
   pub high : said.nodes ≤ 24
+  pub manned : 1 ≤ said.workers
+  pub crew : said.workers ≤ 64
   pub scripts_are : said.scripts ≡ scripts_in files
   pub relations_are : said.relations ≡ relations_in files
   pub few : length (scripts_in files) ≤ 64
   pub fits : fits_gen said.number (length (scripts_in files)) (length files) ≡ true
 
 -- the FILE words with their tests
-of_files : (workers nodes turns : ℕ) (history : Bool) (number : Option ℕ) (files : List Word) (said : Said) → 10 ≤ nodes → nodes ≤ 24
+of_files : (workers nodes turns : ℕ) (history : Bool) (number : Option ℕ) (files : List Word) (said : Said) → 10 ≤ nodes → nodes ≤ 24 → 1 ≤ workers → workers ≤ 64
     → with_files workers nodes turns history number files ≡ Some said → IsOf said files
-of_files workers nodes turns history number files said low high e =
+of_files workers nodes turns history number files said low high manned crew e =
     let t = if_some (are_files_taken number files) (record { workers = workers; nodes = nodes; turns = turns; history = history; number = number; scripts = scripts_in files; relations = relations_in files }) said e in
     let a = and_parts (list_all is_file_word files) (nat_le (length (scripts_in files)) most_files && (nat_le (length (relations_in files)) most_files && fits_gen number (length (scripts_in files)) (length files))) t.0 in
     let b = and_parts (nat_le (length (scripts_in files)) most_files) (nat_le (length (relations_in files)) most_files && fits_gen number (length (scripts_in files)) (length files)) a.1 in
     let c = and_parts (nat_le (length (relations_in files)) most_files) (fits_gen number (length (scripts_in files)) (length files)) b.1 in
-    subst (λ s. IsOf s files) t.1 (record { low = low; high = high; scripts_are = refl; relations_are = refl; few = leb-true (length (scripts_in files)) most_files b.0; fits = c.1 })
+    subst (λ s. IsOf s files) t.1 (record { low = low; high = high; manned = manned; crew = crew; scripts_are = refl; relations_are = refl; few = leb-true (length (scripts_in files)) most_files b.0; fits = c.1 })
 
 -- what is said, step by step
 module _ (values : Word → List Word) where
@@ -78,7 +80,8 @@ module _ (values : Word → List Word) where
       let history = and_then (with_history workers.0 nodes.0 turns.0) (switched (values history_name)) said turns.2 in
       let number = and_then (with_number workers.0 nodes.0 turns.0 history.0) (gen_number (values gen_name)) said history.2 in
       let range = number_in 10 24 20 nodes.0 (values nodes_name) (omega arith) (omega arith) nodes.1 in
-      of_files workers.0 nodes.0 turns.0 history.0 number.0 (values file_name) said range.0 range.1 number.2
+      let crew = number_in 1 64 1 workers.0 (values workers_name) (omega arith) (omega arith) workers.1 in
+      of_files workers.0 nodes.0 turns.0 history.0 number.0 (values file_name) said range.0 range.1 crew.0 crew.1 number.2
 
 -- words in the set
 pub of_words : (words : List Word) (said : Said) → said_by words ≡ Some said → IsOf said (file_words words)

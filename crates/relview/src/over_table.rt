@@ -29,7 +29,7 @@ pub struct Finished {
 
 /// Runs all scripts at once over a table of their own, with 65 seats for each and 3 more.
 ///
-/// Each session works with one worker, whatever number the options name.
+/// The operators of each session fork by the workers that the options name.
 #[tactic(auto, unfolding(rel_model::specs::Trees::bottom_height))]
 pub fn run_over_table<R: Threads + Wait + Sync, G: Gate + Sync>(
     rt: &R,
@@ -41,6 +41,8 @@ pub fn run_over_table<R: Threads + Wait + Sync, G: Gate + Sync>(
 ) -> Result<Finished, NoMemory>
     requires low { 10 ≤ options.now.nodes }
     requires high { options.now.nodes ≤ 24 }
+    requires manned { 1 ≤ options.now.workers }
+    requires crew { options.now.workers ≤ 64 }
     requires some { 1 ≤ length scripts.now }
     requires few { length scripts.now ≤ 64 }
     requires limits { All (λ v. length v.items ≤ script_limit) scripts.now }
@@ -49,7 +51,7 @@ pub fn run_over_table<R: Threads + Wait + Sync, G: Gate + Sync>(
 {
     let seats = 65 * scripts.len() as u32 + 3;
     let (table, seat) = PairTable::make(alloc, options.nodes, seats)?;
-    let crew = Crew::new(rt, &table, seat, 1, gate);
+    let crew = Crew::new(rt, &table, seat, options.workers, gate);
     let works = Works::new(crew);
     let ended = run_all(
         rt,

@@ -136,6 +136,8 @@ fn run_generated<R: Threads + Wait + Sync, S: Shelf, K: Sink, G: Gate + Sync>(
 ) -> Report
     requires low { 10 ≤ options.now.nodes }
     requires high { options.now.nodes ≤ 24 }
+    requires manned { 1 ≤ options.now.workers }
+    requires crew { options.now.workers ≤ 64 }
     requires number { options.now.number ≡ Some number }
     requires none { options.now.relations.items ≡ [] }
     ensures { (words : List Word) → said_by words ≡ Some (shown options.now)
@@ -206,6 +208,8 @@ fn run_given<R: Threads + Wait + Sync, S: Shelf, K: Sink, G: Gate + Sync>(
 ) -> Report
     requires low { 10 ≤ options.now.nodes }
     requires high { options.now.nodes ≤ 24 }
+    requires manned { 1 ≤ options.now.workers }
+    requires crew { options.now.workers ≤ 64 }
     requires some { 1 ≤ length scripts.now }
     requires few { length scripts.now ≤ 64 }
     requires limits { All (λ v. length v.items ≤ script_limit) scripts.now }

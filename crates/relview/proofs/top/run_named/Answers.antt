@@ -6,7 +6,7 @@ use Rattle.relview.specs.Given.{GivesFiles}
 use Rattle.relview.specs.Writing.{sunk}
 use Rattle.relview.specs.Top.{AnswersGiven}
 use Rattle.relview.proofs.Limits.{IsShort}
-use Rattle.relview.proofs.Naming.{IsNamed, may_pick_names, named_some, named_few, named_short, named_gives}
+use Rattle.relview.proofs.Naming.{IsNamed, workers_some, workers_few, may_pick_names, named_some, named_few, named_short, named_gives}
 use Rattle.relview.proofs.Reporting.{answers}
 use Rattle.relview.proofs.top.run_named.Goals as goal
 
@@ -14,6 +14,12 @@ pub read_files-requires : goal.read_files-requires
 read_files-requires g c =
     let may = (g.S.Shelf.told c.args.shelf.now).may_pick in
     subst (λ ns. All (λ name. IsTrue (may (string_bytes name))) ns) (sym c.as_slice.ensures.value) (may_pick_names may (texts c.args.words.now) c.in-Ok.names.items c.in-Ok.ensures.files c.requires.may_pick)
+
+pub run_given-requires-clause-manned : goal.run_given-requires-clause-manned
+run_given-requires-clause-manned g c κs within = workers_some (texts c.args.words.now) c.args.options.now c.requires.taken
+
+pub run_given-requires-clause-crew : goal.run_given-requires-clause-crew
+run_given-requires-clause-crew g c κs within = workers_few (texts c.args.words.now) c.args.options.now c.requires.taken
 
 pub run_given-requires-clause-some : goal.run_given-requires-clause-some
 run_given-requires-clause-some g c κs within =
