@@ -24,7 +24,7 @@ const MOST_WORKERS: u32 = 64;
 
 /// What lets work be forked: that threads may be started, a gate, and how many workers there are. 24 bytes.
 #[derive(Drop)]
-pub(crate) struct Team<'t, R: Threads + Sync, G: Gate + Sync> {
+pub(crate) struct Team<'t, R: Threads, G: Gate> {
     pub rt: &'t R,
     pub gate: &'t G,
     pub workers: u32,
@@ -65,7 +65,7 @@ fn count_of(cuts: u8) -> u32
 }
 
 /// All pieces of an operator's result, put together.
-fn put_together<R: Threads + Sync, G: Gate + Sync>(
+fn put_together<R: Threads, G: Gate>(
     team: &Team<'_, R, G>,
     nodes: &mut Nodes,
     job: Job,
@@ -91,7 +91,7 @@ fn put_together<R: Threads + Sync, G: Gate + Sync>(
 
 /// An operator on two quads of one height by its pieces. What was noted of both is looked up first, and what is found
 /// is noted.
-fn forked<R: Threads + Sync, G: Gate + Sync>(
+fn forked<R: Threads, G: Gate>(
     team: &Team<'_, R, G>,
     nodes: &mut Nodes,
     job: Job,
@@ -119,7 +119,7 @@ fn forked<R: Threads + Sync, G: Gate + Sync>(
 }
 
 /// An operator on two quads of one height, by the workers of a team where it is worth while.
-pub(crate) fn worked<R: Threads + Sync, G: Gate + Sync>(
+pub(crate) fn worked<R: Threads, G: Gate>(
     team: &Team<'_, R, G>,
     nodes: &mut Nodes,
     op: Op,
