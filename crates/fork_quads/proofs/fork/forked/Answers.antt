@@ -11,7 +11,7 @@ pub returns-in-Some-clause-stood : goal.returns-in-Some-clause-stood
 returns-in-Some-clause-stood g c = λ other. found_is c.args.nodes.now c.look.new.self c.args.job.a.height _ c.in-Some.found c.look.ensures.reads c.in-Some.ensures.found
 
 pub put_together-answer-requires-clause-can : goal.put_together-answer-requires-clause-can
-put_together-answer-requires-clause-can g c κs within = can_seen c.args.nodes.now c.look.new.self c.args.job (keeps_sees 0 c.args.nodes.now c.look.new.self c.look.ensures.reads.keeps) c.requires.can
+put_together-answer-requires-clause-can g c = can_seen c.args.nodes.now c.look.new.self c.args.job (keeps_sees 0 c.args.nodes.now c.look.new.self c.look.ensures.reads.keeps) c.requires.can
 
 pub note-requires-clause-a_stands : goal.note-requires-clause-a_stands
 note-requires-clause-a_stands g c =

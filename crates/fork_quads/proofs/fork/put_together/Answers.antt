@@ -5,10 +5,10 @@ use Rattle.fork_quads.proofs.Joining.{all_hold, all_value, all_found, all_missed
 use Rattle.fork_quads.proofs.fork.put_together.Goals as goal
 
 pub groups-requires-clause-more : goal.groups-requires-clause-more
-groups-requires-clause-more g c κs within = pieces_some c.args.job.cuts c.count_of-past.result c.count_of-past.ensures
+groups-requires-clause-more g c = pieces_some c.args.job.cuts c.count_of-past.result c.count_of-past.ensures
 
 pub groups-requires-clause-within : goal.groups-requires-clause-within
-groups-requires-clause-within g c κs within = pieces_few c.args.job.cuts c.count_of-past.result c.requires.cut c.count_of-past.ensures
+groups-requires-clause-within g c = pieces_few c.args.job.cuts c.count_of-past.result c.requires.cut c.count_of-past.ensures
 
 pub gathered-requires-clause-pieces : goal.gathered-requires-clause-pieces
 gathered-requires-clause-pieces g c = all_hold c.groups.new.nodes c.args.job _ c.count_of-past.result c.in-Ok.found c.count_of-past.ensures c.in-Ok.ensures.value

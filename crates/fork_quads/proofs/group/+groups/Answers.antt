@@ -32,7 +32,7 @@ groups-rest-requires g t c κs within =
     let f = c.decreases in
     let s = c.requires.seats in
     let k = d.keeps.spare in
-    (omega (arith, m, a, b, f), (can, (a, (omega (arith, s, k), (omega (arith, m, a, b, n), c.requires.within)))))
+    (omega (arith, m, a, b, f), (within.0, (within.1, (can, (a, (omega (arith, s, k), (omega (arith, m, a, b, n), c.requires.within)))))))
 
 pub returns : goal.returns
 returns g t c =
