@@ -18,6 +18,7 @@ use Rattle.rel_model.proofs.Rooms.{quad_room-operator}
 use Rattle.rel_model.proofs.Rooting.{IsRooted, relation_in-rooted, rooted-relation_in, relation_in-stays, has-cells}
 use Rattle.rel_model.proofs.Heights.{height_over-low, height_over-high, height_over-rows, height_over-cols, height_over-is}
 use Rattle.fork_quads.specs.Crew.{quad_in, house_of, worker_of, root_quad, named_as, told_as}
+use Rattle.fork_quads.specs.Forks.{TellsMisses}
 use Rattle.fork_quads.specs.CrewLaws.{quad_in-named, quad_in-is}
 
 -- a house is that of one table
@@ -130,6 +131,14 @@ keeps_worker most old new k m = record {
 pub keeps_counting : {T E : Type 0} (most : ℕ) (w old new : Keeper) (r : Result T E) → old ≡ w → KeepsQuads most old new → Counts old new r → Keeps (worker_of w) (worker_of new)
 keeps_counting most w old new r v k c = subst (λ (x : Keeper). Keeps (worker_of x) (worker_of new)) v (keeps_worker most old new k (counts_grow old new r k.before c))
 
+-- so with calls that may miss several places
+pub tells_grow : {T E : Type 0} (old new : Keeper) (r : Result T E) → IsKeeper old → TellsMisses old new r → old.misses ≤ new.misses
+tells_grow old new (Ok x) i c = omega (arith, c)
+tells_grow old new (Err e) i c = let b = i.counted in omega (arith, c)
+
+pub keeps_telling : {T E : Type 0} (most : ℕ) (w old new : Keeper) (r : Result T E) → old ≡ w → KeepsQuads most old new → TellsMisses old new r → Keeps (worker_of w) (worker_of new)
+keeps_telling most w old new r v k c = subst (λ (x : Keeper). Keeps (worker_of x) (worker_of new)) v (keeps_worker most old new k (tells_grow old new r k.before c))
+
 pub keeps_reading : (w old new : Keeper) → old ≡ w → ReadsQuads old new → Keeps (worker_of w) (worker_of new)
 keeps_reading w old new v r = subst (λ (x : Keeper). Keeps (worker_of x) (worker_of new)) v (keeps_worker 0 old new r.keeps (omega (arith, r.misses)))
 
@@ -151,6 +160,10 @@ named_value w m n f value (Ok q) r c l v h = subst (λ (x : Relation). Gives (wo
 pub named_cause : {E : Type 0} (old new : Keeper) (m n : ℕ) (a : Result Quad E) → Counts old new a → HasCause true (worker_of old) (worker_of new) (named_as m n a)
 named_cause old new m n (Err e) c = record { full = λ h. omega (arith, c); no_memory = λ l h. absurd (cc); done = tt; wanting = λ h. absurd (cc) }
 named_cause old new m n (Ok q) c = record { full = λ h. absurd (cc); no_memory = λ l h. absurd (cc); done = c; wanting = λ h. absurd (cc) }
+
+pub named_tells : {E : Type 0} (old new : Keeper) (m n : ℕ) (a : Result Quad E) → TellsMisses old new a → HasCause true (worker_of old) (worker_of new) (named_as m n a)
+named_tells old new m n (Err e) c = record { full = λ h. c; no_memory = λ l h. absurd (cc); done = tt; wanting = λ h. absurd (cc) }
+named_tells old new m n (Ok q) c = record { full = λ h. absurd (cc); no_memory = λ l h. absurd (cc); done = c; wanting = λ h. absurd (cc) }
 
 pub told_value : {E : Type 0} (w : Keeper) (h : ℕ) (f : Cells) (a : Result Quad E) → IsKeeper w → IfOk a (IsQuad w h f) → IfOk (told_as a) (GivesQuad (worker_of w) h f)
 told_value w h f (Err e) i x = tt

@@ -242,27 +242,17 @@ none_did {D} {E} old new job n x y r e s k m = record {
   stood = λ o h. let p = h n (omega arith) (omega arith) in absurd (not_missed old new x p.quad (subst (λ (z : Result Quad D). Finds old new p.quad z) e (s o p.quad p.is)));
 }
 
--- ---- halves of a group
-pub group_first : (s : ℕ) (old own other : Keeper) (job : Job) (from count : ℕ) → IsKeeper old → SplitsKeeper s old own other → s ≡ count - count / 2 - 1 → count ≢ 1 → CanGroup old job from count → CanGroup own job from (count / 2)
-group_first s old own other job from count i p e n c =
+-- ---- the last of a group, and the others
+pub group_rest : (old own other : Keeper) (job : Job) (from count : ℕ) → IsKeeper old → SplitsKeeper 0 old own other → count ≢ 1 → CanGroup old job from count → CanGroup own job from (count - 1)
+group_rest old own other job from count i p n c =
     let a = c.some in
     let b = c.seats in
     let d = c.within in
     let v = p.views.spares in
-    record { can = can_seen old own job (split_first s old own other i p) c.can; some = omega arith; seats = omega arith; within = omega arith }
+    record { can = can_seen old own job (split_first 0 old own other i p) c.can; some = omega arith; seats = omega arith; within = omega arith }
 
-pub group_second : (s : ℕ) (old own other : Keeper) (job : Job) (from count : ℕ) → IsKeeper old → SplitsKeeper s old own other → s ≡ count - count / 2 - 1 → count ≢ 1 → CanGroup old job from count → CanGroup other job (from + count / 2) (count - count / 2)
-group_second s old own other job from count i p e n c =
-    let a = c.some in
-    let b = c.seats in
-    let d = c.within in
-    let v = p.views.second_spare in
-    record { can = can_seen old other job (split_second s old own other i p) c.can; some = omega arith; seats = omega arith; within = omega arith }
-
--- what was split is of one table
-pub split_table : {D E : Type 0} (s : ℕ) (old own other mine theirs : Keeper) (job : Job) (a b c d : ℕ) (first : Result (List Quad) D) (second : Result (List Quad) E) → SplitsKeeper s old own other → DidPieces own mine job a b first → DidPieces other theirs job c d second
-    → theirs.table ≡ mine.table
-split_table s old own other mine theirs job a b c d first second p x y = y.keeps.table ∙ p.second_table ∙ sym p.table ∙ sym x.keeps.table
+pub group_last : (old own other : Keeper) (job : Job) (from count : ℕ) → IsKeeper old → SplitsKeeper 0 old own other → CanGroup old job from count → CanDo other job
+group_last old own other job from count i p c = can_seen old other job (split_second 0 old own other i p) c.can
 
 -- ---- groups one after another
 -- a group that was refused counts for all

@@ -5,16 +5,19 @@ use Rattle.std.proofs.Math.Nat.{pow-suc, one-le-pow, pow-le-pow_left}
 use Rattle.rel_model.specs.declared.Quad.{Quad}
 use Rattle.rel_model.specs.Cells.{Cells}
 use Rattle.rel_model.specs.Trees.{bottom_height}
-use Rattle.rel_model.specs.Equations.{Operator, Union, Inter, Diff, Transpose, Compose, result_of, side_of}
+use Rattle.rel_model.specs.Equations.{Operator, Union, Inter, Diff, Transpose, Compose, result_of, side_of, depth_of}
 use Rattle.rel_model.specs.Quads.{Keeper, IsKeeper, quad_cells, QuadStands, IsQuad, KeepsQuads, ReadsQuads, Counts, quad_room, composed_words}
-use Rattle.rel_model.specs.Worker.{Rose}
-use Rattle.rel_model.proofs.TreeLaws.{Within}
+use Rattle.rel_model.specs.Worker.{Rose, Stands}
+use Rattle.rel_model.proofs.TreeLaws.{Within, zero_stands}
 use Rattle.rel_model.proofs.QuadLaws.{keeps_on, keeps_most, reads_on, quad_stays, quad_cells-stay, is_quad-stays}
 use Rattle.rel_model.proofs.Rooms.{composed_words-most}
 use Rattle.row_quads.proofs.Placing.{quad_within}
 use Rattle.memo_laws.specs.Looking.{operator_of}
 use Rattle.quad_nodes.specs.Finding.{Finds, FindsQuad}
 use Rattle.quad_nodes.proofs.Finding.{found_later}
+use Rattle.rel_model.specs.declared.Rel.{Rel}
+use Rattle.fork_quads.specs.Crew.{worker_of, root_quad}
+use Rattle.fork_quads.proofs.Crewing.{stands_root}
 use Rattle.fork_quads.specs.declared.pieces.Job.{Job}
 use Rattle.fork_quads.specs.Middle.{whole_words, whole_room}
 use Rattle.fork_quads.specs.Forks.{number_before, part, work_room, product_words, piece_room, corner_words, fork_words, fork_room, TellsMisses, HasSet, IsQuiet, job_set, CanDo, HavePieces, HadPieces, DidPieces, HoldPieces, tiled}
@@ -230,3 +233,20 @@ after_found v w z job r k c f = found_later v w z job.a.height job.a.height _ _ 
 -- before a note
 pub later_found : {E : Type 0} (v w z : Keeper) (h : ℕ) (f : Cells) (q : Quad) → ReadsQuads w z → FindsQuad {E = E} v w h f (Ok q) → FindsQuad {E = E} v z h f (Ok q)
 later_found v w z h f q k find x s = let g = find x s in record { answer = g.answer; reads = reads_on v w z g.reads k }
+
+-- ---- operators that are no composition
+pub union_other : Union ≢ Compose
+union_other e = cc
+
+pub inter_other : Inter ≢ Compose
+inter_other e = cc
+
+pub diff_other : Diff ≢ Compose
+diff_other e = cc
+
+pub transpose_other : Transpose ≢ Compose
+transpose_other e = cc
+
+-- the quad with no cell stands beside a root
+pub none_stands : (w inside : Keeper) (r : Rel) (q : Quad) → inside ≡ w → Stands (worker_of w) r → q ≡ root_quad r → QuadStands inside (record { height = q.height; name = 0 })
+none_stands w inside r q v h e = let s = stands_root w inside r q v h e in record { low = s.low; high = s.high; standing = zero_stands inside.view.words (depth_of q.height) }

@@ -140,7 +140,7 @@ tiled-is w h (suc c) p f quads l wf each =
     let m : ℕ = side_of (h - 1) in
     let low : bottom_height + c ≤ h - 1 = omega arith in
     let quarter_is : (k q : ℕ) → k < 4 → q ≡ 4 * p + k → tiled w (h - 1) c q quads ≡ quarter m k f = λ k q b e. tiled-is w (h - 1) c q (quarter m k f) quads low (quarter-within m k f)
-        (λ n x d. let y : number_before c n ≡ 4 * p + k = x ∙ e in each n (before_child c p k n b y) d ∙ ap (λ (j : ℕ). part (h - 1) c n (quarter m j f)) (place_child c p k n b y)) in
+    (λ n x d. let y : number_before c n ≡ 4 * p + k = x ∙ e in each n (before_child c p k n b y) d ∙ ap (λ (j : ℕ). part (h - 1) c n (quarter m j f)) (place_child c p k n b y)) in
     ap (λ (x : Cells). quartered m x (tiled w (h - 1) c (4 * p + 1) quads) (tiled w (h - 1) c (4 * p + 2) quads) (tiled w (h - 1) c (4 * p + 2 + 1) quads)) (quarter_is 0 (4 * p) (omega arith) (omega arith))
     ∙ ap (λ (x : Cells). quartered m (quarter m 0 f) x (tiled w (h - 1) c (4 * p + 2) quads) (tiled w (h - 1) c (4 * p + 2 + 1) quads)) (quarter_is 1 (4 * p + 1) (omega arith) refl)
     ∙ ap (λ (x : Cells). quartered m (quarter m 0 f) (quarter m 1 f) x (tiled w (h - 1) c (4 * p + 2 + 1) quads)) (quarter_is 2 (4 * p + 2) (omega arith) refl)
@@ -158,7 +158,7 @@ quarter_stood : (w : Keeper) (h k : ℕ) (f : Cells) → IsKeeper w → bottom_h
 quarter_stood w h k f i low wf s =
     let m : ℕ = side_of h in
     let q = quarters_stood w h s.quad (quarter m 0 f) (quarter m 1 f) (quarter m 2 f) (quarter m 3 f) i low (quarters-within m f)
-        (subst (λ (g : Cells). IsQuad w (h + 1) g s.quad) (sym (quartered-quarters m f wf)) s.is) in
+    (subst (λ (g : Cells). IsQuad w (h + 1) g s.quad) (sym (quartered-quarters m f wf)) s.is) in
     subst (HasSet w h) (quarter-nth m k f) (nth-all (HasSet w h) k _ _ _ _
     (record { quad = _; is = q.nw_is }) (record { quad = _; is = q.ne_is }) (record { quad = _; is = q.sw_is }) (record { quad = _; is = q.se_is }))
 
@@ -185,8 +185,8 @@ tiled_corner m n s0 s1 s2 s3 h c p quads north south r some low hold k l q0 q1 q
     let e3 = tiled-stay m s0 s1 (h - 1) (c - 1) (4 * p + 2 + 1) quads k f.se in
     let up : h - 1 + 1 ≡ h = omega arith in
     let x = corner_value s2 s3 (h - 1) _ _ _ _ north.0 north.1 south.0 south.1 r
-        (is_quad-stays n s1 s2 (h - 1) _ north.0 l q0) (is_quad-stays n s1 s2 (h - 1) _ north.1 l q1)
-        (subst (λ (g : Cells). IsQuad s2 (h - 1) g south.0) e2 q2) (subst (λ (g : Cells). IsQuad s2 (h - 1) g south.1) e3 q3) v in
+    (is_quad-stays n s1 s2 (h - 1) _ north.0 l q0) (is_quad-stays n s1 s2 (h - 1) _ north.1 l q1)
+    (subst (λ (g : Cells). IsQuad s2 (h - 1) g south.0) e2 q2) (subst (λ (g : Cells). IsQuad s2 (h - 1) g south.1) e3 q3) v in
     let all : Cells = quartered (side_of (h - 1)) (tiled s0 (h - 1) (c - 1) (4 * p) quads) (tiled s0 (h - 1) (c - 1) (4 * p + 1) quads) (tiled s0 (h - 1) (c - 1) (4 * p + 2) quads) (tiled s0 (h - 1) (c - 1) (4 * p + 2 + 1) quads) in
     subst (λ (g : Cells). IfOk r (IsQuad s3 h g)) (sym (tiled-next s0 h c p quads some)) (subst (λ (y : ℕ). IfOk r (IsQuad s3 y all)) up x)
 

@@ -4,6 +4,7 @@ ghost use Rattle.rel_model.specs.Words.{IsFull};
 ghost use Rattle.rel_model.specs.Views.{IsOf};
 ghost use Rattle.rel_model.specs.Quads.{Keeper};
 
+use crate::fork::Team;
 use crate::gate::Gate;
 use pair_table::{PairTable, Seat};
 use quad_nodes::Nodes;
@@ -13,10 +14,8 @@ use std::thread::Threads;
 /// A worker over a node table, of one seat there, with what lets it start threads. 48 bytes.
 #[derive(Drop)]
 pub struct Crew<'t, R: Threads + Sync, G: Gate + Sync> {
-    pub(crate) rt: &'t R,
+    pub(crate) team: Team<'t, R, G>,
     pub(crate) nodes: Nodes<'t>,
-    pub(crate) workers: u32,
-    pub(crate) gate: &'t G,
 }
 
 impl<'t, R: Threads + Sync, G: Gate + Sync> Model for Crew<'t, R, G> {
@@ -30,7 +29,8 @@ impl<'t, R: Threads + Sync, G: Gate + Sync> Model for Crew<'t, R, G> {
 impl<'t, R: Threads + Sync, G: Gate + Sync> Crew<'t, R, G> {
     /// The relations and quads of a table, for the seat; nothing was missed yet.
     ///
-    /// Every number of workers works on the caller's seat, one piece after another, and no gate is called.
+    /// With more workers than one the five operators fork: each piece of their work passes the gate. With one worker no
+    /// gate is called.
     pub fn new(
         rt: &'t R,
         table: &'t PairTable,
@@ -44,10 +44,8 @@ impl<'t, R: Threads + Sync, G: Gate + Sync> Crew<'t, R, G> {
         ensures { result ≡ record { table = table.now; view = seat; misses = 0 } }
     {
         Crew {
-            rt,
+            team: Team { rt, gate, workers },
             nodes: Nodes::new(table, seat),
-            workers,
-            gate,
         }
     }
 

@@ -22,22 +22,25 @@ use std::thread::Threads;
 /// The most workers of a crew.
 const MOST_WORKERS: u32 = 64;
 
-/// What lets work be forked: that threads may be started, a gate, and how many workers there are.
-pub(crate) struct Team<'t, R: Threads + Sync, G: Gate + Sync> {
+/// What lets work be forked: that threads may be started, a gate, and how many workers there are. 24 bytes.
+#[derive(Drop)]
+pub(crate) struct Team<'t, R: Threads, G: Gate> {
     pub rt: &'t R,
     pub gate: &'t G,
     pub workers: u32,
 }
 
-/// How often the result of an operator on quads of a height is cut in four, so that there is a piece for each worker.
+/// How often the result of an operator on quads of a height is cut in four, so that there is a piece for each worker:
+/// not at all where that would not pay, or where there are too few spare seats.
 #[tactic(auto, unfolding(rel_model::specs::Trees::bottom_height))]
-fn cuts_for(workers: u32, height: u8) -> u8
+fn cuts_for(workers: u32, height: u8, spare: u32) -> u8
     requires low { bottom_height ≤ height }
     ensures few { result ≤ 3 }
     ensures deep { bottom_height + result ≤ height }
     ensures some { 0 < result → 2 ≤ workers }
+    ensures seats { 0 < result → workers ≤ spare }
 {
-    if workers < 2 || workers > MOST_WORKERS {
+    if workers < 2 || workers > MOST_WORKERS || spare < workers {
         return 0;
     }
     let enough: u8 = match workers {
@@ -62,7 +65,7 @@ fn count_of(cuts: u8) -> u32
 }
 
 /// All pieces of an operator's result, put together.
-fn put_together<R: Threads + Sync, G: Gate + Sync>(
+fn put_together<R: Threads, G: Gate>(
     team: &Team<'_, R, G>,
     nodes: &mut Nodes,
     job: Job,
@@ -88,7 +91,7 @@ fn put_together<R: Threads + Sync, G: Gate + Sync>(
 
 /// An operator on two quads of one height by its pieces. What was noted of both is looked up first, and what is found
 /// is noted.
-fn forked<R: Threads + Sync, G: Gate + Sync>(
+fn forked<R: Threads, G: Gate>(
     team: &Team<'_, R, G>,
     nodes: &mut Nodes,
     job: Job,
@@ -116,7 +119,7 @@ fn forked<R: Threads + Sync, G: Gate + Sync>(
 }
 
 /// An operator on two quads of one height, by the workers of a team where it is worth while.
-pub(crate) fn worked<R: Threads + Sync, G: Gate + Sync>(
+pub(crate) fn worked<R: Threads, G: Gate>(
     team: &Team<'_, R, G>,
     nodes: &mut Nodes,
     op: Op,
@@ -136,8 +139,8 @@ pub(crate) fn worked<R: Threads + Sync, G: Gate + Sync>(
     ensures keeps { KeepsQuads (fork_room (operator_of op) a.height) nodes.old nodes.new }
     ensures misses { TellsMisses nodes.old nodes.new result }
 {
-    let cuts = cuts_for(team.workers, a.height);
-    if cuts == 0 || nodes.spare() < team.workers {
+    let cuts = cuts_for(team.workers, a.height, nodes.spare());
+    if cuts == 0 {
         return alone(nodes, op, a, b, pieces);
     }
     let job = Job {

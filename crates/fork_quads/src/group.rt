@@ -1,6 +1,5 @@
 //! Groups of pieces, those of a group at once, each on a split of the nodes.
 ghost use Rattle.std.specs.Prelude.{◌≤◌, ◌<◌, ◌+◌, ◌-◌};
-ghost use Rattle.std.specs.Thread.{IsSync};
 ghost use Rattle.rel_model.specs.Quads.{Keeper};
 ghost use Rattle.fork_quads.specs.Forks.{CanDo, CanGroup, DidPieces, AreAll, AreMerged, AreBoth};
 
@@ -12,7 +11,7 @@ use rel_model::Quad;
 use std::thread::{Threads, join_mut};
 
 /// The quads of all pieces, each in the place of its number.
-pub(crate) type Pieces = [Quad; 64];
+pub type Pieces = [Quad; 64];
 
 /// A quad in the place of every piece.
 fn filled(quad: Quad) -> Pieces
@@ -21,16 +20,13 @@ fn filled(quad: Quad) -> Pieces
     [quad; 64]
 }
 
-/// One piece between the calls of the gate.
-fn one<G: Gate>(gate: &G, job: Job, nodes: &mut Nodes, number: u32) -> Result<Pieces, Missed>
+/// One piece.
+fn one<'t>(job: Job, nodes: &mut Nodes<'t>, number: u32) -> Result<Pieces, Missed>
     requires can { CanDo nodes.old job }
     requires within { number < 64 }
     ensures { DidPieces nodes.old nodes.new job number (number + 1) result }
 {
-    gate.enter(number);
-    let answer = piece(nodes, job, number);
-    gate.leave(number);
-    match answer {
+    match piece(nodes, job, number) {
         Ok(quad) => Ok(filled(quad)),
         Err(Missed) => Err(Missed),
     }
@@ -48,10 +44,27 @@ fn merged(first: Pieces, second: Pieces, from: u32) -> Pieces
     both
 }
 
-/// Does a group of pieces at once, each on nodes of its own.
-fn group<R: Threads + Sync, G: Gate + Sync>(
+/// A piece for a thread of its own: its number, and nodes for it.
+#[derive(Drop)]
+struct Task<'t> {
+    job: Job,
+    nodes: Nodes<'t>,
+    number: u32,
+}
+
+/// Does the piece of a task.
+fn done(task: &mut Task) -> Result<Pieces, Missed>
+    requires can { CanDo task.old.nodes task.old.job }
+    requires within { task.old.number < 64 }
+    ensures { DidPieces task.old.nodes task.new.nodes task.old.job task.old.number (task.old.number + 1) result }
+{
+    one(task.job, &mut task.nodes, task.number)
+}
+
+/// Does a group of pieces at once, each on nodes of its own: the last in a thread of its own, while the others go on
+/// here the same way.
+pub(crate) fn at_once<R: Threads>(
     rt: &R,
-    gate: &G,
     job: Job,
     nodes: &mut Nodes,
     from: u32,
@@ -61,24 +74,34 @@ fn group<R: Threads + Sync, G: Gate + Sync>(
     ensures { DidPieces nodes.old nodes.new job from (from + count) result }
 {
     if count == 1 {
-        return one(gate, job, nodes, from);
+        return one(job, nodes, from);
     }
     let _ = nodes.bottom();
-    let half = count / 2;
-    let mut other = nodes.split(count - half - 1);
-    let (first, second) = join_mut(
+    let less = count - 1;
+    let mut task = Task {
+        job,
+        nodes: nodes.split(0),
+        number: from + less,
+    };
+    let (second, first) = join_mut(
         rt,
         &mut || -> Result<Pieces, Missed>
-            requires { IsSync R.row × IsSync G.row × CanGroup nodes.now job from half }
-            ensures { DidPieces nodes.entry.now nodes.exit.now job from (from + half) result }
-        { group(rt, gate, job, nodes, from, half) },
+            requires { CanDo task.nodes task.job × (task.number < 64) }
+            ensures { DidPieces task.entry.nodes task.exit.nodes task.entry.job task.entry.number
+                (task.entry.number + 1) result }
+        { done(&mut task) },
         &mut || -> Result<Pieces, Missed>
-            requires { IsSync R.row × IsSync G.row × CanGroup other job (from + half) (count - half) }
-            ensures { DidPieces other.entry other.exit job (from + half) (from + count) result }
-        { group(rt, gate, job, &mut other, from + half, count - half) },
+            requires { CanGroup nodes.now job from less }
+            ensures { DidPieces nodes.entry.now nodes.exit.now job from (from + less) result }
+        { at_once(rt, job, nodes, from, less) },
     );
+    let Task {
+        job: _,
+        nodes: other,
+        number: _,
+    } = task;
     nodes.join(other);
-    both(first, second, from + half)
+    both(first, second, from + less)
 }
 
 /// The pieces of two groups as those of one, where both have theirs.
@@ -95,7 +118,7 @@ fn both(
 }
 
 /// Does all pieces from a number on, in groups of as many as there are workers, one group after another.
-pub(crate) fn groups<R: Threads + Sync, G: Gate + Sync>(
+pub(crate) fn groups<R: Threads, G: Gate>(
     rt: &R,
     gate: &G,
     workers: u32,
@@ -114,7 +137,7 @@ pub(crate) fn groups<R: Threads + Sync, G: Gate + Sync>(
     let _ = nodes.bottom();
     let count = workers.min(past - from);
     let mut seat = nodes.split(count - 1);
-    let found = group(rt, gate, job, &mut seat, from, count);
+    let found = gate.group(rt, job, &mut seat, from, count);
     nodes.join(seat);
     if from + count == past {
         return found;

@@ -20,12 +20,12 @@ use rel_model::Quad;
 
 /// An operator on two quads of one height, cut so often. A transposition has no second operand.
 #[derive(Clone, Copy)]
-pub(crate) struct Job {
-    pub op: Op,
-    pub a: Quad,
-    pub b: Quad,
-    pub pieces: Halving,
-    pub cuts: u8,
+pub struct Job {
+    pub(crate) op: Op,
+    pub(crate) a: Quad,
+    pub(crate) b: Quad,
+    pub(crate) pieces: Halving,
+    pub(crate) cuts: u8,
 }
 
 /// An operator on two quads of one height, without cuts.
@@ -183,7 +183,14 @@ fn product_part(
     }
     let (fa, fb) = nodes.quarters_of_both(a, b);
     let k = place(cuts - 1, number);
-    sum_part(nodes, row_of(fa, k), column_of(fb, k), cuts - 1, number, pieces)
+    sum_part(
+        nodes,
+        row_of(fa, k),
+        column_of(fb, k),
+        cuts - 1,
+        number,
+        pieces,
+    )
 }
 
 /// The square of a number in the product of a row and a column.
@@ -212,7 +219,7 @@ fn sum_part(
 }
 
 /// The piece of a number.
-pub(crate) fn piece(nodes: &mut Nodes, job: Job, number: u32) -> Result<Quad, Missed>
+pub fn piece(nodes: &mut Nodes, job: Job, number: u32) -> Result<Quad, Missed>
     requires { CanDo nodes.old job }
     ensures value { IfOk result (IsQuad nodes.new (job.a.height - job.cuts)
         (part job.a.height job.cuts number (job_set nodes.old job))) }

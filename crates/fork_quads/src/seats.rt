@@ -1,5 +1,6 @@
 //! Crews over one table, which are split and joined by their seats.
 use crate::crew::Crew;
+use crate::fork::Team;
 use crate::gate::Gate;
 use rel_model::seated_trait::Seated;
 use std::thread::Threads;
@@ -9,21 +10,18 @@ impl<'t, R: Threads + Sync, G: Gate + Sync> Seated for Crew<'t, R, G> {
     fn split(&mut self, spare: u32) -> Crew<'t, R, G> {
         let _ = self.nodes.bottom();
         Crew {
-            rt: self.rt,
+            team: Team {
+                rt: self.team.rt,
+                gate: self.team.gate,
+                workers: self.team.workers,
+            },
             nodes: self.nodes.split(spare),
-            workers: self.workers,
-            gate: self.gate,
         }
     }
 
     /// Both as one, over the seats joined.
     fn join(&mut self, other: Crew<'t, R, G>) {
-        let Crew {
-            rt: _,
-            nodes,
-            workers: _,
-            gate: _,
-        } = other;
+        let Crew { team: _, nodes } = other;
         let _ = self.nodes.bottom();
         let _ = nodes.bottom();
         self.nodes.join(nodes);

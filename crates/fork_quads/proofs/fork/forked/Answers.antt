@@ -1,41 +1,45 @@
-use Rattle.std.proofs.Common.{rules, ◌≡◌, ◌≢◌, ◌<◌, ◌≤◌, ◌+◌, ◌^◌, IfOk, ℕ, ◌-◌, ◌*◌, length, ◌/◌, ◌%◌, Bool, true, false, nat_eq, nat_lt, List, [], ◌∷◌, ◌++◌, slice_index_or, slice_set, bit_and, bit_or, Fits, w8, w32, w64, Bor, MutBor}
-use Rattle.rel_model.specs.Trees.{bottom_height}
-use Rattle.rel_model.specs.Equations.{Compose, Transpose, result_of, side_of}
-use Rattle.rel_model.specs.Quads.{Keeper, QuadStands, IsQuad, quad_cells, KeepsQuads}
-use Rattle.memo_laws.specs.Looking.{operator_of}
-use Rattle.quad_nodes.specs.Finding.{FindsQuad}
-use Rattle.fork_quads.specs.Middle.{most_turns}
-use Rattle.fork_quads.specs.Forks.{CanDo, TellsMisses, job_set, fork_room}
+use Rattle.std.proofs.Common.{Ok, sym, subst}
+use Rattle.rel_model.specs.Cells.{Cells}
+use Rattle.rel_model.specs.Quads.{IsQuad}
+use Rattle.rel_model.proofs.QuadLaws.{quad_stays, is_quad-stays}
+use Rattle.quad_nodes.proofs.Finding.{found_is}
+use Rattle.fork_quads.proofs.Forking.{keeps_sees, can_seen, set_seen}
+use Rattle.fork_quads.proofs.Joining.{after_found, later_found}
 use Rattle.fork_quads.proofs.fork.forked.Goals as goal
 
--- src/fork.rt:109:9
 pub returns-in-Some-clause-stood : goal.returns-in-Some-clause-stood
-returns-in-Some-clause-stood g c = ?
+returns-in-Some-clause-stood g c = λ other. found_is c.args.nodes.now c.look.new.self c.args.job.a.height _ c.in-Some.found c.look.ensures.reads c.in-Some.ensures.found
 
--- src/fork.rt:111:9
 pub put_together-answer-requires-clause-can : goal.put_together-answer-requires-clause-can
-put_together-answer-requires-clause-can g c κs within = ?
+put_together-answer-requires-clause-can g c = can_seen c.args.nodes.now c.look.new.self c.args.job (keeps_sees 0 c.args.nodes.now c.look.new.self c.look.ensures.reads.keeps) c.requires.can
 
--- src/fork.rt:113:9
 pub note-requires-clause-a_stands : goal.note-requires-clause-a_stands
-note-requires-clause-a_stands g c = ?
+note-requires-clause-a_stands g c =
+    let x = can_seen c.args.nodes.now c.look.new.self c.args.job (keeps_sees 0 c.args.nodes.now c.look.new.self c.look.ensures.reads.keeps) c.requires.can in
+    quad_stays _ c.look.new.self c.put_together-answer.new.nodes c.args.job.a c.put_together-answer.ensures.keeps x.a_stands
 
--- src/fork.rt:113:9
 pub note-requires-clause-b_stands : goal.note-requires-clause-b_stands
-note-requires-clause-b_stands g c = ?
+note-requires-clause-b_stands g c =
+    let x = can_seen c.args.nodes.now c.look.new.self c.args.job (keeps_sees 0 c.args.nodes.now c.look.new.self c.look.ensures.reads.keeps) c.requires.can in
+    quad_stays _ c.look.new.self c.put_together-answer.new.nodes c.args.job.b c.put_together-answer.ensures.keeps x.b_stands
 
--- src/fork.rt:113:9
 pub note-requires-clause-holds : goal.note-requires-clause-holds
-note-requires-clause-holds g c = ?
+note-requires-clause-holds g c =
+    let x = can_seen c.args.nodes.now c.look.new.self c.args.job (keeps_sees 0 c.args.nodes.now c.look.new.self c.look.ensures.reads.keeps) c.requires.can in
+    subst (λ (f : Cells). IsQuad c.put_together-answer.new.nodes c.args.job.a.height f c.in-Ok.found)
+    (sym (set_seen c.look.new.self c.put_together-answer.new.nodes c.args.job (keeps_sees _ c.look.new.self c.put_together-answer.new.nodes c.put_together-answer.ensures.keeps) x)) c.in-Ok.ensures.value
 
--- src/fork.rt:91:1
 pub returns-in-Ok-clause-value : goal.returns-in-Ok-clause-value
-returns-in-Ok-clause-value g c = ?
+returns-in-Ok-clause-value g c =
+    is_quad-stays 0 c.put_together-answer.new.nodes c.note.new.self c.args.job.a.height _ c.in-Ok.found c.note.ensures.reads.keeps
+    (subst (λ (f : Cells). IsQuad c.put_together-answer.new.nodes c.args.job.a.height f c.in-Ok.found)
+    (set_seen c.args.nodes.now c.look.new.self c.args.job (keeps_sees 0 c.args.nodes.now c.look.new.self c.look.ensures.reads.keeps) c.requires.can) c.in-Ok.ensures.value)
 
--- src/fork.rt:91:1
 pub returns-in-Ok-clause-stood : goal.returns-in-Ok-clause-stood
-returns-in-Ok-clause-stood g c = ?
+returns-in-Ok-clause-stood g c = λ other.
+    later_found c.args.nodes.now c.put_together-answer.new.nodes c.note.new.self c.args.job.a.height _ c.in-Ok.found c.note.ensures.reads
+    (after_found c.args.nodes.now c.look.new.self c.put_together-answer.new.nodes c.args.job (Ok c.in-Ok.found) c.look.ensures.reads c.requires.can (c.in-Ok.ensures.stood other))
 
--- src/fork.rt:91:1
 pub returns-in_default-answer-clause-stood : goal.returns-in_default-answer-clause-stood
-returns-in_default-answer-clause-stood g c = ?
+returns-in_default-answer-clause-stood g c = λ other.
+    after_found c.args.nodes.now c.look.new.self c.put_together-answer.new.nodes c.args.job c.put_together-answer.result c.look.ensures.reads c.requires.can (c.put_together-answer.ensures.stood other)

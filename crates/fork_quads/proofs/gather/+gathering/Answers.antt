@@ -78,9 +78,13 @@ gathered-beside-requires-2 t c =
     let w = c.requires.within in
     let f = hold_four c.args.nodes.now c.args.height c.args.cuts c.args.number c.args.found.now n c.requires.pieces in
     let e = last-next c.args.cuts c.args.number n in
-    let k = c.in_ok-north.ensures.keeps in
-    (omega (arith, n, d), (hold_later _ c.args.nodes.now c.beside.new.nodes _ (c.args.cuts - 1) (4 * c.args.number + 2) c.args.found.now k f.sw,
-    (hold_later _ c.args.nodes.now c.beside.new.nodes _ (c.args.cuts - 1) (4 * c.args.number + 2 + 1) c.args.found.now k f.se, (omega (arith, w, e), (c.requires.size, (omega (arith, deep, n), omega (arith, high)))))))
+    let k = c.in_ok-north.ensures.keeps in (
+      omega (arith, n, d),
+      (
+        hold_later _ c.args.nodes.now c.beside.new.nodes _ (c.args.cuts - 1) (4 * c.args.number + 2) c.args.found.now k f.sw,
+        (hold_later _ c.args.nodes.now c.beside.new.nodes _ (c.args.cuts - 1) (4 * c.args.number + 2 + 1) c.args.found.now k f.se, (omega (arith, w, e), (c.requires.size, (omega (arith, deep, n), omega (arith, high))))),
+      ),
+    )
 
 pub gathered-returns-in_err-south-clause-stood : goal.gathered-returns-in_err-south-clause-stood
 gathered-returns-in_err-south-clause-stood t c =

@@ -15,7 +15,7 @@ product_part-returns-then-b-eq0-clause-value t c =
 pub product_part-sum_part-requires : goal.product_part-sum_part-requires
 product_part-sum_part-requires t c =
     let s = product_step c.args.nodes.now c.quarters_of_both.new.self c.args.a c.args.b c.row_of.result c.column_of.result c.quarters_of_both.result.0 c.quarters_of_both.result.1 c.args.cuts c.args.number c.place-k.result
-        c.requires.one_height c.if-cuts-eq0.false c.requires.deep c.quarters_of_both.ensures.first c.quarters_of_both.ensures.second c.place-k.ensures c.row_of.ensures.first c.row_of.ensures.second c.column_of.ensures.first c.column_of.ensures.second in
+    c.requires.one_height c.if-cuts-eq0.false c.requires.deep c.quarters_of_both.ensures.first c.quarters_of_both.ensures.second c.place-k.ensures c.row_of.ensures.first c.row_of.ensures.second c.column_of.ensures.first c.column_of.ensures.second in
     let n = c.if-cuts-eq0.false in
     let d = c.decreases in
     (omega (arith, n, d), (s.row_stands, (s.column_stands, (s.deep, c.requires.few))))
@@ -23,13 +23,13 @@ product_part-sum_part-requires t c =
 pub product_part-returns-clause-value : goal.product_part-returns-clause-value
 product_part-returns-clause-value t c =
     let s = product_step c.args.nodes.now c.quarters_of_both.new.self c.args.a c.args.b c.row_of.result c.column_of.result c.quarters_of_both.result.0 c.quarters_of_both.result.1 c.args.cuts c.args.number c.place-k.result
-        c.requires.one_height c.if-cuts-eq0.false c.requires.deep c.quarters_of_both.ensures.first c.quarters_of_both.ensures.second c.place-k.ensures c.row_of.ensures.first c.row_of.ensures.second c.column_of.ensures.first c.column_of.ensures.second in
+    c.requires.one_height c.if-cuts-eq0.false c.requires.deep c.quarters_of_both.ensures.first c.quarters_of_both.ensures.second c.place-k.ensures c.row_of.ensures.first c.row_of.ensures.second c.column_of.ensures.first c.column_of.ensures.second in
     product_value c.args.nodes.now c.quarters_of_both.new.self c.sum_part.new.nodes c.args.a c.args.b c.row_of.result c.column_of.result c.args.cuts c.args.number c.sum_part.result s c.sum_part.ensures.value
 
 pub product_part-returns-clause-keeps : goal.product_part-returns-clause-keeps
 product_part-returns-clause-keeps t c =
     let s = product_step c.args.nodes.now c.quarters_of_both.new.self c.args.a c.args.b c.row_of.result c.column_of.result c.quarters_of_both.result.0 c.quarters_of_both.result.1 c.args.cuts c.args.number c.place-k.result
-        c.requires.one_height c.if-cuts-eq0.false c.requires.deep c.quarters_of_both.ensures.first c.quarters_of_both.ensures.second c.place-k.ensures c.row_of.ensures.first c.row_of.ensures.second c.column_of.ensures.first c.column_of.ensures.second in
+    c.requires.one_height c.if-cuts-eq0.false c.requires.deep c.quarters_of_both.ensures.first c.quarters_of_both.ensures.second c.place-k.ensures c.row_of.ensures.first c.row_of.ensures.second c.column_of.ensures.first c.column_of.ensures.second in
     product_keeps c.args.nodes.now c.quarters_of_both.new.self c.sum_part.new.nodes c.args.a.height c.row_of.result.0.height c.args.cuts c.if-cuts-eq0.false s.row_height c.quarters_of_both.ensures.reads c.sum_part.ensures.keeps
 
 pub sum_part-product_part-requires-2 : goal.sum_part-product_part-requires-2
