@@ -28,7 +28,7 @@ pub struct Finished {
 
 /// Runs all scripts at once over a table of their own, with 65 seats for each and 3 more.
 ///
-/// Each session works with one worker, whatever number the options name.
+/// Each session works with as many workers as the options name.
 #[tactic(auto, unfolding(rel_model::specs::Trees::bottom_height))]
 pub fn run_over_table<R: Threads + Wait + Sync, G: Gate + Sync>(
     rt: &R,
@@ -48,7 +48,8 @@ pub fn run_over_table<R: Threads + Wait + Sync, G: Gate + Sync>(
 {
     let seats = 65 * scripts.len() as u32 + 3;
     let (table, seat) = PairTable::make(alloc, options.nodes, seats)?;
-    let crew = Crew::new(rt, &table, seat, 1, gate);
+    let workers = options.workers.max(1).min(64);
+    let crew = Crew::new(rt, &table, seat, workers, gate);
     let works = Works::new(crew);
     let ended = run_all(
         rt,
