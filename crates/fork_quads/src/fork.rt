@@ -22,6 +22,9 @@ use std::thread::Threads;
 /// The most workers of a crew.
 const MOST_WORKERS: u32 = 64;
 
+/// The least height at which it pays to start threads, as it was measured: squares of 2048 rows and columns.
+const LEAST_HEIGHT: u8 = 11;
+
 /// What lets work be forked: that threads may be started, a gate, and how many workers there are. 24 bytes.
 #[derive(Drop)]
 pub(crate) struct Team<'t, R: Threads, G: Gate> {
@@ -40,7 +43,7 @@ fn cuts_for(workers: u32, height: u8, spare: u32) -> u8
     ensures some { 0 < result → 2 ≤ workers }
     ensures seats { 0 < result → workers ≤ spare }
 {
-    if workers < 2 || workers > MOST_WORKERS || spare < workers {
+    if workers < 2 || workers > MOST_WORKERS || spare < workers || height < LEAST_HEIGHT {
         return 0;
     }
     let enough: u8 = match workers {

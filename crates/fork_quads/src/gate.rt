@@ -3,7 +3,7 @@ ghost use Rattle.std.specs.Prelude.{◌+◌};
 ghost use Rattle.rel_model.specs.Quads.{Keeper};
 ghost use Rattle.fork_quads.specs.Forks.{CanGroup, DidPieces};
 
-use crate::group::{Pieces, at_once};
+use crate::group::{Pieces, watched};
 use crate::pieces::Job;
 use pair_table::Missed;
 use quad_nodes::Nodes;
@@ -17,8 +17,11 @@ pub trait Gate {
     /// The piece of this number has ended.
     fn leave(&self, piece: u32);
 
-    /// Does the pieces of a group, of these numbers, at once, each on nodes of its own: all enter, then they work, and
-    /// then all leave. A gate that holds a piece until another comes or goes does this itself.
+    /// Does the pieces of a group, of these numbers, at once, each on nodes of its own: all enter, then they work in
+    /// threads of their own, and then all leave.
+    ///
+    /// A gate that holds a piece until another comes or goes is told of each in the thread of the piece: it is a
+    /// [`Watch`] too, and does its groups by [`watched`].
     fn group<R: Threads>(
         &self,
         rt: &R,
@@ -33,7 +36,7 @@ pub trait Gate {
         'entering: for piece in from..from + count {
             self.enter(piece);
         }
-        let found = at_once(rt, job, nodes, from, count);
+        let found = watched(rt, &NoWatch, job, nodes, from, count);
         'leaving: for piece in from..from + count {
             self.leave(piece);
         }
@@ -51,6 +54,29 @@ impl Gate for OpenGate {
     }
 
     fn leave(&self, piece: u32) {
+        let _ = piece;
+    }
+}
+
+/// Is told of each piece in the piece's own thread, where it may hold it.
+pub trait Watch {
+    /// The piece of this number begins.
+    fn begins(&self, piece: u32);
+
+    /// The piece of this number has ended.
+    fn ends(&self, piece: u32);
+}
+
+/// A watch that holds no piece.
+#[derive(Clone, Copy, Debug)]
+pub(crate) struct NoWatch;
+
+impl Watch for NoWatch {
+    fn begins(&self, piece: u32) {
+        let _ = piece;
+    }
+
+    fn ends(&self, piece: u32) {
         let _ = piece;
     }
 }

@@ -1,9 +1,10 @@
 //! Groups of pieces, those of a group at once, each on a split of the nodes.
 ghost use Rattle.std.specs.Prelude.{◌≤◌, ◌<◌, ◌+◌, ◌-◌};
+ghost use Rattle.std.specs.Thread.{IsSync};
 ghost use Rattle.rel_model.specs.Quads.{Keeper};
 ghost use Rattle.fork_quads.specs.Forks.{CanDo, CanGroup, DidPieces, AreAll, AreMerged, AreBoth};
 
-use crate::gate::Gate;
+use crate::gate::{Gate, Watch};
 use crate::pieces::{Job, piece};
 use pair_table::Missed;
 use quad_nodes::Nodes;
@@ -20,13 +21,16 @@ fn filled(quad: Quad) -> Pieces
     [quad; 64]
 }
 
-/// One piece.
-fn one<'t>(job: Job, nodes: &mut Nodes<'t>, number: u32) -> Result<Pieces, Missed>
+/// One piece, between its beginning and its end.
+fn one<W: Watch>(watch: &W, job: Job, nodes: &mut Nodes, number: u32) -> Result<Pieces, Missed>
     requires can { CanDo nodes.old job }
     requires within { number < 64 }
     ensures { DidPieces nodes.old nodes.new job number (number + 1) result }
 {
-    match piece(nodes, job, number) {
+    watch.begins(number);
+    let answer = piece(nodes, job, number);
+    watch.ends(number);
+    match answer {
         Ok(quad) => Ok(filled(quad)),
         Err(Missed) => Err(Missed),
     }
@@ -44,27 +48,11 @@ fn merged(first: Pieces, second: Pieces, from: u32) -> Pieces
     both
 }
 
-/// A piece for a thread of its own: its number, and nodes for it.
-#[derive(Drop)]
-struct Task<'t> {
-    job: Job,
-    nodes: Nodes<'t>,
-    number: u32,
-}
-
-/// Does the piece of a task.
-fn done(task: &mut Task) -> Result<Pieces, Missed>
-    requires can { CanDo task.old.nodes task.old.job }
-    requires within { task.old.number < 64 }
-    ensures { DidPieces task.old.nodes task.new.nodes task.old.job task.old.number (task.old.number + 1) result }
-{
-    one(task.job, &mut task.nodes, task.number)
-}
-
 /// Does a group of pieces at once, each on nodes of its own: the last in a thread of its own, while the others go on
-/// here the same way.
-pub(crate) fn at_once<R: Threads>(
+/// here the same way. Each piece is told to the watch in its own thread.
+pub fn watched<R: Threads, W: Watch + Sync>(
     rt: &R,
+    watch: &W,
     job: Job,
     nodes: &mut Nodes,
     from: u32,
@@ -74,34 +62,25 @@ pub(crate) fn at_once<R: Threads>(
     ensures { DidPieces nodes.old nodes.new job from (from + count) result }
 {
     if count == 1 {
-        return one(job, nodes, from);
+        return one(watch, job, nodes, from);
     }
     let _ = nodes.bottom();
     let less = count - 1;
-    let mut task = Task {
-        job,
-        nodes: nodes.split(0),
-        number: from + less,
-    };
+    let last = from + less;
+    let mut other = nodes.split(0);
     let (second, first) = join_mut(
         rt,
         &mut || -> Result<Pieces, Missed>
-            requires { CanDo task.nodes task.job × (task.number < 64) }
-            ensures { DidPieces task.entry.nodes task.exit.nodes task.entry.job task.entry.number
-                (task.entry.number + 1) result }
-        { done(&mut task) },
+            requires { IsSync W.row × CanDo other job × (last < 64) }
+            ensures { DidPieces other.entry other.exit job last (last + 1) result }
+        { one(watch, job, &mut other, last) },
         &mut || -> Result<Pieces, Missed>
-            requires { CanGroup nodes.now job from less }
+            requires { IsSync W.row × CanGroup nodes.now job from less }
             ensures { DidPieces nodes.entry.now nodes.exit.now job from (from + less) result }
-        { at_once(rt, job, nodes, from, less) },
+        { watched(rt, watch, job, nodes, from, less) },
     );
-    let Task {
-        job: _,
-        nodes: other,
-        number: _,
-    } = task;
     nodes.join(other);
-    both(first, second, from + less)
+    both(first, second, last)
 }
 
 /// The pieces of two groups as those of one, where both have theirs.

@@ -219,7 +219,7 @@ fn sum_part(
 }
 
 /// The piece of a number.
-pub fn piece(nodes: &mut Nodes, job: Job, number: u32) -> Result<Quad, Missed>
+pub(crate) fn piece(nodes: &mut Nodes, job: Job, number: u32) -> Result<Quad, Missed>
     requires { CanDo nodes.old job }
     ensures value { IfOk result (IsQuad nodes.new (job.a.height - job.cuts)
         (part job.a.height job.cuts number (job_set nodes.old job))) }

@@ -2,4 +2,6 @@
 #![tactic(auto)]
 
 #[cfg(test)]
+mod forks;
+#[cfg(test)]
 mod tests;

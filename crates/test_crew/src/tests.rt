@@ -23,14 +23,20 @@ use std::thread::Threads;
 fn table(rt: &impl Abort, alloc: Global) -> (PairTable, Seat)
     ensures { IsOf result.1 result.0 }
 {
-    match PairTable::make(alloc, 18, 1) {
+    match PairTable::make(alloc, 18, 65) {
         Ok(made) => made,
         Err(_) => panic!(rt; "no memory"),
     }
 }
 
 /// A plain relation of some pseudo-random pairs.
-fn plain_of<P: Core>(rt: &impl Abort, plain: &mut P, shape: Shape, count: u32, seed: u64) -> Rel
+pub(crate) fn plain_of<P: Core>(
+    rt: &impl Abort,
+    plain: &mut P,
+    shape: Shape,
+    count: u32,
+    seed: u64,
+) -> Rel
     requires row { shape.rows ≤ 40 }
     requires col { shape.cols ≤ 40 }
     requires some_row { 0 < shape.rows }
@@ -69,7 +75,7 @@ struct Twin {
 }
 
 /// The answer of an operator that is not refused.
-fn given(rt: &impl Abort, answer: Result<Rel, Lack>) -> Rel
+pub(crate) fn given(rt: &impl Abort, answer: Result<Rel, Lack>) -> Rel
     ensures { answer ≡ Ok result }
 {
     match answer {
@@ -79,7 +85,7 @@ fn given(rt: &impl Abort, answer: Result<Rel, Lack>) -> Rel
 }
 
 /// A relation with one pair more.
-fn with_pair<C: Core>(rt: &impl Abort, core: &mut C, r: Rel, i: u32, j: u32) -> Rel
+pub(crate) fn with_pair<C: Core>(rt: &impl Abort, core: &mut C, r: Rel, i: u32, j: u32) -> Rel
     requires standing { Stands (C.worker core.old) r }
     requires row { i < r.rows }
     requires col { j < r.cols }
@@ -277,7 +283,7 @@ fn numbers_agree<C: Core, P: Core>(
 }
 
 /// Asserts the same of two pseudo-random relations.
-fn random_agree<C: Core, P: Core>(
+pub(crate) fn random_agree<C: Core, P: Core>(
     rt: &impl Abort,
     crew: &mut C,
     plain: &mut P,
@@ -310,7 +316,7 @@ fn random_agree<C: Core, P: Core>(
 }
 
 /// Asserts that both keepers answer the composition of two pseudo-random relations alike.
-fn random_product_agrees<C: Core, P: Core>(
+pub(crate) fn random_product_agrees<C: Core, P: Core>(
     rt: &impl Abort,
     crew: &mut C,
     plain: &mut P,

@@ -1,0 +1,42 @@
+//! Pairs by chance.
+ghost use Rattle.std.specs.Prelude.{◌≤◌, ◌<◌, IfOk};
+ghost use Rattle.rel_model.specs.Listed.{AreWithin};
+
+use std::alloc::{AllocError, Global};
+
+/// The pseudo-random number after another.
+fn next(state: u64) -> u64 {
+    state
+        .wrapping_mul(6364136223846793005)
+        .wrapping_add(1442695040888963407)
+}
+
+/// A number below a bound, by a pseudo-random one.
+fn below(state: u64, bound: u32) -> u32
+    requires { 0 < bound }
+    ensures { result < bound }
+{
+    ((state >> 33) % bound as u64) as u32
+}
+
+/// So many pairs of a square, by chance.
+pub fn random(
+    alloc: Global,
+    side: u32,
+    count: u32,
+    seed: u64,
+) -> Result<Vec<(u32, u32)>, AllocError>
+    requires { 0 < side }
+    ensures { IfOk result (λ v. AreWithin side side v.items) }
+{
+    let mut pairs = Vec::new(alloc);
+    let mut state = seed;
+    'pairs: for _ in 0..count {
+        state = next(state);
+        let row = below(state, side);
+        state = next(state);
+        let col = below(state, side);
+        pairs.push((row, col))?;
+    }
+    Ok(pairs)
+}
