@@ -5,13 +5,12 @@ ghost use Rattle.rel_model.specs.Quads.{Keeper};
 ghost use Rattle.rel_model.specs.Worker.{Worker, Stands, Keeps};
 ghost use Rattle.fork_quads.specs.Forks.{CanGroup, DidPieces};
 
-use crate::tests::{given, plain_of, random_agree, random_product_agrees};
+use crate::tests::{given, with_pair};
 use fork_quads::{Crew, Gate, Job, OpenGate, Pieces, Watch, watched};
 use pair_table::{Missed, PairTable, Seat};
 use quad_nodes::Nodes;
 use rel_model::core_trait::Core;
 use rel_model::{Lack, Rel, Shape};
-use rel_plain::Plain;
 use std::alloc::Global;
 use std::process::Abort;
 use std::sync::atomic::{AtomicBool, AtomicU32, Ordering};
@@ -100,15 +99,71 @@ fn table_for(rt: &impl Abort, alloc: Global, seats: u32) -> (PairTable, Seat)
     }
 }
 
+/// A relation of so many pseudo-random pairs.
+fn scattered<C: Core>(rt: &impl Abort, core: &mut C, shape: Shape, count: u32, seed: u64) -> Rel
+    requires row { shape.rows ≤ 4096 }
+    requires col { shape.cols ≤ 4096 }
+    requires some_row { 0 < shape.rows }
+    requires some_col { 0 < shape.cols }
+    ensures standing { Stands (C.worker core.new) result }
+    ensures rows { result.rows ≡ shape.rows }
+    ensures cols { result.cols ≡ shape.cols }
+    ensures keeps { Keeps (C.worker core.old) (C.worker core.new) }
+{
+    let Ok(mut r) = core.empty(shape) else {
+        panic!(rt; "refused")
+    };
+    let mut state = seed;
+    'pairs: for _ in 0..count {
+        state = state
+            .wrapping_mul(6364136223846793005)
+            .wrapping_add(1442695040888963407);
+        let i = ((state >> 33) % shape.rows as u64) as u32;
+        let j = ((state >> 48) % shape.cols as u64) as u32;
+        r = with_pair(rt, core, r, i, j);
+    }
+    r
+}
+
+/// Asserts laws that tie the five operators on two relations to one another.
+fn fits_together<C: Core>(rt: &impl Abort, core: &mut C, r: Rel, s: Rel)
+    requires r_stands { Stands (C.worker core.old) r }
+    requires s_stands { Stands (C.worker core.old) s }
+    requires square { r.rows ≡ r.cols }
+    requires rows { s.rows ≡ r.rows }
+    requires cols { s.cols ≡ r.cols }
+{
+    let both = given(rt, core.union(r, s));
+    let common = given(rt, core.inter(r, s));
+    let only = given(rt, core.diff(both, s));
+    let rest = given(rt, core.diff(r, common));
+    assert!(rt; core.same(only, rest), "r + s - s is r - (r & s)");
+    let turned = given(rt, core.transpose(r));
+    let back = given(rt, core.transpose(turned));
+    assert!(rt; core.same(back, r), "turned twice");
+    let product = given(rt, core.compose(r, s));
+    let product_turned = given(rt, core.transpose(product));
+    let s_turned = given(rt, core.transpose(s));
+    let turned_product = given(rt, core.compose(s_turned, turned));
+    assert!(rt;
+        core.same(product_turned, turned_product),
+        "the product turned"
+    );
+    assert!(rt; !core.is_empty(both) && !core.is_empty(product));
+}
+
 #[test]
-fn crews_of_several_workers_answer_as_plain_relations(rt: HostRuntime) {
-    'workers: for workers in [2, 3, 4, 8, 64] {
+fn crews_of_several_workers_answer_by_the_laws(rt: HostRuntime) {
+    'workers: for workers in [1, 2, 3, 4, 8, 64] {
         let (table, seat) = table_for(&rt, rt.alloc(), 65);
         let mut crew = Crew::new(&rt, &table, seat, workers, &OpenGate);
-        let mut plain = Plain::new(rt.alloc());
-        let shape = Shape { rows: 33, cols: 40 };
-        random_agree(&rt, &mut crew, &mut plain, shape, 20);
-        random_product_agrees(&rt, &mut crew, &mut plain, 40, 17, 9, 30);
+        let shape = Shape {
+            rows: 2048,
+            cols: 2048,
+        };
+        let r = scattered(&rt, &mut crew, shape, 60, 1);
+        let s = scattered(&rt, &mut crew, shape, 60, 2);
+        fits_together(&rt, &mut crew, r, s);
     }
 }
 
@@ -122,8 +177,14 @@ fn is_met<R: Threads + Abort + Sync>(rt: &R, alloc: Global, seats: u32, workers:
     let (table, seat) = table_for(rt, alloc, seats);
     let meeting = Meeting::new(workers);
     let mut crew = Crew::new(rt, &table, seat, workers, &meeting);
-    let mut plain = Plain::new(alloc);
-    random_product_agrees(rt, &mut crew, &mut plain, 40, 33, 40, 5);
+    let shape = Shape {
+        rows: 2048,
+        cols: 2048,
+    };
+    let r = scattered(rt, &mut crew, shape, 4, 1);
+    let s = scattered(rt, &mut crew, shape, 4, 2);
+    let _ = given(rt, crew.union(r, s));
+    let _ = given(rt, crew.compose(r, s));
     assert!(rt;
         !meeting.gave_up.load(Ordering::SeqCst),
         "a piece waited too long"
@@ -152,4 +213,44 @@ fn nothing_is_forked_with_one_worker_or_too_few_seats(rt: HostRuntime) {
     ] {
         is_met(&rt, rt.alloc(), seats, workers, pieces);
     }
+}
+
+/// Adds pairs of new rows and columns to a relation until the table is full: the last relation that there was room for.
+fn filled<C: Core>(rt: &impl Abort, core: &mut C, shape: Shape) -> Rel
+    requires row { 2048 ≤ shape.rows }
+    requires col { 2048 ≤ shape.cols }
+    requires row_limit { shape.rows ≤ 4096 }
+    requires col_limit { shape.cols ≤ 4096 }
+    ensures standing { Stands (C.worker core.new) result }
+{
+    let mut r = given(rt, core.empty(shape));
+    'pairs: for k in 0..2048 {
+        let Ok(pair) = core.single(shape, k, 2047 - k) else {
+            return r;
+        };
+        let Ok(more) = core.union(r, pair) else {
+            return r;
+        };
+        r = more;
+    }
+    panic!(rt; "never full")
+}
+
+#[test]
+fn a_table_that_fills_refuses_and_keeps_what_stood(rt: HostRuntime) {
+    let Ok((table, seat)) = PairTable::make(rt.alloc(), 10, 65) else {
+        panic!(rt; "no memory")
+    };
+    let mut crew = Crew::new(&rt, &table, seat, 4, &OpenGate);
+    let shape = Shape {
+        rows: 2048,
+        cols: 2048,
+    };
+    let r = filled(&rt, &mut crew, shape);
+    assert!(rt; crew.has(r, 0, 2047) && !crew.has(r, 0, 0));
+    let turned = crew.transpose(r);
+    assert!(rt; matches!(turned, Err(Lack::Full)), "there is no room");
+    assert!(rt; crew.has(r, 1, 2046) && !crew.has(r, 2047, 0));
+    let same = given(&rt, crew.union(r, r));
+    assert!(rt; crew.same(same, r));
 }

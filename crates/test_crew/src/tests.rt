@@ -23,20 +23,14 @@ use std::thread::Threads;
 fn table(rt: &impl Abort, alloc: Global) -> (PairTable, Seat)
     ensures { IsOf result.1 result.0 }
 {
-    match PairTable::make(alloc, 18, 65) {
+    match PairTable::make(alloc, 18, 1) {
         Ok(made) => made,
         Err(_) => panic!(rt; "no memory"),
     }
 }
 
 /// A plain relation of some pseudo-random pairs.
-pub(crate) fn plain_of<P: Core>(
-    rt: &impl Abort,
-    plain: &mut P,
-    shape: Shape,
-    count: u32,
-    seed: u64,
-) -> Rel
+fn plain_of<P: Core>(rt: &impl Abort, plain: &mut P, shape: Shape, count: u32, seed: u64) -> Rel
     requires row { shape.rows ≤ 40 }
     requires col { shape.cols ≤ 40 }
     requires some_row { 0 < shape.rows }
@@ -283,7 +277,7 @@ fn numbers_agree<C: Core, P: Core>(
 }
 
 /// Asserts the same of two pseudo-random relations.
-pub(crate) fn random_agree<C: Core, P: Core>(
+fn random_agree<C: Core, P: Core>(
     rt: &impl Abort,
     crew: &mut C,
     plain: &mut P,
@@ -316,7 +310,7 @@ pub(crate) fn random_agree<C: Core, P: Core>(
 }
 
 /// Asserts that both keepers answer the composition of two pseudo-random relations alike.
-pub(crate) fn random_product_agrees<C: Core, P: Core>(
+fn random_product_agrees<C: Core, P: Core>(
     rt: &impl Abort,
     crew: &mut C,
     plain: &mut P,
