@@ -1,4 +1,6 @@
 //! Crews of several workers: what they answer, and what a gate is told of their pieces.
+#![tactic(auto, using(rel_model::proofs::Workers::keeps_stands, rel_model::proofs::Workers::keeps_trans, rel_model::proofs::Workers::gives_stands))]
+
 ghost use Rattle.std.specs.Prelude.{◌≡◌, ◌<◌, ◌≤◌, ◌+◌};
 ghost use Rattle.rel_model.specs.Views.{IsOf};
 ghost use Rattle.rel_model.specs.Quads.{Keeper};
@@ -222,6 +224,8 @@ fn filled<C: Core>(rt: &impl Abort, core: &mut C, shape: Shape) -> Rel
     requires row_limit { shape.rows ≤ 4096 }
     requires col_limit { shape.cols ≤ 4096 }
     ensures standing { Stands (C.worker core.new) result }
+    ensures rows { result.rows ≡ shape.rows }
+    ensures cols { result.cols ≡ shape.cols }
 {
     let mut r = given(rt, core.empty(shape));
     'pairs: for k in 0..2048 {

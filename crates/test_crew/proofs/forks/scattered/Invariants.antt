@@ -1,0 +1,6 @@
+use Rattle.std.proofs.Common.{◌≡◌}
+use Rattle.rel_model.specs.Worker.{Stands, Keeps}
+use Rattle.test_crew.proofs.forks.scattered.Given as goal
+
+abbrev pub invariant-pairs : goal.invariant-pairs
+invariant-pairs g l = Stands (g.C.Core.worker l.core) l.r × (l.r.rows ≡ l.shape.rows) × (l.r.cols ≡ l.shape.cols) × Keeps (g.C.Core.worker l.fn.core) (g.C.Core.worker l.core)
