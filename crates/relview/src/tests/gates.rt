@@ -1,6 +1,12 @@
 //! Sessions at once, as a gate sees them.
+ghost use Rattle.std.specs.Prelude.{◌+◌};
+ghost use Rattle.rel_model.specs.Quads.{Keeper};
+ghost use Rattle.fork_quads.specs.Forks.{CanGroup, DidPieces};
+
 use super::runs::{assert_written, run_gated};
-use fork_quads::Gate;
+use fork_quads::{Gate, Job, Pieces, Watch, watched};
+use pair_table::Missed;
+use quad_nodes::Nodes;
 use run_model::event::{Act, Event};
 use std::alloc::{AllocError, Global};
 use std::hint::spin_loop;
@@ -23,6 +29,7 @@ const ENDED: u32 = 10;
 struct Holding {
     held: u32,
     awaited: u32,
+    until: u32,
     of_held: AtomicU32,
     of_awaited: AtomicU32,
     of_others: AtomicU32,
@@ -30,11 +37,12 @@ struct Holding {
 }
 
 impl Holding {
-    /// Holds one piece until the other has begun.
-    fn new(held: u32, awaited: u32) -> Holding {
+    /// Holds one piece until so much has been told of the other.
+    fn new(held: u32, awaited: u32, until: u32) -> Holding {
         Holding {
             held,
             awaited,
+            until,
             of_held: AtomicU32::new(0),
             of_awaited: AtomicU32::new(0),
             of_others: AtomicU32::new(0),
@@ -53,10 +61,10 @@ impl Holding {
         }
     }
 
-    /// Waits until the other session has begun, and gives up after so many looks.
+    /// Waits until enough was told of the other, and gives up after so many looks.
     fn hold(&self) {
         for _ in 0..LOOKS {
-            if self.of_awaited.load(Ordering::SeqCst) > 0 {
+            if self.of_awaited.load(Ordering::SeqCst) >= self.until {
                 return;
             }
             spin_loop();
@@ -65,16 +73,37 @@ impl Holding {
     }
 }
 
-impl Gate for Holding {
-    fn enter(&self, piece: u32) {
+impl Watch for Holding {
+    fn begins(&self, piece: u32) {
         let _ = self.count_of(piece).fetch_add(BEGUN, Ordering::SeqCst);
         if piece == self.held {
             self.hold();
         }
     }
 
-    fn leave(&self, piece: u32) {
+    fn ends(&self, piece: u32) {
         let _ = self.count_of(piece).fetch_add(ENDED, Ordering::SeqCst);
+    }
+}
+
+impl Gate for Holding {
+    fn enter(&self, piece: u32) {
+        self.begins(piece);
+    }
+
+    fn leave(&self, piece: u32) {
+        self.ends(piece);
+    }
+
+    fn group<R: Threads>(
+        &self,
+        rt: &R,
+        job: Job,
+        nodes: &mut Nodes,
+        from: u32,
+        count: u32,
+    ) -> Result<Pieces, Missed> {
+        watched(rt, self, job, nodes, from, count)
     }
 }
 
@@ -137,7 +166,7 @@ fn run_held<R: Threads + Wait + Abort + Sync>(
         ("a.rv", b"REL X 1 1 {1:1}. PRINT X.".as_slice()),
         ("b.rv", b"REL X 1 1 {}. PRINT X."),
     ];
-    let gate = Holding::new(held, awaited);
+    let gate = Holding::new(held, awaited, BEGUN);
     let ran = run_gated(rt, alloc, "--history a.rv b.rv", files.as_slice(), &gate)?;
     assert!(rt;
         !gate.gave_up.load(Ordering::SeqCst),
@@ -160,6 +189,28 @@ fn two_sessions_go_on_at_once_and_print_what_the_history_says(rt: HostRuntime) -
     'times: for _ in 0..TIMES {
         run_held(&rt, alloc, 1_000_001, 1_000_002)?;
         run_held(&rt, alloc, 1_000_002, 1_000_001)?;
+    }
+    Ok(())
+}
+
+#[test]
+fn two_workers_of_a_session_are_at_work_at_once(rt: HostRuntime) -> Result<(), Fail> {
+    let alloc = rt.alloc();
+    let files = [(
+        "a.rv",
+        b"REL A 1048576 1048576 {}. COUNT L(A)*L(A).".as_slice(),
+    )];
+    'times: for _ in 0..TIMES {
+        let gate = Holding::new(0, 1, BEGUN + ENDED);
+        let ran = run_gated(&rt, alloc, "--workers 2 a.rv", files.as_slice(), &gate)?;
+        assert!(rt;
+            !gate.gave_up.load(Ordering::SeqCst),
+            "the first piece was held too long"
+        );
+        assert_eq!(rt; gate.of_held.load(Ordering::SeqCst), BEGUN + ENDED);
+        assert_eq!(rt; gate.of_awaited.load(Ordering::SeqCst), BEGUN + ENDED);
+        assert_eq!(rt; gate.of_others.load(Ordering::SeqCst), 3 * (BEGUN + ENDED));
+        assert_written(&rt, &ran, "1.2: 1099511627776\n", 0, "two workers")?;
     }
     Ok(())
 }
