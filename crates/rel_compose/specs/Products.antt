@@ -4,6 +4,9 @@ use Rattle.rel_model.specs.declared.Quad.{Quad}
 use Rattle.rel_model.specs.Cells.{Cells, cells_union, cells_compose}
 use Rattle.rel_model.specs.Equations.{side_of}
 use Rattle.rel_model.specs.Quads.{Keeper, quad_cells, QuadStands, IsQuad, quad_room, compose_room}
+use Rattle.bit_rows.specs.Rows.{rows_cells}
+use Rattle.bit_rows.specs.Places.{window}
+use Rattle.row_quads.specs.declared.squares.Squares.{Squares}
 
 -- two quads of one height stand
 pub record BothStand (w : Keeper) (height : ℕ) (pair : Quad × Quad) : Type 0 where
@@ -35,3 +38,11 @@ quarter_room height = compose_room height + compose_room height + quad_room heig
 pub record IsHalf (first second : Quad × Quad) (place half : ℕ) (pair : Quad × Quad) (rest : ℕ) : Type 0 where
   pub which : ((place < half) × (pair ≡ first) × (rest ≡ place))
       ⊎ ((half ≤ place) × (pair ≡ second) × (rest ≡ place - half))
+
+-- to four squares of rows the cells of a set were added that are within 512 rows and columns, from a row and a column
+-- on: to each square those of its 256
+pub record AddsWindows (old new : Squares) (row col : ℕ) (f : Cells) : Type 0 where
+  pub nw : rows_cells new.nw ≡ cells_union (rows_cells old.nw) (window row col 256 f)
+  pub ne : rows_cells new.ne ≡ cells_union (rows_cells old.ne) (window row (col + 256) 256 f)
+  pub sw : rows_cells new.sw ≡ cells_union (rows_cells old.sw) (window (row + 256) col 256 f)
+  pub se : rows_cells new.se ≡ cells_union (rows_cells old.se) (window (row + 256) (col + 256) 256 f)

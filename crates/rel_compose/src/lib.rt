@@ -7,6 +7,8 @@ mod product;
 mod rows;
 mod sums;
 mod transpose;
+mod window;
 
 pub use compose::{compose_by_quarters, compose_quads};
 pub use transpose::transpose_quad;
+pub use window::{compose_window, goes_by_sums};

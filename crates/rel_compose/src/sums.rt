@@ -1,20 +1,21 @@
 //! The composition of two large squares: the partial products of each square of 256 rows and columns are summed in
 //! rows of bits, and only their sum is named.
-ghost use Rattle.std.specs.Prelude.{◌≡◌, ◌<◌, ◌≤◌, ◌+◌, ◌%◌, length, IfOk};
+ghost use Rattle.std.specs.Prelude.{◌≡◌, ◌<◌, ◌≤◌, ◌+◌, ◌%◌, true, length, IfOk};
 ghost use Rattle.rel_model.specs.Cells.{cells_union, cells_compose};
 ghost use Rattle.rel_model.specs.Trees.{top_height};
 ghost use Rattle.rel_model.specs.Equations.{side_of};
 ghost use Rattle.rel_model.specs.Quads.{Keeper, QuadStands, IsQuad, quad_cells, KeepsQuads, ReadsQuads, Counts, quad_room, compose_room};
 ghost use Rattle.bit_rows.specs.Rows.{rows_cells};
 ghost use Rattle.bit_rows.specs.Places.{window};
-ghost use Rattle.rel_compose.specs.Products.{IsHalf};
+ghost use Rattle.row_quads.specs.Adding.{AreWhole};
+ghost use Rattle.rel_compose.specs.Products.{IsHalf, AddsWindows};
 
 use bit_rows::{Row, no_rows};
 use memo_laws::Op;
 use pair_table::Missed;
 use quad_nodes::{Nodes, side_of_height};
 use rel_model::Quad;
-use row_quads::{add_product, gather_quad};
+use row_quads::{Squares, add_four_products, add_product, gather_quad};
 
 /// The half of two in which a place lies, and the place within it.
 fn half_at(first: (Quad, Quad), second: (Quad, Quad), place: u32, half: u32) -> ((Quad, Quad), u32)
@@ -84,8 +85,86 @@ fn sum_at(nodes: &mut Nodes, a: Quad, b: Quad, row: u32, col: u32) -> Result<Qua
     gather_quad(nodes, &z, 8, 0, 0)
 }
 
+/// Adds to four squares of rows the cells of a composition within 512 rows and columns, from a row and a column on.
+fn add_to_squares(nodes: &mut Nodes, a: Quad, b: Quad, row: u32, col: u32, z: &mut Squares)
+    requires a_stands { QuadStands nodes.old a }
+    requires b_stands { QuadStands nodes.old b }
+    requires one_height { b.height ≡ a.height }
+    requires tall { 9 ≤ a.height }
+    requires row_on { row % 512 ≡ 0 }
+    requires col_on { col % 512 ≡ 0 }
+    requires row_in { row < side_of a.height }
+    requires col_in { col < side_of a.height }
+    requires z_whole { AreWhole z.old }
+    ensures whole { AreWhole z.new }
+    ensures cells { AddsWindows z.old z.new row col
+        (cells_compose (side_of a.height) (quad_cells nodes.old a) (quad_cells nodes.old b)) }
+    ensures reads { ReadsQuads nodes.old nodes.new }
+{
+    let _ = nodes.bottom();
+    if a.name == 0 {
+        return;
+    }
+    if b.name == 0 {
+        return;
+    }
+    let (fa, fb) = nodes.quarters_of_both(a, b);
+    if a.height == 9 {
+        add_four_products(nodes, (fa.0, fa.2), (fb.0, fb.1), z);
+        add_four_products(nodes, (fa.1, fa.3), (fb.2, fb.3), z);
+        return;
+    }
+    let half = side_of_height(a.height - 1);
+    let (left, inner_row) = half_at((fa.0, fa.1), (fa.2, fa.3), row, half);
+    let (right, inner_col) = half_at((fb.0, fb.2), (fb.1, fb.3), col, half);
+    add_to_squares(nodes, left.0, right.0, inner_row, inner_col, z);
+    add_to_squares(nodes, left.1, right.1, inner_row, inner_col, z);
+}
+
+/// The quad of a composition's cells within 512 rows and columns, from a row and a column on.
+///
+/// The rows are on the stack, 32 KB, so this is a call of its own.
+#[inline(never)]
+#[tactic(auto, using(crate::proofs::Summing::eight_low, crate::proofs::Summing::eight_high, crate::proofs::Summing::eight_small))]
+fn four_sums_at(nodes: &mut Nodes, a: Quad, b: Quad, row: u32, col: u32) -> Result<Quad, Missed>
+    requires a_stands { QuadStands nodes.old a }
+    requires b_stands { QuadStands nodes.old b }
+    requires one_height { b.height ≡ a.height }
+    requires tall { 9 ≤ a.height }
+    requires row_on { row % 512 ≡ 0 }
+    requires col_on { col % 512 ≡ 0 }
+    requires row_in { row < side_of a.height }
+    requires col_in { col < side_of a.height }
+    ensures value { IfOk result (IsQuad nodes.new 9 (window row col (side_of 9)
+        (cells_compose (side_of a.height) (quad_cells nodes.old a) (quad_cells nodes.old b)))) }
+    ensures keeps { KeepsQuads (quad_room 9) nodes.old nodes.new }
+    ensures counts { Counts nodes.old nodes.new result }
+{
+    let mut z = Squares {
+        nw: no_rows(),
+        ne: no_rows(),
+        sw: no_rows(),
+        se: no_rows(),
+    };
+    add_to_squares(nodes, a, b, row, col, &mut z);
+    let nw = gather_quad(nodes, &z.nw, 8, 0, 0)?;
+    let ne = gather_quad(nodes, &z.ne, 8, 0, 0)?;
+    let sw = gather_quad(nodes, &z.sw, 8, 0, 0)?;
+    let se = gather_quad(nodes, &z.se, 8, 0, 0)?;
+    nodes.corner(nw, ne, sw, se)
+}
+
+/// Whether a square of a height from a row and a column on is one of 512 rows at a multiple of them.
+fn is_by_512(height: u8, row: u32, col: u32) -> bool
+    ensures nine { result ≡ true → height ≡ 9 }
+    ensures row_on { result ≡ true → row % 512 ≡ 0 }
+    ensures col_on { result ≡ true → col % 512 ≡ 0 }
+{
+    height == 9 && row % 512 == 0 && col % 512 == 0
+}
+
 /// The quad of a height of a composition's cells from a row and a column on.
-fn summed_quad(
+pub(crate) fn summed_quad(
     nodes: &mut Nodes,
     a: Quad,
     b: Quad,
@@ -110,6 +189,9 @@ fn summed_quad(
     let _ = nodes.bottom();
     if height == 8 {
         return sum_at(nodes, a, b, row, col);
+    }
+    if is_by_512(height, row, col) {
+        return four_sums_at(nodes, a, b, row, col);
     }
     let half = side_of_height(height - 1);
     let nw = summed_quad(nodes, a, b, height - 1, row, col)?;

@@ -1,47 +1,18 @@
--- Rows that hold a quad alone, and the window of a composition.
-use Rattle.std.proofs.Common.{◌≡◌, ◌<◌, ◌≤◌, ◌+◌, ◌-◌, ◌&&◌, ◌||◌, ◌⊎◌, leb, ltb, ℕ, Bool, true, false, Result, Ok, Err, IfOk, sym, ap, subst, ◌∙◌, inl, inr, arith}
-use Rattle.std.proofs.lemmas.Bool.{cases_lt, lt-ltb, le-ltb, le-leb, ltb-true, and_left, and_right, and_parts, and_from}
+-- The window of a composition of two quads, on rows that hold each of them alone.
+use Rattle.std.proofs.Common.{◌≡◌, ◌≤◌, ◌&&◌, ℕ, Result, IfOk, ap, subst, ◌∙◌, arith}
+use Rattle.std.proofs.lemmas.Bool.{and_parts}
 use Rattle.rel_model.specs.declared.Quad.{Quad}
 use Rattle.rel_model.specs.Cells.{Cells, no_cells, cells_union, cells_compose}
 use Rattle.rel_model.specs.Equations.{side_of}
 use Rattle.rel_model.specs.Quads.{Keeper, quad_cells, QuadStands, IsQuad, ReadsQuads}
-use Rattle.rel_model.proofs.TreeLaws.{Within, out_of, same_cells}
+use Rattle.rel_model.proofs.TreeLaws.{Within, same_cells}
 use Rattle.rel_model.proofs.Somes.{some_beyond, some_passes}
 use Rattle.rel_model.proofs.QuadLaws.{quad_cells-stay}
 use Rattle.bit_rows.specs.Places.{placed, window}
+use Rattle.bit_rows.proofs.Windows.{spilled_alone, window_whole}
 use Rattle.quad_nodes.specs.Finding.{FindsQuad}
-use Rattle.bit_rows.specs.Closing.{IsClosure}
-use Rattle.row_quads.specs.Closing.{IsClosed}
 use Rattle.row_quads.proofs.Placing.{quad_within}
 use Rattle.row_quads.proofs.Finding.{found_next}
-
-alone : (z f : Cells) → z ≡ no_cells → cells_union z (placed 0 0 f) ≡ f
-alone z f e = ap (λ (y : Cells). cells_union y (placed 0 0 f)) e ∙ same_cells _ _ (λ i j. first i j)
-  where
-    first : (i j : ℕ) → (false || placed 0 0 f i j) ≡ f i j
-    first i j =
-        let a : i - 0 ≡ i = omega arith in
-        let b : j - 0 ≡ j = omega arith in
-        ap (λ (t : Bool). t && (leb 0 j && f (i - 0) (j - 0))) (le-leb 0 i (omega arith))
-        ∙ ap (λ (t : Bool). t && f (i - 0) (j - 0)) (le-leb 0 j (omega arith))
-        ∙ ap (λ (k : ℕ). f k (j - 0)) a ∙ ap (λ (k : ℕ). f i k) b
-
-pub spilled_alone : (z y f : Cells) → z ≡ no_cells → y ≡ cells_union z (placed 0 0 f) → y ≡ f
-spilled_alone z y f e g = g ∙ alone z f e
-
--- a set within a square is its own window
-pub window_whole : (m : ℕ) (f : Cells) → Within m m f → window 0 0 m f ≡ f
-window_whole m f w = same_cells _ _ (λ i j. here i j (cases_lt i m) (cases_lt j m))
-  where
-    here : (i j : ℕ) → ((i < m) ⊎ (m ≤ i)) → ((j < m) ⊎ (m ≤ j)) → window 0 0 m f i j ≡ f i j
-    here i j (inl p) (inl q) =
-        let a : 0 + i ≡ i = omega arith in
-        let b : 0 + j ≡ j = omega arith in
-        ap (λ (t : Bool). t && (ltb j m && f (0 + i) (0 + j))) (lt-ltb i m p)
-        ∙ ap (λ (t : Bool). t && f (0 + i) (0 + j)) (lt-ltb j m q)
-        ∙ ap (λ (k : ℕ). f k (0 + j)) a ∙ ap (λ (k : ℕ). f i k) b
-    here i j (inr p) q = and_left (ltb i m) (ltb j m && f (0 + i) (0 + j)) (le-ltb i m p) ∙ sym (out_of m m f w i j (inl p))
-    here i j (inl p) (inr q) = and_right (ltb i m) (ltb j m && f (0 + i) (0 + j)) (and_left (ltb j m) (f (0 + i) (0 + j)) (le-ltb j m q)) ∙ sym (out_of m m f w i j (inr q))
 
 -- no middle element is beyond the sides
 pub fewer_middles : (m n : ℕ) (f g : Cells) → m ≤ n → Within m m f → cells_compose n f g ≡ cells_compose m f g
@@ -86,27 +57,3 @@ same_value w h f g r e i = subst (λ (c : Cells). IfOk r (IsQuad w h c)) e i
 
 pub same_found : {E : Type 0} (u v w : Keeper) (h : ℕ) (f g : Cells) (r : Result Quad E) → f ≡ g → ReadsQuads u v → FindsQuad v w h f r → FindsQuad u w h g r
 same_found u v w h f g r e k p q i = found_next u v w h g q r k i (subst (λ (c : Cells). FindsQuad v w h c r) e p)
-
--- ---- the closure
--- the rows and columns of a set, as a set that is transitive
-closure_within : (m : ℕ) (f g : Cells) → Within m m f → IsClosure f g → Within m m g
-closure_within m f g w c = record {
-  row = λ i j h. ltb-true i m (and_parts _ _ (all i j h)).0;
-  col = λ i j h. ltb-true j m (and_parts _ _ (all i j h)).1;
-}
-  where
-    all : (i j : ℕ) → g i j ≡ true → (ltb i m && ltb j m) ≡ true
-    all = c.least (λ i j. ltb i m && ltb j m)
-        (λ i j e. and_from (ltb i m) (ltb j m) (lt-ltb i m (w.row i j e)) (lt-ltb j m (w.col i j e)))
-        (λ i k j p q. and_from (ltb i m) (ltb j m) (and_parts (ltb i m) (ltb k m) p).0 (and_parts (ltb k m) (ltb j m) q).1)
-
-pub closed_by_rows : {E : Type 0} (s0 w : Keeper) (a : Quad) (x0 x y : Cells) (r : Result Quad E) → x0 ≡ no_cells → x ≡ cells_union x0 (placed 0 0 (quad_cells s0 a)) → IsClosure x y
-    → IfOk r (IsQuad w a.height (window 0 0 (side_of a.height) y)) → IfOk r (IsClosed w a.height (quad_cells s0 a))
-closed_by_rows s0 w a x0 x y (Err e) ex sx c i = tt
-closed_by_rows s0 w a x0 x y (Ok q) ex sx c i =
-    let d : IsClosure (quad_cells s0 a) y = subst (λ (f : Cells). IsClosure f y) (spilled_alone x0 x (quad_cells s0 a) ex sx) c in
-    record {
-      cells = y;
-      closure = d;
-      is = subst (λ (f : Cells). IsQuad w a.height f q) (window_whole (side_of a.height) y (closure_within (side_of a.height) (quad_cells s0 a) y (quad_within s0 a) d)) i;
-    }

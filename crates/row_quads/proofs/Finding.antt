@@ -11,7 +11,8 @@ use Rattle.rel_model.proofs.QuadLaws.{side_of-next, is_quad-stays, reads_on}
 use Rattle.quad_nodes.specs.Finding.{Finds, FindsQuad}
 use Rattle.quad_nodes.proofs.Finding.{QuartersStood, quarters_stood}
 use Rattle.bit_rows.specs.Places.{window}
-use Rattle.row_quads.proofs.Placing.{window-quartered, side_of-bottom}
+use Rattle.bit_rows.proofs.Windows.{window-quartered}
+use Rattle.row_quads.proofs.Placing.{side_of-bottom}
 
 window_within : (r c m : ℕ) (f : Cells) → Within m m (window r c m f)
 window_within r c m f = record {

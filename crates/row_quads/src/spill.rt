@@ -3,13 +3,99 @@ ghost use Rattle.std.specs.Prelude.{◌≡◌, ◌<◌, ◌≤◌, ◌+◌, ◌%
 ghost use Rattle.rel_model.specs.Cells.{cells_union};
 ghost use Rattle.rel_model.specs.Trees.{bottom_height};
 ghost use Rattle.rel_model.specs.Equations.{side_of};
-ghost use Rattle.rel_model.specs.Quads.{Keeper, QuadStands, quad_cells, ReadsQuads};
+ghost use Rattle.rel_model.specs.Quads.{Keeper, QuadStands, AreQuarters, quad_cells, ReadsQuads};
 ghost use Rattle.bit_rows.specs.Rows.{rows_cells};
 ghost use Rattle.bit_rows.specs.Places.{placed};
 
 use bit_rows::{Row, add_block};
 use quad_nodes::{Nodes, side_of_height};
 use rel_model::Quad;
+
+/// Adds the cells of a block to rows, from a row and a column on.
+fn spill_block(nodes: &mut Nodes, q: Quad, z: &mut [Row], row: usize, col: usize)
+    requires stands { QuadStands nodes.old q }
+    requires block { q.height ≡ bottom_height }
+    requires z_len { length z.old ≡ 256 }
+    requires row_in { row + side_of q.height ≤ 256 }
+    requires col_in { col + side_of q.height ≤ 256 }
+    requires col_on { col % 8 ≡ 0 }
+    ensures len { length z.new ≡ 256 }
+    ensures cells { rows_cells z.new ≡ cells_union (rows_cells z.old) (placed row col (quad_cells nodes.old q)) }
+    ensures reads { ReadsQuads nodes.old nodes.new }
+{
+    let _ = nodes.bottom();
+    if q.name == 0 {
+        return;
+    }
+    let bits = nodes.bits(q);
+    add_block(z, bits, row, col);
+}
+
+/// Adds the cells of a quad whose quarters are blocks.
+fn spill_blocks(
+    nodes: &mut Nodes,
+    q: Quad,
+    four: (Quad, Quad, Quad, Quad),
+    z: &mut [Row],
+    row: usize,
+    col: usize,
+)
+    requires stands { QuadStands nodes.old q }
+    requires quarters { AreQuarters nodes.old nodes.old q four }
+    requires blocks { four.0.height ≡ bottom_height }
+    requires z_len { length z.old ≡ 256 }
+    requires row_in { row + side_of q.height ≤ 256 }
+    requires col_in { col + side_of q.height ≤ 256 }
+    requires col_on { col % 8 ≡ 0 }
+    ensures len { length z.new ≡ 256 }
+    ensures cells { rows_cells z.new ≡ cells_union (rows_cells z.old) (placed row col (quad_cells nodes.old q)) }
+    ensures reads { ReadsQuads nodes.old nodes.new }
+{
+    let half = side_of_height(four.0.height) as usize;
+    spill_block(nodes, four.0, z, row, col);
+    spill_block(nodes, four.1, z, row, col + half);
+    spill_block(nodes, four.2, z, row + half, col);
+    spill_block(nodes, four.3, z, row + half, col + half);
+}
+
+/// Adds the cells of a quad whose quarters are known. The words of all four are read before any of them is written, so
+/// that these reads need not wait for one another.
+fn spill_quarters(
+    nodes: &mut Nodes,
+    q: Quad,
+    four: (Quad, Quad, Quad, Quad),
+    z: &mut [Row],
+    row: usize,
+    col: usize,
+)
+    requires stands { QuadStands nodes.old q }
+    requires quarters { AreQuarters nodes.old nodes.old q four }
+    requires z_len { length z.old ≡ 256 }
+    requires row_in { row + side_of q.height ≤ 256 }
+    requires col_in { col + side_of q.height ≤ 256 }
+    requires col_on { col % 8 ≡ 0 }
+    ensures len { length z.new ≡ 256 }
+    ensures cells { rows_cells z.new ≡ cells_union (rows_cells z.old) (placed row col (quad_cells nodes.old q)) }
+    ensures reads { ReadsQuads nodes.old nodes.new }
+{
+    let bottom = nodes.bottom();
+    if q.name == 0 {
+        return;
+    }
+    if four.0.height == bottom {
+        spill_blocks(nodes, q, four, z, row, col);
+        return;
+    }
+    let half = side_of_height(four.0.height) as usize;
+    let of_nw = nodes.quarters(four.0);
+    let of_ne = nodes.quarters(four.1);
+    let of_sw = nodes.quarters(four.2);
+    let of_se = nodes.quarters(four.3);
+    spill_quarters(nodes, four.0, of_nw, z, row, col);
+    spill_quarters(nodes, four.1, of_ne, z, row, col + half);
+    spill_quarters(nodes, four.2, of_sw, z, row + half, col);
+    spill_quarters(nodes, four.3, of_se, z, row + half, col + half);
+}
 
 /// Adds the cells of a quad to rows, from a row and a column on.
 pub fn spill_quad(nodes: &mut Nodes, q: Quad, z: &mut [Row], row: usize, col: usize)
@@ -23,18 +109,10 @@ pub fn spill_quad(nodes: &mut Nodes, q: Quad, z: &mut [Row], row: usize, col: us
     ensures reads { ReadsQuads nodes.old nodes.new }
 {
     let bottom = nodes.bottom();
-    if q.name == 0 {
-        return;
-    }
     if q.height == bottom {
-        let bits = nodes.bits(q);
-        add_block(z, bits, row, col);
+        spill_block(nodes, q, z, row, col);
         return;
     }
-    let (nw, ne, sw, se) = nodes.quarters(q);
-    let half = side_of_height(nw.height) as usize;
-    spill_quad(nodes, nw, z, row, col);
-    spill_quad(nodes, ne, z, row, col + half);
-    spill_quad(nodes, sw, z, row + half, col);
-    spill_quad(nodes, se, z, row + half, col + half);
+    let four = nodes.quarters(q);
+    spill_quarters(nodes, q, four, z, row, col);
 }

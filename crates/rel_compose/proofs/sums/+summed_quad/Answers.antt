@@ -5,7 +5,7 @@ use Rattle.rel_model.specs.Equations.{side_of}
 use Rattle.rel_model.specs.Quads.{quad_cells, quad_room}
 use Rattle.rel_model.proofs.QuadLaws.{keeps_on, keeps_most, quad_stays, rooms-next, side_of-next}
 use Rattle.row_quads.proofs.Placing.{gathered_value}
-use Rattle.rel_compose.proofs.Summing.{low_at, side_of_by_256, product_later, window_quad, eight_value, eight_keeps, eight_in, side_most}
+use Rattle.rel_compose.proofs.Summing.{low_at, side_of_by_256, product_later, window_quad, eight_value, eight_keeps, eight_in, side_most, nine_value, nine_keeps, nine_in}
 use Rattle.rel_compose.proofs.sums.+summed_quad.Goals as goal
 
 pub summed_quad-requires : goal.summed_quad-requires
@@ -273,3 +273,19 @@ overflow_add-col-2 t c =
     let i = c.requires.col_in in
     let b = side_most c.args.a.height c.requires.a_stands.low c.requires.a_stands.high in
     omega arith
+
+-- squares of 512 rows
+pub returns-then-is_by_512-clause-value : goal.returns-then-is_by_512-clause-value
+returns-then-is_by_512-clause-value t c = nine_value c.four_sums_at.new.nodes c.args.height c.args.row c.args.col (cells_compose (side_of c.args.a.height) (quad_cells c.args.nodes.now c.args.a) (quad_cells c.args.nodes.now c.args.b)) c.four_sums_at.result (c.is_by_512.ensures.nine c.if-is_by_512.true) c.four_sums_at.ensures.value
+
+pub returns-then-is_by_512-clause-keeps : goal.returns-then-is_by_512-clause-keeps
+returns-then-is_by_512-clause-keeps t c = nine_keeps c.args.height c.args.nodes.now c.four_sums_at.new.nodes (c.is_by_512.ensures.nine c.if-is_by_512.true) c.four_sums_at.ensures.keeps
+
+pub four_sums_at-requires-clause-tall : goal.four_sums_at-requires-clause-tall
+four_sums_at-requires-clause-tall t c = let e = c.is_by_512.ensures.nine c.if-is_by_512.true in let l = c.requires.within in omega arith
+
+pub four_sums_at-requires-clause-row_in : goal.four_sums_at-requires-clause-row_in
+four_sums_at-requires-clause-row_in t c = nine_in c.args.height c.args.row (side_of c.args.a.height) (c.is_by_512.ensures.nine c.if-is_by_512.true) c.requires.row_in
+
+pub four_sums_at-requires-clause-col_in : goal.four_sums_at-requires-clause-col_in
+four_sums_at-requires-clause-col_in t c = nine_in c.args.height c.args.col (side_of c.args.a.height) (c.is_by_512.ensures.nine c.if-is_by_512.true) c.requires.col_in

@@ -1,0 +1,50 @@
+//! A square of a composition by itself, without the others.
+ghost use Rattle.std.specs.Prelude.{◌≡◌, ◌≤◌, ◌+◌, ◌%◌, true, IfOk};
+ghost use Rattle.rel_model.specs.Cells.{cells_compose};
+ghost use Rattle.rel_model.specs.Equations.{side_of};
+ghost use Rattle.rel_model.specs.Quads.{Keeper, QuadStands, IsQuad, quad_cells, KeepsQuads, ReadsQuads, Counts, quad_room};
+ghost use Rattle.bit_rows.specs.Places.{window};
+
+use crate::dense::{TALLEST, sums_pay};
+use crate::sums::summed_quad;
+use pair_table::Missed;
+use quad_nodes::Nodes;
+use rel_model::Quad;
+
+/// Whether the composition of two quads of one height goes by sums of rows: both have many different dense squares of
+/// 256 rows and columns.
+pub fn goes_by_sums(nodes: &mut Nodes, a: Quad, b: Quad) -> bool
+    requires a_stands { QuadStands nodes.old a }
+    requires b_stands { QuadStands nodes.old b }
+    requires one_height { b.height ≡ a.height }
+    ensures tall { result ≡ true → 8 ≤ a.height }
+    ensures reads { ReadsQuads nodes.old nodes.new }
+{
+    sums_pay(nodes, a, b, TALLEST)
+}
+
+/// The quad of a height of a composition's cells from a row and a column on, by sums of rows. Nothing is noted.
+pub fn compose_window(
+    nodes: &mut Nodes,
+    a: Quad,
+    b: Quad,
+    height: u8,
+    row: u32,
+    col: u32,
+) -> Result<Quad, Missed>
+    requires a_stands { QuadStands nodes.old a }
+    requires b_stands { QuadStands nodes.old b }
+    requires one_height { b.height ≡ a.height }
+    requires tall { 8 ≤ height }
+    requires within { height ≤ a.height }
+    requires row_on { row % 256 ≡ 0 }
+    requires col_on { col % 256 ≡ 0 }
+    requires row_in { row + side_of height ≤ side_of a.height }
+    requires col_in { col + side_of height ≤ side_of a.height }
+    ensures value { IfOk result (IsQuad nodes.new height (window row col (side_of height)
+        (cells_compose (side_of a.height) (quad_cells nodes.old a) (quad_cells nodes.old b)))) }
+    ensures keeps { KeepsQuads (quad_room height) nodes.old nodes.new }
+    ensures counts { Counts nodes.old nodes.new result }
+{
+    summed_quad(nodes, a, b, height, row, col)
+}
