@@ -1,0 +1,186 @@
+-- The closure by rows of bits, as a worker of quads gives it.
+-- 1. A spill adds the cells of a quad to rows: those of its quarters in their places, or those of its block.
+-- 2. A gathering makes the quad of a window of rows: the corner of the quads of its quarters, or a block, or the quad named 0.
+-- 3. The rows of a quad alone, closed, hold the least transitive set over its cells, which lies within its square and is its closure.
+-- 4. One tree has room where a closure has.
+use Rattle.std.proofs.Common.{◌≡◌, ◌<◌, ◌≤◌, ◌+◌, ◌-◌, ◌*◌, ◌%◌, ◌^◌, ◌∙◌, suc, ℕ, Some, refl, sym, ap, subst, arith}
+use Rattle.std.specs.Prelude.{unwrap_or}
+use Rattle.std.proofs.Math.Nat.{pow-suc, one-le-pow, pow-le-pow_left, pow-le-pow_right}
+use Rattle.rel_model.specs.declared.Quad.{Quad}
+use Rattle.rel_model.specs.Cells.{Cells, no_cells, cells_union, block_cells, bits_cells}
+use Rattle.rel_model.specs.Trees.{top_height, quartered}
+use Rattle.rel_model.specs.Quarters.{LiesWithin, GivesQuarters}
+use Rattle.rel_model.specs.Roots.{tree_room}
+use Rattle.rel_model.specs.Worker.{Worker, HasQuad, quad_set, GivesQuad, Keeps}
+use Rattle.rel_model.proofs.TreeLaws.{Within}
+use Rattle.rel_model.proofs.Workers.{keeps_itself, keeps_trans}
+use Rattle.bit_rows.specs.Places.{placed, window}
+use Rattle.bit_rows.specs.Closing.{IsClosure}
+use Rattle.bit_rows.proofs.Windows.{four_placed, window-quartered, union_none, spilled_alone, window_whole, closure_within}
+use Rattle.rel_closure.specs.ByQuarters.{cells_closure}
+use Rattle.rel_closure.specs.Reading.{OnlyReads}
+use Rattle.rel_closure.proofs.Quartering.{one_closure, closure_is}
+use Rattle.rel_closure.proofs.OverQuads.{gives_quad_set, gives_has, kept_set, double_side}
+
+-- ---- sides
+pub side_by_8 : (h : ℕ) → 3 ≤ h → 2 ^ h % 8 ≡ 0
+side_by_8 h l =
+    let a = double_side (h - 1) h (omega (arith, l)) in
+    let b = double_side (h - 2) (h - 1) (omega (arith, l)) in
+    let c = double_side (h - 3) (h - 2) (omega (arith, l)) in
+    omega (arith, a, b, c)
+
+-- half a side over blocks is whole blocks
+pub half_on : (least h m : ℕ) → least ≡ 3 → least ≤ h → m ≡ 2 ^ h → m % 8 ≡ 0
+half_on least h m e l f = ap (λ (x : ℕ). x % 8) f ∙ side_by_8 h (omega (arith, e, l))
+
+-- heights of rows
+pub below_top : (h : ℕ) → h ≤ 8 → h ≤ top_height
+unfolding top_height
+below_top h l = omega (arith, l)
+
+pub under_top : (k h : ℕ) → k ≡ h - 1 → 3 ≤ h → h ≤ 8 → k < top_height
+unfolding top_height
+under_top k h e l m = omega (arith, e, l, m)
+
+within_square : (m : ℕ) (f : Cells) → LiesWithin m m f → Within m m f
+within_square m f w = record { row = w.row; col = w.col }
+
+-- ---- calls that only read
+pub reads_itself : (w : Worker) → OnlyReads w w
+reads_itself w = record { keeps = keeps_itself w; room = omega arith; misses = refl }
+
+pub reads_on : (u v w : Worker) → OnlyReads u v → OnlyReads v w → OnlyReads u w
+reads_on u v w s t = record {
+  keeps = keeps_trans u v w s.keeps t.keeps;
+  room = (let a = s.room in let b = t.room in omega (arith, a, b));
+  misses = t.misses ∙ s.misses;
+}
+
+-- five calls
+pub reads_five : (s t u v w x : Worker) → OnlyReads s t → OnlyReads t u → OnlyReads u v → OnlyReads v w → OnlyReads w x → OnlyReads s x
+reads_five s t u v w x a b c d e = reads_on s t x a (reads_on t u x b (reads_on u v x c (reads_on v w x d e)))
+
+-- ---- the steps of a spill
+pub spilled_none : (w : Worker) (q : Quad) (r c : ℕ) (z : Cells) → w.quad (record { height = q.height; name = 0 }) ≡ Some no_cells → q.name ≡ 0 → z ≡ cells_union z (placed r c (quad_set w q))
+spilled_none w q r c z e n =
+    let m : w.quad q ≡ Some no_cells = ap (λ (k : ℕ). w.quad (record { height = q.height; name = k })) n ∙ e in
+    union_none z (quad_set w q) r c (ap (λ o. unwrap_or o no_cells) m)
+
+pub spilled_block : (w : Worker) (q : Quad) (least bits r c : ℕ) (z y : Cells) → least ≡ 3 → bits_cells (2 ^ least) bits ≡ quad_set w q → y ≡ cells_union z (placed r c (block_cells bits)) → y ≡ cells_union z (placed r c (quad_set w q))
+spilled_block w q least bits r c z y l e f =
+    let same : block_cells bits ≡ quad_set w q = ap (λ (k : ℕ). bits_cells (2 ^ k) bits) (sym l) ∙ e in
+    f ∙ ap (λ (g : Cells). cells_union z (placed r c g)) same
+
+pub spilled_four : (w0 w1 w2 w3 w4 : Worker) (q : Quad) (four : Quad × Quad × Quad × Quad) (r c m : ℕ) (z0 z1 z2 z3 z4 : Cells)
+    → GivesQuarters w0 w1 q four → ((p : Quad) → HasQuad w1 p → LiesWithin (2 ^ p.height) (2 ^ p.height) (quad_set w1 p)) → m ≡ 2 ^ four.0.height
+    → Keeps w1 w2 → Keeps w2 w3 → Keeps w3 w4
+    → z1 ≡ cells_union z0 (placed r c (quad_set w1 four.0)) → z2 ≡ cells_union z1 (placed r (c + m) (quad_set w2 four.1))
+    → z3 ≡ cells_union z2 (placed (r + m) c (quad_set w3 four.2)) → z4 ≡ cells_union z3 (placed (r + m) (c + m) (quad_set w4 four.3))
+    → z4 ≡ cells_union z0 (placed r c (quad_set w0 q))
+spilled_four w0 w1 w2 w3 w4 q four r c m z0 z1 z2 z3 z4 a square e k12 k23 k34 f0 f1 f2 f3 =
+    let k13 = keeps_trans w1 w2 w3 k12 k23 in
+    let k14 = keeps_trans w1 w3 w4 k13 k34 in
+    let nw : Cells = quad_set w1 four.0 in
+    let ne : Cells = quad_set w1 four.1 in
+    let sw : Cells = quad_set w1 four.2 in
+    let se : Cells = quad_set w1 four.3 in
+    let p0 = a.nw_height in
+    let p1 = a.ne_height in
+    let p2 = a.sw_height in
+    let p3 = a.se_height in
+    let e1 : quad_set w2 four.1 ≡ ne = kept_set w1 w2 four.1 k12 a.ne in
+    let e2 : quad_set w3 four.2 ≡ sw = kept_set w1 w3 four.2 k13 a.sw in
+    let e3 : quad_set w4 four.3 ≡ se = kept_set w1 w4 four.3 k14 a.se in
+    let v0 : Within m m nw = here four.0 nw (square four.0 a.nw) refl in
+    let v1 : Within m m ne = here four.1 ne (square four.1 a.ne) (omega (arith, p0, p1)) in
+    let v2 : Within m m sw = here four.2 sw (square four.2 a.sw) (omega (arith, p0, p2)) in
+    let v3 : Within m m se = here four.3 se (square four.3 a.se) (omega (arith, p0, p3)) in
+    f3 ∙ ap (λ (g : Cells). cells_union z3 (placed (r + m) (c + m) g)) e3
+    ∙ ap (λ (g : Cells). cells_union g (placed (r + m) (c + m) se)) (f2 ∙ ap (λ (g : Cells). cells_union z2 (placed (r + m) c g)) e2
+    ∙ ap (λ (g : Cells). cells_union g (placed (r + m) c sw)) (f1 ∙ ap (λ (g : Cells). cells_union z1 (placed r (c + m) g)) e1
+    ∙ ap (λ (g : Cells). cells_union g (placed r (c + m) ne)) f0))
+    ∙ four_placed m r c z0 nw ne sw se v0 v1 v2 v3
+    ∙ ap (λ (n : ℕ). cells_union z0 (placed r c (quartered n nw ne sw se))) e
+    ∙ ap (λ (g : Cells). cells_union z0 (placed r c g)) (sym a.means)
+  where
+    here : (p : Quad) (f : Cells) → LiesWithin (2 ^ p.height) (2 ^ p.height) f → p.height ≡ four.0.height → Within m m f
+    here p f w h = within_square m f (subst (λ (n : ℕ). LiesWithin n n f) (ap (λ (k : ℕ). 2 ^ k) h ∙ sym e) w)
+
+-- ---- the quad of a window
+pub gathered_value : (w1 w2 w3 w4 w5 : Worker) (h r c m : ℕ) (f : Cells) (nw ne sw se all : Quad) → 3 < h → m ≡ 2 ^ (h - 1)
+    → Keeps w1 w2 → Keeps w2 w3 → Keeps w3 w4
+    → GivesQuad w1 (h - 1) (window r c (2 ^ (h - 1)) f) nw → GivesQuad w2 (h - 1) (window r (c + m) (2 ^ (h - 1)) f) ne
+    → GivesQuad w3 (h - 1) (window (r + m) c (2 ^ (h - 1)) f) sw → GivesQuad w4 (h - 1) (window (r + m) (c + m) (2 ^ (h - 1)) f) se
+    → GivesQuad w5 (nw.height + 1) (quartered (2 ^ nw.height) (quad_set w4 nw) (quad_set w4 ne) (quad_set w4 sw) (quad_set w4 se)) all
+    → GivesQuad w5 h (window r c (2 ^ h) f) all
+gathered_value w1 w2 w3 w4 w5 h r c m f nw ne sw se all l e k12 k23 k34 g0 g1 g2 g3 g =
+    let k24 = keeps_trans w2 w3 w4 k23 k34 in
+    let k14 = keeps_trans w1 w2 w4 k12 k24 in
+    let n : ℕ = 2 ^ (h - 1) in
+    let A : Cells = window r c n f in
+    let B : Cells = window r (c + m) n f in
+    let C : Cells = window (r + m) c n f in
+    let D : Cells = window (r + m) (c + m) n f in
+    let e0 : quad_set w4 nw ≡ A = kept_set w1 w4 nw k14 (gives_has w1 _ _ nw g0) ∙ gives_quad_set w1 _ _ nw g0 in
+    let e1 : quad_set w4 ne ≡ B = kept_set w2 w4 ne k24 (gives_has w2 _ _ ne g1) ∙ gives_quad_set w2 _ _ ne g1 in
+    let e2 : quad_set w4 sw ≡ C = kept_set w3 w4 sw k34 (gives_has w3 _ _ sw g2) ∙ gives_quad_set w3 _ _ sw g2 in
+    let e3 : quad_set w4 se ≡ D = gives_quad_set w4 _ _ se g3 in
+    let one : h - 1 + 1 ≡ h = omega (arith, l) in
+    let same : quartered n A B C D ≡ window r c (2 ^ h) f =
+    ap (λ (k : ℕ). quartered n A (window r (c + k) n f) (window (r + k) c n f) (window (r + k) (c + k) n f)) e
+    ∙ sym (window-quartered n r c f) ∙ ap (λ (k : ℕ). window r c k f) (sym (double_side (h - 1) h one)) in
+    record {
+      means = g.means
+          ∙ ap (λ (k : ℕ). Some (quartered (2 ^ k) (quad_set w4 nw) (quad_set w4 ne) (quad_set w4 sw) (quad_set w4 se))) g0.same_height
+          ∙ ap (λ (x : Cells). Some (quartered n x (quad_set w4 ne) (quad_set w4 sw) (quad_set w4 se))) e0
+          ∙ ap (λ (x : Cells). Some (quartered n A x (quad_set w4 sw) (quad_set w4 se))) e1
+          ∙ ap (λ (x : Cells). Some (quartered n A B x (quad_set w4 se))) e2
+          ∙ ap (λ (x : Cells). Some (quartered n A B C x)) e3
+          ∙ ap (λ (x : Cells). Some x) same;
+      same_height = g.same_height ∙ ap (λ (k : ℕ). k + 1) g0.same_height ∙ one;
+    }
+
+-- a window with no cell
+pub clear_value : (w : Worker) (h r c m : ℕ) (f : Cells) → w.quad (record { height = h; name = 0 }) ≡ Some no_cells → m ≡ 2 ^ h → window r c m f ≡ no_cells → GivesQuad w h (window r c (2 ^ h) f) (record { height = h; name = 0 })
+clear_value w h r c m f z e n = record { means = z ∙ ap (λ (x : Cells). Some x) (sym n ∙ ap (λ (k : ℕ). window r c k f) e); same_height = refl }
+
+-- the word of a block fits in a leaf, and is that of a window
+pub word_fits : (least bits : ℕ) → least ≡ 3 → bits < 2 ^ 64 → bits < 2 ^ (2 ^ least * 2 ^ least)
+word_fits least bits l b = subst (λ (k : ℕ). bits < 2 ^ (2 ^ k * 2 ^ k)) (sym l) b
+
+pub block_value : (w : Worker) (least h r c bits : ℕ) (f : Cells) (q : Quad) → least ≡ 3 → h ≡ least → block_cells bits ≡ window r c 8 f → GivesQuad w least (bits_cells (2 ^ least) bits) q → GivesQuad w h (window r c (2 ^ h) f) q
+block_value w least h r c bits f q l e s g =
+    let block : bits_cells (2 ^ least) bits ≡ block_cells bits = ap (λ (k : ℕ). bits_cells (2 ^ k) bits) l in
+    let low : window r c 8 f ≡ window r c (2 ^ h) f = ap (λ (k : ℕ). window r c (2 ^ k) f) (sym (e ∙ l)) in
+    record { means = g.means ∙ ap (λ (x : Cells). Some x) (block ∙ s ∙ low); same_height = g.same_height ∙ sym e }
+
+-- ---- the closure of a quad
+pub closed_value : (w0 w : Worker) (q all : Quad) (x0 x y : Cells) → LiesWithin (2 ^ q.height) (2 ^ q.height) (quad_set w0 q) → x0 ≡ no_cells → x ≡ cells_union x0 (placed 0 0 (quad_set w0 q)) → IsClosure x y
+    → GivesQuad w q.height (window 0 0 (2 ^ q.height) y) all → GivesQuad w q.height (cells_closure (2 ^ q.height) (quad_set w0 q)) all
+closed_value w0 w q all x0 x y v ex sx c g =
+    let n : ℕ = 2 ^ q.height in
+    let f : Cells = quad_set w0 q in
+    let d : IsClosure f y = subst (λ (e : Cells). IsClosure e y) (spilled_alone x0 x f ex sx) c in
+    let same : window 0 0 n y ≡ cells_closure n f = window_whole n y (closure_within n f y (within_square n f v) d) ∙ one_closure f y (cells_closure n f) d (closure_is n f v) in
+    subst (λ (e : Cells). GivesQuad w q.height e all) same g
+
+-- ---- rooms
+-- a block has room, and so have four trees and their corner
+pub tree_some : (h : ℕ) → 1 ≤ tree_room (h - 3)
+tree_some h = let a = one-le-pow (h - 3) 4 (omega arith) in omega (arith, a)
+
+pub tree_next : (h : ℕ) → 3 < h → 4 * tree_room (h - 1 - 3) + 3 ≡ tree_room (h - 3)
+tree_next h l =
+    let d : ℕ = h - 1 - 3 in
+    let e : h - 3 ≡ suc d = omega (arith, l) in
+    let p : 4 ^ (h - 3) ≡ 4 ^ d * 4 = ap (λ (x : ℕ). 4 ^ x) e ∙ pow-suc 4 d in
+    let a : 1 ≤ 4 ^ d = one-le-pow d 4 (omega arith) in
+    omega (arith, p, a)
+
+-- one tree has room where a closure has
+pub tree_fits : (h : ℕ) → tree_room (h - 3) ≤ 60 * 8 ^ h
+tree_fits h =
+    let p = pow-le-pow_right {n = 4} (omega arith) {i = h - 3} {j = h} (omega arith) in
+    let q = pow-le-pow_left {n = 4} {m = 8} (omega arith) h in
+    omega (arith, p, q)

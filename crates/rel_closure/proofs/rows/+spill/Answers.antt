@@ -1,0 +1,107 @@
+use Rattle.std.proofs.Common.{◌≡◌, ◌<◌, ◌%◌, ◌^◌, ◌∙◌, ℕ, ap, arith}
+use Rattle.bit_rows.specs.Rows.{rows_cells}
+use Rattle.rel_closure.proofs.OverQuads.{kept_quad, double_side}
+use Rattle.rel_closure.proofs.OverRows.{half_on, reads_itself, reads_five, spilled_none, spilled_block, spilled_four}
+use Rattle.rel_closure.proofs.rows.+spill.Goals as goal
+
+pub returns-then-q-eq0-clause-cells : goal.returns-then-q-eq0-clause-cells
+returns-then-q-eq0-clause-cells g t c =
+    let laws = g.met.Q.Quads in
+    let o = c.args.quads.now in
+    let q = c.args.q in
+    spilled_none (g.Q.Core.worker o) q c.args.row c.args.col (rows_cells c.args.z.now) (laws.none o q.height (laws.low_height o q c.requires.stands) (laws.high_height o q c.requires.stands)) c.if-q-eq0.true
+
+pub returns-then-q-eq0-clause-reads : goal.returns-then-q-eq0-clause-reads
+returns-then-q-eq0-clause-reads g t c = reads_itself (g.Q.Core.worker c.args.quads.now)
+
+pub add_block-requires-clause-row_in : goal.add_block-requires-clause-row_in
+add_block-requires-clause-row_in g t c =
+    let e : 2 ^ c.args.q.height ≡ 8 = ap (λ (k : ℕ). 2 ^ k) (c.if-q-bottom.true ∙ c.bottom.ensures ∙ c.requires.leaf) in
+    let r = c.requires.row_in in
+    omega (arith, e, r)
+
+pub add_block-requires-clause-col_in : goal.add_block-requires-clause-col_in
+add_block-requires-clause-col_in g t c =
+    let e : 2 ^ c.args.q.height ≡ 8 = ap (λ (k : ℕ). 2 ^ k) (c.if-q-bottom.true ∙ c.bottom.ensures ∙ c.requires.leaf) in
+    let r = c.requires.col_in in
+    omega (arith, e, r)
+
+pub returns-then-q-bottom-clause-cells : goal.returns-then-q-bottom-clause-cells
+returns-then-q-bottom-clause-cells g t c =
+    spilled_block (g.Q.Core.worker c.args.quads.now) c.args.q g.Q.Core.least c.bits-bits.result c.args.row c.args.col (rows_cells c.args.z.now) (rows_cells c.add_block.new.z) c.requires.leaf c.bits-bits.ensures.cells c.add_block.ensures.cells
+
+pub returns-then-q-bottom-clause-reads : goal.returns-then-q-bottom-clause-reads
+returns-then-q-bottom-clause-reads g t c = record { keeps = c.bits-bits.ensures.keeps; room = c.bits-bits.ensures.room; misses = c.bits-bits.ensures.misses }
+
+pub side_of-half-requires : goal.side_of-half-requires
+side_of-half-requires g t c = g.met.Q.Quads.high_height c.quarters.new.self c.quarters.result.0 c.quarters.ensures.quarters.nw
+
+pub spill-requires : goal.spill-requires
+spill-requires g t c κs within =
+    let q = c.quarters.ensures.quarters in
+    let four = c.quarters.result in
+    let s = double_side four.0.height c.args.q.height q.nw_height in
+    let r = c.requires.row_in in
+    let m = c.requires.col_in in
+    let e = q.nw_height in
+    let falls : four.0.height < t = (let d = c.decreases in omega (arith, e, d)) in
+    (falls, (within, (q.nw, (c.requires.leaf, (c.requires.z_len, (omega (arith, s, r), (omega (arith, s, m), c.requires.col_on)))))))
+
+pub spill-requires-2 : goal.spill-requires-2
+spill-requires-2 g t c κs within =
+    let q = c.quarters.ensures.quarters in
+    let four = c.quarters.result in
+    let e = q.ne_height in
+    let s = double_side four.1.height c.args.q.height e in
+    let k = double_side four.0.height c.args.q.height q.nw_height in
+    let h = c.side_of-half.ensures in
+    let by : c.side_of-half.result % 8 ≡ 0 = half_on g.Q.Core.least four.0.height c.side_of-half.result c.requires.leaf (g.met.Q.Quads.low_height c.quarters.new.self four.0 q.nw) h in
+    let r = c.requires.row_in in
+    let m = c.requires.col_in in
+    let o = c.requires.col_on in
+    let falls : four.1.height < t = (let d = c.decreases in omega (arith, e, d)) in
+    (falls, (within, ((kept_quad (g.Q.Core.worker c.quarters.new.self) (g.Q.Core.worker c.spill.new.quads) four.1 c.spill.ensures.reads.keeps q.ne), (c.requires.leaf, (c.spill.ensures.len, (omega (arith, s, k, h, r), (omega (arith, s, k, h, m), omega (arith, by, o))))))))
+
+pub spill-requires-3 : goal.spill-requires-3
+spill-requires-3 g t c κs within =
+    let q = c.quarters.ensures.quarters in
+    let four = c.quarters.result in
+    let e = q.sw_height in
+    let s = double_side four.2.height c.args.q.height e in
+    let k = double_side four.0.height c.args.q.height q.nw_height in
+    let h = c.side_of-half.ensures in
+    let by : c.side_of-half.result % 8 ≡ 0 = half_on g.Q.Core.least four.0.height c.side_of-half.result c.requires.leaf (g.met.Q.Quads.low_height c.quarters.new.self four.0 q.nw) h in
+    let r = c.requires.row_in in
+    let m = c.requires.col_in in
+    let o = c.requires.col_on in
+    let falls : four.2.height < t = (let d = c.decreases in omega (arith, e, d)) in
+    (falls, (within, ((kept_quad (g.Q.Core.worker c.spill.new.quads) (g.Q.Core.worker c.spill-2.new.quads) four.2 c.spill-2.ensures.reads.keeps (kept_quad (g.Q.Core.worker c.quarters.new.self) (g.Q.Core.worker c.spill.new.quads) four.2 c.spill.ensures.reads.keeps q.sw)), (c.requires.leaf, (c.spill-2.ensures.len, (omega (arith, s, k, h, r), (omega (arith, s, k, h, m), omega (arith, by, o))))))))
+
+pub spill-requires-4 : goal.spill-requires-4
+spill-requires-4 g t c κs within =
+    let q = c.quarters.ensures.quarters in
+    let four = c.quarters.result in
+    let e = q.se_height in
+    let s = double_side four.3.height c.args.q.height e in
+    let k = double_side four.0.height c.args.q.height q.nw_height in
+    let h = c.side_of-half.ensures in
+    let by : c.side_of-half.result % 8 ≡ 0 = half_on g.Q.Core.least four.0.height c.side_of-half.result c.requires.leaf (g.met.Q.Quads.low_height c.quarters.new.self four.0 q.nw) h in
+    let r = c.requires.row_in in
+    let m = c.requires.col_in in
+    let o = c.requires.col_on in
+    let falls : four.3.height < t = (let d = c.decreases in omega (arith, e, d)) in
+    (falls, (within, ((kept_quad (g.Q.Core.worker c.spill-2.new.quads) (g.Q.Core.worker c.spill-3.new.quads) four.3 c.spill-3.ensures.reads.keeps (kept_quad (g.Q.Core.worker c.spill.new.quads) (g.Q.Core.worker c.spill-2.new.quads) four.3 c.spill-2.ensures.reads.keeps (kept_quad (g.Q.Core.worker c.quarters.new.self) (g.Q.Core.worker c.spill.new.quads) four.3 c.spill.ensures.reads.keeps q.se))), (c.requires.leaf, (c.spill-3.ensures.len, (omega (arith, s, k, h, r), (omega (arith, s, k, h, m), omega (arith, by, o))))))))
+
+pub returns-clause-cells : goal.returns-clause-cells
+returns-clause-cells g t c =
+    spilled_four (g.Q.Core.worker c.args.quads.now) (g.Q.Core.worker c.quarters.new.self) (g.Q.Core.worker c.spill.new.quads) (g.Q.Core.worker c.spill-2.new.quads) (g.Q.Core.worker c.spill-3.new.quads) c.args.q c.quarters.result c.args.row c.args.col c.side_of-half.result
+    (rows_cells c.args.z.now) (rows_cells c.spill.new.z) (rows_cells c.spill-2.new.z) (rows_cells c.spill-3.new.z) (rows_cells c.spill-4.new.z)
+    c.quarters.ensures.quarters (g.met.Q.Quads.square c.quarters.new.self) c.side_of-half.ensures
+    c.spill.ensures.reads.keeps c.spill-2.ensures.reads.keeps c.spill-3.ensures.reads.keeps
+    c.spill.ensures.cells c.spill-2.ensures.cells c.spill-3.ensures.cells c.spill-4.ensures.cells
+
+pub returns-clause-reads : goal.returns-clause-reads
+returns-clause-reads g t c =
+    reads_five (g.Q.Core.worker c.args.quads.now) (g.Q.Core.worker c.quarters.new.self) (g.Q.Core.worker c.spill.new.quads) (g.Q.Core.worker c.spill-2.new.quads) (g.Q.Core.worker c.spill-3.new.quads) (g.Q.Core.worker c.spill-4.new.quads)
+    (record { keeps = c.quarters.ensures.keeps; room = c.quarters.ensures.room; misses = c.quarters.ensures.misses })
+    c.spill.ensures.reads c.spill-2.ensures.reads c.spill-3.ensures.reads c.spill-4.ensures.reads

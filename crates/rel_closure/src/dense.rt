@@ -1,0 +1,81 @@
+//! Whether a square is so dense that its closure is quicker by rows of bits than by quarters.
+ghost use Rattle.std.specs.Prelude.{◌≡◌, ◌<◌, ◌≤◌, true, length};
+ghost use Rattle.rel_model.specs.Worker.{HasQuad};
+ghost use Rattle.rel_closure.specs.Reading.{OnlyReads};
+
+use rel_model::Quad;
+use rel_model::quads_trait::Quads;
+
+/// How many different quads are under a dense square of a height, at least.
+fn least_under(height: u8) -> u32 {
+    match height {
+        8 => 80,
+        7 => 40,
+        _ => 20,
+    }
+}
+
+/// Counts the quads under a quad, on to those met before and up to a bound; a name is told from those met before by
+/// its place.
+fn met_under<Q: Quads>(quads: &mut Q, q: Quad, seen: &mut [u32], met: u32, most: u32) -> u32
+    requires stands { HasQuad (Q.worker quads.old) q }
+    requires places { length seen.old ≡ 256 }
+    ensures same_places { length seen.new ≡ 256 }
+    ensures reads { OnlyReads (Q.worker quads.old) (Q.worker quads.new) }
+{
+    if q.name == 0 || met >= most {
+        return met;
+    }
+    let place = (q.name % 256) as usize;
+    if seen[place] == q.name {
+        return met;
+    }
+    seen[place] = q.name;
+    if q.height == quads.bottom() {
+        return met + 1;
+    }
+    let (nw, ne, sw, se) = quads.quarters(q);
+    let first = met_under(quads, nw, seen, met + 1, most);
+    let second = met_under(quads, ne, seen, first, most);
+    let third = met_under(quads, sw, seen, second, most);
+    met_under(quads, se, seen, third, most)
+}
+
+/// Whether the first and the last quarter of a square differ, as they do not in many regular relations.
+fn ends_differ<Q: Quads>(quads: &mut Q, q: Quad) -> bool
+    requires stands { HasQuad (Q.worker quads.old) q }
+    requires over { Q.least < q.height }
+    ensures reads { OnlyReads (Q.worker quads.old) (Q.worker quads.new) }
+{
+    let (nw, _, _, se) = quads.quarters(q);
+    nw.name != se.name
+}
+
+/// Whether many different quads are under a square.
+///
+/// It is a call of its own, so that its array is on the stack once.
+#[inline(never)]
+fn has_many<Q: Quads>(quads: &mut Q, q: Quad) -> bool
+    requires stands { HasQuad (Q.worker quads.old) q }
+    ensures reads { OnlyReads (Q.worker quads.old) (Q.worker quads.new) }
+{
+    let most = least_under(q.height);
+    let mut seen = [0; 256];
+    met_under(quads, q, &mut seen, 0, most) >= most
+}
+
+/// Whether a square has 64, 128 or 256 rows over blocks of 8 by 8, and is dense.
+pub(crate) fn rows_pay<Q: Quads>(quads: &mut Q, q: Quad) -> bool
+    requires stands { HasQuad (Q.worker quads.old) q }
+    ensures leaf { result ≡ true → Q.least ≡ 3 }
+    ensures small { result ≡ true → q.height ≤ 8 }
+    ensures reads { OnlyReads (Q.worker quads.old) (Q.worker quads.new) }
+{
+    if quads.bottom() != 3 || q.height < 6 || q.height > 8 {
+        return false;
+    }
+    if !ends_differ(quads, q) {
+        return false;
+    }
+    has_many(quads, q)
+}
