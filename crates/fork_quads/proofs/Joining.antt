@@ -106,6 +106,10 @@ work_room-fork Diff h = omega arith
 work_room-fork Transpose h = omega arith
 work_room-fork Compose h = whole_words-fork (h - bottom_height)
 
+-- an operator done alone after a look has the room of one that may be forked
+pub work_room-after : (op : Operator) (h : ℕ) (u v w : Keeper) → ReadsQuads u v → KeepsQuads (work_room op h) v w → KeepsQuads (fork_room op h) u w
+work_room-after op h u v w r k = let l = work_room-fork op h in keeps_most (0 + work_room op h) (fork_room op h) u w (omega (arith, l)) (keeps_on 0 (work_room op h) u v w r.keeps k)
+
 -- ---- rooms of all pieces
 whole_words-most : (d : ℕ) → whole_words d ≤ 3840 * 8 ^ d
 whole_words-most zero = omega arith

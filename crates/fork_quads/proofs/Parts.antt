@@ -13,7 +13,8 @@ use Rattle.rel_model.proofs.TreeLaws.{same_cells, Within, out_of}
 use Rattle.rel_model.proofs.Squares.{each_cell-quartered}
 use Rattle.rel_model.proofs.Composing.{cells_compose-quartered, cells_transpose-quartered}
 use Rattle.rel_model.proofs.QuadLaws.{side_of-next, keeps_on, keeps_most, is_quad-stays, quad_cells-stay, empty_quad}
-use Rattle.row_quads.proofs.Placing.{quartered_nw, quartered_ne, quartered_sw, quartered_se, quad_within}
+use Rattle.bit_rows.proofs.Windows.{quartered_nw, quartered_ne, quartered_sw, quartered_se}
+use Rattle.row_quads.proofs.Placing.{quad_within}
 use Rattle.row_quads.proofs.ByRows.{product_within}
 use Rattle.quad_nodes.specs.Finding.{FindsQuad}
 use Rattle.quad_nodes.proofs.Finding.{AreWithin, within_at, found_later}

@@ -39,6 +39,18 @@ abbrev pub part : ℕ → ℕ → ℕ → Cells → Cells
 part height zero n f = f
 part height (suc c) n f = part (height - 1) c n (quarter (side_of (height - 1)) (place_at_cut c n) f)
 
+-- how far down and how far across a quarter lies in a square of twice the side m, by its place
+abbrev pub south : ℕ → ℕ → ℕ
+south k m = nth k 0 0 m m
+
+abbrev pub east : ℕ → ℕ → ℕ
+east k m = nth k 0 m 0 m
+
+-- the first row of the square of a number, or its first column, as the quarters lie south or east
+abbrev pub first_at : (ℕ → ℕ → ℕ) → ℕ → ℕ → ℕ → ℕ
+first_at by height zero n = 0
+first_at by height (suc c) n = by (place_at_cut c n) (side_of (height - 1)) + first_at by (height - 1) c n
+
 -- the square of a number of the composition of two quads
 abbrev pub product_of : Keeper → Quad → Quad → ℕ → ℕ → Cells
 product_of w a b cuts number = part a.height cuts number

@@ -13,6 +13,7 @@ use crate::gather::gathered;
 use crate::group::groups;
 use crate::middle::Halving;
 use crate::pieces::{Job, alone};
+use crate::way::{Way, way_of};
 use memo_laws::Op;
 use pair_table::Missed;
 use quad_nodes::Nodes;
@@ -22,8 +23,8 @@ use std::thread::Threads;
 /// The most workers of a crew.
 const MOST_WORKERS: u32 = 64;
 
-/// The least height at which it pays to start threads, as it was measured: squares of 2048 rows and columns.
-const LEAST_HEIGHT: u8 = 11;
+/// The least height of operands that are cut: squares of 512 rows and columns, whose squares have 256.
+const LEAST_HEIGHT: u8 = 9;
 
 /// What lets work be forked: that threads may be started, a gate, and how many workers there are. 24 bytes.
 #[derive(Drop)]
@@ -33,8 +34,8 @@ pub(crate) struct Team<'t, R: Threads, G: Gate> {
     pub workers: u32,
 }
 
-/// How often the result of an operator on quads of a height is cut in four, so that there is a piece for each worker:
-/// not at all where that would not pay, or where there are too few spare seats.
+/// How often the result of an operator on quads of a height is cut in four, so that there is a piece for each worker and
+/// none has fewer than 256 rows: not at all where the operands are low, or where there are too few spare seats.
 #[tactic(auto, unfolding(rel_model::specs::Trees::bottom_height))]
 fn cuts_for(workers: u32, height: u8, spare: u32) -> u8
     requires low { bottom_height ≤ height }
@@ -51,7 +52,7 @@ fn cuts_for(workers: u32, height: u8, spare: u32) -> u8
         5..=16 => 2,
         _ => 3,
     };
-    enough.min(height - 3)
+    enough.min(height - 8)
 }
 
 /// How many pieces there are after so many cuts.
@@ -92,6 +93,38 @@ fn put_together<R: Threads, G: Gate>(
     }
 }
 
+/// An operator on two quads of one height, by pieces where there is so much to do that threads pay.
+fn weighed<R: Threads, G: Gate>(
+    team: &Team<'_, R, G>,
+    nodes: &mut Nodes,
+    job: Job,
+) -> Result<Quad, Missed>
+    requires can { CanDo nodes.old job }
+    requires one_operand { operator_of job.op ≡ Transpose → job.b.name ≡ 0 }
+    requires some { 1 ≤ team.now.workers }
+    requires seats { team.now.workers ≤ nodes.old.view.spare }
+    requires cut { job.cuts ≤ 3 }
+    requires over { 0 < job.cuts }
+    ensures value { IfOk result (IsQuad nodes.new job.a.height (job_set nodes.old job)) }
+    ensures stood { operator_of job.op ≢ Compose → FindsQuad nodes.old nodes.new job.a.height
+        (job_set nodes.old job) result }
+    ensures keeps { KeepsQuads (fork_room (operator_of job.op) job.a.height) nodes.old nodes.new }
+    ensures misses { TellsMisses nodes.old nodes.new result }
+{
+    match way_of(nodes, job) {
+        Way::Alone => alone(nodes, job.op, job.a, job.b, job.pieces),
+        Way::Parts => put_together(team, nodes, job),
+        Way::Sums => put_together(
+            team,
+            nodes,
+            Job {
+                by_sums: true,
+                ..job
+            },
+        ),
+    }
+}
+
 /// An operator on two quads of one height by its pieces. What was noted of both is looked up first, and what is found
 /// is noted.
 fn forked<R: Threads, G: Gate>(
@@ -114,7 +147,7 @@ fn forked<R: Threads, G: Gate>(
     if let Some(found) = nodes.look(job.op, job.a, job.b) {
         return Ok(found);
     }
-    let answer = put_together(team, nodes, job);
+    let answer = weighed(team, nodes, job);
     if let Ok(found) = answer {
         nodes.note(job.op, job.a, job.b, found);
     }
@@ -152,6 +185,7 @@ pub(crate) fn worked<R: Threads, G: Gate>(
         b,
         pieces,
         cuts,
+        by_sums: false,
     };
     forked(team, nodes, job)
 }

@@ -11,6 +11,7 @@ ghost use Rattle.fork_quads.specs.Middle.{most_turns};
 ghost use Rattle.fork_quads.specs.Forks.{nth, place_at_cut, part, source, work_room, piece_room, product_words, product_of, job_set, CanDo};
 
 use crate::middle::{Halving, composed};
+use crate::windows::window_part;
 use memo_laws::Op;
 use pair_table::Missed;
 use quad_nodes::Nodes;
@@ -26,6 +27,8 @@ pub struct Job {
     pub(crate) b: Quad,
     pub(crate) pieces: Halving,
     pub(crate) cuts: u8,
+    /// Whether the squares of a composition are done by sums of rows.
+    pub(crate) by_sums: bool,
 }
 
 /// An operator on two quads of one height, without cuts.
@@ -57,7 +60,7 @@ pub(crate) fn alone(
 }
 
 /// The place among four squares, at the cut after which so many follow.
-fn place(cuts: u8, number: u32) -> u32
+pub(crate) fn place(cuts: u8, number: u32) -> u32
     ensures { result ≡ place_at_cut cuts number }
 {
     if cuts == 0 {
@@ -66,8 +69,8 @@ fn place(cuts: u8, number: u32) -> u32
     place(cuts - 1, number / 4)
 }
 
-/// One of four quads, by its place.
-fn picked(four: (Quad, Quad, Quad, Quad), k: u32) -> Quad
+/// One of four, by its place.
+pub(crate) fn picked<T: Copy>(four: (T, T, T, T), k: u32) -> T
     ensures { result ≡ nth k four.0 four.1 four.2 four.3 }
 {
     match k {
@@ -218,6 +221,20 @@ fn sum_part(
     union_quads(nodes, first, second)
 }
 
+/// The square of a composition of a number, by sums of rows where the job says so.
+fn composed_part(nodes: &mut Nodes, job: Job, number: u32) -> Result<Quad, Missed>
+    requires { CanDo nodes.old job }
+    ensures value { IfOk result (IsQuad nodes.new (job.a.height - job.cuts)
+        (product_of nodes.old job.a job.b job.cuts number)) }
+    ensures keeps { KeepsQuads (product_words job.a.height job.cuts) nodes.old nodes.new }
+    ensures counts { Counts nodes.old nodes.new result }
+{
+    if job.by_sums && job.a.height - job.cuts >= 8 {
+        return window_part(nodes, job.a, job.b, job.cuts, number);
+    }
+    product_part(nodes, job.a, job.b, job.cuts, number, job.pieces)
+}
+
 /// The piece of a number.
 pub(crate) fn piece(nodes: &mut Nodes, job: Job, number: u32) -> Result<Quad, Missed>
     requires { CanDo nodes.old job }
@@ -229,7 +246,7 @@ pub(crate) fn piece(nodes: &mut Nodes, job: Job, number: u32) -> Result<Quad, Mi
     ensures counts { Counts nodes.old nodes.new result }
 {
     match job.op {
-        Op::Compose => product_part(nodes, job.a, job.b, job.cuts, number, job.pieces),
+        Op::Compose => composed_part(nodes, job, number),
         _ => square_part(nodes, job.op, job.a, job.b, job.cuts, number, job.pieces),
     }
 }

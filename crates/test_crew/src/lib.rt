@@ -2,6 +2,8 @@
 #![tactic(auto)]
 
 #[cfg(test)]
+mod closures;
+#[cfg(test)]
 mod forks;
 #[cfg(test)]
 mod tests;

@@ -193,13 +193,28 @@ fn two_sessions_go_on_at_once_and_print_what_the_history_says(rt: HostRuntime) -
     Ok(())
 }
 
+/// A script that counts the pairs of a function by chance, of 4096 elements, composed with itself: a composition so heavy
+/// that it forks.
+fn heavy_script(alloc: Global) -> Result<String, AllocError> {
+    let mut text = String::new(alloc);
+    text.push_str("REL A 4096 4096 {1:1")?;
+    let mut state = 1u64;
+    'rows: for row in 2..4097 {
+        state = state
+            .wrapping_mul(6364136223846793005)
+            .wrapping_add(1442695040888963407);
+        let col = (state >> 33) % 4096 + 1;
+        text.push_str(format!(in alloc; "; {row}:{col}")?.as_str())?;
+    }
+    text.push_str("}. COUNT A*A.")?;
+    Ok(text)
+}
+
 #[test]
 fn two_workers_of_a_session_are_at_work_at_once(rt: HostRuntime) -> Result<(), Fail> {
     let alloc = rt.alloc();
-    let files = [(
-        "a.rv",
-        b"REL A 1048576 1048576 {}. COUNT L(A)*L(A).".as_slice(),
-    )];
+    let script = heavy_script(alloc)?;
+    let files = [("a.rv", script.as_str().as_bytes())];
     'times: for _ in 0..TIMES {
         let gate = Holding::new(0, 1, BEGUN + ENDED);
         let ran = run_gated(&rt, alloc, "--workers 2 a.rv", files.as_slice(), &gate)?;
@@ -210,7 +225,7 @@ fn two_workers_of_a_session_are_at_work_at_once(rt: HostRuntime) -> Result<(), F
         assert_eq!(rt; gate.of_held.load(Ordering::SeqCst), BEGUN + ENDED);
         assert_eq!(rt; gate.of_awaited.load(Ordering::SeqCst), BEGUN + ENDED);
         assert_eq!(rt; gate.of_others.load(Ordering::SeqCst), 3 * (BEGUN + ENDED));
-        assert_written(&rt, &ran, "1.2: 1099511627776\n", 0, "two workers")?;
+        assert_written(&rt, &ran, "1.2: 4096\n", 0, "two workers")?;
     }
     Ok(())
 }

@@ -10,36 +10,36 @@ use Rattle.fork_quads.proofs.fork.forked.Goals as goal
 pub returns-in-Some-clause-stood : goal.returns-in-Some-clause-stood
 returns-in-Some-clause-stood g c = λ other. found_is c.args.nodes.now c.look.new.self c.args.job.a.height _ c.in-Some.found c.look.ensures.reads c.in-Some.ensures.found
 
-pub put_together-answer-requires-clause-can : goal.put_together-answer-requires-clause-can
-put_together-answer-requires-clause-can g c = can_seen c.args.nodes.now c.look.new.self c.args.job (keeps_sees 0 c.args.nodes.now c.look.new.self c.look.ensures.reads.keeps) c.requires.can
+pub weighed-answer-requires-clause-can : goal.weighed-answer-requires-clause-can
+weighed-answer-requires-clause-can g c = can_seen c.args.nodes.now c.look.new.self c.args.job (keeps_sees 0 c.args.nodes.now c.look.new.self c.look.ensures.reads.keeps) c.requires.can
 
 pub note-requires-clause-a_stands : goal.note-requires-clause-a_stands
 note-requires-clause-a_stands g c =
     let x = can_seen c.args.nodes.now c.look.new.self c.args.job (keeps_sees 0 c.args.nodes.now c.look.new.self c.look.ensures.reads.keeps) c.requires.can in
-    quad_stays _ c.look.new.self c.put_together-answer.new.nodes c.args.job.a c.put_together-answer.ensures.keeps x.a_stands
+    quad_stays _ c.look.new.self c.weighed-answer.new.nodes c.args.job.a c.weighed-answer.ensures.keeps x.a_stands
 
 pub note-requires-clause-b_stands : goal.note-requires-clause-b_stands
 note-requires-clause-b_stands g c =
     let x = can_seen c.args.nodes.now c.look.new.self c.args.job (keeps_sees 0 c.args.nodes.now c.look.new.self c.look.ensures.reads.keeps) c.requires.can in
-    quad_stays _ c.look.new.self c.put_together-answer.new.nodes c.args.job.b c.put_together-answer.ensures.keeps x.b_stands
+    quad_stays _ c.look.new.self c.weighed-answer.new.nodes c.args.job.b c.weighed-answer.ensures.keeps x.b_stands
 
 pub note-requires-clause-holds : goal.note-requires-clause-holds
 note-requires-clause-holds g c =
     let x = can_seen c.args.nodes.now c.look.new.self c.args.job (keeps_sees 0 c.args.nodes.now c.look.new.self c.look.ensures.reads.keeps) c.requires.can in
-    subst (λ (f : Cells). IsQuad c.put_together-answer.new.nodes c.args.job.a.height f c.in-Ok.found)
-    (sym (set_seen c.look.new.self c.put_together-answer.new.nodes c.args.job (keeps_sees _ c.look.new.self c.put_together-answer.new.nodes c.put_together-answer.ensures.keeps) x)) c.in-Ok.ensures.value
+    subst (λ (f : Cells). IsQuad c.weighed-answer.new.nodes c.args.job.a.height f c.in-Ok.found)
+    (sym (set_seen c.look.new.self c.weighed-answer.new.nodes c.args.job (keeps_sees _ c.look.new.self c.weighed-answer.new.nodes c.weighed-answer.ensures.keeps) x)) c.in-Ok.ensures.value
 
 pub returns-in-Ok-clause-value : goal.returns-in-Ok-clause-value
 returns-in-Ok-clause-value g c =
-    is_quad-stays 0 c.put_together-answer.new.nodes c.note.new.self c.args.job.a.height _ c.in-Ok.found c.note.ensures.reads.keeps
-    (subst (λ (f : Cells). IsQuad c.put_together-answer.new.nodes c.args.job.a.height f c.in-Ok.found)
+    is_quad-stays 0 c.weighed-answer.new.nodes c.note.new.self c.args.job.a.height _ c.in-Ok.found c.note.ensures.reads.keeps
+    (subst (λ (f : Cells). IsQuad c.weighed-answer.new.nodes c.args.job.a.height f c.in-Ok.found)
     (set_seen c.args.nodes.now c.look.new.self c.args.job (keeps_sees 0 c.args.nodes.now c.look.new.self c.look.ensures.reads.keeps) c.requires.can) c.in-Ok.ensures.value)
 
 pub returns-in-Ok-clause-stood : goal.returns-in-Ok-clause-stood
 returns-in-Ok-clause-stood g c = λ other.
-    later_found c.args.nodes.now c.put_together-answer.new.nodes c.note.new.self c.args.job.a.height _ c.in-Ok.found c.note.ensures.reads
-    (after_found c.args.nodes.now c.look.new.self c.put_together-answer.new.nodes c.args.job (Ok c.in-Ok.found) c.look.ensures.reads c.requires.can (c.in-Ok.ensures.stood other))
+    later_found c.args.nodes.now c.weighed-answer.new.nodes c.note.new.self c.args.job.a.height _ c.in-Ok.found c.note.ensures.reads
+    (after_found c.args.nodes.now c.look.new.self c.weighed-answer.new.nodes c.args.job (Ok c.in-Ok.found) c.look.ensures.reads c.requires.can (c.in-Ok.ensures.stood other))
 
 pub returns-in_default-answer-clause-stood : goal.returns-in_default-answer-clause-stood
 returns-in_default-answer-clause-stood g c = λ other.
-    after_found c.args.nodes.now c.look.new.self c.put_together-answer.new.nodes c.args.job c.put_together-answer.result c.look.ensures.reads c.requires.can (c.put_together-answer.ensures.stood other)
+    after_found c.args.nodes.now c.look.new.self c.weighed-answer.new.nodes c.args.job c.weighed-answer.result c.look.ensures.reads c.requires.can (c.weighed-answer.ensures.stood other)
