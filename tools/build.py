@@ -3,11 +3,16 @@
 
     tools/build.py [NAME]     NAME is a crate of crates.txt, `relview` where none is given
 
-The proofs are made by one `rt all check`, which works on several crates at once; the program is built once all are proved.
-What is done is kept: after an interrupt the next call goes on there. Nothing is written to standard output. Exit status 0,
-or 70 where a crate was not proved or built, with the end of its report and the name of the file that has the whole of it.
+Crates that do not stand on each other are proved at once, as many as there are processors, those with the longest way to the
+program first. `rt` lets one command work on a crate and those below it, so each lane has a copy of the sources; a library that
+is proved in one lane is given to all, and to the repository, where the program is built at last. What is done is kept: after
+an interrupt the next call goes on with the crates that are left. Nothing is written to standard output. Exit status 0, or 70
+where a crate was not proved or built, with the end of its report and the name of the file that has the whole of it.
 """
+import concurrent.futures
+import contextlib
 import os
+import shutil
 import signal
 import subprocess
 import sys
@@ -21,33 +26,52 @@ ROOM = 3
 
 
 def crates_below(name):
-    """The crates of crates.txt that NAME stands on, and itself; none where there is no such crate."""
+    """Each crate of crates.txt that NAME stands on, and itself, with those that it stands on; none where there is no such
+    crate."""
     named = {}
     with open(os.path.join(TOP, "crates.txt"), encoding="utf-8") as lines:
         for line in lines:
             head, colon, deps = line.split("#")[0].partition(":")
             if colon:
                 named[head.split()[0]] = deps.split()
-    below = set()
-    wanted = [name] if name in named else []
-    while wanted:
-        crate = wanted.pop()
-        if crate in named and crate not in below:
-            below.add(crate)
-            wanted.extend(named[crate])
-    return below
+
+    def below(crate):
+        """The crates that a crate stands on, and those that these stand on."""
+        found, wanted = set(), list(named[crate])
+        while wanted:
+            other = wanted.pop()
+            if other in named and other not in found:
+                found.add(other)
+                wanted.extend(named[other])
+        return found
+
+    if name not in named:
+        return {}
+    return {crate: below(crate) for crate in [name, *below(name)]}
 
 
 def places():
-    """How many crates may be worked on at once: two more than there are processors, since a crate that waits for those
-    below it takes a place too, and as memory allows."""
+    """How many crates may be worked on at once: as many as there are processors, as memory allows."""
     cores = len(os.sched_getaffinity(0))
     try:
         with open("/proc/meminfo", encoding="ascii") as lines:
             free = next(int(line.split()[1]) for line in lines if line.startswith("MemAvailable:"))
     except (OSError, StopIteration):
         return cores
-    return max(1, min(cores + 2, free // (ROOM << 20)))
+    return max(1, min(cores, free // (ROOM << 20)))
+
+
+def ways(crates):
+    """How much is to be proved from each crate on up to the program, in bytes of sources along the longest way."""
+    size = {crate: 0 for crate in crates}
+    for crate in crates:
+        for folder, folders, files in os.walk(os.path.join(TOP, "crates", crate)):
+            folders[:] = [it for it in folders if it not in ("out", "must-fail")]
+            size[crate] += sum(os.path.getsize(os.path.join(folder, it)) for it in files if it.endswith((".rt", ".antt")))
+    way = {}
+    for crate in sorted(crates, key=lambda it: -len(crates[it])):
+        way[crate] = size[crate] + max((way[it] for it in way if crate in crates[it]), default=0)
+    return way
 
 
 class Progress:
@@ -55,70 +79,162 @@ class Progress:
 
     def __init__(self, total):
         self.total = total
+        self.done = 0
         self.begun = time.monotonic()
         self.in_place = sys.stderr.isatty()
+        self.clock = threading.Event()
+        if self.in_place:
+            threading.Thread(target=self.tick, daemon=True).start()
 
-    def tell(self, done):
+    def tell(self):
         minutes = int(time.monotonic() - self.begun) // 60
-        line = f"relview: {done} of {self.total} crates proved, {minutes} min"
+        line = f"relview: {self.done} of {self.total} crates proved, {minutes} min"
         sys.stderr.write("\r" + line + "  " if self.in_place else line + "\n")
         sys.stderr.flush()
 
+    def tick(self):
+        """Rewrites the line from time to time, so that its minutes go on while a long proof runs."""
+        while not self.clock.wait(15):
+            self.tell()
+
+    def one_more(self):
+        self.done += 1
+        self.tell()
+
     def end(self):
+        self.clock.set()
         if self.in_place:
             sys.stderr.write("\n")
 
 
-def begin(words, crate, log):
-    """Starts a command in a crate's folder and a process group of its own."""
-    folder = os.path.join(TOP, "crates", crate)
-    return subprocess.Popen(words, cwd=folder, stdin=subprocess.DEVNULL, stdout=subprocess.PIPE, stderr=log, start_new_session=True)
+class Commands:
+    """The commands that run, each in a process group of its own; all of them write to one report."""
 
+    def __init__(self, report):
+        self.report = report
+        self.running = set()
 
-def end(process):
-    """Ends a command that still runs, with all that it started."""
-    if process.poll() is None:
+    def run(self, words, folder):
+        """Runs a command in a folder to its end; whether it succeeded."""
+        process = subprocess.Popen(words, cwd=folder, stdin=subprocess.DEVNULL, stdout=subprocess.PIPE, stderr=subprocess.STDOUT, start_new_session=True)
+        self.running.add(process)
         try:
-            os.killpg(process.pid, signal.SIGTERM)
-        except ProcessLookupError:
-            pass
-        process.wait()
+            said = process.stdout.read()
+            self.report.write(b"== " + " ".join([*words, os.path.basename(folder)]).encode() + b"\n" + said)
+            return process.wait() == 0
+        finally:
+            self.running.discard(process)
+
+    def end(self):
+        """Ends all commands that still run, with all that they started."""
+        for process in list(self.running):
+            try:
+                os.killpg(process.pid, signal.SIGTERM)
+            except ProcessLookupError:
+                pass
 
 
-def prove(program, log, progress):
-    """Proves the crates below the program and itself, and says how many are done; whether all are proved."""
-    process = begin(["rt", "all", "check", "--jobs", str(places())], program, log)
-    done = 0
-    clock = threading.Event()
-    if progress.in_place:
-        threading.Thread(target=lambda: tick(clock, progress, lambda: done), daemon=True).start()
+def link_or_copy(source, target):
+    """Gives a file of a library a second name, since all libraries together have some gigabytes. `rt` removes such a file
+    before it makes it anew, and does not write into it."""
     try:
-        for line in process.stdout:
-            log.write(line)
-            if line.startswith(b"== ") and line.strip() != b"== summary":
-                done += 1
-                progress.tell(done)
-        return process.wait() == 0
-    finally:
-        clock.set()
-        end(process)
+        os.link(source, target)
+    except OSError:
+        shutil.copy2(source, target)
 
 
-def tick(clock, progress, done):
-    """Rewrites the line from time to time, so that its minutes go on while a long proof runs."""
-    while not clock.wait(15):
-        progress.tell(done())
+def give(library, at, to):
+    """Gives the library of a crate that one copy of the sources has to another, where there is one."""
+    source, target = (os.path.join(top, "crates", library, "out", "rlib") for top in (at, to))
+    if os.path.isdir(source):
+        shutil.rmtree(target, ignore_errors=True)
+        shutil.copytree(source, target, copy_function=link_or_copy)
 
 
-def compile_program(program, log):
-    """Builds the proved program, which runs once with no words; whether it is there then."""
-    process = begin(["rt", "run"], program, log)
-    try:
-        log.write(process.stdout.read())
-        process.wait()
-    finally:
-        end(process)
-    return os.access(os.path.join(TOP, "crates", program, "out", program), os.X_OK)
+def make_lane(room, number, crates):
+    """A copy of the sources of crates, with the libraries that are there."""
+    lane = os.path.join(room, f"lane{number}")
+    os.makedirs(lane)
+    shutil.copy2(os.path.join(TOP, "HANDLES"), lane)
+    with open(os.path.join(TOP, "crates.txt"), encoding="utf-8") as lines:
+        named = [line for line in lines if line.partition(":")[0].strip() in crates]
+    with open(os.path.join(lane, "crates.txt"), "w", encoding="utf-8") as file:
+        file.writelines(named)
+    for crate in crates:
+        shutil.copytree(os.path.join(TOP, "crates", crate), os.path.join(lane, "crates", crate), ignore=shutil.ignore_patterns("out", "must-fail"))
+        give(crate, TOP, lane)
+    return lane
+
+
+class Lanes:
+    """Copies of the sources, in each of which one crate is proved at a time."""
+
+    def __init__(self, crates, room, commands, progress):
+        self.crates = crates
+        self.commands = commands
+        self.progress = progress
+        self.all = [make_lane(room, number, crates) for number in range(places())]
+        self.idle = list(self.all)
+        self.way = ways(crates)
+
+    def prove(self, crate, lane, jobs):
+        """Proves a crate in a lane, and gives its library to the others and to the repository; whether it is proved."""
+        if not self.commands.run(["rt", "lib", "--jobs", str(jobs)], os.path.join(lane, "crates", crate)):
+            return False
+        for other in [*self.all, TOP]:
+            if other != lane:
+                give(crate, lane, other)
+        self.progress.one_more()
+        return True
+
+    def next(self, left, done):
+        """The crates that can be begun, the one with the longest way first."""
+        ready = [crate for crate in left if self.crates[crate] <= done]
+        return sorted(ready, key=lambda crate: -self.way[crate])
+
+    def prove_all(self, wanted):
+        """Proves crates, each once those below it are; whether all are proved. A processor that no crate waits for is given
+        to one that is begun."""
+        left, done, running = set(wanted), set(), {}
+        with concurrent.futures.ThreadPoolExecutor(len(self.all)) as pool:
+            try:
+                while left or running:
+                    self.begin_ready(pool, left, done, running)
+                    for it in concurrent.futures.wait(running, return_when=concurrent.futures.FIRST_COMPLETED).done:
+                        crate, lane = running.pop(it)
+                        self.idle.append(lane)
+                        if not it.result():
+                            return False
+                        done.add(crate)
+            finally:
+                self.commands.end()
+        return True
+
+    def begin_ready(self, pool, left, done, running):
+        """Begins as many of the crates that can be begun as there are lanes for."""
+        ready = self.next(left, done)
+        while ready and self.idle:
+            crate, lane = ready.pop(0), self.idle.pop()
+            left.remove(crate)
+            jobs = 1 if len(self.idle) <= len(ready) else 2
+            running[pool.submit(self.prove, crate, lane, jobs)] = crate, lane
+
+
+def prove_and_build(program, crates, room, commands, progress):
+    """Proves the crates below a program, and then builds it, which proves it; whether it is there."""
+    lanes = Lanes(crates, room, commands, progress)
+    if not lanes.prove_all(crates.keys() - {program}):
+        return False
+    folder = os.path.join(TOP, "crates", program)
+    built = os.path.join(folder, "out", program)
+    with contextlib.suppress(FileNotFoundError):
+        os.remove(built)
+    # the status is that of the program, which runs once with no words
+    commands.run(["rt", "run"], folder)
+    if not os.access(built, os.X_OK):
+        return False
+    progress.one_more()
+    return True
 
 
 def build(program):
@@ -128,15 +244,21 @@ def build(program):
         return 70
     path = os.path.join(tempfile.mkdtemp(prefix="relview-"), "report")
     progress = Progress(len(crates))
-    progress.tell(0)
-    with open(path, "wb", buffering=0) as log:
-        is_built = prove(program, log, progress) and compile_program(program, log)
-    progress.end()
+    progress.tell()
+    out = os.path.join(TOP, "crates", program, "out")
+    os.makedirs(out, exist_ok=True)
+    with open(path, "wb", buffering=0) as report, tempfile.TemporaryDirectory(prefix="lanes-", dir=out) as room:
+        commands = Commands(report)
+        try:
+            is_built = prove_and_build(program, crates, room, commands, progress)
+        finally:
+            commands.end()
+            progress.end()
     if is_built:
         return 0
-    with open(path, "rb") as log:
-        report = log.read().decode("utf-8", "replace").splitlines()[-20:]
-    sys.stderr.write("\n".join(report) + f"\nrelview: {program} was not proved and built; the whole report is in {path}\n")
+    with open(path, "rb") as report:
+        said = report.read().decode("utf-8", "replace").splitlines()[-20:]
+    sys.stderr.write("\n".join(said) + f"\nrelview: {program} was not proved and built; the whole report is in {path}\n")
     return 70
 
 
