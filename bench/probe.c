@@ -85,6 +85,35 @@ static uint64_t share(struct work all, uint64_t threads) {
     return works[0].sum + works[1].sum + works[2].sum + works[3].sum;
 }
 
+struct deal {
+    struct work all;
+    uint64_t threads, sum;
+};
+
+static uint64_t share_tree(struct work all, uint64_t threads);
+
+static void *deal(void *arg) {
+    struct deal *deal = arg;
+    deal->sum = share_tree(deal->all, deal->threads);
+    return 0;
+}
+
+// The same with half of the work in a thread of its own, which starts the next in turn, as two nested joins do.
+static uint64_t share_tree(struct work all, uint64_t threads) {
+    if (threads < 2) {
+        run(&all);
+        return all.sum;
+    }
+    struct work halves[2];
+    halve(all, &halves[0], &halves[1]);
+    struct deal second = {halves[1], threads / 2, 0};
+    pthread_t handle;
+    pthread_create(&handle, 0, deal, &second);
+    uint64_t first = share_tree(halves[0], threads / 2);
+    pthread_join(handle, 0);
+    return first + second.sum;
+}
+
 static uint64_t now(void) {
     struct timespec t;
     clock_gettime(CLOCK_MONOTONIC, &t);
@@ -98,6 +127,7 @@ int main(int argc, char **argv) {
     uint64_t stored = places * strtoull(argv[2], 0, 10) / 100;
     uint64_t threads = strtoull(argv[3], 0, 10);
     uint64_t lookups = strtoull(argv[4], 0, 10);
+    uint64_t (*shared)(struct work, uint64_t) = argc > 5 ? share_tree : share;
     uint64_t batch = places / 20, before = stored > batch ? stored - batch : 0;
     count = places - 2;
     // Written once, as the table is, so that no page is new to the probes.
@@ -106,10 +136,10 @@ int main(int argc, char **argv) {
         atomic_store_explicit(&words[i], 0, memory_order_relaxed);
     uint64_t sum = share((struct work){.to = before}, 1);
     uint64_t start = now();
-    sum += share((struct work){.from = before, .to = stored}, threads);
+    sum += shared((struct work){.from = before, .to = stored}, threads);
     uint64_t inserting = now() - start;
     start = now();
-    sum += share((struct work){.hits = 1, .stored = stored, .count = lookups, .seed = 1}, threads);
+    sum += shared((struct work){.hits = 1, .stored = stored, .count = lookups, .seed = 1}, threads);
     uint64_t finding = now() - start;
     printf("%llu %llu %llu %llu %llu\n", (unsigned long long)inserting, (unsigned long long)(stored - before),
            (unsigned long long)finding, (unsigned long long)lookups, (unsigned long long)sum);
