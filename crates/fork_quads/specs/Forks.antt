@@ -39,10 +39,11 @@ abbrev pub part : ℕ → ℕ → ℕ → Cells → Cells
 part height zero n f = f
 part height (suc c) n f = part (height - 1) c n (quarter (side_of (height - 1)) (place_at_cut c n) f)
 
--- how far down and how far across a quarter lies in a square of twice the side m, by its place
+-- how far down a quarter lies in a square of twice the side m, by its place
 abbrev pub south : ℕ → ℕ → ℕ
 south k m = nth k 0 0 m m
 
+-- how far across it lies there
 abbrev pub east : ℕ → ℕ → ℕ
 east k m = nth k 0 m 0 m
 

@@ -34,8 +34,8 @@ pub(crate) struct Team<'t, R: Threads, G: Gate> {
     pub workers: u32,
 }
 
-/// How often the result of an operator on quads of a height is cut in four, so that there is a piece for each worker and
-/// none has fewer than 256 rows: not at all where the operands are low, or where there are too few spare seats.
+/// How often the result of an operator on quads of a height is cut in four, so that there is a piece for each worker
+/// and none has fewer than 256 rows: not at all where the operands are low, or where there are too few spare seats.
 #[tactic(auto, unfolding(rel_model::specs::Trees::bottom_height))]
 fn cuts_for(workers: u32, height: u8, spare: u32) -> u8
     requires low { bottom_height ≤ height }

@@ -193,8 +193,8 @@ fn two_sessions_go_on_at_once_and_print_what_the_history_says(rt: HostRuntime) -
     Ok(())
 }
 
-/// A script that counts the pairs of a function by chance, of 4096 elements, composed with itself: a composition so heavy
-/// that it forks.
+/// A script that counts the pairs of a function by chance, of 4096 elements, composed with itself: a composition so
+/// heavy that it forks.
 fn heavy_script(alloc: Global) -> Result<String, AllocError> {
     let mut text = String::new(alloc);
     text.push_str("REL A 4096 4096 {1:1")?;
