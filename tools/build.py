@@ -62,12 +62,13 @@ def places():
 
 
 def ways(crates):
-    """How much is to be proved from each crate on up to the program, in bytes of sources along the longest way."""
+    """How much is to be proved from each crate on up to the program, in bytes of code along the longest way. Tests are not
+    proved here, and definitions and lemmas cost little beside functions."""
     size = {crate: 0 for crate in crates}
     for crate in crates:
-        for folder, folders, files in os.walk(os.path.join(TOP, "crates", crate)):
-            folders[:] = [it for it in folders if it not in ("out", "must-fail")]
-            size[crate] += sum(os.path.getsize(os.path.join(folder, it)) for it in files if it.endswith((".rt", ".antt")))
+        for folder, folders, files in os.walk(os.path.join(TOP, "crates", crate, "src")):
+            folders[:] = [it for it in folders if it != "tests"]
+            size[crate] += sum(os.path.getsize(os.path.join(folder, it)) for it in files if it.endswith(".rt"))
     way = {}
     for crate in sorted(crates, key=lambda it: -len(crates[it])):
         way[crate] = size[crate] + max((way[it] for it in way if crate in crates[it]), default=0)
@@ -193,8 +194,7 @@ class Lanes:
         return sorted(ready, key=lambda crate: -self.way[crate])
 
     def prove_all(self, wanted):
-        """Proves crates, each once those below it are; whether all are proved. A processor that no crate waits for is given
-        to one that is begun."""
+        """Proves crates, each once those below it are; whether all are proved."""
         left, done, running = set(wanted), set(), {}
         with concurrent.futures.ThreadPoolExecutor(len(self.all)) as pool:
             try:
@@ -211,12 +211,15 @@ class Lanes:
         return True
 
     def begin_ready(self, pool, left, done, running):
-        """Begins as many of the crates that can be begun as there are lanes for."""
+        """Begins as many of the crates that can be begun as there are lanes for. That with the longest way of all that are
+        not done gets a second job, since all else waits for it, and so does one for which a processor is idle."""
         ready = self.next(left, done)
         while ready and self.idle:
             crate, lane = ready.pop(0), self.idle.pop()
             left.remove(crate)
-            jobs = 1 if len(self.idle) <= len(ready) else 2
+            others = [*left, *(other for other, _ in running.values())]
+            is_longest = all(self.way[other] <= self.way[crate] for other in others)
+            jobs = 2 if is_longest or len(self.idle) > len(ready) else 1
             running[pool.submit(self.prove, crate, lane, jobs)] = crate, lane
 
 

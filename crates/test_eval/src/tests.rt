@@ -1,5 +1,6 @@
 //! What the evaluator answers, beside the rules.
 mod constructs;
+mod defined;
 mod full_tables;
 mod loops;
 mod refusals;

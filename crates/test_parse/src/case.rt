@@ -1,8 +1,8 @@
 //! A case as a line: a script, in which control bytes stand as their pictures, and repeated parts in brackets.
-use crate::fault::{answer, refusal};
-use crate::printed::printed;
+use crate::answer::answer;
 use std::alloc::Global;
 use std::test::Fail;
+use test_faults::{printed, refusal};
 
 /// What a byte of a line stands in.
 #[derive(Clone, Copy, Debug)]

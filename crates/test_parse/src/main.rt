@@ -2,12 +2,9 @@
 //! arrow. Titles begin with `==`.
 #![tactic(auto)]
 
+mod answer;
 mod case;
-mod fault;
-mod printed;
 mod show;
-#[cfg(test)]
-mod tests;
 
 use crate::case::answered;
 use std::test::Fail;

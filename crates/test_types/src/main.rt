@@ -4,8 +4,6 @@
 
 mod answer;
 mod case;
-#[cfg(test)]
-mod tests;
 
 use crate::case::answered;
 use std::test::Fail;

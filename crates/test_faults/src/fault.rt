@@ -1,5 +1,4 @@
-//! What `parse` answers, as a line of text.
-use crate::show::shown;
+//! What `parse` refuses, as a line of text.
 use lang_model::faults::{ParseFault, What};
 use lang_model::limits::SCRIPT_LIMIT;
 use lang_model::syntax::Place;
@@ -51,17 +50,6 @@ pub fn refusal(alloc: Global, text: &[u8]) -> Result<String, Fail> {
     }
     match parse(alloc, text) {
         Ok(_) => Ok(String::from_str(alloc, "read")?),
-        Err(fault) => reply(alloc, &fault),
-    }
-}
-
-/// The script of a text written out, or its fault.
-pub fn answer(alloc: Global, text: &[u8]) -> Result<String, Fail> {
-    if text.len() > SCRIPT_LIMIT {
-        return Ok(String::from_str(alloc, "too long")?);
-    }
-    match parse(alloc, text) {
-        Ok(script) => shown(alloc, &script),
         Err(fault) => reply(alloc, &fault),
     }
 }

@@ -1,5 +1,5 @@
 //! A long chain is written as it was read.
-use crate::printed::printed;
+use crate::text::printed;
 use std::test::Fail;
 
 #[test]

@@ -1,2 +1,0 @@
-//! What a checked script tells of its definitions.
-mod defined;
