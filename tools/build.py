@@ -211,15 +211,13 @@ class Lanes:
         return True
 
     def begin_ready(self, pool, left, done, running):
-        """Begins as many of the crates that can be begun as there are lanes for. That with the longest way of all that are
-        not done gets a second job, since all else waits for it, and so does one for which a processor is idle."""
+        """Begins as many of the crates that can be begun as there are lanes for. A processor that no crate waits for is given
+        to one that is begun."""
         ready = self.next(left, done)
         while ready and self.idle:
             crate, lane = ready.pop(0), self.idle.pop()
             left.remove(crate)
-            others = [*left, *(other for other, _ in running.values())]
-            is_longest = all(self.way[other] <= self.way[crate] for other in others)
-            jobs = 2 if is_longest or len(self.idle) > len(ready) else 1
+            jobs = 1 if len(self.idle) <= len(ready) else 2
             running[pool.submit(self.prove, crate, lane, jobs)] = crate, lane
 
 
