@@ -134,7 +134,7 @@ def times_of(folder):
         told = re.match(r"checked (\S+), \d+ of \d+", line)
         if told and before is not None:
             found.append((now - before, told.group(1)))
-        if told or line.startswith("so far:"):
+        if told or before is None and line.startswith("so far:"):
             before = now
     return found if check.wait() == 0 else []
 
