@@ -12,8 +12,9 @@ second, so a process that lives shorter is missed. The table goes to FILE too, i
 
 With `--functions` the crates that are named, all of `crates.txt` where none is, are proved once more by `rt check`, each
 by one job in a copy of the sources, as many at once as there are processors. A function's time is that from the line that
-tells of the function before it to its own; what is read and checked before the first is counted to none. The libraries
-below are those that `./relview` or `rt lib` left.
+tells of the function before it to its own, so it holds that of lemmas which are checked between both; that of a crate's
+first function holds what is read before it. Tests are not among them. The libraries below are those that `./relview` or
+`rt lib` left.
 """
 import argparse
 import collections
@@ -125,7 +126,7 @@ def tool(name):
 
 
 def times_of(folder):
-    """The functions of a crate with their seconds, as one job of a check tells of them; none where it is not proved."""
+    """The functions of a crate with their seconds, as one job of a check tells of them; None where it is not proved."""
     found = []
     check = subprocess.Popen(["rt", "check", "--jobs", "1"], cwd=folder, stdout=subprocess.PIPE, stderr=subprocess.STDOUT, text=True)
     before = None
@@ -136,7 +137,7 @@ def times_of(folder):
             found.append((now - before, told.group(1)))
         if told or before is None and line.startswith("so far:"):
             before = now
-    return found if check.wait() == 0 else []
+    return found if check.wait() == 0 else None
 
 
 def slowest(names):
@@ -161,8 +162,10 @@ def slowest(names):
         way = build.ways(crates)
         with concurrent.futures.ThreadPoolExecutor(build.places()) as pool:
             for name, times in pool.map(prove, sorted(names, key=lambda it: -way[it])):
-                found += times
-                unproved += [] if times else [name]
+                if times is None:
+                    unproved.append(name)
+                else:
+                    found += times
     lines = ["| function | seconds |", "|---|---|"]
     lines += [f"| `{function}` | {seconds:.0f} |" for seconds, function in sorted(found, reverse=True)[:SLOWEST]]
     return "\n".join(lines) + "\n", unproved

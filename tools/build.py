@@ -63,7 +63,7 @@ def places():
 
 def ways(crates):
     """How much is to be proved from each crate on up to the program, in bytes of code along the longest way. Tests are not
-    proved here, and definitions and lemmas cost little beside functions."""
+    proved here, and bytes of definitions and lemmas tell less of the time that a crate takes."""
     size = {crate: 0 for crate in crates}
     for crate in crates:
         for folder, folders, files in os.walk(os.path.join(TOP, "crates", crate, "src")):
