@@ -5,7 +5,7 @@
 ghost use Rattle.std.specs.Prelude.{◌≡◌, ◌<◌, ◌≤◌, ◌+◌, ◌-◌, ◌*◌, ◌^◌, ℕ, Some, IfOk};
 ghost use Rattle.rel_model.specs.declared.Quad.{Quad};
 ghost use Rattle.rel_model.specs.Relation.{Relation, has, relation_of, size_limit};
-ghost use Rattle.rel_model.specs.Cells.{Cells, no_cells, cells_rect, bits_cells};
+ghost use Rattle.rel_model.specs.Cells.{Cells, no_cells, cells_rect, bits_cells, cells_union, cells_compose};
 ghost use Rattle.rel_model.specs.Trees.{top_height, quartered};
 ghost use Rattle.rel_model.specs.Roots.{height_over, tree_room};
 ghost use Rattle.rel_model.specs.Quarters.{LiesWithin, GivesQuarters};
@@ -97,6 +97,21 @@ pub trait Quads: Core {
             (cells_rect rows cols) result }
         ensures keeps { Keeps (Self.worker self.old) (Self.worker self.new) }
         ensures room { MakesAtMost (tree_room (height - Self.least)) (Self.worker self.old) (Self.worker self.new) }
+        ensures cause { HasCause Self.lean (Self.worker self.old) (Self.worker self.new) result };
+
+    /// `x | y*z`: the cells of `x`, and each (i, j) with (i, k) in `y` and (k, j) in `z` for some k. The three are of one
+    /// height.
+    fn joined(&mut self, x: Quad, y: Quad, z: Quad) -> Result<Quad, Lack>
+        requires x_stands { HasQuad (Self.worker self.old) x }
+        requires y_stands { HasQuad (Self.worker self.old) y }
+        requires z_stands { HasQuad (Self.worker self.old) z }
+        requires y_height { y.height ≡ x.height }
+        requires z_height { z.height ≡ x.height }
+        ensures value { IfOk result (GivesQuad (Self.worker self.new) x.height
+            (cells_union (quad_set (Self.worker self.old) x) (cells_compose (2 ^ x.height)
+            (quad_set (Self.worker self.old) y) (quad_set (Self.worker self.old) z)))) }
+        ensures keeps { Keeps (Self.worker self.old) (Self.worker self.new) }
+        ensures room { MakesAtMost (20 * 8 ^ x.height) (Self.worker self.old) (Self.worker self.new) }
         ensures cause { HasCause Self.lean (Self.worker self.old) (Self.worker self.new) result };
 
     /// The leaves have at most 64 cells, which one word holds.
