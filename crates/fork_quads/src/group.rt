@@ -4,11 +4,12 @@ ghost use Rattle.std.specs.Thread.{IsSync};
 ghost use Rattle.rel_model.specs.Quads.{Keeper};
 ghost use Rattle.fork_quads.specs.Forks.{CanDo, CanGroup, DidPieces, AreAll, AreMerged, AreBoth};
 
-use crate::gate::{Gate, Watch};
+use crate::gate::Gate;
 use crate::pieces::{Job, piece};
 use pair_table::Missed;
 use quad_nodes::Nodes;
 use rel_model::Quad;
+use rel_model::watch::Watch;
 use std::thread::{Threads, join_mut};
 
 /// The quads of all pieces, each in the place of its number.

@@ -3,6 +3,7 @@ ghost use Rattle.fork_quads.specs.CrewLaws.{least_limit_law, low_height_law, hig
 
 use crate::crew::Crew;
 use crate::gate::Gate;
+use crate::joined::joined_in_turn;
 use crate::roots::{root_of, told};
 use rel_model::quads_trait::Quads;
 use rel_model::{Lack, Quad, Rel, Shape};
@@ -66,5 +67,10 @@ impl<'t, R: Threads + Sync, G: Gate + Sync> Quads for Crew<'t, R, G> {
     /// A rectangle of a square.
     fn rect(&mut self, height: u8, rows: u32, cols: u32) -> Result<Quad, Lack> {
         told(self.nodes.rect(height, rows, cols))
+    }
+
+    /// A quad and a product, as one.
+    fn joined(&mut self, x: Quad, y: Quad, z: Quad) -> Result<Quad, Lack> {
+        told(joined_in_turn(&self.team, &mut self.nodes, x, y, z))
     }
 }

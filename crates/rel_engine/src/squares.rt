@@ -59,4 +59,9 @@ impl<'t, R: Threads + Sync, G: Gate + Sync> Quads for Works<'t, R, G> {
     fn rect(&mut self, height: u8, rows: u32, cols: u32) -> Result<Quad, Lack> {
         self.crew.rect(height, rows, cols)
     }
+
+    /// A quad and a product, as one.
+    fn joined(&mut self, x: Quad, y: Quad, z: Quad) -> Result<Quad, Lack> {
+        self.crew.joined(x, y, z)
+    }
 }

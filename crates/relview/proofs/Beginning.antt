@@ -5,9 +5,9 @@ use Rattle.std.specs.List.{AllByRecursion}
 use Rattle.rv_io.specs.Outside.{Files, Told, IsOver}
 use Rattle.rv_words.specs.Uses.{Word}
 use Rattle.relview.specs.declared.report.Report.{Report}
-use Rattle.relview.specs.Given.{limit_of}
-use Rattle.relview.specs.Lines.{IsSaid, Usage, Unread, TooLong}
-use Rattle.relview.specs.Writing.{Sunk, IsOut}
+use Rattle.rv_ends.specs.Given.{limit_of}
+use Rattle.rv_ends.specs.Lines.{IsSaid, Usage, Unread, TooLong}
+use Rattle.rv_ends.specs.Writing.{Sunk, IsOut}
 use Rattle.relview.specs.Top.{HasRun, HasStopped, Says}
 use Rattle.relview.specs.Complete.{NothingStopped, RunsBegin}
 

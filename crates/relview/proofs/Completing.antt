@@ -23,7 +23,7 @@ use Rattle.run_model.specs.Legal.{LegalSession, LegalSessions, steps_in}
 use Rattle.run_model.specs.Page.{page, saves, SavedFile}
 use Rattle.run_model.specs.Stored.{FillsWhereFull}
 use Rattle.rv_io.specs.Outside.{Told}
-use Rattle.relview.specs.Writing.{Sunk, IsTold, Told_whole, Unwritten, Unput, HasPut}
+use Rattle.rv_ends.specs.Writing.{Sunk, IsTold, Told_whole, Unwritten, Unput, HasPut}
 use Rattle.rv_io.specs.Writing.{Grows}
 use Rattle.relview.specs.Top.{outcomes_of, status_of}
 use Rattle.relview.specs.Complete.{HadMemory, CameDue, AllCameDue, NoneFailed, CompleteRuns}

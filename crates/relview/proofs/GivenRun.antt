@@ -4,16 +4,16 @@ use Rattle.std.specs.Prelude.{All}
 use Rattle.std.specs.Bool.{MatchBool}
 use Rattle.std.specs.Str.{IsUtf8}
 use Rattle.run_model.specs.Page.{page}
-use Rattle.rv_sessions.specs.declared.transcript.Loaded.{Loaded}
-use Rattle.rv_sessions.specs.Telling.{saved_all}
+use Rattle.run_model.specs.declared.files.Loaded.{Loaded}
+use Rattle.run_model.specs.Filed.{saved_all}
 use Rattle.rv_runs.specs.Runs.{input_with}
 use Rattle.rv_io.specs.Outside.{Told}
 use Rattle.relview.specs.declared.report.Report.{Report}
 use Rattle.relview.specs.declared.over_table.Finished.{Finished}
 use Rattle.relview.specs.Finished.{IsFinished}
-use Rattle.relview.specs.Writing.{Sunk, IsTold}
+use Rattle.rv_ends.specs.Writing.{Sunk, IsTold}
 use Rattle.relview.specs.Top.{RanGiven, GaveUp, AnswersGiven, IsEmpty, status_of}
-use Rattle.relview.proofs.SaveNames.{saves_named}
+use Rattle.rv_ends.proofs.SaveNames.{saves_named}
 
 -- the names of its files are text
 pub finished_named : (bits : ℕ) (scripts : List (List ℕ)) (files : List Loaded) (turns : ℕ) (asked : Bool) (finished : Finished) → IsFinished bits scripts files turns asked finished

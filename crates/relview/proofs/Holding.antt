@@ -28,7 +28,7 @@ use Rattle.fork_quads.specs.Crew.{worker_of}
 use Rattle.fork_quads.proofs.Crewing.{house_of-injective}
 use Rattle.run_model.proofs.Carrying.{due_is_stored}
 use Rattle.rv_workspace.specs.Books.{HistoryStands, EventStands}
-use Rattle.rv_sessions.specs.declared.transcript.Loaded.{Loaded}
+use Rattle.run_model.specs.declared.files.Loaded.{Loaded}
 use Rattle.rv_runs.specs.Runs.{CameTo, MissedWhereFull, input_with}
 
 -- ---- full tables

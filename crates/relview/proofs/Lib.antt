@@ -1,14 +1,6 @@
-pub mod Rest
 pub mod Holding
-pub mod Putting
-pub mod Taking
-pub mod Wording
-pub mod Limits
 pub mod Reporting
 pub mod Stopping
-pub mod Texts
-pub mod Lexemes
-pub mod SaveNames
 pub mod GivenRun
 pub mod Naming
 pub mod Lonely

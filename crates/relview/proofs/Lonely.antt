@@ -15,8 +15,8 @@ use Rattle.run_model.proofs.Rootless.{one_script_one_page}
 use Rattle.rv_io.specs.Outside.{Files}
 use Rattle.rv_words.specs.Uses.{Word}
 use Rattle.rv_words.specs.Said.{Said}
-use Rattle.relview.specs.Given.{IsInput, AreScripts, AreTaken}
-use Rattle.relview.specs.Writing.{IsTold}
+use Rattle.rv_ends.specs.Given.{IsInput, AreScripts, AreTaken}
+use Rattle.rv_ends.specs.Writing.{IsTold}
 use Rattle.relview.specs.Top.{outcomes_of, status_of}
 use Rattle.relview.specs.Alone.{AllSuffice, NameOne, AloneIsSolo, AloneIsOneRun}
 

@@ -11,13 +11,13 @@ use Rattle.rv_words.specs.Uses.{Word}
 use Rattle.rv_words.specs.Said.{said_by, scripts_in, relations_in, fits_gen}
 use Rattle.rv_words.specs.Shown.{texts, shown, files_told}
 use Rattle.rv_words.specs.declared.options.Options.{Options}
-use Rattle.rv_sessions.specs.Telling.{file_of}
+use Rattle.run_model.specs.Filed.{file_of}
 use Rattle.rv_generate.specs.Generator.{generated}
 use Rattle.rv_io.specs.Outside.{Told, Leaves}
-use Rattle.relview.specs.declared.given.Given.{Given}
-use Rattle.relview.specs.Given.{file_words, AreScripts, AreTaken, GivesFiles, bytes_of}
-use Rattle.relview.proofs.Wording.{IsOf, of_words}
-use Rattle.relview.proofs.Limits.{IsShort, taken_short, taken-length}
+use Rattle.rv_ends.specs.declared.given.Given.{Given}
+use Rattle.rv_ends.specs.Given.{file_words, AreScripts, AreTaken, GivesFiles, bytes_of}
+use Rattle.rv_ends.proofs.Wording.{IsOf, of_words}
+use Rattle.rv_ends.proofs.Limits.{IsShort, taken_short, taken-length}
 use Rattle.relview.proofs.Reporting.{GivesRun}
 
 -- ---- FILE words in strings

@@ -4,13 +4,13 @@ use Rattle.std.specs.Bool.{MatchBool}
 use Rattle.run_model.specs.Page.{SavedFile}
 use Rattle.rv_words.specs.Uses.{Word}
 use Rattle.rv_words.specs.Said.{Said, said_by}
-use Rattle.rv_sessions.specs.declared.transcript.Loaded.{Loaded}
-use Rattle.rv_sessions.specs.Telling.{file_of}
+use Rattle.run_model.specs.declared.files.Loaded.{Loaded}
+use Rattle.run_model.specs.Filed.{file_of}
 use Rattle.rv_runs.specs.Runs.{input_with}
 use Rattle.rv_io.specs.Outside.{Told, Rose}
 use Rattle.relview.specs.declared.report.Report.{Report}
-use Rattle.relview.specs.Given.{AreScripts, AreTaken, names_of, bytes_of}
-use Rattle.relview.specs.Writing.{Sunk, IsTold, Told_whole, Unwritten, Unput, HasPut, HasPutBut, HasNoPut}
+use Rattle.rv_ends.specs.Given.{AreScripts, AreTaken, names_of, bytes_of}
+use Rattle.rv_ends.specs.Writing.{Sunk, IsTold, Told_whole, Unwritten, Unput, HasPut, HasPutBut, HasNoPut}
 use Rattle.relview.specs.Top.{HasRun, HasStopped, RanGiven, GaveUp, Answers, AnswersGiven}
 
 -- what was told of a shelf that stood as another did is told of that one

@@ -4,10 +4,10 @@ use Rattle.rv_words.specs.Uses.{Word}
 use Rattle.rv_words.specs.Said.{Said, said_by}
 use Rattle.rv_io.specs.Outside.{Told, Leaves}
 use Rattle.relview.specs.declared.report.Report.{Report}
-use Rattle.relview.specs.declared.given.Halt.{Halt}
-use Rattle.relview.specs.Given.{file_words, IsHalted}
-use Rattle.relview.specs.Lines.{IsFirst, IsSaid}
-use Rattle.relview.specs.Writing.{Sunk, IsWritten, IsOut, HasNoPut}
+use Rattle.rv_ends.specs.declared.given.Halt.{Halt}
+use Rattle.rv_ends.specs.Given.{file_words, IsHalted}
+use Rattle.rv_ends.specs.Lines.{IsFirst, IsSaid}
+use Rattle.rv_ends.specs.Writing.{Sunk, IsWritten, IsOut, HasNoPut}
 use Rattle.relview.specs.Top.{HasStopped, IsEmpty}
 
 -- a line was said

@@ -9,8 +9,8 @@ use Rattle.std.proofs.lemmas.List.Sums.{AllPass-from_list_all}
 use Rattle.rv_io.specs.Outside.{Told, Rose}
 use Rattle.rv_words.specs.Uses.{Word}
 use Rattle.rv_words.specs.Shown.{texts, files_told}
-use Rattle.relview.specs.Given.{file_words}
-use Rattle.relview.specs.Writing.{Sunk}
+use Rattle.rv_ends.specs.Given.{file_words}
+use Rattle.rv_ends.specs.Writing.{Sunk}
 use Rattle.relview.specs.Top.{Answers}
 use Rattle.relview.specs.Surely.{IsSure}
 use Rattle.relview.specs.declared.report.Report.{Report}

@@ -13,7 +13,7 @@ use Rattle.rv_io.specs.Outside.{Told}
 use Rattle.rv_words.specs.Uses.{Word}
 use Rattle.rv_words.specs.Said.{Said}
 use Rattle.relview.specs.declared.report.Report.{Report}
-use Rattle.relview.specs.Writing.{Sunk, IsTold}
+use Rattle.rv_ends.specs.Writing.{Sunk, IsTold}
 use Rattle.relview.specs.Top.{HasRun, outcomes_of, status_of}
 
 -- ---- one script

@@ -15,8 +15,8 @@ use Rattle.rv_io.specs.Outside.{Files, Told, Rose}
 use Rattle.rv_io.specs.Writing.{Grows}
 use Rattle.rv_words.specs.Uses.{Word}
 use Rattle.rv_words.specs.Said.{Said, said_by}
-use Rattle.relview.specs.Given.{file_words, limit_of}
-use Rattle.relview.specs.Writing.{Sunk, HasPut}
+use Rattle.rv_ends.specs.Given.{file_words, limit_of}
+use Rattle.rv_ends.specs.Writing.{Sunk, HasPut}
 use Rattle.relview.specs.Top.{HasRun, Answers, outcomes_of, status_of}
 use Rattle.relview.specs.declared.report.Report.{Report}
 

@@ -12,7 +12,7 @@ use Rattle.rv_words.specs.Uses.{Word}
 use Rattle.rv_words.specs.Shown.{texts}
 use Rattle.rv_io.specs.Outside.{Told}
 use Rattle.relview.specs.declared.report.Report.{Report}
-use Rattle.relview.specs.Writing.{Sunk}
+use Rattle.rv_ends.specs.Writing.{Sunk}
 use Rattle.relview.specs.Top.{Answers, GaveUp}
 
 -- what the system gives for the command line: the program's own name and its words, or an error

@@ -3,8 +3,8 @@ use Rattle.std.specs.Prelude.{ℕ, Bool, List, map}
 use Rattle.run_model.specs.Inputs.{Reading}
 use Rattle.run_model.specs.Run.{IsRun}
 use Rattle.run_model.specs.Stored.{HoldsRun}
-use Rattle.rv_sessions.specs.declared.transcript.Loaded.{Loaded}
-use Rattle.rv_sessions.specs.Telling.{saved_all}
+use Rattle.run_model.specs.declared.files.Loaded.{Loaded}
+use Rattle.run_model.specs.Filed.{saved_all}
 use Rattle.rv_runs.specs.Runs.{input_with}
 use Rattle.relview.specs.declared.over_table.Finished.{Finished}
 

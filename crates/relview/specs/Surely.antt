@@ -6,8 +6,8 @@ use Rattle.rel_model.specs.Equations.{node_words}
 use Rattle.rv_io.specs.Outside.{Files, Told}
 use Rattle.rv_words.specs.Uses.{Word}
 use Rattle.rv_words.specs.Said.{Said, said_by}
-use Rattle.relview.specs.Given.{file_words, limit_of}
-use Rattle.relview.specs.Writing.{Sunk}
+use Rattle.rv_ends.specs.Given.{file_words, limit_of}
+use Rattle.rv_ends.specs.Writing.{Sunk}
 use Rattle.relview.specs.Top.{HasRun, Answers, outcomes_of}
 use Rattle.relview.specs.Complete.{HadMemory, IsComplete}
 use Rattle.relview.specs.declared.report.Report.{Report}

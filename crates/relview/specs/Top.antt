@@ -5,7 +5,7 @@ use Rattle.std.specs.Bool.{MatchBool}
 use Rattle.run_model.specs.declared.outcome.Outcome.{Outcome}
 use Rattle.run_model.specs.declared.outcome.Outcome.TheVariants.{Done, NoMemory}
 use Rattle.run_model.specs.Inputs.{Input, Reading, AreReadings}
-use Rattle.rv_sessions.specs.declared.transcript.Loaded.{Loaded}
+use Rattle.run_model.specs.declared.files.Loaded.{Loaded}
 use Rattle.rv_runs.specs.Runs.{input_with}
 use Rattle.run_model.specs.Legal.{IsLegal}
 use Rattle.run_model.specs.Page.{page, saves}
@@ -13,9 +13,9 @@ use Rattle.run_model.specs.Stored.{HoldsRun}
 use Rattle.rv_io.specs.Outside.{Told}
 use Rattle.rv_words.specs.Uses.{Word}
 use Rattle.rv_words.specs.Said.{Said, said_by}
-use Rattle.relview.specs.Given.{IsInput}
-use Rattle.relview.specs.Lines.{IsSaid}
-use Rattle.relview.specs.Writing.{Sunk, IsWritten, IsOut, IsTold, HasNoPut}
+use Rattle.rv_ends.specs.Given.{IsInput}
+use Rattle.rv_ends.specs.Lines.{IsSaid}
+use Rattle.rv_ends.specs.Writing.{Sunk, IsWritten, IsOut, IsTold, HasNoPut}
 use Rattle.relview.specs.declared.report.Report.{Report}
 
 -- ---- statuses

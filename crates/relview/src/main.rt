@@ -1,9 +1,7 @@
 //! `relview FILE...`: runs scripts at once, and writes their page to standard output and their files beside it.
 #![tactic(auto)]
 
-pub mod given;
 pub mod laws;
-pub mod lines;
 pub mod over_table;
 pub mod program;
 pub mod report;
@@ -13,7 +11,6 @@ pub mod surely;
 mod tests;
 pub mod top;
 pub mod words;
-pub mod writing;
 
 use program::run_program;
 use rv_io::{FileShelf, StdoutSink};

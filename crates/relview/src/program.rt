@@ -1,7 +1,7 @@
 //! The program: the words that the system gives, run over a shelf and a sink.
 ghost use Rattle.std.specs.Prelude.{◌≡◌, IsTrue, All};
-ghost use Rattle.relview.specs.Given.{file_words};
-ghost use Rattle.relview.specs.Writing.{sunk};
+ghost use Rattle.rv_ends.specs.Given.{file_words};
+ghost use Rattle.rv_ends.specs.Writing.{sunk};
 ghost use Rattle.relview.specs.Top.{Answers, GaveUp};
 ghost use Rattle.relview.specs.Ending.{words_in, HadNoRoom, EndsWith};
 

@@ -3,8 +3,8 @@ ghost use Rattle.std.specs.Prelude.{◌≡◌, true, All, IsTrue};
 ghost use Rattle.std.specs.List.{list_all};
 ghost use Rattle.std.specs.String.{string_bytes};
 ghost use Rattle.rv_words.specs.Shown.{texts};
-ghost use Rattle.relview.specs.Given.{file_words};
-ghost use Rattle.relview.specs.Writing.{sunk};
+ghost use Rattle.rv_ends.specs.Given.{file_words};
+ghost use Rattle.rv_ends.specs.Writing.{sunk};
 ghost use Rattle.relview.specs.Surely.{IsSure};
 
 use crate::report::Report;

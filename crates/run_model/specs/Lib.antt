@@ -9,6 +9,7 @@ pub mod Outcomes
 pub mod States
 pub mod Legal
 pub mod Page
+pub mod Filed
 pub mod Cost
 pub mod Solo
 pub mod Laws

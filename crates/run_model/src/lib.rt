@@ -3,6 +3,7 @@
 #![tactic(auto)]
 
 pub mod event;
+pub mod files;
 pub mod laws;
 pub mod limits;
 pub mod outcome;

@@ -18,9 +18,10 @@ use Rattle.run_model.specs.Cost.{cost_of_steps}
 use Rattle.run_model.specs.Turns.{BeginsLog, Turn, put_by}
 use Rattle.run_model.specs.Sessions.{RunsTurns, steps_taken}
 use Rattle.turn_book.specs.Views.{View}
-use Rattle.rv_sessions.specs.declared.transcript.Loaded.{Loaded}
+use Rattle.run_model.specs.declared.files.Loaded.{Loaded}
 use Rattle.rv_sessions.specs.declared.transcript.Transcript.{Transcript}
-use Rattle.rv_sessions.specs.Telling.{file_of, input_of, texts_of, saved_all}
+use Rattle.run_model.specs.Filed.{file_of, saved_all}
+use Rattle.rv_sessions.specs.Telling.{input_of, texts_of}
 use Rattle.rv_sessions.specs.Sessions.{RanScript, Refused, DidReading}
 use Rattle.rv_runs.specs.Runs.{input_with}
 use Rattle.rv_runs.specs.Works.{HasRun, IsAbsorbed}

@@ -22,7 +22,7 @@ use Rattle.turn_book.specs.Joined.{JoinsAll, all_lists}
 use Rattle.rv_workspace.specs.Books.{HistoryStands, Held, IsBook}
 use Rattle.rv_workspace.proofs.Keeping.{held_stands}
 use Rattle.rv_workspace.proofs.Replaying.{history_stands}
-use Rattle.rv_sessions.specs.declared.transcript.Loaded.{Loaded}
+use Rattle.run_model.specs.declared.files.Loaded.{Loaded}
 use Rattle.rv_sessions.specs.declared.transcript.Transcript.{Transcript}
 use Rattle.rv_sessions.specs.Telling.{input_of}
 use Rattle.rv_sessions.specs.Running.{one_for_nodes, nodes_in, RoseBy}

@@ -20,7 +20,7 @@ use Rattle.run_model.specs.Sessions.{SessionRan, SessionsRan}
 use Rattle.run_model.proofs.Taking.{taken_is_state}
 use Rattle.run_model.proofs.Values.{sessions_make_due}
 use Rattle.run_model.proofs.Whole.{closed_log_is_legal}
-use Rattle.rv_sessions.specs.declared.transcript.Loaded.{Loaded}
+use Rattle.run_model.specs.declared.files.Loaded.{Loaded}
 use Rattle.rv_sessions.specs.Telling.{input_of}
 use Rattle.rv_runs.specs.Runs.{input_with}
 use Rattle.rv_runs.proofs.Accounts.{Part, Accounts, outcomes_of, text_told, saved_told, made_in, ToldScript, Told, AllTold, told_reading}

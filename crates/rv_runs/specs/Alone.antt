@@ -8,7 +8,7 @@ use Rattle.run_model.specs.Inputs.{Input, Reading, IsReading}
 use Rattle.run_model.specs.Events.{entry_of}
 use Rattle.run_model.specs.Page.{SavedFile, page, saves}
 use Rattle.run_model.specs.Solo.{solo, Suffices}
-use Rattle.rv_sessions.specs.declared.transcript.Loaded.{Loaded}
+use Rattle.run_model.specs.declared.files.Loaded.{Loaded}
 use Rattle.rv_runs.specs.Runs.{input_with, CameTo}
 
 -- The outcomes, and the events without the roots of their relations, are those that the script alone decides; and

@@ -4,7 +4,8 @@ use Rattle.std.specs.List.{flat_map}
 use Rattle.run_model.specs.declared.event.Event.{Event}
 use Rattle.run_model.specs.Page.{SavedFile, event_line}
 use Rattle.rv_sessions.specs.declared.transcript.Transcript.{Transcript}
-use Rattle.rv_sessions.specs.Telling.{texts_of, saved_all}
+use Rattle.run_model.specs.Filed.{saved_all}
+use Rattle.rv_sessions.specs.Telling.{texts_of}
 
 -- the replies of a session
 abbrev pub text_of_session : Transcript → List ℕ

@@ -12,8 +12,8 @@ use Rattle.run_model.specs.Carried.{AllHaveDue}
 use Rattle.run_model.specs.Cost.{cost_of_run}
 use Rattle.run_model.specs.Run.{IsRun}
 use Rattle.rv_workspace.specs.Books.{HistoryStands}
-use Rattle.rv_sessions.specs.declared.transcript.Loaded.{Loaded}
-use Rattle.rv_sessions.specs.Telling.{file_of, saved_all}
+use Rattle.run_model.specs.declared.files.Loaded.{Loaded}
+use Rattle.run_model.specs.Filed.{file_of, saved_all}
 use Rattle.rv_runs.specs.declared.ended.Ended.{Ended}
 
 -- what a run is given, with its scripts as they are read

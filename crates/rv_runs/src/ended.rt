@@ -1,7 +1,7 @@
 //! What a run comes to.
 use run_model::event::Event;
+use run_model::files::Save;
 use run_model::outcome::Outcome;
-use rv_sessions::Save;
 
 /// What a run comes to: the engine with all that its sessions made, the history, the outcomes of each session in the
 /// order of the scripts, the page, and the files to be put after it.

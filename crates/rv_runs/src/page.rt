@@ -3,14 +3,16 @@ ghost use Rattle.std.specs.Prelude.{◌≡◌, ◌++◌, [], map, IfOk, OnOk};
 ghost use Rattle.std.specs.List.{flat_map};
 ghost use Rattle.run_model.specs.Page.{event_line};
 ghost use Rattle.run_model.specs.Texts.{prefix};
-ghost use Rattle.rv_sessions.specs.Telling.{text_of, texts_of, saved_all};
+ghost use Rattle.run_model.specs.Filed.{saved_all};
+ghost use Rattle.rv_sessions.specs.Telling.{text_of, texts_of};
 ghost use Rattle.rv_runs.specs.Pages.{text_of_session, saved_by_session, page_told};
 
 use rel_model::NoMemory;
 use run_model::event::Event;
+use run_model::files::Save;
 use run_model::outcome::Outcome;
 use rv_print::event_line;
-use rv_sessions::{Reply, Save, Transcript};
+use rv_sessions::{Reply, Transcript};
 use std::alloc::{AllocError, Global};
 
 /// Adds `S.C: `.

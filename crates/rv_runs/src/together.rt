@@ -10,10 +10,11 @@ ghost use Rattle.rv_runs.specs.Works.{IsFresh, CanJoin, RanWhereTold, Numbered, 
 use crate::ended::Ended;
 use crate::page::{make_page, take_apart};
 use crate::work::{Work, run_work};
-use fork_quads::Gate;
 use rel_model::NoMemory;
 use rel_model::engine_trait::Engine;
-use rv_sessions::{Loaded, Transcript};
+use rel_model::watch::Watch;
+use run_model::files::Loaded;
+use rv_sessions::Transcript;
 use rv_workspace::Book;
 use std::alloc::Global;
 use std::sync::Wait;
@@ -61,14 +62,14 @@ fn split_all<E: Engine + Drop>(
 }
 
 /// Runs the sessions of all works at once.
-fn run_works<E: Engine + Drop + Send, R: Threads + Wait + Sync, G: Gate + Sync>(
+fn run_works<E: Engine + Drop + Send, R: Threads + Wait + Sync, W: Watch + Sync>(
     rt: &R,
     alloc: Global,
     scripts: &[Vec<u8>],
     files: &[Loaded],
     turns: u64,
     book: &TurnBook<Book<E>>,
-    gate: &G,
+    watch: &W,
     works: &mut Vec<Work<E>>,
 )
     requires few { length scripts.now ≤ 64 }
@@ -87,7 +88,7 @@ fn run_works<E: Engine + Drop + Send, R: Threads + Wait + Sync, G: Gate + Sync>(
         rt,
         works.as_mut_slice(),
         MOST,
-        &|_, work| run_work(rt, alloc, scripts, files, turns, book, gate, work),
+        &|_, work| run_work(rt, alloc, scripts, files, turns, book, watch, work),
     );
 }
 
@@ -130,16 +131,16 @@ fn join_all<E: Engine + Drop>(
 /// Runs all scripts at once, a session for each, whose commands take turns at one book of names.
 ///
 /// A script that does not run is told by its one fault, and the others run. An answer is a lawful run of the scripts,
-/// with its page and its files. Where memory for the lists of the run is wanting, there is none. The gate is told
+/// with its page and its files. Where memory for the lists of the run is wanting, there is none. The watch is told
 /// when each session begins and when it has ended, by its number and 1,000,000 more.
-pub fn run_all<R: Threads + Wait + Sync, E: Engine + Drop + Send, G: Gate + Sync>(
+pub fn run_all<R: Threads + Wait + Sync, E: Engine + Drop + Send, W: Watch + Sync>(
     rt: &R,
     alloc: Global,
     scripts: &[Vec<u8>],
     files: &[Loaded],
     turns: u64,
     history: bool,
-    gate: &G,
+    watch: &W,
     mut engine: E,
 ) -> Result<Ended<E>, NoMemory>
     requires some { 1 ≤ length scripts.now }
@@ -163,7 +164,7 @@ pub fn run_all<R: Threads + Wait + Sync, E: Engine + Drop + Send, G: Gate + Sync
         return Err(NoMemory);
     };
     split_all(&book, &mut pass, &mut engine, scripts.len(), &mut works);
-    run_works(rt, alloc, scripts, files, turns, &book, gate, &mut works);
+    run_works(rt, alloc, scripts, files, turns, &book, watch, &mut works);
     let whole = join_all(&book, &mut pass, &mut engine, works, &mut told);
     let (archive, events) = book.close(pass).into_parts();
     engine.join(archive);

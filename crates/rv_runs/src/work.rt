@@ -4,15 +4,16 @@ ghost use Rattle.lang_model.specs.Limits.{script_limit};
 ghost use Rattle.rv_sessions.specs.Telling.{input_of};
 ghost use Rattle.rv_runs.specs.Works.{IsFresh, CanJoin, RanWhereTold};
 
-use fork_quads::Gate;
 use rel_model::engine_trait::Engine;
-use rv_sessions::{Loaded, Transcript, run};
+use rel_model::watch::Watch;
+use run_model::files::Loaded;
+use rv_sessions::{Transcript, run};
 use rv_workspace::Book;
 use std::alloc::Global;
 use std::sync::Wait;
 use turn_book::{Pass, TurnBook};
 
-/// What is added to the number of a session, where its gate is told of it.
+/// What is added to the number of a session, where the watch is told of it.
 const SESSIONS: u32 = 1_000_000;
 
 /// The work of one session: its number, from 1 on, with all that it needs, and what it told.
@@ -26,15 +27,15 @@ pub struct Work<E: Engine> {
 
 /// Runs the session of a piece of work. Where memory is wanting, it tells nothing.
 ///
-/// The gate is told when the session begins and when it has ended, by its number and 1,000,000 more.
-pub fn run_work<R: Wait, E: Engine + Drop, G: Gate>(
+/// The watch is told when the session begins and when it has ended, by its number and 1,000,000 more.
+pub fn run_work<R: Wait, E: Engine + Drop, W: Watch>(
     rt: &R,
     alloc: Global,
     scripts: &[Vec<u8>],
     files: &[Loaded],
     turns: u64,
     book: &TurnBook<Book<E>>,
-    gate: &G,
+    watch: &W,
     work: &mut Work<E>,
 )
     requires few { length scripts.now ≤ 64 }
@@ -47,7 +48,7 @@ pub fn run_work<R: Wait, E: Engine + Drop, G: Gate>(
 {
     let script = scripts[work.number as usize - 1].as_slice();
     let piece = SESSIONS + work.number;
-    gate.enter(piece);
+    watch.begins(piece);
     let ran = run(
         alloc,
         work.number,
@@ -59,6 +60,6 @@ pub fn run_work<R: Wait, E: Engine + Drop, G: Gate>(
         &mut work.pass,
         &mut work.engine,
     );
-    gate.leave(piece);
+    watch.ends(piece);
     work.told = ran.ok();
 }

@@ -11,12 +11,13 @@ use Rattle.run_model.specs.Page.{SavedFile}
 use Rattle.turn_book.specs.Views.{View}
 use Rattle.rv_sessions.specs.declared.told.Told.{Told}
 use Rattle.rv_sessions.specs.declared.transcript.Reply.{Reply}
-use Rattle.rv_sessions.specs.declared.transcript.Save.{Save}
+use Rattle.run_model.specs.declared.files.Save.{Save}
 use Rattle.rv_sessions.specs.declared.transcript.Transcript.{Transcript}
 use Rattle.rv_sessions.specs.Standing.{Kept}
 use Rattle.rv_sessions.specs.Doing.{Did}
 use Rattle.rv_sessions.specs.Acting.{DidItem}
-use Rattle.rv_sessions.specs.Telling.{text_of, texts_of, saved_of, saved_all, saved_by}
+use Rattle.run_model.specs.Filed.{saved_of, saved_all}
+use Rattle.rv_sessions.specs.Telling.{text_of, texts_of, saved_by}
 use Rattle.rv_sessions.specs.Noting.{IsBare, outcome_in, text_in, saved_in}
 use Rattle.rv_sessions.specs.Running.{RanSoFar}
 use Rattle.rv_sessions.proofs.Folding.{nothing_yet, one_more}

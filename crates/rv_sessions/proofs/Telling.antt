@@ -19,7 +19,7 @@ use Rattle.turn_book.specs.Views.{View as PASS}
 use Rattle.rv_sessions.specs.declared.form.Form.{Form}
 use Rattle.rv_sessions.specs.declared.told.Told.{Told}
 use Rattle.rv_sessions.specs.declared.transcript.Reply.{Reply}
-use Rattle.rv_sessions.specs.declared.transcript.Save.{Save}
+use Rattle.run_model.specs.declared.files.Save.{Save}
 use Rattle.rv_sessions.specs.Standing.{Kept, KeptStand, meant}
 use Rattle.rv_sessions.specs.Doing.{Did}
 use Rattle.rv_sessions.specs.Telling.{text_of, saved_by, TellsRefusal}

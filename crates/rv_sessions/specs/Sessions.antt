@@ -17,7 +17,8 @@ use Rattle.run_model.specs.Turns.{Turn, put_by}
 use Rattle.run_model.specs.Sessions.{RunsTurns, steps_taken}
 use Rattle.turn_book.specs.Views.{View}
 use Rattle.rv_sessions.specs.declared.transcript.Transcript.{Transcript}
-use Rattle.rv_sessions.specs.Telling.{texts_of, saved_all}
+use Rattle.run_model.specs.Filed.{saved_all}
+use Rattle.rv_sessions.specs.Telling.{texts_of}
 use Rattle.rv_sessions.specs.Standing.{TurnsStand}
 use Rattle.rv_sessions.specs.Running.{nodes_in, RoseBy}
 

@@ -1,22 +1,18 @@
 -- What a transcript tells, and what a session is given, in the words of runs.
 use Rattle.std.specs.Prelude.{◌≡◌, ◌≢◌, ℕ, false, List, [], ◌∷◌, ◌++◌, map, Option, Some, None, Result, Ok, Err}
 use Rattle.std.specs.List.{flat_map}
-use Rattle.std.specs.String.{string_bytes}
 use Rattle.run_model.specs.declared.outcome.Outcome.TheVariants.{NoMemory as NO_MEMORY}
-use Rattle.run_model.specs.Inputs.{Input, RelationFile}
+use Rattle.run_model.specs.Inputs.{Input}
 use Rattle.run_model.specs.Page.{SavedFile}
+use Rattle.run_model.specs.Filed.{file_of, saved_of}
 use Rattle.run_model.specs.Texts.{prefix, refusal_text}
-use Rattle.rv_sessions.specs.declared.transcript.Loaded.{Loaded}
-use Rattle.rv_sessions.specs.declared.transcript.Save.{Save}
+use Rattle.run_model.specs.declared.files.Loaded.{Loaded}
+use Rattle.run_model.specs.declared.files.Save.{Save}
 use Rattle.rv_sessions.specs.declared.transcript.Reply.{Reply}
 use Rattle.rv_sessions.specs.declared.told.Told.{Told as TOLD}
 use Rattle.rel_model.specs.declared.NoMemory.{NoMemory as NO_MEMORY_ERROR}
 use Rattle.run_model.specs.declared.outcome.Outcome.{Outcome}
 use Rattle.rv_sessions.specs.declared.transcript.Reply.TheVariants.{Nothing, Told, NoMemory}
-
--- a relation file of the command line
-abbrev pub file_of : Loaded → RelationFile
-file_of f = record { name = string_bytes f.name; bytes = f.bytes.items }
 
 -- what a session is given beside its script: the relation files and the turns of an expression's loops
 unfoldable pub input_of : List Loaded → ℕ → Input
@@ -31,14 +27,6 @@ text_of (NoMemory session command) = prefix session command ++ refusal_text NO_M
 -- the bytes of replies, one after another
 abbrev pub texts_of : List Reply → List ℕ
 texts_of = flat_map text_of
-
--- a file that is put after the page
-abbrev pub saved_of : Save → SavedFile
-saved_of s = record { name = s.name; bytes = s.bytes.items }
-
--- all of them
-abbrev pub saved_all : List Save → List SavedFile
-saved_all = map saved_of
 
 -- the file that an item saves
 abbrev pub saved_by : Option Save → List SavedFile

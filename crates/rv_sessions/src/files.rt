@@ -2,9 +2,9 @@
 ghost use Rattle.std.specs.Prelude.{◌≡◌, map};
 ghost use Rattle.std.specs.Option.{option_map};
 ghost use Rattle.run_model.specs.Inputs.{file_named};
-ghost use Rattle.rv_sessions.specs.Telling.{file_of};
+ghost use Rattle.run_model.specs.Filed.{file_of};
 
-use crate::transcript::Loaded;
+use run_model::files::Loaded;
 
 /// The bytes of the first file of this name.
 pub(crate) fn file_named<'a>(files: &'a [Loaded], name: &[u8]) -> Option<&'a [u8]>

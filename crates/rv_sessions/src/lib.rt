@@ -18,4 +18,4 @@ mod turns;
 mod value;
 
 pub use session::run;
-pub use transcript::{Loaded, Reply, Save, Transcript};
+pub use transcript::{Reply, Transcript};

@@ -5,8 +5,9 @@ ghost use Rattle.rv_sessions.specs.declared.transcript.Reply.TheVariants.{Nothin
 ghost use Rattle.rv_sessions.specs.Telling.{TellsRefusal};
 
 use crate::by::By;
-use crate::transcript::{Reply, Save};
+use crate::transcript::Reply;
 use rel_model::NoMemory;
+use run_model::files::Save;
 use run_model::outcome::Outcome;
 use rv_print::fault_text;
 use std::alloc::Global;

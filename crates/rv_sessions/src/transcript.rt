@@ -1,20 +1,6 @@
-//! What a session is given and what it tells.
-use lang_model::syntax::FileText;
+//! What a session tells.
+use run_model::files::Save;
 use run_model::outcome::Outcome;
-
-/// A relation file of the command line.
-#[derive(Drop)]
-pub struct Loaded {
-    pub name: String,
-    pub bytes: Vec<u8>,
-}
-
-/// A file to be put after the page.
-#[derive(Drop)]
-pub struct Save {
-    pub name: FileText,
-    pub bytes: Vec<u8>,
-}
 
 /// The reply to a command, behind the numbers of its session and its own.
 #[derive(Drop)]

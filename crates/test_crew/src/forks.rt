@@ -8,10 +8,11 @@ ghost use Rattle.rel_model.specs.Worker.{Worker, Stands, Keeps};
 ghost use Rattle.fork_quads.specs.Forks.{CanGroup, DidPieces};
 
 use crate::tests::{given, with_pair};
-use fork_quads::{Crew, Gate, Job, OpenGate, Pieces, Watch, watched};
+use fork_quads::{Crew, Gate, Job, OpenGate, Pieces, watched};
 use pair_table::{Missed, PairTable, Seat};
 use quad_nodes::Nodes;
 use rel_model::core_trait::Core;
+use rel_model::watch::Watch;
 use rel_model::{Lack, Rel, Shape};
 use std::alloc::Global;
 use std::process::Abort;
@@ -69,14 +70,6 @@ impl Watch for Meeting {
 }
 
 impl Gate for Meeting {
-    fn enter(&self, piece: u32) {
-        self.begins(piece);
-    }
-
-    fn leave(&self, piece: u32) {
-        self.ends(piece);
-    }
-
     fn group<R: Threads>(
         &self,
         rt: &R,

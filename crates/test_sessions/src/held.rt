@@ -1,5 +1,6 @@
 //! A gate that holds some sessions until others have begun or ended.
 use fork_quads::Gate;
+use rel_model::watch::Watch;
 use std::sync::atomic::{AtomicBool, AtomicU32, Ordering};
 use std::thread::yield_now;
 
@@ -67,8 +68,8 @@ impl Holding {
     }
 }
 
-impl Gate for Holding {
-    fn enter(&self, piece: u32) {
+impl Watch for Holding {
+    fn begins(&self, piece: u32) {
         let _ = self.begun.fetch_add(1, Ordering::SeqCst);
         let session = piece.saturating_sub(SESSIONS);
         'looks: for _ in 0..LOOKS {
@@ -80,8 +81,10 @@ impl Gate for Holding {
         self.gave_up.store(true, Ordering::SeqCst);
     }
 
-    fn leave(&self, piece: u32) {
+    fn ends(&self, piece: u32) {
         let _ = piece;
         let _ = self.ended.fetch_add(1, Ordering::SeqCst);
     }
 }
+
+impl Gate for Holding {}

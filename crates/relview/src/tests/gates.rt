@@ -4,9 +4,10 @@ ghost use Rattle.rel_model.specs.Quads.{Keeper};
 ghost use Rattle.fork_quads.specs.Forks.{CanGroup, DidPieces};
 
 use super::runs::{assert_written, run_gated};
-use fork_quads::{Gate, Job, Pieces, Watch, watched};
+use fork_quads::{Gate, Job, Pieces, watched};
 use pair_table::Missed;
 use quad_nodes::Nodes;
+use rel_model::watch::Watch;
 use run_model::event::{Act, Event};
 use std::alloc::{AllocError, Global};
 use std::hint::spin_loop;
@@ -87,14 +88,6 @@ impl Watch for Holding {
 }
 
 impl Gate for Holding {
-    fn enter(&self, piece: u32) {
-        self.begins(piece);
-    }
-
-    fn leave(&self, piece: u32) {
-        self.ends(piece);
-    }
-
     fn group<R: Threads>(
         &self,
         rt: &R,

@@ -1,7 +1,7 @@
 //! Runs of the top call over a shelf and a sink in memory.
 ghost use Rattle.std.specs.Prelude.{[], Some, IfOk};
 ghost use Rattle.rv_words.specs.Shown.{texts};
-ghost use Rattle.relview.specs.Writing.{sunk};
+ghost use Rattle.rv_ends.specs.Writing.{sunk};
 ghost use Rattle.relview.specs.Top.{Answers};
 
 use crate::report::Report;

@@ -1,7 +1,7 @@
 use Rattle.std.proofs.Common.{◌∙◌, map, subst}
 use Rattle.rel_model.specs.Trees.{bottom_height}
 use Rattle.fork_quads.specs.Crew.{worker_of}
-use Rattle.rv_sessions.specs.Telling.{saved_all}
+use Rattle.run_model.specs.Filed.{saved_all}
 use Rattle.rv_runs.specs.Runs.{CameTo}
 use Rattle.relview.proofs.Holding.{of_table, whole_table, holds_run}
 use Rattle.relview.proofs.over_table.run_over_table.Goals as goal

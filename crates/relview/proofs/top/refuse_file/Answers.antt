@@ -1,7 +1,7 @@
 use Rattle.std.proofs.Common.{subst}
 use Rattle.rv_io.specs.Reading.{RefusesFile}
-use Rattle.relview.specs.Given.{limit_of}
-use Rattle.relview.specs.Lines.{Unread, TooLong, cannot_read_line, too_long_line}
+use Rattle.rv_ends.specs.Given.{limit_of}
+use Rattle.rv_ends.specs.Lines.{Unread, TooLong, cannot_read_line, too_long_line}
 use Rattle.relview.proofs.Stopping.{by_either}
 use Rattle.relview.proofs.top.refuse_file.Goals as goal
 

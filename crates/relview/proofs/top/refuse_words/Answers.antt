@@ -1,4 +1,4 @@
-use Rattle.relview.specs.Lines.{Usage, usage_line}
+use Rattle.rv_ends.specs.Lines.{Usage, usage_line}
 use Rattle.relview.proofs.Stopping.{by_line}
 use Rattle.relview.proofs.top.refuse_words.Goals as goal
 

@@ -1,6 +1,6 @@
 use Rattle.std.proofs.Common.{length, sym, ap, subst, arith}
 use Rattle.std.specs.Prelude.{All}
-use Rattle.relview.proofs.Limits.{IsShort, made_short, eight}
+use Rattle.rv_ends.proofs.Limits.{IsShort, made_short, eight}
 use Rattle.relview.proofs.top.run_generated.Goals as goal
 
 pub run_given-requires-clause-some : goal.run_given-requires-clause-some

@@ -2,10 +2,10 @@ use Rattle.std.proofs.Common.{length, map, sym, ap, subst, arith}
 use Rattle.std.specs.Prelude.{All, IsTrue}
 use Rattle.std.specs.String.{string_bytes}
 use Rattle.rv_words.specs.Shown.{texts, shown}
-use Rattle.relview.specs.Given.{GivesFiles}
-use Rattle.relview.specs.Writing.{sunk}
+use Rattle.rv_ends.specs.Given.{GivesFiles}
+use Rattle.rv_ends.specs.Writing.{sunk}
 use Rattle.relview.specs.Top.{AnswersGiven}
-use Rattle.relview.proofs.Limits.{IsShort}
+use Rattle.rv_ends.proofs.Limits.{IsShort}
 use Rattle.relview.proofs.Naming.{IsNamed, workers_some, workers_few, may_pick_names, named_some, named_few, named_short, named_gives}
 use Rattle.relview.proofs.Reporting.{answers}
 use Rattle.relview.proofs.top.run_named.Goals as goal

@@ -1,7 +1,7 @@
 use Rattle.std.proofs.Common.{◌≡◌, ◌++◌, map}
 use Rattle.std.specs.List.{flat_map}
 use Rattle.std.specs.Vec.Iter.{into_iter_items}
-use Rattle.rv_sessions.specs.Telling.{saved_all}
+use Rattle.run_model.specs.Filed.{saved_all}
 use Rattle.rv_runs.specs.Pages.{saved_by_session}
 use Rattle.rv_runs.proofs.page.take_apart.Given as goal
 

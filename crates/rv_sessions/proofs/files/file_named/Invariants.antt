@@ -1,6 +1,6 @@
 use Rattle.std.proofs.Common.{◌≡◌, map, drop}
 use Rattle.run_model.specs.Inputs.{file_named}
-use Rattle.rv_sessions.specs.Telling.{file_of}
+use Rattle.run_model.specs.Filed.{file_of}
 use Rattle.rv_sessions.proofs.files.file_named.Given as goal
 
 abbrev pub invariant-files : goal.invariant-files

@@ -9,7 +9,7 @@ use Rattle.turn_book.specs.Views.{View as PASS}
 use Rattle.rv_sessions.specs.declared.told.Told.{Told}
 use Rattle.rv_sessions.specs.Acting.{DidItem}
 use Rattle.rv_sessions.specs.Doing.{Did}
-use Rattle.rv_sessions.specs.Telling.{file_of}
+use Rattle.run_model.specs.Filed.{file_of}
 use Rattle.rv_sessions.proofs.Telling.{moved, as_told}
 use Rattle.rv_sessions.proofs.Loading.{untouched_lacks, no_file}
 use Rattle.rv_sessions.proofs.giving.load.Goals as goal

@@ -1,6 +1,7 @@
 use Rattle.std.proofs.Common.{◌≡◌, ◌≤◌, length, vec_len, vec_capacity}
 use Rattle.rv_sessions.specs.Running.{RanSoFar}
-use Rattle.rv_sessions.specs.Telling.{input_of, texts_of, saved_all}
+use Rattle.run_model.specs.Filed.{saved_all}
+use Rattle.rv_sessions.specs.Telling.{input_of, texts_of}
 use Rattle.rv_sessions.proofs.session.run_items.Given as goal
 
 abbrev pub invariant-items : goal.invariant-items

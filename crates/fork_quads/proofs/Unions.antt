@@ -1,0 +1,57 @@
+-- A quad and a product, as one.
+-- 1. The product of two quads, and then the union of a third with it.
+-- 2. The same as a worker has them; and the words that it places.
+use Rattle.std.proofs.Common.{◌≡◌, ◌≤◌, ◌+◌, ◌-◌, ◌*◌, ◌^◌, ◌∙◌, zero, suc, ℕ, ap, sym, arith}
+use Rattle.std.proofs.Math.Nat.{pow-suc, one-le-pow, pow-le-pow_left}
+use Rattle.rel_model.specs.declared.Quad.{Quad}
+use Rattle.rel_model.specs.Cells.{Cells, cells_union, cells_compose}
+use Rattle.rel_model.specs.Trees.{bottom_height}
+use Rattle.rel_model.specs.Equations.{side_of}
+use Rattle.rel_model.specs.Quads.{Keeper, IsKeeper, QuadStands, IsQuad, quad_cells, KeepsQuads, quad_room}
+use Rattle.rel_model.specs.Worker.{HasQuad, quad_set}
+use Rattle.rel_model.proofs.QuadLaws.{quad_cells-stay, side_of-power}
+use Rattle.fork_quads.specs.Crew.{worker_of}
+use Rattle.fork_quads.specs.Forks.{fork_words}
+use Rattle.fork_quads.proofs.Halving.{pow_three}
+use Rattle.fork_quads.proofs.Quartering.{set_inside}
+
+-- ---- in turn
+pub union_of_product : (most : ℕ) (w0 w1 w2 : Keeper) (x y z product both : Quad) → y.height ≡ x.height → KeepsQuads most w0 w1 → QuadStands w0 x
+    → IsQuad w1 y.height (cells_compose (side_of y.height) (quad_cells w0 y) (quad_cells w0 z)) product
+    → IsQuad w2 x.height (cells_union (quad_cells w1 x) (quad_cells w1 product)) both
+    → IsQuad w2 x.height (cells_union (quad_cells w0 x) (cells_compose (side_of x.height) (quad_cells w0 y) (quad_cells w0 z))) both
+union_of_product most w0 w1 w2 x y z product both e k h p u = record {
+  same_height = u.same_height;
+  stands = u.stands;
+  means = u.means ∙ ap (λ (f : Cells). cells_union f (quad_cells w1 product)) (quad_cells-stay most w0 w1 x k h)
+      ∙ ap (λ (f : Cells). cells_union (quad_cells w0 x) f) p.means
+      ∙ ap (λ (n : ℕ). cells_union (quad_cells w0 x) (cells_compose (side_of n) (quad_cells w0 y) (quad_cells w0 z))) e;
+}
+
+-- ---- of a worker
+pub joined_set : (w inside : Keeper) (x y z : Quad) → inside ≡ w → IsKeeper inside → HasQuad (worker_of w) x → HasQuad (worker_of w) y → HasQuad (worker_of w) z → bottom_height ≤ x.height
+    → cells_union (quad_cells inside x) (cells_compose (side_of x.height) (quad_cells inside y) (quad_cells inside z))
+    ≡ cells_union (quad_set (worker_of w) x) (cells_compose (2 ^ x.height) (quad_set (worker_of w) y) (quad_set (worker_of w) z))
+joined_set w inside x y z v i hx hy hz low =
+    ap (λ (f : Cells). cells_union f (cells_compose (side_of x.height) (quad_cells inside y) (quad_cells inside z))) (set_inside w inside x v i hx)
+    ∙ ap (λ (m : ℕ). cells_union (quad_set (worker_of w) x) (cells_compose m (quad_cells inside y) (quad_cells inside z))) (side_of-power x.height low)
+    ∙ ap (λ (f : Cells). cells_union (quad_set (worker_of w) x) (cells_compose (2 ^ x.height) f (quad_cells inside z))) (set_inside w inside y v i hy)
+    ∙ ap (λ (f : Cells). cells_union (quad_set (worker_of w) x) (cells_compose (2 ^ x.height) (quad_set (worker_of w) y) f)) (set_inside w inside z v i hz)
+
+-- a product and a union place at most 20 * 8 ^ h words
+pub joined_room : (h : ℕ) → bottom_height ≤ h → fork_words (h - bottom_height) + quad_room h ≤ 20 * 8 ^ h
+unfolding bottom_height
+joined_room h low = above (h - 3) h (omega (arith, low))
+  where
+    above : (d k : ℕ) → k ≡ d + 3 → fork_words (k - 3) + quad_room k ≤ 20 * 8 ^ k
+    above zero k e =
+        let a : 8 ^ k ≡ 8 ^ 3 = ap (λ (n : ℕ). 8 ^ n) e in
+        let b : fork_words (k - 3) ≡ 1 = ap fork_words (let f : k - 3 ≡ 0 = omega (arith, e) in f) in
+        let c : quad_room k ≡ 1 = ap quad_room e in
+        omega (arith, a, b, c)
+    above (suc d) k e =
+        let a : 8 ^ k ≡ 512 * 8 ^ suc d = ap (λ (n : ℕ). 8 ^ n) e ∙ pow_three (suc d) in
+        let b : fork_words (k - 3) ≡ 4096 * 8 ^ suc d = ap fork_words (let f : k - 3 ≡ suc d = omega (arith, e) in f) in
+        let c : quad_room k ≡ 2 * 4 ^ suc d - 1 = ap (λ (n : ℕ). 2 * 4 ^ n - 1) (let f : k - 3 ≡ suc d = omega (arith, e) in f) in
+        let p = pow-le-pow_left {n = 4} {m = 8} (omega arith) (suc d) in
+        omega (arith, a, b, c, p)

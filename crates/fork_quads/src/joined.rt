@@ -1,0 +1,39 @@
+//! A quad and a product, as one quad.
+ghost use Rattle.std.specs.Prelude.{◌≡◌, ◌+◌, ◌-◌, IfOk};
+ghost use Rattle.rel_model.specs.Cells.{cells_union, cells_compose};
+ghost use Rattle.rel_model.specs.Trees.{bottom_height};
+ghost use Rattle.rel_model.specs.Equations.{side_of};
+ghost use Rattle.rel_model.specs.Quads.{Keeper, QuadStands, IsQuad, quad_cells, KeepsQuads, quad_room};
+ghost use Rattle.fork_quads.specs.Forks.{TellsMisses, fork_words};
+
+use crate::fork::{Team, worked};
+use crate::gate::Gate;
+use crate::middle::WHOLE;
+use memo_laws::Op;
+use pair_table::Missed;
+use quad_nodes::Nodes;
+use rel_model::Quad;
+use std::thread::Threads;
+
+/// `x | y*z`, of quads of one height: the product, and then the union.
+pub(crate) fn joined_in_turn<R: Threads, G: Gate>(
+    team: &Team<'_, R, G>,
+    nodes: &mut Nodes,
+    x: Quad,
+    y: Quad,
+    z: Quad,
+) -> Result<Quad, Missed>
+    requires x_stands { QuadStands nodes.old x }
+    requires y_stands { QuadStands nodes.old y }
+    requires z_stands { QuadStands nodes.old z }
+    requires y_height { y.height ≡ x.height }
+    requires z_height { z.height ≡ x.height }
+    ensures value { IfOk result (IsQuad nodes.new x.height (cells_union (quad_cells nodes.old x)
+        (cells_compose (side_of x.height) (quad_cells nodes.old y) (quad_cells nodes.old z)))) }
+    ensures keeps { KeepsQuads (fork_words (x.height - bottom_height) + quad_room x.height) nodes.old nodes.new }
+    ensures misses { TellsMisses nodes.old nodes.new result }
+{
+    let product = worked(team, nodes, Op::Compose, y, z, WHOLE)?;
+    let both = worked(team, nodes, Op::Union, x, product, WHOLE)?;
+    Ok(both)
+}

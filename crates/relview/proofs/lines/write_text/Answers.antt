@@ -1,9 +1,0 @@
-use Rattle.std.proofs.Common.{refl}
-use Rattle.relview.specs.Writing.{Whole, Part}
-use Rattle.relview.proofs.lines.write_text.Goals as goal
-
-pub returns-in-Ok : goal.returns-in-Ok
-returns-in-Ok g c = Whole refl c.in-Ok.ensures.all
-
-pub returns-in-Err : goal.returns-in-Err
-returns-in-Err g c = Part c.in-Err._error.sent refl c.in-Err.ensures.sent c.in-Err.ensures.cause
