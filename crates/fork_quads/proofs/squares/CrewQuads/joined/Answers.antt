@@ -1,10 +1,10 @@
 use Rattle.rel_model.specs.Quads.{quad_room}
 use Rattle.rel_model.specs.Trees.{bottom_height}
-use Rattle.std.proofs.Common.{◌+◌, ◌-◌, sym, arith}
+use Rattle.std.proofs.Common.{◌≤◌, ◌+◌, ◌-◌, ◌*◌, ◌^◌, ℕ, sym, subst, arith}
 use Rattle.fork_quads.specs.Forks.{fork_words}
 use Rattle.fork_quads.proofs.Crewing.{has_quad-stands, keeps_telling}
 use Rattle.fork_quads.proofs.Quartering.{stands_inside, told_gives}
-use Rattle.fork_quads.proofs.Unions.{joined_set, joined_room}
+use Rattle.fork_quads.proofs.Unions.{joined_set, joined_makes}
 use Rattle.fork_quads.proofs.squares.CrewQuads.joined.Goals as goal
 
 pub joined_in_turn-requires : goal.joined_in_turn-requires
@@ -28,3 +28,7 @@ pub returns-clause-keeps : goal.returns-clause-keeps
 returns-clause-keeps g c =
     keeps_telling (fork_words (c.args.x.height - bottom_height) + quad_room c.args.x.height) c.args.self.now c.self.inside.nodes c.joined_in_turn.new.nodes c.joined_in_turn.result
     c.self.view_is c.joined_in_turn.ensures.keeps c.joined_in_turn.ensures.misses
+
+pub returns-clause-room : goal.returns-clause-room
+returns-clause-room g c =
+    joined_makes c.args.x.height c.args.self.now c.self.inside.nodes c.joined_in_turn.new.nodes c.self.view_is (has_quad-stands c.args.self.now c.args.x c.requires.x_stands).low c.joined_in_turn.ensures.keeps
