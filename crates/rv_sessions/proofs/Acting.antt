@@ -4,12 +4,10 @@
 -- 2. The names that it took agree with the workspace that its log means, so what the expression came to on them is what
 --    it comes to there, also in a worker that kept all and went on.
 -- 3. Then the item did what the value, or the refusal, wants.
-use Rattle.std.proofs.Common.{◌≡◌, ◌∙◌, ◌⊎◌, ◌≤◌, ◌+◌, inl, inr, arith, ℕ, List, [], ◌∷◌, ◌++◌, append-nil, Result, Ok, Err, Some, None, Option, refl, sym, ap, subst}
-use Rattle.std.specs.List.{AllByRecursion}
+use Rattle.std.proofs.Common.{◌≡◌, ◌∙◌, ◌≤◌, ◌+◌, inl, inr, arith, ℕ, List, [], ◌∷◌, ◌++◌, append-nil, Result, Ok, Err, Some, refl, sym, ap, subst}
 use Rattle.rel_model.specs.declared.Rel.{Rel}
 use Rattle.rel_model.specs.Relation.{Relation}
 use Rattle.rel_model.specs.Worker.{Worker, set_of, Keeps, MakesAtMost, Rose}
-use Rattle.rel_model.specs.Seats.{Stays}
 use Rattle.rel_model.proofs.Workers.{keeps_trans, keeps_stands}
 use Rattle.lang_model.specs.declared.syntax.Expr.{Expr}
 use Rattle.lang_model.specs.declared.syntax.Item.{Item}
@@ -19,15 +17,14 @@ use Rattle.lang_model.specs.Outcomes.{Answer, Got, Not}
 use Rattle.lang_model.proofs.Seeing.{by_names}
 use Rattle.run_model.specs.declared.event.Event.{Event}
 use Rattle.run_model.specs.declared.outcome.Outcome.{Outcome}
-use Rattle.run_model.specs.declared.outcome.Outcome.TheVariants.{Done, Nodes as NODES, NoMemory as NO_MEMORY}
+use Rattle.run_model.specs.declared.outcome.Outcome.TheVariants.{Done, NoMemory as NO_MEMORY}
 use Rattle.run_model.specs.Names.{lookup}
 use Rattle.run_model.specs.Inputs.{Input}
-use Rattle.run_model.specs.Due.{When, Due, Value, Refused, due_of_value, due_of_answer, outcome_due, gives}
-use Rattle.run_model.specs.Steps.{snapped}
-use Rattle.run_model.specs.Events.{Reads, Deed, reads_of, done_deeds}
+use Rattle.run_model.specs.Due.{Due, Value, due_of_value, due_of_answer, outcome_due}
+use Rattle.run_model.specs.Events.{reads_of}
 use Rattle.run_model.specs.Outcomes.{IsNotEarly}
 use Rattle.run_model.specs.Page.{SavedFile, done_text, done_save}
-use Rattle.run_model.specs.Cost.{cost_of, cost_of_item}
+use Rattle.run_model.specs.Cost.{cost_of}
 use Rattle.run_model.specs.Carried.{Carried, carried}
 use Rattle.run_model.specs.Sessions.{HaveValues}
 use Rattle.run_model.specs.Texts.{prefix, refusal_text}
@@ -39,7 +36,7 @@ use Rattle.rv_workspace.specs.Picking.{picked}
 use Rattle.rv_workspace.proofs.Replaying.{history_stands}
 use Rattle.rv_sessions.specs.declared.form.Form.{Form}
 use Rattle.rv_sessions.specs.Standing.{Kept, KeptStand, meant}
-use Rattle.rv_sessions.specs.Doing.{GoesThrough, Did, keep, due_on, state_of_turns, snap_meant}
+use Rattle.rv_sessions.specs.Doing.{GoesThrough, Did, keep, due_on, snap_meant}
 use Rattle.rv_sessions.specs.Turning.{TookTurn}
 use Rattle.rv_sessions.specs.Valuing.{IsNotAhead, WasFull, Stopped, CameTo}
 use Rattle.rv_sessions.specs.Showing.{CameShown, wanted_in}

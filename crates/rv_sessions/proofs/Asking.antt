@@ -2,7 +2,7 @@
 --
 -- 1. AT takes no turn: what the kept names mean is what the snapshot means, in a worker that kept all and went on.
 -- 2. DROP and SNAP take one turn, and make nothing.
-use Rattle.std.proofs.Common.{◌≡◌, ◌≢◌, ◌∙◌, ◌⊎◌, ◌≤◌, ◌+◌, inl, inr, arith, ℕ, Bool, true, false, cond, List, [], ◌∷◌, ◌++◌, Option, Some, None, Result, Ok, Err, refl, sym, ap, subst}
+use Rattle.std.proofs.Common.{◌≡◌, ◌∙◌, ◌≤◌, ◌+◌, inl, inr, arith, ℕ, Bool, true, false, cond, List, [], ◌∷◌, ◌++◌, Option, Some, None, Result, Ok, Err, refl, sym, ap, subst}
 use Rattle.std.specs.Prelude.{IsSome}
 use Rattle.std.specs.Option.{option_map}
 use Rattle.std.specs.Ordering.{eq_by_cmp}
@@ -23,17 +23,16 @@ use Rattle.lang_model.specs.Eval.{Evaluated, evaluated, cost_of_value, names_in}
 use Rattle.lang_model.proofs.Seeing.{by_names}
 use Rattle.run_model.specs.declared.event.Event.{Event}
 use Rattle.run_model.specs.declared.outcome.Outcome.{Outcome}
-use Rattle.run_model.specs.declared.outcome.Outcome.TheVariants.{Done, Ill as ILL, Nodes as NODES, NoMemory as NO_MEMORY}
+use Rattle.run_model.specs.declared.outcome.Outcome.TheVariants.{Done, Ill as ILL, NoMemory as NO_MEMORY}
 use Rattle.run_model.specs.Names.{compare, lookup, set}
 use Rattle.run_model.specs.Inputs.{Input}
-use Rattle.run_model.specs.Due.{Workspace, When, Early, Due, Nothing, Value, Refused, printed, due, due_of, due_of_command, due_of_value, due_of_drop, due_on_snapshot, outcome_due, gives}
+use Rattle.run_model.specs.Due.{Workspace, Early, Due, Nothing, Value, Refused, printed, due, due_of_command, due_of_value, due_of_drop, due_on_snapshot, outcome_due, gives}
 use Rattle.run_model.specs.Outcomes.{IsNotEarly}
 use Rattle.run_model.specs.Events.{reads_of, done_deeds}
 use Rattle.run_model.specs.Page.{done_text, done_save}
-use Rattle.run_model.specs.Cost.{cost_of, cost_of_item, cost_on_snapshot}
+use Rattle.run_model.specs.Cost.{cost_of_item, cost_on_snapshot}
 use Rattle.run_model.specs.Carried.{Carried, carried}
 use Rattle.run_model.specs.Texts.{prefix, refusal_text}
-use Rattle.run_model.specs.Turns.{Turn}
 use Rattle.turn_book.specs.Views.{View as PASS}
 use Rattle.rv_eval.specs.Names.{state_of}
 use Rattle.rv_workspace.specs.declared.refused.DropRefused.TheVariants.{Unknown as UNKNOWN_NAME, NoMemory as DROP_NO_MEMORY}
@@ -48,12 +47,12 @@ use Rattle.run_model.specs.Steps.{snapped}
 use Rattle.run_model.specs.Sessions.{HaveValues}
 use Rattle.rv_sessions.specs.Turning.{TookTurn, DropTurn}
 use Rattle.rv_sessions.specs.Valuing.{IsNotAhead, Stopped}
-use Rattle.rv_sessions.specs.Showing.{CameShown, bytes_in}
+use Rattle.rv_sessions.specs.Showing.{CameShown}
 use Rattle.rv_sessions.specs.Acting.{turn_of, WasNotRead, DidItem}
 use Rattle.rv_sessions.specs.Telling.{TellsRefusal}
 use Rattle.rv_sessions.proofs.FoldingKept.{meant_same}
 use Rattle.rv_sessions.proofs.FoldingTurns.{through_none}
-use Rattle.rv_sessions.proofs.Looking.{found_first, valued-lookup, snap_agrees, snap_stands}
+use Rattle.rv_sessions.proofs.Looking.{valued-lookup, snap_agrees}
 use Rattle.rv_sessions.proofs.Building.{Went, lacks, refuses, is_done}
 use Rattle.rv_sessions.proofs.Acting.{through_one, through_nothing, late_value}
 use Rattle.rv_sessions.proofs.Assigning.{ReadsNothing, unread_lacks, unread_full, unread_refuses}

@@ -3,7 +3,7 @@
 -- 1. LET: the value that came of the log that was read is the value that the name gets, in the worker that learnt more in
 --    the turn of the assignment.
 -- 2. A command that reads nothing, and gives a name the relation that is due: REL and LOAD.
-use Rattle.std.proofs.Common.{◌≡◌, ◌≢◌, ◌∙◌, ◌⊎◌, ◌≤◌, ◌+◌, inl, inr, arith, ℕ, List, [], ◌∷◌, ◌++◌, append-nil, Result, Ok, Err, Some, None, Option, refl, sym, ap, subst}
+use Rattle.std.proofs.Common.{◌≡◌, ◌≢◌, ◌∙◌, ◌≤◌, ◌+◌, inl, inr, arith, ℕ, List, [], ◌∷◌, ◌++◌, Result, Ok, Err, Some, None, Option, refl, sym, ap, subst}
 use Rattle.rel_model.specs.declared.NoMemory.{NoMemory as LACK}
 use Rattle.rel_model.specs.declared.Lack.{Lack as LACK_OF}
 use Rattle.rel_model.specs.declared.Lack.TheVariants.{Full as FULL}
@@ -12,7 +12,6 @@ use Rattle.std.specs.Prelude.{IsErrOf, false}
 use Rattle.rel_model.specs.Relation.{Relation, relation_of}
 use Rattle.rel_model.proofs.Relations.{rows-relation_of, cols-relation_of}
 use Rattle.rel_model.specs.Worker.{Worker, Stands, set_of, Gives as GIVES_REL, Keeps, MakesAtMost, Rose, HasCause}
-use Rattle.rel_model.specs.Seats.{Stays}
 use Rattle.rel_model.proofs.Workers.{keeps_itself, keeps_trans, keeps_stands, keeps_set, gives_stands, gives_set}
 use Rattle.lang_model.specs.declared.syntax.Expr.{Expr}
 use Rattle.lang_model.specs.declared.syntax.Item.{Item}
@@ -49,8 +48,8 @@ use Rattle.rv_sessions.specs.Standing.{Kept, KeptStand, meant}
 use Rattle.rv_sessions.specs.Doing.{GoesThrough, Did, keep, due_on, state_of_turns, snap_meant}
 use Rattle.rv_sessions.specs.Valuing.{IsRefusal}
 use Rattle.rv_sessions.specs.Telling.{text_of, saved_by, TellsRefusal}
-use Rattle.rv_sessions.specs.Turning.{TookTurn, AssignTurn}
-use Rattle.rv_sessions.specs.Acting.{turn_of, WasNotRead, WasRead, WasValued, ValuedInTurn, DidItem, on_log}
+use Rattle.rv_sessions.specs.Turning.{TookTurn}
+use Rattle.rv_sessions.specs.Acting.{turn_of, WasRead, WasValued, ValuedInTurn, DidItem, on_log}
 use Rattle.rv_sessions.proofs.FoldingKept.{meant_same, carried_stands}
 use Rattle.rv_sessions.proofs.FoldingTurns.{through_none, through_append}
 use Rattle.rv_sessions.proofs.Overs.{over_refuses}

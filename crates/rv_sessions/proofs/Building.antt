@@ -1,5 +1,5 @@
 -- What an item did, by how it ended: it was done, it was refused for what is due, the table was full, or memory ran out.
-use Rattle.std.proofs.Common.{◌≡◌, ◌∙◌, ◌⊎◌, inl, inr, ℕ, List, [], ◌∷◌, ◌++◌, refl, sym, ap, subst}
+use Rattle.std.proofs.Common.{◌≡◌, inl, inr, ℕ, List, [], ◌++◌, refl, sym, ap, subst}
 use Rattle.std.specs.List.{AllByRecursion}
 use Rattle.rel_model.specs.Worker.{Worker, set_of, Keeps, MakesAtMost, Rose}
 use Rattle.lang_model.specs.declared.syntax.Item.{Item}
@@ -20,9 +20,9 @@ use Rattle.run_model.specs.declared.outcome.Outcome.TheVariants.{
 }
 use Rattle.run_model.specs.Inputs.{Input}
 use Rattle.run_model.specs.Due.{When, Due, Refused, outcome_due, gives}
-use Rattle.run_model.specs.Steps.{Ending, Succeeds, Fails, LacksMemory, ending, snapped}
+use Rattle.run_model.specs.Steps.{Ending, Succeeds, Fails, ending, snapped}
 use Rattle.run_model.specs.Events.{Begins, HasDeeds, reads_of, done_deeds}
-use Rattle.run_model.specs.Outcomes.{IsOutcome, MayLackNodes, MayLackMemory}
+use Rattle.run_model.specs.Outcomes.{MayLackNodes, MayLackMemory}
 use Rattle.run_model.specs.Page.{SavedFile, reply, reply_at, save_at, done_text, done_save}
 use Rattle.run_model.specs.Cost.{cost_of_item}
 use Rattle.run_model.specs.Carried.{carried}

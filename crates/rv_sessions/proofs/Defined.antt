@@ -1,5 +1,5 @@
 -- Definitions, which are done at once; and what is so of things that are the same.
-use Rattle.std.proofs.Common.{◌≡◌, ℕ, List, [], None, Result, Ok, refl, sym, subst}
+use Rattle.std.proofs.Common.{◌≡◌, ℕ, List, [], Result, refl, sym, subst}
 use Rattle.rel_model.specs.declared.NoMemory.{NoMemory as LACK}
 use Rattle.rel_model.specs.Worker.{Worker}
 use Rattle.lang_model.specs.declared.syntax.Item.{Item}
@@ -7,7 +7,7 @@ use Rattle.lang_model.specs.declared.syntax.Item.TheVariants.{Function, Program}
 use Rattle.lang_model.specs.declared.syntax.Script.{Script}
 use Rattle.run_model.specs.declared.outcome.Outcome.TheVariants.{Done}
 use Rattle.run_model.specs.Inputs.{Input}
-use Rattle.run_model.specs.Due.{Nothing, due}
+use Rattle.run_model.specs.Due.{due}
 use Rattle.turn_book.specs.Views.{View as PASS}
 use Rattle.rv_sessions.specs.declared.told.Told.{Told}
 use Rattle.rv_sessions.specs.Doing.{Did}

@@ -1,11 +1,11 @@
 -- The items that read, and show or save what an expression comes to.
-use Rattle.std.proofs.Common.{◌≡◌, ℕ, Bool, true, false, cond, nat_lt, List, [], ◌∷◌, ◌++◌, refl}
+use Rattle.std.proofs.Common.{ℕ, Bool, true, false, cond, List, [], ◌∷◌, ◌++◌, refl}
 use Rattle.rel_model.specs.Relation.{Relation}
 use Rattle.lang_model.specs.declared.syntax.Expr.{Expr}
 use Rattle.lang_model.specs.declared.syntax.Command.TheVariants.{Let as LET, Print as PRINT, List as LIST, Count as COUNT, Typed as TYPED, Save as SAVE}
 use Rattle.lang_model.specs.declared.syntax.Item.TheVariants.{Command as COMMAND}
 use Rattle.run_model.specs.declared.outcome.Outcome.{Outcome}
-use Rattle.run_model.specs.Due.{Late, Value, Refused, within, printed, listed, saved, due, due_of_command}
+use Rattle.run_model.specs.Due.{Late, Value, Refused, due, due_of_command}
 use Rattle.run_model.specs.Outcomes.{IsNotEarly}
 use Rattle.rv_sessions.specs.declared.form.Form.{Form}
 use Rattle.rv_sessions.specs.declared.form.Form.TheVariants.{Matrix, Listing, Count, Typed, File}

@@ -1,5 +1,5 @@
 -- What is kept of an ordered map of snapshots: it goes entry by entry into a map that is set, and into a look-up.
-use Rattle.std.proofs.Common.{◌≡◌, ◌∙◌, ℕ, Bool, true, false, cond, List, [], ◌∷◌, Option, Some, None, Bor, Ordering, Less, Equal, Greater, refl, sym, ap}
+use Rattle.std.proofs.Common.{◌≡◌, ◌∙◌, ℕ, Bool, true, false, cond, List, [], ◌∷◌, Option, Some, None, Bor, Ordering, Less, Equal, Greater, refl, ap}
 use Rattle.std.specs.Option.{option_map, option_copied}
 use Rattle.std.specs.Ordering.{eq_by_cmp}
 use Rattle.std.specs.FinMap.Entries.{by_order}

@@ -1,11 +1,10 @@
 -- What LOAD does: the relation of a file's bytes, or the first test that they fail.
-use Rattle.std.proofs.Common.{◌≡◌, ◌∙◌, ◌≤◌, ◌+◌, arith, ℕ, List, [], ◌∷◌, ◌++◌, length, Option, Some, None, Result, Ok, Err, refl, sym, ap, subst}
+use Rattle.std.proofs.Common.{◌≡◌, ◌∙◌, ◌≤◌, ◌+◌, arith, ℕ, List, [], ◌∷◌, ◌++◌, length, Option, Some, None, Err, refl, sym, ap, subst}
 use Rattle.rel_model.specs.declared.Lack.{Lack}
 use Rattle.rel_model.specs.declared.Lack.TheVariants.{Full, NoMemory as LACK_MEMORY}
-use Rattle.rel_model.specs.declared.NoMemory.{NoMemory as LACK}
 use Rattle.rel_model.specs.declared.Rel.{Rel}
 use Rattle.rel_model.specs.Relation.{Relation}
-use Rattle.rel_model.specs.Worker.{Worker, Stands, set_of, Gives as GIVES_REL, Keeps, MakesAtMost, Rose}
+use Rattle.rel_model.specs.Worker.{Worker, Stands, Gives as GIVES_REL, Keeps, MakesAtMost, Rose}
 use Rattle.rel_model.proofs.Workers.{keeps_itself, keeps_trans, keeps_stands, keeps_set, gives_stands, gives_set}
 use Rattle.lang_model.specs.declared.syntax.Item.{Item}
 use Rattle.lang_model.specs.declared.syntax.Item.TheVariants.{Command as COMMAND}
@@ -26,11 +25,10 @@ use Rattle.run_model.specs.declared.outcome.BadFile.TheVariants.{
   Full as FILE_FULL,
   NoMemory as FILE_NO_MEMORY,
 }
-use Rattle.run_model.specs.declared.outcome.Outcome.{Outcome}
 use Rattle.run_model.specs.declared.outcome.Outcome.TheVariants.{Done, Nodes as NODES, NoFile, BadFile as BAD_FILE, NoMemory as NO_MEMORY}
 use Rattle.run_model.specs.Inputs.{Input, file_named}
 use Rattle.run_model.specs.Files.{k2_fault, k2_relation}
-use Rattle.run_model.specs.Due.{Workspace, Early, Due, Value, Refused, due, due_of_command, due_of_bytes, due_of_file}
+use Rattle.run_model.specs.Due.{Workspace, Early, Value, Refused, due, due_of_command, due_of_bytes, due_of_file}
 use Rattle.run_model.specs.Outcomes.{IsNotEarly}
 use Rattle.run_model.specs.Cost.{cost_of_item, where_value, cost_of_pairs, listed_cost}
 use Rattle.run_model.specs.Carried.{carried}
@@ -38,7 +36,6 @@ use Rattle.run_model.specs.Texts.{prefix, refusal_text}
 use Rattle.turn_book.specs.Views.{View as PASS}
 use Rattle.k2_file.specs.Reading.{IsRead, cost_unless, cost_of_file}
 use Rattle.rv_workspace.specs.Entering.{assign_of}
-use Rattle.rv_sessions.specs.declared.told.Told.{Told}
 use Rattle.rv_sessions.specs.Standing.{Kept, KeptStand, meant}
 use Rattle.rv_sessions.specs.Doing.{GoesThrough, Did, state_of_turns, snap_meant}
 use Rattle.rv_sessions.specs.Turning.{TookTurn}

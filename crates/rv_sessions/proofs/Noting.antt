@@ -1,13 +1,11 @@
 -- What an item did, as it is noted.
-use Rattle.std.proofs.Common.{◌≡◌, ◌+◌, ◌∙◌, ℕ, List, [], ◌∷◌, ◌++◌, length, append-nil, append_assoc, Result, Ok, Err, Option, Some, None, refl, sym, ap, subst}
-use Rattle.std.specs.List.{flat_map}
-use Rattle.std.specs.Prelude.{map, slice_get}
+use Rattle.std.proofs.Common.{◌≡◌, ◌+◌, ◌∙◌, ℕ, List, [], ◌∷◌, ◌++◌, length, append-nil, append_assoc, Result, Ok, Err, Some, refl, sym, ap, subst}
+use Rattle.std.specs.Prelude.{slice_get}
 use Rattle.rel_model.specs.declared.NoMemory.{NoMemory}
 use Rattle.rel_model.specs.Worker.{Worker}
 use Rattle.lang_model.specs.declared.syntax.Item.{Item}
 use Rattle.lang_model.specs.declared.syntax.Script.{Script}
 use Rattle.run_model.specs.Inputs.{Input}
-use Rattle.run_model.specs.Page.{SavedFile}
 use Rattle.turn_book.specs.Views.{View}
 use Rattle.rv_sessions.specs.declared.told.Told.{Told}
 use Rattle.rv_sessions.specs.declared.transcript.Reply.{Reply}
@@ -17,7 +15,7 @@ use Rattle.rv_sessions.specs.Standing.{Kept}
 use Rattle.rv_sessions.specs.Doing.{Did}
 use Rattle.rv_sessions.specs.Acting.{DidItem}
 use Rattle.run_model.specs.Filed.{saved_of, saved_all}
-use Rattle.rv_sessions.specs.Telling.{text_of, texts_of, saved_by}
+use Rattle.rv_sessions.specs.Telling.{text_of, texts_of}
 use Rattle.rv_sessions.specs.Noting.{IsBare, outcome_in, text_in, saved_in}
 use Rattle.rv_sessions.specs.Running.{RanSoFar}
 use Rattle.rv_sessions.proofs.Folding.{nothing_yet, one_more}

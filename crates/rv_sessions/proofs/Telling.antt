@@ -1,5 +1,5 @@
 -- What the commands that show a value are told as.
-use Rattle.std.proofs.Common.{◌≡◌, ◌∙◌, ◌⊎◌, ◌≢◌, inl, inr, false, ℕ, List, [], ◌∷◌, ◌++◌, Result, Ok, Err, Some, None, Option, refl, sym, ap, subst}
+use Rattle.std.proofs.Common.{◌≡◌, ◌∙◌, ◌⊎◌, ◌≢◌, inl, inr, false, ℕ, List, [], ◌∷◌, ◌++◌, Result, Ok, Err, refl, sym, subst}
 use Rattle.rel_model.specs.declared.NoMemory.{NoMemory as LACK}
 use Rattle.rel_model.specs.Relation.{Relation}
 use Rattle.rel_model.specs.Worker.{Worker, MakesAtMost}
@@ -18,8 +18,6 @@ use Rattle.run_model.specs.Texts.{prefix, refusal_text}
 use Rattle.turn_book.specs.Views.{View as PASS}
 use Rattle.rv_sessions.specs.declared.form.Form.{Form}
 use Rattle.rv_sessions.specs.declared.told.Told.{Told}
-use Rattle.rv_sessions.specs.declared.transcript.Reply.{Reply}
-use Rattle.run_model.specs.declared.files.Save.{Save}
 use Rattle.rv_sessions.specs.Standing.{Kept, KeptStand, meant}
 use Rattle.rv_sessions.specs.Doing.{Did}
 use Rattle.rv_sessions.specs.Telling.{text_of, saved_by, TellsRefusal}

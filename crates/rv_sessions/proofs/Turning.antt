@@ -3,21 +3,19 @@ use Rattle.std.proofs.Common.{◌≡◌, ◌∙◌, ℕ, false, List, [], ◌∷
 use Rattle.std.specs.Prelude.{OnOk, OnErr, IfOk}
 use Rattle.rel_model.specs.declared.NoMemory.{NoMemory}
 use Rattle.rel_model.specs.declared.Rel.{Rel}
-use Rattle.rel_model.specs.Seats.{Holds, Learns, Stays}
-use Rattle.rel_model.specs.Worker.{Worker, Stands}
+use Rattle.rel_model.specs.Seats.{Learns, Stays}
+use Rattle.rel_model.specs.Worker.{Worker}
 use Rattle.run_model.specs.declared.event.Event.{Event}
-use Rattle.run_model.specs.Names.{lookup}
 use Rattle.run_model.specs.Carried.{carried}
 use Rattle.run_model.specs.Turns.{BeginsLog}
-use Rattle.turn_book.specs.Views.{View as PASS, IsKept, with_turn, with_log}
+use Rattle.turn_book.specs.Views.{View as PASS, with_turn, with_log}
 use Rattle.rv_workspace.specs.declared.reading.View.{View}
-use Rattle.rv_workspace.specs.declared.refused.DropRefused.{DropRefused}
 use Rattle.rv_workspace.specs.Books.{HistoryStands}
-use Rattle.rv_workspace.specs.Entering.{read_of, assign_of, drop_entries, IsDropAnswer}
+use Rattle.rv_workspace.specs.Entering.{read_of, assign_of}
 use Rattle.rv_workspace.specs.Picking.{picked}
 use Rattle.rv_workspace.proofs.Keeping.{held_stands}
 use Rattle.rv_workspace.proofs.Replaying.{history_stands}
-use Rattle.rv_sessions.specs.Turning.{TookTurn, ReadTurn, AssignTurn, DropTurn}
+use Rattle.rv_sessions.specs.Turning.{TookTurn, ReadTurn, AssignTurn}
 
 -- what stands in an archive stands where that was learnt
 pub learnt : (archive mine new : Worker) (log : List Event) → HistoryStands archive log → Learns mine archive new → HistoryStands new log

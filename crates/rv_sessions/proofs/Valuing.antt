@@ -1,21 +1,18 @@
 -- What the evaluator and the printer answer, as what an expression comes to.
-use Rattle.std.proofs.Common.{◌≡◌, ◌∙◌, ◌⊎◌, inl, inr, ◌<◌, ◌≤◌, ℕ, Bool, true, false, cond, nat_lt, List, Result, Ok, Err, refl, sym, ap, subst}
-use Rattle.std.specs.Prelude.{IfOk, IfErr, IsErrOf}
+use Rattle.std.proofs.Common.{◌≡◌, ◌∙◌, inl, inr, ℕ, Ok, Err, refl, sym, ap}
 use Rattle.rel_model.specs.declared.Rel.{Rel}
-use Rattle.rel_model.specs.Relation.{Relation, size_limit}
-use Rattle.rel_model.specs.Worker.{Worker, Stands, set_of, Rose}
+use Rattle.rel_model.specs.Relation.{Relation}
+use Rattle.rel_model.specs.Worker.{Worker, Stands}
 use Rattle.lang_model.specs.declared.syntax.Expr.{Expr}
 use Rattle.lang_model.specs.declared.faults.TypeFault.{TypeFault}
-use Rattle.lang_model.specs.Outcomes.{Ill, Size, Turns, Came, Got, Not}
+use Rattle.lang_model.specs.Outcomes.{Came}
 use Rattle.lang_model.specs.Eval.{Evaluated, Ahead, Comes, IsCompound}
-use Rattle.run_model.specs.declared.outcome.Outcome.{Outcome}
-use Rattle.run_model.specs.declared.outcome.Outcome.TheVariants.{Nodes as NODES, NoMemory as NO_MEMORY, Size as SIZE, Turns as TURNS}
-use Rattle.run_model.specs.Due.{When, Early, Late, Due, Refused as REFUSED, due_of_value, due_of_answer, outcome_of}
-use Rattle.run_model.specs.Steps.{ending, Fails}
+use Rattle.run_model.specs.declared.outcome.Outcome.TheVariants.{Size as SIZE, Turns as TURNS}
+use Rattle.run_model.specs.Due.{Early, Late, Refused as REFUSED, due_of_answer}
 use Rattle.rv_eval.specs.declared.halt.Refused.{Refused}
 use Rattle.rv_eval.specs.declared.halt.Refused.TheVariants.{Ill as ILL_REFUSED, Size as SIZE_REFUSED, Turns as TURNS_REFUSED, Nodes, NoMemory}
 use Rattle.rv_eval.specs.Refusing.{IsAnswer, IsRefusedFor, IsEvaluated}
-use Rattle.rv_sessions.specs.Valuing.{outcome_told, IsNotAhead, WasFull, Stopped, CameTo}
+use Rattle.rv_sessions.specs.Valuing.{outcome_told, CameTo}
 
 -- what is refused ahead of all computing
 came_ahead : (old new : Worker) (expr : Expr) (turns : ℕ) (fault : TypeFault) (r : Refused) → IsRefusedFor fault (Err r) →

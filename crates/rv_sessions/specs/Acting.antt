@@ -4,7 +4,7 @@ use Rattle.rel_model.specs.declared.NoMemory.{NoMemory}
 use Rattle.rel_model.specs.declared.Rel.{Rel}
 use Rattle.rel_model.specs.Relation.{Relation}
 use Rattle.rel_model.specs.Seats.{Stays}
-use Rattle.rel_model.specs.Worker.{Worker, Keeps, MakesAtMost, Stands}
+use Rattle.rel_model.specs.Worker.{Worker, Keeps, MakesAtMost}
 use Rattle.lang_model.specs.declared.syntax.Expr.{Expr}
 use Rattle.lang_model.specs.declared.syntax.Item.{Item}
 use Rattle.lang_model.specs.declared.syntax.Script.{Script}
@@ -16,7 +16,7 @@ use Rattle.run_model.specs.Names.{lookup}
 use Rattle.run_model.specs.Inputs.{Input}
 use Rattle.run_model.specs.Due.{Workspace, Due, due, due_of, gives}
 use Rattle.run_model.specs.Steps.{snapped}
-use Rattle.run_model.specs.Events.{Deed, Reads, reads_of, done_deeds}
+use Rattle.run_model.specs.Events.{Reads, reads_of, done_deeds}
 use Rattle.run_model.specs.Outcomes.{MayLackNodes, MayLackMemory, IsNotEarly}
 use Rattle.run_model.specs.Page.{SavedFile, shown, saved_of}
 use Rattle.run_model.specs.Cost.{cost_of, cost_of_item}
@@ -28,7 +28,7 @@ use Rattle.rv_workspace.specs.Books.{HistoryStands}
 use Rattle.rv_workspace.specs.Entering.{read_of}
 use Rattle.rv_sessions.specs.declared.form.Form.{Form}
 use Rattle.rv_sessions.specs.declared.told.Told.{Told}
-use Rattle.rv_sessions.specs.Standing.{Kept, KeptStand, meant}
+use Rattle.rv_sessions.specs.Standing.{Kept, meant}
 use Rattle.rv_sessions.specs.Doing.{GoesThrough, Did}
 use Rattle.rv_sessions.specs.Showing.{CameShown}
 use Rattle.rv_sessions.specs.Telling.{text_of, saved_by}

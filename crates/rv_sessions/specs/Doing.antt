@@ -1,5 +1,5 @@
 -- What one item of a session did: its turns, and its events, outcome, reply, save and cost on the state that it took.
-use Rattle.std.specs.Prelude.{◌≡◌, ◌+◌, ◌++◌, ℕ, List, [], ◌∷◌, map, Option, Some, None, option_and_then}
+use Rattle.std.specs.Prelude.{◌≡◌, ◌++◌, ℕ, List, [], ◌∷◌, map, Option, Some, None, option_and_then}
 use Rattle.std.specs.Option.{option_map}
 use Rattle.std.specs.List.{AllByRecursion, flat_map}
 use Rattle.rel_model.specs.declared.Rel.{Rel}

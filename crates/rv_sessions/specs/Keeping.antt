@@ -1,5 +1,5 @@
 -- Snapshots as they are kept.
-use Rattle.std.specs.Prelude.{ℕ, List, map}
+use Rattle.std.specs.Prelude.{map}
 use Rattle.run_model.specs.Names.{Names}
 use Rattle.rv_workspace.specs.declared.reading.View.{View}
 use Rattle.rv_sessions.specs.Standing.{Kept}

@@ -21,7 +21,7 @@ use Rattle.run_model.specs.declared.outcome.Outcome.TheVariants.{
 use Rattle.run_model.specs.Names.{no_names}
 use Rattle.run_model.specs.Inputs.{Input}
 use Rattle.run_model.specs.Due.{Workspace}
-use Rattle.run_model.specs.Steps.{Snapshots, Step, snaps_behind}
+use Rattle.run_model.specs.Steps.{Snapshots, snaps_behind}
 use Rattle.run_model.specs.Events.{entry_of, AreEvents}
 use Rattle.run_model.specs.Outcomes.{AreOutcomes}
 use Rattle.run_model.specs.Page.{SavedFile, replies, saves_of}

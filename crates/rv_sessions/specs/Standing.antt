@@ -1,8 +1,6 @@
 -- Which relations stand in a session's worker: all of the logs that it took, of its own events, and of its snapshots.
-use Rattle.std.specs.Prelude.{List, All}
+use Rattle.std.specs.Prelude.{List}
 use Rattle.std.specs.List.{AllByRecursion}
-use Rattle.rel_model.specs.declared.Rel.{Rel}
-use Rattle.rel_model.specs.Relation.{Relation}
 use Rattle.rel_model.specs.Worker.{Worker, Stands, set_of}
 use Rattle.run_model.specs.Names.{Names}
 use Rattle.run_model.specs.Carried.{Carried, valued}
@@ -10,7 +8,7 @@ use Rattle.run_model.specs.Due.{Workspace}
 use Rattle.run_model.specs.Steps.{Snapshots}
 use Rattle.run_model.specs.Turns.{Turn}
 use Rattle.rv_workspace.specs.Books.{EventStands, HistoryStands}
-use Rattle.std.specs.Prelude.{ℕ, map}
+use Rattle.std.specs.Prelude.{map}
 
 -- the relations of the log that a turn took, and of its own event, stand in a worker
 pub record TurnStands (w : Worker) (t : Turn) : Type 0 where

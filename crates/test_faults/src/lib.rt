@@ -1,4 +1,5 @@
-//! What `parse` refuses and how expressions are written, as lines of text, and tests of both on texts that are no table.
+//! What `parse` refuses and how expressions are written, as lines of text, and tests of both on texts that are no
+//! table.
 #![tactic(auto)]
 
 mod fault;

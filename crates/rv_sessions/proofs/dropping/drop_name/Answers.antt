@@ -1,4 +1,4 @@
-use Rattle.std.proofs.Common.{◌∙◌, Ok, Err, [], sym, ap, subst}
+use Rattle.std.proofs.Common.{◌∙◌, Ok, Err, sym, ap, subst}
 use Rattle.rv_sessions.specs.Turning.{DropTurn}
 use Rattle.lang_model.specs.declared.syntax.Item.TheVariants.{Command as COMMAND}
 use Rattle.lang_model.specs.declared.syntax.Command.TheVariants.{Remove as DROP}

@@ -1,4 +1,4 @@
-use Rattle.std.proofs.Common.{◌∙◌, Ok, Some, None, sym, ap}
+use Rattle.std.proofs.Common.{◌∙◌, sym, ap}
 use Rattle.run_model.specs.Names.{lookup}
 use Rattle.run_model.specs.declared.outcome.Outcome.TheVariants.{Ill as ILL}
 use Rattle.lang_model.specs.declared.faults.TypeFault.TheVariants.{Unknown}

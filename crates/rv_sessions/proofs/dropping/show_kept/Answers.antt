@@ -1,4 +1,4 @@
-use Rattle.std.proofs.Common.{◌≡◌, ◌∙◌, Ok, Err, Some, [], refl, sym, ap, subst}
+use Rattle.std.proofs.Common.{◌∙◌, Ok, Err, Some, sym, ap, subst}
 use Rattle.run_model.specs.Due.{printed}
 use Rattle.lang_model.specs.Eval.{evaluated}
 use Rattle.rv_eval.specs.Names.{state_of}

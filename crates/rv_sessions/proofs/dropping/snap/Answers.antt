@@ -1,4 +1,4 @@
-use Rattle.std.proofs.Common.{◌≡◌, ◌∙◌, Result, Ok, Err, sym, ap, subst}
+use Rattle.std.proofs.Common.{◌∙◌, Result, Ok, Err, sym, ap, subst}
 use Rattle.rel_model.specs.declared.NoMemory.{NoMemory as LACK}
 use Rattle.lang_model.specs.declared.syntax.Item.TheVariants.{Command as COMMAND}
 use Rattle.lang_model.specs.declared.syntax.Command.TheVariants.{Snap as SNAP}

@@ -1,4 +1,4 @@
-use Rattle.std.proofs.Common.{Ok, Err, [], refl, sym, subst}
+use Rattle.std.proofs.Common.{Ok, Err, refl, sym, subst}
 use Rattle.rel_model.proofs.Workers.{keeps_stands}
 use Rattle.rv_sessions.specs.Telling.{text_of, saved_by}
 use Rattle.rv_sessions.specs.Doing.{Did}

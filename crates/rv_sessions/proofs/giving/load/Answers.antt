@@ -1,4 +1,4 @@
-use Rattle.std.proofs.Common.{◌≡◌, ◌∙◌, Result, Ok, Err, Some, None, map, sym, ap}
+use Rattle.std.proofs.Common.{◌∙◌, Result, Ok, Err, map, sym, ap}
 use Rattle.std.specs.Option.{option_map}
 use Rattle.lang_model.specs.declared.syntax.Item.TheVariants.{Command as COMMAND}
 use Rattle.lang_model.specs.declared.syntax.Command.TheVariants.{Load as LOAD}

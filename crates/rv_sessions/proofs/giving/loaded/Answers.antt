@@ -1,4 +1,4 @@
-use Rattle.std.proofs.Common.{◌∙◌, Ok, Err, Some, [], refl, sym, ap, subst}
+use Rattle.std.proofs.Common.{◌∙◌, Some, refl, sym, ap, subst}
 use Rattle.lang_model.specs.declared.syntax.Item.TheVariants.{Command as COMMAND}
 use Rattle.lang_model.specs.declared.syntax.Command.TheVariants.{Load as LOAD}
 use Rattle.rel_model.proofs.Workers.{keeps_itself}

@@ -1,4 +1,4 @@
-use Rattle.std.proofs.Common.{◌≡◌, ◌∙◌, Result, Ok, Err, refl, sym, ap, subst}
+use Rattle.std.proofs.Common.{Result, Ok, sym, subst}
 use Rattle.rel_model.specs.declared.NoMemory.{NoMemory as LACK}
 use Rattle.lang_model.specs.declared.syntax.Item.{Item}
 use Rattle.lang_model.specs.declared.syntax.Item.TheVariants.{Function, Program}

@@ -1,6 +1,6 @@
-use Rattle.std.proofs.Common.{◌∙◌, ◌++◌, append_assoc, sym, ap}
+use Rattle.std.proofs.Common.{◌∙◌, ◌++◌, sym, ap}
 use Rattle.lang_model.specs.Eval.{names_in}
-use Rattle.rv_sessions.proofs.Naming.{names_of_args, names_of_links, names-call, names-base, links_begin, args_step, links_step}
+use Rattle.rv_sessions.proofs.Naming.{names_of_args, names-call, names-base, links_begin, args_step, links_step}
 use Rattle.rv_sessions.proofs.names.+push_names.Goals as goal
 
 pub call_args-init : goal.call_args-init

@@ -1,4 +1,4 @@
-use Rattle.std.proofs.Common.{Result, Ok, Err, IfOk, subst}
+use Rattle.std.proofs.Common.{Result, IfOk, subst}
 use Rattle.rel_model.specs.declared.NoMemory.{NoMemory as LACK}
 use Rattle.turn_book.specs.Views.{View as PASS}
 use Rattle.rv_sessions.specs.declared.transcript.Transcript.{Transcript}

@@ -1,8 +1,7 @@
-use Rattle.std.proofs.Common.{◌≡◌, ◌≤◌, ◌<◌, ◌+◌, ◌%◌, ◌^◌, ◌∙◌, ℕ, [], ◌∷◌, length, vec_len, Some, refl, sym, ap, subst, arith, length-append}
+use Rattle.std.proofs.Common.{◌≡◌, ◌≤◌, ◌+◌, ◌∙◌, ℕ, [], ◌∷◌, length, vec_len, Some, refl, ap, subst, arith, length-append}
 use Rattle.std.specs.Prelude.{slice_get}
 use Rattle.std.proofs.lemmas.Option.{slice_get_read}
 use Rattle.rv_sessions.specs.Telling.{input_of}
-use Rattle.rv_sessions.specs.Acting.{DidItem}
 use Rattle.rv_sessions.specs.Noting.{outcome_in}
 use Rattle.rv_sessions.proofs.Noting.{begins, goes_on}
 use Rattle.rv_sessions.proofs.session.run_items.Goals as goal

@@ -1,8 +1,4 @@
-use Rattle.std.proofs.Common.{◌∙◌, inr, Some, ap, subst}
-use Rattle.rel_model.specs.Worker.{Worker}
-use Rattle.rv_eval.specs.Names.{AllStand}
-use Rattle.rv_workspace.specs.Picking.{picked}
-use Rattle.run_model.specs.Carried.{carried}
+use Rattle.std.proofs.Common.{◌∙◌, inr}
 use Rattle.rv_sessions.specs.Told.{bytes_of}
 use Rattle.rv_sessions.proofs.Looking.{wanted_stand}
 use Rattle.rv_sessions.proofs.Acting.{was_shown}

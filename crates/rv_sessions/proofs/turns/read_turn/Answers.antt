@@ -1,7 +1,4 @@
-use Rattle.std.proofs.Common.{◌≡◌, ◌∙◌, List, [], ◌∷◌, ◌++◌, Result, Ok, Err, refl, sym, ap}
-use Rattle.run_model.specs.Carried.{carried}
-use Rattle.rv_sessions.specs.Turning.{ReadTurn}
-use Rattle.rv_sessions.proofs.Turning.{learnt, begins_back, took, with_nothing, read_begins, read_took}
+use Rattle.rv_sessions.proofs.Turning.{learnt, read_begins, read_took}
 use Rattle.rv_sessions.proofs.turns.read_turn.Goals as goal
 
 pub put-requires-clause-begins : goal.put-requires-clause-begins
