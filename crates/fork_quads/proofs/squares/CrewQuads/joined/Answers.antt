@@ -1,6 +1,8 @@
-use Rattle.rel_model.specs.Quads.{quad_room}
+use Rattle.rel_model.specs.Quads.{Keeper, quad_room}
+use Rattle.rel_model.specs.Worker.{MakesAtMost}
+use Rattle.fork_quads.specs.Crew.{worker_of}
 use Rattle.rel_model.specs.Trees.{bottom_height}
-use Rattle.std.proofs.Common.{◌+◌, ◌-◌, sym, arith}
+use Rattle.std.proofs.Common.{◌+◌, ◌-◌, ◌*◌, ◌^◌, subst, arith}
 use Rattle.fork_quads.specs.Forks.{fork_words}
 use Rattle.fork_quads.proofs.Crewing.{has_quad-stands, keeps_telling}
 use Rattle.fork_quads.proofs.Quartering.{stands_inside, told_gives}
@@ -28,3 +30,9 @@ pub returns-clause-keeps : goal.returns-clause-keeps
 returns-clause-keeps g c =
     keeps_telling (fork_words (c.args.x.height - bottom_height) + quad_room c.args.x.height) c.args.self.now c.self.inside.nodes c.joined_in_turn.new.nodes c.joined_in_turn.result
     c.self.view_is c.joined_in_turn.ensures.keeps c.joined_in_turn.ensures.misses
+
+pub returns-clause-room : goal.returns-clause-room
+returns-clause-room g c =
+    let a = c.joined_in_turn.ensures.keeps.room in
+    let r = joined_room c.args.x.height (has_quad-stands c.args.self.now c.args.x c.requires.x_stands).low in
+    subst (λ (w : Keeper). MakesAtMost (20 * 8 ^ c.args.x.height) (worker_of w) (worker_of c.joined_in_turn.new.nodes)) c.self.view_is (omega (arith, a, r))
