@@ -135,6 +135,47 @@ pub(crate) fn rows_pay(nodes: &mut Nodes, a: Quad, b: Quad, tallest: u8) -> bool
     is_dense(nodes, b)
 }
 
+/// How many different quads are under each of two squares of a height, at least, where a quad is joined with their
+/// product in rows: fewer than where the product alone is done so, since neither it nor a sum below it is named.
+fn least_joined(height: u8) -> u32 {
+    match height {
+        8 => 40,
+        7 => 20,
+        _ => 10,
+    }
+}
+
+/// Whether a quad has so many different quads under it.
+///
+/// It is a call of its own, so that its array is on the stack once.
+#[inline(never)]
+fn has_under(nodes: &mut Nodes, q: Quad, least: u32) -> bool
+    requires stands { QuadStands nodes.old q }
+    ensures reads { ReadsQuads nodes.old nodes.new }
+{
+    let _ = nodes.bottom();
+    let mut seen = [0; 256];
+    met_under(nodes, q, &mut seen, 0, least) >= least
+}
+
+/// Whether a quad is joined in rows with the product of two quads, which have one height, that of rows, and many
+/// different quads under them.
+pub(crate) fn joins_pay(nodes: &mut Nodes, y: Quad, z: Quad) -> bool
+    requires y_stands { QuadStands nodes.old y }
+    requires z_stands { QuadStands nodes.old z }
+    ensures reads { ReadsQuads nodes.old nodes.new }
+{
+    let _ = nodes.bottom();
+    if y.height < 6 || y.height > 8 {
+        return false;
+    }
+    let least = least_joined(y.height);
+    if !has_under(nodes, y, least) {
+        return false;
+    }
+    has_under(nodes, z, least)
+}
+
 /// How many different dense squares of 256 rows are under a square whose products are summed, at least.
 fn least_dense(height: u8) -> u32 {
     match height {

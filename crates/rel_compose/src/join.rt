@@ -6,7 +6,7 @@ ghost use Rattle.rel_model.specs.Trees.{bottom_height};
 ghost use Rattle.rel_model.specs.Equations.{side_of};
 ghost use Rattle.rel_model.specs.Quads.{Keeper, QuadStands, IsQuad, quad_cells, KeepsQuads, ReadsQuads, Counts, quad_room};
 
-use crate::dense::{TALLEST, rows_pay, sums_pay};
+use crate::dense::{TALLEST, joins_pay, sums_pay};
 use crate::product::both_full;
 use crate::sums::summed_quad;
 use bit_rows::no_rows;
@@ -16,7 +16,8 @@ use quad_nodes::Nodes;
 use rel_model::Quad;
 use row_quads::{add_product, gather_quad, spill_quad};
 
-/// Whether two quads of one height are so dense that their product goes by rows, or by sums of rows.
+/// Whether two quads of one height have so many different quads under them that a quad is joined with their product in
+/// rows, or in sums of rows.
 fn both_dense(nodes: &mut Nodes, y: Quad, z: Quad) -> bool
     requires y_stands { QuadStands nodes.old y }
     requires z_stands { QuadStands nodes.old z }
@@ -24,14 +25,14 @@ fn both_dense(nodes: &mut Nodes, y: Quad, z: Quad) -> bool
     requires over { bottom_height < y.height }
     ensures reads { ReadsQuads nodes.old nodes.new }
 {
-    if rows_pay(nodes, y, z, TALLEST) {
+    if joins_pay(nodes, y, z) {
         return true;
     }
     sums_pay(nodes, y, z, TALLEST)
 }
 
-/// Whether `x | y*z`, of quads of one height, is done in rows of bits, whatever `x` is: `y` and `z` are dense, neither
-/// is empty, not both are full, and their product was not noted.
+/// Whether `x | y*z`, of quads of one height, is done in rows of bits, whatever `x` is: `y` and `z` have many different
+/// quads, neither is empty, not both are full, and their product was not noted.
 pub fn joins_by_rows(nodes: &mut Nodes, y: Quad, z: Quad) -> bool
     requires y_stands { QuadStands nodes.old y }
     requires z_stands { QuadStands nodes.old z }
