@@ -28,7 +28,7 @@ fn both_dense(nodes: &mut Nodes, y: Quad, z: Quad) -> bool
     if joins_pay(nodes, y, z) {
         return true;
     }
-    sums_pay(nodes, y, z, TALLEST)
+    sums_pay(nodes, y, z, true, TALLEST)
 }
 
 /// Whether `x | y*z`, of quads of one height, is done in rows of bits, whatever `x` is: `y` and `z` have many different

@@ -20,7 +20,7 @@ pub fn goes_by_sums(nodes: &mut Nodes, a: Quad, b: Quad) -> bool
     ensures tall { result ≡ true → 8 ≤ a.height }
     ensures reads { ReadsQuads nodes.old nodes.new }
 {
-    sums_pay(nodes, a, b, TALLEST)
+    sums_pay(nodes, a, b, false, TALLEST)
 }
 
 /// The quad of a height of a composition's cells from a row and a column on, by sums of rows. Nothing is noted.
