@@ -37,7 +37,7 @@ pub(crate) struct Team<'t, R: Threads, G: Gate> {
 /// How often the result of an operator on quads of a height is cut in four, so that there is a piece for each worker
 /// and none has fewer than 256 rows: not at all where the operands are low, or where there are too few spare seats.
 #[tactic(auto, unfolding(rel_model::specs::Trees::bottom_height))]
-fn cuts_for(workers: u32, height: u8, spare: u32) -> u8
+pub(crate) fn cuts_for(workers: u32, height: u8, spare: u32) -> u8
     requires low { bottom_height ≤ height }
     ensures few { result ≤ 3 }
     ensures deep { bottom_height + result ≤ height }

@@ -3,7 +3,7 @@ ghost use Rattle.fork_quads.specs.CrewLaws.{least_limit_law, low_height_law, hig
 
 use crate::crew::Crew;
 use crate::gate::Gate;
-use crate::joined::joined_in_turn;
+use crate::joined::joined;
 use crate::roots::{root_of, told};
 use rel_model::quads_trait::Quads;
 use rel_model::{Lack, Quad, Rel, Shape};
@@ -71,6 +71,6 @@ impl<'t, R: Threads + Sync, G: Gate + Sync> Quads for Crew<'t, R, G> {
 
     /// A quad and a product, as one.
     fn joined(&mut self, x: Quad, y: Quad, z: Quad) -> Result<Quad, Lack> {
-        told(joined_in_turn(&self.team, &mut self.nodes, x, y, z))
+        told(joined(&self.team, &mut self.nodes, x, y, z))
     }
 }

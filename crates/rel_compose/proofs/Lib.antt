@@ -3,3 +3,4 @@ pub mod Multiplying
 pub mod Finding
 pub mod Fitting
 pub mod Summing
+pub mod Joining

@@ -3,7 +3,7 @@
 -- 2. A quarter of a product is the union of two products of quarters, so a window of a product is the union of windows of two products of half the side.
 -- 3. Down to squares of 256 rows and columns these are added to rows; the quad of a product is gathered from such sums.
 -- 4. Four such windows that lie two by two from a multiple of 512 rows and columns on go down by the same halves, each by the law of one.
-use Rattle.std.proofs.Common.{◌≡◌, ◌<◌, ◌≤◌, ◌+◌, ◌-◌, ◌%◌, ◌^◌, ◌&&◌, ◌||◌, ◌⊎◌, ◌≢◌, ltb, zero, suc, ℕ, Bool, true, false, Result, IfOk, refl, sym, ap, subst, ◌∙◌, inl, inr, arith}
+use Rattle.std.proofs.Common.{◌≡◌, ◌<◌, ◌≤◌, ◌+◌, ◌-◌, ◌%◌, ◌^◌, ◌&&◌, ◌||◌, ◌⊎◌, ◌≢◌, ltb, zero, suc, ℕ, Bool, true, false, refl, sym, ap, subst, ◌∙◌, inl, inr, arith}
 use Rattle.std.proofs.lemmas.Bool.{cases_lt, le-ltb, and_left, and_right}
 use Rattle.std.proofs.Math.Nat.{pow-le-pow_right}
 use Rattle.rel_model.specs.declared.Quad.{Quad}
@@ -17,7 +17,7 @@ use Rattle.rel_model.proofs.QuadLaws.{quad_cells-stay, empty_quad, side_of-next,
 use Rattle.bit_rows.specs.Places.{window}
 use Rattle.bit_rows.proofs.Windows.{quartered_nw, quartered_ne, quartered_sw, quartered_se, window_whole}
 use Rattle.row_quads.specs.Adding.{AddsProducts}
-use Rattle.row_quads.proofs.Placing.{quad_within, gathered_value}
+use Rattle.row_quads.proofs.Placing.{quad_within}
 use Rattle.row_quads.proofs.ByRows.{product_within}
 use Rattle.row_quads.specs.declared.squares.Squares.{Squares}
 use Rattle.bit_rows.specs.Rows.{rows_cells}
@@ -34,7 +34,7 @@ window_same w r c r2 c2 f g h = same_cells _ _ (λ i j. elim (cases_lt i w) [
   ]
 ])
 
-window_union : (w r c : ℕ) (f g : Cells) → window r c w (cells_union f g) ≡ cells_union (window r c w f) (window r c w g)
+pub window_union : (w r c : ℕ) (f g : Cells) → window r c w (cells_union f g) ≡ cells_union (window r c w f) (window r c w g)
 window_union w r c f g = same_cells _ _ (λ i j. spread (ltb i w) (ltb j w) (f (r + i) (c + j)) (g (r + i) (c + j)))
   where
     spread : (a b x y : Bool) → (a && (b && (x || y))) ≡ ((a && (b && x)) || (a && (b && y)))
@@ -189,13 +189,7 @@ none_left_added w a b r c z i s e = none_more z r c _ (sym (composed_none-left w
 pub none_right_added : (w : Keeper) (a b : Quad) (r c : ℕ) (z : Cells) → IsKeeper w → QuadStands w b → b.height ≡ a.height → b.name ≡ 0 → z ≡ cells_union z (window r c 256 (cells_compose (side_of a.height) (quad_cells w a) (quad_cells w b)))
 none_right_added w a b r c z i s h e = none_more z r c _ (sym (composed_none-right w a b i s h e).means ∙ (empty_quad w b.height b.name i s.low s.high e).means)
 
--- ---- the quad of a sum
--- rows that had nothing and to which the products were added
-pub sum_rows : (r c m : ℕ) (z0 z f : Cells) → m ≡ 256 → z0 ≡ no_cells → z ≡ cells_union z0 (window r c 256 f) → window 0 0 m z ≡ window r c m f
-sum_rows r c m z0 z f e ez sz =
-    let d : z ≡ window r c 256 f = sz ∙ ap (λ (g : Cells). cells_union g (window r c 256 f)) ez in
-    ap (λ (k : ℕ). window 0 0 k z) e ∙ ap (λ (g : Cells). window 0 0 256 g) d ∙ window_again 256 r c f ∙ ap (λ (k : ℕ). window r c k f) (sym e)
-
+-- ---- a product within a window
 pub side_of_8 : side_of 8 ≡ 256
 unfolding bottom_height
 side_of_8 = refl
@@ -205,10 +199,6 @@ pub product_later : (m : ℕ) (v w : Keeper) (a b : Quad) → KeepsQuads m v w �
     → cells_compose (side_of a.height) (quad_cells w a) (quad_cells w b) ≡ cells_compose (side_of a.height) (quad_cells v a) (quad_cells v b)
 product_later m v w a b k s t =
     ap (λ (c : Cells). cells_compose (side_of a.height) c (quad_cells w b)) (quad_cells-stay m v w a k s) ∙ ap (λ (c : Cells). cells_compose (side_of a.height) (quad_cells v a) c) (quad_cells-stay m v w b k t)
-
--- a quad of a window of a set that is known otherwise
-pub window_quad : (w : Keeper) (h r c m : ℕ) (f g : Cells) (q : Quad) → f ≡ g → IsQuad w h (window r c m f) q → IsQuad w h (window r c m g) q
-window_quad w h r c m f g q e i = subst (λ (x : Cells). IsQuad w h (window r c m x) q) e i
 
 -- ---- heights
 pub low_at : (h : ℕ) → 8 ≤ h → h ≢ 8 → bottom_height < h
@@ -239,7 +229,7 @@ eight_small = let t = side_of_8 in omega arith
 
 -- ---- the whole product
 -- the window of a whole product is the product
-product_whole : (w : Keeper) (a b : Quad) → b.height ≡ a.height
+pub product_whole : (w : Keeper) (a b : Quad) → b.height ≡ a.height
     → window 0 0 (side_of a.height) (cells_compose (side_of a.height) (quad_cells w a) (quad_cells w b)) ≡ cells_compose (side_of a.height) (quad_cells w a) (quad_cells w b)
 product_whole w a b h =
     let m : ℕ = side_of a.height in
@@ -307,9 +297,6 @@ crossing_of s0 s1 a b fa fb left right m row col r c l n eh pa pb em hl hr ro co
     }
 
 -- ---- a height that is 8
-pub eight_value : {E : Type 0} (w : Keeper) (h r c : ℕ) (f : Cells) (x : Result Quad E) → h ≡ 8 → IfOk x (IsQuad w 8 (window r c (side_of 8) f)) → IfOk x (IsQuad w h (window r c (side_of h) f))
-eight_value w h r c f x e i = subst (λ (k : ℕ). IfOk x (IsQuad w k (window r c (side_of k) f))) (sym e) i
-
 pub eight_keeps : (h : ℕ) (v w : Keeper) → h ≡ 8 → KeepsQuads (quad_room 8) v w → KeepsQuads (quad_room h) v w
 eight_keeps h v w e k = subst (λ (n : ℕ). KeepsQuads (quad_room n) v w) (sym e) k
 
@@ -468,26 +455,9 @@ four_none_right w a b row col z i s h e = record {
   se = none_right_added w a b (row + 256) (col + 256) (rows_cells z.se) i s h e;
 }
 
--- the quad of rows that had nothing and to which a window was added
-pub sum_quad : (w : Keeper) (r c : ℕ) (z0 z f : Cells) (q : Quad) → z0 ≡ no_cells → z ≡ cells_union z0 (window r c 256 f) → IsQuad w 8 (window 0 0 (side_of 8) z) q → IsQuad w 8 (window r c (side_of 8) f) q
-sum_quad w r c z0 z f q ez sz i = subst (λ (g : Cells). IsQuad w 8 g q) (sum_rows r c (side_of 8) z0 z f side_of_8 ez sz) i
-
--- the corner of four such quads
-pub four_quads : {E : Type 0} (m : ℕ) (s1 s2 s3 s4 s5 : Keeper) (row col : ℕ) (f : Cells) (nw ne sw se : Quad) (x : Result Quad E)
-    → KeepsQuads m s1 s2 → KeepsQuads m s2 s3 → KeepsQuads m s3 s4
-    → IsQuad s1 8 (window row col (side_of 8) f) nw → IsQuad s2 8 (window row (col + 256) (side_of 8) f) ne → IsQuad s3 8 (window (row + 256) col (side_of 8) f) sw → IsQuad s4 8 (window (row + 256) (col + 256) (side_of 8) f) se
-    → IfOk x (IsQuad s5 (nw.height + 1) (quartered (side_of nw.height) (quad_cells s4 nw) (quad_cells s4 ne) (quad_cells s4 sw) (quad_cells s4 se)))
-    → IfOk x (IsQuad s5 9 (window row col (side_of 9) f))
-four_quads {E} m s1 s2 s3 s4 s5 row col f nw ne sw se x k1 k2 k3 q0 q1 q2 q3 v =
-    gathered_value {E = E} m m m s1 s2 s3 s4 s5 9 row col 256 f nw ne sw se x (over_8 9 (omega arith)) (sym side_of_8) k1 k2 k3 q0 q1 q2 q3 v
-
 pub nine_low : (h : ℕ) → 9 ≤ h → bottom_height < h
 unfolding bottom_height
 nine_low h l = omega arith
-
--- a height that is 9
-pub nine_value : {E : Type 0} (w : Keeper) (h r c : ℕ) (f : Cells) (x : Result Quad E) → h ≡ 9 → IfOk x (IsQuad w 9 (window r c (side_of 9) f)) → IfOk x (IsQuad w h (window r c (side_of h) f))
-nine_value w h r c f x e i = subst (λ (k : ℕ). IfOk x (IsQuad w k (window r c (side_of k) f))) (sym e) i
 
 pub nine_keeps : (h : ℕ) (v w : Keeper) → h ≡ 9 → KeepsQuads (quad_room 9) v w → KeepsQuads (quad_room h) v w
 nine_keeps h v w e k = subst (λ (n : ℕ). KeepsQuads (quad_room n) v w) (sym e) k

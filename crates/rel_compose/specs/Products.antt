@@ -5,7 +5,7 @@ use Rattle.rel_model.specs.Cells.{Cells, cells_union, cells_compose}
 use Rattle.rel_model.specs.Equations.{side_of}
 use Rattle.rel_model.specs.Quads.{Keeper, quad_cells, QuadStands, IsQuad, quad_room, compose_room}
 use Rattle.bit_rows.specs.Rows.{rows_cells}
-use Rattle.bit_rows.specs.Places.{window}
+use Rattle.bit_rows.specs.Places.{placed, window}
 use Rattle.row_quads.specs.declared.squares.Squares.{Squares}
 
 -- two quads of one height stand
@@ -46,3 +46,21 @@ pub record AddsWindows (old new : Squares) (row col : ℕ) (f : Cells) : Type 0 
   pub ne : rows_cells new.ne ≡ cells_union (rows_cells old.ne) (window row (col + 256) 256 f)
   pub sw : rows_cells new.sw ≡ cells_union (rows_cells old.sw) (window (row + 256) col 256 f)
   pub se : rows_cells new.se ≡ cells_union (rows_cells old.se) (window (row + 256) (col + 256) 256 f)
+
+-- four quads stand at height 8
+pub record FourAreSmall (w : Keeper) (four : Quad × Quad × Quad × Quad) : Type 0 where
+  pub nw : QuadStands w four.0
+  pub ne : QuadStands w four.1
+  pub sw : QuadStands w four.2
+  pub se : QuadStands w four.3
+  pub nw_height : four.0.height ≡ 8
+  pub ne_height : four.1.height ≡ 8
+  pub sw_height : four.2.height ≡ 8
+  pub se_height : four.3.height ≡ 8
+
+-- to four squares of rows the cells of four quads were added
+pub record AddsQuads (w : Keeper) (four : Quad × Quad × Quad × Quad) (old new : Squares) : Type 0 where
+  pub nw : rows_cells new.nw ≡ cells_union (rows_cells old.nw) (placed 0 0 (quad_cells w four.0))
+  pub ne : rows_cells new.ne ≡ cells_union (rows_cells old.ne) (placed 0 0 (quad_cells w four.1))
+  pub sw : rows_cells new.sw ≡ cells_union (rows_cells old.sw) (placed 0 0 (quad_cells w four.2))
+  pub se : rows_cells new.se ≡ cells_union (rows_cells old.se) (placed 0 0 (quad_cells w four.3))

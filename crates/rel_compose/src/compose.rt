@@ -106,7 +106,7 @@ fn composed_over(nodes: &mut Nodes, a: Quad, b: Quad, tallest: u8) -> Result<Qua
     if rows_pay(nodes, a, b, tallest) {
         return noted_by_rows(nodes, a, b);
     }
-    if sums_pay(nodes, a, b, tallest) {
+    if sums_pay(nodes, a, b, false, tallest) {
         return noted_by_sums(nodes, a, b);
     }
     by_quarters(nodes, a, b, tallest)

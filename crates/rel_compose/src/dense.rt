@@ -135,6 +135,47 @@ pub(crate) fn rows_pay(nodes: &mut Nodes, a: Quad, b: Quad, tallest: u8) -> bool
     is_dense(nodes, b)
 }
 
+/// How many different quads are under each of two squares of a height, at least, where a quad is joined with their
+/// product in rows: fewer than where the product alone is done so, since neither it nor a sum below it is named.
+fn least_joined(height: u8) -> u32 {
+    match height {
+        8 => 40,
+        7 => 20,
+        _ => 10,
+    }
+}
+
+/// Whether a quad has so many different quads under it.
+///
+/// It is a call of its own, so that its array is on the stack once.
+#[inline(never)]
+fn has_under(nodes: &mut Nodes, q: Quad, least: u32) -> bool
+    requires stands { QuadStands nodes.old q }
+    ensures reads { ReadsQuads nodes.old nodes.new }
+{
+    let _ = nodes.bottom();
+    let mut seen = [0; 256];
+    met_under(nodes, q, &mut seen, 0, least) >= least
+}
+
+/// Whether a quad is joined in rows with the product of two quads, which have one height, that of rows, and many
+/// different quads under them.
+pub(crate) fn joins_pay(nodes: &mut Nodes, y: Quad, z: Quad) -> bool
+    requires y_stands { QuadStands nodes.old y }
+    requires z_stands { QuadStands nodes.old z }
+    ensures reads { ReadsQuads nodes.old nodes.new }
+{
+    let _ = nodes.bottom();
+    if y.height < 6 || y.height > 8 {
+        return false;
+    }
+    let least = least_joined(y.height);
+    if !has_under(nodes, y, least) {
+        return false;
+    }
+    has_under(nodes, z, least)
+}
+
 /// How many different dense squares of 256 rows are under a square whose products are summed, at least.
 fn least_dense(height: u8) -> u32 {
     match height {
@@ -146,9 +187,22 @@ fn least_dense(height: u8) -> u32 {
     }
 }
 
-/// Counts the dense squares of 256 rows under a quad, on to those met before; a name is told from those met before by
-/// its place.
-fn dense_under(nodes: &mut Nodes, q: Quad, seen: &mut [u32], met: u32) -> u32
+/// Whether a square of 256 rows counts: it is dense, or, where a quad is joined with the product, has many different
+/// quads under it.
+fn is_counted(nodes: &mut Nodes, q: Quad, join: bool) -> bool
+    requires stands { QuadStands nodes.old q }
+    requires over { bottom_height < q.height }
+    ensures reads { ReadsQuads nodes.old nodes.new }
+{
+    if join {
+        return has_under(nodes, q, least_joined(q.height));
+    }
+    is_dense(nodes, q)
+}
+
+/// Counts the squares of 256 rows under a quad that are dense, or have many quads, on to those met before; a name is
+/// told from those met before by its place.
+fn dense_under(nodes: &mut Nodes, q: Quad, join: bool, seen: &mut [u32], met: u32) -> u32
     requires stands { QuadStands nodes.old q }
     requires tall { 8 ≤ q.height }
     requires places { length seen.old ≡ 1024 }
@@ -165,20 +219,20 @@ fn dense_under(nodes: &mut Nodes, q: Quad, seen: &mut [u32], met: u32) -> u32
     }
     seen[place] = q.name;
     if q.height == 8 {
-        return met.saturating_add(u32::from(is_dense(nodes, q)));
+        return met.saturating_add(u32::from(is_counted(nodes, q, join)));
     }
     let (nw, ne, sw, se) = nodes.quarters(q);
-    let first = dense_under(nodes, nw, seen, met);
-    let second = dense_under(nodes, ne, seen, first);
-    let third = dense_under(nodes, sw, seen, second);
-    dense_under(nodes, se, seen, third)
+    let first = dense_under(nodes, nw, join, seen, met);
+    let second = dense_under(nodes, ne, join, seen, first);
+    let third = dense_under(nodes, sw, join, seen, second);
+    dense_under(nodes, se, join, seen, third)
 }
 
-/// Whether many different dense squares of 256 rows are under a quad.
+/// Whether many different squares of 256 rows under a quad are dense, or have many quads.
 ///
 /// It is a call of its own, so that its array is on the stack once.
 #[inline(never)]
-fn has_many(nodes: &mut Nodes, q: Quad) -> bool
+fn has_many(nodes: &mut Nodes, q: Quad, join: bool) -> bool
     requires stands { QuadStands nodes.old q }
     requires over { 8 < q.height }
     ensures reads { ReadsQuads nodes.old nodes.new }
@@ -189,11 +243,12 @@ fn has_many(nodes: &mut Nodes, q: Quad) -> bool
         return false;
     }
     let mut seen = [0; 1024];
-    dense_under(nodes, q, &mut seen, 0) >= least_dense(q.height)
+    dense_under(nodes, q, join, &mut seen, 0) >= least_dense(q.height)
 }
 
-/// Whether two quads of one height, which is at most `tallest` and over that of rows, both have many dense squares.
-pub(crate) fn sums_pay(nodes: &mut Nodes, a: Quad, b: Quad, tallest: u8) -> bool
+/// Whether two quads of one height, which is at most `tallest` and over that of rows, both have many dense squares, or,
+/// where a quad is joined with their product, squares with many quads.
+pub(crate) fn sums_pay(nodes: &mut Nodes, a: Quad, b: Quad, join: bool, tallest: u8) -> bool
     requires a_stands { QuadStands nodes.old a }
     requires b_stands { QuadStands nodes.old b }
     requires one_height { b.height ≡ a.height }
@@ -204,8 +259,8 @@ pub(crate) fn sums_pay(nodes: &mut Nodes, a: Quad, b: Quad, tallest: u8) -> bool
     if a.height < 9 || a.height > tallest {
         return false;
     }
-    if !has_many(nodes, a) {
+    if !has_many(nodes, a, join) {
         return false;
     }
-    has_many(nodes, b)
+    has_many(nodes, b, join)
 }

@@ -3,6 +3,7 @@
 
 mod compose;
 mod dense;
+mod join;
 mod product;
 mod rows;
 mod sums;
@@ -10,5 +11,6 @@ mod transpose;
 mod window;
 
 pub use compose::{compose_by_quarters, compose_quads};
+pub use join::{joined_by_rows, joins_by_rows};
 pub use transpose::transpose_quad;
 pub use window::{compose_window, goes_by_sums};

@@ -1,5 +1,5 @@
 //! The composition of two large squares: the partial products of each square of 256 rows and columns are summed in
-//! rows of bits, and only their sum is named.
+//! rows of bits, on to the cells of an addend, and only their sum is named.
 ghost use Rattle.std.specs.Prelude.{◌≡◌, ◌<◌, ◌≤◌, ◌+◌, ◌%◌, true, length, IfOk};
 ghost use Rattle.rel_model.specs.Cells.{cells_union, cells_compose};
 ghost use Rattle.rel_model.specs.Trees.{top_height};
@@ -8,14 +8,14 @@ ghost use Rattle.rel_model.specs.Quads.{Keeper, QuadStands, IsQuad, quad_cells, 
 ghost use Rattle.bit_rows.specs.Rows.{rows_cells};
 ghost use Rattle.bit_rows.specs.Places.{window};
 ghost use Rattle.row_quads.specs.Adding.{AreWhole};
-ghost use Rattle.rel_compose.specs.Products.{IsHalf, AddsWindows};
+ghost use Rattle.rel_compose.specs.Products.{IsHalf, AddsWindows, FourAreSmall, AddsQuads};
 
 use bit_rows::{Row, no_rows};
 use memo_laws::Op;
 use pair_table::Missed;
 use quad_nodes::{Nodes, side_of_height};
 use rel_model::Quad;
-use row_quads::{Squares, add_four_products, add_product, gather_quad};
+use row_quads::{Squares, add_four_products, add_product, gather_quad, spill_quad};
 
 /// The half of two in which a place lies, and the place within it.
 fn half_at(first: (Quad, Quad), second: (Quad, Quad), place: u32, half: u32) -> ((Quad, Quad), u32)
@@ -62,25 +62,28 @@ fn add_products(nodes: &mut Nodes, a: Quad, b: Quad, row: u32, col: u32, z: &mut
     add_products(nodes, left.1, right.1, inner_row, inner_col, z);
 }
 
-/// The quad of a composition's cells within 256 rows and columns, from a row and a column on.
+/// The quad of an addend's cells, and of a composition's cells within 256 rows and columns, from a row and a column on.
 ///
 /// The rows are on the stack, 8 KB, so this is a call of its own.
 #[inline(never)]
-fn sum_at(nodes: &mut Nodes, a: Quad, b: Quad, row: u32, col: u32) -> Result<Quad, Missed>
+fn sum_at(nodes: &mut Nodes, x: Quad, a: Quad, b: Quad, row: u32, col: u32) -> Result<Quad, Missed>
+    requires x_stands { QuadStands nodes.old x }
     requires a_stands { QuadStands nodes.old a }
     requires b_stands { QuadStands nodes.old b }
+    requires eight { x.height ≡ 8 }
     requires one_height { b.height ≡ a.height }
     requires tall { 8 ≤ a.height }
     requires row_on { row % 256 ≡ 0 }
     requires col_on { col % 256 ≡ 0 }
     requires row_in { row < side_of a.height }
     requires col_in { col < side_of a.height }
-    ensures value { IfOk result (IsQuad nodes.new 8 (window row col (side_of 8)
-        (cells_compose (side_of a.height) (quad_cells nodes.old a) (quad_cells nodes.old b)))) }
+    ensures value { IfOk result (IsQuad nodes.new 8 (cells_union (quad_cells nodes.old x) (window row col (side_of 8)
+        (cells_compose (side_of a.height) (quad_cells nodes.old a) (quad_cells nodes.old b))))) }
     ensures keeps { KeepsQuads (quad_room 8) nodes.old nodes.new }
     ensures counts { Counts nodes.old nodes.new result }
 {
     let mut z = no_rows();
+    spill_quad(nodes, x, &mut z, 0, 0);
     add_products(nodes, a, b, row, col, &mut z);
     gather_quad(nodes, &z, 8, 0, 0)
 }
@@ -121,31 +124,56 @@ fn add_to_squares(nodes: &mut Nodes, a: Quad, b: Quad, row: u32, col: u32, z: &m
     add_to_squares(nodes, left.1, right.1, inner_row, inner_col, z);
 }
 
-/// The quad of a composition's cells within 512 rows and columns, from a row and a column on.
+/// Adds the cells of four quads to four squares of rows.
+fn spill_four(nodes: &mut Nodes, four: (Quad, Quad, Quad, Quad), z: &mut Squares)
+    requires stand { FourAreSmall nodes.old four }
+    requires z_whole { AreWhole z.old }
+    ensures whole { AreWhole z.new }
+    ensures cells { AddsQuads nodes.old four z.old z.new }
+    ensures reads { ReadsQuads nodes.old nodes.new }
+{
+    spill_quad(nodes, four.0, &mut z.nw, 0, 0);
+    spill_quad(nodes, four.1, &mut z.ne, 0, 0);
+    spill_quad(nodes, four.2, &mut z.sw, 0, 0);
+    spill_quad(nodes, four.3, &mut z.se, 0, 0);
+}
+
+/// The quad of an addend's cells, and of a composition's cells within 512 rows and columns, from a row and a column on.
 ///
 /// The rows are on the stack, 32 KB, so this is a call of its own.
 #[inline(never)]
 #[tactic(auto, using(crate::proofs::Summing::eight_low, crate::proofs::Summing::eight_high, crate::proofs::Summing::eight_small))]
-fn four_sums_at(nodes: &mut Nodes, a: Quad, b: Quad, row: u32, col: u32) -> Result<Quad, Missed>
+fn four_sums_at(
+    nodes: &mut Nodes,
+    x: Quad,
+    a: Quad,
+    b: Quad,
+    row: u32,
+    col: u32,
+) -> Result<Quad, Missed>
+    requires x_stands { QuadStands nodes.old x }
     requires a_stands { QuadStands nodes.old a }
     requires b_stands { QuadStands nodes.old b }
+    requires nine { x.height ≡ 9 }
     requires one_height { b.height ≡ a.height }
     requires tall { 9 ≤ a.height }
     requires row_on { row % 512 ≡ 0 }
     requires col_on { col % 512 ≡ 0 }
     requires row_in { row < side_of a.height }
     requires col_in { col < side_of a.height }
-    ensures value { IfOk result (IsQuad nodes.new 9 (window row col (side_of 9)
-        (cells_compose (side_of a.height) (quad_cells nodes.old a) (quad_cells nodes.old b)))) }
+    ensures value { IfOk result (IsQuad nodes.new 9 (cells_union (quad_cells nodes.old x) (window row col (side_of 9)
+        (cells_compose (side_of a.height) (quad_cells nodes.old a) (quad_cells nodes.old b))))) }
     ensures keeps { KeepsQuads (quad_room 9) nodes.old nodes.new }
     ensures counts { Counts nodes.old nodes.new result }
 {
+    let four = nodes.quarters(x);
     let mut z = Squares {
         nw: no_rows(),
         ne: no_rows(),
         sw: no_rows(),
         se: no_rows(),
     };
+    spill_four(nodes, four, &mut z);
     add_to_squares(nodes, a, b, row, col, &mut z);
     let nw = gather_quad(nodes, &z.nw, 8, 0, 0)?;
     let ne = gather_quad(nodes, &z.ne, 8, 0, 0)?;
@@ -163,8 +191,49 @@ fn is_by_512(height: u8, row: u32, col: u32) -> bool
     height == 9 && row % 512 == 0 && col % 512 == 0
 }
 
-/// The quad of a height of a composition's cells from a row and a column on.
+/// The quad of an addend's cells, and of a composition's cells within its side, from a row and a column on.
 pub(crate) fn summed_quad(
+    nodes: &mut Nodes,
+    x: Quad,
+    a: Quad,
+    b: Quad,
+    row: u32,
+    col: u32,
+) -> Result<Quad, Missed>
+    requires x_stands { QuadStands nodes.old x }
+    requires a_stands { QuadStands nodes.old a }
+    requires b_stands { QuadStands nodes.old b }
+    requires one_height { b.height ≡ a.height }
+    requires tall { 8 ≤ x.height }
+    requires within { x.height ≤ a.height }
+    requires row_on { row % 256 ≡ 0 }
+    requires col_on { col % 256 ≡ 0 }
+    requires row_in { row + side_of x.height ≤ side_of a.height }
+    requires col_in { col + side_of x.height ≤ side_of a.height }
+    ensures value { IfOk result (IsQuad nodes.new x.height (cells_union (quad_cells nodes.old x)
+        (window row col (side_of x.height)
+        (cells_compose (side_of a.height) (quad_cells nodes.old a) (quad_cells nodes.old b))))) }
+    ensures keeps { KeepsQuads (quad_room x.height) nodes.old nodes.new }
+    ensures counts { Counts nodes.old nodes.new result }
+{
+    let _ = nodes.bottom();
+    if x.height == 8 {
+        return sum_at(nodes, x, a, b, row, col);
+    }
+    if is_by_512(x.height, row, col) {
+        return four_sums_at(nodes, x, a, b, row, col);
+    }
+    let half = side_of_height(x.height - 1);
+    let four = nodes.quarters(x);
+    let nw = summed_quad(nodes, four.0, a, b, row, col)?;
+    let ne = summed_quad(nodes, four.1, a, b, row, col + half)?;
+    let sw = summed_quad(nodes, four.2, a, b, row + half, col)?;
+    let se = summed_quad(nodes, four.3, a, b, row + half, col + half)?;
+    nodes.corner(nw, ne, sw, se)
+}
+
+/// The quad of a height of a composition's cells from a row and a column on: to no cell they are added.
+pub(crate) fn product_window(
     nodes: &mut Nodes,
     a: Quad,
     b: Quad,
@@ -187,18 +256,8 @@ pub(crate) fn summed_quad(
     ensures counts { Counts nodes.old nodes.new result }
 {
     let _ = nodes.bottom();
-    if height == 8 {
-        return sum_at(nodes, a, b, row, col);
-    }
-    if is_by_512(height, row, col) {
-        return four_sums_at(nodes, a, b, row, col);
-    }
-    let half = side_of_height(height - 1);
-    let nw = summed_quad(nodes, a, b, height - 1, row, col)?;
-    let ne = summed_quad(nodes, a, b, height - 1, row, col + half)?;
-    let sw = summed_quad(nodes, a, b, height - 1, row + half, col)?;
-    let se = summed_quad(nodes, a, b, height - 1, row + half, col + half)?;
-    nodes.corner(nw, ne, sw, se)
+    let none = Quad { height, name: 0 };
+    summed_quad(nodes, none, a, b, row, col)
 }
 
 /// The composition of two quads of one height from 8 on, by sums, which is noted.
@@ -212,7 +271,7 @@ pub(crate) fn noted_by_sums(nodes: &mut Nodes, a: Quad, b: Quad) -> Result<Quad,
     ensures keeps { KeepsQuads (compose_room a.height) nodes.old nodes.new }
     ensures counts { Counts nodes.old nodes.new result }
 {
-    let found = summed_quad(nodes, a, b, a.height, 0, 0)?;
+    let found = product_window(nodes, a, b, a.height, 0, 0)?;
     nodes.note(Op::Compose, a, b, found);
     Ok(found)
 }

@@ -6,7 +6,7 @@ ghost use Rattle.rel_model.specs.Quads.{Keeper, QuadStands, IsQuad, quad_cells, 
 ghost use Rattle.bit_rows.specs.Places.{window};
 
 use crate::dense::{TALLEST, sums_pay};
-use crate::sums::summed_quad;
+use crate::sums::product_window;
 use pair_table::Missed;
 use quad_nodes::Nodes;
 use rel_model::Quad;
@@ -20,7 +20,7 @@ pub fn goes_by_sums(nodes: &mut Nodes, a: Quad, b: Quad) -> bool
     ensures tall { result ≡ true → 8 ≤ a.height }
     ensures reads { ReadsQuads nodes.old nodes.new }
 {
-    sums_pay(nodes, a, b, TALLEST)
+    sums_pay(nodes, a, b, false, TALLEST)
 }
 
 /// The quad of a height of a composition's cells from a row and a column on, by sums of rows. Nothing is noted.
@@ -46,5 +46,5 @@ pub fn compose_window(
     ensures keeps { KeepsQuads (quad_room height) nodes.old nodes.new }
     ensures counts { Counts nodes.old nodes.new result }
 {
-    summed_quad(nodes, a, b, height, row, col)
+    product_window(nodes, a, b, height, row, col)
 }

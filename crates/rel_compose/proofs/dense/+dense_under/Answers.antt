@@ -47,5 +47,5 @@ dense_under-first-requires t c =
 pub quarters-requires-clause-over : goal.quarters-requires-clause-over
 quarters-requires-clause-over t c = low_at c.args.q.height c.requires.tall c.if-q-eq8.false
 
-pub is_dense-requires-clause-over : goal.is_dense-requires-clause-over
-is_dense-requires-clause-over t c = subst (λ h. bottom_height < h) (sym c.if-q-eq8.true) low_8
+pub is_counted-requires-clause-over : goal.is_counted-requires-clause-over
+is_counted-requires-clause-over t c = subst (λ h. bottom_height < h) (sym c.if-q-eq8.true) low_8

@@ -1,9 +1,12 @@
+use Rattle.std.proofs.Common.{arith}
+use Rattle.rel_model.proofs.QuadLaws.{quad_stays}
 use Rattle.bit_rows.specs.Rows.{rows_cells}
 use Rattle.row_quads.proofs.ByRows.{same_value}
 use Rattle.rel_model.specs.Cells.{cells_compose}
 use Rattle.rel_model.specs.Equations.{side_of}
 use Rattle.rel_model.specs.Quads.{quad_cells}
-use Rattle.rel_compose.proofs.Summing.{sum_rows, side_of_8, eight_low, eight_high, eight_small}
+use Rattle.rel_compose.proofs.Summing.{product_later, side_small_8, eight_low, eight_high, eight_small}
+use Rattle.rel_compose.proofs.Joining.{sum_rows, eight_within}
 use Rattle.rel_compose.proofs.sums.sum_at.Goals as goal
 
 pub gather_quad-requires-clause-low : goal.gather_quad-requires-clause-low
@@ -20,5 +23,23 @@ gather_quad-requires-clause-col_in c = eight_small
 
 pub returns-clause-value : goal.returns-clause-value
 returns-clause-value c =
+    let s0 = c.args.nodes.now in
+    let s1 = c.spill_quad.new.nodes in
     same_value c.gather_quad.new.nodes 8 _ _ c.gather_quad.result
-    (sum_rows c.args.row c.args.col (side_of 8) (rows_cells c.no_rows-z.result) (rows_cells c.add_products.new.z) (cells_compose (side_of c.args.a.height) (quad_cells c.args.nodes.now c.args.a) (quad_cells c.args.nodes.now c.args.b)) side_of_8 c.no_rows-z.ensures.cells c.add_products.ensures.cells) c.gather_quad.ensures.value
+    (sum_rows c.args.row c.args.col (rows_cells c.no_rows-z.result) (rows_cells c.spill_quad.new.z) (rows_cells c.add_products.new.z) (quad_cells s0 c.args.x)
+    (cells_compose (side_of c.args.a.height) (quad_cells s0 c.args.a) (quad_cells s0 c.args.b)) (cells_compose (side_of c.args.a.height) (quad_cells s1 c.args.a) (quad_cells s1 c.args.b))
+    (eight_within s0 c.args.x c.requires.eight) c.no_rows-z.ensures.cells c.spill_quad.ensures.cells c.add_products.ensures.cells
+    (product_later 0 s0 s1 c.args.a c.args.b c.spill_quad.ensures.reads.keeps c.requires.a_stands c.requires.b_stands)) c.gather_quad.ensures.value
+
+-- the addend is spilled first
+pub spill_quad-requires-clause-row_in : goal.spill_quad-requires-clause-row_in
+spill_quad-requires-clause-row_in c = let l = side_small_8 c.args.x.height c.requires.eight in omega arith
+
+pub spill_quad-requires-clause-col_in : goal.spill_quad-requires-clause-col_in
+spill_quad-requires-clause-col_in c = let l = side_small_8 c.args.x.height c.requires.eight in omega arith
+
+pub add_products-requires-clause-a_stands : goal.add_products-requires-clause-a_stands
+add_products-requires-clause-a_stands c = quad_stays 0 c.args.nodes.now c.spill_quad.new.nodes c.args.a c.spill_quad.ensures.reads.keeps c.requires.a_stands
+
+pub add_products-requires-clause-b_stands : goal.add_products-requires-clause-b_stands
+add_products-requires-clause-b_stands c = quad_stays 0 c.args.nodes.now c.spill_quad.new.nodes c.args.b c.spill_quad.ensures.reads.keeps c.requires.b_stands

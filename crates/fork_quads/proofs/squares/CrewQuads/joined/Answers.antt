@@ -1,14 +1,14 @@
-use Rattle.rel_model.specs.Quads.{quad_room}
+use Rattle.std.proofs.Common.{◌+◌, ◌-◌}
 use Rattle.rel_model.specs.Trees.{bottom_height}
-use Rattle.std.proofs.Common.{◌≤◌, ◌+◌, ◌-◌, ◌*◌, ◌^◌, ℕ, sym, subst, arith}
+use Rattle.rel_model.specs.Quads.{quad_room}
 use Rattle.fork_quads.specs.Forks.{fork_words}
 use Rattle.fork_quads.proofs.Crewing.{has_quad-stands, keeps_telling}
 use Rattle.fork_quads.proofs.Quartering.{stands_inside, told_gives}
 use Rattle.fork_quads.proofs.Unions.{joined_set, joined_makes}
 use Rattle.fork_quads.proofs.squares.CrewQuads.joined.Goals as goal
 
-pub joined_in_turn-requires : goal.joined_in_turn-requires
-joined_in_turn-requires g c =
+pub joined-requires : goal.joined-requires
+joined-requires g c =
     let s = stands_inside c.args.self.now c.self.inside.nodes in
     record {
       x_stands = s c.args.x c.self.view_is c.requires.x_stands;
@@ -20,15 +20,15 @@ joined_in_turn-requires g c =
 
 pub returns-clause-value : goal.returns-clause-value
 returns-clause-value g c =
-    told_gives c.joined_in_turn.new.nodes c.args.x.height _ _ c.joined_in_turn.result c.told.result c.joined_in_turn.ensures.keeps.after
-    (joined_set c.args.self.now c.self.inside.nodes c.args.x c.args.y c.args.z c.self.view_is c.joined_in_turn.ensures.keeps.before c.requires.x_stands c.requires.y_stands c.requires.z_stands (has_quad-stands c.args.self.now c.args.x c.requires.x_stands).low)
-    c.joined_in_turn.ensures.value c.told.ensures
+    told_gives c.joined.new.nodes c.args.x.height _ _ c.joined.result c.told.result c.joined.ensures.keeps.after
+    (joined_set c.args.self.now c.self.inside.nodes c.args.x c.args.y c.args.z c.self.view_is c.joined.ensures.keeps.before c.requires.x_stands c.requires.y_stands c.requires.z_stands (has_quad-stands c.args.self.now c.args.x c.requires.x_stands).low)
+    c.joined.ensures.value c.told.ensures
 
 pub returns-clause-keeps : goal.returns-clause-keeps
 returns-clause-keeps g c =
-    keeps_telling (fork_words (c.args.x.height - bottom_height) + quad_room c.args.x.height) c.args.self.now c.self.inside.nodes c.joined_in_turn.new.nodes c.joined_in_turn.result
-    c.self.view_is c.joined_in_turn.ensures.keeps c.joined_in_turn.ensures.misses
+    keeps_telling (fork_words (c.args.x.height - bottom_height) + quad_room c.args.x.height) c.args.self.now c.self.inside.nodes c.joined.new.nodes c.joined.result
+    c.self.view_is c.joined.ensures.keeps c.joined.ensures.misses
 
 pub returns-clause-room : goal.returns-clause-room
 returns-clause-room g c =
-    joined_makes c.args.x.height c.args.self.now c.self.inside.nodes c.joined_in_turn.new.nodes c.self.view_is (has_quad-stands c.args.self.now c.args.x c.requires.x_stands).low c.joined_in_turn.ensures.keeps
+    joined_makes c.args.x.height c.args.self.now c.self.inside.nodes c.joined.new.nodes c.self.view_is (has_quad-stands c.args.self.now c.args.x c.requires.x_stands).low c.joined.ensures.keeps

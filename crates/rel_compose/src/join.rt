@@ -1,0 +1,98 @@
+//! A quad and a product as one: the cells of the quad are the rows to which the product is added, and only the sum is
+//! named.
+ghost use Rattle.std.specs.Prelude.{◌≡◌, ◌<◌, ◌≤◌, IfOk};
+ghost use Rattle.rel_model.specs.Cells.{cells_union, cells_compose};
+ghost use Rattle.rel_model.specs.Trees.{bottom_height};
+ghost use Rattle.rel_model.specs.Equations.{side_of};
+ghost use Rattle.rel_model.specs.Quads.{Keeper, QuadStands, IsQuad, quad_cells, KeepsQuads, ReadsQuads, Counts, quad_room};
+
+use crate::dense::{TALLEST, joins_pay, sums_pay};
+use crate::product::both_full;
+use crate::sums::summed_quad;
+use bit_rows::no_rows;
+use memo_laws::Op;
+use pair_table::Missed;
+use quad_nodes::Nodes;
+use rel_model::Quad;
+use row_quads::{add_product, gather_quad, spill_quad};
+
+/// Whether two quads of one height have so many different quads under them that a quad is joined with their product in
+/// rows, or in sums of rows.
+fn both_dense(nodes: &mut Nodes, y: Quad, z: Quad) -> bool
+    requires y_stands { QuadStands nodes.old y }
+    requires z_stands { QuadStands nodes.old z }
+    requires one_height { z.height ≡ y.height }
+    requires over { bottom_height < y.height }
+    ensures reads { ReadsQuads nodes.old nodes.new }
+{
+    if joins_pay(nodes, y, z) {
+        return true;
+    }
+    sums_pay(nodes, y, z, true, TALLEST)
+}
+
+/// Whether `x | y*z`, of quads of one height, is done in rows of bits, whatever `x` is: `y` and `z` have many different
+/// quads, neither is empty, not both are full, and their product was not noted.
+pub fn joins_by_rows(nodes: &mut Nodes, y: Quad, z: Quad) -> bool
+    requires y_stands { QuadStands nodes.old y }
+    requires z_stands { QuadStands nodes.old z }
+    requires one_height { z.height ≡ y.height }
+    ensures reads { ReadsQuads nodes.old nodes.new }
+{
+    let bottom = nodes.bottom();
+    if y.height == bottom {
+        return false;
+    }
+    if y.name == 0 || z.name == 0 {
+        return false;
+    }
+    if both_full(nodes, y, z) {
+        return false;
+    }
+    if !both_dense(nodes, y, z) {
+        return false;
+    }
+    nodes.look(Op::Compose, y, z).is_none()
+}
+
+/// `x | y*z`, of quads of one height up to 8.
+///
+/// The rows are on the stack, 24 KB with those of `add_product`, so this is a call of its own.
+#[inline(never)]
+fn joined_small(nodes: &mut Nodes, x: Quad, y: Quad, z: Quad) -> Result<Quad, Missed>
+    requires x_stands { QuadStands nodes.old x }
+    requires y_stands { QuadStands nodes.old y }
+    requires z_stands { QuadStands nodes.old z }
+    requires y_height { y.height ≡ x.height }
+    requires z_height { z.height ≡ x.height }
+    requires small { side_of x.height ≤ 256 }
+    ensures value { IfOk result (IsQuad nodes.new x.height (cells_union (quad_cells nodes.old x)
+        (cells_compose (side_of x.height) (quad_cells nodes.old y) (quad_cells nodes.old z)))) }
+    ensures keeps { KeepsQuads (quad_room x.height) nodes.old nodes.new }
+    ensures counts { Counts nodes.old nodes.new result }
+{
+    let mut sum = no_rows();
+    spill_quad(nodes, x, &mut sum, 0, 0);
+    add_product(nodes, y, z, &mut sum);
+    gather_quad(nodes, &sum, x.height, 0, 0)
+}
+
+/// `x | y*z`, of quads of one height: cell (i, k) where it is in `x`, or some j has (i, j) in `y` and (j, k) in `z`.
+/// The product is not named, and nothing is noted.
+pub fn joined_by_rows(nodes: &mut Nodes, x: Quad, y: Quad, z: Quad) -> Result<Quad, Missed>
+    requires x_stands { QuadStands nodes.old x }
+    requires y_stands { QuadStands nodes.old y }
+    requires z_stands { QuadStands nodes.old z }
+    requires y_height { y.height ≡ x.height }
+    requires z_height { z.height ≡ x.height }
+    ensures value { IfOk result (IsQuad nodes.new x.height (cells_union (quad_cells nodes.old x)
+        (cells_compose (side_of x.height) (quad_cells nodes.old y) (quad_cells nodes.old z)))) }
+    ensures keeps { KeepsQuads (quad_room x.height) nodes.old nodes.new }
+    ensures counts { Counts nodes.old nodes.new result }
+{
+    let _ = nodes.bottom();
+    if x.height <= 8 {
+        return joined_small(nodes, x, y, z);
+    }
+    summed_quad(nodes, x, y, z, 0, 0)
+}
