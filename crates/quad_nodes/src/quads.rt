@@ -41,7 +41,34 @@ impl<'t> Nodes<'t> {
         )
     }
 
-    /// The quarters of two quads, each as `quarters` gives them.
+    /// Reads the words of four quads, which tells nothing new. A read that follows need not wait for memory then.
+    fn read_ahead(&mut self, four: (Quad, Quad, Quad, Quad))
+        requires nw_stands { QuadStands self.old four.0 }
+        requires ne_stands { QuadStands self.old four.1 }
+        requires sw_stands { QuadStands self.old four.2 }
+        requires se_stands { QuadStands self.old four.3 }
+        ensures reads { ReadsQuads self.old self.new }
+    {
+        self.halves(four.0.name);
+        self.halves(four.1.name);
+        self.halves(four.2.name);
+        self.halves(four.3.name);
+    }
+
+    /// The quarters of a quad, as `quarters` gives them. Their words are read at once, so that these reads do not wait
+    /// for one another, nor for words that are placed meanwhile.
+    pub fn quarters_ahead(&mut self, q: Quad) -> (Quad, Quad, Quad, Quad)
+        requires stands { QuadStands self.old q }
+        requires over { bottom_height < q.height }
+        ensures quarters { AreQuarters self.old self.new q result }
+        ensures reads { ReadsQuads self.old self.new }
+    {
+        let four = self.quarters(q);
+        self.read_ahead(four);
+        four
+    }
+
+    /// The quarters of two quads, each as `quarters_ahead` gives them.
     pub fn quarters_of_both(
         &mut self,
         a: Quad,
@@ -55,8 +82,8 @@ impl<'t> Nodes<'t> {
         ensures second { AreQuarters self.old self.new b result.1 }
         ensures reads { ReadsQuads self.old self.new }
     {
-        let first = self.quarters(a);
-        let second = self.quarters(b);
+        let first = self.quarters_ahead(a);
+        let second = self.quarters_ahead(b);
         (first, second)
     }
 
