@@ -41,34 +41,39 @@ impl<'t> Nodes<'t> {
         )
     }
 
-    /// Reads the words of four quads, which tells nothing new. A read that follows need not wait for memory then.
-    fn read_ahead(&mut self, four: (Quad, Quad, Quad, Quad))
-        requires nw_stands { QuadStands self.old four.0 }
-        requires ne_stands { QuadStands self.old four.1 }
-        requires sw_stands { QuadStands self.old four.2 }
-        requires se_stands { QuadStands self.old four.3 }
+    /// Reads the word of a quad, and over the blocks those of its halves, so that a later read of them need not wait.
+    #[inline(always)]
+    fn read_ahead(&mut self, q: Quad)
+        requires stands { QuadStands self.old q }
         ensures reads { ReadsQuads self.old self.new }
     {
-        self.halves(four.0.name);
-        self.halves(four.1.name);
-        self.halves(four.2.name);
-        self.halves(four.3.name);
+        let bottom = self.bottom();
+        let (north, south) = self.halves(q.name);
+        if q.height > bottom {
+            self.halves(north);
+            self.halves(south);
+        }
     }
 
-    /// The quarters of a quad, as `quarters` gives them. Their words are read at once, so that these reads do not wait
-    /// for one another, nor for words that are placed meanwhile.
+    /// The quarters of a quad, as `quarters` gives them. Their words and those of their halves are read at once, so that
+    /// these reads do not wait for one another, nor for words that are placed meanwhile.
+    #[inline(always)]
     pub fn quarters_ahead(&mut self, q: Quad) -> (Quad, Quad, Quad, Quad)
         requires stands { QuadStands self.old q }
         requires over { bottom_height < q.height }
         ensures quarters { AreQuarters self.old self.new q result }
         ensures reads { ReadsQuads self.old self.new }
     {
-        let four = self.quarters(q);
-        self.read_ahead(four);
-        four
+        let (nw, ne, sw, se) = self.quarters(q);
+        self.read_ahead(nw);
+        self.read_ahead(ne);
+        self.read_ahead(sw);
+        self.read_ahead(se);
+        (nw, ne, sw, se)
     }
 
     /// The quarters of two quads, each as `quarters_ahead` gives them.
+    #[inline(always)]
     pub fn quarters_of_both(
         &mut self,
         a: Quad,
