@@ -43,7 +43,7 @@ impl<'t> Nodes<'t> {
 
     /// Reads the word of a quad, and over the blocks those of its halves, so that a later read of them need not wait.
     #[inline(always)]
-    fn read_ahead(&mut self, q: Quad)
+    pub fn read_ahead(&mut self, q: Quad)
         requires stands { QuadStands self.old q }
         ensures reads { ReadsQuads self.old self.new }
     {

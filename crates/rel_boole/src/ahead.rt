@@ -25,8 +25,25 @@ fn look_ahead(nodes: &mut Nodes, op: Boole, a: Quad, b: Quad)
     nodes.look(op_of(op), first, second);
 }
 
-/// The quarters of two quads, as `quarters_of_both` gives them. The memo words of the quarters two by two are read at
-/// once, so that these reads do not wait for one another.
+/// Reads what the recursion reads first of two quads, unless they are cut off.
+#[inline(always)]
+fn read_ahead(nodes: &mut Nodes, op: Boole, a: Quad, b: Quad)
+    requires a_stands { QuadStands nodes.old a }
+    requires b_stands { QuadStands nodes.old b }
+    requires one_height { b.height ≡ a.height }
+    ensures reads { ReadsQuads nodes.old nodes.new }
+{
+    let _ = nodes.bottom();
+    if a.name == 0 || b.name == 0 || a.name == b.name {
+        return;
+    }
+    nodes.read_ahead(a);
+    nodes.read_ahead(b);
+    look_ahead(nodes, op, a, b);
+}
+
+/// The quarters of two quads. What the recursion reads first of the quarters two by two is read at once, so that these
+/// reads do not wait for one another, nor for words that are placed meanwhile.
 #[inline(always)]
 pub fn quarters_to_combine(
     nodes: &mut Nodes,
@@ -42,10 +59,11 @@ pub fn quarters_to_combine(
     ensures second { AreQuarters nodes.old nodes.new b result.1 }
     ensures reads { ReadsQuads nodes.old nodes.new }
 {
-    let (of_a, of_b) = nodes.quarters_of_both(a, b);
-    look_ahead(nodes, op, of_a.0, of_b.0);
-    look_ahead(nodes, op, of_a.1, of_b.1);
-    look_ahead(nodes, op, of_a.2, of_b.2);
-    look_ahead(nodes, op, of_a.3, of_b.3);
+    let of_a = nodes.quarters(a);
+    let of_b = nodes.quarters(b);
+    read_ahead(nodes, op, of_a.0, of_b.0);
+    read_ahead(nodes, op, of_a.1, of_b.1);
+    read_ahead(nodes, op, of_a.2, of_b.2);
+    read_ahead(nodes, op, of_a.3, of_b.3);
     (of_a, of_b)
 }
