@@ -55,8 +55,8 @@ impl<'t> Nodes<'t> {
         }
     }
 
-    /// The quarters of a quad, as `quarters` gives them. Their words and those of their halves are read at once, so that
-    /// these reads do not wait for one another, nor for words that are placed meanwhile.
+    /// The quarters of a quad, as `quarters` gives them. Their words and those of their halves are read at once, so
+    /// that these reads do not wait for one another, nor for words that are placed meanwhile.
     #[inline(always)]
     pub fn quarters_ahead(&mut self, q: Quad) -> (Quad, Quad, Quad, Quad)
         requires stands { QuadStands self.old q }
