@@ -41,7 +41,39 @@ impl<'t> Nodes<'t> {
         )
     }
 
-    /// The quarters of two quads, each as `quarters` gives them.
+    /// Reads the word of a quad, and over the blocks those of its halves, so that a later read of them need not wait.
+    #[inline(always)]
+    pub fn read_ahead(&mut self, q: Quad)
+        requires stands { QuadStands self.old q }
+        ensures reads { ReadsQuads self.old self.new }
+    {
+        let bottom = self.bottom();
+        let (north, south) = self.halves(q.name);
+        if q.height > bottom {
+            self.halves(north);
+            self.halves(south);
+        }
+    }
+
+    /// The quarters of a quad, as `quarters` gives them. Their words and those of their halves are read at once, so
+    /// that these reads do not wait for one another, nor for words that are placed meanwhile.
+    #[inline(always)]
+    pub fn quarters_ahead(&mut self, q: Quad) -> (Quad, Quad, Quad, Quad)
+        requires stands { QuadStands self.old q }
+        requires over { bottom_height < q.height }
+        ensures quarters { AreQuarters self.old self.new q result }
+        ensures reads { ReadsQuads self.old self.new }
+    {
+        let (nw, ne, sw, se) = self.quarters(q);
+        self.read_ahead(nw);
+        self.read_ahead(ne);
+        self.read_ahead(sw);
+        self.read_ahead(se);
+        (nw, ne, sw, se)
+    }
+
+    /// The quarters of two quads, each as `quarters_ahead` gives them.
+    #[inline(always)]
     pub fn quarters_of_both(
         &mut self,
         a: Quad,
@@ -55,8 +87,8 @@ impl<'t> Nodes<'t> {
         ensures second { AreQuarters self.old self.new b result.1 }
         ensures reads { ReadsQuads self.old self.new }
     {
-        let first = self.quarters(a);
-        let second = self.quarters(b);
+        let first = self.quarters_ahead(a);
+        let second = self.quarters_ahead(b);
         (first, second)
     }
 

@@ -5,6 +5,7 @@ ghost use Rattle.rel_model.specs.Quads.{Keeper, QuadStands, IsQuad, quad_cells, 
 ghost use Rattle.quad_nodes.specs.Finding.{FindsQuad};
 ghost use Rattle.rel_boole.specs.Cellwise.{cells_by};
 
+use crate::ahead::quarters_to_combine;
 use crate::cuts::{cut_off, in_order};
 use crate::found::{found_before, op_of};
 use crate::leaf::leaf;
@@ -62,7 +63,7 @@ fn combined_over(nodes: &mut Nodes, op: Boole, a: Quad, b: Quad) -> Result<Quad,
     if let Some(found) = found_before(nodes, op, a, b) {
         return Ok(found);
     }
-    let ((a_nw, a_ne, a_sw, a_se), (b_nw, b_ne, b_sw, b_se)) = nodes.quarters_of_both(a, b);
+    let ((a_nw, a_ne, a_sw, a_se), (b_nw, b_ne, b_sw, b_se)) = quarters_to_combine(nodes, op, a, b);
     let nw = combined(nodes, op, a_nw, b_nw)?;
     let ne = combined(nodes, op, a_ne, b_ne)?;
     let sw = combined(nodes, op, a_sw, b_sw)?;

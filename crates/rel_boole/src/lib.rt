@@ -1,6 +1,7 @@
 //! Union, intersection and difference of quads: one recursion over the operator.
 #![tactic(auto)]
 
+mod ahead;
 mod boole;
 mod cuts;
 mod found;

@@ -51,7 +51,7 @@ fn transposed_over(nodes: &mut Nodes, a: Quad) -> Result<Quad, Missed>
     if let Some(found) = nodes.look(Op::Transpose, a, none) {
         return Ok(found);
     }
-    let (a_nw, a_ne, a_sw, a_se) = nodes.quarters(a);
+    let (a_nw, a_ne, a_sw, a_se) = nodes.quarters_ahead(a);
     let nw = transpose_quad(nodes, a_nw)?;
     let ne = transpose_quad(nodes, a_sw)?;
     let sw = transpose_quad(nodes, a_ne)?;

@@ -14,23 +14,23 @@ combined-returns-then-a-bottom-clause-keeps t c =
     let l : 1 ≤ quad_room c.args.a.height = omega (arith, r) in
     keeps_most 1 (quad_room c.args.a.height) c.args.nodes.now c.leaf.new.nodes l c.leaf.ensures.keeps
 
-pub combined_over-quarters_of_both-requires-clause-a_stands : goal.combined_over-quarters_of_both-requires-clause-a_stands
-combined_over-quarters_of_both-requires-clause-a_stands t c = quad_stays 0 c.args.nodes.now c.found_before.new.nodes c.args.a c.found_before.ensures.reads.keeps c.requires.a_stands
+pub combined_over-quarters_to_combine-requires-clause-a_stands : goal.combined_over-quarters_to_combine-requires-clause-a_stands
+combined_over-quarters_to_combine-requires-clause-a_stands t c = quad_stays 0 c.args.nodes.now c.found_before.new.nodes c.args.a c.found_before.ensures.reads.keeps c.requires.a_stands
 
-pub combined_over-quarters_of_both-requires-clause-b_stands : goal.combined_over-quarters_of_both-requires-clause-b_stands
-combined_over-quarters_of_both-requires-clause-b_stands t c = quad_stays 0 c.args.nodes.now c.found_before.new.nodes c.args.b c.found_before.ensures.reads.keeps c.requires.b_stands
+pub combined_over-quarters_to_combine-requires-clause-b_stands : goal.combined_over-quarters_to_combine-requires-clause-b_stands
+combined_over-quarters_to_combine-requires-clause-b_stands t c = quad_stays 0 c.args.nodes.now c.found_before.new.nodes c.args.b c.found_before.ensures.reads.keeps c.requires.b_stands
 
 pub combined_over-returns-in_err-nw-clause-keeps : goal.combined_over-returns-in_err-nw-clause-keeps
 combined_over-returns-in_err-nw-clause-keeps t c =
     let s0 = c.args.nodes.now in
     let s1 = c.found_before.new.nodes in
-    let s2 = c.quarters_of_both.new.self in
+    let s2 = c.quarters_to_combine.new.nodes in
     let s3 = c.combined.new.nodes in
-    let q = c.quarters_of_both.ensures.first in
+    let q = c.quarters_to_combine.ensures.first in
     let h : ℕ = c.args.a.height in
     let m : ℕ = quad_room (h - 1) in
-    let k0 = keeps_on 0 0 s0 s1 s2 c.found_before.ensures.reads.keeps c.quarters_of_both.ensures.reads.keeps in
-    let k1 = keeps_on (0 + 0) m s0 s2 s3 k0 (room_below h c.quarters_of_both.result.0.0.height s2 s3 q.nw_height c.in_err-nw.ensures.keeps) in
+    let k0 = keeps_on 0 0 s0 s1 s2 c.found_before.ensures.reads.keeps c.quarters_to_combine.ensures.reads.keeps in
+    let k1 = keeps_on (0 + 0) m s0 s2 s3 k0 (room_below h c.quarters_to_combine.result.0.0.height s2 s3 q.nw_height c.in_err-nw.ensures.keeps) in
     let r = rooms-next h c.requires.over in
     let l : 0 + 0 + m ≤ quad_room h = omega (arith, r) in
     keeps_most (0 + 0 + m) (quad_room h) s0 s3 l k1
@@ -39,25 +39,25 @@ pub combined_over-combined-requires-2 : goal.combined_over-combined-requires-2
 combined_over-combined-requires-2 t c =
     let s0 = c.args.nodes.now in
     let s1 = c.found_before.new.nodes in
-    let s2 = c.quarters_of_both.new.self in
+    let s2 = c.quarters_to_combine.new.nodes in
     let s3 = c.combined.new.nodes in
-    let q = c.quarters_of_both.ensures.first in
-    let p = c.quarters_of_both.ensures.second in
-    (omega arith, ((quad_stays _ s2 s3 c.quarters_of_both.result.0.1 c.in_ok-nw.ensures.keeps q.ne), ((quad_stays _ s2 s3 c.quarters_of_both.result.1.1 c.in_ok-nw.ensures.keeps p.ne), (let x = q.ne_height in let y = p.ne_height in omega arith))))
+    let q = c.quarters_to_combine.ensures.first in
+    let p = c.quarters_to_combine.ensures.second in
+    (omega arith, ((quad_stays _ s2 s3 c.quarters_to_combine.result.0.1 c.in_ok-nw.ensures.keeps q.ne), ((quad_stays _ s2 s3 c.quarters_to_combine.result.1.1 c.in_ok-nw.ensures.keeps p.ne), (let x = q.ne_height in let y = p.ne_height in omega arith))))
 
 pub combined_over-returns-in_err-ne-clause-keeps : goal.combined_over-returns-in_err-ne-clause-keeps
 combined_over-returns-in_err-ne-clause-keeps t c =
     let s0 = c.args.nodes.now in
     let s1 = c.found_before.new.nodes in
-    let s2 = c.quarters_of_both.new.self in
+    let s2 = c.quarters_to_combine.new.nodes in
     let s3 = c.combined.new.nodes in
     let s4 = c.combined-2.new.nodes in
-    let q = c.quarters_of_both.ensures.first in
+    let q = c.quarters_to_combine.ensures.first in
     let h : ℕ = c.args.a.height in
     let m : ℕ = quad_room (h - 1) in
-    let k0 = keeps_on 0 0 s0 s1 s2 c.found_before.ensures.reads.keeps c.quarters_of_both.ensures.reads.keeps in
-    let k1 = keeps_on (0 + 0) m s0 s2 s3 k0 (room_below h c.quarters_of_both.result.0.0.height s2 s3 q.nw_height c.in_ok-nw.ensures.keeps) in
-    let k2 = keeps_on (0 + 0 + m) m s0 s3 s4 k1 (room_below h c.quarters_of_both.result.0.1.height s3 s4 q.ne_height c.in_err-ne.ensures.keeps) in
+    let k0 = keeps_on 0 0 s0 s1 s2 c.found_before.ensures.reads.keeps c.quarters_to_combine.ensures.reads.keeps in
+    let k1 = keeps_on (0 + 0) m s0 s2 s3 k0 (room_below h c.quarters_to_combine.result.0.0.height s2 s3 q.nw_height c.in_ok-nw.ensures.keeps) in
+    let k2 = keeps_on (0 + 0 + m) m s0 s3 s4 k1 (room_below h c.quarters_to_combine.result.0.1.height s3 s4 q.ne_height c.in_err-ne.ensures.keeps) in
     let r = rooms-next h c.requires.over in
     let l : 0 + 0 + m + m ≤ quad_room h = omega (arith, r) in
     keeps_most (0 + 0 + m + m) (quad_room h) s0 s4 l k2
@@ -66,28 +66,28 @@ pub combined_over-combined-requires-3 : goal.combined_over-combined-requires-3
 combined_over-combined-requires-3 t c =
     let s0 = c.args.nodes.now in
     let s1 = c.found_before.new.nodes in
-    let s2 = c.quarters_of_both.new.self in
+    let s2 = c.quarters_to_combine.new.nodes in
     let s3 = c.combined.new.nodes in
     let s4 = c.combined-2.new.nodes in
-    let q = c.quarters_of_both.ensures.first in
-    let p = c.quarters_of_both.ensures.second in
-    (omega arith, ((quad_stays _ s3 s4 c.quarters_of_both.result.0.2 c.in_ok-ne.ensures.keeps (quad_stays _ s2 s3 c.quarters_of_both.result.0.2 c.in_ok-nw.ensures.keeps q.sw)), ((quad_stays _ s3 s4 c.quarters_of_both.result.1.2 c.in_ok-ne.ensures.keeps (quad_stays _ s2 s3 c.quarters_of_both.result.1.2 c.in_ok-nw.ensures.keeps p.sw)), (let x = q.sw_height in let y = p.sw_height in omega arith))))
+    let q = c.quarters_to_combine.ensures.first in
+    let p = c.quarters_to_combine.ensures.second in
+    (omega arith, ((quad_stays _ s3 s4 c.quarters_to_combine.result.0.2 c.in_ok-ne.ensures.keeps (quad_stays _ s2 s3 c.quarters_to_combine.result.0.2 c.in_ok-nw.ensures.keeps q.sw)), ((quad_stays _ s3 s4 c.quarters_to_combine.result.1.2 c.in_ok-ne.ensures.keeps (quad_stays _ s2 s3 c.quarters_to_combine.result.1.2 c.in_ok-nw.ensures.keeps p.sw)), (let x = q.sw_height in let y = p.sw_height in omega arith))))
 
 pub combined_over-returns-in_err-sw-clause-keeps : goal.combined_over-returns-in_err-sw-clause-keeps
 combined_over-returns-in_err-sw-clause-keeps t c =
     let s0 = c.args.nodes.now in
     let s1 = c.found_before.new.nodes in
-    let s2 = c.quarters_of_both.new.self in
+    let s2 = c.quarters_to_combine.new.nodes in
     let s3 = c.combined.new.nodes in
     let s4 = c.combined-2.new.nodes in
     let s5 = c.combined-3.new.nodes in
-    let q = c.quarters_of_both.ensures.first in
+    let q = c.quarters_to_combine.ensures.first in
     let h : ℕ = c.args.a.height in
     let m : ℕ = quad_room (h - 1) in
-    let k0 = keeps_on 0 0 s0 s1 s2 c.found_before.ensures.reads.keeps c.quarters_of_both.ensures.reads.keeps in
-    let k1 = keeps_on (0 + 0) m s0 s2 s3 k0 (room_below h c.quarters_of_both.result.0.0.height s2 s3 q.nw_height c.in_ok-nw.ensures.keeps) in
-    let k2 = keeps_on (0 + 0 + m) m s0 s3 s4 k1 (room_below h c.quarters_of_both.result.0.1.height s3 s4 q.ne_height c.in_ok-ne.ensures.keeps) in
-    let k3 = keeps_on (0 + 0 + m + m) m s0 s4 s5 k2 (room_below h c.quarters_of_both.result.0.2.height s4 s5 q.sw_height c.in_err-sw.ensures.keeps) in
+    let k0 = keeps_on 0 0 s0 s1 s2 c.found_before.ensures.reads.keeps c.quarters_to_combine.ensures.reads.keeps in
+    let k1 = keeps_on (0 + 0) m s0 s2 s3 k0 (room_below h c.quarters_to_combine.result.0.0.height s2 s3 q.nw_height c.in_ok-nw.ensures.keeps) in
+    let k2 = keeps_on (0 + 0 + m) m s0 s3 s4 k1 (room_below h c.quarters_to_combine.result.0.1.height s3 s4 q.ne_height c.in_ok-ne.ensures.keeps) in
+    let k3 = keeps_on (0 + 0 + m + m) m s0 s4 s5 k2 (room_below h c.quarters_to_combine.result.0.2.height s4 s5 q.sw_height c.in_err-sw.ensures.keeps) in
     let r = rooms-next h c.requires.over in
     let l : 0 + 0 + m + m + m ≤ quad_room h = omega (arith, r) in
     keeps_most (0 + 0 + m + m + m) (quad_room h) s0 s5 l k3
@@ -96,31 +96,31 @@ pub combined_over-combined-requires-4 : goal.combined_over-combined-requires-4
 combined_over-combined-requires-4 t c =
     let s0 = c.args.nodes.now in
     let s1 = c.found_before.new.nodes in
-    let s2 = c.quarters_of_both.new.self in
+    let s2 = c.quarters_to_combine.new.nodes in
     let s3 = c.combined.new.nodes in
     let s4 = c.combined-2.new.nodes in
     let s5 = c.combined-3.new.nodes in
-    let q = c.quarters_of_both.ensures.first in
-    let p = c.quarters_of_both.ensures.second in
-    (omega arith, ((quad_stays _ s4 s5 c.quarters_of_both.result.0.3 c.in_ok-sw.ensures.keeps (quad_stays _ s3 s4 c.quarters_of_both.result.0.3 c.in_ok-ne.ensures.keeps (quad_stays _ s2 s3 c.quarters_of_both.result.0.3 c.in_ok-nw.ensures.keeps q.se))), ((quad_stays _ s4 s5 c.quarters_of_both.result.1.3 c.in_ok-sw.ensures.keeps (quad_stays _ s3 s4 c.quarters_of_both.result.1.3 c.in_ok-ne.ensures.keeps (quad_stays _ s2 s3 c.quarters_of_both.result.1.3 c.in_ok-nw.ensures.keeps p.se))), (let x = q.se_height in let y = p.se_height in omega arith))))
+    let q = c.quarters_to_combine.ensures.first in
+    let p = c.quarters_to_combine.ensures.second in
+    (omega arith, ((quad_stays _ s4 s5 c.quarters_to_combine.result.0.3 c.in_ok-sw.ensures.keeps (quad_stays _ s3 s4 c.quarters_to_combine.result.0.3 c.in_ok-ne.ensures.keeps (quad_stays _ s2 s3 c.quarters_to_combine.result.0.3 c.in_ok-nw.ensures.keeps q.se))), ((quad_stays _ s4 s5 c.quarters_to_combine.result.1.3 c.in_ok-sw.ensures.keeps (quad_stays _ s3 s4 c.quarters_to_combine.result.1.3 c.in_ok-ne.ensures.keeps (quad_stays _ s2 s3 c.quarters_to_combine.result.1.3 c.in_ok-nw.ensures.keeps p.se))), (let x = q.se_height in let y = p.se_height in omega arith))))
 
 pub combined_over-returns-in_err-se-clause-keeps : goal.combined_over-returns-in_err-se-clause-keeps
 combined_over-returns-in_err-se-clause-keeps t c =
     let s0 = c.args.nodes.now in
     let s1 = c.found_before.new.nodes in
-    let s2 = c.quarters_of_both.new.self in
+    let s2 = c.quarters_to_combine.new.nodes in
     let s3 = c.combined.new.nodes in
     let s4 = c.combined-2.new.nodes in
     let s5 = c.combined-3.new.nodes in
     let s6 = c.combined-4.new.nodes in
-    let q = c.quarters_of_both.ensures.first in
+    let q = c.quarters_to_combine.ensures.first in
     let h : ℕ = c.args.a.height in
     let m : ℕ = quad_room (h - 1) in
-    let k0 = keeps_on 0 0 s0 s1 s2 c.found_before.ensures.reads.keeps c.quarters_of_both.ensures.reads.keeps in
-    let k1 = keeps_on (0 + 0) m s0 s2 s3 k0 (room_below h c.quarters_of_both.result.0.0.height s2 s3 q.nw_height c.in_ok-nw.ensures.keeps) in
-    let k2 = keeps_on (0 + 0 + m) m s0 s3 s4 k1 (room_below h c.quarters_of_both.result.0.1.height s3 s4 q.ne_height c.in_ok-ne.ensures.keeps) in
-    let k3 = keeps_on (0 + 0 + m + m) m s0 s4 s5 k2 (room_below h c.quarters_of_both.result.0.2.height s4 s5 q.sw_height c.in_ok-sw.ensures.keeps) in
-    let k4 = keeps_on (0 + 0 + m + m + m) m s0 s5 s6 k3 (room_below h c.quarters_of_both.result.0.3.height s5 s6 q.se_height c.in_err-se.ensures.keeps) in
+    let k0 = keeps_on 0 0 s0 s1 s2 c.found_before.ensures.reads.keeps c.quarters_to_combine.ensures.reads.keeps in
+    let k1 = keeps_on (0 + 0) m s0 s2 s3 k0 (room_below h c.quarters_to_combine.result.0.0.height s2 s3 q.nw_height c.in_ok-nw.ensures.keeps) in
+    let k2 = keeps_on (0 + 0 + m) m s0 s3 s4 k1 (room_below h c.quarters_to_combine.result.0.1.height s3 s4 q.ne_height c.in_ok-ne.ensures.keeps) in
+    let k3 = keeps_on (0 + 0 + m + m) m s0 s4 s5 k2 (room_below h c.quarters_to_combine.result.0.2.height s4 s5 q.sw_height c.in_ok-sw.ensures.keeps) in
+    let k4 = keeps_on (0 + 0 + m + m + m) m s0 s5 s6 k3 (room_below h c.quarters_to_combine.result.0.3.height s5 s6 q.se_height c.in_err-se.ensures.keeps) in
     let r = rooms-next h c.requires.over in
     let l : 0 + 0 + m + m + m + m ≤ quad_room h = omega (arith, r) in
     keeps_most (0 + 0 + m + m + m + m) (quad_room h) s0 s6 l k4
@@ -129,7 +129,7 @@ pub combined_over-corner-requires-clause-nw_stands : goal.combined_over-corner-r
 combined_over-corner-requires-clause-nw_stands t c =
     let s0 = c.args.nodes.now in
     let s1 = c.found_before.new.nodes in
-    let s2 = c.quarters_of_both.new.self in
+    let s2 = c.quarters_to_combine.new.nodes in
     let s3 = c.combined.new.nodes in
     let s4 = c.combined-2.new.nodes in
     let s5 = c.combined-3.new.nodes in
@@ -140,7 +140,7 @@ pub combined_over-corner-requires-clause-ne_stands : goal.combined_over-corner-r
 combined_over-corner-requires-clause-ne_stands t c =
     let s0 = c.args.nodes.now in
     let s1 = c.found_before.new.nodes in
-    let s2 = c.quarters_of_both.new.self in
+    let s2 = c.quarters_to_combine.new.nodes in
     let s3 = c.combined.new.nodes in
     let s4 = c.combined-2.new.nodes in
     let s5 = c.combined-3.new.nodes in
@@ -151,7 +151,7 @@ pub combined_over-corner-requires-clause-sw_stands : goal.combined_over-corner-r
 combined_over-corner-requires-clause-sw_stands t c =
     let s0 = c.args.nodes.now in
     let s1 = c.found_before.new.nodes in
-    let s2 = c.quarters_of_both.new.self in
+    let s2 = c.quarters_to_combine.new.nodes in
     let s3 = c.combined.new.nodes in
     let s4 = c.combined-2.new.nodes in
     let s5 = c.combined-3.new.nodes in
@@ -162,20 +162,20 @@ pub combined_over-returns-in_err-found-clause-keeps : goal.combined_over-returns
 combined_over-returns-in_err-found-clause-keeps t c =
     let s0 = c.args.nodes.now in
     let s1 = c.found_before.new.nodes in
-    let s2 = c.quarters_of_both.new.self in
+    let s2 = c.quarters_to_combine.new.nodes in
     let s3 = c.combined.new.nodes in
     let s4 = c.combined-2.new.nodes in
     let s5 = c.combined-3.new.nodes in
     let s6 = c.combined-4.new.nodes in
     let s7 = c.corner.new.self in
-    let q = c.quarters_of_both.ensures.first in
+    let q = c.quarters_to_combine.ensures.first in
     let h : ℕ = c.args.a.height in
     let m : ℕ = quad_room (h - 1) in
-    let k0 = keeps_on 0 0 s0 s1 s2 c.found_before.ensures.reads.keeps c.quarters_of_both.ensures.reads.keeps in
-    let k1 = keeps_on (0 + 0) m s0 s2 s3 k0 (room_below h c.quarters_of_both.result.0.0.height s2 s3 q.nw_height c.in_ok-nw.ensures.keeps) in
-    let k2 = keeps_on (0 + 0 + m) m s0 s3 s4 k1 (room_below h c.quarters_of_both.result.0.1.height s3 s4 q.ne_height c.in_ok-ne.ensures.keeps) in
-    let k3 = keeps_on (0 + 0 + m + m) m s0 s4 s5 k2 (room_below h c.quarters_of_both.result.0.2.height s4 s5 q.sw_height c.in_ok-sw.ensures.keeps) in
-    let k4 = keeps_on (0 + 0 + m + m + m) m s0 s5 s6 k3 (room_below h c.quarters_of_both.result.0.3.height s5 s6 q.se_height c.in_ok-se.ensures.keeps) in
+    let k0 = keeps_on 0 0 s0 s1 s2 c.found_before.ensures.reads.keeps c.quarters_to_combine.ensures.reads.keeps in
+    let k1 = keeps_on (0 + 0) m s0 s2 s3 k0 (room_below h c.quarters_to_combine.result.0.0.height s2 s3 q.nw_height c.in_ok-nw.ensures.keeps) in
+    let k2 = keeps_on (0 + 0 + m) m s0 s3 s4 k1 (room_below h c.quarters_to_combine.result.0.1.height s3 s4 q.ne_height c.in_ok-ne.ensures.keeps) in
+    let k3 = keeps_on (0 + 0 + m + m) m s0 s4 s5 k2 (room_below h c.quarters_to_combine.result.0.2.height s4 s5 q.sw_height c.in_ok-sw.ensures.keeps) in
+    let k4 = keeps_on (0 + 0 + m + m + m) m s0 s5 s6 k3 (room_below h c.quarters_to_combine.result.0.3.height s5 s6 q.se_height c.in_ok-se.ensures.keeps) in
     let r = rooms-next h c.requires.over in
     let k5 = keeps_on (0 + 0 + m + m + m + m) 3 s0 s6 s7 k4 c.in_err-found.ensures.keeps in
     let l : 0 + 0 + m + m + m + m + 3 ≤ quad_room h = omega (arith, r) in
@@ -185,21 +185,21 @@ pub combined_over-returns-clause-keeps : goal.combined_over-returns-clause-keeps
 combined_over-returns-clause-keeps t c =
     let s0 = c.args.nodes.now in
     let s1 = c.found_before.new.nodes in
-    let s2 = c.quarters_of_both.new.self in
+    let s2 = c.quarters_to_combine.new.nodes in
     let s3 = c.combined.new.nodes in
     let s4 = c.combined-2.new.nodes in
     let s5 = c.combined-3.new.nodes in
     let s6 = c.combined-4.new.nodes in
     let s7 = c.corner.new.self in
     let s8 = c.note.new.self in
-    let q = c.quarters_of_both.ensures.first in
+    let q = c.quarters_to_combine.ensures.first in
     let h : ℕ = c.args.a.height in
     let m : ℕ = quad_room (h - 1) in
-    let k0 = keeps_on 0 0 s0 s1 s2 c.found_before.ensures.reads.keeps c.quarters_of_both.ensures.reads.keeps in
-    let k1 = keeps_on (0 + 0) m s0 s2 s3 k0 (room_below h c.quarters_of_both.result.0.0.height s2 s3 q.nw_height c.in_ok-nw.ensures.keeps) in
-    let k2 = keeps_on (0 + 0 + m) m s0 s3 s4 k1 (room_below h c.quarters_of_both.result.0.1.height s3 s4 q.ne_height c.in_ok-ne.ensures.keeps) in
-    let k3 = keeps_on (0 + 0 + m + m) m s0 s4 s5 k2 (room_below h c.quarters_of_both.result.0.2.height s4 s5 q.sw_height c.in_ok-sw.ensures.keeps) in
-    let k4 = keeps_on (0 + 0 + m + m + m) m s0 s5 s6 k3 (room_below h c.quarters_of_both.result.0.3.height s5 s6 q.se_height c.in_ok-se.ensures.keeps) in
+    let k0 = keeps_on 0 0 s0 s1 s2 c.found_before.ensures.reads.keeps c.quarters_to_combine.ensures.reads.keeps in
+    let k1 = keeps_on (0 + 0) m s0 s2 s3 k0 (room_below h c.quarters_to_combine.result.0.0.height s2 s3 q.nw_height c.in_ok-nw.ensures.keeps) in
+    let k2 = keeps_on (0 + 0 + m) m s0 s3 s4 k1 (room_below h c.quarters_to_combine.result.0.1.height s3 s4 q.ne_height c.in_ok-ne.ensures.keeps) in
+    let k3 = keeps_on (0 + 0 + m + m) m s0 s4 s5 k2 (room_below h c.quarters_to_combine.result.0.2.height s4 s5 q.sw_height c.in_ok-sw.ensures.keeps) in
+    let k4 = keeps_on (0 + 0 + m + m + m) m s0 s5 s6 k3 (room_below h c.quarters_to_combine.result.0.3.height s5 s6 q.se_height c.in_ok-se.ensures.keeps) in
     let r = rooms-next h c.requires.over in
     let k5 = keeps_on (0 + 0 + m + m + m + m) 3 s0 s6 s7 k4 c.in_ok-found.ensures.keeps in
     let k6 = keeps_on (0 + 0 + m + m + m + m + 3) 0 s0 s7 s8 k5 c.note.ensures.reads.keeps in
@@ -210,20 +210,20 @@ pub combined_over-note-requires-clause-a_stands : goal.combined_over-note-requir
 combined_over-note-requires-clause-a_stands t c =
     let s0 = c.args.nodes.now in
     let s1 = c.found_before.new.nodes in
-    let s2 = c.quarters_of_both.new.self in
+    let s2 = c.quarters_to_combine.new.nodes in
     let s3 = c.combined.new.nodes in
     let s4 = c.combined-2.new.nodes in
     let s5 = c.combined-3.new.nodes in
     let s6 = c.combined-4.new.nodes in
     let s7 = c.corner.new.self in
-    let q = c.quarters_of_both.ensures.first in
+    let q = c.quarters_to_combine.ensures.first in
     let h : ℕ = c.args.a.height in
     let m : ℕ = quad_room (h - 1) in
-    let k0 = keeps_on 0 0 s0 s1 s2 c.found_before.ensures.reads.keeps c.quarters_of_both.ensures.reads.keeps in
-    let k1 = keeps_on (0 + 0) m s0 s2 s3 k0 (room_below h c.quarters_of_both.result.0.0.height s2 s3 q.nw_height c.in_ok-nw.ensures.keeps) in
-    let k2 = keeps_on (0 + 0 + m) m s0 s3 s4 k1 (room_below h c.quarters_of_both.result.0.1.height s3 s4 q.ne_height c.in_ok-ne.ensures.keeps) in
-    let k3 = keeps_on (0 + 0 + m + m) m s0 s4 s5 k2 (room_below h c.quarters_of_both.result.0.2.height s4 s5 q.sw_height c.in_ok-sw.ensures.keeps) in
-    let k4 = keeps_on (0 + 0 + m + m + m) m s0 s5 s6 k3 (room_below h c.quarters_of_both.result.0.3.height s5 s6 q.se_height c.in_ok-se.ensures.keeps) in
+    let k0 = keeps_on 0 0 s0 s1 s2 c.found_before.ensures.reads.keeps c.quarters_to_combine.ensures.reads.keeps in
+    let k1 = keeps_on (0 + 0) m s0 s2 s3 k0 (room_below h c.quarters_to_combine.result.0.0.height s2 s3 q.nw_height c.in_ok-nw.ensures.keeps) in
+    let k2 = keeps_on (0 + 0 + m) m s0 s3 s4 k1 (room_below h c.quarters_to_combine.result.0.1.height s3 s4 q.ne_height c.in_ok-ne.ensures.keeps) in
+    let k3 = keeps_on (0 + 0 + m + m) m s0 s4 s5 k2 (room_below h c.quarters_to_combine.result.0.2.height s4 s5 q.sw_height c.in_ok-sw.ensures.keeps) in
+    let k4 = keeps_on (0 + 0 + m + m + m) m s0 s5 s6 k3 (room_below h c.quarters_to_combine.result.0.3.height s5 s6 q.se_height c.in_ok-se.ensures.keeps) in
     let k5 = keeps_on (0 + 0 + m + m + m + m) 3 s0 s6 s7 k4 c.in_ok-found.ensures.keeps in
     quad_stays (0 + 0 + m + m + m + m + 3) s0 s7 c.args.a k5 c.requires.a_stands
 
@@ -231,20 +231,20 @@ pub combined_over-note-requires-clause-b_stands : goal.combined_over-note-requir
 combined_over-note-requires-clause-b_stands t c =
     let s0 = c.args.nodes.now in
     let s1 = c.found_before.new.nodes in
-    let s2 = c.quarters_of_both.new.self in
+    let s2 = c.quarters_to_combine.new.nodes in
     let s3 = c.combined.new.nodes in
     let s4 = c.combined-2.new.nodes in
     let s5 = c.combined-3.new.nodes in
     let s6 = c.combined-4.new.nodes in
     let s7 = c.corner.new.self in
-    let q = c.quarters_of_both.ensures.first in
+    let q = c.quarters_to_combine.ensures.first in
     let h : ℕ = c.args.a.height in
     let m : ℕ = quad_room (h - 1) in
-    let k0 = keeps_on 0 0 s0 s1 s2 c.found_before.ensures.reads.keeps c.quarters_of_both.ensures.reads.keeps in
-    let k1 = keeps_on (0 + 0) m s0 s2 s3 k0 (room_below h c.quarters_of_both.result.0.0.height s2 s3 q.nw_height c.in_ok-nw.ensures.keeps) in
-    let k2 = keeps_on (0 + 0 + m) m s0 s3 s4 k1 (room_below h c.quarters_of_both.result.0.1.height s3 s4 q.ne_height c.in_ok-ne.ensures.keeps) in
-    let k3 = keeps_on (0 + 0 + m + m) m s0 s4 s5 k2 (room_below h c.quarters_of_both.result.0.2.height s4 s5 q.sw_height c.in_ok-sw.ensures.keeps) in
-    let k4 = keeps_on (0 + 0 + m + m + m) m s0 s5 s6 k3 (room_below h c.quarters_of_both.result.0.3.height s5 s6 q.se_height c.in_ok-se.ensures.keeps) in
+    let k0 = keeps_on 0 0 s0 s1 s2 c.found_before.ensures.reads.keeps c.quarters_to_combine.ensures.reads.keeps in
+    let k1 = keeps_on (0 + 0) m s0 s2 s3 k0 (room_below h c.quarters_to_combine.result.0.0.height s2 s3 q.nw_height c.in_ok-nw.ensures.keeps) in
+    let k2 = keeps_on (0 + 0 + m) m s0 s3 s4 k1 (room_below h c.quarters_to_combine.result.0.1.height s3 s4 q.ne_height c.in_ok-ne.ensures.keeps) in
+    let k3 = keeps_on (0 + 0 + m + m) m s0 s4 s5 k2 (room_below h c.quarters_to_combine.result.0.2.height s4 s5 q.sw_height c.in_ok-sw.ensures.keeps) in
+    let k4 = keeps_on (0 + 0 + m + m + m) m s0 s5 s6 k3 (room_below h c.quarters_to_combine.result.0.3.height s5 s6 q.se_height c.in_ok-se.ensures.keeps) in
     let k5 = keeps_on (0 + 0 + m + m + m + m) 3 s0 s6 s7 k4 c.in_ok-found.ensures.keeps in
     quad_stays (0 + 0 + m + m + m + m + 3) s0 s7 c.args.b k5 c.requires.b_stands
 
@@ -252,23 +252,23 @@ pub combined_over-note-requires-clause-holds : goal.combined_over-note-requires-
 combined_over-note-requires-clause-holds t c =
     let s0 = c.args.nodes.now in
     let s1 = c.found_before.new.nodes in
-    let s2 = c.quarters_of_both.new.self in
+    let s2 = c.quarters_to_combine.new.nodes in
     let s3 = c.combined.new.nodes in
     let s4 = c.combined-2.new.nodes in
     let s5 = c.combined-3.new.nodes in
     let s6 = c.combined-4.new.nodes in
     let s7 = c.corner.new.self in
-    let q = c.quarters_of_both.ensures.first in
+    let q = c.quarters_to_combine.ensures.first in
     let h : ℕ = c.args.a.height in
     let m : ℕ = quad_room (h - 1) in
-    let k0 = keeps_on 0 0 s0 s1 s2 c.found_before.ensures.reads.keeps c.quarters_of_both.ensures.reads.keeps in
-    let k1 = keeps_on (0 + 0) m s0 s2 s3 k0 (room_below h c.quarters_of_both.result.0.0.height s2 s3 q.nw_height c.in_ok-nw.ensures.keeps) in
-    let k2 = keeps_on (0 + 0 + m) m s0 s3 s4 k1 (room_below h c.quarters_of_both.result.0.1.height s3 s4 q.ne_height c.in_ok-ne.ensures.keeps) in
-    let k3 = keeps_on (0 + 0 + m + m) m s0 s4 s5 k2 (room_below h c.quarters_of_both.result.0.2.height s4 s5 q.sw_height c.in_ok-sw.ensures.keeps) in
-    let k4 = keeps_on (0 + 0 + m + m + m) m s0 s5 s6 k3 (room_below h c.quarters_of_both.result.0.3.height s5 s6 q.se_height c.in_ok-se.ensures.keeps) in
+    let k0 = keeps_on 0 0 s0 s1 s2 c.found_before.ensures.reads.keeps c.quarters_to_combine.ensures.reads.keeps in
+    let k1 = keeps_on (0 + 0) m s0 s2 s3 k0 (room_below h c.quarters_to_combine.result.0.0.height s2 s3 q.nw_height c.in_ok-nw.ensures.keeps) in
+    let k2 = keeps_on (0 + 0 + m) m s0 s3 s4 k1 (room_below h c.quarters_to_combine.result.0.1.height s3 s4 q.ne_height c.in_ok-ne.ensures.keeps) in
+    let k3 = keeps_on (0 + 0 + m + m) m s0 s4 s5 k2 (room_below h c.quarters_to_combine.result.0.2.height s4 s5 q.sw_height c.in_ok-sw.ensures.keeps) in
+    let k4 = keeps_on (0 + 0 + m + m + m) m s0 s5 s6 k3 (room_below h c.quarters_to_combine.result.0.3.height s5 s6 q.se_height c.in_ok-se.ensures.keeps) in
     let k5 = keeps_on (0 + 0 + m + m + m + m) 3 s0 s6 s7 k4 c.in_ok-found.ensures.keeps in
-    let v = combined_value {E = Unit {0}} _ _ _ _ c.args.op s0 s1 s2 s3 s4 s5 s6 s7 c.args.a c.args.b c.quarters_of_both.result.0 c.quarters_of_both.result.1 c.in_ok-nw.nw c.in_ok-ne.ne c.in_ok-sw.sw c.in_ok-se.se (Ok c.in_ok-found.found)
-    c.requires.a_stands c.requires.b_stands c.requires.one_height c.found_before.ensures.reads.keeps q c.quarters_of_both.ensures.second c.in_ok-nw.ensures.keeps c.in_ok-ne.ensures.keeps c.in_ok-sw.ensures.keeps c.in_ok-se.ensures.keeps
+    let v = combined_value {E = Unit {0}} _ _ _ _ c.args.op s0 s1 s2 s3 s4 s5 s6 s7 c.args.a c.args.b c.quarters_to_combine.result.0 c.quarters_to_combine.result.1 c.in_ok-nw.nw c.in_ok-ne.ne c.in_ok-sw.sw c.in_ok-se.se (Ok c.in_ok-found.found)
+    c.requires.a_stands c.requires.b_stands c.requires.one_height c.found_before.ensures.reads.keeps q c.quarters_to_combine.ensures.second c.in_ok-nw.ensures.keeps c.in_ok-ne.ensures.keeps c.in_ok-sw.ensures.keeps c.in_ok-se.ensures.keeps
     c.in_ok-nw.ensures.value c.in_ok-ne.ensures.value c.in_ok-sw.ensures.value c.in_ok-se.ensures.value c.in_ok-found.ensures.value in
     as_equation (0 + 0 + m + m + m + m + 3) c.args.op _ s0 s7 c.args.a c.args.b c.in_ok-found.found c.op_of.ensures k5 c.requires.a_stands c.requires.b_stands v
 
@@ -276,23 +276,23 @@ pub combined_over-returns-clause-value : goal.combined_over-returns-clause-value
 combined_over-returns-clause-value t c =
     let s0 = c.args.nodes.now in
     let s1 = c.found_before.new.nodes in
-    let s2 = c.quarters_of_both.new.self in
+    let s2 = c.quarters_to_combine.new.nodes in
     let s3 = c.combined.new.nodes in
     let s4 = c.combined-2.new.nodes in
     let s5 = c.combined-3.new.nodes in
     let s6 = c.combined-4.new.nodes in
     let s7 = c.corner.new.self in
-    let q = c.quarters_of_both.ensures.first in
+    let q = c.quarters_to_combine.ensures.first in
     let h : ℕ = c.args.a.height in
     let m : ℕ = quad_room (h - 1) in
-    let k0 = keeps_on 0 0 s0 s1 s2 c.found_before.ensures.reads.keeps c.quarters_of_both.ensures.reads.keeps in
-    let k1 = keeps_on (0 + 0) m s0 s2 s3 k0 (room_below h c.quarters_of_both.result.0.0.height s2 s3 q.nw_height c.in_ok-nw.ensures.keeps) in
-    let k2 = keeps_on (0 + 0 + m) m s0 s3 s4 k1 (room_below h c.quarters_of_both.result.0.1.height s3 s4 q.ne_height c.in_ok-ne.ensures.keeps) in
-    let k3 = keeps_on (0 + 0 + m + m) m s0 s4 s5 k2 (room_below h c.quarters_of_both.result.0.2.height s4 s5 q.sw_height c.in_ok-sw.ensures.keeps) in
-    let k4 = keeps_on (0 + 0 + m + m + m) m s0 s5 s6 k3 (room_below h c.quarters_of_both.result.0.3.height s5 s6 q.se_height c.in_ok-se.ensures.keeps) in
+    let k0 = keeps_on 0 0 s0 s1 s2 c.found_before.ensures.reads.keeps c.quarters_to_combine.ensures.reads.keeps in
+    let k1 = keeps_on (0 + 0) m s0 s2 s3 k0 (room_below h c.quarters_to_combine.result.0.0.height s2 s3 q.nw_height c.in_ok-nw.ensures.keeps) in
+    let k2 = keeps_on (0 + 0 + m) m s0 s3 s4 k1 (room_below h c.quarters_to_combine.result.0.1.height s3 s4 q.ne_height c.in_ok-ne.ensures.keeps) in
+    let k3 = keeps_on (0 + 0 + m + m) m s0 s4 s5 k2 (room_below h c.quarters_to_combine.result.0.2.height s4 s5 q.sw_height c.in_ok-sw.ensures.keeps) in
+    let k4 = keeps_on (0 + 0 + m + m + m) m s0 s5 s6 k3 (room_below h c.quarters_to_combine.result.0.3.height s5 s6 q.se_height c.in_ok-se.ensures.keeps) in
     let k5 = keeps_on (0 + 0 + m + m + m + m) 3 s0 s6 s7 k4 c.in_ok-found.ensures.keeps in
-    let v = combined_value {E = Unit {0}} _ _ _ _ c.args.op s0 s1 s2 s3 s4 s5 s6 s7 c.args.a c.args.b c.quarters_of_both.result.0 c.quarters_of_both.result.1 c.in_ok-nw.nw c.in_ok-ne.ne c.in_ok-sw.sw c.in_ok-se.se (Ok c.in_ok-found.found)
-    c.requires.a_stands c.requires.b_stands c.requires.one_height c.found_before.ensures.reads.keeps q c.quarters_of_both.ensures.second c.in_ok-nw.ensures.keeps c.in_ok-ne.ensures.keeps c.in_ok-sw.ensures.keeps c.in_ok-se.ensures.keeps
+    let v = combined_value {E = Unit {0}} _ _ _ _ c.args.op s0 s1 s2 s3 s4 s5 s6 s7 c.args.a c.args.b c.quarters_to_combine.result.0 c.quarters_to_combine.result.1 c.in_ok-nw.nw c.in_ok-ne.ne c.in_ok-sw.sw c.in_ok-se.se (Ok c.in_ok-found.found)
+    c.requires.a_stands c.requires.b_stands c.requires.one_height c.found_before.ensures.reads.keeps q c.quarters_to_combine.ensures.second c.in_ok-nw.ensures.keeps c.in_ok-ne.ensures.keeps c.in_ok-sw.ensures.keeps c.in_ok-se.ensures.keeps
     c.in_ok-nw.ensures.value c.in_ok-ne.ensures.value c.in_ok-sw.ensures.value c.in_ok-se.ensures.value c.in_ok-found.ensures.value in
     is_quad-stays 0 s7 c.note.new.self c.args.a.height _ c.in_ok-found.found c.note.ensures.reads.keeps v
 
@@ -324,16 +324,16 @@ pub combined_over-returns-in_err-nw-clause-stood : goal.combined_over-returns-in
 combined_over-returns-in_err-nw-clause-stood t c q s =
     let s0 = c.args.nodes.now in
     let s1 = c.found_before.new.nodes in
-    let s2 = c.quarters_of_both.new.self in
+    let s2 = c.quarters_to_combine.new.nodes in
     let s3 = c.combined.new.nodes in
-    let fa = c.quarters_of_both.result.0 in
-    let fb = c.quarters_of_both.result.1 in
-    let qa = c.quarters_of_both.ensures.first in
-    let qb = c.quarters_of_both.ensures.second in
-    let h : ℕ = c.quarters_of_both.result.0.0.height in
+    let fa = c.quarters_to_combine.result.0 in
+    let fb = c.quarters_to_combine.result.1 in
+    let qa = c.quarters_to_combine.ensures.first in
+    let qb = c.quarters_to_combine.ensures.second in
+    let h : ℕ = c.quarters_to_combine.result.0.0.height in
     let op = c.args.op in
-    let d = results_stood op s0 s1 s2 c.args.a c.args.b q fa fb c.requires.a_stands c.requires.b_stands c.requires.one_height c.found_before.ensures.reads c.quarters_of_both.ensures.reads qa qb s in
-    let k = reads_itself s2 c.quarters_of_both.ensures.reads.keeps.after in
+    let d = results_stood op s0 s1 s2 c.args.a c.args.b q fa fb c.requires.a_stands c.requires.b_stands c.requires.one_height c.found_before.ensures.reads c.quarters_to_combine.ensures.reads qa qb s in
+    let k = reads_itself s2 c.quarters_to_combine.ensures.reads.keeps.after in
     let x0 = quarter_found op s2 s2 s3 h fa.0 fb.0 _ _ refl qa.nw qb.nw k d.nw_is c.in_err-nw.ensures.stood in
     absurd (not_missed s2 s3 _ _ x0)
 
@@ -341,19 +341,19 @@ pub combined_over-returns-in_err-ne-clause-stood : goal.combined_over-returns-in
 combined_over-returns-in_err-ne-clause-stood t c q s =
     let s0 = c.args.nodes.now in
     let s1 = c.found_before.new.nodes in
-    let s2 = c.quarters_of_both.new.self in
+    let s2 = c.quarters_to_combine.new.nodes in
     let s3 = c.combined.new.nodes in
-    let fa = c.quarters_of_both.result.0 in
-    let fb = c.quarters_of_both.result.1 in
-    let qa = c.quarters_of_both.ensures.first in
-    let qb = c.quarters_of_both.ensures.second in
-    let h : ℕ = c.quarters_of_both.result.0.0.height in
+    let fa = c.quarters_to_combine.result.0 in
+    let fb = c.quarters_to_combine.result.1 in
+    let qa = c.quarters_to_combine.ensures.first in
+    let qb = c.quarters_to_combine.ensures.second in
+    let h : ℕ = c.quarters_to_combine.result.0.0.height in
     let op = c.args.op in
-    let d = results_stood op s0 s1 s2 c.args.a c.args.b q fa fb c.requires.a_stands c.requires.b_stands c.requires.one_height c.found_before.ensures.reads c.quarters_of_both.ensures.reads qa qb s in
-    let k = reads_itself s2 c.quarters_of_both.ensures.reads.keeps.after in
+    let d = results_stood op s0 s1 s2 c.args.a c.args.b q fa fb c.requires.a_stands c.requires.b_stands c.requires.one_height c.found_before.ensures.reads c.quarters_to_combine.ensures.reads qa qb s in
+    let k = reads_itself s2 c.quarters_to_combine.ensures.reads.keeps.after in
     let x0 = quarter_found op s2 s2 s3 h fa.0 fb.0 _ _ refl qa.nw qb.nw k d.nw_is c.in_ok-nw.ensures.stood in
     let s4 = c.combined-2.new.nodes in
-    let e1 : c.quarters_of_both.result.0.1.height ≡ h = (let x = qa.nw_height in let y = qa.ne_height in omega arith) in
+    let e1 : c.quarters_to_combine.result.0.1.height ≡ h = (let x = qa.nw_height in let y = qa.ne_height in omega arith) in
     let x1 = quarter_found op s2 s3 s4 h fa.1 fb.1 _ _ e1 qa.ne qb.ne x0.reads d.ne_is c.in_err-ne.ensures.stood in
     absurd (not_missed s2 s4 _ _ x1)
 
@@ -361,22 +361,22 @@ pub combined_over-returns-in_err-sw-clause-stood : goal.combined_over-returns-in
 combined_over-returns-in_err-sw-clause-stood t c q s =
     let s0 = c.args.nodes.now in
     let s1 = c.found_before.new.nodes in
-    let s2 = c.quarters_of_both.new.self in
+    let s2 = c.quarters_to_combine.new.nodes in
     let s3 = c.combined.new.nodes in
-    let fa = c.quarters_of_both.result.0 in
-    let fb = c.quarters_of_both.result.1 in
-    let qa = c.quarters_of_both.ensures.first in
-    let qb = c.quarters_of_both.ensures.second in
-    let h : ℕ = c.quarters_of_both.result.0.0.height in
+    let fa = c.quarters_to_combine.result.0 in
+    let fb = c.quarters_to_combine.result.1 in
+    let qa = c.quarters_to_combine.ensures.first in
+    let qb = c.quarters_to_combine.ensures.second in
+    let h : ℕ = c.quarters_to_combine.result.0.0.height in
     let op = c.args.op in
-    let d = results_stood op s0 s1 s2 c.args.a c.args.b q fa fb c.requires.a_stands c.requires.b_stands c.requires.one_height c.found_before.ensures.reads c.quarters_of_both.ensures.reads qa qb s in
-    let k = reads_itself s2 c.quarters_of_both.ensures.reads.keeps.after in
+    let d = results_stood op s0 s1 s2 c.args.a c.args.b q fa fb c.requires.a_stands c.requires.b_stands c.requires.one_height c.found_before.ensures.reads c.quarters_to_combine.ensures.reads qa qb s in
+    let k = reads_itself s2 c.quarters_to_combine.ensures.reads.keeps.after in
     let x0 = quarter_found op s2 s2 s3 h fa.0 fb.0 _ _ refl qa.nw qb.nw k d.nw_is c.in_ok-nw.ensures.stood in
     let s4 = c.combined-2.new.nodes in
-    let e1 : c.quarters_of_both.result.0.1.height ≡ h = (let x = qa.nw_height in let y = qa.ne_height in omega arith) in
+    let e1 : c.quarters_to_combine.result.0.1.height ≡ h = (let x = qa.nw_height in let y = qa.ne_height in omega arith) in
     let x1 = quarter_found op s2 s3 s4 h fa.1 fb.1 _ _ e1 qa.ne qb.ne x0.reads d.ne_is c.in_ok-ne.ensures.stood in
     let s5 = c.combined-3.new.nodes in
-    let e2 : c.quarters_of_both.result.0.2.height ≡ h = (let x = qa.nw_height in let y = qa.sw_height in omega arith) in
+    let e2 : c.quarters_to_combine.result.0.2.height ≡ h = (let x = qa.nw_height in let y = qa.sw_height in omega arith) in
     let x2 = quarter_found op s2 s4 s5 h fa.2 fb.2 _ _ e2 qa.sw qb.sw x1.reads d.sw_is c.in_err-sw.ensures.stood in
     absurd (not_missed s2 s5 _ _ x2)
 
@@ -384,25 +384,25 @@ pub combined_over-returns-in_err-se-clause-stood : goal.combined_over-returns-in
 combined_over-returns-in_err-se-clause-stood t c q s =
     let s0 = c.args.nodes.now in
     let s1 = c.found_before.new.nodes in
-    let s2 = c.quarters_of_both.new.self in
+    let s2 = c.quarters_to_combine.new.nodes in
     let s3 = c.combined.new.nodes in
-    let fa = c.quarters_of_both.result.0 in
-    let fb = c.quarters_of_both.result.1 in
-    let qa = c.quarters_of_both.ensures.first in
-    let qb = c.quarters_of_both.ensures.second in
-    let h : ℕ = c.quarters_of_both.result.0.0.height in
+    let fa = c.quarters_to_combine.result.0 in
+    let fb = c.quarters_to_combine.result.1 in
+    let qa = c.quarters_to_combine.ensures.first in
+    let qb = c.quarters_to_combine.ensures.second in
+    let h : ℕ = c.quarters_to_combine.result.0.0.height in
     let op = c.args.op in
-    let d = results_stood op s0 s1 s2 c.args.a c.args.b q fa fb c.requires.a_stands c.requires.b_stands c.requires.one_height c.found_before.ensures.reads c.quarters_of_both.ensures.reads qa qb s in
-    let k = reads_itself s2 c.quarters_of_both.ensures.reads.keeps.after in
+    let d = results_stood op s0 s1 s2 c.args.a c.args.b q fa fb c.requires.a_stands c.requires.b_stands c.requires.one_height c.found_before.ensures.reads c.quarters_to_combine.ensures.reads qa qb s in
+    let k = reads_itself s2 c.quarters_to_combine.ensures.reads.keeps.after in
     let x0 = quarter_found op s2 s2 s3 h fa.0 fb.0 _ _ refl qa.nw qb.nw k d.nw_is c.in_ok-nw.ensures.stood in
     let s4 = c.combined-2.new.nodes in
-    let e1 : c.quarters_of_both.result.0.1.height ≡ h = (let x = qa.nw_height in let y = qa.ne_height in omega arith) in
+    let e1 : c.quarters_to_combine.result.0.1.height ≡ h = (let x = qa.nw_height in let y = qa.ne_height in omega arith) in
     let x1 = quarter_found op s2 s3 s4 h fa.1 fb.1 _ _ e1 qa.ne qb.ne x0.reads d.ne_is c.in_ok-ne.ensures.stood in
     let s5 = c.combined-3.new.nodes in
-    let e2 : c.quarters_of_both.result.0.2.height ≡ h = (let x = qa.nw_height in let y = qa.sw_height in omega arith) in
+    let e2 : c.quarters_to_combine.result.0.2.height ≡ h = (let x = qa.nw_height in let y = qa.sw_height in omega arith) in
     let x2 = quarter_found op s2 s4 s5 h fa.2 fb.2 _ _ e2 qa.sw qb.sw x1.reads d.sw_is c.in_ok-sw.ensures.stood in
     let s6 = c.combined-4.new.nodes in
-    let e3 : c.quarters_of_both.result.0.3.height ≡ h = (let x = qa.nw_height in let y = qa.se_height in omega arith) in
+    let e3 : c.quarters_to_combine.result.0.3.height ≡ h = (let x = qa.nw_height in let y = qa.se_height in omega arith) in
     let x3 = quarter_found op s2 s5 s6 h fa.3 fb.3 _ _ e3 qa.se qb.se x2.reads d.se_is c.in_err-se.ensures.stood in
     absurd (not_missed s2 s6 _ _ x3)
 
@@ -410,25 +410,25 @@ pub combined_over-returns-in_err-found-clause-stood : goal.combined_over-returns
 combined_over-returns-in_err-found-clause-stood t c q s =
     let s0 = c.args.nodes.now in
     let s1 = c.found_before.new.nodes in
-    let s2 = c.quarters_of_both.new.self in
+    let s2 = c.quarters_to_combine.new.nodes in
     let s3 = c.combined.new.nodes in
-    let fa = c.quarters_of_both.result.0 in
-    let fb = c.quarters_of_both.result.1 in
-    let qa = c.quarters_of_both.ensures.first in
-    let qb = c.quarters_of_both.ensures.second in
-    let h : ℕ = c.quarters_of_both.result.0.0.height in
+    let fa = c.quarters_to_combine.result.0 in
+    let fb = c.quarters_to_combine.result.1 in
+    let qa = c.quarters_to_combine.ensures.first in
+    let qb = c.quarters_to_combine.ensures.second in
+    let h : ℕ = c.quarters_to_combine.result.0.0.height in
     let op = c.args.op in
-    let d = results_stood op s0 s1 s2 c.args.a c.args.b q fa fb c.requires.a_stands c.requires.b_stands c.requires.one_height c.found_before.ensures.reads c.quarters_of_both.ensures.reads qa qb s in
-    let k = reads_itself s2 c.quarters_of_both.ensures.reads.keeps.after in
+    let d = results_stood op s0 s1 s2 c.args.a c.args.b q fa fb c.requires.a_stands c.requires.b_stands c.requires.one_height c.found_before.ensures.reads c.quarters_to_combine.ensures.reads qa qb s in
+    let k = reads_itself s2 c.quarters_to_combine.ensures.reads.keeps.after in
     let x0 = quarter_found op s2 s2 s3 h fa.0 fb.0 _ _ refl qa.nw qb.nw k d.nw_is c.in_ok-nw.ensures.stood in
     let s4 = c.combined-2.new.nodes in
-    let e1 : c.quarters_of_both.result.0.1.height ≡ h = (let x = qa.nw_height in let y = qa.ne_height in omega arith) in
+    let e1 : c.quarters_to_combine.result.0.1.height ≡ h = (let x = qa.nw_height in let y = qa.ne_height in omega arith) in
     let x1 = quarter_found op s2 s3 s4 h fa.1 fb.1 _ _ e1 qa.ne qb.ne x0.reads d.ne_is c.in_ok-ne.ensures.stood in
     let s5 = c.combined-3.new.nodes in
-    let e2 : c.quarters_of_both.result.0.2.height ≡ h = (let x = qa.nw_height in let y = qa.sw_height in omega arith) in
+    let e2 : c.quarters_to_combine.result.0.2.height ≡ h = (let x = qa.nw_height in let y = qa.sw_height in omega arith) in
     let x2 = quarter_found op s2 s4 s5 h fa.2 fb.2 _ _ e2 qa.sw qb.sw x1.reads d.sw_is c.in_ok-sw.ensures.stood in
     let s6 = c.combined-4.new.nodes in
-    let e3 : c.quarters_of_both.result.0.3.height ≡ h = (let x = qa.nw_height in let y = qa.se_height in omega arith) in
+    let e3 : c.quarters_to_combine.result.0.3.height ≡ h = (let x = qa.nw_height in let y = qa.se_height in omega arith) in
     let x3 = quarter_found op s2 s5 s6 h fa.3 fb.3 _ _ e3 qa.se qb.se x2.reads d.se_is c.in_ok-se.ensures.stood in
     let s7 = c.corner.new.self in
     let z = four_found s2 s6 s7 h _ _ _ _ q c.in_ok-nw.nw c.in_ok-ne.ne c.in_ok-sw.sw c.in_ok-se.se _ d x3.reads (the_answer s2 s3 _ _ x0) (the_answer s2 s4 _ _ x1) (the_answer s2 s5 _ _ x2) (the_answer s2 s6 _ _ x3) c.in_err-found.ensures.stood in
@@ -438,26 +438,26 @@ pub combined_over-returns-clause-stood : goal.combined_over-returns-clause-stood
 combined_over-returns-clause-stood t c q s =
     let s0 = c.args.nodes.now in
     let s1 = c.found_before.new.nodes in
-    let s2 = c.quarters_of_both.new.self in
+    let s2 = c.quarters_to_combine.new.nodes in
     let s3 = c.combined.new.nodes in
-    let fa = c.quarters_of_both.result.0 in
-    let fb = c.quarters_of_both.result.1 in
-    let qa = c.quarters_of_both.ensures.first in
-    let qb = c.quarters_of_both.ensures.second in
-    let h : ℕ = c.quarters_of_both.result.0.0.height in
+    let fa = c.quarters_to_combine.result.0 in
+    let fb = c.quarters_to_combine.result.1 in
+    let qa = c.quarters_to_combine.ensures.first in
+    let qb = c.quarters_to_combine.ensures.second in
+    let h : ℕ = c.quarters_to_combine.result.0.0.height in
     let op = c.args.op in
-    let d = results_stood op s0 s1 s2 c.args.a c.args.b q fa fb c.requires.a_stands c.requires.b_stands c.requires.one_height c.found_before.ensures.reads c.quarters_of_both.ensures.reads qa qb s in
-    let k = reads_itself s2 c.quarters_of_both.ensures.reads.keeps.after in
+    let d = results_stood op s0 s1 s2 c.args.a c.args.b q fa fb c.requires.a_stands c.requires.b_stands c.requires.one_height c.found_before.ensures.reads c.quarters_to_combine.ensures.reads qa qb s in
+    let k = reads_itself s2 c.quarters_to_combine.ensures.reads.keeps.after in
     let x0 = quarter_found op s2 s2 s3 h fa.0 fb.0 _ _ refl qa.nw qb.nw k d.nw_is c.in_ok-nw.ensures.stood in
     let s4 = c.combined-2.new.nodes in
-    let e1 : c.quarters_of_both.result.0.1.height ≡ h = (let x = qa.nw_height in let y = qa.ne_height in omega arith) in
+    let e1 : c.quarters_to_combine.result.0.1.height ≡ h = (let x = qa.nw_height in let y = qa.ne_height in omega arith) in
     let x1 = quarter_found op s2 s3 s4 h fa.1 fb.1 _ _ e1 qa.ne qb.ne x0.reads d.ne_is c.in_ok-ne.ensures.stood in
     let s5 = c.combined-3.new.nodes in
-    let e2 : c.quarters_of_both.result.0.2.height ≡ h = (let x = qa.nw_height in let y = qa.sw_height in omega arith) in
+    let e2 : c.quarters_to_combine.result.0.2.height ≡ h = (let x = qa.nw_height in let y = qa.sw_height in omega arith) in
     let x2 = quarter_found op s2 s4 s5 h fa.2 fb.2 _ _ e2 qa.sw qb.sw x1.reads d.sw_is c.in_ok-sw.ensures.stood in
     let s6 = c.combined-4.new.nodes in
-    let e3 : c.quarters_of_both.result.0.3.height ≡ h = (let x = qa.nw_height in let y = qa.se_height in omega arith) in
+    let e3 : c.quarters_to_combine.result.0.3.height ≡ h = (let x = qa.nw_height in let y = qa.se_height in omega arith) in
     let x3 = quarter_found op s2 s5 s6 h fa.3 fb.3 _ _ e3 qa.se qb.se x2.reads d.se_is c.in_ok-se.ensures.stood in
     let s7 = c.corner.new.self in
     let z = four_found s2 s6 s7 h _ _ _ _ q c.in_ok-nw.nw c.in_ok-ne.ne c.in_ok-sw.sw c.in_ok-se.se _ d x3.reads (the_answer s2 s3 _ _ x0) (the_answer s2 s4 _ _ x1) (the_answer s2 s5 _ _ x2) (the_answer s2 s6 _ _ x3) c.in_ok-found.ensures.stood in
-    found_after s0 s2 s7 c.note.new.self q c.in_ok-found.found (reads_on s0 s1 s2 c.found_before.ensures.reads c.quarters_of_both.ensures.reads) z c.note.ensures.reads
+    found_after s0 s2 s7 c.note.new.self q c.in_ok-found.found (reads_on s0 s1 s2 c.found_before.ensures.reads c.quarters_to_combine.ensures.reads) z c.note.ensures.reads

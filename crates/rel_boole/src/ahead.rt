@@ -1,0 +1,69 @@
+//! Quarters of two quads, with what the recursion reads first of them read ahead.
+ghost use Rattle.std.specs.Prelude.{◌≡◌, ◌<◌};
+ghost use Rattle.rel_model.specs.Trees.{bottom_height};
+ghost use Rattle.rel_model.specs.Quads.{Keeper, QuadStands, AreQuarters, ReadsQuads};
+
+use crate::boole::Boole;
+use crate::cuts::in_order;
+use crate::found::op_of;
+use quad_nodes::Nodes;
+use rel_model::Quad;
+
+/// Reads the memo word of two quads over the blocks, so that looking it up later need not wait.
+#[inline(always)]
+fn look_ahead(nodes: &mut Nodes, op: Boole, a: Quad, b: Quad)
+    requires a_stands { QuadStands nodes.old a }
+    requires b_stands { QuadStands nodes.old b }
+    requires one_height { b.height ≡ a.height }
+    ensures reads { ReadsQuads nodes.old nodes.new }
+{
+    let bottom = nodes.bottom();
+    if a.height == bottom {
+        return;
+    }
+    let (first, second) = in_order(op, a, b);
+    nodes.look(op_of(op), first, second);
+}
+
+/// Reads what the recursion reads first of two quads, unless they are cut off.
+#[inline(always)]
+fn read_ahead(nodes: &mut Nodes, op: Boole, a: Quad, b: Quad)
+    requires a_stands { QuadStands nodes.old a }
+    requires b_stands { QuadStands nodes.old b }
+    requires one_height { b.height ≡ a.height }
+    ensures reads { ReadsQuads nodes.old nodes.new }
+{
+    let _ = nodes.bottom();
+    if a.name == 0 || b.name == 0 || a.name == b.name {
+        return;
+    }
+    nodes.read_ahead(a);
+    nodes.read_ahead(b);
+    look_ahead(nodes, op, a, b);
+}
+
+/// The quarters of two quads. What the recursion reads first of the quarters two by two is read at once, so that these
+/// reads do not wait for one another, nor for words that are placed meanwhile.
+#[inline(always)]
+pub fn quarters_to_combine(
+    nodes: &mut Nodes,
+    op: Boole,
+    a: Quad,
+    b: Quad,
+) -> ((Quad, Quad, Quad, Quad), (Quad, Quad, Quad, Quad))
+    requires a_stands { QuadStands nodes.old a }
+    requires b_stands { QuadStands nodes.old b }
+    requires one_height { b.height ≡ a.height }
+    requires over { bottom_height < a.height }
+    ensures first { AreQuarters nodes.old nodes.new a result.0 }
+    ensures second { AreQuarters nodes.old nodes.new b result.1 }
+    ensures reads { ReadsQuads nodes.old nodes.new }
+{
+    let of_a = nodes.quarters(a);
+    let of_b = nodes.quarters(b);
+    read_ahead(nodes, op, of_a.0, of_b.0);
+    read_ahead(nodes, op, of_a.1, of_b.1);
+    read_ahead(nodes, op, of_a.2, of_b.2);
+    read_ahead(nodes, op, of_a.3, of_b.3);
+    (of_a, of_b)
+}
