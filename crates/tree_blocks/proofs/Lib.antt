@@ -1,0 +1,3 @@
+pub mod Opening
+pub mod Counting
+pub mod Naming
