@@ -1,5 +1,5 @@
 -- How many names and blocks there are.
-use Rattle.std.proofs.Common.{◌≡◌, ◌<◌, ◌≤◌, ◌+◌, ◌-◌, ◌*◌, ◌/◌, ◌⊎◌, ◌≢◌, eqb, inl, inr, zero, suc, ℕ, sym, ap, ◌∙◌, arith}
+use Rattle.std.proofs.Common.{◌≡◌, ◌<◌, ◌≤◌, ◌+◌, ◌-◌, ◌*◌, ◌/◌, ◌⊎◌, ◌≢◌, eqb, inl, inr, zero, suc, ℕ, refl, sym, ap, subst, ◌∙◌, arith}
 use Rattle.std.proofs.Math.Nat.{mul_assoc, mul_comm}
 use Rattle.std.proofs.lemmas.Bool.{cases_Bool, eqb-true, eqb-false}
 use Rattle.rel_model.specs.Trees.{bottom_height, top_height}
@@ -28,9 +28,19 @@ more_times : (x m : ℕ) → 1 ≤ m → x ≤ x * m
 more_times x zero l = absurd (omega arith)
 more_times x (suc m) l = (let e : x * suc m ≡ suc m * x = mul_comm x (suc m) in omega arith)
 
+-- the same where there are more blocks
+pub room_below : (c h n : ℕ) → bottom_height < h → c * blocks_count (h - bottom_height) ≤ n → 4 * c * blocks_count (h - 1 - bottom_height) ≤ n
+room_below c h n l r = subst (λ (x : ℕ). x ≤ n) (count_below c h (c * blocks_count (h - bottom_height)) l refl) r
+
+pub room_bottom : (c h n : ℕ) → h ≡ bottom_height → c * blocks_count (h - bottom_height) ≤ n → c ≤ n
+room_bottom c h n e r = subst (λ (x : ℕ). x ≤ n) (count_bottom c h (c * blocks_count (h - bottom_height)) e refl) r
+
 -- each name has at least one block
 pub count_least : (c d n : ℕ) → n ≡ c * blocks_count d → c ≤ n
 count_least c d n e = let x = more_times c (blocks_count d) (some_blocks d) in omega arith
+
+pub room_least : (c d n : ℕ) → c * blocks_count d ≤ n → c ≤ n
+room_least c d n r = let x = count_least c d (c * blocks_count d) refl in omega (arith, x, r)
 
 -- a square of a height up to 8 has at most 1024 blocks
 few_blocks : (d : ℕ) → d ≤ 5 → blocks_count d ≤ 1024
@@ -49,6 +59,15 @@ count_most h n l e = (let x = few_blocks (h - 3) (omega arith) in omega arith)
 pub under_top : (h : ℕ) → h ≤ 8 → h ≤ top_height
 unfolding top_height
 under_top h l = omega arith
+
+pub over_blocks : (h : ℕ) → 5 ≤ h → bottom_height < h
+unfolding bottom_height
+over_blocks h l = omega arith
+
+-- a square of 256 rows has 1024 blocks
+pub count_8 : (h : ℕ) → h ≡ 8 → blocks_count (h - bottom_height) ≡ 1024
+unfolding bottom_height
+count_8 h e = ap (λ (x : ℕ). blocks_count (x - 3)) e
 
 -- ---- places
 over : (k j : ℕ) → k ≤ j → j ≢ k → k < j

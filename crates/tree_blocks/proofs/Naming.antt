@@ -92,12 +92,11 @@ corner_now m r s h p f ns xs count done stand l i =
     quartered_same (side_of h) (side_of h) _ _ _ _ _ _ _ _ refl (one (4 * done) (omega arith) (omega arith)) (one (4 * done + 1) (omega arith) (omega arith)) (one (4 * done + 2) (omega arith) (omega arith)) (one (4 * done + 3) (omega arith) (omega arith))
 
 -- ---- blocks
-pub bottom_stood : {E : Type 0} (v w : Keeper) (h n count : ℕ) (ws : List ℕ) (r : Result Unit E) → h ≡ bottom_height → n ≡ count → FindsAll v w bottom_height (square_cells 0 ws) n r
+pub bottom_stood : {E : Type 0} (v w : Keeper) (h count : ℕ) (ws : List ℕ) (r : Result Unit E) → h ≡ bottom_height → FindsAll v w bottom_height (square_cells 0 ws) count r
     → FindsAll v w h (square_cells (h - bottom_height) ws) count r
-bottom_stood {E} v w h n count ws r e c f =
+bottom_stood {E} v w h count ws r e f =
     subst (λ (d : ℕ). FindsAll v w h (square_cells d ws) count r) (sym (depth_none h e))
-    (subst (λ (k : ℕ). FindsAll v w k (square_cells 0 ws) count r) (sym e)
-    (subst (λ (k : ℕ). FindsAll v w bottom_height (square_cells 0 ws) k r) c f))
+    (subst (λ (k : ℕ). FindsAll v w k (square_cells 0 ws) count r) (sym e) f)
 
 -- ---- one height above another
 times : (m c : ℕ) → m * (4 * suc c) ≡ 4 * m + m * (4 * c)

@@ -11,18 +11,23 @@ use pair_table::Missed;
 use quad_nodes::Nodes;
 use rel_model::Quad;
 
-/// Names each block of a list.
-fn name_blocks(nodes: &mut Nodes, blocks: &[u64], names: &mut [u32]) -> Result<(), Missed>
+/// Names the first blocks of a list.
+fn name_blocks(
+    nodes: &mut Nodes,
+    blocks: &[u64],
+    names: &mut [u32],
+    count: usize,
+) -> Result<(), Missed>
     requires kept { IsKeeper nodes.old }
-    requires room { length blocks.now ≤ length names.old }
+    requires blocks { count ≤ length blocks.now }
+    requires room { count ≤ length names.old }
     ensures len { length names.new ≡ length names.old }
-    ensures value { IfOk result (λ u. AreNamed nodes.new bottom_height (square_cells 0 blocks.now) names.new
-        (length blocks.now)) }
-    ensures stood { FindsAll nodes.old nodes.new bottom_height (square_cells 0 blocks.now) (length blocks.now) result }
-    ensures keeps { KeepsQuads (length blocks.now) nodes.old nodes.new }
+    ensures value { IfOk result (λ u. AreNamed nodes.new bottom_height (square_cells 0 blocks.now) names.new count) }
+    ensures stood { FindsAll nodes.old nodes.new bottom_height (square_cells 0 blocks.now) count result }
+    ensures keeps { KeepsQuads count nodes.old nodes.new }
     ensures counts { Counts nodes.old nodes.new result }
 {
-    'blocks: for place in 0..blocks.len() {
+    'blocks: for place in 0..count {
         let quad = nodes.block(blocks[place])?;
         names[place] = quad.name;
     }
@@ -85,8 +90,8 @@ fn gather_level(
 ) -> Result<(), Missed>
     requires low { bottom_height ≤ height }
     requires high { height ≤ top_height }
-    requires len { length blocks.now ≡ count * blocks_count (height - bottom_height) }
-    requires room { length blocks.now ≤ length names.old }
+    requires blocks { count * blocks_count (height - bottom_height) ≤ length blocks.now }
+    requires room { count * blocks_count (height - bottom_height) ≤ length names.old }
     ensures len { length names.new ≡ length names.old }
     ensures value { IfOk result (λ u. AreNamed nodes.new height (square_cells (height - bottom_height) blocks.now)
         names.new count) }
@@ -97,18 +102,18 @@ fn gather_level(
 {
     let bottom = nodes.bottom();
     if height == bottom {
-        return name_blocks(nodes, blocks, names);
+        return name_blocks(nodes, blocks, names, count);
     }
     gather_level(nodes, blocks, names, 4 * count, height - 1)?;
     close_level(nodes, names, count, height - 1)
 }
 
-/// The quad of blocks in tree order, of a height up to 8. All blocks are named first, and then the squares of each
-/// height before those of the next.
+/// The quad of the first blocks of a list in tree order, of a height up to 8. All blocks are named first, and then the
+/// squares of each height before those of the next.
 pub fn gather_blocks(nodes: &mut Nodes, blocks: &[u64], height: u8) -> Result<Quad, Missed>
     requires low { bottom_height ≤ height }
     requires high { height ≤ 8 }
-    requires len { length blocks.now ≡ blocks_count (height - bottom_height) }
+    requires blocks { blocks_count (height - bottom_height) ≤ length blocks.now }
     ensures value { IfOk result (IsQuad nodes.new height (blocks_cells (height - bottom_height) blocks.now)) }
     ensures stood { FindsQuad nodes.old nodes.new height (blocks_cells (height - bottom_height) blocks.now) result }
     ensures keeps { KeepsQuads (quad_room height) nodes.old nodes.new }

@@ -2,19 +2,25 @@ use Rattle.std.proofs.Common.{◌≡◌, ◌<◌, ◌≤◌, ◌-◌, ◌*◌, l
 use Rattle.std.proofs.lemmas.Grind.{common_steps}
 use Rattle.rel_model.specs.Trees.{bottom_height, top_height}
 use Rattle.quad_nodes.proofs.Finding.{not_missed}
-use Rattle.tree_blocks.proofs.Counting.{count_below, count_least, count_bottom}
+use Rattle.tree_blocks.proofs.Counting.{room_below, room_least, room_bottom}
 use Rattle.tree_blocks.proofs.Naming.{bottom_stood, level_value, level_stood, level_keeps, first_keeps, quarters_of_all}
 use Rattle.tree_blocks.proofs.gather.+gather_level.Goals as goal
 
 pub returns-then-height-bottom-clause-stood : goal.returns-then-height-bottom-clause-stood
 returns-then-height-bottom-clause-stood t c =
     let bottom : c.args.height ≡ bottom_height = c.if-height-bottom.true ∙ c.bottom-bottom.ensures.height in
-    bottom_stood c.args.nodes.now c.name_blocks.new.nodes c.args.height (length c.args.blocks.now) c.args.count c.args.blocks.now c.name_blocks.result bottom (count_bottom c.args.count c.args.height (length c.args.blocks.now) bottom c.requires.len) c.name_blocks.ensures.stood
+    bottom_stood c.args.nodes.now c.name_blocks.new.nodes c.args.height c.args.count c.args.blocks.now c.name_blocks.result bottom c.name_blocks.ensures.stood
+
+pub name_blocks-requires-clause-blocks : goal.name_blocks-requires-clause-blocks
+name_blocks-requires-clause-blocks t c = room_bottom c.args.count c.args.height (length c.args.blocks.now) (c.if-height-bottom.true ∙ c.bottom-bottom.ensures.height) c.requires.blocks
+
+pub name_blocks-requires-clause-room : goal.name_blocks-requires-clause-room
+name_blocks-requires-clause-room t c = room_bottom c.args.count c.args.height (length c.args.names.now) (c.if-height-bottom.true ∙ c.bottom-bottom.ensures.height) c.requires.room
 
 pub overflow_mul-count : goal.overflow_mul-count
 overflow_mul-count t c =
     let over : bottom_height < c.args.height = (let l = c.requires.low in let n = c.if-height-bottom.false in let b = c.bottom-bottom.ensures.height in omega arith) in
-    let x = count_least (4 * c.args.count) (c.args.height - 1 - bottom_height) (length c.args.blocks.now) (count_below c.args.count c.args.height (length c.args.blocks.now) over c.requires.len) in
+    let x = room_least (4 * c.args.count) (c.args.height - 1 - bottom_height) (length c.args.blocks.now) (room_below c.args.count c.args.height (length c.args.blocks.now) over c.requires.blocks) in
     grind (arith, common_steps)
 
 pub gather_level-requires : goal.gather_level-requires
@@ -23,7 +29,7 @@ gather_level-requires t c =
     let falls : c.args.height - 1 < t = omega arith in
     let low : bottom_height ≤ c.args.height - 1 = omega arith in
     let high : c.args.height - 1 ≤ top_height = (let l = c.requires.high in omega arith) in
-    (falls, (low, (high, (count_below c.args.count c.args.height (length c.args.blocks.now) over c.requires.len, c.requires.room))))
+    (falls, (low, (high, (room_below c.args.count c.args.height (length c.args.blocks.now) over c.requires.blocks, room_below c.args.count c.args.height (length c.args.names.now) over c.requires.room))))
 
 pub returns-in_err-gather_level-clause-stood : goal.returns-in_err-gather_level-clause-stood
 returns-in_err-gather_level-clause-stood t c all =
@@ -38,8 +44,7 @@ returns-in_err-gather_level-clause-keeps t c =
 pub close_level-requires-clause-room : goal.close_level-requires-clause-room
 close_level-requires-clause-room t c =
     let over : bottom_height < c.args.height = (let l = c.requires.low in let n = c.if-height-bottom.false in let b = c.bottom-bottom.ensures.height in omega arith) in
-    let x = count_least (4 * c.args.count) (c.args.height - 1 - bottom_height) (length c.args.blocks.now) (count_below c.args.count c.args.height (length c.args.blocks.now) over c.requires.len) in
-    let r = c.requires.room in
+    let x = room_least (4 * c.args.count) (c.args.height - 1 - bottom_height) (length c.args.names.now) (room_below c.args.count c.args.height (length c.args.names.now) over c.requires.room) in
     let l = c.in_ok-gather_level.ensures.len in
     omega arith
 

@@ -7,11 +7,11 @@ use Rattle.tree_blocks.proofs.gather.name_blocks.Goals as goal
 
 pub returns-in_err-quad-clause-stood : goal.returns-in_err-quad-clause-stood
 returns-in_err-quad-clause-stood c all =
-    absurd (gathered_missed 1 c.args.nodes.now c.blocks-2.nodes c.block.new.self bottom_height (square_cells 0 c.args.blocks.now) _ c.args.names.now c.blocks-2.names (length c.args.blocks.now) c.blocks-2.place _ c.blocks-2-test.true
+    absurd (gathered_missed 1 c.args.nodes.now c.blocks-2.nodes c.block.new.self bottom_height (square_cells 0 c.args.blocks.now) _ c.args.names.now c.blocks-2.names c.args.count c.blocks-2.place _ c.blocks-2-test.true
     (sym (square_none 0 c.args.blocks.now c.blocks-2.place refl)) c.blocks-2.invariant c.in_err-quad.ensures.stood all)
 
 pub blocks-2-preserved : goal.blocks-2-preserved
 blocks-2-preserved c =
     let long : c.blocks-2.place < length c.blocks-2.names = (let a = c.blocks-2.invariant.len in let b = c.requires.room in let d = c.blocks-2-test.true in omega arith) in
-    gathered_more 1 c.args.nodes.now c.blocks-2.nodes c.block.new.self bottom_height (square_cells 0 c.args.blocks.now) _ c.args.names.now c.blocks-2.names (length c.args.blocks.now) c.blocks-2.place c.in_ok-quad.quad (omega arith) c.blocks-2-test.true
+    gathered_more 1 c.args.nodes.now c.blocks-2.nodes c.block.new.self bottom_height (square_cells 0 c.args.blocks.now) _ c.args.names.now c.blocks-2.names c.args.count c.blocks-2.place c.in_ok-quad.quad (omega arith) c.blocks-2-test.true
     long (sym (square_none 0 c.args.blocks.now c.blocks-2.place refl)) c.blocks-2.invariant c.in_ok-quad.ensures.value c.in_ok-quad.ensures.stood c.in_ok-quad.ensures.keeps c.in_ok-quad.ensures.counts
