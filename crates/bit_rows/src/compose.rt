@@ -4,6 +4,7 @@ ghost use Rattle.rel_model.specs.Cells.{cells_union, cells_compose, some_below};
 ghost use Rattle.bit_rows.specs.Rows.{row_has, rows_cells, product_has};
 
 use crate::row::{Row, with_picked};
+use crate::tables::{compose_by_tables, has_many_cells};
 
 /// A row and all rows of which another has the column.
 #[inline(always)]
@@ -17,8 +18,8 @@ fn with_product(sum: Row, row: Row, rows: &[Row]) -> Row
     with_picked(sum, row.w3, rows, 192)
 }
 
-/// Adds the composition of two squares to a third.
-pub fn rows_compose_into(z: &mut [Row], a: &[Row], b: &[Row])
+/// Adds the composition of two squares to a third, one bit after another.
+fn compose_by_bits(z: &mut [Row], a: &[Row], b: &[Row])
     requires z_len { length z.old ≡ 256 }
     requires a_len { length a.now ≡ 256 }
     requires b_len { length b.now ≡ 256 }
@@ -29,4 +30,20 @@ pub fn rows_compose_into(z: &mut [Row], a: &[Row], b: &[Row])
     'rows: for i in 0..256 {
         z[i] = with_product(z[i], a[i], b);
     }
+}
+
+/// Adds the composition of two squares to a third.
+pub fn rows_compose_into(z: &mut [Row], a: &[Row], b: &[Row])
+    requires z_len { length z.old ≡ 256 }
+    requires a_len { length a.now ≡ 256 }
+    requires b_len { length b.now ≡ 256 }
+    ensures len { length z.new ≡ 256 }
+    ensures cells { rows_cells z.new ≡ cells_union (rows_cells z.old)
+        (cells_compose (length b.now) (rows_cells a.now) (rows_cells b.now)) }
+{
+    if has_many_cells(a) {
+        compose_by_tables(z, a, b);
+        return;
+    }
+    compose_by_bits(z, a, b);
 }

@@ -7,6 +7,7 @@ mod close;
 mod compose;
 mod row;
 mod scratch;
+mod tables;
 
 pub use block::{add_block, block_at};
 pub use clear::is_clear;
