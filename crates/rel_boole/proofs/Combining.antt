@@ -5,22 +5,20 @@ use Rattle.rel_model.specs.Cells.{Cells}
 use Rattle.rel_model.specs.Trees.{quartered}
 use Rattle.rel_model.specs.Equations.{Operator, result_of, side_of}
 use Rattle.rel_model.specs.Quads.{Keeper, quad_cells, QuadStands, IsQuad, KeepsQuads, AreQuarters}
-use Rattle.rel_model.proofs.QuadLaws.{keeps_on, keeps_itself, quad_cells-stay, is_quad-stays, quarters-before, result_later, is_quad-height, corner_value}
+use Rattle.rel_model.proofs.QuadLaws.{keeps_on, keeps_itself, quad_cells-stay, is_quad-stays, result_later, is_quad-height, corner_value}
 use Rattle.rel_boole.specs.declared.boole.Boole.{Boole}
 use Rattle.rel_boole.specs.Cellwise.{cells_by, operator_for}
 use Rattle.rel_boole.proofs.Cutting.{by_quarters, result_of-by}
 
-pub combined_value : {E : Type 0} (m0 m1 m2 m3 : ℕ) (op : Boole) (s0 s1 s2 s3 s4 s5 s6 s7 : Keeper) (a b : Quad) (fa fb : Quad × Quad × Quad × Quad) (nw ne sw se : Quad) (r : Result Quad E)
-    → QuadStands s0 a → QuadStands s0 b → b.height ≡ a.height → KeepsQuads 0 s0 s1 → AreQuarters s1 s2 a fa → AreQuarters s1 s2 b fb
+pub combined_value : {E : Type 0} (m0 m1 m2 m3 : ℕ) (op : Boole) (s0 s2 s3 s4 s5 s6 s7 : Keeper) (a b : Quad) (fa fb : Quad × Quad × Quad × Quad) (nw ne sw se : Quad) (r : Result Quad E)
+    → QuadStands s0 a → QuadStands s0 b → b.height ≡ a.height → AreQuarters s0 s2 a fa → AreQuarters s0 s2 b fb
     → KeepsQuads m0 s2 s3 → KeepsQuads m1 s3 s4 → KeepsQuads m2 s4 s5 → KeepsQuads m3 s5 s6
     → IsQuad s3 fa.0.height (cells_by op (quad_cells s2 fa.0) (quad_cells s2 fb.0)) nw → IsQuad s4 fa.1.height (cells_by op (quad_cells s3 fa.1) (quad_cells s3 fb.1)) ne
     → IsQuad s5 fa.2.height (cells_by op (quad_cells s4 fa.2) (quad_cells s4 fb.2)) sw → IsQuad s6 fa.3.height (cells_by op (quad_cells s5 fa.3) (quad_cells s5 fb.3)) se
     → IfOk r (IsQuad s7 (nw.height + 1) (quartered (side_of nw.height) (quad_cells s6 nw) (quad_cells s6 ne) (quad_cells s6 sw) (quad_cells s6 se)))
     → IfOk r (IsQuad s7 a.height (cells_by op (quad_cells s0 a) (quad_cells s0 b)))
-combined_value m0 m1 m2 m3 op s0 s1 s2 s3 s4 s5 s6 s7 a b fa fb nw ne sw se (Err e) sa sb eh k01 qa qb k0 k1 k2 k3 r0 r1 r2 r3 v = tt
-combined_value {E} m0 m1 m2 m3 op s0 s1 s2 s3 s4 s5 s6 s7 a b fa fb nw ne sw se (Ok q) sa sb eh k01 qa qb k0 k1 k2 k3 r0 r1 r2 r3 v =
-    let pa = quarters-before 0 s0 s1 s2 a fa k01 sa qa in
-    let pb = quarters-before 0 s0 s1 s2 b fb k01 sb qb in
+combined_value m0 m1 m2 m3 op s0 s2 s3 s4 s5 s6 s7 a b fa fb nw ne sw se (Err e) sa sb eh pa pb k0 k1 k2 k3 r0 r1 r2 r3 v = tt
+combined_value {E} m0 m1 m2 m3 op s0 s2 s3 s4 s5 s6 s7 a b fa fb nw ne sw se (Ok q) sa sb eh pa pb k0 k1 k2 k3 r0 r1 r2 r3 v =
     let h : ℕ = fa.0.height in
     let e1 : fa.1.height ≡ h = (let x = pa.nw_height in let y = pa.ne_height in omega arith) in
     let e2 : fa.2.height ≡ h = (let x = pa.nw_height in let y = pa.sw_height in omega arith) in

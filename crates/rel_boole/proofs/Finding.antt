@@ -7,7 +7,7 @@ use Rattle.rel_model.specs.Trees.{bottom_height}
 use Rattle.rel_model.specs.Equations.{side_of}
 use Rattle.rel_model.specs.Quads.{Keeper, quad_cells, QuadStands, IsQuad, ReadsQuads, AreQuarters}
 use Rattle.rel_model.proofs.TreeLaws.{Within}
-use Rattle.rel_model.proofs.QuadLaws.{quad_cells-stay, is_quad-stays, quarters-before, reads_on}
+use Rattle.rel_model.proofs.QuadLaws.{quad_cells-stay, is_quad-stays, reads_on}
 use Rattle.quad_nodes.specs.Finding.{Finds, FindsQuad}
 use Rattle.quad_nodes.proofs.Finding.{QuartersStood, quarters_stood, within_at, found_later}
 use Rattle.rel_boole.specs.declared.boole.Boole.{Boole}
@@ -32,12 +32,9 @@ cells_by-within op m f g a b = record {
 abbrev pub ResultsStood : Boole → Keeper → Quad × Quad × Quad × Quad → Quad × Quad × Quad × Quad → Quad → Type 0
 ResultsStood op w fa fb q = QuartersStood w fa.0.height q (cells_by op (quad_cells w fa.0) (quad_cells w fb.0)) (cells_by op (quad_cells w fa.1) (quad_cells w fb.1)) (cells_by op (quad_cells w fa.2) (quad_cells w fb.2)) (cells_by op (quad_cells w fa.3) (quad_cells w fb.3))
 
-pub results_stood : (op : Boole) (s0 s1 s2 : Keeper) (a b q : Quad) (fa fb : Quad × Quad × Quad × Quad) → QuadStands s0 a → QuadStands s0 b → b.height ≡ a.height → ReadsQuads s0 s1 → ReadsQuads s1 s2 → AreQuarters s1 s2 a fa → AreQuarters s1 s2 b fb
+pub results_stood : (op : Boole) (s0 s2 : Keeper) (a b q : Quad) (fa fb : Quad × Quad × Quad × Quad) → QuadStands s0 a → QuadStands s0 b → b.height ≡ a.height → ReadsQuads s0 s2 → AreQuarters s0 s2 a fa → AreQuarters s0 s2 b fb
     → IsQuad s0 a.height (cells_by op (quad_cells s0 a) (quad_cells s0 b)) q → ResultsStood op s2 fa fb q
-results_stood op s0 s1 s2 a b q fa fb sa sb eh k01 k12 qa qb s =
-    let pa = quarters-before 0 s0 s1 s2 a fa k01.keeps sa qa in
-    let pb = quarters-before 0 s0 s1 s2 b fb k01.keeps sb qb in
-    let k = reads_on s0 s1 s2 k01 k12 in
+results_stood op s0 s2 a b q fa fb sa sb eh k pa pb s =
     let h : ℕ = fa.0.height in
     let t = is_quad-stays 0 s0 s2 a.height _ q k.keeps s in
     let a1 : fa.1.height ≡ h = (let x = pa.nw_height in let y = pa.ne_height in omega arith) in
@@ -47,7 +44,7 @@ results_stood op s0 s1 s2 a b q fa fb sa sb eh k01 k12 qa qb s =
     let b1 : fb.1.height ≡ h = (let x = pa.nw_height in let y = pb.ne_height in omega arith) in
     let b2 : fb.2.height ≡ h = (let x = pa.nw_height in let y = pb.sw_height in omega arith) in
     let b3 : fb.3.height ≡ h = (let x = pa.nw_height in let y = pb.se_height in omega arith) in
-    quarters_stood s2 h q _ _ _ _ k.keeps.after qa.nw.low
+    quarters_stood s2 h q _ _ _ _ k.keeps.after pa.nw.low
     (record {
       nw = cells_by-within op (side_of h) _ _ (within_at s2 h fa.0 refl) (within_at s2 h fb.0 b0);
       ne = cells_by-within op (side_of h) _ _ (within_at s2 h fa.1 a1) (within_at s2 h fb.1 b1);

@@ -2,3 +2,4 @@ pub mod Cutting
 pub mod Combining
 pub mod Filled
 pub mod Finding
+pub mod ByBlocks

@@ -6,6 +6,7 @@ ghost use Rattle.quad_nodes.specs.Finding.{FindsQuad};
 ghost use Rattle.rel_boole.specs.Cellwise.{cells_by};
 
 use crate::ahead::quarters_to_combine;
+use crate::blocks::{both_pay, combined_by_blocks};
 use crate::cuts::{cut_off, in_order};
 use crate::found::{found_before, op_of};
 use crate::leaf::leaf;
@@ -45,8 +46,8 @@ pub fn combined(nodes: &mut Nodes, op: Boole, a: Quad, b: Quad) -> Result<Quad, 
     combined_over(nodes, op, first, second)
 }
 
-/// The same over the blocks: a full operand is cut off, what was noted is looked up, and what is left goes by
-/// quarters and is noted.
+/// The same over the blocks: a full operand is cut off, what was noted is looked up, and what is left goes by blocks
+/// where both operands are dense squares of 256 rows, else by quarters.
 #[cycle(combining)]
 fn combined_over(nodes: &mut Nodes, op: Boole, a: Quad, b: Quad) -> Result<Quad, Missed>
     requires a_stands { QuadStands nodes.old a }
@@ -63,6 +64,26 @@ fn combined_over(nodes: &mut Nodes, op: Boole, a: Quad, b: Quad) -> Result<Quad,
     if let Some(found) = found_before(nodes, op, a, b) {
         return Ok(found);
     }
+    if both_pay(nodes, a, b) {
+        return combined_by_blocks(nodes, op, a, b);
+    }
+    combined_by_quarters(nodes, op, a, b)
+}
+
+/// The same by quarters; the result is noted.
+#[cycle(combining)]
+fn combined_by_quarters(nodes: &mut Nodes, op: Boole, a: Quad, b: Quad) -> Result<Quad, Missed>
+    requires a_stands { QuadStands nodes.old a }
+    requires b_stands { QuadStands nodes.old b }
+    requires one_height { b.height ≡ a.height }
+    requires over { bottom_height < a.height }
+    ensures value { IfOk result (IsQuad nodes.new a.height
+        (cells_by op (quad_cells nodes.old a) (quad_cells nodes.old b))) }
+    ensures stood { FindsQuad nodes.old nodes.new a.height
+        (cells_by op (quad_cells nodes.old a) (quad_cells nodes.old b)) result }
+    ensures keeps { KeepsQuads (quad_room a.height) nodes.old nodes.new }
+    ensures counts { Counts nodes.old nodes.new result }
+{
     let ((a_nw, a_ne, a_sw, a_se), (b_nw, b_ne, b_sw, b_se)) = quarters_to_combine(nodes, op, a, b);
     let nw = combined(nodes, op, a_nw, b_nw)?;
     let ne = combined(nodes, op, a_ne, b_ne)?;

@@ -13,7 +13,7 @@ use quad_nodes::Nodes;
 use rel_model::Quad;
 
 /// Cell (i, j) where the operator holds of two blocks there.
-fn block_by(op: Boole, a: u64, b: u64) -> u64
+pub fn block_by(op: Boole, a: u64, b: u64) -> u64
     ensures { block_cells result ≡ cells_by op (block_cells a) (block_cells b) }
 {
     match op {

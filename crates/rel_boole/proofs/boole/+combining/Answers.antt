@@ -6,6 +6,7 @@ use Rattle.rel_boole.specs.Cellwise.{cells_by}
 use Rattle.rel_boole.proofs.Cutting.{ordered}
 use Rattle.rel_boole.proofs.Finding.{results_stood, quarter_found, value_as}
 use Rattle.rel_boole.proofs.Combining.{combined_value, as_equation}
+use Rattle.rel_boole.proofs.ByBlocks.{value_after, stood_after}
 use Rattle.rel_boole.proofs.boole.+combining.Goals as goal
 
 pub combined-returns-then-a-bottom-clause-keeps : goal.combined-returns-then-a-bottom-clause-keeps
@@ -14,58 +15,48 @@ combined-returns-then-a-bottom-clause-keeps t c =
     let l : 1 ≤ quad_room c.args.a.height = omega (arith, r) in
     keeps_most 1 (quad_room c.args.a.height) c.args.nodes.now c.leaf.new.nodes l c.leaf.ensures.keeps
 
-pub combined_over-quarters_to_combine-requires-clause-a_stands : goal.combined_over-quarters_to_combine-requires-clause-a_stands
-combined_over-quarters_to_combine-requires-clause-a_stands t c = quad_stays 0 c.args.nodes.now c.found_before.new.nodes c.args.a c.found_before.ensures.reads.keeps c.requires.a_stands
-
-pub combined_over-quarters_to_combine-requires-clause-b_stands : goal.combined_over-quarters_to_combine-requires-clause-b_stands
-combined_over-quarters_to_combine-requires-clause-b_stands t c = quad_stays 0 c.args.nodes.now c.found_before.new.nodes c.args.b c.found_before.ensures.reads.keeps c.requires.b_stands
-
-pub combined_over-returns-in_err-nw-clause-keeps : goal.combined_over-returns-in_err-nw-clause-keeps
-combined_over-returns-in_err-nw-clause-keeps t c =
+pub combined_by_quarters-returns-in_err-nw-clause-keeps : goal.combined_by_quarters-returns-in_err-nw-clause-keeps
+combined_by_quarters-returns-in_err-nw-clause-keeps t c =
     let s0 = c.args.nodes.now in
-    let s1 = c.found_before.new.nodes in
     let s2 = c.quarters_to_combine.new.nodes in
     let s3 = c.combined.new.nodes in
     let q = c.quarters_to_combine.ensures.first in
     let h : ℕ = c.args.a.height in
     let m : ℕ = quad_room (h - 1) in
-    let k0 = keeps_on 0 0 s0 s1 s2 c.found_before.ensures.reads.keeps c.quarters_to_combine.ensures.reads.keeps in
-    let k1 = keeps_on (0 + 0) m s0 s2 s3 k0 (room_below h c.quarters_to_combine.result.0.0.height s2 s3 q.nw_height c.in_err-nw.ensures.keeps) in
+    let k0 = c.quarters_to_combine.ensures.reads.keeps in
+    let k1 = keeps_on 0 m s0 s2 s3 k0 (room_below h c.quarters_to_combine.result.0.0.height s2 s3 q.nw_height c.in_err-nw.ensures.keeps) in
     let r = rooms-next h c.requires.over in
-    let l : 0 + 0 + m ≤ quad_room h = omega (arith, r) in
-    keeps_most (0 + 0 + m) (quad_room h) s0 s3 l k1
+    let l : 0 + m ≤ quad_room h = omega (arith, r) in
+    keeps_most (0 + m) (quad_room h) s0 s3 l k1
 
-pub combined_over-combined-requires-2 : goal.combined_over-combined-requires-2
-combined_over-combined-requires-2 t c =
+pub combined_by_quarters-combined-requires-2 : goal.combined_by_quarters-combined-requires-2
+combined_by_quarters-combined-requires-2 t c =
     let s0 = c.args.nodes.now in
-    let s1 = c.found_before.new.nodes in
     let s2 = c.quarters_to_combine.new.nodes in
     let s3 = c.combined.new.nodes in
     let q = c.quarters_to_combine.ensures.first in
     let p = c.quarters_to_combine.ensures.second in
     (omega arith, ((quad_stays _ s2 s3 c.quarters_to_combine.result.0.1 c.in_ok-nw.ensures.keeps q.ne), ((quad_stays _ s2 s3 c.quarters_to_combine.result.1.1 c.in_ok-nw.ensures.keeps p.ne), (let x = q.ne_height in let y = p.ne_height in omega arith))))
 
-pub combined_over-returns-in_err-ne-clause-keeps : goal.combined_over-returns-in_err-ne-clause-keeps
-combined_over-returns-in_err-ne-clause-keeps t c =
+pub combined_by_quarters-returns-in_err-ne-clause-keeps : goal.combined_by_quarters-returns-in_err-ne-clause-keeps
+combined_by_quarters-returns-in_err-ne-clause-keeps t c =
     let s0 = c.args.nodes.now in
-    let s1 = c.found_before.new.nodes in
     let s2 = c.quarters_to_combine.new.nodes in
     let s3 = c.combined.new.nodes in
     let s4 = c.combined-2.new.nodes in
     let q = c.quarters_to_combine.ensures.first in
     let h : ℕ = c.args.a.height in
     let m : ℕ = quad_room (h - 1) in
-    let k0 = keeps_on 0 0 s0 s1 s2 c.found_before.ensures.reads.keeps c.quarters_to_combine.ensures.reads.keeps in
-    let k1 = keeps_on (0 + 0) m s0 s2 s3 k0 (room_below h c.quarters_to_combine.result.0.0.height s2 s3 q.nw_height c.in_ok-nw.ensures.keeps) in
-    let k2 = keeps_on (0 + 0 + m) m s0 s3 s4 k1 (room_below h c.quarters_to_combine.result.0.1.height s3 s4 q.ne_height c.in_err-ne.ensures.keeps) in
+    let k0 = c.quarters_to_combine.ensures.reads.keeps in
+    let k1 = keeps_on 0 m s0 s2 s3 k0 (room_below h c.quarters_to_combine.result.0.0.height s2 s3 q.nw_height c.in_ok-nw.ensures.keeps) in
+    let k2 = keeps_on (0 + m) m s0 s3 s4 k1 (room_below h c.quarters_to_combine.result.0.1.height s3 s4 q.ne_height c.in_err-ne.ensures.keeps) in
     let r = rooms-next h c.requires.over in
-    let l : 0 + 0 + m + m ≤ quad_room h = omega (arith, r) in
-    keeps_most (0 + 0 + m + m) (quad_room h) s0 s4 l k2
+    let l : 0 + m + m ≤ quad_room h = omega (arith, r) in
+    keeps_most (0 + m + m) (quad_room h) s0 s4 l k2
 
-pub combined_over-combined-requires-3 : goal.combined_over-combined-requires-3
-combined_over-combined-requires-3 t c =
+pub combined_by_quarters-combined-requires-3 : goal.combined_by_quarters-combined-requires-3
+combined_by_quarters-combined-requires-3 t c =
     let s0 = c.args.nodes.now in
-    let s1 = c.found_before.new.nodes in
     let s2 = c.quarters_to_combine.new.nodes in
     let s3 = c.combined.new.nodes in
     let s4 = c.combined-2.new.nodes in
@@ -73,10 +64,9 @@ combined_over-combined-requires-3 t c =
     let p = c.quarters_to_combine.ensures.second in
     (omega arith, ((quad_stays _ s3 s4 c.quarters_to_combine.result.0.2 c.in_ok-ne.ensures.keeps (quad_stays _ s2 s3 c.quarters_to_combine.result.0.2 c.in_ok-nw.ensures.keeps q.sw)), ((quad_stays _ s3 s4 c.quarters_to_combine.result.1.2 c.in_ok-ne.ensures.keeps (quad_stays _ s2 s3 c.quarters_to_combine.result.1.2 c.in_ok-nw.ensures.keeps p.sw)), (let x = q.sw_height in let y = p.sw_height in omega arith))))
 
-pub combined_over-returns-in_err-sw-clause-keeps : goal.combined_over-returns-in_err-sw-clause-keeps
-combined_over-returns-in_err-sw-clause-keeps t c =
+pub combined_by_quarters-returns-in_err-sw-clause-keeps : goal.combined_by_quarters-returns-in_err-sw-clause-keeps
+combined_by_quarters-returns-in_err-sw-clause-keeps t c =
     let s0 = c.args.nodes.now in
-    let s1 = c.found_before.new.nodes in
     let s2 = c.quarters_to_combine.new.nodes in
     let s3 = c.combined.new.nodes in
     let s4 = c.combined-2.new.nodes in
@@ -84,18 +74,17 @@ combined_over-returns-in_err-sw-clause-keeps t c =
     let q = c.quarters_to_combine.ensures.first in
     let h : ℕ = c.args.a.height in
     let m : ℕ = quad_room (h - 1) in
-    let k0 = keeps_on 0 0 s0 s1 s2 c.found_before.ensures.reads.keeps c.quarters_to_combine.ensures.reads.keeps in
-    let k1 = keeps_on (0 + 0) m s0 s2 s3 k0 (room_below h c.quarters_to_combine.result.0.0.height s2 s3 q.nw_height c.in_ok-nw.ensures.keeps) in
-    let k2 = keeps_on (0 + 0 + m) m s0 s3 s4 k1 (room_below h c.quarters_to_combine.result.0.1.height s3 s4 q.ne_height c.in_ok-ne.ensures.keeps) in
-    let k3 = keeps_on (0 + 0 + m + m) m s0 s4 s5 k2 (room_below h c.quarters_to_combine.result.0.2.height s4 s5 q.sw_height c.in_err-sw.ensures.keeps) in
+    let k0 = c.quarters_to_combine.ensures.reads.keeps in
+    let k1 = keeps_on 0 m s0 s2 s3 k0 (room_below h c.quarters_to_combine.result.0.0.height s2 s3 q.nw_height c.in_ok-nw.ensures.keeps) in
+    let k2 = keeps_on (0 + m) m s0 s3 s4 k1 (room_below h c.quarters_to_combine.result.0.1.height s3 s4 q.ne_height c.in_ok-ne.ensures.keeps) in
+    let k3 = keeps_on (0 + m + m) m s0 s4 s5 k2 (room_below h c.quarters_to_combine.result.0.2.height s4 s5 q.sw_height c.in_err-sw.ensures.keeps) in
     let r = rooms-next h c.requires.over in
-    let l : 0 + 0 + m + m + m ≤ quad_room h = omega (arith, r) in
-    keeps_most (0 + 0 + m + m + m) (quad_room h) s0 s5 l k3
+    let l : 0 + m + m + m ≤ quad_room h = omega (arith, r) in
+    keeps_most (0 + m + m + m) (quad_room h) s0 s5 l k3
 
-pub combined_over-combined-requires-4 : goal.combined_over-combined-requires-4
-combined_over-combined-requires-4 t c =
+pub combined_by_quarters-combined-requires-4 : goal.combined_by_quarters-combined-requires-4
+combined_by_quarters-combined-requires-4 t c =
     let s0 = c.args.nodes.now in
-    let s1 = c.found_before.new.nodes in
     let s2 = c.quarters_to_combine.new.nodes in
     let s3 = c.combined.new.nodes in
     let s4 = c.combined-2.new.nodes in
@@ -104,10 +93,9 @@ combined_over-combined-requires-4 t c =
     let p = c.quarters_to_combine.ensures.second in
     (omega arith, ((quad_stays _ s4 s5 c.quarters_to_combine.result.0.3 c.in_ok-sw.ensures.keeps (quad_stays _ s3 s4 c.quarters_to_combine.result.0.3 c.in_ok-ne.ensures.keeps (quad_stays _ s2 s3 c.quarters_to_combine.result.0.3 c.in_ok-nw.ensures.keeps q.se))), ((quad_stays _ s4 s5 c.quarters_to_combine.result.1.3 c.in_ok-sw.ensures.keeps (quad_stays _ s3 s4 c.quarters_to_combine.result.1.3 c.in_ok-ne.ensures.keeps (quad_stays _ s2 s3 c.quarters_to_combine.result.1.3 c.in_ok-nw.ensures.keeps p.se))), (let x = q.se_height in let y = p.se_height in omega arith))))
 
-pub combined_over-returns-in_err-se-clause-keeps : goal.combined_over-returns-in_err-se-clause-keeps
-combined_over-returns-in_err-se-clause-keeps t c =
+pub combined_by_quarters-returns-in_err-se-clause-keeps : goal.combined_by_quarters-returns-in_err-se-clause-keeps
+combined_by_quarters-returns-in_err-se-clause-keeps t c =
     let s0 = c.args.nodes.now in
-    let s1 = c.found_before.new.nodes in
     let s2 = c.quarters_to_combine.new.nodes in
     let s3 = c.combined.new.nodes in
     let s4 = c.combined-2.new.nodes in
@@ -116,19 +104,18 @@ combined_over-returns-in_err-se-clause-keeps t c =
     let q = c.quarters_to_combine.ensures.first in
     let h : ℕ = c.args.a.height in
     let m : ℕ = quad_room (h - 1) in
-    let k0 = keeps_on 0 0 s0 s1 s2 c.found_before.ensures.reads.keeps c.quarters_to_combine.ensures.reads.keeps in
-    let k1 = keeps_on (0 + 0) m s0 s2 s3 k0 (room_below h c.quarters_to_combine.result.0.0.height s2 s3 q.nw_height c.in_ok-nw.ensures.keeps) in
-    let k2 = keeps_on (0 + 0 + m) m s0 s3 s4 k1 (room_below h c.quarters_to_combine.result.0.1.height s3 s4 q.ne_height c.in_ok-ne.ensures.keeps) in
-    let k3 = keeps_on (0 + 0 + m + m) m s0 s4 s5 k2 (room_below h c.quarters_to_combine.result.0.2.height s4 s5 q.sw_height c.in_ok-sw.ensures.keeps) in
-    let k4 = keeps_on (0 + 0 + m + m + m) m s0 s5 s6 k3 (room_below h c.quarters_to_combine.result.0.3.height s5 s6 q.se_height c.in_err-se.ensures.keeps) in
+    let k0 = c.quarters_to_combine.ensures.reads.keeps in
+    let k1 = keeps_on 0 m s0 s2 s3 k0 (room_below h c.quarters_to_combine.result.0.0.height s2 s3 q.nw_height c.in_ok-nw.ensures.keeps) in
+    let k2 = keeps_on (0 + m) m s0 s3 s4 k1 (room_below h c.quarters_to_combine.result.0.1.height s3 s4 q.ne_height c.in_ok-ne.ensures.keeps) in
+    let k3 = keeps_on (0 + m + m) m s0 s4 s5 k2 (room_below h c.quarters_to_combine.result.0.2.height s4 s5 q.sw_height c.in_ok-sw.ensures.keeps) in
+    let k4 = keeps_on (0 + m + m + m) m s0 s5 s6 k3 (room_below h c.quarters_to_combine.result.0.3.height s5 s6 q.se_height c.in_err-se.ensures.keeps) in
     let r = rooms-next h c.requires.over in
-    let l : 0 + 0 + m + m + m + m ≤ quad_room h = omega (arith, r) in
-    keeps_most (0 + 0 + m + m + m + m) (quad_room h) s0 s6 l k4
+    let l : 0 + m + m + m + m ≤ quad_room h = omega (arith, r) in
+    keeps_most (0 + m + m + m + m) (quad_room h) s0 s6 l k4
 
-pub combined_over-corner-requires-clause-nw_stands : goal.combined_over-corner-requires-clause-nw_stands
-combined_over-corner-requires-clause-nw_stands t c =
+pub combined_by_quarters-corner-requires-clause-nw_stands : goal.combined_by_quarters-corner-requires-clause-nw_stands
+combined_by_quarters-corner-requires-clause-nw_stands t c =
     let s0 = c.args.nodes.now in
-    let s1 = c.found_before.new.nodes in
     let s2 = c.quarters_to_combine.new.nodes in
     let s3 = c.combined.new.nodes in
     let s4 = c.combined-2.new.nodes in
@@ -136,10 +123,9 @@ combined_over-corner-requires-clause-nw_stands t c =
     let s6 = c.combined-4.new.nodes in
     (quad_stays _ s5 s6 c.in_ok-nw.nw c.in_ok-se.ensures.keeps (quad_stays _ s4 s5 c.in_ok-nw.nw c.in_ok-sw.ensures.keeps (quad_stays _ s3 s4 c.in_ok-nw.nw c.in_ok-ne.ensures.keeps c.in_ok-nw.ensures.value.stands)))
 
-pub combined_over-corner-requires-clause-ne_stands : goal.combined_over-corner-requires-clause-ne_stands
-combined_over-corner-requires-clause-ne_stands t c =
+pub combined_by_quarters-corner-requires-clause-ne_stands : goal.combined_by_quarters-corner-requires-clause-ne_stands
+combined_by_quarters-corner-requires-clause-ne_stands t c =
     let s0 = c.args.nodes.now in
-    let s1 = c.found_before.new.nodes in
     let s2 = c.quarters_to_combine.new.nodes in
     let s3 = c.combined.new.nodes in
     let s4 = c.combined-2.new.nodes in
@@ -147,10 +133,9 @@ combined_over-corner-requires-clause-ne_stands t c =
     let s6 = c.combined-4.new.nodes in
     (quad_stays _ s5 s6 c.in_ok-ne.ne c.in_ok-se.ensures.keeps (quad_stays _ s4 s5 c.in_ok-ne.ne c.in_ok-sw.ensures.keeps c.in_ok-ne.ensures.value.stands))
 
-pub combined_over-corner-requires-clause-sw_stands : goal.combined_over-corner-requires-clause-sw_stands
-combined_over-corner-requires-clause-sw_stands t c =
+pub combined_by_quarters-corner-requires-clause-sw_stands : goal.combined_by_quarters-corner-requires-clause-sw_stands
+combined_by_quarters-corner-requires-clause-sw_stands t c =
     let s0 = c.args.nodes.now in
-    let s1 = c.found_before.new.nodes in
     let s2 = c.quarters_to_combine.new.nodes in
     let s3 = c.combined.new.nodes in
     let s4 = c.combined-2.new.nodes in
@@ -158,10 +143,9 @@ combined_over-corner-requires-clause-sw_stands t c =
     let s6 = c.combined-4.new.nodes in
     (quad_stays _ s5 s6 c.in_ok-sw.sw c.in_ok-se.ensures.keeps c.in_ok-sw.ensures.value.stands)
 
-pub combined_over-returns-in_err-found-clause-keeps : goal.combined_over-returns-in_err-found-clause-keeps
-combined_over-returns-in_err-found-clause-keeps t c =
+pub combined_by_quarters-returns-in_err-found-clause-keeps : goal.combined_by_quarters-returns-in_err-found-clause-keeps
+combined_by_quarters-returns-in_err-found-clause-keeps t c =
     let s0 = c.args.nodes.now in
-    let s1 = c.found_before.new.nodes in
     let s2 = c.quarters_to_combine.new.nodes in
     let s3 = c.combined.new.nodes in
     let s4 = c.combined-2.new.nodes in
@@ -171,20 +155,19 @@ combined_over-returns-in_err-found-clause-keeps t c =
     let q = c.quarters_to_combine.ensures.first in
     let h : ℕ = c.args.a.height in
     let m : ℕ = quad_room (h - 1) in
-    let k0 = keeps_on 0 0 s0 s1 s2 c.found_before.ensures.reads.keeps c.quarters_to_combine.ensures.reads.keeps in
-    let k1 = keeps_on (0 + 0) m s0 s2 s3 k0 (room_below h c.quarters_to_combine.result.0.0.height s2 s3 q.nw_height c.in_ok-nw.ensures.keeps) in
-    let k2 = keeps_on (0 + 0 + m) m s0 s3 s4 k1 (room_below h c.quarters_to_combine.result.0.1.height s3 s4 q.ne_height c.in_ok-ne.ensures.keeps) in
-    let k3 = keeps_on (0 + 0 + m + m) m s0 s4 s5 k2 (room_below h c.quarters_to_combine.result.0.2.height s4 s5 q.sw_height c.in_ok-sw.ensures.keeps) in
-    let k4 = keeps_on (0 + 0 + m + m + m) m s0 s5 s6 k3 (room_below h c.quarters_to_combine.result.0.3.height s5 s6 q.se_height c.in_ok-se.ensures.keeps) in
+    let k0 = c.quarters_to_combine.ensures.reads.keeps in
+    let k1 = keeps_on 0 m s0 s2 s3 k0 (room_below h c.quarters_to_combine.result.0.0.height s2 s3 q.nw_height c.in_ok-nw.ensures.keeps) in
+    let k2 = keeps_on (0 + m) m s0 s3 s4 k1 (room_below h c.quarters_to_combine.result.0.1.height s3 s4 q.ne_height c.in_ok-ne.ensures.keeps) in
+    let k3 = keeps_on (0 + m + m) m s0 s4 s5 k2 (room_below h c.quarters_to_combine.result.0.2.height s4 s5 q.sw_height c.in_ok-sw.ensures.keeps) in
+    let k4 = keeps_on (0 + m + m + m) m s0 s5 s6 k3 (room_below h c.quarters_to_combine.result.0.3.height s5 s6 q.se_height c.in_ok-se.ensures.keeps) in
     let r = rooms-next h c.requires.over in
-    let k5 = keeps_on (0 + 0 + m + m + m + m) 3 s0 s6 s7 k4 c.in_err-found.ensures.keeps in
-    let l : 0 + 0 + m + m + m + m + 3 ≤ quad_room h = omega (arith, r) in
-    keeps_most (0 + 0 + m + m + m + m + 3) (quad_room h) s0 s7 l k5
+    let k5 = keeps_on (0 + m + m + m + m) 3 s0 s6 s7 k4 c.in_err-found.ensures.keeps in
+    let l : 0 + m + m + m + m + 3 ≤ quad_room h = omega (arith, r) in
+    keeps_most (0 + m + m + m + m + 3) (quad_room h) s0 s7 l k5
 
-pub combined_over-returns-clause-keeps : goal.combined_over-returns-clause-keeps
-combined_over-returns-clause-keeps t c =
+pub combined_by_quarters-returns-clause-keeps : goal.combined_by_quarters-returns-clause-keeps
+combined_by_quarters-returns-clause-keeps t c =
     let s0 = c.args.nodes.now in
-    let s1 = c.found_before.new.nodes in
     let s2 = c.quarters_to_combine.new.nodes in
     let s3 = c.combined.new.nodes in
     let s4 = c.combined-2.new.nodes in
@@ -195,21 +178,20 @@ combined_over-returns-clause-keeps t c =
     let q = c.quarters_to_combine.ensures.first in
     let h : ℕ = c.args.a.height in
     let m : ℕ = quad_room (h - 1) in
-    let k0 = keeps_on 0 0 s0 s1 s2 c.found_before.ensures.reads.keeps c.quarters_to_combine.ensures.reads.keeps in
-    let k1 = keeps_on (0 + 0) m s0 s2 s3 k0 (room_below h c.quarters_to_combine.result.0.0.height s2 s3 q.nw_height c.in_ok-nw.ensures.keeps) in
-    let k2 = keeps_on (0 + 0 + m) m s0 s3 s4 k1 (room_below h c.quarters_to_combine.result.0.1.height s3 s4 q.ne_height c.in_ok-ne.ensures.keeps) in
-    let k3 = keeps_on (0 + 0 + m + m) m s0 s4 s5 k2 (room_below h c.quarters_to_combine.result.0.2.height s4 s5 q.sw_height c.in_ok-sw.ensures.keeps) in
-    let k4 = keeps_on (0 + 0 + m + m + m) m s0 s5 s6 k3 (room_below h c.quarters_to_combine.result.0.3.height s5 s6 q.se_height c.in_ok-se.ensures.keeps) in
+    let k0 = c.quarters_to_combine.ensures.reads.keeps in
+    let k1 = keeps_on 0 m s0 s2 s3 k0 (room_below h c.quarters_to_combine.result.0.0.height s2 s3 q.nw_height c.in_ok-nw.ensures.keeps) in
+    let k2 = keeps_on (0 + m) m s0 s3 s4 k1 (room_below h c.quarters_to_combine.result.0.1.height s3 s4 q.ne_height c.in_ok-ne.ensures.keeps) in
+    let k3 = keeps_on (0 + m + m) m s0 s4 s5 k2 (room_below h c.quarters_to_combine.result.0.2.height s4 s5 q.sw_height c.in_ok-sw.ensures.keeps) in
+    let k4 = keeps_on (0 + m + m + m) m s0 s5 s6 k3 (room_below h c.quarters_to_combine.result.0.3.height s5 s6 q.se_height c.in_ok-se.ensures.keeps) in
     let r = rooms-next h c.requires.over in
-    let k5 = keeps_on (0 + 0 + m + m + m + m) 3 s0 s6 s7 k4 c.in_ok-found.ensures.keeps in
-    let k6 = keeps_on (0 + 0 + m + m + m + m + 3) 0 s0 s7 s8 k5 c.note.ensures.reads.keeps in
-    let l : 0 + 0 + m + m + m + m + 3 + 0 ≤ quad_room h = omega (arith, r) in
-    keeps_most (0 + 0 + m + m + m + m + 3 + 0) (quad_room h) s0 s8 l k6
+    let k5 = keeps_on (0 + m + m + m + m) 3 s0 s6 s7 k4 c.in_ok-found.ensures.keeps in
+    let k6 = keeps_on (0 + m + m + m + m + 3) 0 s0 s7 s8 k5 c.note.ensures.reads.keeps in
+    let l : 0 + m + m + m + m + 3 + 0 ≤ quad_room h = omega (arith, r) in
+    keeps_most (0 + m + m + m + m + 3 + 0) (quad_room h) s0 s8 l k6
 
-pub combined_over-note-requires-clause-a_stands : goal.combined_over-note-requires-clause-a_stands
-combined_over-note-requires-clause-a_stands t c =
+pub combined_by_quarters-note-requires-clause-a_stands : goal.combined_by_quarters-note-requires-clause-a_stands
+combined_by_quarters-note-requires-clause-a_stands t c =
     let s0 = c.args.nodes.now in
-    let s1 = c.found_before.new.nodes in
     let s2 = c.quarters_to_combine.new.nodes in
     let s3 = c.combined.new.nodes in
     let s4 = c.combined-2.new.nodes in
@@ -219,18 +201,17 @@ combined_over-note-requires-clause-a_stands t c =
     let q = c.quarters_to_combine.ensures.first in
     let h : ℕ = c.args.a.height in
     let m : ℕ = quad_room (h - 1) in
-    let k0 = keeps_on 0 0 s0 s1 s2 c.found_before.ensures.reads.keeps c.quarters_to_combine.ensures.reads.keeps in
-    let k1 = keeps_on (0 + 0) m s0 s2 s3 k0 (room_below h c.quarters_to_combine.result.0.0.height s2 s3 q.nw_height c.in_ok-nw.ensures.keeps) in
-    let k2 = keeps_on (0 + 0 + m) m s0 s3 s4 k1 (room_below h c.quarters_to_combine.result.0.1.height s3 s4 q.ne_height c.in_ok-ne.ensures.keeps) in
-    let k3 = keeps_on (0 + 0 + m + m) m s0 s4 s5 k2 (room_below h c.quarters_to_combine.result.0.2.height s4 s5 q.sw_height c.in_ok-sw.ensures.keeps) in
-    let k4 = keeps_on (0 + 0 + m + m + m) m s0 s5 s6 k3 (room_below h c.quarters_to_combine.result.0.3.height s5 s6 q.se_height c.in_ok-se.ensures.keeps) in
-    let k5 = keeps_on (0 + 0 + m + m + m + m) 3 s0 s6 s7 k4 c.in_ok-found.ensures.keeps in
-    quad_stays (0 + 0 + m + m + m + m + 3) s0 s7 c.args.a k5 c.requires.a_stands
+    let k0 = c.quarters_to_combine.ensures.reads.keeps in
+    let k1 = keeps_on 0 m s0 s2 s3 k0 (room_below h c.quarters_to_combine.result.0.0.height s2 s3 q.nw_height c.in_ok-nw.ensures.keeps) in
+    let k2 = keeps_on (0 + m) m s0 s3 s4 k1 (room_below h c.quarters_to_combine.result.0.1.height s3 s4 q.ne_height c.in_ok-ne.ensures.keeps) in
+    let k3 = keeps_on (0 + m + m) m s0 s4 s5 k2 (room_below h c.quarters_to_combine.result.0.2.height s4 s5 q.sw_height c.in_ok-sw.ensures.keeps) in
+    let k4 = keeps_on (0 + m + m + m) m s0 s5 s6 k3 (room_below h c.quarters_to_combine.result.0.3.height s5 s6 q.se_height c.in_ok-se.ensures.keeps) in
+    let k5 = keeps_on (0 + m + m + m + m) 3 s0 s6 s7 k4 c.in_ok-found.ensures.keeps in
+    quad_stays (0 + m + m + m + m + 3) s0 s7 c.args.a k5 c.requires.a_stands
 
-pub combined_over-note-requires-clause-b_stands : goal.combined_over-note-requires-clause-b_stands
-combined_over-note-requires-clause-b_stands t c =
+pub combined_by_quarters-note-requires-clause-b_stands : goal.combined_by_quarters-note-requires-clause-b_stands
+combined_by_quarters-note-requires-clause-b_stands t c =
     let s0 = c.args.nodes.now in
-    let s1 = c.found_before.new.nodes in
     let s2 = c.quarters_to_combine.new.nodes in
     let s3 = c.combined.new.nodes in
     let s4 = c.combined-2.new.nodes in
@@ -240,18 +221,17 @@ combined_over-note-requires-clause-b_stands t c =
     let q = c.quarters_to_combine.ensures.first in
     let h : ℕ = c.args.a.height in
     let m : ℕ = quad_room (h - 1) in
-    let k0 = keeps_on 0 0 s0 s1 s2 c.found_before.ensures.reads.keeps c.quarters_to_combine.ensures.reads.keeps in
-    let k1 = keeps_on (0 + 0) m s0 s2 s3 k0 (room_below h c.quarters_to_combine.result.0.0.height s2 s3 q.nw_height c.in_ok-nw.ensures.keeps) in
-    let k2 = keeps_on (0 + 0 + m) m s0 s3 s4 k1 (room_below h c.quarters_to_combine.result.0.1.height s3 s4 q.ne_height c.in_ok-ne.ensures.keeps) in
-    let k3 = keeps_on (0 + 0 + m + m) m s0 s4 s5 k2 (room_below h c.quarters_to_combine.result.0.2.height s4 s5 q.sw_height c.in_ok-sw.ensures.keeps) in
-    let k4 = keeps_on (0 + 0 + m + m + m) m s0 s5 s6 k3 (room_below h c.quarters_to_combine.result.0.3.height s5 s6 q.se_height c.in_ok-se.ensures.keeps) in
-    let k5 = keeps_on (0 + 0 + m + m + m + m) 3 s0 s6 s7 k4 c.in_ok-found.ensures.keeps in
-    quad_stays (0 + 0 + m + m + m + m + 3) s0 s7 c.args.b k5 c.requires.b_stands
+    let k0 = c.quarters_to_combine.ensures.reads.keeps in
+    let k1 = keeps_on 0 m s0 s2 s3 k0 (room_below h c.quarters_to_combine.result.0.0.height s2 s3 q.nw_height c.in_ok-nw.ensures.keeps) in
+    let k2 = keeps_on (0 + m) m s0 s3 s4 k1 (room_below h c.quarters_to_combine.result.0.1.height s3 s4 q.ne_height c.in_ok-ne.ensures.keeps) in
+    let k3 = keeps_on (0 + m + m) m s0 s4 s5 k2 (room_below h c.quarters_to_combine.result.0.2.height s4 s5 q.sw_height c.in_ok-sw.ensures.keeps) in
+    let k4 = keeps_on (0 + m + m + m) m s0 s5 s6 k3 (room_below h c.quarters_to_combine.result.0.3.height s5 s6 q.se_height c.in_ok-se.ensures.keeps) in
+    let k5 = keeps_on (0 + m + m + m + m) 3 s0 s6 s7 k4 c.in_ok-found.ensures.keeps in
+    quad_stays (0 + m + m + m + m + 3) s0 s7 c.args.b k5 c.requires.b_stands
 
-pub combined_over-note-requires-clause-holds : goal.combined_over-note-requires-clause-holds
-combined_over-note-requires-clause-holds t c =
+pub combined_by_quarters-note-requires-clause-holds : goal.combined_by_quarters-note-requires-clause-holds
+combined_by_quarters-note-requires-clause-holds t c =
     let s0 = c.args.nodes.now in
-    let s1 = c.found_before.new.nodes in
     let s2 = c.quarters_to_combine.new.nodes in
     let s3 = c.combined.new.nodes in
     let s4 = c.combined-2.new.nodes in
@@ -261,21 +241,20 @@ combined_over-note-requires-clause-holds t c =
     let q = c.quarters_to_combine.ensures.first in
     let h : ℕ = c.args.a.height in
     let m : ℕ = quad_room (h - 1) in
-    let k0 = keeps_on 0 0 s0 s1 s2 c.found_before.ensures.reads.keeps c.quarters_to_combine.ensures.reads.keeps in
-    let k1 = keeps_on (0 + 0) m s0 s2 s3 k0 (room_below h c.quarters_to_combine.result.0.0.height s2 s3 q.nw_height c.in_ok-nw.ensures.keeps) in
-    let k2 = keeps_on (0 + 0 + m) m s0 s3 s4 k1 (room_below h c.quarters_to_combine.result.0.1.height s3 s4 q.ne_height c.in_ok-ne.ensures.keeps) in
-    let k3 = keeps_on (0 + 0 + m + m) m s0 s4 s5 k2 (room_below h c.quarters_to_combine.result.0.2.height s4 s5 q.sw_height c.in_ok-sw.ensures.keeps) in
-    let k4 = keeps_on (0 + 0 + m + m + m) m s0 s5 s6 k3 (room_below h c.quarters_to_combine.result.0.3.height s5 s6 q.se_height c.in_ok-se.ensures.keeps) in
-    let k5 = keeps_on (0 + 0 + m + m + m + m) 3 s0 s6 s7 k4 c.in_ok-found.ensures.keeps in
-    let v = combined_value {E = Unit {0}} _ _ _ _ c.args.op s0 s1 s2 s3 s4 s5 s6 s7 c.args.a c.args.b c.quarters_to_combine.result.0 c.quarters_to_combine.result.1 c.in_ok-nw.nw c.in_ok-ne.ne c.in_ok-sw.sw c.in_ok-se.se (Ok c.in_ok-found.found)
-    c.requires.a_stands c.requires.b_stands c.requires.one_height c.found_before.ensures.reads.keeps q c.quarters_to_combine.ensures.second c.in_ok-nw.ensures.keeps c.in_ok-ne.ensures.keeps c.in_ok-sw.ensures.keeps c.in_ok-se.ensures.keeps
+    let k0 = c.quarters_to_combine.ensures.reads.keeps in
+    let k1 = keeps_on 0 m s0 s2 s3 k0 (room_below h c.quarters_to_combine.result.0.0.height s2 s3 q.nw_height c.in_ok-nw.ensures.keeps) in
+    let k2 = keeps_on (0 + m) m s0 s3 s4 k1 (room_below h c.quarters_to_combine.result.0.1.height s3 s4 q.ne_height c.in_ok-ne.ensures.keeps) in
+    let k3 = keeps_on (0 + m + m) m s0 s4 s5 k2 (room_below h c.quarters_to_combine.result.0.2.height s4 s5 q.sw_height c.in_ok-sw.ensures.keeps) in
+    let k4 = keeps_on (0 + m + m + m) m s0 s5 s6 k3 (room_below h c.quarters_to_combine.result.0.3.height s5 s6 q.se_height c.in_ok-se.ensures.keeps) in
+    let k5 = keeps_on (0 + m + m + m + m) 3 s0 s6 s7 k4 c.in_ok-found.ensures.keeps in
+    let v = combined_value {E = Unit {0}} _ _ _ _ c.args.op s0 s2 s3 s4 s5 s6 s7 c.args.a c.args.b c.quarters_to_combine.result.0 c.quarters_to_combine.result.1 c.in_ok-nw.nw c.in_ok-ne.ne c.in_ok-sw.sw c.in_ok-se.se (Ok c.in_ok-found.found)
+    c.requires.a_stands c.requires.b_stands c.requires.one_height q c.quarters_to_combine.ensures.second c.in_ok-nw.ensures.keeps c.in_ok-ne.ensures.keeps c.in_ok-sw.ensures.keeps c.in_ok-se.ensures.keeps
     c.in_ok-nw.ensures.value c.in_ok-ne.ensures.value c.in_ok-sw.ensures.value c.in_ok-se.ensures.value c.in_ok-found.ensures.value in
-    as_equation (0 + 0 + m + m + m + m + 3) c.args.op _ s0 s7 c.args.a c.args.b c.in_ok-found.found c.op_of.ensures k5 c.requires.a_stands c.requires.b_stands v
+    as_equation (0 + m + m + m + m + 3) c.args.op _ s0 s7 c.args.a c.args.b c.in_ok-found.found c.op_of.ensures k5 c.requires.a_stands c.requires.b_stands v
 
-pub combined_over-returns-clause-value : goal.combined_over-returns-clause-value
-combined_over-returns-clause-value t c =
+pub combined_by_quarters-returns-clause-value : goal.combined_by_quarters-returns-clause-value
+combined_by_quarters-returns-clause-value t c =
     let s0 = c.args.nodes.now in
-    let s1 = c.found_before.new.nodes in
     let s2 = c.quarters_to_combine.new.nodes in
     let s3 = c.combined.new.nodes in
     let s4 = c.combined-2.new.nodes in
@@ -285,14 +264,14 @@ combined_over-returns-clause-value t c =
     let q = c.quarters_to_combine.ensures.first in
     let h : ℕ = c.args.a.height in
     let m : ℕ = quad_room (h - 1) in
-    let k0 = keeps_on 0 0 s0 s1 s2 c.found_before.ensures.reads.keeps c.quarters_to_combine.ensures.reads.keeps in
-    let k1 = keeps_on (0 + 0) m s0 s2 s3 k0 (room_below h c.quarters_to_combine.result.0.0.height s2 s3 q.nw_height c.in_ok-nw.ensures.keeps) in
-    let k2 = keeps_on (0 + 0 + m) m s0 s3 s4 k1 (room_below h c.quarters_to_combine.result.0.1.height s3 s4 q.ne_height c.in_ok-ne.ensures.keeps) in
-    let k3 = keeps_on (0 + 0 + m + m) m s0 s4 s5 k2 (room_below h c.quarters_to_combine.result.0.2.height s4 s5 q.sw_height c.in_ok-sw.ensures.keeps) in
-    let k4 = keeps_on (0 + 0 + m + m + m) m s0 s5 s6 k3 (room_below h c.quarters_to_combine.result.0.3.height s5 s6 q.se_height c.in_ok-se.ensures.keeps) in
-    let k5 = keeps_on (0 + 0 + m + m + m + m) 3 s0 s6 s7 k4 c.in_ok-found.ensures.keeps in
-    let v = combined_value {E = Unit {0}} _ _ _ _ c.args.op s0 s1 s2 s3 s4 s5 s6 s7 c.args.a c.args.b c.quarters_to_combine.result.0 c.quarters_to_combine.result.1 c.in_ok-nw.nw c.in_ok-ne.ne c.in_ok-sw.sw c.in_ok-se.se (Ok c.in_ok-found.found)
-    c.requires.a_stands c.requires.b_stands c.requires.one_height c.found_before.ensures.reads.keeps q c.quarters_to_combine.ensures.second c.in_ok-nw.ensures.keeps c.in_ok-ne.ensures.keeps c.in_ok-sw.ensures.keeps c.in_ok-se.ensures.keeps
+    let k0 = c.quarters_to_combine.ensures.reads.keeps in
+    let k1 = keeps_on 0 m s0 s2 s3 k0 (room_below h c.quarters_to_combine.result.0.0.height s2 s3 q.nw_height c.in_ok-nw.ensures.keeps) in
+    let k2 = keeps_on (0 + m) m s0 s3 s4 k1 (room_below h c.quarters_to_combine.result.0.1.height s3 s4 q.ne_height c.in_ok-ne.ensures.keeps) in
+    let k3 = keeps_on (0 + m + m) m s0 s4 s5 k2 (room_below h c.quarters_to_combine.result.0.2.height s4 s5 q.sw_height c.in_ok-sw.ensures.keeps) in
+    let k4 = keeps_on (0 + m + m + m) m s0 s5 s6 k3 (room_below h c.quarters_to_combine.result.0.3.height s5 s6 q.se_height c.in_ok-se.ensures.keeps) in
+    let k5 = keeps_on (0 + m + m + m + m) 3 s0 s6 s7 k4 c.in_ok-found.ensures.keeps in
+    let v = combined_value {E = Unit {0}} _ _ _ _ c.args.op s0 s2 s3 s4 s5 s6 s7 c.args.a c.args.b c.quarters_to_combine.result.0 c.quarters_to_combine.result.1 c.in_ok-nw.nw c.in_ok-ne.ne c.in_ok-sw.sw c.in_ok-se.se (Ok c.in_ok-found.found)
+    c.requires.a_stands c.requires.b_stands c.requires.one_height q c.quarters_to_combine.ensures.second c.in_ok-nw.ensures.keeps c.in_ok-ne.ensures.keeps c.in_ok-sw.ensures.keeps c.in_ok-se.ensures.keeps
     c.in_ok-nw.ensures.value c.in_ok-ne.ensures.value c.in_ok-sw.ensures.value c.in_ok-se.ensures.value c.in_ok-found.ensures.value in
     is_quad-stays 0 s7 c.note.new.self c.args.a.height _ c.in_ok-found.found c.note.ensures.reads.keeps v
 
@@ -320,10 +299,9 @@ combined_over-returns-in-Some-clause-stood t c q s =
     let w = c.args.nodes.now in
     found_is w c.found_before.new.nodes c.args.a.height (cells_by c.args.op (quad_cells w c.args.a) (quad_cells w c.args.b)) c.in-Some.found c.in-Some.ensures.reads c.in-Some.ensures.found q s
 
-pub combined_over-returns-in_err-nw-clause-stood : goal.combined_over-returns-in_err-nw-clause-stood
-combined_over-returns-in_err-nw-clause-stood t c q s =
+pub combined_by_quarters-returns-in_err-nw-clause-stood : goal.combined_by_quarters-returns-in_err-nw-clause-stood
+combined_by_quarters-returns-in_err-nw-clause-stood t c q s =
     let s0 = c.args.nodes.now in
-    let s1 = c.found_before.new.nodes in
     let s2 = c.quarters_to_combine.new.nodes in
     let s3 = c.combined.new.nodes in
     let fa = c.quarters_to_combine.result.0 in
@@ -332,15 +310,14 @@ combined_over-returns-in_err-nw-clause-stood t c q s =
     let qb = c.quarters_to_combine.ensures.second in
     let h : ℕ = c.quarters_to_combine.result.0.0.height in
     let op = c.args.op in
-    let d = results_stood op s0 s1 s2 c.args.a c.args.b q fa fb c.requires.a_stands c.requires.b_stands c.requires.one_height c.found_before.ensures.reads c.quarters_to_combine.ensures.reads qa qb s in
+    let d = results_stood op s0 s2 c.args.a c.args.b q fa fb c.requires.a_stands c.requires.b_stands c.requires.one_height c.quarters_to_combine.ensures.reads qa qb s in
     let k = reads_itself s2 c.quarters_to_combine.ensures.reads.keeps.after in
     let x0 = quarter_found op s2 s2 s3 h fa.0 fb.0 _ _ refl qa.nw qb.nw k d.nw_is c.in_err-nw.ensures.stood in
     absurd (not_missed s2 s3 _ _ x0)
 
-pub combined_over-returns-in_err-ne-clause-stood : goal.combined_over-returns-in_err-ne-clause-stood
-combined_over-returns-in_err-ne-clause-stood t c q s =
+pub combined_by_quarters-returns-in_err-ne-clause-stood : goal.combined_by_quarters-returns-in_err-ne-clause-stood
+combined_by_quarters-returns-in_err-ne-clause-stood t c q s =
     let s0 = c.args.nodes.now in
-    let s1 = c.found_before.new.nodes in
     let s2 = c.quarters_to_combine.new.nodes in
     let s3 = c.combined.new.nodes in
     let fa = c.quarters_to_combine.result.0 in
@@ -349,7 +326,7 @@ combined_over-returns-in_err-ne-clause-stood t c q s =
     let qb = c.quarters_to_combine.ensures.second in
     let h : ℕ = c.quarters_to_combine.result.0.0.height in
     let op = c.args.op in
-    let d = results_stood op s0 s1 s2 c.args.a c.args.b q fa fb c.requires.a_stands c.requires.b_stands c.requires.one_height c.found_before.ensures.reads c.quarters_to_combine.ensures.reads qa qb s in
+    let d = results_stood op s0 s2 c.args.a c.args.b q fa fb c.requires.a_stands c.requires.b_stands c.requires.one_height c.quarters_to_combine.ensures.reads qa qb s in
     let k = reads_itself s2 c.quarters_to_combine.ensures.reads.keeps.after in
     let x0 = quarter_found op s2 s2 s3 h fa.0 fb.0 _ _ refl qa.nw qb.nw k d.nw_is c.in_ok-nw.ensures.stood in
     let s4 = c.combined-2.new.nodes in
@@ -357,10 +334,9 @@ combined_over-returns-in_err-ne-clause-stood t c q s =
     let x1 = quarter_found op s2 s3 s4 h fa.1 fb.1 _ _ e1 qa.ne qb.ne x0.reads d.ne_is c.in_err-ne.ensures.stood in
     absurd (not_missed s2 s4 _ _ x1)
 
-pub combined_over-returns-in_err-sw-clause-stood : goal.combined_over-returns-in_err-sw-clause-stood
-combined_over-returns-in_err-sw-clause-stood t c q s =
+pub combined_by_quarters-returns-in_err-sw-clause-stood : goal.combined_by_quarters-returns-in_err-sw-clause-stood
+combined_by_quarters-returns-in_err-sw-clause-stood t c q s =
     let s0 = c.args.nodes.now in
-    let s1 = c.found_before.new.nodes in
     let s2 = c.quarters_to_combine.new.nodes in
     let s3 = c.combined.new.nodes in
     let fa = c.quarters_to_combine.result.0 in
@@ -369,7 +345,7 @@ combined_over-returns-in_err-sw-clause-stood t c q s =
     let qb = c.quarters_to_combine.ensures.second in
     let h : ℕ = c.quarters_to_combine.result.0.0.height in
     let op = c.args.op in
-    let d = results_stood op s0 s1 s2 c.args.a c.args.b q fa fb c.requires.a_stands c.requires.b_stands c.requires.one_height c.found_before.ensures.reads c.quarters_to_combine.ensures.reads qa qb s in
+    let d = results_stood op s0 s2 c.args.a c.args.b q fa fb c.requires.a_stands c.requires.b_stands c.requires.one_height c.quarters_to_combine.ensures.reads qa qb s in
     let k = reads_itself s2 c.quarters_to_combine.ensures.reads.keeps.after in
     let x0 = quarter_found op s2 s2 s3 h fa.0 fb.0 _ _ refl qa.nw qb.nw k d.nw_is c.in_ok-nw.ensures.stood in
     let s4 = c.combined-2.new.nodes in
@@ -380,10 +356,9 @@ combined_over-returns-in_err-sw-clause-stood t c q s =
     let x2 = quarter_found op s2 s4 s5 h fa.2 fb.2 _ _ e2 qa.sw qb.sw x1.reads d.sw_is c.in_err-sw.ensures.stood in
     absurd (not_missed s2 s5 _ _ x2)
 
-pub combined_over-returns-in_err-se-clause-stood : goal.combined_over-returns-in_err-se-clause-stood
-combined_over-returns-in_err-se-clause-stood t c q s =
+pub combined_by_quarters-returns-in_err-se-clause-stood : goal.combined_by_quarters-returns-in_err-se-clause-stood
+combined_by_quarters-returns-in_err-se-clause-stood t c q s =
     let s0 = c.args.nodes.now in
-    let s1 = c.found_before.new.nodes in
     let s2 = c.quarters_to_combine.new.nodes in
     let s3 = c.combined.new.nodes in
     let fa = c.quarters_to_combine.result.0 in
@@ -392,7 +367,7 @@ combined_over-returns-in_err-se-clause-stood t c q s =
     let qb = c.quarters_to_combine.ensures.second in
     let h : ℕ = c.quarters_to_combine.result.0.0.height in
     let op = c.args.op in
-    let d = results_stood op s0 s1 s2 c.args.a c.args.b q fa fb c.requires.a_stands c.requires.b_stands c.requires.one_height c.found_before.ensures.reads c.quarters_to_combine.ensures.reads qa qb s in
+    let d = results_stood op s0 s2 c.args.a c.args.b q fa fb c.requires.a_stands c.requires.b_stands c.requires.one_height c.quarters_to_combine.ensures.reads qa qb s in
     let k = reads_itself s2 c.quarters_to_combine.ensures.reads.keeps.after in
     let x0 = quarter_found op s2 s2 s3 h fa.0 fb.0 _ _ refl qa.nw qb.nw k d.nw_is c.in_ok-nw.ensures.stood in
     let s4 = c.combined-2.new.nodes in
@@ -406,10 +381,9 @@ combined_over-returns-in_err-se-clause-stood t c q s =
     let x3 = quarter_found op s2 s5 s6 h fa.3 fb.3 _ _ e3 qa.se qb.se x2.reads d.se_is c.in_err-se.ensures.stood in
     absurd (not_missed s2 s6 _ _ x3)
 
-pub combined_over-returns-in_err-found-clause-stood : goal.combined_over-returns-in_err-found-clause-stood
-combined_over-returns-in_err-found-clause-stood t c q s =
+pub combined_by_quarters-returns-in_err-found-clause-stood : goal.combined_by_quarters-returns-in_err-found-clause-stood
+combined_by_quarters-returns-in_err-found-clause-stood t c q s =
     let s0 = c.args.nodes.now in
-    let s1 = c.found_before.new.nodes in
     let s2 = c.quarters_to_combine.new.nodes in
     let s3 = c.combined.new.nodes in
     let fa = c.quarters_to_combine.result.0 in
@@ -418,7 +392,7 @@ combined_over-returns-in_err-found-clause-stood t c q s =
     let qb = c.quarters_to_combine.ensures.second in
     let h : ℕ = c.quarters_to_combine.result.0.0.height in
     let op = c.args.op in
-    let d = results_stood op s0 s1 s2 c.args.a c.args.b q fa fb c.requires.a_stands c.requires.b_stands c.requires.one_height c.found_before.ensures.reads c.quarters_to_combine.ensures.reads qa qb s in
+    let d = results_stood op s0 s2 c.args.a c.args.b q fa fb c.requires.a_stands c.requires.b_stands c.requires.one_height c.quarters_to_combine.ensures.reads qa qb s in
     let k = reads_itself s2 c.quarters_to_combine.ensures.reads.keeps.after in
     let x0 = quarter_found op s2 s2 s3 h fa.0 fb.0 _ _ refl qa.nw qb.nw k d.nw_is c.in_ok-nw.ensures.stood in
     let s4 = c.combined-2.new.nodes in
@@ -434,10 +408,9 @@ combined_over-returns-in_err-found-clause-stood t c q s =
     let z = four_found s2 s6 s7 h _ _ _ _ q c.in_ok-nw.nw c.in_ok-ne.ne c.in_ok-sw.sw c.in_ok-se.se _ d x3.reads (the_answer s2 s3 _ _ x0) (the_answer s2 s4 _ _ x1) (the_answer s2 s5 _ _ x2) (the_answer s2 s6 _ _ x3) c.in_err-found.ensures.stood in
     absurd (not_missed s2 s7 _ q z)
 
-pub combined_over-returns-clause-stood : goal.combined_over-returns-clause-stood
-combined_over-returns-clause-stood t c q s =
+pub combined_by_quarters-returns-clause-stood : goal.combined_by_quarters-returns-clause-stood
+combined_by_quarters-returns-clause-stood t c q s =
     let s0 = c.args.nodes.now in
-    let s1 = c.found_before.new.nodes in
     let s2 = c.quarters_to_combine.new.nodes in
     let s3 = c.combined.new.nodes in
     let fa = c.quarters_to_combine.result.0 in
@@ -446,7 +419,7 @@ combined_over-returns-clause-stood t c q s =
     let qb = c.quarters_to_combine.ensures.second in
     let h : ℕ = c.quarters_to_combine.result.0.0.height in
     let op = c.args.op in
-    let d = results_stood op s0 s1 s2 c.args.a c.args.b q fa fb c.requires.a_stands c.requires.b_stands c.requires.one_height c.found_before.ensures.reads c.quarters_to_combine.ensures.reads qa qb s in
+    let d = results_stood op s0 s2 c.args.a c.args.b q fa fb c.requires.a_stands c.requires.b_stands c.requires.one_height c.quarters_to_combine.ensures.reads qa qb s in
     let k = reads_itself s2 c.quarters_to_combine.ensures.reads.keeps.after in
     let x0 = quarter_found op s2 s2 s3 h fa.0 fb.0 _ _ refl qa.nw qb.nw k d.nw_is c.in_ok-nw.ensures.stood in
     let s4 = c.combined-2.new.nodes in
@@ -460,4 +433,46 @@ combined_over-returns-clause-stood t c q s =
     let x3 = quarter_found op s2 s5 s6 h fa.3 fb.3 _ _ e3 qa.se qb.se x2.reads d.se_is c.in_ok-se.ensures.stood in
     let s7 = c.corner.new.self in
     let z = four_found s2 s6 s7 h _ _ _ _ q c.in_ok-nw.nw c.in_ok-ne.ne c.in_ok-sw.sw c.in_ok-se.se _ d x3.reads (the_answer s2 s3 _ _ x0) (the_answer s2 s4 _ _ x1) (the_answer s2 s5 _ _ x2) (the_answer s2 s6 _ _ x3) c.in_ok-found.ensures.stood in
-    found_after s0 s2 s7 c.note.new.self q c.in_ok-found.found (reads_on s0 s1 s2 c.found_before.ensures.reads c.quarters_to_combine.ensures.reads) z c.note.ensures.reads
+    found_after s0 s2 s7 c.note.new.self q c.in_ok-found.found c.quarters_to_combine.ensures.reads z c.note.ensures.reads
+
+-- ---- by blocks, or by quarters
+pub combined_over-both_pay-requires-clause-a_stands : goal.combined_over-both_pay-requires-clause-a_stands
+combined_over-both_pay-requires-clause-a_stands t c = quad_stays 0 c.args.nodes.now c.found_before.new.nodes c.args.a c.found_before.ensures.reads.keeps c.requires.a_stands
+
+pub combined_over-both_pay-requires-clause-b_stands : goal.combined_over-both_pay-requires-clause-b_stands
+combined_over-both_pay-requires-clause-b_stands t c = quad_stays 0 c.args.nodes.now c.found_before.new.nodes c.args.b c.found_before.ensures.reads.keeps c.requires.b_stands
+
+pub combined_over-combined_by_blocks-requires-clause-a_stands : goal.combined_over-combined_by_blocks-requires-clause-a_stands
+combined_over-combined_by_blocks-requires-clause-a_stands t c =
+    let k = reads_on c.args.nodes.now c.found_before.new.nodes c.both_pay.new.nodes c.found_before.ensures.reads c.both_pay.ensures.reads in
+    quad_stays 0 c.args.nodes.now c.both_pay.new.nodes c.args.a k.keeps c.requires.a_stands
+
+pub combined_over-combined_by_blocks-requires-clause-b_stands : goal.combined_over-combined_by_blocks-requires-clause-b_stands
+combined_over-combined_by_blocks-requires-clause-b_stands t c =
+    let k = reads_on c.args.nodes.now c.found_before.new.nodes c.both_pay.new.nodes c.found_before.ensures.reads c.both_pay.ensures.reads in
+    quad_stays 0 c.args.nodes.now c.both_pay.new.nodes c.args.b k.keeps c.requires.b_stands
+
+pub combined_over-returns-then-both_pay-clause-value : goal.combined_over-returns-then-both_pay-clause-value
+combined_over-returns-then-both_pay-clause-value t c =
+    let k = reads_on c.args.nodes.now c.found_before.new.nodes c.both_pay.new.nodes c.found_before.ensures.reads c.both_pay.ensures.reads in
+    value_after c.args.op c.args.nodes.now c.both_pay.new.nodes c.combined_by_blocks.new.nodes c.args.a c.args.b c.combined_by_blocks.result k c.requires.a_stands c.requires.b_stands c.combined_by_blocks.ensures.value
+
+pub combined_over-returns-then-both_pay-clause-stood : goal.combined_over-returns-then-both_pay-clause-stood
+combined_over-returns-then-both_pay-clause-stood t c q s =
+    let k = reads_on c.args.nodes.now c.found_before.new.nodes c.both_pay.new.nodes c.found_before.ensures.reads c.both_pay.ensures.reads in
+    stood_after c.args.op c.args.nodes.now c.both_pay.new.nodes c.combined_by_blocks.new.nodes c.args.a c.args.b c.combined_by_blocks.result k c.requires.a_stands c.requires.b_stands c.combined_by_blocks.ensures.stood q s
+
+pub combined_over-combined_by_quarters-requires : goal.combined_over-combined_by_quarters-requires
+combined_over-combined_by_quarters-requires t c =
+    let k = reads_on c.args.nodes.now c.found_before.new.nodes c.both_pay.new.nodes c.found_before.ensures.reads c.both_pay.ensures.reads in
+    (omega arith, (quad_stays 0 c.args.nodes.now c.both_pay.new.nodes c.args.a k.keeps c.requires.a_stands, (quad_stays 0 c.args.nodes.now c.both_pay.new.nodes c.args.b k.keeps c.requires.b_stands, (c.requires.one_height, c.requires.over))))
+
+pub combined_over-returns-clause-value : goal.combined_over-returns-clause-value
+combined_over-returns-clause-value t c =
+    let k = reads_on c.args.nodes.now c.found_before.new.nodes c.both_pay.new.nodes c.found_before.ensures.reads c.both_pay.ensures.reads in
+    value_after c.args.op c.args.nodes.now c.both_pay.new.nodes c.combined_by_quarters.new.nodes c.args.a c.args.b c.combined_by_quarters.result k c.requires.a_stands c.requires.b_stands c.combined_by_quarters.ensures.value
+
+pub combined_over-returns-clause-stood : goal.combined_over-returns-clause-stood
+combined_over-returns-clause-stood t c q s =
+    let k = reads_on c.args.nodes.now c.found_before.new.nodes c.both_pay.new.nodes c.found_before.ensures.reads c.both_pay.ensures.reads in
+    stood_after c.args.op c.args.nodes.now c.both_pay.new.nodes c.combined_by_quarters.new.nodes c.args.a c.args.b c.combined_by_quarters.result k c.requires.a_stands c.requires.b_stands c.combined_by_quarters.ensures.stood q s

@@ -1,0 +1,67 @@
+//! Dense squares of 256 rows, by their blocks in tree order.
+ghost use Rattle.std.specs.Prelude.{ℕ, ◌≡◌, ◌<◌, length, slice_index, IfOk, true};
+ghost use Rattle.rel_model.specs.Cells.{block_cells};
+ghost use Rattle.rel_model.specs.Quads.{Keeper, QuadStands, IsQuad, quad_cells, ReadsQuads, KeepsQuads, Counts, quad_room};
+ghost use Rattle.quad_nodes.specs.Finding.{FindsQuad};
+ghost use Rattle.rel_boole.specs.Cellwise.{cells_by};
+
+use crate::boole::Boole;
+use crate::found::op_of;
+use crate::leaf::block_by;
+use pair_table::Missed;
+use quad_nodes::Nodes;
+use rel_model::Quad;
+use tree_blocks::{blocks_pay, gather_blocks, spill_blocks};
+
+/// Whether two quads of one height are squares of 256 rows that are quicker by blocks than by quarters.
+pub fn both_pay(nodes: &mut Nodes, a: Quad, b: Quad) -> bool
+    requires a_stands { QuadStands nodes.old a }
+    requires b_stands { QuadStands nodes.old b }
+    ensures rows { result ≡ true → a.height ≡ 8 }
+    ensures reads { ReadsQuads nodes.old nodes.new }
+{
+    if !blocks_pay(nodes, a) {
+        return false;
+    }
+    blocks_pay(nodes, b)
+}
+
+/// Writes over each block of a list what the operator makes of it and of the block at its place in another.
+fn combine_blocks(op: Boole, blocks: &mut [u64], others: &[u64])
+    requires len { length others.now ≡ length blocks.old }
+    ensures len { length blocks.new ≡ length blocks.old }
+    ensures cells { (k : ℕ) → k < length blocks.old → block_cells (slice_index blocks.new k)
+        ≡ cells_by op (block_cells (slice_index blocks.old k)) (block_cells (slice_index others.now k)) }
+{
+    'places: for place in 0..blocks.len() {
+        blocks[place] = block_by(op, blocks[place], others[place]);
+    }
+}
+
+/// Cell (i, j) where the operator holds of two squares of 256 rows there, by one operation on the words of each two
+/// blocks; the result is noted.
+///
+/// It is a call of its own, so that its blocks are on the stack once.
+#[inline(never)]
+pub fn combined_by_blocks(nodes: &mut Nodes, op: Boole, a: Quad, b: Quad) -> Result<Quad, Missed>
+    requires a_stands { QuadStands nodes.old a }
+    requires b_stands { QuadStands nodes.old b }
+    requires one_height { b.height ≡ a.height }
+    requires rows { a.height ≡ 8 }
+    ensures value { IfOk result (IsQuad nodes.new a.height
+        (cells_by op (quad_cells nodes.old a) (quad_cells nodes.old b))) }
+    ensures stood { FindsQuad nodes.old nodes.new a.height
+        (cells_by op (quad_cells nodes.old a) (quad_cells nodes.old b)) result }
+    ensures keeps { KeepsQuads (quad_room a.height) nodes.old nodes.new }
+    ensures counts { Counts nodes.old nodes.new result }
+{
+    let _ = nodes.bottom();
+    let mut blocks = [0u64; 1024];
+    let mut others = [0u64; 1024];
+    spill_blocks(nodes, a, &mut blocks);
+    spill_blocks(nodes, b, &mut others);
+    combine_blocks(op, &mut blocks, &others);
+    let found = gather_blocks(nodes, &blocks, a.height)?;
+    nodes.note(op_of(op), a, b, found);
+    Ok(found)
+}
