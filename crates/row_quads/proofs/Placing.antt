@@ -1,15 +1,15 @@
--- Quads in their places: the steps of a spill and of a gathering.
-use Rattle.std.proofs.Common.{◌≡◌, ◌<◌, ◌≤◌, ◌+◌, ◌-◌, ◌%◌, zero, suc, ℕ, Result, IfOk, refl, sym, ap, subst, ◌∙◌, arith}
+-- Quads in their places: the steps of a spill, and squares with no cell.
+use Rattle.std.proofs.Common.{◌≡◌, ◌<◌, ◌≤◌, ◌+◌, ◌-◌, ◌%◌, zero, suc, ℕ, refl, sym, ap, subst, ◌∙◌, arith}
 use Rattle.rel_model.specs.declared.Quad.{Quad}
 use Rattle.rel_model.specs.Cells.{Cells, no_cells, cells_union}
 use Rattle.rel_model.specs.Trees.{bottom_height, top_height, rows_at, twice, side, quartered}
 use Rattle.rel_model.specs.Equations.{side_of}
-use Rattle.rel_model.specs.Quads.{Keeper, IsKeeper, quad_cells, QuadStands, IsQuad, KeepsQuads, ReadsQuads, AreQuarters}
+use Rattle.rel_model.specs.Quads.{Keeper, IsKeeper, quad_cells, QuadStands, IsQuad, ReadsQuads, AreQuarters}
 use Rattle.rel_model.proofs.TreeLaws.{Within, cells_within}
 use Rattle.rel_model.proofs.Squares.{rows_at-twice, cols_at-twice}
-use Rattle.rel_model.proofs.QuadLaws.{side_of-next, empty_quad, quad_cells-stay, keeps_on, is_quad-stays, corner_value}
+use Rattle.rel_model.proofs.QuadLaws.{side_of-next, empty_quad, quad_cells-stay, keeps_on}
 use Rattle.bit_rows.specs.Places.{placed, window}
-use Rattle.bit_rows.proofs.Windows.{four_placed, window-quartered, union_none}
+use Rattle.bit_rows.proofs.Windows.{four_placed, union_none}
 
 -- ---- sides
 pub half_side : (h k : ℕ) → bottom_height < h → k + 1 ≡ h → side_of h ≡ side_of k + side_of k
@@ -62,29 +62,7 @@ spilled_four s0 s1 s2 s3 s4 q four r c m z0 z1 z2 z3 z4 s k1 k2 k3 a e f0 f1 f2 
     same_side : (h : ℕ) → h ≡ four.0.height → side_of h ≡ m
     same_side h p = ap side_of p ∙ sym e
 
--- ---- the quad of a window
-pub gathered_value : {E : Type 0} (m1 m2 m3 : ℕ) (s1 s2 s3 s4 s5 : Keeper) (h r c m : ℕ) (f : Cells) (nw ne sw se : Quad) (x : Result Quad E)
-    → bottom_height < h → m ≡ side_of (h - 1) → KeepsQuads m1 s1 s2 → KeepsQuads m2 s2 s3 → KeepsQuads m3 s3 s4
-    → IsQuad s1 (h - 1) (window r c (side_of (h - 1)) f) nw → IsQuad s2 (h - 1) (window r (c + m) (side_of (h - 1)) f) ne
-    → IsQuad s3 (h - 1) (window (r + m) c (side_of (h - 1)) f) sw → IsQuad s4 (h - 1) (window (r + m) (c + m) (side_of (h - 1)) f) se
-    → IfOk x (IsQuad s5 (nw.height + 1) (quartered (side_of nw.height) (quad_cells s4 nw) (quad_cells s4 ne) (quad_cells s4 sw) (quad_cells s4 se)))
-    → IfOk x (IsQuad s5 h (window r c (side_of h) f))
-gathered_value {E} m1 m2 m3 s1 s2 s3 s4 s5 h r c m f nw ne sw se x l e k1 k2 k3 q0 q1 q2 q3 v =
-    let k24 = keeps_on m2 m3 s2 s3 s4 k2 k3 in
-    let k14 = keeps_on m1 (m2 + m3) s1 s2 s4 k1 k24 in
-    let y0 = is_quad-stays (m1 + (m2 + m3)) s1 s4 (h - 1) _ nw k14 q0 in
-    let y1 = is_quad-stays (m2 + m3) s2 s4 (h - 1) _ ne k24 q1 in
-    let y2 = is_quad-stays m3 s3 s4 (h - 1) _ sw k3 q2 in
-    let y = corner_value {E = E} s4 s5 (h - 1) _ _ _ _ nw ne sw se x y0 y1 y2 q3 v in
-    let one : h - 1 + 1 ≡ h = omega arith in
-    let n : ℕ = side_of (h - 1) in
-    let same : quartered n (window r c n f) (window r (c + m) n f) (window (r + m) c n f) (window (r + m) (c + m) n f) ≡ window r c (side_of h) f =
-    ap (λ (k : ℕ). quartered n (window r c n f) (window r (c + k) n f) (window (r + k) c n f) (window (r + k) (c + k) n f)) e
-    ∙ sym (window-quartered n r c f)
-    ∙ ap (λ (k : ℕ). window r c k f) (sym (side_of-next h l)) in
-    subst (λ (k : ℕ). IfOk x (IsQuad s5 k (window r c (side_of h) f))) one (subst (λ (g : Cells). IfOk x (IsQuad s5 (h - 1 + 1) g)) same y)
-
--- the quad of a window with no cell
+-- ---- the quad of a window with no cell
 pub clear_value : (w : Keeper) (h r c m : ℕ) (f : Cells) → IsKeeper w → bottom_height ≤ h → h ≤ top_height → m ≡ side_of h → window r c m f ≡ no_cells
     → IsQuad w h (window r c (side_of h) f) (record { height = h; name = 0 })
 clear_value w h r c m f i l t e n = subst (λ (g : Cells). IsQuad w h g (record { height = h; name = 0 })) (sym n ∙ ap (λ (k : ℕ). window r c k f) e) (empty_quad w h 0 i l t refl)

@@ -1,7 +1,7 @@
 -- Quarters that were read before a call are quarters in it.
-use Rattle.std.proofs.Common.{◌≡◌, ◌∙◌, ℕ}
+use Rattle.std.proofs.Common.{◌∙◌}
 use Rattle.rel_model.specs.declared.Quad.{Quad}
-use Rattle.rel_model.specs.Quads.{Keeper, quad_cells, QuadStands, KeepsQuads, ReadsQuads, AreQuarters}
+use Rattle.rel_model.specs.Quads.{Keeper, QuadStands, KeepsQuads, AreQuarters}
 use Rattle.rel_model.proofs.QuadLaws.{keeps_on, keeps_itself, quad_stays, quad_cells-stay, quarters-stay}
 
 pub quarters_now : (u v w : Keeper) (q : Quad) (four : Quad × Quad × Quad × Quad) → KeepsQuads 0 u w → KeepsQuads 0 v w → QuadStands u q → AreQuarters u v q four → AreQuarters w w q four

@@ -1,5 +1,5 @@
 -- Four squares of rows, and the quads whose products are added to them.
-use Rattle.std.specs.Prelude.{◌≡◌, ℕ, length}
+use Rattle.std.specs.Prelude.{◌≡◌, length}
 use Rattle.rel_model.specs.declared.Quad.{Quad}
 use Rattle.rel_model.specs.Cells.{cells_union, cells_compose}
 use Rattle.rel_model.specs.Equations.{side_of}

@@ -1,5 +1,5 @@
 //! The quad of the cells of rows.
-ghost use Rattle.std.specs.Prelude.{◌≡◌, ◌<◌, ◌≤◌, ◌+◌, ◌%◌, length, IfOk};
+ghost use Rattle.std.specs.Prelude.{◌≡◌, ◌≤◌, ◌+◌, ◌%◌, length, IfOk};
 ghost use Rattle.rel_model.specs.Trees.{bottom_height, top_height};
 ghost use Rattle.rel_model.specs.Equations.{side_of};
 ghost use Rattle.rel_model.specs.Quads.{Keeper, IsQuad, KeepsQuads, Counts, quad_room};
@@ -7,12 +7,17 @@ ghost use Rattle.quad_nodes.specs.Finding.{FindsQuad};
 ghost use Rattle.bit_rows.specs.Rows.{rows_cells};
 ghost use Rattle.bit_rows.specs.Places.{window};
 
-use bit_rows::{Row, block_at, is_clear};
+use crate::cut::cut_square;
+use bit_rows::{Row, is_clear};
 use pair_table::Missed;
 use quad_nodes::{Nodes, side_of_height};
 use rel_model::Quad;
+use tree_blocks::gather_blocks;
 
 /// The quad of the cells of rows, from a row and a column on. A square with no cell is seen before it is cut.
+///
+/// Its blocks are on the stack, 8 KB, so this is a call of its own.
+#[inline(never)]
 pub fn gather_quad(
     nodes: &mut Nodes,
     z: &[Row],
@@ -31,18 +36,12 @@ pub fn gather_quad(
     ensures keeps { KeepsQuads (quad_room height) nodes.old nodes.new }
     ensures counts { Counts nodes.old nodes.new result }
 {
-    let bottom = nodes.bottom();
-    if height == bottom {
-        return nodes.block(block_at(z, row, col));
-    }
+    let _ = nodes.bottom();
     let side = side_of_height(height) as usize;
     if is_clear(z, row, col, side) {
         return Ok(Quad { height, name: 0 });
     }
-    let half = side_of_height(height - 1) as usize;
-    let nw = gather_quad(nodes, z, height - 1, row, col)?;
-    let ne = gather_quad(nodes, z, height - 1, row, col + half)?;
-    let sw = gather_quad(nodes, z, height - 1, row + half, col)?;
-    let se = gather_quad(nodes, z, height - 1, row + half, col + half)?;
-    nodes.corner(nw, ne, sw, se)
+    let mut blocks = [0u64; 1024];
+    cut_square(z, height, row, col, 0, &mut blocks);
+    gather_blocks(nodes, &blocks, height)
 }

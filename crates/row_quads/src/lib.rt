@@ -2,6 +2,7 @@
 #![tactic(auto)]
 
 mod compose;
+mod cut;
 mod gather;
 mod spill;
 mod squares;

@@ -1,7 +1,7 @@
 use Rattle.std.proofs.Common.{◌≡◌, ◌<◌, ◌≤◌, ◌+◌, ◌%◌, arith}
 use Rattle.rel_model.specs.Trees.{bottom_height}
 use Rattle.rel_model.specs.Equations.{side_of}
-use Rattle.rel_model.proofs.QuadLaws.{keeps_on, quad_stays, quarters-stay, reads_on}
+use Rattle.rel_model.proofs.QuadLaws.{keeps_on, quad_stays, quarters-stay}
 use Rattle.bit_rows.specs.Rows.{rows_cells}
 use Rattle.row_quads.proofs.Placing.{half_side, side_of_by_8, spilled_none, spilled_four}
 use Rattle.row_quads.proofs.Reading.{all_read, stay_read}
