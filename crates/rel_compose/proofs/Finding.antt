@@ -7,7 +7,7 @@ use Rattle.rel_model.specs.Equations.{side_of}
 use Rattle.rel_model.specs.Quads.{Keeper, IsKeeper, quad_cells, QuadStands, IsQuad, ReadsQuads, AreQuarters}
 use Rattle.rel_model.proofs.TreeLaws.{Within}
 use Rattle.rel_model.proofs.Composing.{cells_transpose-quartered}
-use Rattle.rel_model.proofs.QuadLaws.{quad_cells-stay, is_quad-stays, quarters-before, reads_itself, reads_on}
+use Rattle.rel_model.proofs.QuadLaws.{quad_cells-stay, is_quad-stays, reads_itself, reads_on}
 use Rattle.quad_nodes.specs.Finding.{Finds, FindsQuad}
 use Rattle.quad_nodes.proofs.Finding.{QuartersStood, quarters_stood, within_at, one_quad, found_later}
 use Rattle.rel_compose.proofs.Multiplying.{composed_full}
@@ -20,10 +20,8 @@ transpose-within m f a = record { row = λ i j e. a.col j i e; col = λ i j e. a
 abbrev pub TurnedStood : Keeper → Quad × Quad × Quad × Quad → Quad → Type 0
 TurnedStood w four q = QuartersStood w four.0.height q (cells_transpose (quad_cells w four.0)) (cells_transpose (quad_cells w four.2)) (cells_transpose (quad_cells w four.1)) (cells_transpose (quad_cells w four.3))
 
-pub turned_stood : (s0 s1 s2 : Keeper) (a q : Quad) (four : Quad × Quad × Quad × Quad) → QuadStands s0 a → ReadsQuads s0 s1 → ReadsQuads s1 s2 → AreQuarters s1 s2 a four → IsQuad s0 a.height (cells_transpose (quad_cells s0 a)) q → TurnedStood s2 four q
-turned_stood s0 s1 s2 a q four sa k01 k12 qa s =
-    let p = quarters-before 0 s0 s1 s2 a four k01.keeps sa qa in
-    let k = reads_on s0 s1 s2 k01 k12 in
+pub turned_stood : (s0 s2 : Keeper) (a q : Quad) (four : Quad × Quad × Quad × Quad) → QuadStands s0 a → ReadsQuads s0 s2 → AreQuarters s0 s2 a four → IsQuad s0 a.height (cells_transpose (quad_cells s0 a)) q → TurnedStood s2 four q
+turned_stood s0 s2 a q four sa k p s =
     let h : ℕ = four.0.height in
     let t = is_quad-stays 0 s0 s2 a.height _ q k.keeps s in
     let e1 : four.1.height ≡ h = (let x = p.nw_height in let y = p.ne_height in omega arith) in
@@ -31,7 +29,7 @@ turned_stood s0 s1 s2 a q four sa k01 k12 qa s =
     let e3 : four.3.height ≡ h = (let x = p.nw_height in let y = p.se_height in omega arith) in
     let same : cells_transpose (quad_cells s0 a) ≡ quartered (side_of h) (cells_transpose (quad_cells s2 four.0)) (cells_transpose (quad_cells s2 four.2)) (cells_transpose (quad_cells s2 four.1)) (cells_transpose (quad_cells s2 four.3)) =
     ap (λ (c : Cells). cells_transpose c) p.means ∙ cells_transpose-quartered (side_of h) (quad_cells s2 four.0) (quad_cells s2 four.1) (quad_cells s2 four.2) (quad_cells s2 four.3) in
-    quarters_stood s2 h q _ _ _ _ k.keeps.after qa.nw.low
+    quarters_stood s2 h q _ _ _ _ k.keeps.after p.nw.low
     (record {
       nw = transpose-within (side_of h) _ (within_at s2 h four.0 refl);
       ne = transpose-within (side_of h) _ (within_at s2 h four.2 e2);

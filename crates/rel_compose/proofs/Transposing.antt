@@ -8,7 +8,7 @@ use Rattle.rel_model.specs.Equations.{depth_of, side_of}
 use Rattle.rel_model.specs.Quads.{Keeper, IsKeeper, quad_cells, QuadStands, IsQuad, KeepsQuads, ReadsQuads, AreQuarters}
 use Rattle.rel_model.proofs.TreeLaws.{zero_stands, same_cells}
 use Rattle.rel_model.proofs.Composing.{cells_transpose-quartered}
-use Rattle.rel_model.proofs.QuadLaws.{keeps_on, keeps_itself, quad_stays, quad_cells-stay, is_quad-stays, empty_quad, quarters-before, result_later, is_quad-height, corner_value}
+use Rattle.rel_model.proofs.QuadLaws.{keeps_on, keeps_itself, quad_stays, quad_cells-stay, is_quad-stays, empty_quad, result_later, is_quad-height, corner_value}
 
 -- the quad of name 0 stands at the height of any quad
 pub none_stands : (w : Keeper) (a : Quad) → QuadStands w a → QuadStands w (record { height = a.height; name = 0 })
@@ -20,16 +20,15 @@ transposed_none w a i s e =
     let z : quad_cells w a ≡ no_cells = (empty_quad w a.height a.name i s.low s.high e).means in
     record { same_height = refl; stands = s; means = z ∙ sym (ap (λ (c : Cells). cells_transpose c) z) }
 
-pub transposed_value : {E : Type 0} (m0 m1 m2 m3 : ℕ) (s0 s1 s2 s3 s4 s5 s6 s7 : Keeper) (a : Quad) (four : Quad × Quad × Quad × Quad) (nw ne sw se : Quad) (r : Result Quad E)
-    → QuadStands s0 a → KeepsQuads 0 s0 s1 → AreQuarters s1 s2 a four
+pub transposed_value : {E : Type 0} (m0 m1 m2 m3 : ℕ) (s0 s2 s3 s4 s5 s6 s7 : Keeper) (a : Quad) (four : Quad × Quad × Quad × Quad) (nw ne sw se : Quad) (r : Result Quad E)
+    → QuadStands s0 a → AreQuarters s0 s2 a four
     → KeepsQuads m0 s2 s3 → KeepsQuads m1 s3 s4 → KeepsQuads m2 s4 s5 → KeepsQuads m3 s5 s6
     → IsQuad s3 four.0.height (cells_transpose (quad_cells s2 four.0)) nw → IsQuad s4 four.2.height (cells_transpose (quad_cells s3 four.2)) ne
     → IsQuad s5 four.1.height (cells_transpose (quad_cells s4 four.1)) sw → IsQuad s6 four.3.height (cells_transpose (quad_cells s5 four.3)) se
     → IfOk r (IsQuad s7 (nw.height + 1) (quartered (side_of nw.height) (quad_cells s6 nw) (quad_cells s6 ne) (quad_cells s6 sw) (quad_cells s6 se)))
     → IfOk r (IsQuad s7 a.height (cells_transpose (quad_cells s0 a)))
-transposed_value m0 m1 m2 m3 s0 s1 s2 s3 s4 s5 s6 s7 a four nw ne sw se (Err e) sa k01 qa k0 k1 k2 k3 r0 r1 r2 r3 v = tt
-transposed_value {E} m0 m1 m2 m3 s0 s1 s2 s3 s4 s5 s6 s7 a four nw ne sw se (Ok q) sa k01 qa k0 k1 k2 k3 r0 r1 r2 r3 v =
-    let p = quarters-before 0 s0 s1 s2 a four k01 sa qa in
+transposed_value m0 m1 m2 m3 s0 s2 s3 s4 s5 s6 s7 a four nw ne sw se (Err e) sa p k0 k1 k2 k3 r0 r1 r2 r3 v = tt
+transposed_value {E} m0 m1 m2 m3 s0 s2 s3 s4 s5 s6 s7 a four nw ne sw se (Ok q) sa p k0 k1 k2 k3 r0 r1 r2 r3 v =
     let h : ℕ = four.0.height in
     let e1 : four.1.height ≡ h = (let x = p.nw_height in let y = p.ne_height in omega arith) in
     let e2 : four.2.height ≡ h = (let x = p.nw_height in let y = p.sw_height in omega arith) in
@@ -63,3 +62,7 @@ transposed_full v w a r s f = record { same_height = refl; stands = quad_stays 0
 
 pub transposed_after : {E : Type 0} (v w z : Keeper) (a : Quad) (r : Result Quad E) → ReadsQuads v w → QuadStands v a → IfOk r (IsQuad z a.height (cells_transpose (quad_cells w a))) → IfOk r (IsQuad z a.height (cells_transpose (quad_cells v a)))
 transposed_after v w z a r k s i = subst (λ (c : Cells). IfOk r (IsQuad z a.height (cells_transpose c))) (quad_cells-stay 0 v w a k.keeps s) i
+
+-- the quad of blocks that have the cells of the transposition
+pub turned_value : (v w : Keeper) (a q : Quad) (f : Cells) → f ≡ cells_transpose (quad_cells v a) → IsQuad w a.height f q → IsQuad w a.height (cells_transpose (quad_cells v a)) q
+turned_value v w a q f e i = record { same_height = i.same_height; stands = i.stands; means = i.means ∙ e }

@@ -1,4 +1,4 @@
-//! The transposition, by quarters.
+//! The transposition, by quarters, and by blocks where that pays.
 ghost use Rattle.std.specs.Prelude.{◌≡◌, ◌<◌, IfOk};
 ghost use Rattle.rel_model.specs.Cells.{cells_transpose};
 ghost use Rattle.rel_model.specs.Trees.{bottom_height};
@@ -10,6 +10,7 @@ use memo_laws::Op;
 use pair_table::Missed;
 use quad_nodes::Nodes;
 use rel_model::Quad;
+use tree_blocks::{blocks_pay, gather_blocks, spill_turned};
 
 /// Cell (i, j) where (j, i) is in `a`.
 #[cycle(transposing)]
@@ -34,7 +35,8 @@ pub fn transpose_quad(nodes: &mut Nodes, a: Quad) -> Result<Quad, Missed>
     transposed_over(nodes, a)
 }
 
-/// The same over the blocks: what was noted is looked up, and what was not goes by quarters and is noted.
+/// The same over the blocks: what was noted is looked up, and what was not goes by blocks where it is a dense square of
+/// 256 rows, else by quarters.
 #[cycle(transposing)]
 fn transposed_over(nodes: &mut Nodes, a: Quad) -> Result<Quad, Missed>
     requires stands { QuadStands nodes.old a }
@@ -51,6 +53,50 @@ fn transposed_over(nodes: &mut Nodes, a: Quad) -> Result<Quad, Missed>
     if let Some(found) = nodes.look(Op::Transpose, a, none) {
         return Ok(found);
     }
+    if blocks_pay(nodes, a) {
+        return transposed_by_blocks(nodes, a);
+    }
+    transposed_by_quarters(nodes, a)
+}
+
+/// Cell (i, j) where (j, i) is in a square of 256 rows, by its blocks; the result is noted.
+///
+/// It is a call of its own, so that its blocks are on the stack once.
+#[inline(never)]
+fn transposed_by_blocks(nodes: &mut Nodes, a: Quad) -> Result<Quad, Missed>
+    requires stands { QuadStands nodes.old a }
+    requires rows { a.height ≡ 8 }
+    ensures value { IfOk result (IsQuad nodes.new a.height (cells_transpose (quad_cells nodes.old a))) }
+    ensures stood { FindsQuad nodes.old nodes.new a.height (cells_transpose (quad_cells nodes.old a)) result }
+    ensures keeps { KeepsQuads (quad_room a.height) nodes.old nodes.new }
+    ensures counts { Counts nodes.old nodes.new result }
+{
+    let _ = nodes.bottom();
+    let mut blocks = [0u64; 1024];
+    spill_turned(nodes, a, &mut blocks);
+    let found = gather_blocks(nodes, &blocks, a.height)?;
+    let none = Quad {
+        height: a.height,
+        name: 0,
+    };
+    nodes.note(Op::Transpose, a, none, found);
+    Ok(found)
+}
+
+/// The same by quarters; the result is noted.
+#[cycle(transposing)]
+fn transposed_by_quarters(nodes: &mut Nodes, a: Quad) -> Result<Quad, Missed>
+    requires stands { QuadStands nodes.old a }
+    requires over { bottom_height < a.height }
+    ensures value { IfOk result (IsQuad nodes.new a.height (cells_transpose (quad_cells nodes.old a))) }
+    ensures stood { FindsQuad nodes.old nodes.new a.height (cells_transpose (quad_cells nodes.old a)) result }
+    ensures keeps { KeepsQuads (quad_room a.height) nodes.old nodes.new }
+    ensures counts { Counts nodes.old nodes.new result }
+{
+    let none = Quad {
+        height: a.height,
+        name: 0,
+    };
     let (a_nw, a_ne, a_sw, a_se) = nodes.quarters_ahead(a);
     let nw = transpose_quad(nodes, a_nw)?;
     let ne = transpose_quad(nodes, a_sw)?;

@@ -29,55 +29,71 @@ transpose_quad-transposed_over-requires t c =
 pub transpose_quad-returns-clause-value : goal.transpose_quad-returns-clause-value
 transpose_quad-returns-clause-value t c = transposed_after c.args.nodes.now c.is_full.new.self c.transposed_over.new.nodes c.args.a c.transposed_over.result c.is_full.ensures.reads c.requires.stands c.transposed_over.ensures.value
 
-pub transposed_over-quarters_ahead-requires-clause-stands : goal.transposed_over-quarters_ahead-requires-clause-stands
-transposed_over-quarters_ahead-requires-clause-stands t c = quad_stays 0 c.args.nodes.now c.look.new.self c.args.a c.look.ensures.reads.keeps c.requires.stands
+pub transposed_over-blocks_pay-requires : goal.transposed_over-blocks_pay-requires
+transposed_over-blocks_pay-requires t c = record { stands = quad_stays 0 c.args.nodes.now c.look.new.self c.args.a c.look.ensures.reads.keeps c.requires.stands }
 
-pub transposed_over-returns-in_err-nw-clause-keeps : goal.transposed_over-returns-in_err-nw-clause-keeps
-transposed_over-returns-in_err-nw-clause-keeps t c =
+pub transposed_over-transposed_by_blocks-requires-clause-stands : goal.transposed_over-transposed_by_blocks-requires-clause-stands
+transposed_over-transposed_by_blocks-requires-clause-stands t c =
+    let k = reads_on c.args.nodes.now c.look.new.self c.blocks_pay.new.nodes c.look.ensures.reads c.blocks_pay.ensures.reads in
+    quad_stays 0 c.args.nodes.now c.blocks_pay.new.nodes c.args.a k.keeps c.requires.stands
+
+pub transposed_over-transposed_by_quarters-requires : goal.transposed_over-transposed_by_quarters-requires
+transposed_over-transposed_by_quarters-requires t c =
+    let k = reads_on c.args.nodes.now c.look.new.self c.blocks_pay.new.nodes c.look.ensures.reads c.blocks_pay.ensures.reads in
+    (omega arith, (quad_stays 0 c.args.nodes.now c.blocks_pay.new.nodes c.args.a k.keeps c.requires.stands, c.requires.over))
+
+pub transposed_over-returns-then-blocks_pay-clause-value : goal.transposed_over-returns-then-blocks_pay-clause-value
+transposed_over-returns-then-blocks_pay-clause-value t c =
+    let k = reads_on c.args.nodes.now c.look.new.self c.blocks_pay.new.nodes c.look.ensures.reads c.blocks_pay.ensures.reads in
+    transposed_after c.args.nodes.now c.blocks_pay.new.nodes c.transposed_by_blocks.new.nodes c.args.a c.transposed_by_blocks.result k c.requires.stands c.transposed_by_blocks.ensures.value
+
+pub transposed_over-returns-clause-value : goal.transposed_over-returns-clause-value
+transposed_over-returns-clause-value t c =
+    let k = reads_on c.args.nodes.now c.look.new.self c.blocks_pay.new.nodes c.look.ensures.reads c.blocks_pay.ensures.reads in
+    transposed_after c.args.nodes.now c.blocks_pay.new.nodes c.transposed_by_quarters.new.nodes c.args.a c.transposed_by_quarters.result k c.requires.stands c.transposed_by_quarters.ensures.value
+
+pub transposed_by_quarters-returns-in_err-nw-clause-keeps : goal.transposed_by_quarters-returns-in_err-nw-clause-keeps
+transposed_by_quarters-returns-in_err-nw-clause-keeps t c =
     let s0 = c.args.nodes.now in
-    let s1 = c.look.new.self in
     let s2 = c.quarters_ahead.new.self in
     let s3 = c.transpose_quad.new.nodes in
     let q = c.quarters_ahead.ensures.quarters in
     let h : ℕ = c.args.a.height in
     let m : ℕ = quad_room (h - 1) in
-    let k0 = keeps_on 0 0 s0 s1 s2 c.look.ensures.reads.keeps c.quarters_ahead.ensures.reads.keeps in
-    let k1 = keeps_on (0 + 0) m s0 s2 s3 k0 (room_below h c.quarters_ahead.result.0.height s2 s3 q.nw_height c.in_err-nw.ensures.keeps) in
+    let k0 = c.quarters_ahead.ensures.reads.keeps in
+    let k1 = keeps_on 0 m s0 s2 s3 k0 (room_below h c.quarters_ahead.result.0.height s2 s3 q.nw_height c.in_err-nw.ensures.keeps) in
     let r = rooms-next h c.requires.over in
-    let l : 0 + 0 + m ≤ quad_room h = omega (arith, r) in
-    keeps_most (0 + 0 + m) (quad_room h) s0 s3 l k1
+    let l : 0 + m ≤ quad_room h = omega (arith, r) in
+    keeps_most (0 + m) (quad_room h) s0 s3 l k1
 
-pub transposed_over-transpose_quad-requires-2 : goal.transposed_over-transpose_quad-requires-2
-transposed_over-transpose_quad-requires-2 t c =
+pub transposed_by_quarters-transpose_quad-requires-2 : goal.transposed_by_quarters-transpose_quad-requires-2
+transposed_by_quarters-transpose_quad-requires-2 t c =
     let s0 = c.args.nodes.now in
-    let s1 = c.look.new.self in
     let s2 = c.quarters_ahead.new.self in
     let s3 = c.transpose_quad.new.nodes in
     let q = c.quarters_ahead.ensures.quarters in
     let falls = q.sw_height in
     (omega arith, (quad_stays _ s2 s3 c.quarters_ahead.result.2 c.in_ok-nw.ensures.keeps q.sw))
 
-pub transposed_over-returns-in_err-ne-clause-keeps : goal.transposed_over-returns-in_err-ne-clause-keeps
-transposed_over-returns-in_err-ne-clause-keeps t c =
+pub transposed_by_quarters-returns-in_err-ne-clause-keeps : goal.transposed_by_quarters-returns-in_err-ne-clause-keeps
+transposed_by_quarters-returns-in_err-ne-clause-keeps t c =
     let s0 = c.args.nodes.now in
-    let s1 = c.look.new.self in
     let s2 = c.quarters_ahead.new.self in
     let s3 = c.transpose_quad.new.nodes in
     let s4 = c.transpose_quad-2.new.nodes in
     let q = c.quarters_ahead.ensures.quarters in
     let h : ℕ = c.args.a.height in
     let m : ℕ = quad_room (h - 1) in
-    let k0 = keeps_on 0 0 s0 s1 s2 c.look.ensures.reads.keeps c.quarters_ahead.ensures.reads.keeps in
-    let k1 = keeps_on (0 + 0) m s0 s2 s3 k0 (room_below h c.quarters_ahead.result.0.height s2 s3 q.nw_height c.in_ok-nw.ensures.keeps) in
-    let k2 = keeps_on (0 + 0 + m) m s0 s3 s4 k1 (room_below h c.quarters_ahead.result.2.height s3 s4 q.sw_height c.in_err-ne.ensures.keeps) in
+    let k0 = c.quarters_ahead.ensures.reads.keeps in
+    let k1 = keeps_on 0 m s0 s2 s3 k0 (room_below h c.quarters_ahead.result.0.height s2 s3 q.nw_height c.in_ok-nw.ensures.keeps) in
+    let k2 = keeps_on (0 + m) m s0 s3 s4 k1 (room_below h c.quarters_ahead.result.2.height s3 s4 q.sw_height c.in_err-ne.ensures.keeps) in
     let r = rooms-next h c.requires.over in
-    let l : 0 + 0 + m + m ≤ quad_room h = omega (arith, r) in
-    keeps_most (0 + 0 + m + m) (quad_room h) s0 s4 l k2
+    let l : 0 + m + m ≤ quad_room h = omega (arith, r) in
+    keeps_most (0 + m + m) (quad_room h) s0 s4 l k2
 
-pub transposed_over-transpose_quad-requires-3 : goal.transposed_over-transpose_quad-requires-3
-transposed_over-transpose_quad-requires-3 t c =
+pub transposed_by_quarters-transpose_quad-requires-3 : goal.transposed_by_quarters-transpose_quad-requires-3
+transposed_by_quarters-transpose_quad-requires-3 t c =
     let s0 = c.args.nodes.now in
-    let s1 = c.look.new.self in
     let s2 = c.quarters_ahead.new.self in
     let s3 = c.transpose_quad.new.nodes in
     let s4 = c.transpose_quad-2.new.nodes in
@@ -85,10 +101,9 @@ transposed_over-transpose_quad-requires-3 t c =
     let falls = q.ne_height in
     (omega arith, (quad_stays _ s3 s4 c.quarters_ahead.result.1 c.in_ok-ne.ensures.keeps (quad_stays _ s2 s3 c.quarters_ahead.result.1 c.in_ok-nw.ensures.keeps q.ne)))
 
-pub transposed_over-returns-in_err-sw-clause-keeps : goal.transposed_over-returns-in_err-sw-clause-keeps
-transposed_over-returns-in_err-sw-clause-keeps t c =
+pub transposed_by_quarters-returns-in_err-sw-clause-keeps : goal.transposed_by_quarters-returns-in_err-sw-clause-keeps
+transposed_by_quarters-returns-in_err-sw-clause-keeps t c =
     let s0 = c.args.nodes.now in
-    let s1 = c.look.new.self in
     let s2 = c.quarters_ahead.new.self in
     let s3 = c.transpose_quad.new.nodes in
     let s4 = c.transpose_quad-2.new.nodes in
@@ -96,18 +111,17 @@ transposed_over-returns-in_err-sw-clause-keeps t c =
     let q = c.quarters_ahead.ensures.quarters in
     let h : ℕ = c.args.a.height in
     let m : ℕ = quad_room (h - 1) in
-    let k0 = keeps_on 0 0 s0 s1 s2 c.look.ensures.reads.keeps c.quarters_ahead.ensures.reads.keeps in
-    let k1 = keeps_on (0 + 0) m s0 s2 s3 k0 (room_below h c.quarters_ahead.result.0.height s2 s3 q.nw_height c.in_ok-nw.ensures.keeps) in
-    let k2 = keeps_on (0 + 0 + m) m s0 s3 s4 k1 (room_below h c.quarters_ahead.result.2.height s3 s4 q.sw_height c.in_ok-ne.ensures.keeps) in
-    let k3 = keeps_on (0 + 0 + m + m) m s0 s4 s5 k2 (room_below h c.quarters_ahead.result.1.height s4 s5 q.ne_height c.in_err-sw.ensures.keeps) in
+    let k0 = c.quarters_ahead.ensures.reads.keeps in
+    let k1 = keeps_on 0 m s0 s2 s3 k0 (room_below h c.quarters_ahead.result.0.height s2 s3 q.nw_height c.in_ok-nw.ensures.keeps) in
+    let k2 = keeps_on (0 + m) m s0 s3 s4 k1 (room_below h c.quarters_ahead.result.2.height s3 s4 q.sw_height c.in_ok-ne.ensures.keeps) in
+    let k3 = keeps_on (0 + m + m) m s0 s4 s5 k2 (room_below h c.quarters_ahead.result.1.height s4 s5 q.ne_height c.in_err-sw.ensures.keeps) in
     let r = rooms-next h c.requires.over in
-    let l : 0 + 0 + m + m + m ≤ quad_room h = omega (arith, r) in
-    keeps_most (0 + 0 + m + m + m) (quad_room h) s0 s5 l k3
+    let l : 0 + m + m + m ≤ quad_room h = omega (arith, r) in
+    keeps_most (0 + m + m + m) (quad_room h) s0 s5 l k3
 
-pub transposed_over-transpose_quad-requires-4 : goal.transposed_over-transpose_quad-requires-4
-transposed_over-transpose_quad-requires-4 t c =
+pub transposed_by_quarters-transpose_quad-requires-4 : goal.transposed_by_quarters-transpose_quad-requires-4
+transposed_by_quarters-transpose_quad-requires-4 t c =
     let s0 = c.args.nodes.now in
-    let s1 = c.look.new.self in
     let s2 = c.quarters_ahead.new.self in
     let s3 = c.transpose_quad.new.nodes in
     let s4 = c.transpose_quad-2.new.nodes in
@@ -116,10 +130,9 @@ transposed_over-transpose_quad-requires-4 t c =
     let falls = q.se_height in
     (omega arith, (quad_stays _ s4 s5 c.quarters_ahead.result.3 c.in_ok-sw.ensures.keeps (quad_stays _ s3 s4 c.quarters_ahead.result.3 c.in_ok-ne.ensures.keeps (quad_stays _ s2 s3 c.quarters_ahead.result.3 c.in_ok-nw.ensures.keeps q.se))))
 
-pub transposed_over-returns-in_err-se-clause-keeps : goal.transposed_over-returns-in_err-se-clause-keeps
-transposed_over-returns-in_err-se-clause-keeps t c =
+pub transposed_by_quarters-returns-in_err-se-clause-keeps : goal.transposed_by_quarters-returns-in_err-se-clause-keeps
+transposed_by_quarters-returns-in_err-se-clause-keeps t c =
     let s0 = c.args.nodes.now in
-    let s1 = c.look.new.self in
     let s2 = c.quarters_ahead.new.self in
     let s3 = c.transpose_quad.new.nodes in
     let s4 = c.transpose_quad-2.new.nodes in
@@ -128,19 +141,18 @@ transposed_over-returns-in_err-se-clause-keeps t c =
     let q = c.quarters_ahead.ensures.quarters in
     let h : ℕ = c.args.a.height in
     let m : ℕ = quad_room (h - 1) in
-    let k0 = keeps_on 0 0 s0 s1 s2 c.look.ensures.reads.keeps c.quarters_ahead.ensures.reads.keeps in
-    let k1 = keeps_on (0 + 0) m s0 s2 s3 k0 (room_below h c.quarters_ahead.result.0.height s2 s3 q.nw_height c.in_ok-nw.ensures.keeps) in
-    let k2 = keeps_on (0 + 0 + m) m s0 s3 s4 k1 (room_below h c.quarters_ahead.result.2.height s3 s4 q.sw_height c.in_ok-ne.ensures.keeps) in
-    let k3 = keeps_on (0 + 0 + m + m) m s0 s4 s5 k2 (room_below h c.quarters_ahead.result.1.height s4 s5 q.ne_height c.in_ok-sw.ensures.keeps) in
-    let k4 = keeps_on (0 + 0 + m + m + m) m s0 s5 s6 k3 (room_below h c.quarters_ahead.result.3.height s5 s6 q.se_height c.in_err-se.ensures.keeps) in
+    let k0 = c.quarters_ahead.ensures.reads.keeps in
+    let k1 = keeps_on 0 m s0 s2 s3 k0 (room_below h c.quarters_ahead.result.0.height s2 s3 q.nw_height c.in_ok-nw.ensures.keeps) in
+    let k2 = keeps_on (0 + m) m s0 s3 s4 k1 (room_below h c.quarters_ahead.result.2.height s3 s4 q.sw_height c.in_ok-ne.ensures.keeps) in
+    let k3 = keeps_on (0 + m + m) m s0 s4 s5 k2 (room_below h c.quarters_ahead.result.1.height s4 s5 q.ne_height c.in_ok-sw.ensures.keeps) in
+    let k4 = keeps_on (0 + m + m + m) m s0 s5 s6 k3 (room_below h c.quarters_ahead.result.3.height s5 s6 q.se_height c.in_err-se.ensures.keeps) in
     let r = rooms-next h c.requires.over in
-    let l : 0 + 0 + m + m + m + m ≤ quad_room h = omega (arith, r) in
-    keeps_most (0 + 0 + m + m + m + m) (quad_room h) s0 s6 l k4
+    let l : 0 + m + m + m + m ≤ quad_room h = omega (arith, r) in
+    keeps_most (0 + m + m + m + m) (quad_room h) s0 s6 l k4
 
-pub transposed_over-corner-requires-clause-nw_stands : goal.transposed_over-corner-requires-clause-nw_stands
-transposed_over-corner-requires-clause-nw_stands t c =
+pub transposed_by_quarters-corner-requires-clause-nw_stands : goal.transposed_by_quarters-corner-requires-clause-nw_stands
+transposed_by_quarters-corner-requires-clause-nw_stands t c =
     let s0 = c.args.nodes.now in
-    let s1 = c.look.new.self in
     let s2 = c.quarters_ahead.new.self in
     let s3 = c.transpose_quad.new.nodes in
     let s4 = c.transpose_quad-2.new.nodes in
@@ -148,10 +160,9 @@ transposed_over-corner-requires-clause-nw_stands t c =
     let s6 = c.transpose_quad-4.new.nodes in
     (quad_stays _ s5 s6 c.in_ok-nw.nw c.in_ok-se.ensures.keeps (quad_stays _ s4 s5 c.in_ok-nw.nw c.in_ok-sw.ensures.keeps (quad_stays _ s3 s4 c.in_ok-nw.nw c.in_ok-ne.ensures.keeps c.in_ok-nw.ensures.value.stands)))
 
-pub transposed_over-corner-requires-clause-ne_stands : goal.transposed_over-corner-requires-clause-ne_stands
-transposed_over-corner-requires-clause-ne_stands t c =
+pub transposed_by_quarters-corner-requires-clause-ne_stands : goal.transposed_by_quarters-corner-requires-clause-ne_stands
+transposed_by_quarters-corner-requires-clause-ne_stands t c =
     let s0 = c.args.nodes.now in
-    let s1 = c.look.new.self in
     let s2 = c.quarters_ahead.new.self in
     let s3 = c.transpose_quad.new.nodes in
     let s4 = c.transpose_quad-2.new.nodes in
@@ -159,10 +170,9 @@ transposed_over-corner-requires-clause-ne_stands t c =
     let s6 = c.transpose_quad-4.new.nodes in
     (quad_stays _ s5 s6 c.in_ok-ne.ne c.in_ok-se.ensures.keeps (quad_stays _ s4 s5 c.in_ok-ne.ne c.in_ok-sw.ensures.keeps c.in_ok-ne.ensures.value.stands))
 
-pub transposed_over-corner-requires-clause-sw_stands : goal.transposed_over-corner-requires-clause-sw_stands
-transposed_over-corner-requires-clause-sw_stands t c =
+pub transposed_by_quarters-corner-requires-clause-sw_stands : goal.transposed_by_quarters-corner-requires-clause-sw_stands
+transposed_by_quarters-corner-requires-clause-sw_stands t c =
     let s0 = c.args.nodes.now in
-    let s1 = c.look.new.self in
     let s2 = c.quarters_ahead.new.self in
     let s3 = c.transpose_quad.new.nodes in
     let s4 = c.transpose_quad-2.new.nodes in
@@ -170,10 +180,9 @@ transposed_over-corner-requires-clause-sw_stands t c =
     let s6 = c.transpose_quad-4.new.nodes in
     (quad_stays _ s5 s6 c.in_ok-sw.sw c.in_ok-se.ensures.keeps c.in_ok-sw.ensures.value.stands)
 
-pub transposed_over-returns-in_err-found-clause-keeps : goal.transposed_over-returns-in_err-found-clause-keeps
-transposed_over-returns-in_err-found-clause-keeps t c =
+pub transposed_by_quarters-returns-in_err-found-clause-keeps : goal.transposed_by_quarters-returns-in_err-found-clause-keeps
+transposed_by_quarters-returns-in_err-found-clause-keeps t c =
     let s0 = c.args.nodes.now in
-    let s1 = c.look.new.self in
     let s2 = c.quarters_ahead.new.self in
     let s3 = c.transpose_quad.new.nodes in
     let s4 = c.transpose_quad-2.new.nodes in
@@ -183,20 +192,19 @@ transposed_over-returns-in_err-found-clause-keeps t c =
     let q = c.quarters_ahead.ensures.quarters in
     let h : ℕ = c.args.a.height in
     let m : ℕ = quad_room (h - 1) in
-    let k0 = keeps_on 0 0 s0 s1 s2 c.look.ensures.reads.keeps c.quarters_ahead.ensures.reads.keeps in
-    let k1 = keeps_on (0 + 0) m s0 s2 s3 k0 (room_below h c.quarters_ahead.result.0.height s2 s3 q.nw_height c.in_ok-nw.ensures.keeps) in
-    let k2 = keeps_on (0 + 0 + m) m s0 s3 s4 k1 (room_below h c.quarters_ahead.result.2.height s3 s4 q.sw_height c.in_ok-ne.ensures.keeps) in
-    let k3 = keeps_on (0 + 0 + m + m) m s0 s4 s5 k2 (room_below h c.quarters_ahead.result.1.height s4 s5 q.ne_height c.in_ok-sw.ensures.keeps) in
-    let k4 = keeps_on (0 + 0 + m + m + m) m s0 s5 s6 k3 (room_below h c.quarters_ahead.result.3.height s5 s6 q.se_height c.in_ok-se.ensures.keeps) in
+    let k0 = c.quarters_ahead.ensures.reads.keeps in
+    let k1 = keeps_on 0 m s0 s2 s3 k0 (room_below h c.quarters_ahead.result.0.height s2 s3 q.nw_height c.in_ok-nw.ensures.keeps) in
+    let k2 = keeps_on (0 + m) m s0 s3 s4 k1 (room_below h c.quarters_ahead.result.2.height s3 s4 q.sw_height c.in_ok-ne.ensures.keeps) in
+    let k3 = keeps_on (0 + m + m) m s0 s4 s5 k2 (room_below h c.quarters_ahead.result.1.height s4 s5 q.ne_height c.in_ok-sw.ensures.keeps) in
+    let k4 = keeps_on (0 + m + m + m) m s0 s5 s6 k3 (room_below h c.quarters_ahead.result.3.height s5 s6 q.se_height c.in_ok-se.ensures.keeps) in
     let r = rooms-next h c.requires.over in
-    let k5 = keeps_on (0 + 0 + m + m + m + m) 3 s0 s6 s7 k4 c.in_err-found.ensures.keeps in
-    let l : 0 + 0 + m + m + m + m + 3 ≤ quad_room h = omega (arith, r) in
-    keeps_most (0 + 0 + m + m + m + m + 3) (quad_room h) s0 s7 l k5
+    let k5 = keeps_on (0 + m + m + m + m) 3 s0 s6 s7 k4 c.in_err-found.ensures.keeps in
+    let l : 0 + m + m + m + m + 3 ≤ quad_room h = omega (arith, r) in
+    keeps_most (0 + m + m + m + m + 3) (quad_room h) s0 s7 l k5
 
-pub transposed_over-returns-clause-keeps : goal.transposed_over-returns-clause-keeps
-transposed_over-returns-clause-keeps t c =
+pub transposed_by_quarters-returns-clause-keeps : goal.transposed_by_quarters-returns-clause-keeps
+transposed_by_quarters-returns-clause-keeps t c =
     let s0 = c.args.nodes.now in
-    let s1 = c.look.new.self in
     let s2 = c.quarters_ahead.new.self in
     let s3 = c.transpose_quad.new.nodes in
     let s4 = c.transpose_quad-2.new.nodes in
@@ -207,21 +215,20 @@ transposed_over-returns-clause-keeps t c =
     let q = c.quarters_ahead.ensures.quarters in
     let h : ℕ = c.args.a.height in
     let m : ℕ = quad_room (h - 1) in
-    let k0 = keeps_on 0 0 s0 s1 s2 c.look.ensures.reads.keeps c.quarters_ahead.ensures.reads.keeps in
-    let k1 = keeps_on (0 + 0) m s0 s2 s3 k0 (room_below h c.quarters_ahead.result.0.height s2 s3 q.nw_height c.in_ok-nw.ensures.keeps) in
-    let k2 = keeps_on (0 + 0 + m) m s0 s3 s4 k1 (room_below h c.quarters_ahead.result.2.height s3 s4 q.sw_height c.in_ok-ne.ensures.keeps) in
-    let k3 = keeps_on (0 + 0 + m + m) m s0 s4 s5 k2 (room_below h c.quarters_ahead.result.1.height s4 s5 q.ne_height c.in_ok-sw.ensures.keeps) in
-    let k4 = keeps_on (0 + 0 + m + m + m) m s0 s5 s6 k3 (room_below h c.quarters_ahead.result.3.height s5 s6 q.se_height c.in_ok-se.ensures.keeps) in
+    let k0 = c.quarters_ahead.ensures.reads.keeps in
+    let k1 = keeps_on 0 m s0 s2 s3 k0 (room_below h c.quarters_ahead.result.0.height s2 s3 q.nw_height c.in_ok-nw.ensures.keeps) in
+    let k2 = keeps_on (0 + m) m s0 s3 s4 k1 (room_below h c.quarters_ahead.result.2.height s3 s4 q.sw_height c.in_ok-ne.ensures.keeps) in
+    let k3 = keeps_on (0 + m + m) m s0 s4 s5 k2 (room_below h c.quarters_ahead.result.1.height s4 s5 q.ne_height c.in_ok-sw.ensures.keeps) in
+    let k4 = keeps_on (0 + m + m + m) m s0 s5 s6 k3 (room_below h c.quarters_ahead.result.3.height s5 s6 q.se_height c.in_ok-se.ensures.keeps) in
     let r = rooms-next h c.requires.over in
-    let k5 = keeps_on (0 + 0 + m + m + m + m) 3 s0 s6 s7 k4 c.in_ok-found.ensures.keeps in
-    let k6 = keeps_on (0 + 0 + m + m + m + m + 3) 0 s0 s7 s8 k5 c.note.ensures.reads.keeps in
-    let l : 0 + 0 + m + m + m + m + 3 + 0 ≤ quad_room h = omega (arith, r) in
-    keeps_most (0 + 0 + m + m + m + m + 3 + 0) (quad_room h) s0 s8 l k6
+    let k5 = keeps_on (0 + m + m + m + m) 3 s0 s6 s7 k4 c.in_ok-found.ensures.keeps in
+    let k6 = keeps_on (0 + m + m + m + m + 3) 0 s0 s7 s8 k5 c.note.ensures.reads.keeps in
+    let l : 0 + m + m + m + m + 3 + 0 ≤ quad_room h = omega (arith, r) in
+    keeps_most (0 + m + m + m + m + 3 + 0) (quad_room h) s0 s8 l k6
 
-pub transposed_over-note-requires-clause-a_stands : goal.transposed_over-note-requires-clause-a_stands
-transposed_over-note-requires-clause-a_stands t c =
+pub transposed_by_quarters-note-requires-clause-a_stands : goal.transposed_by_quarters-note-requires-clause-a_stands
+transposed_by_quarters-note-requires-clause-a_stands t c =
     let s0 = c.args.nodes.now in
-    let s1 = c.look.new.self in
     let s2 = c.quarters_ahead.new.self in
     let s3 = c.transpose_quad.new.nodes in
     let s4 = c.transpose_quad-2.new.nodes in
@@ -231,18 +238,17 @@ transposed_over-note-requires-clause-a_stands t c =
     let q = c.quarters_ahead.ensures.quarters in
     let h : ℕ = c.args.a.height in
     let m : ℕ = quad_room (h - 1) in
-    let k0 = keeps_on 0 0 s0 s1 s2 c.look.ensures.reads.keeps c.quarters_ahead.ensures.reads.keeps in
-    let k1 = keeps_on (0 + 0) m s0 s2 s3 k0 (room_below h c.quarters_ahead.result.0.height s2 s3 q.nw_height c.in_ok-nw.ensures.keeps) in
-    let k2 = keeps_on (0 + 0 + m) m s0 s3 s4 k1 (room_below h c.quarters_ahead.result.2.height s3 s4 q.sw_height c.in_ok-ne.ensures.keeps) in
-    let k3 = keeps_on (0 + 0 + m + m) m s0 s4 s5 k2 (room_below h c.quarters_ahead.result.1.height s4 s5 q.ne_height c.in_ok-sw.ensures.keeps) in
-    let k4 = keeps_on (0 + 0 + m + m + m) m s0 s5 s6 k3 (room_below h c.quarters_ahead.result.3.height s5 s6 q.se_height c.in_ok-se.ensures.keeps) in
-    let k5 = keeps_on (0 + 0 + m + m + m + m) 3 s0 s6 s7 k4 c.in_ok-found.ensures.keeps in
-    quad_stays (0 + 0 + m + m + m + m + 3) s0 s7 c.args.a k5 c.requires.stands
+    let k0 = c.quarters_ahead.ensures.reads.keeps in
+    let k1 = keeps_on 0 m s0 s2 s3 k0 (room_below h c.quarters_ahead.result.0.height s2 s3 q.nw_height c.in_ok-nw.ensures.keeps) in
+    let k2 = keeps_on (0 + m) m s0 s3 s4 k1 (room_below h c.quarters_ahead.result.2.height s3 s4 q.sw_height c.in_ok-ne.ensures.keeps) in
+    let k3 = keeps_on (0 + m + m) m s0 s4 s5 k2 (room_below h c.quarters_ahead.result.1.height s4 s5 q.ne_height c.in_ok-sw.ensures.keeps) in
+    let k4 = keeps_on (0 + m + m + m) m s0 s5 s6 k3 (room_below h c.quarters_ahead.result.3.height s5 s6 q.se_height c.in_ok-se.ensures.keeps) in
+    let k5 = keeps_on (0 + m + m + m + m) 3 s0 s6 s7 k4 c.in_ok-found.ensures.keeps in
+    quad_stays (0 + m + m + m + m + 3) s0 s7 c.args.a k5 c.requires.stands
 
-pub transposed_over-note-requires-clause-b_stands : goal.transposed_over-note-requires-clause-b_stands
-transposed_over-note-requires-clause-b_stands t c =
+pub transposed_by_quarters-note-requires-clause-b_stands : goal.transposed_by_quarters-note-requires-clause-b_stands
+transposed_by_quarters-note-requires-clause-b_stands t c =
     let s0 = c.args.nodes.now in
-    let s1 = c.look.new.self in
     let s2 = c.quarters_ahead.new.self in
     let s3 = c.transpose_quad.new.nodes in
     let s4 = c.transpose_quad-2.new.nodes in
@@ -252,18 +258,17 @@ transposed_over-note-requires-clause-b_stands t c =
     let q = c.quarters_ahead.ensures.quarters in
     let h : ℕ = c.args.a.height in
     let m : ℕ = quad_room (h - 1) in
-    let k0 = keeps_on 0 0 s0 s1 s2 c.look.ensures.reads.keeps c.quarters_ahead.ensures.reads.keeps in
-    let k1 = keeps_on (0 + 0) m s0 s2 s3 k0 (room_below h c.quarters_ahead.result.0.height s2 s3 q.nw_height c.in_ok-nw.ensures.keeps) in
-    let k2 = keeps_on (0 + 0 + m) m s0 s3 s4 k1 (room_below h c.quarters_ahead.result.2.height s3 s4 q.sw_height c.in_ok-ne.ensures.keeps) in
-    let k3 = keeps_on (0 + 0 + m + m) m s0 s4 s5 k2 (room_below h c.quarters_ahead.result.1.height s4 s5 q.ne_height c.in_ok-sw.ensures.keeps) in
-    let k4 = keeps_on (0 + 0 + m + m + m) m s0 s5 s6 k3 (room_below h c.quarters_ahead.result.3.height s5 s6 q.se_height c.in_ok-se.ensures.keeps) in
-    let k5 = keeps_on (0 + 0 + m + m + m + m) 3 s0 s6 s7 k4 c.in_ok-found.ensures.keeps in
-    none_stands s7 c.args.a (quad_stays (0 + 0 + m + m + m + m + 3) s0 s7 c.args.a k5 c.requires.stands)
+    let k0 = c.quarters_ahead.ensures.reads.keeps in
+    let k1 = keeps_on 0 m s0 s2 s3 k0 (room_below h c.quarters_ahead.result.0.height s2 s3 q.nw_height c.in_ok-nw.ensures.keeps) in
+    let k2 = keeps_on (0 + m) m s0 s3 s4 k1 (room_below h c.quarters_ahead.result.2.height s3 s4 q.sw_height c.in_ok-ne.ensures.keeps) in
+    let k3 = keeps_on (0 + m + m) m s0 s4 s5 k2 (room_below h c.quarters_ahead.result.1.height s4 s5 q.ne_height c.in_ok-sw.ensures.keeps) in
+    let k4 = keeps_on (0 + m + m + m) m s0 s5 s6 k3 (room_below h c.quarters_ahead.result.3.height s5 s6 q.se_height c.in_ok-se.ensures.keeps) in
+    let k5 = keeps_on (0 + m + m + m + m) 3 s0 s6 s7 k4 c.in_ok-found.ensures.keeps in
+    none_stands s7 c.args.a (quad_stays (0 + m + m + m + m + 3) s0 s7 c.args.a k5 c.requires.stands)
 
-pub transposed_over-note-requires-clause-holds : goal.transposed_over-note-requires-clause-holds
-transposed_over-note-requires-clause-holds t c =
+pub transposed_by_quarters-note-requires-clause-holds : goal.transposed_by_quarters-note-requires-clause-holds
+transposed_by_quarters-note-requires-clause-holds t c =
     let s0 = c.args.nodes.now in
-    let s1 = c.look.new.self in
     let s2 = c.quarters_ahead.new.self in
     let s3 = c.transpose_quad.new.nodes in
     let s4 = c.transpose_quad-2.new.nodes in
@@ -273,21 +278,20 @@ transposed_over-note-requires-clause-holds t c =
     let q = c.quarters_ahead.ensures.quarters in
     let h : ℕ = c.args.a.height in
     let m : ℕ = quad_room (h - 1) in
-    let k0 = keeps_on 0 0 s0 s1 s2 c.look.ensures.reads.keeps c.quarters_ahead.ensures.reads.keeps in
-    let k1 = keeps_on (0 + 0) m s0 s2 s3 k0 (room_below h c.quarters_ahead.result.0.height s2 s3 q.nw_height c.in_ok-nw.ensures.keeps) in
-    let k2 = keeps_on (0 + 0 + m) m s0 s3 s4 k1 (room_below h c.quarters_ahead.result.2.height s3 s4 q.sw_height c.in_ok-ne.ensures.keeps) in
-    let k3 = keeps_on (0 + 0 + m + m) m s0 s4 s5 k2 (room_below h c.quarters_ahead.result.1.height s4 s5 q.ne_height c.in_ok-sw.ensures.keeps) in
-    let k4 = keeps_on (0 + 0 + m + m + m) m s0 s5 s6 k3 (room_below h c.quarters_ahead.result.3.height s5 s6 q.se_height c.in_ok-se.ensures.keeps) in
-    let k5 = keeps_on (0 + 0 + m + m + m + m) 3 s0 s6 s7 k4 c.in_ok-found.ensures.keeps in
-    let v = transposed_value {E = Unit {0}} _ _ _ _ s0 s1 s2 s3 s4 s5 s6 s7 c.args.a c.quarters_ahead.result c.in_ok-nw.nw c.in_ok-ne.ne c.in_ok-sw.sw c.in_ok-se.se (Ok c.in_ok-found.found)
-    c.requires.stands c.look.ensures.reads.keeps q c.in_ok-nw.ensures.keeps c.in_ok-ne.ensures.keeps c.in_ok-sw.ensures.keeps c.in_ok-se.ensures.keeps
+    let k0 = c.quarters_ahead.ensures.reads.keeps in
+    let k1 = keeps_on 0 m s0 s2 s3 k0 (room_below h c.quarters_ahead.result.0.height s2 s3 q.nw_height c.in_ok-nw.ensures.keeps) in
+    let k2 = keeps_on (0 + m) m s0 s3 s4 k1 (room_below h c.quarters_ahead.result.2.height s3 s4 q.sw_height c.in_ok-ne.ensures.keeps) in
+    let k3 = keeps_on (0 + m + m) m s0 s4 s5 k2 (room_below h c.quarters_ahead.result.1.height s4 s5 q.ne_height c.in_ok-sw.ensures.keeps) in
+    let k4 = keeps_on (0 + m + m + m) m s0 s5 s6 k3 (room_below h c.quarters_ahead.result.3.height s5 s6 q.se_height c.in_ok-se.ensures.keeps) in
+    let k5 = keeps_on (0 + m + m + m + m) 3 s0 s6 s7 k4 c.in_ok-found.ensures.keeps in
+    let v = transposed_value {E = Unit {0}} _ _ _ _ s0 s2 s3 s4 s5 s6 s7 c.args.a c.quarters_ahead.result c.in_ok-nw.nw c.in_ok-ne.ne c.in_ok-sw.sw c.in_ok-se.se (Ok c.in_ok-found.found)
+    c.requires.stands q c.in_ok-nw.ensures.keeps c.in_ok-ne.ensures.keeps c.in_ok-sw.ensures.keeps c.in_ok-se.ensures.keeps
     c.in_ok-nw.ensures.value c.in_ok-ne.ensures.value c.in_ok-sw.ensures.value c.in_ok-se.ensures.value c.in_ok-found.ensures.value in
-    transposed_now (0 + 0 + m + m + m + m + 3) s0 s7 c.args.a c.in_ok-found.found k5 c.requires.stands v
+    transposed_now (0 + m + m + m + m + 3) s0 s7 c.args.a c.in_ok-found.found k5 c.requires.stands v
 
-pub transposed_over-returns-clause-value : goal.transposed_over-returns-clause-value
-transposed_over-returns-clause-value t c =
+pub transposed_by_quarters-returns-clause-value : goal.transposed_by_quarters-returns-clause-value
+transposed_by_quarters-returns-clause-value t c =
     let s0 = c.args.nodes.now in
-    let s1 = c.look.new.self in
     let s2 = c.quarters_ahead.new.self in
     let s3 = c.transpose_quad.new.nodes in
     let s4 = c.transpose_quad-2.new.nodes in
@@ -297,14 +301,14 @@ transposed_over-returns-clause-value t c =
     let q = c.quarters_ahead.ensures.quarters in
     let h : ℕ = c.args.a.height in
     let m : ℕ = quad_room (h - 1) in
-    let k0 = keeps_on 0 0 s0 s1 s2 c.look.ensures.reads.keeps c.quarters_ahead.ensures.reads.keeps in
-    let k1 = keeps_on (0 + 0) m s0 s2 s3 k0 (room_below h c.quarters_ahead.result.0.height s2 s3 q.nw_height c.in_ok-nw.ensures.keeps) in
-    let k2 = keeps_on (0 + 0 + m) m s0 s3 s4 k1 (room_below h c.quarters_ahead.result.2.height s3 s4 q.sw_height c.in_ok-ne.ensures.keeps) in
-    let k3 = keeps_on (0 + 0 + m + m) m s0 s4 s5 k2 (room_below h c.quarters_ahead.result.1.height s4 s5 q.ne_height c.in_ok-sw.ensures.keeps) in
-    let k4 = keeps_on (0 + 0 + m + m + m) m s0 s5 s6 k3 (room_below h c.quarters_ahead.result.3.height s5 s6 q.se_height c.in_ok-se.ensures.keeps) in
-    let k5 = keeps_on (0 + 0 + m + m + m + m) 3 s0 s6 s7 k4 c.in_ok-found.ensures.keeps in
-    let v = transposed_value {E = Unit {0}} _ _ _ _ s0 s1 s2 s3 s4 s5 s6 s7 c.args.a c.quarters_ahead.result c.in_ok-nw.nw c.in_ok-ne.ne c.in_ok-sw.sw c.in_ok-se.se (Ok c.in_ok-found.found)
-    c.requires.stands c.look.ensures.reads.keeps q c.in_ok-nw.ensures.keeps c.in_ok-ne.ensures.keeps c.in_ok-sw.ensures.keeps c.in_ok-se.ensures.keeps
+    let k0 = c.quarters_ahead.ensures.reads.keeps in
+    let k1 = keeps_on 0 m s0 s2 s3 k0 (room_below h c.quarters_ahead.result.0.height s2 s3 q.nw_height c.in_ok-nw.ensures.keeps) in
+    let k2 = keeps_on (0 + m) m s0 s3 s4 k1 (room_below h c.quarters_ahead.result.2.height s3 s4 q.sw_height c.in_ok-ne.ensures.keeps) in
+    let k3 = keeps_on (0 + m + m) m s0 s4 s5 k2 (room_below h c.quarters_ahead.result.1.height s4 s5 q.ne_height c.in_ok-sw.ensures.keeps) in
+    let k4 = keeps_on (0 + m + m + m) m s0 s5 s6 k3 (room_below h c.quarters_ahead.result.3.height s5 s6 q.se_height c.in_ok-se.ensures.keeps) in
+    let k5 = keeps_on (0 + m + m + m + m) 3 s0 s6 s7 k4 c.in_ok-found.ensures.keeps in
+    let v = transposed_value {E = Unit {0}} _ _ _ _ s0 s2 s3 s4 s5 s6 s7 c.args.a c.quarters_ahead.result c.in_ok-nw.nw c.in_ok-ne.ne c.in_ok-sw.sw c.in_ok-se.se (Ok c.in_ok-found.found)
+    c.requires.stands q c.in_ok-nw.ensures.keeps c.in_ok-ne.ensures.keeps c.in_ok-sw.ensures.keeps c.in_ok-se.ensures.keeps
     c.in_ok-nw.ensures.value c.in_ok-ne.ensures.value c.in_ok-sw.ensures.value c.in_ok-se.ensures.value c.in_ok-found.ensures.value in
     is_quad-stays 0 s7 c.note.new.self c.args.a.height _ c.in_ok-found.found c.note.ensures.reads.keeps v
 
@@ -333,30 +337,38 @@ transposed_over-returns-in-Some-clause-stood t c q s =
     let w = c.args.nodes.now in
     found_is w c.look.new.self c.args.a.height (cells_transpose (quad_cells w c.args.a)) c.in-Some.found c.in-Some.ensures.reads c.in-Some.ensures.found q s
 
-pub transposed_over-returns-in_err-nw-clause-stood : goal.transposed_over-returns-in_err-nw-clause-stood
-transposed_over-returns-in_err-nw-clause-stood t c q s =
+pub transposed_over-returns-then-blocks_pay-clause-stood : goal.transposed_over-returns-then-blocks_pay-clause-stood
+transposed_over-returns-then-blocks_pay-clause-stood t c q s =
+    let k = reads_on c.args.nodes.now c.look.new.self c.blocks_pay.new.nodes c.look.ensures.reads c.blocks_pay.ensures.reads in
+    turned_later c.args.nodes.now c.blocks_pay.new.nodes c.transposed_by_blocks.new.nodes c.args.a c.transposed_by_blocks.result c.requires.stands k c.transposed_by_blocks.ensures.stood q s
+
+pub transposed_over-returns-clause-stood : goal.transposed_over-returns-clause-stood
+transposed_over-returns-clause-stood t c q s =
+    let k = reads_on c.args.nodes.now c.look.new.self c.blocks_pay.new.nodes c.look.ensures.reads c.blocks_pay.ensures.reads in
+    turned_later c.args.nodes.now c.blocks_pay.new.nodes c.transposed_by_quarters.new.nodes c.args.a c.transposed_by_quarters.result c.requires.stands k c.transposed_by_quarters.ensures.stood q s
+
+pub transposed_by_quarters-returns-in_err-nw-clause-stood : goal.transposed_by_quarters-returns-in_err-nw-clause-stood
+transposed_by_quarters-returns-in_err-nw-clause-stood t c q s =
     let s0 = c.args.nodes.now in
-    let s1 = c.look.new.self in
     let s2 = c.quarters_ahead.new.self in
     let s3 = c.transpose_quad.new.nodes in
     let four = c.quarters_ahead.result in
     let qa = c.quarters_ahead.ensures.quarters in
     let h : ℕ = c.quarters_ahead.result.0.height in
-    let d = turned_stood s0 s1 s2 c.args.a q four c.requires.stands c.look.ensures.reads c.quarters_ahead.ensures.reads qa s in
+    let d = turned_stood s0 s2 c.args.a q four c.requires.stands c.quarters_ahead.ensures.reads qa s in
     let k = reads_itself s2 c.quarters_ahead.ensures.reads.keeps.after in
     let x0 = turned_found s2 s2 s3 h four.0 _ _ refl qa.nw k d.nw_is c.in_err-nw.ensures.stood in
     absurd (not_missed s2 s3 _ _ x0)
 
-pub transposed_over-returns-in_err-ne-clause-stood : goal.transposed_over-returns-in_err-ne-clause-stood
-transposed_over-returns-in_err-ne-clause-stood t c q s =
+pub transposed_by_quarters-returns-in_err-ne-clause-stood : goal.transposed_by_quarters-returns-in_err-ne-clause-stood
+transposed_by_quarters-returns-in_err-ne-clause-stood t c q s =
     let s0 = c.args.nodes.now in
-    let s1 = c.look.new.self in
     let s2 = c.quarters_ahead.new.self in
     let s3 = c.transpose_quad.new.nodes in
     let four = c.quarters_ahead.result in
     let qa = c.quarters_ahead.ensures.quarters in
     let h : ℕ = c.quarters_ahead.result.0.height in
-    let d = turned_stood s0 s1 s2 c.args.a q four c.requires.stands c.look.ensures.reads c.quarters_ahead.ensures.reads qa s in
+    let d = turned_stood s0 s2 c.args.a q four c.requires.stands c.quarters_ahead.ensures.reads qa s in
     let k = reads_itself s2 c.quarters_ahead.ensures.reads.keeps.after in
     let x0 = turned_found s2 s2 s3 h four.0 _ _ refl qa.nw k d.nw_is c.in_ok-nw.ensures.stood in
     let s4 = c.transpose_quad-2.new.nodes in
@@ -364,16 +376,15 @@ transposed_over-returns-in_err-ne-clause-stood t c q s =
     let x1 = turned_found s2 s3 s4 h four.2 _ _ e1 qa.sw x0.reads d.ne_is c.in_err-ne.ensures.stood in
     absurd (not_missed s2 s4 _ _ x1)
 
-pub transposed_over-returns-in_err-sw-clause-stood : goal.transposed_over-returns-in_err-sw-clause-stood
-transposed_over-returns-in_err-sw-clause-stood t c q s =
+pub transposed_by_quarters-returns-in_err-sw-clause-stood : goal.transposed_by_quarters-returns-in_err-sw-clause-stood
+transposed_by_quarters-returns-in_err-sw-clause-stood t c q s =
     let s0 = c.args.nodes.now in
-    let s1 = c.look.new.self in
     let s2 = c.quarters_ahead.new.self in
     let s3 = c.transpose_quad.new.nodes in
     let four = c.quarters_ahead.result in
     let qa = c.quarters_ahead.ensures.quarters in
     let h : ℕ = c.quarters_ahead.result.0.height in
-    let d = turned_stood s0 s1 s2 c.args.a q four c.requires.stands c.look.ensures.reads c.quarters_ahead.ensures.reads qa s in
+    let d = turned_stood s0 s2 c.args.a q four c.requires.stands c.quarters_ahead.ensures.reads qa s in
     let k = reads_itself s2 c.quarters_ahead.ensures.reads.keeps.after in
     let x0 = turned_found s2 s2 s3 h four.0 _ _ refl qa.nw k d.nw_is c.in_ok-nw.ensures.stood in
     let s4 = c.transpose_quad-2.new.nodes in
@@ -384,16 +395,15 @@ transposed_over-returns-in_err-sw-clause-stood t c q s =
     let x2 = turned_found s2 s4 s5 h four.1 _ _ e2 qa.ne x1.reads d.sw_is c.in_err-sw.ensures.stood in
     absurd (not_missed s2 s5 _ _ x2)
 
-pub transposed_over-returns-in_err-se-clause-stood : goal.transposed_over-returns-in_err-se-clause-stood
-transposed_over-returns-in_err-se-clause-stood t c q s =
+pub transposed_by_quarters-returns-in_err-se-clause-stood : goal.transposed_by_quarters-returns-in_err-se-clause-stood
+transposed_by_quarters-returns-in_err-se-clause-stood t c q s =
     let s0 = c.args.nodes.now in
-    let s1 = c.look.new.self in
     let s2 = c.quarters_ahead.new.self in
     let s3 = c.transpose_quad.new.nodes in
     let four = c.quarters_ahead.result in
     let qa = c.quarters_ahead.ensures.quarters in
     let h : ℕ = c.quarters_ahead.result.0.height in
-    let d = turned_stood s0 s1 s2 c.args.a q four c.requires.stands c.look.ensures.reads c.quarters_ahead.ensures.reads qa s in
+    let d = turned_stood s0 s2 c.args.a q four c.requires.stands c.quarters_ahead.ensures.reads qa s in
     let k = reads_itself s2 c.quarters_ahead.ensures.reads.keeps.after in
     let x0 = turned_found s2 s2 s3 h four.0 _ _ refl qa.nw k d.nw_is c.in_ok-nw.ensures.stood in
     let s4 = c.transpose_quad-2.new.nodes in
@@ -407,16 +417,15 @@ transposed_over-returns-in_err-se-clause-stood t c q s =
     let x3 = turned_found s2 s5 s6 h four.3 _ _ e3 qa.se x2.reads d.se_is c.in_err-se.ensures.stood in
     absurd (not_missed s2 s6 _ _ x3)
 
-pub transposed_over-returns-in_err-found-clause-stood : goal.transposed_over-returns-in_err-found-clause-stood
-transposed_over-returns-in_err-found-clause-stood t c q s =
+pub transposed_by_quarters-returns-in_err-found-clause-stood : goal.transposed_by_quarters-returns-in_err-found-clause-stood
+transposed_by_quarters-returns-in_err-found-clause-stood t c q s =
     let s0 = c.args.nodes.now in
-    let s1 = c.look.new.self in
     let s2 = c.quarters_ahead.new.self in
     let s3 = c.transpose_quad.new.nodes in
     let four = c.quarters_ahead.result in
     let qa = c.quarters_ahead.ensures.quarters in
     let h : ℕ = c.quarters_ahead.result.0.height in
-    let d = turned_stood s0 s1 s2 c.args.a q four c.requires.stands c.look.ensures.reads c.quarters_ahead.ensures.reads qa s in
+    let d = turned_stood s0 s2 c.args.a q four c.requires.stands c.quarters_ahead.ensures.reads qa s in
     let k = reads_itself s2 c.quarters_ahead.ensures.reads.keeps.after in
     let x0 = turned_found s2 s2 s3 h four.0 _ _ refl qa.nw k d.nw_is c.in_ok-nw.ensures.stood in
     let s4 = c.transpose_quad-2.new.nodes in
@@ -432,16 +441,15 @@ transposed_over-returns-in_err-found-clause-stood t c q s =
     let z = four_found s2 s6 s7 h _ _ _ _ q c.in_ok-nw.nw c.in_ok-ne.ne c.in_ok-sw.sw c.in_ok-se.se _ d x3.reads (the_answer s2 s3 _ _ x0) (the_answer s2 s4 _ _ x1) (the_answer s2 s5 _ _ x2) (the_answer s2 s6 _ _ x3) c.in_err-found.ensures.stood in
     absurd (not_missed s2 s7 _ q z)
 
-pub transposed_over-returns-clause-stood : goal.transposed_over-returns-clause-stood
-transposed_over-returns-clause-stood t c q s =
+pub transposed_by_quarters-returns-clause-stood : goal.transposed_by_quarters-returns-clause-stood
+transposed_by_quarters-returns-clause-stood t c q s =
     let s0 = c.args.nodes.now in
-    let s1 = c.look.new.self in
     let s2 = c.quarters_ahead.new.self in
     let s3 = c.transpose_quad.new.nodes in
     let four = c.quarters_ahead.result in
     let qa = c.quarters_ahead.ensures.quarters in
     let h : ℕ = c.quarters_ahead.result.0.height in
-    let d = turned_stood s0 s1 s2 c.args.a q four c.requires.stands c.look.ensures.reads c.quarters_ahead.ensures.reads qa s in
+    let d = turned_stood s0 s2 c.args.a q four c.requires.stands c.quarters_ahead.ensures.reads qa s in
     let k = reads_itself s2 c.quarters_ahead.ensures.reads.keeps.after in
     let x0 = turned_found s2 s2 s3 h four.0 _ _ refl qa.nw k d.nw_is c.in_ok-nw.ensures.stood in
     let s4 = c.transpose_quad-2.new.nodes in
@@ -455,4 +463,4 @@ transposed_over-returns-clause-stood t c q s =
     let x3 = turned_found s2 s5 s6 h four.3 _ _ e3 qa.se x2.reads d.se_is c.in_ok-se.ensures.stood in
     let s7 = c.corner.new.self in
     let z = four_found s2 s6 s7 h _ _ _ _ q c.in_ok-nw.nw c.in_ok-ne.ne c.in_ok-sw.sw c.in_ok-se.se _ d x3.reads (the_answer s2 s3 _ _ x0) (the_answer s2 s4 _ _ x1) (the_answer s2 s5 _ _ x2) (the_answer s2 s6 _ _ x3) c.in_ok-found.ensures.stood in
-    found_after s0 s2 s7 c.note.new.self q c.in_ok-found.found (reads_on s0 s1 s2 c.look.ensures.reads c.quarters_ahead.ensures.reads) z c.note.ensures.reads
+    found_after s0 s2 s7 c.note.new.self q c.in_ok-found.found c.quarters_ahead.ensures.reads z c.note.ensures.reads
