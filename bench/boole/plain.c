@@ -1,5 +1,5 @@
 // The same trees, operators, probe and memory of results in plain C, for one thread and without a proof.
-// plain BITS CELLS prints what bench_boole prints. Compiled with COUNTED, it counts: behind each operator come the nodes that it made and the words that it probed, of nodes and of results, cold.
+// plain BITS CELLS prints what bench_boole prints. Compiled with BLOCKS, dense squares of 256 rows go by their blocks, as the proved operators do; without it all go by quarters. Compiled with COUNTED, it counts: behind each operator come the nodes that it made and the words that it probed, of nodes and of results, cold.
 #define _POSIX_C_SOURCE 200809L
 #include <stdint.h>
 #include <stdio.h>
@@ -80,6 +80,75 @@ static uint64_t block_by(int op, uint64_t a, uint64_t b) {
     return swap(swap(swap(a, 7, 0x00AA00AA00AA00AAull), 14, 0x0000CCCC0000CCCCull), 28, 0x00000000F0F0F0F0ull);
 }
 
+#ifdef BLOCKS
+#define ROWS 8
+#define PLACES 1024
+
+static uint32_t seen[256], weight;
+
+static void weigh(int height, uint32_t name) {
+    if (weight == 0 || weight >= 42)
+        return;
+    if (name == 0) {
+        weight = weight < 4 ? 0 : weight - 4;
+        return;
+    }
+    if (seen[name % 256] == name)
+        return;
+    seen[name % 256] = name;
+    weight++;
+    if (height < 5)
+        return;
+    uint32_t north = left(name), south = right(name);
+    weigh(height - 1, left(north));
+    weigh(height - 1, right(north));
+    weigh(height - 1, left(south));
+    weigh(height - 1, right(south));
+}
+
+static int blocks_pay(uint32_t name) {
+    memset(seen, 0, sizeof seen);
+    weight = 12;
+    weigh(ROWS, name);
+    return weight >= 42;
+}
+
+static void spill(uint32_t name, int turned, uint64_t *blocks) {
+    uint32_t names[PLACES] = {name};
+    for (int many = 1; many < PLACES; many *= 4)
+        for (int k = many - 1; k >= 0; k--) {
+            uint32_t north = left(names[k]), south = right(names[k]);
+            uint32_t ne = right(north), sw = left(south);
+            names[4 * k] = left(north);
+            names[4 * k + 1] = turned ? sw : ne;
+            names[4 * k + 2] = turned ? ne : sw;
+            names[4 * k + 3] = right(south);
+        }
+    for (int k = 0; k < PLACES; k++)
+        blocks[k] = words[names[k]];
+}
+
+static uint32_t gathered(const uint64_t *blocks) {
+    uint32_t names[PLACES];
+    for (int k = 0; k < PLACES; k++)
+        names[k] = block(blocks[k]);
+    for (int many = PLACES / 4; many > 0; many /= 4)
+        for (int k = 0; k < many; k++)
+            names[k] = corner(names[4 * k], names[4 * k + 1], names[4 * k + 2], names[4 * k + 3]);
+    return names[0];
+}
+
+static uint32_t by_blocks(int op, uint32_t a, uint32_t b) {
+    uint64_t first[PLACES], second[PLACES] = {0};
+    spill(a, op == TRANSPOSE, first);
+    if (op != TRANSPOSE)
+        spill(b, 0, second);
+    for (int k = 0; k < PLACES; k++)
+        first[k] = block_by(op, first[k], second[k]);
+    return gathered(first);
+}
+#endif
+
 static uint32_t applied(int op, int height, uint32_t a, uint32_t b) {
     switch (op) {
     case TRANSPOSE:
@@ -127,6 +196,13 @@ static uint32_t applied(int op, int height, uint32_t a, uint32_t b) {
     COUNT(probes);
     if ((*at & ~mask) == word)
         return (uint32_t)((*at & mask) >> 9);
+#ifdef BLOCKS
+    if (height == ROWS && blocks_pay(a) && (op == TRANSPOSE || blocks_pay(b))) {
+        uint32_t made_of_blocks = by_blocks(op, a, b);
+        *at = word + ((uint64_t)made_of_blocks << 9);
+        return made_of_blocks;
+    }
+#endif
     uint32_t a_north = left(a), a_south = right(a), b_north = left(b), b_south = right(b);
     uint32_t nw, ne, sw, se;
     if (op == TRANSPOSE) {
