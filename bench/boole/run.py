@@ -7,7 +7,8 @@ Prints, for each density and operator, the milliseconds of both, cold, the ratio
 where it goes by quarters alone, with the ratio to that, microseconds of both when the call is made again, and the nodes
 made and the words probed, cold, which the C program counts in a run of its own. Each time is the shortest of the rounds,
 since other work on the machine only adds to a time. Both give the same names in the same order of calls, which is checked;
-by quarters alone results have other names, since words come to their places in another order.
+by quarters alone results have other names, since words come to their places in another order. All three have their tables
+on large pages where the system gives them on request, as `./relview` asks it to.
 """
 import os
 import subprocess
@@ -15,6 +16,7 @@ import sys
 import tempfile
 
 here = os.path.dirname(os.path.abspath(__file__))
+os.environ.setdefault("GLIBC_TUNABLES", "glibc.malloc.hugetlb=1")
 program = os.path.abspath(sys.argv[1])
 rounds = int(sys.argv[2]) if len(sys.argv) > 2 else 5
 folder = tempfile.mkdtemp()
@@ -37,7 +39,7 @@ def names(lines):
 
 plain, counted, quarters = compiled("plain", "-DBLOCKS"), compiled("counted", "-DBLOCKS", "-DCOUNTED"), compiled("quarters")
 print("density  operator       cold ms: proved  plain  time  by quarters  time   again us: proved  plain   nodes made   words probed")
-for density, cells in (("0.001", 1), ("0.01", 10), ("0.1", 100)):
+for density, cells in (("0.001", 1), ("0.01", 10), ("0.1", 100), ("0.5", 500)):
     case = (22, cells)
     counts = run(counted, case)
     ours, theirs, before = [], [], []

@@ -7,7 +7,7 @@ ghost use Rattle.rel_model.specs.Quads.{Keeper, QuadStands, IsQuad, quad_cells, 
 ghost use Rattle.quad_nodes.specs.Finding.{Finds, FindsQuad, FindsNone};
 ghost use Rattle.rel_compose.specs.Products.{BothStand, IsProduct, AreProducts, quarter_room};
 
-use crate::dense::{TALLEST, rows_pay, sums_pay};
+use crate::dense::{TALLEST, asked_under, rows_pay, sums_pay};
 use crate::product::{both_full, leaf};
 use crate::rows::noted_by_rows;
 use crate::sums::noted_by_sums;
@@ -109,7 +109,8 @@ fn composed_over(nodes: &mut Nodes, a: Quad, b: Quad, tallest: u8) -> Result<Qua
     if sums_pay(nodes, a, b, false, tallest) {
         return noted_by_sums(nodes, a, b);
     }
-    by_quarters(nodes, a, b, tallest)
+    let under = asked_under(nodes, a, b, tallest);
+    by_quarters(nodes, a, b, under)
 }
 
 /// The same by quarters, and it is noted.

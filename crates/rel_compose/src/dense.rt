@@ -200,9 +200,9 @@ fn is_counted(nodes: &mut Nodes, q: Quad, join: bool) -> bool
     is_dense(nodes, q)
 }
 
-/// Counts the squares of 256 rows under a quad that are dense, or have many quads, on to those met before; a name is
-/// told from those met before by its place.
-fn dense_under(nodes: &mut Nodes, q: Quad, join: bool, seen: &mut [u32], met: u32) -> u32
+/// Counts the squares of 256 rows under a quad that are dense, or have many quads, on to those met before and up to a
+/// bound; a name is told from those met before by its place.
+fn dense_under(nodes: &mut Nodes, q: Quad, join: bool, seen: &mut [u32], met: u32, most: u32) -> u32
     requires stands { QuadStands nodes.old q }
     requires tall { 8 ≤ q.height }
     requires places { length seen.old ≡ 1024 }
@@ -210,7 +210,7 @@ fn dense_under(nodes: &mut Nodes, q: Quad, join: bool, seen: &mut [u32], met: u3
     ensures reads { ReadsQuads nodes.old nodes.new }
 {
     let _ = nodes.bottom();
-    if q.name == 0 {
+    if q.name == 0 || met >= most {
         return met;
     }
     let place = (q.name % 1024) as usize;
@@ -222,10 +222,10 @@ fn dense_under(nodes: &mut Nodes, q: Quad, join: bool, seen: &mut [u32], met: u3
         return met.saturating_add(u32::from(is_counted(nodes, q, join)));
     }
     let (nw, ne, sw, se) = nodes.quarters(q);
-    let first = dense_under(nodes, nw, join, seen, met);
-    let second = dense_under(nodes, ne, join, seen, first);
-    let third = dense_under(nodes, sw, join, seen, second);
-    dense_under(nodes, se, join, seen, third)
+    let first = dense_under(nodes, nw, join, seen, met, most);
+    let second = dense_under(nodes, ne, join, seen, first, most);
+    let third = dense_under(nodes, sw, join, seen, second, most);
+    dense_under(nodes, se, join, seen, third, most)
 }
 
 /// Whether many different squares of 256 rows under a quad are dense, or have many quads.
@@ -242,8 +242,44 @@ fn has_many(nodes: &mut Nodes, q: Quad, join: bool) -> bool
     if !may_be_dense(four) {
         return false;
     }
+    let least = least_dense(q.height);
     let mut seen = [0; 1024];
-    dense_under(nodes, q, join, &mut seen, 0) >= least_dense(q.height)
+    dense_under(nodes, q, join, &mut seen, 0, least) >= least
+}
+
+/// Whether a dense square of 256 rows is under a quad.
+///
+/// It is a call of its own, so that its array is on the stack once.
+#[inline(never)]
+fn has_dense(nodes: &mut Nodes, q: Quad) -> bool
+    requires stands { QuadStands nodes.old q }
+    requires over { 8 < q.height }
+    ensures reads { ReadsQuads nodes.old nodes.new }
+{
+    let _ = nodes.bottom();
+    let mut seen = [0; 1024];
+    dense_under(nodes, q, false, &mut seen, 0, 1) > 0
+}
+
+/// Up to which height it is asked of the squares under two squares whether rows pay, where it did not pay for these:
+/// not at all where one of them has no dense square of 256 rows, nor under squares of 128 rows, of which there are many.
+pub(crate) fn asked_under(nodes: &mut Nodes, a: Quad, b: Quad, tallest: u8) -> u8
+    requires a_stands { QuadStands nodes.old a }
+    requires b_stands { QuadStands nodes.old b }
+    requires one_height { b.height ≡ a.height }
+    ensures reads { ReadsQuads nodes.old nodes.new }
+{
+    let _ = nodes.bottom();
+    if tallest == 0 || a.height < 8 {
+        return 0;
+    }
+    if a.height == 8 || a.height > tallest {
+        return tallest;
+    }
+    if !has_dense(nodes, a) {
+        return 0;
+    }
+    if has_dense(nodes, b) { tallest } else { 0 }
 }
 
 /// Whether two quads of one height, which is at most `tallest` and over that of rows, both have many dense squares, or,

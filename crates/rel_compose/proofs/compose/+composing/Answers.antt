@@ -305,8 +305,19 @@ composed_over-noted_by_sums-requires-clause-b_stands t c =
 
 pub composed_over-by_quarters-requires : goal.composed_over-by_quarters-requires
 composed_over-by_quarters-requires t c =
+    let j = three_reads c.args.nodes.now c.look.new.self c.rows_pay.new.nodes c.sums_pay.new.nodes c.look.ensures.reads c.rows_pay.ensures.reads c.sums_pay.ensures.reads in
+    let k = reads_on c.args.nodes.now c.sums_pay.new.nodes c.asked_under-under.new.nodes j c.asked_under-under.ensures.reads in
+    (omega arith, (quad_stays 0 c.args.nodes.now c.asked_under-under.new.nodes c.args.a k.keeps c.requires.a_stands, (quad_stays 0 c.args.nodes.now c.asked_under-under.new.nodes c.args.b k.keeps c.requires.b_stands, (c.requires.one_height, c.requires.over))))
+
+pub composed_over-asked_under-under-requires-clause-a_stands : goal.composed_over-asked_under-under-requires-clause-a_stands
+composed_over-asked_under-under-requires-clause-a_stands t c =
     let k = three_reads c.args.nodes.now c.look.new.self c.rows_pay.new.nodes c.sums_pay.new.nodes c.look.ensures.reads c.rows_pay.ensures.reads c.sums_pay.ensures.reads in
-    (omega arith, (quad_stays 0 c.args.nodes.now c.sums_pay.new.nodes c.args.a k.keeps c.requires.a_stands, (quad_stays 0 c.args.nodes.now c.sums_pay.new.nodes c.args.b k.keeps c.requires.b_stands, (c.requires.one_height, c.requires.over))))
+    quad_stays 0 c.args.nodes.now c.sums_pay.new.nodes c.args.a k.keeps c.requires.a_stands
+
+pub composed_over-asked_under-under-requires-clause-b_stands : goal.composed_over-asked_under-under-requires-clause-b_stands
+composed_over-asked_under-under-requires-clause-b_stands t c =
+    let k = three_reads c.args.nodes.now c.look.new.self c.rows_pay.new.nodes c.sums_pay.new.nodes c.look.ensures.reads c.rows_pay.ensures.reads c.sums_pay.ensures.reads in
+    quad_stays 0 c.args.nodes.now c.sums_pay.new.nodes c.args.b k.keeps c.requires.b_stands
 
 pub composed_over-returns-then-rows_pay-clause-value : goal.composed_over-returns-then-rows_pay-clause-value
 composed_over-returns-then-rows_pay-clause-value t c =
@@ -320,5 +331,6 @@ composed_over-returns-then-sums_pay-clause-value t c =
 
 pub composed_over-returns-clause-value : goal.composed_over-returns-clause-value
 composed_over-returns-clause-value t c =
-    let k = three_reads c.args.nodes.now c.look.new.self c.rows_pay.new.nodes c.sums_pay.new.nodes c.look.ensures.reads c.rows_pay.ensures.reads c.sums_pay.ensures.reads in
-    composed_after c.args.nodes.now c.sums_pay.new.nodes c.by_quarters.new.nodes c.args.a c.args.b c.by_quarters.result k c.requires.a_stands c.requires.b_stands c.by_quarters.ensures.value
+    let j = three_reads c.args.nodes.now c.look.new.self c.rows_pay.new.nodes c.sums_pay.new.nodes c.look.ensures.reads c.rows_pay.ensures.reads c.sums_pay.ensures.reads in
+    let k = reads_on c.args.nodes.now c.sums_pay.new.nodes c.asked_under-under.new.nodes j c.asked_under-under.ensures.reads in
+    composed_after c.args.nodes.now c.asked_under-under.new.nodes c.by_quarters.new.nodes c.args.a c.args.b c.by_quarters.result k c.requires.a_stands c.requires.b_stands c.by_quarters.ensures.value
