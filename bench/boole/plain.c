@@ -243,6 +243,12 @@ static uint64_t now(void) {
     return (uint64_t)t.tv_sec * 1000000000 + (uint64_t)t.tv_nsec;
 }
 
+// writes to each page, since a compiler may take zeros that were not written yet for what was asked
+static void touch(uint64_t *list, uint64_t size) {
+    for (uint64_t k = 0; k < size; k += 512)
+        *(volatile uint64_t *)&list[k] = 0;
+}
+
 int main(int argc, char **argv) {
     if (argc < 3)
         return 1;
@@ -254,6 +260,8 @@ int main(int argc, char **argv) {
         return 1;
     memset(words, 0, size * 8);
     memset(memo, 0, SLOTS * 8);
+    touch(words, size);
+    touch(memo, SLOTS);
     uint32_t a = random_quad(HEIGHT, chance), b = random_quad(HEIGHT, chance);
     printf("%u %u\n", a, b);
     for (int op = UNION; op <= TRANSPOSE; op++) {
