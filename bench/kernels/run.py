@@ -35,6 +35,10 @@ def least(runs, way):
     return min(lines[way][0] for lines in runs) / 1e6
 
 
+def shown(time):
+    return f"{time:.3g}" if time < 1000 else f"{time:.0f}"
+
+
 def compared(what, ours, theirs, rounds, first, second):
     """Prints a row, of so many runs of both in turn."""
     proved, plain = [], []
@@ -45,8 +49,8 @@ def compared(what, ours, theirs, rounds, first, second):
         assert {lines[way][1] for lines in proved + plain} == {plain[0][way][1]}, "the results differ"
     a, b = least(proved, first), least(plain, first)
     c, d = least(proved, second), least(plain, second) if second in plain[0] else None
-    rest = f"{c:.3g} | {d:.3g} | {c / d:.2f}" if d else f"{c:.3g} | |"
-    print(f"| {what} | {a:.3g} | {b:.3g} | {a / b:.2f} | {rest} |", flush=True)
+    rest = f"{shown(c)} | {shown(d)} | {c / d:.2f}" if d else f"{shown(c)} | |"
+    print(f"| {what} | {shown(a)} | {shown(b)} | {a / b:.2f} | {rest} |", flush=True)
 
 
 def main():
