@@ -8,7 +8,7 @@ ghost use Rattle.quad_nodes.specs.Finding.{Finds, FindsQuad, FindsNone};
 ghost use Rattle.rel_compose.specs.Products.{BothStand, IsProduct, AreProducts, quarter_room};
 
 use crate::dense::{TALLEST, asked_under, rows_pay, sums_pay};
-use crate::product::{both_full, leaf};
+use crate::product::{both_full, both_quarters, leaf};
 use crate::rows::noted_by_rows;
 use crate::sums::noted_by_sums;
 use memo_laws::Op;
@@ -125,7 +125,7 @@ fn by_quarters(nodes: &mut Nodes, a: Quad, b: Quad, tallest: u8) -> Result<Quad,
     ensures keeps { KeepsQuads (compose_room a.height) nodes.old nodes.new }
     ensures counts { Counts nodes.old nodes.new result }
 {
-    let ((a_nw, a_ne, a_sw, a_se), (b_nw, b_ne, b_sw, b_se)) = nodes.quarters_of_both(a, b);
+    let ((a_nw, a_ne, a_sw, a_se), (b_nw, b_ne, b_sw, b_se)) = both_quarters(nodes, a, b);
     let (nw, ne) = row_of_products(nodes, (a_nw, a_ne), (b_nw, b_sw), (b_ne, b_se), tallest)?;
     let (sw, se) = row_of_products(nodes, (a_sw, a_se), (b_nw, b_sw), (b_ne, b_se), tallest)?;
     let found = nodes.corner(nw, ne, sw, se)?;

@@ -1,9 +1,10 @@
-//! Products that need no recursion: of blocks, and of full squares.
-ghost use Rattle.std.specs.Prelude.{◌≡◌, true, IfOk};
+//! Products that need no recursion, of blocks and of full squares, and the quarters of two squares.
+ghost use Rattle.std.specs.Prelude.{◌≡◌, ◌<◌, true, IfOk};
 ghost use Rattle.rel_model.specs.Cells.{cells_rect, cells_compose};
 ghost use Rattle.rel_model.specs.Trees.{bottom_height};
 ghost use Rattle.rel_model.specs.Equations.{side_of};
-ghost use Rattle.rel_model.specs.Quads.{Keeper, QuadStands, IsQuad, quad_cells, KeepsQuads, ReadsQuads, Counts};
+ghost use Rattle.rel_model.specs.Quads.{Keeper, QuadStands, IsQuad, AreQuarters, quad_cells, KeepsQuads, ReadsQuads};
+ghost use Rattle.rel_model.specs.Quads.{Counts};
 ghost use Rattle.quad_nodes.specs.Finding.{FindsQuad};
 
 use leaf_block::block_compose;
@@ -44,4 +45,25 @@ pub fn both_full(nodes: &mut Nodes, a: Quad, b: Quad) -> bool
         return false;
     }
     nodes.is_full(b)
+}
+
+/// The quarters of two quads. Their words are not read ahead: of two sparse squares most quarters meet an empty one, and
+/// are not gone into.
+#[inline(always)]
+pub fn both_quarters(
+    nodes: &mut Nodes,
+    a: Quad,
+    b: Quad,
+) -> ((Quad, Quad, Quad, Quad), (Quad, Quad, Quad, Quad))
+    requires a_stands { QuadStands nodes.old a }
+    requires b_stands { QuadStands nodes.old b }
+    requires a_over { bottom_height < a.height }
+    requires b_over { bottom_height < b.height }
+    ensures first { AreQuarters nodes.old nodes.new a result.0 }
+    ensures second { AreQuarters nodes.old nodes.new b result.1 }
+    ensures reads { ReadsQuads nodes.old nodes.new }
+{
+    let first = nodes.quarters(a);
+    let second = nodes.quarters(b);
+    (first, second)
 }

@@ -64,13 +64,13 @@ pub by_quarters-returns-in_err-nw-clause-keeps : goal.by_quarters-returns-in_err
 by_quarters-returns-in_err-nw-clause-keeps t c =
     let s0 = c.args.nodes.now in
     let s1 = c.args.nodes.now in
-    let s2 = c.quarters_of_both.new.self in
+    let s2 = c.both_quarters.new.nodes in
     let s3 = c.row_of_products.new.nodes in
-    let q = c.quarters_of_both.ensures.first in
+    let q = c.both_quarters.ensures.first in
     let h : ℕ = c.args.a.height in
     let m : ℕ = quarter_room (h - 1) + quarter_room (h - 1) in
-    let k0 = keeps_on 0 0 s0 s1 s2 (keeps_itself c.args.nodes.now 0 c.quarters_of_both.ensures.reads.keeps.before) c.quarters_of_both.ensures.reads.keeps in
-    let k1 = keeps_on (0 + 0) m s0 s2 s3 k0 (row_below h c.quarters_of_both.result.0.0.height s2 s3 q.nw_height c.in_err-nw.ensures.keeps) in
+    let k0 = keeps_on 0 0 s0 s1 s2 (keeps_itself c.args.nodes.now 0 c.both_quarters.ensures.reads.keeps.before) c.both_quarters.ensures.reads.keeps in
+    let k1 = keeps_on (0 + 0) m s0 s2 s3 k0 (row_below h c.both_quarters.result.0.0.height s2 s3 q.nw_height c.in_err-nw.ensures.keeps) in
     let r = compose_room-next h c.requires.over in
     let l : 0 + 0 + m ≤ compose_room h = omega (arith, r) in
     keeps_most (0 + 0 + m) (compose_room h) s0 s3 l k1
@@ -79,15 +79,15 @@ pub by_quarters-returns-in_err-sw-clause-keeps : goal.by_quarters-returns-in_err
 by_quarters-returns-in_err-sw-clause-keeps t c =
     let s0 = c.args.nodes.now in
     let s1 = c.args.nodes.now in
-    let s2 = c.quarters_of_both.new.self in
+    let s2 = c.both_quarters.new.nodes in
     let s3 = c.row_of_products.new.nodes in
     let s4 = c.row_of_products-2.new.nodes in
-    let q = c.quarters_of_both.ensures.first in
+    let q = c.both_quarters.ensures.first in
     let h : ℕ = c.args.a.height in
     let m : ℕ = quarter_room (h - 1) + quarter_room (h - 1) in
-    let k0 = keeps_on 0 0 s0 s1 s2 (keeps_itself c.args.nodes.now 0 c.quarters_of_both.ensures.reads.keeps.before) c.quarters_of_both.ensures.reads.keeps in
-    let k1 = keeps_on (0 + 0) m s0 s2 s3 k0 (row_below h c.quarters_of_both.result.0.0.height s2 s3 q.nw_height c.in_ok-nw.ensures.keeps) in
-    let k2 = keeps_on (0 + 0 + m) m s0 s3 s4 k1 (row_below h c.quarters_of_both.result.0.2.height s3 s4 q.sw_height c.in_err-sw.ensures.keeps) in
+    let k0 = keeps_on 0 0 s0 s1 s2 (keeps_itself c.args.nodes.now 0 c.both_quarters.ensures.reads.keeps.before) c.both_quarters.ensures.reads.keeps in
+    let k1 = keeps_on (0 + 0) m s0 s2 s3 k0 (row_below h c.both_quarters.result.0.0.height s2 s3 q.nw_height c.in_ok-nw.ensures.keeps) in
+    let k2 = keeps_on (0 + 0 + m) m s0 s3 s4 k1 (row_below h c.both_quarters.result.0.2.height s3 s4 q.sw_height c.in_err-sw.ensures.keeps) in
     let r = compose_room-next h c.requires.over in
     let l : 0 + 0 + m + m ≤ compose_room h = omega (arith, r) in
     keeps_most (0 + 0 + m + m) (compose_room h) s0 s4 l k2
@@ -96,16 +96,16 @@ pub by_quarters-returns-in_err-found-clause-keeps : goal.by_quarters-returns-in_
 by_quarters-returns-in_err-found-clause-keeps t c =
     let s0 = c.args.nodes.now in
     let s1 = c.args.nodes.now in
-    let s2 = c.quarters_of_both.new.self in
+    let s2 = c.both_quarters.new.nodes in
     let s3 = c.row_of_products.new.nodes in
     let s4 = c.row_of_products-2.new.nodes in
     let s5 = c.corner.new.self in
-    let q = c.quarters_of_both.ensures.first in
+    let q = c.both_quarters.ensures.first in
     let h : ℕ = c.args.a.height in
     let m : ℕ = quarter_room (h - 1) + quarter_room (h - 1) in
-    let k0 = keeps_on 0 0 s0 s1 s2 (keeps_itself c.args.nodes.now 0 c.quarters_of_both.ensures.reads.keeps.before) c.quarters_of_both.ensures.reads.keeps in
-    let k1 = keeps_on (0 + 0) m s0 s2 s3 k0 (row_below h c.quarters_of_both.result.0.0.height s2 s3 q.nw_height c.in_ok-nw.ensures.keeps) in
-    let k2 = keeps_on (0 + 0 + m) m s0 s3 s4 k1 (row_below h c.quarters_of_both.result.0.2.height s3 s4 q.sw_height c.in_ok-sw.ensures.keeps) in
+    let k0 = keeps_on 0 0 s0 s1 s2 (keeps_itself c.args.nodes.now 0 c.both_quarters.ensures.reads.keeps.before) c.both_quarters.ensures.reads.keeps in
+    let k1 = keeps_on (0 + 0) m s0 s2 s3 k0 (row_below h c.both_quarters.result.0.0.height s2 s3 q.nw_height c.in_ok-nw.ensures.keeps) in
+    let k2 = keeps_on (0 + 0 + m) m s0 s3 s4 k1 (row_below h c.both_quarters.result.0.2.height s3 s4 q.sw_height c.in_ok-sw.ensures.keeps) in
     let k3 = keeps_on (0 + 0 + m + m) 3 s0 s4 s5 k2 c.in_err-found.ensures.keeps in
     let r = compose_room-next h c.requires.over in
     let l : 0 + 0 + m + m + 3 ≤ compose_room h = omega (arith, r) in
@@ -115,17 +115,17 @@ pub by_quarters-returns-clause-keeps : goal.by_quarters-returns-clause-keeps
 by_quarters-returns-clause-keeps t c =
     let s0 = c.args.nodes.now in
     let s1 = c.args.nodes.now in
-    let s2 = c.quarters_of_both.new.self in
+    let s2 = c.both_quarters.new.nodes in
     let s3 = c.row_of_products.new.nodes in
     let s4 = c.row_of_products-2.new.nodes in
     let s5 = c.corner.new.self in
     let s6 = c.note.new.self in
-    let q = c.quarters_of_both.ensures.first in
+    let q = c.both_quarters.ensures.first in
     let h : ℕ = c.args.a.height in
     let m : ℕ = quarter_room (h - 1) + quarter_room (h - 1) in
-    let k0 = keeps_on 0 0 s0 s1 s2 (keeps_itself c.args.nodes.now 0 c.quarters_of_both.ensures.reads.keeps.before) c.quarters_of_both.ensures.reads.keeps in
-    let k1 = keeps_on (0 + 0) m s0 s2 s3 k0 (row_below h c.quarters_of_both.result.0.0.height s2 s3 q.nw_height c.in_ok-nw.ensures.keeps) in
-    let k2 = keeps_on (0 + 0 + m) m s0 s3 s4 k1 (row_below h c.quarters_of_both.result.0.2.height s3 s4 q.sw_height c.in_ok-sw.ensures.keeps) in
+    let k0 = keeps_on 0 0 s0 s1 s2 (keeps_itself c.args.nodes.now 0 c.both_quarters.ensures.reads.keeps.before) c.both_quarters.ensures.reads.keeps in
+    let k1 = keeps_on (0 + 0) m s0 s2 s3 k0 (row_below h c.both_quarters.result.0.0.height s2 s3 q.nw_height c.in_ok-nw.ensures.keeps) in
+    let k2 = keeps_on (0 + 0 + m) m s0 s3 s4 k1 (row_below h c.both_quarters.result.0.2.height s3 s4 q.sw_height c.in_ok-sw.ensures.keeps) in
     let k3 = keeps_on (0 + 0 + m + m) 3 s0 s4 s5 k2 c.in_ok-found.ensures.keeps in
     let k4 = keeps_on (0 + 0 + m + m + 3) 0 s0 s5 s6 k3 c.note.ensures.reads.keeps in
     let r = compose_room-next h c.requires.over in
@@ -134,14 +134,14 @@ by_quarters-returns-clause-keeps t c =
 
 pub by_quarters-row_of_products-requires-2 : goal.by_quarters-row_of_products-requires-2
 by_quarters-row_of_products-requires-2 t c =
-    let fa = c.quarters_of_both.result.0 in
-    let fb = c.quarters_of_both.result.1 in
-    let s2 = c.quarters_of_both.new.self in
+    let fa = c.both_quarters.result.0 in
+    let fb = c.both_quarters.result.1 in
+    let s2 = c.both_quarters.new.nodes in
     let s3 = c.row_of_products.new.nodes in
     let h : ℕ = fa.0.height in
-    let sq = squares-stay _ s2 s3 h fa fb c.in_ok-nw.ensures.keeps (squares c.args.nodes.now s2 c.args.a c.args.b fa fb c.requires.one_height c.quarters_of_both.ensures.first c.quarters_of_both.ensures.second) in
+    let sq = squares-stay _ s2 s3 h fa fb c.in_ok-nw.ensures.keeps (squares c.args.nodes.now s2 c.args.a c.args.b fa fb c.requires.one_height c.both_quarters.ensures.first c.both_quarters.ensures.second) in
     let e = sq.south.first_height in
-    let g = c.quarters_of_both.ensures.first.sw_height in
+    let g = c.both_quarters.ensures.first.sw_height in
     (omega arith, (both_at s3 h fa.2.height (fa.2, fa.3) e sq.south, (both_at s3 h fa.2.height (fb.0, fb.2) e sq.west, both_at s3 h fa.2.height (fb.1, fb.3) e sq.east)))
 
 pub by_quarters-corner-requires-clause-nw_stands : goal.by_quarters-corner-requires-clause-nw_stands
@@ -154,16 +154,16 @@ pub by_quarters-note-requires-clause-a_stands : goal.by_quarters-note-requires-c
 by_quarters-note-requires-clause-a_stands t c =
     let s0 = c.args.nodes.now in
     let s1 = c.args.nodes.now in
-    let s2 = c.quarters_of_both.new.self in
+    let s2 = c.both_quarters.new.nodes in
     let s3 = c.row_of_products.new.nodes in
     let s4 = c.row_of_products-2.new.nodes in
     let s5 = c.corner.new.self in
-    let q = c.quarters_of_both.ensures.first in
+    let q = c.both_quarters.ensures.first in
     let h : ℕ = c.args.a.height in
     let m : ℕ = quarter_room (h - 1) + quarter_room (h - 1) in
-    let k0 = keeps_on 0 0 s0 s1 s2 (keeps_itself c.args.nodes.now 0 c.quarters_of_both.ensures.reads.keeps.before) c.quarters_of_both.ensures.reads.keeps in
-    let k1 = keeps_on (0 + 0) m s0 s2 s3 k0 (row_below h c.quarters_of_both.result.0.0.height s2 s3 q.nw_height c.in_ok-nw.ensures.keeps) in
-    let k2 = keeps_on (0 + 0 + m) m s0 s3 s4 k1 (row_below h c.quarters_of_both.result.0.2.height s3 s4 q.sw_height c.in_ok-sw.ensures.keeps) in
+    let k0 = keeps_on 0 0 s0 s1 s2 (keeps_itself c.args.nodes.now 0 c.both_quarters.ensures.reads.keeps.before) c.both_quarters.ensures.reads.keeps in
+    let k1 = keeps_on (0 + 0) m s0 s2 s3 k0 (row_below h c.both_quarters.result.0.0.height s2 s3 q.nw_height c.in_ok-nw.ensures.keeps) in
+    let k2 = keeps_on (0 + 0 + m) m s0 s3 s4 k1 (row_below h c.both_quarters.result.0.2.height s3 s4 q.sw_height c.in_ok-sw.ensures.keeps) in
     let k3 = keeps_on (0 + 0 + m + m) 3 s0 s4 s5 k2 c.in_ok-found.ensures.keeps in
     quad_stays (0 + 0 + m + m + 3) s0 s5 c.args.a k3 c.requires.a_stands
 
@@ -171,16 +171,16 @@ pub by_quarters-note-requires-clause-b_stands : goal.by_quarters-note-requires-c
 by_quarters-note-requires-clause-b_stands t c =
     let s0 = c.args.nodes.now in
     let s1 = c.args.nodes.now in
-    let s2 = c.quarters_of_both.new.self in
+    let s2 = c.both_quarters.new.nodes in
     let s3 = c.row_of_products.new.nodes in
     let s4 = c.row_of_products-2.new.nodes in
     let s5 = c.corner.new.self in
-    let q = c.quarters_of_both.ensures.first in
+    let q = c.both_quarters.ensures.first in
     let h : ℕ = c.args.a.height in
     let m : ℕ = quarter_room (h - 1) + quarter_room (h - 1) in
-    let k0 = keeps_on 0 0 s0 s1 s2 (keeps_itself c.args.nodes.now 0 c.quarters_of_both.ensures.reads.keeps.before) c.quarters_of_both.ensures.reads.keeps in
-    let k1 = keeps_on (0 + 0) m s0 s2 s3 k0 (row_below h c.quarters_of_both.result.0.0.height s2 s3 q.nw_height c.in_ok-nw.ensures.keeps) in
-    let k2 = keeps_on (0 + 0 + m) m s0 s3 s4 k1 (row_below h c.quarters_of_both.result.0.2.height s3 s4 q.sw_height c.in_ok-sw.ensures.keeps) in
+    let k0 = keeps_on 0 0 s0 s1 s2 (keeps_itself c.args.nodes.now 0 c.both_quarters.ensures.reads.keeps.before) c.both_quarters.ensures.reads.keeps in
+    let k1 = keeps_on (0 + 0) m s0 s2 s3 k0 (row_below h c.both_quarters.result.0.0.height s2 s3 q.nw_height c.in_ok-nw.ensures.keeps) in
+    let k2 = keeps_on (0 + 0 + m) m s0 s3 s4 k1 (row_below h c.both_quarters.result.0.2.height s3 s4 q.sw_height c.in_ok-sw.ensures.keeps) in
     let k3 = keeps_on (0 + 0 + m + m) 3 s0 s4 s5 k2 c.in_ok-found.ensures.keeps in
     quad_stays (0 + 0 + m + m + 3) s0 s5 c.args.b k3 c.requires.b_stands
 
@@ -188,19 +188,19 @@ pub by_quarters-note-requires-clause-holds : goal.by_quarters-note-requires-clau
 by_quarters-note-requires-clause-holds t c =
     let s0 = c.args.nodes.now in
     let s1 = c.args.nodes.now in
-    let s2 = c.quarters_of_both.new.self in
+    let s2 = c.both_quarters.new.nodes in
     let s3 = c.row_of_products.new.nodes in
     let s4 = c.row_of_products-2.new.nodes in
     let s5 = c.corner.new.self in
-    let q = c.quarters_of_both.ensures.first in
+    let q = c.both_quarters.ensures.first in
     let h : ℕ = c.args.a.height in
     let m : ℕ = quarter_room (h - 1) + quarter_room (h - 1) in
-    let k0 = keeps_on 0 0 s0 s1 s2 (keeps_itself c.args.nodes.now 0 c.quarters_of_both.ensures.reads.keeps.before) c.quarters_of_both.ensures.reads.keeps in
-    let k1 = keeps_on (0 + 0) m s0 s2 s3 k0 (row_below h c.quarters_of_both.result.0.0.height s2 s3 q.nw_height c.in_ok-nw.ensures.keeps) in
-    let k2 = keeps_on (0 + 0 + m) m s0 s3 s4 k1 (row_below h c.quarters_of_both.result.0.2.height s3 s4 q.sw_height c.in_ok-sw.ensures.keeps) in
+    let k0 = keeps_on 0 0 s0 s1 s2 (keeps_itself c.args.nodes.now 0 c.both_quarters.ensures.reads.keeps.before) c.both_quarters.ensures.reads.keeps in
+    let k1 = keeps_on (0 + 0) m s0 s2 s3 k0 (row_below h c.both_quarters.result.0.0.height s2 s3 q.nw_height c.in_ok-nw.ensures.keeps) in
+    let k2 = keeps_on (0 + 0 + m) m s0 s3 s4 k1 (row_below h c.both_quarters.result.0.2.height s3 s4 q.sw_height c.in_ok-sw.ensures.keeps) in
     let k3 = keeps_on (0 + 0 + m + m) 3 s0 s4 s5 k2 c.in_ok-found.ensures.keeps in
-    let v = composed_value {E = Unit {0}} _ _ s0 s1 s2 s3 s4 s5 c.args.a c.args.b c.quarters_of_both.result.0 c.quarters_of_both.result.1 c.in_ok-nw.nw c.in_ok-nw.ne c.in_ok-sw.sw c.in_ok-sw.se (Ok c.in_ok-found.found)
-    c.requires.over c.requires.a_stands c.requires.b_stands c.requires.one_height (keeps_itself c.args.nodes.now 0 c.quarters_of_both.ensures.reads.keeps.before) q c.quarters_of_both.ensures.second c.in_ok-nw.ensures.keeps c.in_ok-sw.ensures.keeps
+    let v = composed_value {E = Unit {0}} _ _ s0 s1 s2 s3 s4 s5 c.args.a c.args.b c.both_quarters.result.0 c.both_quarters.result.1 c.in_ok-nw.nw c.in_ok-nw.ne c.in_ok-sw.sw c.in_ok-sw.se (Ok c.in_ok-found.found)
+    c.requires.over c.requires.a_stands c.requires.b_stands c.requires.one_height (keeps_itself c.args.nodes.now 0 c.both_quarters.ensures.reads.keeps.before) q c.both_quarters.ensures.second c.in_ok-nw.ensures.keeps c.in_ok-sw.ensures.keeps
     c.in_ok-nw.ensures.value c.in_ok-sw.ensures.value c.in_ok-found.ensures.value in
     composed_now (0 + 0 + m + m + 3) s0 s5 c.args.a c.args.b c.in_ok-found.found k3 c.requires.a_stands c.requires.b_stands v
 
@@ -208,20 +208,20 @@ pub by_quarters-returns-clause-value : goal.by_quarters-returns-clause-value
 by_quarters-returns-clause-value t c =
     let s0 = c.args.nodes.now in
     let s1 = c.args.nodes.now in
-    let s2 = c.quarters_of_both.new.self in
+    let s2 = c.both_quarters.new.nodes in
     let s3 = c.row_of_products.new.nodes in
     let s4 = c.row_of_products-2.new.nodes in
     let s5 = c.corner.new.self in
     let s6 = c.note.new.self in
-    let q = c.quarters_of_both.ensures.first in
+    let q = c.both_quarters.ensures.first in
     let h : ℕ = c.args.a.height in
     let m : ℕ = quarter_room (h - 1) + quarter_room (h - 1) in
-    let k0 = keeps_on 0 0 s0 s1 s2 (keeps_itself c.args.nodes.now 0 c.quarters_of_both.ensures.reads.keeps.before) c.quarters_of_both.ensures.reads.keeps in
-    let k1 = keeps_on (0 + 0) m s0 s2 s3 k0 (row_below h c.quarters_of_both.result.0.0.height s2 s3 q.nw_height c.in_ok-nw.ensures.keeps) in
-    let k2 = keeps_on (0 + 0 + m) m s0 s3 s4 k1 (row_below h c.quarters_of_both.result.0.2.height s3 s4 q.sw_height c.in_ok-sw.ensures.keeps) in
+    let k0 = keeps_on 0 0 s0 s1 s2 (keeps_itself c.args.nodes.now 0 c.both_quarters.ensures.reads.keeps.before) c.both_quarters.ensures.reads.keeps in
+    let k1 = keeps_on (0 + 0) m s0 s2 s3 k0 (row_below h c.both_quarters.result.0.0.height s2 s3 q.nw_height c.in_ok-nw.ensures.keeps) in
+    let k2 = keeps_on (0 + 0 + m) m s0 s3 s4 k1 (row_below h c.both_quarters.result.0.2.height s3 s4 q.sw_height c.in_ok-sw.ensures.keeps) in
     let k3 = keeps_on (0 + 0 + m + m) 3 s0 s4 s5 k2 c.in_ok-found.ensures.keeps in
-    let v = composed_value {E = Unit {0}} _ _ s0 s1 s2 s3 s4 s5 c.args.a c.args.b c.quarters_of_both.result.0 c.quarters_of_both.result.1 c.in_ok-nw.nw c.in_ok-nw.ne c.in_ok-sw.sw c.in_ok-sw.se (Ok c.in_ok-found.found)
-    c.requires.over c.requires.a_stands c.requires.b_stands c.requires.one_height (keeps_itself c.args.nodes.now 0 c.quarters_of_both.ensures.reads.keeps.before) q c.quarters_of_both.ensures.second c.in_ok-nw.ensures.keeps c.in_ok-sw.ensures.keeps
+    let v = composed_value {E = Unit {0}} _ _ s0 s1 s2 s3 s4 s5 c.args.a c.args.b c.both_quarters.result.0 c.both_quarters.result.1 c.in_ok-nw.nw c.in_ok-nw.ne c.in_ok-sw.sw c.in_ok-sw.se (Ok c.in_ok-found.found)
+    c.requires.over c.requires.a_stands c.requires.b_stands c.requires.one_height (keeps_itself c.args.nodes.now 0 c.both_quarters.ensures.reads.keeps.before) q c.both_quarters.ensures.second c.in_ok-nw.ensures.keeps c.in_ok-sw.ensures.keeps
     c.in_ok-nw.ensures.value c.in_ok-sw.ensures.value c.in_ok-found.ensures.value in
     is_quad-stays 0 s5 s6 c.args.a.height _ c.in_ok-found.found c.note.ensures.reads.keeps v
 
