@@ -1,7 +1,8 @@
 //! Dense squares of 256 rows, by their blocks in tree order.
 ghost use Rattle.std.specs.Prelude.{ℕ, ◌≡◌, ◌<◌, length, slice_index, IfOk, true};
 ghost use Rattle.rel_model.specs.Cells.{block_cells};
-ghost use Rattle.rel_model.specs.Quads.{Keeper, QuadStands, IsQuad, quad_cells, ReadsQuads, KeepsQuads, Counts, quad_room};
+ghost use Rattle.rel_model.specs.Quads.{Keeper, QuadStands, IsQuad, quad_cells, quad_room};
+ghost use Rattle.rel_model.specs.Quads.{ReadsQuads, KeepsQuads, Counts};
 ghost use Rattle.quad_nodes.specs.Finding.{FindsQuad};
 ghost use Rattle.rel_boole.specs.Cellwise.{cells_by};
 

@@ -262,7 +262,7 @@ fn has_dense(nodes: &mut Nodes, q: Quad) -> bool
 }
 
 /// Up to which height it is asked of the squares under two squares whether rows pay, where it did not pay for these:
-/// not at all where one of them has no dense square of 256 rows, nor under squares of 128 rows, of which there are many.
+/// not at all where one of them has no dense square of 256 rows, nor under squares of 128 rows, which are many.
 pub(crate) fn asked_under(nodes: &mut Nodes, a: Quad, b: Quad, tallest: u8) -> u8
     requires a_stands { QuadStands nodes.old a }
     requires b_stands { QuadStands nodes.old b }

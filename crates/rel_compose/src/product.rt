@@ -47,8 +47,8 @@ pub fn both_full(nodes: &mut Nodes, a: Quad, b: Quad) -> bool
     nodes.is_full(b)
 }
 
-/// The quarters of two quads. Their words are not read ahead: of two sparse squares most quarters meet an empty one, and
-/// are not gone into.
+/// The quarters of two quads. Their words are not read ahead: of two sparse squares most quarters meet an empty one,
+/// and are not gone into.
 #[inline(always)]
 pub fn both_quarters(
     nodes: &mut Nodes,
