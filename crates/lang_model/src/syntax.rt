@@ -256,7 +256,6 @@ pub struct Row {
 }
 
 /// A command.
-#[derive(Drop)]
 pub enum Command {
     /// `REL name rows cols { list }`.
     Relation {
@@ -315,8 +314,36 @@ pub enum Command {
     },
 }
 
+impl Drop for Command {
+    fn drop(self) {
+        match self {
+            Command::Relation {
+                name: _,
+                rows: _,
+                rows_at: _,
+                cols: _,
+                cols_at: _,
+                list: _,
+            } => {}
+            Command::Let { name: _, value: _ } => {}
+            Command::Print { value: _ } => {}
+            Command::List { value: _ } => {}
+            Command::Count { value: _ } => {}
+            Command::Typed { value: _ } => {}
+            Command::Remove { at: _, name: _ } => {}
+            Command::Snap { name: _ } => {}
+            Command::At {
+                at: _,
+                name: _,
+                value: _,
+            } => {}
+            Command::Load { name: _, file: _ } => {}
+            Command::Save { value: _, file: _ } => {}
+        }
+    }
+}
+
 /// An item of a script.
-#[derive(Drop)]
 pub enum Item {
     /// `name(params) = body`.
     Function {
@@ -336,6 +363,28 @@ pub enum Item {
     },
     /// A command.
     Command(Command),
+}
+
+impl Drop for Item {
+    fn drop(self) {
+        match self {
+            Item::Function {
+                at: _,
+                name: _,
+                params: _,
+                body: _,
+            } => {}
+            Item::Program {
+                at: _,
+                name: _,
+                params: _,
+                decls: _,
+                body: _,
+                result: _,
+            } => {}
+            Item::Command(_) => {}
+        }
+    }
 }
 
 /// A script.
