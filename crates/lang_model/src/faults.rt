@@ -15,7 +15,6 @@ pub enum What {
 }
 
 /// Why bytes are no script.
-#[derive(Drop)]
 pub enum ParseFault {
     Byte { at: Place, byte: u8 },
     Expected { at: Place, what: What },
@@ -23,6 +22,19 @@ pub enum ParseFault {
     NumberTooLarge { at: Place },
     NameTooLong { at: Place },
     NoMemory,
+}
+
+impl Drop for ParseFault {
+    fn drop(self) {
+        match self {
+            ParseFault::Byte { at: _, byte: _ } => {}
+            ParseFault::Expected { at: _, what: _ } => {}
+            ParseFault::TooDeep { at: _ } => {}
+            ParseFault::NumberTooLarge { at: _ } => {}
+            ParseFault::NameTooLong { at: _ } => {}
+            ParseFault::NoMemory => {}
+        }
+    }
 }
 
 /// The sizes of an expression, where they are known before it runs.
@@ -33,7 +45,6 @@ pub struct StaticShape {
 }
 
 /// Why a script or an expression has no meaning.
-#[derive(Drop)]
 pub enum TypeFault {
     Unknown {
         at: Place,
@@ -78,4 +89,39 @@ pub enum TypeFault {
         name: Name,
     },
     NoMemory,
+}
+
+impl Drop for TypeFault {
+    fn drop(self) {
+        match self {
+            TypeFault::Unknown { at: _, name: _ } => {}
+            TypeFault::Arity {
+                at: _,
+                name: _,
+                takes: _,
+                given: _,
+            } => {}
+            TypeFault::Unassigned { at: _, name: _ } => {}
+            TypeFault::Rank { at: _, name: _ } => {}
+            TypeFault::Mismatch {
+                at: _,
+                op: _,
+                left: _,
+                right: _,
+            } => {}
+            TypeFault::NotSquare {
+                at: _,
+                op: _,
+                shape: _,
+            } => {}
+            TypeFault::NotVector {
+                at: _,
+                op: _,
+                shape: _,
+            } => {}
+            TypeFault::NotTest { at: _, shape: _ } => {}
+            TypeFault::Twice { at: _, name: _ } => {}
+            TypeFault::NoMemory => {}
+        }
+    }
 }

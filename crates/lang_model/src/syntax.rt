@@ -140,7 +140,6 @@ pub enum Op2 {
 
 /// An expression. Parentheses make no node.
 #[cycle(expr)]
-#[derive(Drop)]
 pub enum Expr {
     /// A relation's name, a parameter or a variable.
     Ref {
@@ -189,6 +188,42 @@ pub enum Expr {
     },
 }
 
+impl Drop for Expr {
+    #[cycle(expr)]
+    fn drop(self) {
+        match self {
+            Expr::Ref { at: _, name: _ } => {}
+            Expr::Call {
+                at: _,
+                name: _,
+                args: _,
+            } => {}
+            Expr::Base {
+                at: _,
+                base: _,
+                args: _,
+            } => {}
+            Expr::Inject {
+                at: _,
+                base: _,
+                domain: _,
+            } => {}
+            Expr::Pair {
+                at: _,
+                left: _,
+                right: _,
+            } => {}
+            Expr::Minus { at: _, of: _ } => {}
+            Expr::Turned {
+                at: _,
+                of: _,
+                times: _,
+            } => {}
+            Expr::Chain { first: _, rest: _ } => {}
+        }
+    }
+}
+
 /// An operator of a chain and its right operand.
 #[cycle(expr)]
 #[derive(Drop)]
@@ -199,7 +234,6 @@ pub struct Link {
 }
 
 /// A declaration of a program.
-#[derive(Drop)]
 pub enum Decl {
     /// A variable.
     Variable {
@@ -216,8 +250,22 @@ pub enum Decl {
     },
 }
 
+impl Drop for Decl {
+    fn drop(self) {
+        match self {
+            Decl::Variable { at: _, name: _ } => {}
+            Decl::Domain {
+                at: _,
+                name: _,
+                sum: _,
+                left: _,
+                right: _,
+            } => {}
+        }
+    }
+}
+
 /// A statement of a program.
-#[derive(Drop)]
 pub enum Stmt {
     /// `name = value`.
     Set {
@@ -238,6 +286,29 @@ pub enum Stmt {
         yes: Vec<Stmt>,
         no: Vec<Stmt>,
     },
+}
+
+impl Drop for Stmt {
+    fn drop(self) {
+        match self {
+            Stmt::Set {
+                at: _,
+                name: _,
+                value: _,
+            } => {}
+            Stmt::While {
+                at: _,
+                test: _,
+                body: _,
+            } => {}
+            Stmt::If {
+                at: _,
+                test: _,
+                yes: _,
+                no: _,
+            } => {}
+        }
+    }
 }
 
 /// A column of a listed row.
