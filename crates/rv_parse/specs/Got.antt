@@ -1,7 +1,7 @@
 -- What a reader of a part of the grammar answers, and the parts of statements, definitions and commands.
-use Rattle.std.specs.Prelude.{◌≡◌, ◌≤◌, ◌++◌, ℕ, List, [], ◌∷◌, length, suc, Some}
+use Rattle.std.specs.Prelude.{◌≡◌, ◌≤◌, ◌++◌, ◌⊎◌, ℕ, List, [], ◌∷◌, length, suc, Some}
 use Rattle.lang_model.specs.Limits.{more_limit}
-use Rattle.lang_model.specs.declared.token.Keyword.TheVariants.{Beg as BEG, End as END, Return as RETURN, Do as DO, Od as OD, Then as THEN, Fi as FI}
+use Rattle.lang_model.specs.declared.token.Keyword.TheVariants.{Beg as BEG, End as END, Return as RETURN, Do as DO, Od as OD, Then as THEN, Else as ELSE, Fi as FI}
 use Rattle.lang_model.specs.declared.syntax.Expr.{Expr}
 use Rattle.lang_model.specs.declared.syntax.Stmt.{Stmt}
 use Rattle.lang_model.specs.declared.token.Kind.TheVariants.{Keyword as KEYWORD}
@@ -42,6 +42,11 @@ while_parts d = ExprPart OrLevel (suc d) ∷ WordPart DO ∷ StmtsPart (suc d) �
 -- a choice behind IF
 abbrev pub if_parts : ℕ → List Part
 if_parts d = ExprPart OrLevel (suc d) ∷ WordPart THEN ∷ StmtsPart (suc d) ∷ ElsePart (suc d) ∷ WordPart FI ∷ []
+
+-- the second part of a choice, where it has one, up to FI
+abbrev pub SpellsSecond : ℕ → List Stmt → List Token → List Token → Type 0
+SpellsSecond d ss tokens rest = ((ss ≡ []) × Takes (KEYWORD FI) tokens rest)
+    ⊎ ((t1 t2 : List Token) × Takes (KEYWORD ELSE) tokens t1 × SpelledStmts d ss t1 t2 × Takes (KEYWORD FI) t2 rest)
 
 -- a listed relation behind REL
 abbrev pub relation_parts : List Part

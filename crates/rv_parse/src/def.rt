@@ -3,9 +3,9 @@ ghost use Rattle.std.specs.Prelude.{◌≡◌, ◌<◌, ◌≤◌, ◌^◌, ◌�
 ghost use Rattle.lang_model.specs.Limits.{more_limit};
 ghost use Rattle.lang_model.specs.Taken.{TakesAt, Takes};
 ghost use Rattle.lang_model.specs.Spelling.{OrLevel, Spelled, SpelledStmts, SpellsParams, SpellsDecl, SpellsDecls, SpellsHead, SpellsItem, domain_word};
-ghost use Rattle.lang_model.specs.Stop.{NamePart, SignPart, MeaningPart, DomainPart, MoreDecls, MoreParams, BodyPart, ExprPart, program_parts};
+ghost use Rattle.lang_model.specs.Stop.{NamePart, SignPart, MeaningPart, DomainPart, MoreDecls, MoreParams, BodyPart, ExprPart, StmtsPart, WordPart, program_parts};
 ghost use Rattle.lang_model.specs.declared.token.Kind.TheVariants.{Keyword as KEYWORD, Word, Sign};
-ghost use Rattle.lang_model.specs.declared.token.Keyword.TheVariants.{Decl as DECL, Beg as BEG};
+ghost use Rattle.lang_model.specs.declared.token.Keyword.TheVariants.{Decl as DECL, Beg as BEG, Return as RETURN, End as END};
 ghost use Rattle.lang_model.specs.declared.token.Token.{Token as TOKEN};
 ghost use Rattle.rv_tokens.specs.Endings.{ending_of};
 ghost use Rattle.rv_parse.specs.declared.halt.Halt.TheVariants.{NoMemory};
@@ -14,7 +14,7 @@ ghost use Rattle.rv_parse.specs.Got.{Got, ReadsTo, SpellsTail, definition_parts,
 
 use crate::expr::expression;
 use crate::halt::{Halt, Wanted};
-use crate::leaf::{behind_sign, behind_word, missing, next_name, next_sign, next_word};
+use crate::leaf::{behind_sign, behind_word, missing, next_name, next_sign, next_word, with_word};
 use crate::stmt::stmts;
 use lang_model::limits::PARAMETER_LIMIT;
 use lang_model::syntax::{Decl, Expr, Item, Name, Place, Stmt};
@@ -66,6 +66,34 @@ fn domain_word(tokens: &[Token], end: Ending) -> Result<(bool, &[Token]), Halt>
     }
 }
 
+/// PROD or SUM with the parenthesis behind it, and whether it is SUM.
+fn domain_open(tokens: &[Token], end: Ending) -> Result<(bool, &[Token]), Halt>
+    ensures { MatchResult result (λ x. (mid : List TOKEN) × Takes (domain_word x.0) tokens.now mid
+        × Takes (Sign 40) mid x.1.now × ReadsTo (ending_of end) (DomainPart ∷ [])
+        (NamePart ∷ SignPart 44 ∷ NamePart ∷ SignPart 41 ∷ []) tokens.now x.1.now)
+        (Refuses (ending_of end) (DomainPart ∷ []) tokens.now) }
+{
+    let (sum, rest) = domain_word(tokens, end)?;
+    let (_, rest) = next_sign(rest, end, b'(')?;
+    Ok((sum, rest))
+}
+
+/// A name with this sign behind it.
+fn name_and_sign(
+    alloc: Global,
+    tokens: &[Token],
+    end: Ending,
+    byte: u8,
+) -> Result<(Name, &[Token]), Halt>
+    ensures { MatchResult result (λ x. Got (ending_of end) (NamePart ∷ SignPart byte ∷ [])
+        (λ t r. (mid : List TOKEN) × Takes (Word x.0) t mid × Takes (Sign byte) mid r) tokens.now x.1.now)
+        (Refuses (ending_of end) (NamePart ∷ SignPart byte ∷ []) tokens.now) }
+{
+    let (name, _, rest) = next_name(alloc, tokens, end)?;
+    let (_, rest) = next_sign(rest, end, byte)?;
+    Ok((name, rest))
+}
+
 /// The meaning of a domain behind its sign of equality.
 fn domain(
     alloc: Global,
@@ -78,12 +106,9 @@ fn domain(
         (λ t r. (before mid : List TOKEN) → TakesAt at (Word name) before mid → Takes (Sign 61) mid t
         → SpellsDecl x.0 before r) tokens.now x.1.now) (Refuses (ending_of end) (DomainPart ∷ []) tokens.now) }
 {
-    let (sum, rest) = domain_word(tokens, end)?;
-    let (_, rest) = next_sign(rest, end, b'(')?;
-    let (left, _, rest) = next_name(alloc, rest, end)?;
-    let (_, rest) = next_sign(rest, end, b',')?;
-    let (right, _, rest) = next_name(alloc, rest, end)?;
-    let (_, rest) = next_sign(rest, end, b')')?;
+    let (sum, rest) = domain_open(tokens, end)?;
+    let (left, rest) = name_and_sign(alloc, rest, end, b',')?;
+    let (right, rest) = name_and_sign(alloc, rest, end, b')')?;
     Ok((
         Decl::Domain {
             at,
@@ -131,16 +156,38 @@ fn decls(alloc: Global, tokens: &[Token], end: Ending) -> Result<(Vec<Decl>, &[T
     Ok((decls, rest))
 }
 
+/// The statements of a program, up to RETURN.
+fn program_body(alloc: Global, tokens: &[Token], end: Ending) -> Result<(Vec<Stmt>, &[Token]), Halt>
+    requires { length tokens.now < 2 ^ 32 }
+    ensures { MatchResult result (λ x. Got (ending_of end) (StmtsPart 0 ∷ WordPart RETURN ∷ [])
+        (λ t r. (mid : List TOKEN) × SpelledStmts 0 x.0.items t mid × Takes (KEYWORD RETURN) mid r) tokens.now
+        x.1.now) (Refuses (ending_of end) (StmtsPart 0 ∷ WordPart RETURN ∷ []) tokens.now) }
+{
+    let (body, rest) = stmts(alloc, tokens, end, 0)?;
+    let (_, rest) = next_word(rest, end, Keyword::Return)?;
+    Ok((body, rest))
+}
+
+/// The result of a program, up to END.
+fn program_result(alloc: Global, tokens: &[Token], end: Ending) -> Result<(Expr, &[Token]), Halt>
+    requires { length tokens.now < 2 ^ 32 }
+    ensures { MatchResult result (λ x. Got (ending_of end) (ExprPart OrLevel 0 ∷ WordPart END ∷ [])
+        (λ t r. (mid : List TOKEN) × Spelled OrLevel 0 x.0 t mid × Takes (KEYWORD END) mid r) tokens.now x.1.now)
+        (Refuses (ending_of end) (ExprPart OrLevel 0 ∷ WordPart END ∷ []) tokens.now) }
+{
+    let (result, rest) = expression(alloc, tokens, end, 0)?;
+    let (result, rest) = with_word(result, rest, end, Keyword::End)?;
+    Ok((result, rest))
+}
+
 /// The statements and the result of a program, behind BEG.
 fn program_end(alloc: Global, tokens: &[Token], end: Ending) -> Result<(Tail, &[Token]), Halt>
     requires { length tokens.now < 2 ^ 32 }
     ensures { MatchResult result (λ x. Got (ending_of end) program_parts (SpellsTail x.0.body.items x.0.result)
         tokens.now x.1.now) (Refuses (ending_of end) program_parts tokens.now) }
 {
-    let (body, rest) = stmts(alloc, tokens, end, 0)?;
-    let (_, rest) = next_word(rest, end, Keyword::Return)?;
-    let (result, rest) = expression(alloc, rest, end, 0)?;
-    let (_, rest) = next_word(rest, end, Keyword::End)?;
+    let (body, rest) = program_body(alloc, tokens, end)?;
+    let (result, rest) = program_result(alloc, rest, end)?;
     Ok((Tail { body, result }, rest))
 }
 

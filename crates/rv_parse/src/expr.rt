@@ -1,16 +1,19 @@
 //! Expressions: chains of operands, a prefix `-`, signs `^`, calls, pairs and parentheses.
 ghost use Rattle.std.specs.Prelude.{◌≡◌, ◌<◌, ◌≤◌, ◌+◌, ◌^◌, ◌∷◌, [], ℕ, List, false, suc, length, MatchResult, MatchOption};
-ghost use Rattle.lang_model.specs.Taken.{Carets, TakesAt};
+ghost use Rattle.lang_model.specs.Taken.{Carets, Takes, TakesAt};
 ghost use Rattle.lang_model.specs.Limits.{nesting_limit, more_limit};
 ghost use Rattle.lang_model.specs.Lexed.{Ending as ENDING};
-ghost use Rattle.lang_model.specs.Spelling.{OrLevel, UnaryLevel, PostLevel, PrimLevel, tighter, TakesOne, TakesTwo, TakesDomain, form_of};
+ghost use Rattle.lang_model.specs.Spelling.{OrLevel, Spelled, UnaryLevel, PostLevel, PrimLevel, tighter, TakesOne, TakesTwo, TakesDomain, form_of};
 ghost use Rattle.lang_model.specs.Stop.{Part, ExprPart, CallPart, MoreArgs, MoreCarets, SignPart, form_parts, stop_of};
 ghost use Rattle.lang_model.specs.declared.token.Kind.TheVariants.{Base as BASE, Word, Sign};
+ghost use Rattle.lang_model.specs.declared.token.Token.{Token as TOKEN};
 ghost use Rattle.rv_tokens.specs.Endings.{ending_of};
+ghost use Rattle.rv_parse.specs.declared.halt.Halt.TheVariants.{NoMemory};
+ghost use Rattle.rv_parse.specs.Got.{Got};
 ghost use Rattle.rv_parse.specs.Readers.{Reads, Refuses, begins, begins_operator, level_of, form_is, OperatorIs, IsLink, IsRead, IsBehind, AreArguments};
 
 use crate::halt::{Halt, Wanted};
-use crate::leaf::{behind_sign, missing, next_name, next_sign, open};
+use crate::leaf::{behind_sign, missing, next_name, next_sign, open, with_sign};
 use lang_model::limits::{NESTING_LIMIT, PARAMETER_LIMIT};
 use lang_model::syntax::{Base, Expr, Link, Name, Op2, Place};
 use lang_model::token::{Kind, Token};
@@ -119,6 +122,33 @@ fn with_domain(
     Ok((Expr::Inject { at, base, domain }, rest))
 }
 
+/// The list of one argument.
+fn one_argument(alloc: Global, argument: Expr) -> Result<Vec<Expr>, Halt>
+    ensures { MatchResult result (λ args. args.items ≡ argument ∷ []) (λ halt. halt ≡ NoMemory) }
+{
+    let mut args = Vec::new(alloc);
+    args.push(argument)?;
+    Ok(args)
+}
+
+/// The list of two arguments.
+fn two_arguments(alloc: Global, first: Expr, second: Expr) -> Result<Vec<Expr>, Halt>
+    ensures { MatchResult result (λ args. args.items ≡ first ∷ second ∷ []) (λ halt. halt ≡ NoMemory) }
+{
+    let mut args = one_argument(alloc, first)?;
+    args.push(second)?;
+    Ok(args)
+}
+
+/// The two parts of a pair, each in a box of its own.
+fn boxes(alloc: Global, left: Expr, right: Expr) -> Result<(Box<Expr>, Box<Expr>), Halt>
+    ensures { MatchResult result (λ b. (b.0.value ≡ left) × (b.1.value ≡ right)) (λ halt. halt ≡ NoMemory) }
+{
+    let left = Box::new(alloc, left)?;
+    let right = Box::new(alloc, right)?;
+    Ok((left, right))
+}
+
 /// An expression inside of a construct around which so many are open.
 #[cycle(expr)]
 pub fn inner(
@@ -133,6 +163,26 @@ pub fn inner(
         (Refuses (ending_of end) (ExprPart OrLevel (suc depth) ∷ []) tokens.now) }
 {
     chain(alloc, tokens, end, depth + 1, Chains::Or)
+}
+
+/// An expression inside of a construct around which so many are open, with this sign behind it.
+#[cycle(expr)]
+fn inner_and_sign(
+    alloc: Global,
+    tokens: &[Token],
+    end: Ending,
+    depth: u32,
+    byte: u8,
+) -> Result<(Expr, &[Token]), Halt>
+    requires depth { depth < nesting_limit }
+    requires count { length tokens.now < 2 ^ 32 }
+    ensures { MatchResult result (λ x. Got (ending_of end) (ExprPart OrLevel (suc depth) ∷ SignPart byte ∷ [])
+        (λ t r. (mid : List TOKEN) × Spelled OrLevel (suc depth) x.0 t mid × Takes (Sign byte) mid r) tokens.now
+        x.1.now) (Refuses (ending_of end) (ExprPart OrLevel (suc depth) ∷ SignPart byte ∷ []) tokens.now) }
+{
+    let (expr, rest) = inner(alloc, tokens, end, depth)?;
+    let (expr, rest) = with_sign(expr, rest, end, byte)?;
+    Ok((expr, rest))
 }
 
 /// A base name with one argument, behind the name.
@@ -151,10 +201,8 @@ fn with_one(
         tokens.now x.1.now) (Refuses (ending_of end) (form_parts TakesOne depth) tokens.now) }
 {
     let (_, rest) = open(tokens, end, depth)?;
-    let (argument, rest) = inner(alloc, rest, end, depth)?;
-    let (_, rest) = next_sign(rest, end, b')')?;
-    let mut args = Vec::new(alloc);
-    args.push(argument)?;
+    let (argument, rest) = inner_and_sign(alloc, rest, end, depth, b')')?;
+    let args = one_argument(alloc, argument)?;
     Ok((Expr::Base { at, base, args }, rest))
 }
 
@@ -174,13 +222,9 @@ fn with_two(
         tokens.now x.1.now) (Refuses (ending_of end) (form_parts TakesTwo depth) tokens.now) }
 {
     let (_, rest) = open(tokens, end, depth)?;
-    let (first, rest) = inner(alloc, rest, end, depth)?;
-    let (_, rest) = next_sign(rest, end, b',')?;
-    let (second, rest) = inner(alloc, rest, end, depth)?;
-    let (_, rest) = next_sign(rest, end, b')')?;
-    let mut args = Vec::new(alloc);
-    args.push(first)?;
-    args.push(second)?;
+    let (first, rest) = inner_and_sign(alloc, rest, end, depth, b',')?;
+    let (second, rest) = inner_and_sign(alloc, rest, end, depth, b')')?;
+    let args = two_arguments(alloc, first, second)?;
     Ok((Expr::Base { at, base, args }, rest))
 }
 
@@ -276,8 +320,7 @@ fn enclosed(
         (ExprPart OrLevel (suc depth) ∷ SignPart 41 ∷ []) depth x.0 tokens.now x.1.now)
         (Refuses (ending_of end) (ExprPart OrLevel (suc depth) ∷ SignPart 41 ∷ []) tokens.now) }
 {
-    let (expr, rest) = inner(alloc, tokens, end, depth)?;
-    let (_, rest) = next_sign(rest, end, b')')?;
+    let (expr, rest) = inner_and_sign(alloc, tokens, end, depth, b')')?;
     Ok((expr, rest))
 }
 
@@ -297,12 +340,9 @@ fn pair(
         tokens.now x.1.now) (Refuses (ending_of end) (ExprPart OrLevel (suc depth) ∷ SignPart 44
         ∷ ExprPart OrLevel (suc depth) ∷ SignPart 93 ∷ []) tokens.now) }
 {
-    let (left, rest) = inner(alloc, tokens, end, depth)?;
-    let (_, rest) = next_sign(rest, end, b',')?;
-    let (right, rest) = inner(alloc, rest, end, depth)?;
-    let (_, rest) = next_sign(rest, end, b']')?;
-    let left = Box::new(alloc, left)?;
-    let right = Box::new(alloc, right)?;
+    let (left, rest) = inner_and_sign(alloc, tokens, end, depth, b',')?;
+    let (right, rest) = inner_and_sign(alloc, rest, end, depth, b']')?;
+    let (left, right) = boxes(alloc, left, right)?;
     Ok((Expr::Pair { at, left, right }, rest))
 }
 

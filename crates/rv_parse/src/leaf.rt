@@ -67,6 +67,21 @@ pub fn next_sign(tokens: &[Token], end: Ending, byte: u8) -> Result<(Place, &[To
     }
 }
 
+/// What was read, with this sign behind it.
+pub fn with_sign<T: Drop>(
+    found: T,
+    tokens: &[Token],
+    end: Ending,
+    byte: u8,
+) -> Result<(T, &[Token]), Halt>
+    ensures { MatchResult result (λ x. (x.0 ≡ found) × Takes (Sign byte) tokens.now x.1.now
+        × Reads (ending_of end) (SignPart byte ∷ []) tokens.now x.1.now)
+        (Refuses (ending_of end) (SignPart byte ∷ []) tokens.now) }
+{
+    let (_, rest) = next_sign(tokens, end, byte)?;
+    Ok((found, rest))
+}
+
 /// The number of a keyword among all.
 fn number_of(keyword: Keyword) -> u8
     ensures { result ≡ number_of keyword }
@@ -132,6 +147,21 @@ pub fn next_word(tokens: &[Token], end: Ending, keyword: Keyword) -> Result<(Pla
         Some(found) => Ok(found),
         None => Err(missing(tokens, end, Wanted::Word(keyword))),
     }
+}
+
+/// What was read, with this keyword behind it.
+pub fn with_word<T: Drop>(
+    found: T,
+    tokens: &[Token],
+    end: Ending,
+    keyword: Keyword,
+) -> Result<(T, &[Token]), Halt>
+    ensures { MatchResult result (λ x. (x.0 ≡ found) × Takes (KEYWORD keyword) tokens.now x.1.now
+        × Reads (ending_of end) (WordPart keyword ∷ []) tokens.now x.1.now)
+        (Refuses (ending_of end) (WordPart keyword ∷ []) tokens.now) }
+{
+    let (_, rest) = next_word(tokens, end, keyword)?;
+    Ok((found, rest))
 }
 
 /// A name, whose copy takes memory.

@@ -1,9 +1,9 @@
 //! Listed relations.
 ghost use Rattle.std.specs.Prelude.{◌≡◌, ◌≤◌, ◌∷◌, [], List, MatchResult};
-ghost use Rattle.lang_model.specs.Taken.{Takes};
+ghost use Rattle.lang_model.specs.Taken.{Takes, TakesAt};
 ghost use Rattle.lang_model.specs.Spelling.{SpellsColumns, SpellsRow, SpellsMoreRows, SpellsRows, SpellsCommand};
-ghost use Rattle.lang_model.specs.Stop.{FromOne, RowsPart, MoreRows, MoreColumns, row_parts};
-ghost use Rattle.lang_model.specs.declared.token.Kind.TheVariants.{Keyword as KEYWORD};
+ghost use Rattle.lang_model.specs.Stop.{FromOne, NumberPart, SignPart, RowsPart, MoreRows, MoreColumns, row_parts};
+ghost use Rattle.lang_model.specs.declared.token.Kind.TheVariants.{Keyword as KEYWORD, Number, Sign};
 ghost use Rattle.lang_model.specs.declared.token.Keyword.TheVariants.{Rel as REL};
 ghost use Rattle.lang_model.specs.declared.token.Token.{Token as TOKEN};
 ghost use Rattle.rv_tokens.specs.Endings.{ending_of};
@@ -12,10 +12,19 @@ ghost use Rattle.rv_parse.specs.Got.{Got, relation_parts};
 
 use crate::halt::Halt;
 use crate::leaf::{behind_sign, next_from_one, next_name, next_number, next_sign};
-use lang_model::syntax::{Column, Command, Row};
+use lang_model::syntax::{Column, Command, Place, Row};
 use lang_model::token::{Kind, Token};
 use rv_tokens::Ending;
 use std::alloc::Global;
+
+/// How many rows and columns a listed relation has, and where these numbers stand.
+#[derive(Clone, Copy)]
+struct Sizes {
+    rows: u64,
+    rows_at: Place,
+    cols: u64,
+    cols_at: Place,
+}
 
 /// Whether a number comes first.
 fn begins_number(tokens: &[Token]) -> bool
@@ -79,6 +88,36 @@ fn rows(alloc: Global, tokens: &[Token], end: Ending) -> Result<(Vec<Row>, &[Tok
     Ok((rows, rest))
 }
 
+/// The numbers of rows and columns of a listed relation.
+fn both_sizes(tokens: &[Token], end: Ending) -> Result<(Sizes, &[Token]), Halt>
+    ensures { MatchResult result (λ x. Got (ending_of end) (NumberPart ∷ NumberPart ∷ [])
+        (λ t r. (mid : List TOKEN) × TakesAt x.0.rows_at (Number x.0.rows) t mid
+        × TakesAt x.0.cols_at (Number x.0.cols) mid r) tokens.now x.1.now)
+        (Refuses (ending_of end) (NumberPart ∷ NumberPart ∷ []) tokens.now) }
+{
+    let (rows, rows_at, rest) = next_number(tokens, end)?;
+    let (cols, cols_at, rest) = next_number(rest, end)?;
+    let sizes = Sizes {
+        rows,
+        rows_at,
+        cols,
+        cols_at,
+    };
+    Ok((sizes, rest))
+}
+
+/// The rows with the braces around them.
+fn braced_rows(alloc: Global, tokens: &[Token], end: Ending) -> Result<(Vec<Row>, &[Token]), Halt>
+    ensures { MatchResult result (λ x. Got (ending_of end) (SignPart 123 ∷ RowsPart ∷ SignPart 125 ∷ [])
+        (λ t r. (t1 t2 : List TOKEN) × Takes (Sign 123) t t1 × SpellsRows x.0.items t1 t2 × Takes (Sign 125) t2 r)
+        tokens.now x.1.now) (Refuses (ending_of end) (SignPart 123 ∷ RowsPart ∷ SignPart 125 ∷ []) tokens.now) }
+{
+    let (_, rest) = next_sign(tokens, end, b'{')?;
+    let (list, rest) = rows(alloc, rest, end)?;
+    let (_, rest) = next_sign(rest, end, b'}')?;
+    Ok((list, rest))
+}
+
 /// The relation behind REL.
 pub fn relation(alloc: Global, tokens: &[Token], end: Ending) -> Result<(Command, &[Token]), Halt>
     ensures { MatchResult result (λ x. Got (ending_of end) relation_parts
@@ -86,20 +125,15 @@ pub fn relation(alloc: Global, tokens: &[Token], end: Ending) -> Result<(Command
         (Refuses (ending_of end) relation_parts tokens.now) }
 {
     let (name, _, rest) = next_name(alloc, tokens, end)?;
-    let (rows_total, rows_at, rest) = next_number(rest, end)?;
-    let (cols, cols_at, rest) = next_number(rest, end)?;
-    let (_, rest) = next_sign(rest, end, b'{')?;
-    let (list, rest) = rows(alloc, rest, end)?;
-    let (_, rest) = next_sign(rest, end, b'}')?;
-    Ok((
-        Command::Relation {
-            name,
-            rows: rows_total,
-            rows_at,
-            cols,
-            cols_at,
-            list,
-        },
-        rest,
-    ))
+    let (sizes, rest) = both_sizes(rest, end)?;
+    let (list, rest) = braced_rows(alloc, rest, end)?;
+    let command = Command::Relation {
+        name,
+        rows: sizes.rows,
+        rows_at: sizes.rows_at,
+        cols: sizes.cols,
+        cols_at: sizes.cols_at,
+        list,
+    };
+    Ok((command, rest))
 }

@@ -19,7 +19,7 @@ ghost use Rattle.rv_parse.specs.Stops.{StopsAt, IsFaultOf, IsToken, TakesMemory}
 use crate::command::{Opening, command, opening_of};
 use crate::def::definition;
 use crate::halt::{Halt, Wanted};
-use crate::leaf::{missing, next_sign};
+use crate::leaf::{missing, with_sign};
 use lang_model::faults::{ParseFault, What};
 use lang_model::syntax::{Item, Name, Place, Script};
 use lang_model::token::{Keyword, Kind, Token};
@@ -83,7 +83,7 @@ fn whole_item(alloc: Global, tokens: &[Token], end: Ending) -> Result<(Item, &[T
         (RefusesItems (ending_of end) tokens.now) }
 {
     let (item, rest) = next_item(alloc, tokens, end)?;
-    let (_, rest) = next_sign(rest, end, b'.')?;
+    let (item, rest) = with_sign(item, rest, end, b'.')?;
     Ok((item, rest))
 }
 

@@ -1,21 +1,21 @@
 //! Statements.
 ghost use Rattle.std.specs.Prelude.{◌≡◌, ◌<◌, ◌≤◌, ◌^◌, ◌∷◌, [], List, suc, length, MatchResult, MatchOption};
-ghost use Rattle.lang_model.specs.Taken.{TakesAt};
+ghost use Rattle.lang_model.specs.Taken.{TakesAt, Takes};
 ghost use Rattle.lang_model.specs.Limits.{nesting_limit};
-ghost use Rattle.lang_model.specs.Spelling.{SpelledStmt, SpelledStmts};
-ghost use Rattle.lang_model.specs.Stop.{StmtsPart, MoreStmts};
+ghost use Rattle.lang_model.specs.Spelling.{OrLevel, Spelled, SpelledStmt, SpelledStmts};
+ghost use Rattle.lang_model.specs.Stop.{ExprPart, WordPart, StmtsPart, ElsePart, MoreStmts};
 ghost use Rattle.lang_model.specs.declared.token.Kind.TheVariants.{Keyword as KEYWORD, Word};
-ghost use Rattle.lang_model.specs.declared.token.Keyword.TheVariants.{While as WHILE, If as IF};
+ghost use Rattle.lang_model.specs.declared.token.Keyword.TheVariants.{While as WHILE, If as IF, Fi as FI};
 ghost use Rattle.lang_model.specs.declared.token.Token.{Token as TOKEN};
 ghost use Rattle.rv_tokens.specs.Endings.{ending_of};
 ghost use Rattle.rv_parse.specs.Readers.{Refuses};
-ghost use Rattle.rv_parse.specs.Got.{Got, ReadsTo, set_parts, while_parts, if_parts};
+ghost use Rattle.rv_parse.specs.Got.{Got, ReadsTo, SpellsSecond, set_parts, while_parts, if_parts};
 
 use crate::expr::{expression, inner};
 use crate::halt::Halt;
-use crate::leaf::{behind_sign, behind_word, next_sign, next_word};
+use crate::leaf::{behind_sign, behind_word, next_sign, next_word, with_word};
 use lang_model::limits::NESTING_LIMIT;
-use lang_model::syntax::{Name, Place, Stmt};
+use lang_model::syntax::{Expr, Name, Place, Stmt};
 use lang_model::token::{Keyword, Kind, Token};
 use rv_tokens::Ending;
 use std::alloc::Global;
@@ -41,6 +41,25 @@ fn set<'a>(
     Ok((Stmt::Set { at, name, value }, rest))
 }
 
+/// A test inside of a construct around which so many are open, with the keyword behind it.
+fn test_and_word(
+    alloc: Global,
+    tokens: &[Token],
+    end: Ending,
+    depth: u32,
+    keyword: Keyword,
+) -> Result<(Expr, &[Token]), Halt>
+    requires depth { depth < nesting_limit }
+    requires count { length tokens.now < 2 ^ 32 }
+    ensures { MatchResult result (λ x. Got (ending_of end) (ExprPart OrLevel (suc depth) ∷ WordPart keyword ∷ [])
+        (λ t r. (mid : List TOKEN) × Spelled OrLevel (suc depth) x.0 t mid × Takes (KEYWORD keyword) mid r) tokens.now
+        x.1.now) (Refuses (ending_of end) (ExprPart OrLevel (suc depth) ∷ WordPart keyword ∷ []) tokens.now) }
+{
+    let (test, rest) = inner(alloc, tokens, end, depth)?;
+    let (test, rest) = with_word(test, rest, end, keyword)?;
+    Ok((test, rest))
+}
+
 /// Statements inside of a construct around which so many are open.
 #[cycle(stmt)]
 fn inner_stmts(
@@ -58,6 +77,52 @@ fn inner_stmts(
     stmts(alloc, tokens, end, depth + 1)
 }
 
+/// Statements inside of a construct around which so many are open, with the keyword behind them.
+#[cycle(stmt)]
+fn stmts_and_word(
+    alloc: Global,
+    tokens: &[Token],
+    end: Ending,
+    depth: u32,
+    keyword: Keyword,
+) -> Result<(Vec<Stmt>, &[Token]), Halt>
+    requires depth { depth < nesting_limit }
+    requires count { length tokens.now < 2 ^ 32 }
+    ensures { MatchResult result (λ x. Got (ending_of end) (StmtsPart (suc depth) ∷ WordPart keyword ∷ [])
+        (λ t r. (mid : List TOKEN) × SpelledStmts (suc depth) x.0.items t mid × Takes (KEYWORD keyword) mid r)
+        tokens.now x.1.now) (Refuses (ending_of end) (StmtsPart (suc depth) ∷ WordPart keyword ∷ []) tokens.now) }
+{
+    let (body, rest) = inner_stmts(alloc, tokens, end, depth)?;
+    let (_, rest) = next_word(rest, end, keyword)?;
+    Ok((body, rest))
+}
+
+/// The second part of a choice, where it has one, up to FI.
+#[cycle(stmt)]
+fn second_part(
+    alloc: Global,
+    tokens: &[Token],
+    end: Ending,
+    depth: u32,
+) -> Result<(Vec<Stmt>, &[Token]), Halt>
+    requires depth { depth < nesting_limit }
+    requires count { length tokens.now < 2 ^ 32 }
+    ensures { MatchResult result (λ x. Got (ending_of end) (ElsePart (suc depth) ∷ WordPart FI ∷ [])
+        (SpellsSecond (suc depth) x.0.items) tokens.now x.1.now)
+        (Refuses (ending_of end) (ElsePart (suc depth) ∷ WordPart FI ∷ []) tokens.now) }
+{
+    match behind_word(tokens, Keyword::Else) {
+        Some((_, behind)) => {
+            let (no, rest) = stmts_and_word(alloc, behind, end, depth, Keyword::Fi)?;
+            Ok((no, rest))
+        }
+        None => {
+            let (_, rest) = next_word(tokens, end, Keyword::Fi)?;
+            Ok((Vec::new(alloc), rest))
+        }
+    }
+}
+
 /// A loop behind WHILE.
 #[cycle(stmt)]
 fn looped(
@@ -73,10 +138,8 @@ fn looped(
         (λ t r. (before : List TOKEN) → TakesAt at (KEYWORD WHILE) before t → SpelledStmt depth x.0 before r)
         tokens.now x.1.now) (Refuses (ending_of end) (while_parts depth) tokens.now) }
 {
-    let (test, rest) = inner(alloc, tokens, end, depth)?;
-    let (_, rest) = next_word(rest, end, Keyword::Do)?;
-    let (body, rest) = inner_stmts(alloc, rest, end, depth)?;
-    let (_, rest) = next_word(rest, end, Keyword::Od)?;
+    let (test, rest) = test_and_word(alloc, tokens, end, depth, Keyword::Do)?;
+    let (body, rest) = stmts_and_word(alloc, rest, end, depth, Keyword::Od)?;
     Ok((Stmt::While { at, test, body }, rest))
 }
 
@@ -95,21 +158,10 @@ fn branched(
         (λ t r. (before : List TOKEN) → TakesAt at (KEYWORD IF) before t → SpelledStmt depth x.0 before r) tokens.now
         x.1.now) (Refuses (ending_of end) (if_parts depth) tokens.now) }
 {
-    let (test, rest) = inner(alloc, tokens, end, depth)?;
-    let (_, rest) = next_word(rest, end, Keyword::Then)?;
+    let (test, rest) = test_and_word(alloc, tokens, end, depth, Keyword::Then)?;
     let (yes, rest) = inner_stmts(alloc, rest, end, depth)?;
-    match behind_word(rest, Keyword::Else) {
-        Some((_, behind)) => {
-            let (no, rest) = inner_stmts(alloc, behind, end, depth)?;
-            let (_, rest) = next_word(rest, end, Keyword::Fi)?;
-            Ok((Stmt::If { at, test, yes, no }, rest))
-        }
-        None => {
-            let (_, rest) = next_word(rest, end, Keyword::Fi)?;
-            let no = Vec::new(alloc);
-            Ok((Stmt::If { at, test, yes, no }, rest))
-        }
-    }
+    let (no, rest) = second_part(alloc, rest, end, depth)?;
+    Ok((Stmt::If { at, test, yes, no }, rest))
 }
 
 /// A statement, where one begins.

@@ -1,5 +1,5 @@
 -- What the names of an expression may be, as the walk over a script keeps it.
-use Rattle.std.specs.Prelude.{◌≡◌, ℕ, List, false, true}
+use Rattle.std.specs.Prelude.{◌≡◌, ℕ, Bool, List, [], false, true}
 use Rattle.lang_model.specs.declared.syntax.Decl.{Decl}
 use Rattle.lang_model.specs.Checking.{among, Known, Scope, variables_of, domains_of}
 use Rattle.rv_types.specs.declared.scope.Scope.{Scope as Kept}
@@ -13,6 +13,28 @@ scope_of kept = record {
   products = kept.products;
   sums = kept.sums;
   earlier = kept.earlier.now;
+}
+
+-- the scope of no parameter and no declaration behind these definitions
+abbrev pub scope_behind : Bool → List Known → Scope
+scope_behind is_command earlier = record {
+  is_command = is_command;
+  parameters = [];
+  variables = [];
+  products = [];
+  sums = [];
+  earlier = earlier;
+}
+
+-- the same scope with these parameters
+abbrev pub with_parameters : List (List ℕ) → Scope → Scope
+with_parameters parameters scope = record {
+  is_command = scope.is_command;
+  parameters = parameters;
+  variables = scope.variables;
+  products = scope.products;
+  sums = scope.sums;
+  earlier = scope.earlier;
 }
 
 -- a scope of a program with these parameters and declarations behind these definitions

@@ -3,7 +3,7 @@ ghost use Rattle.std.specs.Prelude.{◌≡◌, ◌⊎◌, [], None, Some, true, 
 ghost use Rattle.std.specs.List.{list_any};
 ghost use Rattle.lang_model.specs.declared.faults.TypeFault.TheVariants.{NoMemory as NO_MEMORY};
 ghost use Rattle.lang_model.specs.Checking.{first_fault, items_faults, flaw};
-ghost use Rattle.rv_types.specs.Found.{told};
+ghost use Rattle.rv_types.specs.Found.{told, fault};
 ghost use Rattle.rv_types.specs.Defining.{is_definition, IsDefinition, TakesMemory};
 
 use crate::definitions::Definitions;
@@ -61,6 +61,16 @@ fn find_fault<'a>(
     Ok(found)
 }
 
+/// The fault that was found, or that memory is wanted for its name.
+fn fault_or_want(alloc: Global, found: Found) -> TypeFault
+    ensures { (result ≡ NO_MEMORY) ⊎ (result ≡ fault found.entry) }
+{
+    match fault_of(alloc, found) {
+        Err(NoMemory) => TypeFault::NoMemory,
+        Ok(fault) => fault,
+    }
+}
+
 /// Whether a script has no fault: its first one is the error.
 fn find_flaw(alloc: Global, script: &Script) -> Result<(), TypeFault>
     ensures fault { MatchResult result (λ _. flaw script.now ≡ None)
@@ -71,10 +81,7 @@ fn find_flaw(alloc: Global, script: &Script) -> Result<(), TypeFault>
     match find_fault(alloc, script.items.as_slice(), &mut definitions) {
         Err(NoMemory) => Err(TypeFault::NoMemory),
         Ok(None) => Ok(()),
-        Ok(Some(found)) => match fault_of(alloc, found) {
-            Err(NoMemory) => Err(TypeFault::NoMemory),
-            Ok(fault) => Err(fault),
-        },
+        Ok(Some(found)) => Err(fault_or_want(alloc, found)),
     }
 }
 

@@ -1,5 +1,6 @@
 //! The faults of a program's declarations, and what they declare.
-ghost use Rattle.std.specs.Prelude.{◌≡◌, ◌<◌, ◌||◌, ◌∷◌, [], ℕ, List, length, IfOk, OnOk, OnErr};
+ghost use Rattle.std.specs.Prelude.{◌≡◌, ◌<◌, ◌||◌, ◌∷◌, [], ℕ, List, cond, length, IfOk, OnOk, OnErr};
+ghost use Rattle.lang_model.specs.declared.faults.TypeFault.TheVariants.{Twice};
 ghost use Rattle.lang_model.specs.Checking.{among, operand_faults, decl_faults, variables_of, domains_of, name_of as name_of_decl, place_of_decl};
 ghost use Rattle.rv_types.specs.Found.{told, noted as noted_all};
 
@@ -8,7 +9,6 @@ use crate::head::check_repeated;
 use crate::names::Names;
 use lang_model::syntax::{Decl, Name, Place};
 use rel_model::NoMemory;
-use std::alloc::Global;
 
 /// A domain is of two parameters: the first of its two names that is none is unknown at the declaration.
 fn check_operands<'a>(
@@ -65,6 +65,38 @@ fn place_of(decl: &Decl) -> Place
     }
 }
 
+/// The faults of a declaration behind names that were given before.
+fn check_decl<'a>(
+    parameters: &Names<'a>,
+    before: &Names<'a>,
+    decl: &'a Decl,
+    so_far: Option<Found<'a>>,
+) -> Option<Found<'a>>
+    ensures { told result ≡ noted_all (noted_all (told so_far.entry) (cond (among before.now (name_of_decl decl.now))
+        (Twice (place_of_decl decl.now) (name_of_decl decl.now) ∷ []) [])) (operand_faults parameters.now decl.now) }
+{
+    let repeated = check_repeated(before, place_of(decl), name_of(decl), so_far);
+    check_operands(parameters, decl, repeated)
+}
+
+/// The faults of declarations behind names that were given before, to which their names are added.
+fn check_decls_behind<'a>(
+    parameters: &Names<'a>,
+    before: &mut Names<'a>,
+    decls: &'a [Decl],
+    so_far: Option<Found<'a>>,
+) -> Result<Option<Found<'a>>, NoMemory>
+    ensures { IfOk result (λ r. told r ≡ noted_all (told so_far.entry)
+        (decl_faults parameters.now before.old decls.now)) }
+{
+    let mut found = so_far;
+    'each: for decl in decls {
+        found = check_decl(parameters, before, decl, found);
+        before.add(name_of(decl).bytes())?;
+    }
+    Ok(found)
+}
+
 /// The faults of declarations behind parameters.
 pub fn check_decls<'a>(
     parameters: &Names<'a>,
@@ -75,13 +107,7 @@ pub fn check_decls<'a>(
         (decl_faults parameters.now parameters.now decls.now)) }
 {
     let mut before = parameters.copied()?;
-    let mut found = so_far;
-    'each: for decl in decls {
-        let repeated = check_repeated(&before, place_of(decl), name_of(decl), found);
-        found = check_operands(parameters, decl, repeated);
-        before.add(name_of(decl).bytes())?;
-    }
-    Ok(found)
+    check_decls_behind(parameters, &mut before, decls, so_far)
 }
 
 /// One more name, where a declaration is of a variable.
@@ -95,16 +121,16 @@ fn add_variable<'a>(names: &mut Names<'a>, decl: &'a Decl) -> Result<(), NoMemor
     }
 }
 
-/// The declared variables.
-pub fn variables<'a>(alloc: Global, decls: &'a [Decl]) -> Result<Names<'a>, NoMemory>
-    ensures names { IfOk result (λ r. (n : List ℕ) → among r n ≡ among (variables_of decls.now) n) }
+/// The declared variables, added to names.
+pub fn add_variables<'a>(names: &mut Names<'a>, decls: &'a [Decl]) -> Result<(), NoMemory>
+    ensures names { OnOk result ((n : List ℕ) → among names.new n
+        ≡ (among (variables_of decls.now) n || among names.old n)) }
     ensures memory { OnErr result (0 < length decls.now) }
 {
-    let mut names = Names::new(alloc);
     'each: for decl in decls {
-        add_variable(&mut names, decl)?;
+        add_variable(names, decl)?;
     }
-    Ok(names)
+    Ok(())
 }
 
 /// One more name, where a declaration is of a domain of this kind.
@@ -124,14 +150,14 @@ fn add_domain<'a>(names: &mut Names<'a>, sums: bool, decl: &'a Decl) -> Result<(
     }
 }
 
-/// The declared domains: those of SUM, or those of PROD.
-pub fn domains<'a>(alloc: Global, sums: bool, decls: &'a [Decl]) -> Result<Names<'a>, NoMemory>
-    ensures names { IfOk result (λ r. (n : List ℕ) → among r n ≡ among (domains_of sums decls.now) n) }
+/// The declared domains, those of SUM or those of PROD, added to names.
+pub fn add_domains<'a>(names: &mut Names<'a>, sums: bool, decls: &'a [Decl]) -> Result<(), NoMemory>
+    ensures names { OnOk result ((n : List ℕ) → among names.new n
+        ≡ (among (domains_of sums decls.now) n || among names.old n)) }
     ensures memory { OnErr result (0 < length decls.now) }
 {
-    let mut names = Names::new(alloc);
     'each: for decl in decls {
-        add_domain(&mut names, sums, decl)?;
+        add_domain(names, sums, decl)?;
     }
-    Ok(names)
+    Ok(())
 }

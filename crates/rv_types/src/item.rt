@@ -1,42 +1,22 @@
 //! The faults of an item behind the definitions of earlier ones, and what it defines.
-ghost use Rattle.std.specs.Prelude.{◌≡◌, ◌-◌, ◌^◌, true, ℕ, List, IfOk, OnOk, OnErr, option_copied};
+ghost use Rattle.std.specs.Prelude.{◌≡◌, ◌-◌, ◌^◌, true, false, ℕ, List, IfOk, OnOk, OnErr, option_copied};
 ghost use Rattle.lang_model.specs.Checking.{among, faults_by, assigned_by, called_by_all, rank_of as rank_of_item, item_faults, known_with, definition_of, head_faults, decl_faults, faults, function_scope, program_scope as scope_of_program, no_name, command_faults};
 ghost use Rattle.rv_types.specs.Found.{told, noted as noted_all};
-ghost use Rattle.rv_types.specs.Scopes.{scope_of, OfProgram};
+ghost use Rattle.rv_types.specs.Scopes.{scope_of, scope_behind, with_parameters, OfProgram};
 ghost use Rattle.rv_types.specs.Defining.{is_definition};
 ghost use Rattle.rv_types.specs.Items.{value_of_command, called_by_item, RanksWithin};
 
-use crate::declarations::{check_decls, domains, variables};
+use crate::declarations::{add_domains, add_variables, check_decls};
 use crate::definitions::{Definitions, Summary};
 use crate::expression::{check_expr, greatest_called};
 use crate::found::Found;
 use crate::head::{Head, check_head};
 use crate::names::Names;
 use crate::scope::Scope;
-use crate::statement::{check_stmt, greatest_called_by};
+use crate::statement::{check_stmts, greatest_called_by};
 use lang_model::syntax::{Command, Decl, Expr, Item, Stmt};
 use rel_model::NoMemory;
 use std::alloc::Global;
-
-/// The first fault so far and of statements before which these variables are assigned. Afterwards those behind them
-/// are.
-fn check_stmts<'a>(
-    scope: &Scope<'a, '_>,
-    assigned: &mut Names<'a>,
-    stmts: &'a [Stmt],
-    so_far: Option<Found<'a>>,
-) -> Result<Option<Found<'a>>, NoMemory>
-    ensures fault { IfOk result (λ r. told r ≡ noted_all (told so_far.entry)
-        (faults_by (scope_of scope.now) (among assigned.old) stmts.now)) }
-    ensures assigned { OnOk result ((n : List ℕ) → among assigned.new n
-        ≡ assigned_by (among assigned.old) stmts.now n) }
-{
-    let mut found = so_far;
-    'each: for stmt in stmts {
-        found = check_stmt(scope, assigned, stmt, found)?;
-    }
-    Ok(found)
-}
 
 /// The greatest rank among the definitions that statements call, or 0 where they call none.
 fn greatest_called_by_all(earlier: &Definitions, stmts: &[Stmt]) -> usize
@@ -90,17 +70,34 @@ pub fn rank_of(earlier: &Definitions, item: &Item) -> usize
     }
 }
 
-/// The faults of an expression in a scope that ends with it.
-fn check_last<'a>(
-    scope: Scope<'a, '_>,
-    assigned: Names<'a>,
+/// The faults of an expression before which nothing is assigned.
+fn check_alone<'a>(
+    alloc: Global,
+    scope: &Scope<'a, '_>,
     expr: &'a Expr,
     so_far: Option<Found<'a>>,
 ) -> Option<Found<'a>>
-    ensures { told result ≡ noted_all (told so_far.entry)
-        (faults (scope_of scope.entry) (among assigned.entry) expr.now) }
+    ensures { told result ≡ noted_all (told so_far.entry) (faults (scope_of scope.now) no_name expr.now) }
 {
-    check_expr(&scope, &assigned, expr, so_far)
+    let assigned = Names::new(alloc);
+    check_expr(scope, &assigned, expr, so_far)
+}
+
+/// The faults of a function's head and of its body, in a scope of no parameter. Afterwards it has the function's.
+fn check_head_and_value<'a>(
+    alloc: Global,
+    scope: &mut Scope<'a, '_>,
+    head: Head<'a>,
+    body: &'a Expr,
+    so_far: Option<Found<'a>>,
+) -> Result<Option<Found<'a>>, NoMemory>
+    requires { scope_of scope.old ≡ scope_behind false scope.old.earlier.now }
+    ensures { IfOk result (λ r. told r ≡ noted_all (noted_all (told so_far.entry) (head_faults
+        scope.old.earlier.now head.entry.at head.entry.name.now head.entry.params.now head.entry.rank))
+        (faults (function_scope scope.old.earlier.now head.entry.params.now) no_name body.now)) }
+{
+    let found = check_head(scope.earlier, head, &mut scope.parameters, so_far)?;
+    Ok(check_alone(alloc, scope, body, found))
 }
 
 /// The faults of the function `head.name(head.params) = body`.
@@ -115,39 +112,79 @@ fn check_function<'a>(
         (head_faults earlier.now head.entry.at head.entry.name.now head.entry.params.now head.entry.rank))
         (faults (function_scope earlier.now head.entry.params.now) no_name body.now)) }
 {
-    let mut parameters = Names::new(alloc);
-    let found = check_head(earlier, head, &mut parameters, so_far)?;
-    let scope = Scope {
-        is_command: false,
-        parameters,
-        variables: Names::new(alloc),
-        products: Names::new(alloc),
-        sums: Names::new(alloc),
-        earlier,
-    };
-    Ok(check_last(scope, Names::new(alloc), body, found))
+    let mut scope = Scope::new(alloc, false, earlier);
+    check_head_and_value(alloc, &mut scope, head, body, so_far)
 }
 
-/// What the names of a program may be.
-fn program_scope<'a, 'd>(
-    alloc: Global,
-    earlier: &'d Definitions,
-    parameters: Names<'a>,
-    decls: &'a [Decl],
-) -> Result<Scope<'a, 'd>, NoMemory>
-    ensures { IfOk result (λ s. OfProgram earlier.now parameters.entry decls.now (scope_of s)) }
+/// What declarations declare, added to a scope of no declaration.
+fn declare<'a>(scope: &mut Scope<'a, '_>, decls: &'a [Decl]) -> Result<(), NoMemory>
+    requires { scope_of scope.old ≡ with_parameters scope.old.parameters (scope_behind false scope.old.earlier.now) }
+    ensures { OnOk result (OfProgram scope.old.earlier.now scope.old.parameters decls.now (scope_of scope.new)) }
 {
-    let variables = variables(alloc, decls)?;
-    let products = domains(alloc, false, decls)?;
-    let sums = domains(alloc, true, decls)?;
-    Ok(Scope {
-        is_command: false,
-        parameters,
-        variables,
-        products,
-        sums,
-        earlier,
-    })
+    add_variables(&mut scope.variables, decls)?;
+    add_domains(&mut scope.products, false, decls)?;
+    add_domains(&mut scope.sums, true, decls)?;
+    Ok(())
+}
+
+/// The faults of a program's head and declarations, in a scope of no name. Afterwards it has their names.
+fn check_declared<'a>(
+    scope: &mut Scope<'a, '_>,
+    head: Head<'a>,
+    decls: &'a [Decl],
+    so_far: Option<Found<'a>>,
+) -> Result<Option<Found<'a>>, NoMemory>
+    requires { scope_of scope.old ≡ scope_behind false scope.old.earlier.now }
+    ensures fault { IfOk result (λ r. told r ≡ noted_all (noted_all (told so_far.entry) (head_faults
+        scope.old.earlier.now head.entry.at head.entry.name.now head.entry.params.now head.entry.rank))
+        (decl_faults head.entry.params.now head.entry.params.now decls.now)) }
+    ensures parameters { OnOk result ((n : List ℕ) → among scope.new.parameters n ≡ among head.entry.params.now n) }
+    ensures scope { OnOk result (OfProgram scope.old.earlier.now scope.new.parameters decls.now (scope_of scope.new)) }
+{
+    let named = check_head(scope.earlier, head, &mut scope.parameters, so_far)?;
+    let found = check_decls(&scope.parameters, decls, named)?;
+    declare(scope, decls)?;
+    Ok(found)
+}
+
+/// The faults of a program's body and of its result.
+fn check_body<'a>(
+    alloc: Global,
+    scope: &Scope<'a, '_>,
+    body: &'a [Stmt],
+    value: &'a Expr,
+    so_far: Option<Found<'a>>,
+) -> Result<Option<Found<'a>>, NoMemory>
+    ensures { IfOk result (λ r. told r ≡ noted_all (noted_all (told so_far.entry)
+        (faults_by (scope_of scope.now) no_name body.now))
+        (faults (scope_of scope.now) (assigned_by no_name body.now) value.now)) }
+{
+    let mut assigned = Names::new(alloc);
+    let found = check_stmts(scope, &mut assigned, body, so_far)?;
+    Ok(check_expr(scope, &assigned, value, found))
+}
+
+/// The faults of a program's parts in order, in a scope of no name. Afterwards it has the program's.
+fn check_parts<'a>(
+    alloc: Global,
+    scope: &mut Scope<'a, '_>,
+    head: Head<'a>,
+    decls: &'a [Decl],
+    body: &'a [Stmt],
+    value: &'a Expr,
+    so_far: Option<Found<'a>>,
+) -> Result<Option<Found<'a>>, NoMemory>
+    requires { scope_of scope.old ≡ scope_behind false scope.old.earlier.now }
+    ensures { IfOk result (λ r. let E = scope.old.earlier.now in
+        let inside = scope_of_program E head.entry.params.now decls.now in told r
+        ≡ noted_all (noted_all (noted_all (noted_all (told so_far.entry)
+        (head_faults E head.entry.at head.entry.name.now head.entry.params.now head.entry.rank))
+        (decl_faults head.entry.params.now head.entry.params.now decls.now)) (faults_by inside no_name body.now))
+        (faults inside (assigned_by no_name body.now) value.now)) }
+{
+    let declared = check_declared(scope, head, decls, so_far)?;
+    let found = check_body(alloc, scope, body, value, declared)?;
+    Ok(found)
 }
 
 /// The faults of the program `head.name(head.params) DECL decls BEG body RETURN result END`.
@@ -166,13 +203,8 @@ fn check_program<'a>(
         (decl_faults head.entry.params.now head.entry.params.now decls.now)) (faults_by scope no_name body.now))
         (faults scope (assigned_by no_name body.now) value.now)) }
 {
-    let mut parameters = Names::new(alloc);
-    let named = check_head(earlier, head, &mut parameters, so_far)?;
-    let declared = check_decls(&parameters, decls, named)?;
-    let scope = program_scope(alloc, earlier, parameters, decls)?;
-    let mut assigned = Names::new(alloc);
-    let found = check_stmts(&scope, &mut assigned, body, declared)?;
-    Ok(check_last(scope, assigned, value, found))
+    let mut scope = Scope::new(alloc, false, earlier);
+    check_parts(alloc, &mut scope, head, decls, body, value, so_far)
 }
 
 /// The faults of a command.
@@ -187,15 +219,8 @@ fn check_command<'a>(
     match value_of(command) {
         None => so_far,
         Some(value) => {
-            let scope = Scope {
-                is_command: true,
-                parameters: Names::new(alloc),
-                variables: Names::new(alloc),
-                products: Names::new(alloc),
-                sums: Names::new(alloc),
-                earlier,
-            };
-            check_last(scope, Names::new(alloc), value, so_far)
+            let scope = Scope::new(alloc, true, earlier);
+            check_alone(alloc, &scope, value, so_far)
         }
     }
 }

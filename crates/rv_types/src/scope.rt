@@ -2,12 +2,13 @@
 ghost use Rattle.std.specs.Prelude.{◌≡◌};
 ghost use Rattle.lang_model.specs.Checking.{among, ref_faults, call_faults, domain_faults, target_faults};
 ghost use Rattle.rv_types.specs.Found.{told, noted as noted_all};
-ghost use Rattle.rv_types.specs.Scopes.{scope_of};
+ghost use Rattle.rv_types.specs.Scopes.{scope_of, scope_behind};
 
 use crate::definitions::Definitions;
 use crate::found::{Cause, Found, Spelled, noted};
 use crate::names::Names;
 use lang_model::syntax::{Base, Name, Place};
+use std::alloc::Global;
 
 /// What the names of an expression may be.
 #[derive(Drop)]
@@ -22,6 +23,22 @@ pub struct Scope<'a, 'd> {
     pub sums: Names<'a>,
     /// The definitions of earlier items.
     pub earlier: &'d Definitions,
+}
+
+impl<'a, 'd> Scope<'a, 'd> {
+    /// The scope of no parameter and no declaration behind these definitions.
+    pub fn new(alloc: Global, is_command: bool, earlier: &'d Definitions) -> Scope<'a, 'd>
+        ensures { scope_of result ≡ scope_behind is_command earlier.now }
+    {
+        Scope {
+            is_command,
+            parameters: Names::new(alloc),
+            variables: Names::new(alloc),
+            products: Names::new(alloc),
+            sums: Names::new(alloc),
+            earlier,
+        }
+    }
 }
 
 /// A name is a relation's, a parameter, or a variable that is assigned on every path before it.

@@ -1,7 +1,8 @@
-//! The faults of a statement, the variables that are assigned behind it, and the greatest rank among the definitions
+//! The faults of statements, the variables that are assigned behind them, and the greatest rank among the definitions
 //! that it calls.
-ghost use Rattle.std.specs.Prelude.{◌≡◌, ℕ, List, IfOk, OnOk};
-ghost use Rattle.lang_model.specs.Checking.{among, faults_of, assigned_after, called_by};
+ghost use Rattle.std.specs.Prelude.{◌≡◌, ◌||◌, ◌&&◌, ℕ, List, IfOk, OnOk};
+ghost use Rattle.lang_model.specs.Tokens.{same_text};
+ghost use Rattle.lang_model.specs.Checking.{among, faults, target_faults, faults_of, faults_by, assigned_after, assigned_by, called_by};
 ghost use Rattle.rv_types.specs.Found.{told, noted as noted_all};
 ghost use Rattle.rv_types.specs.Scopes.{scope_of};
 
@@ -10,11 +11,33 @@ use crate::expression::{check_expr, greatest_called};
 use crate::found::Found;
 use crate::names::Names;
 use crate::scope::{Scope, check_target};
-use lang_model::syntax::Stmt;
+use lang_model::syntax::{Expr, Name, Place, Stmt};
 use rel_model::NoMemory;
 
+/// The first fault so far and of the assignment `name := value`. Afterwards its variable is assigned.
+fn check_assignment<'a>(
+    scope: &Scope<'a, '_>,
+    assigned: &mut Names<'a>,
+    at: Place,
+    name: &'a Name,
+    value: &'a Expr,
+    so_far: Option<Found<'a>>,
+) -> Result<Option<Found<'a>>, NoMemory>
+    ensures fault { IfOk result (λ r. told r ≡ noted_all (noted_all (told so_far.entry)
+        (target_faults (scope_of scope.now) at name.now))
+        (faults (scope_of scope.now) (among assigned.old) value.now)) }
+    ensures assigned { OnOk result ((n : List ℕ) → among assigned.new n
+        ≡ (same_text name.now n || among assigned.old n)) }
+{
+    let target = check_target(scope, at, name, so_far);
+    let found = check_expr(scope, assigned, value, target);
+    assigned.add(name.bytes())?;
+    Ok(found)
+}
+
 /// The first fault so far and of a statement before which these variables are assigned. Afterwards those behind it are.
-pub fn check_stmt<'a>(
+#[cycle(checking)]
+fn check_stmt<'a>(
     scope: &Scope<'a, '_>,
     assigned: &mut Names<'a>,
     stmt: &'a Stmt,
@@ -27,33 +50,94 @@ pub fn check_stmt<'a>(
 {
     match stmt {
         Stmt::Set { at, name, value } => {
-            let target = check_target(scope, *at, name, so_far);
-            let found = check_expr(scope, assigned, value, target);
-            assigned.add(name.bytes())?;
-            Ok(found)
+            check_assignment(scope, assigned, *at, name, value, so_far)
         }
         Stmt::While { test, body, .. } => {
-            let mut found = check_expr(scope, assigned, test, so_far);
-            let mut within = assigned.copied()?;
-            'body: for inner in body.as_slice() {
-                found = check_stmt(scope, &mut within, inner, found)?;
-            }
-            Ok(found)
+            let found = check_expr(scope, assigned, test, so_far);
+            check_loop(scope, assigned, body.as_slice(), found)
         }
         Stmt::If { test, yes, no, .. } => {
-            let mut found = check_expr(scope, assigned, test, so_far);
-            let mut first = assigned.copied()?;
-            'yes: for then in yes.as_slice() {
-                found = check_stmt(scope, &mut first, then, found)?;
-            }
-            let mut second = assigned.copied()?;
-            'no: for other in no.as_slice() {
-                found = check_stmt(scope, &mut second, other, found)?;
-            }
-            assigned.add_shared(&first, &second)?;
-            Ok(found)
+            let found = check_expr(scope, assigned, test, so_far);
+            check_choice(scope, assigned, yes.as_slice(), no.as_slice(), found)
         }
     }
+}
+
+/// The first fault so far and of statements before which these variables are assigned. Afterwards those behind them
+/// are.
+#[cycle(checking)]
+pub fn check_stmts<'a>(
+    scope: &Scope<'a, '_>,
+    assigned: &mut Names<'a>,
+    stmts: &'a [Stmt],
+    so_far: Option<Found<'a>>,
+) -> Result<Option<Found<'a>>, NoMemory>
+    ensures fault { IfOk result (λ r. told r ≡ noted_all (told so_far.entry)
+        (faults_by (scope_of scope.now) (among assigned.old) stmts.now)) }
+    ensures assigned { OnOk result ((n : List ℕ) → among assigned.new n
+        ≡ assigned_by (among assigned.old) stmts.now n) }
+{
+    let mut found = so_far;
+    'each: for stmt in stmts {
+        found = check_stmt(scope, assigned, stmt, found)?;
+    }
+    Ok(found)
+}
+
+/// The first fault so far and of the body of a WHILE. It assigns nothing for what stands behind it.
+#[cycle(checking)]
+fn check_loop<'a>(
+    scope: &Scope<'a, '_>,
+    assigned: &Names<'a>,
+    body: &'a [Stmt],
+    so_far: Option<Found<'a>>,
+) -> Result<Option<Found<'a>>, NoMemory>
+    ensures { IfOk result (λ r. told r ≡ noted_all (told so_far.entry)
+        (faults_by (scope_of scope.now) (among assigned.now) body.now)) }
+{
+    let mut within = assigned.copied()?;
+    check_stmts(scope, &mut within, body, so_far)
+}
+
+/// The first fault so far and of the two parts of an IF. Afterwards the variables that both assign are assigned.
+#[cycle(checking)]
+fn check_choice<'a>(
+    scope: &Scope<'a, '_>,
+    assigned: &mut Names<'a>,
+    yes: &'a [Stmt],
+    no: &'a [Stmt],
+    so_far: Option<Found<'a>>,
+) -> Result<Option<Found<'a>>, NoMemory>
+    ensures fault { IfOk result (λ r. told r ≡ noted_all (noted_all (told so_far.entry)
+        (faults_by (scope_of scope.now) (among assigned.old) yes.now))
+        (faults_by (scope_of scope.now) (among assigned.old) no.now)) }
+    ensures assigned { OnOk result ((n : List ℕ) → among assigned.new n ≡ (among assigned.old n
+        || (assigned_by (among assigned.old) yes.now n && assigned_by (among assigned.old) no.now n))) }
+{
+    let mut first = assigned.copied()?;
+    let found = check_stmts(scope, &mut first, yes, so_far)?;
+    check_second(scope, assigned, &first, no, found)
+}
+
+/// The first fault so far and of the second part of an IF, behind whose first part these variables are assigned.
+/// Afterwards the variables that both assign are assigned.
+#[cycle(checking)]
+fn check_second<'a>(
+    scope: &Scope<'a, '_>,
+    assigned: &mut Names<'a>,
+    first: &Names<'a>,
+    no: &'a [Stmt],
+    so_far: Option<Found<'a>>,
+) -> Result<Option<Found<'a>>, NoMemory>
+    ensures fault { IfOk result (λ r. told r ≡ noted_all (told so_far.entry)
+        (faults_by (scope_of scope.now) (among assigned.old) no.now)) }
+    ensures assigned { OnOk result ((n : List ℕ) → among assigned.new n ≡ (among assigned.old n
+        || (among first.now n && assigned_by (among assigned.old) no.now n))) }
+{
+    let mut second = assigned.copied()?;
+    let found = check_stmts(scope, &mut second, no, so_far)?;
+    assigned.add_shared(first, &second)?;
+    Ok(found)
 }
 
 /// The greatest rank among the definitions that a statement calls, or 0 where it calls none.

@@ -2,7 +2,7 @@ use Rattle.std.proofs.Common.{◌<◌, ◌+◌, ◌-◌, ◌∷◌, ◌++◌, []
 use Rattle.std.proofs.lemmas.Bool.{eqb-true, eqb-false}
 use Rattle.std.proofs.lemmas.Result.{err_from_is_err_and}
 use Rattle.lang_model.specs.declared.syntax.Expr.{Expr}
-use Rattle.lang_model.specs.Spelling.{OrLevel, named, called, based, based_twice, paired, enclosed, chained, Linked}
+use Rattle.lang_model.specs.Spelling.{OrLevel, Spelled, named, called, based, based_twice, paired, enclosed, chained, Linked}
 use Rattle.lang_model.specs.Stop.{ExprPart, SignPart, MoreLinks}
 use Rattle.rv_parse.specs.Readers.{level_of}
 use Rattle.rv_parse.proofs.Optional.{enter_call, drop_call, drop_args, drop_links}
@@ -108,14 +108,24 @@ chain-returns t c =
       read = λ behind. c.links.invariant.read behind ∙ drop_links l d c.links.rest.now _ behind c.in_default.ensures;
     }
 
+pub inner_and_sign-returns : goal.inner_and_sign-returns
+inner_and_sign-returns t c =
+    let x = c.in_ok-expr.ensures in
+    let s = c.in_ok-expr-2.ensures in
+    record {
+      spelled = (c.in_ok-expr.rest.now, subst (λ e. Spelled OrLevel (suc c.args.depth) e c.args.tokens.now c.in_ok-expr.rest.now) (sym s.0) x.spelled, s.1);
+      shorter = omega (arith, x.shorter, ap length s.1.1);
+      read = λ behind. x.read (SignPart c.args.byte ∷ behind) ∙ s.2 behind;
+    }
+
 pub enclosed-returns : goal.enclosed-returns
 enclosed-returns t c =
     let x = c.in_ok-expr.ensures in
-    let s = c.in_ok-rest.ensures.read in
+    let s = x.spelled in
     record {
-      spelled = λ before b. enclosed c.args.depth c.in_ok-expr.expr before c.args.tokens.now c.in_ok-expr.rest.now c.in_ok-rest.rest.now c.requires.depth (_, b) x.spelled (_, s.0);
-      shorter = omega (arith, x.shorter, ap length s.0);
-      read = λ behind. x.read (SignPart 41 ∷ behind) ∙ s.1 behind;
+      spelled = λ before b. enclosed c.args.depth c.in_ok-expr.expr before c.args.tokens.now s.0 c.in_ok-expr.rest.now c.requires.depth (_, b) s.1 s.2;
+      shorter = x.shorter;
+      read = x.read;
     }
 
 pub named-returns-in_ok-rest-in-Some : goal.named-returns-in_ok-rest-in-Some
@@ -139,15 +149,18 @@ named-returns-in-None t c = record {
 
 pub pair-returns : goal.pair-returns
 pair-returns t c =
-    let x = c.in_ok-left.ensures in
-    let comma = c.in_ok-rest.ensures.read in
-    let y = c.in_ok-right.ensures in
-    let s = c.in_ok-rest-2.ensures.read in
     let d = c.args.depth in
+    let x = c.in_ok-left.ensures in
+    let y = c.in_ok-right.ensures in
+    let l = x.spelled in
+    let r = y.spelled in
+    let boxed = c.in_ok-left-2.ensures in
+    let left = subst (λ e. Spelled OrLevel (suc d) e c.args.tokens.now l.0) (sym boxed.0) l.1 in
+    let right = subst (λ e. Spelled OrLevel (suc d) e c.in_ok-left.rest.now r.0) (sym boxed.1) r.1 in
     record {
-      spelled = λ before b. paired d c.args.at c.in_ok-left-2.left c.in_ok-right-2.right before c.args.tokens.now c.in_ok-left.rest.now c.in_ok-rest.rest.now c.in_ok-right.rest.now c.in_ok-rest-2.rest.now c.requires.depth b (rw c.in_ok-left-2.ensures.ok x.spelled) (_, comma.0) (rw c.in_ok-right-2.ensures.ok y.spelled) (_, s.0);
-      shorter = omega (arith, x.shorter, ap length comma.0, y.shorter, ap length s.0);
-      read = λ behind. x.read (SignPart 44 ∷ ExprPart OrLevel (suc d) ∷ SignPart 93 ∷ behind) ∙ comma.1 (ExprPart OrLevel (suc d) ∷ SignPart 93 ∷ behind) ∙ y.read (SignPart 93 ∷ behind) ∙ s.1 behind;
+      spelled = λ before b. paired d c.args.at c.in_ok-left-2.left c.in_ok-left-2.right before c.args.tokens.now l.0 c.in_ok-left.rest.now r.0 c.in_ok-right.rest.now c.requires.depth b left l.2 right r.2;
+      shorter = omega (arith, x.shorter, y.shorter);
+      read = λ behind. x.read (ExprPart OrLevel (suc d) ∷ SignPart 93 ∷ behind) ∙ y.read behind;
     }
 
 pub post-returns-in_err-of : goal.post-returns-in_err-of
@@ -178,23 +191,23 @@ pub with_one-returns : goal.with_one-returns
 with_one-returns t c =
     let o = c.in_ok-rest.ensures.read in
     let x = c.in_ok-argument.ensures in
-    let s = c.in_ok-rest-2.ensures.read in
+    let s = x.spelled in
     record {
-      spelled = λ before b. based c.args.depth c.args.at c.args.base _ c.in_ok-argument.argument before c.args.tokens.now c.in_ok-rest.rest.now c.in_ok-argument.rest.now c.in_ok-rest-2.rest.now o.1 c.requires.form (c.in_ok-push.ensures.items ∙ ap (λ xs. xs ++ c.in_ok-argument.argument ∷ []) c.new-args.ensures.items) b (_, o.0) x.spelled (_, s.0);
-      shorter = omega (arith, ap length o.0, x.shorter, ap length s.0);
-      read = λ behind. o.2 (ExprPart OrLevel (suc c.args.depth) ∷ SignPart 41 ∷ behind) ∙ x.read (SignPart 41 ∷ behind) ∙ s.1 behind;
+      spelled = λ before b. based c.args.depth c.args.at c.args.base c.in_ok-args.args c.in_ok-argument.argument before c.args.tokens.now c.in_ok-rest.rest.now s.0 c.in_ok-argument.rest.now o.1 c.requires.form c.in_ok-args.ensures b (_, o.0) s.1 s.2;
+      shorter = omega (arith, ap length o.0, x.shorter);
+      read = λ behind. o.2 (ExprPart OrLevel (suc c.args.depth) ∷ SignPart 41 ∷ behind) ∙ x.read behind;
     }
 
 pub with_two-returns : goal.with_two-returns
 with_two-returns t c =
+    let d = c.args.depth in
     let o = c.in_ok-rest.ensures.read in
     let x = c.in_ok-first.ensures in
-    let comma = c.in_ok-rest-2.ensures.read in
     let y = c.in_ok-second.ensures in
-    let s = c.in_ok-rest-3.ensures.read in
-    let d = c.args.depth in
+    let s = x.spelled in
+    let u = y.spelled in
     record {
-      spelled = λ before b. based_twice d c.args.at c.args.base _ c.in_ok-first.first c.in_ok-second.second before c.args.tokens.now c.in_ok-rest.rest.now c.in_ok-first.rest.now c.in_ok-rest-2.rest.now c.in_ok-second.rest.now c.in_ok-rest-3.rest.now o.1 c.requires.form (c.in_ok-push-2.ensures.items ∙ ap (λ xs. xs ++ c.in_ok-second.second ∷ []) (c.in_ok-push.ensures.items ∙ ap (λ xs. xs ++ c.in_ok-first.first ∷ []) c.new-args.ensures.items)) b (_, o.0) x.spelled (_, comma.0) y.spelled (_, s.0);
-      shorter = omega (arith, ap length o.0, x.shorter, ap length comma.0, y.shorter, ap length s.0);
-      read = λ behind. o.2 (ExprPart OrLevel (suc d) ∷ SignPart 44 ∷ ExprPart OrLevel (suc d) ∷ SignPart 41 ∷ behind) ∙ x.read (SignPart 44 ∷ ExprPart OrLevel (suc d) ∷ SignPart 41 ∷ behind) ∙ comma.1 (ExprPart OrLevel (suc d) ∷ SignPart 41 ∷ behind) ∙ y.read (SignPart 41 ∷ behind) ∙ s.1 behind;
+      spelled = λ before b. based_twice d c.args.at c.args.base c.in_ok-args.args c.in_ok-first.first c.in_ok-second.second before c.args.tokens.now c.in_ok-rest.rest.now s.0 c.in_ok-first.rest.now u.0 c.in_ok-second.rest.now o.1 c.requires.form c.in_ok-args.ensures b (_, o.0) s.1 s.2 u.1 u.2;
+      shorter = omega (arith, ap length o.0, x.shorter, y.shorter);
+      read = λ behind. o.2 (ExprPart OrLevel (suc d) ∷ SignPart 44 ∷ ExprPart OrLevel (suc d) ∷ SignPart 41 ∷ behind) ∙ x.read (ExprPart OrLevel (suc d) ∷ SignPart 41 ∷ behind) ∙ y.read behind;
     }

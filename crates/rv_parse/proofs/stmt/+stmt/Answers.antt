@@ -1,58 +1,72 @@
-use Rattle.std.proofs.Common.{◌∷◌, ◌∙◌, ap, suc, arith, length}
+use Rattle.std.proofs.Common.{◌∷◌, ◌∙◌, inl, inr, ap, suc, arith, length}
 use Rattle.std.proofs.lemmas.Result.{err_from_is_err_and}
 use Rattle.lang_model.specs.Spelling.{looped, branched, branched_twice}
-use Rattle.lang_model.specs.declared.token.Keyword.TheVariants.{Do as DO, Od as OD, Then as THEN, Fi as FI}
+use Rattle.lang_model.specs.declared.token.Keyword.TheVariants.{Od as OD, Fi as FI}
 use Rattle.lang_model.specs.Stop.{WordPart, StmtsPart, ElsePart}
 use Rattle.rv_parse.proofs.Stmts.{drop_else, enter_else, drop_stmts, enter_stmts, stmts_step, stmts_last, stmts_all}
 use Rattle.rv_parse.proofs.stmt.+stmt.Goals as goal
 
-pub branched-returns-in_err-rest-in-None : goal.branched-returns-in_err-rest-in-None
-branched-returns-in_err-rest-in-None t c =
-    let p = err_from_is_err_and c.from_residual-in_err-rest-in-None.result c.from_residual-in_err-rest-in-None.ensures.1 in
-    let d = suc c.args.depth in
-    rw (p.1, p.2) (λ n behind. c.in_ok-test.ensures.read (WordPart THEN ∷ StmtsPart d ∷ ElsePart d ∷ WordPart FI ∷ behind) ∙ c.in_ok-rest.ensures.read.1 (StmtsPart d ∷ ElsePart d ∷ WordPart FI ∷ behind)
-    ∙ c.in_ok-yes.ensures.read (ElsePart d ∷ WordPart FI ∷ behind) ∙ drop_else d c.in_ok-yes.rest.now _ (WordPart FI ∷ behind) c.in-None.ensures ∙ c.in_err-rest-in-None.ensures.read n behind)
-
-pub branched-returns-in_ok-rest-in-Some : goal.branched-returns-in_ok-rest-in-Some
-branched-returns-in_ok-rest-in-Some t c =
-    let d = suc c.args.depth in
-    let x = c.in_ok-test.ensures in
-    let then = c.in_ok-rest.ensures.read in
-    let yes = c.in_ok-yes.ensures in
-    let no = c.in_ok-no-in-Some.ensures in
-    let fi = c.in_ok-rest-in-Some.ensures.read in
+pub stmts_and_word-returns : goal.stmts_and_word-returns
+stmts_and_word-returns t c =
+    let body = c.in_ok-body.ensures in
+    let word = c.in_ok-rest.ensures.read in
     record {
-      spelled = λ before b. branched_twice c.args.depth c.args.at c.in_ok-test.test c.in_ok-yes.yes c.in_ok-no-in-Some.no before c.args.tokens.now c.in_ok-test.rest.now c.in_ok-rest.rest.now c.in_ok-yes.rest.now c.in-Some.behind.now c.in_ok-no-in-Some.rest.now c.in_ok-rest-in-Some.rest.now c.requires.depth b x.spelled (_, then.0) yes.spelled (_, c.in-Some.ensures) no.spelled (_, fi.0);
-      shorter = omega (arith, x.shorter, ap length then.0, yes.shorter, ap length c.in-Some.ensures, no.shorter, ap length fi.0);
-      read = λ behind. x.read (WordPart THEN ∷ StmtsPart d ∷ ElsePart d ∷ WordPart FI ∷ behind) ∙ then.1 (StmtsPart d ∷ ElsePart d ∷ WordPart FI ∷ behind) ∙ yes.read (ElsePart d ∷ WordPart FI ∷ behind)
-          ∙ enter_else d _ c.in_ok-yes.rest.now c.in-Some.behind.now _ (WordPart FI ∷ behind) c.in-Some.ensures ∙ no.read (WordPart FI ∷ behind) ∙ fi.1 behind;
+      spelled = (c.in_ok-body.rest.now, body.spelled, (_, word.0));
+      shorter = omega (arith, body.shorter, ap length word.0);
+      read = λ behind. body.read (WordPart c.args.keyword ∷ behind) ∙ word.1 behind;
     }
 
-pub branched-returns-in_ok-rest-in-None : goal.branched-returns-in_ok-rest-in-None
-branched-returns-in_ok-rest-in-None t c =
-    let d = suc c.args.depth in
-    let x = c.in_ok-test.ensures in
-    let then = c.in_ok-rest.ensures.read in
-    let yes = c.in_ok-yes.ensures in
+pub second_part-returns-in_err-rest-in-None : goal.second_part-returns-in_err-rest-in-None
+second_part-returns-in_err-rest-in-None t c =
+    let p = err_from_is_err_and c.from_residual-in_err-rest-in-None.result c.from_residual-in_err-rest-in-None.ensures.1 in
+    rw (p.1, p.2) (λ n behind. drop_else (suc c.args.depth) c.args.tokens.now _ (WordPart FI ∷ behind) c.in-None.ensures ∙ c.in_err-rest-in-None.ensures.read n behind)
+
+pub second_part-returns-in_ok-no-in-Some : goal.second_part-returns-in_ok-no-in-Some
+second_part-returns-in_ok-no-in-Some t c =
+    let no = c.in_ok-no-in-Some.ensures in
+    let s = no.spelled in
+    record {
+      spelled = inr (c.in-Some.behind.now, s.0, (_, c.in-Some.ensures), s.1, s.2);
+      shorter = omega (arith, ap length c.in-Some.ensures, no.shorter);
+      read = λ behind. enter_else (suc c.args.depth) _ c.args.tokens.now c.in-Some.behind.now _ (WordPart FI ∷ behind) c.in-Some.ensures ∙ no.read behind;
+    }
+
+pub second_part-returns-in_ok-rest-in-None : goal.second_part-returns-in_ok-rest-in-None
+second_part-returns-in_ok-rest-in-None t c =
     let fi = c.in_ok-rest-in-None.ensures.read in
     record {
-      spelled = λ before b. branched c.args.depth c.args.at c.in_ok-test.test c.in_ok-yes.yes c.new-no.result before c.args.tokens.now c.in_ok-test.rest.now c.in_ok-rest.rest.now c.in_ok-yes.rest.now c.in_ok-rest-in-None.rest.now c.requires.depth b x.spelled (_, then.0) yes.spelled c.new-no.ensures.items (_, fi.0);
-      shorter = omega (arith, x.shorter, ap length then.0, yes.shorter, ap length fi.0);
-      read = λ behind. x.read (WordPart THEN ∷ StmtsPart d ∷ ElsePart d ∷ WordPart FI ∷ behind) ∙ then.1 (StmtsPart d ∷ ElsePart d ∷ WordPart FI ∷ behind) ∙ yes.read (ElsePart d ∷ WordPart FI ∷ behind)
-          ∙ drop_else d c.in_ok-yes.rest.now _ (WordPart FI ∷ behind) c.in-None.ensures ∙ fi.1 behind;
+      spelled = inl (c.new.ensures.items, (_, fi.0));
+      shorter = omega (arith, ap length fi.0);
+      read = λ behind. drop_else (suc c.args.depth) c.args.tokens.now _ (WordPart FI ∷ behind) c.in-None.ensures ∙ fi.1 behind;
+    }
+
+pub branched-returns : goal.branched-returns
+branched-returns t c =
+    let d = suc c.args.depth in
+    let test = c.in_ok-test.ensures in
+    let yes = c.in_ok-yes.ensures in
+    let no = c.in_ok-no.ensures in
+    let x = test.spelled in
+    record {
+      spelled = λ before b. elim no.spelled [
+        | inl n ↦ branched c.args.depth c.args.at c.in_ok-test.test c.in_ok-yes.yes c.in_ok-no.no before c.args.tokens.now x.0 c.in_ok-test.rest.now c.in_ok-yes.rest.now c.in_ok-no.rest.now c.requires.depth b x.1 x.2 yes.spelled n.0 n.1
+        | inr n ↦ branched_twice c.args.depth c.args.at c.in_ok-test.test c.in_ok-yes.yes c.in_ok-no.no before c.args.tokens.now x.0 c.in_ok-test.rest.now c.in_ok-yes.rest.now n.0 n.1 c.in_ok-no.rest.now c.requires.depth b x.1 x.2 yes.spelled n.2 n.3 n.4
+      ];
+      shorter = omega (arith, test.shorter, yes.shorter, no.shorter);
+      read = λ behind. test.read (StmtsPart d ∷ ElsePart d ∷ WordPart FI ∷ behind) ∙ yes.read (ElsePart d ∷ WordPart FI ∷ behind) ∙ no.read behind;
     }
 
 pub looped-returns : goal.looped-returns
 looped-returns t c =
     let d = suc c.args.depth in
-    let x = c.in_ok-test.ensures in
-    let does = c.in_ok-rest.ensures.read in
+    let test = c.in_ok-test.ensures in
     let body = c.in_ok-body.ensures in
-    let od = c.in_ok-rest-2.ensures.read in
+    let x = test.spelled in
+    let y = body.spelled in
     record {
-      spelled = λ before b. looped c.args.depth c.args.at c.in_ok-test.test c.in_ok-body.body before c.args.tokens.now c.in_ok-test.rest.now c.in_ok-rest.rest.now c.in_ok-body.rest.now c.in_ok-rest-2.rest.now c.requires.depth b x.spelled (_, does.0) body.spelled (_, od.0);
-      shorter = omega (arith, x.shorter, ap length does.0, body.shorter, ap length od.0);
-      read = λ behind. x.read (WordPart DO ∷ StmtsPart d ∷ WordPart OD ∷ behind) ∙ does.1 (StmtsPart d ∷ WordPart OD ∷ behind) ∙ body.read (WordPart OD ∷ behind) ∙ od.1 behind;
+      spelled = λ before b. looped c.args.depth c.args.at c.in_ok-test.test c.in_ok-body.body before c.args.tokens.now x.0 c.in_ok-test.rest.now y.0 c.in_ok-body.rest.now c.requires.depth b x.1 x.2 y.1 y.2;
+      shorter = omega (arith, test.shorter, body.shorter);
+      read = λ behind. test.read (StmtsPart d ∷ WordPart OD ∷ behind) ∙ body.read behind;
     }
 
 pub stmts-returns-in_default-behind_sign : goal.stmts-returns-in_default-behind_sign
