@@ -8,7 +8,6 @@ use Rattle.std.proofs.lemmas.Bool.{cases_Bool, and_parts, eqb-true}
 use Rattle.rel_model.specs.declared.Quad.{Quad}
 use Rattle.rel_model.specs.Cells.{Cells}
 use Rattle.rel_model.specs.Worker.{Worker, HasQuad, quad_set, Keeps}
-use Rattle.rel_model.proofs.Workers.{keeps_trans}
 use Rattle.k2_file.specs.declared.squares.Square.{Square}
 use Rattle.k2_file.specs.declared.squares.Square.TheVariants.{Tree}
 use Rattle.k2_file.specs.Squares.{piece, some_cell, square_cells, IsSquare, Shows, ShowsFour}
@@ -48,32 +47,34 @@ part_bits-stay a b least h (Some s) k f = ap (bits_under h) (square_cells-stay a
 pub later-full : (a b : Worker) (least h : ℕ) (f : Cells) (o : Option Square) → Keeps a b → Shows a least h f o → IsFullPart b least h o
 later-full a b least h f o k s = full_part-stays a b least h o k (part-full a least h f o s)
 
-later-bits : (a b : Worker) (least h : ℕ) (f : Cells) (o : Option Square) (n : ℕ) → Keeps a b → Shows a least h f o → n ≡ part_bits b h o → n ≡ bits_under h f
-later-bits a b least h f o n k s e = e ∙ part_bits-stay a b least h o k (part-full a least h f o s) ∙ part-under a least h f o s
+later-bits : (a b : Worker) (least h : ℕ) (f : Cells) (o : Option Square) → Keeps a b → Shows a least h f o → part_bits b h o ≡ bits_under h f
+later-bits a b least h f o k s = part_bits-stay a b least h o k (part-full a least h f o s) ∙ part-under a least h f o s
 
 -- ---- the bits of a square by its quarters
 under-next : (k : ℕ) (f : Cells) → some_cell (2 ^ suc k) f ≡ true → bits_under (suc k) f ≡ 4 + bits_under k (piece (2 ^ k) 0 0 f) + bits_under k (piece (2 ^ k) 0 (2 ^ k) f) + bits_under k (piece (2 ^ k) (2 ^ k) 0 f) + bits_under k (piece (2 ^ k) (2 ^ k) (2 ^ k) f)
 under-next k f e = rw e refl
 
-pub four-counted : (w0 w1 w2 w3 w4 : Worker) (least h k : ℕ) (s : Square) (four : Option Square × Option Square × Option Square × Option Square) (a b c d : ℕ)
-    → h ≡ k + 1 → IsFull w0 least h s → ShowsFour w1 least k (square_cells w0 (2 ^ (k + 1)) s) four → Keeps w1 w2 → Keeps w2 w3 → Keeps w3 w4
-    → a ≡ part_bits w1 k four.0 → b ≡ part_bits w2 k four.1 → c ≡ part_bits w3 k four.2 → d ≡ part_bits w4 k four.3
-    → 4 + a + b + c + d ≡ square_bits w0 h s
-four-counted w0 w1 w2 w3 w4 least h k s four a b c d e full shown k2 k3 k4 pa pb pc pd =
+-- the sum of two, of which the second is counted a call later
+pub two-counted : (w v : Worker) (least h : ℕ) (west east : Option Square) (a b : ℕ) → Keeps w v → IsFullPart w least h east → a ≡ part_bits w h west → b ≡ part_bits v h east → a + b ≡ part_bits w h west + part_bits w h east
+two-counted w v least h west east a b k f p q = let r = part_bits-stay w v least h east k f in omega (arith, p, q, r)
+
+pub four-counted : (w0 w1 w2 : Worker) (least h k : ℕ) (s : Square) (four : Option Square × Option Square × Option Square × Option Square) (a b : ℕ)
+    → h ≡ k + 1 → IsFull w0 least h s → ShowsFour w1 least k (square_cells w0 (2 ^ (k + 1)) s) four → Keeps w1 w2
+    → a ≡ part_bits w1 k four.0 + part_bits w1 k four.1 → b ≡ part_bits w2 k four.2 + part_bits w2 k four.3
+    → 4 + a + b ≡ square_bits w0 h s
+four-counted w0 w1 w2 least h k s four a b e full shown kept pa pb =
     let f : Cells = square_cells w0 (2 ^ (k + 1)) s in
     let more : k + 1 ≡ suc k = omega arith in
     let up : h ≡ suc k = omega (arith, e) in
-    let k13 = keeps_trans w1 w2 w3 k2 k3 in
-    let k14 = keeps_trans w1 w3 w4 k13 k4 in
-    let x : a ≡ bits_under k (piece (2 ^ k) 0 0 f) = pa ∙ part-under w1 least k _ four.0 shown.nw in
-    let y : b ≡ bits_under k (piece (2 ^ k) 0 (2 ^ k) f) = later-bits w1 w2 least k _ four.1 b k2 shown.ne pb in
-    let z : c ≡ bits_under k (piece (2 ^ k) (2 ^ k) 0 f) = later-bits w1 w3 least k _ four.2 c k13 shown.sw pc in
-    let v : d ≡ bits_under k (piece (2 ^ k) (2 ^ k) (2 ^ k) f) = later-bits w1 w4 least k _ four.3 d k14 shown.se pd in
+    let x : part_bits w1 k four.0 ≡ bits_under k (piece (2 ^ k) 0 0 f) = part-under w1 least k _ four.0 shown.nw in
+    let y : part_bits w1 k four.1 ≡ bits_under k (piece (2 ^ k) 0 (2 ^ k) f) = part-under w1 least k _ four.1 shown.ne in
+    let z : part_bits w2 k four.2 ≡ bits_under k (piece (2 ^ k) (2 ^ k) 0 f) = later-bits w1 w2 least k _ four.2 kept shown.sw in
+    let v : part_bits w2 k four.3 ≡ bits_under k (piece (2 ^ k) (2 ^ k) (2 ^ k) f) = later-bits w1 w2 least k _ four.3 kept shown.se in
     let some : some_cell (2 ^ suc k) f ≡ true =
     ap (λ (n : ℕ). some_cell (2 ^ n) f) (sym up) ∙ ap (λ (n : ℕ). some_cell (2 ^ h) (square_cells w0 (2 ^ n) s)) (sym e) ∙ full.some in
     let n = under-next k f some in
     let g : square_bits w0 h s ≡ bits_under (suc k) f = ap (λ (n : ℕ). bits_under n (square_cells w0 (2 ^ n) s)) e ∙ ap (λ (n : ℕ). bits_under n f) more in
-    omega (arith, x, y, z, v, n, g)
+    omega (arith, pa, pb, x, y, z, v, n, g)
 
 -- at most 2 ^ 49 bits
 pub part-limit : (w : Worker) (h : ℕ) (o : Option Square) → h ≤ 24 → part_bits w h o ≤ 2 ^ 49

@@ -2,8 +2,8 @@
 -- 1. A quarter is shown by a square or by none, so whether there is one is its bit.
 -- 2. A level's bits and next squares are those of its squares, one behind another.
 -- 3. At each level the bits so far and those still to come are all the bits.
-use Rattle.std.proofs.Common.{◌≡◌, ◌<◌, ◌≤◌, ◌+◌, ◌-◌, ◌^◌, cond, zero, suc, ℕ, Bool, List, [], ◌∷◌, ◌++◌, length, get_or, take, map, filter, refl, sym, ap, subst, ◌∙◌, arith, append_assoc, Option, Some, None}
-use Rattle.std.specs.Prelude.{is_some}
+use Rattle.std.proofs.Common.{◌≡◌, ◌<◌, ◌≤◌, ◌+◌, ◌-◌, ◌^◌, cond, zero, suc, ℕ, Bool, List, [], ◌∷◌, ◌++◌, length, get_or, take, map, filter, refl, sym, ap, subst, ◌∙◌, arith, append_assoc, Option, Some, None, Result, Ok, Err}
+use Rattle.std.specs.Prelude.{is_some, OnOk}
 use Rattle.std.specs.List.{flat_map, AllByRecursion}
 use Rattle.std.proofs.Math.Seq.{take-suc}
 use Rattle.std.proofs.lemmas.List.{append-nil}
@@ -96,18 +96,16 @@ four-cells w least h f four s =
     ∙ sym (filter-append t (A ∷ []) (B ∷ C ∷ D ∷ [])
     ∙ ap (λ zs. filter t (A ∷ []) ++ zs) (filter-append t (B ∷ []) (C ∷ D ∷ []) ∙ ap (λ zs. filter t (B ∷ []) ++ zs) (filter-append t (C ∷ []) (D ∷ []))))
 
--- four squares one behind another
-squares-added : (old n1 n2 n3 n4 a b c d : List Square) → n1 ≡ old ++ a → n2 ≡ n1 ++ b → n3 ≡ n2 ++ c → n4 ≡ n3 ++ d → n4 ≡ old ++ (a ++ (b ++ (c ++ d)))
-squares-added old n1 n2 n3 n4 a b c d p q r s =
-    s ∙ ap (λ zs. zs ++ d) (r ∙ ap (λ zs. zs ++ c) (q ∙ ap (λ zs. zs ++ b) p ∙ append_assoc old a b) ∙ append_assoc old (a ++ b) c)
-    ∙ append_assoc old ((a ++ b) ++ c) d ∙ ap (λ zs. old ++ zs) (append_assoc (a ++ b) c d ∙ append_assoc a b (c ++ d))
+-- four squares, two behind two others
+squares-added : (old n1 n2 a b c d : List Square) → n1 ≡ old ++ (a ++ b) → n2 ≡ n1 ++ (c ++ d) → n2 ≡ old ++ (a ++ (b ++ (c ++ d)))
+squares-added old n1 n2 a b c d p q = q ∙ ap (λ zs. zs ++ (c ++ d)) p ∙ append_assoc old (a ++ b) (c ++ d) ∙ ap (λ zs. old ++ zs) (append_assoc a b (c ++ d))
 
-pub four-added : (old new : Worker) (least h : ℕ) (f : Cells) (four : Option Square × Option Square × Option Square × Option Square) (l n1 n2 n3 n4 : List Square)
+four-added : (old new : Worker) (least h : ℕ) (f : Cells) (four : Option Square × Option Square × Option Square × Option Square) (l n1 n2 : List Square)
     → Keeps old new → AllByRecursion (IsSquare old least h) l → ShowsFour new least h f four
-    → n1 ≡ l ++ list_of four.0 → n2 ≡ n1 ++ list_of four.1 → n3 ≡ n2 ++ list_of four.2 → n4 ≡ n3 ++ list_of four.3
-    → Adds old new least h l n4 (quarters_met (2 ^ h) f)
-four-added old new least h f four l n1 n2 n3 n4 k a s p q r t =
-    let e = squares-added l n1 n2 n3 n4 (list_of four.0) (list_of four.1) (list_of four.2) (list_of four.3) p q r t in
+    → n1 ≡ l ++ (list_of four.0 ++ list_of four.1) → n2 ≡ n1 ++ (list_of four.2 ++ list_of four.3)
+    → Adds old new least h l n2 (quarters_met (2 ^ h) f)
+four-added old new least h f four l n1 n2 k a s p q =
+    let e = squares-added l n1 n2 (list_of four.0) (list_of four.1) (list_of four.2) (list_of four.3) p q in
     let m : ℕ = 2 ^ h in
     record {
       sound = subst (AllByRecursion (IsSquare new least h)) (sym e) (all-append (IsSquare new least h) l (four_list four) (all-stay old new least h l k a) (four-sound new least h f four s));
@@ -116,6 +114,14 @@ four-added old new least h f four l n1 n2 n3 n4 k a s p q r t =
           ∙ ap (λ zs. map (square_cells old m) l ++ zs) (four-cells new least h f four s);
     }
 
+-- the last two of them, where they are added
+pub four-added-where : {T E : Type 0} (r : Result T E) (old new : Worker) (least h : ℕ) (f : Cells) (four : Option Square × Option Square × Option Square × Option Square) (l n1 n2 : List Square)
+    → Keeps old new → AllByRecursion (IsSquare old least h) l → ShowsFour new least h f four
+    → n1 ≡ l ++ (list_of four.0 ++ list_of four.1) → OnOk r (n2 ≡ n1 ++ (list_of four.2 ++ list_of four.3))
+    → OnOk r (Adds old new least h l n2 (quarters_met (2 ^ h) f))
+four-added-where (Ok x) old new least h f four l n1 n2 k a s p q = four-added old new least h f four l n1 n2 k a s p q
+four-added-where (Err e) old new least h f four l n1 n2 k a s p q = tt
+
 -- ---- one square more of a level
 flat-more : {X : Type 0} (g : Cells → List X) (F : Square → Cells) (xs : List Square) (i : ℕ) (d : Square) → i < length xs → flat_map g (map F (take (i + 1) xs)) ≡ flat_map g (map F (take i xs)) ++ g (F (get_or xs i d))
 flat-more g F xs i d l =
@@ -123,6 +129,19 @@ flat-more g F xs i d l =
     ap (λ (n : ℕ). flat_map g (map F (take n xs))) e ∙ ap (λ ys. flat_map g (map F ys)) (take-suc xs i d l)
     ∙ ap (flat_map g) (map-append F (take i xs) (get_or xs i d ∷ [])) ∙ flat_map-append g (map F (take i xs)) (F (get_or xs i d) ∷ [])
     ∙ ap (λ ys. flat_map g (map F (take i xs)) ++ ys) (append-nil (g (F (get_or xs i d))))
+
+-- before the first square
+pub none-yet : (w : Worker) (least h : ℕ) (now : List Square) → now ≡ [] → AreSquares w least h now []
+none-yet w least h now e = subst (λ zs. AreSquares w least h zs []) (sym e) (record { sound = tt; means = refl })
+
+-- what stands at a place, whatever stands for it where there is none
+pub same-at : (xs ys : List Square) (i : ℕ) (d : Square) → ys ≡ xs → i < length xs → get_or ys i d ≡ get_or xs i (get_or ys i d)
+same-at xs ys i d e l = ap (λ zs. get_or zs i d) e ∙ any-default xs i d (get_or ys i d) l
+  where
+    any-default : (zs : List Square) (k : ℕ) (a b : Square) → k < length zs → get_or zs k a ≡ get_or zs k b
+    any-default [] k a b h = absurd (omega (arith, h))
+    any-default (z ∷ zs) zero a b h = refl
+    any-default (z ∷ zs) (suc k) a b h = any-default zs k a b (omega (arith, h))
 
 -- its bits
 pub level-more : (a b : Worker) (least h m : ℕ) (xs : List Square) (i : ℕ) (s : Square) (old now new : List Bool) → Keeps a b → AllByRecursion (IsSquare a least (h + 1)) xs → i < length xs → s ≡ get_or xs i s

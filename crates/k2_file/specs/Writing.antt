@@ -1,7 +1,8 @@
 -- When a relation is not written, and the header of a file.
-use Rattle.std.specs.Prelude.{◌≡◌, ◌<◌, ℕ, List, [], ◌∷◌, ◌++◌, codes}
+use Rattle.std.specs.Prelude.{◌≡◌, ◌<◌, ℕ, Bool, List, [], ◌∷◌, ◌++◌, length, codes}
 use Rattle.std.specs.Int.{w32, w64, to_be_bytes}
 use Rattle.run_model.specs.Limits.{save_limit}
+use Rattle.run_model.specs.Files.{packed}
 use Rattle.k2_file.specs.declared.refused.WriteRefused.{WriteRefused}
 use Rattle.k2_file.specs.declared.refused.WriteRefused.TheVariants.{TooLong, NoMemory}
 
@@ -15,3 +16,8 @@ abbrev pub header_bytes : ℕ → ℕ → ℕ → ℕ → ℕ → List ℕ
 header_bytes rows cols height tree cells =
     codes "RVK1" ++ to_be_bytes w32 rows ++ to_be_bytes w32 cols ++ height ∷ []
     ++ to_be_bytes w64 tree ++ to_be_bytes w64 cells
+
+-- the bytes of a file of these sizes and this height, with the bits above the cells and those of the cells
+abbrev pub file_bytes : ℕ → ℕ → ℕ → List Bool → List Bool → List ℕ
+file_bytes rows cols height tree cells =
+    header_bytes rows cols height (length tree) (length cells) ++ packed 0 0 tree ++ packed 0 0 cells

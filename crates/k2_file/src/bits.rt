@@ -10,7 +10,7 @@ pub(crate) struct Bits<'a> {
 }
 
 /// Four bits, one behind the other: whether each quarter of a submatrix has a pair.
-#[derive(Clone, Copy, Debug, PartialEq, Eq)]
+#[derive(Clone, Copy)]
 pub(crate) struct Group {
     pub(crate) nw: bool,
     pub(crate) ne: bool,

@@ -14,11 +14,8 @@ fn push_quarters(out: &mut Vec<(u32, u32)>, side: u32, corner: (u32, u32)) -> Re
     requires col { corner.1 + side ≤ size_limit }
     ensures { OnOk result (out.new.items ≡ out.old.items ++ quarters side corner) }
 {
-    out.push(corner)?;
-    out.push((corner.0, corner.1 + side))?;
-    out.push((corner.0 + side, corner.1))?;
-    out.push((corner.0 + side, corner.1 + side))?;
-    Ok(())
+    let (south, east) = (corner.0 + side, corner.1 + side);
+    out.extend_from_slice(&[corner, (corner.0, east), (south, corner.1), (south, east)])
 }
 
 /// The quarters, of this side, of submatrices.

@@ -1,5 +1,5 @@
 //! The number of bits of a relation's tree.
-ghost use Rattle.std.specs.Prelude.{◌≡◌, ◌<◌, ◌≤◌, IfOk};
+ghost use Rattle.std.specs.Prelude.{◌≡◌, ◌<◌, ◌≤◌, ◌+◌, IfOk};
 ghost use Rattle.std.specs.HashMap.{get};
 ghost use Rattle.rel_model.specs.Relation.{size_height};
 ghost use Rattle.rel_model.specs.Worker.{Stands, set_of, Keeps, MakesAtMost, MissesNothing};
@@ -106,9 +106,32 @@ fn counted_below<E: Engine>(
 {
     let below = height - 1;
     let (nw, ne, sw, se) = quarters_of(engine, square, below);
-    let north_west = counted_part(engine, counts, nw, below)?;
-    let north_east = counted_part(engine, counts, ne, below)?;
-    let south_west = counted_part(engine, counts, sw, below)?;
-    let south_east = counted_part(engine, counts, se, below)?;
-    Ok(4 + north_west + north_east + south_west + south_east)
+    let north = counted_two(engine, counts, nw, ne, below)?;
+    let south = counted_two(engine, counts, sw, se, below)?;
+    Ok(4 + north + south)
+}
+
+/// How many bits there are below two squares of a height.
+#[cycle(counted)]
+fn counted_two<E: Engine>(
+    engine: &mut E,
+    counts: &mut HashMap<(u8, u32), u64>,
+    west: Option<Square>,
+    east: Option<Square>,
+    height: u8,
+) -> Result<u64, NoMemory>
+    requires high { height ≤ size_height }
+    requires west { IsFullPart (E.worker engine.old) E.least height west }
+    requires east { IsFullPart (E.worker engine.old) E.least height east }
+    requires known { AreCounts (E.worker engine.old) (get same_key counts.old) }
+    ensures value { IfOk result (λ n. n ≡ part_bits (E.worker engine.old) height west
+        + part_bits (E.worker engine.old) height east) }
+    ensures known { AreCounts (E.worker engine.new) (get same_key counts.new) }
+    ensures keeps { Keeps (E.worker engine.old) (E.worker engine.new) }
+    ensures room { MakesAtMost 0 (E.worker engine.old) (E.worker engine.new) }
+    ensures misses { MissesNothing (E.worker engine.old) (E.worker engine.new) }
+{
+    let first = counted_part(engine, counts, west, height)?;
+    let second = counted_part(engine, counts, east, height)?;
+    Ok(first + second)
 }

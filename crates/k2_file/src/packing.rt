@@ -6,7 +6,7 @@ ghost use Rattle.k2_file.specs.Packing.{PacksBit};
 use std::alloc::AllocError;
 
 /// A byte that is begun: how many bits it has, and the number of them.
-#[derive(Clone, Copy, Debug, PartialEq, Eq)]
+#[derive(Clone, Copy)]
 struct Begun {
     value: u8,
     held: u8,

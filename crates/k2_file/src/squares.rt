@@ -10,7 +10,7 @@ use rel_model::engine_trait::Engine;
 use rel_model::{Quad, Rel};
 
 /// A square of cells that has a cell. 24 bytes.
-#[derive(Clone, Copy, Debug, PartialEq, Eq)]
+#[derive(Clone, Copy)]
 pub(crate) enum Square {
     /// A quad over the leaves.
     Tree(Quad),

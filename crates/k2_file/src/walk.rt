@@ -110,11 +110,22 @@ fn push_square<E: Engine>(
     ensures misses { MissesNothing (E.worker engine.old) (E.worker engine.new) }
 {
     let (nw, ne, sw, se) = quarters_of(engine, square, height);
-    push_part(nw, bits, next)?;
-    push_part(ne, bits, next)?;
-    push_part(sw, bits, next)?;
-    push_part(se, bits, next)?;
-    Ok(())
+    push_two(nw, ne, bits, next)?;
+    push_two(sw, se, bits, next)
+}
+
+/// Adds whether there are two squares, and the squares.
+fn push_two(
+    west: Option<Square>,
+    east: Option<Square>,
+    bits: &mut Vec<bool>,
+    next: &mut Vec<Square>,
+) -> Result<(), AllocError>
+    ensures bits { OnOk result (bits.new.items ≡ bits.old.items ++ is_some west ∷ is_some east ∷ []) }
+    ensures next { OnOk result (next.new.items ≡ next.old.items ++ (list_of west ++ list_of east)) }
+{
+    push_part(west, bits, next)?;
+    push_part(east, bits, next)
 }
 
 /// Adds whether there is a square, and the square.
@@ -165,9 +176,5 @@ fn push_four<E: Engine>(
     ensures misses { MissesNothing (E.worker engine.old) (E.worker engine.new) }
 {
     let (nw, ne, sw, se) = quarters_of(engine, square, 0);
-    bits.push(nw.is_some())?;
-    bits.push(ne.is_some())?;
-    bits.push(sw.is_some())?;
-    bits.push(se.is_some())?;
-    Ok(())
+    bits.extend_from_slice(&[nw.is_some(), ne.is_some(), sw.is_some(), se.is_some()])
 }

@@ -4,7 +4,7 @@ ghost use Rattle.rel_model.specs.Cells.{bits_cells, some_below};
 ghost use Rattle.k2_file.specs.Squares.{some_cell, window_cells, IsWindow};
 
 /// A square within a leaf: the leaf's bits and side, and the square's first row and column. 16 bytes.
-#[derive(Clone, Copy, Debug, PartialEq, Eq)]
+#[derive(Clone, Copy)]
 pub(crate) struct Window {
     pub bits: u64,
     pub side: u8,

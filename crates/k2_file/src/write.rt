@@ -4,13 +4,13 @@ ghost use Rattle.std.specs.Int.{w32, w64, to_be_bytes};
 ghost use Rattle.rel_model.specs.Worker.{Stands, set_of, Keeps, MakesAtMost, MissesNothing};
 ghost use Rattle.run_model.specs.Limits.{save_limit};
 ghost use Rattle.run_model.specs.Files.{k2, bits_count};
-ghost use Rattle.k2_file.specs.Writing.{IsTooLong, header_bytes};
+ghost use Rattle.k2_file.specs.Writing.{IsTooLong, header_bytes, file_bytes};
 
 use crate::counting::count_bits;
 use crate::packing::push_packed;
 use crate::refused::WriteRefused;
 use crate::sides::height_of_file;
-use crate::walk::tree_bits;
+use crate::walk::{TreeBits, tree_bits};
 use byteorder::{BigEndian, ByteOrder};
 use rel_model::Rel;
 use rel_model::engine_trait::Engine;
@@ -35,6 +35,15 @@ pub fn write_k2<E: Engine>(alloc: Global, engine: &mut E, rel: Rel) -> Result<Ve
         return Err(WriteRefused::TooLong { bits });
     }
     let parts = tree_bits(alloc, engine, rel, height)?;
+    let out = file_bytes(alloc, rel, height, &parts)?;
+    Ok(out)
+}
+
+/// The bytes of the file of a relation: its header, and the bits of its tree.
+fn file_bytes(alloc: Global, rel: Rel, height: u8, parts: &TreeBits) -> Result<Vec<u8>, AllocError>
+    ensures { IfOk result (λ v. v.items ≡ file_bytes rel.rows rel.cols height parts.now.tree.items
+        parts.now.cells.items) }
+{
     let mut out = Vec::new(alloc);
     let (tree, cells) = (parts.tree.len() as u64, parts.cells.len() as u64);
     push_header(&mut out, rel, height, tree, cells)?;
@@ -57,9 +66,15 @@ fn push_header(
     push_u32(out, rel.rows)?;
     push_u32(out, rel.cols)?;
     out.push(height)?;
+    push_counts(out, tree, cells)
+}
+
+/// Adds how many bits are above the cells, and how many are cells.
+fn push_counts(out: &mut Vec<u8>, tree: u64, cells: u64) -> Result<(), AllocError>
+    ensures { OnOk result (out.new.items ≡ out.old.items ++ (to_be_bytes w64 tree ++ to_be_bytes w64 cells)) }
+{
     push_u64(out, tree)?;
-    push_u64(out, cells)?;
-    Ok(())
+    push_u64(out, cells)
 }
 
 /// Adds the four bytes of a number, the highest first.

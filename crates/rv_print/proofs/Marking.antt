@@ -1,11 +1,12 @@
 -- The marks of a row: of two rows side by side, of a row of a matrix, and one more.
-use Rattle.std.proofs.Common.{◌≡◌, ltb, ◌⊎◌, inl, inr, ◌<◌, ◌≤◌, ◌+◌, ◌-◌, ◌^◌, ◌∙◌, ℕ, Bool, cond, zero, suc, List, [], ◌∷◌, ◌++◌, min, map, refl, sym, ap, arith, append_assoc}
+use Rattle.std.proofs.Common.{◌≡◌, ◌==◌, ◌&&◌, ◌*◌, ltb, ◌⊎◌, inl, inr, ◌<◌, ◌≤◌, ◌+◌, ◌-◌, ◌^◌, ◌∙◌, ℕ, Bool, cond, zero, suc, List, [], ◌∷◌, ◌++◌, min, map, refl, sym, ap, arith, append_assoc}
 use Rattle.std.specs.List.{range_with_len}
 use Rattle.std.proofs.lemmas.List.{append-nil}
 use Rattle.std.proofs.Math.Nat.{pow-le-pow_right}
 use Rattle.std.proofs.lemmas.List.FromFn.{map-range_with_len_more}
 use Rattle.std.proofs.lemmas.Bool.{lt-ltb, le-ltb, cases_lt}
-use Rattle.rel_model.specs.Cells.{Cells}
+use Rattle.std.specs.Int.{bit_at}
+use Rattle.rel_model.specs.Cells.{Cells, bits_cells}
 use Rattle.rel_model.specs.Trees.{beside, quartered}
 use Rattle.rv_print.specs.Marks.{mark, marks}
 
@@ -14,6 +15,18 @@ pub marks-agree : (f g : ℕ → Bool) (n : ℕ) → ((j : ℕ) → j < n → f 
 marks-agree f g zero h = refl
 marks-agree f g (suc n) h =
     ap (λ xs. xs ++ mark (f n) ∷ []) (marks-agree f g n (λ j l. h j (omega (arith, l)))) ∙ ap (λ b. marks g n ++ mark b ∷ []) (h n (omega arith))
+
+-- the marks of one cell more
+pub marks-more : (f : ℕ → Bool) (n x : ℕ) (old now new : List ℕ) → x ≡ mark (f n) → new ≡ now ++ x ∷ [] → now ≡ old ++ marks f n → new ≡ old ++ marks f (n + 1)
+marks-more f n x old now new e h k =
+    let more : suc n ≡ n + 1 = omega arith in
+    h ∙ ap (λ zs. zs ++ x ∷ []) k ∙ append_assoc old (marks f n) (x ∷ []) ∙ ap (λ (m : ℕ). old ++ (marks f n ++ m ∷ [])) e ∙ ap (λ (m : ℕ). old ++ marks f m) more
+
+-- the mark of a cell of a leaf
+pub bits-mark : (side bits row j x : ℕ) → row < side → j < side → x ≡ mark (bit_at bits (side * row + j) == 1) → x ≡ mark (bits_cells side bits row j)
+bits-mark side bits row j x l k e =
+    e ∙ ap (λ b. mark (b && (bit_at bits (side * row + j) == 1))) (sym (lt-ltb j side k))
+    ∙ ap (λ b. mark (b && (ltb j side && (bit_at bits (side * row + j) == 1)))) (sym (lt-ltb row side l))
 
 -- the marks of a row of a matrix
 pub marks-row : (f : ℕ → Bool) (n : ℕ) → marks f n ≡ map (λ j. mark (f j)) (range_with_len 0 n)

@@ -1,10 +1,11 @@
 //! The texts of refusals: each call adds why something was refused.
 ghost use Rattle.std.specs.Prelude.{◌≡◌, ◌≢◌, ◌++◌, List, ℕ, OnOk, IfOk};
-ghost use Rattle.lang_model.specs.declared.faults.TypeFault.TheVariants.{Arity};
-ghost use Rattle.run_model.specs.Texts.{place_text, what_text, parse_fault_text, unknown_text, mismatch_text, type_fault_text, bad_file_text, unit_text, unit_limit, quoted, outcome_text, refusal_text};
+ghost use Rattle.lang_model.specs.declared.faults.TypeFault.TheVariants.{Arity, Rank, NotTest};
+ghost use Rattle.lang_model.specs.declared.faults.ParseFault.TheVariants.{Byte, Expected, TooDeep};
+ghost use Rattle.run_model.specs.Texts.{place_text, shape_text, what_text, parse_fault_text, unknown_text, mismatch_text, type_fault_text, bad_file_text, unit_text, unit_limit, quoted, outcome_text, refusal_text};
 ghost use Rattle.run_model.specs.declared.outcome.Outcome.TheVariants.{Done, Size, Turns, TooLarge, TooLong, NoFile, BadFile as BAD_FILE};
 
-use crate::pieces::{push_number, push_place, push_shape};
+use crate::pieces::{push_number, push_number_after, push_shape, push_text_at};
 use lang_model::faults::{ParseFault, StaticShape, TypeFault, What};
 use lang_model::limits::{NESTING_LIMIT, RANK_LIMIT};
 use lang_model::syntax::{FileText, Name, Place};
@@ -58,12 +59,9 @@ fn push_size_over(
 ) -> Result<(), AllocError>
     ensures { OnOk result (out.new.items ≡ out.old.items ++ outcome_text (Size at wanted limit)) }
 {
-    push_place(alloc, out, at)?;
-    out.extend_from_slice(b"size ")?;
+    push_text_at(alloc, out, at, b"size ")?;
     push_number(alloc, out, wanted)?;
-    out.extend_from_slice(b" passes the limit ")?;
-    push_number(alloc, out, limit)?;
-    Ok(())
+    push_number_after(alloc, out, b" passes the limit ", limit)
 }
 
 /// Adds that loops took too many turns.
@@ -71,11 +69,9 @@ fn push_size_over(
 fn push_turns(alloc: Global, out: &mut Vec<u8>, at: Place, limit: u64) -> Result<(), AllocError>
     ensures { OnOk result (out.new.items ≡ out.old.items ++ outcome_text (Turns at limit)) }
 {
-    push_place(alloc, out, at)?;
-    out.extend_from_slice(b"more than ")?;
+    push_text_at(alloc, out, at, b"more than ")?;
     push_number(alloc, out, limit)?;
-    out.extend_from_slice(b" turns")?;
-    Ok(())
+    out.extend_from_slice(b" turns")
 }
 
 /// What a limit counts.
@@ -110,9 +106,7 @@ fn push_too_large(
 {
     push_number(alloc, out, wanted)?;
     out.extend_from_slice(unit_name(unit))?;
-    out.extend_from_slice(b" pass the limit ")?;
-    push_number(alloc, out, limit_of(unit))?;
-    Ok(())
+    push_number_after(alloc, out, b" pass the limit ", limit_of(unit))
 }
 
 /// Adds that a relation's tree has too many bits to be saved.
@@ -121,9 +115,7 @@ fn push_too_long(alloc: Global, out: &mut Vec<u8>, bits: u64) -> Result<(), Allo
     ensures { OnOk result (out.new.items ≡ out.old.items ++ outcome_text (TooLong bits)) }
 {
     push_number(alloc, out, bits)?;
-    out.extend_from_slice(b" bits pass the limit ")?;
-    push_number(alloc, out, SAVE_LIMIT)?;
-    Ok(())
+    push_number_after(alloc, out, b" bits pass the limit ", SAVE_LIMIT)
 }
 
 // ---- relation files
@@ -133,8 +125,7 @@ fn push_quoted(out: &mut Vec<u8>, text: &[u8]) -> Result<(), AllocError>
 {
     out.push(b'"')?;
     out.extend_from_slice(text)?;
-    out.push(b'"')?;
-    Ok(())
+    out.extend_from_slice(b"\"")
 }
 
 /// Adds that there is no file of a name.
@@ -143,8 +134,7 @@ fn push_no_file(out: &mut Vec<u8>, name: &FileText) -> Result<(), AllocError>
     ensures { OnOk result (out.new.items ≡ out.old.items ++ outcome_text (NoFile name.now)) }
 {
     out.extend_from_slice(b"no file ")?;
-    push_quoted(out, name.bytes())?;
-    Ok(())
+    push_quoted(out, name.bytes())
 }
 
 /// Adds that a file is no relation file.
@@ -160,8 +150,7 @@ fn push_bad(
     out.extend_from_slice(b"file ")?;
     push_quoted(out, name.bytes())?;
     out.extend_from_slice(b" is bad: ")?;
-    push_kind(alloc, out, kind)?;
-    Ok(())
+    push_kind(alloc, out, kind)
 }
 
 /// Adds why bytes are no relation file.
@@ -175,14 +164,8 @@ fn push_kind(alloc: Global, out: &mut Vec<u8>, kind: BadFile) -> Result<(), Allo
         BadFile::Sizes => out.extend_from_slice(b"sizes"),
         BadFile::Height => out.extend_from_slice(b"height"),
         BadFile::Lengths => out.extend_from_slice(b"lengths"),
-        BadFile::ZeroGroup { at } => {
-            out.extend_from_slice(b"zero group at ")?;
-            push_number(alloc, out, at)
-        }
-        BadFile::Outside { at } => {
-            out.extend_from_slice(b"pair outside at ")?;
-            push_number(alloc, out, at)
-        }
+        BadFile::ZeroGroup { at } => push_number_after(alloc, out, b"zero group at ", at),
+        BadFile::Outside { at } => push_number_after(alloc, out, b"pair outside at ", at),
         BadFile::Padding => out.extend_from_slice(b"padding"),
         BadFile::Rest => out.extend_from_slice(b"rest"),
         BadFile::Full => out.extend_from_slice(b"no free node word"),
@@ -191,20 +174,48 @@ fn push_kind(alloc: Global, out: &mut Vec<u8>, kind: BadFile) -> Result<(), Allo
 }
 
 // ---- grammar
-/// Adds what the grammar needs.
+/// What the grammar needs.
 #[tactic(auto, unfolding(run_model::specs::Texts::what_text))]
-fn push_what(out: &mut Vec<u8>, what: &What) -> Result<(), AllocError>
-    ensures { OnOk result (out.new.items ≡ out.old.items ++ what_text what.now) }
+fn what_name(what: &What) -> &[u8]
+    ensures { result.now ≡ what_text what.now }
 {
     match what {
-        What::Item => out.extend_from_slice(b"an item"),
-        What::Expression => out.extend_from_slice(b"an expression"),
-        What::Name => out.extend_from_slice(b"a name"),
-        What::Number => out.extend_from_slice(b"a number"),
-        What::NumberFromOne => out.extend_from_slice(b"a number from 1"),
-        What::FileText => out.extend_from_slice(b"a file text"),
-        What::Token(text) => out.extend_from_slice(text.bytes()),
+        What::Item => b"an item",
+        What::Expression => b"an expression",
+        What::Name => b"a name",
+        What::Number => b"a number",
+        What::NumberFromOne => b"a number from 1",
+        What::FileText => b"a file text",
+        What::Token(text) => text.bytes(),
     }
+}
+
+/// Adds that a byte stands in no token.
+#[tactic(auto, unfolding(run_model::specs::Texts::parse_fault_text))]
+fn push_byte(alloc: Global, out: &mut Vec<u8>, at: Place, byte: u8) -> Result<(), AllocError>
+    ensures { OnOk result (out.new.items ≡ out.old.items ++ parse_fault_text (Byte at byte)) }
+{
+    push_text_at(alloc, out, at, b"byte ")?;
+    push_number(alloc, out, u64::from(byte))?;
+    out.extend_from_slice(b" is not allowed")
+}
+
+/// Adds what is expected at a place.
+#[tactic(auto, unfolding(run_model::specs::Texts::parse_fault_text))]
+fn push_expected(alloc: Global, out: &mut Vec<u8>, at: Place, what: &What) -> Result<(), AllocError>
+    ensures { OnOk result (out.new.items ≡ out.old.items ++ parse_fault_text (Expected at what.now)) }
+{
+    push_text_at(alloc, out, at, b"expected ")?;
+    out.extend_from_slice(what_name(what))
+}
+
+/// Adds that a script is nested too deep.
+#[tactic(auto, unfolding(run_model::specs::Texts::parse_fault_text))]
+fn push_too_deep(alloc: Global, out: &mut Vec<u8>, at: Place) -> Result<(), AllocError>
+    ensures { OnOk result (out.new.items ≡ out.old.items ++ parse_fault_text (TooDeep at)) }
+{
+    push_text_at(alloc, out, at, b"nested deeper than ")?;
+    push_number(alloc, out, u64::from(NESTING_LIMIT))
 }
 
 /// Adds why bytes are no script.
@@ -213,30 +224,11 @@ fn push_parse_fault(alloc: Global, out: &mut Vec<u8>, fault: &ParseFault) -> Res
     ensures { OnOk result (out.new.items ≡ out.old.items ++ parse_fault_text fault.now) }
 {
     match fault {
-        ParseFault::Byte { at, byte } => {
-            push_place(alloc, out, *at)?;
-            out.extend_from_slice(b"byte ")?;
-            push_number(alloc, out, u64::from(*byte))?;
-            out.extend_from_slice(b" is not allowed")
-        }
-        ParseFault::Expected { at, what } => {
-            push_place(alloc, out, *at)?;
-            out.extend_from_slice(b"expected ")?;
-            push_what(out, what)
-        }
-        ParseFault::TooDeep { at } => {
-            push_place(alloc, out, *at)?;
-            out.extend_from_slice(b"nested deeper than ")?;
-            push_number(alloc, out, u64::from(NESTING_LIMIT))
-        }
-        ParseFault::NumberTooLarge { at } => {
-            push_place(alloc, out, *at)?;
-            out.extend_from_slice(b"number over 64 bits")
-        }
-        ParseFault::NameTooLong { at } => {
-            push_place(alloc, out, *at)?;
-            out.extend_from_slice(b"name too long")
-        }
+        ParseFault::Byte { at, byte } => push_byte(alloc, out, *at, *byte),
+        ParseFault::Expected { at, what } => push_expected(alloc, out, *at, what),
+        ParseFault::TooDeep { at } => push_too_deep(alloc, out, *at),
+        ParseFault::NumberTooLarge { at } => push_text_at(alloc, out, *at, b"number over 64 bits"),
+        ParseFault::NameTooLong { at } => push_text_at(alloc, out, *at, b"name too long"),
         ParseFault::NoMemory => out.extend_from_slice(b"no memory"),
     }
 }
@@ -247,10 +239,8 @@ fn push_parse_fault(alloc: Global, out: &mut Vec<u8>, fault: &ParseFault) -> Res
 fn push_unknown(alloc: Global, out: &mut Vec<u8>, at: Place, name: &Name) -> Result<(), AllocError>
     ensures { OnOk result (out.new.items ≡ out.old.items ++ unknown_text at name.now) }
 {
-    push_place(alloc, out, at)?;
-    out.extend_from_slice(b"unknown name ")?;
-    out.extend_from_slice(name.bytes())?;
-    Ok(())
+    push_text_at(alloc, out, at, b"unknown name ")?;
+    out.extend_from_slice(name.bytes())
 }
 
 /// Adds what is said of a name, at its place.
@@ -263,10 +253,47 @@ fn push_said(
 ) -> Result<(), AllocError>
     ensures { OnOk result (out.new.items ≡ out.old.items ++ (place_text at ++ name.now ++ said.now)) }
 {
-    push_place(alloc, out, at)?;
-    out.extend_from_slice(name.bytes())?;
-    out.extend_from_slice(said)?;
-    Ok(())
+    push_text_at(alloc, out, at, name.bytes())?;
+    out.extend_from_slice(said)
+}
+
+/// Adds that an operator needs another shape than that of its operand.
+fn push_unfit(
+    alloc: Global,
+    out: &mut Vec<u8>,
+    at: Place,
+    op: &Name,
+    said: &[u8],
+    shape: StaticShape,
+) -> Result<(), AllocError>
+    ensures { OnOk result (out.new.items ≡ out.old.items
+        ++ (place_text at ++ op.now ++ said.now ++ shape_text shape)) }
+{
+    push_said(alloc, out, at, op, said)?;
+    push_shape(alloc, out, shape)
+}
+
+/// Adds that a definition has too high a rank.
+#[tactic(auto, unfolding(run_model::specs::Texts::type_fault_text))]
+fn push_rank(alloc: Global, out: &mut Vec<u8>, at: Place, name: &Name) -> Result<(), AllocError>
+    ensures { OnOk result (out.new.items ≡ out.old.items ++ type_fault_text (Rank at name.now)) }
+{
+    push_said(alloc, out, at, name, b" has a rank over ")?;
+    push_number(alloc, out, u64::from(RANK_LIMIT))
+}
+
+/// Adds that a test is not of one row and one column.
+#[tactic(auto, unfolding(run_model::specs::Texts::type_fault_text))]
+fn push_no_test(
+    alloc: Global,
+    out: &mut Vec<u8>,
+    at: Place,
+    shape: StaticShape,
+) -> Result<(), AllocError>
+    ensures { OnOk result (out.new.items ≡ out.old.items ++ type_fault_text (NotTest at shape)) }
+{
+    push_text_at(alloc, out, at, b"a test must be 1 x 1, not ")?;
+    push_shape(alloc, out, shape)
 }
 
 /// Adds that a definition takes so many arguments.
@@ -283,9 +310,7 @@ fn push_arity(
 {
     push_said(alloc, out, at, name, b" takes ")?;
     push_number(alloc, out, u64::from(takes))?;
-    out.extend_from_slice(b" arguments, not ")?;
-    push_number(alloc, out, u64::from(given))?;
-    Ok(())
+    push_number_after(alloc, out, b" arguments, not ", u64::from(given))
 }
 
 /// Adds that operands do not fit.
@@ -303,8 +328,7 @@ fn push_mismatch(
     push_said(alloc, out, at, op, b" does not fit ")?;
     push_shape(alloc, out, left)?;
     out.extend_from_slice(b" and ")?;
-    push_shape(alloc, out, right)?;
-    Ok(())
+    push_shape(alloc, out, right)
 }
 
 /// Adds why an expression or a script has no meaning.
@@ -323,10 +347,7 @@ fn push_type_fault(alloc: Global, out: &mut Vec<u8>, fault: &TypeFault) -> Resul
         TypeFault::Unassigned { at, name } => {
             push_said(alloc, out, *at, name, b" may be read before it is assigned")
         }
-        TypeFault::Rank { at, name } => {
-            push_said(alloc, out, *at, name, b" has a rank over ")?;
-            push_number(alloc, out, u64::from(RANK_LIMIT))
-        }
+        TypeFault::Rank { at, name } => push_rank(alloc, out, *at, name),
         TypeFault::Mismatch {
             at,
             op,
@@ -334,18 +355,19 @@ fn push_type_fault(alloc: Global, out: &mut Vec<u8>, fault: &TypeFault) -> Resul
             right,
         } => push_mismatch(alloc, out, *at, op, *left, *right),
         TypeFault::NotSquare { at, op, shape } => {
-            push_said(alloc, out, *at, op, b" needs a square relation, not ")?;
-            push_shape(alloc, out, *shape)
+            push_unfit(
+                alloc,
+                out,
+                *at,
+                op,
+                b" needs a square relation, not ",
+                *shape,
+            )
         }
         TypeFault::NotVector { at, op, shape } => {
-            push_said(alloc, out, *at, op, b" needs one column, not ")?;
-            push_shape(alloc, out, *shape)
+            push_unfit(alloc, out, *at, op, b" needs one column, not ", *shape)
         }
-        TypeFault::NotTest { at, shape } => {
-            push_place(alloc, out, *at)?;
-            out.extend_from_slice(b"a test must be 1 x 1, not ")?;
-            push_shape(alloc, out, *shape)
-        }
+        TypeFault::NotTest { at, shape } => push_no_test(alloc, out, *at, *shape),
         TypeFault::Twice { at, name } => { push_said(alloc, out, *at, name, b" is defined twice") }
         TypeFault::NoMemory => out.extend_from_slice(b"no memory"),
     }

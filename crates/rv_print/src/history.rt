@@ -2,7 +2,7 @@
 ghost use Rattle.std.specs.Prelude.{◌≡◌, ◌++◌, OnOk, IfOk};
 ghost use Rattle.run_model.specs.Page.{act_text, event_line};
 
-use crate::pieces::{push_number, push_sizes};
+use crate::pieces::{push_number, push_number_after, push_sizes};
 use rel_model::NoMemory;
 use run_model::event::{Act, Event};
 use std::alloc::{AllocError, Global};
@@ -33,8 +33,7 @@ pub fn event_line(alloc: Global, event: &Event) -> Result<Vec<u8>, NoMemory>
 {
     let mut out = Vec::new(alloc);
     push_number(alloc, &mut out, u64::from(event.session))?;
-    out.extend_from_slice(b".")?;
-    push_number(alloc, &mut out, u64::from(event.command))?;
+    push_number_after(alloc, &mut out, b".", u64::from(event.command))?;
     out.extend_from_slice(b" ")?;
     push_act(alloc, &mut out, &event.act)?;
     out.push(b'\n')?;

@@ -8,7 +8,7 @@ ghost use Rattle.run_model.specs.Page.{pair_text, sizes_text, line_feed, listing
 ghost use Rattle.run_model.specs.declared.outcome.Unit.TheVariants.{Pairs};
 ghost use Rattle.rv_print.specs.Refusals.{IsOver};
 
-use crate::pieces::{push_number, push_sizes};
+use crate::pieces::{push_number, push_number_after, push_sizes};
 use crate::refused::PrintRefused;
 use rel_model::Rel;
 use rel_model::engine_trait::Engine;
@@ -48,10 +48,8 @@ fn push_head(alloc: Global, out: &mut Vec<u8>, rel: Rel, count: u64) -> Result<(
         ++ codes ", pairs " ++ decimal count ++ line_feed) }
 {
     push_sizes(alloc, out, rel.rows, rel.cols)?;
-    out.extend_from_slice(b", pairs ")?;
-    push_number(alloc, out, count)?;
-    out.push(b'\n')?;
-    Ok(())
+    push_number_after(alloc, out, b", pairs ", count)?;
+    out.extend_from_slice(b"\n")
 }
 
 /// Adds the line of a pair, counted from 1.
@@ -59,10 +57,8 @@ fn push_pair(alloc: Global, out: &mut Vec<u8>, pair: (u32, u32)) -> Result<(), A
     ensures { OnOk result (out.new.items ≡ out.old.items ++ pair_text pair) }
 {
     push_number(alloc, out, u64::from(pair.0) + 1)?;
-    out.extend_from_slice(b":")?;
-    push_number(alloc, out, u64::from(pair.1) + 1)?;
-    out.push(b'\n')?;
-    Ok(())
+    push_number_after(alloc, out, b":", u64::from(pair.1) + 1)?;
+    out.extend_from_slice(b"\n")
 }
 
 /// Adds the lines of all pairs.

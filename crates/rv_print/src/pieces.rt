@@ -16,6 +16,19 @@ pub(crate) fn push_number(alloc: Global, out: &mut Vec<u8>, n: u64) -> Result<()
     out.extend_from_slice(text.as_bytes())
 }
 
+/// Adds a text and a number behind it.
+pub(crate) fn push_number_after(
+    alloc: Global,
+    out: &mut Vec<u8>,
+    text: &[u8],
+    n: u64,
+) -> Result<(), AllocError>
+    ensures { OnOk result (out.new.items ≡ out.old.items ++ (text.now ++ decimal n)) }
+{
+    out.extend_from_slice(text)?;
+    push_number(alloc, out, n)
+}
+
 /// Adds `M x N`.
 pub(crate) fn push_sizes(
     alloc: Global,
@@ -26,21 +39,30 @@ pub(crate) fn push_sizes(
     ensures { OnOk result (out.new.items ≡ out.old.items ++ sizes_text rows cols) }
 {
     push_number(alloc, out, u64::from(rows))?;
-    out.extend_from_slice(b" x ")?;
-    push_number(alloc, out, u64::from(cols))?;
-    Ok(())
+    push_number_after(alloc, out, b" x ", u64::from(cols))
 }
 
 /// Adds `LINE:COLUMN: `.
 #[tactic(auto, unfolding(run_model::specs::Texts::place_text))]
-pub(crate) fn push_place(alloc: Global, out: &mut Vec<u8>, at: Place) -> Result<(), AllocError>
+fn push_place(alloc: Global, out: &mut Vec<u8>, at: Place) -> Result<(), AllocError>
     ensures { OnOk result (out.new.items ≡ out.old.items ++ place_text at) }
 {
     push_number(alloc, out, u64::from(at.line))?;
-    out.extend_from_slice(b":")?;
-    push_number(alloc, out, u64::from(at.column))?;
-    out.extend_from_slice(b": ")?;
-    Ok(())
+    push_number_after(alloc, out, b":", u64::from(at.column))?;
+    out.extend_from_slice(b": ")
+}
+
+/// Adds a place and a text behind it.
+pub(crate) fn push_text_at(
+    alloc: Global,
+    out: &mut Vec<u8>,
+    at: Place,
+    text: &[u8],
+) -> Result<(), AllocError>
+    ensures { OnOk result (out.new.items ≡ out.old.items ++ (place_text at ++ text.now)) }
+{
+    push_place(alloc, out, at)?;
+    out.extend_from_slice(text)
 }
 
 /// Adds a size, or `?` where it is unknown.
@@ -64,6 +86,5 @@ pub(crate) fn push_shape(
 {
     push_size(alloc, out, shape.rows)?;
     out.extend_from_slice(b" x ")?;
-    push_size(alloc, out, shape.cols)?;
-    Ok(())
+    push_size(alloc, out, shape.cols)
 }

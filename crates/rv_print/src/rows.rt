@@ -75,8 +75,7 @@ fn push_row<E: Engine>(
 {
     let quad = engine.root(rel);
     push_cells(engine, out, quad, i, rel.cols)?;
-    out.push(b'\n')?;
-    Ok(())
+    out.extend_from_slice(b"\n")
 }
 
 /// The side of a square of a height.
@@ -166,8 +165,7 @@ fn push_two<E: Engine>(
 {
     let half = side_of(west.height);
     push_cells(engine, out, west, row, cols.min(half))?;
-    push_cells(engine, out, east, row, cols.saturating_sub(half))?;
-    Ok(())
+    push_cells(engine, out, east, row, cols.saturating_sub(half))
 }
 
 /// Adds so many marks of no pair.

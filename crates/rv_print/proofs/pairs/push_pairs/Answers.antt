@@ -4,7 +4,7 @@ use Rattle.std.proofs.lemmas.List.{append-nil}
 use Rattle.rel_model.specs.Choice.{first_in, next_pair}
 use Rattle.rel_model.specs.Relation.{Relation}
 use Rattle.rel_model.specs.Worker.{set_of}
-use Rattle.rel_model.proofs.Workers.{keeps_itself, keeps_trans, keeps_set}
+use Rattle.rel_model.proofs.Workers.{keeps_itself, keeps_trans, keeps_stands, keeps_set}
 use Rattle.run_model.specs.Page.{pair_text}
 use Rattle.rv_print.proofs.Lines.{next-none, next-drop, first-some, pairs-more}
 use Rattle.rv_print.proofs.pairs.push_pairs.Goals.{in-Some+in_ok-push_pair, in_default}
@@ -18,6 +18,18 @@ pairs-init g c = record {
   room = omega arith;
   misses = refl;
 }
+
+pub next_pair-last-requires : goal.next_pair-last-requires
+next_pair-last-requires g c = keeps_stands _ _ c.args.rel c.pairs.invariant.keeps c.requires.standing
+
+pub returns-in_err-push_pair-clause-keeps : goal.returns-in_err-push_pair-clause-keeps
+returns-in_err-push_pair-clause-keeps g c = keeps_trans _ _ _ c.pairs.invariant.keeps c.next_pair-last.ensures.keeps
+
+pub returns-in_err-push_pair-clause-room : goal.returns-in_err-push_pair-clause-room
+returns-in_err-push_pair-clause-room g c = omega (arith, c.pairs.invariant.room, c.next_pair-last.ensures.room)
+
+pub returns-in_err-push_pair-clause-misses : goal.returns-in_err-push_pair-clause-misses
+returns-in_err-push_pair-clause-misses g c = c.next_pair-last.ensures.misses ∙ c.pairs.invariant.misses
 
 pub pairs-preserved : goal.pairs-preserved
 pairs-preserved g c =

@@ -4,6 +4,7 @@ use Rattle.rel_model.specs.Cells.{Cells}
 use Rattle.rel_model.specs.Trees.{top_height}
 use Rattle.rel_model.specs.Worker.{quad_set}
 use Rattle.rv_print.specs.Marks.{marks}
+use Rattle.rv_print.proofs.Chains.{where_same}
 use Rattle.rv_print.proofs.Marking.{leaf-side, two-halves}
 use Rattle.rv_print.proofs.Standing.{zero_set, keeps_quad_set}
 use Rattle.rv_print.proofs.rows.+cells.Goals as goal
@@ -38,7 +39,8 @@ push_two-returns-clause-text g t c =
     let cut = c.min.result in
     let rest = c.saturating_sub.result in
     let same = keeps_quad_set w v c.args.east c.in_ok-push_cells.ensures.keeps c.requires.east_stands in
-    c.in_ok-push_cells-2.ensures.text ∙ ap (λ zs. zs ++ marks (quad_set v c.args.east row) rest) c.in_ok-push_cells.ensures.text
+    let both = ap (λ zs. zs ++ marks (quad_set v c.args.east row) rest) c.in_ok-push_cells.ensures.text
     ∙ append_assoc old (marks (west row) cut) (marks (quad_set v c.args.east row) rest)
     ∙ ap (λ zs. old ++ zs) (ap (λ (f : Cells). marks (west row) cut ++ marks (f row) rest) same
-    ∙ two-halves west (quad_set w c.args.east) (2 ^ c.args.west.height) row c.args.cols c.side_of-half.result cut rest c.side_of-half.ensures c.min.ensures c.saturating_sub.ensures)
+    ∙ two-halves west (quad_set w c.args.east) (2 ^ c.args.west.height) row c.args.cols c.side_of-half.result cut rest c.side_of-half.ensures c.min.ensures c.saturating_sub.ensures) in
+    where_same _ _ _ _ both c.push_cells-2.ensures.text

@@ -7,6 +7,7 @@ use Rattle.rel_model.specs.Worker.{set_of, quad_set}
 use Rattle.rel_model.proofs.Heights.{height_over-rows, height_over-cols}
 use Rattle.run_model.specs.Texts.{cell, row_text}
 use Rattle.rv_print.specs.Marks.{marks}
+use Rattle.rv_print.proofs.Chains.{where_ok, where_same}
 use Rattle.rv_print.proofs.Marking.{marks-row}
 use Rattle.rv_print.proofs.Standing.{gives_quad_set}
 use Rattle.rv_print.proofs.rows.push_row.Goals as goal
@@ -33,5 +34,6 @@ returns-clause-text g c =
     let line : marks (quad_set w quad i) c.args.rel.cols ≡ map (cell R i) (range_with_len 0 R.cols) =
     ap (λ (f : Cells). marks (f i) c.args.rel.cols) same ∙ marks-row (has R i) c.args.rel.cols
     ∙ ap (λ (n : ℕ). map (cell R i) (range_with_len 0 n)) (sym (g.met.E.Core.col_size c.args.engine.now c.args.rel c.requires.standing)) in
-    c.in_ok-push.ensures.items ∙ ap (λ zs. zs ++ 10 ∷ []) (c.in_ok-push_cells.ensures.text ∙ ap (λ zs. old ++ zs) line)
-    ∙ append_assoc old (map (cell R i) (range_with_len 0 R.cols)) (10 ∷ [])
+    let ended = ap (λ zs. zs ++ 10 ∷ []) (c.in_ok-push_cells.ensures.text ∙ ap (λ zs. old ++ zs) line)
+    ∙ append_assoc old (map (cell R i) (range_with_len 0 R.cols)) (10 ∷ []) in
+    where_same _ _ _ _ ended (where_ok _ _ _ _ c.extend_from_slice.ensures.items)
