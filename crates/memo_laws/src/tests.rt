@@ -112,16 +112,10 @@ fn finds_alone(rt: &impl Abort, table: &PairTable, seat: &mut Seat, noted: Optio
 {
     'each_height: for height in 3..25 {
         'each_operator: for op in OPERATORS {
-            let want = if noted == Some((op, height)) {
-                Some(0)
-            } else {
-                None
-            };
-            assert_eq!(rt;
-                look_nothing(table, seat, op, height),
-                want,
-                "{op:?} at {height}"
-            );
+            let is_noted = noted == Some((op, height));
+            let want = if is_noted { Some(0) } else { None };
+            let found = look_nothing(table, seat, op, height);
+            assert!(rt; found == want, "{op:?} at {height}");
         }
     }
 }
@@ -150,11 +144,8 @@ fn finds_as_told(
     ensures { IsOf seat.new table.now }
 {
     'each_case: for (op, left, right, want) in cases {
-        assert_eq!(rt;
-            look_blocks(rt, table, seat, *op, *left, *right),
-            *want,
-            "{op:?} of {left} and {right}"
-        );
+        let found = look_blocks(rt, table, seat, *op, *left, *right);
+        assert!(rt; found == *want, "{op:?} of {left} and {right}");
     }
 }
 
@@ -199,7 +190,7 @@ fn a_second_note_in_one_slot_takes_the_place_of_the_first(rt: HostRuntime) {
     let low = note_union_with_itself(&rt, &table, &mut seat, LOW);
     finds_as_told(&rt, &table, &mut seat, &[(Op::Union, LOW, LOW, Some(low))]);
     let high = note_union_with_itself(&rt, &table, &mut seat, HIGH);
-    assert_eq!(rt; (low, high), (18, 1042));
+    assert!(rt; low == 18 && high == 1042);
     let cases = [
         (Op::Union, LOW, LOW, None),
         (Op::Union, LOW, HIGH, None),
@@ -213,18 +204,10 @@ fn a_second_note_in_one_slot_takes_the_place_of_the_first(rt: HostRuntime) {
 fn what_one_seat_notes_another_finds(rt: HostRuntime) {
     let (table, mut first) = small_table(&rt, rt.alloc(), 2);
     let mut second = table.split(&mut first, 0);
-    assert_eq!(rt;
-        look_blocks(&rt, &table, &mut second, Op::Union, 9, 9),
-        None
-    );
+    finds_as_told(&rt, &table, &mut second, &[(Op::Union, 9, 9, None)]);
     let name = note_union_with_itself(&rt, &table, &mut first, 9);
-    assert_eq!(rt;
-        look_blocks(&rt, &table, &mut second, Op::Union, 9, 9),
-        Some(name)
-    );
+    let noted = [(Op::Union, 9, 9, Some(name))];
+    finds_as_told(&rt, &table, &mut second, &noted);
     table.join(&mut first, second);
-    assert_eq!(rt;
-        look_blocks(&rt, &table, &mut first, Op::Union, 9, 9),
-        Some(name)
-    );
+    finds_as_told(&rt, &table, &mut first, &noted);
 }

@@ -5,7 +5,7 @@ ghost use Rattle.rv_io.specs.Outside.{Leaves, HasCause};
 ghost use Rattle.rv_io.specs.Files.{left_in};
 
 use crate::{Failed, Shelf};
-use std::alloc::Global;
+use std::alloc::{AllocError, Global};
 use std::fs::{File, OpenFile};
 use std::io::{BufReader, ErrorKind, Read, Write};
 use std::rt::Files;
@@ -109,17 +109,29 @@ fn replace<R: Files>(rt: &R, alloc: Global, name: &str, bytes: &[u8]) -> io::Res
 /// wherever `name` fits, and no other file has it.
 fn file_beside<R: Files>(rt: &R, alloc: Global, name: &str) -> io::Result<(String, R::File)> {
     'numbers: for number in 0..TRIES {
-        let beside = match name.rsplit_once('/') {
-            Some((folder, _)) => format!(in alloc; "{folder}/put-{number}.part")?,
-            None => format!(in alloc; "put-{number}.part")?,
-        };
-        match File::create_new(rt, beside.as_str()) {
-            Ok(file) => return Ok((beside, file)),
-            Err(error) if error.kind() == ErrorKind::AlreadyExists => {}
-            Err(error) => return Err(error),
+        let beside = name_beside(alloc, name, number)?;
+        if let Some(file) = create_new(rt, beside.as_str())? {
+            return Ok((beside, file));
         }
     }
     Err(io::Error::from(ErrorKind::AlreadyExists))
+}
+
+/// The name of this number in the folder of the file of this name.
+fn name_beside(alloc: Global, name: &str, number: u32) -> Result<String, AllocError> {
+    match name.rsplit_once('/') {
+        Some((folder, _)) => format!(in alloc; "{folder}/put-{number}.part"),
+        None => format!(in alloc; "put-{number}.part"),
+    }
+}
+
+/// Makes a new file of this name, where no other file has it.
+fn create_new<R: Files>(rt: &R, name: &str) -> io::Result<Option<R::File>> {
+    match File::create_new(rt, name) {
+        Ok(file) => Ok(Some(file)),
+        Err(error) if error.kind() == ErrorKind::AlreadyExists => Ok(None),
+        Err(error) => Err(error),
+    }
 }
 
 /// Writes all of `bytes` to a file, through to where it is kept.

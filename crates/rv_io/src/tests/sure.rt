@@ -1,15 +1,19 @@
 //! The shelf and the sink that never fail, up to the call that does not fit their room, and behind it.
-use crate::{NoMemory, Shelf, Sink, SureShelf, SureSink, WriteError, read_all, write_all};
+use super::{assert_puts, files_of, reads, takes};
+use crate::{NoMemory, Shelf, SureShelf, SureSink, write_all};
 use std::alloc::{AllocError, Global};
 use std::process::Abort;
 use std::test::Fail;
 
-/// A shelf with the files `a`, of the bytes 1 and 2, and `b`, of no bytes, and a second `a`.
+/// A file `a`, of the bytes 1 and 2, one `b`, of no bytes, and a second `a`.
+const FILES: [(&str, &[u8]); 3] = [("a", &[1, 2]), ("b", &[]), ("a", &[3])];
+
+/// What each name of a new shelf holds.
+const START: [(&str, &[u8]); 2] = [("a", &[1, 2]), ("b", &[])];
+
+/// A shelf with these files and so much room.
 fn shelf_of(alloc: Global, room: usize) -> Result<SureShelf, AllocError> {
-    let mut files = Vec::new(alloc);
-    files.push((String::from_str(alloc, "a")?, vec![in alloc; 1u8, 2]?))?;
-    files.push((String::from_str(alloc, "b")?, Vec::new(alloc)))?;
-    files.push((String::from_str(alloc, "a")?, vec![in alloc; 3u8]?))?;
+    let files = files_of(alloc, &FILES)?;
     match SureShelf::new(alloc, files, room) {
         Ok(shelf) => Ok(shelf),
         Err(NoMemory) => Err(AllocError),
@@ -17,74 +21,72 @@ fn shelf_of(alloc: Global, room: usize) -> Result<SureShelf, AllocError> {
 }
 
 /// Asserts that each of these files, which are among those of the shelf, has its bytes.
-fn assert_holds(
-    rt: &impl Abort,
-    alloc: Global,
-    shelf: &mut SureShelf,
-    files: &[(&str, &[u8])],
-) -> Result<(), Fail> {
+fn assert_holds(rt: &impl Abort, alloc: Global, shelf: &mut SureShelf, files: &[(&str, &[u8])]) {
     for (name, bytes) in files {
-        assert!(rt; shelf.has(name), "{name}");
-        if shelf.has(name) {
-            let found = read_all(alloc, shelf, name, 9)?;
-            assert_eq!(rt; found.as_slice(), *bytes, "{name}");
-        }
+        let is_it = shelf.has(name) && reads(alloc, shelf, name, 9, bytes);
+        assert!(rt; is_it, "{name}");
     }
-    Ok(())
+}
+
+/// Puts, which take 3, 2, 3 and 1 bytes.
+const PUTS: [(&str, &[u8]); 4] = [("a", &[6, 7]), ("b", &[8]), ("cc", &[9]), ("d", &[])];
+
+/// Whether the file `a` is there, and is picked.
+fn picks(shelf: &mut SureShelf) -> bool {
+    shelf.has("a") && shelf.pick("a").is_ok()
 }
 
 #[test]
 fn files_are_read_and_put_while_names_and_bytes_fit(rt: HostRuntime) -> Result<(), Fail> {
     let alloc = rt.alloc();
-    // The puts take 3, 2, 3 and 1 bytes.
     let mut shelf = shelf_of(alloc, 9)?;
-    let start: [(&str, &[u8]); 2] = [("a", &[1, 2]), ("b", &[])];
-    assert_holds(&rt, alloc, &mut shelf, &start)?;
+    assert_holds(&rt, alloc, &mut shelf, &START);
     assert!(&rt; !shelf.has("c") && !shelf.has("") && !shelf.has("ab"));
-    assert!(&rt; shelf.has("a"));
-    if shelf.has("a") {
-        assert!(&rt; shelf.pick("a").is_ok());
-    }
-    let puts: [(&str, &[u8]); 4] = [("a", &[6, 7]), ("b", &[8]), ("cc", &[9]), ("d", &[])];
-    for (name, bytes) in puts {
-        assert!(&rt; shelf.put(name, bytes).is_ok());
-    }
+    assert!(&rt; picks(&mut shelf));
+    assert_puts(&rt, &mut shelf, &PUTS);
     // What was picked before the puts is read on.
-    let mut rest = [0u8; 4];
-    assert!(&rt; shelf.read(&mut rest) == Ok(2) && rest == [1, 2, 0, 0]);
-    assert!(&rt; shelf.read(&mut rest) == Ok(0));
-    assert_holds(&rt, alloc, &mut shelf, &puts)
+    assert!(&rt; takes(&mut shelf, 2, [1, 2, 0, 0]) && takes(&mut shelf, 0, [0, 0, 0, 0]));
+    assert_holds(&rt, alloc, &mut shelf, &PUTS);
+    Ok(())
 }
 
 #[test]
 fn a_put_that_does_not_fit_is_answered_and_not_kept(rt: HostRuntime) -> Result<(), Fail> {
     let alloc = rt.alloc();
     let mut shelf = shelf_of(alloc, 4)?;
-    let start: [(&str, &[u8]); 2] = [("a", &[1, 2]), ("b", &[])];
-    assert!(&rt; shelf.put("c", &[1, 2, 3, 4]).is_ok());
-    assert!(&rt; !shelf.has("c"));
-    // Nor is one behind it, which would fit.
-    assert!(&rt; shelf.put("d", &[1]).is_ok());
-    assert!(&rt; !shelf.has("d"));
-    assert_holds(&rt, alloc, &mut shelf, &start)
+    // The second would fit, and is not kept behind the first.
+    let puts: [(&str, &[u8]); 2] = [("c", &[1, 2, 3, 4]), ("d", &[1])];
+    for put in puts {
+        assert_puts(&rt, &mut shelf, &[put]);
+        assert!(&rt; !shelf.has(put.0));
+    }
+    assert_holds(&rt, alloc, &mut shelf, &START);
+    Ok(())
+}
+
+/// Asserts that a sink takes seven bytes, and keeps them where they fit its room.
+fn assert_kept(rt: &impl Abort, sink: SureSink, room: usize) {
+    let mut sink = sink;
+    let texts: [&[u8]; 3] = [b"one ", b"", b"two"];
+    for bytes in texts {
+        assert!(rt; write_all(&mut sink, bytes) == Ok(()));
+    }
+    let want = if room >= 7 {
+        Some(b"one two".as_slice())
+    } else {
+        None
+    };
+    assert!(rt; sink.written() == want, "room {room}");
 }
 
 #[test]
 fn a_sink_keeps_what_fits_its_room_and_takes_all(rt: HostRuntime) -> Result<(), Fail> {
     let alloc = rt.alloc();
     for room in 0..9 {
-        let Ok(mut sink) = SureSink::new(alloc, room) else {
+        let Ok(sink) = SureSink::new(alloc, room) else {
             return Err(Fail::from("no memory"));
         };
-        let texts: [&[u8]; 3] = [b"one ", b"", b"two"];
-        for bytes in texts {
-            assert!(&rt; write_all(&mut sink, bytes) == Ok(()));
-        }
-        let whole = room >= 7;
-        assert!(&rt; sink.written().is_some() == whole, "room {room}");
-        if let Some(bytes) = sink.written() {
-            assert_eq!(&rt; bytes, b"one two".as_slice());
-        }
+        assert_kept(&rt, sink, room);
     }
     Ok(())
 }
