@@ -3,7 +3,6 @@ use lang_model::syntax::Name;
 use rel_model::Rel;
 
 /// What an event does to the workspace.
-#[derive(Drop)]
 pub enum Act {
     /// Nothing: the command took its relations here.
     Read,
@@ -11,6 +10,16 @@ pub enum Act {
     Assign { name: Name, rel: Rel },
     /// The name is gone from here on.
     Remove { name: Name },
+}
+
+impl Drop for Act {
+    fn drop(self) {
+        match self {
+            Act::Read => {}
+            Act::Assign { name: _, rel: _ } => {}
+            Act::Remove { name: _ } => {}
+        }
+    }
 }
 
 /// One event of the workspace. Sessions and commands count from 1.

@@ -10,7 +10,6 @@ pub enum Unit {
 }
 
 /// What came of a command.
-#[derive(Drop)]
 pub enum Outcome {
     Done,
     Parse(ParseFault),
@@ -23,6 +22,28 @@ pub enum Outcome {
     NoFile { name: FileText },
     BadFile { name: FileText, kind: BadFile },
     NoMemory,
+}
+
+impl Drop for Outcome {
+    fn drop(self) {
+        match self {
+            Outcome::Done => {}
+            Outcome::Parse(_) => {}
+            Outcome::Ill(_) => {}
+            Outcome::Size {
+                at: _,
+                wanted: _,
+                limit: _,
+            } => {}
+            Outcome::Turns { at: _, limit: _ } => {}
+            Outcome::Nodes => {}
+            Outcome::TooLarge { wanted: _, unit: _ } => {}
+            Outcome::TooLong { bits: _ } => {}
+            Outcome::NoFile { name: _ } => {}
+            Outcome::BadFile { name: _, kind: _ } => {}
+            Outcome::NoMemory => {}
+        }
+    }
 }
 
 /// Why bytes are no relation file.

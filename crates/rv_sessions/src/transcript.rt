@@ -3,7 +3,6 @@ use run_model::files::Save;
 use run_model::outcome::Outcome;
 
 /// The reply to a command, behind the numbers of its session and its own.
-#[derive(Drop)]
 pub enum Reply {
     /// None: the command is done, and shows nothing.
     Nothing,
@@ -18,6 +17,23 @@ pub enum Reply {
         session: u32,
         command: u32,
     },
+}
+
+impl Drop for Reply {
+    fn drop(self) {
+        match self {
+            Reply::Nothing => {}
+            Reply::Told {
+                session: _,
+                command: _,
+                body: _,
+            } => {}
+            Reply::NoMemory {
+                session: _,
+                command: _,
+            } => {}
+        }
+    }
 }
 
 /// What came of a session: of each item its outcome and its reply, and the files to be put, in order. A script that

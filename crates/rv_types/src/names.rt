@@ -9,9 +9,14 @@ use std::alloc::Global;
 use std::marker::Model;
 
 /// A set of names of a script.
-#[derive(Drop)]
 pub struct Names<'a> {
     names: IndexSet<&'a [u8]>,
+}
+
+impl Drop for Names<'_> {
+    fn drop(self) {
+        let Names { names: _ } = self;
+    }
 }
 
 impl<'a> Model for Names<'a> {

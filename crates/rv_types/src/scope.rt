@@ -11,7 +11,6 @@ use lang_model::syntax::{Base, Name, Place};
 use std::alloc::Global;
 
 /// What the names of an expression may be.
-#[derive(Drop)]
 pub struct Scope<'a, 'd> {
     /// Whether its names are those of relations.
     pub is_command: bool,
@@ -23,6 +22,19 @@ pub struct Scope<'a, 'd> {
     pub sums: Names<'a>,
     /// The definitions of earlier items.
     pub earlier: &'d Definitions,
+}
+
+impl Drop for Scope<'_, '_> {
+    fn drop(self) {
+        let Scope {
+            is_command: _,
+            parameters: _,
+            variables: _,
+            products: _,
+            sums: _,
+            earlier: _,
+        } = self;
+    }
 }
 
 impl<'a, 'd> Scope<'a, 'd> {
