@@ -262,7 +262,7 @@ pub fn check_item<'a>(
     ensures fault { IfOk result (λ r. told r ≡ noted_all (told so_far.entry) (item_faults earlier.now item.now)) }
     ensures memory { OnErr result (is_definition item.now ≡ true) }
 {
-    let mut scope = Scope::new(alloc, false, earlier);
+    let mut scope = Scope::new(alloc, earlier);
     check_in(alloc, &mut scope, item, rank, so_far)
 }
 
