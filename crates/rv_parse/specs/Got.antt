@@ -31,6 +31,10 @@ ReadsTo e parts others tokens rest = (behind : List Part)
 abbrev pub RefusesItems : Ending → List Token → Halt → Type 0
 RefusesItems e tokens halt = (halt ≡ NoMemory → ⊥) → stop_of (ItemsPart ∷ []) tokens e ≡ Some (fault_of halt)
 
+-- two expressions with a comma between them, and a sign behind
+abbrev pub pair_parts : ℕ → ℕ → List Part
+pair_parts d sign = ExprPart OrLevel (suc d) ∷ SignPart 44 ∷ ExprPart OrLevel (suc d) ∷ SignPart sign ∷ []
+
 -- an assignment behind its name
 abbrev pub set_parts : ℕ → List Part
 set_parts d = SignPart 61 ∷ ExprPart OrLevel d ∷ []

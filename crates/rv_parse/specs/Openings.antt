@@ -5,6 +5,8 @@ use Rattle.lang_model.specs.declared.token.Keyword.TheVariants.{Rel as REL, Let 
 use Rattle.lang_model.specs.Spelling.{OrLevel}
 use Rattle.lang_model.specs.Stop.{Part, NamePart, FilePart, SignPart, WordPart, ExprPart, Behind, command_step}
 use Rattle.rv_parse.specs.Got.{relation_parts}
+use Rattle.rv_parse.specs.declared.command.Asked.{Asked}
+use Rattle.rv_parse.specs.declared.command.Asked.TheVariants.{Print as PrintIt, List as ListIt, Count as CountIt, «Type» as TypeIt}
 use Rattle.rv_parse.specs.declared.command.Opening.{Opening}
 use Rattle.rv_parse.specs.declared.command.Opening.TheVariants.{Relation, Let, Print, List as ListOf, Count, «Type» as TypeOf, Drop, Snap, At, Load, Save}
 
@@ -35,6 +37,13 @@ opening_parts Snap = NamePart ∷ []
 opening_parts At = NamePart ∷ WordPart PRINT ∷ ExprPart OrLevel 0 ∷ []
 opening_parts Load = NamePart ∷ FilePart ∷ []
 opening_parts Save = ExprPart OrLevel 0 ∷ FilePart ∷ []
+
+-- the keyword that asks this
+abbrev pub asked_word : Asked → Keyword
+asked_word PrintIt = PRINT
+asked_word ListIt = LIST
+asked_word CountIt = COUNT
+asked_word TypeIt = TYPE
 
 -- the keyword opens this command
 abbrev pub Opens : Keyword → Opening → Type 0

@@ -1,21 +1,21 @@
 //! Commands.
-ghost use Rattle.std.specs.Prelude.{◌≡◌, ◌<◌, ◌^◌, List, length, MatchResult, MatchOption};
+ghost use Rattle.std.specs.Prelude.{◌≡◌, ◌<◌, ◌^◌, ◌∷◌, [], List, length, MatchResult, MatchOption};
 ghost use Rattle.lang_model.specs.Taken.{Takes};
-ghost use Rattle.lang_model.specs.Spelling.{SpellsCommand};
-ghost use Rattle.lang_model.specs.Stop.{NotBegun, command_step};
+ghost use Rattle.lang_model.specs.Spelling.{OrLevel, Spelled, SpellsCommand};
+ghost use Rattle.lang_model.specs.Stop.{ExprPart, NotBegun, command_step};
 ghost use Rattle.lang_model.specs.declared.token.Kind.TheVariants.{Keyword as KEYWORD};
 ghost use Rattle.lang_model.specs.declared.token.Token.{Token as TOKEN};
 ghost use Rattle.rv_tokens.specs.Endings.{ending_of};
 ghost use Rattle.rv_parse.specs.Readers.{Refuses};
 ghost use Rattle.rv_parse.specs.Got.{Got};
-ghost use Rattle.rv_parse.specs.Openings.{Opens, opening_word, opening_parts};
-ghost use Rattle.rv_parse.specs.declared.command.Opening.TheVariants.{Let as LET, At as AT, Load as LOAD, Save as SAVE};
+ghost use Rattle.rv_parse.specs.Openings.{Opens, opening_word, opening_parts, asked_word};
+ghost use Rattle.rv_parse.specs.declared.command.Opening.TheVariants.{Let as LET, Drop as DROP, Snap as SNAP, At as AT, Load as LOAD, Save as SAVE};
 
 use crate::expr::expression;
 use crate::halt::Halt;
 use crate::leaf::{next_file, next_name, next_sign, next_word};
 use crate::rows::relation;
-use lang_model::syntax::Command;
+use lang_model::syntax::{Command, Expr};
 use lang_model::token::{Keyword, Token};
 use rv_tokens::Ending;
 use std::alloc::Global;
@@ -109,6 +109,65 @@ fn saving(alloc: Global, tokens: &[Token], end: Ending) -> Result<(Command, &[To
     Ok((command, rest))
 }
 
+/// What a command asks of a value.
+#[derive(Clone, Copy)]
+enum Asked {
+    Print,
+    List,
+    Count,
+    Type,
+}
+
+/// The command that asks this of a value.
+fn asking(asked: Asked, value: Expr) -> Command
+    ensures { (before t r : List TOKEN) → Takes (KEYWORD (asked_word asked)) before t → Spelled OrLevel 0 value t r
+        → SpellsCommand result before r }
+{
+    match asked {
+        Asked::Print => Command::Print { value },
+        Asked::List => Command::List { value },
+        Asked::Count => Command::Count { value },
+        Asked::Type => Command::Typed { value },
+    }
+}
+
+/// A value of which this is asked, behind its keyword.
+fn asked_value(
+    alloc: Global,
+    asked: Asked,
+    tokens: &[Token],
+    end: Ending,
+) -> Result<(Command, &[Token]), Halt>
+    requires { length tokens.now < 2 ^ 32 }
+    ensures { MatchResult result (λ x. Got (ending_of end) (ExprPart OrLevel 0 ∷ [])
+        (λ t r. (before : List TOKEN) → Takes (KEYWORD (asked_word asked)) before t → SpellsCommand x.0 before r)
+        tokens.now x.1.now) (Refuses (ending_of end) (ExprPart OrLevel 0 ∷ []) tokens.now) }
+{
+    let (value, rest) = expression(alloc, tokens, end, 0)?;
+    let command = asking(asked, value);
+    Ok((command, rest))
+}
+
+/// A relation's name behind DROP.
+fn removal(alloc: Global, tokens: &[Token], end: Ending) -> Result<(Command, &[Token]), Halt>
+    ensures { MatchResult result (λ x. Got (ending_of end) (opening_parts DROP)
+        (λ t r. (before : List TOKEN) → Takes (KEYWORD (opening_word DROP)) before t → SpellsCommand x.0 before r)
+        tokens.now x.1.now) (Refuses (ending_of end) (opening_parts DROP) tokens.now) }
+{
+    let (name, at, rest) = next_name(alloc, tokens, end)?;
+    Ok((Command::Remove { at, name }, rest))
+}
+
+/// A snapshot's name behind SNAP.
+fn snapshot(alloc: Global, tokens: &[Token], end: Ending) -> Result<(Command, &[Token]), Halt>
+    ensures { MatchResult result (λ x. Got (ending_of end) (opening_parts SNAP)
+        (λ t r. (before : List TOKEN) → Takes (KEYWORD (opening_word SNAP)) before t → SpellsCommand x.0 before r)
+        tokens.now x.1.now) (Refuses (ending_of end) (opening_parts SNAP) tokens.now) }
+{
+    let (name, _, rest) = next_name(alloc, tokens, end)?;
+    Ok((Command::Snap { name }, rest))
+}
+
 /// The command behind its keyword.
 pub fn command(
     alloc: Global,
@@ -124,30 +183,12 @@ pub fn command(
     match opening {
         Opening::Relation => relation(alloc, tokens, end),
         Opening::Let => assignment(alloc, tokens, end),
-        Opening::Print => {
-            let (value, rest) = expression(alloc, tokens, end, 0)?;
-            Ok((Command::Print { value }, rest))
-        }
-        Opening::List => {
-            let (value, rest) = expression(alloc, tokens, end, 0)?;
-            Ok((Command::List { value }, rest))
-        }
-        Opening::Count => {
-            let (value, rest) = expression(alloc, tokens, end, 0)?;
-            Ok((Command::Count { value }, rest))
-        }
-        Opening::Type => {
-            let (value, rest) = expression(alloc, tokens, end, 0)?;
-            Ok((Command::Typed { value }, rest))
-        }
-        Opening::Drop => {
-            let (name, at, rest) = next_name(alloc, tokens, end)?;
-            Ok((Command::Remove { at, name }, rest))
-        }
-        Opening::Snap => {
-            let (name, _, rest) = next_name(alloc, tokens, end)?;
-            Ok((Command::Snap { name }, rest))
-        }
+        Opening::Print => asked_value(alloc, Asked::Print, tokens, end),
+        Opening::List => asked_value(alloc, Asked::List, tokens, end),
+        Opening::Count => asked_value(alloc, Asked::Count, tokens, end),
+        Opening::Type => asked_value(alloc, Asked::Type, tokens, end),
+        Opening::Drop => removal(alloc, tokens, end),
+        Opening::Snap => snapshot(alloc, tokens, end),
         Opening::At => look(alloc, tokens, end),
         Opening::Load => loading(alloc, tokens, end),
         Opening::Save => saving(alloc, tokens, end),

@@ -49,6 +49,24 @@ fn params(alloc: Global, tokens: &[Token], end: Ending) -> Result<(Vec<Name>, &[
     Ok((params, rest))
 }
 
+/// The parameters of a definition with the parentheses around them.
+fn params_in_parentheses(
+    alloc: Global,
+    tokens: &[Token],
+    end: Ending,
+) -> Result<(Vec<Name>, &[Token]), Halt>
+    ensures { MatchResult result (λ x. Got (ending_of end)
+        (SignPart 40 ∷ NamePart ∷ MoreParams more_limit ∷ SignPart 41 ∷ [])
+        (λ t r. (t1 t2 : List TOKEN) × Takes (Sign 40) t t1 × SpellsParams x.0.items t1 t2 × Takes (Sign 41) t2 r)
+        tokens.now x.1.now)
+        (Refuses (ending_of end) (SignPart 40 ∷ NamePart ∷ MoreParams more_limit ∷ SignPart 41 ∷ []) tokens.now) }
+{
+    let (_, rest) = next_sign(tokens, end, b'(')?;
+    let (list, rest) = params(alloc, rest, end)?;
+    let (_, rest) = next_sign(rest, end, b')')?;
+    Ok((list, rest))
+}
+
 /// PROD or SUM, and whether it is SUM.
 fn domain_word(tokens: &[Token], end: Ending) -> Result<(bool, &[Token]), Halt>
     ensures read { MatchResult result (λ x. Takes (domain_word x.0) tokens.now x.1.now
@@ -156,6 +174,22 @@ fn decls(alloc: Global, tokens: &[Token], end: Ending) -> Result<(Vec<Decl>, &[T
     Ok((decls, rest))
 }
 
+/// The declarations of a program behind DECL, up to BEG.
+fn program_decls(
+    alloc: Global,
+    tokens: &[Token],
+    end: Ending,
+) -> Result<(Vec<Decl>, &[Token]), Halt>
+    ensures { MatchResult result (λ x. Got (ending_of end) (NamePart ∷ MeaningPart ∷ MoreDecls ∷ WordPart BEG ∷ [])
+        (λ t r. (mid : List TOKEN) × ((before : List TOKEN) → Takes (KEYWORD DECL) before t
+        → SpellsDecls x.0.items before mid) × Takes (KEYWORD BEG) mid r) tokens.now x.1.now)
+        (Refuses (ending_of end) (NamePart ∷ MeaningPart ∷ MoreDecls ∷ WordPart BEG ∷ []) tokens.now) }
+{
+    let (list, rest) = decls(alloc, tokens, end)?;
+    let (_, rest) = next_word(rest, end, Keyword::Beg)?;
+    Ok((list, rest))
+}
+
 /// The statements of a program, up to RETURN.
 fn program_body(alloc: Global, tokens: &[Token], end: Ending) -> Result<(Vec<Stmt>, &[Token]), Halt>
     requires { length tokens.now < 2 ^ 32 }
@@ -257,8 +291,7 @@ fn declared_program(
         (λ t r. (before mid : List TOKEN) → SpellsHead at name params.items before mid → Takes (KEYWORD DECL) mid t
         → SpellsItem x.0 before r) tokens.now x.1.now) (Refuses (ending_of end) declared_parts tokens.now) }
 {
-    let (decls, rest) = decls(alloc, tokens, end)?;
-    let (_, rest) = next_word(rest, end, Keyword::Beg)?;
+    let (decls, rest) = program_decls(alloc, tokens, end)?;
     let (tail, rest) = program_end(alloc, rest, end)?;
     let item = Item::Program {
         at,
@@ -312,8 +345,6 @@ pub fn definition<'a>(
         x.1.now) (Refuses (ending_of end) definition_parts tokens.now) }
 {
     let name = name.copied(alloc)?;
-    let (_, rest) = next_sign(tokens, end, b'(')?;
-    let (params, rest) = params(alloc, rest, end)?;
-    let (_, rest) = next_sign(rest, end, b')')?;
+    let (params, rest) = params_in_parentheses(alloc, tokens, end)?;
     meaning(alloc, at, name, params, rest, end)
 }

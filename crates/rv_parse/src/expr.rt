@@ -9,7 +9,7 @@ ghost use Rattle.lang_model.specs.declared.token.Kind.TheVariants.{Base as BASE,
 ghost use Rattle.lang_model.specs.declared.token.Token.{Token as TOKEN};
 ghost use Rattle.rv_tokens.specs.Endings.{ending_of};
 ghost use Rattle.rv_parse.specs.declared.halt.Halt.TheVariants.{NoMemory};
-ghost use Rattle.rv_parse.specs.Got.{Got};
+ghost use Rattle.rv_parse.specs.Got.{Got, pair_parts};
 ghost use Rattle.rv_parse.specs.Readers.{Reads, Refuses, begins, begins_operator, level_of, form_is, OperatorIs, IsLink, IsRead, IsBehind, AreArguments};
 
 use crate::halt::{Halt, Wanted};
@@ -185,6 +185,27 @@ fn inner_and_sign(
     Ok((expr, rest))
 }
 
+/// Two expressions inside of a construct around which so many are open, with a comma between them and this sign behind.
+#[cycle(expr)]
+fn inner_pair(
+    alloc: Global,
+    tokens: &[Token],
+    end: Ending,
+    depth: u32,
+    byte: u8,
+) -> Result<(Expr, Expr, &[Token]), Halt>
+    requires depth { depth < nesting_limit }
+    requires count { length tokens.now < 2 ^ 32 }
+    ensures { MatchResult result (λ x. Got (ending_of end) (pair_parts depth byte)
+        (λ t r. (t1 t2 t3 : List TOKEN) × Spelled OrLevel (suc depth) x.0 t t1 × Takes (Sign 44) t1 t2
+        × Spelled OrLevel (suc depth) x.1 t2 t3 × Takes (Sign byte) t3 r) tokens.now x.2.now)
+        (Refuses (ending_of end) (pair_parts depth byte) tokens.now) }
+{
+    let (left, rest) = inner_and_sign(alloc, tokens, end, depth, b',')?;
+    let (right, rest) = inner_and_sign(alloc, rest, end, depth, byte)?;
+    Ok((left, right, rest))
+}
+
 /// A base name with one argument, behind the name.
 #[cycle(expr)]
 fn with_one(
@@ -222,8 +243,7 @@ fn with_two(
         tokens.now x.1.now) (Refuses (ending_of end) (form_parts TakesTwo depth) tokens.now) }
 {
     let (_, rest) = open(tokens, end, depth)?;
-    let (first, rest) = inner_and_sign(alloc, rest, end, depth, b',')?;
-    let (second, rest) = inner_and_sign(alloc, rest, end, depth, b')')?;
+    let (first, second, rest) = inner_pair(alloc, rest, end, depth, b')')?;
     let args = two_arguments(alloc, first, second)?;
     Ok((Expr::Base { at, base, args }, rest))
 }
@@ -340,8 +360,7 @@ fn pair(
         tokens.now x.1.now) (Refuses (ending_of end) (ExprPart OrLevel (suc depth) ∷ SignPart 44
         ∷ ExprPart OrLevel (suc depth) ∷ SignPart 93 ∷ []) tokens.now) }
 {
-    let (left, rest) = inner_and_sign(alloc, tokens, end, depth, b',')?;
-    let (right, rest) = inner_and_sign(alloc, rest, end, depth, b']')?;
+    let (left, right, rest) = inner_pair(alloc, tokens, end, depth, b']')?;
     let (left, right) = boxes(alloc, left, right)?;
     Ok((Expr::Pair { at, left, right }, rest))
 }

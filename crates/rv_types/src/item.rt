@@ -100,22 +100,6 @@ fn check_head_and_value<'a>(
     Ok(check_alone(alloc, scope, body, found))
 }
 
-/// The faults of the function `head.name(head.params) = body`.
-fn check_function<'a>(
-    alloc: Global,
-    earlier: &Definitions,
-    head: Head<'a>,
-    body: &'a Expr,
-    so_far: Option<Found<'a>>,
-) -> Result<Option<Found<'a>>, NoMemory>
-    ensures { IfOk result (λ r. told r ≡ noted_all (noted_all (told so_far.entry)
-        (head_faults earlier.now head.entry.at head.entry.name.now head.entry.params.now head.entry.rank))
-        (faults (function_scope earlier.now head.entry.params.now) no_name body.now)) }
-{
-    let mut scope = Scope::new(alloc, false, earlier);
-    check_head_and_value(alloc, &mut scope, head, body, so_far)
-}
-
 /// What declarations declare, added to a scope of no declaration.
 fn declare<'a>(scope: &mut Scope<'a, '_>, decls: &'a [Decl]) -> Result<(), NoMemory>
     requires { scope_of scope.old ≡ with_parameters scope.old.parameters (scope_behind false scope.old.earlier.now) }
@@ -187,55 +171,35 @@ fn check_parts<'a>(
     Ok(found)
 }
 
-/// The faults of the program `head.name(head.params) DECL decls BEG body RETURN result END`.
-fn check_program<'a>(
-    alloc: Global,
-    earlier: &Definitions,
-    head: Head<'a>,
-    decls: &'a [Decl],
-    body: &'a [Stmt],
-    value: &'a Expr,
-    so_far: Option<Found<'a>>,
-) -> Result<Option<Found<'a>>, NoMemory>
-    ensures { IfOk result (λ r. let scope = scope_of_program earlier.now head.entry.params.now decls.now in told r
-        ≡ noted_all (noted_all (noted_all (noted_all (told so_far.entry)
-        (head_faults earlier.now head.entry.at head.entry.name.now head.entry.params.now head.entry.rank))
-        (decl_faults head.entry.params.now head.entry.params.now decls.now)) (faults_by scope no_name body.now))
-        (faults scope (assigned_by no_name body.now) value.now)) }
-{
-    let mut scope = Scope::new(alloc, false, earlier);
-    check_parts(alloc, &mut scope, head, decls, body, value, so_far)
-}
-
-/// The faults of a command.
+/// The faults of a command, in a scope of no name.
 fn check_command<'a>(
     alloc: Global,
-    earlier: &Definitions,
+    scope: &Scope<'a, '_>,
     command: &'a Command,
     so_far: Option<Found<'a>>,
 ) -> Option<Found<'a>>
-    ensures { told result ≡ noted_all (told so_far.entry) (command_faults earlier.now command.now) }
+    requires { scope_of scope.now ≡ scope_behind true scope.now.earlier.now }
+    ensures { told result ≡ noted_all (told so_far.entry) (command_faults scope.now.earlier.now command.now) }
 {
     match value_of(command) {
         None => so_far,
-        Some(value) => {
-            let scope = Scope::new(alloc, true, earlier);
-            check_alone(alloc, &scope, value, so_far)
-        }
+        Some(value) => check_alone(alloc, scope, value, so_far),
     }
 }
 
-/// The first fault so far and of an item of this rank. A command takes no memory.
+/// The first fault so far and of an item of this rank, in a scope of no name. Afterwards it has the item's.
 #[tactic(auto, unfolding(lang_model::specs::Checking::item_faults))]
-pub fn check_item<'a>(
+fn check_in<'a>(
     alloc: Global,
-    earlier: &Definitions,
+    scope: &mut Scope<'a, '_>,
     item: &'a Item,
     rank: usize,
     so_far: Option<Found<'a>>,
 ) -> Result<Option<Found<'a>>, NoMemory>
-    requires { rank ≡ rank_of_item earlier.now item.now }
-    ensures fault { IfOk result (λ r. told r ≡ noted_all (told so_far.entry) (item_faults earlier.now item.now)) }
+    requires bare { scope_of scope.old ≡ scope_behind false scope.old.earlier.now }
+    requires rank { rank ≡ rank_of_item scope.old.earlier.now item.now }
+    ensures fault { IfOk result (λ r. told r ≡ noted_all (told so_far.entry)
+        (item_faults scope.old.earlier.now item.now)) }
     ensures memory { OnErr result (is_definition item.now ≡ true) }
 {
     match item {
@@ -252,7 +216,7 @@ pub fn check_item<'a>(
                 params,
                 rank,
             };
-            check_function(alloc, earlier, head, body, so_far)
+            check_head_and_value(alloc, scope, head, body, so_far)
         }
         Item::Program {
             at,
@@ -269,9 +233,9 @@ pub fn check_item<'a>(
                 params,
                 rank,
             };
-            check_program(
+            check_parts(
                 alloc,
-                earlier,
+                scope,
                 head,
                 decls.as_slice(),
                 body.as_slice(),
@@ -279,8 +243,27 @@ pub fn check_item<'a>(
                 so_far,
             )
         }
-        Item::Command(command) => Ok(check_command(alloc, earlier, command, so_far)),
+        Item::Command(command) => {
+            scope.is_command = true;
+            Ok(check_command(alloc, scope, command, so_far))
+        }
     }
+}
+
+/// The first fault so far and of an item of this rank. A command takes no memory.
+pub fn check_item<'a>(
+    alloc: Global,
+    earlier: &Definitions,
+    item: &'a Item,
+    rank: usize,
+    so_far: Option<Found<'a>>,
+) -> Result<Option<Found<'a>>, NoMemory>
+    requires { rank ≡ rank_of_item earlier.now item.now }
+    ensures fault { IfOk result (λ r. told r ≡ noted_all (told so_far.entry) (item_faults earlier.now item.now)) }
+    ensures memory { OnErr result (is_definition item.now ≡ true) }
+{
+    let mut scope = Scope::new(alloc, earlier);
+    check_in(alloc, &mut scope, item, rank, so_far)
 }
 
 /// The definitions up to and with an item of this rank. A command takes no memory.

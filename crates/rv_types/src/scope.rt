@@ -1,5 +1,5 @@
 //! What the names of an expression may be, and the faults of one name.
-ghost use Rattle.std.specs.Prelude.{◌≡◌};
+ghost use Rattle.std.specs.Prelude.{◌≡◌, false};
 ghost use Rattle.lang_model.specs.Checking.{among, ref_faults, call_faults, domain_faults, target_faults};
 ghost use Rattle.rv_types.specs.Found.{told, noted as noted_all};
 ghost use Rattle.rv_types.specs.Scopes.{scope_of, scope_behind};
@@ -38,12 +38,12 @@ impl Drop for Scope<'_, '_> {
 }
 
 impl<'a, 'd> Scope<'a, 'd> {
-    /// The scope of no parameter and no declaration behind these definitions.
-    pub fn new(alloc: Global, is_command: bool, earlier: &'d Definitions) -> Scope<'a, 'd>
-        ensures { scope_of result ≡ scope_behind is_command earlier.now }
+    /// The scope of a definition with no parameter and no declaration, behind these definitions.
+    pub fn new(alloc: Global, earlier: &'d Definitions) -> Scope<'a, 'd>
+        ensures { scope_of result ≡ scope_behind false earlier.now }
     {
         Scope {
-            is_command,
+            is_command: false,
             parameters: Names::new(alloc),
             variables: Names::new(alloc),
             products: Names::new(alloc),

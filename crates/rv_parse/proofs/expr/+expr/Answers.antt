@@ -147,20 +147,31 @@ named-returns-in-None t c = record {
   read = λ behind. drop_call c.args.depth c.args.tokens.now _ behind c.in-None.ensures;
 }
 
-pub pair-returns : goal.pair-returns
-pair-returns t c =
+pub inner_pair-returns : goal.inner_pair-returns
+inner_pair-returns t c =
     let d = c.args.depth in
     let x = c.in_ok-left.ensures in
     let y = c.in_ok-right.ensures in
     let l = x.spelled in
     let r = y.spelled in
-    let boxed = c.in_ok-left-2.ensures in
-    let left = subst (λ e. Spelled OrLevel (suc d) e c.args.tokens.now l.0) (sym boxed.0) l.1 in
-    let right = subst (λ e. Spelled OrLevel (suc d) e c.in_ok-left.rest.now r.0) (sym boxed.1) r.1 in
     record {
-      spelled = λ before b. paired d c.args.at c.in_ok-left-2.left c.in_ok-left-2.right before c.args.tokens.now l.0 c.in_ok-left.rest.now r.0 c.in_ok-right.rest.now c.requires.depth b left l.2 right r.2;
+      spelled = (l.0, c.in_ok-left.rest.now, r.0, l.1, l.2, r.1, r.2);
       shorter = omega (arith, x.shorter, y.shorter);
-      read = λ behind. x.read (ExprPart OrLevel (suc d) ∷ SignPart 93 ∷ behind) ∙ y.read behind;
+      read = λ behind. x.read (ExprPart OrLevel (suc d) ∷ SignPart c.args.byte ∷ behind) ∙ y.read behind;
+    }
+
+pub pair-returns : goal.pair-returns
+pair-returns t c =
+    let d = c.args.depth in
+    let x = c.in_ok-left.ensures in
+    let s = x.spelled in
+    let boxed = c.in_ok-left-2.ensures in
+    let left = subst (λ e. Spelled OrLevel (suc d) e c.args.tokens.now s.0) (sym boxed.0) s.3 in
+    let right = subst (λ e. Spelled OrLevel (suc d) e s.1 s.2) (sym boxed.1) s.5 in
+    record {
+      spelled = λ before b. paired d c.args.at c.in_ok-left-2.left c.in_ok-left-2.right before c.args.tokens.now s.0 s.1 s.2 c.in_ok-left.rest.now c.requires.depth b left s.4 right s.6;
+      shorter = x.shorter;
+      read = x.read;
     }
 
 pub post-returns-in_err-of : goal.post-returns-in_err-of
@@ -203,11 +214,9 @@ with_two-returns t c =
     let d = c.args.depth in
     let o = c.in_ok-rest.ensures.read in
     let x = c.in_ok-first.ensures in
-    let y = c.in_ok-second.ensures in
     let s = x.spelled in
-    let u = y.spelled in
     record {
-      spelled = λ before b. based_twice d c.args.at c.args.base c.in_ok-args.args c.in_ok-first.first c.in_ok-second.second before c.args.tokens.now c.in_ok-rest.rest.now s.0 c.in_ok-first.rest.now u.0 c.in_ok-second.rest.now o.1 c.requires.form c.in_ok-args.ensures b (_, o.0) s.1 s.2 u.1 u.2;
-      shorter = omega (arith, ap length o.0, x.shorter, y.shorter);
-      read = λ behind. o.2 (ExprPart OrLevel (suc d) ∷ SignPart 44 ∷ ExprPart OrLevel (suc d) ∷ SignPart 41 ∷ behind) ∙ x.read (ExprPart OrLevel (suc d) ∷ SignPart 41 ∷ behind) ∙ y.read behind;
+      spelled = λ before b. based_twice d c.args.at c.args.base c.in_ok-args.args c.in_ok-first.first c.in_ok-first.second before c.args.tokens.now c.in_ok-rest.rest.now s.0 s.1 s.2 c.in_ok-first.rest.now o.1 c.requires.form c.in_ok-args.ensures b (_, o.0) s.3 s.4 s.5 s.6;
+      shorter = omega (arith, ap length o.0, x.shorter);
+      read = λ behind. o.2 (ExprPart OrLevel (suc d) ∷ SignPart 44 ∷ ExprPart OrLevel (suc d) ∷ SignPart 41 ∷ behind) ∙ x.read behind;
     }

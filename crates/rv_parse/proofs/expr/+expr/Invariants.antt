@@ -10,40 +10,43 @@ use Rattle.rv_parse.proofs.Exprs.{chain_rank}
 use Rattle.rv_parse.proofs.expr.+expr.Given as goal
 
 abbrev pub decreases-chain : goal.decreases-chain
-decreases-chain l = 16 * (40 - l.depth) + (chain_rank l.level + 1)
+decreases-chain l = 16 * (40 - l.depth) + (chain_rank l.level + 2)
 
 abbrev pub decreases-operand : goal.decreases-operand
-decreases-operand l = 16 * (40 - l.depth) + chain_rank l.level
+decreases-operand l = 16 * (40 - l.depth) + (chain_rank l.level + 1)
 
 abbrev pub decreases-unary : goal.decreases-unary
-decreases-unary l = 16 * (40 - l.depth) + 6
+decreases-unary l = 16 * (40 - l.depth) + 7
 
 abbrev pub decreases-post : goal.decreases-post
-decreases-post l = 16 * (40 - l.depth) + 5
+decreases-post l = 16 * (40 - l.depth) + 6
 
 abbrev pub decreases-prim : goal.decreases-prim
-decreases-prim l = 16 * (40 - l.depth) + 4
+decreases-prim l = 16 * (40 - l.depth) + 5
 
 abbrev pub decreases-named : goal.decreases-named
-decreases-named l = 16 * (40 - l.depth) + 3
+decreases-named l = 16 * (40 - l.depth) + 4
 
 abbrev pub decreases-based : goal.decreases-based
-decreases-based l = 16 * (40 - l.depth) + 3
+decreases-based l = 16 * (40 - l.depth) + 4
 
 abbrev pub decreases-enclosed : goal.decreases-enclosed
-decreases-enclosed l = 16 * (40 - l.depth) + 2
+decreases-enclosed l = 16 * (40 - l.depth) + 3
 
 abbrev pub decreases-pair : goal.decreases-pair
-decreases-pair l = 16 * (40 - l.depth) + 2
+decreases-pair l = 16 * (40 - l.depth) + 3
 
 abbrev pub decreases-arguments : goal.decreases-arguments
-decreases-arguments l = 16 * (40 - l.depth) + 2
+decreases-arguments l = 16 * (40 - l.depth) + 3
 
 abbrev pub decreases-with_one : goal.decreases-with_one
-decreases-with_one l = 16 * (40 - l.depth) + 2
+decreases-with_one l = 16 * (40 - l.depth) + 3
 
 abbrev pub decreases-with_two : goal.decreases-with_two
-decreases-with_two l = 16 * (40 - l.depth) + 2
+decreases-with_two l = 16 * (40 - l.depth) + 3
+
+abbrev pub decreases-inner_pair : goal.decreases-inner_pair
+decreases-inner_pair l = 16 * (40 - l.depth) + 2
 
 abbrev pub decreases-inner_and_sign : goal.decreases-inner_and_sign
 decreases-inner_and_sign l = 16 * (40 - l.depth) + 1

@@ -1,28 +1,17 @@
-use Rattle.std.proofs.Common.{◌≡◌, ◌∙◌, sym, ap, subst}
+use Rattle.std.proofs.Common.{◌≡◌, ◌∙◌, false, sym, ap, subst}
 use Rattle.std.specs.Prelude.{IfOk}
 use Rattle.lang_model.specs.Checking.{item_faults, rank_of}
 use Rattle.rv_types.specs.Found.{told, noted}
-use Rattle.rv_types.proofs.Items.{noted-function, noted-program}
+use Rattle.rv_types.specs.Scopes.{scope_behind}
 use Rattle.rv_types.proofs.item.check_item.Goals as goal
 
-pub returns-in-Function-clause-fault : goal.returns-in-Function-clause-fault
-returns-in-Function-clause-fault c =
-    let E = c.args.earlier.now in
-    let t = told c.args.so_far in
-    let f = c.in-Function in
-    let rank = c.requires ∙ ap (rank_of E) f.is in
-    subst (λ u. IfOk c.check_function.result (λ r. told r ≡ u))
-    (noted-function t E f.at f.name f.params f.body c.as_slice-params.result.now c.args.rank rank c.as_slice-params.ensures.value ∙ ap (λ item. noted t (item_faults E item)) (sym f.is))
-    c.check_function.ensures
+pub check_in-requires : goal.check_in-requires
+check_in-requires c = record {
+  bare = c.new-scope.ensures ∙ ap (λ k. scope_behind false k.earlier) (sym c.new-scope.ensures);
+  rank = c.requires ∙ ap (λ k. rank_of k.earlier c.args.item.now) (sym c.new-scope.ensures);
+}
 
-pub returns-in-Program-clause-fault : goal.returns-in-Program-clause-fault
-returns-in-Program-clause-fault c =
-    let E = c.args.earlier.now in
-    let t = told c.args.so_far in
-    let p = c.in-Program in
-    let rank = c.requires ∙ ap (rank_of E) p.is in
-    subst (λ u. IfOk c.check_program.result (λ r. told r ≡ u))
-    (noted-program t E p.at p.name p.params p.decls p.body p.result c.as_slice-params-in-Program.result.now c.as_slice.result.now c.as_slice-in-Program.result.now c.args.rank rank
-    c.as_slice-params-in-Program.ensures.value c.as_slice.ensures.value c.as_slice-in-Program.ensures.value
-    ∙ ap (λ item. noted t (item_faults E item)) (sym p.is))
-    c.check_program.ensures
+pub returns-clause-fault : goal.returns-clause-fault
+returns-clause-fault c =
+    subst (λ E. IfOk c.check_in.result (λ r. told r ≡ noted (told c.args.so_far) (item_faults E c.args.item.now)))
+    (ap (λ k. k.earlier) c.new-scope.ensures) c.check_in.ensures.fault
