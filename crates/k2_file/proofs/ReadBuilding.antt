@@ -1,21 +1,32 @@
 -- Quads that are built from the leaves upwards: their corner has the cells of the square, and the nodes are few.
 use Rattle.std.proofs.Common.{◌≡◌, ◌==◌, ◌&&◌, ◌||◌, ltb, inl, inr, ◌≢◌, ◌<◌, ◌≤◌, ◌+◌, ◌-◌, ◌*◌, ◌^◌, ℕ, Bool, true, false, cond, List, [], ◌∷◌, length, refl, sym, ap, ◌∙◌, subst, arith, Some}
-use Rattle.std.specs.Prelude.{IsSome, unwrap_or}
+use Rattle.std.specs.Prelude.{IsSome, unwrap_or, Ok}
+use Rattle.std.specs.Result.{is_ok}
 use Rattle.rel_model.specs.declared.Quad.{Quad}
 use Rattle.rel_model.specs.Cells.{Cells, no_cells}
 use Rattle.std.specs.List.{AllByRecursion}
 use Rattle.std.proofs.lemmas.Nat.{mul-le}
-use Rattle.std.proofs.lemmas.Bool.{cases_lt, lt-ltb, ne_eqb}
+use Rattle.std.proofs.lemmas.Bool.{true≢false, cases_lt, lt-ltb, ne_eqb}
 use Rattle.rel_model.specs.Listed.{is_among, AreWithin}
 use Rattle.rel_model.proofs.TreeLaws.{same_cells}
 use Rattle.k2_file.proofs.ReadStarts.{pairs-within}
 use Rattle.rel_model.specs.Trees.{quartered, top_height}
 use Rattle.rel_model.specs.Quarters.{LiesWithin}
-use Rattle.rel_model.specs.Worker.{Worker, HasQuad, quad_set, GivesQuad, Keeps, listed_room}
+use Rattle.rel_model.specs.Worker.{Worker, HasQuad, quad_set, GivesQuad, Keeps, MissesNothing, HasCause, listed_room}
 use Rattle.run_model.specs.Files.{whole, number_of_bit}
 use Rattle.k2_file.specs.Rests.{behind, pairs_below, count_below, AreThere, cells_of_part, cells_inside}
 use Rattle.k2_file.proofs.ReadRests.{count-some}
 use Rattle.k2_file.proofs.ReadQuarters.{IsWithin, four-quartered, square-asked, group-count, pairs-none}
+
+-- ---- what was missing
+-- what is given misses nothing
+pub ok-cause : {T : Type 0} (lean : Bool) (a b : Worker) (x : T) → MissesNothing a b → HasCause lean a b (Ok x)
+ok-cause lean a b x n = record {
+  full = λ e. absurd (true≢false (ap is_ok e));
+  no_memory = λ l e. true≢false (ap is_ok e);
+  done = n;
+  wanting = λ e. n;
+}
 
 -- ---- what a worker gives
 pub gives-has : (w : Worker) (h : ℕ) (f : Cells) (q : Quad) → GivesQuad w h f q → HasQuad w q

@@ -1,5 +1,5 @@
 -- The bytes of a file by its sizes, its height and its two parts.
-use Rattle.std.proofs.Common.{◌≡◌, ◌∙◌, ℕ, Bool, List, [], ◌∷◌, ◌++◌, length, refl, sym, ap, subst, append_assoc, Result}
+use Rattle.std.proofs.Common.{◌≡◌, ◌<◌, ◌+◌, ◌∙◌, zero, suc, ℕ, Bool, List, [], ◌∷◌, ◌++◌, length, get_or, drop, arith, refl, sym, ap, subst, append_assoc, Result}
 use Rattle.std.specs.Prelude.{OnOk}
 use Rattle.rel_model.specs.Relation.{Relation}
 use Rattle.run_model.specs.Files.{file_height, tree_part, cell_part, packed, k2}
@@ -41,3 +41,16 @@ parts-added n0 n1 n2 n3 rows cols h a b s t tree cells e p q r x y i j =
     ∙ ap (λ (n : ℕ). header_bytes rows cols h (length tree) n ++ packed 0 0 s ++ packed 0 0 t) j
     ∙ ap (λ bs. header_bytes rows cols h (length tree) (length cells) ++ packed 0 0 bs ++ packed 0 0 t) x
     ∙ ap (λ bs. header_bytes rows cols h (length tree) (length cells) ++ packed 0 0 tree ++ packed 0 0 bs) y
+
+-- ---- bits as bytes
+-- one bit more is packed
+pub packed-more : (old now new : List ℕ) (v h w k : ℕ) (bits : List Bool) (i : ℕ) (d : Bool) → i < length bits → ((rest : List Bool) → new ++ packed w k rest ≡ now ++ packed v h (get_or bits i d ∷ rest))
+    → now ++ packed v h (drop i bits) ≡ old → new ++ packed w k (drop (i + 1) bits) ≡ old
+packed-more old now new v h w k bits i d l p e =
+    let more : i + 1 ≡ suc i = omega arith in
+    p (drop (i + 1) bits) ∙ ap (λ (n : ℕ). now ++ packed v h (get_or bits i d ∷ drop n bits)) more ∙ ap (λ bs. now ++ packed v h bs) (next bits i l) ∙ e
+  where
+    next : (bs : List Bool) (n : ℕ) → n < length bs → get_or bs n d ∷ drop (suc n) bs ≡ drop n bs
+    next [] n a = absurd (omega (arith, a))
+    next (b ∷ bs) zero a = refl
+    next (b ∷ bs) (suc n) a = next bs n (omega (arith, a))

@@ -51,12 +51,6 @@ shown-cells : (w : Worker) (least h : ℕ) (f : Cells) (o : Option Square) → S
 shown-cells w least h f None s = sym (ap (λ b. cond b (f ∷ []) []) s)
 shown-cells w least h f (Some x) s = ap (λ g. g ∷ []) s.means ∙ sym (ap (λ b. cond b (f ∷ []) []) s.some)
 
--- four bits one behind another
-pub bits-added : (old n1 n2 n3 n4 : List Bool) (a b c d : Bool) → n1 ≡ old ++ a ∷ [] → n2 ≡ n1 ++ b ∷ [] → n3 ≡ n2 ++ c ∷ [] → n4 ≡ n3 ++ d ∷ [] → n4 ≡ old ++ a ∷ b ∷ c ∷ d ∷ []
-bits-added old n1 n2 n3 n4 a b c d p q r s =
-    s ∙ ap (λ zs. zs ++ d ∷ []) (r ∙ ap (λ zs. zs ++ c ∷ []) (q ∙ ap (λ zs. zs ++ b ∷ []) p ∙ append_assoc old (a ∷ []) (b ∷ [])) ∙ append_assoc old (a ∷ b ∷ []) (c ∷ []))
-    ∙ append_assoc old (a ∷ b ∷ c ∷ []) (d ∷ [])
-
 four_bits : (a b c d e f g h : Bool) → a ≡ e → b ≡ f → c ≡ g → d ≡ h → a ∷ b ∷ c ∷ d ∷ [] ≡ e ∷ f ∷ g ∷ h ∷ []
 four_bits a b c d e f g h p q r s = cc
 

@@ -1,4 +1,4 @@
--- When a relation is not written, and the header of a file.
+-- When a relation is not written, and the bytes of a file and of its header.
 use Rattle.std.specs.Prelude.{◌≡◌, ◌<◌, ℕ, Bool, List, [], ◌∷◌, ◌++◌, length, codes}
 use Rattle.std.specs.Int.{w32, w64, to_be_bytes}
 use Rattle.run_model.specs.Limits.{save_limit}

@@ -2,7 +2,7 @@
 use Rattle.std.proofs.Common.{◌≡◌, ◌==◌, ◌&&◌, ◌*◌, ltb, ◌⊎◌, inl, inr, ◌<◌, ◌≤◌, ◌+◌, ◌-◌, ◌^◌, ◌∙◌, ℕ, Bool, cond, zero, suc, List, [], ◌∷◌, ◌++◌, min, map, refl, sym, ap, arith, append_assoc}
 use Rattle.std.specs.List.{range_with_len}
 use Rattle.std.proofs.lemmas.List.{append-nil}
-use Rattle.std.proofs.Math.Nat.{pow-le-pow_right}
+use Rattle.std.proofs.Math.Nat.{pow-suc, pow-le-pow_right}
 use Rattle.std.proofs.lemmas.List.FromFn.{map-range_with_len_more}
 use Rattle.std.proofs.lemmas.Bool.{lt-ltb, le-ltb, cases_lt}
 use Rattle.std.specs.Int.{bit_at}
@@ -78,6 +78,13 @@ two-halves f g m row cols half cut rest h c r =
     let few : cut ≡ min cols m = omega (arith, h, c) in
     let more : rest ≡ cols - m = omega (arith, h, r) in
     ap (λ (k : ℕ). marks (f row) k ++ marks (g row) rest) few ∙ ap (λ (k : ℕ). marks (f row) (min cols m) ++ marks (g row) k) more ∙ sym (marks-beside f g m cols row)
+
+-- the side of a quad is twice that of its quarters
+pub twice-side : (h n : ℕ) → n + 1 ≡ h → 2 ^ h ≡ 2 ^ n + 2 ^ n
+twice-side h n e =
+    let more : h ≡ suc n = omega (arith, e) in
+    let twice = pow-suc 2 n in
+    ap (λ (k : ℕ). 2 ^ k) more ∙ omega (arith, twice)
 
 -- the side of a leaf
 pub leaf-side : (h least s : ℕ) → h ≡ least → least ≤ 3 → s ≡ 2 ^ h → s ≤ 8

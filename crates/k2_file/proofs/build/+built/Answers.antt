@@ -10,7 +10,7 @@ use Rattle.k2_file.specs.Told.{bits_in}
 use Rattle.k2_file.specs.Rests.{AreThere, count_below, cells_of_part, cells_inside, rests_at}
 use Rattle.k2_file.proofs.ReadStarts.{length-rests}
 use Rattle.k2_file.proofs.ReadRests.{count-some}
-use Rattle.k2_file.proofs.ReadBuilding.{none-built, part-inside, some-room, high-top, below-top, corner-built, room-built}
+use Rattle.k2_file.proofs.ReadBuilding.{ok-cause, none-built, part-inside, some-room, high-top, below-top, corner-built, room-built}
 use Rattle.k2_file.proofs.ReadPlaces.{level_of, at-group, group-room, group-moves, moves-none, place-set, nw-there, ne-there, sw-there, se-there}
 use Rattle.k2_file.proofs.build.+built.Goals as goal
 
@@ -53,6 +53,28 @@ built_part-returns-then-height-bottom-clause-few g t c =
     let same : count_below (number_of_bit c.args.is_set) rests ≡ count_below 1 rests = ap (λ b. count_below (number_of_bit b) rests) c.if-not-is_set.false in
     let room = some-room (count_below (number_of_bit c.args.is_set) rests) (c.args.height - g.E.Core.least) (omega (arith, some, same)) in
     omega (arith, room, c.built_leaf.ensures.few)
+
+pub built_part-built_square-requires : goal.built_part-built_square-requires
+built_part-built_square-requires g t c κs within =
+    let rests = rests_at (bits_in c.args.parts.now.tree) (bits_in c.args.parts.now.cells) c.args.places.now in
+    let here = c.bottom.ensures in
+    let other = c.if-height-bottom.false in
+    let there = subst (λ b. AreThere (number_of_bit b) rests) c.if-not-is_set.false c.requires.there in
+    (search rules, (within, (c.requires.places, (omega (arith, c.requires.low, here, other), (c.requires.high, there)))))
+
+pub built_square-returns-in_err-ne-clause-keeps : goal.built_square-returns-in_err-ne-clause-keeps
+built_square-returns-in_err-ne-clause-keeps g t c = keeps_trans _ _ _ c.in_ok-nw.ensures.keeps c.in_err-ne.ensures.keeps
+
+pub built_square-returns-in_err-sw-clause-keeps : goal.built_square-returns-in_err-sw-clause-keeps
+built_square-returns-in_err-sw-clause-keeps g t c = keeps_trans _ _ _ c.in_ok-nw.ensures.keeps (keeps_trans _ _ _ c.in_ok-ne.ensures.keeps c.in_err-sw.ensures.keeps)
+
+pub built_square-returns-in_err-se-clause-keeps : goal.built_square-returns-in_err-se-clause-keeps
+built_square-returns-in_err-se-clause-keeps g t c =
+    keeps_trans _ _ _ c.in_ok-nw.ensures.keeps (keeps_trans _ _ _ c.in_ok-ne.ensures.keeps (keeps_trans _ _ _ c.in_ok-sw.ensures.keeps c.in_err-se.ensures.keeps))
+
+pub built_square-returns-in_err-quad-clause-keeps : goal.built_square-returns-in_err-quad-clause-keeps
+built_square-returns-in_err-quad-clause-keeps g t c =
+    keeps_trans _ _ _ c.in_ok-nw.ensures.keeps (keeps_trans _ _ _ c.in_ok-ne.ensures.keeps (keeps_trans _ _ _ c.in_ok-sw.ensures.keeps (keeps_trans _ _ _ c.in_ok-se.ensures.keeps c.in_err-quad.ensures.keeps)))
 
 pub built_square-group-group-requires : goal.built_square-group-group-requires
 built_square-group-group-requires g t c =
@@ -255,3 +277,8 @@ built_square-returns-clause-few g t c =
     let s : listed_room (count_below 1 (rests_at T L c.args.places.now)) (h - g.E.Core.least) ≡ listed_room (count_below 1 ((q.nw ∷ q.ne ∷ q.sw ∷ q.se ∷ xs) ∷ rests_at T L b0)) (h - g.E.Core.least) =
     ap (λ rs. listed_room (count_below 1 rs) (h - g.E.Core.least)) at.rests in
     omega (arith, r, s, c.in_ok-nw.ensures.few, c.in_ok-ne.ensures.few, c.in_ok-sw.ensures.few, c.in_ok-se.ensures.few, c.in_ok-quad.ensures.room)
+
+pub built_square-returns-clause-cause : goal.built_square-returns-clause-cause
+built_square-returns-clause-cause g t c =
+    ok-cause g.E.Core.lean (g.E.Core.worker c.args.engine.now) (g.E.Core.worker c.corner.new.self) c.in_ok-quad.quad
+    (c.in_ok-quad.ensures.cause.done ∙ c.in_ok-se.ensures.cause.done ∙ c.in_ok-sw.ensures.cause.done ∙ c.in_ok-ne.ensures.cause.done ∙ c.in_ok-nw.ensures.cause.done)

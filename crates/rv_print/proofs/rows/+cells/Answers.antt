@@ -1,12 +1,12 @@
-use Rattle.std.proofs.Common.{◌≡◌, ◌∙◌, ◌++◌, ◌^◌, ℕ, sym, ap, subst, append_assoc}
+use Rattle.std.proofs.Common.{rules, ◌≡◌, ◌∙◌, ◌++◌, ◌^◌, ℕ, sym, ap, subst, arith, append_assoc}
 use Rattle.std.specs.Prelude.{OnOk}
 use Rattle.rel_model.specs.Cells.{Cells}
 use Rattle.rel_model.specs.Trees.{top_height}
 use Rattle.rel_model.specs.Worker.{quad_set}
 use Rattle.rv_print.specs.Marks.{marks}
 use Rattle.rv_print.proofs.Chains.{where_same}
-use Rattle.rv_print.proofs.Marking.{leaf-side, two-halves}
-use Rattle.rv_print.proofs.Standing.{zero_set, keeps_quad_set}
+use Rattle.rv_print.proofs.Marking.{leaf-side, twice-side, two-halves}
+use Rattle.rv_print.proofs.Standing.{zero_set, keeps_quad, keeps_quad_set}
 use Rattle.rv_print.proofs.rows.+cells.Goals as goal
 
 pub push_cells-returns-then-quad-eq0-clause-text : goal.push_cells-returns-then-quad-eq0-clause-text
@@ -44,3 +44,38 @@ push_two-returns-clause-text g t c =
     ∙ ap (λ zs. old ++ zs) (ap (λ (f : Cells). marks (west row) cut ++ marks (f row) rest) same
     ∙ two-halves west (quad_set w c.args.east) (2 ^ c.args.west.height) row c.args.cols c.side_of-half.result cut rest c.side_of-half.ensures c.min.ensures c.saturating_sub.ensures) in
     where_same _ _ _ _ both c.push_cells-2.ensures.text
+
+pub push_cells-push_half-requires : goal.push_cells-push_half-requires
+push_cells-push_half-requires g t c κs within =
+    let low = g.met.E.Quads.low_height c.args.engine.now c.args.quad c.requires.stands in
+    let here = c.bottom.ensures in
+    let other = c.if-quad-bottom.false in
+    (search rules, (within, (c.requires.stands, (omega (arith, low, here, other), (c.requires.row, c.requires.cols)))))
+
+pub push_half-push_two-requires : goal.push_half-push_two-requires
+push_half-push_two-requires g t c κs within =
+    let q = c.quarters.ensures.quarters in
+    let north = c.quarters.result.0.height in
+    let one : c.quarters.result.1.height ≡ north = omega (arith, q.nw_height, q.ne_height) in
+    let side = twice-side c.args.quad.height north q.nw_height in
+    (search rules, (within, (q.nw, (q.ne, (one, (omega (arith, c.if-row-half.true, c.side_of-half.ensures), omega (arith, side, c.requires.cols)))))))
+
+pub push_half-push_two-requires-else-row-half : goal.push_half-push_two-requires-else-row-half
+push_half-push_two-requires-else-row-half g t c κs within =
+    let q = c.quarters.ensures.quarters in
+    let south = c.quarters.result.2.height in
+    let one : c.quarters.result.3.height ≡ south = omega (arith, q.sw_height, q.se_height) in
+    let side = twice-side c.args.quad.height south q.sw_height in
+    let up : c.quarters.result.0.height ≡ south = omega (arith, q.nw_height, q.sw_height) in
+    let half = c.side_of-half.ensures ∙ ap (λ (h : ℕ). 2 ^ h) up in
+    (search rules, (within, (q.sw, (q.se, (one, (omega (arith, side, half, c.if-row-half.false, c.requires.row), omega (arith, side, c.requires.cols)))))))
+
+pub push_two-push_cells-requires : goal.push_two-push_cells-requires
+push_two-push_cells-requires g t c κs within =
+    (search rules, (within, (c.requires.west_stands, (c.requires.row, omega (arith, c.min.ensures, c.side_of-half.ensures)))))
+
+pub push_two-push_cells-requires-2 : goal.push_two-push_cells-requires-2
+push_two-push_cells-requires-2 g t c κs within =
+    let stands = keeps_quad (g.E.Core.worker c.args.engine.now) (g.E.Core.worker c.push_cells.new.engine) c.args.east c.in_ok-push_cells.ensures.keeps c.requires.east_stands in
+    let same = ap (λ (h : ℕ). 2 ^ h) c.requires.one_height in
+    (search rules, (within, (stands, (omega (arith, same, c.requires.row), omega (arith, same, c.saturating_sub.ensures, c.side_of-half.ensures, c.requires.cols)))))
