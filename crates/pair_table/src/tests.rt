@@ -60,10 +60,10 @@ fn a_full_table_misses_one_more_and_still_answers_the_old_names(rt: HostRuntime)
     let alloc = rt.alloc();
     let (table, mut seat) = small_table(&rt, alloc, 1);
     let names = names_of_blocks(&rt, alloc, &table, &mut seat, 1022);
-    assert_eq!(rt; table.intern_block(&mut seat, 1023), Err(Missed));
+    assert!(rt; table.intern_block(&mut seat, 1023) == Err(Missed));
     let again = names_of_blocks(&rt, alloc, &table, &mut seat, 1022);
     assert!(rt; names == again);
-    assert_eq!(rt; table.intern_block(&mut seat, 1023), Err(Missed));
+    assert!(rt; table.intern_block(&mut seat, 1023) == Err(Missed));
 }
 
 #[test]
@@ -74,8 +74,8 @@ fn a_pair_and_a_block_with_one_word_have_one_name(rt: HostRuntime) {
     let right = name_of_block(&rt, &table, &mut seat, 6);
     let word = ((left as u64) << 32) + right as u64;
     let block = name_of_block(&rt, &table, &mut seat, word);
-    assert_eq!(rt; block, pair);
-    assert_eq!(rt; table.kids(&mut seat, block), (left, right));
+    assert!(rt; block == pair);
+    assert!(rt; table.kids(&mut seat, block) == (left, right));
 }
 
 /// Interns `count` pairs, each of the last one and a new block, and gives their names.
@@ -174,6 +174,12 @@ fn listed(list: &[(u64, u32)], word: u64) -> Option<u32> {
         .map(|entry| entry.1)
 }
 
+/// Lists a word with its name, which no other word has.
+fn list_new(rt: &impl Abort, list: &mut Vec<(u64, u32)>, word: u64, name: u32) {
+    assert!(rt; list.iter().all(|entry| entry.1 != name), "at {word}");
+    list.push((word, name)).expect(rt, "memory");
+}
+
 /// Interns a block, and compares the answer with a slow list of all words that the table has.
 fn interned_as_listed(
     rt: &impl Abort,
@@ -187,11 +193,8 @@ fn interned_as_listed(
     ensures of { IsOf seat.new table.now }
 {
     match (table.intern_block(seat, word), listed(list, word)) {
-        (Ok(name), Some(old)) => assert_eq!(rt; name, old, "at {word}"),
-        (Ok(name), None) => {
-            assert!(rt; list.iter().all(|entry| entry.1 != name), "at {word}");
-            list.push((word, name)).expect(rt, "memory");
-        }
+        (Ok(name), Some(old)) => assert!(rt; name == old, "at {word}"),
+        (Ok(name), None) => list_new(rt, list, word, name),
         (Err(Missed), found) => assert!(rt; found.is_none() && list.len() == 1022, "at {word}"),
     }
 }
@@ -210,33 +213,47 @@ fn pseudo_random_words_are_named_as_in_a_slow_list(rt: HostRuntime) {
         let second = (state >> 48) % 11;
         interned_as_listed(&rt, &table, &mut seat, &mut list, (first << 32) + second);
     }
-    assert_eq!(rt; list.len(), 1022);
+    assert!(rt; list.len() == 1022);
+}
+
+/// Asserts that the words of a closed table are vacant but for a block and the first memo word.
+fn assert_words(rt: &impl Abort, words: &[u64], name: u32, block: u64, union: u64) {
+    assert!(rt; words.len() == 1024 + MEMO_SLOTS as usize);
+    for (at, word) in words.iter().enumerate() {
+        let want = if at == name as usize {
+            block
+        } else if at == 1024 {
+            union
+        } else {
+            0
+        };
+        assert!(rt; *word == want, "at {at}");
+    }
+}
+
+/// Stores a memo word where none was stored, and gives it.
+fn stored(rt: &impl Abort, table: &PairTable, seat: &mut Seat) -> u64
+    requires { IsOf seat.old table.now }
+    ensures { IsOf seat.new table.now × (seat.new.spare ≡ seat.old.spare) }
+{
+    assert!(rt; table.memo_load(seat, 0) == 0);
+    let union = store_empty_union(table, seat);
+    assert!(rt; table.memo_load(seat, 0) == union);
+    union
 }
 
 #[test]
 fn close_gives_all_words_and_the_memo_word_that_was_stored(rt: HostRuntime) {
     let (table, mut seat) = small_table(&rt, rt.alloc(), 3);
     let second = table.split(&mut seat, 0);
-    assert_eq!(rt; (table.spare(&seat), table.spare(&second)), (1, 0));
+    assert!(rt; table.spare(&seat) == 1 && table.spare(&second) == 0);
     let name = name_of_block(&rt, &table, &mut seat, 77);
-    assert_eq!(rt; table.memo_load(&mut seat, 0), 0);
-    let union = store_empty_union(&table, &mut seat);
-    assert_eq!(rt; table.memo_load(&mut seat, 0), union);
+    let union = stored(&rt, &table, &mut seat);
     table.join(&mut seat, second);
-    assert_eq!(rt; table.spare(&seat), 2);
-    let Ok(words) = table.close(seat) else {
-        panic!(rt; "no memory")
-    };
-    assert_eq!(rt; words.len(), 1024 + MEMO_SLOTS as usize);
-    for (at, word) in words.iter().enumerate() {
-        let want = if at == name as usize {
-            77
-        } else if at == 1024 {
-            union
-        } else {
-            0
-        };
-        assert_eq!(rt; *word, want, "at {at}");
+    assert!(rt; table.spare(&seat) == 2);
+    match table.close(seat) {
+        Ok(words) => assert_words(&rt, words.as_slice(), name, 77, union),
+        Err(_) => panic!(rt; "no memory"),
     }
 }
 

@@ -7,6 +7,7 @@ use crate::Plain;
 use rel_model::core_trait::Core;
 use rel_model::{Lack, Rel, Shape};
 use std::alloc::{AllocError, Global};
+use std::process::Abort;
 
 /// The operators of two relations of one type.
 #[derive(Clone, Copy, Debug)]
@@ -127,6 +128,56 @@ fn is_list(core: &mut Plain, r: Rel, list: &[(u32, u32)]) -> bool
     agrees
 }
 
+/// Whether a relation has the pairs of an operator's formula.
+fn is_expected(
+    alloc: Global,
+    core: &mut Plain,
+    r: Rel,
+    shape: Shape,
+    operator: Operator,
+    left: &[(u32, u32)],
+    right: &[(u32, u32)],
+) -> Result<bool, Lack>
+    requires { Stands (worker_of core.old) r }
+    ensures keeps { Keeps (worker_of core.old) (worker_of core.new) }
+{
+    let want = expected(alloc, shape, operator, left, right)?;
+    Ok(is_list(core, r, &want))
+}
+
+/// Whether two relations of listed pairs answer each operator by its formula.
+fn operators_agree(
+    alloc: Global,
+    core: &mut Plain,
+    shape: Shape,
+    pairs: (Rel, Rel),
+    left: &[(u32, u32)],
+    right: &[(u32, u32)],
+) -> Result<bool, Lack>
+    requires first { Stands (worker_of core.old) pairs.0 }
+    requires second { Stands (worker_of core.old) pairs.1 }
+    requires rows { pairs.0.rows ≡ pairs.1.rows }
+    requires cols { pairs.0.cols ≡ pairs.1.cols }
+    ensures keeps { Keeps (worker_of core.old) (worker_of core.new) }
+{
+    let (r, s) = pairs;
+    let either = core.union(r, s)?;
+    let both = core.inter(r, s)?;
+    let rest = core.diff(r, s)?;
+    let is_either = is_expected(alloc, core, either, shape, Operator::Union, left, right)?;
+    let is_both = is_expected(
+        alloc,
+        core,
+        both,
+        shape,
+        Operator::Intersection,
+        left,
+        right,
+    )?;
+    let is_rest = is_expected(alloc, core, rest, shape, Operator::Difference, left, right)?;
+    Ok(is_either && is_both && is_rest)
+}
+
 /// Whether two relations of these numbers answer each call on two relations by its formula, and stand as before.
 fn pair_agrees(alloc: Global, shape: Shape, left: u32, right: u32) -> Result<bool, Lack>
     requires row_limit { shape.rows ≤ size_limit }
@@ -137,18 +188,10 @@ fn pair_agrees(alloc: Global, shape: Shape, left: u32, right: u32) -> Result<boo
     let mut core = Plain::new(alloc);
     let r = built(&mut core, shape, &first)?;
     let s = built(&mut core, shape, &second)?;
-    let either = core.union(r, s)?;
-    let both = core.inter(r, s)?;
-    let rest = core.diff(r, s)?;
     let is_same = core.same(r, s) == (left == right);
-    let want_either = expected(alloc, shape, Operator::Union, &first, &second)?;
-    let want_both = expected(alloc, shape, Operator::Intersection, &first, &second)?;
-    let want_rest = expected(alloc, shape, Operator::Difference, &first, &second)?;
-    let is_either = is_list(&mut core, either, &want_either);
-    let is_both = is_list(&mut core, both, &want_both);
-    let is_rest = is_list(&mut core, rest, &want_rest);
+    let agree = operators_agree(alloc, &mut core, shape, (r, s), &first, &second)?;
     let stood = is_list(&mut core, r, &first) && is_list(&mut core, s, &second);
-    Ok(is_same && is_either && is_both && is_rest && stood)
+    Ok(is_same && agree && stood)
 }
 
 /// Whether the relation of this number is empty as it should be, and is transposed by the formula, twice to itself.
@@ -226,20 +269,44 @@ const LARGE: [u32; 8] = [0, 1, 16384, 992, 4228, 4161, 21845, 32767];
 /// Three rows and five columns.
 const SHAPE: Shape = Shape { rows: 3, cols: 5 };
 
+/// Asserts that each two relations of these sizes answer by the formulas.
+fn assert_pairs(rt: &impl Abort, alloc: Global, rows: u32, cols: u32)
+    requires row_limit { rows ≤ size_limit }
+    requires col_limit { cols ≤ size_limit }
+{
+    let shape = Shape { rows, cols };
+    let count = relations_of(rows, cols);
+    for left in 0..count {
+        for right in 0..count {
+            let agrees = pair_agrees(alloc, shape, left, right) == Ok(true);
+            assert!(rt; agrees, "{rows} x {cols}: {left} and {right}");
+        }
+    }
+}
+
 #[test]
 fn every_two_relations_of_sizes_up_to_2_answer_by_the_formulas(rt: HostRuntime) {
     let alloc = rt.alloc();
     for rows in 0..3 {
         for cols in 0..3 {
-            let shape = Shape { rows, cols };
-            for left in 0..relations_of(rows, cols) {
-                for right in 0..relations_of(rows, cols) {
-                    let answer = pair_agrees(alloc, shape, left, right);
-                    assert_eq!(rt; answer, Ok(true), "{rows} x {cols}: {left} and {right}");
-                }
-            }
+            assert_pairs(&rt, alloc, rows, cols);
         }
     }
+}
+
+/// Asserts that each relation of these sizes is transposed and tested for emptiness, and that the makers make theirs.
+fn assert_ones(rt: &impl Abort, alloc: Global, rows: u32, cols: u32)
+    requires row_limit { rows ≤ size_limit }
+    requires col_limit { cols ≤ size_limit }
+{
+    let shape = Shape { rows, cols };
+    let count = relations_of(rows, cols);
+    for number in 0..count {
+        let agrees = one_agrees(alloc, shape, number) == Ok(true);
+        assert!(rt; agrees, "{rows} x {cols}: {number}");
+    }
+    let agree = makers_agree(alloc, shape, count.saturating_sub(1)) == Ok(true);
+    assert!(rt; agree, "{rows} x {cols}");
 }
 
 #[test]
@@ -247,14 +314,7 @@ fn each_relation_of_sizes_up_to_2_is_transposed_and_tested_for_emptiness(rt: Hos
     let alloc = rt.alloc();
     for rows in 0..3 {
         for cols in 0..3 {
-            let shape = Shape { rows, cols };
-            let count = relations_of(rows, cols);
-            for number in 0..count {
-                let answer = one_agrees(alloc, shape, number);
-                assert_eq!(rt; answer, Ok(true), "{rows} x {cols}: {number}");
-            }
-            let answer = makers_agree(alloc, shape, count.saturating_sub(1));
-            assert_eq!(rt; answer, Ok(true), "{rows} x {cols}");
+            assert_ones(&rt, alloc, rows, cols);
         }
     }
 }
@@ -264,17 +324,16 @@ fn relations_of_3_rows_and_5_columns_answer_by_the_formulas(rt: HostRuntime) {
     let alloc = rt.alloc();
     for left in LARGE {
         for right in LARGE {
-            let answer = pair_agrees(alloc, SHAPE, left, right);
-            assert_eq!(rt; answer, Ok(true), "{left} and {right}");
+            let agrees = pair_agrees(alloc, SHAPE, left, right) == Ok(true);
+            assert!(rt; agrees, "{left} and {right}");
         }
-        assert_eq!(rt; one_agrees(alloc, SHAPE, left), Ok(true), "{left}");
+        assert!(rt; one_agrees(alloc, SHAPE, left) == Ok(true), "{left}");
     }
-    assert_eq!(rt; makers_agree(alloc, SHAPE, 32767), Ok(true));
+    assert!(rt; makers_agree(alloc, SHAPE, 32767) == Ok(true));
 }
 
 #[test]
 fn what_stood_stands_after_a_refused_allocation(rt: HostRuntime) {
     let alloc = rt.alloc();
-    let stood = stands_after_each_call(alloc);
-    assert_eq!(rt; stood, Ok(true));
+    assert!(rt; stands_after_each_call(alloc) == Ok(true));
 }

@@ -1,8 +1,8 @@
 //! The one simple command by which `clap` splits the words, and the values that it found.
 ghost use Rattle.std.specs.Prelude.{◌≡◌, ◌≢◌, false, IfOk, IfErr, None};
-ghost use Rattle.clap.specs.Words.{app_of, kind_of, rule_of};
+ghost use Rattle.clap.specs.Words.{app_of, kind_of, rule_of, with_rule};
 ghost use Rattle.clap.specs.declared.error.kind.ErrorKind.TheVariants as kind;
-ghost use Rattle.rv_words.specs.Uses.{uses_in};
+ghost use Rattle.rv_words.specs.Uses.{uses_in, workers_name, nodes_name, turns_name, gen_name};
 ghost use Rattle.rv_words.specs.Shown.{texts, Finds};
 ghost use Rattle.rv_words.specs.Simple as simple;
 ghost use Rattle.rv_words.specs.declared.options.WordsError.TheVariants as words_error;
@@ -40,20 +40,79 @@ fn file<'a>(alloc: Global) -> Arg<'a>
     Arg::new(alloc, "file").action(ArgAction::Append)
 }
 
-/// The command, with no help, no version and no shortened names.
+/// A command with no arguments, no help, no version and no shortened names.
+fn bare<'a>(alloc: Global) -> Command<'a>
+    ensures { app_of result ≡ simple.bare }
+{
+    Command::new(alloc, "relview")
+        .no_binary_name(true)
+        .disable_help_flag(true)
+}
+
+/// A command with one more option that takes a value.
+fn with_valued<'a>(
+    alloc: Global,
+    command: Command<'a>,
+    name: &'a str,
+) -> Result<Command<'a>, AllocError>
+    ensures { IfOk result (λ whole. app_of whole ≡ with_rule (app_of command.entry) (simple.valued name.now)) }
+{
+    command.arg(valued(alloc, name))
+}
+
+/// A command with two more options that take a value.
+fn with_both<'a>(
+    alloc: Global,
+    command: Command<'a>,
+    first: &'a str,
+    second: &'a str,
+) -> Result<Command<'a>, AllocError>
+    ensures { IfOk result (λ whole. app_of whole
+        ≡ with_rule (with_rule (app_of command.entry) (simple.valued first.now)) (simple.valued second.now)) }
+{
+    match with_valued(alloc, command, first) {
+        Ok(half) => with_valued(alloc, half, second),
+        Err(error) => Err(error),
+    }
+}
+
+/// A command with the FILE words.
+fn with_file<'a>(alloc: Global, command: Command<'a>) -> Result<Command<'a>, AllocError>
+    ensures { IfOk result (λ whole. app_of whole ≡ with_rule (app_of command.entry) simple.file) }
+{
+    command.arg(file(alloc))
+}
+
+/// A command with the option `--history` and the FILE words.
+fn with_rest<'a>(alloc: Global, command: Command<'a>) -> Result<Command<'a>, AllocError>
+    ensures { IfOk result (λ whole. app_of whole ≡ with_rule (with_rule (app_of command.entry) simple.history) simple.file) }
+{
+    match command.arg(history(alloc)) {
+        Ok(flagged) => with_file(alloc, flagged),
+        Err(error) => Err(error),
+    }
+}
+
+/// The command with its options that take a value.
+fn with_numbers<'a>(alloc: Global) -> Result<Command<'a>, AllocError>
+    ensures { IfOk result (λ command. app_of command
+        ≡ with_rule (with_rule (with_rule (with_rule simple.bare (simple.valued workers_name))
+        (simple.valued nodes_name)) (simple.valued turns_name)) (simple.valued gen_name)) }
+{
+    match with_both(alloc, bare(alloc), "workers", "nodes") {
+        Ok(half) => with_both(alloc, half, "turns", "gen"),
+        Err(error) => Err(error),
+    }
+}
+
+/// The command.
 fn command<'a>(alloc: Global) -> Result<Command<'a>, AllocError>
     ensures { IfOk result (λ command. app_of command ≡ simple.app) }
 {
-    let bare = Command::new(alloc, "relview")
-        .no_binary_name(true)
-        .disable_help_flag(true);
-    let numbers = bare
-        .arg(valued(alloc, "workers"))?
-        .arg(valued(alloc, "nodes"))?
-        .arg(valued(alloc, "turns"))?
-        .arg(valued(alloc, "gen"))?;
-    let whole = numbers.arg(history(alloc))?.arg(file(alloc))?;
-    Ok(whole)
+    match with_numbers(alloc) {
+        Ok(numbers) => with_rest(alloc, numbers),
+        Err(error) => Err(error),
+    }
 }
 
 /// Why clap found nothing.

@@ -13,33 +13,29 @@ use rel_model::quads_trait::Quads;
 use rel_model::{Rel, SIZE_LIMIT, Shape};
 use std::process::Abort;
 
+/// The pairs of three elements and the subsets that have them.
+const MEMBERS: &[(u32, u32)] = &[
+    (0, 1),
+    (0, 3),
+    (0, 5),
+    (0, 7),
+    (1, 2),
+    (1, 3),
+    (1, 6),
+    (1, 7),
+    (2, 4),
+    (2, 5),
+    (2, 6),
+    (2, 7),
+];
+
 #[test]
 fn three_elements_are_members_of_these_of_eight_subsets(rt: HostRuntime) {
     let (table, seat) = table(&rt, rt.alloc());
     let gate = OpenGate;
     let mut crew = Crew::new(&rt, &table, seat, 1, &gate);
     let given = epsi(&mut crew, 3);
-    is_given(
-        &rt,
-        &mut crew,
-        given,
-        3,
-        8,
-        &[
-            (0, 1),
-            (0, 3),
-            (0, 5),
-            (0, 7),
-            (1, 2),
-            (1, 3),
-            (1, 6),
-            (1, 7),
-            (2, 4),
-            (2, 5),
-            (2, 6),
-            (2, 7),
-        ],
-    );
+    is_given(&rt, &mut crew, given, 3, 8, MEMBERS);
 }
 
 #[test]
@@ -83,7 +79,10 @@ fn two_and_one_elements_are_injected_into_their_sum_of_three(rt: HostRuntime) {
 fn is_refused(rt: &impl Abort, given: Result<Rel, DomainError>, size: u64) {
     match given {
         Err(DomainError::Size { wanted, limit }) => {
-            assert_eq!(rt; (wanted, limit), (size, 16_777_216));
+            assert!(rt;
+                wanted == size && limit == 16_777_216,
+                "{wanted} for {size}"
+            );
         }
         _ => panic!(rt; "not refused"),
     }
@@ -127,9 +126,31 @@ fn has_its_last<Q: Quads>(
     ensures { Keeps (Q.worker q.old) (Q.worker q.new) }
 {
     let Ok(r) = given else { panic!(rt; "refused") };
-    assert_eq!(rt; (r.rows, r.cols), (rows, cols));
+    assert!(rt; r.rows == rows && r.cols == cols);
     assert!(rt; 0 < r.rows && 0 < r.cols);
     assert!(rt; q.has(r, r.rows - 1, r.cols - 1));
+}
+
+/// Asserts that products and sums of one element more than the limit are refused.
+fn are_refused<Q: Quads>(rt: &impl Abort, q: &mut Q) {
+    is_refused(rt, first(q, 4097, 4096), 16_781_312);
+    is_refused(rt, second(q, 257, 65_281), 16_777_217);
+    is_refused(rt, inl(q, SIZE_LIMIT, 1), 16_777_217);
+    is_refused(rt, inr(q, 1, SIZE_LIMIT), 16_777_217);
+}
+
+/// Asserts that subsets and pairings over the limit are refused.
+fn are_too_many<Q: Quads>(rt: &impl Abort, q: &mut Q) {
+    is_refused(rt, epsi(q, 25), 33_554_432);
+    is_refused(rt, epsi(q, 63), 9_223_372_036_854_775_808);
+    let shape = Shape {
+        rows: 1,
+        cols: 4097,
+    };
+    let Ok(row) = q.full(shape) else {
+        panic!(rt; "no room")
+    };
+    is_refused(rt, fork(q, row, row), 16_785_409);
 }
 
 #[test]
@@ -137,20 +158,8 @@ fn a_size_one_over_the_limit_is_refused(rt: HostRuntime) {
     let (table, seat) = table(&rt, rt.alloc());
     let gate = OpenGate;
     let mut crew = Crew::new(&rt, &table, seat, 1, &gate);
-    is_refused(&rt, first(&mut crew, 4097, 4096), 16_781_312);
-    is_refused(&rt, second(&mut crew, 257, 65_281), 16_777_217);
-    is_refused(&rt, inl(&mut crew, SIZE_LIMIT, 1), 16_777_217);
-    is_refused(&rt, inr(&mut crew, 1, SIZE_LIMIT), 16_777_217);
-    is_refused(&rt, epsi(&mut crew, 25), 33_554_432);
-    is_refused(&rt, epsi(&mut crew, 63), 9_223_372_036_854_775_808);
-    let shape = Shape {
-        rows: 1,
-        cols: 4097,
-    };
-    let Ok(row) = crew.full(shape) else {
-        panic!(&rt; "no room")
-    };
-    is_refused(&rt, fork(&mut crew, row, row), 16_785_409);
+    are_refused(&rt, &mut crew);
+    are_too_many(&rt, &mut crew);
 }
 
 #[test]

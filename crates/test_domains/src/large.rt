@@ -43,8 +43,8 @@ fn are_projected<Q: Quads>(rt: &impl Abort, q: &mut Q, x: u32, y: u32)
         panic!(rt; "refused")
     };
     let size = u64::from(x) * u64::from(y);
-    assert_eq!(rt; (u64::from(to_first.rows), to_first.cols), (size, x));
-    assert_eq!(rt; (u64::from(to_second.rows), to_second.cols), (size, y));
+    assert!(rt; u64::from(to_first.rows) == size && to_first.cols == x);
+    assert!(rt; u64::from(to_second.rows) == size && to_second.cols == y);
     let mut state = 5;
     'numbers: for _ in 0..500 {
         state = stepped(state);
@@ -97,7 +97,7 @@ fn are_numbered_as_they_are<Q: Quads>(rt: &impl Abort, q: &mut Q, rows: u32)
     let Ok(r) = inj(q, v) else {
         panic!(rt; "no room")
     };
-    assert_eq!(rt; (r.rows, r.cols), (rows, rows));
+    assert!(rt; r.rows == rows && r.cols == rows);
     let mut state = 6;
     'rows: for _ in 0..500 {
         state = stepped(state);

@@ -143,6 +143,24 @@ fn are_paired<Q: Quads>(
     );
 }
 
+/// Asserts that all relations of so many rows and columns are paired as by their lists.
+fn are_all_paired<Q: Quads>(rt: &impl Abort, alloc: Global, q: &mut Q, rows: u32, n: u32, k: u32)
+    requires rows { rows ≤ 2 }
+    requires left { n ≤ 2 }
+    requires right { k ≤ 2 }
+{
+    'firsts: for a in 0..16 {
+        'seconds: for b in 0..16 {
+            if a >> (rows * n) != 0 || b >> (rows * k) != 0 {
+                continue;
+            }
+            let left = cells_of(rt, alloc, rows, n, a);
+            let right = cells_of(rt, alloc, rows, k, b);
+            are_paired(rt, alloc, q, rows, (n, &left), (k, &right));
+        }
+    }
+}
+
 #[test]
 fn all_relations_of_sizes_up_to_2_are_paired_as_by_lists(rt: HostRuntime) {
     let alloc = rt.alloc();
@@ -152,16 +170,7 @@ fn all_relations_of_sizes_up_to_2_are_paired_as_by_lists(rt: HostRuntime) {
     'rows: for rows in 0..3 {
         'lefts: for n in 0..3 {
             'rights: for k in 0..3 {
-                'firsts: for a in 0..16 {
-                    'seconds: for b in 0..16 {
-                        if a >> (rows * n) != 0 || b >> (rows * k) != 0 {
-                            continue;
-                        }
-                        let left = cells_of(&rt, alloc, rows, n, a);
-                        let right = cells_of(&rt, alloc, rows, k, b);
-                        are_paired(&rt, alloc, &mut crew, rows, (n, &left), (k, &right));
-                    }
-                }
+                are_all_paired(&rt, alloc, &mut crew, rows, n, k);
             }
         }
     }

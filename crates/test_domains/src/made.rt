@@ -66,7 +66,7 @@ pub(crate) fn has_exactly<Q: Quads>(
     requires { Stands (Q.worker q.old) r }
     ensures { Keeps (Q.worker q.old) (Q.worker q.new) }
 {
-    assert_eq!(rt; (r.rows, r.cols), (rows, cols));
+    assert!(rt; r.rows == rows && r.cols == cols, "{rows} x {cols}");
     let mut met = 0;
     'rows: for i in 0..r.rows {
         'cols: for j in 0..r.cols {
@@ -79,7 +79,7 @@ pub(crate) fn has_exactly<Q: Quads>(
             }
         }
     }
-    assert_eq!(rt; met, pairs.len());
+    assert!(rt; met == pairs.len(), "{rows} x {cols}");
 }
 
 /// Asserts that a relation was given, of these sizes and with exactly these pairs.
