@@ -178,20 +178,34 @@ fn operators_agree(
     Ok(is_either && is_both && is_rest)
 }
 
-/// Whether two relations of these numbers answer each call on two relations by its formula, and stand as before.
+/// Whether two relations of listed pairs answer each call on two relations by its formula, and stand as before.
+fn lists_agree(
+    alloc: Global,
+    shape: Shape,
+    first: &[(u32, u32)],
+    second: &[(u32, u32)],
+    are_same: bool,
+) -> Result<bool, Lack>
+    requires row_limit { shape.rows ≤ size_limit }
+    requires col_limit { shape.cols ≤ size_limit }
+{
+    let mut core = Plain::new(alloc);
+    let r = built(&mut core, shape, first)?;
+    let s = built(&mut core, shape, second)?;
+    let is_same = core.same(r, s) == are_same;
+    let agree = operators_agree(alloc, &mut core, shape, (r, s), first, second)?;
+    let stood = is_list(&mut core, r, first) && is_list(&mut core, s, second);
+    Ok(is_same && agree && stood)
+}
+
+/// The same of two relations of these numbers.
 fn pair_agrees(alloc: Global, shape: Shape, left: u32, right: u32) -> Result<bool, Lack>
     requires row_limit { shape.rows ≤ size_limit }
     requires col_limit { shape.cols ≤ size_limit }
 {
     let first = listed(alloc, shape, left)?;
     let second = listed(alloc, shape, right)?;
-    let mut core = Plain::new(alloc);
-    let r = built(&mut core, shape, &first)?;
-    let s = built(&mut core, shape, &second)?;
-    let is_same = core.same(r, s) == (left == right);
-    let agree = operators_agree(alloc, &mut core, shape, (r, s), &first, &second)?;
-    let stood = is_list(&mut core, r, &first) && is_list(&mut core, s, &second);
-    Ok(is_same && agree && stood)
+    lists_agree(alloc, shape, &first, &second, left == right)
 }
 
 /// Whether the relation of this number is empty as it should be, and is transposed by the formula, twice to itself.

@@ -9,7 +9,6 @@ use std::process::Abort;
 use std::rt::Clock;
 use std::sync::Wait;
 use std::sync::atomic::{AtomicU64, Ordering};
-use std::test::Fail;
 use std::thread;
 use std::thread::{Threads, join};
 use std::time::Duration;
@@ -70,26 +69,31 @@ fn is_whole(log: &[Event], counts: &[u32]) -> bool {
     true
 }
 
-#[test]
-fn sixty_four_sessions_enter_a_thousand_commands_each(rt: HostRuntime) -> Result<(), Fail> {
-    let counts = [1000; 64];
-    let Some(report) = race_in_time(&rt, rt.alloc(), &counts, 2000) else {
+/// Asserts that sessions enter all their commands in time.
+fn assert_all_enter<R: Threads + Wait + Clock + Abort + Sync>(
+    rt: &R,
+    alloc: Global,
+    counts: &[u32],
+    events: usize,
+)
+    requires few { length counts.now ≤ 64 }
+{
+    let Some(report) = race_in_time(rt, alloc, counts, 2000) else {
         panic!(rt; "no memory")
     };
-    assert!(rt; report.told.as_slice() == &counts[..]);
-    assert!(rt; report.log.len() == 64000 && is_whole(report.log.as_slice(), &counts));
-    Ok(())
+    assert!(rt; report.told.as_slice() == counts);
+    assert!(rt; report.log.len() == events && is_whole(report.log.as_slice(), counts));
 }
 
 #[test]
-fn sessions_of_unlike_lengths_enter_all_their_commands(rt: HostRuntime) -> Result<(), Fail> {
+fn sixty_four_sessions_enter_a_thousand_commands_each(rt: HostRuntime) {
+    assert_all_enter(&rt, rt.alloc(), &[1000; 64], 64000);
+}
+
+#[test]
+fn sessions_of_unlike_lengths_enter_all_their_commands(rt: HostRuntime) {
     let counts = [3000, 0, 1, 2500, 1000, 4000, 7, 2000];
-    let Some(report) = race_in_time(&rt, rt.alloc(), &counts, 2000) else {
-        panic!(rt; "no memory")
-    };
-    assert!(rt; report.told.as_slice() == &counts[..]);
-    assert!(rt; report.log.len() == 12508 && is_whole(report.log.as_slice(), &counts));
-    Ok(())
+    assert_all_enter(&rt, rt.alloc(), &counts, 12508);
 }
 
 /// One command in a turn of its own.
@@ -110,8 +114,22 @@ fn enter<R: Wait>(rt: &R, book: &TurnBook<Diary>, pass: &mut Pass<Diary>, sessio
     book.put(pass, diary);
 }
 
+/// The sessions in the order in which they enter.
+const ORDER: [u32; 6] = [1, 3, 2, 4, 5, 6];
+
+/// Whether these are the events of the sessions in their order.
+fn is_in_order(events: &[Event]) -> bool {
+    for at in 0..ORDER.len() {
+        match events.get(at) {
+            Some(event) if event.session == ORDER[at] => {}
+            _ => return false,
+        }
+    }
+    events.len() == ORDER.len()
+}
+
 #[test]
-fn passes_are_joined_in_another_order_than_split(rt: HostRuntime) -> Result<(), Fail> {
+fn passes_are_joined_in_another_order_than_split(rt: HostRuntime) {
     let first = Diary {
         house: 5,
         events: Vec::new(rt.alloc()),
@@ -134,11 +152,5 @@ fn passes_are_joined_in_another_order_than_split(rt: HostRuntime) -> Result<(), 
     book.join_pass(&mut e, d);
     book.join_pass(&mut e, b);
     let diary = book.close(e);
-    let mut at = 0;
-    for event in &diary.events {
-        assert!(rt; at < 6 && event.session == [1, 3, 2, 4, 5, 6][at]);
-        at += 1;
-    }
-    assert!(rt; at == 6 && diary.house == 5);
-    Ok(())
+    assert!(rt; diary.house == 5 && is_in_order(diary.events.as_slice()));
 }
