@@ -4,6 +4,7 @@ use Rattle.std.proofs.lemmas.Bool.{cases_lt}
 use Rattle.std.specs.Prelude.{IsSome, unwrap_or}
 use Rattle.rel_model.specs.declared.Rel.{Rel}
 use Rattle.rel_model.specs.declared.Quad.{Quad}
+use Rattle.rel_model.specs.declared.Lack.{Lack}
 use Rattle.rel_model.specs.Relation.{Relation, has, relation_of, size_limit}
 use Rattle.rel_model.specs.Cells.{Cells, no_cells}
 use Rattle.rel_model.specs.Trees.{bottom_height, top_height, cells, stands}
@@ -172,3 +173,21 @@ told_value w h f (Ok q) i x = is_quad-gives w h f q i x
 pub told_cause : {E : Type 0} (old new : Keeper) (a : Result Quad E) → Counts old new a → HasCause true (worker_of old) (worker_of new) (told_as a)
 told_cause old new (Err e) c = record { full = λ h. omega (arith, c); no_memory = λ l h. absurd (cc); done = tt; wanting = λ h. absurd (cc) }
 told_cause old new (Ok q) c = record { full = λ h. absurd (cc); no_memory = λ l h. absurd (cc); done = c; wanting = λ h. absurd (cc) }
+
+-- of a worker whose keeper was found inside
+pub tells_cause : {E : Type 0} (w inside new : Keeper) (m n : ℕ) (a : Result Quad E) (result : Result Rel Lack) → inside ≡ w → TellsMisses inside new a → result ≡ named_as m n a → HasCause true (worker_of w) (worker_of new) result
+tells_cause w inside new m n a result v t e =
+    subst (λ (x : Keeper). HasCause true (worker_of x) (worker_of new) result) v (subst (HasCause true (worker_of inside) (worker_of new)) (sym e) (named_tells inside new m n a t))
+
+-- ---- roots of one type
+pub one_level : (r s : Rel) (p q : Quad) → r.rows ≡ s.rows → r.cols ≡ s.cols → p ≡ root_quad r → q ≡ root_quad s → q.height ≡ p.height
+one_level r s p q er ec ep eq =
+    ap (λ (x : Quad). x.height) eq ∙ ap (λ (m : ℕ). tree_height m s.cols) (sym er) ∙ ap (λ (n : ℕ). tree_height r.rows n) (sym ec) ∙ sym (ap (λ (x : Quad). x.height) ep)
+
+pub root_room : (w inside new : Keeper) (r : Rel) (q : Quad) → inside ≡ w → q ≡ root_quad r → KeepsQuads (quad_room q.height) inside new → MakesAtMost (operator_room r.rows r.cols) (worker_of w) (worker_of new)
+root_room w inside new r q v e k =
+    subst (λ (x : Keeper). MakesAtMost (operator_room r.rows r.cols) (worker_of x) (worker_of new)) v (makes_room r.rows r.cols inside new (subst (λ (x : Quad). KeepsQuads (quad_room x.height) inside new) e k))
+
+pub root_tree : (w inside new : Keeper) (r : Rel) (q : Quad) → inside ≡ w → q ≡ root_quad r → KeepsQuads (quad_room q.height) inside new → MakesAtMost (relation_room 3 r.rows r.cols) (worker_of w) (worker_of new)
+root_tree w inside new r q v e k =
+    subst (λ (x : Keeper). MakesAtMost (relation_room 3 r.rows r.cols) (worker_of x) (worker_of new)) v (makes_tree r.rows r.cols inside new (subst (λ (x : Quad). KeepsQuads (quad_room x.height) inside new) e k))

@@ -405,6 +405,10 @@ product_step v w a b row column fa fb c n k e some deep pa pb ek r0 r1 c0 c1 =
 pub value_as : {E : Type 0} (w : Keeper) (h k : ℕ) (f g : Cells) (r : Result Quad E) → h ≡ k → f ≡ g → IfOk r (IsQuad w h f) → IfOk r (IsQuad w k g)
 value_as w h k f g r e d v = subst (λ (c : Cells). IfOk r (IsQuad w k c)) d (subst (λ (x : ℕ). IfOk r (IsQuad w x f)) e v)
 
+-- without cuts the height is that of the whole
+pub no_cuts : (h c : ℕ) → c ≡ 0 → h ≡ h - c
+no_cuts h c e = omega arith
+
 pub square_value : {E : Type 0} (op : Operator) (v w z : Keeper) (a b left right : Quad) (c n : ℕ) (r : Result Quad E) → SquareStep op v w a b left right c n
     → IfOk r (IsQuad z (left.height - (c - 1)) (part left.height (c - 1) n (result_of op (side_of left.height) (quad_cells w left) (quad_cells w right))))
     → IfOk r (IsQuad z (a.height - c) (part a.height c n (result_of op (side_of a.height) (quad_cells v a) (quad_cells v b))))

@@ -1,10 +1,11 @@
 use Rattle.std.proofs.Common.{◌≡◌, ◌<◌, ◌≤◌, ◌+◌, ◌-◌, ◌*◌, ℕ, refl, sym, ap, ◌∙◌, arith}
 use Rattle.rel_model.specs.Trees.{bottom_height}
 use Rattle.rel_model.specs.Equations.{side_of}
-use Rattle.rel_model.proofs.QuadLaws.{quad_stays, is_quad-stays, keeps_on, keeps_most, reads_itself}
+use Rattle.rel_model.proofs.QuadLaws.{quad_stays, is_quad-stays, keeps_on, keeps_most, reads_itself, keeps_itself, counts_on}
 use Rattle.quad_nodes.proofs.Finding.{found_is}
 use Rattle.fork_quads.specs.Forks.{corner_words, last_piece}
 use Rattle.fork_quads.proofs.Tiling.{last-least, last-grows, last-next, hold_four, hold_later, tiled-stay, tiled_corner, gathered_found, north_missed, south_missed, beside_found, east_missed, leaf_value, corners_next, second_west}
+use Rattle.rel_model.specs.Quads.{one_more_miss}
 use Rattle.fork_quads.proofs.gather.+gathering.Goals as goal
 
 -- ---- two squares
@@ -116,3 +117,35 @@ gathered-returns-clause-keeps t c =
     let r = corners_next c.args.cuts c.if-cuts-eq0.false in
     keeps_most _ (corner_words c.args.cuts) c.args.nodes.now c.corner.new.self (omega (arith, r))
     (keeps_on _ 3 c.args.nodes.now c.beside-2.new.nodes c.corner.new.self (keeps_on _ _ c.args.nodes.now c.beside.new.nodes c.beside-2.new.nodes c.in_ok-north.ensures.keeps c.in_ok-south.ensures.keeps) c.corner.ensures.keeps)
+
+pub beside-returns-in_err-west-clause-keeps : goal.beside-returns-in_err-west-clause-keeps
+beside-returns-in_err-west-clause-keeps t c = keeps_most _ _ c.args.nodes.now c.gathered.new.nodes (omega arith) c.in_err-west.ensures.keeps
+
+pub beside-returns-in_err-east-clause-keeps : goal.beside-returns-in_err-east-clause-keeps
+beside-returns-in_err-east-clause-keeps t c = keeps_on _ _ c.args.nodes.now c.gathered.new.nodes c.gathered-2.new.nodes c.in_ok-west.ensures.keeps c.in_err-east.ensures.keeps
+
+pub beside-returns-clause-keeps : goal.beside-returns-clause-keeps
+beside-returns-clause-keeps t c = keeps_on _ _ c.args.nodes.now c.gathered.new.nodes c.gathered-2.new.nodes c.in_ok-west.ensures.keeps c.in_ok-east.ensures.keeps
+
+pub beside-returns-clause-counts : goal.beside-returns-clause-counts
+beside-returns-clause-counts t c = c.in_ok-east.ensures.counts ∙ c.in_ok-west.ensures.counts
+
+pub gathered-returns-then-cuts-eq0-clause-keeps : goal.gathered-returns-then-cuts-eq0-clause-keeps
+gathered-returns-then-cuts-eq0-clause-keeps t c = keeps_itself c.args.nodes.now _ c.bottom.ensures.work
+
+pub gathered-returns-in_err-north-clause-keeps : goal.gathered-returns-in_err-north-clause-keeps
+gathered-returns-in_err-north-clause-keeps t c =
+    let r = corners_next c.args.cuts c.if-cuts-eq0.false in
+    keeps_most _ (corner_words c.args.cuts) c.args.nodes.now c.beside.new.nodes (omega (arith, r)) c.in_err-north.ensures.keeps
+
+pub gathered-corner-requires-clause-ne_height : goal.gathered-corner-requires-clause-ne_height
+gathered-corner-requires-clause-ne_height t c = c.in_ok-north.ensures.east.same_height ∙ sym c.in_ok-north.ensures.west.same_height
+
+pub gathered-corner-requires-clause-sw_height : goal.gathered-corner-requires-clause-sw_height
+gathered-corner-requires-clause-sw_height t c = c.in_ok-south.ensures.west.same_height ∙ sym c.in_ok-north.ensures.west.same_height
+
+pub gathered-corner-requires-clause-se_height : goal.gathered-corner-requires-clause-se_height
+gathered-corner-requires-clause-se_height t c = c.in_ok-south.ensures.east.same_height ∙ sym c.in_ok-north.ensures.west.same_height
+
+pub gathered-returns-clause-counts : goal.gathered-returns-clause-counts
+gathered-returns-clause-counts t c = counts_on c.args.nodes.now c.beside-2.new.nodes c.corner.new.self c.corner.result (c.in_ok-south.ensures.counts ∙ c.in_ok-north.ensures.counts) c.corner.ensures.counts

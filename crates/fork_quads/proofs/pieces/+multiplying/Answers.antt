@@ -1,8 +1,10 @@
-use Rattle.std.proofs.Common.{◌≡◌, ◌<◌, ◌+◌, ◌-◌, ◌*◌, ◌≤◌, sym, subst, arith}
-use Rattle.rel_model.proofs.QuadLaws.{quad_stays}
+use Rattle.std.proofs.Common.{◌≡◌, ◌<◌, ◌+◌, ◌-◌, ◌*◌, ◌≤◌, sym, subst, arith, ◌∙◌, ℕ, ap}
+use Rattle.rel_model.proofs.QuadLaws.{quad_stays, keeps_itself, keeps_on, keeps_most, counts_on}
 use Rattle.rel_compose.proofs.Multiplying.{both_stay}
-use Rattle.fork_quads.proofs.Parts.{product_step, product_value, none_left, none_right, sum_value}
+use Rattle.fork_quads.proofs.Parts.{product_step, product_value, none_left, none_right, sum_value, value_as, part-none, no_cuts}
 use Rattle.fork_quads.proofs.Joining.{product_keeps}
+use Rattle.rel_model.specs.Quads.{KeepsQuads, quad_room}
+use Rattle.fork_quads.specs.Forks.{product_words}
 use Rattle.fork_quads.proofs.pieces.+multiplying.Goals as goal
 
 pub product_part-returns-then-a-eq0-clause-value : goal.product_part-returns-then-a-eq0-clause-value
@@ -52,3 +54,50 @@ pub sum_part-returns-clause-value : goal.sum_part-returns-clause-value
 sum_part-returns-clause-value t c =
     sum_value _ _ c.args.nodes.now c.product_part.new.nodes c.product_part-2.new.nodes c.union_quads.new.nodes c.args.row c.args.column c.args.cuts c.args.number c.in_ok-first.first c.in_ok-second.second c.union_quads.result
     c.requires.row_stands c.requires.column_stands c.in_ok-first.ensures.keeps c.in_ok-second.ensures.keeps c.in_ok-first.ensures.value c.in_ok-second.ensures.value c.union_quads.ensures.value
+
+pub product_part-returns-then-a-eq0-clause-keeps : goal.product_part-returns-then-a-eq0-clause-keeps
+product_part-returns-then-a-eq0-clause-keeps t c = keeps_itself c.args.nodes.now _ c.bottom.ensures.work
+
+pub product_part-returns-then-b-eq0-clause-keeps : goal.product_part-returns-then-b-eq0-clause-keeps
+product_part-returns-then-b-eq0-clause-keeps t c = keeps_itself c.args.nodes.now _ c.bottom.ensures.work
+
+pub product_part-returns-then-cuts-eq0-clause-value : goal.product_part-returns-then-cuts-eq0-clause-value
+product_part-returns-then-cuts-eq0-clause-value t c = value_as c.composed.new.nodes _ _ _ _ c.composed.result (no_cuts c.args.a.height c.args.cuts c.if-cuts-eq0.true) (sym (part-none c.args.a.height c.args.cuts c.args.number _ c.if-cuts-eq0.true)) c.composed.ensures.value
+
+pub product_part-returns-then-cuts-eq0-clause-keeps : goal.product_part-returns-then-cuts-eq0-clause-keeps
+product_part-returns-then-cuts-eq0-clause-keeps t c =
+    subst (λ (n : ℕ). KeepsQuads (product_words c.args.a.height n) c.args.nodes.now c.composed.new.nodes) (sym c.if-cuts-eq0.true) c.composed.ensures.keeps
+
+pub product_part-returns-clause-counts : goal.product_part-returns-clause-counts
+product_part-returns-clause-counts t c = counts_on c.args.nodes.now c.quarters_of_both.new.self c.sum_part.new.nodes c.sum_part.result c.quarters_of_both.ensures.reads.misses c.sum_part.ensures.counts
+
+pub sum_part-product_part-requires : goal.sum_part-product_part-requires
+sum_part-product_part-requires t c =
+    let l = c.requires.row_stands in
+    let r = c.requires.column_stands in
+    let d = c.decreases in
+    (omega (arith, d), (l.first, (r.first, (r.first_height, (c.requires.deep, c.requires.few)))))
+
+pub sum_part-returns-in_err-first-clause-keeps : goal.sum_part-returns-in_err-first-clause-keeps
+sum_part-returns-in_err-first-clause-keeps t c = keeps_most _ _ c.args.nodes.now c.product_part.new.nodes (omega arith) c.in_err-first.ensures.keeps
+
+pub sum_part-returns-in_err-second-clause-keeps : goal.sum_part-returns-in_err-second-clause-keeps
+sum_part-returns-in_err-second-clause-keeps t c =
+    let e = ap (λ (h : ℕ). product_words h c.args.cuts) c.requires.row_stands.second_height in
+    let k = keeps_on _ _ c.args.nodes.now c.product_part.new.nodes c.product_part-2.new.nodes c.in_ok-first.ensures.keeps c.in_err-second.ensures.keeps in
+    keeps_most _ _ c.args.nodes.now c.product_part-2.new.nodes (omega (arith, e)) k
+
+pub sum_part-union_quads-requires-clause-one_height : goal.sum_part-union_quads-requires-clause-one_height
+sum_part-union_quads-requires-clause-one_height t c =
+    c.in_ok-second.ensures.value.same_height ∙ ap (λ (h : ℕ). h - c.args.cuts) c.requires.row_stands.second_height ∙ sym c.in_ok-first.ensures.value.same_height
+
+pub sum_part-returns-clause-keeps : goal.sum_part-returns-clause-keeps
+sum_part-returns-clause-keeps t c =
+    let e = ap (λ (h : ℕ). product_words h c.args.cuts) c.requires.row_stands.second_height in
+    let s : quad_room c.in_ok-first.first.height ≡ quad_room (c.args.row.0.height - c.args.cuts) = ap quad_room c.in_ok-first.ensures.value.same_height in
+    let k = keeps_on _ _ c.args.nodes.now c.product_part.new.nodes c.product_part-2.new.nodes c.in_ok-first.ensures.keeps c.in_ok-second.ensures.keeps in
+    keeps_most _ _ c.args.nodes.now c.union_quads.new.nodes (omega (arith, e, s))
+    (keeps_on _ (quad_room c.in_ok-first.first.height) c.args.nodes.now c.product_part-2.new.nodes c.union_quads.new.nodes k c.union_quads.ensures.keeps)
+
+pub sum_part-returns-clause-counts : goal.sum_part-returns-clause-counts
+sum_part-returns-clause-counts t c = counts_on c.args.nodes.now c.product_part-2.new.nodes c.union_quads.new.nodes c.union_quads.result (c.in_ok-second.ensures.counts ∙ c.in_ok-first.ensures.counts) c.union_quads.ensures.counts

@@ -1,5 +1,5 @@
 use Rattle.rel_model.specs.Quads.{quad_room}
-use Rattle.fork_quads.proofs.Crewing.{stands_root, keeps_telling}
+use Rattle.fork_quads.proofs.Crewing.{stands_root, keeps_telling, root_room, root_tree, tells_cause}
 use Rattle.fork_quads.proofs.Joining.{transpose_other, none_stands}
 use Rattle.fork_quads.proofs.Operating.{transposed_value, transposed_found}
 use Rattle.fork_quads.proofs.relations.CrewCore.transpose.Goals as goal
@@ -21,3 +21,13 @@ returns-clause-stood g c =
 pub returns-clause-keeps : goal.returns-clause-keeps
 returns-clause-keeps g c =
     keeps_telling (quad_room c.root_of-root.result.height) c.args.self.now c.self.inside.nodes c.worked-quad.new.nodes c.worked-quad.result c.self.view_is c.worked-quad.ensures.keeps c.worked-quad.ensures.misses
+
+pub returns-clause-cause : goal.returns-clause-cause
+returns-clause-cause g c =
+    tells_cause c.args.self.now c.self.inside.nodes c.worked-quad.new.nodes c.args.r.cols c.args.r.rows c.worked-quad.result c.named.result c.self.view_is c.worked-quad.ensures.misses c.named.ensures
+
+pub returns-clause-room : goal.returns-clause-room
+returns-clause-room g c = root_room c.args.self.now c.self.inside.nodes c.worked-quad.new.nodes c.args.r c.root_of-root.result c.self.view_is c.root_of-root.ensures c.worked-quad.ensures.keeps
+
+pub returns-clause-tree : goal.returns-clause-tree
+returns-clause-tree g c = root_tree c.args.self.now c.self.inside.nodes c.worked-quad.new.nodes c.args.r c.root_of-root.result c.self.view_is c.root_of-root.ensures c.worked-quad.ensures.keeps
