@@ -32,9 +32,9 @@ use std::alloc::Global;
 fn ill(fault: TypeFault) -> Refused
     ensures { result ≡ told_ill fault }
 {
-    match fault {
+    match &fault {
         TypeFault::NoMemory => Refused::NoMemory,
-        other => Refused::Ill(other),
+        _ => Refused::Ill(fault),
     }
 }
 

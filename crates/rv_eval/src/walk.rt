@@ -2,7 +2,8 @@
 ghost use Rattle.std.specs.Prelude.{◌≡◌, ◌≤◌, ◌<◌, [], ℕ, List, map, IfOk, OnOk};
 ghost use Rattle.std.specs.List.{AllByRecursion};
 ghost use Rattle.rel_model.specs.Worker.{Stands, set_of};
-ghost use Rattle.lang_model.specs.Mean.{mean, means_by, mean_test, around_with, calls_within, run, run_by, looped};
+ghost use Rattle.lang_model.specs.Outcomes.{and_then, with_turns};
+ghost use Rattle.lang_model.specs.Mean.{mean, means_by, mean_by, mean_test, around_with, calls_within, based, paired, complemented, turned, run, run_by, looped};
 ghost use Rattle.rv_eval.specs.Names.{state_of, AllStand};
 ghost use Rattle.rv_eval.specs.Ends.{Ends};
 
@@ -12,7 +13,7 @@ use crate::faults::{too_deep, unknown};
 use crate::halt::Halt;
 use crate::operators::{complement, link, transposed};
 use crate::steps::{assign, bound_names, decide, inject, value_of_name};
-use lang_model::syntax::{Decl, Expr, Item, Name, Place, Stmt};
+use lang_model::syntax::{Base, Decl, Expr, Item, Link, Name, Place, Stmt};
 use rel_model::engine_trait::Engine;
 use rel_model::{Lack, Rel};
 use rv_types::Checked;
@@ -41,72 +42,256 @@ pub fn eval_expr<E: Engine>(
         Expr::Ref { at, name } => value_of_name(alloc, names, *at, name),
         Expr::Call { at, name, args } => {
             let args = args.as_slice();
-            let values = match eval_args(alloc, engine, checked, decls, names, rank, args, turns) {
-                Ok(values) => values,
-                Err(halt) => return Err(halt),
-            };
-            let values = values.as_slice();
-            call(alloc, engine, checked, rank, *at, name, values, turns)
+            eval_call(
+                alloc, engine, checked, decls, names, rank, *at, name, args, turns,
+            )
         }
         Expr::Base { at, base, args } => {
             let args = args.as_slice();
-            let values = match eval_args(alloc, engine, checked, decls, names, rank, args, turns) {
-                Ok(values) => values,
-                Err(halt) => return Err(halt),
-            };
-            base_call(alloc, engine, *at, *base, values.as_slice())
+            eval_base(
+                alloc, engine, checked, decls, names, rank, *at, *base, args, turns,
+            )
         }
         Expr::Inject { at, base, domain } => inject(
             alloc, engine, decls, names, *at, *base, domain,
         ),
-        Expr::Pair { at, left, right } => {
-            let first = match eval_expr(alloc, engine, checked, decls, names, rank, left, turns) {
-                Ok(first) => first,
-                Err(halt) => return Err(halt),
-            };
-            let second = match eval_expr(alloc, engine, checked, decls, names, rank, right, turns) {
-                Ok(second) => second,
-                Err(halt) => return Err(halt),
-            };
-            pair(alloc, engine, *at, first, second)
-        }
-        Expr::Minus { of, .. } => {
-            let operand = match eval_expr(alloc, engine, checked, decls, names, rank, of, turns) {
-                Ok(operand) => operand,
-                Err(halt) => return Err(halt),
-            };
-            complement(engine, operand)
-        }
-        Expr::Turned { of, times, .. } => {
-            let operand = match eval_expr(alloc, engine, checked, decls, names, rank, of, turns) {
-                Ok(operand) => operand,
-                Err(halt) => return Err(halt),
-            };
-            transposed(engine, operand, *times)
-        }
+        Expr::Pair { at, left, right } => eval_pair(
+            alloc, engine, checked, decls, names, rank, *at, left, right, turns,
+        ),
+        Expr::Minus { of, .. } => eval_minus(alloc, engine, checked, decls, names, rank, of, turns),
+        Expr::Turned { of, times, .. } => eval_turned(
+            alloc, engine, checked, decls, names, rank, of, *times, turns,
+        ),
         Expr::Chain { first, rest } => {
-            let mut all = match eval_expr(
-                alloc, engine, checked, decls, names, rank, first, turns,
-            ) {
-                Ok(all) => all,
-                Err(halt) => return Err(halt),
-            };
-            'links: for next in rest.as_slice() {
-                let operand = &next.right;
-                let right = match eval_expr(
-                    alloc, engine, checked, decls, names, rank, operand, turns,
-                ) {
-                    Ok(right) => right,
-                    Err(halt) => return Err(halt),
-                };
-                all = match link(alloc, engine, next.at, next.op, all, right) {
-                    Ok(joint) => joint,
-                    Err(halt) => return Err(halt),
-                };
-            }
-            Ok(all)
+            let rest = rest.as_slice();
+            eval_chain(
+                alloc, engine, checked, decls, names, rank, first, rest, turns,
+            )
         }
     }
+}
+
+/// The value of a call of a definition with these arguments.
+#[cycle(eval)]
+fn eval_call<E: Engine>(
+    alloc: Global,
+    engine: &mut E,
+    checked: &Checked,
+    decls: &[Decl],
+    names: &[(Name, Rel)],
+    rank: u32,
+    at: Place,
+    name: &Name,
+    args: &[Expr],
+    turns: &mut u64,
+) -> Result<Rel, Halt>
+    requires standing { AllStand (E.worker engine.old) names.now }
+    ensures ends { let w = E.worker engine.old in
+        let a = around_with (calls_within checked.now.items.items rank) decls.now in
+        let s = state_of w names.now in
+        let m = and_then (means_by a s [] args.now turns.old) (λ values k. a.calls at name.now values k) in
+        Ends E.least w (E.worker engine.new) turns.old turns.new m (set_of (E.worker engine.new)) result }
+    ensures stands { IfOk result (Stands (E.worker engine.new)) }
+{
+    let values = match eval_args(alloc, engine, checked, decls, names, rank, args, turns) {
+        Ok(values) => values,
+        Err(halt) => return Err(halt),
+    };
+    call(
+        alloc,
+        engine,
+        checked,
+        rank,
+        at,
+        name,
+        values.as_slice(),
+        turns,
+    )
+}
+
+/// The value of a base call with these arguments.
+#[cycle(eval)]
+fn eval_base<E: Engine>(
+    alloc: Global,
+    engine: &mut E,
+    checked: &Checked,
+    decls: &[Decl],
+    names: &[(Name, Rel)],
+    rank: u32,
+    at: Place,
+    base: Base,
+    args: &[Expr],
+    turns: &mut u64,
+) -> Result<Rel, Halt>
+    requires standing { AllStand (E.worker engine.old) names.now }
+    ensures ends { let w = E.worker engine.old in
+        let a = around_with (calls_within checked.now.items.items rank) decls.now in
+        let s = state_of w names.now in
+        let m = and_then (means_by a s [] args.now turns.old) (λ values k. with_turns (based at base values) k) in
+        Ends E.least w (E.worker engine.new) turns.old turns.new m (set_of (E.worker engine.new)) result }
+    ensures stands { IfOk result (Stands (E.worker engine.new)) }
+{
+    let values = match eval_args(alloc, engine, checked, decls, names, rank, args, turns) {
+        Ok(values) => values,
+        Err(halt) => return Err(halt),
+    };
+    base_call(alloc, engine, at, base, values.as_slice())
+}
+
+/// The value of a pair.
+#[cycle(eval)]
+fn eval_pair<E: Engine>(
+    alloc: Global,
+    engine: &mut E,
+    checked: &Checked,
+    decls: &[Decl],
+    names: &[(Name, Rel)],
+    rank: u32,
+    at: Place,
+    left: &Expr,
+    right: &Expr,
+    turns: &mut u64,
+) -> Result<Rel, Halt>
+    requires standing { AllStand (E.worker engine.old) names.now }
+    ensures ends { let w = E.worker engine.old in
+        let a = around_with (calls_within checked.now.items.items rank) decls.now in
+        let s = state_of w names.now in
+        let m = and_then (mean a s left.now turns.old) (λ r k.
+        and_then (mean a s right.now k) (λ q j. with_turns (paired at r q) j)) in
+        Ends E.least w (E.worker engine.new) turns.old turns.new m (set_of (E.worker engine.new)) result }
+    ensures stands { IfOk result (Stands (E.worker engine.new)) }
+{
+    let first = match eval_expr(alloc, engine, checked, decls, names, rank, left, turns) {
+        Ok(first) => first,
+        Err(halt) => return Err(halt),
+    };
+    let second = match eval_expr(alloc, engine, checked, decls, names, rank, right, turns) {
+        Ok(second) => second,
+        Err(halt) => return Err(halt),
+    };
+    pair(alloc, engine, at, first, second)
+}
+
+/// The value of a complement.
+#[cycle(eval)]
+fn eval_minus<E: Engine>(
+    alloc: Global,
+    engine: &mut E,
+    checked: &Checked,
+    decls: &[Decl],
+    names: &[(Name, Rel)],
+    rank: u32,
+    of: &Expr,
+    turns: &mut u64,
+) -> Result<Rel, Halt>
+    requires standing { AllStand (E.worker engine.old) names.now }
+    ensures ends { let w = E.worker engine.old in
+        let a = around_with (calls_within checked.now.items.items rank) decls.now in
+        let s = state_of w names.now in
+        let m = and_then (mean a s of.now turns.old) (λ r k. with_turns (complemented r) k) in
+        Ends E.least w (E.worker engine.new) turns.old turns.new m (set_of (E.worker engine.new)) result }
+    ensures stands { IfOk result (Stands (E.worker engine.new)) }
+{
+    let operand = match eval_expr(alloc, engine, checked, decls, names, rank, of, turns) {
+        Ok(operand) => operand,
+        Err(halt) => return Err(halt),
+    };
+    complement(engine, operand)
+}
+
+/// The value of an operand transposed so many times.
+#[cycle(eval)]
+fn eval_turned<E: Engine>(
+    alloc: Global,
+    engine: &mut E,
+    checked: &Checked,
+    decls: &[Decl],
+    names: &[(Name, Rel)],
+    rank: u32,
+    of: &Expr,
+    times: u32,
+    turns: &mut u64,
+) -> Result<Rel, Halt>
+    requires standing { AllStand (E.worker engine.old) names.now }
+    ensures ends { let w = E.worker engine.old in
+        let a = around_with (calls_within checked.now.items.items rank) decls.now in
+        let s = state_of w names.now in
+        let m = and_then (mean a s of.now turns.old) (λ r k. with_turns (turned times r) k) in
+        Ends E.least w (E.worker engine.new) turns.old turns.new m (set_of (E.worker engine.new)) result }
+    ensures stands { IfOk result (Stands (E.worker engine.new)) }
+{
+    let operand = match eval_expr(alloc, engine, checked, decls, names, rank, of, turns) {
+        Ok(operand) => operand,
+        Err(halt) => return Err(halt),
+    };
+    transposed(engine, operand, times)
+}
+
+/// The value of a chain.
+#[cycle(eval)]
+fn eval_chain<E: Engine>(
+    alloc: Global,
+    engine: &mut E,
+    checked: &Checked,
+    decls: &[Decl],
+    names: &[(Name, Rel)],
+    rank: u32,
+    first: &Expr,
+    rest: &[Link],
+    turns: &mut u64,
+) -> Result<Rel, Halt>
+    requires standing { AllStand (E.worker engine.old) names.now }
+    ensures ends { let w = E.worker engine.old in
+        let a = around_with (calls_within checked.now.items.items rank) decls.now in
+        let s = state_of w names.now in
+        let m = and_then (mean a s first.now turns.old) (λ r k. mean_by a s r rest.now k) in
+        Ends E.least w (E.worker engine.new) turns.old turns.new m (set_of (E.worker engine.new)) result }
+    ensures stands { IfOk result (Stands (E.worker engine.new)) }
+{
+    let value = match eval_expr(alloc, engine, checked, decls, names, rank, first, turns) {
+        Ok(value) => value,
+        Err(halt) => return Err(halt),
+    };
+    eval_links(
+        alloc, engine, checked, decls, names, rank, value, rest, turns,
+    )
+}
+
+/// The value of the links of a chain, from the left, onto the value before them.
+#[cycle(eval)]
+fn eval_links<E: Engine>(
+    alloc: Global,
+    engine: &mut E,
+    checked: &Checked,
+    decls: &[Decl],
+    names: &[(Name, Rel)],
+    rank: u32,
+    so_far: Rel,
+    rest: &[Link],
+    turns: &mut u64,
+) -> Result<Rel, Halt>
+    requires standing { AllStand (E.worker engine.old) names.now }
+    requires value { Stands (E.worker engine.old) so_far }
+    ensures ends { let w = E.worker engine.old in
+        let a = around_with (calls_within checked.now.items.items rank) decls.now in
+        let s = state_of w names.now in
+        let m = mean_by a s (set_of w so_far) rest.now turns.old in
+        Ends E.least w (E.worker engine.new) turns.old turns.new m (set_of (E.worker engine.new)) result }
+    ensures stands { IfOk result (Stands (E.worker engine.new)) }
+{
+    let mut all = so_far;
+    'links: for next in rest {
+        let operand = &next.right;
+        let right = match eval_expr(alloc, engine, checked, decls, names, rank, operand, turns) {
+            Ok(right) => right,
+            Err(halt) => return Err(halt),
+        };
+        all = match link(alloc, engine, next.at, next.op, all, right) {
+            Ok(joint) => joint,
+            Err(halt) => return Err(halt),
+        };
+    }
+    Ok(all)
 }
 
 /// The values of arguments, from the left.

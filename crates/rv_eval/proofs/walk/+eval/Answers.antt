@@ -1,4 +1,4 @@
-use Rattle.std.proofs.Common.{◌≡◌, ◌<◌, ◌≤◌, ◌+◌, ◌-◌, ◌*◌, ◌∙◌, ◌++◌, suc, cond, [], ◌∷◌, length, map, drop, Some, None, sym, ap, subst, arith, rules}
+use Rattle.std.proofs.Common.{◌≡◌, ◌<◌, ◌≤◌, ◌+◌, ◌-◌, ◌*◌, ◌∙◌, ◌++◌, suc, cond, [], ◌∷◌, length, map, drop, Some, None, refl, sym, ap, subst, arith, rules}
 use Rattle.std.specs.List.{AllByRecursion}
 use Rattle.rel_model.specs.Worker.{Stands, set_of}
 use Rattle.rv_types.specs.Defining.{IsDefinition}
@@ -156,220 +156,262 @@ eval_args-args-2-preserved g t c =
     }
 
 -- ---- expressions
-pub eval_expr-eval_args-requires : goal.eval_expr-eval_args-requires
-eval_expr-eval_args-requires g t c κs within =
+pub eval_expr-eval_call-requires : goal.eval_expr-eval_call-requires
+eval_expr-eval_call-requires g t c κs within =
     let w : weight c.args.expr.now ≡ weight_of_args c.as_slice-args.result.now + 1 = ap weight c.in-Call.is ∙ weight-call c.in-Call.at c.in-Call.name c.in-Call.args ∙ ap (λ es. weight_of_args es + 1) (sym c.as_slice-args.ensures.value) in (
       search (rules, w),
-      (search rules, c.requires.standing),
+      search (rules, c.requires.standing),
     )
 
-pub eval_expr-returns-in-Err-clause-ends : goal.eval_expr-returns-in-Err-clause-ends
-eval_expr-returns-in-Err-clause-ends g t c =
-    let a = around_with (calls_within c.args.checked.now.items.items c.args.rank) c.args.decls.now in
-    let s = state_of (g.E.Core.worker c.args.engine.now) c.args.names.now in
-    let n = c.args.turns.now in
-    first_err _ _ _ _ _ _ _ _ _ _ (ap (λ e. mean a s e n) c.in-Call.is ∙ mean-call a s c.in-Call.at c.in-Call.name c.in-Call.args n ∙ ap (λ es. and_then (means_by a s [] es n) (λ values m. a.calls c.in-Call.at c.in-Call.name values m)) (sym c.as_slice-args.ensures.value)) c.in-Err.ensures.ends
-
-pub eval_expr-eval_args-requires-in-Base : goal.eval_expr-eval_args-requires-in-Base
-eval_expr-eval_args-requires-in-Base g t c κs within =
+pub eval_expr-eval_base-requires : goal.eval_expr-eval_base-requires
+eval_expr-eval_base-requires g t c κs within =
     let w : weight c.args.expr.now ≡ weight_of_args c.as_slice-args-in-Base.result.now + 1 = ap weight c.in-Base.is ∙ weight-base c.in-Base.at c.in-Base.base c.in-Base.args ∙ ap (λ es. weight_of_args es + 1) (sym c.as_slice-args-in-Base.ensures.value) in (
       search (rules, w),
-      (search rules, c.requires.standing),
+      search (rules, c.requires.standing),
     )
 
-pub eval_expr-returns-in-Err-eval_args-clause-ends : goal.eval_expr-returns-in-Err-eval_args-clause-ends
-eval_expr-returns-in-Err-eval_args-clause-ends g t c =
-    let a = around_with (calls_within c.args.checked.now.items.items c.args.rank) c.args.decls.now in
-    let s = state_of (g.E.Core.worker c.args.engine.now) c.args.names.now in
-    let n = c.args.turns.now in
-    first_err _ _ _ _ _ _ _ _ _ _ (ap (λ e. mean a s e n) c.in-Base.is ∙ mean-base a s c.in-Base.at c.in-Base.base c.in-Base.args n ∙ ap (λ es. and_then (means_by a s [] es n) (λ values m. with_turns (based c.in-Base.at c.in-Base.base values) m)) (sym c.as_slice-args-in-Base.ensures.value)) c.in-Err-eval_args.ensures.ends
-
-pub eval_expr-returns-in-Err-eval_expr-clause-ends : goal.eval_expr-returns-in-Err-eval_expr-clause-ends
-eval_expr-returns-in-Err-eval_expr-clause-ends g t c =
-    let w = g.E.Core.worker c.args.engine.now in
-    let a = around_with (calls_within c.args.checked.now.items.items c.args.rank) c.args.decls.now in
-    let s = state_of w c.args.names.now in
-    let n = c.args.turns.now in
-    let e : mean a s c.args.expr.now n ≡ and_then (mean a s c.deref.result.now n) (λ r m. and_then (mean a s c.in-Pair.right.value m) (λ q k. with_turns (paired c.in-Pair.at r q) k)) =
-    ap (λ x. mean a s x n) c.in-Pair.is ∙ ap (λ x. and_then (mean a s x n) (λ r m. and_then (mean a s c.in-Pair.right.value m) (λ q k. with_turns (paired c.in-Pair.at r q) k))) (sym c.deref.ensures) in
-    first_err _ _ _ _ _ _ _ _ _ _ e c.in-Err-eval_expr.ensures.ends
-
-pub eval_expr-returns-in-Err-eval_expr-2-clause-ends : goal.eval_expr-returns-in-Err-eval_expr-2-clause-ends
-eval_expr-returns-in-Err-eval_expr-2-clause-ends g t c =
-    let w = g.E.Core.worker c.args.engine.now in
-    let a = around_with (calls_within c.args.checked.now.items.items c.args.rank) c.args.decls.now in
-    let s = state_of w c.args.names.now in
-    let n = c.args.turns.now in
-    let e : mean a s c.args.expr.now n ≡ and_then (mean a s c.deref.result.now n) (λ r m. and_then (mean a s c.in-Pair.right.value m) (λ q k. with_turns (paired c.in-Pair.at r q) k)) =
-    ap (λ x. mean a s x n) c.in-Pair.is ∙ ap (λ x. and_then (mean a s x n) (λ r m. and_then (mean a s c.in-Pair.right.value m) (λ q k. with_turns (paired c.in-Pair.at r q) k))) (sym c.deref.ensures) in
-    let v = g.E.Core.worker c.eval_expr.new.engine in
-    let m = c.eval_expr.new.turns in
-    let r = set_of v c.in-Ok-eval_expr.first in
-    let kept = sym (state_kept w v c.args.names.now c.in-Ok-eval_expr.ensures.ends.keeps c.requires.standing) in
-    let next = ap (λ x. and_then (mean a s x m) (λ q k. with_turns (paired c.in-Pair.at r q) k)) (sym c.deref-in-Pair.ensures) ∙ ap (λ y. and_then (mean a y c.deref-in-Pair.result.now m) (λ q k. with_turns (paired c.in-Pair.at r q) k)) kept in
-    let goes = goes_as _ _ _ _ _ _ _ next (first_on _ _ _ _ _ _ _ _ _ e c.in-Ok-eval_expr.ensures.ends) in
-    goes_err _ _ _ _ _ _ _ _ _ _ _ _ goes c.in-Err-eval_expr-2.ensures.ends
-
-pub eval_expr-returns-in-Err-eval_expr-3-clause-ends : goal.eval_expr-returns-in-Err-eval_expr-3-clause-ends
-eval_expr-returns-in-Err-eval_expr-3-clause-ends g t c =
-    let a = around_with (calls_within c.args.checked.now.items.items c.args.rank) c.args.decls.now in
-    let s = state_of (g.E.Core.worker c.args.engine.now) c.args.names.now in
-    let n = c.args.turns.now in
-    first_err _ _ _ _ _ _ _ _ _ _ (ap (λ e. mean a s e n) c.in-Minus.is ∙ ap (λ e. and_then (mean a s e n) (λ r m. with_turns (complemented r) m)) (sym c.deref-in-Minus.ensures)) c.in-Err-eval_expr-3.ensures.ends
-
-pub eval_expr-returns-in-Err-eval_expr-4-clause-ends : goal.eval_expr-returns-in-Err-eval_expr-4-clause-ends
-eval_expr-returns-in-Err-eval_expr-4-clause-ends g t c =
-    let a = around_with (calls_within c.args.checked.now.items.items c.args.rank) c.args.decls.now in
-    let s = state_of (g.E.Core.worker c.args.engine.now) c.args.names.now in
-    let n = c.args.turns.now in
-    first_err _ _ _ _ _ _ _ _ _ _ (ap (λ e. mean a s e n) c.in-Turned.is ∙ ap (λ e. and_then (mean a s e n) (λ r m. with_turns (turned c.in-Turned.times r) m)) (sym c.deref-in-Turned.ensures)) c.in-Err-eval_expr-4.ensures.ends
-
-pub eval_expr-returns-in-Err-eval_expr-5-clause-ends : goal.eval_expr-returns-in-Err-eval_expr-5-clause-ends
-eval_expr-returns-in-Err-eval_expr-5-clause-ends g t c =
-    let w = g.E.Core.worker c.args.engine.now in
-    let a = around_with (calls_within c.args.checked.now.items.items c.args.rank) c.args.decls.now in
-    let s = state_of w c.args.names.now in
-    let n = c.args.turns.now in
-    let e : mean a s c.args.expr.now n ≡ and_then (mean a s c.deref-in-Chain.result.now n) (λ r m. mean_by a s r c.in-Chain.rest.items m) =
-    ap (λ x. mean a s x n) c.in-Chain.is ∙ mean-chain a s c.in-Chain.first c.in-Chain.rest n ∙ ap (λ x. and_then (mean a s x n) (λ r m. mean_by a s r c.in-Chain.rest.items m)) (sym c.deref-in-Chain.ensures) in
-    first_err _ _ _ _ _ _ _ _ _ _ e c.in-Err-eval_expr-5.ensures.ends
-
-pub eval_expr-links-init : goal.eval_expr-links-init
-eval_expr-links-init g t c =
-    let w = g.E.Core.worker c.args.engine.now in
-    let a = around_with (calls_within c.args.checked.now.items.items c.args.rank) c.args.decls.now in
-    let s = state_of w c.args.names.now in
-    let n = c.args.turns.now in
-    let e : mean a s c.args.expr.now n ≡ and_then (mean a s c.deref-in-Chain.result.now n) (λ r m. mean_by a s r c.in-Chain.rest.items m) =
-    ap (λ x. mean a s x n) c.in-Chain.is ∙ mean-chain a s c.in-Chain.first c.in-Chain.rest n ∙ ap (λ x. and_then (mean a s x n) (λ r m. mean_by a s r c.in-Chain.rest.items m)) (sym c.deref-in-Chain.ensures) in
-    record {
-      goes = goes_as _ _ _ _ _ _ _ (ap (λ ls. mean_by a s (set_of (g.E.Core.worker c.eval_expr-in-Chain.new.engine) c.in-Ok-eval_expr-5.all) ls c.eval_expr-in-Chain.new.turns) (sym c.as_slice-next-items.ensures.value)) (first_on _ _ _ _ _ _ _ _ _ e c.in-Ok-eval_expr-5.ensures.ends);
-      stands = c.in-Ok-eval_expr-5.ensures.stands;
-    }
-
-pub eval_expr-eval_expr-requires-in-links : goal.eval_expr-eval_expr-requires-in-links
-eval_expr-eval_expr-requires-in-links g t c κs within =
-    let w = g.E.Core.worker c.args.engine.now in
-    let v = g.E.Core.worker c.links.engine in
-    let ls = c.as_slice-next-items.result.now in
-    let all : weight c.args.expr.now ≡ weight c.in-Chain.first.value + weight_of_links ls + 1 = ap weight c.in-Chain.is ∙ weight-chain c.in-Chain.first c.in-Chain.rest ∙ ap (λ x. weight c.in-Chain.first.value + weight_of_links x + 1) (sym c.as_slice-next-items.ensures.value) in
-    let less : weight c.next-item.result.right ≤ weight_of_links ls = weight_link ls c.links.next-index c.next-item.result c.next-item.result c.links-test.true c.next-item.is in
-    let stand : AllStand v c.args.names.now = all_stand_kept w v c.args.names.now c.links.invariant.goes.keeps c.requires.standing in (
-      search (rules, all, less),
-      (search rules, stand),
+pub eval_expr-eval_pair-requires : goal.eval_expr-eval_pair-requires
+eval_expr-eval_pair-requires g t c κs within =
+    let w : weight c.args.expr.now ≡ weight c.deref.result.now + weight c.deref-in-Pair.result.now + 1 = ap weight c.in-Pair.is ∙ ap (λ x. weight x + weight c.in-Pair.right.value + 1) (sym c.deref.ensures) ∙ ap (λ x. weight c.deref.result.now + weight x + 1) (sym c.deref-in-Pair.ensures) in (
+      search (rules, w),
+      search (rules, c.requires.standing),
     )
 
-pub eval_expr-returns-in-Err-eval_expr-6-clause-ends : goal.eval_expr-returns-in-Err-eval_expr-6-clause-ends
-eval_expr-returns-in-Err-eval_expr-6-clause-ends g t c =
-    let w = g.E.Core.worker c.args.engine.now in
-    let a = around_with (calls_within c.args.checked.now.items.items c.args.rank) c.args.decls.now in
-    let s = state_of w c.args.names.now in
-    let n = c.args.turns.now in
-    let v = g.E.Core.worker c.links.engine in
-    let next = links_next a s (state_of v c.args.names.now) (set_of v c.links.all) c.as_slice-next-items.result.now c.links.next-index c.next-item.result c.links.turns (state_kept w v c.args.names.now c.links.invariant.goes.keeps c.requires.standing) c.links-test.true c.next-item.is in
-    let here = goes_as _ _ _ _ _ _ _ next c.links.invariant.goes in
-    goes_err _ _ _ _ _ _ _ _ _ _ _ _ here c.in-Err-eval_expr-6.ensures.ends
+pub eval_expr-eval_minus-requires : goal.eval_expr-eval_minus-requires
+eval_expr-eval_minus-requires g t c κs within =
+    let w : weight c.args.expr.now ≡ weight c.deref-in-Minus.result.now + 1 = ap weight c.in-Minus.is ∙ ap (λ x. weight x + 1) (sym c.deref-in-Minus.ensures) in (
+      search (rules, w),
+      search (rules, c.requires.standing),
+    )
 
-pub eval_expr-returns-in-Err-link-clause-ends : goal.eval_expr-returns-in-Err-link-clause-ends
-eval_expr-returns-in-Err-link-clause-ends g t c =
-    let w = g.E.Core.worker c.args.engine.now in
-    let a = around_with (calls_within c.args.checked.now.items.items c.args.rank) c.args.decls.now in
-    let s = state_of w c.args.names.now in
-    let n = c.args.turns.now in
-    let v = g.E.Core.worker c.links.engine in
-    let next = links_next a s (state_of v c.args.names.now) (set_of v c.links.all) c.as_slice-next-items.result.now c.links.next-index c.next-item.result c.links.turns (state_kept w v c.args.names.now c.links.invariant.goes.keeps c.requires.standing) c.links-test.true c.next-item.is in
-    let here = goes_as _ _ _ _ _ _ _ next c.links.invariant.goes in
-    let x = g.E.Core.worker c.eval_expr-in-links.new.engine in
-    let m = c.eval_expr-in-links.new.turns in
-    let q = set_of x c.in-Ok-eval_expr-6.right in
-    let kept : set_of v c.links.all ≡ set_of x c.links.all = sym (set_kept v x c.links.all c.in-Ok-eval_expr-6.ensures.ends.keeps c.links.invariant.stands) in
-    let then = goes_as _ _ _ _ _ _ _ (ap (λ r. and_then (with_turns (linked c.next-item.result.at c.next-item.result.op r q) m) (λ t k. mean_by a s t (drop (c.links.next-index + 1) c.as_slice-next-items.result.now) k)) kept) (goes_on _ _ _ _ _ _ _ _ _ _ _ here c.in-Ok-eval_expr-6.ensures.ends) in
-    goes_err _ _ _ _ _ _ _ _ _ _ _ _ then (ends_operation _ _ _ _ _ _ c.in-Err-link.ensures.ends)
+pub eval_expr-eval_turned-requires : goal.eval_expr-eval_turned-requires
+eval_expr-eval_turned-requires g t c κs within =
+    let w : weight c.args.expr.now ≡ weight c.deref-in-Turned.result.now + 1 = ap weight c.in-Turned.is ∙ ap (λ x. weight x + 1) (sym c.deref-in-Turned.ensures) in (
+      search (rules, w),
+      search (rules, c.requires.standing),
+    )
 
-pub eval_expr-links-preserved : goal.eval_expr-links-preserved
-eval_expr-links-preserved g t c =
-    let w = g.E.Core.worker c.args.engine.now in
-    let a = around_with (calls_within c.args.checked.now.items.items c.args.rank) c.args.decls.now in
-    let s = state_of w c.args.names.now in
-    let n = c.args.turns.now in
-    let v = g.E.Core.worker c.links.engine in
-    let next = links_next a s (state_of v c.args.names.now) (set_of v c.links.all) c.as_slice-next-items.result.now c.links.next-index c.next-item.result c.links.turns (state_kept w v c.args.names.now c.links.invariant.goes.keeps c.requires.standing) c.links-test.true c.next-item.is in
-    let here = goes_as _ _ _ _ _ _ _ next c.links.invariant.goes in
-    let x = g.E.Core.worker c.eval_expr-in-links.new.engine in
-    let m = c.eval_expr-in-links.new.turns in
-    let q = set_of x c.in-Ok-eval_expr-6.right in
-    let kept : set_of v c.links.all ≡ set_of x c.links.all = sym (set_kept v x c.links.all c.in-Ok-eval_expr-6.ensures.ends.keeps c.links.invariant.stands) in
-    let then = goes_as _ _ _ _ _ _ _ (ap (λ r. and_then (with_turns (linked c.next-item.result.at c.next-item.result.op r q) m) (λ t k. mean_by a s t (drop (c.links.next-index + 1) c.as_slice-next-items.result.now) k)) kept) (goes_on _ _ _ _ _ _ _ _ _ _ _ here c.in-Ok-eval_expr-6.ensures.ends) in
-    record { goes = goes_on _ _ _ _ _ _ _ _ _ _ _ then (ends_operation _ _ _ _ _ _ c.in-Ok-link.ensures.ends); stands = c.in-Ok-link.ensures.stands }
+pub eval_expr-eval_chain-requires : goal.eval_expr-eval_chain-requires
+eval_expr-eval_chain-requires g t c κs within =
+    let w : weight c.args.expr.now ≡ weight c.deref-in-Chain.result.now + weight_of_links c.as_slice-rest.result.now + 1 = ap weight c.in-Chain.is ∙ weight-chain c.in-Chain.first c.in-Chain.rest ∙ ap (λ x. weight c.in-Chain.first.value + weight_of_links x + 1) (sym c.as_slice-rest.ensures.value) ∙ ap (λ x. weight x + weight_of_links c.as_slice-rest.result.now + 1) (sym c.deref-in-Chain.ensures) in (
+      search (rules, w),
+      search (rules, c.requires.standing),
+    )
 
-pub eval_expr-returns-in-Ok-clause-ends : goal.eval_expr-returns-in-Ok-clause-ends
-eval_expr-returns-in-Ok-clause-ends g t c =
-    let w = g.E.Core.worker c.args.engine.now in
+pub eval_expr-returns-in-Call-clause-ends : goal.eval_expr-returns-in-Call-clause-ends
+eval_expr-returns-in-Call-clause-ends g t c =
     let a = around_with (calls_within c.args.checked.now.items.items c.args.rank) c.args.decls.now in
-    let s = state_of w c.args.names.now in
+    let s = state_of (g.E.Core.worker c.args.engine.now) c.args.names.now in
     let n = c.args.turns.now in
-    let e = ap (λ x. mean a s x n) c.in-Call.is ∙ mean-call a s c.in-Call.at c.in-Call.name c.in-Call.args n ∙ ap (λ es. and_then (means_by a s [] es n) (λ values m. a.calls c.in-Call.at c.in-Call.name values m)) (sym c.as_slice-args.ensures.value) in
-    let u = g.E.Core.worker c.eval_args.new.engine in
-    let goes = first_on _ _ _ _ _ _ _ _ _ e c.in-Ok.ensures.ends in
-    goes_last _ _ _ _ _ _ _ _ _ _ (goes_as _ _ _ _ _ _ _ (ap (λ xs. a.calls c.in-Call.at c.in-Call.name (map (set_of u) xs) c.eval_args.new.turns) (sym c.as_slice-values.ensures.value)) goes) c.call.ensures.ends
+    only_step _ _ _ _ _ _ _ _ (ap (λ x. mean a s x n) c.in-Call.is ∙ mean-call a s c.in-Call.at c.in-Call.name c.in-Call.args n ∙ ap (λ es. and_then (means_by a s [] es n) (λ values m. a.calls c.in-Call.at c.in-Call.name values m)) (sym c.as_slice-args.ensures.value)) c.eval_call.ensures.ends
 
-pub eval_expr-returns-in-Ok-eval_args-clause-ends : goal.eval_expr-returns-in-Ok-eval_args-clause-ends
-eval_expr-returns-in-Ok-eval_args-clause-ends g t c =
-    let w = g.E.Core.worker c.args.engine.now in
+pub eval_expr-returns-in-Base-clause-ends : goal.eval_expr-returns-in-Base-clause-ends
+eval_expr-returns-in-Base-clause-ends g t c =
     let a = around_with (calls_within c.args.checked.now.items.items c.args.rank) c.args.decls.now in
-    let s = state_of w c.args.names.now in
+    let s = state_of (g.E.Core.worker c.args.engine.now) c.args.names.now in
     let n = c.args.turns.now in
-    let e = ap (λ x. mean a s x n) c.in-Base.is ∙ mean-base a s c.in-Base.at c.in-Base.base c.in-Base.args n ∙ ap (λ es. and_then (means_by a s [] es n) (λ values m. with_turns (based c.in-Base.at c.in-Base.base values) m)) (sym c.as_slice-args-in-Base.ensures.value) in
-    let u = g.E.Core.worker c.eval_args-in-Base.new.engine in
-    let goes = first_on _ _ _ _ _ _ _ _ _ e c.in-Ok-eval_args.ensures.ends in
-    goes_last _ _ _ _ _ _ _ _ _ _ (goes_as _ _ _ _ _ _ _ (ap (λ xs. with_turns (based c.in-Base.at c.in-Base.base (map (set_of u) xs)) c.eval_args-in-Base.new.turns) (sym c.as_slice.ensures.value)) goes) (ends_operation _ _ _ _ _ _ c.base_call.ensures.ends)
+    only_step _ _ _ _ _ _ _ _ (ap (λ x. mean a s x n) c.in-Base.is ∙ mean-base a s c.in-Base.at c.in-Base.base c.in-Base.args n ∙ ap (λ es. and_then (means_by a s [] es n) (λ values m. with_turns (based c.in-Base.at c.in-Base.base values) m)) (sym c.as_slice-args-in-Base.ensures.value)) c.eval_base.ensures.ends
 
 pub eval_expr-returns-in-Inject-clause-ends : goal.eval_expr-returns-in-Inject-clause-ends
 eval_expr-returns-in-Inject-clause-ends g t c =
-    let w = g.E.Core.worker c.args.engine.now in
-    let a = around_with (calls_within c.args.checked.now.items.items c.args.rank) c.args.decls.now in
-    let s = state_of w c.args.names.now in
-    let n = c.args.turns.now in
-    only_step _ _ _ _ _ _ _ _ (ap (λ x. mean a s x n) c.in-Inject.is) (ends_operation _ _ _ _ _ _ c.inject.ensures.ends)
-
-pub eval_expr-returns-in-Ok-eval_expr-2-clause-ends : goal.eval_expr-returns-in-Ok-eval_expr-2-clause-ends
-eval_expr-returns-in-Ok-eval_expr-2-clause-ends g t c =
-    let w = g.E.Core.worker c.args.engine.now in
-    let a = around_with (calls_within c.args.checked.now.items.items c.args.rank) c.args.decls.now in
-    let s = state_of w c.args.names.now in
-    let n = c.args.turns.now in
-    let e : mean a s c.args.expr.now n ≡ and_then (mean a s c.deref.result.now n) (λ r m. and_then (mean a s c.in-Pair.right.value m) (λ q k. with_turns (paired c.in-Pair.at r q) k)) =
-    ap (λ x. mean a s x n) c.in-Pair.is ∙ ap (λ x. and_then (mean a s x n) (λ r m. and_then (mean a s c.in-Pair.right.value m) (λ q k. with_turns (paired c.in-Pair.at r q) k))) (sym c.deref.ensures) in
-    let v = g.E.Core.worker c.eval_expr.new.engine in
-    let m = c.eval_expr.new.turns in
-    let r = set_of v c.in-Ok-eval_expr.first in
-    let kept = sym (state_kept w v c.args.names.now c.in-Ok-eval_expr.ensures.ends.keeps c.requires.standing) in
-    let next = ap (λ x. and_then (mean a s x m) (λ q k. with_turns (paired c.in-Pair.at r q) k)) (sym c.deref-in-Pair.ensures) ∙ ap (λ y. and_then (mean a y c.deref-in-Pair.result.now m) (λ q k. with_turns (paired c.in-Pair.at r q) k)) kept in
-    let goes = goes_as _ _ _ _ _ _ _ next (first_on _ _ _ _ _ _ _ _ _ e c.in-Ok-eval_expr.ensures.ends) in
-    let u = g.E.Core.worker c.eval_expr-in-Pair.new.engine in
-    let k = c.eval_expr-in-Pair.new.turns in
-    let left = sym (set_kept v u c.in-Ok-eval_expr.first c.in-Ok-eval_expr-2.ensures.ends.keeps c.in-Ok-eval_expr.ensures.stands) in
-    let then = goes_as _ _ _ _ _ _ _ (ap (λ x. with_turns (paired c.in-Pair.at x (set_of u c.in-Ok-eval_expr-2.second)) k) left) (goes_on _ _ _ _ _ _ _ _ _ _ _ goes c.in-Ok-eval_expr-2.ensures.ends) in
-    goes_last _ _ _ _ _ _ _ _ _ _ then (ends_operation _ _ _ _ _ _ c.pair.ensures.ends)
-
-pub eval_expr-returns-in-Ok-eval_expr-3-clause-ends : goal.eval_expr-returns-in-Ok-eval_expr-3-clause-ends
-eval_expr-returns-in-Ok-eval_expr-3-clause-ends g t c =
     let a = around_with (calls_within c.args.checked.now.items.items c.args.rank) c.args.decls.now in
     let s = state_of (g.E.Core.worker c.args.engine.now) c.args.names.now in
     let n = c.args.turns.now in
-    goes_last _ _ _ _ _ _ _ _ _ _
-    (first_on _ _ _ _ _ _ _ _ _ (ap (λ e. mean a s e n) c.in-Minus.is ∙ ap (λ e. and_then (mean a s e n) (λ r m. with_turns (complemented r) m)) (sym c.deref-in-Minus.ensures)) c.in-Ok-eval_expr-3.ensures.ends)
-    (ends_operation _ _ _ _ _ _ c.complement.ensures.ends)
+    only_step _ _ _ _ _ _ _ _ (ap (λ x. mean a s x n) c.in-Inject.is) (ends_operation _ _ _ _ _ _ c.inject.ensures.ends)
 
-pub eval_expr-returns-in-Ok-eval_expr-4-clause-ends : goal.eval_expr-returns-in-Ok-eval_expr-4-clause-ends
-eval_expr-returns-in-Ok-eval_expr-4-clause-ends g t c =
+pub eval_expr-returns-in-Pair-clause-ends : goal.eval_expr-returns-in-Pair-clause-ends
+eval_expr-returns-in-Pair-clause-ends g t c =
+    let a = around_with (calls_within c.args.checked.now.items.items c.args.rank) c.args.decls.now in
+    let s = state_of (g.E.Core.worker c.args.engine.now) c.args.names.now in
+    let n = c.args.turns.now in
+    only_step _ _ _ _ _ _ _ _ (ap (λ x. mean a s x n) c.in-Pair.is
+    ∙ ap (λ x. and_then (mean a s x n) (λ r m. and_then (mean a s c.in-Pair.right.value m) (λ q k. with_turns (paired c.in-Pair.at r q) k))) (sym c.deref.ensures)
+    ∙ ap (λ x. and_then (mean a s c.deref.result.now n) (λ r m. and_then (mean a s x m) (λ q k. with_turns (paired c.in-Pair.at r q) k))) (sym c.deref-in-Pair.ensures)) c.eval_pair.ensures.ends
+
+pub eval_expr-returns-in-Minus-clause-ends : goal.eval_expr-returns-in-Minus-clause-ends
+eval_expr-returns-in-Minus-clause-ends g t c =
+    let a = around_with (calls_within c.args.checked.now.items.items c.args.rank) c.args.decls.now in
+    let s = state_of (g.E.Core.worker c.args.engine.now) c.args.names.now in
+    let n = c.args.turns.now in
+    only_step _ _ _ _ _ _ _ _ (ap (λ x. mean a s x n) c.in-Minus.is ∙ ap (λ x. and_then (mean a s x n) (λ r m. with_turns (complemented r) m)) (sym c.deref-in-Minus.ensures)) c.eval_minus.ensures.ends
+
+pub eval_expr-returns-in-Turned-clause-ends : goal.eval_expr-returns-in-Turned-clause-ends
+eval_expr-returns-in-Turned-clause-ends g t c =
+    let a = around_with (calls_within c.args.checked.now.items.items c.args.rank) c.args.decls.now in
+    let s = state_of (g.E.Core.worker c.args.engine.now) c.args.names.now in
+    let n = c.args.turns.now in
+    only_step _ _ _ _ _ _ _ _ (ap (λ x. mean a s x n) c.in-Turned.is ∙ ap (λ x. and_then (mean a s x n) (λ r m. with_turns (turned c.in-Turned.times r) m)) (sym c.deref-in-Turned.ensures)) c.eval_turned.ensures.ends
+
+pub eval_expr-returns-in-Chain-clause-ends : goal.eval_expr-returns-in-Chain-clause-ends
+eval_expr-returns-in-Chain-clause-ends g t c =
+    let a = around_with (calls_within c.args.checked.now.items.items c.args.rank) c.args.decls.now in
+    let s = state_of (g.E.Core.worker c.args.engine.now) c.args.names.now in
+    let n = c.args.turns.now in
+    only_step _ _ _ _ _ _ _ _ (ap (λ x. mean a s x n) c.in-Chain.is ∙ mean-chain a s c.in-Chain.first c.in-Chain.rest n
+    ∙ ap (λ ls. and_then (mean a s c.in-Chain.first.value n) (λ r m. mean_by a s r ls m)) (sym c.as_slice-rest.ensures.value)
+    ∙ ap (λ x. and_then (mean a s x n) (λ r m. mean_by a s r c.as_slice-rest.result.now m)) (sym c.deref-in-Chain.ensures)) c.eval_chain.ensures.ends
+
+pub eval_call-returns-in-Err-clause-ends : goal.eval_call-returns-in-Err-clause-ends
+eval_call-returns-in-Err-clause-ends g t c =
+    first_err _ _ _ _ _ _ _ _ _ _ refl c.in-Err.ensures.ends
+
+pub eval_base-returns-in-Err-clause-ends : goal.eval_base-returns-in-Err-clause-ends
+eval_base-returns-in-Err-clause-ends g t c =
+    first_err _ _ _ _ _ _ _ _ _ _ refl c.in-Err.ensures.ends
+
+pub eval_pair-returns-in-Err-clause-ends : goal.eval_pair-returns-in-Err-clause-ends
+eval_pair-returns-in-Err-clause-ends g t c =
+    first_err _ _ _ _ _ _ _ _ _ _ refl c.in-Err.ensures.ends
+
+pub eval_minus-returns-in-Err-clause-ends : goal.eval_minus-returns-in-Err-clause-ends
+eval_minus-returns-in-Err-clause-ends g t c =
+    first_err _ _ _ _ _ _ _ _ _ _ refl c.in-Err.ensures.ends
+
+pub eval_turned-returns-in-Err-clause-ends : goal.eval_turned-returns-in-Err-clause-ends
+eval_turned-returns-in-Err-clause-ends g t c =
+    first_err _ _ _ _ _ _ _ _ _ _ refl c.in-Err.ensures.ends
+
+pub eval_chain-returns-in-Err-clause-ends : goal.eval_chain-returns-in-Err-clause-ends
+eval_chain-returns-in-Err-clause-ends g t c =
+    first_err _ _ _ _ _ _ _ _ _ _ refl c.in-Err.ensures.ends
+
+pub eval_call-returns-clause-ends : goal.eval_call-returns-clause-ends
+eval_call-returns-clause-ends g t c =
+    let a = around_with (calls_within c.args.checked.now.items.items c.args.rank) c.args.decls.now in
+    let u = g.E.Core.worker c.eval_args.new.engine in
+    let same = ap (λ xs. a.calls c.args.at c.args.name.now (map (set_of u) xs) c.eval_args.new.turns) (sym c.as_slice.ensures.value) in
+    goes_last _ _ _ _ _ _ _ _ _ _ (goes_as _ _ _ _ _ _ _ same (first_on _ _ _ _ _ _ _ _ _ refl c.in-Ok.ensures.ends)) c.call.ensures.ends
+
+pub eval_base-returns-clause-ends : goal.eval_base-returns-clause-ends
+eval_base-returns-clause-ends g t c =
+    let u = g.E.Core.worker c.eval_args.new.engine in
+    let same = ap (λ xs. with_turns (based c.args.at c.args.base (map (set_of u) xs)) c.eval_args.new.turns) (sym c.as_slice.ensures.value) in
+    goes_last _ _ _ _ _ _ _ _ _ _ (goes_as _ _ _ _ _ _ _ same (first_on _ _ _ _ _ _ _ _ _ refl c.in-Ok.ensures.ends)) (ends_operation _ _ _ _ _ _ c.base_call.ensures.ends)
+
+pub eval_minus-returns-clause-ends : goal.eval_minus-returns-clause-ends
+eval_minus-returns-clause-ends g t c =
+    goes_last _ _ _ _ _ _ _ _ _ _ (first_on _ _ _ _ _ _ _ _ _ refl c.in-Ok.ensures.ends) (ends_operation _ _ _ _ _ _ c.complement.ensures.ends)
+
+pub eval_turned-returns-clause-ends : goal.eval_turned-returns-clause-ends
+eval_turned-returns-clause-ends g t c =
+    goes_last _ _ _ _ _ _ _ _ _ _ (first_on _ _ _ _ _ _ _ _ _ refl c.in-Ok.ensures.ends) (ends_operation _ _ _ _ _ _ c.transposed.ensures.ends)
+
+pub eval_pair-eval_expr-requires-2 : goal.eval_pair-eval_expr-requires-2
+eval_pair-eval_expr-requires-2 g t c κs within =
+    let w = g.E.Core.worker c.args.engine.now in
+    let v = g.E.Core.worker c.eval_expr.new.engine in
+    let stand : AllStand v c.args.names.now = all_stand_kept w v c.args.names.now c.in-Ok.ensures.ends.keeps c.requires.standing in (
+      search rules,
+      search (rules, stand),
+    )
+
+pub eval_pair-returns-in-Err-eval_expr-clause-ends : goal.eval_pair-returns-in-Err-eval_expr-clause-ends
+eval_pair-returns-in-Err-eval_expr-clause-ends g t c =
+    let w = g.E.Core.worker c.args.engine.now in
+    let a = around_with (calls_within c.args.checked.now.items.items c.args.rank) c.args.decls.now in
+    let v = g.E.Core.worker c.eval_expr.new.engine in
+    let m = c.eval_expr.new.turns in
+    let kept = sym (state_kept w v c.args.names.now c.in-Ok.ensures.ends.keeps c.requires.standing) in
+    let r = set_of v c.in-Ok.first in
+    let next = ap (λ y. and_then (mean a y c.args.right.now m) (λ q k. with_turns (paired c.args.at r q) k)) kept in
+    let goes = goes_as _ _ _ _ _ _ _ next (first_on _ _ _ _ _ _ _ _ _ refl c.in-Ok.ensures.ends) in
+    goes_err _ _ _ _ _ _ _ _ _ _ _ _ goes c.in-Err-eval_expr.ensures.ends
+
+pub eval_pair-returns-clause-ends : goal.eval_pair-returns-clause-ends
+eval_pair-returns-clause-ends g t c =
+    let w = g.E.Core.worker c.args.engine.now in
+    let a = around_with (calls_within c.args.checked.now.items.items c.args.rank) c.args.decls.now in
+    let v = g.E.Core.worker c.eval_expr.new.engine in
+    let m = c.eval_expr.new.turns in
+    let kept = sym (state_kept w v c.args.names.now c.in-Ok.ensures.ends.keeps c.requires.standing) in
+    let r = set_of v c.in-Ok.first in
+    let next = ap (λ y. and_then (mean a y c.args.right.now m) (λ q k. with_turns (paired c.args.at r q) k)) kept in
+    let goes = goes_as _ _ _ _ _ _ _ next (first_on _ _ _ _ _ _ _ _ _ refl c.in-Ok.ensures.ends) in
+    let u = g.E.Core.worker c.eval_expr-2.new.engine in
+    let k = c.eval_expr-2.new.turns in
+    let left = sym (set_kept v u c.in-Ok.first c.in-Ok-eval_expr.ensures.ends.keeps c.in-Ok.ensures.stands) in
+    let then = goes_as _ _ _ _ _ _ _ (ap (λ x. with_turns (paired c.args.at x (set_of u c.in-Ok-eval_expr.second)) k) left) (goes_on _ _ _ _ _ _ _ _ _ _ _ goes c.in-Ok-eval_expr.ensures.ends) in
+    goes_last _ _ _ _ _ _ _ _ _ _ then (ends_operation _ _ _ _ _ _ c.pair.ensures.ends)
+
+pub eval_chain-eval_links-requires : goal.eval_chain-eval_links-requires
+eval_chain-eval_links-requires g t c κs within =
+    let w = g.E.Core.worker c.args.engine.now in
+    let v = g.E.Core.worker c.eval_expr.new.engine in
+    let stand : AllStand v c.args.names.now = all_stand_kept w v c.args.names.now c.in-Ok.ensures.ends.keeps c.requires.standing in (
+      search rules,
+      search (rules, stand, c.in-Ok.ensures.stands),
+    )
+
+pub eval_chain-returns-clause-ends : goal.eval_chain-returns-clause-ends
+eval_chain-returns-clause-ends g t c =
+    let w = g.E.Core.worker c.args.engine.now in
+    let a = around_with (calls_within c.args.checked.now.items.items c.args.rank) c.args.decls.now in
+    let v = g.E.Core.worker c.eval_expr.new.engine in
+    let m = c.eval_expr.new.turns in
+    let kept = sym (state_kept w v c.args.names.now c.in-Ok.ensures.ends.keeps c.requires.standing) in
+    let next = ap (λ y. mean_by a y (set_of v c.in-Ok.value) c.args.rest.now m) kept in
+    goes_last _ _ _ _ _ _ _ _ _ _ (goes_as _ _ _ _ _ _ _ next (first_on _ _ _ _ _ _ _ _ _ refl c.in-Ok.ensures.ends)) c.eval_links.ensures.ends
+
+pub eval_links-links-init : goal.eval_links-links-init
+eval_links-links-init g t c =
+    let w = g.E.Core.worker c.args.engine.now in
+    let a = around_with (calls_within c.args.checked.now.items.items c.args.rank) c.args.decls.now in
+    let n = c.args.turns.now in
+    record { goes = goes_start w n (mean_by a (state_of w c.args.names.now) (set_of w c.args.so_far) c.args.rest.now n); stands = c.requires.value }
+
+pub eval_links-eval_expr-requires : goal.eval_links-eval_expr-requires
+eval_links-eval_expr-requires g t c κs within =
+    let w = g.E.Core.worker c.args.engine.now in
+    let v = g.E.Core.worker c.links.engine in
+    let ls = c.args.rest.now in
+    let less : weight c.next-item.result.right ≤ weight_of_links ls = weight_link ls c.links.next-index c.next-item.result c.next-item.result c.links-test.true c.next-item.is in
+    let stand : AllStand v c.args.names.now = all_stand_kept w v c.args.names.now c.links.invariant.goes.keeps c.requires.standing in (
+      search (rules, less),
+      search (rules, stand),
+    )
+
+pub eval_links-returns-in-Err-clause-ends : goal.eval_links-returns-in-Err-clause-ends
+eval_links-returns-in-Err-clause-ends g t c =
     let w = g.E.Core.worker c.args.engine.now in
     let a = around_with (calls_within c.args.checked.now.items.items c.args.rank) c.args.decls.now in
     let s = state_of w c.args.names.now in
-    let n = c.args.turns.now in
-    goes_last _ _ _ _ _ _ _ _ _ _
-    (first_on _ _ _ _ _ _ _ _ _ (ap (λ e. mean a s e n) c.in-Turned.is ∙ ap (λ e. and_then (mean a s e n) (λ r m. with_turns (turned c.in-Turned.times r) m)) (sym c.deref-in-Turned.ensures)) c.in-Ok-eval_expr-4.ensures.ends)
-    (ends_operation _ _ _ _ _ _ c.transposed.ensures.ends)
+    let v = g.E.Core.worker c.links.engine in
+    let kept = state_kept w v c.args.names.now c.links.invariant.goes.keeps c.requires.standing in
+    let next = links_next a s (state_of v c.args.names.now) (set_of v c.links.all) c.args.rest.now c.links.next-index c.next-item.result c.links.turns kept c.links-test.true c.next-item.is in
+    let here = goes_as _ _ _ _ _ _ _ next c.links.invariant.goes in
+    goes_err _ _ _ _ _ _ _ _ _ _ _ _ here c.in-Err.ensures.ends
+
+pub eval_links-returns-in-Err-link-clause-ends : goal.eval_links-returns-in-Err-link-clause-ends
+eval_links-returns-in-Err-link-clause-ends g t c =
+    let w = g.E.Core.worker c.args.engine.now in
+    let a = around_with (calls_within c.args.checked.now.items.items c.args.rank) c.args.decls.now in
+    let s = state_of w c.args.names.now in
+    let v = g.E.Core.worker c.links.engine in
+    let kept = state_kept w v c.args.names.now c.links.invariant.goes.keeps c.requires.standing in
+    let next = links_next a s (state_of v c.args.names.now) (set_of v c.links.all) c.args.rest.now c.links.next-index c.next-item.result c.links.turns kept c.links-test.true c.next-item.is in
+    let here = goes_as _ _ _ _ _ _ _ next c.links.invariant.goes in
+    let x = g.E.Core.worker c.eval_expr.new.engine in
+    let m = c.eval_expr.new.turns in
+    let q = set_of x c.in-Ok.right in
+    let left : set_of v c.links.all ≡ set_of x c.links.all = sym (set_kept v x c.links.all c.in-Ok.ensures.ends.keeps c.links.invariant.stands) in
+    let then = goes_as _ _ _ _ _ _ _ (ap (λ r. and_then (with_turns (linked c.next-item.result.at c.next-item.result.op r q) m) (λ t k. mean_by a s t (drop (c.links.next-index + 1) c.args.rest.now) k)) left) (goes_on _ _ _ _ _ _ _ _ _ _ _ here c.in-Ok.ensures.ends) in
+    goes_err _ _ _ _ _ _ _ _ _ _ _ _ then (ends_operation _ _ _ _ _ _ c.in-Err-link.ensures.ends)
+
+pub eval_links-links-preserved : goal.eval_links-links-preserved
+eval_links-links-preserved g t c =
+    let w = g.E.Core.worker c.args.engine.now in
+    let a = around_with (calls_within c.args.checked.now.items.items c.args.rank) c.args.decls.now in
+    let s = state_of w c.args.names.now in
+    let v = g.E.Core.worker c.links.engine in
+    let kept = state_kept w v c.args.names.now c.links.invariant.goes.keeps c.requires.standing in
+    let next = links_next a s (state_of v c.args.names.now) (set_of v c.links.all) c.args.rest.now c.links.next-index c.next-item.result c.links.turns kept c.links-test.true c.next-item.is in
+    let here = goes_as _ _ _ _ _ _ _ next c.links.invariant.goes in
+    let x = g.E.Core.worker c.eval_expr.new.engine in
+    let m = c.eval_expr.new.turns in
+    let q = set_of x c.in-Ok.right in
+    let left : set_of v c.links.all ≡ set_of x c.links.all = sym (set_kept v x c.links.all c.in-Ok.ensures.ends.keeps c.links.invariant.stands) in
+    let then = goes_as _ _ _ _ _ _ _ (ap (λ r. and_then (with_turns (linked c.next-item.result.at c.next-item.result.op r q) m) (λ t k. mean_by a s t (drop (c.links.next-index + 1) c.args.rest.now) k)) left) (goes_on _ _ _ _ _ _ _ _ _ _ _ here c.in-Ok.ensures.ends) in
+    record { goes = goes_on _ _ _ _ _ _ _ _ _ _ _ then (ends_operation _ _ _ _ _ _ c.in-Ok-link.ensures.ends); stands = c.in-Ok-link.ensures.stands }
 
 -- ---- statements
 pub run_stmt-returns-in-Err-clause-ends : goal.run_stmt-returns-in-Err-clause-ends

@@ -1,10 +1,10 @@
 use Rattle.std.proofs.Common.{◌≤◌, ◌+◌, ◌*◌, ℕ, suc, [], map, drop}
 use Rattle.std.specs.List.{AllByRecursion}
 use Rattle.rel_model.specs.Worker.{Stands, set_of}
-use Rattle.lang_model.specs.Mean.{mean, means_by, mean_by, mean_test, around_with, calls_within, run_by, looped, rounds}
+use Rattle.lang_model.specs.Mean.{means_by, mean_by, mean_test, around_with, calls_within, run_by, looped, rounds}
 use Rattle.rv_eval.specs.Names.{state_of, AllStand}
 use Rattle.rv_eval.proofs.Going.{Goes}
-use Rattle.rv_eval.proofs.Weights.{weight, weight_of_args, weight_stmt, weight_by, scale}
+use Rattle.rv_eval.proofs.Weights.{weight, weight_of_args, weight_of_links, weight_stmt, weight_by, scale}
 use Rattle.rv_eval.proofs.walk.+eval.Given as goal
 
 abbrev pub decreases-call : goal.decreases-call
@@ -15,6 +15,27 @@ decreases-eval_args g l = l.rank * scale l.checked.now.items.items + (4 * weight
 
 abbrev pub decreases-eval_expr : goal.decreases-eval_expr
 decreases-eval_expr g l = l.rank * scale l.checked.now.items.items + 4 * weight l.expr.now
+
+abbrev pub decreases-eval_base : goal.decreases-eval_base
+decreases-eval_base g l = l.rank * scale l.checked.now.items.items + (4 * weight_of_args l.args.now + 2)
+
+abbrev pub decreases-eval_call : goal.decreases-eval_call
+decreases-eval_call g l = l.rank * scale l.checked.now.items.items + (4 * weight_of_args l.args.now + 2)
+
+abbrev pub decreases-eval_chain : goal.decreases-eval_chain
+decreases-eval_chain g l = l.rank * scale l.checked.now.items.items + (4 * (weight l.first.now + weight_of_links l.rest.now) + 2)
+
+abbrev pub decreases-eval_links : goal.decreases-eval_links
+decreases-eval_links g l = l.rank * scale l.checked.now.items.items + (4 * weight_of_links l.rest.now + 1)
+
+abbrev pub decreases-eval_minus : goal.decreases-eval_minus
+decreases-eval_minus g l = l.rank * scale l.checked.now.items.items + (4 * weight l.of.now + 1)
+
+abbrev pub decreases-eval_pair : goal.decreases-eval_pair
+decreases-eval_pair g l = l.rank * scale l.checked.now.items.items + (4 * (weight l.left.now + weight l.right.now) + 1)
+
+abbrev pub decreases-eval_turned : goal.decreases-eval_turned
+decreases-eval_turned g l = l.rank * scale l.checked.now.items.items + (4 * weight l.of.now + 1)
 
 abbrev pub decreases-run_stmt : goal.decreases-run_stmt
 decreases-run_stmt g l = l.rank * scale l.checked.now.items.items + 4 * weight_stmt l.stmt.now
@@ -39,14 +60,14 @@ invariant-eval_args-args-2 g l =
       stands : AllByRecursion (Stands v) l.values.items;
     }
 
-abbrev pub invariant-eval_expr-links : goal.invariant-eval_expr-links
-invariant-eval_expr-links g l =
+abbrev pub invariant-eval_links-links : goal.invariant-eval_links-links
+invariant-eval_links-links g l =
     let w = g.E.Core.worker l.fn.engine in
     let v = g.E.Core.worker l.engine in
     let a = around_with (calls_within l.checked.items.items l.rank) l.decls in
     let s = state_of w l.names in
     record {
-      goes : Goes g.E.Core.least w v l.fn.turns l.turns (mean a s l.expr l.fn.turns) (mean_by a s (set_of v l.all) (drop l.next-index l.next-items) l.turns);
+      goes : Goes g.E.Core.least w v l.fn.turns l.turns (mean_by a s (set_of w l.fn.so_far) l.rest l.fn.turns) (mean_by a s (set_of v l.all) (drop l.next-index l.rest) l.turns);
       stands : Stands v l.all;
     }
 
