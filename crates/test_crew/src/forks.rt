@@ -129,31 +129,72 @@ pub(crate) fn scattered<C: Core>(
     r
 }
 
-/// Asserts laws that tie the five operators on two relations to one another.
-fn fits_together<C: Core>(rt: &impl Abort, core: &mut C, r: Rel, s: Rel)
+/// Two pseudo-random relations of 2048 rows and columns, so heavy that each operator forks on them.
+fn heavy_pair<C: Core>(rt: &impl Abort, core: &mut C) -> (Rel, Rel)
+    ensures left { Stands (C.worker core.new) result.0 }
+    ensures right { Stands (C.worker core.new) result.1 }
+    ensures left_rows { result.0.rows ≡ 2048 }
+    ensures left_cols { result.0.cols ≡ 2048 }
+    ensures right_rows { result.1.rows ≡ 2048 }
+    ensures right_cols { result.1.cols ≡ 2048 }
+{
+    let shape = Shape {
+        rows: 2048,
+        cols: 2048,
+    };
+    let r = scattered(rt, core, shape, MANY, 1);
+    let s = scattered(rt, core, shape, MANY, 2);
+    (r, s)
+}
+
+/// Asserts how unions, intersections and differences of two relations are tied to one another.
+fn differences_fit<C: Core>(rt: &impl Abort, core: &mut C, r: Rel, s: Rel)
     requires r_stands { Stands (C.worker core.old) r }
     requires s_stands { Stands (C.worker core.old) s }
-    requires square { r.rows ≡ r.cols }
-    requires rows { s.rows ≡ r.rows }
-    requires cols { s.cols ≡ r.cols }
+    requires rows { r.rows ≡ s.rows }
+    requires cols { r.cols ≡ s.cols }
+    ensures { Keeps (C.worker core.old) (C.worker core.new) }
 {
     let both = given(rt, core.union(r, s));
     let common = given(rt, core.inter(r, s));
     let only = given(rt, core.diff(both, s));
     let rest = given(rt, core.diff(r, common));
     assert!(rt; core.same(only, rest), "r + s - s is r - (r & s)");
+    assert!(rt; !core.is_empty(both));
+}
+
+/// Asserts that a relation turned twice is itself.
+fn turns_back<C: Core>(rt: &impl Abort, core: &mut C, r: Rel)
+    requires { Stands (C.worker core.old) r }
+    ensures { Keeps (C.worker core.old) (C.worker core.new) }
+{
     let turned = given(rt, core.transpose(r));
     let back = given(rt, core.transpose(turned));
     assert!(rt; core.same(back, r), "turned twice");
+}
+
+/// Asserts that a product turned is the product of what is turned, in the other order.
+fn products_turn<C: Core>(rt: &impl Abort, core: &mut C, r: Rel, s: Rel)
+    requires r_stands { Stands (C.worker core.old) r }
+    requires s_stands { Stands (C.worker core.old) s }
+    requires middle { r.cols ≡ s.rows }
+{
     let product = given(rt, core.compose(r, s));
+    assert!(rt; !core.is_empty(product));
     let product_turned = given(rt, core.transpose(product));
+    let turned = given(rt, core.transpose(r));
     let s_turned = given(rt, core.transpose(s));
     let turned_product = given(rt, core.compose(s_turned, turned));
-    assert!(rt;
-        core.same(product_turned, turned_product),
-        "the product turned"
-    );
-    assert!(rt; !core.is_empty(both) && !core.is_empty(product));
+    let same = core.same(product_turned, turned_product);
+    assert!(rt; same, "the product turned");
+}
+
+/// Asserts laws that tie the five operators on two pseudo-random relations to one another.
+fn fits_together<C: Core>(rt: &impl Abort, core: &mut C) {
+    let (r, s) = heavy_pair(rt, core);
+    differences_fit(rt, core, r, s);
+    turns_back(rt, core, r);
+    products_turn(rt, core, r, s);
 }
 
 #[test]
@@ -161,14 +202,25 @@ fn crews_of_several_workers_answer_by_the_laws(rt: HostRuntime) {
     'workers: for workers in [1, 2, 3, 4, 8, 64] {
         let (table, seat) = table_for(&rt, rt.alloc(), 65);
         let mut crew = Crew::new(&rt, &table, seat, workers, &OpenGate);
-        let shape = Shape {
-            rows: 2048,
-            cols: 2048,
-        };
-        let r = scattered(&rt, &mut crew, shape, MANY, 1);
-        let s = scattered(&rt, &mut crew, shape, MANY, 2);
-        fits_together(&rt, &mut crew, r, s);
+        fits_together(&rt, &mut crew);
     }
+}
+
+/// Unites and composes two pseudo-random relations.
+fn unite_and_compose<C: Core>(rt: &impl Abort, core: &mut C) {
+    let (r, s) = heavy_pair(rt, core);
+    let _ = given(rt, core.union(r, s));
+    let _ = given(rt, core.compose(r, s));
+}
+
+/// Asserts that a meeting was told of groups of so many pieces, of which none waited too long.
+fn was_told(rt: &impl Abort, meeting: &Meeting, pieces: u32) {
+    let gave_up = meeting.gave_up.load(Ordering::SeqCst);
+    assert!(rt; !gave_up, "a piece waited too long");
+    let begun = meeting.begun.load(Ordering::SeqCst);
+    assert!(rt; meeting.ended.load(Ordering::SeqCst) == begun);
+    assert!(rt; (begun > 0) == (pieces > 0));
+    assert!(rt; pieces == 0 || begun % pieces == 0, "pieces were left out");
 }
 
 /// Asserts what a meeting of so many pieces was told of operators of so many workers, with so many seats.
@@ -181,22 +233,8 @@ fn is_met<R: Threads + Abort + Sync>(rt: &R, alloc: Global, seats: u32, workers:
     let (table, seat) = table_for(rt, alloc, seats);
     let meeting = Meeting::new(workers);
     let mut crew = Crew::new(rt, &table, seat, workers, &meeting);
-    let shape = Shape {
-        rows: 2048,
-        cols: 2048,
-    };
-    let r = scattered(rt, &mut crew, shape, MANY, 1);
-    let s = scattered(rt, &mut crew, shape, MANY, 2);
-    let _ = given(rt, crew.union(r, s));
-    let _ = given(rt, crew.compose(r, s));
-    assert!(rt;
-        !meeting.gave_up.load(Ordering::SeqCst),
-        "a piece waited too long"
-    );
-    let begun = meeting.begun.load(Ordering::SeqCst);
-    assert_eq!(rt; meeting.ended.load(Ordering::SeqCst), begun);
-    assert_eq!(rt; begun > 0, pieces > 0);
-    assert!(rt; pieces == 0 || begun % pieces == 0, "pieces were left out");
+    unite_and_compose(rt, &mut crew);
+    was_told(rt, &meeting, pieces);
 }
 
 #[test]
@@ -248,21 +286,26 @@ fn filled<C: Core>(rt: &impl Abort, core: &mut C, shape: Shape) -> Rel
     panic!(rt; "never full")
 }
 
+/// Asserts that a keeper whose table fills refuses, and keeps what stood.
+fn refuses_and_keeps<C: Core>(rt: &impl Abort, core: &mut C) {
+    let shape = Shape {
+        rows: 2048,
+        cols: 2048,
+    };
+    let r = filled(rt, core, shape);
+    assert!(rt; core.has(r, 0, 2047));
+    let turned = core.transpose(r);
+    assert!(rt; matches!(turned, Err(Lack::Full)), "there is no room");
+    assert!(rt; core.has(r, 0, 2047));
+    let same = given(rt, core.union(r, r));
+    assert!(rt; core.same(same, r));
+}
+
 #[test]
 fn a_table_that_fills_refuses_and_keeps_what_stood(rt: HostRuntime) {
     let Ok((table, seat)) = PairTable::make(rt.alloc(), 17, 65) else {
         panic!(rt; "no memory")
     };
     let mut crew = Crew::new(&rt, &table, seat, 4, &OpenGate);
-    let shape = Shape {
-        rows: 2048,
-        cols: 2048,
-    };
-    let r = filled(&rt, &mut crew, shape);
-    assert!(rt; crew.has(r, 0, 2047));
-    let turned = crew.transpose(r);
-    assert!(rt; matches!(turned, Err(Lack::Full)), "there is no room");
-    assert!(rt; crew.has(r, 0, 2047));
-    let same = given(&rt, crew.union(r, r));
-    assert!(rt; crew.same(same, r));
+    refuses_and_keeps(&rt, &mut crew);
 }

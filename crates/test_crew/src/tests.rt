@@ -1,7 +1,7 @@
 //! A crew beside plain relations, by the traits that both implement, and its quads.
-#![tactic(auto, using(rel_model::proofs::Workers::keeps_stands, rel_model::proofs::Workers::keeps_trans, rel_model::proofs::Workers::gives_stands))]
+#![tactic(auto, using(rel_model::proofs::Workers::keeps_stands, rel_model::proofs::Workers::keeps_trans, rel_model::proofs::Workers::gives_stands, crate::proofs::Later::given_stands))]
 
-ghost use Rattle.std.specs.Prelude.{◌≡◌, ◌<◌, ◌≤◌};
+ghost use Rattle.std.specs.Prelude.{◌≡◌, ◌<◌, ◌≤◌, IfOk};
 ghost use Rattle.rel_model.specs.Relation.{size_limit};
 ghost use Rattle.rel_model.specs.Trees.{top_height};
 ghost use Rattle.rel_model.specs.Views.{IsOf};
@@ -62,7 +62,7 @@ fn plain_of<P: Core>(rt: &impl Abort, plain: &mut P, shape: Shape, count: u32, s
 }
 
 /// One relation, in a crew and in a plain keeper.
-#[derive(Clone, Copy, Debug)]
+#[derive(Clone, Copy)]
 struct Twin {
     crew: Rel,
     plain: Rel,
@@ -129,10 +129,28 @@ fn same_pairs<C: Core, P: Core>(rt: &impl Abort, crew: &mut C, plain: &mut P, r:
     'rows: for i in 0..r.rows {
         'cols: for j in 0..r.cols {
             let found = crew.has(r, i, j);
-            assert_eq!(rt; found, plain.has(p, i, j), "at {i}, {j}");
+            assert!(rt; found == plain.has(p, i, j), "at {i}, {j}");
         }
     }
-    assert_eq!(rt; crew.is_empty(r), plain.is_empty(p));
+    assert!(rt; crew.is_empty(r) == plain.is_empty(p));
+}
+
+/// Asserts that both keepers gave a relation, each of the same pairs.
+fn same_answers<C: Core, P: Core>(
+    rt: &impl Abort,
+    crew: &mut C,
+    plain: &mut P,
+    found: Result<Rel, Lack>,
+    wanted: Result<Rel, Lack>,
+)
+    requires standing { IfOk found (Stands (C.worker crew.old)) }
+    requires plain_standing { IfOk wanted (Stands (P.worker plain.old)) }
+    ensures keeps { Keeps (C.worker crew.old) (C.worker crew.new) }
+    ensures plain_keeps { Keeps (P.worker plain.old) (P.worker plain.new) }
+{
+    let r = given(rt, found);
+    let p = given(rt, wanted);
+    same_pairs(rt, crew, plain, r, p);
 }
 
 /// Asserts that both keepers answer each operator on two relations of one type alike.
@@ -148,16 +166,16 @@ fn pair_agrees<C: Core, P: Core>(rt: &impl Abort, crew: &mut C, plain: &mut P, a
     ensures keeps { Keeps (C.worker crew.old) (C.worker crew.new) }
     ensures plain_keeps { Keeps (P.worker plain.old) (P.worker plain.new) }
 {
-    assert_eq!(rt; crew.same(a.crew, b.crew), plain.same(a.plain, b.plain));
-    let either = given(rt, crew.union(a.crew, b.crew));
-    let plain_either = given(rt, plain.union(a.plain, b.plain));
-    same_pairs(rt, crew, plain, either, plain_either);
-    let both = given(rt, crew.inter(a.crew, b.crew));
-    let plain_both = given(rt, plain.inter(a.plain, b.plain));
-    same_pairs(rt, crew, plain, both, plain_both);
-    let rest = given(rt, crew.diff(a.crew, b.crew));
-    let plain_rest = given(rt, plain.diff(a.plain, b.plain));
-    same_pairs(rt, crew, plain, rest, plain_rest);
+    assert!(rt; crew.same(a.crew, b.crew) == plain.same(a.plain, b.plain));
+    let either = crew.union(a.crew, b.crew);
+    let plain_either = plain.union(a.plain, b.plain);
+    same_answers(rt, crew, plain, either, plain_either);
+    let both = crew.inter(a.crew, b.crew);
+    let plain_both = plain.inter(a.plain, b.plain);
+    same_answers(rt, crew, plain, both, plain_both);
+    let rest = crew.diff(a.crew, b.crew);
+    let plain_rest = plain.diff(a.plain, b.plain);
+    same_answers(rt, crew, plain, rest, plain_rest);
 }
 
 /// Asserts that both keepers answer alike what has one relation, or none.
@@ -171,9 +189,9 @@ fn one_agrees<C: Core, P: Core>(rt: &impl Abort, crew: &mut C, plain: &mut P, r:
     ensures keeps { Keeps (C.worker crew.old) (C.worker crew.new) }
     ensures plain_keeps { Keeps (P.worker plain.old) (P.worker plain.new) }
 {
-    let turned = given(rt, crew.transpose(r));
-    let plain_turned = given(rt, plain.transpose(p));
-    same_pairs(rt, crew, plain, turned, plain_turned);
+    let turned = crew.transpose(r);
+    let plain_turned = plain.transpose(p);
+    same_answers(rt, crew, plain, turned, plain_turned);
     let shape = Shape {
         rows: r.rows,
         cols: r.cols,
@@ -182,9 +200,9 @@ fn one_agrees<C: Core, P: Core>(rt: &impl Abort, crew: &mut C, plain: &mut P, r:
         rows: p.rows,
         cols: p.cols,
     };
-    let full = given(rt, crew.full(shape));
-    let plain_full = given(rt, plain.full(plain_shape));
-    same_pairs(rt, crew, plain, full, plain_full);
+    let full = crew.full(shape);
+    let plain_full = plain.full(plain_shape);
+    same_answers(rt, crew, plain, full, plain_full);
 }
 
 /// Asserts that both keepers answer the composition alike.
@@ -198,9 +216,9 @@ fn product_agrees<C: Core, P: Core>(rt: &impl Abort, crew: &mut C, plain: &mut P
     ensures keeps { Keeps (C.worker crew.old) (C.worker crew.new) }
     ensures plain_keeps { Keeps (P.worker plain.old) (P.worker plain.new) }
 {
-    let product = given(rt, crew.compose(a.crew, b.crew));
-    let plain_product = given(rt, plain.compose(a.plain, b.plain));
-    same_pairs(rt, crew, plain, product, plain_product);
+    let product = crew.compose(a.crew, b.crew);
+    let plain_product = plain.compose(a.plain, b.plain);
+    same_answers(rt, crew, plain, product, plain_product);
 }
 
 /// Asserts that both keepers have the same residuals and symmetric quotient of two relations of one type.
@@ -216,15 +234,15 @@ fn residuals_agree<C: Core, P: Core>(rt: &impl Abort, crew: &mut C, plain: &mut 
     ensures keeps { Keeps (C.worker crew.old) (C.worker crew.new) }
     ensures plain_keeps { Keeps (P.worker plain.old) (P.worker plain.new) }
 {
-    let under = given(rt, right_residual(crew, a.crew, b.crew));
-    let plain_under = given(rt, right_residual(plain, a.plain, b.plain));
-    same_pairs(rt, crew, plain, under, plain_under);
-    let over = given(rt, left_residual(crew, a.crew, b.crew));
-    let plain_over = given(rt, left_residual(plain, a.plain, b.plain));
-    same_pairs(rt, crew, plain, over, plain_over);
-    let quotient = given(rt, syq(crew, a.crew, b.crew));
-    let plain_quotient = given(rt, syq(plain, a.plain, b.plain));
-    same_pairs(rt, crew, plain, quotient, plain_quotient);
+    let under = right_residual(crew, a.crew, b.crew);
+    let plain_under = right_residual(plain, a.plain, b.plain);
+    same_answers(rt, crew, plain, under, plain_under);
+    let over = left_residual(crew, a.crew, b.crew);
+    let plain_over = left_residual(plain, a.plain, b.plain);
+    same_answers(rt, crew, plain, over, plain_over);
+    let quotient = syq(crew, a.crew, b.crew);
+    let plain_quotient = syq(plain, a.plain, b.plain);
+    same_answers(rt, crew, plain, quotient, plain_quotient);
 }
 
 /// Asserts that both keepers have the same closures of a relation, where it is square.
@@ -235,16 +253,55 @@ fn closures_agree<C: Core, P: Core>(rt: &impl Abort, crew: &mut C, plain: &mut P
     ensures plain_keeps { Keeps (P.worker plain.old) (P.worker plain.new) }
 {
     if r.rows == r.cols && p.rows == p.cols {
-        let walks = given(rt, trans(crew, r));
-        let plain_walks = given(rt, trans(plain, p));
-        same_pairs(rt, crew, plain, walks, plain_walks);
-        let reflexive = given(rt, refl(crew, r));
-        let plain_reflexive = given(rt, refl(plain, p));
-        same_pairs(rt, crew, plain, reflexive, plain_reflexive);
+        let walks = trans(crew, r);
+        let plain_walks = trans(plain, p);
+        same_answers(rt, crew, plain, walks, plain_walks);
+        let reflexive = refl(crew, r);
+        let plain_reflexive = refl(plain, p);
+        same_answers(rt, crew, plain, reflexive, plain_reflexive);
     }
 }
 
-/// Asserts that both keepers answer every operator on the relations of two numbers alike, and the calls made of several.
+/// Asserts that both keepers answer every operator on two relations of one type alike, and the calls made of several.
+fn twins_agree<C: Core, P: Core>(rt: &impl Abort, crew: &mut C, plain: &mut P, a: Twin, b: Twin)
+    requires left { Stands (C.worker crew.old) a.crew }
+    requires right { Stands (C.worker crew.old) b.crew }
+    requires plain_left { Stands (P.worker plain.old) a.plain }
+    requires plain_right { Stands (P.worker plain.old) b.plain }
+    requires rows { a.crew.rows ≡ b.crew.rows }
+    requires cols { a.crew.cols ≡ b.crew.cols }
+    requires plain_rows { a.plain.rows ≡ b.plain.rows }
+    requires plain_cols { a.plain.cols ≡ b.plain.cols }
+    ensures keeps { Keeps (C.worker crew.old) (C.worker crew.new) }
+    ensures plain_keeps { Keeps (P.worker plain.old) (P.worker plain.new) }
+{
+    pair_agrees(rt, crew, plain, a, b);
+    residuals_agree(rt, crew, plain, a, b);
+    closures_agree(rt, crew, plain, a.crew, a.plain);
+    turned_agree(rt, crew, plain, a, b);
+}
+
+/// Asserts that both keepers turn a relation alike, and compose another with it.
+fn turned_agree<C: Core, P: Core>(rt: &impl Abort, crew: &mut C, plain: &mut P, a: Twin, b: Twin)
+    requires left { Stands (C.worker crew.old) a.crew }
+    requires right { Stands (C.worker crew.old) b.crew }
+    requires plain_left { Stands (P.worker plain.old) a.plain }
+    requires plain_right { Stands (P.worker plain.old) b.plain }
+    requires cols { a.crew.cols ≡ b.crew.cols }
+    requires plain_cols { a.plain.cols ≡ b.plain.cols }
+    ensures keeps { Keeps (C.worker crew.old) (C.worker crew.new) }
+    ensures plain_keeps { Keeps (P.worker plain.old) (P.worker plain.new) }
+{
+    let turned = given(rt, crew.transpose(b.crew));
+    let plain_turned = given(rt, plain.transpose(b.plain));
+    let second = Twin {
+        crew: turned,
+        plain: plain_turned,
+    };
+    product_agrees(rt, crew, plain, a, second);
+}
+
+/// Asserts that both keepers answer every operator on the relations of two numbers alike.
 fn numbers_agree<C: Core, P: Core>(
     rt: &impl Abort,
     crew: &mut C,
@@ -255,25 +312,14 @@ fn numbers_agree<C: Core, P: Core>(
 )
     requires row { shape.rows ≤ 2 }
     requires col { shape.cols ≤ 2 }
-    ensures keeps { Keeps (C.worker crew.old) (C.worker crew.new) }
-    ensures plain_keeps { Keeps (P.worker plain.old) (P.worker plain.new) }
 {
     let r = of_number(rt, crew, shape, left);
     let s = of_number(rt, crew, shape, right);
     let p = of_number(rt, plain, shape, left);
     let q = of_number(rt, plain, shape, right);
     let first = Twin { crew: r, plain: p };
-    pair_agrees(rt, crew, plain, first, Twin { crew: s, plain: q });
-    residuals_agree(rt, crew, plain, first, Twin { crew: s, plain: q });
-    closures_agree(rt, crew, plain, r, p);
+    twins_agree(rt, crew, plain, first, Twin { crew: s, plain: q });
     one_agrees(rt, crew, plain, r, p);
-    let turned = given(rt, crew.transpose(s));
-    let plain_turned = given(rt, plain.transpose(q));
-    let second = Twin {
-        crew: turned,
-        plain: plain_turned,
-    };
-    product_agrees(rt, crew, plain, first, second);
 }
 
 /// Asserts the same of two pseudo-random relations.
@@ -288,25 +334,14 @@ fn random_agree<C: Core, P: Core>(
     requires col { shape.cols ≤ 40 }
     requires some_row { 0 < shape.rows }
     requires some_col { 0 < shape.cols }
-    ensures keeps { Keeps (C.worker crew.old) (C.worker crew.new) }
-    ensures plain_keeps { Keeps (P.worker plain.old) (P.worker plain.new) }
 {
     let r = plain_of(rt, crew, shape, count, 1);
     let s = plain_of(rt, crew, shape, count, 2);
     let p = plain_of(rt, plain, shape, count, 1);
     let q = plain_of(rt, plain, shape, count, 2);
     let first = Twin { crew: r, plain: p };
-    pair_agrees(rt, crew, plain, first, Twin { crew: s, plain: q });
-    residuals_agree(rt, crew, plain, first, Twin { crew: s, plain: q });
-    closures_agree(rt, crew, plain, r, p);
+    twins_agree(rt, crew, plain, first, Twin { crew: s, plain: q });
     one_agrees(rt, crew, plain, r, p);
-    let turned = given(rt, crew.transpose(s));
-    let plain_turned = given(rt, plain.transpose(q));
-    let second = Twin {
-        crew: turned,
-        plain: plain_turned,
-    };
-    product_agrees(rt, crew, plain, first, second);
 }
 
 /// Asserts that both keepers answer the composition of two pseudo-random relations alike.
@@ -349,8 +384,8 @@ fn full_is_a_rectangle<Q: Quads>(rt: &impl Abort, quads: &mut Q, shape: Shape)
     let Ok(rect) = quads.rect(root.height, shape.rows, shape.cols) else {
         panic!(rt; "refused")
     };
-    assert_eq!(rt; rect, root);
-    assert_eq!(rt; quads.rel(shape, rect), full);
+    assert!(rt; rect == root);
+    assert!(rt; quads.rel(shape, rect) == full);
 }
 
 /// Asserts that a quad is the corner of its quarters, and each block down its north-west quarters that of its bits.
@@ -364,17 +399,43 @@ fn goes_by_quarters<Q: Quads>(rt: &impl Abort, quads: &mut Q, q: Quad)
         let Ok(block) = quads.block(bits) else {
             panic!(rt; "refused")
         };
-        assert_eq!(rt; block, q);
+        assert!(rt; block == q);
     } else {
         let (nw, ne, sw, se) = quads.quarters(q);
         let Ok(corner) = quads.corner(nw, ne, sw, se) else {
             panic!(rt; "refused")
         };
-        assert_eq!(rt; corner, q);
+        assert!(rt; corner == q);
         goes_by_quarters(rt, quads, nw);
         goes_by_quarters(rt, quads, ne);
         goes_by_quarters(rt, quads, sw);
         goes_by_quarters(rt, quads, se);
+    }
+}
+
+/// All shapes up to 2 by 2, and how many relations each has.
+const SMALL: &[(u32, u32, u32)] = &[
+    (0, 0, 1),
+    (0, 1, 1),
+    (1, 0, 1),
+    (0, 2, 1),
+    (2, 0, 1),
+    (1, 1, 2),
+    (1, 2, 4),
+    (2, 1, 4),
+    (2, 2, 16),
+];
+
+/// Asserts that both keepers answer every operator on all relations up to 2 by 2 alike.
+fn small_relations_agree<C: Core, P: Core>(rt: &impl Abort, crew: &mut C, plain: &mut P) {
+    'shapes: for &(rows, cols, count) in SMALL {
+        assert!(rt; rows <= 2 && cols <= 2);
+        let shape = Shape { rows, cols };
+        'lefts: for left in 0..count {
+            'rights: for right in 0..count {
+                numbers_agree(rt, crew, plain, shape, left, right);
+            }
+        }
     }
 }
 
@@ -383,23 +444,16 @@ fn a_crew_answers_as_plain_relations_on_all_relations_up_to_2_by_2(rt: HostRunti
     let (table, seat) = table(&rt, rt.alloc());
     let mut crew = Crew::new(&rt, &table, seat, 1, &OpenGate);
     let mut plain = Plain::new(rt.alloc());
-    'shapes: for (rows, cols, count) in [
-        (0, 0, 1),
-        (0, 1, 1),
-        (1, 0, 1),
-        (0, 2, 1),
-        (2, 0, 1),
-        (1, 1, 2),
-        (1, 2, 4),
-        (2, 1, 4),
-        (2, 2, 16),
-    ] {
-        'lefts: for left in 0..count {
-            'rights: for right in 0..count {
-                let shape = Shape { rows, cols };
-                numbers_agree(&rt, &mut crew, &mut plain, shape, left, right);
-            }
-        }
+    small_relations_agree(&rt, &mut crew, &mut plain);
+}
+
+/// Asserts that both keepers answer every operator on pseudo-random relations alike.
+fn random_relations_agree<C: Core, P: Core>(rt: &impl Abort, crew: &mut C, plain: &mut P) {
+    'shapes: for (rows, cols) in [(40, 40), (1, 40), (40, 1), (17, 33), (3, 40), (9, 8)] {
+        random_agree(rt, crew, plain, Shape { rows, cols }, 60);
+    }
+    'products: for (rows, middle, cols) in [(3, 3, 40), (40, 3, 3), (3, 40, 3), (40, 17, 9)] {
+        random_product_agrees(rt, crew, plain, rows, middle, cols, 60);
     }
 }
 
@@ -408,12 +462,18 @@ fn a_crew_answers_as_plain_relations_on_pseudo_random_ones(rt: HostRuntime) {
     let (table, seat) = table(&rt, rt.alloc());
     let mut crew = Crew::new(&rt, &table, seat, 8, &OpenGate);
     let mut plain = Plain::new(rt.alloc());
-    'shapes: for (rows, cols) in [(40, 40), (1, 40), (40, 1), (17, 33), (3, 40), (9, 8)] {
-        random_agree(&rt, &mut crew, &mut plain, Shape { rows, cols }, 60);
-    }
-    'products: for (rows, middle, cols) in [(3, 3, 40), (40, 3, 3), (3, 40, 3), (40, 17, 9)] {
-        random_product_agrees(&rt, &mut crew, &mut plain, rows, middle, cols, 60);
-    }
+    random_relations_agree(&rt, &mut crew, &mut plain);
+}
+
+/// Takes quads of two relations apart, and puts them together.
+fn takes_apart<Q: Quads>(rt: &impl Abort, quads: &mut Q)
+    ensures { Keeps (Q.worker quads.old) (Q.worker quads.new) }
+{
+    let shape = Shape { rows: 40, cols: 33 };
+    full_is_a_rectangle(rt, quads, shape);
+    let r = plain_of(rt, quads, shape, 90, 5);
+    let root = quads.root(r);
+    goes_by_quarters(rt, quads, root);
 }
 
 /// Works with a crew on the seat of a table, and gives the seat back.
@@ -422,11 +482,7 @@ fn worked<R: Threads + Abort + Sync>(rt: &R, table: &PairTable, seat: Seat) -> S
     ensures of { IsOf result table.now }
 {
     let mut crew = Crew::new(rt, table, seat, 1, &OpenGate);
-    let shape = Shape { rows: 40, cols: 33 };
-    full_is_a_rectangle(rt, &mut crew, shape);
-    let r = plain_of(rt, &mut crew, shape, 90, 5);
-    let root = crew.root(r);
-    goes_by_quarters(rt, &mut crew, root);
+    takes_apart(rt, &mut crew);
     crew.into_seat()
 }
 
