@@ -2,6 +2,8 @@ use Rattle.std.proofs.Common.{rules, ◌≡◌, ◌≢◌, ◌<◌, ◌+◌, ◌
 use Rattle.rel_domains.proofs.Places.{cells_step}
 use Rattle.rel_domains.proofs.Fewness.{room_of_parts}
 use Rattle.rel_domains.proofs.Quartering.{four_of, spans, corner_given, leaf_given}
+use Rattle.rel_model.proofs.Workers.{keeps_trans}
+use Rattle.rel_domains.proofs.Causes.{done-cause}
 use Rattle.rel_domains.proofs.build.+build.Goals as goal
 
 pub returns-then-depth-eq0-clause-value : goal.returns-then-depth-eq0-clause-value
@@ -77,3 +79,21 @@ returns-clause-few g t c =
     let more : 0 < length c.args.places.now = search rules in
     let r = room_of_parts c.args.places.now c.cut_at.result.0.now c.cut_at.result.1.now c.cut_at-2.result.0.now c.cut_at-2.result.1.now c.cut_at-3.result.0.now c.cut_at-3.result.1.now c.args.depth c.cut_at.ensures.parts c.cut_at-2.ensures.parts c.cut_at-3.ensures.parts more c.if-depth-eq0.false in
     omega (arith, r, c.in_ok-nw.ensures.few, c.in_ok-ne.ensures.few, c.in_ok-sw.ensures.few, c.in_ok-se.ensures.few, c.in_ok-corner.ensures.room)
+
+pub returns-in_err-ne-clause-keeps : goal.returns-in_err-ne-clause-keeps
+returns-in_err-ne-clause-keeps g t c = keeps_trans _ _ _ c.in_ok-nw.ensures.keeps c.in_err-ne.ensures.keeps
+
+pub returns-in_err-sw-clause-keeps : goal.returns-in_err-sw-clause-keeps
+returns-in_err-sw-clause-keeps g t c = keeps_trans _ _ _ c.in_ok-nw.ensures.keeps (keeps_trans _ _ _ c.in_ok-ne.ensures.keeps c.in_err-sw.ensures.keeps)
+
+pub returns-in_err-se-clause-keeps : goal.returns-in_err-se-clause-keeps
+returns-in_err-se-clause-keeps g t c = keeps_trans _ _ _ c.in_ok-nw.ensures.keeps (keeps_trans _ _ _ c.in_ok-ne.ensures.keeps (keeps_trans _ _ _ c.in_ok-sw.ensures.keeps c.in_err-se.ensures.keeps))
+
+pub returns-in_err-corner-clause-keeps : goal.returns-in_err-corner-clause-keeps
+returns-in_err-corner-clause-keeps g t c = keeps_trans _ _ _ c.in_ok-nw.ensures.keeps (keeps_trans _ _ _ c.in_ok-ne.ensures.keeps (keeps_trans _ _ _ c.in_ok-sw.ensures.keeps (keeps_trans _ _ _ c.in_ok-se.ensures.keeps c.in_err-corner.ensures.keeps)))
+
+pub returns-clause-keeps : goal.returns-clause-keeps
+returns-clause-keeps g t c = keeps_trans _ _ _ c.in_ok-nw.ensures.keeps (keeps_trans _ _ _ c.in_ok-ne.ensures.keeps (keeps_trans _ _ _ c.in_ok-sw.ensures.keeps (keeps_trans _ _ _ c.in_ok-se.ensures.keeps c.in_ok-corner.ensures.keeps)))
+
+pub returns-clause-cause : goal.returns-clause-cause
+returns-clause-cause g t c = done-cause _ _ _ c.in_ok-corner.corner (c.in_ok-corner.ensures.cause.done ∙ c.in_ok-se.ensures.cause.done ∙ c.in_ok-sw.ensures.cause.done ∙ c.in_ok-ne.ensures.cause.done ∙ c.in_ok-nw.ensures.cause.done)

@@ -3,7 +3,8 @@ use Rattle.rel_model.specs.Choice.{count_below}
 use Rattle.rel_model.specs.Worker.{quad_set}
 use Rattle.rel_domains.specs.Ranks.{first_column}
 use Rattle.rel_domains.proofs.Places.{side_step}
-use Rattle.rel_model.proofs.Workers.{keeps_itself}
+use Rattle.rel_model.proofs.Workers.{keeps_itself, keeps_trans}
+use Rattle.rel_domains.proofs.Causes.{done-cause}
 use Rattle.rel_domains.proofs.Halves.{halves_first, halves_later, ranks_given, ranks_again, one_quad}
 use Rattle.rel_domains.proofs.Ranking.{ranked-none}
 use Rattle.rel_domains.proofs.vector.+ranks.Goals as goal
@@ -91,3 +92,33 @@ returns-clause-value g t c =
     ranks_given _ _ _ _ _ _ _ _ g.Q.Core.least c.args.depth c.args.many c.args.row c.args.before c.side_of-half.result c.elements-above.result c.args.vector c.quarters.result _ _ _ _ _ c.if-depth-eq0.false c.requires.height
     c.side_of-half.ensures c.quarters.ensures.quarters c.elements-above.ensures.count p2 c.in_ok-nw.ensures.keeps c.in_ok-nw.ensures.value c.in_ok-ne.ensures.keeps c.in_ok-ne.ensures.value c.in_ok-sw.ensures.keeps c.in_ok-sw.ensures.value
     c.in_ok-se.ensures.keeps c.in_ok-se.ensures.value c.in_ok-corner.ensures.value
+
+pub returns-in_err-nw-clause-keeps : goal.returns-in_err-nw-clause-keeps
+returns-in_err-nw-clause-keeps g t c = keeps_trans _ _ _ c.quarters.ensures.keeps (keeps_trans _ _ _ c.elements-above.ensures.keeps c.in_err-nw.ensures.keeps)
+
+pub returns-in_err-ne-clause-keeps : goal.returns-in_err-ne-clause-keeps
+returns-in_err-ne-clause-keeps g t c = keeps_trans _ _ _ c.quarters.ensures.keeps (keeps_trans _ _ _ c.elements-above.ensures.keeps (keeps_trans _ _ _ c.in_ok-nw.ensures.keeps c.in_err-ne.ensures.keeps))
+
+pub returns-in_err-sw-clause-keeps : goal.returns-in_err-sw-clause-keeps
+returns-in_err-sw-clause-keeps g t c = keeps_trans _ _ _ c.quarters.ensures.keeps (keeps_trans _ _ _ c.elements-above.ensures.keeps (keeps_trans _ _ _ c.in_ok-nw.ensures.keeps (keeps_trans _ _ _ c.in_ok-ne.ensures.keeps c.in_err-sw.ensures.keeps)))
+
+pub returns-in_err-full-clause-keeps : goal.returns-in_err-full-clause-keeps
+returns-in_err-full-clause-keeps g t c = keeps_trans _ _ _ c.quarters.ensures.keeps (keeps_trans _ _ _ c.elements-above.ensures.keeps (keeps_trans _ _ _ c.in_ok-nw.ensures.keeps (keeps_trans _ _ _ c.in_ok-ne.ensures.keeps (keeps_trans _ _ _ c.in_ok-sw.ensures.keeps c.in_err-full.ensures.keeps))))
+
+pub returns-then-above-half-clause-keeps : goal.returns-then-above-half-clause-keeps
+returns-then-above-half-clause-keeps g t c = keeps_trans _ _ _ c.quarters.ensures.keeps (keeps_trans _ _ _ c.elements-above.ensures.keeps (keeps_trans _ _ _ c.in_ok-nw.ensures.keeps (keeps_trans _ _ _ c.in_ok-ne.ensures.keeps (keeps_trans _ _ _ c.in_ok-sw.ensures.keeps c.in_ok-full.ensures.keeps))))
+
+pub returns-in_err-se-clause-keeps : goal.returns-in_err-se-clause-keeps
+returns-in_err-se-clause-keeps g t c = keeps_trans _ _ _ c.quarters.ensures.keeps (keeps_trans _ _ _ c.elements-above.ensures.keeps (keeps_trans _ _ _ c.in_ok-nw.ensures.keeps (keeps_trans _ _ _ c.in_ok-ne.ensures.keeps (keeps_trans _ _ _ c.in_ok-sw.ensures.keeps c.in_err-se.ensures.keeps))))
+
+pub returns-in_err-corner-clause-keeps : goal.returns-in_err-corner-clause-keeps
+returns-in_err-corner-clause-keeps g t c = keeps_trans _ _ _ c.quarters.ensures.keeps (keeps_trans _ _ _ c.elements-above.ensures.keeps (keeps_trans _ _ _ c.in_ok-nw.ensures.keeps (keeps_trans _ _ _ c.in_ok-ne.ensures.keeps (keeps_trans _ _ _ c.in_ok-sw.ensures.keeps (keeps_trans _ _ _ c.in_ok-se.ensures.keeps c.in_err-corner.ensures.keeps)))))
+
+pub returns-clause-keeps : goal.returns-clause-keeps
+returns-clause-keeps g t c = keeps_trans _ _ _ c.quarters.ensures.keeps (keeps_trans _ _ _ c.elements-above.ensures.keeps (keeps_trans _ _ _ c.in_ok-nw.ensures.keeps (keeps_trans _ _ _ c.in_ok-ne.ensures.keeps (keeps_trans _ _ _ c.in_ok-sw.ensures.keeps (keeps_trans _ _ _ c.in_ok-se.ensures.keeps c.in_ok-corner.ensures.keeps)))))
+
+pub returns-then-above-half-clause-cause : goal.returns-then-above-half-clause-cause
+returns-then-above-half-clause-cause g t c = done-cause _ _ _ c.in_ok-full.full (c.in_ok-full.ensures.cause.done ∙ c.in_ok-sw.ensures.cause.done ∙ c.in_ok-ne.ensures.cause.done ∙ c.in_ok-nw.ensures.cause.done ∙ c.elements-above.ensures.misses ∙ c.quarters.ensures.misses)
+
+pub returns-clause-cause : goal.returns-clause-cause
+returns-clause-cause g t c = done-cause _ _ _ c.in_ok-corner.corner (c.in_ok-corner.ensures.cause.done ∙ c.in_ok-se.ensures.cause.done ∙ c.in_ok-sw.ensures.cause.done ∙ c.in_ok-ne.ensures.cause.done ∙ c.in_ok-nw.ensures.cause.done ∙ c.elements-above.ensures.misses ∙ c.quarters.ensures.misses)
