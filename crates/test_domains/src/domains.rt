@@ -4,9 +4,9 @@
 ghost use Rattle.std.specs.Prelude.{◌≤◌, IfOk};
 ghost use Rattle.rel_model.specs.Worker.{Stands, Keeps};
 
-use crate::made::{is_given, table};
+use crate::made::is_given;
 use crate::slow::{injection, membership, projections, size_of, stepped};
-use fork_quads::{Crew, OpenGate};
+use crate::trial::{Trial, on_a_crew};
 use rel_domains::{epsi, first, inl, inr, second};
 use rel_model::quads_trait::Quads;
 use std::alloc::Global;
@@ -29,78 +29,80 @@ fn are_counted_out<Q: Quads>(rt: &impl Abort, alloc: Global, q: &mut Q, x: u32, 
     is_given(rt, q, given, y, x + y, &injection(rt, alloc, y, x));
 }
 
-#[test]
-fn projections_and_injections_of_all_sizes_up_to_4_are_those_counted_out(rt: HostRuntime) {
-    let alloc = rt.alloc();
-    let (table, seat) = table(&rt, alloc);
-    let gate = OpenGate;
-    let mut crew = Crew::new(&rt, &table, seat, 1, &gate);
+/// Asserts what the calls on all sizes up to 4 give.
+pub(crate) fn small_sizes<Q: Quads>(rt: &impl Abort, alloc: Global, q: &mut Q) {
     'firsts: for x in 0..5 {
         'seconds: for y in 0..5 {
-            are_counted_out(&rt, alloc, &mut crew, x, y);
+            are_counted_out(rt, alloc, q, x, y);
         }
     }
 }
 
 #[test]
-fn projections_and_injections_of_larger_sizes_are_those_counted_out(rt: HostRuntime) {
-    let alloc = rt.alloc();
-    let (table, seat) = table(&rt, alloc);
-    let gate = OpenGate;
-    let mut crew = Crew::new(&rt, &table, seat, 1, &gate);
-    'sizes: for (x, y) in [
-        (0, 40),
-        (40, 0),
-        (1, 40),
-        (40, 1),
-        (7, 8),
-        (8, 7),
-        (8, 8),
-        (3, 16),
-        (16, 3),
-        (5, 32),
-        (32, 5),
-        (13, 3),
-        (3, 13),
-    ] {
-        assert!(&rt; x <= 40 && y <= 40);
-        are_counted_out(&rt, alloc, &mut crew, x, y);
+fn projections_and_injections_of_all_sizes_up_to_4_are_those_counted_out(rt: HostRuntime) {
+    on_a_crew(&rt, rt.alloc(), Trial::SmallSizes);
+}
+
+/// Sizes of which one is more than 4.
+const LARGER: &[(u32, u32)] = &[
+    (0, 40),
+    (40, 0),
+    (1, 40),
+    (40, 1),
+    (7, 8),
+    (8, 7),
+    (8, 8),
+    (3, 16),
+    (16, 3),
+    (5, 32),
+    (32, 5),
+    (13, 3),
+    (3, 13),
+];
+
+/// Asserts what the calls on listed sizes up to 40 give, and on some that a generator picks.
+pub(crate) fn larger_sizes<Q: Quads>(rt: &impl Abort, alloc: Global, q: &mut Q) {
+    'sizes: for &(x, y) in LARGER {
+        assert!(rt; x <= 40 && y <= 40);
+        are_counted_out(rt, alloc, q, x, y);
     }
     let mut state = 1;
     'rounds: for _ in 0..8 {
         state = stepped(state);
         let x = size_of(state);
         state = stepped(state);
-        are_counted_out(&rt, alloc, &mut crew, x, size_of(state));
+        are_counted_out(rt, alloc, q, x, size_of(state));
+    }
+}
+
+#[test]
+fn projections_and_injections_of_larger_sizes_are_those_counted_out(rt: HostRuntime) {
+    on_a_crew(&rt, rt.alloc(), Trial::LargerSizes);
+}
+
+/// Numbers of elements, and of their subsets.
+const SUBSETS: &[(u32, u32)] = &[
+    (0, 1),
+    (1, 2),
+    (2, 4),
+    (3, 8),
+    (4, 16),
+    (5, 32),
+    (8, 256),
+    (9, 512),
+    (12, 4096),
+];
+
+/// Asserts that subsets of up to 12 elements have the elements of their bits.
+pub(crate) fn subsets<Q: Quads>(rt: &impl Abort, alloc: Global, q: &mut Q) {
+    'sizes: for &(x, subsets) in SUBSETS {
+        assert!(rt; x <= 40);
+        let given = epsi(q, x);
+        is_given(rt, q, given, x, subsets, &membership(rt, alloc, x, subsets));
     }
 }
 
 #[test]
 fn a_subset_has_the_elements_of_its_bits(rt: HostRuntime) {
-    let alloc = rt.alloc();
-    let (table, seat) = table(&rt, alloc);
-    let gate = OpenGate;
-    let mut crew = Crew::new(&rt, &table, seat, 1, &gate);
-    'sizes: for (x, subsets) in [
-        (0, 1),
-        (1, 2),
-        (2, 4),
-        (3, 8),
-        (4, 16),
-        (5, 32),
-        (8, 256),
-        (9, 512),
-        (12, 4096),
-    ] {
-        assert!(&rt; x <= 40);
-        let given = epsi(&mut crew, x);
-        is_given(
-            &rt,
-            &mut crew,
-            given,
-            x,
-            subsets,
-            &membership(&rt, alloc, x, subsets),
-        );
-    }
+    on_a_crew(&rt, rt.alloc(), Trial::Subsets);
 }

@@ -4,8 +4,8 @@
 ghost use Rattle.std.specs.Prelude.{IfOk};
 ghost use Rattle.rel_model.specs.Worker.{Stands, Keeps};
 
-use crate::made::{is_given, is_made, of_pairs, table};
-use fork_quads::{Crew, OpenGate};
+use crate::made::{is_given, is_made, of_pairs};
+use crate::trial::{Trial, on_a_crew};
 use rel_domains::{epsi, first, fork, inj, inl, inr, second};
 use rel_model::core_trait::Core;
 use rel_model::faults::DomainError;
@@ -29,50 +29,53 @@ const MEMBERS: &[(u32, u32)] = &[
     (2, 7),
 ];
 
+/// Asserts which subsets three elements are members of.
+pub(crate) fn members_of_three<Q: Quads>(rt: &impl Abort, q: &mut Q) {
+    let given = epsi(q, 3);
+    is_given(rt, q, given, 3, 8, MEMBERS);
+}
+
 #[test]
 fn three_elements_are_members_of_these_of_eight_subsets(rt: HostRuntime) {
-    let (table, seat) = table(&rt, rt.alloc());
-    let gate = OpenGate;
-    let mut crew = Crew::new(&rt, &table, seat, 1, &gate);
-    let given = epsi(&mut crew, 3);
-    is_given(&rt, &mut crew, given, 3, 8, MEMBERS);
+    on_a_crew(&rt, rt.alloc(), Trial::MembersOfThree);
+}
+
+/// Asserts that both projections of products with an empty factor are empty.
+pub(crate) fn empty_products<Q: Quads>(rt: &impl Abort, q: &mut Q) {
+    let given = first(q, 2, 0);
+    is_given(rt, q, given, 0, 2, &[]);
+    let given = second(q, 0, 2);
+    is_given(rt, q, given, 0, 2, &[]);
 }
 
 #[test]
 fn the_projection_of_a_product_with_an_empty_factor_is_empty(rt: HostRuntime) {
-    let (table, seat) = table(&rt, rt.alloc());
-    let gate = OpenGate;
-    let mut crew = Crew::new(&rt, &table, seat, 1, &gate);
-    let given = first(&mut crew, 2, 0);
-    is_given(&rt, &mut crew, given, 0, 2, &[]);
-    let given = second(&mut crew, 0, 2);
-    is_given(&rt, &mut crew, given, 0, 2, &[]);
+    on_a_crew(&rt, rt.alloc(), Trial::EmptyProducts);
+}
+
+/// Asserts how two elements of four are numbered.
+pub(crate) fn two_of_four<Q: Quads>(rt: &impl Abort, q: &mut Q) {
+    let v = of_pairs(rt, q, Shape { rows: 4, cols: 1 }, &[(1, 0), (3, 0)]);
+    let given = inj(q, v);
+    is_made(rt, q, given, 2, 4, &[(0, 1), (1, 3)]);
 }
 
 #[test]
 fn the_elements_1_and_3_of_4_are_numbered_0_and_1(rt: HostRuntime) {
-    let (table, seat) = table(&rt, rt.alloc());
-    let gate = OpenGate;
-    let mut crew = Crew::new(&rt, &table, seat, 1, &gate);
-    let v = of_pairs(
-        &rt,
-        &mut crew,
-        Shape { rows: 4, cols: 1 },
-        &[(1, 0), (3, 0)],
-    );
-    let given = inj(&mut crew, v);
-    is_made(&rt, &mut crew, given, 2, 4, &[(0, 1), (1, 3)]);
+    on_a_crew(&rt, rt.alloc(), Trial::TwoOfFour);
+}
+
+/// Asserts how two elements and one are injected into their sum.
+pub(crate) fn sum_of_three<Q: Quads>(rt: &impl Abort, q: &mut Q) {
+    let given = inl(q, 2, 1);
+    is_given(rt, q, given, 2, 3, &[(0, 0), (1, 1)]);
+    let given = inr(q, 2, 1);
+    is_given(rt, q, given, 1, 3, &[(0, 2)]);
 }
 
 #[test]
 fn two_and_one_elements_are_injected_into_their_sum_of_three(rt: HostRuntime) {
-    let (table, seat) = table(&rt, rt.alloc());
-    let gate = OpenGate;
-    let mut crew = Crew::new(&rt, &table, seat, 1, &gate);
-    let given = inl(&mut crew, 2, 1);
-    is_given(&rt, &mut crew, given, 2, 3, &[(0, 0), (1, 1)]);
-    let given = inr(&mut crew, 2, 1);
-    is_given(&rt, &mut crew, given, 1, 3, &[(0, 2)]);
+    on_a_crew(&rt, rt.alloc(), Trial::SumOfThree);
 }
 
 /// Asserts that a size is over the limit.
@@ -88,30 +91,26 @@ fn is_refused(rt: &impl Abort, given: Result<Rel, DomainError>, size: u64) {
     }
 }
 
+/// Asserts that products of the greatest sizes are refused.
+pub(crate) fn greatest_products<Q: Quads>(rt: &impl Abort, q: &mut Q) {
+    is_refused(rt, first(q, 16_777_216, 16_777_216), 281_474_976_710_656);
+    is_refused(rt, second(q, 16_777_216, 16_777_216), 281_474_976_710_656);
+}
+
 #[test]
 fn a_product_of_the_greatest_sizes_is_refused_with_its_size(rt: HostRuntime) {
-    let (table, seat) = table(&rt, rt.alloc());
-    let gate = OpenGate;
-    let mut crew = Crew::new(&rt, &table, seat, 1, &gate);
-    is_refused(
-        &rt,
-        first(&mut crew, 16_777_216, 16_777_216),
-        281_474_976_710_656,
-    );
-    is_refused(
-        &rt,
-        second(&mut crew, 16_777_216, 16_777_216),
-        281_474_976_710_656,
-    );
+    on_a_crew(&rt, rt.alloc(), Trial::GreatestProducts);
+}
+
+/// Asserts that subsets which no number counts are refused.
+pub(crate) fn subsets_without_number<Q: Quads>(rt: &impl Abort, q: &mut Q) {
+    is_refused(rt, epsi(q, 64), 18_446_744_073_709_551_615);
+    is_refused(rt, epsi(q, 16_777_216), 18_446_744_073_709_551_615);
 }
 
 #[test]
 fn subsets_without_number_are_refused_with_the_last_number(rt: HostRuntime) {
-    let (table, seat) = table(&rt, rt.alloc());
-    let gate = OpenGate;
-    let mut crew = Crew::new(&rt, &table, seat, 1, &gate);
-    is_refused(&rt, epsi(&mut crew, 64), 18_446_744_073_709_551_615);
-    is_refused(&rt, epsi(&mut crew, 16_777_216), 18_446_744_073_709_551_615);
+    on_a_crew(&rt, rt.alloc(), Trial::SubsetsWithoutNumber);
 }
 
 /// Asserts that a relation of these sizes was given, which has its last pair.
@@ -153,23 +152,27 @@ fn are_too_many<Q: Quads>(rt: &impl Abort, q: &mut Q) {
     is_refused(rt, fork(q, row, row), 16_785_409);
 }
 
+/// Asserts that sizes one over the limit are refused, and subsets and pairings of more.
+pub(crate) fn one_over_the_limit<Q: Quads>(rt: &impl Abort, q: &mut Q) {
+    are_refused(rt, q);
+    are_too_many(rt, q);
+}
+
 #[test]
 fn a_size_one_over_the_limit_is_refused(rt: HostRuntime) {
-    let (table, seat) = table(&rt, rt.alloc());
-    let gate = OpenGate;
-    let mut crew = Crew::new(&rt, &table, seat, 1, &gate);
-    are_refused(&rt, &mut crew);
-    are_too_many(&rt, &mut crew);
+    on_a_crew(&rt, rt.alloc(), Trial::OneOverTheLimit);
+}
+
+/// Asserts that sums at the limit are given.
+pub(crate) fn at_the_limit<Q: Quads>(rt: &impl Abort, q: &mut Q) {
+    let half = 8_388_608;
+    let given = inl(q, SIZE_LIMIT, 0);
+    has_its_last(rt, q, given, SIZE_LIMIT, SIZE_LIMIT);
+    let given = inr(q, half, half);
+    has_its_last(rt, q, given, half, SIZE_LIMIT);
 }
 
 #[test]
 fn a_size_at_the_limit_is_not_refused(rt: HostRuntime) {
-    let (table, seat) = table(&rt, rt.alloc());
-    let gate = OpenGate;
-    let mut crew = Crew::new(&rt, &table, seat, 1, &gate);
-    let half = 8_388_608;
-    let given = inl(&mut crew, SIZE_LIMIT, 0);
-    has_its_last(&rt, &mut crew, given, SIZE_LIMIT, SIZE_LIMIT);
-    let given = inr(&mut crew, half, half);
-    has_its_last(&rt, &mut crew, given, half, SIZE_LIMIT);
+    on_a_crew(&rt, rt.alloc(), Trial::AtTheLimit);
 }

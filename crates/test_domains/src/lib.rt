@@ -13,3 +13,5 @@ mod lists;
 mod made;
 #[cfg(test)]
 mod slow;
+#[cfg(test)]
+mod trial;

@@ -6,9 +6,9 @@ ghost use Rattle.rel_model.specs.Relation.{size_limit};
 ghost use Rattle.rel_model.specs.Listed.{AreWithin};
 ghost use Rattle.rel_model.specs.Worker.{Keeps};
 
-use crate::made::{is_given, is_made, of_pairs, table};
+use crate::made::{is_given, is_made, of_pairs};
 use crate::slow::{cells_of, in_order, numbered, pairing, picked, put, size_of, some_of, stepped};
-use fork_quads::{Crew, OpenGate};
+use crate::trial::{Trial, on_a_crew};
 use rel_domains::{fork, from_pairs, inj};
 use rel_model::Shape;
 use rel_model::quads_trait::Quads;
@@ -65,12 +65,8 @@ fn twice(rt: &impl Abort, alloc: Global, pairs: &[(u32, u32)]) -> Vec<(u32, u32)
     out
 }
 
-#[test]
-fn all_relations_of_sizes_up_to_3_are_made_of_their_lists(rt: HostRuntime) {
-    let alloc = rt.alloc();
-    let (table, seat) = table(&rt, alloc);
-    let gate = OpenGate;
-    let mut crew = Crew::new(&rt, &table, seat, 1, &gate);
+/// Asserts that all relations of sizes up to 3 are made of their lists.
+pub(crate) fn small_lists<Q: Quads>(rt: &impl Abort, alloc: Global, q: &mut Q) {
     'rows: for rows in 0..4 {
         'cols: for cols in 0..4 {
             'sets: for bits in 0..512 {
@@ -78,21 +74,22 @@ fn all_relations_of_sizes_up_to_3_are_made_of_their_lists(rt: HostRuntime) {
                     break;
                 }
                 let shape = Shape { rows, cols };
-                let pairs = cells_of(&rt, alloc, rows, cols, bits);
-                are_collected(&rt, alloc, &mut crew, shape, &pairs, &pairs);
-                let listed = twice(&rt, alloc, &pairs);
-                are_collected(&rt, alloc, &mut crew, shape, &listed, &pairs);
+                let pairs = cells_of(rt, alloc, rows, cols, bits);
+                are_collected(rt, alloc, q, shape, &pairs, &pairs);
+                let listed = twice(rt, alloc, &pairs);
+                are_collected(rt, alloc, q, shape, &listed, &pairs);
             }
         }
     }
 }
 
 #[test]
-fn relations_of_sizes_up_to_40_are_made_of_lists_in_any_order(rt: HostRuntime) {
-    let alloc = rt.alloc();
-    let (table, seat) = table(&rt, alloc);
-    let gate = OpenGate;
-    let mut crew = Crew::new(&rt, &table, seat, 1, &gate);
+fn all_relations_of_sizes_up_to_3_are_made_of_their_lists(rt: HostRuntime) {
+    on_a_crew(&rt, rt.alloc(), Trial::SmallLists);
+}
+
+/// Asserts that relations of sizes up to 40 are made of lists in the order of a generator.
+pub(crate) fn larger_lists<Q: Quads>(rt: &impl Abort, alloc: Global, q: &mut Q) {
     let mut state = 3;
     'rounds: for round in 0..40 {
         state = stepped(state);
@@ -100,11 +97,16 @@ fn relations_of_sizes_up_to_40_are_made_of_lists_in_any_order(rt: HostRuntime) {
         state = stepped(state);
         let cols = size_of(state);
         let count = if rows == 0 || cols == 0 { 0 } else { 7 * round };
-        let listed = picked(&rt, alloc, rows, cols, count, state);
-        let pairs = in_order(&rt, alloc, rows, cols, &listed);
+        let listed = picked(rt, alloc, rows, cols, count, state);
+        let pairs = in_order(rt, alloc, rows, cols, &listed);
         let shape = Shape { rows, cols };
-        are_collected(&rt, alloc, &mut crew, shape, &listed, &pairs);
+        are_collected(rt, alloc, q, shape, &listed, &pairs);
     }
+}
+
+#[test]
+fn relations_of_sizes_up_to_40_are_made_of_lists_in_any_order(rt: HostRuntime) {
+    on_a_crew(&rt, rt.alloc(), Trial::LargerLists);
 }
 
 /// Asserts that two relations of so many rows, listed by row and then by column, have the pairing of their lists.
@@ -161,50 +163,55 @@ fn are_all_paired<Q: Quads>(rt: &impl Abort, alloc: Global, q: &mut Q, rows: u32
     }
 }
 
-#[test]
-fn all_relations_of_sizes_up_to_2_are_paired_as_by_lists(rt: HostRuntime) {
-    let alloc = rt.alloc();
-    let (table, seat) = table(&rt, alloc);
-    let gate = OpenGate;
-    let mut crew = Crew::new(&rt, &table, seat, 1, &gate);
+/// Asserts that all relations of sizes up to 2 are paired as by lists.
+pub(crate) fn small_pairings<Q: Quads>(rt: &impl Abort, alloc: Global, q: &mut Q) {
     'rows: for rows in 0..3 {
         'lefts: for n in 0..3 {
             'rights: for k in 0..3 {
-                are_all_paired(&rt, alloc, &mut crew, rows, n, k);
+                are_all_paired(rt, alloc, q, rows, n, k);
             }
         }
     }
 }
 
 #[test]
-fn relations_of_sizes_up_to_40_are_paired_as_by_lists(rt: HostRuntime) {
-    let alloc = rt.alloc();
-    let (table, seat) = table(&rt, alloc);
-    let gate = OpenGate;
-    let mut crew = Crew::new(&rt, &table, seat, 1, &gate);
-    'sizes: for (rows, n, k) in [
-        (0, 2, 3),
-        (3, 0, 2),
-        (3, 2, 0),
-        (1, 1, 1),
-        (2, 2, 3),
-        (3, 3, 3),
-        (4, 3, 4),
-        (4, 4, 3),
-        (4, 4, 4),
-        (40, 3, 5),
-        (17, 9, 2),
-        (9, 40, 3),
-        (5, 3, 40),
-        (40, 8, 8),
-    ] {
-        assert!(&rt; rows <= 40 && n <= 40 && k <= 40);
+fn all_relations_of_sizes_up_to_2_are_paired_as_by_lists(rt: HostRuntime) {
+    on_a_crew(&rt, rt.alloc(), Trial::SmallPairings);
+}
+
+/// The rows of two relations, and the columns of each.
+const PAIRED: &[(u32, u32, u32)] = &[
+    (0, 2, 3),
+    (3, 0, 2),
+    (3, 2, 0),
+    (1, 1, 1),
+    (2, 2, 3),
+    (3, 3, 3),
+    (4, 3, 4),
+    (4, 4, 3),
+    (4, 4, 4),
+    (40, 3, 5),
+    (17, 9, 2),
+    (9, 40, 3),
+    (5, 3, 40),
+    (40, 8, 8),
+];
+
+/// Asserts that relations of sizes up to 40 are paired as by lists.
+pub(crate) fn larger_pairings<Q: Quads>(rt: &impl Abort, alloc: Global, q: &mut Q) {
+    'sizes: for &(rows, n, k) in PAIRED {
+        assert!(rt; rows <= 40 && n <= 40 && k <= 40);
         'choices: for (one_in, seed) in [(1, 1), (2, 2), (3, 3), (20, 4)] {
-            let left = some_of(&rt, alloc, rows, n, one_in, seed);
-            let right = some_of(&rt, alloc, rows, k, one_in, seed + 7);
-            are_paired(&rt, alloc, &mut crew, rows, (n, &left), (k, &right));
+            let left = some_of(rt, alloc, rows, n, one_in, seed);
+            let right = some_of(rt, alloc, rows, k, one_in, seed + 7);
+            are_paired(rt, alloc, q, rows, (n, &left), (k, &right));
         }
     }
+}
+
+#[test]
+fn relations_of_sizes_up_to_40_are_paired_as_by_lists(rt: HostRuntime) {
+    on_a_crew(&rt, rt.alloc(), Trial::LargerPairings);
 }
 
 /// Asserts that the elements of a vector are numbered in order.
@@ -225,33 +232,35 @@ fn is_numbered<Q: Quads>(
     is_made(rt, q, given, many, rows, &numbered(rt, alloc, vector));
 }
 
-#[test]
-fn elements_of_all_vectors_of_up_to_8_rows_are_numbered_in_order(rt: HostRuntime) {
-    let alloc = rt.alloc();
-    let (table, seat) = table(&rt, alloc);
-    let gate = OpenGate;
-    let mut crew = Crew::new(&rt, &table, seat, 1, &gate);
+/// Asserts that the elements of all vectors of up to 8 rows are numbered in order.
+pub(crate) fn small_vectors<Q: Quads>(rt: &impl Abort, alloc: Global, q: &mut Q) {
     'sizes: for rows in 0..9 {
         'sets: for bits in 0..256 {
             if bits >> rows == 0 {
-                let vector = cells_of(&rt, alloc, rows, 1, bits);
-                is_numbered(&rt, alloc, &mut crew, rows, &vector);
+                let vector = cells_of(rt, alloc, rows, 1, bits);
+                is_numbered(rt, alloc, q, rows, &vector);
             }
         }
     }
 }
 
 #[test]
-fn elements_of_longer_vectors_are_numbered_in_order(rt: HostRuntime) {
-    let alloc = rt.alloc();
-    let (table, seat) = table(&rt, alloc);
-    let gate = OpenGate;
-    let mut crew = Crew::new(&rt, &table, seat, 1, &gate);
+fn elements_of_all_vectors_of_up_to_8_rows_are_numbered_in_order(rt: HostRuntime) {
+    on_a_crew(&rt, rt.alloc(), Trial::SmallVectors);
+}
+
+/// Asserts that the elements of longer vectors are numbered in order.
+pub(crate) fn longer_vectors<Q: Quads>(rt: &impl Abort, alloc: Global, q: &mut Q) {
     'sizes: for rows in [9, 15, 16, 17, 24, 32, 33, 40, 64, 100, 200] {
-        assert!(&rt; rows <= 200);
+        assert!(rt; rows <= 200);
         'choices: for (one_in, seed) in [(1, 1), (2, 2), (2, 3), (5, 5), (99, 6)] {
-            let vector = some_of(&rt, alloc, rows, 1, one_in, seed);
-            is_numbered(&rt, alloc, &mut crew, rows, &vector);
+            let vector = some_of(rt, alloc, rows, 1, one_in, seed);
+            is_numbered(rt, alloc, q, rows, &vector);
         }
     }
+}
+
+#[test]
+fn elements_of_longer_vectors_are_numbered_in_order(rt: HostRuntime) {
+    on_a_crew(&rt, rt.alloc(), Trial::LongerVectors);
 }

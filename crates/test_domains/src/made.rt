@@ -1,28 +1,15 @@
-//! A table for tests, relations of pairs in it, and the comparison of a relation with pairs.
+//! Relations of pairs, and the comparison of a relation with pairs.
 #![tactic(auto, using(crate::proofs::Later::rel_later, crate::proofs::Later::given_stands, crate::proofs::Later::wanted_stands))]
 
-ghost use Rattle.std.specs.Prelude.{◌≡◌, ◌≤◌, IfOk};
-ghost use Rattle.rel_model.specs.Views.{IsOf};
+ghost use Rattle.std.specs.Prelude.{◌≡◌, ◌<◌, ◌≤◌, IfOk};
 ghost use Rattle.rel_model.specs.Relation.{size_limit};
 ghost use Rattle.rel_model.specs.Worker.{Stands, Keeps};
 
-use pair_table::{PairTable, Seat};
 use rel_model::core_trait::Core;
 use rel_model::faults::DomainError;
 use rel_model::quads_trait::Quads;
 use rel_model::{Lack, Rel, Shape};
-use std::alloc::Global;
 use std::process::Abort;
-
-/// A table of 2^20 node words, and its first seat.
-pub(crate) fn table(rt: &impl Abort, alloc: Global) -> (PairTable, Seat)
-    ensures { IsOf result.1 result.0 }
-{
-    match PairTable::make(alloc, 20, 1) {
-        Ok(made) => made,
-        Err(_) => panic!(rt; "no memory"),
-    }
-}
 
 /// The relation of some pairs, put in one after another.
 pub(crate) fn of_pairs<Q: Quads>(
@@ -54,6 +41,17 @@ pub(crate) fn of_pairs<Q: Quads>(
     r
 }
 
+/// Asserts that a relation has a pair exactly where it is wanted.
+fn has_as_wanted<Q: Quads>(rt: &impl Abort, q: &mut Q, r: Rel, i: u32, j: u32, wanted: bool)
+    requires standing { Stands (Q.worker q.old) r }
+    requires row { i < r.rows }
+    requires col { j < r.cols }
+    ensures { Keeps (Q.worker q.old) (Q.worker q.new) }
+{
+    let found = q.has(r, i, j);
+    assert!(rt; found == wanted, "{i} {j}: {wanted} is wanted");
+}
+
 /// Asserts that a relation has these sizes and exactly these pairs, which are listed by row and then by column.
 pub(crate) fn has_exactly<Q: Quads>(
     rt: &impl Abort,
@@ -70,12 +68,11 @@ pub(crate) fn has_exactly<Q: Quads>(
     let mut met = 0;
     'rows: for i in 0..r.rows {
         'cols: for j in 0..r.cols {
-            let found = q.has(r, i, j);
             if met < pairs.len() && pairs[met] == (i, j) {
-                assert!(rt; found, "{i} {j} is missing of {rows} x {cols}");
+                has_as_wanted(rt, q, r, i, j, true);
                 met += 1;
             } else {
-                assert!(rt; !found, "{i} {j} is too much of {rows} x {cols}");
+                has_as_wanted(rt, q, r, i, j, false);
             }
         }
     }
