@@ -14,3 +14,4 @@ pub mod Ranking
 pub mod Halves
 pub mod Functions
 pub mod Fewness
+pub mod Steps
