@@ -137,7 +137,7 @@ fn not_run(alloc: Global, number: u32, outcome: Outcome) -> Result<Transcript, N
     requires { outcome ≢ Done }
     ensures { IfOk result (λ t. TellsOne number outcome t × (outcome ≢ NO_MEMORY)) }
 {
-    match outcome {
+    match &outcome {
         Outcome::NoMemory => Err(NoMemory),
         _ => one_refusal(alloc, number, outcome),
     }
@@ -194,7 +194,7 @@ fn read_script(alloc: Global, bytes: &[u8]) -> Result<Checked, Outcome>
 fn told_fault(fault: ParseFault) -> Outcome
     ensures { TellsFault fault result }
 {
-    match fault {
+    match &fault {
         ParseFault::NoMemory => Outcome::NoMemory,
         _ => Outcome::Parse(fault),
     }
@@ -204,7 +204,7 @@ fn told_fault(fault: ParseFault) -> Outcome
 fn told_flaw(flaw: TypeFault) -> Outcome
     ensures { TellsFlaw flaw result }
 {
-    match flaw {
+    match &flaw {
         TypeFault::NoMemory => Outcome::NoMemory,
         _ => Outcome::Ill(flaw),
     }

@@ -38,7 +38,7 @@ pub(crate) fn refused(alloc: Global, by: By, outcome: Outcome) -> Result<Told, N
     requires { outcome ≢ Done }
     ensures { TellsRefusal by.session by.command outcome result }
 {
-    if let Outcome::NoMemory = outcome {
+    if let Outcome::NoMemory = &outcome {
         return Err(NoMemory);
     }
     let body = fault_text(alloc, &outcome)?;
