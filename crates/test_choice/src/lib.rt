@@ -5,3 +5,5 @@
 mod slow;
 #[cfg(test)]
 mod tests;
+#[cfg(test)]
+mod trial;
