@@ -9,3 +9,4 @@ pub mod RowHalves
 pub mod Doubles
 pub mod StepCells
 pub mod StepQuads
+pub mod Causes

@@ -86,3 +86,33 @@ counted_over-returns-clause-value g t c =
     let d = c.in_ok-south_west.ensures.value ∙ kept-count w1 w3 c.quarters.result.2 k3 q.sw in
     let e = c.in_ok-south_east.ensures.value ∙ kept-count w1 w4 c.quarters.result.3 k4 q.se in
     omega (arith, s, a, b, d, e)
+
+pub counted_over-returns-in_err-north_west-clause-keeps : goal.counted_over-returns-in_err-north_west-clause-keeps
+counted_over-returns-in_err-north_west-clause-keeps g t c = keeps_trans _ _ _ c.quarters.ensures.keeps c.in_err-north_west.ensures.keeps
+
+pub counted_over-returns-in_err-north_west-clause-misses : goal.counted_over-returns-in_err-north_west-clause-misses
+counted_over-returns-in_err-north_west-clause-misses g t c = c.in_err-north_west.ensures.misses ∙ c.quarters.ensures.misses
+
+pub counted_over-returns-in_err-north_east-clause-keeps : goal.counted_over-returns-in_err-north_east-clause-keeps
+counted_over-returns-in_err-north_east-clause-keeps g t c = keeps_trans _ _ _ c.quarters.ensures.keeps (keeps_trans _ _ _ c.in_ok-north_west.ensures.keeps c.in_err-north_east.ensures.keeps)
+
+pub counted_over-returns-in_err-north_east-clause-misses : goal.counted_over-returns-in_err-north_east-clause-misses
+counted_over-returns-in_err-north_east-clause-misses g t c = c.in_err-north_east.ensures.misses ∙ c.in_ok-north_west.ensures.misses ∙ c.quarters.ensures.misses
+
+pub counted_over-returns-in_err-south_west-clause-keeps : goal.counted_over-returns-in_err-south_west-clause-keeps
+counted_over-returns-in_err-south_west-clause-keeps g t c = keeps_trans _ _ _ c.quarters.ensures.keeps (keeps_trans _ _ _ c.in_ok-north_west.ensures.keeps (keeps_trans _ _ _ c.in_ok-north_east.ensures.keeps c.in_err-south_west.ensures.keeps))
+
+pub counted_over-returns-in_err-south_west-clause-misses : goal.counted_over-returns-in_err-south_west-clause-misses
+counted_over-returns-in_err-south_west-clause-misses g t c = c.in_err-south_west.ensures.misses ∙ c.in_ok-north_east.ensures.misses ∙ c.in_ok-north_west.ensures.misses ∙ c.quarters.ensures.misses
+
+pub counted_over-returns-in_err-south_east-clause-keeps : goal.counted_over-returns-in_err-south_east-clause-keeps
+counted_over-returns-in_err-south_east-clause-keeps g t c = keeps_trans _ _ _ c.quarters.ensures.keeps (keeps_trans _ _ _ c.in_ok-north_west.ensures.keeps (keeps_trans _ _ _ c.in_ok-north_east.ensures.keeps (keeps_trans _ _ _ c.in_ok-south_west.ensures.keeps c.in_err-south_east.ensures.keeps)))
+
+pub counted_over-returns-in_err-south_east-clause-misses : goal.counted_over-returns-in_err-south_east-clause-misses
+counted_over-returns-in_err-south_east-clause-misses g t c = c.in_err-south_east.ensures.misses ∙ c.in_ok-south_west.ensures.misses ∙ c.in_ok-north_east.ensures.misses ∙ c.in_ok-north_west.ensures.misses ∙ c.quarters.ensures.misses
+
+pub counted_over-returns-clause-keeps : goal.counted_over-returns-clause-keeps
+counted_over-returns-clause-keeps g t c = keeps_trans _ _ _ c.quarters.ensures.keeps (keeps_trans _ _ _ c.in_ok-north_west.ensures.keeps (keeps_trans _ _ _ c.in_ok-north_east.ensures.keeps (keeps_trans _ _ _ c.in_ok-south_west.ensures.keeps c.in_ok-south_east.ensures.keeps)))
+
+pub counted_over-returns-clause-misses : goal.counted_over-returns-clause-misses
+counted_over-returns-clause-misses g t c = c.in_ok-south_east.ensures.misses ∙ c.in_ok-south_west.ensures.misses ∙ c.in_ok-north_east.ensures.misses ∙ c.in_ok-north_west.ensures.misses ∙ c.quarters.ensures.misses

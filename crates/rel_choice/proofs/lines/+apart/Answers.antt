@@ -3,6 +3,7 @@ use Rattle.rel_choice.specs.Lines.{halves_apart}
 use Rattle.rel_choice.proofs.RowHalves.{leaf-side}
 use Rattle.rel_choice.proofs.Doubles.{none-apart_left, none-apart_right, apart-quarters, kept-halves}
 use Rattle.rel_choice.proofs.Standing.{keeps_quad}
+use Rattle.rel_model.proofs.Workers.{keeps_trans}
 use Rattle.rel_choice.proofs.lines.+apart.Goals as goal
 
 pub are_apart-returns-then-a-eq0-clause-value : goal.are_apart-returns-then-a-eq0-clause-value
@@ -44,3 +45,39 @@ are_apart_over-returns-clause-value g t c =
     let e = apart-quarters u v w c.args.a c.args.b fa fb p q c.quarters.ensures.keeps k c.requires.b_stands c.requires.one_height in
     let s = kept-halves w z (fa.2, fa.3) (fb.2, fb.3) c.are_halves_apart.ensures.keeps (keeps_quad v w fa.2 k p.sw) (keeps_quad v w fa.3 k p.se) q.sw q.se in
     c.are_halves_apart-2.ensures.value ∙ s ∙ sym (e ∙ ap (λ x. x && halves_apart w (fa.2, fa.3) (fb.2, fb.3)) (sym c.are_halves_apart.ensures.value ∙ c.if-not-are_halves_apart.false))
+
+pub are_apart_over-returns-then-not-are_halves_apart-clause-keeps : goal.are_apart_over-returns-then-not-are_halves_apart-clause-keeps
+are_apart_over-returns-then-not-are_halves_apart-clause-keeps g t c = keeps_trans _ _ _ c.quarters.ensures.keeps (keeps_trans _ _ _ c.quarters-2.ensures.keeps c.are_halves_apart.ensures.keeps)
+
+pub are_apart_over-returns-then-not-are_halves_apart-clause-misses : goal.are_apart_over-returns-then-not-are_halves_apart-clause-misses
+are_apart_over-returns-then-not-are_halves_apart-clause-misses g t c = c.are_halves_apart.ensures.misses ∙ c.quarters-2.ensures.misses ∙ c.quarters.ensures.misses
+
+pub are_apart_over-returns-clause-keeps : goal.are_apart_over-returns-clause-keeps
+are_apart_over-returns-clause-keeps g t c = keeps_trans _ _ _ c.quarters.ensures.keeps (keeps_trans _ _ _ c.quarters-2.ensures.keeps (keeps_trans _ _ _ c.are_halves_apart.ensures.keeps c.are_halves_apart-2.ensures.keeps))
+
+pub are_apart_over-returns-clause-misses : goal.are_apart_over-returns-clause-misses
+are_apart_over-returns-clause-misses g t c = c.are_halves_apart-2.ensures.misses ∙ c.are_halves_apart.ensures.misses ∙ c.quarters-2.ensures.misses ∙ c.quarters.ensures.misses
+
+pub are_halves_apart-returns-then-not-are_apart-clause-keeps : goal.are_halves_apart-returns-then-not-are_apart-clause-keeps
+are_halves_apart-returns-then-not-are_apart-clause-keeps g t c = c.are_apart.ensures.keeps
+
+pub are_halves_apart-returns-then-not-are_apart-clause-misses : goal.are_halves_apart-returns-then-not-are_apart-clause-misses
+are_halves_apart-returns-then-not-are_apart-clause-misses g t c = c.are_apart.ensures.misses
+
+pub are_halves_apart-returns-then-not-are_apart-2-clause-keeps : goal.are_halves_apart-returns-then-not-are_apart-2-clause-keeps
+are_halves_apart-returns-then-not-are_apart-2-clause-keeps g t c = keeps_trans _ _ _ c.are_apart.ensures.keeps c.are_apart-2.ensures.keeps
+
+pub are_halves_apart-returns-then-not-are_apart-2-clause-misses : goal.are_halves_apart-returns-then-not-are_apart-2-clause-misses
+are_halves_apart-returns-then-not-are_apart-2-clause-misses g t c = c.are_apart-2.ensures.misses ∙ c.are_apart.ensures.misses
+
+pub are_halves_apart-returns-then-not-are_apart-3-clause-keeps : goal.are_halves_apart-returns-then-not-are_apart-3-clause-keeps
+are_halves_apart-returns-then-not-are_apart-3-clause-keeps g t c = keeps_trans _ _ _ c.are_apart.ensures.keeps (keeps_trans _ _ _ c.are_apart-2.ensures.keeps c.are_apart-3.ensures.keeps)
+
+pub are_halves_apart-returns-then-not-are_apart-3-clause-misses : goal.are_halves_apart-returns-then-not-are_apart-3-clause-misses
+are_halves_apart-returns-then-not-are_apart-3-clause-misses g t c = c.are_apart-3.ensures.misses ∙ c.are_apart-2.ensures.misses ∙ c.are_apart.ensures.misses
+
+pub are_halves_apart-returns-clause-keeps : goal.are_halves_apart-returns-clause-keeps
+are_halves_apart-returns-clause-keeps g t c = keeps_trans _ _ _ c.are_apart.ensures.keeps (keeps_trans _ _ _ c.are_apart-2.ensures.keeps (keeps_trans _ _ _ c.are_apart-3.ensures.keeps c.are_apart-4.ensures.keeps))
+
+pub are_halves_apart-returns-clause-misses : goal.are_halves_apart-returns-clause-misses
+are_halves_apart-returns-clause-misses g t c = c.are_apart-4.ensures.misses ∙ c.are_apart-3.ensures.misses ∙ c.are_apart-2.ensures.misses ∙ c.are_apart.ensures.misses

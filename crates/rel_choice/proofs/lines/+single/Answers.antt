@@ -117,3 +117,39 @@ is_single_over-returns-clause-value g t c =
     let p4 = sym (kept-single w1 w4 four.3 k4 q.se) ∙ (sym c.is_single_besides-2.ensures.value ∙ c.if-not-is_single_besides-2.false) in
     let p5 = sym (kept-apart w1 w5 four.0 four.1 k5 q.nw q.ne) ∙ (sym c.are_apart.ensures.value ∙ c.if-not-are_apart.false) in
     c.are_apart-2.ensures.value ∙ kept-apart w1 w6 four.2 four.3 k6 q.sw q.se ∙ sym (s ∙ last-decides (quad_single w1 four.0) (quad_single w1 four.1) (quad_single w1 four.2) (quad_single w1 four.3) (quads_apart w1 four.0 four.1) (quads_apart w1 four.2 four.3) p1 p2 p3 p4 p5)
+
+pub is_single_over-returns-then-not-is_single-clause-keeps : goal.is_single_over-returns-then-not-is_single-clause-keeps
+is_single_over-returns-then-not-is_single-clause-keeps g t c = keeps_trans _ _ _ c.quarters.ensures.keeps c.is_single.ensures.keeps
+
+pub is_single_over-returns-then-not-is_single-clause-misses : goal.is_single_over-returns-then-not-is_single-clause-misses
+is_single_over-returns-then-not-is_single-clause-misses g t c = c.is_single.ensures.misses ∙ c.quarters.ensures.misses
+
+pub is_single_over-returns-then-not-is_single-2-clause-keeps : goal.is_single_over-returns-then-not-is_single-2-clause-keeps
+is_single_over-returns-then-not-is_single-2-clause-keeps g t c = keeps_trans _ _ _ c.quarters.ensures.keeps (keeps_trans _ _ _ c.is_single.ensures.keeps c.is_single-2.ensures.keeps)
+
+pub is_single_over-returns-then-not-is_single-2-clause-misses : goal.is_single_over-returns-then-not-is_single-2-clause-misses
+is_single_over-returns-then-not-is_single-2-clause-misses g t c = c.is_single-2.ensures.misses ∙ c.is_single.ensures.misses ∙ c.quarters.ensures.misses
+
+pub is_single_over-returns-then-not-is_single_besides-clause-keeps : goal.is_single_over-returns-then-not-is_single_besides-clause-keeps
+is_single_over-returns-then-not-is_single_besides-clause-keeps g t c = keeps_trans _ _ _ c.quarters.ensures.keeps (keeps_trans _ _ _ c.is_single.ensures.keeps (keeps_trans _ _ _ c.is_single-2.ensures.keeps c.is_single_besides.ensures.keeps))
+
+pub is_single_over-returns-then-not-is_single_besides-clause-misses : goal.is_single_over-returns-then-not-is_single_besides-clause-misses
+is_single_over-returns-then-not-is_single_besides-clause-misses g t c = c.is_single_besides.ensures.misses ∙ c.is_single-2.ensures.misses ∙ c.is_single.ensures.misses ∙ c.quarters.ensures.misses
+
+pub is_single_over-returns-then-not-is_single_besides-2-clause-keeps : goal.is_single_over-returns-then-not-is_single_besides-2-clause-keeps
+is_single_over-returns-then-not-is_single_besides-2-clause-keeps g t c = keeps_trans _ _ _ c.quarters.ensures.keeps (keeps_trans _ _ _ c.is_single.ensures.keeps (keeps_trans _ _ _ c.is_single-2.ensures.keeps (keeps_trans _ _ _ c.is_single_besides.ensures.keeps c.is_single_besides-2.ensures.keeps)))
+
+pub is_single_over-returns-then-not-is_single_besides-2-clause-misses : goal.is_single_over-returns-then-not-is_single_besides-2-clause-misses
+is_single_over-returns-then-not-is_single_besides-2-clause-misses g t c = c.is_single_besides-2.ensures.misses ∙ c.is_single_besides.ensures.misses ∙ c.is_single-2.ensures.misses ∙ c.is_single.ensures.misses ∙ c.quarters.ensures.misses
+
+pub is_single_over-returns-then-not-are_apart-clause-keeps : goal.is_single_over-returns-then-not-are_apart-clause-keeps
+is_single_over-returns-then-not-are_apart-clause-keeps g t c = keeps_trans _ _ _ c.quarters.ensures.keeps (keeps_trans _ _ _ c.is_single.ensures.keeps (keeps_trans _ _ _ c.is_single-2.ensures.keeps (keeps_trans _ _ _ c.is_single_besides.ensures.keeps (keeps_trans _ _ _ c.is_single_besides-2.ensures.keeps c.are_apart.ensures.keeps))))
+
+pub is_single_over-returns-then-not-are_apart-clause-misses : goal.is_single_over-returns-then-not-are_apart-clause-misses
+is_single_over-returns-then-not-are_apart-clause-misses g t c = c.are_apart.ensures.misses ∙ c.is_single_besides-2.ensures.misses ∙ c.is_single_besides.ensures.misses ∙ c.is_single-2.ensures.misses ∙ c.is_single.ensures.misses ∙ c.quarters.ensures.misses
+
+pub is_single_over-returns-clause-keeps : goal.is_single_over-returns-clause-keeps
+is_single_over-returns-clause-keeps g t c = keeps_trans _ _ _ c.quarters.ensures.keeps (keeps_trans _ _ _ c.is_single.ensures.keeps (keeps_trans _ _ _ c.is_single-2.ensures.keeps (keeps_trans _ _ _ c.is_single_besides.ensures.keeps (keeps_trans _ _ _ c.is_single_besides-2.ensures.keeps (keeps_trans _ _ _ c.are_apart.ensures.keeps c.are_apart-2.ensures.keeps)))))
+
+pub is_single_over-returns-clause-misses : goal.is_single_over-returns-clause-misses
+is_single_over-returns-clause-misses g t c = c.are_apart-2.ensures.misses ∙ c.are_apart.ensures.misses ∙ c.is_single_besides-2.ensures.misses ∙ c.is_single_besides.ensures.misses ∙ c.is_single-2.ensures.misses ∙ c.is_single.ensures.misses ∙ c.quarters.ensures.misses

@@ -8,6 +8,8 @@ use Rattle.rel_choice.specs.Steps.{step_room}
 use Rattle.rel_choice.proofs.Standing.{gives_quad}
 use Rattle.rel_choice.proofs.StepCells.{steps-cut, steps-lie}
 use Rattle.rel_choice.proofs.StepQuads.{side-height, cut-set, bound_height}
+use Rattle.rel_model.proofs.Workers.{keeps_trans}
+use Rattle.rel_choice.proofs.Causes.{done-cause}
 use Rattle.rel_choice.proofs.stepping.step_below.Goals as goal
 
 pub returns-in_err-all-clause-room : goal.returns-in_err-all-clause-room
@@ -122,3 +124,15 @@ returns-clause-room g c =
     let b = ap (λ (x : ℕ). operator_room (2 ^ c.root-bound.result.height) x) (whole.col_size ∙ s) in
     let d = ap (λ (x : ℕ). operator_room (2 ^ x) (2 ^ x)) e in
     omega (arith, e, k, l, m, a, b, d)
+
+pub returns-in_err-steps-clause-keeps : goal.returns-in_err-steps-clause-keeps
+returns-in_err-steps-clause-keeps g c = keeps_trans _ _ _ c.in_ok-all.ensures.keeps c.in_err-steps.ensures.keeps
+
+pub returns-in_err-cut-clause-keeps : goal.returns-in_err-cut-clause-keeps
+returns-in_err-cut-clause-keeps g c = keeps_trans _ _ _ c.in_ok-all.ensures.keeps (keeps_trans _ _ _ c.in_ok-steps.ensures.keeps c.in_err-cut.ensures.keeps)
+
+pub returns-clause-keeps : goal.returns-clause-keeps
+returns-clause-keeps g c = keeps_trans _ _ _ c.in_ok-all.ensures.keeps (keeps_trans _ _ _ c.in_ok-steps.ensures.keeps c.in_ok-cut.ensures.keeps)
+
+pub returns-clause-cause : goal.returns-clause-cause
+returns-clause-cause g c = done-cause _ _ _ _ (c.in_ok-cut.ensures.cause.done ∙ c.in_ok-steps.ensures.cause.done ∙ c.in_ok-all.ensures.cause.done)
