@@ -1,7 +1,8 @@
 -- What LOAD does: the relation of a file's bytes, or the first test that they fail.
-use Rattle.std.proofs.Common.{◌≡◌, ◌∙◌, ◌≤◌, ◌+◌, arith, ℕ, List, [], ◌∷◌, ◌++◌, length, Option, Some, None, Err, refl, sym, ap, subst}
+use Rattle.std.proofs.Common.{◌≡◌, ◌∙◌, ◌≤◌, ◌+◌, arith, ℕ, List, [], ◌∷◌, ◌++◌, length, Option, Some, None, Result, Err, refl, sym, ap, subst}
 use Rattle.rel_model.specs.declared.Lack.{Lack}
 use Rattle.rel_model.specs.declared.Lack.TheVariants.{Full, NoMemory as LACK_MEMORY}
+use Rattle.rel_model.specs.declared.NoMemory.{NoMemory as LACK}
 use Rattle.rel_model.specs.declared.Rel.{Rel}
 use Rattle.rel_model.specs.Relation.{Relation}
 use Rattle.rel_model.specs.Worker.{Worker, Stands, Gives as GIVES_REL, Keeps, MakesAtMost, Rose}
@@ -39,7 +40,11 @@ use Rattle.rv_workspace.specs.Entering.{assign_of}
 use Rattle.rv_sessions.specs.Standing.{Kept, KeptStand, meant}
 use Rattle.rv_sessions.specs.Doing.{GoesThrough, Did, state_of_turns, snap_meant}
 use Rattle.rv_sessions.specs.Turning.{TookTurn}
-use Rattle.rv_sessions.specs.Reading.{lack_in}
+use Rattle.rv_sessions.specs.Reading.{lack_in, outcome_of_file}
+use Rattle.rv_sessions.specs.declared.told.Told.{Told}
+use Rattle.rv_sessions.specs.Acting.{DidItem}
+use Rattle.rv_sessions.specs.Telling.{TellsRefusal}
+use Rattle.rv_sessions.proofs.Telling.{refused_did}
 use Rattle.rv_sessions.proofs.FoldingTurns.{through_none}
 use Rattle.rv_sessions.proofs.Acting.{through_one}
 use Rattle.rv_sessions.proofs.Assigning.{ReadsNothing, unread_lacks, unread_full, unread_refuses, unread_gives}
@@ -148,6 +153,19 @@ module _ (leaf : ℕ) (input : Input) (script : Script) (s c : ℕ) (name file :
           unread_refuses leaf input script s c item old mid before before snaps stood k reads_nothing (through_none before)
           (room_at mid (state_of_turns mid []) (snap_meant mid item snaps) refl) Early (BAD_FILE text kind)
           (due_bytes (state_of_turns mid []) (snap_meant mid item snaps) ∙ ap (due_of_bytes file bytes) h ∙ ap (λ x. Refused Early (BAD_FILE x kind)) (sym t)) tt
+
+      -- what is refused of a file that was not read, by what was wanting
+      refused_for : (kind : BadFile) → IsRead old mid bytes (Err kind) → (l : Option Lack) → lack_in kind ≡ l →
+          Did leaf input script s c item old mid before before snaps snaps (outcome_of_file file kind l) (prefix s c ++ refusal_text (outcome_of_file file kind l)) []
+      refused_for kind h (Some Full) e = read_full (full_of_read old mid bytes kind h e)
+      refused_for kind h (Some LACK_MEMORY) e = read_lacks mid before (through_none before) (keeps_itself mid) refl
+      refused_for kind h None e = read_fault kind (fault_of_read old mid bytes kind h e) file refl
+
+      pub read_refused : (kind : BadFile) → IsRead old mid bytes (Err kind) → (r : Result Told LACK) → TellsRefusal s c (outcome_of_file file kind (lack_in kind)) r →
+          DidItem leaf input script s c item old mid before before snaps snaps r
+      read_refused kind h r t =
+          refused_did leaf input script s c item old mid before before snaps snaps (outcome_of_file file kind (lack_in kind)) r t (refused_for kind h (lack_in kind) refl)
+          (read_lacks mid before (through_none before) (keeps_itself mid) refl)
 
       pub read_given : (new : Worker) (after : PASS) (rel : Rel) (own : List ℕ) → own ≡ name → k2_fault bytes ≡ None →
           GIVES_REL mid (k2_relation bytes).rows (k2_relation bytes).cols (k2_relation bytes) rel →

@@ -147,6 +147,13 @@ as_told P s c o told t p =
     subst (λ x. P x (text_of told.reply) (saved_by told.save)) (sym t.0)
     (subst (λ x. P o x (saved_by told.save)) (sym t.1) (subst (λ x. P o (prefix s c ++ refusal_text o) (saved_by x)) (sym t.2) p))
 
+-- an item did what its refusal tells, where that is told, and where memory ran out
+pub refused_did : (leaf : ℕ) (input : Input) (script : Script) (s c : ℕ) (item : Item) (old new : Worker) (before after : PASS) (snaps left : Kept) (o : Outcome)
+    (r : Result Told LACK) → TellsRefusal s c o r → Did leaf input script s c item old new before after snaps left o (prefix s c ++ refusal_text o) [] →
+    Did leaf input script s c item old new before after snaps left NO_MEMORY (prefix s c ++ refusal_text NO_MEMORY) [] → DidItem leaf input script s c item old new before after snaps left r
+refused_did leaf input script s c item old new before after snaps left o (Ok told) t p q = as_told (Did leaf input script s c item old new before after snaps left) s c o told t p
+refused_did leaf input script s c item old new before after snaps left o (Err lack) t p q = q
+
 -- what is so of a worker, a pass and an answer is so of those that are the same
 pub moved : {E : Type 0} (P : E → PASS → Result Told LACK → Type 0) (e f : E) (p q : PASS) (r t : Result Told LACK) →
     e ≡ f → p ≡ q → r ≡ t → P f q t → P e p r

@@ -12,3 +12,4 @@ pub mod Noting
 pub mod Acting
 pub mod Running
 pub mod Sessions
+pub mod Naming

@@ -1,7 +1,9 @@
 -- What was wanting where a relation file was not read.
-use Rattle.std.specs.Prelude.{Option, Some, None}
+use Rattle.std.specs.Prelude.{ℕ, List, Option, Some, None}
 use Rattle.rel_model.specs.declared.Lack.{Lack}
 use Rattle.rel_model.specs.declared.Lack.TheVariants.{Full, NoMemory}
+use Rattle.run_model.specs.declared.outcome.Outcome.{Outcome}
+use Rattle.run_model.specs.declared.outcome.Outcome.TheVariants.{Nodes, BadFile as BAD_FILE, NoMemory as NO_MEMORY}
 use Rattle.run_model.specs.declared.outcome.BadFile.{BadFile}
 use Rattle.run_model.specs.declared.outcome.BadFile.TheVariants.{
   Short,
@@ -30,3 +32,9 @@ lack_in Padding = None
 lack_in Rest = None
 lack_in FILE_FULL = Some Full
 lack_in FILE_NO_MEMORY = Some NoMemory
+
+-- what a file of this name is refused for that was not read
+abbrev pub outcome_of_file : List ℕ → BadFile → Option Lack → Outcome
+outcome_of_file name kind (Some Full) = Nodes
+outcome_of_file name kind (Some NoMemory) = NO_MEMORY
+outcome_of_file name kind None = BAD_FILE name kind

@@ -1,7 +1,7 @@
 //! Which command of which session does something.
 
 /// The numbers of a session and of its command, both from 1.
-#[derive(Clone, Copy, Debug, PartialEq, Eq)]
+#[derive(Clone, Copy)]
 pub(crate) struct By {
     pub(crate) session: u32,
     pub(crate) command: u32,

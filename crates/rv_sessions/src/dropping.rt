@@ -1,5 +1,8 @@
 //! DROP, and the two commands of snapshots.
-ghost use Rattle.std.specs.Prelude.{◌≡◌, ℕ, List, Some};
+ghost use Rattle.std.specs.Prelude.{◌≡◌, ℕ, List, Some, IfOk};
+ghost use Rattle.std.specs.Option.{option_map};
+ghost use Rattle.lang_model.specs.declared.faults.TypeFault.TheVariants.{Unknown as UNKNOWN};
+ghost use Rattle.run_model.specs.declared.outcome.Outcome.TheVariants.{Ill as ILL};
 ghost use Rattle.lang_model.specs.declared.syntax.Place.{Place as PLACE};
 ghost use Rattle.run_model.specs.Names.{lookup};
 ghost use Rattle.lang_model.specs.declared.syntax.Script.{Script as SCRIPT};
@@ -9,6 +12,7 @@ ghost use Rattle.run_model.specs.Inputs.{Input};
 ghost use Rattle.turn_book.specs.Views.{View as PASS, IsReady};
 ghost use Rattle.rv_sessions.specs.Acting.{DidItem};
 ghost use Rattle.rv_sessions.specs.Standing.{AllNamesStand, Kept, KeptStand};
+ghost use Rattle.rv_sessions.specs.Telling.{TellsRefusal};
 
 use crate::by::By;
 use crate::form::Form;
@@ -48,10 +52,7 @@ pub(crate) fn drop_name<E: Engine, W: Wait>(
     match drop_turn(alloc, by, book, wait, pass, engine, name) {
         Ok(()) => Ok(Told::done()),
         Err(DropRefused::Unknown { name }) => {
-            match refused(alloc, by, Outcome::Ill(TypeFault::Unknown { at, name })) {
-                Ok(told) => Ok(told),
-                Err(lack) => Err(lack),
-            }
+            refused(alloc, by, Outcome::Ill(TypeFault::Unknown { at, name }))
         }
         Err(DropRefused::NoMemory) => Err(NoMemory),
     }
@@ -124,11 +125,25 @@ fn show_kept<E: Engine>(
             },
             save: None,
         }),
-        Err(outcome) => match refused(alloc, by, outcome) {
-            Ok(told) => Ok(told),
-            Err(lack) => Err(lack),
-        },
+        Err(outcome) => refused(alloc, by, outcome),
     }
+}
+
+/// The names that the snapshot of a name keeps, if there is one.
+fn kept<'a>(alloc: Global, snaps: &'a Snapshots, name: &Name) -> Result<Option<&'a View>, NoMemory>
+    ensures { IfOk result (λ found. option_map (λ v. v.now.names.items) found ≡ lookup snaps.now name.now) }
+{
+    let own = name.copied(alloc)?;
+    let key = Key::of(own);
+    Ok(snaps.get(&key))
+}
+
+/// The refusal of a name that is unknown.
+fn unknown(alloc: Global, by: By, at: Place, name: &Name) -> Result<Told, NoMemory>
+    ensures { TellsRefusal by.session by.command (ILL (UNKNOWN at name.now)) result }
+{
+    let name = name.copied(alloc)?;
+    refused(alloc, by, Outcome::Ill(TypeFault::Unknown { at, name }))
 }
 
 /// Runs AT: the matrix of a value on a snapshot, without a turn.
@@ -149,25 +164,12 @@ pub(crate) fn show_at<E: Engine>(
         (E.worker engine.new) pass pass snaps.now snaps.now result }
 {
     let _ = engine.bottom();
-    let Ok(own) = name.copied(alloc) else {
-        return Err(NoMemory);
+    let found = match kept(alloc, snaps, name) {
+        Ok(found) => found,
+        Err(lack) => return Err(lack),
     };
-    let Ok(text) = name.copied(alloc) else {
-        return Err(NoMemory);
-    };
-    let key = Key::of(own);
-    match snaps.get(&key) {
-        Some(view) => match show_kept(alloc, by, checked, turns, engine, view, expr) {
-            Ok(told) => Ok(told),
-            Err(lack) => Err(lack),
-        },
-        None => match refused(
-            alloc,
-            by,
-            Outcome::Ill(TypeFault::Unknown { at, name: text }),
-        ) {
-            Ok(told) => Ok(told),
-            Err(lack) => Err(lack),
-        },
+    match found {
+        Some(view) => show_kept(alloc, by, checked, turns, engine, view, expr),
+        None => unknown(alloc, by, at, name),
     }
 }

@@ -12,7 +12,7 @@ use rv_print::{PrintRefused, count_line, listing, matrix, shape_text};
 use std::alloc::Global;
 
 /// The forms in which commands want values: those of PRINT, LIST, COUNT and TYPE, and the bytes of a relation file.
-#[derive(Clone, Copy, Debug, PartialEq, Eq)]
+#[derive(Clone, Copy)]
 pub(crate) enum Form {
     Matrix,
     Listing,

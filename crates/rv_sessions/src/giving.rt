@@ -12,7 +12,9 @@ ghost use Rattle.turn_book.specs.Views.{IsReady, IsKept};
 ghost use Rattle.rv_sessions.specs.Acting.{ValuedInTurn, DidItem};
 ghost use Rattle.rv_sessions.specs.Standing.{Kept, KeptStand};
 ghost use Rattle.run_model.specs.Filed.{file_of};
-ghost use Rattle.rv_sessions.specs.Reading.{lack_in};
+ghost use Rattle.run_model.specs.declared.outcome.Outcome.TheVariants.{NoFile as NO_FILE, BadFile as BAD_FILE};
+ghost use Rattle.rv_sessions.specs.Reading.{lack_in, outcome_of_file};
+ghost use Rattle.rv_sessions.specs.Telling.{TellsRefusal};
 
 use crate::by::By;
 use crate::files::file_named;
@@ -86,15 +88,13 @@ pub(crate) fn let_value<E: Engine, W: Wait>(
     let Ok(own) = name.copied(alloc) else {
         return Err(NoMemory);
     };
-    match value_in_turn(alloc, by, checked, turns, book, wait, pass, engine, expr) {
-        Ok(rel) => match assign_turn(alloc, by, book, wait, pass, engine, own, rel) {
-            Ok(()) => Ok(Told::done()),
-            Err(lack) => Err(lack),
-        },
-        Err(outcome) => match refused(alloc, by, outcome) {
-            Ok(told) => Ok(told),
-            Err(lack) => Err(lack),
-        },
+    let rel = match value_in_turn(alloc, by, checked, turns, book, wait, pass, engine, expr) {
+        Ok(rel) => rel,
+        Err(outcome) => return refused(alloc, by, outcome),
+    };
+    match assign_turn(alloc, by, book, wait, pass, engine, own, rel) {
+        Ok(()) => Ok(Told::done()),
+        Err(lack) => Err(lack),
     }
 }
 
@@ -137,10 +137,7 @@ fn listed_relation<E: Engine, W: Wait>(
             Ok(()) => Ok(Told::done()),
             Err(lack) => Err(lack),
         },
-        Err(Lack::Full) => match refused(alloc, by, Outcome::Nodes) {
-            Ok(told) => Ok(told),
-            Err(lack) => Err(lack),
-        },
+        Err(Lack::Full) => refused(alloc, by, Outcome::Nodes),
         Err(Lack::NoMemory) => Err(NoMemory),
     }
 }
@@ -169,17 +166,11 @@ pub(crate) fn relation<E: Engine, W: Wait>(
 {
     let _ = &pass;
     match first_over(rows, rows_at, cols, cols_at, list.as_slice()) {
-        Some(outcome) => match refused(alloc, by, outcome) {
-            Ok(told) => Ok(told),
-            Err(lack) => Err(lack),
-        },
+        Some(outcome) => refused(alloc, by, outcome),
         None => {
-            match listed_relation(
+            listed_relation(
                 alloc, by, book, wait, pass, engine, name, rows, rows_at, cols, cols_at, list,
-            ) {
-                Ok(told) => Ok(told),
-                Err(lack) => Err(lack),
-            }
+            )
         }
     }
 }
@@ -200,6 +191,25 @@ fn lack_of(kind: BadFile) -> Option<Lack>
         BadFile::Outside { .. } => None,
         BadFile::Padding => None,
         BadFile::Rest => None,
+    }
+}
+
+/// The refusal of a file whose bytes fail a test.
+fn bad_file(alloc: Global, by: By, file: &FileText, kind: BadFile) -> Result<Told, NoMemory>
+    ensures { TellsRefusal by.session by.command (BAD_FILE file.now kind) result }
+{
+    let name = file.copied(alloc)?;
+    refused(alloc, by, Outcome::BadFile { name, kind })
+}
+
+/// The refusal of a file that was not read.
+fn not_read(alloc: Global, by: By, file: &FileText, kind: BadFile) -> Result<Told, NoMemory>
+    ensures { TellsRefusal by.session by.command (outcome_of_file file.now kind (lack_in kind)) result }
+{
+    match lack_of(kind) {
+        Some(Lack::Full) => refused(alloc, by, Outcome::Nodes),
+        Some(Lack::NoMemory) => Err(NoMemory),
+        None => bad_file(alloc, by, file, kind),
     }
 }
 
@@ -227,26 +237,22 @@ fn loaded<E: Engine, W: Wait>(
     let Ok(own) = name.copied(alloc) else {
         return Err(NoMemory);
     };
-    let Ok(text) = file.copied(alloc) else {
-        return Err(NoMemory);
+    let rel = match read_k2(alloc, engine, bytes) {
+        Ok(rel) => rel,
+        Err(kind) => return not_read(alloc, by, file, kind),
     };
-    match read_k2(alloc, engine, bytes) {
-        Ok(rel) => match assign_turn(alloc, by, book, wait, pass, engine, own, rel) {
-            Ok(()) => Ok(Told::done()),
-            Err(lack) => Err(lack),
-        },
-        Err(kind) => match lack_of(kind) {
-            Some(Lack::Full) => match refused(alloc, by, Outcome::Nodes) {
-                Ok(told) => Ok(told),
-                Err(lack) => Err(lack),
-            },
-            Some(Lack::NoMemory) => Err(NoMemory),
-            None => match refused(alloc, by, Outcome::BadFile { name: text, kind }) {
-                Ok(told) => Ok(told),
-                Err(lack) => Err(lack),
-            },
-        },
+    match assign_turn(alloc, by, book, wait, pass, engine, own, rel) {
+        Ok(()) => Ok(Told::done()),
+        Err(lack) => Err(lack),
     }
+}
+
+/// The refusal of a name of which there is no file.
+fn no_file(alloc: Global, by: By, file: &FileText) -> Result<Told, NoMemory>
+    ensures { TellsRefusal by.session by.command (NO_FILE file.now) result }
+{
+    let name = file.copied(alloc)?;
+    refused(alloc, by, Outcome::NoFile { name })
 }
 
 /// Runs LOAD: the assignment of the relation of the first file of a name.
@@ -270,18 +276,7 @@ pub(crate) fn load<E: Engine, W: Wait>(
 {
     let _ = &pass;
     match file_named(files, file.bytes()) {
-        Some(bytes) => match loaded(alloc, by, book, wait, pass, engine, name, file, bytes) {
-            Ok(told) => Ok(told),
-            Err(lack) => Err(lack),
-        },
-        None => {
-            let Ok(text) = file.copied(alloc) else {
-                return Err(NoMemory);
-            };
-            match refused(alloc, by, Outcome::NoFile { name: text }) {
-                Ok(told) => Ok(told),
-                Err(lack) => Err(lack),
-            }
-        }
+        Some(bytes) => loaded(alloc, by, book, wait, pass, engine, name, file, bytes),
+        None => no_file(alloc, by, file),
     }
 }

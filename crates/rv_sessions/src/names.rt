@@ -1,54 +1,63 @@
 //! The names that an expression uses.
-ghost use Rattle.std.specs.Prelude.{◌≡◌, ◌++◌, IfOk, OnOk};
+ghost use Rattle.std.specs.Prelude.{◌≡◌, ◌++◌, ◌∷◌, [], IfOk, OnOk};
 ghost use Rattle.lang_model.specs.Eval.{names_in};
+ghost use Rattle.rv_sessions.specs.Naming.{names_of_args, names_of_links};
 
-use lang_model::syntax::{Expr, Name};
+use lang_model::syntax::{Expr, Link, Name};
 use rel_model::NoMemory;
 use std::alloc::Global;
 
+/// Adds a name.
+fn push_name(alloc: Global, names: &mut Vec<Name>, name: &Name) -> Result<(), NoMemory>
+    ensures { OnOk result (names.new.items ≡ names.old.items ++ name.now ∷ []) }
+{
+    names.push(name.copied(alloc)?)?;
+    Ok(())
+}
+
 /// Adds the relation names of an expression, from the left, repeats kept.
+#[cycle(pushing)]
 fn push_names(alloc: Global, names: &mut Vec<Name>, expr: &Expr) -> Result<(), NoMemory>
     ensures { OnOk result (names.new.items ≡ names.old.items ++ names_in expr.now) }
 {
     match expr {
-        Expr::Ref { name, .. } => {
-            names.push(name.copied(alloc)?)?;
-            Ok(())
-        }
-        Expr::Call { args, .. } => {
-            'call_args: for arg in args.as_slice() {
-                push_names(alloc, names, arg)?;
-            }
-            Ok(())
-        }
-        Expr::Base { args, .. } => {
-            'base_args: for base_arg in args.as_slice() {
-                push_names(alloc, names, base_arg)?;
-            }
-            Ok(())
-        }
+        Expr::Ref { name, .. } => push_name(alloc, names, name),
+        Expr::Call { args, .. } => push_args(alloc, names, args.as_slice()),
+        Expr::Base { args, .. } => push_args(alloc, names, args.as_slice()),
         Expr::Inject { .. } => Ok(()),
         Expr::Pair { left, right, .. } => {
             push_names(alloc, names, left)?;
-            push_names(alloc, names, right)?;
-            Ok(())
+            push_names(alloc, names, right)
         }
-        Expr::Minus { of, .. } => {
-            push_names(alloc, names, of)?;
-            Ok(())
-        }
-        Expr::Turned { of, .. } => {
-            push_names(alloc, names, of)?;
-            Ok(())
-        }
+        Expr::Minus { of, .. } => push_names(alloc, names, of),
+        Expr::Turned { of, .. } => push_names(alloc, names, of),
         Expr::Chain { first, rest } => {
             push_names(alloc, names, first)?;
-            'links: for link in rest.as_slice() {
-                push_names(alloc, names, &link.right)?;
-            }
-            Ok(())
+            push_links(alloc, names, rest.as_slice())
         }
     }
+}
+
+/// Adds the relation names of arguments.
+#[cycle(pushing)]
+fn push_args(alloc: Global, names: &mut Vec<Name>, args: &[Expr]) -> Result<(), NoMemory>
+    ensures { OnOk result (names.new.items ≡ names.old.items ++ names_of_args args.now) }
+{
+    'args: for arg in args {
+        push_names(alloc, names, arg)?;
+    }
+    Ok(())
+}
+
+/// Adds the relation names of the links of a chain.
+#[cycle(pushing)]
+fn push_links(alloc: Global, names: &mut Vec<Name>, links: &[Link]) -> Result<(), NoMemory>
+    ensures { OnOk result (names.new.items ≡ names.old.items ++ names_of_links links.now) }
+{
+    'links: for link in links {
+        push_names(alloc, names, &link.right)?;
+    }
+    Ok(())
 }
 
 /// The relation names of an expression, from the left, repeats kept.

@@ -98,10 +98,7 @@ pub(crate) fn show<E: Engine, W: Wait>(
             },
             save: None,
         }),
-        Err(outcome) => match refused(alloc, by, outcome) {
-            Ok(told) => Ok(told),
-            Err(lack) => Err(lack),
-        },
+        Err(outcome) => refused(alloc, by, outcome),
     }
 }
 
@@ -131,7 +128,7 @@ pub(crate) fn save<E: Engine, W: Wait>(
     let Ok(name) = file.copied(alloc) else {
         return Err(NoMemory);
     };
-    match shown_in_turn(
+    let bytes = match shown_in_turn(
         alloc,
         by,
         checked,
@@ -143,14 +140,12 @@ pub(crate) fn save<E: Engine, W: Wait>(
         Form::File,
         expr,
     ) {
-        Ok(bytes) => Ok(Told {
-            outcome: Outcome::Done,
-            reply: Reply::Nothing,
-            save: Some(Save { name, bytes }),
-        }),
-        Err(outcome) => match refused(alloc, by, outcome) {
-            Ok(told) => Ok(told),
-            Err(lack) => Err(lack),
-        },
-    }
+        Ok(bytes) => bytes,
+        Err(outcome) => return refused(alloc, by, outcome),
+    };
+    Ok(Told {
+        outcome: Outcome::Done,
+        reply: Reply::Nothing,
+        save: Some(Save { name, bytes }),
+    })
 }

@@ -1,4 +1,4 @@
-use Rattle.std.proofs.Common.{◌∙◌, Ok, Err, sym, ap, subst}
+use Rattle.std.proofs.Common.{◌∙◌, Err, sym, ap, subst}
 use Rattle.rv_sessions.specs.Turning.{DropTurn}
 use Rattle.lang_model.specs.declared.syntax.Item.TheVariants.{Command as COMMAND}
 use Rattle.lang_model.specs.declared.syntax.Command.TheVariants.{Remove as DROP}
@@ -16,23 +16,16 @@ returns-in-Ok g c input script snaps stood =
     (drop_done g.E.Core.least input script a.by.session a.by.command a.at a.name.now (w a.engine.now) (w c.drop_turn.new.engine)
     a.pass.now c.drop_turn.new.pass snaps stood c.in-Ok.ensures.dropped)
 
-pub returns-in-Ok-refused : goal.returns-in-Ok-refused
-returns-in-Ok-refused g c input script snaps stood =
-    let a = c.args in
-    let w = g.E.Core.worker in
-    drop_unknown g.E.Core.least input script a.by.session a.by.command a.at a.name.now (w a.engine.now) (w c.drop_turn.new.engine)
-    a.pass.now c.drop_turn.new.pass snaps stood c.in-Err-Unknown.name (Ok c.in-Ok-refused.told) (subst (DropTurn a.by.session a.by.command a.name.now (w a.engine.now) (w c.drop_turn.new.engine) a.pass.now c.drop_turn.new.pass) (c.in-Err-Unknown.is ∙ ap (λ x. Err x) c.in-Err-Unknown.field-0-is) c.drop_turn.ensures.dropped) c.in-Ok-refused.ensures
-
-pub returns-in-Err : goal.returns-in-Err
-returns-in-Err g c input script snaps stood =
-    let a = c.args in
-    let w = g.E.Core.worker in
-    drop_unknown g.E.Core.least input script a.by.session a.by.command a.at a.name.now (w a.engine.now) (w c.drop_turn.new.engine)
-    a.pass.now c.drop_turn.new.pass snaps stood c.in-Err-Unknown.name (Err c.in-Err.lack) (subst (DropTurn a.by.session a.by.command a.name.now (w a.engine.now) (w c.drop_turn.new.engine) a.pass.now c.drop_turn.new.pass) (c.in-Err-Unknown.is ∙ ap (λ x. Err x) c.in-Err-Unknown.field-0-is) c.drop_turn.ensures.dropped) tt
-
 pub returns-in-Err-NoMemory : goal.returns-in-Err-NoMemory
 returns-in-Err-NoMemory g c input script snaps stood =
     let a = c.args in
     let w = g.E.Core.worker in
     drop_lacks g.E.Core.least input script a.by.session a.by.command a.at a.name.now (w a.engine.now) (w c.drop_turn.new.engine)
     a.pass.now c.drop_turn.new.pass snaps stood (subst (DropTurn a.by.session a.by.command a.name.now (w a.engine.now) (w c.drop_turn.new.engine) a.pass.now c.drop_turn.new.pass) (c.in-Err-NoMemory.is ∙ ap (λ x. Err x) c.in-Err-NoMemory.field-0-is) c.drop_turn.ensures.dropped)
+
+pub returns-in-Err-Unknown : goal.returns-in-Err-Unknown
+returns-in-Err-Unknown g c input script snaps stood =
+    let a = c.args in
+    let w = g.E.Core.worker in
+    drop_unknown g.E.Core.least input script a.by.session a.by.command a.at a.name.now (w a.engine.now) (w c.drop_turn.new.engine)
+    a.pass.now c.drop_turn.new.pass snaps stood c.in-Err-Unknown.name c.refused.result (subst (DropTurn a.by.session a.by.command a.name.now (w a.engine.now) (w c.drop_turn.new.engine) a.pass.now c.drop_turn.new.pass) (c.in-Err-Unknown.is ∙ ap (λ x. Err x) c.in-Err-Unknown.field-0-is) c.drop_turn.ensures.dropped) c.refused.ensures

@@ -1,4 +1,4 @@
-use Rattle.std.proofs.Common.{◌∙◌, Ok, Err, Some, sym, ap, subst}
+use Rattle.std.proofs.Common.{◌∙◌, Some, sym, ap, subst}
 use Rattle.run_model.specs.Due.{printed}
 use Rattle.lang_model.specs.Eval.{evaluated}
 use Rattle.rv_eval.specs.Names.{state_of}
@@ -31,18 +31,10 @@ refused-requires g c =
     stopped_not_done (w a.engine.now) (w c.shown_on.new.engine) a.expr.now a.turns (evaluated a.checked.now (state_of (w a.engine.now) c.as_slice.result.now) a.expr.now a.turns)
     printed c.in-Err.outcome c.in-Err.ensures.came
 
-pub returns-in-Ok-refused : goal.returns-in-Ok-refused
-returns-in-Ok-refused g c input pass snaps at name i stood there =
+pub returns-in-Err : goal.returns-in-Err
+returns-in-Err g c input pass snaps at name i stood there =
     let a = c.args in
     let w = g.E.Core.worker in
     let s = c.in-Err.ensures in
     at_stopped g.E.Core.least input a.checked.now a.by.session a.by.command at name a.expr.now (w a.engine.now) pass snaps stood (w c.shown_on.new.engine)
-    c.as_slice.result.now (there ∙ ap Some (sym c.as_slice.ensures.value)) s.keeps a.turns i c.in-Err.outcome (Ok c.in-Ok-refused.told) s.came s.room c.in-Ok-refused.ensures
-
-pub returns-in-Err-refused : goal.returns-in-Err-refused
-returns-in-Err-refused g c input pass snaps at name i stood there =
-    let a = c.args in
-    let w = g.E.Core.worker in
-    let s = c.in-Err.ensures in
-    at_stopped g.E.Core.least input a.checked.now a.by.session a.by.command at name a.expr.now (w a.engine.now) pass snaps stood (w c.shown_on.new.engine)
-    c.as_slice.result.now (there ∙ ap Some (sym c.as_slice.ensures.value)) s.keeps a.turns i c.in-Err.outcome (Err c.in-Err-refused.lack) s.came s.room tt
+    c.as_slice.result.now (there ∙ ap Some (sym c.as_slice.ensures.value)) s.keeps a.turns i c.in-Err.outcome c.refused.result s.came s.room c.refused.ensures

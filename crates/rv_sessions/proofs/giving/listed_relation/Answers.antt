@@ -11,7 +11,7 @@ use Rattle.rv_sessions.specs.Doing.{Did}
 use Rattle.rv_sessions.specs.Telling.{text_of, saved_by}
 use Rattle.rv_sessions.proofs.FoldingTurns.{through_none}
 use Rattle.rv_sessions.proofs.Acting.{through_nothing}
-use Rattle.rv_sessions.proofs.Telling.{as_told}
+use Rattle.rv_sessions.proofs.Telling.{refused_did}
 use Rattle.rv_sessions.proofs.Assigning.{list_lacks, list_full, made_lacks, list_given, full_rose}
 use Rattle.rv_sessions.proofs.giving.listed_relation.Goals as goal
 
@@ -47,28 +47,6 @@ returns-in-Ok-listed g c input script snaps stood =
     (subst (λ x. MakesAtMost (listed_cost g.E.Core.least (listed_count x) a.rows a.cols) (w a.engine.now) (w c.listed.new.engine)) c.as_slice.ensures.value l.room)
     (w c.assign_turn.new.engine) c.assign_turn.new.pass (through_nothing t.1) t.1.stays.keeps t.1.stays.made
 
-pub returns-in-Ok-refused : goal.returns-in-Ok-refused
-returns-in-Ok-refused g c input script snaps stood =
-    let a = c.args in
-    let w = g.E.Core.worker in
-    let l = c.in-Err-Full.ensures in
-    as_told (Did g.E.Core.least input script a.by.session a.by.command (COMMAND (RELATION a.name.now a.rows a.rows_at a.cols a.cols_at a.list.now)) (w a.engine.now)
-    (w c.listed.new.engine) a.pass.now a.pass.now snaps snaps) a.by.session a.by.command NODES c.in-Ok-refused.told c.in-Ok-refused.ensures
-    (list_full g.E.Core.least input script a.by.session a.by.command a.name.now a.rows a.rows_at a.cols a.cols_at a.list.now
-    (w a.engine.now) a.pass.now snaps stood (w c.listed.new.engine) c.requires.within l.keeps
-    (subst (λ x. MakesAtMost (listed_cost g.E.Core.least (listed_count x) a.rows a.cols) (w a.engine.now) (w c.listed.new.engine)) c.as_slice.ensures.value l.room)
-    (full_rose (w a.engine.now) (w c.listed.new.engine) c.listed.result c.in-Err-Full.field-0 c.listed.ensures.cause c.in-Err-Full.is c.in-Err-Full.field-0-is))
-
-pub returns-in-Err-Full : goal.returns-in-Err-Full
-returns-in-Err-Full g c input script snaps stood =
-    let a = c.args in
-    let w = g.E.Core.worker in
-    let l = c.in-Err-Full.ensures in
-    made_lacks g.E.Core.least input script a.by.session a.by.command a.name.now a.rows a.rows_at a.cols a.cols_at a.list.now
-    (w a.engine.now) a.pass.now snaps stood (w c.listed.new.engine) c.requires.within l.keeps
-    (subst (λ x. MakesAtMost (listed_cost g.E.Core.least (listed_count x) a.rows a.cols) (w a.engine.now) (w c.listed.new.engine)) c.as_slice.ensures.value l.room)
-    (w c.listed.new.engine) a.pass.now (through_none a.pass.now) (keeps_itself (w c.listed.new.engine)) refl
-
 pub returns : goal.returns
 returns g c input script snaps stood =
     let a = c.args in
@@ -78,3 +56,18 @@ returns g c input script snaps stood =
     (w a.engine.now) a.pass.now snaps stood (w c.listed.new.engine) c.requires.within l.keeps
     (subst (λ x. MakesAtMost (listed_cost g.E.Core.least (listed_count x) a.rows a.cols) (w a.engine.now) (w c.listed.new.engine)) c.as_slice.ensures.value l.room)
     (w c.listed.new.engine) a.pass.now (through_none a.pass.now) (keeps_itself (w c.listed.new.engine)) refl
+
+pub returns-in-Err-Full : goal.returns-in-Err-Full
+returns-in-Err-Full g c input script snaps stood =
+    let a = c.args in
+    let w = g.E.Core.worker in
+    let l = c.in-Err-Full.ensures in
+    let room = subst (λ x. MakesAtMost (listed_cost g.E.Core.least (listed_count x) a.rows a.cols) (w a.engine.now) (w c.listed.new.engine)) c.as_slice.ensures.value l.room in
+    refused_did g.E.Core.least input script a.by.session a.by.command (COMMAND (RELATION a.name.now a.rows a.rows_at a.cols a.cols_at a.list.now)) (w a.engine.now)
+    (w c.listed.new.engine) a.pass.now a.pass.now snaps snaps NODES c.refused.result c.refused.ensures
+    (list_full g.E.Core.least input script a.by.session a.by.command a.name.now a.rows a.rows_at a.cols a.cols_at a.list.now
+    (w a.engine.now) a.pass.now snaps stood (w c.listed.new.engine) c.requires.within l.keeps room
+    (full_rose (w a.engine.now) (w c.listed.new.engine) c.listed.result c.in-Err-Full.field-0 c.listed.ensures.cause c.in-Err-Full.is c.in-Err-Full.field-0-is))
+    (made_lacks g.E.Core.least input script a.by.session a.by.command a.name.now a.rows a.rows_at a.cols a.cols_at a.list.now
+    (w a.engine.now) a.pass.now snaps stood (w c.listed.new.engine) c.requires.within l.keeps room
+    (w c.listed.new.engine) a.pass.now (through_none a.pass.now) (keeps_itself (w c.listed.new.engine)) refl)

@@ -1,4 +1,4 @@
-use Rattle.std.proofs.Common.{◌∙◌, Result, Ok, Err, sym, ap, subst}
+use Rattle.std.proofs.Common.{◌∙◌, Result, sym, ap, subst}
 use Rattle.run_model.specs.Due.{listing_over}
 use Rattle.rv_sessions.specs.Valuing.{IsRefusal}
 use Rattle.rv_sessions.proofs.Overs.{over_refuses, within_limits}
@@ -11,7 +11,7 @@ use Rattle.rv_sessions.specs.declared.told.Told.{Told}
 use Rattle.rv_sessions.specs.Acting.{DidItem}
 use Rattle.rv_sessions.proofs.Telling.{moved}
 use Rattle.rv_sessions.proofs.giving.relation.Goals as goal
-use Rattle.rv_sessions.proofs.giving.relation.Goals.{in-Some+in-Ok, in-Some+in-Err, in-None+in-Ok-listed_relation, in-None+in-Err-listed_relation}
+use Rattle.rv_sessions.proofs.giving.relation.Goals.{in-Some, in-None}
 
 pub refused-requires : goal.refused-requires
 refused-requires g c d =
@@ -39,16 +39,10 @@ returns g c input script snaps stood =
     (COMMAND (RELATION a.name.now a.rows a.rows_at a.cols a.cols_at a.list.now)) (w a.engine.now) (w e) a.pass.now p snaps snaps r in
     let m = c.match-first_over in
     elim m.branch [
-      | in-Some+in-Ok b ↦ moved P m.engine a.engine.now m.pass a.pass.now m.result (Ok b.in-Ok.told) b.engine-is b.pass-is b.result-is
+      | in-Some b ↦ moved P m.engine a.engine.now m.pass a.pass.now m.result b.refused.result b.engine-is b.pass-is b.result-is
           (list_refused g.E.Core.least input script a.by.session a.by.command a.name.now a.rows a.rows_at a.cols a.cols_at a.list.now
-          (w a.engine.now) a.pass.now snaps stood b.in-Some.outcome (Ok b.in-Ok.told)
-          (ap (listing_over a.rows a.rows_at a.cols a.cols_at) (sym c.as_slice.ensures.value) ∙ sym b.in-Some.ensures) b.in-Ok.ensures)
-      | in-Some+in-Err b ↦ moved P m.engine a.engine.now m.pass a.pass.now m.result (Err b.in-Err.lack) b.engine-is b.pass-is b.result-is
-          (list_refused g.E.Core.least input script a.by.session a.by.command a.name.now a.rows a.rows_at a.cols a.cols_at a.list.now
-          (w a.engine.now) a.pass.now snaps stood b.in-Some.outcome (Err b.in-Err.lack)
-          (ap (listing_over a.rows a.rows_at a.cols a.cols_at) (sym c.as_slice.ensures.value) ∙ sym b.in-Some.ensures) tt)
-      | in-None+in-Ok-listed_relation b ↦ moved P m.engine b.listed_relation.new.engine m.pass b.listed_relation.new.pass m.result b.listed_relation.result
-          b.engine-is b.pass-is (b.result-is ∙ sym b.in-Ok-listed_relation.is) (b.listed_relation.ensures input script snaps stood)
-      | in-None+in-Err-listed_relation b ↦ moved P m.engine b.listed_relation.new.engine m.pass b.listed_relation.new.pass m.result b.listed_relation.result
-          b.engine-is b.pass-is (b.result-is ∙ sym b.in-Err-listed_relation.is) (b.listed_relation.ensures input script snaps stood)
+          (w a.engine.now) a.pass.now snaps stood b.in-Some.outcome b.refused.result
+          (ap (listing_over a.rows a.rows_at a.cols a.cols_at) (sym c.as_slice.ensures.value) ∙ sym b.in-Some.ensures) b.refused.ensures)
+      | in-None b ↦ moved P m.engine b.listed_relation.new.engine m.pass b.listed_relation.new.pass m.result b.listed_relation.result
+          b.engine-is b.pass-is b.result-is (b.listed_relation.ensures input script snaps stood)
     ]

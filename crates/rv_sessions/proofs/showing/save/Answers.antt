@@ -1,4 +1,4 @@
-use Rattle.std.proofs.Common.{Ok, Err, refl}
+use Rattle.std.proofs.Common.{refl}
 use Rattle.run_model.specs.Due.{saved}
 use Rattle.rv_sessions.specs.declared.form.Form.TheVariants.{File}
 use Rattle.rv_sessions.proofs.Acting.{unread_did}
@@ -20,26 +20,18 @@ refused-requires g c =
     shown_not_done g.E.Core.least File p a.checked.now a.by.session a.by.command a.expr.now (w a.engine.now)
     (w c.shown_in_turn.new.engine) a.pass.now c.shown_in_turn.new.pass c.in-Err.outcome (c.in-Err.ensures p refl)
 
-pub returns-in-Ok-shown_in_turn : goal.returns-in-Ok-shown_in_turn
-returns-in-Ok-shown_in_turn g c input snaps item i stood v =
+pub returns : goal.returns
+returns g c input snaps item i stood v =
     let a = c.args in
     let w = g.E.Core.worker in
     save_ok g.E.Core.least File input a.checked.now a.by.session a.by.command item a.expr.now (w a.engine.now)
     (w c.shown_in_turn.new.engine) a.pass.now c.shown_in_turn.new.pass snaps a.file.now c.in-Ok.name c.in-Ok-shown_in_turn.bytes.items
     c.in-Ok.ensures v stood (c.in-Ok-shown_in_turn.ensures input i)
 
-pub returns-in-Ok-refused : goal.returns-in-Ok-refused
-returns-in-Ok-refused g c input snaps item i stood v =
+pub returns-in-Err : goal.returns-in-Err
+returns-in-Err g c input snaps item i stood v =
     let a = c.args in
     let w = g.E.Core.worker in
     save_err g.E.Core.least File input a.checked.now a.by.session a.by.command item a.expr.now (w a.engine.now)
-    (w c.shown_in_turn.new.engine) a.pass.now c.shown_in_turn.new.pass snaps a.file.now c.in-Err.outcome (Ok c.in-Ok-refused.told)
-    v stood (c.in-Err.ensures input i) c.in-Ok-refused.ensures
-
-pub returns : goal.returns
-returns g c input snaps item i stood v =
-    let a = c.args in
-    let w = g.E.Core.worker in
-    save_err g.E.Core.least File input a.checked.now a.by.session a.by.command item a.expr.now (w a.engine.now)
-    (w c.shown_in_turn.new.engine) a.pass.now c.shown_in_turn.new.pass snaps a.file.now c.in-Err.outcome (Err c.in-Err-refused.lack)
-    v stood (c.in-Err.ensures input i) tt
+    (w c.shown_in_turn.new.engine) a.pass.now c.shown_in_turn.new.pass snaps a.file.now c.in-Err.outcome c.refused.result
+    v stood (c.in-Err.ensures input i) c.refused.ensures

@@ -1,4 +1,4 @@
-use Rattle.std.proofs.Common.{Ok, Err, refl}
+use Rattle.std.proofs.Common.{refl}
 use Rattle.rv_sessions.proofs.Telling.{plain, shown_not_done, show_ok, show_err}
 use Rattle.rv_sessions.proofs.showing.show.Goals as goal
 
@@ -17,18 +17,10 @@ returns-in-Ok g c input snaps item i stood v =
     show_ok g.E.Core.least a.form input a.checked.now a.by.session a.by.command item a.expr.now (w a.engine.now)
     (w c.shown_in_turn.new.engine) a.pass.now c.shown_in_turn.new.pass snaps c.in-Ok.body.items v stood (c.in-Ok.ensures input i)
 
-pub returns-in-Ok-refused : goal.returns-in-Ok-refused
-returns-in-Ok-refused g c input snaps item i stood v =
+pub returns-in-Err : goal.returns-in-Err
+returns-in-Err g c input snaps item i stood v =
     let a = c.args in
     let w = g.E.Core.worker in
     show_err g.E.Core.least a.form input a.checked.now a.by.session a.by.command item a.expr.now (w a.engine.now)
-    (w c.shown_in_turn.new.engine) a.pass.now c.shown_in_turn.new.pass snaps c.in-Err.outcome (Ok c.in-Ok-refused.told)
-    v stood (c.in-Err.ensures input i) c.in-Ok-refused.ensures
-
-pub returns-in-Err-refused : goal.returns-in-Err-refused
-returns-in-Err-refused g c input snaps item i stood v =
-    let a = c.args in
-    let w = g.E.Core.worker in
-    show_err g.E.Core.least a.form input a.checked.now a.by.session a.by.command item a.expr.now (w a.engine.now)
-    (w c.shown_in_turn.new.engine) a.pass.now c.shown_in_turn.new.pass snaps c.in-Err.outcome (Err c.in-Err-refused.lack)
-    v stood (c.in-Err.ensures input i) tt
+    (w c.shown_in_turn.new.engine) a.pass.now c.shown_in_turn.new.pass snaps c.in-Err.outcome c.refused.result
+    v stood (c.in-Err.ensures input i) c.refused.ensures
