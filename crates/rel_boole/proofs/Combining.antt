@@ -1,12 +1,14 @@
 -- One step of the recursion: four results on quarters and their corner are the result.
-use Rattle.std.proofs.Common.{◌≡◌, ◌+◌, ℕ, Result, Ok, Err, IfOk, sym, ap, ◌∙◌, arith}
+use Rattle.std.proofs.Common.{◌≡◌, ◌≢◌, ◌+◌, ℕ, Result, Ok, Err, IfOk, IsErr, sym, ap, ◌∙◌, arith}
+use Rattle.std.proofs.lemmas.Bool.{true≢false}
 use Rattle.rel_model.specs.declared.Quad.{Quad}
 use Rattle.rel_model.specs.Cells.{Cells}
 use Rattle.rel_model.specs.Trees.{quartered}
-use Rattle.rel_model.specs.Equations.{Operator, result_of, side_of}
-use Rattle.rel_model.specs.Quads.{Keeper, quad_cells, QuadStands, IsQuad, KeepsQuads, AreQuarters}
+use Rattle.rel_model.specs.Equations.{Operator, Transpose, result_of, side_of}
+use Rattle.rel_model.specs.Quads.{Keeper, quad_cells, QuadStands, IsQuad, KeepsQuads, Counts, one_more_miss, AreQuarters}
 use Rattle.rel_model.proofs.QuadLaws.{keeps_on, keeps_itself, quad_cells-stay, is_quad-stays, result_later, is_quad-height, corner_value}
 use Rattle.rel_boole.specs.declared.boole.Boole.{Boole}
+use Rattle.rel_boole.specs.declared.boole.Boole.TheVariants.{Union as UNION, Inter as INTER, Diff as DIFF}
 use Rattle.rel_boole.specs.Cellwise.{cells_by, operator_for}
 use Rattle.rel_boole.proofs.Cutting.{by_quarters, result_of-by}
 
@@ -45,3 +47,14 @@ as_equation m op o v w a b r e k s t i = record {
       ∙ sym (ap (λ (x : Operator). result_of x (side_of a.height) (quad_cells w a) (quad_cells w b)) e ∙ result_of-by op (side_of a.height) (quad_cells w a) (quad_cells w b)
       ∙ ap (λ (c : Cells). cells_by op c (quad_cells w b)) (quad_cells-stay m v w a k s) ∙ ap (λ (c : Cells). cells_by op (quad_cells v a) c) (quad_cells-stay m v w b k t));
 }
+
+-- an operator that goes cell by cell is no transposition
+pub no_transposition : (op : Boole) (o : Operator) → o ≡ operator_for op → o ≢ Transpose
+no_transposition UNION o e z = absurd (cc)
+no_transposition INTER o e z = absurd (cc)
+no_transposition DIFF o e z = absurd (cc)
+
+-- a call that failed, after calls that missed nothing
+pub counts_failed : {T E : Type 0} (u v w : Keeper) (r : Result T E) → v.misses ≡ u.misses → IsErr r → w.misses ≡ one_more_miss v.misses → Counts u w r
+counts_failed u v w (Ok x) e i c = absurd (true≢false (sym i))
+counts_failed u v w (Err x) e i c = c ∙ ap one_more_miss e

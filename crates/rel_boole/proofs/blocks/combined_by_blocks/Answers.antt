@@ -1,10 +1,10 @@
-use Rattle.std.proofs.Common.{refl, sym, ◌∙◌, arith}
-use Rattle.rel_model.specs.Quads.{quad_cells}
-use Rattle.rel_model.proofs.QuadLaws.{quad_stays, is_quad-stays, reads_on, keeps_on}
+use Rattle.std.proofs.Common.{refl, sym, ◌∙◌, arith, ◌≤◌, ◌+◌}
+use Rattle.rel_model.specs.Quads.{quad_cells, quad_room}
+use Rattle.rel_model.proofs.QuadLaws.{quad_stays, is_quad-stays, reads_on, keeps_on, keeps_most}
 use Rattle.quad_nodes.proofs.Finding.{not_missed, found_later}
 use Rattle.tree_blocks.proofs.Counting.{count_8}
 use Rattle.rel_boole.specs.Cellwise.{cells_by}
-use Rattle.rel_boole.proofs.Combining.{as_equation}
+use Rattle.rel_boole.proofs.Combining.{as_equation, counts_failed, no_transposition}
 use Rattle.rel_boole.proofs.ByBlocks.{blocks_by}
 use Rattle.rel_boole.proofs.blocks.combined_by_blocks.Goals as goal
 
@@ -65,3 +65,30 @@ returns-clause-stood c q s =
     let k = reads_on s0 c.spill_blocks.new.nodes s2 c.spill_blocks.ensures.reads c.spill_blocks-2.ensures.reads in
     let f = found_later s0 s2 s3 c.args.a.height c.args.a.height _ (cells_by c.args.op (quad_cells s0 c.args.a) (quad_cells s0 c.args.b)) _ k refl same c.in_ok-found.ensures.stood q s in
     record { answer = f.answer; reads = reads_on s0 s3 c.note.new.self f.reads c.note.ensures.reads }
+
+pub returns-in_err-found-clause-keeps : goal.returns-in_err-found-clause-keeps
+returns-in_err-found-clause-keeps c =
+    let h = quad_room c.args.a.height in
+    let s0 = c.args.nodes.now in
+    let s3 = c.gather_blocks.new.nodes in
+    let k = reads_on s0 c.spill_blocks.new.nodes c.spill_blocks-2.new.nodes c.spill_blocks.ensures.reads c.spill_blocks-2.ensures.reads in
+    let j = keeps_on 0 h s0 c.spill_blocks-2.new.nodes s3 k.keeps c.in_err-found.ensures.keeps in
+    keeps_most _ h s0 s3 (omega arith) j
+
+pub returns-clause-keeps : goal.returns-clause-keeps
+returns-clause-keeps c =
+    let h = quad_room c.args.a.height in
+    let s0 = c.args.nodes.now in
+    let s3 = c.gather_blocks.new.nodes in
+    let k = reads_on s0 c.spill_blocks.new.nodes c.spill_blocks-2.new.nodes c.spill_blocks.ensures.reads c.spill_blocks-2.ensures.reads in
+    let j = keeps_on 0 h s0 c.spill_blocks-2.new.nodes s3 k.keeps c.in_ok-found.ensures.keeps in
+    keeps_most _ h s0 c.note.new.self (omega arith) (keeps_on (0 + h) 0 s0 s3 c.note.new.self j c.note.ensures.reads.keeps)
+
+pub returns-clause-counts : goal.returns-clause-counts
+returns-clause-counts c = c.note.ensures.reads.misses ∙ c.in_ok-found.ensures.counts ∙ c.spill_blocks-2.ensures.reads.misses ∙ c.spill_blocks.ensures.reads.misses
+
+pub returns-in_err-found-clause-counts : goal.returns-in_err-found-clause-counts
+returns-in_err-found-clause-counts c = counts_failed c.args.nodes.now c.spill_blocks-2.new.nodes c.gather_blocks.new.nodes c.from_residual.result (c.spill_blocks-2.ensures.reads.misses ∙ c.spill_blocks.ensures.reads.misses) c.from_residual.ensures.0 c.in_err-found.ensures.counts
+
+pub note-requires-clause-one_operand : goal.note-requires-clause-one_operand
+note-requires-clause-one_operand c = λ z. absurd (no_transposition c.args.op _ c.op_of.ensures z)

@@ -1,12 +1,13 @@
-use Rattle.std.proofs.Common.{◌≡◌, ◌≤◌, ◌+◌, ◌-◌, ℕ, Ok, refl, arith}
-use Rattle.rel_model.proofs.QuadLaws.{keeps_on, keeps_most, quad_stays, is_quad-stays, rooms-next, room-some, room_below, reads_itself, reads_on}
-use Rattle.rel_model.specs.Quads.{quad_room, quad_cells}
+use Rattle.std.proofs.Common.{◌≡◌, ◌≤◌, ◌+◌, ◌-◌, ℕ, Ok, refl, arith, ◌∙◌, ◌<◌, ◌*◌, sym, subst}
+use Rattle.rel_model.proofs.QuadLaws.{keeps_on, keeps_most, quad_stays, is_quad-stays, rooms-next, room-some, room_below, reads_itself, reads_on, counts_on, keeps_itself}
+use Rattle.rel_model.specs.Quads.{quad_room, quad_cells, KeepsQuads}
 use Rattle.quad_nodes.proofs.Finding.{not_missed, found_is, found_later, found_after, the_answer, four_found}
 use Rattle.rel_boole.specs.Cellwise.{cells_by}
 use Rattle.rel_boole.proofs.Cutting.{ordered}
 use Rattle.rel_boole.proofs.Finding.{results_stood, quarter_found, value_as}
-use Rattle.rel_boole.proofs.Combining.{combined_value, as_equation}
+use Rattle.rel_boole.proofs.Combining.{combined_value, as_equation, counts_failed, no_transposition}
 use Rattle.rel_boole.proofs.ByBlocks.{value_after, stood_after}
+use Rattle.rel_model.specs.Trees.{bottom_height}
 use Rattle.rel_boole.proofs.boole.+combining.Goals as goal
 
 pub combined-returns-then-a-bottom-clause-keeps : goal.combined-returns-then-a-bottom-clause-keeps
@@ -476,3 +477,111 @@ pub combined_over-returns-clause-stood : goal.combined_over-returns-clause-stood
 combined_over-returns-clause-stood t c q s =
     let k = reads_on c.args.nodes.now c.found_before.new.nodes c.both_pay.new.nodes c.found_before.ensures.reads c.both_pay.ensures.reads in
     stood_after c.args.op c.args.nodes.now c.both_pay.new.nodes c.combined_by_quarters.new.nodes c.args.a c.args.b c.combined_by_quarters.result k c.requires.a_stands c.requires.b_stands c.combined_by_quarters.ensures.stood q s
+
+pub combined_by_quarters-returns-in_err-nw-clause-counts : goal.combined_by_quarters-returns-in_err-nw-clause-counts
+combined_by_quarters-returns-in_err-nw-clause-counts t c = counts_failed c.args.nodes.now c.quarters_to_combine.new.nodes c.combined.new.nodes c.from_residual.result c.quarters_to_combine.ensures.reads.misses c.from_residual.ensures.0 c.in_err-nw.ensures.counts
+
+pub combined_by_quarters-returns-in_err-ne-clause-counts : goal.combined_by_quarters-returns-in_err-ne-clause-counts
+combined_by_quarters-returns-in_err-ne-clause-counts t c = counts_failed c.args.nodes.now c.combined.new.nodes c.combined-2.new.nodes c.from_residual-in_err-ne.result (c.in_ok-nw.ensures.counts ∙ c.quarters_to_combine.ensures.reads.misses) c.from_residual-in_err-ne.ensures.0 c.in_err-ne.ensures.counts
+
+pub combined_by_quarters-returns-in_err-sw-clause-counts : goal.combined_by_quarters-returns-in_err-sw-clause-counts
+combined_by_quarters-returns-in_err-sw-clause-counts t c = counts_failed c.args.nodes.now c.combined-2.new.nodes c.combined-3.new.nodes c.from_residual-in_err-sw.result (c.in_ok-ne.ensures.counts ∙ c.in_ok-nw.ensures.counts ∙ c.quarters_to_combine.ensures.reads.misses) c.from_residual-in_err-sw.ensures.0 c.in_err-sw.ensures.counts
+
+pub combined_by_quarters-returns-in_err-se-clause-counts : goal.combined_by_quarters-returns-in_err-se-clause-counts
+combined_by_quarters-returns-in_err-se-clause-counts t c = counts_failed c.args.nodes.now c.combined-3.new.nodes c.combined-4.new.nodes c.from_residual-in_err-se.result (c.in_ok-sw.ensures.counts ∙ c.in_ok-ne.ensures.counts ∙ c.in_ok-nw.ensures.counts ∙ c.quarters_to_combine.ensures.reads.misses) c.from_residual-in_err-se.ensures.0 c.in_err-se.ensures.counts
+
+pub combined_by_quarters-returns-in_err-found-clause-counts : goal.combined_by_quarters-returns-in_err-found-clause-counts
+combined_by_quarters-returns-in_err-found-clause-counts t c = counts_failed c.args.nodes.now c.combined-4.new.nodes c.corner.new.self c.from_residual-in_err-found.result (c.in_ok-se.ensures.counts ∙ c.in_ok-sw.ensures.counts ∙ c.in_ok-ne.ensures.counts ∙ c.in_ok-nw.ensures.counts ∙ c.quarters_to_combine.ensures.reads.misses) c.from_residual-in_err-found.ensures.0 c.in_err-found.ensures.counts
+
+pub combined_by_quarters-returns-clause-counts : goal.combined_by_quarters-returns-clause-counts
+combined_by_quarters-returns-clause-counts t c = c.note.ensures.reads.misses ∙ c.in_ok-found.ensures.counts ∙ c.in_ok-se.ensures.counts ∙ c.in_ok-sw.ensures.counts ∙ c.in_ok-ne.ensures.counts ∙ c.in_ok-nw.ensures.counts ∙ c.quarters_to_combine.ensures.reads.misses
+
+pub combined_by_quarters-combined-requires : goal.combined_by_quarters-combined-requires
+combined_by_quarters-combined-requires t c =
+    let q = c.quarters_to_combine.ensures.first in
+    let p = c.quarters_to_combine.ensures.second in
+    (omega arith, (q.nw, (p.nw, (let x = q.nw_height in let y = p.nw_height in omega arith))))
+
+pub combined_by_quarters-corner-requires-clause-se_stands : goal.combined_by_quarters-corner-requires-clause-se_stands
+combined_by_quarters-corner-requires-clause-se_stands t c = c.in_ok-se.ensures.value.stands
+
+pub combined_by_quarters-corner-requires-clause-ne_height : goal.combined_by_quarters-corner-requires-clause-ne_height
+combined_by_quarters-corner-requires-clause-ne_height t c =
+    let q = c.quarters_to_combine.ensures.first in
+    let x = q.nw_height in
+    let y = q.ne_height in
+    omega (arith, x, y, c.in_ok-nw.ensures.value.same_height, c.in_ok-ne.ensures.value.same_height)
+
+pub combined_by_quarters-corner-requires-clause-sw_height : goal.combined_by_quarters-corner-requires-clause-sw_height
+combined_by_quarters-corner-requires-clause-sw_height t c =
+    let q = c.quarters_to_combine.ensures.first in
+    let x = q.nw_height in
+    let y = q.sw_height in
+    omega (arith, x, y, c.in_ok-nw.ensures.value.same_height, c.in_ok-sw.ensures.value.same_height)
+
+pub combined_by_quarters-corner-requires-clause-se_height : goal.combined_by_quarters-corner-requires-clause-se_height
+combined_by_quarters-corner-requires-clause-se_height t c =
+    let q = c.quarters_to_combine.ensures.first in
+    let x = q.nw_height in
+    let y = q.se_height in
+    omega (arith, x, y, c.in_ok-nw.ensures.value.same_height, c.in_ok-se.ensures.value.same_height)
+
+pub combined_by_quarters-note-requires-clause-one_operand : goal.combined_by_quarters-note-requires-clause-one_operand
+combined_by_quarters-note-requires-clause-one_operand t c = λ z. absurd (no_transposition c.args.op _ c.op_of.ensures z)
+
+pub combined_over-returns-in-Some-clause-keeps : goal.combined_over-returns-in-Some-clause-keeps
+combined_over-returns-in-Some-clause-keeps t c = keeps_most 0 _ c.args.nodes.now c.found_before.new.nodes (omega arith) c.found_before.ensures.reads.keeps
+
+pub combined_over-returns-then-both_pay-clause-keeps : goal.combined_over-returns-then-both_pay-clause-keeps
+combined_over-returns-then-both_pay-clause-keeps t c =
+    let k = reads_on c.args.nodes.now c.found_before.new.nodes c.both_pay.new.nodes c.found_before.ensures.reads c.both_pay.ensures.reads in
+    keeps_most _ (quad_room c.args.a.height) c.args.nodes.now c.combined_by_blocks.new.nodes (omega arith) (keeps_on 0 (quad_room c.args.a.height) c.args.nodes.now c.both_pay.new.nodes c.combined_by_blocks.new.nodes k.keeps c.combined_by_blocks.ensures.keeps)
+
+pub combined_over-returns-then-both_pay-clause-counts : goal.combined_over-returns-then-both_pay-clause-counts
+combined_over-returns-then-both_pay-clause-counts t c =
+    counts_on c.args.nodes.now c.both_pay.new.nodes c.combined_by_blocks.new.nodes c.combined_by_blocks.result (c.both_pay.ensures.reads.misses ∙ c.found_before.ensures.reads.misses) c.combined_by_blocks.ensures.counts
+
+pub combined_over-returns-clause-keeps : goal.combined_over-returns-clause-keeps
+combined_over-returns-clause-keeps t c =
+    let k = reads_on c.args.nodes.now c.found_before.new.nodes c.both_pay.new.nodes c.found_before.ensures.reads c.both_pay.ensures.reads in
+    keeps_most _ (quad_room c.args.a.height) c.args.nodes.now c.combined_by_quarters.new.nodes (omega arith) (keeps_on 0 (quad_room c.args.a.height) c.args.nodes.now c.both_pay.new.nodes c.combined_by_quarters.new.nodes k.keeps c.combined_by_quarters.ensures.keeps)
+
+pub combined_over-returns-clause-counts : goal.combined_over-returns-clause-counts
+combined_over-returns-clause-counts t c =
+    counts_on c.args.nodes.now c.both_pay.new.nodes c.combined_by_quarters.new.nodes c.combined_by_quarters.result (c.both_pay.ensures.reads.misses ∙ c.found_before.ensures.reads.misses) c.combined_by_quarters.ensures.counts
+
+pub combined-combined_over-requires : goal.combined-combined_over-requires
+combined-combined_over-requires t c =
+    let o = ordered c.args.nodes.now c.args.op c.args.a c.args.b c.in_order.result c.requires.a_stands c.requires.b_stands c.requires.one_height c.in_order.ensures in
+    let e = o.first_height in
+    let d = c.decreases in
+    let low = c.requires.a_stands.low in
+    let over = c.if-a-bottom.false in
+    (omega (arith, e, d), (o.first_stands, (o.second_stands, (o.one_height, omega (arith, e, low, over, c.bottom-bottom.ensures.height)))))
+
+pub combined-returns-in-Some-clause-value : goal.combined-returns-in-Some-clause-value
+combined-returns-in-Some-clause-value t c = c.in-Some.ensures.value c.args.nodes.now c.bottom-bottom.ensures.work c.requires.a_stands c.requires.b_stands c.requires.one_height
+
+pub combined-returns-in-Some-clause-keeps : goal.combined-returns-in-Some-clause-keeps
+combined-returns-in-Some-clause-keeps t c = keeps_itself c.args.nodes.now _ c.bottom-bottom.ensures.work
+
+pub combined-returns-clause-keeps : goal.combined-returns-clause-keeps
+combined-returns-clause-keeps t c =
+    let o = ordered c.args.nodes.now c.args.op c.args.a c.args.b c.in_order.result c.requires.a_stands c.requires.b_stands c.requires.one_height c.in_order.ensures in
+    subst (λ (h : ℕ). KeepsQuads (quad_room h) c.args.nodes.now c.combined_over.new.nodes) o.first_height c.combined_over.ensures.keeps
+
+pub combined-leaf-requires-clause-b_bottom : goal.combined-leaf-requires-clause-b_bottom
+combined-leaf-requires-clause-b_bottom t c = c.requires.one_height ∙ c.if-a-bottom.true ∙ c.bottom-bottom.ensures.height
+
+pub combined-returns-then-a-bottom-clause-value : goal.combined-returns-then-a-bottom-clause-value
+combined-returns-then-a-bottom-clause-value t c =
+    let w = c.args.nodes.now in
+    let f = cells_by c.args.op (quad_cells w c.args.a) (quad_cells w c.args.b) in
+    value_as c.leaf.new.nodes bottom_height c.args.a.height f f c.leaf.result (sym (c.if-a-bottom.true ∙ c.bottom-bottom.ensures.height)) refl c.leaf.ensures.value
+
+pub combined-returns-then-a-bottom-clause-stood : goal.combined-returns-then-a-bottom-clause-stood
+combined-returns-then-a-bottom-clause-stood t c q s =
+    let w = c.args.nodes.now in
+    let f = cells_by c.args.op (quad_cells w c.args.a) (quad_cells w c.args.b) in
+    let e = sym (c.if-a-bottom.true ∙ c.bottom-bottom.ensures.height) in
+    found_later w w c.leaf.new.nodes bottom_height c.args.a.height f f c.leaf.result (reads_itself w c.bottom-bottom.ensures.work) e refl c.leaf.ensures.stood q s

@@ -1,6 +1,6 @@
-use Rattle.std.proofs.Common.{◌∙◌, refl, sym, ◌≤◌, ◌+◌, ◌-◌, ℕ, Ok, arith}
-use Rattle.rel_model.specs.Quads.{compose_room, quad_cells}
-use Rattle.rel_model.proofs.QuadLaws.{keeps_on, keeps_most, keeps_itself, quad_stays, is_quad-stays, reads_itself, reads_on}
+use Rattle.std.proofs.Common.{◌∙◌, refl, sym, ◌≤◌, ◌+◌, ◌-◌, ℕ, Ok, arith, ◌≡◌, ap}
+use Rattle.rel_model.specs.Quads.{compose_room, quad_cells, quad_room}
+use Rattle.rel_model.proofs.QuadLaws.{keeps_on, keeps_most, keeps_itself, quad_stays, is_quad-stays, reads_itself, reads_on, counts_on}
 use Rattle.std.proofs.lemmas.Bool.{false≢true}
 use Rattle.rel_model.specs.Cells.{cells_compose}
 use Rattle.rel_model.specs.Equations.{side_of}
@@ -8,7 +8,7 @@ use Rattle.quad_nodes.proofs.Finding.{found_is}
 use Rattle.rel_compose.proofs.Finding.{composed_low, full_again, full_block_found}
 use Rattle.rel_model.proofs.Rooms.{compose_room-next}
 use Rattle.rel_compose.specs.Products.{quarter_room}
-use Rattle.rel_compose.proofs.Multiplying.{composed_none-left, composed_none-right, both_stay, both_at, product_value, products_value, squares, squares-stay, composed_value, composed_now, composed_after, row_below}
+use Rattle.rel_compose.proofs.Multiplying.{composed_none-left, composed_none-right, both_stay, both_at, product_value, products_value, squares, squares-stay, composed_value, composed_now, composed_after, row_below, counts_failed}
 use Rattle.rel_compose.proofs.Fitting.{three_reads}
 use Rattle.rel_compose.proofs.compose.+composing.Goals as goal
 
@@ -334,3 +334,106 @@ composed_over-returns-clause-value t c =
     let j = three_reads c.args.nodes.now c.look.new.self c.rows_pay.new.nodes c.sums_pay.new.nodes c.look.ensures.reads c.rows_pay.ensures.reads c.sums_pay.ensures.reads in
     let k = reads_on c.args.nodes.now c.sums_pay.new.nodes c.asked_under-under.new.nodes j c.asked_under-under.ensures.reads in
     composed_after c.args.nodes.now c.asked_under-under.new.nodes c.by_quarters.new.nodes c.args.a c.args.b c.by_quarters.result k c.requires.a_stands c.requires.b_stands c.by_quarters.ensures.value
+
+pub composed_over-returns-in-Some-clause-keeps : goal.composed_over-returns-in-Some-clause-keeps
+composed_over-returns-in-Some-clause-keeps t c = keeps_most 0 _ c.args.nodes.now c.look.new.self (omega arith) c.look.ensures.reads.keeps
+
+pub composed_over-returns-then-rows_pay-clause-keeps : goal.composed_over-returns-then-rows_pay-clause-keeps
+composed_over-returns-then-rows_pay-clause-keeps t c =
+    let k1 = reads_on c.args.nodes.now c.look.new.self c.rows_pay.new.nodes c.look.ensures.reads c.rows_pay.ensures.reads in
+    let m = compose_room c.args.a.height in
+    keeps_most _ m c.args.nodes.now c.noted_by_rows.new.nodes (omega arith) (keeps_on 0 m c.args.nodes.now c.rows_pay.new.nodes c.noted_by_rows.new.nodes k1.keeps c.noted_by_rows.ensures.keeps)
+
+pub composed_over-returns-then-rows_pay-clause-counts : goal.composed_over-returns-then-rows_pay-clause-counts
+composed_over-returns-then-rows_pay-clause-counts t c =
+    let k1 = reads_on c.args.nodes.now c.look.new.self c.rows_pay.new.nodes c.look.ensures.reads c.rows_pay.ensures.reads in
+    counts_on c.args.nodes.now c.rows_pay.new.nodes c.noted_by_rows.new.nodes c.noted_by_rows.result k1.misses c.noted_by_rows.ensures.counts
+
+pub composed_over-returns-then-sums_pay-clause-keeps : goal.composed_over-returns-then-sums_pay-clause-keeps
+composed_over-returns-then-sums_pay-clause-keeps t c =
+    let k1 = reads_on c.args.nodes.now c.look.new.self c.rows_pay.new.nodes c.look.ensures.reads c.rows_pay.ensures.reads in
+    let k2 = reads_on c.args.nodes.now c.rows_pay.new.nodes c.sums_pay.new.nodes k1 c.sums_pay.ensures.reads in
+    let m = compose_room c.args.a.height in
+    keeps_most _ m c.args.nodes.now c.noted_by_sums.new.nodes (omega arith) (keeps_on 0 m c.args.nodes.now c.sums_pay.new.nodes c.noted_by_sums.new.nodes k2.keeps c.noted_by_sums.ensures.keeps)
+
+pub composed_over-returns-then-sums_pay-clause-counts : goal.composed_over-returns-then-sums_pay-clause-counts
+composed_over-returns-then-sums_pay-clause-counts t c =
+    let k1 = reads_on c.args.nodes.now c.look.new.self c.rows_pay.new.nodes c.look.ensures.reads c.rows_pay.ensures.reads in
+    let k2 = reads_on c.args.nodes.now c.rows_pay.new.nodes c.sums_pay.new.nodes k1 c.sums_pay.ensures.reads in
+    counts_on c.args.nodes.now c.sums_pay.new.nodes c.noted_by_sums.new.nodes c.noted_by_sums.result k2.misses c.noted_by_sums.ensures.counts
+
+pub composed_over-returns-clause-keeps : goal.composed_over-returns-clause-keeps
+composed_over-returns-clause-keeps t c =
+    let k1 = reads_on c.args.nodes.now c.look.new.self c.rows_pay.new.nodes c.look.ensures.reads c.rows_pay.ensures.reads in
+    let k2 = reads_on c.args.nodes.now c.rows_pay.new.nodes c.sums_pay.new.nodes k1 c.sums_pay.ensures.reads in
+    let k3 = reads_on c.args.nodes.now c.sums_pay.new.nodes c.asked_under-under.new.nodes k2 c.asked_under-under.ensures.reads in
+    let m = compose_room c.args.a.height in
+    keeps_most _ m c.args.nodes.now c.by_quarters.new.nodes (omega arith) (keeps_on 0 m c.args.nodes.now c.asked_under-under.new.nodes c.by_quarters.new.nodes k3.keeps c.by_quarters.ensures.keeps)
+
+pub composed_over-returns-clause-counts : goal.composed_over-returns-clause-counts
+composed_over-returns-clause-counts t c =
+    let k1 = reads_on c.args.nodes.now c.look.new.self c.rows_pay.new.nodes c.look.ensures.reads c.rows_pay.ensures.reads in
+    let k2 = reads_on c.args.nodes.now c.rows_pay.new.nodes c.sums_pay.new.nodes k1 c.sums_pay.ensures.reads in
+    let k3 = reads_on c.args.nodes.now c.sums_pay.new.nodes c.asked_under-under.new.nodes k2 c.asked_under-under.ensures.reads in
+    counts_on c.args.nodes.now c.asked_under-under.new.nodes c.by_quarters.new.nodes c.by_quarters.result k3.misses c.by_quarters.ensures.counts
+
+pub product-composed-requires : goal.product-composed-requires
+product-composed-requires t c =
+    let r = c.requires.row_stands in
+    let s = c.requires.column_stands in
+    (omega arith, (r.first, (s.first, s.first_height)))
+
+pub product-returns-in_err-first-clause-keeps : goal.product-returns-in_err-first-clause-keeps
+product-returns-in_err-first-clause-keeps t c = keeps_most _ _ c.args.nodes.now c.composed.new.nodes (omega arith) c.in_err-first.ensures.keeps
+
+pub product-returns-in_err-second-clause-keeps : goal.product-returns-in_err-second-clause-keeps
+product-returns-in_err-second-clause-keeps t c =
+    let e = ap compose_room c.requires.row_stands.second_height in
+    keeps_most _ (quarter_room c.args.row.0.height) c.args.nodes.now c.composed-2.new.nodes (omega (arith, e)) (keeps_on _ _ c.args.nodes.now c.composed.new.nodes c.composed-2.new.nodes c.in_ok-first.ensures.keeps c.in_err-second.ensures.keeps)
+
+pub product-returns-in_err-second-clause-counts : goal.product-returns-in_err-second-clause-counts
+product-returns-in_err-second-clause-counts t c = counts_failed c.args.nodes.now c.composed.new.nodes c.composed-2.new.nodes c.from_residual-in_err-second.result c.in_ok-first.ensures.counts c.from_residual-in_err-second.ensures.0 c.in_err-second.ensures.counts
+
+pub product-union_quads-requires-clause-one_height : goal.product-union_quads-requires-clause-one_height
+product-union_quads-requires-clause-one_height t c = c.in_ok-second.ensures.value.same_height ∙ c.requires.row_stands.second_height ∙ sym c.in_ok-first.ensures.value.same_height
+
+pub product-returns-clause-keeps : goal.product-returns-clause-keeps
+product-returns-clause-keeps t c =
+    let e = ap compose_room c.requires.row_stands.second_height in
+    let s : quad_room c.in_ok-first.first.height ≡ quad_room c.args.row.0.height = ap quad_room c.in_ok-first.ensures.value.same_height in
+    let k = keeps_on _ _ c.args.nodes.now c.composed.new.nodes c.composed-2.new.nodes c.in_ok-first.ensures.keeps c.in_ok-second.ensures.keeps in
+    keeps_most _ (quarter_room c.args.row.0.height) c.args.nodes.now c.union_quads.new.nodes (omega (arith, e, s))
+    (keeps_on _ (quad_room c.in_ok-first.first.height) c.args.nodes.now c.composed-2.new.nodes c.union_quads.new.nodes k c.union_quads.ensures.keeps)
+
+pub product-returns-clause-counts : goal.product-returns-clause-counts
+product-returns-clause-counts t c = counts_on c.args.nodes.now c.composed-2.new.nodes c.union_quads.new.nodes c.union_quads.result (c.in_ok-second.ensures.counts ∙ c.in_ok-first.ensures.counts) c.union_quads.ensures.counts
+
+pub row_of_products-product-requires : goal.row_of_products-product-requires
+row_of_products-product-requires t c = (omega arith, (c.requires.row_stands, c.requires.west_stands))
+
+pub row_of_products-returns-in_err-first-clause-keeps : goal.row_of_products-returns-in_err-first-clause-keeps
+row_of_products-returns-in_err-first-clause-keeps t c = keeps_most _ _ c.args.nodes.now c.product.new.nodes (omega arith) c.in_err-first.ensures.keeps
+
+pub row_of_products-returns-in_err-second-clause-keeps : goal.row_of_products-returns-in_err-second-clause-keeps
+row_of_products-returns-in_err-second-clause-keeps t c = keeps_on _ _ c.args.nodes.now c.product.new.nodes c.product-2.new.nodes c.in_ok-first.ensures.keeps c.in_err-second.ensures.keeps
+
+pub row_of_products-returns-in_err-second-clause-counts : goal.row_of_products-returns-in_err-second-clause-counts
+row_of_products-returns-in_err-second-clause-counts t c = counts_failed c.args.nodes.now c.product.new.nodes c.product-2.new.nodes c.from_residual-in_err-second.result c.in_ok-first.ensures.counts c.from_residual-in_err-second.ensures.0 c.in_err-second.ensures.counts
+
+pub row_of_products-returns-clause-keeps : goal.row_of_products-returns-clause-keeps
+row_of_products-returns-clause-keeps t c = keeps_on _ _ c.args.nodes.now c.product.new.nodes c.product-2.new.nodes c.in_ok-first.ensures.keeps c.in_ok-second.ensures.keeps
+
+pub row_of_products-returns-clause-counts : goal.row_of_products-returns-clause-counts
+row_of_products-returns-clause-counts t c = c.in_ok-second.ensures.counts ∙ c.in_ok-first.ensures.counts
+
+pub by_quarters-returns-in_err-nw-clause-counts : goal.by_quarters-returns-in_err-nw-clause-counts
+by_quarters-returns-in_err-nw-clause-counts t c = counts_failed c.args.nodes.now c.both_quarters.new.nodes c.row_of_products.new.nodes c.from_residual.result c.both_quarters.ensures.reads.misses c.from_residual.ensures.0 c.in_err-nw.ensures.counts
+
+pub by_quarters-returns-in_err-sw-clause-counts : goal.by_quarters-returns-in_err-sw-clause-counts
+by_quarters-returns-in_err-sw-clause-counts t c = counts_failed c.args.nodes.now c.row_of_products.new.nodes c.row_of_products-2.new.nodes c.from_residual-in_err-sw.result (c.in_ok-nw.ensures.counts ∙ c.both_quarters.ensures.reads.misses) c.from_residual-in_err-sw.ensures.0 c.in_err-sw.ensures.counts
+
+pub by_quarters-returns-in_err-found-clause-counts : goal.by_quarters-returns-in_err-found-clause-counts
+by_quarters-returns-in_err-found-clause-counts t c = counts_failed c.args.nodes.now c.row_of_products-2.new.nodes c.corner.new.self c.from_residual-in_err-found.result (c.in_ok-sw.ensures.counts ∙ c.in_ok-nw.ensures.counts ∙ c.both_quarters.ensures.reads.misses) c.from_residual-in_err-found.ensures.0 c.in_err-found.ensures.counts
+
+pub by_quarters-returns-clause-counts : goal.by_quarters-returns-clause-counts
+by_quarters-returns-clause-counts t c = c.note.ensures.reads.misses ∙ c.in_ok-found.ensures.counts ∙ c.in_ok-sw.ensures.counts ∙ c.in_ok-nw.ensures.counts ∙ c.both_quarters.ensures.reads.misses

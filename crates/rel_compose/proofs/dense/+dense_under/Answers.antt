@@ -49,3 +49,10 @@ quarters-requires-clause-over t c = low_at c.args.q.height c.requires.tall c.if-
 
 pub is_counted-requires-clause-over : goal.is_counted-requires-clause-over
 is_counted-requires-clause-over t c = subst (λ h. bottom_height < h) (sym c.if-q-eq8.true) low_8
+
+pub returns-clause-reads : goal.returns-clause-reads
+returns-clause-reads t c =
+    let k1 = reads_on c.args.nodes.now c.quarters.new.self c.dense_under-first.new.nodes c.quarters.ensures.reads c.dense_under-first.ensures.reads in
+    let k2 = reads_on c.args.nodes.now c.dense_under-first.new.nodes c.dense_under-second.new.nodes k1 c.dense_under-second.ensures.reads in
+    let k3 = reads_on c.args.nodes.now c.dense_under-second.new.nodes c.dense_under-third.new.nodes k2 c.dense_under-third.ensures.reads in
+    reads_on c.args.nodes.now c.dense_under-third.new.nodes c.dense_under.new.nodes k3 c.dense_under.ensures.reads

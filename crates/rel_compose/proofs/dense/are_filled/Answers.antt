@@ -16,3 +16,9 @@ filled_quarters-fourth-requires c =
     let j = reads_on c.args.nodes.now c.filled_quarters-first.new.nodes c.filled_quarters-second.new.nodes c.filled_quarters-first.ensures.reads c.filled_quarters-second.ensures.reads in
     let k = reads_on c.args.nodes.now c.filled_quarters-second.new.nodes c.filled_quarters-third.new.nodes j c.filled_quarters-third.ensures.reads in
     record { stands = quad_stays 0 c.args.nodes.now c.filled_quarters-third.new.nodes c.args.four.3 k.keeps c.requires.se }
+
+pub returns : goal.returns
+returns c =
+    let k1 = reads_on c.args.nodes.now c.filled_quarters-first.new.nodes c.filled_quarters-second.new.nodes c.filled_quarters-first.ensures.reads c.filled_quarters-second.ensures.reads in
+    let k2 = reads_on c.args.nodes.now c.filled_quarters-second.new.nodes c.filled_quarters-third.new.nodes k1 c.filled_quarters-third.ensures.reads in
+    record { reads = reads_on c.args.nodes.now c.filled_quarters-third.new.nodes c.filled_quarters-fourth.new.nodes k2 c.filled_quarters-fourth.ensures.reads }

@@ -16,3 +16,11 @@ pub look-requires-clause-b_stands : goal.look-requires-clause-b_stands
 look-requires-clause-b_stands c =
     let k = reads_on c.args.nodes.now c.both_full.new.nodes c.both_dense.new.nodes c.both_full.ensures.reads c.both_dense.ensures.reads in
     quad_stays 0 c.args.nodes.now c.both_dense.new.nodes c.args.z k.keeps c.requires.z_stands
+
+pub returns-then-not-both_dense : goal.returns-then-not-both_dense
+returns-then-not-both_dense c = record { reads = reads_on c.args.nodes.now c.both_full.new.nodes c.both_dense.new.nodes c.both_full.ensures.reads c.both_dense.ensures.reads }
+
+pub returns : goal.returns
+returns c =
+    let k1 = reads_on c.args.nodes.now c.both_full.new.nodes c.both_dense.new.nodes c.both_full.ensures.reads c.both_dense.ensures.reads in
+    record { reads = reads_on c.args.nodes.now c.both_dense.new.nodes c.look.new.self k1 c.look.ensures.reads }

@@ -1,6 +1,6 @@
 use Rattle.std.proofs.Common.{◌<◌, ◌∙◌, sym, subst, arith}
 use Rattle.rel_model.specs.Trees.{bottom_height}
-use Rattle.rel_model.proofs.QuadLaws.{quad_stays}
+use Rattle.rel_model.proofs.QuadLaws.{quad_stays, reads_on}
 use Rattle.bit_rows.specs.Rows.{rows_cells}
 use Rattle.rel_compose.proofs.Summing.{crossing_of, low_at, side_small_8, whole_added, sums_added, none_left_added, none_right_added}
 use Rattle.rel_compose.proofs.sums.+add_products.Goals as goal
@@ -60,3 +60,8 @@ returns-clause-cells t c =
 
 pub side_of_height-half-requires-clause-low : goal.side_of_height-half-requires-clause-low
 side_of_height-half-requires-clause-low t c = let o = low_at c.args.a.height c.requires.tall c.if-a-eq8.false in omega arith
+
+pub returns-clause-reads : goal.returns-clause-reads
+returns-clause-reads t c =
+    let k1 = reads_on c.args.nodes.now c.quarters_of_both.new.self c.add_products.new.nodes c.quarters_of_both.ensures.reads c.add_products.ensures.reads in
+    reads_on c.args.nodes.now c.add_products.new.nodes c.add_products-2.new.nodes k1 c.add_products-2.ensures.reads

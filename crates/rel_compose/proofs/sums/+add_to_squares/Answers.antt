@@ -1,6 +1,6 @@
 use Rattle.std.proofs.Common.{◌<◌, ◌∙◌, sym, subst, arith}
 use Rattle.rel_model.specs.Trees.{bottom_height}
-use Rattle.rel_model.proofs.QuadLaws.{quad_stays}
+use Rattle.rel_model.proofs.QuadLaws.{quad_stays, reads_on}
 use Rattle.rel_compose.proofs.Summing.{nine_low, side_small_8, four_crossing_of, four_sums_added, four_products_added, four_none_left, four_none_right}
 use Rattle.rel_compose.proofs.sums.+add_to_squares.Goals as goal
 
@@ -100,3 +100,13 @@ returns-clause-cells t c =
     c.args.z.now c.add_to_squares.new.z c.add_to_squares-2.new.z
     c.requires.one_height c.quarters_of_both.ensures.first c.quarters_of_both.ensures.second c.side_of_height-half.ensures c.half_at-inner_row.ensures c.half_at-inner_col.ensures
     c.requires.row_on c.requires.col_on c.add_to_squares.ensures.reads y c.add_to_squares.ensures.cells c.add_to_squares-2.ensures.cells
+
+pub returns-then-a-eq9-clause-reads : goal.returns-then-a-eq9-clause-reads
+returns-then-a-eq9-clause-reads t c =
+    let k1 = reads_on c.args.nodes.now c.quarters_of_both.new.self c.add_four_products.new.nodes c.quarters_of_both.ensures.reads c.add_four_products.ensures.reads in
+    reads_on c.args.nodes.now c.add_four_products.new.nodes c.add_four_products-then-a-eq9.new.nodes k1 c.add_four_products-then-a-eq9.ensures.reads
+
+pub returns-clause-reads : goal.returns-clause-reads
+returns-clause-reads t c =
+    let k1 = reads_on c.args.nodes.now c.quarters_of_both.new.self c.add_to_squares.new.nodes c.quarters_of_both.ensures.reads c.add_to_squares.ensures.reads in
+    reads_on c.args.nodes.now c.add_to_squares.new.nodes c.add_to_squares-2.new.nodes k1 c.add_to_squares-2.ensures.reads

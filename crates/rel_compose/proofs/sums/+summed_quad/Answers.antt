@@ -1,11 +1,12 @@
-use Rattle.std.proofs.Common.{◌≡◌, ◌<◌, ◌≤◌, ◌+◌, ◌-◌, ℕ, refl, inl, inr, arith}
+use Rattle.std.proofs.Common.{◌≡◌, ◌<◌, ◌≤◌, ◌+◌, ◌-◌, ℕ, refl, inl, inr, arith, ◌∙◌}
 use Rattle.rel_model.specs.Trees.{bottom_height}
 use Rattle.rel_model.specs.Cells.{Cells, cells_compose}
 use Rattle.rel_model.specs.Equations.{side_of}
 use Rattle.rel_model.specs.Quads.{quad_cells, quad_room}
-use Rattle.rel_model.proofs.QuadLaws.{keeps_on, keeps_most, quad_stays, quad_cells-stay, rooms-next, side_of-next}
+use Rattle.rel_model.proofs.QuadLaws.{keeps_on, keeps_most, quad_stays, quad_cells-stay, rooms-next, side_of-next, counts_on}
 use Rattle.rel_compose.proofs.Summing.{low_at, product_later, eight_keeps, eight_in, side_most, nine_keeps, nine_in}
 use Rattle.rel_compose.proofs.Joining.{joined_value, quarter_window, quarter_value, keeps_at, height_value}
+use Rattle.rel_compose.proofs.Multiplying.{counts_failed}
 use Rattle.rel_compose.proofs.sums.+summed_quad.Goals as goal
 
 -- ---- each quarter
@@ -336,3 +337,21 @@ four_sums_at-requires-clause-row_in t c = nine_in c.args.x.height c.args.row (si
 
 pub four_sums_at-requires-clause-col_in : goal.four_sums_at-requires-clause-col_in
 four_sums_at-requires-clause-col_in t c = nine_in c.args.x.height c.args.col (side_of c.args.a.height) (c.is_by_512.ensures.nine c.if-is_by_512.true) c.requires.col_in
+
+pub returns-in_err-nw-clause-counts : goal.returns-in_err-nw-clause-counts
+returns-in_err-nw-clause-counts t c = counts_failed c.args.nodes.now c.quarters-four.new.self c.summed_quad.new.nodes c.from_residual.result c.quarters-four.ensures.reads.misses c.from_residual.ensures.0 c.in_err-nw.ensures.counts
+
+pub returns-in_err-ne-clause-counts : goal.returns-in_err-ne-clause-counts
+returns-in_err-ne-clause-counts t c = counts_failed c.args.nodes.now c.summed_quad.new.nodes c.summed_quad-2.new.nodes c.from_residual-in_err-ne.result (c.in_ok-nw.ensures.counts ∙ c.quarters-four.ensures.reads.misses) c.from_residual-in_err-ne.ensures.0 c.in_err-ne.ensures.counts
+
+pub returns-in_err-sw-clause-counts : goal.returns-in_err-sw-clause-counts
+returns-in_err-sw-clause-counts t c = counts_failed c.args.nodes.now c.summed_quad-2.new.nodes c.summed_quad-3.new.nodes c.from_residual-in_err-sw.result (c.in_ok-ne.ensures.counts ∙ c.in_ok-nw.ensures.counts ∙ c.quarters-four.ensures.reads.misses) c.from_residual-in_err-sw.ensures.0 c.in_err-sw.ensures.counts
+
+pub returns-in_err-se-clause-counts : goal.returns-in_err-se-clause-counts
+returns-in_err-se-clause-counts t c = counts_failed c.args.nodes.now c.summed_quad-3.new.nodes c.summed_quad-4.new.nodes c.from_residual-in_err-se.result (c.in_ok-sw.ensures.counts ∙ c.in_ok-ne.ensures.counts ∙ c.in_ok-nw.ensures.counts ∙ c.quarters-four.ensures.reads.misses) c.from_residual-in_err-se.ensures.0 c.in_err-se.ensures.counts
+
+pub returns-clause-counts : goal.returns-clause-counts
+returns-clause-counts t c = counts_on c.args.nodes.now c.summed_quad-4.new.nodes c.corner.new.self c.corner.result (c.in_ok-se.ensures.counts ∙ c.in_ok-sw.ensures.counts ∙ c.in_ok-ne.ensures.counts ∙ c.in_ok-nw.ensures.counts ∙ c.quarters-four.ensures.reads.misses) c.corner.ensures.counts
+
+pub corner-requires-clause-se_stands : goal.corner-requires-clause-se_stands
+corner-requires-clause-se_stands t c = c.in_ok-se.ensures.value.stands

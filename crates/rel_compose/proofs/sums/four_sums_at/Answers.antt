@@ -1,12 +1,13 @@
-use Rattle.std.proofs.Common.{◌≡◌, ◌≤◌, ◌+◌, ℕ, arith}
+use Rattle.std.proofs.Common.{◌≡◌, ◌≤◌, ◌+◌, ℕ, arith, ◌∙◌, sym}
 use Rattle.rel_model.specs.Cells.{Cells, cells_compose}
 use Rattle.rel_model.specs.Equations.{side_of}
 use Rattle.rel_model.specs.Quads.{quad_cells, quad_room}
-use Rattle.rel_model.proofs.QuadLaws.{keeps_on, keeps_most, quad_stays, reads_on, rooms-next}
+use Rattle.rel_model.proofs.QuadLaws.{keeps_on, keeps_most, quad_stays, reads_on, rooms-next, counts_on}
 use Rattle.bit_rows.specs.Rows.{rows_cells}
 use Rattle.rel_compose.proofs.Fitting.{three_reads}
 use Rattle.rel_compose.proofs.Summing.{over_8, product_later}
 use Rattle.rel_compose.proofs.Joining.{sum_quad, four_quads, eight_within, quarters_small}
+use Rattle.rel_compose.proofs.Multiplying.{counts_failed}
 use Rattle.rel_compose.proofs.sums.four_sums_at.Goals as goal
 
 pub returns-in_err-nw-clause-keeps : goal.returns-in_err-nw-clause-keeps
@@ -138,3 +139,30 @@ pub add_to_squares-requires-clause-b_stands : goal.add_to_squares-requires-claus
 add_to_squares-requires-clause-b_stands c =
     let k = reads_on c.args.nodes.now c.quarters-four.new.self c.spill_four.new.nodes c.quarters-four.ensures.reads c.spill_four.ensures.reads in
     quad_stays 0 c.args.nodes.now c.spill_four.new.nodes c.args.b k.keeps c.requires.b_stands
+
+pub returns-in_err-nw-clause-counts : goal.returns-in_err-nw-clause-counts
+returns-in_err-nw-clause-counts c = counts_failed c.args.nodes.now c.add_to_squares.new.nodes c.gather_quad.new.nodes c.from_residual.result (c.add_to_squares.ensures.reads.misses ∙ c.spill_four.ensures.reads.misses ∙ c.quarters-four.ensures.reads.misses) c.from_residual.ensures.0 c.in_err-nw.ensures.counts
+
+pub returns-in_err-ne-clause-counts : goal.returns-in_err-ne-clause-counts
+returns-in_err-ne-clause-counts c = counts_failed c.args.nodes.now c.gather_quad.new.nodes c.gather_quad-2.new.nodes c.from_residual-in_err-ne.result (c.in_ok-nw.ensures.counts ∙ c.add_to_squares.ensures.reads.misses ∙ c.spill_four.ensures.reads.misses ∙ c.quarters-four.ensures.reads.misses) c.from_residual-in_err-ne.ensures.0 c.in_err-ne.ensures.counts
+
+pub returns-in_err-sw-clause-counts : goal.returns-in_err-sw-clause-counts
+returns-in_err-sw-clause-counts c = counts_failed c.args.nodes.now c.gather_quad-2.new.nodes c.gather_quad-3.new.nodes c.from_residual-in_err-sw.result (c.in_ok-ne.ensures.counts ∙ c.in_ok-nw.ensures.counts ∙ c.add_to_squares.ensures.reads.misses ∙ c.spill_four.ensures.reads.misses ∙ c.quarters-four.ensures.reads.misses) c.from_residual-in_err-sw.ensures.0 c.in_err-sw.ensures.counts
+
+pub returns-in_err-se-clause-counts : goal.returns-in_err-se-clause-counts
+returns-in_err-se-clause-counts c = counts_failed c.args.nodes.now c.gather_quad-3.new.nodes c.gather_quad-4.new.nodes c.from_residual-in_err-se.result (c.in_ok-sw.ensures.counts ∙ c.in_ok-ne.ensures.counts ∙ c.in_ok-nw.ensures.counts ∙ c.add_to_squares.ensures.reads.misses ∙ c.spill_four.ensures.reads.misses ∙ c.quarters-four.ensures.reads.misses) c.from_residual-in_err-se.ensures.0 c.in_err-se.ensures.counts
+
+pub returns-clause-counts : goal.returns-clause-counts
+returns-clause-counts c = counts_on c.args.nodes.now c.gather_quad-4.new.nodes c.corner.new.self c.corner.result (c.in_ok-se.ensures.counts ∙ c.in_ok-sw.ensures.counts ∙ c.in_ok-ne.ensures.counts ∙ c.in_ok-nw.ensures.counts ∙ c.add_to_squares.ensures.reads.misses ∙ c.spill_four.ensures.reads.misses ∙ c.quarters-four.ensures.reads.misses) c.corner.ensures.counts
+
+pub corner-requires-clause-se_stands : goal.corner-requires-clause-se_stands
+corner-requires-clause-se_stands c = c.in_ok-se.ensures.value.stands
+
+pub corner-requires-clause-ne_height : goal.corner-requires-clause-ne_height
+corner-requires-clause-ne_height c = c.in_ok-ne.ensures.value.same_height ∙ sym c.in_ok-nw.ensures.value.same_height
+
+pub corner-requires-clause-sw_height : goal.corner-requires-clause-sw_height
+corner-requires-clause-sw_height c = c.in_ok-sw.ensures.value.same_height ∙ sym c.in_ok-nw.ensures.value.same_height
+
+pub corner-requires-clause-se_height : goal.corner-requires-clause-se_height
+corner-requires-clause-se_height c = c.in_ok-se.ensures.value.same_height ∙ sym c.in_ok-nw.ensures.value.same_height

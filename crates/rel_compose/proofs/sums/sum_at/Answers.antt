@@ -1,10 +1,10 @@
-use Rattle.std.proofs.Common.{arith}
-use Rattle.rel_model.proofs.QuadLaws.{quad_stays}
+use Rattle.std.proofs.Common.{arith, ◌≤◌, ◌+◌, ℕ}
+use Rattle.rel_model.proofs.QuadLaws.{quad_stays, reads_on, keeps_on, keeps_most, counts_on}
 use Rattle.bit_rows.specs.Rows.{rows_cells}
 use Rattle.row_quads.proofs.ByRows.{same_value}
 use Rattle.rel_model.specs.Cells.{cells_compose}
 use Rattle.rel_model.specs.Equations.{side_of}
-use Rattle.rel_model.specs.Quads.{quad_cells}
+use Rattle.rel_model.specs.Quads.{quad_cells, quad_room}
 use Rattle.rel_compose.proofs.Summing.{product_later, side_small_8, eight_low, eight_high, eight_small}
 use Rattle.rel_compose.proofs.Joining.{sum_rows, eight_within}
 use Rattle.rel_compose.proofs.sums.sum_at.Goals as goal
@@ -43,3 +43,14 @@ add_products-requires-clause-a_stands c = quad_stays 0 c.args.nodes.now c.spill_
 
 pub add_products-requires-clause-b_stands : goal.add_products-requires-clause-b_stands
 add_products-requires-clause-b_stands c = quad_stays 0 c.args.nodes.now c.spill_quad.new.nodes c.args.b c.spill_quad.ensures.reads.keeps c.requires.b_stands
+
+pub returns-clause-keeps : goal.returns-clause-keeps
+returns-clause-keeps c =
+    let k = reads_on c.args.nodes.now c.spill_quad.new.nodes c.add_products.new.nodes c.spill_quad.ensures.reads c.add_products.ensures.reads in
+    let m : ℕ = quad_room 8 in
+    keeps_most _ m c.args.nodes.now c.gather_quad.new.nodes (omega arith) (keeps_on 0 m c.args.nodes.now c.add_products.new.nodes c.gather_quad.new.nodes k.keeps c.gather_quad.ensures.keeps)
+
+pub returns-clause-counts : goal.returns-clause-counts
+returns-clause-counts c =
+    let k = reads_on c.args.nodes.now c.spill_quad.new.nodes c.add_products.new.nodes c.spill_quad.ensures.reads c.add_products.ensures.reads in
+    counts_on c.args.nodes.now c.add_products.new.nodes c.gather_quad.new.nodes c.gather_quad.result k.misses c.gather_quad.ensures.counts

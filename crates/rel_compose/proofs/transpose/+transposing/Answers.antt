@@ -1,10 +1,11 @@
 use Rattle.std.proofs.Common.{◌≡◌, ◌≤◌, ◌+◌, ◌-◌, ℕ, Ok, refl, ◌∙◌, arith}
 use Rattle.rel_model.specs.Cells.{cells_transpose}
 use Rattle.rel_model.specs.Quads.{quad_room, quad_cells}
-use Rattle.rel_model.proofs.QuadLaws.{keeps_on, keeps_most, quad_stays, is_quad-stays, rooms-next, room-some, room_below, reads_itself, reads_on}
+use Rattle.rel_model.proofs.QuadLaws.{keeps_on, keeps_most, quad_stays, is_quad-stays, rooms-next, room-some, room_below, reads_itself, reads_on, counts_on}
 use Rattle.quad_nodes.proofs.Finding.{not_missed, found_is, found_after, the_answer, four_found}
 use Rattle.rel_compose.proofs.Finding.{turned_stood, turned_found, turned_block, turned_later}
 use Rattle.rel_compose.proofs.Transposing.{none_stands, transposed_none, transposed_full, transposed_after, transposed_value, transposed_now}
+use Rattle.rel_compose.proofs.Multiplying.{counts_failed}
 use Rattle.rel_compose.proofs.transpose.+transposing.Goals as goal
 
 pub transpose_quad-returns-then-a-eq0-clause-value : goal.transpose_quad-returns-then-a-eq0-clause-value
@@ -464,3 +465,70 @@ transposed_by_quarters-returns-clause-stood t c q s =
     let s7 = c.corner.new.self in
     let z = four_found s2 s6 s7 h _ _ _ _ q c.in_ok-nw.nw c.in_ok-ne.ne c.in_ok-sw.sw c.in_ok-se.se _ d x3.reads (the_answer s2 s3 _ _ x0) (the_answer s2 s4 _ _ x1) (the_answer s2 s5 _ _ x2) (the_answer s2 s6 _ _ x3) c.in_ok-found.ensures.stood in
     found_after s0 s2 s7 c.note.new.self q c.in_ok-found.found c.quarters_ahead.ensures.reads z c.note.ensures.reads
+
+pub transposed_over-returns-in-Some-clause-keeps : goal.transposed_over-returns-in-Some-clause-keeps
+transposed_over-returns-in-Some-clause-keeps t c = keeps_most 0 _ c.args.nodes.now c.look.new.self (omega arith) c.look.ensures.reads.keeps
+
+pub transposed_over-returns-then-blocks_pay-clause-keeps : goal.transposed_over-returns-then-blocks_pay-clause-keeps
+transposed_over-returns-then-blocks_pay-clause-keeps t c =
+    let k1 = reads_on c.args.nodes.now c.look.new.self c.blocks_pay.new.nodes c.look.ensures.reads c.blocks_pay.ensures.reads in
+    let m = quad_room c.args.a.height in
+    keeps_most _ m c.args.nodes.now c.transposed_by_blocks.new.nodes (omega arith) (keeps_on 0 m c.args.nodes.now c.blocks_pay.new.nodes c.transposed_by_blocks.new.nodes k1.keeps c.transposed_by_blocks.ensures.keeps)
+
+pub transposed_over-returns-then-blocks_pay-clause-counts : goal.transposed_over-returns-then-blocks_pay-clause-counts
+transposed_over-returns-then-blocks_pay-clause-counts t c =
+    let k1 = reads_on c.args.nodes.now c.look.new.self c.blocks_pay.new.nodes c.look.ensures.reads c.blocks_pay.ensures.reads in
+    counts_on c.args.nodes.now c.blocks_pay.new.nodes c.transposed_by_blocks.new.nodes c.transposed_by_blocks.result k1.misses c.transposed_by_blocks.ensures.counts
+
+pub transposed_over-returns-clause-keeps : goal.transposed_over-returns-clause-keeps
+transposed_over-returns-clause-keeps t c =
+    let k1 = reads_on c.args.nodes.now c.look.new.self c.blocks_pay.new.nodes c.look.ensures.reads c.blocks_pay.ensures.reads in
+    let m = quad_room c.args.a.height in
+    keeps_most _ m c.args.nodes.now c.transposed_by_quarters.new.nodes (omega arith) (keeps_on 0 m c.args.nodes.now c.blocks_pay.new.nodes c.transposed_by_quarters.new.nodes k1.keeps c.transposed_by_quarters.ensures.keeps)
+
+pub transposed_over-returns-clause-counts : goal.transposed_over-returns-clause-counts
+transposed_over-returns-clause-counts t c =
+    let k1 = reads_on c.args.nodes.now c.look.new.self c.blocks_pay.new.nodes c.look.ensures.reads c.blocks_pay.ensures.reads in
+    counts_on c.args.nodes.now c.blocks_pay.new.nodes c.transposed_by_quarters.new.nodes c.transposed_by_quarters.result k1.misses c.transposed_by_quarters.ensures.counts
+
+pub transposed_by_quarters-returns-in_err-nw-clause-counts : goal.transposed_by_quarters-returns-in_err-nw-clause-counts
+transposed_by_quarters-returns-in_err-nw-clause-counts t c = counts_failed c.args.nodes.now c.quarters_ahead.new.self c.transpose_quad.new.nodes c.from_residual.result c.quarters_ahead.ensures.reads.misses c.from_residual.ensures.0 c.in_err-nw.ensures.counts
+
+pub transposed_by_quarters-returns-in_err-ne-clause-counts : goal.transposed_by_quarters-returns-in_err-ne-clause-counts
+transposed_by_quarters-returns-in_err-ne-clause-counts t c = counts_failed c.args.nodes.now c.transpose_quad.new.nodes c.transpose_quad-2.new.nodes c.from_residual-in_err-ne.result (c.in_ok-nw.ensures.counts ∙ c.quarters_ahead.ensures.reads.misses) c.from_residual-in_err-ne.ensures.0 c.in_err-ne.ensures.counts
+
+pub transposed_by_quarters-returns-in_err-sw-clause-counts : goal.transposed_by_quarters-returns-in_err-sw-clause-counts
+transposed_by_quarters-returns-in_err-sw-clause-counts t c = counts_failed c.args.nodes.now c.transpose_quad-2.new.nodes c.transpose_quad-3.new.nodes c.from_residual-in_err-sw.result (c.in_ok-ne.ensures.counts ∙ c.in_ok-nw.ensures.counts ∙ c.quarters_ahead.ensures.reads.misses) c.from_residual-in_err-sw.ensures.0 c.in_err-sw.ensures.counts
+
+pub transposed_by_quarters-returns-in_err-se-clause-counts : goal.transposed_by_quarters-returns-in_err-se-clause-counts
+transposed_by_quarters-returns-in_err-se-clause-counts t c = counts_failed c.args.nodes.now c.transpose_quad-3.new.nodes c.transpose_quad-4.new.nodes c.from_residual-in_err-se.result (c.in_ok-sw.ensures.counts ∙ c.in_ok-ne.ensures.counts ∙ c.in_ok-nw.ensures.counts ∙ c.quarters_ahead.ensures.reads.misses) c.from_residual-in_err-se.ensures.0 c.in_err-se.ensures.counts
+
+pub transposed_by_quarters-returns-in_err-found-clause-counts : goal.transposed_by_quarters-returns-in_err-found-clause-counts
+transposed_by_quarters-returns-in_err-found-clause-counts t c = counts_failed c.args.nodes.now c.transpose_quad-4.new.nodes c.corner.new.self c.from_residual-in_err-found.result (c.in_ok-se.ensures.counts ∙ c.in_ok-sw.ensures.counts ∙ c.in_ok-ne.ensures.counts ∙ c.in_ok-nw.ensures.counts ∙ c.quarters_ahead.ensures.reads.misses) c.from_residual-in_err-found.ensures.0 c.in_err-found.ensures.counts
+
+pub transposed_by_quarters-returns-clause-counts : goal.transposed_by_quarters-returns-clause-counts
+transposed_by_quarters-returns-clause-counts t c = c.note.ensures.reads.misses ∙ c.in_ok-found.ensures.counts ∙ c.in_ok-se.ensures.counts ∙ c.in_ok-sw.ensures.counts ∙ c.in_ok-ne.ensures.counts ∙ c.in_ok-nw.ensures.counts ∙ c.quarters_ahead.ensures.reads.misses
+
+pub transposed_by_quarters-corner-requires-clause-se_stands : goal.transposed_by_quarters-corner-requires-clause-se_stands
+transposed_by_quarters-corner-requires-clause-se_stands t c = c.in_ok-se.ensures.value.stands
+
+pub transposed_by_quarters-corner-requires-clause-ne_height : goal.transposed_by_quarters-corner-requires-clause-ne_height
+transposed_by_quarters-corner-requires-clause-ne_height t c =
+    let q = c.quarters_ahead.ensures.quarters in
+    let x = q.nw_height in
+    let y = q.sw_height in
+    omega (arith, x, y, c.in_ok-nw.ensures.value.same_height, c.in_ok-ne.ensures.value.same_height)
+
+pub transposed_by_quarters-corner-requires-clause-sw_height : goal.transposed_by_quarters-corner-requires-clause-sw_height
+transposed_by_quarters-corner-requires-clause-sw_height t c =
+    let q = c.quarters_ahead.ensures.quarters in
+    let x = q.nw_height in
+    let y = q.ne_height in
+    omega (arith, x, y, c.in_ok-nw.ensures.value.same_height, c.in_ok-sw.ensures.value.same_height)
+
+pub transposed_by_quarters-corner-requires-clause-se_height : goal.transposed_by_quarters-corner-requires-clause-se_height
+transposed_by_quarters-corner-requires-clause-se_height t c =
+    let q = c.quarters_ahead.ensures.quarters in
+    let x = q.nw_height in
+    let y = q.se_height in
+    omega (arith, x, y, c.in_ok-nw.ensures.value.same_height, c.in_ok-se.ensures.value.same_height)

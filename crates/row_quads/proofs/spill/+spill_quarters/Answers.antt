@@ -1,7 +1,7 @@
 use Rattle.std.proofs.Common.{◌≡◌, ◌<◌, ◌≤◌, ◌+◌, ◌%◌, arith}
 use Rattle.rel_model.specs.Trees.{bottom_height}
 use Rattle.rel_model.specs.Equations.{side_of}
-use Rattle.rel_model.proofs.QuadLaws.{keeps_on, quad_stays, quarters-stay}
+use Rattle.rel_model.proofs.QuadLaws.{keeps_on, quad_stays, quarters-stay, reads_on}
 use Rattle.bit_rows.specs.Rows.{rows_cells}
 use Rattle.row_quads.proofs.Placing.{half_side, side_of_by_8, spilled_none, spilled_four}
 use Rattle.row_quads.proofs.Reading.{all_read, stay_read}
@@ -120,3 +120,13 @@ returns-clause-cells t c =
     (rows_cells c.args.z.now) (rows_cells c.spill_quarters.new.z) (rows_cells c.spill_quarters-2.new.z) (rows_cells c.spill_quarters-3.new.z) (rows_cells c.spill_quarters-4.new.z)
     c.requires.stands c.spill_quarters.ensures.reads c.spill_quarters-2.ensures.reads c.spill_quarters-3.ensures.reads (quarters-stay 0 s0 s0 c.quarters-of_se.new.self c.args.q c.args.four k4 c.requires.quarters) c.side_of_height-half.ensures
     c.spill_quarters.ensures.cells c.spill_quarters-2.ensures.cells c.spill_quarters-3.ensures.cells c.spill_quarters-4.ensures.cells
+
+pub returns-clause-reads : goal.returns-clause-reads
+returns-clause-reads t c =
+    let k1 = reads_on c.args.nodes.now c.quarters-of_nw.new.self c.quarters-of_ne.new.self c.quarters-of_nw.ensures.reads c.quarters-of_ne.ensures.reads in
+    let k2 = reads_on c.args.nodes.now c.quarters-of_ne.new.self c.quarters-of_sw.new.self k1 c.quarters-of_sw.ensures.reads in
+    let k3 = reads_on c.args.nodes.now c.quarters-of_sw.new.self c.quarters-of_se.new.self k2 c.quarters-of_se.ensures.reads in
+    let k4 = reads_on c.args.nodes.now c.quarters-of_se.new.self c.spill_quarters.new.nodes k3 c.spill_quarters.ensures.reads in
+    let k5 = reads_on c.args.nodes.now c.spill_quarters.new.nodes c.spill_quarters-2.new.nodes k4 c.spill_quarters-2.ensures.reads in
+    let k6 = reads_on c.args.nodes.now c.spill_quarters-2.new.nodes c.spill_quarters-3.new.nodes k5 c.spill_quarters-3.ensures.reads in
+    reads_on c.args.nodes.now c.spill_quarters-3.new.nodes c.spill_quarters-4.new.nodes k6 c.spill_quarters-4.ensures.reads

@@ -1,8 +1,8 @@
-use Rattle.std.proofs.Common.{◌≤◌, sym, subst}
+use Rattle.std.proofs.Common.{◌≤◌, sym, subst, ◌+◌, ap, arith}
 use Rattle.bit_rows.specs.Rows.{rows_cells}
 use Rattle.rel_model.specs.Equations.{side_of}
 use Rattle.rel_model.specs.Quads.{quad_cells}
-use Rattle.rel_model.proofs.QuadLaws.{keeps_on, keeps_itself, quad_stays}
+use Rattle.rel_model.proofs.QuadLaws.{keeps_on, keeps_itself, quad_stays, reads_on}
 use Rattle.row_quads.proofs.Adding.{none_times, quads_added}
 use Rattle.row_quads.proofs.squares.add_four_products.Goals as goal
 
@@ -60,3 +60,27 @@ add_times-requires-2-clause-stands c =
     let k2 = keeps_on 0 0 s0 c.spill_quad.new.nodes c.spill_quad-2.new.nodes c.spill_quad.ensures.reads.keeps c.spill_quad-2.ensures.reads.keeps in
     let k3 = keeps_on 0 0 s0 c.spill_quad-2.new.nodes c.add_times.new.nodes k2 c.add_times.ensures.reads.keeps in
     quad_stays 0 s0 c.add_times.new.nodes c.args.row.1 k3 c.requires.stand.east
+
+pub returns-clause-reads : goal.returns-clause-reads
+returns-clause-reads c =
+    let k1 = reads_on c.args.nodes.now c.spill_quad.new.nodes c.spill_quad-2.new.nodes c.spill_quad.ensures.reads c.spill_quad-2.ensures.reads in
+    let k2 = reads_on c.args.nodes.now c.spill_quad-2.new.nodes c.add_times.new.nodes k1 c.add_times.ensures.reads in
+    reads_on c.args.nodes.now c.add_times.new.nodes c.add_times-2.new.nodes k2 c.add_times-2.ensures.reads
+
+pub add_times-requires-clause-upper_len : goal.add_times-requires-clause-upper_len
+add_times-requires-clause-upper_len c = c.spill_quad.ensures.len
+
+pub add_times-requires-clause-lower_len : goal.add_times-requires-clause-lower_len
+add_times-requires-clause-lower_len c = c.spill_quad-2.ensures.len
+
+pub add_times-requires-2-clause-upper_len : goal.add_times-requires-2-clause-upper_len
+add_times-requires-2-clause-upper_len c = c.spill_quad.ensures.len
+
+pub add_times-requires-2-clause-lower_len : goal.add_times-requires-2-clause-lower_len
+add_times-requires-2-clause-lower_len c = c.spill_quad-2.ensures.len
+
+pub spill_quad-requires-2-clause-row_in : goal.spill_quad-requires-2-clause-row_in
+spill_quad-requires-2-clause-row_in c = let e = ap side_of c.requires.stand.lower_height in omega (arith, e, c.requires.small)
+
+pub spill_quad-requires-2-clause-col_in : goal.spill_quad-requires-2-clause-col_in
+spill_quad-requires-2-clause-col_in c = let e = ap side_of c.requires.stand.lower_height in omega (arith, e, c.requires.small)
