@@ -31,18 +31,9 @@ use Rattle.rel_model.specs.Worker.{Worker, Stands}
 use Rattle.lang_model.specs.State.{State}
 use Rattle.lang_model.specs.Missing.{first_of_both, missing, missing_in, missing_along}
 use Rattle.rv_eval.specs.Names.{rel_of, state_of, sized, AllStand}
+use Rattle.rv_eval.specs.Lacking.{missing_of_args, missing_of_links}
 
 -- ---- lists
--- the leftmost unknown name of arguments
-abbrev pub missing_of_args : State → List Expr → Option (Place × List ℕ)
-missing_of_args state [] = None
-missing_of_args state (e ∷ es) = first_of_both (missing state e) (missing_of_args state es)
-
--- the leftmost unknown name of links
-abbrev pub missing_of_links : State → List Link → Option (Place × List ℕ)
-missing_of_links state [] = None
-missing_of_links state (l ∷ ls) = first_of_both (missing state l.right) (missing_of_links state ls)
-
 missing_in-items : (S : State) (n : _) (k : Row_of-Expr n) → missing_in S k ≡ missing_of_args S (items-the_row-Expr n k)
 missing_in-items S _ end_of-Expr = refl
 missing_in-items S _ (more_of-Expr e rest) = ap (first_of_both (missing S e)) (missing_in-items S _ rest)

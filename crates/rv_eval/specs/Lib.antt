@@ -4,3 +4,4 @@ pub mod Refusing
 pub mod Demands
 pub mod Faultless
 pub mod Unknown
+pub mod Lacking

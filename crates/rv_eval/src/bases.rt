@@ -116,7 +116,7 @@ fn vector_base<E: Engine>(engine: &mut E, at: Place, base: Base, r: Rel) -> Resu
 }
 
 /// What a base call tests its one operand for.
-#[derive(Clone, Copy, Debug, PartialEq, Eq)]
+#[derive(Clone, Copy)]
 enum Demand {
     Nothing,
     Square,

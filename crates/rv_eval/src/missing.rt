@@ -2,12 +2,14 @@
 ghost use Rattle.std.specs.Prelude.{◌≡◌, Some, None, MatchOption};
 ghost use Rattle.lang_model.specs.Missing.{missing};
 ghost use Rattle.rv_eval.specs.Names.{sized};
+ghost use Rattle.rv_eval.specs.Lacking.{missing_of_args, missing_of_links};
 
 use crate::names::find;
-use lang_model::syntax::{Expr, Name, Place};
+use lang_model::syntax::{Expr, Link, Name, Place};
 use rel_model::Rel;
 
 /// The leftmost name that has no relation, and its place.
+#[cycle(looking)]
 pub fn first_missing<'a>(names: &[(Name, Rel)], expr: &'a Expr) -> Option<(Place, &'a Name)>
     ensures { let m = missing (sized names.now) expr.now in
         MatchOption result (m ≡ None) (λ x. m ≡ Some (x.0, x.1.now)) }
@@ -17,22 +19,8 @@ pub fn first_missing<'a>(names: &[(Name, Rel)], expr: &'a Expr) -> Option<(Place
             Some(_) => None,
             None => Some((*at, name)),
         },
-        Expr::Call { args, .. } => {
-            'call_args: for arg in args.as_slice() {
-                if let Some(found) = first_missing(names, arg) {
-                    return Some(found);
-                }
-            }
-            None
-        }
-        Expr::Base { args, .. } => {
-            'base_args: for base_arg in args.as_slice() {
-                if let Some(found) = first_missing(names, base_arg) {
-                    return Some(found);
-                }
-            }
-            None
-        }
+        Expr::Call { args, .. } => first_of_args(names, args.as_slice()),
+        Expr::Base { args, .. } => first_of_args(names, args.as_slice()),
         Expr::Inject { .. } => None,
         Expr::Pair { left, right, .. } => match first_missing(names, left) {
             Some(found) => Some(found),
@@ -40,16 +28,37 @@ pub fn first_missing<'a>(names: &[(Name, Rel)], expr: &'a Expr) -> Option<(Place
         },
         Expr::Minus { of, .. } => first_missing(names, of),
         Expr::Turned { of, .. } => first_missing(names, of),
-        Expr::Chain { first, rest } => {
-            if let Some(found) = first_missing(names, first) {
-                return Some(found);
-            }
-            'links: for link in rest.as_slice() {
-                if let Some(found) = first_missing(names, &link.right) {
-                    return Some(found);
-                }
-            }
-            None
+        Expr::Chain { first, rest } => match first_missing(names, first) {
+            Some(found) => Some(found),
+            None => first_of_links(names, rest.as_slice()),
+        },
+    }
+}
+
+/// The leftmost name of arguments that has no relation, and its place.
+#[cycle(looking)]
+fn first_of_args<'a>(names: &[(Name, Rel)], args: &'a [Expr]) -> Option<(Place, &'a Name)>
+    ensures { let m = missing_of_args (sized names.now) args.now in
+        MatchOption result (m ≡ None) (λ x. m ≡ Some (x.0, x.1.now)) }
+{
+    'args: for arg in args {
+        if let Some(found) = first_missing(names, arg) {
+            return Some(found);
         }
     }
+    None
+}
+
+/// The leftmost name of the links of a chain that has no relation, and its place.
+#[cycle(looking)]
+fn first_of_links<'a>(names: &[(Name, Rel)], links: &'a [Link]) -> Option<(Place, &'a Name)>
+    ensures { let m = missing_of_links (sized names.now) links.now in
+        MatchOption result (m ≡ None) (λ x. m ≡ Some (x.0, x.1.now)) }
+{
+    'links: for link in links {
+        if let Some(found) = first_missing(names, &link.right) {
+            return Some(found);
+        }
+    }
+    None
 }

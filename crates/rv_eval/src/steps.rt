@@ -146,8 +146,13 @@ pub fn inject<E: Engine>(
         Some(found) => found,
         None => return Err(no_domain(alloc, at, base)),
     };
-    match (find(names, left.bytes()), find(names, right.bytes())) {
-        (Some(a), Some(b)) => domain_call(engine, at, base, a.rows, b.rows),
-        _ => Err(no_domain(alloc, at, base)),
-    }
+    let a = match find(names, left.bytes()) {
+        Some(a) => a,
+        None => return Err(no_domain(alloc, at, base)),
+    };
+    let b = match find(names, right.bytes()) {
+        Some(b) => b,
+        None => return Err(no_domain(alloc, at, base)),
+    };
+    domain_call(engine, at, base, a.rows, b.rows)
 }

@@ -21,3 +21,4 @@ pub mod Defined
 pub mod Noting
 pub mod Items
 pub mod Refusing
+pub mod Shown
