@@ -2,6 +2,8 @@ use Rattle.std.proofs.Common.{◌≡◌, ◌<◌, ◌≤◌, ◌-◌, ◌%◌, �
 use Rattle.bit_rows.specs.Rows.{rows_cells}
 use Rattle.rel_closure.proofs.OverQuads.{kept_quad, gives_has, double_side}
 use Rattle.rel_closure.proofs.OverRows.{side_by_8, gathered_value, clear_value, word_fits, block_value, tree_some, tree_next, below_top, under_top}
+use Rattle.rel_model.proofs.Workers.{keeps_trans}
+use Rattle.rel_closure.proofs.Causes.{done-cause}
 use Rattle.rel_closure.proofs.rows.+gather.Goals as goal
 
 -- ---- a block
@@ -236,3 +238,21 @@ returns-clause-value g t c =
     gathered_value (g.Q.Core.worker c.gather.new.quads) (g.Q.Core.worker c.gather-2.new.quads) (g.Q.Core.worker c.gather-3.new.quads) (g.Q.Core.worker c.gather-4.new.quads) (g.Q.Core.worker c.corner.new.self) c.args.height c.args.row c.args.col c.side_of-half.result (rows_cells c.args.z.now)
     c.in_ok-nw.nw c.in_ok-ne.ne c.in_ok-sw.sw c.in_ok-se.se c.in_ok-all.all over c.side_of-half.ensures c.in_ok-ne.ensures.keeps c.in_ok-sw.ensures.keeps c.in_ok-se.ensures.keeps
     c.in_ok-nw.ensures.value c.in_ok-ne.ensures.value c.in_ok-sw.ensures.value c.in_ok-se.ensures.value c.in_ok-all.ensures.value
+
+pub returns-in_err-ne-clause-keeps : goal.returns-in_err-ne-clause-keeps
+returns-in_err-ne-clause-keeps g t c = keeps_trans _ _ _ c.in_ok-nw.ensures.keeps c.in_err-ne.ensures.keeps
+
+pub returns-in_err-sw-clause-keeps : goal.returns-in_err-sw-clause-keeps
+returns-in_err-sw-clause-keeps g t c = keeps_trans _ _ _ c.in_ok-nw.ensures.keeps (keeps_trans _ _ _ c.in_ok-ne.ensures.keeps c.in_err-sw.ensures.keeps)
+
+pub returns-in_err-se-clause-keeps : goal.returns-in_err-se-clause-keeps
+returns-in_err-se-clause-keeps g t c = keeps_trans _ _ _ c.in_ok-nw.ensures.keeps (keeps_trans _ _ _ c.in_ok-ne.ensures.keeps (keeps_trans _ _ _ c.in_ok-sw.ensures.keeps c.in_err-se.ensures.keeps))
+
+pub returns-in_err-all-clause-keeps : goal.returns-in_err-all-clause-keeps
+returns-in_err-all-clause-keeps g t c = keeps_trans _ _ _ c.in_ok-nw.ensures.keeps (keeps_trans _ _ _ c.in_ok-ne.ensures.keeps (keeps_trans _ _ _ c.in_ok-sw.ensures.keeps (keeps_trans _ _ _ c.in_ok-se.ensures.keeps c.in_err-all.ensures.keeps)))
+
+pub returns-clause-keeps : goal.returns-clause-keeps
+returns-clause-keeps g t c = keeps_trans _ _ _ c.in_ok-nw.ensures.keeps (keeps_trans _ _ _ c.in_ok-ne.ensures.keeps (keeps_trans _ _ _ c.in_ok-sw.ensures.keeps (keeps_trans _ _ _ c.in_ok-se.ensures.keeps c.in_ok-all.ensures.keeps)))
+
+pub returns-clause-cause : goal.returns-clause-cause
+returns-clause-cause g t c = done-cause _ _ _ _ (c.in_ok-all.ensures.cause.done ∙ c.in_ok-se.ensures.cause.done ∙ c.in_ok-sw.ensures.cause.done ∙ c.in_ok-ne.ensures.cause.done ∙ c.in_ok-nw.ensures.cause.done)
