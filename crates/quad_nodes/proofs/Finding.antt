@@ -2,16 +2,16 @@
 -- 1. A word that stands at a name is not missed, and its name is answered (`interns_again`).
 -- 2. The word of a name is the pair of the names of its halves (`pair_word`), and that of a block its bits (`same_block` of `leaf_block`): so pairs and blocks are found (`pair_found`, `block_found`).
 -- 3. Quarters that lie within their squares are read back from a quartered set (`quartered_parts`), so over a quad that stands its four quarters stand (`quarters_stood`): so a corner is found (`corner_found`).
-use Rattle.std.proofs.Common.{◌≡◌, ◌<◌, ◌≤◌, ◌≢◌, ◌+◌, ◌-◌, ◌*◌, ◌^◌, ltb, zero, suc, ℕ, true, false, List, Result, Ok, Err, refl, sym, ap, subst, ◌∙◌, inl, inr, arith, get_or}
+use Rattle.std.proofs.Common.{◌≡◌, ◌<◌, ◌≤◌, ◌≢◌, ◌+◌, ◌-◌, ◌*◌, ◌^◌, ltb, zero, suc, ℕ, true, false, List, Result, Ok, Err, refl, sym, ap, subst, ◌∙◌, inl, inr, arith, get_or, IsErr}
 use Rattle.std.proofs.lemmas.Result.{IfOk-at_ok}
-use Rattle.std.proofs.lemmas.Bool.{cases_Bool, ltb-false, le-ltb, eqb-true, and_parts, or_cases}
+use Rattle.std.proofs.lemmas.Bool.{true≢false, cases_Bool, ltb-false, le-ltb, eqb-true, and_parts, or_cases}
 use Rattle.rel_model.specs.declared.Quad.{Quad}
 use Rattle.rel_model.specs.Cells.{Cells, block_cells}
 use Rattle.rel_model.specs.Trees.{bottom_height, top_height, first_of, second_of, cells, stands, rows_at, cols_at, twice, side, quartered, paired}
 use Rattle.rel_model.specs.Words.{IsDistinct}
 use Rattle.rel_model.specs.Equations.{depth_of, side_of}
 use Rattle.rel_model.specs.Views.{View, IsSet, Interns}
-use Rattle.rel_model.specs.Quads.{Keeper, IsKeeper, quad_cells, QuadStands, IsQuad, KeepsQuads, ReadsQuads, Counts}
+use Rattle.rel_model.specs.Quads.{Keeper, IsKeeper, quad_cells, QuadStands, IsQuad, KeepsQuads, ReadsQuads, Counts, one_more_miss}
 use Rattle.rel_model.proofs.TreeLaws.{stored_not_0, stored_below, parts_stand, paired_halves, cells_within, one_set_one_name, same_cells, Within, out_of}
 use Rattle.rel_model.proofs.Squares.{rows_at-twice, cols_at-twice, four_squares}
 use Rattle.rel_model.proofs.QuadLaws.{depth_of-next, is_quad-stays, reads_itself, reads_on, set_after}
@@ -19,7 +19,7 @@ use Rattle.leaf_block.proofs.Sets.{same_block}
 use Rattle.quad_nodes.specs.Finding.{Finds, FindsQuad, FindsPair}
 
 -- a refusal is no answer
-no_answer : {T E : Type 0} (e : E) (x : T) (r : Result T E) → r ≡ Err e → r ≢ Ok x
+pub no_answer : {T E : Type 0} (e : E) (x : T) (r : Result T E) → r ≡ Err e → r ≢ Ok x
 no_answer e x r p q = cc
 
 pub not_missed : {T E : Type 0} (v w : Keeper) (e : E) (x : T) → Finds v w x (Err e) → ⊥
@@ -352,3 +352,9 @@ both_found {E} u v w p q a b f g =
     let y : b ≡ q = the_answer {E = E} v w q b g in
     let z : Path (Quad × Quad) (a, b) (p, q) = rw (x, y) refl in
     record { answer = ap Ok z; reads = reads_on u v w f.reads g.reads }
+
+-- ---- misses
+-- a call that failed, after calls that missed nothing
+pub counts_failed : {T E : Type 0} (u v w : Keeper) (r : Result T E) → v.misses ≡ u.misses → IsErr r → w.misses ≡ one_more_miss v.misses → Counts u w r
+counts_failed u v w (Ok x) e i c = absurd (true≢false (sym i))
+counts_failed u v w (Err x) e i c = c ∙ ap one_more_miss e

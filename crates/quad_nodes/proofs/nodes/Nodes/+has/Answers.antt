@@ -1,7 +1,7 @@
 use Rattle.std.proofs.Common.{◌≡◌, ◌<◌, ◌-◌, ◌∙◌, ℕ, true, ltb, suc, subst, sym, arith}
 use Rattle.rel_model.specs.Trees.{bottom_height, stands}
 use Rattle.rel_model.specs.Equations.{depth_of}
-use Rattle.rel_model.proofs.QuadLaws.{known}
+use Rattle.rel_model.proofs.QuadLaws.{known, reads_on}
 use Rattle.quad_nodes.proofs.Halving.{halves_stand}
 use Rattle.quad_nodes.proofs.Squaring.{picked_holds, place_is}
 use Rattle.quad_nodes.proofs.nodes.Nodes.+has.Goals as goal
@@ -29,3 +29,8 @@ returns-clause-value t c =
     c.half_at-wide.result.0 c.half_at-wide.result.1 c.halves-west.result.0 c.halves-west.result.1 c.half_at-name.result.0 c.half_at-name.result.1 c.requires.stands over c.requires.row c.requires.col c.side_of_height-half.ensures
     c.halves-north.ensures.halves c.half_at-wide.ensures.name c.half_at-wide.ensures.place c.halves-west.ensures.halves c.half_at-name.ensures.name c.half_at-name.ensures.place in
     c.has.ensures.value ∙ sym p.same
+
+pub returns-clause-reads : goal.returns-clause-reads
+returns-clause-reads t c =
+    let k = reads_on c.args.self.now c.halves-north.new.self c.halves-west.new.self c.halves-north.ensures.reads c.halves-west.ensures.reads in
+    reads_on c.args.self.now c.halves-west.new.self c.has.new.self k c.has.ensures.reads

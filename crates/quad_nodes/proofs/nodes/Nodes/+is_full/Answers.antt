@@ -1,7 +1,7 @@
 use Rattle.std.proofs.Common.{◌<◌, ◌-◌, ◌^◌, ◌∙◌, suc, sym, ap, rules, arith}
 use Rattle.rel_model.specs.Trees.{bottom_height}
 use Rattle.rel_model.specs.Equations.{depth_of}
-use Rattle.rel_model.proofs.QuadLaws.{known}
+use Rattle.rel_model.proofs.QuadLaws.{known, reads_on}
 use Rattle.quad_nodes.proofs.Halving.{halves_stand}
 use Rattle.quad_nodes.proofs.Filling.{all_of, full_block, side_of-bottom, full_by_quarter, stands_below, only_full_block, full_halves, full_quarters_are}
 use Rattle.quad_nodes.proofs.nodes.Nodes.+is_full.Goals as goal
@@ -50,3 +50,11 @@ returns-clause-only_full t c e =
     let f = full_quarters_are c.args.self.now c.halves-north.new.self c.halves-west.new.self c.args.q c.halves-north.result.0 c.halves-north.result.1 c.halves-west.result.0 c.halves-west.result.1
     c.halves-north.ensures.reads.keeps.after c.halves-west.ensures.reads.keeps.after c.requires.stands over c.halves-north.ensures.halves c.halves-west.ensures.halves e in
     c.is_full.ensures.only_full f.full
+
+pub returns-then-west-east-clause-reads : goal.returns-then-west-east-clause-reads
+returns-then-west-east-clause-reads t c = reads_on c.args.self.now c.halves-north.new.self c.halves-west.new.self c.halves-north.ensures.reads c.halves-west.ensures.reads
+
+pub returns-clause-reads : goal.returns-clause-reads
+returns-clause-reads t c =
+    let k = reads_on c.args.self.now c.halves-north.new.self c.halves-west.new.self c.halves-north.ensures.reads c.halves-west.ensures.reads in
+    reads_on c.args.self.now c.halves-west.new.self c.is_full.new.self k c.is_full.ensures.reads

@@ -1,12 +1,12 @@
-use Rattle.std.proofs.Common.{◌≡◌, ◌<◌, ◌≤◌, ◌+◌, ◌-◌, ◌⊎◌, ◌∙◌, min, ℕ, ap, subst, inl, inr, arith}
+use Rattle.std.proofs.Common.{◌≡◌, ◌<◌, ◌≤◌, ◌+◌, ◌-◌, ◌⊎◌, ◌∙◌, min, ℕ, ap, subst, inl, inr, arith, sym, Ok}
 use Rattle.rel_model.specs.Trees.{bottom_height}
 use Rattle.rel_model.specs.Equations.{side_of}
 use Rattle.rel_model.specs.declared.Quad.{Quad}
 use Rattle.rel_model.specs.Cells.{cells_rect}
 use Rattle.rel_model.specs.Quads.{quad_room, IsQuad}
-use Rattle.rel_model.proofs.QuadLaws.{keeps_on, keeps_most, keeps_itself, quad_stays, side_of-next, rooms-next, room-some, reads_itself, reads_on, is_quad-stays}
+use Rattle.rel_model.proofs.QuadLaws.{keeps_on, keeps_most, keeps_itself, quad_stays, side_of-next, rooms-next, room-some, reads_itself, reads_on, is_quad-stays, counts_on}
 use Rattle.quad_nodes.proofs.Squaring.{rect_none, rect_corner, beside_each, beside_again, rect_stood}
-use Rattle.quad_nodes.proofs.Finding.{not_missed, found_is, one_quad, the_answer, four_found, both_found}
+use Rattle.quad_nodes.proofs.Finding.{not_missed, found_is, one_quad, the_answer, four_found, both_found, counts_failed}
 use Rattle.quad_nodes.proofs.nodes.Nodes.+rects.Goals as goal
 use Rattle.quad_nodes.proofs.nodes.Nodes.+rects.Goals.{rect-then-rows-eq0-via-then-rows-eq0, rect-then-rows-eq0-via-else-rows-eq0+then-cols-eq0}
 
@@ -202,3 +202,111 @@ rects_beside-returns-clause-stood t c p q s u =
     let right : c.args.cols - side_of c.args.height ≡ c.args.cols - c.min-left.result = omega arith in
     let g = c.in_ok-east.ensures.stood q (is_quad-stays 0 w s1 c.args.height _ q f.reads.keeps (subst (λ (x : ℕ). IsQuad w c.args.height (cells_rect c.args.rows x) q) right u)) in
     both_found w s1 s2 p q c.in_ok-west.west c.in_ok-east.east f g
+
+pub rect-returns-then-height-bottom-clause-nothing : goal.rect-returns-then-height-bottom-clause-nothing
+rect-returns-then-height-bottom-clause-nothing t c = λ z. elim z [ inl x ↦ absurd (c.if-rows-eq0.false x) | inr y ↦ absurd (c.if-cols-eq0.false y) ]
+
+pub rect-returns-in_err-nw-clause-nothing : goal.rect-returns-in_err-nw-clause-nothing
+rect-returns-in_err-nw-clause-nothing t c = λ z. elim z [ inl x ↦ absurd (c.if-rows-eq0.false x) | inr y ↦ absurd (c.if-cols-eq0.false y) ]
+
+pub rect-returns-then-rows-top-clause-nothing : goal.rect-returns-then-rows-top-clause-nothing
+rect-returns-then-rows-top-clause-nothing t c = λ z. elim z [ inl x ↦ absurd (c.if-rows-eq0.false x) | inr y ↦ absurd (c.if-cols-eq0.false y) ]
+
+pub rect-returns-in_err-sw-clause-nothing : goal.rect-returns-in_err-sw-clause-nothing
+rect-returns-in_err-sw-clause-nothing t c = λ z. elim z [ inl x ↦ absurd (c.if-rows-eq0.false x) | inr y ↦ absurd (c.if-cols-eq0.false y) ]
+
+pub rect-returns-clause-nothing : goal.rect-returns-clause-nothing
+rect-returns-clause-nothing t c = λ z. elim z [ inl x ↦ absurd (c.if-rows-eq0.false x) | inr y ↦ absurd (c.if-cols-eq0.false y) ]
+
+pub rect-returns-in_err-nw-clause-keeps : goal.rect-returns-in_err-nw-clause-keeps
+rect-returns-in_err-nw-clause-keeps t c =
+    let over : bottom_height < c.args.height = (let e = c.bottom-bottom.ensures.height in let l = c.requires.low in let n = c.if-height-bottom.false in omega arith) in
+    let m : ℕ = quad_room (c.args.height - 1) in
+    let r = rooms-next c.args.height over in
+    let l : m + m ≤ quad_room c.args.height = omega (arith, r) in
+    keeps_most _ _ _ _ l c.in_err-nw.ensures.keeps
+
+pub rect-returns-then-rows-top-clause-counts : goal.rect-returns-then-rows-top-clause-counts
+rect-returns-then-rows-top-clause-counts t c = counts_on c.args.self.now c.rects_beside.new.self c.corner.new.self c.corner.result c.in_ok-nw.ensures.counts c.corner.ensures.counts
+
+pub rect-returns-clause-counts : goal.rect-returns-clause-counts
+rect-returns-clause-counts t c = counts_on c.args.self.now c.rects_beside-2.new.self c.corner-2.new.self c.corner-2.result (c.in_ok-sw.ensures.counts ∙ c.in_ok-nw.ensures.counts) c.corner-2.ensures.counts
+
+pub rect-returns-in_err-sw-clause-counts : goal.rect-returns-in_err-sw-clause-counts
+rect-returns-in_err-sw-clause-counts t c = counts_failed c.args.self.now c.rects_beside.new.self c.rects_beside-2.new.self c.from_residual-in_err-sw.result c.in_ok-nw.ensures.counts c.from_residual-in_err-sw.ensures.0 c.in_err-sw.ensures.counts
+
+pub rect-corner-requires-clause-ne_height : goal.rect-corner-requires-clause-ne_height
+rect-corner-requires-clause-ne_height t c = c.in_ok-nw.ensures.value.east.same_height ∙ sym c.in_ok-nw.ensures.value.west.same_height
+
+pub rect-corner-requires-clause-se_height : goal.rect-corner-requires-clause-se_height
+rect-corner-requires-clause-se_height t c = c.in_ok-nw.ensures.value.east.same_height ∙ sym c.in_ok-nw.ensures.value.west.same_height
+
+pub rect-corner-requires-clause-below : goal.rect-corner-requires-clause-below
+rect-corner-requires-clause-below t c =
+    let over : bottom_height < c.args.height = (let e = c.bottom-bottom.ensures.height in let l = c.requires.low in let n = c.if-height-bottom.false in omega arith) in
+    omega (arith, over, c.in_ok-nw.ensures.value.west.same_height, c.requires.high)
+
+pub rect-corner-requires-2-clause-ne_height : goal.rect-corner-requires-2-clause-ne_height
+rect-corner-requires-2-clause-ne_height t c = c.in_ok-nw.ensures.value.east.same_height ∙ sym c.in_ok-nw.ensures.value.west.same_height
+
+pub rect-corner-requires-2-clause-sw_height : goal.rect-corner-requires-2-clause-sw_height
+rect-corner-requires-2-clause-sw_height t c = c.in_ok-sw.ensures.value.west.same_height ∙ sym c.in_ok-nw.ensures.value.west.same_height
+
+pub rect-corner-requires-2-clause-se_height : goal.rect-corner-requires-2-clause-se_height
+rect-corner-requires-2-clause-se_height t c = c.in_ok-sw.ensures.value.east.same_height ∙ sym c.in_ok-nw.ensures.value.west.same_height
+
+pub rect-corner-requires-2-clause-below : goal.rect-corner-requires-2-clause-below
+rect-corner-requires-2-clause-below t c =
+    let over : bottom_height < c.args.height = (let e = c.bottom-bottom.ensures.height in let l = c.requires.low in let n = c.if-height-bottom.false in omega arith) in
+    omega (arith, over, c.in_ok-nw.ensures.value.west.same_height, c.requires.high)
+
+pub rects_beside-rect-requires : goal.rects_beside-rect-requires
+rects_beside-rect-requires t c = (omega arith, (c.requires.low, (omega (arith, c.requires.high), (c.requires.row, omega (arith, c.min-left.ensures, c.side_of_height.ensures)))))
+
+pub rects_beside-rect-requires-2 : goal.rects_beside-rect-requires-2
+rects_beside-rect-requires-2 t c = (omega arith, (c.requires.low, (omega (arith, c.requires.high), (c.requires.row, omega (arith, c.min-left.ensures, c.side_of_height.ensures, c.requires.col)))))
+
+pub rects_beside-returns-in_err-west-clause-keeps : goal.rects_beside-returns-in_err-west-clause-keeps
+rects_beside-returns-in_err-west-clause-keeps t c = keeps_most _ _ c.args.self.now c.rect.new.self (omega arith) c.in_err-west.ensures.keeps
+
+pub rects_beside-returns-in_err-east-clause-keeps : goal.rects_beside-returns-in_err-east-clause-keeps
+rects_beside-returns-in_err-east-clause-keeps t c = keeps_on _ _ c.args.self.now c.rect.new.self c.rect-2.new.self c.in_ok-west.ensures.keeps c.in_err-east.ensures.keeps
+
+pub rects_beside-returns-then-cols-left-clause-keeps : goal.rects_beside-returns-then-cols-left-clause-keeps
+rects_beside-returns-then-cols-left-clause-keeps t c = keeps_most _ _ c.args.self.now c.rect.new.self (omega arith) c.in_ok-west.ensures.keeps
+
+pub rects_beside-returns-clause-keeps : goal.rects_beside-returns-clause-keeps
+rects_beside-returns-clause-keeps t c = keeps_on _ _ c.args.self.now c.rect.new.self c.rect-2.new.self c.in_ok-west.ensures.keeps c.in_ok-east.ensures.keeps
+
+pub rects_beside-returns-in_err-east-clause-counts : goal.rects_beside-returns-in_err-east-clause-counts
+rects_beside-returns-in_err-east-clause-counts t c = counts_failed c.args.self.now c.rect.new.self c.rect-2.new.self c.from_residual-in_err-east.result c.in_ok-west.ensures.counts c.from_residual-in_err-east.ensures.0 c.in_err-east.ensures.counts
+
+pub rects_beside-returns-clause-counts : goal.rects_beside-returns-clause-counts
+rects_beside-returns-clause-counts t c = c.in_ok-east.ensures.counts ∙ c.in_ok-west.ensures.counts
+
+pub rects_beside-returns-in_err-west-clause-stood : goal.rects_beside-returns-in_err-west-clause-stood
+rects_beside-returns-in_err-west-clause-stood t c p q s u =
+    let w = c.args.self.now in
+    let left : min c.args.cols (side_of c.args.height) ≡ c.min-left.result = omega arith in
+    let f = c.in_err-west.ensures.stood p (subst (λ (x : ℕ). IsQuad w c.args.height (cells_rect c.args.rows x) p) left s) in
+    absurd (not_missed w c.rect.new.self _ p f)
+
+pub rects_beside-returns-then-cols-left-clause-stood : goal.rects_beside-returns-then-cols-left-clause-stood
+rects_beside-returns-then-cols-left-clause-stood t c p q s u =
+    let w = c.args.self.now in
+    let s1 = c.rect.new.self in
+    let left : min c.args.cols (side_of c.args.height) ≡ c.min-left.result = omega arith in
+    let right : min c.args.cols (side_of c.args.height) ≡ c.args.cols - side_of c.args.height = omega arith in
+    let f = c.in_ok-west.ensures.stood p (subst (λ (x : ℕ). IsQuad w c.args.height (cells_rect c.args.rows x) p) left s) in
+    let same = one_quad w c.args.height _ p q f.reads.keeps.before (subst (λ (x : ℕ). IsQuad w c.args.height (cells_rect c.args.rows x) p) right s) u in
+    both_found w s1 s1 p q c.in_ok-west.west c.in_ok-west.west f (record { answer = ap (λ (x : Quad). Ok x) (the_answer w s1 p _ f ∙ same); reads = reads_itself s1 f.reads.keeps.after })
+
+pub rects_beside-returns-then-cols-left-clause-value : goal.rects_beside-returns-then-cols-left-clause-value
+rects_beside-returns-then-cols-left-clause-value t c =
+    let left : c.min-left.result ≡ min c.args.cols (side_of c.args.height) = omega arith in
+    let right : c.min-left.result ≡ c.args.cols - side_of c.args.height = omega arith in
+    let v = c.in_ok-west.ensures.value in
+    record {
+      west = subst (λ (x : ℕ). IsQuad c.rect.new.self c.args.height (cells_rect c.args.rows x) c.in_ok-west.west) left v;
+      east = subst (λ (x : ℕ). IsQuad c.rect.new.self c.args.height (cells_rect c.args.rows x) c.in_ok-west.west) right v;
+    }

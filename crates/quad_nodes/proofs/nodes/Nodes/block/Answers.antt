@@ -44,3 +44,9 @@ returns-in-Err-clause-stood c =
     let h : c.args.bits ≢ 0 = omega arith in
     let l : c.args.bits < 2 ^ 64 = search rules in
     rw (← c.self.view_is) (block_missed _ _ c.intern_block.new.seat c.args.bits _ _ h l c.self.invariant.of.canonical c.intern_block.ensures.of.canonical c.in-Err.ensures.interns)
+
+pub returns-in-Ok-clause-nothing : goal.returns-in-Ok-clause-nothing
+returns-in-Ok-clause-nothing c = λ e. absurd (c.if-bits-eq0.false e)
+
+pub returns-in-Err-clause-nothing : goal.returns-in-Err-clause-nothing
+returns-in-Err-clause-nothing c = λ e. absurd (c.if-bits-eq0.false e)

@@ -1,10 +1,10 @@
-use Rattle.std.proofs.Common.{◌≡◌, ◌∙◌, ℕ, true, suc, subst, sym, rules}
+use Rattle.std.proofs.Common.{◌≡◌, ◌∙◌, ℕ, true, suc, subst, sym, rules, ◌+◌, ◌≤◌, Ok, refl, ap, arith}
 use Rattle.rel_model.proofs.TreeLaws.{kept_stands}
 use Rattle.rel_model.specs.Trees.{top_height, stands}
 use Rattle.rel_model.specs.Equations.{depth_of}
-use Rattle.rel_model.proofs.QuadLaws.{known, known_after}
+use Rattle.rel_model.proofs.QuadLaws.{known, known_after, keeps_on, keeps_most}
 use Rattle.quad_nodes.proofs.Halving.{corner_is, pair_known}
-use Rattle.quad_nodes.proofs.Finding.{FourStand, not_missed, corner_stood, corner_north, corner_south, corner_whole, corner_found, the_answer}
+use Rattle.quad_nodes.proofs.Finding.{FourStand, not_missed, corner_stood, corner_north, corner_south, corner_whole, corner_found, the_answer, counts_failed, no_answer}
 use Rattle.quad_nodes.proofs.nodes.Nodes.corner.Goals as goal
 
 pub pair-requires-2-clause-left_in : goal.pair-requires-2-clause-left_in
@@ -95,3 +95,48 @@ returns-clause-stood c q s =
     let y = corner_south s0 s1 s2 nw ne sw se q _ f d x.reads c.in_ok-south.ensures.stood in
     let z = corner_whole s0 s2 s3 nw ne sw se q _ _ _ d y.reads (the_answer s0 s1 d.north _ x) (the_answer s0 s2 d.south _ y) c.in_ok-name.ensures.stood in
     corner_found s0 s3 nw.height q c.in_ok-name.name s.same_height z
+
+pub returns-in_err-north-clause-keeps : goal.returns-in_err-north-clause-keeps
+returns-in_err-north-clause-keeps c = keeps_most 1 3 c.args.self.now c.pair.new.self (omega arith) c.in_err-north.ensures.keeps
+
+pub returns-in_err-south-clause-keeps : goal.returns-in_err-south-clause-keeps
+returns-in_err-south-clause-keeps c = keeps_most (1 + 1) 3 c.args.self.now c.pair-2.new.self (omega arith) (keeps_on 1 1 c.args.self.now c.pair.new.self c.pair-2.new.self c.in_ok-north.ensures.keeps c.in_err-south.ensures.keeps)
+
+pub returns-in_err-name-clause-keeps : goal.returns-in_err-name-clause-keeps
+returns-in_err-name-clause-keeps c = keeps_on (1 + 1) 1 c.args.self.now c.pair-2.new.self c.pair-3.new.self (keeps_on 1 1 c.args.self.now c.pair.new.self c.pair-2.new.self c.in_ok-north.ensures.keeps c.in_ok-south.ensures.keeps) c.in_err-name.ensures.keeps
+
+pub returns-clause-keeps : goal.returns-clause-keeps
+returns-clause-keeps c = keeps_on (1 + 1) 1 c.args.self.now c.pair-2.new.self c.pair-3.new.self (keeps_on 1 1 c.args.self.now c.pair.new.self c.pair-2.new.self c.in_ok-north.ensures.keeps c.in_ok-south.ensures.keeps) c.in_ok-name.ensures.keeps
+
+pub returns-in_err-south-clause-counts : goal.returns-in_err-south-clause-counts
+returns-in_err-south-clause-counts c = counts_failed c.args.self.now c.pair.new.self c.pair-2.new.self c.from_residual-in_err-south.result c.in_ok-north.ensures.counts c.from_residual-in_err-south.ensures.0 c.in_err-south.ensures.counts
+
+pub returns-in_err-name-clause-counts : goal.returns-in_err-name-clause-counts
+returns-in_err-name-clause-counts c = counts_failed c.args.self.now c.pair-2.new.self c.pair-3.new.self c.from_residual-in_err-name.result (c.in_ok-south.ensures.counts ∙ c.in_ok-north.ensures.counts) c.from_residual-in_err-name.ensures.0 c.in_err-name.ensures.counts
+
+pub returns-clause-counts : goal.returns-clause-counts
+returns-clause-counts c = c.in_ok-name.ensures.counts ∙ c.in_ok-south.ensures.counts ∙ c.in_ok-north.ensures.counts
+
+pub returns-in_err-north-clause-nothing : goal.returns-in_err-north-clause-nothing
+returns-in_err-north-clause-nothing c = λ a b x y. absurd (no_answer _ 0 _ refl (c.in_err-north.ensures.nothing a b))
+
+pub returns-in_err-south-clause-nothing : goal.returns-in_err-south-clause-nothing
+returns-in_err-south-clause-nothing c = λ a b x y. absurd (no_answer _ 0 _ refl (c.in_err-south.ensures.nothing x y))
+
+pub returns-in_err-name-clause-nothing : goal.returns-in_err-name-clause-nothing
+returns-in_err-name-clause-nothing c = λ a b x y.
+    let north = c.in_ok-north.ensures.nothing a b in
+    let south = c.in_ok-south.ensures.nothing x y in
+    let p : c.in_ok-north.north ≡ 0 = cc in
+    let q : c.in_ok-south.south ≡ 0 = cc in
+    absurd (no_answer _ 0 _ refl (c.in_err-name.ensures.nothing p q))
+
+pub returns-clause-nothing : goal.returns-clause-nothing
+returns-clause-nothing c = λ a b x y.
+    let north = c.in_ok-north.ensures.nothing a b in
+    let south = c.in_ok-south.ensures.nothing x y in
+    let p : c.in_ok-north.north ≡ 0 = cc in
+    let q : c.in_ok-south.south ≡ 0 = cc in
+    let whole = c.in_ok-name.ensures.nothing p q in
+    let z : c.in_ok-name.name ≡ 0 = cc in
+    ap (λ (n : ℕ). Ok (record { height = c.args.nw.height + 1; name = n })) z

@@ -26,3 +26,13 @@ pub returns-in-Err-clause-stood : goal.returns-in-Err-clause-stood
 returns-in-Err-clause-stood c =
     let h : c.args.left + c.args.right ≢ 0 = omega arith in
     rw (← c.self.view_is) (pair_missed _ _ c.intern.new.seat c.args.left c.args.right _ _ h c.self.invariant.of.canonical c.intern.ensures.of.canonical c.in-Err.ensures.interns)
+
+pub returns-in-Ok-clause-nothing : goal.returns-in-Ok-clause-nothing
+returns-in-Ok-clause-nothing c = λ a b.
+    let h : c.args.left + c.args.right ≢ 0 = omega arith in
+    absurd (h (omega (arith, a, b)))
+
+pub returns-in-Err-clause-nothing : goal.returns-in-Err-clause-nothing
+returns-in-Err-clause-nothing c = λ a b.
+    let h : c.args.left + c.args.right ≢ 0 = omega arith in
+    absurd (h (omega (arith, a, b)))
