@@ -1,12 +1,17 @@
--- How a refusal ahead of all computing is told.
+-- How a refusal is told, ahead of all computing and of a meaning.
 use Rattle.std.proofs.Common.{◌≡◌, ◌∙◌, ◌⊎◌, inl, inr, ℕ, Err, refl, sym, ap, subst}
 use Rattle.rel_model.specs.declared.Lack.TheVariants.{NoMemory as NO_MEMORY}
+use Rattle.rel_model.specs.declared.Lack.TheVariants.{Full}
+use Rattle.rel_model.specs.Relation.{Relation}
+use Rattle.rel_model.specs.Worker.{Worker}
 use Rattle.lang_model.specs.declared.faults.TypeFault.{TypeFault}
+use Rattle.lang_model.specs.Outcomes.{Ill, Answer, Not}
 use Rattle.lang_model.specs.declared.faults.TypeFault.TheVariants.{NoMemory as FAULT_NO_MEMORY}
 use Rattle.rv_eval.specs.declared.halt.Halt.{Halt}
-use Rattle.rv_eval.specs.declared.halt.Halt.TheVariants.{Ill as ILL, Lack as LACK}
+use Rattle.rv_eval.specs.declared.halt.Halt.TheVariants.{Ill as ILL, Size as SIZE, Turns as TURNS, Lack as LACK}
 use Rattle.rv_eval.specs.declared.halt.Refused.{Refused}
-use Rattle.rv_eval.specs.Refusing.{told, told_ill, IsRefusedFor}
+use Rattle.rv_eval.specs.Ends.{HasHalted}
+use Rattle.rv_eval.specs.Refusing.{told, told_ill, IsRefusedFor, IsAnswer}
 
 pub ill_refuses : (fault : TypeFault) → IsRefusedFor fault (Err (told_ill fault))
 ill_refuses FAULT_NO_MEMORY = tt
@@ -17,3 +22,15 @@ pub ahead_refuses : (turns : ℕ) (fault : TypeFault) (h : Halt) (r : Refused) �
 ahead_refuses turns fault h r e (inl i) =
     subst (λ x. IsRefusedFor fault (Err x)) (sym (e ∙ ap (told turns) i)) (ill_refuses fault)
 ahead_refuses turns fault h r e (inr m) = subst (λ x. IsRefusedFor fault (Err x)) (sym (e ∙ ap (told turns) m)) tt
+
+-- the refusal of a meaning
+ill_answers : (old new : Worker) (turns : ℕ) (a : Answer Relation) (fault : TypeFault) → a ≡ Not (Ill fault) → IsAnswer old new turns a (Err (told_ill fault))
+ill_answers old new turns a FAULT_NO_MEMORY h = tt
+ill_answers old new turns a fault h = h
+
+pub halted_answers : (old new : Worker) (turns : ℕ) (a : Answer Relation) (halt : Halt) → HasHalted old new a halt → IsAnswer old new turns a (Err (told turns halt))
+halted_answers old new turns a (ILL fault) h = ill_answers old new turns a fault h
+halted_answers old new turns a (SIZE at wanted) h = (h, refl)
+halted_answers old new turns a (TURNS at) h = (h, refl)
+halted_answers old new turns a (LACK Full) h = h
+halted_answers old new turns a (LACK NO_MEMORY) h = tt

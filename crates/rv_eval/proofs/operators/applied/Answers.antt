@@ -1,8 +1,9 @@
-use Rattle.std.proofs.Common.{◌≤◌, ◌+◌, arith}
+use Rattle.std.proofs.Common.{◌≡◌, ◌≤◌, ◌+◌, ◌∙◌, true, sym, ap, arith}
 use Rattle.lang_model.specs.declared.syntax.Op2.TheVariants.{Or, And, Times, Under, Over}
+use Rattle.lang_model.specs.Types.{known, takes}
 use Rattle.rel_model.specs.Worker.{product_room, derived_room}
 use Rattle.rel_model.specs.Roots.{relation_room}
-use Rattle.rv_eval.proofs.Operating.{one_tree, product_of, wide_of, linked_ends}
+use Rattle.rv_eval.proofs.Operating.{one_tree, product_of, wide_of, linked_ends, both_fit, one_fits}
 use Rattle.rv_eval.proofs.operators.applied.Goals as goal
 
 pub returns-in-Or-clause-ends : goal.returns-in-Or-clause-ends
@@ -74,3 +75,24 @@ returns-in-Over-clause-ends g c =
     let made : v.made ≤ w.made + derived_room r.rows r.cols s.rows = c.left.ensures.room in
     let bound = wide_of r.rows r.cols s.rows _ _ _ rm rn sm in
     linked_ends w v g.E.Core.lean c.args.at c.args.op r s rm rn sm sn c.requires.fits _ _ c.left.result c.lift-in-Over.result c.lift-in-Over.ensures c.left.ensures.keeps c.left.ensures.cause Over c.in-Over.is c.left.ensures.value (omega (arith, made, bound))
+
+pub union-requires-clause-rows : goal.union-requires-clause-rows
+union-requires-clause-rows g c = (both_fit c.args.r.rows c.args.r.cols c.args.s.rows c.args.s.cols (ap (λ o. takes o (known c.args.r.rows c.args.r.cols) (known c.args.s.rows c.args.s.cols)) (sym c.in-Or.is) ∙ c.requires.fits)).0
+
+pub union-requires-clause-cols : goal.union-requires-clause-cols
+union-requires-clause-cols g c = (both_fit c.args.r.rows c.args.r.cols c.args.s.rows c.args.s.cols (ap (λ o. takes o (known c.args.r.rows c.args.r.cols) (known c.args.s.rows c.args.s.cols)) (sym c.in-Or.is) ∙ c.requires.fits)).1
+
+pub inter-requires-clause-rows : goal.inter-requires-clause-rows
+inter-requires-clause-rows g c = (both_fit c.args.r.rows c.args.r.cols c.args.s.rows c.args.s.cols (ap (λ o. takes o (known c.args.r.rows c.args.r.cols) (known c.args.s.rows c.args.s.cols)) (sym c.in-And.is) ∙ c.requires.fits)).0
+
+pub inter-requires-clause-cols : goal.inter-requires-clause-cols
+inter-requires-clause-cols g c = (both_fit c.args.r.rows c.args.r.cols c.args.s.rows c.args.s.cols (ap (λ o. takes o (known c.args.r.rows c.args.r.cols) (known c.args.s.rows c.args.s.cols)) (sym c.in-And.is) ∙ c.requires.fits)).1
+
+pub compose-requires-clause-middle : goal.compose-requires-clause-middle
+compose-requires-clause-middle g c = one_fits c.args.r.cols c.args.s.rows (ap (λ o. takes o (known c.args.r.rows c.args.r.cols) (known c.args.s.rows c.args.s.cols)) (sym c.in-Times.is) ∙ c.requires.fits)
+
+pub right-requires-clause-rows : goal.right-requires-clause-rows
+right-requires-clause-rows g c = one_fits c.args.r.rows c.args.s.rows (ap (λ o. takes o (known c.args.r.rows c.args.r.cols) (known c.args.s.rows c.args.s.cols)) (sym c.in-Under.is) ∙ c.requires.fits)
+
+pub left-requires-clause-cols : goal.left-requires-clause-cols
+left-requires-clause-cols g c = one_fits c.args.r.cols c.args.s.cols (ap (λ o. takes o (known c.args.r.rows c.args.r.cols) (known c.args.s.rows c.args.s.cols)) (sym c.in-Over.is) ∙ c.requires.fits)
