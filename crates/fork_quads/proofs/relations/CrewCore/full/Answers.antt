@@ -2,8 +2,9 @@ use Rattle.std.proofs.Common.{arith}
 use Rattle.rel_model.specs.Cells.{cells_rect}
 use Rattle.rel_model.specs.Operators.{full}
 use Rattle.rel_model.specs.Quads.{quad_room}
-use Rattle.fork_quads.proofs.Crewing.{keeps_counting, tree_fits}
+use Rattle.fork_quads.proofs.Crewing.{keeps_counting, tree_fits, tells_cause}
 use Rattle.fork_quads.proofs.Operating.{rect_within, full_is, made_value, made_found}
+use Rattle.fork_quads.proofs.Joining.{counts_tells}
 use Rattle.fork_quads.proofs.relations.CrewCore.full.Goals as goal
 
 pub rect-quad-requires : goal.rect-quad-requires
@@ -24,3 +25,7 @@ returns-clause-stood g c =
 pub returns-clause-keeps : goal.returns-clause-keeps
 returns-clause-keeps g c =
     keeps_counting (quad_room c.height_of_tree-height.result) c.args.self.now c.self.inside.nodes c.rect-quad.new.self c.rect-quad.result c.self.view_is c.rect-quad.ensures.keeps c.rect-quad.ensures.counts
+
+pub returns-clause-cause : goal.returns-clause-cause
+returns-clause-cause g c =
+    tells_cause c.args.self.now c.self.inside.nodes c.rect-quad.new.self c.args.shape.rows c.args.shape.cols c.rect-quad.result c.named.result c.self.view_is (counts_tells c.self.inside.nodes c.rect-quad.new.self c.rect-quad.result c.rect-quad.ensures.counts) c.named.ensures

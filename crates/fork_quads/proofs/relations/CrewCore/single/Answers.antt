@@ -2,8 +2,9 @@ use Rattle.std.proofs.Common.{arith}
 use Rattle.rel_model.specs.Operators.{single}
 use Rattle.rel_model.specs.Quads.{quad_room}
 use Rattle.fork_quads.specs.Crew.{one_cell}
-use Rattle.fork_quads.proofs.Crewing.{keeps_counting, tree_fits}
+use Rattle.fork_quads.proofs.Crewing.{keeps_counting, tree_fits, tells_cause}
 use Rattle.fork_quads.proofs.Operating.{one_within, single_is, made_value}
+use Rattle.fork_quads.proofs.Joining.{counts_tells}
 use Rattle.fork_quads.proofs.relations.CrewCore.single.Goals as goal
 
 pub single_quad-quad-requires : goal.single_quad-quad-requires
@@ -20,3 +21,7 @@ returns-clause-value g c =
 pub returns-clause-keeps : goal.returns-clause-keeps
 returns-clause-keeps g c =
     keeps_counting (quad_room c.height_of_tree-height.result) c.args.self.now c.self.inside.nodes c.single_quad-quad.new.nodes c.single_quad-quad.result c.self.view_is c.single_quad-quad.ensures.keeps c.single_quad-quad.ensures.counts
+
+pub returns-clause-cause : goal.returns-clause-cause
+returns-clause-cause g c =
+    tells_cause c.args.self.now c.self.inside.nodes c.single_quad-quad.new.nodes c.args.shape.rows c.args.shape.cols c.single_quad-quad.result c.named.result c.self.view_is (counts_tells c.self.inside.nodes c.single_quad-quad.new.nodes c.single_quad-quad.result c.single_quad-quad.ensures.counts) c.named.ensures
