@@ -3,12 +3,12 @@ use Rattle.std.proofs.Common.{◌≡◌, ◌≤◌, ◌∙◌, ℕ, Bool, true, 
 use Rattle.std.proofs.lemmas.Bool.{leb-true, eqb-true}
 use Rattle.std.proofs.lemmas.List.{length-map}
 use Rattle.std.proofs.lemmas.List.Elements.{All-cons, All-nil, All-head, All-tail}
-use Rattle.std.specs.Prelude.{All, IsTrue, String, unwrap_or}
+use Rattle.std.specs.Prelude.{All, IsTrue, String, option_and_then, unwrap_or}
 use Rattle.std.specs.String.{string_bytes}
 use Rattle.std.specs.declared.vec.Vec.{Vec}
 use Rattle.std.specs.declared.alloc.Global.{Global}
-use Rattle.rv_words.specs.Uses.{Word}
-use Rattle.rv_words.specs.Said.{said_by, scripts_in, relations_in, fits_gen}
+use Rattle.rv_words.specs.Uses.{Word, uses_in, values_of}
+use Rattle.rv_words.specs.Said.{said_by, said_from, scripts_in, relations_in, fits_gen}
 use Rattle.rv_words.specs.Shown.{texts, shown, files_told}
 use Rattle.rv_words.specs.declared.options.Options.{Options}
 use Rattle.run_model.specs.Filed.{file_of}
@@ -24,6 +24,10 @@ use Rattle.relview.proofs.Reporting.{GivesRun}
 -- the FILE words that were told
 pub words_told : (words names : List Word) → files_told words ≡ Some names → file_words words ≡ names
 words_told words names e = ap (λ o. unwrap_or o []) e
+
+-- words that name no uses say nothing
+pub none_said : (words : List Word) → uses_in words ≡ None → said_by words ≡ None
+none_said words e = ap (option_and_then (λ uses. said_from (values_of uses))) e
 
 -- what holds of the bytes of all names holds of the names
 pub of_names : (P : Word → Type 0) (names : List (String Global)) → All P (texts names) → All (λ name. P (string_bytes name)) names

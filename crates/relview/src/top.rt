@@ -142,14 +142,13 @@ fn run_generated<R: Threads + Wait + Sync, S: Shelf, K: Sink, G: Gate + Sync>(
         → Answers words (S.told shelf.old) (S.told shelf.new)
         (sunk (K.written sink.old) (K.faults sink.old)) (sunk (K.written sink.new) (K.faults sink.new)) result }
 {
-    let files: Vec<Loaded> = Vec::new(alloc);
     match generate(alloc, number) {
         Ok(scripts) => run_given(
             rt,
             alloc,
             options,
             scripts.as_slice(),
-            files.as_slice(),
+            &[],
             shelf,
             sink,
             gate,

@@ -8,17 +8,25 @@ use std::alloc::{AllocError, Global};
 use std::env::Args;
 use std::io;
 
+/// All words, in their order.
+fn all_words(alloc: Global, args: Args) -> Result<Vec<String>, AllocError>
+    ensures { IfOk result (λ words. words.items ≡ into_iter_items args) }
+{
+    let mut rest = args;
+    let mut words = Vec::new(alloc);
+    'each: while let Some(word) = rest.next() {
+        words.push(word)?;
+    }
+    Ok(words)
+}
+
 /// The words behind the program's own name, all and in their order.
 fn words_behind_name(alloc: Global, args: Args) -> Result<Vec<String>, AllocError>
     ensures { IfOk result (λ words. words.items ≡ drop 1 (into_iter_items args)) }
 {
     let mut rest = args;
     let _name = rest.next();
-    let mut words = Vec::new(alloc);
-    'each: while let Some(word) = rest.next() {
-        words.push(word)?;
-    }
-    Ok(words)
+    all_words(alloc, rest)
 }
 
 /// The words of what the system gave for the command line. Where that is no text there are none, which is outside the

@@ -11,10 +11,10 @@ use Rattle.turn_book.specs.Logs.{Begins}
 use Rattle.turn_book.specs.Views.{View, with_other}
 use Rattle.turn_book.specs.Joined.{places, all_lists, JoinsAll}
 use Rattle.turn_book.proofs.Joining.{joins_one_more}
-use Rattle.turn_book.specs.Views.{Book}
+use Rattle.turn_book.specs.Views.{Book, House}
 use Rattle.rv_sessions.specs.declared.transcript.Transcript.{Transcript}
 use Rattle.rv_runs.specs.declared.work.Work.{Work}
-use Rattle.rv_runs.specs.Works.{IsAbsorbed, CanJoin, TakesAll, made_by, pass_of, told_of}
+use Rattle.rv_runs.specs.Works.{IsAbsorbed, CanJoin, TakesAll, HaveHouse, made_by, pass_of, told_of}
 
 -- what is true of all is true of each
 pub there : {X : Type 0} (P : X → Type 0) (ys zs : List X) (w : X) → All P (ys ++ w ∷ zs) → P w
@@ -103,3 +103,13 @@ module _ {E : Type 0} where
     pub one_place_each : (works : List (Work E)) → All (CanJoin worker book) works → places (map pass_of works) ≡ length works
     one_place_each [] h = refl
     one_place_each (w ∷ ws) h = let s = (h 0 w (omega arith)).no_spare in let i = one_place_each ws (λ k d l. h (suc k) d (omega arith)) in omega arith
+
+    -- the piece of work that comes next can be joined
+    pub next_joins : (works yielded rest later : List (Work E)) (w : Work E) → All (CanJoin worker book) works → works ≡ yielded ++ rest → rest ≡ w ∷ later → CanJoin worker book w
+    next_joins works yielded rest later w all is next =
+        there (CanJoin worker book) yielded later w (subst (λ (l : List (Work E)). All (CanJoin worker book) l) (is ∙ ap (λ (l : List (Work E)). yielded ++ l) next) all)
+
+  -- its pass is of the house of all
+  pub next_house : (house : House) (works yielded rest later : List (Work E)) (w : Work E) → HaveHouse house works → works ≡ yielded ++ rest → rest ≡ w ∷ later → w.pass.house ≡ house
+  next_house house works yielded rest later w all is next =
+      there (λ work. work.pass.house ≡ house) yielded later w (subst (λ (l : List (Work E)). HaveHouse house l) (is ∙ ap (λ (l : List (Work E)). yielded ++ l) next) all)

@@ -7,3 +7,4 @@ pub mod Joining
 pub mod Sharing
 pub mod Collecting
 pub mod Alone
+pub mod Adding

@@ -1,5 +1,6 @@
 //! The page of a run, from what its sessions told.
 ghost use Rattle.std.specs.Prelude.{◌≡◌, ◌++◌, [], map, IfOk, OnOk};
+ghost use Rattle.std.specs.Fmt.{decimal};
 ghost use Rattle.std.specs.List.{flat_map};
 ghost use Rattle.run_model.specs.Page.{event_line};
 ghost use Rattle.run_model.specs.Texts.{prefix};
@@ -15,6 +16,14 @@ use rv_print::event_line;
 use rv_sessions::{Reply, Transcript};
 use std::alloc::{AllocError, Global};
 
+/// Adds a number in decimal.
+fn push_number(alloc: Global, out: &mut Vec<u8>, number: u32) -> Result<(), AllocError>
+    ensures { OnOk result (out.new.items ≡ out.old.items ++ decimal number) }
+{
+    let digits = u64::from(number).to_string(alloc)?;
+    out.extend_from_slice(digits.as_bytes())
+}
+
 /// Adds `S.C: `.
 fn push_prefix(
     alloc: Global,
@@ -24,11 +33,9 @@ fn push_prefix(
 ) -> Result<(), AllocError>
     ensures { OnOk result (out.new.items ≡ out.old.items ++ prefix session command) }
 {
-    let session = u64::from(session).to_string(alloc)?;
-    out.extend_from_slice(session.as_bytes())?;
+    push_number(alloc, out, session)?;
     out.extend_from_slice(b".")?;
-    let command = u64::from(command).to_string(alloc)?;
-    out.extend_from_slice(command.as_bytes())?;
+    push_number(alloc, out, command)?;
     out.extend_from_slice(b": ")
 }
 
@@ -75,6 +82,16 @@ fn push_history(alloc: Global, out: &mut Vec<u8>, history: &[Event]) -> Result<(
     Ok(())
 }
 
+/// Adds the replies of sessions, one session after another.
+fn push_sessions(alloc: Global, out: &mut Vec<u8>, told: &[Transcript]) -> Result<(), AllocError>
+    ensures { OnOk result (out.new.items ≡ out.old.items ++ flat_map text_of_session told.now) }
+{
+    'sessions: for transcript in told {
+        push_replies(alloc, out, transcript.replies.as_slice())?;
+    }
+    Ok(())
+}
+
 /// The page: the replies of the sessions one after another, and then the history where it is asked.
 pub fn make_page(
     alloc: Global,
@@ -85,9 +102,7 @@ pub fn make_page(
     ensures { IfOk result (λ v. v.items ≡ page_told told.now history.now asked) }
 {
     let mut out = Vec::new(alloc);
-    'sessions: for transcript in told {
-        push_replies(alloc, &mut out, transcript.replies.as_slice())?;
-    }
+    push_sessions(alloc, &mut out, told)?;
     if asked {
         push_history(alloc, &mut out, history)?;
     }

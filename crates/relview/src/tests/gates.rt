@@ -127,7 +127,7 @@ fn page_of(alloc: Global, history: &[Event]) -> Result<String, AllocError> {
     let mut lines = String::new(alloc);
     for event in history {
         let (session, command) = (event.session, event.command);
-        match event.act {
+        match &event.act {
             Act::Assign { .. } => cell = if session == 1 { '1' } else { '.' },
             Act::Read => {
                 if session == 1 {

@@ -1,7 +1,0 @@
-use Rattle.std.proofs.Common.{◌≡◌, take}
-use Rattle.std.specs.List.{flat_map}
-use Rattle.rv_runs.specs.Pages.{text_of_session}
-use Rattle.rv_runs.proofs.page.make_page.Given as goal
-
-abbrev pub invariant-sessions : goal.invariant-sessions
-invariant-sessions l = l.out.items ≡ flat_map text_of_session (take l.transcript-index l.told)
