@@ -8,3 +8,4 @@ pub mod Sharing
 pub mod Collecting
 pub mod Alone
 pub mod Adding
+pub mod Told
