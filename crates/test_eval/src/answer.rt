@@ -20,7 +20,7 @@ use std::alloc::Global;
 use std::process::Abort;
 
 /// What a command shows of the value of its expression.
-#[derive(Clone, Copy, Debug, PartialEq, Eq)]
+#[derive(Clone, Copy)]
 enum View {
     Pairs,
     Count,
@@ -136,6 +136,73 @@ pub(crate) fn put<E: Engine>(
     push(rt, alloc, names, name, rel)
 }
 
+/// Gives a name a listed relation; the answer where a number passes its size.
+#[tactic(auto, using(crate::proofs::Standing::names_kept))]
+fn step_relation<E: Engine>(
+    rt: &impl Abort,
+    alloc: Global,
+    engine: &mut E,
+    names: &mut Vec<(Name, Rel)>,
+    name: &Name,
+    given: Result<Listed, String>,
+) -> Option<String>
+    requires { AllStand (E.worker engine.old) names.old.items }
+    ensures { AllStand (E.worker engine.new) names.new.items }
+{
+    match given {
+        Ok(list) => {
+            let rel = told(rt, alloc, engine, &list);
+            put(rt, alloc, engine, names, name, rel);
+            None
+        }
+        Err(text) => Some(text),
+    }
+}
+
+/// Gives a name the value of an expression; the answer where it is refused.
+#[tactic(auto, using(crate::proofs::Standing::names_kept))]
+fn step_let<E: Engine>(
+    rt: &impl Abort,
+    alloc: Global,
+    engine: &mut E,
+    checked: &Checked,
+    names: &mut Vec<(Name, Rel)>,
+    name: &Name,
+    value: &Expr,
+    turns: u64,
+) -> Option<String>
+    requires { AllStand (E.worker engine.old) names.old.items }
+    ensures { AllStand (E.worker engine.new) names.new.items }
+{
+    match eval(alloc, engine, checked, names.as_slice(), value, turns) {
+        Ok(rel) => {
+            put(rt, alloc, engine, names, name, rel);
+            None
+        }
+        Err(refused) => Some(refusal_text(rt, alloc, &refused)),
+    }
+}
+
+/// What a command shows of the value of an expression, or why it is refused.
+fn step_shown<E: Engine>(
+    rt: &impl Abort,
+    alloc: Global,
+    engine: &mut E,
+    checked: &Checked,
+    names: &[(Name, Rel)],
+    view: View,
+    value: &Expr,
+    turns: u64,
+) -> String
+    requires { AllStand (E.worker engine.old) names.now }
+    ensures { Keeps (E.worker engine.old) (E.worker engine.new) }
+{
+    match eval(alloc, engine, checked, names, value, turns) {
+        Ok(rel) => rel_text(rt, alloc, engine, view, rel),
+        Err(refused) => refusal_text(rt, alloc, &refused),
+    }
+}
+
 /// What an engine answers to a command, where it answers anything.
 #[tactic(auto, using(crate::proofs::Standing::names_kept))]
 fn step<E: Engine>(
@@ -157,29 +224,17 @@ fn step<E: Engine>(
             cols,
             list,
             ..
-        } => match listed(rt, alloc, *rows, *cols, list.as_slice()) {
-            Ok(list) => {
-                let rel = told(rt, alloc, engine, &list);
-                put(rt, alloc, engine, names, name, rel);
-                None
-            }
-            Err(text) => Some(text),
-        },
+        } => {
+            let given = listed(rt, alloc, *rows, *cols, list.as_slice());
+            step_relation(rt, alloc, engine, names, name, given)
+        }
         Command::Let { name, value } => {
-            match eval(alloc, engine, checked, names.as_slice(), value, turns) {
-                Ok(rel) => {
-                    put(rt, alloc, engine, names, name, rel);
-                    None
-                }
-                Err(refused) => Some(refusal_text(rt, alloc, &refused)),
-            }
+            step_let(rt, alloc, engine, checked, names, name, value, turns)
         }
         _ => match shown(command) {
             Some((view, value)) => {
-                match eval(alloc, engine, checked, names.as_slice(), value, turns) {
-                    Ok(rel) => Some(rel_text(rt, alloc, engine, view, rel)),
-                    Err(refused) => Some(refusal_text(rt, alloc, &refused)),
-                }
+                let names = names.as_slice();
+                Some(step_shown(rt, alloc, engine, checked, names, view, value, turns))
             }
             None => None,
         },
@@ -230,6 +285,46 @@ pub(crate) fn answer<E: Engine>(
     }
 }
 
+/// Gives a name a list; what the slow evaluator says where it has none.
+fn slow_set(
+    rt: &impl Abort,
+    alloc: Global,
+    names: &mut Vec<Named>,
+    name: &Name,
+    given: Result<Listed, String>,
+) -> Option<String> {
+    match given {
+        Ok(list) => {
+            set(rt, alloc, names, name.bytes(), list);
+            None
+        }
+        Err(text) => Some(text),
+    }
+}
+
+/// The value of an expression by the slow evaluator, or why it is refused.
+fn slow_value(
+    rt: &impl Abort,
+    alloc: Global,
+    script: &Script,
+    names: &[Named],
+    value: &Expr,
+    turns: u64,
+) -> Result<Listed, String> {
+    match evaluated(rt, alloc, script.items.as_slice(), names, value, turns) {
+        Ok(list) => Ok(list),
+        Err(refused) => Err(refusal_text(rt, alloc, &refused)),
+    }
+}
+
+/// What the slow evaluator shows of the value of an expression, or why it is refused.
+fn slow_shown(rt: &impl Abort, alloc: Global, view: View, given: Result<Listed, String>) -> String {
+    match given {
+        Ok(list) => list_text(rt, alloc, view, &list),
+        Err(text) => text,
+    }
+}
+
 /// What the slow evaluator says of a command, where it says anything.
 fn slow_step(
     rt: &impl Abort,
@@ -239,7 +334,6 @@ fn slow_step(
     command: &Command,
     turns: u64,
 ) -> Option<String> {
-    let items = script.items.as_slice();
     match command {
         Command::Relation {
             name,
@@ -247,28 +341,18 @@ fn slow_step(
             cols,
             list,
             ..
-        } => match listed(rt, alloc, *rows, *cols, list.as_slice()) {
-            Ok(list) => {
-                set(rt, alloc, names, name.bytes(), list);
-                None
-            }
-            Err(text) => Some(text),
-        },
+        } => {
+            let given = listed(rt, alloc, *rows, *cols, list.as_slice());
+            slow_set(rt, alloc, names, name, given)
+        }
         Command::Let { name, value } => {
-            match evaluated(rt, alloc, items, names.as_slice(), value, turns) {
-                Ok(list) => {
-                    set(rt, alloc, names, name.bytes(), list);
-                    None
-                }
-                Err(refused) => Some(refusal_text(rt, alloc, &refused)),
-            }
+            let given = slow_value(rt, alloc, script, names.as_slice(), value, turns);
+            slow_set(rt, alloc, names, name, given)
         }
         _ => match shown(command) {
             Some((view, value)) => {
-                match evaluated(rt, alloc, items, names.as_slice(), value, turns) {
-                    Ok(list) => Some(list_text(rt, alloc, view, &list)),
-                    Err(refused) => Some(refusal_text(rt, alloc, &refused)),
-                }
+                let given = slow_value(rt, alloc, script, names.as_slice(), value, turns);
+                Some(slow_shown(rt, alloc, view, given))
             }
             None => None,
         },

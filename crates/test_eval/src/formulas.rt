@@ -4,7 +4,7 @@ use std::alloc::Global;
 use std::process::Abort;
 
 /// Which pairs are in the result of an operation on two relations, or on the first alone.
-#[derive(Clone, Copy, Debug, PartialEq, Eq)]
+#[derive(Clone, Copy)]
 pub(crate) enum Formula {
     Nothing,
     All,

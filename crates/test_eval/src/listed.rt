@@ -3,7 +3,7 @@ use std::alloc::Global;
 use std::process::Abort;
 
 /// A relation by its sizes and its pairs, counted from 0.
-#[derive(Debug, Drop)]
+#[derive(Drop)]
 pub(crate) struct Listed {
     pub(crate) rows: u32,
     pub(crate) cols: u32,

@@ -9,7 +9,7 @@ use crate::operators::{
     base_call, complement, domain_call, link, pair, spelled, transposed, type_of,
 };
 use lang_model::faults::TypeFault;
-use lang_model::syntax::{Base, Decl, Expr, Item, Name, Place, Stmt};
+use lang_model::syntax::{Base, Decl, Expr, Item, Link, Name, Place, Stmt};
 use rv_eval::Refused;
 use std::alloc::Global;
 use std::process::Abort;
@@ -82,17 +82,25 @@ pub(crate) fn value_of<R: Abort>(
 ) -> Result<Listed, Refused> {
     let left = less(rt, steps);
     match expr {
-        Expr::Ref { at, name } => match find(names, name.bytes()) {
-            Some(value) => Ok(copy(rt, alloc, value)),
-            None => Err(unknown(rt, alloc, *at, name.bytes())),
-        },
+        Expr::Ref { at, name } => value_of_name(rt, alloc, names, *at, name),
         Expr::Call { name, args, .. } => {
-            let values = values_of(rt, alloc, items, decls, names, args.as_slice(), turns, left)?;
-            called(rt, alloc, items, name, values.as_slice(), turns, left)
+            value_of_call(
+                rt,
+                alloc,
+                items,
+                decls,
+                names,
+                name,
+                args.as_slice(),
+                turns,
+                left,
+            )
         }
         Expr::Base { at, base, args } => {
-            let values = values_of(rt, alloc, items, decls, names, args.as_slice(), turns, left)?;
-            base_call(rt, alloc, *at, *base, values.as_slice())
+            let args = args.as_slice();
+            value_of_base(
+                rt, alloc, items, decls, names, *at, *base, args, turns, left,
+            )
         }
         Expr::Inject { at, base, domain } => {
             let (x, y) = factors(rt, decls, names, domain.bytes());
@@ -102,31 +110,158 @@ pub(crate) fn value_of<R: Abort>(
             at,
             left: first,
             right: second,
-        } => {
-            let r = value_of(rt, alloc, items, decls, names, first, turns, left)?;
-            let s = value_of(rt, alloc, items, decls, names, second, turns, left)?;
-            pair(rt, alloc, *at, &r, &s)
-        }
-        Expr::Minus { of, .. } => {
-            let r = value_of(rt, alloc, items, decls, names, of, turns, left)?;
-            Ok(complement(rt, alloc, &r))
-        }
+        } => value_of_pair(
+            rt, alloc, items, decls, names, *at, first, second, turns, left,
+        ),
+        Expr::Minus { of, .. } => complement_of(rt, alloc, items, decls, names, of, turns, left),
         Expr::Turned { of, times, .. } => {
-            let mut r = value_of(rt, alloc, items, decls, names, of, turns, left)?;
-            'times: for _ in 0..*times {
-                r = transposed(rt, alloc, &r);
-            }
-            Ok(r)
+            turned(rt, alloc, items, decls, names, of, *times, turns, left)
         }
         Expr::Chain { first, rest } => {
-            let mut r = value_of(rt, alloc, items, decls, names, first, turns, left)?;
-            'links: for next in rest.as_slice() {
-                let s = value_of(rt, alloc, items, decls, names, &next.right, turns, left)?;
-                r = link(rt, alloc, next.at, next.op, &r, &s)?;
-            }
-            Ok(r)
+            value_of_chain(
+                rt,
+                alloc,
+                items,
+                decls,
+                names,
+                first,
+                rest.as_slice(),
+                turns,
+                left,
+            )
         }
     }
+}
+
+/// The value of a name.
+fn value_of_name(
+    rt: &impl Abort,
+    alloc: Global,
+    names: &[Named],
+    at: Place,
+    name: &Name,
+) -> Result<Listed, Refused> {
+    match find(names, name.bytes()) {
+        Some(value) => Ok(copy(rt, alloc, value)),
+        None => Err(unknown(rt, alloc, at, name.bytes())),
+    }
+}
+
+/// The value of a call with its arguments.
+#[cycle(slow)]
+fn value_of_call<R: Abort>(
+    rt: &R,
+    alloc: Global,
+    items: &[Item],
+    decls: &[Decl],
+    names: &[Named],
+    name: &Name,
+    args: &[Expr],
+    turns: &mut u64,
+    steps: u32,
+) -> Result<Listed, Refused> {
+    let left = less(rt, steps);
+    let values = values_of(rt, alloc, items, decls, names, args, turns, left)?;
+    called(rt, alloc, items, name, values.as_slice(), turns, left)
+}
+
+/// The value of a base call with its arguments.
+#[cycle(slow)]
+fn value_of_base<R: Abort>(
+    rt: &R,
+    alloc: Global,
+    items: &[Item],
+    decls: &[Decl],
+    names: &[Named],
+    at: Place,
+    base: Base,
+    args: &[Expr],
+    turns: &mut u64,
+    steps: u32,
+) -> Result<Listed, Refused> {
+    let left = less(rt, steps);
+    let values = values_of(rt, alloc, items, decls, names, args, turns, left)?;
+    base_call(rt, alloc, at, base, values.as_slice())
+}
+
+/// The value of a pair in brackets.
+#[cycle(slow)]
+fn value_of_pair<R: Abort>(
+    rt: &R,
+    alloc: Global,
+    items: &[Item],
+    decls: &[Decl],
+    names: &[Named],
+    at: Place,
+    first: &Expr,
+    second: &Expr,
+    turns: &mut u64,
+    steps: u32,
+) -> Result<Listed, Refused> {
+    let left = less(rt, steps);
+    let r = value_of(rt, alloc, items, decls, names, first, turns, left)?;
+    let s = value_of(rt, alloc, items, decls, names, second, turns, left)?;
+    pair(rt, alloc, at, &r, &s)
+}
+
+/// The complement of an expression.
+#[cycle(slow)]
+fn complement_of<R: Abort>(
+    rt: &R,
+    alloc: Global,
+    items: &[Item],
+    decls: &[Decl],
+    names: &[Named],
+    of: &Expr,
+    turns: &mut u64,
+    steps: u32,
+) -> Result<Listed, Refused> {
+    let left = less(rt, steps);
+    let r = value_of(rt, alloc, items, decls, names, of, turns, left)?;
+    Ok(complement(rt, alloc, &r))
+}
+
+/// An expression that is transposed so many times.
+#[cycle(slow)]
+fn turned<R: Abort>(
+    rt: &R,
+    alloc: Global,
+    items: &[Item],
+    decls: &[Decl],
+    names: &[Named],
+    of: &Expr,
+    times: u32,
+    turns: &mut u64,
+    steps: u32,
+) -> Result<Listed, Refused> {
+    let left = less(rt, steps);
+    let mut r = value_of(rt, alloc, items, decls, names, of, turns, left)?;
+    'times: for _ in 0..times {
+        r = transposed(rt, alloc, &r);
+    }
+    Ok(r)
+}
+
+/// The value of a chain of operators, from the left.
+#[cycle(slow)]
+fn value_of_chain<R: Abort>(
+    rt: &R,
+    alloc: Global,
+    items: &[Item],
+    decls: &[Decl],
+    names: &[Named],
+    first: &Expr,
+    rest: &[Link],
+    turns: &mut u64,
+    steps: u32,
+) -> Result<Listed, Refused> {
+    let left = less(rt, steps);
+    let mut r = value_of(rt, alloc, items, decls, names, first, turns, left)?;
+    'links: for next in rest {
+        let s = value_of(rt, alloc, items, decls, names, &next.right, turns, left)?;
+        r = link(rt, alloc, next.at, next.op, &r, &s)?;
+    }
+    Ok(r)
 }
 
 /// The values of arguments, from the left.
@@ -193,30 +328,40 @@ fn called<R: Abort>(
             },
         ) => {
             let mut names = bound(rt, alloc, params.as_slice(), values);
-            let decls = decls.as_slice();
-            run_all(
-                rt,
-                alloc,
-                items,
-                decls,
-                &mut names,
-                body.as_slice(),
-                turns,
-                left,
-            )?;
-            value_of(
-                rt,
-                alloc,
-                items,
-                decls,
-                names.as_slice(),
-                result,
-                turns,
-                left,
+            let (decls, body) = (decls.as_slice(), body.as_slice());
+            came_to(
+                rt, alloc, items, decls, &mut names, body, result, turns, left,
             )
         }
         _ => panic!(rt; "no definition"),
     }
+}
+
+/// The result of a program behind its statements.
+#[cycle(slow)]
+fn came_to<R: Abort>(
+    rt: &R,
+    alloc: Global,
+    items: &[Item],
+    decls: &[Decl],
+    names: &mut Vec<Named>,
+    body: &[Stmt],
+    value: &Expr,
+    turns: &mut u64,
+    steps: u32,
+) -> Result<Listed, Refused> {
+    let left = less(rt, steps);
+    run_all(rt, alloc, items, decls, names, body, turns, left)?;
+    value_of(
+        rt,
+        alloc,
+        items,
+        decls,
+        names.as_slice(),
+        value,
+        turns,
+        left,
+    )
 }
 
 /// Whether a test holds.
@@ -244,7 +389,7 @@ fn holds<R: Abort>(
     }
 }
 
-/// Runs a statement. A loop has fewer than 1000 turns in tests.
+/// Runs a statement.
 #[cycle(slow)]
 fn run<R: Abort>(
     rt: &R,
@@ -259,61 +404,125 @@ fn run<R: Abort>(
     let left = less(rt, steps);
     match stmt {
         Stmt::Set { name, value, .. } => {
-            let r = value_of(
-                rt,
-                alloc,
-                items,
-                decls,
-                names.as_slice(),
-                value,
-                turns,
-                left,
-            )?;
-            set(rt, alloc, names, name.bytes(), r);
-            Ok(())
+            run_set(rt, alloc, items, decls, names, name, value, turns, left)
         }
         Stmt::While { at, test, body } => {
-            'turns: for _ in 0..1000u32 {
-                if !holds(
-                    rt,
-                    alloc,
-                    items,
-                    decls,
-                    names.as_slice(),
-                    *at,
-                    test,
-                    turns,
-                    left,
-                )? {
-                    return Ok(());
-                }
-                if *turns == 0 {
-                    return Err(Refused::Turns { at: *at, limit: 0 });
-                }
-                *turns -= 1;
-                run_all(rt, alloc, items, decls, names, body.as_slice(), turns, left)?;
-            }
-            panic!(rt; "too many turns")
-        }
-        Stmt::If { at, test, yes, no } => {
-            let part = if holds(
+            run_while(
                 rt,
                 alloc,
                 items,
                 decls,
-                names.as_slice(),
+                names,
                 *at,
                 test,
+                body.as_slice(),
                 turns,
                 left,
-            )? {
-                yes
-            } else {
-                no
-            };
-            run_all(rt, alloc, items, decls, names, part.as_slice(), turns, left)
+            )
+        }
+        Stmt::If { at, test, yes, no } => {
+            let parts = (yes.as_slice(), no.as_slice());
+            run_if(
+                rt, alloc, items, decls, names, *at, test, parts, turns, left,
+            )
         }
     }
+}
+
+/// Runs an assignment.
+#[cycle(slow)]
+fn run_set<R: Abort>(
+    rt: &R,
+    alloc: Global,
+    items: &[Item],
+    decls: &[Decl],
+    names: &mut Vec<Named>,
+    name: &Name,
+    value: &Expr,
+    turns: &mut u64,
+    steps: u32,
+) -> Result<(), Refused> {
+    let left = less(rt, steps);
+    let r = value_of(
+        rt,
+        alloc,
+        items,
+        decls,
+        names.as_slice(),
+        value,
+        turns,
+        left,
+    )?;
+    set(rt, alloc, names, name.bytes(), r);
+    Ok(())
+}
+
+/// Runs a loop, which has fewer than 1000 turns in tests.
+#[cycle(slow)]
+fn run_while<R: Abort>(
+    rt: &R,
+    alloc: Global,
+    items: &[Item],
+    decls: &[Decl],
+    names: &mut Vec<Named>,
+    at: Place,
+    test: &Expr,
+    body: &[Stmt],
+    turns: &mut u64,
+    steps: u32,
+) -> Result<(), Refused> {
+    let left = less(rt, steps);
+    'turns: for _ in 0..1000u32 {
+        if !holds(
+            rt,
+            alloc,
+            items,
+            decls,
+            names.as_slice(),
+            at,
+            test,
+            turns,
+            left,
+        )? {
+            return Ok(());
+        }
+        if *turns == 0 {
+            return Err(Refused::Turns { at, limit: 0 });
+        }
+        *turns -= 1;
+        run_all(rt, alloc, items, decls, names, body, turns, left)?;
+    }
+    panic!(rt; "too many turns")
+}
+
+/// Runs the first of two parts where a test holds, and else the second.
+#[cycle(slow)]
+fn run_if<R: Abort>(
+    rt: &R,
+    alloc: Global,
+    items: &[Item],
+    decls: &[Decl],
+    names: &mut Vec<Named>,
+    at: Place,
+    test: &Expr,
+    parts: (&[Stmt], &[Stmt]),
+    turns: &mut u64,
+    steps: u32,
+) -> Result<(), Refused> {
+    let left = less(rt, steps);
+    let yes = holds(
+        rt,
+        alloc,
+        items,
+        decls,
+        names.as_slice(),
+        at,
+        test,
+        turns,
+        left,
+    )?;
+    let part = if yes { parts.0 } else { parts.1 };
+    run_all(rt, alloc, items, decls, names, part, turns, left)
 }
 
 /// Runs statements in order.

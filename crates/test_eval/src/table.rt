@@ -2,10 +2,15 @@
 ghost use Rattle.std.specs.Prelude.{◌<◌, length, IfSome};
 
 use crate::answer::{answer, answers, checked_of, slow_answers};
+use crate::made::table as new_table;
 use crate::texts::{add, made};
+use fork_quads::{Crew, OpenGate};
+use rel_engine::Works;
 use rel_model::engine_trait::Engine;
+use rv_types::Checked;
 use std::alloc::Global;
 use std::process::Abort;
+use std::thread::Threads;
 
 /// What parts a script and its answer.
 const ARROW: &[u8] = b" => ";
@@ -97,6 +102,43 @@ pub(crate) fn wrong_lines<E: Engine>(
     wrong
 }
 
+/// Asserts that nothing was noted.
+pub(crate) fn assert_none(rt: &impl Abort, wrong: &str) {
+    assert!(rt; wrong.is_empty(), "{wrong}");
+}
+
+/// Asserts that over a new table the lines of a table of cases are answered as they say.
+pub(crate) fn assert_lines<R: Threads + Abort + Sync>(
+    rt: &R,
+    alloc: Global,
+    cases: &str,
+    turns: u64,
+) {
+    let (table, seat) = new_table(rt, alloc, 20);
+    let gate = OpenGate;
+    let mut engine = Works::new(Crew::new(rt, &table, seat, 1, &gate));
+    let wrong = wrong_lines(rt, alloc, &mut engine, cases, turns);
+    assert_none(rt, wrong.as_str());
+}
+
+/// What an engine answers to a checked script, where that is something else than the slow evaluator says.
+fn differing_answers<E: Engine>(
+    rt: &impl Abort,
+    alloc: Global,
+    engine: &mut E,
+    checked: &Checked,
+    turns: u64,
+) -> Option<String> {
+    let given = answers(rt, alloc, engine, checked, turns);
+    let wanted = slow_answers(rt, alloc, checked, turns);
+    let (given, wanted) = (given.as_str(), wanted.as_str());
+    if given == wanted {
+        None
+    } else {
+        Some(made(rt, format!(in alloc; "{given} for {wanted}")))
+    }
+}
+
 /// What an engine answers to a script, where that is something else than the slow evaluator says.
 pub(crate) fn differing<E: Engine>(
     rt: &impl Abort,
@@ -106,16 +148,7 @@ pub(crate) fn differing<E: Engine>(
     turns: u64,
 ) -> Option<String> {
     match checked_of(rt, alloc, text) {
-        Ok(checked) => {
-            let given = answers(rt, alloc, engine, &checked, turns);
-            let wanted = slow_answers(rt, alloc, &checked, turns);
-            if given.as_str() == wanted.as_str() {
-                None
-            } else {
-                let both = format!(in alloc; "{} for {}", given.as_str(), wanted.as_str());
-                Some(made(rt, both))
-            }
-        }
+        Ok(checked) => differing_answers(rt, alloc, engine, &checked, turns),
         Err(fault) => Some(fault),
     }
 }

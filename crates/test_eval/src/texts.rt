@@ -92,6 +92,34 @@ fn placed(rt: &impl Abort, alloc: Global, kind: &str, at: Place) -> String {
     made(rt, format!(in alloc; "{kind} {}:{}", at.line, at.column))
 }
 
+/// A kind of faults, an operator, a place and a type.
+fn shaped(
+    rt: &impl Abort,
+    alloc: Global,
+    kind: &str,
+    op: &Name,
+    at: Place,
+    shape: StaticShape,
+) -> String {
+    let text = named(rt, alloc, kind, op, at);
+    with_shape(rt, alloc, text, shape)
+}
+
+/// A definition that is called with another number of arguments.
+fn arity_text(
+    rt: &impl Abort,
+    alloc: Global,
+    name: &Name,
+    at: Place,
+    takes: u32,
+    given: u32,
+) -> String {
+    let mut text = named(rt, alloc, "Arity", name, at);
+    let more = made(rt, format!(in alloc; " takes {takes} given {given}"));
+    add(rt, &mut text, more.as_str());
+    text
+}
+
 /// A fault of a script or an expression.
 pub(crate) fn fault_text(rt: &impl Abort, alloc: Global, fault: &TypeFault) -> String {
     match fault {
@@ -101,12 +129,7 @@ pub(crate) fn fault_text(rt: &impl Abort, alloc: Global, fault: &TypeFault) -> S
             name,
             takes,
             given,
-        } => {
-            let mut text = named(rt, alloc, "Arity", name, *at);
-            let more = made(rt, format!(in alloc; " takes {takes} given {given}"));
-            add(rt, &mut text, more.as_str());
-            text
-        }
+        } => arity_text(rt, alloc, name, *at, *takes, *given),
         TypeFault::Unassigned { at, name } => named(rt, alloc, "Unassigned", name, *at),
         TypeFault::Rank { at, name } => named(rt, alloc, "Rank", name, *at),
         TypeFault::Mismatch {
@@ -115,17 +138,14 @@ pub(crate) fn fault_text(rt: &impl Abort, alloc: Global, fault: &TypeFault) -> S
             left,
             right,
         } => {
-            let text = named(rt, alloc, "Mismatch", op, *at);
-            let text = with_shape(rt, alloc, text, *left);
+            let text = shaped(rt, alloc, "Mismatch", op, *at, *left);
             with_shape(rt, alloc, text, *right)
         }
         TypeFault::NotSquare { at, op, shape } => {
-            let text = named(rt, alloc, "NotSquare", op, *at);
-            with_shape(rt, alloc, text, *shape)
+            shaped(rt, alloc, "NotSquare", op, *at, *shape)
         }
         TypeFault::NotVector { at, op, shape } => {
-            let text = named(rt, alloc, "NotVector", op, *at);
-            with_shape(rt, alloc, text, *shape)
+            shaped(rt, alloc, "NotVector", op, *at, *shape)
         }
         TypeFault::NotTest { at, shape } => {
             let text = placed(rt, alloc, "NotTest", *at);

@@ -14,4 +14,6 @@ mod read;
 #[cfg(test)]
 mod slow;
 #[cfg(test)]
+mod trial;
+#[cfg(test)]
 mod written;

@@ -1,24 +1,12 @@
-//! What the tests are given: a table, and relations of listed pairs.
+//! What the tests are given: relations of listed pairs.
 ghost use Rattle.std.specs.Prelude.{◌≤◌, IsTrue};
 ghost use Rattle.rel_model.specs.Listed.{AreWithin};
-ghost use Rattle.rel_model.specs.Views.{IsOf};
 ghost use Rattle.rel_model.specs.Worker.{Stands, Keeps};
 
-use pair_table::{PairTable, Seat};
 use rel_model::engine_trait::Engine;
 use rel_model::{Rel, SIZE_LIMIT, Shape};
 use std::alloc::Global;
 use std::process::Abort;
-
-/// A table of 2^16 node words, and its first seat.
-pub(crate) fn table(rt: &impl Abort, alloc: Global) -> (PairTable, Seat)
-    ensures { IsOf result.1 result.0 }
-{
-    match PairTable::make(alloc, 16, 1) {
-        Ok(made) => made,
-        Err(_) => panic!(rt; "no memory"),
-    }
-}
 
 /// Adds something to a list.
 pub(crate) fn put<T: Drop>(rt: &impl Abort, list: &mut Vec<T>, item: T) {

@@ -225,28 +225,49 @@ fn has_padding(bytes: &[u8], from: u64, count: u64) -> bool {
     false
 }
 
+/// The first of the tests of the bits' numbers and groups that fails.
+fn bits_fault(bits: &[bool], fields: Fields) -> Option<BadFile> {
+    if !lengths_fit(bits, fields) {
+        return Some(BadFile::Lengths);
+    }
+    let at = zero_group(bits)?;
+    Some(BadFile::ZeroGroup { at })
+}
+
+/// The first of the two tests of what is behind the bits that fails.
+fn end_fault(bytes: &[u8], fields: Fields) -> Option<BadFile> {
+    if has_padding(bytes, 29, fields.tree) || has_padding(bytes, fields.cells_from, fields.cells) {
+        return Some(BadFile::Padding);
+    }
+    if bytes.len() as u64 != fields.end {
+        return Some(BadFile::Rest);
+    }
+    None
+}
+
+/// The pairs of a file whose header has no fault, or the first of the other five tests that it fails.
+fn pairs_told(
+    rt: &impl Abort,
+    alloc: Global,
+    bytes: &[u8],
+    fields: Fields,
+) -> Result<Vec<(u32, u32)>, BadFile> {
+    let bits = bits_of(rt, alloc, bytes, fields);
+    if let Some(fault) = bits_fault(bits.as_slice(), fields) {
+        return Err(fault);
+    }
+    pairs_of(rt, alloc, bits.as_slice(), fields)
+}
+
 /// What the bytes of a file tell, or the first of the ten tests that they fail.
 pub(crate) fn answered(rt: &impl Abort, alloc: Global, bytes: &[u8]) -> Result<Told, BadFile> {
     let fields = fields_of(bytes);
     if let Some(fault) = header_fault(bytes, fields) {
         return Err(fault);
     }
-    let bits = bits_of(rt, alloc, bytes, fields);
-    if !lengths_fit(bits.as_slice(), fields) {
-        return Err(BadFile::Lengths);
-    }
-    if let Some(at) = zero_group(bits.as_slice()) {
-        return Err(BadFile::ZeroGroup { at });
-    }
-    let pairs = match pairs_of(rt, alloc, bits.as_slice(), fields) {
-        Ok(pairs) => pairs,
-        Err(fault) => return Err(fault),
-    };
-    if has_padding(bytes, 29, fields.tree) || has_padding(bytes, fields.cells_from, fields.cells) {
-        return Err(BadFile::Padding);
-    }
-    if bytes.len() as u64 != fields.end {
-        return Err(BadFile::Rest);
+    let pairs = pairs_told(rt, alloc, bytes, fields)?;
+    if let Some(fault) = end_fault(bytes, fields) {
+        return Err(fault);
     }
     Ok(Told {
         rows: u32::try_from(fields.rows).unwrap_or(0),

@@ -3,10 +3,9 @@
 
 ghost use Rattle.rel_model.specs.Worker.{Stands, Keeps};
 
-use crate::made::{table, told};
-use fork_quads::{Crew, OpenGate};
+use crate::made::told;
+use crate::trial::{Trial, on_an_engine};
 use k2_file::{WriteRefused, write_k2};
-use rel_engine::Works;
 use rel_model::core_trait::Core;
 use rel_model::engine_trait::Engine;
 use rel_model::{Rel, Shape};
@@ -32,124 +31,128 @@ fn is_written<E: Engine>(
     }
 }
 
+/// Sizes, pairs within them, and the file of the relation.
+const WRITTEN: &[(u32, u32, &[(u32, u32)], &[u8])] = &[
+    (
+        0,
+        0,
+        &[],
+        &[
+            82, 86, 75, 49, 0, 0, 0, 0, 0, 0, 0, 0, 1, 0, 0, 0, 0, 0, 0, 0, 0, 0, 0, 0, 0, 0, 0, 0,
+            0,
+        ],
+    ),
+    (
+        0,
+        3,
+        &[],
+        &[
+            82, 86, 75, 49, 0, 0, 0, 0, 0, 0, 0, 3, 2, 0, 0, 0, 0, 0, 0, 0, 0, 0, 0, 0, 0, 0, 0, 0,
+            0,
+        ],
+    ),
+    (
+        1,
+        1,
+        &[],
+        &[
+            82, 86, 75, 49, 0, 0, 0, 1, 0, 0, 0, 1, 1, 0, 0, 0, 0, 0, 0, 0, 0, 0, 0, 0, 0, 0, 0, 0,
+            0,
+        ],
+    ),
+    (
+        1,
+        1,
+        &[(0, 0)],
+        &[
+            82, 86, 75, 49, 0, 0, 0, 1, 0, 0, 0, 1, 1, 0, 0, 0, 0, 0, 0, 0, 0, 0, 0, 0, 0, 0, 0, 0,
+            4, 128,
+        ],
+    ),
+    (
+        2,
+        2,
+        &[(0, 1)],
+        &[
+            82, 86, 75, 49, 0, 0, 0, 2, 0, 0, 0, 2, 1, 0, 0, 0, 0, 0, 0, 0, 0, 0, 0, 0, 0, 0, 0, 0,
+            4, 64,
+        ],
+    ),
+    (
+        2,
+        2,
+        &[(0, 1), (1, 0)],
+        &[
+            82, 86, 75, 49, 0, 0, 0, 2, 0, 0, 0, 2, 1, 0, 0, 0, 0, 0, 0, 0, 0, 0, 0, 0, 0, 0, 0, 0,
+            4, 96,
+        ],
+    ),
+    (
+        4,
+        4,
+        &[(0, 0), (3, 3)],
+        &[
+            82, 86, 75, 49, 0, 0, 0, 4, 0, 0, 0, 4, 2, 0, 0, 0, 0, 0, 0, 0, 4, 0, 0, 0, 0, 0, 0, 0,
+            8, 144, 129,
+        ],
+    ),
+    (
+        3,
+        5,
+        &[(0, 4), (2, 0), (2, 1)],
+        &[
+            82, 86, 75, 49, 0, 0, 0, 3, 0, 0, 0, 5, 3, 0, 0, 0, 0, 0, 0, 0, 12, 0, 0, 0, 0, 0, 0,
+            0, 8, 194, 128, 200,
+        ],
+    ),
+    (
+        16,
+        1,
+        &[(15, 0)],
+        &[
+            82, 86, 75, 49, 0, 0, 0, 16, 0, 0, 0, 1, 4, 0, 0, 0, 0, 0, 0, 0, 12, 0, 0, 0, 0, 0, 0,
+            0, 4, 34, 32, 32,
+        ],
+    ),
+    (
+        1,
+        16,
+        &[(0, 8)],
+        &[
+            82, 86, 75, 49, 0, 0, 0, 1, 0, 0, 0, 16, 4, 0, 0, 0, 0, 0, 0, 0, 12, 0, 0, 0, 0, 0, 0,
+            0, 4, 72, 128, 128,
+        ],
+    ),
+    (
+        9,
+        9,
+        &[(0, 8), (8, 0), (8, 8), (3, 3)],
+        &[
+            82, 86, 75, 49, 0, 0, 0, 9, 0, 0, 0, 9, 4, 0, 0, 0, 0, 0, 0, 0, 36, 0, 0, 0, 0, 0, 0,
+            0, 16, 248, 136, 129, 136, 128, 24, 136,
+        ],
+    ),
+    (
+        40,
+        33,
+        &[(39, 32), (0, 0), (17, 5), (8, 31)],
+        &[
+            82, 86, 75, 49, 0, 0, 0, 40, 0, 0, 0, 33, 6, 0, 0, 0, 0, 0, 0, 0, 60, 0, 0, 0, 0, 0, 0,
+            0, 16, 158, 136, 24, 136, 68, 40, 72, 32, 132, 18,
+        ],
+    ),
+];
+
+/// Asserts what small relations are written as, byte for byte.
+pub(crate) fn small_relations<E: Engine>(rt: &impl Abort, alloc: Global, engine: &mut E) {
+    'cases: for &(rows, cols, pairs, wanted) in WRITTEN {
+        is_written(rt, alloc, engine, rows, cols, pairs, wanted);
+    }
+}
+
 #[test]
 fn small_relations_are_written_byte_for_byte(rt: HostRuntime) {
-    let alloc = rt.alloc();
-    let (table, seat) = table(&rt, alloc);
-    let gate = OpenGate;
-    let mut engine = Works::new(Crew::new(&rt, &table, seat, 1, &gate));
-    'cases: for (rows, cols, pairs, wanted) in [
-        (
-            0,
-            0,
-            &[][..],
-            &[
-                82, 86, 75, 49, 0, 0, 0, 0, 0, 0, 0, 0, 1, 0, 0, 0, 0, 0, 0, 0, 0, 0, 0, 0, 0, 0,
-                0, 0, 0,
-            ][..],
-        ),
-        (
-            0,
-            3,
-            &[][..],
-            &[
-                82, 86, 75, 49, 0, 0, 0, 0, 0, 0, 0, 3, 2, 0, 0, 0, 0, 0, 0, 0, 0, 0, 0, 0, 0, 0,
-                0, 0, 0,
-            ][..],
-        ),
-        (
-            1,
-            1,
-            &[][..],
-            &[
-                82, 86, 75, 49, 0, 0, 0, 1, 0, 0, 0, 1, 1, 0, 0, 0, 0, 0, 0, 0, 0, 0, 0, 0, 0, 0,
-                0, 0, 0,
-            ][..],
-        ),
-        (
-            1,
-            1,
-            &[(0, 0)][..],
-            &[
-                82, 86, 75, 49, 0, 0, 0, 1, 0, 0, 0, 1, 1, 0, 0, 0, 0, 0, 0, 0, 0, 0, 0, 0, 0, 0,
-                0, 0, 4, 128,
-            ][..],
-        ),
-        (
-            2,
-            2,
-            &[(0, 1)][..],
-            &[
-                82, 86, 75, 49, 0, 0, 0, 2, 0, 0, 0, 2, 1, 0, 0, 0, 0, 0, 0, 0, 0, 0, 0, 0, 0, 0,
-                0, 0, 4, 64,
-            ][..],
-        ),
-        (
-            2,
-            2,
-            &[(0, 1), (1, 0)][..],
-            &[
-                82, 86, 75, 49, 0, 0, 0, 2, 0, 0, 0, 2, 1, 0, 0, 0, 0, 0, 0, 0, 0, 0, 0, 0, 0, 0,
-                0, 0, 4, 96,
-            ][..],
-        ),
-        (
-            4,
-            4,
-            &[(0, 0), (3, 3)][..],
-            &[
-                82, 86, 75, 49, 0, 0, 0, 4, 0, 0, 0, 4, 2, 0, 0, 0, 0, 0, 0, 0, 4, 0, 0, 0, 0, 0,
-                0, 0, 8, 144, 129,
-            ][..],
-        ),
-        (
-            3,
-            5,
-            &[(0, 4), (2, 0), (2, 1)][..],
-            &[
-                82, 86, 75, 49, 0, 0, 0, 3, 0, 0, 0, 5, 3, 0, 0, 0, 0, 0, 0, 0, 12, 0, 0, 0, 0, 0,
-                0, 0, 8, 194, 128, 200,
-            ][..],
-        ),
-        (
-            16,
-            1,
-            &[(15, 0)][..],
-            &[
-                82, 86, 75, 49, 0, 0, 0, 16, 0, 0, 0, 1, 4, 0, 0, 0, 0, 0, 0, 0, 12, 0, 0, 0, 0, 0,
-                0, 0, 4, 34, 32, 32,
-            ][..],
-        ),
-        (
-            1,
-            16,
-            &[(0, 8)][..],
-            &[
-                82, 86, 75, 49, 0, 0, 0, 1, 0, 0, 0, 16, 4, 0, 0, 0, 0, 0, 0, 0, 12, 0, 0, 0, 0, 0,
-                0, 0, 4, 72, 128, 128,
-            ][..],
-        ),
-        (
-            9,
-            9,
-            &[(0, 8), (8, 0), (8, 8), (3, 3)][..],
-            &[
-                82, 86, 75, 49, 0, 0, 0, 9, 0, 0, 0, 9, 4, 0, 0, 0, 0, 0, 0, 0, 36, 0, 0, 0, 0, 0,
-                0, 0, 16, 248, 136, 129, 136, 128, 24, 136,
-            ][..],
-        ),
-        (
-            40,
-            33,
-            &[(39, 32), (0, 0), (17, 5), (8, 31)][..],
-            &[
-                82, 86, 75, 49, 0, 0, 0, 40, 0, 0, 0, 33, 6, 0, 0, 0, 0, 0, 0, 0, 60, 0, 0, 0, 0,
-                0, 0, 0, 16, 158, 136, 24, 136, 68, 40, 72, 32, 132, 18,
-            ][..],
-        ),
-    ] {
-        is_written(&rt, alloc, &mut engine, rows, cols, pairs, wanted);
-    }
+    on_an_engine(&rt, rt.alloc(), Trial::SmallRelations);
 }
 
 /// Asserts how long the file of a relation is, or how many bits it would have.
@@ -170,12 +173,8 @@ fn is_long<E: Engine>(
     }
 }
 
-#[test]
-fn what_passes_the_limit_is_refused_with_its_bits(rt: HostRuntime) {
-    let alloc = rt.alloc();
-    let (table, seat) = table(&rt, alloc);
-    let gate = OpenGate;
-    let mut engine = Works::new(Crew::new(&rt, &table, seat, 1, &gate));
+/// Asserts that full squares are written up to the limit, and refused past it.
+pub(crate) fn past_the_limit<E: Engine>(rt: &impl Abort, alloc: Global, engine: &mut E) {
     'cases: for (side, wanted) in [
         (4096, Ok(29 + 699_051 + 2_097_152)),
         (8192, Err(89_478_484)),
@@ -188,6 +187,11 @@ fn what_passes_the_limit_is_refused_with_its_bits(rt: HostRuntime) {
         }) else {
             panic!(rt; "refused")
         };
-        is_long(&rt, alloc, &mut engine, full, wanted);
+        is_long(rt, alloc, engine, full, wanted);
     }
+}
+
+#[test]
+fn what_passes_the_limit_is_refused_with_its_bits(rt: HostRuntime) {
+    on_an_engine(&rt, rt.alloc(), Trial::PastTheLimit);
 }

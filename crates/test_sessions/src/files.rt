@@ -1,7 +1,10 @@
 //! LOAD and SAVE: what each kind of file is told as, which of two files of one name counts, and which bytes are put.
 use crate::made::{Options, comes_to};
 use std::alloc::{AllocError, Global};
+use std::process::Abort;
+use std::sync::Wait;
 use std::test::Fail;
+use std::thread::Threads;
 
 const OPTIONS: Options = Options {
     turns: 7,
@@ -10,13 +13,13 @@ const OPTIONS: Options = Options {
 };
 
 /// The pairs 1:1 and 4:4 of four elements.
-const CORNERS: [u8; 31] = [
+const CORNERS: &[u8] = &[
     82, 86, 75, 49, 0, 0, 0, 4, 0, 0, 0, 4, 2, 0, 0, 0, 0, 0, 0, 0, 4, 0, 0, 0, 0, 0, 0, 0, 8, 144,
     129,
 ];
 
 /// The pair 1:2 of two elements.
-const STEP: [u8; 30] = [
+const STEP: &[u8] = &[
     82, 86, 75, 49, 0, 0, 0, 2, 0, 0, 0, 2, 1, 0, 0, 0, 0, 0, 0, 0, 0, 0, 0, 0, 0, 0, 0, 0, 4, 64,
 ];
 
@@ -39,76 +42,90 @@ fn changed(alloc: Global, place: usize, byte: u8, longer: usize) -> Result<Vec<u
     Ok(out)
 }
 
+/// The place of a byte and the byte there, how many bytes there are at the end, and the kind of the fault.
+const BAD: &[(usize, u8, usize, &str)] = &[
+    (0, 82, 0, "short"),
+    (3, 50, 1, "magic"),
+    (4, 2, 1, "sizes"),
+    (12, 3, 1, "height"),
+    (20, 8, 1, "lengths"),
+    (30, 128, 1, "zero group at 8"),
+    (7, 3, 1, "pair outside at 11"),
+    (29, 145, 1, "padding"),
+    (0, 82, 2, "rest"),
+];
+
+/// Asserts that a file is told as bad with this kind, and not loaded.
+fn is_told_as<R: Threads + Wait + Abort + Sync>(
+    rt: &R,
+    alloc: Global,
+    bytes: &[u8],
+    kind: &str,
+) -> Result<(), Fail> {
+    let page = format!(in alloc;
+        "1.1: refused: file \"a.k2\" is bad: {kind}\n1.2: refused: 2:7: unknown name A\n1.2 read\n"
+    )?;
+    let script = "LOAD A \"a.k2\".\nPRINT A.\n";
+    let files = [("a.k2", bytes)];
+    comes_to(
+        rt,
+        alloc,
+        OPTIONS,
+        script,
+        files.as_slice(),
+        "ki",
+        page.as_str(),
+        &[],
+    )
+}
+
 #[test]
 fn a_file_that_is_bad_is_told_with_its_kind(rt: HostRuntime) -> Result<(), Fail> {
     let alloc = rt.alloc();
-    'cases: for (place, byte, longer, kind) in [
-        (0, 82, 0, "short"),
-        (3, 50, 1, "magic"),
-        (4, 2, 1, "sizes"),
-        (12, 3, 1, "height"),
-        (20, 8, 1, "lengths"),
-        (30, 128, 1, "zero group at 8"),
-        (7, 3, 1, "pair outside at 11"),
-        (29, 145, 1, "padding"),
-        (0, 82, 2, "rest"),
-    ] {
+    'cases: for &(place, byte, longer, kind) in BAD {
         let bytes = changed(alloc, place, byte, longer)?;
-        let page = format!(in alloc;
-            "1.1: refused: file \"a.k2\" is bad: {kind}\n1.2: refused: 2:7: unknown name A\n1.2 read\n"
-        )?;
-        comes_to(
-            &rt,
-            alloc,
-            OPTIONS,
-            "LOAD A \"a.k2\".\nPRINT A.\n",
-            [("a.k2", bytes.as_slice())].as_slice(),
-            "ki",
-            page.as_str(),
-            [].as_slice(),
-        )?;
+        is_told_as(&rt, alloc, bytes.as_slice(), kind)?;
     }
     Ok(())
 }
+
+/// The page where the corners are loaded, where the step is, and where there is no file.
+const CORNERS_LISTED: &str = "1.2: 4 x 4, pairs 2\n1:1\n4:4\n1.1 assign A 4 x 4\n1.2 read\n";
+
+const STEP_LISTED: &str = "1.2: 2 x 2, pairs 1\n1:2\n1.1 assign A 2 x 2\n1.2 read\n";
+
+const NOT_THERE: &str =
+    "1.1: refused: no file \"a.k2\"\n1.2: refused: 2:6: unknown name A\n1.2 read\n";
+
+/// Files of which the first with the name is loaded, the letters of the outcomes, and the page.
+const LOADS: &[(&[(&str, &[u8])], &str, &str)] = &[
+    (&[("a.k2", CORNERS), ("b.k2", STEP)], "..", CORNERS_LISTED),
+    (&[("b.k2", STEP), ("a.k2", CORNERS)], "..", CORNERS_LISTED),
+    (&[("a.k2", CORNERS), ("a.k2", STEP)], "..", CORNERS_LISTED),
+    (&[("a.k2", STEP), ("a.k2", CORNERS)], "..", STEP_LISTED),
+    (&[("A.k2", CORNERS), ("a.k", STEP)], "fi", NOT_THERE),
+    (&[("a.k22", CORNERS), ("./a.k2", STEP)], "fi", NOT_THERE),
+];
+
+/// Two names saved, one that is not there, and another relation under a name that was put.
+const SAVING: &str =
+    "REL A 4 4 {1:1; 4:4}. SAVE A \"a.k2\". REL B 2 2 {1:2}. SAVE B \"b.k2\". SAVE Z \"z.k2\". SAVE A&A \"b.k2\".";
+
+/// Its page.
+const SAVED: &str =
+    "1.5: refused: 1:75: unknown name Z\n1.1 assign A 4 x 4\n1.2 read\n1.3 assign B 2 x 2\n1.4 read\n1.5 read\n1.6 read\n";
+
+/// The files that it puts.
+const PUT: &[(&str, &[u8])] = &[("a.k2", CORNERS), ("b.k2", STEP), ("b.k2", CORNERS)];
 
 #[test]
 fn the_first_file_of_a_name_is_loaded_and_saves_are_put_in_order(
     rt: HostRuntime,
 ) -> Result<(), Fail> {
     let alloc = rt.alloc();
-    let corners = CORNERS.as_slice();
-    let step = STEP.as_slice();
-    let corners_listed = "1.2: 4 x 4, pairs 2\n1:1\n4:4\n1.1 assign A 4 x 4\n1.2 read\n";
-    let step_listed = "1.2: 2 x 2, pairs 1\n1:2\n1.1 assign A 2 x 2\n1.2 read\n";
-    let not_there = "1.1: refused: no file \"a.k2\"\n1.2: refused: 2:6: unknown name A\n1.2 read\n";
-    'loads: for (files, outcomes, page) in [
-        ([("a.k2", corners), ("b.k2", step)], "..", corners_listed),
-        ([("b.k2", step), ("a.k2", corners)], "..", corners_listed),
-        ([("a.k2", corners), ("a.k2", step)], "..", corners_listed),
-        ([("a.k2", step), ("a.k2", corners)], "..", step_listed),
-        ([("A.k2", corners), ("a.k", step)], "fi", not_there),
-        ([("a.k22", corners), ("./a.k2", step)], "fi", not_there),
-    ] {
-        comes_to(
-            &rt,
-            alloc,
-            OPTIONS,
-            "LOAD A \"a.k2\".\nLIST A.\n",
-            files.as_slice(),
-            outcomes,
-            page,
-            [].as_slice(),
-        )?;
+    let script = "LOAD A \"a.k2\".\nLIST A.\n";
+    'loads: for &(files, outcomes, page) in LOADS {
+        comes_to(&rt, alloc, OPTIONS, script, files, outcomes, page, &[])?;
     }
-    comes_to(
-        &rt,
-        alloc,
-        OPTIONS,
-        "REL A 4 4 {1:1; 4:4}. SAVE A \"a.k2\". REL B 2 2 {1:2}. SAVE B \"b.k2\". SAVE Z \"z.k2\". SAVE A&A \"b.k2\".",
-        [].as_slice(),
-        "....i.",
-        "1.5: refused: 1:75: unknown name Z\n1.1 assign A 4 x 4\n1.2 read\n1.3 assign B 2 x 2\n1.4 read\n1.5 read\n1.6 read\n",
-        [("a.k2", corners), ("b.k2", step), ("b.k2", corners)].as_slice(),
-    )?;
-    Ok(())
+    comes_to(&rt, alloc, OPTIONS, SAVING, &[], "....i.", SAVED, PUT)
 }

@@ -6,14 +6,14 @@ use std::alloc::{AllocError, Global};
 use std::process::Abort;
 
 /// What a session has behind it: how many commands, and the cell that a LET took which has not assigned yet.
-#[derive(Clone, Copy, Debug)]
+#[derive(Clone, Copy)]
 struct Place {
     behind: usize,
     taken: Option<bool>,
 }
 
 /// What a command says.
-#[derive(Clone, Copy, Debug)]
+#[derive(Clone, Copy)]
 enum Said {
     /// Nothing.
     Nothing,
@@ -24,7 +24,7 @@ enum Said {
 }
 
 /// What an event leaves: the cell that the name has, if it is there; the place of its session; and what its command says.
-#[derive(Clone, Copy, Debug)]
+#[derive(Clone, Copy)]
 struct Left {
     cell: Option<bool>,
     place: Place,
@@ -151,18 +151,7 @@ fn push_session(
     'events: for event in history {
         let s = event.session as usize;
         assert!(rt; s >= 1 && s <= 64 && s <= letters.len(), "session {s}");
-        let place = places[s];
-        let Some(letter) = letters[s - 1].get(place.behind) else {
-            panic!(rt; "an event behind the last command of session {s}")
-        };
-        assert_eq!(rt;
-            event.command as usize,
-            place.behind.wrapping_add(1),
-            "in session {s}"
-        );
-        let Some(left) = left_by(*letter, &event.act, cell, place) else {
-            panic!(rt; "an event of another command in session {s}")
-        };
+        let left = left_behind(rt, letters[s - 1].as_slice(), event, cell, places[s]);
         cell = left.cell;
         places[s] = left.place;
         if event.session == session {
@@ -171,9 +160,31 @@ fn push_session(
     }
     'sessions: for s in 0..letters.len() {
         assert!(rt; s < 64);
-        assert_eq!(rt; places[s + 1].behind, letters[s].len(), "of session {s}");
+        assert!(rt; places[s + 1].behind == letters[s].len(), "of session {s}");
     }
     Ok(())
+}
+
+/// What an event leaves, where the commands of its session have these letters.
+fn left_behind(
+    rt: &impl Abort,
+    letters: &[u8],
+    event: &Event,
+    cell: Option<bool>,
+    place: Place,
+) -> Left {
+    let session = event.session;
+    let Some(letter) = letters.get(place.behind) else {
+        panic!(rt; "an event behind the last command of session {session}")
+    };
+    assert!(rt;
+        event.command as usize == place.behind.wrapping_add(1),
+        "in session {session}"
+    );
+    let Some(left) = left_by(*letter, &event.act, cell, place) else {
+        panic!(rt; "an event of another command in session {session}")
+    };
+    left
 }
 
 /// The page of sessions, of which each command has a letter, by their history.

@@ -11,7 +11,7 @@ const SESSIONS: u32 = 1_000_000;
 const LOOKS: u32 = 10_000_000;
 
 /// Which sessions are held, and until when.
-#[derive(Clone, Copy, Debug)]
+#[derive(Clone, Copy)]
 pub(crate) enum Rule {
     /// None.
     Open,

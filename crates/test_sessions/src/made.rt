@@ -24,7 +24,7 @@ use turn_book::TurnBook;
 
 /// How many turns the loops of an expression may take, the binary logarithm of the table's node words, and the number of
 /// workers.
-#[derive(Clone, Copy, Debug)]
+#[derive(Clone, Copy)]
 pub(crate) struct Options {
     pub(crate) turns: u64,
     pub(crate) nodes: u32,
@@ -33,12 +33,22 @@ pub(crate) struct Options {
 
 /// What scripts came to: the outcomes by letters, with a stroke between two sessions; the page; the events; and the files
 /// to be put.
-#[derive(Drop)]
 pub(crate) struct Came {
     pub(crate) outcomes: Vec<u8>,
     pub(crate) page: Vec<u8>,
     pub(crate) history: Vec<Event>,
     pub(crate) saves: Vec<Save>,
+}
+
+impl Drop for Came {
+    fn drop(self) {
+        let Came {
+            outcomes: _,
+            page: _,
+            history: _,
+            saves: _,
+        } = self;
+    }
 }
 
 /// The letter of an outcome.
@@ -181,6 +191,40 @@ fn session_over<R: Wait + Abort, E: Engine + Drop>(
     (transcript, history)
 }
 
+/// The letters of a session's outcomes.
+fn letters_of(alloc: Global, outcomes: &[Outcome]) -> Result<Vec<u8>, AllocError> {
+    let mut letters = Vec::new(alloc);
+    push_letters(&mut letters, outcomes)?;
+    Ok(letters)
+}
+
+/// The replies of a session, and then its history.
+fn page_of(alloc: Global, replies: &[Reply], history: &[Event]) -> Result<Vec<u8>, AllocError> {
+    let mut page = Vec::new(alloc);
+    for reply in replies {
+        push_reply(alloc, &mut page, reply)?;
+    }
+    push_history(alloc, &mut page, history)?;
+    Ok(page)
+}
+
+/// What a session came to.
+fn session_came(
+    alloc: Global,
+    transcript: Transcript,
+    history: Vec<Event>,
+) -> Result<Came, AllocError> {
+    let page = page_of(alloc, transcript.replies.as_slice(), history.as_slice())?;
+    let outcomes = letters_of(alloc, transcript.outcomes.as_slice())?;
+    let Transcript { saves, .. } = transcript;
+    Ok(Came {
+        outcomes,
+        page,
+        history,
+        saves,
+    })
+}
+
 /// Runs a script alone: its replies, and then its history.
 #[tactic(auto, unfolding(rel_model::specs::Trees::bottom_height))]
 pub(crate) fn run_alone<R: Threads + Wait + Abort + Sync>(
@@ -199,18 +243,33 @@ pub(crate) fn run_alone<R: Threads + Wait + Abort + Sync>(
     let gate = OpenGate;
     let works = Works::new(Crew::new(rt, &table, seat, options.workers, &gate));
     let (transcript, history) = session_over(rt, alloc, options.turns, script, files, works);
-    let Transcript {
-        replies,
-        saves,
-        outcomes,
-    } = transcript;
+    session_came(alloc, transcript, history)
+}
+
+/// The letters of the outcomes of sessions, with a stroke between two.
+fn letters_of_all(alloc: Global, outcomes: &[Vec<Outcome>]) -> Result<Vec<u8>, AllocError> {
     let mut letters = Vec::new(alloc);
-    push_letters(&mut letters, outcomes.as_slice())?;
-    let mut page = Vec::new(alloc);
-    for reply in &replies {
-        push_reply(alloc, &mut page, reply)?;
+    let mut first = true;
+    for own in outcomes {
+        if !first {
+            letters.push(b'/')?;
+        }
+        push_letters(&mut letters, own.as_slice())?;
+        first = false;
     }
-    push_history(alloc, &mut page, history.as_slice())?;
+    Ok(letters)
+}
+
+/// What a run came to.
+fn run_came<E: Drop>(alloc: Global, ended: Ended<E>) -> Result<Came, AllocError> {
+    let letters = letters_of_all(alloc, ended.outcomes.as_slice())?;
+    let Ended {
+        engine: _,
+        history,
+        outcomes: _,
+        page,
+        saves,
+    } = ended;
     Ok(Came {
         outcomes: letters,
         page,
@@ -238,7 +297,7 @@ pub(crate) fn run_at_once<R: Threads + Wait + Abort + Sync, G: Gate + Sync>(
         panic!(rt; "no memory")
     };
     let works = Works::new(Crew::new(rt, &table, seat, options.workers, gate));
-    let Ok(ended) = run_all(
+    match run_all(
         rt,
         alloc,
         scripts,
@@ -247,31 +306,37 @@ pub(crate) fn run_at_once<R: Threads + Wait + Abort + Sync, G: Gate + Sync>(
         history,
         gate,
         works,
-    ) else {
-        panic!(rt; "no memory")
-    };
-    let Ended {
-        engine: _,
-        history,
-        outcomes,
-        page,
-        saves,
-    } = ended;
-    let mut letters = Vec::new(alloc);
-    let mut first = true;
-    for own in &outcomes {
-        if !first {
-            letters.push(b'/')?;
-        }
-        push_letters(&mut letters, own.as_slice())?;
-        first = false;
+    ) {
+        Ok(ended) => run_came(alloc, ended),
+        Err(NoMemory) => panic!(rt; "no memory"),
     }
-    Ok(Came {
-        outcomes: letters,
-        page,
-        history,
-        saves,
-    })
+}
+
+/// Asserts that bytes are a text.
+fn assert_text(rt: &impl Abort, bytes: &[u8], wanted: &str, what: &str) -> Result<(), Fail> {
+    let text = str::from_utf8(bytes)?;
+    assert!(rt; text == wanted, "{text} at {what}");
+    Ok(())
+}
+
+/// Asserts that a file is put under this name with these bytes.
+fn assert_save(rt: &impl Abort, save: &Save, name: &str, bytes: &[u8], what: &str) {
+    assert!(rt; save.name.bytes() == name.as_bytes(), "{name} at {what}");
+    assert!(rt;
+        save.bytes.as_slice() == bytes,
+        "the bytes of {name} at {what}"
+    );
+}
+
+/// Asserts that these files are put, in order.
+fn assert_saves(rt: &impl Abort, found: &[Save], saves: &[(&str, &[u8])], what: &str) {
+    assert!(rt; found.len() == saves.len(), "so many files at {what}");
+    'saves: for i in 0..found.len() {
+        let Some(&(name, bytes)) = saves.get(i) else {
+            panic!(rt; "a file too many at {what}")
+        };
+        assert_save(rt, &found[i], name, bytes, what);
+    }
 }
 
 /// Asserts what scripts came to.
@@ -283,24 +348,41 @@ pub(crate) fn assert_came(
     saves: &[(&str, &[u8])],
     what: &str,
 ) -> Result<(), Fail> {
-    let letters = str::from_utf8(came.outcomes.as_slice())?;
-    assert_eq!(rt; letters, outcomes, "at {what}");
-    let text = str::from_utf8(came.page.as_slice())?;
-    assert_eq!(rt; text, page, "at {what}");
-    assert_eq!(rt; came.saves.len(), saves.len(), "at {what}");
-    let mut i = 0;
-    for save in &came.saves {
-        let Some((name, bytes)) = saves.get(i) else {
-            panic!(rt; "a file too many at {what}")
-        };
-        assert!(rt; save.name.bytes() == name.as_bytes(), "{name} at {what}");
-        assert!(rt;
-            save.bytes.as_slice() == *bytes,
-            "the bytes of {name} at {what}"
-        );
-        i += 1;
-    }
-    Ok(())
+    assert_saves(rt, came.saves.as_slice(), saves, what);
+    assert_text(rt, came.outcomes.as_slice(), outcomes, what)?;
+    assert_text(rt, came.page.as_slice(), page, what)
+}
+
+/// Asserts what a script comes to as a session over a book of its own.
+fn session_comes_to<R: Threads + Wait + Abort + Sync>(
+    rt: &R,
+    alloc: Global,
+    options: Options,
+    script: &str,
+    files: &[Loaded],
+    outcomes: &str,
+    page: &str,
+    saves: &[(&str, &[u8])],
+) -> Result<(), Fail> {
+    let came = run_alone(rt, alloc, options, script, files)?;
+    assert_came(rt, &came, outcomes, page, saves, script)
+}
+
+/// Asserts what a script comes to as a run of one script.
+fn run_comes_to<R: Threads + Wait + Abort + Sync>(
+    rt: &R,
+    alloc: Global,
+    options: Options,
+    script: &str,
+    files: &[Loaded],
+    outcomes: &str,
+    page: &str,
+    saves: &[(&str, &[u8])],
+) -> Result<(), Fail> {
+    let scripts = scripts_of(alloc, [script].as_slice())?;
+    let scripts = scripts.as_slice();
+    let came = run_at_once(rt, alloc, options, scripts, files, true, &OpenGate)?;
+    assert_came(rt, &came, outcomes, page, saves, script)
 }
 
 /// Asserts what a script comes to, as a session over a book of its own and as a run of one script: its outcomes by letters,
@@ -316,17 +398,7 @@ pub(crate) fn comes_to<R: Threads + Wait + Abort + Sync>(
     saves: &[(&str, &[u8])],
 ) -> Result<(), Fail> {
     let files = loaded(alloc, files)?;
-    let alone = run_alone(rt, alloc, options, script, files.as_slice())?;
-    assert_came(rt, &alone, outcomes, page, saves, script)?;
-    let scripts = scripts_of(alloc, [script].as_slice())?;
-    let ran = run_at_once(
-        rt,
-        alloc,
-        options,
-        scripts.as_slice(),
-        files.as_slice(),
-        true,
-        &OpenGate,
-    )?;
-    assert_came(rt, &ran, outcomes, page, saves, script)
+    let files = files.as_slice();
+    session_comes_to(rt, alloc, options, script, files, outcomes, page, saves)?;
+    run_comes_to(rt, alloc, options, script, files, outcomes, page, saves)
 }

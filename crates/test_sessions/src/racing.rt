@@ -2,7 +2,7 @@
 //! run tells.
 use crate::folded::{command_of, page_by};
 use crate::held::{Holding, Rule};
-use crate::made::{Options, loaded, run_at_once};
+use crate::made::{Options, run_at_once};
 use fork_quads::{Gate, OpenGate};
 use std::alloc::{AllocError, Global};
 use std::process::Abort;
@@ -42,62 +42,118 @@ fn race<R: Threads + Wait + Abort + Sync, G: Gate + Sync>(
     letters: &[Vec<u8>],
     gate: &G,
 ) -> Result<(), Fail> {
-    let files = loaded(alloc, [].as_slice())?;
+    let scripts = scripts_by(alloc, letters)?;
+    let scripts = scripts.as_slice();
+    let ran = run_at_once(rt, alloc, OPTIONS, scripts, &[], true, gate)?;
+    let page = page_by(rt, alloc, letters, ran.history.as_slice(), true)?;
+    is_told(rt, ran.page.as_slice(), page.as_slice())?;
+    are_done(rt, ran.outcomes.as_slice());
+    Ok(())
+}
+
+/// The scripts of sessions by the letters of their commands.
+fn scripts_by(alloc: Global, letters: &[Vec<u8>]) -> Result<Vec<Vec<u8>>, AllocError> {
     let mut scripts = Vec::new(alloc);
     'letters: for own in letters {
         let script = script_of(alloc, own.as_slice())?;
         scripts.push(script)?;
     }
-    let ran = run_at_once(
-        rt,
-        alloc,
-        OPTIONS,
-        scripts.as_slice(),
-        files.as_slice(),
-        true,
-        gate,
-    )?;
-    let page = page_by(rt, alloc, letters, ran.history.as_slice(), true)?;
-    let told = str::from_utf8(ran.page.as_slice())?;
-    assert_eq!(rt; told, str::from_utf8(page.as_slice())?);
-    'outcomes: for outcome in &ran.outcomes {
+    Ok(scripts)
+}
+
+/// Asserts that a page is the one that is wanted.
+fn is_told(rt: &impl Abort, page: &[u8], wanted: &[u8]) -> Result<(), Fail> {
+    let told = str::from_utf8(page)?;
+    let wanted = str::from_utf8(wanted)?;
+    assert!(rt; told == wanted, "{told} for {wanted}");
+    Ok(())
+}
+
+/// Asserts that no command but an unknown name was refused.
+fn are_done(rt: &impl Abort, outcomes: &[u8]) {
+    'outcomes: for outcome in outcomes {
         assert!(rt; *outcome == b'.' || *outcome == b'i' || *outcome == b'/');
+    }
+}
+
+/// The commands of one session: a first part once, and then a second one so many times.
+type Commands = (&'static str, &'static str, u32);
+
+/// Asserts so many times that three sessions at once answer by their history.
+fn three_race<R: Threads + Wait + Abort + Sync>(
+    rt: &R,
+    alloc: Global,
+    sessions: &[Commands],
+    times: u32,
+) -> Result<(), Fail> {
+    let letters = letters_by(alloc, sessions)?;
+    'times: for _ in 0..times {
+        race(rt, alloc, letters.as_slice(), &OpenGate)?;
     }
     Ok(())
 }
 
+/// The letters of the commands of sessions.
+fn letters_by(alloc: Global, sessions: &[Commands]) -> Result<Vec<Vec<u8>>, AllocError> {
+    let mut letters = Vec::new(alloc);
+    'sessions: for &(first, again, times) in sessions {
+        letters.push(letters_of(alloc, first, again, times)?)?;
+    }
+    Ok(letters)
+}
+
+/// The commands of three sessions, and how often they race.
+const RACES: &[(&[Commands], u32)] = &[
+    (&[("1P", "", 0), ("0P", "", 0), ("", "", 0)], 20),
+    (&[("1", "NP", 30), ("", "DP", 30), ("", "", 0)], 10),
+    (&[("1", "NNP", 20), ("", "D1", 30), ("", "P0D", 20)], 10),
+];
+
 #[test]
 fn replies_are_those_of_the_history(rt: HostRuntime) -> Result<(), Fail> {
-    let alloc = rt.alloc();
-    'cases: for (first, second, third, times) in [
-        (("1P", "", 0), ("0P", "", 0), ("", "", 0), 20),
-        (("1", "NP", 30), ("", "DP", 30), ("", "", 0), 10),
-        (("1", "NNP", 20), ("", "D1", 30), ("", "P0D", 20), 10),
-    ] {
-        let mut letters = Vec::new(alloc);
-        letters.push(letters_of(alloc, first.0, first.1, first.2)?)?;
-        letters.push(letters_of(alloc, second.0, second.1, second.2)?)?;
-        letters.push(letters_of(alloc, third.0, third.1, third.2)?)?;
-        'times: for _ in 0..times {
-            race(&rt, alloc, letters.as_slice(), &OpenGate)?;
-        }
+    'cases: for &(sessions, times) in RACES {
+        three_race(&rt, rt.alloc(), sessions, times)?;
     }
     Ok(())
 }
+
+/// The commands of eight sessions that complement one name.
+const EIGHT: [Commands; 8] = [("0", "NP", 50); 8];
 
 #[test]
 fn eight_sessions_complement_one_name_fifty_times_each(rt: HostRuntime) -> Result<(), Fail> {
     let alloc = rt.alloc();
-    let mut letters = Vec::new(alloc);
-    'sessions: for _ in 0..8 {
-        letters.push(letters_of(alloc, "0", "NP", 50)?)?;
-    }
+    let letters = letters_by(alloc, EIGHT.as_slice())?;
     race(&rt, alloc, letters.as_slice(), &OpenGate)
+}
+
+/// The letters of sixty-four sessions.
+fn letters_of_64(alloc: Global) -> Result<Vec<Vec<u8>>, AllocError> {
+    let mut letters = Vec::new(alloc);
+    'sessions: for s in 0..64 {
+        let first = if s % 2 == 0 { "0P" } else { "1" };
+        let again = if s % 4 == 3 { "DP" } else { "NP" };
+        letters.push(letters_of(alloc, first, again, 3)?)?;
+    }
+    Ok(letters)
+}
+
+/// Asserts that sixty-four sessions pass a gate by this rule, and answer by their history.
+fn pass_the_gate<R: Threads + Wait + Abort + Sync>(
+    rt: &R,
+    alloc: Global,
+    rule: Rule,
+) -> Result<(), Fail> {
+    let letters = letters_of_64(alloc)?;
+    let gate = Holding::new(rule);
+    race(rt, alloc, letters.as_slice(), &gate)?;
+    assert!(rt; !gate.gave_up(), "a session was held too long");
+    assert!(rt; gate.begun() == 64 && gate.ended() == 64);
+    Ok(())
 }
 
 #[test]
 fn sixty_four_sessions_pass_gates_of_each_kind(rt: HostRuntime) -> Result<(), Fail> {
-    let alloc = rt.alloc();
     'rules: for rule in [
         Rule::Open,
         Rule::UntilBegun(64),
@@ -105,17 +161,7 @@ fn sixty_four_sessions_pass_gates_of_each_kind(rt: HostRuntime) -> Result<(), Fa
         Rule::UntilEnded(63, 1),
         Rule::OddUntilEnded(32),
     ] {
-        let mut letters = Vec::new(alloc);
-        'sessions: for s in 0..64 {
-            let first = if s % 2 == 0 { "0P" } else { "1" };
-            let again = if s % 4 == 3 { "DP" } else { "NP" };
-            letters.push(letters_of(alloc, first, again, 3)?)?;
-        }
-        let gate = Holding::new(rule);
-        race(&rt, alloc, letters.as_slice(), &gate)?;
-        assert!(rt; !gate.gave_up(), "{rule:?}");
-        assert_eq!(rt; gate.begun(), 64);
-        assert_eq!(rt; gate.ended(), 64);
+        pass_the_gate(&rt, rt.alloc(), rule)?;
     }
     Ok(())
 }

@@ -113,6 +113,62 @@ fn drops<R: Wait + Abort, E: Engine + Drop>(
     }
 }
 
+/// The first session assigns the name, and reads it in its next command.
+fn before_the_drop<R: Wait + Abort, E: Engine + Drop>(
+    rt: &R,
+    alloc: Global,
+    book: &TurnBook<Book<E>>,
+    first: &mut Pass<Book<E>>,
+    engine: &mut E,
+    full: Rel,
+)
+    requires ready { IsReady book.now first.old }
+    requires kin { first.old.house ≡ (E.worker engine.old).house }
+    requires stands { Stands (E.worker engine.old) full }
+    ensures kept { IsKept first.old first.new }
+    ensures keeps { Keeps (E.worker engine.old) (E.worker engine.new) }
+{
+    assigns(rt, alloc, book, first, engine, 1, 1, full);
+    reads(rt, alloc, book, first, engine, 1, 2, Some(full));
+}
+
+/// The second session drops the name, and does not find it behind that.
+fn drops_between<R: Wait + Abort, E: Engine + Drop>(
+    rt: &R,
+    alloc: Global,
+    book: &TurnBook<Book<E>>,
+    second: &mut Pass<Book<E>>,
+    engine: &mut E,
+)
+    requires ready { IsReady book.now second.old }
+    requires kin { second.old.house ≡ (E.worker engine.old).house }
+    ensures kept { IsKept second.old second.new }
+    ensures keeps { Keeps (E.worker engine.old) (E.worker engine.new) }
+{
+    let dropped = drops(rt, alloc, book, second, 2, 1);
+    assert!(rt; dropped, "not there before the assignment");
+    reads(rt, alloc, book, second, engine, 2, 2, None);
+}
+
+/// The first session drops the name that it assigned, and the second does not find it behind that.
+fn behind_the_assignment<R: Wait + Abort, E: Engine + Drop>(
+    rt: &R,
+    alloc: Global,
+    book: &TurnBook<Book<E>>,
+    first: &mut Pass<Book<E>>,
+    second: &mut Pass<Book<E>>,
+)
+    requires first { IsReady book.now first.old }
+    requires second { IsReady book.now second.old }
+    ensures first { IsKept first.old first.new }
+    ensures second { IsKept second.old second.new }
+{
+    let dropped = drops(rt, alloc, book, first, 1, 3);
+    assert!(rt; dropped, "not there behind the assignment");
+    let again = drops(rt, alloc, book, second, 2, 4);
+    assert!(rt; !again, "there behind its drop");
+}
+
 /// Two sessions take turns: the second drops the name that the first has read and then assigns. What happened.
 fn dropped_between<R: Wait + Abort, E: Engine + Drop>(
     rt: &R,
@@ -135,13 +191,8 @@ fn dropped_between<R: Wait + Abort, E: Engine + Drop>(
         panic!(rt; "no memory")
     };
     let mut second = book.split_pass(&mut first);
-    assigns(rt, alloc, &book, &mut first, &mut mine, 1, 1, full);
-    reads(rt, alloc, &book, &mut first, &mut mine, 1, 2, Some(full));
-    assert!(rt;
-        drops(rt, alloc, &book, &mut second, 2, 1),
-        "not there before the assignment"
-    );
-    reads(rt, alloc, &book, &mut second, &mut theirs, 2, 2, None);
+    before_the_drop(rt, alloc, &book, &mut first, &mut mine, full);
+    drops_between(rt, alloc, &book, &mut second, &mut theirs);
     assigns(rt, alloc, &book, &mut first, &mut mine, 1, 2, empty);
     reads(
         rt,
@@ -153,14 +204,7 @@ fn dropped_between<R: Wait + Abort, E: Engine + Drop>(
         3,
         Some(empty),
     );
-    assert!(rt;
-        drops(rt, alloc, &book, &mut first, 1, 3),
-        "not there behind the assignment"
-    );
-    assert!(rt;
-        !drops(rt, alloc, &book, &mut second, 2, 4),
-        "there behind its drop"
-    );
+    behind_the_assignment(rt, alloc, &book, &mut first, &mut second);
     book.join_pass(&mut first, second);
     let (_, history) = book.close(first).into_parts();
     history
@@ -175,11 +219,18 @@ fn an_assignment_behind_a_drop_brings_the_name_back(rt: HostRuntime) -> Result<(
     let gate = OpenGate;
     let works = Works::new(Crew::new(&rt, &table, seat, 1, &gate));
     let history = dropped_between(&rt, alloc, works);
+    is_history(&rt, alloc, history.as_slice())
+}
+
+/// Asserts that these events are those of both sessions.
+fn is_history(rt: &impl Abort, alloc: Global, history: &[Event]) -> Result<(), Fail> {
     let mut lines = Vec::new(alloc);
-    push_history(alloc, &mut lines, history.as_slice())?;
-    assert_eq!(rt;
-        str::from_utf8(lines.as_slice())?,
-        "1.1 assign X 1 x 1\n1.2 read\n2.1 drop X\n2.2 read\n1.2 assign X 1 x 1\n2.3 read\n1.3 drop X\n2.4 read\n"
-    );
+    push_history(alloc, &mut lines, history)?;
+    let lines = str::from_utf8(lines.as_slice())?;
+    assert!(rt; lines == HISTORY, "{lines}");
     Ok(())
 }
+
+/// The lines of the history of both sessions.
+const HISTORY: &str =
+    "1.1 assign X 1 x 1\n1.2 read\n2.1 drop X\n2.2 read\n1.2 assign X 1 x 1\n2.3 read\n1.3 drop X\n2.4 read\n";

@@ -1,4 +1,6 @@
 //! Residuals, the symmetric quotient and closures, beside their formulas.
+#![tactic(auto, using(rel_model::proofs::Workers::keeps_stands, rel_model::proofs::Workers::keeps_trans, rel_model::proofs::Workers::gives_stands))]
+
 ghost use Rattle.std.specs.Prelude.{◌≡◌, ◌<◌, ◌≤◌, IfOk};
 ghost use Rattle.rel_model.specs.Worker.{Worker, Stands, Keeps};
 
@@ -15,7 +17,7 @@ use std::process::Abort;
 use std::sync::ledger::{Blank, Ledger};
 
 /// The calls that are compared with their formulas.
-#[derive(Clone, Copy, Debug)]
+#[derive(Clone, Copy)]
 enum Call {
     Right,
     Left,
@@ -31,6 +33,15 @@ fn at<C: Core>(rt: &impl Abort, core: &mut C, r: Rel, i: u32, j: u32) -> bool
 {
     assert!(rt; i < r.rows && j < r.cols);
     core.has(r, i, j)
+}
+
+/// Asserts that a pair is in a relation exactly where it is wanted.
+fn has_as_wanted<C: Core>(rt: &impl Abort, core: &mut C, r: Rel, i: u32, j: u32, wanted: bool)
+    requires standing { Stands (C.worker core.old) r }
+    ensures keeps { Keeps (C.worker core.old) (C.worker core.new) }
+{
+    let found = at(rt, core, r, i, j);
+    assert!(rt; found == wanted, "at {i}, {j}: {wanted} is wanted");
 }
 
 /// Whether the formula of a call holds of the pair (x, y) as far as the element z goes: that it does for all z, or for some z.
@@ -127,7 +138,7 @@ fn is_its_formula<C: Core>(rt: &impl Abort, core: &mut C, call: Call, r: Rel, s:
     'rows: for x in 0..found.rows {
         'cols: for y in 0..found.cols {
             let want = formula(rt, core, call, r, s, x, y);
-            assert_eq!(rt; at(rt, core, found, x, y), want, "{call:?} at {x}, {y}");
+            has_as_wanted(rt, core, found, x, y, want);
         }
     }
 }
@@ -225,8 +236,37 @@ fn each_composition_of_a_closure_is_counted(rt: HostRuntime) {
                 n,
                 is_cycle,
             );
-            assert_eq!(&rt; steps, compositions, "the steps of {n}");
+            assert!(&rt; steps == compositions, "the steps of {n}");
             assert!(&rt; steps < 32 && 1u64 << steps <= 2 * n as u64 + 1);
+        }
+    }
+}
+
+/// The relation that a call made.
+fn given(rt: &impl Abort, answer: Result<Rel, Lack>) -> Rel
+    ensures { answer ≡ Ok result }
+{
+    match answer {
+        Ok(rel) => rel,
+        Err(_) => panic!(rt; "no room"),
+    }
+}
+
+/// Asserts that the closure of a cycle of five is full.
+fn cycle_is_full<C: Core>(rt: &impl Abort, core: &mut C) {
+    let cycle = given(rt, path(core, 5, true));
+    let full = given(rt, core.full(Shape { rows: 5, cols: 5 }));
+    let closure = given(rt, trans(core, cycle));
+    assert!(rt; core.same(closure, full));
+}
+
+/// Asserts that the closure of a path of five has the pairs whose first element comes first.
+fn path_is_not<C: Core>(rt: &impl Abort, core: &mut C) {
+    let line = given(rt, path(core, 5, false));
+    let ways = given(rt, trans(core, line));
+    'rows: for i in 0..5 {
+        'cols: for j in 0..5 {
+            has_as_wanted(rt, core, ways, i, j, i < j);
         }
     }
 }
@@ -234,47 +274,50 @@ fn each_composition_of_a_closure_is_counted(rt: HostRuntime) {
 #[test]
 fn the_closure_of_a_cycle_is_full_and_of_a_path_it_is_not(rt: HostRuntime) {
     let mut plain = Plain::new(rt.alloc());
-    let shape = Shape { rows: 5, cols: 5 };
-    let cycle = path(&mut plain, 5, true).expect(&rt, "a cycle");
-    let full = plain.full(shape).expect(&rt, "a full relation");
-    let closure = trans(&mut plain, cycle).expect(&rt, "a closure");
-    assert!(&rt; plain.same(closure, full));
-    let line = path(&mut plain, 5, false).expect(&rt, "a path");
-    let ways = trans(&mut plain, line).expect(&rt, "a closure");
-    'rows: for i in 0..5 {
-        'cols: for j in 0..5 {
-            assert_eq!(&rt; at(&rt, &mut plain, ways, i, j), i < j, "at {i}, {j}");
+    cycle_is_full(&rt, &mut plain);
+    path_is_not(&rt, &mut plain);
+}
+
+/// Asserts that the square of a path of three is the pair of its ends.
+fn ends_of_three<C: Core>(rt: &impl Abort, core: &mut C) {
+    let r = given(rt, path(core, 3, false));
+    let square = given(rt, core.compose(r, r));
+    'rows: for i in 0..3 {
+        'cols: for j in 0..3 {
+            has_as_wanted(rt, core, square, i, j, i == 0 && j == 2);
         }
     }
 }
 
 #[test]
 fn the_square_of_two_steps_is_one_pair(rt: HostRuntime) {
-    let mut plain = Plain::new(rt.alloc());
-    let r = path(&mut plain, 3, false).expect(&rt, "a path");
-    let square = plain.compose(r, r).expect(&rt, "a square");
+    ends_of_three(&rt, &mut Plain::new(rt.alloc()));
+}
+
+/// Asserts what the quotient of one pair of 2 by 3 by itself is.
+fn quotient_of_one_pair<C: Core>(rt: &impl Abort, core: &mut C) {
+    let r = given(rt, core.single(Shape { rows: 2, cols: 3 }, 0, 0));
+    let quotient = given(rt, syq(core, r, r));
     'rows: for i in 0..3 {
         'cols: for j in 0..3 {
-            assert_eq!(&rt;
-                at(&rt, &mut plain, square, i, j),
-                i == 0 && j == 2,
-                "at {i}, {j}"
-            );
+            has_as_wanted(rt, core, quotient, i, j, (i == 0) == (j == 0));
         }
     }
 }
 
 #[test]
 fn the_quotient_of_one_pair_by_itself(rt: HostRuntime) {
-    let mut plain = Plain::new(rt.alloc());
-    let r = plain
-        .single(Shape { rows: 2, cols: 3 }, 0, 0)
-        .expect(&rt, "a pair");
-    let quotient = syq(&mut plain, r, r).expect(&rt, "a quotient");
-    'rows: for i in 0..3 {
-        'cols: for j in 0..3 {
-            let want = (i == 0) == (j == 0);
-            assert_eq!(&rt; at(&rt, &mut plain, quotient, i, j), want, "at {i}, {j}");
+    quotient_of_one_pair(&rt, &mut Plain::new(rt.alloc()));
+}
+
+/// Asserts that the identity of so many elements has the diagonal alone.
+fn has_the_diagonal<C: Core>(rt: &impl Abort, core: &mut C, n: u32)
+    requires { n ≤ 18 }
+{
+    let same = given(rt, identity(core, n));
+    'rows: for i in 0..n {
+        'cols: for j in 0..n {
+            has_as_wanted(rt, core, same, i, j, i == j);
         }
     }
 }
@@ -282,12 +325,6 @@ fn the_quotient_of_one_pair_by_itself(rt: HostRuntime) {
 #[test]
 fn the_identity_has_the_diagonal(rt: HostRuntime) {
     'sizes: for n in 0..18 {
-        let mut plain = Plain::new(rt.alloc());
-        let same = identity(&mut plain, n).expect(&rt, "an identity");
-        'rows: for i in 0..n {
-            'cols: for j in 0..n {
-                assert_eq!(&rt; at(&rt, &mut plain, same, i, j), i == j, "at {i}, {j}");
-            }
-        }
+        has_the_diagonal(&rt, &mut Plain::new(rt.alloc()), n);
     }
 }

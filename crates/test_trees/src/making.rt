@@ -145,7 +145,7 @@ pub fn has_the_cells<P: Core>(rt: &impl Abort, nodes: &mut Nodes, plain: &mut P,
     'rows: for i in 0..side {
         'cols: for j in 0..side {
             let want = i < r.rows && j < r.cols && plain.has(r, i, j);
-            assert_eq!(rt; nodes.has(q, i, j), want, "at {i}, {j}");
+            assert!(rt; nodes.has(q, i, j) == want, "at {i}, {j}");
         }
     }
 }

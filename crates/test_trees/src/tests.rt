@@ -93,7 +93,7 @@ fn agree<P: Core>(
     let want = plain_result(rt, plain, op, r, s);
     has_the_cells(rt, nodes, plain, found, want);
     let wanted = quad_of(rt, nodes, plain, want, height);
-    assert_eq!(rt; found, wanted, "{op:?}");
+    assert!(rt; found == wanted, "{op:?}");
 }
 
 const OPERATORS: [Op; 4] = [Op::Union, Op::Inter, Op::Diff, Op::Transpose];
@@ -257,7 +257,7 @@ fn finds_what_it_made(rt: &impl Abort, nodes: &mut Nodes, op: Op, a: Quad, b: Qu
         Op::Transpose => nodes.look(Op::Transpose, a, none),
         Op::Compose => nodes.look(Op::Compose, a, b),
     };
-    assert_eq!(rt; found, Some(made), "{op:?}");
+    assert!(rt; found == Some(made), "{op:?}");
 }
 
 /// Looks up an operator whose operands have the lesser name first.

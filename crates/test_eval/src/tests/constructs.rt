@@ -1,9 +1,10 @@
 //! Every construct on relations of 0, 1, 2, 3 and 9 elements, beside its membership formula.
 use crate::made::table;
 use crate::scripts::{Draws, append_number, append_relation};
-use crate::table::{append, differing, lines, note};
+use crate::table::{append, assert_none, differing, lines, note};
 use fork_quads::{Crew, OpenGate};
 use rel_engine::Works;
+use rel_model::engine_trait::Engine;
 use std::alloc::Global;
 use std::process::Abort;
 
@@ -138,27 +139,44 @@ fn front(rt: &impl Abort, alloc: Global, elements: u32) -> Vec<u8> {
     text
 }
 
+/// Compares each expression over the relations of so many elements, and notes those that are answered otherwise.
+fn note_expressions<E: Engine>(
+    rt: &impl Abort,
+    alloc: Global,
+    engine: &mut E,
+    wrong: &mut String,
+    elements: u32,
+) {
+    let front = front(rt, alloc, elements);
+    let all = lines(rt, alloc, EXPRESSIONS);
+    let mut number: usize = 0;
+    'lines: for line in all.as_slice() {
+        number = number.wrapping_add(1);
+        let text = joined(rt, alloc, front.as_slice(), line.as_slice());
+        if let Some(given) = differing(rt, alloc, engine, text.as_slice(), 100) {
+            note(rt, alloc, wrong, number, given.as_str());
+        }
+    }
+}
+
+/// A script of a front and an expression.
+fn joined(rt: &impl Abort, alloc: Global, front: &[u8], expression: &[u8]) -> Vec<u8> {
+    let mut text = Vec::new(alloc);
+    append(rt, &mut text, front);
+    append(rt, &mut text, expression);
+    append(rt, &mut text, b".");
+    text
+}
+
 #[test]
 fn each_construct_is_its_formula(rt: HostRuntime) {
     let alloc = rt.alloc();
     let (table, seat) = table(&rt, alloc, 20);
     let gate = OpenGate;
     let mut engine = Works::new(Crew::new(&rt, &table, seat, 1, &gate));
-    let all = lines(&rt, alloc, EXPRESSIONS);
     let mut wrong = String::new(alloc);
     'sizes: for elements in [0, 1, 2, 3, 9] {
-        let front = front(&rt, alloc, elements);
-        let mut number: usize = 0;
-        'lines: for line in all.as_slice() {
-            number = number.wrapping_add(1);
-            let mut text = Vec::new(alloc);
-            append(&rt, &mut text, front.as_slice());
-            append(&rt, &mut text, line.as_slice());
-            append(&rt, &mut text, b".");
-            if let Some(given) = differing(&rt, alloc, &mut engine, text.as_slice(), 100) {
-                note(&rt, alloc, &mut wrong, number, given.as_str());
-            }
-        }
+        note_expressions(&rt, alloc, &mut engine, &mut wrong, elements);
     }
-    assert_eq!(&rt; wrong.as_str(), "");
+    assert_none(&rt, wrong.as_str());
 }

@@ -73,9 +73,65 @@ fn expression<'a>(rt: &impl Abort, checked: &'a Checked) -> &'a Expr {
     }
 }
 
-/// Asserts that an evaluation of the script answers this relation, or Nodes in a table that is full, and that the cycle
-/// has its pairs behind it. Whether it answers the relation.
-#[tactic(auto, using(crate::proofs::Standing::no_names, crate::proofs::Standing::names_kept, rel_model::proofs::Workers::keeps_stands))]
+/// Asserts that a relation has these pairs.
+fn assert_value<E: Engine>(rt: &impl Abort, alloc: Global, engine: &mut E, rel: Rel, wanted: &str)
+    requires { Stands (E.worker engine.old) rel }
+    ensures { Keeps (E.worker engine.old) (E.worker engine.new) }
+{
+    let list = pairs_of(rt, alloc, engine, rel);
+    let given = pairs_text(rt, alloc, &list);
+    assert!(rt; given.as_str() == wanted);
+}
+
+/// Asserts that a table is full.
+fn assert_full<E: Engine>(rt: &impl Abort, alloc: Global, engine: &mut E)
+    ensures { Keeps (E.worker engine.old) (E.worker engine.new) }
+{
+    let more = block(rt, alloc, 1_000_000);
+    assert!(rt; offered(rt, alloc, engine, &more) == Err(Lack::Full));
+}
+
+/// Asserts that the cycle has its pairs.
+fn assert_cycle<E: Engine>(rt: &impl Abort, alloc: Global, engine: &mut E, a: Rel, cycle: &Listed)
+    requires { Stands (E.worker engine.old) a }
+{
+    let left = pairs_of(rt, alloc, engine, a);
+    assert!(rt; left.pairs.as_slice() == cycle.pairs.as_slice());
+}
+
+/// Asserts that an evaluation of the script answers this relation, or Nodes in a table that is full. Whether it answers
+/// the relation.
+#[tactic(auto, using(crate::proofs::Standing::no_names, rel_model::proofs::Workers::keeps_trans))]
+fn is_value<E: Engine>(
+    rt: &impl Abort,
+    alloc: Global,
+    engine: &mut E,
+    checked: &Checked,
+    a: Rel,
+    wanted: &str,
+) -> bool
+    requires { Stands (E.worker engine.old) a }
+    ensures { Keeps (E.worker engine.old) (E.worker engine.new) }
+{
+    let mut names: Vec<(Name, Rel)> = Vec::new(alloc);
+    let name = spelled(rt, alloc, b"A");
+    put(rt, alloc, engine, &mut names, &name, a);
+    let value = expression(rt, checked);
+    match eval(alloc, engine, checked, names.as_slice(), value, 0) {
+        Ok(rel) => {
+            assert_value(rt, alloc, engine, rel, wanted);
+            true
+        }
+        Err(Refused::Nodes) => {
+            assert_full(rt, alloc, engine);
+            false
+        }
+        Err(_) => panic!(rt; "another refusal"),
+    }
+}
+
+/// The same, where the cycle has its pairs behind it.
+#[tactic(auto, using(rel_model::proofs::Workers::keeps_stands))]
 fn is_answered<E: Engine>(
     rt: &impl Abort,
     alloc: Global,
@@ -87,32 +143,8 @@ fn is_answered<E: Engine>(
 ) -> bool
     requires { Stands (E.worker engine.old) a }
 {
-    let mut names: Vec<(Name, Rel)> = Vec::new(alloc);
-    let name = spelled(rt, alloc, b"A");
-    put(rt, alloc, engine, &mut names, &name, a);
-    let is_value = match eval(
-        alloc,
-        engine,
-        checked,
-        names.as_slice(),
-        expression(rt, checked),
-        0,
-    ) {
-        Ok(rel) => {
-            let list = pairs_of(rt, alloc, engine, rel);
-            let given = pairs_text(rt, alloc, &list);
-            assert_eq!(rt; given.as_str(), wanted);
-            true
-        }
-        Err(Refused::Nodes) => {
-            let more = block(rt, alloc, 1_000_000);
-            assert_eq!(rt; offered(rt, alloc, engine, &more), Err(Lack::Full));
-            false
-        }
-        Err(_) => panic!(rt; "another refusal"),
-    };
-    let left = pairs_of(rt, alloc, engine, a);
-    assert!(rt; left.pairs.as_slice() == cycle.pairs.as_slice());
+    let is_value = is_value(rt, alloc, engine, checked, a, wanted);
+    assert_cycle(rt, alloc, engine, a, cycle);
     is_value
 }
 
@@ -129,30 +161,46 @@ fn is_answered_beside<R: Threads + Abort + Sync>(
     let gate = OpenGate;
     let mut engine = Works::new(Crew::new(rt, &table, seat, 1, &gate));
     let a = told(rt, alloc, &mut engine, cycle);
-    assert_eq!(rt; fill(rt, alloc, &mut engine, blocks), blocks);
+    assert!(rt; fill(rt, alloc, &mut engine, blocks) == blocks);
     let b = told(rt, alloc, &mut engine, cycle);
-    assert_eq!(rt; a, b);
+    assert!(rt; a == b);
     is_answered(rt, alloc, &mut engine, checked, cycle, b, wanted)
+}
+
+/// The script, checked.
+fn checked_script(rt: &impl Abort, alloc: Global) -> Checked {
+    match checked_of(rt, alloc, SCRIPT.as_bytes()) {
+        Ok(checked) => checked,
+        Err(_) => panic!(rt; "a fault"),
+    }
+}
+
+/// In how many tables, of which each has room for one block more, an evaluation is refused before one is not.
+fn refusals<R: Threads + Abort + Sync>(
+    rt: &R,
+    alloc: Global,
+    checked: &Checked,
+    cycle: &Listed,
+    most: u32,
+    wanted: &str,
+) -> u32 {
+    'rooms: for left in 0..most {
+        let blocks = most.wrapping_sub(left);
+        if is_answered_beside(rt, alloc, checked, cycle, blocks, wanted) {
+            return left;
+        }
+    }
+    most
 }
 
 #[test]
 fn a_table_that_is_full_answers_nodes_and_any_other_the_relation(rt: HostRuntime) {
     let alloc = rt.alloc();
     let cycle = cycle(&rt, alloc);
-    let checked = match checked_of(&rt, alloc, SCRIPT.as_bytes()) {
-        Ok(checked) => checked,
-        Err(_) => panic!(&rt; "a fault"),
-    };
+    let checked = checked_script(&rt, alloc);
     let wanted = slow_answers(&rt, alloc, &checked, 0);
     let most = room(&rt, alloc, &cycle);
     assert!(&rt; 0 < most && most < 1022);
-    let mut refused: u32 = 0;
-    'rooms: for left in 0..most {
-        let blocks = most.wrapping_sub(left);
-        if is_answered_beside(&rt, alloc, &checked, &cycle, blocks, wanted.as_str()) {
-            break 'rooms;
-        }
-        refused = refused.wrapping_add(1);
-    }
+    let refused = refusals(&rt, alloc, &checked, &cycle, most, wanted.as_str());
     assert!(&rt; 0 < refused && refused < most);
 }

@@ -1,9 +1,31 @@
 //! Scripts of definitions and loops by chance, beside the slow evaluator, with few turns.
 use crate::made::table;
 use crate::scripts::script;
-use crate::table::{differing, note};
+use crate::table::{assert_none, differing, note};
 use fork_quads::{Crew, OpenGate};
 use rel_engine::Works;
+use rel_model::engine_trait::Engine;
+use std::alloc::Global;
+use std::ops::Range;
+use std::process::Abort;
+
+/// Compares the scripts of some seeds, and notes those that come to something else.
+fn note_scripts<E: Engine>(
+    rt: &impl Abort,
+    alloc: Global,
+    engine: &mut E,
+    wrong: &mut String,
+    elements: u32,
+    seeds: Range<u64>,
+) {
+    'seeds: for seed in seeds {
+        let text = script(rt, alloc, seed, elements);
+        let turns = seed % 7;
+        if let Some(given) = differing(rt, alloc, engine, text.as_slice(), turns) {
+            note(rt, alloc, wrong, seed as usize, given.as_str());
+        }
+    }
+}
 
 #[test]
 fn scripts_by_chance_come_to_what_the_slow_evaluator_says(rt: HostRuntime) {
@@ -19,13 +41,7 @@ fn scripts_by_chance_come_to_what_the_slow_evaluator_says(rt: HostRuntime) {
         (3, 81, 161),
         (5, 161, 201),
     ] {
-        'seeds: for seed in first..last {
-            let text = script(&rt, alloc, seed, elements);
-            let turns = seed % 7;
-            if let Some(given) = differing(&rt, alloc, &mut engine, text.as_slice(), turns) {
-                note(&rt, alloc, &mut wrong, seed as usize, given.as_str());
-            }
-        }
+        note_scripts(&rt, alloc, &mut engine, &mut wrong, elements, first..last);
     }
-    assert_eq!(&rt; wrong.as_str(), "");
+    assert_none(&rt, wrong.as_str());
 }

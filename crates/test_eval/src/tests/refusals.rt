@@ -1,8 +1,5 @@
 //! Each refusal of an evaluation with a small script, its place and its numbers, and what comes first of two.
-use crate::made::table;
-use crate::table::wrong_lines;
-use fork_quads::{Crew, OpenGate};
-use rel_engine::Works;
+use crate::table::assert_lines;
 
 /// Scripts and their answers with 7 turns.
 const CASES: &str = r##"
@@ -82,10 +79,5 @@ REL A 1 2 {}. PRINT A. LET B = A*A. PRINT B. PRINT A. => 1x2 / Mismatch * 1:33 1
 
 #[test]
 fn each_refusal_has_its_place_and_its_numbers(rt: HostRuntime) {
-    let alloc = rt.alloc();
-    let (table, seat) = table(&rt, alloc, 20);
-    let gate = OpenGate;
-    let mut engine = Works::new(Crew::new(&rt, &table, seat, 1, &gate));
-    let wrong = wrong_lines(&rt, alloc, &mut engine, CASES, 7);
-    assert_eq!(&rt; wrong.as_str(), "");
+    assert_lines(&rt, rt.alloc(), CASES, 7);
 }

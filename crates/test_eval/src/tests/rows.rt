@@ -1,8 +1,5 @@
 //! Small scripts from the field and what `parse`, `check` and `eval` answer to them.
-use crate::made::table;
-use crate::table::wrong_lines;
-use fork_quads::{Crew, OpenGate};
-use rel_engine::Works;
+use crate::table::assert_lines;
 
 /// Scripts and their answers with 7 turns.
 const CASES: &str = r##"
@@ -34,10 +31,5 @@ F(R) = R. REL A 1 1 {}. PRINT F(A,A). => Arity F 1:31 takes 1 given 2
 
 #[test]
 fn small_scripts_have_their_answers(rt: HostRuntime) {
-    let alloc = rt.alloc();
-    let (table, seat) = table(&rt, alloc, 20);
-    let gate = OpenGate;
-    let mut engine = Works::new(Crew::new(&rt, &table, seat, 1, &gate));
-    let wrong = wrong_lines(&rt, alloc, &mut engine, CASES, 7);
-    assert_eq!(&rt; wrong.as_str(), "");
+    assert_lines(&rt, rt.alloc(), CASES, 7);
 }

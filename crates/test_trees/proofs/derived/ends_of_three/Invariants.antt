@@ -1,9 +1,8 @@
 use Rattle.rel_model.specs.Worker.{Stands}
-use Rattle.rel_plain.specs.Kept.{worker_of}
-use Rattle.test_trees.proofs.derived.the_square_of_two_steps_is_one_pair.Given as goal
+use Rattle.test_trees.proofs.derived.ends_of_three.Given as goal
 
 abbrev pub invariant-rows : goal.invariant-rows
-invariant-rows g l = Stands (worker_of l.plain) l.square
+invariant-rows g l = Stands (g.C.Core.worker l.core) l.square
 
 abbrev pub invariant-cols : goal.invariant-cols
-invariant-cols g l = Stands (worker_of l.plain) l.square
+invariant-cols g l = Stands (g.C.Core.worker l.core) l.square
