@@ -14,4 +14,4 @@ pub mod Ranking
 pub mod Halves
 pub mod Functions
 pub mod Fewness
-pub mod Causes
+pub mod Steps
