@@ -29,13 +29,14 @@ fn place(alloc: Global, text: &[u8]) -> Option<Place> {
     if text.len() > SCRIPT_LIMIT {
         return None;
     }
-    match parse(alloc, text) {
+    let answer = parse(alloc, text);
+    match &answer {
         Ok(_) | Err(ParseFault::NoMemory) => None,
-        Err(ParseFault::Byte { at, .. }) => Some(at),
-        Err(ParseFault::Expected { at, .. }) => Some(at),
-        Err(ParseFault::TooDeep { at }) => Some(at),
-        Err(ParseFault::NumberTooLarge { at }) => Some(at),
-        Err(ParseFault::NameTooLong { at }) => Some(at),
+        Err(ParseFault::Byte { at, .. }) => Some(*at),
+        Err(ParseFault::Expected { at, .. }) => Some(*at),
+        Err(ParseFault::TooDeep { at }) => Some(*at),
+        Err(ParseFault::NumberTooLarge { at }) => Some(*at),
+        Err(ParseFault::NameTooLong { at }) => Some(*at),
     }
 }
 
