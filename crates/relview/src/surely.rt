@@ -25,7 +25,8 @@ pub fn relview_surely<R: Threads + Wait + Sync>(
     shelf: &mut SureShelf,
     sink: &mut SureSink,
 ) -> Report
-    requires may_pick { All (λ w. IsTrue ((⟦<SureShelf as Shelf>⟧.told shelf.old).may_pick w)) (file_words (texts words.now)) }
+    requires may_pick { All (λ w. IsTrue ((⟦<SureShelf as Shelf>⟧.told shelf.old).may_pick w))
+        (file_words (texts words.now)) }
     ensures { IsSure (texts words.now) (⟦<SureShelf as Shelf>⟧.told shelf.old) (⟦<SureShelf as Shelf>⟧.told shelf.new)
         (sunk (⟦<SureSink as Sink>⟧.written sink.old) (⟦<SureSink as Sink>⟧.faults sink.old))
         (sunk (⟦<SureSink as Sink>⟧.written sink.new) (⟦<SureSink as Sink>⟧.faults sink.new)) result }
@@ -46,7 +47,8 @@ pub fn has_files(alloc: Global, words: &[String], shelf: &SureShelf) -> bool
 
 /// Whether each name is that of a file of the shelf.
 fn has_all(names: &[String], shelf: &SureShelf) -> bool
-    ensures { result ≡ list_all (λ name. (⟦<SureShelf as Shelf>⟧.told shelf.now).may_pick (string_bytes name)) names.now }
+    ensures { result
+        ≡ list_all (λ name. (⟦<SureShelf as Shelf>⟧.told shelf.now).may_pick (string_bytes name)) names.now }
 {
     names.iter().all(|name| shelf.has(name.as_str()))
 }

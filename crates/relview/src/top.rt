@@ -69,7 +69,8 @@ fn refuse_words<K: Sink>(alloc: Global, sink: &mut K, error: WordsError) -> Repo
     ensures ran { result.ran ≡ false }
     ensures stopped { (words : List Word) (before now : Told) → HasNoPut before now
         → (error ≡ words_error.Usage → said_by words ≡ None)
-        → HasStopped words before now (sunk (K.written sink.old) (K.faults sink.old)) (sunk (K.written sink.new) (K.faults sink.new)) result }
+        → HasStopped words before now (sunk (K.written sink.old) (K.faults sink.old))
+        (sunk (K.written sink.new) (K.faults sink.new)) result }
 {
     match error {
         WordsError::Usage => {
@@ -86,7 +87,8 @@ fn refuse_file<K: Sink>(alloc: Global, sink: &mut K, halt: Halt) -> Report
     ensures stopped { (words : List Word) (before now : Told) → HasNoPut before now
         → IsFirst words before halt.entry.name.now
         → RefusesFile before now halt.entry.name.now (limit_of halt.entry.name.now) halt.entry.error
-        → HasStopped words before now (sunk (K.written sink.old) (K.faults sink.old)) (sunk (K.written sink.new) (K.faults sink.new)) result }
+        → HasStopped words before now (sunk (K.written sink.old) (K.faults sink.old))
+        (sunk (K.written sink.new) (K.faults sink.new)) result }
 {
     match halt.error {
         ReadError::Fault => {
@@ -230,7 +232,8 @@ fn report_of<S: Shelf, K: Sink>(shelf: &mut S, sink: &mut K, finished: Finished)
     ensures words { result.words.items ≡ finished.words.items }
     ensures told { IsTold (S.told shelf.old) (S.told shelf.new) (sunk (K.written sink.old) (K.faults sink.old))
         (sunk (K.written sink.new) (K.faults sink.new))
-        finished.page.items (saved_all finished.saves.items) (status_of (map (λ v. v.items) finished.outcomes.items)) result.status }
+        finished.page.items (saved_all finished.saves.items)
+        (status_of (map (λ v. v.items) finished.outcomes.items)) result.status }
 {
     let Finished {
         history,

@@ -31,8 +31,9 @@ struct Tail {
 
 /// The parameters of a definition.
 fn params(alloc: Global, tokens: &[Token], end: Ending) -> Result<(Vec<Name>, &[Token]), Halt>
-    ensures { MatchResult result (λ x. Got (ending_of end) (NamePart ∷ MoreParams more_limit ∷ []) (SpellsParams x.0.items)
-        tokens.now x.1.now) (Refuses (ending_of end) (NamePart ∷ MoreParams more_limit ∷ []) tokens.now) }
+    ensures { MatchResult result
+        (λ x. Got (ending_of end) (NamePart ∷ MoreParams more_limit ∷ []) (SpellsParams x.0.items) tokens.now x.1.now)
+        (Refuses (ending_of end) (NamePart ∷ MoreParams more_limit ∷ []) tokens.now) }
 {
     let mut params = Vec::new(alloc);
     let (first, _, behind) = next_name(alloc, tokens, end)?;

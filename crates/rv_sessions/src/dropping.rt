@@ -160,8 +160,8 @@ pub(crate) fn show_at<E: Engine>(
 ) -> Result<Told, NoMemory>
     requires stood { KeptStand (E.worker engine.old) snaps.now }
     ensures { (input : Input) (pass : PASS) → input.turns ≡ turns →
-        DidItem E.least input checked.now by.session by.command (COMMAND (AT at name.now expr.now)) (E.worker engine.old)
-        (E.worker engine.new) pass pass snaps.now snaps.now result }
+        DidItem E.least input checked.now by.session by.command (COMMAND (AT at name.now expr.now))
+        (E.worker engine.old) (E.worker engine.new) pass pass snaps.now snaps.now result }
 {
     let _ = engine.bottom();
     let found = match kept(alloc, snaps, name) {

@@ -88,7 +88,8 @@ fn run_items<E: Engine, W: Wait>(
     requires bare { IsBare (length checked.now.items.items) lists.old }
     ensures ran { (snaps : Kept) × RanSoFar E.least (input_of files.now turns) checked.now number
         (E.worker engine.old) (E.worker engine.new)
-        pass.old pass.new snaps lists.new.outcomes.items (texts_of lists.new.replies.items) (saved_all lists.new.saves.items) }
+        pass.old pass.new snaps
+        lists.new.outcomes.items (texts_of lists.new.replies.items) (saved_all lists.new.saves.items) }
     ensures each { length lists.new.outcomes.items ≡ length checked.now.items.items }
 {
     let mut snaps = Snapshots::new(alloc);

@@ -40,10 +40,12 @@ pub(crate) fn value_on<E: Engine>(
 ) -> Result<Rel, Outcome>
     requires standing { AllStand (E.worker engine.old) names.now }
     ensures came { let w = E.worker engine.old in
-        CameTo w (E.worker engine.new) expr.now turns (evaluated checked.now (state_of w names.now) expr.now turns) result }
+        CameTo w (E.worker engine.new) expr.now turns
+        (evaluated checked.now (state_of w names.now) expr.now turns) result }
     ensures keeps { Keeps (E.worker engine.old) (E.worker engine.new) }
     ensures room { let w = E.worker engine.old in
-        MakesAtMost (cost_of_value E.least (evaluated checked.now (state_of w names.now) expr.now turns)) w (E.worker engine.new) }
+        MakesAtMost (cost_of_value E.least (evaluated checked.now (state_of w names.now) expr.now turns))
+        w (E.worker engine.new) }
 {
     match eval(alloc, engine, checked, names, expr, turns) {
         Ok(rel) => Ok(rel),
@@ -67,7 +69,8 @@ pub(crate) fn shown_on<E: Engine>(
         (evaluated checked.now (state_of w names.now) expr.now turns) (bytes_of result) }
     ensures keeps { Keeps (E.worker engine.old) (E.worker engine.new) }
     ensures room { let w = E.worker engine.old in
-        MakesAtMost (cost_of_value E.least (evaluated checked.now (state_of w names.now) expr.now turns)) w (E.worker engine.new) }
+        MakesAtMost (cost_of_value E.least (evaluated checked.now (state_of w names.now) expr.now turns))
+        w (E.worker engine.new) }
 {
     match value_on(alloc, engine, checked, turns, names, expr) {
         Ok(rel) => match shown(alloc, engine, form, rel) {

@@ -85,7 +85,8 @@ fn with_file<'a>(alloc: Global, command: Command<'a>) -> Result<Command<'a>, All
 
 /// A command with the option `--history` and the FILE words.
 fn with_rest<'a>(alloc: Global, command: Command<'a>) -> Result<Command<'a>, AllocError>
-    ensures { IfOk result (λ whole. app_of whole ≡ with_rule (with_rule (app_of command.entry) simple.history) simple.file) }
+    ensures { IfOk result (λ whole. app_of whole
+        ≡ with_rule (with_rule (app_of command.entry) simple.history) simple.file) }
 {
     match command.arg(history(alloc)) {
         Ok(flagged) => with_file(alloc, flagged),

@@ -128,7 +128,8 @@ fn answer<R: Threads + Wait + Sync, G: Gate + Sync>(
     shelf: &mut MemShelf,
     gate: &G,
 ) -> Result<(Report, MemSink), NoMemory>
-    ensures { IfOk result (λ r. Answers (texts words.now) (⟦<MemShelf as Shelf>⟧.told shelf.old) (⟦<MemShelf as Shelf>⟧.told shelf.new)
+    ensures { IfOk result (λ r. Answers (texts words.now)
+        (⟦<MemShelf as Shelf>⟧.told shelf.old) (⟦<MemShelf as Shelf>⟧.told shelf.new)
         (sunk (Some []) 0) (sunk (⟦<MemSink as Sink>⟧.written r.1) (⟦<MemSink as Sink>⟧.faults r.1)) r.0) }
 {
     match MemSink::new(alloc, Vec::new(alloc)) {
