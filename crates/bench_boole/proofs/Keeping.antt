@@ -1,7 +1,6 @@
 -- What a call keeps stands.
-use Rattle.std.proofs.Common.{◌≡◌, ℕ}
-use Rattle.rel_model.specs.declared.Quad.{Quad}
-use Rattle.rel_model.specs.Quads.{Keeper, IsKeeper, QuadStands, KeepsQuads}
+use Rattle.std.proofs.Common.{ℕ}
+use Rattle.rel_model.specs.Quads.{Keeper, IsKeeper, KeepsQuads}
 use Rattle.rel_model.proofs.QuadLaws.{quad_stays}
 use Rattle.bench_boole.specs.Holding.{Holds}
 

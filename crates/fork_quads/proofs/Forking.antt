@@ -2,7 +2,7 @@
 -- 1. What stood before a split stands in both, and what stood in either stands after they are joined (`Sees`).
 -- 2. What two do on a split adds up after the join: words placed, and misses (`joined_keeps`, `joined_misses`).
 -- 3. So two groups of pieces, at once or one after the other, are one group (`both_did`, `then_did`).
-use Rattle.std.proofs.Common.{◌≡◌, ◌≢◌, ◌<◌, ◌≤◌, ◌+◌, ◌-◌, ◌*◌, ◌/◌, ◌^◌, min, zero, suc, ℕ, List, get_or, Result, Ok, Err, IfOk, refl, sym, ap, subst, ◌∙◌, inl, inr, arith}
+use Rattle.std.proofs.Common.{◌≡◌, ◌≢◌, ◌<◌, ◌≤◌, ◌+◌, ◌-◌, ◌*◌, ℕ, List, get_or, Result, Ok, Err, IfOk, refl, sym, ap, subst, ◌∙◌, inl, inr, arith}
 use Rattle.std.specs.Prelude.{IsOk, IsErr}
 use Rattle.std.proofs.lemmas.Bool.{cases_lt}
 use Rattle.std.proofs.Math.Nat.{add-mul}
@@ -11,7 +11,6 @@ use Rattle.rel_model.specs.Cells.{Cells}
 use Rattle.rel_model.specs.Words.{Extends}
 use Rattle.rel_model.specs.Equations.{Compose, result_of, depth_of, side_of}
 use Rattle.rel_model.specs.Quads.{Keeper, IsKeeper, quad_cells, QuadStands, IsQuad, KeepsQuads, ReadsQuads, Counts, SplitsKeeper, JoinsKeeper}
-use Rattle.rel_model.specs.Worker.{Rose}
 use Rattle.rel_model.proofs.TreeLaws.{kept_stands, kept_cells}
 use Rattle.rel_model.proofs.NamesStand.{extends_on}
 use Rattle.rel_model.proofs.QuadLaws.{keeps_on, keeps_most, keeps_itself, reads_itself, reads_on}
@@ -19,7 +18,7 @@ use Rattle.memo_laws.specs.Looking.{operator_of}
 use Rattle.quad_nodes.specs.Finding.{Finds, FindsQuad}
 use Rattle.quad_nodes.proofs.Finding.{not_missed}
 use Rattle.fork_quads.specs.declared.pieces.Job.{Job}
-use Rattle.fork_quads.specs.Forks.{part, piece_room, TellsMisses, HasSet, IsQuiet, job_set, CanDo, CanGroup, HavePieces, HadPieces, DidPieces, AreAll, AreMerged, AreBoth}
+use Rattle.fork_quads.specs.Forks.{part, piece_room, TellsMisses, job_set, CanDo, CanGroup, HavePieces, HadPieces, DidPieces, AreAll, AreMerged, AreBoth}
 
 -- ---- what one keeper has seen of another
 -- all that the one has seen the other has

@@ -1,29 +1,29 @@
 -- An operator by its pieces: all of them, put together, and the room that they take.
-use Rattle.std.proofs.Common.{◌≡◌, ◌≢◌, ◌<◌, ◌≤◌, ◌+◌, ◌-◌, ◌*◌, ◌^◌, min, max, zero, suc, ℕ, List, get_or, Result, Ok, Err, IfOk, refl, sym, ap, subst, ◌∙◌, arith}
+use Rattle.std.proofs.Common.{◌≡◌, ◌≢◌, ◌<◌, ◌≤◌, ◌+◌, ◌-◌, ◌*◌, ◌^◌, zero, suc, ℕ, List, Result, Ok, Err, IfOk, refl, sym, ap, subst, ◌∙◌, arith}
 use Rattle.std.specs.Prelude.{IsOk}
 use Rattle.std.proofs.Math.Nat.{pow-suc, one-le-pow, pow-le-pow_left}
 use Rattle.rel_model.specs.declared.Quad.{Quad}
 use Rattle.rel_model.specs.Cells.{Cells}
 use Rattle.rel_model.specs.Trees.{bottom_height}
-use Rattle.rel_model.specs.Equations.{Operator, Union, Inter, Diff, Transpose, Compose, result_of, side_of, depth_of}
+use Rattle.rel_model.specs.Equations.{Operator, Union, Inter, Diff, Transpose, Compose, side_of, depth_of}
 use Rattle.rel_model.specs.Quads.{Keeper, IsKeeper, quad_cells, QuadStands, IsQuad, KeepsQuads, ReadsQuads, Counts, quad_room, composed_words}
-use Rattle.rel_model.specs.Worker.{Rose, Stands}
+use Rattle.rel_model.specs.Worker.{Stands}
 use Rattle.rel_model.proofs.TreeLaws.{Within, zero_stands}
-use Rattle.rel_model.proofs.QuadLaws.{keeps_on, keeps_most, reads_on, quad_stays, quad_cells-stay, is_quad-stays}
+use Rattle.rel_model.proofs.QuadLaws.{keeps_on, keeps_most, reads_on, is_quad-stays}
 use Rattle.rel_model.proofs.Rooms.{composed_words-most}
 use Rattle.row_quads.proofs.Placing.{quad_within}
 use Rattle.memo_laws.specs.Looking.{operator_of}
-use Rattle.quad_nodes.specs.Finding.{Finds, FindsQuad}
+use Rattle.quad_nodes.specs.Finding.{FindsQuad}
 use Rattle.quad_nodes.proofs.Finding.{found_later}
 use Rattle.rel_model.specs.declared.Rel.{Rel}
 use Rattle.fork_quads.specs.Crew.{worker_of, root_quad}
 use Rattle.fork_quads.proofs.Crewing.{stands_root}
 use Rattle.fork_quads.specs.declared.pieces.Job.{Job}
-use Rattle.fork_quads.specs.Middle.{whole_words, whole_room}
-use Rattle.fork_quads.specs.Forks.{number_before, part, work_room, product_words, piece_room, corner_words, fork_words, fork_room, TellsMisses, HasSet, IsQuiet, job_set, CanDo, HavePieces, HadPieces, DidPieces, HoldPieces, tiled}
+use Rattle.fork_quads.specs.Middle.{whole_words}
+use Rattle.fork_quads.specs.Forks.{work_room, product_words, piece_room, corner_words, fork_words, fork_room, TellsMisses, job_set, CanDo, HavePieces, HadPieces, DidPieces, HoldPieces, tiled}
 use Rattle.fork_quads.proofs.Parts.{result-within}
 use Rattle.fork_quads.proofs.Tiling.{before-few, tiled-is, part_stood}
-use Rattle.fork_quads.proofs.Forking.{can_seen, set_seen, keeps_sees}
+use Rattle.fork_quads.proofs.Forking.{set_seen, keeps_sees}
 
 -- ---- misses
 pub counts_tells : {T E : Type 0} (old new : Keeper) (r : Result T E) → Counts old new r → TellsMisses old new r

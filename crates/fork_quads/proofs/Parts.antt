@@ -2,7 +2,7 @@
 -- 1. A square that is cut in four is put together of its quarters, and a quarter of four sets is one of them.
 -- 2. A quarter of an operator's result is the operator's result on quarters; of a composition it is the sum of two products.
 -- 3. So each square is made by the same steps down from the whole, and the whole is put together of all squares.
-use Rattle.std.proofs.Common.{◌≡◌, ◌≢◌, ◌<◌, ◌≤◌, ◌+◌, ◌-◌, ◌*◌, ◌/◌, ◌%◌, ◌&&◌, ◌||◌, ◌⊎◌, not, ltb, zero, suc, ℕ, Bool, true, false, Result, IfOk, refl, sym, ap, subst, ◌∙◌, inl, inr, arith}
+use Rattle.std.proofs.Common.{◌≡◌, ◌≢◌, ◌<◌, ◌≤◌, ◌+◌, ◌-◌, ◌/◌, ◌%◌, ◌&&◌, ◌||◌, ◌⊎◌, not, ltb, zero, suc, ℕ, Bool, true, false, Result, IfOk, refl, sym, ap, subst, ◌∙◌, inl, inr, arith}
 use Rattle.std.proofs.lemmas.Bool.{cases_lt, ltb-true, lt-ltb, le-ltb, and_left, and_right, and_parts, or_cases}
 use Rattle.rel_model.specs.declared.Quad.{Quad}
 use Rattle.rel_model.specs.Cells.{Cells, no_cells, cells_union, cells_transpose, cells_compose}
@@ -14,13 +14,12 @@ use Rattle.rel_model.proofs.Squares.{each_cell-quartered}
 use Rattle.rel_model.proofs.Composing.{cells_compose-quartered, cells_transpose-quartered}
 use Rattle.rel_model.proofs.QuadLaws.{side_of-next, keeps_on, keeps_most, is_quad-stays, quad_cells-stay, empty_quad}
 use Rattle.bit_rows.proofs.Windows.{quartered_nw, quartered_ne, quartered_sw, quartered_se}
-use Rattle.row_quads.proofs.Placing.{quad_within}
 use Rattle.row_quads.proofs.ByRows.{product_within}
 use Rattle.quad_nodes.specs.Finding.{FindsQuad}
 use Rattle.quad_nodes.proofs.Finding.{AreWithin, within_at, found_later}
 use Rattle.rel_compose.specs.Products.{BothStand, row_by_column}
 use Rattle.rel_compose.proofs.Multiplying.{composed_none-left, composed_none-right}
-use Rattle.fork_quads.specs.Forks.{nth, quarter, number_before, place_at_cut, part, source, product_of}
+use Rattle.fork_quads.specs.Forks.{nth, quarter, place_at_cut, part, source, product_of}
 
 -- ---- one of four
 pub nth-cells : (w : Keeper) (k : ℕ) (p q r s : Quad) → quad_cells w (nth k p q r s) ≡ nth k (quad_cells w p) (quad_cells w q) (quad_cells w r) (quad_cells w s)

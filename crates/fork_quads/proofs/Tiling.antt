@@ -3,15 +3,15 @@
 -- 2. The set of the pieces put together lies within its square, and stays while calls keep the pieces.
 -- 3. It is the set whose parts the pieces are (`tiled-is`).
 -- 4. Over a set that stands its parts stand (`part_stood`).
-use Rattle.std.proofs.Common.{◌≡◌, ◌≢◌, ◌<◌, ◌≤◌, ◌+◌, ◌-◌, ◌*◌, ◌/◌, ◌%◌, ◌^◌, ltb, zero, suc, ℕ, Bool, true, false, List, get_or, length, Result, Ok, Err, IfOk, refl, sym, ap, subst, ◌∙◌, inl, inr, arith}
-use Rattle.std.proofs.lemmas.Bool.{cases_Bool, ltb-true, ltb-false}
+use Rattle.std.proofs.Common.{◌≡◌, ◌≢◌, ◌<◌, ◌≤◌, ◌+◌, ◌-◌, ◌*◌, ◌/◌, ◌^◌, ltb, zero, suc, ℕ, List, get_or, length, Result, Ok, Err, IfOk, refl, sym, ap, subst, ◌∙◌, inl, inr, arith}
+use Rattle.std.proofs.lemmas.Bool.{cases_Bool, ltb-true}
 use Rattle.std.proofs.lemmas.List.{get_or_default}
 use Rattle.std.proofs.Math.Nat.{pow-suc}
 use Rattle.rel_model.specs.declared.Quad.{Quad}
 use Rattle.rel_model.specs.Cells.{Cells}
-use Rattle.rel_model.specs.Trees.{bottom_height, top_height, quartered}
+use Rattle.rel_model.specs.Trees.{bottom_height, quartered}
 use Rattle.rel_model.specs.Equations.{side_of}
-use Rattle.rel_model.specs.Quads.{Keeper, IsKeeper, quad_cells, QuadStands, IsQuad, KeepsQuads, ReadsQuads}
+use Rattle.rel_model.specs.Quads.{Keeper, IsKeeper, quad_cells, IsQuad, KeepsQuads, ReadsQuads}
 use Rattle.rel_model.proofs.TreeLaws.{Within}
 use Rattle.rel_model.proofs.QuadLaws.{side_of-next, quad_cells-stay, is_quad-stays, quad_stays, corner_value, reads_on}
 use Rattle.quad_nodes.specs.Finding.{Finds, FindsQuad, FindsBoth}

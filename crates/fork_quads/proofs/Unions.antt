@@ -1,8 +1,8 @@
 -- A quad and a product, as one.
 -- 1. The product of two quads, and then the union of a third with it.
 -- 2. The same as a worker has them; and the words that it places.
-use Rattle.std.proofs.Common.{◌≡◌, ◌≤◌, ◌+◌, ◌-◌, ◌*◌, ◌^◌, ◌∙◌, zero, suc, ℕ, ap, sym, subst, arith}
-use Rattle.std.proofs.Math.Nat.{pow-suc, one-le-pow, pow-le-pow_left}
+use Rattle.std.proofs.Common.{◌≡◌, ◌≤◌, ◌+◌, ◌-◌, ◌*◌, ◌^◌, ◌∙◌, zero, suc, ℕ, ap, subst, arith}
+use Rattle.std.proofs.Math.Nat.{pow-le-pow_left}
 use Rattle.rel_model.specs.declared.Quad.{Quad}
 use Rattle.rel_model.specs.Cells.{Cells, cells_union, cells_compose}
 use Rattle.rel_model.specs.Trees.{bottom_height}

@@ -15,7 +15,7 @@ use Rattle.row_quads.proofs.Placing.{quad_within}
 use Rattle.bit_rows.proofs.Windows.{window_whole}
 use Rattle.row_quads.proofs.ByRows.{product_within, same_value}
 use Rattle.rel_compose.proofs.Summing.{side_of_by_256, side_most}
-use Rattle.fork_quads.specs.Middle.{whole_words, whole_room}
+use Rattle.fork_quads.specs.Middle.{whole_words}
 use Rattle.fork_quads.specs.Forks.{place_at_cut, quarter, part, south, east, first_at, product_of, product_words}
 
 -- ---- windows

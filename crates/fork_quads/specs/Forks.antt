@@ -3,8 +3,8 @@ use Rattle.std.specs.Prelude.{◌≡◌, ◌≢◌, ◌<◌, ◌≤◌, ◌+◌,
 use Rattle.rel_model.specs.declared.Quad.{Quad}
 use Rattle.rel_model.specs.Cells.{Cells, cells_compose}
 use Rattle.rel_model.specs.Trees.{bottom_height, quartered}
-use Rattle.rel_model.specs.Equations.{Operator, Union, Inter, Diff, Transpose, Compose, result_of, side_of}
-use Rattle.rel_model.specs.Quads.{Keeper, IsKeeper, quad_cells, QuadStands, IsQuad, KeepsQuads, ReadsQuads, quad_room}
+use Rattle.rel_model.specs.Equations.{Operator, Transpose, Compose, result_of, side_of}
+use Rattle.rel_model.specs.Quads.{Keeper, quad_cells, QuadStands, IsQuad, KeepsQuads, ReadsQuads, quad_room}
 use Rattle.rel_model.specs.Worker.{Rose}
 use Rattle.memo_laws.specs.Looking.{operator_of}
 use Rattle.fork_quads.specs.declared.pieces.Job.{Job}

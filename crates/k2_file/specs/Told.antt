@@ -1,5 +1,5 @@
 -- What the parts of a file tell: its bits as a list, its header, and the tests in the groups in which they are made.
-use Rattle.std.specs.Prelude.{◌≡◌, ◌==◌, ◌&&◌, ◌||◌, ◌+◌, ◌-◌, ◌^◌, ◌≤◌, ◌++◌, nat_le, cond, ℕ, Bool, false, List, [], ◌∷◌, length, take, drop, codes, Option, Some}
+use Rattle.std.specs.Prelude.{◌≡◌, ◌==◌, ◌&&◌, ◌||◌, ◌+◌, ◌-◌, ◌≤◌, ◌++◌, nat_le, cond, ℕ, Bool, false, List, [], ◌∷◌, length, take, drop, codes, Option, Some}
 use Rattle.std.specs.List.{AllByRecursion, slice_index_or}
 use Rattle.run_model.specs.declared.outcome.BadFile.{BadFile}
 use Rattle.run_model.specs.declared.outcome.BadFile.TheVariants.{Short, Magic, Sizes, Height, Lengths, ZeroGroup, Outside, Padding, Rest, Full, NoMemory}

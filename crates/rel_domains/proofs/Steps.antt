@@ -1,5 +1,5 @@
 -- Steps of a walk over the quarters of a square: their quads later on, their nodes in all, and the cause of what is answered after calls that missed nothing.
-use Rattle.std.proofs.Common.{◌≡◌, ◌≢◌, ◌<◌, ◌≤◌, ◌+◌, ◌-◌, ◌*◌, ◌^◌, ◌∙◌, ℕ, Bool, Result, IfOk, refl, sym, ap, subst, arith}
+use Rattle.std.proofs.Common.{◌≡◌, ◌≢◌, ◌≤◌, ◌+◌, ◌-◌, ◌*◌, ◌∙◌, ℕ, Bool, Result, IfOk, refl, sym, ap, subst, arith}
 use Rattle.std.specs.Prelude.{IsSome, Ok, Err}
 use Rattle.std.specs.Result.{is_ok}
 use Rattle.std.proofs.lemmas.Bool.{true≢false}

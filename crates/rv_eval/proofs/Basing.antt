@@ -1,6 +1,5 @@
 -- Base calls: which operands they take, and those that no text spells.
-use Rattle.std.proofs.Common.{◌≡◌, ◌≢◌, ◌≤◌, ◌+◌, ◌∙◌, ◌==◌, ◌&&◌, ℕ, Bool, true, false, cond, List, [], ◌∷◌, length, refl, sym, ap, arith, Result}
-use Rattle.std.proofs.lemmas.Bool.{and_from}
+use Rattle.std.proofs.Common.{◌≡◌, ◌≢◌, ◌≤◌, ◌+◌, ◌∙◌, ◌==◌, ◌&&◌, ℕ, Bool, true, false, cond, List, [], ◌∷◌, length, refl, ap, arith, Result}
 use Rattle.rel_model.specs.declared.Rel.{Rel}
 use Rattle.lang_model.specs.declared.syntax.Place.{Place}
 use Rattle.lang_model.specs.declared.syntax.Base.{Base}
@@ -10,7 +9,7 @@ use Rattle.rel_model.specs.Relation.{Relation}
 use Rattle.rel_model.specs.Operators.{empty}
 use Rattle.rel_model.specs.Worker.{Worker, set_of, Keeps}
 use Rattle.lang_model.specs.Rooms.{tree_cost}
-use Rattle.lang_model.specs.Outcomes.{Cost, no_cost, Ill, Operation, Makes, Refuses, with_turns}
+use Rattle.lang_model.specs.Outcomes.{Cost, no_cost, Ill, Makes, Refuses, with_turns}
 use Rattle.lang_model.specs.Types.{Fits, Misfit, known, sizes, base_text}
 use Rattle.lang_model.specs.Mean.{fitting, based, answer_of_test, is_within}
 use Rattle.rv_eval.specs.declared.halt.Halt.{Halt}
@@ -18,7 +17,7 @@ use Rattle.rv_eval.specs.declared.bases.Demand.TheVariants.{Nothing, Square, One
 use Rattle.rv_eval.specs.Demands.{demanded}
 use Rattle.rv_eval.specs.Ends.{Ends}
 use Rattle.rv_eval.proofs.Going.{goes_last}
-use Rattle.rv_eval.proofs.Operating.{same_type, equal_sizes}
+use Rattle.rv_eval.proofs.Operating.{same_type}
 
 -- ---- the last case of each kind
 pub last_square : (base : Base) → demanded base ≡ Square → base ≢ I → base ≢ Trans → base ≡ Refl

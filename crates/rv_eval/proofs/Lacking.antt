@@ -1,9 +1,8 @@
 -- The leftmost name that has no relation: of calls and chains, read off the lists that the code walks, and on two
 -- states that have the same names.
-use Rattle.std.proofs.Common.{◌≡◌, ◌∙◌, ℕ, cond, List, [], ◌∷◌, Option, Some, None, refl, sym, ap, ap₂, rules}
+use Rattle.std.proofs.Common.{◌≡◌, ℕ, cond, List, Option, Some, None, refl, sym, ap, ap₂, rules}
 use Rattle.std.specs.Prelude.{option_and_then, option_map, is_some}
 use Rattle.rel_model.specs.declared.Rel.{Rel}
-use Rattle.lang_model.specs.declared.syntax.Place.{Place}
 use Rattle.lang_model.specs.declared.syntax.Expr.{
   Expr,
   Ref,
@@ -25,7 +24,6 @@ use Rattle.lang_model.specs.declared.syntax.Expr.{
   the_lemmas,
 }
 use Rattle.lang_model.specs.declared.syntax.Expr.TheVariants.{Call, Base, Chain}
-use Rattle.lang_model.specs.declared.syntax.Link.{Link}
 use Rattle.rel_model.specs.Operators.{empty}
 use Rattle.rel_model.specs.Worker.{Worker, Stands}
 use Rattle.lang_model.specs.State.{State}

@@ -5,7 +5,7 @@ use Rattle.rel_model.specs.declared.Lack.TheVariants.{Full, NoMemory as NO_MEMOR
 use Rattle.lang_model.specs.declared.faults.TypeFault.{TypeFault}
 use Rattle.lang_model.specs.declared.faults.TypeFault.TheVariants.{NoMemory as FAULT_NO_MEMORY}
 use Rattle.rel_model.specs.Relation.{Relation, size_limit}
-use Rattle.rel_model.specs.Worker.{Worker, Stands, set_of, Rose, MissesNothing}
+use Rattle.rel_model.specs.Worker.{Worker, set_of, Rose, MissesNothing}
 use Rattle.lang_model.specs.Outcomes.{Ill, Size, Turns, Answer, Got, Not}
 use Rattle.lang_model.specs.Eval.{Evaluated, Ahead, Comes}
 use Rattle.rv_eval.specs.declared.halt.Halt.{Halt}

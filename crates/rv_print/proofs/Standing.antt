@@ -1,11 +1,9 @@
 -- What a worker's quads and relations keep, and what the quads of relations are.
-use Rattle.std.proofs.Common.{◌≡◌, ◌<◌, ℕ, true, refl, sym, ap, subst, ◌∙◌, Some}
+use Rattle.std.proofs.Common.{◌≡◌, ℕ, refl, sym, ap, subst, ◌∙◌, Some}
 use Rattle.std.specs.Prelude.{IsSome, unwrap_or}
 use Rattle.rel_model.specs.declared.Quad.{Quad}
-use Rattle.rel_model.specs.Relation.{Relation, IsRelation, has}
 use Rattle.rel_model.specs.Cells.{Cells, no_cells}
 use Rattle.rel_model.specs.Worker.{Worker, HasQuad, quad_set, GivesQuad, Keeps}
-use Rattle.rel_model.proofs.Pairs.{all-member}
 
 -- the quad named 0 has no cell
 pub zero_set : (w : Worker) (q : Quad) → q.name ≡ 0 → w.quad (record { height = q.height; name = 0 }) ≡ Some no_cells → quad_set w q ≡ no_cells

@@ -1,5 +1,5 @@
 -- The names of calls and chains, read off the lists that the code walks.
-use Rattle.std.proofs.Common.{◌≡◌, ◌<◌, ◌+◌, ◌∙◌, ℕ, List, [], ◌∷◌, ◌++◌, append_assoc, length, drop, get_or, refl, sym, ap, rules}
+use Rattle.std.proofs.Common.{◌≡◌, ◌<◌, ◌+◌, ◌∙◌, ℕ, List, ◌∷◌, ◌++◌, append_assoc, length, drop, get_or, refl, sym, ap, rules}
 use Rattle.std.proofs.lemmas.List.{drop_more}
 use Rattle.lang_model.specs.declared.syntax.Expr.{
   Expr,

@@ -1,5 +1,5 @@
 -- Runs of bytes and the values of digits.
-use Rattle.std.proofs.Common.{◌≡◌, ◌<◌, ◌≤◌, ◌+◌, ◌-◌, ◌*◌, ℕ, true, false, cond, eqb, List, [], ◌∷◌, ◌++◌, length, drop, drop-cons, get_or, take, Option, Some, None, refl, sym, ap, ◌∙◌, arith, zero, suc}
+use Rattle.std.proofs.Common.{◌≡◌, ◌<◌, ◌≤◌, ◌+◌, ◌-◌, ◌*◌, ℕ, true, false, cond, eqb, List, [], ◌∷◌, length, drop, drop-cons, get_or, take, Some, None, refl, ap, ◌∙◌, arith, suc}
 use Rattle.lang_model.specs.declared.syntax.Place.{Place}
 use Rattle.lang_model.specs.Tokens.{value_from, behind_all, run_length, kind_at, file_at, domain_operator_at, domain_operators, found_in, is_letter, is_digit, is_sign_byte, is_word_byte}
 use Rattle.lang_model.specs.declared.token.Kind.TheVariants.{Sign}

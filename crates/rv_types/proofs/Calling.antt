@@ -12,8 +12,8 @@ use Rattle.lang_model.specs.declared.faults.TypeFault.{TypeFault}
 use Rattle.lang_model.specs.declared.faults.TypeFault.TheVariants.{Unknown, Arity}
 use Rattle.lang_model.specs.Defining.{defines}
 use Rattle.lang_model.specs.Mean.{item_named, takes_arguments}
-use Rattle.lang_model.specs.Types.{Passed, Fits, Misfit}
-use Rattle.lang_model.specs.Shape.{passing, Types, AroundTypes, shape, typed_by, around_types, types_bound, type_of_body, type_of_called, types_of_calls}
+use Rattle.lang_model.specs.Types.{Fits, Misfit}
+use Rattle.lang_model.specs.Shape.{passing, AroundTypes, shape, typed_by, around_types, types_bound, type_of_body, type_of_called, types_of_calls}
 use Rattle.rv_types.specs.Defining.{NoneDefines, IsDefinition}
 use Rattle.rv_types.specs.Shaping.{types_of, beside, with_arguments}
 use Rattle.rv_types.proofs.Bound.{types_of-beside}

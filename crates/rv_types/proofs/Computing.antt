@@ -1,5 +1,5 @@
 -- Sizes that are computed, transpositions one after another, and the operands of base calls by their number.
-use Rattle.std.proofs.Common.{◌≡◌, ◌≢◌, ◌<◌, ◌+◌, ◌^◌, ◌∙◌, ℕ, zero, suc, true, nat_lt, cond, List, [], ◌∷◌, length, get_or, Some, None, refl, sym, ap, arith}
+use Rattle.std.proofs.Common.{◌≡◌, ◌≢◌, ◌<◌, ◌+◌, ◌^◌, ◌∙◌, ℕ, zero, suc, true, nat_lt, cond, List, [], ◌∷◌, length, get_or, Some, None, refl, ap, arith}
 use Rattle.std.proofs.Math.Pow.{pow-lt}
 use Rattle.std.proofs.lemmas.Bool.Decides.{nat_tests}
 use Rattle.lang_model.specs.declared.faults.StaticShape.{StaticShape}

@@ -1,8 +1,8 @@
 -- What `parse` says of a text of digits.
-use Rattle.std.proofs.Common.{◌≡◌, ◌≤◌, ◌<◌, ◌^◌, ◌&&◌, ℕ, Bool, true, List, [], ◌∷◌, length, inl, inr, arith, refl, ap, sym, ◌∙◌, Result}
+use Rattle.std.proofs.Common.{◌≡◌, ◌<◌, ◌^◌, ◌&&◌, ℕ, Bool, true, List, [], ◌∷◌, length, inl, inr, arith, refl, ap, sym, ◌∙◌, Result}
 use Rattle.std.specs.List.{list_all}
 use Rattle.std.specs.Char.{is_ascii_digit}
-use Rattle.std.specs.Prelude.{Err, Option, Some, None, false, if◌then◌else◌, nat_le}
+use Rattle.std.specs.Prelude.{Err, Some, None, false, if◌then◌else◌, nat_le}
 use Rattle.std.specs.Result.{OkIff}
 use Rattle.std.proofs.lemmas.Bool.{true≢false, and_parts, cases_lt, lt-leb}
 use Rattle.std.proofs.lemmas.Bool.Decides.{nat_tests}

@@ -1,5 +1,5 @@
 -- What each kind of word is to clap's lexer.
-use Rattle.std.proofs.Common.{◌≡◌, ◌∙◌, ◌&&◌, ◌||◌, ◌==◌, ℕ, Bool, true, false, List, [], ◌∷◌, length, refl, sym, ap, ap₂, subst, arith, slice_get, Option, Some, None, slice_index}
+use Rattle.std.proofs.Common.{◌≡◌, ◌∙◌, ◌&&◌, ◌==◌, ℕ, Bool, true, false, List, [], ◌∷◌, length, refl, sym, ap, ap₂, subst, arith, slice_get, Some, None}
 use Rattle.std.specs.Prelude.{◌<◌, zero, suc, if◌then◌else◌, option_and_then}
 use lib.Utf8.{encodes}
 use Rattle.std.specs.Str.{bytes_eq, chars, IsUtf8, IsAscii}

@@ -3,22 +3,20 @@
 -- 2. `Walking` has one word's turn: it passes, and the walk goes on behind it, or the turn fails.
 -- 3. `both` goes over the words, by induction: from a walk on which no option waits, and from one on which an option waits for its value, clap has no fault exactly where the words have uses, and each name then has the values of these uses behind those that it had.
 -- 4. `splits` is the same from the start, with what a parse does behind its walk: no argument has a default, and none is required.
-use Rattle.std.proofs.Common.{◌≡◌, ◌∙◌, ◌&&◌, ◌||◌, ◌++◌, ℕ, Bool, true, false, List, [], ◌∷◌, map, refl, sym, ap, ap₂, subst, Option, Some, None, inl, inr, append-nil, append_assoc}
-use Rattle.std.specs.Prelude.{⊤, String, if◌then◌else◌, fold, is_some, nat_lt}
+use Rattle.std.proofs.Common.{◌≡◌, ◌∙◌, ◌||◌, ◌++◌, Bool, true, false, List, [], ◌∷◌, map, refl, sym, ap, ap₂, subst, Option, Some, None, inl, inr, append-nil, append_assoc}
+use Rattle.std.specs.Prelude.{⊤, String, if◌then◌else◌, fold, is_some}
 use Rattle.clap.specs.Lexer.{long_of}
 use Rattle.clap.specs.declared.error.kind.ErrorKind.TheVariants as kind
 use Rattle.std.specs.declared.alloc.Global.{Global}
-use Rattle.std.specs.List.{list_all}
-use Rattle.std.specs.Option.{option_map_or}
 use Rattle.std.specs.Str.{bytes_eq, IsUtf8}
 use Rattle.std.proofs.lemmas.Bool.{cases_Bool}
 use Rattle.std.proofs.lemmas.Str.{IsUtf8-string_bytes}
 use Rattle.std.proofs.lemmas.Slice.Eq.{bytes_eq-Decides}
 use Rattle.clap.specs.Kinds.{Kinds, or_else}
 use Rattle.clap.specs.declared.parser.matches.ValueSource.TheVariants.{CommandLine}
-use Rattle.clap.specs.Walk.{Held, Row, Rule, Text, Waiting, Walk, arg_by_long, default_rows, finished, has_row, idle, is_empty, next, nothing_held, option, option_word, pending_count, positional, pushed, reading_by, settled_rows, value, walk, walk_from, takes_values, with_default, with_values}
-use Rattle.clap.specs.Simple.{Shape, argument_words, built, matches_of}
-use Rattle.clap.specs.Faults.{check_fault, default_fault, defaults_fault, fault_of, given_default_fault, level_fault, long_fault, option_fault, react_fault, settle_fault, walk_fault}
+use Rattle.clap.specs.Walk.{Held, Row, Rule, Text, Waiting, Walk, arg_by_long, default_rows, has_row, idle, is_empty, next, nothing_held, option, positional, reading_by, settled_rows, value, walk, walk_from, takes_values, with_default, with_values}
+use Rattle.clap.specs.Simple.{Shape, built, matches_of}
+use Rattle.clap.specs.Faults.{default_fault, defaults_fault, fault_of, given_default_fault, long_fault, option_fault, react_fault, settle_fault, walk_fault}
 use Rattle.clap.proofs.FaultLemmas.{leaf_fault}
 use Rattle.rv_words.specs.Uses.{Kind, Use, Word, plain, ends, long, foreign, file_name, file_use, free_uses, history_name, kind_of, long_uses, switch_uses, takes_value, used, uses_from, uses_in, value_uses, valued_uses, values_of}
 use Rattle.rv_words.specs.Shown.{texts}

@@ -1,6 +1,6 @@
 -- One word's turn in clap's walk: where it stands before, what it faults, and where it stands behind.
-use Rattle.std.proofs.Common.{◌≡◌, ◌∙◌, ◌&&◌, ◌||◌, ◌==◌, ◌++◌, ℕ, Bool, true, false, not, List, [], ◌∷◌, refl, sym, ap, ap₂, subst, slice_get, Option, Some, None, inl, inr, append-nil, append_assoc}
-use Rattle.std.specs.Prelude.{if◌then◌else◌, fold, is_some, nat_lt, unwrap_or, length, drop, encode_utf8}
+use Rattle.std.proofs.Common.{◌≡◌, ◌∙◌, ◌&&◌, ◌||◌, ◌++◌, ℕ, Bool, true, false, List, [], ◌∷◌, refl, sym, ap, ap₂, subst, slice_get, Option, Some, None, inl, inr, append-nil}
+use Rattle.std.specs.Prelude.{if◌then◌else◌, fold, nat_lt, unwrap_or, length, drop, encode_utf8}
 use Rattle.std.specs.Option.{option_map_or}
 use Rattle.std.specs.Str.{bytes_eq, chars}
 use Rattle.std.proofs.lemmas.Bool.{cases_Bool, true≢false, false≢true}
@@ -10,13 +10,13 @@ use Rattle.clap.specs.Kinds.{Kinds, or_else}
 use Rattle.clap.specs.declared.error.kind.ErrorKind.TheVariants as kind
 use Rattle.clap.specs.declared.parser.matches.ValueSource.TheVariants.{CommandLine}
 use Rattle.clap.specs.declared.builder.value_parser.Reading.{Reading}
-use Rattle.clap.specs.Walk.{Held, Outcome, Row, Rule, Step, Text, Waiting, Walk, after_flag, after_step, all_of, arg_by_id, arg_by_index, arg_by_long, idle, is_pending, long_met, long_or_other, option_word, option}
-use Rattle.clap.specs.Walk.{plain_word, positional, pushed, reading_by, settled, settled_rows, short_or_plain, subcommand_met, subcommand_or_other, takes_several, takes_values, to_positional, trailing, used_by_id, walked, with_values, word_met}
+use Rattle.clap.specs.Walk.{Held, Row, Rule, Step, Text, Waiting, Walk, after_flag, after_step, all_of, arg_by_id, arg_by_long, idle, is_pending, long_met, long_or_other, option_word, option}
+use Rattle.clap.specs.Walk.{plain_word, positional, pushed, reading_by, settled, settled_rows, short_or_plain, subcommand_met, subcommand_or_other, to_positional, trailing, used_by_id, walked, with_values, word_met}
 use Rattle.clap.specs.Walk.{next, value}
 use Rattle.clap.specs.Simple.{Shape}
-use Rattle.clap.specs.Faults.{bundle_fault, bundle_step_fault, flag_word_fault, flags_fault, long_fault, option_fault, other_fault, positional_fault, react_fault, settle_fault, short_fault, step_fault, stray_fault, turn_fault, use_fault, walk_fault, word_fault}
-use Rattle.rv_words.specs.Uses.{Use, Word, file_name, takes_value, used, values_of}
-use Rattle.rv_words.proofs.Rules.{Knows, file_rule, history_rule, valued_rule}
+use Rattle.clap.specs.Faults.{bundle_fault, bundle_step_fault, flag_word_fault, flags_fault, long_fault, other_fault, positional_fault, settle_fault, short_fault, step_fault, stray_fault, turn_fault, use_fault, walk_fault, word_fault}
+use Rattle.rv_words.specs.Uses.{Word, file_name}
+use Rattle.rv_words.proofs.Rules.{Knows, file_rule, valued_rule}
 
 -- ---- where the walk stands
 abbrev pub held : List Row → Option (Text × List Text) → Held

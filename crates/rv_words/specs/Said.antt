@@ -1,10 +1,10 @@
 -- What the words say: the numbers, the scripts and the relation files; none where the words are outside the set.
-use Rattle.std.specs.Prelude.{◌==◌, ◌&&◌, ◌-◌, ◌^◌, if◌then◌else◌, not, nat_le, ℕ, Bool, true, false, List, [], ◌∷◌, length, drop, codes, Option, Some, None, is_some, option_map, option_and_then}
+use Rattle.std.specs.Prelude.{◌==◌, ◌&&◌, ◌-◌, ◌^◌, if◌then◌else◌, not, nat_le, ℕ, Bool, true, false, List, [], ◌∷◌, length, drop, codes, Option, Some, None, option_map, option_and_then}
 use Rattle.std.specs.Char.{is_ascii_digit}
 use Rattle.std.specs.List.{list_all}
 use Rattle.std.specs.Str.{bytes_eq}
 use Rattle.std.specs.Str.Parse.{digits_value}
-use Rattle.rv_words.specs.Uses.{Word, Use, uses_in, values_of, workers_name, nodes_name, turns_name, gen_name, history_name, file_name}
+use Rattle.rv_words.specs.Uses.{Word, uses_in, values_of, workers_name, nodes_name, turns_name, gen_name, history_name, file_name}
 
 -- ---- numbers
 -- whether a value is 1 to 20 digits

@@ -1,5 +1,5 @@
 -- How a contract sees the words, the options that are read off them, and what clap finds in them.
-use Rattle.std.specs.Prelude.{◌≡◌, ℕ, List, [], map, Option, Some, None, unwrap_or, option_map, String}
+use Rattle.std.specs.Prelude.{◌≡◌, List, [], map, Option, Some, None, unwrap_or, option_map, String}
 use Rattle.std.specs.String.{string_bytes}
 use Rattle.std.specs.declared.alloc.Global.{Global}
 use Rattle.clap.specs.Words.{found_of, matched_of, raw_values}

@@ -1,6 +1,6 @@
 -- The one simple command that clap reads, in clap's own words.
-use Rattle.std.specs.Prelude.{true, List, [], ◌∷◌, ◌++◌, codes, Some}
-use Rattle.clap.specs.Words.{App, Rule, Shape, new_app, new_rule, with_rule}
+use Rattle.std.specs.Prelude.{true, [], ◌∷◌, codes, Some}
+use Rattle.clap.specs.Words.{App, Rule, new_app, new_rule, with_rule}
 use Rattle.clap.specs.Simple.{on_top}
 use Rattle.clap.specs.declared.builder.action.ArgAction.TheVariants.{Append}
 use Rattle.rv_words.specs.Uses.{Word, workers_name, nodes_name, turns_name, gen_name, history_name, file_name}

@@ -1,5 +1,5 @@
 -- How the words are read from the left: which options stand in them, with which values, and which words are FILE words.
-use Rattle.std.specs.Prelude.{◌==◌, ◌||◌, if◌then◌else◌, ℕ, Bool, true, false, List, [], ◌∷◌, map, codes, Option, Some, None, is_some, option_map, unwrap_or}
+use Rattle.std.specs.Prelude.{◌==◌, ◌||◌, if◌then◌else◌, ℕ, Bool, List, [], ◌∷◌, map, codes, Option, Some, None, is_some, option_map}
 use Rattle.std.specs.List.{before_first, after_first, list_any}
 use Rattle.std.specs.Str.{bytes_eq}
 

@@ -1,4 +1,4 @@
-use Rattle.std.proofs.Common.{◌≤◌, arith}
+use Rattle.std.proofs.Common.{arith}
 use Rattle.rel_model.specs.Trees.{bottom_height, top_height}
 use Rattle.bench_boole.proofs.measure_all.Goals as goal
 

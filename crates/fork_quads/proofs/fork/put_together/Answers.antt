@@ -1,4 +1,3 @@
-use Rattle.std.proofs.Common.{◌≡◌, ◌<◌, ◌≤◌, ◌^◌, refl, arith}
 use Rattle.memo_laws.specs.Looking.{operator_of}
 use Rattle.fork_quads.proofs.Tiling.{last_few}
 use Rattle.fork_quads.proofs.Joining.{all_hold, all_value, all_found, all_missed, all_keeps, all_keeps-missed, pieces_some, pieces_few}

@@ -1,5 +1,4 @@
-use Rattle.std.proofs.Common.{◌≤◌, ◌+◌, arith}
-use Rattle.rel_model.specs.Quads.{KeepsQuads}
+use Rattle.std.proofs.Common.{arith}
 use Rattle.rel_model.proofs.QuadLaws.{keeps_on, keeps_most}
 use Rattle.memo_laws.specs.Looking.{operator_of}
 use Rattle.fork_quads.proofs.Forking.{keeps_sees, can_seen}

@@ -1,11 +1,8 @@
-use Rattle.std.proofs.Common.{◌≡◌, ◌<◌, ◌≤◌, ◌+◌, ◌-◌, ◌*◌, ℕ, refl, sym, ap, ◌∙◌, arith}
-use Rattle.rel_model.specs.Trees.{bottom_height}
-use Rattle.rel_model.specs.Equations.{side_of}
+use Rattle.std.proofs.Common.{◌+◌, ◌-◌, ◌*◌, refl, sym, ◌∙◌, arith}
 use Rattle.rel_model.proofs.QuadLaws.{quad_stays, is_quad-stays, keeps_on, keeps_most, reads_itself, keeps_itself, counts_on}
 use Rattle.quad_nodes.proofs.Finding.{found_is}
-use Rattle.fork_quads.specs.Forks.{corner_words, last_piece}
-use Rattle.fork_quads.proofs.Tiling.{last-least, last-grows, last-next, hold_four, hold_later, tiled-stay, tiled_corner, gathered_found, north_missed, south_missed, beside_found, east_missed, leaf_value, corners_next, second_west}
-use Rattle.rel_model.specs.Quads.{one_more_miss}
+use Rattle.fork_quads.specs.Forks.{corner_words}
+use Rattle.fork_quads.proofs.Tiling.{last-least, last-grows, last-next, hold_four, hold_later, tiled_corner, gathered_found, north_missed, south_missed, beside_found, east_missed, leaf_value, corners_next, second_west}
 use Rattle.fork_quads.proofs.gather.+gathering.Goals as goal
 
 -- ---- two squares

@@ -1,4 +1,4 @@
-use Rattle.std.proofs.Common.{rules, ◌≡◌, ◌≢◌, ◌<◌, ◌≤◌, ◌+◌, ◌-◌, ap, subst, arith}
+use Rattle.std.proofs.Common.{rules, ◌≡◌, ◌<◌, ◌+◌, ◌-◌, arith}
 use Rattle.fork_quads.specs.Forks.{CanGroup, CanDo, DidPieces}
 use Rattle.fork_quads.proofs.Forking.{group_rest, group_last, both_did, did_all}
 use Rattle.fork_quads.proofs.group.+fn-watched-join_mut+arg3+watched.Goals as goal

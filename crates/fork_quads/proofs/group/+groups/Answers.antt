@@ -1,5 +1,5 @@
-use Rattle.std.proofs.Common.{◌≡◌, ◌≤◌, ◌<◌, ◌+◌, ◌-◌, not, refl, sym, ap, ◌∙◌, arith}
-use Rattle.fork_quads.proofs.Forking.{can_seen, sees_on, keeps_sees, split_did, did_longer, did_all, groups_did, seat_can}
+use Rattle.std.proofs.Common.{◌+◌, ◌-◌, not, refl, sym, ap, ◌∙◌, arith}
+use Rattle.fork_quads.proofs.Forking.{can_seen, keeps_sees, split_did, did_longer, did_all, groups_did, seat_can}
 use Rattle.fork_quads.proofs.group.+groups.Goals as goal
 
 pub group-found-requires : goal.group-found-requires

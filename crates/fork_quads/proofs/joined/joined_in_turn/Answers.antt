@@ -1,6 +1,6 @@
 use Rattle.rel_model.proofs.QuadLaws.{quad_stays, keeps_on, keeps_most}
 use Rattle.fork_quads.proofs.Unions.{union_of_product}
-use Rattle.std.proofs.Common.{◌+◌, ◌-◌, ◌∙◌, ℕ, ap, arith}
+use Rattle.std.proofs.Common.{◌-◌, ◌∙◌, ℕ, ap, arith}
 use Rattle.rel_model.specs.Trees.{bottom_height}
 use Rattle.rel_model.specs.Quads.{quad_room}
 use Rattle.fork_quads.specs.Forks.{fork_words}

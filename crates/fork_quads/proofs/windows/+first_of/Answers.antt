@@ -1,4 +1,4 @@
-use Rattle.std.proofs.Common.{◌≡◌, ◌<◌, ◌≤◌, ◌+◌, ◌^◌, arith}
+use Rattle.std.proofs.Common.{arith}
 use Rattle.fork_quads.proofs.Windowing.{row_sum, col_sum}
 use Rattle.fork_quads.proofs.windows.+first_of.Goals as goal
 

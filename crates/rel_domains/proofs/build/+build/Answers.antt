@@ -1,4 +1,4 @@
-use Rattle.std.proofs.Common.{rules, ◌≡◌, ◌≢◌, ◌<◌, ◌+◌, ◌-◌, ◌^◌, ◌∙◌, length, ap, arith, ◌≤◌, ◌*◌, sym, refl}
+use Rattle.std.proofs.Common.{rules, ◌≡◌, ◌≢◌, ◌<◌, ◌+◌, ◌-◌, ◌^◌, ◌∙◌, length, ap, arith, sym, refl}
 use Rattle.rel_domains.proofs.Places.{cells_step}
 use Rattle.rel_domains.proofs.Fewness.{room_of_parts}
 use Rattle.rel_domains.proofs.Quartering.{four_of, spans, corner_given, leaf_given}

@@ -1,4 +1,4 @@
-use Rattle.std.proofs.Common.{◌≡◌, ◌≢◌, ◌+◌, ◌-◌, ◌^◌, ◌∙◌, ap, arith, rules, ◌<◌, ◌≤◌, ◌*◌, sym, refl}
+use Rattle.std.proofs.Common.{◌≡◌, ◌≢◌, ◌+◌, ◌-◌, ◌^◌, ◌∙◌, ap, arith, rules, sym, refl}
 use Rattle.rel_domains.specs.Rules.{rule_cells}
 use Rattle.rel_domains.proofs.Windows.{square_given, like_first, like_above}
 use Rattle.rel_model.proofs.Workers.{keeps_itself, keeps_trans}

@@ -1,4 +1,4 @@
-use Rattle.std.proofs.Common.{rules, ◌≡◌, ◌+◌, ◌-◌, ◌^◌, ◌∙◌, Some, refl, sym, ap, arith, ◌<◌, ◌≤◌, ◌*◌}
+use Rattle.std.proofs.Common.{rules, ◌≡◌, ◌+◌, ◌-◌, ◌^◌, ◌∙◌, Some, refl, sym, ap, arith}
 use Rattle.rel_model.specs.Choice.{count_below}
 use Rattle.rel_model.specs.Worker.{quad_set}
 use Rattle.rel_domains.specs.Ranks.{first_column}

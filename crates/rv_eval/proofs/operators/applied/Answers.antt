@@ -1,4 +1,4 @@
-use Rattle.std.proofs.Common.{◌≡◌, ◌≤◌, ◌+◌, ◌∙◌, true, sym, ap, arith}
+use Rattle.std.proofs.Common.{◌≤◌, ◌+◌, ◌∙◌, sym, ap, arith}
 use Rattle.lang_model.specs.declared.syntax.Op2.TheVariants.{Or, And, Times, Under, Over}
 use Rattle.lang_model.specs.Types.{known, takes}
 use Rattle.rel_model.specs.Worker.{product_room, derived_room}

@@ -1,4 +1,4 @@
-use Rattle.std.proofs.Common.{◌∙◌, None, sym, ap, refl}
+use Rattle.std.proofs.Common.{◌∙◌, sym, ap, refl}
 use Rattle.std.specs.Option.{option_map}
 use Rattle.run_model.specs.declared.outcome.Outcome.TheVariants.{Ill as ILL}
 use Rattle.lang_model.specs.declared.faults.TypeFault.TheVariants.{Unknown}

@@ -1,4 +1,4 @@
-use Rattle.std.proofs.Common.{◌≡◌, ◌∙◌, [], Some, is_some, inl, inr, sym, ap}
+use Rattle.std.proofs.Common.{◌∙◌, [], Some, is_some, inl, inr, sym, ap}
 use Rattle.lang_model.specs.Checking.{first_fault, items_faults, flaw}
 use Rattle.rv_types.specs.Found.{told}
 use Rattle.rv_types.proofs.checked.find_flaw.Goals as goal

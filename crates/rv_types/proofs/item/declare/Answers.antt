@@ -1,4 +1,4 @@
-use Rattle.std.proofs.Common.{◌≡◌, ◌||◌, ◌∙◌, Bool, true, false, [], refl, ap}
+use Rattle.std.proofs.Common.{◌≡◌, ◌||◌, ◌∙◌, Bool, true, false, refl, ap}
 use Rattle.lang_model.specs.Checking.{among, variables_of, domains_of}
 use Rattle.rv_types.proofs.item.declare.Goals as goal
 

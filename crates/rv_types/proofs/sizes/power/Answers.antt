@@ -1,4 +1,4 @@
-use Rattle.std.proofs.Common.{◌≡◌, ◌<◌, ◌^◌, ◌∙◌, sym, ap, arith}
+use Rattle.std.proofs.Common.{◌<◌, ◌^◌, ◌∙◌, sym, ap, arith}
 use Rattle.lang_model.specs.Types.{computed}
 use Rattle.rv_types.proofs.Computing.{power_over}
 use Rattle.rv_types.proofs.sizes.power.Goals as goal

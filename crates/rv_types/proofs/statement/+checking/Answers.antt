@@ -1,4 +1,4 @@
-use Rattle.std.proofs.Common.{◌≡◌, ◌≤◌, ◌+◌, ◌∙◌, ◌||◌, ◌&&◌, ℕ, List, length, drop, sym, ap, subst, rules}
+use Rattle.std.proofs.Common.{◌≡◌, ◌≤◌, ◌+◌, ◌∙◌, ◌||◌, ◌&&◌, ℕ, List, drop, sym, ap, subst, rules}
 use Rattle.std.specs.Prelude.{IfOk, OnOk}
 use Rattle.lang_model.specs.Checking.{among, faults, faults_of, faults_by, target_faults, assigned_after, assigned_by}
 use Rattle.rv_types.specs.Found.{told, noted}

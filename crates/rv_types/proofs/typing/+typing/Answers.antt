@@ -1,14 +1,14 @@
-use Rattle.std.proofs.Common.{◌≡◌, ◌<◌, ◌≤◌, ◌+◌, ◌-◌, ◌*◌, ◌∙◌, ◌++◌, [], ◌∷◌, length, drop, Some, None, refl, sym, ap, subst, arith, rules}
+use Rattle.std.proofs.Common.{◌≡◌, ◌≤◌, ◌+◌, ◌-◌, ◌∙◌, [], drop, Some, None, refl, sym, ap, subst, rules}
 use Rattle.std.proofs.Math.ListN.{drop_of_length-le}
-use Rattle.lang_model.specs.Types.{Fits, Misfit, typed_link, typed_pair, type_turned_by}
+use Rattle.lang_model.specs.Types.{Fits, typed_pair, type_turned_by}
 use Rattle.lang_model.specs.Shape.{passing, shape, shape_test, types_of_calls, around_types, typed_based, typed_behind, typed_by, set_type}
 use Rattle.rv_types.specs.Defining.{IsDefinition}
-use Rattle.rv_types.specs.Shaping.{types_of, with_arguments, shapes_by, shape_by, Answers}
+use Rattle.rv_types.specs.Shaping.{types_of, shapes_by, shape_by}
 use Rattle.rv_types.specs.Around.{around_of}
 use Rattle.rv_types.proofs.Passing.{goes_on, goes_err, goes_last, goes_not}
-use Rattle.rv_types.proofs.Weights.{weight, weight_of_args, weight_of_links, weight_stmt, weight_by, weight-call, weight-base, weight-chain, weight-while, weight-if, weight_arg, weight_link, weight_one, scale}
+use Rattle.rv_types.proofs.Weights.{weight, weight_of_args, weight_of_links, weight_stmt, weight_by, weight-call, weight-base, weight-chain, weight-while, weight-if, weight_arg, weight_link, weight_one}
 use Rattle.rv_types.proofs.Unfolding.{shape-call, shape-base, shape-chain, behind-while, behind-if, arg_next, link_next, stmt_next}
-use Rattle.rv_types.proofs.Calling.{calls_function, calls_program, calls_missing, not_command, function_falls, program_falls, value_falls}
+use Rattle.rv_types.proofs.Calling.{calls_function, calls_program, calls_missing, function_falls, program_falls, value_falls}
 use Rattle.rv_types.proofs.typing.+typing.Goals as goal
 
 -- ---- calls

@@ -1,4 +1,4 @@
-use Rattle.std.proofs.Common.{rules, arith, ◌≡◌, true}
+use Rattle.std.proofs.Common.{arith, ◌≡◌, true}
 use Rattle.std.proofs.lemmas.Grind.{common_steps}
 use Rattle.rv_words.specs.Said as said
 use Rattle.rv_words.proofs.Digits.{too_large}
