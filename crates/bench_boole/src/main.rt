@@ -1,4 +1,5 @@
-//! How long operators on quads take, cold and again: `bench_boole BITS CELLS`, over two pseudo-random relations of 4096 by 4096 of which one cell in a thousand times CELLS is in each.
+//! How long operators on quads take, cold and again: `bench_boole BITS CELLS`, over two pseudo-random relations of 4096
+//! by 4096 of which one cell in a thousand times CELLS is in each.
 #![tactic(auto)]
 
 ghost use Rattle.std.specs.Prelude.{◌≡◌, ◌<◌, ◌≤◌, ◌+◌, IfOk};
@@ -26,7 +27,8 @@ fn next(state: u64) -> u64 {
         .wrapping_add(1442695040888963407)
 }
 
-/// A block each of whose cells is there by chance, so many times of a thousand, and the number after those that were taken.
+/// A block each of whose cells is there by chance, so many times of a thousand, and the number after those that were
+/// taken.
 fn random_block(seed: u64, chance: u64) -> (u64, u64) {
     let mut state = seed;
     let mut bits: u64 = 0;

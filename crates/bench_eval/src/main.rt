@@ -1,8 +1,8 @@
 //! How long evaluations take, and the engine's calls of them alone: `bench_eval TASK COUNT`.
 //!
-//! The tasks are `turns`, a loop of COUNT turns that complements a relation of one row and one column; `calls`, the same
-//! with a call of a function in each turn, and with an assignment in its place; and `chain`, a union of COUNT operands. Each
-//! line has a name, COUNT and nanoseconds.
+//! The tasks are `turns`, a loop of COUNT turns that complements a relation of one row and one column; `calls`, the
+//! same with a call of a function in each turn, and with an assignment in its place; and `chain`, a union of COUNT
+//! operands. Each line has a name, COUNT and nanoseconds.
 #![tactic(auto)]
 
 mod alone;

@@ -1,6 +1,9 @@
-//! How long relations take to be written as files, to be read back and to be shown: `bench_files BITS TASK HEIGHT PAIRS`, in tables of 2^BITS words, of a relation of 2^HEIGHT rows and columns.
+//! How long relations take to be written as files, to be read back and to be shown: `bench_files BITS TASK HEIGHT
+//! PAIRS`, in tables of 2^BITS words, of a relation of 2^HEIGHT rows and columns.
 //!
-//! Times are of the processor, in nanoseconds, so that what else runs on the machine adds little to them. The tasks are `random`, so many pairs by chance written and read, and `full`, all pairs; `matrix` and `listing` of so many pairs by chance; and `check`, which writes and reads and tells no time.
+//! Times are of the processor, in nanoseconds, so that what else runs on the machine adds little to them. The tasks are
+//! `random`, so many pairs by chance written and read, and `full`, all pairs; `matrix` and `listing` of so many pairs
+//! by chance; and `check`, which writes and reads and tells no time.
 #![tactic(auto)]
 
 mod chance;

@@ -1,6 +1,8 @@
-//! How long forked operators take, at 1, 2 and 4 workers in one run: `bench_forks BITS SIDE PAIRS`, each in a table of its own of 2^BITS words.
+//! How long forked operators take, at 1, 2 and 4 workers in one run: `bench_forks BITS SIDE PAIRS`, each in a table of
+//! its own of 2^BITS words.
 //!
-//! Two relations of SIDE rows and columns have PAIRS pairs each, by chance. Each line has the workers, the operator, the nanoseconds, and how many pairs the answer has.
+//! Two relations of SIDE rows and columns have PAIRS pairs each, by chance. Each line has the workers, the operator,
+//! the nanoseconds, and how many pairs the answer has.
 #![tactic(auto, using(rel_model::proofs::Workers::keeps_stands, rel_model::proofs::Workers::keeps_trans))]
 
 mod pairs;

@@ -1,6 +1,8 @@
 //! How long closures and inclusions take: `bench_kernels BITS TASK SIZE`, each in a table of its own of 2^BITS words.
 //!
-//! The tasks are `random`, `acyclic` and `cycle`, a closure of a graph of SIZE vertices, by quarters and then by squares, and `inclusion`, of the subsets of SIZE elements. Each line has a name, the nanoseconds, and how many pairs the answer has.
+//! The tasks are `random`, `acyclic` and `cycle`, a closure of a graph of SIZE vertices, by quarters and then by
+//! squares, and `inclusion`, of the subsets of SIZE elements. Each line has a name, the nanoseconds, and how many pairs
+//! the answer has.
 #![tactic(auto)]
 
 mod graphs;

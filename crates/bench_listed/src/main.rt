@@ -1,4 +1,5 @@
-//! How long listed relations take: `bench_listed a.rv` reads a script of three REL, builds their relations in one table, unites the last two, and prints how many pairs the first and the union have.
+//! How long listed relations take: `bench_listed a.rv` reads a script of three REL, builds their relations in one
+//! table, unites the last two, and prints how many pairs the first and the union have.
 #![tactic(auto)]
 
 mod listing;

@@ -1,4 +1,5 @@
-//! How long `parse` takes: `bench_parse SHAPE COUNT`, over one chain of so many names, one relation of so many rows, or so many items.
+//! How long `parse` takes: `bench_parse SHAPE COUNT`, over one chain of so many names, one relation of so many rows, or
+//! so many items.
 #![tactic(auto)]
 
 use lang_model::limits::SCRIPT_LIMIT;

@@ -1,6 +1,9 @@
-//! How long compositions of quads take, by rows where that pays and by quarters alone: `bench_products BITS HEIGHT KIND CELLS`.
+//! How long compositions of quads take, by rows where that pays and by quarters alone: `bench_products BITS HEIGHT KIND
+//! CELLS`.
 //!
-//! Both operands are squares of 2^HEIGHT rows. KIND is `random`, with CELLS cells in a row on average, or `cycle`, `less`, `blocks` or `parity`. Each way has a table of its own of 2^BITS words, and prints a line with its name, the nanoseconds, and the name of the product, or 0 where the table was full.
+//! Both operands are squares of 2^HEIGHT rows. KIND is `random`, with CELLS cells in a row on average, or `cycle`,
+//! `less`, `blocks` or `parity`. Each way has a table of its own of 2^BITS words, and prints a line with its name, the
+//! nanoseconds, and the name of the product, or 0 where the table was full.
 #![tactic(auto)]
 
 ghost use Rattle.std.specs.Prelude.{◌≡◌, ◌<◌, ◌≤◌, ◌+◌, IfOk};

@@ -15,9 +15,9 @@ use std::alloc::Global;
 use std::sync::Wait;
 use std::thread::Threads;
 
-/// Runs the scripts that the words name over a shelf and a sink that never fail: where the words are right and the files
-/// are within their limits the scripts run, or memory runs out; and a run for which memory and the table suffice is
-/// complete.
+/// Runs the scripts that the words name over a shelf and a sink that never fail: where the words are right and the
+/// files are within their limits the scripts run, or memory runs out; and a run for which memory and the table suffice
+/// is complete.
 pub fn relview_surely<R: Threads + Wait + Sync>(
     rt: &R,
     alloc: Global,

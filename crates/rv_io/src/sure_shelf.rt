@@ -1,4 +1,5 @@
-//! A shelf that never fails: it keeps what is put in room that was taken before, and tells no files once it does not fit.
+//! A shelf that never fails: it keeps what is put in room that was taken before, and tells no files once it does not
+//! fit.
 ghost use Rattle.std.specs.Prelude.{◌≡◌, ◌≤◌, ◌<◌, ◌+◌, ◌↔◌, ℕ, List, [], Option, Some, None, IsOk, true, false, is_some, length, IfOk, IfSome, IsTrue, OnOk};
 ghost use Rattle.std.specs.Vec.{vec_len, vec_capacity};
 ghost use Rattle.std.specs.Io.{ReadsAtMost};

@@ -8,7 +8,8 @@ ghost use Rattle.rv_io.specs.Sure.{told_unless, lost_after};
 use crate::{Failed, NoMemory, Sink};
 use std::alloc::Global;
 
-/// A sink that takes all bytes. It tells them while those of all writes together fit in its room, and nothing after that.
+/// A sink that takes all bytes. It tells them while those of all writes together fit in its room, and nothing after
+/// that.
 #[derive(Drop)]
 pub struct SureSink {
     written: Vec<u8>,

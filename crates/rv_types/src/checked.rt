@@ -39,7 +39,9 @@ impl Model for Checked {
 
     ghost view = { λ c. c.script };
 
-    ghost invariant = { λ c. (flaw c.script ≡ None) × ((name : List ℕ) → number_beside c.items_by_name name ≡ position_from (defines name) 0 c.script.items.items) };
+    ghost invariant = { λ c. (flaw c.script ≡ None)
+        × ((name : List ℕ) → number_beside c.items_by_name name
+            ≡ position_from (defines name) 0 c.script.items.items) };
 }
 
 /// The first fault of items. Afterwards their definitions stand.

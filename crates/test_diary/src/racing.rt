@@ -83,7 +83,8 @@ fn join_all(book: &TurnBook<Diary>, pass: &mut Pass<Diary>, works: Vec<Work>, to
     }
 }
 
-/// Runs sessions at once, each over its own pass. The log has each session's entries once and in their order, and no others.
+/// Runs sessions at once, each over its own pass. The log has each session's entries once and in their order, and no
+/// others.
 pub fn race<R: Threads + Wait + Sync>(
     rt: &R,
     alloc: Global,

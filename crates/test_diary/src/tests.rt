@@ -1,4 +1,5 @@
-//! Sessions at once, each test within a time of its own, and passes that are joined in another order than they were split.
+//! Sessions at once, each test within a time of its own, and passes that are joined in another order than they were
+//! split.
 ghost use Rattle.std.specs.Prelude.{◌≡◌, ◌≤◌, length};
 ghost use Rattle.turn_book.specs.Views.{IsReady};
 

@@ -143,7 +143,8 @@ fn is_chosen(operation: Operation, r: &Listed, s: &Listed, i: u32, j: u32) -> bo
     }
 }
 
-/// Whether a walk of at least one step leads from one element to another: as many rounds as there are elements, each over all pairs.
+/// Whether a walk of at least one step leads from one element to another: as many rounds as there are elements, each
+/// over all pairs.
 fn is_reached(r: &Listed, i: u32, j: u32) -> bool {
     let mut reached: u64 = 0;
     'rounds: for _ in 0..r.shape.rows {

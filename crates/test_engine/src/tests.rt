@@ -107,7 +107,8 @@ fn counted_out(
     Some(list)
 }
 
-/// Asserts that an operation on two relations gives what its membership clause says of their lists, or fits neither. Whether it fits.
+/// Asserts that an operation on two relations gives what its membership clause says of their lists, or fits neither.
+/// Whether it fits.
 fn agrees<E: Engine>(
     rt: &impl Abort,
     alloc: Global,

@@ -1,6 +1,7 @@
 //! The slow evaluator: the meaning of expressions, statements and calls on lists of pairs.
 //!
-//! Each function has so many steps in one another to take, one less than its caller, and ends the test where none is left.
+//! Each function has so many steps in one another to take, one less than its caller, and ends the test where none is
+//! left.
 ghost use Rattle.std.specs.Prelude.{◌≡◌, ◌+◌};
 
 use crate::listed::{Listed, copy};

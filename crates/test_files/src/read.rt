@@ -45,7 +45,8 @@ pub(crate) fn is_read_as(
     assert!(rt; read == wanted, "{read:?} for {wanted:?} of {bytes:?}");
 }
 
-/// Small files, and the one fault of each: sizes and height, the numbers of bits of both parts, and what is behind them.
+/// Small files, and the one fault of each: sizes and height, the numbers of bits of both parts, and what is behind
+/// them.
 const SMALL_FAULTS: &[([u8; 2], u8, [u8; 2], &[u8], BadFile)] = &[
     ([0, 0], 0, [0, 0], &[], BadFile::Height),
     ([0, 0], 2, [0, 0], &[], BadFile::Height),

@@ -1,6 +1,7 @@
 //! Relation files answered by the ten tests of the format, one after another, over a list of bits.
 //!
-//! It is slow, and goes its own way: the row and the column of a cell come of a climb from its bit up to the whole matrix.
+//! It is slow, and goes its own way: the row and the column of a cell come of a climb from its bit up to the whole
+//! matrix.
 use crate::made::put;
 use run_model::outcome::BadFile;
 use std::alloc::Global;

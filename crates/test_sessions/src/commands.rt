@@ -252,8 +252,8 @@ fn all_refused(
     Ok(wanted)
 }
 
-/// Asserts the refusal of each kind of expression by one command, which reads where it says so. They stand in lines of their
-/// own, one after another, and a last command is done.
+/// Asserts the refusal of each kind of expression by one command, which reads where it says so. They stand in lines of
+/// their own, one after another, and a last command is done.
 fn refuses_expressions<R: Threads + Wait + Abort + Sync>(
     rt: &R,
     alloc: Global,

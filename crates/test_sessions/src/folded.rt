@@ -1,5 +1,5 @@
-//! What sessions say of one name that they share, by the history alone: the history is folded by the rules of the commands,
-//! and each reply follows.
+//! What sessions say of one name that they share, by the history alone: the history is folded by the rules of the
+//! commands, and each reply follows.
 use crate::made::push_history;
 use run_model::event::{Act, Event};
 use std::alloc::{AllocError, Global};
@@ -23,7 +23,8 @@ enum Said {
     Unknown(u32),
 }
 
-/// What an event leaves: the cell that the name has, if it is there; the place of its session; and what its command says.
+/// What an event leaves: the cell that the name has, if it is there; the place of its session; and what its command
+/// says.
 #[derive(Clone, Copy)]
 struct Left {
     cell: Option<bool>,

@@ -22,8 +22,8 @@ use std::test::Fail;
 use std::thread::Threads;
 use turn_book::TurnBook;
 
-/// How many turns the loops of an expression may take, the binary logarithm of the table's node words, and the number of
-/// workers.
+/// How many turns the loops of an expression may take, the binary logarithm of the table's node words, and the number
+/// of workers.
 #[derive(Clone, Copy)]
 pub(crate) struct Options {
     pub(crate) turns: u64,
@@ -31,8 +31,8 @@ pub(crate) struct Options {
     pub(crate) workers: u32,
 }
 
-/// What scripts came to: the outcomes by letters, with a stroke between two sessions; the page; the events; and the files
-/// to be put.
+/// What scripts came to: the outcomes by letters, with a stroke between two sessions; the page; the events; and the
+/// files to be put.
 pub(crate) struct Came {
     pub(crate) outcomes: Vec<u8>,
     pub(crate) page: Vec<u8>,
@@ -385,8 +385,8 @@ fn run_comes_to<R: Threads + Wait + Abort + Sync>(
     assert_came(rt, &came, outcomes, page, saves, script)
 }
 
-/// Asserts what a script comes to, as a session over a book of its own and as a run of one script: its outcomes by letters,
-/// its replies and then its history, and its files.
+/// Asserts what a script comes to, as a session over a book of its own and as a run of one script: its outcomes by
+/// letters, its replies and then its history, and its files.
 pub(crate) fn comes_to<R: Threads + Wait + Abort + Sync>(
     rt: &R,
     alloc: Global,

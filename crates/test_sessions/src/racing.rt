@@ -1,5 +1,5 @@
-//! Sessions at once over one name: each printed cell, each unknown name and each drop beside the fold of the history that the
-//! run tells.
+//! Sessions at once over one name: each printed cell, each unknown name and each drop beside the fold of the history
+//! that the run tells.
 use crate::folded::{command_of, page_by};
 use crate::held::{Holding, Rule};
 use crate::made::{Options, run_at_once};
@@ -34,8 +34,8 @@ fn script_of(alloc: Global, letters: &[u8]) -> Result<Vec<u8>, AllocError> {
     Ok(out)
 }
 
-/// Runs sessions at once through a gate, and asserts that their page is what their history says, and that no command but an unknown name is
-/// refused.
+/// Runs sessions at once through a gate, and asserts that their page is what their history says, and that no command
+/// but an unknown name is refused.
 fn race<R: Threads + Wait + Abort + Sync, G: Gate + Sync>(
     rt: &R,
     alloc: Global,

@@ -1,5 +1,5 @@
-//! Runs whose pages were worked out by hand: loops and their limits, kernels of a cycle, names that are not there, snapshots,
-//! and two sessions that do not meet.
+//! Runs whose pages were worked out by hand: loops and their limits, kernels of a cycle, names that are not there,
+//! snapshots, and two sessions that do not meet.
 use crate::made::{Options, assert_came, comes_to, run_at_once, scripts_of};
 use fork_quads::OpenGate;
 use std::alloc::Global;

@@ -1,4 +1,5 @@
-//! Two sessions at one book, turn by turn: a name that is dropped between the read and the assignment of another session.
+//! Two sessions at one book, turn by turn: a name that is dropped between the read and the assignment of another
+//! session.
 #![tactic(auto, using(rel_model::proofs::Workers::keeps_stands, rel_model::proofs::Workers::keeps_trans, rel_model::proofs::Workers::gives_stands))]
 
 ghost use Rattle.std.specs.Prelude.{◌≡◌};

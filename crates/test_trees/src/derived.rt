@@ -44,7 +44,8 @@ fn has_as_wanted<C: Core>(rt: &impl Abort, core: &mut C, r: Rel, i: u32, j: u32,
     assert!(rt; found == wanted, "at {i}, {j}: {wanted} is wanted");
 }
 
-/// Whether the formula of a call holds of the pair (x, y) as far as the element z goes: that it does for all z, or for some z.
+/// Whether the formula of a call holds of the pair (x, y) as far as the element z goes: that it does for all z, or for
+/// some z.
 fn holds<C: Core>(
     rt: &impl Abort,
     core: &mut C,

@@ -120,8 +120,8 @@ fn deed_of(act: &Act) -> &'static str {
     }
 }
 
-/// The page that a history makes of two scripts that each assign X and print it: what a session printed is what the last
-/// assignment before its own read gave.
+/// The page that a history makes of two scripts that each assign X and print it: what a session printed is what the
+/// last assignment before its own read gave.
 fn page_of(alloc: Global, history: &[Event]) -> Result<String, AllocError> {
     let (mut cell, mut first, mut second) = ('?', '?', '?');
     let mut lines = String::new(alloc);

@@ -120,7 +120,8 @@ pub fn run_script<R: Threads + Wait + Sync>(
     )
 }
 
-/// Runs words over a shelf in memory, with a gate that sees the sessions; gives the report, and the sink that took the page.
+/// Runs words over a shelf in memory, with a gate that sees the sessions; gives the report, and the sink that took the
+/// page.
 fn answer<R: Threads + Wait + Sync, G: Gate + Sync>(
     rt: &R,
     alloc: Global,

@@ -12,8 +12,8 @@ use std::process::Abort;
 const DEFINITIONS: &str =
     "Id(R) = R. Both(R,S) = R*S|S*R. Left(R,S) = R. Third(R,S,K) = Left(Both(K,R),S)&-R. Sec(R,S) DECL D = PROD(R,S) BEG RETURN p-2(D) END. Fst(R,S) DECL D = PROD(R,S) BEG RETURN p-1(D) END. Inl(R,S) DECL D = SUM(R,S) BEG RETURN i-1(D) END. Inr(R,S) DECL D = SUM(R,S) BEG RETURN i-2(D) END. Two(R,S) DECL D = SUM(R,S), C = PROD(S,R) BEG RETURN i-1(D)*i-2(D)^|p-2(C)^*p-1(C) END. Plain(R) BEG RETURN -R END. Pick(R,S) DECL x BEG IF empty(R) THEN x = S ELSE x = R; IF incl(S,R) THEN x = S^ FI FI RETURN x END. Reach(R,V) DECL x, y BEG x = V; y = R^*V&-x; WHILE -empty(y) DO x = x|y; y = R^*y&-x OD RETURN x END. Count(V) DECL p, n BEG p = init(V); n = On1(V); WHILE -empty(p) DO n = next(n)|p; p = next(p) OD RETURN n END. Twice(R) DECL a, b BEG a = R; a = a*a; b = a; WHILE eq(a,R) DO a = O(R); b = -a OD; IF unival(R) THEN FI RETURN a|b END. ";
 
-/// Expressions over A and B of as many rows as columns, P and U of one column more, Q of one row more, vectors V and W, the
-/// empty vector K and the full relation T of one row and one column.
+/// Expressions over A and B of as many rows as columns, P and U of one column more, Q of one row more, vectors V and W,
+/// the empty vector K and the full relation T of one row and one column.
 const EXPRESSIONS: &str = "
 A
 A|B

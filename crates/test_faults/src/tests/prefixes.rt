@@ -1,4 +1,5 @@
-//! Texts that are cut off: no proper part from the left of an item is a script, and its fault stands at the end or in the last word.
+//! Texts that are cut off: no proper part from the left of an item is a script, and its fault stands at the end or in
+//! the last word.
 use crate::fault::refusal;
 use lang_model::faults::ParseFault;
 use lang_model::limits::SCRIPT_LIMIT;
