@@ -70,7 +70,7 @@ impl Kept {
     pub(crate) fn find(&self, name: &str) -> Option<(usize, usize)>
         ensures { MatchOption result (kept_at self.now.bytes.items self.now.places.items name.now ≡ None)
             (λ r. (kept_at self.now.bytes.items self.now.places.items name.now
-                ≡ Some (between self.now.bytes.items r.0 r.1))
+            ≡ Some (between self.now.bytes.items r.0 r.1))
             × (r.0 ≤ r.1) × (r.1 ≤ length self.now.bytes.items)) }
     {
         find_in(self.bytes.as_slice(), self.places.as_slice(), name)

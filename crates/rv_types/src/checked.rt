@@ -41,7 +41,7 @@ impl Model for Checked {
 
     ghost invariant = { λ c. (flaw c.script ≡ None)
         × ((name : List ℕ) → number_beside c.items_by_name name
-            ≡ position_from (defines name) 0 c.script.items.items) };
+        ≡ position_from (defines name) 0 c.script.items.items) };
 }
 
 /// The first fault of items. Afterwards their definitions stand.
