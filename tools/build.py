@@ -211,14 +211,15 @@ class Lanes:
         return True
 
     def begin_ready(self, pool, left, done, running):
-        """Begins as many of the crates that can be begun as there are lanes for. A processor that no crate waits for is given
-        to one that is begun."""
+        """Begins as many of the crates that can be begun as there are lanes for. The processors that no crate waits for are
+        given to the first of them, which has the longest way."""
         ready = self.next(left, done)
+        spare = max(0, len(self.idle) - len(ready))
         while ready and self.idle:
             crate, lane = ready.pop(0), self.idle.pop()
             left.remove(crate)
-            jobs = 1 if len(self.idle) <= len(ready) else 2
-            running[pool.submit(self.prove, crate, lane, jobs)] = crate, lane
+            running[pool.submit(self.prove, crate, lane, 1 + spare)] = crate, lane
+            spare = 0
 
 
 def prove_and_build(program, crates, room, commands, progress):
@@ -230,8 +231,9 @@ def prove_and_build(program, crates, room, commands, progress):
     built = os.path.join(folder, "out", program)
     with contextlib.suppress(FileNotFoundError):
         os.remove(built)
-    # the status is that of the program, which runs once with no words
-    commands.run(["rt", "run"], folder)
+    # nothing else is left to be proved, so all processors are its own; the status is that of the program, which runs once
+    # with no words
+    commands.run(["rt", "run", "--jobs", str(len(lanes.all))], folder)
     if not os.access(built, os.X_OK):
         return False
     progress.one_more()
