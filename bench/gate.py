@@ -154,6 +154,7 @@ def slowest(names):
 
         def prove(name):
             lane = lanes.get()
+            build.stock(lane, crates[name])
             try:
                 return name, times_of(os.path.join(lane, "crates", name))
             finally:

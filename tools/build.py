@@ -145,15 +145,18 @@ def link_or_copy(source, target):
 
 
 def give(library, at, to):
-    """Gives the library of a crate that one copy of the sources has to another, where there is one."""
+    """Gives the library of a crate that one copy of the sources has to another, whole or not at all, where there is one."""
     source, target = (os.path.join(top, "crates", library, "out", "rlib") for top in (at, to))
     if os.path.isdir(source):
+        new = target + ".new"
+        shutil.rmtree(new, ignore_errors=True)
+        shutil.copytree(source, new, copy_function=link_or_copy)
         shutil.rmtree(target, ignore_errors=True)
-        shutil.copytree(source, target, copy_function=link_or_copy)
+        os.rename(new, target)
 
 
 def make_lane(room, number, crates):
-    """A copy of the sources of crates, with the libraries that are there."""
+    """A copy of the sources of crates, with no libraries."""
     lane = os.path.join(room, f"lane{number}")
     os.makedirs(lane)
     shutil.copy2(os.path.join(TOP, "HANDLES"), lane)
@@ -163,8 +166,14 @@ def make_lane(room, number, crates):
         file.writelines(named)
     for crate in crates:
         shutil.copytree(os.path.join(TOP, "crates", crate), os.path.join(lane, "crates", crate), ignore=shutil.ignore_patterns("out", "must-fail"))
-        give(crate, TOP, lane)
     return lane
+
+
+def stock(lane, libraries):
+    """Gives a copy of the sources the libraries that it lacks and the repository has."""
+    for library in libraries:
+        if not os.path.isdir(os.path.join(lane, "crates", library, "out", "rlib")):
+            give(library, TOP, lane)
 
 
 class Lanes:
@@ -179,12 +188,12 @@ class Lanes:
         self.way = ways(crates)
 
     def prove(self, crate, lane, jobs):
-        """Proves a crate in a lane, and gives its library to the others and to the repository; whether it is proved."""
+        """Proves a crate in a lane, and gives its library to the repository, from which other lanes take it; whether it is
+        proved."""
+        stock(lane, [*self.crates[crate], crate])
         if not self.commands.run(["rt", "lib", "--jobs", str(jobs)], os.path.join(lane, "crates", crate)):
             return False
-        for other in [*self.all, TOP]:
-            if other != lane:
-                give(crate, lane, other)
+        give(crate, lane, TOP)
         self.progress.one_more()
         return True
 
@@ -222,22 +231,31 @@ class Lanes:
             spare = 0
 
 
-def prove_and_build(program, crates, room, commands, progress):
-    """Proves the crates below a program, and then builds it, which proves it; whether it is there."""
-    lanes = Lanes(crates, room, commands, progress)
-    if not lanes.prove_all(crates.keys() - {program}):
-        return False
+def build_program(program, jobs, commands):
+    """Builds a program over the libraries of the repository, which proves it; whether it is there."""
     folder = os.path.join(TOP, "crates", program)
     built = os.path.join(folder, "out", program)
     with contextlib.suppress(FileNotFoundError):
         os.remove(built)
-    # nothing else is left to be proved, so all processors are its own; the status is that of the program, which runs once
-    # with no words
-    commands.run(["rt", "run", "--jobs", str(len(lanes.all))], folder)
-    if not os.access(built, os.X_OK):
+    # the status is that of the program, which runs once with no words
+    commands.run(["rt", "run", "--jobs", str(jobs)], folder)
+    return os.access(built, os.X_OK)
+
+
+def prove_and_build(program, crates, room, commands, progress):
+    """Proves the crates below a program, and then builds it; whether it is there."""
+    lanes = Lanes(crates, room, commands, progress)
+    if not lanes.prove_all(crates.keys() - {program}):
         return False
-    progress.one_more()
-    return True
+    # the lanes have some gigabytes, for whose removal nobody is to wait
+    sweep = threading.Thread(target=shutil.rmtree, args=(room,), kwargs={"ignore_errors": True})
+    sweep.start()
+    # nothing else is left to be proved, so all processors are the program's own
+    is_built = build_program(program, len(lanes.all), commands)
+    sweep.join()
+    if is_built:
+        progress.one_more()
+    return is_built
 
 
 def build(program):
@@ -248,7 +266,8 @@ def build(program):
     path = os.path.join(tempfile.mkdtemp(prefix="relview-"), "report")
     progress = Progress(len(crates))
     progress.tell()
-    out = os.path.join(TOP, "crates", program, "out")
+    # in no crate's folder, since `rt` looks through those while the lanes are removed
+    out = os.path.join(TOP, "out")
     os.makedirs(out, exist_ok=True)
     with open(path, "wb", buffering=0) as report, tempfile.TemporaryDirectory(prefix="lanes-", dir=out) as room:
         commands = Commands(report)
@@ -257,6 +276,8 @@ def build(program):
         finally:
             commands.end()
             progress.end()
+    with contextlib.suppress(OSError):
+        os.rmdir(out)
     if is_built:
         return 0
     with open(path, "rb") as report:
