@@ -258,6 +258,19 @@ def prove_and_build(program, crates, room, commands, progress):
     return is_built
 
 
+@contextlib.contextmanager
+def room_for_lanes():
+    """A folder for the lanes, in no crate's folder, since `rt` looks through those while the lanes are removed."""
+    out = os.path.join(TOP, "out")
+    os.makedirs(out, exist_ok=True)
+    try:
+        with tempfile.TemporaryDirectory(prefix="lanes-", dir=out) as room:
+            yield room
+    finally:
+        with contextlib.suppress(OSError):
+            os.rmdir(out)
+
+
 def build(program):
     crates = crates_below(program)
     if not crates:
@@ -266,18 +279,13 @@ def build(program):
     path = os.path.join(tempfile.mkdtemp(prefix="relview-"), "report")
     progress = Progress(len(crates))
     progress.tell()
-    # in no crate's folder, since `rt` looks through those while the lanes are removed
-    out = os.path.join(TOP, "out")
-    os.makedirs(out, exist_ok=True)
-    with open(path, "wb", buffering=0) as report, tempfile.TemporaryDirectory(prefix="lanes-", dir=out) as room:
+    with open(path, "wb", buffering=0) as report, room_for_lanes() as room:
         commands = Commands(report)
         try:
             is_built = prove_and_build(program, crates, room, commands, progress)
         finally:
             commands.end()
             progress.end()
-    with contextlib.suppress(OSError):
-        os.rmdir(out)
     if is_built:
         return 0
     with open(path, "rb") as report:
