@@ -210,7 +210,7 @@ class Lanes:
                 while left or running:
                     self.begin_ready(pool, left, done, running)
                     for it in concurrent.futures.wait(running, return_when=concurrent.futures.FIRST_COMPLETED).done:
-                        crate, lane = running.pop(it)
+                        crate, lane, _ = running.pop(it)
                         self.idle.append(lane)
                         if not it.result():
                             return False
@@ -220,15 +220,16 @@ class Lanes:
         return True
 
     def begin_ready(self, pool, left, done, running):
-        """Begins as many of the crates that can be begun as there are lanes for. The processors that no crate waits for are
-        given to the first of them, which has the longest way."""
+        """Begins as many of the crates that can be begun as there are processors for. Those that no crate waits for are given
+        to the first of them, which has the longest way."""
         ready = self.next(left, done)
-        spare = max(0, len(self.idle) - len(ready))
-        while ready and self.idle:
+        free = len(self.all) - sum(jobs for _, _, jobs in running.values())
+        while ready and free > 0:
             crate, lane = ready.pop(0), self.idle.pop()
+            jobs = max(1, free - len(ready))
             left.remove(crate)
-            running[pool.submit(self.prove, crate, lane, 1 + spare)] = crate, lane
-            spare = 0
+            running[pool.submit(self.prove, crate, lane, jobs)] = crate, lane, jobs
+            free -= jobs
 
 
 def build_program(program, jobs, commands):
