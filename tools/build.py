@@ -5,9 +5,10 @@
 
 Crates that do not stand on each other are proved at once, as many as there are processors, those with the longest way to the
 program first. `rt` lets one command work on a crate and those below it, so each lane has a copy of the sources; a library that
-is proved in one lane is given to all, and to the repository, where the program is built at last. What is done is kept: after
-an interrupt the next call goes on with the crates that are left. Nothing is written to standard output. Exit status 0, or 70
-where a crate was not proved or built, with the end of its report and the name of the file that has the whole of it.
+is proved in one lane is given to the repository, where the other lanes find it and the program is built at last. What is done
+is kept: after an interrupt the next call goes on with the crates that are left. Nothing is written to standard output. Exit
+status 0, or 70 where a crate was not proved or built, with the end of its report and the name of the file that has the whole
+of it.
 """
 import concurrent.futures
 import contextlib
