@@ -154,8 +154,8 @@ def slowest(names):
 
         def prove(name):
             lane = lanes.get()
-            build.stock(lane, crates[name])
             try:
+                build.stock(lane, crates[name])
                 return name, times_of(os.path.join(lane, "crates", name))
             finally:
                 lanes.put(lane)

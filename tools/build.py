@@ -149,11 +149,15 @@ def give(library, at, to):
     """Gives the library of a crate that one copy of the sources has to another, whole or not at all, where there is one."""
     source, target = (os.path.join(top, "crates", library, "out", "rlib") for top in (at, to))
     if os.path.isdir(source):
-        new = target + ".new"
+        new, old = target + ".new", target + ".old"
         shutil.rmtree(new, ignore_errors=True)
+        shutil.rmtree(old, ignore_errors=True)
         shutil.copytree(source, new, copy_function=link_or_copy)
-        shutil.rmtree(target, ignore_errors=True)
+        # a folder of which a part is removed would still have its stamp
+        with contextlib.suppress(FileNotFoundError):
+            os.rename(target, old)
         os.rename(new, target)
+        shutil.rmtree(old, ignore_errors=True)
 
 
 def make_lane(room, number, crates):
@@ -297,6 +301,10 @@ def build(program):
 
 
 if __name__ == "__main__":
+    # a terminal that is closed interrupts too, so that no lanes are left and nothing runs on
+    for ending in (signal.SIGTERM, signal.SIGHUP):
+        if signal.getsignal(ending) is signal.SIG_DFL:
+            signal.signal(ending, signal.default_int_handler)
     try:
         sys.exit(build(sys.argv[1] if len(sys.argv) > 1 else "relview"))
     except KeyboardInterrupt:
