@@ -139,17 +139,17 @@ from_identity n i j a e = from_test n n n n _ refl refl i j a (subst (λ (x : �
 
 -- ---- residuals
 -- where the first holds, the second does
-implied : (a b : Bool) → (a && not b) ≡ false → a ≡ true → b ≡ true
+pub implied : (a b : Bool) → (a && not b) ≡ false → a ≡ true → b ≡ true
 implied true true e h = refl
 implied true false e h = absurd (false≢true (sym e))
 implied false b e h = absurd (false≢true h)
 
-none_but : (a b : Bool) → (a ≡ true → b ≡ true) → (a && not b) ≡ false
+pub none_but : (a b : Bool) → (a ≡ true → b ≡ true) → (a && not b) ≡ false
 none_but true b f = ap not (f refl)
 none_but false b f = refl
 
 -- that no number passes
-none_at : (n : ℕ) (t : ℕ → Bool) → not (some_below n t) ≡ true → (k : ℕ) → k < n → t k ≡ false
+pub none_at : (n : ℕ) (t : ℕ → Bool) → not (some_below n t) ≡ true → (k : ℕ) → k < n → t k ≡ false
 none_at n t h k l = not_true (t k) (λ g. false≢true (sym (not-true (some_below n t) h) ∙ some_from n t k l g))
 
 pub type-right : (m n p : ℕ) (r s : Relation) → HasType m n r → HasType m p s → HasType n p (right_residual r s)
@@ -181,13 +181,13 @@ unfolding left_residual
 from_left m n p r s t u i j a b f = from_test s.rows r.rows m n _ u.row_size t.row_size i j a b (not_from_false _ (some_none s.cols _ (λ k l. none_but (has r j k) (has s i k) (f k))))
 
 -- ---- the symmetric quotient
-alike : (a b : Bool) → differ a b ≡ false → a ≡ b
+pub alike : (a b : Bool) → differ a b ≡ false → a ≡ b
 alike true true e = refl
 alike true false e = absurd (false≢true (sym e))
 alike false true e = absurd (false≢true (sym e))
 alike false false e = refl
 
-none_differ : (a b : Bool) → a ≡ b → differ a b ≡ false
+pub none_differ : (a b : Bool) → a ≡ b → differ a b ≡ false
 none_differ true b e = ap (λ x. differ true x) (sym e)
 none_differ false b e = ap (λ x. differ false x) (sym e)
 

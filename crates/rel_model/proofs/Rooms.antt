@@ -3,7 +3,7 @@ use Rattle.std.proofs.Common.{◌≡◌, ◌<◌, ◌≤◌, ◌+◌, ◌-◌, �
 use Rattle.std.proofs.Math.Nat.{pow-suc, one-le-pow, pow-le-pow_left, pow-le-pow_right, mul-le-mul_right, mul-le-mul, mul_assoc}
 use Rattle.rel_model.specs.Trees.{bottom_height}
 use Rattle.rel_model.specs.Quads.{quad_room, composed_words, compose_room}
-use Rattle.rel_model.specs.Worker.{height_of, operator_room, height_of_three, product_room, derived_room, wide_room}
+use Rattle.rel_model.specs.Worker.{height_of, operator_room, height_of_three, plain_room, product_room, derived_room, bounds_room, wide_room, extremes_room, classes_room}
 
 -- the height of a tree that is as high as a number m, and at least that of a block
 tree-power : (b m : ℕ) → 1 ≤ b → b ^ (max bottom_height m - bottom_height) ≤ b ^ m
@@ -85,3 +85,36 @@ unfolding wide_room derived_room
 wide_room-four k m n =
     let h : ℕ = height_of_three k m n in
     ap (λ (x : ℕ). x * 8 ^ h) (let e : 256 * (h + 1) ≡ 4 * (64 * (h + 1)) = omega arith in e) ∙ mul_assoc 4 (64 * (h + 1)) (8 ^ h)
+
+-- two operators of one type
+pub plain_room-two : (rows cols : ℕ) → operator_room rows cols + operator_room rows cols ≡ plain_room rows cols
+unfolding operator_room plain_room
+plain_room-two rows cols = omega arith
+
+-- an operator, and one on a single cell
+pub plain_room-cell : (rows cols : ℕ) → operator_room rows cols + operator_room 1 1 ≤ plain_room rows cols
+unfolding operator_room plain_room height_of
+plain_room-cell rows cols = let p = one-le-pow (max (height_of rows) (height_of cols)) 4 (omega arith) in omega (arith, p)
+
+-- a call that is made of compositions, on no greater sizes, has the room of one that is made of several
+pub wide_room-derived : (a b c k m n : ℕ) → height_of a ≤ height_of_three k m n → height_of b ≤ height_of_three k m n → height_of c ≤ height_of_three k m n → derived_room a b c ≤ wide_room k m n
+wide_room-derived a b c k m n x y z = let p = derived_room-most a b c k m n x y z in let q = wide_room-four k m n in omega (arith, p, q)
+
+-- rooms of orders and classes by that of one derived call
+pub bounds_room-two : (k m n : ℕ) → bounds_room k m n ≡ 2 * derived_room k m n
+unfolding bounds_room derived_room
+bounds_room-two k m n =
+    let h : ℕ = height_of_three k m n in
+    ap (λ (x : ℕ). x * 8 ^ h) (let e : 128 * (h + 1) ≡ 2 * (64 * (h + 1)) = omega arith in e) ∙ mul_assoc 2 (64 * (h + 1)) (8 ^ h)
+
+pub extremes_room-eight : (k m n : ℕ) → extremes_room k m n ≡ 8 * derived_room k m n
+unfolding extremes_room derived_room
+extremes_room-eight k m n =
+    let h : ℕ = height_of_three k m n in
+    ap (λ (x : ℕ). x * 8 ^ h) (let e : 512 * (h + 1) ≡ 8 * (64 * (h + 1)) = omega arith in e) ∙ mul_assoc 8 (64 * (h + 1)) (8 ^ h)
+
+pub classes_room-sixteen : (k m n : ℕ) → classes_room k m n ≡ 16 * derived_room k m n
+unfolding classes_room derived_room
+classes_room-sixteen k m n =
+    let h : ℕ = height_of_three k m n in
+    ap (λ (x : ℕ). x * 8 ^ h) (let e : 1024 * (h + 1) ≡ 16 * (64 * (h + 1)) = omega arith in e) ∙ mul_assoc 16 (64 * (h + 1)) (8 ^ h)

@@ -1,8 +1,9 @@
 -- The laws of the algebra of relations, for all relations of fitting types (Schmidt and Ströhlein, Relations and
 -- Graphs; Schröder and Dedekind for those that bear their names).
-use Rattle.std.specs.Prelude.{◌≡◌, ◌<◌, ◌↔◌, ℕ, true}
+use Rattle.std.specs.Prelude.{◌≡◌, ◌<◌, ◌↔◌, ◌+◌, ℕ, true}
 use Rattle.rel_model.specs.Relation.{Relation, IsRelation, has}
-use Rattle.rel_model.specs.Operators.{union, inter, complement, transpose, compose, right_residual, left_residual, symmetric_quotient, identity}
+use Rattle.rel_model.specs.Operators.{union, inter, complement, transpose, transposed_by, compose, right_residual}
+use Rattle.rel_model.specs.Operators.{left_residual, symmetric_quotient, identity}
 use Rattle.rel_model.specs.Closures.{transitive_closure, reflexive_closure, IsWithin, AreJoined}
 
 -- a relation from a domain of m to one of n elements
@@ -22,6 +23,30 @@ pub record TransposeLaws : Type 0 where
   pub compose : (m n p : ℕ) (r s : Relation) → HasType m n r → HasType n p s
       → transpose (compose r s) ≡ compose (transpose s) (transpose r)
   pub within : (m n : ℕ) (r s : Relation) → HasType m n s → IsWithin r s → IsWithin (transpose r) (transpose s)
+
+-- so many transpositions are none where they are even, and one where they are odd; and more after them add up
+pub record TurnLaws : Type 0 where
+  pub even : (k : ℕ) (r : Relation) → IsRelation r → transposed_by (k + k) r ≡ r
+  pub odd : (k : ℕ) (r : Relation) → IsRelation r → transposed_by (k + k + 1) r ≡ transpose r
+  pub more : (k l : ℕ) (r : Relation) → transposed_by k (transposed_by l r) ≡ transposed_by (k + l) r
+
+-- the complement of a complement is the relation, and complements go out of unions and intersections (De Morgan)
+pub record ComplementLaws : Type 0 where
+  pub twice : (r : Relation) → IsRelation r → complement (complement r) ≡ r
+  pub of_union : (m n : ℕ) (r s : Relation) → HasType m n r → HasType m n s
+      → union (complement r) (complement s) ≡ complement (inter r s)
+  pub of_inter : (m n : ℕ) (r s : Relation) → HasType m n r → HasType m n s
+      → inter (complement r) (complement s) ≡ complement (union r s)
+
+-- an operand of a union that stands before changes nothing, nor does one of an intersection: each operand lies within
+-- a union, and each intersection within its operands
+pub record RepeatLaws : Type 0 where
+  pub of_union : (m n : ℕ) (r s : Relation) → HasType m n r → HasType m n s → IsWithin s r → union r s ≡ r
+  pub of_inter : (m n : ℕ) (r s : Relation) → HasType m n r → HasType m n s → IsWithin r s → inter r s ≡ r
+  pub left_of_union : (m n : ℕ) (r s : Relation) → HasType m n r → HasType m n s → IsWithin r (union r s)
+  pub right_of_union : (m n : ℕ) (r s : Relation) → HasType m n r → HasType m n s → IsWithin s (union r s)
+  pub left_of_inter : (m n : ℕ) (r s : Relation) → HasType m n r → HasType m n s → IsWithin (inter r s) r
+  pub right_of_inter : (m n : ℕ) (r s : Relation) → HasType m n r → HasType m n s → IsWithin (inter r s) s
 
 -- composition is associative, has the identities, and goes into unions from both sides
 pub record ComposeLaws : Type 0 where

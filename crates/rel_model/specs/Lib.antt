@@ -11,8 +11,10 @@ pub mod Closures
 pub mod Laws
 pub mod Algebra
 pub mod Choice
+pub mod Orders
 pub mod Domains
 pub mod Quads
 pub mod Roots
 pub mod Quarters
 pub mod Listed
+pub mod Uses
