@@ -10,7 +10,7 @@ use Rattle.rel_model.specs.Operators.{empty, full, identity, symmetric_quotient}
 use Rattle.rel_model.specs.Choice.{point, atom, init, next, dom, ran, inj}
 use Rattle.rel_model.specs.Closures.{transitive_closure, reflexive_closure, walks_within}
 use Rattle.rel_model.specs.Domains.{first_projection, second_projection, left_injection, right_injection, membership, pairing}
-use Rattle.rel_model.specs.Worker.{wide_room}
+use Rattle.lang_model.specs.Rooms.{wide_cost}
 use Rattle.lang_model.specs.State.{State}
 use Rattle.lang_model.specs.Missing.{first_of_both}
 use Rattle.lang_model.specs.Types.{known}
@@ -138,10 +138,10 @@ unfolding paired pairing
 paired-agree at t u r q n h k = by (agree t.rows u.rows) (r.rows == q.rows) refl
   where
     by : (b c : Bool) → (r.rows == q.rows) ≡ c → Agree Describes (cond b (Fits (type_of (first_of_both t.rows u.rows) (computed_of_two (λ m p. m * p) t.cols u.cols))) (Misfit (Mismatch at (codes "[") t u)))
-        (with_turns (fitting (cond c (Fits (type_of (Some r.rows) (computed_of_two (λ m p. m * p) (Some r.cols) (Some q.cols)))) (Misfit (Mismatch at (codes "[") (sizes r) (sizes q)))) (limited at (r.cols * q.cols) (Makes (pairing r q) (λ leaf. wide_room r.rows (max r.cols q.cols) (r.cols * q.cols))))) n).answer
+        (with_turns (fitting (cond c (Fits (type_of (Some r.rows) (computed_of_two (λ m p. m * p) (Some r.cols) (Some q.cols)))) (Misfit (Mismatch at (codes "[") (sizes r) (sizes q)))) (limited at (r.cols * q.cols) (Makes (pairing r q) (wide_cost r.rows (max r.cols q.cols) (r.cols * q.cols))))) n).answer
     by false c e = tt
     by true false e = tt
-    by true true e = limited-agree _ (pairing r q) at (r.cols * q.cols) (λ leaf. wide_room r.rows (max r.cols q.cols) (r.cols * q.cols)) n (describes_test _ _ r.rows (r.cols * q.cols) _ (known_of t.rows u.rows r.rows q.rows h.row_size k.row_size (one_fits r.rows q.rows e)) (computed-size-of_two (λ m p. m * p) t.cols u.cols r.cols q.cols h.col_size k.col_size))
+    by true true e = limited-agree _ (pairing r q) at (r.cols * q.cols) (wide_cost r.rows (max r.cols q.cols) (r.cols * q.cols)) n (describes_test _ _ r.rows (r.cols * q.cols) _ (known_of t.rows u.rows r.rows q.rows h.row_size k.row_size (one_fits r.rows q.rows e)) (computed-size-of_two (λ m p. m * p) t.cols u.cols r.cols q.cols h.col_size k.col_size))
 
 module _ (at : Place) (a b : Option ℕ) (x y : ℕ) (h : IsSize a x) (k : IsSize b y) (n : ℕ) where
   domain-agree : (base : Base) → Agree Describes (Fits (type_of_domain base a b)) (with_turns (domain_made at base x y) n).answer

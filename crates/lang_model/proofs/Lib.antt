@@ -3,3 +3,11 @@ pub mod Sizes
 pub mod Sounding
 pub mod Bases
 pub mod Soundness
+pub mod Values
+pub mod Ruling
+pub mod Repeats
+pub mod Lighter
+pub mod Stepping
+pub mod Using
+pub mod RewriteExamples
+pub mod Blocking

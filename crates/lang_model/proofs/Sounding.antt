@@ -45,12 +45,12 @@ then_agree D Q (Fits s) (Got r n) f g h k = k s r n h
 then_agree D Q (Fits s) (Not why) f g h k = agree_not Q (f s) why
 then_agree D Q (Misfit e) a f g h k = tt
 
-record Passes {A B : Type 0} (x : Passed A) (f : A → Passed B) (y : B) : Type 0 where
+pub record Passes {A B : Type 0} (x : Passed A) (f : A → Passed B) (y : B) : Type 0 where
   pub through : A
   pub first : x ≡ Fits through
   pub then : f through ≡ Fits y
 
-passes : {A B : Type 0} (x : Passed A) (f : A → Passed B) (y : B) → passing x f ≡ Fits y → Passes x f y
+pub passes : {A B : Type 0} (x : Passed A) (f : A → Passed B) (y : B) → passing x f ≡ Fits y → Passes x f y
 passes (Fits s) f y e = record { through = s; first = refl; then = e }
 passes (Misfit w) f y e = absurd (let d : Misfit w ≡ Fits y = e in cc)
 
@@ -194,7 +194,7 @@ extends_self T name s e = e
 extends_trans : (T U V : Types) → Extends T U → Extends U V → Extends T V
 extends_trans T U V x y name s e = y name s (x name s e)
 
-fits_same : {A : Type 0} {x y : A} → Fits x ≡ Fits y → x ≡ y
+pub fits_same : {A : Type 0} {x y : A} → Fits x ≡ Fits y → x ≡ y
 fits_same e = cc
 
 set-grows : (at : Place) (name : List ℕ) (s : StaticShape) (T T1 : Types) (o : Option StaticShape) → T name ≡ o → set_type at name s T o ≡ Fits T1 → Extends T T1

@@ -1,10 +1,12 @@
 pub mod Limits
 pub mod Tokens
 pub mod Taken
+pub mod Trees
 pub mod Lexed
 pub mod Spelling
 pub mod Stop
 pub mod Printing
+pub mod Rewriting
 pub mod Checking
 pub mod State
 pub mod Missing
@@ -15,5 +17,7 @@ pub mod Rooms
 pub mod Mean
 pub mod Shape
 pub mod Eval
+pub mod Calm
+pub mod Blocks
 pub mod Laws
 pub mod Sound

@@ -24,3 +24,7 @@ more_limit = 15
 -- the greatest rank of a definition
 abbrev pub rank_limit : ℕ
 rank_limit = 16
+
+-- how many operands a chain has at most of which those that stand twice are looked for
+abbrev pub compared_limit : ℕ
+compared_limit = 64

@@ -1,13 +1,15 @@
 -- The meaning of expressions, statements and calls of definitions on a state: a value and the turns that are left, or
 -- the first refusal, and how many nodes may be made on the way there. It recurses on how deep calls may stand in one
--- another, on the text, and on the turns of each loop.
+-- another, on the text, and on the turns of each loop. Expressions mean what their trees mean.
 use Rattle.std.specs.Prelude.{◌==◌, ◌&&◌, ◌+◌, ◌-◌, ◌*◌, ◌^◌, not, nat_lt, min, max, cond, zero, suc, ℕ, Bool, List, [], ◌∷◌, ◌++◌, length, Option, Some, None}
 use Rattle.lang_model.specs.declared.syntax.Place.{Place}
 use Rattle.lang_model.specs.declared.syntax.Op2.{Op2}
 use Rattle.lang_model.specs.declared.syntax.Op2.TheVariants.{Or, And, Times, Under, Over}
 use Rattle.lang_model.specs.declared.syntax.Base.{Base}
-use Rattle.lang_model.specs.declared.syntax.Base.TheVariants.{L, O, I, Ln1, On1, L1n, O1n, Dom, Ran, Trans, Refl, Epsi, Point, Atom, Init, Next, Inj, Empty, Unival, Syq, Eq, Incl, P1, P2, I1}
-use Rattle.lang_model.specs.declared.syntax.Expr.{Expr, Ref, Call', Base', Inject, Pair', Minus', Turned', Chain', Row_of-Expr, end_of-Expr, more_of-Expr, Row_of-Link, end_of-Link, more_of-Link}
+use Rattle.lang_model.specs.declared.syntax.Base.TheVariants.{L, O, I, Ln1, On1, L1n, O1n, Dom, Ran, Trans, Refl, Epsi}
+use Rattle.lang_model.specs.declared.syntax.Base.TheVariants.{Point, Atom, Init, Next, Inj, Empty, Unival, Syq, Eq}
+use Rattle.lang_model.specs.declared.syntax.Base.TheVariants.{Incl, P1, P2, I1}
+use Rattle.lang_model.specs.declared.syntax.Expr.{Expr, Row_of-Expr, Row_of-Link}
 use Rattle.lang_model.specs.declared.syntax.Link.{Link}
 use Rattle.lang_model.specs.declared.syntax.Stmt.{Stmt, Set, While', If', Row_of-Stmt, end_of-Stmt, more_of-Stmt}
 use Rattle.lang_model.specs.declared.syntax.Decl.{Decl}
@@ -22,13 +24,15 @@ use Rattle.rel_model.specs.Operators.{empty, full, union, inter, complement, tra
 use Rattle.rel_model.specs.Choice.{point, atom, init, next, dom, ran, is_unival, inj}
 use Rattle.rel_model.specs.Closures.{transitive_closure, reflexive_closure}
 use Rattle.rel_model.specs.Domains.{first_projection, second_projection, left_injection, right_injection, membership, pairing}
-use Rattle.rel_model.specs.Worker.{derived_room, wide_room}
+use Rattle.lang_model.specs.Trees.{Tree, NameTree, CallTree, BaseTree, InjectTree, PairTree, MinusTree, TurnedTree}
+use Rattle.lang_model.specs.Trees.{ChainTree, Trees, NoTree, MoreTrees, Branches, NoBranch, MoreBranches, tree_of}
+use Rattle.lang_model.specs.Trees.{trees_of, branches_of}
 use Rattle.lang_model.specs.State.{State, nothing, assigned}
 use Rattle.lang_model.specs.Checking.{domain_operator_text}
 use Rattle.lang_model.specs.Limits.{rank_limit}
 use Rattle.lang_model.specs.Tokens.{same_text}
 use Rattle.lang_model.specs.Defining.{defines}
-use Rattle.lang_model.specs.Rooms.{tree_cost, link_cost}
+use Rattle.lang_model.specs.Rooms.{plain_cost, wide_cost, link_cost}
 use Rattle.lang_model.specs.Outcomes.{Ill, Size, Turns, no_cost, Came, got, refused, and_then, Operation, Makes, Refuses, with_turns}
 use Rattle.lang_model.specs.Types.{Typed, Fits, Misfit, sizes, typed_link, typed_pair, typed_base, typed_base_of_two, typed_test}
 
@@ -54,20 +58,19 @@ limited at wanted made = cond (nat_lt size_limit wanted) (Refuses (Size at (min 
 unfoldable pub linked : Place → Op2 → Relation → Relation → Operation
 linked at op r s = fitting (typed_link at op (sizes r) (sizes s)) (Makes (result_of_both op r s) (link_cost op r s))
 
--- the complement: the full relation and a difference
+-- the complement
 unfoldable pub complemented : Relation → Operation
-complemented r = Makes (complement r) (λ leaf. tree_cost r.rows r.cols leaf + tree_cost r.rows r.cols leaf)
+complemented r = Makes (complement r) (plain_cost r.rows r.cols)
 
--- so many transpositions, of which one at most is made
+-- so many transpositions
 unfoldable pub turned : ℕ → Relation → Operation
-turned times r = Makes (transposed_by times r) (tree_cost r.rows r.cols)
+turned times r = Makes (transposed_by times r) (plain_cost r.rows r.cols)
 
 -- the pairing
 unfoldable pub paired : Place → Relation → Relation → Operation
 paired at r s =
     fitting (typed_pair at (sizes r) (sizes s))
-    (limited at (r.cols * s.cols) (Makes (pairing r s)
-    (λ leaf. wide_room r.rows (max r.cols s.cols) (r.cols * s.cols))))
+    (limited at (r.cols * s.cols) (Makes (pairing r s) (wide_cost r.rows (max r.cols s.cols) (r.cols * s.cols))))
 
 -- a relation of one row and one column, full for yes
 unfoldable pub answer_of_test : Bool → Relation
@@ -83,25 +86,25 @@ is_empty r = not (some_below r.rows (λ i. some_below r.cols (λ j. has r i j)))
 
 -- the value and the cost of a base call of one operand that fits; no text spells such a call of any other base name
 abbrev pub base_made : Base → Relation → Operation
-base_made L r = Makes (full r.rows r.cols) (tree_cost r.rows r.cols)
-base_made O r = Makes (empty r.rows r.cols) no_cost
-base_made I r = Makes (identity r.rows) (tree_cost r.rows r.rows)
-base_made Ln1 r = Makes (full r.rows 1) (tree_cost r.rows 1)
-base_made On1 r = Makes (empty r.rows 1) no_cost
-base_made L1n r = Makes (full 1 r.cols) (tree_cost 1 r.cols)
-base_made O1n r = Makes (empty 1 r.cols) no_cost
-base_made Dom r = Makes (dom r) (λ leaf. derived_room r.rows r.cols 1)
-base_made Ran r = Makes (ran r) (λ leaf. derived_room r.rows r.cols 1)
-base_made Trans r = Makes (transitive_closure r) (λ leaf. derived_room r.rows r.rows r.rows)
-base_made Refl r = Makes (reflexive_closure r) (λ leaf. wide_room r.rows r.rows r.rows)
-base_made Epsi r = Makes (membership r.rows) (tree_cost r.rows (2 ^ r.rows))
-base_made Point r = Makes (point r) (λ leaf. derived_room r.rows 1 1)
-base_made Atom r = Makes (atom r) (λ leaf. derived_room r.rows r.cols 1)
-base_made Init r = Makes (init r) (λ leaf. derived_room r.rows 1 1)
-base_made Next r = Makes (next r) (λ leaf. derived_room r.rows 1 1)
-base_made Inj r = Makes (inj r) (tree_cost r.rows r.cols)
-base_made Empty r = Makes (answer_of_test (is_empty r)) (tree_cost 1 1)
-base_made Unival r = Makes (answer_of_test (is_unival r)) (tree_cost 1 1)
+base_made L r = Makes (full r.rows r.cols) (plain_cost r.rows r.cols)
+base_made O r = Makes (empty r.rows r.cols) (plain_cost r.rows r.cols)
+base_made I r = Makes (identity r.rows) (wide_cost r.rows r.rows r.rows)
+base_made Ln1 r = Makes (full r.rows 1) (plain_cost r.rows r.cols)
+base_made On1 r = Makes (empty r.rows 1) (plain_cost r.rows r.cols)
+base_made L1n r = Makes (full 1 r.cols) (plain_cost r.rows r.cols)
+base_made O1n r = Makes (empty 1 r.cols) (plain_cost r.rows r.cols)
+base_made Dom r = Makes (dom r) (wide_cost r.rows r.cols 1)
+base_made Ran r = Makes (ran r) (wide_cost r.rows r.cols 1)
+base_made Trans r = Makes (transitive_closure r) (wide_cost r.rows r.rows r.rows)
+base_made Refl r = Makes (reflexive_closure r) (wide_cost r.rows r.rows r.rows)
+base_made Epsi r = Makes (membership r.rows) (wide_cost r.rows r.cols (2 ^ r.rows))
+base_made Point r = Makes (point r) (wide_cost r.rows r.cols 1)
+base_made Atom r = Makes (atom r) (wide_cost r.rows r.cols 1)
+base_made Init r = Makes (init r) (wide_cost r.rows r.cols 1)
+base_made Next r = Makes (next r) (wide_cost r.rows r.cols 1)
+base_made Inj r = Makes (inj r) (wide_cost r.rows r.cols 1)
+base_made Empty r = Makes (answer_of_test (is_empty r)) (plain_cost r.rows r.cols)
+base_made Unival r = Makes (answer_of_test (is_unival r)) (plain_cost r.rows r.cols)
 base_made _ r = Makes (empty 0 0) no_cost
 
 -- the size that a base call of one operand computes: that of a power set, and all others compute none
@@ -111,10 +114,9 @@ base_wants _ r = 0
 
 -- those of two operands; no text spells such a call of any other base name
 abbrev pub base_made_of_two : Base → Relation → Relation → Operation
-base_made_of_two Syq r s = Makes (symmetric_quotient r s) (λ leaf. wide_room r.rows r.cols s.cols)
-base_made_of_two Eq r s = Makes (answer_of_test (is_within r s && is_within s r)) (tree_cost 1 1)
-base_made_of_two Incl r s = Makes (answer_of_test (is_within r s))
-    (λ leaf. tree_cost r.rows r.cols leaf + tree_cost 1 1 leaf)
+base_made_of_two Syq r s = Makes (symmetric_quotient r s) (wide_cost r.rows r.cols s.cols)
+base_made_of_two Eq r s = Makes (answer_of_test (is_within r s && is_within s r)) (plain_cost r.rows r.cols)
+base_made_of_two Incl r s = Makes (answer_of_test (is_within r s)) (plain_cost r.rows r.cols)
 base_made_of_two _ r s = Makes (empty 0 0) no_cost
 
 -- a base call of these operands; no text spells one of none or of more than two
@@ -126,10 +128,10 @@ based at base (r ∷ s ∷ t ∷ ts) = Makes (empty 0 0) no_cost
 
 -- a domain operator of domains of x and of y elements: the last line is that of i-2, and no text spells any other
 abbrev pub domain_made : Place → Base → ℕ → ℕ → Operation
-domain_made at P1 x y = limited at (x * y) (Makes (first_projection x y) (tree_cost (x * y) x))
-domain_made at P2 x y = limited at (x * y) (Makes (second_projection x y) (tree_cost (x * y) y))
-domain_made at I1 x y = limited at (x + y) (Makes (left_injection x y) (tree_cost x (x + y)))
-domain_made at _ x y = limited at (x + y) (Makes (right_injection x y) (tree_cost y (x + y)))
+domain_made at P1 x y = limited at (x * y) (Makes (first_projection x y) (wide_cost x y (x * y)))
+domain_made at P2 x y = limited at (x * y) (Makes (second_projection x y) (wide_cost x y (x * y)))
+domain_made at I1 x y = limited at (x + y) (Makes (left_injection x y) (wide_cost x y (x + y)))
+domain_made at _ x y = limited at (x + y) (Makes (right_injection x y) (wide_cost x y (x + y)))
 
 -- the two names of a declared domain
 abbrev pub domain_named : List Decl → List ℕ → Option (List ℕ × List ℕ)
@@ -176,37 +178,51 @@ pub record Around : Type 0 where
 abbrev pub around_with : Calls → List Decl → Around
 around_with calls decls = record { calls = calls; decls = decls }
 
--- the meaning of an expression, with so many turns left: operands from the left, and then the operator
+-- the meaning of a tree, with so many turns left: operands from the left, and then the operator
 abbrev mutual
   -- that of an expression
-  pub mean : Around → State → Expr → ℕ → Came Relation
-  mean around state (Ref at name) n = with_turns (named at name (state name)) n
-  mean around state (Call' at name shape args) n =
-      and_then (means around state [] args n) (λ values m. around.calls at name values m)
-  mean around state (Base' at base shape args) n =
-      and_then (means around state [] args n) (λ values m. with_turns (based at base values) m)
-  mean around state (Inject at base domain) n =
+  pub mean_tree : Around → State → Tree → ℕ → Came Relation
+  mean_tree around state (NameTree at name) n = with_turns (named at name (state name)) n
+  mean_tree around state (CallTree at name args) n =
+      and_then (mean_trees around state [] args n) (λ values m. around.calls at name values m)
+  mean_tree around state (BaseTree at base args) n =
+      and_then (mean_trees around state [] args n) (λ values m. with_turns (based at base values) m)
+  mean_tree around state (InjectTree at base domain) n =
       with_turns (injected_by state at base (domain_named around.decls domain)) n
-  mean around state (Pair' at p left q right) n =
-      and_then (mean around state left n)
-      (λ r m. and_then (mean around state right m) (λ s k. with_turns (paired at r s) k))
-  mean around state (Minus' at p of) n = and_then (mean around state of n) (λ r m. with_turns (complemented r) m)
-  mean around state (Turned' at p of times) n = and_then (mean around state of n) (λ r m. with_turns (turned times r) m)
-  mean around state (Chain' p first shape rest) n =
-      and_then (mean around state first n) (λ r m. mean_along around state r rest m)
+  mean_tree around state (PairTree at left right) n =
+      and_then (mean_tree around state left n)
+      (λ r m. and_then (mean_tree around state right m) (λ s k. with_turns (paired at r s) k))
+  mean_tree around state (MinusTree at of) n =
+      and_then (mean_tree around state of n) (λ r m. with_turns (complemented r) m)
+  mean_tree around state (TurnedTree at of times) n =
+      and_then (mean_tree around state of n) (λ r m. with_turns (turned times r) m)
+  mean_tree around state (ChainTree first links) n =
+      and_then (mean_tree around state first n) (λ r m. mean_branches around state r links m)
 
   -- that of arguments, from the left; the values so far are given
-  pub means : Around → State → List Relation → {m : _} → Row_of-Expr m → ℕ → Came (List Relation)
-  means around state values end_of-Expr n = got values n
-  means around state values (more_of-Expr e rest) n =
-      and_then (mean around state e n) (λ r m. means around state (values ++ r ∷ []) rest m)
+  pub mean_trees : Around → State → List Relation → Trees → ℕ → Came (List Relation)
+  mean_trees around state values NoTree n = got values n
+  mean_trees around state values (MoreTrees t rest) n =
+      and_then (mean_tree around state t n) (λ r m. mean_trees around state (values ++ r ∷ []) rest m)
 
   -- that of the links of a chain, whose value so far is given
-  pub mean_along : Around → State → Relation → {m : _} → Row_of-Link m → ℕ → Came Relation
-  mean_along around state r end_of-Link n = got r n
-  mean_along around state r (more_of-Link at op right rest) n =
-      and_then (mean around state right n)
-      (λ s m. and_then (with_turns (linked at op r s) m) (λ t k. mean_along around state t rest k))
+  pub mean_branches : Around → State → Relation → Branches → ℕ → Came Relation
+  mean_branches around state r NoBranch n = got r n
+  mean_branches around state r (MoreBranches at op right rest) n =
+      and_then (mean_tree around state right n)
+      (λ s m. and_then (with_turns (linked at op r s) m) (λ t k. mean_branches around state t rest k))
+
+-- the meaning of an expression is that of its tree
+abbrev pub mean : Around → State → Expr → ℕ → Came Relation
+mean around state e n = mean_tree around state (tree_of e) n
+
+-- the same of arguments
+abbrev pub means : Around → State → List Relation → {m : _} → Row_of-Expr m → ℕ → Came (List Relation)
+means around state values args n = mean_trees around state values (trees_of args) n
+
+-- the same of the links of a chain
+abbrev pub mean_along : Around → State → Relation → {m : _} → Row_of-Link m → ℕ → Came Relation
+mean_along around state r rest n = mean_branches around state r (branches_of rest) n
 
 -- the same of a list of arguments, and of a list of links
 abbrev pub means_by : Around → State → List Relation → List Expr → ℕ → Came (List Relation)
@@ -309,6 +325,14 @@ calls_within items zero at name values n = refused (Ill (Rank at name))
 calls_within items (suc rank) at name values n =
     called (calls_within items rank) at name (item_named items name) values n
 
+-- what an expression of a command stands in
+abbrev pub around_command : Script → Around
+around_command script = around_with (calls_within script.items.items rank_limit) []
+
+-- the meaning of a tree of a command
+abbrev pub meaning_of_tree : Script → State → Tree → ℕ → Came Relation
+meaning_of_tree script state t n = mean_tree (around_command script) state t n
+
 -- the meaning of an expression of a command
 abbrev pub meaning : Script → State → Expr → ℕ → Came Relation
-meaning script state e n = mean (around_with (calls_within script.items.items rank_limit) []) state e n
+meaning script state e n = meaning_of_tree script state (tree_of e) n

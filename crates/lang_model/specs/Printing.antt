@@ -3,8 +3,13 @@ use Rattle.std.specs.Prelude.{◌++◌, ℕ, Bool, cond, List, [], ◌∷◌, na
 use Rattle.lang_model.specs.declared.syntax.Op2.{Op2}
 use Rattle.lang_model.specs.declared.syntax.Op2.TheVariants.{Or, And, Times, Under, Over}
 use Rattle.lang_model.specs.declared.syntax.Base.{Base}
-use Rattle.lang_model.specs.declared.syntax.Base.TheVariants.{L, O, I, Ln1, On1, L1n, O1n, Dom, Ran, Trans, Refl, Epsi, Point, Atom, Init, Next, Inj, Empty, Unival, Syq, Eq, Incl, P1, P2, I1, I2}
-use Rattle.lang_model.specs.declared.syntax.Expr.{Expr, Ref, Call', Base', Inject, Pair', Minus', Turned', Chain', Row_of-Link, end_of-Link, more_of-Link, Row_of-Expr, end_of-Expr, more_of-Expr}
+use Rattle.lang_model.specs.declared.syntax.Base.TheVariants.{L, O, I, Ln1, On1, L1n, O1n, Dom, Ran, Trans, Refl, Epsi}
+use Rattle.lang_model.specs.declared.syntax.Base.TheVariants.{Point, Atom, Init, Next, Inj, Empty, Unival, Syq, Eq}
+use Rattle.lang_model.specs.declared.syntax.Base.TheVariants.{Incl, P1, P2, I1, I2}
+use Rattle.lang_model.specs.declared.syntax.Expr.{Expr, Row_of-Expr, Row_of-Link}
+use Rattle.lang_model.specs.Trees.{Tree, NameTree, CallTree, BaseTree, InjectTree, PairTree, MinusTree, TurnedTree}
+use Rattle.lang_model.specs.Trees.{ChainTree, Trees, NoTree, MoreTrees, Branches, NoBranch, MoreBranches, tree_of}
+use Rattle.lang_model.specs.Trees.{trees_of, branches_of}
 
 -- the sign of an operator
 abbrev pub sign_of : Op2 → ℕ
@@ -50,48 +55,72 @@ chain_rank And = 1
 chain_rank _ = 2
 
 -- the same of a chain, by its first link
-abbrev pub links_rank : {m : _} → Row_of-Link m → ℕ
-links_rank end_of-Link = 2
-links_rank (more_of-Link at op right links) = chain_rank op
+abbrev pub links_rank_tree : Branches → ℕ
+links_rank_tree NoBranch = 2
+links_rank_tree (MoreBranches at op right links) = chain_rank op
 
--- how tightly an expression holds together: chains by their level, then a prefix -, then signs ^, then all others
-abbrev pub rank : Expr → ℕ
-rank (Chain' p first shape links) = links_rank links
-rank (Minus' at p of) = 3
-rank (Turned' at p of times) = 4
-rank _ = 5
+-- how tightly a tree holds together: chains by their level, then a prefix -, then signs ^, then all others
+abbrev pub rank_tree : Tree → ℕ
+rank_tree (ChainTree first links) = links_rank_tree links
+rank_tree (MinusTree at of) = 3
+rank_tree (TurnedTree at of times) = 4
+rank_tree _ = 5
 
 -- a text in parentheses, where they are needed
 abbrev pub within : Bool → List ℕ → List ℕ
 within needed text = cond needed (40 ∷ text ++ 41 ∷ []) text
 
--- The text of an expression. An operand of a chain stands in parentheses where it is a chain of the same or a looser
--- level, that of - where it is a chain, and that of ^ where it is a chain or has a - or a ^ in front.
+-- The text of a tree. An operand of a chain stands in parentheses where it is a chain of the same or a looser level,
+-- that of - where it is a chain, and that of ^ where it is a chain or has a - or a ^ in front.
 abbrev mutual
   -- the text of an expression
-  pub printed : Expr → List ℕ
-  printed (Ref at name) = name
-  printed (Call' at name shape args) = name ++ 40 ∷ printed_args args ++ 41 ∷ []
-  printed (Base' at base shape args) = base_text base ++ 40 ∷ printed_args args ++ 41 ∷ []
-  printed (Inject at base domain) = base_text base ++ 40 ∷ domain ++ 41 ∷ []
-  printed (Pair' at p left q right) = 91 ∷ printed left ++ 44 ∷ printed right ++ 93 ∷ []
-  printed (Minus' at p of) = 45 ∷ within (nat_lt (rank of) 3) (printed of)
-  printed (Turned' at p of times) = within (nat_lt (rank of) 5) (printed of) ++ replicate times 94
-  printed (Chain' p first shape links) = within (nat_le (rank first) (links_rank links)) (printed first)
-      ++ printed_links (links_rank links) links
+  pub printed_tree : Tree → List ℕ
+  printed_tree (NameTree at name) = name
+  printed_tree (CallTree at name args) = name ++ 40 ∷ printed_trees args ++ 41 ∷ []
+  printed_tree (BaseTree at base args) = base_text base ++ 40 ∷ printed_trees args ++ 41 ∷ []
+  printed_tree (InjectTree at base domain) = base_text base ++ 40 ∷ domain ++ 41 ∷ []
+  printed_tree (PairTree at left right) = 91 ∷ printed_tree left ++ 44 ∷ printed_tree right ++ 93 ∷ []
+  printed_tree (MinusTree at of) = 45 ∷ within (nat_lt (rank_tree of) 3) (printed_tree of)
+  printed_tree (TurnedTree at of times) = within (nat_lt (rank_tree of) 5) (printed_tree of) ++ replicate times 94
+  printed_tree (ChainTree first links) = within (nat_le (rank_tree first) (links_rank_tree links)) (printed_tree first)
+      ++ printed_branches (links_rank_tree links) links
 
   -- arguments, with commas between them
-  pub printed_args : {m : _} → Row_of-Expr m → List ℕ
-  printed_args end_of-Expr = []
-  printed_args (more_of-Expr e args) = printed e ++ printed_more args
+  pub printed_trees : Trees → List ℕ
+  printed_trees NoTree = []
+  printed_trees (MoreTrees t args) = printed_tree t ++ printed_more_trees args
 
   -- further arguments, each behind a comma
-  pub printed_more : {m : _} → Row_of-Expr m → List ℕ
-  printed_more end_of-Expr = []
-  printed_more (more_of-Expr e args) = 44 ∷ printed e ++ printed_more args
+  pub printed_more_trees : Trees → List ℕ
+  printed_more_trees NoTree = []
+  printed_more_trees (MoreTrees t args) = 44 ∷ printed_tree t ++ printed_more_trees args
 
   -- the links of a chain of so loose operators
-  pub printed_links : ℕ → {m : _} → Row_of-Link m → List ℕ
-  printed_links n end_of-Link = []
-  printed_links n (more_of-Link at op right links) = sign_of op ∷ within (nat_le (rank right) n) (printed right)
-      ++ printed_links n links
+  pub printed_branches : ℕ → Branches → List ℕ
+  printed_branches n NoBranch = []
+  printed_branches n (MoreBranches at op right links) = sign_of op ∷ within (nat_le (rank_tree right) n)
+      (printed_tree right) ++ printed_branches n links
+
+-- how tightly an expression holds together
+abbrev pub rank : Expr → ℕ
+rank e = rank_tree (tree_of e)
+
+-- how tightly a chain with these links does
+abbrev pub links_rank : {m : _} → Row_of-Link m → ℕ
+links_rank links = links_rank_tree (branches_of links)
+
+-- the text of an expression is that of its tree
+abbrev pub printed : Expr → List ℕ
+printed e = printed_tree (tree_of e)
+
+-- the same of arguments, with commas between them
+abbrev pub printed_args : {m : _} → Row_of-Expr m → List ℕ
+printed_args args = printed_trees (trees_of args)
+
+-- the same of further arguments, each behind a comma
+abbrev pub printed_more : {m : _} → Row_of-Expr m → List ℕ
+printed_more args = printed_more_trees (trees_of args)
+
+-- the same of the links of a chain of so loose operators
+abbrev pub printed_links : ℕ → {m : _} → Row_of-Link m → List ℕ
+printed_links n links = printed_branches n (branches_of links)

@@ -1,21 +1,29 @@
--- How many nodes single operators may make, by the height of a worker's leaves.
+-- How many nodes an expression counts for each node that its evaluation brings past its tests: bounds on what single
+-- operators make, with room for a worker that goes through a relation in other ways. The height of such a node is the
+-- least h with 2 ^ h at least every size of its operands and of its result. No bound here depends on a worker's leaves.
 use Rattle.std.specs.Prelude.{ℕ}
 use Rattle.lang_model.specs.declared.syntax.Op2.{Op2}
 use Rattle.lang_model.specs.declared.syntax.Op2.TheVariants.{Or, And, Times, Under, Over}
 use Rattle.rel_model.specs.Relation.{Relation}
-use Rattle.rel_model.specs.Roots.{relation_room}
-use Rattle.rel_model.specs.Worker.{product_room, wide_room}
+use Rattle.rel_model.specs.Worker.{plain_room, product_room, wide_room}
 use Rattle.lang_model.specs.Outcomes.{Cost}
 
--- one tree of a relation of these sizes: a union, an intersection, a difference or a transposition makes no more, nor
--- does the full relation
-unfoldable pub tree_cost : ℕ → ℕ → Cost
-tree_cost rows cols leaf = relation_room leaf rows cols
+-- 8 * 4 ^ h: a union, an intersection, a complement, transpositions, the full and the empty relations, and the tests
+unfoldable pub plain_cost : ℕ → ℕ → Cost
+plain_cost rows cols leaf = plain_room rows cols
+
+-- 16 * 8 ^ h: a composition
+unfoldable pub product_cost : ℕ → ℕ → ℕ → Cost
+product_cost k m n leaf = product_room k m n
+
+-- 256 * (h + 1) * 8 ^ h: any other operator, base call, domain operator or pairing
+unfoldable pub wide_cost : ℕ → ℕ → ℕ → Cost
+wide_cost k m n leaf = wide_room k m n
 
 -- an operator between two relations
 abbrev pub link_cost : Op2 → Relation → Relation → Cost
-link_cost Or r s leaf = tree_cost r.rows r.cols leaf
-link_cost And r s leaf = tree_cost r.rows r.cols leaf
-link_cost Times r s leaf = product_room r.rows r.cols s.cols
-link_cost Under r s leaf = wide_room r.rows r.cols s.cols
-link_cost Over r s leaf = wide_room r.rows r.cols s.rows
+link_cost Or r s = plain_cost r.rows r.cols
+link_cost And r s = plain_cost r.rows r.cols
+link_cost Times r s = product_cost r.rows r.cols s.cols
+link_cost Under r s = wide_cost r.rows r.cols s.cols
+link_cost Over r s = wide_cost r.rows r.cols s.rows

@@ -3,7 +3,7 @@
 use Rattle.std.specs.Prelude.{◌==◌, ◌&&◌, cond, zero, suc, ℕ, Bool, true, false, List, [], ◌∷◌, ◌++◌, length, codes, Option, Some, None}
 use Rattle.lang_model.specs.declared.syntax.Place.{Place}
 use Rattle.lang_model.specs.declared.syntax.Base.{Base}
-use Rattle.lang_model.specs.declared.syntax.Expr.{Expr, Ref, Call', Base', Inject, Pair', Minus', Turned', Chain', Row_of-Expr, end_of-Expr, more_of-Expr, Row_of-Link, end_of-Link, more_of-Link}
+use Rattle.lang_model.specs.declared.syntax.Expr.{Expr, Row_of-Expr, Row_of-Link}
 use Rattle.lang_model.specs.declared.syntax.Stmt.{Stmt, Set, While', If', Row_of-Stmt, end_of-Stmt, more_of-Stmt}
 use Rattle.lang_model.specs.declared.syntax.Decl.{Decl}
 use Rattle.lang_model.specs.declared.syntax.Item.{Item}
@@ -11,6 +11,9 @@ use Rattle.lang_model.specs.declared.syntax.Item.TheVariants.{Function, Program,
 use Rattle.lang_model.specs.declared.syntax.Script.{Script}
 use Rattle.lang_model.specs.declared.faults.TypeFault.TheVariants.{Unknown, Arity, Rank, Mismatch}
 use Rattle.lang_model.specs.declared.faults.StaticShape.{StaticShape}
+use Rattle.lang_model.specs.Trees.{Tree, NameTree, CallTree, BaseTree, InjectTree, PairTree, MinusTree, TurnedTree}
+use Rattle.lang_model.specs.Trees.{ChainTree, Trees, NoTree, MoreTrees, Branches, NoBranch, MoreBranches, tree_of}
+use Rattle.lang_model.specs.Trees.{trees_of, branches_of}
 use Rattle.lang_model.specs.Checking.{domain_operator_text}
 use Rattle.lang_model.specs.Limits.{rank_limit}
 use Rattle.lang_model.specs.Tokens.{same_text}
@@ -63,29 +66,46 @@ typed_injected types at base (Some names) = typed_injected_of at base (types nam
 
 -- ---- expressions
 abbrev mutual
-  -- the type of an expression
-  pub shape : AroundTypes → Types → Expr → Typed
-  shape around types (Ref at name) = typed_name at name (types name)
-  shape around types (Call' at name s args) = passing (shapes around types [] args) (λ ts. around.calls at name ts)
-  shape around types (Base' at base s args) = passing (shapes around types [] args) (λ ts. typed_based at base ts)
-  shape around types (Inject at base domain) = typed_injected types at base (domain_named around.decls domain)
-  shape around types (Pair' at p left q right) =
-      passing (shape around types left) (λ s. passing (shape around types right) (λ t. typed_pair at s t))
-  shape around types (Minus' at p of) = shape around types of
-  shape around types (Turned' at p of times) = passing (shape around types of) (λ s. Fits (type_turned_by times s))
-  shape around types (Chain' p first s rest) = passing (shape around types first) (λ t. shape_along around types t rest)
+  -- the type of a tree
+  pub shape_tree : AroundTypes → Types → Tree → Typed
+  shape_tree around types (NameTree at name) = typed_name at name (types name)
+  shape_tree around types (CallTree at name args) =
+      passing (shape_trees around types [] args) (λ ts. around.calls at name ts)
+  shape_tree around types (BaseTree at base args) =
+      passing (shape_trees around types [] args) (λ ts. typed_based at base ts)
+  shape_tree around types (InjectTree at base domain) = typed_injected types at base (domain_named around.decls domain)
+  shape_tree around types (PairTree at left right) =
+      passing (shape_tree around types left) (λ s. passing (shape_tree around types right) (λ t. typed_pair at s t))
+  shape_tree around types (MinusTree at of) = shape_tree around types of
+  shape_tree around types (TurnedTree at of times) =
+      passing (shape_tree around types of) (λ s. Fits (type_turned_by times s))
+  shape_tree around types (ChainTree first links) =
+      passing (shape_tree around types first) (λ t. shape_branches around types t links)
 
   -- those of arguments; those so far are given
-  pub shapes : AroundTypes → Types → List StaticShape → {m : _} → Row_of-Expr m → Passed (List StaticShape)
-  shapes around types ss end_of-Expr = Fits ss
-  shapes around types ss (more_of-Expr e rest) =
-      passing (shape around types e) (λ s. shapes around types (ss ++ s ∷ []) rest)
+  pub shape_trees : AroundTypes → Types → List StaticShape → Trees → Passed (List StaticShape)
+  shape_trees around types ss NoTree = Fits ss
+  shape_trees around types ss (MoreTrees t rest) =
+      passing (shape_tree around types t) (λ s. shape_trees around types (ss ++ s ∷ []) rest)
 
   -- that of a chain, whose type so far is given
-  pub shape_along : AroundTypes → Types → StaticShape → {m : _} → Row_of-Link m → Typed
-  shape_along around types s end_of-Link = Fits s
-  shape_along around types s (more_of-Link at op right rest) =
-      passing (shape around types right) (λ t. passing (typed_link at op s t) (λ u. shape_along around types u rest))
+  pub shape_branches : AroundTypes → Types → StaticShape → Branches → Typed
+  shape_branches around types s NoBranch = Fits s
+  shape_branches around types s (MoreBranches at op right rest) =
+      passing (shape_tree around types right)
+      (λ t. passing (typed_link at op s t) (λ u. shape_branches around types u rest))
+
+-- the type of an expression is that of its tree
+abbrev pub shape : AroundTypes → Types → Expr → Typed
+shape around types e = shape_tree around types (tree_of e)
+
+-- the same of arguments
+abbrev pub shapes : AroundTypes → Types → List StaticShape → {m : _} → Row_of-Expr m → Passed (List StaticShape)
+shapes around types ss args = shape_trees around types ss (trees_of args)
+
+-- the same of the links of a chain
+abbrev pub shape_along : AroundTypes → Types → StaticShape → {m : _} → Row_of-Link m → Typed
+shape_along around types s rest = shape_branches around types s (branches_of rest)
 
 -- ---- statements
 -- a size that the type of a variable knows is known and equal in that of a later value
@@ -104,6 +124,7 @@ set_type at name s types (Some t) =
 abbrev pub shape_test : AroundTypes → Place → Expr → Types → Typed
 shape_test around at test types = passing (shape around types test) (λ s. typed_test at s)
 
+-- how statements change the types of variables
 abbrev mutual
   -- the types behind a statement
   pub typed_behind : AroundTypes → Stmt → Types → Passed Types
@@ -162,6 +183,11 @@ types_of_calls items zero at name ss = Misfit (Rank at name)
 types_of_calls items (suc rank) at name ss =
     type_of_called (types_of_calls items rank) at name (item_named items name) ss
 
--- the static type of an expression of a command, on names with these types
+-- the static type of a tree of a command, on names with these types
+abbrev pub static_type_of_tree : Script → Types → Tree → Typed
+static_type_of_tree script types t =
+    shape_tree (around_types (types_of_calls script.items.items rank_limit) []) types t
+
+-- the static type of an expression of a command
 abbrev pub static_type : Script → Types → Expr → Typed
-static_type script types e = shape (around_types (types_of_calls script.items.items rank_limit) []) types e
+static_type script types e = static_type_of_tree script types (tree_of e)

@@ -1,12 +1,15 @@
 //! Laws of the language, each a function that does nothing.
 ghost use Rattle.std.specs.Prelude.{◌≡◌, ◌+◌};
-ghost use Rattle.lang_model.specs.Limits.{script_limit, name_limit, file_text_limit, nesting_limit, more_limit, rank_limit};
+ghost use Rattle.lang_model.specs.Limits.{script_limit, name_limit, file_text_limit, nesting_limit, more_limit, rank_limit, compared_limit};
 ghost use Rattle.lang_model.specs.Eval.{EvaluatedByNames};
 ghost use Rattle.lang_model.specs.Laws.{StateLaws};
+ghost use Rattle.lang_model.specs.Blocks.{BlocksByNames};
+ghost use Rattle.lang_model.specs.Calm.{CalmMeansTheSame, StepsEnd, StepsAreSteps};
 ghost use Rattle.lang_model.specs.Sound.{StaticSizesHold};
 
 use crate::limits::{
-    FILE_TEXT_LIMIT, NAME_LIMIT, NESTING_LIMIT, PARAMETER_LIMIT, RANK_LIMIT, SCRIPT_LIMIT,
+    COMPARED_LIMIT, FILE_TEXT_LIMIT, NAME_LIMIT, NESTING_LIMIT, PARAMETER_LIMIT, RANK_LIMIT,
+    SCRIPT_LIMIT,
 };
 
 /// Each limit of a text is one number in the code and in the definitions.
@@ -17,6 +20,7 @@ pub fn one_limit_each()
     ensures nesting { NESTING_LIMIT ≡ nesting_limit }
     ensures parameters { PARAMETER_LIMIT ≡ more_limit + 1 }
     ensures rank { RANK_LIMIT ≡ rank_limit }
+    ensures operands { COMPARED_LIMIT ≡ compared_limit }
 {}
 
 /// A name that is assigned has that relation, one that is taken away has none, and all others stay.
@@ -29,7 +33,27 @@ pub fn by_names_alone()
     ensures { EvaluatedByNames }
 {}
 
+/// What a block comes to depends on the relations of the names alone that it reads.
+pub fn blocks_by_names_alone()
+    ensures { BlocksByNames }
+{}
+
 /// A known static size of an expression is the size of its value.
 pub fn static_sizes()
     ensures { StaticSizesHold }
+{}
+
+/// Where the types of an expression fit, its calm tree has its type, and comes to the same as it does.
+pub fn rewriting_keeps_meanings()
+    ensures { CalmMeansTheSame }
+{}
+
+/// Each step of rewriting lowers the number of nodes and signs `^`, and no rule applies in a calm tree.
+pub fn rewriting_ends()
+    ensures { StepsEnd }
+{}
+
+/// Each step of rewriting is its rule's result on a calm node.
+pub fn rewriting_goes_by_its_rules()
+    ensures { StepsAreSteps }
 {}

@@ -17,3 +17,6 @@ pub const PARAMETER_LIMIT: usize = 16;
 
 /// The greatest rank of a definition, and so how deep calls may stand in one another.
 pub const RANK_LIMIT: u32 = 16;
+
+/// How many operands a chain has at most of which those that stand twice are looked for.
+pub const COMPARED_LIMIT: usize = 64;

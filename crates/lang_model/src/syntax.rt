@@ -326,6 +326,14 @@ pub struct Row {
     pub cols: Vec<Column>,
 }
 
+/// An assignment of a block: `LET name = value`.
+#[derive(Drop)]
+pub struct Let {
+    pub at: Place,
+    pub name: Name,
+    pub value: Expr,
+}
+
 /// A command.
 pub enum Command {
     /// `REL name rows cols { list }`.
