@@ -20,3 +20,6 @@ pub mod Lifting
 pub mod Run
 pub mod Stored
 pub mod Texts
+pub mod SharedFiles
+pub mod Versions
+pub mod Blocks

@@ -11,7 +11,10 @@ use Rattle.lang_model.specs.declared.faults.StaticShape.{StaticShape}
 use Rattle.lang_model.specs.declared.faults.TypeFault.{TypeFault}
 use Rattle.lang_model.specs.declared.faults.TypeFault.TheVariants.{Unknown, Arity, Unassigned, Rank, Mismatch, NotSquare, NotVector, NotTest, Twice, NoMemory as TYPE_NO_MEMORY}
 use Rattle.run_model.specs.declared.outcome.BadFile.{BadFile}
-use Rattle.run_model.specs.declared.outcome.BadFile.TheVariants.{Short, Magic, Sizes, Height, Lengths, ZeroGroup, Outside, Padding, Rest, Full as FILE_FULL, NoMemory as FILE_NO_MEMORY}
+use Rattle.run_model.specs.declared.outcome.BadFile.TheVariants.{Short, Magic, Sizes, Height, Lengths, ZeroGroup}
+use Rattle.run_model.specs.declared.outcome.BadFile.TheVariants.{Outside, Padding, Rest, Full as FILE_FULL}
+use Rattle.run_model.specs.declared.outcome.BadFile.TheVariants.{NoMemory as FILE_NO_MEMORY, Quad, Names as BAD_NAMES}
+use Rattle.run_model.specs.declared.outcome.BadFile.TheVariants.{Root, Order, Missing}
 use Rattle.run_model.specs.declared.outcome.Unit.{Unit as COUNTED}
 use Rattle.run_model.specs.declared.outcome.Unit.TheVariants.{Cells, Pairs}
 use Rattle.run_model.specs.declared.outcome.Outcome.{Outcome}
@@ -111,6 +114,11 @@ bad_file_text Padding = codes "padding"
 bad_file_text Rest = codes "rest"
 bad_file_text FILE_FULL = codes "no free node word"
 bad_file_text FILE_NO_MEMORY = codes "no memory"
+bad_file_text (Quad at) = codes "bad quadrant at " ++ decimal at
+bad_file_text (BAD_NAMES at) = codes "bad name at " ++ decimal at
+bad_file_text (Root at) = codes "bad root at " ++ decimal at
+bad_file_text (Order at) = codes "order at " ++ decimal at
+bad_file_text Missing = codes "no relation of this name"
 
 -- what a limit counts
 abbrev pub unit_text : COUNTED → List ℕ

@@ -60,4 +60,14 @@ pub enum BadFile {
     Rest,
     Full,
     NoMemory,
+    /// Of a file of several relations: a quadrant that is none, by its number.
+    Quad { at: u64 },
+    /// A name that is no word, or not after the one before, by the place of its relation.
+    Names { at: u64 },
+    /// A root that is no quadrant of the relation's height, by the place of its relation.
+    Root { at: u64 },
+    /// A quadrant that does not stand in the order of the visits, by its number.
+    Order { at: u64 },
+    /// No relation of this name.
+    Missing,
 }

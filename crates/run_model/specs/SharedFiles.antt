@@ -1,0 +1,428 @@
+-- Relation files, version 2: several named relations over one list of squares, in which no square stands twice.
+use Rattle.std.specs.Prelude.{
+  ◌≡◌,
+  ◌==◌,
+  ◌&&◌,
+  ◌||◌,
+  ◌+◌,
+  ◌-◌,
+  ◌*◌,
+  ◌^◌,
+  ◌<◌,
+  ◌≤◌,
+  not,
+  nat_le,
+  nat_lt,
+  cond,
+  zero,
+  suc,
+  ℕ,
+  Bool,
+  false,
+  true,
+  List,
+  [],
+  ◌∷◌,
+  ◌++◌,
+  length,
+  map,
+  take,
+  drop,
+  filter,
+  codes,
+  slice_get,
+  slice_index,
+  unwrap_or,
+  Option,
+  Some,
+  None,
+}
+use Rattle.std.specs.List.{list_any, list_all, flat_map, AllByRecursion}
+use Rattle.std.specs.Int.{w32, to_be_bytes, from_be_bytes}
+use Rattle.std.specs.Ordering.{is_lt}
+use lib.Pointwise.{pointwise}
+use Rattle.run_model.specs.declared.outcome.BadFile.{BadFile}
+use Rattle.run_model.specs.declared.outcome.BadFile.TheVariants.{
+  Short,
+  Magic,
+  Sizes,
+  Outside,
+  Rest,
+  Quad,
+  Names as BAD_NAMES,
+  Root,
+  Order,
+}
+use Rattle.rel_model.specs.Relation.{Relation, IsRelation, relation_of, size_limit, size_height}
+use Rattle.rel_model.specs.Listed.{is_among}
+use Rattle.rel_model.specs.Cells.{Cells}
+use Rattle.rel_model.specs.Trees.{quartered}
+use Rattle.rel_model.specs.Roots.{lies_within}
+use Rattle.lang_model.specs.Limits.{name_limit}
+use Rattle.lang_model.specs.Missing.{first_of_both}
+use Rattle.lang_model.specs.Tokens.{same_text, is_letter, is_word_byte}
+use Rattle.run_model.specs.Names.{compare, Names, IsIncreasing}
+use Rattle.run_model.specs.Files.{file_height, part, unless, found_at, first_of_all}
+
+-- ---- squares
+-- a square: a relation of 2 ^ height rows and columns, by its pairs
+pub record Square : Type 0 where
+  pub height : ℕ
+  pub pairs : List (ℕ × ℕ)
+
+-- the pairs of a submatrix of this side, from its first row and column, which count from 0 there
+abbrev pub quarter : ℕ → ℕ → ℕ → List (ℕ × ℕ) → List (ℕ × ℕ)
+quarter side row col pairs = (relation_of side side (λ i j. is_among pairs (row + i) (col + j))).pairs
+
+-- both have the same pairs
+abbrev pub same_pairs : List (ℕ × ℕ) → List (ℕ × ℕ) → Bool
+same_pairs = pointwise (λ p q. (p.0 == q.0) && (p.1 == q.1))
+
+-- both have the same height and the same pairs
+abbrev pub same_square : Square → Square → Bool
+same_square a b = (a.height == b.height) && same_pairs a.pairs b.pairs
+
+-- a square behind the others, unless it is among them
+abbrev pub with_square : Square → List Square → List Square
+with_square square list = cond (list_any (same_square square) list) list (list ++ square ∷ [])
+
+-- the list of squares where there is no pair, and else what the visits of a square make of it
+abbrev pub where_pairs : List (ℕ × ℕ) → List Square → List Square → List Square
+where_pairs [] list visited = list
+where_pairs (p ∷ ps) list visited = visited
+
+-- A visit of a square, by its height and its pairs: a cell, or a square without pairs, leaves the list of squares as
+-- it is. Of any other the quarters are visited, north-west, north-east, south-west and south-east, and then it stands
+-- behind them, unless it is among them.
+abbrev pub visit : ℕ → List (ℕ × ℕ) → List Square → List Square
+visit zero pairs list = list
+visit (suc h) pairs list =
+    let side = 2 ^ h in
+    where_pairs pairs list
+    (with_square (record { height = suc h; pairs = pairs })
+    (visit h (quarter side side side pairs)
+    (visit h (quarter side side 0 pairs)
+    (visit h (quarter side 0 side pairs)
+    (visit h (quarter side 0 0 pairs) list)))))
+
+-- the squares of named relations behind those of a list: each relation is visited in order, as a square of its height
+abbrev pub visit_all : List Square → List (List ℕ × Relation) → List Square
+visit_all list [] = list
+visit_all list (entry ∷ entries) =
+    visit_all (visit (file_height entry.1.rows entry.1.cols) entry.1.pairs list) entries
+
+-- the squares of named relations
+unfoldable pub squares_of : List (List ℕ × Relation) → List Square
+squares_of list = visit_all [] list
+
+-- the place of a square in a list
+abbrev pub place_in : List Square → Square → ℕ
+place_in [] square = 0
+place_in (x ∷ xs) square = cond (same_square x square) 0 (1 + place_in xs square)
+
+-- the number of a square, by its height and its pairs: 0 where there is no pair, 1 for the cell, and else from 2 on its
+-- place in the list
+abbrev pub number_in : List Square → ℕ → List (ℕ × ℕ) → ℕ
+number_in squares h [] = 0
+number_in squares zero (p ∷ ps) = 1
+number_in squares (suc h) (p ∷ ps) = 2 + place_in squares (record { height = suc h; pairs = p ∷ ps })
+
+-- ---- bytes
+-- the four numbers of a square's quarters, by their height
+abbrev pub quarter_bytes : List Square → ℕ → List (ℕ × ℕ) → List ℕ
+quarter_bytes squares zero pairs = []
+quarter_bytes squares (suc h) pairs =
+    let side = 2 ^ h in
+    to_be_bytes w32 (number_in squares h (quarter side 0 0 pairs))
+    ++ to_be_bytes w32 (number_in squares h (quarter side 0 side pairs))
+    ++ to_be_bytes w32 (number_in squares h (quarter side side 0 pairs))
+    ++ to_be_bytes w32 (number_in squares h (quarter side side side pairs))
+
+-- a named relation: the length of its name, the name, its rows and columns, and the number of its square
+abbrev pub entry_bytes : List Square → List ℕ × Relation → List ℕ
+entry_bytes squares entry =
+    length entry.0
+    ∷ (entry.0 ++ to_be_bytes w32 entry.1.rows ++ to_be_bytes w32 entry.1.cols
+    ++ to_be_bytes w32 (number_in squares (file_height entry.1.rows entry.1.cols) entry.1.pairs))
+
+-- the bytes of a file of named relations
+unfoldable pub shared_file : List (List ℕ × Relation) → List ℕ
+shared_file list =
+    let squares = squares_of list in
+    codes "RVK2" ++ to_be_bytes w32 (length squares) ++ to_be_bytes w32 (length list)
+    ++ flat_map (λ s. quarter_bytes squares s.height s.pairs) squares ++ flat_map (entry_bytes squares) list
+
+-- ---- reading
+-- whether bytes begin as those of a file of version 2
+unfoldable pub begins_shared : List ℕ → Bool
+begins_shared bytes = same_text (take 4 bytes) (codes "RVK2")
+
+-- a listed square: the numbers of its quarters
+pub record Quadrant : Type 0 where
+  pub nw : ℕ
+  pub ne : ℕ
+  pub sw : ℕ
+  pub se : ℕ
+
+-- the number of four bytes at a place
+abbrev pub number_at : List ℕ → ℕ → ℕ
+number_at bytes at = from_be_bytes w32 (part bytes at 4)
+
+-- how long the header is
+abbrev pub shared_header : ℕ
+shared_header = 12
+
+-- how many bytes a listed square has
+abbrev pub quadrant_length : ℕ
+quadrant_length = 16
+
+-- the listed squares that bytes begin with, so many
+abbrev pub quadrants_in : ℕ → List ℕ → List Quadrant
+quadrants_in zero bytes = []
+quadrants_in (suc k) bytes =
+    record { nw = number_at bytes 0; ne = number_at bytes 4; sw = number_at bytes 8; se = number_at bytes 12 }
+    ∷ quadrants_in k (drop quadrant_length bytes)
+
+-- how many squares a file says that it lists
+abbrev pub quadrant_count : List ℕ → ℕ
+quadrant_count bytes = number_at bytes 4
+
+-- how many relations
+abbrev pub entry_count : List ℕ → ℕ
+entry_count bytes = number_at bytes 8
+
+-- where its relations begin
+abbrev pub entries_at : List ℕ → ℕ
+entries_at bytes = shared_header + quadrant_length * quadrant_count bytes
+
+-- the listed squares of a file
+unfoldable pub quadrants_of : List ℕ → List Quadrant
+quadrants_of bytes = quadrants_in (quadrant_count bytes) (drop shared_header bytes)
+
+-- the four numbers of a listed square
+abbrev pub numbers_of : Quadrant → List ℕ
+numbers_of q = q.nw ∷ q.ne ∷ q.sw ∷ q.se ∷ []
+
+-- both have the same four numbers
+abbrev pub same_quadrant : Quadrant → Quadrant → Bool
+same_quadrant a b = same_text (numbers_of a) (numbers_of b)
+
+-- the height of a number, by those of the listed squares: that of a cell for 1
+abbrev pub height_at : List ℕ → ℕ → ℕ
+height_at heights n = cond (nat_le n 1) 0 (slice_index heights (n - 2))
+
+-- the numbers that are not 0
+abbrev pub parts_of : Quadrant → List ℕ
+parts_of q = filter (λ n. not (n == 0)) (numbers_of q)
+
+-- 1 more than the height of the first of these numbers
+abbrev pub height_over_parts : List ℕ → List ℕ → ℕ
+height_over_parts heights [] = 1
+height_over_parts heights (n ∷ ns) = height_at heights n + 1
+
+-- the height of a listed square: 1 more than that of its numbers other than 0
+abbrev pub height_of_quadrant : List ℕ → Quadrant → ℕ
+height_of_quadrant heights q = height_over_parts heights (parts_of q)
+
+-- the heights of listed squares, behind those of earlier ones
+abbrev pub heights_behind : List ℕ → List Quadrant → List ℕ
+heights_behind heights [] = heights
+heights_behind heights (q ∷ qs) = heights_behind (heights ++ height_of_quadrant heights q ∷ []) qs
+
+-- whether no number is but 0
+abbrev pub no_parts : List ℕ → Bool
+no_parts [] = true
+no_parts (n ∷ ns) = false
+
+-- whether square number n is none, behind the earlier ones: its numbers are all 0, or one is not below its own, or two
+-- other than 0 have different heights, or it is too high, or an earlier one has the same numbers
+abbrev pub is_bad : ℕ → List Quadrant → List ℕ → Quadrant → Bool
+is_bad n earlier heights q =
+    no_parts (parts_of q)
+    || (list_any (λ m. nat_le n m) (numbers_of q)
+    || (list_any (λ m. not (height_at heights m + 1 == height_of_quadrant heights q)) (parts_of q)
+    || (nat_lt size_height (height_of_quadrant heights q) || list_any (same_quadrant q) earlier)))
+
+-- the number of the first square that is none, from number n on
+abbrev pub first_bad : ℕ → List Quadrant → List ℕ → List Quadrant → Option ℕ
+first_bad n earlier heights [] = None
+first_bad n earlier heights (q ∷ qs) =
+    cond (is_bad n earlier heights q) (Some n)
+    (first_bad (n + 1) (earlier ++ q ∷ []) (heights ++ height_of_quadrant heights q ∷ []) qs)
+
+-- a square of no pair
+abbrev pub no_quadrant : Quadrant
+no_quadrant = record { nw = 0; ne = 0; sw = 0; se = 0 }
+
+-- the listed square of a number
+abbrev pub quadrant_at : List Quadrant → ℕ → Quadrant
+quadrant_at quads n = cond (nat_le n 1) no_quadrant (unwrap_or (slice_get quads (n - 2)) no_quadrant)
+
+-- the cells of the square of a number, by its height: the one cell of number 1, and else those of its quarters
+abbrev pub cells_told : List Quadrant → ℕ → ℕ → Cells
+cells_told quads zero n = λ i j. (n == 1) && ((i == 0) && (j == 0))
+cells_told quads (suc h) n =
+    let q = quadrant_at quads n in
+    quartered (2 ^ h) (cells_told quads h q.nw) (cells_told quads h q.ne) (cells_told quads h q.sw)
+    (cells_told quads h q.se)
+
+-- ---- named relations
+-- a named relation as the bytes tell it
+pub record NamedRoot : Type 0 where
+  pub name : List ℕ
+  pub rows : ℕ
+  pub cols : ℕ
+  pub root : ℕ
+
+-- how many bytes the name has that bytes begin with
+abbrev pub name_length : List ℕ → ℕ
+name_length bytes = slice_index bytes 0
+
+-- how many bytes a named relation has
+abbrev pub entry_length : List ℕ → ℕ
+entry_length bytes = 1 + name_length bytes + 12
+
+-- the named relation that bytes begin with
+abbrev pub entry_in : List ℕ → NamedRoot
+entry_in bytes =
+    let l = name_length bytes in
+    record {
+      name = take l (drop 1 bytes);
+      rows = number_at bytes (1 + l);
+      cols = number_at bytes (1 + l + 4);
+      root = number_at bytes (1 + l + 8);
+    }
+
+-- those that bytes begin with, so many
+abbrev pub entries_in : ℕ → List ℕ → List NamedRoot
+entries_in zero bytes = []
+entries_in (suc k) bytes = entry_in bytes ∷ entries_in k (drop (entry_length bytes) bytes)
+
+-- how many bytes they have together
+abbrev pub entries_length : ℕ → List ℕ → ℕ
+entries_length zero bytes = 0
+entries_length (suc k) bytes = entry_length bytes + entries_length k (drop (entry_length bytes) bytes)
+
+-- whether bytes are a letter and then letters, digits and _
+abbrev pub is_word : List ℕ → Bool
+is_word [] = false
+is_word (b ∷ bs) = is_letter b && (list_all is_word_byte bs && nat_le (length (b ∷ bs)) name_limit)
+
+-- a name stands behind the one before it, where there is one
+abbrev pub is_behind : Option (List ℕ) → List ℕ → Bool
+is_behind None name = true
+is_behind (Some earlier) name = is_lt (compare earlier name)
+
+-- whether a number is 0, or that of a listed square of this height
+abbrev pub is_root : List Quadrant → List ℕ → ℕ → ℕ → Bool
+is_root quads heights h n =
+    (n == 0) || ((nat_le 2 n && nat_lt n (length quads + 2)) && (height_at heights n == h))
+
+-- the first test that the named relation fails that bytes begin with, which stands at this place behind this name
+unfoldable pub entry_fault : List Quadrant → List ℕ → ℕ → Option (List ℕ) → List ℕ → Option BadFile
+entry_fault quads heights at earlier bytes =
+    let l = name_length bytes in
+    let e = entry_in bytes in
+    let h = file_height e.rows e.cols in
+    first_of_all (
+    unless (nat_le 1 (length bytes)) Short
+    ∷ unless (nat_le 1 l && nat_le l name_limit) (BAD_NAMES at)
+    ∷ unless (nat_le (entry_length bytes) (length bytes)) Short
+    ∷ unless (is_word e.name && is_behind earlier e.name) (BAD_NAMES at)
+    ∷ unless (nat_le e.rows size_limit && nat_le e.cols size_limit) Sizes
+    ∷ unless (is_root quads heights h e.root) (Root at)
+    ∷ unless (lies_within (2 ^ h) e.rows e.cols (cells_told quads h e.root)) (Outside at)
+    ∷ []
+    )
+
+-- the first test that named relations fail, so many, from this place on
+abbrev pub entries_fault : List Quadrant → List ℕ → ℕ → Option (List ℕ) → ℕ → List ℕ → Option BadFile
+entries_fault quads heights at earlier zero bytes = None
+entries_fault quads heights at earlier (suc k) bytes =
+    first_of_both (entry_fault quads heights at earlier bytes)
+    (entries_fault quads heights (at + 1) (Some (entry_in bytes).name) k (drop (entry_length bytes) bytes))
+
+-- the named relations of a file
+unfoldable pub entries_of : List ℕ → List NamedRoot
+entries_of bytes = entries_in (entry_count bytes) (drop (entries_at bytes) bytes)
+
+-- ---- the order of the squares
+-- a number behind the others, unless it is among them
+abbrev pub with_number : ℕ → List ℕ → List ℕ
+with_number n list = cond (list_any (λ m. m == n) list) list (list ++ n ∷ [])
+
+-- a visit of the square of a number, by its height, as that of a square
+abbrev pub visit_number : List Quadrant → ℕ → ℕ → List ℕ → List ℕ
+visit_number quads zero n list = list
+visit_number quads (suc h) n list =
+    let q = quadrant_at quads n in
+    cond (n == 0) list
+    (with_number n
+    (visit_number quads h q.se
+    (visit_number quads h q.sw (visit_number quads h q.ne (visit_number quads h q.nw list)))))
+
+-- the visits of named relations, in order
+abbrev pub visit_roots : List Quadrant → List ℕ → List NamedRoot → List ℕ
+visit_roots quads list [] = list
+visit_roots quads list (e ∷ es) =
+    visit_roots quads (visit_number quads (file_height e.rows e.cols) e.root list) es
+
+-- whether a list begins with this number
+abbrev pub begins_with : ℕ → List ℕ → Bool
+begins_with n [] = false
+begins_with n (m ∷ ms) = m == n
+
+-- the first of so many numbers, from n on, that does not stand in its place of the list
+abbrev pub first_out : ℕ → ℕ → List ℕ → Option ℕ
+first_out n zero list = None
+first_out n (suc k) list = cond (begins_with n list) (first_out (n + 1) k (drop 1 list)) (Some n)
+
+-- ---- the tests of a file
+-- the first test that bytes fail as a file of named relations
+unfoldable pub shared_fault : List ℕ → Option BadFile
+shared_fault bytes =
+    let q = quadrant_count bytes in
+    let k = entry_count bytes in
+    let quads = quadrants_of bytes in
+    let heights = heights_behind [] quads in
+    let rest = drop (entries_at bytes) bytes in
+    first_of_all (
+    unless (begins_shared bytes) Magic
+    ∷ unless (nat_le shared_header (length bytes)) Short
+    ∷ unless (nat_le (entries_at bytes) (length bytes)) Short
+    ∷ found_at Quad (first_bad 2 [] [] quads)
+    ∷ entries_fault quads heights 0 None k rest
+    ∷ found_at Order (first_out 2 q (visit_roots quads [] (entries_of bytes)))
+    ∷ unless (length rest == entries_length k rest) Rest
+    ∷ []
+    )
+
+-- a named relation by the listed squares
+abbrev pub relation_told : List Quadrant → NamedRoot → List ℕ × Relation
+relation_told quads e = (e.name, relation_of e.rows e.cols (cells_told quads (file_height e.rows e.cols) e.root))
+
+-- the named relations of a file
+unfoldable pub shared_relations : List ℕ → List (List ℕ × Relation)
+shared_relations bytes = map (relation_told (quadrants_of bytes)) (entries_of bytes)
+
+-- the relation of a name in a list
+abbrev pub relation_named : List ℕ → List (List ℕ × Relation) → Option Relation
+relation_named name [] = None
+relation_named name (entry ∷ entries) = cond (same_text entry.0 name) (Some entry.1) (relation_named name entries)
+
+-- ---- laws
+-- a relation that a file may have: its sizes are within the limit
+pub record IsFiled (entry : List ℕ × Relation) : Type 0 where
+  pub word : is_word entry.0 ≡ true
+  pub valid : IsRelation entry.1
+  pub rows : entry.1.rows ≤ size_limit
+  pub cols : entry.1.cols ≤ size_limit
+
+-- A list has one file, and a file one list: bytes without a fault are those of their list, and the bytes of a list of
+-- words in order have none and are read as it, where its squares and relations are so few that four bytes count them.
+pub record SharedFilesLaws : Type 0 where
+  pub bytes_of_read : (bytes : List ℕ) → AllByRecursion (λ b. b < 256) bytes → shared_fault bytes ≡ None →
+      shared_file (shared_relations bytes) ≡ bytes
+  pub read_of_bytes : (list : Names Relation) → IsIncreasing list → AllByRecursion IsFiled list →
+      length (squares_of list) + 1 < 2 ^ 32 → length list < 2 ^ 32 →
+      (shared_fault (shared_file list) ≡ None) × (shared_relations (shared_file list) ≡ list)
