@@ -8,7 +8,7 @@ use Rattle.lang_model.specs.declared.faults.TypeFault.TheVariants.{Mismatch}
 use Rattle.rel_model.specs.Relation.{Relation}
 use Rattle.rel_model.specs.Operators.{empty}
 use Rattle.rel_model.specs.Worker.{Worker, set_of, Keeps}
-use Rattle.lang_model.specs.Rooms.{tree_cost}
+use Rattle.lang_model.specs.Rooms.{plain_cost}
 use Rattle.lang_model.specs.Outcomes.{Cost, no_cost, Ill, Makes, Refuses, with_turns}
 use Rattle.lang_model.specs.Types.{Fits, Misfit, known, sizes, base_text}
 use Rattle.lang_model.specs.Mean.{fitting, based, answer_of_test, is_within}
@@ -92,12 +92,14 @@ module _ (w : Worker) (at : Place) (r s : Rel) (rm : (set_of w r).rows ≡ r.row
       ∙ ap (λ x. (r.rows == s.rows) && (x == S.cols)) rn ∙ ap (λ x. (r.rows == s.rows) && (r.cols == x)) sn ∙ e
 
   pub eq_fits : ((r.rows == s.rows) && (r.cols == s.cols)) ≡ true
-      → based at Eq (set_of w r ∷ set_of w s ∷ []) ≡ Makes (answer_of_test (is_within (set_of w r) (set_of w s) && is_within (set_of w s) (set_of w r))) (tree_cost 1 1)
+      → based at Eq (set_of w r ∷ set_of w s ∷ []) ≡ Makes (answer_of_test (is_within (set_of w r) (set_of w s) && is_within (set_of w s) (set_of w r))) (plain_cost r.rows r.cols)
   unfolding based
   eq_fits e =
       let R = set_of w r in
       let S = set_of w s in
-      ap (λ b. fitting (cond b (Fits (known 1 1)) (Misfit (Mismatch at (base_text Eq) (sizes R) (sizes S)))) (Makes (answer_of_test (is_within R S && is_within S R)) (tree_cost 1 1))) (tested_both true e)
+      ap (λ b. fitting (cond b (Fits (known 1 1)) (Misfit (Mismatch at (base_text Eq) (sizes R) (sizes S)))) (Makes (answer_of_test (is_within R S && is_within S R)) (plain_cost R.rows R.cols))) (tested_both true e)
+      ∙ ap (λ m. Makes (answer_of_test (is_within R S && is_within S R)) (plain_cost m R.cols)) rm
+      ∙ ap (λ n. Makes (answer_of_test (is_within R S && is_within S R)) (plain_cost r.rows n)) rn
 
   pub eq_misfit : ((r.rows == s.rows) && (r.cols == s.cols)) ≡ false
       → based at Eq (set_of w r ∷ set_of w s ∷ []) ≡ Refuses (Ill (Mismatch at (base_text Eq) (known r.rows r.cols) (known s.rows s.cols)))
@@ -105,19 +107,19 @@ module _ (w : Worker) (at : Place) (r s : Rel) (rm : (set_of w r).rows ≡ r.row
   eq_misfit e =
       let R = set_of w r in
       let S = set_of w s in
-      ap (λ b. fitting (cond b (Fits (known 1 1)) (Misfit (Mismatch at (base_text Eq) (sizes R) (sizes S)))) (Makes (answer_of_test (is_within R S && is_within S R)) (tree_cost 1 1))) (tested_both false e)
+      ap (λ b. fitting (cond b (Fits (known 1 1)) (Misfit (Mismatch at (base_text Eq) (sizes R) (sizes S)))) (Makes (answer_of_test (is_within R S && is_within S R)) (plain_cost R.rows R.cols))) (tested_both false e)
       ∙ ap (λ x. Refuses (Ill (Mismatch at (base_text Eq) x (sizes S)))) (same_type w r rm rn)
       ∙ ap (λ x. Refuses (Ill (Mismatch at (base_text Eq) (known r.rows r.cols) x))) (same_type w s sm sn)
 
   pub incl_fits : ((r.rows == s.rows) && (r.cols == s.cols)) ≡ true
-      → based at Incl (set_of w r ∷ set_of w s ∷ []) ≡ Makes (answer_of_test (is_within (set_of w r) (set_of w s))) (λ leaf. tree_cost r.rows r.cols leaf + tree_cost 1 1 leaf)
+      → based at Incl (set_of w r ∷ set_of w s ∷ []) ≡ Makes (answer_of_test (is_within (set_of w r) (set_of w s))) (plain_cost r.rows r.cols)
   unfolding based
   incl_fits e =
       let R = set_of w r in
       let S = set_of w s in
-      ap (λ b. fitting (cond b (Fits (known 1 1)) (Misfit (Mismatch at (base_text Incl) (sizes R) (sizes S)))) (Makes (answer_of_test (is_within R S)) (λ leaf. tree_cost R.rows R.cols leaf + tree_cost 1 1 leaf))) (tested_both true e)
-      ∙ ap (λ m. Makes (answer_of_test (is_within R S)) (λ leaf. tree_cost m R.cols leaf + tree_cost 1 1 leaf)) rm
-      ∙ ap (λ n. Makes (answer_of_test (is_within R S)) (λ leaf. tree_cost r.rows n leaf + tree_cost 1 1 leaf)) rn
+      ap (λ b. fitting (cond b (Fits (known 1 1)) (Misfit (Mismatch at (base_text Incl) (sizes R) (sizes S)))) (Makes (answer_of_test (is_within R S)) (plain_cost R.rows R.cols))) (tested_both true e)
+      ∙ ap (λ m. Makes (answer_of_test (is_within R S)) (plain_cost m R.cols)) rm
+      ∙ ap (λ n. Makes (answer_of_test (is_within R S)) (plain_cost r.rows n)) rn
 
   pub incl_misfit : ((r.rows == s.rows) && (r.cols == s.cols)) ≡ false
       → based at Incl (set_of w r ∷ set_of w s ∷ []) ≡ Refuses (Ill (Mismatch at (base_text Incl) (known r.rows r.cols) (known s.rows s.cols)))
@@ -125,7 +127,7 @@ module _ (w : Worker) (at : Place) (r s : Rel) (rm : (set_of w r).rows ≡ r.row
   incl_misfit e =
       let R = set_of w r in
       let S = set_of w s in
-      ap (λ b. fitting (cond b (Fits (known 1 1)) (Misfit (Mismatch at (base_text Incl) (sizes R) (sizes S)))) (Makes (answer_of_test (is_within R S)) (λ leaf. tree_cost R.rows R.cols leaf + tree_cost 1 1 leaf))) (tested_both false e)
+      ap (λ b. fitting (cond b (Fits (known 1 1)) (Misfit (Mismatch at (base_text Incl) (sizes R) (sizes S)))) (Makes (answer_of_test (is_within R S)) (plain_cost R.rows R.cols))) (tested_both false e)
       ∙ ap (λ x. Refuses (Ill (Mismatch at (base_text Incl) x (sizes S)))) (same_type w r rm rn)
       ∙ ap (λ x. Refuses (Ill (Mismatch at (base_text Incl) (known r.rows r.cols) x))) (same_type w s sm sn)
 

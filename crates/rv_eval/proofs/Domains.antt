@@ -7,13 +7,12 @@ use Rattle.rel_model.specs.declared.faults.DomainError.{DomainError}
 use Rattle.rel_model.specs.declared.faults.DomainError.TheVariants.{Size as DOMAIN_SIZE, Full as DOMAIN_FULL, NoMemory as DOMAIN_NO_MEMORY}
 use Rattle.lang_model.specs.declared.faults.TypeFault.TheVariants.{Mismatch}
 use Rattle.rel_model.specs.Relation.{Relation, size_limit}
-use Rattle.rel_model.specs.Worker.{Worker, Stands, set_of, Gives, Keeps, wide_room}
+use Rattle.rel_model.specs.Worker.{Worker, Stands, set_of, Gives, Keeps}
 use Rattle.rel_model.specs.Domains.{HasDomainCause, pairing, right_injection}
 use Rattle.lang_model.specs.declared.syntax.Base.{Base}
 use Rattle.lang_model.specs.declared.syntax.Base.TheVariants.{Syq, P1, P2, I1}
 use Rattle.rel_model.specs.Operators.{symmetric_quotient}
-use Rattle.rel_model.specs.Roots.{relation_room}
-use Rattle.lang_model.specs.Rooms.{tree_cost}
+use Rattle.lang_model.specs.Rooms.{wide_cost}
 use Rattle.lang_model.specs.Types.{known}
 use Rattle.rel_model.proofs.Workers.{gives_set, gives_stands}
 use Rattle.rv_eval.specs.declared.halt.Halt.{Halt}
@@ -61,44 +60,40 @@ module _ (w : Worker) (at : Place) (r s : Rel) (rm : (set_of w r).rows ≡ r.row
   tested_rows : (b : Bool) → (r.rows == s.rows) ≡ b → ((set_of w r).rows == (set_of w s).rows) ≡ b
   tested_rows b e = ap (λ x. x == (set_of w s).rows) rm ∙ ap (λ x. r.rows == x) sm ∙ e
 
-  pub pair_fits : r.rows ≡ s.rows → paired at (set_of w r) (set_of w s) ≡ limited at (r.cols * s.cols) (Makes (pairing (set_of w r) (set_of w s)) (λ leaf. wide_room r.rows (max r.cols s.cols) (r.cols * s.cols)))
+  pub pair_fits : r.rows ≡ s.rows → paired at (set_of w r) (set_of w s) ≡ limited at (r.cols * s.cols) (Makes (pairing (set_of w r) (set_of w s)) (wide_cost r.rows (max r.cols s.cols) (r.cols * s.cols)))
   unfolding paired
   pair_fits e =
       let R = set_of w r in
       let S = set_of w s in
-      ap (λ b. fitting (cond b (Fits (type_of (Some R.rows) (computed_of_two (λ m p. m * p) (Some R.cols) (Some S.cols)))) (Misfit (Mismatch at (codes "[") (sizes R) (sizes S)))) (limited at (R.cols * S.cols) (Makes (pairing R S) (λ leaf. wide_room R.rows (max R.cols S.cols) (R.cols * S.cols))))) (tested_rows true (equal_sizes r.rows s.rows e))
-      ∙ ap (λ k. limited at (k * S.cols) (Makes (pairing R S) (λ leaf. wide_room R.rows (max k S.cols) (k * S.cols)))) rn ∙ ap (λ k. limited at (r.cols * k) (Makes (pairing R S) (λ leaf. wide_room R.rows (max r.cols k) (r.cols * k)))) sn
-      ∙ ap (λ k. limited at (r.cols * s.cols) (Makes (pairing R S) (λ leaf. wide_room k (max r.cols s.cols) (r.cols * s.cols)))) rm
+      ap (λ b. fitting (cond b (Fits (type_of (Some R.rows) (computed_of_two (λ m p. m * p) (Some R.cols) (Some S.cols)))) (Misfit (Mismatch at (codes "[") (sizes R) (sizes S)))) (limited at (R.cols * S.cols) (Makes (pairing R S) (wide_cost R.rows (max R.cols S.cols) (R.cols * S.cols))))) (tested_rows true (equal_sizes r.rows s.rows e))
+      ∙ ap (λ k. limited at (k * S.cols) (Makes (pairing R S) (wide_cost R.rows (max k S.cols) (k * S.cols)))) rn ∙ ap (λ k. limited at (r.cols * k) (Makes (pairing R S) (wide_cost R.rows (max r.cols k) (r.cols * k)))) sn
+      ∙ ap (λ k. limited at (r.cols * s.cols) (Makes (pairing R S) (wide_cost k (max r.cols s.cols) (r.cols * s.cols)))) rm
 
   pub pair_misfit : (r.rows == s.rows) ≡ false → paired at (set_of w r) (set_of w s) ≡ Refuses (Ill (Mismatch at (codes "[") (known r.rows r.cols) (known s.rows s.cols)))
   unfolding paired
   pair_misfit e =
       let R = set_of w r in
       let S = set_of w s in
-      ap (λ b. fitting (cond b (Fits (type_of (Some R.rows) (computed_of_two (λ m p. m * p) (Some R.cols) (Some S.cols)))) (Misfit (Mismatch at (codes "[") (sizes R) (sizes S)))) (limited at (R.cols * S.cols) (Makes (pairing R S) (λ leaf. wide_room R.rows (max R.cols S.cols) (R.cols * S.cols))))) (tested_rows false e)
+      ap (λ b. fitting (cond b (Fits (type_of (Some R.rows) (computed_of_two (λ m p. m * p) (Some R.cols) (Some S.cols)))) (Misfit (Mismatch at (codes "[") (sizes R) (sizes S)))) (limited at (R.cols * S.cols) (Makes (pairing R S) (wide_cost R.rows (max R.cols S.cols) (R.cols * S.cols))))) (tested_rows false e)
       ∙ ap (λ x. Refuses (Ill (Mismatch at (codes "[") x (sizes S)))) (same_type w r rm rn) ∙ ap (λ x. Refuses (Ill (Mismatch at (codes "[") (known r.rows r.cols) x))) (same_type w s sm sn)
 
-  pub syq_fits : r.rows ≡ s.rows → based at Syq (set_of w r ∷ set_of w s ∷ []) ≡ Makes (symmetric_quotient (set_of w r) (set_of w s)) (λ leaf. wide_room r.rows r.cols s.cols)
+  pub syq_fits : r.rows ≡ s.rows → based at Syq (set_of w r ∷ set_of w s ∷ []) ≡ Makes (symmetric_quotient (set_of w r) (set_of w s)) (wide_cost r.rows r.cols s.cols)
   unfolding based
   syq_fits e =
       let R = set_of w r in
       let S = set_of w s in
-      ap (λ b. fitting (cond b (Fits (type_of (Some R.cols) (Some S.cols))) (Misfit (Mismatch at (base_text Syq) (sizes R) (sizes S)))) (Makes (symmetric_quotient R S) (λ leaf. wide_room R.rows R.cols S.cols))) (tested_rows true (equal_sizes r.rows s.rows e))
-      ∙ ap (λ k. Makes (symmetric_quotient R S) (λ leaf. wide_room k R.cols S.cols)) rm ∙ ap (λ k. Makes (symmetric_quotient R S) (λ leaf. wide_room r.rows k S.cols)) rn ∙ ap (λ k. Makes (symmetric_quotient R S) (λ leaf. wide_room r.rows r.cols k)) sn
+      ap (λ b. fitting (cond b (Fits (type_of (Some R.cols) (Some S.cols))) (Misfit (Mismatch at (base_text Syq) (sizes R) (sizes S)))) (Makes (symmetric_quotient R S) (wide_cost R.rows R.cols S.cols))) (tested_rows true (equal_sizes r.rows s.rows e))
+      ∙ ap (λ k. Makes (symmetric_quotient R S) (wide_cost k R.cols S.cols)) rm ∙ ap (λ k. Makes (symmetric_quotient R S) (wide_cost r.rows k S.cols)) rn ∙ ap (λ k. Makes (symmetric_quotient R S) (wide_cost r.rows r.cols k)) sn
 
   pub syq_misfit : r.rows ≢ s.rows → based at Syq (set_of w r ∷ set_of w s ∷ []) ≡ Refuses (Ill (Mismatch at (base_text Syq) (known r.rows r.cols) (known s.rows s.cols)))
   unfolding based
   syq_misfit e =
       let R = set_of w r in
       let S = set_of w s in
-      ap (λ b. fitting (cond b (Fits (type_of (Some R.cols) (Some S.cols))) (Misfit (Mismatch at (base_text Syq) (sizes R) (sizes S)))) (Makes (symmetric_quotient R S) (λ leaf. wide_room R.rows R.cols S.cols))) (tested_rows false (unequal_sizes r.rows s.rows e))
+      ap (λ b. fitting (cond b (Fits (type_of (Some R.cols) (Some S.cols))) (Misfit (Mismatch at (base_text Syq) (sizes R) (sizes S)))) (Makes (symmetric_quotient R S) (wide_cost R.rows R.cols S.cols))) (tested_rows false (unequal_sizes r.rows s.rows e))
       ∙ ap (λ x. Refuses (Ill (Mismatch at (base_text Syq) x (sizes S)))) (same_type w r rm rn) ∙ ap (λ x. Refuses (Ill (Mismatch at (base_text Syq) (known r.rows r.cols) x))) (same_type w s sm sn)
 
-pub tree_of : (leaf m n : ℕ) → relation_room leaf m n ≡ tree_cost m n leaf
-unfolding tree_cost
-tree_of leaf m n = refl
-
-pub other_domain : (at : Place) (base : Base) (x y : ℕ) → base ≢ P1 → base ≢ P2 → base ≢ I1 → domain_made at base x y ≡ limited at (x + y) (Makes (right_injection x y) (tree_cost y (x + y)))
+pub other_domain : (at : Place) (base : Base) (x y : ℕ) → base ≢ P1 → base ≢ P2 → base ≢ I1 → domain_made at base x y ≡ limited at (x + y) (Makes (right_injection x y) (wide_cost x y (x + y)))
 other_domain at P1 x y a b c = absurd (a refl)
 other_domain at P2 x y a b c = absurd (b refl)
 other_domain at I1 x y a b c = absurd (c refl)

@@ -21,9 +21,8 @@ use Rattle.lang_model.specs.declared.faults.TypeFault.TheVariants.{Unknown, Arit
 use Rattle.lang_model.specs.declared.faults.StaticShape.{StaticShape}
 use Rattle.rel_model.specs.Relation.{Relation, has, size_limit}
 use Rattle.rel_model.specs.Domains.{pairing, first_projection, second_projection, left_injection, right_injection}
-use Rattle.rel_model.specs.Worker.{wide_room}
 use Rattle.lang_model.specs.Tokens.{same_text}
-use Rattle.lang_model.specs.Rooms.{tree_cost, link_cost}
+use Rattle.lang_model.specs.Rooms.{wide_cost, link_cost}
 use Rattle.lang_model.specs.State.{State, assigned}
 use Rattle.lang_model.specs.Missing.{missing, missing_in, missing_along, first_of_both}
 use Rattle.lang_model.specs.Outcomes.{Size, Answer, Got, Not, Came, got, following, and_then, Operation, Makes, Refuses, with_turns}
@@ -133,15 +132,15 @@ paired-good : (at : Place) (r q : Relation) (n : ℕ) → Good Any (with_turns (
 unfolding paired
 paired-good at r q n = by (r.rows == q.rows)
   where
-    by : (b : Bool) → Good Any (with_turns (fitting (cond b (Fits (type_of (Some r.rows) (computed_of_two (λ m p. m * p) (Some r.cols) (Some q.cols)))) (Misfit (Mismatch at (codes "[") (sizes r) (sizes q)))) (limited at (r.cols * q.cols) (Makes (pairing r q) (λ leaf. wide_room r.rows (max r.cols q.cols) (r.cols * q.cols))))) n).answer
-    by true = limited-good at (r.cols * q.cols) (Makes (pairing r q) (λ leaf. wide_room r.rows (max r.cols q.cols) (r.cols * q.cols))) n tt
+    by : (b : Bool) → Good Any (with_turns (fitting (cond b (Fits (type_of (Some r.rows) (computed_of_two (λ m p. m * p) (Some r.cols) (Some q.cols)))) (Misfit (Mismatch at (codes "[") (sizes r) (sizes q)))) (limited at (r.cols * q.cols) (Makes (pairing r q) (wide_cost r.rows (max r.cols q.cols) (r.cols * q.cols))))) n).answer
+    by true = limited-good at (r.cols * q.cols) (Makes (pairing r q) (wide_cost r.rows (max r.cols q.cols) (r.cols * q.cols))) n tt
     by false = tt
 
 pub domain-good : (at : Place) (base : Base) (x y n : ℕ) → Good Any (with_turns (domain_made at base x y) n).answer
-domain-good at P1 x y n = limited-good at (x * y) (Makes (first_projection x y) (tree_cost (x * y) x)) n tt
-domain-good at P2 x y n = limited-good at (x * y) (Makes (second_projection x y) (tree_cost (x * y) y)) n tt
-domain-good at I1 x y n = limited-good at (x + y) (Makes (left_injection x y) (tree_cost x (x + y))) n tt
-domain-good at base x y n = limited-good at (x + y) (Makes (right_injection x y) (tree_cost y (x + y))) n tt
+domain-good at P1 x y n = limited-good at (x * y) (Makes (first_projection x y) (wide_cost x y (x * y))) n tt
+domain-good at P2 x y n = limited-good at (x * y) (Makes (second_projection x y) (wide_cost x y (x * y))) n tt
+domain-good at I1 x y n = limited-good at (x + y) (Makes (left_injection x y) (wide_cost x y (x + y))) n tt
+domain-good at base x y n = limited-good at (x + y) (Makes (right_injection x y) (wide_cost x y (x + y))) n tt
 
 tested-good : (at : Place) (r : Relation) (n : ℕ) → Good Any (tested at r n).answer
 tested-good at r n = by (may_be 1 (Some r.rows) && may_be 1 (Some r.cols))

@@ -16,8 +16,7 @@ use Rattle.lang_model.specs.declared.faults.StaticShape.{StaticShape}
 use Rattle.rel_model.specs.Relation.{Relation, has, size_limit}
 use Rattle.rel_model.specs.Operators.{union, inter, complement, transpose, transposed_by, compose, right_residual, left_residual}
 use Rattle.rel_model.specs.Domains.{pairing, first_projection, second_projection, left_injection, right_injection}
-use Rattle.rel_model.specs.Worker.{wide_room}
-use Rattle.lang_model.specs.Rooms.{tree_cost, link_cost}
+use Rattle.lang_model.specs.Rooms.{wide_cost, link_cost}
 use Rattle.lang_model.specs.State.{State}
 use Rattle.lang_model.specs.Missing.{first_of_both}
 use Rattle.lang_model.specs.Outcomes.{Refusal, Ill, Size, Turns, Answer, Got, Not, Came, following, Operation, Makes, Refuses, with_turns}
@@ -228,7 +227,7 @@ module _ (p : Place → Bool) where
     unfolding paired
     paired-sure e u =
         sure_of c _ (typed_pair at s t) e (paired-agree at s t r q n h k)
-        (tells_fitting (r.rows == q.rows) _ (Mismatch at (codes "[") (sizes r) (sizes q)) (limited at (r.cols * q.cols) (Makes (pairing r q) (λ leaf. wide_room r.rows (max r.cols q.cols) (r.cols * q.cols)))) n (test_of_two at s.rows t.rows r.rows q.rows h.row_size k.row_size (passed_test (agree s.rows t.rows) _ _ c e) u) (tells_limited at (r.cols * q.cols) (Makes (pairing r q) (λ leaf. wide_room r.rows (max r.cols q.cols) (r.cols * q.cols))) n tt))
+        (tells_fitting (r.rows == q.rows) _ (Mismatch at (codes "[") (sizes r) (sizes q)) (limited at (r.cols * q.cols) (Makes (pairing r q) (wide_cost r.rows (max r.cols q.cols) (r.cols * q.cols)))) n (test_of_two at s.rows t.rows r.rows q.rows h.row_size k.row_size (passed_test (agree s.rows t.rows) _ _ c e) u) (tells_limited at (r.cols * q.cols) (Makes (pairing r q) (wide_cost r.rows (max r.cols q.cols) (r.cols * q.cols))) n tt))
 
   based-tells : (at : Place) (base : Base) (ss : List StaticShape) (rs : List Relation) (n : ℕ) (c : StaticShape) → AreDescribed ss rs → typed_based at base ss ≡ Fits c → KnownOr p at (tested_by_bases base ss) → Tells p (with_turns (based at base rs) n).answer
   unfolding based typed_based
@@ -288,10 +287,10 @@ module _ (p : Place → Bool) where
 
   -- domain operators
   domain-tells : (at : Place) (base : Base) (x y n : ℕ) → Tells p (with_turns (domain_made at base x y) n).answer
-  domain-tells at P1 x y n = tells_limited at (x * y) (Makes (first_projection x y) (tree_cost (x * y) x)) n tt
-  domain-tells at P2 x y n = tells_limited at (x * y) (Makes (second_projection x y) (tree_cost (x * y) y)) n tt
-  domain-tells at I1 x y n = tells_limited at (x + y) (Makes (left_injection x y) (tree_cost x (x + y))) n tt
-  domain-tells at base x y n = tells_limited at (x + y) (Makes (right_injection x y) (tree_cost y (x + y))) n tt
+  domain-tells at P1 x y n = tells_limited at (x * y) (Makes (first_projection x y) (wide_cost x y (x * y))) n tt
+  domain-tells at P2 x y n = tells_limited at (x * y) (Makes (second_projection x y) (wide_cost x y (x * y))) n tt
+  domain-tells at I1 x y n = tells_limited at (x + y) (Makes (left_injection x y) (wide_cost x y (x + y))) n tt
+  domain-tells at base x y n = tells_limited at (x + y) (Makes (right_injection x y) (wide_cost x y (x + y))) n tt
 
   injected-tells : (S : State) (at : Place) (base : Base) (o : Option (List ℕ × List ℕ)) (n : ℕ) → Tells p (with_turns (injected_by S at base o) n).answer
   injected-tells S at base None n = tt

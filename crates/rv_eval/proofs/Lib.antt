@@ -16,3 +16,4 @@ pub mod Calls
 pub mod Knowing
 pub mod Known
 pub mod Ills
+pub mod Costing

@@ -15,10 +15,9 @@ use Rattle.lang_model.specs.Types.{known, spelling}
 use Rattle.lang_model.specs.Mean.{result_of_both}
 use Rattle.rel_model.specs.declared.Lack.{Lack}
 use Rattle.rel_model.specs.declared.Lack.TheVariants.{Full, NoMemory}
-use Rattle.rel_model.specs.Worker.{Worker, Stands, set_of, Gives, Keeps, HasCause, height_of_three, product_room, derived_room, wide_room}
+use Rattle.rel_model.specs.Worker.{Worker, Stands, set_of, Gives, Keeps, HasCause}
 use Rattle.rel_model.specs.Relation.{Relation, relation_of}
-use Rattle.rel_model.specs.Roots.{relation_room}
-use Rattle.lang_model.specs.Rooms.{tree_cost, link_cost}
+use Rattle.lang_model.specs.Rooms.{link_cost}
 use Rattle.rel_model.proofs.Workers.{gives_set, gives_stands, keeps_itself, keeps_trans}
 use Rattle.rv_eval.specs.declared.halt.Halt.{Halt}
 use Rattle.rv_eval.specs.declared.halt.Halt.TheVariants.{Lack as LACK}
@@ -36,11 +35,6 @@ made_value old new value cost rel e k m = record { value = ap (λ x. Got x 0) (s
 pub made_lack : {leaf : ℕ} {T X Y : Type 0} (old mid new : Worker) (n : ℕ) (came : Came T) (is : X → T) (lean : Bool) (lack : Lack) → HasCause {T = Y} lean mid new (Err lack) → Keeps old mid → Keeps mid new → new.made ≤ old.made + came.cost leaf → Ends leaf {X = X} old new n n came is (Err (LACK lack))
 made_lack old mid new n came is lean Full cause k l m = record { value = tt; halted = rose_before old.misses mid.misses new.misses k.misses (cause.full refl); keeps = keeps_trans old mid new k l; room = m; turns = omega arith }
 made_lack old mid new n came is lean NoMemory cause k l m = record { value = tt; halted = tt; keeps = keeps_trans old mid new k l; room = m; turns = omega arith }
-
--- one tree of a relation that stands
-pub one_tree : (leaf : ℕ) (w : Worker) (r : Rel) → (set_of w r).rows ≡ r.rows → (set_of w r).cols ≡ r.cols → relation_room leaf r.rows r.cols ≡ tree_cost (set_of w r).rows (set_of w r).cols leaf
-unfolding tree_cost
-one_tree leaf w r m n = ap (λ x. relation_room leaf x r.cols) (sym m) ∙ ap (relation_room leaf (set_of w r).rows) (sym n)
 
 -- one operation of a worker
 pub one_made : {leaf : ℕ} (old new : Worker) (lean : Bool) (m n : ℕ) (value : Relation) (cost : Cost) (result : Result Rel Lack) → IfOk result (Gives new m n value) → Keeps old new → new.made ≤ old.made + cost leaf → HasCause lean old new result → Ends leaf old new 0 0 (with_turns (Makes value cost) 0) (set_of new) (lifted result)
@@ -68,11 +62,6 @@ module _ (w : Worker) (at : Place) (op : Op2) (r s : Rel) (rm : (set_of w r).row
   link_misfit e = ap (λ b. fitting (cond b (Fits (type_of_link op (sizes (set_of w r)) (sizes (set_of w s)))) (Misfit (Mismatch at (spelling op) (sizes (set_of w r)) (sizes (set_of w s))))) (Makes (result_of_both op (set_of w r) (set_of w s)) (link_cost op (set_of w r) (set_of w s)))) (same_takes false e)
       ∙ ap (λ x. Refuses (Ill (Mismatch at (spelling op) x (sizes (set_of w s))))) (same_type w r rm rn) ∙ ap (λ x. Refuses (Ill (Mismatch at (spelling op) (known r.rows r.cols) x))) (same_type w s sm sn)
 
--- the residuals cost no more than their room
-pub within_wide : (k m n : ℕ) → derived_room k m n ≤ wide_room k m n
-unfolding derived_room wide_room
-within_wide k m n = let h = height_of_three k m n in grind (arith)
-
 pub both_fit : (m n p q : ℕ) → ((m == p) && (n == q)) ≡ true → (m ≡ p) × (n ≡ q)
 both_fit m n p q e = (grind (arith, nat_tests, e), grind (arith, nat_tests, e))
 
@@ -90,13 +79,6 @@ module _ (old new : Worker) (lean : Bool) (at : Place) (op : Op2) (r s : Rel) (r
       let e : linked at op R S ≡ Makes (result_of_both here R S) (link_cost here R S) = link_fits old at op r s rm rn sm sn fits ∙ ap (λ o. Makes (result_of_both o R S) (link_cost o R S)) is in
       subst (λ o. Ends leaf old new 0 0 (with_turns o 0) (set_of new) result) (sym e)
       (subst (λ x. Ends leaf old new 0 0 (with_turns (Makes (result_of_both here R S) (link_cost here R S)) 0) (set_of new) x) (sym tells) (one_made old new lean m n (result_of_both here R S) (link_cost here R S) given value keeps room cause))
-
--- rooms by the sizes of sets
-pub product_of : (w : Worker) (r s : Rel) → (set_of w r).rows ≡ r.rows → (set_of w r).cols ≡ r.cols → (set_of w s).cols ≡ s.cols → product_room r.rows r.cols s.cols ≡ product_room (set_of w r).rows (set_of w r).cols (set_of w s).cols
-product_of w r s a b c = sym (ap (λ x. product_room x (set_of w r).cols (set_of w s).cols) a ∙ ap (λ x. product_room r.rows x (set_of w s).cols) b ∙ ap (product_room r.rows r.cols) c)
-
-pub wide_of : (k m n x y z : ℕ) → x ≡ k → y ≡ m → z ≡ n → derived_room k m n ≤ wide_room x y z
-wide_of k m n x y z a b c = let e : wide_room x y z ≡ wide_room k m n = ap (λ i. wide_room i y z) a ∙ ap (λ i. wide_room k i z) b ∙ ap (wide_room k m) c in omega (arith, e, within_wide k m n)
 
 pub equal_sizes : (m n : ℕ) → m ≡ n → (m == n) ≡ true
 equal_sizes m n e = grind (arith, nat_tests, e)

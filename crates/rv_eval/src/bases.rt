@@ -1,10 +1,9 @@
 //! Base calls, with their tests of types.
 ghost use Rattle.std.specs.Prelude.{◌≡◌, [], ◌∷◌, map, IfOk};
 ghost use Rattle.std.specs.List.{AllByRecursion};
-ghost use Rattle.rel_model.specs.Worker.{Stands, set_of};
+ghost use Rattle.rel_model.specs.Worker.{Stands, set_of, operator_room};
 ghost use Rattle.rel_model.specs.Operators.{empty};
 ghost use Rattle.lang_model.specs.Outcomes.{no_cost, with_turns, Makes};
-ghost use Rattle.lang_model.specs.Rooms.{tree_cost};
 ghost use Rattle.lang_model.specs.Mean.{based, answer_of_test};
 ghost use Rattle.rv_eval.specs.declared.bases.Demand.TheVariants.{Nothing, Square, OneColumn};
 ghost use Rattle.rv_eval.specs.Demands.{demanded};
@@ -23,7 +22,7 @@ use std::alloc::Global;
 /// The full or the empty relation of one row and one column.
 pub fn truth<E: Engine>(engine: &mut E, yes: bool) -> Result<Rel, Halt>
     ensures ends { let w = E.worker engine.old in
-        let o = Makes (answer_of_test yes) (tree_cost 1 1) in
+        let o = Makes (answer_of_test yes) (λ leaf. operator_room 1 1) in
         Ends E.least w (E.worker engine.new) 0 0 (with_turns o 0) (set_of (E.worker engine.new)) result }
     ensures stands { IfOk result (Stands (E.worker engine.new)) }
 {

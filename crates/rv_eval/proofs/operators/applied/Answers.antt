@@ -1,9 +1,9 @@
 use Rattle.std.proofs.Common.{◌≤◌, ◌+◌, ◌∙◌, sym, ap, arith}
 use Rattle.lang_model.specs.declared.syntax.Op2.TheVariants.{Or, And, Times, Under, Over}
 use Rattle.lang_model.specs.Types.{known, takes}
-use Rattle.rel_model.specs.Worker.{product_room, derived_room}
-use Rattle.rel_model.specs.Roots.{relation_room}
-use Rattle.rv_eval.proofs.Operating.{one_tree, product_of, wide_of, linked_ends, both_fit, one_fits}
+use Rattle.rel_model.specs.Worker.{operator_room, product_room, derived_room}
+use Rattle.rv_eval.proofs.Operating.{linked_ends, both_fit, one_fits}
+use Rattle.rv_eval.proofs.Costing.{one_plain_of, product_of, wide_of}
 use Rattle.rv_eval.proofs.operators.applied.Goals as goal
 
 pub returns-in-Or-clause-ends : goal.returns-in-Or-clause-ends
@@ -16,8 +16,8 @@ returns-in-Or-clause-ends g c =
     let rn = g.met.E.Core.col_size c.args.engine.now r c.requires.left in
     let sm = g.met.E.Core.row_size c.args.engine.now s c.requires.right in
     let sn = g.met.E.Core.col_size c.args.engine.now s c.requires.right in
-    let made : v.made ≤ w.made + relation_room g.E.Core.least r.rows r.cols = c.union.ensures.tree in
-    let bound = one_tree g.E.Core.least w r rm rn in
+    let made : v.made ≤ w.made + operator_room r.rows r.cols = c.union.ensures.room in
+    let bound = one_plain_of g.E.Core.least w r rm rn in
     linked_ends w v g.E.Core.lean c.args.at c.args.op r s rm rn sm sn c.requires.fits _ _ c.union.result c.lift.result c.lift.ensures c.union.ensures.keeps c.union.ensures.cause Or c.in-Or.is c.union.ensures.value (omega (arith, made, bound))
 
 pub returns-in-And-clause-ends : goal.returns-in-And-clause-ends
@@ -30,8 +30,8 @@ returns-in-And-clause-ends g c =
     let rn = g.met.E.Core.col_size c.args.engine.now r c.requires.left in
     let sm = g.met.E.Core.row_size c.args.engine.now s c.requires.right in
     let sn = g.met.E.Core.col_size c.args.engine.now s c.requires.right in
-    let made : v.made ≤ w.made + relation_room g.E.Core.least r.rows r.cols = c.inter.ensures.tree in
-    let bound = one_tree g.E.Core.least w r rm rn in
+    let made : v.made ≤ w.made + operator_room r.rows r.cols = c.inter.ensures.room in
+    let bound = one_plain_of g.E.Core.least w r rm rn in
     linked_ends w v g.E.Core.lean c.args.at c.args.op r s rm rn sm sn c.requires.fits _ _ c.inter.result c.lift-in-And.result c.lift-in-And.ensures c.inter.ensures.keeps c.inter.ensures.cause And c.in-And.is c.inter.ensures.value (omega (arith, made, bound))
 
 pub returns-in-Times-clause-ends : goal.returns-in-Times-clause-ends
@@ -45,7 +45,7 @@ returns-in-Times-clause-ends g c =
     let sm = g.met.E.Core.row_size c.args.engine.now s c.requires.right in
     let sn = g.met.E.Core.col_size c.args.engine.now s c.requires.right in
     let made : v.made ≤ w.made + product_room r.rows r.cols s.cols = c.compose.ensures.room in
-    let bound = product_of w r s rm rn sn in
+    let bound = product_of g.E.Core.least r.rows r.cols s.cols _ _ _ rm rn sn in
     linked_ends w v g.E.Core.lean c.args.at c.args.op r s rm rn sm sn c.requires.fits _ _ c.compose.result c.lift-in-Times.result c.lift-in-Times.ensures c.compose.ensures.keeps c.compose.ensures.cause Times c.in-Times.is c.compose.ensures.value (omega (arith, made, bound))
 
 pub returns-in-Under-clause-ends : goal.returns-in-Under-clause-ends
@@ -59,7 +59,7 @@ returns-in-Under-clause-ends g c =
     let sm = g.met.E.Core.row_size c.args.engine.now s c.requires.right in
     let sn = g.met.E.Core.col_size c.args.engine.now s c.requires.right in
     let made : v.made ≤ w.made + derived_room r.rows r.cols s.cols = c.right.ensures.room in
-    let bound = wide_of r.rows r.cols s.cols _ _ _ rm rn sn in
+    let bound = wide_of g.E.Core.least r.rows r.cols s.cols _ _ _ rm rn sn in
     linked_ends w v g.E.Core.lean c.args.at c.args.op r s rm rn sm sn c.requires.fits _ _ c.right.result c.lift-in-Under.result c.lift-in-Under.ensures c.right.ensures.keeps c.right.ensures.cause Under c.in-Under.is c.right.ensures.value (omega (arith, made, bound))
 
 pub returns-in-Over-clause-ends : goal.returns-in-Over-clause-ends
@@ -73,7 +73,7 @@ returns-in-Over-clause-ends g c =
     let sm = g.met.E.Core.row_size c.args.engine.now s c.requires.right in
     let sn = g.met.E.Core.col_size c.args.engine.now s c.requires.right in
     let made : v.made ≤ w.made + derived_room r.rows r.cols s.rows = c.left.ensures.room in
-    let bound = wide_of r.rows r.cols s.rows _ _ _ rm rn sm in
+    let bound = wide_of g.E.Core.least r.rows r.cols s.rows _ _ _ rm rn sm in
     linked_ends w v g.E.Core.lean c.args.at c.args.op r s rm rn sm sn c.requires.fits _ _ c.left.result c.lift-in-Over.result c.lift-in-Over.ensures c.left.ensures.keeps c.left.ensures.cause Over c.in-Over.is c.left.ensures.value (omega (arith, made, bound))
 
 pub union-requires-clause-rows : goal.union-requires-clause-rows
