@@ -5,6 +5,7 @@
 use Rattle.std.proofs.Common.{◌≡◌, ◌==◌, ◌&&◌, ◌-◌, ℕ, Bool, true, false, List, [], ◌∷◌, ◌++◌, length, take, drop, codes, nat_le, Option, Some, None, refl, ap, ◌∙◌}
 use Rattle.run_model.specs.declared.outcome.BadFile.{BadFile}
 use Rattle.run_model.specs.declared.outcome.BadFile.TheVariants.{Short, Magic, Sizes, Height, Lengths, ZeroGroup, Outside, Padding, Rest, Full, NoMemory}
+use Rattle.run_model.specs.declared.outcome.BadFile.TheVariants.{Quad, Names as BAD_NAMES, Root, Order, Missing}
 use Rattle.lang_model.specs.Missing.{first_of_both}
 use Rattle.lang_model.specs.Tokens.{same_text}
 use Rattle.rel_model.specs.Relation.{size_limit}
@@ -152,6 +153,11 @@ is-fault bytes (ZeroGroup at) h = h
 is-fault bytes (Outside at) h = h
 is-fault bytes Padding h = h
 is-fault bytes Rest h = h
+is-fault bytes (Quad at) h = h
+is-fault bytes (BAD_NAMES at) h = h
+is-fault bytes (Root at) h = h
+is-fault bytes (Order at) h = h
+is-fault bytes Missing h = h
 
 -- a fault of one group is that of the file
 pub fault-moves : (found all : Option BadFile) (fault : BadFile) → ((e : BadFile) → found ≡ Some e → all ≡ Some e) → IsFaultOf found fault → IsFaultOf all fault
@@ -166,3 +172,8 @@ fault-moves found all (ZeroGroup at) f h = f (ZeroGroup at) h
 fault-moves found all (Outside at) f h = f (Outside at) h
 fault-moves found all Padding f h = f Padding h
 fault-moves found all Rest f h = f Rest h
+fault-moves found all (Quad at) f h = f (Quad at) h
+fault-moves found all (BAD_NAMES at) f h = f (BAD_NAMES at) h
+fault-moves found all (Root at) f h = f (Root at) h
+fault-moves found all (Order at) f h = f (Order at) h
+fault-moves found all Missing f h = f Missing h

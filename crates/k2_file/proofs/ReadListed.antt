@@ -12,6 +12,7 @@ use Rattle.rel_model.specs.Roots.{height_over}
 use Rattle.rel_model.specs.Worker.{Worker, Gives, listed_room}
 use Rattle.run_model.specs.declared.outcome.BadFile.{BadFile}
 use Rattle.run_model.specs.declared.outcome.BadFile.TheVariants.{Short, Magic, Sizes, Height, Lengths, ZeroGroup, Outside, Padding, Rest, Full, NoMemory}
+use Rattle.run_model.specs.declared.outcome.BadFile.TheVariants.{Quad, Names as BAD_NAMES, Root, Order, Missing}
 use Rattle.run_model.specs.Cost.{listed_cost}
 use Rattle.run_model.specs.Files.{whole, header_length, bytes_for, part, unpacked, fields, ones, cells_below, cells_told, cell_outside, chosen, unless, found_at, first_of_all, k2_fault, k2_relation}
 use Rattle.k2_file.specs.declared.header.Header.{Header}
@@ -211,3 +212,8 @@ read-fault old bytes (ZeroGroup at) h = (h, refl, omega arith)
 read-fault old bytes (Outside at) h = (h, refl, omega arith)
 read-fault old bytes Padding h = (h, refl, omega arith)
 read-fault old bytes Rest h = (h, refl, omega arith)
+read-fault old bytes (Quad at) h = (h, refl, omega arith)
+read-fault old bytes (BAD_NAMES at) h = (h, refl, omega arith)
+read-fault old bytes (Root at) h = (h, refl, omega arith)
+read-fault old bytes (Order at) h = (h, refl, omega arith)
+read-fault old bytes Missing h = (h, refl, omega arith)

@@ -14,6 +14,11 @@ use Rattle.run_model.specs.declared.outcome.BadFile.TheVariants.{
   Rest,
   Full,
   NoMemory,
+  Quad,
+  Names as BAD_NAMES,
+  Root,
+  Order,
+  Missing,
 }
 use Rattle.rel_model.specs.Worker.{Worker, Gives, MakesAtMost, MissesNothing, Rose}
 use Rattle.run_model.specs.Files.{k2_fault, k2_relation}
@@ -39,6 +44,11 @@ IsRead old new bytes (Err (ZeroGroup at)) = IsFault old new bytes (ZeroGroup at)
 IsRead old new bytes (Err (Outside at)) = IsFault old new bytes (Outside at)
 IsRead old new bytes (Err Padding) = IsFault old new bytes Padding
 IsRead old new bytes (Err Rest) = IsFault old new bytes Rest
+IsRead old new bytes (Err (Quad at)) = IsFault old new bytes (Quad at)
+IsRead old new bytes (Err (BAD_NAMES at)) = IsFault old new bytes (BAD_NAMES at)
+IsRead old new bytes (Err (Root at)) = IsFault old new bytes (Root at)
+IsRead old new bytes (Err (Order at)) = IsFault old new bytes (Order at)
+IsRead old new bytes (Err Missing) = IsFault old new bytes Missing
 
 -- how many nodes bytes may take where this test fails first, or none: none where one fails
 abbrev pub cost_unless : Option BadFile → ℕ → ℕ

@@ -3,6 +3,7 @@ use Rattle.std.specs.Prelude.{◌≡◌, ◌==◌, ◌&&◌, ◌||◌, ◌+◌, 
 use Rattle.std.specs.List.{AllByRecursion, slice_index_or}
 use Rattle.run_model.specs.declared.outcome.BadFile.{BadFile}
 use Rattle.run_model.specs.declared.outcome.BadFile.TheVariants.{Short, Magic, Sizes, Height, Lengths, ZeroGroup, Outside, Padding, Rest, Full, NoMemory}
+use Rattle.run_model.specs.declared.outcome.BadFile.TheVariants.{Quad, Names as BAD_NAMES, Root, Order, Missing}
 use Rattle.lang_model.specs.Tokens.{same_text}
 use Rattle.rel_model.specs.Relation.{size_limit, size_height}
 use Rattle.run_model.specs.Files.{Corner, unpacked, bytes_for, header_length, fields, file_height, levels_fit, zero_group, whole, cells_below, cells_told, cell_outside, chosen, ones, unless, found_at, first_of_all}
@@ -134,3 +135,8 @@ IsFaultOf found (ZeroGroup at) = found ≡ Some (ZeroGroup at)
 IsFaultOf found (Outside at) = found ≡ Some (Outside at)
 IsFaultOf found Padding = found ≡ Some Padding
 IsFaultOf found Rest = found ≡ Some Rest
+IsFaultOf found (Quad at) = found ≡ Some (Quad at)
+IsFaultOf found (BAD_NAMES at) = found ≡ Some (BAD_NAMES at)
+IsFaultOf found (Root at) = found ≡ Some (Root at)
+IsFaultOf found (Order at) = found ≡ Some (Order at)
+IsFaultOf found Missing = found ≡ Some Missing

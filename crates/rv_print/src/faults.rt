@@ -170,6 +170,11 @@ fn push_kind(alloc: Global, out: &mut Vec<u8>, kind: BadFile) -> Result<(), Allo
         BadFile::Rest => out.extend_from_slice(b"rest"),
         BadFile::Full => out.extend_from_slice(b"no free node word"),
         BadFile::NoMemory => out.extend_from_slice(b"no memory"),
+        BadFile::Quad { at } => push_number_after(alloc, out, b"bad quadrant at ", at),
+        BadFile::Names { at } => push_number_after(alloc, out, b"bad name at ", at),
+        BadFile::Root { at } => push_number_after(alloc, out, b"bad root at ", at),
+        BadFile::Order { at } => push_number_after(alloc, out, b"order at ", at),
+        BadFile::Missing => out.extend_from_slice(b"no relation of this name"),
     }
 }
 

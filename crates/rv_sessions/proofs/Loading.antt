@@ -13,6 +13,7 @@ use Rattle.lang_model.specs.declared.syntax.Command.TheVariants.{Load as LOAD}
 use Rattle.lang_model.specs.declared.syntax.Script.{Script}
 use Rattle.run_model.specs.declared.event.Event.{Event}
 use Rattle.run_model.specs.declared.outcome.BadFile.{BadFile}
+use Rattle.run_model.specs.declared.outcome.BadFile.TheVariants.{Quad, Names as BAD_NAMES, Root, Order, Missing}
 use Rattle.run_model.specs.declared.outcome.BadFile.TheVariants.{
   Short,
   Magic,
@@ -69,6 +70,11 @@ fault_of_read old new bytes (ZeroGroup at) h e = h.0
 fault_of_read old new bytes (Outside at) h e = h.0
 fault_of_read old new bytes Padding h e = h.0
 fault_of_read old new bytes Rest h e = h.0
+fault_of_read old new bytes (Quad at) h e = h.0
+fault_of_read old new bytes (BAD_NAMES at) h e = h.0
+fault_of_read old new bytes (Root at) h e = h.0
+fault_of_read old new bytes (Order at) h e = h.0
+fault_of_read old new bytes Missing h e = h.0
 fault_of_read old new bytes FILE_FULL h e = absurd (no_lack Full e)
 fault_of_read old new bytes FILE_NO_MEMORY h e = absurd (no_lack LACK_MEMORY e)
 
@@ -83,6 +89,11 @@ full_of_read old new bytes (ZeroGroup at) h e = absurd (none_lack Full e)
 full_of_read old new bytes (Outside at) h e = absurd (none_lack Full e)
 full_of_read old new bytes Padding h e = absurd (none_lack Full e)
 full_of_read old new bytes Rest h e = absurd (none_lack Full e)
+full_of_read old new bytes (Quad at) h e = absurd (none_lack Full e)
+full_of_read old new bytes (BAD_NAMES at) h e = absurd (none_lack Full e)
+full_of_read old new bytes (Root at) h e = absurd (none_lack Full e)
+full_of_read old new bytes (Order at) h e = absurd (none_lack Full e)
+full_of_read old new bytes Missing h e = absurd (none_lack Full e)
 full_of_read old new bytes FILE_FULL h e = h
 full_of_read old new bytes FILE_NO_MEMORY h e = absurd (other_lack e)
 

@@ -5,6 +5,7 @@ use Rattle.rel_model.specs.declared.Lack.TheVariants.{Full, NoMemory}
 use Rattle.run_model.specs.declared.outcome.Outcome.{Outcome}
 use Rattle.run_model.specs.declared.outcome.Outcome.TheVariants.{Nodes, BadFile as BAD_FILE, NoMemory as NO_MEMORY}
 use Rattle.run_model.specs.declared.outcome.BadFile.{BadFile}
+use Rattle.run_model.specs.declared.outcome.BadFile.TheVariants.{Quad, Names as BAD_NAMES, Root, Order, Missing}
 use Rattle.run_model.specs.declared.outcome.BadFile.TheVariants.{
   Short,
   Magic,
@@ -30,6 +31,11 @@ lack_in (ZeroGroup at) = None
 lack_in (Outside at) = None
 lack_in Padding = None
 lack_in Rest = None
+lack_in (Quad at) = None
+lack_in (BAD_NAMES at) = None
+lack_in (Root at) = None
+lack_in (Order at) = None
+lack_in Missing = None
 lack_in FILE_FULL = Some Full
 lack_in FILE_NO_MEMORY = Some NoMemory
 

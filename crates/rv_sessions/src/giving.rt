@@ -191,6 +191,11 @@ fn lack_of(kind: BadFile) -> Option<Lack>
         BadFile::Outside { .. } => None,
         BadFile::Padding => None,
         BadFile::Rest => None,
+        BadFile::Quad { .. } => None,
+        BadFile::Names { .. } => None,
+        BadFile::Root { .. } => None,
+        BadFile::Order { .. } => None,
+        BadFile::Missing => None,
     }
 }
 

@@ -31,6 +31,11 @@ fn is_kind(read: Result<Rel, BadFile>, kind: &str, at: u64) -> bool {
         Err(BadFile::Rest) => ("rest", 0),
         Err(BadFile::Full) => ("full", 0),
         Err(BadFile::NoMemory) => ("no memory", 0),
+        Err(BadFile::Quad { at }) => ("quadrant", at),
+        Err(BadFile::Names { at }) => ("name", at),
+        Err(BadFile::Root { at }) => ("root", at),
+        Err(BadFile::Order { at }) => ("order", at),
+        Err(BadFile::Missing) => ("missing", 0),
     };
     name == kind && place == at
 }
@@ -214,7 +219,7 @@ fn a_file_with_one_change_is_told_by_its_first_fault(rt: HostRuntime) {
 
 /// Asserts that bytes are read as the ten tests say, and tells by a number which came of them.
 fn is_as_told<E: Engine>(rt: &impl Abort, alloc: Global, engine: &mut E, bytes: &[u8]) -> u32
-    ensures { result < 12 }
+    ensures { result < 17 }
 {
     let read = read_k2(alloc, engine, bytes);
     match answered(rt, alloc, bytes) {
@@ -230,7 +235,7 @@ fn is_as_told<E: Engine>(rt: &impl Abort, alloc: Global, engine: &mut E, bytes: 
 
 /// The number of what came of bytes.
 fn number_of(read: Result<Rel, BadFile>) -> u32
-    ensures { result < 12 }
+    ensures { result < 17 }
 {
     match read {
         Ok(_) => 0,
@@ -245,6 +250,11 @@ fn number_of(read: Result<Rel, BadFile>) -> u32
         Err(BadFile::Rest) => 9,
         Err(BadFile::Full) => 10,
         Err(BadFile::NoMemory) => 11,
+        Err(BadFile::Quad { .. }) => 12,
+        Err(BadFile::Names { .. }) => 13,
+        Err(BadFile::Root { .. }) => 14,
+        Err(BadFile::Order { .. }) => 15,
+        Err(BadFile::Missing) => 16,
     }
 }
 
