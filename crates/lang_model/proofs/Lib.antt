@@ -11,3 +11,4 @@ pub mod Stepping
 pub mod Using
 pub mod RewriteExamples
 pub mod Blocking
+pub mod Weights

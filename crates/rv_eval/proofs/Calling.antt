@@ -21,7 +21,7 @@ use Rattle.rv_eval.specs.Names.{state_of, beside}
 use Rattle.lang_model.specs.Mean.{around_with, mean, run_by, bound, item_named, takes_arguments, body_of, called, calls_within}
 use Rattle.rv_eval.proofs.States.{state_bound}
 use Rattle.rv_eval.proofs.Unfolding.{item_found, item_missing}
-use Rattle.rv_eval.proofs.Weights.{weight, weight_by, weight_of_item, scale, below_scale, rank_falls}
+use Rattle.lang_model.proofs.Weights.{weight, weight_by, weight_of_item, scale, below_scale, rank_falls}
 
 pub same_length : {X Y : Type 0} (f : X → Y) (xs : List X) → length (map f xs) ≡ length xs
 same_length f [] = refl

@@ -6,7 +6,6 @@ pub mod Basing
 pub mod States
 pub mod Named
 pub mod Unfolding
-pub mod Weights
 pub mod Calling
 pub mod Lacking
 pub mod Telling

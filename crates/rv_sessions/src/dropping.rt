@@ -27,7 +27,7 @@ use rel_model::NoMemory;
 use rel_model::engine_trait::Engine;
 use run_model::outcome::Outcome;
 use rv_types::Checked;
-use rv_workspace::{Book, DropRefused, Key, View};
+use rv_workspace::{Book, DropRefused, View};
 use std::alloc::Global;
 use std::sync::Wait;
 use turn_book::{Pass, TurnBook};
@@ -129,15 +129,6 @@ fn show_kept<E: Engine>(
     }
 }
 
-/// The names that the snapshot of a name keeps, if there is one.
-fn kept<'a>(alloc: Global, snaps: &'a Snapshots, name: &Name) -> Result<Option<&'a View>, NoMemory>
-    ensures { IfOk result (λ found. option_map (λ v. v.now.names.items) found ≡ lookup snaps.now name.now) }
-{
-    let own = name.copied(alloc)?;
-    let key = Key::of(own);
-    Ok(snaps.get(&key))
-}
-
 /// The refusal of a name that is unknown.
 fn unknown(alloc: Global, by: By, at: Place, name: &Name) -> Result<Told, NoMemory>
     ensures { TellsRefusal by.session by.command (ILL (UNKNOWN at name.now)) result }
@@ -164,11 +155,7 @@ pub(crate) fn show_at<E: Engine>(
         (E.worker engine.old) (E.worker engine.new) pass pass snaps.now snaps.now result }
 {
     let _ = engine.bottom();
-    let found = match kept(alloc, snaps, name) {
-        Ok(found) => found,
-        Err(lack) => return Err(lack),
-    };
-    match found {
+    match snaps.get(name) {
         Some(view) => show_kept(alloc, by, checked, turns, engine, view, expr),
         None => unknown(alloc, by, at, name),
     }

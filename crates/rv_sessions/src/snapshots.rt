@@ -5,7 +5,7 @@ ghost use Rattle.run_model.specs.Names.{lookup, set};
 
 use lang_model::syntax::Name;
 use rel_model::NoMemory;
-use rv_workspace::{Key, View};
+use rv_workspace::View;
 use std::alloc::Global;
 use std::collections::BTreeMap;
 use std::marker::Model;
@@ -13,7 +13,7 @@ use std::marker::Model;
 /// Snapshots by their names, each found in logarithmic time.
 #[derive(Drop)]
 pub(crate) struct Snapshots {
-    map: BTreeMap<Key, View>,
+    map: BTreeMap<Name, View>,
 }
 
 impl Model for Snapshots {
@@ -40,14 +40,14 @@ impl Snapshots {
         ensures value { OnOk result (self.new ≡ set name view.names.items self.old) }
         ensures err { OnErr result (self.new ≡ self.old) }
     {
-        match self.map.insert(Key::of(name), view) {
+        match self.map.insert(name, view) {
             Ok(_) => Ok(()),
             Err(_) => Err(NoMemory),
         }
     }
 
     /// The snapshot of a name.
-    pub(crate) fn get(&self, name: &Key) -> Option<&View>
+    pub(crate) fn get(&self, name: &Name) -> Option<&View>
         ensures { option_map (λ v. v.now.names.items) result ≡ lookup self.now name.now }
     {
         self.map.get(name)

@@ -17,7 +17,7 @@ use Rattle.lang_model.specs.Shape.{passing, AroundTypes, shape, typed_by, around
 use Rattle.rv_types.specs.Defining.{NoneDefines, IsDefinition}
 use Rattle.rv_types.specs.Shaping.{types_of, beside, with_arguments}
 use Rattle.rv_types.proofs.Bound.{types_of-beside}
-use Rattle.rv_types.proofs.Weights.{weight, weight_by, weight_of_item, scale, below_scale, rank_falls}
+use Rattle.lang_model.proofs.Weights.{weight, weight_by, weight_of_item, scale, below_scale, rank_falls}
 
 -- ---- the item
 item_found : (name : List ℕ) (before behind : List Item) (item : Item) → NoneDefines name before → defines name item ≡ true → item_named (before ++ item ∷ behind) name ≡ Some item

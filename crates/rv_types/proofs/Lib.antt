@@ -15,6 +15,5 @@ pub mod Unassigned
 pub mod Computing
 pub mod Bound
 pub mod Passing
-pub mod Weights
 pub mod Unfolding
 pub mod Calling

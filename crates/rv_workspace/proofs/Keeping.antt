@@ -13,7 +13,7 @@ use Rattle.rv_workspace.specs.declared.refused.DropRefused.{DropRefused}
 use Rattle.rv_workspace.specs.declared.refused.DropRefused.TheVariants.{Unknown, NoMemory}
 use Rattle.rv_workspace.specs.Books.{EventStands, HistoryStands, NamesStand, StandAlike, Held}
 use Rattle.rv_workspace.specs.Entering.{read_of, removal, assigns, refusal_entries, drop_entries, dropped}
-use Rattle.rv_workspace.specs.Giving.{set_all}
+use Rattle.name_map.specs.Giving.{set_all}
 use Rattle.rv_workspace.specs.Picking.{picked, among, is_among}
 use Rattle.rv_workspace.proofs.Picking.{lookup-among}
 use Rattle.rv_workspace.proofs.Replaying.{carried-nil, carried-read, carried-removal, carried-assigns, history_stands, assigns_stand, names_stand}

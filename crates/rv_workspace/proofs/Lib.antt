@@ -1,5 +1,3 @@
-pub mod Entries
 pub mod Picking
-pub mod Journals
 pub mod Replaying
 pub mod Keeping

@@ -16,7 +16,7 @@ use Rattle.run_model.specs.Sessions.{rel_of}
 use Rattle.run_model.proofs.Ordering.{names_laws}
 use Rattle.rv_workspace.specs.Books.{EventStands, HistoryStands, NamesStand}
 use Rattle.rv_workspace.specs.Entering.{read_of, removal, assign_of, assigns}
-use Rattle.rv_workspace.specs.Giving.{set_all}
+use Rattle.name_map.specs.Giving.{set_all}
 
 -- ---- names
 carry-append : (p : Replay Rel) (xs ys : List Event) → carry p (xs ++ ys) ≡ carry (carry p xs) ys

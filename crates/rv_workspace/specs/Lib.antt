@@ -1,4 +1,3 @@
 pub mod Books
 pub mod Entering
-pub mod Giving
 pub mod Picking

@@ -6,15 +6,15 @@ ghost use Rattle.rel_model.specs.Seats.{Kin, Learns};
 ghost use Rattle.run_model.specs.Names.{lookup, set};
 ghost use Rattle.rv_workspace.specs.Books.{Held, IsBook, StandAlike, names_of};
 ghost use Rattle.rv_workspace.specs.Entering.{read_of, assign_of, assigns, dropped, drop_entries, IsDropAnswer};
-ghost use Rattle.rv_workspace.specs.Giving.{set_all};
+ghost use Rattle.name_map.specs.Giving.{set_all};
 ghost use Rattle.rv_workspace.specs.Picking.{picked};
 
 use crate::dropping::drop_one;
 use crate::giving::{give_all, give_one};
-use crate::name_map::NameMap;
 use crate::reading::{View, take_view};
 use crate::refused::DropRefused;
 use lang_model::syntax::Name;
+use name_map::NameMap;
 use rel_model::exchange::exchange;
 use rel_model::seated_trait::Seated;
 use rel_model::{NoMemory, Rel};
@@ -26,7 +26,7 @@ use std::marker::Model;
 #[derive(Drop)]
 pub struct Book<E: Seated> {
     archive: E,
-    names: NameMap,
+    names: NameMap<Rel>,
     history: Vec<Event>,
 }
 

@@ -3,16 +3,16 @@ ghost use Rattle.std.specs.Prelude.{◌≡◌, ◌++◌};
 ghost use Rattle.run_model.specs.Names.{lookup};
 ghost use Rattle.rv_workspace.specs.Entering.{dropped, drop_entries, IsDropAnswer};
 
-use crate::key::Key;
-use crate::name_map::NameMap;
 use crate::refused::DropRefused;
 use lang_model::syntax::Name;
+use name_map::NameMap;
+use rel_model::Rel;
 use run_model::event::{Act, Event};
 use std::alloc::Global;
 
 /// Drops a name, and enters the removal, or the read where there is no such name.
 pub(crate) fn drop_one(
-    names: &mut NameMap,
+    names: &mut NameMap<Rel>,
     history: &mut Vec<Event>,
     alloc: Global,
     session: u32,
@@ -29,9 +29,7 @@ pub(crate) fn drop_one(
     let Ok(()) = history.reserve(1) else {
         return Err(DropRefused::NoMemory);
     };
-    let key = Key::of(name);
-    if names.take(&key) {
-        let name = key.into_name();
+    if names.take(&name) {
         history.push_reserved(Event {
             session,
             command,
@@ -44,6 +42,5 @@ pub(crate) fn drop_one(
         command,
         act: Act::Read,
     });
-    let name = key.into_name();
     Err(DropRefused::Unknown { name })
 }

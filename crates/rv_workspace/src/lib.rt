@@ -5,12 +5,9 @@ mod book;
 mod dropping;
 mod giving;
 mod kept;
-mod key;
-mod name_map;
 mod reading;
 mod refused;
 
 pub use book::Book;
-pub use key::Key;
 pub use reading::View;
 pub use refused::DropRefused;

@@ -5,9 +5,8 @@ ghost use Rattle.run_model.specs.Names.{lookup};
 ghost use Rattle.rv_workspace.specs.Picking.{among, picked, with_name};
 ghost use Rattle.rv_workspace.specs.Entering.{read_of};
 
-use crate::key::Key;
-use crate::name_map::NameMap;
 use lang_model::syntax::Name;
+use name_map::NameMap;
 use rel_model::{NoMemory, Rel};
 use run_model::event::{Act, Event};
 use std::alloc::Global;
@@ -19,21 +18,23 @@ pub struct View {
 }
 
 /// The name is found too, where it has a relation.
-fn pick(names: &NameMap, found: &mut NameMap, alloc: Global, name: &Name) -> Result<(), NoMemory>
+fn pick(names: &NameMap<Rel>, found: &mut NameMap<Rel>, alloc: Global, name: &Name) -> Result<(), NoMemory>
     ensures { OnOk result (found.new ≡ with_name name.now (lookup names.now name.now) found.old) }
 {
-    let key = Key::of(name.copied(alloc)?);
-    match names.get(&key) {
-        Some(rel) => match found.put(key, rel) {
-            Ok(_) => Ok(()),
-            Err(NoMemory) => Err(NoMemory),
-        },
+    match names.get(name) {
+        Some(rel) => {
+            let own = name.copied(alloc)?;
+            match found.put(own, rel) {
+                Ok(_) => Ok(()),
+                Err(NoMemory) => Err(NoMemory),
+            }
+        }
         None => Ok(()),
     }
 }
 
 /// Those of the names that are wanted.
-fn wanted_of(names: &NameMap, alloc: Global, wanted: &[Name]) -> Result<Vec<(Name, Rel)>, NoMemory>
+fn wanted_of(names: &NameMap<Rel>, alloc: Global, wanted: &[Name]) -> Result<Vec<(Name, Rel)>, NoMemory>
     ensures { IfOk result (λ v. v.items ≡ among wanted.now names.now) }
 {
     names.in_order();
@@ -46,7 +47,7 @@ fn wanted_of(names: &NameMap, alloc: Global, wanted: &[Name]) -> Result<Vec<(Nam
 
 /// Those of the names that are wanted, or all.
 fn view_of(
-    names: &NameMap,
+    names: &NameMap<Rel>,
     alloc: Global,
     wanted: Option<&[Name]>,
 ) -> Result<Vec<(Name, Rel)>, NoMemory>
@@ -60,7 +61,7 @@ fn view_of(
 
 /// Takes what is wanted, and enters the read.
 pub(crate) fn take_view(
-    names: &NameMap,
+    names: &NameMap<Rel>,
     history: &mut Vec<Event>,
     alloc: Global,
     session: u32,

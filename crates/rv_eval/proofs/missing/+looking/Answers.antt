@@ -4,7 +4,7 @@ use Rattle.lang_model.specs.Missing.{first_of_both, missing}
 use Rattle.rv_eval.specs.Names.{sized}
 use Rattle.rv_eval.specs.Lacking.{missing_of_args, missing_of_links}
 use Rattle.rv_eval.proofs.Lacking.{missing-call, missing-base, missing-chain}
-use Rattle.rv_eval.proofs.Weights.{weight, weight_of_args, weight_of_links, weight-call, weight-base, weight-chain, weight_arg, weight_link}
+use Rattle.lang_model.proofs.Weights.{weight, weight_of_args, weight_of_links, weight-call, weight-base, weight-chain, weight_arg, weight_link}
 use Rattle.rv_eval.proofs.missing.+looking.Goals as goal
 
 -- ---- an expression

@@ -1,7 +1,7 @@
 use Rattle.std.proofs.Common.{◌≡◌, ◌+◌, ◌*◌, drop}
 use Rattle.rv_eval.specs.Names.{sized}
 use Rattle.rv_eval.specs.Lacking.{missing_of_args, missing_of_links}
-use Rattle.rv_eval.proofs.Weights.{weight, weight_of_args, weight_of_links}
+use Rattle.lang_model.proofs.Weights.{weight, weight_of_args, weight_of_links}
 use Rattle.rv_eval.proofs.missing.+looking.Given as goal
 
 abbrev pub decreases-first_missing : goal.decreases-first_missing

@@ -8,7 +8,7 @@ use Rattle.lang_model.specs.State.{assigned}
 use Rattle.rv_eval.specs.Names.{state_of, AllStand, beside}
 use Rattle.rv_eval.proofs.Going.{goes_start, goes_as, goes_turn, goes_on, goes_err, goes_last, goes_got, goes_not, goes_lack, ends_operation, first_err, first_on, only_step, refuses, ok_map, ends_noted}
 use Rattle.rv_eval.proofs.States.{set_kept, state_kept, all_stand_kept, values_more, all_values_more, state_assigned, all_stand_bound}
-use Rattle.rv_eval.proofs.Weights.{weight, weight_of_args, weight_of_links, weight_stmt, weight_by, weight-call, weight-base, weight-chain, weight-while, weight-if, weight_arg, weight_link, weight_one, scale}
+use Rattle.lang_model.proofs.Weights.{weight, weight_of_args, weight_of_links, weight_stmt, weight_by, weight-call, weight-base, weight-chain, weight-while, weight-if, weight_arg, weight_link, weight_one, scale}
 use Rattle.rv_eval.proofs.Unfolding.{mean-call, mean-base, mean-chain, run-while, run-if, args_next, links_next, run_next, turn_taken}
 use Rattle.rv_eval.proofs.Calling.{bound_err, call_missing, function_falls, program_falls, result_falls, function_means, program_reads}
 use Rattle.rv_eval.proofs.walk.+eval.Goals as goal

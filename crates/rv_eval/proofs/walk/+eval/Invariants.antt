@@ -4,7 +4,7 @@ use Rattle.rel_model.specs.Worker.{Stands, set_of}
 use Rattle.lang_model.specs.Mean.{means_by, mean_by, mean_test, around_with, calls_within, run_by, looped, rounds}
 use Rattle.rv_eval.specs.Names.{state_of, AllStand}
 use Rattle.rv_eval.proofs.Going.{Goes}
-use Rattle.rv_eval.proofs.Weights.{weight, weight_of_args, weight_of_links, weight_stmt, weight_by, scale}
+use Rattle.lang_model.proofs.Weights.{weight, weight_of_args, weight_of_links, weight_stmt, weight_by, scale}
 use Rattle.rv_eval.proofs.walk.+eval.Given as goal
 
 abbrev pub decreases-call : goal.decreases-call

@@ -1,7 +1,7 @@
 use Rattle.std.proofs.Common.{◌≡◌, ◌≤◌, ◌+◌, ◌∙◌, ◌++◌, sym, ap, subst, rules}
 use Rattle.std.specs.Prelude.{OnOk}
 use Rattle.lang_model.specs.Eval.{names_in}
-use Rattle.rv_eval.proofs.Weights.{weight, weight_of_args, weight_of_links, weight-call, weight-base, weight-chain, weight_arg, weight_link}
+use Rattle.lang_model.proofs.Weights.{weight, weight_of_args, weight_of_links, weight-call, weight-base, weight-chain, weight_arg, weight_link}
 use Rattle.rv_sessions.specs.Naming.{names_of_args}
 use Rattle.rv_sessions.proofs.Naming.{names-call, names-base, links_begin, args_step, links_step}
 use Rattle.rv_sessions.proofs.names.+pushing.Goals as goal

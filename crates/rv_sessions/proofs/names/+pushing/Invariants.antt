@@ -1,5 +1,5 @@
 use Rattle.std.proofs.Common.{◌≡◌, ◌+◌, ◌*◌, ◌++◌, drop}
-use Rattle.rv_eval.proofs.Weights.{weight, weight_of_args, weight_of_links}
+use Rattle.lang_model.proofs.Weights.{weight, weight_of_args, weight_of_links}
 use Rattle.rv_sessions.specs.Naming.{names_of_args, names_of_links}
 use Rattle.rv_sessions.proofs.names.+pushing.Given as goal
 

@@ -5,7 +5,7 @@ use Rattle.rv_types.specs.Found.{told, noted}
 use Rattle.rv_types.specs.Scopes.{scope_of}
 use Rattle.rv_types.proofs.Walks.{noted-append}
 use Rattle.rv_types.proofs.Statements.{faults-while, faults-if, assigned-if, noted-stmt, assigned-stmt}
-use Rattle.rv_types.proofs.Weights.{weight, weight_stmt, weight_by, weight-while, weight-if, weight_one}
+use Rattle.lang_model.proofs.Weights.{weight, weight_stmt, weight_by, weight-while, weight-if, weight_one}
 use Rattle.rv_types.proofs.statement.+checking.Goals as goal
 
 pub check_stmt-check_loop-requires : goal.check_stmt-check_loop-requires

@@ -2,7 +2,7 @@ use Rattle.std.proofs.Common.{◌≡◌, ◌+◌, ◌*◌, drop}
 use Rattle.lang_model.specs.Checking.{among, faults_by, assigned_by}
 use Rattle.rv_types.specs.Found.{told, noted}
 use Rattle.rv_types.specs.Scopes.{scope_of}
-use Rattle.rv_types.proofs.Weights.{weight_stmt, weight_by}
+use Rattle.lang_model.proofs.Weights.{weight_stmt, weight_by}
 use Rattle.rv_types.proofs.statement.+checking.Given as goal
 
 abbrev pub decreases-check_stmt : goal.decreases-check_stmt

@@ -6,7 +6,7 @@ use Rattle.rv_types.specs.Defining.{IsDefinition}
 use Rattle.rv_types.specs.Shaping.{types_of, shapes_by, shape_by}
 use Rattle.rv_types.specs.Around.{around_of}
 use Rattle.rv_types.proofs.Passing.{goes_on, goes_err, goes_last, goes_not}
-use Rattle.rv_types.proofs.Weights.{weight, weight_of_args, weight_of_links, weight_stmt, weight_by, weight-call, weight-base, weight-chain, weight-while, weight-if, weight_arg, weight_link, weight_one}
+use Rattle.lang_model.proofs.Weights.{weight, weight_of_args, weight_of_links, weight_stmt, weight_by, weight-call, weight-base, weight-chain, weight-while, weight-if, weight_arg, weight_link, weight_one}
 use Rattle.rv_types.proofs.Unfolding.{shape-call, shape-base, shape-chain, behind-while, behind-if, arg_next, link_next, stmt_next}
 use Rattle.rv_types.proofs.Calling.{calls_function, calls_program, calls_missing, function_falls, program_falls, value_falls}
 use Rattle.rv_types.proofs.typing.+typing.Goals as goal

@@ -2,7 +2,7 @@ use Rattle.std.proofs.Common.{◌≡◌, ◌+◌, ◌*◌, [], drop}
 use Rattle.lang_model.specs.Shape.{typed_by}
 use Rattle.rv_types.specs.Shaping.{types_of, shapes_by, shape_by}
 use Rattle.rv_types.specs.Around.{around_of}
-use Rattle.rv_types.proofs.Weights.{weight, weight_of_args, weight_of_links, weight_stmt, weight_by, scale}
+use Rattle.lang_model.proofs.Weights.{weight, weight_of_args, weight_of_links, weight_stmt, weight_by, scale}
 use Rattle.rv_types.proofs.typing.+typing.Given as goal
 
 abbrev pub decreases-type_of_call : goal.decreases-type_of_call

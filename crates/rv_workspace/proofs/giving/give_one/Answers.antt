@@ -1,6 +1,6 @@
 use Rattle.std.proofs.Common.{◌≡◌, ◌∙◌, ◌++◌, ◌∷◌, [], ap, subst}
 use Rattle.std.specs.Prelude.{OnOk}
-use Rattle.rv_workspace.specs.Giving.{set_all}
+use Rattle.name_map.specs.Giving.{set_all}
 use Rattle.rv_workspace.specs.Entering.{assigns}
 use Rattle.rv_workspace.proofs.giving.give_one.Goals as goal
 

@@ -1,7 +1,7 @@
 use Rattle.std.proofs.Common.{◌∙◌, sym, ap}
 use Rattle.std.specs.Option.{option_map}
 use Rattle.run_model.specs.Names.{lookup}
-use Rattle.rv_workspace.proofs.Entries.{lookup-lookup}
+use Rattle.name_map.proofs.Entries.{lookup-lookup}
 use Rattle.rv_sessions.proofs.Keeping.{items_of, found_view, kept-lookup}
 use Rattle.rv_sessions.proofs.snapshots.Snapshots.get.Goals as goal
 

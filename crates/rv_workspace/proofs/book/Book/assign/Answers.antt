@@ -1,7 +1,7 @@
 use Rattle.std.proofs.Common.{◌≡◌, ◌∙◌, ◌∷◌, [], refl, subst}
 use Rattle.std.specs.Prelude.{OnOk}
 use Rattle.rv_workspace.specs.Books.{names_of}
-use Rattle.rv_workspace.specs.Giving.{set_all}
+use Rattle.name_map.specs.Giving.{set_all}
 use Rattle.run_model.specs.Carried.{carried}
 use Rattle.rv_workspace.proofs.Keeping.{names_after_gifts, in_step_after_gifts, stands_after_gifts, one_gift, held_stands, archive_stands}
 use Rattle.rv_workspace.proofs.book.Book.assign.Goals as goal

@@ -1,0 +1,64 @@
+//! Names that get values, all or none.
+ghost use Rattle.std.specs.Prelude.{◌≡◌, ◌<◌, ◌+◌, ◌∷◌, ◌++◌, [], OnOk, OnErr, vec_len, vec_capacity};
+ghost use Rattle.run_model.specs.Names.{Names, IsIncreasing, lookup, set};
+ghost use Rattle.name_map.specs.Giving.{set_all, Led};
+
+use crate::map::NameMap;
+use lang_model::syntax::Name;
+use rel_model::NoMemory;
+use std::alloc::Global;
+
+/// A name gets a value, and the journal notes what it had.
+pub fn put_noted<V: Copy + Drop>(
+    names: &mut NameMap<V>,
+    journal: &mut Vec<(Name, Option<V>)>,
+    alloc: Global,
+    name: &Name,
+    value: V,
+) -> Result<(), NoMemory>
+    requires room { vec_len journal.old < vec_capacity journal.old }
+    ensures value { OnOk result (names.new ≡ set name.now value names.old) }
+    ensures noted { OnOk result (journal.new.items ≡ journal.old.items ++ (name.now, lookup names.old name.now) ∷ []) }
+    ensures err { OnErr result (names.new ≡ names.old) }
+    ensures err_journal { OnErr result (journal.new.items ≡ journal.old.items) }
+    ensures len { OnOk result (vec_len journal.new ≡ vec_len journal.old + 1) }
+    ensures capacity { vec_capacity journal.new ≡ vec_capacity journal.old }
+{
+    let own = name.copied(alloc)?;
+    let again = name.copied(alloc)?;
+    let had = names.put(own, value)?;
+    journal.push_reserved((again, had));
+    Ok(())
+}
+
+/// All names of the journal have again what they had, the last first. It takes no memory.
+pub fn take_back<V: Copy + Drop>(names: &mut NameMap<V>, mut journal: Vec<(Name, Option<V>)>)
+    ensures { (first : Names V) → IsIncreasing first → Led journal.items first names.old → names.new ≡ first }
+{
+    'notes: while let Some((name, had)) = journal.pop() {
+        names.put_back(&name, had);
+    }
+}
+
+/// All names of the list get their values, one after another, or none does.
+pub fn put_all<V: Copy + Drop>(
+    names: &mut NameMap<V>,
+    alloc: Global,
+    list: &[(Name, V)],
+) -> Result<(), NoMemory>
+    ensures value { OnOk result (names.new ≡ set_all list.now names.old) }
+    ensures err { OnErr result (names.new ≡ names.old) }
+{
+    names.in_order();
+    let mut journal = Vec::with_capacity(alloc, list.len())?;
+    'gifts: for gift in list {
+        match put_noted(names, &mut journal, alloc, &gift.0, gift.1) {
+            Ok(()) => {}
+            Err(_) => {
+                take_back(names, journal);
+                return Err(NoMemory);
+            }
+        }
+    }
+    Ok(())
+}
