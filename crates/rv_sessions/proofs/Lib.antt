@@ -1,5 +1,4 @@
 pub mod Turning
-pub mod Naming
 pub mod Valuing
 pub mod Keeping
 pub mod Looking

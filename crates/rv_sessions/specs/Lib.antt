@@ -12,4 +12,3 @@ pub mod Noting
 pub mod Acting
 pub mod Running
 pub mod Sessions
-pub mod Naming

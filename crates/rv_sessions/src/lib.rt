@@ -8,7 +8,6 @@ mod form;
 mod giving;
 mod item;
 mod listing;
-mod names;
 mod session;
 mod showing;
 mod snapshots;

@@ -12,7 +12,6 @@ ghost use Rattle.rv_sessions.specs.Told.{bytes_of};
 
 use crate::by::By;
 use crate::form::Form;
-use crate::names::names_in;
 use crate::told::{Told, refused};
 use crate::transcript::Reply;
 use crate::turns::read_turn;
@@ -22,6 +21,7 @@ use rel_model::NoMemory;
 use rel_model::engine_trait::Engine;
 use run_model::files::Save;
 use run_model::outcome::Outcome;
+use rv_blocks::names_in;
 use rv_types::Checked;
 use rv_workspace::Book;
 use std::alloc::Global;

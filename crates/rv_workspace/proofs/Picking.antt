@@ -1,25 +1,15 @@
 -- The names that a read takes, one wanted name after another.
-use Rattle.std.proofs.Common.{◌≡◌, ◌∙◌, ◌||◌, ◌<◌, ◌+◌, ℕ, Bool, true, false, cond, List, [], ◌∷◌, ◌++◌, length, take, get_or, Option, Some, None, Ordering, Less, Equal, Greater, refl, sym, ap}
-use Rattle.std.specs.Ordering.{is_eq, eq_by_cmp}
+use Rattle.std.proofs.Common.{◌≡◌, ◌∙◌, ◌||◌, ◌<◌, ◌+◌, ℕ, Bool, true, false, cond, List, [], ◌∷◌, ◌++◌, length, take, get_or, Option, Some, None, refl, sym, ap}
+use Rattle.std.specs.Ordering.{eq_by_cmp}
 use Rattle.std.specs.FinMap.{slice_cmp-IsAntisymmetric, nat_cmp-IsAntisymmetric}
 use Rattle.std.specs.FinMap.Entries.{find-where_key, is_sorted-where_key}
-use Rattle.std.proofs.lemmas.Bool.{false≢true}
 use Rattle.std.proofs.lemmas.List.{take_more}
 use Rattle.std.proofs.lemmas.List.Folds.{list_any-append}
 use Rattle.rel_model.specs.declared.Rel.{Rel}
 use Rattle.run_model.specs.Names.{compare, lookup, set, IsIncreasing}
 use Rattle.run_model.specs.Carried.{Carried}
-use Rattle.run_model.proofs.Ordering.{names_laws}
+use Rattle.run_model.proofs.Ordering.{names_laws, one_name}
 use Rattle.rv_workspace.specs.Picking.{is_among, among, with_name}
-
-equal : (o : Ordering) → is_eq o ≡ true → o ≡ Equal
-equal Less e = absurd (false≢true e)
-equal Equal e = refl
-equal Greater e = absurd (false≢true e)
-
--- names that tie are one name
-pub same_name : (n name : List ℕ) → eq_by_cmp compare n name ≡ true → n ≡ name
-same_name n name e = slice_cmp-IsAntisymmetric nat_cmp-IsAntisymmetric n name (equal (compare n name) e)
 
 pub lookup-among : (wanted : List (List ℕ)) (names : Carried) (n : List ℕ) → lookup (among wanted names) n ≡ cond (is_among wanted n) (lookup names n) None
 lookup-among wanted names n = find-where_key compare (is_among wanted) n (λ x t. ap (is_among wanted) (sym (slice_cmp-IsAntisymmetric nat_cmp-IsAntisymmetric n x t))) names
@@ -44,13 +34,13 @@ one_more wanted w names None order e =
     names_laws.one_map (among (wanted ++ w ∷ []) names) (among wanted names) (among_in_order _ names order) (among_in_order wanted names order)
     (λ q. lookup-among (wanted ++ w ∷ []) names q
     ∙ ap (λ b. cond b (lookup names q) None) (list_any-append (eq_by_cmp compare q) wanted (w ∷ []))
-    ∙ none_more (is_among wanted q) (eq_by_cmp compare q w) (lookup names q) (λ t. ap (lookup names) (same_name q w t) ∙ e)
+    ∙ none_more (is_among wanted q) (eq_by_cmp compare q w) (lookup names q) (λ t. ap (lookup names) (one_name q w t) ∙ e)
     ∙ sym (lookup-among wanted names q))
 one_more wanted w names (Some r) order e =
     names_laws.one_map (among (wanted ++ w ∷ []) names) (set w r (among wanted names)) (among_in_order _ names order) (names_laws.set_in_order w r _ (among_in_order wanted names order))
     (λ q. lookup-among (wanted ++ w ∷ []) names q
     ∙ ap (λ b. cond b (lookup names q) None) (list_any-append (eq_by_cmp compare q) wanted (w ∷ []))
-    ∙ some_more (is_among wanted q) (eq_by_cmp compare q w) (lookup names q) r (λ t. ap (lookup names) (same_name q w t) ∙ e)
+    ∙ some_more (is_among wanted q) (eq_by_cmp compare q w) (lookup names q) r (λ t. ap (lookup names) (one_name q w t) ∙ e)
     ∙ ap (cond (eq_by_cmp compare q w) (Some r)) (sym (lookup-among wanted names q))
     ∙ sym (names_laws.set_name q w r (among wanted names)))
 

@@ -1,7 +1,7 @@
 use Rattle.std.proofs.Common.{◌≡◌, ◌+◌, ◌*◌, ◌++◌, drop}
 use Rattle.lang_model.proofs.Weights.{weight, weight_of_args, weight_of_links}
-use Rattle.rv_sessions.specs.Naming.{names_of_args, names_of_links}
-use Rattle.rv_sessions.proofs.names.+pushing.Given as goal
+use Rattle.rv_blocks.specs.Naming.{names_of_args, names_of_links}
+use Rattle.rv_blocks.proofs.names.+pushing.Given as goal
 
 abbrev pub decreases-push_args : goal.decreases-push_args
 decreases-push_args l = 2 * weight_of_args l.args.now + 1

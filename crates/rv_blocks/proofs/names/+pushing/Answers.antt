@@ -2,9 +2,9 @@ use Rattle.std.proofs.Common.{◌≡◌, ◌≤◌, ◌+◌, ◌∙◌, ◌++◌
 use Rattle.std.specs.Prelude.{OnOk}
 use Rattle.lang_model.specs.Eval.{names_in}
 use Rattle.lang_model.proofs.Weights.{weight, weight_of_args, weight_of_links, weight-call, weight-base, weight-chain, weight_arg, weight_link}
-use Rattle.rv_sessions.specs.Naming.{names_of_args}
-use Rattle.rv_sessions.proofs.Naming.{names-call, names-base, links_begin, args_step, links_step}
-use Rattle.rv_sessions.proofs.names.+pushing.Goals as goal
+use Rattle.rv_blocks.specs.Naming.{names_of_args}
+use Rattle.rv_blocks.proofs.Naming.{names-call, names-base, links_begin, args_step, links_step}
+use Rattle.rv_blocks.proofs.names.+pushing.Goals as goal
 
 -- ---- an expression
 pub push_names-push_args-requires : goal.push_names-push_args-requires

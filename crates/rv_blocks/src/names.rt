@@ -1,7 +1,7 @@
 //! The names that an expression uses.
 ghost use Rattle.std.specs.Prelude.{◌≡◌, ◌++◌, ◌∷◌, [], IfOk, OnOk};
 ghost use Rattle.lang_model.specs.Eval.{names_in};
-ghost use Rattle.rv_sessions.specs.Naming.{names_of_args, names_of_links};
+ghost use Rattle.rv_blocks.specs.Naming.{names_of_args, names_of_links};
 
 use lang_model::syntax::{Expr, Link, Name};
 use rel_model::NoMemory;
@@ -61,7 +61,7 @@ fn push_links(alloc: Global, names: &mut Vec<Name>, links: &[Link]) -> Result<()
 }
 
 /// The relation names of an expression, from the left, repeats kept.
-pub(crate) fn names_in(alloc: Global, expr: &Expr) -> Result<Vec<Name>, NoMemory>
+pub fn names_in(alloc: Global, expr: &Expr) -> Result<Vec<Name>, NoMemory>
     ensures { IfOk result (λ v. v.items ≡ names_in expr.now) }
 {
     let mut names = Vec::new(alloc);

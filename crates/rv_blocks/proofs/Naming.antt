@@ -16,7 +16,7 @@ use Rattle.lang_model.specs.declared.syntax.Expr.{
 use Rattle.lang_model.specs.declared.syntax.Expr.TheVariants.{Call, Base, Chain}
 use Rattle.lang_model.specs.declared.syntax.Link.{Link}
 use Rattle.lang_model.specs.Eval.{names_in, names_in_all, names_along}
-use Rattle.rv_sessions.specs.Naming.{names_of_args, names_of_links}
+use Rattle.rv_blocks.specs.Naming.{names_of_args, names_of_links}
 
 names_in_all-items : (n : _) (k : Row_of-Expr n) → names_in_all k ≡ names_of_args (items-the_row-Expr n k)
 names_in_all-items _ end_of-Expr = refl
