@@ -13,13 +13,15 @@ use Rattle.rel_model.specs.Cells.{Cells, no_cells, cells_rect, bits_cells}
 use Rattle.rel_model.specs.Operators.{inter}
 use Rattle.rel_model.specs.Orders.{less}
 use Rattle.rel_model.specs.Quarters.{LiesWithin}
-use Rattle.rel_model.specs.Roots.{height_over}
+use Rattle.rel_model.specs.Roots.{height_over, tree_room, relation_room}
 use Rattle.rel_model.specs.Trees.{quartered, top_height}
-use Rattle.rel_model.specs.Worker.{Worker, Gives, GivesQuad, Keeps, HasQuad, set_of, quad_set}
+use Rattle.rel_model.specs.Worker.{Worker, Gives, GivesQuad, Keeps, set_of, quad_set, operator_room, derived_room, height_of_three}
 use Rattle.rel_model.proofs.Heights.{height_over-is, height_over-rows, height_over-low, height_over-high}
 use Rattle.rel_model.proofs.Members.{type-test, in_test, in_inter}
 use Rattle.rel_model.proofs.Relations.{rows-relation_of, cols-relation_of, has-relation_of, relation_of-agree}
-use Rattle.rel_model.proofs.Somes.{same_truth}
+use Rattle.rel_model.proofs.Rooms.{operator_room-most, derived_room-least}
+use Rattle.rel_model.proofs.Workers.{gives_set as gives_relation}
+use Rattle.rel_domains.proofs.Ruled.{rule_room}
 use Rattle.rel_model.proofs.TreeLaws.{same_cells}
 use Rattle.rel_domains.proofs.Places.{side_step}
 use Rattle.rel_domains.proofs.Quartering.{gives_set, gives_later}
@@ -128,37 +130,121 @@ side-height least h l t =
         let c : 1 ≤ 2 ^ (h - 1) = pow_mono {i = 0} {j = h - 1} (omega arith) in
         omega (arith, q, s, a, b, c)
 
-module _ (n m : ℕ) (most : n ≤ m) where
-  abbrev pub cut : Relation
-  cut = inter (relation_of m m (ascending m)) (relation_of m m (cells_rect n n))
+-- the strict order of a square of side m, within the first n rows and columns
+abbrev pub cut : ℕ → ℕ → Relation
+cut n m = inter (relation_of m m (ascending m)) (relation_of m m (cells_rect n n))
 
-  pub cut-has : (i j : ℕ) → has cut i j ≡ true → (i < j) × (i < n) × (j < n)
-  cut-has i j h =
-      let t = type-test m m m m (ascending m) refl refl in
-      let p = in_inter m m (relation_of m m (ascending m)) (relation_of m m (cells_rect n n)) t i j h in
-      let a = and_parts (ltb i j) (ltb j m) (in_test m m m m (ascending m) refl refl i j p.0) in
-      let b = and_parts (ltb i n) (ltb j n) (in_test m m m m (cells_rect n n) refl refl i j p.1) in
-      (ltb-true i j a.0, ltb-true i n b.0, ltb-true j n b.1)
+cut-has : (n m i j : ℕ) → has (cut n m) i j ≡ true → (i < j) × (i < n) × (j < n)
+cut-has n m i j h =
+    let t = type-test m m m m (ascending m) refl refl in
+    let p = in_inter m m (relation_of m m (ascending m)) (relation_of m m (cells_rect n n)) t i j h in
+    let a = and_parts (ltb i j) (ltb j m) (in_test m m m m (ascending m) refl refl i j p.0) in
+    let b = and_parts (ltb i n) (ltb j n) (in_test m m m m (cells_rect n n) refl refl i j p.1) in
+    (ltb-true i j a.0, ltb-true i n b.0, ltb-true j n b.1)
 
-  pub cut-within : LiesWithin n n (has cut)
-  cut-within = record { row = λ i j h. (cut-has i j h).1; col = λ i j h. (cut-has i j h).2 }
+pub cut-within : (n m : ℕ) → LiesWithin n n (has (cut n m))
+cut-within n m = record { row = λ i j h. (cut-has n m i j h).1; col = λ i j h. (cut-has n m i j h).2 }
 
-  pub cut-less : relation_of n n (has cut) ≡ less n
-  unfolding less inter
-  cut-less = relation_of-agree n n (has cut) (λ i j. ltb i j) (λ i j a b.
-      let A = relation_of m m (ascending m) in
-      let B = relation_of m m (cells_rect n n) in
-      let i_in : i < m = omega (arith, a, most) in
-      let j_in : j < m = omega (arith, b, most) in
-      has-relation_of A.rows A.cols (λ i j. has A i j && has B i j) i j
-      (subst (λ k. i < k) (sym (rows-relation_of m m (ascending m))) i_in) (subst (λ k. j < k) (sym (cols-relation_of m m (ascending m))) j_in)
-      ∙ ap (λ x. x && has B i j) (has-relation_of m m (ascending m) i j i_in j_in)
-      ∙ ap (λ x. (ltb i j && ltb j m) && x) (has-relation_of m m (cells_rect n n) i j i_in j_in)
-      ∙ all_true (ltb i j) (ltb j m) (ltb i n) (ltb j n) (lt-ltb j m j_in) (lt-ltb i n a) (lt-ltb j n b))
-    where
-      all_true : (a b c d : Bool) → b ≡ true → c ≡ true → d ≡ true → ((a && b) && (c && d)) ≡ a
-      all_true true true true true e f g = refl
-      all_true true false c d e f g = absurd (false≢true e)
-      all_true true true false d e f g = absurd (false≢true f)
-      all_true true true true false e f g = absurd (false≢true g)
-      all_true false b c d e f g = refl
+pub cut-less : (n m : ℕ) → n ≤ m → relation_of n n (has (cut n m)) ≡ less n
+unfolding less inter
+cut-less n m most = relation_of-agree n n (has (cut n m)) (λ i j. ltb i j) (λ i j a b.
+    let A = relation_of m m (ascending m) in
+    let B = relation_of m m (cells_rect n n) in
+    let i_in : i < m = omega (arith, a, most) in
+    let j_in : j < m = omega (arith, b, most) in
+    has-relation_of A.rows A.cols (λ i j. has A i j && has B i j) i j
+    (subst (λ k. i < k) (sym (rows-relation_of m m (ascending m))) i_in) (subst (λ k. j < k) (sym (cols-relation_of m m (ascending m))) j_in)
+    ∙ ap (λ x. x && has B i j) (has-relation_of m m (ascending m) i j i_in j_in)
+    ∙ ap (λ x. (ltb i j && ltb j m) && x) (has-relation_of m m (cells_rect n n) i j i_in j_in)
+    ∙ all_true (ltb i j) (ltb j m) (ltb i n) (ltb j n) (lt-ltb j m j_in) (lt-ltb i n a) (lt-ltb j n b))
+  where
+    all_true : (a b c d : Bool) → b ≡ true → c ≡ true → d ≡ true → ((a && b) && (c && d)) ≡ a
+    all_true true true true true e f g = refl
+    all_true true false c d e f g = absurd (false≢true e)
+    all_true true true false d e f g = absurd (false≢true f)
+    all_true true true true false e f g = absurd (false≢true g)
+    all_true false b c d e f g = refl
+
+-- ---- what a worker gives
+-- the height of the least square with n rows and columns
+pub record IsHigh (least n h : ℕ) : Type 0 where
+  pub low : least ≤ h
+  pub high : h ≤ 24
+  pub covers : n ≤ 2 ^ h
+  pub is : h ≡ height_over least n n
+
+pub is_high : (least n h rows cols : ℕ) → least ≤ 3 → n ≤ size_limit → rows ≡ n → cols ≡ n → h ≡ height_over least rows cols → IsHigh least n h
+is_high least n h rows cols l m e f g =
+    let k : h ≡ height_over least n n = g ∙ ap (λ x. height_over least x cols) e ∙ ap (height_over least n) f in
+    let a = height_over-low least n n in
+    let b = height_over-high least n n (omega (arith, l)) in
+    record {
+      low = omega (arith, k, a);
+      high = omega (arith, k, b);
+      covers = subst (λ x. n ≤ 2 ^ x) (sym k) (height_over-rows least n n m);
+      is = k;
+    }
+
+-- the strict order of the square of that height
+pub order_high : (w : Worker) (least n h bottom : ℕ) (q : Quad) → IsHigh least n h → bottom ≡ least
+    → GivesQuad w (least + (h - bottom)) (ascending (2 ^ (least + (h - bottom)))) q → GivesQuad w h (ascending (2 ^ h)) q
+order_high w least n h bottom q i e g =
+    let l = i.low in
+    subst (λ k. GivesQuad w k (ascending (2 ^ k)) q) (let z : least + (h - bottom) ≡ h = omega (arith, l, e) in z) g
+
+-- its side has trees of that height
+pub side_high : (least n h side : ℕ) → IsHigh least n h → side ≡ 2 ^ h → height_over least side side ≡ h
+side_high least n h side i e = ap (λ k. height_over least k k) e ∙ side-height least h i.low i.high
+
+pub side_most : (least n h side : ℕ) → IsHigh least n h → side ≡ 2 ^ h → side ≤ size_limit
+side_most least n h side i e = let p : 2 ^ h ≤ 2 ^ 24 = pow_mono {i = h} {j = 24} i.high in omega (arith, e, p)
+
+-- the set of the cut
+pub cut_set : (w3 w4 : Worker) (n h side : ℕ) (order first : Quad) (all kept rel : Rel) → side ≡ 2 ^ h → GivesQuad w3 h (ascending (2 ^ h)) order → GivesQuad w3 h (cells_rect n n) first
+    → Gives w3 side side (relation_of side side (quad_set w3 order)) all → Gives w3 side side (relation_of side side (quad_set w3 first)) kept
+    → Gives w4 all.rows all.cols (inter (set_of w3 all) (set_of w3 kept)) rel → Gives w4 side side (cut n side) rel
+cut_set w3 w4 n h side order first all kept rel e o f a k g =
+    let s1 : set_of w3 all ≡ relation_of side side (ascending side) = gives_relation w3 side side _ all a ∙ ap (relation_of side side) (gives_set w3 h (ascending (2 ^ h)) order o ∙ ap ascending (sym e)) in
+    let s2 : set_of w3 kept ≡ relation_of side side (cells_rect n n) = gives_relation w3 side side _ kept k ∙ ap (relation_of side side) (gives_set w3 h (cells_rect n n) first f) in
+    record {
+      means = g.means ∙ ap Some (ap (λ x. inter x (set_of w3 kept)) s1 ∙ ap (inter (relation_of side side (ascending side))) s2);
+      row_size = g.row_size ∙ a.row_size;
+      col_size = g.col_size ∙ a.col_size;
+    }
+
+-- the root of the cut
+pub record CutRoot (w : Worker) (least n h : ℕ) (quad : Quad) : Type 0 where
+  pub height : quad.height ≡ height_over least n n
+  pub within : LiesWithin n n (quad_set w quad)
+  pub is : relation_of n n (quad_set w quad) ≡ less n
+
+pub cut_root : (w : Worker) (least n h side : ℕ) (rel : Rel) (quad : Quad) → IsHigh least n h → side ≡ 2 ^ h → Gives w side side (cut n side) rel
+    → GivesQuad w (height_over least rel.rows rel.cols) (has (set_of w rel)) quad → CutRoot w least n h quad
+cut_root w least n h side rel quad i e g r =
+    let s : quad_set w quad ≡ has (cut n side) = gives_set w _ (has (set_of w rel)) quad r ∙ ap has (gives_relation w side side _ rel g) in
+    let m = i.covers in
+    record {
+      height = r.same_height ∙ ap (λ k. height_over least k rel.cols) g.row_size ∙ ap (height_over least side) g.col_size ∙ side_high least n h side i e ∙ i.is;
+      within = subst (LiesWithin n n) (sym s) (cut-within n side);
+      is = ap (relation_of n n) s ∙ cut-less n side (omega (arith, e, m));
+    }
+
+-- ---- rooms
+-- the trees of three steps have the room of one derived call
+pub three_trees : (least n h : ℕ) → IsHigh least n h → 3 * operator_room n n ≤ derived_room n n n
+three_trees least n h i =
+    let k : ℕ = height_of_three n n n in
+    let p = operator_room-most n n k (omega arith) (omega arith) in
+    let q = derived_room-least n n n in
+    omega (arith, p, q)
+
+pub tree_of : (least n h : ℕ) → IsHigh least n h → tree_room (h - least) ≤ operator_room n n
+tree_of least n h i = let l = i.low in let e = i.is in rule_room least (h - least) n n (omega (arith, l, e))
+
+pub tree_from : (least n h bottom : ℕ) → IsHigh least n h → bottom ≡ least → tree_room (h - bottom) ≤ operator_room n n
+tree_from least n h bottom i e = subst (λ k. tree_room (h - k) ≤ operator_room n n) (sym e) (tree_of least n h i)
+
+pub tree_side : (least n h side rows cols : ℕ) → IsHigh least n h → side ≡ 2 ^ h → rows ≡ side → cols ≡ side → relation_room least rows cols ≤ operator_room n n
+tree_side least n h side rows cols i e a b =
+    let s : height_over least rows cols ≡ h = ap (λ k. height_over least k cols) a ∙ ap (height_over least side) b ∙ side_high least n h side i e in
+    subst (λ k. tree_room (k - least) ≤ operator_room n n) (sym s) (tree_of least n h i)
