@@ -28,7 +28,7 @@ from_less n i j l m = from_test n n n n (λ i j. ltb i j) refl refl i j (omega (
 
 -- ---- the pairs of two different elements
 module _ (n : ℕ) (r : Relation) (t : HasType n n r) where
-  apart : Relation
+  abbrev pub apart : Relation
   apart = union (less n) (transpose (less n))
 
   apart-has : (i j : ℕ) → i < n → j < n → has apart i j ≡ not (eqb i j)
@@ -79,7 +79,7 @@ module _ (n : ℕ) (r : Relation) (t : HasType n n r) where
       ∙ relation_of-sizes n n r.rows r.cols _ (sym t.row_size) (sym t.col_size)
 
   -- ---- elements that no lesser one stands beside
-  behind : Relation
+  abbrev pub behind : Relation
   behind = inter r (transpose (less n))
 
   type-full : HasType n 1 (full n 1)
@@ -142,7 +142,7 @@ module _ (n : ℕ) (r : Relation) (t : HasType n n r) where
       has-relation_of r.cols r.cols (λ j k. not (some_below r.rows (λ i. differ (has r i j) (has r i k)))) x y (subst (λ k. x < k) (sym t.col_size) a) (subst (λ k. y < k) (sym t.col_size) b)
       ∙ ap not (some_agree r.rows (λ i. differ (has r i x) (has r i y)) (λ i. differ (has r i y) (has r i x)) (λ i l. differ-turned (has r i x) (has r i y)))
 
-  type-leaders : HasType n 1 leaders
+  pub type-leaders : HasType n 1 leaders
   unfolding leading
   type-leaders = type-test alike.rows 1 n 1 _ type-alike.row_size refl
 

@@ -1,2 +1,3 @@
 pub mod Ascending
+pub mod Calling
 pub mod Finding
