@@ -92,7 +92,12 @@ fn equivalence<Q: Quads>(q: &mut Q, map: Rel) -> Result<Rel, Lack>
 }
 
 /// Measures the strict order.
-fn measure_less<R: Print + Clock, Q: Quads>(rt: &R, alloc: Global, q: &mut Q, n: u32) -> io::Result<()>
+fn measure_less<R: Print + Clock, Q: Quads>(
+    rt: &R,
+    alloc: Global,
+    q: &mut Q,
+    n: u32,
+) -> io::Result<()>
     requires { n ≤ size_limit }
 {
     let start = Instant::now(rt)?;
@@ -103,7 +108,12 @@ fn measure_less<R: Print + Clock, Q: Quads>(rt: &R, alloc: Global, q: &mut Q, n:
 }
 
 /// Measures the Hasse diagram of a chain.
-fn measure_hasse<R: Print + Clock, Q: Quads>(rt: &R, alloc: Global, q: &mut Q, n: u32) -> io::Result<()>
+fn measure_hasse<R: Print + Clock, Q: Quads>(
+    rt: &R,
+    alloc: Global,
+    q: &mut Q,
+    n: u32,
+) -> io::Result<()>
     requires { n ≤ size_limit }
 {
     let Ok(order) = chain(q, n) else {

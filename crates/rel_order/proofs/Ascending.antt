@@ -56,6 +56,7 @@ leaf_ascending m bits h = same_cells _ _ (λ i j. elim (cases_lt j m) [
     right_true : (a : Bool) → (a && true) ≡ a
     right_true true = refl
     right_true false = refl
+
     right_false : (a : Bool) → (a && false) ≡ false
     right_false true = refl
     right_false false = refl

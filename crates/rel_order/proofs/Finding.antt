@@ -75,7 +75,7 @@ module _ (n : ℕ) (r : Relation) (t : HasType n n r) where
       let s = type-proper in
       relation_of-sizes P.rows P.cols n n (λ i j. has P i j && not (has C i j)) s.row_size s.col_size
       ∙ relation_of-agree n n (λ i j. has P i j && not (has C i j)) (λ x y. is_proper r x y && not (some_below r.rows (λ z. is_proper r x z && is_proper r z y)))
-        (λ i j a b. ap (λ x. x && not (has C i j)) (proper-has i j a b) ∙ ap (λ x. is_proper r i j && not x) (twice-has i j a b))
+      (λ i j a b. ap (λ x. x && not (has C i j)) (proper-has i j a b) ∙ ap (λ x. is_proper r i j && not x) (twice-has i j a b))
       ∙ relation_of-sizes n n r.rows r.cols _ (sym t.row_size) (sym t.col_size)
 
   -- ---- elements that no lesser one stands beside
@@ -95,13 +95,13 @@ module _ (n : ℕ) (r : Relation) (t : HasType n n r) where
       let b = type-inter n n r (transpose (less n)) t in
       same_truth _ _
       (λ h. let p = in_compose behind (full n 1) x 0 h in
-        let q = in_inter n n r (transpose (less n)) t x p.at p.first in
-        some_from x (has r x) p.at (in_less n p.at x (in_transpose (less n) x p.at q.1)) q.0)
+      let q = in_inter n n r (transpose (less n)) t x p.at p.first in
+      some_from x (has r x) p.at (in_less n p.at x (in_transpose (less n) x p.at q.1)) q.0)
       (λ h. let p = some_passes x (has r x) h in
-        let l = p.within in
-        from_compose n n 1 behind (full n 1) b type-full x p.at 0
-        (from_inter n n r (transpose (less n)) t x p.at p.passes (from_transpose n n (less n) (type-less n) x p.at (from_less n p.at x l a)))
-        (in_full p.at (omega (arith, l, a))))
+      let l = p.within in
+      from_compose n n 1 behind (full n 1) b type-full x p.at 0
+      (from_inter n n r (transpose (less n)) t x p.at p.passes (from_transpose n n (less n) (type-less n) x p.at (from_less n p.at x l a)))
+      (in_full p.at (omega (arith, l, a))))
 
   pub leading_found : diff (full n 1) (compose (inter r (transpose (less n))) (full n 1)) ≡ leading r
   unfolding complement leading
@@ -111,7 +111,7 @@ module _ (n : ℕ) (r : Relation) (t : HasType n n r) where
       diff-full n 1 F s.row_size s.col_size
       ∙ relation_of-sizes F.rows F.cols n 1 (λ i j. not (has F i j)) s.row_size s.col_size
       ∙ relation_of-agree n 1 (λ i j. not (has F i j)) (λ x k. not (some_below x (λ y. has r x y))) (λ i j a b.
-        ap (λ k. not (has F i k)) (let z : j ≡ 0 = omega (arith, b) in z) ∙ ap not (followers-has i a))
+      ap (λ k. not (has F i k)) (let z : j ≡ 0 = omega (arith, b) in z) ∙ ap not (followers-has i a))
       ∙ relation_of-sizes n 1 r.rows 1 (λ x k. not (some_below x (λ y. has r x y))) (sym t.row_size) refl
 
 -- ---- classes
@@ -189,8 +189,8 @@ module _ (n : ℕ) (r : Relation) (t : HasType n n r) where
       let cols : T.cols ≡ class_count r = cols-transpose (inj leaders) ∙ rows-inj in
       relation_of-sizes alike.rows T.cols n (class_count r) (λ i k. some_below alike.cols (λ j. has alike i j && has T j k)) s.row_size cols
       ∙ relation_of-agree n (class_count r) (λ i k. some_below alike.cols (λ j. has alike i j && has T j k)) (λ x k. is_in_class r x k) (λ x k a b.
-        ap (λ m. some_below m (λ j. has alike x j && has T j k)) s.col_size
-        ∙ some_agree n (λ e. has alike x e && has T e k) (λ e. same_column r e x && (leads r e && eqb (count_below e (leads r)) k)) (λ e l.
-          ap (λ y. y && has T e k) (alike-has x e a l) ∙ ap (λ y. same_column r e x && y) (numbered-has e k l b))
-        ∙ ap (λ m. some_below m (λ e. same_column r e x && (leads r e && eqb (count_below e (leads r)) k))) (sym t.row_size))
+      ap (λ m. some_below m (λ j. has alike x j && has T j k)) s.col_size
+      ∙ some_agree n (λ e. has alike x e && has T e k) (λ e. same_column r e x && (leads r e && eqb (count_below e (leads r)) k)) (λ e l.
+      ap (λ y. y && has T e k) (alike-has x e a l) ∙ ap (λ y. same_column r e x && y) (numbered-has e k l b))
+      ∙ ap (λ m. some_below m (λ e. same_column r e x && (leads r e && eqb (count_below e (leads r)) k))) (sym t.row_size))
       ∙ relation_of-sizes n (class_count r) r.rows (class_count r) (λ x k. is_in_class r x k) (sym t.row_size) refl

@@ -21,8 +21,8 @@ pub fn least<Q: Quads>(q: &mut Q, r: Rel, s: Rel) -> Result<Rel, Lack>
     ensures room { MakesAtMost (wide_room r.rows r.cols s.cols) (Q.worker q.old) (Q.worker q.new) }
     ensures cause { HasCause Q.lean (Q.worker q.old) (Q.worker q.new) result }
 {
-    let bounds = lbd(q, r, s)?;
-    let found = q.inter(s, bounds)?;
+    let below = lbd(q, r, s)?;
+    let found = q.inter(s, below)?;
     Ok(found)
 }
 
@@ -39,8 +39,8 @@ pub fn greatest<Q: Quads>(q: &mut Q, r: Rel, s: Rel) -> Result<Rel, Lack>
     ensures room { MakesAtMost (wide_room r.rows r.cols s.cols) (Q.worker q.old) (Q.worker q.new) }
     ensures cause { HasCause Q.lean (Q.worker q.old) (Q.worker q.new) result }
 {
-    let bounds = ubd(q, r, s)?;
-    let found = q.inter(s, bounds)?;
+    let above = ubd(q, r, s)?;
+    let found = q.inter(s, above)?;
     Ok(found)
 }
 
@@ -57,8 +57,8 @@ pub fn sup<Q: Quads>(q: &mut Q, r: Rel, s: Rel) -> Result<Rel, Lack>
     ensures room { MakesAtMost (extremes_room r.rows r.cols s.cols) (Q.worker q.old) (Q.worker q.new) }
     ensures cause { HasCause Q.lean (Q.worker q.old) (Q.worker q.new) result }
 {
-    let bounds = ubd(q, r, s)?;
-    let found = least(q, r, bounds)?;
+    let uppers = ubd(q, r, s)?;
+    let found = least(q, r, uppers)?;
     Ok(found)
 }
 
@@ -75,7 +75,7 @@ pub fn inf<Q: Quads>(q: &mut Q, r: Rel, s: Rel) -> Result<Rel, Lack>
     ensures room { MakesAtMost (extremes_room r.rows r.cols s.cols) (Q.worker q.old) (Q.worker q.new) }
     ensures cause { HasCause Q.lean (Q.worker q.old) (Q.worker q.new) result }
 {
-    let bounds = lbd(q, r, s)?;
-    let found = greatest(q, r, bounds)?;
+    let lowers = lbd(q, r, s)?;
+    let found = greatest(q, r, lowers)?;
     Ok(found)
 }

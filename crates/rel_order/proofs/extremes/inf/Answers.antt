@@ -8,8 +8,8 @@ use Rattle.rel_model.specs.Orders.{lower_bounds, greatest}
 use Rattle.rel_order.proofs.Calling.{extreme_given}
 use Rattle.rel_order.proofs.extremes.inf.Goals as goal
 
-pub returns-in_err-bounds-clause-room : goal.returns-in_err-bounds-clause-room
-returns-in_err-bounds-clause-room g c =
+pub returns-in_err-lowers-clause-room : goal.returns-in_err-lowers-clause-room
+returns-in_err-lowers-clause-room g c =
     let k : ℕ = c.args.r.rows in
     let m : ℕ = c.args.r.cols in
     let n : ℕ = c.args.s.cols in
@@ -18,7 +18,7 @@ returns-in_err-bounds-clause-room g c =
     let two = bounds_room-two k m n in
     let four = wide_room-four k m n in
     let eight = extremes_room-eight k m n in
-    let a0 = c.in_err-bounds.ensures.room in
+    let a0 = c.in_err-lowers.ensures.room in
     omega (arith, least, two, four, eight, a0)
 
 pub returns-in_err-found-clause-room : goal.returns-in_err-found-clause-room
@@ -31,9 +31,9 @@ returns-in_err-found-clause-room g c =
     let two = bounds_room-two k m n in
     let four = wide_room-four k m n in
     let eight = extremes_room-eight k m n in
-    let a0 = c.in_ok-bounds.ensures.room in
+    let a0 = c.in_ok-lowers.ensures.room in
     let a1 = c.in_err-found.ensures.room in
-    let u10 = ap (λ (x : ℕ). wide_room c.args.r.rows c.args.r.cols x) c.in_ok-bounds.ensures.value.col_size in
+    let u10 = ap (λ (x : ℕ). wide_room c.args.r.rows c.args.r.cols x) c.in_ok-lowers.ensures.value.col_size in
     omega (arith, least, two, four, eight, a0, a1, u10)
 
 pub returns-clause-room : goal.returns-clause-room
@@ -46,9 +46,9 @@ returns-clause-room g c =
     let two = bounds_room-two k m n in
     let four = wide_room-four k m n in
     let eight = extremes_room-eight k m n in
-    let a0 = c.in_ok-bounds.ensures.room in
+    let a0 = c.in_ok-lowers.ensures.room in
     let a1 = c.in_ok-found.ensures.room in
-    let u10 = ap (λ (x : ℕ). wide_room c.args.r.rows c.args.r.cols x) c.in_ok-bounds.ensures.value.col_size in
+    let u10 = ap (λ (x : ℕ). wide_room c.args.r.rows c.args.r.cols x) c.in_ok-lowers.ensures.value.col_size in
     omega (arith, least, two, four, eight, a0, a1, u10)
 
 pub returns-clause-value : goal.returns-clause-value
@@ -57,4 +57,4 @@ returns-clause-value g c =
     let r = c.args.r in
     let s = c.args.s in
     let w0 = g.Q.Core.worker c.args.q.now in
-    extreme_given greatest (lower_bounds (set_of w0 r) (set_of w0 s)) w0 _ _ s.cols r _ _ c.requires.left c.in_ok-bounds.ensures.keeps c.in_ok-bounds.ensures.value c.in_ok-found.ensures.value
+    extreme_given greatest (lower_bounds (set_of w0 r) (set_of w0 s)) w0 _ _ s.cols r _ _ c.requires.left c.in_ok-lowers.ensures.keeps c.in_ok-lowers.ensures.value c.in_ok-found.ensures.value

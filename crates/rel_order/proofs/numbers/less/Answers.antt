@@ -60,7 +60,7 @@ rel-all-requires-clause-within g c =
     let i = is_high g.Q.Core.least c.args.n c.root-height.result.height c.in_ok-none.none.rows c.in_ok-none.none.cols g.met.Q.Quads.least_limit c.requires o.row_size o.col_size c.root-height.ensures.same_height in
     let w = g.Q.Core.worker c.rect.new.self in
     let q = gives_later (g.Q.Core.worker c.upper.new.q) w c.root-height.result.height (ascending (2 ^ c.root-height.result.height)) c.in_ok-order.order c.in_ok-first.ensures.keeps
-        (order_high (g.Q.Core.worker c.upper.new.q) g.Q.Core.least c.args.n c.root-height.result.height c.bottom.result c.in_ok-order.order i c.bottom.ensures c.in_ok-order.ensures.value) in
+    (order_high (g.Q.Core.worker c.upper.new.q) g.Q.Core.least c.args.n c.root-height.result.height c.bottom.result c.in_ok-order.order i c.bottom.ensures c.in_ok-order.ensures.value) in
     subst (λ (k : ℕ). LiesWithin k k (quad_set w c.in_ok-order.order)) (ap (λ (k : ℕ). 2 ^ k) q.same_height ∙ sym c.side_of-side.ensures)
     (g.met.Q.Quads.square c.rect.new.self c.in_ok-order.order (gives_has w c.root-height.result.height (ascending (2 ^ c.root-height.result.height)) c.in_ok-order.order q))
 
@@ -91,9 +91,9 @@ rel-requires-clause-height g c =
     let w3 = g.Q.Core.worker c.rect.new.self in
     let w4 = g.Q.Core.worker c.inter.new.self in
     let q = gives_later w2 w3 h (ascending (2 ^ h)) c.in_ok-order.order c.in_ok-first.ensures.keeps
-        (order_high w2 g.Q.Core.least n h c.bottom.result c.in_ok-order.order i c.bottom.ensures c.in_ok-order.ensures.value) in
+    (order_high w2 g.Q.Core.least n h c.bottom.result c.in_ok-order.order i c.bottom.ensures c.in_ok-order.ensures.value) in
     let found = cut_set w3 w4 n h side c.in_ok-order.order c.in_ok-first.first c.rel-all.result c.rel-kept.result c.in_ok-cut.cut c.side_of-side.ensures q c.in_ok-first.ensures.value
-        c.rel-all.ensures c.rel-kept.ensures c.in_ok-cut.ensures.value in
+    c.rel-all.ensures c.rel-kept.ensures c.in_ok-cut.ensures.value in
     let root = cut_root w4 g.Q.Core.least n h side c.in_ok-cut.cut c.root-quad.result i c.side_of-side.ensures found c.root-quad.ensures in
     root.height
 
@@ -108,9 +108,9 @@ rel-requires-clause-within g c =
     let w3 = g.Q.Core.worker c.rect.new.self in
     let w4 = g.Q.Core.worker c.inter.new.self in
     let q = gives_later w2 w3 h (ascending (2 ^ h)) c.in_ok-order.order c.in_ok-first.ensures.keeps
-        (order_high w2 g.Q.Core.least n h c.bottom.result c.in_ok-order.order i c.bottom.ensures c.in_ok-order.ensures.value) in
+    (order_high w2 g.Q.Core.least n h c.bottom.result c.in_ok-order.order i c.bottom.ensures c.in_ok-order.ensures.value) in
     let found = cut_set w3 w4 n h side c.in_ok-order.order c.in_ok-first.first c.rel-all.result c.rel-kept.result c.in_ok-cut.cut c.side_of-side.ensures q c.in_ok-first.ensures.value
-        c.rel-all.ensures c.rel-kept.ensures c.in_ok-cut.ensures.value in
+    c.rel-all.ensures c.rel-kept.ensures c.in_ok-cut.ensures.value in
     let root = cut_root w4 g.Q.Core.least n h side c.in_ok-cut.cut c.root-quad.result i c.side_of-side.ensures found c.root-quad.ensures in
     root.within
 
@@ -125,9 +125,9 @@ returns-clause-value g c =
     let w3 = g.Q.Core.worker c.rect.new.self in
     let w4 = g.Q.Core.worker c.inter.new.self in
     let q = gives_later w2 w3 h (ascending (2 ^ h)) c.in_ok-order.order c.in_ok-first.ensures.keeps
-        (order_high w2 g.Q.Core.least n h c.bottom.result c.in_ok-order.order i c.bottom.ensures c.in_ok-order.ensures.value) in
+    (order_high w2 g.Q.Core.least n h c.bottom.result c.in_ok-order.order i c.bottom.ensures c.in_ok-order.ensures.value) in
     let found = cut_set w3 w4 n h side c.in_ok-order.order c.in_ok-first.first c.rel-all.result c.rel-kept.result c.in_ok-cut.cut c.side_of-side.ensures q c.in_ok-first.ensures.value
-        c.rel-all.ensures c.rel-kept.ensures c.in_ok-cut.ensures.value in
+    c.rel-all.ensures c.rel-kept.ensures c.in_ok-cut.ensures.value in
     let root = cut_root w4 g.Q.Core.least n h side c.in_ok-cut.cut c.root-quad.result i c.side_of-side.ensures found c.root-quad.ensures in
     let r = c.rel.ensures in
     record { means = r.means ∙ ap Some root.is; row_size = r.row_size; col_size = r.col_size }
