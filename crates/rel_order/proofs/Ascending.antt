@@ -2,19 +2,19 @@
 -- 1. In a leaf each cell is a bit of one number, which is compared place by place.
 -- 2. A square goes by its quarters: those on the diagonal are the same again, the one above is full and the one below has no cell.
 -- 3. What lies within the first n rows and columns is the strict order of n elements, and the tree of its square has one height.
-use Rattle.std.proofs.Common.{◌≡◌, ◌≢◌, ◌<◌, ◌≤◌, ◌+◌, ◌-◌, ◌*◌, ◌/◌, ◌%◌, ◌^◌, ◌∙◌, ◌⊎◌, ◌&&◌, eqb, ltb, ℕ, Bool, true, false, refl, sym, ap, subst, arith, inl, inr, Some}
+use Rattle.std.proofs.Common.{◌≡◌, ◌≢◌, ◌<◌, ◌≤◌, ◌+◌, ◌-◌, ◌*◌, ◌/◌, ◌%◌, ◌^◌, ◌∙◌, ◌&&◌, eqb, ltb, ℕ, Bool, true, false, refl, sym, ap, subst, arith, inl, inr, Some}
 use Rattle.std.proofs.Math.Pow.{pow_mono}
-use Rattle.std.proofs.lemmas.Bool.{cases_lt, lt-ltb, le-ltb, ltb-true, and_parts, and_from, agree_below_at, false≢true}
+use Rattle.std.proofs.lemmas.Bool.{cases_lt, lt-ltb, le-ltb, ltb-true, and_parts, agree_below_at, false≢true}
 use Rattle.std.specs.Int.{bit_at}
 use Rattle.rel_model.specs.declared.Rel.{Rel}
 use Rattle.rel_model.specs.declared.Quad.{Quad}
 use Rattle.rel_model.specs.Relation.{Relation, has, relation_of, size_limit}
-use Rattle.rel_model.specs.Cells.{Cells, no_cells, cells_rect, bits_cells}
+use Rattle.rel_model.specs.Cells.{no_cells, cells_rect, bits_cells}
 use Rattle.rel_model.specs.Operators.{inter}
 use Rattle.rel_model.specs.Orders.{less}
 use Rattle.rel_model.specs.Quarters.{LiesWithin}
 use Rattle.rel_model.specs.Roots.{height_over, tree_room, relation_room}
-use Rattle.rel_model.specs.Trees.{quartered, top_height}
+use Rattle.rel_model.specs.Trees.{quartered}
 use Rattle.rel_model.specs.Worker.{Worker, Gives, GivesQuad, Keeps, set_of, quad_set, operator_room, derived_room, height_of_three}
 use Rattle.rel_model.proofs.Heights.{height_over-is, height_over-rows, height_over-low, height_over-high}
 use Rattle.rel_model.proofs.Members.{type-test, in_test, in_inter}
@@ -25,7 +25,6 @@ use Rattle.rel_domains.proofs.Ruled.{rule_room}
 use Rattle.rel_model.proofs.TreeLaws.{same_cells}
 use Rattle.rel_domains.proofs.Places.{side_step}
 use Rattle.rel_domains.proofs.Quartering.{gives_set, gives_later}
-use Rattle.rel_domains.proofs.Windows.{corner_of}
 use Rattle.rel_order.specs.Steps.{ascending}
 
 -- ---- leaves

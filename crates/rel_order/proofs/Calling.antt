@@ -1,5 +1,8 @@
--- Each call from what a worker answers on the way: its value is read off the calls, and the laws say which relation it is.
-use Rattle.std.proofs.Common.{◌≡◌, ◌<◌, ◌≤◌, ◌∙◌, ◌^◌, ℕ, Bool, Some, sym, ap, subst, arith}
+-- Each call from what a worker answers on the way.
+-- 1. What was given is kept by the calls after it, so that each set is read off where the next call takes it.
+-- 2. So the set of the answer is the operators' own, one within another.
+-- 3. The laws of bounds, and what Finding says of the rest, give the relation of the definition; its sizes are those of the answers on the way.
+use Rattle.std.proofs.Common.{◌≡◌, ◌≤◌, ◌∙◌, ℕ, Bool, Some, sym, ap, arith}
 use Rattle.rel_model.specs.declared.Rel.{Rel}
 use Rattle.rel_model.specs.Relation.{Relation, size_limit}
 use Rattle.rel_model.specs.Operators.{full, union, inter, diff, transpose, compose, left_residual, symmetric_quotient}

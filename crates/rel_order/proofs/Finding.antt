@@ -1,14 +1,18 @@
--- What the calls find is what the definitions say, by membership.
-use Rattle.std.proofs.Common.{◌≡◌, ◌≢◌, ◌<◌, ◌≤◌, ◌+◌, ◌∙◌, ◌⊎◌, ◌&&◌, eqb, ltb, not, cond, zero, suc, ℕ, Bool, true, false, refl, sym, ap, subst, arith, inl, inr}
-use Rattle.std.proofs.lemmas.Bool.{cases_lt, lt-ltb, ltb-true, ne_eqb, not_from_false, not-true, eqb-false, false≢true}
-use Rattle.rel_model.specs.Relation.{Relation, has, relation_of}
+-- What the calls find is what the definitions say, by membership (Schmidt and Ströhlein, Relations and Graphs).
+-- 1. A pair of two different elements is one of the strict order or of its transpose.
+-- 2. Steps without one between are the proper pairs that no two of them make.
+-- 3. The elements that one follows are the rows of r & less^ that have a pair: the others lead.
+-- 4. Those that lead by equal columns are the least of their classes; their places in order are the numbers of the classes, and an element has the number of the one that leads its class.
+use Rattle.std.proofs.Common.{◌≡◌, ◌<◌, ◌+◌, ◌∙◌, ◌&&◌, eqb, ltb, not, cond, zero, suc, ℕ, Bool, true, false, refl, sym, ap, subst, arith, inl, inr}
+use Rattle.std.proofs.lemmas.Bool.{cases_lt, lt-ltb, ltb-true, ne_eqb, not_from_false, not-true, eqb-false}
+use Rattle.rel_model.specs.Relation.{Relation, has}
 use Rattle.rel_model.specs.Cells.{some_below}
 use Rattle.rel_model.specs.Choice.{holds, count_below, inj}
 use Rattle.rel_model.specs.Operators.{full, union, inter, diff, complement, transpose, compose, symmetric_quotient, differ}
 use Rattle.rel_model.specs.Algebra.{HasType}
 use Rattle.rel_model.specs.Orders.{less, hasse, is_proper, same_column, leads, class_count, is_in_class, classes}
-use Rattle.rel_model.proofs.Members.{type-test, in_test, from_test, type-union, in_union, left_union, right_union, type-inter, in_inter, from_inter, type-transpose, in_transpose, from_transpose, type-compose, in_compose, from_compose, type-quotient, none_differ}
-use Rattle.rel_model.proofs.OperatorLaws.{relation_of-sizes, diff-full, rows-transpose, cols-transpose}
+use Rattle.rel_model.proofs.Members.{type-test, in_test, from_test, in_union, left_union, right_union, type-inter, in_inter, from_inter, type-transpose, in_transpose, from_transpose, type-compose, in_compose, from_compose, type-quotient}
+use Rattle.rel_model.proofs.OperatorLaws.{relation_of-sizes, diff-full, cols-transpose}
 use Rattle.rel_model.proofs.Relations.{rows-relation_of, cols-relation_of, has-relation_of, relation_of-agree}
 use Rattle.rel_model.proofs.Somes.{same_truth, some_from, some_passes, some_agree}
 use Rattle.rel_order.specs.Steps.{proper_pairs, leading}

@@ -1,5 +1,5 @@
 -- What the calls find on their way.
-use Rattle.std.specs.Prelude.{◌+◌, ◌*◌, ◌&&◌, not, nat_lt, ℕ}
+use Rattle.std.specs.Prelude.{◌*◌, ◌&&◌, not, nat_lt, ℕ}
 use Rattle.rel_model.specs.Relation.{Relation, has, relation_of}
 use Rattle.rel_model.specs.Cells.{Cells, some_below}
 use Rattle.rel_model.specs.Orders.{is_proper}

@@ -6,8 +6,6 @@ mod classes;
 mod diagram;
 mod extremes;
 mod numbers;
-#[cfg(test)]
-mod tests;
 
 pub use bounds::{lbd, ubd};
 pub use classes::quot;

@@ -1,9 +1,7 @@
-use Rattle.std.proofs.Common.{◌≡◌, ◌+◌, ◌*◌, ◌∙◌, ℕ, ap, sym, arith}
+use Rattle.std.proofs.Common.{ℕ, ap, arith}
 use Rattle.rel_model.specs.Worker.{height_of_three}
-use Rattle.rel_model.proofs.Rooms.{operator_room-most, product_room-most, derived_room-least, derived_room-most, wide_room-four, bounds_room-two, extremes_room-eight, classes_room-sixteen}
-use Rattle.rel_residual.proofs.Deriving.{as_high}
-use Rattle.rel_model.specs.Algebra.{HasType}
-use Rattle.rel_model.specs.Worker.{set_of, Gives, wide_room}
+use Rattle.rel_model.proofs.Rooms.{derived_room-least, wide_room-four, bounds_room-two, extremes_room-eight}
+use Rattle.rel_model.specs.Worker.{set_of, wide_room}
 use Rattle.rel_model.specs.Orders.{lower_bounds, greatest}
 use Rattle.rel_order.proofs.Calling.{extreme_given}
 use Rattle.rel_order.proofs.extremes.inf.Goals as goal

@@ -1,4 +1,4 @@
-use Rattle.std.proofs.Common.{◌≡◌, ◌∙◌, ◌^◌, ℕ, ap, sym, arith}
+use Rattle.std.proofs.Common.{◌≡◌, ◌∙◌, ◌^◌, ap, sym, arith}
 use Rattle.rel_model.specs.Cells.{bits_cells}
 use Rattle.rel_order.specs.Steps.{ascending}
 use Rattle.rel_order.proofs.Ascending.{leaf_ascending, four_bits, eight_bits}

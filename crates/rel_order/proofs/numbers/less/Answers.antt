@@ -1,9 +1,9 @@
-use Rattle.std.proofs.Common.{◌≡◌, ◌^◌, ◌*◌, ◌≤◌, ◌∙◌, ℕ, Some, sym, ap, subst, arith}
+use Rattle.std.proofs.Common.{◌^◌, ◌∙◌, ℕ, Some, sym, ap, subst, arith}
 use Rattle.rel_model.specs.Quarters.{LiesWithin}
-use Rattle.rel_model.specs.Worker.{Gives, GivesQuad, quad_set}
+use Rattle.rel_model.specs.Worker.{quad_set}
 use Rattle.rel_domains.proofs.Quartering.{gives_has, gives_later}
 use Rattle.rel_order.specs.Steps.{ascending}
-use Rattle.rel_order.proofs.Ascending.{IsHigh, CutRoot, is_high, order_high, side_high, side_most, cut, cut_set, cut_root, three_trees, tree_of, tree_from, tree_side}
+use Rattle.rel_order.proofs.Ascending.{is_high, order_high, side_high, side_most, cut_set, cut_root, three_trees, tree_of, tree_from, tree_side}
 use Rattle.rel_order.proofs.numbers.less.Goals as goal
 
 pub rect-requires-clause-row : goal.rect-requires-clause-row
