@@ -1,0 +1,343 @@
+//! Each call over relations in a node table, beside what their lists of pairs say.
+#![tactic(auto, using(crate::proofs::Later::rel_later, crate::proofs::Later::given_stands))]
+
+ghost use Rattle.std.specs.Prelude.{◌≡◌, ◌≤◌, IfOk};
+ghost use Rattle.rel_model.specs.Relation.{size_limit};
+ghost use Rattle.rel_model.specs.Worker.{Stands, Keeps};
+
+use crate::slow::{Call, Operands, answers, columns};
+use crate::trial::{Trial, on_a_crew};
+use rel_domains::{first, second};
+use rel_model::core_trait::Core;
+use rel_model::quads_trait::Quads;
+use rel_model::{Lack, Rel, Shape};
+use rel_order::{greatest, hasse, inf, lbd, least, less, quot, sup, ubd};
+use std::alloc::Global;
+use std::process::Abort;
+
+/// The calls, each once.
+const CALLS: &[Call] = &[
+    Call::Less,
+    Call::Hasse,
+    Call::Quot,
+    Call::Ubd,
+    Call::Lbd,
+    Call::Least,
+    Call::Greatest,
+    Call::Sup,
+    Call::Inf,
+];
+
+/// The relation of some pairs, put in one after another.
+fn of_pairs<Q: Quads>(rt: &impl Abort, q: &mut Q, shape: Shape, pairs: &[(u32, u32)]) -> Rel
+    requires row { shape.rows ≤ size_limit }
+    requires col { shape.cols ≤ size_limit }
+    ensures standing { Stands (Q.worker q.new) result }
+    ensures rows { result.rows ≡ shape.rows }
+    ensures cols { result.cols ≡ shape.cols }
+    ensures keeps { Keeps (Q.worker q.old) (Q.worker q.new) }
+{
+    let Ok(mut r) = q.empty(shape) else {
+        panic!(rt; "no room")
+    };
+    'pairs: for (i, j) in pairs {
+        assert!(rt; *i < shape.rows && *j < shape.cols);
+        let Ok(pair) = q.single(shape, *i, *j) else {
+            panic!(rt; "no room")
+        };
+        let Ok(more) = q.union(r, pair) else {
+            panic!(rt; "no room")
+        };
+        r = more;
+    }
+    r
+}
+
+/// What a call answers.
+fn answer_of<Q: Quads>(q: &mut Q, call: Call, r: Rel, s: Rel) -> Result<Rel, Lack>
+    requires left { Stands (Q.worker q.old) r }
+    requires right { Stands (Q.worker q.old) s }
+    requires square { r.rows ≡ r.cols }
+    requires rows { r.rows ≡ s.rows }
+    ensures standing { IfOk result (Stands (Q.worker q.new)) }
+    ensures keeps { Keeps (Q.worker q.old) (Q.worker q.new) }
+{
+    match call {
+        Call::Less => less(q, r.rows),
+        Call::Hasse => hasse(q, r),
+        Call::Quot => quot(q, r),
+        Call::Ubd => ubd(q, r, s),
+        Call::Lbd => lbd(q, r, s),
+        Call::Least => least(q, r, s),
+        Call::Greatest => greatest(q, r, s),
+        Call::Sup => sup(q, r, s),
+        Call::Inf => inf(q, r, s),
+    }
+}
+
+/// Asserts that a relation is the slow answer, cell by cell.
+fn is_given<Q: Quads>(rt: &impl Abort, q: &mut Q, found: Rel, call: Call, given: Operands)
+    requires { Stands (Q.worker q.old) found }
+    ensures { Keeps (Q.worker q.old) (Q.worker q.new) }
+{
+    assert!(rt; found.rows == given.n && found.cols == columns(call, given));
+    'rows: for x in 0..found.rows {
+        'cols: for y in 0..found.cols {
+            let is_in = q.has(found, x, y);
+            assert!(rt;
+                is_in == answers(call, given, x, y),
+                "{call:?} of {given:?} at {x} {y}"
+            );
+        }
+    }
+}
+
+/// Asserts what each call answers.
+fn are_right<Q: Quads>(rt: &impl Abort, q: &mut Q, r: Rel, s: Rel, given: Operands)
+    requires left { Stands (Q.worker q.old) r }
+    requires right { Stands (Q.worker q.old) s }
+    requires square { r.rows ≡ r.cols }
+    requires rows { r.rows ≡ s.rows }
+    ensures { Keeps (Q.worker q.old) (Q.worker q.new) }
+{
+    'calls: for call in CALLS {
+        let Ok(found) = answer_of(q, *call, r, s) else {
+            panic!(rt; "no room")
+        };
+        is_given(rt, q, found, *call, given);
+    }
+}
+
+/// Asserts what each call answers of two lists of pairs.
+fn is_right<Q: Quads>(rt: &impl Abort, q: &mut Q, given: Operands)
+    requires elements { given.n ≤ size_limit }
+    requires columns { given.cols ≤ size_limit }
+{
+    let n = given.n;
+    let r = of_pairs(rt, q, Shape { rows: n, cols: n }, given.r);
+    let shape = Shape {
+        rows: n,
+        cols: given.cols,
+    };
+    let s = of_pairs(rt, q, shape, given.s);
+    are_right(rt, q, r, s, given);
+}
+
+/// A pair put behind others.
+fn put(rt: &impl Abort, pairs: &mut Vec<(u32, u32)>, pair: (u32, u32)) {
+    if pairs.push(pair).is_err() {
+        panic!(rt; "no memory");
+    }
+}
+
+/// The pairs of the cells of a grid whose bits are set, from the lowest on.
+fn cells_of(rt: &impl Abort, alloc: Global, shape: Shape, bits: u64) -> Vec<(u32, u32)> {
+    let mut pairs = Vec::new(alloc);
+    let mut left = bits;
+    'rows: for i in 0..shape.rows {
+        'cols: for j in 0..shape.cols {
+            if left % 2 == 1 {
+                put(rt, &mut pairs, (i, j));
+            }
+            left /= 2;
+        }
+    }
+    pairs
+}
+
+/// Asserts what each call answers of a relation of at most 3 elements and of all vectors, and of the relation twice.
+fn with_all_vectors<Q: Quads>(rt: &impl Abort, alloc: Global, q: &mut Q, n: u32, r: &[(u32, u32)])
+    requires { n ≤ 3 }
+{
+    is_right(
+        rt,
+        q,
+        Operands {
+            n,
+            r,
+            cols: n,
+            s: r,
+        },
+    );
+    is_right(
+        rt,
+        q,
+        Operands {
+            n,
+            r,
+            cols: 0,
+            s: &[],
+        },
+    );
+    'vectors: for bits in 0..8 {
+        if bits >> n == 0 {
+            let s = cells_of(rt, alloc, Shape { rows: n, cols: 1 }, bits);
+            is_right(
+                rt,
+                q,
+                Operands {
+                    n,
+                    r,
+                    cols: 1,
+                    s: &s,
+                },
+            );
+        }
+    }
+}
+
+/// Asserts what each call answers of all relations of at most 3 elements.
+pub(crate) fn up_to_3<Q: Quads>(rt: &impl Abort, alloc: Global, q: &mut Q) {
+    'sizes: for n in 0..4 {
+        'sets: for bits in 0..512 {
+            if bits >> (n * n) == 0 {
+                let r = cells_of(rt, alloc, Shape { rows: n, cols: n }, bits);
+                with_all_vectors(rt, alloc, q, n, &r);
+            }
+        }
+    }
+}
+
+#[test]
+fn all_relations_of_up_to_3_elements_are_answered_as_by_lists(rt: HostRuntime) {
+    on_a_crew(&rt, rt.alloc(), Trial::UpTo3);
+}
+
+/// The next state of a linear congruential generator (Knuth's MMIX).
+fn stepped(state: u64) -> u64 {
+    state
+        .wrapping_mul(6364136223846793005)
+        .wrapping_add(1442695040888963407)
+}
+
+/// The pairs of a grid that a generator picks, one in so many.
+fn some_of(
+    rt: &impl Abort,
+    alloc: Global,
+    shape: Shape,
+    one_in: u64,
+    seed: u64,
+) -> Vec<(u32, u32)> {
+    let mut pairs = Vec::new(alloc);
+    let mut state = seed;
+    'rows: for i in 0..shape.rows {
+        'cols: for j in 0..shape.cols {
+            assert!(rt; 0 < one_in);
+            state = stepped(state);
+            if (state >> 33).is_multiple_of(one_in) {
+                put(rt, &mut pairs, (i, j));
+            }
+        }
+    }
+    pairs
+}
+
+/// Asserts what each call answers of relations of 9 and 17 elements that a generator picks.
+pub(crate) fn pseudo_random<Q: Quads>(rt: &impl Abort, alloc: Global, q: &mut Q) {
+    'sizes: for n in [9, 17] {
+        assert!(rt; n <= 17);
+        'choices: for (one_in, seed) in [(1, 1), (2, 2), (5, 3), (40, 4), (900, 5)] {
+            let r = some_of(rt, alloc, Shape { rows: n, cols: n }, one_in, seed);
+            let s = some_of(rt, alloc, Shape { rows: n, cols: 3 }, 3, seed);
+            is_right(
+                rt,
+                q,
+                Operands {
+                    n,
+                    r: &r,
+                    cols: 3,
+                    s: &s,
+                },
+            );
+        }
+    }
+}
+
+#[test]
+fn pseudo_random_relations_of_9_and_17_elements_are_answered_as_by_lists(rt: HostRuntime) {
+    on_a_crew(&rt, rt.alloc(), Trial::PseudoRandom);
+}
+
+/// The pairs (i, j) of numbers from 1 on where the first divides the second, or where both have one remainder by 3.
+fn numbers(rt: &impl Abort, alloc: Global, n: u32, divides: bool) -> Vec<(u32, u32)>
+    requires { n ≤ 12 }
+{
+    let mut pairs = Vec::new(alloc);
+    'rows: for i in 0..n {
+        'cols: for j in 0..n {
+            let is_in = if divides {
+                (j + 1) % (i + 1) == 0
+            } else {
+                i % 3 == j % 3
+            };
+            if is_in {
+                put(rt, &mut pairs, (i, j));
+            }
+        }
+    }
+    pairs
+}
+
+/// Asserts what each call answers of an order and of an equivalence, of all two-element columns.
+pub(crate) fn divisors<Q: Quads>(rt: &impl Abort, alloc: Global, q: &mut Q) {
+    let n = 12;
+    let mut s = Vec::new(alloc);
+    'firsts: for i in 0..n {
+        'seconds: for j in 0..n {
+            put(rt, &mut s, (i, n * i + j));
+            put(rt, &mut s, (j, n * i + j));
+        }
+    }
+    'kinds: for divides in [true, false] {
+        let r = numbers(rt, alloc, n, divides);
+        is_right(
+            rt,
+            q,
+            Operands {
+                n,
+                r: &r,
+                cols: 144,
+                s: &s,
+            },
+        );
+    }
+}
+
+#[test]
+fn the_divisors_up_to_12_and_the_remainders_by_3_are_answered_as_by_lists(rt: HostRuntime) {
+    on_a_crew(&rt, rt.alloc(), Trial::Divisors);
+}
+
+/// Asserts that the classes of the pairs of 1,024 elements with one image are the projection to that image.
+fn is_its_projection<Q: Quads>(rt: &impl Abort, q: &mut Q, map: Rel)
+    requires { Stands (Q.worker q.old) map }
+{
+    let Ok(turned) = q.transpose(map) else {
+        panic!(rt; "no room")
+    };
+    let Ok(alike) = q.compose(map, turned) else {
+        panic!(rt; "no room")
+    };
+    let Ok(found) = quot(q, alike) else {
+        panic!(rt; "no room")
+    };
+    assert!(rt; found.rows == map.rows && found.cols == map.cols);
+    assert!(rt; q.same(found, map));
+}
+
+/// Asserts that of both projections, whose 2^20 elements have 2^10 classes.
+pub(crate) fn regular<Q: Quads>(rt: &impl Abort, q: &mut Q) {
+    let Ok(quotient) = first(q, 1024, 1024) else {
+        panic!(rt; "no room")
+    };
+    is_its_projection(rt, q, quotient);
+    let Ok(remainder) = second(q, 1024, 1024) else {
+        panic!(rt; "no room")
+    };
+    is_its_projection(rt, q, remainder);
+}
+
+#[test]
+fn the_classes_of_a_projection_are_the_projection(rt: HostRuntime) {
+    on_a_crew(&rt, rt.alloc(), Trial::Regular);
+}

@@ -1,0 +1,47 @@
+//! What any keeper of quads is put to, and a crew over a table of its own for each.
+#![tactic(auto)]
+
+ghost use Rattle.rel_model.specs.Views.{IsOf};
+
+use crate::tests;
+use fork_quads::{Crew, OpenGate};
+use pair_table::{PairTable, Seat};
+use rel_model::quads_trait::Quads;
+use std::alloc::Global;
+use std::process::Abort;
+use std::thread::Threads;
+
+/// What a keeper of quads is put to: an assertion of its own for each test.
+pub(crate) enum Trial {
+    UpTo3,
+    PseudoRandom,
+    Divisors,
+    Regular,
+}
+
+/// Puts a keeper of quads to a trial.
+fn put<Q: Quads>(rt: &impl Abort, alloc: Global, q: &mut Q, trial: Trial) {
+    match trial {
+        Trial::UpTo3 => tests::up_to_3(rt, alloc, q),
+        Trial::PseudoRandom => tests::pseudo_random(rt, alloc, q),
+        Trial::Divisors => tests::divisors(rt, alloc, q),
+        Trial::Regular => tests::regular(rt, q),
+    }
+}
+
+/// A table of 2^20 node words, and its first seat.
+fn table(rt: &impl Abort, alloc: Global) -> (PairTable, Seat)
+    ensures { IsOf result.1 result.0 }
+{
+    match PairTable::make(alloc, 20, 1) {
+        Ok(made) => made,
+        Err(_) => panic!(rt; "no memory"),
+    }
+}
+
+/// Puts a crew of one worker over a table of its own to a trial.
+pub(crate) fn on_a_crew<R: Threads + Abort + Sync>(rt: &R, alloc: Global, trial: Trial) {
+    let (table, seat) = table(rt, alloc);
+    let mut crew = Crew::new(rt, &table, seat, 1, &OpenGate);
+    put(rt, alloc, &mut crew, trial);
+}
