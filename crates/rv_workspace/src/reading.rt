@@ -18,7 +18,12 @@ pub struct View {
 }
 
 /// The name is found too, where it has a relation.
-fn pick(names: &NameMap<Rel>, found: &mut NameMap<Rel>, alloc: Global, name: &Name) -> Result<(), NoMemory>
+fn pick(
+    names: &NameMap<Rel>,
+    found: &mut NameMap<Rel>,
+    alloc: Global,
+    name: &Name,
+) -> Result<(), NoMemory>
     ensures { OnOk result (found.new ≡ with_name name.now (lookup names.now name.now) found.old) }
 {
     match names.get(name) {
@@ -34,7 +39,11 @@ fn pick(names: &NameMap<Rel>, found: &mut NameMap<Rel>, alloc: Global, name: &Na
 }
 
 /// Those of the names that are wanted.
-fn wanted_of(names: &NameMap<Rel>, alloc: Global, wanted: &[Name]) -> Result<Vec<(Name, Rel)>, NoMemory>
+fn wanted_of(
+    names: &NameMap<Rel>,
+    alloc: Global,
+    wanted: &[Name],
+) -> Result<Vec<(Name, Rel)>, NoMemory>
     ensures { IfOk result (λ v. v.items ≡ among wanted.now names.now) }
 {
     names.in_order();
