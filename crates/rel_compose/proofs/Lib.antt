@@ -4,3 +4,4 @@ pub mod Finding
 pub mod Fitting
 pub mod Summing
 pub mod Joining
+pub mod Coming

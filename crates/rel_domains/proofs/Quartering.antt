@@ -216,6 +216,11 @@ gives_set w h f q g = ap (λ o. unwrap_or o no_cells) g.means
 pub gives_later : (v w : Worker) (h : ℕ) (f : Cells) (q : Quad) → Keeps v w → GivesQuad v h f q → GivesQuad w h f q
 gives_later v w h f q k g = record { means = k.same_quads q (gives_has v h f q g) ∙ g.means; same_height = g.same_height }
 
+-- four sets are the quarters of a set
+pub record AreParts (k : ℕ) (f : Cells) (h : ℕ) (f0 f1 f2 f3 : Cells) : Type 0 where
+  pub next : h + 1 ≡ k
+  pub means : quartered (2 ^ h) f0 f1 f2 f3 ≡ f
+
 -- four quarters that a worker gives, and their corner
 pub corner_given : (w1 w2 w3 w4 w5 : Worker) (least depth base n : ℕ) (all in_nw in_ne in_sw in_se : List ℕ) (q1 q2 q3 q4 q : Quad) → depth ≢ 0 → n ≡ 4 ^ (least + (depth - 1)) → AreFour base n all in_nw in_ne in_sw in_se
     → GivesQuad w1 (least + (depth - 1)) (cells_at least (depth - 1) base in_nw) q1 → Keeps w1 w2

@@ -1,4 +1,4 @@
-use Rattle.std.proofs.Common.{◌∙◌, ◌≤◌, sym, subst, ◌+◌, ℕ, arith}
+use Rattle.std.proofs.Common.{◌∙◌, ◌≤◌, sym, subst, ℕ, arith}
 use Rattle.bit_rows.specs.Rows.{rows_cells}
 use Rattle.rel_model.specs.Equations.{side_of}
 use Rattle.rel_model.proofs.QuadLaws.{quad_stays, reads_on, keeps_on, keeps_most, counts_on}

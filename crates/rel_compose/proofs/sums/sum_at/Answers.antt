@@ -1,4 +1,4 @@
-use Rattle.std.proofs.Common.{arith, ◌≤◌, ◌+◌, ℕ}
+use Rattle.std.proofs.Common.{arith, ℕ}
 use Rattle.rel_model.proofs.QuadLaws.{quad_stays, reads_on, keeps_on, keeps_most, counts_on}
 use Rattle.bit_rows.specs.Rows.{rows_cells}
 use Rattle.row_quads.proofs.ByRows.{same_value}

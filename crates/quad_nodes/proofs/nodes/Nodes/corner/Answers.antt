@@ -1,4 +1,4 @@
-use Rattle.std.proofs.Common.{◌≡◌, ◌∙◌, ℕ, true, suc, subst, sym, rules, ◌+◌, ◌≤◌, Ok, refl, ap, arith}
+use Rattle.std.proofs.Common.{◌≡◌, ◌∙◌, ℕ, true, suc, subst, sym, rules, ◌+◌, Ok, refl, ap, arith}
 use Rattle.rel_model.proofs.TreeLaws.{kept_stands}
 use Rattle.rel_model.specs.Trees.{top_height, stands}
 use Rattle.rel_model.specs.Equations.{depth_of}
