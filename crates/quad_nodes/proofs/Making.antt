@@ -6,9 +6,9 @@ use Rattle.rel_model.specs.Cells.{Cells}
 use Rattle.rel_model.specs.Trees.{bottom_height, quartered}
 use Rattle.rel_model.specs.Equations.{side_of}
 use Rattle.rel_model.specs.Quads.{Keeper, IsKeeper, quad_cells, IsQuad, KeepsQuads, ReadsQuads, one_more_miss, quad_room}
-use Rattle.rel_model.proofs.QuadLaws.{keeps_on, keeps_most, reads_on, counts_on, is_quad-stays}
-use Rattle.quad_nodes.specs.Making.{MakesQuad}
-use Rattle.quad_nodes.proofs.Finding.{AreWithin, QuartersStood, quarters_stood, corner_cells, found_is, found_later, not_missed}
+use Rattle.rel_model.proofs.QuadLaws.{keeps_on, keeps_most, reads_itself, reads_on, counts_on, is_quad-stays}
+use Rattle.quad_nodes.specs.Making.{MakesQuad, MakesBoth}
+use Rattle.quad_nodes.proofs.Finding.{AreWithin, QuartersStood, quarters_stood, corner_cells, found_is, found_later, both_found, not_missed}
 
 -- ---- one call
 -- the same under an equal height and set
@@ -59,6 +59,41 @@ pub made_failed : {D E : Type 0} {m h : ℕ} {f : Cells} {v w : Keeper} {e : E} 
 made_failed (Ok x) i s = absurd (true≢false (sym i))
 made_failed {v = v} {w = w} {e = e} (Err d) i s = record { value = tt; stood = λ q j. absurd (not_missed v w e q (s.stood q j)); keeps = s.keeps; counts = s.counts }
 
+-- ---- two calls
+-- two quads that were made one after the other
+pub both_made : {E : Type 0} {m n l h : ℕ} {f g : Cells} {u v w : Keeper} {x y : Quad} → m + n ≤ l → MakesQuad {E = E} m h f u v (Ok x) → MakesQuad {E = E} n h g v w (Ok y) → MakesBoth {E = E} l h f g u w (Ok (x, y))
+both_made {E} {m} {n} {l} {h} {f} {g} {u} {v} {w} {x} {y} o a b = record {
+  value = (is_quad-stays n v w h f x b.keeps a.value, b.value);
+  stood = λ p q s t. let r = a.stood p s in both_found {E = E} u v w p q x y r (b.stood q (is_quad-stays 0 u v h g q r.reads.keeps t));
+  keeps = keeps_most (m + n) l u w o (keeps_on m n u v w a.keeps b.keeps);
+  counts = b.counts ∙ a.counts;
+}
+
+-- the first was missed
+pub first_missed : {D E : Type 0} {m l h : ℕ} {f g : Cells} {u v : Keeper} {e : E} (r : Result (Quad × Quad) D) → IsErr r → m ≤ l → MakesQuad {E = E} m h f u v (Err e) → MakesBoth l h f g u v r
+first_missed (Ok x) i o a = absurd (true≢false (sym i))
+first_missed {m = m} {l = l} {u = u} {v = v} {e = e} (Err d) i o a = record {
+  value = tt;
+  stood = λ p q s t. absurd (not_missed u v e p (a.stood p s));
+  keeps = keeps_most m l u v o a.keeps;
+  counts = a.counts;
+}
+
+-- or the second
+pub second_missed : {D E : Type 0} {m n l h : ℕ} {f g : Cells} {u v w : Keeper} {x : Quad} {e : E} (r : Result (Quad × Quad) D) → IsErr r → m + n ≤ l → MakesQuad {E = E} m h f u v (Ok x) → MakesQuad {E = E} n h g v w (Err e)
+    → MakesBoth l h f g u w r
+second_missed (Ok x) i o a b = absurd (true≢false (sym i))
+second_missed {D} {E} {m} {n} {l} {h} {f} {g} {u} {v} {w} {x} {e} (Err d) i o a b = record {
+  value = tt;
+  stood = λ p q s t. let r = a.stood p s in absurd (not_missed v w e q (b.stood q (is_quad-stays 0 u v h g q r.reads.keeps t)));
+  keeps = keeps_most (m + n) l u w o (keeps_on m n u v w a.keeps b.keeps);
+  counts = b.counts ∙ ap one_more_miss a.counts;
+}
+
+-- two that stand are made by reading
+pub both_are : {E : Type 0} {h : ℕ} {f g : Cells} {w : Keeper} {x y : Quad} → IsKeeper w → IsQuad w h f x → IsQuad w h g y → MakesBoth {E = E} 0 h f g w w (Ok (x, y))
+both_are {w = w} i a b = both_made (omega arith) (made_is {m = 0} (reads_itself w i) a) (made_is {m = 0} (reads_itself w i) b)
+
 -- ---- several calls
 -- where a quad of one height and set stands, one of another stands
 pub record StandsUnder (w : Keeper) (k : ℕ) (f : Cells) (h : ℕ) (g : Cells) : Type 0 where
@@ -107,6 +142,27 @@ stops {D} {E} {m} {n} {k} {h} {l} {f} {g} {ps} {u} {v} {w} {e} (Err d) i o a b s
   counts = s.counts ∙ ap one_more_miss a.misses;
 }
 
+-- two more quads were made
+pub both_go_on : {E : Type 0} {m n k h : ℕ} {f g0 g1 : Cells} {ps : List (Quad × Cells)} {u v w : Keeper} {x y : Quad} → Underway m k f h ps u v → StandsUnder u k f h g0 → StandsUnder u k f h g1 → MakesBoth {E = E} n h g0 g1 v w (Ok (x, y))
+    → Underway (m + n) k f h ((y, g1) ∷ (x, g0) ∷ ps) u w
+both_go_on {E} {m} {n} {k} {h} {f} {g0} {g1} {ps} {u} {v} {w} {x} {y} a b0 b1 s = record {
+  keeps = keeps_on m n u v w a.keeps s.keeps;
+  misses = s.counts ∙ a.misses;
+  lean = λ q i. let r = a.lean q i in reads_on u v w r (s.stood (b0.quad q i) (b1.quad q i) (is_quad-stays 0 u v h g0 (b0.quad q i) r.keeps (b0.is q i)) (is_quad-stays 0 u v h g1 (b1.quad q i) r.keeps (b1.is q i))).reads;
+  are = (s.value.1, (s.value.0, are_made-stay n v w h ps s.keeps a.are));
+}
+
+-- one of two more quads was missed
+pub both_stop : {D E : Type 0} {m n k h l : ℕ} {f g0 g1 : Cells} {ps : List (Quad × Cells)} {u v w : Keeper} {e : E} (r : Result Quad D) → IsErr r → m + n ≤ l → Underway m k f h ps u v → StandsUnder u k f h g0 → StandsUnder u k f h g1
+    → MakesBoth {E = E} n h g0 g1 v w (Err e) → MakesQuad l k f u w r
+both_stop (Ok x) i o a b0 b1 s = absurd (true≢false (sym i))
+both_stop {D} {E} {m} {n} {k} {h} {l} {f} {g0} {g1} {ps} {u} {v} {w} {e} (Err d) i o a b0 b1 s = record {
+  value = tt;
+  stood = λ q j. let r = a.lean q j in absurd (not_missed v w e (b0.quad q j, b1.quad q j) (s.stood (b0.quad q j) (b1.quad q j) (is_quad-stays 0 u v h g0 (b0.quad q j) r.keeps (b0.is q j)) (is_quad-stays 0 u v h g1 (b1.quad q j) r.keeps (b1.is q j))));
+  keeps = keeps_most (m + n) l u w o (keeps_on m n u v w a.keeps s.keeps);
+  counts = s.counts ∙ ap one_more_miss a.misses;
+}
+
 -- the last call answers what the whole is to make
 pub ends : {E : Type 0} {m n k h l : ℕ} {f : Cells} {ps : List (Quad × Cells)} {u v w : Keeper} {r : Result Quad E} → m + n ≤ l → Underway m k f h ps u v → MakesQuad n k f v w r → MakesQuad l k f u w r
 ends {E} {m} {n} {k} {h} {l} {f} {ps} {u} {v} {w} {r} o a s = record {
@@ -124,6 +180,10 @@ pub record AreParts (w : Keeper) (k : ℕ) (f : Cells) (h : ℕ) (f0 f1 f2 f3 : 
   pub next : h + 1 ≡ k
   pub within : AreWithin (side_of h) f0 f1 f2 f3
   pub means : quartered (side_of h) f0 f1 f2 f3 ≡ f
+
+-- a call that is to make a set of known quarters began
+pub started : {w : Keeper} {k h : ℕ} {f f0 f1 f2 f3 : Cells} → AreParts w k f h f0 f1 f2 f3 → Underway 0 k f h [] w w
+started {w} p = begun (reads_itself w p.work)
 
 parts_stood : {w : Keeper} {k h : ℕ} {f f0 f1 f2 f3 : Cells} → AreParts w k f h f0 f1 f2 f3 → (q : Quad) → IsQuad w k f q → QuartersStood w h q f0 f1 f2 f3
 parts_stood {w} {k} {h} {f} {f0} {f1} {f2} {f3} p q s =
