@@ -15,4 +15,3 @@ pub mod Halves
 pub mod Functions
 pub mod Fewness
 pub mod Steps
-pub mod Making

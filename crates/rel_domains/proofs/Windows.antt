@@ -15,7 +15,7 @@ use Rattle.rel_model.proofs.TreeLaws.{same_cells}
 use Rattle.rel_model.proofs.Somes.{not_true}
 use Rattle.rel_domains.specs.declared.rule.Rule.{Rule}
 use Rattle.rel_domains.specs.Rules.{passes, rule_cells, window}
-use Rattle.rel_domains.proofs.Quartering.{AreParts, gives_set, gives_later}
+use Rattle.rel_steps.proofs.Given.{AreParts, gives_quad_set, gives_later}
 use Rattle.rel_domains.proofs.Places.{side_step}
 
 -- ---- squares without cells
@@ -124,10 +124,10 @@ pub corner_of : (w1 w2 w3 w4 w5 : Worker) (h : ℕ) (f1 f2 f3 f4 : Cells) (q1 q2
     → GivesQuad w5 (q1.height + 1) (quartered (2 ^ q1.height) (quad_set w4 q1) (quad_set w4 q2) (quad_set w4 q3) (quad_set w4 q4)) q
     → GivesQuad w5 (h + 1) (quartered (2 ^ h) f1 f2 f3 f4) q
 corner_of w1 w2 w3 w4 w5 h f1 f2 f3 f4 q1 q2 q3 q4 q g1 k1 g2 k2 g3 k3 g4 g =
-    let s1 : quad_set w4 q1 ≡ f1 = gives_set w4 h f1 q1 (gives_later w3 w4 h f1 q1 k3 (gives_later w2 w3 h f1 q1 k2 (gives_later w1 w2 h f1 q1 k1 g1))) in
-    let s2 : quad_set w4 q2 ≡ f2 = gives_set w4 h f2 q2 (gives_later w3 w4 h f2 q2 k3 (gives_later w2 w3 h f2 q2 k2 g2)) in
-    let s3 : quad_set w4 q3 ≡ f3 = gives_set w4 h f3 q3 (gives_later w3 w4 h f3 q3 k3 g3) in
-    let s4 : quad_set w4 q4 ≡ f4 = gives_set w4 h f4 q4 g4 in
+    let s1 : quad_set w4 q1 ≡ f1 = gives_quad_set w4 h f1 q1 (gives_later w3 w4 h f1 q1 k3 (gives_later w2 w3 h f1 q1 k2 (gives_later w1 w2 h f1 q1 k1 g1))) in
+    let s2 : quad_set w4 q2 ≡ f2 = gives_quad_set w4 h f2 q2 (gives_later w3 w4 h f2 q2 k3 (gives_later w2 w3 h f2 q2 k2 g2)) in
+    let s3 : quad_set w4 q3 ≡ f3 = gives_quad_set w4 h f3 q3 (gives_later w3 w4 h f3 q3 k3 g3) in
+    let s4 : quad_set w4 q4 ≡ f4 = gives_quad_set w4 h f4 q4 g4 in
     record {
       means = g.means ∙ ap Some (ap (λ x. quartered (2 ^ x) (quad_set w4 q1) (quad_set w4 q2) (quad_set w4 q3) (quad_set w4 q4)) g1.same_height
           ∙ ap (λ x. quartered (2 ^ h) x (quad_set w4 q2) (quad_set w4 q3) (quad_set w4 q4)) s1 ∙ ap (λ x. quartered (2 ^ h) f1 x (quad_set w4 q3) (quad_set w4 q4)) s2

@@ -3,4 +3,3 @@ pub mod Rules
 pub mod Ranks
 pub mod Refusals
 pub mod Laws
-pub mod Making

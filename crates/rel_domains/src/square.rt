@@ -4,7 +4,7 @@ ghost use Rattle.rel_model.specs.Cells.{bits_cells};
 ghost use Rattle.rel_model.specs.Relation.{relation_of, size_limit};
 ghost use Rattle.rel_model.specs.Trees.{top_height};
 ghost use Rattle.rel_model.specs.Worker.{Gives, GivesQuad, Keeps, MakesAtMost, HasCause, operator_room};
-ghost use Rattle.rel_domains.specs.Making.{MakesQuad};
+ghost use Rattle.rel_steps.specs.Making.{MakesQuad};
 ghost use Rattle.rel_domains.specs.Rules.{IsRule, passes, rule_cells, window};
 ghost use Rattle.rel_model.specs.Roots.{relation_room, tree_room};
 

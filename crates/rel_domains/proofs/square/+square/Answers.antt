@@ -1,10 +1,9 @@
 use Rattle.std.proofs.Common.{◌≡◌, ◌+◌, ◌-◌, ◌^◌, ◌∙◌, ℕ, ap, arith, rules}
-use Rattle.std.proofs.lemmas.Result.{err_from_is_err_and}
 use Rattle.rel_domains.specs.Rules.{rule_cells}
 use Rattle.rel_domains.proofs.Places.{side_step}
 use Rattle.rel_domains.proofs.Windows.{square_parts, like}
 use Rattle.rel_domains.proofs.Steps.{room_step, room_some}
-use Rattle.rel_domains.proofs.Making.{begun, goes_on, failed, stops, four_stand, ends}
+use Rattle.rel_steps.proofs.Making.{begun, goes_on, failed, stops, four_stand, ends, corner_made}
 use Rattle.rel_domains.proofs.square.+square.Given.{Over}
 use Rattle.rel_domains.proofs.square.+square.Goals.{After-side_of-half}
 use Rattle.rel_domains.proofs.square.+square.Goals as goal
@@ -40,72 +39,64 @@ square-requires-4 g t c κs within =
 -- ---- a leaf
 pub returns-in_err-leaf : goal.returns-in_err-leaf
 returns-in_err-leaf g t c =
-    let p = err_from_is_err_and c.from_residual.result c.from_residual.ensures.1 in
     let r = room_some c.args.depth in
     let e = c.in_err-leaf.ensures in
-    stops (omega (arith, r)) p.1 p.2 (begun {h = 0} _) (failed 1 e.keeps e.room e.cause)
+    stops c.from_residual.result c.from_residual.ensures.1 (omega (arith, r)) (begun {h = 0} _) (failed 1 e.keeps e.room e.cause)
 
 -- ---- a quarter is missed
 pub returns-in_err-nw : goal.returns-in_err-nw
 returns-in_err-nw g t c =
-    let p = err_from_is_err_and c.from_residual-in_err-nw.result c.from_residual-in_err-nw.ensures.1 in
     let r = room_step c.args.depth c.if-depth-eq0.false in
-    stops (omega (arith, r)) p.1 p.2 (begun {h = 0} _) c.in_err-nw.ensures
+    stops c.from_residual-in_err-nw.result c.from_residual-in_err-nw.ensures.1 (omega (arith, r)) (begun {h = 0} _) c.in_err-nw.ensures
 
 pub returns-in_err-ne : goal.returns-in_err-ne
 returns-in_err-ne g t c =
-    let p = err_from_is_err_and c.from_residual-in_err-ne.result c.from_residual-in_err-ne.ensures.1 in
     let r = room_step c.args.depth c.if-depth-eq0.false in
     let u1 = goes_on (begun _) c.in_ok-nw.ensures in
-    stops (omega (arith, r)) p.1 p.2 u1 c.in_err-ne.ensures
+    stops c.from_residual-in_err-ne.result c.from_residual-in_err-ne.ensures.1 (omega (arith, r)) u1 c.in_err-ne.ensures
 
 pub returns-in_err-sw : goal.returns-in_err-sw
 returns-in_err-sw g t c =
-    let p = err_from_is_err_and c.from_residual-in_err-sw.result c.from_residual-in_err-sw.ensures.1 in
     let r = room_step c.args.depth c.if-depth-eq0.false in
     let u1 = goes_on (begun _) c.in_ok-nw.ensures in
     let u2 = goes_on u1 c.in_ok-ne.ensures in
-    stops (omega (arith, r)) p.1 p.2 u2 c.in_err-sw.ensures
+    stops c.from_residual-in_err-sw.result c.from_residual-in_err-sw.ensures.1 (omega (arith, r)) u2 c.in_err-sw.ensures
 
 pub returns-in_err-se : goal.returns-in_err-se
 returns-in_err-se g t c =
-    let p = err_from_is_err_and c.from_residual-in_err-se.result c.from_residual-in_err-se.ensures.1 in
     let r = room_step c.args.depth c.if-depth-eq0.false in
     let u1 = goes_on (begun _) c.in_ok-nw.ensures in
     let u2 = goes_on u1 c.in_ok-ne.ensures in
     let u3 = goes_on u2 c.in_ok-sw.ensures in
-    stops (omega (arith, r)) p.1 p.2 u3 c.in_err-se.ensures
+    stops c.from_residual-in_err-se.result c.from_residual-in_err-se.ensures.1 (omega (arith, r)) u3 c.in_err-se.ensures
 
 -- ---- the corner is missed
 pub returns-in_err-twice : goal.returns-in_err-twice
 returns-in_err-twice g t c =
-    let p = err_from_is_err_and c.from_residual-in_err-twice.result c.from_residual-in_err-twice.ensures.1 in
     let r = room_step c.args.depth c.if-depth-eq0.false in
     let u1 = goes_on (begun _) c.in_ok-nw.ensures in
     let u2 = goes_on u1 c.in_ok-ne.ensures in
     let e = c.in_err-twice.ensures in
-    stops (omega (arith, r)) p.1 p.2 u2 (failed 3 e.keeps e.room e.cause)
+    stops c.from_residual-in_err-twice.result c.from_residual-in_err-twice.ensures.1 (omega (arith, r)) u2 (failed 3 e.keeps e.room e.cause)
 
 pub returns-in_err-regular : goal.returns-in_err-regular
 returns-in_err-regular g t c =
-    let p = err_from_is_err_and c.from_residual-in_err-regular.result c.from_residual-in_err-regular.ensures.1 in
     let r = room_step c.args.depth c.if-depth-eq0.false in
     let u1 = goes_on (begun _) c.in_ok-nw.ensures in
     let u2 = goes_on u1 c.in_ok-ne.ensures in
     let u3 = goes_on u2 c.in_ok-sw.ensures in
     let e = c.in_err-regular.ensures in
-    stops (omega (arith, r)) p.1 p.2 u3 (failed 3 e.keeps e.room e.cause)
+    stops c.from_residual-in_err-regular.result c.from_residual-in_err-regular.ensures.1 (omega (arith, r)) u3 (failed 3 e.keeps e.room e.cause)
 
 pub returns-in_err-corner : goal.returns-in_err-corner
 returns-in_err-corner g t c =
-    let p = err_from_is_err_and c.from_residual-in_err-corner.result c.from_residual-in_err-corner.ensures.1 in
     let r = room_step c.args.depth c.if-depth-eq0.false in
     let u1 = goes_on (begun _) c.in_ok-nw.ensures in
     let u2 = goes_on u1 c.in_ok-ne.ensures in
     let u3 = goes_on u2 c.in_ok-sw.ensures in
     let u4 = goes_on u3 c.in_ok-se.ensures in
     let e = c.in_err-corner.ensures in
-    stops (omega (arith, r)) p.1 p.2 u4 (failed 3 e.keeps e.room e.cause)
+    stops c.from_residual-in_err-corner.result c.from_residual-in_err-corner.ensures.1 (omega (arith, r)) u4 (failed 3 e.keeps e.room e.cause)
 
 -- ---- the corner is made
 pub returns-then-repeats : goal.returns-then-repeats
@@ -143,7 +134,7 @@ returns g t c =
     let u3 = goes_on u2 c.in_ok-sw.ensures in
     let u4 = goes_on u3 c.in_ok-se.ensures in
     let e = c.in_ok-corner.ensures in
-    ends 3 (omega (arith, r)) p u4 u4.are.1.1.1.0 u4.are.1.1.0 u4.are.1.0 u4.are.0 e.value e.keeps e.room e.cause
+    corner_made (omega (arith, r)) p u4 e.value e.keeps e.room e.cause
 
 -- ---- what the corner asks for
 pub corner-requires : goal.corner-requires
