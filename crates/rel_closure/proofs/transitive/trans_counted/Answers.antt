@@ -8,7 +8,7 @@ use Rattle.rel_model.proofs.Walking.{walks_within-enough}
 use Rattle.rel_model.proofs.Rooms.{operator_room-most, product_room-most}
 use Rattle.rel_closure.proofs.Closing.{first_given, squared_given, still_given, still_enough, enough_given, as_high, round_room, rounds_room, fewer_rounds, next_power}
 use Rattle.std.proofs.Math.Nat.{one-le-pow}
-use Rattle.rel_closure.proofs.Causes.{done-cause}
+use Rattle.rel_steps.proofs.Causes.{done_cause}
 use Rattle.rel_closure.proofs.transitive.trans_counted.Goals as goal
 
 pub squares-init : goal.squares-init
@@ -228,7 +228,7 @@ pub returns-then-same-clause-keeps : goal.returns-then-same-clause-keeps
 returns-then-same-clause-keeps g c = keeps_trans _ _ _ c.squares.invariant.keeps (keeps_trans _ _ _ c.in_ok-square.ensures.keeps c.in_ok-more.ensures.keeps)
 
 pub returns-then-same-clause-cause : goal.returns-then-same-clause-cause
-returns-then-same-clause-cause g c = done-cause _ _ _ _ (c.in_ok-more.ensures.cause.done ∙ c.in_ok-square.ensures.cause.done ∙ c.squares.invariant.misses)
+returns-then-same-clause-cause g c = done_cause _ _ _ _ (c.in_ok-more.ensures.cause.done ∙ c.in_ok-square.ensures.cause.done ∙ c.squares.invariant.misses)
 
 pub returns-clause-cause : goal.returns-clause-cause
-returns-clause-cause g c = done-cause _ _ _ _ c.squares.invariant.misses
+returns-clause-cause g c = done_cause _ _ _ _ c.squares.invariant.misses
