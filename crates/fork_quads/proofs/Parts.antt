@@ -5,7 +5,7 @@
 use Rattle.std.proofs.Common.{◌≡◌, ◌≢◌, ◌<◌, ◌≤◌, ◌+◌, ◌-◌, ◌/◌, ◌%◌, ◌&&◌, ◌||◌, ◌⊎◌, not, ltb, zero, suc, ℕ, Bool, true, false, Result, IfOk, refl, sym, ap, subst, ◌∙◌, inl, inr, arith}
 use Rattle.std.proofs.lemmas.Bool.{cases_lt, ltb-true, lt-ltb, le-ltb, and_left, and_right, and_parts, or_cases}
 use Rattle.rel_model.specs.declared.Quad.{Quad}
-use Rattle.rel_model.specs.Cells.{Cells, no_cells, cells_union, cells_transpose, cells_compose}
+use Rattle.rel_model.specs.Cells.{Cells, no_cells, cells_union, cells_compose}
 use Rattle.rel_model.specs.Trees.{bottom_height, quartered}
 use Rattle.rel_model.specs.Equations.{Operator, Union, Inter, Diff, Transpose, Compose, result_of, side_of}
 use Rattle.rel_model.specs.Quads.{Keeper, IsKeeper, quad_cells, QuadStands, IsQuad, KeepsQuads, ReadsQuads, AreQuarters, quad_room}
