@@ -21,9 +21,6 @@ pub record AreCombined (op : Boole) (ws xs ys : List ℕ) (done : ℕ) : Type 0 
   pub are : (k : ℕ) → k < done → block_cells (get_or ys k 0) ≡ cells_by op (block_cells (get_or ws k 0)) (block_cells (get_or xs k 0))
   pub rest : (k : ℕ) → done ≤ k → get_or ys k 0 ≡ get_or ws k 0
 
-pub combined_none : (op : Boole) (ws xs : List ℕ) → AreCombined op ws xs ws 0
-combined_none op ws xs = record { len = refl; are = λ k l. absurd (let x : ⊥ = omega arith in x); rest = λ k l. refl }
-
 pub combined_more : (op : Boole) (ws xs ys : List ℕ) (done word : ℕ) → done < length ys → AreCombined op ws xs ys done
     → block_cells word ≡ cells_by op (block_cells (get_or ys done 0)) (block_cells (get_or xs done 0)) → AreCombined op ws xs (set ys done word) (done + 1)
 combined_more op ws xs ys done word l i e = record {

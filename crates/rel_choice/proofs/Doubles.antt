@@ -237,11 +237,6 @@ pub kept-apart : (v w : Worker) (a b : Quad) → Keeps v w → HasQuad v a → H
 kept-apart v w a b k s t =
     ap (λ f. rows_apart (2 ^ a.height) (2 ^ a.height) f (quad_set w b)) (kept_set v w a k s) ∙ ap (rows_apart (2 ^ a.height) (2 ^ a.height) (quad_set v a)) (kept_set v w b k t)
 
--- a quad named as another of its height
-pub named-single : (w : Worker) (p q : Quad) → q.name ≡ p.name → p.height ≡ q.height → quad_single w p ≡ true → true ≡ quad_single w q
-named-single w p q e h t =
-    sym t ∙ ap (λ (x : ℕ). quad_single w (record { height = x; name = p.name })) h ∙ ap (λ (x : ℕ). quad_single w (record { height = q.height; name = x })) (sym e)
-
 -- by quarters
 at_height : (w : Worker) (q : Quad) (h : ℕ) → q.height ≡ h → quad_single w q ≡ single_rows (2 ^ h) (2 ^ h) (quad_set w q)
 at_height w q h e = ap (λ (x : ℕ). single_rows (2 ^ x) (2 ^ x) (quad_set w q)) e
@@ -348,7 +343,3 @@ line-two n first t None l h = sym (some_none n (λ j. t j && some_below j t) (λ
       | inr u ↦ false≢true (sym (h k (omega (arith, u, w)) m) ∙ q.0)
     ])))
 line-two n first t (Some k) l h = let a = h.low in sym (twice-from n t first k (omega (arith, a)) h.high l.passes h.passes)
-
--- and has none where no first is found
-pub line-none : (n : ℕ) (t : ℕ → Bool) → IsLeast t 0 n None → false ≡ passes_twice n t
-line-none n t h = sym (some_none n (λ j. t j && some_below j t) (λ k m. ap (λ b. b && some_below k t) (h k (omega arith) m)))

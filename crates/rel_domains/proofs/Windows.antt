@@ -32,19 +32,6 @@ rule_free rows cols m row col end rule e h = no_window m row col (rule_cells row
     let r = ltb-true (row + i) rows p.0 in
     h (row + i) (col + j) (omega arith) (omega (arith, e, r, a)) (omega arith) (omega (arith, b)) q.1)
 
-pub rows_free : (rows cols m row col : ℕ) (rule : Rule) → rows ≤ row → window m row col (rule_cells rows cols rule) ≡ no_cells
-rows_free rows cols m row col rule l = no_window m row col (rule_cells rows cols rule) (λ i j a b t.
-    let p = and_parts (ltb (row + i) rows) (ltb (col + j) cols && passes rule (row + i) (col + j)) t in
-    let r = ltb-true (row + i) rows p.0 in
-    omega (arith, l, r))
-
-pub cols_free : (rows cols m row col : ℕ) (rule : Rule) → cols ≤ col → window m row col (rule_cells rows cols rule) ≡ no_cells
-cols_free rows cols m row col rule l = no_window m row col (rule_cells rows cols rule) (λ i j a b t.
-    let p = and_parts (ltb (row + i) rows) (ltb (col + j) cols && passes rule (row + i) (col + j)) t in
-    let q = and_parts (ltb (col + j) cols) (passes rule (row + i) (col + j)) p.1 in
-    let r = ltb-true (col + j) cols q.0 in
-    omega (arith, l, r))
-
 -- ---- quotients
 pub div_mono : (m n by : ℕ) → 0 < by → m ≤ n → m / by ≤ n / by
 div_mono m n by p l = le-div (m / by) n by p (let a = mul-div-le m by in omega (arith, a))

@@ -22,10 +22,6 @@ kept_set v w q k h = ap (λ o. unwrap_or o no_cells) (k.same_quads q h)
 pub kept_quad : (v w : Worker) (q : Quad) → Keeps v w → HasQuad v q → HasQuad w q
 kept_quad v w q k h = subst (λ (o : Option Cells). IsSome o) (sym (k.same_quads q h)) h
 
--- what is given stands after a later call
-pub kept_given : (v w : Worker) (h : ℕ) (f : Cells) (q : Quad) → Keeps v w → GivesQuad v h f q → HasQuad w q
-kept_given v w h f q k g = kept_quad v w q k (gives_has v h f q g)
-
 -- and is given then
 pub gives_later : (v w : Worker) (h : ℕ) (f : Cells) (q : Quad) → Keeps v w → GivesQuad v h f q → GivesQuad w h f q
 gives_later v w h f q k g = record { means = k.same_quads q (gives_has v h f q g) ∙ g.means; same_height = g.same_height }

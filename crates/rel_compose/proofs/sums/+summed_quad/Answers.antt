@@ -4,7 +4,8 @@ use Rattle.rel_model.specs.Equations.{side_of}
 use Rattle.rel_model.specs.Quads.{quad_cells, quad_room}
 use Rattle.rel_model.proofs.QuadLaws.{rooms-next, side_of-next}
 use Rattle.quad_nodes.proofs.Making.{Underway, made_after, started, goes_on, stops, ends, nw_under, ne_under, sw_under, se_under, cornered}
-use Rattle.rel_compose.proofs.Summing.{low_at, eight_in, side_most, nine_in}
+use Rattle.rel_compose.proofs.Summing.{low_at, eight_in, side_most}
+use Rattle.rel_compose.proofs.FourSums.{nine_in}
 use Rattle.rel_compose.proofs.Joining.{times, summed, IsSum, parts_of, quarter_asked, quarter_made, made_at_height}
 use Rattle.rel_compose.proofs.sums.+summed_quad.Goals.{After-quarters-four, In_ok-se}
 use Rattle.rel_compose.proofs.sums.+summed_quad.Goals as goal
