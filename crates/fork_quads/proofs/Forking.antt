@@ -30,9 +30,6 @@ pub record Sees (v w : Keeper) : Type 0 where
 pub keeps_sees : (m : ℕ) (v w : Keeper) → KeepsQuads m v w → Sees v w
 keeps_sees m v w k = record { before = k.before; after = k.after; seen = k.seen }
 
-pub sees_on : (u v w : Keeper) → Sees u v → Sees v w → Sees u w
-sees_on u v w s t = record { before = s.before; after = t.after; seen = extends_on _ _ _ s.seen t.seen }
-
 pub split_first : (s : ℕ) (old own other : Keeper) → IsKeeper old → SplitsKeeper s old own other → Sees old own
 split_first s old own other i p = record { before = i; after = p.after; seen = p.views.seen }
 

@@ -6,7 +6,7 @@ use Rattle.rel_model.specs.declared.Quad.{Quad}
 use Rattle.rel_model.specs.Cells.{Cells}
 use Rattle.rel_model.specs.Trees.{bottom_height}
 use Rattle.rel_model.specs.Equations.{Operator, Union, Inter, Diff, Transpose, Compose, side_of, depth_of}
-use Rattle.rel_model.specs.Quads.{Keeper, IsKeeper, quad_cells, QuadStands, IsQuad, KeepsQuads, ReadsQuads, Counts, quad_room, composed_words}
+use Rattle.rel_model.specs.Quads.{Keeper, IsKeeper, quad_cells, QuadStands, IsQuad, KeepsQuads, ReadsQuads, Counts, quad_room}
 use Rattle.rel_model.specs.Worker.{Stands}
 use Rattle.rel_model.proofs.TreeLaws.{Within, zero_stands}
 use Rattle.rel_model.proofs.QuadLaws.{keeps_on, keeps_most, reads_on, is_quad-stays}

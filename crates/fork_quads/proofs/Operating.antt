@@ -11,9 +11,9 @@ use Rattle.rel_model.specs.Operators.{empty, full, single, union, inter, diff, t
 use Rattle.rel_model.specs.Trees.{bottom_height}
 use Rattle.rel_model.specs.Words.{IsDistinct}
 use Rattle.rel_model.specs.Equations.{side_of}
-use Rattle.rel_model.specs.Quads.{Keeper, IsKeeper, IsQuad, quad_cells}
-use Rattle.rel_model.specs.Roots.{tree_height, root_cells}
-use Rattle.rel_model.specs.Worker.{Stands, set_of, Gives, MakesAtMost, MissesNothing, FindsRelation}
+use Rattle.rel_model.specs.Quads.{Keeper, IsKeeper, IsQuad, quad_cells, KeepsQuads, quad_room}
+use Rattle.rel_model.specs.Roots.{tree_height, root_cells, relation_room}
+use Rattle.rel_model.specs.Worker.{Stands, set_of, Gives, Keeps, MakesAtMost, MissesNothing, FindsRelation, HasCause, operator_room}
 use Rattle.rel_model.specs.Quarters.{LiesWithin}
 use Rattle.rel_model.proofs.Relations.{relation_of-agree}
 use Rattle.rel_model.proofs.OperatorLaws.{relation_of-sizes}
@@ -23,8 +23,9 @@ use Rattle.rel_model.proofs.Heights.{height_over-low, height_over-rows, height_o
 use Rattle.rel_model.proofs.Rooting.{one_root, has-cells}
 use Rattle.quad_nodes.specs.Finding.{Finds, FindsQuad}
 use Rattle.fork_quads.specs.Crew.{worker_of, root_quad, named_as, one_cell}
+use Rattle.fork_quads.specs.Forks.{TellsMisses}
 use Rattle.fork_quads.specs.CrewLaws.{rows_law, cols_law, row_limit_law, col_limit_law}
-use Rattle.fork_quads.proofs.Crewing.{has-root, root_within, root_stands, tree_height-high, is_quad-relation, named_value}
+use Rattle.fork_quads.proofs.Crewing.{has-root, root_within, root_stands, tree_height-high, is_quad-relation, named_value, keeps_telling, root_room, root_tree, tells_cause}
 
 -- ---- sets within sizes
 pub none_within : (m n : ℕ) → LiesWithin m n no_cells
@@ -181,6 +182,29 @@ lifted_found op of w inside new r s p q a result l v hr hs er ec ep eq find e =
     made_found w inside new r.rows r.cols p.height (op f g) _ a result v (l.within r.rows r.cols f g (root_within w r hr) wg)
     (l.is r.rows r.cols (set_of (worker_of w) r) (set_of (worker_of w) s) f g (rows_law w r hr) (cols_law w r hr) (has-root w r hr) (has-root w s hs))
     (ap (λ (x : Quad). x.height) ep) (subst (λ (c : Cells). FindsQuad inside new p.height c a) set find) e
+
+-- all that an operator promises of two relations of one type
+pub record Answers (w new : Keeper) (r : Rel) (value : Relation) (result : Result Rel Lack) : Type 0 where
+  pub gives : IfOk result (Gives (worker_of new) r.rows r.cols value)
+  pub stood : FindsRelation true (worker_of w) (worker_of new) r.rows r.cols value result
+  pub keeps : Keeps (worker_of w) (worker_of new)
+  pub room : MakesAtMost (operator_room r.rows r.cols) (worker_of w) (worker_of new)
+  pub tree : MakesAtMost (relation_room 3 r.rows r.cols) (worker_of w) (worker_of new)
+  pub cause : HasCause true (worker_of w) (worker_of new) result
+
+pub lifted : {E : Type 0} {op : Cells → Cells → Cells} {of : Relation → Relation → Relation} {w inside new : Keeper} {r s : Rel} {p q : Quad} (a : Result Quad E) (result : Result Rel Lack) → Lifts op of → inside ≡ w
+    → Stands (worker_of w) r → Stands (worker_of w) s → r.rows ≡ s.rows → r.cols ≡ s.cols → p ≡ root_quad r → q ≡ root_quad s
+    → IfOk a (IsQuad new p.height (op (quad_cells inside p) (quad_cells inside q))) → FindsQuad inside new p.height (op (quad_cells inside p) (quad_cells inside q)) a
+    → KeepsQuads (quad_room p.height) inside new → TellsMisses inside new a → result ≡ named_as r.rows r.cols a
+    → Answers w new r (of (set_of (worker_of w) r) (set_of (worker_of w) s)) result
+lifted {op = op} {of = of} {w = w} {inside = inside} {new = new} {r = r} {s = s} {p = p} {q = q} a result l v hr hs er ec ep eq value stood keeps misses e = record {
+  gives = lifted_value op of w inside new r s p q a result l v hr hs er ec ep eq value e;
+  stood = lifted_found op of w inside new r s p q a result l v hr hs er ec ep eq stood e;
+  keeps = keeps_telling (quad_room p.height) w inside new a v keeps misses;
+  room = root_room w inside new r p v ep keeps;
+  tree = root_tree w inside new r p v ep keeps;
+  cause = tells_cause w inside new r.rows r.cols a result v misses e;
+}
 
 -- and a transposition
 pub transposed_found : {E : Type 0} (w inside new : Keeper) (r : Rel) (p : Quad) (a : Result Quad E) (result : Result Rel Lack) → inside ≡ w → Stands (worker_of w) r → p ≡ root_quad r

@@ -3,7 +3,7 @@
 -- 2. The set of the pieces put together lies within its square, and stays while calls keep the pieces.
 -- 3. It is the set whose parts the pieces are (`tiled-is`).
 -- 4. Over a set that stands its parts stand (`part_stood`).
-use Rattle.std.proofs.Common.{◌≡◌, ◌≢◌, ◌<◌, ◌≤◌, ◌+◌, ◌-◌, ◌*◌, ◌/◌, ◌^◌, ltb, zero, suc, ℕ, List, get_or, length, Result, Ok, Err, IfOk, refl, sym, ap, subst, ◌∙◌, inl, inr, arith}
+use Rattle.std.proofs.Common.{◌≡◌, ◌≢◌, ◌<◌, ◌≤◌, ◌+◌, ◌-◌, ◌*◌, ◌/◌, ◌^◌, ltb, zero, suc, ℕ, List, get_or, length, Result, refl, sym, ap, subst, ◌∙◌, inl, inr, arith}
 use Rattle.std.proofs.lemmas.Bool.{cases_Bool, ltb-true}
 use Rattle.std.proofs.lemmas.List.{get_or_default}
 use Rattle.std.proofs.Math.Nat.{pow-suc}
@@ -11,11 +11,12 @@ use Rattle.rel_model.specs.declared.Quad.{Quad}
 use Rattle.rel_model.specs.Cells.{Cells}
 use Rattle.rel_model.specs.Trees.{bottom_height, quartered}
 use Rattle.rel_model.specs.Equations.{side_of}
-use Rattle.rel_model.specs.Quads.{Keeper, IsKeeper, quad_cells, IsQuad, KeepsQuads, ReadsQuads}
+use Rattle.rel_model.specs.Quads.{Keeper, IsKeeper, quad_cells, IsQuad, KeepsQuads}
 use Rattle.rel_model.proofs.TreeLaws.{Within}
-use Rattle.rel_model.proofs.QuadLaws.{side_of-next, quad_cells-stay, is_quad-stays, quad_stays, corner_value, reads_on}
-use Rattle.quad_nodes.specs.Finding.{Finds, FindsQuad, FindsBoth}
-use Rattle.quad_nodes.proofs.Finding.{AreWithin, QuartersStood, quarters_stood, within_at, four_found, not_missed, the_answer, both_found}
+use Rattle.rel_model.proofs.QuadLaws.{side_of-next, quad_cells-stay, quad_stays}
+use Rattle.quad_nodes.specs.Making.{MakesBoth}
+use Rattle.quad_nodes.proofs.Finding.{AreWithin, quarters_stood, within_at}
+use Rattle.quad_nodes.proofs.Making.{AreParts}
 use Rattle.fork_quads.specs.Forks.{nth, quarter, number_before, place_at_cut, part, HasSet, HoldPieces, tiled, last_piece, corner_words}
 use Rattle.fork_quads.proofs.Parts.{nth-all, quarter-within, quartered-quarters, quarters-within}
 
@@ -172,103 +173,22 @@ part_stood w h (suc c) n f i l wf s =
     (part_stood w (h - 1) c n g i (omega arith) (quarter-within m (place_at_cut c n) f)
     (quarter_stood w (h - 1) (place_at_cut c n) f i (omega arith) (subst (λ (x : ℕ). Within x x f) (side_of-next h (omega arith)) wf) (subst (λ (x : ℕ). HasSet w x f) up s)))
 
--- ---- the corner over two rows
-pub tiled_corner : {E : Type 0} (m n : ℕ) (s0 s1 s2 s3 : Keeper) (h c p : ℕ) (quads : List Quad) (north south : Quad × Quad) (r : Result Quad E) → c ≢ 0 → bottom_height + c ≤ h → HoldPieces s0 (h - c) c p quads
-    → KeepsQuads m s0 s1 → KeepsQuads n s1 s2
-    → IsQuad s1 (h - 1) (tiled s0 (h - 1) (c - 1) (4 * p) quads) north.0 → IsQuad s1 (h - 1) (tiled s0 (h - 1) (c - 1) (4 * p + 1) quads) north.1
-    → IsQuad s2 (h - 1) (tiled s1 (h - 1) (c - 1) (4 * p + 2) quads) south.0 → IsQuad s2 (h - 1) (tiled s1 (h - 1) (c - 1) (4 * p + 2 + 1) quads) south.1
-    → IfOk r (IsQuad s3 (north.0.height + 1) (quartered (side_of north.0.height) (quad_cells s2 north.0) (quad_cells s2 north.1) (quad_cells s2 south.0) (quad_cells s2 south.1)))
-    → IfOk r (IsQuad s3 h (tiled s0 h c p quads))
-tiled_corner m n s0 s1 s2 s3 h c p quads north south r some low hold k l q0 q1 q2 q3 v =
-    let f = hold_four s0 h c p quads some hold in
-    let e2 = tiled-stay m s0 s1 (h - 1) (c - 1) (4 * p + 2) quads k f.sw in
-    let e3 = tiled-stay m s0 s1 (h - 1) (c - 1) (4 * p + 2 + 1) quads k f.se in
-    let up : h - 1 + 1 ≡ h = omega arith in
-    let x = corner_value s2 s3 (h - 1) _ _ _ _ north.0 north.1 south.0 south.1 r
-    (is_quad-stays n s1 s2 (h - 1) _ north.0 l q0) (is_quad-stays n s1 s2 (h - 1) _ north.1 l q1)
-    (subst (λ (g : Cells). IsQuad s2 (h - 1) g south.0) e2 q2) (subst (λ (g : Cells). IsQuad s2 (h - 1) g south.1) e3 q3) v in
-    let all : Cells = quartered (side_of (h - 1)) (tiled s0 (h - 1) (c - 1) (4 * p) quads) (tiled s0 (h - 1) (c - 1) (4 * p + 1) quads) (tiled s0 (h - 1) (c - 1) (4 * p + 2) quads) (tiled s0 (h - 1) (c - 1) (4 * p + 2 + 1) quads) in
-    subst (λ (g : Cells). IfOk r (IsQuad s3 h g)) (sym (tiled-next s0 h c p quads some)) (subst (λ (y : ℕ). IfOk r (IsQuad s3 y all)) up x)
+-- ---- the quarters of a square
+pub tiled_parts : (w : Keeper) (h c p : ℕ) (quads : List Quad) → IsKeeper w → c ≢ 0 → bottom_height + c ≤ h → HoldPieces w (h - c) c p quads
+    → AreParts w h (tiled w h c p quads) (h - 1) (tiled w (h - 1) (c - 1) (4 * p) quads) (tiled w (h - 1) (c - 1) (4 * p + 1) quads) (tiled w (h - 1) (c - 1) (4 * p + 2) quads) (tiled w (h - 1) (c - 1) (4 * p + 2 + 1) quads)
+tiled_parts w h c p quads i some low hold = record {
+  work = i;
+  low = omega arith;
+  next = omega arith;
+  within = four_tiled w (h - 1) (c - 1) p quads (omega arith) (hold_four w h c p quads some hold);
+  means = sym (tiled-next w h c p quads some);
+}
 
--- the quarters that stood under a square that stood
-pub tiled_quarters : (w : Keeper) (h c p : ℕ) (quads : List Quad) (q : Quad) → IsKeeper w → c ≢ 0 → bottom_height + c ≤ h → HoldPieces w (h - c) c p quads → IsQuad w h (tiled w h c p quads) q
-    → QuartersStood w (h - 1) q (tiled w (h - 1) (c - 1) (4 * p) quads) (tiled w (h - 1) (c - 1) (4 * p + 1) quads) (tiled w (h - 1) (c - 1) (4 * p + 2) quads) (tiled w (h - 1) (c - 1) (4 * p + 2 + 1) quads)
-tiled_quarters w h c p quads q i some low hold s =
-    let up : h ≡ h - 1 + 1 = omega arith in
-    let all : Cells = quartered (side_of (h - 1)) (tiled w (h - 1) (c - 1) (4 * p) quads) (tiled w (h - 1) (c - 1) (4 * p + 1) quads) (tiled w (h - 1) (c - 1) (4 * p + 2) quads) (tiled w (h - 1) (c - 1) (4 * p + 2 + 1) quads) in
-    quarters_stood w (h - 1) q _ _ _ _ i (omega arith) (four_tiled w (h - 1) (c - 1) p quads (omega arith) (hold_four w h c p quads some hold))
-    (subst (λ (y : ℕ). IsQuad w y all q) up (subst (λ (g : Cells). IsQuad w h g q) (tiled-next w h c p quads some) s))
-
--- two quads under other names
-both_first : {E : Type 0} (v w : Keeper) (p q : Quad) (pair : Quad × Quad) → Finds {T = Quad × Quad} {E = E} v w (p, q) (Ok pair) → pair.0 ≡ p
-both_first {E} v w p q pair f = ap (λ (x : Quad × Quad). x.0) (the_answer {T = Quad × Quad} {E = E} v w (p, q) pair f)
-
-both_second : {E : Type 0} (v w : Keeper) (p q : Quad) (pair : Quad × Quad) → Finds {T = Quad × Quad} {E = E} v w (p, q) (Ok pair) → pair.1 ≡ q
-both_second {E} v w p q pair f = ap (λ (x : Quad × Quad). x.1) (the_answer {T = Quad × Quad} {E = E} v w (p, q) pair f)
-
--- ---- what stands is found
--- the southern quarters that stood are found after the northern
-pub south_finds : {E : Type 0} (s0 s1 s2 : Keeper) (h c p : ℕ) (quads : List Quad) (q : Quad) (r : Result (Quad × Quad) E) → c ≢ 0 → HoldPieces s0 (h - c) c p quads
-    → (u : QuartersStood s0 (h - 1) q (tiled s0 (h - 1) (c - 1) (4 * p) quads) (tiled s0 (h - 1) (c - 1) (4 * p + 1) quads) (tiled s0 (h - 1) (c - 1) (4 * p + 2) quads) (tiled s0 (h - 1) (c - 1) (4 * p + 2 + 1) quads))
-    → ReadsQuads s0 s1 → FindsBoth s1 s2 (h - 1) (tiled s1 (h - 1) (c - 1) (4 * p + 2) quads) (tiled s1 (h - 1) (c - 1) (4 * p + 2 + 1) quads) r
-    → Finds {T = Quad × Quad} s1 s2 (record { height = h - 1; name = u.sw }, record { height = h - 1; name = u.se }) r
-south_finds s0 s1 s2 h c p quads q r some hold u k fs =
-    let f = hold_four s0 h c p quads some hold in
-    let e2 = tiled-stay 0 s0 s1 (h - 1) (c - 1) (4 * p + 2) quads k.keeps f.sw in
-    let e3 = tiled-stay 0 s0 s1 (h - 1) (c - 1) (4 * p + 2 + 1) quads k.keeps f.se in
-    let x : Quad = record { height = h - 1; name = u.sw } in
-    let y : Quad = record { height = h - 1; name = u.se } in
-    fs x y (subst (λ (g : Cells). IsQuad s1 (h - 1) g x) (sym e2) (is_quad-stays 0 s0 s1 (h - 1) _ _ k.keeps u.sw_is))
-    (subst (λ (g : Cells). IsQuad s1 (h - 1) g y) (sym e3) (is_quad-stays 0 s0 s1 (h - 1) _ _ k.keeps u.se_is))
-
--- a square that stands is found
-pub gathered_found : {E : Type 0} (s0 s1 s2 s3 : Keeper) (h c p : ℕ) (quads : List Quad) (north south : Quad × Quad) (r : Result Quad E) → IsKeeper s0 → c ≢ 0 → bottom_height + c ≤ h → HoldPieces s0 (h - c) c p quads
-    → FindsBoth {E = E} s0 s1 (h - 1) (tiled s0 (h - 1) (c - 1) (4 * p) quads) (tiled s0 (h - 1) (c - 1) (4 * p + 1) quads) (Ok north)
-    → FindsBoth {E = E} s1 s2 (h - 1) (tiled s1 (h - 1) (c - 1) (4 * p + 2) quads) (tiled s1 (h - 1) (c - 1) (4 * p + 2 + 1) quads) (Ok south)
-    → FindsQuad s2 s3 (north.0.height + 1) (quartered (side_of north.0.height) (quad_cells s2 north.0) (quad_cells s2 north.1) (quad_cells s2 south.0) (quad_cells s2 south.1)) r
-    → FindsQuad s0 s3 h (tiled s0 h c p quads) r
-gathered_found {E} s0 s1 s2 s3 h c p quads north south r i some low hold fn fs fc q s =
-    let u = tiled_quarters s0 h c p quads q i some low hold s in
-    let n = fn _ _ u.nw_is u.ne_is in
-    let t = south_finds {E = E} s0 s1 s2 h c p quads q (Ok south) some hold u n.reads fs in
-    four_found s0 s2 s3 (h - 1) _ _ _ _ q north.0 north.1 south.0 south.1 r u (reads_on s0 s1 s2 n.reads t.reads)
-    (both_first {E = E} s0 s1 _ _ north n) (both_second {E = E} s0 s1 _ _ north n) (both_first {E = E} s1 s2 _ _ south t) (both_second {E = E} s1 s2 _ _ south t) fc
-
--- a square that stands is not missed in the north
-pub north_missed : {D E : Type 0} (s0 s1 : Keeper) (h c p : ℕ) (quads : List Quad) (e : D) (r : Result Quad E) → IsKeeper s0 → c ≢ 0 → bottom_height + c ≤ h → HoldPieces s0 (h - c) c p quads
-    → FindsBoth {E = D} s0 s1 (h - 1) (tiled s0 (h - 1) (c - 1) (4 * p) quads) (tiled s0 (h - 1) (c - 1) (4 * p + 1) quads) (Err e) → FindsQuad s0 s1 h (tiled s0 h c p quads) r
-north_missed s0 s1 h c p quads e r i some low hold fn q s =
-    let u = tiled_quarters s0 h c p quads q i some low hold s in absurd (not_missed s0 s1 e _ (fn _ _ u.nw_is u.ne_is))
-
--- nor in the south
-pub south_missed : {D E : Type 0} (s0 s1 s2 : Keeper) (h c p : ℕ) (quads : List Quad) (north : Quad × Quad) (e : D) (r : Result Quad E) → IsKeeper s0 → c ≢ 0 → bottom_height + c ≤ h → HoldPieces s0 (h - c) c p quads
-    → FindsBoth {E = D} s0 s1 (h - 1) (tiled s0 (h - 1) (c - 1) (4 * p) quads) (tiled s0 (h - 1) (c - 1) (4 * p + 1) quads) (Ok north)
-    → FindsBoth {E = D} s1 s2 (h - 1) (tiled s1 (h - 1) (c - 1) (4 * p + 2) quads) (tiled s1 (h - 1) (c - 1) (4 * p + 2 + 1) quads) (Err e) → FindsQuad s0 s2 h (tiled s0 h c p quads) r
-south_missed {D} s0 s1 s2 h c p quads north e r i some low hold fn fs q s =
-    let u = tiled_quarters s0 h c p quads q i some low hold s in
-    let n = fn _ _ u.nw_is u.ne_is in
-    absurd (not_missed s1 s2 e _ (south_finds {E = D} s0 s1 s2 h c p quads q (Err e) some hold u n.reads fs))
-
--- two squares one after the other
-pub beside_found : {E : Type 0} (s0 s1 s2 : Keeper) (h c p : ℕ) (quads : List Quad) (west east : Quad) → HoldPieces s0 (h - c) c (p + 1) quads
-    → FindsQuad {E = E} s0 s1 h (tiled s0 h c p quads) (Ok west) → FindsQuad {E = E} s1 s2 h (tiled s1 h c (p + 1) quads) (Ok east)
-    → FindsBoth {E = E} s0 s2 h (tiled s0 h c p quads) (tiled s0 h c (p + 1) quads) (Ok (west, east))
-beside_found {E} s0 s1 s2 h c p quads west east hold fw fe x y sx sy =
-    let a = fw x sx in
-    let e = tiled-stay 0 s0 s1 h c (p + 1) quads a.reads.keeps hold in
-    let b = fe y (subst (λ (g : Cells). IsQuad s1 h g y) (sym e) (is_quad-stays 0 s0 s1 h _ y a.reads.keeps sy)) in
-    both_found {E = E} s0 s1 s2 x y west east a b
-
-pub west_missed : {D E : Type 0} (s0 s1 : Keeper) (h : ℕ) (f g : Cells) (e : D) (r : Result (Quad × Quad) E) → FindsQuad {E = D} s0 s1 h f (Err e) → FindsBoth s0 s1 h f g r
-west_missed s0 s1 h f g e r fw x y sx sy = absurd (not_missed s0 s1 e x (fw x sx))
-
-pub east_missed : {D E : Type 0} (s0 s1 s2 : Keeper) (h c p : ℕ) (quads : List Quad) (west : Quad) (e : D) (r : Result (Quad × Quad) E) → HoldPieces s0 (h - c) c (p + 1) quads
-    → FindsQuad {E = D} s0 s1 h (tiled s0 h c p quads) (Ok west) → FindsQuad {E = D} s1 s2 h (tiled s1 h c (p + 1) quads) (Err e)
-    → FindsBoth s0 s2 h (tiled s0 h c p quads) (tiled s0 h c (p + 1) quads) r
-east_missed {D} s0 s1 s2 h c p quads west e r hold fw fe x y sx sy =
-    let a = fw x sx in
-    let t = tiled-stay 0 s0 s1 h c (p + 1) quads a.reads.keeps hold in
-    absurd (not_missed s1 s2 e y (fe y (subst (λ (g : Cells). IsQuad s1 h g y) (sym t) (is_quad-stays 0 s0 s1 h _ y a.reads.keeps sy))))
+-- two squares of pieces as they were before a call that keeps them
+pub both_later : {E : Type 0} {m n : ℕ} {s0 s1 s2 : Keeper} {r : Result (Quad × Quad) E} (h c p q : ℕ) (quads : List Quad) → KeepsQuads n s0 s1 → HoldPieces s0 (h - c) c p quads → HoldPieces s0 (h - c) c q quads
+    → MakesBoth m h (tiled s1 h c p quads) (tiled s1 h c q quads) s1 s2 r → MakesBoth m h (tiled s0 h c p quads) (tiled s0 h c q quads) s1 s2 r
+both_later {E} {m} {n} {s0} {s1} {s2} {r} h c p q quads k f g s =
+    subst (λ (y : Cells). MakesBoth m h (tiled s0 h c p quads) y s1 s2 r) (tiled-stay n s0 s1 h c q quads k g) (subst (λ (x : Cells). MakesBoth m h x (tiled s1 h c q quads) s1 s2 r) (tiled-stay n s0 s1 h c p quads k f) s)
 
 -- a piece
 pub leaf_value : (w : Keeper) (h c p : ℕ) (quads : List Quad) (x d : Quad) → c ≡ 0 → p < length quads → HoldPieces w (h - c) c p quads → x ≡ get_or quads p d → IsQuad w h (tiled w h c p quads) x
@@ -289,7 +209,3 @@ last_few (suc (suc (suc (suc c)))) l = absurd (omega (arith, l))
 pub corners_next : (c : ℕ) → c ≢ 0 → corner_words c ≡ corner_words (c - 1) + corner_words (c - 1) + (corner_words (c - 1) + corner_words (c - 1)) + 3
 corners_next zero h = absurd (h refl)
 corners_next (suc c) h = let e : suc c - 1 ≡ c = omega arith in rw e refl
-
--- the second of two squares, of pieces as they were before the first
-pub second_west : (m : ℕ) (s0 s1 s2 : Keeper) (h c p : ℕ) (quads : List Quad) (q : Quad) → KeepsQuads m s0 s1 → HoldPieces s0 (h - c) c p quads → IsQuad s2 h (tiled s1 h c p quads) q → IsQuad s2 h (tiled s0 h c p quads) q
-second_west m s0 s1 s2 h c p quads q k hold s = subst (λ (f : Cells). IsQuad s2 h f q) (tiled-stay m s0 s1 h c p quads k hold) s

@@ -2,7 +2,7 @@
 ghost use Rattle.std.specs.Prelude.{◌≡◌, ◌≤◌, ◌<◌, ◌+◌, ◌-◌, length, IfOk};
 ghost use Rattle.rel_model.specs.Trees.{bottom_height, top_height};
 ghost use Rattle.rel_model.specs.Quads.{Keeper, IsQuad, KeepsQuads, Counts};
-ghost use Rattle.quad_nodes.specs.Finding.{FindsQuad, FindsBoth};
+ghost use Rattle.quad_nodes.specs.Making.{MakesQuad, MakesBoth};
 ghost use Rattle.fork_quads.specs.Forks.{HoldPieces, last_piece, tiled, corner_words};
 
 use crate::group::Pieces;
@@ -24,10 +24,8 @@ pub(crate) fn gathered(
     requires size { length found.now ≡ 64 }
     requires deep { bottom_height + cuts ≤ height }
     requires high { height ≤ top_height }
-    ensures value { IfOk result (IsQuad nodes.new height (tiled nodes.old height cuts number found.now)) }
-    ensures stood { FindsQuad nodes.old nodes.new height (tiled nodes.old height cuts number found.now) result }
-    ensures keeps { KeepsQuads (corner_words cuts) nodes.old nodes.new }
-    ensures counts { Counts nodes.old nodes.new result }
+    ensures { MakesQuad (corner_words cuts) height (tiled nodes.old height cuts number found.now)
+        nodes.old nodes.new result }
 {
     let _ = nodes.bottom();
     if cuts == 0 {
@@ -54,14 +52,9 @@ fn beside(
     requires size { length found.now ≡ 64 }
     requires deep { bottom_height + cuts ≤ height }
     requires high { height ≤ top_height }
-    ensures west { IfOk result (λ pair. IsQuad nodes.new height (tiled nodes.old height cuts number found.now)
-        pair.0) }
-    ensures east { IfOk result (λ pair. IsQuad nodes.new height (tiled nodes.old height cuts (number + 1) found.now)
-        pair.1) }
-    ensures stood { FindsBoth nodes.old nodes.new height (tiled nodes.old height cuts number found.now)
-        (tiled nodes.old height cuts (number + 1) found.now) result }
-    ensures keeps { KeepsQuads (corner_words cuts + corner_words cuts) nodes.old nodes.new }
-    ensures counts { Counts nodes.old nodes.new result }
+    ensures { MakesBoth (corner_words cuts + corner_words cuts) height
+        (tiled nodes.old height cuts number found.now) (tiled nodes.old height cuts (number + 1) found.now)
+        nodes.old nodes.new result }
 {
     let west = gathered(nodes, found, height, cuts, number)?;
     let east = gathered(nodes, found, height, cuts, number + 1)?;

@@ -315,35 +315,12 @@ corner_found {E} v w h q name e f =
 renamed : (w : Keeper) (h : ℕ) (f : Cells) (p q : Quad) → p ≡ q → IsQuad w h f q → IsQuad w h f p
 renamed w h f p q e s = subst (λ (x : Quad). IsQuad w h f x) (sym e) s
 
--- the corner of the four quarters that stood is the quad over them
-pub four_found : {E : Type 0} (s2 s6 s7 : Keeper) (h : ℕ) (f0 f1 f2 f3 : Cells) (q nw ne sw se : Quad) (r : Result Quad E) → (c : QuartersStood s2 h q f0 f1 f2 f3) → ReadsQuads s2 s6
-    → nw ≡ record { height = h; name = c.nw } → ne ≡ record { height = h; name = c.ne } → sw ≡ record { height = h; name = c.sw } → se ≡ record { height = h; name = c.se }
-    → FindsQuad s6 s7 (nw.height + 1) (corner_cells s6 nw ne sw se) r → Finds s2 s7 q r
-four_found s2 s6 s7 h f0 f1 f2 f3 q nw ne sw se r c k e0 e1 e2 e3 p =
-    let x0 = renamed s6 h f0 nw _ e0 (is_quad-stays 0 s2 s6 h f0 _ k.keeps c.nw_is) in
-    let x1 = renamed s6 h f1 ne _ e1 (is_quad-stays 0 s2 s6 h f1 _ k.keeps c.ne_is) in
-    let x2 = renamed s6 h f2 sw _ e2 (is_quad-stays 0 s2 s6 h f2 _ k.keeps c.sw_is) in
-    let x3 = renamed s6 h f3 se _ e3 (is_quad-stays 0 s2 s6 h f3 _ k.keeps c.se_is) in
-    let y = is_quad-stays 0 s2 s6 (h + 1) _ q k.keeps c.stood in
-    let same : corner_cells s6 nw ne sw se ≡ quartered (side_of h) f0 f1 f2 f3 =
-    ap (λ (x : ℕ). quartered (side_of x) (quad_cells s6 nw) (quad_cells s6 ne) (quad_cells s6 sw) (quad_cells s6 se)) x0.same_height
-    ∙ ap (λ (x : Cells). quartered (side_of h) x (quad_cells s6 ne) (quad_cells s6 sw) (quad_cells s6 se)) x0.means
-    ∙ ap (λ (x : Cells). quartered (side_of h) f0 x (quad_cells s6 sw) (quad_cells s6 se)) x1.means
-    ∙ ap (λ (x : Cells). quartered (side_of h) f0 f1 x (quad_cells s6 se)) x2.means
-    ∙ ap (λ (x : Cells). quartered (side_of h) f0 f1 f2 x) x3.means in
-    let g = p q (record { same_height = y.same_height ∙ ap (λ (x : ℕ). x + 1) (sym x0.same_height); stands = y.stands; means = y.means ∙ sym same }) in
-    record { answer = g.answer; reads = reads_on s2 s6 s7 k g.reads }
-
 -- what is found after a call that reads, under equal heights and sets
 pub found_later : {E : Type 0} (u v w : Keeper) (h k : ℕ) (f g : Cells) (r : Result Quad E) → ReadsQuads u v → h ≡ k → f ≡ g → FindsQuad v w h f r → FindsQuad u w k g r
 found_later u v w h k f g r x e d p q s =
     let t = is_quad-stays 0 u v k g q x.keeps s in
     let y = p q (record { same_height = t.same_height ∙ sym e; stands = t.stands; means = t.means ∙ sym d }) in
     record { answer = y.answer; reads = reads_on u v w x y.reads }
-
--- what is found between calls that read
-pub found_after : {E : Type 0} (t u v w : Keeper) (q r : Quad) → ReadsQuads t u → Finds {E = E} u v q (Ok r) → ReadsQuads v w → Finds {E = E} t w q (Ok r)
-found_after t u v w q r k f l = record { answer = f.answer; reads = reads_on t v w (reads_on t u v k f.reads) l }
 
 -- two quads that were found one after the other
 pub both_found : {E : Type 0} (u v w : Keeper) (p q a b : Quad) → Finds {E = E} u v p (Ok a) → Finds {E = E} v w q (Ok b) → Finds {T = Quad × Quad} {E = E} u w (p, q) (Ok (a, b))

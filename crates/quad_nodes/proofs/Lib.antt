@@ -3,3 +3,4 @@ pub mod Finding
 pub mod Squaring
 pub mod Looking
 pub mod Filling
+pub mod Making

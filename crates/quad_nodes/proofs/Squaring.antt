@@ -1,17 +1,16 @@
 -- Cells and rectangles of a square, by its quarters.
-use Rattle.std.proofs.Common.{◌≡◌, ◌<◌, ◌≤◌, ◌+◌, ◌-◌, ◌⊎◌, min, ltb, cond, suc, ℕ, Bool, true, false, Result, Ok, Err, IfOk, refl, sym, ap, subst, ◌∙◌, inl, inr, arith}
+use Rattle.std.proofs.Common.{◌≡◌, ◌<◌, ◌≤◌, ◌+◌, ◌-◌, ◌⊎◌, min, ltb, cond, suc, ℕ, Bool, true, false, refl, sym, ap, subst, ◌∙◌, inl, inr, arith}
 use Rattle.std.proofs.lemmas.Bool.{cases_Bool, cases_lt, ltb-true, ltb-false, lt-ltb, le-ltb, and_left, and_right, and_parts}
 use Rattle.rel_model.specs.declared.Quad.{Quad}
 use Rattle.rel_model.specs.Cells.{Cells, no_cells, cells_rect}
 use Rattle.rel_model.specs.Trees.{bottom_height, top_height, cells, stands, twice, side, quartered, paired}
 use Rattle.rel_model.specs.Equations.{depth_of, side_of}
-use Rattle.rel_model.specs.Quads.{Keeper, IsKeeper, quad_cells, QuadStands, IsQuad, KeepsQuads}
+use Rattle.rel_model.specs.Quads.{Keeper, IsKeeper, quad_cells, QuadStands, IsQuad}
 use Rattle.rel_model.proofs.TreeLaws.{same_cells, Within}
 use Rattle.rel_model.proofs.Squares.{is_square-twice, rows_at-twice, cols_at-twice}
-use Rattle.rel_model.proofs.QuadLaws.{depth_of-next, side_of-next, is_quad-stays, empty_quad}
-use Rattle.quad_nodes.specs.Halves.{AreBeside}
+use Rattle.rel_model.proofs.QuadLaws.{depth_of-next, side_of-next, empty_quad}
 use Rattle.quad_nodes.proofs.Halving.{Halve, halves_stand}
-use Rattle.quad_nodes.proofs.Finding.{QuartersStood, quarters_stood}
+use Rattle.quad_nodes.proofs.Making.{AreParts}
 
 -- ---- a cell by its quarter
 row_half : (d : ℕ) (f g : Cells) (i j : ℕ) → paired (suc (twice d)) f g i j ≡ cond (ltb i (side d)) (f i j) (g (i - side d) j)
@@ -119,53 +118,7 @@ rect_none w h m n i l t z =
     let e : cells_rect m n ≡ no_cells = elim z [ inl x ↦ cells_rect-zero m n x | inr x ↦ cells_rect-none m n x ] in
     record { same_height = refl; stands = q.stands; means = q.means ∙ sym e }
 
--- the corner of four rectangles is a rectangle
-pub rect_corner : {E : Type 0} (s0 s1 s2 : Keeper) (h m rows cols top : ℕ) (nw ne sw se : Quad) (r : Result Quad E) → bottom_height < h → top ≡ min rows (side_of (h - 1))
-    → AreBeside s0 (h - 1) top cols (nw, ne) → AreBeside s1 (h - 1) (rows - top) cols (sw, se) → KeepsQuads m s0 s1
-    → IfOk r (IsQuad s2 (nw.height + 1) (quartered (side_of nw.height) (quad_cells s1 nw) (quad_cells s1 ne) (quad_cells s1 sw) (quad_cells s1 se)))
-    → IfOk r (IsQuad s2 h (cells_rect rows cols))
-rect_corner s0 s1 s2 h m rows cols top nw ne sw se (Err e) l et a b k v = tt
-rect_corner s0 s1 s2 h m rows cols top nw ne sw se (Ok q) l et a b k v =
-    let n : ℕ = h - 1 in
-    let w = is_quad-stays m s0 s1 n (cells_rect top (min cols (side_of n))) nw k a.west in
-    let e = is_quad-stays m s0 s1 n (cells_rect top (cols - side_of n)) ne k a.east in
-    let one : nw.height + 1 ≡ h = (let x = w.same_height in omega arith) in
-    let down : rows - top ≡ rows - side_of n = omega arith in
-    record {
-      same_height = v.same_height ∙ one;
-      stands = v.stands;
-      means = v.means
-          ∙ ap (λ (x : ℕ). quartered (side_of x) (quad_cells s1 nw) (quad_cells s1 ne) (quad_cells s1 sw) (quad_cells s1 se)) w.same_height
-          ∙ ap (λ (c : Cells). quartered (side_of n) c (quad_cells s1 ne) (quad_cells s1 sw) (quad_cells s1 se)) w.means
-          ∙ ap (λ (c : Cells). quartered (side_of n) (cells_rect top (min cols (side_of n))) c (quad_cells s1 sw) (quad_cells s1 se)) e.means
-          ∙ ap (λ (c : Cells). quartered (side_of n) (cells_rect top (min cols (side_of n))) (cells_rect top (cols - side_of n)) c (quad_cells s1 se)) b.west.means
-          ∙ ap (λ (c : Cells). quartered (side_of n) (cells_rect top (min cols (side_of n))) (cells_rect top (cols - side_of n)) (cells_rect (rows - top) (min cols (side_of n))) c) b.east.means
-          ∙ ap (λ (x : ℕ). quartered (side_of n) (cells_rect x (min cols (side_of n))) (cells_rect x (cols - side_of n)) (cells_rect (rows - top) (min cols (side_of n))) (cells_rect (rows - top) (cols - side_of n))) et
-          ∙ ap (λ (x : ℕ). quartered (side_of n) (cells_rect (min rows (side_of n)) (min cols (side_of n))) (cells_rect (min rows (side_of n)) (cols - side_of n)) (cells_rect x (min cols (side_of n))) (cells_rect x (cols - side_of n))) down
-          ∙ sym (cells_rect-quartered (side_of n) rows cols);
-    }
-
--- two rectangles with the same rows and as many columns are one quad
-pub beside_twice : (w : Keeper) (h rows cols left : ℕ) (q : Quad) → left ≡ min cols (side_of h) → cols - left ≡ left → IsQuad w h (cells_rect rows left) q → AreBeside w h rows cols (q, q)
-beside_twice w h rows cols left q e f s =
-    let g : left ≡ cols - side_of h = omega arith in
-    record {
-      west = subst (λ (x : ℕ). IsQuad w h (cells_rect rows x) q) e s;
-      east = subst (λ (x : ℕ). IsQuad w h (cells_rect rows x) q) g s;
-    }
-
-pub beside_each : (m : ℕ) (v w : Keeper) (h rows cols left : ℕ) (p q : Quad) → left ≡ min cols (side_of h) → KeepsQuads m v w → IsQuad v h (cells_rect rows left) p → IsQuad w h (cells_rect rows (cols - left)) q → AreBeside w h rows cols (p, q)
-beside_each m v w h rows cols left p q e k s t =
-    let g : cols - left ≡ cols - side_of h = omega arith in
-    record {
-      west = subst (λ (x : ℕ). IsQuad w h (cells_rect rows x) p) e (is_quad-stays m v w h (cells_rect rows left) p k s);
-      east = subst (λ (x : ℕ). IsQuad w h (cells_rect rows x) q) g t;
-    }
-
-pub beside_again : (w : Keeper) (h rows r cols : ℕ) (p : Quad × Quad) → rows ≡ r → AreBeside w h rows cols p → AreBeside w h r cols p
-beside_again w h rows r cols p e a = subst (λ (x : ℕ). AreBeside w h x cols p) e a
-
--- ---- rectangles that stand
+-- ---- the parts of a rectangle
 -- a rectangle lies within the sizes that bound it
 pub rect_within : (m rows cols : ℕ) → rows ≤ m → cols ≤ m → Within m m (cells_rect rows cols)
 rect_within m rows cols a b = record {
@@ -173,23 +126,24 @@ rect_within m rows cols a b = record {
   col = λ i j e. let x : j < cols = ltb-true j cols (and_parts (ltb i rows) (ltb j cols) e).1 in omega arith;
 }
 
--- its quarters stand, of a height over that of blocks
-pub rect_stood : (w : Keeper) (h rows cols top : ℕ) (q : Quad) → IsKeeper w → bottom_height < h → rows ≤ side_of h → cols ≤ side_of h → top ≡ min rows (side_of (h - 1)) → IsQuad w h (cells_rect rows cols) q
-    → QuartersStood w (h - 1) q (cells_rect top (min cols (side_of (h - 1)))) (cells_rect top (cols - side_of (h - 1))) (cells_rect (rows - top) (min cols (side_of (h - 1)))) (cells_rect (rows - top) (cols - side_of (h - 1)))
-rect_stood w h rows cols top q i l a b et s =
+-- its quarters, of a height over that of blocks
+pub rect_parts : (w : Keeper) (h rows cols top : ℕ) → IsKeeper w → bottom_height < h → rows ≤ side_of h → cols ≤ side_of h → top ≡ min rows (side_of (h - 1))
+    → AreParts w h (cells_rect rows cols) (h - 1) (cells_rect top (min cols (side_of (h - 1)))) (cells_rect top (cols - side_of (h - 1))) (cells_rect (rows - top) (min cols (side_of (h - 1)))) (cells_rect (rows - top) (cols - side_of (h - 1)))
+rect_parts w h rows cols top i l a b et =
     let m : ℕ = side_of (h - 1) in
     let e : side_of h ≡ m + m = side_of-next h l in
-    let one : h ≡ h - 1 + 1 = omega arith in
-    let down : rows - m ≡ rows - top = omega arith in
-    let same : cells_rect rows cols ≡ quartered m (cells_rect top (min cols m)) (cells_rect top (cols - m)) (cells_rect (rows - top) (min cols m)) (cells_rect (rows - top) (cols - m)) =
-    cells_rect-quartered m rows cols
-    ∙ ap (λ (x : ℕ). quartered m (cells_rect x (min cols m)) (cells_rect x (cols - m)) (cells_rect (rows - m) (min cols m)) (cells_rect (rows - m) (cols - m))) (sym et)
-    ∙ ap (λ (x : ℕ). quartered m (cells_rect top (min cols m)) (cells_rect top (cols - m)) (cells_rect x (min cols m)) (cells_rect x (cols - m))) down in
-    quarters_stood w (h - 1) q _ _ _ _ i (omega arith)
-    (record {
-      nw = rect_within m top (min cols m) (omega arith) (omega arith);
-      ne = rect_within m top (cols - m) (omega arith) (omega (arith, e));
-      sw = rect_within m (rows - top) (min cols m) (omega (arith, e)) (omega arith);
-      se = rect_within m (rows - top) (cols - m) (omega (arith, e)) (omega (arith, e));
-    })
-    (record { same_height = s.same_height ∙ one; stands = s.stands; means = s.means ∙ same })
+    let down : rows - top ≡ rows - m = omega arith in
+    record {
+      work = i;
+      low = omega arith;
+      next = omega arith;
+      within = record {
+        nw = rect_within m top (min cols m) (omega arith) (omega arith);
+        ne = rect_within m top (cols - m) (omega arith) (omega (arith, e));
+        sw = rect_within m (rows - top) (min cols m) (omega (arith, e)) (omega arith);
+        se = rect_within m (rows - top) (cols - m) (omega (arith, e)) (omega (arith, e));
+      };
+      means = ap (λ (x : ℕ). quartered m (cells_rect x (min cols m)) (cells_rect x (cols - m)) (cells_rect (rows - top) (min cols m)) (cells_rect (rows - top) (cols - m))) et
+          ∙ ap (λ (x : ℕ). quartered m (cells_rect (min rows m) (min cols m)) (cells_rect (min rows m) (cols - m)) (cells_rect x (min cols m)) (cells_rect x (cols - m))) down
+          ∙ sym (cells_rect-quartered m rows cols);
+    }

@@ -1,11 +1,9 @@
 -- Names of two halves: what is read of a name, and what is interned; rectangles side by side.
-use Rattle.std.specs.Prelude.{◌≡◌, ◌-◌, min, ℕ, suc, true}
-use Rattle.rel_model.specs.declared.Quad.{Quad}
-use Rattle.rel_model.specs.Cells.{Cells, cells_rect}
+use Rattle.std.specs.Prelude.{◌≡◌, ℕ, suc, true}
+use Rattle.rel_model.specs.Cells.{Cells}
 use Rattle.rel_model.specs.Trees.{cells, stands, paired}
 use Rattle.rel_model.specs.Views.{IsSet}
-use Rattle.rel_model.specs.Equations.{side_of}
-use Rattle.rel_model.specs.Quads.{Keeper, IsQuad}
+use Rattle.rel_model.specs.Quads.{Keeper}
 
 -- two names stand at a depth, and pairing their sets gives that of the name at the next depth
 pub record AreHalves (old new : Keeper) (depth name left right : ℕ) : Type 0 where
@@ -18,8 +16,3 @@ pub record AreHalves (old new : Keeper) (depth name left right : ℕ) : Type 0 w
 abbrev pub IsPaired : Keeper → Keeper → ℕ → ℕ → ℕ → Type 0
 IsPaired old new left right name = (depth : ℕ) (f g : Cells) → IsSet old.view depth left f
     → IsSet old.view depth right g → IsSet new.view (suc depth) name (paired depth f g)
-
--- two rectangles side by side: the first columns, as many as a square of the height has, and those behind them
-pub record AreBeside (w : Keeper) (height rows cols : ℕ) (pair : Quad × Quad) : Type 0 where
-  pub west : IsQuad w height (cells_rect rows (min cols (side_of height))) pair.0
-  pub east : IsQuad w height (cells_rect rows (cols - side_of height)) pair.1

@@ -4,8 +4,8 @@ ghost use Rattle.rel_model.specs.Cells.{cells_rect};
 ghost use Rattle.rel_model.specs.Trees.{bottom_height, top_height};
 ghost use Rattle.rel_model.specs.Equations.{side_of};
 ghost use Rattle.rel_model.specs.Quads.{Keeper, IsQuad, KeepsQuads, Counts, quad_room};
-ghost use Rattle.quad_nodes.specs.Halves.{AreBeside};
-ghost use Rattle.quad_nodes.specs.Finding.{FindsQuad, FindsBoth};
+ghost use Rattle.quad_nodes.specs.Finding.{FindsQuad};
+ghost use Rattle.quad_nodes.specs.Making.{MakesBoth};
 
 use crate::nodes::Nodes;
 use crate::sides::side_of_height;
@@ -53,11 +53,8 @@ impl<'t> Nodes<'t> {
         requires high { height < top_height }
         requires row { rows ≤ side_of height }
         requires col { cols ≤ side_of height + side_of height }
-        ensures value { IfOk result (AreBeside self.new height rows cols) }
-        ensures stood { FindsBoth self.old self.new height (cells_rect rows (min cols (side_of height)))
-            (cells_rect rows (cols - side_of height)) result }
-        ensures keeps { KeepsQuads (quad_room height + quad_room height) self.old self.new }
-        ensures counts { Counts self.old self.new result }
+        ensures { MakesBoth (quad_room height + quad_room height) height (cells_rect rows (min cols (side_of height)))
+            (cells_rect rows (cols - side_of height)) self.old self.new result }
     {
         let left = cols.min(side_of_height(height));
         let west = self.rect(height, rows, left)?;

@@ -1,15 +1,13 @@
 -- Squares of 256 rows by their blocks: an operator on each two blocks is the operator on the squares.
-use Rattle.std.proofs.Common.{◌≡◌, ◌<◌, ◌≤◌, ◌+◌, ◌-◌, ◌*◌, zero, suc, ℕ, List, Result, IfOk, length, refl, sym, ap, subst, ◌∙◌, arith, get_or, set, inl, inr}
+use Rattle.std.proofs.Common.{◌≡◌, ◌<◌, ◌≤◌, ◌+◌, ◌-◌, ◌*◌, zero, suc, ℕ, List, length, refl, sym, ap, subst, ◌∙◌, arith, get_or, set, inl, inr}
 use Rattle.std.proofs.Math.Nat.{mul_assoc, mul_comm}
 use Rattle.std.proofs.lemmas.List.{length-set, get_or-set_same, get_or-set_other}
 use Rattle.rel_model.specs.declared.Quad.{Quad}
 use Rattle.rel_model.specs.Cells.{Cells, block_cells}
 use Rattle.rel_model.specs.Trees.{bottom_height, side, quartered}
-use Rattle.rel_model.specs.Quads.{Keeper, quad_cells, QuadStands, IsQuad, ReadsQuads}
+use Rattle.rel_model.specs.Quads.{Keeper, quad_cells, QuadStands, ReadsQuads}
 use Rattle.rel_model.proofs.Squares.{each_cell-quartered}
 use Rattle.rel_model.proofs.QuadLaws.{quad_cells-stay}
-use Rattle.quad_nodes.specs.Finding.{FindsQuad}
-use Rattle.quad_nodes.proofs.Finding.{found_later}
 use Rattle.tree_blocks.specs.Order.{blocks_count, blocks_cells, square_cells}
 use Rattle.tree_blocks.proofs.Counting.{at_or_below, count_8}
 use Rattle.tree_blocks.proofs.Opening.{quartered_same, square_none, square_step}
@@ -22,9 +20,6 @@ pub record AreCombined (op : Boole) (ws xs ys : List ℕ) (done : ℕ) : Type 0 
   pub len : length ys ≡ length ws
   pub are : (k : ℕ) → k < done → block_cells (get_or ys k 0) ≡ cells_by op (block_cells (get_or ws k 0)) (block_cells (get_or xs k 0))
   pub rest : (k : ℕ) → done ≤ k → get_or ys k 0 ≡ get_or ws k 0
-
-pub combined_none : (op : Boole) (ws xs : List ℕ) → AreCombined op ws xs ws 0
-combined_none op ws xs = record { len = refl; are = λ k l. absurd (let x : ⊥ = omega arith in x); rest = λ k l. refl }
 
 pub combined_more : (op : Boole) (ws xs ys : List ℕ) (done word : ℕ) → done < length ys → AreCombined op ws xs ys done
     → block_cells word ≡ cells_by op (block_cells (get_or ys done 0)) (block_cells (get_or xs done 0)) → AreCombined op ws xs (set ys done word) (done + 1)
@@ -71,15 +66,3 @@ blocks_by op s0 s1 a b ws xs ys sb eh e8 len r ca cb e =
     square_by op ws xs ys (length ws) e d 1 l 0 (omega arith)
     ∙ ap (λ (f : Cells). cells_by op f (square_cells d xs 0)) ca
     ∙ ap (λ (f : Cells). cells_by op (quad_cells s0 a) f) (ap (λ (h : ℕ). square_cells (h - bottom_height) xs 0) (sym eh) ∙ cb ∙ quad_cells-stay 0 s0 s1 b r.keeps sb)
-
--- ---- operands after a call that reads
-pub operands_stay : (op : Boole) (s0 s1 : Keeper) (a b : Quad) → ReadsQuads s0 s1 → QuadStands s0 a → QuadStands s0 b → cells_by op (quad_cells s1 a) (quad_cells s1 b) ≡ cells_by op (quad_cells s0 a) (quad_cells s0 b)
-operands_stay op s0 s1 a b r sa sb = ap (λ (f : Cells). cells_by op f (quad_cells s1 b)) (quad_cells-stay 0 s0 s1 a r.keeps sa) ∙ ap (λ (f : Cells). cells_by op (quad_cells s0 a) f) (quad_cells-stay 0 s0 s1 b r.keeps sb)
-
-pub value_after : {E : Type 0} (op : Boole) (s0 s1 s2 : Keeper) (a b : Quad) (x : Result Quad E) → ReadsQuads s0 s1 → QuadStands s0 a → QuadStands s0 b
-    → IfOk x (IsQuad s2 a.height (cells_by op (quad_cells s1 a) (quad_cells s1 b))) → IfOk x (IsQuad s2 a.height (cells_by op (quad_cells s0 a) (quad_cells s0 b)))
-value_after op s0 s1 s2 a b x r sa sb v = subst (λ (f : Cells). IfOk x (IsQuad s2 a.height f)) (operands_stay op s0 s1 a b r sa sb) v
-
-pub stood_after : {E : Type 0} (op : Boole) (s0 s1 s2 : Keeper) (a b : Quad) (x : Result Quad E) → ReadsQuads s0 s1 → QuadStands s0 a → QuadStands s0 b
-    → FindsQuad s1 s2 a.height (cells_by op (quad_cells s1 a) (quad_cells s1 b)) x → FindsQuad s0 s2 a.height (cells_by op (quad_cells s0 a) (quad_cells s0 b)) x
-stood_after op s0 s1 s2 a b x r sa sb f = found_later s0 s1 s2 a.height a.height _ _ x r refl (operands_stay op s0 s1 a b r sa sb) f

@@ -1,51 +1,106 @@
--- One step of the recursion: four results on quarters and their corner are the result.
-use Rattle.std.proofs.Common.{◌≡◌, ◌≢◌, ◌+◌, ℕ, Result, Ok, Err, IfOk, IsErr, sym, ap, ◌∙◌, arith}
-use Rattle.std.proofs.lemmas.Bool.{true≢false}
+-- One step of the recursion: what an operator makes of the quarters of two quads are the quarters of its result.
+use Rattle.std.proofs.Common.{◌≡◌, ◌≢◌, ◌<◌, ◌+◌, ◌-◌, ℕ, Result, sym, ap, ◌∙◌, arith, ◌∷◌, []}
 use Rattle.rel_model.specs.declared.Quad.{Quad}
 use Rattle.rel_model.specs.Cells.{Cells}
-use Rattle.rel_model.specs.Trees.{quartered}
+use Rattle.rel_model.specs.Trees.{bottom_height, quartered}
 use Rattle.rel_model.specs.Equations.{Operator, Transpose, result_of, side_of}
-use Rattle.rel_model.specs.Quads.{Keeper, quad_cells, QuadStands, IsQuad, KeepsQuads, Counts, one_more_miss, AreQuarters}
-use Rattle.rel_model.proofs.QuadLaws.{keeps_on, keeps_itself, quad_cells-stay, is_quad-stays, result_later, is_quad-height, corner_value}
+use Rattle.rel_model.specs.Quads.{Keeper, quad_cells, QuadStands, IsQuad, KeepsQuads, ReadsQuads, AreQuarters, quad_room}
+use Rattle.rel_model.proofs.TreeLaws.{Within}
+use Rattle.rel_model.proofs.QuadLaws.{quad_stays, quad_cells-stay, rooms-next}
+use Rattle.quad_nodes.specs.Making.{MakesQuad}
+use Rattle.quad_nodes.proofs.Finding.{within_at, corner_cells}
+use Rattle.quad_nodes.proofs.Making.{AreParts, Underway, made_at, made_after, ends, cornered}
 use Rattle.rel_boole.specs.declared.boole.Boole.{Boole}
 use Rattle.rel_boole.specs.declared.boole.Boole.TheVariants.{Union as UNION, Inter as INTER, Diff as DIFF}
 use Rattle.rel_boole.specs.Cellwise.{cells_by, operator_for}
 use Rattle.rel_boole.proofs.Cutting.{by_quarters, result_of-by}
+use Rattle.rel_boole.proofs.Finding.{cells_by-within}
 
-pub combined_value : {E : Type 0} (m0 m1 m2 m3 : ℕ) (op : Boole) (s0 s2 s3 s4 s5 s6 s7 : Keeper) (a b : Quad) (fa fb : Quad × Quad × Quad × Quad) (nw ne sw se : Quad) (r : Result Quad E)
-    → QuadStands s0 a → QuadStands s0 b → b.height ≡ a.height → AreQuarters s0 s2 a fa → AreQuarters s0 s2 b fb
-    → KeepsQuads m0 s2 s3 → KeepsQuads m1 s3 s4 → KeepsQuads m2 s4 s5 → KeepsQuads m3 s5 s6
-    → IsQuad s3 fa.0.height (cells_by op (quad_cells s2 fa.0) (quad_cells s2 fb.0)) nw → IsQuad s4 fa.1.height (cells_by op (quad_cells s3 fa.1) (quad_cells s3 fb.1)) ne
-    → IsQuad s5 fa.2.height (cells_by op (quad_cells s4 fa.2) (quad_cells s4 fb.2)) sw → IsQuad s6 fa.3.height (cells_by op (quad_cells s5 fa.3) (quad_cells s5 fb.3)) se
-    → IfOk r (IsQuad s7 (nw.height + 1) (quartered (side_of nw.height) (quad_cells s6 nw) (quad_cells s6 ne) (quad_cells s6 sw) (quad_cells s6 se)))
-    → IfOk r (IsQuad s7 a.height (cells_by op (quad_cells s0 a) (quad_cells s0 b)))
-combined_value m0 m1 m2 m3 op s0 s2 s3 s4 s5 s6 s7 a b fa fb nw ne sw se (Err e) sa sb eh pa pb k0 k1 k2 k3 r0 r1 r2 r3 v = tt
-combined_value {E} m0 m1 m2 m3 op s0 s2 s3 s4 s5 s6 s7 a b fa fb nw ne sw se (Ok q) sa sb eh pa pb k0 k1 k2 k3 r0 r1 r2 r3 v =
-    let h : ℕ = fa.0.height in
-    let e1 : fa.1.height ≡ h = (let x = pa.nw_height in let y = pa.ne_height in omega arith) in
-    let e2 : fa.2.height ≡ h = (let x = pa.nw_height in let y = pa.sw_height in omega arith) in
-    let e3 : fa.3.height ≡ h = (let x = pa.nw_height in let y = pa.se_height in omega arith) in
-    let F : Cells → Cells → Cells = cells_by op in
-    let k23 = keeps_on m0 m1 s2 s3 s4 k0 k1 in
-    let k24 = keeps_on (m0 + m1) m2 s2 s4 s5 k23 k2 in
-    let k56 = keeps_on m2 m3 s4 s5 s6 k2 k3 in
-    let k46 = keeps_on m1 (m2 + m3) s3 s4 s6 k1 k56 in
-    let x0 = is_quad-stays (m1 + (m2 + m3)) s3 s6 h (F (quad_cells s2 fa.0) (quad_cells s2 fb.0)) nw k46 r0 in
-    let x1 = is_quad-height s6 fa.1.height h _ ne e1 (result_later m0 (m2 + m3) s2 s3 s4 s6 F fa.1.height fa.1 fb.1 ne k0 k56 pa.ne pb.ne r1) in
-    let x2 = is_quad-height s6 fa.2.height h _ sw e2 (result_later (m0 + m1) m3 s2 s4 s5 s6 F fa.2.height fa.2 fb.2 sw k23 k3 pa.sw pb.sw r2) in
-    let x3 = is_quad-height s6 fa.3.height h _ se e3 (result_later (m0 + m1 + m2) 0 s2 s5 s6 s6 F fa.3.height fa.3 fb.3 se k24 (keeps_itself s6 0 k3.after) pa.se pb.se r3) in
-    let y = corner_value {E = E} s6 s7 h (F (quad_cells s2 fa.0) (quad_cells s2 fb.0)) (F (quad_cells s2 fa.1) (quad_cells s2 fb.1)) (F (quad_cells s2 fa.2) (quad_cells s2 fb.2)) (F (quad_cells s2 fa.3) (quad_cells s2 fb.3)) nw ne sw se (Ok q) x0 x1 x2 x3 v in
-    record { same_height = y.same_height ∙ pa.nw_height; stands = y.stands; means = y.means ∙ by_quarters op s0 s2 a b fa fb eh pa pb }
+-- two quads of one height and their quarters, which were read first
+pub record HaveQuarters (s0 s2 : Keeper) (a b : Quad) (fa fb : Quad × Quad × Quad × Quad) : Type 0 where
+  pub a_stands : QuadStands s0 a
+  pub b_stands : QuadStands s0 b
+  pub one_height : b.height ≡ a.height
+  pub first : AreQuarters s0 s2 a fa
+  pub second : AreQuarters s0 s2 b fb
+  pub reads : ReadsQuads s0 s2
+
+-- the operator's results on the quarters
+abbrev pub part : Boole → Keeper → Quad → Quad → Cells
+part op w a b = cells_by op (quad_cells w a) (quad_cells w b)
+
+pub are_parts : (op : Boole) {s0 s2 : Keeper} {a b : Quad} {fa fb : Quad × Quad × Quad × Quad} → HaveQuarters s0 s2 a b fa fb
+    → AreParts s2 a.height (part op s0 a b) (a.height - 1) (part op s2 fa.0 fb.0) (part op s2 fa.1 fb.1) (part op s2 fa.2 fb.2) (part op s2 fa.3 fb.3)
+are_parts op {s0} {s2} {a} {b} {fa} {fb} q =
+    let p = q.first in
+    let r = q.second in
+    let low = p.nw.low in
+    let h0 = p.nw_height in
+    let e : a.height - 1 ≡ fa.0.height = omega arith in
+    let within : (x y : Quad) → x.height + 1 ≡ a.height → y.height + 1 ≡ b.height → Within (side_of (a.height - 1)) (side_of (a.height - 1)) (part op s2 x y) =
+    λ x y i j. cells_by-within op (side_of (a.height - 1)) _ _ (within_at s2 (a.height - 1) x (omega arith)) (within_at s2 (a.height - 1) y (let z = q.one_height in omega arith)) in
+    record {
+      work = q.reads.keeps.after;
+      low = omega arith;
+      next = omega arith;
+      within = record {
+        nw = within fa.0 fb.0 p.nw_height r.nw_height;
+        ne = within fa.1 fb.1 p.ne_height r.ne_height;
+        sw = within fa.2 fb.2 p.sw_height r.sw_height;
+        se = within fa.3 fb.3 p.se_height r.se_height;
+      };
+      means = ap (λ (x : ℕ). quartered (side_of x) (part op s2 fa.0 fb.0) (part op s2 fa.1 fb.1) (part op s2 fa.2 fb.2) (part op s2 fa.3 fb.3)) e
+          ∙ by_quarters op s0 s2 a b fa fb q.one_height p r;
+    }
+
+-- two quarters after calls that keep them, as the call on them asks for them
+pub record StandBelow (w : Keeper) (h : ℕ) (a b : Quad) : Type 0 where
+  pub a_stands : QuadStands w a
+  pub b_stands : QuadStands w b
+  pub height : a.height + 1 ≡ h
+  pub one_height : b.height ≡ a.height
+
+pub stand_below : {m h : ℕ} {v w : Keeper} {a b : Quad} → KeepsQuads m v w → StandBelow v h a b → StandBelow w h a b
+stand_below {m} {h} {v} {w} {a} {b} k s = record { a_stands = quad_stays m v w a k s.a_stands; b_stands = quad_stays m v w b k s.b_stands; height = s.height; one_height = s.one_height }
+
+pub nw_stand : {s0 s2 : Keeper} {a b : Quad} {fa fb : Quad × Quad × Quad × Quad} → HaveQuarters s0 s2 a b fa fb → StandBelow s2 a.height fa.0 fb.0
+nw_stand q = let p = q.first in let r = q.second in let x = p.nw_height in let y = r.nw_height in let z = q.one_height in record { a_stands = p.nw; b_stands = r.nw; height = x; one_height = omega arith }
+
+pub ne_stand : {s0 s2 : Keeper} {a b : Quad} {fa fb : Quad × Quad × Quad × Quad} → HaveQuarters s0 s2 a b fa fb → StandBelow s2 a.height fa.1 fb.1
+ne_stand q = let p = q.first in let r = q.second in let x = p.ne_height in let y = r.ne_height in let z = q.one_height in record { a_stands = p.ne; b_stands = r.ne; height = x; one_height = omega arith }
+
+pub sw_stand : {s0 s2 : Keeper} {a b : Quad} {fa fb : Quad × Quad × Quad × Quad} → HaveQuarters s0 s2 a b fa fb → StandBelow s2 a.height fa.2 fb.2
+sw_stand q = let p = q.first in let r = q.second in let x = p.sw_height in let y = r.sw_height in let z = q.one_height in record { a_stands = p.sw; b_stands = r.sw; height = x; one_height = omega arith }
+
+pub se_stand : {s0 s2 : Keeper} {a b : Quad} {fa fb : Quad × Quad × Quad × Quad} → HaveQuarters s0 s2 a b fa fb → StandBelow s2 a.height fa.3 fb.3
+se_stand q = let p = q.first in let r = q.second in let x = p.se_height in let y = r.se_height in let z = q.one_height in record { a_stands = p.se; b_stands = r.se; height = x; one_height = omega arith }
+
+-- the result on two quarters as it was before these calls
+pub part_made : {E : Type 0} (op : Boole) {m h : ℕ} {u v w : Keeper} {a b : Quad} {r : Result Quad E} → KeepsQuads m u v → StandBelow u h a b
+    → MakesQuad (quad_room a.height) a.height (part op v a b) v w r → MakesQuad (quad_room (h - 1)) (h - 1) (part op u a b) v w r
+part_made op {m} {h} {u} {v} {w} {a} {b} k s x =
+    let e = s.height in
+    made_at (omega arith) (ap (λ (c : Cells). cells_by op c (quad_cells v b)) (quad_cells-stay m u v a k s.a_stands) ∙ ap (λ (c : Cells). cells_by op (quad_cells u a) c) (quad_cells-stay m u v b k s.b_stands)) x
+
+-- the four results and their corner
+pub whole_made : {E : Type 0} (op : Boole) {s0 s2 v w : Keeper} {a b nw ne sw se : Quad} {fa fb : Quad × Quad × Quad × Quad} {r : Result Quad E} → HaveQuarters s0 s2 a b fa fb → bottom_height < a.height
+    → Underway (0 + quad_room (a.height - 1) + quad_room (a.height - 1) + quad_room (a.height - 1) + quad_room (a.height - 1)) a.height (part op s0 a b) (a.height - 1)
+    ((se, part op s2 fa.3 fb.3) ∷ (sw, part op s2 fa.2 fb.2) ∷ (ne, part op s2 fa.1 fb.1) ∷ (nw, part op s2 fa.0 fb.0) ∷ []) s2 v
+    → MakesQuad 3 (nw.height + 1) (corner_cells v nw ne sw se) v w r → MakesQuad (quad_room a.height) a.height (part op s0 a b) s0 w r
+whole_made op {a = a} q over u s = let x = rooms-next a.height over in made_after q.reads (ends (omega (arith, x)) u (cornered (are_parts op q) u s))
+
+-- the operands after a call that keeps them
+pub operands_stay : (op : Boole) {m : ℕ} {v w : Keeper} {a b : Quad} → KeepsQuads m v w → QuadStands v a → QuadStands v b → part op w a b ≡ part op v a b
+operands_stay op {m} {v} {w} {a} {b} k s t = ap (λ (c : Cells). cells_by op c (quad_cells w b)) (quad_cells-stay m v w a k s) ∙ ap (λ (c : Cells). cells_by op (quad_cells v a) c) (quad_cells-stay m v w b k t)
 
 -- the result as an equation says it
-pub as_equation : (m : ℕ) (op : Boole) (o : Operator) (v w : Keeper) (a b r : Quad) → o ≡ operator_for op → KeepsQuads m v w → QuadStands v a → QuadStands v b
-    → IsQuad w a.height (cells_by op (quad_cells v a) (quad_cells v b)) r → IsQuad w a.height (result_of o (side_of a.height) (quad_cells w a) (quad_cells w b)) r
-as_equation m op o v w a b r e k s t i = record {
+pub as_equation : {m : ℕ} (op : Boole) {o : Operator} {v w : Keeper} {a b r : Quad} → o ≡ operator_for op → KeepsQuads m v w → QuadStands v a → QuadStands v b
+    → IsQuad w a.height (part op v a b) r → IsQuad w a.height (result_of o (side_of a.height) (quad_cells w a) (quad_cells w b)) r
+as_equation op {o} {v} {w} {a} {b} {r} e k s t i = record {
   same_height = i.same_height;
   stands = i.stands;
   means = i.means
-      ∙ sym (ap (λ (x : Operator). result_of x (side_of a.height) (quad_cells w a) (quad_cells w b)) e ∙ result_of-by op (side_of a.height) (quad_cells w a) (quad_cells w b)
-      ∙ ap (λ (c : Cells). cells_by op c (quad_cells w b)) (quad_cells-stay m v w a k s) ∙ ap (λ (c : Cells). cells_by op (quad_cells v a) c) (quad_cells-stay m v w b k t));
+      ∙ sym (ap (λ (x : Operator). result_of x (side_of a.height) (quad_cells w a) (quad_cells w b)) e ∙ result_of-by op (side_of a.height) (quad_cells w a) (quad_cells w b) ∙ operands_stay op k s t);
 }
 
 -- an operator that goes cell by cell is no transposition
@@ -53,8 +108,3 @@ pub no_transposition : (op : Boole) (o : Operator) → o ≡ operator_for op →
 no_transposition UNION o e z = absurd (cc)
 no_transposition INTER o e z = absurd (cc)
 no_transposition DIFF o e z = absurd (cc)
-
--- a call that failed, after calls that missed nothing
-pub counts_failed : {T E : Type 0} (u v w : Keeper) (r : Result T E) → v.misses ≡ u.misses → IsErr r → w.misses ≡ one_more_miss v.misses → Counts u w r
-counts_failed u v w (Ok x) e i c = absurd (true≢false (sym i))
-counts_failed u v w (Err x) e i c = c ∙ ap one_more_miss e

@@ -74,17 +74,11 @@ and_true false = refl
 union≢diff : UNION ≢ DIFF
 union≢diff e = cc
 
-inter≢diff : INTER ≢ DIFF
-inter≢diff e = cc
-
 pub union_first : (a b : Quad) → (b.name ≡ 0) ⊎ (a.name ≡ b.name) → CutsOff UNION a b (Some a)
 union_first a b h = elim h [ inl e ↦ cut_first UNION a b or_false e | inr e ↦ cut_same UNION a b union≢diff e ]
 
 pub union_second : (a b : Quad) → a.name ≡ 0 → CutsOff UNION a b (Some b)
 union_second a b e = cut_second UNION a b (λ x. refl) e
-
-pub inter_first : (a b : Quad) → a.name ≡ b.name → CutsOff INTER a b (Some a)
-inter_first a b e = cut_same INTER a b inter≢diff e
 
 pub inter_none : (a b : Quad) → (a.name ≡ 0) ⊎ (b.name ≡ 0) → CutsOff INTER a b (Some (record { height = a.height; name = 0 }))
 inter_none a b h = elim h [

@@ -1,9 +1,8 @@
 //! Dense squares of 256 rows, by their blocks in tree order.
-ghost use Rattle.std.specs.Prelude.{ℕ, ◌≡◌, ◌<◌, length, slice_index, IfOk, true};
+ghost use Rattle.std.specs.Prelude.{ℕ, ◌≡◌, ◌<◌, length, slice_index, true};
 ghost use Rattle.rel_model.specs.Cells.{block_cells};
-ghost use Rattle.rel_model.specs.Quads.{Keeper, QuadStands, IsQuad, quad_cells, quad_room};
-ghost use Rattle.rel_model.specs.Quads.{ReadsQuads, KeepsQuads, Counts};
-ghost use Rattle.quad_nodes.specs.Finding.{FindsQuad};
+ghost use Rattle.rel_model.specs.Quads.{Keeper, QuadStands, quad_cells, quad_room, ReadsQuads};
+ghost use Rattle.quad_nodes.specs.Making.{MakesQuad};
 ghost use Rattle.rel_boole.specs.Cellwise.{cells_by};
 
 use crate::boole::Boole;
@@ -49,12 +48,8 @@ pub fn combined_by_blocks(nodes: &mut Nodes, op: Boole, a: Quad, b: Quad) -> Res
     requires b_stands { QuadStands nodes.old b }
     requires one_height { b.height ≡ a.height }
     requires rows { a.height ≡ 8 }
-    ensures value { IfOk result (IsQuad nodes.new a.height
-        (cells_by op (quad_cells nodes.old a) (quad_cells nodes.old b))) }
-    ensures stood { FindsQuad nodes.old nodes.new a.height
-        (cells_by op (quad_cells nodes.old a) (quad_cells nodes.old b)) result }
-    ensures keeps { KeepsQuads (quad_room a.height) nodes.old nodes.new }
-    ensures counts { Counts nodes.old nodes.new result }
+    ensures { MakesQuad (quad_room a.height) a.height
+        (cells_by op (quad_cells nodes.old a) (quad_cells nodes.old b)) nodes.old nodes.new result }
 {
     let _ = nodes.bottom();
     let mut blocks = [0u64; 1024];

@@ -1,8 +1,8 @@
 //! The recursion over the operator.
-ghost use Rattle.std.specs.Prelude.{◌≡◌, ◌<◌, IfOk};
+ghost use Rattle.std.specs.Prelude.{◌≡◌, ◌<◌};
 ghost use Rattle.rel_model.specs.Trees.{bottom_height};
-ghost use Rattle.rel_model.specs.Quads.{Keeper, QuadStands, IsQuad, quad_cells, KeepsQuads, Counts, quad_room};
-ghost use Rattle.quad_nodes.specs.Finding.{FindsQuad};
+ghost use Rattle.rel_model.specs.Quads.{Keeper, QuadStands, quad_cells, quad_room};
+ghost use Rattle.quad_nodes.specs.Making.{MakesQuad};
 ghost use Rattle.rel_boole.specs.Cellwise.{cells_by};
 
 use crate::ahead::quarters_to_combine;
@@ -28,12 +28,8 @@ pub fn combined(nodes: &mut Nodes, op: Boole, a: Quad, b: Quad) -> Result<Quad, 
     requires a_stands { QuadStands nodes.old a }
     requires b_stands { QuadStands nodes.old b }
     requires one_height { b.height ≡ a.height }
-    ensures value { IfOk result (IsQuad nodes.new a.height
-        (cells_by op (quad_cells nodes.old a) (quad_cells nodes.old b))) }
-    ensures stood { FindsQuad nodes.old nodes.new a.height
-        (cells_by op (quad_cells nodes.old a) (quad_cells nodes.old b)) result }
-    ensures keeps { KeepsQuads (quad_room a.height) nodes.old nodes.new }
-    ensures counts { Counts nodes.old nodes.new result }
+    ensures { MakesQuad (quad_room a.height) a.height
+        (cells_by op (quad_cells nodes.old a) (quad_cells nodes.old b)) nodes.old nodes.new result }
 {
     let bottom = nodes.bottom();
     if let Some(found) = cut_off(op, a, b) {
@@ -54,12 +50,8 @@ fn combined_over(nodes: &mut Nodes, op: Boole, a: Quad, b: Quad) -> Result<Quad,
     requires b_stands { QuadStands nodes.old b }
     requires one_height { b.height ≡ a.height }
     requires over { bottom_height < a.height }
-    ensures value { IfOk result (IsQuad nodes.new a.height
-        (cells_by op (quad_cells nodes.old a) (quad_cells nodes.old b))) }
-    ensures stood { FindsQuad nodes.old nodes.new a.height
-        (cells_by op (quad_cells nodes.old a) (quad_cells nodes.old b)) result }
-    ensures keeps { KeepsQuads (quad_room a.height) nodes.old nodes.new }
-    ensures counts { Counts nodes.old nodes.new result }
+    ensures { MakesQuad (quad_room a.height) a.height
+        (cells_by op (quad_cells nodes.old a) (quad_cells nodes.old b)) nodes.old nodes.new result }
 {
     if let Some(found) = found_before(nodes, op, a, b) {
         return Ok(found);
@@ -77,12 +69,8 @@ fn combined_by_quarters(nodes: &mut Nodes, op: Boole, a: Quad, b: Quad) -> Resul
     requires b_stands { QuadStands nodes.old b }
     requires one_height { b.height ≡ a.height }
     requires over { bottom_height < a.height }
-    ensures value { IfOk result (IsQuad nodes.new a.height
-        (cells_by op (quad_cells nodes.old a) (quad_cells nodes.old b))) }
-    ensures stood { FindsQuad nodes.old nodes.new a.height
-        (cells_by op (quad_cells nodes.old a) (quad_cells nodes.old b)) result }
-    ensures keeps { KeepsQuads (quad_room a.height) nodes.old nodes.new }
-    ensures counts { Counts nodes.old nodes.new result }
+    ensures { MakesQuad (quad_room a.height) a.height
+        (cells_by op (quad_cells nodes.old a) (quad_cells nodes.old b)) nodes.old nodes.new result }
 {
     let ((a_nw, a_ne, a_sw, a_se), (b_nw, b_ne, b_sw, b_se)) = quarters_to_combine(nodes, op, a, b);
     let nw = combined(nodes, op, a_nw, b_nw)?;

@@ -1,9 +1,9 @@
 //! Blocks, by one operation on the words.
-ghost use Rattle.std.specs.Prelude.{◌≡◌, IfOk};
+ghost use Rattle.std.specs.Prelude.{◌≡◌};
 ghost use Rattle.rel_model.specs.Cells.{block_cells};
 ghost use Rattle.rel_model.specs.Trees.{bottom_height};
-ghost use Rattle.rel_model.specs.Quads.{Keeper, QuadStands, IsQuad, quad_cells, KeepsQuads, Counts};
-ghost use Rattle.quad_nodes.specs.Finding.{FindsQuad};
+ghost use Rattle.rel_model.specs.Quads.{Keeper, QuadStands, quad_cells};
+ghost use Rattle.quad_nodes.specs.Making.{MakesQuad};
 ghost use Rattle.rel_boole.specs.Cellwise.{cells_by};
 
 use crate::boole::Boole;
@@ -29,12 +29,8 @@ pub fn leaf(nodes: &mut Nodes, op: Boole, a: Quad, b: Quad) -> Result<Quad, Miss
     requires b_stands { QuadStands nodes.old b }
     requires a_bottom { a.height ≡ bottom_height }
     requires b_bottom { b.height ≡ bottom_height }
-    ensures value { IfOk result (IsQuad nodes.new bottom_height
-        (cells_by op (quad_cells nodes.old a) (quad_cells nodes.old b))) }
-    ensures stood { FindsQuad nodes.old nodes.new bottom_height
-        (cells_by op (quad_cells nodes.old a) (quad_cells nodes.old b)) result }
-    ensures keeps { KeepsQuads 1 nodes.old nodes.new }
-    ensures counts { Counts nodes.old nodes.new result }
+    ensures { MakesQuad 1 bottom_height
+        (cells_by op (quad_cells nodes.old a) (quad_cells nodes.old b)) nodes.old nodes.new result }
 {
     let first = nodes.bits(a);
     let second = nodes.bits(b);

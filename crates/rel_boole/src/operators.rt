@@ -1,8 +1,8 @@
 //! The three operators.
-ghost use Rattle.std.specs.Prelude.{◌≡◌, IfOk};
+ghost use Rattle.std.specs.Prelude.{◌≡◌};
 ghost use Rattle.rel_model.specs.Cells.{cells_union, cells_inter, cells_diff};
-ghost use Rattle.rel_model.specs.Quads.{Keeper, QuadStands, IsQuad, quad_cells, KeepsQuads, Counts, quad_room};
-ghost use Rattle.quad_nodes.specs.Finding.{FindsQuad};
+ghost use Rattle.rel_model.specs.Quads.{Keeper, QuadStands, quad_cells, quad_room};
+ghost use Rattle.quad_nodes.specs.Making.{MakesQuad};
 
 use crate::boole::{Boole, combined};
 use pair_table::Missed;
@@ -14,12 +14,8 @@ pub fn union_quads(nodes: &mut Nodes, a: Quad, b: Quad) -> Result<Quad, Missed>
     requires a_stands { QuadStands nodes.old a }
     requires b_stands { QuadStands nodes.old b }
     requires one_height { b.height ≡ a.height }
-    ensures value { IfOk result (IsQuad nodes.new a.height
-        (cells_union (quad_cells nodes.old a) (quad_cells nodes.old b))) }
-    ensures stood { FindsQuad nodes.old nodes.new a.height
-        (cells_union (quad_cells nodes.old a) (quad_cells nodes.old b)) result }
-    ensures keeps { KeepsQuads (quad_room a.height) nodes.old nodes.new }
-    ensures counts { Counts nodes.old nodes.new result }
+    ensures { MakesQuad (quad_room a.height) a.height
+        (cells_union (quad_cells nodes.old a) (quad_cells nodes.old b)) nodes.old nodes.new result }
 {
     combined(nodes, Boole::Union, a, b)
 }
@@ -29,12 +25,8 @@ pub fn inter_quads(nodes: &mut Nodes, a: Quad, b: Quad) -> Result<Quad, Missed>
     requires a_stands { QuadStands nodes.old a }
     requires b_stands { QuadStands nodes.old b }
     requires one_height { b.height ≡ a.height }
-    ensures value { IfOk result (IsQuad nodes.new a.height
-        (cells_inter (quad_cells nodes.old a) (quad_cells nodes.old b))) }
-    ensures stood { FindsQuad nodes.old nodes.new a.height
-        (cells_inter (quad_cells nodes.old a) (quad_cells nodes.old b)) result }
-    ensures keeps { KeepsQuads (quad_room a.height) nodes.old nodes.new }
-    ensures counts { Counts nodes.old nodes.new result }
+    ensures { MakesQuad (quad_room a.height) a.height
+        (cells_inter (quad_cells nodes.old a) (quad_cells nodes.old b)) nodes.old nodes.new result }
 {
     combined(nodes, Boole::Inter, a, b)
 }
@@ -44,12 +36,8 @@ pub fn diff_quads(nodes: &mut Nodes, a: Quad, b: Quad) -> Result<Quad, Missed>
     requires a_stands { QuadStands nodes.old a }
     requires b_stands { QuadStands nodes.old b }
     requires one_height { b.height ≡ a.height }
-    ensures value { IfOk result (IsQuad nodes.new a.height
-        (cells_diff (quad_cells nodes.old a) (quad_cells nodes.old b))) }
-    ensures stood { FindsQuad nodes.old nodes.new a.height
-        (cells_diff (quad_cells nodes.old a) (quad_cells nodes.old b)) result }
-    ensures keeps { KeepsQuads (quad_room a.height) nodes.old nodes.new }
-    ensures counts { Counts nodes.old nodes.new result }
+    ensures { MakesQuad (quad_room a.height) a.height
+        (cells_diff (quad_cells nodes.old a) (quad_cells nodes.old b)) nodes.old nodes.new result }
 {
     combined(nodes, Boole::Diff, a, b)
 }

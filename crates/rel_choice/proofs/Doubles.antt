@@ -16,7 +16,8 @@ use Rattle.rel_model.specs.Worker.{Worker, HasQuad, quad_set, GivesQuad, Keeps}
 use Rattle.rel_model.proofs.Somes.{same_truth, not_true, some_from, some_passes, some_none}
 use Rattle.rel_choice.specs.Leasts.{Least, IsLeast}
 use Rattle.rel_choice.specs.Lines.{passes_twice, single_rows, rows_apart, quad_single, quads_apart, halves_apart}
-use Rattle.rel_choice.proofs.Standing.{has-within, zero_set, keeps_quad_set, gives_quad_set}
+use Rattle.rel_steps.proofs.Given.{kept_set, gives_quad_set}
+use Rattle.rel_choice.proofs.Standing.{has-within, zero_set}
 use Rattle.rel_choice.proofs.Sums.{quartered-nw, quartered-ne, quartered-sw, quartered-se}
 use Rattle.rel_choice.proofs.QuadCounts.{power-half}
 
@@ -230,16 +231,11 @@ none-apart_right w a b e h = sym (apart-none_right (2 ^ a.height) (2 ^ a.height)
 
 -- over several calls
 pub kept-single : (v w : Worker) (q : Quad) → Keeps v w → HasQuad v q → quad_single w q ≡ quad_single v q
-kept-single v w q k s = ap (single_rows (2 ^ q.height) (2 ^ q.height)) (keeps_quad_set v w q k s)
+kept-single v w q k s = ap (single_rows (2 ^ q.height) (2 ^ q.height)) (kept_set v w q k s)
 
 pub kept-apart : (v w : Worker) (a b : Quad) → Keeps v w → HasQuad v a → HasQuad v b → quads_apart w a b ≡ quads_apart v a b
 kept-apart v w a b k s t =
-    ap (λ f. rows_apart (2 ^ a.height) (2 ^ a.height) f (quad_set w b)) (keeps_quad_set v w a k s) ∙ ap (rows_apart (2 ^ a.height) (2 ^ a.height) (quad_set v a)) (keeps_quad_set v w b k t)
-
--- a quad named as another of its height
-pub named-single : (w : Worker) (p q : Quad) → q.name ≡ p.name → p.height ≡ q.height → quad_single w p ≡ true → true ≡ quad_single w q
-named-single w p q e h t =
-    sym t ∙ ap (λ (x : ℕ). quad_single w (record { height = x; name = p.name })) h ∙ ap (λ (x : ℕ). quad_single w (record { height = q.height; name = x })) (sym e)
+    ap (λ f. rows_apart (2 ^ a.height) (2 ^ a.height) f (quad_set w b)) (kept_set v w a k s) ∙ ap (rows_apart (2 ^ a.height) (2 ^ a.height) (quad_set v a)) (kept_set v w b k t)
 
 -- by quarters
 at_height : (w : Worker) (q : Quad) (h : ℕ) → q.height ≡ h → quad_single w q ≡ single_rows (2 ^ h) (2 ^ h) (quad_set w q)
@@ -281,7 +277,7 @@ apart-quarters u v w a b fa fb g h k l s e =
     let y0 = h.nw_height in
     let o : fb.0.height ≡ n = omega (arith, x0, y0, e) in
     let f : quad_set u a ≡ quartered m (quad_set w fa.0) (quad_set w fa.1) (quad_set w fa.2) (quad_set w fa.3) = g.means ∙ four_later fa v w g.nw g.ne g.sw g.se l m in
-    let i : quad_set u b ≡ quartered m (quad_set w fb.0) (quad_set w fb.1) (quad_set w fb.2) (quad_set w fb.3) = sym (keeps_quad_set u v b k s) ∙ h.means ∙ ap (λ (x : ℕ). quartered (2 ^ x) (quad_set w fb.0) (quad_set w fb.1) (quad_set w fb.2) (quad_set w fb.3)) o in
+    let i : quad_set u b ≡ quartered m (quad_set w fb.0) (quad_set w fb.1) (quad_set w fb.2) (quad_set w fb.3) = sym (kept_set u v b k s) ∙ h.means ∙ ap (λ (x : ℕ). quartered (2 ^ x) (quad_set w fb.0) (quad_set w fb.1) (quad_set w fb.2) (quad_set w fb.3)) o in
     ap (λ (x : ℕ). rows_apart x x (quad_set u a) (quad_set u b)) (power-half n a.height x0)
     ∙ ap (λ z. rows_apart (m + m) (m + m) z (quad_set u b)) f ∙ ap (rows_apart (m + m) (m + m) (quartered m (quad_set w fa.0) (quad_set w fa.1) (quad_set w fa.2) (quad_set w fa.3))) i
     ∙ apart-quartered m (quad_set w fa.0) (quad_set w fa.1) (quad_set w fa.2) (quad_set w fa.3) (quad_set w fb.0) (quad_set w fb.1) (quad_set w fb.2) (quad_set w fb.3)
@@ -291,10 +287,10 @@ apart-quarters u v w a b fa fb g h k l s e =
     four_later : (fa : Quad × Quad × Quad × Quad) (v w : Worker) → HasQuad v fa.0 → HasQuad v fa.1 → HasQuad v fa.2 → HasQuad v fa.3 → Keeps v w → (m : ℕ)
         → quartered m (quad_set v fa.0) (quad_set v fa.1) (quad_set v fa.2) (quad_set v fa.3) ≡ quartered m (quad_set w fa.0) (quad_set w fa.1) (quad_set w fa.2) (quad_set w fa.3)
     four_later fa v w p q r t l m =
-        ap (λ z. quartered m z (quad_set v fa.1) (quad_set v fa.2) (quad_set v fa.3)) (sym (keeps_quad_set v w fa.0 l p))
-        ∙ ap (λ z. quartered m (quad_set w fa.0) z (quad_set v fa.2) (quad_set v fa.3)) (sym (keeps_quad_set v w fa.1 l q))
-        ∙ ap (λ z. quartered m (quad_set w fa.0) (quad_set w fa.1) z (quad_set v fa.3)) (sym (keeps_quad_set v w fa.2 l r))
-        ∙ ap (quartered m (quad_set w fa.0) (quad_set w fa.1) (quad_set w fa.2)) (sym (keeps_quad_set v w fa.3 l t))
+        ap (λ z. quartered m z (quad_set v fa.1) (quad_set v fa.2) (quad_set v fa.3)) (sym (kept_set v w fa.0 l p))
+        ∙ ap (λ z. quartered m (quad_set w fa.0) z (quad_set v fa.2) (quad_set v fa.3)) (sym (kept_set v w fa.1 l q))
+        ∙ ap (λ z. quartered m (quad_set w fa.0) (quad_set w fa.1) z (quad_set v fa.3)) (sym (kept_set v w fa.2 l r))
+        ∙ ap (quartered m (quad_set w fa.0) (quad_set w fa.1) (quad_set w fa.2)) (sym (kept_set v w fa.3 l t))
 
     eight : (a0 b0 a1 b1 a2 b2 a3 b3 a4 b4 a5 b5 a6 b6 a7 b7 : Bool) → a0 ≡ b0 → a1 ≡ b1 → a2 ≡ b2 → a3 ≡ b3 → a4 ≡ b4 → a5 ≡ b5 → a6 ≡ b6 → a7 ≡ b7
         → (((a0 && a1) && (a2 && a3)) && ((a4 && a5) && (a6 && a7))) ≡ (((b0 && b1) && (b2 && b3)) && ((b4 && b5) && (b6 && b7)))
@@ -347,7 +343,3 @@ line-two n first t None l h = sym (some_none n (λ j. t j && some_below j t) (λ
       | inr u ↦ false≢true (sym (h k (omega (arith, u, w)) m) ∙ q.0)
     ])))
 line-two n first t (Some k) l h = let a = h.low in sym (twice-from n t first k (omega (arith, a)) h.high l.passes h.passes)
-
--- and has none where no first is found
-pub line-none : (n : ℕ) (t : ℕ → Bool) → IsLeast t 0 n None → false ≡ passes_twice n t
-line-none n t h = sym (some_none n (λ j. t j && some_below j t) (λ k m. ap (λ b. b && some_below k t) (h k (omega arith) m)))

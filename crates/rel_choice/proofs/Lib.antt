@@ -9,4 +9,3 @@ pub mod RowHalves
 pub mod Doubles
 pub mod StepCells
 pub mod StepQuads
-pub mod Causes

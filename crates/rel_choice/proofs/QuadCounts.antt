@@ -14,7 +14,8 @@ use Rattle.rel_model.specs.Worker.{Worker, HasQuad, quad_set, GivesQuad, Keeps}
 use Rattle.rel_choice.specs.Counts.{cells_count, quad_count, AreCounts}
 use Rattle.rel_choice.proofs.Sums.{cells_count-none, cells_count-quartered, cells_count-limit}
 use Rattle.rel_choice.proofs.CellCounts.{bits-count, pairs-count}
-use Rattle.rel_choice.proofs.Standing.{zero_set, keeps_quad, keeps_quad_set, gives_quad, gives_quad_set}
+use Rattle.rel_steps.proofs.Given.{kept_quad, kept_set, gives_has, gives_quad_set}
+use Rattle.rel_choice.proofs.Standing.{zero_set}
 
 -- the quad named 0
 pub none-count : (w : Worker) (q : Quad) → q.name ≡ 0 → w.quad (record { height = q.height; name = 0 }) ≡ Some no_cells → 0 ≡ quad_count w q
@@ -26,7 +27,7 @@ leaf-count w q least bits e h l = bits-count (2 ^ least) bits l ∙ ap (λ f. ce
 
 -- a quad keeps its count
 pub kept-count : (a b : Worker) (q : Quad) → Keeps a b → HasQuad a q → quad_count b q ≡ quad_count a q
-kept-count a b q k s = ap (cells_count (2 ^ q.height) (2 ^ q.height)) (keeps_quad_set a b q k s)
+kept-count a b q k s = ap (cells_count (2 ^ q.height) (2 ^ q.height)) (kept_set a b q k s)
 
 -- the quarters
 pub power-half : (h k : ℕ) → h + 1 ≡ k → 2 ^ k ≡ 2 ^ h + 2 ^ h
@@ -61,7 +62,7 @@ count-limit w q l =
 pub counts-kept : (a b : Worker) (found : ℕ × ℕ → Option ℕ) → AreCounts a found → Keeps a b → AreCounts b found
 counts-kept a b found h k =
     λ height name c e. let s = h height name c e in
-    (keeps_quad a b (record { height = height; name = name }) k s.0, s.1 ∙ sym (kept-count a b (record { height = height; name = name }) k s.0))
+    (kept_quad a b (record { height = height; name = name }) k s.0, s.1 ∙ sym (kept-count a b (record { height = height; name = name }) k s.0))
 
 same_quad : (q : Quad) (h n : ℕ) → q.height ≡ h → q.name ≡ n → q ≡ record { height = h; name = n }
 same_quad q h n a b =
@@ -87,7 +88,7 @@ counts-put w q c old new s e h u = λ height name x f.
 -- one that was counted some calls before
 pub counts-put-later : (v w : Worker) (q : Quad) (c : ℕ) (old new : ℕ × ℕ → Option ℕ) → Keeps v w → HasQuad v q → c ≡ quad_count v q → AreCounts w old
     → ((k : ℕ × ℕ) → new k ≡ cond (eqb q.height k.0 && eqb q.name k.1) (Some c) (old k)) → AreCounts w new
-counts-put-later v w q c old new k s e h u = counts-put w q c old new (keeps_quad v w q k s) (e ∙ sym (kept-count v w q k s)) h u
+counts-put-later v w q c old new k s e h u = counts-put w q c old new (kept_quad v w q k s) (e ∙ sym (kept-count v w q k s)) h u
 
 -- what is found
 pub counts-found : (w : Worker) (q : Quad) (c : ℕ) (found : ℕ × ℕ → Option ℕ) → AreCounts w found → found (q.height, q.name) ≡ Some c → c ≡ quad_count w q
@@ -108,7 +109,7 @@ pub empty-name : (w : Worker) (r : Relation) (h : ℕ) (q : Quad) → length r.p
     → (HasQuad w q → HasQuad w (record { height = q.height; name = 0 }) → q.height ≡ q.height → quad_set w q ≡ quad_set w (record { height = q.height; name = 0 }) → q.name ≡ 0) → q.name ≡ 0
 empty-name w r h q e g z one =
     let none : has r ≡ no_cells = ap (λ (ps : List (ℕ × ℕ)). has (record { rows = r.rows; cols = r.cols; pairs = ps })) (no-pair r.pairs e) in
-    one (gives_quad w h (has r) q g) (subst IsSome (sym z) refl) refl (gives_quad_set w h (has r) q g ∙ none ∙ sym (ap (λ o. unwrap_or o no_cells) z))
+    one (gives_has w h (has r) q g) (subst IsSome (sym z) refl) refl (gives_quad_set w h (has r) q g ∙ none ∙ sym (ap (λ o. unwrap_or o no_cells) z))
 
 some_more : (n m : ℕ) → (n ≡ 0 → m ≡ 0) → 0 < m → 0 < n
 some_more zero m f l = absurd (omega (arith, f refl, l))

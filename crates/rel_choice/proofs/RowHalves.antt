@@ -10,7 +10,8 @@ use Rattle.rel_model.specs.Quarters.{GivesQuarters}
 use Rattle.rel_model.specs.Worker.{Worker, quad_set, Keeps}
 use Rattle.rel_model.proofs.Somes.{some_from, some_none}
 use Rattle.rel_choice.specs.Leasts.{Least, IsLeast, row_meets, row_meets_either}
-use Rattle.rel_choice.proofs.Standing.{zero_set, keeps_quad_set}
+use Rattle.rel_steps.proofs.Given.{kept_set}
+use Rattle.rel_choice.proofs.Standing.{zero_set}
 use Rattle.rel_choice.proofs.QuadCounts.{power-half}
 use Rattle.rel_choice.proofs.Nearest.{row_meets-north, row_meets-south, row_meets-none, least-first, least-second, least-neither}
 
@@ -57,8 +58,8 @@ south_rows old new later q four g k x =
     let b = g.sw_height in
     let e : four.2.height ≡ four.0.height = omega (arith, a, b) in
     ap (λ (h : ℕ). row_meets_either (2 ^ h) (quad_set later four.2) (quad_set later four.3) x) e
-    ∙ ap (λ f. row_meets_either (2 ^ four.0.height) f (quad_set later four.3) x) (keeps_quad_set new later four.2 k g.sw)
-    ∙ ap (λ f. row_meets_either (2 ^ four.0.height) (quad_set new four.2) f x) (keeps_quad_set new later four.3 k g.se)
+    ∙ ap (λ f. row_meets_either (2 ^ four.0.height) f (quad_set later four.3) x) (kept_set new later four.2 k g.sw)
+    ∙ ap (λ f. row_meets_either (2 ^ four.0.height) (quad_set new four.2) f x) (kept_set new later four.3 k g.se)
 
 -- ---- the least row
 pub row-first : (old new : Worker) (q : Quad) (four : Quad × Quad × Quad × Quad) (half from below cut k : ℕ) → GivesQuarters old new q four → half ≡ 2 ^ four.0.height → cut ≡ min below half

@@ -16,7 +16,7 @@ use Rattle.rel_model.proofs.Heights.{power_up, height_of-covers, height_of-least
 use Rattle.rel_model.proofs.Workers.{gives_set}
 use Rattle.rel_choice.specs.declared.stepping.Steps.{Steps}
 use Rattle.rel_choice.specs.Steps.{step_cells, carry_cells, GivesSteps, step_room}
-use Rattle.rel_choice.proofs.Standing.{gives_quad, gives_quad_set, keeps_quad_set}
+use Rattle.rel_steps.proofs.Given.{gives_has, gives_quad_set, kept_set}
 use Rattle.rel_choice.proofs.QuadCounts.{power-half}
 use Rattle.rel_choice.proofs.StepCells.{steps-quartered, carry-quartered}
 
@@ -26,7 +26,7 @@ gives_as : (w : Worker) (h k : ℕ) (f g : Cells) (q : Quad) → h ≡ k → f �
 gives_as w h k f g q e d x = record { means = x.means ∙ ap (λ (z : Cells). Some z) d; same_height = x.same_height ∙ e }
 
 keeps_given : (v w : Worker) (h : ℕ) (f : Cells) (q : Quad) → Keeps v w → GivesQuad v h f q → GivesQuad w h f q
-keeps_given v w h f q k g = record { means = k.same_quads q (gives_quad v h f q g) ∙ g.means; same_height = g.same_height }
+keeps_given v w h f q k g = record { means = k.same_quads q (gives_has v h f q g) ∙ g.means; same_height = g.same_height }
 
 pub steps-next : (u v w : Worker) (height : ℕ) (below : Steps) (none whole carry : Quad) → 1 ≤ height → GivesSteps u (height - 1) below → GivesQuad u (height - 1) no_cells none → Keeps u v → Keeps v w
     → GivesQuad v (below.whole.height + 1) (quartered (2 ^ below.whole.height) (quad_set u below.whole) (quad_set u none) (quad_set u below.carry) (quad_set u below.whole)) whole
@@ -50,10 +50,10 @@ steps-next u v w height below none whole carry l s n k p a b = record {
     doubled = power-half (height - 1) height (omega (arith, l))
 
     none_later : quad_set v none ≡ no_cells
-    none_later = keeps_quad_set u v none k (gives_quad u (height - 1) no_cells none n) ∙ gives_quad_set u (height - 1) no_cells none n
+    none_later = kept_set u v none k (gives_has u (height - 1) no_cells none n) ∙ gives_quad_set u (height - 1) no_cells none n
 
     carry_later : quad_set v below.carry ≡ carry_cells m
-    carry_later = keeps_quad_set u v below.carry k (gives_quad u (height - 1) (carry_cells m) below.carry s.carry) ∙ gives_quad_set u (height - 1) (carry_cells m) below.carry s.carry
+    carry_later = kept_set u v below.carry k (gives_has u (height - 1) (carry_cells m) below.carry s.carry) ∙ gives_quad_set u (height - 1) (carry_cells m) below.carry s.carry
 
     whole_set : quartered (2 ^ below.whole.height) (quad_set u below.whole) (quad_set u none) (quad_set u below.carry) (quad_set u below.whole) ≡ step_cells (2 ^ height)
     whole_set =
@@ -88,7 +88,7 @@ pub cut-set : (u v w : Worker) (n side h k : ℕ) (all whole within cut : Rel) (
     → quad_set w quad ≡ has (inter (relation_of side side (step_cells side)) (relation_of side side (has (full n n))))
 cut-set u v w n side h k all whole within cut bound quad steps e p a b s x y z q =
     let steps_set : quad_set v steps.whole ≡ step_cells side = gives_quad_set v h (step_cells (2 ^ h)) steps.whole s.whole ∙ ap step_cells (sym e) in
-    let bound_set : quad_set v bound ≡ has (full n n) = keeps_quad_set u v bound p (gives_quad u h (has (set_of u all)) bound b) ∙ gives_quad_set u h (has (set_of u all)) bound b ∙ ap has (gives_set u n n (full n n) all a) in
+    let bound_set : quad_set v bound ≡ has (full n n) = kept_set u v bound p (gives_has u h (has (set_of u all)) bound b) ∙ gives_quad_set u h (has (set_of u all)) bound b ∙ ap has (gives_set u n n (full n n) all a) in
     let whole_set : set_of v whole ≡ relation_of side side (step_cells side) = gives_set v side side (relation_of side side (quad_set v steps.whole)) whole x ∙ ap (relation_of side side) steps_set in
     let within_set : set_of v within ≡ relation_of side side (has (full n n)) = gives_set v side side (relation_of side side (quad_set v bound)) within y ∙ ap (relation_of side side) bound_set in
     gives_quad_set w k (has (set_of w cut)) quad q ∙ ap has (gives_set w whole.rows whole.cols (inter (set_of v whole) (set_of v within)) cut z)

@@ -11,13 +11,14 @@ use Rattle.rel_model.specs.Relation.{Relation, has, size_limit}
 use Rattle.rel_model.specs.Operators.{empty, single, union, compose, identity}
 use Rattle.rel_model.specs.Closures.{walks_within, transitive_closure, reflexive_closure}
 use Rattle.rel_model.specs.Algebra.{HasType}
-use Rattle.rel_model.specs.Worker.{Worker, Stands, set_of, Gives, Keeps, height_of, operator_room, derived_room, height_of_three}
+use Rattle.rel_model.specs.Worker.{Worker, Stands, set_of, Gives, Keeps, height_of, operator_room, derived_room, height_of_three, product_room}
 use Rattle.rel_model.proofs.Somes.{same_truth}
 use Rattle.rel_model.proofs.Workers.{stands_some, gives_set, gives_stands, keeps_set, keeps_gives, keeps_trans}
 use Rattle.rel_model.proofs.Relations.{relation_of-agree}
 use Rattle.rel_model.proofs.Members.{inside, type-test, in_test, from_test, one_relation, type-union, in_union, left_union, right_union}
 use Rattle.rel_model.proofs.Heights.{height_of-covers}
-use Rattle.rel_model.proofs.Rooms.{derived_room-least}
+use Rattle.rel_steps.proofs.Rooms.{as_high}
+use Rattle.rel_model.proofs.Rooms.{derived_room-least, product_room-most, operator_room-most}
 use Rattle.rel_model.proofs.Walking.{walks_within-one, walks_within-double, walks_within-enough, walks_within-still, reflexive-union}
 use Rattle.rel_closure.specs.Diagonal.{diagonal}
 
@@ -140,10 +141,6 @@ pub first_given : (w : Worker) (r : Rel) → HasType r.rows r.rows (set_of w r) 
 first_given w r t s = record { means = stands_some w r s ∙ ap Some (sym (walks_within-one r.rows (set_of w r) t)); row_size = refl; col_size = refl }
 
 -- ---- rooms
--- an equal size has no greater height
-pub as_high : (x y h : ℕ) → x ≡ y → height_of y ≤ h → height_of x ≤ h
-as_high x y h e l = subst (λ (z : ℕ). height_of z ≤ h) (sym e) l
-
 -- both halves and their union
 pub halves_room : (a b count x : ℕ) → 0 < a → 0 < b → a + b ≡ count → (a + a - 1) * x + (b + b - 1) * x + x ≤ (count + count - 1) * x
 halves_room a b count x p q e =
@@ -186,6 +183,27 @@ fewer_rounds d n l p = elim (cases_lt d (height_of n)) [
   | inl b ↦ omega (arith, b)
   | inr g ↦ let q = height_of-covers n l in let u = pow-le-pow_right {n = 2} (omega arith) {i = height_of n} {j = d} g in absurd (omega (arith, p, q, u))
 ]
+
+-- what one more round has room for
+pub record Round (d n : ℕ) (rows cols : ℕ) : Type 0 where
+  pub fewer : d + 1 ≤ height_of n
+  pub next : (old now mid new : ℕ) → now ≤ old + d * (20 * 8 ^ height_of n) → mid ≤ now + product_room rows cols cols → new ≤ mid + operator_room rows cols → new ≤ old + (d + 1) * (20 * 8 ^ height_of n)
+  pub room : (old now mid new : ℕ) → now ≤ old + d * (20 * 8 ^ height_of n) → mid ≤ now + product_room rows cols cols → new ≤ mid + operator_room rows cols → new ≤ old + derived_room n n n
+
+pub round_of : (d n reach rows cols : ℕ) → n ≤ size_limit → 2 ^ d ≡ reach → reach < n → rows ≡ n → cols ≡ n → Round d n rows cols
+round_of d n reach rows cols limit power under er ec =
+    let h : ℕ = height_of n in
+    let fewer = fewer_rounds d n limit (omega (arith, power, under)) in
+    let wr = as_high rows n h er (omega arith) in
+    let wc = as_high cols n h ec (omega arith) in
+    let u1 = product_room-most rows cols cols h wr wc wc in
+    let u2 = operator_room-most rows cols h wr wc in
+    let all = rounds_room (d + 1) n fewer in
+    record {
+      fewer = fewer;
+      next = λ old now mid new a b c. round_room d h old now mid new a (omega (arith, b, u1)) (omega (arith, c, u2));
+      room = λ old now mid new a b c. let r = round_room d h old now mid new a (omega (arith, b, u1)) (omega (arith, c, u2)) in omega (arith, r, all);
+    }
 
 -- one more step doubles
 pub next_power : (old steps reach : ℕ) → old ≤ steps → 2 ^ (steps - old) ≡ reach → 2 ^ (steps + 1 - old) ≡ reach + reach

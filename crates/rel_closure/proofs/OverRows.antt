@@ -3,7 +3,7 @@
 -- 2. A gathering makes the quad of a window of rows: the corner of the quads of its quarters, or a block, or the quad named 0.
 -- 3. The rows of a quad alone, closed, hold the least transitive set over its cells, which lies within its square and is its closure.
 -- 4. One tree has room where a closure has.
-use Rattle.std.proofs.Common.{◌≡◌, ◌<◌, ◌≤◌, ◌+◌, ◌-◌, ◌*◌, ◌%◌, ◌^◌, ◌∙◌, suc, ℕ, Some, refl, sym, ap, subst, arith}
+use Rattle.std.proofs.Common.{◌≡◌, ◌<◌, ◌≤◌, ◌+◌, ◌-◌, ◌*◌, ◌%◌, ◌^◌, ◌∙◌, suc, ℕ, Some, refl, sym, ap, subst, arith, ◌⊎◌, ◌≢◌, inl, inr}
 use Rattle.std.specs.Prelude.{unwrap_or}
 use Rattle.std.proofs.Math.Nat.{pow-suc, one-le-pow, pow-le-pow_left, pow-le-pow_right}
 use Rattle.rel_model.specs.declared.Quad.{Quad}
@@ -17,10 +17,12 @@ use Rattle.rel_model.proofs.Workers.{keeps_itself, keeps_trans}
 use Rattle.bit_rows.specs.Places.{placed, window}
 use Rattle.bit_rows.specs.Closing.{IsClosure}
 use Rattle.bit_rows.proofs.Windows.{four_placed, window-quartered, union_none, spilled_alone, window_whole, closure_within}
+use Rattle.rel_steps.proofs.Given.{AreParts}
 use Rattle.rel_closure.specs.ByQuarters.{cells_closure}
 use Rattle.rel_closure.specs.Reading.{OnlyReads}
 use Rattle.rel_closure.proofs.Quartering.{one_closure, closure_is}
-use Rattle.rel_closure.proofs.OverQuads.{gives_quad_set, gives_has, kept_set, double_side}
+use Rattle.rel_steps.proofs.Given.{kept_set}
+use Rattle.rel_closure.proofs.OverQuads.{double_side}
 
 -- ---- sides
 pub side_by_8 : (h : ℕ) → 3 ≤ h → 2 ^ h % 8 ≡ 0
@@ -33,6 +35,28 @@ side_by_8 h l =
 -- half a side over blocks is whole blocks
 pub half_on : (least h m : ℕ) → least ≡ 3 → least ≤ h → m ≡ 2 ^ h → m % 8 ≡ 0
 half_on least h m e l f = ap (λ (x : ℕ). x % 8) f ∙ side_by_8 h (omega (arith, e, l))
+
+-- a square of a height lies within 256 rows and columns, from a row and a byte's first column on
+pub record FitsRows (h row col : ℕ) : Type 0 where
+  pub row_in : row + 2 ^ h ≤ 256
+  pub col_in : col + 2 ^ h ≤ 256
+  pub col_on : col % 8 ≡ 0
+
+-- and so does each of its quarters
+pub fits : (h k y half row col r c : ℕ) → 3 ≤ k → k + 1 ≡ h → y + 1 ≡ h → half ≡ 2 ^ k → row + 2 ^ h ≤ 256 → col + 2 ^ h ≤ 256 → col % 8 ≡ 0 → (r ≡ row) ⊎ (r ≡ row + half) → (c ≡ col) ⊎ (c ≡ col + half) → FitsRows y r c
+fits h k y half row col r c l e d s ri ci co er ec =
+    let first = double_side k h e in
+    let here = double_side y h d in
+    let by = side_by_8 k l in
+    record {
+      row_in = elim er [ inl x ↦ omega arith | inr x ↦ omega arith ];
+      col_in = elim ec [ inl x ↦ omega arith | inr x ↦ omega arith ];
+      col_on = elim ec [ inl x ↦ omega arith | inr x ↦ omega arith ];
+    }
+
+-- over the leaves
+pub over_leaf : (h b least : ℕ) → h ≢ b → b ≡ least → least ≡ 3 → 3 ≤ h → 3 < h
+over_leaf h b least n e d l = omega arith
 
 -- heights of rows
 pub below_top : (h : ℕ) → h ≤ 8 → h ≤ top_height
@@ -108,37 +132,14 @@ spilled_four w0 w1 w2 w3 w4 q four r c m z0 z1 z2 z3 z4 a square e k12 k23 k34 f
     here p f w h = within_square m f (subst (λ (n : ℕ). LiesWithin n n f) (ap (λ (k : ℕ). 2 ^ k) h ∙ sym e) w)
 
 -- ---- the quad of a window
-pub gathered_value : (w1 w2 w3 w4 w5 : Worker) (h r c m : ℕ) (f : Cells) (nw ne sw se all : Quad) → 3 < h → m ≡ 2 ^ (h - 1)
-    → Keeps w1 w2 → Keeps w2 w3 → Keeps w3 w4
-    → GivesQuad w1 (h - 1) (window r c (2 ^ (h - 1)) f) nw → GivesQuad w2 (h - 1) (window r (c + m) (2 ^ (h - 1)) f) ne
-    → GivesQuad w3 (h - 1) (window (r + m) c (2 ^ (h - 1)) f) sw → GivesQuad w4 (h - 1) (window (r + m) (c + m) (2 ^ (h - 1)) f) se
-    → GivesQuad w5 (nw.height + 1) (quartered (2 ^ nw.height) (quad_set w4 nw) (quad_set w4 ne) (quad_set w4 sw) (quad_set w4 se)) all
-    → GivesQuad w5 h (window r c (2 ^ h) f) all
-gathered_value w1 w2 w3 w4 w5 h r c m f nw ne sw se all l e k12 k23 k34 g0 g1 g2 g3 g =
-    let k24 = keeps_trans w2 w3 w4 k23 k34 in
-    let k14 = keeps_trans w1 w2 w4 k12 k24 in
+pub gathered_parts : (h r c m : ℕ) (f : Cells) → 3 < h → m ≡ 2 ^ (h - 1) → let n : ℕ = 2 ^ (h - 1) in AreParts h (window r c (2 ^ h) f) (h - 1) (window r c n f) (window r (c + m) n f) (window (r + m) c n f) (window (r + m) (c + m) n f)
+gathered_parts h r c m f l e =
     let n : ℕ = 2 ^ (h - 1) in
-    let A : Cells = window r c n f in
-    let B : Cells = window r (c + m) n f in
-    let C : Cells = window (r + m) c n f in
-    let D : Cells = window (r + m) (c + m) n f in
-    let e0 : quad_set w4 nw ≡ A = kept_set w1 w4 nw k14 (gives_has w1 _ _ nw g0) ∙ gives_quad_set w1 _ _ nw g0 in
-    let e1 : quad_set w4 ne ≡ B = kept_set w2 w4 ne k24 (gives_has w2 _ _ ne g1) ∙ gives_quad_set w2 _ _ ne g1 in
-    let e2 : quad_set w4 sw ≡ C = kept_set w3 w4 sw k34 (gives_has w3 _ _ sw g2) ∙ gives_quad_set w3 _ _ sw g2 in
-    let e3 : quad_set w4 se ≡ D = gives_quad_set w4 _ _ se g3 in
     let one : h - 1 + 1 ≡ h = omega (arith, l) in
-    let same : quartered n A B C D ≡ window r c (2 ^ h) f =
-    ap (λ (k : ℕ). quartered n A (window r (c + k) n f) (window (r + k) c n f) (window (r + k) (c + k) n f)) e
-    ∙ sym (window-quartered n r c f) ∙ ap (λ (k : ℕ). window r c k f) (sym (double_side (h - 1) h one)) in
     record {
-      means = g.means
-          ∙ ap (λ (k : ℕ). Some (quartered (2 ^ k) (quad_set w4 nw) (quad_set w4 ne) (quad_set w4 sw) (quad_set w4 se))) g0.same_height
-          ∙ ap (λ (x : Cells). Some (quartered n x (quad_set w4 ne) (quad_set w4 sw) (quad_set w4 se))) e0
-          ∙ ap (λ (x : Cells). Some (quartered n A x (quad_set w4 sw) (quad_set w4 se))) e1
-          ∙ ap (λ (x : Cells). Some (quartered n A B x (quad_set w4 se))) e2
-          ∙ ap (λ (x : Cells). Some (quartered n A B C x)) e3
-          ∙ ap (λ (x : Cells). Some x) same;
-      same_height = g.same_height ∙ ap (λ (k : ℕ). k + 1) g0.same_height ∙ one;
+      next = one;
+      means = ap (λ (k : ℕ). quartered n (window r c n f) (window r (c + k) n f) (window (r + k) c n f) (window (r + k) (c + k) n f)) e
+          ∙ sym (window-quartered n r c f) ∙ ap (λ (k : ℕ). window r c k f) (sym (double_side (h - 1) h one));
     }
 
 -- a window with no cell

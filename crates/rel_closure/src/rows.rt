@@ -3,6 +3,7 @@ ghost use Rattle.std.specs.Prelude.{◌≡◌, ◌≤◌, ◌+◌, ◌-◌, ◌^
 ghost use Rattle.rel_model.specs.Cells.{cells_union};
 ghost use Rattle.rel_model.specs.Roots.{tree_room};
 ghost use Rattle.rel_model.specs.Worker.{HasQuad, quad_set, GivesQuad, Keeps, MakesAtMost, HasCause};
+ghost use Rattle.rel_steps.specs.Making.{MakesQuad};
 ghost use Rattle.bit_rows.specs.Rows.{rows_cells};
 ghost use Rattle.bit_rows.specs.Places.{placed, window};
 ghost use Rattle.rel_closure.specs.ByQuarters.{cells_closure};
@@ -57,11 +58,8 @@ fn gather<Q: Quads>(
     requires row_in { row + 2 ^ height ≤ 256 }
     requires col_in { col + 2 ^ height ≤ 256 }
     requires col_on { col % 8 ≡ 0 }
-    ensures value { IfOk result (GivesQuad (Q.worker quads.new) height
-        (window row col (2 ^ height) (rows_cells z.now))) }
-    ensures keeps { Keeps (Q.worker quads.old) (Q.worker quads.new) }
-    ensures room { MakesAtMost (tree_room (height - 3)) (Q.worker quads.old) (Q.worker quads.new) }
-    ensures cause { HasCause Q.lean (Q.worker quads.old) (Q.worker quads.new) result }
+    ensures { MakesQuad Q.lean (tree_room (height - 3)) height (window row col (2 ^ height) (rows_cells z.now))
+        (Q.worker quads.old) (Q.worker quads.new) result }
 {
     if height == quads.bottom() {
         let block = quads.block(block_at(z, row, col))?;

@@ -3,4 +3,6 @@ pub mod Multiplying
 pub mod Finding
 pub mod Fitting
 pub mod Summing
+pub mod FourSums
 pub mod Joining
+pub mod Coming

@@ -4,7 +4,8 @@ ghost use Rattle.std.specs.Prelude.{◌≡◌, ◌<◌, ◌≤◌, IfOk};
 ghost use Rattle.rel_model.specs.Cells.{cells_union, cells_compose};
 ghost use Rattle.rel_model.specs.Trees.{bottom_height};
 ghost use Rattle.rel_model.specs.Equations.{side_of};
-ghost use Rattle.rel_model.specs.Quads.{Keeper, QuadStands, IsQuad, quad_cells, KeepsQuads, ReadsQuads, Counts, quad_room};
+ghost use Rattle.rel_model.specs.Quads.{Keeper, QuadStands, quad_cells, ReadsQuads, quad_room};
+ghost use Rattle.quad_nodes.specs.Making.{MakesQuad};
 
 use crate::dense::{TALLEST, joins_pay, sums_pay};
 use crate::product::both_full;
@@ -66,10 +67,8 @@ fn joined_small(nodes: &mut Nodes, x: Quad, y: Quad, z: Quad) -> Result<Quad, Mi
     requires y_height { y.height ≡ x.height }
     requires z_height { z.height ≡ x.height }
     requires small { side_of x.height ≤ 256 }
-    ensures value { IfOk result (IsQuad nodes.new x.height (cells_union (quad_cells nodes.old x)
-        (cells_compose (side_of x.height) (quad_cells nodes.old y) (quad_cells nodes.old z)))) }
-    ensures keeps { KeepsQuads (quad_room x.height) nodes.old nodes.new }
-    ensures counts { Counts nodes.old nodes.new result }
+    ensures { MakesQuad (quad_room x.height) x.height (cells_union (quad_cells nodes.old x)
+        (cells_compose (side_of x.height) (quad_cells nodes.old y) (quad_cells nodes.old z))) nodes.old nodes.new result }
 {
     let mut sum = no_rows();
     spill_quad(nodes, x, &mut sum, 0, 0);
@@ -85,10 +84,8 @@ pub fn joined_by_rows(nodes: &mut Nodes, x: Quad, y: Quad, z: Quad) -> Result<Qu
     requires z_stands { QuadStands nodes.old z }
     requires y_height { y.height ≡ x.height }
     requires z_height { z.height ≡ x.height }
-    ensures value { IfOk result (IsQuad nodes.new x.height (cells_union (quad_cells nodes.old x)
-        (cells_compose (side_of x.height) (quad_cells nodes.old y) (quad_cells nodes.old z)))) }
-    ensures keeps { KeepsQuads (quad_room x.height) nodes.old nodes.new }
-    ensures counts { Counts nodes.old nodes.new result }
+    ensures { MakesQuad (quad_room x.height) x.height (cells_union (quad_cells nodes.old x)
+        (cells_compose (side_of x.height) (quad_cells nodes.old y) (quad_cells nodes.old z))) nodes.old nodes.new result }
 {
     let _ = nodes.bottom();
     if x.height <= 8 {

@@ -5,6 +5,7 @@ ghost use Rattle.rel_model.specs.Cells.{cells_union, cells_compose};
 ghost use Rattle.rel_model.specs.Trees.{top_height};
 ghost use Rattle.rel_model.specs.Equations.{side_of};
 ghost use Rattle.rel_model.specs.Quads.{Keeper, QuadStands, IsQuad, quad_cells, KeepsQuads, ReadsQuads, Counts, quad_room, compose_room};
+ghost use Rattle.quad_nodes.specs.Making.{MakesQuad};
 ghost use Rattle.bit_rows.specs.Rows.{rows_cells};
 ghost use Rattle.bit_rows.specs.Places.{window};
 ghost use Rattle.row_quads.specs.Adding.{AreWhole};
@@ -77,10 +78,8 @@ fn sum_at(nodes: &mut Nodes, x: Quad, a: Quad, b: Quad, row: u32, col: u32) -> R
     requires col_on { col % 256 ≡ 0 }
     requires row_in { row < side_of a.height }
     requires col_in { col < side_of a.height }
-    ensures value { IfOk result (IsQuad nodes.new 8 (cells_union (quad_cells nodes.old x) (window row col (side_of 8)
-        (cells_compose (side_of a.height) (quad_cells nodes.old a) (quad_cells nodes.old b))))) }
-    ensures keeps { KeepsQuads (quad_room 8) nodes.old nodes.new }
-    ensures counts { Counts nodes.old nodes.new result }
+    ensures { MakesQuad (quad_room 8) 8 (cells_union (quad_cells nodes.old x) (window row col (side_of 8)
+        (cells_compose (side_of a.height) (quad_cells nodes.old a) (quad_cells nodes.old b)))) nodes.old nodes.new result }
 {
     let mut z = no_rows();
     spill_quad(nodes, x, &mut z, 0, 0);
@@ -161,10 +160,8 @@ fn four_sums_at(
     requires col_on { col % 512 ≡ 0 }
     requires row_in { row < side_of a.height }
     requires col_in { col < side_of a.height }
-    ensures value { IfOk result (IsQuad nodes.new 9 (cells_union (quad_cells nodes.old x) (window row col (side_of 9)
-        (cells_compose (side_of a.height) (quad_cells nodes.old a) (quad_cells nodes.old b))))) }
-    ensures keeps { KeepsQuads (quad_room 9) nodes.old nodes.new }
-    ensures counts { Counts nodes.old nodes.new result }
+    ensures { MakesQuad (quad_room 9) 9 (cells_union (quad_cells nodes.old x) (window row col (side_of 9)
+        (cells_compose (side_of a.height) (quad_cells nodes.old a) (quad_cells nodes.old b)))) nodes.old nodes.new result }
 {
     let four = nodes.quarters(x);
     let mut z = Squares {
@@ -210,11 +207,9 @@ pub(crate) fn summed_quad(
     requires col_on { col % 256 ≡ 0 }
     requires row_in { row + side_of x.height ≤ side_of a.height }
     requires col_in { col + side_of x.height ≤ side_of a.height }
-    ensures value { IfOk result (IsQuad nodes.new x.height (cells_union (quad_cells nodes.old x)
+    ensures { MakesQuad (quad_room x.height) x.height (cells_union (quad_cells nodes.old x)
         (window row col (side_of x.height)
-        (cells_compose (side_of a.height) (quad_cells nodes.old a) (quad_cells nodes.old b))))) }
-    ensures keeps { KeepsQuads (quad_room x.height) nodes.old nodes.new }
-    ensures counts { Counts nodes.old nodes.new result }
+        (cells_compose (side_of a.height) (quad_cells nodes.old a) (quad_cells nodes.old b)))) nodes.old nodes.new result }
 {
     let _ = nodes.bottom();
     if x.height == 8 {
@@ -250,10 +245,8 @@ pub(crate) fn product_window(
     requires col_on { col % 256 ≡ 0 }
     requires row_in { row + side_of height ≤ side_of a.height }
     requires col_in { col + side_of height ≤ side_of a.height }
-    ensures value { IfOk result (IsQuad nodes.new height (window row col (side_of height)
-        (cells_compose (side_of a.height) (quad_cells nodes.old a) (quad_cells nodes.old b)))) }
-    ensures keeps { KeepsQuads (quad_room height) nodes.old nodes.new }
-    ensures counts { Counts nodes.old nodes.new result }
+    ensures { MakesQuad (quad_room height) height (window row col (side_of height)
+        (cells_compose (side_of a.height) (quad_cells nodes.old a) (quad_cells nodes.old b))) nodes.old nodes.new result }
 {
     let _ = nodes.bottom();
     let none = Quad { height, name: 0 };

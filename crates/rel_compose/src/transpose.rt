@@ -1,9 +1,9 @@
 //! The transposition, by quarters, and by blocks where that pays.
-ghost use Rattle.std.specs.Prelude.{◌≡◌, ◌<◌, IfOk};
+ghost use Rattle.std.specs.Prelude.{◌≡◌, ◌<◌};
 ghost use Rattle.rel_model.specs.Cells.{cells_transpose};
 ghost use Rattle.rel_model.specs.Trees.{bottom_height};
-ghost use Rattle.rel_model.specs.Quads.{Keeper, QuadStands, IsQuad, quad_cells, KeepsQuads, Counts, quad_room};
-ghost use Rattle.quad_nodes.specs.Finding.{FindsQuad};
+ghost use Rattle.rel_model.specs.Quads.{Keeper, QuadStands, quad_cells, quad_room};
+ghost use Rattle.quad_nodes.specs.Making.{MakesQuad};
 
 use leaf_block::block_transpose;
 use memo_laws::Op;
@@ -16,10 +16,8 @@ use tree_blocks::{blocks_pay, gather_blocks, spill_turned};
 #[cycle(transposing)]
 pub fn transpose_quad(nodes: &mut Nodes, a: Quad) -> Result<Quad, Missed>
     requires stands { QuadStands nodes.old a }
-    ensures value { IfOk result (IsQuad nodes.new a.height (cells_transpose (quad_cells nodes.old a))) }
-    ensures stood { FindsQuad nodes.old nodes.new a.height (cells_transpose (quad_cells nodes.old a)) result }
-    ensures keeps { KeepsQuads (quad_room a.height) nodes.old nodes.new }
-    ensures counts { Counts nodes.old nodes.new result }
+    ensures { MakesQuad (quad_room a.height) a.height (cells_transpose (quad_cells nodes.old a))
+        nodes.old nodes.new result }
 {
     let bottom = nodes.bottom();
     if a.name == 0 {
@@ -41,10 +39,8 @@ pub fn transpose_quad(nodes: &mut Nodes, a: Quad) -> Result<Quad, Missed>
 fn transposed_over(nodes: &mut Nodes, a: Quad) -> Result<Quad, Missed>
     requires stands { QuadStands nodes.old a }
     requires over { bottom_height < a.height }
-    ensures value { IfOk result (IsQuad nodes.new a.height (cells_transpose (quad_cells nodes.old a))) }
-    ensures stood { FindsQuad nodes.old nodes.new a.height (cells_transpose (quad_cells nodes.old a)) result }
-    ensures keeps { KeepsQuads (quad_room a.height) nodes.old nodes.new }
-    ensures counts { Counts nodes.old nodes.new result }
+    ensures { MakesQuad (quad_room a.height) a.height (cells_transpose (quad_cells nodes.old a))
+        nodes.old nodes.new result }
 {
     let none = Quad {
         height: a.height,
@@ -66,10 +62,8 @@ fn transposed_over(nodes: &mut Nodes, a: Quad) -> Result<Quad, Missed>
 fn transposed_by_blocks(nodes: &mut Nodes, a: Quad) -> Result<Quad, Missed>
     requires stands { QuadStands nodes.old a }
     requires rows { a.height ≡ 8 }
-    ensures value { IfOk result (IsQuad nodes.new a.height (cells_transpose (quad_cells nodes.old a))) }
-    ensures stood { FindsQuad nodes.old nodes.new a.height (cells_transpose (quad_cells nodes.old a)) result }
-    ensures keeps { KeepsQuads (quad_room a.height) nodes.old nodes.new }
-    ensures counts { Counts nodes.old nodes.new result }
+    ensures { MakesQuad (quad_room a.height) a.height (cells_transpose (quad_cells nodes.old a))
+        nodes.old nodes.new result }
 {
     let _ = nodes.bottom();
     let mut blocks = [0u64; 1024];
@@ -88,10 +82,8 @@ fn transposed_by_blocks(nodes: &mut Nodes, a: Quad) -> Result<Quad, Missed>
 fn transposed_by_quarters(nodes: &mut Nodes, a: Quad) -> Result<Quad, Missed>
     requires stands { QuadStands nodes.old a }
     requires over { bottom_height < a.height }
-    ensures value { IfOk result (IsQuad nodes.new a.height (cells_transpose (quad_cells nodes.old a))) }
-    ensures stood { FindsQuad nodes.old nodes.new a.height (cells_transpose (quad_cells nodes.old a)) result }
-    ensures keeps { KeepsQuads (quad_room a.height) nodes.old nodes.new }
-    ensures counts { Counts nodes.old nodes.new result }
+    ensures { MakesQuad (quad_room a.height) a.height (cells_transpose (quad_cells nodes.old a))
+        nodes.old nodes.new result }
 {
     let none = Quad {
         height: a.height,

@@ -1,6 +1,6 @@
 -- The halves of a vector, as a worker keeps them, and the square of its ranks from those of its halves.
 use Rattle.std.proofs.Common.{◌≡◌, ◌≢◌, ◌<◌, ◌≤◌, ◌+◌, ◌-◌, ◌^◌, ◌∙◌, ◌&&◌, eqb, ltb, ℕ, Bool, true, refl, sym, ap, subst, arith, Some}
-use Rattle.std.specs.Prelude.{unwrap_or, Option, IsSome}
+use Rattle.std.specs.Prelude.{unwrap_or}
 use Rattle.std.proofs.Math.Pow.{pow_mono}
 use Rattle.std.proofs.lemmas.Nat.{pow_pos}
 use Rattle.std.proofs.lemmas.Bool.{lt-ltb, and_parts, eqb-true, ltb-true}
@@ -19,17 +19,10 @@ use Rattle.rel_model.proofs.Members.{inside}
 use Rattle.rel_model.proofs.TreeLaws.{same_cells}
 use Rattle.rel_domains.specs.Ranks.{first_column, ranked}
 use Rattle.rel_domains.proofs.Places.{side_step}
-use Rattle.rel_domains.proofs.Quartering.{gives_set, gives_later}
+use Rattle.rel_steps.proofs.Given.{gives_quad_set, gives_later, kept_set, kept_quad}
 use Rattle.rel_domains.proofs.Ranking.{count-most, count-none, count-past, count-beyond, count-halves, ranked-quartered}
 use Rattle.rel_domains.proofs.Repeats.{both_more}
 use Rattle.rel_domains.proofs.Windows.{corner_of}
-
--- ---- quads
-pub kept_set : (v w : Worker) (q : Quad) → Keeps v w → HasQuad v q → quad_set w q ≡ quad_set v q
-kept_set v w q k h = ap (λ o. unwrap_or o no_cells) (k.same_quads q h)
-
-pub kept_quad : (v w : Worker) (q : Quad) → Keeps v w → HasQuad v q → HasQuad w q
-kept_quad v w q k h = subst (λ (o : Option Cells). IsSome o) (sym (k.same_quads q h)) h
 
 -- a quad named 0
 pub none_set : (w : Worker) (q : Quad) → w.quad (record { height = q.height; name = 0 }) ≡ Some no_cells → q.name ≡ 0 → quad_set w q ≡ no_cells
@@ -204,7 +197,7 @@ module _ (least many m : ℕ) (v : Relation) (valid : IsRelation v) (rows : v.ro
 
   pub inj_given : (w : Worker) (q : Quad) (rel : Rel) → GivesQuad w h (ranked (2 ^ h) 0 0 (first_column (has v))) q → Gives w many m (relation_of many m (quad_set w q)) rel → Gives w (count_below m (holds v)) m (inj v) rel
   inj_given w q rel g r = record {
-    means = r.means ∙ ap Some (ap (relation_of many m) (gives_set w h _ q g) ∙ inj_is);
+    means = r.means ∙ ap Some (ap (relation_of many m) (gives_quad_set w h _ q g) ∙ inj_is);
     row_size = r.row_size ∙ many_is ∙ ap (λ n. count_below n (holds v)) rows;
     col_size = r.col_size;
   }

@@ -38,9 +38,6 @@ one_more base bits i xs l b h k =
     ∙ ap (λ t. t || eqb (bit_at (2 ^ (x - base)) k) 1) (h k) ∙ ap (λ t. holds (take i xs) (base + k) || t) (one_bit base x k b)
     ∙ sym (list_any_more (λ y. eqb y (base + k)) xs i 0 l)
 
-pub none_yet : (base : ℕ) (xs : List ℕ) (k : ℕ) → eqb (bit_at 0 k) 1 ≡ holds (take 0 xs) (base + k)
-none_yet base xs k = ap (λ b. eqb b 1) (bit_at-zero k)
-
 -- within 64 bits, and within the cells of the leaf
 pub shifted : (s : ℕ) → s < 64 → 1 * 2 ^ s % 18446744073709551616 ≡ 2 ^ s
 shifted s l = let p : 2 ^ (1 + s) ≤ 2 ^ 64 = pow_mono {i = 1 + s} {j = 64} (omega arith) in let q = pow-add 2 1 s in omega (arith, p, q)

@@ -20,7 +20,7 @@ use Rattle.rel_model.specs.Listed.{AreWithin, is_among}
 use Rattle.rel_domains.specs.Curve.{holds, AreFrom, cells_at, place}
 use Rattle.rel_domains.proofs.Places.{place_one}
 use Rattle.rel_model.proofs.Heights.{height_over-rows, height_over-cols}
-use Rattle.rel_domains.proofs.Quartering.{gives_set}
+use Rattle.rel_steps.proofs.Given.{gives_quad_set}
 
 -- ---- pairs within the square
 pub within_square : (m n s : ℕ) (ps : List (ℕ × ℕ)) → m ≤ s → n ≤ s → AreWithin m n ps → AreWithin s s ps
@@ -82,11 +82,11 @@ module _ (least d m n : ℕ) (ps : List (ℕ × ℕ)) (xs ys : List ℕ) (rows :
   is_within i j t = let a = cells_inside least d ys i j t in among_within m n ps i j inside (sym (is_listed i j a.0 a.1) ∙ t)
 
   pub lies_within : (w : Worker) (q : Quad) → GivesQuad w (least + d) (cells_at least d 0 ys) q → LiesWithin m n (quad_set w q)
-  lies_within w q g = subst (LiesWithin m n) (sym (gives_set w (least + d) (cells_at least d 0 ys) q g)) (record { row = λ i j t. (is_within i j t).0; col = λ i j t. (is_within i j t).1 })
+  lies_within w q g = subst (LiesWithin m n) (sym (gives_quad_set w (least + d) (cells_at least d 0 ys) q g)) (record { row = λ i j t. (is_within i j t).0; col = λ i j t. (is_within i j t).1 })
 
   pub relation_given : (w : Worker) (q : Quad) (rel : Rel) → GivesQuad w (least + d) (cells_at least d 0 ys) q → Gives w m n (relation_of m n (quad_set w q)) rel → Gives w m n (relation_of m n (is_among ps)) rel
   relation_given w q rel g r = record {
-    means = r.means ∙ ap Some (ap (relation_of m n) (gives_set w (least + d) (cells_at least d 0 ys) q g) ∙ relation_of-agree m n _ _ (λ i j a b. is_listed i j (row_in i a) (col_in j b)));
+    means = r.means ∙ ap Some (ap (relation_of m n) (gives_quad_set w (least + d) (cells_at least d 0 ys) q g) ∙ relation_of-agree m n _ _ (λ i j a b. is_listed i j (row_in i a) (col_in j b)));
     row_size = r.row_size;
     col_size = r.col_size;
   }

@@ -3,16 +3,16 @@
 -- 2. Whether a place is listed is asked of the one part in whose span it lies.
 -- 3. So the cells of the whole are those of its quarters, and a worker that gives the quarters and their corner gives the whole.
 use Rattle.std.proofs.Common.{◌≡◌, ◌≢◌, ◌<◌, ◌≤◌, ◌+◌, ◌-◌, ◌*◌, ◌^◌, ◌∙◌, ◌||◌, ◌&&◌, eqb, ltb, ℕ, Bool, true, false, List, [], ◌∷◌, ◌++◌, refl, sym, ap, subst, arith, suc, inl, inr, Some}
-use Rattle.std.specs.Prelude.{IsSome, unwrap_or}
 use Rattle.std.specs.List.{AllByRecursion}
 use Rattle.std.proofs.lemmas.Bool.{cases_lt, lt-ltb, le-ltb}
 use Rattle.std.proofs.lemmas.Bool.Decides.{nat_tests}
 use Rattle.std.proofs.lemmas.List.Folds.{list_any-append}
 use Rattle.rel_model.specs.declared.Quad.{Quad}
-use Rattle.rel_model.specs.Cells.{Cells, no_cells, bits_cells}
+use Rattle.rel_model.specs.Cells.{Cells, bits_cells}
 use Rattle.rel_model.specs.Trees.{quartered}
-use Rattle.rel_model.specs.Worker.{Worker, HasQuad, quad_set, GivesQuad, Keeps}
+use Rattle.rel_model.specs.Worker.{Worker, GivesQuad}
 use Rattle.rel_model.proofs.TreeLaws.{same_cells}
+use Rattle.rel_steps.proofs.Given.{AreParts}
 use Rattle.rel_domains.specs.Curve.{holds, AreFrom, IsCut, cells_at, place}
 use Rattle.rel_domains.proofs.Places.{nw, ne, sw, se, place_lt, double, cells_step}
 
@@ -206,42 +206,17 @@ module _ (least d base : ℕ) (all in_nw in_ne in_sw in_se : List ℕ) (f : AreF
         ]
       ])
 
--- ---- what a worker gives
-pub gives_has : (w : Worker) (h : ℕ) (f : Cells) (q : Quad) → GivesQuad w h f q → HasQuad w q
-gives_has w h f q g = subst IsSome (sym g.means) refl
-
-pub gives_set : (w : Worker) (h : ℕ) (f : Cells) (q : Quad) → GivesQuad w h f q → quad_set w q ≡ f
-gives_set w h f q g = ap (λ o. unwrap_or o no_cells) g.means
-
-pub gives_later : (v w : Worker) (h : ℕ) (f : Cells) (q : Quad) → Keeps v w → GivesQuad v h f q → GivesQuad w h f q
-gives_later v w h f q k g = record { means = k.same_quads q (gives_has v h f q g) ∙ g.means; same_height = g.same_height }
-
--- four quarters that a worker gives, and their corner
-pub corner_given : (w1 w2 w3 w4 w5 : Worker) (least depth base n : ℕ) (all in_nw in_ne in_sw in_se : List ℕ) (q1 q2 q3 q4 q : Quad) → depth ≢ 0 → n ≡ 4 ^ (least + (depth - 1)) → AreFour base n all in_nw in_ne in_sw in_se
-    → GivesQuad w1 (least + (depth - 1)) (cells_at least (depth - 1) base in_nw) q1 → Keeps w1 w2
-    → GivesQuad w2 (least + (depth - 1)) (cells_at least (depth - 1) (base + n) in_ne) q2 → Keeps w2 w3
-    → GivesQuad w3 (least + (depth - 1)) (cells_at least (depth - 1) (base + 2 * n) in_sw) q3 → Keeps w3 w4
-    → GivesQuad w4 (least + (depth - 1)) (cells_at least (depth - 1) (base + 3 * n) in_se) q4
-    → GivesQuad w5 (q1.height + 1) (quartered (2 ^ q1.height) (quad_set w4 q1) (quad_set w4 q2) (quad_set w4 q3) (quad_set w4 q4)) q
-    → GivesQuad w5 (least + depth) (cells_at least depth base all) q
-corner_given w1 w2 w3 w4 w5 least depth base n all in_nw in_ne in_sw in_se q1 q2 q3 q4 q over e four g1 k1 g2 k2 g3 k3 g4 g =
+-- the cells by places in four parts are the quarters of those by all
+pub places_parts : (least depth base n : ℕ) (all in_nw in_ne in_sw in_se : List ℕ) → depth ≢ 0 → n ≡ 4 ^ (least + (depth - 1)) → AreFour base n all in_nw in_ne in_sw in_se
+    → AreParts (least + depth) (cells_at least depth base all) (least + (depth - 1)) (cells_at least (depth - 1) base in_nw) (cells_at least (depth - 1) (base + n) in_ne) (cells_at least (depth - 1) (base + 2 * n) in_sw) (cells_at least (depth - 1) (base + 3 * n) in_se)
+places_parts least depth base n all in_nw in_ne in_sw in_se over e four =
     let d = depth - 1 in
     let up : suc d ≡ depth = omega arith in
     let f = subst (λ k. AreFour base k all in_nw in_ne in_sw in_se) e four in
-    let later1 = gives_later w3 w4 (least + d) _ q1 k3 (gives_later w2 w3 (least + d) _ q1 k2 (gives_later w1 w2 (least + d) (cells_at least d base in_nw) q1 k1 g1)) in
-    let later2 = gives_later w3 w4 (least + d) _ q2 k3 (gives_later w2 w3 (least + d) (cells_at least d (base + n) in_ne) q2 k2 g2) in
-    let later3 = gives_later w3 w4 (least + d) (cells_at least d (base + 2 * n) in_sw) q3 k3 g3 in
-    let s1 : quad_set w4 q1 ≡ cells_at least d base in_nw = gives_set w4 (least + d) _ q1 later1 in
-    let s2 : quad_set w4 q2 ≡ cells_at least d (base + 4 ^ (least + d)) in_ne = gives_set w4 (least + d) _ q2 later2 ∙ ap (λ k. cells_at least d (base + k) in_ne) e in
-    let s3 : quad_set w4 q3 ≡ cells_at least d (base + 2 * 4 ^ (least + d)) in_sw = gives_set w4 (least + d) _ q3 later3 ∙ ap (λ k. cells_at least d (base + 2 * k) in_sw) e in
-    let s4 : quad_set w4 q4 ≡ cells_at least d (base + 3 * 4 ^ (least + d)) in_se = gives_set w4 (least + d) _ q4 g4 ∙ ap (λ k. cells_at least d (base + 3 * k) in_se) e in
     record {
-      means = g.means ∙ ap Some (ap (λ h. quartered (2 ^ h) (quad_set w4 q1) (quad_set w4 q2) (quad_set w4 q3) (quad_set w4 q4)) g1.same_height
-          ∙ ap (λ x. quartered (2 ^ (least + d)) x (quad_set w4 q2) (quad_set w4 q3) (quad_set w4 q4)) s1 ∙ ap (λ x. quartered (2 ^ (least + d)) (cells_at least d base in_nw) x (quad_set w4 q3) (quad_set w4 q4)) s2
-          ∙ ap (λ x. quartered (2 ^ (least + d)) (cells_at least d base in_nw) (cells_at least d (base + 4 ^ (least + d)) in_ne) x (quad_set w4 q4)) s3
-          ∙ ap (quartered (2 ^ (least + d)) (cells_at least d base in_nw) (cells_at least d (base + 4 ^ (least + d)) in_ne) (cells_at least d (base + 2 * 4 ^ (least + d)) in_sw)) s4
-          ∙ cells_quartered least d base all in_nw in_ne in_sw in_se f ∙ ap (λ k. cells_at least k base all) up);
-      same_height = omega (arith, g.same_height, g1.same_height);
+      next = omega arith;
+      means = ap (λ k. quartered (2 ^ (least + d)) (cells_at least d base in_nw) (cells_at least d (base + k) in_ne) (cells_at least d (base + 2 * k) in_sw) (cells_at least d (base + 3 * k) in_se)) e
+          ∙ cells_quartered least d base all in_nw in_ne in_sw in_se f ∙ ap (λ k. cells_at least k base all) up;
     }
 
 -- a leaf that a worker gives

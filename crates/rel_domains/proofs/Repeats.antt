@@ -45,14 +45,6 @@ both_more x y m = elim (cases_eq x y) [
   | inr e ↦ ne_eqb (x + m) (y + m) (λ h. e (omega arith)) ∙ sym (ne_eqb x y e)
 ]
 
-pub shift-repeats : (by row col m i j : ℕ) → eqb (col + m + j) (by + (row + m + i)) ≡ eqb (col + j) (by + (row + i))
-shift-repeats by row col m i j =
-    ap (λ n. eqb n (by + (row + m + i))) (let t : col + m + j ≡ col + j + m = omega arith in t) ∙ ap (eqb (col + j + m)) (let t : by + (row + m + i) ≡ by + (row + i) + m = omega arith in t) ∙ both_more (col + j) (by + (row + i)) m
-
-pub whole-repeats : (row col m i j : ℕ) → eqb ((row + m + i) / 1) (col + m + j) ≡ eqb ((row + i) / 1) (col + j)
-whole-repeats row col m i j =
-    ap (λ n. eqb n (col + m + j)) (let t : (row + m + i) / 1 ≡ row + i + m = omega arith in t) ∙ ap (eqb (row + i + m)) (let t : col + m + j ≡ col + j + m = omega arith in t) ∙ both_more (row + i) (col + j) m ∙ ap (λ n. eqb n (col + j)) (let t : row + i ≡ (row + i) / 1 = omega arith in t)
-
 rest-within : (by row k : ℕ) → row % by + k < by → (row + k) % by ≡ row % by + k
 rest-within by row k l = sym (mod-add-mod row by k) ∙ mod-eq_of_lt l
 

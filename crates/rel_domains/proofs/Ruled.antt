@@ -15,7 +15,7 @@ use Rattle.rel_domains.specs.declared.rule.Rule.{Rule}
 use Rattle.rel_domains.specs.Rules.{passes, rule_cells, window}
 use Rattle.rel_model.proofs.Heights.{height_over-rows, height_over-cols}
 use Rattle.rel_domains.proofs.Listing.{power_mono}
-use Rattle.rel_domains.proofs.Quartering.{gives_set}
+use Rattle.rel_steps.proofs.Given.{gives_quad_set}
 
 -- the side of a square is within the limit
 pub side_limit : (h : ℕ) → h ≤ top_height → 0 + 2 ^ h ≤ 2 ^ 24
@@ -49,11 +49,11 @@ module _ (least d m n : ℕ) (rule : Rule) (rows : m ≤ size_limit) (cols : n �
           (ltb-true (0 + i) m c.0, ltb-true (0 + j) n e.0)
 
   pub ruled_quad : (w : Worker) (q : Quad) → GivesQuad w (least + d) whole q → LiesWithin m n (quad_set w q)
-  ruled_quad w q g = subst (LiesWithin m n) (sym (gives_set w (least + d) whole q g)) ruled_within
+  ruled_quad w q g = subst (LiesWithin m n) (sym (gives_quad_set w (least + d) whole q g)) ruled_within
 
   pub ruled_relation : (w : Worker) (q : Quad) (rel : Rel) → GivesQuad w (least + d) whole q → Gives w m n (relation_of m n (quad_set w q)) rel → Gives w m n (relation_of m n (passes rule)) rel
   ruled_relation w q rel g r = record {
-    means = r.means ∙ ap Some (ap (relation_of m n) (gives_set w (least + d) whole q g) ∙ relation_of-agree m n whole (passes rule) ruled_here);
+    means = r.means ∙ ap Some (ap (relation_of m n) (gives_quad_set w (least + d) whole q g) ∙ relation_of-agree m n whole (passes rule) ruled_here);
     row_size = r.row_size;
     col_size = r.col_size;
   }

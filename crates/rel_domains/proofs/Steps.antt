@@ -1,50 +1,10 @@
--- Steps of a walk over the quarters of a square: their quads later on, their nodes in all, and the cause of what is answered after calls that missed nothing.
-use Rattle.std.proofs.Common.{◌≡◌, ◌≢◌, ◌≤◌, ◌+◌, ◌-◌, ◌*◌, ◌∙◌, ℕ, Bool, Result, IfOk, refl, sym, ap, subst, arith}
-use Rattle.std.specs.Prelude.{IsSome, Ok, Err}
-use Rattle.std.specs.Result.{is_ok}
-use Rattle.std.proofs.lemmas.Bool.{true≢false}
-use Rattle.rel_model.specs.declared.Quad.{Quad}
-use Rattle.rel_model.specs.declared.Lack.{Lack}
-use Rattle.rel_model.specs.Cells.{Cells}
+-- Steps of a walk over the quarters of a square: their nodes in all.
+use Rattle.std.proofs.Common.{◌≡◌, ◌≢◌, ◌≤◌, ◌+◌, ◌-◌, ◌*◌, ℕ, arith}
 use Rattle.rel_model.specs.Roots.{tree_room}
-use Rattle.rel_model.specs.Worker.{Worker, HasQuad, GivesQuad, Keeps, MissesNothing, Rose, HasCause}
 use Rattle.rel_domains.proofs.Places.{power_step, some_cells}
-use Rattle.rel_domains.proofs.Halves.{kept_quad}
 
--- ---- quads
-pub given_quad : (w : Worker) (h : ℕ) (f : Cells) (q : Quad) → GivesQuad w h f q → HasQuad w q
-given_quad w h f q g = subst IsSome (sym g.means) refl
-
--- after a later call
-pub kept_given : (v w : Worker) (h : ℕ) (f : Cells) (q : Quad) → Keeps v w → GivesQuad v h f q → HasQuad w q
-kept_given v w h f q k g = kept_quad v w q k (given_quad v h f q g)
-
--- ---- nodes
 pub room_step : (depth : ℕ) → depth ≢ 0 → tree_room depth ≡ 4 * tree_room (depth - 1) + 3
 room_step depth over = let p = power_step depth over in let s = some_cells (depth - 1) in omega (arith, p, s)
 
 pub room_some : (depth : ℕ) → 1 ≤ tree_room depth
 room_some depth = let s = some_cells depth in omega (arith, s)
-
--- ---- causes
--- what is given misses nothing
-pub done_cause : {T : Type 0} (lean : Bool) (a b : Worker) (x : T) → MissesNothing a b → HasCause lean a b (Ok x)
-done_cause lean a b x n = record {
-  full = λ e. absurd (true≢false (ap is_ok e));
-  no_memory = λ l e. true≢false (ap is_ok e);
-  done = n;
-  wanting = λ e. n;
-}
-
--- after calls that missed nothing
-pub later_cause : {T : Type 0} (lean : Bool) (u v w : Worker) (r : Result T Lack) → MissesNothing u v → HasCause lean v w r → HasCause lean u w r
-later_cause lean u v w r e h = record {
-  full = λ f. subst (λ (n : ℕ). Rose n w.misses) e (h.full f);
-  no_memory = h.no_memory;
-  done = subst (λ (n : ℕ). IfOk r (λ x. w.misses ≡ n)) e h.done;
-  wanting = λ f. h.wanting f ∙ e;
-}
-
--- a call that failed, after calls that missed nothing, is answered by its failure
-pub failed_cause : {T : Type 0} (lean : Bool) (u v w : Worker) (x y : Lack) (r : Result T Lack) → MissesNothing u v → HasCause {T = T} lean v w (Err x) → r ≡ Err y → y ≡ x → HasCause lean u w r
-failed_cause lean u v w x y r e h p q = subst (HasCause lean u w) (sym (p ∙ ap Err q)) (later_cause lean u v w (Err x) e h)

@@ -15,7 +15,7 @@ use Rattle.rel_model.proofs.TreeLaws.{same_cells}
 use Rattle.rel_model.proofs.Somes.{not_true}
 use Rattle.rel_domains.specs.declared.rule.Rule.{Rule}
 use Rattle.rel_domains.specs.Rules.{passes, rule_cells, window}
-use Rattle.rel_domains.proofs.Quartering.{gives_set, gives_later}
+use Rattle.rel_steps.proofs.Given.{AreParts, gives_quad_set, gives_later}
 use Rattle.rel_domains.proofs.Places.{side_step}
 
 -- ---- squares without cells
@@ -31,19 +31,6 @@ rule_free rows cols m row col end rule e h = no_window m row col (rule_cells row
     let q = and_parts (ltb (col + j) cols) _ p.1 in
     let r = ltb-true (row + i) rows p.0 in
     h (row + i) (col + j) (omega arith) (omega (arith, e, r, a)) (omega arith) (omega (arith, b)) q.1)
-
-pub rows_free : (rows cols m row col : ℕ) (rule : Rule) → rows ≤ row → window m row col (rule_cells rows cols rule) ≡ no_cells
-rows_free rows cols m row col rule l = no_window m row col (rule_cells rows cols rule) (λ i j a b t.
-    let p = and_parts (ltb (row + i) rows) (ltb (col + j) cols && passes rule (row + i) (col + j)) t in
-    let r = ltb-true (row + i) rows p.0 in
-    omega (arith, l, r))
-
-pub cols_free : (rows cols m row col : ℕ) (rule : Rule) → cols ≤ col → window m row col (rule_cells rows cols rule) ≡ no_cells
-cols_free rows cols m row col rule l = no_window m row col (rule_cells rows cols rule) (λ i j a b t.
-    let p = and_parts (ltb (row + i) rows) (ltb (col + j) cols && passes rule (row + i) (col + j)) t in
-    let q = and_parts (ltb (col + j) cols) (passes rule (row + i) (col + j)) p.1 in
-    let r = ltb-true (col + j) cols q.0 in
-    omega (arith, l, r))
 
 -- ---- quotients
 pub div_mono : (m n by : ℕ) → 0 < by → m ≤ n → m / by ≤ n / by
@@ -124,10 +111,10 @@ pub corner_of : (w1 w2 w3 w4 w5 : Worker) (h : ℕ) (f1 f2 f3 f4 : Cells) (q1 q2
     → GivesQuad w5 (q1.height + 1) (quartered (2 ^ q1.height) (quad_set w4 q1) (quad_set w4 q2) (quad_set w4 q3) (quad_set w4 q4)) q
     → GivesQuad w5 (h + 1) (quartered (2 ^ h) f1 f2 f3 f4) q
 corner_of w1 w2 w3 w4 w5 h f1 f2 f3 f4 q1 q2 q3 q4 q g1 k1 g2 k2 g3 k3 g4 g =
-    let s1 : quad_set w4 q1 ≡ f1 = gives_set w4 h f1 q1 (gives_later w3 w4 h f1 q1 k3 (gives_later w2 w3 h f1 q1 k2 (gives_later w1 w2 h f1 q1 k1 g1))) in
-    let s2 : quad_set w4 q2 ≡ f2 = gives_set w4 h f2 q2 (gives_later w3 w4 h f2 q2 k3 (gives_later w2 w3 h f2 q2 k2 g2)) in
-    let s3 : quad_set w4 q3 ≡ f3 = gives_set w4 h f3 q3 (gives_later w3 w4 h f3 q3 k3 g3) in
-    let s4 : quad_set w4 q4 ≡ f4 = gives_set w4 h f4 q4 g4 in
+    let s1 : quad_set w4 q1 ≡ f1 = gives_quad_set w4 h f1 q1 (gives_later w3 w4 h f1 q1 k3 (gives_later w2 w3 h f1 q1 k2 (gives_later w1 w2 h f1 q1 k1 g1))) in
+    let s2 : quad_set w4 q2 ≡ f2 = gives_quad_set w4 h f2 q2 (gives_later w3 w4 h f2 q2 k3 (gives_later w2 w3 h f2 q2 k2 g2)) in
+    let s3 : quad_set w4 q3 ≡ f3 = gives_quad_set w4 h f3 q3 (gives_later w3 w4 h f3 q3 k3 g3) in
+    let s4 : quad_set w4 q4 ≡ f4 = gives_quad_set w4 h f4 q4 g4 in
     record {
       means = g.means ∙ ap Some (ap (λ x. quartered (2 ^ x) (quad_set w4 q1) (quad_set w4 q2) (quad_set w4 q3) (quad_set w4 q4)) g1.same_height
           ∙ ap (λ x. quartered (2 ^ h) x (quad_set w4 q2) (quad_set w4 q3) (quad_set w4 q4)) s1 ∙ ap (λ x. quartered (2 ^ h) f1 x (quad_set w4 q3) (quad_set w4 q4)) s2
@@ -136,32 +123,17 @@ corner_of w1 w2 w3 w4 w5 h f1 f2 f3 f4 q1 q2 q3 q4 q g1 k1 g2 k2 g3 k3 g4 g =
     }
 
 -- a square that a worker gives by its quarters
-pub square_given : (w1 w2 w3 w4 w5 : Worker) (least depth half row col : ℕ) (f : Cells) (q1 q2 q3 q4 q : Quad) → depth ≢ 0 → half ≡ 2 ^ (least + (depth - 1))
-    → GivesQuad w1 (least + (depth - 1)) (window (2 ^ (least + (depth - 1))) row col f) q1 → Keeps w1 w2
-    → GivesQuad w2 (least + (depth - 1)) (window (2 ^ (least + (depth - 1))) row (col + half) f) q2 → Keeps w2 w3
-    → GivesQuad w3 (least + (depth - 1)) (window (2 ^ (least + (depth - 1))) (row + half) col f) q3 → Keeps w3 w4
-    → GivesQuad w4 (least + (depth - 1)) (window (2 ^ (least + (depth - 1))) (row + half) (col + half) f) q4
-    → GivesQuad w5 (q1.height + 1) (quartered (2 ^ q1.height) (quad_set w4 q1) (quad_set w4 q2) (quad_set w4 q3) (quad_set w4 q4)) q
-    → GivesQuad w5 (least + depth) (window (2 ^ (least + depth)) row col f) q
-square_given w1 w2 w3 w4 w5 least depth half row col f q1 q2 q3 q4 q over e g1 k1 g2 k2 g3 k3 g4 g =
+pub square_parts : (least depth half row col : ℕ) (f : Cells) → depth ≢ 0 → half ≡ 2 ^ (least + (depth - 1))
+    → AreParts (least + depth) (window (2 ^ (least + depth)) row col f) (least + (depth - 1)) (window (2 ^ (least + (depth - 1))) row col f) (window (2 ^ (least + (depth - 1))) row (col + half) f)
+    (window (2 ^ (least + (depth - 1))) (row + half) col f) (window (2 ^ (least + (depth - 1))) (row + half) (col + half) f)
+square_parts least depth half row col f over e =
     let m = 2 ^ (least + (depth - 1)) in
-    let r = corner_of w1 w2 w3 w4 w5 (least + (depth - 1)) _ _ _ _ q1 q2 q3 q4 q g1 k1 g2 k2 g3 k3 g4 g in
     let s : m + m ≡ 2 ^ (least + depth) = omega (arith, side_step least depth over) in
     record {
-      means = r.means ∙ ap Some (ap (λ h. quartered m (window m row col f) (window m row (col + h) f) (window m (row + h) col f) (window m (row + h) (col + h) f)) e ∙ windows-quartered m row col f ∙ ap (λ k. window k row col f) s);
-      same_height = (let h = r.same_height in omega (arith, h, over));
+      next = omega (arith, over);
+      means = ap (λ h. quartered m (window m row col f) (window m row (col + h) f) (window m (row + h) col f) (window m (row + h) (col + h) f)) e ∙ windows-quartered m row col f ∙ ap (λ k. window k row col f) s;
     }
 
--- a quarter that is like the first
-pub like_first : (w1 w2 w3 : Worker) (h half row col : ℕ) (f : Cells) (q : Quad) → half ≡ 2 ^ h → GivesQuad w1 h (window (2 ^ h) row col f) q → Keeps w1 w2 → Keeps w2 w3
-    → window half (row + half) (col + half) f ≡ window half row col f → GivesQuad w3 h (window (2 ^ h) (row + half) (col + half) f) q
-like_first w1 w2 w3 h half row col f q e g k1 k2 s =
-    let r = gives_later w2 w3 h _ q k2 (gives_later w1 w2 h _ q k1 g) in
-    record { means = r.means ∙ ap Some (ap (λ n. window n row col f) (sym e) ∙ sym s ∙ ap (λ n. window n (row + half) (col + half) f) e); same_height = r.same_height }
-
--- a lower quarter that is like the one above it
-pub like_above : (w1 w2 : Worker) (h half row col : ℕ) (f : Cells) (q : Quad) → half ≡ 2 ^ h → GivesQuad w1 h (window (2 ^ h) row col f) q → Keeps w1 w2
-    → window half (row + half) col f ≡ window half row col f → GivesQuad w2 h (window (2 ^ h) (row + half) col f) q
-like_above w1 w2 h half row col f q e g k s =
-    let r = gives_later w1 w2 h _ q k g in
-    record { means = r.means ∙ ap Some (ap (λ n. window n row col f) (sym e) ∙ sym s ∙ ap (λ n. window n (row + half) col f) e); same_height = r.same_height }
+-- a quarter that is like another
+pub like : {w : Worker} {h half : ℕ} {q : Quad} (row col i j : ℕ) (f : Cells) → half ≡ 2 ^ h → window half row col f ≡ window half i j f → GivesQuad w h (window (2 ^ h) i j f) q → GivesQuad w h (window (2 ^ h) row col f) q
+like row col i j f e s g = record { means = g.means ∙ ap Some (ap (λ n. window n i j f) (sym e) ∙ sym s ∙ ap (λ n. window n row col f) e); same_height = g.same_height }

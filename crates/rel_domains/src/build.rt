@@ -4,6 +4,7 @@ ghost use Rattle.std.specs.List.Sorted.{IsNonDecreasing};
 ghost use Rattle.rel_model.specs.Trees.{top_height};
 ghost use Rattle.rel_model.specs.Worker.{GivesQuad, Keeps, MakesAtMost, HasCause, listed_room};
 ghost use Rattle.rel_model.specs.Roots.{tree_room};
+ghost use Rattle.rel_steps.specs.Making.{MakesQuad};
 ghost use Rattle.rel_domains.specs.Curve.{AreFrom, cells_at};
 
 use crate::cut::cut_at;
@@ -21,12 +22,9 @@ pub fn build<Q: Quads>(q: &mut Q, depth: u8, base: u64, places: &[u64]) -> Resul
     requires base { base + 4 ^ (Q.least + depth) ≤ 4 ^ top_height }
     requires order { IsNonDecreasing places.now }
     requires from { AreFrom base (base + 4 ^ (Q.least + depth)) places.now }
-    ensures value { IfOk result (GivesQuad (Q.worker q.new) (Q.least + depth)
-        (cells_at Q.least depth base places.now)) }
-    ensures keeps { Keeps (Q.worker q.old) (Q.worker q.new) }
-    ensures room { MakesAtMost (tree_room depth) (Q.worker q.old) (Q.worker q.new) }
+    ensures makes { MakesQuad Q.lean (tree_room depth) (Q.least + depth) (cells_at Q.least depth base places.now)
+        (Q.worker q.old) (Q.worker q.new) result }
     ensures few { MakesAtMost (listed_room (length places.now) depth) (Q.worker q.old) (Q.worker q.new) }
-    ensures cause { HasCause Q.lean (Q.worker q.old) (Q.worker q.new) result }
     ensures some { OnErr result (0 < length places.now) }
 {
     let height = q.bottom() + depth;

@@ -4,6 +4,7 @@ ghost use Rattle.rel_model.specs.Cells.{bits_cells};
 ghost use Rattle.rel_model.specs.Relation.{relation_of, size_limit};
 ghost use Rattle.rel_model.specs.Trees.{top_height};
 ghost use Rattle.rel_model.specs.Worker.{Gives, GivesQuad, Keeps, MakesAtMost, HasCause, operator_room};
+ghost use Rattle.rel_steps.specs.Making.{MakesQuad};
 ghost use Rattle.rel_domains.specs.Rules.{IsRule, passes, rule_cells, window};
 ghost use Rattle.rel_model.specs.Roots.{relation_room, tree_room};
 
@@ -47,11 +48,9 @@ fn square<Q: Quads>(
     requires rule { IsRule shape.rows rule }
     requires row { row + 2 ^ (Q.least + depth) ≤ size_limit }
     requires col { col + 2 ^ (Q.least + depth) ≤ size_limit }
-    ensures value { IfOk result (GivesQuad (Q.worker q.new) (Q.least + depth)
-        (window (2 ^ (Q.least + depth)) row col (rule_cells shape.rows shape.cols rule))) }
-    ensures keeps { Keeps (Q.worker q.old) (Q.worker q.new) }
-    ensures room { MakesAtMost (tree_room depth) (Q.worker q.old) (Q.worker q.new) }
-    ensures cause { HasCause Q.lean (Q.worker q.old) (Q.worker q.new) result }
+    ensures { MakesQuad Q.lean (tree_room depth) (Q.least + depth)
+        (window (2 ^ (Q.least + depth)) row col (rule_cells shape.rows shape.cols rule))
+        (Q.worker q.old) (Q.worker q.new) result }
 {
     let height = q.bottom() + depth;
     if misses(shape, rule, row, col, side_of(height)) {

@@ -5,6 +5,7 @@ ghost use Rattle.rel_model.specs.Choice.{holds, count_below, inj as inj_of};
 ghost use Rattle.rel_model.specs.Relation.{size_limit};
 ghost use Rattle.rel_model.specs.Trees.{top_height};
 ghost use Rattle.rel_model.specs.Worker.{Stands, set_of, HasQuad, quad_set, Gives, GivesQuad, Keeps, MakesAtMost, MissesNothing, HasCause, derived_room};
+ghost use Rattle.rel_steps.specs.Making.{MakesQuad};
 ghost use Rattle.rel_domains.specs.Ranks.{first_column, ranked};
 ghost use Rattle.rel_model.specs.Roots.{relation_room, tree_room};
 
@@ -62,11 +63,9 @@ fn ranks<Q: Quads>(
     requires many { many ≡ count_below (2 ^ vector.height) (first_column (quad_set (Q.worker q.old) vector)) }
     requires row { row + 2 ^ (Q.least + depth) ≤ size_limit }
     requires before { before + many ≤ size_limit }
-    ensures value { IfOk result (GivesQuad (Q.worker q.new) (Q.least + depth)
-        (ranked (2 ^ (Q.least + depth)) row before (first_column (quad_set (Q.worker q.old) vector)))) }
-    ensures keeps { Keeps (Q.worker q.old) (Q.worker q.new) }
-    ensures room { MakesAtMost (tree_room depth) (Q.worker q.old) (Q.worker q.new) }
-    ensures cause { HasCause Q.lean (Q.worker q.old) (Q.worker q.new) result }
+    ensures { MakesQuad Q.lean (tree_room depth) (Q.least + depth)
+        (ranked (2 ^ (Q.least + depth)) row before (first_column (quad_set (Q.worker q.old) vector)))
+        (Q.worker q.old) (Q.worker q.new) result }
 {
     let height = vector.height;
     if passes_by(side_of(height), many, row, before) {

@@ -1,10 +1,10 @@
 -- Residuals and the symmetric quotient, from what a worker answers on the way: each value is read off the calls, and the laws of the algebra say which relation it is.
-use Rattle.std.proofs.Common.{◌≡◌, ◌≤◌, ◌∙◌, ℕ, Some, sym, ap, subst}
+use Rattle.std.proofs.Common.{◌≡◌, ◌∙◌, ℕ, Some, sym, ap}
 use Rattle.rel_model.specs.declared.Rel.{Rel}
 use Rattle.rel_model.specs.Relation.{Relation}
 use Rattle.rel_model.specs.Operators.{full, diff, inter, complement, transpose, compose, right_residual, left_residual, symmetric_quotient}
 use Rattle.rel_model.specs.Algebra.{HasType}
-use Rattle.rel_model.specs.Worker.{Worker, Stands, set_of, Gives, Keeps, height_of}
+use Rattle.rel_model.specs.Worker.{Worker, Stands, set_of, Gives, Keeps}
 use Rattle.rel_model.proofs.Workers.{gives_set, gives_stands, keeps_set, keeps_trans}
 use Rattle.rel_model.proofs.OperatorLaws.{diff-full}
 use Rattle.rel_model.proofs.AlgebraLaws.{residual_laws, quotient_by_residuals}
@@ -73,7 +73,3 @@ quotient_given w0 w1 w2 w3 w4 w5 r s forth rt st back both tr ts sr ss k0 k1 k2 
       row_size = g5.row_size ∙ g1.row_size;
       col_size = g5.col_size ∙ g1.col_size;
     }
-
--- an equal size has no greater height
-pub as_high : (x y h : ℕ) → x ≡ y → height_of y ≤ h → height_of x ≤ h
-as_high x y h e l = subst (λ (z : ℕ). height_of z ≤ h) (sym e) l

@@ -10,9 +10,7 @@ use Rattle.rel_model.proofs.Somes.{some_beyond, some_passes}
 use Rattle.rel_model.proofs.QuadLaws.{quad_cells-stay}
 use Rattle.bit_rows.specs.Places.{placed, window}
 use Rattle.bit_rows.proofs.Windows.{spilled_alone, window_whole}
-use Rattle.quad_nodes.specs.Finding.{FindsQuad}
 use Rattle.row_quads.proofs.Placing.{quad_within}
-use Rattle.row_quads.proofs.Finding.{found_next}
 
 -- no middle element is beyond the sides
 pub fewer_middles : (m n : ℕ) (f g : Cells) → m ≤ n → Within m m f → cells_compose n f g ≡ cells_compose m f g
@@ -54,6 +52,3 @@ composed_alone s0 a b z0 z h ez sz =
 -- a quad of the same set
 pub same_value : {E : Type 0} (w : Keeper) (h : ℕ) (f g : Cells) (r : Result Quad E) → f ≡ g → IfOk r (IsQuad w h f) → IfOk r (IsQuad w h g)
 same_value w h f g r e i = subst (λ (c : Cells). IfOk r (IsQuad w h c)) e i
-
-pub same_found : {E : Type 0} (u v w : Keeper) (h : ℕ) (f g : Cells) (r : Result Quad E) → f ≡ g → ReadsQuads u v → FindsQuad v w h f r → FindsQuad u w h g r
-same_found u v w h f g r e k p q i = found_next u v w h g q r k i (subst (λ (c : Cells). FindsQuad v w h c r) e p)

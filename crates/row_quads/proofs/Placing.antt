@@ -1,5 +1,5 @@
 -- Quads in their places: the steps of a spill, and squares with no cell.
-use Rattle.std.proofs.Common.{◌≡◌, ◌<◌, ◌≤◌, ◌+◌, ◌-◌, ◌%◌, zero, suc, ℕ, refl, sym, ap, subst, ◌∙◌, arith}
+use Rattle.std.proofs.Common.{◌≡◌, ◌<◌, ◌≤◌, ◌+◌, ◌-◌, ◌%◌, zero, suc, ℕ, refl, sym, ap, subst, ◌∙◌, arith, ◌⊎◌, inl, inr}
 use Rattle.rel_model.specs.declared.Quad.{Quad}
 use Rattle.rel_model.specs.Cells.{Cells, no_cells, cells_union}
 use Rattle.rel_model.specs.Trees.{bottom_height, top_height, rows_at, twice, side, quartered}
@@ -23,6 +23,25 @@ side_by_8 (suc d) = let r = side_by_8 d in omega arith
 
 pub side_of_by_8 : (h : ℕ) → side_of h % 8 ≡ 0
 side_of_by_8 h = side_by_8 (h - bottom_height)
+
+-- a square of a height lies within 256 rows and columns, from a row and a byte's first column on
+pub record FitsRows (h row col : ℕ) : Type 0 where
+  pub row_in : row + side_of h ≤ 256
+  pub col_in : col + side_of h ≤ 256
+  pub col_on : col % 8 ≡ 0
+
+-- and so does each of its quarters
+pub fits : (h k y half row col r c : ℕ) → bottom_height < h → k + 1 ≡ h → y + 1 ≡ h → half ≡ side_of k → row + side_of h ≤ 256 → col + side_of h ≤ 256 → col % 8 ≡ 0
+    → (r ≡ row) ⊎ (r ≡ row + half) → (c ≡ col) ⊎ (c ≡ col + half) → FitsRows y r c
+fits h k y half row col r c over e d s ri ci co er ec =
+    let first = half_side h k over e in
+    let here = half_side h y over d in
+    let by = side_of_by_8 k in
+    record {
+      row_in = elim er [ inl x ↦ omega arith | inr x ↦ omega arith ];
+      col_in = elim ec [ inl x ↦ omega arith | inr x ↦ omega arith ];
+      col_on = elim ec [ inl x ↦ omega arith | inr x ↦ omega arith ];
+    }
 
 pub side_of-bottom : (h : ℕ) → h ≡ bottom_height → side_of h ≡ 8
 side_of-bottom h e = ap side (let z : h - bottom_height ≡ 0 = omega arith in z)

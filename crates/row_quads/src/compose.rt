@@ -1,9 +1,9 @@
 //! The composition of two quads of up to 256 rows and columns by rows.
-ghost use Rattle.std.specs.Prelude.{◌≡◌, ◌≤◌, length, IfOk};
+ghost use Rattle.std.specs.Prelude.{◌≡◌, ◌≤◌, length};
 ghost use Rattle.rel_model.specs.Cells.{cells_union, cells_compose};
 ghost use Rattle.rel_model.specs.Equations.{side_of};
-ghost use Rattle.rel_model.specs.Quads.{Keeper, QuadStands, IsQuad, quad_cells, KeepsQuads, ReadsQuads, Counts, quad_room};
-ghost use Rattle.quad_nodes.specs.Finding.{FindsQuad};
+ghost use Rattle.rel_model.specs.Quads.{Keeper, QuadStands, quad_cells, ReadsQuads, quad_room};
+ghost use Rattle.quad_nodes.specs.Making.{MakesQuad};
 ghost use Rattle.bit_rows.specs.Rows.{rows_cells};
 
 use crate::gather::gather_quad;
@@ -44,12 +44,8 @@ pub fn compose_by_rows(nodes: &mut Nodes, a: Quad, b: Quad) -> Result<Quad, Miss
     requires b_stands { QuadStands nodes.old b }
     requires one_height { b.height ≡ a.height }
     requires small { side_of a.height ≤ 256 }
-    ensures value { IfOk result (IsQuad nodes.new a.height
-        (cells_compose (side_of a.height) (quad_cells nodes.old a) (quad_cells nodes.old b))) }
-    ensures stood { FindsQuad nodes.old nodes.new a.height
-        (cells_compose (side_of a.height) (quad_cells nodes.old a) (quad_cells nodes.old b)) result }
-    ensures keeps { KeepsQuads (quad_room a.height) nodes.old nodes.new }
-    ensures counts { Counts nodes.old nodes.new result }
+    ensures { MakesQuad (quad_room a.height) a.height
+        (cells_compose (side_of a.height) (quad_cells nodes.old a) (quad_cells nodes.old b)) nodes.old nodes.new result }
 {
     let mut z = no_rows();
     add_product(nodes, a, b, &mut z);

@@ -1,9 +1,9 @@
 //! The quad of the cells of rows.
-ghost use Rattle.std.specs.Prelude.{◌≡◌, ◌≤◌, ◌+◌, ◌%◌, length, IfOk};
+ghost use Rattle.std.specs.Prelude.{◌≡◌, ◌≤◌, ◌+◌, ◌%◌, length};
 ghost use Rattle.rel_model.specs.Trees.{bottom_height, top_height};
 ghost use Rattle.rel_model.specs.Equations.{side_of};
-ghost use Rattle.rel_model.specs.Quads.{Keeper, IsQuad, KeepsQuads, Counts, quad_room};
-ghost use Rattle.quad_nodes.specs.Finding.{FindsQuad};
+ghost use Rattle.rel_model.specs.Quads.{Keeper, quad_room};
+ghost use Rattle.quad_nodes.specs.Making.{MakesQuad};
 ghost use Rattle.bit_rows.specs.Rows.{rows_cells};
 ghost use Rattle.bit_rows.specs.Places.{window};
 
@@ -31,10 +31,8 @@ pub fn gather_quad(
     requires row_in { row + side_of height ≤ 256 }
     requires col_in { col + side_of height ≤ 256 }
     requires col_on { col % 8 ≡ 0 }
-    ensures value { IfOk result (IsQuad nodes.new height (window row col (side_of height) (rows_cells z.now))) }
-    ensures stood { FindsQuad nodes.old nodes.new height (window row col (side_of height) (rows_cells z.now)) result }
-    ensures keeps { KeepsQuads (quad_room height) nodes.old nodes.new }
-    ensures counts { Counts nodes.old nodes.new result }
+    ensures { MakesQuad (quad_room height) height (window row col (side_of height) (rows_cells z.now))
+        nodes.old nodes.new result }
 {
     let _ = nodes.bottom();
     let side = side_of_height(height) as usize;

@@ -1,8 +1,9 @@
-use Rattle.std.proofs.Common.{◌+◌, ◌-◌, ◌*◌, refl, sym, ◌∙◌, arith}
-use Rattle.rel_model.proofs.QuadLaws.{quad_stays, is_quad-stays, keeps_on, keeps_most, reads_itself, keeps_itself, counts_on}
-use Rattle.quad_nodes.proofs.Finding.{found_is}
-use Rattle.fork_quads.specs.Forks.{corner_words}
-use Rattle.fork_quads.proofs.Tiling.{last-least, last-grows, last-next, hold_four, hold_later, tiled_corner, gathered_found, north_missed, south_missed, beside_found, east_missed, leaf_value, corners_next, second_west}
+use Rattle.std.proofs.Common.{◌+◌, ◌-◌, ◌*◌, ℕ, refl, sym, ◌∙◌, arith}
+use Rattle.rel_model.proofs.QuadLaws.{reads_itself}
+use Rattle.quad_nodes.proofs.Making.{AreParts, made_as, made_is, both_made, first_missed, second_missed, started, both_go_on, both_stop, ends, cornered, nw_under, ne_under, sw_under, se_under}
+use Rattle.fork_quads.specs.Forks.{tiled}
+use Rattle.fork_quads.proofs.Tiling.{HoldFour, last-least, last-grows, last-next, hold_four, hold_later, tiled-stay, tiled_parts, both_later, leaf_value, corners_next}
+use Rattle.fork_quads.proofs.gather.+gathering.Goals.{gathered-After-beside}
 use Rattle.fork_quads.proofs.gather.+gathering.Goals as goal
 
 -- ---- two squares
@@ -21,30 +22,36 @@ beside-gathered-requires-2 t c =
     let d = c.decreases in
     (omega (arith, d), (hold_later _ c.args.nodes.now c.gathered.new.nodes _ c.args.cuts (c.args.number + 1) c.args.found.now c.in_ok-west.ensures.keeps c.requires.second, (c.requires.within, (c.requires.size, (c.requires.deep, c.requires.high)))))
 
-pub beside-returns-in_err-east-clause-stood : goal.beside-returns-in_err-east-clause-stood
-beside-returns-in_err-east-clause-stood t c =
-    east_missed c.args.nodes.now c.gathered.new.nodes c.gathered-2.new.nodes c.args.height c.args.cuts c.args.number c.args.found.now c.in_ok-west.west _ _ c.requires.second c.in_ok-west.ensures.stood c.in_err-east.ensures.stood
+pub beside-returns-in_err-west : goal.beside-returns-in_err-west
+beside-returns-in_err-west t c = first_missed c.from_residual.result c.from_residual.ensures.0 (omega arith) c.in_err-west.ensures
 
-pub beside-returns-clause-west : goal.beside-returns-clause-west
-beside-returns-clause-west t c = is_quad-stays _ c.gathered.new.nodes c.gathered-2.new.nodes c.args.height _ c.in_ok-west.west c.in_ok-east.ensures.keeps c.in_ok-west.ensures.value
+pub beside-returns-in_err-east : goal.beside-returns-in_err-east
+beside-returns-in_err-east t c =
+    second_missed c.from_residual-in_err-east.result c.from_residual-in_err-east.ensures.0 (omega arith) c.in_ok-west.ensures
+    (made_as refl (tiled-stay _ c.args.nodes.now c.gathered.new.nodes c.args.height c.args.cuts (c.args.number + 1) c.args.found.now c.in_ok-west.ensures.keeps c.requires.second) c.in_err-east.ensures)
 
-pub beside-returns-clause-east : goal.beside-returns-clause-east
-beside-returns-clause-east t c = second_west _ c.args.nodes.now c.gathered.new.nodes c.gathered-2.new.nodes c.args.height c.args.cuts (c.args.number + 1) c.args.found.now c.in_ok-east.east c.in_ok-west.ensures.keeps c.requires.second c.in_ok-east.ensures.value
-
-pub beside-returns-clause-stood : goal.beside-returns-clause-stood
-beside-returns-clause-stood t c =
-    beside_found c.args.nodes.now c.gathered.new.nodes c.gathered-2.new.nodes c.args.height c.args.cuts c.args.number c.args.found.now c.in_ok-west.west c.in_ok-east.east c.requires.second c.in_ok-west.ensures.stood c.in_ok-east.ensures.stood
+pub beside-returns : goal.beside-returns
+beside-returns t c =
+    both_made (omega arith) c.in_ok-west.ensures
+    (made_as refl (tiled-stay _ c.args.nodes.now c.gathered.new.nodes c.args.height c.args.cuts (c.args.number + 1) c.args.found.now c.in_ok-west.ensures.keeps c.requires.second) c.in_ok-east.ensures)
 
 -- ---- a piece
-pub gathered-returns-then-cuts-eq0-clause-stood : goal.gathered-returns-then-cuts-eq0-clause-stood
-gathered-returns-then-cuts-eq0-clause-stood t c =
+pub gathered-returns-then-cuts-eq0 : goal.gathered-returns-then-cuts-eq0
+gathered-returns-then-cuts-eq0 t c =
     let w = c.requires.within in
     let l = last-least c.args.cuts c.args.number in
     let z = c.requires.size in
-    found_is c.args.nodes.now c.args.nodes.now c.args.height _ _ (reads_itself c.args.nodes.now c.bottom.ensures.work)
+    made_is (reads_itself c.args.nodes.now c.bottom.ensures.work)
     (leaf_value c.args.nodes.now c.args.height c.args.cuts c.args.number c.args.found.now _ _ c.if-cuts-eq0.true (omega (arith, w, l, z)) c.requires.pieces refl)
 
 -- ---- the corner over two rows
+parts : (t : ℕ) (c : gathered-After-beside t) → let h : ℕ = c.args.height in let k : ℕ = c.args.cuts - 1 in let n : ℕ = 4 * c.args.number in let w = c.args.nodes.now in let f = c.args.found.now in
+    AreParts w h (tiled w h c.args.cuts c.args.number f) (h - 1) (tiled w (h - 1) k n f) (tiled w (h - 1) k (n + 1) f) (tiled w (h - 1) k (n + 2) f) (tiled w (h - 1) k (n + 2 + 1) f)
+parts t c = tiled_parts c.args.nodes.now c.args.height c.args.cuts c.args.number c.args.found.now c.bottom.ensures.work c.if-cuts-eq0.false c.requires.deep c.requires.pieces
+
+four : (t : ℕ) (c : gathered-After-beside t) → HoldFour c.args.nodes.now (c.args.height - 1) (c.args.cuts - 1) c.args.number c.args.found.now
+four t c = hold_four c.args.nodes.now c.args.height c.args.cuts c.args.number c.args.found.now c.if-cuts-eq0.false c.requires.pieces
+
 pub gathered-overflow_mul-first : goal.gathered-overflow_mul-first
 gathered-overflow_mul-first t c = let w = c.requires.within in let l = last-least c.args.cuts c.args.number in omega (arith, w, l)
 
@@ -59,10 +66,6 @@ gathered-beside-requires t c =
     let e = last-next c.args.cuts c.args.number n in
     let l = last-grows (c.args.cuts - 1) (4 * c.args.number + 1) (4 * c.args.number + 2 + 1) (omega arith) in
     (omega (arith, n, d), (f.nw, (f.ne, (omega (arith, w, e, l), (c.requires.size, (omega (arith, deep, n), omega (arith, high)))))))
-
-pub gathered-returns-in_err-north-clause-stood : goal.gathered-returns-in_err-north-clause-stood
-gathered-returns-in_err-north-clause-stood t c =
-    north_missed c.args.nodes.now c.beside.new.nodes c.args.height c.args.cuts c.args.number c.args.found.now _ _ c.bottom.ensures.work c.if-cuts-eq0.false c.requires.deep c.requires.pieces c.in_err-north.ensures.stood
 
 pub gathered-overflow_add-first : goal.gathered-overflow_add-first
 gathered-overflow_add-first t c = let w = c.requires.within in let l = last-least c.args.cuts c.args.number in omega (arith, w, l)
@@ -84,65 +87,43 @@ gathered-beside-requires-2 t c =
       ),
     )
 
-pub gathered-returns-in_err-south-clause-stood : goal.gathered-returns-in_err-south-clause-stood
-gathered-returns-in_err-south-clause-stood t c =
-    south_missed c.args.nodes.now c.beside.new.nodes c.beside-2.new.nodes c.args.height c.args.cuts c.args.number c.args.found.now c.in_ok-north.north _ _ c.bottom.ensures.work c.if-cuts-eq0.false c.requires.deep c.requires.pieces c.in_ok-north.ensures.stood c.in_err-south.ensures.stood
-
-pub gathered-returns-in_err-south-clause-keeps : goal.gathered-returns-in_err-south-clause-keeps
-gathered-returns-in_err-south-clause-keeps t c =
+pub gathered-returns-in_err-north : goal.gathered-returns-in_err-north
+gathered-returns-in_err-north t c =
+    let at = (goal.at.gathered-returns-in_err-north t c).After-beside in
+    let p = parts t at in
     let r = corners_next c.args.cuts c.if-cuts-eq0.false in
-    keeps_most _ (corner_words c.args.cuts) c.args.nodes.now c.beside-2.new.nodes (omega (arith, r)) (keeps_on _ _ c.args.nodes.now c.beside.new.nodes c.beside-2.new.nodes c.in_ok-north.ensures.keeps c.in_err-south.ensures.keeps)
+    both_stop c.from_residual.result c.from_residual.ensures.0 (omega (arith, r)) (started p) (nw_under p) (ne_under p) c.in_err-north.ensures
 
-pub gathered-corner-requires-clause-nw_stands : goal.gathered-corner-requires-clause-nw_stands
-gathered-corner-requires-clause-nw_stands t c = quad_stays _ c.beside.new.nodes c.beside-2.new.nodes c.in_ok-north.north.0 c.in_ok-south.ensures.keeps c.in_ok-north.ensures.west.stands
-
-pub gathered-corner-requires-clause-ne_stands : goal.gathered-corner-requires-clause-ne_stands
-gathered-corner-requires-clause-ne_stands t c = quad_stays _ c.beside.new.nodes c.beside-2.new.nodes c.in_ok-north.north.1 c.in_ok-south.ensures.keeps c.in_ok-north.ensures.east.stands
-
-pub gathered-returns-clause-value : goal.gathered-returns-clause-value
-gathered-returns-clause-value t c =
-    tiled_corner _ _ c.args.nodes.now c.beside.new.nodes c.beside-2.new.nodes c.corner.new.self c.args.height c.args.cuts c.args.number c.args.found.now c.in_ok-north.north c.in_ok-south.south c.corner.result c.if-cuts-eq0.false c.requires.deep c.requires.pieces
-    c.in_ok-north.ensures.keeps c.in_ok-south.ensures.keeps c.in_ok-north.ensures.west c.in_ok-north.ensures.east c.in_ok-south.ensures.west c.in_ok-south.ensures.east c.corner.ensures.value
-
-pub gathered-returns-clause-stood : goal.gathered-returns-clause-stood
-gathered-returns-clause-stood t c =
-    gathered_found c.args.nodes.now c.beside.new.nodes c.beside-2.new.nodes c.corner.new.self c.args.height c.args.cuts c.args.number c.args.found.now c.in_ok-north.north c.in_ok-south.south c.corner.result c.bottom.ensures.work c.if-cuts-eq0.false c.requires.deep c.requires.pieces
-    c.in_ok-north.ensures.stood c.in_ok-south.ensures.stood c.corner.ensures.stood
-
-pub gathered-returns-clause-keeps : goal.gathered-returns-clause-keeps
-gathered-returns-clause-keeps t c =
+pub gathered-returns-in_err-south : goal.gathered-returns-in_err-south
+gathered-returns-in_err-south t c =
+    let at = (goal.at.gathered-returns-in_err-south t c).After-beside in
+    let p = parts t at in
     let r = corners_next c.args.cuts c.if-cuts-eq0.false in
-    keeps_most _ (corner_words c.args.cuts) c.args.nodes.now c.corner.new.self (omega (arith, r))
-    (keeps_on _ 3 c.args.nodes.now c.beside-2.new.nodes c.corner.new.self (keeps_on _ _ c.args.nodes.now c.beside.new.nodes c.beside-2.new.nodes c.in_ok-north.ensures.keeps c.in_ok-south.ensures.keeps) c.corner.ensures.keeps)
+    let f = four t at in
+    let u = both_go_on {x = c.in_ok-north.north.0} {y = c.in_ok-north.north.1} (started p) (nw_under p) (ne_under p) c.in_ok-north.ensures in
+    both_stop c.from_residual-in_err-south.result c.from_residual-in_err-south.ensures.0 (omega (arith, r)) u (sw_under p) (se_under p) (both_later (c.args.height - 1) (c.args.cuts - 1) (4 * c.args.number + 2) (4 * c.args.number + 2 + 1) c.args.found.now c.in_ok-north.ensures.keeps f.sw f.se c.in_err-south.ensures)
 
-pub beside-returns-in_err-west-clause-keeps : goal.beside-returns-in_err-west-clause-keeps
-beside-returns-in_err-west-clause-keeps t c = keeps_most _ _ c.args.nodes.now c.gathered.new.nodes (omega arith) c.in_err-west.ensures.keeps
+pub gathered-corner-requires : goal.gathered-corner-requires
+gathered-corner-requires t c =
+    let at = (goal.at.gathered-corner-requires t c).After-beside in
+    let p = parts t at in
+    let f = four t at in
+    let u = both_go_on {x = c.in_ok-north.north.0} {y = c.in_ok-north.north.1} (started p) (nw_under p) (ne_under p) c.in_ok-north.ensures in
+    let v = both_go_on {x = c.in_ok-south.south.0} {y = c.in_ok-south.south.1} u (sw_under p) (se_under p) (both_later (c.args.height - 1) (c.args.cuts - 1) (4 * c.args.number + 2) (4 * c.args.number + 2 + 1) c.args.found.now c.in_ok-north.ensures.keeps f.sw f.se c.in_ok-south.ensures) in
+    let a = v.are in
+    let e = a.1.1.1.0.same_height in
+    let n = c.if-cuts-eq0.false in
+    let high = c.requires.high in
+    let deep = c.requires.deep in
+    record { nw_stands = a.1.1.1.0.stands; ne_stands = a.1.1.0.stands; sw_stands = a.1.0.stands; se_stands = a.0.stands; ne_height = a.1.1.0.same_height ∙ sym e; sw_height = a.1.0.same_height ∙ sym e; se_height = a.0.same_height ∙ sym e; below = omega (arith, e, n, high, deep) }
 
-pub beside-returns-in_err-east-clause-keeps : goal.beside-returns-in_err-east-clause-keeps
-beside-returns-in_err-east-clause-keeps t c = keeps_on _ _ c.args.nodes.now c.gathered.new.nodes c.gathered-2.new.nodes c.in_ok-west.ensures.keeps c.in_err-east.ensures.keeps
-
-pub beside-returns-clause-keeps : goal.beside-returns-clause-keeps
-beside-returns-clause-keeps t c = keeps_on _ _ c.args.nodes.now c.gathered.new.nodes c.gathered-2.new.nodes c.in_ok-west.ensures.keeps c.in_ok-east.ensures.keeps
-
-pub beside-returns-clause-counts : goal.beside-returns-clause-counts
-beside-returns-clause-counts t c = c.in_ok-east.ensures.counts ∙ c.in_ok-west.ensures.counts
-
-pub gathered-returns-then-cuts-eq0-clause-keeps : goal.gathered-returns-then-cuts-eq0-clause-keeps
-gathered-returns-then-cuts-eq0-clause-keeps t c = keeps_itself c.args.nodes.now _ c.bottom.ensures.work
-
-pub gathered-returns-in_err-north-clause-keeps : goal.gathered-returns-in_err-north-clause-keeps
-gathered-returns-in_err-north-clause-keeps t c =
+pub gathered-returns : goal.gathered-returns
+gathered-returns t c =
+    let at = (goal.at.gathered-returns t c).After-beside in
+    let p = parts t at in
     let r = corners_next c.args.cuts c.if-cuts-eq0.false in
-    keeps_most _ (corner_words c.args.cuts) c.args.nodes.now c.beside.new.nodes (omega (arith, r)) c.in_err-north.ensures.keeps
-
-pub gathered-corner-requires-clause-ne_height : goal.gathered-corner-requires-clause-ne_height
-gathered-corner-requires-clause-ne_height t c = c.in_ok-north.ensures.east.same_height ∙ sym c.in_ok-north.ensures.west.same_height
-
-pub gathered-corner-requires-clause-sw_height : goal.gathered-corner-requires-clause-sw_height
-gathered-corner-requires-clause-sw_height t c = c.in_ok-south.ensures.west.same_height ∙ sym c.in_ok-north.ensures.west.same_height
-
-pub gathered-corner-requires-clause-se_height : goal.gathered-corner-requires-clause-se_height
-gathered-corner-requires-clause-se_height t c = c.in_ok-south.ensures.east.same_height ∙ sym c.in_ok-north.ensures.west.same_height
-
-pub gathered-returns-clause-counts : goal.gathered-returns-clause-counts
-gathered-returns-clause-counts t c = counts_on c.args.nodes.now c.beside-2.new.nodes c.corner.new.self c.corner.result (c.in_ok-south.ensures.counts ∙ c.in_ok-north.ensures.counts) c.corner.ensures.counts
+    let f = four t at in
+    let u = both_go_on {x = c.in_ok-north.north.0} {y = c.in_ok-north.north.1} (started p) (nw_under p) (ne_under p) c.in_ok-north.ensures in
+    let v = both_go_on {x = c.in_ok-south.south.0} {y = c.in_ok-south.south.1} u (sw_under p) (se_under p) (both_later (c.args.height - 1) (c.args.cuts - 1) (4 * c.args.number + 2) (4 * c.args.number + 2 + 1) c.args.found.now c.in_ok-north.ensures.keeps f.sw f.se c.in_ok-south.ensures) in
+    let e = c.corner.ensures in
+    ends (omega (arith, r)) v (cornered p v (record { value = e.value; stood = e.stood; keeps = e.keeps; counts = e.counts }))

@@ -1,4 +1,4 @@
-use Rattle.std.proofs.Common.{◌+◌, ◌-◌, not, refl, sym, ap, ◌∙◌, arith}
+use Rattle.std.proofs.Common.{◌+◌, not, refl, sym, ap, ◌∙◌, arith}
 use Rattle.fork_quads.proofs.Forking.{can_seen, keeps_sees, split_did, did_longer, did_all, groups_did, seat_can}
 use Rattle.fork_quads.proofs.group.+groups.Goals as goal
 

@@ -1,7 +1,8 @@
 use Rattle.std.proofs.Common.{◌≡◌, ◌-◌, sym, subst, arith, ◌∙◌, ℕ, ap}
 use Rattle.rel_model.proofs.QuadLaws.{quad_stays, keeps_itself, keeps_on, keeps_most, counts_on}
 use Rattle.rel_compose.proofs.Multiplying.{both_stay}
-use Rattle.fork_quads.proofs.Parts.{product_step, product_value, none_left, none_right, sum_value, value_as, part-none, no_cuts}
+use Rattle.fork_quads.proofs.Parts.{part-none}
+use Rattle.fork_quads.proofs.PartProducts.{product_step, product_value, none_left, none_right, sum_value, value_as, no_cuts}
 use Rattle.fork_quads.proofs.Joining.{product_keeps}
 use Rattle.rel_model.specs.Quads.{KeepsQuads, quad_room}
 use Rattle.fork_quads.specs.Forks.{product_words}

@@ -1,6 +1,7 @@
 use Rattle.memo_laws.specs.Looking.{operator_of}
-use Rattle.fork_quads.proofs.Parts.{square_step, square_value, square_found, square_keeps, value_as, part-none, no_cuts}
-use Rattle.std.proofs.Common.{◌-◌, ℕ, sym, subst, arith}
+use Rattle.fork_quads.proofs.Parts.{square_step, part-none}
+use Rattle.fork_quads.proofs.PartProducts.{square_value, square_found, square_keeps, value_as, no_cuts}
+use Rattle.std.proofs.Common.{ℕ, sym, subst, arith}
 use Rattle.rel_model.specs.Quads.{KeepsQuads}
 use Rattle.rel_model.proofs.QuadLaws.{counts_on}
 use Rattle.fork_quads.proofs.Joining.{work_room-square}

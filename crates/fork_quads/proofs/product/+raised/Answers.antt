@@ -1,4 +1,4 @@
-use Rattle.std.proofs.Common.{refl, ◌-◌, arith}
+use Rattle.std.proofs.Common.{refl, arith}
 use Rattle.rel_model.specs.declared.Quad.{Quad}
 use Rattle.fork_quads.proofs.Products.{raised_value}
 use Rattle.rel_model.proofs.QuadLaws.{keeps_itself, keeps_on, keeps_most, counts_on}

@@ -1,4 +1,4 @@
-use Rattle.std.proofs.Common.{◌-◌, ◌∙◌, arith}
+use Rattle.std.proofs.Common.{◌∙◌, arith}
 use Rattle.std.proofs.lemmas.List.{length-set}
 use Rattle.rel_model.proofs.QuadLaws.{quad_stays, reads_on}
 use Rattle.fork_quads.proofs.way.+met_at.Goals as goal

@@ -1,4 +1,4 @@
-use Rattle.std.proofs.Common.{◌-◌, arith}
+use Rattle.std.proofs.Common.{arith}
 use Rattle.fork_quads.proofs.way.+name_below.Goals as goal
 
 pub name_below-requires : goal.name_below-requires

@@ -1,4 +1,3 @@
-use Rattle.std.proofs.Common.{◌-◌}
 use Rattle.fork_quads.proofs.windows.+first_of.Given as goal
 
 -- proposed from what the function passes where it calls itself

@@ -5,7 +5,7 @@ use Rattle.rel_model.specs.Roots.{height_over}
 use Rattle.rel_model.specs.Worker.{set_of}
 use Rattle.rel_model.proofs.Heights.{height_over-rows, height_over-cols}
 use Rattle.rel_choice.proofs.QuadCounts.{relation-count, empty-name, refused-some}
-use Rattle.rel_choice.proofs.Standing.{gives_quad}
+use Rattle.rel_steps.proofs.Given.{gives_has}
 use Rattle.rel_choice.proofs.counting.count.Goals as goal
 
 pub returns-clause-value : goal.returns-clause-value
@@ -27,7 +27,7 @@ returns-clause-some g c =
     let r = set_of w c.args.r in
     let least : ℕ = g.Q.Core.least in
     let h : ℕ = height_over least c.args.r.rows c.args.r.cols in
-    let s = gives_quad w h (has r) quad c.root-quad.ensures in
+    let s = gives_has w h (has r) quad c.root-quad.ensures in
     let low = g.met.Q.Quads.low_height c.args.q.now quad s in
     let high = g.met.Q.Quads.high_height c.args.q.now quad s in
     refused-some c.counted.result (length r.pairs) quad.name

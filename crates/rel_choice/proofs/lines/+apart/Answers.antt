@@ -2,7 +2,7 @@ use Rattle.std.proofs.Common.{◌∙◌, ◌&&◌, sym, ap}
 use Rattle.rel_choice.specs.Lines.{halves_apart}
 use Rattle.rel_choice.proofs.RowHalves.{leaf-side}
 use Rattle.rel_choice.proofs.Doubles.{none-apart_left, none-apart_right, apart-quarters, kept-halves}
-use Rattle.rel_choice.proofs.Standing.{keeps_quad}
+use Rattle.rel_steps.proofs.Given.{kept_quad}
 use Rattle.rel_model.proofs.Workers.{keeps_trans}
 use Rattle.rel_choice.proofs.lines.+apart.Goals as goal
 
@@ -43,7 +43,7 @@ are_apart_over-returns-clause-value g t c =
     let q = c.quarters-2.ensures.quarters in
     let k = c.quarters-2.ensures.keeps in
     let e = apart-quarters u v w c.args.a c.args.b fa fb p q c.quarters.ensures.keeps k c.requires.b_stands c.requires.one_height in
-    let s = kept-halves w z (fa.2, fa.3) (fb.2, fb.3) c.are_halves_apart.ensures.keeps (keeps_quad v w fa.2 k p.sw) (keeps_quad v w fa.3 k p.se) q.sw q.se in
+    let s = kept-halves w z (fa.2, fa.3) (fb.2, fb.3) c.are_halves_apart.ensures.keeps (kept_quad v w fa.2 k p.sw) (kept_quad v w fa.3 k p.se) q.sw q.se in
     c.are_halves_apart-2.ensures.value ∙ s ∙ sym (e ∙ ap (λ x. x && halves_apart w (fa.2, fa.3) (fb.2, fb.3)) (sym c.are_halves_apart.ensures.value ∙ c.if-not-are_halves_apart.false))
 
 pub are_apart_over-returns-then-not-are_halves_apart-clause-keeps : goal.are_apart_over-returns-then-not-are_halves_apart-clause-keeps

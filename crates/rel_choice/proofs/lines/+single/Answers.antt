@@ -1,8 +1,10 @@
-use Rattle.std.proofs.Common.{◌∙◌, sym}
-use Rattle.rel_choice.proofs.RowHalves.{leaf-side}
-use Rattle.rel_choice.proofs.Doubles.{none-single, kept-single, kept-apart, single-quarters, fails-1, fails-2, fails-3, fails-4, fails-5, last-decides}
+use Rattle.std.proofs.Common.{◌≡◌, ◌∙◌, ℕ, true, sym, arith}
 use Rattle.rel_model.proofs.Workers.{keeps_trans}
 use Rattle.rel_choice.specs.Lines.{quad_single, quads_apart}
+use Rattle.rel_choice.proofs.RowHalves.{leaf-side}
+use Rattle.rel_choice.proofs.Doubles.{none-single, kept-single, kept-apart, single-quarters, fails-1, fails-2, fails-3, fails-4, fails-5, last-decides}
+use Rattle.rel_choice.proofs.lines.+single.Given.{Over}
+use Rattle.rel_choice.proofs.lines.+single.Goals.{is_single_over-After-is_single-2, is_single_over-After-is_single_besides, is_single_over-After-is_single_besides-2, is_single_over-After-are_apart, is_single_over-After-are_apart-2}
 use Rattle.rel_choice.proofs.lines.+single.Goals as goal
 
 pub is_single-returns-then-quad-eq0-clause-value : goal.is_single-returns-then-quad-eq0-clause-value
@@ -14,142 +16,96 @@ is_single-returns-then-quad-eq0-clause-value g t c =
 pub is_single-leaf_is_single-requires : goal.is_single-leaf_is_single-requires
 is_single-leaf_is_single-requires g t c = leaf-side c.args.quad.height g.Q.Core.least c.side_of-side.result (c.if-quad-bottom.true ∙ c.bottom.ensures) g.met.Q.Quads.least_limit c.side_of-side.ensures
 
-pub is_single_over-returns-then-not-is_single-clause-value : goal.is_single_over-returns-then-not-is_single-clause-value
-is_single_over-returns-then-not-is_single-clause-value g t c =
-    let w0 = g.Q.Core.worker c.args.q.now in
-    let w1 = g.Q.Core.worker c.quarters.new.self in
+-- ---- what was found on the way
+found_1 : (g : Over) (t : ℕ) (c : is_single_over-After-is_single-2 g t) → quad_single (g.Q.Core.worker c.quarters.new.self) c.quarters.result.0 ≡ true
+found_1 g t c = sym c.is_single.ensures.value ∙ c.if-not-is_single.false
+
+found_2 : (g : Over) (t : ℕ) (c : is_single_over-After-is_single_besides g t) → quad_single (g.Q.Core.worker c.quarters.new.self) c.quarters.result.1 ≡ true
+found_2 g t c = sym (kept-single _ _ c.quarters.result.1 (c.is_single.ensures.keeps) c.quarters.ensures.quarters.ne) ∙ (sym c.is_single-2.ensures.value ∙ c.if-not-is_single-2.false)
+
+found_3 : (g : Over) (t : ℕ) (c : is_single_over-After-is_single_besides-2 g t) → quad_single (g.Q.Core.worker c.quarters.new.self) c.quarters.result.2 ≡ true
+found_3 g t c = sym (kept-single _ _ c.quarters.result.2 (keeps_trans _ _ _ c.is_single.ensures.keeps c.is_single-2.ensures.keeps) c.quarters.ensures.quarters.sw) ∙ (sym c.is_single_besides.ensures.value ∙ c.if-not-is_single_besides.false)
+
+found_4 : (g : Over) (t : ℕ) (c : is_single_over-After-are_apart g t) → quad_single (g.Q.Core.worker c.quarters.new.self) c.quarters.result.3 ≡ true
+found_4 g t c = sym (kept-single _ _ c.quarters.result.3 (keeps_trans _ _ _ (keeps_trans _ _ _ c.is_single.ensures.keeps c.is_single-2.ensures.keeps) c.is_single_besides.ensures.keeps) c.quarters.ensures.quarters.se) ∙ (sym c.is_single_besides-2.ensures.value ∙ c.if-not-is_single_besides-2.false)
+
+found_5 : (g : Over) (t : ℕ) (c : is_single_over-After-are_apart-2 g t) → quads_apart (g.Q.Core.worker c.quarters.new.self) c.quarters.result.0 c.quarters.result.1 ≡ true
+found_5 g t c = sym (kept-apart _ _ c.quarters.result.0 c.quarters.result.1 (keeps_trans _ _ _ (keeps_trans _ _ _ (keeps_trans _ _ _ c.is_single.ensures.keeps c.is_single-2.ensures.keeps) c.is_single_besides.ensures.keeps) c.is_single_besides-2.ensures.keeps) c.quarters.ensures.quarters.nw c.quarters.ensures.quarters.ne) ∙ (sym c.are_apart.ensures.value ∙ c.if-not-are_apart.false)
+
+-- ---- each answer
+pub is_single_over-returns-then-not-is_single : goal.is_single_over-returns-then-not-is_single
+is_single_over-returns-then-not-is_single g t c =
+    let w = g.Q.Core.worker c.quarters.new.self in
     let four = c.quarters.result in
-    let q = c.quarters.ensures.quarters in
-    let s = single-quarters w0 w1 c.args.quad four q in
-    let p1 = sym c.is_single.ensures.value ∙ c.if-not-is_single.true in
-    sym (s ∙ fails-1 (quad_single w1 four.0) (quad_single w1 four.1) (quad_single w1 four.2) (quad_single w1 four.3) (quads_apart w1 four.0 four.1) (quads_apart w1 four.2 four.3) p1)
+    let s = single-quarters _ w c.args.quad four c.quarters.ensures.quarters in
+    record {
+      value = sym (s ∙ fails-1 (quad_single w four.0) (quad_single w four.1) (quad_single w four.2) (quad_single w four.3) (quads_apart w four.0 four.1) (quads_apart w four.2 four.3) (sym c.is_single.ensures.value ∙ c.if-not-is_single.true));
+      keeps = keeps_trans _ _ _ c.quarters.ensures.keeps c.is_single.ensures.keeps;
+      room = omega arith;
+      misses = c.is_single.ensures.misses ∙ c.quarters.ensures.misses;
+    }
 
-pub is_single_over-returns-then-not-is_single-2-clause-value : goal.is_single_over-returns-then-not-is_single-2-clause-value
-is_single_over-returns-then-not-is_single-2-clause-value g t c =
-    let w0 = g.Q.Core.worker c.args.q.now in
-    let w1 = g.Q.Core.worker c.quarters.new.self in
-    let w2 = g.Q.Core.worker c.is_single.new.q in
+pub is_single_over-returns-then-not-is_single-2 : goal.is_single_over-returns-then-not-is_single-2
+is_single_over-returns-then-not-is_single-2 g t c =
+    let at = goal.at.is_single_over-returns-then-not-is_single-2 g t c in
+    let w = g.Q.Core.worker c.quarters.new.self in
     let four = c.quarters.result in
-    let q = c.quarters.ensures.quarters in
-    let k2 = c.is_single.ensures.keeps in
-    let s = single-quarters w0 w1 c.args.quad four q in
-    let p1 = sym c.is_single.ensures.value ∙ c.if-not-is_single.false in
-    let p2 = sym (kept-single w1 w2 four.1 k2 q.ne) ∙ (sym c.is_single-2.ensures.value ∙ c.if-not-is_single-2.true) in
-    sym (s ∙ fails-2 (quad_single w1 four.0) (quad_single w1 four.1) (quad_single w1 four.2) (quad_single w1 four.3) (quads_apart w1 four.0 four.1) (quads_apart w1 four.2 four.3) p1 p2)
+    let s = single-quarters _ w c.args.quad four c.quarters.ensures.quarters in
+    record {
+      value = sym (s ∙ fails-2 (quad_single w four.0) (quad_single w four.1) (quad_single w four.2) (quad_single w four.3) (quads_apart w four.0 four.1) (quads_apart w four.2 four.3) (found_1 g t at.After-is_single-2) (sym (kept-single _ _ c.quarters.result.1 (c.is_single.ensures.keeps) c.quarters.ensures.quarters.ne) ∙ (sym c.is_single-2.ensures.value ∙ c.if-not-is_single-2.true)));
+      keeps = keeps_trans _ _ _ c.quarters.ensures.keeps (keeps_trans _ _ _ c.is_single.ensures.keeps c.is_single-2.ensures.keeps);
+      room = omega arith;
+      misses = c.is_single-2.ensures.misses ∙ c.is_single.ensures.misses ∙ c.quarters.ensures.misses;
+    }
 
-pub is_single_over-returns-then-not-is_single_besides-clause-value : goal.is_single_over-returns-then-not-is_single_besides-clause-value
-is_single_over-returns-then-not-is_single_besides-clause-value g t c =
-    let w0 = g.Q.Core.worker c.args.q.now in
-    let w1 = g.Q.Core.worker c.quarters.new.self in
-    let w2 = g.Q.Core.worker c.is_single.new.q in
-    let w3 = g.Q.Core.worker c.is_single-2.new.q in
+pub is_single_over-returns-then-not-is_single_besides : goal.is_single_over-returns-then-not-is_single_besides
+is_single_over-returns-then-not-is_single_besides g t c =
+    let at = goal.at.is_single_over-returns-then-not-is_single_besides g t c in
+    let w = g.Q.Core.worker c.quarters.new.self in
     let four = c.quarters.result in
-    let q = c.quarters.ensures.quarters in
-    let k2 = c.is_single.ensures.keeps in
-    let k3 = keeps_trans w1 w2 w3 k2 c.is_single-2.ensures.keeps in
-    let s = single-quarters w0 w1 c.args.quad four q in
-    let p1 = sym c.is_single.ensures.value ∙ c.if-not-is_single.false in
-    let p2 = sym (kept-single w1 w2 four.1 k2 q.ne) ∙ (sym c.is_single-2.ensures.value ∙ c.if-not-is_single-2.false) in
-    let p3 = sym (kept-single w1 w3 four.2 k3 q.sw) ∙ (sym c.is_single_besides.ensures.value ∙ c.if-not-is_single_besides.true) in
-    sym (s ∙ fails-3 (quad_single w1 four.0) (quad_single w1 four.1) (quad_single w1 four.2) (quad_single w1 four.3) (quads_apart w1 four.0 four.1) (quads_apart w1 four.2 four.3) p1 p2 p3)
+    let s = single-quarters _ w c.args.quad four c.quarters.ensures.quarters in
+    record {
+      value = sym (s ∙ fails-3 (quad_single w four.0) (quad_single w four.1) (quad_single w four.2) (quad_single w four.3) (quads_apart w four.0 four.1) (quads_apart w four.2 four.3) (found_1 g t at.After-is_single-2) (found_2 g t at.After-is_single_besides) (sym (kept-single _ _ c.quarters.result.2 (keeps_trans _ _ _ c.is_single.ensures.keeps c.is_single-2.ensures.keeps) c.quarters.ensures.quarters.sw) ∙ (sym c.is_single_besides.ensures.value ∙ c.if-not-is_single_besides.true)));
+      keeps = keeps_trans _ _ _ c.quarters.ensures.keeps (keeps_trans _ _ _ c.is_single.ensures.keeps (keeps_trans _ _ _ c.is_single-2.ensures.keeps c.is_single_besides.ensures.keeps));
+      room = omega arith;
+      misses = c.is_single_besides.ensures.misses ∙ c.is_single-2.ensures.misses ∙ c.is_single.ensures.misses ∙ c.quarters.ensures.misses;
+    }
 
-pub is_single_over-returns-then-not-is_single_besides-2-clause-value : goal.is_single_over-returns-then-not-is_single_besides-2-clause-value
-is_single_over-returns-then-not-is_single_besides-2-clause-value g t c =
-    let w0 = g.Q.Core.worker c.args.q.now in
-    let w1 = g.Q.Core.worker c.quarters.new.self in
-    let w2 = g.Q.Core.worker c.is_single.new.q in
-    let w3 = g.Q.Core.worker c.is_single-2.new.q in
-    let w4 = g.Q.Core.worker c.is_single_besides.new.q in
+pub is_single_over-returns-then-not-is_single_besides-2 : goal.is_single_over-returns-then-not-is_single_besides-2
+is_single_over-returns-then-not-is_single_besides-2 g t c =
+    let at = goal.at.is_single_over-returns-then-not-is_single_besides-2 g t c in
+    let w = g.Q.Core.worker c.quarters.new.self in
     let four = c.quarters.result in
-    let q = c.quarters.ensures.quarters in
-    let k2 = c.is_single.ensures.keeps in
-    let k3 = keeps_trans w1 w2 w3 k2 c.is_single-2.ensures.keeps in
-    let k4 = keeps_trans w1 w3 w4 k3 c.is_single_besides.ensures.keeps in
-    let s = single-quarters w0 w1 c.args.quad four q in
-    let p1 = sym c.is_single.ensures.value ∙ c.if-not-is_single.false in
-    let p2 = sym (kept-single w1 w2 four.1 k2 q.ne) ∙ (sym c.is_single-2.ensures.value ∙ c.if-not-is_single-2.false) in
-    let p3 = sym (kept-single w1 w3 four.2 k3 q.sw) ∙ (sym c.is_single_besides.ensures.value ∙ c.if-not-is_single_besides.false) in
-    let p4 = sym (kept-single w1 w4 four.3 k4 q.se) ∙ (sym c.is_single_besides-2.ensures.value ∙ c.if-not-is_single_besides-2.true) in
-    sym (s ∙ fails-4 (quad_single w1 four.0) (quad_single w1 four.1) (quad_single w1 four.2) (quad_single w1 four.3) (quads_apart w1 four.0 four.1) (quads_apart w1 four.2 four.3) p1 p2 p3 p4)
+    let s = single-quarters _ w c.args.quad four c.quarters.ensures.quarters in
+    record {
+      value = sym (s ∙ fails-4 (quad_single w four.0) (quad_single w four.1) (quad_single w four.2) (quad_single w four.3) (quads_apart w four.0 four.1) (quads_apart w four.2 four.3) (found_1 g t at.After-is_single-2) (found_2 g t at.After-is_single_besides) (found_3 g t at.After-is_single_besides-2) (sym (kept-single _ _ c.quarters.result.3 (keeps_trans _ _ _ (keeps_trans _ _ _ c.is_single.ensures.keeps c.is_single-2.ensures.keeps) c.is_single_besides.ensures.keeps) c.quarters.ensures.quarters.se) ∙ (sym c.is_single_besides-2.ensures.value ∙ c.if-not-is_single_besides-2.true)));
+      keeps = keeps_trans _ _ _ c.quarters.ensures.keeps (keeps_trans _ _ _ c.is_single.ensures.keeps (keeps_trans _ _ _ c.is_single-2.ensures.keeps (keeps_trans _ _ _ c.is_single_besides.ensures.keeps c.is_single_besides-2.ensures.keeps)));
+      room = omega arith;
+      misses = c.is_single_besides-2.ensures.misses ∙ c.is_single_besides.ensures.misses ∙ c.is_single-2.ensures.misses ∙ c.is_single.ensures.misses ∙ c.quarters.ensures.misses;
+    }
 
-pub is_single_over-returns-then-not-are_apart-clause-value : goal.is_single_over-returns-then-not-are_apart-clause-value
-is_single_over-returns-then-not-are_apart-clause-value g t c =
-    let w0 = g.Q.Core.worker c.args.q.now in
-    let w1 = g.Q.Core.worker c.quarters.new.self in
-    let w2 = g.Q.Core.worker c.is_single.new.q in
-    let w3 = g.Q.Core.worker c.is_single-2.new.q in
-    let w4 = g.Q.Core.worker c.is_single_besides.new.q in
-    let w5 = g.Q.Core.worker c.is_single_besides-2.new.q in
+pub is_single_over-returns-then-not-are_apart : goal.is_single_over-returns-then-not-are_apart
+is_single_over-returns-then-not-are_apart g t c =
+    let at = goal.at.is_single_over-returns-then-not-are_apart g t c in
+    let w = g.Q.Core.worker c.quarters.new.self in
     let four = c.quarters.result in
-    let q = c.quarters.ensures.quarters in
-    let k2 = c.is_single.ensures.keeps in
-    let k3 = keeps_trans w1 w2 w3 k2 c.is_single-2.ensures.keeps in
-    let k4 = keeps_trans w1 w3 w4 k3 c.is_single_besides.ensures.keeps in
-    let k5 = keeps_trans w1 w4 w5 k4 c.is_single_besides-2.ensures.keeps in
-    let s = single-quarters w0 w1 c.args.quad four q in
-    let p1 = sym c.is_single.ensures.value ∙ c.if-not-is_single.false in
-    let p2 = sym (kept-single w1 w2 four.1 k2 q.ne) ∙ (sym c.is_single-2.ensures.value ∙ c.if-not-is_single-2.false) in
-    let p3 = sym (kept-single w1 w3 four.2 k3 q.sw) ∙ (sym c.is_single_besides.ensures.value ∙ c.if-not-is_single_besides.false) in
-    let p4 = sym (kept-single w1 w4 four.3 k4 q.se) ∙ (sym c.is_single_besides-2.ensures.value ∙ c.if-not-is_single_besides-2.false) in
-    let p5 = sym (kept-apart w1 w5 four.0 four.1 k5 q.nw q.ne) ∙ (sym c.are_apart.ensures.value ∙ c.if-not-are_apart.true) in
-    sym (s ∙ fails-5 (quad_single w1 four.0) (quad_single w1 four.1) (quad_single w1 four.2) (quad_single w1 four.3) (quads_apart w1 four.0 four.1) (quads_apart w1 four.2 four.3) p1 p2 p3 p4 p5)
+    let s = single-quarters _ w c.args.quad four c.quarters.ensures.quarters in
+    record {
+      value = sym (s ∙ fails-5 (quad_single w four.0) (quad_single w four.1) (quad_single w four.2) (quad_single w four.3) (quads_apart w four.0 four.1) (quads_apart w four.2 four.3) (found_1 g t at.After-is_single-2) (found_2 g t at.After-is_single_besides) (found_3 g t at.After-is_single_besides-2) (found_4 g t at.After-are_apart) (sym (kept-apart _ _ c.quarters.result.0 c.quarters.result.1 (keeps_trans _ _ _ (keeps_trans _ _ _ (keeps_trans _ _ _ c.is_single.ensures.keeps c.is_single-2.ensures.keeps) c.is_single_besides.ensures.keeps) c.is_single_besides-2.ensures.keeps) c.quarters.ensures.quarters.nw c.quarters.ensures.quarters.ne) ∙ (sym c.are_apart.ensures.value ∙ c.if-not-are_apart.true)));
+      keeps = keeps_trans _ _ _ c.quarters.ensures.keeps (keeps_trans _ _ _ c.is_single.ensures.keeps (keeps_trans _ _ _ c.is_single-2.ensures.keeps (keeps_trans _ _ _ c.is_single_besides.ensures.keeps (keeps_trans _ _ _ c.is_single_besides-2.ensures.keeps c.are_apart.ensures.keeps))));
+      room = omega arith;
+      misses = c.are_apart.ensures.misses ∙ c.is_single_besides-2.ensures.misses ∙ c.is_single_besides.ensures.misses ∙ c.is_single-2.ensures.misses ∙ c.is_single.ensures.misses ∙ c.quarters.ensures.misses;
+    }
 
-pub is_single_over-returns-clause-value : goal.is_single_over-returns-clause-value
-is_single_over-returns-clause-value g t c =
-    let w0 = g.Q.Core.worker c.args.q.now in
-    let w1 = g.Q.Core.worker c.quarters.new.self in
-    let w2 = g.Q.Core.worker c.is_single.new.q in
-    let w3 = g.Q.Core.worker c.is_single-2.new.q in
-    let w4 = g.Q.Core.worker c.is_single_besides.new.q in
-    let w5 = g.Q.Core.worker c.is_single_besides-2.new.q in
-    let w6 = g.Q.Core.worker c.are_apart.new.q in
+pub is_single_over-returns : goal.is_single_over-returns
+is_single_over-returns g t c =
+    let at = goal.at.is_single_over-returns g t c in
+    let w = g.Q.Core.worker c.quarters.new.self in
     let four = c.quarters.result in
-    let q = c.quarters.ensures.quarters in
-    let k2 = c.is_single.ensures.keeps in
-    let k3 = keeps_trans w1 w2 w3 k2 c.is_single-2.ensures.keeps in
-    let k4 = keeps_trans w1 w3 w4 k3 c.is_single_besides.ensures.keeps in
-    let k5 = keeps_trans w1 w4 w5 k4 c.is_single_besides-2.ensures.keeps in
-    let k6 = keeps_trans w1 w5 w6 k5 c.are_apart.ensures.keeps in
-    let s = single-quarters w0 w1 c.args.quad four q in
-    let p1 = sym c.is_single.ensures.value ∙ c.if-not-is_single.false in
-    let p2 = sym (kept-single w1 w2 four.1 k2 q.ne) ∙ (sym c.is_single-2.ensures.value ∙ c.if-not-is_single-2.false) in
-    let p3 = sym (kept-single w1 w3 four.2 k3 q.sw) ∙ (sym c.is_single_besides.ensures.value ∙ c.if-not-is_single_besides.false) in
-    let p4 = sym (kept-single w1 w4 four.3 k4 q.se) ∙ (sym c.is_single_besides-2.ensures.value ∙ c.if-not-is_single_besides-2.false) in
-    let p5 = sym (kept-apart w1 w5 four.0 four.1 k5 q.nw q.ne) ∙ (sym c.are_apart.ensures.value ∙ c.if-not-are_apart.false) in
-    c.are_apart-2.ensures.value ∙ kept-apart w1 w6 four.2 four.3 k6 q.sw q.se ∙ sym (s ∙ last-decides (quad_single w1 four.0) (quad_single w1 four.1) (quad_single w1 four.2) (quad_single w1 four.3) (quads_apart w1 four.0 four.1) (quads_apart w1 four.2 four.3) p1 p2 p3 p4 p5)
-
-pub is_single_over-returns-then-not-is_single-clause-keeps : goal.is_single_over-returns-then-not-is_single-clause-keeps
-is_single_over-returns-then-not-is_single-clause-keeps g t c = keeps_trans _ _ _ c.quarters.ensures.keeps c.is_single.ensures.keeps
-
-pub is_single_over-returns-then-not-is_single-clause-misses : goal.is_single_over-returns-then-not-is_single-clause-misses
-is_single_over-returns-then-not-is_single-clause-misses g t c = c.is_single.ensures.misses ∙ c.quarters.ensures.misses
-
-pub is_single_over-returns-then-not-is_single-2-clause-keeps : goal.is_single_over-returns-then-not-is_single-2-clause-keeps
-is_single_over-returns-then-not-is_single-2-clause-keeps g t c = keeps_trans _ _ _ c.quarters.ensures.keeps (keeps_trans _ _ _ c.is_single.ensures.keeps c.is_single-2.ensures.keeps)
-
-pub is_single_over-returns-then-not-is_single-2-clause-misses : goal.is_single_over-returns-then-not-is_single-2-clause-misses
-is_single_over-returns-then-not-is_single-2-clause-misses g t c = c.is_single-2.ensures.misses ∙ c.is_single.ensures.misses ∙ c.quarters.ensures.misses
-
-pub is_single_over-returns-then-not-is_single_besides-clause-keeps : goal.is_single_over-returns-then-not-is_single_besides-clause-keeps
-is_single_over-returns-then-not-is_single_besides-clause-keeps g t c = keeps_trans _ _ _ c.quarters.ensures.keeps (keeps_trans _ _ _ c.is_single.ensures.keeps (keeps_trans _ _ _ c.is_single-2.ensures.keeps c.is_single_besides.ensures.keeps))
-
-pub is_single_over-returns-then-not-is_single_besides-clause-misses : goal.is_single_over-returns-then-not-is_single_besides-clause-misses
-is_single_over-returns-then-not-is_single_besides-clause-misses g t c = c.is_single_besides.ensures.misses ∙ c.is_single-2.ensures.misses ∙ c.is_single.ensures.misses ∙ c.quarters.ensures.misses
-
-pub is_single_over-returns-then-not-is_single_besides-2-clause-keeps : goal.is_single_over-returns-then-not-is_single_besides-2-clause-keeps
-is_single_over-returns-then-not-is_single_besides-2-clause-keeps g t c = keeps_trans _ _ _ c.quarters.ensures.keeps (keeps_trans _ _ _ c.is_single.ensures.keeps (keeps_trans _ _ _ c.is_single-2.ensures.keeps (keeps_trans _ _ _ c.is_single_besides.ensures.keeps c.is_single_besides-2.ensures.keeps)))
-
-pub is_single_over-returns-then-not-is_single_besides-2-clause-misses : goal.is_single_over-returns-then-not-is_single_besides-2-clause-misses
-is_single_over-returns-then-not-is_single_besides-2-clause-misses g t c = c.is_single_besides-2.ensures.misses ∙ c.is_single_besides.ensures.misses ∙ c.is_single-2.ensures.misses ∙ c.is_single.ensures.misses ∙ c.quarters.ensures.misses
-
-pub is_single_over-returns-then-not-are_apart-clause-keeps : goal.is_single_over-returns-then-not-are_apart-clause-keeps
-is_single_over-returns-then-not-are_apart-clause-keeps g t c = keeps_trans _ _ _ c.quarters.ensures.keeps (keeps_trans _ _ _ c.is_single.ensures.keeps (keeps_trans _ _ _ c.is_single-2.ensures.keeps (keeps_trans _ _ _ c.is_single_besides.ensures.keeps (keeps_trans _ _ _ c.is_single_besides-2.ensures.keeps c.are_apart.ensures.keeps))))
-
-pub is_single_over-returns-then-not-are_apart-clause-misses : goal.is_single_over-returns-then-not-are_apart-clause-misses
-is_single_over-returns-then-not-are_apart-clause-misses g t c = c.are_apart.ensures.misses ∙ c.is_single_besides-2.ensures.misses ∙ c.is_single_besides.ensures.misses ∙ c.is_single-2.ensures.misses ∙ c.is_single.ensures.misses ∙ c.quarters.ensures.misses
-
-pub is_single_over-returns-clause-keeps : goal.is_single_over-returns-clause-keeps
-is_single_over-returns-clause-keeps g t c = keeps_trans _ _ _ c.quarters.ensures.keeps (keeps_trans _ _ _ c.is_single.ensures.keeps (keeps_trans _ _ _ c.is_single-2.ensures.keeps (keeps_trans _ _ _ c.is_single_besides.ensures.keeps (keeps_trans _ _ _ c.is_single_besides-2.ensures.keeps (keeps_trans _ _ _ c.are_apart.ensures.keeps c.are_apart-2.ensures.keeps)))))
-
-pub is_single_over-returns-clause-misses : goal.is_single_over-returns-clause-misses
-is_single_over-returns-clause-misses g t c = c.are_apart-2.ensures.misses ∙ c.are_apart.ensures.misses ∙ c.is_single_besides-2.ensures.misses ∙ c.is_single_besides.ensures.misses ∙ c.is_single-2.ensures.misses ∙ c.is_single.ensures.misses ∙ c.quarters.ensures.misses
+    let s = single-quarters _ w c.args.quad four c.quarters.ensures.quarters in
+    record {
+      value = c.are_apart-2.ensures.value ∙ kept-apart _ _ four.2 four.3 (keeps_trans _ _ _ (keeps_trans _ _ _ (keeps_trans _ _ _ (keeps_trans _ _ _ c.is_single.ensures.keeps c.is_single-2.ensures.keeps) c.is_single_besides.ensures.keeps) c.is_single_besides-2.ensures.keeps) c.are_apart.ensures.keeps) c.quarters.ensures.quarters.sw c.quarters.ensures.quarters.se ∙ sym (s ∙ last-decides (quad_single w four.0) (quad_single w four.1) (quad_single w four.2) (quad_single w four.3) (quads_apart w four.0 four.1) (quads_apart w four.2 four.3) (found_1 g t at.After-is_single-2) (found_2 g t at.After-is_single_besides) (found_3 g t at.After-is_single_besides-2) (found_4 g t at.After-are_apart) (found_5 g t at.After-are_apart-2));
+      keeps = keeps_trans _ _ _ c.quarters.ensures.keeps (keeps_trans _ _ _ c.is_single.ensures.keeps (keeps_trans _ _ _ c.is_single-2.ensures.keeps (keeps_trans _ _ _ c.is_single_besides.ensures.keeps (keeps_trans _ _ _ c.is_single_besides-2.ensures.keeps (keeps_trans _ _ _ c.are_apart.ensures.keeps c.are_apart-2.ensures.keeps)))));
+      room = omega arith;
+      misses = c.are_apart-2.ensures.misses ∙ c.are_apart.ensures.misses ∙ c.is_single_besides-2.ensures.misses ∙ c.is_single_besides.ensures.misses ∙ c.is_single-2.ensures.misses ∙ c.is_single.ensures.misses ∙ c.quarters.ensures.misses;
+    }

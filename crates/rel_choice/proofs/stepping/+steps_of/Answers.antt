@@ -4,7 +4,7 @@ use Rattle.rel_model.specs.Cells.{no_cells}
 use Rattle.rel_model.specs.Worker.{GivesQuad}
 use Rattle.rel_choice.proofs.StepQuads.{steps-next}
 use Rattle.rel_model.proofs.Workers.{keeps_trans}
-use Rattle.rel_choice.proofs.Causes.{done-cause}
+use Rattle.rel_steps.proofs.Causes.{done_cause}
 use Rattle.rel_choice.proofs.stepping.+steps_of.Goals as goal
 
 pub returns-clause-value : goal.returns-clause-value
@@ -32,4 +32,4 @@ pub returns-clause-keeps : goal.returns-clause-keeps
 returns-clause-keeps g t c = keeps_trans _ _ _ c.in_ok-below.ensures.keeps (keeps_trans _ _ _ c.in_ok-whole.ensures.keeps c.in_ok-carry.ensures.keeps)
 
 pub returns-clause-cause : goal.returns-clause-cause
-returns-clause-cause g t c = done-cause _ _ _ _ (c.in_ok-carry.ensures.cause.done ∙ c.in_ok-whole.ensures.cause.done ∙ c.in_ok-below.ensures.cause.done)
+returns-clause-cause g t c = done_cause _ _ _ _ (c.in_ok-carry.ensures.cause.done ∙ c.in_ok-whole.ensures.cause.done ∙ c.in_ok-below.ensures.cause.done)

@@ -5,11 +5,11 @@ use Rattle.rel_model.specs.Roots.{height_over}
 use Rattle.rel_model.specs.Worker.{set_of, quad_set, Gives, operator_room}
 use Rattle.rel_model.proofs.Heights.{power_up, height_over-rows}
 use Rattle.rel_choice.specs.Steps.{step_room}
-use Rattle.rel_choice.proofs.Standing.{gives_quad}
+use Rattle.rel_steps.proofs.Given.{gives_has}
 use Rattle.rel_choice.proofs.StepCells.{steps-cut, steps-lie}
 use Rattle.rel_choice.proofs.StepQuads.{side-height, cut-set, bound_height}
 use Rattle.rel_model.proofs.Workers.{keeps_trans}
-use Rattle.rel_choice.proofs.Causes.{done-cause}
+use Rattle.rel_steps.proofs.Causes.{done_cause}
 use Rattle.rel_choice.proofs.stepping.step_below.Goals as goal
 
 pub returns-in_err-all-clause-room : goal.returns-in_err-all-clause-room
@@ -27,12 +27,12 @@ returns-in_err-steps-clause-room g c =
 
 pub side_of-side-requires : goal.side_of-side-requires
 unfolding top_height
-side_of-side-requires g c = g.met.Q.Quads.high_height c.full.new.self c.root-bound.result (gives_quad (g.Q.Core.worker c.full.new.self) (height_over g.Q.Core.least c.in_ok-all.all.rows c.in_ok-all.all.cols) (has (set_of (g.Q.Core.worker c.full.new.self) c.in_ok-all.all)) c.root-bound.result c.root-bound.ensures)
+side_of-side-requires g c = g.met.Q.Quads.high_height c.full.new.self c.root-bound.result (gives_has (g.Q.Core.worker c.full.new.self) (height_over g.Q.Core.least c.in_ok-all.all.rows c.in_ok-all.all.cols) (has (set_of (g.Q.Core.worker c.full.new.self) c.in_ok-all.all)) c.root-bound.result c.root-bound.ensures)
 
 pub rel-whole-requires-clause-row_limit : goal.rel-whole-requires-clause-row_limit
 unfolding top_height
 rel-whole-requires-clause-row_limit g c =
-    let h = g.met.Q.Quads.high_height c.full.new.self c.root-bound.result (gives_quad (g.Q.Core.worker c.full.new.self) (height_over g.Q.Core.least c.in_ok-all.all.rows c.in_ok-all.all.cols) (has (set_of (g.Q.Core.worker c.full.new.self) c.in_ok-all.all)) c.root-bound.result c.root-bound.ensures) in
+    let h = g.met.Q.Quads.high_height c.full.new.self c.root-bound.result (gives_has (g.Q.Core.worker c.full.new.self) (height_over g.Q.Core.least c.in_ok-all.all.rows c.in_ok-all.all.cols) (has (set_of (g.Q.Core.worker c.full.new.self) c.in_ok-all.all)) c.root-bound.result c.root-bound.ensures) in
     let p = power_up c.root-bound.result.height 24 h in
     let e = c.side_of-side.ensures in
     omega (arith, p, e)
@@ -40,7 +40,7 @@ rel-whole-requires-clause-row_limit g c =
 pub rel-whole-requires-clause-col_limit : goal.rel-whole-requires-clause-col_limit
 unfolding top_height
 rel-whole-requires-clause-col_limit g c =
-    let h = g.met.Q.Quads.high_height c.full.new.self c.root-bound.result (gives_quad (g.Q.Core.worker c.full.new.self) (height_over g.Q.Core.least c.in_ok-all.all.rows c.in_ok-all.all.cols) (has (set_of (g.Q.Core.worker c.full.new.self) c.in_ok-all.all)) c.root-bound.result c.root-bound.ensures) in
+    let h = g.met.Q.Quads.high_height c.full.new.self c.root-bound.result (gives_has (g.Q.Core.worker c.full.new.self) (height_over g.Q.Core.least c.in_ok-all.all.rows c.in_ok-all.all.cols) (has (set_of (g.Q.Core.worker c.full.new.self) c.in_ok-all.all)) c.root-bound.result c.root-bound.ensures) in
     let p = power_up c.root-bound.result.height 24 h in
     let e = c.side_of-side.ensures in
     omega (arith, p, e)
@@ -48,7 +48,7 @@ rel-whole-requires-clause-col_limit g c =
 pub rel-whole-requires-clause-height : goal.rel-whole-requires-clause-height
 unfolding top_height
 rel-whole-requires-clause-height g c =
-    let s = gives_quad (g.Q.Core.worker c.full.new.self) (height_over g.Q.Core.least c.in_ok-all.all.rows c.in_ok-all.all.cols) (has (set_of (g.Q.Core.worker c.full.new.self) c.in_ok-all.all)) c.root-bound.result c.root-bound.ensures in
+    let s = gives_has (g.Q.Core.worker c.full.new.self) (height_over g.Q.Core.least c.in_ok-all.all.rows c.in_ok-all.all.cols) (has (set_of (g.Q.Core.worker c.full.new.self) c.in_ok-all.all)) c.root-bound.result c.root-bound.ensures in
     let l = g.met.Q.Quads.low_height c.full.new.self c.root-bound.result s in
     let h = g.met.Q.Quads.high_height c.full.new.self c.root-bound.result s in
     let whole = c.in_ok-steps.ensures.value.whole in
@@ -57,7 +57,7 @@ rel-whole-requires-clause-height g c =
 pub rel-within-requires-clause-height : goal.rel-within-requires-clause-height
 unfolding top_height
 rel-within-requires-clause-height g c =
-    let s = gives_quad (g.Q.Core.worker c.full.new.self) (height_over g.Q.Core.least c.in_ok-all.all.rows c.in_ok-all.all.cols) (has (set_of (g.Q.Core.worker c.full.new.self) c.in_ok-all.all)) c.root-bound.result c.root-bound.ensures in
+    let s = gives_has (g.Q.Core.worker c.full.new.self) (height_over g.Q.Core.least c.in_ok-all.all.rows c.in_ok-all.all.cols) (has (set_of (g.Q.Core.worker c.full.new.self) c.in_ok-all.all)) c.root-bound.result c.root-bound.ensures in
     let l = g.met.Q.Quads.low_height c.full.new.self c.root-bound.result s in
     let h = g.met.Q.Quads.high_height c.full.new.self c.root-bound.result s in
     side-height g.Q.Core.least c.root-bound.result.height c.side_of-side.result l h c.side_of-side.ensures
@@ -83,7 +83,7 @@ rel-requires-clause-height g c =
     let all = c.in_ok-all.ensures.value in
     let whole = c.rel-whole.ensures in
     let cut = c.in_ok-cut.ensures.value in
-    let s = gives_quad (g.Q.Core.worker c.full.new.self) (height_over g.Q.Core.least c.in_ok-all.all.rows c.in_ok-all.all.cols) (has (set_of (g.Q.Core.worker c.full.new.self) c.in_ok-all.all)) c.root-bound.result c.root-bound.ensures in
+    let s = gives_has (g.Q.Core.worker c.full.new.self) (height_over g.Q.Core.least c.in_ok-all.all.rows c.in_ok-all.all.cols) (has (set_of (g.Q.Core.worker c.full.new.self) c.in_ok-all.all)) c.root-bound.result c.root-bound.ensures in
     let l = g.met.Q.Quads.low_height c.full.new.self c.root-bound.result s in
     let h = g.met.Q.Quads.high_height c.full.new.self c.root-bound.result s in
     let e = bound_height g.Q.Core.least c.args.n c.in_ok-all.all.rows c.in_ok-all.all.cols c.root-bound.result.height all.row_size all.col_size c.root-bound.ensures.same_height in
@@ -135,4 +135,4 @@ pub returns-clause-keeps : goal.returns-clause-keeps
 returns-clause-keeps g c = keeps_trans _ _ _ c.in_ok-all.ensures.keeps (keeps_trans _ _ _ c.in_ok-steps.ensures.keeps c.in_ok-cut.ensures.keeps)
 
 pub returns-clause-cause : goal.returns-clause-cause
-returns-clause-cause g c = done-cause _ _ _ _ (c.in_ok-cut.ensures.cause.done ∙ c.in_ok-steps.ensures.cause.done ∙ c.in_ok-all.ensures.cause.done)
+returns-clause-cause g c = done_cause _ _ _ _ (c.in_ok-cut.ensures.cause.done ∙ c.in_ok-steps.ensures.cause.done ∙ c.in_ok-all.ensures.cause.done)

@@ -3,7 +3,7 @@ use Rattle.rel_model.specs.Choice.{next_pair as next_pair_of}
 use Rattle.rel_model.specs.Relation.{has}
 use Rattle.rel_model.specs.Roots.{height_over}
 use Rattle.rel_model.specs.Worker.{set_of, quad_set}
-use Rattle.rel_choice.proofs.Standing.{gives_quad_set}
+use Rattle.rel_steps.proofs.Given.{gives_quad_set}
 use Rattle.rel_choice.proofs.Nearest.{next-first, next-behind}
 use Rattle.rel_choice.proofs.walking.next_pair.Goals as goal
 

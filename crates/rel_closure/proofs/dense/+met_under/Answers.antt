@@ -1,5 +1,5 @@
 use Rattle.std.proofs.Common.{◌<◌, arith}
-use Rattle.rel_closure.proofs.OverQuads.{kept_quad}
+use Rattle.rel_steps.proofs.Given.{kept_quad}
 use Rattle.rel_closure.proofs.OverRows.{reads_five}
 use Rattle.rel_closure.proofs.dense.+met_under.Goals as goal
 

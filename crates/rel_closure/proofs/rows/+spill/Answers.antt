@@ -1,7 +1,7 @@
-use Rattle.std.proofs.Common.{◌≡◌, ◌<◌, ◌%◌, ◌^◌, ◌∙◌, ℕ, ap, arith}
+use Rattle.std.proofs.Common.{◌≡◌, ◌<◌, ◌^◌, ◌∙◌, ℕ, ap, arith, ◌+◌, inl, inr, refl}
 use Rattle.bit_rows.specs.Rows.{rows_cells}
-use Rattle.rel_closure.proofs.OverQuads.{kept_quad, double_side}
-use Rattle.rel_closure.proofs.OverRows.{half_on, reads_itself, reads_five, spilled_none, spilled_block, spilled_four}
+use Rattle.rel_steps.proofs.Given.{kept_quad}
+use Rattle.rel_closure.proofs.OverRows.{fits, reads_itself, reads_five, spilled_none, spilled_block, spilled_four}
 use Rattle.rel_closure.proofs.rows.+spill.Goals as goal
 
 pub returns-then-q-eq0-clause-cells : goal.returns-then-q-eq0-clause-cells
@@ -40,57 +40,41 @@ pub spill-requires : goal.spill-requires
 spill-requires g t c κs within =
     let q = c.quarters.ensures.quarters in
     let four = c.quarters.result in
-    let s = double_side four.0.height c.args.q.height q.nw_height in
-    let r = c.requires.row_in in
-    let m = c.requires.col_in in
     let e = q.nw_height in
+    let low = g.met.Q.Quads.low_height c.quarters.new.self four.0 q.nw in
     let falls : four.0.height < t = (let d = c.decreases in omega (arith, e, d)) in
-    (falls, (within, (q.nw, (c.requires.leaf, (c.requires.z_len, (omega (arith, s, r), (omega (arith, s, m), c.requires.col_on)))))))
+    let f = fits c.args.q.height four.0.height four.0.height c.side_of-half.result c.args.row c.args.col c.args.row c.args.col (omega (arith, low, c.requires.leaf)) q.nw_height e c.side_of-half.ensures c.requires.row_in c.requires.col_in c.requires.col_on (inl refl) (inl refl) in
+    (falls, (within, (q.nw, (c.requires.leaf, (c.requires.z_len, (f.row_in, (f.col_in, f.col_on)))))))
 
 pub spill-requires-2 : goal.spill-requires-2
 spill-requires-2 g t c κs within =
     let q = c.quarters.ensures.quarters in
     let four = c.quarters.result in
     let e = q.ne_height in
-    let s = double_side four.1.height c.args.q.height e in
-    let k = double_side four.0.height c.args.q.height q.nw_height in
-    let h = c.side_of-half.ensures in
-    let by : c.side_of-half.result % 8 ≡ 0 = half_on g.Q.Core.least four.0.height c.side_of-half.result c.requires.leaf (g.met.Q.Quads.low_height c.quarters.new.self four.0 q.nw) h in
-    let r = c.requires.row_in in
-    let m = c.requires.col_in in
-    let o = c.requires.col_on in
+    let low = g.met.Q.Quads.low_height c.quarters.new.self four.0 q.nw in
     let falls : four.1.height < t = (let d = c.decreases in omega (arith, e, d)) in
-    (falls, (within, ((kept_quad (g.Q.Core.worker c.quarters.new.self) (g.Q.Core.worker c.spill.new.quads) four.1 c.spill.ensures.reads.keeps q.ne), (c.requires.leaf, (c.spill.ensures.len, (omega (arith, s, k, h, r), (omega (arith, s, k, h, m), omega (arith, by, o))))))))
+    let f = fits c.args.q.height four.0.height four.1.height c.side_of-half.result c.args.row c.args.col c.args.row (c.args.col + c.side_of-half.result) (omega (arith, low, c.requires.leaf)) q.nw_height e c.side_of-half.ensures c.requires.row_in c.requires.col_in c.requires.col_on (inl refl) (inr refl) in
+    (falls, (within, (kept_quad _ _ _ c.spill.ensures.reads.keeps q.ne, (c.requires.leaf, (c.spill.ensures.len, (f.row_in, (f.col_in, f.col_on)))))))
 
 pub spill-requires-3 : goal.spill-requires-3
 spill-requires-3 g t c κs within =
     let q = c.quarters.ensures.quarters in
     let four = c.quarters.result in
     let e = q.sw_height in
-    let s = double_side four.2.height c.args.q.height e in
-    let k = double_side four.0.height c.args.q.height q.nw_height in
-    let h = c.side_of-half.ensures in
-    let by : c.side_of-half.result % 8 ≡ 0 = half_on g.Q.Core.least four.0.height c.side_of-half.result c.requires.leaf (g.met.Q.Quads.low_height c.quarters.new.self four.0 q.nw) h in
-    let r = c.requires.row_in in
-    let m = c.requires.col_in in
-    let o = c.requires.col_on in
+    let low = g.met.Q.Quads.low_height c.quarters.new.self four.0 q.nw in
     let falls : four.2.height < t = (let d = c.decreases in omega (arith, e, d)) in
-    (falls, (within, ((kept_quad (g.Q.Core.worker c.spill.new.quads) (g.Q.Core.worker c.spill-2.new.quads) four.2 c.spill-2.ensures.reads.keeps (kept_quad (g.Q.Core.worker c.quarters.new.self) (g.Q.Core.worker c.spill.new.quads) four.2 c.spill.ensures.reads.keeps q.sw)), (c.requires.leaf, (c.spill-2.ensures.len, (omega (arith, s, k, h, r), (omega (arith, s, k, h, m), omega (arith, by, o))))))))
+    let f = fits c.args.q.height four.0.height four.2.height c.side_of-half.result c.args.row c.args.col (c.args.row + c.side_of-half.result) c.args.col (omega (arith, low, c.requires.leaf)) q.nw_height e c.side_of-half.ensures c.requires.row_in c.requires.col_in c.requires.col_on (inr refl) (inl refl) in
+    (falls, (within, (kept_quad _ _ _ c.spill-2.ensures.reads.keeps (kept_quad _ _ _ c.spill.ensures.reads.keeps q.sw), (c.requires.leaf, (c.spill-2.ensures.len, (f.row_in, (f.col_in, f.col_on)))))))
 
 pub spill-requires-4 : goal.spill-requires-4
 spill-requires-4 g t c κs within =
     let q = c.quarters.ensures.quarters in
     let four = c.quarters.result in
     let e = q.se_height in
-    let s = double_side four.3.height c.args.q.height e in
-    let k = double_side four.0.height c.args.q.height q.nw_height in
-    let h = c.side_of-half.ensures in
-    let by : c.side_of-half.result % 8 ≡ 0 = half_on g.Q.Core.least four.0.height c.side_of-half.result c.requires.leaf (g.met.Q.Quads.low_height c.quarters.new.self four.0 q.nw) h in
-    let r = c.requires.row_in in
-    let m = c.requires.col_in in
-    let o = c.requires.col_on in
+    let low = g.met.Q.Quads.low_height c.quarters.new.self four.0 q.nw in
     let falls : four.3.height < t = (let d = c.decreases in omega (arith, e, d)) in
-    (falls, (within, ((kept_quad (g.Q.Core.worker c.spill-2.new.quads) (g.Q.Core.worker c.spill-3.new.quads) four.3 c.spill-3.ensures.reads.keeps (kept_quad (g.Q.Core.worker c.spill.new.quads) (g.Q.Core.worker c.spill-2.new.quads) four.3 c.spill-2.ensures.reads.keeps (kept_quad (g.Q.Core.worker c.quarters.new.self) (g.Q.Core.worker c.spill.new.quads) four.3 c.spill.ensures.reads.keeps q.se))), (c.requires.leaf, (c.spill-3.ensures.len, (omega (arith, s, k, h, r), (omega (arith, s, k, h, m), omega (arith, by, o))))))))
+    let f = fits c.args.q.height four.0.height four.3.height c.side_of-half.result c.args.row c.args.col (c.args.row + c.side_of-half.result) (c.args.col + c.side_of-half.result) (omega (arith, low, c.requires.leaf)) q.nw_height e c.side_of-half.ensures c.requires.row_in c.requires.col_in c.requires.col_on (inr refl) (inr refl) in
+    (falls, (within, (kept_quad _ _ _ c.spill-3.ensures.reads.keeps (kept_quad _ _ _ c.spill-2.ensures.reads.keeps (kept_quad _ _ _ c.spill.ensures.reads.keeps q.se)), (c.requires.leaf, (c.spill-3.ensures.len, (f.row_in, (f.col_in, f.col_on)))))))
 
 pub returns-clause-cells : goal.returns-clause-cells
 returns-clause-cells g t c =

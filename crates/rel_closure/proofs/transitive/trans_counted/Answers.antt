@@ -1,14 +1,15 @@
-use Rattle.std.proofs.Common.{◌≡◌, ◌<◌, ◌≤◌, ◌+◌, ◌-◌, ◌*◌, ◌^◌, ◌∙◌, ℕ, refl, sym, ap, subst, arith}
+use Rattle.std.proofs.Common.{◌≡◌, ◌<◌, ◌≤◌, ◌+◌, ◌-◌, ◌*◌, ◌^◌, ◌∙◌, max, ℕ, refl, sym, ap, subst, arith}
+use Rattle.std.proofs.Math.Nat.{one-le-pow}
 use Rattle.rel_model.specs.Relation.{Relation}
 use Rattle.rel_model.specs.Closures.{walks_within}
 use Rattle.rel_model.specs.Algebra.{HasType}
-use Rattle.rel_model.specs.Worker.{set_of, height_of}
+use Rattle.rel_model.specs.Worker.{set_of, height_of, Gives}
 use Rattle.rel_model.proofs.Workers.{keeps_itself, keeps_trans}
 use Rattle.rel_model.proofs.Walking.{walks_within-enough}
-use Rattle.rel_model.proofs.Rooms.{operator_room-most, product_room-most}
-use Rattle.rel_closure.proofs.Closing.{first_given, squared_given, still_given, still_enough, enough_given, as_high, round_room, rounds_room, fewer_rounds, next_power}
-use Rattle.std.proofs.Math.Nat.{one-le-pow}
-use Rattle.rel_closure.proofs.Causes.{done-cause}
+use Rattle.rel_steps.proofs.Causes.{done_cause}
+use Rattle.rel_closure.proofs.Closing.{Round, round_of, first_given, squared_given, still_given, still_enough, enough_given, rounds_room, next_power}
+use Rattle.rel_closure.proofs.transitive.trans_counted.Given.{Over}
+use Rattle.rel_closure.proofs.transitive.trans_counted.Goals.{After-step, In_ok-more}
 use Rattle.rel_closure.proofs.transitive.trans_counted.Goals as goal
 
 pub squares-init : goal.squares-init
@@ -28,173 +29,112 @@ squares-init g c =
       room = omega arith;
     }
 
-pub returns-in_err-square-clause-room : goal.returns-in_err-square-clause-room
-returns-in_err-square-clause-room g c =
-    let n : ℕ = c.args.r.rows in
-    let h : ℕ = height_of n in
-    let d : ℕ = c.squares.steps - c.args.steps.now in
+-- ---- one round
+round : (g : Over) (c : After-step g) → Round (c.squares.steps - c.args.steps.now) c.args.r.rows c.squares.walks.rows c.squares.walks.cols
+round g c =
     let i = c.squares.invariant in
-    let before = i.room in
-    let power = i.power in
-    let under = c.squares-test.true in
-    let fewer = fewer_rounds d n (g.met.C.Core.row_limit c.args.core.now c.args.r c.requires.standing) (omega (arith, power, under)) in
-    let rooms = rounds_room (d + 1) n fewer in
-    let wr = as_high c.squares.walks.rows n h i.gives.row_size (omega arith) in
-    let wc = as_high c.squares.walks.cols n h (i.gives.col_size ∙ sym c.requires.square) (omega arith) in
-    let u1 = product_room-most c.squares.walks.rows c.squares.walks.cols c.squares.walks.cols h wr wc wc in
-    let u2 = operator_room-most c.squares.walks.rows c.squares.walks.cols h wr wc in
-    let a = c.in_err-square.ensures.room in
-    let r = round_room d h (g.C.Core.worker c.args.core.now).made (g.C.Core.worker c.squares.core).made (g.C.Core.worker c.compose.new.self).made (g.C.Core.worker c.compose.new.self).made before (omega (arith, a, u1)) (omega arith) in
-    omega (arith, r, rooms)
+    round_of _ _ c.squares.reach _ _ (g.met.C.Core.row_limit c.args.core.now c.args.r c.requires.standing) i.power c.squares-test.true i.gives.row_size (i.gives.col_size ∙ sym c.requires.square)
+
+power : (g : Over) (c : After-step g) → 2 ^ (c.step.new.self - c.args.steps.now) ≡ c.squares.reach + c.squares.reach
+power g c = ap (λ (x : ℕ). 2 ^ (x - c.args.steps.now)) c.step.ensures ∙ next_power c.args.steps.now c.squares.steps c.squares.reach c.squares.invariant.rises c.squares.invariant.power
+
+digits : (g : Over) (c : After-step g) → 2 ^ (c.step.new.self - c.args.steps.now) ≤ max 1 (2 * c.args.r.rows - 1)
+digits g c = omega (arith, power g c, c.squares-test.true)
+
+some : (g : Over) (c : After-step g) → 0 < c.squares.reach
+some g c = let z = one-le-pow (c.squares.steps - c.args.steps.now) 2 (omega arith) in let y = c.squares.invariant.power in omega (arith, z, y)
+
+more : (g : Over) (c : In_ok-more g) → Gives (g.C.Core.worker c.union.new.self) c.args.r.rows c.args.r.cols (walks_within (c.squares.reach + c.squares.reach) (set_of (g.C.Core.worker c.args.core.now) c.args.r)) c.in_ok-more.more
+more g c =
+    let laws = g.met.C.Core in
+    let o = c.args.core.now in
+    let t : HasType c.args.r.rows c.args.r.rows (set_of (g.C.Core.worker o) c.args.r) = record { valid = laws.valid o c.args.r c.requires.standing; row_size = laws.row_size o c.args.r c.requires.standing; col_size = laws.col_size o c.args.r c.requires.standing ∙ sym c.requires.square } in
+    let some : 0 < c.squares.reach = (let z = one-le-pow (c.squares.steps - c.args.steps.now) 2 (omega arith) in let y = c.squares.invariant.power in omega (arith, z, y)) in
+    squared_given (g.C.Core.worker c.squares.core) (g.C.Core.worker c.compose.new.self) (g.C.Core.worker c.union.new.self) c.squares.reach (set_of (g.C.Core.worker o) c.args.r) c.args.r c.squares.walks c.in_ok-square.square c.in_ok-more.more
+    t some c.squares.invariant.gives c.in_ok-square.ensures.keeps c.in_ok-square.ensures.value c.in_ok-more.ensures.value
+
+-- ---- its exits
+pub returns-in_err-square-clause-room : goal.returns-in_err-square-clause-room
+returns-in_err-square-clause-room g c = (round g (goal.at.returns-in_err-square-clause-room g c).After-step).room _ (g.C.Core.worker c.squares.core).made (g.C.Core.worker c.compose.new.self).made _ c.squares.invariant.room c.in_err-square.ensures.room (omega arith)
 
 pub returns-in_err-square-clause-nothing : goal.returns-in_err-square-clause-nothing
-returns-in_err-square-clause-nothing g c few =
-    let z = one-le-pow (c.squares.steps - c.args.steps.now) 2 (omega arith) in
-    let y = c.squares.invariant.power in
-    let under = c.squares-test.true in
-    omega (arith, z, y, under, few)
+returns-in_err-square-clause-nothing g c few = let z = some g (goal.at.returns-in_err-square-clause-nothing g c).After-step in let under = c.squares-test.true in omega (arith, z, under, few)
 
 pub returns-in_err-square-clause-digits : goal.returns-in_err-square-clause-digits
-returns-in_err-square-clause-digits g c =
-    let under = c.squares-test.true in
-    let p = next_power c.args.steps.now c.squares.steps c.squares.reach c.squares.invariant.rises c.squares.invariant.power in
-    let q = ap (λ (x : ℕ). 2 ^ (x - c.args.steps.now)) c.step.ensures ∙ p in
-    omega (arith, q, under)
+returns-in_err-square-clause-digits g c = digits g (goal.at.returns-in_err-square-clause-digits g c).After-step
+
+pub returns-in_err-square-clause-keeps : goal.returns-in_err-square-clause-keeps
+returns-in_err-square-clause-keeps g c = keeps_trans _ _ _ c.squares.invariant.keeps c.in_err-square.ensures.keeps
 
 pub returns-in_err-more-clause-room : goal.returns-in_err-more-clause-room
-returns-in_err-more-clause-room g c =
-    let n : ℕ = c.args.r.rows in
-    let h : ℕ = height_of n in
-    let d : ℕ = c.squares.steps - c.args.steps.now in
-    let i = c.squares.invariant in
-    let before = i.room in
-    let power = i.power in
-    let under = c.squares-test.true in
-    let fewer = fewer_rounds d n (g.met.C.Core.row_limit c.args.core.now c.args.r c.requires.standing) (omega (arith, power, under)) in
-    let rooms = rounds_room (d + 1) n fewer in
-    let wr = as_high c.squares.walks.rows n h i.gives.row_size (omega arith) in
-    let wc = as_high c.squares.walks.cols n h (i.gives.col_size ∙ sym c.requires.square) (omega arith) in
-    let u1 = product_room-most c.squares.walks.rows c.squares.walks.cols c.squares.walks.cols h wr wc wc in
-    let u2 = operator_room-most c.squares.walks.rows c.squares.walks.cols h wr wc in
-    let a = c.in_ok-square.ensures.room in
-    let b = c.in_err-more.ensures.room in
-    let r = round_room d h (g.C.Core.worker c.args.core.now).made (g.C.Core.worker c.squares.core).made (g.C.Core.worker c.compose.new.self).made (g.C.Core.worker c.union.new.self).made before (omega (arith, a, u1)) (omega (arith, b, u2)) in
-    omega (arith, r, rooms)
+returns-in_err-more-clause-room g c = (round g (goal.at.returns-in_err-more-clause-room g c).After-step).room _ (g.C.Core.worker c.squares.core).made (g.C.Core.worker c.compose.new.self).made _ c.squares.invariant.room c.in_ok-square.ensures.room c.in_err-more.ensures.room
 
 pub returns-in_err-more-clause-nothing : goal.returns-in_err-more-clause-nothing
-returns-in_err-more-clause-nothing g c few =
-    let z = one-le-pow (c.squares.steps - c.args.steps.now) 2 (omega arith) in
-    let y = c.squares.invariant.power in
-    let under = c.squares-test.true in
-    omega (arith, z, y, under, few)
+returns-in_err-more-clause-nothing g c few = let z = some g (goal.at.returns-in_err-more-clause-nothing g c).After-step in let under = c.squares-test.true in omega (arith, z, under, few)
 
 pub returns-in_err-more-clause-digits : goal.returns-in_err-more-clause-digits
-returns-in_err-more-clause-digits g c =
-    let under = c.squares-test.true in
-    let p = next_power c.args.steps.now c.squares.steps c.squares.reach c.squares.invariant.rises c.squares.invariant.power in
-    let q = ap (λ (x : ℕ). 2 ^ (x - c.args.steps.now)) c.step.ensures ∙ p in
-    omega (arith, q, under)
+returns-in_err-more-clause-digits g c = digits g (goal.at.returns-in_err-more-clause-digits g c).After-step
+
+pub returns-in_err-more-clause-keeps : goal.returns-in_err-more-clause-keeps
+returns-in_err-more-clause-keeps g c = keeps_trans _ _ _ c.squares.invariant.keeps (keeps_trans _ _ _ c.in_ok-square.ensures.keeps c.in_err-more.ensures.keeps)
 
 pub returns-then-same-clause-room : goal.returns-then-same-clause-room
-returns-then-same-clause-room g c =
-    let n : ℕ = c.args.r.rows in
-    let h : ℕ = height_of n in
-    let d : ℕ = c.squares.steps - c.args.steps.now in
-    let i = c.squares.invariant in
-    let before = i.room in
-    let power = i.power in
-    let under = c.squares-test.true in
-    let fewer = fewer_rounds d n (g.met.C.Core.row_limit c.args.core.now c.args.r c.requires.standing) (omega (arith, power, under)) in
-    let rooms = rounds_room (d + 1) n fewer in
-    let wr = as_high c.squares.walks.rows n h i.gives.row_size (omega arith) in
-    let wc = as_high c.squares.walks.cols n h (i.gives.col_size ∙ sym c.requires.square) (omega arith) in
-    let u1 = product_room-most c.squares.walks.rows c.squares.walks.cols c.squares.walks.cols h wr wc wc in
-    let u2 = operator_room-most c.squares.walks.rows c.squares.walks.cols h wr wc in
-    let a = c.in_ok-square.ensures.room in
-    let b = c.in_ok-more.ensures.room in
-    let r = round_room d h (g.C.Core.worker c.args.core.now).made (g.C.Core.worker c.squares.core).made (g.C.Core.worker c.compose.new.self).made (g.C.Core.worker c.union.new.self).made before (omega (arith, a, u1)) (omega (arith, b, u2)) in
-    omega (arith, r, rooms)
+returns-then-same-clause-room g c = (round g (goal.at.returns-then-same-clause-room g c).After-step).room _ (g.C.Core.worker c.squares.core).made (g.C.Core.worker c.compose.new.self).made _ c.squares.invariant.room c.in_ok-square.ensures.room c.in_ok-more.ensures.room
 
 pub returns-then-same-clause-nothing : goal.returns-then-same-clause-nothing
-returns-then-same-clause-nothing g c few =
-    let z = one-le-pow (c.squares.steps - c.args.steps.now) 2 (omega arith) in
-    let y = c.squares.invariant.power in
-    let under = c.squares-test.true in
-    omega (arith, z, y, under, few)
+returns-then-same-clause-nothing g c few = let z = some g (goal.at.returns-then-same-clause-nothing g c).After-step in let under = c.squares-test.true in omega (arith, z, under, few)
 
 pub returns-then-same-clause-digits : goal.returns-then-same-clause-digits
-returns-then-same-clause-digits g c =
-    let under = c.squares-test.true in
-    let p = next_power c.args.steps.now c.squares.steps c.squares.reach c.squares.invariant.rises c.squares.invariant.power in
-    let q = ap (λ (x : ℕ). 2 ^ (x - c.args.steps.now)) c.step.ensures ∙ p in
-    omega (arith, q, under)
+returns-then-same-clause-digits g c = digits g (goal.at.returns-then-same-clause-digits g c).After-step
+
+pub returns-then-same-clause-keeps : goal.returns-then-same-clause-keeps
+returns-then-same-clause-keeps g c = keeps_trans _ _ _ c.squares.invariant.keeps (keeps_trans _ _ _ c.in_ok-square.ensures.keeps c.in_ok-more.ensures.keeps)
+
+pub returns-then-same-clause-cause : goal.returns-then-same-clause-cause
+returns-then-same-clause-cause g c = done_cause _ _ _ _ (c.in_ok-more.ensures.cause.done ∙ c.in_ok-square.ensures.cause.done ∙ c.squares.invariant.misses)
 
 pub returns-then-same-clause-value : goal.returns-then-same-clause-value
 returns-then-same-clause-value g c =
     let laws = g.met.C.Core in
     let o = c.args.core.now in
+    let at = goal.at.returns-then-same-clause-value g c in
     let t : HasType c.args.r.rows c.args.r.rows (set_of (g.C.Core.worker o) c.args.r) = record { valid = laws.valid o c.args.r c.requires.standing; row_size = laws.row_size o c.args.r c.requires.standing; col_size = laws.col_size o c.args.r c.requires.standing ∙ sym c.requires.square } in
-    let some : 0 < c.squares.reach = (let z = one-le-pow (c.squares.steps - c.args.steps.now) 2 (omega arith) in let y = c.squares.invariant.power in omega (arith, z, y)) in
-    let more = squared_given (g.C.Core.worker c.squares.core) (g.C.Core.worker c.compose.new.self) (g.C.Core.worker c.union.new.self) c.squares.reach (set_of (g.C.Core.worker o) c.args.r) c.args.r c.squares.walks c.in_ok-square.square c.in_ok-more.more
-    t some c.squares.invariant.gives c.in_ok-square.ensures.keeps c.in_ok-square.ensures.value c.in_ok-more.ensures.value in
     still_given (g.C.Core.worker c.squares.core) (g.C.Core.worker c.compose.new.self) (g.C.Core.worker c.union.new.self) c.squares.reach (set_of (g.C.Core.worker o) c.args.r) c.args.r c.squares.walks c.in_ok-more.more
-    t some c.squares.invariant.gives c.in_ok-square.ensures.keeps c.in_ok-more.ensures.keeps more (c.same.ensures.0 c.if-same.true)
+    t (some g at.After-step) c.squares.invariant.gives c.in_ok-square.ensures.keeps c.in_ok-more.ensures.keeps (more g at.In_ok-more) (c.same.ensures.0 c.if-same.true)
 
 pub returns-then-same-clause-enough : goal.returns-then-same-clause-enough
 returns-then-same-clause-enough g c =
     let laws = g.met.C.Core in
     let o = c.args.core.now in
-    let R : Relation = set_of (g.C.Core.worker o) c.args.r in
-    let t : HasType c.args.r.rows c.args.r.rows R = record { valid = laws.valid o c.args.r c.requires.standing; row_size = laws.row_size o c.args.r c.requires.standing; col_size = laws.col_size o c.args.r c.requires.standing ∙ sym c.requires.square } in
-    let some : 0 < c.squares.reach = (let z = one-le-pow (c.squares.steps - c.args.steps.now) 2 (omega arith) in let y = c.squares.invariant.power in omega (arith, z, y)) in
-    let more = squared_given (g.C.Core.worker c.squares.core) (g.C.Core.worker c.compose.new.self) (g.C.Core.worker c.union.new.self) c.squares.reach R c.args.r c.squares.walks c.in_ok-square.square c.in_ok-more.more
-    t some c.squares.invariant.gives c.in_ok-square.ensures.keeps c.in_ok-square.ensures.value c.in_ok-more.ensures.value in
-    let p = next_power c.args.steps.now c.squares.steps c.squares.reach c.squares.invariant.rises c.squares.invariant.power in
-    let q = ap (λ (x : ℕ). 2 ^ (x - c.args.steps.now)) c.step.ensures ∙ p in
-    still_enough (g.C.Core.worker c.squares.core) (g.C.Core.worker c.compose.new.self) (g.C.Core.worker c.union.new.self) c.squares.reach R c.args.r c.squares.walks c.in_ok-more.more
-    t some c.squares.invariant.gives c.in_ok-square.ensures.keeps c.in_ok-more.ensures.keeps more (c.same.ensures.0 c.if-same.true)
-    ∙ ap (λ (x : ℕ). walks_within x R) (sym q)
+    let at = goal.at.returns-then-same-clause-enough g c in
+    let t : HasType c.args.r.rows c.args.r.rows (set_of (g.C.Core.worker o) c.args.r) = record { valid = laws.valid o c.args.r c.requires.standing; row_size = laws.row_size o c.args.r c.requires.standing; col_size = laws.col_size o c.args.r c.requires.standing ∙ sym c.requires.square } in
+    still_enough (g.C.Core.worker c.squares.core) (g.C.Core.worker c.compose.new.self) (g.C.Core.worker c.union.new.self) c.squares.reach (set_of (g.C.Core.worker o) c.args.r) c.args.r c.squares.walks c.in_ok-more.more
+    t (some g at.After-step) c.squares.invariant.gives c.in_ok-square.ensures.keeps c.in_ok-more.ensures.keeps (more g at.In_ok-more) (c.same.ensures.0 c.if-same.true)
+    ∙ ap (λ (x : ℕ). walks_within x (set_of (g.C.Core.worker o) c.args.r)) (sym (power g at.After-step))
 
 pub squares-preserved : goal.squares-preserved
 squares-preserved g c =
-    let laws = g.met.C.Core in
-    let o = c.args.core.now in
-    let t : HasType c.args.r.rows c.args.r.rows (set_of (g.C.Core.worker o) c.args.r) = record { valid = laws.valid o c.args.r c.requires.standing; row_size = laws.row_size o c.args.r c.requires.standing; col_size = laws.col_size o c.args.r c.requires.standing ∙ sym c.requires.square } in
-    let some : 0 < c.squares.reach = (let z = one-le-pow (c.squares.steps - c.args.steps.now) 2 (omega arith) in let y = c.squares.invariant.power in omega (arith, z, y)) in
-    let more = squared_given (g.C.Core.worker c.squares.core) (g.C.Core.worker c.compose.new.self) (g.C.Core.worker c.union.new.self) c.squares.reach (set_of (g.C.Core.worker o) c.args.r) c.args.r c.squares.walks c.in_ok-square.square c.in_ok-more.more
-    t some c.squares.invariant.gives c.in_ok-square.ensures.keeps c.in_ok-square.ensures.value c.in_ok-more.ensures.value in
-    let n : ℕ = c.args.r.rows in
-    let h : ℕ = height_of n in
-    let d : ℕ = c.squares.steps - c.args.steps.now in
+    let at = goal.at.squares-preserved g c in
     let i = c.squares.invariant in
-    let before = i.room in
-    let power = i.power in
-    let under = c.squares-test.true in
-    let fewer = fewer_rounds d n (g.met.C.Core.row_limit c.args.core.now c.args.r c.requires.standing) (omega (arith, power, under)) in
-    let rooms = rounds_room (d + 1) n fewer in
-    let wr = as_high c.squares.walks.rows n h i.gives.row_size (omega arith) in
-    let wc = as_high c.squares.walks.cols n h (i.gives.col_size ∙ sym c.requires.square) (omega arith) in
-    let u1 = product_room-most c.squares.walks.rows c.squares.walks.cols c.squares.walks.cols h wr wc wc in
-    let u2 = operator_room-most c.squares.walks.rows c.squares.walks.cols h wr wc in
-    let a = c.in_ok-square.ensures.room in
-    let b = c.in_ok-more.ensures.room in
-    let r = round_room d h (g.C.Core.worker c.args.core.now).made (g.C.Core.worker c.squares.core).made (g.C.Core.worker c.compose.new.self).made (g.C.Core.worker c.union.new.self).made before (omega (arith, a, u1)) (omega (arith, b, u2)) in
-    let p = next_power c.args.steps.now c.squares.steps c.squares.reach i.rises power in
+    let x = round g at.After-step in
     let rises = i.rises in
     let one = c.step.ensures in
-    let e : c.step.new.self - c.args.steps.now ≡ d + 1 = omega (arith, rises, one) in
+    let under = c.squares-test.true in
+    let e : c.step.new.self - c.args.steps.now ≡ c.squares.steps - c.args.steps.now + 1 = omega (arith, rises, one) in
+    let r = x.next _ (g.C.Core.worker c.squares.core).made (g.C.Core.worker c.compose.new.self).made (g.C.Core.worker c.union.new.self).made i.room c.in_ok-square.ensures.room c.in_ok-more.ensures.room in
     record {
-      gives = more;
-      keeps = keeps_trans (g.C.Core.worker o) (g.C.Core.worker c.squares.core) (g.C.Core.worker c.union.new.self) i.keeps (keeps_trans (g.C.Core.worker c.squares.core) (g.C.Core.worker c.compose.new.self) (g.C.Core.worker c.union.new.self) c.in_ok-square.ensures.keeps c.in_ok-more.ensures.keeps);
+      gives = more g at.In_ok-more;
+      keeps = keeps_trans _ _ _ i.keeps (keeps_trans _ _ _ c.in_ok-square.ensures.keeps c.in_ok-more.ensures.keeps);
       rises = omega (arith, rises, one);
-      power = ap (λ (x : ℕ). 2 ^ (x - c.args.steps.now)) c.step.ensures ∙ p;
-      rounds = omega (arith, e, fewer);
+      power = power g at.After-step;
+      rounds = omega (arith, e, x.fewer);
       digits = omega (arith, under);
       misses = c.in_ok-more.ensures.cause.done ∙ (c.in_ok-square.ensures.cause.done ∙ i.misses);
-      nothing = λ few. omega (arith, some, under, few);
-      room = subst (λ (x : ℕ). (g.C.Core.worker c.union.new.self).made ≤ (g.C.Core.worker c.args.core.now).made + x * (20 * 8 ^ h)) (sym e) r;
+      nothing = λ few. omega (arith, some g at.After-step, under, few);
+      room = subst (λ (y : ℕ). (g.C.Core.worker c.union.new.self).made ≤ (g.C.Core.worker c.args.core.now).made + y * (20 * 8 ^ height_of c.args.r.rows)) (sym e) r;
     }
 
+-- ---- the end
 pub returns-clause-value : goal.returns-clause-value
 returns-clause-value g c =
     let laws = g.met.C.Core in
@@ -218,17 +158,5 @@ returns-clause-room g c =
     let rooms = rounds_room (c.squares.steps - c.args.steps.now) c.args.r.rows c.squares.invariant.rounds in
     omega (arith, before, rooms)
 
-pub returns-in_err-square-clause-keeps : goal.returns-in_err-square-clause-keeps
-returns-in_err-square-clause-keeps g c = keeps_trans _ _ _ c.squares.invariant.keeps c.in_err-square.ensures.keeps
-
-pub returns-in_err-more-clause-keeps : goal.returns-in_err-more-clause-keeps
-returns-in_err-more-clause-keeps g c = keeps_trans _ _ _ c.squares.invariant.keeps (keeps_trans _ _ _ c.in_ok-square.ensures.keeps c.in_err-more.ensures.keeps)
-
-pub returns-then-same-clause-keeps : goal.returns-then-same-clause-keeps
-returns-then-same-clause-keeps g c = keeps_trans _ _ _ c.squares.invariant.keeps (keeps_trans _ _ _ c.in_ok-square.ensures.keeps c.in_ok-more.ensures.keeps)
-
-pub returns-then-same-clause-cause : goal.returns-then-same-clause-cause
-returns-then-same-clause-cause g c = done-cause _ _ _ _ (c.in_ok-more.ensures.cause.done ∙ c.in_ok-square.ensures.cause.done ∙ c.squares.invariant.misses)
-
 pub returns-clause-cause : goal.returns-clause-cause
-returns-clause-cause g c = done-cause _ _ _ _ c.squares.invariant.misses
+returns-clause-cause g c = done_cause _ _ _ _ c.squares.invariant.misses

@@ -1,7 +1,8 @@
 use Rattle.std.proofs.Common.{◌<◌, ◌∙◌, sym, subst, arith}
 use Rattle.rel_model.specs.Trees.{bottom_height}
 use Rattle.rel_model.proofs.QuadLaws.{quad_stays, reads_on}
-use Rattle.rel_compose.proofs.Summing.{nine_low, side_small_8, four_crossing_of, four_sums_added, four_products_added, four_none_left, four_none_right}
+use Rattle.rel_compose.proofs.Summing.{side_small_8}
+use Rattle.rel_compose.proofs.FourSums.{nine_low, four_crossing_of, four_sums_added, four_products_added, four_none_left, four_none_right}
 use Rattle.rel_compose.proofs.sums.+add_to_squares.Goals as goal
 
 -- nothing to add

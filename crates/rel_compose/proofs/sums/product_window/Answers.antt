@@ -1,6 +1,7 @@
 use Rattle.std.proofs.Common.{◌≤◌, refl, arith}
 use Rattle.rel_model.specs.Trees.{top_height}
 use Rattle.rel_model.proofs.QuadLaws.{empty_quad}
+use Rattle.quad_nodes.proofs.Making.{made_as}
 use Rattle.rel_compose.proofs.Joining.{eight_over, without_addend}
 use Rattle.rel_compose.proofs.sums.product_window.Goals as goal
 
@@ -11,9 +12,8 @@ summed_quad-requires-clause-x_stands c =
     let l : c.args.height ≤ top_height = omega arith in
     (empty_quad c.args.nodes.now c.args.height 0 c.bottom.ensures.work (eight_over c.args.height c.requires.tall) l refl).stands
 
-pub returns-clause-value : goal.returns-clause-value
-returns-clause-value c =
+pub returns : goal.returns
+returns c =
     let w = c.requires.within in
     let h = c.requires.a_stands.high in
-    let l : c.args.height ≤ top_height = omega arith in
-    without_addend c.args.nodes.now c.summed_quad.new.nodes c.args.height _ c.summed_quad.result c.bottom.ensures.work (eight_over c.args.height c.requires.tall) l c.summed_quad.ensures.value
+    made_as refl (without_addend c.args.nodes.now c.args.height _ c.bottom.ensures.work (eight_over c.args.height c.requires.tall) (omega arith)) c.summed_quad.ensures

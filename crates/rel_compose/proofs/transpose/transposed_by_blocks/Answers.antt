@@ -1,10 +1,15 @@
-use Rattle.std.proofs.Common.{◌≤◌, ◌+◌, ℕ, refl, arith}
+use Rattle.std.proofs.Common.{refl, arith}
 use Rattle.rel_model.specs.Quads.{quad_room}
-use Rattle.rel_model.proofs.QuadLaws.{keeps_on, keeps_most, quad_stays, is_quad-stays, reads_itself}
-use Rattle.quad_nodes.proofs.Finding.{not_missed, found_later, found_after}
+use Rattle.rel_model.proofs.QuadLaws.{quad_stays}
+use Rattle.quad_nodes.specs.Making.{MakesQuad}
+use Rattle.quad_nodes.proofs.Making.{made_as, made_after, made_before, made_failed, made_result}
 use Rattle.tree_blocks.proofs.Counting.{count_8}
-use Rattle.rel_compose.proofs.Transposing.{none_stands, transposed_now, turned_value}
+use Rattle.rel_compose.proofs.Transposing.{turned, none_stands, transposed_now}
+use Rattle.rel_compose.proofs.transpose.transposed_by_blocks.Goals.{After-gather_blocks}
 use Rattle.rel_compose.proofs.transpose.transposed_by_blocks.Goals as goal
+
+made : (c : After-gather_blocks) → MakesQuad (quad_room c.args.a.height) c.args.a.height (turned c.args.nodes.now c.args.a) c.args.nodes.now c.gather_blocks.new.nodes c.gather_blocks.result
+made c = let e = c.gather_blocks.ensures in made_after c.spill_turned.ensures.reads (made_as refl c.spill_turned.ensures.cells (record { value = e.value; stood = e.stood; keeps = e.keeps; counts = e.counts }))
 
 pub spill_turned-requires-clause-len : goal.spill_turned-requires-clause-len
 spill_turned-requires-clause-len c = let x = count_8 c.args.a.height c.requires.rows in omega (arith, x)
@@ -15,51 +20,20 @@ gather_blocks-requires-clause-blocks c =
     let l = c.spill_turned.ensures.len in
     omega (arith, x, l)
 
-pub returns-in_err-found-clause-stood : goal.returns-in_err-found-clause-stood
-returns-in_err-found-clause-stood c q s =
-    let f = found_later c.args.nodes.now c.spill_turned.new.nodes c.gather_blocks.new.nodes c.args.a.height c.args.a.height _ _ _ c.spill_turned.ensures.reads refl c.spill_turned.ensures.cells c.in_err-found.ensures.stood q s in
-    absurd (not_missed c.args.nodes.now c.gather_blocks.new.nodes _ q f)
-
-pub returns-in_err-found-clause-keeps : goal.returns-in_err-found-clause-keeps
-returns-in_err-found-clause-keeps c =
-    let m : ℕ = quad_room c.args.a.height in
-    let k = keeps_on 0 m c.args.nodes.now c.spill_turned.new.nodes c.gather_blocks.new.nodes c.spill_turned.ensures.reads.keeps c.in_err-found.ensures.keeps in
-    let l : 0 + m ≤ m = omega arith in
-    keeps_most (0 + m) m c.args.nodes.now c.gather_blocks.new.nodes l k
+pub returns-in_err-found : goal.returns-in_err-found
+returns-in_err-found c =
+    made_failed c.from_residual.result c.from_residual.ensures.0 (made_result c.in_err-found.was (made (goal.at.returns-in_err-found c).After-gather_blocks))
 
 pub note-requires-clause-a_stands : goal.note-requires-clause-a_stands
-note-requires-clause-a_stands c =
-    let m : ℕ = quad_room c.args.a.height in
-    let k = keeps_on 0 m c.args.nodes.now c.spill_turned.new.nodes c.gather_blocks.new.nodes c.spill_turned.ensures.reads.keeps c.in_ok-found.ensures.keeps in
-    quad_stays (0 + m) c.args.nodes.now c.gather_blocks.new.nodes c.args.a k c.requires.stands
+note-requires-clause-a_stands c = quad_stays _ _ _ _ (made (goal.at.note-requires-clause-a_stands c).After-gather_blocks).keeps c.requires.stands
 
 pub note-requires-clause-b_stands : goal.note-requires-clause-b_stands
-note-requires-clause-b_stands c =
-    let m : ℕ = quad_room c.args.a.height in
-    let k = keeps_on 0 m c.args.nodes.now c.spill_turned.new.nodes c.gather_blocks.new.nodes c.spill_turned.ensures.reads.keeps c.in_ok-found.ensures.keeps in
-    none_stands c.gather_blocks.new.nodes c.args.a (quad_stays (0 + m) c.args.nodes.now c.gather_blocks.new.nodes c.args.a k c.requires.stands)
+note-requires-clause-b_stands c = none_stands _ c.args.a (quad_stays _ _ _ _ (made (goal.at.note-requires-clause-b_stands c).After-gather_blocks).keeps c.requires.stands)
 
 pub note-requires-clause-holds : goal.note-requires-clause-holds
 note-requires-clause-holds c =
-    let m : ℕ = quad_room c.args.a.height in
-    let k = keeps_on 0 m c.args.nodes.now c.spill_turned.new.nodes c.gather_blocks.new.nodes c.spill_turned.ensures.reads.keeps c.in_ok-found.ensures.keeps in
-    let v = turned_value c.args.nodes.now c.gather_blocks.new.nodes c.args.a c.in_ok-found.found _ c.spill_turned.ensures.cells c.in_ok-found.ensures.value in
-    transposed_now (0 + m) c.args.nodes.now c.gather_blocks.new.nodes c.args.a c.in_ok-found.found k c.requires.stands v
+    let w = made_result c.in_ok-found.was (made (goal.at.note-requires-clause-holds c).After-gather_blocks) in
+    transposed_now _ _ _ _ _ w.keeps c.requires.stands w.value
 
-pub returns-clause-value : goal.returns-clause-value
-returns-clause-value c =
-    let v = turned_value c.args.nodes.now c.gather_blocks.new.nodes c.args.a c.in_ok-found.found _ c.spill_turned.ensures.cells c.in_ok-found.ensures.value in
-    is_quad-stays 0 c.gather_blocks.new.nodes c.note.new.self c.args.a.height _ c.in_ok-found.found c.note.ensures.reads.keeps v
-
-pub returns-clause-stood : goal.returns-clause-stood
-returns-clause-stood c q s =
-    let f = found_later c.args.nodes.now c.spill_turned.new.nodes c.gather_blocks.new.nodes c.args.a.height c.args.a.height _ _ _ c.spill_turned.ensures.reads refl c.spill_turned.ensures.cells c.in_ok-found.ensures.stood q s in
-    found_after c.args.nodes.now c.args.nodes.now c.gather_blocks.new.nodes c.note.new.self q c.in_ok-found.found (reads_itself c.args.nodes.now c.spill_turned.ensures.reads.keeps.before) f c.note.ensures.reads
-
-pub returns-clause-keeps : goal.returns-clause-keeps
-returns-clause-keeps c =
-    let m : ℕ = quad_room c.args.a.height in
-    let k = keeps_on 0 m c.args.nodes.now c.spill_turned.new.nodes c.gather_blocks.new.nodes c.spill_turned.ensures.reads.keeps c.in_ok-found.ensures.keeps in
-    let n = keeps_on (0 + m) 0 c.args.nodes.now c.gather_blocks.new.nodes c.note.new.self k c.note.ensures.reads.keeps in
-    let l : 0 + m + 0 ≤ m = omega arith in
-    keeps_most (0 + m + 0) m c.args.nodes.now c.note.new.self l n
+pub returns : goal.returns
+returns c = made_before (made_result c.in_ok-found.was (made (goal.at.returns c).After-gather_blocks)) c.note.ensures.reads

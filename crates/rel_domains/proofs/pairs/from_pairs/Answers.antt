@@ -29,7 +29,7 @@ rel-requires-clause-within g c =
     let places = c.in_ok-places.ensures.places ∙ ap (λ l. map (λ p. place l d p.0 p.1) a.pairs.now) c.bottom-least.ensures in
     let sorted = c.as_slice.ensures.value in
     let moved = subst (IsPermutation c.in_ok-places.places.items) (sym sorted) c.sort_unstable.ensures.permutation in
-    lies_within g.Q.Core.least d a.shape.rows a.shape.cols a.pairs.now _ c.as_slice.result.now c.requires.row_limit c.requires.col_limit high c.requires.within places moved _ c.in-Ok.quad c.in-Ok.ensures.value
+    lies_within g.Q.Core.least d a.shape.rows a.shape.cols a.pairs.now _ c.as_slice.result.now c.requires.row_limit c.requires.col_limit high c.requires.within places moved _ c.in-Ok.quad c.in-Ok.ensures.makes.value
 
 pub returns-in-Ok-clause-value : goal.returns-in-Ok-clause-value
 returns-in-Ok-clause-value g c =
@@ -39,12 +39,12 @@ returns-in-Ok-clause-value g c =
     let places = c.in_ok-places.ensures.places ∙ ap (λ l. map (λ p. place l d p.0 p.1) a.pairs.now) c.bottom-least.ensures in
     let sorted = c.as_slice.ensures.value in
     let moved = subst (IsPermutation c.in_ok-places.places.items) (sym sorted) c.sort_unstable.ensures.permutation in
-    relation_given g.Q.Core.least d a.shape.rows a.shape.cols a.pairs.now _ c.as_slice.result.now c.requires.row_limit c.requires.col_limit high c.requires.within places moved _ c.in-Ok.quad c.rel.result c.in-Ok.ensures.value c.rel.ensures
+    relation_given g.Q.Core.least d a.shape.rows a.shape.cols a.pairs.now _ c.as_slice.result.now c.requires.row_limit c.requires.col_limit high c.requires.within places moved _ c.in-Ok.quad c.rel.result c.in-Ok.ensures.makes.value c.rel.ensures
 
 pub returns-in-Ok-clause-room : goal.returns-in-Ok-clause-room
 returns-in-Ok-clause-room g c =
-    let p = pairs_room-covers c.bottom-least.result c.depth_over-depth.result c.args.shape.rows c.args.shape.cols (length c.args.pairs.now) c.depth_over-depth.ensures.value in omega (arith, p, c.in-Ok.ensures.room)
+    let p = pairs_room-covers c.bottom-least.result c.depth_over-depth.result c.args.shape.rows c.args.shape.cols (length c.args.pairs.now) c.depth_over-depth.ensures.value in omega (arith, p, c.in-Ok.ensures.makes.room)
 
 pub returns-clause-room : goal.returns-clause-room
 returns-clause-room g c =
-    let p = pairs_room-covers c.bottom-least.result c.depth_over-depth.result c.args.shape.rows c.args.shape.cols (length c.args.pairs.now) c.depth_over-depth.ensures.value in omega (arith, p, c.build.ensures.room)
+    let p = pairs_room-covers c.bottom-least.result c.depth_over-depth.result c.args.shape.rows c.args.shape.cols (length c.args.pairs.now) c.depth_over-depth.ensures.value in omega (arith, p, c.build.ensures.makes.room)

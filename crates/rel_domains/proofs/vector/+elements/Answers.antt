@@ -3,7 +3,8 @@ use Rattle.rel_model.specs.Cells.{bits_cells}
 use Rattle.rel_model.specs.Choice.{count_below}
 use Rattle.rel_model.specs.Worker.{quad_set}
 use Rattle.rel_domains.specs.Ranks.{first_column}
-use Rattle.rel_domains.proofs.Halves.{kept_set, none_count, count_limit, halves_count, one_quad}
+use Rattle.rel_steps.proofs.Given.{kept_set}
+use Rattle.rel_domains.proofs.Halves.{none_count, count_limit, halves_count, one_quad}
 use Rattle.rel_domains.proofs.vector.+elements.Goals as goal
 
 pub returns-then-vector-eq0-clause-count : goal.returns-then-vector-eq0-clause-count

@@ -5,9 +5,9 @@ use Rattle.rel_model.specs.Quarters.{LiesWithin}
 use Rattle.rel_model.specs.Roots.{height_over}
 use Rattle.rel_model.specs.Worker.{set_of, quad_set, GivesQuad}
 use Rattle.rel_domains.specs.Ranks.{first_column, ranked}
-use Rattle.rel_domains.proofs.Halves.{kept_set, root_high, root_count, ranks_height, ranks_within, inj_given}
+use Rattle.rel_domains.proofs.Halves.{root_high, root_count, ranks_height, ranks_within, inj_given}
 use Rattle.rel_domains.proofs.Named.{rooms_derived}
-use Rattle.rel_domains.proofs.Quartering.{gives_set, gives_has}
+use Rattle.rel_steps.proofs.Given.{gives_quad_set, gives_has, kept_set}
 use Rattle.rel_domains.proofs.Ruled.{side_limit, rule_room}
 use Rattle.rel_model.specs.Roots.{relation_room, tree_room}
 use Rattle.rel_domains.proofs.vector.inj.Goals as goal
@@ -30,7 +30,7 @@ rel-requires-clause-height g c =
     let root = c.root-vector.ensures in
     let over : h ≡ height_over least r.rows r.cols = root_high least r.rows r.cols c.bottom.result c.root-vector.result.height c.bottom.ensures root.same_height in
     let high : h ≡ height_over least r.rows 1 = over ∙ ap (height_over least r.rows) c.requires.one_column in
-    let set : quad_set (g.Q.Core.worker o) c.root-vector.result ≡ has V = gives_set (g.Q.Core.worker o) (height_over least r.rows r.cols) (has V) c.root-vector.result root in
+    let set : quad_set (g.Q.Core.worker o) c.root-vector.result ≡ has V = gives_quad_set (g.Q.Core.worker o) (height_over least r.rows r.cols) (has V) c.root-vector.result root in
     let all : c.elements-many.result ≡ count_below (2 ^ h) (first_column (has V)) = root_count (g.Q.Core.worker o) c.elements-many.result h (has V) c.root-vector.result (root.same_height ∙ sym over) set c.elements-many.ensures.count in
     let rows = laws.row_size o r c.requires.stands in
     let cols = laws.col_size o r c.requires.stands ∙ c.requires.one_column in
@@ -49,7 +49,7 @@ rel-requires-clause-within g c =
     let root = c.root-vector.ensures in
     let over : h ≡ height_over least r.rows r.cols = root_high least r.rows r.cols c.bottom.result c.root-vector.result.height c.bottom.ensures root.same_height in
     let high : h ≡ height_over least r.rows 1 = over ∙ ap (height_over least r.rows) c.requires.one_column in
-    let set : quad_set (g.Q.Core.worker o) c.root-vector.result ≡ has V = gives_set (g.Q.Core.worker o) (height_over least r.rows r.cols) (has V) c.root-vector.result root in
+    let set : quad_set (g.Q.Core.worker o) c.root-vector.result ≡ has V = gives_quad_set (g.Q.Core.worker o) (height_over least r.rows r.cols) (has V) c.root-vector.result root in
     let all : c.elements-many.result ≡ count_below (2 ^ h) (first_column (has V)) = root_count (g.Q.Core.worker o) c.elements-many.result h (has V) c.root-vector.result (root.same_height ∙ sym over) set c.elements-many.ensures.count in
     let rows = laws.row_size o r c.requires.stands in
     let cols = laws.col_size o r c.requires.stands ∙ c.requires.one_column in
@@ -57,7 +57,7 @@ rel-requires-clause-within g c =
     let limit = laws.row_limit o r c.requires.stands in
     let later : quad_set (g.Q.Core.worker c.elements-many.new.q) c.root-vector.result ≡ has V = kept_set (g.Q.Core.worker o) (g.Q.Core.worker c.elements-many.new.q) c.root-vector.result c.elements-many.ensures.keeps (gives_has (g.Q.Core.worker o) (height_over least r.rows r.cols) (has V) c.root-vector.result root) ∙ set in
     let given : GivesQuad (g.Q.Core.worker c.ranks.new.q) h (ranked (2 ^ h) 0 0 (first_column (has V))) c.in-Ok.quad = subst (λ f. GivesQuad (g.Q.Core.worker c.ranks.new.q) h (ranked (2 ^ h) 0 0 (first_column f)) c.in-Ok.quad) later c.in-Ok.ensures.value in
-    subst (LiesWithin c.elements-many.result r.rows) (sym (gives_set (g.Q.Core.worker c.ranks.new.q) h _ c.in-Ok.quad given)) (ranks_within least c.elements-many.result r.rows V valid rows cols limit h high all)
+    subst (LiesWithin c.elements-many.result r.rows) (sym (gives_quad_set (g.Q.Core.worker c.ranks.new.q) h _ c.in-Ok.quad given)) (ranks_within least c.elements-many.result r.rows V valid rows cols limit h high all)
 
 pub returns-in-Ok-clause-value : goal.returns-in-Ok-clause-value
 returns-in-Ok-clause-value g c =
@@ -70,7 +70,7 @@ returns-in-Ok-clause-value g c =
     let root = c.root-vector.ensures in
     let over : h ≡ height_over least r.rows r.cols = root_high least r.rows r.cols c.bottom.result c.root-vector.result.height c.bottom.ensures root.same_height in
     let high : h ≡ height_over least r.rows 1 = over ∙ ap (height_over least r.rows) c.requires.one_column in
-    let set : quad_set (g.Q.Core.worker o) c.root-vector.result ≡ has V = gives_set (g.Q.Core.worker o) (height_over least r.rows r.cols) (has V) c.root-vector.result root in
+    let set : quad_set (g.Q.Core.worker o) c.root-vector.result ≡ has V = gives_quad_set (g.Q.Core.worker o) (height_over least r.rows r.cols) (has V) c.root-vector.result root in
     let all : c.elements-many.result ≡ count_below (2 ^ h) (first_column (has V)) = root_count (g.Q.Core.worker o) c.elements-many.result h (has V) c.root-vector.result (root.same_height ∙ sym over) set c.elements-many.ensures.count in
     let rows = laws.row_size o r c.requires.stands in
     let cols = laws.col_size o r c.requires.stands ∙ c.requires.one_column in

@@ -1,7 +1,8 @@
 use Rattle.std.proofs.Common.{◌∙◌, ℕ, sym, arith}
 use Rattle.rel_model.specs.Worker.{height_of_three}
 use Rattle.rel_model.proofs.Rooms.{operator_room-most, derived_room-least, wide_room-four}
-use Rattle.rel_closure.proofs.Closing.{reflexive_given, as_high}
+use Rattle.rel_steps.proofs.Rooms.{as_high}
+use Rattle.rel_closure.proofs.Closing.{reflexive_given}
 use Rattle.rel_engine.proofs.identity.with_identity.Goals as goal
 
 pub returns-in_err-same-clause-room : goal.returns-in_err-same-clause-room

@@ -1,7 +1,9 @@
-use Rattle.std.proofs.Common.{◌∙◌, ℕ, sym, arith}
-use Rattle.rel_model.specs.Worker.{height_of_three}
-use Rattle.rel_model.proofs.Rooms.{operator_room-most, product_room-most, derived_room-least}
-use Rattle.rel_residual.proofs.Deriving.{left_given, as_high}
+use Rattle.std.proofs.Common.{◌*◌, ◌^◌, ◌∙◌, refl, sym, arith}
+use Rattle.rel_model.specs.Worker.{MakesAtMost, height_of_three}
+use Rattle.rel_steps.proofs.Rooms.{step_rooms}
+use Rattle.rel_residual.proofs.Deriving.{left_given}
+use Rattle.rel_residual.proofs.residuals.left.Given.{Over}
+use Rattle.rel_residual.proofs.residuals.left.Goals.{In_ok-turned, In_ok-broken}
 use Rattle.rel_residual.proofs.residuals.left.Goals as goal
 
 pub returns-clause-value : goal.returns-clause-value
@@ -14,80 +16,38 @@ returns-clause-value g c =
     (record { valid = laws.valid o c.args.s c.requires.left; row_size = laws.row_size o c.args.s c.requires.left; col_size = laws.col_size o c.args.s c.requires.left })
     c.requires.right c.in_ok-lacking.ensures.keeps c.in_ok-turned.ensures.keeps c.in_ok-lacking.ensures.value c.in_ok-turned.ensures.value c.in_ok-broken.ensures.value c.in_ok-rest.ensures.value
 
+-- ---- rooms
+turned_room : (g : Over) (c : In_ok-turned g) → MakesAtMost (12 * 8 ^ height_of_three c.args.s.rows c.args.s.cols c.args.r.rows) (g.C.Core.worker c.args.core.now) (g.C.Core.worker c.transpose.new.self)
+turned_room g c =
+    let q = step_rooms c.args.s.rows c.args.s.cols c.args.r.rows in
+    omega (arith, c.in_ok-lacking.ensures.room, q.km _ _ refl refl, c.in_ok-turned.ensures.room, q.nm _ _ refl (sym c.requires.cols))
+
+broken_room : (g : Over) (c : In_ok-broken g) → MakesAtMost (28 * 8 ^ height_of_three c.args.s.rows c.args.s.cols c.args.r.rows) (g.C.Core.worker c.args.core.now) (g.C.Core.worker c.compose.new.self)
+broken_room g c =
+    let q = step_rooms c.args.s.rows c.args.s.cols c.args.r.rows in
+    omega (arith, c.in_ok-lacking.ensures.room, q.km _ _ refl refl, c.in_ok-turned.ensures.room, q.nm _ _ refl (sym c.requires.cols), c.in_ok-broken.ensures.room, q.kmn _ _ _ c.in_ok-lacking.ensures.value.row_size c.in_ok-lacking.ensures.value.col_size c.in_ok-turned.ensures.value.col_size)
+
 pub returns-in_err-lacking-clause-room : goal.returns-in_err-lacking-clause-room
 returns-in_err-lacking-clause-room g c =
-    let k : ℕ = c.args.s.rows in
-    let m : ℕ = c.args.s.cols in
-    let n : ℕ = c.args.r.rows in
-    let h : ℕ = height_of_three k m n in
-    let hr = as_high c.args.r.cols m h (sym c.requires.cols) (omega arith) in
-    let least = derived_room-least k m n in
-    let a0 = c.in_err-lacking.ensures.room in
-    let u00 = operator_room-most k m h (omega arith) (omega arith) in
-    omega (arith, a0, u00, least)
+    let q = step_rooms c.args.s.rows c.args.s.cols c.args.r.rows in
+    omega (arith, c.in_err-lacking.ensures.room, q.km _ _ refl refl, q.least)
 
 pub returns-in_err-turned-clause-room : goal.returns-in_err-turned-clause-room
 returns-in_err-turned-clause-room g c =
-    let k : ℕ = c.args.s.rows in
-    let m : ℕ = c.args.s.cols in
-    let n : ℕ = c.args.r.rows in
-    let h : ℕ = height_of_three k m n in
-    let hr = as_high c.args.r.cols m h (sym c.requires.cols) (omega arith) in
-    let least = derived_room-least k m n in
-    let a0 = c.in_ok-lacking.ensures.room in
-    let u00 = operator_room-most k m h (omega arith) (omega arith) in
-    let a1 = c.in_err-turned.ensures.room in
-    let u10 = operator_room-most n c.args.r.cols h (omega arith) hr in
-    omega (arith, a0, u00, a1, u10, least)
+    let q = step_rooms c.args.s.rows c.args.s.cols c.args.r.rows in
+    omega (arith, c.in_ok-lacking.ensures.room, q.km _ _ refl refl, c.in_err-turned.ensures.room, q.nm _ _ refl (sym c.requires.cols), q.least)
 
 pub returns-in_err-broken-clause-room : goal.returns-in_err-broken-clause-room
 returns-in_err-broken-clause-room g c =
-    let k : ℕ = c.args.s.rows in
-    let m : ℕ = c.args.s.cols in
-    let n : ℕ = c.args.r.rows in
-    let h : ℕ = height_of_three k m n in
-    let hr = as_high c.args.r.cols m h (sym c.requires.cols) (omega arith) in
-    let least = derived_room-least k m n in
-    let a0 = c.in_ok-lacking.ensures.room in
-    let u00 = operator_room-most k m h (omega arith) (omega arith) in
-    let a1 = c.in_ok-turned.ensures.room in
-    let u10 = operator_room-most n c.args.r.cols h (omega arith) hr in
-    let a2 = c.in_err-broken.ensures.room in
-    let u20 = product_room-most c.in_ok-lacking.lacking.rows c.in_ok-lacking.lacking.cols c.in_ok-turned.turned.cols h (as_high _ k h c.in_ok-lacking.ensures.value.row_size (omega arith)) (as_high _ m h c.in_ok-lacking.ensures.value.col_size (omega arith)) (as_high _ n h c.in_ok-turned.ensures.value.col_size (omega arith)) in
-    omega (arith, a0, u00, a1, u10, a2, u20, least)
+    let q = step_rooms c.args.s.rows c.args.s.cols c.args.r.rows in
+    omega (arith, turned_room g (goal.at.returns-in_err-broken-clause-room g c).In_ok-turned, c.in_err-broken.ensures.room, q.kmn _ _ _ c.in_ok-lacking.ensures.value.row_size c.in_ok-lacking.ensures.value.col_size c.in_ok-turned.ensures.value.col_size, q.least)
 
 pub returns-in_err-rest-clause-room : goal.returns-in_err-rest-clause-room
 returns-in_err-rest-clause-room g c =
-    let k : ℕ = c.args.s.rows in
-    let m : ℕ = c.args.s.cols in
-    let n : ℕ = c.args.r.rows in
-    let h : ℕ = height_of_three k m n in
-    let hr = as_high c.args.r.cols m h (sym c.requires.cols) (omega arith) in
-    let least = derived_room-least k m n in
-    let a0 = c.in_ok-lacking.ensures.room in
-    let u00 = operator_room-most k m h (omega arith) (omega arith) in
-    let a1 = c.in_ok-turned.ensures.room in
-    let u10 = operator_room-most n c.args.r.cols h (omega arith) hr in
-    let a2 = c.in_ok-broken.ensures.room in
-    let u20 = product_room-most c.in_ok-lacking.lacking.rows c.in_ok-lacking.lacking.cols c.in_ok-turned.turned.cols h (as_high _ k h c.in_ok-lacking.ensures.value.row_size (omega arith)) (as_high _ m h c.in_ok-lacking.ensures.value.col_size (omega arith)) (as_high _ n h c.in_ok-turned.ensures.value.col_size (omega arith)) in
-    let a3 = c.in_err-rest.ensures.room in
-    let u30 = operator_room-most c.in_ok-broken.broken.rows c.in_ok-broken.broken.cols h (as_high _ k h (c.in_ok-broken.ensures.value.row_size ∙ c.in_ok-lacking.ensures.value.row_size) (omega arith)) (as_high _ n h (c.in_ok-broken.ensures.value.col_size ∙ c.in_ok-turned.ensures.value.col_size) (omega arith)) in
-    omega (arith, a0, u00, a1, u10, a2, u20, a3, u30, least)
+    let q = step_rooms c.args.s.rows c.args.s.cols c.args.r.rows in
+    omega (arith, broken_room g (goal.at.returns-in_err-rest-clause-room g c).In_ok-broken, c.in_err-rest.ensures.room, q.kn _ _ (c.in_ok-broken.ensures.value.row_size ∙ c.in_ok-lacking.ensures.value.row_size) (c.in_ok-broken.ensures.value.col_size ∙ c.in_ok-turned.ensures.value.col_size), q.least)
 
 pub returns-clause-room : goal.returns-clause-room
 returns-clause-room g c =
-    let k : ℕ = c.args.s.rows in
-    let m : ℕ = c.args.s.cols in
-    let n : ℕ = c.args.r.rows in
-    let h : ℕ = height_of_three k m n in
-    let hr = as_high c.args.r.cols m h (sym c.requires.cols) (omega arith) in
-    let least = derived_room-least k m n in
-    let a0 = c.in_ok-lacking.ensures.room in
-    let u00 = operator_room-most k m h (omega arith) (omega arith) in
-    let a1 = c.in_ok-turned.ensures.room in
-    let u10 = operator_room-most n c.args.r.cols h (omega arith) hr in
-    let a2 = c.in_ok-broken.ensures.room in
-    let u20 = product_room-most c.in_ok-lacking.lacking.rows c.in_ok-lacking.lacking.cols c.in_ok-turned.turned.cols h (as_high _ k h c.in_ok-lacking.ensures.value.row_size (omega arith)) (as_high _ m h c.in_ok-lacking.ensures.value.col_size (omega arith)) (as_high _ n h c.in_ok-turned.ensures.value.col_size (omega arith)) in
-    let a3 = c.in_ok-rest.ensures.room in
-    let u30 = operator_room-most c.in_ok-broken.broken.rows c.in_ok-broken.broken.cols h (as_high _ k h (c.in_ok-broken.ensures.value.row_size ∙ c.in_ok-lacking.ensures.value.row_size) (omega arith)) (as_high _ n h (c.in_ok-broken.ensures.value.col_size ∙ c.in_ok-turned.ensures.value.col_size) (omega arith)) in
-    omega (arith, a0, u00, a1, u10, a2, u20, a3, u30, least)
+    let q = step_rooms c.args.s.rows c.args.s.cols c.args.r.rows in
+    omega (arith, broken_room g (goal.at.returns-clause-room g c).In_ok-broken, c.in_ok-rest.ensures.room, q.kn _ _ (c.in_ok-broken.ensures.value.row_size ∙ c.in_ok-lacking.ensures.value.row_size) (c.in_ok-broken.ensures.value.col_size ∙ c.in_ok-turned.ensures.value.col_size), q.least)

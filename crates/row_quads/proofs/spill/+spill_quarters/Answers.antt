@@ -1,10 +1,10 @@
-use Rattle.std.proofs.Common.{◌≡◌, ◌<◌, ◌≤◌, ◌+◌, ◌%◌, arith}
+use Rattle.std.proofs.Common.{◌<◌, ◌+◌, ℕ, inl, inr, refl, arith}
 use Rattle.rel_model.specs.Trees.{bottom_height}
-use Rattle.rel_model.specs.Equations.{side_of}
 use Rattle.rel_model.proofs.QuadLaws.{keeps_on, quad_stays, quarters-stay, reads_on}
 use Rattle.bit_rows.specs.Rows.{rows_cells}
-use Rattle.row_quads.proofs.Placing.{half_side, side_of_by_8, spilled_none, spilled_four}
-use Rattle.row_quads.proofs.Reading.{all_read, stay_read}
+use Rattle.row_quads.proofs.Placing.{fits, spilled_none, spilled_four}
+use Rattle.row_quads.proofs.Reading.{AreRead, all_read, stay_read}
+use Rattle.row_quads.proofs.spill.+spill_quarters.Goals.{After-quarters-of_se}
 use Rattle.row_quads.proofs.spill.+spill_quarters.Goals as goal
 
 pub returns-then-q-eq0-clause-cells : goal.returns-then-q-eq0-clause-cells
@@ -24,91 +24,64 @@ quarters-of_se-requires-clause-stands t c =
     let k3 = keeps_on 0 0 c.args.nodes.now c.quarters-of_ne.new.self c.quarters-of_sw.new.self k2 c.quarters-of_sw.ensures.reads.keeps in
     quad_stays 0 c.args.nodes.now c.quarters-of_sw.new.self c.args.four.3 k3 c.requires.quarters.se
 
+known : (t : ℕ) (c : After-quarters-of_se t) → AreRead c.quarters-of_se.new.self c.args.four c.quarters-of_nw.result c.quarters-of_ne.result c.quarters-of_sw.result c.quarters-of_se.result
+known t c =
+    all_read c.args.nodes.now c.quarters-of_nw.new.self c.quarters-of_ne.new.self c.quarters-of_sw.new.self c.quarters-of_se.new.self c.args.q c.args.four c.quarters-of_nw.result c.quarters-of_ne.result c.quarters-of_sw.result c.quarters-of_se.result c.requires.quarters
+    c.quarters-of_nw.ensures.reads.keeps c.quarters-of_ne.ensures.reads.keeps c.quarters-of_sw.ensures.reads.keeps c.quarters-of_se.ensures.reads.keeps c.quarters-of_nw.ensures.quarters c.quarters-of_ne.ensures.quarters c.quarters-of_sw.ensures.quarters c.quarters-of_se.ensures.quarters
+
 pub spill_quarters-requires : goal.spill_quarters-requires
 spill_quarters-requires t c =
     let a = c.requires.quarters in
-    let four = c.args.four in
     let e0 = a.nw_height in
     let e = a.nw_height in
     let l = a.nw.low in
     let over : bottom_height < c.args.q.height = omega arith in
-    let falls : four.0.height < t = omega arith in
-    let d0 = half_side c.args.q.height four.0.height over a.nw_height in
-    let d = half_side c.args.q.height four.0.height over a.nw_height in
-    let by : side_of four.0.height % 8 ≡ 0 = side_of_by_8 four.0.height in
-    let h = c.side_of_height-half.ensures in
-    let r : c.args.row + side_of four.0.height ≤ 256 = omega arith in
-    let m : c.args.col + side_of four.0.height ≤ 256 = omega arith in
-    let o : (c.args.col) % 8 ≡ 0 = omega arith in
-    let x0 = all_read c.args.nodes.now c.quarters-of_nw.new.self c.quarters-of_ne.new.self c.quarters-of_sw.new.self c.quarters-of_se.new.self c.args.q c.args.four c.quarters-of_nw.result c.quarters-of_ne.result c.quarters-of_sw.result c.quarters-of_se.result a
-    c.quarters-of_nw.ensures.reads.keeps c.quarters-of_ne.ensures.reads.keeps c.quarters-of_sw.ensures.reads.keeps c.quarters-of_se.ensures.reads.keeps c.quarters-of_nw.ensures.quarters c.quarters-of_ne.ensures.quarters c.quarters-of_sw.ensures.quarters c.quarters-of_se.ensures.quarters in
-    (falls, (x0.nw_stands, (x0.nw_quarters, (c.requires.z_len, (r, (m, o))))))
+    let falls : c.args.four.0.height < t = omega arith in
+    let f = fits c.args.q.height c.args.four.0.height c.args.four.0.height c.side_of_height-half.result c.args.row c.args.col c.args.row c.args.col over e0 e c.side_of_height-half.ensures c.requires.row_in c.requires.col_in c.requires.col_on (inl refl) (inl refl) in
+    let x0 = known t (goal.at.spill_quarters-requires t c).After-quarters-of_se in
+    (falls, (x0.nw_stands, (x0.nw_quarters, (c.requires.z_len, (f.row_in, (f.col_in, f.col_on))))))
 
 pub spill_quarters-requires-2 : goal.spill_quarters-requires-2
 spill_quarters-requires-2 t c =
     let a = c.requires.quarters in
-    let four = c.args.four in
     let e0 = a.nw_height in
     let e = a.ne_height in
     let l = a.nw.low in
     let over : bottom_height < c.args.q.height = omega arith in
-    let falls : four.1.height < t = omega arith in
-    let d0 = half_side c.args.q.height four.0.height over a.nw_height in
-    let d = half_side c.args.q.height four.1.height over a.ne_height in
-    let by : side_of four.0.height % 8 ≡ 0 = side_of_by_8 four.0.height in
-    let h = c.side_of_height-half.ensures in
-    let r : c.args.row + side_of four.1.height ≤ 256 = omega arith in
-    let m : c.args.col + c.side_of_height-half.result + side_of four.1.height ≤ 256 = omega arith in
-    let o : (c.args.col + c.side_of_height-half.result) % 8 ≡ 0 = omega arith in
-    let x0 = all_read c.args.nodes.now c.quarters-of_nw.new.self c.quarters-of_ne.new.self c.quarters-of_sw.new.self c.quarters-of_se.new.self c.args.q c.args.four c.quarters-of_nw.result c.quarters-of_ne.result c.quarters-of_sw.result c.quarters-of_se.result a
-    c.quarters-of_nw.ensures.reads.keeps c.quarters-of_ne.ensures.reads.keeps c.quarters-of_sw.ensures.reads.keeps c.quarters-of_se.ensures.reads.keeps c.quarters-of_nw.ensures.quarters c.quarters-of_ne.ensures.quarters c.quarters-of_sw.ensures.quarters c.quarters-of_se.ensures.quarters in
-    let x1 = stay_read c.quarters-of_se.new.self c.spill_quarters.new.nodes c.args.four c.quarters-of_nw.result c.quarters-of_ne.result c.quarters-of_sw.result c.quarters-of_se.result c.spill_quarters.ensures.reads.keeps x0 in
-    (falls, (x1.ne_stands, (x1.ne_quarters, (c.spill_quarters.ensures.len, (r, (m, o))))))
+    let falls : c.args.four.1.height < t = omega arith in
+    let f = fits c.args.q.height c.args.four.0.height c.args.four.1.height c.side_of_height-half.result c.args.row c.args.col c.args.row (c.args.col + c.side_of_height-half.result) over e0 e c.side_of_height-half.ensures c.requires.row_in c.requires.col_in c.requires.col_on (inl refl) (inr refl) in
+    let x0 = known t (goal.at.spill_quarters-requires-2 t c).After-quarters-of_se in
+    let x1 = stay_read _ _ _ _ _ _ _ c.spill_quarters.ensures.reads.keeps x0 in
+    (falls, (x1.ne_stands, (x1.ne_quarters, (c.spill_quarters.ensures.len, (f.row_in, (f.col_in, f.col_on))))))
 
 pub spill_quarters-requires-3 : goal.spill_quarters-requires-3
 spill_quarters-requires-3 t c =
     let a = c.requires.quarters in
-    let four = c.args.four in
     let e0 = a.nw_height in
     let e = a.sw_height in
     let l = a.nw.low in
     let over : bottom_height < c.args.q.height = omega arith in
-    let falls : four.2.height < t = omega arith in
-    let d0 = half_side c.args.q.height four.0.height over a.nw_height in
-    let d = half_side c.args.q.height four.2.height over a.sw_height in
-    let by : side_of four.0.height % 8 ≡ 0 = side_of_by_8 four.0.height in
-    let h = c.side_of_height-half.ensures in
-    let r : c.args.row + c.side_of_height-half.result + side_of four.2.height ≤ 256 = omega arith in
-    let m : c.args.col + side_of four.2.height ≤ 256 = omega arith in
-    let o : (c.args.col) % 8 ≡ 0 = omega arith in
-    let x0 = all_read c.args.nodes.now c.quarters-of_nw.new.self c.quarters-of_ne.new.self c.quarters-of_sw.new.self c.quarters-of_se.new.self c.args.q c.args.four c.quarters-of_nw.result c.quarters-of_ne.result c.quarters-of_sw.result c.quarters-of_se.result a
-    c.quarters-of_nw.ensures.reads.keeps c.quarters-of_ne.ensures.reads.keeps c.quarters-of_sw.ensures.reads.keeps c.quarters-of_se.ensures.reads.keeps c.quarters-of_nw.ensures.quarters c.quarters-of_ne.ensures.quarters c.quarters-of_sw.ensures.quarters c.quarters-of_se.ensures.quarters in
-    let x1 = stay_read c.quarters-of_se.new.self c.spill_quarters.new.nodes c.args.four c.quarters-of_nw.result c.quarters-of_ne.result c.quarters-of_sw.result c.quarters-of_se.result c.spill_quarters.ensures.reads.keeps x0 in
-    let x2 = stay_read c.spill_quarters.new.nodes c.spill_quarters-2.new.nodes c.args.four c.quarters-of_nw.result c.quarters-of_ne.result c.quarters-of_sw.result c.quarters-of_se.result c.spill_quarters-2.ensures.reads.keeps x1 in
-    (falls, (x2.sw_stands, (x2.sw_quarters, (c.spill_quarters-2.ensures.len, (r, (m, o))))))
+    let falls : c.args.four.2.height < t = omega arith in
+    let f = fits c.args.q.height c.args.four.0.height c.args.four.2.height c.side_of_height-half.result c.args.row c.args.col (c.args.row + c.side_of_height-half.result) c.args.col over e0 e c.side_of_height-half.ensures c.requires.row_in c.requires.col_in c.requires.col_on (inr refl) (inl refl) in
+    let x0 = known t (goal.at.spill_quarters-requires-3 t c).After-quarters-of_se in
+    let x1 = stay_read _ _ _ _ _ _ _ c.spill_quarters.ensures.reads.keeps x0 in
+    let x2 = stay_read _ _ _ _ _ _ _ c.spill_quarters-2.ensures.reads.keeps x1 in
+    (falls, (x2.sw_stands, (x2.sw_quarters, (c.spill_quarters-2.ensures.len, (f.row_in, (f.col_in, f.col_on))))))
 
 pub spill_quarters-requires-4 : goal.spill_quarters-requires-4
 spill_quarters-requires-4 t c =
     let a = c.requires.quarters in
-    let four = c.args.four in
     let e0 = a.nw_height in
     let e = a.se_height in
     let l = a.nw.low in
     let over : bottom_height < c.args.q.height = omega arith in
-    let falls : four.3.height < t = omega arith in
-    let d0 = half_side c.args.q.height four.0.height over a.nw_height in
-    let d = half_side c.args.q.height four.3.height over a.se_height in
-    let by : side_of four.0.height % 8 ≡ 0 = side_of_by_8 four.0.height in
-    let h = c.side_of_height-half.ensures in
-    let r : c.args.row + c.side_of_height-half.result + side_of four.3.height ≤ 256 = omega arith in
-    let m : c.args.col + c.side_of_height-half.result + side_of four.3.height ≤ 256 = omega arith in
-    let o : (c.args.col + c.side_of_height-half.result) % 8 ≡ 0 = omega arith in
-    let x0 = all_read c.args.nodes.now c.quarters-of_nw.new.self c.quarters-of_ne.new.self c.quarters-of_sw.new.self c.quarters-of_se.new.self c.args.q c.args.four c.quarters-of_nw.result c.quarters-of_ne.result c.quarters-of_sw.result c.quarters-of_se.result a
-    c.quarters-of_nw.ensures.reads.keeps c.quarters-of_ne.ensures.reads.keeps c.quarters-of_sw.ensures.reads.keeps c.quarters-of_se.ensures.reads.keeps c.quarters-of_nw.ensures.quarters c.quarters-of_ne.ensures.quarters c.quarters-of_sw.ensures.quarters c.quarters-of_se.ensures.quarters in
-    let x1 = stay_read c.quarters-of_se.new.self c.spill_quarters.new.nodes c.args.four c.quarters-of_nw.result c.quarters-of_ne.result c.quarters-of_sw.result c.quarters-of_se.result c.spill_quarters.ensures.reads.keeps x0 in
-    let x2 = stay_read c.spill_quarters.new.nodes c.spill_quarters-2.new.nodes c.args.four c.quarters-of_nw.result c.quarters-of_ne.result c.quarters-of_sw.result c.quarters-of_se.result c.spill_quarters-2.ensures.reads.keeps x1 in
-    let x3 = stay_read c.spill_quarters-2.new.nodes c.spill_quarters-3.new.nodes c.args.four c.quarters-of_nw.result c.quarters-of_ne.result c.quarters-of_sw.result c.quarters-of_se.result c.spill_quarters-3.ensures.reads.keeps x2 in
-    (falls, (x3.se_stands, (x3.se_quarters, (c.spill_quarters-3.ensures.len, (r, (m, o))))))
+    let falls : c.args.four.3.height < t = omega arith in
+    let f = fits c.args.q.height c.args.four.0.height c.args.four.3.height c.side_of_height-half.result c.args.row c.args.col (c.args.row + c.side_of_height-half.result) (c.args.col + c.side_of_height-half.result) over e0 e c.side_of_height-half.ensures c.requires.row_in c.requires.col_in c.requires.col_on (inr refl) (inr refl) in
+    let x0 = known t (goal.at.spill_quarters-requires-4 t c).After-quarters-of_se in
+    let x1 = stay_read _ _ _ _ _ _ _ c.spill_quarters.ensures.reads.keeps x0 in
+    let x2 = stay_read _ _ _ _ _ _ _ c.spill_quarters-2.ensures.reads.keeps x1 in
+    let x3 = stay_read _ _ _ _ _ _ _ c.spill_quarters-3.ensures.reads.keeps x2 in
+    (falls, (x3.se_stands, (x3.se_quarters, (c.spill_quarters-3.ensures.len, (f.row_in, (f.col_in, f.col_on))))))
 
 pub returns-clause-cells : goal.returns-clause-cells
 returns-clause-cells t c =

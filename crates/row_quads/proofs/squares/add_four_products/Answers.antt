@@ -1,4 +1,4 @@
-use Rattle.std.proofs.Common.{◌≤◌, sym, subst, ◌+◌, ap, arith}
+use Rattle.std.proofs.Common.{◌≤◌, sym, subst, ap, arith}
 use Rattle.bit_rows.specs.Rows.{rows_cells}
 use Rattle.rel_model.specs.Equations.{side_of}
 use Rattle.rel_model.specs.Quads.{quad_cells}

@@ -1,10 +1,11 @@
-use Rattle.std.proofs.Common.{◌≡◌, ◌∙◌, ℕ, true, suc, subst, sym, rules, ◌+◌, ◌≤◌, Ok, refl, ap, arith}
+use Rattle.std.proofs.Common.{◌≡◌, ◌∙◌, ℕ, true, suc, subst, sym, rules, ◌+◌, Ok, refl, ap, arith}
 use Rattle.rel_model.proofs.TreeLaws.{kept_stands}
 use Rattle.rel_model.specs.Trees.{top_height, stands}
 use Rattle.rel_model.specs.Equations.{depth_of}
 use Rattle.rel_model.proofs.QuadLaws.{known, known_after, keeps_on, keeps_most}
 use Rattle.quad_nodes.proofs.Halving.{corner_is, pair_known}
 use Rattle.quad_nodes.proofs.Finding.{FourStand, not_missed, corner_stood, corner_north, corner_south, corner_whole, corner_found, the_answer, counts_failed, no_answer}
+use Rattle.quad_nodes.proofs.nodes.Nodes.corner.Goals.{After-pair}
 use Rattle.quad_nodes.proofs.nodes.Nodes.corner.Goals as goal
 
 pub pair-requires-2-clause-left_in : goal.pair-requires-2-clause-left_in
@@ -37,64 +38,37 @@ returns-clause-value c =
     c.requires.nw_stands c.requires.ne_stands c.requires.sw_stands c.requires.se_stands c.requires.ne_height c.requires.sw_height c.requires.se_height c.requires.below
     c.pair.ensures.keeps c.pair-2.ensures.keeps c.pair-3.ensures.keeps c.in_ok-north.ensures.value c.in_ok-south.ensures.value c.in_ok-name.ensures.value
 
+four : (c : After-pair) → FourStand c.args.self.now c.args.nw c.args.ne c.args.sw c.args.se
+four c = record { nw_stands = c.requires.nw_stands; ne_stands = c.requires.ne_stands; sw_stands = c.requires.sw_stands; se_stands = c.requires.se_stands; ne_height = c.requires.ne_height; sw_height = c.requires.sw_height; se_height = c.requires.se_height }
+
 pub returns-in_err-north-clause-stood : goal.returns-in_err-north-clause-stood
 returns-in_err-north-clause-stood c q s =
-    let s0 = c.args.self.now in
-    let nw = c.args.nw in
-    let ne = c.args.ne in
-    let sw = c.args.sw in
-    let se = c.args.se in
-    let f : FourStand s0 nw ne sw se = record { nw_stands = c.requires.nw_stands; ne_stands = c.requires.ne_stands; sw_stands = c.requires.sw_stands; se_stands = c.requires.se_stands; ne_height = c.requires.ne_height; sw_height = c.requires.sw_height; se_height = c.requires.se_height } in
-    let d = corner_stood s0 nw ne sw se q c.pair.ensures.keeps.before f s in
-    let s1 = c.pair.new.self in
-    absurd (not_missed s0 s1 _ d.north (corner_north s0 s1 nw ne sw se q _ f d c.in_err-north.ensures.stood))
+    let f = four (goal.at.returns-in_err-north-clause-stood c).After-pair in
+    let d = corner_stood _ _ _ _ _ q c.pair.ensures.keeps.before f s in
+    absurd (not_missed _ _ _ d.north (corner_north _ _ c.args.nw c.args.ne c.args.sw c.args.se q _ f d c.in_err-north.ensures.stood))
 
 pub returns-in_err-south-clause-stood : goal.returns-in_err-south-clause-stood
 returns-in_err-south-clause-stood c q s =
-    let s0 = c.args.self.now in
-    let nw = c.args.nw in
-    let ne = c.args.ne in
-    let sw = c.args.sw in
-    let se = c.args.se in
-    let f : FourStand s0 nw ne sw se = record { nw_stands = c.requires.nw_stands; ne_stands = c.requires.ne_stands; sw_stands = c.requires.sw_stands; se_stands = c.requires.se_stands; ne_height = c.requires.ne_height; sw_height = c.requires.sw_height; se_height = c.requires.se_height } in
-    let d = corner_stood s0 nw ne sw se q c.pair.ensures.keeps.before f s in
-    let s1 = c.pair.new.self in
-    let s2 = c.pair-2.new.self in
-    let x = corner_north s0 s1 nw ne sw se q _ f d c.in_ok-north.ensures.stood in
-    absurd (not_missed s0 s2 _ d.south (corner_south s0 s1 s2 nw ne sw se q _ f d x.reads c.in_err-south.ensures.stood))
+    let f = four (goal.at.returns-in_err-south-clause-stood c).After-pair in
+    let d = corner_stood _ _ _ _ _ q c.pair.ensures.keeps.before f s in
+    let x = corner_north _ _ c.args.nw c.args.ne c.args.sw c.args.se q _ f d c.in_ok-north.ensures.stood in
+    absurd (not_missed _ _ _ d.south (corner_south _ _ _ c.args.nw c.args.ne c.args.sw c.args.se q _ f d x.reads c.in_err-south.ensures.stood))
 
 pub returns-in_err-name-clause-stood : goal.returns-in_err-name-clause-stood
 returns-in_err-name-clause-stood c q s =
-    let s0 = c.args.self.now in
-    let nw = c.args.nw in
-    let ne = c.args.ne in
-    let sw = c.args.sw in
-    let se = c.args.se in
-    let f : FourStand s0 nw ne sw se = record { nw_stands = c.requires.nw_stands; ne_stands = c.requires.ne_stands; sw_stands = c.requires.sw_stands; se_stands = c.requires.se_stands; ne_height = c.requires.ne_height; sw_height = c.requires.sw_height; se_height = c.requires.se_height } in
-    let d = corner_stood s0 nw ne sw se q c.pair.ensures.keeps.before f s in
-    let s1 = c.pair.new.self in
-    let s2 = c.pair-2.new.self in
-    let s3 = c.pair-3.new.self in
-    let x = corner_north s0 s1 nw ne sw se q _ f d c.in_ok-north.ensures.stood in
-    let y = corner_south s0 s1 s2 nw ne sw se q _ f d x.reads c.in_ok-south.ensures.stood in
-    absurd (not_missed s0 s3 _ q.name (corner_whole s0 s2 s3 nw ne sw se q _ _ _ d y.reads (the_answer s0 s1 d.north _ x) (the_answer s0 s2 d.south _ y) c.in_err-name.ensures.stood))
+    let f = four (goal.at.returns-in_err-name-clause-stood c).After-pair in
+    let d = corner_stood _ _ _ _ _ q c.pair.ensures.keeps.before f s in
+    let x = corner_north _ _ c.args.nw c.args.ne c.args.sw c.args.se q _ f d c.in_ok-north.ensures.stood in
+    let y = corner_south _ _ _ c.args.nw c.args.ne c.args.sw c.args.se q _ f d x.reads c.in_ok-south.ensures.stood in
+    absurd (not_missed _ _ _ q.name (corner_whole _ _ _ c.args.nw c.args.ne c.args.sw c.args.se q _ _ _ d y.reads (the_answer _ _ d.north _ x) (the_answer _ _ d.south _ y) c.in_err-name.ensures.stood))
 
 pub returns-clause-stood : goal.returns-clause-stood
 returns-clause-stood c q s =
-    let s0 = c.args.self.now in
-    let nw = c.args.nw in
-    let ne = c.args.ne in
-    let sw = c.args.sw in
-    let se = c.args.se in
-    let f : FourStand s0 nw ne sw se = record { nw_stands = c.requires.nw_stands; ne_stands = c.requires.ne_stands; sw_stands = c.requires.sw_stands; se_stands = c.requires.se_stands; ne_height = c.requires.ne_height; sw_height = c.requires.sw_height; se_height = c.requires.se_height } in
-    let d = corner_stood s0 nw ne sw se q c.pair.ensures.keeps.before f s in
-    let s1 = c.pair.new.self in
-    let s2 = c.pair-2.new.self in
-    let s3 = c.pair-3.new.self in
-    let x = corner_north s0 s1 nw ne sw se q _ f d c.in_ok-north.ensures.stood in
-    let y = corner_south s0 s1 s2 nw ne sw se q _ f d x.reads c.in_ok-south.ensures.stood in
-    let z = corner_whole s0 s2 s3 nw ne sw se q _ _ _ d y.reads (the_answer s0 s1 d.north _ x) (the_answer s0 s2 d.south _ y) c.in_ok-name.ensures.stood in
-    corner_found s0 s3 nw.height q c.in_ok-name.name s.same_height z
+    let f = four (goal.at.returns-clause-stood c).After-pair in
+    let d = corner_stood _ _ _ _ _ q c.pair.ensures.keeps.before f s in
+    let x = corner_north _ _ c.args.nw c.args.ne c.args.sw c.args.se q _ f d c.in_ok-north.ensures.stood in
+    let y = corner_south _ _ _ c.args.nw c.args.ne c.args.sw c.args.se q _ f d x.reads c.in_ok-south.ensures.stood in
+    corner_found _ _ c.args.nw.height q c.in_ok-name.name s.same_height (corner_whole _ _ _ c.args.nw c.args.ne c.args.sw c.args.se q _ _ _ d y.reads (the_answer _ _ d.north _ x) (the_answer _ _ d.south _ y) c.in_ok-name.ensures.stood)
 
 pub returns-in_err-north-clause-keeps : goal.returns-in_err-north-clause-keeps
 returns-in_err-north-clause-keeps c = keeps_most 1 3 c.args.self.now c.pair.new.self (omega arith) c.in_err-north.ensures.keeps

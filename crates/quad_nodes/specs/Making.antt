@@ -1,0 +1,23 @@
+-- What a call promises that makes a quad, in one record.
+use Rattle.std.specs.Prelude.{ℕ, Result, IfOk}
+use Rattle.rel_model.specs.declared.Quad.{Quad}
+use Rattle.rel_model.specs.Cells.{Cells}
+use Rattle.rel_model.specs.Quads.{Keeper, IsQuad, KeepsQuads, Counts}
+use Rattle.quad_nodes.specs.Finding.{FindsQuad, FindsBoth}
+
+-- a call answers a quad of this height and set, or counts the place that it missed; it keeps all that was, places at
+-- most so many words, and finds such a quad where one stood
+pub record MakesQuad {E : Type 0} (room height : ℕ) (f : Cells) (old new : Keeper) (result : Result Quad E)
+    : Type 0 where
+  pub value : IfOk result (IsQuad new height f)
+  pub stood : FindsQuad old new height f result
+  pub keeps : KeepsQuads room old new
+  pub counts : Counts old new result
+
+-- the same of two quads of this height and these sets
+pub record MakesBoth {E : Type 0} (room height : ℕ) (f g : Cells) (old new : Keeper) (result : Result (Quad × Quad) E)
+    : Type 0 where
+  pub value : IfOk result (λ (pair : Quad × Quad). IsQuad new height f pair.0 × IsQuad new height g pair.1)
+  pub stood : FindsBoth old new height f g result
+  pub keeps : KeepsQuads room old new
+  pub counts : Counts old new result

@@ -1,0 +1,4 @@
+pub mod Given
+pub mod Causes
+pub mod Making
+pub mod Rooms
