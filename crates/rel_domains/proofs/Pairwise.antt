@@ -116,7 +116,3 @@ through-most m n c h a b d = let p = pow-le-pow_right {n = 8} (omega arith) {i =
 
 pub wide-enough : (m k c : ℕ) → 52 * 8 ^ height_of_three m k c ≤ wide_room m k c
 wide-enough m k c = let p = derived_room-least m k c in let q = wide_room-four m k c in omega (arith, p, q)
-
--- an equal size has no greater height
-pub as_high : (x y h : ℕ) → x ≡ y → height_of y ≤ h → height_of x ≤ h
-as_high x y h e l = subst (λ (z : ℕ). height_of z ≤ h) (sym e) l

@@ -24,7 +24,7 @@ use Rattle.rel_model.proofs.Workers.{gives_set as gives_relation}
 use Rattle.rel_domains.proofs.Ruled.{rule_room}
 use Rattle.rel_model.proofs.TreeLaws.{same_cells}
 use Rattle.rel_domains.proofs.Places.{side_step}
-use Rattle.rel_domains.proofs.Quartering.{gives_set, gives_later}
+use Rattle.rel_steps.proofs.Given.{gives_quad_set, gives_later}
 use Rattle.rel_order.specs.Steps.{ascending}
 
 -- ---- leaves
@@ -93,9 +93,9 @@ pub upper_given : (w1 w2 w3 : Worker) (least depth half k : ℕ) (part full none
 upper_given w1 w2 w3 least depth half k part full none q over e g1 k1 g2 g3 g =
     let h : ℕ = least + (depth - 1) in
     let m = 2 ^ h in
-    let s1 : quad_set w2 part ≡ ascending m = gives_set w2 h (ascending m) part (gives_later w1 w2 h (ascending m) part k1 g1) in
-    let s2 : quad_set w2 full ≡ cells_rect m m = gives_set w2 k (cells_rect half half) full g2 ∙ ap (λ x. cells_rect x half) e ∙ ap (cells_rect m) e in
-    let s3 : quad_set w2 none ≡ no_cells = gives_set w2 none.height no_cells none (record { means = g3; same_height = refl }) in
+    let s1 : quad_set w2 part ≡ ascending m = gives_quad_set w2 h (ascending m) part (gives_later w1 w2 h (ascending m) part k1 g1) in
+    let s2 : quad_set w2 full ≡ cells_rect m m = gives_quad_set w2 k (cells_rect half half) full g2 ∙ ap (λ x. cells_rect x half) e ∙ ap (cells_rect m) e in
+    let s3 : quad_set w2 none ≡ no_cells = gives_quad_set w2 none.height no_cells none (record { means = g3; same_height = refl }) in
     let d : m + m ≡ 2 ^ (least + depth) = omega (arith, side_step least depth over) in
     record {
       means = g.means ∙ ap Some (ap (λ x. quartered (2 ^ x) (quad_set w2 part) (quad_set w2 full) (quad_set w2 none) (quad_set w2 part)) g1.same_height
@@ -204,8 +204,8 @@ pub cut_set : (w3 w4 : Worker) (n h side : ℕ) (order first : Quad) (all kept r
     → Gives w3 side side (relation_of side side (quad_set w3 order)) all → Gives w3 side side (relation_of side side (quad_set w3 first)) kept
     → Gives w4 all.rows all.cols (inter (set_of w3 all) (set_of w3 kept)) rel → Gives w4 side side (cut n side) rel
 cut_set w3 w4 n h side order first all kept rel e o f a k g =
-    let s1 : set_of w3 all ≡ relation_of side side (ascending side) = gives_relation w3 side side _ all a ∙ ap (relation_of side side) (gives_set w3 h (ascending (2 ^ h)) order o ∙ ap ascending (sym e)) in
-    let s2 : set_of w3 kept ≡ relation_of side side (cells_rect n n) = gives_relation w3 side side _ kept k ∙ ap (relation_of side side) (gives_set w3 h (cells_rect n n) first f) in
+    let s1 : set_of w3 all ≡ relation_of side side (ascending side) = gives_relation w3 side side _ all a ∙ ap (relation_of side side) (gives_quad_set w3 h (ascending (2 ^ h)) order o ∙ ap ascending (sym e)) in
+    let s2 : set_of w3 kept ≡ relation_of side side (cells_rect n n) = gives_relation w3 side side _ kept k ∙ ap (relation_of side side) (gives_quad_set w3 h (cells_rect n n) first f) in
     record {
       means = g.means ∙ ap Some (ap (λ x. inter x (set_of w3 kept)) s1 ∙ ap (inter (relation_of side side (ascending side))) s2);
       row_size = g.row_size ∙ a.row_size;
@@ -221,7 +221,7 @@ pub record CutRoot (w : Worker) (least n h : ℕ) (quad : Quad) : Type 0 where
 pub cut_root : (w : Worker) (least n h side : ℕ) (rel : Rel) (quad : Quad) → IsHigh least n h → side ≡ 2 ^ h → Gives w side side (cut n side) rel
     → GivesQuad w (height_over least rel.rows rel.cols) (has (set_of w rel)) quad → CutRoot w least n h quad
 cut_root w least n h side rel quad i e g r =
-    let s : quad_set w quad ≡ has (cut n side) = gives_set w _ (has (set_of w rel)) quad r ∙ ap has (gives_relation w side side _ rel g) in
+    let s : quad_set w quad ≡ has (cut n side) = gives_quad_set w _ (has (set_of w rel)) quad r ∙ ap has (gives_relation w side side _ rel g) in
     let m = i.covers in
     record {
       height = r.same_height ∙ ap (λ k. height_over least k rel.cols) g.row_size ∙ ap (height_over least side) g.col_size ∙ side_high least n h side i e ∙ i.is;

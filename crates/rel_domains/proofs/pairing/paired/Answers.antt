@@ -1,7 +1,8 @@
 use Rattle.std.proofs.Common.{◌∙◌, max, ℕ, sym, arith}
 use Rattle.rel_model.specs.Worker.{height_of_three}
 use Rattle.rel_model.proofs.Rooms.{operator_room-most}
-use Rattle.rel_domains.proofs.Pairwise.{as_high, left_height, right_height, through-most, wide-enough, pairing_given}
+use Rattle.rel_steps.proofs.Rooms.{as_high}
+use Rattle.rel_domains.proofs.Pairwise.{left_height, right_height, through-most, wide-enough, pairing_given}
 use Rattle.rel_domains.proofs.pairing.paired.Goals as goal
 
 pub returns-in_err-left-clause-room : goal.returns-in_err-left-clause-room

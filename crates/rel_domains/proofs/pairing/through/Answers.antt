@@ -1,7 +1,7 @@
 use Rattle.std.proofs.Common.{◌∙◌, ℕ, arith}
 use Rattle.rel_model.specs.Worker.{height_of_three}
 use Rattle.rel_model.proofs.Rooms.{operator_room-most, product_room-most}
-use Rattle.rel_domains.proofs.Pairwise.{as_high}
+use Rattle.rel_steps.proofs.Rooms.{as_high}
 use Rattle.rel_domains.proofs.pairing.through.Goals as goal
 
 pub returns-in_err-ruled-clause-room : goal.returns-in_err-ruled-clause-room

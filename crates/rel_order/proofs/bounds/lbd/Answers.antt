@@ -1,7 +1,7 @@
 use Rattle.std.proofs.Common.{◌∙◌, ℕ, sym, arith}
 use Rattle.rel_model.specs.Worker.{height_of_three}
 use Rattle.rel_model.proofs.Rooms.{operator_room-most, derived_room-least, derived_room-most, bounds_room-two}
-use Rattle.rel_residual.proofs.Deriving.{as_high}
+use Rattle.rel_steps.proofs.Rooms.{as_high}
 use Rattle.rel_model.specs.Algebra.{HasType}
 use Rattle.rel_model.specs.Worker.{set_of}
 use Rattle.rel_order.proofs.Calling.{lower_given}

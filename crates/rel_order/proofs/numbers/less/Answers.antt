@@ -1,7 +1,7 @@
 use Rattle.std.proofs.Common.{◌^◌, ◌∙◌, ℕ, Some, sym, ap, subst, arith}
 use Rattle.rel_model.specs.Quarters.{LiesWithin}
 use Rattle.rel_model.specs.Worker.{quad_set}
-use Rattle.rel_domains.proofs.Quartering.{gives_has, gives_later}
+use Rattle.rel_steps.proofs.Given.{gives_has, gives_later}
 use Rattle.rel_order.specs.Steps.{ascending}
 use Rattle.rel_order.proofs.Ascending.{is_high, order_high, side_high, side_most, cut_set, cut_root, three_trees, tree_of, tree_from, tree_side}
 use Rattle.rel_order.proofs.numbers.less.Goals as goal
