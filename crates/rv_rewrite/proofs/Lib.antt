@@ -1,0 +1,10 @@
+pub mod Items
+pub mod Equal
+pub mod Parts
+pub mod Ruled
+pub mod Alike
+pub mod Earlier
+pub mod Runs
+pub mod Steady
+pub mod Settled
+pub mod Walked

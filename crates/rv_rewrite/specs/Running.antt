@@ -1,0 +1,86 @@
+-- What the walk does at a node, at arguments and along links: which tree it comes to, and which steps it notes.
+use Rattle.std.specs.Prelude.{◌≡◌, ◌≤◌, ◌++◌, ℕ, Bool, true, List, [], ◌∷◌, None}
+use Rattle.lang_model.specs.Trees.{Tree, NameTree, CallTree, BaseTree, InjectTree, PairTree, MinusTree, TurnedTree}
+use Rattle.lang_model.specs.Trees.{ChainTree, Trees, NoTree, MoreTrees, Branches, NoBranch, MoreBranches}
+use Rattle.lang_model.specs.Rewriting.{Step as STEP, is_calm, are_calm, are_calm_along, next_step, next_in, next_along}
+use Rattle.lang_model.specs.Rewriting.{weight, steps_of, calmed}
+use Rattle.rv_rewrite.specs.declared.step.Step.{Step}
+use Rattle.rv_rewrite.specs.Steps.{steps_by_trees}
+
+-- the steps of arguments, from the left, and the arguments behind them
+abbrev pub steps_in : Trees → List STEP
+steps_in NoTree = []
+steps_in (MoreTrees t args) = steps_of t ++ steps_in args
+
+-- the arguments behind their steps
+abbrev pub calmed_in : Trees → Trees
+calmed_in NoTree = NoTree
+calmed_in (MoreTrees t args) = MoreTrees (calmed t) (calmed_in args)
+
+-- the steps of the operands of links, from the left
+abbrev pub steps_along : Branches → List STEP
+steps_along NoBranch = []
+steps_along (MoreBranches at op right links) = steps_of right ++ steps_along links
+
+-- the links behind their steps
+abbrev pub calmed_along : Branches → Branches
+calmed_along NoBranch = NoBranch
+calmed_along (MoreBranches at op right links) = MoreBranches at op (calmed right) (calmed_along links)
+
+-- the parts of a node have no next step
+abbrev pub StillInside : Tree → Type 0
+StillInside (NameTree at name) = Unit {0}
+StillInside (CallTree at name args) = next_in args ≡ None
+StillInside (BaseTree at base args) = next_in args ≡ None
+StillInside (InjectTree at base domain) = Unit {0}
+StillInside (PairTree at left right) = (next_step left ≡ None) × (next_step right ≡ None)
+StillInside (MinusTree at of) = next_step of ≡ None
+StillInside (TurnedTree at of times) = next_step of ≡ None
+StillInside (ChainTree first links) = (next_step first ≡ None) × (next_along links ≡ None)
+
+-- the same, but for an operand of - or ^ that may be new, and then its parts have none
+abbrev pub ReadyInside : Tree → Type 0
+ReadyInside (MinusTree at of) = StillInside of
+ReadyInside (TurnedTree at of times) = StillInside of
+ReadyInside t = StillInside t
+
+-- of steps that were due some are noted and the others are left, where steps are kept
+abbrev pub Noted : Bool → List Step → List Step → List STEP → List STEP → Type 0
+Noted kept old new due left = kept ≡ true → steps_by_trees old ++ due ≡ steps_by_trees new ++ left
+
+-- a calm node comes to its calm tree
+pub record Settles (kept : Bool) (old new : List Step) (t u : Tree) : Type 0 where
+  pub after : u ≡ calmed t
+  pub calm : is_calm u ≡ true
+  pub noted : Noted kept old new (steps_of t) []
+
+-- a calm node comes to one that is on its way, and has no next step in its parts
+pub record ComesNearer (kept : Bool) (old new : List Step) (t u : Tree) : Type 0 where
+  pub after : calmed u ≡ calmed t
+  pub calm : is_calm u ≡ true
+  pub still : StillInside u
+  pub lighter : weight u ≤ weight t
+  pub noted : Noted kept old new (steps_of t) (steps_of u)
+
+-- any node comes to its calm tree, told whether it is calm
+pub record Walks (kept : Bool) (old new : List Step) (t u : Tree) (calm : Bool) : Type 0 where
+  pub after : u ≡ calmed t
+  pub calm_or_not : calm ≡ is_calm u
+  pub noted : Noted kept old new (steps_of t) []
+
+-- the same of arguments
+pub record WalksIn (kept : Bool) (old new : List Step) (t u : Trees) (calm : Bool) : Type 0 where
+  pub after : u ≡ calmed_in t
+  pub calm_or_not : calm ≡ are_calm u
+  pub noted : Noted kept old new (steps_in t) []
+
+-- the same of links
+pub record WalksAlong (kept : Bool) (old new : List Step) (t u : Branches) (calm : Bool) : Type 0 where
+  pub after : u ≡ calmed_along t
+  pub calm_or_not : calm ≡ are_calm_along u
+  pub noted : Noted kept old new (steps_along t) []
+
+-- one step more is noted, where steps are kept
+abbrev pub NotesOne : Bool → List Step → List Step → ℕ → Tree → Tree → Type 0
+NotesOne kept old new rule before after = kept ≡ true → steps_by_trees new
+    ≡ steps_by_trees old ++ (record { rule = rule; before = before; after = after }) ∷ []

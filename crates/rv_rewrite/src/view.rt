@@ -1,0 +1,100 @@
+//! How a node is made: its parts behind a reference, and taken out of it.
+ghost use Rattle.std.specs.Prelude.{◌≡◌, MatchOption, None, Some};
+ghost use Rattle.lang_model.specs.Trees.{tree_of};
+ghost use Rattle.lang_model.specs.Rewriting.{negated, turned_once, two_operands, place_of_node};
+ghost use Rattle.rv_rewrite.specs.Marked.{turn};
+
+use lang_model::syntax::{Expr, Op2, Place};
+
+/// Two operands with an operator between them.
+#[derive(Clone, Copy)]
+pub struct Two<'a> {
+    pub op: Op2,
+    pub left: &'a Expr,
+    pub right: &'a Expr,
+}
+
+/// The operand of a prefix `-`.
+pub fn negated(expr: &Expr) -> Option<&Expr>
+    ensures { MatchOption result (negated (tree_of expr.now) ≡ None)
+        (λ e. negated (tree_of expr.now) ≡ Some (tree_of e.now)) }
+{
+    match expr {
+        Expr::Minus { of, .. } => Some(of),
+        _ => None,
+    }
+}
+
+/// The operand of a single sign `^`.
+pub fn turned_once(expr: &Expr) -> Option<&Expr>
+    ensures { MatchOption result (turned_once (tree_of expr.now) ≡ None)
+        (λ e. turned_once (tree_of expr.now) ≡ Some (tree_of e.now)) }
+{
+    match expr {
+        Expr::Turned { of, times, .. } => { if *times == 1 { Some(of) } else { None } }
+        _ => None,
+    }
+}
+
+/// The operands of a chain of exactly two.
+#[tactic(auto, using(crate::proofs::Items::tree_chain))]
+pub fn two_operands(expr: &Expr) -> Option<Two<'_>>
+    ensures { MatchOption result (two_operands (tree_of expr.now) ≡ None)
+        (λ x. two_operands (tree_of expr.now)
+        ≡ Some (record { op = x.op; left = tree_of x.left.now; right = tree_of x.right.now })) }
+{
+    match expr {
+        Expr::Chain { first, rest } => match rest.as_slice() {
+            [link] => Some(Two {
+                op: link.op,
+                left: first,
+                right: &link.right,
+            }),
+            [] => None,
+            [_, _, ..] => None,
+        },
+        _ => None,
+    }
+}
+
+/// The place of a node: that of its name or sign, and of a chain that of its first operator.
+pub fn place_of_node(expr: &Expr) -> Place
+    ensures { result ≡ place_of_node (tree_of expr.now) }
+{
+    match expr {
+        Expr::Ref { at, .. } => *at,
+        Expr::Call { at, .. } => *at,
+        Expr::Base { at, .. } => *at,
+        Expr::Inject { at, .. } => *at,
+        Expr::Pair { at, .. } => *at,
+        Expr::Minus { at, .. } => *at,
+        Expr::Turned { at, .. } => *at,
+        Expr::Chain { rest, .. } => match rest.as_slice() {
+            [] => Place { line: 0, column: 0 },
+            [link, ..] => link.at,
+        },
+    }
+}
+
+/// The operand of signs `^`, how many there are, and their place.
+#[derive(Clone, Copy)]
+pub struct Signs<'a> {
+    pub at: Place,
+    pub of: &'a Expr,
+    pub times: u32,
+}
+
+/// The operand of signs `^`.
+pub fn turned(expr: &Expr) -> Option<Signs<'_>>
+    ensures { MatchOption result (turn (tree_of expr.now) ≡ None)
+        (λ x. turn (tree_of expr.now) ≡ Some (record { at = x.at; of = tree_of x.of.now; times = x.times })) }
+{
+    match expr {
+        Expr::Turned { at, of, times } => Some(Signs {
+            at: *at,
+            of,
+            times: *times,
+        }),
+        _ => None,
+    }
+}
