@@ -158,10 +158,6 @@ pub named_value : {E : Type 0} (w : Keeper) (m n : ℕ) (f : Cells) (value : Rel
 named_value w m n f value (Err e) r c l v h = tt
 named_value w m n f value (Ok q) r c l v h = subst (λ (x : Relation). Gives (worker_of w) m n x (record { rows = m; cols = n; root = q.name })) v (is_quad-relation w m n f q r c l h)
 
-pub named_cause : {E : Type 0} (old new : Keeper) (m n : ℕ) (a : Result Quad E) → Counts old new a → HasCause true (worker_of old) (worker_of new) (named_as m n a)
-named_cause old new m n (Err e) c = record { full = λ h. omega (arith, c); no_memory = λ l h. absurd (cc); done = tt; wanting = λ h. absurd (cc) }
-named_cause old new m n (Ok q) c = record { full = λ h. absurd (cc); no_memory = λ l h. absurd (cc); done = c; wanting = λ h. absurd (cc) }
-
 pub named_tells : {E : Type 0} (old new : Keeper) (m n : ℕ) (a : Result Quad E) → TellsMisses old new a → HasCause true (worker_of old) (worker_of new) (named_as m n a)
 named_tells old new m n (Err e) c = record { full = λ h. c; no_memory = λ l h. absurd (cc); done = tt; wanting = λ h. absurd (cc) }
 named_tells old new m n (Ok q) c = record { full = λ h. absurd (cc); no_memory = λ l h. absurd (cc); done = c; wanting = λ h. absurd (cc) }
@@ -169,10 +165,6 @@ named_tells old new m n (Ok q) c = record { full = λ h. absurd (cc); no_memory 
 pub told_value : {E : Type 0} (w : Keeper) (h : ℕ) (f : Cells) (a : Result Quad E) → IsKeeper w → IfOk a (IsQuad w h f) → IfOk (told_as a) (GivesQuad (worker_of w) h f)
 told_value w h f (Err e) i x = tt
 told_value w h f (Ok q) i x = is_quad-gives w h f q i x
-
-pub told_cause : {E : Type 0} (old new : Keeper) (a : Result Quad E) → Counts old new a → HasCause true (worker_of old) (worker_of new) (told_as a)
-told_cause old new (Err e) c = record { full = λ h. omega (arith, c); no_memory = λ l h. absurd (cc); done = tt; wanting = λ h. absurd (cc) }
-told_cause old new (Ok q) c = record { full = λ h. absurd (cc); no_memory = λ l h. absurd (cc); done = c; wanting = λ h. absurd (cc) }
 
 -- of a worker whose keeper was found inside
 pub tells_cause : {E : Type 0} (w inside new : Keeper) (m n : ℕ) (a : Result Quad E) (result : Result Rel Lack) → inside ≡ w → TellsMisses inside new a → result ≡ named_as m n a → HasCause true (worker_of w) (worker_of new) result

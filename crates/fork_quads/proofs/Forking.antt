@@ -15,8 +15,7 @@ use Rattle.rel_model.proofs.TreeLaws.{kept_stands, kept_cells}
 use Rattle.rel_model.proofs.NamesStand.{extends_on}
 use Rattle.rel_model.proofs.QuadLaws.{keeps_on, keeps_most, keeps_itself, reads_itself, reads_on}
 use Rattle.memo_laws.specs.Looking.{operator_of}
-use Rattle.quad_nodes.specs.Finding.{Finds, FindsQuad}
-use Rattle.quad_nodes.proofs.Finding.{not_missed}
+use Rattle.quad_nodes.specs.Finding.{FindsQuad}
 use Rattle.fork_quads.specs.declared.pieces.Job.{Job}
 use Rattle.fork_quads.specs.Forks.{part, piece_room, TellsMisses, job_set, CanDo, CanGroup, HavePieces, HadPieces, DidPieces, AreAll, AreMerged, AreBoth}
 
@@ -227,16 +226,6 @@ one_did {D} {E} old new job n q quads r l all e c v s k m =
   where
     one_more : (n r : ℕ) → r ≡ (n + 1 - n) * r
     one_more n r = let g : n + 1 - n ≡ 1 = omega arith in rw g (omega arith)
-
-pub none_did : {D E : Type 0} (old new : Keeper) (job : Job) (n : ℕ) (x : D) (y : E) (r : Result Quad D) → r ≡ Err x
-    → (operator_of job.op ≢ Compose → FindsQuad old new (job.a.height - job.cuts) (part job.a.height job.cuts n (job_set old job)) r)
-    → KeepsQuads (piece_room (operator_of job.op) job.a.height job.cuts) old new → Counts old new r → DidPieces {E = E} old new job n (n + 1) (Err y)
-none_did {D} {E} old new job n x y r e s k m = record {
-  value = tt;
-  keeps = keeps_as (piece_room (operator_of job.op) job.a.height job.cuts) _ old new (let g : n + 1 - n ≡ 1 = omega arith in rw g (omega arith)) k;
-  misses = (let b : Counts {T = Quad} {E = D} old new (Err x) = subst (λ (z : Result Quad D). Counts old new z) e m in omega (arith, b));
-  stood = λ o h. let p = h n (omega arith) (omega arith) in absurd (not_missed old new x p.quad (subst (λ (z : Result Quad D). Finds old new p.quad z) e (s o p.quad p.is)));
-}
 
 -- ---- the last of a group, and the others
 pub group_rest : (old own other : Keeper) (job : Job) (from count : ℕ) → IsKeeper old → SplitsKeeper 0 old own other → count ≢ 1 → CanGroup old job from count → CanGroup own job from (count - 1)

@@ -80,13 +80,6 @@ work_room-square Diff h c other e = ap (λ (x : ℕ). quad_room x) (let g : h �
 work_room-square Transpose h c other e = ap (λ (x : ℕ). quad_room x) (let g : h ≡ h - c = omega arith in g)
 work_room-square Compose h c other e = absurd (other refl)
 
-pub piece_room-square : (op : Operator) (h c : ℕ) → op ≢ Compose → quad_room (h - c) ≡ piece_room op h c
-piece_room-square Union h c other = refl
-piece_room-square Inter h c other = refl
-piece_room-square Diff h c other = refl
-piece_room-square Transpose h c other = refl
-piece_room-square Compose h c other = absurd (other refl)
-
 pub product_words-next : (h c : ℕ) → c ≢ 0 → product_words h c ≡ product_words (h - 1) (c - 1) + product_words (h - 1) (c - 1) + quad_room (h - 1 - (c - 1))
 product_words-next h zero s = absurd (s refl)
 product_words-next h (suc c) s = let e : suc c - 1 ≡ c = omega arith in rw e refl

@@ -138,13 +138,6 @@ col_on h c n col e l = ap (λ (x : ℕ). x % 256) e ∙ first_on east east_on h 
 pub first_none : (by : ℕ → ℕ → ℕ) (h c n : ℕ) → c ≡ 0 → 0 ≡ first_at by h c n
 first_none by h c n e = ap (λ (x : ℕ). first_at by h x n) (sym e)
 
-pub first_next : (by : ℕ → ℕ → ℕ) (h c n k half rest : ℕ) → c ≢ 0 → k ≡ place_at_cut (c - 1) n → half ≡ side_of (h - 1) → rest ≡ first_at by (h - 1) (c - 1) n → by k half + rest ≡ first_at by h c n
-first_next by h zero n k half rest s ek eh er = absurd (s refl)
-first_next by h (suc c) n k half rest s ek eh er =
-    let d : suc c - 1 ≡ c = omega arith in
-    ap (λ (x : ℕ). by x half + rest) ek ∙ ap (λ (x : ℕ). by (place_at_cut (suc c - 1) n) x + rest) eh ∙ ap (λ (x : ℕ). by (place_at_cut (suc c - 1) n) (side_of (h - 1)) + x) er
-    ∙ ap (λ (x : ℕ). by (place_at_cut x n) (side_of (h - 1)) + first_at by (h - 1) x n) d
-
 -- ---- room
 whole_most : (d : ℕ) → 2 * 4 ^ d - 1 ≤ whole_words d
 whole_most zero = omega arith

@@ -3,7 +3,7 @@ use Rattle.std.proofs.Common.{◌≡◌, ◌≢◌, ◌⊎◌, ◌&&◌, ◌||�
 use Rattle.rel_model.specs.declared.Quad.{Quad}
 use Rattle.rel_model.specs.Cells.{Cells, no_cells}
 use Rattle.rel_model.specs.Trees.{cells, quartered}
-use Rattle.rel_model.specs.Equations.{Transpose, result_of, depth_of, side_of}
+use Rattle.rel_model.specs.Equations.{result_of, depth_of, side_of}
 use Rattle.rel_model.specs.Quads.{Keeper, IsKeeper, quad_cells, QuadStands, IsQuad, AreQuarters}
 use Rattle.rel_model.proofs.TreeLaws.{same_cells}
 use Rattle.rel_model.proofs.Squares.{each_cell-quartered}
@@ -132,11 +132,6 @@ pub result_of-by : (op : Boole) (m : ℕ) (f g : Cells) → result_of (operator_
 result_of-by UNION m f g = refl
 result_of-by INTER m f g = refl
 result_of-by DIFF m f g = refl
-
-pub no_transpose : (op : Boole) → operator_for op ≢ Transpose
-no_transpose UNION e = cc
-no_transpose INTER e = cc
-no_transpose DIFF e = cc
 
 -- ---- quarters
 pub by_quarters : (op : Boole) (v w : Keeper) (a b : Quad) (fa fb : Quad × Quad × Quad × Quad) → b.height ≡ a.height → AreQuarters v w a fa → AreQuarters v w b fb

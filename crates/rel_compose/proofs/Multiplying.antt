@@ -2,13 +2,13 @@
 -- 1. A product is two compositions of quads and their union, of which the second is seen from the state before the first.
 -- 2. A row of the result is two products, and the result is the corner of two rows.
 -- 3. By quarters this is the composition: each quarter is a row of quarters times a column, as matrices are multiplied by blocks.
-use Rattle.std.proofs.Common.{◌≡◌, ◌<◌, ◌+◌, ◌-◌, ◌&&◌, ◌||◌, ltb, zero, suc, ℕ, Bool, true, false, Result, Ok, Err, IfOk, IsErr, refl, sym, ap, subst, ◌∙◌, arith}
-use Rattle.std.proofs.lemmas.Bool.{true≢false, lt-ltb}
+use Rattle.std.proofs.Common.{◌≡◌, ◌<◌, ◌+◌, ◌-◌, ◌&&◌, ◌||◌, ltb, zero, suc, ℕ, Bool, true, false, Result, Ok, Err, IfOk, refl, sym, ap, subst, ◌∙◌, arith}
+use Rattle.std.proofs.lemmas.Bool.{lt-ltb}
 use Rattle.rel_model.specs.declared.Quad.{Quad}
 use Rattle.rel_model.specs.Cells.{Cells, no_cells, cells_rect, cells_union, cells_compose, some_below}
 use Rattle.rel_model.specs.Trees.{bottom_height, quartered, side}
 use Rattle.rel_model.specs.Equations.{side_of}
-use Rattle.rel_model.specs.Quads.{Keeper, IsKeeper, quad_cells, QuadStands, IsQuad, KeepsQuads, ReadsQuads, Counts, one_more_miss, AreQuarters}
+use Rattle.rel_model.specs.Quads.{Keeper, IsKeeper, quad_cells, QuadStands, IsQuad, KeepsQuads, ReadsQuads, AreQuarters}
 use Rattle.rel_model.proofs.TreeLaws.{same_cells}
 use Rattle.rel_model.proofs.Composing.{cells_compose-quartered}
 use Rattle.rel_model.proofs.QuadLaws.{keeps_on, keeps_itself, quad_stays, quad_cells-stay, is_quad-stays, side_of-next, empty_quad, quarters-before, result_later, corner_value}
@@ -216,7 +216,3 @@ pub row_below : (h k : ℕ) (v w : Keeper) → k + 1 ≡ h → KeepsQuads (quart
 row_below h k v w e x = subst (λ (n : ℕ). KeepsQuads (quarter_room n + quarter_room n) v w) (let g : k ≡ h - 1 = omega arith in g) x
 
 -- ---- misses
--- a call that failed, after calls that missed nothing
-pub counts_failed : {T E : Type 0} (u v w : Keeper) (r : Result T E) → v.misses ≡ u.misses → IsErr r → w.misses ≡ one_more_miss v.misses → Counts u w r
-counts_failed u v w (Ok x) e i c = absurd (true≢false (sym i))
-counts_failed u v w (Err x) e i c = c ∙ ap one_more_miss e

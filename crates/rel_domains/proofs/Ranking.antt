@@ -5,8 +5,7 @@
 use Rattle.std.proofs.Common.{◌≡◌, ◌<◌, ◌≤◌, ◌+◌, ◌-◌, ◌*◌, ◌^◌, ◌∙◌, ◌&&◌, ◌||◌, cond, eqb, ltb, bit_or, ℕ, Bool, true, false, refl, sym, ap, subst, arith, zero, suc, inl, inr}
 use Rattle.std.specs.Int.{bit_at}
 use Rattle.std.proofs.lemmas.Bool.{cases_Bool, cases_lt, cases_eq, lt-ltb, le-ltb, and_parts, and_from, eqb-true, eq-eqb, ne_eqb, ltb-true}
-use Rattle.std.proofs.lemmas.Nat.{pow_pos}
-use Rattle.std.proofs.lemmas.Nat.Bits.{bit_at_or, bit_at-lt, bit_at-pow_same, bit_at-pow_other, bit_at-zero}
+use Rattle.std.proofs.lemmas.Nat.Bits.{bit_at_or, bit_at-lt, bit_at-pow_same, bit_at-pow_other}
 use Rattle.rel_model.specs.Cells.{Cells, no_cells, bits_cells}
 use Rattle.rel_model.specs.Choice.{count_below}
 use Rattle.rel_model.specs.Trees.{quartered}
@@ -157,13 +156,6 @@ pub record AreRanked (m row before : ℕ) (t : ℕ → Bool) (x bits rank : ℕ)
   pub small : bits < 2 ^ (m * m)
   pub next : rank ≡ before + count_below x t
 
-pub ranked-first : (m row before : ℕ) (t : ℕ → Bool) → AreRanked m row before t 0 0 before
-ranked-first m row before t = record {
-  cells = λ i k a b. ap (λ v. eqb v 1) (bit_at-zero (m * i + k)) ∙ sym (ap (λ u. u && (t k && eqb (before + count_below k t) (row + i))) (le-ltb k 0 (omega arith)));
-  small = pow_pos (m * m);
-  next = omega arith;
-}
-
 -- a column with an element
 pub ranked-more : (m row before : ℕ) (t : ℕ → Bool) (x bits rank more : ℕ) → AreRanked m row before t x bits rank → x < m → t x ≡ true
     → ((i k : ℕ) → i < m → k < m → eqb (bit_at more (m * i + k)) 1 ≡ (eqb (bit_at bits (m * i + k)) 1 || (eqb k x && eqb rank (row + i)))) → more < 2 ^ (m * m) → AreRanked m row before t (x + 1) more (rank + 1)
@@ -193,16 +185,6 @@ ranked-same m row before t x bits rank r h = record {
   next = (let n = r.next in let c : count_below (x + 1) t ≡ count_below x t = count-no x t h in omega (arith, n, c));
 }
 
--- all columns
-pub ranked-all : (m row before : ℕ) (t : ℕ → Bool) (x bits rank : ℕ) → AreRanked m row before t x bits rank → x ≡ m → bits_cells m bits ≡ ranked m row before t
-ranked-all m row before t x bits rank r e = same_cells _ _ (λ i k. elim (cases_lt i m) [
-  | inl a ↦ elim (cases_lt k m) [
-    | inl b ↦ rw (lt-ltb i m a, lt-ltb k m b) (r.cells i k a b ∙ ap (λ u. u && (t k && eqb (before + count_below k t) (row + i))) (lt-ltb k x (omega (arith, b, e))))
-    | inr b ↦ rw (lt-ltb i m a, le-ltb k m b) refl
-  ]
-  | inr a ↦ rw (le-ltb i m a) refl
-])
-
 -- one more bit, at the row of a rank
 pub rank-set : (m bits row rank x : ℕ) → x < m → row ≤ rank → rank < row + m → (i k : ℕ) → i < m → k < m
     → eqb (bit_at (bit_or bits (2 ^ (m * (rank - row) + x))) (m * i + k)) 1 ≡ (eqb (bit_at bits (m * i + k)) 1 || (eqb k x && eqb rank (row + i)))
@@ -219,11 +201,3 @@ rank-set m bits row rank x l p q i k a b =
           let u : rank - row ≡ i = let z = eqb-true rank (row + i) g.1 in omega (arith, z) in
           e (ap (λ v. m * i + v) (eqb-true k x g.0) ∙ ap (λ v. m * v + x) (sym u))))
     ])
-
--- no bit, where the rank is none of the rows
-pub rank-left : (m bits row rank x : ℕ) → ((i : ℕ) → i < m → rank ≡ row + i → ⊥) → (i k : ℕ) → i < m → k < m → eqb (bit_at bits (m * i + k)) 1 ≡ (eqb (bit_at bits (m * i + k)) 1 || (eqb k x && eqb rank (row + i)))
-rank-left m bits row rank x f i k a b = sym (ap (λ t. eqb (bit_at bits (m * i + k)) 1 || t) (not_true _ (λ h. f i a (eqb-true rank (row + i) (and_parts _ _ h).1))) ∙ or_false (eqb (bit_at bits (m * i + k)) 1))
-  where
-    or_false : (b : Bool) → (b || false) ≡ b
-    or_false true = refl
-    or_false false = refl
