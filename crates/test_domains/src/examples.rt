@@ -91,8 +91,9 @@ fn is_refused(rt: &impl Abort, given: Result<Rel, DomainError>, size: u64) {
     }
 }
 
-/// Asserts that products of the greatest sizes are refused.
+/// Asserts that products of great sizes are refused.
 pub(crate) fn greatest_products<Q: Quads>(rt: &impl Abort, q: &mut Q) {
+    is_refused(rt, first(q, 1_048_576, 1_048_576), 1_099_511_627_776);
     is_refused(rt, first(q, 16_777_216, 16_777_216), 281_474_976_710_656);
     is_refused(rt, second(q, 16_777_216, 16_777_216), 281_474_976_710_656);
 }
@@ -105,6 +106,7 @@ fn a_product_of_the_greatest_sizes_is_refused_with_its_size(rt: HostRuntime) {
 /// Asserts that subsets which no number counts are refused.
 pub(crate) fn subsets_without_number<Q: Quads>(rt: &impl Abort, q: &mut Q) {
     is_refused(rt, epsi(q, 64), 18_446_744_073_709_551_615);
+    is_refused(rt, epsi(q, 1_048_576), 18_446_744_073_709_551_615);
     is_refused(rt, epsi(q, 16_777_216), 18_446_744_073_709_551_615);
 }
 
