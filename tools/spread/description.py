@@ -22,7 +22,7 @@ class Description:
         self.values = {"top": top, **config.get("values", {})}
         self.parts = self.parts_of(config["parts"])
         self.layers = self.number(config.get("layers", 1))
-        self.at = config["join"].get("at", AT)
+        self.at = self.number(config["join"].get("at", AT), 2, 64)
         if self.layers > 1 and "start" not in config:
             raise Wrong("with layers, `start` names the relation file that the first layer takes as its state")
         self.make = dict(self.made())
@@ -30,11 +30,11 @@ class Description:
 
     # ---- parts
 
-    def number(self, value):
+    def number(self, value, least=1, most=10**9):
         """A number, or the value of that name."""
         text = self.filled(str(value), {})
-        if not text.isdecimal() or int(text) < 1:
-            raise Wrong(f"{value} is {text}, and a number from 1 on is wanted")
+        if not text.isdecimal() or not least <= int(text) <= most:
+            raise Wrong(f"{value} is {text}, and a number from {least} to {most} is wanted")
         return int(text)
 
     def parts_of(self, said):
@@ -147,23 +147,32 @@ class Description:
 
     # ---- needs
 
+    def need(self, run, name, default, least=1, most=10**9):
+        """A number that the runs of a kind need."""
+        return self.number(self.config[run].get(name, default), least, most)
+
+    def nodes(self, run):
+        """The table of a run has two to this power of node words."""
+        return self.need(run, "nodes", NODES, 10, 24)
+
     def options(self, run):
         """The words that a run is given before its files."""
-        needs = {"nodes": NODES, **self.config[run]}
-        return " ".join(f"--{name} {needs[name]}" for name in ("nodes", "turns", "workers") if name in needs)
+        words = f"--nodes {self.nodes(run)}"
+        if "turns" in self.config[run]:
+            words += f" --turns {self.need(run, 'turns', 0, 0)}"
+        return f"{words} --workers {self.workers(run)}"
 
     def memory(self, run):
         """The memory of a job in MiB: what is said, else that of its table and something beside it."""
-        needs = {"nodes": NODES, **self.config[run]}
-        return needs.get("memory", 16 * (2 ** needs["nodes"] + 2**20) // 2**20 + BESIDE)
+        return self.need(run, "memory", 16 * (2 ** self.nodes(run) + 2**20) // 2**20 + BESIDE)
 
     def minutes(self, run):
         """The time of a job."""
-        return self.config[run].get("minutes", MINUTES)
+        return self.need(run, "minutes", MINUTES)
 
-    def threads(self, run):
-        """The processors of a job."""
-        return self.config[run].get("workers", 1)
+    def workers(self, run):
+        """The workers of a run, with a processor for each."""
+        return self.need(run, "workers", 1, 1, 64)
 
 
 def blocks(count, elements):
