@@ -14,14 +14,14 @@ import time
 
 WANTED = ("snakemake", "sbatch", "slurmctld", "slurmd", "munged")
 SYSTEM = "/usr/sbin"
-PR_SET_PDEATHSIG, PR_SET_CHILD_SUBREAPER = 1, 36
+PR_SET_PDEATHSIG, PR_SET_CHILD_SUBREAPER, CLONE_NEWUTS = 1, 36, 0x04000000
 LIBC = ctypes.CDLL(None, use_errno=True)
 PROCESSORS, MEBIBYTES = 4, 16000  # as the node says of itself, whatever the machine has
 REQUEUED_AFTER = 20  # seconds until a job that was put back may start; also how long the letter of a start is valid
 
 CONFIGURATION = """\
 ClusterName=spread
-SlurmctldHost={host}(127.0.0.1)
+SlurmctldHost=localhost(127.0.0.1)
 SlurmctldPort={ports[0]}
 SlurmdPort={ports[1]}
 CommunicationParameters=NoCtldInAddrAny,NoInAddrAny
@@ -52,7 +52,7 @@ KillWait=5
 MessageTimeout=20
 SlurmdTimeout=15
 SchedulerParameters=sched_interval=2,bf_interval=2
-NodeName={host} NodeAddr=127.0.0.1 CPUs={processors} RealMemory={mebibytes} State=UNKNOWN
+NodeName=localhost NodeAddr=127.0.0.1 CPUs={processors} RealMemory={mebibytes} State=UNKNOWN
 PartitionName=all Nodes=ALL Default=YES MaxTime=INFINITE State=UP
 """
 
@@ -83,6 +83,14 @@ def adopt():
     """Makes this process the parent of those below it whose own parent has ended."""
     if LIBC.prctl(PR_SET_CHILD_SUBREAPER, 1, 0, 0, 0):
         raise Trouble("this system has no subreapers (Linux has, from 3.4 on)")
+
+
+def be_localhost():
+    """Gives this process, and those below it, a name of the machine of their own: the daemons of Slurm listen where the
+    name of the machine leads, which may be anywhere."""
+    name = b"localhost"
+    if socket.gethostname() != name.decode() and (LIBC.unshare(CLONE_NEWUTS) or LIBC.sethostname(name, len(name))):
+        raise Trouble("this machine cannot be called localhost here; that wants root")
 
 
 def ends_with_parent():
@@ -176,9 +184,8 @@ class Cluster:
         for name in ("state", "spool"):
             shutil.rmtree(self.folder / name, ignore_errors=True)
             (self.folder / name).mkdir()
-        host = socket.gethostname().partition(".")[0]
         text = CONFIGURATION.format(
-            host=host, ports=free_ports(2), folder=self.folder, user=user(), processors=PROCESSORS,
+            ports=free_ports(2), folder=self.folder, user=user(), processors=PROCESSORS,
             mebibytes=MEBIBYTES, requeued_after=REQUEUED_AFTER,
         )
         (self.folder / "slurm.conf").write_text(text)
