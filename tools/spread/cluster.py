@@ -157,12 +157,12 @@ class Cluster:
     def start(self):
         """Starts the daemons; where a port was taken meanwhile, once more with others."""
         self.daemon("munged", *self.munge_words())
-        until((self.folder / "munge.socket").exists, 30, "munged has no socket")
+        until((self.folder / "munge.socket").exists, 60, "munged has no socket")
         for last in (False, False, True):
             self.configure()
             try:
                 self.daemon("slurmctld", "-D", "-c")
-                until(lambda: self.answers("slurmctld", "scontrol", "ping"), 30, "slurmctld does not answer")
+                until(lambda: self.answers("slurmctld", "scontrol", "ping"), 60, "slurmctld does not answer")
                 self.start_node()
                 return
             except Trouble:
@@ -243,7 +243,7 @@ class Cluster:
             words = (line.split() for line in self.ask("scontrol", "listpids", job).splitlines()[1:])
             return {int(word[0]) for word in words if word and word[0].isdecimal()} & set(below(os.getpid()))
 
-        send(signal.SIGKILL, until(processes, 60, f"job {job} has no processes"))
+        send(signal.SIGKILL, until(processes, 120, f"job {job} has no processes"))
 
     def node(self):
         """The state of the node; a star says that it does not answer."""
@@ -253,7 +253,7 @@ class Cluster:
         """Starts slurmd, and waits until its node takes jobs."""
         self.daemon("slurmd", "-D")
         up = ("idle", "mixed", "allocated", "completing")
-        until(lambda: self.answers("slurmd", "sinfo", "-h", "-o", "%T").strip() in up, 90, "the node does not come up")
+        until(lambda: self.answers("slurmd", "sinfo", "-h", "-o", "%T").strip() in up, 120, "the node does not come up")
 
     def lose_node(self):
         """Kills slurmd and all that runs on its node, and waits until the node counts as down."""
@@ -264,7 +264,7 @@ class Cluster:
                 lost += [entry, *below(entry)]
         send(signal.SIGKILL, lost)
         slurmd.wait()
-        until(lambda: self.node().startswith("down"), 120, "slurmctld does not miss the node")
+        until(lambda: self.node().startswith("down"), 180, "slurmctld does not miss the node")
 
     def stop(self):
         """Ends everything below this process."""
