@@ -73,6 +73,13 @@ def main():
         for jobs in (1, 2, 4):
             row(f"{PARTS} parts by {jobs} jobs at once", *best(rounds, lambda jobs=jobs: by_jobs(jobs)), first=first)
         row("the longest part alone", longest, first=first)
+
+        def by_its_own():
+            (folder / parts[0]).unlink()
+            own = snakemake(folder, vertices, 1, parts[0])
+            return [own - one_run(folder, *NODES, "layer1/part1.rv", "graph.k2")[0]]
+
+        row("what Snakemake takes for a part by itself", *best(rounds, by_its_own))
         (folder / "empty.rv").write_text("")
         (folder / "load.rv").write_text('LOAD G "graph.k2".')
         (folder / "loads.rv").write_text("".join(f'LOAD P{number} "{part}". ' for number, part in enumerate(parts, 1)))

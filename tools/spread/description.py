@@ -27,6 +27,7 @@ class Description:
             raise Wrong("with layers, `start` names the relation file that the first layer takes as its state")
         self.make = dict(self.made())
         self.joins = {layer: dict(self.tree(layer)) for layer in range(1, self.layers + 1)}
+        self.try_texts()
 
     # ---- parts
 
@@ -55,6 +56,14 @@ class Description:
             raise Wrong(f"nothing is called ${error.args[0]} in: {text.strip()[:60]}") from None
         except ValueError as error:
             raise Wrong(f"{error}; a dollar sign itself is $$") from None
+
+    def try_texts(self):
+        """Fills all texts once, so that what is wrong with them is told before anything runs."""
+        for part in range(1, len(self.parts) + 1):
+            self.part_script(1, part), self.part_files(1, part)
+        self.join_script(1, "joined"), self.page_script(), self.page_files()
+        if "whole" in self.config:
+            self.whole_script(), self.files("whole", {})
 
     def label(self, layer, part):
         """A part as a message names it."""
