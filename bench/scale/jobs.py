@@ -3,9 +3,9 @@
 
     bench/scale/jobs.py [ROUNDS] [VERTICES]      3 rounds, 20,000 vertices
 
-The work is examples/spread/rows.yaml, with eight parts. Each row is the best of ROUNDS, in seconds by the clock; what is one
-run of the program also has seconds of the processor. The ratios are to the first row, which does the parts one after another
-without Snakemake. The runs are those of crates/relview/out/relview.
+The work is examples/spread/rows.yaml, with eight parts. Each row is the best of ROUNDS, in seconds by the clock and of the
+processor. The ratios are to the first row, which does the parts one after another without Snakemake. The runs are those of
+crates/relview/out/relview.
 """
 import os
 import subprocess
@@ -22,14 +22,20 @@ NODES = ["--nodes", "22"]
 
 
 def snakemake(folder, vertices, jobs, *targets):
-    """Seconds that Snakemake takes for some targets."""
+    """Seconds by the clock and of the processor that Snakemake takes for some targets, with the runs."""
     command = ["snakemake", *targets, "-s", str(TOP / "tools" / "spread" / "Snakefile"), "-d", str(folder), "-j", str(jobs)]
     command += ["--configfile", str(TOP / "examples" / "spread" / "rows.yaml"), "--quiet", "all"]
     command += ["--config", f"values={{vertices: {vertices}}}"]
     around = {**os.environ, "RELVIEW": str(RELVIEW)}
-    began = time.perf_counter()
+    began, before = time.perf_counter(), spent_below()
     subprocess.run(command, env=around, check=True, stdin=subprocess.DEVNULL, stderr=subprocess.DEVNULL)
-    return time.perf_counter() - began
+    return time.perf_counter() - began, spent_below() - before
+
+
+def spent_below():
+    """Seconds of the processor of the processes that were started here and have ended."""
+    times = os.times()
+    return times.children_user + times.children_system
 
 
 def one_run(folder, *words):
@@ -45,10 +51,9 @@ def best(rounds, work):
     return [min(figures) for figures in zip(*(work() for _ in range(rounds)))]
 
 
-def row(label, took, spent=None, first=None):
+def row(label, took, spent, first=None):
     """A row of the table."""
-    print(f"{label:52} {took:8.2f} s" + (f" {spent:8.2f} s" if spent is not None else " " * 11), end="")
-    print(f" {took / first:6.2f}" if first else "", flush=True)
+    print(f"{label:52} {took:8.2f} s {spent:8.2f} s" + (f" {took / first:6.2f}" if first else ""), flush=True)
 
 
 def main():
@@ -61,23 +66,24 @@ def main():
 
         def in_turn():
             runs = [one_run(folder, *NODES, part.replace(".k2", ".rv"), "graph.k2") for part in parts]
-            return [sum(figures) for figures in zip(*runs)] + [max(took for took, _ in runs)]
+            return *map(sum, zip(*runs)), *max(runs)
 
         def by_jobs(jobs):
             for part in parts:
                 (folder / part).unlink()
-            return [snakemake(folder, vertices, jobs, *parts)]
+            return snakemake(folder, vertices, jobs, *parts)
 
-        first, spent, longest = best(rounds, in_turn)
+        first, spent, *longest = best(rounds, in_turn)
         row(f"{PARTS} parts in turn, without Snakemake", first, spent, first)
         for jobs in (1, 2, 4):
-            row(f"{PARTS} parts by {jobs} jobs at once", *best(rounds, lambda jobs=jobs: by_jobs(jobs)), first=first)
-        row("the longest part alone", longest, first=first)
+            row(f"{PARTS} parts by {jobs} jobs at once", *best(rounds, lambda jobs=jobs: by_jobs(jobs)), first)
+        row("the longest part alone", *longest, first)
 
         def by_its_own():
             (folder / parts[0]).unlink()
-            own = snakemake(folder, vertices, 1, parts[0])
-            return [own - one_run(folder, *NODES, "layer1/part1.rv", "graph.k2")[0]]
+            with_it = snakemake(folder, vertices, 1, parts[0])
+            without = one_run(folder, *NODES, "layer1/part1.rv", "graph.k2")
+            return [more - less for more, less in zip(with_it, without)]
 
         row("what Snakemake takes for a part by itself", *best(rounds, by_its_own))
         (folder / "empty.rv").write_text("")
