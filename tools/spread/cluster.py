@@ -21,7 +21,7 @@ REQUEUED_AFTER = 20  # seconds until a job that was put back may start; also how
 
 CONFIGURATION = """\
 ClusterName=spread
-SlurmctldHost=localhost(127.0.0.1)
+SlurmctldHost={host}(127.0.0.1)
 SlurmctldPort={ports[0]}
 SlurmdPort={ports[1]}
 CommunicationParameters=NoCtldInAddrAny,NoInAddrAny
@@ -52,7 +52,7 @@ KillWait=5
 MessageTimeout=20
 SlurmdTimeout=15
 SchedulerParameters=sched_interval=2,bf_interval=2
-NodeName=localhost NodeAddr=127.0.0.1 CPUs={processors} RealMemory={mebibytes} State=UNKNOWN
+NodeName={host} NodeAddr=127.0.0.1 CPUs={processors} RealMemory={mebibytes} State=UNKNOWN
 PartitionName=all Nodes=ALL Default=YES MaxTime=INFINITE State=UP
 """
 
@@ -85,12 +85,16 @@ def adopt():
         raise Trouble("this system has no subreapers (Linux has, from 3.4 on)")
 
 
-def be_localhost():
-    """Gives this process, and those below it, a name of the machine of their own: the daemons of Slurm listen where the
-    name of the machine leads, which may be anywhere."""
-    name = b"localhost"
-    if socket.gethostname() != name.decode() and (LIBC.unshare(CLONE_NEWUTS) or LIBC.sethostname(name, len(name))):
-        raise Trouble("this machine cannot be called localhost here; that wants root")
+def machine_name():
+    """The name of the machine for this process and those below it, `localhost` where it may be given one of its own: the
+    daemons of Slurm listen where this name leads, which must be 127.0.0.1."""
+    if not LIBC.unshare(CLONE_NEWUTS):
+        LIBC.sethostname(b"localhost", len(b"localhost"))
+    name = socket.gethostname().partition(".")[0]
+    with open("/etc/hosts", encoding="utf-8") as hosts:
+        if not any(words[:1] == ["127.0.0.1"] and name in words for words in map(str.split, hosts)):
+            raise Trouble(f"{name} is not 127.0.0.1 in /etc/hosts, and only root can give the machine another name here")
+    return name
 
 
 def ends_with_parent():
@@ -151,7 +155,7 @@ class Cluster:
     """The daemons in a folder."""
 
     def __init__(self, folder, around):
-        self.folder, self.daemons = folder, {}
+        self.folder, self.daemons, self.host = folder, {}, machine_name()
         self.around = {**around, "PATH": search_path(), "SLURM_CONF": str(folder / "slurm.conf")}
 
     def start(self):
@@ -185,7 +189,7 @@ class Cluster:
             shutil.rmtree(self.folder / name, ignore_errors=True)
             (self.folder / name).mkdir()
         text = CONFIGURATION.format(
-            ports=free_ports(2), folder=self.folder, user=user(), processors=PROCESSORS,
+            host=self.host, ports=free_ports(2), folder=self.folder, user=user(), processors=PROCESSORS,
             mebibytes=MEBIBYTES, requeued_after=REQUEUED_AFTER,
         )
         (self.folder / "slurm.conf").write_text(text)
