@@ -1,0 +1,9 @@
+pub mod Powers
+pub mod Walking
+pub mod Reaching
+pub mod Placed
+pub mod Naming
+pub mod Copying
+pub mod Counting
+pub mod Moving
+pub mod Assembling

@@ -1,0 +1,53 @@
+//! A word in its place: the first from its home on that holds it or is vacant.
+ghost use Rattle.std.specs.Prelude.{◌≡◌, ◌≢◌, ◌<◌, ◌≤◌, ◌^◌, ◌+◌, ◌%◌, length};
+ghost use Rattle.rel_model.specs.Words.{IsSound, home_sum, most_bits, stored_count};
+ghost use Rattle.rv_compact.specs.Copies.{Places};
+
+/// The factors by which the two halves of a word are mixed, as in the table.
+const FIRST_FACTOR: u64 = 2654435761;
+
+const SECOND_FACTOR: u64 = 2246822519;
+
+/// The home of a word among `count` places in a ring.
+fn home_of(word: u64, count: usize) -> usize
+    requires { 0 < count }
+    ensures { result ≡ home_sum word % count }
+{
+    let first = word >> 32;
+    let second = word % (1 << 32);
+    let sum = (first * FIRST_FACTOR).wrapping_add(second * SECOND_FACTOR);
+    (sum % count as u64) as usize
+}
+
+/// The place that follows, of `count` places in a ring.
+fn next(place: usize, count: usize) -> usize
+    requires { place < count }
+    ensures { result ≡ (place + 1) % count }
+{
+    if place + 1 == count { 0 } else { place + 1 }
+}
+
+/// The name of a word, which is placed where it stands nowhere yet. A place is vacant.
+pub(crate) fn place_word(nodes: &mut [u64], bits: u32, word: u64) -> u32
+    requires sound { IsSound nodes.old }
+    requires size { length nodes.old ≡ 2 ^ bits }
+    requires few { bits ≤ most_bits }
+    requires vacant { stored_count nodes.old + 2 < length nodes.old }
+    requires some { word ≢ 0 }
+    ensures { Places nodes.old nodes.new word result }
+{
+    let count = nodes.len() - 2;
+    let mut place = home_of(word, count);
+    'places: for _step in 0..count {
+        let found = nodes[2 + place];
+        if found == 0 {
+            nodes[2 + place] = word;
+            return (2 + place) as u32;
+        }
+        if found == word {
+            return (2 + place) as u32;
+        }
+        place = next(place, count);
+    }
+    0
+}
