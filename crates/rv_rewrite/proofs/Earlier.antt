@@ -14,9 +14,9 @@ use Rattle.lang_model.specs.declared.syntax.Place.{Place}
 use Rattle.lang_model.specs.declared.syntax.Op2.{Op2}
 use Rattle.lang_model.specs.Limits.{compared_limit}
 use Rattle.lang_model.specs.Trees.{Tree, ChainTree, Branches, NoBranch, MoreBranches, tree_of}
-use Rattle.lang_model.specs.Rewriting.{same_operator, same_tree, same_branches, is_of_one_sign, link_count, without_repeats, repeated_operands, chain_of}
+use Rattle.lang_model.specs.Rewriting.{same_operator, same_tree, same_branches, is_of_one_sign, link_count, without_repeats, repeated_operands, chain_of, where_some}
 use Rattle.rv_rewrite.specs.Items.{links_of, links_ahead}
-use Rattle.rv_rewrite.specs.Repeated.{is_among, repeats, may_be_shortened, operands_behind, without_earlier, all_equal}
+use Rattle.rv_rewrite.specs.Repeated.{chain_parts, is_among, kept_with, repeats, may_be_shortened, operands_behind, without_earlier, all_equal}
 
 -- one more operand stands first
 pub behind_one : (before : List Tree) (xs : List Link) (y : Link) → operands_behind before (xs ++ y ∷ []) ≡ tree_of y.right ∷ operands_behind before xs
@@ -242,37 +242,50 @@ shortened_at e first rest is f xs d v b h =
     ∙ shortened-may_be (tree_of f) (links_of xs)
     ∙ ap (λ b. cond b (Some (chain_of (tree_of f) (without_repeats (tree_of f ∷ []) (links_of xs)))) None) h
 
+-- the same by the parts of a chain
+pub repeated_of : (t : Tree) → repeated_operands t ≡ where_some (chain_parts t)
+    (λ x. cond (may_be_shortened x.0 x.1) (Some (chain_of x.0 (without_repeats (x.0 ∷ []) x.1))) None)
+repeated_of (ChainTree first links) = shortened-may_be first links
+repeated_of t = refl
+
 -- ---- the links that are kept
-pub kept_skip : (first : Tree) (all kept : List Link) (i : ℕ) (x : Link) → i < length all → x ≡ get_or all i x
-    → is_among first kept (tree_of x.right) ≡ true
-    → without_repeats (first ∷ []) (links_of all) ≡ links_ahead kept (without_repeats (operands_behind (first ∷ []) kept) (links_of (drop i all)))
-    → without_repeats (first ∷ []) (links_of all) ≡ links_ahead kept (without_repeats (operands_behind (first ∷ []) kept) (links_of (drop (i + 1) all)))
-kept_skip first all kept i x l e a h =
+-- what is kept so far, with what is kept of those that are left
+abbrev pub KeptSoFar : Tree → List Link → List Link → List Link → Type 0
+KeptSoFar first all kept left = without_repeats (first ∷ []) (links_of all)
+    ≡ links_ahead kept (without_repeats (operands_behind (first ∷ []) kept) (links_of left))
+
+kept_skip : (first : Tree) (all kept left : List Link) (x : Link) (more : List Link) → left ≡ x ∷ more
+    → is_among first kept (tree_of x.right) ≡ true → KeptSoFar first all kept left → KeptSoFar first all kept more
+kept_skip first all kept left x more e a h =
     let B = operands_behind (first ∷ []) kept in
-    let rest = links_of (drop (i + 1) all) in
-    h ∙ ap (λ z. links_ahead kept (without_repeats B z)) (at_link first all i x l e).left
+    let rest = links_of more in
+    h ∙ ap (λ z. links_ahead kept (without_repeats B (links_of z))) e
     ∙ ap (λ b. links_ahead kept (cond b (without_repeats B rest) (MoreBranches x.at x.op (tree_of x.right) (without_repeats (tree_of x.right ∷ B) rest))))
     (sym (among_behind first (tree_of x.right) kept) ∙ a)
 
-pub kept_more : (first : Tree) (all kept : List Link) (i : ℕ) (x y : Link) → i < length all → x ≡ get_or all i x
-    → is_among first kept (tree_of x.right) ≡ false → y.at ≡ x.at → y.op ≡ x.op → tree_of y.right ≡ tree_of x.right
-    → without_repeats (first ∷ []) (links_of all) ≡ links_ahead kept (without_repeats (operands_behind (first ∷ []) kept) (links_of (drop i all)))
-    → without_repeats (first ∷ []) (links_of all) ≡ links_ahead (kept ++ y ∷ []) (without_repeats (operands_behind (first ∷ []) (kept ++ y ∷ [])) (links_of (drop (i + 1) all)))
-kept_more first all kept i x y l e a p o t h =
+kept_more : (first : Tree) (all kept left : List Link) (x : Link) (more : List Link) → left ≡ x ∷ more
+    → is_among first kept (tree_of x.right) ≡ false → KeptSoFar first all kept left → KeptSoFar first all (kept ++ x ∷ []) more
+kept_more first all kept left x more e a h =
     let B = operands_behind (first ∷ []) kept in
-    let rest = links_of (drop (i + 1) all) in
-    h ∙ ap (λ z. links_ahead kept (without_repeats B z)) (at_link first all i x l e).left
+    let rest = links_of more in
+    h ∙ ap (λ z. links_ahead kept (without_repeats B (links_of z))) e
     ∙ ap (λ b. links_ahead kept (cond b (without_repeats B rest) (MoreBranches x.at x.op (tree_of x.right) (without_repeats (tree_of x.right ∷ B) rest))))
     (sym (among_behind first (tree_of x.right) kept) ∙ a)
-    ∙ (λ j. links_ahead kept (MoreBranches (sym p j) (sym o j) (sym t j) (without_repeats (sym t j ∷ B) rest)))
-    ∙ sym (links_ahead-more kept y (without_repeats (tree_of y.right ∷ B) rest))
-    ∙ ap (λ z. links_ahead (kept ++ y ∷ []) (without_repeats z rest)) (sym (behind_one (first ∷ []) kept y))
+    ∙ sym (links_ahead-more kept x (without_repeats (tree_of x.right ∷ B) rest))
+    ∙ ap (λ z. links_ahead (kept ++ x ∷ []) (without_repeats z rest)) (sym (behind_one (first ∷ []) kept x))
 
-pub kept_all : (first : Tree) (all kept : List Link) (i : ℕ) → length all ≤ i
-    → without_repeats (first ∷ []) (links_of all) ≡ links_ahead kept (without_repeats (operands_behind (first ∷ []) kept) (links_of (drop i all)))
+pub kept_one : (first : Tree) (all kept left : List Link) (x : Link) (more : List Link) → left ≡ x ∷ more
+    → KeptSoFar first all kept left → KeptSoFar first all (kept_with first kept x) more
+kept_one first all kept left x more e h = either (is_among first kept (tree_of x.right)) refl
+  where
+    either : (b : Bool) → is_among first kept (tree_of x.right) ≡ b → KeptSoFar first all (cond b kept (kept ++ x ∷ [])) more
+    either true a = kept_skip first all kept left x more e a h
+    either false a = kept_more first all kept left x more e a h
+
+pub kept_all : (first : Tree) (all kept left : List Link) → left ≡ [] → KeptSoFar first all kept left
     → links_of kept ≡ without_repeats (first ∷ []) (links_of all)
-kept_all first all kept i l h =
-    sym (h ∙ ap (λ z. links_ahead kept (without_repeats (operands_behind (first ∷ []) kept) (links_of z))) (drop_all i all l) ∙ links_ahead-all kept)
+kept_all first all kept left e h =
+    sym (h ∙ ap (λ z. links_ahead kept (without_repeats (operands_behind (first ∷ []) kept) (links_of z))) e ∙ links_ahead-all kept)
 
 pub chain_some : (f : Tree) (xs : List Link) → 0 < length xs → ChainTree f (links_of xs) ≡ chain_of f (links_of xs)
 chain_some f [] l = absurd (omega arith)

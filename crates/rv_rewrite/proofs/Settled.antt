@@ -1,21 +1,31 @@
 -- The steps at a node: where no rule applies it is its own calm tree, and a rule's result has its calm tree.
 use Rattle.std.proofs.Common.{◌≡◌, ◌∙◌, ◌++◌, ◌≤◌, ◌<◌, ℕ, Bool, true, false, cond, List, [], ◌∷◌, Option, Some, None, option_map, refl, sym, ap, append_assoc, append-nil, arith}
-use Rattle.lang_model.specs.Trees.{Tree, NameTree, CallTree, BaseTree, InjectTree, PairTree, MinusTree, TurnedTree, ChainTree}
+use Rattle.std.proofs.lemmas.Bool.{false≢true}
+use Rattle.lang_model.specs.declared.syntax.Expr.{Expr}
+use Rattle.lang_model.specs.Trees.{Tree, NameTree, CallTree, BaseTree, InjectTree, PairTree, MinusTree, TurnedTree, ChainTree, tree_of}
 use Rattle.lang_model.specs.Rewriting.{Step as STEP, is_calm, least_rule, next_step, weight, steps_of, calmed}
 use Rattle.lang_model.proofs.Lighter.{steps_end}
 use Rattle.rv_rewrite.specs.declared.step.Step.{Step}
 use Rattle.rv_rewrite.specs.Steps.{step_of, steps_by_trees}
-use Rattle.rv_rewrite.specs.Running.{StillInside, ReadyInside, Noted, NotesOne, Settles, ComesNearer, Walks}
+use Rattle.rv_rewrite.specs.Running.{StillInside, ReadyInside, Follows, Steps, Noted, Settles, ComesNearer, Walks}
 use Rattle.rv_rewrite.proofs.Runs.{Goes, Then, ran, rests, all_of, last, still_here, then_minus, then_turned}
-use Rattle.rv_rewrite.proofs.Steady.{GoodReady, least_ready}
+use Rattle.rv_rewrite.proofs.Steady.{least_follows}
 
 pub trees-more : (xs : List Step) (y : Step) → steps_by_trees (xs ++ y ∷ []) ≡ steps_by_trees xs ++ step_of y ∷ []
 trees-more [] y = refl
 trees-more (x ∷ xs) y = ap (λ z. step_of x ∷ z) (trees-more xs y)
 
-pub notes_one : (kept : Bool) (old : List Step) (rule : ℕ) (before after : Tree) (y : Step) → step_of y ≡ record { rule = rule; before = before; after = after }
-    → NotesOne kept old (old ++ y ∷ []) rule before after
-notes_one kept old rule before after y e = λ k. trees-more old y ∙ ap (λ z. steps_by_trees old ++ z ∷ []) e
+pub notes_one : (kept : Bool) (old new : List Step) (rule : ℕ) (before after : Expr) (t u : Tree)
+    → new ≡ old ++ (record { rule = rule; before = before; after = after }) ∷ [] → tree_of before ≡ t → tree_of after ≡ u
+    → least_rule t ≡ Some (rule, u) → Steps kept old new rule t u
+notes_one kept old new rule before after t u e b a l = record {
+  least = l;
+  noted = λ k. ap steps_by_trees e ∙ trees-more old (record { rule = rule; before = before; after = after })
+      ∙ (λ i. steps_by_trees old ++ (record { rule = rule; before = b i; after = a i }) ∷ []);
+}
+
+pub notes_none : (kept : Bool) (old : List Step) (rule : ℕ) (t u : Tree) → kept ≡ false → least_rule t ≡ Some (rule, u) → Steps kept old old rule t u
+notes_none kept old rule t u e l = record { least = l; noted = λ k. absurd (false≢true (sym e ∙ k)) }
 
 -- ---- a step at a node
 the_step : ℕ → Tree → Tree → STEP
@@ -48,23 +58,22 @@ settled kept old t c s e =
     let r = rests t (none_at t c s e) in
     record { after = sym r.calm; calm = c; noted = λ k. ap (λ z. steps_by_trees old ++ z) r.steps }
 
-pub ready_after : (t : Tree) (rule : ℕ) (u : Tree) → is_calm t ≡ true → StillInside t → least_rule t ≡ Some (rule, u) → GoodReady u
-ready_after t rule u c s e = least_ready t (rule, u) (record { calm = c; still = s }) e
+pub follows_after : (t : Tree) (rule : ℕ) (u : Tree) → is_calm t ≡ true → StillInside t → least_rule t ≡ Some (rule, u) → Follows rule u
+follows_after t rule u c s e = least_follows t (rule, u) (record { calm = c; still = s }) e
 
 pub lighter_after : (t : Tree) (rule : ℕ) (u : Tree) → is_calm t ≡ true → StillInside t → least_rule t ≡ Some (rule, u) → weight u < weight t
 lighter_after t rule u c s e = steps_end.lower t _ u (next_at t rule u c s e)
 
 pub settled_after : (kept : Bool) (old one two new : List Step) (t : Tree) (rule : ℕ) (a u e : Tree) → is_calm t ≡ true → StillInside t
-    → least_rule t ≡ Some (rule, a) → NotesOne kept old one rule t a → ComesNearer kept one two a u → Settles kept two new u e
-    → Settles kept old new t e
-settled_after kept old one two new t rule a u e c s l n m f =
-    let h = then_at t rule a c s l in
+    → Steps kept old one rule t a → ComesNearer kept one two a u → Settles kept two new u e → Settles kept old new t e
+settled_after kept old one two new t rule a u e c s n m f =
+    let h = then_at t rule a c s n.least in
     record {
       after = f.after ∙ m.after ∙ sym h.calm;
       calm = f.calm;
       noted = λ k. ap (λ z. steps_by_trees old ++ z) h.steps
           ∙ sym (append_assoc (steps_by_trees old) ((record { rule = rule; before = t; after = a }) ∷ []) (steps_of a))
-          ∙ ap (λ z. z ++ steps_of a) (sym (n k)) ∙ m.noted k ∙ f.noted k;
+          ∙ ap (λ z. z ++ steps_of a) (sym (n.noted k)) ∙ m.noted k ∙ f.noted k;
     }
 
 -- ---- what comes nearer
@@ -93,6 +102,7 @@ nearer_minus kept old new at of v f =
       after = ap (λ z. calmed (MinusTree at z)) f.after ∙ sym h.calm;
       calm = f.calm;
       still = ap next_step f.after ∙ last of;
+      distinct = refl;
       lighter = omega (arith, l, e);
       noted = left_over kept old new (steps_of of) _ _ (h.steps ∙ ap (λ z. steps_of of ++ steps_of (MinusTree at z)) (sym f.after)) f.noted;
     }
@@ -107,6 +117,7 @@ nearer_turned kept old new at n of v f =
       after = ap (λ z. calmed (TurnedTree at z n)) f.after ∙ sym h.calm;
       calm = f.calm;
       still = ap next_step f.after ∙ last of;
+      distinct = refl;
       lighter = omega (arith, l, e);
       noted = left_over kept old new (steps_of of) _ _ (h.steps ∙ ap (λ z. steps_of of ++ steps_of (TurnedTree at z n)) (sym f.after)) f.noted;
     }
@@ -127,14 +138,18 @@ still_unmarked (InjectTree at base domain) h s = s
 still_unmarked (PairTree at l r) h s = s
 still_unmarked (ChainTree first links) h s = s
 
-pub nearer_itself : (kept : Bool) (old : List Step) (t : Tree) → has_mark t ≡ false → is_calm t ≡ true → ReadyInside t → ComesNearer kept old old t t
-nearer_itself kept old t h c r = record {
+pub nearer_itself : (kept : Bool) (old : List Step) (rule : ℕ) (t : Tree) → StillInside t → Follows rule t → ComesNearer kept old old t t
+nearer_itself kept old rule t s f = record {
   after = refl;
-  calm = c;
-  still = still_unmarked t h r;
+  calm = f.calm;
+  still = s;
+  distinct = f.distinct;
   lighter = omega arith;
   noted = λ k. refl;
 }
+
+pub nearer_unmarked : (kept : Bool) (old : List Step) (rule : ℕ) (t : Tree) → has_mark t ≡ false → Follows rule t → ComesNearer kept old old t t
+nearer_unmarked kept old rule t h f = nearer_itself kept old rule t (still_unmarked t h f.ready) f
 
 -- ---- what is finished
 pub finished_restless : (kept : Bool) (old : List Step) (t : Tree) → is_calm t ≡ false → StillInside t → Walks kept old old t t false

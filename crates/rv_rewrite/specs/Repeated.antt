@@ -1,15 +1,19 @@
 -- Operands that stand twice in a chain.
-use Rattle.std.specs.Prelude.{◌||◌, ◌&&◌, Bool, true, false, cond, nat_lt, List, [], ◌∷◌}
+use Rattle.std.specs.Prelude.{◌||◌, ◌&&◌, ◌++◌, Bool, true, false, cond, nat_lt, List, [], ◌∷◌, Option, Some, None}
 use Rattle.std.specs.List.{list_any}
 use Rattle.lang_model.specs.declared.syntax.Link.{Link}
 use Rattle.lang_model.specs.Limits.{compared_limit}
-use Rattle.lang_model.specs.Trees.{Tree, Branches, NoBranch, MoreBranches, tree_of}
+use Rattle.lang_model.specs.Trees.{Tree, ChainTree, Branches, NoBranch, MoreBranches, tree_of}
 use Rattle.lang_model.specs.Rewriting.{same_tree, is_of_one_sign, link_count}
 
 -- whether an operand equals the first one, or that of one of these links
 abbrev pub is_among : Tree → List Link → Tree → Bool
 is_among first [] right = same_tree first right
 is_among first (x ∷ links) right = same_tree (tree_of x.right) right || is_among first links right
+
+-- the links that are kept, with one more where its operand equals none before it
+abbrev pub kept_with : Tree → List Link → Link → List Link
+kept_with first kept x = cond (is_among first kept (tree_of x.right)) kept (kept ++ x ∷ [])
 
 -- whether an operand of links equals one of these, or one before it
 abbrev pub repeats : List Tree → Branches → Bool
@@ -38,3 +42,8 @@ without_earlier before (MoreBranches at op right links) =
 abbrev pub all_equal : Tree → Branches → Bool
 all_equal first NoBranch = true
 all_equal first (MoreBranches at op right links) = same_tree first right && all_equal first links
+
+-- the first operand and the links of a chain
+abbrev pub chain_parts : Tree → Option (Tree × Branches)
+chain_parts (ChainTree first links) = Some (first, links)
+chain_parts t = None

@@ -1,9 +1,9 @@
 -- What the walk does at a node, at arguments and along links: which tree it comes to, and which steps it notes.
-use Rattle.std.specs.Prelude.{◌≡◌, ◌≤◌, ◌++◌, ℕ, Bool, true, List, [], ◌∷◌, None}
+use Rattle.std.specs.Prelude.{◌≡◌, ◌≤◌, ◌++◌, ◌==◌, ◌||◌, ℕ, Bool, true, false, List, [], ◌∷◌, Some, None}
 use Rattle.lang_model.specs.Trees.{Tree, NameTree, CallTree, BaseTree, InjectTree, PairTree, MinusTree, TurnedTree}
 use Rattle.lang_model.specs.Trees.{ChainTree, Trees, NoTree, MoreTrees, Branches, NoBranch, MoreBranches}
 use Rattle.lang_model.specs.Rewriting.{Step as STEP, is_calm, are_calm, are_calm_along, next_step, next_in, next_along}
-use Rattle.lang_model.specs.Rewriting.{weight, steps_of, calmed}
+use Rattle.lang_model.specs.Rewriting.{weight, steps_of, calmed, least_rule, repeated_operands}
 use Rattle.rv_rewrite.specs.declared.step.Step.{Step}
 use Rattle.rv_rewrite.specs.Steps.{steps_by_trees}
 
@@ -44,6 +44,18 @@ ReadyInside (MinusTree at of) = StillInside of
 ReadyInside (TurnedTree at of times) = StillInside of
 ReadyInside t = StillInside t
 
+-- whether what a rule makes is a prefix - or signs ^ with a new operand
+abbrev pub makes_operand : ℕ → Bool
+makes_operand n = (n == 7) || ((n == 8) || (n == 9))
+
+-- what a rule makes of a calm node whose parts have no next step: it is calm, its parts have none but for a new
+-- operand, and no operand of it stands twice
+pub record Follows (rule : ℕ) (t : Tree) : Type 0 where
+  pub calm : is_calm t ≡ true
+  pub ready : ReadyInside t
+  pub still : makes_operand rule ≡ false → StillInside t
+  pub distinct : repeated_operands t ≡ None
+
 -- of steps that were due some are noted and the others are left, where steps are kept
 abbrev pub Noted : Bool → List Step → List Step → List STEP → List STEP → Type 0
 Noted kept old new due left = kept ≡ true → steps_by_trees old ++ due ≡ steps_by_trees new ++ left
@@ -54,11 +66,12 @@ pub record Settles (kept : Bool) (old new : List Step) (t u : Tree) : Type 0 whe
   pub calm : is_calm u ≡ true
   pub noted : Noted kept old new (steps_of t) []
 
--- a calm node comes to one that is on its way, and has no next step in its parts
+-- a calm node comes to one that is on its way, has no next step in its parts, and no operand that stands twice
 pub record ComesNearer (kept : Bool) (old new : List Step) (t u : Tree) : Type 0 where
   pub after : calmed u ≡ calmed t
   pub calm : is_calm u ≡ true
   pub still : StillInside u
+  pub distinct : repeated_operands u ≡ None
   pub lighter : weight u ≤ weight t
   pub noted : Noted kept old new (steps_of t) (steps_of u)
 
@@ -80,7 +93,8 @@ pub record WalksAlong (kept : Bool) (old new : List Step) (t u : Branches) (calm
   pub calm_or_not : calm ≡ are_calm_along u
   pub noted : Noted kept old new (steps_along t) []
 
--- one step more is noted, where steps are kept
-abbrev pub NotesOne : Bool → List Step → List Step → ℕ → Tree → Tree → Type 0
-NotesOne kept old new rule before after = kept ≡ true → steps_by_trees new
-    ≡ steps_by_trees old ++ (record { rule = rule; before = before; after = after }) ∷ []
+-- a step at a node is the least rule's, and is noted where steps are kept
+pub record Steps (kept : Bool) (old new : List Step) (rule : ℕ) (t u : Tree) : Type 0 where
+  pub least : least_rule t ≡ Some (rule, u)
+  pub noted : kept ≡ true → steps_by_trees new
+      ≡ steps_by_trees old ++ (record { rule = rule; before = t; after = u }) ∷ []

@@ -1,27 +1,32 @@
-//! What each rule makes of a node.
-ghost use Rattle.std.specs.Prelude.{◌≡◌, ◌∷◌, [], IfOk};
+//! What each rule makes of a node. The parts that it keeps are moved.
+ghost use Rattle.std.specs.Prelude.{◌≡◌, ◌∷◌, [], IfOk, OnOk};
 ghost use Rattle.lang_model.specs.Trees.{tree_of};
-ghost use Rattle.lang_model.specs.Rewriting.{chain_of, without_repeats, double_complement, many_turns, turned_again, repeated_operands, to_right_residual, to_left_residual, turned_product, turned_operands, negated_operands, to_quotient};
+ghost use Rattle.lang_model.specs.Rewriting.{chain_of, without_repeats, double_complement, many_turns, turned_again, repeated_operands, to_right_residual, to_left_residual, turned_product, turned_operands, negated_operands, to_quotient, result_of_rule};
 ghost use Rattle.rv_rewrite.specs.Items.{links_of};
+ghost use Rattle.rv_rewrite.specs.Repeated.{kept_with};
 ghost use Rattle.rv_rewrite.specs.Applied.{IsMade};
 
-use crate::copy::copied;
+use crate::apart::{
+    into_chain, into_lattice_sides, into_negated, into_operands_of, into_sides_of, into_turns,
+};
 use crate::make::{minus, quotient, turned, two};
 use crate::repeats::{is_among, may_be_shortened};
 use crate::results::dual;
-use crate::{rules, view};
+use crate::same::same;
+use crate::sides::Mark;
+use crate::view::place_of_node;
 use lang_model::syntax::{Expr, Link, Op2};
 use rel_model::NoMemory;
 use std::alloc::Global;
 
 /// What the first rule makes of a node.
-pub fn double_complement(alloc: Global, node: &Expr) -> Result<Option<Expr>, NoMemory>
-    ensures { IfOk result (IsMade (double_complement (tree_of node.now))) }
+fn double_complement(alloc: Global, node: Expr) -> Result<Option<Expr>, NoMemory>
+    ensures { IfOk result (IsMade (double_complement (tree_of node))) }
 {
-    match rules::double_complement(node) {
+    match into_negated(alloc, node) {
         Some(of) => {
-            let of = copied(alloc, of)?;
-            Ok(Some(of))
+            let inner = into_negated(alloc, of);
+            Ok(inner)
         }
         None => Ok(None),
     }
@@ -29,19 +34,18 @@ pub fn double_complement(alloc: Global, node: &Expr) -> Result<Option<Expr>, NoM
 
 /// What the second rule makes of a node.
 #[tactic(auto, using(crate::proofs::Ruled::many_turns_of))]
-pub fn many_turns(alloc: Global, node: &Expr) -> Result<Option<Expr>, NoMemory>
-    ensures { IfOk result (IsMade (many_turns (tree_of node.now))) }
+fn many_turns(alloc: Global, node: Expr) -> Result<Option<Expr>, NoMemory>
+    ensures { IfOk result (IsMade (many_turns (tree_of node))) }
 {
-    match view::turned(node) {
+    match into_turns(alloc, node) {
         Some(x) => {
             if x.times < 2 {
                 return Ok(None);
             }
-            let of = copied(alloc, x.of)?;
             if x.times % 2 == 0 {
-                return Ok(Some(of));
+                return Ok(Some(x.of));
             }
-            let once = turned(alloc, x.at, of, 1)?;
+            let once = turned(alloc, x.at, x.of, 1)?;
             Ok(Some(once))
         }
         None => Ok(None),
@@ -50,17 +54,16 @@ pub fn many_turns(alloc: Global, node: &Expr) -> Result<Option<Expr>, NoMemory>
 
 /// What the third rule makes of a node. More signs than a number of 32 bits counts have no room.
 #[tactic(auto, using(crate::proofs::Ruled::turned_again_of))]
-pub fn turned_again(alloc: Global, node: &Expr) -> Result<Option<Expr>, NoMemory>
-    ensures { IfOk result (IsMade (turned_again (tree_of node.now))) }
+fn turned_again(alloc: Global, node: Expr) -> Result<Option<Expr>, NoMemory>
+    ensures { IfOk result (IsMade (turned_again (tree_of node))) }
 {
-    match view::turned(node) {
-        Some(x) => match view::turned(x.of) {
+    match into_turns(alloc, node) {
+        Some(x) => match into_turns(alloc, x.of) {
             Some(y) => {
                 let Some(times) = x.times.checked_add(y.times) else {
                     return Err(NoMemory);
                 };
-                let of = copied(alloc, y.of)?;
-                let all = turned(alloc, x.at, of, times)?;
+                let all = turned(alloc, x.at, y.of, times)?;
                 Ok(Some(all))
             }
             None => Ok(None),
@@ -69,30 +72,33 @@ pub fn turned_again(alloc: Global, node: &Expr) -> Result<Option<Expr>, NoMemory
     }
 }
 
+/// Keeps a link where its operand equals none before it.
+fn keep(first: &Expr, kept: &mut Vec<Link>, link: Link) -> Result<(), NoMemory>
+    ensures { OnOk result (kept.new.items ≡ kept_with (tree_of first.now) kept.old.items link) }
+{
+    if is_among(first, kept.as_slice(), &link.right) {
+        return Ok(());
+    }
+    kept.push(link)?;
+    Ok(())
+}
+
 /// The links of a chain without those whose operand equals one before it.
-fn kept_links(alloc: Global, first: &Expr, links: &[Link]) -> Result<Vec<Link>, NoMemory>
+fn kept_links(alloc: Global, first: &Expr, links: Vec<Link>) -> Result<Vec<Link>, NoMemory>
     ensures { IfOk result (λ v. links_of v.items
-        ≡ without_repeats (tree_of first.now ∷ []) (links_of links.now)) }
+        ≡ without_repeats (tree_of first.now ∷ []) (links_of links.items)) }
 {
     let mut kept = Vec::new(alloc);
     'each: for link in links {
-        if !is_among(first, kept.as_slice(), &link.right) {
-            let right = copied(alloc, &link.right)?;
-            kept.push(Link {
-                at: link.at,
-                op: link.op,
-                right,
-            })?;
-        }
+        keep(first, &mut kept, link)?;
     }
     Ok(kept)
 }
 
 /// A chain, or its first operand alone where no link is kept.
-fn shortened(alloc: Global, first: &Expr, kept: Vec<Link>) -> Result<Expr, NoMemory>
-    ensures { IfOk result (λ e. tree_of e ≡ chain_of (tree_of first.now) (links_of kept.items)) }
+fn shortened(alloc: Global, first: Expr, kept: Vec<Link>) -> Result<Expr, NoMemory>
+    ensures { IfOk result (λ e. tree_of e ≡ chain_of (tree_of first) (links_of kept.items)) }
 {
-    let first = copied(alloc, first)?;
     if kept.as_slice().is_empty() {
         return Ok(first);
     }
@@ -101,62 +107,67 @@ fn shortened(alloc: Global, first: &Expr, kept: Vec<Link>) -> Result<Expr, NoMem
 }
 
 /// What the fourth rule makes of a node.
-pub fn repeated_operands(alloc: Global, node: &Expr) -> Result<Option<Expr>, NoMemory>
-    ensures { IfOk result (IsMade (repeated_operands (tree_of node.now))) }
+#[tactic(auto, using(crate::proofs::Earlier::repeated_of))]
+fn repeated_operands(alloc: Global, node: Expr) -> Result<Option<Expr>, NoMemory>
+    ensures { IfOk result (IsMade (repeated_operands (tree_of node))) }
 {
-    match node {
-        Expr::Chain { first, rest } => {
-            let links = rest.as_slice();
-            if !may_be_shortened(first, links) {
+    match into_chain(alloc, node) {
+        Some((first, links)) => {
+            if !may_be_shortened(&first, links.as_slice()) {
                 return Ok(None);
             }
-            let kept = kept_links(alloc, first, links)?;
+            let kept = kept_links(alloc, &first, links)?;
             let chain = shortened(alloc, first, kept)?;
             Ok(Some(chain))
         }
-        _ => Ok(None),
+        None => Ok(None),
     }
 }
 
 /// What the fifth rule makes of a node.
-pub fn to_right_residual(alloc: Global, node: &Expr) -> Result<Option<Expr>, NoMemory>
-    ensures { IfOk result (IsMade (to_right_residual (tree_of node.now))) }
+#[tactic(auto, using(crate::proofs::Ruled::right_residual_sides))]
+fn to_right_residual(alloc: Global, node: Expr) -> Result<Option<Expr>, NoMemory>
+    ensures { IfOk result (IsMade (to_right_residual (tree_of node))) }
 {
-    match rules::to_right_residual(node) {
-        Some((r, s)) => {
-            let r = copied(alloc, r)?;
-            let s = copied(alloc, s)?;
-            let residual = two(alloc, view::place_of_node(node), r, Op2::Under, s)?;
-            Ok(Some(residual))
-        }
+    let at = place_of_node(&node);
+    match into_negated(alloc, node) {
+        Some(of) => match into_sides_of(alloc, Op2::Times, Mark::Turned, Mark::Negated, of) {
+            Some((r, s)) => {
+                let residual = two(alloc, at, r, Op2::Under, s)?;
+                Ok(Some(residual))
+            }
+            None => Ok(None),
+        },
         None => Ok(None),
     }
 }
 
 /// What the sixth rule makes of a node.
-pub fn to_left_residual(alloc: Global, node: &Expr) -> Result<Option<Expr>, NoMemory>
-    ensures { IfOk result (IsMade (to_left_residual (tree_of node.now))) }
+#[tactic(auto, using(crate::proofs::Ruled::left_residual_sides))]
+fn to_left_residual(alloc: Global, node: Expr) -> Result<Option<Expr>, NoMemory>
+    ensures { IfOk result (IsMade (to_left_residual (tree_of node))) }
 {
-    match rules::to_left_residual(node) {
-        Some((s, r)) => {
-            let s = copied(alloc, s)?;
-            let r = copied(alloc, r)?;
-            let residual = two(alloc, view::place_of_node(node), s, Op2::Over, r)?;
-            Ok(Some(residual))
-        }
+    let at = place_of_node(&node);
+    match into_negated(alloc, node) {
+        Some(of) => match into_sides_of(alloc, Op2::Times, Mark::Negated, Mark::Turned, of) {
+            Some((s, r)) => {
+                let residual = two(alloc, at, s, Op2::Over, r)?;
+                Ok(Some(residual))
+            }
+            None => Ok(None),
+        },
         None => Ok(None),
     }
 }
 
 /// What the seventh rule makes of a node.
-pub fn turned_product(alloc: Global, node: &Expr) -> Result<Option<Expr>, NoMemory>
-    ensures { IfOk result (IsMade (turned_product (tree_of node.now))) }
+#[tactic(auto, using(crate::proofs::Ruled::turned_product_sides))]
+fn turned_product(alloc: Global, node: Expr) -> Result<Option<Expr>, NoMemory>
+    ensures { IfOk result (IsMade (turned_product (tree_of node))) }
 {
-    match rules::turned_product(node) {
+    let at = place_of_node(&node);
+    match into_sides_of(alloc, Op2::Times, Mark::Turned, Mark::Turned, node) {
         Some((r, s)) => {
-            let at = view::place_of_node(node);
-            let r = copied(alloc, r)?;
-            let s = copied(alloc, s)?;
             let product = two(alloc, at, s, Op2::Times, r)?;
             let once = turned(alloc, at, product, 1)?;
             Ok(Some(once))
@@ -166,15 +177,14 @@ pub fn turned_product(alloc: Global, node: &Expr) -> Result<Option<Expr>, NoMemo
 }
 
 /// What the eighth rule makes of a node.
-pub fn turned_operands(alloc: Global, node: &Expr) -> Result<Option<Expr>, NoMemory>
-    ensures { IfOk result (IsMade (turned_operands (tree_of node.now))) }
+#[tactic(auto, using(crate::proofs::Ruled::turned_operands_sides))]
+fn turned_operands(alloc: Global, node: Expr) -> Result<Option<Expr>, NoMemory>
+    ensures { IfOk result (IsMade (turned_operands (tree_of node))) }
 {
-    match rules::turned_operands(node) {
+    let at = place_of_node(&node);
+    match into_lattice_sides(alloc, Mark::Turned, node) {
         Some(x) => {
-            let at = view::place_of_node(node);
-            let r = copied(alloc, x.left)?;
-            let s = copied(alloc, x.right)?;
-            let both = two(alloc, at, r, x.op, s)?;
+            let both = two(alloc, at, x.left, x.op, x.right)?;
             let once = turned(alloc, at, both, 1)?;
             Ok(Some(once))
         }
@@ -183,15 +193,14 @@ pub fn turned_operands(alloc: Global, node: &Expr) -> Result<Option<Expr>, NoMem
 }
 
 /// What the ninth rule makes of a node.
-pub fn negated_operands(alloc: Global, node: &Expr) -> Result<Option<Expr>, NoMemory>
-    ensures { IfOk result (IsMade (negated_operands (tree_of node.now))) }
+#[tactic(auto, using(crate::proofs::Ruled::negated_operands_sides))]
+fn negated_operands(alloc: Global, node: Expr) -> Result<Option<Expr>, NoMemory>
+    ensures { IfOk result (IsMade (negated_operands (tree_of node))) }
 {
-    match rules::negated_operands(node) {
+    let at = place_of_node(&node);
+    match into_lattice_sides(alloc, Mark::Negated, node) {
         Some(x) => {
-            let at = view::place_of_node(node);
-            let r = copied(alloc, x.left)?;
-            let s = copied(alloc, x.right)?;
-            let both = two(alloc, at, r, dual(x.op), s)?;
+            let both = two(alloc, at, x.left, dual(x.op), x.right)?;
             let complement = minus(alloc, at, both)?;
             Ok(Some(complement))
         }
@@ -200,16 +209,47 @@ pub fn negated_operands(alloc: Global, node: &Expr) -> Result<Option<Expr>, NoMe
 }
 
 /// What the tenth rule makes of a node.
-pub fn to_quotient(alloc: Global, node: &Expr) -> Result<Option<Expr>, NoMemory>
-    ensures { IfOk result (IsMade (to_quotient (tree_of node.now))) }
+#[tactic(auto, using(crate::proofs::Ruled::quotient_sides))]
+fn to_quotient(alloc: Global, node: Expr) -> Result<Option<Expr>, NoMemory>
+    ensures { IfOk result (IsMade (to_quotient (tree_of node))) }
 {
-    match rules::to_quotient(node) {
-        Some((r, s)) => {
-            let r = copied(alloc, r)?;
-            let s = copied(alloc, s)?;
-            let syq = quotient(alloc, view::place_of_node(node), r, s)?;
-            Ok(Some(syq))
-        }
-        None => Ok(None),
+    let at = place_of_node(&node);
+    let Some((left, right)) = into_operands_of(alloc, Op2::And, node) else {
+        return Ok(None);
+    };
+    let Some((r, s)) = into_operands_of(alloc, Op2::Under, left) else {
+        return Ok(None);
+    };
+    let turned = Mark::Turned;
+    let Some((again, other)) = into_sides_of(alloc, Op2::Over, turned, turned, right) else {
+        return Ok(None);
+    };
+    if !same(&r, &again) {
+        return Ok(None);
+    }
+    if !same(&s, &other) {
+        return Ok(None);
+    }
+    let syq = quotient(alloc, at, r, s)?;
+    Ok(Some(syq))
+}
+
+/// What the rule of a number makes of a node.
+#[tactic(auto, unfolding(lang_model::specs::Rewriting::result_of_rule))]
+pub fn applied(alloc: Global, rule: u32, node: Expr) -> Result<Option<Expr>, NoMemory>
+    ensures { IfOk result (IsMade (result_of_rule rule (tree_of node))) }
+{
+    match rule {
+        1 => double_complement(alloc, node),
+        2 => many_turns(alloc, node),
+        3 => turned_again(alloc, node),
+        4 => repeated_operands(alloc, node),
+        5 => to_right_residual(alloc, node),
+        6 => to_left_residual(alloc, node),
+        7 => turned_product(alloc, node),
+        8 => turned_operands(alloc, node),
+        9 => negated_operands(alloc, node),
+        10 => to_quotient(alloc, node),
+        _ => Ok(None),
     }
 }

@@ -1,50 +1,60 @@
 //! The rule of the least number that applies to a node.
-ghost use Rattle.std.specs.Prelude.{◌≡◌, IfOk};
+ghost use Rattle.std.specs.Prelude.{◌≡◌, ◌∷◌, [], true, MatchOption, None, Some, option_map};
 ghost use Rattle.lang_model.specs.Trees.{tree_of};
-ghost use Rattle.lang_model.specs.Rewriting.{least_rule};
-ghost use Rattle.rv_rewrite.specs.Applied.{IsLeast};
+ghost use Rattle.lang_model.specs.Rewriting.{chain_of, without_repeats, repeated_operands, least_rule};
+ghost use Rattle.rv_rewrite.specs.Items.{links_of};
 
-use crate::apply::{
-    double_complement, many_turns, negated_operands, repeated_operands, to_left_residual,
-    to_quotient, to_right_residual, turned_again, turned_operands, turned_product,
-};
-use lang_model::syntax::Expr;
-use rel_model::NoMemory;
-use std::alloc::Global;
+use crate::rules;
+use lang_model::syntax::{Expr, Link};
 
-/// The number of the least rule that applies to a node, and what it makes of it.
-pub fn least_rule(alloc: Global, node: &Expr) -> Result<Option<(u32, Expr)>, NoMemory>
-    ensures { IfOk result (IsLeast (least_rule (tree_of node.now))) }
+/// The parts that the fourth rule keeps, where it is not known that it does not apply.
+fn repeated_operands(node: &Expr, distinct: bool) -> Option<(&Expr, &[Link])>
+    requires { distinct ≡ true → repeated_operands (tree_of node.now) ≡ None }
+    ensures { let t = tree_of node.now in MatchOption result (repeated_operands t ≡ None)
+        (λ x. let f = tree_of x.0.now in repeated_operands t
+        ≡ Some (chain_of f (without_repeats (f ∷ []) (links_of x.1.now)))) }
 {
-    if let Some(after) = double_complement(alloc, node)? {
-        return Ok(Some((1, after)));
+    if distinct {
+        return None;
     }
-    if let Some(after) = many_turns(alloc, node)? {
-        return Ok(Some((2, after)));
+    rules::repeated_operands(node)
+}
+
+/// The number of the least rule that applies to a node. Where it is known that no operand stands twice, the fourth is
+/// not tried.
+pub fn least_rule(node: &Expr, distinct: bool) -> Option<u32>
+    requires { distinct ≡ true → repeated_operands (tree_of node.now) ≡ None }
+    ensures { result ≡ option_map (λ x. x.0) (least_rule (tree_of node.now)) }
+{
+    if rules::double_complement(node).is_some() {
+        return Some(1);
     }
-    if let Some(after) = turned_again(alloc, node)? {
-        return Ok(Some((3, after)));
+    if rules::many_turns(node).is_some() {
+        return Some(2);
     }
-    if let Some(after) = repeated_operands(alloc, node)? {
-        return Ok(Some((4, after)));
+    if rules::turned_again(node).is_some() {
+        return Some(3);
     }
-    if let Some(after) = to_right_residual(alloc, node)? {
-        return Ok(Some((5, after)));
+    if repeated_operands(node, distinct).is_some() {
+        return Some(4);
     }
-    if let Some(after) = to_left_residual(alloc, node)? {
-        return Ok(Some((6, after)));
+    if rules::to_right_residual(node).is_some() {
+        return Some(5);
     }
-    if let Some(after) = turned_product(alloc, node)? {
-        return Ok(Some((7, after)));
+    if rules::to_left_residual(node).is_some() {
+        return Some(6);
     }
-    if let Some(after) = turned_operands(alloc, node)? {
-        return Ok(Some((8, after)));
+    if rules::turned_product(node).is_some() {
+        return Some(7);
     }
-    if let Some(after) = negated_operands(alloc, node)? {
-        return Ok(Some((9, after)));
+    if rules::turned_operands(node).is_some() {
+        return Some(8);
     }
-    match to_quotient(alloc, node)? {
-        Some(after) => Ok(Some((10, after))),
-        None => Ok(None),
+    if rules::negated_operands(node).is_some() {
+        return Some(9);
     }
+    if rules::to_quotient(node).is_some() {
+        return Some(10);
+    }
+    None
 }

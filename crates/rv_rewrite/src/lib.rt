@@ -1,6 +1,7 @@
 //! Rewrites the calm parts of expressions by ten laws of relation algebra, step by step.
 #![tactic(auto)]
 
+mod apart;
 mod apply;
 mod calm_parts;
 mod check;

@@ -1,14 +1,16 @@
 //! The parts of a node that each rule keeps, where the rule applies.
-ghost use Rattle.std.specs.Prelude.{◌≡◌, MatchOption, None, Some};
+ghost use Rattle.std.specs.Prelude.{◌≡◌, ◌==◌, ◌+◌, ◌%◌, ◌∷◌, [], cond, MatchOption, None, Some};
 ghost use Rattle.lang_model.specs.Trees.{TurnedTree, MinusTree, BaseTree, MoreTrees, NoTree, tree_of};
-ghost use Rattle.lang_model.specs.Rewriting.{two, place_of_node, dual, double_complement, to_right_residual, to_left_residual, turned_product, turned_operands, negated_operands, to_quotient};
+ghost use Rattle.rv_rewrite.specs.Items.{links_of};
+ghost use Rattle.lang_model.specs.Rewriting.{two, place_of_node, dual, chain_of, without_repeats, double_complement, many_turns, turned_again, repeated_operands, to_right_residual, to_left_residual, turned_product, turned_operands, negated_operands, to_quotient};
 ghost use Rattle.lang_model.specs.declared.syntax.Op2.TheVariants.{Times as TIMES, Under as UNDER, Over as OVER};
 ghost use Rattle.lang_model.specs.declared.syntax.Base.TheVariants.{Syq as SYQ};
 
+use crate::repeats::may_be_shortened;
 use crate::same::same;
 use crate::sides::{Mark, lattice_sides, operands_of, sides_of};
-use crate::view::{Two, negated};
-use lang_model::syntax::{Expr, Op2};
+use crate::view::{Signs, Two, chain_parts, negated, turned};
+use lang_model::syntax::{Expr, Link, Op2};
 
 /// `--R` is `R`.
 pub fn double_complement(expr: &Expr) -> Option<&Expr>
@@ -17,6 +19,53 @@ pub fn double_complement(expr: &Expr) -> Option<&Expr>
 {
     match negated(expr) {
         Some(of) => negated(of),
+        None => None,
+    }
+}
+
+/// `R` turned more than once is `R` or `R^`: its signs.
+#[tactic(auto, using(crate::proofs::Ruled::many_turns_of))]
+pub fn many_turns(expr: &Expr) -> Option<Signs<'_>>
+    ensures { let t = tree_of expr.now in MatchOption result (many_turns t ≡ None)
+        (λ x. many_turns t
+        ≡ Some (cond (x.times % 2 == 0) (tree_of x.of.now) (TurnedTree x.at (tree_of x.of.now) 1))) }
+{
+    match turned(expr) {
+        Some(x) => { if x.times < 2 { None } else { Some(x) } }
+        None => None,
+    }
+}
+
+/// `R` turned, and turned again: the outer signs and the inner ones.
+#[tactic(auto, using(crate::proofs::Ruled::turned_again_of))]
+pub fn turned_again(expr: &Expr) -> Option<(Signs<'_>, Signs<'_>)>
+    ensures { let t = tree_of expr.now in MatchOption result (turned_again t ≡ None)
+        (λ x. turned_again t ≡ Some (TurnedTree x.0.at (tree_of x.1.of.now) (x.0.times + x.1.times))) }
+{
+    match turned(expr) {
+        Some(x) => match turned(x.of) {
+            Some(y) => Some((x, y)),
+            None => None,
+        },
+        None => None,
+    }
+}
+
+/// A chain of `|` alone, or of `&` alone, in which an operand stands twice: its first operand and its links.
+#[tactic(auto, using(crate::proofs::Earlier::repeated_of))]
+pub fn repeated_operands(expr: &Expr) -> Option<(&Expr, &[Link])>
+    ensures { let t = tree_of expr.now in MatchOption result (repeated_operands t ≡ None)
+        (λ x. let f = tree_of x.0.now in repeated_operands t
+        ≡ Some (chain_of f (without_repeats (f ∷ []) (links_of x.1.now)))) }
+{
+    match chain_parts(expr) {
+        Some((first, links)) => {
+            if may_be_shortened(first, links) {
+                Some((first, links))
+            } else {
+                None
+            }
+        }
         None => None,
     }
 }

@@ -1,89 +1,117 @@
 //! Steps at a calm node whose parts have no next step, until there is none.
-ghost use Rattle.std.specs.Prelude.{◌≡◌, ◌∷◌, ◌++◌, [], true, IfOk, OnOk};
+ghost use Rattle.std.specs.Prelude.{◌≡◌, true, IfOk, None, Some, option_map};
 ghost use Rattle.lang_model.specs.Trees.{tree_of};
-ghost use Rattle.lang_model.specs.Rewriting.{is_calm};
-ghost use Rattle.rv_rewrite.specs.Steps.{steps_by_trees};
-ghost use Rattle.rv_rewrite.specs.Running.{StillInside, ReadyInside, NotesOne, Settles, ComesNearer, Walks};
+ghost use Rattle.lang_model.specs.Rewriting.{is_calm, least_rule, repeated_operands};
+ghost use Rattle.rv_rewrite.specs.Running.{makes_operand, StillInside, Follows, Steps, Settles, ComesNearer, Walks};
 
+use crate::apart::take;
+use crate::apply::applied;
 use crate::copy::copied;
 use crate::least::least_rule;
 use crate::make::{minus, turned};
 use crate::step::Step;
-use lang_model::syntax::{Base, Expr, Place};
+use lang_model::syntax::Expr;
 use rel_model::NoMemory;
 use std::alloc::Global;
 
-/// Takes an expression out of its place, and leaves one that takes no memory.
-fn take(alloc: Global, slot: &mut Expr) -> Expr
-    ensures { result ≡ slot.old }
+/// Whether what a rule makes is a prefix `-` or signs `^` with a new operand.
+fn makes_operand(rule: u32) -> bool
+    ensures { result ≡ makes_operand rule }
 {
-    let hole = Expr::Base {
-        at: Place { line: 0, column: 0 },
-        base: Base::O,
-        args: Vec::new(alloc),
-    };
-    std::mem::replace(slot, hole)
+    match rule {
+        7 => true,
+        8 => true,
+        9 => true,
+        _ => false,
+    }
 }
 
-/// Notes a step, where steps are kept.
-fn note(
+/// What the least rule makes of a node.
+#[tactic(auto, using(crate::proofs::Steady::made_by_least, crate::proofs::Steady::least_makes))]
+fn applied_least(alloc: Global, rule: u32, node: Expr) -> Result<Expr, NoMemory>
+    requires { Some rule ≡ option_map (λ x. x.0) (least_rule (tree_of node)) }
+    ensures { IfOk result (λ e. least_rule (tree_of node) ≡ Some (rule, tree_of e)) }
+{
+    match applied(alloc, rule, node)? {
+        Some(after) => Ok(after),
+        None => unreachable!(),
+    }
+}
+
+/// What the least rule makes of a node, with the step noted where steps are kept: they alone are copies.
+#[tactic(auto, using(crate::proofs::Settled::notes_none))]
+fn take_step(
     alloc: Global,
     kept: bool,
     steps: &mut Vec<Step>,
     rule: u32,
-    before: Expr,
-    after: &Expr,
-) -> Result<(), NoMemory>
-    ensures { OnOk result (NotesOne kept steps.old.items steps.new.items rule (tree_of before) (tree_of after.now)) }
+    node: Expr,
+) -> Result<Expr, NoMemory>
+    requires { Some rule ≡ option_map (λ x. x.0) (least_rule (tree_of node)) }
+    ensures { IfOk result (λ e. Steps kept steps.old.items steps.new.items rule (tree_of node) (tree_of e)) }
 {
     if !kept {
-        return Ok(());
+        let after = applied_least(alloc, rule, node)?;
+        return Ok(after);
     }
-    let after = copied(alloc, after)?;
+    let before = copied(alloc, &node)?;
+    let last = applied_least(alloc, rule, node)?;
+    let after = copied(alloc, &last)?;
     steps.push(Step {
         rule,
         before,
         after,
     })?;
-    Ok(())
+    Ok(last)
 }
 
-/// The calm tree of a calm node whose parts have no next step.
+/// The calm tree of a calm node whose parts have no next step. Where it is known that no operand stands twice, the
+/// fourth rule is not tried; behind a step that is always so.
 #[cycle(settle)]
-fn settle(alloc: Global, kept: bool, steps: &mut Vec<Step>, node: Expr) -> Result<Expr, NoMemory>
+fn settle(
+    alloc: Global,
+    kept: bool,
+    steps: &mut Vec<Step>,
+    node: Expr,
+    distinct: bool,
+) -> Result<Expr, NoMemory>
     requires calm { is_calm (tree_of node) ≡ true }
     requires still { StillInside (tree_of node) }
+    requires distinct { distinct ≡ true → repeated_operands (tree_of node) ≡ None }
     ensures { IfOk result (λ e. Settles kept steps.old.items steps.new.items (tree_of node) (tree_of e)) }
 {
-    match least_rule(alloc, &node)? {
-        Some((rule, after)) => {
-            note(alloc, kept, steps, rule, node, &after)?;
-            let nearer = settle_operand(alloc, kept, steps, after)?;
-            let last = settle(alloc, kept, steps, nearer)?;
+    match least_rule(&node, distinct) {
+        Some(rule) => {
+            let after = take_step(alloc, kept, steps, rule, node)?;
+            let nearer = settle_operand(alloc, kept, steps, rule, after)?;
+            let last = settle(alloc, kept, steps, nearer, true)?;
             Ok(last)
         }
         None => Ok(node),
     }
 }
 
-/// The same node, with the calm tree of an operand of `-` or `^` that may be new.
+/// The node that a rule made, with the calm tree of its operand where that is new.
 #[cycle(settle)]
 fn settle_operand(
     alloc: Global,
     kept: bool,
     steps: &mut Vec<Step>,
+    rule: u32,
     node: Expr,
 ) -> Result<Expr, NoMemory>
-    requires calm { is_calm (tree_of node) ≡ true }
-    requires ready { ReadyInside (tree_of node) }
+    requires { Follows rule (tree_of node) }
     ensures { IfOk result (λ e. ComesNearer kept steps.old.items steps.new.items (tree_of node) (tree_of e)) }
 {
+    if !makes_operand(rule) {
+        return Ok(node);
+    }
     let mut node = node;
     match &mut node {
         Expr::Minus { at, of } => {
             let at = *at;
             let operand = take(alloc, of);
-            let operand = settle(alloc, kept, steps, operand)?;
+            let operand = settle(alloc, kept, steps, operand, false)?;
             let nearer = minus(alloc, at, operand)?;
             Ok(nearer)
         }
@@ -91,7 +119,7 @@ fn settle_operand(
             let at = *at;
             let times = *times;
             let operand = take(alloc, of);
-            let operand = settle(alloc, kept, steps, operand)?;
+            let operand = settle(alloc, kept, steps, operand, false)?;
             let nearer = turned(alloc, at, operand, times)?;
             Ok(nearer)
         }
@@ -114,6 +142,6 @@ pub fn finish(
     if !calm {
         return Ok((node, false));
     }
-    let last = settle(alloc, kept, steps, node)?;
+    let last = settle(alloc, kept, steps, node, false)?;
     Ok((last, true))
 }

@@ -1,10 +1,12 @@
-//! How a node is made: its parts behind a reference, and taken out of it.
+//! How a node is made: its parts, behind references.
 ghost use Rattle.std.specs.Prelude.{◌≡◌, MatchOption, None, Some};
 ghost use Rattle.lang_model.specs.Trees.{tree_of};
 ghost use Rattle.lang_model.specs.Rewriting.{negated, turned_once, two_operands, place_of_node};
+ghost use Rattle.rv_rewrite.specs.Items.{links_of};
 ghost use Rattle.rv_rewrite.specs.Marked.{turn};
+ghost use Rattle.rv_rewrite.specs.Repeated.{chain_parts};
 
-use lang_model::syntax::{Expr, Op2, Place};
+use lang_model::syntax::{Expr, Link, Op2, Place};
 
 /// Two operands with an operator between them.
 #[derive(Clone, Copy)]
@@ -53,6 +55,18 @@ pub fn two_operands(expr: &Expr) -> Option<Two<'_>>
             [] => None,
             [_, _, ..] => None,
         },
+        _ => None,
+    }
+}
+
+/// The first operand and the links of a chain.
+#[tactic(auto, using(crate::proofs::Items::tree_chain))]
+pub fn chain_parts(expr: &Expr) -> Option<(&Expr, &[Link])>
+    ensures { MatchOption result (chain_parts (tree_of expr.now) ≡ None)
+        (λ x. chain_parts (tree_of expr.now) ≡ Some (tree_of x.0.now, links_of x.1.now)) }
+{
+    match expr {
+        Expr::Chain { first, rest } => Some((first, rest.as_slice())),
         _ => None,
     }
 }

@@ -1,47 +1,42 @@
-use Rattle.std.proofs.Common.{◌≡◌, ◌∙◌, ◌+◌, ◌*◌, ◌<◌, ◌≤◌, Some, None, rules, sym, ap, subst, arith}
-use Rattle.lang_model.specs.Trees.{MinusTree, TurnedTree, tree_of}
+use Rattle.std.proofs.Common.{◌≡◌, ◌∙◌, ◌+◌, ◌*◌, ◌<◌, ◌≤◌, ℕ, Some, None, rules, sym, ap, subst, arith}
+use Rattle.lang_model.specs.Trees.{Tree, MinusTree, TurnedTree, tree_of}
 use Rattle.lang_model.specs.Rewriting.{least_rule, weight}
-use Rattle.rv_rewrite.specs.Applied.{IsLeast}
-use Rattle.rv_rewrite.specs.Running.{Settles, ComesNearer}
+use Rattle.rv_rewrite.specs.Running.{Settles, Steps, ComesNearer}
 use Rattle.rv_rewrite.proofs.Items.{tree_minus, tree_turned}
-use Rattle.rv_rewrite.proofs.Settled.{settled, settled_after, ready_after, lighter_after, nearer_minus, nearer_turned}
+use Rattle.rv_rewrite.proofs.Steady.{no_result}
+use Rattle.rv_rewrite.proofs.Settled.{settled, settled_after, follows_after, lighter_after, nearer_minus, nearer_turned}
 use Rattle.rv_rewrite.proofs.settle.+settle.Goals as goal
 
 pub settle-settle_operand-requires : goal.settle-settle_operand-requires
 settle-settle_operand-requires t c =
     let node = tree_of c.args.node in
-    let after = tree_of c.in-Some.after in
-    let least : least_rule node ≡ Some (c.in-Some.rule, after) = subst (IsLeast (least_rule node)) c.in-Some.is c.in_ok-rule.ensures in
-    let lighter : weight after < weight node = lighter_after node c.in-Some.rule after c.requires.calm c.requires.still least in
-    let good = ready_after node c.in-Some.rule after c.requires.calm c.requires.still least in
+    let after = tree_of c.in_ok-after-in-Some.after in
+    let step : Steps c.args.kept c.args.steps.now.items c.take_step.new.steps.items c.in-Some.rule node after = c.in_ok-after-in-Some.ensures in
+    let lighter : weight after < weight node = lighter_after node c.in-Some.rule after c.requires.calm c.requires.still step.least in
     let falls : 2 * weight after + 1 < t = omega (arith, lighter) in
-    (falls, (good.calm, good.ready))
+    (falls, follows_after node c.in-Some.rule after c.requires.calm c.requires.still step.least)
 
 pub settle-settle-requires : goal.settle-settle-requires
 settle-settle-requires t c =
     let node = tree_of c.args.node in
-    let after = tree_of c.in-Some.after in
-    let least : least_rule node ≡ Some (c.in-Some.rule, after) = subst (IsLeast (least_rule node)) c.in-Some.is c.in_ok-rule.ensures in
-    let lighter : weight after < weight node = lighter_after node c.in-Some.rule after c.requires.calm c.requires.still least in
-    let nearer : ComesNearer c.args.kept c.note.new.steps.items c.settle_operand.new.steps.items after (tree_of c.in_ok-nearer-in-Some.nearer) = c.in_ok-nearer-in-Some.ensures in
+    let after = tree_of c.in_ok-after-in-Some.after in
+    let step : Steps c.args.kept c.args.steps.now.items c.take_step.new.steps.items c.in-Some.rule node after = c.in_ok-after-in-Some.ensures in
+    let lighter : weight after < weight node = lighter_after node c.in-Some.rule after c.requires.calm c.requires.still step.least in
+    let nearer : ComesNearer c.args.kept c.take_step.new.steps.items c.settle_operand.new.steps.items after (tree_of c.in_ok-nearer-in-Some.nearer) = c.in_ok-nearer-in-Some.ensures in
     let no_heavier : weight (tree_of c.in_ok-nearer-in-Some.nearer) ≤ weight after = nearer.lighter in
     let falls : 2 * weight (tree_of c.in_ok-nearer-in-Some.nearer) < t = omega (arith, lighter, no_heavier) in
-    (falls, (nearer.calm, nearer.still))
+    (falls, (nearer.calm, (nearer.still, λ e. nearer.distinct)))
 
 pub settle-returns-in_ok-last-in-Some : goal.settle-returns-in_ok-last-in-Some
 settle-returns-in_ok-last-in-Some t c =
-    let node = tree_of c.args.node in
-    let after = tree_of c.in-Some.after in
-    let least : least_rule node ≡ Some (c.in-Some.rule, after) = subst (IsLeast (least_rule node)) c.in-Some.is c.in_ok-rule.ensures in
-    settled_after c.args.kept c.args.steps.now.items c.note.new.steps.items c.settle_operand.new.steps.items c.settle.new.steps.items
-    node c.in-Some.rule after (tree_of c.in_ok-nearer-in-Some.nearer) (tree_of c.in_ok-last-in-Some.last)
-    c.requires.calm c.requires.still least c.in_ok-note-in-Some.ensures c.in_ok-nearer-in-Some.ensures c.in_ok-last-in-Some.ensures
+    settled_after c.args.kept c.args.steps.now.items c.take_step.new.steps.items c.settle_operand.new.steps.items c.settle.new.steps.items
+    (tree_of c.args.node) c.in-Some.rule (tree_of c.in_ok-after-in-Some.after) (tree_of c.in_ok-nearer-in-Some.nearer) (tree_of c.in_ok-last-in-Some.last)
+    c.requires.calm c.requires.still c.in_ok-after-in-Some.ensures c.in_ok-nearer-in-Some.ensures c.in_ok-last-in-Some.ensures
 
 pub settle-returns-in-None : goal.settle-returns-in-None
 settle-returns-in-None t c =
     let node = tree_of c.args.node in
-    let none : least_rule node ≡ None = subst (IsLeast (least_rule node)) c.in-None.is c.in_ok-rule.ensures in
-    settled c.args.kept c.args.steps.now.items node c.requires.calm c.requires.still none
+    settled c.args.kept c.args.steps.now.items node c.requires.calm c.requires.still (no_result (λ (x : ℕ × Tree). x.0) (least_rule node) (sym c.least_rule.ensures ∙ c.in-None.is))
 
 pub settle_operand-returns-in_ok-nearer-in-Minus : goal.settle_operand-returns-in_ok-nearer-in-Minus
 settle_operand-returns-in_ok-nearer-in-Minus t c =
