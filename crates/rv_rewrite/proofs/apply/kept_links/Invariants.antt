@@ -1,4 +1,3 @@
-use Rattle.std.proofs.Common.{◌≡◌, ◌++◌}
 use Rattle.std.specs.Vec.Iter.{into_iter_items}
 use Rattle.lang_model.specs.Trees.{tree_of}
 use Rattle.rv_rewrite.proofs.Earlier.{KeptSoFar}

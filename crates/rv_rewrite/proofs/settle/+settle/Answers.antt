@@ -1,4 +1,4 @@
-use Rattle.std.proofs.Common.{◌≡◌, ◌∙◌, ◌+◌, ◌*◌, ◌<◌, ◌≤◌, ℕ, Some, None, rules, sym, ap, subst, arith}
+use Rattle.std.proofs.Common.{◌≡◌, ◌∙◌, ◌+◌, ◌*◌, ◌<◌, ◌≤◌, ℕ, rules, sym, ap, subst, arith}
 use Rattle.lang_model.specs.Trees.{Tree, MinusTree, TurnedTree, tree_of}
 use Rattle.lang_model.specs.Rewriting.{least_rule, weight}
 use Rattle.rv_rewrite.specs.Running.{Settles, Steps, ComesNearer}
