@@ -11,6 +11,7 @@ mod table;
 #[cfg(test)]
 mod tests;
 
+pub use home::home_of;
 pub use laws::{kids_stand, names_are_sets, names_stay, pairs_stand};
 pub use seats::Seat;
 pub use table::PairTable;

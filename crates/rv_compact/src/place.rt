@@ -3,21 +3,7 @@ ghost use Rattle.std.specs.Prelude.{◌≡◌, ◌≢◌, ◌<◌, ◌≤◌, �
 ghost use Rattle.rel_model.specs.Words.{IsSound, home_sum, most_bits, stored_count};
 ghost use Rattle.rv_compact.specs.Copies.{Places};
 
-/// The factors by which the two halves of a word are mixed, as in the table.
-const FIRST_FACTOR: u64 = 2654435761;
-
-const SECOND_FACTOR: u64 = 2246822519;
-
-/// The home of a word among `count` places in a ring.
-fn home_of(word: u64, count: usize) -> usize
-    requires { 0 < count }
-    ensures { result ≡ home_sum word % count }
-{
-    let first = word >> 32;
-    let second = word % (1 << 32);
-    let sum = (first * FIRST_FACTOR).wrapping_add(second * SECOND_FACTOR);
-    (sum % count as u64) as usize
-}
+use pair_table::home_of;
 
 /// The place that follows, of `count` places in a ring.
 fn next(place: usize, count: usize) -> usize
@@ -37,7 +23,7 @@ pub(crate) fn place_word(nodes: &mut [u64], bits: u32, word: u64) -> u32
     ensures { Places nodes.old nodes.new word result }
 {
     let count = nodes.len() - 2;
-    let mut place = home_of(word, count);
+    let mut place = home_of(word, bits, count);
     'places: for _step in 0..count {
         let found = nodes[2 + place];
         if found == 0 {
