@@ -1,21 +1,24 @@
 -- The types of base calls, domain operators and pairings describe their values.
-use Rattle.std.proofs.Common.{◌≡◌, ◌==◌, ◌&&◌, ◌+◌, ◌*◌, ◌^◌, ◌-◌, min, max, ℕ, Bool, true, false, cond, List, [], ◌∷◌, codes, Option, Some, None, nat_lt, refl, subst}
+use Rattle.std.proofs.Common.{◌≡◌, ◌==◌, ◌&&◌, ◌+◌, ◌*◌, ◌^◌, ◌-◌, min, max, ℕ, Bool, true, false, cond, List, [], ◌∷◌, codes, Option, Some, None, nat_lt, refl, sym, subst}
 use Rattle.lang_model.specs.declared.syntax.Place.{Place}
 use Rattle.lang_model.specs.declared.syntax.Base.{Base}
-use Rattle.lang_model.specs.declared.syntax.Base.TheVariants.{L, O, I, Ln1, On1, L1n, O1n, Dom, Ran, Trans, Refl, Epsi, Point, Atom, Init, Next, Inj, Empty, Unival, Syq, Eq, Incl, P1, P2, I1, I2}
+use Rattle.lang_model.specs.declared.syntax.Base.TheVariants.{L, O, I, Ln1, On1, L1n, O1n, Dom, Ran, Trans, Refl, Epsi, Point, Atom, Init, Next, Inj, Empty, Unival, Less, Hasse, Quot, Syq, Eq, Incl, Ubd, Lbd, Least, Greatest, Sup, Inf, P1, P2, I1, I2}
 use Rattle.lang_model.specs.declared.faults.TypeFault.TheVariants.{Mismatch, NotSquare, NotVector}
 use Rattle.lang_model.specs.declared.faults.StaticShape.{StaticShape}
-use Rattle.rel_model.specs.Relation.{Relation, size_limit}
+use Rattle.rel_model.specs.Relation.{Relation, relation_of, size_limit}
 use Rattle.rel_model.specs.Operators.{empty, full, identity, symmetric_quotient}
 use Rattle.rel_model.specs.Choice.{point, atom, init, next, dom, ran, inj}
 use Rattle.rel_model.specs.Closures.{transitive_closure, reflexive_closure, walks_within}
 use Rattle.rel_model.specs.Domains.{first_projection, second_projection, left_injection, right_injection, membership, pairing}
+use Rattle.rel_model.specs.Orders.{less, hasse, classes, upper_bounds, lower_bounds, least, greatest, suprema, infima}
+use Rattle.rel_model.specs.Operators.{inter}
 use Rattle.lang_model.specs.Rooms.{wide_cost}
 use Rattle.lang_model.specs.State.{State}
 use Rattle.lang_model.specs.Missing.{first_of_both}
 use Rattle.lang_model.specs.Types.{known}
 use Rattle.lang_model.specs.Outcomes.{Size, Cost, Makes, Refuses, with_turns}
-use Rattle.lang_model.specs.Types.{Fits, Misfit, sizes, type_of, agree, may_be, within_limit, computed, computed_of_two, square, vector, base_text, typed_base, typed_base_of_two, typed_pair, type_of_domain}
+use Rattle.lang_model.specs.BaseNames.{base_text}
+use Rattle.lang_model.specs.Types.{Fits, Misfit, sizes, type_of, agree, may_be, within_limit, computed, computed_of_two, side, squared, square, bounding, vector, typed_base, typed_base_of_two, typed_pair, type_of_domain}
 use Rattle.lang_model.specs.Mean.{fitting, limited, answer_of_test, base_made, base_wants, base_made_of_two, based, paired, domain_made, injected_of, injected_by}
 use Rattle.lang_model.specs.Shape.{Types, typed_based, typed_injected_of, typed_injected}
 use Rattle.lang_model.specs.Sound.{IsSize, Describes, Agree, CoversAt, Covers}
@@ -63,6 +66,37 @@ square-agree at base s r v cost n h = by (agree s.rows s.cols) (r.rows == r.cols
     by true false e = tt
     by true true e = limited-agree (type_of (first_of_both s.rows s.cols) (first_of_both s.rows s.cols)) v at 0 cost n (h (one_fits r.rows r.cols e))
 
+-- a square operand, and a type that is not that of its sizes
+squared-agree : (at : Place) (base : Base) (s t : StaticShape) (r v : Relation) (f : StaticShape) (cost : Cost) (n : ℕ) → (r.rows ≡ r.cols → Describes t v) →
+    Agree Describes (squared at base s (Fits t)) (with_turns (fitting (squared at base (sizes r) (Fits f)) (limited at 0 (Makes v cost))) n).answer
+squared-agree at base s t r v f cost n h = by (agree s.rows s.cols) (r.rows == r.cols) refl
+  where
+    by : (b c : Bool) → (r.rows == r.cols) ≡ c → Agree Describes (cond b (Fits t) (Misfit (NotSquare at (base_text base) s)))
+        (with_turns (fitting (cond c (Fits f) (Misfit (NotSquare at (base_text base) (sizes r)))) (limited at 0 (Makes v cost))) n).answer
+    by false c e = tt
+    by true false e = tt
+    by true true e = limited-agree t v at 0 cost n (h (one_fits r.rows r.cols e))
+
+-- a square operand, and one of as many rows
+bounding-agree : (at : Place) (base : Base) (s t : StaticShape) (r q v : Relation) (cost : Cost) (n : ℕ) → Describes s r → Describes t q → (r.rows ≡ q.rows → v.rows ≡ r.rows) → v.cols ≡ q.cols →
+    Agree Describes (bounding at base s t) (with_turns (fitting (bounding at base (sizes r) (sizes q)) (Makes v cost)) n).answer
+bounding-agree at base s t r q v cost n h k rows cols = by (agree s.rows s.cols) (r.rows == r.cols) refl (agree (side s) t.rows) (r.rows == q.rows) refl
+  where
+    by : (b c : Bool) → (r.rows == r.cols) ≡ c → (d e : Bool) → (r.rows == q.rows) ≡ e →
+        Agree Describes (cond b (cond d (Fits (type_of (first_of_both (side s) t.rows) t.cols)) (Misfit (Mismatch at (base_text base) s t))) (Misfit (NotSquare at (base_text base) s)))
+        (with_turns (fitting (cond c (cond e (Fits (type_of (Some r.rows) (Some q.cols))) (Misfit (Mismatch at (base_text base) (sizes r) (sizes q)))) (Misfit (NotSquare at (base_text base) (sizes r)))) (Makes v cost)) n).answer
+    by false c f d e g = tt
+    by true false f false e g = tt
+    by true false f true e g = tt
+    by true true f false e g = tt
+    by true true f true false g = tt
+    by true true f true true g =
+        let a : IsSize (side s) r.rows = known_of s.rows s.cols r.rows r.cols h.row_size h.col_size (one_fits r.rows r.cols f) in
+        record {
+          row_size = subst (IsSize (first_of_both (side s) t.rows)) (sym (rows (one_fits r.rows q.rows g))) (known_of (side s) t.rows r.rows q.rows a k.row_size (one_fits r.rows q.rows g));
+          col_size = subst (IsSize t.cols) (sym cols) k.col_size;
+        }
+
 one_by_one : (b : Bool) → Describes (known 1 1) (answer_of_test b)
 unfolding answer_of_test
 one_by_one b = describes_test (Some 1) (Some 1) 1 1 _ refl refl
@@ -72,7 +106,7 @@ module _ (s : StaticShape) (r : Relation) (h : Describes s r) (at : Place) (n : 
   known_twice e = known_of s.rows s.cols r.rows r.cols h.row_size h.col_size e
 
   base-agree : (base : Base) → Agree Describes (typed_base at base s) (with_turns (fitting (typed_base at base (sizes r)) (limited at (base_wants base r) (base_made base r))) n).answer
-  unfolding full empty identity dom ran transitive_closure walks_within reflexive_closure membership point atom init next inj
+  unfolding full empty identity dom ran transitive_closure walks_within reflexive_closure membership point atom init next inj less hasse classes
   base-agree L = describes_test s.rows s.cols r.rows r.cols _ h.row_size h.col_size
   base-agree O = describes_test s.rows s.cols r.rows r.cols _ h.row_size h.col_size
   base-agree I = square-agree at I s r _ _ n (λ e. describes_test _ _ r.rows r.rows _ (known_twice e) (known_twice e))
@@ -92,9 +126,18 @@ module _ (s : StaticShape) (r : Relation) (h : Describes s r) (at : Place) (n : 
   base-agree Inj = vector-agree at Inj s _ (sizes r) _ _ 0 _ n (describes_test None s.rows _ r.rows _ tt h.row_size)
   base-agree Empty = one_by_one _
   base-agree Unival = one_by_one _
+  base-agree Less = square-agree at Less s r _ _ n (λ e. describes_test _ _ r.rows r.rows _ (known_twice e) (known_twice e))
+  base-agree Hasse = square-agree at Hasse s r _ _ n (λ e. describes_test _ _ r.rows r.cols _ (known_twice e) (subst (IsSize (first_of_both s.rows s.cols)) e (known_twice e)))
+  base-agree Quot = squared-agree at Quot s (type_of (side s) None) r _ (type_of (Some r.rows) None) _ n (λ e. describes_test _ None r.rows _ _ (known_twice e) tt)
   base-agree Syq = describes_test (Some 0) (Some 0) 0 0 _ refl refl
   base-agree Eq = describes_test (Some 0) (Some 0) 0 0 _ refl refl
   base-agree Incl = describes_test (Some 0) (Some 0) 0 0 _ refl refl
+  base-agree Ubd = describes_test (Some 0) (Some 0) 0 0 _ refl refl
+  base-agree Lbd = describes_test (Some 0) (Some 0) 0 0 _ refl refl
+  base-agree Least = describes_test (Some 0) (Some 0) 0 0 _ refl refl
+  base-agree Greatest = describes_test (Some 0) (Some 0) 0 0 _ refl refl
+  base-agree Sup = describes_test (Some 0) (Some 0) 0 0 _ refl refl
+  base-agree Inf = describes_test (Some 0) (Some 0) 0 0 _ refl refl
   base-agree P1 = describes_test (Some 0) (Some 0) 0 0 _ refl refl
   base-agree P2 = describes_test (Some 0) (Some 0) 0 0 _ refl refl
   base-agree I1 = describes_test (Some 0) (Some 0) 0 0 _ refl refl
@@ -111,10 +154,16 @@ two-agree t v f cost n true false k j h = tt
 two-agree t v f cost n true true k j h = h
 
 base-agree-of_two : (at : Place) (base : Base) (s t : StaticShape) (r q : Relation) (n : ℕ) → Describes s r → Describes t q → Agree Describes (typed_base_of_two at base s t) (with_turns (fitting (typed_base_of_two at base (sizes r) (sizes q)) (base_made_of_two base r q)) n).answer
-unfolding symmetric_quotient
+unfolding symmetric_quotient upper_bounds lower_bounds least greatest suprema infima inter relation_of
 base-agree-of_two at Syq s t r q n h k = two-agree _ _ _ _ n (agree s.rows t.rows) (r.rows == q.rows) _ _ (describes_test s.cols t.cols r.cols q.cols _ h.col_size k.col_size)
 base-agree-of_two at Eq s t r q n h k = two-agree _ _ _ _ n (agree s.rows t.rows && agree s.cols t.cols) ((r.rows == q.rows) && (r.cols == q.cols)) _ _ (one_by_one _)
 base-agree-of_two at Incl s t r q n h k = two-agree _ _ _ _ n (agree s.rows t.rows && agree s.cols t.cols) ((r.rows == q.rows) && (r.cols == q.cols)) _ _ (one_by_one _)
+base-agree-of_two at Ubd s t r q n h k = bounding-agree at Ubd s t r q (upper_bounds r q) _ n h k (λ e. refl) refl
+base-agree-of_two at Lbd s t r q n h k = bounding-agree at Lbd s t r q (lower_bounds r q) _ n h k (λ e. refl) refl
+base-agree-of_two at Least s t r q n h k = bounding-agree at Least s t r q (least r q) _ n h k (λ e. sym e) refl
+base-agree-of_two at Greatest s t r q n h k = bounding-agree at Greatest s t r q (greatest r q) _ n h k (λ e. sym e) refl
+base-agree-of_two at Sup s t r q n h k = bounding-agree at Sup s t r q (suprema r q) _ n h k (λ e. refl) refl
+base-agree-of_two at Inf s t r q n h k = bounding-agree at Inf s t r q (infima r q) _ n h k (λ e. refl) refl
 base-agree-of_two at base s t r q n h k = none_given
 
 pub based-agree : (at : Place) (base : Base) (ss : List StaticShape) (rs : List Relation) (n : ℕ) → AreDescribed ss rs → Agree Describes (typed_based at base ss) (with_turns (based at base rs) n).answer

@@ -6,7 +6,7 @@ use Rattle.lang_model.specs.Tokens.{same_text}
 use Rattle.lang_model.specs.Eval.{names_in, AgreeOn}
 use Rattle.lang_model.specs.Blocks.{names_read, after_value, BlocksByNames}
 use Rattle.lang_model.proofs.Using.{left_of, right_of}
-use Rattle.lang_model.proofs.Seeing.{by_names}
+use Rattle.lang_model.proofs.Seeing.{value_by_names}
 
 -- where a name gets one relation in both states, they agree on it too
 agree_assigned : (s t : State) (name : List ℕ) (r : Relation) (names : List (List ℕ))
@@ -28,6 +28,6 @@ blocks_by_names script s t (l ∷ ls) turns h =
     let left = left_of s t (names_in l.value) (filter (λ n. not (same_text l.name n)) (names_read ls)) h in
     let right = right_of s t (names_in l.value) (filter (λ n. not (same_text l.name n)) (names_read ls)) h in
     λ i.
-    after_value (by_names script s t l.value turns left i)
+    after_value (value_by_names script s t l.value turns left i)
     (λ r. blocks_by_names script (assigned l.name r s) (assigned l.name r t) ls turns
     (agree_assigned s t l.name r (names_read ls) right) i)

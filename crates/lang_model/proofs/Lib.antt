@@ -10,5 +10,6 @@ pub mod Lighter
 pub mod Stepping
 pub mod Using
 pub mod RewriteExamples
+pub mod GrammarExamples
 pub mod Blocking
 pub mod Weights

@@ -19,18 +19,29 @@ use Rattle.lang_model.specs.declared.syntax.Expr.{
   end_of-Link,
   more_of-Link,
 }
+use Rattle.lang_model.specs.declared.syntax.Script.{Script}
 use Rattle.lang_model.specs.declared.faults.StaticShape.{StaticShape}
+use Rattle.lang_model.specs.declared.faults.TypeFault.TheVariants.{Unknown}
 use Rattle.rel_model.specs.Relation.{Relation}
 use Rattle.lang_model.specs.State.{State}
 use Rattle.lang_model.specs.Limits.{rank_limit}
+use Rattle.lang_model.specs.Trees.{tree_of}
+use Rattle.lang_model.specs.Rewriting.{calmed}
+use Rattle.lang_model.proofs.Using.{Same, uses_calmed, uses_names, same_tree_mean}
 use Rattle.lang_model.specs.Missing.{missing, missing_in, missing_along, first_of_both}
-use Rattle.lang_model.specs.Outcomes.{and_then, with_turns}
-use Rattle.lang_model.specs.Types.{Fits, Typed, sizes, typed_link, typed_pair, type_turned_by}
-use Rattle.lang_model.specs.Shape.{passing, typed_name, typed_based, around_types, shape, shapes, shape_along, types_of_calls}
+use Rattle.lang_model.specs.Outcomes.{Came, and_then, with_turns}
+use Rattle.lang_model.specs.Types.{Fits, Misfit, Typed, sizes, typed_link, typed_pair, type_turned_by}
+use Rattle.lang_model.specs.Shape.{passing, typed_name, typed_based, around_types, shape, shapes, shape_along, types_of_calls, static_type}
 use Rattle.lang_model.specs.Mean.{Calls, around_with, named, based, paired, complemented, turned, linked, mean, means, mean_along, calls_within}
 use Rattle.lang_model.specs.Eval.{
   unless_misfit,
   unless_missing,
+  misfit_of,
+  at_cost_of,
+  meaning_when_calm,
+  unless_early,
+  ComesUnlessEarly,
+  early_fault,
   types_in,
   evaluated,
   names_in,
@@ -146,10 +157,34 @@ module _ (s t : State) where
           and_then (with_turns (linked at op r v) m) (λ w k.
           same_along w rest k (agree_right (names_in right) (names_along rest) h) i))
 
--- ---- both refusals and the meaning
-pub by_names : EvaluatedByNames
+-- ---- both refusals, the meaning, and the cost of the calm tree
+pub value_by_names : (script : Script) (s t : State) (e : Expr) (turns : ℕ) → AgreeOn s t (names_in e) → evaluated script s e turns ≡ evaluated script t e turns
 unfolding evaluated
-by_names script s t e turns h = λ i.
+value_by_names script s t e turns h =
+    let calls = calls_within script.items.items rank_limit in
+    let calm = same_tree_mean s t calls (calmed (tree_of e)) turns (uses_calmed (Same s t) (tree_of e) (uses_names s t e h)) in
+    λ i.
     unless_missing (same_missing s t e h i)
     (unless_misfit (same_shape s t (types_of_calls script.items.items rank_limit) e h i)
-    (same_mean s t (calls_within script.items.items rank_limit) e turns h i))
+    (at_cost_of (calm i) (same_mean s t calls e turns h i)))
+
+early_by_names : (script : Script) (s t : State) (e : Expr) → AgreeOn s t (names_in e) → early_fault script s e ≡ early_fault script t e
+unfolding early_fault
+early_by_names script s t e h = λ i.
+    first_of_both (option_map (λ name. Unknown name.0 name.1) (same_missing s t e h i))
+    (misfit_of (same_shape s t (types_of_calls script.items.items rank_limit) e h i))
+
+pub by_names : EvaluatedByNames
+by_names = record { value = value_by_names; early = early_by_names }
+
+-- ---- the fault ahead of all computing
+pub comes_unless_early : ComesUnlessEarly
+unfolding evaluated early_fault
+comes_unless_early script state e turns =
+    at (missing state e) (static_type script (types_in state) e) (meaning_when_calm script state e turns)
+  where
+    at : (o : Option (Place × List ℕ)) (t : Typed) (came : Came Relation) → unless_missing o (unless_misfit t came)
+        ≡ unless_early (first_of_both (option_map (λ name. Unknown name.0 name.1) o) (misfit_of t)) came
+    at (Some name) t came = refl
+    at None (Misfit fault) came = refl
+    at None (Fits shape) came = refl

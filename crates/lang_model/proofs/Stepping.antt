@@ -10,7 +10,7 @@ use Rattle.rel_model.specs.Relation.{Relation}
 use Rattle.lang_model.specs.State.{State}
 use Rattle.lang_model.specs.Limits.{rank_limit}
 use Rattle.lang_model.specs.Tokens.{same_text}
-use Rattle.lang_model.specs.Printing.{base_text}
+use Rattle.lang_model.specs.BaseNames.{base_text}
 use Rattle.lang_model.specs.Trees.{Tree, NameTree, CallTree, BaseTree, InjectTree, PairTree, MinusTree, TurnedTree, ChainTree, Trees, NoTree, MoreTrees, Branches, NoBranch, MoreBranches, tree_of}
 use Rattle.lang_model.specs.Outcomes.{Answer, Got, Not, Came, following, and_then, with_turns}
 use Rattle.lang_model.specs.Types.{Fits, sizes, typed_link, typed_pair, type_turned_by}

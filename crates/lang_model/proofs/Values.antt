@@ -17,7 +17,8 @@ use Rattle.lang_model.specs.State.{State}
 use Rattle.lang_model.specs.Trees.{Tree, NameTree, CallTree, BaseTree, InjectTree, PairTree, MinusTree, TurnedTree, ChainTree, Trees, NoTree, MoreTrees, Branches, NoBranch, MoreBranches}
 use Rattle.lang_model.specs.Outcomes.{Got, following, and_then, Makes, with_turns}
 use Rattle.lang_model.specs.Rooms.{link_cost}
-use Rattle.lang_model.specs.Types.{Fits, Misfit, sizes, type_of, takes, type_of_link, type_turned_by, type_turned, typed_link, spelling, base_text}
+use Rattle.lang_model.specs.BaseNames.{base_text}
+use Rattle.lang_model.specs.Types.{Fits, Misfit, sizes, type_of, takes, type_of_link, type_turned_by, type_turned, typed_link, spelling}
 use Rattle.lang_model.specs.Mean.{Around, fitting, linked, based, base_made_of_two, complemented, turned, named, mean_tree, mean_trees, mean_branches, result_of_both}
 use Rattle.lang_model.specs.Shape.{AroundTypes, passing, typed_name, typed_based, shape_tree, shape_trees, shape_branches}
 use Rattle.lang_model.specs.Eval.{types_in}

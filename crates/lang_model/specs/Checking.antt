@@ -13,6 +13,7 @@ use Rattle.lang_model.specs.declared.syntax.Decl.{Decl}
 use Rattle.lang_model.specs.declared.syntax.Decl.TheVariants.{Variable, Domain}
 use Rattle.lang_model.specs.declared.syntax.Command.{Command}
 use Rattle.lang_model.specs.declared.syntax.Command.TheVariants.{Let, Print, List as LIST, Count, Typed, At, Save}
+use Rattle.lang_model.specs.declared.syntax.Command.TheVariants.{Explain}
 use Rattle.lang_model.specs.declared.syntax.Item.{Item}
 use Rattle.lang_model.specs.declared.syntax.Item.TheVariants.{Function, Program, Command as COMMAND}
 use Rattle.lang_model.specs.declared.syntax.Script.{Script}
@@ -313,6 +314,7 @@ command_faults earlier (Count value) = faults (command_scope earlier) no_name va
 command_faults earlier (Typed value) = faults (command_scope earlier) no_name value
 command_faults earlier (At at name value) = faults (command_scope earlier) no_name value
 command_faults earlier (Save value file) = faults (command_scope earlier) no_name value
+command_faults earlier (Explain value) = faults (command_scope earlier) no_name value
 command_faults earlier _ = []
 
 -- the faults of an item behind earlier ones

@@ -24,11 +24,13 @@ use Rattle.lang_model.specs.declared.faults.TypeFault.{TypeFault}
 use Rattle.lang_model.specs.declared.faults.TypeFault.TheVariants.{Unknown}
 use Rattle.rel_model.specs.Relation.{Relation}
 use Rattle.lang_model.specs.State.{State}
-use Rattle.lang_model.specs.Missing.{missing}
+use Rattle.lang_model.specs.Trees.{tree_of}
+use Rattle.lang_model.specs.Rewriting.{calmed}
+use Rattle.lang_model.specs.Missing.{missing, first_of_both}
 use Rattle.lang_model.specs.Outcomes.{Came}
 use Rattle.lang_model.specs.Types.{Fits, Misfit, Typed, sizes}
 use Rattle.lang_model.specs.Shape.{Types, static_type}
-use Rattle.lang_model.specs.Mean.{meaning}
+use Rattle.lang_model.specs.Mean.{meaning, meaning_of_tree}
 
 -- an expression is refused ahead of all computing, or comes to what it means
 pub data Evaluated : Type 0 where
@@ -49,11 +51,42 @@ abbrev pub unless_missing : Option (Place × List ℕ) → Evaluated → Evaluat
 unless_missing (Some name) rest = Ahead (Unknown name.0 name.1)
 unless_missing None rest = rest
 
+-- what one evaluation comes to, at the cost of another
+abbrev pub at_cost_of : {T : Type 0} → Came T → Came T → Came T
+at_cost_of other came = record { answer = came.answer; cost = other.cost }
+
+-- what an expression of a command means, at the cost of its calm tree: this is what is evaluated, and comes to the same
+abbrev pub meaning_when_calm : Script → State → Expr → ℕ → Came Relation
+meaning_when_calm script state e turns =
+    at_cost_of (meaning_of_tree script state (calmed (tree_of e)) turns) (meaning script state e turns)
+
 -- the leftmost name that the state lacks, or the first static fault, or the meaning with so many turns
 unfoldable pub evaluated : Script → State → Expr → ℕ → Evaluated
 evaluated script state e turns =
     unless_missing (missing state e)
-    (unless_misfit (static_type script (types_in state) e) (meaning script state e turns))
+    (unless_misfit (static_type script (types_in state) e) (meaning_when_calm script state e turns))
+
+-- a static fault, where there is one
+abbrev pub misfit_of : Typed → Option TypeFault
+misfit_of (Misfit fault) = Some fault
+misfit_of (Fits shape) = None
+
+-- the fault ahead of all computing, if there is one: the leftmost name that the state lacks, or the first static fault
+unfoldable pub early_fault : Script → State → Expr → Option TypeFault
+early_fault script state e =
+    first_of_both (option_map (λ name. Unknown name.0 name.1) (missing state e))
+    (misfit_of (static_type script (types_in state) e))
+
+-- a fault ahead of all computing comes before what is computed
+abbrev pub unless_early : Option TypeFault → Came Relation → Evaluated
+unless_early (Some fault) came = Ahead fault
+unless_early None came = Comes came
+
+-- an expression is refused ahead where it has such a fault, and else comes to its meaning
+abbrev pub ComesUnlessEarly : Type 0
+ComesUnlessEarly = (script : Script) (state : State) (e : Expr) (turns : ℕ)
+    → evaluated script state e turns
+    ≡ unless_early (early_fault script state e) (meaning_when_calm script state e turns)
 
 -- the cost of what an expression comes to: a fault ahead of all computing costs nothing
 abbrev pub cost_of_value : ℕ → Evaluated → ℕ
@@ -99,8 +132,9 @@ abbrev mutual
 abbrev pub AgreeOn : State → State → List (List ℕ) → Type 0
 AgreeOn s t = AllByRecursion (λ name. s name ≡ t name)
 
--- what an expression comes to depends on the names alone that it uses
-abbrev pub EvaluatedByNames : Type 0
-EvaluatedByNames =
-    (script : Script) (s t : State) (e : Expr) (turns : ℕ)
-    → AgreeOn s t (names_in e) → evaluated script s e turns ≡ evaluated script t e turns
+-- what an expression comes to, and the fault ahead of it, depend on the names alone that it uses
+pub record EvaluatedByNames : Type 0 where
+  pub value : (script : Script) (s t : State) (e : Expr) (turns : ℕ)
+      → AgreeOn s t (names_in e) → evaluated script s e turns ≡ evaluated script t e turns
+  pub early : (script : Script) (s t : State) (e : Expr)
+      → AgreeOn s t (names_in e) → early_fault script s e ≡ early_fault script t e

@@ -1,4 +1,5 @@
 pub mod Limits
+pub mod BaseNames
 pub mod Tokens
 pub mod Taken
 pub mod Trees

@@ -7,8 +7,9 @@ use Rattle.lang_model.specs.declared.syntax.Op2.{Op2}
 use Rattle.lang_model.specs.declared.syntax.Op2.TheVariants.{Or, And, Times, Under, Over}
 use Rattle.lang_model.specs.declared.syntax.Base.{Base}
 use Rattle.lang_model.specs.declared.syntax.Base.TheVariants.{L, O, I, Ln1, On1, L1n, O1n, Dom, Ran, Trans, Refl, Epsi}
-use Rattle.lang_model.specs.declared.syntax.Base.TheVariants.{Point, Atom, Init, Next, Inj, Empty, Unival, Syq, Eq}
-use Rattle.lang_model.specs.declared.syntax.Base.TheVariants.{Incl, P1, P2, I1}
+use Rattle.lang_model.specs.declared.syntax.Base.TheVariants.{Point, Atom, Init, Next, Inj, Empty, Unival, Less, Hasse}
+use Rattle.lang_model.specs.declared.syntax.Base.TheVariants.{Quot, Syq, Eq, Incl, Ubd, Lbd, Least, Greatest, Sup, Inf}
+use Rattle.lang_model.specs.declared.syntax.Base.TheVariants.{P1, P2, I1}
 use Rattle.lang_model.specs.declared.syntax.Expr.{Expr, Row_of-Expr, Row_of-Link}
 use Rattle.lang_model.specs.declared.syntax.Link.{Link}
 use Rattle.lang_model.specs.declared.syntax.Stmt.{Stmt, Set, While', If', Row_of-Stmt, end_of-Stmt, more_of-Stmt}
@@ -24,6 +25,7 @@ use Rattle.rel_model.specs.Operators.{empty, full, union, inter, complement, tra
 use Rattle.rel_model.specs.Choice.{point, atom, init, next, dom, ran, is_unival, inj}
 use Rattle.rel_model.specs.Closures.{transitive_closure, reflexive_closure}
 use Rattle.rel_model.specs.Domains.{first_projection, second_projection, left_injection, right_injection, membership, pairing}
+use Rattle.rel_model.specs.Orders.{less, hasse, classes, upper_bounds, lower_bounds, least, greatest, suprema, infima}
 use Rattle.lang_model.specs.Trees.{Tree, NameTree, CallTree, BaseTree, InjectTree, PairTree, MinusTree, TurnedTree}
 use Rattle.lang_model.specs.Trees.{ChainTree, Trees, NoTree, MoreTrees, Branches, NoBranch, MoreBranches, tree_of}
 use Rattle.lang_model.specs.Trees.{trees_of, branches_of}
@@ -32,7 +34,7 @@ use Rattle.lang_model.specs.Checking.{domain_operator_text}
 use Rattle.lang_model.specs.Limits.{rank_limit}
 use Rattle.lang_model.specs.Tokens.{same_text}
 use Rattle.lang_model.specs.Defining.{defines}
-use Rattle.lang_model.specs.Rooms.{plain_cost, wide_cost, link_cost}
+use Rattle.lang_model.specs.Rooms.{plain_cost, wide_cost, order_cost, link_cost}
 use Rattle.lang_model.specs.Outcomes.{Ill, Size, Turns, no_cost, Came, got, refused, and_then, Operation, Makes, Refuses, with_turns}
 use Rattle.lang_model.specs.Types.{Typed, Fits, Misfit, sizes, typed_link, typed_pair, typed_base, typed_base_of_two, typed_test}
 
@@ -105,6 +107,9 @@ base_made Next r = Makes (next r) (wide_cost r.rows r.cols 1)
 base_made Inj r = Makes (inj r) (wide_cost r.rows r.cols 1)
 base_made Empty r = Makes (answer_of_test (is_empty r)) (plain_cost r.rows r.cols)
 base_made Unival r = Makes (answer_of_test (is_unival r)) (plain_cost r.rows r.cols)
+base_made Less r = Makes (less r.rows) (order_cost r.rows r.rows r.rows)
+base_made Hasse r = Makes (hasse r) (order_cost r.rows r.rows r.rows)
+base_made Quot r = Makes (classes r) (order_cost r.rows r.rows r.rows)
 base_made _ r = Makes (empty 0 0) no_cost
 
 -- the size that a base call of one operand computes: that of a power set, and all others compute none
@@ -117,6 +122,12 @@ abbrev pub base_made_of_two : Base → Relation → Relation → Operation
 base_made_of_two Syq r s = Makes (symmetric_quotient r s) (wide_cost r.rows r.cols s.cols)
 base_made_of_two Eq r s = Makes (answer_of_test (is_within r s && is_within s r)) (plain_cost r.rows r.cols)
 base_made_of_two Incl r s = Makes (answer_of_test (is_within r s)) (plain_cost r.rows r.cols)
+base_made_of_two Ubd r s = Makes (upper_bounds r s) (order_cost r.rows r.cols s.cols)
+base_made_of_two Lbd r s = Makes (lower_bounds r s) (order_cost r.rows r.cols s.cols)
+base_made_of_two Least r s = Makes (least r s) (order_cost r.rows r.cols s.cols)
+base_made_of_two Greatest r s = Makes (greatest r s) (order_cost r.rows r.cols s.cols)
+base_made_of_two Sup r s = Makes (suprema r s) (order_cost r.rows r.cols s.cols)
+base_made_of_two Inf r s = Makes (infima r s) (order_cost r.rows r.cols s.cols)
 base_made_of_two _ r s = Makes (empty 0 0) no_cost
 
 -- a base call of these operands; no text spells one of none or of more than two

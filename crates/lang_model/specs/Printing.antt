@@ -3,10 +3,8 @@ use Rattle.std.specs.Prelude.{◌++◌, ℕ, Bool, cond, List, [], ◌∷◌, na
 use Rattle.lang_model.specs.declared.syntax.Op2.{Op2}
 use Rattle.lang_model.specs.declared.syntax.Op2.TheVariants.{Or, And, Times, Under, Over}
 use Rattle.lang_model.specs.declared.syntax.Base.{Base}
-use Rattle.lang_model.specs.declared.syntax.Base.TheVariants.{L, O, I, Ln1, On1, L1n, O1n, Dom, Ran, Trans, Refl, Epsi}
-use Rattle.lang_model.specs.declared.syntax.Base.TheVariants.{Point, Atom, Init, Next, Inj, Empty, Unival, Syq, Eq}
-use Rattle.lang_model.specs.declared.syntax.Base.TheVariants.{Incl, P1, P2, I1, I2}
 use Rattle.lang_model.specs.declared.syntax.Expr.{Expr, Row_of-Expr, Row_of-Link}
+use Rattle.lang_model.specs.BaseNames.{base_text}
 use Rattle.lang_model.specs.Trees.{Tree, NameTree, CallTree, BaseTree, InjectTree, PairTree, MinusTree, TurnedTree}
 use Rattle.lang_model.specs.Trees.{ChainTree, Trees, NoTree, MoreTrees, Branches, NoBranch, MoreBranches, tree_of}
 use Rattle.lang_model.specs.Trees.{trees_of, branches_of}
@@ -18,35 +16,6 @@ sign_of And = 38
 sign_of Times = 42
 sign_of Under = 92
 sign_of Over = 47
-
--- how a base name or a domain operator is written
-abbrev pub base_text : Base → List ℕ
-base_text L = codes "L"
-base_text O = codes "O"
-base_text I = codes "I"
-base_text Ln1 = codes "Ln1"
-base_text On1 = codes "On1"
-base_text L1n = codes "L1n"
-base_text O1n = codes "O1n"
-base_text Dom = codes "dom"
-base_text Ran = codes "ran"
-base_text Trans = codes "trans"
-base_text Refl = codes "refl"
-base_text Epsi = codes "epsi"
-base_text Point = codes "point"
-base_text Atom = codes "atom"
-base_text Init = codes "init"
-base_text Next = codes "next"
-base_text Inj = codes "inj"
-base_text Empty = codes "empty"
-base_text Unival = codes "unival"
-base_text Syq = codes "syq"
-base_text Eq = codes "eq"
-base_text Incl = codes "incl"
-base_text P1 = codes "p-1"
-base_text P2 = codes "p-2"
-base_text I1 = codes "i-1"
-base_text I2 = codes "i-2"
 
 -- how tightly the chains of an operator hold together
 abbrev pub chain_rank : Op2 → ℕ

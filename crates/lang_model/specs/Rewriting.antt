@@ -10,7 +10,8 @@ use Rattle.lang_model.specs.declared.syntax.Base.{Base}
 use Rattle.lang_model.specs.declared.syntax.Base.TheVariants.{Syq}
 use Rattle.lang_model.specs.Limits.{compared_limit}
 use Rattle.lang_model.specs.Tokens.{same_text}
-use Rattle.lang_model.specs.Printing.{sign_of, base_text}
+use Rattle.lang_model.specs.BaseNames.{base_text}
+use Rattle.lang_model.specs.Printing.{sign_of}
 use Rattle.lang_model.specs.Trees.{Tree, NameTree, CallTree, BaseTree, InjectTree, PairTree, MinusTree, TurnedTree}
 use Rattle.lang_model.specs.Trees.{ChainTree, Trees, NoTree, MoreTrees, Branches, NoBranch, MoreBranches, nowhere}
 

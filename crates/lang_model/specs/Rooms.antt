@@ -5,7 +5,7 @@ use Rattle.std.specs.Prelude.{ℕ}
 use Rattle.lang_model.specs.declared.syntax.Op2.{Op2}
 use Rattle.lang_model.specs.declared.syntax.Op2.TheVariants.{Or, And, Times, Under, Over}
 use Rattle.rel_model.specs.Relation.{Relation}
-use Rattle.rel_model.specs.Worker.{plain_room, product_room, wide_room}
+use Rattle.rel_model.specs.Worker.{plain_room, product_room, wide_room, classes_room}
 use Rattle.lang_model.specs.Outcomes.{Cost}
 
 -- 8 * 4 ^ h: a union, an intersection, a complement, transpositions, the full and the empty relations, and the tests
@@ -19,6 +19,10 @@ product_cost k m n leaf = product_room k m n
 -- 256 * (h + 1) * 8 ^ h: any other operator, base call, domain operator or pairing
 unfoldable pub wide_cost : ℕ → ℕ → ℕ → Cost
 wide_cost k m n leaf = wide_room k m n
+
+-- 1024 * (h + 1) * 8 ^ h: a call of orders and classes
+unfoldable pub order_cost : ℕ → ℕ → ℕ → Cost
+order_cost k m n leaf = classes_room k m n
 
 -- an operator between two relations
 abbrev pub link_cost : Op2 → Relation → Relation → Cost

@@ -7,7 +7,6 @@ use Rattle.lang_model.specs.declared.syntax.Row.{Row}
 use Rattle.lang_model.specs.declared.syntax.Op2.{Op2}
 use Rattle.lang_model.specs.declared.syntax.Op2.TheVariants.{Or, And, Times, Under, Over}
 use Rattle.lang_model.specs.declared.syntax.Base.{Base}
-use Rattle.lang_model.specs.declared.syntax.Base.TheVariants.{Syq, Eq, Incl, P1, P2, I1, I2}
 use Rattle.std.specs.declared.boxed.Box.{Box}
 use Rattle.std.specs.declared.vec.Vec.{Vec}
 use Rattle.std.specs.declared.alloc.Global.{Global}
@@ -17,14 +16,22 @@ use Rattle.lang_model.specs.declared.syntax.Stmt.{Stmt, Set, While, If}
 use Rattle.lang_model.specs.declared.syntax.Decl.{Decl}
 use Rattle.lang_model.specs.declared.syntax.Decl.TheVariants.{Variable, Domain}
 use Rattle.lang_model.specs.declared.syntax.Command.{Command}
-use Rattle.lang_model.specs.declared.syntax.Command.TheVariants.{Relation, Let, Print, List as ListOf, Count, Typed, Remove, Snap, At, Load, Save}
+use Rattle.lang_model.specs.declared.syntax.Command.TheVariants.{Relation, Let, Print, List as ListOf, Count, Typed}
+use Rattle.lang_model.specs.declared.syntax.Command.TheVariants.{Remove, Snap, At, Load, Save, Explain}
 use Rattle.lang_model.specs.declared.syntax.Item.{Item}
 use Rattle.lang_model.specs.declared.syntax.Item.TheVariants.{Function, Program, Command as COMMAND}
 use Rattle.lang_model.specs.declared.syntax.Script.{Script}
-use Rattle.lang_model.specs.declared.token.Keyword.TheVariants.{Rel as REL, Let as LET, Print as PRINT, List as LIST, Count as COUNT, «Type» as TYPE, Drop as DROP, Snap as SNAP, At as AT, Load as LOAD, Save as SAVE, Decl as DECL, Prod as PROD, Sum as SUM, Beg as BEG, End as END, Return as RETURN, While as WHILE, Do as DO, Od as OD, If as IF, Then as THEN, Else as ELSE, Fi as FI}
+use Rattle.lang_model.specs.declared.token.Keyword.TheVariants.{Rel as REL, Let as LET, Print as PRINT, List as LIST}
+use Rattle.lang_model.specs.declared.token.Keyword.TheVariants.{Count as COUNT, «Type» as TYPE, Drop as DROP}
+use Rattle.lang_model.specs.declared.token.Keyword.TheVariants.{Snap as SNAP, At as AT, Load as LOAD, Save as SAVE}
+use Rattle.lang_model.specs.declared.token.Keyword.TheVariants.{Decl as DECL, Prod as PROD, Sum as SUM, Beg as BEG}
+use Rattle.lang_model.specs.declared.token.Keyword.TheVariants.{End as END, Return as RETURN, While as WHILE, Do as DO}
+use Rattle.lang_model.specs.declared.token.Keyword.TheVariants.{Od as OD, If as IF, Then as THEN, Else as ELSE}
+use Rattle.lang_model.specs.declared.token.Keyword.TheVariants.{Fi as FI, Explain as EXPLAIN}
 use Rattle.lang_model.specs.declared.token.Kind.{Kind}
 use Rattle.lang_model.specs.declared.token.Kind.TheVariants.{Keyword, Base as BASE, Word, Number, File, Sign}
 use Rattle.lang_model.specs.declared.token.Token.{Token}
+use Rattle.lang_model.specs.BaseNames.{TakesOne, TakesTwo, TakesDomain, form_of}
 use Rattle.lang_model.specs.Tokens.{tokens_of}
 use Rattle.lang_model.specs.Taken.{TakesAt, Takes, Carets}
 use Rattle.lang_model.specs.Limits.{nesting_limit, more_limit}
@@ -85,23 +92,6 @@ IsOperatorOf ProdLevel Times sign = sign ≡ 42
 IsOperatorOf ProdLevel Under sign = sign ≡ 92
 IsOperatorOf ProdLevel Over sign = sign ≡ 47
 IsOperatorOf _ _ sign = ⊥
-
--- what stands in the parentheses behind a base name or a domain operator: one expression, two, or the name of a domain
-pub data Form : Type 0 where
-  TakesOne : Form
-  TakesTwo : Form
-  TakesDomain : Form
-
--- the form of each base name and domain operator
-abbrev pub form_of : Base → Form
-form_of Syq = TakesTwo
-form_of Eq = TakesTwo
-form_of Incl = TakesTwo
-form_of P1 = TakesDomain
-form_of P2 = TakesDomain
-form_of I1 = TakesDomain
-form_of I2 = TakesDomain
-form_of _ = TakesOne
 
 -- The tokens of an expression at a level of the grammar, where so many constructs are open around it; those of
 -- further arguments, at most so many; and those of the links of a chain.
@@ -204,7 +194,8 @@ SpellsMoreNames (name ∷ names) tokens rest = (mid after : List Token) × Takes
 -- NAME { "," NAME }, with a bound on the names behind the first
 abbrev pub SpellsParams : List (List ℕ) → List Token → List Token → Type 0
 SpellsParams [] tokens rest = ⊥
-SpellsParams (name ∷ names) tokens rest = (mid : List Token) × Takes (Word name) tokens mid × (length names ≤ more_limit)
+SpellsParams (name ∷ names) tokens rest = (mid : List Token) × Takes (Word name) tokens mid
+    × (length names ≤ more_limit)
     × SpellsMoreNames names mid rest
 
 -- the keyword of a sum or a product
@@ -266,6 +257,7 @@ SpellsCommand (Load name file) tokens rest = (mid : List Token) × SpellsNamed (
     × Takes (File file) mid rest
 SpellsCommand (Save value file) tokens rest = (mid : List Token) × SpellsValued (Keyword SAVE) value tokens mid
     × Takes (File file) mid rest
+SpellsCommand (Explain value) tokens rest = SpellsValued (Keyword EXPLAIN) value tokens rest
 
 -- item = def | command, and def = NAME "(" NAME { "," NAME } ")" ( "=" expr | program )
 abbrev pub SpellsItem : Item → List Token → List Token → Type 0

@@ -7,12 +7,19 @@ use Rattle.lang_model.specs.declared.faults.What.{What}
 use Rattle.lang_model.specs.declared.faults.What.TheVariants.{Item as AN_ITEM, Expression, Name, Number as A_NUMBER, NumberFromOne, FileText, Token as TOKEN}
 use Rattle.lang_model.specs.declared.syntax.Place.{Place}
 use Rattle.lang_model.specs.declared.token.Keyword.{Keyword}
-use Rattle.lang_model.specs.declared.token.Keyword.TheVariants.{Rel as REL, Let as LET, Print as PRINT, List as LIST, Count as COUNT, «Type» as TYPE, Drop as DROP, Snap as SNAP, At as AT, Load as LOAD, Save as SAVE, Decl as DECL, Prod as PROD, Sum as SUM, Beg as BEG, End as END, Return as RETURN, While as WHILE, Do as DO, Od as OD, If as IF, Then as THEN, Else as ELSE, Fi as FI}
+use Rattle.lang_model.specs.declared.token.Keyword.TheVariants.{Rel as REL, Let as LET, Print as PRINT, List as LIST}
+use Rattle.lang_model.specs.declared.token.Keyword.TheVariants.{Count as COUNT, «Type» as TYPE, Drop as DROP}
+use Rattle.lang_model.specs.declared.token.Keyword.TheVariants.{Snap as SNAP, At as AT, Load as LOAD, Save as SAVE}
+use Rattle.lang_model.specs.declared.token.Keyword.TheVariants.{Decl as DECL, Prod as PROD, Sum as SUM, Beg as BEG}
+use Rattle.lang_model.specs.declared.token.Keyword.TheVariants.{End as END, Return as RETURN, While as WHILE, Do as DO}
+use Rattle.lang_model.specs.declared.token.Keyword.TheVariants.{Od as OD, If as IF, Then as THEN, Else as ELSE}
+use Rattle.lang_model.specs.declared.token.Keyword.TheVariants.{Fi as FI, Explain as EXPLAIN}
 use Rattle.lang_model.specs.declared.token.Kind.{Kind}
 use Rattle.lang_model.specs.declared.token.Kind.TheVariants.{Keyword as KEYWORD, Base as BASE, Word, Number, File, Sign}
 use Rattle.lang_model.specs.declared.token.Token.{Token}
 use Rattle.lang_model.specs.Limits.{nesting_limit, more_limit}
-use Rattle.lang_model.specs.Spelling.{Level, OrLevel, AndLevel, ProdLevel, UnaryLevel, PostLevel, PrimLevel, tighter, Form, TakesOne, TakesTwo, TakesDomain, form_of}
+use Rattle.lang_model.specs.BaseNames.{Form, TakesOne, TakesTwo, TakesDomain, form_of}
+use Rattle.lang_model.specs.Spelling.{Level, OrLevel, AndLevel, ProdLevel, UnaryLevel, PostLevel, PrimLevel, tighter}
 use Rattle.lang_model.specs.Lexed.{Ending, EndsAt, Broken, lexed_of}
 
 -- Parts of the grammar. A number behind an expression, a statement or a sign that opens a construct says how many
@@ -159,6 +166,7 @@ command_step SNAP = Behind (NamePart ∷ [])
 command_step AT = Behind (NamePart ∷ WordPart PRINT ∷ ExprPart OrLevel 0 ∷ [])
 command_step LOAD = Behind (NamePart ∷ FilePart ∷ [])
 command_step SAVE = Behind (ExprPart OrLevel 0 ∷ FilePart ∷ [])
+command_step EXPLAIN = Behind (ExprPart OrLevel 0 ∷ [])
 command_step _ = NotBegun
 
 -- an item, by its first token
@@ -193,6 +201,7 @@ number_of IF = 20
 number_of THEN = 21
 number_of ELSE = 22
 number_of FI = 23
+number_of EXPLAIN = 24
 
 -- whether a token is this keyword
 abbrev pub is_word : Keyword → Kind → Bool
@@ -260,6 +269,7 @@ written IF = codes "IF"
 written THEN = codes "THEN"
 written ELSE = codes "ELSE"
 written FI = codes "FI"
+written EXPLAIN = codes "EXPLAIN"
 
 -- the word of a part that must come: what it begins with, or the first alternative of its choice; none for optional
 -- and repeated parts

@@ -1,12 +1,18 @@
 -- The tokens of a text.
-use Rattle.std.specs.Prelude.{◌==◌, ◌&&◌, ◌||◌, ◌+◌, ◌-◌, ◌*◌, ◌^◌, not, nat_le, nat_lt, nat_eq, ℕ, Bool, false, cond, List, [], ◌∷◌, take, drop, Option, Some, None, option_map, unwrap_or, codes, zero, suc}
+use Rattle.std.specs.Prelude.{◌==◌, ◌&&◌, ◌||◌, ◌+◌, ◌-◌, ◌*◌, ◌^◌, not, nat_le, nat_lt, nat_eq, ℕ, Bool, false, cond, List, [], ◌∷◌, map, take, drop, Option, Some, None, option_map, unwrap_or, codes, zero, suc}
 use Rattle.std.specs.List.{list_any, list_all}
 use Rattle.std.specs.Option.{option_map_or}
 use lib.Pointwise.{pointwise}
 use Rattle.lang_model.specs.Limits.{name_limit, file_text_limit}
 use Rattle.lang_model.specs.declared.syntax.Place.{Place}
-use Rattle.lang_model.specs.declared.syntax.Base.TheVariants.{L, O, I, Ln1, On1, L1n, O1n, Dom, Ran, Trans, Refl, Epsi, Point, Atom, Init, Next, Inj, Empty, Unival, Syq, Eq, Incl, P1, P2, I1, I2}
-use Rattle.lang_model.specs.declared.token.Keyword.TheVariants.{Rel as REL, Let as LET, Print as PRINT, List as LIST, Count as COUNT, «Type» as TYPE, Drop as DROP, Snap as SNAP, At as AT, Load as LOAD, Save as SAVE, Decl as DECL, Prod as PROD, Sum as SUM, Beg as BEG, End as END, Return as RETURN, While as WHILE, Do as DO, Od as OD, If as IF, Then as THEN, Else as ELSE, Fi as FI}
+use Rattle.lang_model.specs.declared.token.Keyword.TheVariants.{Rel as REL, Let as LET, Print as PRINT, List as LIST}
+use Rattle.lang_model.specs.declared.token.Keyword.TheVariants.{Count as COUNT, «Type» as TYPE, Drop as DROP}
+use Rattle.lang_model.specs.declared.token.Keyword.TheVariants.{Snap as SNAP, At as AT, Load as LOAD, Save as SAVE}
+use Rattle.lang_model.specs.declared.token.Keyword.TheVariants.{Decl as DECL, Prod as PROD, Sum as SUM, Beg as BEG}
+use Rattle.lang_model.specs.declared.token.Keyword.TheVariants.{End as END, Return as RETURN, While as WHILE, Do as DO}
+use Rattle.lang_model.specs.declared.token.Keyword.TheVariants.{Od as OD, If as IF, Then as THEN, Else as ELSE}
+use Rattle.lang_model.specs.declared.token.Keyword.TheVariants.{Fi as FI, Explain as EXPLAIN}
+use Rattle.lang_model.specs.BaseNames.{base_text, base_names, domain_operator_names}
 use Rattle.lang_model.specs.declared.token.Kind.{Kind}
 use Rattle.lang_model.specs.declared.token.Kind.TheVariants.{Keyword, Base as BASE, Word, Number, File, Sign}
 use Rattle.lang_model.specs.declared.token.Token.{Token}
@@ -74,13 +80,8 @@ reserved_words =
     ∷ (codes "END", Keyword END) ∷ (codes "RETURN", Keyword RETURN) ∷ (codes "WHILE", Keyword WHILE)
     ∷ (codes "DO", Keyword DO) ∷ (codes "OD", Keyword OD)
     ∷ (codes "IF", Keyword IF) ∷ (codes "THEN", Keyword THEN) ∷ (codes "ELSE", Keyword ELSE) ∷ (codes "FI", Keyword FI)
-    ∷ (codes "L", BASE L) ∷ (codes "O", BASE O) ∷ (codes "I", BASE I) ∷ (codes "Ln1", BASE Ln1)
-    ∷ (codes "On1", BASE On1) ∷ (codes "L1n", BASE L1n) ∷ (codes "O1n", BASE O1n)
-    ∷ (codes "dom", BASE Dom) ∷ (codes "ran", BASE Ran) ∷ (codes "trans", BASE Trans) ∷ (codes "refl", BASE Refl)
-    ∷ (codes "epsi", BASE Epsi) ∷ (codes "point", BASE Point)
-    ∷ (codes "atom", BASE Atom) ∷ (codes "init", BASE Init) ∷ (codes "next", BASE Next) ∷ (codes "inj", BASE Inj)
-    ∷ (codes "empty", BASE Empty) ∷ (codes "unival", BASE Unival)
-    ∷ (codes "syq", BASE Syq) ∷ (codes "eq", BASE Eq) ∷ (codes "incl", BASE Incl) ∷ []
+    ∷ (codes "EXPLAIN", Keyword EXPLAIN)
+    ∷ map (λ base. (base_text base, BASE base)) base_names
 
 -- what the first entry with this text is
 abbrev pub found_in : List ℕ → List (List ℕ × Kind) → Option Kind
@@ -93,8 +94,7 @@ word_kind w = unwrap_or (found_in w reserved_words) (Word w)
 
 -- the domain operators
 unfoldable pub domain_operators : List (List ℕ × Kind)
-domain_operators = (codes "p-1", BASE P1) ∷ (codes "p-2", BASE P2) ∷ (codes "i-1", BASE I1) ∷ (codes "i-2", BASE I2)
-    ∷ []
+domain_operators = map (λ base. (base_text base, BASE base)) domain_operator_names
 
 -- the domain operator that begins these bytes, behind which no letter, digit or _ follows
 unfoldable pub domain_operator_at : List ℕ → Option Kind
@@ -111,7 +111,8 @@ begins_with_quote (b ∷ bs) = b == 34
 unfoldable pub file_at : List ℕ → Option (Kind × ℕ)
 file_at bs =
     let n = run_length is_file_byte bs in
-    cond ((nat_le 1 n && nat_le n file_text_limit) && begins_with_quote (drop n bs)) (Some (File (take n bs), n + 2)) None
+    cond ((nat_le 1 n && nat_le n file_text_limit) && begins_with_quote (drop n bs))
+    (Some (File (take n bs), n + 2)) None
 
 -- the token that begins these bytes, and how many it has
 unfoldable pub kind_at : List ℕ → Option (Kind × ℕ)

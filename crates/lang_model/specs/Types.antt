@@ -5,10 +5,14 @@ use Rattle.lang_model.specs.declared.syntax.Place.{Place}
 use Rattle.lang_model.specs.declared.syntax.Op2.{Op2}
 use Rattle.lang_model.specs.declared.syntax.Op2.TheVariants.{Or, And, Times, Under, Over}
 use Rattle.lang_model.specs.declared.syntax.Base.{Base}
-use Rattle.lang_model.specs.declared.syntax.Base.TheVariants.{L, O, I, Ln1, On1, L1n, O1n, Dom, Ran, Trans, Refl, Epsi, Point, Atom, Init, Next, Inj, Empty, Unival, Syq, Eq, Incl, P1, P2, I1, I2}
+use Rattle.lang_model.specs.declared.syntax.Base.TheVariants.{L, O, I, Ln1, On1, L1n, O1n, Dom, Ran, Trans, Refl, Epsi}
+use Rattle.lang_model.specs.declared.syntax.Base.TheVariants.{Point, Atom, Init, Next, Inj, Empty, Unival, Less, Hasse}
+use Rattle.lang_model.specs.declared.syntax.Base.TheVariants.{Quot, Syq, Eq, Incl, Ubd, Lbd, Least, Greatest, Sup, Inf}
+use Rattle.lang_model.specs.declared.syntax.Base.TheVariants.{P1, P2, I1, I2}
 use Rattle.lang_model.specs.declared.faults.TypeFault.{TypeFault}
 use Rattle.lang_model.specs.declared.faults.TypeFault.TheVariants.{Mismatch, NotSquare, NotVector, NotTest}
 use Rattle.lang_model.specs.declared.faults.StaticShape.{StaticShape}
+use Rattle.lang_model.specs.BaseNames.{base_text}
 use Rattle.rel_model.specs.Relation.{Relation, size_limit}
 use Rattle.lang_model.specs.Missing.{first_of_both}
 
@@ -103,40 +107,24 @@ type_turned_by zero s = s
 type_turned_by (suc n) s = type_turned (type_turned_by n s)
 
 -- ---- base calls
--- how a base name is written
-abbrev pub base_text : Base → List ℕ
-base_text L = codes "L"
-base_text O = codes "O"
-base_text I = codes "I"
-base_text Ln1 = codes "Ln1"
-base_text On1 = codes "On1"
-base_text L1n = codes "L1n"
-base_text O1n = codes "O1n"
-base_text Dom = codes "dom"
-base_text Ran = codes "ran"
-base_text Trans = codes "trans"
-base_text Refl = codes "refl"
-base_text Epsi = codes "epsi"
-base_text Point = codes "point"
-base_text Atom = codes "atom"
-base_text Init = codes "init"
-base_text Next = codes "next"
-base_text Inj = codes "inj"
-base_text Empty = codes "empty"
-base_text Unival = codes "unival"
-base_text Syq = codes "syq"
-base_text Eq = codes "eq"
-base_text Incl = codes "incl"
-base_text P1 = codes "p-1"
-base_text P2 = codes "p-2"
-base_text I1 = codes "i-1"
-base_text I2 = codes "i-2"
+-- the known one of the two sizes of a square operand
+abbrev pub side : StaticShape → Option ℕ
+side s = first_of_both s.rows s.cols
+
+-- the operand is square
+abbrev pub squared : Place → Base → StaticShape → Typed → Typed
+squared at base s rest = cond (agree s.rows s.cols) rest (Misfit (NotSquare at (base_text base) s))
 
 -- the operand is square: the type has the known one of its sizes twice
 abbrev pub square : Place → Base → StaticShape → Typed
-square at base s =
-    cond (agree s.rows s.cols) (let n = first_of_both s.rows s.cols in Fits (type_of n n))
-    (Misfit (NotSquare at (base_text base) s))
+square at base s = squared at base s (Fits (type_of (side s) (side s)))
+
+-- the first operand is square, and the second has as many rows: the type has the known one of these sizes, and the
+-- columns of the second
+abbrev pub bounding : Place → Base → StaticShape → StaticShape → Typed
+bounding at base s t =
+    squared at base s (cond (agree (side s) t.rows) (Fits (type_of (first_of_both (side s) t.rows) t.cols))
+    (Misfit (Mismatch at (base_text base) s t)))
 
 -- the operand has one column
 abbrev pub vector : Place → Base → StaticShape → StaticShape → Typed
@@ -163,6 +151,9 @@ typed_base at Next s = vector at Next s (type_of s.rows (Some 1))
 typed_base at Inj s = vector at Inj s (type_of None s.rows)
 typed_base at Empty s = Fits (known 1 1)
 typed_base at Unival s = Fits (known 1 1)
+typed_base at Less s = square at Less s
+typed_base at Hasse s = square at Hasse s
+typed_base at Quot s = squared at Quot s (Fits (type_of (side s) None))
 typed_base at _ s = Fits (known 0 0)
 
 -- a base call of two operands; no text spells such a call of any other base name
@@ -173,6 +164,12 @@ typed_base_of_two at Eq s t =
     cond (agree s.rows t.rows && agree s.cols t.cols) (Fits (known 1 1)) (Misfit (Mismatch at (base_text Eq) s t))
 typed_base_of_two at Incl s t =
     cond (agree s.rows t.rows && agree s.cols t.cols) (Fits (known 1 1)) (Misfit (Mismatch at (base_text Incl) s t))
+typed_base_of_two at Ubd s t = bounding at Ubd s t
+typed_base_of_two at Lbd s t = bounding at Lbd s t
+typed_base_of_two at Least s t = bounding at Least s t
+typed_base_of_two at Greatest s t = bounding at Greatest s t
+typed_base_of_two at Sup s t = bounding at Sup s t
+typed_base_of_two at Inf s t = bounding at Inf s t
 typed_base_of_two at _ s t = Fits (known 0 0)
 
 -- the domain operators of domains of x and of y elements: the last line is that of i-2, and no text spells any other

@@ -1,7 +1,7 @@
 //! Laws of the language, each a function that does nothing.
 ghost use Rattle.std.specs.Prelude.{◌≡◌, ◌+◌};
 ghost use Rattle.lang_model.specs.Limits.{script_limit, name_limit, file_text_limit, nesting_limit, more_limit, rank_limit, compared_limit};
-ghost use Rattle.lang_model.specs.Eval.{EvaluatedByNames};
+ghost use Rattle.lang_model.specs.Eval.{EvaluatedByNames, ComesUnlessEarly};
 ghost use Rattle.lang_model.specs.Laws.{StateLaws};
 ghost use Rattle.lang_model.specs.Blocks.{BlocksByNames};
 ghost use Rattle.lang_model.specs.Calm.{CalmMeansTheSame, StepsEnd, StepsAreSteps};
@@ -28,9 +28,16 @@ pub fn laws_of_the_workspace()
     ensures { StateLaws }
 {}
 
-/// What an expression of a command comes to depends on the relations of the names alone that it uses.
+/// What an expression of a command comes to, its cost, and the fault ahead of it depend on the relations of the names
+/// alone that it uses.
 pub fn by_names_alone()
     ensures { EvaluatedByNames }
+{}
+
+/// An expression of a command is refused ahead of all computing where it has an early fault, and else comes to its
+/// meaning.
+pub fn early_faults_come_first()
+    ensures { ComesUnlessEarly }
 {}
 
 /// What a block comes to depends on the relations of the names alone that it reads.

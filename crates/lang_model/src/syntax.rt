@@ -162,9 +162,18 @@ pub enum Base {
     Inj,
     Empty,
     Unival,
+    Less,
+    Hasse,
+    Quot,
     Syq,
     Eq,
     Incl,
+    Ubd,
+    Lbd,
+    Least,
+    Greatest,
+    Sup,
+    Inf,
     P1,
     P2,
     I1,
@@ -434,6 +443,10 @@ pub enum Command {
         value: Expr,
         file: FileText,
     },
+    /// `EXPLAIN value`.
+    Explain {
+        value: Expr,
+    },
 }
 
 impl Drop for Command {
@@ -461,6 +474,7 @@ impl Drop for Command {
             } => {}
             Command::Load { name: _, file: _ } => {}
             Command::Save { value: _, file: _ } => {}
+            Command::Explain { value: _ } => {}
         }
     }
 }

@@ -10,7 +10,8 @@ use Rattle.rel_model.specs.Operators.{empty}
 use Rattle.rel_model.specs.Worker.{Worker, set_of, Keeps}
 use Rattle.lang_model.specs.Rooms.{plain_cost}
 use Rattle.lang_model.specs.Outcomes.{Cost, no_cost, Ill, Makes, Refuses, with_turns}
-use Rattle.lang_model.specs.Types.{Fits, Misfit, known, sizes, base_text}
+use Rattle.lang_model.specs.BaseNames.{base_text}
+use Rattle.lang_model.specs.Types.{Fits, Misfit, known, sizes}
 use Rattle.lang_model.specs.Mean.{fitting, based, answer_of_test, is_within}
 use Rattle.rv_eval.specs.declared.halt.Halt.{Halt}
 use Rattle.rv_eval.specs.declared.bases.Demand.TheVariants.{Nothing, Square, OneColumn}

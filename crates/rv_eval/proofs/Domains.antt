@@ -17,7 +17,8 @@ use Rattle.lang_model.specs.Types.{known}
 use Rattle.rel_model.proofs.Workers.{gives_set, gives_stands}
 use Rattle.rv_eval.specs.declared.halt.Halt.{Halt}
 use Rattle.lang_model.specs.Outcomes.{Cost, Ill, Size, Not, Operation, Makes, Refuses, with_turns}
-use Rattle.lang_model.specs.Types.{Fits, Misfit, sizes, type_of, base_text, computed_of_two}
+use Rattle.lang_model.specs.BaseNames.{base_text}
+use Rattle.lang_model.specs.Types.{Fits, Misfit, sizes, type_of, computed_of_two}
 use Rattle.lang_model.specs.Mean.{fitting, limited, paired, based, domain_made}
 use Rattle.rv_eval.specs.Ends.{Ends, domain_lifted}
 use Rattle.rv_eval.proofs.Operating.{made_value, same_type, equal_sizes, unequal_sizes}

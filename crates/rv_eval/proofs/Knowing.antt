@@ -20,7 +20,8 @@ use Rattle.lang_model.specs.Rooms.{wide_cost, link_cost}
 use Rattle.lang_model.specs.State.{State}
 use Rattle.lang_model.specs.Missing.{first_of_both}
 use Rattle.lang_model.specs.Outcomes.{Refusal, Ill, Size, Turns, Answer, Got, Not, Came, following, Operation, Makes, Refuses, with_turns}
-use Rattle.lang_model.specs.Types.{Passed, Fits, Misfit, Typed, sizes, type_of, agree, may_be, takes, type_of_link, type_turned, type_turned_by, spelling, base_text, square, vector, typed_link, typed_pair, typed_base, typed_base_of_two, typed_test}
+use Rattle.lang_model.specs.BaseNames.{base_text}
+use Rattle.lang_model.specs.Types.{Passed, Fits, Misfit, Typed, sizes, type_of, agree, may_be, takes, type_of_link, type_turned, type_turned_by, spelling, square, vector, typed_link, typed_pair, typed_base, typed_base_of_two, typed_test}
 use Rattle.lang_model.specs.Mean.{fitting, limited, result_of_both, named, base_made, base_wants, base_made_of_two, based, linked, complemented, turned, paired, domain_made, injected_of, injected_by, where_fitting, tested}
 use Rattle.lang_model.specs.Shape.{Types, passing, typed_name, typed_based, typed_injected_of, typed_injected}
 use Rattle.lang_model.specs.Sound.{IsSize, Describes, Agree, CoversAt, Covers}

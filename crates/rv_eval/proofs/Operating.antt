@@ -22,7 +22,8 @@ use Rattle.rel_model.proofs.Workers.{gives_set, gives_stands, keeps_itself, keep
 use Rattle.rv_eval.specs.declared.halt.Halt.{Halt}
 use Rattle.rv_eval.specs.declared.halt.Halt.TheVariants.{Lack as LACK}
 use Rattle.lang_model.specs.Outcomes.{Cost, Ill, Got, Came, Operation, Makes, Refuses, with_turns}
-use Rattle.lang_model.specs.Types.{Fits, Misfit, sizes, type_of, takes, type_of_link, base_text, square, vector}
+use Rattle.lang_model.specs.BaseNames.{base_text}
+use Rattle.lang_model.specs.Types.{Fits, Misfit, sizes, type_of, takes, type_of_link, square, vector}
 use Rattle.lang_model.specs.Mean.{fitting, linked, based, answer_of_test}
 use Rattle.rv_eval.specs.Ends.{Ends, lifted}
 use Rattle.rv_eval.proofs.Going.{rose_before}

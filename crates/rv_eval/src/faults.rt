@@ -4,7 +4,8 @@ ghost use Rattle.rel_model.specs.declared.Lack.TheVariants.{NoMemory as NO_MEMOR
 ghost use Rattle.lang_model.specs.Limits.{name_limit};
 ghost use Rattle.lang_model.specs.declared.faults.TypeFault.TheVariants.{Unknown, Arity, Rank, Mismatch, NotSquare, NotVector};
 ghost use Rattle.lang_model.specs.Checking.{domain_operator_text};
-ghost use Rattle.lang_model.specs.Types.{spelling, known, base_text};
+ghost use Rattle.lang_model.specs.BaseNames.{base_text};
+ghost use Rattle.lang_model.specs.Types.{spelling, known};
 ghost use Rattle.rv_eval.specs.declared.halt.Halt.TheVariants.{Ill, Lack as LACK};
 
 use crate::halt::Halt;

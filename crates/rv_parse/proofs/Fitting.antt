@@ -14,7 +14,8 @@ use Rattle.lang_model.specs.declared.token.Token.{Token}
 use Rattle.lang_model.specs.Taken.{TakesAt, Carets}
 use Rattle.lang_model.specs.Limits.{nesting_limit}
 use Rattle.lang_model.specs.Lexed.{Ending}
-use Rattle.lang_model.specs.Spelling.{Level, OrLevel, AndLevel, ProdLevel, UnaryLevel, PostLevel, PrimLevel, tighter, IsOperatorOf, Form, TakesOne, TakesTwo, TakesDomain, form_of, Spelled, named, called, based, based_twice, injected, paired, enclosed, turned, negated, chained, alone, Listed, no_more, one_more, Linked, no_link, one_link, SpelledStmt, assigned, looped, branched, branched_twice, SpelledStmts, no_stmt, one_stmt, more_stmts}
+use Rattle.lang_model.specs.BaseNames.{Form, TakesOne, TakesTwo, TakesDomain, form_of}
+use Rattle.lang_model.specs.Spelling.{Level, OrLevel, AndLevel, ProdLevel, UnaryLevel, PostLevel, PrimLevel, tighter, IsOperatorOf, Spelled, named, called, based, based_twice, injected, paired, enclosed, turned, negated, chained, alone, Listed, no_more, one_more, Linked, no_link, one_link, SpelledStmt, assigned, looped, branched, branched_twice, SpelledStmts, no_stmt, one_stmt, more_stmts}
 use Rattle.lang_model.specs.Stop.{Part, NamePart, SignPart, WordPart, ExprPart, CallPart, MoreArgs, MoreCarets, MoreLinks, StmtsPart, MoreStmts, ElsePart, form_parts, stop_of}
 use Rattle.rv_parse.specs.Readers.{begins}
 use Rattle.rv_parse.proofs.Leaves.{reads_sign, reads_word, opens}

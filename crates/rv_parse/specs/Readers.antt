@@ -11,7 +11,8 @@ use Rattle.lang_model.specs.declared.token.Kind.TheVariants.{Number, File, Sign}
 use Rattle.lang_model.specs.declared.token.Token.{Token}
 use Rattle.lang_model.specs.Taken.{TakesAt}
 use Rattle.lang_model.specs.Lexed.{Ending}
-use Rattle.lang_model.specs.Spelling.{Level, OrLevel, AndLevel, ProdLevel, PrimLevel, tighter, IsOperatorOf, Spelled, Listed, Form, TakesOne, TakesTwo, TakesDomain}
+use Rattle.lang_model.specs.BaseNames.{Form, TakesOne, TakesTwo, TakesDomain}
+use Rattle.lang_model.specs.Spelling.{Level, OrLevel, AndLevel, ProdLevel, PrimLevel, tighter, IsOperatorOf, Spelled, Listed}
 use Rattle.lang_model.specs.Stop.{Part, ExprPart, MoreLinks, MoreArgs, is_sign, is_word, is_operator, stop_of}
 use Rattle.rv_parse.specs.Halts.{fault_of}
 use Rattle.rv_parse.specs.declared.halt.Halt.{Halt}

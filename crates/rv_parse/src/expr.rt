@@ -3,7 +3,8 @@ ghost use Rattle.std.specs.Prelude.{◌≡◌, ◌<◌, ◌≤◌, ◌+◌, ◌^
 ghost use Rattle.lang_model.specs.Taken.{Carets, Takes, TakesAt};
 ghost use Rattle.lang_model.specs.Limits.{nesting_limit, more_limit};
 ghost use Rattle.lang_model.specs.Lexed.{Ending as ENDING};
-ghost use Rattle.lang_model.specs.Spelling.{OrLevel, Spelled, UnaryLevel, PostLevel, PrimLevel, tighter, TakesOne, TakesTwo, TakesDomain, form_of};
+ghost use Rattle.lang_model.specs.BaseNames.{TakesOne, TakesTwo, TakesDomain, form_of};
+ghost use Rattle.lang_model.specs.Spelling.{OrLevel, Spelled, UnaryLevel, PostLevel, PrimLevel, tighter};
 ghost use Rattle.lang_model.specs.Stop.{Part, ExprPart, CallPart, MoreArgs, MoreCarets, SignPart, form_parts, stop_of};
 ghost use Rattle.lang_model.specs.declared.token.Kind.TheVariants.{Base as BASE, Word, Sign};
 ghost use Rattle.lang_model.specs.declared.token.Token.{Token as TOKEN};

@@ -11,7 +11,8 @@ use Rattle.lang_model.specs.declared.token.Kind.{Kind}
 use Rattle.lang_model.specs.declared.token.Kind.TheVariants.{Base as BASE, Word, Sign}
 use Rattle.lang_model.specs.declared.token.Token.{Token}
 use Rattle.lang_model.specs.Taken.{TakesAt, Takes, Carets}
-use Rattle.lang_model.specs.Spelling.{Level, OrLevel, AndLevel, ProdLevel, UnaryLevel, PostLevel, PrimLevel, tighter, IsOperatorOf, Form, TakesOne, TakesTwo, TakesDomain, form_of, Spelled, named, called, based, based_twice, injected, paired, enclosed, turned, negated, chained, alone, Listed, Linked, no_link, one_link}
+use Rattle.lang_model.specs.BaseNames.{Form, TakesOne, TakesTwo, TakesDomain, form_of}
+use Rattle.lang_model.specs.Spelling.{Level, OrLevel, AndLevel, ProdLevel, UnaryLevel, PostLevel, PrimLevel, tighter, IsOperatorOf, Spelled, named, called, based, based_twice, injected, paired, enclosed, turned, negated, chained, alone, Listed, Linked, no_link, one_link}
 use Rattle.rv_spell.specs.Again.{Ends}
 use Rattle.rv_parse.specs.Readers.{begins}
 use Rattle.rv_spell.specs.Places.{Tree, Branches, NameTree, CallTree, BaseTree, InjectTree, PairTree, MinusTree, TurnedTree, ChainTree, NoBranch, MoreBranches, tree_of, nowhere}

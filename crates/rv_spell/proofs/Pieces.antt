@@ -14,7 +14,8 @@ use Rattle.lang_model.specs.declared.token.Kind.TheVariants.{Base as BASE, Word,
 use Rattle.lang_model.specs.declared.token.Token.{Token}
 use Rattle.lang_model.specs.Taken.{Carets}
 use Rattle.lang_model.specs.Tokens.{is_allowed, is_blank, is_letter, is_word_byte, same_text, found_in, reserved_words, domain_operators, domain_operator_at, word_kind, behind, run_length, kind_at, with_token, tokens_from}
-use Rattle.lang_model.specs.Printing.{sign_of, base_text}
+use Rattle.lang_model.specs.BaseNames.{base_text}
+use Rattle.lang_model.specs.Printing.{sign_of}
 use Rattle.rv_spell.specs.Again.{ends_names}
 use Rattle.rv_tokens.specs.Lexing.{word_at}
 use Rattle.rv_tokens.proofs.Lexing.{kind_letter}

@@ -2,7 +2,8 @@
 use Rattle.std.proofs.Common.{◌≡◌, ◌++◌, ◌∙◌, ℕ, nat_le, nat_lt, replicate, [], ◌∷◌, append_assoc, refl, ap, rules}
 use Rattle.lang_model.specs.declared.syntax.Expr.{Row_of-Expr, end_of-Expr, more_of-Expr, items-the_row-Expr, Inject, Row_of-Link, end_of-Link, more_of-Link, items-the_row-Link, the_lemmas}
 use Rattle.lang_model.specs.declared.syntax.Expr.TheVariants.{Call, Base, Pair, Minus, Turned, Chain}
-use Rattle.lang_model.specs.Printing.{printed, printed_args, printed_more, printed_links, links_rank, rank, base_text, within, sign_of}
+use Rattle.lang_model.specs.BaseNames.{base_text}
+use Rattle.lang_model.specs.Printing.{printed, printed_args, printed_more, printed_links, links_rank, rank, within, sign_of}
 use Rattle.rv_spell.specs.Printed.{printed_more_args, printed_all_args, rank_of_links, printed_all_links}
 
 printed_more-items : (n : _) (k : Row_of-Expr n) → printed_more k ≡ printed_more_args (items-the_row-Expr n k)

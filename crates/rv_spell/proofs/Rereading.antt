@@ -15,7 +15,8 @@ use Rattle.lang_model.specs.declared.token.Token.{Token}
 use Rattle.lang_model.specs.Taken.{Carets}
 use Rattle.lang_model.specs.Limits.{nesting_limit}
 use Rattle.lang_model.specs.Tokens.{is_allowed, behind, tokens_from}
-use Rattle.lang_model.specs.Printing.{printed, rank, within, sign_of, base_text, chain_rank}
+use Rattle.lang_model.specs.BaseNames.{base_text}
+use Rattle.lang_model.specs.Printing.{printed, rank, within, sign_of, chain_rank}
 use Rattle.lang_model.specs.Spelling.{Level, OrLevel, AndLevel, ProdLevel, UnaryLevel, PostLevel, PrimLevel, tighter, IsOperatorOf, Spelled, named, called, based, based_twice, injected, paired, enclosed, turned, negated, chained, alone, Listed, no_more, one_more, Linked, no_link, one_link}
 use Rattle.rv_spell.proofs.Places.{no_arguments, one_argument, no_links, same_link}
 use Rattle.rv_spell.specs.Printed.{printed_more_args, printed_all_args, rank_of_links, printed_all_links}

@@ -1,6 +1,7 @@
 //! The text of an expression.
 ghost use Rattle.std.specs.Prelude.{◌≡◌, ◌++◌, ◌∷◌, ℕ, [], replicate, nat_le, IfOk, OnOk};
-ghost use Rattle.lang_model.specs.Printing.{sign_of, base_text, chain_rank, rank, within, printed};
+ghost use Rattle.lang_model.specs.BaseNames.{base_text};
+ghost use Rattle.lang_model.specs.Printing.{sign_of, chain_rank, rank, within, printed};
 ghost use Rattle.rv_spell.specs.Again.{StandsIn, ReadAgain, PrintsAgain};
 ghost use Rattle.rv_spell.specs.Printed.{rank_of_links, printed_all_args, printed_all_links};
 

@@ -1,7 +1,8 @@
 //! The types of base calls and of domain operators.
 ghost use Rattle.std.specs.Prelude.{◌≡◌, cond};
 ghost use Rattle.lang_model.specs.declared.faults.TypeFault.TheVariants.{Mismatch};
-ghost use Rattle.lang_model.specs.Types.{Fits, Misfit, base_text, type_of, square as square_as, vector as vector_as, typed_base, typed_base_of_two, type_of_domain};
+ghost use Rattle.lang_model.specs.BaseNames.{base_text};
+ghost use Rattle.lang_model.specs.Types.{Fits, Misfit, type_of, square as square_as, vector as vector_as, typed_base, typed_base_of_two, type_of_domain};
 ghost use Rattle.lang_model.specs.Shape.{typed_based};
 ghost use Rattle.rv_types.specs.Shaping.{Answers};
 

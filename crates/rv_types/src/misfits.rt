@@ -2,7 +2,7 @@
 ghost use Rattle.std.specs.Prelude.{◌≡◌, ◌≤◌, length};
 ghost use Rattle.lang_model.specs.Limits.{name_limit};
 ghost use Rattle.lang_model.specs.declared.faults.TypeFault.TheVariants.{Mismatch, NotSquare, NotVector};
-ghost use Rattle.lang_model.specs.Types.{base_text};
+ghost use Rattle.lang_model.specs.BaseNames.{base_text};
 ghost use Rattle.rv_types.specs.Found.{fault_as, spelled};
 ghost use Rattle.rv_types.specs.Shaping.{Tells};
 

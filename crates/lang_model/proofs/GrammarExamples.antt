@@ -1,0 +1,32 @@
+-- Small texts, computed from the definitions: where they go wrong, and that they are no fault.
+use Rattle.std.proofs.Common.{◌≡◌, ℕ, List, [], ◌∷◌, ◌++◌, codes, Option, Some, None, refl}
+use Rattle.lang_model.specs.declared.faults.ParseFault.{ParseFault}
+use Rattle.lang_model.specs.declared.faults.ParseFault.TheVariants.{Expected}
+use Rattle.lang_model.specs.declared.faults.What.{What}
+use Rattle.lang_model.specs.declared.faults.What.TheVariants.{Expression, Name, Token as TOKEN}
+use Rattle.lang_model.specs.Tokens.{behind, reserved_words, word_kind, domain_operators, domain_operator_at, file_at, kind_at}
+use Rattle.lang_model.specs.Lexed.{lexed_of}
+use Rattle.lang_model.specs.Stop.{stop}
+
+-- this is needed in a column of the first line
+abbrev needs : ℕ → What → Option ParseFault
+needs column what = Some (Expected (record { line = 1; column = column }) what)
+
+-- an expression is needed behind EXPLAIN
+behind_explain : stop (codes "EXPLAIN.") ≡ needs 8 Expression
+unfolding lexed_of behind kind_at word_kind reserved_words domain_operator_at domain_operators file_at
+behind_explain = refl
+
+-- a keyword is no name
+explain_is_no_name : stop (codes "LET EXPLAIN=A.") ≡ needs 5 Name
+unfolding lexed_of behind kind_at word_kind reserved_words domain_operator_at domain_operators file_at
+explain_is_no_name = refl
+
+-- base names of two operands and of one
+two_operands : stop (codes "PRINT ubd(A).") ≡ needs 12 (TOKEN (codes ","))
+unfolding lexed_of behind kind_at word_kind reserved_words domain_operator_at domain_operators file_at
+two_operands = refl
+
+one_operand : stop (codes "PRINT quot(A)|hasse(A)&less(A).") ≡ None
+unfolding lexed_of behind kind_at word_kind reserved_words domain_operator_at domain_operators file_at
+one_operand = refl
