@@ -17,6 +17,7 @@ use Rattle.lang_model.specs.declared.syntax.Command.TheVariants.{
   At,
   Load,
   Save,
+  Explain,
 }
 use Rattle.lang_model.specs.declared.syntax.Item.{Item}
 use Rattle.lang_model.specs.declared.syntax.Item.TheVariants.{Function, Program, Command as COMMAND}
@@ -24,7 +25,7 @@ use Rattle.lang_model.specs.declared.syntax.Script.{Script}
 use Rattle.run_model.specs.declared.event.Event.{Event}
 use Rattle.run_model.specs.declared.outcome.Outcome.{Outcome}
 use Rattle.run_model.specs.Inputs.{Input, script_at, item_at}
-use Rattle.run_model.specs.Due.{Workspace, Due, Nothing, Value, Refused, outcome_due, due, due_of_command, gives}
+use Rattle.run_model.specs.Due.{Workspace, Due, Nothing, Value, Explained, Refused, outcome_due, due, due_of_command, gives}
 use Rattle.run_model.specs.Steps.{Ending, Succeeds, Fails, LacksMemory, ending, Snapshots, snapped, keep, kept_at, snaps_behind, snap_for, steps_from}
 use Rattle.run_model.specs.Events.{Deed, Reads, Removes, Entry, entry_of, entries, giving, first_of, reads_of, HasDeeds, AreEvents}
 use Rattle.run_model.specs.Outcomes.{IsOutcome, AreOutcomes}
@@ -46,11 +47,13 @@ some_deed x xs h = let e : 1 ≡ 0 = ap deed_count h in omega (arith, e)
 deeds_are : (item : Item) (d : Due) (deeds : List Deed) → FailsWell d → HasDeeds (ending (outcome_due d)) item d deeds → deeds ≡ deeds_due item d
 deeds_are item Nothing deeds f h = h
 deeds_are item (Value r) deeds f h = h
+deeds_are item (Explained steps) deeds f h = h
 deeds_are item (Refused when outcome) deeds f h = subst (λ x. HasDeeds x item (Refused when outcome) deeds) f h
 
 has_deeds : (item : Item) (d : Due) → FailsWell d → HasDeeds (ending (outcome_due d)) item d (deeds_due item d)
 has_deeds item Nothing f = refl
 has_deeds item (Value r) f = refl
+has_deeds item (Explained steps) f = refl
 has_deeds item (Refused when outcome) f = subst (λ x. HasDeeds x item (Refused when outcome) (reads_of item)) (sym f) refl
 
 -- ---- items that do nothing
@@ -73,6 +76,7 @@ module _ (input : Input) (script : Script) where
   does : (item : Item) (x : Deed) → first_of item ≡ x ∷ [] → (y : Deed) → reads_of item ≡ y ∷ [] → (d : Due) → deeds_due item d ≡ [] → ⊥
   does item x f y r Nothing h = some_deed x (giving (gives item Nothing)) (sym (ap (λ l. l ++ giving (gives item Nothing)) f) ∙ h)
   does item x f y r (Value v) h = some_deed x (giving (gives item (Value v))) (sym (ap (λ l. l ++ giving (gives item (Value v))) f) ∙ h)
+  does item x f y r (Explained steps) h = some_deed x (giving (gives item (Explained steps))) (sym (ap (λ l. l ++ giving (gives item (Explained steps))) f) ∙ h)
   does item x f y r (Refused when outcome) h = some_deed y [] (sym r ∙ h)
 
   -- an item without deeds ignores the workspace
@@ -92,6 +96,7 @@ module _ (input : Input) (script : Script) where
   ignores (COMMAND (Load name file)) d h =
       record { same_due = λ s t snap. refl; same_snaps = keeps_none (COMMAND (Load name file)) refl }
   ignores (COMMAND (Save e file)) d h = absurd (does (COMMAND (Save e file)) Reads refl Reads refl d h)
+  ignores (COMMAND (Explain e)) d h = absurd (does (COMMAND (Explain e)) Reads refl Reads refl d h)
   ignores (Function at name params body) d h =
       record { same_due = λ s t snap. refl; same_snaps = keeps_none (Function at name params body) refl }
   ignores (Program at name params decls body result) d h =

@@ -16,6 +16,7 @@ use Rattle.lang_model.specs.declared.syntax.Command.TheVariants.{
   At,
   Load,
   Save,
+  Explain,
 }
 use Rattle.lang_model.specs.declared.syntax.Item.{Item}
 use Rattle.lang_model.specs.declared.syntax.Item.TheVariants.{Function, Program, Command as COMMAND}
@@ -26,7 +27,7 @@ use Rattle.run_model.specs.declared.event.Act.TheVariants.{Read, Assign, Remove}
 use Rattle.rel_model.specs.Relation.{Relation}
 use Rattle.run_model.specs.Names.{no_names, remove}
 use Rattle.run_model.specs.Inputs.{Input, script_at, item_at}
-use Rattle.run_model.specs.Due.{Workspace, Due, Nothing, Value, Refused, Gifts, given, gives, due, due_of_command}
+use Rattle.run_model.specs.Due.{Workspace, Due, Nothing, Value, Explained, Refused, Gifts, given, gives, due, due_of_command}
 use Rattle.run_model.specs.Events.{Deed, Reads, Removes, entry_of, entries, giving, first_of, reads_of}
 use Rattle.run_model.specs.States.{Replay, start, at_command, set_by, replay_act, replay, gifts_of_item, gifts_of_script, gifts_due, is_of, events_before, state_after, state_for}
 use Rattle.run_model.specs.Solo.{set_all, without, state_behind, deeds_due}
@@ -94,22 +95,26 @@ module _ (item : Item) (state : Workspace) (stays : without item state ≡ state
     plain_deeds : (d : Due) → deeds_due item d ≡ firsts
     plain_deeds Nothing = (λ i. f i ++ giving (none_given Nothing i)) ∙ append-nil firsts
     plain_deeds (Value v) = (λ i. f i ++ giving (none_given (Value v) i)) ∙ append-nil firsts
+    plain_deeds (Explained steps) = (λ i. f i ++ giving (none_given (Explained steps) i)) ∙ append-nil firsts
     plain_deeds (Refused when outcome) = r
 
     plain_state : (d : Due) → state_behind item d state ≡ state
     plain_state Nothing = λ i. set_all (none_given Nothing i) (stays i)
     plain_state (Value v) = λ i. set_all (none_given (Value v) i) (stays i)
+    plain_state (Explained steps) = λ i. set_all (none_given (Explained steps) i) (stays i)
     plain_state (Refused when outcome) = refl
 
   module _ (name : List ℕ) (g : (d : Due) → gives item d ≡ given name d) (firsts : List Deed) (f : first_of item ≡ firsts) (r : reads_of item ≡ firsts) where
     giver_deeds : (d : Due) → deeds_due item d ≡ firsts ++ giving (given name d)
     giver_deeds Nothing = λ i. f i ++ giving (g Nothing i)
     giver_deeds (Value v) = λ i. f i ++ giving (g (Value v) i)
+    giver_deeds (Explained steps) = λ i. f i ++ giving (g (Explained steps) i)
     giver_deeds (Refused when outcome) = r ∙ sym (append-nil firsts)
 
     giver_state : (d : Due) → state_behind item d state ≡ set_all (given name d) state
     giver_state Nothing = λ i. set_all (g Nothing i) (stays i)
     giver_state (Value v) = λ i. set_all (g (Value v) i) (stays i)
+    giver_state (Explained steps) = λ i. set_all (g (Explained steps) i) (stays i)
     giver_state (Refused when outcome) = refl
 
 module _ (gifts : ℕ → ℕ → Workspace → Gifts) (c : ℕ) (p : Replay Relation) where
@@ -199,6 +204,7 @@ module _ (input : Input) (script : Script) (only : script_at input 1 ≡ Some sc
     dropper : (at : _) (name : List ℕ) (d : Due) → Own (COMMAND (DROP at name)) d → Behind (COMMAND (DROP at name)) d
     dropper at name Nothing h = remove_now (gifts_due input) c p name mine h ∙ ap (remove name) now
     dropper at name (Value r) h = remove_now (gifts_due input) c p name mine h ∙ ap (remove name) now
+    dropper at name (Explained steps) h = remove_now (gifts_due input) c p name mine h ∙ ap (remove name) now
     dropper at name (Refused when outcome) h = read_now (gifts_due input) c p mine h ∙ now
 
     -- behind the events of an item of which this is due, the workspace is the one that is due
@@ -222,6 +228,7 @@ module _ (input : Input) (script : Script) (only : script_at input 1 ≡ Some sc
         let item = COMMAND (Load name file) in
         giver item d name (λ x. refl) refl refl refl (gifts_here c item no_names at ∙ ap (given name) (sym is)) h
     behind (COMMAND (Save e file)) at d is h = reading (COMMAND (Save e file)) d (λ x. refl) refl refl refl h
+    behind (COMMAND (Explain e)) at d is h = reading (COMMAND (Explain e)) d (λ x. refl) refl refl refl h
     behind (Function place name params body) at d is h = quiet (Function place name params body) d (λ x. refl) refl refl refl h
     behind (Program place name params decls body result) at d is h =
         quiet (Program place name params decls body result) d (λ x. refl) refl refl refl h

@@ -14,6 +14,7 @@ use Rattle.lang_model.specs.declared.syntax.Command.TheVariants.{
   At,
   Load,
   Save,
+  Explain,
 }
 use Rattle.lang_model.specs.declared.syntax.Item.{Item}
 use Rattle.lang_model.specs.declared.syntax.Item.TheVariants.{Function, Program, Command as COMMAND}
@@ -36,6 +37,7 @@ use Rattle.run_model.specs.Due.{
   due_on_snapshot,
   due_of_command,
   due,
+  due_of_steps,
 }
 use Rattle.run_model.specs.Cost.{cost_of, cost_on_snapshot, cost_of_item}
 use Rattle.lang_model.specs.Eval.{cost_of_value}
@@ -44,11 +46,11 @@ use Rattle.run_model.specs.Laws.{names_taken, names_asked, SnapsAgree, DueByName
 module _ (input : Input) (script : Script) where
   valued : (then : Relation → Due) (e : Expr) (s t : Workspace) → AgreeOn (lookup s) (lookup t) (names_in e) →
       due_of input script then e s ≡ due_of input script then e t
-  valued then e s t h = ap (due_of_value then input.turns) (by_names script (lookup s) (lookup t) e input.turns h)
+  valued then e s t h = ap (due_of_value then input.turns) (by_names.value script (lookup s) (lookup t) e input.turns h)
 
   costed : (leaf : ℕ) (e : Expr) (s t : Workspace) → AgreeOn (lookup s) (lookup t) (names_in e) →
       cost_of leaf input script e s ≡ cost_of leaf input script e t
-  costed leaf e s t h = ap (cost_of_value leaf) (by_names script (lookup s) (lookup t) e input.turns h)
+  costed leaf e s t h = ap (cost_of_value leaf) (by_names.value script (lookup s) (lookup t) e input.turns h)
 
   snapped : (at : Place) (name : List ℕ) (e : Expr) (snap other : Option Workspace) → SnapsAgree snap other (names_in e) →
       due_on_snapshot input script at name e snap ≡ due_on_snapshot input script at name e other
@@ -79,6 +81,8 @@ module _ (input : Input) (script : Script) where
   same_due (COMMAND (At at name e)) s t snap other h k = snapped at name e snap other k
   same_due (COMMAND (Load name file)) s t snap other h k = refl
   same_due (COMMAND (Save e file)) s t snap other h k = valued saved e s t h
+  same_due (COMMAND (Explain e)) s t snap other h k =
+      ap (due_of_steps e) (by_names.early script (lookup s) (lookup t) e h)
   same_due (Function at name params body) s t snap other h k = refl
   same_due (Program at name params decls body result) s t snap other h k = refl
 
@@ -96,6 +100,7 @@ module _ (input : Input) (script : Script) where
   same_cost leaf (COMMAND (At at name e)) s t snap other h k d = snap_costed leaf e snap other k
   same_cost leaf (COMMAND (Load name file)) s t snap other h k d = refl
   same_cost leaf (COMMAND (Save e file)) s t snap other h k d = costed leaf e s t h
+  same_cost leaf (COMMAND (Explain e)) s t snap other h k d = refl
   same_cost leaf (Function at name params body) s t snap other h k d = refl
   same_cost leaf (Program at name params decls body result) s t snap other h k d = refl
 

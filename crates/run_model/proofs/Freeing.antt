@@ -15,6 +15,7 @@ use Rattle.lang_model.specs.declared.syntax.Command.TheVariants.{
   At,
   Load,
   Save,
+  Explain,
 }
 use Rattle.lang_model.specs.declared.syntax.Item.{Item}
 use Rattle.lang_model.specs.declared.syntax.Item.TheVariants.{Function, Program, Command as COMMAND}
@@ -24,15 +25,17 @@ use Rattle.run_model.specs.declared.outcome.Outcome.{Outcome}
 use Rattle.run_model.specs.declared.outcome.Outcome.TheVariants.{TooLarge, TooLong}
 use Rattle.rel_model.specs.Relation.{Relation}
 use Rattle.lang_model.specs.Missing.{missing}
-use Rattle.lang_model.specs.Outcomes.{Answer, Got, Not, with_turns}
-use Rattle.lang_model.specs.Types.{Fits, Misfit, Typed as TYPE}
+use Rattle.lang_model.specs.State.{State}
+use Rattle.lang_model.specs.Rewriting.{calmed}
+use Rattle.lang_model.specs.Outcomes.{Answer, Got, Not, Came, with_turns}
+use Rattle.lang_model.specs.Types.{Fits, Misfit, Typed as StaticType}
 use Rattle.lang_model.specs.Shape.{static_type}
-use Rattle.lang_model.specs.Mean.{named}
-use Rattle.lang_model.specs.Eval.{Evaluated, Ahead, Comes, unless_misfit, unless_missing, types_in, evaluated}
+use Rattle.lang_model.specs.Mean.{named, meaning}
+use Rattle.lang_model.specs.Eval.{Evaluated, Ahead, Comes, unless_missing, unless_misfit, at_cost_of, types_in, evaluated}
 use Rattle.run_model.specs.Names.{lookup}
 use Rattle.run_model.specs.Inputs.{Input}
 use Rattle.run_model.specs.Files.{bits_count}
-use Rattle.run_model.specs.Due.{Late, Workspace, Due, Nothing, Value, Refused, printed, listed, saved, due_of_answer, due_of_value, due_of, due_on_snapshot, due_of_command, due}
+use Rattle.run_model.specs.Due.{Late, Workspace, Due, Nothing, Value, Explained, Refused, printed, listed, saved, due_of_answer, due_of_value, due_of, due_on_snapshot, due_of_command, due}
 use Rattle.run_model.specs.Limits.{print_limit, list_limit, save_limit}
 use Rattle.run_model.specs.Outcomes.{WantsNodes}
 use Rattle.lang_model.specs.Eval.{IsCompound}
@@ -44,6 +47,7 @@ use Rattle.run_model.specs.Laws.{IsEarly, FreeCommands}
 no_value : (d : Due) (cost : Relation → ℕ) → IsEarly d → where_value d cost ≡ 0
 no_value Nothing cost h = absurd h
 no_value (Value r) cost h = absurd h
+no_value (Explained steps) cost h = absurd h
 no_value (Refused when outcome) cost h = refl
 
 -- what a value is for is never early
@@ -71,13 +75,31 @@ early_value : (leaf : ℕ) (then : Relation → Due) (turns : ℕ) (v : Evaluate
 early_value leaf then turns (Ahead fault) h k = refl
 early_value leaf then turns (Comes came) h k = absurd (not_answer then turns came.answer h k)
 
--- a plain name
-named_free : (leaf : ℕ) (at : Place) (name : List ℕ) (n : ℕ) (m : Option (Place × List ℕ)) (t : TYPE) (o : Option Relation) →
-    cost_of_value leaf (unless_missing m (unless_misfit t (with_turns (named at name o) n))) ≡ 0
-named_free leaf at name n (Some x) t o = refl
-named_free leaf at name n None (Misfit fault) o = refl
-named_free leaf at name n None (Fits shape) None = refl
-named_free leaf at name n None (Fits shape) (Some r) = refl
+-- a name costs nothing: its calm tree is itself
+named_free : (leaf : ℕ) (at : Place) (name : List ℕ) (n : ℕ) (m : Option (Place × List ℕ)) (t : StaticType) (o : Option Relation) (c : Came Relation) →
+    cost_of_value leaf (unless_missing m (unless_misfit t (at_cost_of (with_turns (named at name o) n) c))) ≡ 0
+named_free leaf at name n (Some x) t o c = refl
+named_free leaf at name n None (Misfit fault) o c = refl
+named_free leaf at name n None (Fits shape) None c = refl
+named_free leaf at name n None (Fits shape) (Some r) c = refl
+
+name_free : (leaf : ℕ) (script : Script) (s : State) (at : Place) (name : List ℕ) (turns : ℕ) →
+    cost_of_value leaf (evaluated script s (Ref at name) turns) ≡ 0
+unfolding evaluated calmed
+name_free leaf script s at name turns =
+    named_free leaf at name turns (missing s (Ref at name)) (static_type script (types_in s) (Ref at name)) (s name)
+    (meaning script s (Ref at name) turns)
+
+plain_value : (leaf : ℕ) (script : Script) (e : Expr) (s : State) (turns : ℕ) → (IsCompound e → ⊥) →
+    cost_of_value leaf (evaluated script s e turns) ≡ 0
+plain_value leaf script (Ref at name) s turns h = name_free leaf script s at name turns
+plain_value leaf script (Call' at name sh args) s turns h = absurd (h tt)
+plain_value leaf script (Base' at base sh args) s turns h = absurd (h tt)
+plain_value leaf script (Inject at base domain) s turns h = absurd (h tt)
+plain_value leaf script (Pair' at p left q right) s turns h = absurd (h tt)
+plain_value leaf script (Minus' at p of) s turns h = absurd (h tt)
+plain_value leaf script (Turned' at p of times) s turns h = absurd (h tt)
+plain_value leaf script (Chain' p first sh rest) s turns h = absurd (h tt)
 
 module _ (leaf : ℕ) (input : Input) (script : Script) where
   early_of : (then : Relation → Due) (e : Expr) (s : Workspace) → ((r : Relation) → IsEarly (then r) → ⊥) → IsEarly (due_of input script then e s) →
@@ -103,20 +125,12 @@ module _ (leaf : ℕ) (input : Input) (script : Script) where
   early_free (COMMAND (At at name e)) s snap k = early_snap at name e snap k
   early_free (COMMAND (Load name file)) s snap k = no_value _ _ k
   early_free (COMMAND (Save e file)) s snap k = early_of saved e s not_saved k
+  early_free (COMMAND (Explain e)) s snap k = refl
   early_free (Function at name params body) s snap k = refl
   early_free (Program at name params decls body result) s snap k = refl
 
   plain_of : (e : Expr) (s : Workspace) → (IsCompound e → ⊥) → cost_of leaf input script e s ≡ 0
-  unfolding evaluated
-  plain_of (Ref at name) s h =
-      named_free leaf at name input.turns (missing (lookup s) (Ref at name)) (static_type script (types_in (lookup s)) (Ref at name)) (lookup s name)
-  plain_of (Call' at name sh args) s h = absurd (h tt)
-  plain_of (Base' at base sh args) s h = absurd (h tt)
-  plain_of (Inject at base domain) s h = absurd (h tt)
-  plain_of (Pair' at p left q right) s h = absurd (h tt)
-  plain_of (Minus' at p of) s h = absurd (h tt)
-  plain_of (Turned' at p of times) s h = absurd (h tt)
-  plain_of (Chain' p first sh rest) s h = absurd (h tt)
+  plain_of e s h = plain_value leaf script e (lookup s) input.turns h
 
   plain_snap : (e : Expr) (o : Option Workspace) → (IsCompound e → ⊥) → cost_on_snapshot leaf input script e o ≡ 0
   plain_snap e None h = refl
@@ -135,6 +149,7 @@ module _ (leaf : ℕ) (input : Input) (script : Script) where
   plain_free (At at name e) s snap d h = plain_snap e snap h
   plain_free (Load name file) s snap d h = absurd (h tt)
   plain_free (Save e file) s snap d h = plain_of e s h
+  plain_free (Explain e) s snap d h = refl
 
 pub free : FreeCommands
 free = record { early = early_free; plain = plain_free }

@@ -16,6 +16,7 @@ use Rattle.lang_model.specs.declared.syntax.Command.TheVariants.{
   At,
   Load,
   Save,
+  Explain,
 }
 use Rattle.lang_model.specs.declared.syntax.Item.{Item}
 use Rattle.lang_model.specs.declared.syntax.Item.TheVariants.{Function, Program, Command as COMMAND}
@@ -89,6 +90,7 @@ reads_lead (COMMAND (Snap name)) = (tt, (refl, tt))
 reads_lead (COMMAND (At at name e)) = (tt, tt)
 reads_lead (COMMAND (Load name file)) = (tt, tt)
 reads_lead (COMMAND (Save e file)) = (tt, (refl, tt))
+reads_lead (COMMAND (Explain e)) = (tt, (refl, tt))
 reads_lead (Function at name params body) = (tt, tt)
 reads_lead (Program at name params decls body result) = (tt, tt)
 
@@ -104,6 +106,7 @@ done_leads (COMMAND (Snap name)) d = tt
 done_leads (COMMAND (At at name e)) d = tt
 done_leads (COMMAND (Load name file)) d = quiet_leads (giving (gives (COMMAND (Load name file)) d)) (giving_quiet (gives (COMMAND (Load name file)) d))
 done_leads (COMMAND (Save e file)) d = tt
+done_leads (COMMAND (Explain e)) d = tt
 done_leads (Function at name params body) d = tt
 done_leads (Program at name params decls body result) d = tt
 

@@ -16,6 +16,7 @@ use Rattle.lang_model.specs.declared.syntax.Command.TheVariants.{
   At,
   Load,
   Save,
+  Explain,
 }
 use Rattle.lang_model.specs.declared.syntax.Item.{Item}
 use Rattle.lang_model.specs.declared.syntax.Item.TheVariants.{Function, Program, Command as COMMAND}
@@ -28,7 +29,8 @@ use Rattle.rel_model.specs.Relation.{Relation, relation_of, size_limit}
 use Rattle.lang_model.specs.State.{lists}
 use Rattle.lang_model.specs.Missing.{first_of_both}
 use Rattle.lang_model.specs.Outcomes.{Refusal, Ill, Size, Turns, Answer, Got, Not}
-use Rattle.lang_model.specs.Eval.{Evaluated, Ahead, Comes, evaluated}
+use Rattle.lang_model.specs.Eval.{Evaluated, Ahead, Comes, evaluated, early_fault}
+use Rattle.lang_model.specs.declared.faults.TypeFault.{TypeFault}
 use Rattle.run_model.specs.Names.{lookup}
 use Rattle.run_model.specs.Inputs.{Input, file_named}
 use Rattle.run_model.specs.Files.{k2_fault, bits_count}
@@ -38,6 +40,7 @@ use Rattle.run_model.specs.Due.{
   Late,
   Nothing,
   Value,
+  Explained,
   Refused,
   within,
   printed,
@@ -56,6 +59,7 @@ use Rattle.run_model.specs.Due.{
   due_of_file,
   due_of_drop,
   due_on_snapshot,
+  due_of_steps,
   due_of_command,
   due,
 }
@@ -66,6 +70,7 @@ use Rattle.run_model.specs.Steps.{Fails, ending}
 abbrev pub FailsWell : Due → Type 0
 FailsWell Nothing = Unit {0}
 FailsWell (Value r) = Unit {0}
+FailsWell (Explained steps) = Unit {0}
 FailsWell (Refused when outcome) = ending outcome ≡ Fails
 
 abbrev OverFails : Option Outcome → Type 0
@@ -148,6 +153,10 @@ file_fails : (file : List ℕ) (o : Option (List ℕ)) → FailsWell (due_of_fil
 file_fails file None = refl
 file_fails file (Some bytes) = bytes_fail file bytes (k2_fault bytes)
 
+steps_fail : (e : Expr) (o : Option TypeFault) → FailsWell (due_of_steps e o)
+steps_fail e (Some fault) = refl
+steps_fail e None = tt
+
 drop_fails : (at : Place) (name : List ℕ) (o : Option Relation) → FailsWell (due_of_drop at name o)
 drop_fails at name None = refl
 drop_fails at name (Some r) = tt
@@ -177,5 +186,6 @@ module _ (input : Input) (script : Script) where
   due_fails_well (COMMAND (At at name e)) s snap = snap_fails at name e snap
   due_fails_well (COMMAND (Load name file)) s snap = file_fails file (file_named input.files file)
   due_fails_well (COMMAND (Save e file)) s snap = of_fails saved e s saved_fails
+  due_fails_well (COMMAND (Explain e)) s snap = steps_fail e (early_fault script (lookup s) e)
   due_fails_well (Function at name params body) s snap = tt
   due_fails_well (Program at name params decls body result) s snap = tt

@@ -15,6 +15,7 @@ use Rattle.lang_model.specs.declared.syntax.Command.TheVariants.{
   At,
   Load,
   Save,
+  Explain,
 }
 use Rattle.lang_model.specs.declared.syntax.Item.{Item}
 use Rattle.lang_model.specs.declared.syntax.Item.TheVariants.{Function, Program, Command as COMMAND}
@@ -26,7 +27,7 @@ use Rattle.run_model.specs.declared.outcome.Outcome.{Outcome}
 use Rattle.run_model.specs.declared.outcome.Outcome.TheVariants.{Parse, Ill}
 use Rattle.run_model.specs.Names.{no_names}
 use Rattle.run_model.specs.Inputs.{Input, Reading, NoScript, Flawed, Runs, script_of, script_at, item_at}
-use Rattle.run_model.specs.Due.{Workspace, Due, Nothing, Value, Refused, outcome_due, due, gives, given}
+use Rattle.run_model.specs.Due.{Workspace, Due, Nothing, Value, Explained, Refused, outcome_due, due, gives, given}
 use Rattle.run_model.specs.Steps.{Snapshots, snaps_behind, snap_for, steps}
 use Rattle.run_model.specs.Events.{Deed, Reads, Gives, Removes, deed_of, Entry, entry_of, entries, giving, first_of, reads_of, AreEvents}
 use Rattle.run_model.specs.Outcomes.{AreOutcomes}
@@ -51,6 +52,7 @@ GivesLast (d ∷ ds) = ((ds ≡ []) ⊎ (gives_name d ≡ false)) × GivesLast d
 given_last : (name : List ℕ) (d : Due) → GivesLast (giving (given name d))
 given_last name Nothing = tt
 given_last name (Value r) = (inl refl, tt)
+given_last name (Explained steps) = tt
 given_last name (Refused when outcome) = tt
 
 plain_last : (d : Due) (x : Deed) → GivesLast (x ∷ [])
@@ -61,12 +63,14 @@ module _ (item : Item) where
   quiet_last : first_of item ≡ [] → reads_of item ≡ [] → ((d : Due) → GivesLast (giving (gives item d))) → (d : Due) → GivesLast (deeds_due item d)
   quiet_last f r g Nothing = subst (λ l. GivesLast (l ++ giving (gives item Nothing))) (sym f) (g Nothing)
   quiet_last f r g (Value v) = subst (λ l. GivesLast (l ++ giving (gives item (Value v)))) (sym f) (g (Value v))
+  quiet_last f r g (Explained steps) = subst (λ l. GivesLast (l ++ giving (gives item (Explained steps)))) (sym f) (g (Explained steps))
   quiet_last f r g (Refused when outcome) = subst GivesLast (sym r) tt
 
   first_last : (x : Deed) → gives_name x ≡ false → first_of item ≡ x ∷ [] → reads_of item ≡ Reads ∷ [] →
       ((d : Due) → GivesLast (giving (gives item d))) → (d : Due) → GivesLast (deeds_due item d)
   first_last x n f r g Nothing = subst (λ l. GivesLast (l ++ giving (gives item Nothing))) (sym f) (inr n, g Nothing)
   first_last x n f r g (Value v) = subst (λ l. GivesLast (l ++ giving (gives item (Value v)))) (sym f) (inr n, g (Value v))
+  first_last x n f r g (Explained steps) = subst (λ l. GivesLast (l ++ giving (gives item (Explained steps)))) (sym f) (inr n, g (Explained steps))
   first_last x n f r g (Refused when outcome) = subst GivesLast (sym r) (inl refl, tt)
 
 deeds_last : (item : Item) (d : Due) → GivesLast (deeds_due item d)
@@ -82,6 +86,7 @@ deeds_last (COMMAND (Snap name)) d = first_last (COMMAND (Snap name)) Reads refl
 deeds_last (COMMAND (At at name e)) d = quiet_last (COMMAND (At at name e)) refl refl (λ x. tt) d
 deeds_last (COMMAND (Load name file)) d = quiet_last (COMMAND (Load name file)) refl refl (given_last name) d
 deeds_last (COMMAND (Save e file)) d = first_last (COMMAND (Save e file)) Reads refl refl refl (λ x. tt) d
+deeds_last (COMMAND (Explain e)) d = first_last (COMMAND (Explain e)) Reads refl refl refl (λ x. tt) d
 deeds_last (Function at name params body) d = quiet_last (Function at name params body) refl refl (λ x. tt) d
 deeds_last (Program at name params decls body result) d =
     quiet_last (Program at name params decls body result) refl refl (λ x. tt) d

@@ -20,6 +20,7 @@ use Rattle.lang_model.specs.declared.syntax.Command.TheVariants.{
   At,
   Load,
   Save,
+  Explain,
 }
 use Rattle.lang_model.specs.declared.syntax.Item.{Item}
 use Rattle.lang_model.specs.declared.syntax.Item.TheVariants.{Function, Program, Command as COMMAND}
@@ -30,7 +31,7 @@ use Rattle.run_model.specs.declared.event.Act.TheVariants.{Read, Assign, Remove}
 use Rattle.rel_model.specs.Relation.{Relation}
 use Rattle.run_model.specs.Names.{no_names}
 use Rattle.run_model.specs.Inputs.{Input, script_at, item_at}
-use Rattle.run_model.specs.Due.{Workspace, Due, Nothing, Value, Refused, Gifts, given, gives, due, due_of_command}
+use Rattle.run_model.specs.Due.{Workspace, Due, Nothing, Value, Explained, Refused, Gifts, given, gives, due, due_of_command}
 use Rattle.run_model.specs.Steps.{ending, steps_from, steps}
 use Rattle.run_model.specs.Events.{Reads, deed_of, Entry, entry_of, entries, first_of, done_deeds, HasDeeds, AreEvents}
 use Rattle.run_model.specs.States.{Replay, start, is_of, events_of, events_before, gifts_of_item, gifts_of_script, gifts_due}
@@ -121,6 +122,7 @@ values_length means (r ∷ rs) (g ∷ gs) h = ap suc (values_length means rs gs 
 given_one : (name : List ℕ) (d : Due) → length (given name d) ≤ 1
 given_one name Nothing = omega arith
 given_one name (Value r) = omega arith
+given_one name (Explained steps) = omega arith
 given_one name (Refused when outcome) = omega arith
 
 gives_one : (item : Item) (d : Due) → length (gives item d) ≤ 1
@@ -135,6 +137,7 @@ gives_one (COMMAND (Snap name)) d = omega arith
 gives_one (COMMAND (At at name e)) d = omega arith
 gives_one (COMMAND (Load name file)) d = given_one name d
 gives_one (COMMAND (Save e file)) d = omega arith
+gives_one (COMMAND (Explain e)) d = omega arith
 gives_one (Function at name params body) d = omega arith
 gives_one (Program at name params decls body result) d = omega arith
 
@@ -161,6 +164,7 @@ module _ (input : Input) (script : Script) where
   same_gifts (COMMAND (At at name e)) x y snap h = refl
   same_gifts (COMMAND (Load name file)) x y snap h = refl
   same_gifts (COMMAND (Save e file)) x y snap h = refl
+  same_gifts (COMMAND (Explain e)) x y snap h = refl
   same_gifts (Function at name params body) x y snap h = refl
   same_gifts (Program at name params decls body result) x y snap h = refl
 

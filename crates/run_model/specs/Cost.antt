@@ -17,6 +17,7 @@ use Rattle.lang_model.specs.declared.syntax.Command.TheVariants.{
   At,
   Load,
   Save,
+  Explain,
 }
 use Rattle.lang_model.specs.declared.syntax.Item.{Item}
 use Rattle.lang_model.specs.declared.syntax.Item.TheVariants.{Function, Program, Command as COMMAND}
@@ -29,7 +30,7 @@ use Rattle.rel_model.specs.Worker.{listed_room}
 use Rattle.lang_model.specs.Eval.{evaluated, cost_of_value}
 use Rattle.run_model.specs.Names.{lookup}
 use Rattle.run_model.specs.Inputs.{Input, Reading, NoScript, Flawed, Runs}
-use Rattle.run_model.specs.Due.{Workspace, Due, Nothing, Value, Refused}
+use Rattle.run_model.specs.Due.{Workspace, Due, Nothing, Value, Explained, Refused}
 use Rattle.run_model.specs.Steps.{Step, due_at}
 use Rattle.run_model.specs.Legal.{steps_in}
 
@@ -58,6 +59,7 @@ cost_on_snapshot leaf input script e (Some snap) = cost_of leaf input script e s
 abbrev pub where_value : Due → (Relation → ℕ) → ℕ
 where_value Nothing cost = 0
 where_value (Value r) cost = cost r
+where_value (Explained steps) cost = 0
 where_value (Refused when outcome) cost = 0
 
 -- a relation of so many pairs, repeats counted
@@ -79,6 +81,7 @@ cost_of_command leaf input script (At at name e) state snap d = cost_on_snapshot
 cost_of_command leaf input script (Load name file) state snap d = where_value d
     (λ r. cost_of_pairs leaf (length r.pairs) r)
 cost_of_command leaf input script (Save e file) state snap d = cost_of leaf input script e state
+cost_of_command leaf input script (Explain e) state snap d = 0
 
 -- an item: a definition costs nothing
 abbrev pub cost_of_item : ℕ → Input → Script → Item → Workspace → Option Workspace → Due → ℕ

@@ -17,6 +17,7 @@ use Rattle.lang_model.specs.declared.syntax.Command.TheVariants.{
   At,
   Load,
   Save,
+  Explain,
 }
 use Rattle.lang_model.specs.declared.syntax.Item.{Item}
 use Rattle.lang_model.specs.declared.syntax.Item.TheVariants.{Function, Program, Command as COMMAND}
@@ -39,7 +40,10 @@ use Rattle.rel_model.specs.Relation.{Relation, relation_of, size_limit}
 use Rattle.lang_model.specs.State.{lists}
 use Rattle.lang_model.specs.Missing.{first_of_both}
 use Rattle.lang_model.specs.Outcomes.{Refusal, Ill, Size, Turns, Answer, Got, Not}
-use Rattle.lang_model.specs.Eval.{Evaluated, Ahead, Comes, evaluated}
+use Rattle.lang_model.specs.Eval.{Evaluated, Ahead, Comes, evaluated, early_fault}
+use Rattle.lang_model.specs.Trees.{tree_of}
+use Rattle.lang_model.specs.Rewriting.{Step as Rewritten, steps_of}
+use Rattle.lang_model.specs.declared.faults.TypeFault.{TypeFault}
 use Rattle.run_model.specs.Names.{Names, lookup}
 use Rattle.run_model.specs.Inputs.{Input, file_named}
 use Rattle.run_model.specs.Limits.{print_limit, list_limit, save_limit}
@@ -61,6 +65,8 @@ pub data Due : Type 0 where
   Nothing : Due
   -- that it is done with this value, which it shows, saves, or gives its name
   Value : Relation → Due
+  -- that it is done and tells these steps of rewriting
+  Explained : List Rewritten → Due
   -- that it is refused
   Refused : When → Outcome → Due
 
@@ -68,6 +74,7 @@ pub data Due : Type 0 where
 abbrev pub outcome_due : Due → Outcome
 outcome_due Nothing = Done
 outcome_due (Value r) = Done
+outcome_due (Explained steps) = Done
 outcome_due (Refused when outcome) = outcome
 
 -- ---- limits
@@ -157,6 +164,12 @@ abbrev pub due_on_snapshot : Input → Script → Place → List ℕ → Expr �
 due_on_snapshot input script at name e None = Refused Early (ILL (Unknown at name))
 due_on_snapshot input script at name e (Some snap) = due_of input script printed e snap
 
+-- ---- rewriting
+-- an expression that is refused ahead of all computing is refused, and else its steps are due
+abbrev pub due_of_steps : Expr → Option TypeFault → Due
+due_of_steps e (Some fault) = Refused Early (ILL fault)
+due_of_steps e None = Explained (steps_of (tree_of e))
+
 -- ---- items
 -- what is due of a command on a workspace, with the snapshot that it names
 unfoldable pub due_of_command : Input → Script → Command → Workspace → Option Workspace → Due
@@ -172,6 +185,7 @@ due_of_command input script (Snap name) state snap = Nothing
 due_of_command input script (At at name e) state snap = due_on_snapshot input script at name e snap
 due_of_command input script (Load name file) state snap = due_of_file file (file_named input.files file)
 due_of_command input script (Save e file) state snap = due_of input script saved e state
+due_of_command input script (Explain e) state snap = due_of_steps e (early_fault script (lookup state) e)
 
 -- what is due of an item: of a definition, that it is done
 unfoldable pub due : Input → Script → Item → Workspace → Option Workspace → Due
@@ -188,6 +202,7 @@ Gifts = List (List ℕ × Relation)
 abbrev pub given : List ℕ → Due → Gifts
 given name Nothing = []
 given name (Value r) = (name, r) ∷ []
+given name (Explained steps) = []
 given name (Refused when outcome) = []
 
 -- the names that a command gives values, in order, each with its value
@@ -203,6 +218,7 @@ gives_of_command (Snap name) d = []
 gives_of_command (At at name e) d = []
 gives_of_command (Load name file) d = given name d
 gives_of_command (Save e file) d = []
+gives_of_command (Explain e) d = []
 
 -- those of an item
 abbrev pub gives : Item → Due → Gifts

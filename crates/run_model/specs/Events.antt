@@ -13,6 +13,7 @@ use Rattle.lang_model.specs.declared.syntax.Command.TheVariants.{
   At,
   Load,
   Save,
+  Explain,
 }
 use Rattle.lang_model.specs.declared.syntax.Item.{Item}
 use Rattle.lang_model.specs.declared.syntax.Item.TheVariants.{Function, Program, Command as COMMAND}
@@ -71,6 +72,7 @@ reads_of_command (Snap name) = Reads ∷ []
 reads_of_command (At at name e) = []
 reads_of_command (Load name file) = []
 reads_of_command (Save e file) = Reads ∷ []
+reads_of_command (Explain e) = Reads ∷ []
 
 -- what a command does that is done, before it gives any name a value
 abbrev pub first_of_command : Command → List Deed
@@ -85,6 +87,7 @@ first_of_command (Snap name) = Reads ∷ []
 first_of_command (At at name e) = []
 first_of_command (Load name file) = []
 first_of_command (Save e file) = Reads ∷ []
+first_of_command (Explain e) = Reads ∷ []
 
 -- the reads of an item that is not done: a definition has none
 abbrev pub reads_of : Item → List Deed

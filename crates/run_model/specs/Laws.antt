@@ -13,6 +13,7 @@ use Rattle.lang_model.specs.declared.syntax.Command.TheVariants.{
   At,
   Load,
   Save,
+  Explain,
 }
 use Rattle.lang_model.specs.declared.syntax.Item.{Item}
 use Rattle.lang_model.specs.declared.syntax.Item.TheVariants.{Function, Program, Command as COMMAND}
@@ -20,7 +21,7 @@ use Rattle.lang_model.specs.declared.syntax.Script.{Script}
 use Rattle.lang_model.specs.Eval.{names_in, AgreeOn}
 use Rattle.run_model.specs.Names.{lookup}
 use Rattle.run_model.specs.Inputs.{Input}
-use Rattle.run_model.specs.Due.{Early, Late, Workspace, Due, Nothing, Value, Refused, due}
+use Rattle.run_model.specs.Due.{Early, Late, Workspace, Due, Nothing, Value, Explained, Refused, due}
 use Rattle.run_model.specs.Outcomes.{WantsNodes}
 use Rattle.run_model.specs.Cost.{cost_of_command, cost_of_item}
 
@@ -37,6 +38,7 @@ names_of_command (Snap name) = []
 names_of_command (At at name e) = []
 names_of_command (Load name file) = []
 names_of_command (Save e file) = names_in e
+names_of_command (Explain e) = names_in e
 
 -- and those that it takes from the snapshot that it asks
 abbrev pub names_of_snapshot : Command → List (List ℕ)
@@ -51,6 +53,7 @@ names_of_snapshot (Snap name) = []
 names_of_snapshot (At at name e) = names_in e
 names_of_snapshot (Load name file) = []
 names_of_snapshot (Save e file) = []
+names_of_snapshot (Explain e) = []
 
 -- the names that an item takes from the workspace: a definition takes none
 abbrev pub names_taken : Item → List (List ℕ)
@@ -85,6 +88,7 @@ DueByNames =
 abbrev pub IsEarly : Due → Type 0
 IsEarly Nothing = ⊥
 IsEarly (Value r) = ⊥
+IsEarly (Explained steps) = ⊥
 IsEarly (Refused Early outcome) = Unit {0}
 IsEarly (Refused Late outcome) = ⊥
 

@@ -15,6 +15,7 @@ use Rattle.lang_model.specs.declared.syntax.Command.TheVariants.{
   At,
   Load,
   Save,
+  Explain,
 }
 use Rattle.lang_model.specs.declared.syntax.Item.{Item}
 use Rattle.lang_model.specs.declared.syntax.Item.TheVariants.{Function, Program, Command as COMMAND}
@@ -22,7 +23,7 @@ use Rattle.lang_model.specs.declared.syntax.Script.{Script}
 use Rattle.run_model.specs.declared.outcome.Outcome.{Outcome}
 use Rattle.run_model.specs.declared.outcome.Outcome.TheVariants.{Nodes, NoMemory}
 use Rattle.run_model.specs.Inputs.{Input}
-use Rattle.run_model.specs.Due.{When, Early, Late, Due, Nothing, Value, Refused, outcome_due}
+use Rattle.run_model.specs.Due.{When, Early, Late, Due, Nothing, Value, Explained, Refused, outcome_due}
 use Rattle.run_model.specs.Steps.{Step, due_at}
 
 -- a command that makes a relation or applies an operator, so that a full table may refuse it
@@ -38,6 +39,7 @@ WantsNodes (Snap name) = ⊥
 WantsNodes (At at name e) = IsCompound e
 WantsNodes (Load name file) = Unit {0}
 WantsNodes (Save e file) = IsCompound e
+WantsNodes (Explain e) = ⊥
 
 -- a refusal that is early comes before any node is asked for
 abbrev pub IsLate : When → Type 0
@@ -48,6 +50,7 @@ IsLate Late = Unit {0}
 abbrev pub IsNotEarly : Due → Type 0
 IsNotEarly Nothing = Unit {0}
 IsNotEarly (Value r) = Unit {0}
+IsNotEarly (Explained steps) = Unit {0}
 IsNotEarly (Refused when outcome) = IsLate when
 
 -- the table may have been full for a command that wants nodes, where what is due is not early

@@ -15,6 +15,7 @@ use Rattle.lang_model.specs.declared.syntax.Command.TheVariants.{
   At,
   Load,
   Save,
+  Explain,
 }
 use Rattle.lang_model.specs.declared.syntax.Item.{Item}
 use Rattle.lang_model.specs.declared.syntax.Item.TheVariants.{Function, Program, Command as COMMAND}
@@ -27,7 +28,9 @@ use Rattle.rel_model.specs.Relation.{Relation}
 use Rattle.run_model.specs.Texts.{prefix, matrix, refusal_text}
 use Rattle.run_model.specs.Inputs.{Input, Reading, NoScript, Flawed, Runs}
 use Rattle.run_model.specs.Files.{k2}
-use Rattle.run_model.specs.Due.{Due, Nothing, Value, Refused}
+use Rattle.run_model.specs.Due.{Due, Nothing, Value, Explained, Refused}
+use Rattle.lang_model.specs.Printing.{printed_tree}
+use Rattle.lang_model.specs.Rewriting.{Step as Rewritten}
 use Rattle.run_model.specs.Steps.{Ending, Succeeds, Fails, LacksMemory, ending, Step, due_at}
 use Rattle.run_model.specs.Legal.{steps_in}
 
@@ -71,6 +74,7 @@ shown_by numbers (Snap name) r = []
 shown_by numbers (At at name e) r = numbers ++ matrix r
 shown_by numbers (Load name file) r = []
 shown_by numbers (Save e file) r = []
+shown_by numbers (Explain e) r = []
 
 -- the same of items: a definition shows nothing
 abbrev pub shown : List ℕ → Item → Relation → List ℕ
@@ -78,10 +82,20 @@ shown numbers (COMMAND command) r = shown_by numbers command r
 shown numbers (Function at name params body) r = []
 shown numbers (Program at name params decls body result) r = []
 
+-- `RULE: BEFORE -> AFTER`
+abbrev pub step_text : Rewritten → List ℕ
+step_text step =
+    decimal step.rule ++ codes ": " ++ printed_tree step.before ++ codes " -> " ++ printed_tree step.after ++ line_feed
+
+-- `K steps`, and a line for each step of rewriting
+unfoldable pub explanation : List Rewritten → List ℕ
+explanation steps = decimal (length steps) ++ codes " steps" ++ line_feed ++ flat_map step_text steps
+
 -- the reply to an item that is done: its value, where one is due
 abbrev pub done_text : List ℕ → Item → Due → List ℕ
 done_text numbers item Nothing = []
 done_text numbers item (Value r) = shown numbers item r
+done_text numbers item (Explained steps) = numbers ++ explanation steps
 done_text numbers item (Refused when outcome) = []
 
 -- the reply to an item that ended so
@@ -152,6 +166,7 @@ saved_by (Snap name) r = []
 saved_by (At at name e) r = []
 saved_by (Load name file) r = []
 saved_by (Save e file) r = record { name = file; bytes = k2 r } ∷ []
+saved_by (Explain e) r = []
 
 -- the same of items
 abbrev pub saved_of : Item → Relation → List SavedFile
@@ -163,6 +178,7 @@ saved_of (Program at name params decls body result) r = []
 abbrev pub done_save : Item → Due → List SavedFile
 done_save item Nothing = []
 done_save item (Value r) = saved_of item r
+done_save item (Explained steps) = []
 done_save item (Refused when outcome) = []
 
 -- the file of an item that ended so

@@ -14,6 +14,7 @@ use Rattle.lang_model.specs.declared.syntax.Command.TheVariants.{
   At,
   Load,
   Save,
+  Explain,
 }
 use Rattle.lang_model.specs.declared.syntax.Item.{Item}
 use Rattle.lang_model.specs.declared.syntax.Item.TheVariants.{Function, Program, Command as COMMAND}
@@ -23,7 +24,7 @@ use Rattle.run_model.specs.declared.outcome.Outcome.{Outcome}
 use Rattle.run_model.specs.declared.outcome.Outcome.TheVariants.{Parse, Ill, Nodes, NoMemory}
 use Rattle.run_model.specs.Names.{no_names, set, remove}
 use Rattle.run_model.specs.Inputs.{Input, Reading, NoScript, Flawed, Runs}
-use Rattle.run_model.specs.Due.{Workspace, Due, Nothing, Value, Refused, Gifts, outcome_due, due, gives}
+use Rattle.run_model.specs.Due.{Workspace, Due, Nothing, Value, Explained, Refused, Gifts, outcome_due, due, gives}
 use Rattle.run_model.specs.Steps.{Snapshots, snaps_behind, snap_for}
 use Rattle.run_model.specs.Events.{Deed, Entry, entry_of, entries, done_deeds, reads_of}
 use Rattle.run_model.specs.Legal.{IsLegal}
@@ -52,6 +53,7 @@ without_dropped (Snap name) state = state
 without_dropped (At at name e) state = state
 without_dropped (Load name file) state = state
 without_dropped (Save e file) state = state
+without_dropped (Explain e) state = state
 
 -- the same of items
 abbrev pub without : Item → Workspace → Workspace
@@ -63,12 +65,14 @@ without (Program at name params decls body result) state = state
 abbrev pub state_behind : Item → Due → Workspace → Workspace
 state_behind item Nothing state = set_all (gives item Nothing) (without item state)
 state_behind item (Value r) state = set_all (gives item (Value r)) (without item state)
+state_behind item (Explained steps) state = set_all (gives item (Explained steps)) (without item state)
 state_behind item (Refused when outcome) state = state
 
 -- what an item does of which this is due
 abbrev pub deeds_due : Item → Due → List Deed
 deeds_due item Nothing = done_deeds item Nothing
 deeds_due item (Value r) = done_deeds item (Value r)
+deeds_due item (Explained steps) = done_deeds item (Explained steps)
 deeds_due item (Refused when outcome) = reads_of item
 
 -- ---- all items

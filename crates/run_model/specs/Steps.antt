@@ -15,6 +15,7 @@ use Rattle.lang_model.specs.declared.syntax.Command.TheVariants.{
   At,
   Load,
   Save,
+  Explain,
 }
 use Rattle.lang_model.specs.declared.syntax.Item.{Item}
 use Rattle.lang_model.specs.declared.syntax.Item.TheVariants.{Function, Program, Command as COMMAND}
@@ -76,6 +77,7 @@ snapped_by (Snap name) = Some name
 snapped_by (At at name e) = None
 snapped_by (Load name file) = None
 snapped_by (Save e file) = None
+snapped_by (Explain e) = None
 
 -- and of the snapshot that it asks
 abbrev pub asked_by : Command → Option (List ℕ)
@@ -90,6 +92,7 @@ asked_by (Snap name) = None
 asked_by (At at name e) = Some name
 asked_by (Load name file) = None
 asked_by (Save e file) = None
+asked_by (Explain e) = None
 
 -- the name of the snapshot that an item keeps
 abbrev pub snapped : Item → Option (List ℕ)
