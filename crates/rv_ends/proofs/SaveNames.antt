@@ -10,7 +10,7 @@ use Rattle.lang_model.specs.declared.syntax.Row.{Row}
 use Rattle.lang_model.specs.declared.syntax.Decl.{Decl}
 use Rattle.lang_model.specs.declared.syntax.Decl.TheVariants.{Variable, Domain}
 use Rattle.lang_model.specs.declared.syntax.Command.{Command}
-use Rattle.lang_model.specs.declared.syntax.Command.TheVariants.{Relation as REL, Let, Print, List as LIST, Count, Typed, Remove, Snap, At, Load, Save}
+use Rattle.lang_model.specs.declared.syntax.Command.TheVariants.{Relation as REL, Let, Print, List as LIST, Count, Typed, Remove, Snap, At, Load, Save, Explain}
 use Rattle.lang_model.specs.declared.syntax.Item.{Item}
 use Rattle.lang_model.specs.declared.syntax.Item.TheVariants.{Function, Program, Command as COMMAND}
 use Rattle.lang_model.specs.declared.syntax.Script.{Script}
@@ -21,7 +21,7 @@ use Rattle.rel_model.specs.Relation.{Relation}
 use Rattle.run_model.specs.declared.event.Event.{Event}
 use Rattle.run_model.specs.declared.outcome.Outcome.{Outcome}
 use Rattle.run_model.specs.Inputs.{Input, Reading, NoScript, Flawed, Runs, AreReadings}
-use Rattle.run_model.specs.Due.{Due, Nothing, Value, Refused, Workspace}
+use Rattle.run_model.specs.Due.{Due, Nothing, Value, Explained, Refused, Workspace}
 use Rattle.run_model.specs.Steps.{Ending, Succeeds, Fails, LacksMemory, ending, Snapshots, steps, steps_from, snaps_behind, due_at}
 use Rattle.run_model.specs.Names.{no_names}
 use Rattle.run_model.specs.States.{state_for}
@@ -87,6 +87,7 @@ one_command (Snap name) tokens rest s h = behind s.2 (behind s.1 h)
 one_command (At at name value) tokens rest s h = behind_expr s.4.2 (behind s.4.1 (behind_at s.3 (behind s.2 h)))
 one_command (Load name file) tokens rest s h = behind s.2 (behind s.1.2 (behind s.1.1 h))
 one_command (Save value file) tokens rest s h = behind s.2 (behind_expr s.1.2 (behind s.1.1 h))
+one_command (Explain value) tokens rest s h = behind_expr s.2 (behind s.1 h)
 
 one_item : (item : Item) (tokens rest : List Token) → SpellsItem item tokens rest → AreTexts tokens → AreTexts rest
 one_item (Function at name ps body) tokens rest s h = behind_expr s.4 (behind s.3 (head at name ps.items _ _ s.2 h))
@@ -115,6 +116,7 @@ command_saves (Snap name) tokens rest s h r = tt
 command_saves (At at name value) tokens rest s h r = tt
 command_saves (Load name file) tokens rest s h r = tt
 command_saves (Save value file) tokens rest s h r = (text_taken s.2 (behind_expr s.1.2 (behind s.1.1 h)), tt)
+command_saves (Explain value) tokens rest s h r = tt
 
 item_saves : (item : Item) (tokens rest : List Token) → SpellsItem item tokens rest → AreTexts tokens → SavesNamed item
 item_saves (Function at name ps body) tokens rest s h r = tt
@@ -133,6 +135,7 @@ named-append (x ∷ xs) ys h k = (h.0, named-append xs ys h.1 k)
 done_named : (item : Item) (d : Due) → SavesNamed item → AreNamed (done_save item d)
 done_named item Nothing h = tt
 done_named item (Value r) h = h r
+done_named item (Explained steps) h = tt
 done_named item (Refused when outcome) h = tt
 
 save_named : (e : Ending) (item : Item) (d : Due) → SavesNamed item → AreNamed (save_at e item d)

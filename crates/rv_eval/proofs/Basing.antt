@@ -3,7 +3,8 @@ use Rattle.std.proofs.Common.{◌≡◌, ◌≢◌, ◌≤◌, ◌+◌, ◌∙�
 use Rattle.rel_model.specs.declared.Rel.{Rel}
 use Rattle.lang_model.specs.declared.syntax.Place.{Place}
 use Rattle.lang_model.specs.declared.syntax.Base.{Base}
-use Rattle.lang_model.specs.declared.syntax.Base.TheVariants.{L, O, I, Ln1, On1, L1n, O1n, Dom, Ran, Trans, Refl, Epsi, Point, Atom, Init, Next, Inj, Empty, Unival, Syq, Eq, Incl}
+use Rattle.lang_model.specs.declared.syntax.Base.TheVariants.{L, O, I, Ln1, On1, L1n, O1n, Dom, Ran, Trans, Refl, Epsi, Point, Atom, Init, Next, Inj, Empty, Unival}
+use Rattle.lang_model.specs.declared.syntax.Base.TheVariants.{Less, Hasse, Quot, Syq, Eq, Incl, Ubd, Lbd, Least, Greatest, Sup, Inf}
 use Rattle.lang_model.specs.declared.faults.TypeFault.TheVariants.{Mismatch}
 use Rattle.rel_model.specs.Relation.{Relation}
 use Rattle.rel_model.specs.Operators.{empty}
@@ -21,16 +22,19 @@ use Rattle.rv_eval.proofs.Going.{goes_last}
 use Rattle.rv_eval.proofs.Operating.{same_type}
 
 -- ---- the last case of each kind
-pub last_square : (base : Base) → demanded base ≡ Square → base ≢ I → base ≢ Trans → base ≡ Refl
-last_square I d a b = absurd (a refl)
-last_square Trans d a b = absurd (b refl)
-last_square Refl d a b = refl
-last_square Epsi d a b = absurd (let x : OneColumn ≡ Square = d in cc)
-last_square Point d a b = absurd (let x : OneColumn ≡ Square = d in cc)
-last_square Init d a b = absurd (let x : OneColumn ≡ Square = d in cc)
-last_square Next d a b = absurd (let x : OneColumn ≡ Square = d in cc)
-last_square Inj d a b = absurd (let x : OneColumn ≡ Square = d in cc)
-last_square base d a b = absurd (let x : Nothing ≡ Square = d in cc)
+pub last_square : (base : Base) → demanded base ≡ Square → base ≢ I → base ≢ Trans → base ≢ Less → base ≢ Hasse → base ≢ Quot → base ≡ Refl
+last_square I d a b l h q = absurd (a refl)
+last_square Trans d a b l h q = absurd (b refl)
+last_square Less d a b l h q = absurd (l refl)
+last_square Hasse d a b l h q = absurd (h refl)
+last_square Quot d a b l h q = absurd (q refl)
+last_square Refl d a b l h q = refl
+last_square Epsi d a b l h q = absurd (let x : OneColumn ≡ Square = d in cc)
+last_square Point d a b l h q = absurd (let x : OneColumn ≡ Square = d in cc)
+last_square Init d a b l h q = absurd (let x : OneColumn ≡ Square = d in cc)
+last_square Next d a b l h q = absurd (let x : OneColumn ≡ Square = d in cc)
+last_square Inj d a b l h q = absurd (let x : OneColumn ≡ Square = d in cc)
+last_square base d a b l h q = absurd (let x : Nothing ≡ Square = d in cc)
 
 pub last_vector : (base : Base) → demanded base ≡ OneColumn → base ≢ Epsi → base ≢ Point → base ≢ Init → base ≢ Next → base ≡ Inj
 last_vector Epsi d a b e f = absurd (a refl)
@@ -41,6 +45,9 @@ last_vector Inj d a b e f = refl
 last_vector I d a b e f = absurd (let x : Square ≡ OneColumn = d in cc)
 last_vector Trans d a b e f = absurd (let x : Square ≡ OneColumn = d in cc)
 last_vector Refl d a b e f = absurd (let x : Square ≡ OneColumn = d in cc)
+last_vector Less d a b e f = absurd (let x : Square ≡ OneColumn = d in cc)
+last_vector Hasse d a b e f = absurd (let x : Square ≡ OneColumn = d in cc)
+last_vector Quot d a b e f = absurd (let x : Square ≡ OneColumn = d in cc)
 last_vector base d a b e f = absurd (let x : Nothing ≡ OneColumn = d in cc)
 
 -- ---- calls that no text spells
@@ -62,6 +69,9 @@ other_base at Unival r d l o m n p q f g h i j = absurd (j refl)
 other_base at I r d l o m n p q f g h i j = absurd (let x : Square ≡ Nothing = d in cc)
 other_base at Trans r d l o m n p q f g h i j = absurd (let x : Square ≡ Nothing = d in cc)
 other_base at Refl r d l o m n p q f g h i j = absurd (let x : Square ≡ Nothing = d in cc)
+other_base at Less r d l o m n p q f g h i j = absurd (let x : Square ≡ Nothing = d in cc)
+other_base at Hasse r d l o m n p q f g h i j = absurd (let x : Square ≡ Nothing = d in cc)
+other_base at Quot r d l o m n p q f g h i j = absurd (let x : Square ≡ Nothing = d in cc)
 other_base at Epsi r d l o m n p q f g h i j = absurd (let x : OneColumn ≡ Nothing = d in cc)
 other_base at Point r d l o m n p q f g h i j = absurd (let x : OneColumn ≡ Nothing = d in cc)
 other_base at Init r d l o m n p q f g h i j = absurd (let x : OneColumn ≡ Nothing = d in cc)
@@ -69,12 +79,20 @@ other_base at Next r d l o m n p q f g h i j = absurd (let x : OneColumn ≡ Not
 other_base at Inj r d l o m n p q f g h i j = absurd (let x : OneColumn ≡ Nothing = d in cc)
 other_base at base r d l o m n p q f g h i j = refl
 
-pub other_two : (at : Place) (base : Base) (r s : Relation) → base ≢ Syq → base ≢ Eq → base ≢ Incl → based at base (r ∷ s ∷ []) ≡ Makes (empty 0 0) no_cost
+pub other_two : (at : Place) (base : Base) (r s : Relation) → base ≢ Syq → base ≢ Eq → base ≢ Incl
+    → base ≢ Ubd → base ≢ Lbd → base ≢ Least → base ≢ Greatest → base ≢ Sup → base ≢ Inf
+    → based at base (r ∷ s ∷ []) ≡ Makes (empty 0 0) no_cost
 unfolding based
-other_two at Syq r s a b c = absurd (a refl)
-other_two at Eq r s a b c = absurd (b refl)
-other_two at Incl r s a b c = absurd (c refl)
-other_two at base r s a b c = refl
+other_two at Syq r s a b c d e f g h i = absurd (a refl)
+other_two at Eq r s a b c d e f g h i = absurd (b refl)
+other_two at Incl r s a b c d e f g h i = absurd (c refl)
+other_two at Ubd r s a b c d e f g h i = absurd (d refl)
+other_two at Lbd r s a b c d e f g h i = absurd (e refl)
+other_two at Least r s a b c d e f g h i = absurd (f refl)
+other_two at Greatest r s a b c d e f g h i = absurd (g refl)
+other_two at Sup r s a b c d e f g h i = absurd (h refl)
+other_two at Inf r s a b c d e f g h i = absurd (i refl)
+other_two at base r s a b c d e f g h i = refl
 
 pub other_count : (at : Place) (base : Base) (rs : List Relation) → length rs ≢ 1 → length rs ≢ 2 → based at base rs ≡ Makes (empty 0 0) no_cost
 unfolding based

@@ -11,7 +11,8 @@ use Rattle.std.specs.Prelude.{IsSome}
 use Rattle.std.specs.Option.{option_map_or}
 use Rattle.lang_model.specs.declared.syntax.Place.{Place}
 use Rattle.lang_model.specs.declared.syntax.Base.{Base}
-use Rattle.lang_model.specs.declared.syntax.Base.TheVariants.{L, O, I, Ln1, On1, L1n, O1n, Dom, Ran, Trans, Refl, Epsi, Point, Atom, Init, Next, Inj, Empty, Unival, Syq, Eq, Incl, P1, P2, I1, I2}
+use Rattle.lang_model.specs.declared.syntax.Base.TheVariants.{L, O, I, Ln1, On1, L1n, O1n, Dom, Ran, Trans, Refl, Epsi, Point, Atom, Init, Next, Inj, Empty, Unival}
+use Rattle.lang_model.specs.declared.syntax.Base.TheVariants.{Less, Hasse, Quot, Syq, Eq, Incl, Ubd, Lbd, Least, Greatest, Sup, Inf, P1, P2, I1, I2}
 use Rattle.lang_model.specs.declared.syntax.Op2.{Op2}
 use Rattle.lang_model.specs.declared.syntax.Expr.{Expr, Ref, Call', Base', Inject, Pair', Minus', Turned', Chain', Row_of-Expr, end_of-Expr, more_of-Expr, Row_of-Link, end_of-Link, more_of-Link}
 use Rattle.lang_model.specs.declared.syntax.Stmt.{Stmt, Set, While', If', Row_of-Stmt, end_of-Stmt, more_of-Stmt}
@@ -27,7 +28,7 @@ use Rattle.lang_model.specs.State.{State, assigned}
 use Rattle.lang_model.specs.Missing.{missing, missing_in, missing_along, first_of_both}
 use Rattle.lang_model.specs.Outcomes.{Size, Answer, Got, Not, Came, got, following, and_then, Operation, Makes, Refuses, with_turns}
 use Rattle.lang_model.specs.BaseNames.{base_text}
-use Rattle.lang_model.specs.Types.{Fits, Misfit, sizes, type_of, computed_of_two, agree, may_be, takes, square, vector, typed_base, typed_base_of_two}
+use Rattle.lang_model.specs.Types.{Fits, Misfit, sizes, type_of, computed_of_two, agree, may_be, takes, side, square, vector, typed_base, typed_base_of_two}
 use Rattle.lang_model.specs.Checking.{Names, among, no_name, Known, definition_of, Scope, is_projection, ref_faults, call_faults, domain_faults, target_faults, count_in, faults, faults_in, faults_along, rank_named, called, called_in, called_along, assigned_after, assigned_behind, assigned_by, faults_of, faults_within, faults_by, called_by, called_within, called_by_all}
 use Rattle.lang_model.specs.Mean.{Calls, around_with, fitting, limited, named, base_made, base_wants, base_made_of_two, based, linked, result_of_both, complemented, turned, paired, domain_made, injected_by, domain_named, where_fitting, tested, mean, means, mean_along, mean_test, one_turn, rounds, run, run_within, run_by}
 use Rattle.rv_eval.specs.Faultless.{IllBySizes}
@@ -72,6 +73,10 @@ vector-good at base s t o n h = by (may_be 1 s.cols)
 abbrev made : Place → Base → Relation → Operation
 made at base r = limited at (base_wants base r) (base_made base r)
 
+side-good : (b : Bool) (t : StaticShape) (at : Place) (op : List ℕ) (s : StaticShape) (o : Operation) (n : ℕ) → Good Any (with_turns o n).answer → Good Any (with_turns (fitting (cond b (Fits t) (Misfit (NotSquare at op s))) o) n).answer
+side-good true t at op s o n h = h
+side-good false t at op s o n h = tt
+
 base-good : (at : Place) (r : Relation) (n : ℕ) (base : Base) → Good Any (with_turns (fitting (typed_base at base (sizes r)) (limited at (base_wants base r) (base_made base r))) n).answer
 base-good at r n L = tt
 base-good at r n O = tt
@@ -92,9 +97,18 @@ base-good at r n Next = vector-good at Next (sizes r) _ (made at Next r) n (limi
 base-good at r n Inj = vector-good at Inj (sizes r) _ (made at Inj r) n (limited-good at (base_wants Inj r) (base_made Inj r) n tt)
 base-good at r n Empty = tt
 base-good at r n Unival = tt
+base-good at r n Less = square-good at Less (sizes r) (made at Less r) n (limited-good at (base_wants Less r) (base_made Less r) n tt)
+base-good at r n Hasse = square-good at Hasse (sizes r) (made at Hasse r) n (limited-good at (base_wants Hasse r) (base_made Hasse r) n tt)
+base-good at r n Quot = side-good (r.rows == r.cols) (type_of (Some r.rows) None) at _ (sizes r) (made at Quot r) n (limited-good at (base_wants Quot r) (base_made Quot r) n tt)
 base-good at r n Syq = tt
 base-good at r n Eq = tt
 base-good at r n Incl = tt
+base-good at r n Ubd = tt
+base-good at r n Lbd = tt
+base-good at r n Least = tt
+base-good at r n Greatest = tt
+base-good at r n Sup = tt
+base-good at r n Inf = tt
 base-good at r n P1 = tt
 base-good at r n P2 = tt
 base-good at r n I1 = tt
@@ -104,10 +118,22 @@ two-good : (b : Bool) (f : StaticShape) (at : Place) (op : List ℕ) (s t : Stat
 two-good true f at op s t o n h = h
 two-good false f at op s t o n h = tt
 
+bounds-good : (b c : Bool) (f : StaticShape) (at : Place) (op : List ℕ) (s t : StaticShape) (o : Operation) (n : ℕ) → Good Any (with_turns o n).answer
+    → Good Any (with_turns (fitting (cond b (cond c (Fits f) (Misfit (Mismatch at op s t))) (Misfit (NotSquare at op s))) o) n).answer
+bounds-good true true f at op s t o n h = h
+bounds-good true false f at op s t o n h = tt
+bounds-good false c f at op s t o n h = tt
+
 base-good-of_two : (at : Place) (r q : Relation) (n : ℕ) (base : Base) → Good Any (with_turns (fitting (typed_base_of_two at base (sizes r) (sizes q)) (base_made_of_two base r q)) n).answer
 base-good-of_two at r q n Syq = two-good (r.rows == q.rows) _ at _ _ _ (base_made_of_two Syq r q) n tt
 base-good-of_two at r q n Eq = two-good ((r.rows == q.rows) && (r.cols == q.cols)) _ at _ _ _ (base_made_of_two Eq r q) n tt
 base-good-of_two at r q n Incl = two-good ((r.rows == q.rows) && (r.cols == q.cols)) _ at _ _ _ (base_made_of_two Incl r q) n tt
+base-good-of_two at r q n Ubd = bounds-good (r.rows == r.cols) (r.rows == q.rows) _ at _ _ _ (base_made_of_two Ubd r q) n tt
+base-good-of_two at r q n Lbd = bounds-good (r.rows == r.cols) (r.rows == q.rows) _ at _ _ _ (base_made_of_two Lbd r q) n tt
+base-good-of_two at r q n Least = bounds-good (r.rows == r.cols) (r.rows == q.rows) _ at _ _ _ (base_made_of_two Least r q) n tt
+base-good-of_two at r q n Greatest = bounds-good (r.rows == r.cols) (r.rows == q.rows) _ at _ _ _ (base_made_of_two Greatest r q) n tt
+base-good-of_two at r q n Sup = bounds-good (r.rows == r.cols) (r.rows == q.rows) _ at _ _ _ (base_made_of_two Sup r q) n tt
+base-good-of_two at r q n Inf = bounds-good (r.rows == r.cols) (r.rows == q.rows) _ at _ _ _ (base_made_of_two Inf r q) n tt
 base-good-of_two at r q n base = tt
 
 based-good : (at : Place) (base : Base) (rs : List Relation) (n : ℕ) → Good Any (with_turns (based at base rs) n).answer

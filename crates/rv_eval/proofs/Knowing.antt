@@ -7,7 +7,8 @@
 use Rattle.std.proofs.Common.{◌≡◌, ◌∙◌, ◌==◌, ◌&&◌, ◌||◌, ◌+◌, ◌*◌, ◌^◌, ◌-◌, ◌⊎◌, min, max, ℕ, zero, suc, Bool, true, false, cond, List, [], ◌∷◌, codes, Option, Some, None, is_some, nat_lt, refl, sym, subst, inl, inr, ⊎_elim}
 use Rattle.lang_model.specs.declared.syntax.Place.{Place}
 use Rattle.lang_model.specs.declared.syntax.Base.{Base}
-use Rattle.lang_model.specs.declared.syntax.Base.TheVariants.{L, O, I, Ln1, On1, L1n, O1n, Dom, Ran, Trans, Refl, Epsi, Point, Atom, Init, Next, Inj, Empty, Unival, Syq, Eq, Incl, P1, P2, I1, I2}
+use Rattle.lang_model.specs.declared.syntax.Base.TheVariants.{L, O, I, Ln1, On1, L1n, O1n, Dom, Ran, Trans, Refl, Epsi, Point, Atom, Init, Next, Inj, Empty, Unival}
+use Rattle.lang_model.specs.declared.syntax.Base.TheVariants.{Less, Hasse, Quot, Syq, Eq, Incl, Ubd, Lbd, Least, Greatest, Sup, Inf, P1, P2, I1, I2}
 use Rattle.lang_model.specs.declared.syntax.Op2.{Op2}
 use Rattle.lang_model.specs.declared.syntax.Op2.TheVariants.{Or, And, Times, Under, Over}
 use Rattle.lang_model.specs.declared.faults.TypeFault.{TypeFault}
@@ -21,7 +22,7 @@ use Rattle.lang_model.specs.State.{State}
 use Rattle.lang_model.specs.Missing.{first_of_both}
 use Rattle.lang_model.specs.Outcomes.{Refusal, Ill, Size, Turns, Answer, Got, Not, Came, following, Operation, Makes, Refuses, with_turns}
 use Rattle.lang_model.specs.BaseNames.{base_text}
-use Rattle.lang_model.specs.Types.{Passed, Fits, Misfit, Typed, sizes, type_of, agree, may_be, takes, type_of_link, type_turned, type_turned_by, spelling, square, vector, typed_link, typed_pair, typed_base, typed_base_of_two, typed_test}
+use Rattle.lang_model.specs.Types.{Passed, Fits, Misfit, Typed, sizes, type_of, agree, may_be, takes, type_of_link, type_turned, type_turned_by, spelling, side, square, bounding, vector, typed_link, typed_pair, typed_base, typed_base_of_two, typed_test}
 use Rattle.lang_model.specs.Mean.{fitting, limited, result_of_both, named, base_made, base_wants, base_made_of_two, based, linked, complemented, turned, paired, domain_made, injected_of, injected_by, where_fitting, tested}
 use Rattle.lang_model.specs.Shape.{Types, passing, typed_name, typed_based, typed_injected_of, typed_injected}
 use Rattle.lang_model.specs.Sound.{IsSize, Describes, Agree, CoversAt, Covers}
@@ -141,6 +142,31 @@ module _ (p : Place → Bool) where
   tells_fitting true f fault o n h k = k
   tells_fitting false f fault o n h k = ⊎_elim (λ e. absurd (let z : false ≡ true = e in cc)) (λ e. e) h
 
+  -- the same of two tests, one after the other
+  tells_both : (b d : Bool) (f : StaticShape) (fault first : TypeFault) (o : Operation) (n : ℕ) → (b ≡ true) ⊎ AtFault p first → (b ≡ true → (d ≡ true) ⊎ AtFault p fault)
+      → Tells p (with_turns o n).answer → Tells p (with_turns (fitting (cond b (cond d (Fits f) (Misfit fault)) (Misfit first)) o) n).answer
+  tells_both true true f fault first o n h k t = t
+  tells_both true false f fault first o n h k t = ⊎_elim (λ e. absurd (let z : false ≡ true = e in cc)) (λ e. e) (k refl)
+  tells_both false d f fault first o n h k t = ⊎_elim (λ e. absurd (let z : false ≡ true = e in cc)) (λ e. e) h
+
+  passed_both : {A : Type 0} (b d : Bool) (x : A) (f g : TypeFault) (c : A) → cond b (cond d (Fits x) (Misfit f)) (Misfit g) ≡ Fits c → (b ≡ true) × (d ≡ true)
+  passed_both true true x f g c h = (refl, refl)
+  passed_both true false x f g c h = absurd (misfit_fits h)
+  passed_both false d x f g c h = absurd (misfit_fits h)
+
+  known_front : (at : Place) (a b c : Option ℕ) → KnownOr p at (a ∷ b ∷ c ∷ []) → KnownOr p at (a ∷ b ∷ [])
+  known_front at (Some x) (Some y) c h = refl
+  known_front at (Some x) None c h = h
+  known_front at None b c h = h
+
+  known_side : (at : Place) (a b c : Option ℕ) → KnownOr p at (a ∷ b ∷ c ∷ []) → KnownOr p at (first_of_both a b ∷ c ∷ [])
+  known_side at (Some x) (Some y) c h = h
+  known_side at (Some x) None (Some z) h = refl
+  known_side at (Some x) None None h = h
+  known_side at None (Some y) (Some z) h = refl
+  known_side at None (Some y) None h = h
+  known_side at None None c h = h
+
   tells_limited : (at : Place) (wanted : ℕ) (o : Operation) (n : ℕ) → Tells p (with_turns o n).answer → Tells p (with_turns (limited at wanted o) n).answer
   tells_limited at wanted o n h = by (nat_lt size_limit wanted)
     where
@@ -182,19 +208,44 @@ module _ (p : Place → Bool) where
     base-tells Inj e k = vector-tells Inj _ _ (made at Inj r) e k (tells_limited at (base_wants Inj r) (base_made Inj r) n tt)
     base-tells Empty e k = tt
     base-tells Unival e k = tt
+    base-tells Less e k = square-tells Less (made at Less r) e k (tells_limited at (base_wants Less r) (base_made Less r) n tt)
+    base-tells Hasse e k = square-tells Hasse (made at Hasse r) e k (tells_limited at (base_wants Hasse r) (base_made Hasse r) n tt)
+    base-tells Quot e k =
+        tells_fitting (r.rows == r.cols) (type_of (Some r.rows) None) (NotSquare at (base_text Quot) (sizes r)) (made at Quot r) n
+        (test_of_two at s.rows s.cols r.rows r.cols h.row_size h.col_size (passed_test (agree s.rows s.cols) (type_of (side s) None) (NotSquare at (base_text Quot) s) c e) k)
+        (tells_limited at (base_wants Quot r) (base_made Quot r) n tt)
     base-tells Syq e k = tt
     base-tells Eq e k = tt
     base-tells Incl e k = tt
+    base-tells Ubd e k = tt
+    base-tells Lbd e k = tt
+    base-tells Least e k = tt
+    base-tells Greatest e k = tt
+    base-tells Sup e k = tt
+    base-tells Inf e k = tt
     base-tells P1 e k = tt
     base-tells P2 e k = tt
     base-tells I1 e k = tt
     base-tells I2 e k = tt
 
   module _ (at : Place) (s t : StaticShape) (r q : Relation) (h : Describes s r) (k : Describes t q) (n : ℕ) (c : StaticShape) where
+    bounds-tells : (base : Base) (o : Operation) → bounding at base s t ≡ Fits c → KnownOr p at (s.rows ∷ s.cols ∷ t.rows ∷ []) → Tells p (with_turns o n).answer → Tells p (with_turns (fitting (bounding at base (sizes r) (sizes q)) o) n).answer
+    bounds-tells base o e u =
+        let passed = passed_both (agree s.rows s.cols) (agree (side s) t.rows) _ _ _ c e in
+        tells_both (r.rows == r.cols) (r.rows == q.rows) _ (Mismatch at (base_text base) (sizes r) (sizes q)) (NotSquare at (base_text base) (sizes r)) o n
+        (test_of_two at s.rows s.cols r.rows r.cols h.row_size h.col_size passed.0 (known_front at s.rows s.cols t.rows u))
+        (λ same. test_of_two at (side s) t.rows r.rows q.rows (known_of s.rows s.cols r.rows r.cols h.row_size h.col_size (one_fits r.rows r.cols same)) k.row_size passed.1 (known_side at s.rows s.cols t.rows u))
+
     base-tells-of_two : (base : Base) → typed_base_of_two at base s t ≡ Fits c → KnownOr p at (tested_by_base_of_two base s t) → Tells p (with_turns (fitting (typed_base_of_two at base (sizes r) (sizes q)) (base_made_of_two base r q)) n).answer
     base-tells-of_two Syq e u = tells_fitting (r.rows == q.rows) _ (Mismatch at (base_text Syq) (sizes r) (sizes q)) (base_made_of_two Syq r q) n (test_of_two at s.rows t.rows r.rows q.rows h.row_size k.row_size (passed_test (agree s.rows t.rows) _ _ c e) u) tt
     base-tells-of_two Eq e u = tells_fitting ((r.rows == q.rows) && (r.cols == q.cols)) _ (Mismatch at (base_text Eq) (sizes r) (sizes q)) (base_made_of_two Eq r q) n (test_of_four at s t r q h k (passed_test (agree s.rows t.rows && agree s.cols t.cols) _ _ c e) u) tt
     base-tells-of_two Incl e u = tells_fitting ((r.rows == q.rows) && (r.cols == q.cols)) _ (Mismatch at (base_text Incl) (sizes r) (sizes q)) (base_made_of_two Incl r q) n (test_of_four at s t r q h k (passed_test (agree s.rows t.rows && agree s.cols t.cols) _ _ c e) u) tt
+    base-tells-of_two Ubd e u = bounds-tells Ubd (base_made_of_two Ubd r q) e u tt
+    base-tells-of_two Lbd e u = bounds-tells Lbd (base_made_of_two Lbd r q) e u tt
+    base-tells-of_two Least e u = bounds-tells Least (base_made_of_two Least r q) e u tt
+    base-tells-of_two Greatest e u = bounds-tells Greatest (base_made_of_two Greatest r q) e u tt
+    base-tells-of_two Sup e u = bounds-tells Sup (base_made_of_two Sup r q) e u tt
+    base-tells-of_two Inf e u = bounds-tells Inf (base_made_of_two Inf r q) e u tt
     base-tells-of_two base e u = tt
 
     -- an operator that takes the types takes the sizes of values too

@@ -3,6 +3,7 @@ pub mod Operating
 pub mod Domains
 pub mod Testing
 pub mod Basing
+pub mod Bounding
 pub mod States
 pub mod Named
 pub mod Unfolding

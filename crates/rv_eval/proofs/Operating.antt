@@ -6,7 +6,7 @@ use Rattle.lang_model.specs.declared.syntax.Place.{Place}
 use Rattle.lang_model.specs.declared.syntax.Op2.{Op2}
 use Rattle.lang_model.specs.declared.faults.TypeFault.TheVariants.{Mismatch, NotSquare, NotVector}
 use Rattle.lang_model.specs.declared.syntax.Base.{Base}
-use Rattle.lang_model.specs.declared.syntax.Base.TheVariants.{I, Trans, Refl, Epsi, Point, Init, Next, Inj}
+use Rattle.lang_model.specs.declared.syntax.Base.TheVariants.{I, Trans, Refl, Less, Hasse, Quot, Epsi, Point, Init, Next, Inj}
 use Rattle.lang_model.specs.declared.faults.StaticShape.{StaticShape}
 use Rattle.rv_eval.specs.declared.bases.Demand.TheVariants.{Nothing, Square, OneColumn}
 use Rattle.rv_eval.specs.Demands.{demanded}
@@ -23,7 +23,7 @@ use Rattle.rv_eval.specs.declared.halt.Halt.{Halt}
 use Rattle.rv_eval.specs.declared.halt.Halt.TheVariants.{Lack as LACK}
 use Rattle.lang_model.specs.Outcomes.{Cost, Ill, Got, Came, Operation, Makes, Refuses, with_turns}
 use Rattle.lang_model.specs.BaseNames.{base_text}
-use Rattle.lang_model.specs.Types.{Fits, Misfit, sizes, type_of, takes, type_of_link, square, vector}
+use Rattle.lang_model.specs.Types.{Fits, Misfit, sizes, type_of, takes, type_of_link, squared as squared_as, square, vector}
 use Rattle.lang_model.specs.Mean.{fitting, linked, based, answer_of_test}
 use Rattle.rv_eval.specs.Ends.{Ends, lifted}
 use Rattle.rv_eval.proofs.Going.{rose_before}
@@ -105,6 +105,16 @@ module _ (w : Worker) (at : Place) (r : Rel) (rm : (set_of w r).rows ≡ r.rows)
   pub square_misfit : (base : Base) (o : Operation) → r.rows ≢ r.cols → fitting (square at base (sizes (set_of w r))) o ≡ Refuses (Ill (NotSquare at (base_text base) (known r.rows r.cols)))
   square_misfit base o e = squared base false o (unequal_sizes r.rows r.cols e) ∙ ap (λ x. Refuses (Ill (NotSquare at (base_text base) x))) (same_type w r rm rn)
 
+  -- the same of a base call whose result has the side of the operand as rows alone
+  sided : (base : Base) (t : StaticShape) (b : Bool) (o : Operation) → (r.rows == r.cols) ≡ b → fitting (squared_as at base (sizes (set_of w r)) (Fits t)) o ≡ fitting (cond b (Fits t) (Misfit (NotSquare at (base_text base) (sizes (set_of w r))))) o
+  sided base t b o e = ap (λ x. fitting (cond x (Fits t) (Misfit (NotSquare at (base_text base) (sizes (set_of w r))))) o) (tested_square b e)
+
+  pub side_fits : (base : Base) (t : StaticShape) (F : ℕ → ℕ → Operation) → r.rows ≡ r.cols → fitting (squared_as at base (sizes (set_of w r)) (Fits t)) (F (set_of w r).rows (set_of w r).cols) ≡ F r.rows r.cols
+  side_fits base t F e = sided base t true (F (set_of w r).rows (set_of w r).cols) (equal_sizes r.rows r.cols e) ∙ by_sizes F
+
+  side_misfit : (base : Base) (t : StaticShape) (o : Operation) → r.rows ≢ r.cols → fitting (squared_as at base (sizes (set_of w r)) (Fits t)) o ≡ Refuses (Ill (NotSquare at (base_text base) (known r.rows r.cols)))
+  side_misfit base t o e = sided base t false o (unequal_sizes r.rows r.cols e) ∙ ap (λ x. Refuses (Ill (NotSquare at (base_text base) x))) (same_type w r rm rn)
+
   vectored : (base : Base) (t : StaticShape) (b : Bool) (o : Operation) → (r.cols == 1) ≡ b → fitting (vector at base (sizes (set_of w r)) t) o ≡ fitting (cond b (Fits t) (Misfit (NotVector at (base_text base) (sizes (set_of w r))))) o
   vectored base t b o e = ap (λ x. fitting (cond x (Fits t) (Misfit (NotVector at (base_text base) (sizes (set_of w r))))) o) (ap (λ x. x == 1) rn ∙ e)
 
@@ -120,6 +130,9 @@ module _ (w : Worker) (at : Place) (r : Rel) (rm : (set_of w r).rows ≡ r.rows)
   no_square I d e = square_misfit I _ e
   no_square Trans d e = square_misfit Trans _ e
   no_square Refl d e = square_misfit Refl _ e
+  no_square Less d e = square_misfit Less _ e
+  no_square Hasse d e = square_misfit Hasse _ e
+  no_square Quot d e = side_misfit Quot _ _ e
   no_square Epsi d e = absurd (let x : OneColumn ≡ Square = d in cc)
   no_square Point d e = absurd (let x : OneColumn ≡ Square = d in cc)
   no_square Init d e = absurd (let x : OneColumn ≡ Square = d in cc)
@@ -137,6 +150,9 @@ module _ (w : Worker) (at : Place) (r : Rel) (rm : (set_of w r).rows ≡ r.rows)
   no_vector I d e = absurd (let x : Square ≡ OneColumn = d in cc)
   no_vector Trans d e = absurd (let x : Square ≡ OneColumn = d in cc)
   no_vector Refl d e = absurd (let x : Square ≡ OneColumn = d in cc)
+  no_vector Less d e = absurd (let x : Square ≡ OneColumn = d in cc)
+  no_vector Hasse d e = absurd (let x : Square ≡ OneColumn = d in cc)
+  no_vector Quot d e = absurd (let x : Square ≡ OneColumn = d in cc)
   no_vector base d e = absurd (let x : Nothing ≡ OneColumn = d in cc)
 
 -- the answer of a test

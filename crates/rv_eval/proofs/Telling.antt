@@ -1,4 +1,4 @@
--- How a refusal is told, ahead of all computing and of a meaning.
+-- How a refusal of a meaning is told.
 use Rattle.std.proofs.Common.{◌≡◌, ◌∙◌, ◌⊎◌, inl, inr, ℕ, Err, refl, sym, ap, subst}
 use Rattle.rel_model.specs.declared.Lack.TheVariants.{NoMemory as NO_MEMORY}
 use Rattle.rel_model.specs.declared.Lack.TheVariants.{Full}
@@ -12,16 +12,6 @@ use Rattle.rv_eval.specs.declared.halt.Halt.TheVariants.{Ill as ILL, Size as SIZ
 use Rattle.rv_eval.specs.declared.halt.Refused.{Refused}
 use Rattle.rv_eval.specs.Ends.{HasHalted}
 use Rattle.rv_eval.specs.Refusing.{told, told_ill, IsRefusedFor, IsAnswer}
-
-pub ill_refuses : (fault : TypeFault) → IsRefusedFor fault (Err (told_ill fault))
-ill_refuses FAULT_NO_MEMORY = tt
-ill_refuses fault = refl
-
-pub ahead_refuses : (turns : ℕ) (fault : TypeFault) (h : Halt) (r : Refused) → r ≡ told turns h → (h ≡ ILL fault) ⊎ (h ≡ LACK NO_MEMORY)
-    → IsRefusedFor fault (Err r)
-ahead_refuses turns fault h r e (inl i) =
-    subst (λ x. IsRefusedFor fault (Err x)) (sym (e ∙ ap (told turns) i)) (ill_refuses fault)
-ahead_refuses turns fault h r e (inr m) = subst (λ x. IsRefusedFor fault (Err x)) (sym (e ∙ ap (told turns) m)) tt
 
 -- the refusal of a meaning
 ill_answers : (old new : Worker) (turns : ℕ) (a : Answer Relation) (fault : TypeFault) → a ≡ Not (Ill fault) → IsAnswer old new turns a (Err (told_ill fault))

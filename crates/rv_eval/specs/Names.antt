@@ -2,7 +2,7 @@
 use Rattle.std.specs.Prelude.{◌≡◌, ℕ, cond, List, [], ◌∷◌, Option, Some, None, option_and_then, option_map}
 use Rattle.rel_model.specs.declared.Rel.{Rel}
 use Rattle.rel_model.specs.Operators.{empty}
-use Rattle.rel_model.specs.Worker.{Worker, Stands}
+use Rattle.rel_model.specs.Worker.{Worker, Stands, set_of}
 use Rattle.lang_model.specs.Tokens.{same_text}
 use Rattle.lang_model.specs.declared.faults.StaticShape.{StaticShape}
 use Rattle.lang_model.specs.State.{State}
@@ -28,6 +28,11 @@ typed_pair_of n = (n.0, known n.1.rows n.1.cols)
 -- all relations of the names stand
 abbrev pub AllStand : Worker → List (List ℕ × Rel) → Type 0
 AllStand w names = (name : List ℕ) (r : Rel) → rel_of names name ≡ Some r → Stands w r
+
+-- the sizes of what stands are those of its set
+pub record HasSizes (w : Worker) : Type 0 where
+  pub rows : (r : Rel) → Stands w r → (set_of w r).rows ≡ r.rows
+  pub cols : (r : Rel) → Stands w r → (set_of w r).cols ≡ r.cols
 
 -- the first parameter beside the first value, and the other parameters, as given, beside the others
 abbrev pub beside_first : List ℕ → (List Rel → List (List ℕ × Rel)) → List Rel → List (List ℕ × Rel)

@@ -1,5 +1,10 @@
 -- What the public call answers.
-use Rattle.std.specs.Prelude.{◌≡◌, ℕ, Result, Ok, Err}
+use Rattle.std.specs.Prelude.{◌≡◌, ℕ, List, Option, Some, None, Result, Ok, Err}
+use Rattle.std.specs.declared.alloc.Global.{Global}
+use Rattle.std.specs.declared.vec.Vec.{Vec}
+use Rattle.lang_model.specs.Rewriting.{Step as Rewritten}
+use Rattle.rv_rewrite.specs.declared.step.Step.{Step}
+use Rattle.rv_rewrite.specs.Steps.{steps_by_trees}
 use Rattle.rel_model.specs.declared.Rel.{Rel}
 use Rattle.rel_model.specs.declared.Lack.TheVariants.{Full, NoMemory as NO_MEMORY}
 use Rattle.lang_model.specs.declared.faults.TypeFault.{TypeFault}
@@ -50,3 +55,16 @@ IsRefusedFor fault (Err NoMemory) = Unit {0}
 abbrev pub IsEvaluated : Worker → Worker → ℕ → Evaluated → Result Rel Refused → Type 0
 IsEvaluated old new turns (Ahead fault) result = IsRefusedFor fault result × MissesNothing old new
 IsEvaluated old new turns (Comes came) result = IsAnswer old new turns came.answer result
+
+-- a refusal ahead of all computing is for this fault, or memory ran out
+abbrev pub IsRefusedAhead : Option TypeFault → Refused → Type 0
+IsRefusedAhead early (IllRefused own) = early ≡ Some own
+IsRefusedAhead early (SizeRefused at wanted limit) = ⊥
+IsRefusedAhead early (TurnsRefused at limit) = ⊥
+IsRefusedAhead early Nodes = ⊥
+IsRefusedAhead early NoMemory = Unit {0}
+
+-- where there is no fault ahead of all computing, these steps are told
+abbrev pub IsExplained : Option TypeFault → List Rewritten → Result (Vec Step Global) Refused → Type 0
+IsExplained early steps (Ok told) = (early ≡ None) × (steps_by_trees told.items ≡ steps)
+IsExplained early steps (Err refused) = IsRefusedAhead early refused

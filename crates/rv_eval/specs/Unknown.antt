@@ -5,7 +5,8 @@ use Rattle.lang_model.specs.declared.syntax.Place.{Place}
 use Rattle.lang_model.specs.declared.syntax.Op2.{Op2}
 use Rattle.lang_model.specs.declared.syntax.Op2.TheVariants.{Or, And, Times, Under, Over}
 use Rattle.lang_model.specs.declared.syntax.Base.{Base}
-use Rattle.lang_model.specs.declared.syntax.Base.TheVariants.{I, Trans, Refl, Epsi, Point, Init, Next, Inj, Syq, Eq, Incl}
+use Rattle.lang_model.specs.declared.syntax.Base.TheVariants.{I, Trans, Refl, Less, Hasse, Quot, Epsi, Point, Init, Next, Inj}
+use Rattle.lang_model.specs.declared.syntax.Base.TheVariants.{Syq, Eq, Incl, Ubd, Lbd, Least, Greatest, Sup, Inf}
 use Rattle.lang_model.specs.declared.syntax.Expr.{Expr, Ref, Call', Base', Inject, Pair', Minus', Turned', Chain', Row_of-Expr, end_of-Expr, more_of-Expr, Row_of-Link, end_of-Link, more_of-Link}
 use Rattle.lang_model.specs.declared.syntax.Stmt.{Stmt, Set, While', If', Row_of-Stmt, end_of-Stmt, more_of-Stmt}
 use Rattle.lang_model.specs.declared.syntax.Item.{Item}
@@ -47,6 +48,9 @@ abbrev pub tested_by_base : Base → StaticShape → List (Option ℕ)
 tested_by_base I s = s.rows ∷ s.cols ∷ []
 tested_by_base Trans s = s.rows ∷ s.cols ∷ []
 tested_by_base Refl s = s.rows ∷ s.cols ∷ []
+tested_by_base Less s = s.rows ∷ s.cols ∷ []
+tested_by_base Hasse s = s.rows ∷ s.cols ∷ []
+tested_by_base Quot s = s.rows ∷ s.cols ∷ []
 tested_by_base Epsi s = s.cols ∷ []
 tested_by_base Point s = s.cols ∷ []
 tested_by_base Init s = s.cols ∷ []
@@ -59,6 +63,12 @@ abbrev pub tested_by_base_of_two : Base → StaticShape → StaticShape → List
 tested_by_base_of_two Syq s t = s.rows ∷ t.rows ∷ []
 tested_by_base_of_two Eq s t = s.rows ∷ t.rows ∷ s.cols ∷ t.cols ∷ []
 tested_by_base_of_two Incl s t = s.rows ∷ t.rows ∷ s.cols ∷ t.cols ∷ []
+tested_by_base_of_two Ubd s t = s.rows ∷ s.cols ∷ t.rows ∷ []
+tested_by_base_of_two Lbd s t = s.rows ∷ s.cols ∷ t.rows ∷ []
+tested_by_base_of_two Least s t = s.rows ∷ s.cols ∷ t.rows ∷ []
+tested_by_base_of_two Greatest s t = s.rows ∷ s.cols ∷ t.rows ∷ []
+tested_by_base_of_two Sup s t = s.rows ∷ s.cols ∷ t.rows ∷ []
+tested_by_base_of_two Inf s t = s.rows ∷ s.cols ∷ t.rows ∷ []
 tested_by_base_of_two _ s t = []
 
 -- one of these operands

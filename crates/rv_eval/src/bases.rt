@@ -16,6 +16,7 @@ use crate::halt::Halt;
 use crate::operators::lift;
 use lang_model::syntax::{Base, Place};
 use rel_model::engine_trait::Engine;
+use rel_order::{hasse, less, quot};
 use rel_model::{Rel, Shape};
 use std::alloc::Global;
 
@@ -91,6 +92,9 @@ fn square_base<E: Engine>(engine: &mut E, at: Place, base: Base, r: Rel) -> Resu
     match base {
         Base::I => lift(engine.identity(r.rows)),
         Base::Trans => lift(engine.trans(r)),
+        Base::Less => lift(less(engine, r.rows)),
+        Base::Hasse => lift(hasse(engine, r)),
+        Base::Quot => lift(quot(engine, r)),
         _ => lift(engine.refl(r)),
     }
 }
@@ -130,6 +134,9 @@ fn demand_of(base: Base) -> Demand
         Base::I => Demand::Square,
         Base::Trans => Demand::Square,
         Base::Refl => Demand::Square,
+        Base::Less => Demand::Square,
+        Base::Hasse => Demand::Square,
+        Base::Quot => Demand::Square,
         Base::Epsi => Demand::OneColumn,
         Base::Point => Demand::OneColumn,
         Base::Init => Demand::OneColumn,

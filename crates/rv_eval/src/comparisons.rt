@@ -7,6 +7,7 @@ ghost use Rattle.lang_model.specs.Mean.{based};
 ghost use Rattle.rv_eval.specs.Ends.{Ends};
 
 use crate::bases::{none_given, truth};
+use crate::bounds::bounding;
 use crate::faults::not_alike;
 use crate::halt::Halt;
 use crate::operators::lift;
@@ -114,6 +115,12 @@ pub fn base_of_two<E: Engine>(
         Base::Syq => quotient(alloc, engine, at, r, s),
         Base::Eq => equality(alloc, engine, at, r, s),
         Base::Incl => inclusion(alloc, engine, at, r, s),
+        Base::Ubd => bounding(alloc, engine, at, Base::Ubd, r, s),
+        Base::Lbd => bounding(alloc, engine, at, Base::Lbd, r, s),
+        Base::Least => bounding(alloc, engine, at, Base::Least, r, s),
+        Base::Greatest => bounding(alloc, engine, at, Base::Greatest, r, s),
+        Base::Sup => bounding(alloc, engine, at, Base::Sup, r, s),
+        Base::Inf => bounding(alloc, engine, at, Base::Inf, r, s),
         _ => none_given(engine),
     }
 }

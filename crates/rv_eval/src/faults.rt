@@ -131,47 +131,11 @@ pub fn no_pair(alloc: Global, at: Place, r: Rel, s: Rel) -> Halt
     }
 }
 
-/// How a base name is written.
-fn text_of(base: Base) -> &'static [u8]
-    ensures text { result.now ≡ base_text base }
-    ensures some { 1 ≤ length result.now }
-    ensures short { length result.now ≤ name_limit }
-{
-    match base {
-        Base::L => b"L",
-        Base::O => b"O",
-        Base::I => b"I",
-        Base::Ln1 => b"Ln1",
-        Base::On1 => b"On1",
-        Base::L1n => b"L1n",
-        Base::O1n => b"O1n",
-        Base::Dom => b"dom",
-        Base::Ran => b"ran",
-        Base::Trans => b"trans",
-        Base::Refl => b"refl",
-        Base::Epsi => b"epsi",
-        Base::Point => b"point",
-        Base::Atom => b"atom",
-        Base::Init => b"init",
-        Base::Next => b"next",
-        Base::Inj => b"inj",
-        Base::Empty => b"empty",
-        Base::Unival => b"unival",
-        Base::Syq => b"syq",
-        Base::Eq => b"eq",
-        Base::Incl => b"incl",
-        Base::P1 => b"p-1",
-        Base::P2 => b"p-2",
-        Base::I1 => b"i-1",
-        Base::I2 => b"i-2",
-    }
-}
-
 /// An operand that is not square.
 pub fn not_square(alloc: Global, at: Place, base: Base, r: Rel) -> Halt
     ensures { (result ≡ Ill (NotSquare at (base_text base) (known r.rows r.cols))) ⊎ (result ≡ LACK NO_MEMORY) }
 {
-    match Name::new(alloc, text_of(base)) {
+    match Name::new(alloc, base.text()) {
         Ok(op) => Halt::Ill(TypeFault::NotSquare {
             at,
             op,
@@ -185,7 +149,7 @@ pub fn not_square(alloc: Global, at: Place, base: Base, r: Rel) -> Halt
 pub fn not_vector(alloc: Global, at: Place, base: Base, r: Rel) -> Halt
     ensures { (result ≡ Ill (NotVector at (base_text base) (known r.rows r.cols))) ⊎ (result ≡ LACK NO_MEMORY) }
 {
-    match Name::new(alloc, text_of(base)) {
+    match Name::new(alloc, base.text()) {
         Ok(op) => Halt::Ill(TypeFault::NotVector {
             at,
             op,
@@ -200,7 +164,7 @@ pub fn not_alike(alloc: Global, at: Place, base: Base, r: Rel, s: Rel) -> Halt
     ensures { let fault = Mismatch at (base_text base) (known r.rows r.cols) (known s.rows s.cols) in
         (result ≡ Ill fault) ⊎ (result ≡ LACK NO_MEMORY) }
 {
-    match Name::new(alloc, text_of(base)) {
+    match Name::new(alloc, base.text()) {
         Ok(op) => Halt::Ill(TypeFault::Mismatch {
             at,
             op,

@@ -2,17 +2,22 @@
 #![tactic(auto)]
 
 mod bases;
+mod bounds;
 mod call;
 mod comparisons;
 mod domain_calls;
+mod early;
+mod explaining;
 mod faults;
 mod halt;
 pub mod law;
 mod missing;
 mod names;
 mod operators;
+mod refusal;
 mod steps;
 mod walk;
 
 pub use call::eval;
+pub use explaining::explain;
 pub use halt::Refused;

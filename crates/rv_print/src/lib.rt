@@ -1,4 +1,4 @@
-//! The texts of replies: matrices, listings, counts, types, refusals, and lines of the history.
+//! The texts of replies: matrices, listings, counts, types, steps of rewriting, refusals, and lines of the history.
 #![tactic(auto)]
 
 mod faults;
@@ -8,6 +8,7 @@ mod pieces;
 mod refused;
 mod rows;
 mod sizes;
+mod steps;
 
 pub use faults::fault_text;
 pub use history::event_line;
@@ -15,3 +16,4 @@ pub use pairs::listing;
 pub use refused::PrintRefused;
 pub use rows::matrix;
 pub use sizes::{count_line, shape_text};
+pub use steps::steps_text;

@@ -18,6 +18,7 @@ use Rattle.lang_model.specs.declared.syntax.Command.TheVariants.{
   At,
   Load,
   Save,
+  Explain,
 }
 use Rattle.lang_model.specs.declared.syntax.Item.{Item}
 use Rattle.lang_model.specs.declared.syntax.Item.TheVariants.{Function, Program, Command as COMMAND}
@@ -61,6 +62,7 @@ module _ (files : List RelationFile) (turns : ℕ) where
     command_alike script (At at name e) s (Some t) = refl
     command_alike script (Load name file) s snap = refl
     command_alike script (Save e file) s snap = refl
+    command_alike script (Explain e) s snap = refl
 
     due_alike : (script : Script) (item : Item) (s : Workspace) (snap : Option Workspace) →
         due one script item s snap ≡ due other script item s snap
@@ -83,6 +85,7 @@ module _ (files : List RelationFile) (turns : ℕ) where
     command_costs_alike leaf script (At at name e) s (Some t) d = refl
     command_costs_alike leaf script (Load name file) s snap d = refl
     command_costs_alike leaf script (Save e file) s snap d = refl
+    command_costs_alike leaf script (Explain e) s snap d = refl
 
     costs_alike : (leaf : ℕ) (script : Script) (item : Item) (s : Workspace) (snap : Option Workspace) (d : Due) →
         cost_of_item leaf one script item s snap d ≡ cost_of_item leaf other script item s snap d

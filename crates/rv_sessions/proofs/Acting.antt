@@ -93,7 +93,7 @@ pub on_names : (input : Input) (script : Script) (e : Expr) (mid new : Worker) (
     HistoryStands mid log → Keeps mid new → AgreeOn (state_of mid names) (lookup (meant mid (carried log))) (names_in e) →
     input.turns ≡ turns → evaluated script (state_of mid names) e turns ≡ on_log input script e new log
 on_names input script e mid new log turns names h k a i =
-    by_names script (state_of mid names) (lookup (meant mid (carried log))) e turns a
+    by_names.value script (state_of mid names) (lookup (meant mid (carried log))) e turns a
     ∙ ap (λ m. evaluated script (lookup m) e turns) (meant_same mid new k (carried log) (carried_stands mid log h))
     ∙ ap (λ t. evaluated script (lookup (meant new (carried log))) e t) (sym i)
 

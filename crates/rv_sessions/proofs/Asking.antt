@@ -26,7 +26,7 @@ use Rattle.run_model.specs.declared.outcome.Outcome.{Outcome}
 use Rattle.run_model.specs.declared.outcome.Outcome.TheVariants.{Done, Ill as ILL, NoMemory as NO_MEMORY}
 use Rattle.run_model.specs.Names.{compare, lookup, set}
 use Rattle.run_model.specs.Inputs.{Input}
-use Rattle.run_model.specs.Due.{Workspace, Early, Due, Nothing, Value, Refused, printed, due, due_of_command, due_of_value, due_of_drop, due_on_snapshot, outcome_due, gives}
+use Rattle.run_model.specs.Due.{Workspace, Early, Due, Nothing, Value, Explained, Refused, printed, due, due_of_command, due_of_value, due_of_drop, due_on_snapshot, outcome_due, gives}
 use Rattle.run_model.specs.Outcomes.{IsNotEarly}
 use Rattle.run_model.specs.Events.{reads_of, done_deeds}
 use Rattle.run_model.specs.Page.{done_text, done_save}
@@ -78,6 +78,7 @@ kept_stands w (x ∷ xs) n c h e = kept_first w (eq_by_cmp compare n x.0) x.1 (l
 at_saves : (at : Place) (name : List ℕ) (e : Expr) (d : Due) → done_save (COMMAND (AT at name e)) d ≡ []
 at_saves at name e Nothing = refl
 at_saves at name e (Value r) = refl
+at_saves at name e (Explained steps) = refl
 at_saves at name e (Refused when o) = refl
 
 module _ (leaf : ℕ) (input : Input) (script : Script) (s c : ℕ) (at : Place) (name : List ℕ) (e : Expr) (old : Worker) (p : PASS) (snaps : Kept)
@@ -116,7 +117,7 @@ module _ (leaf : ℕ) (input : Input) (script : Script) (s c : ℕ) (at : Place)
 
     pub one : before_ ≡ after_
     one =
-        by_names script (state_of old kept) (lookup (meant old kept)) e turns (snap_agrees old kept (names_in e) all)
+        by_names.value script (state_of old kept) (lookup (meant old kept)) e turns (snap_agrees old kept (names_in e) all)
         ∙ ap (λ m. evaluated script (lookup m) e turns) (meant_same old new k kept all)
         ∙ ap (λ t. evaluated script (lookup (meant new kept)) e t) (sym i)
 

@@ -17,6 +17,7 @@ pub mod Loading
 pub mod Asking
 pub mod Given
 pub mod Defined
+pub mod Explaining
 pub mod Noting
 pub mod Items
 pub mod Refusing

@@ -1,14 +1,16 @@
 -- What is made of a value: a reply in one of four forms, or the bytes of a file.
-use Rattle.std.specs.Prelude.{◌≡◌, ◌⊎◌, ℕ, List, Result, Ok, Err}
+use Rattle.std.specs.Prelude.{◌≡◌, ◌⊎◌, ℕ, List, Option, Some, None, Result, Ok, Err}
+use Rattle.lang_model.specs.declared.faults.TypeFault.{TypeFault}
+use Rattle.lang_model.specs.Rewriting.{Step}
 use Rattle.rel_model.specs.Relation.{Relation}
 use Rattle.rel_model.specs.Worker.{Worker}
 use Rattle.lang_model.specs.declared.syntax.Expr.{Expr}
 use Rattle.lang_model.specs.Eval.{Evaluated}
 use Rattle.run_model.specs.declared.outcome.Outcome.{Outcome}
-use Rattle.run_model.specs.declared.outcome.Outcome.TheVariants.{NoMemory as NO_MEMORY}
+use Rattle.run_model.specs.declared.outcome.Outcome.TheVariants.{Ill as ILL, NoMemory as NO_MEMORY}
 use Rattle.run_model.specs.Due.{Due, Late, Value, Refused as REFUSED, printed, listed, saved, due_of_value}
 use Rattle.run_model.specs.Files.{k2}
-use Rattle.run_model.specs.Page.{listing, count_text, type_text}
+use Rattle.run_model.specs.Page.{listing, count_text, type_text, explanation}
 use Rattle.run_model.specs.Texts.{matrix}
 use Rattle.rv_sessions.specs.declared.form.Form.{Form}
 use Rattle.rv_sessions.specs.declared.form.Form.TheVariants.{Matrix, Listing, Count, Typed, File}
@@ -40,3 +42,8 @@ abbrev pub CameShown : Form → Worker → Worker → Expr → ℕ → Evaluated
 CameShown form old new expr turns e (Ok bytes) =
     (r : Relation) × (due_of_value (wanted_in form) turns e ≡ Value r) × (bytes ≡ bytes_in form r)
 CameShown form old new expr turns e (Err o) = Stopped old new expr turns e (wanted_in form) o
+
+-- steps are told where nothing is refused ahead of all computing; else the fault is, or memory ran out
+abbrev pub CameExplained : Option TypeFault → List Step → Result (List ℕ) Outcome → Type 0
+CameExplained early steps (Ok bytes) = (early ≡ None) × (bytes ≡ explanation steps)
+CameExplained early steps (Err o) = ((fault : TypeFault) × (early ≡ Some fault) × (o ≡ ILL fault)) ⊎ (o ≡ NO_MEMORY)

@@ -8,6 +8,7 @@ ghost use Rattle.lang_model.specs.declared.syntax.Item.TheVariants.{Command as C
 
 use crate::by::By;
 use crate::dropping::{drop_name, show_at, snap};
+use crate::explain::explained;
 use crate::form::Form;
 use crate::giving::{let_value, load, relation};
 use crate::showing::{save, show};
@@ -129,6 +130,9 @@ fn run_command<E: Engine, W: Wait>(
             save(
                 alloc, by, checked, turns, book, wait, pass, engine, value, file,
             )
+        }
+        Command::Explain { value } => {
+            explained(alloc, by, checked, book, wait, pass, engine, value)
         }
     }
 }

@@ -3,6 +3,7 @@
 
 mod by;
 mod dropping;
+mod explain;
 mod files;
 mod form;
 mod giving;

@@ -17,7 +17,7 @@ use rv_types::Checked;
 use std::alloc::Global;
 
 /// A refusal as an outcome.
-fn outcome_of(refused: Refused) -> Outcome
+pub(crate) fn outcome_of(refused: Refused) -> Outcome
     ensures { result ≡ outcome_told refused }
 {
     match refused {

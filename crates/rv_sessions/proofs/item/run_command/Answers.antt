@@ -94,3 +94,11 @@ returns-in-Save g c =
     let i = input_of a.files.now a.turns in
     subst (λ x. DidItem g.E.Core.least i a.checked.now a.by.session a.by.command (COMMAND x) (w a.engine.now) (w c.save.new.engine) a.pass.now c.save.new.pass a.snaps.now a.snaps.now c.save.result)
     (sym c.in-Save.is) (c.save.ensures i a.snaps.now (COMMAND (SAVE c.in-Save.value c.in-Save.file)) (given_turns a.files.now a.turns) c.requires.stood (save_item c.in-Save.value c.in-Save.file))
+
+pub returns-in-Explain : goal.returns-in-Explain
+returns-in-Explain g c =
+    let a = c.args in
+    let w = g.E.Core.worker in
+    let i = input_of a.files.now a.turns in
+    subst (λ x. DidItem g.E.Core.least i a.checked.now a.by.session a.by.command (COMMAND x) (w a.engine.now) (w c.explained.new.engine) a.pass.now c.explained.new.pass a.snaps.now a.snaps.now c.explained.result)
+    (sym c.in-Explain.is) (c.explained.ensures i a.snaps.now c.requires.stood)

@@ -2,7 +2,7 @@ use Rattle.std.proofs.Common.{◌++◌, ◌∷◌, [], ◌∙◌, map, ap, sym}
 use Rattle.std.proofs.lemmas.List.{take_all}
 use Rattle.rv_eval.specs.Names.{typed_pair_of}
 use Rattle.rv_eval.proofs.Ahead.{typed-step}
-use Rattle.rv_eval.proofs.call.types_of_names.Goals as goal
+use Rattle.rv_eval.proofs.early.types_of_names.Goals as goal
 
 pub each-preserved : goal.each-preserved
 each-preserved c =

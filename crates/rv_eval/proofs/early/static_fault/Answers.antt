@@ -3,7 +3,7 @@ use Rattle.lang_model.specs.declared.faults.TypeFault.TheVariants.{NoMemory as F
 use Rattle.lang_model.specs.Types.{Misfit}
 use Rattle.lang_model.specs.Shape.{static_type}
 use Rattle.rv_types.specs.Shaping.{types_of}
-use Rattle.rv_eval.proofs.call.static_fault.Goals as goal
+use Rattle.rv_eval.proofs.early.static_fault.Goals as goal
 
 pub returns : goal.returns
 returns c =

@@ -1,0 +1,1 @@
+use Rattle.rv_sessions.proofs.explain.explained.Goals as goal
