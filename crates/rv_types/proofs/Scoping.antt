@@ -2,7 +2,7 @@
 use Rattle.std.proofs.Common.{◌≡◌, ◌∙◌, ℕ, true, false, List, [], refl, ap}
 use Rattle.std.specs.Option.{option_map_or}
 use Rattle.lang_model.specs.declared.syntax.Command.{Command}
-use Rattle.lang_model.specs.declared.syntax.Command.TheVariants.{Relation, Let, Print, List as LIST, Count, Typed, Remove, Snap, At, Load, Save}
+use Rattle.lang_model.specs.declared.syntax.Command.TheVariants.{Relation, Let, Print, List as LIST, Count, Typed, Remove, Snap, At, Load, Save, Explain}
 use Rattle.rv_types.specs.Items.{value_of_command}
 use Rattle.lang_model.specs.declared.syntax.Expr.{Expr}
 use Rattle.lang_model.specs.declared.syntax.Stmt.{Stmt}
@@ -60,3 +60,4 @@ command_faults-value E (Snap name) = refl
 command_faults-value E (At at name value) = refl
 command_faults-value E (Load name file) = refl
 command_faults-value E (Save value file) = refl
+command_faults-value E (Explain value) = refl

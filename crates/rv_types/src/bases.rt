@@ -2,11 +2,11 @@
 ghost use Rattle.std.specs.Prelude.{◌≡◌, cond};
 ghost use Rattle.lang_model.specs.declared.faults.TypeFault.TheVariants.{Mismatch};
 ghost use Rattle.lang_model.specs.BaseNames.{base_text};
-ghost use Rattle.lang_model.specs.Types.{Fits, Misfit, type_of, square as square_as, vector as vector_as, typed_base, typed_base_of_two, type_of_domain};
+ghost use Rattle.lang_model.specs.Types.{Fits, Misfit, type_of, side as side_of, squared as squared_as, square as square_as, bounding as bounding_as, vector as vector_as, typed_base, typed_base_of_two, type_of_domain};
 ghost use Rattle.lang_model.specs.Shape.{typed_based};
 ghost use Rattle.rv_types.specs.Shaping.{Answers};
 
-use crate::misfits::{mismatch, not_square, not_vector, text_of};
+use crate::misfits::{mismatch, not_square, not_vector};
 use crate::operators::alike;
 use crate::sizes::{agree, known_of_both, power, product, sum};
 use lang_model::faults::{StaticShape, TypeFault};
@@ -20,16 +20,36 @@ fn typed(rows: Option<u32>, cols: Option<u32>) -> StaticShape
     StaticShape { rows, cols }
 }
 
-/// The type of a base call of a square operand.
-fn square(alloc: Global, at: Place, base: Base, s: StaticShape) -> Result<StaticShape, TypeFault>
-    ensures { Answers (square_as at base s) (λ u. u) result }
+/// The known one of the two sizes of a square operand.
+fn side(s: StaticShape) -> Option<u32>
+    ensures { result ≡ side_of s }
+{
+    known_of_both(s.rows, s.cols)
+}
+
+/// This type of a base call of a square operand.
+fn squared(
+    alloc: Global,
+    at: Place,
+    base: Base,
+    s: StaticShape,
+    of_call: StaticShape,
+) -> Result<StaticShape, TypeFault>
+    ensures { Answers (squared_as at base s (Fits of_call)) (λ u. u) result }
 {
     if agree(s.rows, s.cols) {
-        let size = known_of_both(s.rows, s.cols);
-        Ok(typed(size, size))
+        Ok(of_call)
     } else {
         Err(not_square(alloc, at, base, s))
     }
+}
+
+/// The type of a base call of a square operand that gives a square result.
+fn square(alloc: Global, at: Place, base: Base, s: StaticShape) -> Result<StaticShape, TypeFault>
+    ensures { Answers (square_as at base s) (λ u. u) result }
+{
+    let size = side(s);
+    squared(alloc, at, base, s, typed(size, size))
 }
 
 /// This type of a base call of a vector.
@@ -79,6 +99,9 @@ fn base_of_one(
         Base::Inj => vector(alloc, at, Base::Inj, s, typed(None, s.rows)),
         Base::Empty => Ok(typed(one, one)),
         Base::Unival => Ok(typed(one, one)),
+        Base::Less => square(alloc, at, Base::Less, s),
+        Base::Hasse => square(alloc, at, Base::Hasse, s),
+        Base::Quot => squared(alloc, at, Base::Quot, s, typed(side(s), None)),
         _ => Ok(typed(Some(0), Some(0))),
     }
 }
@@ -99,7 +122,26 @@ fn compared(
     if fit {
         Ok(of_call)
     } else {
-        Err(mismatch(alloc, at, text_of(base), s, t))
+        Err(mismatch(alloc, at, base.text(), s, t))
+    }
+}
+
+/// The type of a base call of a square operand and of a second one with as many rows.
+fn bounding(
+    alloc: Global,
+    at: Place,
+    base: Base,
+    s: StaticShape,
+    t: StaticShape,
+) -> Result<StaticShape, TypeFault>
+    ensures { Answers (bounding_as at base s t) (λ u. u) result }
+{
+    if agree(s.rows, s.cols) {
+        let size = side(s);
+        let of_call = typed(known_of_both(size, t.rows), t.cols);
+        compared(alloc, at, base, agree(size, t.rows), of_call, s, t)
+    } else {
+        Err(not_square(alloc, at, base, s))
     }
 }
 
@@ -121,6 +163,12 @@ fn base_of_two(
         }
         Base::Eq => compared(alloc, at, Base::Eq, alike(s, t), one, s, t),
         Base::Incl => compared(alloc, at, Base::Incl, alike(s, t), one, s, t),
+        Base::Ubd => bounding(alloc, at, Base::Ubd, s, t),
+        Base::Lbd => bounding(alloc, at, Base::Lbd, s, t),
+        Base::Least => bounding(alloc, at, Base::Least, s, t),
+        Base::Greatest => bounding(alloc, at, Base::Greatest, s, t),
+        Base::Sup => bounding(alloc, at, Base::Sup, s, t),
+        Base::Inf => bounding(alloc, at, Base::Inf, s, t),
         _ => Ok(typed(Some(0), Some(0))),
     }
 }

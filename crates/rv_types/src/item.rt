@@ -54,6 +54,7 @@ fn value_of(command: &Command) -> Option<&Expr>
         Command::Typed { value } => Some(value),
         Command::At { value, .. } => Some(value),
         Command::Save { value, .. } => Some(value),
+        Command::Explain { value } => Some(value),
         _ => None,
     }
 }

@@ -45,47 +45,11 @@ pub fn mismatch(
     }
 }
 
-/// How a base name is written.
-pub fn text_of(base: Base) -> &'static [u8]
-    ensures text { result.now ≡ base_text base }
-    ensures some { 1 ≤ length result.now }
-    ensures short { length result.now ≤ name_limit }
-{
-    match base {
-        Base::L => b"L",
-        Base::O => b"O",
-        Base::I => b"I",
-        Base::Ln1 => b"Ln1",
-        Base::On1 => b"On1",
-        Base::L1n => b"L1n",
-        Base::O1n => b"O1n",
-        Base::Dom => b"dom",
-        Base::Ran => b"ran",
-        Base::Trans => b"trans",
-        Base::Refl => b"refl",
-        Base::Epsi => b"epsi",
-        Base::Point => b"point",
-        Base::Atom => b"atom",
-        Base::Init => b"init",
-        Base::Next => b"next",
-        Base::Inj => b"inj",
-        Base::Empty => b"empty",
-        Base::Unival => b"unival",
-        Base::Syq => b"syq",
-        Base::Eq => b"eq",
-        Base::Incl => b"incl",
-        Base::P1 => b"p-1",
-        Base::P2 => b"p-2",
-        Base::I1 => b"i-1",
-        Base::I2 => b"i-2",
-    }
-}
-
 /// An operand that is not square.
 pub fn not_square(alloc: Global, at: Place, base: Base, shape: StaticShape) -> TypeFault
     ensures { Tells (NotSquare at (base_text base) shape) result }
 {
-    match Name::new(alloc, text_of(base)) {
+    match Name::new(alloc, base.text()) {
         Ok(op) => TypeFault::NotSquare { at, op, shape },
         Err(NoMemory) => TypeFault::NoMemory,
     }
@@ -95,7 +59,7 @@ pub fn not_square(alloc: Global, at: Place, base: Base, shape: StaticShape) -> T
 pub fn not_vector(alloc: Global, at: Place, base: Base, shape: StaticShape) -> TypeFault
     ensures { Tells (NotVector at (base_text base) shape) result }
 {
-    match Name::new(alloc, text_of(base)) {
+    match Name::new(alloc, base.text()) {
         Ok(op) => TypeFault::NotVector { at, op, shape },
         Err(NoMemory) => TypeFault::NoMemory,
     }
