@@ -9,12 +9,13 @@ DIGITS = frozenset(b"0123456789")
 IN_WORDS = LETTERS | DIGITS | frozenset(b"_")
 SIGNS = frozenset(b"()[]{},;:.=^-*\\/&|")
 KEYWORDS = frozenset(
-    "REL LET PRINT LIST COUNT TYPE DROP SNAP AT LOAD SAVE DECL PROD SUM BEG END RETURN WHILE DO OD IF THEN ELSE FI".split()
+    "REL LET PRINT LIST COUNT TYPE DROP SNAP AT LOAD SAVE DECL PROD SUM BEG END RETURN WHILE DO OD IF THEN ELSE FI "
+    "EXPLAIN".split()
 )
 BASE1 = frozenset(
-    "L O I Ln1 On1 L1n O1n dom ran trans refl epsi point atom init next inj empty unival".split()
+    "L O I Ln1 On1 L1n O1n dom ran trans refl epsi point atom init next inj empty unival less hasse quot".split()
 )
-BASE2 = frozenset("syq eq incl".split())
+BASE2 = frozenset("syq eq incl ubd lbd least greatest sup inf".split())
 DOMOPS = frozenset((b"p-1", b"p-2", b"i-1", b"i-2"))
 DEEPEST = 40
 MOST = 16
@@ -146,7 +147,7 @@ GRAMMAR = {
     "command": [("alt", [
         ["REL", "NAME", "NUMBER", "NUMBER", "{", ("opt", ["row", more(";", "row")]), "}"],
         ["LET", "NAME", "=", "expr"],
-        *([word, "expr"] for word in ("PRINT", "LIST", "COUNT", "TYPE")),
+        *([word, "expr"] for word in ("PRINT", "LIST", "COUNT", "TYPE", "EXPLAIN")),
         ["DROP", "NAME"], ["SNAP", "NAME"], ["AT", "NAME", "PRINT", "expr"],
         ["LOAD", "NAME", "FILE"], ["SAVE", "expr", "FILE"],
     ])],

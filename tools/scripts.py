@@ -146,7 +146,7 @@ class Checker:
         elif kind == "AT":
             items.next(), items.next()
             items.expression(names)
-        elif kind in ("PRINT", "LIST", "COUNT", "TYPE", "SAVE"):
+        elif kind in ("PRINT", "LIST", "COUNT", "TYPE", "SAVE", "EXPLAIN"):
             items.expression(names)
         while not items.sees("."):
             items.next()

@@ -34,6 +34,7 @@ pub enum Opening {
     At,
     Load,
     Save,
+    Explain,
 }
 
 /// The command that a keyword opens.
@@ -52,6 +53,7 @@ pub fn opening_of(keyword: Keyword) -> Option<Opening>
         Keyword::At => Some(Opening::At),
         Keyword::Load => Some(Opening::Load),
         Keyword::Save => Some(Opening::Save),
+        Keyword::Explain => Some(Opening::Explain),
         _ => None,
     }
 }
@@ -116,6 +118,7 @@ enum Asked {
     List,
     Count,
     Type,
+    Explain,
 }
 
 /// The command that asks this of a value.
@@ -128,6 +131,7 @@ fn asking(asked: Asked, value: Expr) -> Command
         Asked::List => Command::List { value },
         Asked::Count => Command::Count { value },
         Asked::Type => Command::Typed { value },
+        Asked::Explain => Command::Explain { value },
     }
 }
 
@@ -192,5 +196,6 @@ pub fn command(
         Opening::At => look(alloc, tokens, end),
         Opening::Load => loading(alloc, tokens, end),
         Opening::Save => saving(alloc, tokens, end),
+        Opening::Explain => asked_value(alloc, Asked::Explain, tokens, end),
     }
 }

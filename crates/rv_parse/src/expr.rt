@@ -99,6 +99,8 @@ fn form_of(base: Base) -> Form
 {
     match base {
         Base::Syq | Base::Eq | Base::Incl => Form::Two,
+        Base::Ubd | Base::Lbd | Base::Least => Form::Two,
+        Base::Greatest | Base::Sup | Base::Inf => Form::Two,
         Base::P1 | Base::P2 | Base::I1 | Base::I2 => Form::Domain,
         _ => Form::One,
     }

@@ -111,6 +111,7 @@ fn number_of(keyword: Keyword) -> u8
         Keyword::Then => 21,
         Keyword::Else => 22,
         Keyword::Fi => 23,
+        Keyword::Explain => 24,
     }
 }
 

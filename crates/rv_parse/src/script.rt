@@ -146,6 +146,7 @@ fn written(keyword: Keyword) -> &'static [u8]
         Keyword::Then => b"THEN",
         Keyword::Else => b"ELSE",
         Keyword::Fi => b"FI",
+        Keyword::Explain => b"EXPLAIN",
     }
 }
 

@@ -16,7 +16,7 @@ use Rattle.lang_model.specs.declared.token.Token.{Token}
 use Rattle.lang_model.specs.Tokens.{is_allowed, reserved_words, domain_operators, domain_operator_at, word_kind, kind_at, behind, tokens_from, tokens_of}
 use Rattle.lang_model.specs.Printing.{printed}
 use Rattle.lang_model.specs.Spelling.{OrLevel, Spelled, SpelledBy}
-use Rattle.rv_spell.specs.Places.{Tree, tree_of, without_places, SameUpToPlaces}
+use Rattle.lang_model.specs.Trees.{Tree, tree_of, without_places, SameUpToPlaces}
 use Rattle.rv_spell.specs.Plain.{ItemTree, CommandItem, PrintTree, item_tree, script_tree}
 use Rattle.rv_spell.specs.Again.{StandsIn, SpellOnly, ReadAgain, PrintsSame, PrintsAgain}
 use Rattle.rv_tokens.proofs.Naming.{all_named, named_behind}

@@ -15,7 +15,7 @@ use Rattle.lang_model.specs.BaseNames.{Form, TakesOne, TakesTwo, TakesDomain, fo
 use Rattle.lang_model.specs.Spelling.{Level, OrLevel, AndLevel, ProdLevel, UnaryLevel, PostLevel, PrimLevel, tighter, IsOperatorOf, Spelled, named, called, based, based_twice, injected, paired, enclosed, turned, negated, chained, alone, Listed, Linked, no_link, one_link}
 use Rattle.rv_spell.specs.Again.{Ends}
 use Rattle.rv_parse.specs.Readers.{begins}
-use Rattle.rv_spell.specs.Places.{Tree, Branches, NameTree, CallTree, BaseTree, InjectTree, PairTree, MinusTree, TurnedTree, ChainTree, NoBranch, MoreBranches, tree_of, nowhere}
+use Rattle.lang_model.specs.Trees.{Tree, Branches, NameTree, CallTree, BaseTree, InjectTree, PairTree, MinusTree, TurnedTree, ChainTree, NoBranch, MoreBranches, tree_of, nowhere}
 use Rattle.rv_parse.proofs.Fitting.{IsChains, is_chains}
 use Rattle.rv_spell.proofs.Places.{trees_in, branches_in, tree_call, tree_base, tree_pair, tree_minus, tree_turned, tree_chain}
 

@@ -8,7 +8,7 @@ use Rattle.lang_model.specs.declared.syntax.Place.{Place}
 use Rattle.lang_model.specs.declared.syntax.Op2.{Op2}
 use Rattle.lang_model.specs.declared.syntax.Op2.TheVariants.{Or, And, Times, Under, Over}
 use Rattle.lang_model.specs.declared.syntax.Base.{Base}
-use Rattle.lang_model.specs.declared.syntax.Base.TheVariants.{L, O, I, Ln1, On1, L1n, O1n, Dom, Ran, Trans, Refl, Epsi, Point, Atom, Init, Next, Inj, Empty, Unival, Syq, Eq, Incl, P1, P2, I1, I2}
+use Rattle.lang_model.specs.declared.syntax.Base.TheVariants.{L, O, I, Ln1, On1, L1n, O1n, Dom, Ran, Trans, Refl, Epsi, Point, Atom, Init, Next, Inj, Empty, Unival, Less, Hasse, Quot, Syq, Eq, Incl, Ubd, Lbd, Least, Greatest, Sup, Inf, P1, P2, I1, I2}
 use Rattle.lang_model.specs.declared.token.Kind.{Kind}
 use Rattle.lang_model.specs.declared.token.Kind.TheVariants.{Base as BASE, Word, Sign}
 use Rattle.lang_model.specs.declared.token.Token.{Token}
@@ -272,9 +272,18 @@ base_kind Next bs = refl
 base_kind Inj bs = refl
 base_kind Empty bs = refl
 base_kind Unival bs = refl
+base_kind Less bs = refl
+base_kind Hasse bs = refl
+base_kind Quot bs = refl
 base_kind Syq bs = refl
 base_kind Eq bs = kind_letter (101 ∷ 113 ∷ 40 ∷ bs) (omega arith) refl ∙ ap (λ o. option_map_or (λ kind. Some (kind, 3)) o (word_at (101 ∷ 113 ∷ 40 ∷ bs))) (name_no_operator 101 (113 ∷ []) (40 ∷ bs) refl refl)
 base_kind Incl bs = refl
+base_kind Ubd bs = refl
+base_kind Lbd bs = refl
+base_kind Least bs = refl
+base_kind Greatest bs = refl
+base_kind Sup bs = refl
+base_kind Inf bs = refl
 base_kind P1 bs = refl
 base_kind P2 bs = refl
 base_kind I1 bs = refl
@@ -300,9 +309,18 @@ base_lexes Next at bs = word_lexes 110 (101 ∷ 120 ∷ 116 ∷ []) (BASE Next) 
 base_lexes Inj at bs = word_lexes 105 (110 ∷ 106 ∷ []) (BASE Inj) at (40 ∷ bs) refl refl (base_kind Inj bs)
 base_lexes Empty at bs = word_lexes 101 (109 ∷ 112 ∷ 116 ∷ 121 ∷ []) (BASE Empty) at (40 ∷ bs) refl refl (base_kind Empty bs)
 base_lexes Unival at bs = word_lexes 117 (110 ∷ 105 ∷ 118 ∷ 97 ∷ 108 ∷ []) (BASE Unival) at (40 ∷ bs) refl refl (base_kind Unival bs)
+base_lexes Less at bs = word_lexes 108 (101 ∷ 115 ∷ 115 ∷ []) (BASE Less) at (40 ∷ bs) refl refl (base_kind Less bs)
+base_lexes Hasse at bs = word_lexes 104 (97 ∷ 115 ∷ 115 ∷ 101 ∷ []) (BASE Hasse) at (40 ∷ bs) refl refl (base_kind Hasse bs)
+base_lexes Quot at bs = word_lexes 113 (117 ∷ 111 ∷ 116 ∷ []) (BASE Quot) at (40 ∷ bs) refl refl (base_kind Quot bs)
 base_lexes Syq at bs = word_lexes 115 (121 ∷ 113 ∷ []) (BASE Syq) at (40 ∷ bs) refl refl (base_kind Syq bs)
 base_lexes Eq at bs = word_lexes 101 (113 ∷ []) (BASE Eq) at (40 ∷ bs) refl refl (base_kind Eq bs)
 base_lexes Incl at bs = word_lexes 105 (110 ∷ 99 ∷ 108 ∷ []) (BASE Incl) at (40 ∷ bs) refl refl (base_kind Incl bs)
+base_lexes Ubd at bs = word_lexes 117 (98 ∷ 100 ∷ []) (BASE Ubd) at (40 ∷ bs) refl refl (base_kind Ubd bs)
+base_lexes Lbd at bs = word_lexes 108 (98 ∷ 100 ∷ []) (BASE Lbd) at (40 ∷ bs) refl refl (base_kind Lbd bs)
+base_lexes Least at bs = word_lexes 108 (101 ∷ 97 ∷ 115 ∷ 116 ∷ []) (BASE Least) at (40 ∷ bs) refl refl (base_kind Least bs)
+base_lexes Greatest at bs = word_lexes 103 (114 ∷ 101 ∷ 97 ∷ 116 ∷ 101 ∷ 115 ∷ 116 ∷ []) (BASE Greatest) at (40 ∷ bs) refl refl (base_kind Greatest bs)
+base_lexes Sup at bs = word_lexes 115 (117 ∷ 112 ∷ []) (BASE Sup) at (40 ∷ bs) refl refl (base_kind Sup bs)
+base_lexes Inf at bs = word_lexes 105 (110 ∷ 102 ∷ []) (BASE Inf) at (40 ∷ bs) refl refl (base_kind Inf bs)
 base_lexes P1 at bs = word_lexes 112 (45 ∷ 49 ∷ []) (BASE P1) at (40 ∷ bs) refl refl (base_kind P1 bs)
 base_lexes P2 at bs = word_lexes 112 (45 ∷ 50 ∷ []) (BASE P2) at (40 ∷ bs) refl refl (base_kind P2 bs)
 base_lexes I1 at bs = word_lexes 105 (45 ∷ 49 ∷ []) (BASE I1) at (40 ∷ bs) refl refl (base_kind I1 bs)
@@ -328,9 +346,18 @@ base_allowed Next = refl
 base_allowed Inj = refl
 base_allowed Empty = refl
 base_allowed Unival = refl
+base_allowed Less = refl
+base_allowed Hasse = refl
+base_allowed Quot = refl
 base_allowed Syq = refl
 base_allowed Eq = refl
 base_allowed Incl = refl
+base_allowed Ubd = refl
+base_allowed Lbd = refl
+base_allowed Least = refl
+base_allowed Greatest = refl
+base_allowed Sup = refl
+base_allowed Inf = refl
 base_allowed P1 = refl
 base_allowed P2 = refl
 base_allowed I1 = refl

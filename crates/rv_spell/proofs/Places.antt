@@ -8,7 +8,7 @@ use Rattle.lang_model.specs.declared.syntax.Base.{Base}
 use Rattle.lang_model.specs.declared.syntax.Link.{Link}
 use Rattle.lang_model.specs.declared.syntax.Expr.{Expr, Ref, Inject, Row_of-Expr, end_of-Expr, more_of-Expr, items-the_row-Expr, Row_of-Link, end_of-Link, more_of-Link, items-the_row-Link, the_lemmas}
 use Rattle.lang_model.specs.declared.syntax.Expr.TheVariants.{Call, Base as BaseCall, Pair, Minus, Turned, Chain}
-use Rattle.rv_spell.specs.Places.{Trees, Branches, CallTree, BaseTree, PairTree, MinusTree, TurnedTree, ChainTree, NoTree, MoreTrees, NoBranch, MoreBranches, tree_of, trees_of, branches_of, nowhere, without_places, all_without_places, links_without_places, SameUpToPlaces}
+use Rattle.lang_model.specs.Trees.{Trees, Branches, CallTree, BaseTree, PairTree, MinusTree, TurnedTree, ChainTree, NoTree, MoreTrees, NoBranch, MoreBranches, tree_of, trees_of, branches_of, nowhere, without_places, all_without_places, links_without_places, SameUpToPlaces}
 
 -- the trees of arguments as a list, and those of links
 abbrev pub trees_in : List Expr → Trees

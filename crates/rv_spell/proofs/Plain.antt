@@ -2,7 +2,7 @@
 use Rattle.std.proofs.Common.{◌≡◌, refl, ap, rules}
 use Rattle.lang_model.specs.declared.syntax.Stmt.{Row_of-Stmt, end_of-Stmt, more_of-Stmt, items-the_row-Stmt, the_lemmas}
 use Rattle.lang_model.specs.declared.syntax.Stmt.TheVariants.{While, If}
-use Rattle.rv_spell.specs.Places.{tree_of}
+use Rattle.lang_model.specs.Trees.{tree_of}
 use Rattle.rv_spell.specs.Plain.{WhileTree, IfTree, MoreStmts, stmt_tree, stmt_trees, stmts_in}
 
 stmt_trees-items : (n : _) (k : Row_of-Stmt n) → stmt_trees k ≡ stmts_in (items-the_row-Stmt n k)

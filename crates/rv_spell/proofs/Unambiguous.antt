@@ -11,7 +11,7 @@ use Rattle.lang_model.specs.declared.token.Token.{Token}
 use Rattle.lang_model.specs.Taken.{TakesAt, Carets}
 use Rattle.lang_model.specs.Spelling.{Level, OrLevel, AndLevel, ProdLevel, UnaryLevel, PostLevel, PrimLevel, tighter, IsOperatorOf, Spelled, named, called, based, based_twice, injected, paired, enclosed, turned, negated, chained, alone, Listed, no_more, one_more, Linked, no_link, one_link}
 use Rattle.rv_parse.specs.Readers.{begins}
-use Rattle.rv_spell.specs.Places.{CallTree, BaseTree, InjectTree, PairTree, MinusTree, TurnedTree, NoTree, MoreTrees, MoreBranches, tree_of}
+use Rattle.lang_model.specs.Trees.{CallTree, BaseTree, InjectTree, PairTree, MinusTree, TurnedTree, NoTree, MoreTrees, MoreBranches, tree_of}
 use Rattle.rv_parse.proofs.Fitting.{no_minus}
 use Rattle.rv_spell.proofs.Places.{trees_in, branches_in, tree_call, tree_base, tree_pair, tree_minus, tree_turned, tree_chain}
 use Rattle.rv_spell.proofs.Apart.{ends_tighter, ends_comma, ends_close, ends_bracket, ends_operand, goes_on, one_operator, one_kind, one_place, one_rest, place_of_first, not_sign, one_word, linked_chains, chain_tree, chain_tree_of, as_chain, as_unary, post_tree, as_post, OneOf, TwoOf, DomainOf, BasedOn, prim_at, only_name, only_call, only_enclosed, only_pair}

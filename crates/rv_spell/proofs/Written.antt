@@ -18,7 +18,7 @@ use Rattle.lang_model.specs.Tokens.{is_allowed, behind, tokens_from}
 use Rattle.lang_model.specs.BaseNames.{base_text, TakesOne, TakesTwo, TakesDomain, form_of}
 use Rattle.lang_model.specs.Printing.{printed, rank, within}
 use Rattle.lang_model.specs.Spelling.{Level, OrLevel, AndLevel, ProdLevel, UnaryLevel, PostLevel, PrimLevel, tighter, Spelled, named, called, based, based_twice, injected, paired, turned, negated, chained, alone, Listed, Linked}
-use Rattle.rv_spell.specs.Places.{SameUpToPlaces}
+use Rattle.lang_model.specs.Trees.{SameUpToPlaces}
 use Rattle.rv_spell.proofs.Places.{SameArguments, SameLinks, same_names, same_calls, same_bases, same_injections, same_pairs, same_minus, same_turned, same_chains, no_arguments, one_argument, same_count, same_count_links}
 use Rattle.rv_spell.specs.Printed.{printed_more_args, printed_all_args, printed_all_links}
 use Rattle.rv_spell.specs.Again.{ends_names}

@@ -8,7 +8,7 @@ use Rattle.lang_model.specs.declared.syntax.Script.{Script}
 use Rattle.lang_model.specs.declared.token.Token.{Token}
 use Rattle.lang_model.specs.Tokens.{is_word_byte, tokens_from, tokens_of}
 use Rattle.lang_model.specs.Spelling.{Level, OrLevel, AndLevel, ProdLevel, UnaryLevel, PostLevel, PrimLevel, Spelled, SpelledBy}
-use Rattle.rv_spell.specs.Places.{SameUpToPlaces}
+use Rattle.lang_model.specs.Trees.{SameUpToPlaces}
 use Rattle.rv_parse.specs.Readers.{begins, begins_operator}
 
 -- the expression stands somewhere in a text that has tokens, with so many constructs open around it

@@ -1,4 +1,3 @@
-pub mod Places
 pub mod Printed
 pub mod Again
 pub mod Plain

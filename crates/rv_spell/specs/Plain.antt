@@ -7,12 +7,12 @@ use Rattle.lang_model.specs.declared.syntax.Row.{Row}
 use Rattle.lang_model.specs.declared.syntax.Decl.{Decl}
 use Rattle.lang_model.specs.declared.syntax.Stmt.{Stmt, Set, While', If', Row_of-Stmt, end_of-Stmt, more_of-Stmt}
 use Rattle.lang_model.specs.declared.syntax.Command.{Command}
-use Rattle.lang_model.specs.declared.syntax.Command.TheVariants.{Relation, Let, Print, List as ListOf, Count, Typed, Remove, Snap, At, Load, Save}
+use Rattle.lang_model.specs.declared.syntax.Command.TheVariants.{Relation, Let, Print, List as ListOf, Count, Typed, Remove, Snap, At, Load, Save, Explain}
 use Rattle.lang_model.specs.declared.syntax.Item.{Item}
 use Rattle.lang_model.specs.declared.syntax.Item.TheVariants.{Function, Program, Command as COMMAND}
 use Rattle.lang_model.specs.declared.syntax.Script.{Script}
 use Rattle.lang_model.specs.Spelling.{SpelledBy}
-use Rattle.rv_spell.specs.Places.{Tree, tree_of}
+use Rattle.lang_model.specs.Trees.{Tree, tree_of}
 
 -- ---- listed relations
 -- a row: its number, its place and its columns
@@ -71,6 +71,7 @@ pub data CommandTree : Type 0 where
   AtTree : Place → List ℕ → Tree → CommandTree
   LoadTree : List ℕ → List ℕ → CommandTree
   SaveTree : Tree → List ℕ → CommandTree
+  ExplainTree : Tree → CommandTree
 
 -- the tree of a command
 abbrev pub command_tree : Command → CommandTree
@@ -86,6 +87,7 @@ command_tree (Snap name) = SnapTree name
 command_tree (At at name value) = AtTree at name (tree_of value)
 command_tree (Load name file) = LoadTree name file
 command_tree (Save value file) = SaveTree (tree_of value) file
+command_tree (Explain value) = ExplainTree (tree_of value)
 
 -- an item: a function, a program or a command
 pub data ItemTree : Type 0 where

@@ -1,11 +1,10 @@
 //! The text of an expression.
 ghost use Rattle.std.specs.Prelude.{◌≡◌, ◌++◌, ◌∷◌, ℕ, [], replicate, nat_le, IfOk, OnOk};
-ghost use Rattle.lang_model.specs.BaseNames.{base_text};
 ghost use Rattle.lang_model.specs.Printing.{sign_of, chain_rank, rank, within, printed};
 ghost use Rattle.rv_spell.specs.Again.{StandsIn, ReadAgain, PrintsAgain};
 ghost use Rattle.rv_spell.specs.Printed.{rank_of_links, printed_all_args, printed_all_links};
 
-use lang_model::syntax::{Base, Expr, Link, Op2};
+use lang_model::syntax::{Expr, Link, Op2};
 use rel_model::NoMemory;
 use std::alloc::Global;
 
@@ -19,40 +18,6 @@ fn sign_of(op: Op2) -> u8
         Op2::Times => b'*',
         Op2::Under => b'\\',
         Op2::Over => b'/',
-    }
-}
-
-/// How a base name or a domain operator is written.
-fn base_text(base: Base) -> &'static [u8]
-    ensures { result.now ≡ base_text base }
-{
-    match base {
-        Base::L => b"L",
-        Base::O => b"O",
-        Base::I => b"I",
-        Base::Ln1 => b"Ln1",
-        Base::On1 => b"On1",
-        Base::L1n => b"L1n",
-        Base::O1n => b"O1n",
-        Base::Dom => b"dom",
-        Base::Ran => b"ran",
-        Base::Trans => b"trans",
-        Base::Refl => b"refl",
-        Base::Epsi => b"epsi",
-        Base::Point => b"point",
-        Base::Atom => b"atom",
-        Base::Init => b"init",
-        Base::Next => b"next",
-        Base::Inj => b"inj",
-        Base::Empty => b"empty",
-        Base::Unival => b"unival",
-        Base::Syq => b"syq",
-        Base::Eq => b"eq",
-        Base::Incl => b"incl",
-        Base::P1 => b"p-1",
-        Base::P2 => b"p-2",
-        Base::I1 => b"i-1",
-        Base::I2 => b"i-2",
     }
 }
 
@@ -166,9 +131,9 @@ fn write_expr(text: &mut Vec<u8>, expr: &Expr) -> Result<(), NoMemory>
             Ok(())
         }
         Expr::Call { name, args, .. } => write_call(text, name.bytes(), args.as_slice()),
-        Expr::Base { base, args, .. } => write_call(text, base_text(*base), args.as_slice()),
+        Expr::Base { base, args, .. } => write_call(text, base.text(), args.as_slice()),
         Expr::Inject { base, domain, .. } => {
-            text.extend_from_slice(base_text(*base))?;
+            text.extend_from_slice(base.text())?;
             text.push(b'(')?;
             text.extend_from_slice(domain.bytes())?;
             text.push(b')')?;

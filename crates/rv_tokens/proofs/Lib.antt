@@ -2,3 +2,4 @@ pub mod Lexing
 pub mod Lexemes
 pub mod Agreeing
 pub mod Naming
+mod Tables

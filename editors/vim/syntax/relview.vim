@@ -6,12 +6,13 @@ endif
 syntax case match
 syntax iskeyword @,48-57,_
 
-syntax keyword relviewCommand REL LET PRINT LIST COUNT TYPE DROP SNAP AT LOAD SAVE
+syntax keyword relviewCommand REL LET PRINT LIST COUNT TYPE DROP SNAP AT LOAD SAVE EXPLAIN
 syntax keyword relviewProgram DECL PROD SUM BEG END RETURN
 syntax keyword relviewControl WHILE DO OD IF THEN ELSE FI
 syntax keyword relviewBase L O I Ln1 On1 L1n O1n dom ran trans refl epsi
 syntax keyword relviewBase point atom init next inj empty unival
-syntax keyword relviewBase syq eq incl
+syntax keyword relviewBase less hasse quot
+syntax keyword relviewBase syq eq incl ubd lbd least greatest sup inf
 syntax match relviewDomain "\<\%(p-1\|p-2\|i-1\|i-2\)\>"
 syntax match relviewNumber "\<\d\+\>"
 syntax match relviewOperator "[-|&*\\/^]"

@@ -90,5 +90,6 @@ pub fn push_command(alloc: Global, out: &mut String, command: &Command) -> Resul
             push_value(alloc, out, "SAVE", value)?;
             push_file(out, file)
         }
+        Command::Explain { value } => push_value(alloc, out, "EXPLAIN", value),
     }
 }

@@ -13,7 +13,7 @@ write_expr-returns-in-Call t c =
 pub write_expr-returns-in-Base : goal.write_expr-returns-in-Base
 write_expr-returns-in-Base t c =
     let text = c.args.text.now.items in
-    let same = (λ i. c.base_text.ensures i ++ (40 ∷ printed_all_args (c.as_slice-in-Base.ensures.value i) ++ 41 ∷ [])) ∙ sym (ap printed c.in-Base.is ∙ printed_base c.in-Base.at c.in-Base.base c.in-Base.args) in
+    let same = (λ i. c.text.ensures.text i ++ (40 ∷ printed_all_args (c.as_slice-in-Base.ensures.value i) ++ 41 ∷ [])) ∙ sym (ap printed c.in-Base.is ∙ printed_base c.in-Base.at c.in-Base.base c.in-Base.args) in
     subst (λ bytes. OnOk c.write_call-in-Base.result (c.write_call-in-Base.new.text.items ≡ text ++ bytes)) same c.write_call-in-Base.ensures
 
 pub write_expr-returns-in_ok-write_operand-in-Chain : goal.write_expr-returns-in_ok-write_operand-in-Chain
