@@ -1,4 +1,5 @@
 pub mod Standing
 pub mod Marking
+pub mod Explained
 pub mod Lines
 pub mod Chains
