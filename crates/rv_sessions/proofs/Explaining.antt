@@ -25,7 +25,8 @@ use Rattle.run_model.specs.Texts.{prefix, refusal_text}
 use Rattle.run_model.specs.Carried.{Carried, carried}
 use Rattle.run_model.specs.Turns.{Turn}
 use Rattle.turn_book.specs.Views.{View as PASS}
-use Rattle.rv_workspace.specs.Entering.{picked, read_of}
+use Rattle.rv_workspace.specs.Entering.{read_of}
+use Rattle.rv_workspace.specs.Picking.{picked}
 use Rattle.rv_eval.specs.declared.halt.Refused.{Refused as REFUSED}
 use Rattle.rv_eval.specs.declared.halt.Refused.TheVariants.{Ill as ILL_REFUSED, Size as SIZE_REFUSED, Turns as TURNS_REFUSED, Nodes, NoMemory}
 use Rattle.rv_eval.specs.Names.{state_of}
@@ -54,7 +55,7 @@ refused_ahead early steps NoMemory o e h = inr e
 
 -- nothing but a refusal is told in its place
 pub explained_not_done : (early : Option TypeFault) (steps : List Step) (o : Outcome) → CameExplained early steps (Err o) → o ≡ Done → ⊥
-explained_not_done early steps o (inl h) e = absurd (let z : ILL h.0 ≡ Done = sym h.2.1 ∙ e in cc)
+explained_not_done early steps o (inl h) e = absurd (let z : ILL h.0 ≡ Done = sym h.2 ∙ e in cc)
 explained_not_done early steps o (inr h) e = absurd (let z : NO_MEMORY ≡ Done = sym h ∙ e in cc)
 
 made_none : (a b : ℕ) → b ≡ a → b ≤ a + 0
