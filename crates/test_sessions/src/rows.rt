@@ -1,5 +1,5 @@
-//! Runs whose pages were worked out by hand: loops and their limits, kernels of a cycle, names that are not there,
-//! snapshots, and two sessions that do not meet.
+//! Runs whose pages were worked out by hand: loops and their limits, kernels of a cycle, steps of rewriting, orders and
+//! classes, names that are not there, snapshots, and two sessions that do not meet.
 use crate::made::{Options, assert_came, comes_to, run_at_once, scripts_of};
 use fork_quads::OpenGate;
 use std::alloc::Global;
@@ -69,6 +69,54 @@ const SINGLE: &[(u64, u32, u32, &str, &str, &str)] = &[
         "REL A 1 1 {}. SNAP t. REL A 1 1 {1:1}. AT t PRINT A. PRINT A. DROP A. AT u PRINT A.",
         "......i",
         "1.4: 1 x 1\n.\n1.5: 1 x 1\n1\n1.7: refused: 1:74: unknown name u\n1.1 assign A 1 x 1\n1.2 read\n1.3 assign A 1 x 1\n1.5 read\n1.6 drop A\n",
+    ),
+    (
+        1_000_000,
+        20,
+        1,
+        "REL A 2 2 {1:2}. REL B 2 2 {}. EXPLAIN -(A^*-B)|A\\B.",
+        "...",
+        "1.3: 2 steps\n5: -(A^*-B) -> A\\B\n4: A\\B|A\\B -> A\\B\n1.1 assign A 2 x 2\n1.2 assign B 2 x 2\n1.3 read\n",
+    ),
+    (
+        1_000_000,
+        10,
+        1,
+        "N(V) DECL p BEG p = init(V); WHILE -empty(p) DO p = next(p) OD RETURN p END. REL V 1100 1 {}. REL C 8 8 {}. COUNT N(V). COUNT --C. EXPLAIN --C.",
+        "...n..",
+        "1.4: refused: no free node word\n1.5: 0\n1.6: 1 steps\n1: --C -> C\n1.2 assign V 1100 x 1\n1.3 assign C 8 x 8\n1.4 read\n1.5 read\n1.6 read\n",
+    ),
+    (
+        1_000_000,
+        20,
+        1,
+        "EXPLAIN -Z.",
+        "i",
+        "1.1: refused: 1:10: unknown name Z\n1.1 read\n",
+    ),
+    (
+        1_000_000,
+        20,
+        1,
+        "REL A 1 1 {}. EXPLAIN epsi(A)^.",
+        "..",
+        "1.2: 0 steps\n1.1 assign A 1 x 1\n1.2 read\n",
+    ),
+    (
+        1_000_000,
+        20,
+        1,
+        "REL D 6 6 {1:1,2,3,4,5,6; 2:2,4,6; 3:3,6; 4:4; 5:5; 6:6}. REL V 6 1 {2:1; 3:1}. LIST hasse(D). LIST sup(D,V). LIST inf(D,V).",
+        ".....",
+        "1.3: 6 x 6, pairs 6\n1:2\n1:3\n1:5\n2:4\n2:6\n3:6\n1.4: 6 x 1, pairs 1\n6:1\n1.5: 6 x 1, pairs 1\n1:1\n1.1 assign D 6 x 6\n1.2 assign V 6 x 1\n1.3 read\n1.4 read\n1.5 read\n",
+    ),
+    (
+        1_000_000,
+        20,
+        1,
+        "REL E 3 3 {1:1,3; 2:2; 3:1,3}. PRINT quot(E). REL E 0 0 {}. TYPE quot(E).",
+        "....",
+        "1.2: 3 x 2\n1.\n.1\n1.\n1.4: 0 x 0\n1.1 assign E 3 x 3\n1.2 read\n1.3 assign E 0 x 0\n1.4 read\n",
     ),
     (
         1_000_000,
