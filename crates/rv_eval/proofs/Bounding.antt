@@ -1,5 +1,5 @@
 -- Base calls of bounds and of extremes: the tests of their operands, one after the other, and what they cost.
-use Rattle.std.proofs.Common.{◌≡◌, ◌≢◌, ◌≤◌, ◌+◌, ◌*◌, ◌==◌, ◌∙◌, ℕ, max, Bool, true, false, cond, List, [], ◌∷◌, refl, sym, ap, arith, Some}
+use Rattle.std.proofs.Common.{◌≡◌, ◌≢◌, ◌≤◌, ◌==◌, ◌∙◌, ℕ, Bool, true, false, cond, [], ◌∷◌, refl, ap, arith, Some}
 use Rattle.rel_model.specs.declared.Rel.{Rel}
 use Rattle.rel_model.specs.Relation.{Relation}
 use Rattle.rel_model.specs.Worker.{Worker, set_of, derived_room, bounds_room, wide_room, extremes_room, classes_room}
@@ -9,9 +9,9 @@ use Rattle.lang_model.specs.declared.syntax.Base.{Base}
 use Rattle.lang_model.specs.declared.syntax.Base.TheVariants.{Ubd, Lbd, Least, Greatest, Sup, Inf}
 use Rattle.lang_model.specs.declared.faults.TypeFault.TheVariants.{NotSquare, Mismatch}
 use Rattle.lang_model.specs.BaseNames.{base_text}
-use Rattle.lang_model.specs.Types.{Fits, Misfit, Typed, known, sizes, type_of, bounding}
+use Rattle.lang_model.specs.Types.{Fits, Misfit, known, sizes, type_of, bounding}
 use Rattle.lang_model.specs.Rooms.{order_cost}
-use Rattle.lang_model.specs.Outcomes.{Ill, Operation, Makes, Refuses}
+use Rattle.lang_model.specs.Outcomes.{Ill, Operation, Refuses}
 use Rattle.lang_model.specs.Mean.{fitting, based, base_made_of_two}
 use Rattle.rv_eval.specs.Demands.{bounds}
 use Rattle.rv_eval.proofs.Operating.{same_type, equal_sizes, unequal_sizes}

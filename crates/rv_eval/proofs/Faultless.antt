@@ -28,7 +28,7 @@ use Rattle.lang_model.specs.State.{State, assigned}
 use Rattle.lang_model.specs.Missing.{missing, missing_in, missing_along, first_of_both}
 use Rattle.lang_model.specs.Outcomes.{Size, Answer, Got, Not, Came, got, following, and_then, Operation, Makes, Refuses, with_turns}
 use Rattle.lang_model.specs.BaseNames.{base_text}
-use Rattle.lang_model.specs.Types.{Fits, Misfit, sizes, type_of, computed_of_two, agree, may_be, takes, side, square, vector, typed_base, typed_base_of_two}
+use Rattle.lang_model.specs.Types.{Fits, Misfit, sizes, type_of, computed_of_two, agree, may_be, takes, square, vector, typed_base, typed_base_of_two}
 use Rattle.lang_model.specs.Checking.{Names, among, no_name, Known, definition_of, Scope, is_projection, ref_faults, call_faults, domain_faults, target_faults, count_in, faults, faults_in, faults_along, rank_named, called, called_in, called_along, assigned_after, assigned_behind, assigned_by, faults_of, faults_within, faults_by, called_by, called_within, called_by_all}
 use Rattle.lang_model.specs.Mean.{Calls, around_with, fitting, limited, named, base_made, base_wants, base_made_of_two, based, linked, result_of_both, complemented, turned, paired, domain_made, injected_by, domain_named, where_fitting, tested, mean, means, mean_along, mean_test, one_turn, rounds, run, run_within, run_by}
 use Rattle.rv_eval.specs.Faultless.{IllBySizes}

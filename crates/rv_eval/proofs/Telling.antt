@@ -1,5 +1,5 @@
 -- How a refusal of a meaning is told.
-use Rattle.std.proofs.Common.{◌≡◌, ◌∙◌, ◌⊎◌, inl, inr, ℕ, Err, refl, sym, ap, subst}
+use Rattle.std.proofs.Common.{◌≡◌, ℕ, Err, refl}
 use Rattle.rel_model.specs.declared.Lack.TheVariants.{NoMemory as NO_MEMORY}
 use Rattle.rel_model.specs.declared.Lack.TheVariants.{Full}
 use Rattle.rel_model.specs.Relation.{Relation}
@@ -9,9 +9,8 @@ use Rattle.lang_model.specs.Outcomes.{Ill, Answer, Not}
 use Rattle.lang_model.specs.declared.faults.TypeFault.TheVariants.{NoMemory as FAULT_NO_MEMORY}
 use Rattle.rv_eval.specs.declared.halt.Halt.{Halt}
 use Rattle.rv_eval.specs.declared.halt.Halt.TheVariants.{Ill as ILL, Size as SIZE, Turns as TURNS, Lack as LACK}
-use Rattle.rv_eval.specs.declared.halt.Refused.{Refused}
 use Rattle.rv_eval.specs.Ends.{HasHalted}
-use Rattle.rv_eval.specs.Refusing.{told, told_ill, IsRefusedFor, IsAnswer}
+use Rattle.rv_eval.specs.Refusing.{told, told_ill, IsAnswer}
 
 -- the refusal of a meaning
 ill_answers : (old new : Worker) (turns : ℕ) (a : Answer Relation) (fault : TypeFault) → a ≡ Not (Ill fault) → IsAnswer old new turns a (Err (told_ill fault))

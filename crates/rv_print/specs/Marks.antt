@@ -1,5 +1,5 @@
 -- The marks of a row of cells.
-use Rattle.std.specs.Prelude.{◌+◌, ℕ, Bool, cond, zero, suc, List, [], ◌∷◌, ◌++◌}
+use Rattle.std.specs.Prelude.{ℕ, Bool, cond, zero, suc, List, [], ◌∷◌, ◌++◌}
 
 -- `1` for a cell that is in the set and `.` for one that is not
 abbrev pub mark : Bool → ℕ

@@ -1,8 +1,7 @@
 -- EXPLAIN: what the evaluator and the printer tell is what is due on the log that was read.
-use Rattle.std.proofs.Common.{◌≡◌, ◌+◌, ◌≤◌, ◌++◌, ◌∙◌, ◌⊎◌, inl, inr, ℕ, List, [], ◌∷◌, Option, Some, None, Result, Ok, Err, refl, sym, ap, subst, arith}
+use Rattle.std.proofs.Common.{◌≡◌, ◌+◌, ◌≤◌, ◌++◌, ◌∙◌, inl, inr, ℕ, List, [], ◌∷◌, Option, Some, None, Result, Ok, Err, refl, sym, ap, subst, arith}
 use Rattle.rel_model.specs.declared.NoMemory.{NoMemory as LACK}
 use Rattle.rel_model.specs.Worker.{Worker}
-use Rattle.rel_model.specs.Seats.{Stays}
 use Rattle.lang_model.specs.declared.faults.TypeFault.{TypeFault}
 use Rattle.lang_model.specs.declared.syntax.Expr.{Expr}
 use Rattle.lang_model.specs.declared.syntax.Command.TheVariants.{Explain as EXPLAIN}
@@ -18,14 +17,14 @@ use Rattle.run_model.specs.declared.outcome.Outcome.{Outcome}
 use Rattle.run_model.specs.declared.outcome.Outcome.TheVariants.{Done, Ill as ILL, NoMemory as NO_MEMORY}
 use Rattle.run_model.specs.Names.{lookup}
 use Rattle.run_model.specs.Inputs.{Input}
-use Rattle.run_model.specs.Due.{Workspace, Early, Due, Explained, Refused, due, due_of_command, due_of_steps, outcome_due}
+use Rattle.run_model.specs.Due.{Workspace, Early, Explained, Refused, due, due_of_command, due_of_steps, outcome_due}
 use Rattle.run_model.specs.Events.{reads_of}
-use Rattle.run_model.specs.Page.{explanation, done_text, done_save}
+use Rattle.run_model.specs.Page.{done_text, done_save}
 use Rattle.run_model.specs.Texts.{prefix, refusal_text}
 use Rattle.run_model.specs.Carried.{Carried, carried}
-use Rattle.run_model.specs.Turns.{Turn}
 use Rattle.turn_book.specs.Views.{View as PASS}
-use Rattle.rv_workspace.specs.Entering.{picked, read_of}
+use Rattle.rv_workspace.specs.Entering.{read_of}
+use Rattle.rv_workspace.specs.Picking.{picked}
 use Rattle.rv_eval.specs.declared.halt.Refused.{Refused as REFUSED}
 use Rattle.rv_eval.specs.declared.halt.Refused.TheVariants.{Ill as ILL_REFUSED, Size as SIZE_REFUSED, Turns as TURNS_REFUSED, Nodes, NoMemory}
 use Rattle.rv_eval.specs.Names.{state_of}
@@ -54,7 +53,7 @@ refused_ahead early steps NoMemory o e h = inr e
 
 -- nothing but a refusal is told in its place
 pub explained_not_done : (early : Option TypeFault) (steps : List Step) (o : Outcome) → CameExplained early steps (Err o) → o ≡ Done → ⊥
-explained_not_done early steps o (inl h) e = absurd (let z : ILL h.0 ≡ Done = sym h.2.1 ∙ e in cc)
+explained_not_done early steps o (inl h) e = absurd (let z : ILL h.0 ≡ Done = sym h.2 ∙ e in cc)
 explained_not_done early steps o (inr h) e = absurd (let z : NO_MEMORY ≡ Done = sym h ∙ e in cc)
 
 made_none : (a b : ℕ) → b ≡ a → b ≤ a + 0

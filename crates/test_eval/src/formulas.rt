@@ -28,6 +28,15 @@ pub(crate) enum Formula {
     Next,
     HasRow,
     HasCol,
+    Before,
+    Neighbour,
+    UpperBound,
+    LowerBound,
+    LeastOf,
+    GreatestOf,
+    Supremum,
+    Infimum,
+    Class,
     /// The first factor of a product whose second has so many elements.
     Factor(u32),
     /// The second factor, of so many elements.
@@ -74,8 +83,45 @@ fn is_chosen(formula: Formula, r: &Listed, s: &Listed, i: u32, j: u32) -> bool {
         Formula::Factor(y) => i / y.max(1) == j,
         Formula::OtherFactor(y) => i % y.max(1) == j,
         Formula::Behind(x) => x.wrapping_add(i) == j,
+        _ => is_ordered(formula, r, s, i, j),
+    }
+}
+
+/// The same for orders and classes.
+fn is_ordered(formula: Formula, r: &Listed, s: &Listed, i: u32, j: u32) -> bool {
+    match formula {
+        Formula::Before => i < j,
+        Formula::Neighbour => {
+            is_step(r, i, j) && !(0..r.rows).any(|k| is_step(r, i, k) && is_step(r, k, j))
+        }
+        Formula::UpperBound => is_upper(r, s, i, j),
+        Formula::LowerBound => is_lower(r, s, i, j),
+        Formula::LeastOf => s.has(i, j) && is_lower(r, s, i, j),
+        Formula::GreatestOf => s.has(i, j) && is_upper(r, s, i, j),
+        Formula::Supremum => {
+            is_upper(r, s, i, j) && (0..r.rows).all(|k| !is_upper(r, s, k, j) || r.has(i, k))
+        }
+        Formula::Infimum => {
+            is_lower(r, s, i, j) && (0..r.rows).all(|k| !is_lower(r, s, k, j) || r.has(k, i))
+        }
+        Formula::Class => r.class_of(i) == j,
         _ => false,
     }
+}
+
+/// Whether a pair of two elements is in.
+fn is_step(r: &Listed, i: u32, j: u32) -> bool {
+    i != j && r.has(i, j)
+}
+
+/// Whether an element is over all elements of a column.
+fn is_upper(r: &Listed, s: &Listed, i: u32, j: u32) -> bool {
+    (0..s.rows).all(|k| !s.has(k, j) || r.has(k, i))
+}
+
+/// Whether an element is under all elements of a column.
+fn is_lower(r: &Listed, s: &Listed, i: u32, j: u32) -> bool {
+    (0..s.rows).all(|k| !s.has(k, j) || r.has(i, k))
 }
 
 /// Whether a walk of at least one step leads from one element to another: as many rounds as there are elements, each

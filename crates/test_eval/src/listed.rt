@@ -42,6 +42,32 @@ impl Listed {
         count
     }
 
+    /// Whether two columns have the same pairs.
+    fn has_same_columns(&self, i: u32, j: u32) -> bool {
+        (0..self.rows).all(|k| self.has(k, i) == self.has(k, j))
+    }
+
+    /// How many classes of elements with the same columns have their least element before one.
+    pub(crate) fn classes_before(&self, i: u32) -> u32 {
+        let mut count: u32 = 0;
+        'elements: for x in 0..i {
+            if !(0..x).any(|y| self.has_same_columns(x, y)) {
+                count = count.wrapping_add(1);
+            }
+        }
+        count
+    }
+
+    /// The number of an element's class, by its least element.
+    pub(crate) fn class_of(&self, i: u32) -> u32 {
+        'elements: for x in 0..i {
+            if self.has_same_columns(x, i) {
+                return self.classes_before(x);
+            }
+        }
+        self.classes_before(i)
+    }
+
     /// Whether no row has two pairs.
     pub(crate) fn is_unival(&self) -> bool {
         'pairs: for (i, j) in self.pairs.as_slice() {

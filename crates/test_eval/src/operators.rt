@@ -120,21 +120,13 @@ fn subsets(count: u32) -> u64 {
     if count < 64 { 1 << count } else { u64::MAX }
 }
 
-/// How the base calls are written that test their operand.
-fn base_text(base: Base) -> &'static [u8] {
-    match base {
-        Base::I => b"I",
-        Base::Trans => b"trans",
-        Base::Refl => b"refl",
-        Base::Epsi => b"epsi",
-        Base::Point => b"point",
-        Base::Init => b"init",
-        Base::Next => b"next",
-        Base::Inj => b"inj",
-        Base::Syq => b"syq",
-        Base::Eq => b"eq",
-        _ => b"incl",
-    }
+/// An operand that is not square.
+fn not_square(rt: &impl Abort, alloc: Global, at: Place, base: Base, r: &Listed) -> Refused {
+    Refused::Ill(TypeFault::NotSquare {
+        at,
+        op: spelled(rt, alloc, base.text()),
+        shape: type_of(r),
+    })
 }
 
 /// The test of the operand of a base call.
@@ -146,17 +138,15 @@ fn tested(
     r: &Listed,
 ) -> Result<(), Refused> {
     match base {
-        Base::I | Base::Trans | Base::Refl if r.rows != r.cols => {
-            Err(Refused::Ill(TypeFault::NotSquare {
-                at,
-                op: spelled(rt, alloc, base_text(base)),
-                shape: type_of(r),
-            }))
+        Base::I | Base::Trans | Base::Refl | Base::Less | Base::Hasse | Base::Quot
+            if r.rows != r.cols =>
+        {
+            Err(not_square(rt, alloc, at, base, r))
         }
         Base::Epsi | Base::Point | Base::Init | Base::Next | Base::Inj if r.cols != 1 => {
             Err(Refused::Ill(TypeFault::NotVector {
                 at,
-                op: spelled(rt, alloc, base_text(base)),
+                op: spelled(rt, alloc, base.text()),
                 shape: type_of(r),
             }))
         }
@@ -199,11 +189,41 @@ fn base_of_one(
         Base::Init => (m, 1, Formula::First),
         Base::Next => (m, 1, Formula::Next),
         Base::Inj => (r.elements_before(m), m, Formula::Element),
+        Base::Less => (m, n, Formula::Before),
+        Base::Hasse => (m, n, Formula::Neighbour),
+        Base::Quot => (m, r.classes_before(m), Formula::Class),
         Base::Empty => return Ok(truth(rt, alloc, r.pairs.is_empty(), r)),
         Base::Unival => return Ok(truth(rt, alloc, r.is_unival(), r)),
         _ => panic!(rt; "no base call of one operand"),
     };
     Ok(filled(rt, alloc, rows, cols, formula, r, r))
+}
+
+/// A base call of bounds and of extremes: the first operand is square, and the second has as many rows.
+fn bounded(
+    rt: &impl Abort,
+    alloc: Global,
+    at: Place,
+    base: Base,
+    r: &Listed,
+    s: &Listed,
+) -> Result<Listed, Refused> {
+    if r.rows != r.cols {
+        return Err(not_square(rt, alloc, at, base, r));
+    }
+    if r.rows != s.rows {
+        return Err(mismatch(rt, alloc, at, base.text(), r, s));
+    }
+    let formula = match base {
+        Base::Ubd => Formula::UpperBound,
+        Base::Lbd => Formula::LowerBound,
+        Base::Least => Formula::LeastOf,
+        Base::Greatest => Formula::GreatestOf,
+        Base::Sup => Formula::Supremum,
+        Base::Inf => Formula::Infimum,
+        _ => panic!(rt; "no base call of two operands"),
+    };
+    Ok(filled(rt, alloc, r.rows, s.cols, formula, r, s))
 }
 
 /// A base call of two operands.
@@ -228,8 +248,8 @@ fn base_of_two(
         )),
         Base::Eq if alike => Ok(truth(rt, alloc, r.is_within(s) && s.is_within(r), r)),
         Base::Incl if alike => Ok(truth(rt, alloc, r.is_within(s), r)),
-        Base::Syq | Base::Eq | Base::Incl => { Err(mismatch(rt, alloc, at, base_text(base), r, s)) }
-        _ => panic!(rt; "no base call of two operands"),
+        Base::Syq | Base::Eq | Base::Incl => { Err(mismatch(rt, alloc, at, base.text(), r, s)) }
+        _ => bounded(rt, alloc, at, base, r, s),
     }
 }
 

@@ -89,9 +89,9 @@ pub(crate) fn append_relation(
 }
 
 /// How many expressions hold of square relations of one size alone, and how many more hold in the program of a script.
-const PLAIN: u32 = 26;
+const PLAIN: u32 = 38;
 
-const ALL: u32 = 32;
+const ALL: u32 = 44;
 
 /// An expression over square relations X and Y of one size, which is of that size too. Those from `PLAIN` on have the
 /// function F and the domains C and D of the program.
@@ -123,11 +123,23 @@ fn square(kind: u32) -> &'static [u8] {
         23 => b"(Ln1(X)*O1n(Y))",
         24 => b"(X^)^^",
         25 => b"((On1(X)|dom(Y))*L1n(X))",
-        26 => b"F(X,Y)",
-        27 => b"F(Y,F(X,X))",
-        28 => b"(p-1(D)^*p-2(D)&X)",
-        29 => b"(i-1(C)*i-1(C)^)",
-        30 => b"(i-1(C)*i-2(C)^|Y)",
+        26 => b"less(X)",
+        27 => b"hasse(X)",
+        28 => b"(quot(X)*quot(X)^&Y)",
+        29 => b"ubd(X,Y)",
+        30 => b"lbd(X,Y)",
+        31 => b"least(X,Y)",
+        32 => b"greatest(refl(X),Y)",
+        33 => b"sup(refl(trans(X)),Y)",
+        34 => b"inf(refl(trans(X)),Y)",
+        35 => b"-(X^*-Y)",
+        36 => b"(-X&-Y^)",
+        37 => b"(X\\Y&X^/Y^)",
+        38 => b"F(X,Y)",
+        39 => b"F(Y,F(X,X))",
+        40 => b"(p-1(D)^*p-2(D)&X)",
+        41 => b"(i-1(C)*i-1(C)^)",
+        42 => b"(i-1(C)*i-2(C)^|Y)",
         _ => b"((X*p-1(D)^)*(p-2(D)*Y))",
     }
 }

@@ -1,4 +1,4 @@
-use Rattle.std.proofs.Common.{◌≡◌, ◌∙◌, [], ap, sym, subst, IfOk}
+use Rattle.std.proofs.Common.{◌≡◌, ◌∙◌, ap, subst, IfOk}
 use Rattle.run_model.specs.Names.{names_of}
 use Rattle.rv_blocks.proofs.Reading.{read_on-reads, read_on-end}
 use Rattle.rv_blocks.proofs.reads.reads_of.Goals as goal

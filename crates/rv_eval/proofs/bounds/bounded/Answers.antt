@@ -1,6 +1,6 @@
-use Rattle.std.proofs.Common.{◌≤◌, ◌+◌, ◌∙◌, ◌∷◌, [], ap, sym, refl, arith}
+use Rattle.std.proofs.Common.{◌≤◌, ◌+◌, ◌∙◌, ap, arith}
 use Rattle.rel_model.specs.Worker.{set_of, bounds_room, wide_room, extremes_room}
-use Rattle.lang_model.specs.Mean.{based, base_made_of_two}
+use Rattle.lang_model.specs.Mean.{base_made_of_two}
 use Rattle.rv_eval.proofs.Operating.{one_made}
 use Rattle.rv_eval.proofs.Domains.{said}
 use Rattle.rv_eval.proofs.Bounding.{order_of_bounds, order_of_wide, order_of_extremes, last_bounds, bounds_fit}

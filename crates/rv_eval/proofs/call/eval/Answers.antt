@@ -1,4 +1,4 @@
-use Rattle.std.proofs.Common.{◌∙◌, sym, subst}
+use Rattle.std.proofs.Common.{sym, subst}
 use Rattle.rel_model.specs.Worker.{MakesAtMost}
 use Rattle.lang_model.specs.Eval.{early_fault, cost_of_value}
 use Rattle.lang_model.proofs.Stepping.{calm_means_the_same}
