@@ -1,7 +1,7 @@
 #!/usr/bin/env python3
-"""Draws a relation: its matrix as a grid (SVG), or its graph for Graphviz (DOT).
+"""Draws a relation: its matrix as a grid (SVG), its graph for Graphviz (DOT), or the diagram of an order (SVG).
 
-    tools/picture.py svg|dot [options] INPUT [OUTPUT]
+    tools/picture.py svg|dot|diagram [options] INPUT [OUTPUT]
 
 This script is no part of the proved program. It is plain Python 3, and wants `tools/relations.py` beside it and no
 package; `tools/check` runs it beside the program.
@@ -9,10 +9,13 @@ package; `tools/check` runs it beside the program.
 INPUT is a page of the program, of which the first reply to PRINT or LIST is drawn, or that of --reply S.C; - is a page
 on standard input; and a name that ends in .k2 is a relation file. Without OUTPUT the text goes to standard output.
 
-    svg   a square for each pair, on a grid of rows and columns; up to 512 by 512 cell by cell, larger ones by density:
-          a square then stands for as many cells as the line below says, darker where more of them are pairs
-    dot   a vertex for each element, and an arrow for each pair; edges without heads where the relation is its own
-          transpose. Where rows and columns differ in number, rows stand on the left and columns on the right
+    svg      a square for each pair, on a grid of rows and columns; up to 512 by 512 cell by cell, larger ones by density:
+             a square then stands for as many cells as the line below says, darker where more of them are pairs
+    dot      a vertex for each element, and an arrow for each pair; edges without heads where the relation is its own
+             transpose. Where rows and columns differ in number, rows stand on the left and columns on the right
+    diagram  a vertex for each element, and a line for each pair, from its row up to its column: the Hasse diagram of an
+             order, where the relation is hasse of it. An element stands as high as the longest way up to it. A relation
+             with a cycle, or with a pair of an element and itself, has no such picture
 
 Options: --names FILE writes the names of rows and columns, a name a line, in place of numbers; --rows FILE and
 --columns FILE do where they are not the same. --mark S.C, once or more, marks the elements of a vector, a relation of
@@ -20,11 +23,12 @@ one column and as many rows, which is another reply of the page: each vector in 
 """
 import argparse
 import sys
+from collections import Counter
 from pathlib import Path
 from xml.sax.saxutils import escape
 
 sys.dont_write_bytecode = True
-from relations import add_names, content_of, guarded, need_names, read_k2, read_reply, stop, take_names  # noqa: E402
+from relations import Bad, add_names, content_of, guarded, need_names, read_k2, read_reply, stop, take_names  # noqa: E402
 
 CELLS = 512
 PAIR = "#a02020"
@@ -156,7 +160,87 @@ def dot(relation, options, marks):
     return "\n".join(lines + ["}"]) + "\n"
 
 
+# ---- diagrams of orders
+
+def heights(relation):
+    """How long the longest way up to each element is, by their numbers from 1."""
+    above = {}
+    for row, column in relation.pairs:
+        above.setdefault(row, []).append(column)
+    waits = Counter(column for _, column in relation.pairs)
+    height = dict.fromkeys(range(1, relation.rows + 1), 0)
+    done = [element for element in height if not waits[element]]
+    for element in done:
+        for other in above.get(element, []):
+            height[other] = max(height[other], height[element] + 1)
+            waits[other] -= 1
+            if not waits[other]:
+                done.append(other)
+    if len(done) < relation.rows:
+        raise Bad("a relation with a cycle has no diagram")
+    return height
+
+
+def ranks_of(relation):
+    """The elements of each height, from the left: by turns up and down, each stands where those below or above it do."""
+    height = heights(relation)
+    ranks = [[] for _ in range(max(height.values(), default=-1) + 1)]
+    for element in height:
+        ranks[height[element]].append(element)
+    place = {}
+    for turn in range(9):
+        for rank in ranks if turn % 2 == 0 else ranks[::-1]:
+            if turn:
+                wanted = {element: place[element] for element in rank}
+                for element in rank:
+                    near = [row if turn % 2 == 0 else column for row, column in relation.pairs
+                            if (column if turn % 2 == 0 else row) == element]
+                    if near:
+                        wanted[element] = sum(place[other] for other in near) / len(near)
+                rank.sort(key=lambda element: (wanted[element], place[element]))
+            for at, element in enumerate(rank):
+                place[element] = 2 * at - len(rank)
+    return ranks
+
+
+def diagram(relation, options, marks):
+    """The diagram of an order."""
+    if relation.rows != relation.columns:
+        raise Bad(f"a diagram has as many rows as columns, not {relation.rows} x {relation.columns}")
+    ranks, words = ranks_of(relation), labels(options.rows, relation.rows)
+    across = 44 + 7 * max((len(word) for word in words), default=0)
+    told = f"{relation.rows} x {relation.columns}, pairs {len(relation.pairs)}"
+    width = max(across * max(map(len, ranks), default=0), 7 * len(told)) + 16
+    height = 48 * len(ranks) + 28
+    places = {}
+    for level, rank in enumerate(ranks):
+        for at, element in enumerate(rank):
+            places[element] = (width + across * (2 * at + 1 - len(rank))) // 2, height - 52 - 48 * level
+    lines = [
+        f'<svg xmlns="http://www.w3.org/2000/svg" width="{width}" height="{height}" viewBox="0 0 {width} {height}"'
+        ' font-family="monospace" font-size="11">',
+        f"<title>{told}</title>",
+        f'<rect width="{width}" height="{height}" fill="white"/>',
+    ]
+    path = "".join("M{} {}L{} {}".format(*places[row], *places[column]) for row, column in relation.sorted())
+    lines.append(f'<path fill="none" stroke="{PAIR}" d="{path}"/>')
+    for element, (x, y) in sorted(places.items()):
+        side = 7 * len(words[element - 1]) + 10
+        colours = [colour for colour, vector in zip(MARKS, marks) if (element, 1) in vector.pairs] or ["white"]
+        for at, colour in enumerate(colours):
+            lines.append(
+                f'<rect x="{x - side // 2 + 2 * at}" y="{y - 9 + 2 * at}" width="{side - 4 * at}" height="{18 - 4 * at}"'
+                f' fill="{colour}" stroke="black"/>'
+            )
+        lines.append(text_at(x, y + 4, "middle", words[element - 1]))
+    lines += [text_at(8, height - 10, "start", told), "</svg>"]
+    return "\n".join(lines) + "\n"
+
+
 # ---- the command line
+
+FORMS = {"svg": svg, "dot": dot, "diagram": diagram}
+
 
 def vector_of(content, options, reply, relation):
     """The vector of a --mark."""
@@ -168,7 +252,7 @@ def vector_of(content, options, reply, relation):
 
 def main():
     parser = argparse.ArgumentParser(description=__doc__, formatter_class=argparse.RawDescriptionHelpFormatter)
-    parser.add_argument("form", choices=["svg", "dot"])
+    parser.add_argument("form", choices=list(FORMS))
     add_names(parser)
     parser.add_argument("--mark", action="append", default=[], help="the reply S.C of a vector of elements to mark")
     parser.add_argument("input")
@@ -184,7 +268,7 @@ def main():
     relation = guarded(options.input, lambda: reader(content, options))
     need_names(relation, options)
     marks = [vector_of(content, options, reply, relation) for reply in options.mark]
-    text = svg(relation, options, marks) if options.form == "svg" else dot(relation, options, marks)
+    text = guarded(options.input, lambda: FORMS[options.form](relation, options, marks))
     if options.output:
         guarded(options.output, lambda: Path(options.output).write_text(text, encoding="utf-8"))
     else:
