@@ -16,8 +16,8 @@ use crate::halt::Halt;
 use crate::operators::lift;
 use lang_model::syntax::{Base, Place};
 use rel_model::engine_trait::Engine;
-use rel_order::{hasse, less, quot};
 use rel_model::{Rel, Shape};
+use rel_order::{hasse, less, quot};
 use std::alloc::Global;
 
 /// The full or the empty relation of one row and one column.

@@ -139,10 +139,7 @@ fn tested(
 ) -> Result<(), Refused> {
     match base {
         Base::I | Base::Trans | Base::Refl | Base::Less | Base::Hasse | Base::Quot
-            if r.rows != r.cols =>
-        {
-            Err(not_square(rt, alloc, at, base, r))
-        }
+            if r.rows != r.cols => { Err(not_square(rt, alloc, at, base, r)) }
         Base::Epsi | Base::Point | Base::Init | Base::Next | Base::Inj if r.cols != 1 => {
             Err(Refused::Ill(TypeFault::NotVector {
                 at,
