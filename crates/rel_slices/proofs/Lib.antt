@@ -1,8 +1,0 @@
-pub mod Putting
-pub mod Laying
-pub mod Membering
-pub mod Valuing
-pub mod Products
-pub mod Rooming
-pub mod Forming
-pub mod Alike
