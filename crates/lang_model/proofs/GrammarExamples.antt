@@ -17,6 +17,23 @@ behind_explain : stop (codes "EXPLAIN.") ≡ needs 8 Expression
 unfolding lexed_of behind kind_at word_kind reserved_words domain_operator_at domain_operators file_at
 behind_explain = refl
 
+-- LET behind ATOMIC, and COMMIT behind an assignment and behind its sign
+behind_atomic : stop (codes "ATOMIC COMMIT.") ≡ needs 8 (TOKEN (codes "LET"))
+unfolding lexed_of behind kind_at word_kind reserved_words domain_operator_at domain_operators file_at
+behind_atomic = refl
+
+behind_let : stop (codes "ATOMIC LET A=B.") ≡ needs 15 (TOKEN (codes "COMMIT"))
+unfolding lexed_of behind kind_at word_kind reserved_words domain_operator_at domain_operators file_at
+behind_let = refl
+
+behind_sign : stop (codes "ATOMIC LET A=B;.") ≡ needs 16 (TOKEN (codes "COMMIT"))
+unfolding lexed_of behind kind_at word_kind reserved_words domain_operator_at domain_operators file_at
+behind_sign = refl
+
+a_block : stop (codes "ATOMIC LET A=B; LET B=A|B COMMIT. ATOMIC LET A=B; COMMIT.") ≡ None
+unfolding lexed_of behind kind_at word_kind reserved_words domain_operator_at domain_operators file_at
+a_block = refl
+
 -- a keyword is no name
 explain_is_no_name : stop (codes "LET EXPLAIN=A.") ≡ needs 5 Name
 unfolding lexed_of behind kind_at word_kind reserved_words domain_operator_at domain_operators file_at

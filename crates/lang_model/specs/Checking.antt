@@ -11,9 +11,10 @@ use Rattle.lang_model.specs.declared.syntax.Expr.{Expr, Ref, Call', Base', Injec
 use Rattle.lang_model.specs.declared.syntax.Stmt.{Stmt, Set, While', If', Row_of-Stmt, end_of-Stmt, more_of-Stmt}
 use Rattle.lang_model.specs.declared.syntax.Decl.{Decl}
 use Rattle.lang_model.specs.declared.syntax.Decl.TheVariants.{Variable, Domain}
+use Rattle.lang_model.specs.declared.syntax.Let.{Let as LetOf}
 use Rattle.lang_model.specs.declared.syntax.Command.{Command}
 use Rattle.lang_model.specs.declared.syntax.Command.TheVariants.{Let, Print, List as LIST, Count, Typed, At, Save}
-use Rattle.lang_model.specs.declared.syntax.Command.TheVariants.{Explain}
+use Rattle.lang_model.specs.declared.syntax.Command.TheVariants.{Atomic, Explain}
 use Rattle.lang_model.specs.declared.syntax.Item.{Item}
 use Rattle.lang_model.specs.declared.syntax.Item.TheVariants.{Function, Program, Command as COMMAND}
 use Rattle.lang_model.specs.declared.syntax.Script.{Script}
@@ -305,7 +306,12 @@ rank_of earlier (Program at name params decls body result) = max (called_by_all 
 rank_of earlier (COMMAND command) = 0
 
 -- ---- scripts
--- the faults of the expression of a command
+-- the faults of the expressions of a block
+abbrev pub let_faults : Scope → List LetOf → List TypeFault
+let_faults scope [] = []
+let_faults scope (l ∷ ls) = faults scope no_name l.value ++ let_faults scope ls
+
+-- the faults of the expressions of a command
 unfoldable pub command_faults : List Known → Command → List TypeFault
 command_faults earlier (Let name value) = faults (command_scope earlier) no_name value
 command_faults earlier (Print value) = faults (command_scope earlier) no_name value
@@ -314,6 +320,7 @@ command_faults earlier (Count value) = faults (command_scope earlier) no_name va
 command_faults earlier (Typed value) = faults (command_scope earlier) no_name value
 command_faults earlier (At at name value) = faults (command_scope earlier) no_name value
 command_faults earlier (Save value file) = faults (command_scope earlier) no_name value
+command_faults earlier (Atomic lets) = let_faults (command_scope earlier) lets.items
 command_faults earlier (Explain value) = faults (command_scope earlier) no_name value
 command_faults earlier _ = []
 

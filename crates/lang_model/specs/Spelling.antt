@@ -15,9 +15,10 @@ use Rattle.lang_model.specs.declared.syntax.Link.{Link}
 use Rattle.lang_model.specs.declared.syntax.Stmt.{Stmt, Set, While, If}
 use Rattle.lang_model.specs.declared.syntax.Decl.{Decl}
 use Rattle.lang_model.specs.declared.syntax.Decl.TheVariants.{Variable, Domain}
+use Rattle.lang_model.specs.declared.syntax.Let.{Let as LetOf}
 use Rattle.lang_model.specs.declared.syntax.Command.{Command}
 use Rattle.lang_model.specs.declared.syntax.Command.TheVariants.{Relation, Let, Print, List as ListOf, Count, Typed}
-use Rattle.lang_model.specs.declared.syntax.Command.TheVariants.{Remove, Snap, At, Load, Save, Explain}
+use Rattle.lang_model.specs.declared.syntax.Command.TheVariants.{Remove, Snap, At, Load, Save, Atomic, Explain}
 use Rattle.lang_model.specs.declared.syntax.Item.{Item}
 use Rattle.lang_model.specs.declared.syntax.Item.TheVariants.{Function, Program, Command as COMMAND}
 use Rattle.lang_model.specs.declared.syntax.Script.{Script}
@@ -27,7 +28,8 @@ use Rattle.lang_model.specs.declared.token.Keyword.TheVariants.{Snap as SNAP, At
 use Rattle.lang_model.specs.declared.token.Keyword.TheVariants.{Decl as DECL, Prod as PROD, Sum as SUM, Beg as BEG}
 use Rattle.lang_model.specs.declared.token.Keyword.TheVariants.{End as END, Return as RETURN, While as WHILE, Do as DO}
 use Rattle.lang_model.specs.declared.token.Keyword.TheVariants.{Od as OD, If as IF, Then as THEN, Else as ELSE}
-use Rattle.lang_model.specs.declared.token.Keyword.TheVariants.{Fi as FI, Explain as EXPLAIN}
+use Rattle.lang_model.specs.declared.token.Keyword.TheVariants.{Fi as FI, Atomic as ATOMIC}
+use Rattle.lang_model.specs.declared.token.Keyword.TheVariants.{Commit as COMMIT, Explain as EXPLAIN}
 use Rattle.lang_model.specs.declared.token.Kind.{Kind}
 use Rattle.lang_model.specs.declared.token.Kind.TheVariants.{Keyword, Base as BASE, Word, Number, File, Sign}
 use Rattle.lang_model.specs.declared.token.Token.{Token}
@@ -236,6 +238,25 @@ SpellsNamed kind name tokens rest = (mid : List Token) × Takes kind tokens mid 
 abbrev pub SpellsValued : Kind → Expr → List Token → List Token → Type 0
 SpellsValued kind value tokens rest = (mid : List Token) × Takes kind tokens mid × Spelled OrLevel 0 value mid rest
 
+-- LET NAME "=" expr, in a block
+abbrev pub SpellsLet : LetOf → List Token → List Token → Type 0
+SpellsLet l tokens rest = (t1 t2 t3 : List Token) × Takes (Keyword LET) tokens t1 × TakesAt l.at (Word l.name) t1 t2
+    × Takes (Sign 61) t2 t3 × Spelled OrLevel 0 l.value t3 rest
+
+-- lets = LET NAME "=" expr [ ";" [ lets ] ]
+mutual
+  -- one and what follows it
+  pub data SpelledLets : List LetOf → List Token → List Token → Type 0 where
+    one_let : (l : LetOf) (ls : List LetOf) (tokens mid rest : List Token) → SpellsLet l tokens mid
+        → SpelledMoreLets ls mid rest → SpelledLets (l ∷ ls) tokens rest
+
+  -- [ ";" [ lets ] ]
+  pub data SpelledMoreLets : List LetOf → List Token → List Token → Type 0 where
+    no_let : (tokens rest : List Token) → rest ≡ tokens → SpelledMoreLets [] tokens rest
+    last_sign : (tokens rest : List Token) → Takes (Sign 59) tokens rest → SpelledMoreLets [] tokens rest
+    more_lets : (ls : List LetOf) (tokens mid rest : List Token) → Takes (Sign 59) tokens mid → SpelledLets ls mid rest
+        → SpelledMoreLets ls tokens rest
+
 -- command, by the alternatives of its line
 abbrev pub SpellsCommand : Command → List Token → List Token → Type 0
 SpellsCommand (Relation name rows rows_at cols cols_at list) tokens rest =
@@ -257,6 +278,8 @@ SpellsCommand (Load name file) tokens rest = (mid : List Token) × SpellsNamed (
     × Takes (File file) mid rest
 SpellsCommand (Save value file) tokens rest = (mid : List Token) × SpellsValued (Keyword SAVE) value tokens mid
     × Takes (File file) mid rest
+SpellsCommand (Atomic lets) tokens rest = (t1 t2 : List Token) × Takes (Keyword ATOMIC) tokens t1
+    × SpelledLets lets.items t1 t2 × Takes (Keyword COMMIT) t2 rest
 SpellsCommand (Explain value) tokens rest = SpellsValued (Keyword EXPLAIN) value tokens rest
 
 -- item = def | command, and def = NAME "(" NAME { "," NAME } ")" ( "=" expr | program )

@@ -13,7 +13,8 @@ use Rattle.lang_model.specs.declared.token.Keyword.TheVariants.{Snap as SNAP, At
 use Rattle.lang_model.specs.declared.token.Keyword.TheVariants.{Decl as DECL, Prod as PROD, Sum as SUM, Beg as BEG}
 use Rattle.lang_model.specs.declared.token.Keyword.TheVariants.{End as END, Return as RETURN, While as WHILE, Do as DO}
 use Rattle.lang_model.specs.declared.token.Keyword.TheVariants.{Od as OD, If as IF, Then as THEN, Else as ELSE}
-use Rattle.lang_model.specs.declared.token.Keyword.TheVariants.{Fi as FI, Explain as EXPLAIN}
+use Rattle.lang_model.specs.declared.token.Keyword.TheVariants.{Fi as FI, Atomic as ATOMIC}
+use Rattle.lang_model.specs.declared.token.Keyword.TheVariants.{Commit as COMMIT, Explain as EXPLAIN}
 use Rattle.lang_model.specs.declared.token.Kind.{Kind}
 use Rattle.lang_model.specs.declared.token.Kind.TheVariants.{Keyword as KEYWORD, Base as BASE, Word, Number, File, Sign}
 use Rattle.lang_model.specs.declared.token.Token.{Token}
@@ -48,6 +49,8 @@ pub data Part : Type 0 where
   MeaningPart : Part
   DomainPart : Part
   MoreDecls : Part
+  LetsPart : Part
+  MoreLets : Part
   ItemsPart : Part
 
 -- what a part does with a token: the token doesn't begin it; another word is expected in its place; the token opens
@@ -153,6 +156,15 @@ domain_step (KEYWORD PROD) = Behind (SignPart 40 ∷ NamePart ∷ SignPart 44 �
 domain_step (KEYWORD SUM) = Behind (SignPart 40 ∷ NamePart ∷ SignPart 44 ∷ NamePart ∷ SignPart 41 ∷ [])
 domain_step _ = NotBegun
 
+-- what stands in a block behind LET, up to the next LET or the end of the block
+abbrev pub let_parts : List Part
+let_parts = NamePart ∷ SignPart 61 ∷ ExprPart OrLevel 0 ∷ MoreLets ∷ []
+
+-- a further LET of a block
+abbrev pub lets_step : Kind → Step
+lets_step (KEYWORD LET) = Behind let_parts
+lets_step _ = NotBegun
+
 -- the rest of a command behind its keyword
 abbrev pub command_step : Keyword → Step
 command_step REL = Behind (NamePart ∷ NumberPart ∷ NumberPart ∷ SignPart 123 ∷ RowsPart ∷ SignPart 125 ∷ [])
@@ -166,6 +178,7 @@ command_step SNAP = Behind (NamePart ∷ [])
 command_step AT = Behind (NamePart ∷ WordPart PRINT ∷ ExprPart OrLevel 0 ∷ [])
 command_step LOAD = Behind (NamePart ∷ FilePart ∷ [])
 command_step SAVE = Behind (ExprPart OrLevel 0 ∷ FilePart ∷ [])
+command_step ATOMIC = Behind (WordPart LET ∷ let_parts ++ WordPart COMMIT ∷ [])
 command_step EXPLAIN = Behind (ExprPart OrLevel 0 ∷ [])
 command_step _ = NotBegun
 
@@ -201,7 +214,9 @@ number_of IF = 20
 number_of THEN = 21
 number_of ELSE = 22
 number_of FI = 23
-number_of EXPLAIN = 24
+number_of ATOMIC = 24
+number_of COMMIT = 25
+number_of EXPLAIN = 26
 
 -- whether a token is this keyword
 abbrev pub is_word : Keyword → Kind → Bool
@@ -241,6 +256,8 @@ entered BodyPart kind = body_step kind
 entered MeaningPart kind = where_it (is_sign 61 kind) (DomainPart ∷ [])
 entered DomainPart kind = domain_step kind
 entered MoreDecls kind = where_it (is_sign 44 kind) (NamePart ∷ MeaningPart ∷ MoreDecls ∷ [])
+entered LetsPart kind = lets_step kind
+entered MoreLets kind = where_it (is_sign 59 kind) (LetsPart ∷ [])
 entered ItemsPart kind = followed (SignPart 46 ∷ ItemsPart ∷ []) (item_step kind)
 
 -- how a keyword is written
@@ -269,6 +286,8 @@ written IF = codes "IF"
 written THEN = codes "THEN"
 written ELSE = codes "ELSE"
 written FI = codes "FI"
+written ATOMIC = codes "ATOMIC"
+written COMMIT = codes "COMMIT"
 written EXPLAIN = codes "EXPLAIN"
 
 -- the word of a part that must come: what it begins with, or the first alternative of its choice; none for optional

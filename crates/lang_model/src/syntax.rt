@@ -443,6 +443,10 @@ pub enum Command {
         value: Expr,
         file: FileText,
     },
+    /// `ATOMIC lets COMMIT`.
+    Atomic {
+        lets: Vec<Let>,
+    },
     /// `EXPLAIN value`.
     Explain {
         value: Expr,
@@ -474,6 +478,7 @@ impl Drop for Command {
             } => {}
             Command::Load { name: _, file: _ } => {}
             Command::Save { value: _, file: _ } => {}
+            Command::Atomic { lets: _ } => {}
             Command::Explain { value: _ } => {}
         }
     }

@@ -1,0 +1,5 @@
+use Rattle.run_model.proofs.Whole.{batches_leave_states}
+use Rattle.run_model.proofs.laws.batches_leave_states.Goals as goal
+
+pub returns : goal.returns
+returns c = batches_leave_states
