@@ -1,5 +1,5 @@
 -- Small texts, computed from the definitions: where they go wrong, and that they are no fault.
-use Rattle.std.proofs.Common.{◌≡◌, ℕ, List, [], ◌∷◌, ◌++◌, codes, Option, Some, None, refl}
+use Rattle.std.proofs.Common.{◌≡◌, ℕ, codes, Option, Some, None, refl}
 use Rattle.lang_model.specs.declared.faults.ParseFault.{ParseFault}
 use Rattle.lang_model.specs.declared.faults.ParseFault.TheVariants.{Expected}
 use Rattle.lang_model.specs.declared.faults.What.{What}

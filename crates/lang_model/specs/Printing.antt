@@ -1,8 +1,7 @@
 -- How an expression is written: without blanks, and with parentheses only where a looser operand needs them.
-use Rattle.std.specs.Prelude.{◌++◌, ℕ, Bool, cond, List, [], ◌∷◌, nat_le, nat_lt, replicate, codes}
+use Rattle.std.specs.Prelude.{◌++◌, ℕ, Bool, cond, List, [], ◌∷◌, nat_le, nat_lt, replicate}
 use Rattle.lang_model.specs.declared.syntax.Op2.{Op2}
 use Rattle.lang_model.specs.declared.syntax.Op2.TheVariants.{Or, And, Times, Under, Over}
-use Rattle.lang_model.specs.declared.syntax.Base.{Base}
 use Rattle.lang_model.specs.declared.syntax.Expr.{Expr, Row_of-Expr, Row_of-Link}
 use Rattle.lang_model.specs.BaseNames.{base_text}
 use Rattle.lang_model.specs.Trees.{Tree, NameTree, CallTree, BaseTree, InjectTree, PairTree, MinusTree, TurnedTree}

@@ -8,7 +8,7 @@ use Rattle.lang_model.specs.declared.syntax.Base.{Base}
 use Rattle.lang_model.specs.declared.syntax.Base.TheVariants.{L, O, I, Ln1, On1, L1n, O1n, Dom, Ran, Trans, Refl, Epsi}
 use Rattle.lang_model.specs.declared.syntax.Base.TheVariants.{Point, Atom, Init, Next, Inj, Empty, Unival, Less, Hasse}
 use Rattle.lang_model.specs.declared.syntax.Base.TheVariants.{Quot, Syq, Eq, Incl, Ubd, Lbd, Least, Greatest, Sup, Inf}
-use Rattle.lang_model.specs.declared.syntax.Base.TheVariants.{P1, P2, I1, I2}
+use Rattle.lang_model.specs.declared.syntax.Base.TheVariants.{P1, P2, I1}
 use Rattle.lang_model.specs.declared.faults.TypeFault.{TypeFault}
 use Rattle.lang_model.specs.declared.faults.TypeFault.TheVariants.{Mismatch, NotSquare, NotVector, NotTest}
 use Rattle.lang_model.specs.declared.faults.StaticShape.{StaticShape}

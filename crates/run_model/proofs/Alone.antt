@@ -1,10 +1,12 @@
 -- One script alone: its run is lawful exactly if it is the one that the script decides.
 -- 1. An item that does nothing is due the same on each state, so that it does not matter which one it is said to see.
 -- 2. An item that does something sees the workspace behind the events of the items before it.
--- 3. So the items of a lawful run come to what the computing definition says, one after another, and back.
-use Rattle.std.proofs.Common.{◌≡◌, ◌⊎◌, ◌+◌, ℕ, suc, List, [], ◌∷◌, ◌++◌, map, length, Option, Some, None, refl, sym, ap, subst, ◌∙◌, arith, inl, inr, append_assoc, add-zero}
-use Rattle.std.specs.Prelude.{slice_get}
+-- 3. Between the read of a block and its next event nothing stands, so that no name changed.
+-- 4. So the items of a lawful run come to what the computing definition says, one after another, and back.
+use Rattle.std.proofs.Common.{◌≡◌, ◌⊎◌, ◌+◌, ℕ, suc, cond, List, [], ◌∷◌, ◌++◌, map, length, Option, Some, None, refl, sym, ap, subst, ◌∙◌, arith, inl, inr, append_assoc, append-nil, add-zero}
+use Rattle.std.specs.Prelude.{IsSome, slice_get}
 use Rattle.std.specs.List.{AllByRecursion}
+use Rattle.std.proofs.lemmas.Bool.{false≢true}
 use Rattle.lang_model.specs.declared.syntax.Command.TheVariants.{
   Relation as RELATION,
   Let,
@@ -17,22 +19,30 @@ use Rattle.lang_model.specs.declared.syntax.Command.TheVariants.{
   At,
   Load,
   Save,
+  Atomic,
   Explain,
 }
 use Rattle.lang_model.specs.declared.syntax.Item.{Item}
 use Rattle.lang_model.specs.declared.syntax.Item.TheVariants.{Function, Program, Command as COMMAND}
 use Rattle.lang_model.specs.declared.syntax.Script.{Script}
 use Rattle.run_model.specs.declared.event.Event.{Event}
+use Rattle.run_model.specs.declared.event.Act.TheVariants.{Read}
 use Rattle.run_model.specs.declared.outcome.Outcome.{Outcome}
+use Rattle.run_model.specs.declared.outcome.Outcome.TheVariants.{Done, Parse, Ill, Size, Turns, Nodes, TooLarge, TooLong, NoFile, BadFile as BAD_FILE, NoMemory, Changed}
 use Rattle.run_model.specs.Inputs.{Input, script_at, item_at}
-use Rattle.run_model.specs.Due.{Workspace, Due, Nothing, Value, Explained, Refused, outcome_due, due, due_of_command, gives}
-use Rattle.run_model.specs.Steps.{Ending, Succeeds, Fails, LacksMemory, ending, Snapshots, snapped, keep, kept_at, snaps_behind, snap_for, steps_from}
-use Rattle.run_model.specs.Events.{Deed, Reads, Removes, Entry, entry_of, entries, giving, first_of, reads_of, HasDeeds, AreEvents}
-use Rattle.run_model.specs.Outcomes.{IsOutcome, AreOutcomes}
-use Rattle.run_model.specs.States.{start, replay, gifts_due, state_for}
+use Rattle.run_model.specs.Due.{Workspace, Due, Nothing, Value, Values, Explained, Refused, outcome_due, due, due_of_command, gives}
+use Rattle.run_model.specs.Steps.{Ending, Succeeds, Fails, Changes, LacksMemory, ending, Snapshots, snapped, keep, kept_at, snaps_behind, snap_for, steps_from}
+use Rattle.run_model.specs.Events.{Deed, Reads, Removes, Entry, entry_of, entries, giving, first_of, reads_of, all_reads_of, HasDeeds, AreEvents}
+use Rattle.run_model.specs.Outcomes.{lets_of, MayBeChanged, IsChanged, IsOutcome, AreOutcomes}
+use Rattle.run_model.specs.Versions.{Change, version}
+use Rattle.run_model.specs.Blocks.{block_reads}
+use Rattle.run_model.specs.Legal.{IsCommit, CommitsItem, CommitsFrom, change_at, change_for}
+use Rattle.lang_model.specs.declared.syntax.Let.{Let as BlockLet}
+use Rattle.run_model.specs.States.{start, replay, gifts_due, events_before, before_first, before_second, state_for}
 use Rattle.run_model.specs.Solo.{Told, state_behind, deeds_due, solo_from, Suffices}
 use Rattle.run_model.proofs.Refusing.{FailsWell, due_fails_well}
-use Rattle.run_model.proofs.Entries.{entry, heads, not_empty, split, map_append, Below, From, below_more, below_append, below_own, from_own, from_append, from_less}
+use Rattle.run_model.proofs.Entries.{event, entry, reads_event, heads, tails, not_empty, none, split, map_append, Below, From, below_more, below_append, below_own, from_own, from_append, from_less, not_below, not_from, passes, is_own}
+use Rattle.run_model.proofs.Places.{behind_log, first_none, first_here, second_here, second_passes, version-append, nothing_changed}
 use Rattle.run_model.proofs.Behind.{replay_append, read_stays, given_stays, behind, sees_now}
 
 -- ---- deeds
@@ -47,12 +57,14 @@ some_deed x xs h = let e : 1 ≡ 0 = ap deed_count h in omega (arith, e)
 deeds_are : (item : Item) (d : Due) (deeds : List Deed) → FailsWell d → HasDeeds (ending (outcome_due d)) item d deeds → deeds ≡ deeds_due item d
 deeds_are item Nothing deeds f h = h
 deeds_are item (Value r) deeds f h = h
+deeds_are item (Values gifts) deeds f h = h
 deeds_are item (Explained steps) deeds f h = h
 deeds_are item (Refused when outcome) deeds f h = subst (λ x. HasDeeds x item (Refused when outcome) deeds) f h
 
 has_deeds : (item : Item) (d : Due) → FailsWell d → HasDeeds (ending (outcome_due d)) item d (deeds_due item d)
 has_deeds item Nothing f = refl
 has_deeds item (Value r) f = refl
+has_deeds item (Values gifts) f = refl
 has_deeds item (Explained steps) f = refl
 has_deeds item (Refused when outcome) f = subst (λ x. HasDeeds x item (Refused when outcome) (reads_of item)) (sym f) refl
 
@@ -66,6 +78,7 @@ module _ (input : Input) (script : Script) where
   kept_none : (x : Ending) (item : Item) → snapped item ≡ None → (s t : Workspace) (snaps : Snapshots) → kept_at x item s snaps ≡ kept_at x item t snaps
   kept_none Succeeds item n s t snaps = ap (λ o. keep o s snaps) n ∙ sym (ap (λ o. keep o t snaps) n)
   kept_none Fails item n s t snaps = refl
+  kept_none Changes item n s t snaps = refl
   kept_none LacksMemory item n s t snaps = refl
 
   keeps_none : (item : Item) → snapped item ≡ None → (o : Outcome) (s t : Workspace) (snaps : Snapshots) →
@@ -76,6 +89,7 @@ module _ (input : Input) (script : Script) where
   does : (item : Item) (x : Deed) → first_of item ≡ x ∷ [] → (y : Deed) → reads_of item ≡ y ∷ [] → (d : Due) → deeds_due item d ≡ [] → ⊥
   does item x f y r Nothing h = some_deed x (giving (gives item Nothing)) (sym (ap (λ l. l ++ giving (gives item Nothing)) f) ∙ h)
   does item x f y r (Value v) h = some_deed x (giving (gives item (Value v))) (sym (ap (λ l. l ++ giving (gives item (Value v))) f) ∙ h)
+  does item x f y r (Values gifts) h = some_deed x (giving (gives item (Values gifts))) (sym (ap (λ l. l ++ giving (gives item (Values gifts))) f) ∙ h)
   does item x f y r (Explained steps) h = some_deed x (giving (gives item (Explained steps))) (sym (ap (λ l. l ++ giving (gives item (Explained steps))) f) ∙ h)
   does item x f y r (Refused when outcome) h = some_deed y [] (sym r ∙ h)
 
@@ -96,6 +110,7 @@ module _ (input : Input) (script : Script) where
   ignores (COMMAND (Load name file)) d h =
       record { same_due = λ s t snap. refl; same_snaps = keeps_none (COMMAND (Load name file)) refl }
   ignores (COMMAND (Save e file)) d h = absurd (does (COMMAND (Save e file)) Reads refl Reads refl d h)
+  ignores (COMMAND (Atomic lets)) d h = absurd (does (COMMAND (Atomic lets)) Reads refl Reads refl d h)
   ignores (COMMAND (Explain e)) d h = absurd (does (COMMAND (Explain e)) Reads refl Reads refl d h)
   ignores (Function at name params body) d h =
       record { same_due = λ s t snap. refl; same_snaps = keeps_none (Function at name params body) refl }
@@ -123,6 +138,129 @@ solo_numbers input script (item ∷ items) c state snaps =
     from_append c (entries 1 c (deeds_due item d))
     (solo_from input script (c + 1) (state_behind item d state) (snaps_behind item (outcome_due d) state snaps) items).log
     (from_own c (deeds_due item d)) (from_less c _ more)
+
+-- ---- blocks
+not_some : (ls : List BlockLet) → None ≡ Some ls → ⊥
+not_some ls e = let k : 0 ≡ 1 = ap count e in omega (arith, k)
+  where
+    count : Option (List BlockLet) → ℕ
+    count None = 0
+    count (Some l) = 1
+
+-- a block reads, and once more where it is refused at its commit
+block_reads_first : (item : Item) (ls : List BlockLet) → lets_of item ≡ Some ls →
+    (first_of item ≡ Reads ∷ []) × (reads_of item ≡ Reads ∷ []) × (all_reads_of item ≡ Reads ∷ Reads ∷ [])
+block_reads_first (COMMAND (RELATION name rows rows_at cols cols_at list)) ls e = absurd (not_some ls e)
+block_reads_first (COMMAND (Let name x)) ls e = absurd (not_some ls e)
+block_reads_first (COMMAND (PRINT x)) ls e = absurd (not_some ls e)
+block_reads_first (COMMAND (LIST x)) ls e = absurd (not_some ls e)
+block_reads_first (COMMAND (Count x)) ls e = absurd (not_some ls e)
+block_reads_first (COMMAND (Typed x)) ls e = absurd (not_some ls e)
+block_reads_first (COMMAND (DROP at name)) ls e = absurd (not_some ls e)
+block_reads_first (COMMAND (Snap name)) ls e = absurd (not_some ls e)
+block_reads_first (COMMAND (At at name x)) ls e = absurd (not_some ls e)
+block_reads_first (COMMAND (Load name file)) ls e = absurd (not_some ls e)
+block_reads_first (COMMAND (Save x file)) ls e = absurd (not_some ls e)
+block_reads_first (COMMAND (Atomic lets)) ls e = (refl, refl, refl)
+block_reads_first (COMMAND (Explain x)) ls e = absurd (not_some ls e)
+block_reads_first (Function at name params body) ls e = absurd (not_some ls e)
+block_reads_first (Program at name params decls body result) ls e = absurd (not_some ls e)
+
+-- so the deeds that are due of it begin with a read
+block_deeds : (item : Item) (ls : List BlockLet) → lets_of item ≡ Some ls → (d : Due) → (more : List Deed) × (deeds_due item d ≡ Reads ∷ more)
+block_deeds item ls e Nothing = (giving (gives item Nothing), ap (λ l. l ++ giving (gives item Nothing)) (block_reads_first item ls e).0)
+block_deeds item ls e (Value v) = (giving (gives item (Value v)), ap (λ l. l ++ giving (gives item (Value v))) (block_reads_first item ls e).0)
+block_deeds item ls e (Values gifts) = (giving (gives item (Values gifts)), ap (λ l. l ++ giving (gives item (Values gifts))) (block_reads_first item ls e).0)
+block_deeds item ls e (Explained steps) = (giving (gives item (Explained steps)), ap (λ l. l ++ giving (gives item (Explained steps))) (block_reads_first item ls e).0)
+block_deeds item ls e (Refused when outcome) = ([], (block_reads_first item ls e).1)
+
+-- between the events of a command of a session that runs alone nothing changes
+change_is_none : (seen : List ℕ → ℕ) (o : Option (List Event)) → ((l : List Event) → o ≡ Some l → (name : List ℕ) → seen name ≡ version name l) →
+    (names : List (List ℕ)) → change_at seen (λ l name. version name l) o names ≡ None
+change_is_none seen None h names = refl
+change_is_none seen (Some l) h names = nothing_changed seen (λ name. version name l) (h l refl) names
+
+-- where no event comes between the read and the second event, or there is no second one
+lone_change : (c : ℕ) (done more : List Event) (names : List (List ℕ)) → Below c done →
+    (before_first 1 c more ≡ Some []) ⊎ (before_first 1 c more ≡ None) →
+    change_for (done ++ event 1 c Read ∷ more) 1 c names ≡ None
+unfolding change_for
+lone_change c done more names b h =
+    let not_there = not_below c done b in
+    let own = is_own c (event 1 c Read) refl refl in
+    let first : events_before 1 c (done ++ event 1 c Read ∷ more) ≡ done =
+    passes c done (event 1 c Read ∷ more) not_there ∙ (ap (λ t. done ++ cond t [] (event 1 c Read ∷ events_before 1 c more)) own ∙ append-nil done) in
+    let second : before_second 1 c (done ++ event 1 c Read ∷ more) ≡ behind_log done (behind_log (event 1 c Read ∷ []) (before_first 1 c more)) =
+    second_passes 1 c done (event 1 c Read ∷ more) not_there ∙ ap (behind_log done) (second_here 1 c (event 1 c Read) more own) in
+    change_is_none (λ name. version name (events_before 1 c (done ++ event 1 c Read ∷ more))) (before_second 1 c (done ++ event 1 c Read ∷ more))
+    (λ l e name. ap (version name) first ∙ same_version h l (sym second ∙ e) name) names
+  where
+    of_some : List Event → Option (List Event) → List Event
+    of_some d None = d
+    of_some d (Some l) = l
+
+    count : Option (List Event) → ℕ
+    count None = 0
+    count (Some l) = 1
+
+    same_version : (before_first 1 c more ≡ Some []) ⊎ (before_first 1 c more ≡ None) → (l : List Event) →
+        behind_log done (behind_log (event 1 c Read ∷ []) (before_first 1 c more)) ≡ Some l → (name : List ℕ) → version name done ≡ version name l
+    same_version (inl y) l e name =
+        let is : done ++ event 1 c Read ∷ [] ≡ l = ap (of_some []) (sym (ap (λ o. behind_log done (behind_log (event 1 c Read ∷ []) o)) y) ∙ e) in
+        sym (add-zero (version name done)) ∙ (sym (version-append name done (event 1 c Read ∷ [])) ∙ ap (version name) is)
+    same_version (inr n) l e name =
+        let k : 0 ≡ 1 = ap count (sym (ap (λ o. behind_log done (behind_log (event 1 c Read ∷ []) o)) n) ∙ e) in absurd (omega (arith, k))
+
+-- the events of a block in the history of a session that runs alone: the next one is its own, or it has none
+lone_block : (c : ℕ) (history done mine rest : List Event) (deeds : List Deed) (names : List (List ℕ)) → history ≡ done ++ (mine ++ rest) → Below c done →
+    From (c + 1) (map entry_of rest) → map entry_of mine ≡ entries 1 c (Reads ∷ deeds) → change_for history 1 c names ≡ None
+lone_block c history done [] rest deeds names w b f own = absurd (not_empty _ _ (sym own))
+lone_block c history done (e ∷ es) rest deeds names w b f own =
+    let is = reads_event e 1 c (heads _ _ _ _ own) in
+    ap (λ h. change_for h 1 c names) (w ∙ ap (λ x. done ++ x ∷ (es ++ rest)) is)
+    ∙ lone_change c done (es ++ rest) names b (next es deeds (tails _ _ _ _ own))
+  where
+    next : (es : List Event) (deeds : List Deed) → map entry_of es ≡ entries 1 c deeds →
+        (before_first 1 c (es ++ rest) ≡ Some []) ⊎ (before_first 1 c (es ++ rest) ≡ None)
+    next es [] h = inr (ap (λ l. before_first 1 c (l ++ rest)) (none es h) ∙ first_none 1 c rest (not_from c rest f))
+    next [] (d ∷ ds) h = absurd (not_empty _ _ (sym h))
+    next (x ∷ xs) (d ∷ ds) h =
+        let q = heads (entry_of x) (entry 1 c d) (map entry_of xs) (entries 1 c ds) h in
+        inl (first_here 1 c x (xs ++ rest) (is_own c x (ap (λ (y : Entry). y.session) q) (ap (λ (y : Entry). y.command) q)))
+
+-- an outcome that is due has no change where there is none
+commit_of_none : (o : Outcome) → (ending o ≡ Changes → ⊥) → (change : Option Change) → change ≡ None → IsCommit o change
+commit_of_none Done n change h = h
+commit_of_none (Parse fault) n change h = tt
+commit_of_none (Ill fault) n change h = tt
+commit_of_none (Size at wanted limit) n change h = tt
+commit_of_none (Turns at limit) n change h = tt
+commit_of_none Nodes n change h = tt
+commit_of_none (TooLarge wanted counted) n change h = tt
+commit_of_none (TooLong bits) n change h = tt
+commit_of_none (NoFile name) n change h = tt
+commit_of_none (BAD_FILE name kind) n change h = tt
+commit_of_none NoMemory n change h = tt
+commit_of_none (Changed name seen found) n change h = absurd (n refl)
+
+abbrev ending_number : Ending → ℕ
+ending_number Succeeds = 0
+ending_number Fails = 1
+ending_number Changes = 2
+ending_number LacksMemory = 3
+
+-- what is due is never a change
+due_unchanged : (d : Due) → FailsWell d → ending (outcome_due d) ≡ Changes → ⊥
+due_unchanged Nothing f e = let k : 0 ≡ 2 = ap ending_number e in omega (arith, k)
+due_unchanged (Value r) f e = let k : 0 ≡ 2 = ap ending_number e in omega (arith, k)
+due_unchanged (Values gifts) f e = let k : 0 ≡ 2 = ap ending_number e in omega (arith, k)
+due_unchanged (Explained steps) f e = let k : 0 ≡ 2 = ap ending_number e in omega (arith, k)
+due_unchanged (Refused when outcome) f e = let k : 1 ≡ 2 = ap ending_number (sym f ∙ e) in omega (arith, k)
+
+commits_alone : (o : Option (List BlockLet)) (d : Due) → FailsWell d → (change : List (List ℕ) → Option Change) →
+    ((ls : List BlockLet) → o ≡ Some ls → change (block_reads ls) ≡ None) → CommitsItem change o (outcome_due d)
+commits_alone None d f change h = tt
+commits_alone (Some ls) d f change h = commit_of_none (outcome_due d) (due_unchanged d f) (change (block_reads ls)) (h ls refl)
 
 -- ---- the two directions
 module _ (input : Input) (script : Script) (only : script_at input 1 ≡ Some script) (history : List Event) where
@@ -184,10 +322,28 @@ module _ (input : Input) (script : Script) (only : script_at input 1 ≡ Some sc
       later : (c k : ℕ) → (c + 1) + k ≡ c + suc k
       later c k = omega arith
 
-  is_due : (item : Item) (d : Due) (o : Outcome) → IsOutcome item d o → Suffices o → o ≡ outcome_due d
-  is_due item d o (inl e) s = e
-  is_due item d o (inr (inl e)) s = absurd (s.0 e.0)
-  is_due item d o (inr (inr e)) s = absurd (s.1 e.0)
+  -- a block of a session that runs alone is not refused at its commit
+  unchanged : (c : ℕ) (item : Item) (d : Due) (o : Outcome) (deeds : List Deed) (done mine rest : List Event) (ls : Option (List BlockLet)) →
+      lets_of item ≡ ls → history ≡ done ++ (mine ++ rest) → Below c done → From (c + 1) (map entry_of rest) → map entry_of mine ≡ entries 1 c deeds →
+      HasDeeds (ending o) item d deeds → CommitsItem (change_for history 1 c) ls o → IsChanged o → MayBeChanged item d → ⊥
+  unchanged c item d o deeds done mine rest None is w b f own has commit (name, seen, found, told) may =
+      false≢true (subst IsSome is may.0)
+  unchanged c item d o deeds done mine rest (Some ls) is w b f own has commit (name, seen, found, told) may =
+      let all : deeds ≡ Reads ∷ Reads ∷ [] = subst (λ x. HasDeeds (ending x) item d deeds) told has ∙ (block_reads_first item ls is).2 in
+      let no = lone_block c history done mine rest (Reads ∷ []) (block_reads ls) w b f (own ∙ ap (entries 1 c) all) in
+      let yes : change_for history 1 c (block_reads ls) ≡ Some (record { name = name; seen = seen; found = found }) =
+      subst (λ x. IsCommit x (change_for history 1 c (block_reads ls))) told commit in
+      let k : 0 ≡ 1 = ap changes_count (sym no ∙ yes) in omega (arith, k)
+    where
+      changes_count : Option Change → ℕ
+      changes_count None = 0
+      changes_count (Some x) = 1
+
+  is_due : (item : Item) (d : Due) (o : Outcome) → IsOutcome item d o → Suffices o → (IsChanged o → MayBeChanged item d → ⊥) → o ≡ outcome_due d
+  is_due item d o (inl e) s n = e
+  is_due item d o (inr (inl e)) s n = absurd (s.0 e.0)
+  is_due item d o (inr (inr (inl e))) s n = absurd (s.1 e.0)
+  is_due item d o (inr (inr (inr e))) s n = absurd (n e.0 e.1)
 
   abbrev alone : ℕ → Workspace → Snapshots → List Item → Told
   alone c state snaps items = solo_from input script c state snaps items
@@ -196,22 +352,23 @@ module _ (input : Input) (script : Script) (only : script_at input 1 ≡ Some sc
       Below c done → now_behind done ≡ state → history ≡ done ++ rest → Placed c items → length outcomes ≡ length items →
       AreEvents input script 1 (steps_from state_of c snaps items outcomes) (map entry_of rest) →
       AreOutcomes input script (steps_from state_of c snaps items outcomes) → AllByRecursion Suffices outcomes →
+      CommitsFrom (change_for history 1) c items outcomes →
       (outcomes ≡ (alone c state snaps items).outcomes) × (map entry_of rest ≡ (alone c state snaps items).log)
-  to_solo [] [] c snaps state done rest b now h placed l ev oc su = (refl, ev)
-  to_solo [] (o ∷ outcomes) c snaps state done rest b now h placed l ev oc su = absurd (omega (arith, l))
-  to_solo (item ∷ items) [] c snaps state done rest b now h placed l ev oc su = absurd (omega (arith, l))
-  to_solo (item ∷ items) (o ∷ outcomes) c snaps state done rest b now h placed l ev oc su =
+  to_solo [] [] c snaps state done rest b now h placed l ev oc su cm = (refl, ev)
+  to_solo [] (o ∷ outcomes) c snaps state done rest b now h placed l ev oc su cm = absurd (omega (arith, l))
+  to_solo (item ∷ items) [] c snaps state done rest b now h placed l ev oc su cm = absurd (omega (arith, l))
+  to_solo (item ∷ items) (o ∷ outcomes) c snaps state done rest b now h placed l ev oc su cm =
       let snap = snap_for item snaps in
       let d' = due input script item (state_of c) snap in
       let d = due input script item state snap in
-      let told = is_due item d' o oc.0 su.0 in
-      let deeds = deeds_are item d' ev.0 (due_fails_well input script item (state_of c) snap) (subst (λ x. HasDeeds (ending x) item d' ev.0) told ev.3) in
       let parts = split rest (entries 1 c ev.0) ev.1 ev.2 in
       let mine = parts.0 in
       let later = parts.1 in
       let whole : history ≡ done ++ (mine ++ later) = h ∙ ap (λ t. done ++ t) parts.2 in
-      let own' : map entry_of mine ≡ entries 1 c (deeds_due item d') = parts.3 ∙ ap (entries 1 c) deeds in
       let numbers = subst (From (c + 1)) (sym parts.4) (events_from input script state_of items outcomes (c + 1) (snaps_behind item o (state_of c) snaps) ev.1 ev.4) in
+      let told = is_due item d' o oc.0 su.0 (unchanged c item d' o ev.0 done mine later (lets_of item) refl whole b numbers parts.3 ev.3 cm.0) in
+      let deeds = deeds_are item d' ev.0 (due_fails_well input script item (state_of c) snap) (subst (λ x. HasDeeds (ending x) item d' ev.0) told ev.3) in
+      let own' : map entry_of mine ≡ entries 1 c (deeds_due item d') = parts.3 ∙ ap (entries 1 c) deeds in
       let seen = sees c item d' done mine later state now whole b numbers own' in
       let same : d' ≡ d = due_seen c item state snap seen in
       let own : map entry_of mine ≡ entries 1 c (deeds_due item d) = own' ∙ ap (λ x. entries 1 c (deeds_due item x)) same in
@@ -223,7 +380,7 @@ module _ (input : Input) (script : Script) (only : script_at input 1 ≡ Some sc
       (goes_on c item snap state done mine b now (placed_here c item items placed) own)
       (whole ∙ sym (append_assoc done mine later)) (placed_later c item items placed) (omega (arith, l))
       (subst (AreEvents input script 1 (steps_from state_of (c + 1) (snaps_behind item o (state_of c) snaps) items outcomes)) (sym parts.4) ev.4)
-      oc.1 su.1 in (
+      oc.1 su.1 cm.1 in (
         (λ i. told_d i ∷ (r.0 ∙ ap (λ z. (alone (c + 1) (state_behind item d state) z items).outcomes) snaps_same) i),
         ap (map entry_of) parts.2 ∙ (map_append mine later
             ∙ (λ i. own i ++ (r.1 ∙ ap (λ z. (alone (c + 1) (state_behind item d state) z items).log) snaps_same) i)),
@@ -234,7 +391,8 @@ module _ (input : Input) (script : Script) (only : script_at input 1 ≡ Some sc
       map entry_of rest ≡ (alone c state snaps items).log →
       AreEvents input script 1 (steps_from state_of c snaps items (alone c state snaps items).outcomes) (map entry_of rest)
       × AreOutcomes input script (steps_from state_of c snaps items (alone c state snaps items).outcomes)
-  from_solo [] c snaps state done rest b now h placed log = (log, tt)
+      × CommitsFrom (change_for history 1) c items (alone c state snaps items).outcomes
+  from_solo [] c snaps state done rest b now h placed log = (log, tt, tt)
   from_solo (item ∷ items) c snaps state done rest b now h placed log =
       let snap = snap_for item snaps in
       let d' = due input script item (state_of c) snap in
@@ -264,5 +422,12 @@ module _ (input : Input) (script : Script) (only : script_at input 1 ≡ Some sc
         (
           inl (ap outcome_due (sym same)),
           subst (λ z. AreOutcomes input script (steps_from state_of (c + 1) z items next.outcomes)) (sym snaps_same) r.1,
+        ),
+        (
+          commits_alone (lets_of item) d well (change_for history 1 c)
+              (λ ls is.
+              let deeds = block_deeds item ls is d in
+              lone_block c history done mine later deeds.0 (block_reads ls) whole b numbers (parts.3 ∙ ap (entries 1 c) deeds.1)),
+          r.2,
         ),
       )

@@ -16,6 +16,7 @@ use Rattle.lang_model.specs.declared.syntax.Command.TheVariants.{
   At,
   Load,
   Save,
+  Atomic,
   Explain,
 }
 use Rattle.lang_model.specs.declared.syntax.Item.{Item}
@@ -24,10 +25,11 @@ use Rattle.lang_model.specs.declared.syntax.Script.{Script}
 use Rattle.run_model.specs.declared.event.Event.{Event}
 use Rattle.run_model.specs.declared.event.Act.{Act}
 use Rattle.run_model.specs.declared.event.Act.TheVariants.{Read, Assign, Remove}
+use Rattle.run_model.specs.declared.outcome.Outcome.{Outcome}
 use Rattle.rel_model.specs.Relation.{Relation}
 use Rattle.run_model.specs.Names.{no_names, remove}
 use Rattle.run_model.specs.Inputs.{Input, script_at, item_at}
-use Rattle.run_model.specs.Due.{Workspace, Due, Nothing, Value, Explained, Refused, Gifts, given, gives, due, due_of_command}
+use Rattle.run_model.specs.Due.{When, Workspace, Due, Nothing, Value, Values, Explained, Refused, Gifts, given, given_all, gives, due, due_of_command}
 use Rattle.run_model.specs.Events.{Deed, Reads, Removes, entry_of, entries, giving, first_of, reads_of}
 use Rattle.run_model.specs.States.{Replay, start, at_command, set_by, replay_act, replay, gifts_of_item, gifts_of_script, gifts_due, is_of, events_before, state_after, state_for}
 use Rattle.run_model.specs.Solo.{set_all, without, state_behind, deeds_due}
@@ -95,27 +97,31 @@ module _ (item : Item) (state : Workspace) (stays : without item state ≡ state
     plain_deeds : (d : Due) → deeds_due item d ≡ firsts
     plain_deeds Nothing = (λ i. f i ++ giving (none_given Nothing i)) ∙ append-nil firsts
     plain_deeds (Value v) = (λ i. f i ++ giving (none_given (Value v) i)) ∙ append-nil firsts
+    plain_deeds (Values gifts) = (λ i. f i ++ giving (none_given (Values gifts) i)) ∙ append-nil firsts
     plain_deeds (Explained steps) = (λ i. f i ++ giving (none_given (Explained steps) i)) ∙ append-nil firsts
     plain_deeds (Refused when outcome) = r
 
     plain_state : (d : Due) → state_behind item d state ≡ state
     plain_state Nothing = λ i. set_all (none_given Nothing i) (stays i)
     plain_state (Value v) = λ i. set_all (none_given (Value v) i) (stays i)
+    plain_state (Values gifts) = λ i. set_all (none_given (Values gifts) i) (stays i)
     plain_state (Explained steps) = λ i. set_all (none_given (Explained steps) i) (stays i)
     plain_state (Refused when outcome) = refl
 
-  module _ (name : List ℕ) (g : (d : Due) → gives item d ≡ given name d) (firsts : List Deed) (f : first_of item ≡ firsts) (r : reads_of item ≡ firsts) where
-    giver_deeds : (d : Due) → deeds_due item d ≡ firsts ++ giving (given name d)
+  module _ (gs : Due → Gifts) (g : (d : Due) → gives item d ≡ gs d) (n : (when : When) (outcome : Outcome) → gs (Refused when outcome) ≡ []) (firsts : List Deed) (f : first_of item ≡ firsts) (r : reads_of item ≡ firsts) where
+    giver_deeds : (d : Due) → deeds_due item d ≡ firsts ++ giving (gs d)
     giver_deeds Nothing = λ i. f i ++ giving (g Nothing i)
     giver_deeds (Value v) = λ i. f i ++ giving (g (Value v) i)
+    giver_deeds (Values gifts) = λ i. f i ++ giving (g (Values gifts) i)
     giver_deeds (Explained steps) = λ i. f i ++ giving (g (Explained steps) i)
-    giver_deeds (Refused when outcome) = r ∙ sym (append-nil firsts)
+    giver_deeds (Refused when outcome) = r ∙ (sym (append-nil firsts) ∙ ap (λ l. firsts ++ giving l) (sym (n when outcome)))
 
-    giver_state : (d : Due) → state_behind item d state ≡ set_all (given name d) state
+    giver_state : (d : Due) → state_behind item d state ≡ set_all (gs d) state
     giver_state Nothing = λ i. set_all (g Nothing i) (stays i)
     giver_state (Value v) = λ i. set_all (g (Value v) i) (stays i)
+    giver_state (Values gifts) = λ i. set_all (g (Values gifts) i) (stays i)
     giver_state (Explained steps) = λ i. set_all (g (Explained steps) i) (stays i)
-    giver_state (Refused when outcome) = refl
+    giver_state (Refused when outcome) = ap (λ l. set_all l state) (sym (n when outcome))
 
 module _ (gifts : ℕ → ℕ → Workspace → Gifts) (c : ℕ) (p : Replay Relation) where
   -- no event leaves the workspace, nor does a read
@@ -185,25 +191,28 @@ module _ (input : Input) (script : Script) (only : script_at input 1 ≡ Some sc
         read_now (gifts_due input) c p mine (h ∙ ap (entries 1 c) (plain_deeds item state w g (Reads ∷ []) f r d))
         ∙ (now ∙ sym (plain_state item state w g (Reads ∷ []) f r d))
 
-    giver : (item : Item) (d : Due) (name : List ℕ) → ((x : Due) → gives item x ≡ given name x) → first_of item ≡ [] →
-        reads_of item ≡ [] → without item state ≡ state → gifts_due input 1 c no_names ≡ given name d → Own item d →
+    giver : (item : Item) (d : Due) (gs : Due → Gifts) → ((x : Due) → gives item x ≡ gs x) →
+        ((when : When) (outcome : Outcome) → gs (Refused when outcome) ≡ []) → first_of item ≡ [] →
+        reads_of item ≡ [] → without item state ≡ state → gifts_due input 1 c no_names ≡ gs d → Own item d →
         Behind item d
-    giver item d name g f r w own h =
-        giver_now (gifts_due input) c p (given name d) unread ungiven mine own
-        (h ∙ ap (entries 1 c) (giver_deeds item state w name g [] f r d))
-        ∙ (ap (set_all (given name d)) now ∙ sym (giver_state item state w name g [] f r d))
+    giver item d gs g n f r w own h =
+        giver_now (gifts_due input) c p (gs d) unread ungiven mine own
+        (h ∙ ap (entries 1 c) (giver_deeds item state w gs g n [] f r d))
+        ∙ (ap (set_all (gs d)) now ∙ sym (giver_state item state w gs g n [] f r d))
 
-    reader : (item : Item) (d : Due) (name : List ℕ) → ((x : Due) → gives item x ≡ given name x) →
+    reader : (item : Item) (d : Due) (gs : Due → Gifts) → ((x : Due) → gives item x ≡ gs x) →
+        ((when : When) (outcome : Outcome) → gs (Refused when outcome) ≡ []) →
         first_of item ≡ Reads ∷ [] → reads_of item ≡ Reads ∷ [] → without item state ≡ state →
-        gifts_due input 1 c state ≡ given name d → Own item d → Behind item d
-    reader item d name g f r w own h =
-        reader_now (gifts_due input) c p (given name d) unread ungiven mine (ap (gifts_due input 1 c) now ∙ own)
-        (h ∙ ap (entries 1 c) (giver_deeds item state w name g (Reads ∷ []) f r d))
-        ∙ (ap (set_all (given name d)) now ∙ sym (giver_state item state w name g (Reads ∷ []) f r d))
+        gifts_due input 1 c state ≡ gs d → Own item d → Behind item d
+    reader item d gs g n f r w own h =
+        reader_now (gifts_due input) c p (gs d) unread ungiven mine (ap (gifts_due input 1 c) now ∙ own)
+        (h ∙ ap (entries 1 c) (giver_deeds item state w gs g n (Reads ∷ []) f r d))
+        ∙ (ap (set_all (gs d)) now ∙ sym (giver_state item state w gs g n (Reads ∷ []) f r d))
 
     dropper : (at : _) (name : List ℕ) (d : Due) → Own (COMMAND (DROP at name)) d → Behind (COMMAND (DROP at name)) d
     dropper at name Nothing h = remove_now (gifts_due input) c p name mine h ∙ ap (remove name) now
     dropper at name (Value r) h = remove_now (gifts_due input) c p name mine h ∙ ap (remove name) now
+    dropper at name (Values gifts) h = remove_now (gifts_due input) c p name mine h ∙ ap (remove name) now
     dropper at name (Explained steps) h = remove_now (gifts_due input) c p name mine h ∙ ap (remove name) now
     dropper at name (Refused when outcome) h = read_now (gifts_due input) c p mine h ∙ now
 
@@ -213,10 +222,10 @@ module _ (input : Input) (script : Script) (only : script_at input 1 ≡ Some sc
     unfolding due due_of_command
     behind (COMMAND (RELATION name rows rows_at cols cols_at list)) at d is h =
         let item = COMMAND (RELATION name rows rows_at cols cols_at list) in
-        giver item d name (λ x. refl) refl refl refl (gifts_here c item no_names at ∙ ap (given name) (sym is)) h
+        giver item d (given name) (λ x. refl) (λ w o. refl) refl refl refl (gifts_here c item no_names at ∙ ap (given name) (sym is)) h
     behind (COMMAND (Let name e)) at d is h =
         let item = COMMAND (Let name e) in
-        reader item d name (λ x. refl) refl refl refl (gifts_here c item state at ∙ ap (given name) (sym is)) h
+        reader item d (given name) (λ x. refl) (λ w o. refl) refl refl refl (gifts_here c item state at ∙ ap (given name) (sym is)) h
     behind (COMMAND (PRINT e)) at d is h = reading (COMMAND (PRINT e)) d (λ x. refl) refl refl refl h
     behind (COMMAND (LIST e)) at d is h = reading (COMMAND (LIST e)) d (λ x. refl) refl refl refl h
     behind (COMMAND (Count e)) at d is h = reading (COMMAND (Count e)) d (λ x. refl) refl refl refl h
@@ -226,8 +235,11 @@ module _ (input : Input) (script : Script) (only : script_at input 1 ≡ Some sc
     behind (COMMAND (At place name e)) at d is h = quiet (COMMAND (At place name e)) d (λ x. refl) refl refl refl h
     behind (COMMAND (Load name file)) at d is h =
         let item = COMMAND (Load name file) in
-        giver item d name (λ x. refl) refl refl refl (gifts_here c item no_names at ∙ ap (given name) (sym is)) h
+        giver item d (given name) (λ x. refl) (λ w o. refl) refl refl refl (gifts_here c item no_names at ∙ ap (given name) (sym is)) h
     behind (COMMAND (Save e file)) at d is h = reading (COMMAND (Save e file)) d (λ x. refl) refl refl refl h
+    behind (COMMAND (Atomic lets)) at d is h =
+        let item = COMMAND (Atomic lets) in
+        reader item d given_all (λ x. refl) (λ w o. refl) refl refl refl (gifts_here c item state at ∙ ap given_all (sym is)) h
     behind (COMMAND (Explain e)) at d is h = reading (COMMAND (Explain e)) d (λ x. refl) refl refl refl h
     behind (Function place name params body) at d is h = quiet (Function place name params body) d (λ x. refl) refl refl refl h
     behind (Program place name params decls body result) at d is h =

@@ -1,5 +1,5 @@
 -- The state by what is due follows the carried relations, event by event: values are taken name by name.
-use Rattle.std.proofs.Common.{◌≡◌, ◌&&◌, ◌+◌, ℕ, Bool, true, false, cond, eqb, not, List, [], ◌∷◌, Ordering, Less, Equal, Greater, refl, sym, ap, ◌∙◌, subst, Some}
+use Rattle.std.proofs.Common.{◌≡◌, ◌&&◌, ◌+◌, ℕ, Bool, true, false, cond, eqb, not, List, [], ◌∷◌, Ordering, Less, Equal, Greater, refl, sym, ap, ◌∙◌, Some, slice_get}
 use Rattle.std.specs.Ordering.{eq_by_cmp}
 use Rattle.std.specs.FinMap.Entries.{by_order}
 use Rattle.rel_model.specs.declared.Rel.{Rel}
@@ -9,12 +9,12 @@ use Rattle.run_model.specs.declared.event.Act.TheVariants.{Read, Assign, Remove}
 use Rattle.rel_model.specs.Relation.{Relation}
 use Rattle.run_model.specs.Names.{compare, set, remove}
 use Rattle.run_model.specs.Due.{Workspace, Gifts}
-use Rattle.run_model.specs.States.{Replay, start, at_command, set_by, replay_act, replay}
+use Rattle.run_model.specs.States.{Replay, begun, set_by, replay_act, replay}
 use Rattle.run_model.specs.Sessions.{rel_of}
-use Rattle.run_model.specs.Stored.{IsStored, AreStored, AreInWords, DueIsStored}
+use Rattle.run_model.specs.Stored.{IsStored, AreStored, AreInWords}
 use Rattle.rel_model.specs.Roots.{relation_in}
 use Rattle.std.specs.List.{AllByRecursion}
-use Rattle.run_model.specs.Carried.{Carried, carry_act, carry, valued, HasDue, AllHaveDue, CarriedIsState}
+use Rattle.run_model.specs.Carried.{Carried, SameTo, valued_replay, carry_act, carry, valued, HasDue, AllHaveDue, CarriedIsState}
 
 module _ (means : Rel → Relation) where
   one_order : (o : Ordering) (x y z : Carried) →
@@ -44,55 +44,65 @@ module _ (means : Rel → Relation) where
   pick_valued true x y = refl
   pick_valued false x y = refl
 
-  -- a replay of carried relations, as one of values
-  abbrev of_values : Replay Rel → Replay Relation
-  of_values p = record { now = valued means p.now; at_read = λ s c. valued means (p.at_read s c); given = p.given }
-
-  module _ (gifts : ℕ → ℕ → Workspace → Gifts) where
-    -- one event
-    one : (s c : ℕ) (a : Act) (p : Replay Rel) → HasDue gifts means s c a p →
-        replay_act gifts s c a (of_values p) ≡ of_values (carry_act s c a p)
-    one s c Read p h = λ i. record {
-      now = valued means p.now;
-      at_read = λ t d. pick_valued (eqb t s && eqb d c) p.now (p.at_read t d) i;
-      given = p.given;
+  module _ (kind : ℕ → Bool) (gifts : ℕ → ℕ → Workspace → Gifts) where
+    -- one event of a session of the kind
+    one : (s c : ℕ) (a : Act) (q : Replay Relation) (p : Replay Rel) → kind s ≡ true → SameTo kind q (valued_replay means p) →
+        HasDue gifts means s c a p → SameTo kind (replay_act gifts s c a q) (valued_replay means (carry_act s c a p))
+    one s c Read q p k h d = record {
+      now = h.now;
+      at_read = λ t e m. picked (eqb t s && eqb e c) q.now (q.at_read t e) p.now (p.at_read t e) h.now (h.at_read t e m);
+      given = h.given;
     }
-    one s c (Assign name rel) p h = λ i. record {
-      now = (ap (λ o. set_by name o (valued means p.now)) h.1 ∙ (ap (λ v. set name v (valued means p.now)) (sym h.2) ∙ sym (set_valued name rel p.now))) i;
-      at_read = λ t d. valued means (p.at_read t d);
-      given = at_command s c (p.given s c + 1) p.given;
+      where
+        picked : (b : Bool) (x y : Workspace) (v w : Carried) → x ≡ valued means v → y ≡ valued means w → cond b x y ≡ valued means (cond b v w)
+        picked true x y v w e f = e
+        picked false x y v w e f = f
+    one s c (Assign name rel) q p k h d = record {
+      now =
+          (λ i. set_by name (slice_get (gifts s c (h.at_read s c k i)) (h.given s c k i)) (h.now i))
+          ∙ (ap (λ o. set_by name o (valued means p.now)) d.1
+          ∙ (ap (λ v. set name v (valued means p.now)) (sym d.2) ∙ sym (set_valued name rel p.now)));
+      at_read = h.at_read;
+      given = λ t e m. counted (eqb t s && eqb e c) (ap (λ n. n + 1) (h.given s c k)) (h.given t e m);
     }
-    one s c (Remove name) p h = λ i. record {
-      now = sym (remove_valued name p.now) i;
-      at_read = λ t d. valued means (p.at_read t d);
-      given = p.given;
+      where
+        counted : (b : Bool) {x y v w : ℕ} → x ≡ v → y ≡ w → cond b x y ≡ cond b v w
+        counted true e f = e
+        counted false e f = f
+    one s c (Remove name) q p k h d = record {
+      now = ap (remove name) h.now ∙ sym (remove_valued name p.now);
+      at_read = h.at_read;
+      given = h.given;
     }
 
-    all : (log : List Event) (p : Replay Rel) → AllHaveDue gifts means p log →
-        replay gifts (of_values p) log ≡ of_values (carry p log)
-    all [] p h = refl
-    all (e ∷ es) p h =
-        ap (λ q. replay gifts q es) (one e.session e.command e.act p h.0) ∙ all es (carry_act e.session e.command e.act p) h.1
+    pub all : (log : List Event) (q : Replay Relation) (p : Replay Rel) → AllByRecursion (λ e. kind e.session ≡ true) log →
+        SameTo kind q (valued_replay means p) → AllHaveDue gifts means p log →
+        SameTo kind (replay gifts q log) (valued_replay means (carry p log))
+    all [] q p k h d = h
+    all (e ∷ es) q p k h d =
+        all es (replay_act gifts e.session e.command e.act q) (carry_act e.session e.command e.act p) k.1
+        (one e.session e.command e.act q p k.0 h d.0) d.1
 
-  -- what is due is stored, event by event
-  module _ (gifts : ℕ → ℕ → Workspace → Gifts) (words : List ℕ) where
-    one_stored : (s c : ℕ) (a : Act) (p : Replay Rel) → HasDue gifts means s c a p →
-        AllByRecursion (λ rel. relation_in words rel ≡ Some (means rel)) (rel_of a) → IsStored gifts words (of_values p) s c a
-    one_stored s c Read p h k = tt
-    one_stored s c (Assign name rel) p h k = (h.0, h.1, k.0 ∙ ap (λ v. Some v) h.2)
-    one_stored s c (Remove name) p h k = tt
+    -- what is due is stored, event by event
+    module _ (words : List ℕ) where
+      one_stored : (s c : ℕ) (a : Act) (q : Replay Relation) (p : Replay Rel) → kind s ≡ true → SameTo kind q (valued_replay means p) →
+          HasDue gifts means s c a p → AllByRecursion (λ rel. relation_in words rel ≡ Some (means rel)) (rel_of a) → IsStored gifts words q s c a
+      one_stored s c Read q p k h d m = tt
+      one_stored s c (Assign name rel) q p k h d m = (
+        d.0,
+        (λ i. slice_get (gifts s c (h.at_read s c k i)) (h.given s c k i)) ∙ d.1,
+        m.0 ∙ ap (λ v. Some v) d.2,
+      )
+      one_stored s c (Remove name) q p k h d m = tt
 
-    stored : (log : List Event) (p : Replay Rel) → AllHaveDue gifts means p log → AreInWords words means log → AreStored gifts words (of_values p) log
-    stored [] p h k = tt
-    stored (e ∷ es) p h k = (
-      one_stored e.session e.command e.act p h.0 k.0,
-      subst (λ q. AreStored gifts words q es) (sym (one gifts e.session e.command e.act p h.0))
-          (stored es (carry_act e.session e.command e.act p) h.1 k.1),
-    )
-
-pub due_is_stored : DueIsStored
-due_is_stored gifts means words log h k = stored means gifts words log start h k
+      pub stored : (log : List Event) (q : Replay Relation) (p : Replay Rel) → AllByRecursion (λ e. kind e.session ≡ true) log →
+          SameTo kind q (valued_replay means p) → AllHaveDue gifts means p log → AreInWords words means log → AreStored gifts words q log
+      stored [] q p k h d m = tt
+      stored (e ∷ es) q p k h d m = (
+        one_stored e.session e.command e.act q p k.0 h d.0 m.0,
+        stored es (replay_act gifts e.session e.command e.act q) (carry_act e.session e.command e.act p) k.1
+            (one e.session e.command e.act q p k.0 h d.0) d.1 m.1,
+      )
 
 pub carried_is_state : CarriedIsState
-carried_is_state gifts means log h =
-    let e = all means gifts log start h in (ap (λ q. q.now) e, λ s c. ap (λ q. q.at_read s c) e)
+carried_is_state kind gifts means first before log k h d = all means kind gifts log before (begun first) k h d

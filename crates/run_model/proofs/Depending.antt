@@ -14,6 +14,7 @@ use Rattle.lang_model.specs.declared.syntax.Command.TheVariants.{
   At,
   Load,
   Save,
+  Atomic,
   Explain,
 }
 use Rattle.lang_model.specs.declared.syntax.Item.{Item}
@@ -21,8 +22,11 @@ use Rattle.lang_model.specs.declared.syntax.Item.TheVariants.{Function, Program,
 use Rattle.lang_model.specs.declared.syntax.Script.{Script}
 use Rattle.rel_model.specs.Relation.{Relation}
 use Rattle.lang_model.specs.Eval.{names_in, AgreeOn}
+use Rattle.lang_model.specs.Blocks.{names_read, cost_of_block}
 use Rattle.lang_model.proofs.Seeing.{by_names}
+use Rattle.lang_model.proofs.Blocking.{blocks_by_names}
 use Rattle.run_model.specs.Names.{lookup}
+use Rattle.lang_model.specs.declared.syntax.Let.{Let as BlockLet}
 use Rattle.run_model.specs.Inputs.{Input}
 use Rattle.run_model.specs.Due.{
   Workspace,
@@ -34,14 +38,16 @@ use Rattle.run_model.specs.Due.{
   due_of_value,
   due_of,
   due_of_drop,
+  due_of_lets,
+  due_of_block,
+  due_of_steps,
   due_on_snapshot,
   due_of_command,
   due,
-  due_of_steps,
 }
 use Rattle.run_model.specs.Cost.{cost_of, cost_on_snapshot, cost_of_item}
 use Rattle.lang_model.specs.Eval.{cost_of_value}
-use Rattle.run_model.specs.Laws.{names_taken, names_asked, SnapsAgree, DueByNames}
+use Rattle.run_model.specs.Laws.{LooksAlike, names_asked, SnapsAgree, DueByNames}
 
 module _ (input : Input) (script : Script) where
   valued : (then : Relation → Due) (e : Expr) (s t : Workspace) → AgreeOn (lookup s) (lookup t) (names_in e) →
@@ -66,40 +72,49 @@ module _ (input : Input) (script : Script) where
   snap_costed leaf e None (Some t) h = absurd h
   snap_costed leaf e (Some s) None h = absurd h
 
+  -- what a block is due depends on what it reads
+  pub block_due : (ls : List BlockLet) (s t : Workspace) → AgreeOn (lookup s) (lookup t) (names_read ls) →
+      due_of_block input script ls s ≡ due_of_block input script ls t
+  block_due ls s t h =
+      ap (due_of_lets input.turns ls) (blocks_by_names script (lookup s) (lookup t) ls input.turns h)
+
   pub same_due : (item : Item) (s t : Workspace) (snap other : Option Workspace) →
-      AgreeOn (lookup s) (lookup t) (names_taken item) → SnapsAgree snap other (names_asked item) →
+      LooksAlike item s t → SnapsAgree snap other (names_asked item) →
       due input script item s snap ≡ due input script item t other
   unfolding due due_of_command
   same_due (COMMAND (RELATION name rows rows_at cols cols_at list)) s t snap other h k = refl
-  same_due (COMMAND (Let name e)) s t snap other h k = valued Value e s t h
-  same_due (COMMAND (PRINT e)) s t snap other h k = valued printed e s t h
-  same_due (COMMAND (LIST e)) s t snap other h k = valued listed e s t h
-  same_due (COMMAND (Count e)) s t snap other h k = valued Value e s t h
-  same_due (COMMAND (Typed e)) s t snap other h k = valued Value e s t h
-  same_due (COMMAND (DROP at name)) s t snap other h k = ap (λ (o : Option Relation). due_of_drop at name o) h.0
+  same_due (COMMAND (Let name e)) s t snap other h k = valued Value e s t h.0
+  same_due (COMMAND (PRINT e)) s t snap other h k = valued printed e s t h.0
+  same_due (COMMAND (LIST e)) s t snap other h k = valued listed e s t h.0
+  same_due (COMMAND (Count e)) s t snap other h k = valued Value e s t h.0
+  same_due (COMMAND (Typed e)) s t snap other h k = valued Value e s t h.0
+  same_due (COMMAND (DROP at name)) s t snap other h k = ap (λ (o : Option Relation). due_of_drop at name o) h.0.0
   same_due (COMMAND (Snap name)) s t snap other h k = refl
   same_due (COMMAND (At at name e)) s t snap other h k = snapped at name e snap other k
   same_due (COMMAND (Load name file)) s t snap other h k = refl
-  same_due (COMMAND (Save e file)) s t snap other h k = valued saved e s t h
+  same_due (COMMAND (Save e file)) s t snap other h k = valued saved e s t h.0
+  same_due (COMMAND (Atomic lets)) s t snap other h k = block_due lets.items s t h.0
   same_due (COMMAND (Explain e)) s t snap other h k =
-      ap (due_of_steps e) (by_names.early script (lookup s) (lookup t) e h)
+      ap (due_of_steps e) (by_names.early script (lookup s) (lookup t) e h.0)
   same_due (Function at name params body) s t snap other h k = refl
   same_due (Program at name params decls body result) s t snap other h k = refl
 
   same_cost : (leaf : ℕ) (item : Item) (s t : Workspace) (snap other : Option Workspace) →
-      AgreeOn (lookup s) (lookup t) (names_taken item) → SnapsAgree snap other (names_asked item) →
+      LooksAlike item s t → SnapsAgree snap other (names_asked item) →
       (d : Due) → cost_of_item leaf input script item s snap d ≡ cost_of_item leaf input script item t other d
   same_cost leaf (COMMAND (RELATION name rows rows_at cols cols_at list)) s t snap other h k d = refl
-  same_cost leaf (COMMAND (Let name e)) s t snap other h k d = costed leaf e s t h
-  same_cost leaf (COMMAND (PRINT e)) s t snap other h k d = costed leaf e s t h
-  same_cost leaf (COMMAND (LIST e)) s t snap other h k d = costed leaf e s t h
-  same_cost leaf (COMMAND (Count e)) s t snap other h k d = costed leaf e s t h
-  same_cost leaf (COMMAND (Typed e)) s t snap other h k d = costed leaf e s t h
+  same_cost leaf (COMMAND (Let name e)) s t snap other h k d = costed leaf e s t h.0
+  same_cost leaf (COMMAND (PRINT e)) s t snap other h k d = costed leaf e s t h.0
+  same_cost leaf (COMMAND (LIST e)) s t snap other h k d = costed leaf e s t h.0
+  same_cost leaf (COMMAND (Count e)) s t snap other h k d = costed leaf e s t h.0
+  same_cost leaf (COMMAND (Typed e)) s t snap other h k d = costed leaf e s t h.0
   same_cost leaf (COMMAND (DROP at name)) s t snap other h k d = refl
   same_cost leaf (COMMAND (Snap name)) s t snap other h k d = refl
   same_cost leaf (COMMAND (At at name e)) s t snap other h k d = snap_costed leaf e snap other k
   same_cost leaf (COMMAND (Load name file)) s t snap other h k d = refl
-  same_cost leaf (COMMAND (Save e file)) s t snap other h k d = costed leaf e s t h
+  same_cost leaf (COMMAND (Save e file)) s t snap other h k d = costed leaf e s t h.0
+  same_cost leaf (COMMAND (Atomic lets)) s t snap other h k d =
+      ap (cost_of_block leaf) (blocks_by_names script (lookup s) (lookup t) lets.items input.turns h.0)
   same_cost leaf (COMMAND (Explain e)) s t snap other h k d = refl
   same_cost leaf (Function at name params body) s t snap other h k d = refl
   same_cost leaf (Program at name params decls body result) s t snap other h k d = refl

@@ -1,7 +1,23 @@
 -- States that look alike to the items make the same run: each item is due the same, and keeps the same snapshot.
 use Rattle.std.specs.List.{AllByRecursion}
 use Rattle.std.proofs.Common.{◌≡◌, ◌+◌, ◌++◌, ℕ, List, [], ◌∷◌, Option, Some, None, refl, sym, ap, subst, ◌∙◌, Bool, true, false, cond, eqb, map}
+use Rattle.lang_model.specs.declared.syntax.Command.TheVariants.{
+  Relation as RELATION,
+  Let,
+  Print as PRINT,
+  List as LIST,
+  Count,
+  Typed,
+  Remove as DROP,
+  Snap,
+  At,
+  Load,
+  Save,
+  Atomic,
+  Explain,
+}
 use Rattle.lang_model.specs.declared.syntax.Item.{Item}
+use Rattle.lang_model.specs.declared.syntax.Item.TheVariants.{Function, Program, Command as COMMAND}
 use Rattle.lang_model.specs.declared.syntax.Script.{Script}
 use Rattle.run_model.specs.declared.outcome.Outcome.{Outcome}
 use Rattle.lang_model.specs.State.{State}
@@ -12,14 +28,14 @@ use Rattle.lang_model.specs.Eval.{AgreeOn}
 use Rattle.run_model.specs.Names.{no_names, lookup}
 use Rattle.run_model.specs.Inputs.{Input}
 use Rattle.run_model.specs.Due.{Workspace, Due, Gifts, gives, due}
-use Rattle.run_model.specs.Steps.{Ending, Succeeds, Fails, LacksMemory, ending, Snapshots, snapped, keep, kept_at, snaps_behind, snap_for, Step, due_at, steps_from, steps}
+use Rattle.run_model.specs.Steps.{Ending, Succeeds, Fails, Changes, LacksMemory, ending, Snapshots, snapped, keep, kept_at, snaps_behind, snap_for, Step, due_at, steps_from, steps}
 use Rattle.run_model.specs.Events.{entry_of, HasDeeds}
 use Rattle.run_model.specs.Outcomes.{IsOutcome}
 use Rattle.run_model.specs.Page.{reply, replies, save_at, saves_of}
 use Rattle.run_model.specs.Cost.{cost_of_item, cost_of_step}
-use Rattle.run_model.specs.Laws.{names_asked, SnapsAgree}
-use Rattle.run_model.specs.Lifting.{OneWhereKept, LooksAlike, LookAlike, SameRun, LookAlikeRunAlike, MeanAlike, OtherWorkerRunsAlike}
-use Rattle.run_model.specs.Turns.{put_by, state_taken}
+use Rattle.run_model.specs.Laws.{names_asked, takes_all, OneWhereAll, LooksAlike, SnapsAgree}
+use Rattle.run_model.specs.Lifting.{LookAlike, SameRun, LookAlikeRunAlike, MeanAlike, OtherWorkerRunsAlike}
+use Rattle.run_model.specs.Turns.{puts_of, state_taken}
 use Rattle.run_model.specs.Sessions.{rel_of, rels_of, HaveValues, HasValuesAt, HasValues}
 use Rattle.run_model.proofs.Depending.{due_by_names}
 
@@ -31,14 +47,29 @@ snaps_itself : (o : Option Workspace) (names : List (List ℕ)) → SnapsAgree o
 snaps_itself None names = tt
 snaps_itself (Some s) names = agree_itself (lookup s) names
 
-keep_alike : (o : Option (List ℕ)) (s t : Workspace) (snaps : Snapshots) → OneWhereKept o s t → keep o s snaps ≡ keep o t snaps
-keep_alike None s t snaps h = refl
-keep_alike (Some name) s t snaps h = ap (λ x. keep (Some name) x snaps) h
+-- an item that keeps a snapshot takes all relations
+keep_alike : (item : Item) (s t : Workspace) (snaps : Snapshots) → OneWhereAll (takes_all item) s t → keep (snapped item) s snaps ≡ keep (snapped item) t snaps
+keep_alike (COMMAND (RELATION name rows rows_at cols cols_at list)) s t snaps h = refl
+keep_alike (COMMAND (Let name e)) s t snaps h = refl
+keep_alike (COMMAND (PRINT e)) s t snaps h = refl
+keep_alike (COMMAND (LIST e)) s t snaps h = refl
+keep_alike (COMMAND (Count e)) s t snaps h = refl
+keep_alike (COMMAND (Typed e)) s t snaps h = refl
+keep_alike (COMMAND (DROP at name)) s t snaps h = refl
+keep_alike (COMMAND (Snap name)) s t snaps h = ap (λ x. keep (Some name) x snaps) h
+keep_alike (COMMAND (At at name e)) s t snaps h = refl
+keep_alike (COMMAND (Load name file)) s t snaps h = refl
+keep_alike (COMMAND (Save e file)) s t snaps h = refl
+keep_alike (COMMAND (Atomic lets)) s t snaps h = refl
+keep_alike (COMMAND (Explain e)) s t snaps h = refl
+keep_alike (Function at name params body) s t snaps h = refl
+keep_alike (Program at name params decls body result) s t snaps h = refl
 
-kept_alike : (x : Ending) (item : Item) (s t : Workspace) (snaps : Snapshots) → OneWhereKept (snapped item) s t →
+kept_alike : (x : Ending) (item : Item) (s t : Workspace) (snaps : Snapshots) → OneWhereAll (takes_all item) s t →
     kept_at x item s snaps ≡ kept_at x item t snaps
-kept_alike Succeeds item s t snaps h = keep_alike (snapped item) s t snaps h
+kept_alike Succeeds item s t snaps h = keep_alike item s t snaps h
 kept_alike Fails item s t snaps h = refl
+kept_alike Changes item s t snaps h = refl
 kept_alike LacksMemory item s t snaps h = refl
 
 module _ (input : Input) (script : Script) (f g : ℕ → Workspace) where
@@ -56,12 +87,12 @@ module _ (input : Input) (script : Script) (f g : ℕ → Workspace) where
   -- the same is due
   same : (c : ℕ) (item : Item) (snaps : Snapshots) → LooksAlike item (f c) (g c) →
       due input script item (f c) (snap_for item snaps) ≡ due input script item (g c) (snap_for item snaps)
-  same c item snaps h = (due_by_names input script item (f c) (g c) (snap_for item snaps) (snap_for item snaps) h.0 (snaps_itself (snap_for item snaps) (names_asked item))).0
+  same c item snaps h = (due_by_names input script item (f c) (g c) (snap_for item snaps) (snap_for item snaps) h (snaps_itself (snap_for item snaps) (names_asked item))).0
 
   -- at the same cost
   cost : (leaf c : ℕ) (item : Item) (snaps : Snapshots) → LooksAlike item (f c) (g c) → (d : Due) →
       cost_of_item leaf input script item (f c) (snap_for item snaps) d ≡ cost_of_item leaf input script item (g c) (snap_for item snaps) d
-  cost leaf c item snaps h = (due_by_names input script item (f c) (g c) (snap_for item snaps) (snap_for item snaps) h.0 (snaps_itself (snap_for item snaps) (names_asked item))).1 leaf
+  cost leaf c item snaps h = (due_by_names input script item (f c) (g c) (snap_for item snaps) (snap_for item snaps) h (snaps_itself (snap_for item snaps) (names_asked item))).1 leaf
 
   run_alike : (items : List Item) (outcomes : List Outcome) (c : ℕ) (snaps : Snapshots) → LookAlike f g c items →
       SameRun input script (before c snaps items outcomes) (behind c snaps items outcomes)
@@ -128,6 +159,7 @@ module _ (means other : Rel → Relation) where
   at_other : (x : Ending) (rs : List Rel) (gs : Gifts) → AllByRecursion (λ rel. means rel ≡ other rel) rs → HasValuesAt x means rs gs → HasValuesAt x other rs gs
   at_other Succeeds rs gs h k = values_other rs gs h k
   at_other Fails rs gs h k = k
+  at_other Changes rs gs h k = k
   at_other LacksMemory rs gs h k = k
 
   all_other : (input : Input) (script : Script) (evs : List Event) → MeanAlike means other evs → (steps : List Step) →
@@ -139,14 +171,16 @@ module _ (means other : Rel → Relation) where
   )
 
 pub other_worker_runs_alike : OtherWorkerRunsAlike
-other_worker_runs_alike input means other s script outcomes ts old new alike agree r =
-    let same = look_alike_run_alike input script outcomes (state_taken means ts) (state_taken other ts) alike in
+other_worker_runs_alike input first means other s script outcomes ts old new alike agree r =
+    let same = look_alike_run_alike input script outcomes (state_taken first.names means ts) (state_taken first.names other ts) alike in
     record {
       turns = r.turns;
       own = r.own;
+      once = r.once;
       each = r.each;
-      events = same.events s (map entry_of (map put_by ts)) r.events;
+      events = same.events s (map entry_of (puts_of ts)) r.events;
       outcomes_due = same.outcomes r.outcomes_due;
-      values = all_other means other input script (map put_by ts) agree (steps (state_taken other ts) script outcomes)
-          (same.values means (map put_by ts) r.values);
+      values = all_other means other input script (puts_of ts) agree (steps (state_taken first.names other ts) script outcomes)
+          (same.values means (puts_of ts) r.values);
+      commits = r.commits;
     }

@@ -1,5 +1,6 @@
--- Where an entry stands among those of a session: in the block of its command, whose reads come first.
-use Rattle.std.proofs.Common.{◌≡◌, ◌<◌, ◌≤◌, ◌⊎◌, ◌+◌, ℕ, suc, Bool, true, false, List, [], ◌∷◌, ◌++◌, Option, Some, refl, sym, ap, subst, ◌∙◌, inl, inr, arith, append_assoc, add-zero}
+-- Where an entry stands among those of a session: in the entries of its command, of which a read comes first where the
+-- command is done.
+use Rattle.std.proofs.Common.{◌≡◌, ◌<◌, ◌≤◌, ◌⊎◌, ◌+◌, ◌-◌, ℕ, suc, Bool, true, false, List, [], ◌∷◌, ◌++◌, Option, Some, refl, sym, ap, subst, ◌∙◌, inl, inr, arith, append_assoc, add-zero}
 use Rattle.std.specs.Prelude.{slice_get}
 use Rattle.std.specs.List.{AllByRecursion}
 use Rattle.std.proofs.lemmas.Bool.{true≢false}
@@ -16,6 +17,7 @@ use Rattle.lang_model.specs.declared.syntax.Command.TheVariants.{
   At,
   Load,
   Save,
+  Atomic,
   Explain,
 }
 use Rattle.lang_model.specs.declared.syntax.Item.{Item}
@@ -26,8 +28,8 @@ use Rattle.run_model.specs.declared.outcome.Outcome.{Outcome}
 use Rattle.rel_model.specs.Relation.{Relation}
 use Rattle.run_model.specs.Inputs.{Input, item_at}
 use Rattle.run_model.specs.Due.{Workspace, Due, Gifts, gives, due}
-use Rattle.run_model.specs.Steps.{Ending, Succeeds, Fails, LacksMemory, ending, Snapshots, snaps_behind, snap_for, steps_from}
-use Rattle.run_model.specs.Events.{Deed, Reads, Gives, Removes, Entry, entries, giving, first_of, reads_of, done_deeds, HasDeeds, AreEvents}
+use Rattle.run_model.specs.Steps.{Ending, Succeeds, Fails, Changes, LacksMemory, ending, Snapshots, snaps_behind, snap_for, steps_from}
+use Rattle.run_model.specs.Events.{Deed, Reads, Gives, Removes, Entry, entries, giving, first_of, reads_of, all_reads_of, done_deeds, HasDeeds, AreEvents}
 use Rattle.run_model.specs.Sessions.{rels_of, HasValuesAt, HasValues}
 use Rattle.run_model.proofs.Entries.{entry, heads, tails, not_empty}
 
@@ -70,31 +72,32 @@ giving_quiet : (gs : Gifts) → NonePass is_reads (giving gs)
 giving_quiet [] = tt
 giving_quiet (g ∷ gs) = (refl, giving_quiet gs)
 
--- reads are the first deed of an item, or it has none
-abbrev Leads : List Deed → Type 0
+-- reads are the first of the deeds, or there are none
+abbrev pub Leads : List Deed → Type 0
 Leads deeds = NonePass is_reads (rest_of deeds)
 
 quiet_leads : (deeds : List Deed) → NonePass is_reads deeds → Leads deeds
 quiet_leads [] h = tt
 quiet_leads (d ∷ ds) h = h.1
 
-reads_lead : (item : Item) → Leads (reads_of item) × NonePass gives_name (reads_of item)
-reads_lead (COMMAND (RELATION name rows rows_at cols cols_at list)) = (tt, tt)
-reads_lead (COMMAND (Let name e)) = (tt, (refl, tt))
-reads_lead (COMMAND (PRINT e)) = (tt, (refl, tt))
-reads_lead (COMMAND (LIST e)) = (tt, (refl, tt))
-reads_lead (COMMAND (Count e)) = (tt, (refl, tt))
-reads_lead (COMMAND (Typed e)) = (tt, (refl, tt))
-reads_lead (COMMAND (DROP at name)) = (tt, (refl, tt))
-reads_lead (COMMAND (Snap name)) = (tt, (refl, tt))
-reads_lead (COMMAND (At at name e)) = (tt, tt)
-reads_lead (COMMAND (Load name file)) = (tt, tt)
-reads_lead (COMMAND (Save e file)) = (tt, (refl, tt))
-reads_lead (COMMAND (Explain e)) = (tt, (refl, tt))
-reads_lead (Function at name params body) = (tt, tt)
-reads_lead (Program at name params decls body result) = (tt, tt)
+reads_quiet : (item : Item) → NonePass gives_name (reads_of item) × NonePass gives_name (all_reads_of item)
+reads_quiet (COMMAND (RELATION name rows rows_at cols cols_at list)) = (tt, tt)
+reads_quiet (COMMAND (Let name e)) = ((refl, tt), (refl, tt))
+reads_quiet (COMMAND (PRINT e)) = ((refl, tt), (refl, tt))
+reads_quiet (COMMAND (LIST e)) = ((refl, tt), (refl, tt))
+reads_quiet (COMMAND (Count e)) = ((refl, tt), (refl, tt))
+reads_quiet (COMMAND (Typed e)) = ((refl, tt), (refl, tt))
+reads_quiet (COMMAND (DROP at name)) = ((refl, tt), (refl, tt))
+reads_quiet (COMMAND (Snap name)) = ((refl, tt), (refl, tt))
+reads_quiet (COMMAND (At at name e)) = (tt, tt)
+reads_quiet (COMMAND (Load name file)) = (tt, tt)
+reads_quiet (COMMAND (Save e file)) = ((refl, tt), (refl, tt))
+reads_quiet (COMMAND (Atomic lets)) = ((refl, tt), (refl, (refl, tt)))
+reads_quiet (COMMAND (Explain e)) = ((refl, tt), (refl, tt))
+reads_quiet (Function at name params body) = (tt, tt)
+reads_quiet (Program at name params decls body result) = (tt, tt)
 
-done_leads : (item : Item) (d : Due) → Leads (done_deeds item d)
+pub done_leads : (item : Item) (d : Due) → Leads (done_deeds item d)
 done_leads (COMMAND (RELATION name rows rows_at cols cols_at list)) d = quiet_leads (giving (gives (COMMAND (RELATION name rows rows_at cols cols_at list)) d)) (giving_quiet (gives (COMMAND (RELATION name rows rows_at cols cols_at list)) d))
 done_leads (COMMAND (Let name e)) d = giving_quiet (gives (COMMAND (Let name e)) d)
 done_leads (COMMAND (PRINT e)) d = tt
@@ -106,18 +109,10 @@ done_leads (COMMAND (Snap name)) d = tt
 done_leads (COMMAND (At at name e)) d = tt
 done_leads (COMMAND (Load name file)) d = quiet_leads (giving (gives (COMMAND (Load name file)) d)) (giving_quiet (gives (COMMAND (Load name file)) d))
 done_leads (COMMAND (Save e file)) d = tt
+done_leads (COMMAND (Atomic lets)) d = giving_quiet (gives (COMMAND (Atomic lets)) d)
 done_leads (COMMAND (Explain e)) d = tt
 done_leads (Function at name params body) d = tt
 done_leads (Program at name params decls body result) d = tt
-
-prefix_leads : (deeds rest : List Deed) → Leads (deeds ++ rest) → Leads deeds
-prefix_leads [] rest h = tt
-prefix_leads (d ∷ ds) rest h = none_left is_reads ds rest h
-
-pub deeds_lead : (x : Ending) (item : Item) (d : Due) (deeds : List Deed) → HasDeeds x item d deeds → Leads deeds
-deeds_lead Succeeds item d deeds h = subst Leads (sym h) (done_leads item d)
-deeds_lead Fails item d deeds h = subst Leads (sym h) (reads_lead item).0
-deeds_lead LacksMemory item d deeds h = prefix_leads deeds h.0 (subst Leads h.1 (reads_lead item).0)
 
 -- nothing stands before a read
 pub none_before : (deeds pre post : List Deed) → Leads deeds → deeds ≡ pre ++ Reads ∷ post → pre ≡ []
@@ -130,10 +125,12 @@ pub gives_done : (x : Ending) (item : Item) (d : Due) (deeds pre post : List Dee
     deeds ≡ pre ++ Gives name m n ∷ post → x ≡ Succeeds
 gives_done Succeeds item d deeds pre post name m n h e = refl
 gives_done Fails item d deeds pre post name m n h e =
-    absurd (true≢false (none_right gives_name pre (Gives name m n ∷ post) (subst (NonePass gives_name) (sym h ∙ e) (reads_lead item).1)).0)
+    absurd (true≢false (none_right gives_name pre (Gives name m n ∷ post) (subst (NonePass gives_name) (sym h ∙ e) (reads_quiet item).0)).0)
+gives_done Changes item d deeds pre post name m n h e =
+    absurd (true≢false (none_right gives_name pre (Gives name m n ∷ post) (subst (NonePass gives_name) (sym h ∙ e) (reads_quiet item).1)).0)
 gives_done LacksMemory item d deeds pre post name m n h e =
     absurd (true≢false (none_right gives_name pre (Gives name m n ∷ post)
-    (subst (NonePass gives_name) e (none_left gives_name deeds h.0 (subst (NonePass gives_name) h.1 (reads_lead item).1)))).0)
+    (subst (NonePass gives_name) e (none_left gives_name deeds h.0 (subst (NonePass gives_name) h.1 (reads_quiet item).1)))).0)
 
 -- behind its read, where it has one
 pub read_before : (item : Item) (d : Due) (pre post : List Deed) (name : List ℕ) (m n : ℕ) → first_of item ≡ Reads ∷ [] →
@@ -181,11 +178,12 @@ lower_append c (x ∷ xs) ys h k = (h.0, lower_append c xs ys h.1 k)
 
 module _ (input : Input) (script : Script) (s : ℕ) (means : Rel → Relation) (f : ℕ → Workspace) (evs : List Event) where
   -- where the entry of a deed of command c stands: what the item is, and what stands before
-  pub record Located (n c : ℕ) (d : Deed) (us : List Entry) : Type 0 where
+  pub record Located (outcomes : List Outcome) (n c : ℕ) (d : Deed) (us : List Entry) : Type 0 where
     pub low : n ≤ c
     pub item : Item
     pub snap : Option Workspace
     pub outcome : Outcome
+    pub came : slice_get outcomes (c - n) ≡ Some outcome
     pub at : item_at script c ≡ Some item
     pub deeds : List Deed
     pub pre : List Deed
@@ -200,7 +198,7 @@ module _ (input : Input) (script : Script) (s : ℕ) (means : Rel → Relation) 
   pub locate : (items : List Item) (outcomes : List Outcome) (n : ℕ) (snaps : Snapshots) (c : ℕ) (d : Deed) (us vs : List Entry) →
       ((k : ℕ) → item_at script (n + k) ≡ slice_get items k) →
       AreEvents input script s (steps_from f n snaps items outcomes) (us ++ entry s c d ∷ vs) →
-      AllByRecursion (HasValues input script means evs) (steps_from f n snaps items outcomes) → Located n c d us
+      AllByRecursion (HasValues input script means evs) (steps_from f n snaps items outcomes) → Located outcomes n c d us
   locate [] outcomes n snaps c d us vs placed ev val = absurd (none_there us ev)
     where
       none_there : (us : List Entry) → us ++ entry s c d ∷ vs ≡ [] → ⊥
@@ -214,11 +212,12 @@ module _ (input : Input) (script : Script) (s : ℕ) (means : Rel → Relation) 
   locate (item ∷ items) (o ∷ outcomes) n snaps c d us vs placed ev val = elim (cut us (entry s c d) vs (entries s n ev.0) ev.1 ev.2) [
     | inl l ↦
         let b = in_block s n c d ev.0 us l.0 l.1 in
-        let here : Located n n d us = record {
+        let here : Located (o ∷ outcomes) n n d us = record {
           low = omega arith;
           item = item;
           snap = snap_for item snaps;
           outcome = o;
+          came = ap (slice_get (o ∷ outcomes)) (less_itself n);
           at = ap (item_at script) (sym (add-zero n)) ∙ placed 0;
           deeds = ev.0;
           pre = b.0;
@@ -230,7 +229,7 @@ module _ (input : Input) (script : Script) (s : ℕ) (means : Rel → Relation) 
           before = b.3;
           is_lower = tt;
         } in
-        subst (λ m. Located n m d us) b.4 here
+        subst (λ m. Located (o ∷ outcomes) n m d us) b.4 here
     | inr r ↦
         let more = locate items outcomes (n + 1) (snaps_behind item o (f n) snaps) c d r.0 vs
         (λ k. ap (item_at script) (later n k) ∙ placed (suc k))
@@ -240,6 +239,7 @@ module _ (input : Input) (script : Script) (s : ℕ) (means : Rel → Relation) 
           item = more.item;
           snap = more.snap;
           outcome = more.outcome;
+          came = ap (slice_get (o ∷ outcomes)) (one_more n c more.low) ∙ more.came;
           at = more.at;
           deeds = more.deeds;
           pre = more.pre;
@@ -255,3 +255,9 @@ module _ (input : Input) (script : Script) (s : ℕ) (means : Rel → Relation) 
     where
       later : (n k : ℕ) → (n + 1) + k ≡ n + suc k
       later n k = omega arith
+
+      less_itself : (n : ℕ) → n - n ≡ 0
+      less_itself n = omega arith
+
+      one_more : (n c : ℕ) → n + 1 ≤ c → c - n ≡ suc (c - (n + 1))
+      one_more n c l = omega (arith, l)

@@ -16,6 +16,7 @@ use Rattle.lang_model.specs.declared.syntax.Command.TheVariants.{
   At,
   Load,
   Save,
+  Atomic,
   Explain,
 }
 use Rattle.lang_model.specs.declared.syntax.Item.{Item}
@@ -30,8 +31,10 @@ use Rattle.lang_model.specs.State.{lists}
 use Rattle.lang_model.specs.Missing.{first_of_both}
 use Rattle.lang_model.specs.Outcomes.{Refusal, Ill, Size, Turns, Answer, Got, Not}
 use Rattle.lang_model.specs.Eval.{Evaluated, Ahead, Comes, evaluated, early_fault}
+use Rattle.lang_model.specs.Blocks.{evaluated_block}
 use Rattle.lang_model.specs.declared.faults.TypeFault.{TypeFault}
 use Rattle.run_model.specs.Names.{lookup}
+use Rattle.lang_model.specs.declared.syntax.Let.{Let as BlockLet}
 use Rattle.run_model.specs.Inputs.{Input, file_named}
 use Rattle.run_model.specs.Files.{k2_fault, bits_count}
 use Rattle.run_model.specs.Due.{
@@ -40,6 +43,7 @@ use Rattle.run_model.specs.Due.{
   Late,
   Nothing,
   Value,
+  Values,
   Explained,
   Refused,
   within,
@@ -57,9 +61,13 @@ use Rattle.run_model.specs.Due.{
   unless_over,
   due_of_bytes,
   due_of_file,
+  late,
+  with_gift,
+  behind_let,
+  due_of_lets,
+  due_of_steps,
   due_of_drop,
   due_on_snapshot,
-  due_of_steps,
   due_of_command,
   due,
 }
@@ -70,6 +78,7 @@ use Rattle.run_model.specs.Steps.{Fails, ending}
 abbrev pub FailsWell : Due → Type 0
 FailsWell Nothing = Unit {0}
 FailsWell (Value r) = Unit {0}
+FailsWell (Values gifts) = Unit {0}
 FailsWell (Explained steps) = Unit {0}
 FailsWell (Refused when outcome) = ending outcome ≡ Fails
 
@@ -153,6 +162,34 @@ file_fails : (file : List ℕ) (o : Option (List ℕ)) → FailsWell (due_of_fil
 file_fails file None = refl
 file_fails file (Some bytes) = bytes_fail file bytes (k2_fault bytes)
 
+late_fails : (d : Due) → FailsWell d → FailsWell (late d)
+late_fails Nothing h = tt
+late_fails (Value r) h = tt
+late_fails (Values gifts) h = tt
+late_fails (Explained steps) h = tt
+late_fails (Refused when outcome) h = h
+
+gift_fails : (gift : List ℕ × Relation) (d : Due) → FailsWell d → FailsWell (with_gift gift d)
+gift_fails gift Nothing h = tt
+gift_fails gift (Value r) h = tt
+gift_fails gift (Values gifts) h = tt
+gift_fails gift (Explained steps) h = tt
+gift_fails gift (Refused when outcome) h = h
+
+let_fails : (name : List ℕ) (rest d : Due) → FailsWell rest → FailsWell d → FailsWell (behind_let name rest d)
+let_fails name rest (Value r) h k = gift_fails (name, r) (late rest) (late_fails rest h)
+let_fails name rest (Refused when outcome) h k = k
+let_fails name rest Nothing h k = tt
+let_fails name rest (Values gifts) h k = tt
+let_fails name rest (Explained steps) h k = tt
+
+lets_fail : (turns : ℕ) (ls : List BlockLet) (vs : List Evaluated) → FailsWell (due_of_lets turns ls vs)
+lets_fail turns [] vs = tt
+lets_fail turns (l ∷ ls) [] = tt
+lets_fail turns (l ∷ ls) (v ∷ vs) =
+    let_fails l.name (due_of_lets turns ls vs) (due_of_value Value turns v) (lets_fail turns ls vs)
+    (value_fails Value turns v (λ r. tt))
+
 steps_fail : (e : Expr) (o : Option TypeFault) → FailsWell (due_of_steps e o)
 steps_fail e (Some fault) = refl
 steps_fail e None = tt
@@ -186,6 +223,8 @@ module _ (input : Input) (script : Script) where
   due_fails_well (COMMAND (At at name e)) s snap = snap_fails at name e snap
   due_fails_well (COMMAND (Load name file)) s snap = file_fails file (file_named input.files file)
   due_fails_well (COMMAND (Save e file)) s snap = of_fails saved e s saved_fails
+  due_fails_well (COMMAND (Atomic lets)) s snap =
+      lets_fail input.turns lets.items (evaluated_block script (lookup s) lets.items input.turns)
   due_fails_well (COMMAND (Explain e)) s snap = steps_fail e (early_fault script (lookup s) e)
   due_fails_well (Function at name params body) s snap = tt
   due_fails_well (Program at name params decls body result) s snap = tt

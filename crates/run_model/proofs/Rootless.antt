@@ -9,13 +9,13 @@ use Rattle.run_model.specs.declared.event.Act.TheVariants.{Read, Assign, Remove}
 use Rattle.run_model.specs.declared.outcome.Outcome.{Outcome}
 use Rattle.rel_model.specs.Relation.{Relation}
 use Rattle.run_model.specs.Names.{no_names, remove}
-use Rattle.run_model.specs.Inputs.{Input, Reading, NoScript, Flawed, Runs}
+use Rattle.run_model.specs.Inputs.{Input, Reading, NoScript, Flawed, Runs, batch_of}
 use Rattle.run_model.specs.Due.{Workspace, Gifts}
 use Rattle.run_model.specs.Events.{Deed, Reads, Gives, Removes, deed_of, Entry, entry_of}
 use Rattle.run_model.specs.Steps.{steps}
 use Rattle.run_model.specs.States.{Replay, start, at_command, set_by, replay_act, replay, is_of, events_before, gifts_due, state_after, state_for}
 use Rattle.run_model.specs.Page.{line_feed, sizes_text, replies, act_text, event_line, session_page, sessions_page, page, saves_of, session_saves, sessions_saves, saves}
-use Rattle.run_model.specs.Cost.{cost_of_steps, cost_of_session, cost_of_sessions, cost_of_run}
+use Rattle.run_model.specs.Cost.{cost_of_steps, cost_of_session, cost_of_sessions, cost_in_batch, cost_of_batch, cost_of_run}
 use Rattle.run_model.specs.Run.{SameWithoutRoots, RootsMeanNothing, OneScriptOnePage}
 use Rattle.run_model.proofs.Solo.{solo_is_legal}
 
@@ -134,14 +134,21 @@ module _ (input : Input) (first second : List Event) (same : map entry_of first 
   sessions_cost leaf s (r ∷ rs) [] = refl
   sessions_cost leaf s (r ∷ rs) (o ∷ os) = λ i. session_costs leaf s r o i + sessions_cost leaf (s + 1) rs os i
 
+  batch_cost : (leaf b s : ℕ) (readings : List Reading) (outcomes : List (List Outcome)) → cost_in_batch leaf input first b s readings outcomes ≡ cost_in_batch leaf input second b s readings outcomes
+  batch_cost leaf b s [] outcomes = refl
+  batch_cost leaf b s (r ∷ rs) [] = refl
+  batch_cost leaf b s (r ∷ rs) (o ∷ os) = λ i.
+      cond (eqb (batch_of input.ends s) b) (session_costs leaf s r o i) 0 + batch_cost leaf b (s + 1) rs os i
+
   without_roots : (outcomes : List (List Outcome)) → SameWithoutRoots input outcomes first second
-  unfolding page saves cost_of_run
+  unfolding page saves cost_of_run cost_of_batch
   without_roots outcomes = record {
     page = λ i.
         sessions_same 1 input.readings outcomes i
         ++ cond input.history ((lines_by first ∙ (ap (flat_map entry_line) same ∙ sym (lines_by second))) i) [];
     saves = sessions_saved 1 input.readings outcomes;
     cost = λ leaf. sessions_cost leaf 1 input.readings outcomes;
+    cost_of_batches = λ leaf b. batch_cost leaf b 1 input.readings outcomes;
   }
 
 pub roots_mean_nothing : RootsMeanNothing

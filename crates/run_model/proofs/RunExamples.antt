@@ -4,8 +4,8 @@ use Rattle.std.specs.Prelude.{codes}
 use Rattle.std.specs.Fmt.{decimal}
 use Rattle.lang_model.specs.declared.syntax.Place.{Place}
 use Rattle.lang_model.specs.declared.syntax.Expr.{Ref}
-use Rattle.lang_model.specs.declared.syntax.Command.TheVariants.{Print as PRINT, Remove as DROP, Snap, At, Load, Let, Explain}
 use Rattle.lang_model.specs.declared.syntax.Op2.TheVariants.{Or, Times, Under}
+use Rattle.lang_model.specs.declared.syntax.Command.TheVariants.{Print as PRINT, Remove as DROP, Snap, At, Load, Let, Explain}
 use Rattle.lang_model.specs.declared.syntax.Item.{Item}
 use Rattle.lang_model.specs.declared.syntax.Item.TheVariants.{Command as COMMAND}
 use Rattle.lang_model.specs.declared.syntax.Script.{Script}
@@ -20,6 +20,7 @@ use Rattle.lang_model.specs.Eval.{evaluated, early_fault}
 use Rattle.run_model.specs.Names.{no_names}
 use Rattle.run_model.specs.Inputs.{Input}
 use Rattle.run_model.specs.Files.{k2_fault, k2_relation, fields, cells_told, file_height}
+use Rattle.run_model.specs.SharedFiles.{begins_shared}
 use Rattle.run_model.specs.Due.{Early, Value, Explained, Refused, due, due_of_command}
 use Rattle.run_model.specs.Events.{Deed, Reads, Gives, Removes, Entry}
 use Rattle.run_model.specs.Page.{explanation, reply}
@@ -37,7 +38,7 @@ t = codes "t"
 
 -- one file, and no loops
 abbrev given : Input
-given = record { readings = []; files = record { name = codes "a.k2"; bytes = file 4 4 2 4 8 (144 ∷ 129 ∷ []) } ∷ []; turns = 0; history = false }
+given = record { readings = []; files = record { name = codes "a.k2"; bytes = file 4 4 2 4 8 (144 ∷ 129 ∷ []) } ∷ []; turns = 0; history = false; ends = 1 ∷ [] }
 
 -- LOAD A "a.k2". SNAP t. LET B = A. DROP A. PRINT A. AT t PRINT A. AT u PRINT A. LOAD A "b.k2".
 abbrev items : List Item
@@ -51,12 +52,12 @@ entry c deed = record { session = 1; command = c; deed = deed }
 
 pub outcomes_come : (script : Script) → (solo_from given script 1 no_names no_names items).outcomes ≡
     Done ∷ Done ∷ Done ∷ Done ∷ Ill (Unknown (at 3) a) ∷ Done ∷ Ill (Unknown (at 6) (codes "u")) ∷ NoFile (codes "b.k2") ∷ []
-unfolding due due_of_command evaluated k2_fault k2_relation fields cells_told file_height height_of relation_of
+unfolding due due_of_command evaluated begins_shared k2_fault k2_relation fields cells_told file_height height_of relation_of
 outcomes_come script = refl
 
 pub events_come : (script : Script) → (solo_from given script 1 no_names no_names items).log ≡
     entry 1 (Gives a 4 4) ∷ entry 2 Reads ∷ entry 3 Reads ∷ entry 3 (Gives (codes "B") 4 4) ∷ entry 4 (Removes a) ∷ entry 5 Reads ∷ []
-unfolding due due_of_command evaluated k2_fault k2_relation fields cells_told file_height height_of relation_of
+unfolding due due_of_command evaluated begins_shared k2_fault k2_relation fields cells_told file_height height_of relation_of
 events_come script = refl
 
 pub printed_reply : reply 1 6 (COMMAND (At (at 4) t (Ref (at 5) a))) (Value corners) Done ≡

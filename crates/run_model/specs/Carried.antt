@@ -1,6 +1,7 @@
 -- The workspace by the relations that events carry, which is what the book and its sessions know; and the values that
 -- these relations have in one worker.
-use Rattle.std.specs.Prelude.{◌≡◌, ◌+◌, ℕ, List, [], ◌∷◌, map, Some, slice_get}
+use Rattle.std.specs.Prelude.{◌≡◌, ◌+◌, ℕ, Bool, true, List, [], ◌∷◌, map, Some, slice_get}
+use Rattle.std.specs.List.{AllByRecursion}
 use Rattle.rel_model.specs.declared.Rel.{Rel}
 use Rattle.run_model.specs.declared.event.Event.{Event}
 use Rattle.run_model.specs.declared.event.Act.{Act}
@@ -8,7 +9,8 @@ use Rattle.run_model.specs.declared.event.Act.TheVariants.{Read, Assign, Remove}
 use Rattle.rel_model.specs.Relation.{Relation}
 use Rattle.run_model.specs.Names.{Names, set, remove}
 use Rattle.run_model.specs.Due.{Workspace, Gifts}
-use Rattle.run_model.specs.States.{Replay, start, at_command, replay}
+use Rattle.run_model.specs.States.{Replay, begun, at_command, replay}
+use Rattle.run_model.specs.Versions.{Versions}
 
 -- the relations of names as a table knows them
 abbrev pub Carried : Type 0
@@ -26,9 +28,14 @@ abbrev pub carry : Replay Rel → List Event → Replay Rel
 carry p [] = p
 carry p (e ∷ es) = carry (carry_act e.session e.command e.act p) es
 
--- the relations that names have after these events
-unfoldable pub carried : List Event → Carried
-carried es = (carry start es).now
+-- the relations that names have after these events, from those that they had first
+unfoldable pub carried_from : Carried → List Event → Carried
+carried_from first es = (carry (begun first) es).now
+
+-- what a batch begins with: the relations that names have in its table, and their versions
+pub record First : Type 0 where
+  pub names : Carried
+  pub versions : Versions
 
 -- the values of carried relations
 abbrev pub valued : (Rel → Relation) → Carried → Workspace
@@ -49,9 +56,23 @@ AllHaveDue gifts means p (e ∷ es) =
     HasDue gifts means e.session e.command e.act p
     × AllHaveDue gifts means (carry_act e.session e.command e.act p) es
 
--- then the state by what is due is that of the carried relations, now and at the last read of each command
+-- two replays of values are the same to sessions of a kind: the same now, and the same noted of their commands
+pub record SameTo (kind : ℕ → Bool) (p q : Replay Relation) : Type 0 where
+  pub now : p.now ≡ q.now
+  pub at_read : (s c : ℕ) → kind s ≡ true → p.at_read s c ≡ q.at_read s c
+  pub given : (s c : ℕ) → kind s ≡ true → p.given s c ≡ q.given s c
+
+-- a replay of carried relations, as one of their values
+abbrev pub valued_replay : (Rel → Relation) → Replay Rel → Replay Relation
+valued_replay means p =
+    record { now = valued means p.now; at_read = λ s c. valued means (p.at_read s c); given = p.given }
+
+-- Where each assigned relation has the value that is due, the state by what is due is that of the carried relations,
+-- now and at the last read of each command: from first names that have the values of the state before, for events of
+-- sessions of which nothing was noted before.
 abbrev pub CarriedIsState : Type 0
 CarriedIsState =
-    (gifts : ℕ → ℕ → Workspace → Gifts) (means : Rel → Relation) (log : List Event) → AllHaveDue gifts means start log
-    → ((replay gifts start log).now ≡ valued means (carry start log).now)
-    × ((s c : ℕ) → (replay gifts start log).at_read s c ≡ valued means ((carry start log).at_read s c))
+    (kind : ℕ → Bool) (gifts : ℕ → ℕ → Workspace → Gifts) (means : Rel → Relation) (first : Carried)
+    (before : Replay Relation) (log : List Event) → AllByRecursion (λ e. kind e.session ≡ true) log
+    → SameTo kind before (begun (valued means first)) → AllHaveDue gifts means (begun first) log
+    → SameTo kind (replay gifts before log) (valued_replay means (carry (begun first) log))

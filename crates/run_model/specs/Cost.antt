@@ -1,7 +1,7 @@
 -- How many nodes the commands of a run may make, by the height of the leaves of the workers that make them: of an
--- expression the cost of its meaning, each turn of a loop counted; of a listed or loaded relation what its pairs may
--- take; and none where what is due is early.
-use Rattle.std.specs.Prelude.{◌+◌, ◌-◌, ℕ, List, [], ◌∷◌, length, Option, Some, None}
+-- expression the cost of its calm tree, each turn of a loop counted; of a block that of its expressions up to the first
+-- that is refused; of a listed or loaded relation what its pairs may take; and none where what is due is early.
+use Rattle.std.specs.Prelude.{◌==◌, ◌+◌, ◌-◌, cond, ℕ, List, [], ◌∷◌, length, Option, Some, None}
 use Rattle.lang_model.specs.declared.syntax.Row.{Row}
 use Rattle.lang_model.specs.declared.syntax.Expr.{Expr}
 use Rattle.lang_model.specs.declared.syntax.Command.{Command}
@@ -17,6 +17,7 @@ use Rattle.lang_model.specs.declared.syntax.Command.TheVariants.{
   At,
   Load,
   Save,
+  Atomic,
   Explain,
 }
 use Rattle.lang_model.specs.declared.syntax.Item.{Item}
@@ -28,9 +29,10 @@ use Rattle.rel_model.specs.Relation.{Relation}
 use Rattle.rel_model.specs.Roots.{height_over}
 use Rattle.rel_model.specs.Worker.{listed_room}
 use Rattle.lang_model.specs.Eval.{evaluated, cost_of_value}
+use Rattle.lang_model.specs.Blocks.{evaluated_block, cost_of_block}
 use Rattle.run_model.specs.Names.{lookup}
-use Rattle.run_model.specs.Inputs.{Input, Reading, NoScript, Flawed, Runs}
-use Rattle.run_model.specs.Due.{Workspace, Due, Nothing, Value, Explained, Refused}
+use Rattle.run_model.specs.Inputs.{Input, Reading, NoScript, Flawed, Runs, batch_of}
+use Rattle.run_model.specs.Due.{Workspace, Gifts, Due, Nothing, Value, Values, Explained, Refused}
 use Rattle.run_model.specs.Steps.{Step, due_at}
 use Rattle.run_model.specs.Legal.{steps_in}
 
@@ -59,12 +61,30 @@ cost_on_snapshot leaf input script e (Some snap) = cost_of leaf input script e s
 abbrev pub where_value : Due → (Relation → ℕ) → ℕ
 where_value Nothing cost = 0
 where_value (Value r) cost = cost r
+where_value (Values gifts) cost = 0
 where_value (Explained steps) cost = 0
 where_value (Refused when outcome) cost = 0
 
 -- a relation of so many pairs, repeats counted
 abbrev pub cost_of_pairs : ℕ → ℕ → Relation → ℕ
 cost_of_pairs leaf count r = listed_cost leaf count r.rows r.cols
+
+-- a relation that is loaded
+abbrev pub cost_of_loaded : ℕ → Relation → ℕ
+cost_of_loaded leaf r = cost_of_pairs leaf (length r.pairs) r
+
+-- all relations that are loaded
+abbrev pub cost_of_gifts : ℕ → Gifts → ℕ
+cost_of_gifts leaf [] = 0
+cost_of_gifts leaf (gift ∷ gifts) = cost_of_loaded leaf gift.1 + cost_of_gifts leaf gifts
+
+-- so many nodes where values are due
+abbrev pub where_values : Due → (Gifts → ℕ) → ℕ
+where_values Nothing cost = 0
+where_values (Value r) cost = 0
+where_values (Values gifts) cost = cost gifts
+where_values (Explained steps) cost = 0
+where_values (Refused when outcome) cost = 0
 
 -- a command, of which this is due on a workspace with the snapshot that it asks
 abbrev pub cost_of_command : ℕ → Input → Script → Command → Workspace → Option Workspace → Due → ℕ
@@ -78,9 +98,10 @@ cost_of_command leaf input script (Typed e) state snap d = cost_of leaf input sc
 cost_of_command leaf input script (DROP at name) state snap d = 0
 cost_of_command leaf input script (Snap name) state snap d = 0
 cost_of_command leaf input script (At at name e) state snap d = cost_on_snapshot leaf input script e snap
-cost_of_command leaf input script (Load name file) state snap d = where_value d
-    (λ r. cost_of_pairs leaf (length r.pairs) r)
+cost_of_command leaf input script (Load name file) state snap d = where_value d (cost_of_loaded leaf)
 cost_of_command leaf input script (Save e file) state snap d = cost_of leaf input script e state
+cost_of_command leaf input script (Atomic lets) state snap d =
+    cost_of_block leaf (evaluated_block script (lookup state) lets.items input.turns)
 cost_of_command leaf input script (Explain e) state snap d = 0
 
 -- an item: a definition costs nothing
@@ -114,6 +135,18 @@ cost_of_sessions leaf input history s (reading ∷ readings) (outcomes ∷ other
     cost_of_session leaf input history s reading outcomes + cost_of_sessions leaf input history (s + 1) readings others
 cost_of_sessions leaf input history s [] others = 0
 cost_of_sessions leaf input history s (reading ∷ readings) [] = 0
+
+-- those of batch b among sessions from number s on
+abbrev pub cost_in_batch : ℕ → Input → List Event → ℕ → ℕ → List Reading → List (List Outcome) → ℕ
+cost_in_batch leaf input history b s (reading ∷ readings) (outcomes ∷ others) =
+    cond (batch_of input.ends s == b) (cost_of_session leaf input history s reading outcomes) 0
+    + cost_in_batch leaf input history b (s + 1) readings others
+cost_in_batch leaf input history b s [] others = 0
+cost_in_batch leaf input history b s (reading ∷ readings) [] = 0
+
+-- a batch, by its number from 0 on
+unfoldable pub cost_of_batch : ℕ → Input → List Event → List (List Outcome) → ℕ → ℕ
+cost_of_batch leaf input history outcomes b = cost_in_batch leaf input history b 1 input.readings outcomes
 
 -- a run
 unfoldable pub cost_of_run : ℕ → Input → List Event → List (List Outcome) → ℕ

@@ -17,6 +17,7 @@ use Rattle.lang_model.specs.declared.syntax.Command.TheVariants.{
   At,
   Load,
   Save,
+  Atomic,
   Explain,
 }
 use Rattle.lang_model.specs.declared.syntax.Item.{Item}
@@ -41,9 +42,11 @@ use Rattle.lang_model.specs.State.{lists}
 use Rattle.lang_model.specs.Missing.{first_of_both}
 use Rattle.lang_model.specs.Outcomes.{Refusal, Ill, Size, Turns, Answer, Got, Not}
 use Rattle.lang_model.specs.Eval.{Evaluated, Ahead, Comes, evaluated, early_fault}
+use Rattle.lang_model.specs.Blocks.{evaluated_block}
 use Rattle.lang_model.specs.Trees.{tree_of}
 use Rattle.lang_model.specs.Rewriting.{Step as Rewritten, steps_of}
 use Rattle.lang_model.specs.declared.faults.TypeFault.{TypeFault}
+use Rattle.lang_model.specs.declared.syntax.Let.{Let as BlockLet}
 use Rattle.run_model.specs.Names.{Names, lookup}
 use Rattle.run_model.specs.Inputs.{Input, file_named}
 use Rattle.run_model.specs.Limits.{print_limit, list_limit, save_limit}
@@ -59,12 +62,18 @@ pub data When : Type 0 where
   Early : When
   Late : When
 
+-- names, each with the value that it is given
+abbrev pub Gifts : Type 0
+Gifts = List (List ℕ × Relation)
+
 -- what is due of an item
 pub data Due : Type 0 where
   -- that it is done, and shows nothing
   Nothing : Due
   -- that it is done with this value, which it shows, saves, or gives its name
   Value : Relation → Due
+  -- that it is done and gives these names these values
+  Values : Gifts → Due
   -- that it is done and tells these steps of rewriting
   Explained : List Rewritten → Due
   -- that it is refused
@@ -74,6 +83,7 @@ pub data Due : Type 0 where
 abbrev pub outcome_due : Due → Outcome
 outcome_due Nothing = Done
 outcome_due (Value r) = Done
+outcome_due (Values gifts) = Done
 outcome_due (Explained steps) = Done
 outcome_due (Refused when outcome) = outcome
 
@@ -164,6 +174,43 @@ abbrev pub due_on_snapshot : Input → Script → Place → List ℕ → Expr �
 due_on_snapshot input script at name e None = Refused Early (ILL (Unknown at name))
 due_on_snapshot input script at name e (Some snap) = due_of input script printed e snap
 
+-- ---- atomic blocks
+-- a refusal that comes behind other values is late
+abbrev pub late : Due → Due
+late Nothing = Nothing
+late (Value r) = Value r
+late (Values gifts) = Values gifts
+late (Explained steps) = Explained steps
+late (Refused when outcome) = Refused Late outcome
+
+-- a gift before those that are due
+abbrev pub with_gift : List ℕ × Relation → Due → Due
+with_gift gift Nothing = Nothing
+with_gift gift (Value r) = Value r
+with_gift gift (Values gifts) = Values (gift ∷ gifts)
+with_gift gift (Explained steps) = Explained steps
+with_gift gift (Refused when outcome) = Refused when outcome
+
+-- an assignment of which this is due, with what is due behind its value
+abbrev pub behind_let : List ℕ → Due → Due → Due
+behind_let name rest (Value r) = with_gift (name, r) (late rest)
+behind_let name rest (Refused when outcome) = Refused when outcome
+behind_let name rest Nothing = Values []
+behind_let name rest (Values gifts) = Values []
+behind_let name rest (Explained steps) = Values []
+
+-- assignments whose expressions came to these, up to the first that has no value: the first refusal, which is early
+-- for the first assignment alone, or all values
+abbrev pub due_of_lets : ℕ → List BlockLet → List Evaluated → Due
+due_of_lets turns (l ∷ ls) (v ∷ vs) = behind_let l.name (due_of_lets turns ls vs) (due_of_value Value turns v)
+due_of_lets turns [] vs = Values []
+due_of_lets turns (l ∷ ls) [] = Values []
+
+-- the assignments of a block in order, each on the state that the earlier ones leave
+abbrev pub due_of_block : Input → Script → List BlockLet → Workspace → Due
+due_of_block input script lets state =
+    due_of_lets input.turns lets (evaluated_block script (lookup state) lets input.turns)
+
 -- ---- rewriting
 -- an expression that is refused ahead of all computing is refused, and else its steps are due
 abbrev pub due_of_steps : Expr → Option TypeFault → Due
@@ -185,6 +232,7 @@ due_of_command input script (Snap name) state snap = Nothing
 due_of_command input script (At at name e) state snap = due_on_snapshot input script at name e snap
 due_of_command input script (Load name file) state snap = due_of_file file (file_named input.files file)
 due_of_command input script (Save e file) state snap = due_of input script saved e state
+due_of_command input script (Atomic lets) state snap = due_of_block input script lets.items state
 due_of_command input script (Explain e) state snap = due_of_steps e (early_fault script (lookup state) e)
 
 -- what is due of an item: of a definition, that it is done
@@ -194,16 +242,21 @@ due input script (Function at name params body) state snap = Nothing
 due input script (Program at name params decls body result) state snap = Nothing
 
 -- ---- what a value is given to
--- names, each with the value that it is given
-abbrev pub Gifts : Type 0
-Gifts = List (List ℕ × Relation)
-
 -- a name gets a value, where one is due
 abbrev pub given : List ℕ → Due → Gifts
 given name Nothing = []
 given name (Value r) = (name, r) ∷ []
+given name (Values gifts) = []
 given name (Explained steps) = []
 given name (Refused when outcome) = []
+
+-- names get the values that are due, where some are
+abbrev pub given_all : Due → Gifts
+given_all Nothing = []
+given_all (Value r) = []
+given_all (Values gifts) = gifts
+given_all (Explained steps) = []
+given_all (Refused when outcome) = []
 
 -- the names that a command gives values, in order, each with its value
 abbrev pub gives_of_command : Command → Due → Gifts
@@ -218,6 +271,7 @@ gives_of_command (Snap name) d = []
 gives_of_command (At at name e) d = []
 gives_of_command (Load name file) d = given name d
 gives_of_command (Save e file) d = []
+gives_of_command (Atomic lets) d = given_all d
 gives_of_command (Explain e) d = []
 
 -- those of an item

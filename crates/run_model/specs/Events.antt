@@ -13,6 +13,7 @@ use Rattle.lang_model.specs.declared.syntax.Command.TheVariants.{
   At,
   Load,
   Save,
+  Atomic,
   Explain,
 }
 use Rattle.lang_model.specs.declared.syntax.Item.{Item}
@@ -23,7 +24,7 @@ use Rattle.run_model.specs.declared.event.Act.{Act}
 use Rattle.run_model.specs.declared.event.Act.TheVariants.{Read, Assign, Remove}
 use Rattle.run_model.specs.Inputs.{Input}
 use Rattle.run_model.specs.Due.{Due, Gifts, gives}
-use Rattle.run_model.specs.Steps.{Ending, Succeeds, Fails, LacksMemory, ending, Step, due_at}
+use Rattle.run_model.specs.Steps.{Ending, Succeeds, Fails, Changes, LacksMemory, ending, Step, due_at}
 
 -- ---- deeds
 -- what an event does, but for the root of its relation
@@ -72,6 +73,7 @@ reads_of_command (Snap name) = Reads ∷ []
 reads_of_command (At at name e) = []
 reads_of_command (Load name file) = []
 reads_of_command (Save e file) = Reads ∷ []
+reads_of_command (Atomic lets) = Reads ∷ []
 reads_of_command (Explain e) = Reads ∷ []
 
 -- what a command does that is done, before it gives any name a value
@@ -87,13 +89,36 @@ first_of_command (Snap name) = Reads ∷ []
 first_of_command (At at name e) = []
 first_of_command (Load name file) = []
 first_of_command (Save e file) = Reads ∷ []
+first_of_command (Atomic lets) = Reads ∷ []
 first_of_command (Explain e) = Reads ∷ []
+
+-- the second read of a command, which an atomic block has that is refused at its commit
+abbrev pub reads_again : Command → List Deed
+reads_again (RELATION name rows rows_at cols cols_at list) = []
+reads_again (Let name e) = []
+reads_again (PRINT e) = []
+reads_again (LIST e) = []
+reads_again (Count e) = []
+reads_again (Typed e) = []
+reads_again (DROP at name) = []
+reads_again (Snap name) = []
+reads_again (At at name e) = []
+reads_again (Load name file) = []
+reads_again (Save e file) = []
+reads_again (Atomic lets) = Reads ∷ []
+reads_again (Explain e) = []
 
 -- the reads of an item that is not done: a definition has none
 abbrev pub reads_of : Item → List Deed
 reads_of (COMMAND command) = reads_of_command command
 reads_of (Function at name params body) = []
 reads_of (Program at name params decls body result) = []
+
+-- all reads of an item: those of one that is not done, and the second one of an atomic block
+abbrev pub all_reads_of : Item → List Deed
+all_reads_of (COMMAND command) = reads_of_command command ++ reads_again command
+all_reads_of (Function at name params body) = []
+all_reads_of (Program at name params decls body result) = []
 
 -- what an item does that is done, before it gives any name a value
 abbrev pub first_of : Item → List Deed
@@ -110,12 +135,13 @@ done_deeds item d = first_of item ++ giving (gives item d)
 abbrev pub Begins : List Deed → List Deed → Type 0
 Begins deeds more = (rest : List Deed) × (more ≡ deeds ++ rest)
 
--- the deeds of an item that ended so: all of a done one, the reads of a refused one, and where memory ran out the first
--- of its reads, or none, or all
+-- the deeds of an item that ended so: all of a done one, the reads of a refused one, both reads of a block that is
+-- refused at its commit, and where memory ran out the first of its reads, or none, or all
 abbrev pub HasDeeds : Ending → Item → Due → List Deed → Type 0
 HasDeeds Succeeds item d deeds = deeds ≡ done_deeds item d
 HasDeeds Fails item d deeds = deeds ≡ reads_of item
-HasDeeds LacksMemory item d deeds = Begins deeds (reads_of item)
+HasDeeds Changes item d deeds = deeds ≡ all_reads_of item
+HasDeeds LacksMemory item d deeds = Begins deeds (all_reads_of item)
 
 -- the entries are those of the steps of session s, one command after another
 abbrev pub AreEvents : Input → Script → ℕ → List Step → List Entry → Type 0

@@ -1,5 +1,21 @@
 -- What a run is given.
-use Rattle.std.specs.Prelude.{◌≡◌, ◌-◌, ℕ, Bool, cond, List, [], ◌∷◌, Option, Some, None, slice_get, option_and_then}
+use Rattle.std.specs.Prelude.{
+  ◌≡◌,
+  ◌+◌,
+  ◌-◌,
+  nat_lt,
+  ℕ,
+  Bool,
+  cond,
+  List,
+  [],
+  ◌∷◌,
+  Option,
+  Some,
+  None,
+  slice_get,
+  option_and_then,
+}
 use Rattle.lang_model.specs.declared.syntax.Item.{Item}
 use Rattle.lang_model.specs.declared.syntax.Script.{Script}
 use Rattle.lang_model.specs.declared.faults.ParseFault.{ParseFault}
@@ -31,6 +47,8 @@ pub record Input : Type 0 where
   pub turns : ℕ
   -- whether the page ends with the history
   pub history : Bool
+  -- for each batch the number of scripts up to its end
+  pub ends : List ℕ
 
 -- the bytes are read so
 abbrev pub IsReading : List ℕ → Reading → Type 0
@@ -54,6 +72,11 @@ script_of (Runs script) = Some script
 -- the script of session s, from 1 on
 unfoldable pub script_at : Input → ℕ → Option Script
 script_at input s = option_and_then script_of (slice_get input.readings (s - 1))
+
+-- the number of the batch of session s, from 0 on: how many batches end before it
+abbrev pub batch_of : List ℕ → ℕ → ℕ
+batch_of [] s = 0
+batch_of (end ∷ ends) s = cond (nat_lt end s) 1 0 + batch_of ends s
 
 -- item c of a script, from 1 on
 unfoldable pub item_at : Script → ℕ → Option Item

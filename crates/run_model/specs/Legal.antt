@@ -1,29 +1,107 @@
 -- Which histories and outcomes are lawful for scripts that ran at once, in any order of their turns.
-use Rattle.std.specs.Prelude.{◌≡◌, ◌≤◌, ◌⊎◌, ◌+◌, ◌&&◌, ℕ, Bool, true, false, List, [], ◌∷◌, length, map}
+use Rattle.std.specs.Prelude.{
+  ◌≡◌,
+  ◌≤◌,
+  ◌⊎◌,
+  ◌+◌,
+  ◌&&◌,
+  ℕ,
+  Bool,
+  true,
+  false,
+  List,
+  [],
+  ◌∷◌,
+  length,
+  map,
+  Option,
+  Some,
+  None,
+}
 use Rattle.std.specs.List.{list_any, AllByRecursion}
 use Rattle.lang_model.specs.declared.syntax.Script.{Script}
 use Rattle.run_model.specs.declared.event.Event.{Event}
 use Rattle.run_model.specs.declared.event.Act.{Act}
 use Rattle.run_model.specs.declared.event.Act.TheVariants.{Read, Assign, Remove}
 use Rattle.run_model.specs.declared.outcome.Outcome.{Outcome}
-use Rattle.run_model.specs.declared.outcome.Outcome.TheVariants.{Parse, Ill}
-use Rattle.run_model.specs.Inputs.{Input, Reading, NoScript, Flawed, Runs}
+use Rattle.run_model.specs.declared.outcome.Outcome.TheVariants.{
+  Done,
+  Parse,
+  Ill,
+  Size,
+  Turns,
+  Nodes,
+  TooLarge,
+  TooLong,
+  NoFile,
+  BadFile,
+  NoMemory,
+  Changed,
+}
+use Rattle.lang_model.specs.declared.syntax.Item.{Item}
+use Rattle.lang_model.specs.declared.syntax.Let.{Let as BlockLet}
+use Rattle.run_model.specs.Inputs.{Input, Reading, NoScript, Flawed, Runs, batch_of}
+use Rattle.run_model.specs.Versions.{Change, version, first_changed}
+use Rattle.run_model.specs.Blocks.{block_reads}
 use Rattle.run_model.specs.Steps.{Step, steps}
 use Rattle.run_model.specs.Events.{entry_of, AreEvents}
-use Rattle.run_model.specs.Outcomes.{AreOutcomes}
-use Rattle.run_model.specs.States.{is_of, events_of, state_for}
+use Rattle.run_model.specs.Outcomes.{AreOutcomes, lets_of}
+use Rattle.run_model.specs.States.{is_of, events_of, events_before, before_second, state_for}
+
+-- ---- commits
+-- an item with an outcome has this change at its commit, by the names that it reads: a block that is done has none, and
+-- one that is refused at its commit has the change that it tells
+abbrev pub IsCommit : Outcome → Option Change → Type 0
+IsCommit Done change = change ≡ None
+IsCommit (Changed name seen found) change = change ≡ Some (record { name = name; seen = seen; found = found })
+IsCommit (Parse fault) change = Unit {0}
+IsCommit (Ill fault) change = Unit {0}
+IsCommit (Size at wanted limit) change = Unit {0}
+IsCommit (Turns at limit) change = Unit {0}
+IsCommit Nodes change = Unit {0}
+IsCommit (TooLarge wanted counted) change = Unit {0}
+IsCommit (TooLong bits) change = Unit {0}
+IsCommit (NoFile name) change = Unit {0}
+IsCommit (BadFile name kind) change = Unit {0}
+IsCommit NoMemory change = Unit {0}
+
+-- the same of items: only a block commits
+abbrev pub CommitsItem : (List (List ℕ) → Option Change) → Option (List BlockLet) → Outcome → Type 0
+CommitsItem change None outcome = Unit {0}
+CommitsItem change (Some lets) outcome = IsCommit outcome (change (block_reads lets))
+
+-- the commits of items from number c on, where the command of each number has these changes of names that it read
+abbrev pub CommitsFrom : (ℕ → List (List ℕ) → Option Change) → ℕ → List Item → List Outcome → Type 0
+CommitsFrom change c [] outcomes = Unit {0}
+CommitsFrom change c (item ∷ items) [] = Unit {0}
+CommitsFrom change c (item ∷ items) (outcome ∷ outcomes) =
+    CommitsItem (change c) (lets_of item) outcome × CommitsFrom change (c + 1) items outcomes
+
+-- the first of these names whose version is another one behind the events before a commit, where there is one
+abbrev pub change_at : (List ℕ → ℕ) → (List Event → List ℕ → ℕ) → Option (List Event) → List (List ℕ) → Option Change
+change_at seen versions None names = None
+change_at seen versions (Some log) names = first_changed seen (versions log) names
+
+-- the first of these names whose versions before the first event of a command, which is its read, and before its
+-- second, which is its commit, differ
+unfoldable pub change_for : List Event → ℕ → ℕ → List (List ℕ) → Option Change
+change_for history s c =
+    change_at (λ name. version name (events_before s c history)) (λ log name. version name log)
+    (before_second s c history)
 
 -- ---- sessions
 -- the steps of session s by the states of the history
 abbrev pub steps_in : Input → List Event → ℕ → Script → List Outcome → List Step
 steps_in input history s script outcomes = steps (state_for input history s) script outcomes
 
--- a session runs its script: one outcome for each item, the events of its steps, and their outcomes
+-- a session runs its script: one outcome for each item, the events of its steps, their outcomes, and the commits of its
+-- blocks
 pub record RunsScript (input : Input) (history : List Event) (s : ℕ) (script : Script)
     (outcomes : List Outcome) : Type 0 where
   pub each : length outcomes ≡ length script.items.items
   pub events : AreEvents input script s (steps_in input history s script outcomes) (map entry_of (events_of s history))
   pub outcomes_due : AreOutcomes input script (steps_in input history s script outcomes)
+  pub commits : CommitsFrom (change_for history s) 1 script.items.items outcomes
 
 -- one session: the one fault and no event, or its script
 abbrev pub LegalSession : Input → List Event → ℕ → Reading → List Outcome → Type 0
@@ -66,6 +144,16 @@ abbrev pub AssignsTogether : List Event → Type 0
 AssignsTogether [] = Unit {0}
 AssignsTogether (e ∷ es) = GoesOn e es × AssignsTogether es
 
+-- ---- batches
+-- no later event is of an earlier batch
+abbrev pub IsNotBefore : List ℕ → Event → List Event → Type 0
+IsNotBefore ends e = AllByRecursion (λ x. batch_of ends e.session ≤ batch_of ends x.session)
+
+-- the events of each batch stand before those of all later ones
+abbrev pub BatchesInOrder : List ℕ → List Event → Type 0
+BatchesInOrder ends [] = Unit {0}
+BatchesInOrder ends (e ∷ es) = IsNotBefore ends e es × BatchesInOrder ends es
+
 -- ---- runs
 -- the history and the outcomes are lawful for the input
 pub record IsLegal (input : Input) (history : List Event) (outcomes : List (List Outcome)) : Type 0 where
@@ -73,3 +161,4 @@ pub record IsLegal (input : Input) (history : List Event) (outcomes : List (List
   pub numbers : AllByRecursion (λ e. (1 ≤ e.session) × (e.session ≤ length input.readings)) history
   pub sessions : LegalSessions input history 1 input.readings outcomes
   pub together : AssignsTogether history
+  pub batches : BatchesInOrder input.ends history

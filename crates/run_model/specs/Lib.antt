@@ -1,6 +1,9 @@
 pub mod Names
 pub mod Inputs
 pub mod Files
+pub mod SharedFiles
+pub mod Versions
+pub mod Blocks
 pub mod Limits
 pub mod Due
 pub mod Steps
@@ -16,10 +19,8 @@ pub mod Laws
 pub mod Carried
 pub mod Turns
 pub mod Sessions
+pub mod Batches
 pub mod Lifting
 pub mod Run
 pub mod Stored
 pub mod Texts
-pub mod SharedFiles
-pub mod Versions
-pub mod Blocks

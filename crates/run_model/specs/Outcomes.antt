@@ -1,5 +1,5 @@
 -- Which outcomes are lawful of an item of which this is due.
-use Rattle.std.specs.Prelude.{◌≡◌, ◌⊎◌, List}
+use Rattle.std.specs.Prelude.{◌≡◌, ◌⊎◌, ℕ, List, Option, Some, None, IsSome}
 use Rattle.std.specs.List.{AllByRecursion}
 use Rattle.lang_model.specs.Eval.{IsCompound}
 use Rattle.lang_model.specs.declared.syntax.Command.{Command}
@@ -15,15 +15,29 @@ use Rattle.lang_model.specs.declared.syntax.Command.TheVariants.{
   At,
   Load,
   Save,
+  Atomic,
   Explain,
 }
 use Rattle.lang_model.specs.declared.syntax.Item.{Item}
 use Rattle.lang_model.specs.declared.syntax.Item.TheVariants.{Function, Program, Command as COMMAND}
 use Rattle.lang_model.specs.declared.syntax.Script.{Script}
 use Rattle.run_model.specs.declared.outcome.Outcome.{Outcome}
-use Rattle.run_model.specs.declared.outcome.Outcome.TheVariants.{Nodes, NoMemory}
+use Rattle.run_model.specs.declared.outcome.Outcome.TheVariants.{Done, Nodes, NoMemory, Changed}
 use Rattle.run_model.specs.Inputs.{Input}
-use Rattle.run_model.specs.Due.{When, Early, Late, Due, Nothing, Value, Explained, Refused, outcome_due}
+use Rattle.run_model.specs.Due.{
+  When,
+  Early,
+  Late,
+  Due,
+  Nothing,
+  Value,
+  Values,
+  Explained,
+  Refused,
+  outcome_due,
+}
+use Rattle.run_model.specs.Blocks.{AnyCompound}
+use Rattle.lang_model.specs.declared.syntax.Let.{Let as BlockLet}
 use Rattle.run_model.specs.Steps.{Step, due_at}
 
 -- a command that makes a relation or applies an operator, so that a full table may refuse it
@@ -39,6 +53,7 @@ WantsNodes (Snap name) = ⊥
 WantsNodes (At at name e) = IsCompound e
 WantsNodes (Load name file) = Unit {0}
 WantsNodes (Save e file) = IsCompound e
+WantsNodes (Atomic lets) = AnyCompound lets.items
 WantsNodes (Explain e) = ⊥
 
 -- a refusal that is early comes before any node is asked for
@@ -50,6 +65,7 @@ IsLate Late = Unit {0}
 abbrev pub IsNotEarly : Due → Type 0
 IsNotEarly Nothing = Unit {0}
 IsNotEarly (Value r) = Unit {0}
+IsNotEarly (Values gifts) = Unit {0}
 IsNotEarly (Explained steps) = Unit {0}
 IsNotEarly (Refused when outcome) = IsLate when
 
@@ -65,11 +81,26 @@ MayLackMemory (COMMAND command) = Unit {0}
 MayLackMemory (Function at name params body) = ⊥
 MayLackMemory (Program at name params decls body result) = ⊥
 
--- the outcome is the one that is due; or the table was full; or memory ran out
+-- the assignments of an atomic block, and none of another item
+abbrev pub lets_of : Item → Option (List BlockLet)
+lets_of (COMMAND (Atomic lets)) = Some lets.items
+lets_of item = None
+
+-- an atomic block may be refused at its commit, where what is due is that it is done
+abbrev pub MayBeChanged : Item → Due → Type 0
+MayBeChanged item d = IsSome (lets_of item) × (outcome_due d ≡ Done)
+
+-- a name was changed before the commit of an item
+abbrev pub IsChanged : Outcome → Type 0
+IsChanged outcome = (name : List ℕ) × (seen found : ℕ) × (outcome ≡ Changed name seen found)
+
+-- the outcome is the one that is due; or the table was full; or memory ran out; or a block is refused at its commit,
+-- of which `Commits` in `Legal.antt` says when
 abbrev pub IsOutcome : Item → Due → Outcome → Type 0
 IsOutcome item d outcome =
     (outcome ≡ outcome_due d)
-    ⊎ (((outcome ≡ Nodes) × MayLackNodes item d) ⊎ ((outcome ≡ NoMemory) × MayLackMemory item))
+    ⊎ (((outcome ≡ Nodes) × MayLackNodes item d) ⊎ (((outcome ≡ NoMemory) × MayLackMemory item)
+    ⊎ (IsChanged outcome × MayBeChanged item d)))
 
 -- each step's outcome is lawful
 abbrev pub AreOutcomes : Input → Script → List Step → Type 0

@@ -15,6 +15,7 @@ use Rattle.lang_model.specs.declared.syntax.Command.TheVariants.{
   At,
   Load,
   Save,
+  Atomic,
   Explain,
 }
 use Rattle.lang_model.specs.declared.syntax.Item.{Item}
@@ -28,10 +29,10 @@ use Rattle.rel_model.specs.Relation.{Relation}
 use Rattle.run_model.specs.Texts.{prefix, matrix, refusal_text}
 use Rattle.run_model.specs.Inputs.{Input, Reading, NoScript, Flawed, Runs}
 use Rattle.run_model.specs.Files.{k2}
-use Rattle.run_model.specs.Due.{Due, Nothing, Value, Explained, Refused}
+use Rattle.run_model.specs.Due.{Due, Nothing, Value, Values, Explained, Refused}
 use Rattle.lang_model.specs.Printing.{printed_tree}
 use Rattle.lang_model.specs.Rewriting.{Step as Rewritten}
-use Rattle.run_model.specs.Steps.{Ending, Succeeds, Fails, LacksMemory, ending, Step, due_at}
+use Rattle.run_model.specs.Steps.{Ending, Succeeds, Fails, Changes, LacksMemory, ending, Step, due_at}
 use Rattle.run_model.specs.Legal.{steps_in}
 
 -- a line feed
@@ -74,6 +75,7 @@ shown_by numbers (Snap name) r = []
 shown_by numbers (At at name e) r = numbers ++ matrix r
 shown_by numbers (Load name file) r = []
 shown_by numbers (Save e file) r = []
+shown_by numbers (Atomic lets) r = []
 shown_by numbers (Explain e) r = []
 
 -- the same of items: a definition shows nothing
@@ -91,10 +93,11 @@ step_text step =
 unfoldable pub explanation : List Rewritten → List ℕ
 explanation steps = decimal (length steps) ++ codes " steps" ++ line_feed ++ flat_map step_text steps
 
--- the reply to an item that is done: its value, where one is due
+-- the reply to an item that is done: its value or its steps, where some are due
 abbrev pub done_text : List ℕ → Item → Due → List ℕ
 done_text numbers item Nothing = []
 done_text numbers item (Value r) = shown numbers item r
+done_text numbers item (Values gifts) = []
 done_text numbers item (Explained steps) = numbers ++ explanation steps
 done_text numbers item (Refused when outcome) = []
 
@@ -102,6 +105,7 @@ done_text numbers item (Refused when outcome) = []
 abbrev pub reply_at : Ending → List ℕ → Item → Due → Outcome → List ℕ
 reply_at Succeeds numbers item d outcome = done_text numbers item d
 reply_at Fails numbers item d outcome = numbers ++ refusal_text outcome
+reply_at Changes numbers item d outcome = numbers ++ refusal_text outcome
 reply_at LacksMemory numbers item d outcome = numbers ++ refusal_text outcome
 
 -- the reply of command c of session s
@@ -153,7 +157,7 @@ pub record SavedFile : Type 0 where
   pub name : List ℕ
   pub bytes : List ℕ
 
--- the file of a value, which a SAVE alone has
+-- the file of a value, which a SAVE of an expression alone has
 abbrev pub saved_by : Command → Relation → List SavedFile
 saved_by (RELATION name rows rows_at cols cols_at list) r = []
 saved_by (Let name e) r = []
@@ -166,6 +170,7 @@ saved_by (Snap name) r = []
 saved_by (At at name e) r = []
 saved_by (Load name file) r = []
 saved_by (Save e file) r = record { name = file; bytes = k2 r } ∷ []
+saved_by (Atomic lets) r = []
 saved_by (Explain e) r = []
 
 -- the same of items
@@ -178,6 +183,7 @@ saved_of (Program at name params decls body result) r = []
 abbrev pub done_save : Item → Due → List SavedFile
 done_save item Nothing = []
 done_save item (Value r) = saved_of item r
+done_save item (Values gifts) = []
 done_save item (Explained steps) = []
 done_save item (Refused when outcome) = []
 
@@ -185,6 +191,7 @@ done_save item (Refused when outcome) = []
 abbrev pub save_at : Ending → Item → Due → List SavedFile
 save_at Succeeds item d = done_save item d
 save_at Fails item d = []
+save_at Changes item d = []
 save_at LacksMemory item d = []
 
 -- the files of the steps of a session

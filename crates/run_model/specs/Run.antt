@@ -7,7 +7,7 @@ use Rattle.run_model.specs.Inputs.{Input, Reading, AreReadings}
 use Rattle.run_model.specs.Events.{entry_of}
 use Rattle.run_model.specs.Legal.{IsLegal}
 use Rattle.run_model.specs.Page.{SavedFile, page, saves}
-use Rattle.run_model.specs.Cost.{cost_of_run}
+use Rattle.run_model.specs.Cost.{cost_of_run, cost_of_batch}
 use Rattle.run_model.specs.Solo.{Suffices}
 
 -- a lawful run of scripts: the input reads their bytes, history and outcomes are lawful for it, and page and files are
@@ -24,6 +24,8 @@ pub record SameWithoutRoots (input : Input) (outcomes : List (List Outcome)) (fi
   pub page : page input first outcomes ≡ page input second outcomes
   pub saves : saves input first outcomes ≡ saves input second outcomes
   pub cost : (leaf : ℕ) → cost_of_run leaf input first outcomes ≡ cost_of_run leaf input second outcomes
+  pub cost_of_batches : (leaf b : ℕ) →
+      cost_of_batch leaf input first outcomes b ≡ cost_of_batch leaf input second outcomes b
 
 -- histories that have the same entries show, save and cost the same
 abbrev pub RootsMeanNothing : Type 0

@@ -1,6 +1,6 @@
--- What one session promises, whatever the others do: its turns, and its events, outcomes and values on the states that
--- it took. The replies and saves of its transcript, and its cost, are those of the same steps.
-use Rattle.std.specs.Prelude.{◌≤◌, ◌+◌, Some, ◌≡◌, ◌==◌, ℕ, cond, List, [], ◌∷◌, ◌++◌, length, map}
+-- What one session promises, whatever the others do: its turns, and its events, outcomes, values and commits on the
+-- states that it took. The replies and saves of its transcript, and its cost, are those of the same steps.
+use Rattle.std.specs.Prelude.{Some, ◌≡◌, ◌==◌, ℕ, Bool, cond, List, [], ◌∷◌, ◌++◌, length, map}
 use Rattle.std.specs.List.{AllByRecursion}
 use Rattle.rel_model.specs.declared.Rel.{Rel}
 use Rattle.lang_model.specs.declared.syntax.Script.{Script}
@@ -12,13 +12,23 @@ use Rattle.run_model.specs.declared.outcome.Outcome.TheVariants.{Parse, Ill}
 use Rattle.rel_model.specs.Relation.{Relation}
 use Rattle.run_model.specs.Inputs.{Input, Reading, NoScript, Flawed, Runs, script_at}
 use Rattle.run_model.specs.Due.{Gifts, gives}
-use Rattle.run_model.specs.Steps.{Ending, Succeeds, Fails, LacksMemory, ending, Step, due_at, steps}
+use Rattle.run_model.specs.Steps.{Ending, Succeeds, Fails, Changes, LacksMemory, ending, Step, due_at, steps}
 use Rattle.run_model.specs.Events.{entry_of, AreEvents}
 use Rattle.run_model.specs.Outcomes.{AreOutcomes}
-use Rattle.run_model.specs.States.{start, events_of, gifts_due}
-use Rattle.run_model.specs.Carried.{AllHaveDue}
-use Rattle.run_model.specs.Turns.{BeginsLog, Turn, put_by, AreTurns, state_taken}
-use Rattle.run_model.specs.Legal.{RunsScript, IsLegal}
+use Rattle.run_model.specs.States.{begun, events_of, gifts_due}
+use Rattle.run_model.specs.Carried.{Carried, First, AllHaveDue}
+use Rattle.run_model.specs.Turns.{
+  BeginsLog,
+  Turn,
+  puts_of,
+  AreTurns,
+  IsTurn,
+  AssignsOnce,
+  StandsBehind,
+  state_taken,
+  change_taken,
+}
+use Rattle.run_model.specs.Legal.{CommitsFrom, RunsScript}
 
 -- ---- values
 -- the relation of an act that assigns
@@ -43,6 +53,7 @@ HaveValues means (rel ∷ rels) [] = ⊥
 abbrev pub HasValuesAt : Ending → (Rel → Relation) → List Rel → Gifts → Type 0
 HasValuesAt Succeeds means rels gifts = HaveValues means rels gifts
 HasValuesAt Fails means rels gifts = Unit {0}
+HasValuesAt Changes means rels gifts = Unit {0}
 HasValuesAt LacksMemory means rels gifts = Unit {0}
 
 -- those of a step among its session's events
@@ -52,66 +63,58 @@ HasValues input script means events step =
 
 -- ---- a session
 -- the steps of a session on the states that it took
-abbrev pub steps_taken : (Rel → Relation) → List Turn → Script → List Outcome → List Step
-steps_taken means ts script outcomes = steps (state_taken means ts) script outcomes
+abbrev pub steps_taken : Carried → (Rel → Relation) → List Turn → Script → List Outcome → List Step
+steps_taken first means ts script outcomes = steps (state_taken first means ts) script outcomes
 
--- session s, which had seen the old log, ran its script in these turns with these outcomes, and then saw the new log
-pub record RunsTurns (input : Input) (means : Rel → Relation) (s : ℕ) (script : Script) (outcomes : List Outcome)
-    (ts : List Turn) (old new : List Event) : Type 0 where
+-- session s of a batch that began so, which had seen the old log, ran its script in these turns with these outcomes,
+-- and then saw the new log
+pub record RunsTurns (input : Input) (first : First) (means : Rel → Relation) (s : ℕ) (script : Script)
+    (outcomes : List Outcome) (ts : List Turn) (old new : List Event) : Type 0 where
   pub turns : AreTurns ts old new
-  pub own : AllByRecursion (λ t. t.put.session ≡ s) ts
+  -- each turn put one event, or assignments of one command
+  pub own : AllByRecursion (IsTurn s) ts
+  -- no other event stands between assignments of one command, since they are put at once
+  pub once : AssignsOnce ts
   pub each : length outcomes ≡ length script.items.items
-  pub events : AreEvents input script s (steps_taken means ts script outcomes) (map entry_of (map put_by ts))
-  pub outcomes_due : AreOutcomes input script (steps_taken means ts script outcomes)
-  pub values : AllByRecursion (HasValues input script means (map put_by ts)) (steps_taken means ts script outcomes)
+  pub events : AreEvents input script s (steps_taken first.names means ts script outcomes) (map entry_of (puts_of ts))
+  pub outcomes_due : AreOutcomes input script (steps_taken first.names means ts script outcomes)
+  pub values : AllByRecursion (HasValues input script means (puts_of ts))
+      (steps_taken first.names means ts script outcomes)
+  -- a block commits where no name that it read has another version, and else tells the first that has
+  pub commits : CommitsFrom (change_taken first.versions ts) 1 script.items.items outcomes
 
--- In the closed log, which begins with all that the session saw and has of its number the events of its turns alone,
--- the session ran its script by the states of the log, where each assigned relation has the value that is due.
+-- In the history, where the log of the batch stands behind earlier events and before later ones that have none of its
+-- number, a session that ran its script in turns ran it by the states of the history.
 abbrev pub TurnsRunScript : Type 0
 TurnsRunScript =
-    (input : Input) (means : Rel → Relation) (s : ℕ) (script : Script) (outcomes : List Outcome) (ts : List Turn)
-    (seen log : List Event) → RunsTurns input means s script outcomes ts [] seen → BeginsLog seen log
-    → events_of s log ≡ map put_by ts → AllHaveDue (gifts_due input) means start log
-    → RunsScript input log s script outcomes
+    (input : Input) (kind : ℕ → Bool) (means : Rel → Relation) (first : First) (s : ℕ) (script : Script)
+    (outcomes : List Outcome) (ts : List Turn) (done seen log later : List Event)
+    → StandsBehind input kind means first done log → RunsTurns input first means s script outcomes ts [] seen
+    → BeginsLog seen log → events_of s log ≡ puts_of ts → events_of s done ≡ [] → events_of s later ≡ []
+    → RunsScript input (done ++ (log ++ later)) s script outcomes
 
--- session s ran its script in turns that stand in the closed log, which has no other events of its number
-pub record RanIn (input : Input) (means : Rel → Relation) (log : List Event) (s : ℕ) : Type 0 where
+-- session s ran its script in turns that stand in the closed log of its batch, which has no other events of its number
+pub record RanIn (input : Input) (first : First) (means : Rel → Relation) (log : List Event) (s : ℕ) : Type 0 where
   pub script : Script
   pub is_script : script_at input s ≡ Some script
   pub outcomes : List Outcome
   pub ts : List Turn
   pub seen : List Event
-  pub runs : RunsTurns input means s script outcomes ts [] seen
+  pub runs : RunsTurns input first means s script outcomes ts [] seen
   pub begins : BeginsLog seen log
-  pub all : events_of s log ≡ map put_by ts
+  pub all : events_of s log ≡ puts_of ts
 
 -- where each event is of a session that ran so, each assigned relation has the value that is due
 abbrev pub SessionsMakeDue : Type 0
 SessionsMakeDue =
-    (input : Input) (means : Rel → Relation) (log : List Event)
-    → AllByRecursion (λ e. RanIn input means log e.session) log
-    → AllHaveDue (gifts_due input) means start log
+    (input : Input) (first : First) (means : Rel → Relation) (log : List Event)
+    → AllByRecursion (λ e. RanIn input first means log e.session) log
+    → AllHaveDue (gifts_due input) means (begun first.names) log
 
--- ---- all sessions
 -- session s ran what its bytes are read as: the one fault and no event, or its script in turns that stand in the log
-abbrev pub SessionRan : Input → (Rel → Relation) → List Event → ℕ → Reading → List Outcome → Type 0
-SessionRan input means log s (NoScript fault) outcomes = (outcomes ≡ Parse fault ∷ []) × (events_of s log ≡ [])
-SessionRan input means log s (Flawed fault) outcomes = (outcomes ≡ Ill fault ∷ []) × (events_of s log ≡ [])
-SessionRan input means log s (Runs script) outcomes =
-    (ts : List Turn) × (seen : List Event) × RunsTurns input means s script outcomes ts [] seen × BeginsLog seen log
-    × (events_of s log ≡ map put_by ts)
-
--- so did sessions from number s on
-abbrev pub SessionsRan : Input → (Rel → Relation) → List Event → ℕ → List Reading → List (List Outcome) → Type 0
-SessionsRan input means log s [] [] = Unit {0}
-SessionsRan input means log s (reading ∷ readings) (outcomes ∷ others) =
-    SessionRan input means log s reading outcomes × SessionsRan input means log (s + 1) readings others
-SessionsRan input means log s [] (outcomes ∷ others) = ⊥
-SessionsRan input means log s (reading ∷ readings) [] = ⊥
-
--- What sessions promise one by one makes the closed log and their outcomes lawful, whatever the order of their turns.
-abbrev pub ClosedLogIsLegal : Type 0
-ClosedLogIsLegal =
-    (input : Input) (means : Rel → Relation) (log : List Event) (outcomes : List (List Outcome))
-    → AllByRecursion (λ e. (1 ≤ e.session) × (e.session ≤ length input.readings)) log
-    → SessionsRan input means log 1 input.readings outcomes → IsLegal input log outcomes
+abbrev pub SessionRan : Input → First → (Rel → Relation) → List Event → ℕ → Reading → List Outcome → Type 0
+SessionRan input first means log s (NoScript fault) outcomes = (outcomes ≡ Parse fault ∷ []) × (events_of s log ≡ [])
+SessionRan input first means log s (Flawed fault) outcomes = (outcomes ≡ Ill fault ∷ []) × (events_of s log ≡ [])
+SessionRan input first means log s (Runs script) outcomes =
+    (ts : List Turn) × (seen : List Event) × RunsTurns input first means s script outcomes ts [] seen
+    × BeginsLog seen log × (events_of s log ≡ puts_of ts)

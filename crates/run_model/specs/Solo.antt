@@ -14,6 +14,7 @@ use Rattle.lang_model.specs.declared.syntax.Command.TheVariants.{
   At,
   Load,
   Save,
+  Atomic,
   Explain,
 }
 use Rattle.lang_model.specs.declared.syntax.Item.{Item}
@@ -24,7 +25,19 @@ use Rattle.run_model.specs.declared.outcome.Outcome.{Outcome}
 use Rattle.run_model.specs.declared.outcome.Outcome.TheVariants.{Parse, Ill, Nodes, NoMemory}
 use Rattle.run_model.specs.Names.{no_names, set, remove}
 use Rattle.run_model.specs.Inputs.{Input, Reading, NoScript, Flawed, Runs}
-use Rattle.run_model.specs.Due.{Workspace, Due, Nothing, Value, Explained, Refused, Gifts, outcome_due, due, gives}
+use Rattle.run_model.specs.Due.{
+  Workspace,
+  Due,
+  Nothing,
+  Value,
+  Values,
+  Explained,
+  Refused,
+  Gifts,
+  outcome_due,
+  due,
+  gives,
+}
 use Rattle.run_model.specs.Steps.{Snapshots, snaps_behind, snap_for}
 use Rattle.run_model.specs.Events.{Deed, Entry, entry_of, entries, done_deeds, reads_of}
 use Rattle.run_model.specs.Legal.{IsLegal}
@@ -53,6 +66,7 @@ without_dropped (Snap name) state = state
 without_dropped (At at name e) state = state
 without_dropped (Load name file) state = state
 without_dropped (Save e file) state = state
+without_dropped (Atomic lets) state = state
 without_dropped (Explain e) state = state
 
 -- the same of items
@@ -65,6 +79,7 @@ without (Program at name params decls body result) state = state
 abbrev pub state_behind : Item → Due → Workspace → Workspace
 state_behind item Nothing state = set_all (gives item Nothing) (without item state)
 state_behind item (Value r) state = set_all (gives item (Value r)) (without item state)
+state_behind item (Values gifts) state = set_all (gives item (Values gifts)) (without item state)
 state_behind item (Explained steps) state = set_all (gives item (Explained steps)) (without item state)
 state_behind item (Refused when outcome) state = state
 
@@ -72,6 +87,7 @@ state_behind item (Refused when outcome) state = state
 abbrev pub deeds_due : Item → Due → List Deed
 deeds_due item Nothing = done_deeds item Nothing
 deeds_due item (Value r) = done_deeds item (Value r)
+deeds_due item (Values gifts) = done_deeds item (Values gifts)
 deeds_due item (Explained steps) = done_deeds item (Explained steps)
 deeds_due item (Refused when outcome) = reads_of item
 
@@ -98,7 +114,8 @@ solo input (Runs script) = solo_from input script 1 no_names no_names script.ite
 abbrev pub Suffices : Outcome → Type 0
 Suffices outcome = (outcome ≢ Nodes) × (outcome ≢ NoMemory)
 
--- the run of one script where nothing ran out is lawful exactly if it is the one that the script alone decides
+-- the run of one script where nothing ran out is lawful exactly if it is the one that the script alone decides: no name
+-- changes between the read of a block and its commit, and so no block is refused there
 abbrev pub SoloIsLegal : Type 0
 SoloIsLegal =
     (input : Input) (reading : Reading) (history : List Event) (outcomes : List Outcome)

@@ -1,5 +1,21 @@
 -- The workspace after events, by what is due of the commands that assigned.
-use Rattle.std.specs.Prelude.{◌==◌, ◌&&◌, ◌+◌, ℕ, Bool, cond, List, [], ◌∷◌, filter, Option, Some, None, slice_get}
+use Rattle.std.specs.Prelude.{
+  ◌==◌,
+  ◌&&◌,
+  ◌+◌,
+  ℕ,
+  Bool,
+  cond,
+  List,
+  [],
+  ◌∷◌,
+  filter,
+  Option,
+  Some,
+  None,
+  option_map,
+  slice_get,
+}
 use Rattle.std.specs.List.{list_any}
 use Rattle.std.specs.Option.{option_map_or}
 use Rattle.lang_model.specs.declared.syntax.Item.{Item}
@@ -26,6 +42,17 @@ abbrev pub events_before : ℕ → ℕ → List Event → List Event
 events_before s c [] = []
 events_before s c (e ∷ es) = cond (is_of s c e) [] (e ∷ events_before s c es)
 
+-- the same, where the command has an event
+abbrev pub before_first : ℕ → ℕ → List Event → Option (List Event)
+before_first s c [] = None
+before_first s c (e ∷ es) = cond (is_of s c e) (Some []) (option_map (λ xs. e ∷ xs) (before_first s c es))
+
+-- the events before the second of a command, where it has one
+abbrev pub before_second : ℕ → ℕ → List Event → Option (List Event)
+before_second s c [] = None
+before_second s c (e ∷ es) =
+    option_map (λ xs. e ∷ xs) (cond (is_of s c e) (before_first s c es) (before_second s c es))
+
 -- ---- replay
 -- what names have now; what they had at the last read of each command, which is nothing where it has none; and how many
 -- names each command has given something
@@ -38,9 +65,13 @@ pub record Replay (V : Type 0) : Type 0 where
 abbrev pub at_command : {V : Type 0} → ℕ → ℕ → V → (ℕ → ℕ → V) → ℕ → ℕ → V
 at_command s c v f t d = cond ((t == s) && (d == c)) v (f t d)
 
--- before the first event
+-- before the first event, where names have this now
+abbrev pub begun : {V : Type 0} → Names V → Replay V
+begun names = record { now = names; at_read = λ s c. no_names; given = λ s c. 0 }
+
+-- before the first event of a run
 abbrev pub start : {V : Type 0} → Replay V
-start = record { now = no_names; at_read = λ s c. no_names; given = λ s c. 0 }
+start = begun no_names
 
 -- a name gets the value of a gift, where there is one
 abbrev pub set_by : List ℕ → Option (List ℕ × Relation) → Workspace → Workspace

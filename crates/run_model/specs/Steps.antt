@@ -15,6 +15,7 @@ use Rattle.lang_model.specs.declared.syntax.Command.TheVariants.{
   At,
   Load,
   Save,
+  Atomic,
   Explain,
 }
 use Rattle.lang_model.specs.declared.syntax.Item.{Item}
@@ -33,16 +34,19 @@ use Rattle.run_model.specs.declared.outcome.Outcome.TheVariants.{
   NoFile,
   BadFile as BAD_FILE,
   NoMemory,
+  Changed,
 }
 use Rattle.run_model.specs.Names.{Names, no_names, lookup, set}
 use Rattle.run_model.specs.Inputs.{Input}
 use Rattle.run_model.specs.Due.{Workspace, Due, due}
 
 -- ---- how an item ended
--- it is done, it is refused, or memory ran out
+-- it is done, it is refused, it is refused at its commit, or memory ran out
 pub data Ending : Type 0 where
   Succeeds : Ending
   Fails : Ending
+  -- an atomic block was refused at its commit
+  Changes : Ending
   LacksMemory : Ending
 
 -- the ending that an outcome tells
@@ -58,6 +62,7 @@ ending (TooLong bits) = Fails
 ending (NoFile name) = Fails
 ending (BAD_FILE name kind) = Fails
 ending NoMemory = LacksMemory
+ending (Changed name seen found) = Changes
 
 -- ---- snapshots
 -- the snapshots of a session
@@ -77,6 +82,7 @@ snapped_by (Snap name) = Some name
 snapped_by (At at name e) = None
 snapped_by (Load name file) = None
 snapped_by (Save e file) = None
+snapped_by (Atomic lets) = None
 snapped_by (Explain e) = None
 
 -- and of the snapshot that it asks
@@ -92,6 +98,7 @@ asked_by (Snap name) = None
 asked_by (At at name e) = Some name
 asked_by (Load name file) = None
 asked_by (Save e file) = None
+asked_by (Atomic lets) = None
 asked_by (Explain e) = None
 
 -- the name of the snapshot that an item keeps
@@ -115,6 +122,7 @@ keep (Some name) state snaps = set name state snaps
 abbrev pub kept_at : Ending → Item → Workspace → Snapshots → Snapshots
 kept_at Succeeds item state snaps = keep (snapped item) state snaps
 kept_at Fails item state snaps = snaps
+kept_at Changes item state snaps = snaps
 kept_at LacksMemory item state snaps = snaps
 
 -- the snapshots behind an item that saw this state

@@ -18,7 +18,9 @@ use Rattle.run_model.specs.declared.outcome.BadFile.TheVariants.{Root, Order, Mi
 use Rattle.run_model.specs.declared.outcome.Unit.{Unit as COUNTED}
 use Rattle.run_model.specs.declared.outcome.Unit.TheVariants.{Cells, Pairs}
 use Rattle.run_model.specs.declared.outcome.Outcome.{Outcome}
-use Rattle.run_model.specs.declared.outcome.Outcome.TheVariants.{Done, Parse, Ill, Size, Turns, Nodes, TooLarge, TooLong, NoFile, BadFile as BAD_FILE, NoMemory}
+use Rattle.run_model.specs.declared.outcome.Outcome.TheVariants.{Done, Parse, Ill, Size, Turns, Nodes, TooLarge}
+use Rattle.run_model.specs.declared.outcome.Outcome.TheVariants.{TooLong, NoFile, BadFile as BAD_FILE, NoMemory}
+use Rattle.run_model.specs.declared.outcome.Outcome.TheVariants.{Changed}
 use Rattle.rel_model.specs.Relation.{Relation, has}
 use Rattle.lang_model.specs.Limits.{nesting_limit, rank_limit}
 use Rattle.run_model.specs.Limits.{print_limit, list_limit, save_limit}
@@ -149,6 +151,8 @@ outcome_text (TooLong bits) = decimal bits ++ codes " bits pass the limit " ++ d
 outcome_text (NoFile name) = codes "no file " ++ quoted name
 outcome_text (BAD_FILE name kind) = codes "file " ++ quoted name ++ codes " is bad: " ++ bad_file_text kind
 outcome_text NoMemory = codes "no memory"
+outcome_text (Changed name seen found) = name ++ codes " changed: version " ++ decimal seen ++ codes " at the read, "
+    ++ decimal found ++ codes " at the commit"
 
 -- a refusal's line
 unfoldable pub refusal_text : Outcome → List ℕ

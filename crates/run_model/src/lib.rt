@@ -2,6 +2,7 @@
 //! what the words of a table hold of it.
 #![tactic(auto)]
 
+pub mod batch;
 pub mod event;
 pub mod files;
 pub mod laws;

@@ -1,6 +1,6 @@
 //! What comes of commands.
 use lang_model::faults::{ParseFault, TypeFault};
-use lang_model::syntax::{FileText, Place};
+use lang_model::syntax::{FileText, Name, Place};
 
 /// What a limit counts.
 #[derive(Clone, Copy, Debug, PartialEq, Eq)]
@@ -22,6 +22,8 @@ pub enum Outcome {
     NoFile { name: FileText },
     BadFile { name: FileText, kind: BadFile },
     NoMemory,
+    /// A name that an atomic block read was changed before its commit: its version at the read, and at the commit.
+    Changed { name: Name, seen: u64, found: u64 },
 }
 
 impl Drop for Outcome {
@@ -42,6 +44,11 @@ impl Drop for Outcome {
             Outcome::NoFile { name: _ } => {}
             Outcome::BadFile { name: _, kind: _ } => {}
             Outcome::NoMemory => {}
+            Outcome::Changed {
+                name: _,
+                seen: _,
+                found: _,
+            } => {}
         }
     }
 }
