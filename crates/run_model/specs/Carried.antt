@@ -7,7 +7,7 @@ use Rattle.run_model.specs.declared.event.Event.{Event}
 use Rattle.run_model.specs.declared.event.Act.{Act}
 use Rattle.run_model.specs.declared.event.Act.TheVariants.{Read, Assign, Remove}
 use Rattle.rel_model.specs.Relation.{Relation}
-use Rattle.run_model.specs.Names.{Names, set, remove}
+use Rattle.run_model.specs.Names.{Names, no_names, set, remove}
 use Rattle.run_model.specs.Due.{Workspace, Gifts}
 use Rattle.run_model.specs.States.{Replay, begun, at_command, replay}
 use Rattle.run_model.specs.Versions.{Versions}
@@ -32,10 +32,18 @@ carry p (e ∷ es) = carry (carry_act e.session e.command e.act p) es
 unfoldable pub carried_from : Carried → List Event → Carried
 carried_from first es = (carry (begun first) es).now
 
+-- those after the events of a first batch, before which no name has a relation
+abbrev pub carried : List Event → Carried
+carried es = carried_from no_names es
+
 -- what a batch begins with: the relations that names have in its table, and their versions
 pub record First : Type 0 where
   pub names : Carried
   pub versions : Versions
+
+-- the first batch begins with no relation of any name, and with no version but 0
+abbrev pub no_first : First
+no_first = record { names = no_names; versions = [] }
 
 -- the values of carried relations
 abbrev pub valued : (Rel → Relation) → Carried → Workspace

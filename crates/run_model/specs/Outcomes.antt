@@ -95,7 +95,7 @@ abbrev pub IsChanged : Outcome → Type 0
 IsChanged outcome = (name : List ℕ) × (seen found : ℕ) × (outcome ≡ Changed name seen found)
 
 -- the outcome is the one that is due; or the table was full; or memory ran out; or a block is refused at its commit,
--- of which `Commits` in `Legal.antt` says when
+-- of which `CommitsFrom` in `Legal.antt` says when
 abbrev pub IsOutcome : Item → Due → Outcome → Type 0
 IsOutcome item d outcome =
     (outcome ≡ outcome_due d)
