@@ -1,5 +1,5 @@
 //! Names that get values, all or none.
-ghost use Rattle.std.specs.Prelude.{◌≡◌, ◌<◌, ◌+◌, ◌∷◌, ◌++◌, [], OnOk, OnErr, vec_len, vec_capacity};
+ghost use Rattle.std.specs.Prelude.{◌≡◌, ◌<◌, ◌+◌, ◌∷◌, ◌++◌, [], IfOk, OnOk, OnErr, vec_len, vec_capacity};
 ghost use Rattle.run_model.specs.Names.{Names, IsIncreasing, lookup, set};
 ghost use Rattle.name_map.specs.Giving.{set_all, Led};
 
@@ -40,13 +40,14 @@ pub fn take_back<V: Copy + Drop>(names: &mut NameMap<V>, mut journal: Vec<(Name,
     }
 }
 
-/// All names of the list get their values, one after another, or none does.
+/// All names of the list get their values, one after another, or none does. The journal, by which `take_back` undoes it.
 pub fn put_all<V: Copy + Drop>(
     names: &mut NameMap<V>,
     alloc: Global,
     list: &[(Name, V)],
-) -> Result<(), NoMemory>
+) -> Result<Vec<(Name, Option<V>)>, NoMemory>
     ensures value { OnOk result (names.new ≡ set_all list.now names.old) }
+    ensures journal { IfOk result (λ j. Led j.items names.old names.new) }
     ensures err { OnErr result (names.new ≡ names.old) }
 {
     names.in_order();
@@ -60,5 +61,5 @@ pub fn put_all<V: Copy + Drop>(
             }
         }
     }
-    Ok(())
+    Ok(journal)
 }

@@ -27,7 +27,7 @@ pub first_stands : (w : Worker) (history : List Event) → history ≡ [] → Hi
 first_stands w history e = subst (HistoryStands w) (sym e) (All-nil (EventStands w))
 
 -- ---- one entry more
-read_stands : (w : Worker) (s c : ℕ) (old : List Event) → HistoryStands w old → HistoryStands w (old ++ read_of s c ∷ [])
+pub read_stands : (w : Worker) (s c : ℕ) (old : List Event) → HistoryStands w old → HistoryStands w (old ++ read_of s c ∷ [])
 read_stands w s c old h = All-append (EventStands w) old (read_of s c ∷ []) h (All-cons (EventStands w) (read_of s c) [] tt (All-nil (EventStands w)))
 
 removal_stands : (w : Worker) (s c : ℕ) (name : List ℕ) (old : List Event) → HistoryStands w old → HistoryStands w (old ++ removal s c name ∷ [])
@@ -82,10 +82,13 @@ pub in_step_after_gifts : {T U : Type 0} (r : Result T U) (s c : ℕ) (gifts : L
 in_step_after_gifts (Ok x) s c gifts names given old new n g f e d = g ∙ ap (set_all gifts) n ∙ sym (ap carried e ∙ carried-assigns s c gifts old)
 in_step_after_gifts (Err x) s c gifts names given old new n g f e d = f ∙ n ∙ sym (ap carried d)
 
+pub gifts_stand : (w : Worker) (s c : ℕ) (gifts : List (List ℕ × Rel)) (old : List Event) → All (λ g. Stands w g.1) gifts → HistoryStands w old → HistoryStands w (old ++ assigns s c gifts)
+gifts_stand w s c gifts old g h = All-append (EventStands w) old (assigns s c gifts) h (assigns_stand w s c gifts g)
+
 pub stands_after_gifts : {T U : Type 0} (w : Worker) (r : Result T U) (s c : ℕ) (gifts : List (List ℕ × Rel)) (old new : List Event) → All (λ g. Stands w g.1) gifts
     → OnOk r (new ≡ old ++ assigns s c gifts) → OnErr r (new ≡ old) → HistoryStands w old → HistoryStands w new
 stands_after_gifts w (Ok x) s c gifts old new g e d h =
-    subst (HistoryStands w) (sym e) (All-append (EventStands w) old (assigns s c gifts) h (assigns_stand w s c gifts g))
+    subst (HistoryStands w) (sym e) (gifts_stand w s c gifts old g h)
 stands_after_gifts w (Err x) s c gifts old new g e d h = subst (HistoryStands w) (sym d) h
 
 -- relations that stand in a worker stand where that was learnt

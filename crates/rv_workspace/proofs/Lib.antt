@@ -1,3 +1,5 @@
 pub mod Picking
 pub mod Replaying
 pub mod Keeping
+pub mod Noting
+pub mod Changing

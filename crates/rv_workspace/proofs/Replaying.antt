@@ -11,7 +11,7 @@ use Rattle.run_model.specs.declared.event.Act.{Act}
 use Rattle.run_model.specs.declared.event.Act.TheVariants.{Read, Assign, Remove}
 use Rattle.run_model.specs.Names.{compare, lookup, set, remove}
 use Rattle.run_model.specs.States.{Replay, start}
-use Rattle.run_model.specs.Carried.{Carried, carry_act, carry, carried}
+use Rattle.run_model.specs.Carried.{Carried, carry_act, carry, carried_from, carried}
 use Rattle.run_model.specs.Sessions.{rel_of}
 use Rattle.run_model.proofs.Ordering.{names_laws}
 use Rattle.rv_workspace.specs.Books.{EventStands, HistoryStands, NamesStand}
@@ -24,15 +24,15 @@ carry-append p [] ys = refl
 carry-append p (x ∷ xs) ys = carry-append (carry_act x.session x.command x.act p) xs ys
 
 pub carried-nil : carried [] ≡ []
-unfolding carried
+unfolding carried_from
 carried-nil = refl
 
 pub carried-read : (s c : ℕ) (es : List Event) → carried (es ++ read_of s c ∷ []) ≡ carried es
-unfolding carried
+unfolding carried_from
 carried-read s c es = ap (λ p. p.now) (carry-append start es (read_of s c ∷ []))
 
 pub carried-removal : (s c : ℕ) (name : List ℕ) (es : List Event) → carried (es ++ removal s c name ∷ []) ≡ remove name (carried es)
-unfolding carried
+unfolding carried_from
 carried-removal s c name es = ap (λ p. p.now) (carry-append start es (removal s c name ∷ []))
 
 now-assigns : (s c : ℕ) (gifts : List (List ℕ × Rel)) (p : Replay Rel) → (carry p (assigns s c gifts)).now ≡ set_all gifts p.now
@@ -40,7 +40,7 @@ now-assigns s c [] p = refl
 now-assigns s c (g ∷ gs) p = now-assigns s c gs (carry_act s c (Assign g.0 g.1) p)
 
 pub carried-assigns : (s c : ℕ) (gifts : List (List ℕ × Rel)) (es : List Event) → carried (es ++ assigns s c gifts) ≡ set_all gifts (carried es)
-unfolding carried
+unfolding carried_from
 carried-assigns s c gifts es = ap (λ p. p.now) (carry-append start es (assigns s c gifts)) ∙ now-assigns s c gifts (carry start es)
 
 assigns-push : (s c : ℕ) (gifts : List (List ℕ × Rel)) (gift : List ℕ × Rel) → assigns s c (gifts ++ gift ∷ []) ≡ assigns s c gifts ++ assign_of s c gift ∷ []
@@ -98,5 +98,5 @@ carry_stands w (e ∷ es) p h all =
 
 -- where the relations of a history stand, so do those of the names that it leaves
 pub names_stand : (w : Worker) (es : List Event) → HistoryStands w es → NamesStand w (carried es)
-unfolding carried
+unfolding carried_from
 names_stand w es h = carry_stands w es start h (λ n r e. absurd (no_rel r e))

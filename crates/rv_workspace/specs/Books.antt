@@ -1,11 +1,12 @@
 -- What a book holds.
-use Rattle.std.specs.Prelude.{◌≡◌, ℕ, List, Some, All}
+use Rattle.std.specs.Prelude.{◌≡◌, ℕ, List, [], Some, All}
 use Rattle.std.specs.List.{AllByRecursion}
 use Rattle.rel_model.specs.declared.Rel.{Rel}
 use Rattle.rel_model.specs.Worker.{Worker, Stands}
 use Rattle.run_model.specs.declared.event.Event.{Event}
 use Rattle.run_model.specs.Names.{lookup}
 use Rattle.run_model.specs.Carried.{Carried, carried}
+use Rattle.run_model.specs.Versions.{Versions, versions_after}
 use Rattle.run_model.specs.Sessions.{rel_of}
 
 -- the relation of an event stands in a worker, where it carries one
@@ -24,6 +25,11 @@ NamesStand w names = (name : List ℕ) (r : Rel) → lookup names name ≡ Some 
 abbrev pub StandAlike : Worker → Worker → Carried → Type 0
 StandAlike archive w names =
     (name : List ℕ) (r : Rel) → lookup names name ≡ Some r → Stands w r × (w.relation r ≡ archive.relation r)
+
+-- names and versions are those that a history leaves
+pub record AreLeft (names : Carried) (versions : Versions) (history : List Event) : Type 0 where
+  pub names_left : names ≡ carried history
+  pub versions_left : versions ≡ versions_after [] history
 
 -- a book: what happened to its names, and the worker that keeps their relations
 pub record Held (E : Type 0) : Type 0 where

@@ -1,3 +1,4 @@
 pub mod Books
 pub mod Entering
+pub mod Committing
 pub mod Picking

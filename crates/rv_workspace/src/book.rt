@@ -6,19 +6,23 @@ ghost use Rattle.rel_model.specs.Seats.{Kin, Learns};
 ghost use Rattle.run_model.specs.Names.{lookup, set};
 ghost use Rattle.rv_workspace.specs.Books.{Held, IsBook, StandAlike, names_of};
 ghost use Rattle.rv_workspace.specs.Entering.{read_of, assign_of, assigns, dropped, drop_entries, IsDropAnswer};
+ghost use Rattle.run_model.specs.Versions.{version};
+ghost use Rattle.rv_workspace.specs.Committing.{change_since, committed, commit_entries, IsCommitAnswer};
 ghost use Rattle.name_map.specs.Giving.{set_all};
 ghost use Rattle.rv_workspace.specs.Picking.{picked};
 
+use crate::committing::commit_all;
 use crate::dropping::drop_one;
 use crate::giving::{give_all, give_one};
 use crate::reading::{View, take_view};
-use crate::refused::DropRefused;
+use crate::refused::{CommitRefused, DropRefused};
 use lang_model::syntax::Name;
 use name_map::NameMap;
 use rel_model::exchange::exchange;
 use rel_model::seated_trait::Seated;
 use rel_model::{NoMemory, Rel};
 use run_model::event::Event;
+use rv_blocks::Versions;
 use std::alloc::Global;
 use std::marker::Model;
 
@@ -27,19 +31,18 @@ use std::marker::Model;
 pub struct Book<E: Seated> {
     archive: E,
     names: NameMap<Rel>,
+    versions: Versions,
     history: Vec<Event>,
 }
 
 impl<E: Seated> Model for Book<E> {
-    ghost use Rattle.std.specs.Prelude.{◌≡◌};
-    ghost use Rattle.run_model.specs.Carried.{carried};
-    ghost use Rattle.rv_workspace.specs.Books.{Held, IsBook};
+    ghost use Rattle.rv_workspace.specs.Books.{AreLeft, Held, IsBook};
 
     ghost Value = { Held E };
 
     ghost view = { λ b. record { history = b.history.items; archive = b.archive } };
 
-    ghost invariant = { λ b. (b.names ≡ carried b.history.items)
+    ghost invariant = { λ b. AreLeft b.names b.versions b.history.items
         × IsBook E.worker (record { history = b.history.items; archive = b.archive }) };
 }
 
@@ -53,6 +56,7 @@ impl<E: Seated> Book<E> {
         Book {
             archive,
             names: NameMap::new(alloc),
+            versions: Versions::new(alloc),
             history: Vec::new(alloc),
         }
     }
@@ -122,6 +126,7 @@ impl<E: Seated> Book<E> {
         exchange(mine, &mut self.archive);
         give_all(
             &mut self.names,
+            &mut self.versions,
             &mut self.history,
             alloc,
             session,
@@ -154,12 +159,55 @@ impl<E: Seated> Book<E> {
         exchange(mine, &mut self.archive);
         give_one(
             &mut self.names,
+            &mut self.versions,
             &mut self.history,
             alloc,
             session,
             command,
             name,
             rel,
+        )
+    }
+
+    /// The version of a name: how often it was assigned or dropped. It takes no memory.
+    pub fn version(&self, name: &Name) -> u64
+        ensures { result ≡ version name.now self.now.history }
+    {
+        self.versions.of(name)
+    }
+
+    /// Makes the assignments of a block, as `assign_all` does, where each name that the block read has still the version
+    /// that it had then. Else the first that has another is told, with both versions, and a read is entered. Versions
+    /// are compared, and never relations.
+    pub fn commit(
+        &mut self,
+        alloc: Global,
+        session: u32,
+        command: u32,
+        reads: &[(Name, u64)],
+        list: Vec<(Name, Rel)>,
+        mine: &mut E,
+    ) -> Result<(), CommitRefused>
+        requires kin { Kin (E.worker mine.old) (E.worker self.old.archive) }
+        requires stand { All (λ gift. Stands (E.worker mine.old) gift.1) list.items }
+        ensures answer { IsCommitAnswer (change_since reads.now self.old.history) result }
+        ensures names { names_of self.new ≡ committed list.items result (names_of self.old) }
+        ensures entered { self.new.history
+            ≡ self.old.history ++ commit_entries session command list.items result }
+        ensures archive { Learns (E.worker self.old.archive) (E.worker mine.old) (E.worker self.new.archive) }
+        ensures mine { Learns (E.worker mine.old) (E.worker self.old.archive) (E.worker mine.new) }
+    {
+        let _ = &self.archive;
+        exchange(mine, &mut self.archive);
+        commit_all(
+            &mut self.names,
+            &mut self.versions,
+            &mut self.history,
+            alloc,
+            session,
+            command,
+            reads,
+            list,
         )
     }
 
@@ -180,6 +228,7 @@ impl<E: Seated> Book<E> {
         let _ = &self.archive;
         drop_one(
             &mut self.names,
+            &mut self.versions,
             &mut self.history,
             alloc,
             session,
@@ -205,6 +254,7 @@ impl<E: Seated> Book<E> {
         let Book {
             archive,
             names: _,
+            versions: _,
             history,
         } = self;
         (archive, history)

@@ -1,13 +1,27 @@
 //! Names that get relations, all or none.
-ghost use Rattle.std.specs.Prelude.{◌≡◌, ◌≤◌, ◌+◌, ◌∷◌, ◌++◌, [], OnOk, OnErr, vec_len, vec_capacity};
+ghost use Rattle.std.specs.Prelude.{◌≡◌, ◌≤◌, ◌+◌, ◌∷◌, ◌++◌, [], IfOk, OnOk, OnErr, vec_len, vec_capacity};
 ghost use Rattle.name_map.specs.Giving.{set_all};
+ghost use Rattle.run_model.specs.Names.{names_of};
+ghost use Rattle.run_model.specs.Versions.{versions_after};
 ghost use Rattle.rv_workspace.specs.Entering.{assigns};
 
 use lang_model::syntax::Name;
-use name_map::{NameMap, put_all};
+use name_map::{NameMap, put_all, take_back};
 use rel_model::{NoMemory, Rel};
 use run_model::event::{Act, Event};
+use rv_blocks::Versions;
 use std::alloc::Global;
+
+/// The names of a list, copied.
+fn names_given(alloc: Global, list: &[(Name, Rel)]) -> Result<Vec<Name>, NoMemory>
+    ensures { IfOk result (λ v. v.items ≡ names_of list.now) }
+{
+    let mut given = Vec::with_capacity(alloc, list.len())?;
+    'list: for gift in list {
+        given.push(gift.0.copied(alloc)?)?;
+    }
+    Ok(given)
+}
 
 /// Enters an assignment for each place of the list. It takes no memory.
 fn enter_all(history: &mut Vec<Event>, session: u32, command: u32, list: Vec<(Name, Rel)>)
@@ -24,29 +38,44 @@ fn enter_all(history: &mut Vec<Event>, session: u32, command: u32, list: Vec<(Na
     }
 }
 
-/// All names of the list get their relations, and the history an assignment for each place, or neither changes.
+/// All names of the list get their relations, each one version more for each place, and the history an assignment for
+/// each place, or nothing changes.
 pub(crate) fn give_all(
     names: &mut NameMap<Rel>,
+    versions: &mut Versions,
     history: &mut Vec<Event>,
     alloc: Global,
     session: u32,
     command: u32,
     list: Vec<(Name, Rel)>,
 ) -> Result<(), NoMemory>
+    requires counted { versions.old ≡ versions_after [] history.old.items }
     ensures value { OnOk result (names.new ≡ set_all list.items names.old) }
+    ensures versions { versions.new ≡ versions_after [] history.new.items }
     ensures entered { OnOk result (history.new.items ≡ history.old.items ++ assigns session command list.items) }
     ensures err { OnErr result (names.new ≡ names.old) }
     ensures err_history { OnErr result (history.new.items ≡ history.old.items) }
 {
+    names.in_order();
     history.reserve(list.len())?;
-    put_all(names, alloc, list.as_slice())?;
-    enter_all(history, session, command, list);
-    Ok(())
+    let given = names_given(alloc, list.as_slice())?;
+    let journal = put_all(names, alloc, list.as_slice())?;
+    match versions.note_all(alloc, given.as_slice()) {
+        Ok(()) => {
+            enter_all(history, session, command, list);
+            Ok(())
+        }
+        Err(NoMemory) => {
+            take_back(names, journal);
+            Err(NoMemory)
+        }
+    }
 }
 
-/// One name gets its relation, and the history its assignment, or neither changes.
+/// One name gets its relation and one version more, and the history its assignment, or nothing changes.
 pub(crate) fn give_one(
     names: &mut NameMap<Rel>,
+    versions: &mut Versions,
     history: &mut Vec<Event>,
     alloc: Global,
     session: u32,
@@ -54,7 +83,9 @@ pub(crate) fn give_one(
     name: Name,
     rel: Rel,
 ) -> Result<(), NoMemory>
+    requires counted { versions.old ≡ versions_after [] history.old.items }
     ensures value { OnOk result (names.new ≡ set_all ((name, rel) ∷ []) names.old) }
+    ensures versions { versions.new ≡ versions_after [] history.new.items }
     ensures entered { OnOk result (history.new.items ≡ history.old.items
         ++ assigns session command ((name, rel) ∷ [])) }
     ensures err { OnErr result (names.new ≡ names.old) }
@@ -62,5 +93,5 @@ pub(crate) fn give_one(
 {
     let mut list = Vec::with_capacity(alloc, 1)?;
     list.push_reserved((name, rel));
-    give_all(names, history, alloc, session, command, list)
+    give_all(names, versions, history, alloc, session, command, list)
 }

@@ -2,6 +2,7 @@
 #![tactic(auto)]
 
 mod book;
+mod committing;
 mod dropping;
 mod giving;
 mod kept;
@@ -10,4 +11,4 @@ mod refused;
 
 pub use book::Book;
 pub use reading::View;
-pub use refused::DropRefused;
+pub use refused::{CommitRefused, DropRefused};

@@ -17,7 +17,10 @@ invariant_of-self g c =
     let new = t.new.history.items in
     let i = c.self.invariant in
     let l = c.exchange.ensures.other in (
-      in_step_after_gifts t.result s k gifts c.self.inside.names t.new.names old new i.0 t.ensures.value t.ensures.err t.ensures.entered t.ensures.err_history,
+      record {
+        names_left = in_step_after_gifts t.result s k gifts c.self.inside.names t.new.names old new i.0.names_left t.ensures.value t.ensures.err t.ensures.entered t.ensures.err_history;
+        versions_left = t.ensures.versions;
+      },
       record {
         stand = stands_after_gifts (w c.exchange.new.other) t.result s k gifts old new
             (gifts_learnt (w c.args.mine.now) (w c.exchange.new.other) gifts l.other_holds c.requires.stand) t.ensures.entered t.ensures.err_history

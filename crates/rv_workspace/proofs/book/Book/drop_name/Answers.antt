@@ -11,7 +11,10 @@ invariant_of-self g c =
     let old = c.self.inside.history.items in
     let new = c.drop_one.new.history.items in
     let i = c.self.invariant in (
-      c.drop_one.ensures.value ∙ ap (dropped n r) i.0 ∙ sym (names_after_drop r c.args.session c.args.command n old new c.drop_one.ensures.entered),
+      record {
+        names_left = c.drop_one.ensures.value ∙ ap (dropped n r) i.0.names_left ∙ sym (names_after_drop r c.args.session c.args.command n old new c.drop_one.ensures.entered);
+        versions_left = c.drop_one.ensures.versions;
+      },
       record {
         stand = stands_after_drop (g.E.Core.worker c.self.inside.archive) r c.args.session c.args.command n old new c.drop_one.ensures.entered i.1.stand;
         spare = i.1.spare;

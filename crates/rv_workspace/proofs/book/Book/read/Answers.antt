@@ -5,6 +5,7 @@ use Rattle.run_model.specs.Carried.{Carried}
 use Rattle.rv_workspace.specs.Books.{names_of}
 use Rattle.rv_workspace.specs.Picking.{picked}
 use Rattle.rv_workspace.proofs.Keeping.{names_after_read, stands_after_read, view_stands, archive_stands}
+use Rattle.rv_workspace.proofs.Noting.{versions_after_read}
 use Rattle.rv_workspace.proofs.book.Book.read.Goals as goal
 
 pub invariant_of-self : goal.invariant_of-self
@@ -14,7 +15,10 @@ invariant_of-self g c =
     let old = c.self.inside.history.items in
     let i = c.self.invariant in
     let l = c.exchange.ensures.other in (
-      i.0 ∙ sym (names_after_read t.result c.args.session c.args.command old t.new.history.items t.ensures.entered t.ensures.err),
+      record {
+        names_left = i.0.names_left ∙ sym (names_after_read t.result c.args.session c.args.command old t.new.history.items t.ensures.entered t.ensures.err);
+        versions_left = i.0.versions_left ∙ sym (versions_after_read t.result c.args.session c.args.command old t.new.history.items t.ensures.entered t.ensures.err);
+      },
       record {
         stand = stands_after_read (w c.exchange.new.other) t.result c.args.session c.args.command old t.new.history.items t.ensures.entered t.ensures.err
             (archive_stands (w c.self.inside.archive) (w c.args.mine.now) (w c.exchange.new.other) old l i.1.stand);
@@ -26,13 +30,13 @@ invariant_of-self g c =
 pub returns-clause-names : goal.returns-clause-names
 returns-clause-names g c =
     subst (λ (n : Carried). IfOk c.take_view.result (λ v. v.names.items ≡ picked (option_map (λ x. x.now) c.args.wanted) n))
-    (c.self.invariant.0 ∙ ap names_of c.self.view_is) c.take_view.ensures.value
+    (c.self.invariant.0.names_left ∙ ap names_of c.self.view_is) c.take_view.ensures.value
 
 pub returns-clause-stand : goal.returns-clause-stand
 returns-clause-stand g c =
     let w = g.E.Core.worker in
     view_stands w c.args.self.now c.self.inside.archive (w c.exchange.new.mine) c.self.inside.history.items c.take_view.result c.self.inside.names (option_map (λ x. x.now) c.args.wanted)
-    c.self.view_is c.self.invariant.0 c.self.invariant.1.stand c.exchange.ensures.mine.other_holds c.take_view.ensures.value
+    c.self.view_is c.self.invariant.0.names_left c.self.invariant.1.stand c.exchange.ensures.mine.other_holds c.take_view.ensures.value
 
 pub returns-clause-same_names : goal.returns-clause-same_names
 returns-clause-same_names g c =
