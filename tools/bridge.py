@@ -36,7 +36,7 @@ SCRIPT_LIMIT = 2**20
 LINE = 100
 KEYWORDS = (
     "REL LET PRINT LIST COUNT TYPE DROP SNAP AT LOAD SAVE DECL PROD SUM BEG END RETURN WHILE DO OD IF THEN ELSE FI "
-    "EXPLAIN L O I Ln1 On1 L1n O1n dom ran trans refl epsi point atom init next inj empty unival "
+    "ATOMIC COMMIT EXPLAIN L O I Ln1 On1 L1n O1n dom ran trans refl epsi point atom init next inj empty unival "
     "less hasse quot syq eq incl ubd lbd least greatest sup inf"
 ).split()
 

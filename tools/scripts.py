@@ -143,6 +143,11 @@ class Checker:
         if kind == "LET":
             items.next(), items.next()
             items.expression(names)
+        elif kind == "ATOMIC":
+            while items.passes("LET"):
+                items.next(), items.next()
+                items.expression(names)
+                items.passes(";")
         elif kind == "AT":
             items.next(), items.next()
             items.expression(names)
