@@ -56,7 +56,7 @@ closed_bracket at rest end t = record { no_call = ap (begins 40) t; dropped = λ
 pub closed_stop : (at : Place) (rest end : List Token) → TakesAt at (Sign 46) rest end → Closed rest
 closed_stop at rest end t = record { no_call = ap (begins 40) t; dropped = λ e d behind. rw t refl }
 
-closed_semicolon : (at : Place) (rest end : List Token) → TakesAt at (Sign 59) rest end → Closed rest
+pub closed_semicolon : (at : Place) (rest end : List Token) → TakesAt at (Sign 59) rest end → Closed rest
 closed_semicolon at rest end t = record { no_call = ap (begins 40) t; dropped = λ e d behind. rw t refl }
 
 -- ---- expressions

@@ -6,5 +6,6 @@ pub mod Stmts
 pub mod RowSteps
 pub mod Defs
 pub mod Fitting
+pub mod Blocks
 pub mod Scripting
 pub mod Parsing

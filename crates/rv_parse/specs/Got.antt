@@ -1,7 +1,7 @@
 -- What a reader of a part of the grammar answers, and the parts of statements, definitions and commands.
 use Rattle.std.specs.Prelude.{◌≡◌, ◌≤◌, ◌++◌, ◌⊎◌, ℕ, List, [], ◌∷◌, length, suc, Some}
 use Rattle.lang_model.specs.Limits.{more_limit}
-use Rattle.lang_model.specs.declared.token.Keyword.TheVariants.{Beg as BEG, End as END, Return as RETURN, Do as DO, Od as OD, Then as THEN, Else as ELSE, Fi as FI}
+use Rattle.lang_model.specs.declared.token.Keyword.TheVariants.{Beg as BEG, End as END, Return as RETURN, Do as DO, Od as OD, Then as THEN, Else as ELSE, Fi as FI, Let as LET, Commit as COMMIT}
 use Rattle.lang_model.specs.declared.syntax.Expr.{Expr}
 use Rattle.lang_model.specs.declared.syntax.Stmt.{Stmt}
 use Rattle.lang_model.specs.declared.token.Kind.TheVariants.{Keyword as KEYWORD}
@@ -9,7 +9,7 @@ use Rattle.lang_model.specs.declared.token.Token.{Token}
 use Rattle.lang_model.specs.Taken.{Takes}
 use Rattle.lang_model.specs.Lexed.{Ending}
 use Rattle.lang_model.specs.Spelling.{OrLevel, Spelled, SpelledStmts}
-use Rattle.lang_model.specs.Stop.{Part, NamePart, NumberPart, SignPart, WordPart, ExprPart, StmtsPart, ElsePart, RowsPart, ItemsPart, MoreParams, BodyPart, MeaningPart, MoreDecls, program_parts, stop_of}
+use Rattle.lang_model.specs.Stop.{Part, NamePart, NumberPart, SignPart, WordPart, ExprPart, StmtsPart, ElsePart, RowsPart, ItemsPart, MoreParams, BodyPart, MeaningPart, MoreDecls, program_parts, let_parts, stop_of}
 use Rattle.rv_parse.specs.Halts.{fault_of}
 use Rattle.rv_parse.specs.Readers.{Reads}
 use Rattle.rv_parse.specs.declared.halt.Halt.{Halt}
@@ -68,3 +68,7 @@ SpellsTail body result tokens rest = (t1 t2 t3 : List Token) × SpelledStmts 0 b
 -- a program with declarations behind DECL
 abbrev pub declared_parts : List Part
 declared_parts = NamePart ∷ MeaningPart ∷ MoreDecls ∷ WordPart BEG ∷ program_parts
+
+-- a block behind ATOMIC
+abbrev pub block_parts : List Part
+block_parts = WordPart LET ∷ let_parts ++ WordPart COMMIT ∷ []

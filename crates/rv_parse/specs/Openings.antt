@@ -1,14 +1,14 @@
 -- The keywords that open commands, and what is to come behind them.
 use Rattle.std.specs.Prelude.{◌≡◌, List, [], ◌∷◌}
 use Rattle.lang_model.specs.declared.token.Keyword.{Keyword}
-use Rattle.lang_model.specs.declared.token.Keyword.TheVariants.{Rel as REL, Let as LET, Print as PRINT, List as LIST, Count as COUNT, «Type» as TYPE, Drop as DROP, Snap as SNAP, At as AT, Load as LOAD, Save as SAVE, Explain as EXPLAIN}
+use Rattle.lang_model.specs.declared.token.Keyword.TheVariants.{Rel as REL, Let as LET, Print as PRINT, List as LIST, Count as COUNT, «Type» as TYPE, Drop as DROP, Snap as SNAP, At as AT, Load as LOAD, Save as SAVE, Atomic as ATOMIC, Explain as EXPLAIN}
 use Rattle.lang_model.specs.Spelling.{OrLevel}
 use Rattle.lang_model.specs.Stop.{Part, NamePart, FilePart, SignPart, WordPart, ExprPart, Behind, command_step}
-use Rattle.rv_parse.specs.Got.{relation_parts}
+use Rattle.rv_parse.specs.Got.{relation_parts, block_parts}
 use Rattle.rv_parse.specs.declared.command.Asked.{Asked}
 use Rattle.rv_parse.specs.declared.command.Asked.TheVariants.{Print as PrintIt, List as ListIt, Count as CountIt, «Type» as TypeIt, Explain as ExplainIt}
 use Rattle.rv_parse.specs.declared.command.Opening.{Opening}
-use Rattle.rv_parse.specs.declared.command.Opening.TheVariants.{Relation, Let, Print, List as ListOf, Count, «Type» as TypeOf, Drop, Snap, At, Load, Save, Explain}
+use Rattle.rv_parse.specs.declared.command.Opening.TheVariants.{Relation, Let, Print, List as ListOf, Count, «Type» as TypeOf, Drop, Snap, At, Load, Save, Atomic, Explain}
 
 -- the keyword
 abbrev pub opening_word : Opening → Keyword
@@ -23,6 +23,7 @@ opening_word Snap = SNAP
 opening_word At = AT
 opening_word Load = LOAD
 opening_word Save = SAVE
+opening_word Atomic = ATOMIC
 opening_word Explain = EXPLAIN
 
 -- the parts behind it
@@ -38,6 +39,7 @@ opening_parts Snap = NamePart ∷ []
 opening_parts At = NamePart ∷ WordPart PRINT ∷ ExprPart OrLevel 0 ∷ []
 opening_parts Load = NamePart ∷ FilePart ∷ []
 opening_parts Save = ExprPart OrLevel 0 ∷ FilePart ∷ []
+opening_parts Atomic = block_parts
 opening_parts Explain = ExprPart OrLevel 0 ∷ []
 
 -- the keyword that asks this

@@ -11,6 +11,7 @@ ghost use Rattle.rv_parse.specs.Got.{Got};
 ghost use Rattle.rv_parse.specs.Openings.{Opens, opening_word, opening_parts, asked_word};
 ghost use Rattle.rv_parse.specs.declared.command.Opening.TheVariants.{Let as LET, Drop as DROP, Snap as SNAP, At as AT, Load as LOAD, Save as SAVE};
 
+use crate::block::block;
 use crate::expr::expression;
 use crate::halt::Halt;
 use crate::leaf::{next_file, next_name, next_sign, next_word};
@@ -34,6 +35,7 @@ pub enum Opening {
     At,
     Load,
     Save,
+    Atomic,
     Explain,
 }
 
@@ -53,6 +55,7 @@ pub fn opening_of(keyword: Keyword) -> Option<Opening>
         Keyword::At => Some(Opening::At),
         Keyword::Load => Some(Opening::Load),
         Keyword::Save => Some(Opening::Save),
+        Keyword::Atomic => Some(Opening::Atomic),
         Keyword::Explain => Some(Opening::Explain),
         _ => None,
     }
@@ -196,6 +199,7 @@ pub fn command(
         Opening::At => look(alloc, tokens, end),
         Opening::Load => loading(alloc, tokens, end),
         Opening::Save => saving(alloc, tokens, end),
+        Opening::Atomic => block(alloc, tokens, end),
         Opening::Explain => asked_value(alloc, Asked::Explain, tokens, end),
     }
 }

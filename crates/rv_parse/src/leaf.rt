@@ -111,7 +111,9 @@ fn number_of(keyword: Keyword) -> u8
         Keyword::Then => 21,
         Keyword::Else => 22,
         Keyword::Fi => 23,
-        Keyword::Explain => 24,
+        Keyword::Atomic => 24,
+        Keyword::Commit => 25,
+        Keyword::Explain => 26,
     }
 }
 

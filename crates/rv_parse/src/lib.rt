@@ -1,6 +1,7 @@
 //! Reads scripts: the tree that the tokens of a text spell.
 #![tactic(auto)]
 
+mod block;
 mod command;
 mod def;
 mod expr;

@@ -8,4 +8,5 @@ pub mod Apart
 pub mod Unambiguous
 pub mod Plain
 pub mod OneStmt
+pub mod OneBlock
 pub mod OneScript

@@ -11,11 +11,11 @@ use Rattle.lang_model.specs.declared.syntax.Expr.{Expr}
 use Rattle.lang_model.specs.declared.syntax.Decl.{Decl}
 use Rattle.lang_model.specs.declared.syntax.Decl.TheVariants.{Variable, Domain}
 use Rattle.lang_model.specs.declared.syntax.Command.{Command}
-use Rattle.lang_model.specs.declared.syntax.Command.TheVariants.{Relation, Let, Print, List as ListOf, Count, Typed, Remove, Snap, At, Load, Save, Explain}
+use Rattle.lang_model.specs.declared.syntax.Command.TheVariants.{Relation, Let, Print, List as ListOf, Count, Typed, Remove, Snap, At, Load, Save, Atomic, Explain}
 use Rattle.lang_model.specs.declared.syntax.Item.{Item}
 use Rattle.lang_model.specs.declared.syntax.Item.TheVariants.{Function, Program, Command as COMMAND}
 use Rattle.lang_model.specs.declared.token.Keyword.{Keyword}
-use Rattle.lang_model.specs.declared.token.Keyword.TheVariants.{Rel as REL, Let as LET, Print as PRINT, List as LIST, Count as COUNT, «Type» as TYPE, Drop as DROP, Snap as SNAP, At as AT, Load as LOAD, Save as SAVE, Explain as EXPLAIN, Beg as BEG}
+use Rattle.lang_model.specs.declared.token.Keyword.TheVariants.{Rel as REL, Let as LET, Print as PRINT, List as LIST, Count as COUNT, «Type» as TYPE, Drop as DROP, Snap as SNAP, At as AT, Load as LOAD, Save as SAVE, Atomic as ATOMIC, Explain as EXPLAIN, Beg as BEG}
 use Rattle.lang_model.specs.declared.token.Kind.{Kind}
 use Rattle.lang_model.specs.declared.token.Kind.TheVariants.{Keyword as KEYWORD, Word, Number, File, Sign}
 use Rattle.lang_model.specs.declared.token.Token.{Token}
@@ -23,10 +23,11 @@ use Rattle.lang_model.specs.Taken.{TakesAt}
 use Rattle.lang_model.specs.Spelling.{OrLevel, SpellsMoreColumns, SpellsColumns, SpellsRow, SpellsMoreRows, SpellsRows, SpellsMoreNames, SpellsParams, domain_word, SpellsDecl, SpellsMoreDecls, SpellsDecls, SpellsHead, SpellsNamed, SpellsValued, SpellsCommand, SpellsItem, SpellsItems}
 use Rattle.rv_spell.specs.Again.{Ends}
 use Rattle.rv_parse.specs.Readers.{begins}
-use Rattle.rv_spell.specs.Plain.{row_tree, RelationTree, LetTree, PrintTree, ListTree, CountTree, TypedTree, RemoveTree, SnapTree, AtTree, LoadTree, SaveTree, ExplainTree, command_tree, FunctionTree, ProgramTree, CommandItem, item_tree, OneScript}
+use Rattle.rv_spell.specs.Plain.{row_tree, RelationTree, LetTree, PrintTree, ListTree, CountTree, TypedTree, RemoveTree, SnapTree, AtTree, LoadTree, SaveTree, AtomicTree, ExplainTree, command_tree, FunctionTree, ProgramTree, CommandItem, item_tree, OneScript}
 use Rattle.rv_spell.proofs.Apart.{one_kind, one_place, one_rest, one_word, ends_stop}
 use Rattle.rv_spell.proofs.Unambiguous.{Agrees, agree}
 use Rattle.rv_spell.proofs.OneStmt.{code_of, differ, ends_keyword, closing, agree_stmts}
+use Rattle.rv_spell.proofs.OneBlock.{agree_lets}
 
 one_number : (v w : ℕ) → Number v ≡ Number w → v ≡ w
 one_number v w e = cc
@@ -190,6 +191,7 @@ keyword_of (Snap name) = SNAP
 keyword_of (At at name value) = AT
 keyword_of (Load name file) = LOAD
 keyword_of (Save value file) = SAVE
+keyword_of (Atomic lets) = ATOMIC
 keyword_of (Explain value) = EXPLAIN
 
 -- it comes first
@@ -205,6 +207,7 @@ command_first (Snap name) tokens rest s = (s.1.0, s.0, s.1.1)
 command_first (At at name value) tokens rest s = (s.2.0, s.0, s.2.1)
 command_first (Load name file) tokens rest s = (s.1.1.0, s.1.0, s.1.1.1)
 command_first (Save value file) tokens rest s = (s.1.1.0, s.1.0, s.1.1.1)
+command_first (Atomic lets) tokens rest s = (s.2.0, s.0, s.2.1)
 command_first (Explain value) tokens rest s = (s.1.0, s.0, s.1.1)
 
 agree_command : (c e : Command) (tokens others rest behind : List Token) → SpellsCommand c tokens rest → SpellsCommand e others behind → tokens ≡ others → Ends OrLevel rest → Ends OrLevel behind → (command_tree c ≡ command_tree e) × (rest ≡ behind)
@@ -236,6 +239,9 @@ agree_command (Load name file) (Load name' file') tokens others rest behind s u 
 agree_command (Save value file) (Save value' file') tokens others rest behind s u q h h' =
     let a = agree_valued (KEYWORD SAVE) (KEYWORD SAVE) value value' tokens others s.0 u.0 s.1 u.1 q (ends_file s.2.1) (ends_file u.2.1) in
     ((λ i. SaveTree (a.same i) (one_file file file' (one_kind s.2.1 u.2.1 a.left) i)), one_rest s.2.1 u.2.1 a.left)
+agree_command (Atomic lets) (Atomic lets') tokens others rest behind s u q h h' =
+    let a = agree_lets s.3 u.3 (one_rest s.2.1 u.2.1 q) s.4.1 u.4.1 in
+    (ap AtomicTree a.same, one_rest s.4.1 u.4.1 a.left)
 agree_command (Explain value) (Explain value') tokens others rest behind s u q h h' = let a = agree_valued (KEYWORD EXPLAIN) (KEYWORD EXPLAIN) value value' tokens others rest behind s u q h h' in (ap ExplainTree a.same, a.left)
 agree_command c e tokens others rest behind s u q h h' = absurd (differ (command_first c tokens rest s).2 (command_first e others behind u).2 q refl)
 

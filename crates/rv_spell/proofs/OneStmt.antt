@@ -25,11 +25,11 @@ use Rattle.rv_spell.proofs.Unambiguous.{agree}
 -- a number that tells the keywords and the other kinds of tokens apart, and the signs among themselves
 abbrev pub code_of : Kind → ℕ
 code_of (KEYWORD word) = number_of word
-code_of (Word name) = 24
-code_of (Number n) = 25
-code_of (File text) = 26
-code_of (BASE base) = 27
-code_of (Sign s) = 28 + s
+code_of (Word name) = 27
+code_of (Number n) = 28
+code_of (File text) = 29
+code_of (BASE base) = 30
+code_of (Sign s) = 31 + s
 
 -- the same tokens word not begin with two kinds
 pub differ : {at at' : Place} {kind kind' : Kind} {ts ts' rest rest' : List Token} → TakesAt at kind ts rest → TakesAt at' kind' ts' rest' → ts ≡ ts' → (code_of kind == code_of kind') ≡ false → ⊥

@@ -6,8 +6,9 @@ use Rattle.lang_model.specs.declared.syntax.Column.{Column}
 use Rattle.lang_model.specs.declared.syntax.Row.{Row}
 use Rattle.lang_model.specs.declared.syntax.Decl.{Decl}
 use Rattle.lang_model.specs.declared.syntax.Stmt.{Stmt, Set, While', If', Row_of-Stmt, end_of-Stmt, more_of-Stmt}
+use Rattle.lang_model.specs.declared.syntax.Let.{Let as LetOf}
 use Rattle.lang_model.specs.declared.syntax.Command.{Command}
-use Rattle.lang_model.specs.declared.syntax.Command.TheVariants.{Relation, Let, Print, List as ListOf, Count, Typed, Remove, Snap, At, Load, Save, Explain}
+use Rattle.lang_model.specs.declared.syntax.Command.TheVariants.{Relation, Let, Print, List as ListOf, Count, Typed, Remove, Snap, At, Load, Save, Atomic, Explain}
 use Rattle.lang_model.specs.declared.syntax.Item.{Item}
 use Rattle.lang_model.specs.declared.syntax.Item.TheVariants.{Function, Program, Command as COMMAND}
 use Rattle.lang_model.specs.declared.syntax.Script.{Script}
@@ -57,6 +58,17 @@ abbrev pub stmts_in : List Stmt → StmtTrees
 stmts_in [] = NoStmt
 stmts_in (s ∷ ss) = MoreStmts (stmt_tree s) (stmts_in ss)
 
+-- ---- blocks
+-- an assignment of a block: the place of its name, the name and its expression
+pub record LetTreeOf : Type 0 where
+  pub at : Place
+  pub name : List ℕ
+  pub value : Tree
+
+-- the tree of an assignment of a block
+abbrev pub let_tree : LetOf → LetTreeOf
+let_tree l = record { at = l.at; name = l.name; value = tree_of l.value }
+
 -- ---- scripts
 -- a command
 pub data CommandTree : Type 0 where
@@ -71,6 +83,7 @@ pub data CommandTree : Type 0 where
   AtTree : Place → List ℕ → Tree → CommandTree
   LoadTree : List ℕ → List ℕ → CommandTree
   SaveTree : Tree → List ℕ → CommandTree
+  AtomicTree : List LetTreeOf → CommandTree
   ExplainTree : Tree → CommandTree
 
 -- the tree of a command
@@ -87,6 +100,7 @@ command_tree (Snap name) = SnapTree name
 command_tree (At at name value) = AtTree at name (tree_of value)
 command_tree (Load name file) = LoadTree name file
 command_tree (Save value file) = SaveTree (tree_of value) file
+command_tree (Atomic lets) = AtomicTree (map let_tree lets.items)
 command_tree (Explain value) = ExplainTree (tree_of value)
 
 -- an item: a function, a program or a command

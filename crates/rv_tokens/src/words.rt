@@ -15,7 +15,7 @@ pub enum Reserved {
     Base(Base),
 }
 
-const KEYWORDS: [(&str, Keyword); 25] = [
+const KEYWORDS: [(&str, Keyword); 27] = [
     ("REL", Keyword::Rel),
     ("LET", Keyword::Let),
     ("PRINT", Keyword::Print),
@@ -40,6 +40,8 @@ const KEYWORDS: [(&str, Keyword); 25] = [
     ("THEN", Keyword::Then),
     ("ELSE", Keyword::Else),
     ("FI", Keyword::Fi),
+    ("ATOMIC", Keyword::Atomic),
+    ("COMMIT", Keyword::Commit),
     ("EXPLAIN", Keyword::Explain),
 ];
 

@@ -1,23 +1,23 @@
 -- The faults of an item as the walk finds them, and what one more item changes.
 use Rattle.std.proofs.Common.{◌≡◌, ◌<◌, ◌+◌, ◌++◌, ◌∙◌, ℕ, max, nat_lt, cond, List, [], ◌∷◌, length, drop, get_or, Option, Some, None, is_some, refl, sym, ap}
 use Rattle.std.proofs.lemmas.List.{drop_more}
-use Rattle.std.specs.Option.{option_map_or}
 use Rattle.lang_model.specs.declared.syntax.Place.{Place}
 use Rattle.lang_model.specs.declared.syntax.Expr.{Expr}
+use Rattle.lang_model.specs.declared.syntax.Let.{Let as LetOf}
 use Rattle.lang_model.specs.declared.syntax.Item.{Item}
 use Rattle.lang_model.specs.declared.syntax.Item.TheVariants.{Function, Program, Command as COMMAND}
 use Rattle.lang_model.specs.declared.faults.TypeFault.{TypeFault}
 use Rattle.lang_model.specs.declared.faults.TypeFault.TheVariants.{Rank, Twice}
 use Rattle.lang_model.specs.Tokens.{same_text}
-use Rattle.lang_model.specs.Checking.{among, no_name, Known, names_of, Scope, faults, faults_by, assigned_by, parameter_faults, head_faults, decl_faults, function_scope, program_scope, command_scope, rank_of, item_faults, known_with, items_faults}
+use Rattle.lang_model.specs.Checking.{among, no_name, Known, names_of, Scope, faults, faults_by, assigned_by, parameter_faults, head_faults, decl_faults, let_faults, function_scope, program_scope, command_scope, rank_of, item_faults, known_with, items_faults}
 use Rattle.lang_model.specs.Limits.{rank_limit}
 use Rattle.rv_types.specs.Found.{noted}
-use Rattle.rv_types.specs.Items.{value_of_command}
+use Rattle.rv_types.specs.Items.{value_of_command, lets_of_command}
 use Rattle.rv_types.proofs.Walks.{noted-append}
 use Rattle.rv_types.proofs.Naming.{or_known, definition_of-push}
 use Rattle.rv_types.proofs.Agreeing.{SameDefinitions, Agrees, same-faults, same-faults_by, same-called, same-called_by_all}
 use Rattle.rv_types.proofs.Heads.{among-names_of}
-use Rattle.rv_types.proofs.Scoping.{command_faults-value}
+use Rattle.rv_types.proofs.Scoping.{faults_of_parts, command_faults-parts}
 
 pub noted-function : (t : Option TypeFault) (E : List Known) (at : _) (name : _) (params : _) (body : _) (ps : List (List ℕ)) (rank : ℕ) → rank ≡ rank_of E (Function at name params body) → ps ≡ params.items →
     noted (noted t (head_faults E at name ps rank)) (faults (function_scope E ps) no_name body) ≡ noted t (item_faults E (Function at name params body))
@@ -65,6 +65,16 @@ same-head_faults D E h at name params rank =
     let there : among (names_of D) name ≡ among (names_of E) name = among-names_of D name ∙ ap is_some (h name) ∙ sym (among-names_of E name) in
     λ i. cond (nat_lt rank_limit rank) (Rank at name ∷ []) [] ++ (cond (there i) (Twice at name ∷ []) [] ++ parameter_faults at [] params)
 
+same-let_faults : (S T : Scope) → Agrees S T → (lets : List LetOf) → let_faults S lets ≡ let_faults T lets
+same-let_faults S T agree [] = refl
+same-let_faults S T agree (l ∷ ls) = λ i. same-faults S T agree no_name l.value i ++ same-let_faults S T agree ls i
+
+-- one more assignment of a block
+pub noted-let : (S : Scope) (t : Option TypeFault) (ls : List LetOf) (k : ℕ) (l : LetOf) → k < length ls → l ≡ get_or ls k l →
+    noted t (let_faults S (drop k ls)) ≡ noted (noted t (faults S no_name l.value)) (let_faults S (drop (k + 1) ls))
+noted-let S t ls k l h is =
+    ap (λ xs. noted t (let_faults S xs)) (drop_more ls k l h ∙ ap (λ x. x ∷ drop (k + 1) ls) (sym is)) ∙ noted-append t (faults S no_name l.value) (let_faults S (drop (k + 1) ls))
+
 same-item_faults : (D E : List Known) → SameDefinitions D E → (item : Item) → item_faults D item ≡ item_faults E item
 unfolding item_faults
 same-item_faults D E h (Function at name params body) =
@@ -85,11 +95,12 @@ same-item_faults D E h (COMMAND command) =
     let S = command_scope D in
     let T = command_scope E in
     let agree : Agrees S T = record { same_kind = refl; same_parameters = λ n. refl; same_variables = λ n. refl; same_products = λ n. refl; same_sums = λ n. refl; same_earlier = h } in
-    command_faults-value D command ∙ by S T agree (value_of_command command) ∙ sym (command_faults-value E command)
+    command_faults-parts D command ∙ by S T agree (lets_of_command command) (value_of_command command) ∙ sym (command_faults-parts E command)
   where
-    by : (S T : Scope) → Agrees S T → (o : Option Expr) → option_map_or (faults S no_name) o [] ≡ option_map_or (faults T no_name) o []
-    by S T agree None = refl
-    by S T agree (Some e) = same-faults S T agree no_name e
+    by : (S T : Scope) → Agrees S T → (lets : Option (List LetOf)) (o : Option Expr) → faults_of_parts S lets o ≡ faults_of_parts T lets o
+    by S T agree (Some lets) o = same-let_faults S T agree lets
+    by S T agree None None = refl
+    by S T agree None (Some e) = same-faults S T agree no_name e
 
 same-items_faults : (D E : List Known) → SameDefinitions D E → (items : List Item) → items_faults D items ≡ items_faults E items
 same-items_faults D E h [] = refl

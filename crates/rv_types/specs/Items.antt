@@ -2,7 +2,8 @@
 use Rattle.std.specs.Prelude.{◌≤◌, ℕ, max, List, Option, Some, None}
 use Rattle.lang_model.specs.declared.syntax.Expr.{Expr}
 use Rattle.lang_model.specs.declared.syntax.Command.{Command}
-use Rattle.lang_model.specs.declared.syntax.Command.TheVariants.{Let, Print, List as LIST, Count, Typed, At, Save, Explain}
+use Rattle.lang_model.specs.declared.syntax.Command.TheVariants.{Let, Print, List as LIST, Count, Typed, At, Save, Atomic, Explain}
+use Rattle.lang_model.specs.declared.syntax.Let.{Let as LetOf}
 use Rattle.lang_model.specs.declared.syntax.Item.{Item}
 use Rattle.lang_model.specs.declared.syntax.Item.TheVariants.{Function, Program, Command as COMMAND}
 use Rattle.lang_model.specs.Checking.{Known, rank_named, called, called_by_all}
@@ -18,6 +19,11 @@ value_of_command (At at name value) = Some value
 value_of_command (Save value file) = Some value
 value_of_command (Explain value) = Some value
 value_of_command _ = None
+
+-- the assignments of a command that is a block
+abbrev pub lets_of_command : Command → Option (List LetOf)
+lets_of_command (Atomic lets) = Some lets.items
+lets_of_command _ = None
 
 -- the greatest rank among the definitions that an item calls, or 0 where it calls none
 abbrev pub called_by_item : List Known → Item → ℕ

@@ -1,10 +1,10 @@
 //! The faults of an item behind the definitions of earlier ones, and what it defines.
 ghost use Rattle.std.specs.Prelude.{◌≡◌, ◌-◌, ◌^◌, true, false, ℕ, List, IfOk, OnOk, OnErr, option_copied};
-ghost use Rattle.lang_model.specs.Checking.{among, faults_by, assigned_by, called_by_all, rank_of as rank_of_item, item_faults, known_with, definition_of, head_faults, decl_faults, faults, function_scope, program_scope as scope_of_program, no_name, command_faults};
+ghost use Rattle.lang_model.specs.Checking.{among, faults_by, assigned_by, called_by_all, rank_of as rank_of_item, item_faults, known_with, definition_of, head_faults, decl_faults, faults, function_scope, program_scope as scope_of_program, no_name, let_faults, command_faults};
 ghost use Rattle.rv_types.specs.Found.{told, noted as noted_all};
 ghost use Rattle.rv_types.specs.Scopes.{scope_of, scope_behind, with_parameters, OfProgram};
 ghost use Rattle.rv_types.specs.Defining.{is_definition};
-ghost use Rattle.rv_types.specs.Items.{value_of_command, called_by_item, RanksWithin};
+ghost use Rattle.rv_types.specs.Items.{value_of_command, lets_of_command, called_by_item, RanksWithin};
 
 use crate::declarations::{add_domains, add_variables, check_decls};
 use crate::definitions::{Definitions, Summary};
@@ -14,7 +14,7 @@ use crate::head::{Head, check_head};
 use crate::names::Names;
 use crate::scope::Scope;
 use crate::statement::{check_stmts, greatest_called_by};
-use lang_model::syntax::{Command, Decl, Expr, Item, Stmt};
+use lang_model::syntax::{Command, Decl, Expr, Item, Let, Stmt};
 use rel_model::NoMemory;
 use std::alloc::Global;
 
@@ -59,6 +59,16 @@ fn value_of(command: &Command) -> Option<&Expr>
     }
 }
 
+/// The assignments of a command that is a block.
+fn lets_of(command: &Command) -> Option<&[Let]>
+    ensures { option_copied result ≡ lets_of_command command.now }
+{
+    match command {
+        Command::Atomic { lets } => Some(lets.as_slice()),
+        _ => None,
+    }
+}
+
 /// The rank of the definition of an item, or 0 for a command.
 #[tactic(auto, unfolding(lang_model::specs::Checking::rank_of))]
 pub fn rank_of(earlier: &Definitions, item: &Item) -> usize
@@ -82,6 +92,22 @@ fn check_alone<'a>(
 {
     let assigned = Names::new(alloc);
     check_expr(scope, &assigned, expr, so_far)
+}
+
+/// The faults of the expressions of a block in order.
+fn check_lets<'a>(
+    alloc: Global,
+    scope: &Scope<'a, '_>,
+    lets: &'a [Let],
+    so_far: Option<Found<'a>>,
+) -> Option<Found<'a>>
+    ensures { told result ≡ noted_all (told so_far.entry) (let_faults (scope_of scope.now) lets.now) }
+{
+    let mut found = so_far;
+    'lets: for assignment in lets {
+        found = check_alone(alloc, scope, &assignment.value, found);
+    }
+    found
 }
 
 /// The faults of a function's head and of its body, in a scope of no parameter. Afterwards it has the function's.
@@ -182,9 +208,12 @@ fn check_command<'a>(
     requires { scope_of scope.now ≡ scope_behind true scope.now.earlier.now }
     ensures { told result ≡ noted_all (told so_far.entry) (command_faults scope.now.earlier.now command.now) }
 {
-    match value_of(command) {
-        None => so_far,
-        Some(value) => check_alone(alloc, scope, value, so_far),
+    match lets_of(command) {
+        Some(lets) => check_lets(alloc, scope, lets, so_far),
+        None => match value_of(command) {
+            Some(value) => check_alone(alloc, scope, value, so_far),
+            None => so_far,
+        },
     }
 }
 
