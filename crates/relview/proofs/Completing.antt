@@ -1,7 +1,7 @@
 -- A run in which nothing was wanting is complete.
 --
--- 1. An outcome is the due one, or a full table, or out of memory. A full table means full words, and there is a vacant
---    one; memory did not run out.
+-- 1. An outcome is the due one, or a full table, or out of memory, or tells of a block that a name was changed before
+--    its commit. A full table means full words, and there is a vacant one; memory did not run out.
 -- 2. The steps of a session have its outcomes, so what holds of all outcomes holds of those of the steps.
 -- 3. Of the three ways in which a page and its files are told the other two have a count that rose.
 use Rattle.std.proofs.Common.{◌≡◌, ◌≢◌, ◌+◌, ℕ, List, [], ◌∷◌, inl, inr}
@@ -14,7 +14,7 @@ use Rattle.run_model.specs.declared.event.Event.{Event}
 use Rattle.run_model.specs.declared.outcome.Outcome.{Outcome}
 use Rattle.run_model.specs.declared.outcome.Outcome.TheVariants.{Nodes, NoMemory}
 use Rattle.run_model.specs.Inputs.{Input, Reading, NoScript, Flawed, Runs}
-use Rattle.run_model.specs.Due.{Workspace, Due, outcome_due}
+use Rattle.run_model.specs.Due.{Workspace, Due}
 use Rattle.run_model.specs.Outcomes.{IsOutcome}
 use Rattle.run_model.specs.Steps.{Step, Snapshots, steps, steps_from, due_at, snaps_behind}
 use Rattle.run_model.specs.Names.{no_names}
@@ -26,18 +26,20 @@ use Rattle.rv_io.specs.Outside.{Told}
 use Rattle.rv_ends.specs.Writing.{Sunk, IsTold, Told_whole, Unwritten, Unput, HasPut}
 use Rattle.rv_io.specs.Writing.{Grows}
 use Rattle.relview.specs.Top.{outcomes_of, status_of}
-use Rattle.relview.specs.Complete.{HadMemory, CameDue, AllCameDue, NoneFailed, CompleteRuns}
+use Rattle.relview.proofs.OneBatch.{all_filled}
+use Rattle.relview.specs.Complete.{HadMemory, IsDue, CameDue, AllCameDue, NoneFailed, CompleteRuns}
 
 -- ---- one outcome
 -- neither a full table nor out of memory
 abbrev Comes : Outcome → Type 0
 Comes outcome = (outcome ≢ Nodes) × (outcome ≢ NoMemory)
 
--- it is the due one
-is_due : (item : Item) (d : Due) (outcome : Outcome) → Comes outcome → IsOutcome item d outcome → outcome ≡ outcome_due d
-is_due item d outcome comes (inl e) = e
+-- it is the due one, or a change is told
+is_due : (item : Item) (d : Due) (outcome : Outcome) → Comes outcome → IsOutcome item d outcome → IsDue item d outcome
+is_due item d outcome comes (inl e) = inl e
 is_due item d outcome comes (inr (inl n)) = absurd (comes.0 n.0)
-is_due item d outcome comes (inr (inr m)) = absurd (comes.1 m.0)
+is_due item d outcome comes (inr (inr (inl m))) = absurd (comes.1 m.0)
+is_due item d outcome comes (inr (inr (inr c))) = inr c
 
 -- what comes of each outcome of a session, where there is a vacant word and memory
 each_comes : (words : List ℕ) → (IsFull words → ⊥) → (outcomes : List Outcome)
@@ -57,7 +59,7 @@ step_comes state_of c snaps (item ∷ items) (o ∷ os) h =
 
 all_due : (input : Input) (script : Script) (ss : List Step) → AllByRecursion (λ step. Comes step.outcome) ss
     → AllByRecursion (λ step. IsOutcome step.item (due_at input script step) step.outcome) ss
-    → AllByRecursion (λ step. step.outcome ≡ outcome_due (due_at input script step)) ss
+    → AllByRecursion (λ step. IsDue step.item (due_at input script step) step.outcome) ss
 all_due input script [] h k = tt
 all_due input script (s ∷ ss) h k = (is_due s.item (due_at input script s) s.outcome h.0 k.0, all_due input script ss h.1 k.1)
 
@@ -105,7 +107,8 @@ told_whole so sn o n text files whole status none (Unput e written lost) = absur
 pub complete_runs_law : CompleteRuns
 complete_runs_law words so sn o n report run lacked =
     let comes : AllByRecursion (AllByRecursion Comes) (outcomes_of report) =
-    all_come (node_words run.said.nodes report.words.items) lacked.vacant (outcomes_of report) lacked.memory run.holds.full in
+    all_come (node_words run.said.nodes report.words.items) lacked.vacant (outcomes_of report) lacked.memory
+    (all_filled run.input run.given.one_batch report.history.items (node_words run.said.nodes report.words.items) (outcomes_of report) run.legal.sessions run.holds.0.full) in
     let told : ToldWhole so sn o n (page run.input report.history.items (outcomes_of report))
     (saves run.input report.history.items (outcomes_of report)) (status_of (outcomes_of report)) report.status =
     told_whole so sn o n _ _ _ _ lacked.outside run.told in

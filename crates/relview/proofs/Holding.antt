@@ -3,7 +3,7 @@
 --    relations stand in them, with the values that they have in the worker, which are due.
 -- 2. As many nodes are stored as the worker made, which are no more than the commands may cost.
 -- 3. A full table was counted as a miss, and then the seat saw every place taken.
-use Rattle.std.proofs.Common.{◌≡◌, ◌≢◌, ◌<◌, ◌+◌, ◌∙◌, ℕ, Bool, List, [], ◌∷◌, Option, Some, None, refl, sym, ap, subst, arith}
+use Rattle.std.proofs.Common.{◌≡◌, ◌≢◌, ◌<◌, ◌+◌, ◌∙◌, ℕ, Bool, List, [], ◌∷◌, length, take, append-nil, Option, Some, None, refl, sym, ap, subst, arith}
 use Rattle.std.specs.Prelude.{IsSome, unwrap_or}
 use Rattle.std.specs.List.{AllByRecursion}
 use Rattle.std.proofs.lemmas.List.Elements.{All-head, All-tail}
@@ -14,8 +14,10 @@ use Rattle.run_model.specs.declared.event.Event.{Event}
 use Rattle.run_model.specs.declared.outcome.Outcome.{Outcome}
 use Rattle.run_model.specs.Page.{SavedFile}
 use Rattle.run_model.specs.Sessions.{rel_of}
-use Rattle.run_model.specs.States.{gifts_due}
-use Rattle.run_model.specs.Stored.{HoldsRun, FillsWhereFull, AreInWords}
+use Rattle.run_model.specs.Inputs.{Input, batch_of}
+use Rattle.run_model.specs.Batches.{Batch, logs_of, IsOfBatch}
+use Rattle.run_model.specs.States.{start, replay, gifts_due}
+use Rattle.run_model.specs.Stored.{HoldsRun, FillsWhereFull, AreInWords, AreStored, StoredFrom, events_between}
 use Rattle.rel_model.specs.Words.{Extends, IsFull}
 use Rattle.rel_model.specs.Equations.{node_words}
 use Rattle.rel_model.specs.Trees.{bottom_height}
@@ -26,10 +28,11 @@ use Rattle.rel_model.specs.Roots.{relation_in}
 use Rattle.rel_model.proofs.Rooting.{relation_in-stays, one_root}
 use Rattle.fork_quads.specs.Crew.{worker_of}
 use Rattle.fork_quads.proofs.Crewing.{house_of-injective}
-use Rattle.run_model.proofs.Carrying.{due_is_stored}
+use Rattle.run_model.proofs.Whole.{due_is_stored}
 use Rattle.rv_workspace.specs.Books.{HistoryStands, EventStands}
 use Rattle.run_model.specs.declared.files.Loaded.{Loaded}
-use Rattle.rv_runs.specs.Runs.{CameTo, MissedWhereFull, input_with}
+use Rattle.rv_runs.specs.Runs.{CameTo, MissedWhereFull, input_with, batch_of_run}
+use Rattle.relview.proofs.OneBatch.{all_between, filled_in}
 
 -- ---- full tables
 -- taken places stay taken
@@ -73,12 +76,29 @@ pub of_table : (table : Table) (seat last : View) (w : Keeper) → (worker_of w)
     → IsOf last w.table → IsOf last table
 of_table table seat last w house of = subst (λ t. IsOf last t) (house_of-injective w.table table house) of
 
+-- the events of a batch have its number
+only_numbers : (input : Input) (b : ℕ) (es : List Event) → AllByRecursion (IsOfBatch input b) es → AllByRecursion (λ e. batch_of input.ends e.session ≡ b) es
+only_numbers input b [] h = tt
+only_numbers input b (e ∷ es) h = (h.0.2, only_numbers input b es h.1)
+
+-- what the one batch of a run stored is all that the run stored
+stored_all : (input : Input) (batch : Batch) (words : List ℕ) → logs_of (batch ∷ []) ≡ batch.log
+    → StoredFrom input (logs_of (batch ∷ [])) 0 (batch ∷ []) (words ∷ [])
+    → AreStored (gifts_due input) words (replay (gifts_due input) start (take 0 batch.log)) (events_between 0 (length batch.log) batch.log)
+stored_all input batch words same h =
+    subst (λ l. AreStored (gifts_due input) words (replay (gifts_due input) start (take 0 l)) (events_between 0 (length batch.log) l)) same
+    (subst (λ n. AreStored (gifts_due input) words (replay (gifts_due input) start (take 0 (logs_of (batch ∷ [])))) (events_between 0 n (logs_of (batch ∷ []))))
+    (from_none (length batch.log)) h.1)
+  where
+    from_none : (n : ℕ) → 0 + n ≡ n
+    from_none n = omega arith
+
 -- a run over a fresh table, whose seat was given back and closed
 pub holds_run : (bits seats : ℕ) (table : Table) (seat last : View) (w : Keeper) (words : List ℕ) (scripts : List (List ℕ)) (files : List Loaded) (turns : ℕ) (asked : Bool)
     (history : List Event) (outcomes : List (List Outcome)) (page : List ℕ) (saves : List SavedFile) → IsFresh bits seats (table, seat)
     → (came : CameTo bottom_height scripts files turns asked (worker_of (record { table = table; view = seat; misses = 0 })) (worker_of w) history outcomes page saves)
     → last ≡ w.view → IsOf last table → (w.misses ≢ 0 → IsFull last.words) → IsClosed table.bits last words
-    → HoldsRun bits (input_with came.readings files turns asked) history outcomes words
+    → HoldsRun bits (input_with came.readings files turns asked) history outcomes [] words
 holds_run bits seats table seat last w words scripts files turns asked history outcomes page saves fresh came view of full closed =
     let c = subst (λ b. IsClosed b last words) fresh.bits_are closed in
     let nodes = node_words bits words in
@@ -86,13 +106,22 @@ holds_run bits seats table seat last w words scripts files turns asked history o
     let seen : relation_in last.words ≡ relation_in w.view.words = ap (λ v. relation_in v.words) view in
     let found : (rel : Rel) → Stands (worker_of w) rel → relation_in nodes rel ≡ relation_in w.view.words rel =
     λ rel s. let here = ap (λ f. f rel) seen in relation_in-stays last.words nodes rel c.holds of.canonical distinct (subst IsSome (sym here) s) ∙ here in
-    record {
-      sound = c.sound;
-      stored = due_is_stored (gifts_due (input_with came.readings files turns asked)) (set_of (worker_of w)) nodes history came.due (events_in (worker_of w) nodes history found came.stand);
-      one_root = one_root nodes distinct;
-      cost = omega (arith, c.counted, ap (λ v. v.made) view, came.cost, fresh.none_made);
-      full = all_fill outcomes w.misses nodes (λ m. full_stays last.words nodes c.holds (full m)) came.missed;
-    }
+    let input = input_with came.readings files turns asked in
+    let batch = batch_of_run (worker_of w) history in (
+      record {
+        forward = omega arith;
+        within = omega arith;
+        events = subst (AllByRecursion (λ e. batch_of input.ends e.session ≡ 0)) (sym (all_between history)) (only_numbers input 0 history came.batches.2);
+        sound = c.sound;
+        stored = stored_all input batch nodes (append-nil history)
+            (due_is_stored input (batch ∷ []) outcomes (nodes ∷ []) came.batches came.ran (events_in (worker_of w) nodes history found came.stand, tt));
+        one_root = one_root nodes distinct;
+        cost = omega (arith, c.counted, ap (λ v. v.made) view, came.cost, fresh.none_made);
+        full = filled_in input.ends 0 nodes 1 outcomes
+            (all_fill outcomes w.misses nodes (λ m. full_stays last.words nodes c.holds (full m)) came.missed);
+      },
+      refl,
+    )
 
 -- as many seats as were made are there to be closed
 pub whole_table : (bits seats : ℕ) (table : Table) (seat last : View) (w : Keeper) → IsFresh bits seats (table, seat) → (worker_of w).spare ≡ (worker_of (record { table = table; view = seat; misses = 0 })).spare

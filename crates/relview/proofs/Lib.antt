@@ -8,3 +8,4 @@ pub mod Roomy
 pub mod Completing
 pub mod Beginning
 pub mod Unfailing
+pub mod OneBatch

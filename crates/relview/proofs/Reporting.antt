@@ -44,6 +44,7 @@ ran words said so mid sn o n scripts files report g r = record {
     scripts = scripts;
     given = g.scripts_are;
     read = r.read;
+    one_batch = refl;
     named = g.named;
     loaded = g.loaded;
     turns = refl;

@@ -7,7 +7,9 @@ use Rattle.run_model.specs.declared.event.Event.{Event}
 use Rattle.run_model.specs.declared.outcome.Outcome.{Outcome}
 use Rattle.run_model.specs.declared.outcome.Outcome.TheVariants.{Parse, Ill, NoMemory}
 use Rattle.run_model.specs.Inputs.{Input, Reading, NoScript, Flawed, Runs}
-use Rattle.run_model.specs.Due.{outcome_due}
+use Rattle.lang_model.specs.declared.syntax.Item.{Item}
+use Rattle.run_model.specs.Due.{Due, outcome_due}
+use Rattle.run_model.specs.Outcomes.{MayBeChanged, IsChanged}
 use Rattle.run_model.specs.Steps.{due_at}
 use Rattle.run_model.specs.Legal.{steps_in}
 use Rattle.run_model.specs.Page.{page, saves}
@@ -24,12 +26,17 @@ use Rattle.relview.specs.declared.report.Report.{Report}
 abbrev pub HadMemory : List (List Outcome) → Type 0
 HadMemory = AllByRecursion (AllByRecursion (λ outcome. outcome ≢ NoMemory))
 
--- the outcomes of a session are those that are due, each on what its item saw
+-- an outcome is the one that is due of its item; or the item is an atomic block that was due to be done, and was
+-- refused at its commit
+abbrev pub IsDue : Item → Due → Outcome → Type 0
+IsDue item d outcome = (outcome ≡ outcome_due d) ⊎ (IsChanged outcome × MayBeChanged item d)
+
+-- the outcomes of a session are those that are due, each on what its item saw, but for blocks refused at their commits
 abbrev pub CameDue : Input → List Event → ℕ → Reading → List Outcome → Type 0
 CameDue input history s (NoScript fault) outcomes = outcomes ≡ Parse fault ∷ []
 CameDue input history s (Flawed fault) outcomes = outcomes ≡ Ill fault ∷ []
 CameDue input history s (Runs script) outcomes =
-    AllByRecursion (λ step. step.outcome ≡ outcome_due (due_at input script step))
+    AllByRecursion (λ step. IsDue step.item (due_at input script step) step.outcome)
     (steps_in input history s script outcomes)
 
 -- the same of the sessions from number s on
@@ -52,8 +59,8 @@ pub record NothingLacked (words : List Word) (shelf_old shelf_new : Told) (old n
   pub vacant : IsFull (node_words run.said.nodes report.words.items) → ⊥
   pub outside : NoneFailed shelf_old shelf_new old new
 
--- such a run is complete: each outcome is the due one, the page was written whole, its files were put, and the status
--- is that of the outcomes
+-- such a run is complete: each outcome is the due one, or tells of an atomic block that a name was changed before its
+-- commit; the page was written whole, its files were put, and the status is that of the outcomes
 pub record IsComplete (words : List Word) (shelf_old shelf_new : Told) (old new : Sunk) (report : Report)
     (run : HasRun words shelf_old shelf_new old new report) : Type 0 where
   pub due : AllCameDue run.input report.history.items 1 run.input.readings (outcomes_of report)

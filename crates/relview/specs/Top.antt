@@ -9,7 +9,7 @@ use Rattle.run_model.specs.declared.files.Loaded.{Loaded}
 use Rattle.rv_runs.specs.Runs.{input_with}
 use Rattle.run_model.specs.Legal.{IsLegal}
 use Rattle.run_model.specs.Page.{page, saves}
-use Rattle.run_model.specs.Stored.{HoldsRun}
+use Rattle.run_model.specs.Stored.{HoldsRun, HoldsNothing}
 use Rattle.rv_io.specs.Outside.{Told}
 use Rattle.rv_words.specs.Uses.{Word}
 use Rattle.rv_words.specs.Said.{Said, said_by}
@@ -49,9 +49,9 @@ pub record HasRun (words : List Word) (shelf_old shelf_new : Told) (old new : Su
   pub given : IsInput said shelf_old.files input
   -- however the sessions took their turns, the history and the outcomes are lawful
   pub legal : IsLegal input report.history.items (outcomes_of report)
-  -- the words of the table are sound and hold each assigned relation with its value; no more nodes are stored than the
-  -- commands may cost; and where a table was full, the words are full
-  pub holds : HoldsRun said.nodes input report.history.items (outcomes_of report) report.words.items
+  -- the words of the table, which all scripts share as one batch, are sound and hold each assigned relation with its
+  -- value; no more nodes are stored than the commands may cost; and where a table was full, the words are full
+  pub holds : HoldsRun said.nodes input report.history.items (outcomes_of report) [] report.words.items
   -- the page was written and the files were put, with the status of the outcomes, or with 4 a part of them
   pub told : IsTold shelf_old shelf_new old new (page input report.history.items (outcomes_of report))
       (saves input report.history.items (outcomes_of report)) (status_of (outcomes_of report)) report.status
@@ -63,7 +63,7 @@ pub record RanGiven (bits : ℕ) (scripts : List (List ℕ)) (files : List Loade
   pub readings : List Reading
   pub read : AreReadings scripts readings
   pub legal : IsLegal (input_with readings files turns asked) report.history.items (outcomes_of report)
-  pub holds : HoldsRun bits (input_with readings files turns asked) report.history.items (outcomes_of report)
+  pub holds : HoldsRun bits (input_with readings files turns asked) report.history.items (outcomes_of report) []
       report.words.items
   pub told : IsTold shelf_old shelf_new old new (page (input_with readings files turns asked) report.history.items
       (outcomes_of report))
@@ -71,10 +71,8 @@ pub record RanGiven (bits : ℕ) (scripts : List (List ℕ)) (files : List Loade
       (status_of (outcomes_of report)) report.status
 
 -- the report has no history, no outcomes and no words
-pub record IsEmpty (report : Report) : Type 0 where
-  pub no_history : report.history.items ≡ []
-  pub no_outcomes : report.outcomes.items ≡ []
-  pub no_words : report.words.items ≡ []
+abbrev pub IsEmpty : Report → Type 0
+IsEmpty report = HoldsNothing report.history.items (outcomes_of report) [] report.words.items
 
 -- a line was said, whole or in part
 pub record Says (words : List Word) (shelf_old shelf_new : Told) (old new : Sunk) (status : ℕ) : Type 0 where

@@ -20,8 +20,8 @@ pub fn enough_room()
 {}
 
 /// A run in which nothing was wanting is complete: where no command lacked memory, the words of the table have a vacant
-/// place, and no write and no put failed, each outcome is the one that is due, the page was written whole and its files
-/// were put.
+/// place, and no write and no put failed, each outcome is the one that is due, or tells of an atomic block that a name
+/// was changed before its commit, the page was written whole and its files were put.
 pub fn complete_runs()
     ensures { CompleteRuns }
 {}

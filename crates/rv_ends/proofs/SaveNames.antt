@@ -10,19 +10,20 @@ use Rattle.lang_model.specs.declared.syntax.Row.{Row}
 use Rattle.lang_model.specs.declared.syntax.Decl.{Decl}
 use Rattle.lang_model.specs.declared.syntax.Decl.TheVariants.{Variable, Domain}
 use Rattle.lang_model.specs.declared.syntax.Command.{Command}
-use Rattle.lang_model.specs.declared.syntax.Command.TheVariants.{Relation as REL, Let, Print, List as LIST, Count, Typed, Remove, Snap, At, Load, Save, Explain}
+use Rattle.lang_model.specs.declared.syntax.Command.TheVariants.{Relation as REL, Let, Print, List as LIST, Count, Typed, Remove, Snap, At, Load, Save, Atomic, Explain}
 use Rattle.lang_model.specs.declared.syntax.Item.{Item}
 use Rattle.lang_model.specs.declared.syntax.Item.TheVariants.{Function, Program, Command as COMMAND}
 use Rattle.lang_model.specs.declared.syntax.Script.{Script}
 use Rattle.lang_model.specs.declared.syntax.Place.{Place}
 use Rattle.lang_model.specs.declared.token.Token.{Token}
-use Rattle.lang_model.specs.Spelling.{SpellsMoreColumns, SpellsColumns, SpellsRow, SpellsMoreRows, SpellsRows, SpellsMoreNames, SpellsParams, SpellsDecl, SpellsMoreDecls, SpellsDecls, SpellsHead, SpellsCommand, SpellsItem, SpellsItems, SpelledBy}
+use Rattle.lang_model.specs.declared.syntax.Let.{Let as LetOf}
+use Rattle.lang_model.specs.Spelling.{SpelledLets, one_let, SpelledMoreLets, no_let, last_sign, more_lets, SpellsMoreColumns, SpellsColumns, SpellsRow, SpellsMoreRows, SpellsRows, SpellsMoreNames, SpellsParams, SpellsDecl, SpellsMoreDecls, SpellsDecls, SpellsHead, SpellsCommand, SpellsItem, SpellsItems, SpelledBy}
 use Rattle.rel_model.specs.Relation.{Relation}
 use Rattle.run_model.specs.declared.event.Event.{Event}
 use Rattle.run_model.specs.declared.outcome.Outcome.{Outcome}
 use Rattle.run_model.specs.Inputs.{Input, Reading, NoScript, Flawed, Runs, AreReadings}
-use Rattle.run_model.specs.Due.{Due, Nothing, Value, Explained, Refused, Workspace}
-use Rattle.run_model.specs.Steps.{Ending, Succeeds, Fails, LacksMemory, ending, Snapshots, steps, steps_from, snaps_behind, due_at}
+use Rattle.run_model.specs.Due.{Due, Nothing, Value, Values, Explained, Refused, Workspace}
+use Rattle.run_model.specs.Steps.{Ending, Succeeds, Fails, Changes, LacksMemory, ending, Snapshots, steps, steps_from, snaps_behind, due_at}
 use Rattle.run_model.specs.Names.{no_names}
 use Rattle.run_model.specs.States.{state_for}
 use Rattle.run_model.specs.Page.{SavedFile, saved_by, saved_of, done_save, save_at, saves_of, session_saves, sessions_saves, saves}
@@ -75,6 +76,15 @@ all_decls (decl ∷ decls) tokens rest s h = more_decls decls _ _ s.4 (one_decl 
 head : (at : Place) (name : List ℕ) (names : List (List ℕ)) (tokens rest : List Token) → SpellsHead at name names tokens rest → AreTexts tokens → AreTexts rest
 head at name names tokens rest s h = behind s.6 (params names _ _ s.5 (behind s.4 (behind_at s.3 h)))
 
+mutual
+  block_lets : {ls : List LetOf} {tokens rest : List Token} → SpelledLets ls tokens rest → AreTexts tokens → AreTexts rest
+  block_lets (one_let l ls tokens mid rest s more) h = behind_lets more (behind_expr s.6 (behind s.5 (behind_at s.4 (behind s.3 h))))
+
+  behind_lets : {ls : List LetOf} {tokens rest : List Token} → SpelledMoreLets ls tokens rest → AreTexts tokens → AreTexts rest
+  behind_lets (no_let tokens rest e) h = subst AreTexts (sym e) h
+  behind_lets (last_sign tokens rest sign) h = behind sign h
+  behind_lets (more_lets ls tokens mid rest sign s) h = block_lets s (behind sign h)
+
 one_command : (command : Command) (tokens rest : List Token) → SpellsCommand command tokens rest → AreTexts tokens → AreTexts rest
 one_command (REL name rows rows_at cols cols_at list) tokens rest s h = behind s.10 (all_rows list.items _ _ s.9 (behind s.8 (behind_at s.7 (behind_at s.6 (behind s.5.2 (behind s.5.1 h))))))
 one_command (Let name value) tokens rest s h = behind_expr s.4 (behind s.3 (behind s.2.2 (behind s.2.1 h)))
@@ -87,6 +97,7 @@ one_command (Snap name) tokens rest s h = behind s.2 (behind s.1 h)
 one_command (At at name value) tokens rest s h = behind_expr s.4.2 (behind s.4.1 (behind_at s.3 (behind s.2 h)))
 one_command (Load name file) tokens rest s h = behind s.2 (behind s.1.2 (behind s.1.1 h))
 one_command (Save value file) tokens rest s h = behind s.2 (behind_expr s.1.2 (behind s.1.1 h))
+one_command (Atomic lets) tokens rest s h = behind s.4 (block_lets s.3 (behind s.2 h))
 one_command (Explain value) tokens rest s h = behind_expr s.2 (behind s.1 h)
 
 one_item : (item : Item) (tokens rest : List Token) → SpellsItem item tokens rest → AreTexts tokens → AreTexts rest
@@ -116,6 +127,7 @@ command_saves (Snap name) tokens rest s h r = tt
 command_saves (At at name value) tokens rest s h r = tt
 command_saves (Load name file) tokens rest s h r = tt
 command_saves (Save value file) tokens rest s h r = (text_taken s.2 (behind_expr s.1.2 (behind s.1.1 h)), tt)
+command_saves (Atomic lets) tokens rest s h r = tt
 command_saves (Explain value) tokens rest s h r = tt
 
 item_saves : (item : Item) (tokens rest : List Token) → SpellsItem item tokens rest → AreTexts tokens → SavesNamed item
@@ -135,12 +147,14 @@ named-append (x ∷ xs) ys h k = (h.0, named-append xs ys h.1 k)
 done_named : (item : Item) (d : Due) → SavesNamed item → AreNamed (done_save item d)
 done_named item Nothing h = tt
 done_named item (Value r) h = h r
+done_named item (Values gifts) h = tt
 done_named item (Explained steps) h = tt
 done_named item (Refused when outcome) h = tt
 
 save_named : (e : Ending) (item : Item) (d : Due) → SavesNamed item → AreNamed (save_at e item d)
 save_named Succeeds item d h = done_named item d h
 save_named Fails item d h = tt
+save_named Changes item d h = tt
 save_named LacksMemory item d h = tt
 
 steps_named : (input : Input) (script : Script) (state_of : ℕ → Workspace) (c : ℕ) (snaps : Snapshots) (items : List Item) (outcomes : List Outcome) → AllByRecursion SavesNamed items

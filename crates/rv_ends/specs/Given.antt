@@ -83,11 +83,12 @@ abbrev pub AreScripts : Option ℕ → Option Files → List Word → List (List
 AreScripts (Some number) files words scripts = scripts ≡ generated number
 AreScripts None files words scripts = AreTaken files words scripts
 
--- the input of a run: what its scripts are read as, the relation files of the start, and the options
+-- the input of a run: what its scripts are read as, in one batch, the relation files of the start, and the options
 pub record IsInput (said : Said) (files : Option Files) (input : Input) : Type 0 where
   pub scripts : List (List ℕ)
   pub given : AreScripts said.number files said.scripts scripts
   pub read : AreReadings scripts input.readings
+  pub one_batch : input.ends ≡ length input.readings ∷ []
   pub named : names_of input.files ≡ said.relations
   pub loaded : AreTaken files said.relations (bytes_of input.files)
   pub turns : input.turns ≡ said.turns

@@ -3,7 +3,7 @@ ghost use Rattle.std.specs.Prelude.{◌≡◌, ◌≢◌, ◌++◌, List, ℕ, O
 ghost use Rattle.lang_model.specs.declared.faults.TypeFault.TheVariants.{Arity, Rank, NotTest};
 ghost use Rattle.lang_model.specs.declared.faults.ParseFault.TheVariants.{Byte, Expected, TooDeep};
 ghost use Rattle.run_model.specs.Texts.{place_text, shape_text, what_text, parse_fault_text, unknown_text, mismatch_text, type_fault_text, bad_file_text, unit_text, unit_limit, quoted, outcome_text, refusal_text};
-ghost use Rattle.run_model.specs.declared.outcome.Outcome.TheVariants.{Done, Size, Turns, TooLarge, TooLong, NoFile, BadFile as BAD_FILE};
+ghost use Rattle.run_model.specs.declared.outcome.Outcome.TheVariants.{Done, Size, Turns, TooLarge, TooLong, NoFile, BadFile as BAD_FILE, Changed};
 
 use crate::pieces::{push_number, push_number_after, push_shape, push_text_at};
 use lang_model::faults::{ParseFault, StaticShape, TypeFault, What};
@@ -44,6 +44,7 @@ fn push_outcome(alloc: Global, out: &mut Vec<u8>, outcome: &Outcome) -> Result<(
         Outcome::NoFile { name } => push_no_file(out, name),
         Outcome::BadFile { name, kind } => push_bad(alloc, out, name, *kind),
         Outcome::NoMemory => out.extend_from_slice(b"no memory"),
+        Outcome::Changed { name, seen, found } => push_changed(alloc, out, name, *seen, *found),
     }
 }
 
@@ -116,6 +117,23 @@ fn push_too_long(alloc: Global, out: &mut Vec<u8>, bits: u64) -> Result<(), Allo
 {
     push_number(alloc, out, bits)?;
     push_number_after(alloc, out, b" bits pass the limit ", SAVE_LIMIT)
+}
+
+/// Adds that a name was changed between the read of an atomic block and its commit.
+#[tactic(auto, unfolding(run_model::specs::Texts::outcome_text))]
+fn push_changed(
+    alloc: Global,
+    out: &mut Vec<u8>,
+    name: &Name,
+    seen: u64,
+    found: u64,
+) -> Result<(), AllocError>
+    ensures { OnOk result (out.new.items ≡ out.old.items ++ outcome_text (Changed name.now seen found)) }
+{
+    out.extend_from_slice(name.bytes())?;
+    push_number_after(alloc, out, b" changed: version ", seen)?;
+    push_number_after(alloc, out, b" at the read, ", found)?;
+    out.extend_from_slice(b" at the commit")
 }
 
 // ---- relation files

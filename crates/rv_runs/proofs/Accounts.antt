@@ -3,7 +3,7 @@
 --    all were joined it knows that its own events are those of its number, and that all stands there that stood in its own.
 -- 2. A script that did not run made nothing, and has no event.
 -- 3. One that ran has the same steps in the other worker, and is asked the same by the run's input.
-use Rattle.std.proofs.Common.{◌≡◌, ◌≤◌, ◌+◌, ◌++◌, ℕ, Bool, false, List, [], ◌∷◌, sym, ap, subst, ◌∙◌, map, arith}
+use Rattle.std.proofs.Common.{◌≡◌, ◌≤◌, ◌+◌, ◌++◌, ℕ, Bool, false, List, [], ◌∷◌, length, sym, ap, subst, ◌∙◌, map, arith}
 use Rattle.rel_model.specs.declared.Rel.{Rel}
 use Rattle.rel_model.specs.Relation.{Relation}
 use Rattle.rel_model.specs.Worker.{Worker, set_of}
@@ -15,7 +15,9 @@ use Rattle.run_model.specs.Inputs.{Input, Reading, NoScript, Flawed, Runs}
 use Rattle.run_model.specs.States.{events_of}
 use Rattle.run_model.specs.Page.{SavedFile, replies, refusals, saves_of}
 use Rattle.run_model.specs.Cost.{cost_of_steps}
-use Rattle.run_model.specs.Turns.{BeginsLog, Turn, put_by}
+use Rattle.run_model.specs.Names.{no_names}
+use Rattle.run_model.specs.Carried.{no_first}
+use Rattle.run_model.specs.Turns.{BeginsLog, Turn, puts_of}
 use Rattle.run_model.specs.Sessions.{RunsTurns, steps_taken}
 use Rattle.turn_book.specs.Views.{View}
 use Rattle.run_model.specs.declared.files.Loaded.{Loaded}
@@ -68,12 +70,12 @@ made_in (part ∷ parts) = part.own.made + made_in parts
 -- a script that ran
 pub record ToldScript (leaf : ℕ) (input : Input) (means : Rel → Relation) (log : List Event) (s : ℕ) (script : Script) (part : Part) : Type 0 where
   pub ts : List Turn
-  pub runs : RunsTurns input means s script (outcomes_of part) ts [] part.pass.seen
+  pub runs : RunsTurns input no_first means s script (outcomes_of part) ts [] part.pass.seen
   pub begins : BeginsLog part.pass.seen log
-  pub events : events_of s log ≡ map put_by ts
-  pub text : text_told part ≡ replies input script s (steps_taken means ts script (outcomes_of part))
-  pub saved : saved_told part ≡ saves_of input script (steps_taken means ts script (outcomes_of part))
-  pub cost : part.own.made ≤ cost_of_steps leaf input script (steps_taken means ts script (outcomes_of part))
+  pub events : events_of s log ≡ puts_of ts
+  pub text : text_told part ≡ replies input script s (steps_taken no_names means ts script (outcomes_of part))
+  pub saved : saved_told part ≡ saves_of input script (steps_taken no_names means ts script (outcomes_of part))
+  pub cost : part.own.made ≤ cost_of_steps leaf input script (steps_taken no_names means ts script (outcomes_of part))
 
 -- a script that did not
 pub record ToldFault (log : List Event) (s : ℕ) (outcome : Outcome) (part : Part) : Type 0 where
@@ -113,7 +115,7 @@ module _ (leaf : ℕ) (files : List Loaded) (turns : ℕ) (all : Worker) (log : 
     input = input_with readings files turns asked
 
     abbrev own_input : Input
-    own_input = input_of_both (map file_of files) turns [] false
+    own_input = input_of_both (map file_of files) turns [] false []
 
     told_script : (s : ℕ) (script : Script) (part : Part) → (a : Account leaf (input_of files turns) all log s part) →
         RanScript leaf own_input s script a.has_run.first part.own a.has_run.before part.pass part.told → ToldScript leaf input (set_of all) log s script part
@@ -121,19 +123,19 @@ module _ (leaf : ℕ) (files : List Loaded) (turns : ℕ) (all : Worker) (log : 
         let h = a.has_run in
         let os = outcomes_of part in
         let same = steps_alike part.own all a.absorbed.holds r.ts script os r.stand in
-        let began = subst (λ old. RunsTurns own_input (set_of part.own) s script os r.ts old part.pass.seen) h.no_seen r.runs in
+        let began = subst (λ old. RunsTurns own_input no_first (set_of part.own) s script os r.ts old part.pass.seen) h.no_seen r.runs in
         let lifted = runs_alike part.own all a.absorbed.holds own_input s script os r.ts [] part.pass.seen r.stand began in
-        let those = steps_taken (set_of all) r.ts script os in
+        let those = steps_taken no_names (set_of all) r.ts script os in
         record {
           ts = r.ts;
-          runs = turns_alike (map file_of files) turns [] readings false asked script (set_of all) s os r.ts [] part.pass.seen lifted;
+          runs = turns_alike (map file_of files) turns [] readings false asked [] (length readings ∷ []) script (set_of all) s os r.ts [] part.pass.seen lifted;
           begins = a.begins;
-          events = a.events ∙ (r.mine ∙ ap (λ l. l ++ map put_by r.ts) h.no_mine);
-          text = r.text ∙ (ap (replies own_input script s) same ∙ replies_alike (map file_of files) turns [] readings false asked script s those);
-          saved = r.saved ∙ (ap (saves_of own_input script) same ∙ saves_alike (map file_of files) turns [] readings false asked script those);
+          events = a.events ∙ (r.mine ∙ ap (λ l. l ++ puts_of r.ts) h.no_mine);
+          text = r.text ∙ (ap (replies own_input script s) same ∙ replies_alike (map file_of files) turns [] readings false asked [] (length readings ∷ []) script s those);
+          saved = r.saved ∙ (ap (saves_of own_input script) same ∙ saves_alike (map file_of files) turns [] readings false asked [] (length readings ∷ []) script those);
           cost = (let m = r.room in let z = h.no_made in
-              let e : cost_of_steps leaf own_input script (steps_taken (set_of part.own) r.ts script os) ≡ cost_of_steps leaf input script those =
-              ap (cost_of_steps leaf own_input script) same ∙ all_costs_alike (map file_of files) turns [] readings false asked script leaf those in
+              let e : cost_of_steps leaf own_input script (steps_taken no_names (set_of part.own) r.ts script os) ≡ cost_of_steps leaf input script those =
+              ap (cost_of_steps leaf own_input script) same ∙ all_costs_alike (map file_of files) turns [] readings false asked [] (length readings ∷ []) script leaf those in
               let c : part.own.made ≤ cost_of_steps leaf input script those = omega arith in c);
         }
 

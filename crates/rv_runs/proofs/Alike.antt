@@ -2,8 +2,8 @@
 -- 1. Relations that stand mean the same in both.
 -- 2. So the names that events leave have the same values, and each command took the same state.
 -- 3. So the session has the same steps, and ran its script in the same turns.
-use Rattle.std.specs.List.{AllByRecursion}
-use Rattle.std.proofs.Common.{◌≡◌, ◌+◌, ℕ, suc, Bool, true, false, cond, eqb, not, List, [], ◌∷◌, Option, Some, None, Ordering, Less, Equal, Greater, refl, sym, ap, subst, ◌∙◌, map, arith}
+use Rattle.std.specs.List.{list_any, AllByRecursion}
+use Rattle.std.proofs.Common.{◌≡◌, ◌+◌, ◌++◌, ℕ, suc, Bool, true, false, cond, eqb, not, List, [], ◌∷◌, Option, Some, None, Ordering, Less, Equal, Greater, refl, sym, ap, subst, ◌∙◌, map, arith}
 use Rattle.std.specs.Prelude.{unwrap_or}
 use Rattle.std.specs.Ordering.{eq_by_cmp}
 use Rattle.std.specs.FinMap.Entries.{by_order}
@@ -19,15 +19,15 @@ use Rattle.run_model.specs.declared.event.Event.{Event}
 use Rattle.run_model.specs.declared.event.Act.{Act}
 use Rattle.run_model.specs.declared.event.Act.TheVariants.{Read, Assign, Remove}
 use Rattle.run_model.specs.declared.outcome.Outcome.{Outcome}
-use Rattle.run_model.specs.Names.{compare, lookup, set, remove}
+use Rattle.run_model.specs.Names.{compare, no_names, lookup, set, remove}
 use Rattle.run_model.specs.Inputs.{Input}
 use Rattle.run_model.specs.Due.{Workspace}
-use Rattle.run_model.specs.Steps.{snapped, steps}
+use Rattle.run_model.specs.Steps.{steps}
 use Rattle.run_model.specs.States.{Replay, start}
-use Rattle.run_model.specs.Carried.{Carried, carry_act, carry, carried, valued}
-use Rattle.run_model.specs.Laws.{names_taken}
-use Rattle.run_model.specs.Lifting.{OneWhereKept, LookAlike, MeanAlike}
-use Rattle.run_model.specs.Turns.{Turn, put_by, taken, state_taken}
+use Rattle.run_model.specs.Carried.{Carried, no_first, carry_act, carry, carried_from, valued}
+use Rattle.run_model.specs.Laws.{names_taken, takes_all, OneWhereAll}
+use Rattle.run_model.specs.Lifting.{LookAlike, MeanAlike}
+use Rattle.run_model.specs.Turns.{Turn, puts_of, taken, state_of_log, state_taken}
 use Rattle.run_model.specs.Sessions.{rel_of, RunsTurns, steps_taken}
 use Rattle.run_model.proofs.Lifted.{other_worker_runs_alike}
 use Rattle.rv_workspace.specs.Books.{HistoryStands}
@@ -73,32 +73,39 @@ module _ (means other : Rel → Relation) where
   carry_alike (e ∷ es) p k h =
       carry_alike es (carry_act e.session e.command e.act p) k.1 (act_alike e.session e.command e.act p k.0 h)
 
-  carried_alike : (log : List Event) → MeanAlike means other log → valued means (carried log) ≡ valued other (carried log)
-  unfolding carried
+  carried_alike : (log : List Event) → MeanAlike means other log → valued means (carried_from no_names log) ≡ valued other (carried_from no_names log)
+  unfolding carried_from
   carried_alike log k = carry_alike log start k refl
 
-  one_of_two : (b : Bool) (x y : List Event) → valued means (carried x) ≡ valued other (carried x) → valued means (carried y) ≡ valued other (carried y) →
-      valued means (carried (cond b x y)) ≡ valued other (carried (cond b x y))
-  one_of_two true x y h k = h
-  one_of_two false x y h k = k
+  one_of_two : (b : Bool) (x : List Event) (o : Option (List Event)) → valued means (carried_from no_names x) ≡ valued other (carried_from no_names x)
+      → state_of_log no_names means o ≡ state_of_log no_names other o
+      → state_of_log no_names means (cond b (Some x) o) ≡ state_of_log no_names other (cond b (Some x) o)
+  one_of_two true x o h k = h
+  one_of_two false x o h k = k
 
-  state_alike : (ts : List Turn) → AllByRecursion (λ t. MeanAlike means other t.took) ts → (c : ℕ) → state_taken means ts c ≡ state_taken other ts c
-  state_alike [] h c = carried_alike [] tt
-  state_alike (t ∷ ts) h c = one_of_two (eqb t.put.command c) t.took (taken c ts) (carried_alike t.took h.0) (state_alike ts h.1 c)
+  state_alike : (ts : List Turn) → AllByRecursion (λ t. MeanAlike means other t.took) ts → (c : ℕ) →
+      state_taken no_names means ts c ≡ state_taken no_names other ts c
+  state_alike [] h c = refl
+  state_alike (t ∷ ts) h c =
+      one_of_two (list_any (λ e. eqb e.command c) t.put) t.took (taken c ts) (carried_alike t.took h.0) (state_alike ts h.1 c)
+
+  alike_append : (xs ys : List Event) → MeanAlike means other xs → MeanAlike means other ys → MeanAlike means other (xs ++ ys)
+  alike_append [] ys h k = k
+  alike_append (x ∷ xs) ys h k = (h.0, alike_append xs ys h.1 k)
 
 -- ---- states that are one look alike
 agree_itself : (s : State) (names : List (List ℕ)) → AgreeOn s s names
 agree_itself s [] = tt
 agree_itself s (n ∷ names) = (refl, agree_itself s names)
 
-one_where_kept : (o : Option (List ℕ)) (s : Workspace) → OneWhereKept o s s
-one_where_kept None s = tt
-one_where_kept (Some name) s = refl
+one_where_all : (b : Bool) (s : Workspace) → OneWhereAll b s s
+one_where_all false s = tt
+one_where_all true s = refl
 
 look_alike_itself : (f : ℕ → Workspace) (c : ℕ) (items : List Item) → LookAlike f f c items
 look_alike_itself f c [] = tt
 look_alike_itself f c (item ∷ items) = (
-  (agree_itself (lookup (f c)) (names_taken item), one_where_kept (snapped item) (f c)),
+  (agree_itself (lookup (f c)) (names_taken item), one_where_all (takes_all item) (f c)),
   look_alike_itself f (c + 1) items,
 )
 
@@ -122,22 +129,24 @@ module _ (w v : Worker) (holds : Holds w v) where
   took_alike [] h = tt
   took_alike (t ∷ ts) h = (history_alike t.took h.0.log, took_alike ts h.1)
 
-  put_alike : (ts : List Turn) → TurnsStand w ts → MeanAlike (set_of w) (set_of v) (map put_by ts)
+  put_alike : (ts : List Turn) → TurnsStand w ts → MeanAlike (set_of w) (set_of v) (puts_of ts)
   put_alike [] h = tt
-  put_alike (t ∷ ts) h = (rels_alike (rel_of t.put.act) h.0.own, put_alike ts h.1)
+  put_alike (t ∷ ts) h =
+      alike_append (set_of w) (set_of v) t.put (puts_of ts) (history_alike t.put h.0.own) (put_alike ts h.1)
 
-  states_alike : (ts : List Turn) → TurnsStand w ts → state_taken (set_of w) ts ≡ state_taken (set_of v) ts
+  states_alike : (ts : List Turn) → TurnsStand w ts → state_taken no_names (set_of w) ts ≡ state_taken no_names (set_of v) ts
   states_alike ts h = λ i c. state_alike (set_of w) (set_of v) ts (took_alike ts h) c i
 
   -- the session has the same steps
   pub steps_alike : (ts : List Turn) (script : Script) (outcomes : List Outcome) → TurnsStand w ts →
-      steps_taken (set_of w) ts script outcomes ≡ steps_taken (set_of v) ts script outcomes
+      steps_taken no_names (set_of w) ts script outcomes ≡ steps_taken no_names (set_of v) ts script outcomes
   steps_alike ts script outcomes h = ap (λ f. steps f script outcomes) (states_alike ts h)
 
   -- and ran its script in the same turns
   pub runs_alike : (input : Input) (s : ℕ) (script : Script) (outcomes : List Outcome) (ts : List Turn) (old new : List Event) → TurnsStand w ts →
-      RunsTurns input (set_of w) s script outcomes ts old new → RunsTurns input (set_of v) s script outcomes ts old new
+      RunsTurns input no_first (set_of w) s script outcomes ts old new → RunsTurns input no_first (set_of v) s script outcomes ts old new
   runs_alike input s script outcomes ts old new h r =
-      other_worker_runs_alike input (set_of w) (set_of v) s script outcomes ts old new
-      (subst (λ f. LookAlike (state_taken (set_of w) ts) f 1 script.items.items) (states_alike ts h) (look_alike_itself (state_taken (set_of w) ts) 1 script.items.items))
+      other_worker_runs_alike input no_first (set_of w) (set_of v) s script outcomes ts old new
+      (subst (λ f. LookAlike (state_taken no_names (set_of w) ts) f 1 script.items.items) (states_alike ts h)
+      (look_alike_itself (state_taken no_names (set_of w) ts) 1 script.items.items))
       (put_alike ts h) r

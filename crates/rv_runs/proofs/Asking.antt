@@ -18,6 +18,7 @@ use Rattle.lang_model.specs.declared.syntax.Command.TheVariants.{
   At,
   Load,
   Save,
+  Atomic,
   Explain,
 }
 use Rattle.lang_model.specs.declared.syntax.Item.{Item}
@@ -32,20 +33,23 @@ use Rattle.run_model.specs.Events.{Entry, entry_of, HasDeeds, AreEvents}
 use Rattle.run_model.specs.Outcomes.{IsOutcome, AreOutcomes}
 use Rattle.run_model.specs.Page.{reply, replies, save_at, saves_of}
 use Rattle.run_model.specs.Cost.{cost_of_command, cost_of_item, cost_of_step, cost_of_steps}
-use Rattle.run_model.specs.Turns.{Turn, put_by}
+use Rattle.run_model.specs.Names.{no_names}
+use Rattle.run_model.specs.Carried.{no_first}
+use Rattle.run_model.specs.Turns.{Turn, puts_of}
 use Rattle.run_model.specs.Sessions.{rels_of, HasValuesAt, HasValues, RunsTurns, steps_taken}
 
 module _ (files : List RelationFile) (turns : ℕ) where
   -- an input of these files and turns
-  abbrev pub input_of_both : List Reading → Bool → Input
-  input_of_both readings history = record { readings = readings; files = files; turns = turns; history = history }
+  abbrev pub input_of_both : List Reading → Bool → List ℕ → Input
+  input_of_both readings history ends =
+      record { readings = readings; files = files; turns = turns; history = history; ends = ends }
 
-  module _ (readings others : List Reading) (history asked : Bool) where
+  module _ (readings others : List Reading) (history asked : Bool) (ends others_end : List ℕ) where
     abbrev one : Input
-    one = input_of_both readings history
+    one = input_of_both readings history ends
 
     abbrev other : Input
-    other = input_of_both others asked
+    other = input_of_both others asked others_end
 
     command_alike : (script : Script) (c : Command) (s : Workspace) (snap : Option Workspace) →
         due_of_command one script c s snap ≡ due_of_command other script c s snap
@@ -62,6 +66,7 @@ module _ (files : List RelationFile) (turns : ℕ) where
     command_alike script (At at name e) s (Some t) = refl
     command_alike script (Load name file) s snap = refl
     command_alike script (Save e file) s snap = refl
+    command_alike script (Atomic lets) s snap = refl
     command_alike script (Explain e) s snap = refl
 
     due_alike : (script : Script) (item : Item) (s : Workspace) (snap : Option Workspace) →
@@ -85,6 +90,7 @@ module _ (files : List RelationFile) (turns : ℕ) where
     command_costs_alike leaf script (At at name e) s (Some t) d = refl
     command_costs_alike leaf script (Load name file) s snap d = refl
     command_costs_alike leaf script (Save e file) s snap d = refl
+    command_costs_alike leaf script (Atomic lets) s snap d = refl
     command_costs_alike leaf script (Explain e) s snap d = refl
 
     costs_alike : (leaf : ℕ) (script : Script) (item : Item) (s : Workspace) (snap : Option Workspace) (d : Due) →
@@ -144,12 +150,14 @@ module _ (files : List RelationFile) (turns : ℕ) where
       all_costs_alike leaf (step ∷ steps) = (λ i. step_cost leaf step i + all_costs_alike leaf steps i)
 
       pub turns_alike : (means : Rel → Relation) (s : ℕ) (outcomes : List Outcome) (ts : List Turn) (old new : List Event) →
-          RunsTurns one means s script outcomes ts old new → RunsTurns other means s script outcomes ts old new
+          RunsTurns one no_first means s script outcomes ts old new → RunsTurns other no_first means s script outcomes ts old new
       turns_alike means s outcomes ts old new r = record {
         turns = r.turns;
         own = r.own;
+        once = r.once;
         each = r.each;
-        events = events_alike s (steps_taken means ts script outcomes) (map entry_of (map put_by ts)) r.events;
-        outcomes_due = outcomes_alike (steps_taken means ts script outcomes) r.outcomes_due;
-        values = values_alike means (map put_by ts) (steps_taken means ts script outcomes) r.values;
+        events = events_alike s (steps_taken no_names means ts script outcomes) (map entry_of (puts_of ts)) r.events;
+        outcomes_due = outcomes_alike (steps_taken no_names means ts script outcomes) r.outcomes_due;
+        values = values_alike means (puts_of ts) (steps_taken no_names means ts script outcomes) r.values;
+        commits = r.commits;
       }

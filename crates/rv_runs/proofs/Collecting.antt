@@ -13,7 +13,7 @@ use Rattle.run_model.specs.declared.outcome.Outcome.{Outcome}
 use Rattle.run_model.specs.declared.outcome.Outcome.TheVariants.{Parse, Ill}
 use Rattle.run_model.specs.Inputs.{Input, Reading, NoScript, Flawed, Runs, AreReadings}
 use Rattle.run_model.specs.Page.{SavedFile, event_line, page, saves}
-use Rattle.run_model.specs.Cost.{cost_of_run}
+use Rattle.run_model.specs.Cost.{cost_of_run, cost_of_batch}
 use Rattle.run_model.specs.Turns.{BeginsLog}
 use Rattle.turn_book.specs.Entries.{Entry}
 use Rattle.turn_book.specs.Logs.{Begins, MakeUp}
@@ -29,11 +29,12 @@ use Rattle.rv_sessions.specs.Running.{one_for_nodes, nodes_in, RoseBy}
 use Rattle.rv_sessions.specs.Sessions.{DidReading}
 use Rattle.rv_runs.specs.declared.work.Work.{Work}
 use Rattle.rv_runs.specs.Pages.{text_of_session, saved_by_session, page_told}
-use Rattle.rv_runs.specs.Runs.{MissedWhereFull, CameTo}
+use Rattle.rv_runs.specs.Runs.{MissedWhereFull, CameTo, input_with}
 use Rattle.rv_runs.specs.Works.{HasRun, IsAbsorbed, bytes_of, CanJoin, RanWhereTold, Numbered, TakesAll, SplitsWorkers, made_by, pass_of, told_of}
 use Rattle.rv_runs.proofs.Accounts.{Part, Accounts, outcomes_of, text_told, saved_told, made_in}
 use Rattle.rv_runs.proofs.Joining.{length_more, absorbed_on, joins_first, one_list_each}
 use Rattle.rv_runs.proofs.Lawful.{Lawful, lawful}
+use Rattle.rv_runs.proofs.OneBatch.{costs_all}
 use Rattle.rv_runs.proofs.Sharing.{AllHaveRun, mine_of, in_range, accounts}
 
 -- ---- works as parts
@@ -244,10 +245,12 @@ module _ {E : Type 0} (worker : E → Worker) (leaf : ℕ) (scripts : List (List
             page_shown = ts ∙ ap (λ (l : List ℕ). l ++ cond asked (flat_map event_line log) []) (ap (flat_map text_of_session) (sym told_are) ∙ (sym (text_by parts) ∙ q.text));
             files_put = ss ∙ (ap (flat_map saved_by_session) (sym told_are) ∙ (sym (saved_by parts) ∙ q.saved));
           };
-          due = q.due;
+          batches = q.batches;
+          ran = q.ran;
           stand = history_stands kept new (λ x s. held_stands kept new x r.archive_joins.other_holds s) log r.stand;
           cost = (let a = r.archive_split.made in let b = r.splits.made in let c = r.takes.made in let d = r.archive_joins.made in let e = r.kept_made in
-              let m = same_made worker scripts works told g.all_told in let k = q.cost in omega arith);
+              let m = same_made worker scripts works told g.all_told in let k = q.cost in
+              let whole = costs_all (input_with q.readings files turns asked) refl leaf log (map outcomes_of parts) in omega arith);
           missed = all_missed leaf (input_of files turns) new log 1 parts all_accounts;
           house = r.archive_joins.house ∙ (r.takes.house ∙ (r.splits.house ∙ r.archive_split.house));
           spare = (let a = r.archive_split.spares in let b = r.splits.spare in let c = r.takes.spare in let d = r.archive_joins.spares in let e = r.kept_spare in omega arith);

@@ -9,3 +9,4 @@ pub mod Collecting
 pub mod Alone
 pub mod Adding
 pub mod Told
+pub mod OneBatch

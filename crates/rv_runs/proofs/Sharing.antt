@@ -9,7 +9,7 @@ use Rattle.rel_model.specs.Worker.{Worker}
 use Rattle.run_model.specs.declared.event.Event.{Event}
 use Rattle.run_model.specs.Inputs.{Input, Reading, NoScript, Flawed, Runs}
 use Rattle.run_model.specs.States.{events_of}
-use Rattle.run_model.specs.Turns.{BeginsLog, Turn, put_by}
+use Rattle.run_model.specs.Turns.{BeginsLog, Turn, puts_of, IsTurn}
 use Rattle.turn_book.specs.Logs.{MakeUp, pick}
 use Rattle.turn_book.specs.Views.{View}
 use Rattle.turn_book.proofs.Sharing.{its_own, no_ones}
@@ -39,16 +39,20 @@ pick_other s r [] h d = refl
 pick_other s r (x ∷ xs) h d = (λ i. cond (ne_eqb x.session r (λ e. d (sym h.0 ∙ e)) i) (x ∷ pick_other s r xs h.1 d i) (pick_other s r xs h.1 d i))
 
 -- ---- a session's own events
-puts_own : (s : ℕ) (ts : List Turn) → AllByRecursion (λ t. t.put.session ≡ s) ts → AreOf s (map put_by ts)
+both_own : (s c : ℕ) (xs ys : List Event) → AllByRecursion (λ e. (e.session ≡ s) × (e.command ≡ c)) xs → AreOf s ys → AreOf s (xs ++ ys)
+both_own s c [] ys h k = k
+both_own s c (x ∷ xs) ys h k = (h.0.0, both_own s c xs ys h.1 k)
+
+puts_own : (s : ℕ) (ts : List Turn) → AllByRecursion (IsTurn s) ts → AreOf s (puts_of ts)
 puts_own s [] h = tt
-puts_own s (t ∷ ts) h = (h.0, puts_own s ts h.1)
+puts_own s (t ∷ ts) h = both_own s h.0.0 t.put (puts_of ts) h.0.1 (puts_own s ts h.1)
 
 did_own : (leaf : ℕ) (given : Input) (s : ℕ) (reading : Reading) (old new : Worker) (before after : View) (told : Transcript)
     → DidReading leaf given s reading old new before after told → before.mine ≡ [] → AreOf s after.mine
 did_own leaf given s (NoScript fault) old new before after told d none = subst (AreOf s) (sym (d.nothing.mine ∙ none)) tt
 did_own leaf given s (Flawed fault) old new before after told d none = subst (AreOf s) (sym (d.nothing.mine ∙ none)) tt
 did_own leaf given s (Runs script) old new before after told d none =
-    subst (AreOf s) (sym (d.mine ∙ ap (λ l. l ++ map put_by d.ts) none)) (puts_own s d.ts d.runs.own)
+    subst (AreOf s) (sym (d.mine ∙ ap (λ l. l ++ puts_of d.ts) none)) (puts_own s d.ts d.runs.own)
 
 -- each part ran, from number s on
 abbrev pub AllHaveRun : ℕ → Input → ℕ → List Part → Type 0
