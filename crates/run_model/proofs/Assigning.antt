@@ -47,7 +47,7 @@ value_in other (Value r) = r
 value_in other d = other
 
 module _ (turns : ℕ) (l : BlockLet) (ls : List BlockLet) (more : Relation → List Evaluated) where
-  goes_on : (v : Evaluated) (r : Relation) → due_of_value Value turns v ≡ Value r →
+  pub goes_on : (v : Evaluated) (r : Relation) → due_of_value Value turns v ≡ Value r →
       due_of_lets turns (l ∷ ls) (after_value v more) ≡ with_gift (l.name, r) (late (due_of_lets turns ls (more r)))
   goes_on (Ahead fault) r e = absurd (false≢true (ap is_value e))
   goes_on (Comes came) r e = at came.answer e
@@ -58,7 +58,7 @@ module _ (turns : ℕ) (l : BlockLet) (ls : List BlockLet) (more : Relation → 
       at (Got q left) e = ap (λ x. with_gift (l.name, x) (late (due_of_lets turns ls (more x)))) (ap (value_in r) e)
       at (Not why) e = absurd (false≢true (ap is_value e))
 
-  stops : (v : Evaluated) (when : When) (outcome : Outcome) → due_of_value Value turns v ≡ Refused when outcome →
+  pub stops : (v : Evaluated) (when : When) (outcome : Outcome) → due_of_value Value turns v ≡ Refused when outcome →
       due_of_lets turns (l ∷ ls) (after_value v more) ≡ Refused when outcome
   stops (Ahead fault) when outcome e = e
   stops (Comes came) when outcome e = at came.answer e
@@ -69,7 +69,7 @@ module _ (turns : ℕ) (l : BlockLet) (ls : List BlockLet) (more : Relation → 
       at (Not why) e = e
 
   -- ---- costs
-  costs_on : (leaf : ℕ) (v : Evaluated) (r : Relation) → due_of_value Value turns v ≡ Value r →
+  pub costs_on : (leaf : ℕ) (v : Evaluated) (r : Relation) → due_of_value Value turns v ≡ Value r →
       cost_of_block leaf (after_value v more) ≡ cost_of_value leaf v + cost_of_block leaf (more r)
   costs_on leaf (Ahead fault) r e = absurd (false≢true (ap is_value e))
   costs_on leaf (Comes came) r e = ap (λ n. came.cost leaf + n) (at came.answer e)
@@ -79,7 +79,7 @@ module _ (turns : ℕ) (l : BlockLet) (ls : List BlockLet) (more : Relation → 
       at (Got q left) e = ap (λ x. cost_of_block leaf (more x)) (ap (value_in r) e)
       at (Not why) e = absurd (false≢true (ap is_value e))
 
-  costs_stop : (leaf : ℕ) (v : Evaluated) (when : When) (outcome : Outcome) → due_of_value Value turns v ≡ Refused when outcome →
+  pub costs_stop : (leaf : ℕ) (v : Evaluated) (when : When) (outcome : Outcome) → due_of_value Value turns v ≡ Refused when outcome →
       cost_of_block leaf (after_value v more) ≡ cost_of_value leaf v
   costs_stop leaf (Ahead fault) when outcome e = refl
   costs_stop leaf (Comes came) when outcome e =

@@ -89,7 +89,7 @@ set_has P name (e ∷ m) h = picked (compare name e.0) refl (set_has P name m) h
     picked Equal is f h = (subst P (sym (exact_bytes name e.0 is)) h.0, h)
     picked Greater is f h = let r = f h.1 in (r.0, (h.0, r.1))
 
-from_set : (P : List ℕ → Type 0) (names : List (List ℕ)) → AllByRecursion P (names_of (as_set names)) → AllByRecursion P names
+pub from_set : (P : List ℕ → Type 0) (names : List (List ℕ)) → AllByRecursion P (names_of (as_set names)) → AllByRecursion P names
 from_set P [] h = tt
 from_set P (n ∷ ns) h = let r = set_has P n (as_set ns) h in (r.0, from_set P ns r.1)
 

@@ -21,3 +21,4 @@ mod walk;
 pub use call::eval;
 pub use explaining::explain;
 pub use halt::Refused;
+pub use names::set;
