@@ -9,3 +9,10 @@ pub mod Completing
 pub mod Beginning
 pub mod Unfailing
 pub mod OneBatch
+pub mod BlockDue
+pub mod BlockGrammar
+pub mod BlockPlaces
+pub mod BlockSteps
+pub mod BlockValues
+pub mod Blocks
+pub mod AtomicRuns

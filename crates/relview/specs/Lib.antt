@@ -4,3 +4,4 @@ pub mod Alone
 pub mod Ending
 pub mod Complete
 pub mod Surely
+pub mod Blocks

@@ -1,5 +1,6 @@
 //! Laws of the program's runs, each a function that does nothing.
 ghost use Rattle.relview.specs.Alone.{AloneIsSolo, AloneIsOneRun, EnoughRoom};
+ghost use Rattle.relview.specs.Blocks.{BlocksAreAtomic};
 ghost use Rattle.relview.specs.Complete.{CompleteRuns, RunsBegin};
 
 /// A script that runs alone, where the table and memory suffice, comes to the outcomes and to the history, but for the
@@ -30,4 +31,12 @@ pub fn complete_runs()
 /// write fails, and each file is within its limit.
 pub fn runs_begin()
     ensures { RunsBegin }
+{}
+
+/// An atomic block of a run reads and assigns as if in one moment, or it is refused. One that is done assigns what is
+/// due of it on the state just before its first assignment, all at once. One that tells of a changed name tells the
+/// first that it reads whose versions at its read and at its commit differ. Where it was due to be done, and neither
+/// nodes nor memory ran out, these versions alone decide. One that is refused assigns nothing.
+pub fn blocks_are_atomic()
+    ensures { BlocksAreAtomic }
 {}

@@ -8,6 +8,10 @@ use Rattle.std.specs.Fmt.{decimal}
 pub part_more : (old a b now new : List ℕ) → new ≡ now ++ b → now ≡ old ++ a → new ≡ old ++ (a ++ b)
 part_more old a b now new h k = h ∙ ap (λ z. z ++ b) k ∙ append_assoc old a b
 
+-- a text and a number more
+pub numbered_more : (old a text now new : List ℕ) (n : ℕ) → new ≡ now ++ (text ++ decimal n) → now ≡ old ++ a → new ≡ old ++ ((a ++ text) ++ decimal n)
+numbered_more old a text now new n h k = part_more old a (text ++ decimal n) now new h k ∙ ap (λ z. old ++ z) (sym (append_assoc a text (decimal n)))
+
 -- what a call adds where it succeeds
 pub where_ok : {T E : Type 0} (r : Result T E) (new some none : List ℕ) → new ≡ (if is_ok r then some else none) → OnOk r (new ≡ some)
 where_ok (Ok x) new some none h = h

@@ -30,7 +30,7 @@ use Rattle.run_model.specs.Lifting.{LookAlike, MeanAlike}
 use Rattle.run_model.specs.Turns.{Turn, puts_of, taken, state_of_log, state_taken}
 use Rattle.run_model.specs.Sessions.{rel_of, RunsTurns, steps_taken}
 use Rattle.run_model.proofs.Lifted.{other_worker_runs_alike}
-use Rattle.rv_workspace.specs.Books.{HistoryStands}
+use Rattle.rv_workspace.specs.Books.{EventStands, HistoryStands}
 use Rattle.rv_sessions.specs.Standing.{TurnsStand}
 
 -- ---- values of names
@@ -125,6 +125,10 @@ module _ (w v : Worker) (holds : Holds w v) where
     history_alike es (λ k d l. h (suc k) d (omega arith)),
   )
 
+  events_alike : (es : List Event) → AllByRecursion (EventStands w) es → MeanAlike (set_of w) (set_of v) es
+  events_alike [] h = tt
+  events_alike (e ∷ es) h = (rels_alike (rel_of e.act) h.0, events_alike es h.1)
+
   took_alike : (ts : List Turn) → TurnsStand w ts → AllByRecursion (λ t. MeanAlike (set_of w) (set_of v) t.took) ts
   took_alike [] h = tt
   took_alike (t ∷ ts) h = (history_alike t.took h.0.log, took_alike ts h.1)
@@ -132,7 +136,7 @@ module _ (w v : Worker) (holds : Holds w v) where
   put_alike : (ts : List Turn) → TurnsStand w ts → MeanAlike (set_of w) (set_of v) (puts_of ts)
   put_alike [] h = tt
   put_alike (t ∷ ts) h =
-      alike_append (set_of w) (set_of v) t.put (puts_of ts) (history_alike t.put h.0.own) (put_alike ts h.1)
+      alike_append (set_of w) (set_of v) t.put (puts_of ts) (events_alike t.put h.0.own) (put_alike ts h.1)
 
   states_alike : (ts : List Turn) → TurnsStand w ts → state_taken no_names (set_of w) ts ≡ state_taken no_names (set_of v) ts
   states_alike ts h = λ i c. state_alike (set_of w) (set_of v) ts (took_alike ts h) c i

@@ -65,6 +65,7 @@ fn letter_of(outcome: &Outcome) -> u8 {
         Outcome::NoFile { .. } => b'f',
         Outcome::BadFile { .. } => b'k',
         Outcome::NoMemory => b'm',
+        Outcome::Changed { .. } => b'c',
     }
 }
 

@@ -246,6 +246,32 @@ fn what_commands_come_to_is_told(rt: HostRuntime) {
 }
 
 #[test]
+fn a_change_is_told_with_its_name_and_both_versions(rt: HostRuntime) {
+    let alloc = rt.alloc();
+    'cases: for (text, seen, found, wanted) in [
+        (
+            "R",
+            0,
+            1,
+            "refused: R changed: version 0 at the read, 1 at the commit\n",
+        ),
+        (
+            "far_away",
+            u64::MAX - 1,
+            u64::MAX,
+            "refused: far_away changed: version 18446744073709551614 at the read, 18446744073709551615 at the commit\n",
+        ),
+    ] {
+        let outcome = Outcome::Changed {
+            name: name(&rt, alloc, text),
+            seen,
+            found,
+        };
+        is_told(&rt, alloc, outcome, wanted);
+    }
+}
+
+#[test]
 fn what_is_wrong_with_a_file_is_told(rt: HostRuntime) {
     let alloc = rt.alloc();
     'cases: for (kind, wanted) in [
