@@ -12,6 +12,7 @@ use Rattle.lang_model.specs.declared.syntax.Base.{Base}
 use Rattle.lang_model.specs.declared.syntax.Expr.{Expr, Ref, Call', Base', Inject, Pair', Minus', Turned', Chain', Row_of-Expr, end_of-Expr, more_of-Expr, Row_of-Link, end_of-Link, more_of-Link}
 use Rattle.lang_model.specs.declared.syntax.Decl.{Decl}
 use Rattle.lang_model.specs.declared.syntax.Decl.TheVariants.{Variable, Domain}
+use Rattle.lang_model.specs.declared.syntax.Let.{Let}
 use Rattle.lang_model.specs.declared.syntax.Command.{Command}
 use Rattle.lang_model.specs.declared.syntax.Item.{Item}
 use Rattle.lang_model.specs.declared.syntax.Item.TheVariants.{Function, Program, Command as COMMAND}
@@ -22,14 +23,14 @@ use Rattle.lang_model.specs.State.{State, assigned}
 use Rattle.lang_model.specs.Defining.{defines}
 use Rattle.lang_model.specs.Missing.{missing}
 use Rattle.lang_model.specs.Outcomes.{Ill, refused, with_turns}
-use Rattle.lang_model.specs.Checking.{among, no_name, Known, definition_of, is_projection, faults, faults_by, called, called_in, called_along, rank_named, domains_of, operand_faults, decl_faults, head_faults, function_scope, program_scope, command_scope, rank_of, command_faults, item_faults, known_with, items_faults, flaw}
+use Rattle.lang_model.specs.Checking.{among, no_name, Known, definition_of, is_projection, faults, faults_by, called, called_in, called_along, rank_named, domains_of, operand_faults, decl_faults, head_faults, function_scope, program_scope, Scope, command_scope, rank_of, let_faults, command_faults, item_faults, known_with, items_faults, flaw}
 use Rattle.lang_model.specs.Limits.{rank_limit}
 use Rattle.lang_model.specs.Mean.{Calls, injected_of, injected_by, domain_named, bound, item_named, takes_arguments, body_of, called as called_as, calls_within, around_with, mean}
 use Rattle.rv_types.specs.Items.{value_of_command, RanksWithin}
 use Rattle.rv_types.proofs.Defining.{no_fault}
 use Rattle.rv_types.proofs.Naming.{or_known, definition_of-push}
-use Rattle.rv_types.proofs.Scoping.{command_faults-value}
-use Rattle.rv_eval.specs.Faultless.{NoCallIsIll}
+use Rattle.rv_types.proofs.Scoping.{faults_of_parts, command_faults-parts, command_faults-value}
+use Rattle.rv_eval.specs.Faultless.{HasExpression, NoCallIsIll}
 use Rattle.rv_eval.proofs.Faultless.{Good, Any, left_none, right_none, no_fault_left, domain-good, program-good, function-good, command-good}
 
 -- ---- definitions that stand earlier
@@ -246,6 +247,19 @@ rank-low at own r h = by (nat_lt rank_limit r) refl h
     by true e h = absurd (no_fault_left h)
     by false e h = grind (arith, nat_tests, e)
 
+-- a command without a fault has no expression with one
+lets-clean : (S : Scope) (before behind : List Let) (one : Let) → let_faults S (before ++ one ∷ behind) ≡ [] → faults S no_name one.value ≡ []
+lets-clean S [] behind one h = left_none (faults S no_name one.value) (let_faults S behind) h
+lets-clean S (l ∷ before) behind one h = lets-clean S before behind one (right_none (faults S no_name l.value) (let_faults S (before ++ one ∷ behind)) h)
+
+clean-expression : (E : List Known) (command : Command) (e : Expr) → HasExpression command e → command_faults E command ≡ [] → faults (command_scope E) no_name e ≡ []
+clean-expression E command e has clean =
+    elim has [
+      | inl v ↦ sym (command_faults-value E command e v) ∙ clean
+      | inr b ↦ subst (λ x. faults (command_scope E) no_name x ≡ []) b.6 (lets-clean (command_scope E) b.1 b.2 b.3 (
+            ap (let_faults (command_scope E)) (sym b.5) ∙ ap (λ o. faults_of_parts (command_scope E) o (value_of_command command)) (sym b.4) ∙ sym (command_faults-parts E command) ∙ clean))
+    ]
+
 module _ (items : List Item) (faultless : items_faults [] items ≡ []) where
   calls-good : (R : ℕ) (before behind : List Item) → items ≡ before ++ behind → CallsGood (known_of [] before) (calls_within items R) R
   calls-good zero before behind e at name values n d h t r =
@@ -282,13 +296,13 @@ module _ (items : List Item) (faultless : items_faults [] items ≡ []) where
           let low = item-rank (known_of [] f.pre) f.item name clean f.is in
           omega (arith, f.height, low)
 
-  pub meaning-good : (before behind : List Item) (command : Command) (e : Expr) → items ≡ before ++ COMMAND command ∷ behind → value_of_command command ≡ Some e → (T : State) → missing T e ≡ None → (n : ℕ) →
+  pub meaning-good : (before behind : List Item) (command : Command) (e : Expr) → items ≡ before ++ COMMAND command ∷ behind → HasExpression command e → (T : State) → missing T e ≡ None → (n : ℕ) →
       Good Any (mean (around_with (calls_within items rank_limit) []) T e n).answer
   unfolding item_faults
   meaning-good before behind command e split v T m n =
       let E = known_of [] before in
       let clean : command_faults E command ≡ [] = item-faultless [] before (COMMAND command) behind (subst (λ xs. items_faults [] xs ≡ []) split faultless) in
-      let fs : faults (command_scope E) no_name e ≡ [] = ap (λ o. option_map_or (faults (command_scope E) no_name) o []) (sym v) ∙ sym (command_faults-value E command) ∙ clean in
+      let fs : faults (command_scope E) no_name e ≡ [] = clean-expression E command e v clean in
       command-good (command_scope E) (calls_within items rank_limit) [] rank_limit (calls-good rank_limit before (COMMAND command ∷ behind) split)
       (λ U p at base domain k j. absurd (none_declared (is_projection base) domain k)) e fs (called-low E rank_limit (ranks-low before (COMMAND command ∷ behind) split) e) T
       (λ name h. absurd (let z : false ≡ true = h in cc)) m n
