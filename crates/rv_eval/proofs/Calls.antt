@@ -257,7 +257,7 @@ clean-expression E command e has clean =
     elim has [
       | inl v ↦ sym (command_faults-value E command e v) ∙ clean
       | inr b ↦ subst (λ x. faults (command_scope E) no_name x ≡ []) b.6 (lets-clean (command_scope E) b.1 b.2 b.3 (
-            ap (let_faults (command_scope E)) (sym b.5) ∙ ap (λ o. faults_of_parts (command_scope E) o (value_of_command command)) (sym b.4) ∙ sym (command_faults-parts E command) ∙ clean))
+          ap (let_faults (command_scope E)) (sym b.5) ∙ ap (λ o. faults_of_parts (command_scope E) o (value_of_command command)) (sym b.4) ∙ sym (command_faults-parts E command) ∙ clean))
     ]
 
 module _ (items : List Item) (faultless : items_faults [] items ≡ []) where
