@@ -22,14 +22,15 @@ use Rattle.lang_model.specs.State.{State, assigned}
 use Rattle.lang_model.specs.Defining.{defines}
 use Rattle.lang_model.specs.Missing.{missing}
 use Rattle.lang_model.specs.Outcomes.{Ill, refused, with_turns}
-use Rattle.lang_model.specs.Checking.{among, no_name, Known, definition_of, is_projection, faults, faults_by, called, called_in, called_along, rank_named, domains_of, operand_faults, decl_faults, head_faults, function_scope, program_scope, command_scope, rank_of, command_faults, item_faults, known_with, items_faults, flaw}
+use Rattle.lang_model.specs.Checking.{among, no_name, Known, definition_of, is_projection, faults, faults_by, called, called_in, called_along, rank_named, domains_of, operand_faults, decl_faults, head_faults, function_scope, program_scope, command_scope, Scope, rank_of, let_faults, command_faults, item_faults, known_with, items_faults, flaw}
 use Rattle.lang_model.specs.Limits.{rank_limit}
 use Rattle.lang_model.specs.Mean.{Calls, injected_of, injected_by, domain_named, bound, item_named, takes_arguments, body_of, called as called_as, calls_within, around_with, mean}
 use Rattle.rv_types.specs.Items.{value_of_command, RanksWithin}
 use Rattle.rv_types.proofs.Defining.{no_fault}
 use Rattle.rv_types.proofs.Naming.{or_known, definition_of-push}
-use Rattle.rv_types.proofs.Scoping.{command_faults-value}
-use Rattle.rv_eval.specs.Faultless.{NoCallIsIll}
+use Rattle.rv_types.proofs.Scoping.{faults_of_parts, command_faults-parts, command_faults-value}
+use Rattle.lang_model.specs.declared.syntax.Let.{Let as LetOf}
+use Rattle.rv_eval.specs.Faultless.{IsOfLets, IsExpressionOf, NoCallIsIll}
 use Rattle.rv_eval.proofs.Faultless.{Good, Any, left_none, right_none, no_fault_left, domain-good, program-good, function-good, command-good}
 
 -- ---- definitions that stand earlier
@@ -215,6 +216,18 @@ rank-some E (Function at own params body) name h = omega arith
 rank-some E (Program at own params decls body result) name h = omega arith
 rank-some E (COMMAND command) name h = absurd (let z : false ≡ true = h in cc)
 
+-- ---- an expression of a command without a fault
+let_faultless : (S : Scope) (lets : List LetOf) (e : Expr) → let_faults S lets ≡ [] → IsOfLets e lets → faults S no_name e ≡ []
+let_faultless S [] e h own = absurd own
+let_faultless S (l ∷ ls) e h (inl same) = subst (λ x. faults S no_name x ≡ []) same (left_none _ _ h)
+let_faultless S (l ∷ ls) e h (inr own) = let_faultless S ls e (right_none _ _ h) own
+
+own_faultless : (E : List Known) (command : Command) (e : Expr) → command_faults E command ≡ [] → IsExpressionOf e command → faults (command_scope E) no_name e ≡ []
+own_faultless E command e clean (inl v) = sym (command_faults-value E command e v) ∙ clean
+own_faultless E command e clean (inr (lets, is, own)) =
+    let_faultless (command_scope E) lets e
+    (sym (command_faults-parts E command ∙ ap (λ o. faults_of_parts (command_scope E) o (value_of_command command)) is) ∙ clean) own
+
 -- calls of definitions whose ranks are within a bound
 max-within : (a b c : ℕ) → a ≤ c → b ≤ c → max a b ≤ c
 max-within a b c h k = omega arith
@@ -282,13 +295,13 @@ module _ (items : List Item) (faultless : items_faults [] items ≡ []) where
           let low = item-rank (known_of [] f.pre) f.item name clean f.is in
           omega (arith, f.height, low)
 
-  pub meaning-good : (before behind : List Item) (command : Command) (e : Expr) → items ≡ before ++ COMMAND command ∷ behind → value_of_command command ≡ Some e → (T : State) → missing T e ≡ None → (n : ℕ) →
+  pub meaning-good : (before behind : List Item) (command : Command) (e : Expr) → items ≡ before ++ COMMAND command ∷ behind → IsExpressionOf e command → (T : State) → missing T e ≡ None → (n : ℕ) →
       Good Any (mean (around_with (calls_within items rank_limit) []) T e n).answer
   unfolding item_faults
   meaning-good before behind command e split v T m n =
       let E = known_of [] before in
       let clean : command_faults E command ≡ [] = item-faultless [] before (COMMAND command) behind (subst (λ xs. items_faults [] xs ≡ []) split faultless) in
-      let fs : faults (command_scope E) no_name e ≡ [] = ap (λ o. option_map_or (faults (command_scope E) no_name) o []) (sym v) ∙ sym (command_faults-value E command) ∙ clean in
+      let fs : faults (command_scope E) no_name e ≡ [] = own_faultless E command e clean v in
       command-good (command_scope E) (calls_within items rank_limit) [] rank_limit (calls-good rank_limit before (COMMAND command ∷ behind) split)
       (λ U p at base domain k j. absurd (none_declared (is_projection base) domain k)) e fs (called-low E rank_limit (ranks-low before (COMMAND command ∷ behind) split) e) T
       (λ name h. absurd (let z : false ≡ true = h in cc)) m n

@@ -1,5 +1,5 @@
 -- What a checked script is never refused for.
-use Rattle.std.specs.Prelude.{◌≡◌, ◌++◌, ℕ, List, ◌∷◌, Some, None}
+use Rattle.std.specs.Prelude.{◌≡◌, ◌++◌, ◌⊎◌, ℕ, List, [], ◌∷◌, Some, None}
 use Rattle.lang_model.specs.declared.syntax.Expr.{Expr}
 use Rattle.lang_model.specs.declared.syntax.Command.{Command}
 use Rattle.lang_model.specs.declared.syntax.Item.{Item}
@@ -12,7 +12,8 @@ use Rattle.lang_model.specs.Missing.{missing}
 use Rattle.lang_model.specs.Checking.{flaw}
 use Rattle.lang_model.specs.Outcomes.{Refusal, Ill, Size, Turns, Not}
 use Rattle.lang_model.specs.Mean.{meaning}
-use Rattle.rv_types.specs.Items.{value_of_command}
+use Rattle.lang_model.specs.declared.syntax.Let.{Let as LetOf}
+use Rattle.rv_types.specs.Items.{value_of_command, lets_of_command}
 
 -- a fault of sizes: it is none of a name, of the arguments of a call, or of calls too deep in one another
 abbrev pub IsOfSizes : TypeFault → Type 0
@@ -28,11 +29,22 @@ IllBySizes (Ill fault) = IsOfSizes fault
 IllBySizes (Size at wanted) = Unit {0}
 IllBySizes (Turns at) = Unit {0}
 
+-- an expression is that of one of these assignments
+abbrev pub IsOfLets : Expr → List LetOf → Type 0
+IsOfLets e [] = ⊥
+IsOfLets e (l ∷ ls) = (l.value ≡ e) ⊎ IsOfLets e ls
+
+-- an expression is that of a command, or one of a block
+abbrev pub IsExpressionOf : Expr → Command → Type 0
+IsExpressionOf e command =
+    (value_of_command command ≡ Some e)
+    ⊎ ((lets : List LetOf) × (lets_of_command command ≡ Some lets) × IsOfLets e lets)
+
 -- an expression is one of a command of the script
 abbrev pub IsOfCommand : Script → Expr → Type 0
 IsOfCommand script e =
     (before behind : List Item) × (command : Command)
-    × (script.items.items ≡ before ++ COMMAND command ∷ behind) × (value_of_command command ≡ Some e)
+    × (script.items.items ≡ before ++ COMMAND command ∷ behind) × IsExpressionOf e command
 
 -- in a script without a flaw, on a state that has the names of the expression, the meaning is Ill by sizes alone
 abbrev pub NoCallIsIll : Type 0

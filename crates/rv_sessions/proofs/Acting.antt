@@ -43,7 +43,9 @@ use Rattle.rv_sessions.specs.Showing.{CameShown, wanted_in}
 use Rattle.rv_sessions.specs.Acting.{turn_of, WasNotRead, WasRead, WasShown, WasValued, on_log, IsReadItem, IsValueItem}
 use Rattle.rv_sessions.proofs.FoldingKept.{meant_same, carried_stands}
 use Rattle.rv_sessions.proofs.Looking.{wanted_agree}
-use Rattle.rv_sessions.proofs.Building.{Went, lacks, full, refuses, is_done}
+use Rattle.run_model.specs.Legal.{CommitsItem}
+use Rattle.run_model.specs.Turns.{change_taken}
+use Rattle.rv_sessions.proofs.Building.{by_one, once_one, Went, lacks, full, refuses, is_done}
 
 -- ---- 1
 pub through_one : {old new : Worker} {before after : PASS} {log : List Event} {e : Event} → TookTurn old new before after log (e ∷ []) →
@@ -51,6 +53,15 @@ pub through_one : {old new : Worker} {before after : PASS} {log : List Event} {e
 through_one {log} {e} t = record {
   turns = (t.begins, ([], t.seen ∙ sym (append-nil (log ++ e ∷ []))));
   mine = t.mine;
+  kept = t.kept;
+}
+
+-- a turn that put events
+pub through_puts : {old new : Worker} {before after : PASS} {log puts : List Event} → TookTurn old new before after log puts →
+    GoesThrough (record { took = log; put = puts } ∷ []) before after
+through_puts {before = before} {log = log} {puts = puts} t = record {
+  turns = (t.begins, ([], t.seen ∙ sym (append-nil (log ++ puts))));
+  mine = t.mine ∙ ap (λ l. before.mine ++ l) (sym (append-nil puts));
   kept = t.kept;
 }
 
@@ -165,6 +176,8 @@ module _ (leaf : ℕ) (input : Input) (script : Script) (s c : ℕ) (item : Item
       (record {
         through = n.through;
         own = tt;
+        begun = tt;
+        once = tt;
         stand = tt;
         snaps_stood = stood;
         room = nothing_made old.made new.made _ n.stays.made;
@@ -176,8 +189,10 @@ module _ (leaf : ℕ) (input : Input) (script : Script) (s c : ℕ) (item : Item
     pub went : Went leaf input script s c item old new before after snaps (turn_of log (read_of s c) ∷ [])
     went = record {
       through = read.through;
-      own = ((refl, refl), tt);
-      stand = (record { log = read.stand; own = tt }, tt);
+      own = (by_one refl refl, tt);
+      begun = (read_of s c, [], refl);
+      once = once_one;
+      stand = (record { log = read.stand; own = (tt, tt) }, tt);
       snaps_stood = stood;
       room = subst (λ n. MakesAtMost n old new) (sym (v.cost_is leaf input script _ _ _)) room;
       keeps = read.keeps;
@@ -214,3 +229,4 @@ module _ (leaf : ℕ) (input : Input) (script : Script) (s c : ℕ) (item : Item
         (sym (ap (done_text (prefix s c) item) dd ∙ u.shows (prefix s c) r))
         (sym (ap (done_save item) dd ∙ u.saves r))
         (sym (ap (λ o. keep o (carried log) snaps) u.no_snapped))
+        (subst (λ l. CommitsItem (change_taken [] (turn_of log (read_of s c) ∷ []) c) l Done) (sym u.no_block) tt)

@@ -26,8 +26,10 @@ use Rattle.run_model.specs.declared.outcome.Outcome.{Outcome}
 use Rattle.run_model.specs.declared.outcome.Outcome.TheVariants.{Done, Ill as ILL, NoMemory as NO_MEMORY}
 use Rattle.run_model.specs.Names.{compare, lookup, set}
 use Rattle.run_model.specs.Inputs.{Input}
-use Rattle.run_model.specs.Due.{Workspace, Early, Due, Nothing, Value, Explained, Refused, printed, due, due_of_command, due_of_value, due_of_drop, due_on_snapshot, outcome_due, gives}
-use Rattle.run_model.specs.Outcomes.{IsNotEarly}
+use Rattle.run_model.specs.Due.{Workspace, Early, Due, Nothing, Value, Values, Explained, Refused, printed, due, due_of_command, due_of_value, due_of_drop, due_on_snapshot, outcome_due, gives}
+use Rattle.run_model.specs.Outcomes.{IsNotEarly, lets_of}
+use Rattle.run_model.specs.Legal.{CommitsItem}
+use Rattle.run_model.specs.Turns.{change_taken}
 use Rattle.run_model.specs.Events.{reads_of, done_deeds}
 use Rattle.run_model.specs.Page.{done_text, done_save}
 use Rattle.run_model.specs.Cost.{cost_of_item, cost_on_snapshot}
@@ -53,7 +55,7 @@ use Rattle.rv_sessions.specs.Telling.{TellsRefusal}
 use Rattle.rv_sessions.proofs.FoldingKept.{meant_same}
 use Rattle.rv_sessions.proofs.FoldingTurns.{through_none}
 use Rattle.rv_sessions.proofs.Looking.{valued-lookup, snap_agrees}
-use Rattle.rv_sessions.proofs.Building.{Went, lacks, refuses, is_done}
+use Rattle.rv_sessions.proofs.Building.{by_one, once_one, Went, lacks, refuses, is_done}
 use Rattle.rv_sessions.proofs.Acting.{through_one, through_nothing, late_value}
 use Rattle.rv_sessions.proofs.Assigning.{ReadsNothing, unread_lacks, unread_full, unread_refuses}
 use Rattle.rv_sessions.proofs.Items.{is_late}
@@ -78,6 +80,7 @@ kept_stands w (x ∷ xs) n c h e = kept_first w (eq_by_cmp compare n x.0) x.1 (l
 at_saves : (at : Place) (name : List ℕ) (e : Expr) (d : Due) → done_save (COMMAND (AT at name e)) d ≡ []
 at_saves at name e Nothing = refl
 at_saves at name e (Value r) = refl
+at_saves at name e (Values gifts) = refl
 at_saves at name e (Explained steps) = refl
 at_saves at name e (Refused when o) = refl
 
@@ -87,7 +90,7 @@ module _ (leaf : ℕ) (input : Input) (script : Script) (s c : ℕ) (at : Place)
   item = COMMAND (AT at name e)
 
   reads_nothing : ReadsNothing item
-  reads_nothing = record { reads = refl; memory = tt; no_snapped = refl }
+  reads_nothing = record { reads = refl; memory = tt; no_snapped = refl; no_block = refl }
 
   due_at : (state : Workspace) (snap : Option Workspace) → due input script item state snap ≡ due_on_snapshot input script at name e snap
   unfolding due due_of_command
@@ -138,11 +141,11 @@ module _ (leaf : ℕ) (input : Input) (script : Script) (s c : ℕ) (at : Place)
     at_shown bytes h room =
         let r : Relation = h.0 in
         let w : Went leaf input script s c item old new p p snaps [] =
-        record { through = through_none p; own = tt; stand = tt; snaps_stood = stood; room = room_is room; keeps = k } in
+        record { through = through_none p; own = tt; begun = tt; once = tt; stand = tt; snaps_stood = stood; room = room_is room; keeps = k } in
         let dd : due_on input script item new snaps [] ≡ Value r =
         due_is ∙ ap (due_of_value printed input.turns) (sym one) ∙ ap (λ t. due_of_value printed t before_) i ∙ h.1 in
         is_done w snaps (prefix s c ++ bytes) [] (ap outcome_due dd) refl tt
-        (ap (λ b. prefix s c ++ b) h.2 ∙ sym (ap (done_text (prefix s c) item) dd)) (sym (at_saves at name e (due_on input script item new snaps []))) refl
+        (ap (λ b. prefix s c ++ b) h.2 ∙ sym (ap (done_text (prefix s c) item) dd)) (sym (at_saves at name e (due_on input script item new snaps []))) refl tt
 
     pub at_stopped : (o : Outcome) (result : Result Told LACK) → Stopped old new e turns before_ printed o → MakesAtMost (cost_of_value leaf before_) old new →
         TellsRefusal s c o result → DidItem leaf input script s c item old new p p snaps snaps result
@@ -179,8 +182,10 @@ module _ (leaf : ℕ) (input : Input) (script : Script) (s c : ℕ) (at : Place)
       Went leaf input script s c drop old new before after snaps (turn_of log e ∷ [])
   drop_went log e t a b n = record {
     through = through_one t;
-    own = ((a, b), tt);
-    stand = (record { log = t.stand; own = n }, tt);
+    own = (by_one a b, tt);
+    begun = (e, [], refl);
+    once = once_one;
+    stand = (record { log = t.stand; own = (n, tt) }, tt);
     snaps_stood = stood;
     room = made_none old.made new.made t.stays.made;
     keeps = t.stays.keeps;
@@ -190,6 +195,8 @@ module _ (leaf : ℕ) (input : Input) (script : Script) (s c : ℕ) (at : Place)
   drop_nowhere g t = record {
     through = g;
     own = tt;
+    begun = tt;
+    once = tt;
     stand = tt;
     snaps_stood = stood;
     room = made_none old.made new.made t.made;
@@ -204,7 +211,7 @@ module _ (leaf : ℕ) (input : Input) (script : Script) (s c : ℕ) (at : Place)
   drop_done h =
       let dd : due input script drop (meant new (carried h.0)) None ≡ Nothing = due_had h.0 ∙ some_kept at name (set_of new) (lookup (carried h.0) name) h.2 in
       is_done (drop_went h.0 (removal s c name) h.1 refl refl tt) snaps [] [] (ap outcome_due dd) refl tt (sym (ap (done_text (prefix s c) drop) dd))
-      (sym (ap (done_save drop) dd)) refl
+      (sym (ap (done_save drop) dd)) refl tt
 
   -- there is no such name
   pub drop_unknown : (text : List ℕ) (result : Result Told LACK) → DropTurn s c name old new before after (Err (UNKNOWN_NAME text)) →
@@ -233,8 +240,10 @@ module _ (leaf : ℕ) (input : Input) (script : Script) (s c : ℕ) (name : List
       Went leaf input script s c snap old new before after snaps (turn_of log (read_of s c) ∷ [])
   snap_went log t = record {
     through = through_one t;
-    own = ((refl, refl), tt);
-    stand = (record { log = t.stand; own = tt }, tt);
+    own = (by_one refl refl, tt);
+    begun = (read_of s c, [], refl);
+    once = once_one;
+    stand = (record { log = t.stand; own = (tt, tt) }, tt);
     snaps_stood = stood;
     room = made_none old.made new.made t.stays.made;
     keeps = t.stays.keeps;
@@ -246,7 +255,7 @@ module _ (leaf : ℕ) (input : Input) (script : Script) (s c : ℕ) (name : List
   snap_done log own names left t n l e =
       let dd : due input script snap (meant new (carried log)) None ≡ Nothing = due_snap (meant new (carried log)) None in
       is_done (snap_went log t) left [] [] (ap outcome_due dd) refl tt (sym (ap (done_text (prefix s c) snap) dd)) (sym (ap (done_save snap) dd))
-      (e ∙ ap (λ x. set x names snaps) n ∙ ap (λ x. set name x snaps) l)
+      (e ∙ ap (λ x. set x names snaps) n ∙ ap (λ x. set name x snaps) l) tt
 
   -- memory ran out, after the read or before it
   pub snap_lacks : (log : List Event) → TookTurn old new before after log (read_of s c ∷ []) →
@@ -257,19 +266,20 @@ module _ (leaf : ℕ) (input : Input) (script : Script) (s c : ℕ) (name : List
       Did leaf input script s c snap old new before after snaps snaps NO_MEMORY (prefix s c ++ refusal_text NO_MEMORY) []
   snap_unread h =
       lacks {ts = []}
-      (record { through = h.through; own = tt; stand = tt; snaps_stood = stood; room = made_none old.made new.made h.stays.made; keeps = h.stays.keeps })
+      (record { through = h.through; own = tt; begun = tt; once = tt; stand = tt; snaps_stood = stood; room = made_none old.made new.made h.stays.made; keeps = h.stays.keeps })
       tt (reads_of snap, refl)
 
 -- ---- 3
 -- a definition
 pub defined : (leaf : ℕ) (input : Input) (script : Script) (s c : ℕ) (item : Item) (w : Worker) (p : PASS) (snaps : Kept) → KeptStand w snaps →
     ((state : Workspace) (snap : Option Workspace) → due input script item state snap ≡ Nothing) → done_deeds item Nothing ≡ [] → gives item Nothing ≡ [] →
-    snapped item ≡ None → Did leaf input script s c item w w p p snaps snaps Done [] []
-defined leaf input script s c item w p snaps stood d deeds given kept =
+    snapped item ≡ None → lets_of item ≡ None → Did leaf input script s c item w w p p snaps snaps Done [] []
+defined leaf input script s c item w p snaps stood d deeds given kept block =
     let x : Workspace = state_of_turns w [] in
     let y : Option Workspace = snap_meant w item snaps in
     is_done {ts = []}
-    (record { through = through_none p; own = tt; stand = tt; snaps_stood = stood; room = omega arith; keeps = keeps_itself w })
+    (record { through = through_none p; own = tt; begun = tt; once = tt; stand = tt; snaps_stood = stood; room = omega arith; keeps = keeps_itself w })
     snaps [] [] (ap outcome_due (d x y)) (sym (ap (done_deeds item) (d x y) ∙ deeds))
     (subst (HaveValues (set_of w) []) (sym (ap (gives item) (d x y) ∙ given)) tt)
     (sym (ap (done_text (prefix s c) item) (d x y))) (sym (ap (done_save item) (d x y))) (sym (ap (λ o. keep o (carried []) snaps) kept))
+    (subst (λ l. CommitsItem (change_taken [] [] c) l Done) (sym block) tt)

@@ -31,14 +31,15 @@ use Rattle.run_model.specs.Names.{lookup}
 use Rattle.run_model.specs.Inputs.{Input}
 use Rattle.run_model.specs.Due.{Workspace, When, Early, Due, Value, Refused, due, due_of_command, unless_over, listing_over, due_of_value, outcome_due, gives}
 use Rattle.run_model.specs.Steps.{snapped}
-use Rattle.run_model.specs.Outcomes.{MayLackNodes, MayLackMemory, IsNotEarly}
+use Rattle.run_model.specs.Outcomes.{MayLackNodes, MayLackMemory, IsNotEarly, lets_of}
 use Rattle.run_model.specs.Events.{Reads, Gives, giving, first_of, reads_of, done_deeds}
 use Rattle.run_model.specs.Page.{shown, saved_of, done_text, done_save}
 use Rattle.run_model.specs.Cost.{cost_of, cost_of_item, listed_count, listed_cost}
 use Rattle.run_model.specs.Carried.{carried}
 use Rattle.run_model.specs.Sessions.{HaveValues}
 use Rattle.run_model.specs.Texts.{prefix, refusal_text}
-use Rattle.run_model.specs.Turns.{Turn}
+use Rattle.run_model.specs.Legal.{CommitsItem}
+use Rattle.run_model.specs.Turns.{Turn, change_taken}
 use Rattle.turn_book.specs.Views.{View as PASS}
 use Rattle.rv_workspace.specs.Books.{HistoryStands}
 use Rattle.rv_workspace.specs.Entering.{read_of, assign_of}
@@ -53,7 +54,7 @@ use Rattle.rv_sessions.specs.Acting.{turn_of, WasRead, WasValued, ValuedInTurn, 
 use Rattle.rv_sessions.proofs.FoldingKept.{meant_same, carried_stands}
 use Rattle.rv_sessions.proofs.FoldingTurns.{through_none, through_append}
 use Rattle.rv_sessions.proofs.Overs.{over_refuses}
-use Rattle.rv_sessions.proofs.Building.{Went, lacks, full, refuses, is_done}
+use Rattle.rv_sessions.proofs.Building.{by_one, once_one, once_read, Went, lacks, full, refuses, is_done}
 use Rattle.rv_sessions.proofs.Acting.{through_one, through_nothing, lack_did}
 use Rattle.rv_sessions.proofs.Items.{let_item}
 use Rattle.rv_sessions.proofs.Telling.{stopped_not_done, told_did}
@@ -106,10 +107,12 @@ module _ (leaf : ℕ) (input : Input) (script : Script) (s c : ℕ) (name : List
       let w : Went leaf input script s c (COMMAND (LET name e)) old new before after snaps ts = record {
         through = through_append (turn_of log (read_of s c) ∷ []) (turn_of taken (assign_of s c (name, rel)) ∷ []) before between after
             value.read.through (through_one t);
-        own = ((refl, refl), ((refl, refl), tt));
+        own = (by_one refl refl, (by_one refl refl, tt));
+        begun = (read_of s c, [], refl);
+        once = once_read;
         stand = (
-          record { log = history_stands mid new (λ x h. keeps_stands mid new x k h) log value.read.stand; own = tt },
-          (record { log = t.stand; own = (keeps_stands mid new rel k value.came.0, tt) }, tt),
+          record { log = history_stands mid new (λ x h. keeps_stands mid new x k h) log value.read.stand; own = (tt, tt) },
+          (record { log = t.stand; own = ((keeps_stands mid new rel k value.came.0, tt), tt) }, tt),
         );
         snaps_stood = stood;
         room = room_later (assign_of s c (name, rel) ∷ []) taken t;
@@ -123,7 +126,7 @@ module _ (leaf : ℕ) (input : Input) (script : Script) (s c : ℕ) (name : List
       (ap (λ m. Reads ∷ Gives name m rel.cols ∷ []) (sym rows) ∙ ap (λ n. Reads ∷ Gives name (set_of new rel).rows n ∷ []) (sym cols)
       ∙ sym (ap (done_deeds (COMMAND (LET name e))) dd))
       (subst (λ x. HaveValues (set_of new) (rel ∷ []) (gives (COMMAND (LET name e)) x)) (sym dd) (refl, tt))
-      (sym (ap (done_text (prefix s c) (COMMAND (LET name e))) dd)) (sym (ap (done_save (COMMAND (LET name e))) dd)) refl
+      (sym (ap (done_text (prefix s c) (COMMAND (LET name e))) dd)) (sym (ap (done_save (COMMAND (LET name e))) dd)) refl tt
 
   -- memory ran out for the assignment
   pub let_lacks : (taken : List Event) → TookTurn mid new between after taken [] →
@@ -172,6 +175,7 @@ pub record ReadsNothing (item : Item) : Type 0 where
   pub reads : reads_of item ≡ []
   pub memory : MayLackMemory item
   pub no_snapped : snapped item ≡ None
+  pub no_block : lets_of item ≡ None
 
 module _ (leaf : ℕ) (input : Input) (script : Script) (s c : ℕ) (item : Item) (old new : Worker) (before after : PASS) (snaps : Kept)
     (stood : KeptStand old snaps) (k : Keeps old new) (n : ReadsNothing item) where
@@ -179,7 +183,7 @@ module _ (leaf : ℕ) (input : Input) (script : Script) (s c : ℕ) (item : Item
       (room : MakesAtMost (cost_of_item leaf input script item (state_of_turns new []) (snap_meant new item snaps)
       (due_on input script item new snaps [])) old new) where
     went_nowhere : Went leaf input script s c item old new before after snaps []
-    went_nowhere = record { through = g; own = tt; stand = tt; snaps_stood = stood; room = room; keeps = k }
+    went_nowhere = record { through = g; own = tt; begun = tt; once = tt; stand = tt; snaps_stood = stood; room = room; keeps = k }
 
     pub unread_lacks : Did leaf input script s c item old new before after snaps snaps NO_MEMORY (prefix s c ++ refusal_text NO_MEMORY) []
     unread_lacks = lacks went_nowhere n.memory (reads_of item, refl)
@@ -204,8 +208,10 @@ module _ (leaf : ℕ) (input : Input) (script : Script) (s c : ℕ) (item : Item
       let ts : List Turn = turn_of log (assign_of s c (name, rel)) ∷ [] in
       let w : Went leaf input script s c item old new before after snaps ts = record {
         through = g;
-        own = ((refl, refl), tt);
-        stand = (record { log = h; own = (st, tt) }, tt);
+        own = (by_one refl refl, tt);
+        begun = (assign_of s c (name, rel), [], refl);
+        once = once_one;
+        stand = (record { log = h; own = ((st, tt), tt) }, tt);
         snaps_stood = stood;
         room = subst (λ d. MakesAtMost (cost_of_item leaf input script item (meant new (carried log)) (snap_meant new item snaps) d) old new) (sym dd) room;
         keeps = k;
@@ -216,6 +222,7 @@ module _ (leaf : ℕ) (input : Input) (script : Script) (s c : ℕ) (item : Item
       (subst (HaveValues (set_of new) (rel ∷ [])) (sym (ap (gives item) dd ∙ given)) (v, tt))
       (sym (ap (done_text (prefix s c) item) dd ∙ text (prefix s c))) (sym (ap (done_save item) dd ∙ saved))
       (sym (ap (λ o. keep o (carried log) snaps) n.no_snapped))
+      (subst (λ l. CommitsItem (change_taken [] ts c) l Done) (sym n.no_block) tt)
 
 -- a value that came stands
 pub value_stands : (leaf : ℕ) (input : Input) (script : Script) (s c : ℕ) (e : Expr) (old new : Worker) (before after : PASS) (rel : Rel) →
@@ -234,7 +241,7 @@ module _ (leaf : ℕ) (input : Input) (script : Script) (s c : ℕ) (name : List
   value = relation_of rows cols (lists list.items)
 
   reads_nothing : ReadsNothing item
-  reads_nothing = record { reads = refl; memory = tt; no_snapped = refl }
+  reads_nothing = record { reads = refl; memory = tt; no_snapped = refl; no_block = refl }
 
   due_listed : (state : Workspace) (snap : Option Workspace) → due input script item state snap ≡ unless_over (listing_over rows rows_at cols cols_at list.items) value
   unfolding due due_of_command

@@ -25,10 +25,10 @@ module _ (leaf : ℕ) (input : Input) (script : Script) (s c : ℕ) where
       Did leaf input script s c (Function at name params body) w w p p snaps snaps Done [] []
   unfolding due
   function_did at name params body w p snaps stood =
-      defined leaf input script s c (Function at name params body) w p snaps stood (λ state snap. refl) refl refl refl
+      defined leaf input script s c (Function at name params body) w p snaps stood (λ state snap. refl) refl refl refl refl
 
   pub program_did : (at : _) (name : List ℕ) (params : _) (decls : _) (body : _) (result : _) (w : Worker) (p : PASS) (snaps : Kept) → KeptStand w snaps →
       Did leaf input script s c (Program at name params decls body result) w w p p snaps snaps Done [] []
   unfolding due
   program_did at name params decls body result w p snaps stood =
-      defined leaf input script s c (Program at name params decls body result) w p snaps stood (λ state snap. refl) refl refl refl
+      defined leaf input script s c (Program at name params decls body result) w p snaps stood (λ state snap. refl) refl refl refl refl

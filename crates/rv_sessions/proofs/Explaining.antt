@@ -38,7 +38,7 @@ use Rattle.rv_sessions.specs.Telling.{TellsRefusal}
 use Rattle.rv_sessions.specs.Turning.{TookTurn}
 use Rattle.rv_sessions.specs.Valuing.{outcome_told, IsRefusal}
 use Rattle.rv_sessions.proofs.Acting.{through_one}
-use Rattle.rv_sessions.proofs.Building.{Went, lacks, refuses, is_done}
+use Rattle.rv_sessions.proofs.Building.{by_one, once_one, Went, lacks, refuses, is_done}
 use Rattle.rv_sessions.proofs.Looking.{wanted_agree}
 use Rattle.rv_sessions.proofs.Telling.{as_told}
 
@@ -72,8 +72,10 @@ module _ (leaf : ℕ) (input : Input) (script : Script) (s c : ℕ) (e : Expr) (
       Went leaf input script s c item old new before after snaps (turn_of log (read_of s c) ∷ [])
   went log t = record {
     through = through_one t;
-    own = ((refl, refl), tt);
-    stand = (record { log = t.stand; own = tt }, tt);
+    own = (by_one refl refl, tt);
+    begun = (read_of s c, [], refl);
+    once = once_one;
+    stand = (record { log = t.stand; own = (tt, tt) }, tt);
     snaps_stood = stood;
     room = made_none old.made new.made t.stays.made;
     keeps = t.stays.keeps;
@@ -83,7 +85,7 @@ module _ (leaf : ℕ) (input : Input) (script : Script) (s c : ℕ) (e : Expr) (
       Did leaf input script s c item old new before after snaps snaps NO_MEMORY (prefix s c ++ refusal_text NO_MEMORY) []
   explain_unread h =
       lacks {ts = []}
-      (record { through = h.through; own = tt; stand = tt; snaps_stood = stood; room = made_none old.made new.made h.stays.made; keeps = h.stays.keeps })
+      (record { through = h.through; own = tt; begun = tt; once = tt; stand = tt; snaps_stood = stood; room = made_none old.made new.made h.stays.made; keeps = h.stays.keeps })
       tt (reads_of item, refl)
 
   module _ (log : List Event) (t : TookTurn old new before after log (read_of s c ∷ [])) (ws : List (List ℕ)) (names : Carried) (w : ws ≡ names_in e)
@@ -102,7 +104,7 @@ module _ (leaf : ℕ) (input : Input) (script : Script) (s c : ℕ) (e : Expr) (
     explain_done bytes h =
         let dd : due input script item (meant new (carried log)) None ≡ Explained (steps_of (tree_of e)) = due_read ∙ ap (due_of_steps e) h.0 in
         is_done (went log t) snaps (prefix s c ++ bytes) [] (ap outcome_due dd) refl tt
-        (ap (λ b. prefix s c ++ b) h.1 ∙ sym (ap (done_text (prefix s c) item) dd)) (sym (ap (done_save item) dd)) refl
+        (ap (λ b. prefix s c ++ b) h.1 ∙ sym (ap (done_text (prefix s c) item) dd)) (sym (ap (done_save item) dd)) refl tt
 
     pub explain_refused : (o : Outcome) (result : Result Told LACK) → CameExplained (early_fault script (state_of new names) e) (steps_of (tree_of e)) (Err o) →
         TellsRefusal s c o result → DidItem leaf input script s c item old new before after snaps snaps result

@@ -19,9 +19,9 @@ use Rattle.run_model.specs.declared.event.Event.{Event}
 use Rattle.run_model.specs.declared.event.Act.{Act}
 use Rattle.run_model.specs.declared.event.Act.TheVariants.{Read, Assign, Remove}
 use Rattle.run_model.specs.Names.{compare, Names, lookup, set, remove}
-use Rattle.run_model.specs.Steps.{Ending, Succeeds, Fails, LacksMemory, Snapshots, snapped, asked, keep as keep_state, kept_at, snap_for}
+use Rattle.run_model.specs.Steps.{Ending, Succeeds, Fails, Changes, LacksMemory, Snapshots, snapped, asked, keep as keep_state, kept_at, snap_for}
 use Rattle.run_model.specs.States.{Replay, start}
-use Rattle.run_model.specs.Carried.{Carried, carry_act, carry, carried}
+use Rattle.run_model.specs.Carried.{Carried, carry_act, carry, carried_from, carried}
 use Rattle.run_model.specs.Sessions.{rel_of}
 use Rattle.rv_workspace.specs.Books.{EventStands, HistoryStands}
 use Rattle.rv_sessions.specs.Standing.{AllNamesStand, Kept, KeptStand, meant, meant_all}
@@ -65,7 +65,7 @@ module _ (w : Worker) where
 
   -- where the relations of a log stand, so do all that it leaves
   pub carried_stands : (es : List Event) → HistoryStands w es → AllNamesStand w (carried es)
-  unfolding carried
+  unfolding carried_from
   carried_stands es h = carry_stands es start h tt
 
 -- ---- a worker that keeps another
@@ -93,6 +93,7 @@ module _ (v w : Worker) (k : Keeps v w) where
       put_stands None = snaps_stand snaps s
       put_stands (Some name) = set_each (AllNamesStand w) name (carried log) snaps (carried_stands w log h) (snaps_stand snaps s)
   left_stands Fails item log snaps h s = snaps_stand snaps s
+  left_stands Changes item log snaps h s = snaps_stand snaps s
   left_stands LacksMemory item log snaps h s = snaps_stand snaps s
 
 -- ---- name by name
@@ -116,6 +117,7 @@ module _ (w : Worker) where
   pub behind_meant : (x : Ending) (item : Item) (m : Carried) (snaps : Kept) → meant_all w (kept_behind x item m snaps) ≡ kept_at x item (meant w m) (meant_all w snaps)
   behind_meant Succeeds item m snaps = keep_meant (snapped item) m snaps
   behind_meant Fails item m snaps = refl
+  behind_meant Changes item m snaps = refl
   behind_meant LacksMemory item m snaps = refl
 
   pick_meant : (b : Bool) (m : Carried) (o : Option Carried) → cond b (Some (meant w m)) (option_map (meant w) o) ≡ option_map (meant w) (cond b (Some m) o)

@@ -21,7 +21,7 @@ use Rattle.rv_sessions.specs.Running.{snaps_after}
 no_item : (item : Item) → None ≡ Some item → ⊥
 no_item item e = cc
 
-same_item : (x y : Item) → Some x ≡ Some y → x ≡ y
+pub same_item : (x y : Item) → Some x ≡ Some y → x ≡ y
 same_item x y e = cc
 
 -- ---- states that agree

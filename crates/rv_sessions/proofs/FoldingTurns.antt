@@ -4,8 +4,8 @@
 --    the later command took the log of the first of them.
 -- 3. In the same way the events of each command have the same relations with the later ones as without.
 -- 4. All that stood in a worker stands where its relations are kept.
-use Rattle.std.proofs.Common.{◌≡◌, ◌≤◌, ◌+◌, ℕ, Bool, true, false, cond, eqb, List, [], ◌∷◌, ◌++◌, map, refl, sym, ap, ◌∙◌, arith, append_assoc, append-nil}
-use Rattle.std.specs.List.{AllByRecursion}
+use Rattle.std.proofs.Common.{◌≡◌, ◌≤◌, ◌+◌, ◌||◌, ℕ, Bool, true, false, cond, eqb, List, [], ◌∷◌, ◌++◌, map, Option, Some, None, refl, sym, ap, ◌∙◌, arith, append_assoc, append-nil}
+use Rattle.std.specs.List.{list_any, flat_map, AllByRecursion}
 use Rattle.std.proofs.lemmas.Bool.{eq-eqb, ne_eqb}
 use Rattle.std.proofs.lemmas.List.{map-append}
 use Rattle.std.proofs.lemmas.List.Elements.{All-nil}
@@ -14,13 +14,14 @@ use Rattle.rel_model.specs.Worker.{Worker, Stands, Keeps}
 use Rattle.rel_model.proofs.Workers.{keeps_stands}
 use Rattle.run_model.specs.declared.event.Event.{Event}
 use Rattle.run_model.specs.Events.{Entry, deed_of, entry_of, entries}
-use Rattle.run_model.specs.Turns.{BeginsLog, Turn, put_by, AreTurns, taken}
+use Rattle.run_model.specs.Turns.{Turn, puts_of, IsTurn, taken}
+use Rattle.run_model.proofs.Extending.{puts_append, turns_append, UpTo, OfNext, taken_old as old_taken, taken_new as new_taken}
 use Rattle.run_model.specs.Sessions.{rel_of, rels_of}
 use Rattle.turn_book.specs.Views.{View, IsKept}
 use Rattle.rv_workspace.specs.Books.{EventStands, HistoryStands}
 use Rattle.rv_workspace.proofs.Replaying.{history_stands}
 use Rattle.rv_sessions.specs.Standing.{TurnStands, TurnsStand}
-use Rattle.rv_sessions.specs.Doing.{IsBy, first_took, deeds_by, rels_by, GoesThrough}
+use Rattle.rv_sessions.specs.Doing.{IsBy, BeginsWithEvent, first_took, deeds_by, rels_by, GoesThrough}
 use Rattle.rv_sessions.specs.Running.{IsAmong}
 
 -- ---- elements
@@ -32,18 +33,7 @@ pub all_weaker : {X : Type 0} (P Q : X → Type 0) → ((x : X) → P x → Q x)
 all_weaker P Q w [] h = tt
 all_weaker P Q w (x ∷ xs) h = (w x h.0, all_weaker P Q w xs h.1)
 
--- ---- logs
-begins_on : (xs ys zs : List Event) → BeginsLog xs ys → BeginsLog ys zs → BeginsLog xs zs
-begins_on xs ys zs b c = (b.0 ++ c.0, c.1 ∙ (ap (λ (l : List Event). l ++ c.0) b.1 ∙ append_assoc xs b.0 c.0))
-
-turns_from : (ts : List Turn) (a b c : List Event) → BeginsLog a b → AreTurns ts b c → AreTurns ts a c
-turns_from [] a b c h k = begins_on a b c h k
-turns_from (t ∷ ts) a b c h k = (begins_on a b t.took h k.0, k.1)
-
-turns_append : (ts us : List Turn) (a b c : List Event) → AreTurns ts a b → AreTurns us b c → AreTurns (ts ++ us) a c
-turns_append [] us a b c h k = turns_from us a b c h k
-turns_append (t ∷ ts) us a b c h k = (h.0, turns_append ts us (t.took ++ t.put ∷ []) b c h.1 k)
-
+-- ---- passes
 kept_itself : (v : View) → IsKept v v
 kept_itself v = record { book = refl; house = refl; start = refl; joined = refl; spare = refl; turn = refl }
 
@@ -65,9 +55,24 @@ through_none v = record { turns = ([], sym (append-nil v.seen)); mine = sym (app
 pub through_append : (ts us : List Turn) (u v w : View) → GoesThrough ts u v → GoesThrough us v w → GoesThrough (ts ++ us) u w
 through_append ts us u v w h k = record {
   turns = turns_append ts us u.seen v.seen w.seen h.turns k.turns;
-  mine = k.mine ∙ (ap (λ (l : List Event). l ++ map put_by us) h.mine ∙ (append_assoc u.mine (map put_by ts) (map put_by us) ∙ ap (λ (l : List Event). u.mine ++ l) (sym (map-append put_by ts us))));
+  mine = k.mine ∙ (ap (λ (l : List Event). l ++ puts_of us) h.mine ∙ (append_assoc u.mine (puts_of ts) (puts_of us) ∙ ap (λ (l : List Event). u.mine ++ l) (sym (puts_append ts us))));
   kept = kept_on u v w h.kept k.kept;
 }
+
+-- ---- lists of events
+-- the log of the first turn, where there is one
+abbrev pub first_log : List Turn → Option (List Event)
+first_log [] = None
+first_log (t ∷ ts) = Some t.took
+
+rels-append : (c : ℕ) (xs ys : List Event) → rels_of c (xs ++ ys) ≡ rels_of c xs ++ rels_of c ys
+rels-append c [] ys = refl
+rels-append c (x ∷ xs) ys = ap (λ (rs : List Rel). cond (eqb x.command c) (rel_of x.act ++ rs) rs) (rels-append c xs ys) ∙ at (eqb x.command c)
+  where
+    at : (b : Bool) → cond b (rel_of x.act ++ (rels_of c xs ++ rels_of c ys)) (rels_of c xs ++ rels_of c ys)
+        ≡ cond b (rel_of x.act ++ rels_of c xs) (rels_of c xs) ++ rels_of c ys
+    at true = sym (append_assoc (rel_of x.act) (rels_of c xs) (rels_of c ys))
+    at false = refl
 
 -- ---- numbers
 module _ (s n : ℕ) where
@@ -77,54 +82,99 @@ module _ (s n : ℕ) where
   abbrev Newer : List Turn → Type 0
   Newer = AllByRecursion (IsBy s (n + 1))
 
+  among_newer : (t : Turn) → IsBy s (n + 1) t → IsAmong s (n + 1) t
+  among_newer t a = record {
+    turn = (n + 1, a.each, a.kind);
+    numbers = all_weaker (λ e. (e.session ≡ s) × (e.command ≡ n + 1)) (λ e. (1 ≤ e.command) × (e.command ≤ n + 1))
+        (λ e h. (omega (arith, h.1), omega (arith, h.1))) t.put a.each;
+  }
+
+  among_older : (t : Turn) → IsAmong s n t → IsAmong s (n + 1) t
+  among_older t a = record {
+    turn = a.turn;
+    numbers = all_weaker (λ e. (1 ≤ e.command) × (e.command ≤ n)) (λ e. (1 ≤ e.command) × (e.command ≤ n + 1))
+        (λ e h. (h.0, omega (arith, h.1))) t.put a.numbers;
+  }
+
   pub among_more : (ts us : List Turn) → Older ts → Newer us → AllByRecursion (IsAmong s (n + 1)) (ts ++ us)
   among_more ts us h k =
-      all_append (IsAmong s (n + 1)) ts us
-      (all_weaker (IsAmong s n) (IsAmong s (n + 1)) (λ t a. (a.0, a.1, omega (arith, a.2))) ts h)
-      (all_weaker (IsBy s (n + 1)) (IsAmong s (n + 1)) (λ t a. (a.0, omega (arith, a.1), omega (arith, a.1))) us k)
+      all_append (IsAmong s (n + 1)) ts us (all_weaker (IsAmong s n) (IsAmong s (n + 1)) among_older ts h)
+      (all_weaker (IsBy s (n + 1)) (IsAmong s (n + 1)) among_newer us k)
+
+  pub up_to : (ts : List Turn) → Older ts → AllByRecursion (UpTo n) ts
+  up_to ts h =
+      all_weaker (IsAmong s n) (UpTo n)
+      (λ t a. all_weaker (λ e. (1 ≤ e.command) × (e.command ≤ n)) (λ e. e.command ≤ n) (λ e k. k.1) t.put a.numbers) ts h
+
+  pub of_next : (us : List Turn) → Newer us → AllByRecursion (OfNext n) us
+  of_next us h =
+      all_weaker (IsBy s (n + 1)) (OfNext n)
+      (λ t a. all_weaker (λ e. (e.session ≡ s) × (e.command ≡ n + 1)) (λ e. e.command ≡ n + 1) (λ e k. k.1) t.put a.each) us h
+
+  -- the events of all turns
+  pub old_puts : (ts : List Turn) → Older ts → AllByRecursion (λ e. e.command ≤ n) (puts_of ts)
+  old_puts [] h = tt
+  old_puts (t ∷ ts) h = all_append (λ e. e.command ≤ n) t.put (puts_of ts) (up_to (t ∷ ts) h).0 (old_puts ts h.1)
+
+  pub new_puts : (us : List Turn) → Newer us → AllByRecursion (λ e. (e.session ≡ s) × (e.command ≡ n + 1)) (puts_of us)
+  new_puts [] h = tt
+  new_puts (u ∷ us) h = all_append (λ e. (e.session ≡ s) × (e.command ≡ n + 1)) u.put (puts_of us) h.0.each (new_puts us h.1)
 
   -- ---- logs that commands took
-  none_taken : (c : ℕ) (us : List Turn) → c ≤ n → Newer us → taken c us ≡ []
-  none_taken c [] l k = refl
-  none_taken c (u ∷ us) l k = rw (ne_eqb u.put.command c (λ e. absurd (omega (arith, k.0.1)))) (none_taken c us l k.1)
-
   -- an earlier command took what it took
   pub taken_old : (c : ℕ) (ts us : List Turn) → c ≤ n → Newer us → taken c (ts ++ us) ≡ taken c ts
-  taken_old c [] us l k = none_taken c us l k
-  taken_old c (t ∷ ts) us l k = ap (cond (eqb t.put.command c) t.took) (taken_old c ts us l k)
+  taken_old c ts us l k = old_taken n c ts us l (of_next us k)
+
+  no_event : (e : Event) (rest : List Event) → [] ≡ e ∷ rest → ⊥
+  no_event e rest h = cc
+
+  has_first : (es : List Event) → (e : Event) × (rest : List Event) × (es ≡ e ∷ rest) → AllByRecursion (λ e. (e.session ≡ s) × (e.command ≡ n + 1)) es →
+      list_any (λ e. eqb e.command (n + 1)) es ≡ true
+  has_first [] b h = absurd (no_event b.0 b.1 b.2)
+  has_first (e ∷ es) b h = ap (λ x. x || list_any (λ y. eqb y.command (n + 1)) es) (eq-eqb e.command (n + 1) h.0.1)
+
+  own_taken : (us : List Turn) → BeginsWithEvent us → Newer us → taken (n + 1) us ≡ first_log us
+  own_taken [] b k = refl
+  own_taken (u ∷ us) b k = ap (λ x. cond x (Some u.took) (taken (n + 1) us)) (has_first u.put b k.0.each)
 
   -- the later one took the log of its first turn
-  pub taken_new : (ts us : List Turn) → Older ts → Newer us → taken (n + 1) (ts ++ us) ≡ first_took us
-  taken_new [] [] h k = refl
-  taken_new [] (u ∷ us) h k = rw (eq-eqb u.put.command (n + 1) k.0.1) refl
-  taken_new (t ∷ ts) us h k = rw (ne_eqb t.put.command (n + 1) (λ e. absurd (omega (arith, h.0.2)))) (taken_new ts us h.1 k)
+  pub taken_new : (ts us : List Turn) → Older ts → BeginsWithEvent us → Newer us → taken (n + 1) (ts ++ us) ≡ first_log us
+  taken_new ts us h b k = new_taken n ts us (up_to ts h) ∙ own_taken us b k
 
   -- ---- relations that commands assigned
-  none_assigned : (c : ℕ) (us : List Turn) → c ≤ n → Newer us → rels_of c (map put_by us) ≡ []
-  none_assigned c [] l k = refl
-  none_assigned c (u ∷ us) l k = rw (ne_eqb u.put.command c (λ e. absurd (omega (arith, k.0.1)))) (none_assigned c us l k.1)
+  none_newer : (c : ℕ) (es : List Event) → c ≤ n → AllByRecursion (λ e. (e.session ≡ s) × (e.command ≡ n + 1)) es → rels_of c es ≡ []
+  none_newer c [] l k = refl
+  none_newer c (e ∷ es) l k = rw (ne_eqb e.command c (λ h. absurd (omega (arith, k.0.1)))) (none_newer c es l k.1)
 
-  pub rels_old : (c : ℕ) (ts us : List Turn) → c ≤ n → Newer us → rels_of c (map put_by (ts ++ us)) ≡ rels_of c (map put_by ts)
-  rels_old c [] us l k = none_assigned c us l k
-  rels_old c (t ∷ ts) us l k = let i = rels_old c ts us l k in ap (λ (rs : List Rel). cond (eqb t.put.command c) (rel_of t.put.act ++ rs) rs) i
+  none_older : (es : List Event) → AllByRecursion (λ e. e.command ≤ n) es → rels_of (n + 1) es ≡ []
+  none_older [] h = refl
+  none_older (e ∷ es) h = rw (ne_eqb e.command (n + 1) (λ k. absurd (omega (arith, h.0)))) (none_older es h.1)
 
-  own_rels : (us : List Turn) → Newer us → rels_of (n + 1) (map put_by us) ≡ rels_by us
+  own_rels : (es : List Event) → AllByRecursion (λ e. (e.session ≡ s) × (e.command ≡ n + 1)) es → rels_of (n + 1) es ≡ flat_map (λ e. rel_of e.act) es
   own_rels [] k = refl
-  own_rels (u ∷ us) k = rw (eq-eqb u.put.command (n + 1) k.0.1) (ap (λ (rs : List Rel). rel_of u.put.act ++ rs) (own_rels us k.1))
+  own_rels (e ∷ es) k = rw (eq-eqb e.command (n + 1) k.0.1) (ap (λ (rs : List Rel). rel_of e.act ++ rs) (own_rels es k.1))
 
-  pub rels_new : (ts us : List Turn) → Older ts → Newer us → rels_of (n + 1) (map put_by (ts ++ us)) ≡ rels_by us
-  rels_new [] us h k = own_rels us k
-  rels_new (t ∷ ts) us h k = rw (ne_eqb t.put.command (n + 1) (λ e. absurd (omega (arith, h.0.2)))) (rels_new ts us h.1 k)
+  pub rels_old : (c : ℕ) (ts us : List Turn) → c ≤ n → Newer us → rels_of c (puts_of (ts ++ us)) ≡ rels_of c (puts_of ts)
+  rels_old c ts us l k =
+      ap (rels_of c) (puts_append ts us) ∙ rels-append c (puts_of ts) (puts_of us)
+      ∙ ap (λ rs. rels_of c (puts_of ts) ++ rs) (none_newer c (puts_of us) l (new_puts us k)) ∙ append-nil (rels_of c (puts_of ts))
+
+  pub rels_new : (ts us : List Turn) → Older ts → Newer us → rels_of (n + 1) (puts_of (ts ++ us)) ≡ rels_by us
+  rels_new ts us h k =
+      ap (rels_of (n + 1)) (puts_append ts us) ∙ rels-append (n + 1) (puts_of ts) (puts_of us)
+      ∙ ap (λ rs. rs ++ rels_of (n + 1) (puts_of us)) (none_older (puts_of ts) (old_puts ts h)) ∙ own_rels (puts_of us) (new_puts us k)
 
 -- ---- entries
 -- the entries of a command's turns are those of its deeds
-pub entries_by : (s c : ℕ) (us : List Turn) → AllByRecursion (IsBy s c) us → map entry_of (map put_by us) ≡ entries s c (deeds_by us)
-entries_by s c [] h = refl
-entries_by s c (u ∷ us) h = let i = entries_by s c us h.1 in λ j. record { session = h.0.0 j; command = h.0.1 j; deed = deed_of u.put.act } ∷ i j
+entries_of : (s c : ℕ) (es : List Event) → AllByRecursion (λ e. (e.session ≡ s) × (e.command ≡ c)) es → map entry_of es ≡ entries s c (map (λ e. deed_of e.act) es)
+entries_of s c [] h = refl
+entries_of s c (e ∷ es) h = let i = entries_of s c es h.1 in λ j. record { session = h.0.0 j; command = h.0.1 j; deed = deed_of e.act } ∷ i j
 
-pub entries_append : (ts us : List Turn) → map entry_of (map put_by (ts ++ us)) ≡ map entry_of (map put_by ts) ++ map entry_of (map put_by us)
-entries_append [] us = refl
-entries_append (t ∷ ts) us = ap (λ (l : List Entry). entry_of t.put ∷ l) (entries_append ts us)
+pub entries_by : (s n : ℕ) (us : List Turn) → AllByRecursion (IsBy s (n + 1)) us → map entry_of (puts_of us) ≡ entries s (n + 1) (deeds_by us)
+entries_by s n us h = entries_of s (n + 1) (puts_of us) (new_puts s n us h)
+
+pub entries_append : (ts us : List Turn) → map entry_of (puts_of (ts ++ us)) ≡ map entry_of (puts_of ts) ++ map entry_of (puts_of us)
+entries_append ts us = ap (map entry_of) (puts_append ts us) ∙ map-append entry_of (puts_of ts) (puts_of us)
 
 -- ---- what stands
 module _ (w : Worker) where
@@ -137,17 +187,29 @@ module _ (w : Worker) where
   first_stands [] h = All-nil (EventStands w)
   first_stands (t ∷ ts) h = h.0.log
 
+  -- those of a log, where there is one
+  abbrev pub LogStands : Option (List Event) → Type 0
+  LogStands None = Unit {0}
+  LogStands (Some log) = HistoryStands w log
+
   -- those of each log that a command took
-  pub taken_stands : (c : ℕ) (ts : List Turn) → TurnsStand w ts → HistoryStands w (taken c ts)
-  taken_stands c [] h = All-nil (EventStands w)
-  taken_stands c (t ∷ ts) h = picked (HistoryStands w) (eqb t.put.command c) t.took (taken c ts) h.0.log (taken_stands c ts h.1)
+  pub taken_stands : (c : ℕ) (ts : List Turn) → TurnsStand w ts → LogStands (taken c ts)
+  taken_stands c [] h = tt
+  taken_stands c (t ∷ ts) h = picked LogStands (list_any (λ e. eqb e.command c) t.put) (Some t.took) (taken c ts) h.0.log (taken_stands c ts h.1)
+
+  puts_stand : (ts : List Turn) → TurnsStand w ts → AllByRecursion (EventStands w) (puts_of ts)
+  puts_stand [] h = tt
+  puts_stand (t ∷ ts) h = all_append (EventStands w) t.put (puts_of ts) h.0.own (puts_stand ts h.1)
+
+  each_stands : (c : ℕ) (es : List Event) → AllByRecursion (EventStands w) es → AllByRecursion (Stands w) (rels_of c es)
+  each_stands c [] h = tt
+  each_stands c (e ∷ es) h =
+      picked (AllByRecursion (Stands w)) (eqb e.command c) (rel_of e.act ++ rels_of c es) (rels_of c es)
+      (all_append (Stands w) (rel_of e.act) (rels_of c es) h.0 (each_stands c es h.1)) (each_stands c es h.1)
 
   -- and those that it assigned
-  pub rels_stand : (c : ℕ) (ts : List Turn) → TurnsStand w ts → AllByRecursion (Stands w) (rels_of c (map put_by ts))
-  rels_stand c [] h = tt
-  rels_stand c (t ∷ ts) h =
-      picked (AllByRecursion (Stands w)) (eqb t.put.command c) (rel_of t.put.act ++ rels_of c (map put_by ts)) (rels_of c (map put_by ts))
-      (all_append (Stands w) (rel_of t.put.act) (rels_of c (map put_by ts)) h.0.own (rels_stand c ts h.1)) (rels_stand c ts h.1)
+  pub rels_stand : (c : ℕ) (ts : List Turn) → TurnsStand w ts → AllByRecursion (Stands w) (rels_of c (puts_of ts))
+  rels_stand c ts h = each_stands c (puts_of ts) (puts_stand ts h)
 
 -- all turns stand where what stood is kept
 pub turns_stand : (v w : Worker) → Keeps v w → (ts : List Turn) → TurnsStand v ts → TurnsStand w ts
@@ -156,5 +218,5 @@ turns_stand v w k ts h = all_weaker (TurnStands v) (TurnStands w) (λ t s. one t
     one : (t : Turn) → TurnStands v t → TurnStands w t
     one t s = record {
       log = history_stands v w (λ r. keeps_stands v w r k) t.took s.log;
-      own = all_weaker (Stands v) (Stands w) (λ r. keeps_stands v w r k) (rel_of t.put.act) s.own;
+      own = all_weaker (EventStands v) (EventStands w) (λ e x. all_weaker (Stands v) (Stands w) (λ r. keeps_stands v w r k) (rel_of e.act) x) t.put s.own;
     }

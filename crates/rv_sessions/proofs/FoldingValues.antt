@@ -22,11 +22,12 @@ use Rattle.run_model.specs.declared.outcome.Outcome.TheVariants.{
   NoFile,
   BadFile as BAD_FILE,
   NoMemory,
+  Changed,
 }
 use Rattle.run_model.specs.Inputs.{Input}
 use Rattle.run_model.specs.Due.{Gifts, gives}
-use Rattle.run_model.specs.Steps.{Ending, Succeeds, Fails, LacksMemory, ending, Step, due_at}
-use Rattle.run_model.specs.Turns.{Turn, put_by}
+use Rattle.run_model.specs.Steps.{Ending, Succeeds, Fails, Changes, LacksMemory, ending, Step, due_at}
+use Rattle.run_model.specs.Turns.{Turn, puts_of}
 use Rattle.run_model.specs.Sessions.{rels_of, HaveValues, HasValuesAt, HasValues}
 use Rattle.rv_sessions.specs.Standing.{TurnsStand}
 use Rattle.rv_sessions.specs.Doing.{IsBy}
@@ -44,17 +45,18 @@ module _ (v w : Worker) (k : Keeps v w) where
   at_kept : (x : Ending) (rs : List Rel) (gs : Gifts) → AllByRecursion (Stands v) rs → HasValuesAt x (set_of v) rs gs → HasValuesAt x (set_of w) rs gs
   at_kept Succeeds rs gs s h = values_kept rs gs s h
   at_kept Fails rs gs s h = h
+  at_kept Changes rs gs s h = h
   at_kept LacksMemory rs gs s h = h
 
   -- the values of earlier steps, with the turns of a later command
   pub values_more : (input : Input) (script : Script) (s n : ℕ) (ts us : List Turn) → TurnsStand v ts → AllByRecursion (IsBy s (n + 1)) us →
       (steps : List Step) → AllByRecursion (λ step. step.number ≤ n) steps →
-      AllByRecursion (HasValues input script (set_of v) (map put_by ts)) steps →
-      AllByRecursion (HasValues input script (set_of w) (map put_by (ts ++ us))) steps
+      AllByRecursion (HasValues input script (set_of v) (puts_of ts)) steps →
+      AllByRecursion (HasValues input script (set_of w) (puts_of (ts ++ us))) steps
   values_more input script s n ts us stand new [] l h = tt
   values_more input script s n ts us stand new (x ∷ xs) l h = (
     subst (λ rs. HasValuesAt (ending x.outcome) (set_of w) rs (gives x.item (due_at input script x))) (sym (rels_old s n x.number ts us l.0 new))
-        (at_kept (ending x.outcome) (rels_of x.number (map put_by ts)) (gives x.item (due_at input script x)) (rels_stand v x.number ts stand) h.0),
+        (at_kept (ending x.outcome) (rels_of x.number (puts_of ts)) (gives x.item (due_at input script x)) (rels_stand v x.number ts stand) h.0),
     values_more input script s n ts us stand new xs l.1 h.1,
   )
 
@@ -89,3 +91,4 @@ module _ (top old mid new n : ℕ) (rose : min (old + n) top ≤ mid) (kept : mi
   rose_more (NoFile name) h = stays
   rose_more (BAD_FILE name kind) h = stays
   rose_more NoMemory h = stays
+  rose_more (Changed name seen found) h = stays

@@ -39,6 +39,7 @@ print_item e = record {
   shows = λ numbers r. refl;
   saves = λ r. refl;
   no_snapped = refl;
+  no_block = refl;
 }
 
 pub list_item : (e : Expr) → IsValueItem (COMMAND (LIST e)) e (wanted_in Listing) (λ numbers r. numbers ++ bytes_in Listing r) (λ r. [])
@@ -57,6 +58,7 @@ list_item e = record {
   shows = λ numbers r. refl;
   saves = λ r. refl;
   no_snapped = refl;
+  no_block = refl;
 }
 
 pub count_item : (e : Expr) → IsValueItem (COMMAND (COUNT e)) e (wanted_in Count) (λ numbers r. numbers ++ bytes_in Count r) (λ r. [])
@@ -75,6 +77,7 @@ count_item e = record {
   shows = λ numbers r. refl;
   saves = λ r. refl;
   no_snapped = refl;
+  no_block = refl;
 }
 
 pub type_item : (e : Expr) → IsValueItem (COMMAND (TYPED e)) e (wanted_in Typed) (λ numbers r. numbers ++ bytes_in Typed r) (λ r. [])
@@ -93,6 +96,7 @@ type_item e = record {
   shows = λ numbers r. refl;
   saves = λ r. refl;
   no_snapped = refl;
+  no_block = refl;
 }
 
 pub save_item : (e : Expr) (file : List ℕ) → IsValueItem (COMMAND (SAVE e file)) e (wanted_in File) (λ numbers r. [])
@@ -112,6 +116,7 @@ save_item e file = record {
   shows = λ numbers r. refl;
   saves = λ r. refl;
   no_snapped = refl;
+  no_block = refl;
 }
 
 pub let_item : (name : List ℕ) (e : Expr) → IsReadItem (COMMAND (LET name e)) e Value

@@ -22,3 +22,5 @@ pub mod Noting
 pub mod Items
 pub mod Refusing
 pub mod Shown
+pub mod Blocks
+pub mod Committing

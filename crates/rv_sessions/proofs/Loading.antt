@@ -103,7 +103,7 @@ module _ (leaf : ℕ) (input : Input) (script : Script) (s c : ℕ) (name file :
   item = COMMAND (LOAD name file)
 
   reads_nothing : ReadsNothing item
-  reads_nothing = record { reads = refl; memory = tt; no_snapped = refl }
+  reads_nothing = record { reads = refl; memory = tt; no_snapped = refl; no_block = refl }
 
   due_loaded : (state : Workspace) (snap : Option Workspace) → due input script item state snap ≡ due_of_file file (file_named input.files file)
   unfolding due due_of_command

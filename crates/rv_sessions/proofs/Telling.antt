@@ -98,7 +98,7 @@ module _ (leaf : ℕ) (form : Form) (input : Input) (script : Script) (s c : ℕ
 
 -- an input that has these turns and nothing else
 abbrev pub plain : ℕ → Input
-plain turns = record { readings = []; files = []; turns = turns; history = false }
+plain turns = record { readings = []; files = []; turns = turns; history = false; ends = [] }
 
 module _ (leaf : ℕ) (form : Form) (input : Input) (script : Script) (s c : ℕ) (item : Item) (e : Expr)
     (old new : Worker) (before after : PASS) (snaps : Kept) where

@@ -17,7 +17,7 @@ use Rattle.run_model.specs.Inputs.{Input}
 use Rattle.run_model.specs.Due.{Workspace, Due, due, due_of, gives}
 use Rattle.run_model.specs.Steps.{snapped}
 use Rattle.run_model.specs.Events.{Reads, reads_of, done_deeds}
-use Rattle.run_model.specs.Outcomes.{MayLackNodes, MayLackMemory, IsNotEarly}
+use Rattle.run_model.specs.Outcomes.{MayLackNodes, MayLackMemory, IsNotEarly, lets_of}
 use Rattle.run_model.specs.Page.{SavedFile, shown, saved_of}
 use Rattle.run_model.specs.Cost.{cost_of, cost_of_item}
 use Rattle.run_model.specs.Carried.{carried}
@@ -36,7 +36,7 @@ use Rattle.rv_sessions.specs.Valuing.{CameTo}
 
 -- one turn
 abbrev pub turn_of : List Event → Event → Turn
-turn_of log e = record { took = log; put = e }
+turn_of log e = record { took = log; put = e ∷ [] }
 
 -- ---- before an expression
 -- memory ran out before anything was read
@@ -89,6 +89,7 @@ pub record IsValueItem (item : Item) (e : Expr) (then : Relation → Due) (text 
   pub shows : (numbers : List ℕ) (r : Relation) → shown numbers item r ≡ text numbers r
   pub saves : (r : Relation) → saved_of item r ≡ files r
   pub no_snapped : snapped item ≡ None
+  pub no_block : lets_of item ≡ None
 
 -- ---- what an item did
 -- the item was done or refused, as it is told; or memory ran out

@@ -1,5 +1,5 @@
 -- What one item of a session did: its turns, and its events, outcome, reply, save and cost on the state that it took.
-use Rattle.std.specs.Prelude.{◌≡◌, ◌++◌, ℕ, List, [], ◌∷◌, map, Option, Some, None, option_and_then}
+use Rattle.std.specs.Prelude.{◌≡◌, ◌++◌, ◌⊎◌, ℕ, true, List, [], ◌∷◌, map, Option, Some, None, option_and_then}
 use Rattle.std.specs.Option.{option_map}
 use Rattle.std.specs.List.{AllByRecursion, flat_map}
 use Rattle.rel_model.specs.declared.Rel.{Rel}
@@ -12,21 +12,28 @@ use Rattle.run_model.specs.declared.outcome.Outcome.TheVariants.{Nodes}
 use Rattle.run_model.specs.Names.{lookup, set}
 use Rattle.run_model.specs.Inputs.{Input}
 use Rattle.run_model.specs.Due.{Workspace, Due, due, gives}
-use Rattle.run_model.specs.Steps.{Ending, Succeeds, Fails, LacksMemory, ending, snapped, asked}
+use Rattle.run_model.specs.Steps.{Ending, Succeeds, Fails, Changes, LacksMemory, ending, snapped, asked}
 use Rattle.run_model.specs.Events.{Deed, deed_of, HasDeeds}
-use Rattle.run_model.specs.Outcomes.{IsOutcome}
+use Rattle.run_model.specs.Outcomes.{IsOutcome, lets_of}
 use Rattle.run_model.specs.Page.{SavedFile, reply, save_at}
 use Rattle.run_model.specs.Cost.{cost_of_item}
 use Rattle.run_model.specs.Carried.{Carried, carried}
-use Rattle.run_model.specs.Turns.{Turn, put_by, AreTurns}
+use Rattle.run_model.specs.Legal.{is_assign, CommitsItem}
+use Rattle.run_model.specs.Turns.{Turn, puts_of, IsOne, AreTurns, AssignsOnce, change_taken}
 use Rattle.run_model.specs.Sessions.{rel_of, HasValuesAt}
 use Rattle.turn_book.specs.Views.{View, IsKept}
 use Rattle.rv_sessions.specs.Standing.{TurnsStand, Kept, KeptStand, meant}
 
 -- ---- turns
--- a turn is of this command
-abbrev pub IsBy : ℕ → ℕ → Turn → Type 0
-IsBy s c t = (t.put.session ≡ s) × (t.put.command ≡ c)
+-- a turn is of this command: it put one event of it, or assignments of it
+pub record IsBy (s c : ℕ) (t : Turn) : Type 0 where
+  pub each : AllByRecursion (λ e. (e.session ≡ s) × (e.command ≡ c)) t.put
+  pub kind : IsOne t.put ⊎ AllByRecursion (λ e. is_assign e.act ≡ true) t.put
+
+-- the first of a command's turns put an event, where there is one
+abbrev pub BeginsWithEvent : List Turn → Type 0
+BeginsWithEvent [] = Unit {0}
+BeginsWithEvent (t ∷ ts) = (e : Event) × (rest : List Event) × (t.put ≡ e ∷ rest)
 
 -- the log that the first of a command's turns took, and none where it has no turn
 abbrev pub first_took : List Turn → List Event
@@ -35,16 +42,16 @@ first_took (t ∷ ts) = t.took
 
 -- what turns do
 abbrev pub deeds_by : List Turn → List Deed
-deeds_by = map (λ t. deed_of t.put.act)
+deeds_by ts = map (λ e. deed_of e.act) (puts_of ts)
 
 -- the relations that turns assign
 abbrev pub rels_by : List Turn → List Rel
-rels_by = flat_map (λ t. rel_of t.put.act)
+rels_by ts = flat_map (λ e. rel_of e.act) (puts_of ts)
 
 -- a pass went through these turns, whose events are its own
 pub record GoesThrough (ts : List Turn) (before after : View) : Type 0 where
   pub turns : AreTurns ts before.seen after.seen
-  pub mine : after.mine ≡ before.mine ++ map put_by ts
+  pub mine : after.mine ≡ before.mine ++ puts_of ts
   pub kept : IsKept before after
 
 -- ---- snapshots
@@ -57,6 +64,7 @@ keep (Some name) state snaps = set name state snaps
 abbrev pub kept_behind : Ending → Item → Carried → Kept → Kept
 kept_behind Succeeds item state snaps = keep (snapped item) state snaps
 kept_behind Fails item state snaps = snaps
+kept_behind Changes item state snaps = snaps
 kept_behind LacksMemory item state snaps = snaps
 
 -- the snapshot that an item asks, as it means in a worker
@@ -79,11 +87,14 @@ pub record Did (leaf : ℕ) (input : Input) (script : Script) (s c : ℕ) (item 
   pub ts : List Turn
   pub through : GoesThrough ts before after
   pub own : AllByRecursion (IsBy s c) ts
+  pub begun : BeginsWithEvent ts
+  pub once : AssignsOnce ts
   pub stand : TurnsStand new ts
   pub deeds : HasDeeds (ending outcome) item (due_on input script item new snaps ts) (deeds_by ts)
   pub lawful : IsOutcome item (due_on input script item new snaps ts) outcome
   pub values : HasValuesAt (ending outcome) (set_of new) (rels_by ts)
       (gives item (due_on input script item new snaps ts))
+  pub commits : CommitsItem (change_taken [] ts c) (lets_of item) outcome
   pub text_is : text ≡ reply s c item (due_on input script item new snaps ts) outcome
   pub saved_is : saved ≡ save_at (ending outcome) item (due_on input script item new snaps ts)
   pub snaps_left : left ≡ kept_behind (ending outcome) item (carried (first_took ts)) snaps

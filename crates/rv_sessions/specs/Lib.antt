@@ -10,5 +10,6 @@ pub mod Showing
 pub mod Doing
 pub mod Noting
 pub mod Acting
+pub mod Blocking
 pub mod Running
 pub mod Sessions

@@ -17,6 +17,7 @@ use Rattle.run_model.specs.declared.outcome.Outcome.TheVariants.{
   NoFile,
   BadFile as BAD_FILE,
   NoMemory,
+  Changed,
 }
 use Rattle.run_model.specs.Names.{no_names}
 use Rattle.run_model.specs.Inputs.{Input}
@@ -26,7 +27,8 @@ use Rattle.run_model.specs.Events.{entry_of, AreEvents}
 use Rattle.run_model.specs.Outcomes.{AreOutcomes}
 use Rattle.run_model.specs.Page.{SavedFile, replies, saves_of}
 use Rattle.run_model.specs.Cost.{cost_of_steps}
-use Rattle.run_model.specs.Turns.{Turn, put_by, state_taken}
+use Rattle.run_model.specs.Turns.{Turn, puts_of, IsTurn, AssignsOnce, state_taken, change_taken}
+use Rattle.run_model.specs.Legal.{CommitsFrom}
 use Rattle.run_model.specs.Sessions.{HasValues, steps_taken}
 use Rattle.turn_book.specs.Views.{View}
 use Rattle.rv_sessions.specs.Standing.{TurnsStand, Kept, KeptStand, meant_all}
@@ -45,6 +47,7 @@ one_for_nodes (TooLong bits) = 0
 one_for_nodes (NoFile name) = 0
 one_for_nodes (BAD_FILE name kind) = 0
 one_for_nodes NoMemory = 0
+one_for_nodes (Changed name seen found) = 0
 
 -- how many outcomes tell of a full table
 abbrev pub nodes_in : List Outcome → ℕ
@@ -62,9 +65,10 @@ snaps_after state_of c snaps (item ∷ items) [] = snaps
 snaps_after state_of c snaps (item ∷ items) (outcome ∷ outcomes) =
     snaps_after state_of (c + 1) (snaps_behind item outcome (state_of c) snaps) items outcomes
 
--- a turn is of session s, and of one of its first k commands
-abbrev pub IsAmong : ℕ → ℕ → Turn → Type 0
-IsAmong s k t = (t.put.session ≡ s) × (1 ≤ t.put.command) × (t.put.command ≤ k)
+-- a turn is of session s, and its events are of one of its first k commands
+pub record IsAmong (s k : ℕ) (t : Turn) : Type 0 where
+  pub turn : IsTurn s t
+  pub numbers : AllByRecursion (λ e. (1 ≤ e.command) × (e.command ≤ k)) t.put
 
 -- the first items of a script, as many as there are outcomes
 pub record RanSoFar (leaf : ℕ) (input : Input) (script : Script) (s : ℕ) (old new : Worker) (before after : View)
@@ -72,17 +76,19 @@ pub record RanSoFar (leaf : ℕ) (input : Input) (script : Script) (s : ℕ) (ol
   pub ts : List Turn
   pub through : GoesThrough ts before after
   pub own : AllByRecursion (IsAmong s (length outcomes)) ts
+  pub once : AssignsOnce ts
   pub stand : TurnsStand new ts
   pub snaps_are : meant_all new snaps ≡
-      snaps_after (state_taken (set_of new) ts) 1 no_names script.items.items outcomes
+      snaps_after (state_taken no_names (set_of new) ts) 1 no_names script.items.items outcomes
   pub snaps_stand : KeptStand new snaps
   pub few : length outcomes ≤ length script.items.items
-  pub events : AreEvents input script s (steps_taken (set_of new) ts script outcomes) (map entry_of (map put_by ts))
-  pub outcomes_due : AreOutcomes input script (steps_taken (set_of new) ts script outcomes)
-  pub values : AllByRecursion (HasValues input script (set_of new) (map put_by ts))
-      (steps_taken (set_of new) ts script outcomes)
-  pub text_is : text ≡ replies input script s (steps_taken (set_of new) ts script outcomes)
-  pub saved_is : saved ≡ saves_of input script (steps_taken (set_of new) ts script outcomes)
-  pub room : MakesAtMost (cost_of_steps leaf input script (steps_taken (set_of new) ts script outcomes)) old new
+  pub events : AreEvents input script s (steps_taken no_names (set_of new) ts script outcomes) (map entry_of (puts_of ts))
+  pub outcomes_due : AreOutcomes input script (steps_taken no_names (set_of new) ts script outcomes)
+  pub values : AllByRecursion (HasValues input script (set_of new) (puts_of ts))
+      (steps_taken no_names (set_of new) ts script outcomes)
+  pub commits : CommitsFrom (change_taken [] ts) 1 script.items.items outcomes
+  pub text_is : text ≡ replies input script s (steps_taken no_names (set_of new) ts script outcomes)
+  pub saved_is : saved ≡ saves_of input script (steps_taken no_names (set_of new) ts script outcomes)
+  pub room : MakesAtMost (cost_of_steps leaf input script (steps_taken no_names (set_of new) ts script outcomes)) old new
   pub missed : RoseBy (nodes_in outcomes) old.misses new.misses
   pub keeps : Keeps old new

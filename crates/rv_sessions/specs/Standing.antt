@@ -10,10 +10,10 @@ use Rattle.run_model.specs.Turns.{Turn}
 use Rattle.rv_workspace.specs.Books.{EventStands, HistoryStands}
 use Rattle.std.specs.Prelude.{map}
 
--- the relations of the log that a turn took, and of its own event, stand in a worker
+-- the relations of the log that a turn took, and of its own events, stand in a worker
 pub record TurnStands (w : Worker) (t : Turn) : Type 0 where
   pub log : HistoryStands w t.took
-  pub own : EventStands w t.put
+  pub own : AllByRecursion (EventStands w) t.put
 
 -- those of all turns
 abbrev pub TurnsStand : Worker → List Turn → Type 0

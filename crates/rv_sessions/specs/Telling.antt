@@ -16,7 +16,7 @@ use Rattle.rv_sessions.specs.declared.transcript.Reply.TheVariants.{Nothing, Tol
 
 -- what a session is given beside its script: the relation files and the turns of an expression's loops
 unfoldable pub input_of : List Loaded → ℕ → Input
-input_of files turns = record { readings = []; files = map file_of files; turns = turns; history = false }
+input_of files turns = record { readings = []; files = map file_of files; turns = turns; history = false; ends = [] }
 
 -- the bytes of a reply
 abbrev pub text_of : Reply → List ℕ

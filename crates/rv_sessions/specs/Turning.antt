@@ -1,19 +1,23 @@
 -- What each kind of turn of a command does.
-use Rattle.std.specs.Prelude.{◌≡◌, ◌++◌, ℕ, List, [], ◌∷◌, Option, Result, Ok, Err}
+use Rattle.std.specs.Prelude.{◌≡◌, ◌++◌, ◌⊎◌, ℕ, List, [], ◌∷◌, map, Option, Some, Result, Ok, Err}
 use Rattle.rel_model.specs.declared.NoMemory.{NoMemory}
 use Rattle.rel_model.specs.declared.Rel.{Rel}
 use Rattle.rel_model.specs.Seats.{Stays}
 use Rattle.rel_model.specs.Worker.{Worker}
 use Rattle.run_model.specs.declared.event.Event.{Event}
 use Rattle.run_model.specs.Names.{lookup}
+use Rattle.run_model.specs.Versions.{version}
 use Rattle.run_model.specs.Carried.{carried}
 use Rattle.run_model.specs.Turns.{BeginsLog}
 use Rattle.turn_book.specs.Views.{View as PASS, IsKept}
 use Rattle.rv_workspace.specs.declared.reading.View.{View}
 use Rattle.rv_workspace.specs.declared.refused.DropRefused.{DropRefused}
+use Rattle.rv_workspace.specs.declared.refused.CommitRefused.{CommitRefused}
 use Rattle.rv_workspace.specs.Books.{HistoryStands}
 use Rattle.rv_workspace.specs.Entering.{read_of, assign_of, drop_entries, IsDropAnswer}
+use Rattle.rv_workspace.specs.Committing.{change_since, commit_entries, IsCommitAnswer}
 use Rattle.rv_workspace.specs.Picking.{picked}
+use Rattle.rv_sessions.specs.declared.turns.BlockView.{BlockView}
 
 -- a turn took this log, whose relations stand in the worker then, and put these events behind it
 pub record TookTurn (old new : Worker) (before after : PASS) (log puts : List Event) : Type 0 where
@@ -30,6 +34,28 @@ ReadTurn s c wanted old new before after (Ok view) =
     (log : List Event) × TookTurn old new before after log (read_of s c ∷ [])
     × (view.names.items ≡ picked wanted (carried log))
 ReadTurn s c wanted old new before after (Err refused) = (log : List Event) × TookTurn old new before after log []
+
+-- the names of a block with their versions in a log
+abbrev pub versions_in : List Event → List (List ℕ) → List (List ℕ × ℕ)
+versions_in log = map (λ name. (name, version name log))
+
+-- the read of a block: its names, and the versions of those that it reads; or memory ran out, and nothing more than the
+-- read was put
+abbrev pub BlockTurn : ℕ → ℕ → List (List ℕ) → Worker → Worker → PASS → PASS → Result BlockView NoMemory → Type 0
+BlockTurn s c reads old new before after (Ok view) =
+    (log : List Event) × TookTurn old new before after log (read_of s c ∷ [])
+    × (view.names.items ≡ picked (Some reads) (carried log)) × (view.versions.items ≡ versions_in log reads)
+BlockTurn s c reads old new before after (Err refused) =
+    (log : List Event)
+    × (TookTurn old new before after log (read_of s c ∷ []) ⊎ TookTurn old new before after log [])
+
+-- a commit: all assignments where no name that was read has another version, and else a read; or memory ran out, and
+-- nothing was put
+abbrev pub CommitTurn : ℕ → ℕ → List (List ℕ × ℕ) → List (List ℕ × Rel) → Worker → Worker → PASS → PASS
+    → Result (Unit {0}) CommitRefused → Type 0
+CommitTurn s c reads list old new before after result =
+    (log : List Event) × TookTurn old new before after log (commit_entries s c list result)
+    × IsCommitAnswer (change_since reads log) result
 
 -- an assignment; or memory ran out, and nothing was put
 abbrev pub AssignTurn : ℕ → ℕ → List ℕ → Rel → Worker → Worker → PASS → PASS → Result (Unit {0}) NoMemory → Type 0

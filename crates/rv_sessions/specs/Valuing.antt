@@ -18,6 +18,7 @@ use Rattle.run_model.specs.declared.outcome.Outcome.TheVariants.{
   NoFile,
   BadFile as BAD_FILE,
   NoMemory as NO_MEMORY,
+  Changed,
 }
 use Rattle.run_model.specs.Due.{When, Due, Refused as REFUSED, due_of_value}
 use Rattle.rv_eval.specs.declared.halt.Refused.{Refused}
@@ -31,7 +32,7 @@ outcome_told (TURNS_REFUSED at limit) = Turns at limit
 outcome_told Nodes = NODES
 outcome_told NoMemory = NO_MEMORY
 
--- a refusal that is due: neither a full table nor want of memory
+-- a refusal that is due: neither a full table, nor want of memory, nor a change at a commit
 abbrev pub IsRefusal : Outcome → Type 0
 IsRefusal Done = ⊥
 IsRefusal (Parse fault) = Unit {0}
@@ -44,6 +45,7 @@ IsRefusal (TooLong bits) = Unit {0}
 IsRefusal (NoFile name) = Unit {0}
 IsRefusal (BAD_FILE name kind) = Unit {0}
 IsRefusal NO_MEMORY = ⊥
+IsRefusal (Changed name seen found) = ⊥
 
 -- an expression that is not refused ahead of all computing
 abbrev pub IsNotAhead : Evaluated → Type 0

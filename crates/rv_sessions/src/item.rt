@@ -6,6 +6,7 @@ ghost use Rattle.rv_sessions.specs.Standing.{KeptStand};
 ghost use Rattle.rv_sessions.specs.Telling.{input_of};
 ghost use Rattle.lang_model.specs.declared.syntax.Item.TheVariants.{Command as COMMAND};
 
+use crate::block::atomic;
 use crate::by::By;
 use crate::dropping::{drop_name, show_at, snap};
 use crate::explain::explained;
@@ -130,6 +131,9 @@ fn run_command<E: Engine, W: Wait>(
             save(
                 alloc, by, checked, turns, book, wait, pass, engine, value, file,
             )
+        }
+        Command::Atomic { lets } => {
+            atomic(alloc, by, checked, turns, book, wait, pass, engine, lets)
         }
         Command::Explain { value } => {
             explained(alloc, by, checked, book, wait, pass, engine, value)

@@ -1,6 +1,7 @@
 //! Sessions: each runs a script against the book of names that all sessions share.
 #![tactic(auto)]
 
+mod block;
 mod by;
 mod dropping;
 mod explain;

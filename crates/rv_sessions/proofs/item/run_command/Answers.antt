@@ -95,6 +95,14 @@ returns-in-Save g c =
     subst (λ x. DidItem g.E.Core.least i a.checked.now a.by.session a.by.command (COMMAND x) (w a.engine.now) (w c.save.new.engine) a.pass.now c.save.new.pass a.snaps.now a.snaps.now c.save.result)
     (sym c.in-Save.is) (c.save.ensures i a.snaps.now (COMMAND (SAVE c.in-Save.value c.in-Save.file)) (given_turns a.files.now a.turns) c.requires.stood (save_item c.in-Save.value c.in-Save.file))
 
+pub returns-in-Atomic : goal.returns-in-Atomic
+returns-in-Atomic g c =
+    let a = c.args in
+    let w = g.E.Core.worker in
+    let i = input_of a.files.now a.turns in
+    subst (λ x. DidItem g.E.Core.least i a.checked.now a.by.session a.by.command (COMMAND x) (w a.engine.now) (w c.atomic.new.engine) a.pass.now c.atomic.new.pass a.snaps.now a.snaps.now c.atomic.result)
+    (sym c.in-Atomic.is) (c.atomic.ensures i a.snaps.now (given_turns a.files.now a.turns) c.requires.stood)
+
 pub returns-in-Explain : goal.returns-in-Explain
 returns-in-Explain g c =
     let a = c.args in
