@@ -191,7 +191,7 @@ module _ (leaf : ℕ) (input : Input) (script : Script) (s c : ℕ) (item : Item
       through = read.through;
       own = (by_one refl refl, tt);
       begun = (read_of s c, [], refl);
-      once = once_one;
+      once = once_one log (read_of s c);
       stand = (record { log = read.stand; own = (tt, tt) }, tt);
       snaps_stood = stood;
       room = subst (λ n. MakesAtMost n old new) (sym (v.cost_is leaf input script _ _ _)) room;

@@ -184,7 +184,7 @@ module _ (leaf : ℕ) (input : Input) (script : Script) (s c : ℕ) (at : Place)
     through = through_one t;
     own = (by_one a b, tt);
     begun = (e, [], refl);
-    once = once_one;
+    once = once_one log e;
     stand = (record { log = t.stand; own = (n, tt) }, tt);
     snaps_stood = stood;
     room = made_none old.made new.made t.stays.made;
@@ -242,7 +242,7 @@ module _ (leaf : ℕ) (input : Input) (script : Script) (s c : ℕ) (name : List
     through = through_one t;
     own = (by_one refl refl, tt);
     begun = (read_of s c, [], refl);
-    once = once_one;
+    once = once_one log (read_of s c);
     stand = (record { log = t.stand; own = (tt, tt) }, tt);
     snaps_stood = stood;
     room = made_none old.made new.made t.stays.made;

@@ -109,7 +109,7 @@ module _ (leaf : ℕ) (input : Input) (script : Script) (s c : ℕ) (name : List
             value.read.through (through_one t);
         own = (by_one refl refl, (by_one refl refl, tt));
         begun = (read_of s c, [], refl);
-        once = once_read;
+        once = once_read log taken s c (assign_of s c (name, rel));
         stand = (
           record { log = history_stands mid new (λ x h. keeps_stands mid new x k h) log value.read.stand; own = (tt, tt) },
           (record { log = t.stand; own = ((keeps_stands mid new rel k value.came.0, tt), tt) }, tt),
@@ -210,7 +210,7 @@ module _ (leaf : ℕ) (input : Input) (script : Script) (s c : ℕ) (item : Item
         through = g;
         own = (by_one refl refl, tt);
         begun = (assign_of s c (name, rel), [], refl);
-        once = once_one;
+        once = once_one log (assign_of s c (name, rel));
         stand = (record { log = h; own = ((st, tt), tt) }, tt);
         snaps_stood = stood;
         room = subst (λ d. MakesAtMost (cost_of_item leaf input script item (meant new (carried log)) (snap_meant new item snaps) d) old new) (sym dd) room;

@@ -2,13 +2,14 @@
 -- 1. What is due behind some values is due behind one more, where the next expression has a value.
 -- 2. Where it has none, that is due of the block, behind whatever came; and it is late behind a value.
 -- 3. So what is known of the first assignments grows by one, and tells of the whole block at its end.
-use Rattle.std.proofs.Common.{◌≡◌, ◌∙◌, ◌≤◌, ◌<◌, ◌+◌, ◌^◌, ◌-◌, inl, inr, arith, zero, suc, ℕ, cond, List, [], ◌∷◌, ◌++◌, drop, length, get_or, Some, Ok, refl, sym, ap, subst}
-use Rattle.std.specs.Prelude.{min}
-use Rattle.std.specs.List.{AllByRecursion}
+use Rattle.std.proofs.Common.{◌≡◌, ◌∙◌, ◌≤◌, ◌<◌, ◌+◌, ◌^◌, ◌-◌, inl, inr, arith, zero, suc, ℕ, cond, List, [], ◌∷◌, ◌++◌, drop, length, get_or, Some, Ok, Err, refl, sym, ap, subst}
+use Rattle.std.specs.Prelude.{min, All}
+use Rattle.std.proofs.lemmas.List.Elements.{All-nil, All-cons}
+use Rattle.run_model.specs.declared.outcome.Outcome.TheVariants.{Done, Nodes as NODES, NoMemory as NO_MEMORY}
 use Rattle.std.proofs.lemmas.List.{drop_more, map-append}
 use Rattle.rel_model.specs.declared.Rel.{Rel}
 use Rattle.rel_model.specs.Relation.{Relation}
-use Rattle.rel_model.specs.Worker.{Worker, Stands, set_of, Keeps, MakesAtMost, Rose}
+use Rattle.rel_model.specs.Worker.{Worker, Stands, set_of, Keeps, MakesAtMost}
 use Rattle.rel_model.proofs.Workers.{keeps_itself, keeps_trans, keeps_set, keeps_stands}
 use Rattle.lang_model.specs.declared.syntax.Let.{Let as BlockLet}
 use Rattle.lang_model.specs.declared.syntax.Script.{Script}
@@ -19,12 +20,12 @@ use Rattle.lang_model.specs.State.{State, assigned}
 use Rattle.lang_model.specs.Tokens.{same_text}
 use Rattle.run_model.specs.declared.outcome.Outcome.{Outcome}
 use Rattle.run_model.specs.Blocks.{AnyCompound}
-use Rattle.run_model.specs.Due.{When, Early, Late, Gifts, Due, Nothing, Value, Values, Explained, Refused, late, with_gift, behind_let, due_of_answer, due_of_value, due_of_lets}
+use Rattle.run_model.specs.Due.{When, Late, Gifts, Due, Nothing, Value, Values, Explained, Refused, late, with_gift, behind_let, due_of_answer, due_of_lets}
 use Rattle.run_model.specs.Outcomes.{IsNotEarly}
 use Rattle.run_model.proofs.Assigning.{goes_on, stops, costs_on}
 use Rattle.rv_eval.specs.Names.{rel_of, state_of, AllStand}
 use Rattle.rv_eval.proofs.States.{state_kept, all_stand_kept, state_assigned, all_stand_assigned}
-use Rattle.rv_sessions.specs.Valuing.{IsNotAhead, Stopped, CameTo}
+use Rattle.rv_sessions.specs.Valuing.{IsRefusal, IsNotAhead, Stopped, CameTo}
 use Rattle.rv_sessions.specs.Blocking.{gifts_in, GiftsStand, BlockStopped, due_behind, ValuedSoFar}
 use Rattle.rv_sessions.proofs.FoldingTurns.{all_append, all_weaker}
 
@@ -187,3 +188,53 @@ module _ (leaf : ℕ) (script : Script) (turns : ℕ) (lets : List BlockLet) whe
   pub end_room : (state : State) (first w : Worker) (names gifts : List (List ℕ × Rel)) (i : ℕ) → ValuedSoFar leaf script turns lets state first w names gifts i →
       MakesAtMost (cost_of_block leaf (evaluated_block script state lets turns)) first w
   end_room state first w names gifts i h = let r = h.room in omega (arith, r)
+
+-- ---- the same with names as the code hands them on
+pub dropped_all : (lets : List BlockLet) (i : ℕ) → length lets ≤ i → drop i lets ≡ []
+dropped_all [] zero h = refl
+dropped_all [] (suc i) h = refl
+dropped_all (l ∷ ls) zero h = absurd (omega (arith, h))
+dropped_all (l ∷ ls) (suc i) h = dropped_all ls i (omega (arith, h))
+
+module _ (leaf : ℕ) (script : Script) (turns : ℕ) (lets : List BlockLet) (state : State) (first w : Worker) (names gifts : List (List ℕ × Rel)) (i : ℕ) (l : BlockLet)
+    (h : ValuedSoFar leaf script turns lets state first w names gifts i) (less : i < length lets) (at : l ≡ get_or lets i l)
+    (new : Worker) (k : Keeps w new) (given : List (List ℕ × Rel)) (same : given ≡ names)
+    (room : MakesAtMost (cost_of_value leaf (evaluated script (state_of w given) l.value turns)) w new) where
+  own_room : MakesAtMost (cost_of_value leaf (evaluated script (state_of w names) l.value turns)) w new
+  own_room = subst (λ ns. MakesAtMost (cost_of_value leaf (evaluated script (state_of w ns) l.value turns)) w new) same room
+
+  pub step_keeps : Keeps first new
+  step_keeps = valued_keeps leaf script turns lets state first w names gifts i l h less at new k own_room
+
+  pub step_room : MakesAtMost (cost_of_block leaf (evaluated_block script state lets turns)) first new
+  step_room = valued_room leaf script turns lets state first w names gifts i l h less at new k own_room
+
+  pub step_stops : (o : Outcome) → CameTo w new l.value turns (evaluated script (state_of w given) l.value turns) (Err o) →
+      BlockStopped first new lets (due_of_lets turns lets (evaluated_block script state lets turns)) o
+  step_stops o came =
+      valued_stops leaf script turns lets state first w names gifts i l h less at new k own_room o
+      (subst (λ ns. Stopped w new l.value turns (evaluated script (state_of w ns) l.value turns) Value o) same (came Value))
+
+  pub step_more : (rel : Rel) (own : List ℕ) (later pushed : List (List ℕ × Rel)) → CameTo w new l.value turns (evaluated script (state_of w given) l.value turns) (Ok rel) →
+      own ≡ l.name → ((n : List ℕ) → rel_of later n ≡ cond (same_text l.name n) (Some rel) (rel_of names n)) → pushed ≡ gifts ++ (own, rel) ∷ [] →
+      ValuedSoFar leaf script turns lets state first new later pushed (i + 1)
+  step_more rel own later pushed came =
+      one_valued leaf script turns lets state first w names gifts i l h less at new k own_room rel own later pushed
+      (subst (λ ns. CameTo w new l.value turns (evaluated script (state_of w ns) l.value turns) (Ok rel)) same came)
+
+-- a block that stopped is not done
+pub block_not_done : (old new : Worker) (lets : List BlockLet) (d : Due) (o : Outcome) → BlockStopped old new lets d o → o ≡ Done → ⊥
+block_not_done old new lets d o (inl h) e = subst IsRefusal e h.2
+block_not_done old new lets d o (inr (inl h)) e = no_nodes (sym h.0 ∙ e)
+  where
+    no_nodes : NODES ≡ Done → ⊥
+    no_nodes x = cc
+block_not_done old new lets d o (inr (inr h)) e = no_memory (sym h ∙ e)
+  where
+    no_memory : NO_MEMORY ≡ Done → ⊥
+    no_memory x = cc
+
+-- gifts that stand, as callers say it
+pub all_stand : (w : Worker) (gifts : List (List ℕ × Rel)) → GiftsStand w gifts → All (λ g. Stands w g.1) gifts
+all_stand w [] h = All-nil (λ g. Stands w g.1)
+all_stand w (g ∷ gs) h = All-cons (λ g. Stands w g.1) g gs h.0 (all_stand w gs h.1)

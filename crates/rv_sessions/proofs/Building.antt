@@ -113,11 +113,11 @@ pub by_one : {s c : ℕ} {log : List Event} {e : Event} → e.session ≡ s → 
 by_one {e = e} a b = record { each = ((a, b), tt); kind = inl (e, refl) }
 
 -- one turn assigns once, and so does one behind a read
-pub once_one : {log : List Event} {e : Event} → AssignsOnce (turn_of log e ∷ [])
-once_one = (((λ h. refl), tt), tt)
+pub once_one : (log : List Event) (e : Event) → AssignsOnce (turn_of log e ∷ [])
+once_one log e = (((λ h. refl), tt), tt)
 
-pub once_read : {log taken : List Event} {s c : ℕ} {e : Event} → AssignsOnce (turn_of log (read_of s c) ∷ turn_of taken e ∷ [])
-once_read = (((λ h. absurd (false≢true h)), tt), (((λ h. refl), tt), tt))
+pub once_read : (log taken : List Event) (s c : ℕ) (e : Event) → AssignsOnce (turn_of log (read_of s c) ∷ turn_of taken e ∷ [])
+once_read log taken s c e = (((λ h. absurd (false≢true h)), tt), (((λ h. refl), tt), tt))
 
 -- what is known of an item's turns, whatever it came to
 pub record Went (leaf : ℕ) (input : Input) (script : Script) (s c : ℕ) (item : Item) (old new : Worker) (before after : View)

@@ -11,9 +11,8 @@ use Rattle.std.specs.declared.alloc.Global.{Global}
 use Rattle.std.proofs.lemmas.Bool.{cases_Bool, false≢true, eq-eqb, ne_eqb, eqb-true, eqb-false}
 use Rattle.rel_model.specs.declared.NoMemory.{NoMemory as LACK}
 use Rattle.rel_model.specs.declared.Rel.{Rel}
-use Rattle.rel_model.specs.Relation.{Relation}
-use Rattle.rel_model.specs.Worker.{Worker, Stands, set_of, Keeps, MakesAtMost, Rose}
-use Rattle.rel_model.proofs.Workers.{keeps_trans, keeps_stands}
+use Rattle.rel_model.specs.Worker.{Worker, set_of, Keeps, MakesAtMost, Rose}
+use Rattle.rel_model.proofs.Workers.{keeps_itself, keeps_trans, keeps_stands}
 use Rattle.lang_model.specs.declared.syntax.Command.TheVariants.{Atomic as ATOMIC}
 use Rattle.lang_model.specs.declared.syntax.Item.{Item}
 use Rattle.lang_model.specs.declared.syntax.Item.TheVariants.{Command as COMMAND}
@@ -27,8 +26,8 @@ use Rattle.run_model.specs.declared.outcome.Outcome.{Outcome}
 use Rattle.run_model.specs.declared.outcome.Outcome.TheVariants.{Done, NoMemory as NO_MEMORY, Changed}
 use Rattle.run_model.specs.Blocks.{as_set, block_reads}
 use Rattle.run_model.specs.Carried.{Carried, carried}
-use Rattle.run_model.specs.Due.{Workspace, Gifts, Due, Values, due, due_of_command, due_of_lets, due_of_block, outcome_due, gives}
-use Rattle.run_model.specs.Events.{Deed, Reads, Gives, deed_of, giving, reads_of, all_reads_of, done_deeds}
+use Rattle.run_model.specs.Due.{Workspace, Due, Values, due, due_of_command, due_of_lets, due_of_block, outcome_due, gives}
+use Rattle.run_model.specs.Events.{Reads, Gives, deed_of, giving, reads_of, done_deeds}
 use Rattle.run_model.specs.Inputs.{Input}
 use Rattle.run_model.specs.Legal.{change_at, is_assign}
 use Rattle.run_model.specs.Names.{lookup, names_of}
@@ -37,30 +36,29 @@ use Rattle.run_model.specs.Page.{done_text, done_save}
 use Rattle.run_model.specs.Sessions.{rel_of, HaveValues}
 use Rattle.run_model.specs.Texts.{prefix, refusal_text}
 use Rattle.run_model.specs.Turns.{Turn, AssignsOnce, taken as taken_by, taken_again, log_or_none, change_taken}
-use Rattle.run_model.specs.Versions.{Change, noted, version, version_behind, first_changed}
+use Rattle.run_model.specs.Versions.{Change, version, version_behind, first_changed}
 use Rattle.run_model.proofs.Committing.{from_set}
 use Rattle.turn_book.specs.Views.{View as PASS}
-use Rattle.rv_eval.specs.Names.{HasSizes, AllStand, state_of}
+use Rattle.rv_eval.specs.Names.{HasSizes, state_of}
 use Rattle.rv_workspace.specs.declared.refused.CommitRefused.{CommitRefused}
 use Rattle.rv_workspace.specs.declared.refused.CommitRefused.TheVariants.{Changed as CHANGED, NoMemory as COMMIT_NO_MEMORY}
 use Rattle.rv_workspace.specs.Books.{EventStands, HistoryStands}
 use Rattle.rv_workspace.specs.Committing.{change_since}
-use Rattle.rv_workspace.specs.Entering.{read_of, assign_of, assigns}
+use Rattle.rv_workspace.specs.Entering.{read_of, assigns}
 use Rattle.rv_workspace.specs.Picking.{picked}
 use Rattle.rv_workspace.proofs.Replaying.{history_stands}
 use Rattle.rv_sessions.specs.declared.told.Told.{Told}
 use Rattle.rv_sessions.specs.Acting.{turn_of, WasNotRead, DidItem}
-use Rattle.rv_sessions.specs.Blocking.{gifts_in, GiftsStand, BlockStopped, BlockCame, TellsRefusedCommit}
-use Rattle.rv_sessions.specs.Doing.{IsBy, GoesThrough, Did, deeds_by, rels_by, due_on}
+use Rattle.rv_sessions.specs.Blocking.{gifts_in, GiftsStand, BlockStopped, TellsRefusedCommit}
+use Rattle.rv_sessions.specs.Doing.{IsBy, GoesThrough, Did, rels_by, due_on}
 use Rattle.rv_sessions.specs.Standing.{TurnStands, Kept, KeptStand, meant}
 use Rattle.rv_sessions.specs.Telling.{TellsRefusal}
-use Rattle.rv_sessions.specs.Turning.{TookTurn, versions_in, CommitTurn}
-use Rattle.rv_sessions.specs.Valuing.{IsRefusal}
-use Rattle.rv_sessions.proofs.Acting.{through_one, through_puts, through_nothing}
+use Rattle.rv_sessions.specs.Turning.{TookTurn, versions_in, BlockTurn, CommitTurn}
+use Rattle.rv_sessions.proofs.Acting.{through_one, through_puts, through_nothing, not_read}
 use Rattle.rv_sessions.proofs.Blocks.{gifts_kept, gifts_stand_kept}
 use Rattle.rv_sessions.proofs.Building.{by_one, once_one, once_read, Went, lacks, lacks_behind, full, refuses, changes, is_done}
 use Rattle.rv_sessions.proofs.FoldingKept.{meant_same, carried_stands}
-use Rattle.rv_sessions.proofs.FoldingTurns.{through_append}
+use Rattle.rv_sessions.proofs.FoldingTurns.{through_none, through_append}
 use Rattle.rv_sessions.proofs.Looking.{wanted_agree}
 use Rattle.rv_sessions.proofs.Telling.{as_told}
 
@@ -83,6 +81,32 @@ came_on_log input script lets mid new log turns names h k n i =
     blocks_by_names script (state_of mid names) (lookup (meant mid (carried log))) lets turns (reads_agree mid lets log names h n)
     ∙ ap (λ m. evaluated_block script (lookup m) lets turns) (meant_same mid new k (carried log) (carried_stands mid log h))
     ∙ ap (λ t. evaluated_block script (lookup (meant new (carried log))) lets t) (sym i)
+
+-- the same, where the code hands on the block as a slice and the turns of its own
+module _ (input : Input) (script : Script) (lets slice : List BlockLet) (turns : ℕ) (reads : List (List ℕ)) (names : Carried) (log : List Event) (mid end : Worker)
+    (stand : HistoryStands mid log) (slice_is : slice ≡ lets) (reads_are : reads ≡ block_reads slice) (names_are : names ≡ picked (Some reads) (carried log))
+    (k : Keeps mid end) (i : input.turns ≡ turns) where
+  came_is : evaluated_block script (state_of mid names) slice turns ≡ block_on input script lets end log
+  came_is =
+      ap (λ ls. evaluated_block script (state_of mid names) ls turns) slice_is
+      ∙ came_on_log input script lets mid end log turns names stand k (names_are ∙ ap (λ ws. picked (Some ws) (carried log)) (reads_are ∙ ap block_reads slice_is)) i
+
+  due_is_same : due_of_lets turns slice (evaluated_block script (state_of mid names) slice turns) ≡ due_of_lets input.turns lets (block_on input script lets end log)
+  due_is_same = λ j. due_of_lets (sym i j) (slice_is j) (came_is j)
+
+  pub stopped_there : (o : Outcome) → BlockStopped mid end slice (due_of_lets turns slice (evaluated_block script (state_of mid names) slice turns)) o →
+      BlockStopped mid end lets (due_of_lets input.turns lets (block_on input script lets end log)) o
+  stopped_there o h =
+      subst (λ d. BlockStopped mid end lets d o) due_is_same
+      (subst (λ ls. BlockStopped mid end ls (due_of_lets turns slice (evaluated_block script (state_of mid names) slice turns)) o) slice_is h)
+
+  pub values_there : (d : Due) → due_of_lets turns slice (evaluated_block script (state_of mid names) slice turns) ≡ d →
+      due_of_lets input.turns lets (block_on input script lets end log) ≡ d
+  values_there d h = sym due_is_same ∙ h
+
+  pub room_there : (leaf : ℕ) → MakesAtMost (cost_of_block leaf (evaluated_block script (state_of mid names) slice turns)) mid end →
+      MakesAtMost (cost_of_block leaf (block_on input script lets end log)) mid end
+  room_there leaf h = subst (λ es. MakesAtMost (cost_of_block leaf es) mid end) came_is h
 
 -- ---- commits
 no_zero : (n : ℕ) → 0 + n ≡ n
@@ -186,7 +210,7 @@ module _ (leaf : ℕ) (input : Input) (script : Script) (s c : ℕ) (lets : Vec 
       through = through_append (turn_of log (read_of s c) ∷ []) [] before between after (through_one read) g;
       own = (by_one refl refl, tt);
       begun = (read_of s c, [], refl);
-      once = once_one;
+      once = once_one log (read_of s c);
       stand = (record { log = history_stands mid new (λ x h. keeps_stands mid new x k h) log read.stand; own = (tt, tt) }, tt);
       snaps_stood = stood;
       room = room_from new room;
@@ -196,7 +220,7 @@ module _ (leaf : ℕ) (input : Input) (script : Script) (s c : ℕ) (lets : Vec 
     -- memory ran out behind the read
     pub block_lacks : (new : Worker) (after : PASS) → GoesThrough [] between after → Keeps mid new → MakesAtMost (costs new) mid new →
         Did leaf input script s c item old new before after snaps snaps NO_MEMORY (prefix s c ++ refusal_text NO_MEMORY) []
-    block_lacks new after g k room = lacks (went new after g k room) tt (Reads ∷ [], refl)
+    block_lacks new after g k room = lacks (went new after g k room) tt ([], refl)
 
     -- the block stopped
     pub block_stopped : (new : Worker) (after : PASS) → GoesThrough [] between after → (k : Keeps mid new) → (room : MakesAtMost (costs new) mid new) →
@@ -270,7 +294,7 @@ module _ (leaf : ℕ) (input : Input) (script : Script) (s c : ℕ) (lets : Vec 
 
       changed_went : (t : TookTurn end new between after taken (read_of s c ∷ [])) →
           Went leaf input script s c item old new before after snaps (turns (read_of s c ∷ []) t)
-      changed_went t = went_on (read_of s c ∷ []) t (by_one refl refl) once_read (record { log = t.stand; own = (tt, tt) })
+      changed_went t = went_on (read_of s c ∷ []) t (by_one refl refl) (once_read log taken s c (read_of s c)) (record { log = t.stand; own = (tt, tt) })
 
       -- it was refused at its commit
       changed_did : (name : List ℕ) (seen found : ℕ) → TookTurn end new between after taken (read_of s c ∷ []) →
@@ -307,3 +331,12 @@ module _ (leaf : ℕ) (input : Input) (script : Script) (s c : ℕ) (lets : Vec 
           (changed_did end new after h.0 list values room stands due_is name seen found h.1 h.2)
       commit_refused COMMIT_NO_MEMORY result h t =
           subst (DidItem leaf input script s c item old new before after snaps snaps) (sym t.1) (commit_lacks end new after h.0 list values room stands due_is h.1)
+
+-- a read for which memory ran out, before it or behind it
+pub read_lacks : (leaf : ℕ) (input : Input) (script : Script) (s c : ℕ) (lets : Vec BlockLet Global) (old new : Worker) (before after : PASS) (snaps : Kept) (reads : List (List ℕ)) (lack : LACK) →
+    KeptStand old snaps → BlockTurn s c reads old new before after (Err lack) →
+    Did leaf input script s c (COMMAND (ATOMIC lets)) old new before after snaps snaps NO_MEMORY (prefix s c ++ refusal_text NO_MEMORY) []
+read_lacks leaf input script s c lets old new before after snaps reads lack stood (log, inl t) =
+    block_lacks leaf input script s c lets old before snaps stood new after log t new after (through_none after) (keeps_itself new) (omega arith)
+read_lacks leaf input script s c lets old new before after snaps reads lack stood (log, inr t) =
+    block_unread leaf input script s c lets old before snaps stood new after (not_read t)

@@ -32,7 +32,7 @@ use Rattle.turn_book.specs.Views.{View}
 use Rattle.rv_sessions.specs.declared.transcript.Transcript.{Transcript}
 use Rattle.run_model.specs.Filed.{saved_all}
 use Rattle.rv_sessions.specs.Telling.{texts_of}
-use Rattle.rv_sessions.specs.Standing.{TurnStands, Kept, meant, meant_all}
+use Rattle.rv_sessions.specs.Standing.{TurnStands, Kept, meant_all}
 use Rattle.rv_sessions.specs.Doing.{first_took, deeds_by, state_of_turns, snap_meant, Did}
 use Rattle.rv_sessions.specs.Running.{snaps_after, nodes_in, RoseBy, IsAmong, RanSoFar}
 use Rattle.rv_sessions.specs.Sessions.{RanScript}

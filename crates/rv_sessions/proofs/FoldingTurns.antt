@@ -13,8 +13,8 @@ use Rattle.rel_model.specs.declared.Rel.{Rel}
 use Rattle.rel_model.specs.Worker.{Worker, Stands, Keeps}
 use Rattle.rel_model.proofs.Workers.{keeps_stands}
 use Rattle.run_model.specs.declared.event.Event.{Event}
-use Rattle.run_model.specs.Events.{Entry, deed_of, entry_of, entries}
-use Rattle.run_model.specs.Turns.{Turn, puts_of, IsTurn, taken}
+use Rattle.run_model.specs.Events.{deed_of, entry_of, entries}
+use Rattle.run_model.specs.Turns.{Turn, puts_of, taken}
 use Rattle.run_model.proofs.Extending.{puts_append, turns_append, UpTo, OfNext, taken_old as old_taken, taken_new as new_taken}
 use Rattle.run_model.specs.Sessions.{rel_of, rels_of}
 use Rattle.turn_book.specs.Views.{View, IsKept}

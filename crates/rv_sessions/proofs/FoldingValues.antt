@@ -2,7 +2,7 @@
 -- 1. What a command assigned stands in the worker of then, and has the same values in one that keeps it.
 -- 2. The turns of a later command assign nothing of an earlier one. So the values of earlier steps are what they were.
 -- 3. Misses rise by one for each outcome that tells of a full table, up to the last value.
-use Rattle.std.proofs.Common.{◌≡◌, ◌≤◌, ◌+◌, ℕ, List, [], ◌∷◌, ◌++◌, map, refl, sym, subst, ◌∙◌, arith}
+use Rattle.std.proofs.Common.{◌≡◌, ◌≤◌, ◌+◌, ℕ, List, [], ◌∷◌, ◌++◌, refl, sym, subst, ◌∙◌, arith}
 use Rattle.std.specs.Prelude.{min}
 use Rattle.std.specs.List.{AllByRecursion}
 use Rattle.rel_model.specs.declared.Rel.{Rel}

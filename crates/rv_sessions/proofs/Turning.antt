@@ -1,5 +1,5 @@
 -- A turn of a command, from what the book and its call say.
-use Rattle.std.proofs.Common.{◌≡◌, ◌∙◌, ℕ, false, List, [], ◌∷◌, ◌++◌, append-nil, length, drop, Result, Ok, Err, Option, Some, refl, sym, ap, subst, arith, ◌+◌}
+use Rattle.std.proofs.Common.{◌≡◌, ◌∙◌, ℕ, false, List, [], ◌∷◌, ◌++◌, append-nil, length, drop, Result, Ok, Err, Option, refl, sym, ap, subst, arith, ◌+◌}
 use Rattle.std.specs.Prelude.{OnOk, OnErr, IfOk}
 use Rattle.rel_model.specs.declared.NoMemory.{NoMemory}
 use Rattle.rel_model.specs.declared.Rel.{Rel}
@@ -19,8 +19,7 @@ use Rattle.run_model.specs.Versions.{version}
 use Rattle.run_model.proofs.Places.{version-append}
 use Rattle.rv_workspace.specs.declared.refused.CommitRefused.{CommitRefused}
 use Rattle.rv_workspace.specs.Committing.{commit_entries}
-use Rattle.rv_sessions.specs.declared.turns.BlockView.{BlockView}
-use Rattle.rv_sessions.specs.Turning.{TookTurn, ReadTurn, AssignTurn, versions_in, BlockTurn}
+use Rattle.rv_sessions.specs.Turning.{TookTurn, ReadTurn, AssignTurn, versions_in}
 
 -- what stands in an archive stands where that was learnt
 pub learnt : (archive mine new : Worker) (log : List Event) → HistoryStands archive log → Learns mine archive new → HistoryStands new log
@@ -102,18 +101,10 @@ version-read s c name log = version-append name log (read_of s c ∷ []) ∙ non
     none_more : (n : ℕ) → n + 0 ≡ n
     none_more n = omega arith
 
-versions-read : (s c : ℕ) (log history : List Event) (names : List (List ℕ)) → history ≡ log ++ read_of s c ∷ [] → versions_in history names ≡ versions_in log names
+pub versions-read : (s c : ℕ) (log history : List Event) (names : List (List ℕ)) → history ≡ log ++ read_of s c ∷ [] → versions_in history names ≡ versions_in log names
 versions-read s c log history [] e = refl
 versions-read s c log history (n ∷ ns) e =
     let v = ap (version n) e ∙ version-read s c n log in let i = versions-read s c log history ns e in λ j. (n, v j) ∷ i j
-
-pub block_read : (s c : ℕ) (reads : List (List ℕ)) (old new : Worker) (before after : PASS) (view : View) (history : List Event)
-    (versions : List (List ℕ × ℕ)) (result : BlockView) →
-    ((log : List Event) × TookTurn old new before after log (read_of s c ∷ []) × (view.names.items ≡ picked (Some reads) (carried log)) × (history ≡ log ++ read_of s c ∷ [])) →
-    versions ≡ versions_in history reads → result.names.items ≡ view.names.items → result.versions.items ≡ versions →
-    BlockTurn s c reads old new before after (Ok result)
-block_read s c reads old new before after view history versions result t v n m =
-    (t.0, t.1, n ∙ t.2, m ∙ v ∙ versions-read s c t.0 history reads t.3)
 
 -- ---- a commit
 pub commit_begins : (s c : ℕ) (list : List (List ℕ × Rel)) (result : Result (Unit {0}) CommitRefused) (log history : List Event) (mid before : PASS) →

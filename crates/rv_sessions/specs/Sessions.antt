@@ -1,5 +1,5 @@
 -- What a session promises of its script, whatever the others do.
-use Rattle.std.specs.Prelude.{◌≡◌, ◌≢◌, ◌⊎◌, ◌++◌, ℕ, List, [], ◌∷◌, map, Option, Some, None, Result, Ok, Err}
+use Rattle.std.specs.Prelude.{◌≡◌, ◌≢◌, ◌⊎◌, ◌++◌, ℕ, List, [], ◌∷◌, Option, Some, None, Result, Ok, Err}
 use Rattle.rel_model.specs.Worker.{Worker, set_of, MakesAtMost, MissesNothing}
 use Rattle.lang_model.specs.declared.faults.ParseFault.{ParseFault}
 use Rattle.lang_model.specs.declared.faults.ParseFault.TheVariants.{NoMemory as NO_MEMORY_TO_PARSE}

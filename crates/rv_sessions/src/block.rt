@@ -112,7 +112,16 @@ pub(crate) fn atomic<E: Engine, W: Wait>(
         Ok(list) => list,
         Err(outcome) => return refused(alloc, by, outcome),
     };
-    match commit_turn(alloc, by, book, wait, pass, engine, versions.as_slice(), list) {
+    match commit_turn(
+        alloc,
+        by,
+        book,
+        wait,
+        pass,
+        engine,
+        versions.as_slice(),
+        list,
+    ) {
         Ok(()) => Ok(Told::done()),
         Err(why) => not_committed(alloc, by, why),
     }

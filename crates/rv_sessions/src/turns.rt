@@ -124,7 +124,13 @@ pub(crate) fn block_turn<E: Engine, W: Wait>(
 {
     let mut taken = book.take(wait, pass);
     let _ = taken.history();
-    let view = taken.read(alloc, by.session, by.command, Some(reads.as_slice()), engine);
+    let view = taken.read(
+        alloc,
+        by.session,
+        by.command,
+        Some(reads.as_slice()),
+        engine,
+    );
     let versions = with_versions(alloc, &taken, reads);
     book.put(pass, taken);
     match view {

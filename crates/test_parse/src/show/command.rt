@@ -1,7 +1,7 @@
 //! Commands written out.
 use super::expression::push_expr;
 use super::{push_name, push_place};
-use lang_model::syntax::{Command, Expr, FileText, Name, Row};
+use lang_model::syntax::{Command, Expr, FileText, Let, Name, Row};
 use std::alloc::Global;
 use std::test::Fail;
 
@@ -43,6 +43,17 @@ fn push_rows(alloc: Global, out: &mut String, rows: &[Row]) -> Result<(), Fail> 
         push_row(alloc, out, row)?;
     }
     out.push_str(" }")?;
+    Ok(())
+}
+
+/// The assignments of a block, each with its LET and a semicolon.
+fn push_lets(alloc: Global, out: &mut String, lets: &[Let]) -> Result<(), Fail> {
+    'lets: for assignment in lets {
+        push_named(out, " LET", &assignment.name)?;
+        push_place(alloc, out, assignment.at)?;
+        push_value(alloc, out, " =", &assignment.value)?;
+        out.push_str(";")?;
+    }
     Ok(())
 }
 
@@ -89,6 +100,12 @@ pub fn push_command(alloc: Global, out: &mut String, command: &Command) -> Resul
         Command::Save { value, file } => {
             push_value(alloc, out, "SAVE", value)?;
             push_file(out, file)
+        }
+        Command::Atomic { lets } => {
+            out.push_str("ATOMIC")?;
+            push_lets(alloc, out, lets.as_slice())?;
+            out.push_str(" COMMIT")?;
+            Ok(())
         }
         Command::Explain { value } => push_value(alloc, out, "EXPLAIN", value),
     }

@@ -1,0 +1,62 @@
+use Rattle.std.proofs.Common.{◌∙◌, ◌∷◌, [], inl, inr, Some, ap}
+use Rattle.run_model.specs.Carried.{carried}
+use Rattle.rv_workspace.specs.Entering.{read_of}
+use Rattle.rv_workspace.specs.Picking.{picked}
+use Rattle.rv_sessions.proofs.Turning.{learnt, read_begins, took, with_nothing, versions-read}
+use Rattle.rv_sessions.proofs.turns.block_turn.Goals as goal
+
+pub put-requires-clause-begins : goal.put-requires-clause-begins
+put-requires-clause-begins g c =
+    let t = c.take-taken in
+    let r = c.read-view in
+    read_begins c.args.by.session c.args.by.command r.result t.result.history r.new.self.history t.new.pass c.args.pass.now
+    t.ensures.takes r.ensures.entered r.ensures.as_before
+
+pub returns-in-Ok-versions : goal.returns-in-Ok-versions
+returns-in-Ok-versions g c =
+    let t = c.take-taken in
+    let r = c.read-view in
+    let w = g.E.Core.worker in
+    let s = c.args.by.session in
+    let k = c.args.by.command in
+    let log = t.result.history in
+    record {
+      read = (
+        log,
+        took (w c.args.engine.now) (w r.new.mine) c.args.pass.now t.new.pass c.put.new.pass log r.new.self.history (read_of s k ∷ []) c.requires.ready.idle
+            t.ensures.takes t.ensures.begins c.put.ensures c.in-Ok.ensures.entered
+            (learnt (w t.result.archive) (w c.args.engine.now) (w r.new.mine) log c.history.ensures.book.stand r.ensures.mine) r.ensures.mine.stays,
+        c.in-Ok.ensures.names ∙ ap (λ ws. picked (Some ws) (carried log)) c.as_slice.ensures.value,
+        c.in-Ok-versions.ensures ∙ versions-read s k log r.new.self.history c.args.reads.items c.in-Ok.ensures.entered,
+      );
+    }
+
+pub returns-in-Err-versions : goal.returns-in-Err-versions
+returns-in-Err-versions g c =
+    let t = c.take-taken in
+    let r = c.read-view in
+    let w = g.E.Core.worker in
+    let log = t.result.history in
+    record {
+      read = (
+        log,
+        inl (took (w c.args.engine.now) (w r.new.mine) c.args.pass.now t.new.pass c.put.new.pass log r.new.self.history
+            (read_of c.args.by.session c.args.by.command ∷ []) c.requires.ready.idle t.ensures.takes t.ensures.begins c.put.ensures c.in-Ok.ensures.entered
+            (learnt (w t.result.archive) (w c.args.engine.now) (w r.new.mine) log c.history.ensures.book.stand r.ensures.mine) r.ensures.mine.stays),
+      );
+    }
+
+pub returns-in-Err : goal.returns-in-Err
+returns-in-Err g c =
+    let t = c.take-taken in
+    let r = c.read-view in
+    let w = g.E.Core.worker in
+    let log = t.result.history in
+    record {
+      read = (
+        log,
+        inr (took (w c.args.engine.now) (w r.new.mine) c.args.pass.now t.new.pass c.put.new.pass log r.new.self.history [] c.requires.ready.idle
+            t.ensures.takes t.ensures.begins c.put.ensures (with_nothing log r.new.self.history c.in-Err.ensures.as_before)
+            (learnt (w t.result.archive) (w c.args.engine.now) (w r.new.mine) log c.history.ensures.book.stand r.ensures.mine) r.ensures.mine.stays),
+      );
+    }
