@@ -1,9 +1,9 @@
 -- What is said of the one batch of a run is said of all its sessions.
 use Rattle.std.specs.List.{AllByRecursion}
-use Rattle.std.proofs.Common.{◌≡◌, ◌≤◌, ◌+◌, ◌-◌, ◌∙◌, ℕ, zero, suc, List, [], ◌∷◌, length, take, drop, refl, sym, ap, arith}
+use Rattle.std.proofs.Common.{◌≡◌, ◌≤◌, ◌+◌, ◌-◌, ℕ, zero, suc, List, [], ◌∷◌, length, take, refl, ap, arith}
 use Rattle.run_model.specs.declared.event.Event.{Event}
 use Rattle.run_model.specs.declared.outcome.Outcome.{Outcome}
-use Rattle.run_model.specs.Inputs.{Input, Reading, batch_of}
+use Rattle.run_model.specs.Inputs.{Input, Reading}
 use Rattle.run_model.specs.Legal.{LegalSessions}
 use Rattle.run_model.specs.Stored.{FillsWhereFull, FillsInBatch, events_between}
 use Rattle.rv_runs.proofs.OneBatch.{is_first}

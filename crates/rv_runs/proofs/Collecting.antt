@@ -13,7 +13,7 @@ use Rattle.run_model.specs.declared.outcome.Outcome.{Outcome}
 use Rattle.run_model.specs.declared.outcome.Outcome.TheVariants.{Parse, Ill}
 use Rattle.run_model.specs.Inputs.{Input, Reading, NoScript, Flawed, Runs, AreReadings}
 use Rattle.run_model.specs.Page.{SavedFile, event_line, page, saves}
-use Rattle.run_model.specs.Cost.{cost_of_run, cost_of_batch}
+use Rattle.run_model.specs.Cost.{cost_of_run}
 use Rattle.run_model.specs.Turns.{BeginsLog}
 use Rattle.turn_book.specs.Entries.{Entry}
 use Rattle.turn_book.specs.Logs.{Begins, MakeUp}

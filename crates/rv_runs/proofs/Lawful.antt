@@ -4,7 +4,7 @@
 -- 3. Its assigned relations have the values that are due, so the states that each session took are those of the closed
 --    log, and so are replies, files and cost.
 use Rattle.std.specs.List.{AllByRecursion, flat_map}
-use Rattle.std.proofs.Common.{◌≡◌, ◌≤◌, ◌+◌, ◌++◌, ℕ, Bool, true, List, [], ◌∷◌, length, Some, refl, sym, ap, subst, ◌∙◌, map, arith, append-nil}
+use Rattle.std.proofs.Common.{◌≡◌, ◌≤◌, ◌+◌, ◌++◌, ℕ, Bool, true, List, [], ◌∷◌, length, refl, sym, ap, subst, ◌∙◌, map, arith, append-nil}
 use Rattle.std.specs.Prelude.{slice_get}
 use Rattle.rel_model.specs.declared.Rel.{Rel}
 use Rattle.rel_model.specs.Relation.{Relation}
@@ -17,7 +17,7 @@ use Rattle.run_model.specs.Steps.{steps}
 use Rattle.run_model.specs.States.{start, gifts_due, state_for}
 use Rattle.run_model.specs.Carried.{no_first, AllHaveDue}
 use Rattle.run_model.specs.Legal.{IsLegal}
-use Rattle.run_model.specs.Batches.{Batch, IsOfBatch, AreAllBatches, SessionsRan}
+use Rattle.run_model.specs.Batches.{Batch, AreAllBatches, SessionsRan}
 use Rattle.run_model.specs.Page.{replies, saves_of, session_page, sessions_page, session_saves, sessions_saves}
 use Rattle.run_model.specs.Cost.{cost_of_steps, cost_of_session, cost_of_sessions}
 use Rattle.run_model.specs.Turns.{TurnsInLog, StandsBehind, state_taken}

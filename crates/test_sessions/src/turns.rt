@@ -16,7 +16,7 @@ use rel_model::engine_trait::Engine;
 use rel_model::seated_trait::Seated;
 use rel_model::{Rel, Shape};
 use run_model::event::Event;
-use rv_workspace::{Book, DropRefused};
+use rv_workspace::{Book, CommitRefused, DropRefused};
 use std::alloc::Global;
 use std::process::Abort;
 use std::sync::Wait;
@@ -220,18 +220,110 @@ fn an_assignment_behind_a_drop_brings_the_name_back(rt: HostRuntime) -> Result<(
     let gate = OpenGate;
     let works = Works::new(Crew::new(&rt, &table, seat, 1, &gate));
     let history = dropped_between(&rt, alloc, works);
-    is_history(&rt, alloc, history.as_slice())
+    is_history(&rt, alloc, history.as_slice(), HISTORY)
 }
 
-/// Asserts that these events are those of both sessions.
-fn is_history(rt: &impl Abort, alloc: Global, history: &[Event]) -> Result<(), Fail> {
+/// Asserts that these events have these lines.
+fn is_history(rt: &impl Abort, alloc: Global, history: &[Event], wanted: &str) -> Result<(), Fail> {
     let mut lines = Vec::new(alloc);
     push_history(alloc, &mut lines, history)?;
     let lines = str::from_utf8(lines.as_slice())?;
-    assert!(rt; lines == HISTORY, "{lines}");
+    assert!(rt; lines == wanted, "{lines}");
     Ok(())
 }
 
 /// The lines of the history of both sessions.
 const HISTORY: &str =
     "1.1 assign X 1 x 1\n1.2 read\n2.1 drop X\n2.2 read\n1.2 assign X 1 x 1\n2.3 read\n1.3 drop X\n2.4 read\n";
+
+/// The version of the name, in a turn that changes nothing.
+fn version_of<R: Wait + Abort, E: Engine + Drop>(
+    rt: &R,
+    alloc: Global,
+    book: &TurnBook<Book<E>>,
+    pass: &mut Pass<Book<E>>,
+) -> u64
+    requires ready { IsReady book.now pass.old }
+    ensures kept { IsKept pass.old pass.new }
+{
+    let taken = book.take(rt, pass);
+    let version = taken.version(&name_x(rt, alloc));
+    book.put(pass, taken);
+    version
+}
+
+/// Commits a block of no assignment, which read the name in this version. The two versions where it is refused.
+fn commits<R: Wait + Abort, E: Engine + Drop>(
+    rt: &R,
+    alloc: Global,
+    book: &TurnBook<Book<E>>,
+    pass: &mut Pass<Book<E>>,
+    engine: &mut E,
+    command: u32,
+    seen: u64,
+) -> Option<(u64, u64)>
+    requires ready { IsReady book.now pass.old }
+    requires kin { pass.old.house ≡ (E.worker engine.old).house }
+    ensures kept { IsKept pass.old pass.new }
+    ensures keeps { Keeps (E.worker engine.old) (E.worker engine.new) }
+{
+    let mut reads = Vec::new(alloc);
+    assert!(rt; reads.push((name_x(rt, alloc), seen)).is_ok());
+    let list = Vec::new(alloc);
+    let mut taken = book.take(rt, pass);
+    let committed = taken.commit(alloc, 1, command, reads.as_slice(), list, engine);
+    book.put(pass, taken);
+    match committed {
+        Ok(()) => None,
+        Err(CommitRefused::Changed { name, seen, found }) => {
+            assert!(rt; name.bytes() == b"X".as_slice());
+            Some((seen, found))
+        }
+        Err(CommitRefused::NoMemory) => panic!(rt; "no memory"),
+    }
+}
+
+/// The first session reads the name; the second drops it, and assigns the same relation again; so the first may not
+/// commit what it read before. What happened.
+fn assigned_again<R: Wait + Abort, E: Engine + Drop>(
+    rt: &R,
+    alloc: Global,
+    mut mine: E,
+) -> Vec<Event>
+    requires spare { (E.worker mine).spare ≡ 66 }
+    requires made { (E.worker mine).made ≡ 0 }
+{
+    let archive = mine.split(1);
+    let Ok(full) = mine.full(Shape { rows: 1, cols: 1 }) else {
+        panic!(rt; "refused")
+    };
+    let Ok((book, mut first)) = TurnBook::make(alloc, Book::new(alloc, archive), 2) else {
+        panic!(rt; "no memory")
+    };
+    let mut second = book.split_pass(&mut first);
+    before_the_drop(rt, alloc, &book, &mut first, &mut mine, full);
+    assert!(rt; version_of(rt, alloc, &book, &mut first) == 1);
+    assert!(rt; drops(rt, alloc, &book, &mut second, 2, 1));
+    assigns(rt, alloc, &book, &mut second, &mut mine, 2, 2, full);
+    assert!(rt; commits(rt, alloc, &book, &mut first, &mut mine, 2, 1) == Some((1, 3)));
+    assert!(rt; version_of(rt, alloc, &book, &mut first) == 3);
+    assert!(rt; commits(rt, alloc, &book, &mut first, &mut mine, 3, 3).is_none());
+    book.join_pass(&mut first, second);
+    let (_, history) = book.close(first).into_parts();
+    history
+}
+
+#[test]
+fn an_equal_relation_that_is_assigned_again_is_a_change(rt: HostRuntime) -> Result<(), Fail> {
+    let alloc = rt.alloc();
+    let Ok((table, seat)) = PairTable::make(alloc, 10, 67) else {
+        panic!(rt; "no memory")
+    };
+    let gate = OpenGate;
+    let works = Works::new(Crew::new(&rt, &table, seat, 1, &gate));
+    let history = assigned_again(&rt, alloc, works);
+    is_history(&rt, alloc, history.as_slice(), CHANGED)
+}
+
+/// The lines of the history where a name was assigned again between a read and a commit.
+const CHANGED: &str = "1.1 assign X 1 x 1\n1.2 read\n2.1 drop X\n2.2 assign X 1 x 1\n1.2 read\n";
