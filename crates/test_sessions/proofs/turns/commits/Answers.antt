@@ -1,0 +1,8 @@
+use Rattle.rv_sessions.proofs.Turning.{commit_begins}
+use Rattle.test_sessions.proofs.turns.commits.Goals as goal
+
+pub put-requires-clause-begins : goal.put-requires-clause-begins
+put-requires-clause-begins g c =
+    let t = c.take-taken in
+    let r = c.commit-committed in
+    commit_begins 1 c.args.command c.new-list.result.items r.result t.result.history r.new.self.history t.new.pass c.args.pass.now t.ensures.takes r.ensures.entered
