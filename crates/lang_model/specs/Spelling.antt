@@ -18,7 +18,8 @@ use Rattle.lang_model.specs.declared.syntax.Decl.TheVariants.{Variable, Domain}
 use Rattle.lang_model.specs.declared.syntax.Let.{Let as LetOf}
 use Rattle.lang_model.specs.declared.syntax.Command.{Command}
 use Rattle.lang_model.specs.declared.syntax.Command.TheVariants.{Relation, Let, Print, List as ListOf, Count, Typed}
-use Rattle.lang_model.specs.declared.syntax.Command.TheVariants.{Remove, Snap, At, Load, Save, Atomic, Explain}
+use Rattle.lang_model.specs.declared.syntax.Command.TheVariants.{Remove, Snap, At, Load, Save, LoadAll, SaveAll, Atomic}
+use Rattle.lang_model.specs.declared.syntax.Command.TheVariants.{Explain}
 use Rattle.lang_model.specs.declared.syntax.Item.{Item}
 use Rattle.lang_model.specs.declared.syntax.Item.TheVariants.{Function, Program, Command as COMMAND}
 use Rattle.lang_model.specs.declared.syntax.Script.{Script}
@@ -28,7 +29,7 @@ use Rattle.lang_model.specs.declared.token.Keyword.TheVariants.{Snap as SNAP, At
 use Rattle.lang_model.specs.declared.token.Keyword.TheVariants.{Decl as DECL, Prod as PROD, Sum as SUM, Beg as BEG}
 use Rattle.lang_model.specs.declared.token.Keyword.TheVariants.{End as END, Return as RETURN, While as WHILE, Do as DO}
 use Rattle.lang_model.specs.declared.token.Keyword.TheVariants.{Od as OD, If as IF, Then as THEN, Else as ELSE}
-use Rattle.lang_model.specs.declared.token.Keyword.TheVariants.{Fi as FI, Atomic as ATOMIC}
+use Rattle.lang_model.specs.declared.token.Keyword.TheVariants.{Fi as FI, All as ALL, Atomic as ATOMIC}
 use Rattle.lang_model.specs.declared.token.Keyword.TheVariants.{Commit as COMMIT, Explain as EXPLAIN}
 use Rattle.lang_model.specs.declared.token.Kind.{Kind}
 use Rattle.lang_model.specs.declared.token.Kind.TheVariants.{Keyword, Base as BASE, Word, Number, File, Sign}
@@ -278,6 +279,10 @@ SpellsCommand (Load name file) tokens rest = (mid : List Token) × SpellsNamed (
     × Takes (File file) mid rest
 SpellsCommand (Save value file) tokens rest = (mid : List Token) × SpellsValued (Keyword SAVE) value tokens mid
     × Takes (File file) mid rest
+SpellsCommand (LoadAll file) tokens rest = (t1 t2 : List Token) × Takes (Keyword LOAD) tokens t1
+    × Takes (Keyword ALL) t1 t2 × Takes (File file) t2 rest
+SpellsCommand (SaveAll file) tokens rest = (t1 t2 : List Token) × Takes (Keyword SAVE) tokens t1
+    × Takes (Keyword ALL) t1 t2 × Takes (File file) t2 rest
 SpellsCommand (Atomic lets) tokens rest = (t1 t2 : List Token) × Takes (Keyword ATOMIC) tokens t1
     × SpelledLets lets.items t1 t2 × Takes (Keyword COMMIT) t2 rest
 SpellsCommand (Explain value) tokens rest = SpellsValued (Keyword EXPLAIN) value tokens rest

@@ -13,7 +13,7 @@ use Rattle.lang_model.specs.declared.token.Keyword.TheVariants.{Snap as SNAP, At
 use Rattle.lang_model.specs.declared.token.Keyword.TheVariants.{Decl as DECL, Prod as PROD, Sum as SUM, Beg as BEG}
 use Rattle.lang_model.specs.declared.token.Keyword.TheVariants.{End as END, Return as RETURN, While as WHILE, Do as DO}
 use Rattle.lang_model.specs.declared.token.Keyword.TheVariants.{Od as OD, If as IF, Then as THEN, Else as ELSE}
-use Rattle.lang_model.specs.declared.token.Keyword.TheVariants.{Fi as FI, Atomic as ATOMIC}
+use Rattle.lang_model.specs.declared.token.Keyword.TheVariants.{Fi as FI, All as ALL, Atomic as ATOMIC}
 use Rattle.lang_model.specs.declared.token.Keyword.TheVariants.{Commit as COMMIT, Explain as EXPLAIN}
 use Rattle.lang_model.specs.declared.token.Kind.{Kind}
 use Rattle.lang_model.specs.declared.token.Kind.TheVariants.{Keyword as KEYWORD, Base as BASE, Word, Number, File, Sign}
@@ -49,6 +49,8 @@ pub data Part : Type 0 where
   MeaningPart : Part
   DomainPart : Part
   MoreDecls : Part
+  NameOrAll : Part
+  ExprOrAll : Part
   LetsPart : Part
   MoreLets : Part
   ItemsPart : Part
@@ -160,6 +162,17 @@ domain_step _ = NotBegun
 abbrev pub let_parts : List Part
 let_parts = NamePart ∷ SignPart 61 ∷ ExprPart OrLevel 0 ∷ MoreLets ∷ []
 
+-- NAME | ALL
+abbrev pub name_or_all : Kind → Step
+name_or_all (Word name) = Behind []
+name_or_all (KEYWORD ALL) = Behind []
+name_or_all _ = NotBegun
+
+-- expr | ALL
+abbrev pub expr_or_all : Kind → Step
+expr_or_all (KEYWORD ALL) = Behind []
+expr_or_all kind = expr_step OrLevel 0 kind
+
 -- a further LET of a block
 abbrev pub lets_step : Kind → Step
 lets_step (KEYWORD LET) = Behind let_parts
@@ -176,8 +189,8 @@ command_step TYPE = Behind (ExprPart OrLevel 0 ∷ [])
 command_step DROP = Behind (NamePart ∷ [])
 command_step SNAP = Behind (NamePart ∷ [])
 command_step AT = Behind (NamePart ∷ WordPart PRINT ∷ ExprPart OrLevel 0 ∷ [])
-command_step LOAD = Behind (NamePart ∷ FilePart ∷ [])
-command_step SAVE = Behind (ExprPart OrLevel 0 ∷ FilePart ∷ [])
+command_step LOAD = Behind (NameOrAll ∷ FilePart ∷ [])
+command_step SAVE = Behind (ExprOrAll ∷ FilePart ∷ [])
 command_step ATOMIC = Behind (WordPart LET ∷ let_parts ++ WordPart COMMIT ∷ [])
 command_step EXPLAIN = Behind (ExprPart OrLevel 0 ∷ [])
 command_step _ = NotBegun
@@ -214,9 +227,10 @@ number_of IF = 20
 number_of THEN = 21
 number_of ELSE = 22
 number_of FI = 23
-number_of ATOMIC = 24
-number_of COMMIT = 25
-number_of EXPLAIN = 26
+number_of ALL = 24
+number_of ATOMIC = 25
+number_of COMMIT = 26
+number_of EXPLAIN = 27
 
 -- whether a token is this keyword
 abbrev pub is_word : Keyword → Kind → Bool
@@ -256,6 +270,8 @@ entered BodyPart kind = body_step kind
 entered MeaningPart kind = where_it (is_sign 61 kind) (DomainPart ∷ [])
 entered DomainPart kind = domain_step kind
 entered MoreDecls kind = where_it (is_sign 44 kind) (NamePart ∷ MeaningPart ∷ MoreDecls ∷ [])
+entered NameOrAll kind = name_or_all kind
+entered ExprOrAll kind = expr_or_all kind
 entered LetsPart kind = lets_step kind
 entered MoreLets kind = where_it (is_sign 59 kind) (LetsPart ∷ [])
 entered ItemsPart kind = followed (SignPart 46 ∷ ItemsPart ∷ []) (item_step kind)
@@ -286,6 +302,7 @@ written IF = codes "IF"
 written THEN = codes "THEN"
 written ELSE = codes "ELSE"
 written FI = codes "FI"
+written ALL = codes "ALL"
 written ATOMIC = codes "ATOMIC"
 written COMMIT = codes "COMMIT"
 written EXPLAIN = codes "EXPLAIN"
@@ -301,6 +318,8 @@ word_of (SignPart s) = Some (TOKEN (s ∷ []))
 word_of (WordPart word) = Some (TOKEN (written word))
 word_of (OpenPart d) = Some (TOKEN (40 ∷ []))
 word_of (ExprPart l d) = Some Expression
+word_of NameOrAll = Some Name
+word_of ExprOrAll = Some Expression
 word_of BodyPart = Some (TOKEN (61 ∷ []))
 word_of DomainPart = Some (TOKEN (written PROD))
 word_of _ = None

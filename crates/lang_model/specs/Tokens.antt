@@ -11,7 +11,7 @@ use Rattle.lang_model.specs.declared.token.Keyword.TheVariants.{Snap as SNAP, At
 use Rattle.lang_model.specs.declared.token.Keyword.TheVariants.{Decl as DECL, Prod as PROD, Sum as SUM, Beg as BEG}
 use Rattle.lang_model.specs.declared.token.Keyword.TheVariants.{End as END, Return as RETURN, While as WHILE, Do as DO}
 use Rattle.lang_model.specs.declared.token.Keyword.TheVariants.{Od as OD, If as IF, Then as THEN, Else as ELSE}
-use Rattle.lang_model.specs.declared.token.Keyword.TheVariants.{Fi as FI, Atomic as ATOMIC}
+use Rattle.lang_model.specs.declared.token.Keyword.TheVariants.{Fi as FI, All as ALL, Atomic as ATOMIC}
 use Rattle.lang_model.specs.declared.token.Keyword.TheVariants.{Commit as COMMIT, Explain as EXPLAIN}
 use Rattle.lang_model.specs.BaseNames.{base_text, base_names, domain_operator_names}
 use Rattle.lang_model.specs.declared.token.Kind.{Kind}
@@ -81,7 +81,7 @@ reserved_words =
     ∷ (codes "END", Keyword END) ∷ (codes "RETURN", Keyword RETURN) ∷ (codes "WHILE", Keyword WHILE)
     ∷ (codes "DO", Keyword DO) ∷ (codes "OD", Keyword OD)
     ∷ (codes "IF", Keyword IF) ∷ (codes "THEN", Keyword THEN) ∷ (codes "ELSE", Keyword ELSE) ∷ (codes "FI", Keyword FI)
-    ∷ (codes "ATOMIC", Keyword ATOMIC) ∷ (codes "COMMIT", Keyword COMMIT)
+    ∷ (codes "ALL", Keyword ALL) ∷ (codes "ATOMIC", Keyword ATOMIC) ∷ (codes "COMMIT", Keyword COMMIT)
     ∷ (codes "EXPLAIN", Keyword EXPLAIN)
     ∷ map (λ base. (base_text base, BASE base)) base_names
 

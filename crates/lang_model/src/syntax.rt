@@ -443,6 +443,14 @@ pub enum Command {
         value: Expr,
         file: FileText,
     },
+    /// `LOAD ALL "file"`.
+    LoadAll {
+        file: FileText,
+    },
+    /// `SAVE ALL "file"`.
+    SaveAll {
+        file: FileText,
+    },
     /// `ATOMIC lets COMMIT`.
     Atomic {
         lets: Vec<Let>,
@@ -478,6 +486,8 @@ impl Drop for Command {
             } => {}
             Command::Load { name: _, file: _ } => {}
             Command::Save { value: _, file: _ } => {}
+            Command::LoadAll { file: _ } => {}
+            Command::SaveAll { file: _ } => {}
             Command::Atomic { lets: _ } => {}
             Command::Explain { value: _ } => {}
         }
