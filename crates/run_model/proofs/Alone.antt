@@ -19,6 +19,8 @@ use Rattle.lang_model.specs.declared.syntax.Command.TheVariants.{
   At,
   Load,
   Save,
+  LoadAll,
+  SaveAll,
   Atomic,
   Explain,
 }
@@ -30,7 +32,7 @@ use Rattle.run_model.specs.declared.event.Act.TheVariants.{Read}
 use Rattle.run_model.specs.declared.outcome.Outcome.{Outcome}
 use Rattle.run_model.specs.declared.outcome.Outcome.TheVariants.{Done, Parse, Ill, Size, Turns, Nodes, TooLarge, TooLong, NoFile, BadFile as BAD_FILE, NoMemory, Changed}
 use Rattle.run_model.specs.Inputs.{Input, script_at, item_at}
-use Rattle.run_model.specs.Due.{Workspace, Due, Nothing, Value, Values, Explained, Refused, outcome_due, due, due_of_command, gives}
+use Rattle.run_model.specs.Due.{Workspace, Due, Nothing, Value, Values, Bytes, Explained, Refused, outcome_due, due, due_of_command, gives}
 use Rattle.run_model.specs.Steps.{Ending, Succeeds, Fails, Changes, LacksMemory, ending, Snapshots, snapped, keep, kept_at, snaps_behind, snap_for, steps_from}
 use Rattle.run_model.specs.Events.{Deed, Reads, Removes, Entry, entry_of, entries, giving, first_of, reads_of, all_reads_of, HasDeeds, AreEvents}
 use Rattle.run_model.specs.Outcomes.{lets_of, MayBeChanged, IsChanged, IsOutcome, AreOutcomes}
@@ -58,6 +60,7 @@ deeds_are : (item : Item) (d : Due) (deeds : List Deed) → FailsWell d → HasD
 deeds_are item Nothing deeds f h = h
 deeds_are item (Value r) deeds f h = h
 deeds_are item (Values gifts) deeds f h = h
+deeds_are item (Bytes bytes) deeds f h = h
 deeds_are item (Explained steps) deeds f h = h
 deeds_are item (Refused when outcome) deeds f h = subst (λ x. HasDeeds x item (Refused when outcome) deeds) f h
 
@@ -65,6 +68,7 @@ has_deeds : (item : Item) (d : Due) → FailsWell d → HasDeeds (ending (outcom
 has_deeds item Nothing f = refl
 has_deeds item (Value r) f = refl
 has_deeds item (Values gifts) f = refl
+has_deeds item (Bytes bytes) f = refl
 has_deeds item (Explained steps) f = refl
 has_deeds item (Refused when outcome) f = subst (λ x. HasDeeds x item (Refused when outcome) (reads_of item)) (sym f) refl
 
@@ -90,6 +94,7 @@ module _ (input : Input) (script : Script) where
   does item x f y r Nothing h = some_deed x (giving (gives item Nothing)) (sym (ap (λ l. l ++ giving (gives item Nothing)) f) ∙ h)
   does item x f y r (Value v) h = some_deed x (giving (gives item (Value v))) (sym (ap (λ l. l ++ giving (gives item (Value v))) f) ∙ h)
   does item x f y r (Values gifts) h = some_deed x (giving (gives item (Values gifts))) (sym (ap (λ l. l ++ giving (gives item (Values gifts))) f) ∙ h)
+  does item x f y r (Bytes bytes) h = some_deed x (giving (gives item (Bytes bytes))) (sym (ap (λ l. l ++ giving (gives item (Bytes bytes))) f) ∙ h)
   does item x f y r (Explained steps) h = some_deed x (giving (gives item (Explained steps))) (sym (ap (λ l. l ++ giving (gives item (Explained steps))) f) ∙ h)
   does item x f y r (Refused when outcome) h = some_deed y [] (sym r ∙ h)
 
@@ -110,6 +115,9 @@ module _ (input : Input) (script : Script) where
   ignores (COMMAND (Load name file)) d h =
       record { same_due = λ s t snap. refl; same_snaps = keeps_none (COMMAND (Load name file)) refl }
   ignores (COMMAND (Save e file)) d h = absurd (does (COMMAND (Save e file)) Reads refl Reads refl d h)
+  ignores (COMMAND (LoadAll file)) d h =
+      record { same_due = λ s t snap. refl; same_snaps = keeps_none (COMMAND (LoadAll file)) refl }
+  ignores (COMMAND (SaveAll file)) d h = absurd (does (COMMAND (SaveAll file)) Reads refl Reads refl d h)
   ignores (COMMAND (Atomic lets)) d h = absurd (does (COMMAND (Atomic lets)) Reads refl Reads refl d h)
   ignores (COMMAND (Explain e)) d h = absurd (does (COMMAND (Explain e)) Reads refl Reads refl d h)
   ignores (Function at name params body) d h =
@@ -161,6 +169,8 @@ block_reads_first (COMMAND (Snap name)) ls e = absurd (not_some ls e)
 block_reads_first (COMMAND (At at name x)) ls e = absurd (not_some ls e)
 block_reads_first (COMMAND (Load name file)) ls e = absurd (not_some ls e)
 block_reads_first (COMMAND (Save x file)) ls e = absurd (not_some ls e)
+block_reads_first (COMMAND (LoadAll file)) ls e = absurd (not_some ls e)
+block_reads_first (COMMAND (SaveAll file)) ls e = absurd (not_some ls e)
 block_reads_first (COMMAND (Atomic lets)) ls e = (refl, refl, refl)
 block_reads_first (COMMAND (Explain x)) ls e = absurd (not_some ls e)
 block_reads_first (Function at name params body) ls e = absurd (not_some ls e)
@@ -171,6 +181,7 @@ block_deeds : (item : Item) (ls : List BlockLet) → lets_of item ≡ Some ls �
 block_deeds item ls e Nothing = (giving (gives item Nothing), ap (λ l. l ++ giving (gives item Nothing)) (block_reads_first item ls e).0)
 block_deeds item ls e (Value v) = (giving (gives item (Value v)), ap (λ l. l ++ giving (gives item (Value v))) (block_reads_first item ls e).0)
 block_deeds item ls e (Values gifts) = (giving (gives item (Values gifts)), ap (λ l. l ++ giving (gives item (Values gifts))) (block_reads_first item ls e).0)
+block_deeds item ls e (Bytes bytes) = (giving (gives item (Bytes bytes)), ap (λ l. l ++ giving (gives item (Bytes bytes))) (block_reads_first item ls e).0)
 block_deeds item ls e (Explained steps) = (giving (gives item (Explained steps)), ap (λ l. l ++ giving (gives item (Explained steps))) (block_reads_first item ls e).0)
 block_deeds item ls e (Refused when outcome) = ([], (block_reads_first item ls e).1)
 
@@ -254,6 +265,7 @@ due_unchanged : (d : Due) → FailsWell d → ending (outcome_due d) ≡ Changes
 due_unchanged Nothing f e = let k : 0 ≡ 2 = ap ending_number e in omega (arith, k)
 due_unchanged (Value r) f e = let k : 0 ≡ 2 = ap ending_number e in omega (arith, k)
 due_unchanged (Values gifts) f e = let k : 0 ≡ 2 = ap ending_number e in omega (arith, k)
+due_unchanged (Bytes bytes) f e = let k : 0 ≡ 2 = ap ending_number e in omega (arith, k)
 due_unchanged (Explained steps) f e = let k : 0 ≡ 2 = ap ending_number e in omega (arith, k)
 due_unchanged (Refused when outcome) f e = let k : 1 ≡ 2 = ap ending_number (sym f ∙ e) in omega (arith, k)
 

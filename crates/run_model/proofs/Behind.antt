@@ -16,6 +16,8 @@ use Rattle.lang_model.specs.declared.syntax.Command.TheVariants.{
   At,
   Load,
   Save,
+  LoadAll,
+  SaveAll,
   Atomic,
   Explain,
 }
@@ -29,7 +31,7 @@ use Rattle.run_model.specs.declared.outcome.Outcome.{Outcome}
 use Rattle.rel_model.specs.Relation.{Relation}
 use Rattle.run_model.specs.Names.{no_names, remove}
 use Rattle.run_model.specs.Inputs.{Input, script_at, item_at}
-use Rattle.run_model.specs.Due.{When, Workspace, Due, Nothing, Value, Values, Explained, Refused, Gifts, given, given_all, gives, due, due_of_command}
+use Rattle.run_model.specs.Due.{When, Workspace, Due, Nothing, Value, Values, Bytes, Explained, Refused, Gifts, given, given_all, gives, due, due_of_command}
 use Rattle.run_model.specs.Events.{Deed, Reads, Removes, entry_of, entries, giving, first_of, reads_of}
 use Rattle.run_model.specs.States.{Replay, start, at_command, set_by, replay_act, replay, gifts_of_item, gifts_of_script, gifts_due, is_of, events_before, state_after, state_for}
 use Rattle.run_model.specs.Solo.{set_all, without, state_behind, deeds_due}
@@ -98,6 +100,7 @@ module _ (item : Item) (state : Workspace) (stays : without item state ≡ state
     plain_deeds Nothing = (λ i. f i ++ giving (none_given Nothing i)) ∙ append-nil firsts
     plain_deeds (Value v) = (λ i. f i ++ giving (none_given (Value v) i)) ∙ append-nil firsts
     plain_deeds (Values gifts) = (λ i. f i ++ giving (none_given (Values gifts) i)) ∙ append-nil firsts
+    plain_deeds (Bytes bytes) = (λ i. f i ++ giving (none_given (Bytes bytes) i)) ∙ append-nil firsts
     plain_deeds (Explained steps) = (λ i. f i ++ giving (none_given (Explained steps) i)) ∙ append-nil firsts
     plain_deeds (Refused when outcome) = r
 
@@ -105,6 +108,7 @@ module _ (item : Item) (state : Workspace) (stays : without item state ≡ state
     plain_state Nothing = λ i. set_all (none_given Nothing i) (stays i)
     plain_state (Value v) = λ i. set_all (none_given (Value v) i) (stays i)
     plain_state (Values gifts) = λ i. set_all (none_given (Values gifts) i) (stays i)
+    plain_state (Bytes bytes) = λ i. set_all (none_given (Bytes bytes) i) (stays i)
     plain_state (Explained steps) = λ i. set_all (none_given (Explained steps) i) (stays i)
     plain_state (Refused when outcome) = refl
 
@@ -113,6 +117,7 @@ module _ (item : Item) (state : Workspace) (stays : without item state ≡ state
     giver_deeds Nothing = λ i. f i ++ giving (g Nothing i)
     giver_deeds (Value v) = λ i. f i ++ giving (g (Value v) i)
     giver_deeds (Values gifts) = λ i. f i ++ giving (g (Values gifts) i)
+    giver_deeds (Bytes bytes) = λ i. f i ++ giving (g (Bytes bytes) i)
     giver_deeds (Explained steps) = λ i. f i ++ giving (g (Explained steps) i)
     giver_deeds (Refused when outcome) = r ∙ (sym (append-nil firsts) ∙ ap (λ l. firsts ++ giving l) (sym (n when outcome)))
 
@@ -120,6 +125,7 @@ module _ (item : Item) (state : Workspace) (stays : without item state ≡ state
     giver_state Nothing = λ i. set_all (g Nothing i) (stays i)
     giver_state (Value v) = λ i. set_all (g (Value v) i) (stays i)
     giver_state (Values gifts) = λ i. set_all (g (Values gifts) i) (stays i)
+    giver_state (Bytes bytes) = λ i. set_all (g (Bytes bytes) i) (stays i)
     giver_state (Explained steps) = λ i. set_all (g (Explained steps) i) (stays i)
     giver_state (Refused when outcome) = ap (λ l. set_all l state) (sym (n when outcome))
 
@@ -213,6 +219,7 @@ module _ (input : Input) (script : Script) (only : script_at input 1 ≡ Some sc
     dropper at name Nothing h = remove_now (gifts_due input) c p name mine h ∙ ap (remove name) now
     dropper at name (Value r) h = remove_now (gifts_due input) c p name mine h ∙ ap (remove name) now
     dropper at name (Values gifts) h = remove_now (gifts_due input) c p name mine h ∙ ap (remove name) now
+    dropper at name (Bytes bytes) h = remove_now (gifts_due input) c p name mine h ∙ ap (remove name) now
     dropper at name (Explained steps) h = remove_now (gifts_due input) c p name mine h ∙ ap (remove name) now
     dropper at name (Refused when outcome) h = read_now (gifts_due input) c p mine h ∙ now
 
@@ -237,6 +244,10 @@ module _ (input : Input) (script : Script) (only : script_at input 1 ≡ Some sc
         let item = COMMAND (Load name file) in
         giver item d (given name) (λ x. refl) (λ w o. refl) refl refl refl (gifts_here c item no_names at ∙ ap (given name) (sym is)) h
     behind (COMMAND (Save e file)) at d is h = reading (COMMAND (Save e file)) d (λ x. refl) refl refl refl h
+    behind (COMMAND (LoadAll file)) at d is h =
+        let item = COMMAND (LoadAll file) in
+        giver item d given_all (λ x. refl) (λ w o. refl) refl refl refl (gifts_here c item no_names at ∙ ap given_all (sym is)) h
+    behind (COMMAND (SaveAll file)) at d is h = reading (COMMAND (SaveAll file)) d (λ x. refl) refl refl refl h
     behind (COMMAND (Atomic lets)) at d is h =
         let item = COMMAND (Atomic lets) in
         reader item d given_all (λ x. refl) (λ w o. refl) refl refl refl (gifts_here c item state at ∙ ap given_all (sym is)) h

@@ -14,6 +14,8 @@ use Rattle.lang_model.specs.declared.syntax.Command.TheVariants.{
   At,
   Load,
   Save,
+  LoadAll,
+  SaveAll,
   Atomic,
   Explain,
 }
@@ -26,6 +28,7 @@ use Rattle.lang_model.specs.Blocks.{names_read, cost_of_block}
 use Rattle.lang_model.proofs.Seeing.{by_names}
 use Rattle.lang_model.proofs.Blocking.{blocks_by_names}
 use Rattle.run_model.specs.Names.{lookup}
+use Rattle.run_model.specs.SharedFiles.{shared_file}
 use Rattle.lang_model.specs.declared.syntax.Let.{Let as BlockLet}
 use Rattle.run_model.specs.Inputs.{Input}
 use Rattle.run_model.specs.Due.{
@@ -41,6 +44,7 @@ use Rattle.run_model.specs.Due.{
   due_of_lets,
   due_of_block,
   due_of_steps,
+  saved_bytes,
   due_on_snapshot,
   due_of_command,
   due,
@@ -93,6 +97,8 @@ module _ (input : Input) (script : Script) where
   same_due (COMMAND (At at name e)) s t snap other h k = snapped at name e snap other k
   same_due (COMMAND (Load name file)) s t snap other h k = refl
   same_due (COMMAND (Save e file)) s t snap other h k = valued saved e s t h.0
+  same_due (COMMAND (LoadAll file)) s t snap other h k = refl
+  same_due (COMMAND (SaveAll file)) s t snap other h k = ap (λ state. saved_bytes (shared_file state)) h.1
   same_due (COMMAND (Atomic lets)) s t snap other h k = block_due lets.items s t h.0
   same_due (COMMAND (Explain e)) s t snap other h k =
       ap (due_of_steps e) (by_names.early script (lookup s) (lookup t) e h.0)
@@ -113,6 +119,8 @@ module _ (input : Input) (script : Script) where
   same_cost leaf (COMMAND (At at name e)) s t snap other h k d = snap_costed leaf e snap other k
   same_cost leaf (COMMAND (Load name file)) s t snap other h k d = refl
   same_cost leaf (COMMAND (Save e file)) s t snap other h k d = costed leaf e s t h.0
+  same_cost leaf (COMMAND (LoadAll file)) s t snap other h k d = refl
+  same_cost leaf (COMMAND (SaveAll file)) s t snap other h k d = refl
   same_cost leaf (COMMAND (Atomic lets)) s t snap other h k d =
       ap (cost_of_block leaf) (blocks_by_names script (lookup s) (lookup t) lets.items input.turns h.0)
   same_cost leaf (COMMAND (Explain e)) s t snap other h k d = refl

@@ -15,6 +15,8 @@ use Rattle.lang_model.specs.declared.syntax.Command.TheVariants.{
   At,
   Load,
   Save,
+  LoadAll,
+  SaveAll,
   Atomic,
   Explain,
 }
@@ -40,7 +42,7 @@ use Rattle.lang_model.specs.declared.syntax.Let.{Let as BlockLet}
 use Rattle.lang_model.specs.declared.faults.TypeFault.{TypeFault}
 use Rattle.run_model.specs.Inputs.{Input}
 use Rattle.run_model.specs.Files.{bits_count}
-use Rattle.run_model.specs.Due.{Late, Workspace, Gifts, Due, Nothing, Value, Values, Explained, Refused, printed, listed, saved, due_of_answer, due_of_value, due_of, due_on_snapshot, late, with_gift, behind_let, due_of_lets, due_of_block, due_of_command, due}
+use Rattle.run_model.specs.Due.{Late, Workspace, Gifts, Due, Nothing, Value, Values, Bytes, Explained, Refused, printed, listed, saved, due_of_answer, due_of_value, due_of, due_on_snapshot, late, with_gift, behind_let, due_of_lets, due_of_block, due_of_command, due}
 use Rattle.run_model.specs.Limits.{print_limit, list_limit, save_limit}
 use Rattle.run_model.specs.Outcomes.{WantsNodes}
 use Rattle.run_model.specs.Cost.{cost_of, cost_on_snapshot, where_value, where_values, cost_of_command, cost_of_item}
@@ -51,6 +53,7 @@ no_value : (d : Due) (cost : Relation → ℕ) → IsEarly d → where_value d c
 no_value Nothing cost h = absurd h
 no_value (Value r) cost h = absurd h
 no_value (Values gifts) cost h = absurd h
+no_value (Bytes bytes) cost h = absurd h
 no_value (Explained steps) cost h = absurd h
 no_value (Refused when outcome) cost h = refl
 
@@ -58,6 +61,7 @@ no_values : (d : Due) (cost : Gifts → ℕ) → IsEarly d → where_values d co
 no_values Nothing cost h = absurd h
 no_values (Value r) cost h = absurd h
 no_values (Values gifts) cost h = absurd h
+no_values (Bytes bytes) cost h = absurd h
 no_values (Explained steps) cost h = absurd h
 no_values (Refused when outcome) cost h = refl
 
@@ -66,6 +70,7 @@ late_late : (d : Due) → IsEarly (late d) → ⊥
 late_late Nothing h = h
 late_late (Value r) h = h
 late_late (Values gifts) h = h
+late_late (Bytes bytes) h = h
 late_late (Explained steps) h = h
 late_late (Refused when outcome) h = h
 
@@ -73,6 +78,7 @@ gift_late : (gift : List ℕ × Relation) (d : Due) → (IsEarly d → ⊥) → 
 gift_late gift Nothing k h = h
 gift_late gift (Value r) k h = h
 gift_late gift (Values gifts) k h = h
+gift_late gift (Bytes bytes) k h = h
 gift_late gift (Explained steps) k h = h
 gift_late gift (Refused when outcome) k h = k h
 
@@ -82,6 +88,7 @@ early_let name rest (Value r) h = absurd (gift_late (name, r) (late rest) (late_
 early_let name rest (Refused when outcome) h = h
 early_let name rest Nothing h = absurd h
 early_let name rest (Values gifts) h = absurd h
+early_let name rest (Bytes bytes) h = absurd h
 early_let name rest (Explained steps) h = absurd h
 
 -- what a value is for is never early
@@ -195,6 +202,8 @@ module _ (leaf : ℕ) (input : Input) (script : Script) where
   early_free (COMMAND (At at name e)) s snap k = early_snap at name e snap k
   early_free (COMMAND (Load name file)) s snap k = no_value _ _ k
   early_free (COMMAND (Save e file)) s snap k = early_of saved e s not_saved k
+  early_free (COMMAND (LoadAll file)) s snap k = no_values _ _ k
+  early_free (COMMAND (SaveAll file)) s snap k = refl
   early_free (COMMAND (Atomic lets)) s snap k = early_block lets.items s k
   early_free (COMMAND (Explain e)) s snap k = refl
   early_free (Function at name params body) s snap k = refl
@@ -220,6 +229,8 @@ module _ (leaf : ℕ) (input : Input) (script : Script) where
   plain_free (At at name e) s snap d h = plain_snap e snap h
   plain_free (Load name file) s snap d h = absurd (h tt)
   plain_free (Save e file) s snap d h = plain_of e s h
+  plain_free (LoadAll file) s snap d h = absurd (h tt)
+  plain_free (SaveAll file) s snap d h = refl
   plain_free (Atomic lets) s snap d h = plain_lets leaf script lets.items (lookup s) input.turns h
   plain_free (Explain e) s snap d h = refl
 

@@ -13,6 +13,8 @@ use Rattle.lang_model.specs.declared.syntax.Command.TheVariants.{
   At,
   Load,
   Save,
+  LoadAll,
+  SaveAll,
   Atomic,
   Explain,
 }
@@ -60,6 +62,8 @@ keep_alike (COMMAND (Snap name)) s t snaps h = ap (λ x. keep (Some name) x snap
 keep_alike (COMMAND (At at name e)) s t snaps h = refl
 keep_alike (COMMAND (Load name file)) s t snaps h = refl
 keep_alike (COMMAND (Save e file)) s t snaps h = refl
+keep_alike (COMMAND (LoadAll file)) s t snaps h = refl
+keep_alike (COMMAND (SaveAll file)) s t snaps h = refl
 keep_alike (COMMAND (Atomic lets)) s t snaps h = refl
 keep_alike (COMMAND (Explain e)) s t snaps h = refl
 keep_alike (Function at name params body) s t snaps h = refl

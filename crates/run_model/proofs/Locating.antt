@@ -17,6 +17,8 @@ use Rattle.lang_model.specs.declared.syntax.Command.TheVariants.{
   At,
   Load,
   Save,
+  LoadAll,
+  SaveAll,
   Atomic,
   Explain,
 }
@@ -92,6 +94,8 @@ reads_quiet (COMMAND (Snap name)) = ((refl, tt), (refl, tt))
 reads_quiet (COMMAND (At at name e)) = (tt, tt)
 reads_quiet (COMMAND (Load name file)) = (tt, tt)
 reads_quiet (COMMAND (Save e file)) = ((refl, tt), (refl, tt))
+reads_quiet (COMMAND (LoadAll file)) = (tt, tt)
+reads_quiet (COMMAND (SaveAll file)) = ((refl, tt), (refl, tt))
 reads_quiet (COMMAND (Atomic lets)) = ((refl, tt), (refl, (refl, tt)))
 reads_quiet (COMMAND (Explain e)) = ((refl, tt), (refl, tt))
 reads_quiet (Function at name params body) = (tt, tt)
@@ -109,6 +113,8 @@ done_leads (COMMAND (Snap name)) d = tt
 done_leads (COMMAND (At at name e)) d = tt
 done_leads (COMMAND (Load name file)) d = quiet_leads (giving (gives (COMMAND (Load name file)) d)) (giving_quiet (gives (COMMAND (Load name file)) d))
 done_leads (COMMAND (Save e file)) d = tt
+done_leads (COMMAND (LoadAll file)) d = quiet_leads (giving (gives (COMMAND (LoadAll file)) d)) (giving_quiet (gives (COMMAND (LoadAll file)) d))
+done_leads (COMMAND (SaveAll file)) d = tt
 done_leads (COMMAND (Atomic lets)) d = giving_quiet (gives (COMMAND (Atomic lets)) d)
 done_leads (COMMAND (Explain e)) d = tt
 done_leads (Function at name params body) d = tt

@@ -16,6 +16,8 @@ use Rattle.lang_model.specs.declared.syntax.Command.TheVariants.{
   At,
   Load,
   Save,
+  LoadAll,
+  SaveAll,
   Atomic,
   Explain,
 }
@@ -34,6 +36,7 @@ use Rattle.lang_model.specs.Eval.{Evaluated, Ahead, Comes, evaluated, early_faul
 use Rattle.lang_model.specs.Blocks.{evaluated_block}
 use Rattle.lang_model.specs.declared.faults.TypeFault.{TypeFault}
 use Rattle.run_model.specs.Names.{lookup}
+use Rattle.run_model.specs.SharedFiles.{begins_shared, shared_fault, shared_relations, shared_file, relation_named}
 use Rattle.lang_model.specs.declared.syntax.Let.{Let as BlockLet}
 use Rattle.run_model.specs.Inputs.{Input, file_named}
 use Rattle.run_model.specs.Files.{k2_fault, bits_count}
@@ -44,6 +47,7 @@ use Rattle.run_model.specs.Due.{
   Nothing,
   Value,
   Values,
+  Bytes,
   Explained,
   Refused,
   within,
@@ -60,7 +64,13 @@ use Rattle.run_model.specs.Due.{
   listing_over,
   unless_over,
   due_of_bytes,
+  due_of_named,
+  due_of_shared,
   due_of_file,
+  due_of_all,
+  due_of_whole_file,
+  bits_in,
+  saved_bytes,
   late,
   with_gift,
   behind_let,
@@ -79,6 +89,7 @@ abbrev pub FailsWell : Due → Type 0
 FailsWell Nothing = Unit {0}
 FailsWell (Value r) = Unit {0}
 FailsWell (Values gifts) = Unit {0}
+FailsWell (Bytes bytes) = Unit {0}
 FailsWell (Explained steps) = Unit {0}
 FailsWell (Refused when outcome) = ending outcome ≡ Fails
 
@@ -158,14 +169,42 @@ bytes_fail : (file bytes : List ℕ) (o : Option BadFile) → FailsWell (due_of_
 bytes_fail file bytes None = tt
 bytes_fail file bytes (Some kind) = refl
 
-file_fails : (file : List ℕ) (o : Option (List ℕ)) → FailsWell (due_of_file file o)
-file_fails file None = refl
-file_fails file (Some bytes) = bytes_fail file bytes (k2_fault bytes)
+named_fails : (file : List ℕ) (o : Option Relation) → FailsWell (due_of_named file o)
+named_fails file None = refl
+named_fails file (Some r) = tt
+
+shared_fails : (name file bytes : List ℕ) (o : Option BadFile) → FailsWell (due_of_shared name file bytes o)
+shared_fails name file bytes (Some kind) = refl
+shared_fails name file bytes None = named_fails file (relation_named name (shared_relations bytes))
+
+either_fails : (b : Bool) (d e : Due) → FailsWell d → FailsWell e → FailsWell (cond b d e)
+either_fails true d e h k = h
+either_fails false d e h k = k
+
+file_fails : (name file : List ℕ) (o : Option (List ℕ)) → FailsWell (due_of_file name file o)
+file_fails name file None = refl
+file_fails name file (Some bytes) =
+    either_fails (begins_shared bytes) (due_of_shared name file bytes (shared_fault bytes))
+    (due_of_bytes file bytes (k2_fault bytes)) (shared_fails name file bytes (shared_fault bytes))
+    (bytes_fail file bytes (k2_fault bytes))
+
+all_fails : (file bytes : List ℕ) (o : Option BadFile) → FailsWell (due_of_all file bytes o)
+all_fails file bytes (Some kind) = refl
+all_fails file bytes None = tt
+
+whole_fails : (file : List ℕ) (o : Option (List ℕ)) → FailsWell (due_of_whole_file file o)
+whole_fails file None = refl
+whole_fails file (Some bytes) = all_fails file bytes (shared_fault bytes)
+
+saved_bytes_fail : (bytes : List ℕ) → FailsWell (saved_bytes bytes)
+saved_bytes_fail bytes =
+    either_fails (nat_lt save_limit (bits_in bytes)) (Refused Late (TooLong (bits_in bytes))) (Bytes bytes) refl tt
 
 late_fails : (d : Due) → FailsWell d → FailsWell (late d)
 late_fails Nothing h = tt
 late_fails (Value r) h = tt
 late_fails (Values gifts) h = tt
+late_fails (Bytes bytes) h = tt
 late_fails (Explained steps) h = tt
 late_fails (Refused when outcome) h = h
 
@@ -173,6 +212,7 @@ gift_fails : (gift : List ℕ × Relation) (d : Due) → FailsWell d → FailsWe
 gift_fails gift Nothing h = tt
 gift_fails gift (Value r) h = tt
 gift_fails gift (Values gifts) h = tt
+gift_fails gift (Bytes bytes) h = tt
 gift_fails gift (Explained steps) h = tt
 gift_fails gift (Refused when outcome) h = h
 
@@ -181,6 +221,7 @@ let_fails name rest (Value r) h k = gift_fails (name, r) (late rest) (late_fails
 let_fails name rest (Refused when outcome) h k = k
 let_fails name rest Nothing h k = tt
 let_fails name rest (Values gifts) h k = tt
+let_fails name rest (Bytes bytes) h k = tt
 let_fails name rest (Explained steps) h k = tt
 
 lets_fail : (turns : ℕ) (ls : List BlockLet) (vs : List Evaluated) → FailsWell (due_of_lets turns ls vs)
@@ -221,8 +262,10 @@ module _ (input : Input) (script : Script) where
   due_fails_well (COMMAND (DROP at name)) s snap = drop_fails at name (lookup s name)
   due_fails_well (COMMAND (Snap name)) s snap = tt
   due_fails_well (COMMAND (At at name e)) s snap = snap_fails at name e snap
-  due_fails_well (COMMAND (Load name file)) s snap = file_fails file (file_named input.files file)
+  due_fails_well (COMMAND (Load name file)) s snap = file_fails name file (file_named input.files file)
   due_fails_well (COMMAND (Save e file)) s snap = of_fails saved e s saved_fails
+  due_fails_well (COMMAND (LoadAll file)) s snap = whole_fails file (file_named input.files file)
+  due_fails_well (COMMAND (SaveAll file)) s snap = saved_bytes_fail (shared_file s)
   due_fails_well (COMMAND (Atomic lets)) s snap =
       lets_fail input.turns lets.items (evaluated_block script (lookup s) lets.items input.turns)
   due_fails_well (COMMAND (Explain e)) s snap = steps_fail e (early_fault script (lookup s) e)

@@ -1,10 +1,12 @@
 -- Small files of several relations, computed from the definitions: a list written and read back, and files with one change.
 use Rattle.std.proofs.Common.{◌≡◌, ℕ, List, [], ◌∷◌, ◌++◌, take, Some, None, refl}
 use Rattle.std.specs.Prelude.{codes}
-use Rattle.run_model.specs.declared.outcome.BadFile.TheVariants.{Short, Magic, Outside, Rest, Quad, Names as BAD_NAMES, Root, Order}
+use Rattle.run_model.specs.declared.outcome.BadFile.TheVariants.{Short, Magic, Outside, Rest, Quad, Names as BAD_NAMES, Root, Order, Missing}
+use Rattle.run_model.specs.declared.outcome.Outcome.TheVariants.{BadFile as BAD_FILE}
 use Rattle.rel_model.specs.Relation.{Relation, relation_of}
 use Rattle.rel_model.specs.Roots.{lies_within}
 use Rattle.rel_model.specs.Worker.{height_of}
+use Rattle.run_model.specs.Due.{Early, Value, Refused, due_of_file}
 use Rattle.run_model.specs.Files.{file_height}
 use Rattle.run_model.specs.SharedFiles.{
   squares_of,
@@ -15,7 +17,6 @@ use Rattle.run_model.specs.SharedFiles.{
   entries_of,
   shared_fault,
   shared_relations,
-  relation_named,
 }
 use Rattle.run_model.proofs.FileExamples.{corners, file}
 
@@ -66,13 +67,13 @@ module _ where
   unfolding shared_fault begins_shared quadrants_of entry_fault entries_of file_height height_of lies_within
   no_relation = refl
 
-  pub one_name : relation_named (codes "B") (shared_relations whole) ≡ Some corner
-  unfolding shared_relations quadrants_of entries_of relation_of file_height height_of
-  one_name = refl
-
-  pub other_name : relation_named (codes "C") (shared_relations whole) ≡ None
-  unfolding shared_relations quadrants_of entries_of relation_of file_height height_of
+  pub other_name : due_of_file (codes "C") (codes "c.k2") (Some whole) ≡ Refused Early (BAD_FILE (codes "c.k2") Missing)
+  unfolding begins_shared shared_fault shared_relations quadrants_of entry_fault entries_of file_height height_of lies_within relation_of
   other_name = refl
+
+  pub one_name : due_of_file (codes "B") (codes "c.k2") (Some whole) ≡ Value corner
+  unfolding begins_shared shared_fault shared_relations quadrants_of entry_fault entries_of file_height height_of lies_within relation_of
+  one_name = refl
 
   pub first_version : shared_fault (file 4 4 2 4 8 (144 ∷ 129 ∷ [])) ≡ Some Magic
   unfolding shared_fault begins_shared quadrants_of entry_fault entries_of file_height height_of lies_within

@@ -15,6 +15,8 @@ use Rattle.lang_model.specs.declared.syntax.Command.TheVariants.{
   At,
   Load,
   Save,
+  LoadAll,
+  SaveAll,
   Atomic,
   Explain,
 }
@@ -28,7 +30,7 @@ use Rattle.run_model.specs.declared.outcome.Outcome.{Outcome}
 use Rattle.run_model.specs.declared.outcome.Outcome.TheVariants.{Parse, Ill}
 use Rattle.run_model.specs.Names.{no_names}
 use Rattle.run_model.specs.Inputs.{Input, Reading, NoScript, Flawed, Runs, batch_of, script_of, script_at, item_at}
-use Rattle.run_model.specs.Due.{Workspace, Gifts, Due, Nothing, Value, Values, Explained, Refused, outcome_due, due, gives}
+use Rattle.run_model.specs.Due.{Workspace, Gifts, Due, Nothing, Value, Values, Bytes, Explained, Refused, outcome_due, due, gives}
 use Rattle.run_model.specs.Steps.{Snapshots, snaps_behind, snap_for, steps}
 use Rattle.run_model.specs.Events.{Deed, Reads, Gives, Removes, deed_of, Entry, entry_of, entries, giving, first_of, reads_of, AreEvents}
 use Rattle.run_model.specs.Outcomes.{AreOutcomes}
@@ -72,6 +74,7 @@ module _ (item : Item) where
   quiet_on f r Nothing = subst (λ l. GiveOn (l ++ giving (gives item Nothing))) (sym f) (all_on (giving (gives item Nothing)) (giving_all (gives item Nothing)))
   quiet_on f r (Value v) = subst (λ l. GiveOn (l ++ giving (gives item (Value v)))) (sym f) (all_on (giving (gives item (Value v))) (giving_all (gives item (Value v))))
   quiet_on f r (Values gs) = subst (λ l. GiveOn (l ++ giving (gives item (Values gs)))) (sym f) (all_on (giving (gives item (Values gs))) (giving_all (gives item (Values gs))))
+  quiet_on f r (Bytes bytes) = subst (λ l. GiveOn (l ++ giving (gives item (Bytes bytes)))) (sym f) (all_on (giving (gives item (Bytes bytes))) (giving_all (gives item (Bytes bytes))))
   quiet_on f r (Explained steps) = subst (λ l. GiveOn (l ++ giving (gives item (Explained steps)))) (sym f) (all_on (giving (gives item (Explained steps))) (giving_all (gives item (Explained steps))))
   quiet_on f r (Refused when outcome) = subst GiveOn (sym r) tt
 
@@ -79,6 +82,7 @@ module _ (item : Item) where
   first_on x n f r Nothing = subst (λ l. GiveOn (l ++ giving (gives item Nothing))) (sym f) (one_on x (giving (gives item Nothing)) n (giving_all (gives item Nothing)))
   first_on x n f r (Value v) = subst (λ l. GiveOn (l ++ giving (gives item (Value v)))) (sym f) (one_on x (giving (gives item (Value v))) n (giving_all (gives item (Value v))))
   first_on x n f r (Values gs) = subst (λ l. GiveOn (l ++ giving (gives item (Values gs)))) (sym f) (one_on x (giving (gives item (Values gs))) n (giving_all (gives item (Values gs))))
+  first_on x n f r (Bytes bytes) = subst (λ l. GiveOn (l ++ giving (gives item (Bytes bytes)))) (sym f) (one_on x (giving (gives item (Bytes bytes))) n (giving_all (gives item (Bytes bytes))))
   first_on x n f r (Explained steps) = subst (λ l. GiveOn (l ++ giving (gives item (Explained steps)))) (sym f) (one_on x (giving (gives item (Explained steps))) n (giving_all (gives item (Explained steps))))
   first_on x n f r (Refused when outcome) = subst GiveOn (sym r) (one_on Reads [] refl tt)
 
@@ -95,6 +99,8 @@ deeds_on (COMMAND (Snap name)) d = first_on (COMMAND (Snap name)) Reads refl ref
 deeds_on (COMMAND (At at name e)) d = quiet_on (COMMAND (At at name e)) refl refl d
 deeds_on (COMMAND (Load name file)) d = quiet_on (COMMAND (Load name file)) refl refl d
 deeds_on (COMMAND (Save e file)) d = first_on (COMMAND (Save e file)) Reads refl refl refl d
+deeds_on (COMMAND (LoadAll file)) d = quiet_on (COMMAND (LoadAll file)) refl refl d
+deeds_on (COMMAND (SaveAll file)) d = first_on (COMMAND (SaveAll file)) Reads refl refl refl d
 deeds_on (COMMAND (Atomic lets)) d = first_on (COMMAND (Atomic lets)) Reads refl refl refl d
 deeds_on (COMMAND (Explain e)) d = first_on (COMMAND (Explain e)) Reads refl refl refl d
 deeds_on (Function at name params body) d = quiet_on (Function at name params body) refl refl d

@@ -20,6 +20,8 @@ use Rattle.lang_model.specs.declared.syntax.Command.TheVariants.{
   At,
   Load,
   Save,
+  LoadAll,
+  SaveAll,
   Atomic,
   Explain,
 }
@@ -138,6 +140,8 @@ module _ (input : Input) (script : Script) where
   same_gifts (COMMAND (At at name e)) x y snap h = refl
   same_gifts (COMMAND (Load name file)) x y snap h = refl
   same_gifts (COMMAND (Save e file)) x y snap h = refl
+  same_gifts (COMMAND (LoadAll file)) x y snap h = refl
+  same_gifts (COMMAND (SaveAll file)) x y snap h = refl
   same_gifts (COMMAND (Atomic lets)) x y snap h = ap (λ z. gives (COMMAND (Atomic lets)) (due input script (COMMAND (Atomic lets)) z None)) (h refl)
   same_gifts (COMMAND (Explain e)) x y snap h = refl
   same_gifts (Function at name params body) x y snap h = refl

@@ -17,6 +17,8 @@ use Rattle.lang_model.specs.declared.syntax.Command.TheVariants.{
   At,
   Load,
   Save,
+  LoadAll,
+  SaveAll,
   Atomic,
   Explain,
 }
@@ -32,7 +34,7 @@ use Rattle.lang_model.specs.Eval.{evaluated, cost_of_value}
 use Rattle.lang_model.specs.Blocks.{evaluated_block, cost_of_block}
 use Rattle.run_model.specs.Names.{lookup}
 use Rattle.run_model.specs.Inputs.{Input, Reading, NoScript, Flawed, Runs, batch_of}
-use Rattle.run_model.specs.Due.{Workspace, Gifts, Due, Nothing, Value, Values, Explained, Refused}
+use Rattle.run_model.specs.Due.{Workspace, Gifts, Due, Nothing, Value, Values, Bytes, Explained, Refused}
 use Rattle.run_model.specs.Steps.{Step, due_at}
 use Rattle.run_model.specs.Legal.{steps_in}
 
@@ -62,6 +64,7 @@ abbrev pub where_value : Due → (Relation → ℕ) → ℕ
 where_value Nothing cost = 0
 where_value (Value r) cost = cost r
 where_value (Values gifts) cost = 0
+where_value (Bytes bytes) cost = 0
 where_value (Explained steps) cost = 0
 where_value (Refused when outcome) cost = 0
 
@@ -83,6 +86,7 @@ abbrev pub where_values : Due → (Gifts → ℕ) → ℕ
 where_values Nothing cost = 0
 where_values (Value r) cost = 0
 where_values (Values gifts) cost = cost gifts
+where_values (Bytes bytes) cost = 0
 where_values (Explained steps) cost = 0
 where_values (Refused when outcome) cost = 0
 
@@ -100,6 +104,8 @@ cost_of_command leaf input script (Snap name) state snap d = 0
 cost_of_command leaf input script (At at name e) state snap d = cost_on_snapshot leaf input script e snap
 cost_of_command leaf input script (Load name file) state snap d = where_value d (cost_of_loaded leaf)
 cost_of_command leaf input script (Save e file) state snap d = cost_of leaf input script e state
+cost_of_command leaf input script (LoadAll file) state snap d = where_values d (cost_of_gifts leaf)
+cost_of_command leaf input script (SaveAll file) state snap d = 0
 cost_of_command leaf input script (Atomic lets) state snap d =
     cost_of_block leaf (evaluated_block script (lookup state) lets.items input.turns)
 cost_of_command leaf input script (Explain e) state snap d = 0

@@ -17,6 +17,8 @@ use Rattle.lang_model.specs.declared.syntax.Command.TheVariants.{
   At,
   Load,
   Save,
+  LoadAll,
+  SaveAll,
   Atomic,
   Explain,
 }
@@ -25,6 +27,7 @@ use Rattle.lang_model.specs.declared.syntax.Item.TheVariants.{Function, Program,
 use Rattle.lang_model.specs.declared.syntax.Script.{Script}
 use Rattle.lang_model.specs.declared.faults.TypeFault.TheVariants.{Unknown}
 use Rattle.run_model.specs.declared.outcome.BadFile.{BadFile}
+use Rattle.run_model.specs.declared.outcome.BadFile.TheVariants.{Missing}
 use Rattle.run_model.specs.declared.outcome.Unit.TheVariants.{Cells, Pairs}
 use Rattle.run_model.specs.declared.outcome.Outcome.{Outcome}
 use Rattle.run_model.specs.declared.outcome.Outcome.TheVariants.{
@@ -51,6 +54,7 @@ use Rattle.run_model.specs.Names.{Names, lookup}
 use Rattle.run_model.specs.Inputs.{Input, file_named}
 use Rattle.run_model.specs.Limits.{print_limit, list_limit, save_limit}
 use Rattle.run_model.specs.Files.{k2_fault, k2_relation, bits_count}
+use Rattle.run_model.specs.SharedFiles.{begins_shared, shared_fault, shared_relations, shared_file, relation_named}
 
 -- the workspace: which relation each name has
 abbrev pub Workspace : Type 0
@@ -74,6 +78,8 @@ pub data Due : Type 0 where
   Value : Relation → Due
   -- that it is done and gives these names these values
   Values : Gifts → Due
+  -- that it is done with these bytes, which it saves
+  Bytes : List ℕ → Due
   -- that it is done and tells these steps of rewriting
   Explained : List Rewritten → Due
   -- that it is refused
@@ -84,6 +90,7 @@ abbrev pub outcome_due : Due → Outcome
 outcome_due Nothing = Done
 outcome_due (Value r) = Done
 outcome_due (Values gifts) = Done
+outcome_due (Bytes bytes) = Done
 outcome_due (Explained steps) = Done
 outcome_due (Refused when outcome) = outcome
 
@@ -158,10 +165,44 @@ abbrev pub due_of_bytes : List ℕ → List ℕ → Option BadFile → Due
 due_of_bytes file bytes (Some kind) = Refused Early (BAD_FILE file kind)
 due_of_bytes file bytes None = Value (k2_relation bytes)
 
+-- no relation of a file has the name, or its relation is due
+abbrev pub due_of_named : List ℕ → Option Relation → Due
+due_of_named file None = Refused Early (BAD_FILE file Missing)
+due_of_named file (Some r) = Value r
+
+-- a file is no shared file, or the relation of the name is due, as it stands there first
+abbrev pub due_of_shared : List ℕ → List ℕ → List ℕ → Option BadFile → Due
+due_of_shared name file bytes (Some kind) = Refused Early (BAD_FILE file kind)
+due_of_shared name file bytes None = due_of_named file (relation_named name (shared_relations bytes))
+
+-- a file that begins as a shared one is read as such, and any other as a file of one relation
+abbrev pub due_of_either : List ℕ → List ℕ → List ℕ → Due
+due_of_either name file bytes =
+    cond (begins_shared bytes) (due_of_shared name file bytes (shared_fault bytes))
+    (due_of_bytes file bytes (k2_fault bytes))
+
+-- there is no file of this name, or its bytes decide what the name gets
+abbrev pub due_of_file : List ℕ → List ℕ → Option (List ℕ) → Due
+due_of_file name file None = Refused Early (NoFile file)
+due_of_file name file (Some bytes) = due_of_either name file bytes
+
+-- a file is no shared file, or all its relations are due
+abbrev pub due_of_all : List ℕ → List ℕ → Option BadFile → Due
+due_of_all file bytes (Some kind) = Refused Early (BAD_FILE file kind)
+due_of_all file bytes None = Values (shared_relations bytes)
+
 -- there is no file of this name, or its bytes decide
-abbrev pub due_of_file : List ℕ → Option (List ℕ) → Due
-due_of_file file None = Refused Early (NoFile file)
-due_of_file file (Some bytes) = due_of_bytes file bytes (k2_fault bytes)
+abbrev pub due_of_whole_file : List ℕ → Option (List ℕ) → Due
+due_of_whole_file file None = Refused Early (NoFile file)
+due_of_whole_file file (Some bytes) = due_of_all file bytes (shared_fault bytes)
+
+-- how many bits the bytes of a file have
+abbrev pub bits_in : List ℕ → ℕ
+bits_in bytes = 8 * length bytes
+
+-- the bytes of a shared file are due where they pass no limit
+abbrev pub saved_bytes : List ℕ → Due
+saved_bytes bytes = cond (nat_lt save_limit (bits_in bytes)) (Refused Late (TooLong (bits_in bytes))) (Bytes bytes)
 
 -- ---- names
 -- a name that has a relation may be taken away
@@ -180,6 +221,7 @@ abbrev pub late : Due → Due
 late Nothing = Nothing
 late (Value r) = Value r
 late (Values gifts) = Values gifts
+late (Bytes bytes) = Bytes bytes
 late (Explained steps) = Explained steps
 late (Refused when outcome) = Refused Late outcome
 
@@ -188,6 +230,7 @@ abbrev pub with_gift : List ℕ × Relation → Due → Due
 with_gift gift Nothing = Nothing
 with_gift gift (Value r) = Value r
 with_gift gift (Values gifts) = Values (gift ∷ gifts)
+with_gift gift (Bytes bytes) = Bytes bytes
 with_gift gift (Explained steps) = Explained steps
 with_gift gift (Refused when outcome) = Refused when outcome
 
@@ -197,6 +240,7 @@ behind_let name rest (Value r) = with_gift (name, r) (late rest)
 behind_let name rest (Refused when outcome) = Refused when outcome
 behind_let name rest Nothing = Values []
 behind_let name rest (Values gifts) = Values []
+behind_let name rest (Bytes bytes) = Values []
 behind_let name rest (Explained steps) = Values []
 
 -- assignments whose expressions came to these, up to the first that has no value: the first refusal, which is early
@@ -230,8 +274,10 @@ due_of_command input script (Typed e) state snap = due_of input script Value e s
 due_of_command input script (DROP at name) state snap = due_of_drop at name (lookup state name)
 due_of_command input script (Snap name) state snap = Nothing
 due_of_command input script (At at name e) state snap = due_on_snapshot input script at name e snap
-due_of_command input script (Load name file) state snap = due_of_file file (file_named input.files file)
+due_of_command input script (Load name file) state snap = due_of_file name file (file_named input.files file)
 due_of_command input script (Save e file) state snap = due_of input script saved e state
+due_of_command input script (LoadAll file) state snap = due_of_whole_file file (file_named input.files file)
+due_of_command input script (SaveAll file) state snap = saved_bytes (shared_file state)
 due_of_command input script (Atomic lets) state snap = due_of_block input script lets.items state
 due_of_command input script (Explain e) state snap = due_of_steps e (early_fault script (lookup state) e)
 
@@ -247,6 +293,7 @@ abbrev pub given : List ℕ → Due → Gifts
 given name Nothing = []
 given name (Value r) = (name, r) ∷ []
 given name (Values gifts) = []
+given name (Bytes bytes) = []
 given name (Explained steps) = []
 given name (Refused when outcome) = []
 
@@ -255,6 +302,7 @@ abbrev pub given_all : Due → Gifts
 given_all Nothing = []
 given_all (Value r) = []
 given_all (Values gifts) = gifts
+given_all (Bytes bytes) = []
 given_all (Explained steps) = []
 given_all (Refused when outcome) = []
 
@@ -271,6 +319,8 @@ gives_of_command (Snap name) d = []
 gives_of_command (At at name e) d = []
 gives_of_command (Load name file) d = given name d
 gives_of_command (Save e file) d = []
+gives_of_command (LoadAll file) d = given_all d
+gives_of_command (SaveAll file) d = []
 gives_of_command (Atomic lets) d = given_all d
 gives_of_command (Explain e) d = []
 

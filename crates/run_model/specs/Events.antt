@@ -13,6 +13,8 @@ use Rattle.lang_model.specs.declared.syntax.Command.TheVariants.{
   At,
   Load,
   Save,
+  LoadAll,
+  SaveAll,
   Atomic,
   Explain,
 }
@@ -73,6 +75,8 @@ reads_of_command (Snap name) = Reads ∷ []
 reads_of_command (At at name e) = []
 reads_of_command (Load name file) = []
 reads_of_command (Save e file) = Reads ∷ []
+reads_of_command (LoadAll file) = []
+reads_of_command (SaveAll file) = Reads ∷ []
 reads_of_command (Atomic lets) = Reads ∷ []
 reads_of_command (Explain e) = Reads ∷ []
 
@@ -89,6 +93,8 @@ first_of_command (Snap name) = Reads ∷ []
 first_of_command (At at name e) = []
 first_of_command (Load name file) = []
 first_of_command (Save e file) = Reads ∷ []
+first_of_command (LoadAll file) = []
+first_of_command (SaveAll file) = Reads ∷ []
 first_of_command (Atomic lets) = Reads ∷ []
 first_of_command (Explain e) = Reads ∷ []
 
@@ -105,6 +111,8 @@ reads_again (Snap name) = []
 reads_again (At at name e) = []
 reads_again (Load name file) = []
 reads_again (Save e file) = []
+reads_again (LoadAll file) = []
+reads_again (SaveAll file) = []
 reads_again (Atomic lets) = Reads ∷ []
 reads_again (Explain e) = []
 

@@ -3,6 +3,7 @@ use Rattle.std.specs.Prelude.{
   ◌≡◌,
   ◌+◌,
   ◌-◌,
+  ◌<◌,
   nat_lt,
   ℕ,
   Bool,
@@ -49,6 +50,11 @@ pub record Input : Type 0 where
   pub history : Bool
   -- for each batch the number of scripts up to its end
   pub ends : List ℕ
+
+-- numbers rise from above an earlier one, and the last of them is this count
+abbrev pub Rise : ℕ → ℕ → List ℕ → Type 0
+Rise earlier count [] = earlier ≡ count
+Rise earlier count (end ∷ ends) = (earlier < end) × Rise end count ends
 
 -- the bytes are read so
 abbrev pub IsReading : List ℕ → Reading → Type 0

@@ -13,6 +13,8 @@ use Rattle.lang_model.specs.declared.syntax.Command.TheVariants.{
   At,
   Load,
   Save,
+  LoadAll,
+  SaveAll,
   Atomic,
   Explain,
 }
@@ -30,6 +32,7 @@ use Rattle.run_model.specs.Due.{
   Nothing,
   Value,
   Values,
+  Bytes,
   Explained,
   Refused,
   due_of_block,
@@ -57,6 +60,8 @@ names_of_command (Snap name) = []
 names_of_command (At at name e) = []
 names_of_command (Load name file) = []
 names_of_command (Save e file) = names_in e
+names_of_command (LoadAll file) = []
+names_of_command (SaveAll file) = []
 names_of_command (Atomic lets) = names_read lets.items
 names_of_command (Explain e) = names_in e
 
@@ -73,6 +78,8 @@ names_of_snapshot (Snap name) = []
 names_of_snapshot (At at name e) = names_in e
 names_of_snapshot (Load name file) = []
 names_of_snapshot (Save e file) = []
+names_of_snapshot (LoadAll file) = []
+names_of_snapshot (SaveAll file) = []
 names_of_snapshot (Atomic lets) = []
 names_of_snapshot (Explain e) = []
 
@@ -89,6 +96,8 @@ all_of_command (Snap name) = true
 all_of_command (At at name e) = false
 all_of_command (Load name file) = false
 all_of_command (Save e file) = false
+all_of_command (LoadAll file) = false
+all_of_command (SaveAll file) = true
 all_of_command (Atomic lets) = false
 all_of_command (Explain e) = false
 
@@ -141,6 +150,7 @@ abbrev pub IsEarly : Due → Type 0
 IsEarly Nothing = ⊥
 IsEarly (Value r) = ⊥
 IsEarly (Values gifts) = ⊥
+IsEarly (Bytes bytes) = ⊥
 IsEarly (Explained steps) = ⊥
 IsEarly (Refused Early outcome) = Unit {0}
 IsEarly (Refused Late outcome) = ⊥

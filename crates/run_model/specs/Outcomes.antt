@@ -15,6 +15,8 @@ use Rattle.lang_model.specs.declared.syntax.Command.TheVariants.{
   At,
   Load,
   Save,
+  LoadAll,
+  SaveAll,
   Atomic,
   Explain,
 }
@@ -32,6 +34,7 @@ use Rattle.run_model.specs.Due.{
   Nothing,
   Value,
   Values,
+  Bytes,
   Explained,
   Refused,
   outcome_due,
@@ -53,6 +56,8 @@ WantsNodes (Snap name) = ⊥
 WantsNodes (At at name e) = IsCompound e
 WantsNodes (Load name file) = Unit {0}
 WantsNodes (Save e file) = IsCompound e
+WantsNodes (LoadAll file) = Unit {0}
+WantsNodes (SaveAll file) = ⊥
 WantsNodes (Atomic lets) = AnyCompound lets.items
 WantsNodes (Explain e) = ⊥
 
@@ -66,6 +71,7 @@ abbrev pub IsNotEarly : Due → Type 0
 IsNotEarly Nothing = Unit {0}
 IsNotEarly (Value r) = Unit {0}
 IsNotEarly (Values gifts) = Unit {0}
+IsNotEarly (Bytes bytes) = Unit {0}
 IsNotEarly (Explained steps) = Unit {0}
 IsNotEarly (Refused when outcome) = IsLate when
 

@@ -15,6 +15,8 @@ use Rattle.lang_model.specs.declared.syntax.Command.TheVariants.{
   At,
   Load,
   Save,
+  LoadAll,
+  SaveAll,
   Atomic,
   Explain,
 }
@@ -29,7 +31,7 @@ use Rattle.rel_model.specs.Relation.{Relation}
 use Rattle.run_model.specs.Texts.{prefix, matrix, refusal_text}
 use Rattle.run_model.specs.Inputs.{Input, Reading, NoScript, Flawed, Runs}
 use Rattle.run_model.specs.Files.{k2}
-use Rattle.run_model.specs.Due.{Due, Nothing, Value, Values, Explained, Refused}
+use Rattle.run_model.specs.Due.{Due, Nothing, Value, Values, Bytes, Explained, Refused}
 use Rattle.lang_model.specs.Printing.{printed_tree}
 use Rattle.lang_model.specs.Rewriting.{Step as Rewritten}
 use Rattle.run_model.specs.Steps.{Ending, Succeeds, Fails, Changes, LacksMemory, ending, Step, due_at}
@@ -75,6 +77,8 @@ shown_by numbers (Snap name) r = []
 shown_by numbers (At at name e) r = numbers ++ matrix r
 shown_by numbers (Load name file) r = []
 shown_by numbers (Save e file) r = []
+shown_by numbers (LoadAll file) r = []
+shown_by numbers (SaveAll file) r = []
 shown_by numbers (Atomic lets) r = []
 shown_by numbers (Explain e) r = []
 
@@ -98,6 +102,7 @@ abbrev pub done_text : List ℕ → Item → Due → List ℕ
 done_text numbers item Nothing = []
 done_text numbers item (Value r) = shown numbers item r
 done_text numbers item (Values gifts) = []
+done_text numbers item (Bytes bytes) = []
 done_text numbers item (Explained steps) = numbers ++ explanation steps
 done_text numbers item (Refused when outcome) = []
 
@@ -170,6 +175,8 @@ saved_by (Snap name) r = []
 saved_by (At at name e) r = []
 saved_by (Load name file) r = []
 saved_by (Save e file) r = record { name = file; bytes = k2 r } ∷ []
+saved_by (LoadAll file) r = []
+saved_by (SaveAll file) r = []
 saved_by (Atomic lets) r = []
 saved_by (Explain e) r = []
 
@@ -179,11 +186,36 @@ saved_of (COMMAND command) r = saved_by command r
 saved_of (Function at name params body) r = []
 saved_of (Program at name params decls body result) r = []
 
+-- the file of bytes, which a SAVE ALL alone has
+abbrev pub written_by : Command → List ℕ → List SavedFile
+written_by (RELATION name rows rows_at cols cols_at list) bytes = []
+written_by (Let name e) bytes = []
+written_by (PRINT e) bytes = []
+written_by (LIST e) bytes = []
+written_by (Count e) bytes = []
+written_by (Typed e) bytes = []
+written_by (DROP at name) bytes = []
+written_by (Snap name) bytes = []
+written_by (At at name e) bytes = []
+written_by (Load name file) bytes = []
+written_by (Save e file) bytes = []
+written_by (LoadAll file) bytes = []
+written_by (SaveAll file) bytes = record { name = file; bytes = bytes } ∷ []
+written_by (Atomic lets) bytes = []
+written_by (Explain e) bytes = []
+
+-- the same of items
+abbrev pub written_of : Item → List ℕ → List SavedFile
+written_of (COMMAND command) bytes = written_by command bytes
+written_of (Function at name params body) bytes = []
+written_of (Program at name params decls body result) bytes = []
+
 -- the file of an item that is done
 abbrev pub done_save : Item → Due → List SavedFile
 done_save item Nothing = []
 done_save item (Value r) = saved_of item r
 done_save item (Values gifts) = []
+done_save item (Bytes bytes) = written_of item bytes
 done_save item (Explained steps) = []
 done_save item (Refused when outcome) = []
 

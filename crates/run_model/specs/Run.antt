@@ -1,20 +1,21 @@
 -- A whole run, as its caller sees it.
-use Rattle.std.specs.Prelude.{◌≡◌, ℕ, List, [], ◌∷◌, map}
+use Rattle.std.specs.Prelude.{◌≡◌, ℕ, List, [], ◌∷◌, map, length}
 use Rattle.std.specs.List.{AllByRecursion}
 use Rattle.run_model.specs.declared.event.Event.{Event}
 use Rattle.run_model.specs.declared.outcome.Outcome.{Outcome}
-use Rattle.run_model.specs.Inputs.{Input, Reading, AreReadings}
+use Rattle.run_model.specs.Inputs.{Input, Reading, AreReadings, Rise}
 use Rattle.run_model.specs.Events.{entry_of}
 use Rattle.run_model.specs.Legal.{IsLegal}
 use Rattle.run_model.specs.Page.{SavedFile, page, saves}
 use Rattle.run_model.specs.Cost.{cost_of_run, cost_of_batch}
 use Rattle.run_model.specs.Solo.{Suffices}
 
--- a lawful run of scripts: the input reads their bytes, history and outcomes are lawful for it, and page and files are
--- theirs
+-- a lawful run of scripts: the input reads their bytes, each batch has some and the last ends with the last of them,
+-- history and outcomes are lawful for it, and page and files are theirs
 pub record IsRun (scripts : List (List ℕ)) (input : Input) (history : List Event) (outcomes : List (List Outcome))
     (shown : List ℕ) (files : List SavedFile) : Type 0 where
   pub read : AreReadings scripts input.readings
+  pub batches : Rise 0 (length input.readings) input.ends
   pub legal : IsLegal input history outcomes
   pub page_shown : shown ≡ page input history outcomes
   pub files_put : files ≡ saves input history outcomes

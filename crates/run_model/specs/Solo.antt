@@ -14,6 +14,8 @@ use Rattle.lang_model.specs.declared.syntax.Command.TheVariants.{
   At,
   Load,
   Save,
+  LoadAll,
+  SaveAll,
   Atomic,
   Explain,
 }
@@ -31,6 +33,7 @@ use Rattle.run_model.specs.Due.{
   Nothing,
   Value,
   Values,
+  Bytes,
   Explained,
   Refused,
   Gifts,
@@ -66,6 +69,8 @@ without_dropped (Snap name) state = state
 without_dropped (At at name e) state = state
 without_dropped (Load name file) state = state
 without_dropped (Save e file) state = state
+without_dropped (LoadAll file) state = state
+without_dropped (SaveAll file) state = state
 without_dropped (Atomic lets) state = state
 without_dropped (Explain e) state = state
 
@@ -80,6 +85,7 @@ abbrev pub state_behind : Item → Due → Workspace → Workspace
 state_behind item Nothing state = set_all (gives item Nothing) (without item state)
 state_behind item (Value r) state = set_all (gives item (Value r)) (without item state)
 state_behind item (Values gifts) state = set_all (gives item (Values gifts)) (without item state)
+state_behind item (Bytes bytes) state = set_all (gives item (Bytes bytes)) (without item state)
 state_behind item (Explained steps) state = set_all (gives item (Explained steps)) (without item state)
 state_behind item (Refused when outcome) state = state
 
@@ -88,6 +94,7 @@ abbrev pub deeds_due : Item → Due → List Deed
 deeds_due item Nothing = done_deeds item Nothing
 deeds_due item (Value r) = done_deeds item (Value r)
 deeds_due item (Values gifts) = done_deeds item (Values gifts)
+deeds_due item (Bytes bytes) = done_deeds item (Bytes bytes)
 deeds_due item (Explained steps) = done_deeds item (Explained steps)
 deeds_due item (Refused when outcome) = reads_of item
 

@@ -15,6 +15,8 @@ use Rattle.lang_model.specs.declared.syntax.Command.TheVariants.{
   At,
   Load,
   Save,
+  LoadAll,
+  SaveAll,
   Atomic,
   Explain,
 }
@@ -82,6 +84,8 @@ snapped_by (Snap name) = Some name
 snapped_by (At at name e) = None
 snapped_by (Load name file) = None
 snapped_by (Save e file) = None
+snapped_by (LoadAll file) = None
+snapped_by (SaveAll file) = None
 snapped_by (Atomic lets) = None
 snapped_by (Explain e) = None
 
@@ -98,6 +102,8 @@ asked_by (Snap name) = None
 asked_by (At at name e) = Some name
 asked_by (Load name file) = None
 asked_by (Save e file) = None
+asked_by (LoadAll file) = None
+asked_by (SaveAll file) = None
 asked_by (Atomic lets) = None
 asked_by (Explain e) = None
 
