@@ -8,7 +8,7 @@ ghost use Rattle.run_model.specs.Files.{file_height};
 use rel_model::TOP_HEIGHT;
 
 /// The side of a square of a height.
-pub(crate) fn side_of(height: u8) -> u32
+pub fn side_of(height: u8) -> u32
     requires { height ≤ size_height }
     ensures { result ≡ 2 ^ height }
 {
@@ -16,7 +16,7 @@ pub(crate) fn side_of(height: u8) -> u32
 }
 
 /// The side of a square of a leaf.
-pub(crate) fn small_side(height: u8) -> u8
+pub fn small_side(height: u8) -> u8
     requires { height ≤ 3 }
     ensures { result ≡ 2 ^ height }
 {
@@ -39,7 +39,7 @@ fn height_of_size(size: u32) -> u8
 
 /// The height of the tree of a relation of these sizes over leaves of a height.
 #[tactic(auto, unfolding(rel_model::specs::Roots::height_over))]
-pub(crate) fn height_of_tree(least: u8, rows: u32, cols: u32) -> u8
+pub fn height_of_tree(least: u8, rows: u32, cols: u32) -> u8
     ensures { result ≡ height_over least rows cols }
 {
     least.max(height_of_size(rows).max(height_of_size(cols)))
@@ -47,7 +47,7 @@ pub(crate) fn height_of_tree(least: u8, rows: u32, cols: u32) -> u8
 
 /// The least height from 1 on whose square holds both sizes.
 #[tactic(auto, unfolding(run_model::specs::Files::file_height))]
-pub(crate) fn height_of_file(rows: u32, cols: u32) -> u8
+pub fn height_of_file(rows: u32, cols: u32) -> u8
     ensures value { result ≡ file_height rows cols }
     ensures low { 1 ≤ result }
     ensures limit { result ≤ size_height }

@@ -11,7 +11,7 @@ use rel_model::{Quad, Rel};
 
 /// A square of cells that has a cell. 24 bytes.
 #[derive(Clone, Copy)]
-pub(crate) enum Square {
+pub enum Square {
     /// A quad over the leaves.
     Tree(Quad),
     /// A square within a leaf.
@@ -68,7 +68,7 @@ fn shown_quad<E: Engine>(engine: &mut E, quad: Quad) -> Option<Square>
 }
 
 /// The square of the file of a relation, where the relation has a pair.
-pub(crate) fn first_square<E: Engine>(engine: &mut E, rel: Rel, height: u8) -> Option<Square>
+pub fn first_square<E: Engine>(engine: &mut E, rel: Rel, height: u8) -> Option<Square>
     requires stands { Stands (E.worker engine.old) rel }
     requires height { height ≡ file_height rel.rows rel.cols }
     ensures shows { Shows (E.worker engine.new) E.least height (rel_piece (E.worker engine.old) height rel) result }
@@ -150,7 +150,7 @@ fn window_quarters(
 }
 
 /// The quarters, of a height, of a square that have a cell.
-pub(crate) fn quarters_of<E: Engine>(
+pub fn quarters_of<E: Engine>(
     engine: &mut E,
     square: Square,
     height: u8,

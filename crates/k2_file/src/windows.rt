@@ -5,7 +5,7 @@ ghost use Rattle.k2_file.specs.Squares.{some_cell, window_cells, IsWindow};
 
 /// A square within a leaf: the leaf's bits and side, and the square's first row and column. 16 bytes.
 #[derive(Clone, Copy)]
-pub(crate) struct Window {
+pub struct Window {
     pub bits: u64,
     pub side: u8,
     pub row: u8,
@@ -42,7 +42,7 @@ fn row_has_cell(window: Window, side: u8, i: u8) -> bool
 }
 
 /// Whether a window of a side has a cell.
-pub(crate) fn has_cell(window: Window, side: u8) -> bool
+pub fn has_cell(window: Window, side: u8) -> bool
     requires { IsWindow side window }
     ensures { result ≡ some_cell side (window_cells side window) }
 {

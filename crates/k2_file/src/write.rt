@@ -1,17 +1,17 @@
 //! The bytes of a relation file.
 ghost use Rattle.std.specs.Prelude.{◌≡◌, ◌<◌, ◌≤◌, ◌++◌, ◌∷◌, [], OnOk, IfOk, IfErr, codes};
-ghost use Rattle.std.specs.Int.{w32, w64, to_be_bytes};
+ghost use Rattle.std.specs.Int.{w64, to_be_bytes};
 ghost use Rattle.rel_model.specs.Worker.{Stands, set_of, Keeps, MakesAtMost, MissesNothing};
 ghost use Rattle.run_model.specs.Limits.{save_limit};
 ghost use Rattle.run_model.specs.Files.{k2, bits_count};
 ghost use Rattle.k2_file.specs.Writing.{IsTooLong, header_bytes, file_bytes};
 
 use crate::counting::count_bits;
+use crate::numbers::{push_u32, push_u64};
 use crate::packing::push_packed;
 use crate::refused::WriteRefused;
 use crate::sides::height_of_file;
 use crate::walk::{TreeBits, tree_bits};
-use byteorder::{BigEndian, ByteOrder};
 use rel_model::Rel;
 use rel_model::engine_trait::Engine;
 use run_model::limits::SAVE_LIMIT;
@@ -75,22 +75,4 @@ fn push_counts(out: &mut Vec<u8>, tree: u64, cells: u64) -> Result<(), AllocErro
 {
     push_u64(out, tree)?;
     push_u64(out, cells)
-}
-
-/// Adds the four bytes of a number, the highest first.
-fn push_u32(out: &mut Vec<u8>, number: u32) -> Result<(), AllocError>
-    ensures { OnOk result (out.new.items ≡ out.old.items ++ to_be_bytes w32 number) }
-{
-    let mut bytes = [0; 4];
-    BigEndian::write_u32(&mut bytes, number);
-    out.extend_from_slice(&bytes)
-}
-
-/// Adds the eight bytes of a number, the highest first.
-fn push_u64(out: &mut Vec<u8>, number: u64) -> Result<(), AllocError>
-    ensures { OnOk result (out.new.items ≡ out.old.items ++ to_be_bytes w64 number) }
-{
-    let mut bytes = [0; 8];
-    BigEndian::write_u64(&mut bytes, number);
-    out.extend_from_slice(&bytes)
 }
