@@ -1,0 +1,9 @@
+pub mod Headers
+pub mod Sounding
+pub mod Listing
+pub mod Sound
+pub mod Reaching
+pub mod Visiting
+pub mod Naming
+pub mod Entering
+pub mod Joining

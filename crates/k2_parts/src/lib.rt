@@ -1,0 +1,19 @@
+//! A relation file of version 2 taken apart: its list of quadrants and its named roots, and the tests in their order.
+#![tactic(auto)]
+
+mod apart;
+mod extents;
+pub mod form;
+mod header;
+mod heights;
+mod numbers;
+mod quads;
+mod roots;
+mod squares;
+#[cfg(test)]
+mod tests;
+mod visits;
+mod words;
+
+pub use apart::take_apart;
+pub use header::begins_shared;
