@@ -1,0 +1,11 @@
+//! Relations that are read from a file of version 2, each from its root upwards.
+#![tactic(auto)]
+
+mod all;
+mod build;
+mod leaf;
+mod named;
+mod root;
+
+pub use all::read_k2_all;
+pub use named::read_k2_named;
