@@ -1,0 +1,3 @@
+pub mod Visiting
+pub mod Writing
+pub mod Listed
