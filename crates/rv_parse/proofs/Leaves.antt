@@ -6,7 +6,7 @@ use Rattle.lang_model.specs.declared.faults.ParseFault.TheVariants.{Expected, To
 use Rattle.lang_model.specs.declared.faults.What.{What}
 use Rattle.lang_model.specs.declared.faults.What.TheVariants.{Token as TOKEN}
 use Rattle.lang_model.specs.declared.token.Keyword.{Keyword}
-use Rattle.lang_model.specs.declared.token.Keyword.TheVariants.{Rel as REL, Let as LET, Print as PRINT, List as LIST, Count as COUNT, «Type» as TYPE, Drop as DROP, Snap as SNAP, At as AT, Load as LOAD, Save as SAVE, Decl as DECL, Prod as PROD, Sum as SUM, Beg as BEG, End as END, Return as RETURN, While as WHILE, Do as DO, Od as OD, If as IF, Then as THEN, Else as ELSE, Fi as FI, Atomic as ATOMIC, Commit as COMMIT, Explain as EXPLAIN}
+use Rattle.lang_model.specs.declared.token.Keyword.TheVariants.{Rel as REL, Let as LET, Print as PRINT, List as LIST, Count as COUNT, «Type» as TYPE, Drop as DROP, Snap as SNAP, At as AT, Load as LOAD, Save as SAVE, Decl as DECL, Prod as PROD, Sum as SUM, Beg as BEG, End as END, Return as RETURN, While as WHILE, Do as DO, Od as OD, If as IF, Then as THEN, Else as ELSE, Fi as FI, All as ALL, Atomic as ATOMIC, Commit as COMMIT, Explain as EXPLAIN}
 use Rattle.lang_model.specs.declared.token.Kind.TheVariants.{Keyword as KEYWORD, Sign}
 use Rattle.lang_model.specs.declared.token.Token.{Token}
 use Rattle.lang_model.specs.Taken.{TakesAt}
@@ -41,7 +41,7 @@ reads_word w at tokens rest e behind h = rw h (rw (eq-eqb (number_of w) (number_
 
 -- the keyword with a number
 abbrev keyword_at : ℕ → Keyword
-keyword_at n = get_or (REL ∷ LET ∷ PRINT ∷ LIST ∷ COUNT ∷ TYPE ∷ DROP ∷ SNAP ∷ AT ∷ LOAD ∷ SAVE ∷ DECL ∷ PROD ∷ SUM ∷ BEG ∷ END ∷ RETURN ∷ WHILE ∷ DO ∷ OD ∷ IF ∷ THEN ∷ ELSE ∷ FI ∷ ATOMIC ∷ COMMIT ∷ EXPLAIN ∷ []) n REL
+keyword_at n = get_or (REL ∷ LET ∷ PRINT ∷ LIST ∷ COUNT ∷ TYPE ∷ DROP ∷ SNAP ∷ AT ∷ LOAD ∷ SAVE ∷ DECL ∷ PROD ∷ SUM ∷ BEG ∷ END ∷ RETURN ∷ WHILE ∷ DO ∷ OD ∷ IF ∷ THEN ∷ ELSE ∷ FI ∷ ALL ∷ ATOMIC ∷ COMMIT ∷ EXPLAIN ∷ []) n REL
 
 keyword_back : (w : Keyword) → keyword_at (number_of w) ≡ w
 keyword_back REL = refl
@@ -68,6 +68,7 @@ keyword_back IF = refl
 keyword_back THEN = refl
 keyword_back ELSE = refl
 keyword_back FI = refl
+keyword_back ALL = refl
 keyword_back ATOMIC = refl
 keyword_back COMMIT = refl
 keyword_back EXPLAIN = refl

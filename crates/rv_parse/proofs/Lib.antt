@@ -1,5 +1,6 @@
 pub mod Spelling
 pub mod Leaves
+pub mod AllOrOne
 pub mod Exprs
 pub mod Optional
 pub mod Stmts

@@ -9,13 +9,13 @@ use Rattle.lang_model.specs.declared.syntax.Decl.{Decl}
 use Rattle.lang_model.specs.declared.syntax.Decl.TheVariants.{Variable, Domain}
 use Rattle.lang_model.specs.declared.syntax.Expr.{Expr}
 use Rattle.lang_model.specs.declared.syntax.Command.{Command}
-use Rattle.lang_model.specs.declared.syntax.Command.TheVariants.{Relation, Let, Print, List as ListOf, Count, Typed, Remove, Snap, At, Load, Save, Atomic, Explain}
+use Rattle.lang_model.specs.declared.syntax.Command.TheVariants.{Relation, Let, Print, List as ListOf, Count, Typed, Remove, Snap, At, Load, Save, LoadAll, SaveAll, Atomic, Explain}
 use Rattle.lang_model.specs.declared.syntax.Item.{Item}
 use Rattle.lang_model.specs.declared.syntax.Item.TheVariants.{Function, Program, Command as COMMAND}
 use Rattle.lang_model.specs.declared.syntax.Script.{Script}
 use Rattle.lang_model.specs.declared.faults.What.TheVariants.{Item as AN_ITEM}
 use Rattle.lang_model.specs.declared.token.Keyword.{Keyword}
-use Rattle.lang_model.specs.declared.token.Keyword.TheVariants.{Rel as REL, Let as LET, Print as PRINT, List as LIST, Count as COUNT, «Type» as TYPE, Drop as DROP, Snap as SNAP, At as AT, Load as LOAD, Save as SAVE, Decl as DECL, Beg as BEG, End as END, Return as RETURN, Atomic as ATOMIC, Commit as COMMIT, Explain as EXPLAIN}
+use Rattle.lang_model.specs.declared.token.Keyword.TheVariants.{Rel as REL, Let as LET, Print as PRINT, List as LIST, Count as COUNT, «Type» as TYPE, Drop as DROP, Snap as SNAP, At as AT, Load as LOAD, Save as SAVE, Decl as DECL, Beg as BEG, End as END, Return as RETURN, All as ALL, Atomic as ATOMIC, Commit as COMMIT, Explain as EXPLAIN}
 use Rattle.lang_model.specs.declared.token.Kind.{Kind}
 use Rattle.lang_model.specs.declared.token.Kind.TheVariants.{Keyword as KEYWORD, Word, Number, File, Sign}
 use Rattle.lang_model.specs.declared.token.Token.{Token}
@@ -30,6 +30,7 @@ use Rattle.rv_parse.specs.Items.{is_name, begins_name, keyword_step, NoCommand}
 use Rattle.rv_parse.specs.declared.command.Opening.{Opening}
 use Rattle.rv_parse.specs.declared.command.Opening.TheVariants.{Relation as OPENS_RELATION, Let as OPENS_LET, Print as OPENS_PRINT, List as OPENS_LIST, Count as OPENS_COUNT, «Type» as OPENS_TYPE, Drop as OPENS_DROP, Snap as OPENS_SNAP, At as OPENS_AT, Load as OPENS_LOAD, Save as OPENS_SAVE, Atomic as OPENS_ATOMIC, Explain as OPENS_EXPLAIN}
 use Rattle.rv_parse.proofs.Leaves.{reads_sign, reads_word}
+use Rattle.rv_parse.proofs.AllOrOne.{takes_all, one_name, one_value}
 use Rattle.rv_parse.proofs.RowSteps.{drop_columns, enter_columns, drop_more_rows, enter_rows, rows_begin, drop_rows}
 use Rattle.rv_parse.proofs.Defs.{drop_meaning, enter_meaning, drop_decls, enter_decls, enter_params, drop_params}
 use Rattle.rv_parse.proofs.Fitting.{Closed, closed_file, closed_stop, closed_word, fits_whole, ends_return, fits_stmts}
@@ -187,10 +188,22 @@ fits_command (At at name value) tokens rest end s stop e =
     ∙ reads_word PRINT s.4.1.0 s.1 s.4.0 e (ExprPart OrLevel 0 ∷ more) s.4.1.1 ∙ fits_whole s.4.2 (closed_stop stop.0 rest end stop.1) e more
 fits_command (Load name file) tokens rest end s stop e =
     let more : List Part = SignPart 46 ∷ ItemsPart ∷ [] in
-    item_begins (KEYWORD LOAD) _ s.1.1.0 tokens s.1.0 e refl s.1.1.1 ∙ reads_name name s.1.2.0 s.1.0 s.0 e (FilePart ∷ more) s.1.2.1 ∙ reads_file file s.2.0 s.0 rest e more s.2.1
+    item_begins (KEYWORD LOAD) _ s.1.1.0 tokens s.1.0 e refl s.1.1.1
+    ∙ (one_name name s.1.2.0 s.1.0 s.0 s.1.2.1).name e (FilePart ∷ more)
+    ∙ reads_name name s.1.2.0 s.1.0 s.0 e (FilePart ∷ more) s.1.2.1 ∙ reads_file file s.2.0 s.0 rest e more s.2.1
 fits_command (Save value file) tokens rest end s stop e =
     let more : List Part = SignPart 46 ∷ ItemsPart ∷ [] in
-    item_begins (KEYWORD SAVE) _ s.1.1.0 tokens s.1.0 e refl s.1.1.1 ∙ fits_whole s.1.2 (closed_file file s.2.0 s.0 rest s.2.1) e (FilePart ∷ more) ∙ reads_file file s.2.0 s.0 rest e more s.2.1
+    item_begins (KEYWORD SAVE) _ s.1.1.0 tokens s.1.0 e refl s.1.1.1
+    ∙ (one_value value s.1.0 s.0 s.1.2).value e (FilePart ∷ more)
+    ∙ fits_whole s.1.2 (closed_file file s.2.0 s.0 rest s.2.1) e (FilePart ∷ more) ∙ reads_file file s.2.0 s.0 rest e more s.2.1
+fits_command (LoadAll file) tokens rest end s stop e =
+    let more : List Part = SignPart 46 ∷ ItemsPart ∷ [] in
+    item_begins (KEYWORD LOAD) _ s.2.0 tokens s.0 e refl s.2.1
+    ∙ (takes_all s.3.0 s.0 s.1 s.3.1).as_name e (FilePart ∷ more) ∙ reads_file file s.4.0 s.1 rest e more s.4.1
+fits_command (SaveAll file) tokens rest end s stop e =
+    let more : List Part = SignPart 46 ∷ ItemsPart ∷ [] in
+    item_begins (KEYWORD SAVE) _ s.2.0 tokens s.0 e refl s.2.1
+    ∙ (takes_all s.3.0 s.0 s.1 s.3.1).as_value e (FilePart ∷ more) ∙ reads_file file s.4.0 s.1 rest e more s.4.1
 fits_command (Atomic lets) tokens rest end s stop e =
     let more : List Part = SignPart 46 ∷ ItemsPart ∷ [] in
     item_begins (KEYWORD ATOMIC) _ s.2.0 tokens s.0 e refl s.2.1 ∙ fits_lets s.3 s.4.0 rest s.4.1 e (WordPart COMMIT ∷ more) ∙ reads_word COMMIT s.4.0 s.1 rest e more s.4.1

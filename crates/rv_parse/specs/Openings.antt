@@ -3,7 +3,7 @@ use Rattle.std.specs.Prelude.{◌≡◌, List, [], ◌∷◌}
 use Rattle.lang_model.specs.declared.token.Keyword.{Keyword}
 use Rattle.lang_model.specs.declared.token.Keyword.TheVariants.{Rel as REL, Let as LET, Print as PRINT, List as LIST, Count as COUNT, «Type» as TYPE, Drop as DROP, Snap as SNAP, At as AT, Load as LOAD, Save as SAVE, Atomic as ATOMIC, Explain as EXPLAIN}
 use Rattle.lang_model.specs.Spelling.{OrLevel}
-use Rattle.lang_model.specs.Stop.{Part, NamePart, FilePart, SignPart, WordPart, ExprPart, Behind, command_step}
+use Rattle.lang_model.specs.Stop.{Part, NamePart, NameOrAll, ExprOrAll, FilePart, SignPart, WordPart, ExprPart, Behind, command_step}
 use Rattle.rv_parse.specs.Got.{relation_parts, block_parts}
 use Rattle.rv_parse.specs.declared.command.Asked.{Asked}
 use Rattle.rv_parse.specs.declared.command.Asked.TheVariants.{Print as PrintIt, List as ListIt, Count as CountIt, «Type» as TypeIt, Explain as ExplainIt}
@@ -37,8 +37,8 @@ opening_parts TypeOf = ExprPart OrLevel 0 ∷ []
 opening_parts Drop = NamePart ∷ []
 opening_parts Snap = NamePart ∷ []
 opening_parts At = NamePart ∷ WordPart PRINT ∷ ExprPart OrLevel 0 ∷ []
-opening_parts Load = NamePart ∷ FilePart ∷ []
-opening_parts Save = ExprPart OrLevel 0 ∷ FilePart ∷ []
+opening_parts Load = NameOrAll ∷ FilePart ∷ []
+opening_parts Save = ExprOrAll ∷ FilePart ∷ []
 opening_parts Atomic = block_parts
 opening_parts Explain = ExprPart OrLevel 0 ∷ []
 

@@ -6,14 +6,15 @@ use Rattle.lang_model.specs.declared.syntax.Place.{Place}
 use Rattle.lang_model.specs.declared.syntax.Expr.{Expr}
 use Rattle.lang_model.specs.declared.syntax.Op2.{Op2}
 use Rattle.lang_model.specs.declared.token.Keyword.{Keyword}
+use Rattle.lang_model.specs.declared.token.Keyword.TheVariants.{All as ALL}
 use Rattle.lang_model.specs.declared.token.Kind.{Kind}
-use Rattle.lang_model.specs.declared.token.Kind.TheVariants.{Number, File, Sign}
+use Rattle.lang_model.specs.declared.token.Kind.TheVariants.{Keyword as KEYWORD, Number, File, Sign}
 use Rattle.lang_model.specs.declared.token.Token.{Token}
-use Rattle.lang_model.specs.Taken.{TakesAt}
+use Rattle.lang_model.specs.Taken.{TakesAt, Takes}
 use Rattle.lang_model.specs.Lexed.{Ending}
 use Rattle.lang_model.specs.BaseNames.{Form, TakesOne, TakesTwo, TakesDomain}
 use Rattle.lang_model.specs.Spelling.{Level, OrLevel, AndLevel, ProdLevel, PrimLevel, tighter, IsOperatorOf, Spelled, Listed}
-use Rattle.lang_model.specs.Stop.{Part, ExprPart, MoreLinks, MoreArgs, is_sign, is_word, is_operator, stop_of}
+use Rattle.lang_model.specs.Stop.{Part, NamePart, NameOrAll, ExprOrAll, ExprPart, MoreLinks, MoreArgs, is_sign, is_word, is_operator, stop_of}
 use Rattle.rv_parse.specs.Halts.{fault_of}
 use Rattle.rv_parse.specs.declared.halt.Halt.{Halt}
 use Rattle.rv_parse.specs.declared.halt.Halt.TheVariants.{NoMemory}
@@ -115,3 +116,16 @@ pub record AreArguments (e : Ending) (d : ℕ) (args : List Expr) (tokens rest :
   pub tail : Listed more_limit d more mid rest
   pub shorter : length rest < length tokens
   pub read : Reads e (ExprPart OrLevel d ∷ MoreArgs more_limit d ∷ []) tokens rest
+
+-- ALL comes first, as either part takes it
+pub record TakesAll (tokens rest : List Token) : Type 0 where
+  pub takes : Takes (KEYWORD ALL) tokens rest
+  pub as_name : (e : Ending) → Reads e (NameOrAll ∷ []) tokens rest
+  pub as_value : (e : Ending) → Reads e (ExprOrAll ∷ []) tokens rest
+
+-- another token comes first: a name or an expression must come, as where there is no ALL
+pub record WantsOne (tokens : List Token) : Type 0 where
+  pub name : (e : Ending) (behind : List Part) →
+      stop_of (NameOrAll ∷ behind) tokens e ≡ stop_of (NamePart ∷ behind) tokens e
+  pub value : (e : Ending) (behind : List Part) →
+      stop_of (ExprOrAll ∷ behind) tokens e ≡ stop_of (ExprPart OrLevel 0 ∷ behind) tokens e

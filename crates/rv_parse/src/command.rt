@@ -14,7 +14,7 @@ ghost use Rattle.rv_parse.specs.declared.command.Opening.TheVariants.{Let as LET
 use crate::block::block;
 use crate::expr::expression;
 use crate::halt::Halt;
-use crate::leaf::{next_file, next_name, next_sign, next_word};
+use crate::leaf::{behind_all, next_file, next_name, next_sign, next_word};
 use crate::rows::relation;
 use lang_model::syntax::{Command, Expr};
 use lang_model::token::{Keyword, Token};
@@ -89,25 +89,33 @@ fn look(alloc: Global, tokens: &[Token], end: Ending) -> Result<(Command, &[Toke
     Ok((command, rest))
 }
 
-/// A relation's file behind LOAD.
+/// Behind LOAD: a relation's file, or that of all its relations.
 fn loading(alloc: Global, tokens: &[Token], end: Ending) -> Result<(Command, &[Token]), Halt>
     ensures { MatchResult result (λ x. Got (ending_of end) (opening_parts LOAD)
         (λ t r. (before : List TOKEN) → Takes (KEYWORD (opening_word LOAD)) before t → SpellsCommand x.0 before r)
         tokens.now x.1.now) (Refuses (ending_of end) (opening_parts LOAD) tokens.now) }
 {
+    if let Some(rest) = behind_all(tokens) {
+        let (file, rest) = next_file(alloc, rest, end)?;
+        return Ok((Command::LoadAll { file }, rest));
+    }
     let (name, _, rest) = next_name(alloc, tokens, end)?;
     let (file, rest) = next_file(alloc, rest, end)?;
     let command = Command::Load { name, file };
     Ok((command, rest))
 }
 
-/// A value and its file behind SAVE.
+/// Behind SAVE: a value, or all relations, and their file.
 fn saving(alloc: Global, tokens: &[Token], end: Ending) -> Result<(Command, &[Token]), Halt>
     requires { length tokens.now < 2 ^ 32 }
     ensures { MatchResult result (λ x. Got (ending_of end) (opening_parts SAVE)
         (λ t r. (before : List TOKEN) → Takes (KEYWORD (opening_word SAVE)) before t → SpellsCommand x.0 before r)
         tokens.now x.1.now) (Refuses (ending_of end) (opening_parts SAVE) tokens.now) }
 {
+    if let Some(rest) = behind_all(tokens) {
+        let (file, rest) = next_file(alloc, rest, end)?;
+        return Ok((Command::SaveAll { file }, rest));
+    }
     let (value, rest) = expression(alloc, tokens, end, 0)?;
     let (file, rest) = next_file(alloc, rest, end)?;
     let command = Command::Save { value, file };

@@ -7,7 +7,7 @@ ghost use Rattle.lang_model.specs.declared.token.Kind.TheVariants.{Keyword as KE
 ghost use Rattle.rv_parse.specs.Halts.{what, missing, fault_of};
 ghost use Rattle.rv_tokens.specs.Endings.{ending_of};
 ghost use Rattle.rv_parse.specs.declared.halt.Halt.TheVariants.{NoMemory};
-ghost use Rattle.rv_parse.specs.Readers.{Reads, Refuses, begins, begins_word, begins_file};
+ghost use Rattle.rv_parse.specs.Readers.{Reads, Refuses, TakesAll, WantsOne, begins, begins_word, begins_file};
 ghost use Rattle.rv_parse.specs.Items.{begins_name};
 
 use crate::halt::{Halt, Wanted};
@@ -111,9 +111,10 @@ fn number_of(keyword: Keyword) -> u8
         Keyword::Then => 21,
         Keyword::Else => 22,
         Keyword::Fi => 23,
-        Keyword::Atomic => 24,
-        Keyword::Commit => 25,
-        Keyword::Explain => 26,
+        Keyword::All => 24,
+        Keyword::Atomic => 25,
+        Keyword::Commit => 26,
+        Keyword::Explain => 27,
     }
 }
 
@@ -135,6 +136,17 @@ pub fn behind_word(tokens: &[Token], keyword: Keyword) -> Option<(Place, &[Token
             }
         }
         _ => None,
+    }
+}
+
+/// What stands behind ALL, where it comes first; where it doesn't, a name or an expression must come.
+#[tactic(auto, using(crate::proofs::AllOrOne::takes_all, crate::proofs::AllOrOne::wants_one))]
+pub fn behind_all(tokens: &[Token]) -> Option<&[Token]>
+    ensures { MatchOption result (WantsOne tokens.now) (λ rest. TakesAll tokens.now rest.now) }
+{
+    match behind_word(tokens, Keyword::All) {
+        Some((_, rest)) => Some(rest),
+        None => None,
     }
 }
 

@@ -146,6 +146,7 @@ fn written(keyword: Keyword) -> &'static [u8]
         Keyword::Then => b"THEN",
         Keyword::Else => b"ELSE",
         Keyword::Fi => b"FI",
+        Keyword::All => b"ALL",
         Keyword::Atomic => b"ATOMIC",
         Keyword::Commit => b"COMMIT",
         Keyword::Explain => b"EXPLAIN",

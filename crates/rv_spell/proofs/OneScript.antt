@@ -11,11 +11,11 @@ use Rattle.lang_model.specs.declared.syntax.Expr.{Expr}
 use Rattle.lang_model.specs.declared.syntax.Decl.{Decl}
 use Rattle.lang_model.specs.declared.syntax.Decl.TheVariants.{Variable, Domain}
 use Rattle.lang_model.specs.declared.syntax.Command.{Command}
-use Rattle.lang_model.specs.declared.syntax.Command.TheVariants.{Relation, Let, Print, List as ListOf, Count, Typed, Remove, Snap, At, Load, Save, Atomic, Explain}
+use Rattle.lang_model.specs.declared.syntax.Command.TheVariants.{Relation, Let, Print, List as ListOf, Count, Typed, Remove, Snap, At, Load, Save, LoadAll, SaveAll, Atomic, Explain}
 use Rattle.lang_model.specs.declared.syntax.Item.{Item}
 use Rattle.lang_model.specs.declared.syntax.Item.TheVariants.{Function, Program, Command as COMMAND}
 use Rattle.lang_model.specs.declared.token.Keyword.{Keyword}
-use Rattle.lang_model.specs.declared.token.Keyword.TheVariants.{Rel as REL, Let as LET, Print as PRINT, List as LIST, Count as COUNT, «Type» as TYPE, Drop as DROP, Snap as SNAP, At as AT, Load as LOAD, Save as SAVE, Atomic as ATOMIC, Explain as EXPLAIN, Beg as BEG}
+use Rattle.lang_model.specs.declared.token.Keyword.TheVariants.{Rel as REL, Let as LET, Print as PRINT, List as LIST, Count as COUNT, «Type» as TYPE, Drop as DROP, Snap as SNAP, At as AT, Load as LOAD, Save as SAVE, All as ALL, Atomic as ATOMIC, Explain as EXPLAIN, Beg as BEG}
 use Rattle.lang_model.specs.declared.token.Kind.{Kind}
 use Rattle.lang_model.specs.declared.token.Kind.TheVariants.{Keyword as KEYWORD, Word, Number, File, Sign}
 use Rattle.lang_model.specs.declared.token.Token.{Token}
@@ -23,7 +23,9 @@ use Rattle.lang_model.specs.Taken.{TakesAt}
 use Rattle.lang_model.specs.Spelling.{OrLevel, SpellsMoreColumns, SpellsColumns, SpellsRow, SpellsMoreRows, SpellsRows, SpellsMoreNames, SpellsParams, domain_word, SpellsDecl, SpellsMoreDecls, SpellsDecls, SpellsHead, SpellsNamed, SpellsValued, SpellsCommand, SpellsItem, SpellsItems}
 use Rattle.rv_spell.specs.Again.{Ends}
 use Rattle.rv_parse.specs.Readers.{begins}
-use Rattle.rv_spell.specs.Plain.{row_tree, RelationTree, LetTree, PrintTree, ListTree, CountTree, TypedTree, RemoveTree, SnapTree, AtTree, LoadTree, SaveTree, AtomicTree, ExplainTree, command_tree, FunctionTree, ProgramTree, CommandItem, item_tree, OneScript}
+use Rattle.rv_parse.specs.Readers.{begins_word}
+use Rattle.rv_parse.proofs.AllOrOne.{no_all}
+use Rattle.rv_spell.specs.Plain.{row_tree, RelationTree, LetTree, PrintTree, ListTree, CountTree, TypedTree, RemoveTree, SnapTree, AtTree, LoadTree, SaveTree, LoadAllTree, SaveAllTree, AtomicTree, ExplainTree, command_tree, FunctionTree, ProgramTree, CommandItem, item_tree, OneScript}
 use Rattle.rv_spell.proofs.Apart.{one_kind, one_place, one_rest, one_word, ends_stop}
 use Rattle.rv_spell.proofs.Unambiguous.{Agrees, agree}
 use Rattle.rv_spell.proofs.OneStmt.{code_of, differ, ends_keyword, closing, agree_stmts}
@@ -191,6 +193,8 @@ keyword_of (Snap name) = SNAP
 keyword_of (At at name value) = AT
 keyword_of (Load name file) = LOAD
 keyword_of (Save value file) = SAVE
+keyword_of (LoadAll file) = LOAD
+keyword_of (SaveAll file) = SAVE
 keyword_of (Atomic lets) = ATOMIC
 keyword_of (Explain value) = EXPLAIN
 
@@ -207,6 +211,8 @@ command_first (Snap name) tokens rest s = (s.1.0, s.0, s.1.1)
 command_first (At at name value) tokens rest s = (s.2.0, s.0, s.2.1)
 command_first (Load name file) tokens rest s = (s.1.1.0, s.1.0, s.1.1.1)
 command_first (Save value file) tokens rest s = (s.1.1.0, s.1.0, s.1.1.1)
+command_first (LoadAll file) tokens rest s = (s.2.0, s.0, s.2.1)
+command_first (SaveAll file) tokens rest s = (s.2.0, s.0, s.2.1)
 command_first (Atomic lets) tokens rest s = (s.2.0, s.0, s.2.1)
 command_first (Explain value) tokens rest s = (s.1.0, s.0, s.1.1)
 
@@ -239,6 +245,20 @@ agree_command (Load name file) (Load name' file') tokens others rest behind s u 
 agree_command (Save value file) (Save value' file') tokens others rest behind s u q h h' =
     let a = agree_valued (KEYWORD SAVE) (KEYWORD SAVE) value value' tokens others s.0 u.0 s.1 u.1 q (ends_file s.2.1) (ends_file u.2.1) in
     ((λ i. SaveTree (a.same i) (one_file file file' (one_kind s.2.1 u.2.1 a.left) i)), one_rest s.2.1 u.2.1 a.left)
+agree_command (LoadAll file) (LoadAll file') tokens others rest behind s u q h h' =
+    let e = one_rest s.3.1 u.3.1 (one_rest s.2.1 u.2.1 q) in
+    (ap LoadAllTree (one_file file file' (one_kind s.4.1 u.4.1 e)), one_rest s.4.1 u.4.1 e)
+agree_command (SaveAll file) (SaveAll file') tokens others rest behind s u q h h' =
+    let e = one_rest s.3.1 u.3.1 (one_rest s.2.1 u.2.1 q) in
+    (ap SaveAllTree (one_file file file' (one_kind s.4.1 u.4.1 e)), one_rest s.4.1 u.4.1 e)
+agree_command (Load name file) (LoadAll file') tokens others rest behind s u q h h' =
+    absurd (differ s.1.2.1 u.3.1 (one_rest s.1.1.1 u.2.1 q) refl)
+agree_command (LoadAll file) (Load name' file') tokens others rest behind s u q h h' =
+    absurd (differ s.3.1 u.1.2.1 (one_rest s.2.1 u.1.1.1 q) refl)
+agree_command (Save value file) (SaveAll file') tokens others rest behind s u q h h' =
+    absurd (false≢true (sym (no_all s.1.2) ∙ ap (begins_word ALL) (one_rest s.1.1.1 u.2.1 q ∙ u.3.1)))
+agree_command (SaveAll file) (Save value' file') tokens others rest behind s u q h h' =
+    absurd (false≢true (sym (no_all u.1.2) ∙ ap (begins_word ALL) (sym (one_rest s.2.1 u.1.1.1 q) ∙ s.3.1)))
 agree_command (Atomic lets) (Atomic lets') tokens others rest behind s u q h h' =
     let a = agree_lets s.3 u.3 (one_rest s.2.1 u.2.1 q) s.4.1 u.4.1 in
     (ap AtomicTree a.same, one_rest s.4.1 u.4.1 a.left)

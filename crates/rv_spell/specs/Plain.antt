@@ -8,7 +8,7 @@ use Rattle.lang_model.specs.declared.syntax.Decl.{Decl}
 use Rattle.lang_model.specs.declared.syntax.Stmt.{Stmt, Set, While', If', Row_of-Stmt, end_of-Stmt, more_of-Stmt}
 use Rattle.lang_model.specs.declared.syntax.Let.{Let as LetOf}
 use Rattle.lang_model.specs.declared.syntax.Command.{Command}
-use Rattle.lang_model.specs.declared.syntax.Command.TheVariants.{Relation, Let, Print, List as ListOf, Count, Typed, Remove, Snap, At, Load, Save, Atomic, Explain}
+use Rattle.lang_model.specs.declared.syntax.Command.TheVariants.{Relation, Let, Print, List as ListOf, Count, Typed, Remove, Snap, At, Load, Save, LoadAll, SaveAll, Atomic, Explain}
 use Rattle.lang_model.specs.declared.syntax.Item.{Item}
 use Rattle.lang_model.specs.declared.syntax.Item.TheVariants.{Function, Program, Command as COMMAND}
 use Rattle.lang_model.specs.declared.syntax.Script.{Script}
@@ -83,6 +83,8 @@ pub data CommandTree : Type 0 where
   AtTree : Place → List ℕ → Tree → CommandTree
   LoadTree : List ℕ → List ℕ → CommandTree
   SaveTree : Tree → List ℕ → CommandTree
+  LoadAllTree : List ℕ → CommandTree
+  SaveAllTree : List ℕ → CommandTree
   AtomicTree : List LetTreeOf → CommandTree
   ExplainTree : Tree → CommandTree
 
@@ -100,6 +102,8 @@ command_tree (Snap name) = SnapTree name
 command_tree (At at name value) = AtTree at name (tree_of value)
 command_tree (Load name file) = LoadTree name file
 command_tree (Save value file) = SaveTree (tree_of value) file
+command_tree (LoadAll file) = LoadAllTree file
+command_tree (SaveAll file) = SaveAllTree file
 command_tree (Atomic lets) = AtomicTree (map let_tree lets.items)
 command_tree (Explain value) = ExplainTree (tree_of value)
 

@@ -15,7 +15,7 @@ pub enum Reserved {
     Base(Base),
 }
 
-const KEYWORDS: [(&str, Keyword); 27] = [
+const KEYWORDS: [(&str, Keyword); 28] = [
     ("REL", Keyword::Rel),
     ("LET", Keyword::Let),
     ("PRINT", Keyword::Print),
@@ -40,6 +40,7 @@ const KEYWORDS: [(&str, Keyword); 27] = [
     ("THEN", Keyword::Then),
     ("ELSE", Keyword::Else),
     ("FI", Keyword::Fi),
+    ("ALL", Keyword::All),
     ("ATOMIC", Keyword::Atomic),
     ("COMMIT", Keyword::Commit),
     ("EXPLAIN", Keyword::Explain),

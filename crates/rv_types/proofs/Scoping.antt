@@ -2,7 +2,7 @@
 use Rattle.std.proofs.Common.{◌≡◌, ◌∙◌, ℕ, true, false, List, [], Option, Some, None, refl, ap}
 use Rattle.std.specs.Option.{option_map_or}
 use Rattle.lang_model.specs.declared.syntax.Command.{Command}
-use Rattle.lang_model.specs.declared.syntax.Command.TheVariants.{Relation, Let, Print, List as LIST, Count, Typed, Remove, Snap, At, Load, Save, Atomic, Explain}
+use Rattle.lang_model.specs.declared.syntax.Command.TheVariants.{Relation, Let, Print, List as LIST, Count, Typed, Remove, Snap, At, Load, Save, LoadAll, SaveAll, Atomic, Explain}
 use Rattle.rv_types.specs.Items.{value_of_command, lets_of_command}
 use Rattle.lang_model.specs.declared.syntax.Expr.{Expr}
 use Rattle.lang_model.specs.declared.syntax.Let.{Let as LetOf}
@@ -66,6 +66,8 @@ command_faults-parts E (Snap name) = refl
 command_faults-parts E (At at name value) = refl
 command_faults-parts E (Load name file) = refl
 command_faults-parts E (Save value file) = refl
+command_faults-parts E (LoadAll file) = refl
+command_faults-parts E (SaveAll file) = refl
 command_faults-parts E (Atomic lets) = refl
 command_faults-parts E (Explain value) = refl
 
@@ -86,4 +88,6 @@ command_faults-value E c e v = command_faults-parts E c ∙ ap (λ o. faults_of_
     no_lets (At at name value) e v = refl
     no_lets (Load name file) e v = refl
     no_lets (Save value file) e v = refl
+    no_lets (LoadAll file) e v = refl
+    no_lets (SaveAll file) e v = refl
     no_lets (Explain value) e v = refl

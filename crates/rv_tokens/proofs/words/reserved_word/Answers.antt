@@ -7,12 +7,12 @@ use Rattle.rv_tokens.proofs.words.reserved_word.Goals as goal
 
 pub returns-in-Some : goal.returns-in-Some
 unfolding reserved_words
-returns-in-Some c = sym (found_in-front c.args.word.now (take 27 reserved_words) (map (λ base. (base_text base, BASE base)) base_names) _ (sym c.in-Some.ensures))
+returns-in-Some c = sym (found_in-front c.args.word.now (take 28 reserved_words) (map (λ base. (base_text base, BASE base)) base_names) _ (sym c.in-Some.ensures))
 
 pub returns-in-Some-base : goal.returns-in-Some-base
 unfolding reserved_words
-returns-in-Some-base c = c.in-Some-base.ensures ∙ found_in-behind c.args.word.now (take 27 reserved_words) (map (λ base. (base_text base, BASE base)) base_names) c.in-None.ensures
+returns-in-Some-base c = c.in-Some-base.ensures ∙ found_in-behind c.args.word.now (take 28 reserved_words) (map (λ base. (base_text base, BASE base)) base_names) c.in-None.ensures
 
 pub returns-in-None-base : goal.returns-in-None-base
 unfolding reserved_words
-returns-in-None-base c = c.in-None-base.ensures ∙ found_in-behind c.args.word.now (take 27 reserved_words) (map (λ base. (base_text base, BASE base)) base_names) c.in-None.ensures
+returns-in-None-base c = c.in-None-base.ensures ∙ found_in-behind c.args.word.now (take 28 reserved_words) (map (λ base. (base_text base, BASE base)) base_names) c.in-None.ensures
