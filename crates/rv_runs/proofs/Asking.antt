@@ -18,6 +18,8 @@ use Rattle.lang_model.specs.declared.syntax.Command.TheVariants.{
   At,
   Load,
   Save,
+  LoadAll,
+  SaveAll,
   Atomic,
   Explain,
 }
@@ -66,6 +68,8 @@ module _ (files : List RelationFile) (turns : ℕ) where
     command_alike script (At at name e) s (Some t) = refl
     command_alike script (Load name file) s snap = refl
     command_alike script (Save e file) s snap = refl
+    command_alike script (LoadAll file) s snap = refl
+    command_alike script (SaveAll file) s snap = refl
     command_alike script (Atomic lets) s snap = refl
     command_alike script (Explain e) s snap = refl
 
@@ -90,6 +94,8 @@ module _ (files : List RelationFile) (turns : ℕ) where
     command_costs_alike leaf script (At at name e) s (Some t) d = refl
     command_costs_alike leaf script (Load name file) s snap d = refl
     command_costs_alike leaf script (Save e file) s snap d = refl
+    command_costs_alike leaf script (LoadAll file) s snap d = refl
+    command_costs_alike leaf script (SaveAll file) s snap d = refl
     command_costs_alike leaf script (Atomic lets) s snap d = refl
     command_costs_alike leaf script (Explain e) s snap d = refl
 

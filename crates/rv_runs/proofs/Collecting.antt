@@ -4,14 +4,14 @@
 -- 3. The worker that took them all in holds every relation of the history, and counts what they made and missed.
 use Rattle.std.specs.List.{AllByRecursion, flat_map}
 use Rattle.std.specs.Prelude.{IfSome}
-use Rattle.std.proofs.Common.{◌≡◌, ◌<◌, ◌+◌, ◌-◌, ◌++◌, ℕ, suc, Bool, cond, List, [], ◌∷◌, length, Some, refl, sym, ap, subst, ◌∙◌, map, arith, get_or, All, append_assoc}
+use Rattle.std.proofs.Common.{◌≡◌, ◌<◌, ◌≤◌, ◌+◌, ◌-◌, ◌++◌, ℕ, suc, Bool, cond, List, [], ◌∷◌, length, Some, refl, sym, ap, subst, ◌∙◌, map, arith, get_or, All, append_assoc}
 use Rattle.std.proofs.lemmas.List.{get_or-append-add}
 use Rattle.rel_model.specs.Worker.{Worker}
 use Rattle.rel_model.specs.Seats.{SplitsWorker, JoinsWorker}
 use Rattle.run_model.specs.declared.event.Event.{Event}
 use Rattle.run_model.specs.declared.outcome.Outcome.{Outcome}
 use Rattle.run_model.specs.declared.outcome.Outcome.TheVariants.{Parse, Ill}
-use Rattle.run_model.specs.Inputs.{Input, Reading, NoScript, Flawed, Runs, AreReadings}
+use Rattle.run_model.specs.Inputs.{Input, Reading, NoScript, Flawed, Runs, AreReadings, Rise}
 use Rattle.run_model.specs.Page.{SavedFile, event_line, page, saves}
 use Rattle.run_model.specs.Cost.{cost_of_run}
 use Rattle.run_model.specs.Turns.{BeginsLog}
@@ -36,6 +36,17 @@ use Rattle.rv_runs.proofs.Joining.{length_more, absorbed_on, joins_first, one_li
 use Rattle.rv_runs.proofs.Lawful.{Lawful, lawful}
 use Rattle.rv_runs.proofs.OneBatch.{costs_all}
 use Rattle.rv_runs.proofs.Sharing.{AllHaveRun, mine_of, in_range, accounts}
+
+-- there is a reading of each script, so one batch of all has some
+as_many : (scripts : List (List ℕ)) (readings : List Reading) → AreReadings scripts readings → length readings ≡ length scripts
+as_many [] [] h = refl
+as_many [] (r ∷ rs) h = absurd h
+as_many (s ∷ ss) [] h = absurd h
+as_many (s ∷ ss) (r ∷ rs) h = ap suc (as_many ss rs h.1)
+
+one_batch : (scripts : List (List ℕ)) (readings : List Reading) → 1 ≤ length scripts → AreReadings scripts readings →
+    Rise 0 (length readings) (length readings ∷ [])
+one_batch scripts readings some h = let e = as_many scripts readings h in (omega (arith, e, some), refl)
 
 -- ---- works as parts
 module _ {E : Type 0} (worker : E → Worker) (scripts : List (List ℕ)) where
@@ -229,11 +240,11 @@ module _ {E : Type 0} (worker : E → Worker) (leaf : ℕ) (scripts : List (List
     law : Lawful leaf files turns asked new log parts
     law = lawful leaf files turns asked new log parts all_accounts (in_range leaf (input_of files turns) parts log runs make_up)
 
-    pub came_to : (outcomes : List (List Outcome)) (text : List ℕ) (saved : List SavedFile) → outcomes ≡ map (λ t. t.outcomes.items) told
+    pub came_to : 1 ≤ length scripts → (outcomes : List (List Outcome)) (text : List ℕ) (saved : List SavedFile) → outcomes ≡ map (λ t. t.outcomes.items) told
         → text ≡ page_told told log asked → saved ≡ flat_map saved_by_session told
         → CameTo leaf scripts files turns asked old new log outcomes text saved
     unfolding page saves cost_of_run
-    came_to outcomes text saved os ts ss =
+    came_to some outcomes text saved os ts ss =
         let q = law in
         let told_are = same_told worker scripts works told g.all_told in
         let same : map outcomes_of parts ≡ outcomes = outcomes_by parts ∙ (ap (λ (l : List Transcript). map (λ t. t.outcomes.items) l) told_are ∙ sym os) in
@@ -241,6 +252,8 @@ module _ {E : Type 0} (worker : E → Worker) (leaf : ℕ) (scripts : List (List
           readings = q.readings;
           run = record {
             read = subst (λ (l : List (List ℕ)). AreReadings l q.readings) (same_bytes worker scripts [] scripts works told refl g.all_told g.numbers g.long) q.read;
+            batches = one_batch scripts q.readings some
+                (subst (λ (l : List (List ℕ)). AreReadings l q.readings) (same_bytes worker scripts [] scripts works told refl g.all_told g.numbers g.long) q.read);
             legal = q.legal;
             page_shown = ts ∙ ap (λ (l : List ℕ). l ++ cond asked (flat_map event_line log) []) (ap (flat_map text_of_session) (sym told_are) ∙ (sym (text_by parts) ∙ q.text));
             files_put = ss ∙ (ap (flat_map saved_by_session) (sym told_are) ∙ (sym (saved_by parts) ∙ q.saved));

@@ -26,7 +26,7 @@ use Rattle.run_model.specs.declared.outcome.Outcome.{Outcome}
 use Rattle.run_model.specs.declared.outcome.Outcome.TheVariants.{Done, Ill as ILL, NoMemory as NO_MEMORY}
 use Rattle.run_model.specs.Names.{compare, lookup, set}
 use Rattle.run_model.specs.Inputs.{Input}
-use Rattle.run_model.specs.Due.{Workspace, Early, Due, Nothing, Value, Values, Explained, Refused, printed, due, due_of_command, due_of_value, due_of_drop, due_on_snapshot, outcome_due, gives}
+use Rattle.run_model.specs.Due.{Workspace, Early, Due, Nothing, Value, Values, Bytes, Explained, Refused, printed, due, due_of_command, due_of_value, due_of_drop, due_on_snapshot, outcome_due, gives}
 use Rattle.run_model.specs.Outcomes.{IsNotEarly, lets_of}
 use Rattle.run_model.specs.Legal.{CommitsItem}
 use Rattle.run_model.specs.Turns.{change_taken}
@@ -81,6 +81,7 @@ at_saves : (at : Place) (name : List ℕ) (e : Expr) (d : Due) → done_save (CO
 at_saves at name e Nothing = refl
 at_saves at name e (Value r) = refl
 at_saves at name e (Values gifts) = refl
+at_saves at name e (Bytes bytes) = refl
 at_saves at name e (Explained steps) = refl
 at_saves at name e (Refused when o) = refl
 

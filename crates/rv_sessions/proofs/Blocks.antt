@@ -20,7 +20,7 @@ use Rattle.lang_model.specs.State.{State, assigned}
 use Rattle.lang_model.specs.Tokens.{same_text}
 use Rattle.run_model.specs.declared.outcome.Outcome.{Outcome}
 use Rattle.run_model.specs.Blocks.{AnyCompound}
-use Rattle.run_model.specs.Due.{When, Late, Gifts, Due, Nothing, Value, Values, Explained, Refused, late, with_gift, behind_let, due_of_answer, due_of_lets}
+use Rattle.run_model.specs.Due.{When, Late, Gifts, Due, Nothing, Value, Values, Bytes, Explained, Refused, late, with_gift, behind_let, due_of_answer, due_of_lets}
 use Rattle.run_model.specs.Outcomes.{IsNotEarly}
 use Rattle.run_model.proofs.Assigning.{goes_on, stops, costs_on}
 use Rattle.rv_eval.specs.Names.{rel_of, state_of, AllStand}
@@ -48,6 +48,7 @@ late_not_early : (d : Due) → IsNotEarly (late d)
 late_not_early Nothing = tt
 late_not_early (Value r) = tt
 late_not_early (Values gifts) = tt
+late_not_early (Bytes bytes) = tt
 late_not_early (Explained steps) = tt
 late_not_early (Refused when o) = tt
 
@@ -55,6 +56,7 @@ gift_not_early : (gift : List ℕ × Relation) (d : Due) → IsNotEarly d → Is
 gift_not_early gift Nothing h = tt
 gift_not_early gift (Value r) h = tt
 gift_not_early gift (Values gifts) h = tt
+gift_not_early gift (Bytes bytes) h = tt
 gift_not_early gift (Explained steps) h = tt
 gift_not_early gift (Refused when o) h = h
 

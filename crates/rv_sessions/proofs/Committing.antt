@@ -133,27 +133,27 @@ same_change log taken (n ∷ ns) =
     change_of seen found = record { name = n; seen = seen; found = found }
 
 -- ---- assignments
-puts_assign : (s c : ℕ) (list : List (List ℕ × Rel)) → AllByRecursion (λ e. is_assign e.act ≡ true) (assigns s c list)
+pub puts_assign : (s c : ℕ) (list : List (List ℕ × Rel)) → AllByRecursion (λ e. is_assign e.act ≡ true) (assigns s c list)
 puts_assign s c [] = tt
 puts_assign s c (g ∷ gs) = (refl, puts_assign s c gs)
 
-puts_by : (s c : ℕ) (list : List (List ℕ × Rel)) → AllByRecursion (λ e. (e.session ≡ s) × (e.command ≡ c)) (assigns s c list)
+pub puts_by : (s c : ℕ) (list : List (List ℕ × Rel)) → AllByRecursion (λ e. (e.session ≡ s) × (e.command ≡ c)) (assigns s c list)
 puts_by s c [] = tt
 puts_by s c (g ∷ gs) = ((refl, refl), puts_by s c gs)
 
-puts_stand : (w : Worker) (s c : ℕ) (list : List (List ℕ × Rel)) → GiftsStand w list → AllByRecursion (EventStands w) (assigns s c list)
+pub puts_stand : (w : Worker) (s c : ℕ) (list : List (List ℕ × Rel)) → GiftsStand w list → AllByRecursion (EventStands w) (assigns s c list)
 puts_stand w s c [] h = tt
 puts_stand w s c (g ∷ gs) h = ((h.0, tt), puts_stand w s c gs h.1)
 
-assigned_last : (s c : ℕ) (list : List (List ℕ × Rel)) → AllByRecursion (λ e. is_assign e.act ≡ true → false ≡ false) (assigns s c list)
+pub assigned_last : (s c : ℕ) (list : List (List ℕ × Rel)) → AllByRecursion (λ e. is_assign e.act ≡ true → false ≡ false) (assigns s c list)
 assigned_last s c [] = tt
 assigned_last s c (g ∷ gs) = ((λ h. refl), assigned_last s c gs)
 
-assigned_values : (w : Worker) (s c : ℕ) (list : List (List ℕ × Rel)) → HaveValues (set_of w) (flat_map (λ e. rel_of e.act) (assigns s c list)) (gifts_in w list)
+pub assigned_values : (w : Worker) (s c : ℕ) (list : List (List ℕ × Rel)) → HaveValues (set_of w) (flat_map (λ e. rel_of e.act) (assigns s c list)) (gifts_in w list)
 assigned_values w s c [] = tt
 assigned_values w s c (g ∷ gs) = (refl, assigned_values w s c gs)
 
-assigned_deeds : (w : Worker) → HasSizes w → (s c : ℕ) (list : List (List ℕ × Rel)) → GiftsStand w list → map (λ e. deed_of e.act) (assigns s c list) ≡ giving (gifts_in w list)
+pub assigned_deeds : (w : Worker) → HasSizes w → (s c : ℕ) (list : List (List ℕ × Rel)) → GiftsStand w list → map (λ e. deed_of e.act) (assigns s c list) ≡ giving (gifts_in w list)
 assigned_deeds w z s c [] h = refl
 assigned_deeds w z s c (g ∷ gs) h =
     let a = z.rows g.1 h.0 in

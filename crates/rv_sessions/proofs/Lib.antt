@@ -13,7 +13,8 @@ pub mod Building
 pub mod Acting
 pub mod Telling
 pub mod Assigning
-pub mod Loading
+pub mod Loads
+pub mod SavesAll
 pub mod Asking
 pub mod Given
 pub mod Defined

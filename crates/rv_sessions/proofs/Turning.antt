@@ -19,7 +19,7 @@ use Rattle.run_model.specs.Versions.{version}
 use Rattle.run_model.proofs.Places.{version-append}
 use Rattle.rv_workspace.specs.declared.refused.CommitRefused.{CommitRefused}
 use Rattle.rv_workspace.specs.Committing.{commit_entries}
-use Rattle.rv_sessions.specs.Turning.{TookTurn, ReadTurn, AssignTurn, versions_in}
+use Rattle.rv_sessions.specs.Turning.{TookTurn, ReadTurn, PutTurn, versions_in}
 
 -- what stands in an archive stands where that was learnt
 pub learnt : (archive mine new : Worker) (log : List Event) → HistoryStands archive log → Learns mine archive new → HistoryStands new log
@@ -74,23 +74,22 @@ read_took s c wanted old new before mid after log history (Ok view) idle m b a e
 read_took s c wanted old new before mid after log history (Err refused) idle m b a e d n h t =
     (log, took old new before mid after log history [] idle m b a (with_nothing log history d) h t)
 
--- ---- an assignment
-pub assign_begins : (s c : ℕ) (name : List ℕ) (rel : Rel) (result : Result (Unit {0}) NoMemory) (log history : List Event)
-    (mid before : PASS) → mid ≡ with_turn log before → OnOk result (history ≡ log ++ assign_of s c (name, rel) ∷ []) →
+-- ---- assignments
+pub put_begins : (puts : List Event) (result : Result (Unit {0}) NoMemory) (log history : List Event)
+    (mid before : PASS) → mid ≡ with_turn log before → OnOk result (history ≡ log ++ puts) →
     OnErr result (history ≡ log) → BeginsLog mid.seen history
-assign_begins s c name rel (Ok done) log history mid before m e d =
-    begins_back log history (assign_of s c (name, rel) ∷ []) mid before m e
-assign_begins s c name rel (Err refused) log history mid before m e d =
+put_begins puts (Ok done) log history mid before m e d = begins_back log history puts mid before m e
+put_begins puts (Err refused) log history mid before m e d =
     begins_back log history [] mid before m (with_nothing log history d)
 
-pub assign_took : (s c : ℕ) (name : List ℕ) (rel : Rel) (old new : Worker) (before mid after : PASS)
+pub put_took : (puts : List Event) (old new : Worker) (before mid after : PASS)
     (log history : List Event) (result : Result (Unit {0}) NoMemory) → before.turn ≡ false →
     mid ≡ with_turn log before → BeginsLog before.seen log → after ≡ with_log history mid →
-    OnOk result (history ≡ log ++ assign_of s c (name, rel) ∷ []) → OnErr result (history ≡ log) →
-    HistoryStands new log → Stays old new → AssignTurn s c name rel old new before after result
-assign_took s c name rel old new before mid after log history (Ok done) idle m b a e d h t =
-    (log, took old new before mid after log history (assign_of s c (name, rel) ∷ []) idle m b a e h t)
-assign_took s c name rel old new before mid after log history (Err refused) idle m b a e d h t =
+    OnOk result (history ≡ log ++ puts) → OnErr result (history ≡ log) →
+    HistoryStands new log → Stays old new → PutTurn puts old new before after result
+put_took puts old new before mid after log history (Ok done) idle m b a e d h t =
+    (log, took old new before mid after log history puts idle m b a e h t)
+put_took puts old new before mid after log history (Err refused) idle m b a e d h t =
     (log, took old new before mid after log history [] idle m b a (with_nothing log history d) h t)
 
 -- ---- the read of a block

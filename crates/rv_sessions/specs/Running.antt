@@ -82,13 +82,15 @@ pub record RanSoFar (leaf : ℕ) (input : Input) (script : Script) (s : ℕ) (ol
       snaps_after (state_taken no_names (set_of new) ts) 1 no_names script.items.items outcomes
   pub snaps_stand : KeptStand new snaps
   pub few : length outcomes ≤ length script.items.items
-  pub events : AreEvents input script s (steps_taken no_names (set_of new) ts script outcomes) (map entry_of (puts_of ts))
+  pub events : AreEvents input script s (steps_taken no_names (set_of new) ts script outcomes)
+      (map entry_of (puts_of ts))
   pub outcomes_due : AreOutcomes input script (steps_taken no_names (set_of new) ts script outcomes)
   pub values : AllByRecursion (HasValues input script (set_of new) (puts_of ts))
       (steps_taken no_names (set_of new) ts script outcomes)
   pub commits : CommitsFrom (change_taken [] ts) 1 script.items.items outcomes
   pub text_is : text ≡ replies input script s (steps_taken no_names (set_of new) ts script outcomes)
   pub saved_is : saved ≡ saves_of input script (steps_taken no_names (set_of new) ts script outcomes)
-  pub room : MakesAtMost (cost_of_steps leaf input script (steps_taken no_names (set_of new) ts script outcomes)) old new
+  pub room : MakesAtMost (cost_of_steps leaf input script (steps_taken no_names (set_of new) ts script outcomes))
+      old new
   pub missed : RoseBy (nodes_in outcomes) old.misses new.misses
   pub keeps : Keeps old new

@@ -36,8 +36,8 @@ pub record RanScript (leaf : ℕ) (input : Input) (s : ℕ) (script : Script) (o
       (steps_taken no_names (set_of new) ts script told.outcomes.items)
   pub saved : saved_all told.saves.items ≡ saves_of input script
       (steps_taken no_names (set_of new) ts script told.outcomes.items)
-  pub room : MakesAtMost (cost_of_steps leaf input script (steps_taken no_names (set_of new) ts script told.outcomes.items))
-      old new
+  pub room : MakesAtMost (cost_of_steps leaf input script
+      (steps_taken no_names (set_of new) ts script told.outcomes.items)) old new
   pub missed : RoseBy (nodes_in told.outcomes.items) old.misses new.misses
 
 -- a session that took no turn, made no node and missed none

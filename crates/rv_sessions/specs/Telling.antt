@@ -1,7 +1,9 @@
 -- What a transcript tells, and what a session is given, in the words of runs.
 use Rattle.std.specs.Prelude.{◌≡◌, ◌≢◌, ℕ, false, List, [], ◌∷◌, ◌++◌, map, Option, Some, None, Result, Ok, Err}
 use Rattle.std.specs.List.{flat_map}
-use Rattle.run_model.specs.declared.outcome.Outcome.TheVariants.{NoMemory as NO_MEMORY}
+use Rattle.run_model.specs.declared.outcome.Outcome.TheVariants.{TooLong, NoMemory as NO_MEMORY}
+use Rattle.k2_file.specs.declared.refused.WriteRefused.{WriteRefused}
+use Rattle.k2_file.specs.declared.refused.WriteRefused.TheVariants.{TooLong as TOO_LONG, NoMemory as WRITE_NO_MEMORY}
 use Rattle.run_model.specs.Inputs.{Input}
 use Rattle.run_model.specs.Page.{SavedFile}
 use Rattle.run_model.specs.Filed.{file_of, saved_of}
@@ -39,3 +41,8 @@ TellsRefusal s c outcome (Ok told) =
     (told.outcome ≡ outcome) × (text_of told.reply ≡ prefix s c ++ refusal_text outcome) × (told.save ≡ None)
     × (outcome ≢ NO_MEMORY)
 TellsRefusal s c outcome (Err lack) = Unit {0}
+
+-- a file of all relations that is not written is told with its bits; or memory ran out
+abbrev pub TellsNotWritten : ℕ → ℕ → WriteRefused → Result TOLD NO_MEMORY_ERROR → Type 0
+TellsNotWritten s c (TOO_LONG bits) result = TellsRefusal s c (TooLong bits) result
+TellsNotWritten s c WRITE_NO_MEMORY result = (lack : NO_MEMORY_ERROR) × (result ≡ Err lack)

@@ -14,7 +14,7 @@ use Rattle.rv_workspace.specs.declared.reading.View.{View}
 use Rattle.rv_workspace.specs.declared.refused.DropRefused.{DropRefused}
 use Rattle.rv_workspace.specs.declared.refused.CommitRefused.{CommitRefused}
 use Rattle.rv_workspace.specs.Books.{HistoryStands}
-use Rattle.rv_workspace.specs.Entering.{read_of, assign_of, drop_entries, IsDropAnswer}
+use Rattle.rv_workspace.specs.Entering.{read_of, assign_of, assigns, drop_entries, IsDropAnswer}
 use Rattle.rv_workspace.specs.Committing.{change_since, commit_entries, IsCommitAnswer}
 use Rattle.rv_workspace.specs.Picking.{picked}
 use Rattle.rv_sessions.specs.declared.turns.BlockView.{BlockView}
@@ -57,11 +57,19 @@ CommitTurn s c reads list old new before after result =
     (log : List Event) × TookTurn old new before after log (commit_entries s c list result)
     × IsCommitAnswer (change_since reads log) result
 
--- an assignment; or memory ran out, and nothing was put
+-- these events were put; or memory ran out, and nothing was put
+abbrev pub PutTurn : List Event → Worker → Worker → PASS → PASS → Result (Unit {0}) NoMemory → Type 0
+PutTurn puts old new before after (Ok done) = (log : List Event) × TookTurn old new before after log puts
+PutTurn puts old new before after (Err refused) = (log : List Event) × TookTurn old new before after log []
+
+-- an assignment
 abbrev pub AssignTurn : ℕ → ℕ → List ℕ → Rel → Worker → Worker → PASS → PASS → Result (Unit {0}) NoMemory → Type 0
-AssignTurn s c name rel old new before after (Ok done) =
-    (log : List Event) × TookTurn old new before after log (assign_of s c (name, rel) ∷ [])
-AssignTurn s c name rel old new before after (Err refused) = (log : List Event) × TookTurn old new before after log []
+AssignTurn s c name rel = PutTurn (assign_of s c (name, rel) ∷ [])
+
+-- all assignments of a list
+abbrev pub AssignAllTurn : ℕ → ℕ → List (List ℕ × Rel) → Worker → Worker → PASS → PASS → Result (Unit {0}) NoMemory
+    → Type 0
+AssignAllTurn s c list = PutTurn (assigns s c list)
 
 -- a drop of a name: its removal, or its read where it is unknown; or memory ran out, and nothing was put
 abbrev pub DropTurn : ℕ → ℕ → List ℕ → Worker → Worker → PASS → PASS → Result (Unit {0}) DropRefused → Type 0

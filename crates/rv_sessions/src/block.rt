@@ -77,8 +77,8 @@ fn not_committed(alloc: Global, by: By, why: CommitRefused) -> Result<Told, NoMe
     }
 }
 
-/// Runs ATOMIC: one read of the names that the block reads, with their versions; the values; and the commit, which makes
-/// all assignments in one turn, or none where a version has changed.
+/// Runs ATOMIC: one read of the names that the block reads, with their versions; the values; and the commit, which
+/// makes all assignments in one turn, or none where a version has changed.
 pub(crate) fn atomic<E: Engine, W: Wait>(
     alloc: Global,
     by: By,

@@ -11,7 +11,9 @@ use crate::by::By;
 use crate::dropping::{drop_name, show_at, snap};
 use crate::explain::explained;
 use crate::form::Form;
-use crate::giving::{let_value, load, relation};
+use crate::giving::{let_value, relation};
+use crate::loading::{load, load_all};
+use crate::saving::save_all;
 use crate::showing::{save, show};
 use crate::snapshots::Snapshots;
 use crate::told::Told;
@@ -132,6 +134,8 @@ fn run_command<E: Engine, W: Wait>(
                 alloc, by, checked, turns, book, wait, pass, engine, value, file,
             )
         }
+        Command::LoadAll { file } => load_all(alloc, by, files, book, wait, pass, engine, file),
+        Command::SaveAll { file } => save_all(alloc, by, book, wait, pass, engine, file),
         Command::Atomic { lets } => {
             atomic(alloc, by, checked, turns, book, wait, pass, engine, lets)
         }

@@ -10,6 +10,8 @@ mod form;
 mod giving;
 mod item;
 mod listing;
+mod loading;
+mod saving;
 mod session;
 mod showing;
 mod snapshots;

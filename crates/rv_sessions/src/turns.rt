@@ -4,7 +4,7 @@ ghost use Rattle.std.specs.Option.{option_map};
 ghost use Rattle.rel_model.specs.Worker.{Stands};
 ghost use Rattle.run_model.specs.Versions.{version};
 ghost use Rattle.turn_book.specs.Views.{IsReady};
-ghost use Rattle.rv_sessions.specs.Turning.{ReadTurn, BlockTurn, AssignTurn, CommitTurn, DropTurn};
+ghost use Rattle.rv_sessions.specs.Turning.{ReadTurn, BlockTurn, AssignTurn, AssignAllTurn, CommitTurn, DropTurn};
 
 use crate::by::By;
 use lang_model::syntax::Name;
@@ -57,6 +57,29 @@ pub(crate) fn assign_turn<E: Engine, W: Wait>(
     let mut taken = book.take(wait, pass);
     let _ = taken.history();
     let assigned = taken.assign(alloc, by.session, by.command, name, rel, engine);
+    book.put(pass, taken);
+    assigned
+}
+
+/// Gives each name of a list its relation.
+pub(crate) fn assign_all_turn<E: Engine, W: Wait>(
+    alloc: Global,
+    by: By,
+    book: &TurnBook<Book<E>>,
+    wait: &W,
+    pass: &mut Pass<Book<E>>,
+    engine: &mut E,
+    list: Vec<(Name, Rel)>,
+) -> Result<(), NoMemory>
+    requires ready { IsReady book.now pass.old }
+    requires kin { pass.old.house ≡ (E.worker engine.old).house }
+    requires stand { All (λ gift. Stands (E.worker engine.old) gift.1) list.items }
+    ensures assigned { AssignAllTurn by.session by.command list.items (E.worker engine.old)
+        (E.worker engine.new) pass.old pass.new result }
+{
+    let mut taken = book.take(wait, pass);
+    let _ = taken.history();
+    let assigned = taken.assign_all(alloc, by.session, by.command, list, engine);
     book.put(pass, taken);
     assigned
 }

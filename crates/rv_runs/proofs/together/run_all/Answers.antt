@@ -1,5 +1,5 @@
 -- All passes are joined, so the book can be closed; and what its sessions told makes the run.
-use Rattle.std.proofs.Common.{rules, ◌≡◌, ◌∙◌, true, List, length, map, sym, subst}
+use Rattle.std.proofs.Common.{rules, arith, ◌≡◌, ◌∙◌, true, List, length, map, sym, subst}
 use Rattle.std.proofs.lemmas.List.{length-map}
 use Rattle.run_model.specs.declared.event.Event.{Event}
 use Rattle.turn_book.specs.Logs.{MakeUp}
@@ -51,6 +51,7 @@ returns g c =
       kept_spare = kept.1;
       kept_made = kept.2;
     })
+    (let n = length-map c.args.scripts.now (λ v. v.items) in omega (arith, n, c.requires.some))
     _ _ _
     c.in_ok-outcomes.ensures.outcomes
     (c.in_ok-page.ensures ∙ (λ i. page_told (c.as_slice.ensures.value i) (c.as_slice-2.ensures.value i) c.args.history))

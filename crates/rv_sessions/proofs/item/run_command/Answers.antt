@@ -110,3 +110,19 @@ returns-in-Explain g c =
     let i = input_of a.files.now a.turns in
     subst (λ x. DidItem g.E.Core.least i a.checked.now a.by.session a.by.command (COMMAND x) (w a.engine.now) (w c.explained.new.engine) a.pass.now c.explained.new.pass a.snaps.now a.snaps.now c.explained.result)
     (sym c.in-Explain.is) (c.explained.ensures i a.snaps.now c.requires.stood)
+
+pub returns-in-LoadAll : goal.returns-in-LoadAll
+returns-in-LoadAll g c =
+    let a = c.args in
+    let w = g.E.Core.worker in
+    let i = input_of a.files.now a.turns in
+    subst (λ x. DidItem g.E.Core.least i a.checked.now a.by.session a.by.command (COMMAND x) (w a.engine.now) (w c.load_all.new.engine) a.pass.now c.load_all.new.pass a.snaps.now a.snaps.now c.load_all.result)
+    (sym c.in-LoadAll.is) (c.load_all.ensures i a.checked.now a.snaps.now (given_files a.files.now a.turns) c.requires.stood)
+
+pub returns-in-SaveAll : goal.returns-in-SaveAll
+returns-in-SaveAll g c =
+    let a = c.args in
+    let w = g.E.Core.worker in
+    let i = input_of a.files.now a.turns in
+    subst (λ x. DidItem g.E.Core.least i a.checked.now a.by.session a.by.command (COMMAND x) (w a.engine.now) (w c.save_all.new.engine) a.pass.now c.save_all.new.pass a.snaps.now a.snaps.now c.save_all.result)
+    (sym c.in-SaveAll.is) (c.save_all.ensures i a.checked.now a.snaps.now c.requires.stood)

@@ -1,11 +1,13 @@
-use Rattle.rv_sessions.proofs.Turning.{learnt, assign_begins, assign_took}
+use Rattle.std.proofs.Common.{◌∷◌, []}
+use Rattle.rv_workspace.specs.Entering.{assign_of}
+use Rattle.rv_sessions.proofs.Turning.{learnt, put_begins, put_took}
 use Rattle.rv_sessions.proofs.turns.assign_turn.Goals as goal
 
 pub put-requires-clause-begins : goal.put-requires-clause-begins
 put-requires-clause-begins g c =
     let t = c.take-taken in
     let r = c.assign-assigned in
-    assign_begins c.args.by.session c.args.by.command c.args.name c.args.rel r.result t.result.history r.new.self.history t.new.pass c.args.pass.now
+    put_begins (assign_of c.args.by.session c.args.by.command (c.args.name, c.args.rel) ∷ []) r.result t.result.history r.new.self.history t.new.pass c.args.pass.now
     t.ensures.takes r.ensures.entered r.ensures.as_before
 
 pub returns : goal.returns
@@ -14,7 +16,7 @@ returns g c =
     let r = c.assign-assigned in
     let w = g.E.Core.worker in
     record {
-      assigned = assign_took c.args.by.session c.args.by.command c.args.name c.args.rel (w c.args.engine.now) (w r.new.mine)
+      assigned = put_took (assign_of c.args.by.session c.args.by.command (c.args.name, c.args.rel) ∷ []) (w c.args.engine.now) (w r.new.mine)
           c.args.pass.now t.new.pass c.put.new.pass
           t.result.history r.new.self.history r.result c.requires.ready.idle t.ensures.takes t.ensures.begins c.put.ensures
           r.ensures.entered r.ensures.as_before

@@ -1,18 +1,17 @@
-use Rattle.std.proofs.Common.{◌∙◌, Result, map, refl, sym, ap}
+use Rattle.std.proofs.Common.{◌∙◌, Result, map, sym, ap}
 use Rattle.std.specs.Option.{option_map}
 use Rattle.lang_model.specs.declared.syntax.Item.TheVariants.{Command as COMMAND}
 use Rattle.lang_model.specs.declared.syntax.Command.TheVariants.{Load as LOAD}
 use Rattle.run_model.specs.Inputs.{file_named}
-use Rattle.run_model.specs.declared.outcome.Outcome.TheVariants.{NoFile}
 use Rattle.rel_model.specs.declared.NoMemory.{NoMemory as LACK}
 use Rattle.turn_book.specs.Views.{View as PASS}
 use Rattle.rv_sessions.specs.declared.told.Told.{Told}
 use Rattle.rv_sessions.specs.Acting.{DidItem}
 use Rattle.run_model.specs.Filed.{file_of}
-use Rattle.rv_sessions.proofs.Telling.{moved, refused_did}
-use Rattle.rv_sessions.proofs.Loading.{untouched_lacks, no_file}
-use Rattle.rv_sessions.proofs.giving.load.Goals as goal
-use Rattle.rv_sessions.proofs.giving.load.Goals.{in-Some, in-None}
+use Rattle.rv_sessions.proofs.Telling.{moved}
+use Rattle.rv_sessions.proofs.Loads.{load_absent}
+use Rattle.rv_sessions.proofs.loading.load.Goals as goal
+use Rattle.rv_sessions.proofs.loading.load.Goals.{in-Some, in-None}
 
 pub returns : goal.returns
 returns g c input script snaps f stood =
@@ -25,9 +24,6 @@ returns g c input script snaps f stood =
       | in-Some b ↦ moved P m.engine b.loaded.new.engine m.pass b.loaded.new.pass m.result b.loaded.result b.engine-is b.pass-is b.result-is
           (b.loaded.ensures input script snaps (found ∙ ap (option_map (λ x. x.now)) b.in-Some.is) stood)
       | in-None b ↦ moved P m.engine a.engine.now m.pass a.pass.now m.result b.no_file.result b.engine-is b.pass-is b.result-is
-          (refused_did g.E.Core.least input script a.by.session a.by.command (COMMAND (LOAD a.name.now a.file.now)) (w a.engine.now) (w a.engine.now) a.pass.now a.pass.now snaps snaps
-          (NoFile a.file.now) b.no_file.result b.no_file.ensures
-          (no_file g.E.Core.least input script a.by.session a.by.command a.name.now a.file.now (w a.engine.now) a.pass.now snaps stood
-          (found ∙ ap (option_map (λ x. x.now)) b.in-None.is) a.file.now refl)
-          (untouched_lacks g.E.Core.least input script a.by.session a.by.command a.name.now a.file.now (w a.engine.now) a.pass.now snaps stood))
+          (load_absent g.E.Core.least input script a.by.session a.by.command (w a.engine.now) a.pass.now snaps stood a.name.now a.file.now
+          (found ∙ ap (option_map (λ x. x.now)) b.in-None.is) b.no_file.result b.no_file.ensures)
     ]

@@ -1,0 +1,24 @@
+use Rattle.rv_workspace.specs.Entering.{assigns}
+use Rattle.rv_sessions.proofs.Turning.{learnt, put_begins, put_took}
+use Rattle.rv_sessions.proofs.turns.assign_all_turn.Goals as goal
+
+pub put-requires-clause-begins : goal.put-requires-clause-begins
+put-requires-clause-begins g c =
+    let t = c.take-taken in
+    let r = c.assign_all-assigned in
+    put_begins (assigns c.args.by.session c.args.by.command c.args.list.items) r.result t.result.history r.new.self.history t.new.pass c.args.pass.now
+    t.ensures.takes r.ensures.entered r.ensures.as_before
+
+pub returns : goal.returns
+returns g c =
+    let t = c.take-taken in
+    let r = c.assign_all-assigned in
+    let w = g.E.Core.worker in
+    record {
+      assigned = put_took (assigns c.args.by.session c.args.by.command c.args.list.items) (w c.args.engine.now) (w r.new.mine)
+          c.args.pass.now t.new.pass c.put.new.pass
+          t.result.history r.new.self.history r.result c.requires.ready.idle t.ensures.takes t.ensures.begins c.put.ensures
+          r.ensures.entered r.ensures.as_before
+          (learnt (w t.result.archive) (w c.args.engine.now) (w r.new.mine) t.result.history c.history.ensures.book.stand r.ensures.mine)
+          r.ensures.mine.stays;
+    }

@@ -1,0 +1,232 @@
+//! The commands that load relations from files.
+ghost use Rattle.std.specs.Prelude.{◌≡◌, ℕ, List, map, Some};
+ghost use Rattle.lang_model.specs.declared.syntax.Script.{Script as SCRIPT};
+ghost use Rattle.lang_model.specs.declared.syntax.Item.TheVariants.{Command as COMMAND};
+ghost use Rattle.lang_model.specs.declared.syntax.Command.TheVariants.{Load as LOAD, LoadAll as LOAD_ALL};
+ghost use Rattle.rel_model.specs.Worker.{Keeps, MakesAtMost};
+ghost use Rattle.run_model.specs.Cost.{where_value, where_values, cost_of_loaded, cost_of_gifts};
+ghost use Rattle.run_model.specs.Filed.{file_of};
+ghost use Rattle.run_model.specs.Inputs.{Input, file_named};
+ghost use Rattle.run_model.specs.declared.outcome.Outcome.TheVariants.{NoFile as NO_FILE, BadFile as BAD_FILE};
+ghost use Rattle.turn_book.specs.Views.{IsReady};
+ghost use Rattle.rv_sessions.specs.Acting.{DidItem};
+ghost use Rattle.rv_sessions.specs.Reading.{lack_in, outcome_of_file, ReadOne, ReadAll, due_of_one_in, due_of_all_in};
+ghost use Rattle.rv_sessions.specs.Standing.{Kept, KeptStand};
+ghost use Rattle.rv_sessions.specs.Telling.{TellsRefusal};
+
+use crate::by::By;
+use crate::files::file_named;
+use crate::told::{Told, refused};
+use crate::turns::{assign_all_turn, assign_turn};
+use k2_file::read_k2;
+use k2_parts::begins_shared;
+use k2_read::{read_k2_all, read_k2_named};
+use lang_model::syntax::{FileText, Name};
+use rel_model::engine_trait::Engine;
+use rel_model::{Lack, NoMemory, Rel};
+use run_model::files::Loaded;
+use run_model::outcome::{BadFile, Outcome};
+use rv_workspace::Book;
+use std::alloc::Global;
+use std::sync::Wait;
+use turn_book::{Pass, TurnBook};
+
+/// What was wanting where bytes were not read, if they have no fault.
+fn lack_of(kind: BadFile) -> Option<Lack>
+    ensures { result ≡ lack_in kind }
+{
+    match kind {
+        BadFile::Full => Some(Lack::Full),
+        BadFile::NoMemory => Some(Lack::NoMemory),
+        BadFile::Short => None,
+        BadFile::Magic => None,
+        BadFile::Sizes => None,
+        BadFile::Height => None,
+        BadFile::Lengths => None,
+        BadFile::ZeroGroup { .. } => None,
+        BadFile::Outside { .. } => None,
+        BadFile::Padding => None,
+        BadFile::Rest => None,
+        BadFile::Quad { .. } => None,
+        BadFile::Names { .. } => None,
+        BadFile::Root { .. } => None,
+        BadFile::Order { .. } => None,
+        BadFile::Missing => None,
+    }
+}
+
+/// The refusal of a file whose bytes fail a test.
+fn bad_file(alloc: Global, by: By, file: &FileText, kind: BadFile) -> Result<Told, NoMemory>
+    ensures { TellsRefusal by.session by.command (BAD_FILE file.now kind) result }
+{
+    let name = file.copied(alloc)?;
+    refused(alloc, by, Outcome::BadFile { name, kind })
+}
+
+/// The refusal of a file that was not read.
+fn not_read(alloc: Global, by: By, file: &FileText, kind: BadFile) -> Result<Told, NoMemory>
+    ensures { TellsRefusal by.session by.command (outcome_of_file file.now kind (lack_in kind)) result }
+{
+    match lack_of(kind) {
+        Some(Lack::Full) => refused(alloc, by, Outcome::Nodes),
+        Some(Lack::NoMemory) => Err(NoMemory),
+        None => bad_file(alloc, by, file, kind),
+    }
+}
+
+/// The relation of a file's bytes, which hold one or, where they begin so, several, of which the one of a name is read.
+fn read_one<E: Engine>(
+    alloc: Global,
+    engine: &mut E,
+    name: &Name,
+    bytes: &[u8],
+) -> Result<Rel, BadFile>
+    ensures read { ReadOne (due_of_one_in name.now bytes.now) (E.worker engine.old) (E.worker engine.new) result }
+    ensures keeps { Keeps (E.worker engine.old) (E.worker engine.new) }
+    ensures room { (file : List ℕ) →
+        MakesAtMost (where_value (due_of_one_in name.now bytes.now file) (cost_of_loaded E.least)) (E.worker engine.old)
+        (E.worker engine.new) }
+{
+    if begins_shared(bytes) {
+        return read_k2_named(alloc, engine, bytes, name);
+    }
+    read_k2(alloc, engine, bytes)
+}
+
+/// All relations of a file's bytes, each with its name.
+fn read_all<E: Engine>(
+    alloc: Global,
+    engine: &mut E,
+    bytes: &[u8],
+) -> Result<Vec<(Name, Rel)>, BadFile>
+    ensures read { ReadAll (due_of_all_in bytes.now) (E.worker engine.old) (E.worker engine.new) result }
+    ensures keeps { Keeps (E.worker engine.old) (E.worker engine.new) }
+    ensures room { (file : List ℕ) →
+        MakesAtMost (where_values (due_of_all_in bytes.now file) (cost_of_gifts E.least)) (E.worker engine.old)
+        (E.worker engine.new) }
+{
+    read_k2_all(alloc, engine, bytes)
+}
+
+/// Gives a name the relation of a file's bytes.
+fn loaded<E: Engine, W: Wait>(
+    alloc: Global,
+    by: By,
+    book: &TurnBook<Book<E>>,
+    wait: &W,
+    pass: &mut Pass<Book<E>>,
+    engine: &mut E,
+    name: &Name,
+    file: &FileText,
+    bytes: &[u8],
+) -> Result<Told, NoMemory>
+    requires ready { IsReady book.now pass.old }
+    requires kin { pass.old.house ≡ (E.worker engine.old).house }
+    ensures { (input : Input) (script : SCRIPT) (snaps : Kept) → file_named input.files file.now ≡ Some bytes.now →
+        KeptStand (E.worker engine.old) snaps →
+        DidItem E.least input script by.session by.command (COMMAND (LOAD name.now file.now)) (E.worker engine.old)
+        (E.worker engine.new) pass.old pass.new snaps snaps result }
+{
+    let _ = &pass;
+    let _ = engine.bottom();
+    let Ok(own) = name.copied(alloc) else {
+        return Err(NoMemory);
+    };
+    let rel = match read_one(alloc, engine, name, bytes) {
+        Ok(rel) => rel,
+        Err(kind) => return not_read(alloc, by, file, kind),
+    };
+    match assign_turn(alloc, by, book, wait, pass, engine, own, rel) {
+        Ok(()) => Ok(Told::done()),
+        Err(lack) => Err(lack),
+    }
+}
+
+/// Gives each name of a file's bytes its relation.
+fn loaded_all<E: Engine, W: Wait>(
+    alloc: Global,
+    by: By,
+    book: &TurnBook<Book<E>>,
+    wait: &W,
+    pass: &mut Pass<Book<E>>,
+    engine: &mut E,
+    file: &FileText,
+    bytes: &[u8],
+) -> Result<Told, NoMemory>
+    requires ready { IsReady book.now pass.old }
+    requires kin { pass.old.house ≡ (E.worker engine.old).house }
+    ensures { (input : Input) (script : SCRIPT) (snaps : Kept) → file_named input.files file.now ≡ Some bytes.now →
+        KeptStand (E.worker engine.old) snaps →
+        DidItem E.least input script by.session by.command (COMMAND (LOAD_ALL file.now)) (E.worker engine.old)
+        (E.worker engine.new) pass.old pass.new snaps snaps result }
+{
+    let _ = &pass;
+    let _ = engine.bottom();
+    let list = match read_all(alloc, engine, bytes) {
+        Ok(list) => list,
+        Err(kind) => return not_read(alloc, by, file, kind),
+    };
+    match assign_all_turn(alloc, by, book, wait, pass, engine, list) {
+        Ok(()) => Ok(Told::done()),
+        Err(lack) => Err(lack),
+    }
+}
+
+/// The refusal of a name of which there is no file.
+fn no_file(alloc: Global, by: By, file: &FileText) -> Result<Told, NoMemory>
+    ensures { TellsRefusal by.session by.command (NO_FILE file.now) result }
+{
+    let name = file.copied(alloc)?;
+    refused(alloc, by, Outcome::NoFile { name })
+}
+
+/// Runs LOAD: the assignment of the relation of the first file of a name.
+pub(crate) fn load<E: Engine, W: Wait>(
+    alloc: Global,
+    by: By,
+    files: &[Loaded],
+    book: &TurnBook<Book<E>>,
+    wait: &W,
+    pass: &mut Pass<Book<E>>,
+    engine: &mut E,
+    name: &Name,
+    file: &FileText,
+) -> Result<Told, NoMemory>
+    requires ready { IsReady book.now pass.old }
+    requires kin { pass.old.house ≡ (E.worker engine.old).house }
+    ensures { (input : Input) (script : SCRIPT) (snaps : Kept) → input.files ≡ map file_of files.now
+        → KeptStand (E.worker engine.old) snaps →
+        DidItem E.least input script by.session by.command (COMMAND (LOAD name.now file.now)) (E.worker engine.old)
+        (E.worker engine.new) pass.old pass.new snaps snaps result }
+{
+    let _ = &pass;
+    match file_named(files, file.bytes()) {
+        Some(bytes) => loaded(alloc, by, book, wait, pass, engine, name, file, bytes),
+        None => no_file(alloc, by, file),
+    }
+}
+
+/// Runs LOAD ALL: the assignments of all relations of the first file of a name, in one turn.
+pub(crate) fn load_all<E: Engine, W: Wait>(
+    alloc: Global,
+    by: By,
+    files: &[Loaded],
+    book: &TurnBook<Book<E>>,
+    wait: &W,
+    pass: &mut Pass<Book<E>>,
+    engine: &mut E,
+    file: &FileText,
+) -> Result<Told, NoMemory>
+    requires ready { IsReady book.now pass.old }
+    requires kin { pass.old.house ≡ (E.worker engine.old).house }
+    ensures { (input : Input) (script : SCRIPT) (snaps : Kept) → input.files ≡ map file_of files.now
+        → KeptStand (E.worker engine.old) snaps →
+        DidItem E.least input script by.session by.command (COMMAND (LOAD_ALL file.now)) (E.worker engine.old)
+        (E.worker engine.new) pass.old pass.new snaps snaps result }
+{
+    let _ = &pass;
+    match file_named(files, file.bytes()) {
+        Some(bytes) => loaded_all(alloc, by, book, wait, pass, engine, file, bytes),
+        None => no_file(alloc, by, file),
+    }
+}
