@@ -1,7 +1,7 @@
 -- Each block of a script assigns at least one name, since the grammar asks for one.
 use Rattle.std.specs.Prelude.{slice_get}
 use Rattle.std.proofs.Common.{◌≡◌, ◌-◌, ℕ, zero, suc, List, [], ◌∷◌, Option, Some, None, refl, ap, subst, ◌∙◌, arith}
-use Rattle.lang_model.specs.declared.syntax.Command.TheVariants.{Relation as RELATION, Let, Print as PRINT, List as LIST, Count, Typed, Remove as DROP, Snap, At, Load, Save, Atomic, Explain}
+use Rattle.lang_model.specs.declared.syntax.Command.TheVariants.{Relation as RELATION, Let, Print as PRINT, List as LIST, Count, Typed, Remove as DROP, Snap, At, Load, Save, LoadAll, SaveAll, Atomic, Explain}
 use Rattle.lang_model.specs.declared.syntax.Item.{Item}
 use Rattle.lang_model.specs.declared.syntax.Item.TheVariants.{Function, Program, Command as COMMAND}
 use Rattle.lang_model.specs.declared.syntax.Let.{Let as BlockLet}
@@ -43,6 +43,8 @@ item_has (COMMAND (Snap name)) tokens rest lets s e = no_block lets e
 item_has (COMMAND (At at name x)) tokens rest lets s e = no_block lets e
 item_has (COMMAND (Load name file)) tokens rest lets s e = no_block lets e
 item_has (COMMAND (Save x file)) tokens rest lets s e = no_block lets e
+item_has (COMMAND (LoadAll file)) tokens rest lets s e = no_block lets e
+item_has (COMMAND (SaveAll file)) tokens rest lets s e = no_block lets e
 item_has (COMMAND (Explain x)) tokens rest lets s e = no_block lets e
 item_has (Function at name params body) tokens rest lets s e = no_block lets e
 item_has (Program at name params decls body result) tokens rest lets s e = no_block lets e

@@ -4,7 +4,7 @@
 use Rattle.std.specs.Prelude.{slice_get}
 use Rattle.std.proofs.Common.{◌≡◌, ◌≢◌, ◌<◌, ◌+◌, ℕ, zero, suc, eqb, List, [], ◌∷◌, ◌++◌, map, filter, Option, Some, None, refl, sym, ap, subst, ◌∙◌, inl, inr, arith, add-zero}
 use Rattle.std.proofs.lemmas.Bool.{cases_Bool, eq-eqb, ne_eqb}
-use Rattle.lang_model.specs.declared.syntax.Command.TheVariants.{Relation as RELATION, Let, Print as PRINT, List as LIST, Count, Typed, Remove as DROP, Snap, At, Load, Save, Atomic, Explain}
+use Rattle.lang_model.specs.declared.syntax.Command.TheVariants.{Relation as RELATION, Let, Print as PRINT, List as LIST, Count, Typed, Remove as DROP, Snap, At, Load, Save, LoadAll, SaveAll, Atomic, Explain}
 use Rattle.lang_model.specs.declared.syntax.Item.{Item}
 use Rattle.lang_model.specs.declared.syntax.Item.TheVariants.{Function, Program, Command as COMMAND}
 use Rattle.lang_model.specs.declared.syntax.Let.{Let as BlockLet}
@@ -167,6 +167,8 @@ acts_as_block input script lets (COMMAND (Snap name)) e = absurd (no_block lets 
 acts_as_block input script lets (COMMAND (At at name x)) e = absurd (no_block lets e)
 acts_as_block input script lets (COMMAND (Load name file)) e = absurd (no_block lets e)
 acts_as_block input script lets (COMMAND (Save x file)) e = absurd (no_block lets e)
+acts_as_block input script lets (COMMAND (LoadAll file)) e = absurd (no_block lets e)
+acts_as_block input script lets (COMMAND (SaveAll file)) e = absurd (no_block lets e)
 acts_as_block input script lets (COMMAND (Explain x)) e = absurd (no_block lets e)
 acts_as_block input script lets (Function at name params body) e = absurd (no_block lets e)
 acts_as_block input script lets (Program at name params decls body result) e = absurd (no_block lets e)

@@ -56,14 +56,11 @@ pub record IsBlock (input : Input) (outcomes : List (List Outcome)) (s c : ℕ) 
   pub is_own : slice_get outcomes (s - 1) ≡ Some own
   pub came : slice_get own (c - 1) ≡ Some outcome
 
--- the first of the names that a block reads whose version behind the later events is not that behind the earlier ones
-abbrev pub changed_between : List Event → List Event → List BlockLet → Option Change
-changed_between earlier later lets =
-    first_changed (λ name. version name earlier) (λ name. version name later) (block_reads lets)
-
--- the same between the read of command c of session s and its second event, before which these events stand
+-- the first of the names that a block reads whose version before the second event of command c of session s, before
+-- which these events stand, is not that before its read
 abbrev pub change_before : List Event → List Event → ℕ → ℕ → List BlockLet → Option Change
-change_before history before s c lets = changed_between (events_before s c history) before lets
+change_before history before s c lets =
+    first_changed (λ name. version name (events_before s c history)) (λ name. version name before) (block_reads lets)
 
 -- these events assign these gifts, in order: each gives its name a relation that stands in the words with the value
 abbrev pub AssignInWords : List ℕ → List Event → Gifts → Type 0
