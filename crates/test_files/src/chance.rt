@@ -122,7 +122,7 @@ fn maybe_changed(chance: &mut Chance, number: u64) -> u64 {
 }
 
 /// Adds the lowest bytes of a number, so many, the most significant first.
-fn put_number(rt: &impl Abort, out: &mut Vec<u8>, number: u64, count: u32)
+pub(crate) fn put_number(rt: &impl Abort, out: &mut Vec<u8>, number: u64, count: u32)
     requires { count ≤ 8 }
 {
     'bytes: for i in 0..count {

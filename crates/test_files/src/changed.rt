@@ -280,7 +280,13 @@ fn files_by_chance_are_answered_as_the_ten_tests_say(rt: HostRuntime) {
 }
 
 /// A copy of bytes, with some bits of one byte turned over.
-fn with_turned(rt: &impl Abort, alloc: Global, bytes: &[u8], at: usize, bits: u8) -> Vec<u8> {
+pub(crate) fn with_turned(
+    rt: &impl Abort,
+    alloc: Global,
+    bytes: &[u8],
+    at: usize,
+    bits: u8,
+) -> Vec<u8> {
     let mut out = Vec::new(alloc);
     'bytes: for i in 0..bytes.len() {
         put(

@@ -6,11 +6,25 @@ mod chance;
 #[cfg(test)]
 mod changed;
 #[cfg(test)]
+mod entry;
+#[cfg(test)]
 mod hex;
 #[cfg(test)]
 mod made;
 #[cfg(test)]
 mod read;
+#[cfg(test)]
+mod several;
+#[cfg(test)]
+mod several_bad;
+#[cfg(test)]
+mod several_faults;
+#[cfg(test)]
+mod several_full;
+#[cfg(test)]
+mod several_made;
+#[cfg(test)]
+mod several_slow;
 #[cfg(test)]
 mod slow;
 #[cfg(test)]

@@ -3,6 +3,8 @@ ghost use Rattle.std.specs.Prelude.{◌≤◌, IsTrue};
 ghost use Rattle.rel_model.specs.Listed.{AreWithin};
 ghost use Rattle.rel_model.specs.Worker.{Stands, Keeps};
 
+use lang_model::limits::NAME_LIMIT;
+use lang_model::syntax::Name;
 use rel_model::engine_trait::Engine;
 use rel_model::{Rel, SIZE_LIMIT, Shape};
 use std::alloc::Global;
@@ -45,5 +47,14 @@ pub(crate) fn told<E: Engine>(
     match engine.from_pairs(alloc, shape, pairs) {
         Ok(rel) => rel,
         Err(_) => panic!(rt; "refused"),
+    }
+}
+
+/// The name with these bytes.
+pub(crate) fn name_of(rt: &impl Abort, alloc: Global, bytes: &[u8]) -> Name {
+    assert!(rt; bytes.len() >= 1 && bytes.len() <= NAME_LIMIT);
+    match Name::new(alloc, bytes) {
+        Ok(name) => name,
+        Err(_) => panic!(rt; "no memory"),
     }
 }

@@ -33,7 +33,7 @@ fn byte_at(bytes: &[u8], place: u64) -> u8 {
 }
 
 /// The number in so many bytes from a place on, the most significant first.
-fn number(bytes: &[u8], from: u64, count: u64) -> u64 {
+pub(crate) fn number(bytes: &[u8], from: u64, count: u64) -> u64 {
     let mut value: u64 = 0;
     'bytes: for i in 0..count {
         let byte = u64::from(byte_at(bytes, from.wrapping_add(i)));
@@ -58,7 +58,7 @@ fn bytes_for(bits: u64) -> u64 {
 }
 
 /// The least number from 1 on whose power of two is at least both sizes.
-fn height_of(rows: u64, cols: u64) -> u64 {
+pub(crate) fn height_of(rows: u64, cols: u64) -> u64 {
     let mut side: u64 = 2;
     'heights: for height in 1..64u64 {
         if rows <= side && cols <= side {

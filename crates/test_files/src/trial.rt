@@ -1,7 +1,7 @@
 //! What any engine is put to, and an engine over a table of its own for each.
 ghost use Rattle.rel_model.specs.Views.{IsOf};
 
-use crate::{changed, read, written};
+use crate::{changed, read, several, several_faults, several_full, written};
 use fork_quads::{Crew, OpenGate};
 use pair_table::{PairTable, Seat};
 use rel_engine::Works;
@@ -22,6 +22,19 @@ pub(crate) enum Trial {
     FilesByChance,
     BitsTurned,
     RelationsByChance,
+    WorkedFile,
+    TablesOfRelations,
+    SixtyFour,
+    GreatestFull,
+    SeveralByChance,
+    SeveralFaults,
+    TooHigh,
+    WordsAsNames,
+    WorkedBits,
+    SeveralBits,
+    TwoNumbers,
+    BadFilesMakeNothing,
+    OneNameAlone,
 }
 
 /// Puts an engine to a trial.
@@ -37,22 +50,46 @@ fn put_to<E: Engine>(rt: &impl Abort, alloc: Global, engine: &mut E, trial: Tria
         Trial::FilesByChance => changed::files_by_chance(rt, alloc, engine),
         Trial::BitsTurned => changed::bits_turned(rt, alloc, engine),
         Trial::RelationsByChance => changed::relations_by_chance(rt, alloc, engine),
+        Trial::WorkedFile => several::worked_file(rt, alloc, engine),
+        Trial::TablesOfRelations => several::tables_of_relations(rt, alloc, engine),
+        Trial::SixtyFour => several::sixty_four(rt, alloc, engine),
+        Trial::GreatestFull => several::greatest_full(rt, alloc, engine),
+        Trial::SeveralByChance => several::several_by_chance(rt, alloc, engine),
+        Trial::SeveralFaults => several_faults::several_faults(rt, alloc, engine),
+        Trial::TooHigh => several_faults::too_high(rt, alloc, engine),
+        Trial::WordsAsNames => several_faults::words_as_names(rt, alloc, engine),
+        Trial::WorkedBits => several_faults::worked_bits(rt, alloc, engine),
+        Trial::SeveralBits => several_faults::several_bits(rt, alloc, engine),
+        Trial::TwoNumbers => several_faults::two_numbers(rt, alloc, engine),
+        Trial::BadFilesMakeNothing => several_full::bad_files_make_nothing(rt, alloc, engine),
+        Trial::OneNameAlone => several_full::one_name_alone(rt, alloc, engine),
     }
 }
 
-/// A table of 2^16 node words, and its first seat.
-fn table(rt: &impl Abort, alloc: Global) -> (PairTable, Seat)
+/// A table of so many node words, by their logarithm, and its first seat.
+fn table(rt: &impl Abort, alloc: Global, bits: u32) -> (PairTable, Seat)
     ensures { IsOf result.1 result.0 }
 {
-    match PairTable::make(alloc, 16, 1) {
+    assert!(rt; bits >= 10 && bits <= 24);
+    match PairTable::make(alloc, bits, 1) {
         Ok(made) => made,
         Err(_) => panic!(rt; "no memory"),
     }
 }
 
-/// Puts an engine of one worker over a table of its own to a trial.
+/// Puts an engine of one worker over a table of its own, of 2^16 node words, to a trial.
 pub(crate) fn on_an_engine<R: Threads + Abort + Sync>(rt: &R, alloc: Global, trial: Trial) {
-    let (table, seat) = table(rt, alloc);
+    on_a_table(rt, alloc, 16, trial);
+}
+
+/// Puts an engine of one worker over a table of its own, of so many node words by their logarithm, to a trial.
+pub(crate) fn on_a_table<R: Threads + Abort + Sync>(
+    rt: &R,
+    alloc: Global,
+    bits: u32,
+    trial: Trial,
+) {
+    let (table, seat) = table(rt, alloc, bits);
     let mut engine = Works::new(Crew::new(rt, &table, seat, 1, &OpenGate));
     put_to(rt, alloc, &mut engine, trial);
 }

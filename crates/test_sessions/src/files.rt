@@ -45,7 +45,8 @@ fn changed(alloc: Global, place: usize, byte: u8, longer: usize) -> Result<Vec<u
 /// The place of a byte and the byte there, how many bytes there are at the end, and the kind of the fault.
 const BAD: &[(usize, u8, usize, &str)] = &[
     (0, 82, 0, "short"),
-    (3, 50, 1, "magic"),
+    (3, 51, 1, "magic"),
+    (3, 50, 1, "short"),
     (4, 2, 1, "sizes"),
     (12, 3, 1, "height"),
     (20, 8, 1, "lengths"),

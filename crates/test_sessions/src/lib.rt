@@ -7,6 +7,8 @@ mod blocks;
 #[cfg(test)]
 mod commands;
 #[cfg(test)]
+mod counter;
+#[cfg(test)]
 mod files;
 #[cfg(test)]
 mod folded;
@@ -15,8 +17,12 @@ mod held;
 #[cfg(test)]
 mod made;
 #[cfg(test)]
+mod no_room;
+#[cfg(test)]
 mod racing;
 #[cfg(test)]
 mod rows;
+#[cfg(test)]
+mod several;
 #[cfg(test)]
 mod turns;

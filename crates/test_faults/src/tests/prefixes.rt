@@ -9,7 +9,7 @@ use std::alloc::Global;
 use std::test::Fail;
 
 /// One item of each kind, in which each line of the grammar stands.
-const ITEMS: [&str; 16] = [
+const ITEMS: [&str; 18] = [
     "F(R,S) = -(R|S^)&[R,S]*G(R)\\trans(R)/syq(R,S).",
     "G(R) DECL a, D = PROD(R,R), E = SUM(R,R) BEG a = p-1(D); WHILE empty(a) DO IF eq(a,R) THEN a = i-2(E); ELSE IF R THEN FI; b = --R FI OD RETURN a^^ END.",
     "H(R) BEG RETURN R END.",
@@ -23,6 +23,8 @@ const ITEMS: [&str; 16] = [
     "AT S PRINT A.",
     "LOAD A \"a file.k2\".",
     "SAVE A|B \"b.k2\".",
+    "LOAD ALL \"a file.k2\".",
+    "SAVE ALL \"b.k2\".",
     "ATOMIC LET A = (B) COMMIT.",
     "ATOMIC LET A = F(B)^; LET C1 = A|B; COMMIT.",
     "EXPLAIN quot(A)\\ubd(A,B).",

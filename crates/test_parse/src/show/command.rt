@@ -101,6 +101,14 @@ pub fn push_command(alloc: Global, out: &mut String, command: &Command) -> Resul
             push_value(alloc, out, "SAVE", value)?;
             push_file(out, file)
         }
+        Command::LoadAll { file } => {
+            out.push_str("LOAD ALL")?;
+            push_file(out, file)
+        }
+        Command::SaveAll { file } => {
+            out.push_str("SAVE ALL")?;
+            push_file(out, file)
+        }
         Command::Atomic { lets } => {
             out.push_str("ATOMIC")?;
             push_lets(alloc, out, lets.as_slice())?;

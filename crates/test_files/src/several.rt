@@ -1,0 +1,389 @@
+//! Files of several relations: each is read as its relations, by each of their names, and written as it was.
+#![tactic(auto, using(rel_model::proofs::Workers::keeps_stands, rel_model::proofs::Workers::keeps_trans, rel_model::proofs::Workers::gives_stands))]
+
+ghost use Rattle.std.specs.List.{AllByRecursion};
+ghost use Rattle.rel_model.specs.Worker.{Stands};
+
+use crate::chance::{Chance, pairs_within};
+use crate::entry::{Entry, Listed, entries_of, with_all_pairs, without_pairs};
+use crate::hex::bytes_of;
+use crate::made::{name_of, put, told};
+use crate::several_made::file_of;
+use crate::slow::number;
+use crate::trial::{Trial, on_an_engine};
+use k2_read::{read_k2_all, read_k2_named};
+use k2_write::write_k2_all;
+use lang_model::syntax::Name;
+use rel_model::core_trait::Core;
+use rel_model::engine_trait::Engine;
+use rel_model::{Rel, Shape};
+use run_model::outcome::BadFile;
+use std::alloc::Global;
+use std::process::Abort;
+
+/// Asserts that relations that were read are those that are listed, in their order.
+fn are_entries<E: Engine>(
+    rt: &impl Abort,
+    alloc: Global,
+    engine: &mut E,
+    list: &[(Name, Rel)],
+    entries: &[Entry],
+) {
+    assert!(rt; list.len() == entries.len(), "so many relations");
+    'relations: for i in 0..list.len() {
+        let Some(wanted) = entries.get(i) else {
+            panic!(rt; "a relation too many")
+        };
+        let (rows, cols) = (wanted.rows, wanted.cols);
+        let rel = told(rt, alloc, engine, rows, cols, wanted.pairs.as_slice());
+        assert!(rt; list[i].0.bytes() == wanted.name.as_slice(), "name {i}");
+        assert!(rt; list[i].1 == rel, "relation {i}");
+    }
+}
+
+/// Asserts what comes of bytes and a name.
+pub(crate) fn is_named<E: Engine>(
+    rt: &impl Abort,
+    alloc: Global,
+    engine: &mut E,
+    bytes: &[u8],
+    name: &[u8],
+    wanted: Result<Rel, BadFile>,
+) {
+    let name = name_of(rt, alloc, name);
+    let read = read_k2_named(alloc, engine, bytes, &name);
+    assert!(rt; read == wanted, "{read:?} for {wanted:?} by name");
+}
+
+/// Asserts that each relation of a file is read by its name, and that another name is missing.
+fn are_named<E: Engine>(
+    rt: &impl Abort,
+    alloc: Global,
+    engine: &mut E,
+    bytes: &[u8],
+    entries: &[Entry],
+) {
+    'relations: for entry in entries {
+        let (rows, cols) = (entry.rows, entry.cols);
+        let rel = told(rt, alloc, engine, rows, cols, entry.pairs.as_slice());
+        is_named(rt, alloc, engine, bytes, entry.name.as_slice(), Ok(rel));
+    }
+    is_named(
+        rt,
+        alloc,
+        engine,
+        bytes,
+        b"z_".as_slice(),
+        Err(BadFile::Missing),
+    );
+}
+
+/// Asserts that relations are written as these bytes.
+fn are_written<E: Engine>(
+    rt: &impl Abort,
+    alloc: Global,
+    engine: &mut E,
+    list: &[(Name, Rel)],
+    bytes: &[u8],
+)
+    requires { AllByRecursion (λ e. Stands (E.worker engine.old) e.1) list.now }
+{
+    match write_k2_all(alloc, engine, list) {
+        Ok(again) => assert!(rt; again.as_slice() == bytes, "{bytes:?}"),
+        Err(_) => panic!(rt; "not written"),
+    }
+}
+
+/// Asserts that the relations of a file are written as its bytes.
+pub(crate) fn is_written_again<E: Engine>(
+    rt: &impl Abort,
+    alloc: Global,
+    engine: &mut E,
+    bytes: &[u8],
+) {
+    match read_k2_all(alloc, engine, bytes) {
+        Ok(list) => are_written(rt, alloc, engine, list.as_slice(), bytes),
+        Err(_) => panic!(rt; "not read"),
+    }
+}
+
+/// Asserts that bytes are the file of relations: they are read as these, by each of their names, and written again.
+pub(crate) fn are_of<E: Engine>(
+    rt: &impl Abort,
+    alloc: Global,
+    engine: &mut E,
+    bytes: &[u8],
+    entries: &[Entry],
+) {
+    match read_k2_all(alloc, engine, bytes) {
+        Ok(list) => are_entries(rt, alloc, engine, list.as_slice(), entries),
+        Err(fault) => panic!(rt; "{fault:?} of {bytes:?}"),
+    }
+    are_named(rt, alloc, engine, bytes, entries);
+    is_written_again(rt, alloc, engine, bytes);
+}
+
+/// The relations {1:1; 4:4} of four elements and {1:1} of two, and their file.
+const WORKED: &[Listed] = &[("A", 4, 4, &[(0, 0), (3, 3)]), ("B", 2, 2, &[(0, 0)])];
+
+pub(crate) const WORKED_FILE: &str = "52564b32 00000003 00000002
+    00000001 00000000 00000000 00000000
+    00000000 00000000 00000000 00000001
+    00000002 00000000 00000000 00000003
+    01 41 00000004 00000004 00000004
+    01 42 00000002 00000002 00000002";
+
+/// Asserts that the file of two relations, worked out by hand, is read and written byte for byte.
+pub(crate) fn worked_file<E: Engine>(rt: &impl Abort, alloc: Global, engine: &mut E) {
+    let bytes = bytes_of(rt, alloc, WORKED_FILE);
+    assert!(rt; bytes.len() == 88);
+    let entries = entries_of(rt, alloc, WORKED);
+    are_of(rt, alloc, engine, bytes.as_slice(), entries.as_slice());
+}
+
+#[test]
+fn the_worked_file_is_read_and_written_byte_for_byte(rt: HostRuntime) {
+    on_an_engine(&rt, rt.alloc(), Trial::WorkedFile);
+}
+
+/// Asserts that the file of relations has so many quadrants, and is read and written.
+fn has_quadrants<E: Engine>(
+    rt: &impl Abort,
+    alloc: Global,
+    engine: &mut E,
+    entries: &[Entry],
+    quadrants: u64,
+) {
+    let bytes = file_of(rt, alloc, entries);
+    let found = number(bytes.as_slice(), 4, 4);
+    assert!(rt; found == quadrants, "{found} quadrants for {quadrants}");
+    are_of(rt, alloc, engine, bytes.as_slice(), entries);
+}
+
+/// Relations, and how many squares they have together, each counted once.
+const SQUARES: &[(&[Listed], u64)] = &[
+    (&[], 0),
+    // sizes with no pair
+    (&[("A", 0, 0, &[])], 0),
+    (&[("A", 0, 9, &[])], 0),
+    (&[("A", 16_777_216, 0, &[])], 0),
+    (&[("A", 16_777_216, 16_777_216, &[])], 0),
+    (&[("A", 0, 0, &[]), ("a", 8, 9, &[])], 0),
+    // one pair: a square at each height
+    (&[("A", 1, 1, &[(0, 0)])], 1),
+    (&[("A", 8, 8, &[(7, 7)])], 3),
+    (&[("A", 9, 1, &[(8, 0)])], 4),
+    (&[("A", 1, 9, &[(0, 8)])], 4),
+    (&[("A", 16_777_216, 1, &[(16_777_215, 0)])], 24),
+    (&[("A", 1, 16_777_216, &[(0, 16_777_215)])], 24),
+    // opposite corners: two at each height but the highest
+    (&[("A", 8, 8, &[(0, 0), (7, 7)])], 5),
+    (
+        &[(
+            "A",
+            16_777_216,
+            16_777_216,
+            &[(0, 0), (16_777_215, 16_777_215)],
+        )],
+        47,
+    ),
+    // all squares shared, at one height and at two
+    (
+        &[
+            ("A", 9, 9, &[(0, 0), (8, 8)]),
+            ("B", 9, 9, &[(0, 0), (8, 8)]),
+        ],
+        4,
+    ),
+    (
+        &[
+            ("A", 1, 1, &[(0, 0)]),
+            ("B", 2, 2, &[(0, 0)]),
+            ("C", 0, 0, &[]),
+        ],
+        1,
+    ),
+    (&[("A", 8, 8, &[(0, 0)]), ("B", 9, 9, &[(0, 0)])], 4),
+    // none
+    (&[("A", 8, 8, &[(0, 0)]), ("B", 8, 8, &[(7, 7)])], 6),
+    (&[("A", 2, 2, &[(0, 1)]), ("B", 2, 2, &[(1, 0)])], 2),
+    // half: the lower squares are shared, and the higher are not
+    (&[("A", 4, 4, &[(0, 0)]), ("B", 4, 4, &[(2, 2)])], 3),
+    (
+        &[
+            ("A", 16_777_216, 16_777_216, &[(0, 0)]),
+            ("B", 16_777_216, 16_777_216, &[(4096, 4096)]),
+        ],
+        36,
+    ),
+    // names in the order of their bytes: upper before lower case, and shorter ones first
+    (
+        &[
+            ("A", 1, 1, &[]),
+            ("A1", 1, 1, &[]),
+            ("AB", 1, 1, &[]),
+            ("A_", 1, 1, &[]),
+            ("a", 1, 1, &[]),
+        ],
+        0,
+    ),
+];
+
+/// Asserts that tables of relations are read and written, with so many quadrants.
+pub(crate) fn tables_of_relations<E: Engine>(rt: &impl Abort, alloc: Global, engine: &mut E) {
+    'tables: for &(table, quadrants) in SQUARES {
+        let entries = entries_of(rt, alloc, table);
+        has_quadrants(rt, alloc, engine, entries.as_slice(), quadrants);
+    }
+}
+
+#[test]
+fn relations_that_share_all_none_or_half_have_each_square_once(rt: HostRuntime) {
+    on_an_engine(&rt, rt.alloc(), Trial::TablesOfRelations);
+}
+
+/// The relation of a number below 64, of sizes 8 by 8: all pairs, or the one of this number.
+fn numbered(rt: &impl Abort, alloc: Global, number: u32, is_full: bool) -> Entry {
+    let name = [
+        b'N',
+        b'0'.wrapping_add((number / 10 % 10) as u8),
+        b'0'.wrapping_add((number % 10) as u8),
+    ];
+    if is_full {
+        return with_all_pairs(rt, alloc, name.as_slice(), 8, 8);
+    }
+    let mut relation = without_pairs(rt, alloc, name.as_slice(), 8, 8);
+    put(rt, &mut relation.pairs, (number / 8, number % 8));
+    relation
+}
+
+/// Asserts that 64 relations are read and written: of all pairs of 8 by 8 elements, which share their three squares,
+/// and of one pair each, which have the four squares of height 1, the sixteen of height 2 and 64 of their own.
+pub(crate) fn sixty_four<E: Engine>(rt: &impl Abort, alloc: Global, engine: &mut E) {
+    'tables: for (is_full, quadrants) in [(true, 3), (false, 84)] {
+        let mut entries = Vec::new(alloc);
+        'relations: for number in 0..64u32 {
+            let relation = numbered(rt, alloc, number, is_full);
+            put(rt, &mut entries, relation);
+        }
+        has_quadrants(rt, alloc, engine, entries.as_slice(), quadrants);
+    }
+}
+
+#[test]
+fn sixty_four_relations_are_read_and_written(rt: HostRuntime) {
+    on_an_engine(&rt, rt.alloc(), Trial::SixtyFour);
+}
+
+/// Adds the quadrants of the full squares of the heights from 1 to 24, with the numbers from 2 on.
+fn put_full_squares(rt: &impl Abort, out: &mut Vec<u8>) {
+    'heights: for below in 1..25u8 {
+        'quarters: for _ in 0..4u8 {
+            'bytes: for byte in [0, 0, 0, below] {
+                put(rt, out, byte);
+            }
+        }
+    }
+}
+
+/// The header of a file of 24 quadrants and one relation, and the relation: its greatest sizes and number 25.
+const FULL_HEADER: &str = "52564b32 00000018 00000001";
+
+const FULL_ROOT: &str = "01 4c 01000000 01000000 00000019";
+
+/// Asserts that all pairs of the greatest sizes are read from 24 quadrants, each four times the one before, and written
+/// so.
+pub(crate) fn greatest_full<E: Engine>(rt: &impl Abort, alloc: Global, engine: &mut E) {
+    let mut bytes = bytes_of(rt, alloc, FULL_HEADER);
+    put_full_squares(rt, &mut bytes);
+    'bytes: for byte in bytes_of(rt, alloc, FULL_ROOT) {
+        put(rt, &mut bytes, byte);
+    }
+    let bytes = bytes.as_slice();
+    let Ok(all) = engine.full(Shape {
+        rows: 16_777_216,
+        cols: 16_777_216,
+    }) else {
+        panic!(rt; "refused")
+    };
+    is_named(rt, alloc, engine, bytes, b"L".as_slice(), Ok(all));
+    is_written_again(rt, alloc, engine, bytes);
+}
+
+#[test]
+fn all_pairs_of_the_greatest_sizes_are_24_quadrants(rt: HostRuntime) {
+    on_an_engine(&rt, rt.alloc(), Trial::GreatestFull);
+}
+
+/// The next of the sizes from which relations by chance have theirs.
+fn next_size(chance: &mut Chance) -> u32 {
+    match chance.below(8) {
+        0 => 0,
+        1 => 1,
+        2 => 2,
+        3 => 8,
+        4 => 9,
+        5 => 31,
+        6 => 200,
+        _ => 16_777_216,
+    }
+}
+
+/// A relation by chance, under a name of two letters.
+fn by_chance(rt: &impl Abort, alloc: Global, chance: &mut Chance, number: u8) -> Entry {
+    let name = [b'R', b'a'.wrapping_add(number)];
+    let (rows, cols) = (next_size(chance), next_size(chance));
+    let mut relation = without_pairs(rt, alloc, name.as_slice(), rows, cols);
+    if rows != 0 && cols != 0 {
+        let count = chance.below(12);
+        relation.pairs = pairs_within(rt, alloc, chance, rows, cols, count);
+    }
+    relation
+}
+
+/// The pairs of a relation once more, for a larger one.
+fn with_pairs_of(rt: &impl Abort, alloc: Global, other: &Entry, number: u8) -> Entry {
+    let name = [b'R', b'a'.wrapping_add(number)];
+    let (rows, cols) = (other.rows.max(300), other.cols.max(3));
+    let mut relation = without_pairs(rt, alloc, name.as_slice(), rows, cols);
+    'pairs: for pair in other.pairs.as_slice() {
+        put(rt, &mut relation.pairs, *pair);
+    }
+    relation
+}
+
+/// Relations by chance, so many, of which some have the pairs of an earlier one.
+pub(crate) fn entries_by_chance(
+    rt: &impl Abort,
+    alloc: Global,
+    chance: &mut Chance,
+    count: u8,
+) -> Vec<Entry> {
+    let mut entries: Vec<Entry> = Vec::new(alloc);
+    'relations: for number in 0..count {
+        let is_again = chance.is_once_in(3);
+        let relation = match entries.as_slice().first() {
+            Some(other) if is_again => with_pairs_of(rt, alloc, other, number),
+            _ => by_chance(rt, alloc, chance, number),
+        };
+        put(rt, &mut entries, relation);
+    }
+    entries
+}
+
+/// Asserts that relations by chance are written and read back.
+pub(crate) fn several_by_chance<E: Engine>(rt: &impl Abort, alloc: Global, engine: &mut E) {
+    let mut chance = Chance { state: 4 };
+    'files: for i in 0..40u32 {
+        let count = (i % 7) as u8;
+        let entries = entries_by_chance(rt, alloc, &mut chance, count);
+        let entries = entries.as_slice();
+        let bytes = file_of(rt, alloc, entries);
+        are_of(rt, alloc, engine, bytes.as_slice(), entries);
+    }
+}
+
+#[test]
+fn several_relations_by_chance_are_read_and_written(rt: HostRuntime) {
+    on_an_engine(&rt, rt.alloc(), Trial::SeveralByChance);
+}
