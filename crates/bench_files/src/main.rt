@@ -2,17 +2,20 @@
 //! PAIRS`, in tables of 2^BITS words, of a relation of 2^HEIGHT rows and columns.
 //!
 //! Times are of the processor, in nanoseconds, so that what else runs on the machine adds little to them. The tasks are
-//! `random`, so many pairs by chance written and read, and `full`, all pairs; `matrix` and `listing` of so many pairs
-//! by chance; and `check`, which writes and reads and tells no time.
+//! `random`, so many pairs by chance written and read, and `full`, all pairs; `shared`, pairs by chance in a file of
+//! version 2, read as a whole and then by its name; `matrix` and `listing` of so many pairs by chance; and `check`,
+//! which writes and reads a file of each version and tells no time.
 #![tactic(auto)]
 
 mod chance;
+mod several;
 
 ghost use Rattle.std.specs.Prelude.{◌≡◌, ◌≤◌, ◌<◌, IfSome};
 ghost use Rattle.rel_model.specs.Relation.{size_limit};
 ghost use Rattle.rel_model.specs.Worker.{Stands};
 
 use crate::chance::pairs_within;
+use crate::several::{read_a, read_last, write_several};
 use fork_quads::{Crew, OpenGate};
 use k2_file::{read_k2, write_k2};
 use pair_table::PairTable;
@@ -36,10 +39,19 @@ enum Task {
     Listing,
 }
 
-/// A task, and the sizes and the number of pairs of its relation.
+/// How a file is written and read: as version 1; as version 2, and read as a whole; or the same, and read by a name.
+#[derive(Clone, Copy, PartialEq, Eq)]
+enum Form {
+    One,
+    Several,
+    OneOfSeveral,
+}
+
+/// A task with the form of its file, and the sizes and the number of pairs of its relation.
 #[derive(Clone, Copy)]
 struct Work {
     task: Task,
+    form: Form,
     side: u32,
     pairs: u64,
 }
@@ -89,7 +101,10 @@ fn measure_writing<R: Print + CpuClock, E: Engine>(
     requires { Stands (E.worker engine.old) rel }
 {
     let start = rt.process_cpu_time()?.as_nanos();
-    let answer = write_k2(alloc, engine, rel);
+    let answer = match work.form {
+        Form::One => write_k2(alloc, engine, rel),
+        _ => write_several(alloc, engine, rel),
+    };
     let time = rt.process_cpu_time()?.as_nanos().saturating_sub(start);
     let Ok(bytes) = answer else {
         println!(rt; "not written")?;
@@ -113,7 +128,11 @@ fn measure_reading<R: Print + CpuClock, E: Engine>(
     bytes: &[u8],
 ) -> io::Result<()> {
     let start = rt.process_cpu_time()?.as_nanos();
-    let answer = read_k2(alloc, engine, bytes);
+    let answer = match work.form {
+        Form::One => read_k2(alloc, engine, bytes),
+        Form::Several => read_last(alloc, engine, bytes),
+        Form::OneOfSeveral => read_a(alloc, engine, bytes),
+    };
     let time = rt.process_cpu_time()?.as_nanos().saturating_sub(start);
     let Ok(rel) = answer else {
         return println!(rt; "not read");
@@ -194,7 +213,30 @@ fn second_table<R: Print + CpuClock + Threads + Sync>(
     let gate = OpenGate;
     let mut engine = Works::new(Crew::new(rt, &table, seat, 1, &gate));
     measure_reading(rt, alloc, &mut engine, work, bytes)?;
-    measure_reading(rt, alloc, &mut engine, work, bytes)
+    let form = match work.form {
+        Form::One => Form::One,
+        _ => Form::OneOfSeveral,
+    };
+    measure_reading(rt, alloc, &mut engine, Work { form, ..work }, bytes)
+}
+
+/// Writes a relation in one table and reads its file in another, or shows it.
+fn both_tables<R: Print + CpuClock + Threads + Sync>(
+    rt: &R,
+    alloc: Global,
+    bits: u32,
+    work: Work,
+) -> io::Result<()>
+    requires low { 10 ≤ bits }
+    requires high { bits ≤ 24 }
+    requires some { 0 < work.side }
+    requires few { work.side ≤ size_limit }
+{
+    let bytes = first_table(rt, alloc, bits, work)?;
+    match work.task {
+        Task::Matrix | Task::Listing => Ok(()),
+        _ => second_table(rt, alloc, bits, work, bytes.as_slice()),
+    }
 }
 
 /// The next word as a number, or 0.
@@ -205,15 +247,16 @@ fn number(word: Option<String>) -> u64 {
     }
 }
 
-/// The task of a name.
-fn task_of(word: Option<String>) -> Option<Task> {
+/// The task of a name, and the form of its file.
+fn task_of(word: Option<String>) -> Option<(Task, Form)> {
     let word = word?;
     match word.as_str() {
-        "check" => Some(Task::Check),
-        "random" => Some(Task::Random),
-        "full" => Some(Task::Full),
-        "matrix" => Some(Task::Matrix),
-        "listing" => Some(Task::Listing),
+        "check" => Some((Task::Check, Form::One)),
+        "random" => Some((Task::Random, Form::One)),
+        "shared" => Some((Task::Random, Form::Several)),
+        "full" => Some((Task::Full, Form::One)),
+        "matrix" => Some((Task::Matrix, Form::One)),
+        "listing" => Some((Task::Listing, Form::One)),
         _ => None,
     }
 }
@@ -235,7 +278,7 @@ fn main(rt: HostRuntime) -> io::Result<()> {
     let task = task_of(words.next());
     let height = number(words.next());
     let pairs = number(words.next());
-    let Some(task) = task else {
+    let Some((task, form)) = task else {
         return println!(rt; "usage: bench_files BITS TASK HEIGHT PAIRS");
     };
     if bits < 10 || bits > 24 || height > 24 {
@@ -243,10 +286,16 @@ fn main(rt: HostRuntime) -> io::Result<()> {
     }
     let alloc = rt.alloc();
     let side = side_of(height);
-    let work = Work { task, side, pairs };
-    let bytes = first_table(&rt, alloc, bits as u32, work)?;
-    match task {
-        Task::Matrix | Task::Listing => Ok(()),
-        _ => second_table(&rt, alloc, bits as u32, work, bytes.as_slice()),
+    let work = Work {
+        task,
+        form,
+        side,
+        pairs,
+    };
+    both_tables(&rt, alloc, bits as u32, work)?;
+    if task == Task::Check {
+        let form = Form::Several;
+        return both_tables(&rt, alloc, bits as u32, Work { form, ..work });
     }
+    Ok(())
 }
