@@ -11,11 +11,13 @@ FROM is one of
              or with --names any names; lines that begin with # or %, and empty lines, are passed over
     matrix   a row a line: 0 or . for no pair and 1 for a pair, blanks and commas between them or none
     market   a Matrix Market file of the coordinate form: a pair for each entry that is not zero
-    k2       a relation file of the program
+    k2       a relation file of the program; of several relations the one of --name is taken, or the only one
     reply    a page of the program: its first reply to PRINT or LIST, or that of --reply S.C
 and TO is edges, matrix, market, k2, or
-    rel      a REL item for a script, of the relation --name
-INPUT - is standard input. Without OUTPUT the text goes to standard output; k2 wants an OUTPUT.
+    rel      a REL item for a script, of the relation --name; of a file of several relations without --name an item each
+    all      a relation file of several relations: all of such a file, or the one relation, which gets the name --name
+INPUT - is standard input. Without OUTPUT the text goes to standard output; k2 and all want an OUTPUT. The name is R where
+no --name is said.
 
 Options: --names FILE has the names of rows and columns, a name a line, that of element 1 first; --rows FILE and
 --columns FILE do where they are not the same. From edges, names that are not in the file yet are added to it. To edges,
@@ -29,14 +31,14 @@ import sys
 from pathlib import Path
 
 sys.dont_write_bytecode = True
-from relations import SIZE_LIMIT, Bad, Relation, add_names, content_of, guarded, k2, lines_of  # noqa: E402
-from relations import need_names, read_k2, read_reply, stop, take_names  # noqa: E402
+from relations import SIZE_LIMIT, Bad, Relation, add_names, content_of, guarded, is_shared, k2, lines_of  # noqa: E402
+from relations import need_names, read_k2, read_reply, read_shared, shared, stop, take_names  # noqa: E402
 
 SCRIPT_LIMIT = 2**20
 LINE = 100
 KEYWORDS = (
     "REL LET PRINT LIST COUNT TYPE DROP SNAP AT LOAD SAVE DECL PROD SUM BEG END RETURN WHILE DO OD IF THEN ELSE FI "
-    "ATOMIC COMMIT EXPLAIN L O I Ln1 On1 L1n O1n dom ran trans refl epsi point atom init next inj empty unival "
+    "ALL ATOMIC COMMIT EXPLAIN L O I Ln1 On1 L1n O1n dom ran trans refl epsi point atom init next inj empty unival "
     "less hasse quot syq eq incl ubd lbd least greatest sup inf"
 ).split()
 
@@ -182,15 +184,23 @@ def market(relation, _options):
 
 # ---- scripts
 
+def word_of(name):
+    """A name that is a word, R where there is none."""
+    if name is not None and not re.fullmatch(r"[A-Za-z][A-Za-z0-9_]{0,63}", name):
+        raise Bad(f"{name!r} is no name of a relation")
+    return name or "R"
+
+
 def rel(relation, options):
     """A REL item, on one line where it is short, and else with a line for each row."""
-    if not re.fullmatch(r"[A-Za-z][A-Za-z0-9_]{0,63}", options.name) or options.name in KEYWORDS:
-        raise Bad(f"{options.name!r} is no name of a relation")
+    name = word_of(options.name)
+    if name in KEYWORDS:
+        raise Bad(f"{name!r} is no name of a relation")
     by_row = {}
     for row, column in relation.sorted():
         by_row.setdefault(row, []).append(str(column))
     rows = [f"{row}:{','.join(columns)}" for row, columns in by_row.items()]
-    head = f"REL {options.name} {relation.rows} {relation.columns} {{"
+    head = f"REL {name} {relation.rows} {relation.columns} {{"
     text = head + "; ".join(rows) + "}.\n"
     if len(text) > LINE:
         text = head + ";\n  ".join(rows) + "}.\n"
@@ -199,42 +209,60 @@ def rel(relation, options):
     return text
 
 
+def all_rel(relations, options):
+    """The REL items of named relations."""
+    items = [rel(relation, argparse.Namespace(**{**vars(options), "name": name})) for name, relation in relations]
+    if sum(map(len, items)) > SCRIPT_LIMIT:
+        raise Bad(f"the items have {sum(map(len, items))} bytes, and a script at most {SCRIPT_LIMIT}")
+    return "".join(items)
+
+
+def all_k2(relations, _options):
+    """The bytes of a relation file of several relations."""
+    return shared(relations)
+
+
 READERS = {"edges": read_edges, "matrix": read_matrix, "market": read_market, "k2": read_k2, "reply": read_reply}
 WRITERS = {"edges": edges, "matrix": matrix, "market": market, "k2": k2, "rel": rel}
+WRITERS_OF_ALL = {"rel": all_rel, "all": all_k2}
 
 
 # ---- the command line
 
-def read(kind, path, options):
-    """The relation of a file, which has names enough and is within the limit."""
+def written(options):
+    """What the relation of the input, or all relations of a file of several, are turned into."""
+    kind, path = options.source, options.input
     content = content_of(path)
+    if kind == "k2" and options.target in WRITERS_OF_ALL and is_shared(content) and options.name is None:
+        return guarded(path, lambda: WRITERS_OF_ALL[options.target](read_shared(content), options))
     relation = guarded(path, lambda: READERS[kind](content, options))
     need_names(relation, options)
     if max(relation.rows, relation.columns) > SIZE_LIMIT:
         stop(path, f"{relation.rows} x {relation.columns} passes the limit {SIZE_LIMIT}")
-    return relation
+    if options.target == "all":
+        return guarded(path, lambda: shared([(word_of(options.name), relation)]))
+    return guarded(path, lambda: WRITERS[options.target](relation, options))
 
 
 def main():
     parser = argparse.ArgumentParser(description=__doc__, formatter_class=argparse.RawDescriptionHelpFormatter)
     parser.add_argument("source", choices=READERS)
-    parser.add_argument("target", choices=WRITERS)
+    parser.add_argument("target", choices=[*WRITERS, "all"])
     add_names(parser)
     parser.add_argument("--size", nargs=2, type=int, metavar=("M", "N"), help="the type of a relation of edges")
-    parser.add_argument("--name", default="R", help="the name of the relation in a REL item")
+    parser.add_argument("--name", help="the name of the relation in a REL item or in a file of several; R where none is said")
     parser.add_argument("input")
     parser.add_argument("output", nargs="?")
     options = parser.parse_args()
-    if options.target == "k2" and not options.output:
-        parser.error("k2 wants an OUTPUT")
+    if options.target in ("k2", "all") and not options.output:
+        parser.error(f"{options.target} wants an OUTPUT")
     take_names(options)
-    relation = read(options.source, options.input, options)
-    text = guarded(options.input, lambda: WRITERS[options.target](relation, options))
+    text = written(options)
     for names in (options.rows, options.columns):
         if names:
             names.write()
     if options.output:
-        content = text if options.target == "k2" else text.encode()
+        content = text if isinstance(text, bytes) else text.encode()
         guarded(options.output, lambda: Path(options.output).write_bytes(content))
     else:
         sys.stdout.write(text)

@@ -10,7 +10,7 @@ IN_WORDS = LETTERS | DIGITS | frozenset(b"_")
 SIGNS = frozenset(b"()[]{},;:.=^-*\\/&|")
 KEYWORDS = frozenset(
     "REL LET PRINT LIST COUNT TYPE DROP SNAP AT LOAD SAVE DECL PROD SUM BEG END RETURN WHILE DO OD IF THEN ELSE FI "
-    "ATOMIC COMMIT EXPLAIN".split()
+    "ATOMIC COMMIT EXPLAIN ALL".split()
 )
 BASE1 = frozenset(
     "L O I Ln1 On1 L1n O1n dom ran trans refl epsi point atom init next inj empty unival less hasse quot".split()
@@ -149,7 +149,7 @@ GRAMMAR = {
         ["LET", "NAME", "=", "expr"],
         *([word, "expr"] for word in ("PRINT", "LIST", "COUNT", "TYPE", "EXPLAIN")),
         ["DROP", "NAME"], ["SNAP", "NAME"], ["AT", "NAME", "PRINT", "expr"],
-        ["LOAD", "NAME", "FILE"], ["SAVE", "expr", "FILE"],
+        ["LOAD", ("alt", [["NAME"], ["ALL"]]), "FILE"], ["SAVE", ("alt", [["expr"], ["ALL"]]), "FILE"],
         ["ATOMIC", "lets", "COMMIT"],
     ])],
     "lets": ["LET", "NAME", "=", "expr", ("opt", [";", ("opt", ["lets"])])],

@@ -7,7 +7,8 @@ This script is no part of the proved program. It is plain Python 3, and wants `t
 package; `tools/check` runs it beside the program.
 
 INPUT is a page of the program, of which the first reply to PRINT or LIST is drawn, or that of --reply S.C; - is a page
-on standard input; and a name that ends in .k2 is a relation file. Without OUTPUT the text goes to standard output.
+on standard input; and a name that ends in .k2 is a relation file, of which, where it has several relations, the one of
+--name is drawn. Without OUTPUT the text goes to standard output.
 
     svg      a square for each pair, on a grid of rows and columns; up to 512 by 512 cell by cell, larger ones by density:
              a square then stands for as many cells as the line below says, darker where more of them are pairs
@@ -254,6 +255,7 @@ def main():
     parser = argparse.ArgumentParser(description=__doc__, formatter_class=argparse.RawDescriptionHelpFormatter)
     parser.add_argument("form", choices=list(FORMS))
     add_names(parser)
+    parser.add_argument("--name", help="the name of the relation in a file of several")
     parser.add_argument("--mark", action="append", default=[], help="the reply S.C of a vector of elements to mark")
     parser.add_argument("input")
     parser.add_argument("output", nargs="?")

@@ -10,6 +10,15 @@ from pathlib import Path
 SIZE_LIMIT = 2**24
 BITS_LIMIT = 2**26
 HEADER = 29
+SHARED_HEADER = 12
+HEIGHT_LIMIT = 24
+WORD = re.compile(rb"[A-Za-z][A-Za-z0-9_]{0,63}")
+
+
+def need(holds, kind):
+    """Ends the reading of a relation file that fails a test."""
+    if not holds:
+        raise Bad(f"bad: {kind}")
 
 
 class Bad(Exception):
@@ -120,12 +129,19 @@ def k2(relation, _options):
     return head + packed(inner) + packed(levels[-1])
 
 
-def read_k2(content, _options):
-    """The relation of a relation file, or the first of the program's tests that it fails, in the program's words."""
-    def need(holds, kind):
-        if not holds:
-            raise Bad(f"bad: {kind}")
+def read_k2(content, options):
+    """The relation of a relation file of either version; of several it is the one of --name, or the only one."""
+    if not is_shared(content):
+        return read_tree(content)
+    relations = dict(read_shared(content))
+    if options.name is None and len(relations) != 1:
+        raise Bad(f"{len(relations)} relations are here ({', '.join(relations) or 'none'}); --name takes one")
+    need(options.name is None or options.name in relations, "no relation of this name")
+    return relations[options.name or min(relations)]
 
+
+def read_tree(content):
+    """The relation of a file of version 1, or the first of the program's tests that it fails, in the program's words."""
     need(len(content) >= HEADER, "short")
     magic, rows, columns, height, inner, leaves = struct.unpack(">4sIIBQQ", content[:HEADER])
     need(magic == b"RVK1", "magic")
@@ -163,6 +179,122 @@ def cell(code, height):
         row += (code >> 2 * bit + 1 & 1) << bit
         column += (code >> 2 * bit & 1) << bit
     return row + 1, column + 1
+
+
+# ---- relation files of version 2
+
+def is_shared(content):
+    """Whether a relation file is of version 2."""
+    return content[:4] == b"RVK2"
+
+
+def shared(relations):
+    """The bytes of a file of version 2 of named relations, a list of names and relations whose names increase."""
+    listed, numbers = [], {}
+
+    def visited(codes, height):
+        if not codes or not height:
+            return len(codes)
+        cells = 4 ** (height - 1)
+        parts = [[], [], [], []]
+        for code in codes:
+            parts[code // cells].append(code % cells)
+        quarters = tuple(visited(part, height - 1) for part in parts)
+        if quarters not in numbers:
+            numbers[quarters] = 2 + len(listed)
+            listed.append(struct.pack(">4I", *quarters))
+        return numbers[quarters]
+
+    entries = b""
+    for name, relation in relations:
+        height = height_of(relation.rows, relation.columns)
+        root = visited([morton(row - 1, column - 1, height) for row, column in relation.pairs], height)
+        entries += bytes([len(name)]) + name.encode() + struct.pack(">3I", relation.rows, relation.columns, root)
+    content = struct.pack(">4sII", b"RVK2", len(listed), len(relations)) + b"".join(listed) + entries
+    if 8 * len(content) > BITS_LIMIT:
+        raise Bad(f"{8 * len(content)} bits pass the limit {BITS_LIMIT}")
+    return content
+
+
+def read_shared(content):
+    """The named relations of a file of version 2, or the first of the program's tests that it fails, in its words."""
+    need(is_shared(content), "magic")
+    need(len(content) >= SHARED_HEADER, "short")
+    count, entries = struct.unpack(">II", content[4:SHARED_HEADER])
+    start = SHARED_HEADER + 16 * count
+    need(len(content) >= start, "short")
+    quadrants, heights = quadrants_of(content[SHARED_HEADER:start])
+    extents = extents_of(quadrants, heights)
+    found, roots, earlier = [], [], b""
+    for place in range(entries):
+        need(len(content) > start, "short")
+        length = content[start]
+        need(1 <= length <= 64, f"bad name at {place}")
+        end = start + 1 + length + 12
+        need(len(content) >= end, "short")
+        name = content[start + 1 : start + 1 + length]
+        need(WORD.fullmatch(name) and name > earlier, f"bad name at {place}")
+        rows, columns, root = struct.unpack(">3I", content[end - 12 : end])
+        need(max(rows, columns) <= SIZE_LIMIT, "sizes")
+        height = height_of(rows, columns)
+        need(root == 0 or heights.get(root) == height, f"bad root at {place}")
+        need(extents[root][0] <= rows and extents[root][1] <= columns, f"pair outside at {place}")
+        found.append((name.decode(), rows, columns, height))
+        roots.append(root)
+        start, earlier = end, name
+    order = visits(quadrants, roots)
+    for number in range(2, count + 2):
+        need(order[number - 2 : number - 1] == [number], f"order at {number}")
+    need(len(content) == start, "rest")
+    return [(name, Relation(rows, columns, ((row + 1, column + 1) for row, column in cells_of(quadrants, root, height))))
+            for (name, rows, columns, height), root in zip(found, roots)]
+
+
+def quadrants_of(content):
+    """The listed quadrants by their numbers, each with the numbers of its quarters, and the heights of all numbers."""
+    quadrants, heights, known = {}, {1: 0}, set()
+    for number, quarters in enumerate(struct.iter_unpack(">4I", content), 2):
+        below = {heights.get(quarter) for quarter in quarters if quarter}
+        good = len(below) == 1 and not below & {None, HEIGHT_LIMIT} and quarters not in known
+        need(good, f"bad quadrant at {number}")
+        quadrants[number], heights[number] = quarters, 1 + min(below)
+        known.add(quarters)
+    return quadrants, heights
+
+
+def extents_of(quadrants, heights):
+    """Up to which row and column each number has cells: how many rows and columns a relation of it needs."""
+    extents = {0: (0, 0), 1: (1, 1)}
+    for number, quarters in quadrants.items():
+        half = 2 ** (heights[number] - 1)
+        ends = [(extents[quarter][0] + place // 2 * half, extents[quarter][1] + place % 2 * half)
+                for place, quarter in enumerate(quarters) if quarter]
+        extents[number] = max(row for row, _ in ends), max(column for _, column in ends)
+    return extents
+
+
+def visits(quadrants, roots):
+    """The listed quadrants in the order in which the visits of the roots append them."""
+    order = {}
+
+    def visit(number):
+        if number > 1 and number not in order:
+            for quarter in quadrants[number]:
+                visit(quarter)
+            order[number] = None
+
+    for root in roots:
+        visit(root)
+    return list(order)
+
+
+def cells_of(quadrants, number, height):
+    """The rows and columns, from 0, of the cells of a number at a height."""
+    if number == 0 or height == 0:
+        return [(0, 0)] if number else []
+    half = 2 ** (height - 1)
+    return [(row + place // 2 * half, column + place % 2 * half) for place, quarter in enumerate(quadrants[number])
+            for row, column in cells_of(quadrants, quarter, height - 1)]
 
 
 # ---- pages

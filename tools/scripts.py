@@ -151,7 +151,7 @@ class Checker:
         elif kind == "AT":
             items.next(), items.next()
             items.expression(names)
-        elif kind in ("PRINT", "LIST", "COUNT", "TYPE", "SAVE", "EXPLAIN"):
+        elif kind in ("PRINT", "LIST", "COUNT", "TYPE", "EXPLAIN") or kind == "SAVE" and not items.sees("ALL"):
             items.expression(names)
         while not items.sees("."):
             items.next()

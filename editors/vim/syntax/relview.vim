@@ -6,7 +6,7 @@ endif
 syntax case match
 syntax iskeyword @,48-57,_
 
-syntax keyword relviewCommand REL LET PRINT LIST COUNT TYPE DROP SNAP AT LOAD SAVE ATOMIC COMMIT EXPLAIN
+syntax keyword relviewCommand REL LET PRINT LIST COUNT TYPE DROP SNAP AT LOAD SAVE ALL ATOMIC COMMIT EXPLAIN
 syntax keyword relviewProgram DECL PROD SUM BEG END RETURN
 syntax keyword relviewControl WHILE DO OD IF THEN ELSE FI
 syntax keyword relviewBase L O I Ln1 On1 L1n O1n dom ran trans refl epsi
