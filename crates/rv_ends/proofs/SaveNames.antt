@@ -1,4 +1,4 @@
--- Each file of a run has a name that is text, since it is the file text of a SAVE.
+-- Each file of a run has a name that is text, since it is the file text of a SAVE or a SAVE ALL.
 use Rattle.std.proofs.Common.{◌≡◌, ◌+◌, ℕ, List, [], ◌∷◌, ◌++◌, sym, subst}
 use Rattle.std.specs.Prelude.{All}
 use Rattle.std.specs.List.{AllByRecursion, flat_map}
@@ -10,7 +10,7 @@ use Rattle.lang_model.specs.declared.syntax.Row.{Row}
 use Rattle.lang_model.specs.declared.syntax.Decl.{Decl}
 use Rattle.lang_model.specs.declared.syntax.Decl.TheVariants.{Variable, Domain}
 use Rattle.lang_model.specs.declared.syntax.Command.{Command}
-use Rattle.lang_model.specs.declared.syntax.Command.TheVariants.{Relation as REL, Let, Print, List as LIST, Count, Typed, Remove, Snap, At, Load, Save, Atomic, Explain}
+use Rattle.lang_model.specs.declared.syntax.Command.TheVariants.{Relation as REL, Let, Print, List as LIST, Count, Typed, Remove, Snap, At, Load, Save, LoadAll, SaveAll, Atomic, Explain}
 use Rattle.lang_model.specs.declared.syntax.Item.{Item}
 use Rattle.lang_model.specs.declared.syntax.Item.TheVariants.{Function, Program, Command as COMMAND}
 use Rattle.lang_model.specs.declared.syntax.Script.{Script}
@@ -22,11 +22,11 @@ use Rattle.rel_model.specs.Relation.{Relation}
 use Rattle.run_model.specs.declared.event.Event.{Event}
 use Rattle.run_model.specs.declared.outcome.Outcome.{Outcome}
 use Rattle.run_model.specs.Inputs.{Input, Reading, NoScript, Flawed, Runs, AreReadings}
-use Rattle.run_model.specs.Due.{Due, Nothing, Value, Values, Explained, Refused, Workspace}
+use Rattle.run_model.specs.Due.{Due, Nothing, Value, Values, Bytes, Explained, Refused, Workspace}
 use Rattle.run_model.specs.Steps.{Ending, Succeeds, Fails, Changes, LacksMemory, ending, Snapshots, steps, steps_from, snaps_behind, due_at}
 use Rattle.run_model.specs.Names.{no_names}
 use Rattle.run_model.specs.States.{state_for}
-use Rattle.run_model.specs.Page.{SavedFile, saved_by, saved_of, done_save, save_at, saves_of, session_saves, sessions_saves, saves}
+use Rattle.run_model.specs.Page.{SavedFile, saved_by, saved_of, written_by, written_of, done_save, save_at, saves_of, session_saves, sessions_saves, saves}
 use Rattle.run_model.specs.declared.files.Save.{Save as SaveFile}
 use Rattle.run_model.specs.Filed.{saved_all}
 use Rattle.rv_ends.proofs.Texts.{AreTexts, behind_at, behind, text_taken, behind_expr, behind_stmts}
@@ -97,6 +97,8 @@ one_command (Snap name) tokens rest s h = behind s.2 (behind s.1 h)
 one_command (At at name value) tokens rest s h = behind_expr s.4.2 (behind s.4.1 (behind_at s.3 (behind s.2 h)))
 one_command (Load name file) tokens rest s h = behind s.2 (behind s.1.2 (behind s.1.1 h))
 one_command (Save value file) tokens rest s h = behind s.2 (behind_expr s.1.2 (behind s.1.1 h))
+one_command (LoadAll file) tokens rest s h = behind s.4 (behind s.3 (behind s.2 h))
+one_command (SaveAll file) tokens rest s h = behind s.4 (behind s.3 (behind s.2 h))
 one_command (Atomic lets) tokens rest s h = behind s.4 (block_lets s.3 (behind s.2 h))
 one_command (Explain value) tokens rest s h = behind_expr s.2 (behind s.1 h)
 
@@ -111,9 +113,10 @@ one_item (COMMAND command) tokens rest s h = one_command command _ _ s h
 abbrev AreNamed : List SavedFile → Type 0
 AreNamed = AllByRecursion (λ f. IsAscii f.name)
 
--- an item saves such files alone, whatever its value
-abbrev SavesNamed : Item → Type 0
-SavesNamed item = (r : Relation) → AreNamed (saved_of item r)
+-- an item saves such files alone, whatever its value or its bytes
+record SavesNamed (item : Item) : Type 0 where
+  value : (r : Relation) → AreNamed (saved_of item r)
+  whole : (bytes : List ℕ) → AreNamed (written_of item bytes)
 
 command_saves : (command : Command) (tokens rest : List Token) → SpellsCommand command tokens rest → AreTexts tokens → (r : Relation) → AreNamed (saved_by command r)
 command_saves (REL name rows rows_at cols cols_at list) tokens rest s h r = tt
@@ -127,13 +130,33 @@ command_saves (Snap name) tokens rest s h r = tt
 command_saves (At at name value) tokens rest s h r = tt
 command_saves (Load name file) tokens rest s h r = tt
 command_saves (Save value file) tokens rest s h r = (text_taken s.2 (behind_expr s.1.2 (behind s.1.1 h)), tt)
+command_saves (LoadAll file) tokens rest s h r = tt
+command_saves (SaveAll file) tokens rest s h r = tt
 command_saves (Atomic lets) tokens rest s h r = tt
 command_saves (Explain value) tokens rest s h r = tt
 
+command_writes : (command : Command) (tokens rest : List Token) → SpellsCommand command tokens rest → AreTexts tokens → (bytes : List ℕ) → AreNamed (written_by command bytes)
+command_writes (REL name rows rows_at cols cols_at list) tokens rest s h bytes = tt
+command_writes (Let name value) tokens rest s h bytes = tt
+command_writes (Print value) tokens rest s h bytes = tt
+command_writes (LIST value) tokens rest s h bytes = tt
+command_writes (Count value) tokens rest s h bytes = tt
+command_writes (Typed value) tokens rest s h bytes = tt
+command_writes (Remove at name) tokens rest s h bytes = tt
+command_writes (Snap name) tokens rest s h bytes = tt
+command_writes (At at name value) tokens rest s h bytes = tt
+command_writes (Load name file) tokens rest s h bytes = tt
+command_writes (Save value file) tokens rest s h bytes = tt
+command_writes (LoadAll file) tokens rest s h bytes = tt
+command_writes (SaveAll file) tokens rest s h bytes = (text_taken s.4 (behind s.3 (behind s.2 h)), tt)
+command_writes (Atomic lets) tokens rest s h bytes = tt
+command_writes (Explain value) tokens rest s h bytes = tt
+
 item_saves : (item : Item) (tokens rest : List Token) → SpellsItem item tokens rest → AreTexts tokens → SavesNamed item
-item_saves (Function at name ps body) tokens rest s h r = tt
-item_saves (Program at name ps decls body result) tokens rest s h r = tt
-item_saves (COMMAND command) tokens rest s h r = command_saves command _ _ s h r
+item_saves (Function at name ps body) tokens rest s h = record { value = λ r. tt; whole = λ bytes. tt }
+item_saves (Program at name ps decls body result) tokens rest s h = record { value = λ r. tt; whole = λ bytes. tt }
+item_saves (COMMAND command) tokens rest s h =
+    record { value = command_saves command _ _ s h; whole = command_writes command _ _ s h }
 
 items_save : (items : List Item) (tokens rest : List Token) → SpellsItems items tokens rest → AreTexts tokens → AllByRecursion SavesNamed items
 items_save [] tokens rest s h = tt
@@ -146,8 +169,9 @@ named-append (x ∷ xs) ys h k = (h.0, named-append xs ys h.1 k)
 
 done_named : (item : Item) (d : Due) → SavesNamed item → AreNamed (done_save item d)
 done_named item Nothing h = tt
-done_named item (Value r) h = h r
+done_named item (Value r) h = h.value r
 done_named item (Values gifts) h = tt
+done_named item (Bytes bytes) h = h.whole bytes
 done_named item (Explained steps) h = tt
 done_named item (Refused when outcome) h = tt
 
