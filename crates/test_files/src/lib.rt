@@ -18,6 +18,8 @@ mod several;
 #[cfg(test)]
 mod several_bad;
 #[cfg(test)]
+mod several_chance;
+#[cfg(test)]
 mod several_faults;
 #[cfg(test)]
 mod several_full;

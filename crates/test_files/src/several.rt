@@ -4,7 +4,6 @@
 ghost use Rattle.std.specs.List.{AllByRecursion};
 ghost use Rattle.rel_model.specs.Worker.{Stands};
 
-use crate::chance::{Chance, pairs_within};
 use crate::entry::{Entry, Listed, entries_of, with_all_pairs, without_pairs};
 use crate::hex::bytes_of;
 use crate::made::{name_of, put, told};
@@ -242,28 +241,68 @@ fn relations_that_share_all_none_or_half_have_each_square_once(rt: HostRuntime) 
     on_an_engine(&rt, rt.alloc(), Trial::TablesOfRelations);
 }
 
-/// The relation of a number below 64, of sizes 8 by 8: all pairs, or the one of this number.
-fn numbered(rt: &impl Abort, alloc: Global, number: u32, is_full: bool) -> Entry {
+/// What the relations of a file of 64 have.
+#[derive(Clone, Copy)]
+enum Kind {
+    /// All pairs of 8 by 8 elements.
+    Full,
+    /// The pair of its number, of 8 by 8 elements.
+    Single,
+    /// Their last pair, of sizes of each kind in turn.
+    Last,
+}
+
+/// The next of five sizes in turn.
+fn size_of(number: u32) -> u32 {
+    match number % 5 {
+        0 => 0,
+        1 => 1,
+        2 => 8,
+        3 => 9,
+        _ => 16_777_216,
+    }
+}
+
+/// The relation of a number below 64.
+fn numbered(rt: &impl Abort, alloc: Global, number: u32, kind: Kind) -> Entry {
     let name = [
         b'N',
         b'0'.wrapping_add((number / 10 % 10) as u8),
         b'0'.wrapping_add((number % 10) as u8),
     ];
-    if is_full {
-        return with_all_pairs(rt, alloc, name.as_slice(), 8, 8);
+    let name = name.as_slice();
+    match kind {
+        Kind::Full => with_all_pairs(rt, alloc, name, 8, 8),
+        Kind::Single => {
+            let mut relation = without_pairs(rt, alloc, name, 8, 8);
+            put(rt, &mut relation.pairs, (number / 8, number % 8));
+            relation
+        }
+        Kind::Last => with_last_pair(rt, alloc, name, size_of(number)),
     }
-    let mut relation = without_pairs(rt, alloc, name.as_slice(), 8, 8);
-    put(rt, &mut relation.pairs, (number / 8, number % 8));
+}
+
+/// The relation of a name, as many rows as columns, with its last pair, if it has one.
+fn with_last_pair(rt: &impl Abort, alloc: Global, name: &[u8], size: u32) -> Entry {
+    let mut relation = without_pairs(rt, alloc, name, size, size);
+    if size != 0 {
+        put(rt, &mut relation.pairs, (size - 1, size - 1));
+    }
     relation
 }
 
-/// Asserts that 64 relations are read and written: of all pairs of 8 by 8 elements, which share their three squares,
-/// and of one pair each, which have the four squares of height 1, the sixteen of height 2 and 64 of their own.
+/// Asserts that 64 relations are read and written. Those of all pairs share their three squares. Those of one pair each
+/// have the four squares of height 1, the sixteen of height 2 and 64 of their own. Those of the last pairs of four
+/// sizes have one square, three, four with that one among them, and 24 with those three.
 pub(crate) fn sixty_four<E: Engine>(rt: &impl Abort, alloc: Global, engine: &mut E) {
-    'tables: for (is_full, quadrants) in [(true, 3), (false, 84)] {
+    'tables: for (kind, quadrants) in [
+        (Kind::Full, 3),
+        (Kind::Single, 84),
+        (Kind::Last, 1 + 3 + (4 - 1) + (24 - 3)),
+    ] {
         let mut entries = Vec::new(alloc);
         'relations: for number in 0..64u32 {
-            let relation = numbered(rt, alloc, number, is_full);
+            let relation = numbered(rt, alloc, number, kind);
             put(rt, &mut entries, relation);
         }
         has_quadrants(rt, alloc, engine, entries.as_slice(), quadrants);
@@ -313,77 +352,4 @@ pub(crate) fn greatest_full<E: Engine>(rt: &impl Abort, alloc: Global, engine: &
 #[test]
 fn all_pairs_of_the_greatest_sizes_are_24_quadrants(rt: HostRuntime) {
     on_an_engine(&rt, rt.alloc(), Trial::GreatestFull);
-}
-
-/// The next of the sizes from which relations by chance have theirs.
-fn next_size(chance: &mut Chance) -> u32 {
-    match chance.below(8) {
-        0 => 0,
-        1 => 1,
-        2 => 2,
-        3 => 8,
-        4 => 9,
-        5 => 31,
-        6 => 200,
-        _ => 16_777_216,
-    }
-}
-
-/// A relation by chance, under a name of two letters.
-fn by_chance(rt: &impl Abort, alloc: Global, chance: &mut Chance, number: u8) -> Entry {
-    let name = [b'R', b'a'.wrapping_add(number)];
-    let (rows, cols) = (next_size(chance), next_size(chance));
-    let mut relation = without_pairs(rt, alloc, name.as_slice(), rows, cols);
-    if rows != 0 && cols != 0 {
-        let count = chance.below(12);
-        relation.pairs = pairs_within(rt, alloc, chance, rows, cols, count);
-    }
-    relation
-}
-
-/// The pairs of a relation once more, for a larger one.
-fn with_pairs_of(rt: &impl Abort, alloc: Global, other: &Entry, number: u8) -> Entry {
-    let name = [b'R', b'a'.wrapping_add(number)];
-    let (rows, cols) = (other.rows.max(300), other.cols.max(3));
-    let mut relation = without_pairs(rt, alloc, name.as_slice(), rows, cols);
-    'pairs: for pair in other.pairs.as_slice() {
-        put(rt, &mut relation.pairs, *pair);
-    }
-    relation
-}
-
-/// Relations by chance, so many, of which some have the pairs of an earlier one.
-pub(crate) fn entries_by_chance(
-    rt: &impl Abort,
-    alloc: Global,
-    chance: &mut Chance,
-    count: u8,
-) -> Vec<Entry> {
-    let mut entries: Vec<Entry> = Vec::new(alloc);
-    'relations: for number in 0..count {
-        let is_again = chance.is_once_in(3);
-        let relation = match entries.as_slice().first() {
-            Some(other) if is_again => with_pairs_of(rt, alloc, other, number),
-            _ => by_chance(rt, alloc, chance, number),
-        };
-        put(rt, &mut entries, relation);
-    }
-    entries
-}
-
-/// Asserts that relations by chance are written and read back.
-pub(crate) fn several_by_chance<E: Engine>(rt: &impl Abort, alloc: Global, engine: &mut E) {
-    let mut chance = Chance { state: 4 };
-    'files: for i in 0..40u32 {
-        let count = (i % 7) as u8;
-        let entries = entries_by_chance(rt, alloc, &mut chance, count);
-        let entries = entries.as_slice();
-        let bytes = file_of(rt, alloc, entries);
-        are_of(rt, alloc, engine, bytes.as_slice(), entries);
-    }
-}
-
-#[test]
-fn several_relations_by_chance_are_read_and_written(rt: HostRuntime) {
-    on_an_engine(&rt, rt.alloc(), Trial::SeveralByChance);
 }

@@ -1,7 +1,7 @@
 //! What any engine is put to, and an engine over a table of its own for each.
 ghost use Rattle.rel_model.specs.Views.{IsOf};
 
-use crate::{changed, read, several, several_faults, several_full, written};
+use crate::{changed, read, several, several_chance, several_faults, several_full, written};
 use fork_quads::{Crew, OpenGate};
 use pair_table::{PairTable, Seat};
 use rel_engine::Works;
@@ -54,7 +54,7 @@ fn put_to<E: Engine>(rt: &impl Abort, alloc: Global, engine: &mut E, trial: Tria
         Trial::TablesOfRelations => several::tables_of_relations(rt, alloc, engine),
         Trial::SixtyFour => several::sixty_four(rt, alloc, engine),
         Trial::GreatestFull => several::greatest_full(rt, alloc, engine),
-        Trial::SeveralByChance => several::several_by_chance(rt, alloc, engine),
+        Trial::SeveralByChance => several_chance::several_by_chance(rt, alloc, engine),
         Trial::SeveralFaults => several_faults::several_faults(rt, alloc, engine),
         Trial::TooHigh => several_faults::too_high(rt, alloc, engine),
         Trial::WordsAsNames => several_faults::words_as_names(rt, alloc, engine),
