@@ -175,7 +175,7 @@ split_did s old own other theirs new job from past answer c i p b j =
     let v = join_second own theirs new b.keeps.after j in
     record {
       value = value_seen theirs new job _ _ from past answer v (set_seen old other job y c) b.value;
-      keeps = keeps_as (0 + (past - from) * piece_room (operator_of job.op) job.a.height job.cuts) ((past - from) * piece_room (operator_of job.op) job.a.height job.cuts) old new (none_more ((past - from) * piece_room (operator_of job.op) job.a.height job.cuts))
+      keeps = keeps_as (0 + (past - from) * piece_room (operator_of job.op) job.pieces.turns job.a.height job.cuts) ((past - from) * piece_room (operator_of job.op) job.pieces.turns job.a.height job.cuts) old new (none_more ((past - from) * piece_room (operator_of job.op) job.pieces.turns job.a.height job.cuts))
           (joined_keeps s 0 _ old own other own theirs new i p (keeps_itself own 0 p.after) b.keeps j);
       misses = split_misses s old own other theirs new answer i p b.misses j;
       stood = λ o h.
@@ -211,7 +211,7 @@ then_did {E} old mid new job from middle past p second answer c l m top a b e =
 pub one_did : {D E : Type 0} (old new : Keeper) (job : Job) (n : ℕ) (q : Quad) (quads : List Quad) (r : Result Quad D) → n < 64 → AreAll q quads → r ≡ Ok q → CanDo old job
     → IfOk r (IsQuad new (job.a.height - job.cuts) (part job.a.height job.cuts n (job_set old job)))
     → (operator_of job.op ≢ Compose → FindsQuad old new (job.a.height - job.cuts) (part job.a.height job.cuts n (job_set old job)) r)
-    → KeepsQuads (piece_room (operator_of job.op) job.a.height job.cuts) old new → Counts old new r → DidPieces {E = E} old new job n (n + 1) (Ok quads)
+    → KeepsQuads (piece_room (operator_of job.op) job.pieces.turns job.a.height job.cuts) old new → Counts old new r → DidPieces {E = E} old new job n (n + 1) (Ok quads)
 one_did {D} {E} old new job n q quads r l all e c v s k m =
     let is : IsQuad new (job.a.height - job.cuts) (part job.a.height job.cuts n (job_set old job)) q = subst (λ (x : Result Quad D). IfOk x (IsQuad new (job.a.height - job.cuts) (part job.a.height job.cuts n (job_set old job)))) e v in
     let none : Counts {T = Quad} {E = D} old new (Ok q) = subst (λ (x : Result Quad D). Counts old new x) e m in
@@ -219,7 +219,7 @@ one_did {D} {E} old new job n q quads r l all e c v s k m =
       value = λ i a b d. let g : i ≡ n = omega arith in
           subst (λ (z : Quad). IsQuad new (job.a.height - job.cuts) (part job.a.height job.cuts i (job_set old job)) z) (sym (all i d (omega arith)))
           (subst (λ (j : ℕ). IsQuad new (job.a.height - job.cuts) (part job.a.height job.cuts j (job_set old job)) q) (sym g) is);
-      keeps = keeps_as (piece_room (operator_of job.op) job.a.height job.cuts) _ old new (one_more n (piece_room (operator_of job.op) job.a.height job.cuts)) k;
+      keeps = keeps_as (piece_room (operator_of job.op) job.pieces.turns job.a.height job.cuts) _ old new (one_more n (piece_room (operator_of job.op) job.pieces.turns job.a.height job.cuts)) k;
       misses = none;
       stood = λ o h. let p = h n (omega arith) (omega arith) in record { answered = refl; reads = (s o p.quad p.is).reads };
     }
@@ -245,7 +245,7 @@ pub did_longer : {E : Type 0} (old new : Keeper) (job : Job) (from middle past :
 did_longer old new job from middle past (Ok p) e l m a = absurd (cc)
 did_longer old new job from middle past (Err x) e l m a = record {
   value = tt;
-  keeps = (let b = rooms_both from middle past (piece_room (operator_of job.op) job.a.height job.cuts) l m in keeps_most _ _ old new (omega (arith, b)) a.keeps);
+  keeps = (let b = rooms_both from middle past (piece_room (operator_of job.op) job.pieces.turns job.a.height job.cuts) l m in keeps_most _ _ old new (omega (arith, b)) a.keeps);
   misses = a.misses;
   stood = λ o h. a.stood o (had_before old job from middle past m h);
 }

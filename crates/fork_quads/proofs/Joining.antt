@@ -6,7 +6,7 @@ use Rattle.rel_model.specs.declared.Quad.{Quad}
 use Rattle.rel_model.specs.Cells.{Cells}
 use Rattle.rel_model.specs.Trees.{bottom_height}
 use Rattle.rel_model.specs.Equations.{Operator, Union, Inter, Diff, Transpose, Compose, side_of, depth_of}
-use Rattle.rel_model.specs.Quads.{Keeper, IsKeeper, quad_cells, QuadStands, IsQuad, KeepsQuads, ReadsQuads, Counts, quad_room}
+use Rattle.rel_model.specs.Quads.{Keeper, IsKeeper, quad_cells, QuadStands, IsQuad, KeepsQuads, ReadsQuads, Counts, quad_room, composed_words}
 use Rattle.rel_model.specs.Worker.{Stands}
 use Rattle.rel_model.proofs.TreeLaws.{Within, zero_stands}
 use Rattle.rel_model.proofs.QuadLaws.{keeps_on, keeps_most, reads_on, is_quad-stays}
@@ -73,40 +73,41 @@ all_missed v w job past e r i c other did q s = absurd (let quiet = did.stood ot
     refused h = cc
 
 -- ---- rooms
-pub work_room-square : (op : Operator) (h c : ℕ) → op ≢ Compose → c ≡ 0 → work_room op h ≡ quad_room (h - c)
-work_room-square Union h c other e = ap (λ (x : ℕ). quad_room x) (let g : h ≡ h - c = omega arith in g)
-work_room-square Inter h c other e = ap (λ (x : ℕ). quad_room x) (let g : h ≡ h - c = omega arith in g)
-work_room-square Diff h c other e = ap (λ (x : ℕ). quad_room x) (let g : h ≡ h - c = omega arith in g)
-work_room-square Transpose h c other e = ap (λ (x : ℕ). quad_room x) (let g : h ≡ h - c = omega arith in g)
-work_room-square Compose h c other e = absurd (other refl)
+pub work_room-square : (op : Operator) (t h c : ℕ) → op ≢ Compose → c ≡ 0 → work_room op t h ≡ quad_room (h - c)
+work_room-square Union t h c other e = ap (λ (x : ℕ). quad_room x) (let g : h ≡ h - c = omega arith in g)
+work_room-square Inter t h c other e = ap (λ (x : ℕ). quad_room x) (let g : h ≡ h - c = omega arith in g)
+work_room-square Diff t h c other e = ap (λ (x : ℕ). quad_room x) (let g : h ≡ h - c = omega arith in g)
+work_room-square Transpose t h c other e = ap (λ (x : ℕ). quad_room x) (let g : h ≡ h - c = omega arith in g)
+work_room-square Compose t h c other e = absurd (other refl)
 
-pub product_words-next : (h c : ℕ) → c ≢ 0 → product_words h c ≡ product_words (h - 1) (c - 1) + product_words (h - 1) (c - 1) + quad_room (h - 1 - (c - 1))
-product_words-next h zero s = absurd (s refl)
-product_words-next h (suc c) s = let e : suc c - 1 ≡ c = omega arith in rw e refl
+pub product_words-next : (t h c : ℕ) → c ≢ 0 → product_words t h c ≡ product_words t (h - 1) (c - 1) + product_words t (h - 1) (c - 1) + quad_room (h - 1 - (c - 1))
+product_words-next t h zero s = absurd (s refl)
+product_words-next t h (suc c) s = let e : suc c - 1 ≡ c = omega arith in rw e refl
 
 -- a composition alone has room
-whole_words-fork : (d : ℕ) → whole_words d ≤ fork_words d
-whole_words-fork zero = omega arith
-whole_words-fork (suc d) =
+whole_words-fork : (t d : ℕ) → whole_words t d ≤ fork_words t d
+whole_words-fork zero d = omega arith
+whole_words-fork (suc t) zero = omega arith
+whole_words-fork (suc t) (suc d) =
     let a = composed_words-most (suc d) in
     let p = pow-le-pow_left {n = 4} {m = 8} (omega arith) (suc d) in
     omega (arith, a, p)
 
-pub work_room-fork : (op : Operator) (h : ℕ) → work_room op h ≤ fork_room op h
-work_room-fork Union h = omega arith
-work_room-fork Inter h = omega arith
-work_room-fork Diff h = omega arith
-work_room-fork Transpose h = omega arith
-work_room-fork Compose h = whole_words-fork (h - bottom_height)
+pub work_room-fork : (op : Operator) (t h : ℕ) → work_room op t h ≤ fork_room op t h
+work_room-fork Union t h = omega arith
+work_room-fork Inter t h = omega arith
+work_room-fork Diff t h = omega arith
+work_room-fork Transpose t h = omega arith
+work_room-fork Compose t h = whole_words-fork t (h - bottom_height)
 
 -- an operator done alone after a look has the room of one that may be forked
-pub work_room-after : (op : Operator) (h : ℕ) (u v w : Keeper) → ReadsQuads u v → KeepsQuads (work_room op h) v w → KeepsQuads (fork_room op h) u w
-work_room-after op h u v w r k = let l = work_room-fork op h in keeps_most (0 + work_room op h) (fork_room op h) u w (omega (arith, l)) (keeps_on 0 (work_room op h) u v w r.keeps k)
+pub work_room-after : (op : Operator) (t h : ℕ) (u v w : Keeper) → ReadsQuads u v → KeepsQuads (work_room op t h) v w → KeepsQuads (fork_room op t h) u w
+work_room-after op t h u v w r k = let l = work_room-fork op t h in keeps_most (0 + work_room op t h) (fork_room op t h) u w (omega (arith, l)) (keeps_on 0 (work_room op t h) u v w r.keeps k)
 
 -- ---- rooms of all pieces
-whole_words-most : (d : ℕ) → whole_words d ≤ 3840 * 8 ^ d
-whole_words-most zero = omega arith
-whole_words-most (suc d) =
+whole_words-most : (t d : ℕ) → whole_words (suc t) d ≤ 3840 * 8 ^ d
+whole_words-most t zero = omega arith
+whole_words-most t (suc d) =
     let a = composed_words-most (suc d) in
     let p = pow-le-pow_left {n = 4} {m = 8} (omega arith) (suc d) in
     omega (arith, a, p)
@@ -114,46 +115,77 @@ whole_words-most (suc d) =
 quad_words-most : (d : ℕ) → 2 * 4 ^ d - 1 ≤ 2 * 8 ^ d
 quad_words-most d = let p = pow-le-pow_left {n = 4} {m = 8} (omega arith) d in omega (arith, p)
 
-products_fit : (c h : ℕ) → 0 < c → c ≤ 3 → bottom_height + c ≤ h → 4 ^ c * product_words h c + corner_words c ≤ fork_words (h - bottom_height)
+-- pieces of a composition whose middle is not halved place no more than the recursion
+lines_fit : (c h : ℕ) → 0 < c → c ≤ 3 → bottom_height + c ≤ h → 4 ^ c * product_words 0 h c + corner_words c ≤ composed_words (h - bottom_height)
 unfolding bottom_height
-products_fit zero h s l d = absurd (omega (arith, s))
-products_fit (suc zero) h s l d =
+lines_fit zero h s l d = absurd (omega (arith, s))
+lines_fit (suc zero) h s l d =
+    let j : ℕ = h - 1 - 3 in
+    let t : composed_words (h - 3) ≡ composed_words (suc j) = ap composed_words (let e : h - 3 ≡ suc j = omega arith in e) in
+    let q : quad_room (h - 1 - 0) ≡ 2 * 4 ^ j - 1 = ap (λ (x : ℕ). 2 * 4 ^ x - 1) (let g : h - 1 - 0 - 3 ≡ j = omega arith in g) in
+    let o = one-le-pow j 4 (omega arith) in
+    omega (arith, t, q, o)
+lines_fit (suc (suc zero)) h s l d =
+    let j : ℕ = h - 1 - 1 - 3 in
+    let t : composed_words (h - 3) ≡ composed_words (suc (suc j)) = ap composed_words (let e : h - 3 ≡ suc (suc j) = omega arith in e) in
+    let p : 4 ^ suc j ≡ 4 ^ j * 4 = pow-suc 4 j in
+    let q : quad_room (h - 1 - 1 - 0) ≡ 2 * 4 ^ j - 1 = ap (λ (x : ℕ). 2 * 4 ^ x - 1) (let g : h - 1 - 1 - 0 - 3 ≡ j = omega arith in g) in
+    let q1 : quad_room (h - 1 - 1) ≡ 2 * 4 ^ j - 1 = refl in
+    let o = one-le-pow j 4 (omega arith) in
+    omega (arith, t, p, q, q1, o)
+lines_fit (suc (suc (suc zero))) h s l d =
+    let j : ℕ = h - 1 - 1 - 1 - 3 in
+    let t : composed_words (h - 3) ≡ composed_words (suc (suc (suc j))) = ap composed_words (let e : h - 3 ≡ suc (suc (suc j)) = omega arith in e) in
+    let p : 4 ^ suc (suc j) ≡ 4 ^ suc j * 4 = pow-suc 4 (suc j) in
+    let p0 : 4 ^ suc j ≡ 4 ^ j * 4 = pow-suc 4 j in
+    let q : quad_room (h - 1 - 1 - 1 - 0) ≡ 2 * 4 ^ j - 1 = ap (λ (x : ℕ). 2 * 4 ^ x - 1) (let g : h - 1 - 1 - 1 - 0 - 3 ≡ j = omega arith in g) in
+    let q1 : quad_room (h - 1 - 1 - 1) ≡ 2 * 4 ^ j - 1 = refl in
+    let q2 : quad_room (h - 1 - 2) ≡ 2 * 4 ^ j - 1 = ap (λ (x : ℕ). 2 * 4 ^ x - 1) (let g : h - 1 - 2 - 3 ≡ j = omega arith in g) in
+    let o = one-le-pow j 4 (omega arith) in
+    omega (arith, t, p, p0, q, q1, q2, o)
+lines_fit (suc (suc (suc (suc c)))) h s l d = absurd (omega (arith, l))
+
+-- those of one whose middle may be halved
+products_fit : (n c h : ℕ) → 0 < c → c ≤ 3 → bottom_height + c ≤ h → 4 ^ c * product_words (suc n) h c + corner_words c ≤ fork_words (suc n) (h - bottom_height)
+unfolding bottom_height
+products_fit n zero h s l d = absurd (omega (arith, s))
+products_fit n (suc zero) h s l d =
     let j : ℕ = h - 1 - 3 in
     let e : h - 3 ≡ suc j = omega arith in
-    let t : fork_words (h - 3) ≡ fork_words (suc j) = ap fork_words e in
+    let t : fork_words (suc n) (h - 3) ≡ fork_words (suc n) (suc j) = ap (fork_words (suc n)) e in
     let p : 8 ^ suc j ≡ 8 ^ j * 8 = pow-suc 8 j in
-    let w = whole_words-most j in
+    let w = whole_words-most n j in
     let q : quad_room (h - 1 - 0) ≡ 2 * 4 ^ j - 1 = ap (λ (x : ℕ). 2 * 4 ^ x - 1) (let g : h - 1 - 0 - 3 ≡ j = omega arith in g) in
     let b = quad_words-most j in
     let o = one-le-pow j 8 (omega arith) in
     omega (arith, t, p, w, q, b, o)
-products_fit (suc (suc zero)) h s l d =
+products_fit n (suc (suc zero)) h s l d =
     let j : ℕ = h - 1 - 1 - 3 in
     let e : h - 3 ≡ suc (suc j) = omega arith in
-    let t : fork_words (h - 3) ≡ fork_words (suc (suc j)) = ap fork_words e in
+    let t : fork_words (suc n) (h - 3) ≡ fork_words (suc n) (suc (suc j)) = ap (fork_words (suc n)) e in
     let p : 8 ^ suc (suc j) ≡ 8 ^ suc j * 8 = pow-suc 8 (suc j) in
     let p0 : 8 ^ suc j ≡ 8 ^ j * 8 = pow-suc 8 j in
-    let w = whole_words-most j in
+    let w = whole_words-most n j in
     let q : quad_room (h - 1 - 1 - 0) ≡ 2 * 4 ^ j - 1 = ap (λ (x : ℕ). 2 * 4 ^ x - 1) (let g : h - 1 - 1 - 0 - 3 ≡ j = omega arith in g) in
     let q1 : quad_room (h - 1 - 1) ≡ 2 * 4 ^ j - 1 = refl in
     let b = quad_words-most j in
     let o = one-le-pow j 8 (omega arith) in
     omega (arith, t, p, p0, w, q, q1, b, o)
-products_fit (suc (suc (suc zero))) h s l d =
+products_fit n (suc (suc (suc zero))) h s l d =
     let j : ℕ = h - 1 - 1 - 1 - 3 in
     let e : h - 3 ≡ suc (suc (suc j)) = omega arith in
-    let t : fork_words (h - 3) ≡ fork_words (suc (suc (suc j))) = ap fork_words e in
+    let t : fork_words (suc n) (h - 3) ≡ fork_words (suc n) (suc (suc (suc j))) = ap (fork_words (suc n)) e in
     let p : 8 ^ suc (suc (suc j)) ≡ 8 ^ suc (suc j) * 8 = pow-suc 8 (suc (suc j)) in
     let p0 : 8 ^ suc (suc j) ≡ 8 ^ suc j * 8 = pow-suc 8 (suc j) in
     let p1 : 8 ^ suc j ≡ 8 ^ j * 8 = pow-suc 8 j in
-    let w = whole_words-most j in
+    let w = whole_words-most n j in
     let q : quad_room (h - 1 - 1 - 1 - 0) ≡ 2 * 4 ^ j - 1 = ap (λ (x : ℕ). 2 * 4 ^ x - 1) (let g : h - 1 - 1 - 1 - 0 - 3 ≡ j = omega arith in g) in
     let q1 : quad_room (h - 1 - 1 - 1) ≡ 2 * 4 ^ j - 1 = refl in
     let q2 : quad_room (h - 1 - 2) ≡ 2 * 4 ^ j - 1 = ap (λ (x : ℕ). 2 * 4 ^ x - 1) (let g : h - 1 - 2 - 3 ≡ j = omega arith in g) in
     let b = quad_words-most j in
     let o = one-le-pow j 8 (omega arith) in
     omega (arith, t, p, p0, p1, w, q, q1, q2, b, o)
-products_fit (suc (suc (suc (suc c)))) h s l d = absurd (omega (arith, l))
+products_fit n (suc (suc (suc (suc c)))) h s l d = absurd (omega (arith, l))
 
 squares_fit : (c h : ℕ) → c ≤ 3 → bottom_height + c ≤ h → 4 ^ c * quad_room (h - c) + corner_words c ≤ quad_room h
 unfolding bottom_height
@@ -181,32 +213,33 @@ squares_fit (suc (suc (suc zero))) h l d =
     omega (arith, t, p, p0, p1, o)
 squares_fit (suc (suc (suc (suc c)))) h l d = absurd (omega (arith, l))
 
-pub pieces_fit : (op : Operator) (c h : ℕ) → 0 < c → c ≤ 3 → bottom_height + c ≤ h → 4 ^ c * piece_room op h c + corner_words c ≤ fork_room op h
-pieces_fit Union c h s l d = squares_fit c h l d
-pieces_fit Inter c h s l d = squares_fit c h l d
-pieces_fit Diff c h s l d = squares_fit c h l d
-pieces_fit Transpose c h s l d = squares_fit c h l d
-pieces_fit Compose c h s l d = products_fit c h s l d
+pub pieces_fit : (op : Operator) (t c h : ℕ) → 0 < c → c ≤ 3 → bottom_height + c ≤ h → 4 ^ c * piece_room op t h c + corner_words c ≤ fork_room op t h
+pieces_fit Union t c h s l d = squares_fit c h l d
+pieces_fit Inter t c h s l d = squares_fit c h l d
+pieces_fit Diff t c h s l d = squares_fit c h l d
+pieces_fit Transpose t c h s l d = squares_fit c h l d
+pieces_fit Compose zero c h s l d = lines_fit c h s l d
+pieces_fit Compose (suc n) c h s l d = products_fit n c h s l d
 
 -- what all pieces and their corners place
-pub all_keeps : (u v w : Keeper) (op : Operator) (c h past : ℕ) → 0 < c → c ≤ 3 → bottom_height + c ≤ h → past ≡ 4 ^ c → KeepsQuads ((past - 0) * piece_room op h c) u v → KeepsQuads (corner_words c) v w → KeepsQuads (fork_room op h) u w
-all_keeps u v w op c h past s l d e k m =
-    let r : (past - 0) * piece_room op h c ≡ 4 ^ c * piece_room op h c = ap (λ (x : ℕ). x * piece_room op h c) (let g : past - 0 ≡ 4 ^ c = omega arith in g) in
-    let f = pieces_fit op c h s l d in
-    keeps_most _ (fork_room op h) u w (omega (arith, r, f)) (keeps_on _ _ u v w k m)
+pub all_keeps : (u v w : Keeper) (op : Operator) (t c h past : ℕ) → 0 < c → c ≤ 3 → bottom_height + c ≤ h → past ≡ 4 ^ c → KeepsQuads ((past - 0) * piece_room op t h c) u v → KeepsQuads (corner_words c) v w → KeepsQuads (fork_room op t h) u w
+all_keeps u v w op t c h past s l d e k m =
+    let r : (past - 0) * piece_room op t h c ≡ 4 ^ c * piece_room op t h c = ap (λ (x : ℕ). x * piece_room op t h c) (let g : past - 0 ≡ 4 ^ c = omega arith in g) in
+    let f = pieces_fit op t c h s l d in
+    keeps_most _ (fork_room op t h) u w (omega (arith, r, f)) (keeps_on _ _ u v w k m)
 
-pub all_keeps-missed : (u v : Keeper) (op : Operator) (c h past : ℕ) → 0 < c → c ≤ 3 → bottom_height + c ≤ h → past ≡ 4 ^ c → KeepsQuads ((past - 0) * piece_room op h c) u v → KeepsQuads (fork_room op h) u v
-all_keeps-missed u v op c h past s l d e k =
-    let r : (past - 0) * piece_room op h c ≡ 4 ^ c * piece_room op h c = ap (λ (x : ℕ). x * piece_room op h c) (let g : past - 0 ≡ 4 ^ c = omega arith in g) in
-    let f = pieces_fit op c h s l d in
-    keeps_most _ (fork_room op h) u v (omega (arith, r, f)) k
+pub all_keeps-missed : (u v : Keeper) (op : Operator) (t c h past : ℕ) → 0 < c → c ≤ 3 → bottom_height + c ≤ h → past ≡ 4 ^ c → KeepsQuads ((past - 0) * piece_room op t h c) u v → KeepsQuads (fork_room op t h) u v
+all_keeps-missed u v op t c h past s l d e k =
+    let r : (past - 0) * piece_room op t h c ≡ 4 ^ c * piece_room op t h c = ap (λ (x : ℕ). x * piece_room op t h c) (let g : past - 0 ≡ 4 ^ c = omega arith in g) in
+    let f = pieces_fit op t c h s l d in
+    keeps_most _ (fork_room op t h) u v (omega (arith, r, f)) k
 
 -- what the two products of a square place
-pub product_keeps : (u v w : Keeper) (h k c : ℕ) → c ≢ 0 → k + 1 ≡ h → ReadsQuads u v → KeepsQuads (product_words k (c - 1) + product_words k (c - 1) + quad_room (k - (c - 1))) v w → KeepsQuads (product_words h c) u w
-product_keeps u v w h k c s e r l =
+pub product_keeps : (u v w : Keeper) (t h k c : ℕ) → c ≢ 0 → k + 1 ≡ h → ReadsQuads u v → KeepsQuads (product_words t k (c - 1) + product_words t k (c - 1) + quad_room (k - (c - 1))) v w → KeepsQuads (product_words t h c) u w
+product_keeps u v w t h k c s e r l =
     let g : h - 1 ≡ k = omega arith in
-    let n = product_words-next h c s ∙ ap (λ (x : ℕ). product_words x (c - 1) + product_words x (c - 1) + quad_room (x - (c - 1))) g in
-    let m : ℕ = product_words k (c - 1) + product_words k (c - 1) + quad_room (k - (c - 1)) in
+    let n = product_words-next t h c s ∙ ap (λ (x : ℕ). product_words t x (c - 1) + product_words t x (c - 1) + quad_room (x - (c - 1))) g in
+    let m : ℕ = product_words t k (c - 1) + product_words t k (c - 1) + quad_room (k - (c - 1)) in
     subst (λ (x : ℕ). KeepsQuads x u w) (sym n) (keeps_most (0 + m) m u w (omega arith) (keeps_on 0 m u v w r.keeps l))
 
 -- ---- how many pieces

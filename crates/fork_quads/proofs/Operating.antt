@@ -1,5 +1,5 @@
 -- The sets that a crew makes are the relations of the algebra's operators.
-use Rattle.std.proofs.Common.{◌≡◌, ◌<◌, ◌≤◌, ◌^◌, ◌&&◌, ◌||◌, ◌↔◌, not, eqb, ℕ, Bool, true, Result, Ok, IfOk, refl, sym, ap, subst, ◌∙◌, inl, inr, arith}
+use Rattle.std.proofs.Common.{◌≡◌, ◌<◌, ◌≤◌, ◌^◌, ◌&&◌, ◌||◌, ◌↔◌, not, eqb, ℕ, Bool, true, false, Result, Ok, IfOk, refl, sym, ap, subst, ◌∙◌, inl, inr, arith}
 use Rattle.std.specs.Prelude.{IsTrue}
 use Rattle.std.proofs.lemmas.Bool.{false≢true, and_parts, and_from, lt-ltb, ltb-true, eqb-true, or_cases, eq-eqb}
 use Rattle.rel_model.specs.declared.Rel.{Rel}
@@ -20,7 +20,7 @@ use Rattle.rel_model.proofs.OperatorLaws.{relation_of-sizes}
 use Rattle.rel_model.proofs.Workers.{stands_some, gives_stands, gives_set}
 use Rattle.rel_model.proofs.QuadLaws.{empty_quad, side_of-power}
 use Rattle.rel_model.proofs.Heights.{height_over-low, height_over-rows, height_over-cols, height_over-turned}
-use Rattle.rel_model.proofs.Rooting.{one_root, has-cells}
+use Rattle.rel_model.proofs.Rooting.{one_root, has-cells, same_set}
 use Rattle.quad_nodes.specs.Finding.{Finds, FindsQuad}
 use Rattle.fork_quads.specs.Crew.{worker_of, root_quad, named_as, one_cell}
 use Rattle.fork_quads.specs.Forks.{TellsMisses}
@@ -241,6 +241,21 @@ empty_decides w inside r t v i hr e =
     (nothing_value w r.rows r.cols i' (row_limit_law w r hr) (col_limit_law w r hr)).means in (
       (λ is. k.0 (eqb-true r.root 0 (sym e ∙ is))),
       (λ is. e ∙ eq-eqb r.root 0 (k.1 is)),
+    )
+
+-- roots meet exactly where the intersection of their relations is not empty
+pub meets_decides : (w inside : Keeper) (r s : Rel) (p q : Quad) (t : Bool) → inside ≡ w → Stands (worker_of w) r → Stands (worker_of w) s → r.rows ≡ s.rows → r.cols ≡ s.cols → p ≡ root_quad r → q ≡ root_quad s
+    → (t ≡ false) ↔ (cells_inter (quad_cells inside p) (quad_cells inside q) ≡ no_cells) → (t ≡ false) ↔ (inter (set_of (worker_of w) r) (set_of (worker_of w) s) ≡ empty r.rows r.cols)
+meets_decides w inside r s p q t v hr hs er ec ep eq h =
+    let f : Cells = root_cells w.view.words r in
+    let g : Cells = root_cells w.view.words s in
+    let ef : quad_cells inside p ≡ f = ap (λ (x : Keeper). quad_cells x p) v ∙ ap (quad_cells w) ep in
+    let eg : quad_cells inside q ≡ g = ap (λ (x : Keeper). quad_cells x q) v ∙ ap (quad_cells w) eq in
+    let both : cells_inter (quad_cells inside p) (quad_cells inside q) ≡ cells_inter f g = ap (λ (c : Cells). cells_inter c (quad_cells inside q)) ef ∙ ap (λ (c : Cells). cells_inter f c) eg in
+    let is = inter_is r.rows r.cols (set_of (worker_of w) r) (set_of (worker_of w) s) f g (rows_law w r hr) (cols_law w r hr) (has-root w r hr) (has-root w s hs) in
+    let within : LiesWithin r.rows r.cols (cells_inter f g) = inter_within r.rows r.cols f g (root_within w r hr) in (
+      (λ z. sym is ∙ ap (relation_of r.rows r.cols) (sym both ∙ h.0 z) ∙ empty_is r.rows r.cols),
+      (λ z. h.1 (both ∙ same_set r.rows r.cols (cells_inter f g) no_cells within (none_within r.rows r.cols) (is ∙ z ∙ sym (empty_is r.rows r.cols)))),
     )
 
 -- ---- cells

@@ -1,18 +1,17 @@
 -- A quad and a product, as one.
 -- 1. The product of two quads, and then the union of a third with it.
 -- 2. The same as a worker has them; and the words that it places.
-use Rattle.std.proofs.Common.{◌≡◌, ◌≤◌, ◌+◌, ◌-◌, ◌*◌, ◌^◌, ◌∙◌, zero, suc, ℕ, ap, subst, arith}
-use Rattle.std.proofs.Math.Nat.{pow-le-pow_left}
+use Rattle.std.proofs.Common.{◌≡◌, ◌≤◌, ◌+◌, ◌-◌, ◌*◌, ◌^◌, ◌∙◌, ℕ, ap, subst, arith}
+use Rattle.std.proofs.Math.Nat.{pow-le-pow_right}
 use Rattle.rel_model.specs.declared.Quad.{Quad}
 use Rattle.rel_model.specs.Cells.{Cells, cells_union, cells_compose}
 use Rattle.rel_model.specs.Trees.{bottom_height}
 use Rattle.rel_model.specs.Equations.{side_of}
-use Rattle.rel_model.specs.Quads.{Keeper, IsKeeper, QuadStands, IsQuad, quad_cells, KeepsQuads, quad_room}
+use Rattle.rel_model.specs.Quads.{Keeper, IsKeeper, QuadStands, IsQuad, quad_cells, KeepsQuads, quad_room, compose_room}
 use Rattle.rel_model.specs.Worker.{HasQuad, quad_set, MakesAtMost}
 use Rattle.rel_model.proofs.QuadLaws.{quad_cells-stay, side_of-power}
+use Rattle.rel_model.proofs.Rooms.{composed_words-most}
 use Rattle.fork_quads.specs.Crew.{worker_of}
-use Rattle.fork_quads.specs.Forks.{fork_words}
-use Rattle.fork_quads.proofs.Halving.{pow_three}
 use Rattle.fork_quads.proofs.Quartering.{set_inside}
 
 -- ---- in turn
@@ -39,25 +38,15 @@ joined_set w inside x y z v i hx hy hz low =
     ∙ ap (λ (f : Cells). cells_union (quad_set (worker_of w) x) (cells_compose (2 ^ x.height) (quad_set (worker_of w) y) f)) (set_inside w inside z v i hz)
 
 -- a product and a union place at most 20 * 8 ^ h words
-joined_room : (h : ℕ) → bottom_height ≤ h → fork_words (h - bottom_height) + quad_room h ≤ 20 * 8 ^ h
+joined_room : (h : ℕ) → compose_room h + quad_room h ≤ 20 * 8 ^ h
 unfolding bottom_height
-joined_room h low = above (h - 3) h (omega (arith, low))
-  where
-    above : (d k : ℕ) → k ≡ d + 3 → fork_words (k - 3) + quad_room k ≤ 20 * 8 ^ k
-    above zero k e =
-        let a : 8 ^ k ≡ 8 ^ 3 = ap (λ (n : ℕ). 8 ^ n) e in
-        let b : fork_words (k - 3) ≡ 1 = ap fork_words (let f : k - 3 ≡ 0 = omega (arith, e) in f) in
-        let c : quad_room k ≡ 1 = ap quad_room e in
-        omega (arith, a, b, c)
-    above (suc d) k e =
-        let a : 8 ^ k ≡ 512 * 8 ^ suc d = ap (λ (n : ℕ). 8 ^ n) e ∙ pow_three (suc d) in
-        let b : fork_words (k - 3) ≡ 4096 * 8 ^ suc d = ap fork_words (let f : k - 3 ≡ suc d = omega (arith, e) in f) in
-        let c : quad_room k ≡ 2 * 4 ^ suc d - 1 = ap (λ (n : ℕ). 2 * 4 ^ n - 1) (let f : k - 3 ≡ suc d = omega (arith, e) in f) in
-        let p = pow-le-pow_left {n = 4} {m = 8} (omega arith) (suc d) in
-        omega (arith, a, b, c, p)
+joined_room h =
+    let c = composed_words-most (h - 3) in
+    let p = pow-le-pow_right {n = 8} (omega arith) {i = h - 3} {j = h} (omega arith) in
+    omega (arith, c, p)
 
-pub joined_makes : (h : ℕ) (w inside new : Keeper) → inside ≡ w → bottom_height ≤ h → KeepsQuads (fork_words (h - bottom_height) + quad_room h) inside new → MakesAtMost (20 * 8 ^ h) (worker_of w) (worker_of new)
+pub joined_makes : (h : ℕ) (w inside new : Keeper) → inside ≡ w → bottom_height ≤ h → KeepsQuads (compose_room h + quad_room h) inside new → MakesAtMost (20 * 8 ^ h) (worker_of w) (worker_of new)
 joined_makes h w inside new v low k =
-    let r = joined_room h low in
+    let r = joined_room h in
     let p = k.room in
     subst (λ (x : Keeper). MakesAtMost (20 * 8 ^ h) (worker_of x) (worker_of new)) v (omega (arith, p, r))

@@ -2,6 +2,7 @@
 -- 1. A quarter of a window is a window, so a square of a number is a window from its first row and column on.
 -- 2. These lie within the square, and where the squares have 256 rows and columns or more, they are multiples of 256.
 use Rattle.std.proofs.Common.{◌≡◌, ◌≢◌, ◌<◌, ◌≤◌, ◌+◌, ◌-◌, ◌*◌, ◌%◌, ◌^◌, ◌&&◌, ltb, zero, suc, ℕ, Bool, Result, IfOk, refl, sym, ap, subst, ◌∙◌, inl, inr, arith}
+use Rattle.std.proofs.Math.Nat.{pow-suc}
 use Rattle.std.proofs.lemmas.Bool.{cases_lt, lt-ltb, le-ltb, and_left, and_right}
 use Rattle.rel_model.specs.declared.Quad.{Quad}
 use Rattle.rel_model.specs.Cells.{Cells, cells_compose}
@@ -139,23 +140,25 @@ pub first_none : (by : ℕ → ℕ → ℕ) (h c n : ℕ) → c ≡ 0 → 0 ≡ 
 first_none by h c n e = ap (λ (x : ℕ). first_at by h x n) (sym e)
 
 -- ---- room
-whole_most : (d : ℕ) → 2 * 4 ^ d - 1 ≤ whole_words d
-whole_most zero = omega arith
-whole_most (suc d) = omega arith
+whole_most : (t d : ℕ) → 2 * 4 ^ d - 1 ≤ whole_words t d
+whole_most zero zero = omega arith
+whole_most zero (suc d) = let p : 4 ^ suc d ≡ 4 ^ d * 4 = pow-suc 4 d in omega (arith, p)
+whole_most (suc t) zero = omega arith
+whole_most (suc t) (suc d) = omega arith
 
-window_room : (h c : ℕ) → quad_room (h - c) ≤ product_words h c
-window_room h zero =
-    let w = whole_most (h - bottom_height) in
+window_room : (t h c : ℕ) → quad_room (h - c) ≤ product_words t h c
+window_room t h zero =
+    let w = whole_most t (h - bottom_height) in
     let d : h - 0 ≡ h = omega arith in
     let e = ap quad_room d in
     omega (arith, w, e)
-window_room h (suc c) =
+window_room t h (suc c) =
     let d : h - 1 - c ≡ h - suc c = omega arith in
     let e = ap quad_room d in
     omega (arith, e)
 
-pub windowed_keeps : (v w : Keeper) (h c : ℕ) → KeepsQuads (quad_room (h - c)) v w → KeepsQuads (product_words h c) v w
-windowed_keeps v w h c k = keeps_most _ _ v w (window_room h c) k
+pub windowed_keeps : (v w : Keeper) (t h c : ℕ) → KeepsQuads (quad_room (h - c)) v w → KeepsQuads (product_words t h c) v w
+windowed_keeps v w t h c k = keeps_most _ _ v w (window_room t h c) k
 
 -- ---- heights
 pub deep_over : (h c : ℕ) → 8 + c ≤ h → bottom_height + c ≤ h

@@ -4,7 +4,7 @@ use Rattle.rel_model.specs.declared.Quad.{Quad}
 use Rattle.rel_model.specs.Cells.{Cells, cells_compose}
 use Rattle.rel_model.specs.Trees.{bottom_height, quartered}
 use Rattle.rel_model.specs.Equations.{Operator, Transpose, Compose, result_of, side_of}
-use Rattle.rel_model.specs.Quads.{Keeper, quad_cells, QuadStands, IsQuad, KeepsQuads, ReadsQuads, quad_room}
+use Rattle.rel_model.specs.Quads.{Keeper, quad_cells, QuadStands, IsQuad, KeepsQuads, ReadsQuads, quad_room, composed_words}
 use Rattle.rel_model.specs.Worker.{Rose}
 use Rattle.memo_laws.specs.Looking.{operator_of}
 use Rattle.fork_quads.specs.declared.pieces.Job.{Job}
@@ -64,36 +64,39 @@ source Transpose (suc (suc zero)) = 1
 source op k = k
 
 -- ---- rooms
--- how many words an operator on squares of a height places at most
-abbrev pub work_room : Operator → ℕ → ℕ
-work_room Compose height = whole_room height
-work_room op height = quad_room height
+-- how many words an operator on squares of a height places at most, where the middle of a composition may be halved so
+-- often
+abbrev pub work_room : Operator → ℕ → ℕ → ℕ
+work_room Compose turns height = whole_room turns height
+work_room op turns height = quad_room height
 
 -- how many words a square of a composition places at most, cut so often: two products at each cut, and their unions
-abbrev pub product_words : ℕ → ℕ → ℕ
-product_words height zero = whole_room height
-product_words height (suc c) = product_words (height - 1) c + product_words (height - 1) c
+abbrev pub product_words : ℕ → ℕ → ℕ → ℕ
+product_words turns height zero = whole_room turns height
+product_words turns height (suc c) = product_words turns (height - 1) c + product_words turns (height - 1) c
     + quad_room (height - 1 - c)
 
 -- how many words a piece places at most
-abbrev pub piece_room : Operator → ℕ → ℕ → ℕ
-piece_room Compose height cuts = product_words height cuts
-piece_room op height cuts = quad_room (height - cuts)
+abbrev pub piece_room : Operator → ℕ → ℕ → ℕ → ℕ
+piece_room Compose turns height cuts = product_words turns height cuts
+piece_room op turns height cuts = quad_room (height - cuts)
 
 -- how many words the corners over all pieces place at most
 abbrev pub corner_words : ℕ → ℕ
 corner_words zero = 0
 corner_words (suc c) = corner_words c + corner_words c + (corner_words c + corner_words c) + 3
 
--- how many words an operator that may be forked places at most, so many quarterings above the blocks
-abbrev pub fork_words : ℕ → ℕ
-fork_words zero = 1
-fork_words (suc d) = 4096 * 8 ^ suc d
+-- how many words a composition that may be forked places at most, so many quarterings above the blocks: as many as
+-- the recursion does where its middle is not halved
+abbrev pub fork_words : ℕ → ℕ → ℕ
+fork_words zero d = composed_words d
+fork_words (suc n) zero = 1
+fork_words (suc n) (suc d) = 4096 * 8 ^ suc d
 
 -- those of an operator on squares of a height
-abbrev pub fork_room : Operator → ℕ → ℕ
-fork_room Compose height = fork_words (height - bottom_height)
-fork_room op height = quad_room height
+abbrev pub fork_room : Operator → ℕ → ℕ → ℕ
+fork_room Compose turns height = fork_words turns (height - bottom_height)
+fork_room op turns height = quad_room height
 
 -- ---- answers
 -- a call that missed places counts them, and one that succeeded counts nothing
@@ -138,7 +141,8 @@ HadPieces w job from past = (n : ℕ) → from ≤ n → n < past
 pub record DidPieces {E : Type 0} (old new : Keeper) (job : Job) (from past : ℕ) (answer : Result (List Quad) E)
     : Type 0 where
   pub value : IfOk answer (HavePieces new job (job_set old job) from past)
-  pub keeps : KeepsQuads ((past - from) * piece_room (operator_of job.op) job.a.height job.cuts) old new
+  pub keeps : KeepsQuads ((past - from) * piece_room (operator_of job.op) job.pieces.turns job.a.height job.cuts)
+      old new
   pub misses : TellsMisses old new answer
   pub stood : operator_of job.op ≢ Compose → HadPieces old job from past → IsQuiet old new answer
 

@@ -82,7 +82,7 @@ fn put_together<R: Threads, G: Gate>(
     ensures value { IfOk result (IsQuad nodes.new job.a.height (job_set nodes.old job)) }
     ensures stood { operator_of job.op ≢ Compose → FindsQuad nodes.old nodes.new job.a.height
         (job_set nodes.old job) result }
-    ensures keeps { KeepsQuads (fork_room (operator_of job.op) job.a.height) nodes.old nodes.new }
+    ensures keeps { KeepsQuads (fork_room (operator_of job.op) job.pieces.turns job.a.height) nodes.old nodes.new }
     ensures misses { TellsMisses nodes.old nodes.new result }
 {
     let _ = nodes.bottom();
@@ -108,7 +108,7 @@ fn weighed<R: Threads, G: Gate>(
     ensures value { IfOk result (IsQuad nodes.new job.a.height (job_set nodes.old job)) }
     ensures stood { operator_of job.op ≢ Compose → FindsQuad nodes.old nodes.new job.a.height
         (job_set nodes.old job) result }
-    ensures keeps { KeepsQuads (fork_room (operator_of job.op) job.a.height) nodes.old nodes.new }
+    ensures keeps { KeepsQuads (fork_room (operator_of job.op) job.pieces.turns job.a.height) nodes.old nodes.new }
     ensures misses { TellsMisses nodes.old nodes.new result }
 {
     match way_of(nodes, job) {
@@ -141,7 +141,7 @@ fn forked<R: Threads, G: Gate>(
     ensures value { IfOk result (IsQuad nodes.new job.a.height (job_set nodes.old job)) }
     ensures stood { operator_of job.op ≢ Compose → FindsQuad nodes.old nodes.new job.a.height
         (job_set nodes.old job) result }
-    ensures keeps { KeepsQuads (fork_room (operator_of job.op) job.a.height) nodes.old nodes.new }
+    ensures keeps { KeepsQuads (fork_room (operator_of job.op) job.pieces.turns job.a.height) nodes.old nodes.new }
     ensures misses { TellsMisses nodes.old nodes.new result }
 {
     if let Some(found) = nodes.look(job.op, job.a, job.b) {
@@ -172,7 +172,7 @@ pub(crate) fn worked<R: Threads, G: Gate>(
         (quad_cells nodes.old a) (quad_cells nodes.old b))) }
     ensures stood { operator_of op ≢ Compose → FindsQuad nodes.old nodes.new a.height
         (result_of (operator_of op) (side_of a.height) (quad_cells nodes.old a) (quad_cells nodes.old b)) result }
-    ensures keeps { KeepsQuads (fork_room (operator_of op) a.height) nodes.old nodes.new }
+    ensures keeps { KeepsQuads (fork_room (operator_of op) pieces.turns a.height) nodes.old nodes.new }
     ensures misses { TellsMisses nodes.old nodes.new result }
 {
     let cuts = cuts_for(team.workers, a.height, nodes.spare());

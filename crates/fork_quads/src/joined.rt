@@ -1,10 +1,9 @@
 //! A quad and a product, as one quad.
-ghost use Rattle.std.specs.Prelude.{◌≡◌, ◌+◌, ◌-◌, IfOk};
+ghost use Rattle.std.specs.Prelude.{◌≡◌, ◌+◌, IfOk};
 ghost use Rattle.rel_model.specs.Cells.{cells_union, cells_compose};
-ghost use Rattle.rel_model.specs.Trees.{bottom_height};
 ghost use Rattle.rel_model.specs.Equations.{side_of};
-ghost use Rattle.rel_model.specs.Quads.{Keeper, QuadStands, IsQuad, quad_cells, KeepsQuads, ReadsQuads, quad_room};
-ghost use Rattle.fork_quads.specs.Forks.{TellsMisses, fork_words};
+ghost use Rattle.rel_model.specs.Quads.{Keeper, QuadStands, IsQuad, quad_cells, KeepsQuads, ReadsQuads, quad_room, compose_room};
+ghost use Rattle.fork_quads.specs.Forks.{TellsMisses};
 
 use crate::fork::{Team, cuts_for, worked};
 use crate::gate::Gate;
@@ -31,7 +30,7 @@ pub(crate) fn joined_in_turn<R: Threads, G: Gate>(
     requires z_height { z.height ≡ x.height }
     ensures value { IfOk result (IsQuad nodes.new x.height (cells_union (quad_cells nodes.old x)
         (cells_compose (side_of x.height) (quad_cells nodes.old y) (quad_cells nodes.old z)))) }
-    ensures keeps { KeepsQuads (fork_words (x.height - bottom_height) + quad_room x.height) nodes.old nodes.new }
+    ensures keeps { KeepsQuads (compose_room x.height + quad_room x.height) nodes.old nodes.new }
     ensures misses { TellsMisses nodes.old nodes.new result }
 {
     let product = worked(team, nodes, Op::Compose, y, z, WHOLE)?;
@@ -73,7 +72,7 @@ pub(crate) fn joined<R: Threads, G: Gate>(
     requires z_height { z.height ≡ x.height }
     ensures value { IfOk result (IsQuad nodes.new x.height (cells_union (quad_cells nodes.old x)
         (cells_compose (side_of x.height) (quad_cells nodes.old y) (quad_cells nodes.old z)))) }
-    ensures keeps { KeepsQuads (fork_words (x.height - bottom_height) + quad_room x.height) nodes.old nodes.new }
+    ensures keeps { KeepsQuads (compose_room x.height + quad_room x.height) nodes.old nodes.new }
     ensures misses { TellsMisses nodes.old nodes.new result }
 {
     if goes_by_rows(team, nodes, y, z) {

@@ -47,7 +47,7 @@ pub(crate) fn alone(
         (quad_cells nodes.old a) (quad_cells nodes.old b))) }
     ensures stood { operator_of op ≢ Compose → FindsQuad nodes.old nodes.new a.height
         (result_of (operator_of op) (side_of a.height) (quad_cells nodes.old a) (quad_cells nodes.old b)) result }
-    ensures keeps { KeepsQuads (work_room (operator_of op) a.height) nodes.old nodes.new }
+    ensures keeps { KeepsQuads (work_room (operator_of op) pieces.turns a.height) nodes.old nodes.new }
     ensures counts { Counts nodes.old nodes.new result }
 {
     match op {
@@ -167,7 +167,7 @@ fn product_part(
     requires deep { bottom_height + cuts ≤ a.height }
     requires few { pieces.turns ≤ most_turns }
     ensures value { IfOk result (IsQuad nodes.new (a.height - cuts) (product_of nodes.old a b cuts number)) }
-    ensures keeps { KeepsQuads (product_words a.height cuts) nodes.old nodes.new }
+    ensures keeps { KeepsQuads (product_words pieces.turns a.height cuts) nodes.old nodes.new }
     ensures counts { Counts nodes.old nodes.new result }
 {
     let _ = nodes.bottom();
@@ -212,8 +212,8 @@ fn sum_part(
     requires few { pieces.turns ≤ most_turns }
     ensures value { IfOk result (IsQuad nodes.new (row.0.height - cuts) (cells_union
         (product_of nodes.old row.0 column.0 cuts number) (product_of nodes.old row.1 column.1 cuts number))) }
-    ensures keeps { KeepsQuads (product_words row.0.height cuts + product_words row.0.height cuts
-        + quad_room (row.0.height - cuts)) nodes.old nodes.new }
+    ensures keeps { KeepsQuads (product_words pieces.turns row.0.height cuts
+        + product_words pieces.turns row.0.height cuts + quad_room (row.0.height - cuts)) nodes.old nodes.new }
     ensures counts { Counts nodes.old nodes.new result }
 {
     let first = product_part(nodes, row.0, column.0, cuts, number, pieces)?;
@@ -226,7 +226,7 @@ fn composed_part(nodes: &mut Nodes, job: Job, number: u32) -> Result<Quad, Misse
     requires { CanDo nodes.old job }
     ensures value { IfOk result (IsQuad nodes.new (job.a.height - job.cuts)
         (product_of nodes.old job.a job.b job.cuts number)) }
-    ensures keeps { KeepsQuads (product_words job.a.height job.cuts) nodes.old nodes.new }
+    ensures keeps { KeepsQuads (product_words job.pieces.turns job.a.height job.cuts) nodes.old nodes.new }
     ensures counts { Counts nodes.old nodes.new result }
 {
     if job.by_sums && job.a.height - job.cuts >= 8 {
@@ -242,7 +242,8 @@ pub(crate) fn piece(nodes: &mut Nodes, job: Job, number: u32) -> Result<Quad, Mi
         (part job.a.height job.cuts number (job_set nodes.old job))) }
     ensures stood { operator_of job.op ≢ Compose → FindsQuad nodes.old nodes.new (job.a.height - job.cuts)
         (part job.a.height job.cuts number (job_set nodes.old job)) result }
-    ensures keeps { KeepsQuads (piece_room (operator_of job.op) job.a.height job.cuts) nodes.old nodes.new }
+    ensures keeps { KeepsQuads (piece_room (operator_of job.op) job.pieces.turns job.a.height job.cuts)
+        nodes.old nodes.new }
     ensures counts { Counts nodes.old nodes.new result }
 {
     match job.op {

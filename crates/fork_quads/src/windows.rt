@@ -1,8 +1,8 @@
 //! The squares of a composition by sums of rows, each by itself.
 ghost use Rattle.std.specs.Prelude.{◌≡◌, ◌≤◌, ◌+◌, ◌-◌, IfOk};
 ghost use Rattle.rel_model.specs.Trees.{bottom_height, top_height};
-ghost use Rattle.rel_model.specs.Quads.{Keeper, QuadStands, IsQuad, KeepsQuads, Counts};
-ghost use Rattle.fork_quads.specs.Forks.{first_at, south, east, product_of, product_words};
+ghost use Rattle.rel_model.specs.Quads.{Keeper, QuadStands, IsQuad, KeepsQuads, Counts, quad_room};
+ghost use Rattle.fork_quads.specs.Forks.{first_at, south, east, product_of};
 
 use crate::pieces::{picked, place};
 use pair_table::Missed;
@@ -41,7 +41,7 @@ pub(crate) fn window_part(
     requires one_height { b.height ≡ a.height }
     requires tall { 8 + cuts ≤ a.height }
     ensures value { IfOk result (IsQuad nodes.new (a.height - cuts) (product_of nodes.old a b cuts number)) }
-    ensures keeps { KeepsQuads (product_words a.height cuts) nodes.old nodes.new }
+    ensures keeps { KeepsQuads (quad_room (a.height - cuts)) nodes.old nodes.new }
     ensures counts { Counts nodes.old nodes.new result }
 {
     let _ = nodes.bottom();

@@ -22,7 +22,7 @@ same_by INTER h false = refl
 same_by DIFF h x = absurd (h refl)
 
 -- a quad named 0 has no cell
-named_0 : (w : Keeper) (q : Quad) → IsKeeper w → QuadStands w q → q.name ≡ 0 → quad_cells w q ≡ no_cells
+pub named_0 : (w : Keeper) (q : Quad) → IsKeeper w → QuadStands w q → q.name ≡ 0 → quad_cells w q ≡ no_cells
 named_0 w q i s e = (empty_quad w q.height q.name i s.low s.high e).means
 
 -- two quads of one height and one name have one set

@@ -3,3 +3,4 @@ pub mod Combining
 pub mod Filled
 pub mod Finding
 pub mod ByBlocks
+pub mod Meeting

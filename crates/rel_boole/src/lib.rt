@@ -7,6 +7,8 @@ mod boole;
 mod cuts;
 mod found;
 mod leaf;
+mod meet;
 mod operators;
 
+pub use meet::quads_meet;
 pub use operators::{diff_quads, inter_quads, union_quads};

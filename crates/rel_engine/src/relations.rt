@@ -71,6 +71,11 @@ impl<'t, R: Threads + Sync, G: Gate + Sync> Core for Works<'t, R, G> {
         self.crew.same(r, s)
     }
 
+    /// `(i, j) in r and (i, j) in s` for some i and j.
+    fn meets(&mut self, r: Rel, s: Rel) -> bool {
+        self.crew.meets(r, s)
+    }
+
     /// `(i, j) in r`.
     fn has(&mut self, r: Rel, i: u32, j: u32) -> bool {
         self.crew.has(r, i, j)

@@ -6,7 +6,7 @@ use Rattle.rel_model.specs.Relation.{Relation, relation_of, size_limit}
 use Rattle.rel_model.specs.Cells.{Cells, some_below}
 use Rattle.rel_model.specs.Trees.{bottom_height, cells, stands}
 use Rattle.rel_model.specs.Equations.{depth_of, side_of}
-use Rattle.rel_model.specs.Worker.{height_of}
+use Rattle.rel_model.specs.Worker.{height_of, height_of_three}
 
 -- the height of the tree of a relation over leaves of a height: the least from theirs on whose side is at least both
 -- sizes
@@ -25,6 +25,11 @@ tree_room depth = 2 * 4 ^ depth - 1
 -- those of a relation of these sizes over leaves of a height
 abbrev pub relation_room : ℕ → ℕ → ℕ → ℕ
 relation_room least rows cols = tree_room (height_over least rows cols - least)
+
+-- how many nodes a composition of k × m with m × n makes at most over leaves of a height, where one of the three sizes
+-- is at most 1: as many as the recursion over squares that hold all three
+abbrev pub line_product_room : ℕ → ℕ → ℕ → ℕ → ℕ
+line_product_room least k m n = 3 * 8 ^ (max least (height_of_three k m n) - least)
 
 -- whether a set within a square of side m has no cell outside so many rows and columns
 unfoldable pub lies_within : ℕ → ℕ → ℕ → Cells → Bool

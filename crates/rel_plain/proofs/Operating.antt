@@ -11,7 +11,7 @@ use Rattle.rel_plain.specs.Merge.{picked}
 use Rattle.rel_plain.proofs.Stored.{stored}
 
 -- the sizes of a relation in place of its own
-sized : (m n : ℕ) (a : Relation) (t : ℕ → ℕ → Bool) → a.rows ≡ m → a.cols ≡ n → relation_of m n t ≡ relation_of a.rows a.cols t
+pub sized : (m n : ℕ) (a : Relation) (t : ℕ → ℕ → Bool) → a.rows ≡ m → a.cols ≡ n → relation_of m n t ≡ relation_of a.rows a.cols t
 sized m n a t e f = ap (λ x. relation_of x n t) (sym e) ∙ ap (λ y. relation_of a.rows y t) (sym f)
 
 pub union_is : (m n : ℕ) (a b : Relation) → a.rows ≡ m → a.cols ≡ n → relation_of m n (λ i j. picked (record { left = true; both = true; right = true }) (has a i j) (has b i j)) ≡ union a b

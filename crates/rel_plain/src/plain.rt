@@ -10,7 +10,7 @@ use crate::grid::full_pairs;
 use crate::kept::Kept;
 use crate::merge::merged;
 use crate::part::{COMMON, EITHER, FIRST_ALONE, Part};
-use crate::search::contains;
+use crate::search::{contains, share};
 use crate::turn::turned;
 use rel_model::core_trait::Core;
 use rel_model::{Lack, Rel, Shape};
@@ -155,6 +155,11 @@ impl Core for Plain {
     /// `r = s`: increasing lists of one relation are equal.
     fn same(&self, r: Rel, s: Rel) -> bool {
         self.pairs_of(r) == self.pairs_of(s)
+    }
+
+    /// `(i, j) in r and (i, j) in s` for some i and j: each pair of r is looked up in s.
+    fn meets(&mut self, r: Rel, s: Rel) -> bool {
+        share(self.pairs_of(r), self.pairs_of(s))
     }
 
     /// `(i, j) in r`, by halving.

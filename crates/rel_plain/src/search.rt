@@ -9,3 +9,18 @@ pub(crate) fn contains(pairs: &[(u32, u32)], i: u32, j: u32) -> bool
 {
     pairs.binary_search(&(i, j)).is_ok()
 }
+
+/// Whether two increasing lists have a pair in common: each of the first is looked up in the second, up to the first
+/// that is found.
+pub(crate) fn share(left: &[(u32, u32)], right: &[(u32, u32)]) -> bool
+    requires { IsIncreasing right.now }
+    ensures { result ≡ list_any (λ q. list_any (λ p. (p.0 == q.0) && (p.1 == q.1)) right.now) left.now }
+{
+    'pairs: for place in 0..left.len() {
+        let (i, j) = left[place];
+        if contains(right, i, j) {
+            return true;
+        }
+    }
+    false
+}

@@ -28,6 +28,17 @@ fn is_listed(list: &[(u32, u32)], i: u32, j: u32) -> bool {
     found
 }
 
+/// Whether a pair of the first list is in the second, by looking at each.
+fn have_common(first: &[(u32, u32)], second: &[(u32, u32)]) -> bool {
+    let mut found = false;
+    for &(row, col) in first {
+        if is_listed(second, row, col) {
+            found = true;
+        }
+    }
+    found
+}
+
 /// The pairs of a number: bit `i * cols + j` is the pair (i, j).
 fn listed(alloc: Global, shape: Shape, number: u32) -> Result<Vec<(u32, u32)>, AllocError> {
     let mut list = Vec::new(alloc);
@@ -193,9 +204,10 @@ fn lists_agree(
     let r = built(&mut core, shape, first)?;
     let s = built(&mut core, shape, second)?;
     let is_same = core.same(r, s) == are_same;
+    let meet = core.meets(r, s) == have_common(first, second);
     let agree = operators_agree(alloc, &mut core, shape, (r, s), first, second)?;
     let stood = is_list(&mut core, r, first) && is_list(&mut core, s, second);
-    Ok(is_same && agree && stood)
+    Ok(is_same && meet && agree && stood)
 }
 
 /// The same of two relations of these numbers.

@@ -266,6 +266,7 @@ fn filled<C: Core>(rt: &impl Abort, core: &mut C, shape: Shape) -> Rel
     ensures standing { Stands (C.worker core.new) result }
     ensures rows { result.rows ≡ shape.rows }
     ensures cols { result.cols ≡ shape.cols }
+    ensures keeps { Keeps (C.worker core.old) (C.worker core.new) }
 {
     let mut r = given(rt, core.single(shape, 0, 2047));
     let mut state = 1u64;
@@ -286,14 +287,19 @@ fn filled<C: Core>(rt: &impl Abort, core: &mut C, shape: Shape) -> Rel
     panic!(rt; "never full")
 }
 
-/// Asserts that a keeper whose table fills refuses, and keeps what stood.
+/// Asserts that a keeper whose table fills refuses, keeps what stood, and still tells what meets.
 fn refuses_and_keeps<C: Core>(rt: &impl Abort, core: &mut C) {
     let shape = Shape {
         rows: 2048,
         cols: 2048,
     };
+    let within = given(rt, core.single(shape, 0, 2047));
+    let beside = given(rt, core.single(shape, 2047, 0));
     let r = filled(rt, core, shape);
     assert!(rt; core.has(r, 0, 2047));
+    assert!(rt; core.meets(r, within));
+    let found = core.has(r, 2047, 0);
+    assert!(rt; core.meets(r, beside) == found);
     let turned = core.transpose(r);
     assert!(rt; matches!(turned, Err(Lack::Full)), "there is no room");
     assert!(rt; core.has(r, 0, 2047));

@@ -6,4 +6,6 @@ mod closures;
 #[cfg(test)]
 mod forks;
 #[cfg(test)]
+mod meets;
+#[cfg(test)]
 mod tests;

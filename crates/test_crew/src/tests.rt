@@ -167,6 +167,8 @@ fn pair_agrees<C: Core, P: Core>(rt: &impl Abort, crew: &mut C, plain: &mut P, a
     ensures plain_keeps { Keeps (P.worker plain.old) (P.worker plain.new) }
 {
     assert!(rt; crew.same(a.crew, b.crew) == plain.same(a.plain, b.plain));
+    let meet = crew.meets(a.crew, b.crew);
+    assert!(rt; meet == plain.meets(a.plain, b.plain));
     let either = crew.union(a.crew, b.crew);
     let plain_either = plain.union(a.plain, b.plain);
     same_answers(rt, crew, plain, either, plain_either);

@@ -69,6 +69,10 @@ impl Core for Counting {
         self.plain.same(r, s)
     }
 
+    fn meets(&mut self, r: Rel, s: Rel) -> bool {
+        self.plain.meets(r, s)
+    }
+
     fn has(&mut self, r: Rel, i: u32, j: u32) -> bool {
         self.plain.has(r, i, j)
     }

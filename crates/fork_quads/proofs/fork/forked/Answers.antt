@@ -51,7 +51,7 @@ returns-in-Some-clause-keeps g c = keeps_most 0 _ c.args.nodes.now c.look.new.se
 
 pub returns-in-Ok-clause-keeps : goal.returns-in-Ok-clause-keeps
 returns-in-Ok-clause-keeps g c =
-    let m = fork_room (operator_of c.args.job.op) c.args.job.a.height in
+    let m = fork_room (operator_of c.args.job.op) c.args.job.pieces.turns c.args.job.a.height in
     let k = keeps_on 0 m c.args.nodes.now c.look.new.self c.weighed-answer.new.nodes c.look.ensures.reads.keeps c.weighed-answer.ensures.keeps in
     keeps_most _ m c.args.nodes.now c.note.new.self (omega arith) (keeps_on (0 + m) 0 c.args.nodes.now c.weighed-answer.new.nodes c.note.new.self k c.note.ensures.reads.keeps)
 
@@ -63,7 +63,7 @@ returns-in_default-answer-clause-value g c = after_value 0 c.args.nodes.now c.lo
 
 pub returns-in_default-answer-clause-keeps : goal.returns-in_default-answer-clause-keeps
 returns-in_default-answer-clause-keeps g c =
-    let m = fork_room (operator_of c.args.job.op) c.args.job.a.height in
+    let m = fork_room (operator_of c.args.job.op) c.args.job.pieces.turns c.args.job.a.height in
     keeps_most _ m c.args.nodes.now c.weighed-answer.new.nodes (omega arith) (keeps_on 0 m c.args.nodes.now c.look.new.self c.weighed-answer.new.nodes c.look.ensures.reads.keeps c.weighed-answer.ensures.keeps)
 
 pub returns-in_default-answer-clause-misses : goal.returns-in_default-answer-clause-misses

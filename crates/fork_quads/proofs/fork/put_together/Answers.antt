@@ -25,11 +25,11 @@ returns-in-Ok-clause-stood g c =
 
 pub returns-in-Ok-clause-keeps : goal.returns-in-Ok-clause-keeps
 returns-in-Ok-clause-keeps g c =
-    all_keeps c.args.nodes.now c.groups.new.nodes c.gathered.new.nodes (operator_of c.args.job.op) c.args.job.cuts c.args.job.a.height c.count_of-past.result c.requires.over c.requires.cut c.requires.can.deep c.count_of-past.ensures c.in-Ok.ensures.keeps c.gathered.ensures.keeps
+    all_keeps c.args.nodes.now c.groups.new.nodes c.gathered.new.nodes (operator_of c.args.job.op) c.args.job.pieces.turns c.args.job.cuts c.args.job.a.height c.count_of-past.result c.requires.over c.requires.cut c.requires.can.deep c.count_of-past.ensures c.in-Ok.ensures.keeps c.gathered.ensures.keeps
 
 pub returns-in-Err-clause-stood : goal.returns-in-Err-clause-stood
 returns-in-Err-clause-stood g c = λ other. all_missed c.args.nodes.now c.groups.new.nodes c.args.job c.count_of-past.result _ _ c.bottom.ensures.work c.requires.can other c.in-Err.ensures
 
 pub returns-in-Err-clause-keeps : goal.returns-in-Err-clause-keeps
 returns-in-Err-clause-keeps g c =
-    all_keeps-missed c.args.nodes.now c.groups.new.nodes (operator_of c.args.job.op) c.args.job.cuts c.args.job.a.height c.count_of-past.result c.requires.over c.requires.cut c.requires.can.deep c.count_of-past.ensures c.in-Err.ensures.keeps
+    all_keeps-missed c.args.nodes.now c.groups.new.nodes (operator_of c.args.job.op) c.args.job.pieces.turns c.args.job.cuts c.args.job.a.height c.count_of-past.result c.requires.over c.requires.cut c.requires.can.deep c.count_of-past.ensures c.in-Err.ensures.keeps

@@ -27,7 +27,7 @@ pub returns-in-Alone-clause-stood : goal.returns-in-Alone-clause-stood
 returns-in-Alone-clause-stood g c = λ other. after_found c.args.nodes.now c.way_of.new.nodes c.alone.new.nodes c.args.job c.alone.result c.way_of.ensures.reads c.requires.can (c.alone.ensures.stood other)
 
 pub returns-in-Alone-clause-keeps : goal.returns-in-Alone-clause-keeps
-returns-in-Alone-clause-keeps g c = work_room-after (operator_of c.args.job.op) c.args.job.a.height c.args.nodes.now c.way_of.new.nodes c.alone.new.nodes c.way_of.ensures.reads c.alone.ensures.keeps
+returns-in-Alone-clause-keeps g c = work_room-after (operator_of c.args.job.op) c.args.job.pieces.turns c.args.job.a.height c.args.nodes.now c.way_of.new.nodes c.alone.new.nodes c.way_of.ensures.reads c.alone.ensures.keeps
 
 pub returns-in-Parts-clause-value : goal.returns-in-Parts-clause-value
 returns-in-Parts-clause-value g c = after_value 0 c.args.nodes.now c.way_of.new.nodes c.put_together.new.nodes c.args.job c.put_together.result c.way_of.ensures.reads.keeps c.requires.can c.put_together.ensures.value
@@ -47,7 +47,7 @@ returns-in-Alone-clause-misses g c =
 
 pub returns-in-Parts-clause-keeps : goal.returns-in-Parts-clause-keeps
 returns-in-Parts-clause-keeps g c =
-    let m = fork_room (operator_of c.args.job.op) c.args.job.a.height in
+    let m = fork_room (operator_of c.args.job.op) c.args.job.pieces.turns c.args.job.a.height in
     keeps_most _ m c.args.nodes.now c.put_together.new.nodes (omega arith) (keeps_on 0 m c.args.nodes.now c.way_of.new.nodes c.put_together.new.nodes c.way_of.ensures.reads.keeps c.put_together.ensures.keeps)
 
 pub returns-in-Parts-clause-misses : goal.returns-in-Parts-clause-misses
@@ -55,7 +55,7 @@ returns-in-Parts-clause-misses g c = tells_after c.args.nodes.now c.way_of.new.n
 
 pub returns-in-Sums-clause-keeps : goal.returns-in-Sums-clause-keeps
 returns-in-Sums-clause-keeps g c =
-    let m = fork_room (operator_of c.args.job.op) c.args.job.a.height in
+    let m = fork_room (operator_of c.args.job.op) c.args.job.pieces.turns c.args.job.a.height in
     let k = keeps_on 0 m c.args.nodes.now c.way_of.new.nodes c.put_together-in-Sums.new.nodes c.way_of.ensures.reads.keeps c.put_together-in-Sums.ensures.keeps in
     keeps_most _ m c.args.nodes.now c.put_together-in-Sums.new.nodes (omega arith) k
 

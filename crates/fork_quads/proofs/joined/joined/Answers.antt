@@ -1,8 +1,6 @@
-use Rattle.std.proofs.Common.{◌+◌, ◌-◌, sym, ◌∙◌}
-use Rattle.rel_model.specs.Trees.{bottom_height}
-use Rattle.rel_model.specs.Quads.{quad_room}
+use Rattle.std.proofs.Common.{◌+◌, sym, ◌∙◌}
+use Rattle.rel_model.specs.Quads.{quad_room, compose_room}
 use Rattle.rel_model.proofs.QuadLaws.{quad_stays}
-use Rattle.fork_quads.specs.Forks.{fork_words}
 use Rattle.fork_quads.proofs.Joining.{counts_tells, tells_after}
 use Rattle.fork_quads.proofs.InRows.{after_look, rows_keep, turn_keeps}
 use Rattle.fork_quads.proofs.joined.joined.Goals as goal
@@ -24,7 +22,7 @@ pub returns-then-goes_by_rows-clause-value : goal.returns-then-goes_by_rows-clau
 returns-then-goes_by_rows-clause-value g c = after_look c.args.nodes.now c.goes_by_rows.new.nodes c.joined_by_rows.new.nodes c.args.x c.args.y c.args.z c.joined_by_rows.result c.goes_by_rows.ensures.reads c.requires.x_stands c.requires.y_stands c.requires.z_stands c.joined_by_rows.ensures.value
 
 pub returns-then-goes_by_rows-clause-keeps : goal.returns-then-goes_by_rows-clause-keeps
-returns-then-goes_by_rows-clause-keeps g c = rows_keep (fork_words (c.args.x.height - bottom_height)) c.args.x.height c.args.nodes.now c.goes_by_rows.new.nodes c.joined_by_rows.new.nodes c.goes_by_rows.ensures.reads c.joined_by_rows.ensures.keeps
+returns-then-goes_by_rows-clause-keeps g c = rows_keep (compose_room c.args.x.height) c.args.x.height c.args.nodes.now c.goes_by_rows.new.nodes c.joined_by_rows.new.nodes c.goes_by_rows.ensures.reads c.joined_by_rows.ensures.keeps
 
 pub returns-then-goes_by_rows-clause-misses : goal.returns-then-goes_by_rows-clause-misses
 returns-then-goes_by_rows-clause-misses g c = tells_after c.args.nodes.now c.goes_by_rows.new.nodes c.joined_by_rows.new.nodes c.joined_by_rows.result c.goes_by_rows.ensures.reads.misses (counts_tells c.goes_by_rows.new.nodes c.joined_by_rows.new.nodes c.joined_by_rows.result c.joined_by_rows.ensures.counts)
@@ -43,7 +41,7 @@ pub returns-clause-value : goal.returns-clause-value
 returns-clause-value g c = after_look c.args.nodes.now c.goes_by_rows.new.nodes c.joined_in_turn.new.nodes c.args.x c.args.y c.args.z c.joined_in_turn.result c.goes_by_rows.ensures.reads c.requires.x_stands c.requires.y_stands c.requires.z_stands c.joined_in_turn.ensures.value
 
 pub returns-clause-keeps : goal.returns-clause-keeps
-returns-clause-keeps g c = turn_keeps (fork_words (c.args.x.height - bottom_height) + quad_room c.args.x.height) c.args.nodes.now c.goes_by_rows.new.nodes c.joined_in_turn.new.nodes c.goes_by_rows.ensures.reads c.joined_in_turn.ensures.keeps
+returns-clause-keeps g c = turn_keeps (compose_room c.args.x.height + quad_room c.args.x.height) c.args.nodes.now c.goes_by_rows.new.nodes c.joined_in_turn.new.nodes c.goes_by_rows.ensures.reads c.joined_in_turn.ensures.keeps
 
 pub returns-clause-misses : goal.returns-clause-misses
 returns-clause-misses g c = tells_after c.args.nodes.now c.goes_by_rows.new.nodes c.joined_in_turn.new.nodes c.joined_in_turn.result c.goes_by_rows.ensures.reads.misses c.joined_in_turn.ensures.misses

@@ -1,9 +1,7 @@
 use Rattle.rel_model.proofs.QuadLaws.{quad_stays, keeps_on, keeps_most}
 use Rattle.fork_quads.proofs.Unions.{union_of_product}
-use Rattle.std.proofs.Common.{◌-◌, ◌∙◌, ℕ, ap, arith}
-use Rattle.rel_model.specs.Trees.{bottom_height}
-use Rattle.rel_model.specs.Quads.{quad_room}
-use Rattle.fork_quads.specs.Forks.{fork_words}
+use Rattle.std.proofs.Common.{◌∙◌, ℕ, ap, arith}
+use Rattle.rel_model.specs.Quads.{quad_room, compose_room}
 use Rattle.fork_quads.proofs.joined.joined_in_turn.Goals as goal
 
 pub worked-requires-2-clause-a_stands : goal.worked-requires-2-clause-a_stands
@@ -19,19 +17,19 @@ worked-requires-2-clause-one_height g c = c.in_ok-product.ensures.value.same_hei
 
 pub returns-in_err-product-clause-keeps : goal.returns-in_err-product-clause-keeps
 returns-in_err-product-clause-keeps g c =
-    let e = ap (λ (h : ℕ). fork_words (h - bottom_height)) c.requires.y_height in
-    keeps_most (fork_words (c.args.y.height - bottom_height)) _ c.args.nodes.now c.worked.new.nodes (omega (arith, e)) c.in_err-product.ensures.keeps
+    let e = ap (λ (h : ℕ). compose_room h) c.requires.y_height in
+    keeps_most (compose_room c.args.y.height) _ c.args.nodes.now c.worked.new.nodes (omega (arith, e)) c.in_err-product.ensures.keeps
 
 pub returns-in_err-both-clause-keeps : goal.returns-in_err-both-clause-keeps
 returns-in_err-both-clause-keeps g c =
-    let e = ap (λ (h : ℕ). fork_words (h - bottom_height)) c.requires.y_height in
-    let k = keeps_on (fork_words (c.args.y.height - bottom_height)) (quad_room c.args.x.height) c.args.nodes.now c.worked.new.nodes c.worked-2.new.nodes c.in_ok-product.ensures.keeps c.in_err-both.ensures.keeps in
+    let e = ap (λ (h : ℕ). compose_room h) c.requires.y_height in
+    let k = keeps_on (compose_room c.args.y.height) (quad_room c.args.x.height) c.args.nodes.now c.worked.new.nodes c.worked-2.new.nodes c.in_ok-product.ensures.keeps c.in_err-both.ensures.keeps in
     keeps_most _ _ c.args.nodes.now c.worked-2.new.nodes (omega (arith, e)) k
 
 pub returns-clause-keeps : goal.returns-clause-keeps
 returns-clause-keeps g c =
-    let e = ap (λ (h : ℕ). fork_words (h - bottom_height)) c.requires.y_height in
-    let k = keeps_on (fork_words (c.args.y.height - bottom_height)) (quad_room c.args.x.height) c.args.nodes.now c.worked.new.nodes c.worked-2.new.nodes c.in_ok-product.ensures.keeps c.in_ok-both.ensures.keeps in
+    let e = ap (λ (h : ℕ). compose_room h) c.requires.y_height in
+    let k = keeps_on (compose_room c.args.y.height) (quad_room c.args.x.height) c.args.nodes.now c.worked.new.nodes c.worked-2.new.nodes c.in_ok-product.ensures.keeps c.in_ok-both.ensures.keeps in
     keeps_most _ _ c.args.nodes.now c.worked-2.new.nodes (omega (arith, e)) k
 
 pub returns-clause-misses : goal.returns-clause-misses

@@ -33,7 +33,7 @@ pub product_part-returns-clause-keeps : goal.product_part-returns-clause-keeps
 product_part-returns-clause-keeps t c =
     let s = product_step c.args.nodes.now c.quarters_of_both.new.self c.args.a c.args.b c.row_of.result c.column_of.result c.quarters_of_both.result.0 c.quarters_of_both.result.1 c.args.cuts c.args.number c.place-k.result
     c.requires.one_height c.if-cuts-eq0.false c.requires.deep c.quarters_of_both.ensures.first c.quarters_of_both.ensures.second c.place-k.ensures c.row_of.ensures.first c.row_of.ensures.second c.column_of.ensures.first c.column_of.ensures.second in
-    product_keeps c.args.nodes.now c.quarters_of_both.new.self c.sum_part.new.nodes c.args.a.height c.row_of.result.0.height c.args.cuts c.if-cuts-eq0.false s.row_height c.quarters_of_both.ensures.reads c.sum_part.ensures.keeps
+    product_keeps c.args.nodes.now c.quarters_of_both.new.self c.sum_part.new.nodes c.args.pieces.turns c.args.a.height c.row_of.result.0.height c.args.cuts c.if-cuts-eq0.false s.row_height c.quarters_of_both.ensures.reads c.sum_part.ensures.keeps
 
 pub sum_part-product_part-requires-2 : goal.sum_part-product_part-requires-2
 sum_part-product_part-requires-2 t c =
@@ -67,7 +67,7 @@ product_part-returns-then-cuts-eq0-clause-value t c = value_as c.composed.new.no
 
 pub product_part-returns-then-cuts-eq0-clause-keeps : goal.product_part-returns-then-cuts-eq0-clause-keeps
 product_part-returns-then-cuts-eq0-clause-keeps t c =
-    subst (λ (n : ℕ). KeepsQuads (product_words c.args.a.height n) c.args.nodes.now c.composed.new.nodes) (sym c.if-cuts-eq0.true) c.composed.ensures.keeps
+    subst (λ (n : ℕ). KeepsQuads (product_words c.args.pieces.turns c.args.a.height n) c.args.nodes.now c.composed.new.nodes) (sym c.if-cuts-eq0.true) c.composed.ensures.keeps
 
 pub product_part-returns-clause-counts : goal.product_part-returns-clause-counts
 product_part-returns-clause-counts t c = counts_on c.args.nodes.now c.quarters_of_both.new.self c.sum_part.new.nodes c.sum_part.result c.quarters_of_both.ensures.reads.misses c.sum_part.ensures.counts
@@ -84,7 +84,7 @@ sum_part-returns-in_err-first-clause-keeps t c = keeps_most _ _ c.args.nodes.now
 
 pub sum_part-returns-in_err-second-clause-keeps : goal.sum_part-returns-in_err-second-clause-keeps
 sum_part-returns-in_err-second-clause-keeps t c =
-    let e = ap (λ (h : ℕ). product_words h c.args.cuts) c.requires.row_stands.second_height in
+    let e = ap (λ (h : ℕ). product_words c.args.pieces.turns h c.args.cuts) c.requires.row_stands.second_height in
     let k = keeps_on _ _ c.args.nodes.now c.product_part.new.nodes c.product_part-2.new.nodes c.in_ok-first.ensures.keeps c.in_err-second.ensures.keeps in
     keeps_most _ _ c.args.nodes.now c.product_part-2.new.nodes (omega (arith, e)) k
 
@@ -94,7 +94,7 @@ sum_part-union_quads-requires-clause-one_height t c =
 
 pub sum_part-returns-clause-keeps : goal.sum_part-returns-clause-keeps
 sum_part-returns-clause-keeps t c =
-    let e = ap (λ (h : ℕ). product_words h c.args.cuts) c.requires.row_stands.second_height in
+    let e = ap (λ (h : ℕ). product_words c.args.pieces.turns h c.args.cuts) c.requires.row_stands.second_height in
     let s : quad_room c.in_ok-first.first.height ≡ quad_room (c.args.row.0.height - c.args.cuts) = ap quad_room c.in_ok-first.ensures.value.same_height in
     let k = keeps_on _ _ c.args.nodes.now c.product_part.new.nodes c.product_part-2.new.nodes c.in_ok-first.ensures.keeps c.in_ok-second.ensures.keeps in
     keeps_most _ _ c.args.nodes.now c.union_quads.new.nodes (omega (arith, e, s))

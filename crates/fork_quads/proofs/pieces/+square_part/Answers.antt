@@ -33,7 +33,7 @@ returns-then-cuts-eq0-clause-value t c = value_as c.alone.new.nodes _ _ _ _ c.al
 
 pub returns-then-cuts-eq0-clause-keeps : goal.returns-then-cuts-eq0-clause-keeps
 returns-then-cuts-eq0-clause-keeps t c =
-    subst (λ (n : ℕ). KeepsQuads n c.args.nodes.now c.alone.new.nodes) (work_room-square (operator_of c.args.op) c.args.a.height c.args.cuts c.requires.no_product c.if-cuts-eq0.true) c.alone.ensures.keeps
+    subst (λ (n : ℕ). KeepsQuads n c.args.nodes.now c.alone.new.nodes) (work_room-square (operator_of c.args.op) c.args.pieces.turns c.args.a.height c.args.cuts c.requires.no_product c.if-cuts-eq0.true) c.alone.ensures.keeps
 
 pub square_part-requires : goal.square_part-requires
 square_part-requires t c =

@@ -1,4 +1,4 @@
-use Rattle.fork_quads.proofs.Windowing.{windowed_value, windowed_keeps, row_fits, col_fits, row_on, col_on, deep_over}
+use Rattle.fork_quads.proofs.Windowing.{windowed_value, row_fits, col_fits, row_on, col_on, deep_over}
 use Rattle.fork_quads.proofs.windows.window_part.Goals as goal
 
 pub first_of-row-requires-clause-deep : goal.first_of-row-requires-clause-deep
@@ -20,6 +20,3 @@ pub returns-clause-value : goal.returns-clause-value
 returns-clause-value c =
     windowed_value c.args.nodes.now c.compose_window.new.nodes c.args.a c.args.b c.args.cuts c.args.number c.first_of-row.result.0 c.first_of-row.result.1 c.compose_window.result c.requires.one_height (deep_over c.args.a.height c.args.cuts c.requires.tall)
     c.first_of-row.ensures.row c.first_of-row.ensures.col c.compose_window.ensures.value
-
-pub returns-clause-keeps : goal.returns-clause-keeps
-returns-clause-keeps c = windowed_keeps c.args.nodes.now c.compose_window.new.nodes c.args.a.height c.args.cuts c.compose_window.ensures.keeps

@@ -1,7 +1,5 @@
-use Rattle.std.proofs.Common.{◌+◌, ◌-◌}
-use Rattle.rel_model.specs.Trees.{bottom_height}
-use Rattle.rel_model.specs.Quads.{quad_room}
-use Rattle.fork_quads.specs.Forks.{fork_words}
+use Rattle.std.proofs.Common.{◌+◌}
+use Rattle.rel_model.specs.Quads.{quad_room, compose_room}
 use Rattle.fork_quads.proofs.Crewing.{has_quad-stands, keeps_telling}
 use Rattle.fork_quads.proofs.Quartering.{stands_inside, told_gives}
 use Rattle.fork_quads.proofs.Unions.{joined_set, joined_makes}
@@ -26,7 +24,7 @@ returns-clause-value g c =
 
 pub returns-clause-keeps : goal.returns-clause-keeps
 returns-clause-keeps g c =
-    keeps_telling (fork_words (c.args.x.height - bottom_height) + quad_room c.args.x.height) c.args.self.now c.self.inside.nodes c.joined.new.nodes c.joined.result
+    keeps_telling (compose_room c.args.x.height + quad_room c.args.x.height) c.args.self.now c.self.inside.nodes c.joined.new.nodes c.joined.result
     c.self.view_is c.joined.ensures.keeps c.joined.ensures.misses
 
 pub returns-clause-room : goal.returns-clause-room

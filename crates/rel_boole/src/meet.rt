@@ -1,0 +1,98 @@
+//! Whether two quads have a cell in common: a walk by quarters, up to the first cell that is found.
+ghost use Rattle.std.specs.Prelude.{◌≡◌, ◌<◌, ◌↔◌, false};
+ghost use Rattle.rel_model.specs.Cells.{no_cells, cells_inter};
+ghost use Rattle.rel_model.specs.Trees.{bottom_height};
+ghost use Rattle.rel_model.specs.Quads.{Keeper, QuadStands, quad_cells, ReadsQuads};
+
+use crate::boole::Boole;
+use crate::cuts::{cut_off, in_order};
+use crate::found::found_before;
+use crate::leaf::block_by;
+use memo_laws::Op;
+use quad_nodes::Nodes;
+use rel_model::Quad;
+
+/// Whether two quads of the height of blocks have a cell in common.
+fn blocks_meet(nodes: &mut Nodes, a: Quad, b: Quad) -> bool
+    requires a_stands { QuadStands nodes.old a }
+    requires b_stands { QuadStands nodes.old b }
+    requires a_bottom { a.height ≡ bottom_height }
+    requires b_bottom { b.height ≡ bottom_height }
+    ensures value { (result ≡ false) ↔ (cells_inter (quad_cells nodes.old a) (quad_cells nodes.old b) ≡ no_cells) }
+    ensures reads { ReadsQuads nodes.old nodes.new }
+{
+    let first = nodes.bits(a);
+    let second = nodes.bits(b);
+    let common = block_by(Boole::Inter, first, second);
+    common != 0
+}
+
+/// `(i, j) in a and (i, j) in b` for some i and j: whether two quads of one height have a cell in common.
+///
+/// It makes no node and takes no memory. Where none was found, it is noted that the intersection is empty, so that
+/// each two nodes are walked once.
+#[cycle(meeting)]
+pub fn quads_meet(nodes: &mut Nodes, a: Quad, b: Quad) -> bool
+    requires a_stands { QuadStands nodes.old a }
+    requires b_stands { QuadStands nodes.old b }
+    requires one_height { b.height ≡ a.height }
+    ensures value { (result ≡ false) ↔ (cells_inter (quad_cells nodes.old a) (quad_cells nodes.old b) ≡ no_cells) }
+    ensures reads { ReadsQuads nodes.old nodes.new }
+{
+    let bottom = nodes.bottom();
+    if let Some(common) = cut_off(Boole::Inter, a, b) {
+        return common.name != 0;
+    }
+    if a.height == bottom {
+        return blocks_meet(nodes, a, b);
+    }
+    let (first, second) = in_order(Boole::Inter, a, b);
+    meet_over(nodes, first, second)
+}
+
+/// The same over the blocks: a full operand is cut off, and what was noted is looked up.
+#[cycle(meeting)]
+fn meet_over(nodes: &mut Nodes, a: Quad, b: Quad) -> bool
+    requires a_stands { QuadStands nodes.old a }
+    requires b_stands { QuadStands nodes.old b }
+    requires one_height { b.height ≡ a.height }
+    requires over { bottom_height < a.height }
+    ensures value { (result ≡ false) ↔ (cells_inter (quad_cells nodes.old a) (quad_cells nodes.old b) ≡ no_cells) }
+    ensures reads { ReadsQuads nodes.old nodes.new }
+{
+    if let Some(common) = found_before(nodes, Boole::Inter, a, b) {
+        return common.name != 0;
+    }
+    meet_by_quarters(nodes, a, b)
+}
+
+/// The same by quarters, up to the first two that meet; that none did is noted.
+#[cycle(meeting)]
+fn meet_by_quarters(nodes: &mut Nodes, a: Quad, b: Quad) -> bool
+    requires a_stands { QuadStands nodes.old a }
+    requires b_stands { QuadStands nodes.old b }
+    requires one_height { b.height ≡ a.height }
+    requires over { bottom_height < a.height }
+    ensures value { (result ≡ false) ↔ (cells_inter (quad_cells nodes.old a) (quad_cells nodes.old b) ≡ no_cells) }
+    ensures reads { ReadsQuads nodes.old nodes.new }
+{
+    let ((a_nw, a_ne, a_sw, a_se), (b_nw, b_ne, b_sw, b_se)) = nodes.quarters_of_both(a, b);
+    if quads_meet(nodes, a_nw, b_nw) {
+        return true;
+    }
+    if quads_meet(nodes, a_ne, b_ne) {
+        return true;
+    }
+    if quads_meet(nodes, a_sw, b_sw) {
+        return true;
+    }
+    if quads_meet(nodes, a_se, b_se) {
+        return true;
+    }
+    let none = Quad {
+        height: a.height,
+        name: 0,
+    };
+    nodes.note(Op::Inter, a, b, none);
+    false
+}
