@@ -17,30 +17,30 @@ use Rattle.std.specs.List.{AllByRecursion}
 use Rattle.run_model.specs.Carried.{Carried, SameTo, valued_replay, carry_act, carry, valued, HasDue, AllHaveDue, CarriedIsState}
 
 module _ (means : Rel → Relation) where
-  one_order : (o : Ordering) (x y z : Carried) →
+  pub one_order : (o : Ordering) (x y z : Carried) →
       valued means (by_order o x y z) ≡ by_order o (valued means x) (valued means y) (valued means z)
   one_order Less x y z = refl
   one_order Equal x y z = refl
   one_order Greater x y z = refl
 
-  set_valued : (name : List ℕ) (rel : Rel) (m : Carried) → valued means (set name rel m) ≡ set name (means rel) (valued means m)
+  pub set_valued : (name : List ℕ) (rel : Rel) (m : Carried) → valued means (set name rel m) ≡ set name (means rel) (valued means m)
   set_valued name rel [] = refl
   set_valued name rel (e ∷ es) =
       one_order (compare name e.0) ((name, rel) ∷ e ∷ es) ((e.0, rel) ∷ es) (e ∷ set name rel es)
       ∙ ap (λ z. by_order (compare name e.0) ((name, means rel) ∷ (e.0, means e.1) ∷ valued means es) ((e.0, means rel) ∷ valued means es) ((e.0, means e.1) ∷ z)) (set_valued name rel es)
 
-  keep_valued : (b : Bool) (e : List ℕ × Rel) (es : Carried) →
+  pub keep_valued : (b : Bool) (e : List ℕ × Rel) (es : Carried) →
       valued means (cond b (e ∷ es) es) ≡ cond b ((e.0, means e.1) ∷ valued means es) (valued means es)
   keep_valued true e es = refl
   keep_valued false e es = refl
 
-  remove_valued : (name : List ℕ) (m : Carried) → valued means (remove name m) ≡ remove name (valued means m)
+  pub remove_valued : (name : List ℕ) (m : Carried) → valued means (remove name m) ≡ remove name (valued means m)
   remove_valued name [] = refl
   remove_valued name (e ∷ es) =
       keep_valued (not (eq_by_cmp compare name e.0)) e (remove name es)
       ∙ ap (λ z. cond (not (eq_by_cmp compare name e.0)) ((e.0, means e.1) ∷ z) z) (remove_valued name es)
 
-  pick_valued : (b : Bool) (x y : Carried) → cond b (valued means x) (valued means y) ≡ valued means (cond b x y)
+  pub pick_valued : (b : Bool) (x y : Carried) → cond b (valued means x) (valued means y) ≡ valued means (cond b x y)
   pick_valued true x y = refl
   pick_valued false x y = refl
 

@@ -41,16 +41,16 @@ use Rattle.run_model.specs.Turns.{puts_of, state_taken}
 use Rattle.run_model.specs.Sessions.{rel_of, rels_of, HaveValues, HasValuesAt, HasValues}
 use Rattle.run_model.proofs.Depending.{due_by_names}
 
-agree_itself : (s : State) (names : List (List ℕ)) → AgreeOn s s names
+pub agree_itself : (s : State) (names : List (List ℕ)) → AgreeOn s s names
 agree_itself s [] = tt
 agree_itself s (n ∷ names) = (refl, agree_itself s names)
 
-snaps_itself : (o : Option Workspace) (names : List (List ℕ)) → SnapsAgree o o names
+pub snaps_itself : (o : Option Workspace) (names : List (List ℕ)) → SnapsAgree o o names
 snaps_itself None names = tt
 snaps_itself (Some s) names = agree_itself (lookup s) names
 
 -- an item that keeps a snapshot takes all relations
-keep_alike : (item : Item) (s t : Workspace) (snaps : Snapshots) → OneWhereAll (takes_all item) s t → keep (snapped item) s snaps ≡ keep (snapped item) t snaps
+pub keep_alike : (item : Item) (s t : Workspace) (snaps : Snapshots) → OneWhereAll (takes_all item) s t → keep (snapped item) s snaps ≡ keep (snapped item) t snaps
 keep_alike (COMMAND (RELATION name rows rows_at cols cols_at list)) s t snaps h = refl
 keep_alike (COMMAND (Let name e)) s t snaps h = refl
 keep_alike (COMMAND (PRINT e)) s t snaps h = refl
@@ -69,7 +69,7 @@ keep_alike (COMMAND (Explain e)) s t snaps h = refl
 keep_alike (Function at name params body) s t snaps h = refl
 keep_alike (Program at name params decls body result) s t snaps h = refl
 
-kept_alike : (x : Ending) (item : Item) (s t : Workspace) (snaps : Snapshots) → OneWhereAll (takes_all item) s t →
+pub kept_alike : (x : Ending) (item : Item) (s t : Workspace) (snaps : Snapshots) → OneWhereAll (takes_all item) s t →
     kept_at x item s snaps ≡ kept_at x item t snaps
 kept_alike Succeeds item s t snaps h = keep_alike item s t snaps h
 kept_alike Fails item s t snaps h = refl
@@ -84,21 +84,21 @@ module _ (input : Input) (script : Script) (f g : ℕ → Workspace) where
   behind = steps_from g
 
   -- behind an item both have the same snapshots
-  next : (c : ℕ) (item : Item) (o : Outcome) (snaps : Snapshots) → LooksAlike item (f c) (g c) →
+  pub next : (c : ℕ) (item : Item) (o : Outcome) (snaps : Snapshots) → LooksAlike item (f c) (g c) →
       snaps_behind item o (f c) snaps ≡ snaps_behind item o (g c) snaps
   next c item o snaps h = kept_alike (ending o) item (f c) (g c) snaps h.1
 
   -- the same is due
-  same : (c : ℕ) (item : Item) (snaps : Snapshots) → LooksAlike item (f c) (g c) →
+  pub same : (c : ℕ) (item : Item) (snaps : Snapshots) → LooksAlike item (f c) (g c) →
       due input script item (f c) (snap_for item snaps) ≡ due input script item (g c) (snap_for item snaps)
   same c item snaps h = (due_by_names input script item (f c) (g c) (snap_for item snaps) (snap_for item snaps) h (snaps_itself (snap_for item snaps) (names_asked item))).0
 
   -- at the same cost
-  cost : (leaf c : ℕ) (item : Item) (snaps : Snapshots) → LooksAlike item (f c) (g c) → (d : Due) →
+  pub cost : (leaf c : ℕ) (item : Item) (snaps : Snapshots) → LooksAlike item (f c) (g c) → (d : Due) →
       cost_of_item leaf input script item (f c) (snap_for item snaps) d ≡ cost_of_item leaf input script item (g c) (snap_for item snaps) d
   cost leaf c item snaps h = (due_by_names input script item (f c) (g c) (snap_for item snaps) (snap_for item snaps) h (snaps_itself (snap_for item snaps) (names_asked item))).1 leaf
 
-  run_alike : (items : List Item) (outcomes : List Outcome) (c : ℕ) (snaps : Snapshots) → LookAlike f g c items →
+  pub run_alike : (items : List Item) (outcomes : List Outcome) (c : ℕ) (snaps : Snapshots) → LookAlike f g c items →
       SameRun input script (before c snaps items outcomes) (behind c snaps items outcomes)
   unfolding replies saves_of cost_of_step
   run_alike [] outcomes c snaps h = record {
@@ -140,18 +140,18 @@ look_alike_run_alike input script outcomes f g h = run_alike input script f g sc
 
 -- ---- another worker
 module _ (means other : Rel → Relation) where
-  values_other : (rs : List Rel) (gs : Gifts) → AllByRecursion (λ rel. means rel ≡ other rel) rs → HaveValues means rs gs → HaveValues other rs gs
+  pub values_other : (rs : List Rel) (gs : Gifts) → AllByRecursion (λ rel. means rel ≡ other rel) rs → HaveValues means rs gs → HaveValues other rs gs
   values_other [] [] h k = k
   values_other [] (g ∷ gs) h k = k
   values_other (r ∷ rs) [] h k = k
   values_other (r ∷ rs) (g ∷ gs) h k = (sym h.0 ∙ k.0, values_other rs gs h.1 k.1)
 
-  all_append : (xs ys : List Rel) → AllByRecursion (λ rel. means rel ≡ other rel) xs → AllByRecursion (λ rel. means rel ≡ other rel) ys →
+  pub all_append : (xs ys : List Rel) → AllByRecursion (λ rel. means rel ≡ other rel) xs → AllByRecursion (λ rel. means rel ≡ other rel) ys →
       AllByRecursion (λ rel. means rel ≡ other rel) (xs ++ ys)
   all_append [] ys h k = k
   all_append (x ∷ xs) ys h k = (h.0, all_append xs ys h.1 k)
 
-  rels_alike : (c : ℕ) (evs : List Event) → MeanAlike means other evs → AllByRecursion (λ rel. means rel ≡ other rel) (rels_of c evs)
+  pub rels_alike : (c : ℕ) (evs : List Event) → MeanAlike means other evs → AllByRecursion (λ rel. means rel ≡ other rel) (rels_of c evs)
   rels_alike c [] h = tt
   rels_alike c (e ∷ es) h = picked (eqb e.command c) (all_append (rel_of e.act) (rels_of c es) h.0 (rels_alike c es h.1)) (rels_alike c es h.1)
     where
@@ -160,13 +160,13 @@ module _ (means other : Rel → Relation) where
       picked true x y = x
       picked false x y = y
 
-  at_other : (x : Ending) (rs : List Rel) (gs : Gifts) → AllByRecursion (λ rel. means rel ≡ other rel) rs → HasValuesAt x means rs gs → HasValuesAt x other rs gs
+  pub at_other : (x : Ending) (rs : List Rel) (gs : Gifts) → AllByRecursion (λ rel. means rel ≡ other rel) rs → HasValuesAt x means rs gs → HasValuesAt x other rs gs
   at_other Succeeds rs gs h k = values_other rs gs h k
   at_other Fails rs gs h k = k
   at_other Changes rs gs h k = k
   at_other LacksMemory rs gs h k = k
 
-  all_other : (input : Input) (script : Script) (evs : List Event) → MeanAlike means other evs → (steps : List Step) →
+  pub all_other : (input : Input) (script : Script) (evs : List Event) → MeanAlike means other evs → (steps : List Step) →
       AllByRecursion (HasValues input script means evs) steps → AllByRecursion (HasValues input script other evs) steps
   all_other input script evs h [] k = tt
   all_other input script evs h (step ∷ steps) k = (

@@ -39,18 +39,18 @@ use Rattle.run_model.proofs.SharedNumbers.{quadrant_of, quads, told, placed, no_
 use Rattle.run_model.proofs.SharedParsed.{word_of, number_behind, IsSmall, quadrants_read, quadrants_length, root_text, IsSmallRoot, root_read, roots_read, roots_length}
 
 -- ---- heights
-low_height : (rows cols : ℕ) → file_height rows cols ≤ size_height
+pub low_height : (rows cols : ℕ) → file_height rows cols ≤ size_height
 unfolding file_height
 low_height rows cols = omega (arith, height_of-limit rows, height_of-limit cols)
 
-covers_rows : (rows cols : ℕ) → rows ≤ size_limit → rows ≤ 2 ^ file_height rows cols
+pub covers_rows : (rows cols : ℕ) → rows ≤ size_limit → rows ≤ 2 ^ file_height rows cols
 unfolding file_height
 covers_rows rows cols l =
     let a = height_of-covers rows l in
     let b = power_up (height_of rows) (file_height rows cols) (omega arith) in
     omega (arith, a, b)
 
-covers_cols : (rows cols : ℕ) → cols ≤ size_limit → cols ≤ 2 ^ file_height rows cols
+pub covers_cols : (rows cols : ℕ) → cols ≤ size_limit → cols ≤ 2 ^ file_height rows cols
 unfolding file_height
 covers_cols rows cols l =
     let a = height_of-covers cols l in
@@ -58,7 +58,7 @@ covers_cols rows cols l =
     omega (arith, a, b)
 
 -- the pairs of a relation are those of a square of its height
-proper_relation : (r : Relation) → IsRelation r → r.rows ≤ size_limit → r.cols ≤ size_limit → Proper (file_height r.rows r.cols) r.pairs
+pub proper_relation : (r : Relation) → IsRelation r → r.rows ≤ size_limit → r.cols ≤ size_limit → Proper (file_height r.rows r.cols) r.pairs
 proper_relation r v a b =
     record { within = wider r.pairs v.within; increasing = v.increasing }
   where
@@ -119,7 +119,7 @@ next_before e [] h = tt
 next_before e (x ∷ list) h =
     is_true (is_lt (compare e.0 x.0)) (both_true (is_lt (compare e.0 x.0)) (below_all compare e.0 list) (both_true (below_all compare e.0 (x ∷ list)) (is_sorted compare (x ∷ list)) h).0).0
 
-word_length : (name : List ℕ) → is_word name ≡ true → (1 ≤ length name) × (length name ≤ 64)
+pub word_length : (name : List ℕ) → is_word name ≡ true → (1 ≤ length name) × (length name ≤ 64)
 word_length [] h = absurd (false≢true h)
 word_length (b ∷ bs) h =
     let p = and_parts (list_all is_word_byte bs) (leb (length (b ∷ bs)) name_limit) (and_parts (is_letter b) (list_all is_word_byte bs && leb (length (b ∷ bs)) name_limit) h).1 in

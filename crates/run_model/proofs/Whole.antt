@@ -33,7 +33,7 @@ use Rattle.run_model.proofs.Values.{sessions_make_due}
 
 -- ---- events of sessions
 -- a log without events of a session has none
-none_of : (s : ℕ) (xs : List Event) → events_of s xs ≡ [] → list_any (λ e. eqb e.session s) xs ≡ false
+pub none_of : (s : ℕ) (xs : List Event) → events_of s xs ≡ [] → list_any (λ e. eqb e.session s) xs ≡ false
 none_of s [] h = refl
 none_of s (x ∷ xs) h = elim (cases_Bool (eqb x.session s)) [
   | inl t ↦ absurd (some_event x (events_of s xs) (subst (λ b. cond b (x ∷ events_of s xs) (events_of s xs) ≡ []) t h))
@@ -43,7 +43,7 @@ none_of s (x ∷ xs) h = elim (cases_Bool (eqb x.session s)) [
     some_event : (y : Event) (ys : List Event) → y ∷ ys ≡ [] → ⊥
     some_event y ys e = let k : length (y ∷ ys) ≡ 0 = ap length e in omega (arith, k)
 
-one_of : (s : ℕ) (xs : List Event) (e : Event) (ys : List Event) → eqb e.session s ≡ true → list_any (λ x. eqb x.session s) (xs ++ e ∷ ys) ≡ true
+pub one_of : (s : ℕ) (xs : List Event) (e : Event) (ys : List Event) → eqb e.session s ≡ true → list_any (λ x. eqb x.session s) (xs ++ e ∷ ys) ≡ true
 one_of s [] e ys h = ap (λ b. b || list_any (λ x. eqb x.session s) ys) h
 one_of s (z ∷ xs) e ys h = ap (λ b. eqb z.session s || b) (one_of s xs e ys h) ∙ or_true (eqb z.session s)
   where
@@ -52,17 +52,17 @@ one_of s (z ∷ xs) e ys h = ap (λ b. eqb z.session s || b) (one_of s xs e ys h
     or_true false = refl
 
 -- where another session's events stand, a session has none
-others : (s : ℕ) (xs : List Event) → AllByRecursion (λ e. e.session ≡ s → ⊥) xs → events_of s xs ≡ []
+pub others : (s : ℕ) (xs : List Event) → AllByRecursion (λ e. e.session ≡ s → ⊥) xs → events_of s xs ≡ []
 others s [] h = refl
 others s (x ∷ xs) h = rw (ne_eqb x.session s h.0) (others s xs h.1)
 
-none_assigned : (s c : ℕ) (xs : List Event) → AllByRecursion (λ e. e.session ≡ s → ⊥) xs → list_any (assigns s c) xs ≡ false
+pub none_assigned : (s c : ℕ) (xs : List Event) → AllByRecursion (λ e. e.session ≡ s → ⊥) xs → list_any (assigns s c) xs ≡ false
 none_assigned s c [] h = refl
 none_assigned s c (x ∷ xs) h = rw (ne_eqb x.session s h.0) (none_assigned s c xs h.1)
 
 -- and nothing is noted of its commands
 module _ (gifts : ℕ → ℕ → Workspace → Gifts) (s : ℕ) where
-  not_noted : (c t d : ℕ) (a : Act) (p : Replay Relation) → (t ≡ s → ⊥) →
+  pub not_noted : (c t d : ℕ) (a : Act) (p : Replay Relation) → (t ≡ s → ⊥) →
       ((replay_act gifts t d a p).at_read s c ≡ p.at_read s c) × ((replay_act gifts t d a p).given s c ≡ p.given s c)
   not_noted c t d Read p n = (elsewhere c t d n p.now p.at_read, refl)
     where
@@ -74,7 +74,7 @@ module _ (gifts : ℕ → ℕ → Workspace → Gifts) (s : ℕ) where
       elsewhere c t d n v f = ap (λ b. cond (b && eqb c d) v (f s c)) (ne_eqb s t (λ e. n (sym e)))
   not_noted c t d (Remove name) p n = (refl, refl)
 
-  unnoted : (c : ℕ) (xs : List Event) (p : Replay Relation) → AllByRecursion (λ e. e.session ≡ s → ⊥) xs →
+  pub unnoted : (c : ℕ) (xs : List Event) (p : Replay Relation) → AllByRecursion (λ e. e.session ≡ s → ⊥) xs →
       ((replay gifts p xs).at_read s c ≡ p.at_read s c) × ((replay gifts p xs).given s c ≡ p.given s c)
   unnoted c [] p h = (refl, refl)
   unnoted c (x ∷ xs) p h =
@@ -83,11 +83,11 @@ module _ (gifts : ℕ → ℕ → Workspace → Gifts) (s : ℕ) where
       (i.0 ∙ o.0, i.1 ∙ o.1)
 
 -- ---- lists
-all_append : (P : Event → Type 0) (xs ys : List Event) → AllByRecursion P xs → AllByRecursion P ys → AllByRecursion P (xs ++ ys)
+pub all_append : (P : Event → Type 0) (xs ys : List Event) → AllByRecursion P xs → AllByRecursion P ys → AllByRecursion P (xs ++ ys)
 all_append P [] ys h k = k
 all_append P (x ∷ xs) ys h k = (h.0, all_append P xs ys h.1 k)
 
-all_map : (P Q : Event → Type 0) → ((e : Event) → P e → Q e) → (xs : List Event) → AllByRecursion P xs → AllByRecursion Q xs
+pub all_map : (P Q : Event → Type 0) → ((e : Event) → P e → Q e) → (xs : List Event) → AllByRecursion P xs → AllByRecursion Q xs
 all_map P Q f [] h = tt
 all_map P Q f (x ∷ xs) h = (f x h.0, all_map P Q f xs h.1)
 
@@ -111,27 +111,27 @@ module _ (input : Input) where
   abbrev of_batch : ℕ → ℕ → Bool
   of_batch k s = eqb (batch_of input.ends s) k
 
-  not_earlier : (s k : ℕ) → batch_of input.ends s ≡ k → (xs : List Event) → Earlier k xs → AllByRecursion (λ e. e.session ≡ s → ⊥) xs
+  pub not_earlier : (s k : ℕ) → batch_of input.ends s ≡ k → (xs : List Event) → Earlier k xs → AllByRecursion (λ e. e.session ≡ s → ⊥) xs
   not_earlier s k is xs h =
       all_map (λ e. batch_of input.ends e.session < k) (λ e. e.session ≡ s → ⊥)
       (λ e l q. let r : batch_of input.ends e.session ≡ batch_of input.ends s = ap (batch_of input.ends) q in omega (arith, l, r, is)) xs h
 
-  not_later : (s k : ℕ) → batch_of input.ends s ≡ k → (xs : List Event) → Later (k + 1) xs → AllByRecursion (λ e. e.session ≡ s → ⊥) xs
+  pub not_later : (s k : ℕ) → batch_of input.ends s ≡ k → (xs : List Event) → Later (k + 1) xs → AllByRecursion (λ e. e.session ≡ s → ⊥) xs
   not_later s k is xs h =
       all_map (λ e. k + 1 ≤ batch_of input.ends e.session) (λ e. e.session ≡ s → ⊥)
       (λ e l q. let r : batch_of input.ends e.session ≡ batch_of input.ends s = ap (batch_of input.ends) q in omega (arith, l, r, is)) xs h
 
-  own_later : (k : ℕ) (xs : List Event) → AllByRecursion (IsOfBatch input k) xs → Later k xs
+  pub own_later : (k : ℕ) (xs : List Event) → AllByRecursion (IsOfBatch input k) xs → Later k xs
   own_later k xs h = all_map (IsOfBatch input k) (λ e. k ≤ batch_of input.ends e.session) (λ e i. let q = i.2 in omega (arith, q)) xs h
 
-  all_later : (k : ℕ) (state : Workspace) (versions : List ℕ → ℕ) (bs : List Batch) → AreBatches input k state versions bs → Later k (logs_of bs)
+  pub all_later : (k : ℕ) (state : Workspace) (versions : List ℕ → ℕ) (bs : List Batch) → AreBatches input k state versions bs → Later k (logs_of bs)
   all_later k state versions [] h = tt
   all_later k state versions (b ∷ bs) h =
       all_append (λ e. k ≤ batch_of input.ends e.session) b.log (logs_of bs) (own_later k b.log h.2)
       (all_map (λ e. k + 1 ≤ batch_of input.ends e.session) (λ e. k ≤ batch_of input.ends e.session) (λ e l. omega (arith, l)) (logs_of bs)
       (all_later (k + 1) (state_left b) (versions_left b) bs h.3))
 
-  all_numbers : (k : ℕ) (state : Workspace) (versions : List ℕ → ℕ) (bs : List Batch) → AreBatches input k state versions bs →
+  pub all_numbers : (k : ℕ) (state : Workspace) (versions : List ℕ → ℕ) (bs : List Batch) → AreBatches input k state versions bs →
       AllByRecursion (λ e. (1 ≤ e.session) × (e.session ≤ length input.readings)) (logs_of bs)
   all_numbers k state versions [] h = tt
   all_numbers k state versions (b ∷ bs) h =
@@ -140,7 +140,7 @@ module _ (input : Input) where
       (all_numbers (k + 1) (state_left b) (versions_left b) bs h.3)
 
   -- the events of a batch before those of later ones
-  in_order : (k : ℕ) (xs ys : List Event) → AllByRecursion (IsOfBatch input k) xs → Later (k + 1) ys → BatchesInOrder input.ends ys → BatchesInOrder input.ends (xs ++ ys)
+  pub in_order : (k : ℕ) (xs ys : List Event) → AllByRecursion (IsOfBatch input k) xs → Later (k + 1) ys → BatchesInOrder input.ends ys → BatchesInOrder input.ends (xs ++ ys)
   in_order k [] ys h l o = o
   in_order k (x ∷ xs) ys h l o = (
     all_append (λ e. batch_of input.ends x.session ≤ batch_of input.ends e.session) xs ys
@@ -149,7 +149,7 @@ module _ (input : Input) where
     in_order k xs ys h.1 l o,
   )
 
-  all_in_order : (k : ℕ) (state : Workspace) (versions : List ℕ → ℕ) (bs : List Batch) → AreBatches input k state versions bs → BatchesInOrder input.ends (logs_of bs)
+  pub all_in_order : (k : ℕ) (state : Workspace) (versions : List ℕ → ℕ) (bs : List Batch) → AreBatches input k state versions bs → BatchesInOrder input.ends (logs_of bs)
   all_in_order k state versions [] h = tt
   all_in_order k state versions (b ∷ bs) h =
       in_order k b.log (logs_of bs) h.2 (all_later (k + 1) (state_left b) (versions_left b) bs h.3)
@@ -167,7 +167,7 @@ module _ (input : Input) where
   AllRan (b ∷ bs) = AllByRecursion (λ e. RanIn input b.first b.means b.log e.session) b.log × AllRan bs
 
   -- of a batch's sessions nothing is noted behind the events of earlier ones
-  same_to : (k : ℕ) (done : List Event) (names : Workspace) → (replay (gifts_due input) start done).now ≡ names → Earlier k done →
+  pub same_to : (k : ℕ) (done : List Event) (names : Workspace) → (replay (gifts_due input) start done).now ≡ names → Earlier k done →
       SameTo (of_batch k) (replay (gifts_due input) start done) (begun names)
   same_to k done names now earlier = record {
     now = now;
@@ -179,7 +179,7 @@ module _ (input : Input) where
       number s k is = grind (arith, is)
 
   -- behind a batch the history has the state and the versions that it leaves
-  left_behind : (k : ℕ) (done : List Event) (b : Batch) → StandsBehind input (of_batch k) b.means b.first done b.log →
+  pub left_behind : (k : ℕ) (done : List Event) (b : Batch) → StandsBehind input (of_batch k) b.means b.first done b.log →
       (state_after input (done ++ b.log) ≡ state_left b) × ((name : List ℕ) → version name (done ++ b.log) ≡ versions_left b name)
   unfolding state_after carried_from
   left_behind k done b stands = (
@@ -188,13 +188,13 @@ module _ (input : Input) where
     λ name. version-append name done b.log ∙ ap (λ n. n + version name b.log) (sym (stands.versions name)),
   )
 
-  all_left : (k : ℕ) (done : List Event) (bs : List Batch) → AllStand k done bs → LeaveStates input done bs
+  pub all_left : (k : ℕ) (done : List Event) (bs : List Batch) → AllStand k done bs → LeaveStates input done bs
   all_left k done [] st = tt
   all_left k done (b ∷ bs) st =
       let l = left_behind k done b st.0 in
       (l.0, l.1, all_left (k + 1) (done ++ b.log) bs st.1)
 
-  all_stand : (k : ℕ) (state : Workspace) (versions : List ℕ → ℕ) (bs : List Batch) (done : List Event) → AreBatches input k state versions bs → AllRan bs →
+  pub all_stand : (k : ℕ) (state : Workspace) (versions : List ℕ → ℕ) (bs : List Batch) (done : List Event) → AreBatches input k state versions bs → AllRan bs →
       (replay (gifts_due input) start done).now ≡ state → ((name : List ℕ) → version name done ≡ versions name) → Earlier k done → AllStand k done bs
   unfolding carried_from
   all_stand k state versions [] done h r now vs earlier = tt
@@ -224,7 +224,7 @@ module _ (input : Input) where
     pub is_earlier : Earlier k done
     pub is_later : Later (k + 1) later
 
-  place : (bs : List Batch) (k n : ℕ) (state : Workspace) (versions : List ℕ → ℕ) (done : List Event) (b : Batch) → AreBatches input k state versions bs →
+  pub place : (bs : List Batch) (k n : ℕ) (state : Workspace) (versions : List ℕ → ℕ) (done : List Event) (b : Batch) → AreBatches input k state versions bs →
       AllStand k done bs → Earlier k done → slice_get bs n ≡ Some b → Place (k + n) b (done ++ logs_of bs)
   place [] k n state versions done b h st earlier is = let q : 0 ≡ 1 = ap batch_count is in absurd (omega (arith, q))
   place (x ∷ bs) k zero state versions done b h st earlier is =
@@ -378,7 +378,7 @@ module _ (input : Input) where
       legal_sessions (r ∷ rs) [] s h = absurd h
       legal_sessions (r ∷ rs) (o ∷ os) s h = (legal_session s r o h.0, legal_sessions rs os (s + 1) h.1)
 
-from_zero : (n : ℕ) → 0 + n ≡ n
+pub from_zero : (n : ℕ) → 0 + n ≡ n
 from_zero n = omega arith
 
 pub closed_logs_are_legal : ClosedLogsAreLegal
@@ -402,14 +402,14 @@ batches_leave_states input batches outcomes are ran =
 -- ---- words
 module _ (input : Input) where
   -- the events of a batch between those before and those behind
-  between : (done log later : List Event) → events_between (length done) (length done + length log) (done ++ (log ++ later)) ≡ log
+  pub between : (done log later : List Event) → events_between (length done) (length done + length log) (done ++ (log ++ later)) ≡ log
   between done log later =
       (λ i. take (more (length done) (length log) i) (drop_at done (log ++ later) (length done) refl i)) ∙ take_at log later (length log) refl
     where
       more : (m n : ℕ) → (m + n) - m ≡ n
       more m n = omega arith
 
-  all_stored : (bs : List Batch) (words : List (List ℕ)) (k : ℕ) (done : List Event) → AllStand input k done bs → AreAllInWords bs words →
+  pub all_stored : (bs : List Batch) (words : List (List ℕ)) (k : ℕ) (done : List Event) → AllStand input k done bs → AreAllInWords bs words →
       StoredFrom input (done ++ logs_of bs) (length done) bs words
   all_stored [] [] k done st h = tt
   all_stored [] (w ∷ ws) k done st h = h

@@ -261,7 +261,7 @@ unfoldable pub k2_relation : List ℕ → Relation
 k2_relation bytes =
     let f = fields bytes in relation_of f.rows f.cols (is_among (chosen (cells_told f) (take f.cell_count f.cells)))
 
--- Laws, not proved here: bytes without a fault are those of their relation, and a relation's bytes
+-- Laws: bytes without a fault are those of their relation, and a relation's bytes
 -- have none and are read as it.
 pub record FilesLaws : Type 0 where
   pub bytes_of_read : (bytes : List ℕ) → AllByRecursion (λ b. b < 256) bytes → k2_fault bytes ≡ None →
