@@ -10,3 +10,4 @@ pub mod Plain
 pub mod OneStmt
 pub mod OneBlock
 pub mod OneScript
+pub mod SameTrees

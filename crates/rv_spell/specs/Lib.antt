@@ -1,3 +1,4 @@
 pub mod Printed
 pub mod Again
 pub mod Plain
+pub mod SameTrees

@@ -4,5 +4,5 @@
 mod law;
 mod print;
 
-pub use law::one_script;
+pub use law::{one_script, same_except_places};
 pub use print::print_expr;
