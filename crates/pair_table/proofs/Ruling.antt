@@ -4,26 +4,26 @@
 -- 3. A compare-exchange that succeeds places a word at a vacant place behind places that hold other words: the words stay sound, and both the seat's count and the count of all stored words rise by one (`place_allowed`).
 -- 4. A split cuts the number of seats for which a view stands in two, a join adds the numbers (`split_allowed`, `join_allowed`).
 -- 5. In the end one seat stands for all, so the others, which stand for none, made nothing, and its count is that of all stored words (`ended`).
-use Rattle.std.proofs.Common.{◌≡◌, ◌<◌, ◌≤◌, ◌≢◌, ◌+◌, ◌-◌, ◌^◌, eqb, zero, suc, ℕ, List, [], ◌∷◌, ◌++◌, length, set, replicate, refl, sym, ap, subst, ◌∙◌, inl, inr, arith, get_or, Option}
+use Rattle.std.proofs.Common.{◌≡◌, ◌<◌, ◌≤◌, ◌≢◌, ◌+◌, ◌-◌, ◌^◌, eqb, zero, suc, ℕ, List, [], ◌∷◌, ◌++◌, length, set, refl, sym, ap, subst, ◌∙◌, inl, inr, arith, get_or, Option}
 use Rattle.std.proofs.lemmas.Bool.{cases_Bool, eqb-true, eq-eqb, ne_eqb}
-use Rattle.std.proofs.Math.ListN.{length-replicate}
 use mathlib.Core.Option.{some, some-injective, some-ne-none}
 use lib.ListN.{get_elem?}
 use prog.Atomic.{either}
 use Rattle.atomic_table.specs.Table.{State, Me, step, keeps, Allows, Splits, Joins}
 use Rattle.atomic_table.proofs.Lists.{at_set, at_snoc}
 use Rattle.rel_model.specs.Words.{Extends, IsSound, place_at, stored_count}
+use Rattle.rel_model.specs.Equations.{node_words}
 use Rattle.rel_model.proofs.NamesStand.{extends_on}
 use Rattle.pair_table.specs.declared.rule.Known.{Known}
-use Rattle.pair_table.specs.declared.rule.Size.{Size}
+use Rattle.pair_table.specs.declared.rule.Start.{Start}
 use Rattle.pair_table.specs.Probe.{Passed, IsNext}
 use Rattle.pair_table.specs.Rule.{total, first_view, NodesHold, left_of, right_of, both_of, spent}
 use Rattle.pair_table.specs.Tells.{Steps, load_tells, place_tells, cut_tells}
-use Rattle.pair_table.proofs.Placing.{IsFree, placed_set, placed_extends, placed_sound, placed_count, nowhere, cases_eq, vacant_sound, vacant_count}
+use Rattle.pair_table.proofs.Placing.{IsFree, placed_set, placed_extends, placed_sound, placed_count, nowhere, cases_eq}
 
 -- the rule of the node words alone, of a table without others
-abbrev pub NodesOf : {S : Type 0} → Size → State S Known → Type 0
-NodesOf size s = NodesHold size s.words s.views
+abbrev pub NodesOf : {S : Type 0} → Start → State S Known → Type 0
+NodesOf start s = NodesHold start s.words s.views
 
 -- a view that has seen all words
 abbrev pub sees_all : Known → List ℕ → ℕ → ℕ → Option (ℕ × ℕ) → Known
@@ -58,9 +58,9 @@ at_most f (x ∷ xs) (suc id) v e = let h = at_most f xs id v e in omega arith
 
 -- ---- a seat's own step
 -- after a step its seat has seen all words
-pub rule_after : (size : Size) (old new : List ℕ) (views : List Known) (id : ℕ) (v : Known) (made cut : ℕ) (last : Option (ℕ × ℕ)) → NodesHold size old views → get_elem? views id ≡ some v → v.parts ≢ 0
-    → Extends old new → IsSound new → made + stored_count old ≡ v.made + stored_count new → NodesHold size new (set views id (sees_all v new made cut last))
-rule_after size old new views id v made cut last r e live x s m =
+pub rule_after : (start : Start) (old new : List ℕ) (views : List Known) (id : ℕ) (v : Known) (made cut : ℕ) (last : Option (ℕ × ℕ)) → NodesHold start old views → get_elem? views id ≡ some v → v.parts ≢ 0
+    → Extends old new → IsSound new → made + stored_count old ≡ v.made + stored_count new → NodesHold start new (set views id (sees_all v new made cut last))
+rule_after start old new views id v made cut last r e live x s m =
     let w : Known = sees_all v new made cut last in
     record {
       size_is = x.same_length ∙ r.size_is;
@@ -83,32 +83,32 @@ rule_after size old new views id v made cut last r e live x s m =
     }
 
 -- a step that changes no word
-pub look_after : (size : Size) (words : List ℕ) (views : List Known) (id place : ℕ) (v : Known) (cut n : ℕ) → NodesHold size words views → get_elem? views id ≡ some v → v.parts ≢ 0 → n ≡ get_or words place 0
-    → NodesHold size (set words place n) (set views id (sees_all v words v.made cut v.last))
-look_after size words views id place v cut n r e live h =
-    subst (λ (ws : List ℕ). NodesHold size ws (set views id (sees_all v words v.made cut v.last))) (sym (ap (set words place) h ∙ set_back words place))
-    (rule_after size words words views id v v.made cut v.last r e live (extends_itself words) r.sound refl)
+pub look_after : (start : Start) (words : List ℕ) (views : List Known) (id place : ℕ) (v : Known) (cut n : ℕ) → NodesHold start words views → get_elem? views id ≡ some v → v.parts ≢ 0 → n ≡ get_or words place 0
+    → NodesHold start (set words place n) (set views id (sees_all v words v.made cut v.last))
+look_after start words views id place v cut n r e live h =
+    subst (λ (ws : List ℕ). NodesHold start ws (set views id (sees_all v words v.made cut v.last))) (sym (ap (set words place) h ∙ set_back words place))
+    (rule_after start words words views id v v.made cut v.last r e live (extends_itself words) r.sound refl)
 
 -- what it tells
-pub looks : (size : Size) (words : List ℕ) (views : List Known) (id : ℕ) (v : Known) (cut : ℕ) (last : Option (ℕ × ℕ)) → NodesHold size words views → get_elem? views id ≡ some v → v.parts ≢ 0
+pub looks : (start : Start) (words : List ℕ) (views : List Known) (id : ℕ) (v : Known) (cut : ℕ) (last : Option (ℕ × ℕ)) → NodesHold start words views → get_elem? views id ≡ some v → v.parts ≢ 0
     → Steps v (sees_all v words v.made cut last)
-looks size words views id v cut last r e live = record { seen = r.seen id v e live; canonical = r.sound.distinct; parts = refl }
+looks start words views id v cut last r e live = record { seen = r.seen id v e live; canonical = r.sound.distinct; parts = refl }
 
-few_parts : (size : Size) (words : List ℕ) (views : List Known) (id : ℕ) (v : Known) → NodesHold size words views → get_elem? views id ≡ some v → v.parts < 2 ^ 32
-few_parts size words views id v r e = let a = at_most (λ k. k.parts) views id v e in let b = r.parts_in_all in let c = r.few in omega arith
+few_parts : (start : Start) (words : List ℕ) (views : List Known) (id : ℕ) (v : Known) → NodesHold start words views → get_elem? views id ≡ some v → v.parts < 2 ^ 32
+few_parts start words views id v r e = let a = at_most (λ k. k.parts) views id v e in let b = r.parts_in_all in let c = r.few in omega arith
 
 -- a load
-pub load_allowed : (size : Size) (slots id place : ℕ) (m : Me (Unit {0}) Known) → m.0.parts ≢ 0 → Allows (NodesOf size) slots id m place (λ n. n) (load_tells (step slots place 0 0 mathlib.Core.Option.none) m)
-load_allowed size slots id place m live s r homes at fits = (
+pub load_allowed : (start : Start) (slots id place : ℕ) (m : Me (Unit {0}) Known) → m.0.parts ≢ 0 → Allows (NodesOf start) slots id m place (λ n. n) (load_tells (step slots place 0 0 mathlib.Core.Option.none) m)
+load_allowed start slots id place m live s r homes at fits = (
   sees_all m.0 s.words m.0.made 0 m.0.last,
   keeps,
   tt,
-  look_after size s.words s.views id place m.0 0 _ r at live refl,
+  look_after start s.words s.views id place m.0 0 _ r at live refl,
   (
     record {
-      steps = looks size s.words s.views id m.0 0 m.0.last r at live;
+      steps = looks start s.words s.views id m.0 0 m.0.last r at live;
       told = r.told id m.0 at live;
-      few = few_parts size s.words s.views id m.0 r at;
+      few = few_parts start s.words s.views id m.0 r at;
       there = refl;
       made = refl;
       last = refl;
@@ -122,13 +122,13 @@ pub same_number : (k n : ℕ) → either (eqb n k) k n ≡ n
 same_number k n = elim (cases_Bool (eqb n k)) [ inl e ↦ ap (λ b. either b k n) e ∙ sym (eqb-true n k e) | inr e ↦ ap (λ b. either b k n) e ]
 
 -- it tells the number to the view
-pub cut_allowed : (size : Size) (slots id place k : ℕ) (m : Me (Unit {0}) Known) → m.0.parts ≢ 0 → Allows (NodesOf size) slots id m place (λ n. either (eqb n k) k n) (cut_tells (step slots place k k mathlib.Core.Option.none) m)
-cut_allowed size slots id place k m live s r homes at fits = (
+pub cut_allowed : (start : Start) (slots id place k : ℕ) (m : Me (Unit {0}) Known) → m.0.parts ≢ 0 → Allows (NodesOf start) slots id m place (λ n. either (eqb n k) k n) (cut_tells (step slots place k k mathlib.Core.Option.none) m)
+cut_allowed start slots id place k m live s r homes at fits = (
   sees_all m.0 s.words m.0.made k m.0.last,
   keeps,
   tt,
-  look_after size s.words s.views id place m.0 k _ r at live (same_number k (get_or s.words place 0)),
-  (record { steps = looks size s.words s.views id m.0 k m.0.last r at live; cut = refl; made = refl; last = refl }, refl),
+  look_after start s.words s.views id place m.0 k _ r at live (same_number k (get_or s.words place 0)),
+  (record { steps = looks start s.words s.views id m.0 k m.0.last r at live; cut = refl; made = refl; last = refl }, refl),
 )
 
 -- ---- a compare-exchange from 0
@@ -154,9 +154,9 @@ free_in old new x word n p z = record {
 }
 
 -- the word is placed where 0 is found, and else nothing changes
-pub place_allowed : (size : Size) (slots id place word : ℕ) (m : Me (Unit {0}) Known) → m.0.parts ≢ 0 → IsNext m.0.words word place → word ≢ 0 → word < 2 ^ 64
-    → Allows (NodesOf size) slots id m place (λ n. either (eqb n 0) word n) (place_tells (step slots place 0 word mathlib.Core.Option.none) m)
-place_allowed size slots id place word m live p h l s r homes at fits = elim (cases_eq (get_or s.words place 0) 0) [
+pub place_allowed : (start : Start) (slots id place word : ℕ) (m : Me (Unit {0}) Known) → m.0.parts ≢ 0 → IsNext m.0.words word place → word ≢ 0 → word < 2 ^ 64
+    → Allows (NodesOf start) slots id m place (λ n. either (eqb n 0) word n) (place_tells (step slots place 0 word mathlib.Core.Option.none) m)
+place_allowed start slots id place word m live p h l s r homes at fits = elim (cases_eq (get_or s.words place 0) 0) [
   | inl z ↦
       let x = r.seen id m.0 at live in
       let q = free_in m.0.words s.words x word place p z in
@@ -170,7 +170,7 @@ place_allowed size slots id place word m live p h l s r homes at fits = elim (ca
         w,
         keeps,
         tt,
-        subst (λ (k : ℕ). NodesHold size (set s.words place k) (set s.views id w)) (sym found) (rule_after size s.words new s.views id m.0 (m.0.made + 1) 0 m.0.last r at live y g (omega (arith, count))),
+        subst (λ (k : ℕ). NodesHold start (set s.words place k) (set s.views id w)) (sym found) (rule_after start s.words new s.views id m.0 (m.0.made + 1) 0 m.0.last r at live y g (omega (arith, count))),
         (
           record {
             steps = record { seen = extends_on _ _ _ x y; canonical = g.distinct; parts = refl };
@@ -187,10 +187,10 @@ place_allowed size slots id place word m live p h l s r homes at fits = elim (ca
         sees_all m.0 s.words m.0.made 0 m.0.last,
         keeps,
         tt,
-        look_after size s.words s.views id place m.0 0 _ r at live found,
+        look_after start s.words s.views id place m.0 0 _ r at live found,
         (
           record {
-            steps = looks size s.words s.views id m.0 0 m.0.last r at live;
+            steps = looks start s.words s.views id m.0 0 m.0.last r at live;
             lost = λ k. (refl, refl);
             won = λ k. absurd (z k);
             absent = λ k. absurd (z k);
@@ -202,8 +202,8 @@ place_allowed size slots id place word m live p h l s r homes at fits = elim (ca
 ]
 
 -- ---- splitting and joining
-pub split_allowed : (size : Size) (id : ℕ) (v : Known) → v.cut + 1 < v.parts → Splits {S = Unit {0}} (NodesOf size) id v (left_of v) (right_of v)
-split_allowed size id v c s r e =
+pub split_allowed : (start : Start) (id : ℕ) (v : Known) → v.cut + 1 < v.parts → Splits {S = Unit {0}} (NodesOf start) id v (left_of v) (right_of v)
+split_allowed start id v c s r e =
     let l : v.parts ≢ 0 = omega arith in
     let both = set s.views id (left_of v) in
     record {
@@ -235,8 +235,8 @@ split_allowed size id v c s r e =
       few = r.few;
     }
 
-pub join_allowed : (size : Size) (id other : ℕ) (v w : Known) → v.parts ≢ 0 → w.parts ≢ 0 → Joins {S = Unit {0}} (NodesOf size) id v other w (both_of v w) spent
-join_allowed size id other v w live also s r e apart o =
+pub join_allowed : (start : Start) (id other : ℕ) (v w : Known) → v.parts ≢ 0 → w.parts ≢ 0 → Joins {S = Unit {0}} (NodesOf start) id v other w (both_of v w) spent
+join_allowed start id other v w live also s r e apart o =
     let views = set s.views id (both_of v w) in
     let ow : get_elem? s.views other ≡ some w = elim (at_set s.views id other (both_of v w) w o) [ inl t ↦ absurd (apart t.0) | inr t ↦ t.1 ] in
     record {
@@ -269,22 +269,23 @@ join_allowed size id other v w live also s r e apart o =
     }
 
 -- ---- the beginning and the end
--- a table with no word and one seat
-pub opening_ruled : (size : Size) → size.seats < 2 ^ 32 → NodesHold size (replicate (2 ^ size.bits) zero) (first_view size ∷ [])
-opening_ruled size h =
-    let words : List ℕ = replicate (2 ^ size.bits) zero in
+-- a table with sound words and one seat, which has seen them all
+pub opening_ruled : (start : Start) → start.seats < 2 ^ 32 → 1 ≤ start.seats → length (node_words start.bits start.words.items) ≡ 2 ^ start.bits → IsSound (node_words start.bits start.words.items)
+    → NodesHold start (node_words start.bits start.words.items) (first_view start ∷ [])
+opening_ruled start h l e s =
+    let words : List ℕ = node_words start.bits start.words.items in
     record {
-      size_is = length-replicate (2 ^ size.bits) zero;
-      sound = vacant_sound (2 ^ size.bits);
+      size_is = e;
+      sound = s;
       seen = λ i v e l. subst (λ (k : Known). Extends k.words words) (only i v e) (extends_itself words);
       told = λ i v e l. subst (λ (k : Known). Extends k.told words) (only i v e) (extends_itself words);
-      idle = λ i v e z. sym (ap (λ (k : Known). k.made) (only i v e));
-      made_in_all = (let a = vacant_count (2 ^ size.bits) in omega arith);
+      idle = λ i v e z. absurd (let p : start.seats ≡ 0 = ap (λ (k : Known). k.parts) (only i v e) ∙ z in omega arith);
+      made_in_all = omega arith;
       parts_in_all = omega arith;
       few = h;
     }
   where
-    only : (i : ℕ) (v : Known) → get_elem? (first_view size ∷ []) i ≡ some v → first_view size ≡ v
+    only : (i : ℕ) (v : Known) → get_elem? (first_view start ∷ []) i ≡ some v → first_view start ≡ v
     only zero v e = some-injective _ v e
     only (suc i) v e = absurd (some-ne-none v (sym e))
 
@@ -312,8 +313,8 @@ pub record IsEnd (v : Known) (words : List ℕ) : Type 0 where
   pub seen : Extends v.words words
   pub counted : stored_count words ≡ v.made
 
-pub ended : (size : Size) (words : List ℕ) (views : List Known) (id : ℕ) (v : Known) → NodesHold size words views → get_elem? views id ≡ some v → v.parts ≡ size.seats → v.parts ≢ 0 → IsEnd v words
-ended size words views id v r e p live = record {
+pub ended : (start : Start) (words : List ℕ) (views : List Known) (id : ℕ) (v : Known) → NodesHold start words views → get_elem? views id ≡ some v → v.parts ≡ start.seats → v.parts ≢ 0 → IsEnd v words
+ended start words views id v r e p live = record {
   sound = r.sound;
   seen = r.seen id v e live;
   counted = sym r.made_in_all ∙ one_made views id v e r.idle (r.parts_in_all ∙ sym p);

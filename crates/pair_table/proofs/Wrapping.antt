@@ -1,6 +1,5 @@
 -- From what the steps tell to what callers see.
-use Rattle.std.proofs.Common.{◌≡◌, ◌≤◌, ◌≢◌, ◌+◌, ◌-◌, ◌^◌, ℕ, List, [], replicate, ◌∷◌, ◌++◌, take, zero, suc, length, refl, sym, ap, subst, ◌∙◌, inl, inr, arith, get_or, Result, Ok, Err, IsErr}
-use Rattle.std.proofs.Math.ListN.{length-replicate}
+use Rattle.std.proofs.Common.{◌≡◌, ◌≤◌, ◌≢◌, ◌+◌, ◌-◌, ◌^◌, ℕ, List, [], replicate, ◌∷◌, ◌++◌, take, zero, suc, length, refl, sym, ap, subst, ◌∙◌, inl, inr, arith, get_or, Result, Ok, Err, IsErr, IfOk}
 use Rattle.std.proofs.Math.Pow.{pow_mono}
 use Rattle.std.proofs.lemmas.Bool.{cases_lt}
 use Rattle.std.proofs.lemmas.List.{get_or_past}
@@ -8,16 +7,17 @@ use mathlib.Core.Option.{some, some-injective, some-ne-none}
 use lib.ListN.{get_elem?}
 use Rattle.atomic_table.specs.Table.{Me, Final, Seen}
 use Rattle.atomic_table.specs.Seated.{TableId, table_id_coded}
-use Rattle.rel_model.specs.Words.{IsDistinct, IsFullOfOthers}
-use Rattle.rel_model.specs.Equations.{memo_slots}
-use Rattle.rel_model.specs.Views.{Interns, Keeps, IsFresh, IsClosed}
+use Rattle.rel_model.specs.Words.{IsDistinct, IsFullOfOthers, stored_count}
+use Rattle.rel_model.specs.Equations.{IsSoundTable, memo_slots, node_words}
+use Rattle.rel_model.specs.Views.{Table, View, Interns, Keeps, IsFresh, IsClosed}
 use Rattle.pair_table.specs.declared.rule.Known.{Known}
-use Rattle.pair_table.specs.declared.rule.Size.{Size}
+use Rattle.pair_table.specs.declared.rule.Start.{Start}
 use Rattle.pair_table.specs.Rule.{Holds, first_view}
 use Rattle.pair_table.specs.Tells.{Steps, InternsFor}
+use Rattle.pair_table.specs.Opened.{IsOpened}
 use Rattle.pair_table.specs.Held.{house_of, IsSeat, IsTable, view_of}
-use Rattle.pair_table.proofs.Placing.{vacant_at, vacant_sound}
-use Rattle.pair_table.proofs.Memoing.{ended_all}
+use Rattle.pair_table.proofs.Placing.{vacant_at, vacant_count}
+use Rattle.pair_table.proofs.Memoing.{ended_all, nodes_length, vacant_nodes}
 
 -- tables of one house are one
 pub one_table : (a b : TableId) → house_of a ≡ house_of b → a ≡ b
@@ -50,12 +50,12 @@ interned {S} {E} id new me after spare word r h e i = record {
     full (Err x) i f = refl
 
 -- the words in the end, as callers see them
-pub closed_from : {S : Type 0} (id : TableId) (me : Me S Known) (spare : ℕ) (size : Size) (place : ℕ) (words : List ℕ) (xs : List S) → Final (Seen (Holds size) place me.0) words xs → IsSeat me spare → spare + 1 ≡ size.seats
-    → IsClosed size.bits (view_of id me spare) words
-closed_from id me spare size place words xs f s e =
-    let p : me.0.parts ≡ size.seats = s.parts ∙ e in
+pub closed_from : {S : Type 0} (id : TableId) (me : Me S Known) (spare : ℕ) (start : Start) (place : ℕ) (words : List ℕ) (xs : List S) → Final (Seen (Holds start) place me.0) words xs → IsSeat me spare → spare + 1 ≡ start.seats
+    → IsClosed start.bits (view_of id me spare) words
+closed_from id me spare start place words xs f s e =
+    let p : me.0.parts ≡ start.seats = s.parts ∙ e in
     let l : me.0.parts ≢ 0 = (λ z. let a = s.parts in omega arith) in
-    let d = ended_all size words xs place me.0 f p l in
+    let d = ended_all start words xs place me.0 f p l in
     record { sound = d.sound; holds = d.nodes.seen; counted = d.nodes.counted }
 
 -- one more word of a list
@@ -64,29 +64,47 @@ take_at [] i x e = absurd (some-ne-none x (sym e))
 take_at (y ∷ ys) zero x e = ap (λ (z : ℕ). z ∷ []) (some-injective y x e)
 take_at (y ∷ ys) (suc i) x e = let h : suc i + 1 ≡ suc (i + 1) = omega arith in rw h (ap (λ (zs : List ℕ). y ∷ zs) (take_at ys i x e))
 
--- ---- a new table
-pub table_from : (id : TableId) (key : Size) (bits seats count : ℕ) → 10 ≤ bits → bits ≤ 24 → count ≡ 2 ^ bits - 2 → id.words ≡ 2 ^ bits + memo_slots → id.slots ≡ 0 → key ≡ record { bits = bits; seats = seats } → IsTable id key count bits seats
-table_from id key bits seats count a b e w z k =
+-- ---- a table that is opened, and a new one
+pub table_from : (id : TableId) (key : Start) (bits seats count : ℕ) → 10 ≤ bits → bits ≤ 24 → count ≡ 2 ^ bits - 2 → id.words ≡ 2 ^ bits + memo_slots → id.slots ≡ 0 → key.bits ≡ bits → key.seats ≡ seats → IsTable id key count bits seats
+table_from id key bits seats count a b e w z k s =
     let low : 2 ^ 10 ≤ 2 ^ bits = pow_mono a in
     let high : 2 ^ bits ≤ 2 ^ 24 = pow_mono b in
-    record { words = w; slots = z; key_is = k; count_is = omega arith; few_bits = b; small = omega arith; not_none = omega arith }
+    record { words = w; slots = z; bits_are = k; seats_are = s; count_is = omega arith; few_bits = b; small = omega arith; not_none = omega arith }
 
-pub fresh_from : {S : Type 0} (id seat : TableId) (me : Me S Known) (bits seats : ℕ) → 10 ≤ bits → bits ≤ 24 → 1 ≤ seats → seat ≡ id → me ≡ (first_view (record { bits = bits; seats = seats }), [])
-    → IsFresh bits seats (record { house = house_of id; bits = bits; seats = seats }, view_of seat me (seats - 1))
-fresh_from id seat me bits seats a b h e m =
-    let w : me.0.words ≡ replicate (2 ^ bits) zero = ap (λ p. p.0.words) m in
+pub opened_from : {S : Type 0} (id seat : TableId) (me : Me S Known) (start : Start) → 10 ≤ start.bits → start.bits ≤ 24 → 1 ≤ start.seats → IsSoundTable start.bits start.words.items → seat ≡ id → me ≡ (first_view start, [])
+    → IsOpened start.bits start.words.items start.seats (record { house = house_of id; bits = start.bits; seats = start.seats }, view_of seat me (start.seats - 1))
+opened_from id seat me start a b h t e m =
+    let w : me.0.words ≡ node_words start.bits start.words.items = ap (λ p. p.0.words) m in
     record {
       bits_are = refl;
       seats_are = refl;
       of = record {
         one_house = ap house_of e;
-        size = ap length w ∙ length-replicate (2 ^ bits) zero;
+        size = ap length w ∙ nodes_length start.bits start.words.items t.size;
         low = a;
         high = b;
-        canonical = subst (λ (ws : List ℕ). IsDistinct ws) (sym w) (vacant_sound (2 ^ bits)).distinct;
+        canonical = subst (λ (ws : List ℕ). IsDistinct ws) (sym w) t.nodes.distinct;
       };
-      vacant = λ n. ap (λ (ws : List ℕ). get_or ws n 0) w ∙ vacant_at (2 ^ bits) n;
-      none_made = ap (λ p. p.0.made) m;
+      words_are = w;
+      all_made = ap (λ p. p.0.made) m;
       spare_is = omega arith;
       no_load = ap (λ p. p.0.last) m;
     }
+
+-- a table over vacant words is new
+fresh_from : (bits seats : ℕ) (words : List ℕ) (made : Table × View) → words ≡ replicate (2 ^ bits + memo_slots) zero → IsOpened bits words seats made → IsFresh bits seats made
+fresh_from bits seats words made e o =
+    let w : made.1.words ≡ replicate (2 ^ bits) zero = o.words_are ∙ ap (node_words bits) e ∙ vacant_nodes bits in
+    record {
+      bits_are = o.bits_are;
+      seats_are = o.seats_are;
+      of = o.of;
+      vacant = λ n. ap (λ (ws : List ℕ). get_or ws n 0) w ∙ vacant_at (2 ^ bits) n;
+      none_made = o.all_made ∙ ap (λ (ws : List ℕ). stored_count (node_words bits ws)) e ∙ ap stored_count (vacant_nodes bits) ∙ vacant_count (2 ^ bits);
+      spare_is = o.spare_is;
+      no_load = o.no_load;
+    }
+
+pub fresh_where_opened : {E : Type 0} (bits seats : ℕ) (words : List ℕ) (r : Result (Table × View) E) → words ≡ replicate (2 ^ bits + memo_slots) zero → IfOk r (IsOpened bits words seats) → IfOk r (IsFresh bits seats)
+fresh_where_opened bits seats words (Ok made) e o = fresh_from bits seats words made e o
+fresh_where_opened bits seats words (Err x) e o = tt

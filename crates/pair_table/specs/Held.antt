@@ -6,17 +6,18 @@ use Rattle.rel_model.specs.Words.{IsDistinct, most_bits}
 use Rattle.rel_model.specs.Equations.{memo_slots}
 use Rattle.rel_model.specs.Views.{House, View}
 use Rattle.pair_table.specs.declared.rule.Known.{Known}
-use Rattle.pair_table.specs.declared.rule.Size.{Size}
+use Rattle.pair_table.specs.declared.rule.Start.{Start}
 
 -- the house of a table
 abbrev pub house_of : TableId → House
 house_of id = table_id_coded.code id
 
 -- a table has its node words and its memo words, and no slot
-pub record IsTable (id : TableId) (key : Size) (count bits seats : ℕ) : Type 0 where
+pub record IsTable (id : TableId) (key : Start) (count bits seats : ℕ) : Type 0 where
   pub words : id.words ≡ 2 ^ bits + memo_slots
   pub slots : id.slots ≡ 0
-  pub key_is : key ≡ record { bits = bits; seats = seats }
+  pub bits_are : key.bits ≡ bits
+  pub seats_are : key.seats ≡ seats
   pub count_is : count + 2 ≡ 2 ^ bits
   pub few_bits : bits ≤ most_bits
   pub small : count + 2 ≤ 2 ^ most_bits

@@ -1,5 +1,6 @@
 pub mod Probe
 pub mod Memos
+pub mod Opened
 pub mod Rule
 pub mod Tells
 pub mod Held

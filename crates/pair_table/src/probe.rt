@@ -6,7 +6,7 @@ ghost use Rattle.pair_table.specs.Tells.{InternsFor};
 
 use crate::Missed;
 use crate::home::home_of;
-use crate::rule::{Known, Order, Size};
+use crate::rule::{Known, Order, Start};
 use crate::steps::{exchange_word, load_word};
 use atomic_table::{Seat, Shared};
 
@@ -20,7 +20,7 @@ fn next(place: usize, count: usize) -> usize
 
 /// The one name of a word: from its home on, the first place that holds it or takes it.
 pub fn intern_word(
-    table: &Shared<(), Known, Size, Order>,
+    table: &Shared<(), Known, Start, Order>,
     seat: &mut Seat<(), Known>,
     bits: u32,
     count: usize,

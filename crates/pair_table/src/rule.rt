@@ -4,11 +4,12 @@ ghost use Rattle.pair_table.specs.Tells.{load_tells, place_tells, cut_tells, mem
 
 use atomic_table::{Join, Play, Split, TableRule};
 
-/// How large a table is.
-#[derive(Clone, Copy)]
-pub struct Size {
+/// How a table starts: its size, for how many seats it is, and its words.
+#[derive(Drop)]
+pub struct Start {
     pub bits: u32,
     pub seats: u32,
+    pub words: Vec<u64>,
 }
 
 /// What a seat knows. No value of it is made, and a clause reads an array as a list, of any length.
@@ -17,7 +18,7 @@ pub struct Known {
     pub words: [u64; 0],
     /// What a seat had seen that was joined to it.
     pub told: [u64; 0],
-    /// How many words it placed.
+    /// How many words it placed; the first seat counts those with which the table started too.
     pub made: u64,
     /// How many seats it stands for: itself and those that may be split off it, or none once it was joined to another.
     pub parts: u64,
@@ -30,7 +31,7 @@ pub struct Known {
 /// The rule of the words and of all views.
 pub struct Order;
 
-impl TableRule<(), Known, Size> for Order {
+impl TableRule<(), Known, Start> for Order {
     ghost holds = { Holds };
 
     ghost first = { first_view };

@@ -5,12 +5,12 @@ ghost use Rattle.rel_model.specs.Equations.{IsMemo, memo_slots};
 ghost use Rattle.pair_table.specs.Probe.{IsNext};
 ghost use Rattle.pair_table.specs.Tells.{SeesWord, TriesWord, SeesMemo, StoresMemo, IsLeft, IsRight, IsBoth};
 
-use crate::rule::{Both, Cut, Halves, Known, Load, MemoLoad, MemoStore, Order, Place, Size};
+use crate::rule::{Both, Cut, Halves, Known, Load, MemoLoad, MemoStore, Order, Place, Start};
 use atomic_table::{Seat, Shared};
 
 /// A load of a node word.
 pub fn load_word(
-    table: &Shared<(), Known, Size, Order>,
+    table: &Shared<(), Known, Start, Order>,
     seat: &mut Seat<(), Known>,
     place: usize,
 ) -> u64
@@ -27,7 +27,7 @@ pub fn load_word(
 
 /// A compare-exchange of a node word from 0.
 pub fn exchange_word(
-    table: &Shared<(), Known, Size, Order>,
+    table: &Shared<(), Known, Start, Order>,
     seat: &mut Seat<(), Known>,
     place: usize,
     word: u64,
@@ -47,7 +47,7 @@ pub fn exchange_word(
 
 /// A load of a memo word, behind `size` node words.
 pub fn load_memo(
-    table: &Shared<(), Known, Size, Order>,
+    table: &Shared<(), Known, Start, Order>,
     seat: &mut Seat<(), Known>,
     size: usize,
     slot: usize,
@@ -68,7 +68,7 @@ pub fn load_memo(
 
 /// A store of a memo word that is a true equation, behind `size` node words.
 pub fn store_memo(
-    table: &Shared<(), Known, Size, Order>,
+    table: &Shared<(), Known, Start, Order>,
     seat: &mut Seat<(), Known>,
     size: usize,
     slot: usize,
@@ -92,7 +92,7 @@ pub fn store_memo(
 
 /// Splits a second seat off, with so many spare ones.
 pub fn cut_off(
-    table: &Shared<(), Known, Size, Order>,
+    table: &Shared<(), Known, Start, Order>,
     seat: &mut Seat<(), Known>,
     spare: u64,
 ) -> Seat<(), Known>
@@ -114,7 +114,7 @@ pub fn cut_off(
 
 /// Joins another seat to this one.
 pub fn take_in(
-    table: &Shared<(), Known, Size, Order>,
+    table: &Shared<(), Known, Start, Order>,
     seat: &mut Seat<(), Known>,
     other: Seat<(), Known>,
 )

@@ -3,12 +3,13 @@ ghost use Rattle.std.specs.Prelude.{◌≡◌, ◌≢◌, ◌<◌, ◌≤◌, �
 ghost use Rattle.std.specs.Mem.Slots.{slots_items, slots_len, IsFull};
 ghost use Rattle.rel_model.specs.Words.{most_bits};
 ghost use Rattle.rel_model.specs.Trees.{first_of, second_of};
-ghost use Rattle.rel_model.specs.Equations.{IsMemo, memo_slots};
+ghost use Rattle.rel_model.specs.Equations.{IsMemo, IsSoundTable, memo_slots};
 ghost use Rattle.rel_model.specs.Views.{Table, View, IsOf, IsKnown, Reads, IsFresh, Interns, Loads, Splits, Joins, IsClosed};
 ghost use Rattle.pair_table.specs.Memos.{Stores, IsStillTaken, IsStillThere};
+ghost use Rattle.pair_table.specs.Opened.{IsOpened};
 
 use crate::probe::intern_word;
-use crate::rule::{Known, Order, Size};
+use crate::rule::{Known, Order, Start};
 use crate::seats::Seat;
 use crate::steps::{cut_off, load_memo, load_word, store_memo, take_in};
 use crate::{LEAST_BITS, MEMO_SLOTS, MOST_BITS, Missed};
@@ -19,7 +20,7 @@ use std::marker::Model;
 /// The node table: 2^bits node words and 2^20 memo words of eight bytes each.
 #[derive(Drop)]
 pub struct PairTable {
-    table: atomic_table::Table<(), Known, Size, Order, Global>,
+    table: atomic_table::Table<(), Known, Start, Order, Global>,
     alloc: Global,
     count: usize,
     bits: u32,
@@ -46,15 +47,32 @@ impl PairTable {
         requires some { 1 ≤ seats }
         ensures { IfOk result (IsFresh bits seats) }
     {
-        let size = size_of_bits(bits);
-        let Ok(words) = vec![in alloc; 0u64; size + MEMO_SLOTS as usize] else {
+        let size = size_of_bits(bits) + MEMO_SLOTS as usize;
+        let Ok(words) = vec![in alloc; 0u64; size] else {
             return Err(NoMemory);
         };
-        let about = Size { bits, seats };
-        let Ok((table, inner)) = atomic_table::Table::of_words(alloc, &words, &about) else {
+        PairTable::open_words(alloc, bits, words, seats)
+    }
+
+    /// A table over words that another one left, node words and then memo words, and its first seat, which has seen
+    /// all node words and counts the stored ones as made. `seats - 1` others may be split off it.
+    pub fn open_words(
+        alloc: Global,
+        bits: u32,
+        words: Vec<u64>,
+        seats: u32,
+    ) -> Result<(PairTable, Seat), NoMemory>
+        requires low { LEAST_BITS ≤ bits }
+        requires high { bits ≤ MOST_BITS }
+        requires some { 1 ≤ seats }
+        requires sound { IsSoundTable bits words.items }
+        ensures { IfOk result (IsOpened bits words.items seats) }
+    {
+        let count = size_of_bits(bits) - 2;
+        let start = Start { bits, seats, words };
+        let Ok((table, inner)) = atomic_table::Table::of_words(alloc, &start.words, &start) else {
             return Err(NoMemory);
         };
-        let count = size - 2;
         Ok((
             PairTable {
                 table,

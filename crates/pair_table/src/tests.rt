@@ -1,6 +1,7 @@
 ghost use Rattle.std.specs.Prelude.{◌≡◌, ◌≢◌, ◌<◌, ◌≤◌, ◌+◌, ◌-◌, ◌*◌, ◌/◌, ◌%◌, ◌^◌, IfOk, slice_index};
 ghost use Rattle.rel_model.specs.Cells.{block_cells, no_cells};
 ghost use Rattle.rel_model.specs.Trees.{paired};
+ghost use Rattle.rel_model.specs.Equations.{IsSoundTable};
 ghost use Rattle.rel_model.specs.Views.{Table, View, IsOf, IsKnown, IsSet};
 
 use crate::{MEMO_SLOTS, Missed, PairTable, Seat};
@@ -12,7 +13,7 @@ use std::thread;
 /// A table of 2^10 node words, and its first seat.
 fn small_table(rt: &impl Abort, alloc: Global, seats: u32) -> (PairTable, Seat)
     requires { 1 ≤ seats }
-    ensures { IsOf result.1 result.0 × (result.1.spare + 1 ≡ seats) × (result.0.seats ≡ seats) }
+    ensures { IsOf result.1 result.0 × (result.1.spare + 1 ≡ seats) × (result.0.seats ≡ seats) × (result.0.bits ≡ 10) }
 {
     match PairTable::make(alloc, 10, seats) {
         Ok(made) => made,
@@ -285,4 +286,60 @@ fn a_block_beside_nothing_is_one_name_however_often_it_is_made(rt: HostRuntime) 
     let first = block_and_nothing(&table, &mut seat, 9);
     assert!(rt; first.is_ok());
     assert!(rt; block_and_nothing(&table, &mut seat, 9) == first);
+}
+
+/// The words of a table whose seats are all joined.
+fn closed(rt: &impl Abort, table: PairTable, seat: Seat) -> Vec<u64>
+    requires of { IsOf seat table }
+    requires whole { seat.spare + 1 ≡ table.seats }
+    ensures { IsSoundTable table.bits result.items }
+{
+    match table.close(seat) {
+        Ok(words) => words,
+        Err(_) => panic!(rt; "no memory"),
+    }
+}
+
+/// A table over words, and its first seat.
+fn opened(rt: &impl Abort, alloc: Global, words: Vec<u64>, seats: u32) -> (PairTable, Seat)
+    requires sound { IsSoundTable 10 words.items }
+    requires some { 1 ≤ seats }
+    ensures { IsOf result.1 result.0 × (result.1.spare + 1 ≡ seats) × (result.0.seats ≡ seats) × (result.0.bits ≡ 10) }
+{
+    match PairTable::open_words(alloc, 10, words, seats) {
+        Ok(made) => made,
+        Err(_) => panic!(rt; "no memory"),
+    }
+}
+
+/// How many words are not 0.
+fn taken(words: &[u64]) -> usize {
+    words.iter().filter(|word| **word != 0).count()
+}
+
+#[test]
+fn a_table_opened_over_words_answers_the_old_names_and_goes_on(rt: HostRuntime) {
+    let alloc = rt.alloc();
+    let (table, seat) = small_table(&rt, alloc, 1);
+    let (seat, names) = names_of_pairs(&rt, alloc, &table, seat, 300);
+    assert!(rt; table.spare(&seat) == 0);
+    let words = closed(&rt, table, seat);
+    // Block 1 is at its home 489, so the pair of nothing and block 1 is none of the blocks up to 400.
+    assert!(rt; taken(&words) == 600);
+    let before = words.clone().expect(&rt, "memory");
+    let (table, mut seat) = opened(&rt, alloc, words, 3);
+    let second = table.split(&mut seat, 0);
+    let (mut seat, again) = names_of_pairs(&rt, alloc, &table, seat, 300);
+    let (second, more) = names_of_pairs(&rt, alloc, &table, second, 400);
+    assert!(rt; again == names && more.starts_with(&names));
+    table.join(&mut seat, second);
+    assert!(rt; table.spare(&seat) == 2);
+    let after = closed(&rt, table, seat);
+    assert!(rt; taken(&after) == 800);
+    assert!(rt;
+        before
+            .iter()
+            .zip(after.iter())
+            .all(|pair| *pair.0 == 0 || pair.0 == pair.1)
+    );
 }

@@ -1,6 +1,5 @@
 use Rattle.std.proofs.Common.{◌≡◌, ◌∙◌, sym, ap, subst, List, ℕ, ◌+◌, ◌≢◌, arith}
 use Rattle.rel_model.specs.Views.{Table, View}
-use Rattle.pair_table.specs.declared.rule.Size.{Size}
 use Rattle.pair_table.specs.Held.{view_of}
 use Rattle.rel_model.specs.Views.{IsClosed}
 use Rattle.pair_table.specs.Memos.{IsStillTaken, IsStillThere}
@@ -13,8 +12,8 @@ close_with-closed-requires c = one_table _ _ (ap (λ (v : View). v.house) c.seat
 
 pub returns-in-Ok-clause-closed : goal.returns-in-Ok-clause-closed
 returns-in-Ok-clause-closed c =
-    let e = ap (λ (k : Size). k.seats) c.self.invariant.key_is in
-    let b : c.self.inside.table.shared.key.bits ≡ c.args.self.bits = ap (λ (k : Size). k.bits) c.self.invariant.key_is ∙ ap (λ (t : Table). t.bits) c.self.view_is in
+    let e = c.self.invariant.seats_are in
+    let b : c.self.inside.table.shared.key.bits ≡ c.args.self.bits = c.self.invariant.bits_are ∙ ap (λ (t : Table). t.bits) c.self.view_is in
     let w : c.seat.inside.spare + 1 ≡ c.self.inside.seats = ap (λ (v : View). v.spare + 1) c.seat.view_is ∙ c.requires.whole ∙ sym (ap (λ (t : Table). t.seats) c.self.view_is) in
     rw (← c.seat.view_is, ← b)
     (subst (λ (ws : List ℕ). IsClosed c.self.inside.table.shared.key.bits (view_of c.seat.inside.inner.table_id c.seat.inside.inner.me c.seat.inside.spare) ws) (sym c.in-Ok.ensures)
@@ -22,15 +21,15 @@ returns-in-Ok-clause-closed c =
 
 pub returns-in-Ok-clause-taken : goal.returns-in-Ok-clause-taken
 returns-in-Ok-clause-taken c =
-    let b : c.self.inside.table.shared.key.bits ≡ c.args.self.bits = ap (λ (k : Size). k.bits) c.self.invariant.key_is ∙ ap (λ (t : Table). t.bits) c.self.view_is in
+    let b : c.self.inside.table.shared.key.bits ≡ c.args.self.bits = c.self.invariant.bits_are ∙ ap (λ (t : Table). t.bits) c.self.view_is in
     rw (← c.seat.view_is, ← b)
     (subst (λ (ws : List ℕ). IsStillTaken c.self.inside.table.shared.key.bits ws c.seat.inside.inner.me.0.last) (sym c.in-Ok.ensures)
     (taken_in_end c.self.inside.table.shared.key _ _ c.seat.inside.inner.id c.seat.inside.inner.me.0 c.close_with-closed.ensures.values.2))
 
 pub returns-in-Ok-clause-there : goal.returns-in-Ok-clause-there
 returns-in-Ok-clause-there c o =
-    let b : c.self.inside.table.shared.key.bits ≡ c.args.self.bits = ap (λ (k : Size). k.bits) c.self.invariant.key_is ∙ ap (λ (t : Table). t.bits) c.self.view_is in
-    let one : c.self.inside.table.shared.key.seats ≡ 1 = ap (λ (k : Size). k.seats) c.self.invariant.key_is ∙ ap (λ (t : Table). t.seats) c.self.view_is ∙ o in
+    let b : c.self.inside.table.shared.key.bits ≡ c.args.self.bits = c.self.invariant.bits_are ∙ ap (λ (t : Table). t.bits) c.self.view_is in
+    let one : c.self.inside.table.shared.key.seats ≡ 1 = c.self.invariant.seats_are ∙ ap (λ (t : Table). t.seats) c.self.view_is ∙ o in
     let live : c.seat.inside.inner.me.0.parts ≢ 0 = (λ z. let p = c.seat.invariant.parts in omega arith) in
     rw (← c.seat.view_is, ← b)
     (subst (λ (ws : List ℕ). IsStillThere c.self.inside.table.shared.key.bits ws c.seat.inside.inner.me.0.last) (sym c.in-Ok.ensures)
