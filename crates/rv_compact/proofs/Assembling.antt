@@ -1,14 +1,17 @@
 -- The words of the copies and vacant memo words are compacted words.
-use Rattle.std.proofs.Common.{◌≡◌, ◌≢◌, ◌<◌, ◌≤◌, ◌+◌, ◌-◌, ◌^◌, ℕ, true, List, ◌++◌, length, take, drop, replicate, get_or, sym, ap, subst, ◌∙◌, arith, length-append}
+use Rattle.std.proofs.Common.{◌≡◌, ◌≢◌, ◌<◌, ◌≤◌, ◌+◌, ◌-◌, ◌^◌, ℕ, true, List, ◌++◌, length, take, drop, replicate, get_or, refl, inl, inr, sym, ap, subst, ◌∙◌, arith, length-append}
+use Rattle.std.specs.Prelude.{IsSome}
 use Rattle.std.proofs.Math.Pow.{pow_mono}
+use Rattle.std.proofs.lemmas.Bool.{false≢true, cases_Bool}
 use Rattle.std.proofs.Math.Seq.{take-append_seam}
 use Rattle.std.proofs.lemmas.List.{get_or-append-add, get_or-drop, length-take-le, take-replicate}
 use Rattle.std.proofs.Math.ListN.{length-replicate}
 use Rattle.pair_table.proofs.Placing.{vacant_at}
 use Rattle.std.specs.List.{IsDistinct as KeysDiffer}
 use Rattle.rel_model.specs.declared.Rel.{Rel}
-use Rattle.rel_model.specs.Words.{IsSound}
+use Rattle.rel_model.specs.Words.{IsSound, stored_count}
 use Rattle.rel_model.specs.Equations.{memo_slots, node_words}
+use Rattle.rel_model.specs.Roots.{stands_in, relation_in}
 use Rattle.rel_model.specs.Uses.{uses_count, is_reached}
 use Rattle.rv_compact.specs.Compacted.{node_count, node_room, nodes_of, IsTable, AllStand, IsMoved, IsCompacted}
 use Rattle.rv_compact.specs.Walks.{same_key, WalkedSome}
@@ -43,8 +46,8 @@ pub record IsTail (rest : List ℕ) : Type 0 where
   pub vacant : (slot : ℕ) → get_or rest slot 0 ≡ 0
 
 pub compacted_from : (words : List ℕ) (rels : List Rel) (new : List ℕ) (moved : List Rel) (keys : List (ℕ × ℕ)) (names fresh rest : List ℕ) → IsTable words → AllStand (nodes_of words) rels → WalkedSome (nodes_of words) rels (length rels) keys
-    → AreCopies (nodes_of words) keys fresh names → length names ≡ length keys → length fresh ≡ node_count words → IsTail rest → new ≡ fresh ++ rest → length moved ≡ length rels → AreNamed keys names rels moved (length rels) → IsCompacted words rels new moved
-compacted_from words rels new moved keys names fresh rest t s w a f l r e m n =
+    → KeysDiffer same_key keys → AreCopies (nodes_of words) keys fresh names → length names ≡ length keys → length fresh ≡ node_count words → IsTail rest → new ≡ fresh ++ rest → length moved ≡ length rels → AreNamed keys names rels moved (length rels) → IsCompacted words rels new moved
+compacted_from words rels new moved keys names fresh rest t s w u a f l r e m n =
     let z = table_size words t in
     let all : length new ≡ length fresh + memo_slots = ap length e ∙ length-append fresh rest ∙ ap (λ (x : ℕ). length fresh + x) r.size in
     let whole : length new ≡ length words = (let g = z.whole in omega arith) in
@@ -69,7 +72,27 @@ compacted_from words rels new moved keys names fresh rest t s w a f l r e m n =
       each = λ k d h. subst (λ (ws : List ℕ). IsMoved (nodes_of words) ws (get_or rels k d) (get_or moved k d)) (sym nodes) (root_moved (nodes_of words) fresh _ _ x y (roots k d h));
       reached = λ i. subst (λ (ws : List ℕ). (get_or ws i 0 ≢ 0 → is_reached ws moved i ≡ true) × (is_reached ws moved i ≡ true → get_or ws i 0 ≢ 0)) (sym nodes)
           (stored_reached (nodes_of words) keys fresh names rels moved x a f w m roots i, reached_stored (nodes_of words) fresh rels moved x y m roots i);
+      few = subst (λ (ws : List ℕ). stored_count ws ≤ uses_count (nodes_of words) rels) (sym nodes)
+          (let c = a.few in let k = walked_count (nodes_of words) rels keys w u in omega arith);
     }
+
+-- a relation that stands has a set, and what has a set stands
+has_set : (words : List ℕ) (rel : Rel) → stands_in words rel ≡ true → IsSome (relation_in words rel)
+unfolding relation_in
+has_set words rel e = rw e refl
+
+set_stands : (words : List ℕ) (rel : Rel) → IsSome (relation_in words rel) → stands_in words rel ≡ true
+unfolding relation_in
+set_stands words rel h = elim (cases_Bool (stands_in words rel)) [
+  | inl e ↦ e
+  | inr e ↦ absurd (false≢true (rw e at h))
+]
+
+-- so moved relations stand
+pub moved_stand : (words : List ℕ) (rels : List Rel) (new : List ℕ) (moved : List Rel) → AllStand (nodes_of words) rels → IsCompacted words rels new moved → AllStand (nodes_of new) moved
+moved_stand words rels new moved s c k d l =
+    let within : k < length rels = (let m = c.as_many in omega arith) in
+    set_stands (nodes_of new) (get_or moved k d) (subst IsSome (sym (c.each k d within).same_set) (has_set (nodes_of words) (get_or rels k d) (s k d within)))
 
 -- what stands behind the node words of vacant words is a tail
 pub tail_from : (words items rest : List ℕ) → IsTable words → items ≡ replicate (length words) 0 → rest ≡ drop (node_count words) items → length rest + node_count words ≡ length items → IsTail rest

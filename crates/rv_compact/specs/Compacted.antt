@@ -1,7 +1,7 @@
 -- Words of a table that were compacted: they keep the relations, and nothing that these do not reach.
 use Rattle.std.specs.Prelude.{◌≡◌, ◌≢◌, ◌↔◌, ◌<◌, ◌≤◌, ◌+◌, ◌-◌, ◌^◌, ℕ, true, List, length, take, slice_index, slice_index_or}
 use Rattle.rel_model.specs.declared.Rel.{Rel}
-use Rattle.rel_model.specs.Words.{least_bits, most_bits}
+use Rattle.rel_model.specs.Words.{least_bits, most_bits, stored_count}
 use Rattle.rel_model.specs.Equations.{IsSoundTable, memo_slots}
 use Rattle.rel_model.specs.Roots.{stands_in, relation_in}
 use Rattle.rel_model.specs.Uses.{is_reached, uses_count}
@@ -51,6 +51,8 @@ pub record IsCompacted (words : List ℕ) (rels : List Rel) (new : List ℕ) (mo
       → IsMoved (nodes_of words) (nodes_of new) (slice_index_or rels k d) (slice_index_or moved k d)
   -- the nodes are those that the moved relations reach
   pub reached : (n : ℕ) → (slice_index (nodes_of new) n ≢ 0) ↔ (is_reached (nodes_of new) moved n ≡ true)
+  -- they are no more than the uses that the relations reach in the old words
+  pub few : stored_count (nodes_of new) ≤ uses_count (nodes_of words) rels
 
 -- why relations are not moved: they reach so many uses, which are more than there is room for; or memory ran out
 abbrev pub HasCause : List ℕ → List Rel → CompactRefused → Type 0

@@ -53,6 +53,7 @@ pub fn compact(
     requires table { IsTable words.now }
     requires stand { AllStand (nodes_of words.now) rels.now }
     ensures compacted { IfOk result (λ r. IsCompacted words.now rels.now r.0.items r.1.items) }
+    ensures stand { IfOk result (λ r. AllStand (nodes_of r.0.items) r.1.items) }
     ensures fits { OnOk result (uses_count (nodes_of words.now) rels.now ≤ node_room words.now) }
     ensures full { IfErr result (HasCause words.now rels.now) }
 {

@@ -1,7 +1,7 @@
 use Rattle.std.proofs.Common.{rules, ◌≡◌, ◌∙◌, ℕ, List, length, ◌++◌, replicate, subst, arith, length-append}
 use Rattle.rv_compact.specs.Compacted.{node_count}
 use Rattle.rv_compact.specs.Copies.{AreNamed}
-use Rattle.rv_compact.proofs.Assembling.{table_size, compacted_from, tail_from, front_vacant, take-front, uses_fit, uses_pass}
+use Rattle.rv_compact.proofs.Assembling.{table_size, compacted_from, tail_from, front_vacant, take-front, uses_fit, uses_pass, moved_stand}
 use Rattle.rv_compact.proofs.compacting.compact.Goals as goal
 
 pub overflow_sub-size-2 : goal.overflow_sub-size-2
@@ -41,7 +41,10 @@ returns-clause-compacted c =
     let all = c.deref_mut.ensures.len in
     let len : c.in-Ok-vec.new.len ≡ length (fresh ++ rest) = (let s = length-append fresh rest in omega arith) in
     compacted_from c.args.words.now c.args.rels.now _ c.in-Ok-move_rels.moved.items c.in-Ok.uses.keys c.in-Ok-copy_uses.names.items fresh rest c.requires.table c.requires.stand c.in-Ok.ensures
-    c.in-Ok-copy_uses.ensures.copies c.in-Ok-copy_uses.ensures.all size
+    c.len.ensures.unique c.in-Ok-copy_uses.ensures.copies c.in-Ok-copy_uses.ensures.all size
     (tail_from c.args.words.now c.deref_mut.result.now rest c.requires.table (c.deref_mut.ensures.value ∙ e) c.split_at_mut-fresh.ensures.back back)
     (take-front (fresh ++ rest) _ _ len) c.in-Ok-move_rels.ensures.as_many
     (subst (λ (ns : List ℕ). AreNamed c.in-Ok.uses.keys ns c.args.rels.now c.in-Ok-move_rels.moved.items (length c.args.rels.now)) c.deref.ensures.value c.in-Ok-move_rels.ensures.moved)
+
+pub returns-clause-stand : goal.returns-clause-stand
+returns-clause-stand c = moved_stand c.args.words.now c.args.rels.now _ c.in-Ok-move_rels.moved.items c.requires.stand (returns-clause-compacted c)

@@ -1,0 +1,4 @@
+use Rattle.test_compact.proofs.trees.+any_tree.Given as goal
+
+abbrev pub decreases-any_tree : goal.decreases-any_tree
+decreases-any_tree g l = l.depth
