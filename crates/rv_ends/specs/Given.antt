@@ -1,11 +1,10 @@
 -- What the words of the command line and the files of the shelf give a run.
-use Rattle.std.specs.Prelude.{◌≡◌, ◌≤◌, ◌++◌, ℕ, cond, List, [], ◌∷◌, length, map, unwrap_or, Option, Some, None}
+use Rattle.std.specs.Prelude.{◌≡◌, ◌≤◌, ◌++◌, ℕ, cond, List, [], ◌∷◌, length, map, unwrap_or, option_map, is_some, Option, Some, None}
 use Rattle.std.specs.List.{AllByRecursion}
 use Rattle.lang_model.specs.Limits.{script_limit}
 use Rattle.run_model.specs.Inputs.{Input, RelationFile, AreReadings}
 use Rattle.rv_words.specs.Uses.{Word}
-use Rattle.rv_words.specs.Said.{Said, is_relation_word, scripts_in, relations_in}
-use Rattle.rv_words.specs.Shown.{files_told}
+use Rattle.rv_words.specs.Said.{Said, said_by, is_relation_word, scripts_in, relations_in}
 use Rattle.rv_generate.specs.Generator.{generated}
 use Rattle.run_model.specs.Filed.{file_of}
 use Rattle.rv_io.specs.Outside.{Files, Told, IsFile}
@@ -23,9 +22,9 @@ unfoldable pub limit_of : Word → ℕ
 limit_of word = cond (is_relation_word word) relation_limit script_limit
 
 -- ---- files
--- the FILE words, in the order in which they stand
+-- the FILE words of all parts, in the order in which they stand; none where the words are outside the set
 abbrev pub file_words : List Word → List Word
-file_words words = unwrap_or (files_told words) []
+file_words words = unwrap_or (option_map (λ said. said.files) (said_by words)) []
 
 -- the file of a FILE word has exactly these bytes, and is within its limit
 abbrev pub IsTaken : Option Files → Word → List ℕ → Type 0
@@ -83,12 +82,17 @@ abbrev pub AreScripts : Option ℕ → Option Files → List Word → List (List
 AreScripts (Some number) files words scripts = scripts ≡ generated number
 AreScripts None files words scripts = AreTaken files words scripts
 
--- the input of a run: what its scripts are read as, in one batch, the relation files of the start, and the options
+-- for each batch of a run of so many scripts the number of scripts up to its end: generated scripts are one batch, and
+-- else each part of the words is a batch
+abbrev pub ends_of : Said → ℕ → List ℕ
+ends_of said count = cond (is_some said.number) (count ∷ []) said.ends
+
+-- the input of a run: what its scripts are read as, their batches, the relation files of the start, and the options
 pub record IsInput (said : Said) (files : Option Files) (input : Input) : Type 0 where
   pub scripts : List (List ℕ)
   pub given : AreScripts said.number files said.scripts scripts
   pub read : AreReadings scripts input.readings
-  pub one_batch : input.ends ≡ length input.readings ∷ []
+  pub batches : input.ends ≡ ends_of said (length input.readings)
   pub named : names_of input.files ≡ said.relations
   pub loaded : AreTaken files said.relations (bytes_of input.files)
   pub turns : input.turns ≡ said.turns

@@ -7,7 +7,8 @@ use Rattle.rv_ends.specs.Given.{file_words, limit_of, AreWithin}
 
 -- the line for words outside the set
 unfoldable pub usage_line : List ℕ
-usage_line = codes "usage: relview [--workers N] [--nodes K] [--turns T] [--history] [--gen NUMBER] FILE..." ++ 10 ∷ []
+usage_line = codes "usage: relview [--workers N] [--nodes K] [--turns T] [--history] [--gen NUMBER] FILE... [--then FILE...]..."
+    ++ 10 ∷ []
 
 -- the line for a file that the shelf did not give
 unfoldable pub cannot_read_line : List ℕ → List ℕ

@@ -22,7 +22,7 @@ fn write_text<K: Sink>(sink: &mut K, text: &[u8], status: u8) -> u8
 fn usage_line() -> &'static [u8]
     ensures { result.now ≡ usage_line }
 {
-    b"usage: relview [--workers N] [--nodes K] [--turns T] [--history] [--gen NUMBER] FILE...\n"
+    b"usage: relview [--workers N] [--nodes K] [--turns T] [--history] [--gen NUMBER] FILE... [--then FILE...]...\n"
 }
 
 /// The line for a file that the shelf did not give.

@@ -1,13 +1,14 @@
 -- What clap's clauses say of its answer, in the words of the uses.
 use Rattle.std.proofs.Common.{◌≡◌, ◌∙◌, ◌≢◌, true, List, [], ◌∷◌, refl, sym, ap, subst, Option, Some, None, inl, inr}
-use Rattle.std.specs.Prelude.{String, unwrap_or}
+use Rattle.std.specs.Prelude.{String, unwrap_or, option_and_then}
 use Rattle.std.specs.declared.alloc.Global.{Global}
 use Rattle.clap.specs.Words.{App, HasKind, HasMatchesOf, Kinds, Row, fault_of, found_of, is_simple, is_simple_and_free, kind_of, matches_of, rows_of}
 use Rattle.clap.specs.declared.error.Error.{Error}
 use Rattle.clap.specs.declared.error.kind.ErrorKind.TheVariants as kind
 use Rattle.clap.specs.declared.parser.matches.ArgMatches.{ArgMatches}
 use Rattle.clap.proofs.WalkLemmas.{raw_values-rows}
-use Rattle.rv_words.specs.Uses.{Use, Word, uses_in}
+use Rattle.rv_words.specs.Uses.{Use, Word, uses_in, values_of}
+use Rattle.rv_words.specs.Said.{said_from}
 use Rattle.rv_words.specs.Shown.{Finds, found_values, texts}
 use Rattle.rv_words.specs.Simple.{app}
 use Rattle.rv_words.proofs.Splitting.{Ends, are_texts, splits}
@@ -55,3 +56,10 @@ refuses a words e is has fails =
     let kinds : HasKind (fault_of app (texts words)) e = subst (λ b. HasKind (fault_of b (texts words)) e) is (has free_a) in
     no_uses (fault_of app (texts words)) (matches_of app (texts words)) (uses_in (texts words)) (splits (texts words) (are_texts words))
     (no_kind (fault_of app (texts words)) e kinds fails)
+
+-- ---- what is said
+-- the values that are found say what the uses say
+pub said_found : (uses : Option (List Use)) (m : ArgMatches) (later : List (List Word)) → Finds uses m
+    → option_and_then (λ us. said_from (values_of us) later) uses ≡ said_from (found_values m) later
+said_found None m later finds = absurd finds
+said_found (Some us) m later finds = sym (λ i. said_from (λ name. finds name i) later)

@@ -4,3 +4,5 @@ pub mod Rules
 pub mod Walking
 pub mod Splitting
 pub mod Finding
+pub mod Cutting
+pub mod Sorting

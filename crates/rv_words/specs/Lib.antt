@@ -1,4 +1,5 @@
 pub mod Uses
+pub mod Parts
 pub mod Said
 pub mod Shown
 pub mod Simple

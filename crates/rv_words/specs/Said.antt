@@ -1,9 +1,10 @@
 -- What the words say: the numbers, the scripts and the relation files; none where the words are outside the set.
-use Rattle.std.specs.Prelude.{◌==◌, ◌&&◌, ◌-◌, ◌^◌, if◌then◌else◌, not, nat_le, ℕ, Bool, true, false, List, [], ◌∷◌, length, drop, codes, Option, Some, None, option_map, option_and_then}
+use Rattle.std.specs.Prelude.{◌==◌, ◌&&◌, ◌||◌, ◌++◌, ◌-◌, ◌^◌, if◌then◌else◌, not, nat_le, ℕ, Bool, true, false, List, [], ◌∷◌, length, drop, codes, Option, Some, None, option_map, option_and_then}
 use Rattle.std.specs.Char.{is_ascii_digit}
 use Rattle.std.specs.List.{list_all}
 use Rattle.std.specs.Str.{bytes_eq}
 use Rattle.std.specs.Str.Parse.{digits_value}
+use Rattle.rv_words.specs.Parts.{most_parts, parts_of}
 use Rattle.rv_words.specs.Uses.{Word, uses_in, values_of, workers_name, nodes_name, turns_name, gen_name, history_name, file_name}
 
 -- ---- numbers
@@ -58,53 +59,115 @@ scripts_in (word ∷ rest) = if is_relation_word word then scripts_in rest else 
 abbrev pub most_files : ℕ
 most_files = 64
 
--- whether a number of scripts and of FILE words fits: with --gen there is no FILE word, and without it at least one
--- script
-abbrev pub fits_gen : Option ℕ → ℕ → ℕ → Bool
-fits_gen (Some number) scripts files = files == 0
-fits_gen None scripts files = nat_le 1 scripts
+-- ---- parts
+-- whether values stand under a name
+abbrev pub stands : (Word → List Word) → Word → Bool
+stands values name = nat_le 1 (length (values name))
 
--- whether the FILE words are taken beside --gen or without it
-abbrev pub are_files_taken : Option ℕ → List Word → Bool
-are_files_taken number files = list_all is_file_word files
-    && (nat_le (length (scripts_in files)) most_files
-    && (nat_le (length (relations_in files)) most_files
-    && fits_gen number (length (scripts_in files)) (length files)))
+-- whether an option stands among the values
+abbrev pub has_options : (Word → List Word) → Bool
+has_options values = stands values workers_name || (stands values nodes_name || (stands values turns_name
+    || (stands values gen_name || stands values history_name)))
+
+-- the FILE words of some parts, and for each of them the number of scripts up to its end
+pub record Listed : Type 0 where
+  pub files : List Word
+  pub ends : List ℕ
+
+-- no part
+abbrev pub no_part : Listed
+no_part = record { files = []; ends = [] }
+
+-- the same with the FILE words of one more part
+abbrev pub joined : Listed → List Word → Listed
+joined listed files = record {
+  files = listed.files ++ files;
+  ends = listed.ends ++ length (scripts_in (listed.files ++ files)) ∷ [];
+}
+
+-- whether the FILE words of a part are taken: each of them is, at least one is a script, and with the parts before it
+-- there are at most 8 parts, 64 scripts and 64 relation files
+abbrev pub is_part_taken : List Word → Listed → Bool
+is_part_taken files whole = list_all is_file_word files
+    && (nat_le 1 (length (scripts_in files))
+    && (nat_le (length whole.ends) most_parts
+    && (nat_le (length (scripts_in whole.files)) most_files
+    && nat_le (length (relations_in whole.files)) most_files)))
+
+-- one more part, where it is taken
+abbrev pub with_part : Listed → List Word → Option Listed
+with_part listed files = if is_part_taken files (joined listed files) then Some (joined listed files) else None
+
+-- one more part by its values, where no option stands among them
+abbrev pub with_files_alone : Listed → (Word → List Word) → Option Listed
+with_files_alone listed values = if has_options values then None else with_part listed (values file_name)
+
+-- one more part behind the first, which has no option
+abbrev pub with_later_part : Listed → List Word → Option Listed
+with_later_part listed part = option_and_then (λ uses. with_files_alone listed (values_of uses)) (uses_in part)
+
+-- the parts behind the first, one after another
+abbrev pub with_later : List (List Word) → Listed → Option Listed
+with_later [] listed = Some listed
+with_later (part ∷ later) listed = option_and_then (with_later later) (with_later_part listed part)
+
+-- one part with no FILE word
+abbrev pub generated_part : List Word → List (List Word) → Option Listed
+generated_part [] [] = Some (record { files = []; ends = 0 ∷ [] })
+generated_part _ _ = None
+
+-- the FILE words of the first part with the parts behind it: with --gen there is one part and no FILE word, and
+-- without it each part has a script
+abbrev pub with_parts : Option ℕ → List Word → List (List Word) → Option Listed
+with_parts (Some number) files later = generated_part files later
+with_parts None files later = option_and_then (with_later later) (with_part no_part files)
 
 -- ---- the whole
--- what the words say
+-- what the words say: `files` are the FILE words of all parts, in the order in which they stand, `scripts` and
+-- `relations` those that are scripts and relation files, and `ends` has for each part the number of scripts up to
+-- its end
 pub record Said : Type 0 where
   pub workers : ℕ
   pub nodes : ℕ
   pub turns : ℕ
   pub history : Bool
   pub number : Option ℕ
+  pub files : List Word
   pub scripts : List Word
   pub relations : List Word
+  pub ends : List ℕ
 
--- the numbers and the switch with the FILE words, where these are taken
-abbrev pub with_files : ℕ → ℕ → ℕ → Bool → Option ℕ → List Word → Option Said
-with_files workers nodes turns history number files = if are_files_taken number files then Some (record {
+-- the numbers and the switch with the FILE words of the parts
+abbrev pub with_files : ℕ → ℕ → ℕ → Bool → Option ℕ → Listed → Said
+with_files workers nodes turns history number listed = record {
   workers = workers;
   nodes = nodes;
   turns = turns;
   history = history;
   number = number;
-  scripts = scripts_in files;
-  relations = relations_in files;
-}) else None
+  files = listed.files;
+  scripts = scripts_in listed.files;
+  relations = relations_in listed.files;
+  ends = listed.ends;
+}
 
--- what the values say that stand under each name: 1 to 64 workers, 2 ^ 10 to 2 ^ 24 node words, up to 1000000000 turns
-abbrev pub said_from : (Word → List Word) → Option Said
-said_from values = option_and_then (λ workers. option_and_then (λ nodes. option_and_then (λ turns.
-    option_and_then (λ history. option_and_then (λ number. with_files workers nodes turns history number
-    (values file_name))
+-- what the values of the first part say that stand under each name, with the parts behind it: 1 to 64 workers, 2 ^ 10
+-- to 2 ^ 24 node words, up to 1000000000 turns
+abbrev pub said_from : (Word → List Word) → List (List Word) → Option Said
+said_from values later = option_and_then (λ workers. option_and_then (λ nodes. option_and_then (λ turns.
+    option_and_then (λ history. option_and_then (λ number. option_map (with_files workers nodes turns history number)
+    (with_parts number (values file_name) later))
     (gen_number (values gen_name)))
     (switched (values history_name)))
     (number_or 0 1000000000 1000000 (values turns_name)))
     (number_or 10 24 20 (values nodes_name)))
     (number_or 1 64 1 (values workers_name))
 
+-- what the parts say
+abbrev pub said_of : List (List Word) → Option Said
+said_of [] = None
+said_of (first ∷ later) = option_and_then (λ uses. said_from (values_of uses) later) (uses_in first)
+
 -- what the words say; none exactly where they are outside the set
 abbrev pub said_by : List Word → Option Said
-said_by words = option_and_then (λ uses. said_from (values_of uses)) (uses_in words)
+said_by words = said_of (parts_of words)

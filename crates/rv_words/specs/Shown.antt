@@ -4,8 +4,9 @@ use Rattle.std.specs.String.{string_bytes}
 use Rattle.std.specs.declared.alloc.Global.{Global}
 use Rattle.clap.specs.Words.{found_of, matched_of, raw_values}
 use Rattle.clap.specs.declared.parser.matches.ArgMatches.{ArgMatches}
-use Rattle.rv_words.specs.Uses.{Word, Use, values_of, uses_in, file_name}
-use Rattle.rv_words.specs.Said.{Said}
+use Rattle.rv_words.specs.Uses.{Word, Use, values_of}
+use Rattle.rv_words.specs.Said.{Said, Listed, scripts_in, relations_in}
+use Rattle.rv_words.specs.declared.files.FileList.{FileList}
 use Rattle.rv_words.specs.declared.options.Options.{Options}
 
 -- the bytes of the words
@@ -20,9 +21,20 @@ shown options = record {
   turns = options.turns;
   history = options.history;
   number = options.number;
+  files = texts options.files.items;
   scripts = texts options.scripts.items;
   relations = texts options.relations.items;
+  ends = options.ends.items;
 }
+
+-- what a list of FILE words lists
+abbrev pub listed_by : FileList → Listed
+listed_by list = record { files = texts list.files.items; ends = list.ends.items }
+
+-- a list of FILE words has their scripts and their relation files
+pub record IsSorted (list : FileList) : Type 0 where
+  pub scripts : texts list.scripts.items ≡ scripts_in (texts list.files.items)
+  pub relations : texts list.relations.items ≡ relations_in (texts list.files.items)
 
 -- the values that clap found under a name
 abbrev pub found_values : ArgMatches → Word → List Word
@@ -32,7 +44,3 @@ found_values matches name = unwrap_or (option_map raw_values (matched_of (found_
 abbrev pub Finds : Option (List Use) → ArgMatches → Type 0
 Finds None matches = ⊥
 Finds (Some uses) matches = (name : Word) → found_values matches name ≡ values_of uses name
-
--- the FILE words of the words, in the order in which they stand; none where the words are read as no uses
-abbrev pub files_told : List Word → Option (List Word)
-files_told words = option_map (λ uses. values_of uses file_name) (uses_in words)

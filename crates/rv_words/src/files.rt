@@ -1,13 +1,45 @@
-//! The FILE words: which are taken, the scripts and the relation files.
-ghost use Rattle.std.specs.Prelude.{◌≡◌, map, length, IfOk};
+//! The FILE words of the parts: which are taken, the scripts and the relation files, and where each part ends.
+ghost use Rattle.std.specs.Prelude.{◌≡◌, ◌++◌, ◌∷◌, [], ◌&&◌, nat_le, nat_lt, length, map, OnOk, IfErr, Some, None};
 ghost use Rattle.std.specs.List.{list_all};
+ghost use Rattle.rv_words.specs.Parts.{most_parts};
 ghost use Rattle.rv_words.specs.Said as said;
-ghost use Rattle.rv_words.specs.Shown.{texts};
+ghost use Rattle.rv_words.specs.Shown.{texts, listed_by, IsSorted};
+ghost use Rattle.rv_words.specs.declared.options.WordsError.TheVariants as words_error;
 
+use crate::WordsError;
 use std::alloc::{AllocError, Global};
 
 /// The most scripts, and the most relation files.
 const MOST_FILES: usize = 64;
+
+/// The most parts.
+const MOST_PARTS: usize = 8;
+
+/// The FILE words of some parts.
+#[derive(Debug, Drop)]
+pub struct FileList {
+    /// All of them, in their order.
+    pub files: Vec<String>,
+    /// The scripts among them.
+    pub scripts: Vec<String>,
+    /// The relation files among them.
+    pub relations: Vec<String>,
+    /// For each part the number of scripts up to its end.
+    pub ends: Vec<u32>,
+}
+
+/// The list of no part.
+pub fn no_part(alloc: Global) -> FileList
+    ensures none { listed_by result ≡ said.no_part }
+    ensures sorted { IsSorted result }
+{
+    FileList {
+        files: Vec::new(alloc),
+        scripts: Vec::new(alloc),
+        relations: Vec::new(alloc),
+        ends: Vec::new(alloc),
+    }
+}
 
 /// Whether a FILE word is taken: it is not empty, and not the word `-`.
 fn is_file_word(word: &str) -> bool
@@ -38,95 +70,91 @@ fn all_file_words(files: &[&str]) -> bool
     true
 }
 
-/// How many of the FILE words are relation files.
-fn count_relations(files: &[&str]) -> usize
-    ensures { result ≡ length (said.relations_in (map (λ file. file.now) files.now)) }
+/// Adds a name to the names.
+fn add_name(alloc: Global, name: &str, names: &mut Vec<String>) -> Result<(), AllocError>
+    ensures { OnOk result (texts names.new.items ≡ texts names.old.items ++ name.now ∷ []) }
+{
+    names.push(String::from_str(alloc, name)?)?;
+    Ok(())
+}
+
+/// Adds a FILE word to the scripts or to the relation files.
+fn sort_word(alloc: Global, file: &str, list: &mut FileList) -> Result<(), AllocError>
+    ensures scripts { OnOk result (texts list.new.scripts.items
+        ≡ texts list.old.scripts.items ++ said.scripts_in (file.now ∷ [])) }
+    ensures relations { OnOk result (texts list.new.relations.items
+        ≡ texts list.old.relations.items ++ said.relations_in (file.now ∷ [])) }
+    ensures files { OnOk result (list.new.files.items ≡ list.old.files.items) }
+    ensures ends { OnOk result (list.new.ends.items ≡ list.old.ends.items) }
+{
+    if is_relation_word(file.as_bytes()) {
+        add_name(alloc, file, &mut list.relations)
+    } else {
+        add_name(alloc, file, &mut list.scripts)
+    }
+}
+
+/// Adds a FILE word to all of them, and to the scripts or to the relation files.
+fn add_word(alloc: Global, file: &str, list: &mut FileList) -> Result<(), AllocError>
+    ensures files { OnOk result (texts list.new.files.items ≡ texts list.old.files.items ++ file.now ∷ []) }
+    ensures sorted { OnOk result (IsSorted list.old → IsSorted list.new) }
+    ensures ends { OnOk result (list.new.ends.items ≡ list.old.ends.items) }
+{
+    sort_word(alloc, file, list)?;
+    add_name(alloc, file, &mut list.files)?;
+    Ok(())
+}
+
+/// Adds FILE words, in their order.
+fn add_words(alloc: Global, files: &[&str], list: &mut FileList) -> Result<(), AllocError>
+    ensures files { OnOk result (texts list.new.files.items
+        ≡ texts list.old.files.items ++ map (λ file. file.now) files.now) }
+    ensures sorted { OnOk result (IsSorted list.old → IsSorted list.new) }
+    ensures ends { OnOk result (list.new.ends.items ≡ list.old.ends.items) }
 {
     let mut rest = files;
-    let mut count = 0;
     'each: while let [file, tail @ ..] = rest {
-        if is_relation_word(file.as_bytes()) {
-            count += 1;
-        }
+        add_word(alloc, file, list)?;
         rest = tail;
     }
-    count
+    Ok(())
 }
 
-/// How many of the FILE words are scripts.
-fn count_scripts(files: &[&str]) -> usize
-    ensures { result ≡ length (said.scripts_in (map (λ file. file.now) files.now)) }
+/// Whether the FILE words of a part are taken, which were added to those before it, among them so many scripts.
+fn is_part_taken(files: &[&str], scripts_before: usize, list: &FileList) -> bool
+    requires { IsSorted list.now }
+    ensures { result ≡ (list_all said.is_file_word (map (λ file. file.now) files.now)
+        && (nat_lt scripts_before (length (said.scripts_in (texts list.now.files.items)))
+        && (nat_lt (length list.now.ends.items) most_parts
+        && (nat_le (length (said.scripts_in (texts list.now.files.items))) said.most_files
+        && nat_le (length (said.relations_in (texts list.now.files.items))) said.most_files)))) }
 {
-    let mut rest = files;
-    let mut count = 0;
-    'each: while let [file, tail @ ..] = rest {
-        if !is_relation_word(file.as_bytes()) {
-            count += 1;
-        }
-        rest = tail;
+    let scripts = list.scripts.len();
+    all_file_words(files)
+        && (scripts_before < scripts
+            && (list.ends.len() < MOST_PARTS
+                && (scripts <= MOST_FILES && list.relations.len() <= MOST_FILES)))
+}
+
+/// Adds the FILE words of one more part.
+pub fn add_part(alloc: Global, files: &[&str], list: &mut FileList) -> Result<(), WordsError>
+    requires { IsSorted list.old }
+    ensures taken { OnOk result (said.with_part (listed_by list.old) (map (λ file. file.now) files.now)
+        ≡ Some (listed_by list.new)) }
+    ensures sorted { OnOk result (IsSorted list.new) }
+    ensures usage { IfErr result (λ error. error ≡ words_error.Usage
+        → said.with_part (listed_by list.old) (map (λ file. file.now) files.now) ≡ None) }
+{
+    let before = list.scripts.len();
+    let Ok(()) = add_words(alloc, files, list) else {
+        return Err(WordsError::NoMemory);
+    };
+    if !is_part_taken(files, before, list) {
+        return Err(WordsError::Usage);
     }
-    count
-}
-
-/// Whether a number of scripts and of FILE words fits `--gen`.
-fn fits_gen(number: Option<u64>, scripts: usize, files: usize) -> bool
-    ensures { result ≡ said.fits_gen number scripts files }
-{
-    match number {
-        Some(_) => files == 0,
-        None => 1 <= scripts,
+    let scripts = list.scripts.len() as u32;
+    match list.ends.push(scripts) {
+        Ok(()) => Ok(()),
+        Err(_) => Err(WordsError::NoMemory),
     }
-}
-
-/// Whether the FILE words are taken beside `--gen` or without it.
-pub fn are_files_taken(number: Option<u64>, files: &[&str]) -> bool
-    ensures { result ≡ said.are_files_taken number (map (λ file. file.now) files.now) }
-{
-    let scripts = count_scripts(files);
-    let relations = count_relations(files);
-    let fits = fits_gen(number, scripts, files.len());
-    all_file_words(files) && (scripts <= MOST_FILES && (relations <= MOST_FILES && fits))
-}
-
-/// The relation files among the FILE words, in their order.
-pub fn relations_in(alloc: Global, files: &[&str]) -> Result<Vec<String>, AllocError>
-    ensures { IfOk result (λ names. texts names.items ≡ said.relations_in (map (λ file. file.now) files.now)) }
-{
-    let mut names = Vec::new(alloc);
-    let mut rest = files;
-    'each: while let [file, tail @ ..] = rest {
-        if is_relation_word(file.as_bytes()) {
-            names.push(String::from_str(alloc, file)?)?;
-        }
-        rest = tail;
-    }
-    Ok(names)
-}
-
-/// The scripts among the FILE words, in their order.
-pub fn scripts_in(alloc: Global, files: &[&str]) -> Result<Vec<String>, AllocError>
-    ensures { IfOk result (λ names. texts names.items ≡ said.scripts_in (map (λ file. file.now) files.now)) }
-{
-    let mut names = Vec::new(alloc);
-    let mut rest = files;
-    'each: while let [file, tail @ ..] = rest {
-        if !is_relation_word(file.as_bytes()) {
-            names.push(String::from_str(alloc, file)?)?;
-        }
-        rest = tail;
-    }
-    Ok(names)
-}
-
-/// All FILE words, in their order.
-pub fn files_in(alloc: Global, files: &[&str]) -> Result<Vec<String>, AllocError>
-    ensures { IfOk result (λ names. texts names.items ≡ map (λ file. file.now) files.now) }
-{
-    let mut names = Vec::new(alloc);
-    let mut rest = files;
-    'each: while let [file, tail @ ..] = rest {
-        names.push(String::from_str(alloc, file)?)?;
-        rest = tail;
-    }
-    Ok(names)
 }

@@ -5,7 +5,8 @@ pub(crate) mod command;
 pub(crate) mod files;
 pub(crate) mod numbers;
 pub mod options;
+pub(crate) mod parts;
 #[cfg(test)]
 mod tests;
 
-pub use options::{Options, WordsError, files_of, words_of};
+pub use options::{Options, WordsError, words_of};

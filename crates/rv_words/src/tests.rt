@@ -13,7 +13,7 @@ fn words_in(alloc: Global, line: &str) -> Result<Vec<String>, AllocError> {
     Ok(words)
 }
 
-/// The options in one line.
+/// The options in one line: the numbers, the FILE words and the ends of the parts.
 fn told(alloc: Global, options: &Options) -> Result<String, Fail> {
     let text = format!(in alloc;
         "{} {} {} {} {:?} {:?} {:?}",
@@ -22,10 +22,15 @@ fn told(alloc: Global, options: &Options) -> Result<String, Fail> {
         options.turns,
         options.history,
         options.number,
-        options.scripts,
-        options.relations
+        options.files,
+        options.ends
     )?;
     Ok(text)
+}
+
+/// The scripts and the relation files in one line.
+fn sorted(alloc: Global, options: &Options) -> Result<String, Fail> {
+    Ok(format!(in alloc; "{:?} {:?}", options.scripts, options.relations)?)
 }
 
 /// What the words of a line give: the options in one line, or the error's message.
@@ -38,40 +43,78 @@ fn answer(alloc: Global, words: &[String]) -> Result<String, Fail> {
 
 /// Lines that are taken, and the options that they give.
 const TAKEN: &[(&str, &str)] = &[
-    ("a.rv", "1 20 1000000 false None [\"a.rv\"] []"),
+    ("a.rv", "1 20 1000000 false None [\"a.rv\"] [1]"),
     (
         "a.rv a.rv",
-        "1 20 1000000 false None [\"a.rv\", \"a.rv\"] []",
+        "1 20 1000000 false None [\"a.rv\", \"a.rv\"] [2]",
     ),
     (
         "--nodes=10 a.rv b.k2",
-        "1 10 1000000 false None [\"a.rv\"] [\"b.k2\"]",
+        "1 10 1000000 false None [\"a.rv\", \"b.k2\"] [1]",
     ),
     (
         "b.k2 --workers 64 a.rv --turns=0 --history c.k2",
-        "64 20 0 true None [\"a.rv\"] [\"b.k2\", \"c.k2\"]",
+        "64 20 0 true None [\"b.k2\", \"a.rv\", \"c.k2\"] [1]",
     ),
     (
         "--workers=0000000000000000002 --nodes 024 a.rv",
-        "2 24 1000000 false None [\"a.rv\"] []",
+        "2 24 1000000 false None [\"a.rv\"] [1]",
     ),
-    ("-- -x.rv", "1 20 1000000 false None [\"-x.rv\"] []"),
+    ("-- -x.rv", "1 20 1000000 false None [\"-x.rv\"] [1]"),
     (
         "a.rv -- --history -- .k2",
-        "1 20 1000000 false None [\"a.rv\", \"--history\", \"--\"] [\".k2\"]",
+        "1 20 1000000 false None [\"a.rv\", \"--history\", \"--\", \".k2\"] [3]",
     ),
     (
         "--turns 1000000000 k2",
-        "1 20 1000000000 false None [\"k2\"] []",
+        "1 20 1000000000 false None [\"k2\"] [1]",
     ),
     (
         "--gen 18446744073709551615",
-        "1 20 1000000 false Some(18446744073709551615) [] []",
+        "1 20 1000000 false Some(18446744073709551615) [] [0]",
     ),
-    ("--gen=0 --history --", "1 20 1000000 true Some(0) [] []"),
+    ("--gen=0 --history --", "1 20 1000000 true Some(0) [] [0]"),
     (
         "--workers=2 =5 a=b",
-        "2 20 1000000 false None [\"=5\", \"a=b\"] []",
+        "2 20 1000000 false None [\"=5\", \"a=b\"] [2]",
+    ),
+    (
+        "--nodes 12 a.rv --then b.rv",
+        "1 12 1000000 false None [\"a.rv\", \"b.rv\"] [1, 2]",
+    ),
+    (
+        "a.rv k.k2 b.rv --then l.k2 c.rv m.k2 --then a.rv",
+        "1 20 1000000 false None [\"a.rv\", \"k.k2\", \"b.rv\", \"l.k2\", \"c.rv\", \"m.k2\", \"a.rv\"] [2, 3, 4]",
+    ),
+    (
+        "a.rv -- --then b.rv",
+        "1 20 1000000 false None [\"a.rv\", \"--then\", \"b.rv\"] [3]",
+    ),
+    (
+        "a.rv --then -- b.rv --then --history",
+        "1 20 1000000 false None [\"a.rv\", \"b.rv\", \"--then\", \"--history\"] [1, 4]",
+    ),
+    (
+        "a.rv --then b.rv -- -- c.rv",
+        "1 20 1000000 false None [\"a.rv\", \"b.rv\", \"--\", \"c.rv\"] [1, 4]",
+    ),
+    (
+        "a --then b --then c --then d --then e --then f --then g --then h",
+        "1 20 1000000 false None [\"a\", \"b\", \"c\", \"d\", \"e\", \"f\", \"g\", \"h\"] [1, 2, 3, 4, 5, 6, 7, 8]",
+    ),
+    (
+        "then --then -- --then=x",
+        "1 20 1000000 false None [\"then\", \"--then=x\"] [1, 2]",
+    ),
+];
+
+/// Lines that are taken, with their scripts and their relation files.
+const SORTED: &[(&str, &str)] = &[
+    ("b.k2 a.rv .k2", "[\"a.rv\"] [\"b.k2\", \".k2\"]"),
+    ("--gen 7", "[] []"),
+    (
+        "k.k2 a.rv --then b.k2x l.k2 --then -- c.rv m.k2 --then",
+        "[\"a.rv\", \"b.k2x\", \"c.rv\", \"--then\"] [\"k.k2\", \"l.k2\", \"m.k2\"]",
     ),
 ];
 
@@ -118,6 +161,31 @@ const OUTSIDE: &[&str] = &[
     "b.k2",
     "--history",
     "--",
+    "--then",
+    "--then a.rv",
+    "a.rv --then",
+    "a.rv --then --then b.rv",
+    "a.rv --then --",
+    "--nodes --then b.rv",
+    "--nodes=12 --then b.rv",
+    "k.k2 --then b.rv",
+    "a.rv --then k.k2",
+    "--gen 5 --then a.rv",
+    "--gen 5 --then",
+    "--gen 5 --then --gen 6",
+    "a.rv --then --gen 5",
+    "a.rv --then --history b.rv",
+    "a.rv --then b.rv --workers 2",
+    "a.rv --then b.rv --nodes=12",
+    "a.rv --then b.rv --turns",
+    "--workers 2 -- a.rv --then -",
+    "a.rv --then - b.rv",
+    "a.rv --then _ b.rv",
+    "a.rv --then=b.rv",
+    "a.rv --then=x",
+    "a.rv --the b.rv",
+    "a.rv -then b.rv",
+    "a --then b --then c --then d --then e --then f --then g --then h --then i",
 ];
 
 /// Asserts what a line gives.
@@ -140,40 +208,89 @@ fn words_are_taken_exactly_in_the_set(rt: HostRuntime) -> Result<(), Fail> {
     Ok(())
 }
 
-/// So many scripts and relation files.
-fn files_in(alloc: Global, scripts: u32, relations: u32) -> Result<Vec<String>, AllocError> {
+/// Asserts which scripts and which relation files a line gives.
+fn assert_sorted(rt: &impl Abort, alloc: Global, line: &str, want: &str) -> Result<(), Fail> {
+    let words = words_in(alloc, line)?;
+    let given = match words_of(alloc, words.as_slice()) {
+        Ok(options) => sorted(alloc, &options)?,
+        Err(error) => format!(in alloc; "{error}")?,
+    };
+    assert_eq!(rt; given.as_str(), want, "{line}");
+    Ok(())
+}
+
+#[test]
+fn scripts_and_relation_files_keep_their_order(rt: HostRuntime) -> Result<(), Fail> {
+    let alloc = rt.alloc();
+    for &(line, want) in SORTED {
+        assert_sorted(&rt, alloc, line, want)?;
+    }
+    Ok(())
+}
+
+/// Parts that have so many scripts and relation files each, and one word more in the last.
+fn parts_in(
+    alloc: Global,
+    parts: u32,
+    scripts: u32,
+    relations: u32,
+    more: &str,
+) -> Result<Vec<String>, AllocError> {
     let mut words = Vec::new(alloc);
-    for place in 0..scripts.saturating_add(relations) {
-        let word = if place < scripts { "a.rv" } else { "b.k2" };
-        words.push(String::from_str(alloc, word)?)?;
+    for part in 0..parts {
+        if 0 < part {
+            words.push(String::from_str(alloc, "--then")?)?;
+        }
+        for place in 0..scripts.saturating_add(relations) {
+            let word = if place < scripts { "a.rv" } else { "b.k2" };
+            words.push(String::from_str(alloc, word)?)?;
+        }
+    }
+    if !more.is_empty() {
+        words.push(String::from_str(alloc, more)?)?;
     }
     Ok(words)
 }
 
-/// Asserts whether so many scripts and relation files are taken.
-fn assert_taken(
+/// So many parts with so many scripts and relation files each, one word more, and whether they are taken.
+const LIMITS: &[(u32, u32, u32, &str, bool)] = &[
+    (1, 64, 64, "", true),
+    (1, 64, 64, "a.rv", false),
+    (1, 64, 64, "b.k2", false),
+    (1, 0, 64, "", false),
+    (8, 8, 8, "", true),
+    (8, 8, 8, "a.rv", false),
+    (8, 8, 8, "b.k2", false),
+    (2, 32, 0, "", true),
+    (2, 33, 0, "", false),
+    (2, 1, 33, "", false),
+    (8, 1, 0, "", true),
+    (9, 1, 0, "", false),
+];
+
+/// Asserts whether a line of the limits is taken.
+fn assert_limit(
     rt: &impl Abort,
     alloc: Global,
-    scripts: u32,
-    relations: u32,
-    is_taken: bool,
+    limit: (u32, u32, u32, &str, bool),
 ) -> Result<(), Fail> {
-    let words = files_in(alloc, scripts, relations)?;
+    let (parts, scripts, relations, more, is_taken) = limit;
+    let words = parts_in(alloc, parts, scripts, relations, more)?;
     assert_eq!(rt;
         words_of(alloc, words.as_slice()).is_ok(),
         is_taken,
-        "{scripts} scripts, {relations} relation files"
+        "{parts} parts of {scripts} scripts and {relations} relation files, and {more}"
     );
     Ok(())
 }
 
 #[test]
-fn at_most_sixty_four_of_each_kind_are_taken(rt: HostRuntime) -> Result<(), Fail> {
+fn limits_are_of_all_parts_together(rt: HostRuntime) -> Result<(), Fail> {
     let alloc = rt.alloc();
     let none = answer(alloc, &[])?;
     assert_eq!(rt; none.as_str(), "Usage");
-    assert_taken(&rt, alloc, 64, 64, true)?;
-    assert_taken(&rt, alloc, 65, 0, false)?;
-    assert_taken(&rt, alloc, 1, 65, false)?;
-    assert_taken(&rt, alloc, 0, 64, false)
+    for &limit in LIMITS {
+        assert_limit(&rt, alloc, limit)?;
+    }
+    Ok(())
 }
