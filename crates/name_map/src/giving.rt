@@ -40,7 +40,8 @@ pub fn take_back<V: Copy + Drop>(names: &mut NameMap<V>, mut journal: Vec<(Name,
     }
 }
 
-/// All names of the list get their values, one after another, or none does. The journal, by which `take_back` undoes it.
+/// All names of the list get their values, one after another, or none does. The journal, by which `take_back` undoes
+/// it.
 pub fn put_all<V: Copy + Drop>(
     names: &mut NameMap<V>,
     alloc: Global,

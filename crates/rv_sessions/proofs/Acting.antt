@@ -25,17 +25,17 @@ use Rattle.run_model.specs.Events.{reads_of}
 use Rattle.run_model.specs.Outcomes.{IsNotEarly}
 use Rattle.run_model.specs.Page.{SavedFile, done_text, done_save}
 use Rattle.run_model.specs.Cost.{cost_of}
-use Rattle.run_model.specs.Carried.{Carried, carried}
+use Rattle.run_model.specs.Carried.{Carried, carried_from}
 use Rattle.run_model.specs.Sessions.{HaveValues}
 use Rattle.run_model.specs.Texts.{prefix, refusal_text}
 use Rattle.turn_book.specs.Views.{View as PASS}
 use Rattle.rv_eval.specs.Names.{state_of}
-use Rattle.rv_workspace.specs.Books.{HistoryStands}
+use Rattle.rv_workspace.specs.Books.{HistoryStands, AllNamesStand}
 use Rattle.rv_workspace.specs.Entering.{read_of}
 use Rattle.rv_workspace.specs.Picking.{picked}
-use Rattle.rv_workspace.proofs.Replaying.{history_stands}
+use Rattle.rv_workspace.proofs.Replaying.{history_stands, all_names_stand}
 use Rattle.rv_sessions.specs.declared.form.Form.{Form}
-use Rattle.rv_sessions.specs.Standing.{Kept, KeptStand, meant}
+use Rattle.rv_sessions.specs.Standing.{first_names, first_versions, carried_by, Kept, KeptStand, meant}
 use Rattle.rv_sessions.specs.Doing.{GoesThrough, Did, keep, due_on, snap_meant}
 use Rattle.rv_sessions.specs.Turning.{TookTurn}
 use Rattle.rv_sessions.specs.Valuing.{IsNotAhead, WasFull, Stopped, CameTo}
@@ -77,9 +77,10 @@ not_read t = record { through = through_nothing t; stays = t.stays }
 
 pub was_read : {s c : ℕ} {old mid new : Worker} {before after : PASS} {log : List Event} → TookTurn old mid before after log (read_of s c ∷ []) →
     Keeps mid new → WasRead s c old new before after log
-was_read {old} {mid} {new} {log} t k = record {
+was_read {old} {mid} {new} {before} {log} t k = record {
   through = through_one t;
   stand = history_stands mid new (λ r s. keeps_stands mid new r k s) log t.stand;
+  first_stand = all_names_stand mid new (λ r s. keeps_stands mid new r k s) (first_names before) t.first_stand;
   keeps = keeps_trans old mid new t.stays.keeps k;
 }
 
@@ -100,31 +101,31 @@ shown_before form old mid new e turns v (Ok bytes) m h = h
 shown_before form old mid new e turns v (Err o) m h = stopped_before old mid new e turns v (wanted_in form) o m h
 
 -- what an expression came to on names is what it comes to on the log, where both agree on the names that it uses
-pub on_names : (input : Input) (script : Script) (e : Expr) (mid new : Worker) (log : List Event) (turns : ℕ) (names : Carried) →
-    HistoryStands mid log → Keeps mid new → AgreeOn (state_of mid names) (lookup (meant mid (carried log))) (names_in e) →
-    input.turns ≡ turns → evaluated script (state_of mid names) e turns ≡ on_log input script e new log
-on_names input script e mid new log turns names h k a i =
-    by_names.value script (state_of mid names) (lookup (meant mid (carried log))) e turns a
-    ∙ ap (λ m. evaluated script (lookup m) e turns) (meant_same mid new k (carried log) (carried_stands mid log h))
-    ∙ ap (λ t. evaluated script (lookup (meant new (carried log))) e t) (sym i)
+pub on_names : (input : Input) (script : Script) (e : Expr) (mid new : Worker) (first : Carried) (log : List Event) (turns : ℕ) (names : Carried) →
+    AllNamesStand mid first → HistoryStands mid log → Keeps mid new → AgreeOn (state_of mid names) (lookup (meant mid (carried_from first log))) (names_in e) →
+    input.turns ≡ turns → evaluated script (state_of mid names) e turns ≡ on_log input script e new first log
+on_names input script e mid new first log turns names f h k a i =
+    by_names.value script (state_of mid names) (lookup (meant mid (carried_from first log))) e turns a
+    ∙ ap (λ m. evaluated script (lookup m) e turns) (meant_same mid new k (carried_from first log) (carried_stands mid first log f h))
+    ∙ ap (λ t. evaluated script (lookup (meant new (carried_from first log))) e t) (sym i)
 
 pub was_shown : (leaf : ℕ) (form : Form) (input : Input) (script : Script) (s c : ℕ) (e : Expr) (old mid new : Worker) (before after : PASS)
     (log : List Event) (turns : ℕ) (ws : List (List ℕ)) (names : Carried) (result : Result (List ℕ) Outcome) →
-    TookTurn old mid before after log (read_of s c ∷ []) → ws ≡ names_in e → names ≡ picked (Some ws) (carried log) → Keeps mid new →
+    TookTurn old mid before after log (read_of s c ∷ []) → ws ≡ names_in e → names ≡ picked (Some ws) (carried_by before log) → Keeps mid new →
     CameShown form mid new e turns (evaluated script (state_of mid names) e turns) result →
     MakesAtMost (cost_of_value leaf (evaluated script (state_of mid names) e turns)) mid new → input.turns ≡ turns →
     WasShown leaf form input script s c e old new before after log result
 was_shown leaf form input script s c e old mid new before after log turns ws names result t w n k came room i =
-    let a : AgreeOn (state_of mid names) (lookup (meant mid (carried log))) (names_in e) =
-    subst (AgreeOn (state_of mid names) (lookup (meant mid (carried log)))) w (wanted_agree mid ws log names t.stand n) in
-    let v : evaluated script (state_of mid names) e turns ≡ on_log input script e new log =
-    on_names input script e mid new log turns names t.stand k a i in
+    let a : AgreeOn (state_of mid names) (lookup (meant mid (carried_by before log))) (names_in e) =
+    subst (AgreeOn (state_of mid names) (lookup (meant mid (carried_by before log)))) w (wanted_agree mid ws (first_names before) log names t.first_stand t.stand n) in
+    let v : evaluated script (state_of mid names) e turns ≡ on_log input script e new (first_names before) log =
+    on_names input script e mid new (first_names before) log turns names t.first_stand t.stand k a i in
     record {
       read = was_read t k;
-      came = shown_before form old mid new e input.turns (on_log input script e new log) result t.stays.misses
-          (subst (λ u. CameShown form mid new e u (on_log input script e new log) result) (sym i)
+      came = shown_before form old mid new e input.turns (on_log input script e new (first_names before) log) result t.stays.misses
+          (subst (λ u. CameShown form mid new e u (on_log input script e new (first_names before) log) result) (sym i)
           (subst (λ u. CameShown form mid new e turns u result) v came));
-      room = subst (λ m. new.made ≤ m + cost_of leaf input script e (meant new (carried log))) t.stays.made
+      room = subst (λ m. new.made ≤ m + cost_of leaf input script e (meant new (carried_by before log))) t.stays.made
           (subst (λ u. new.made ≤ mid.made + cost_of_value leaf u) v room);
     }
 
@@ -135,21 +136,21 @@ came_before old mid new e turns v (Err o) m h = λ then. stopped_before old mid 
 
 pub was_valued : (leaf : ℕ) (input : Input) (script : Script) (s c : ℕ) (e : Expr) (old mid new : Worker) (before after : PASS)
     (log : List Event) (turns : ℕ) (ws : List (List ℕ)) (names : Carried) (result : Result Rel Outcome) →
-    TookTurn old mid before after log (read_of s c ∷ []) → ws ≡ names_in e → names ≡ picked (Some ws) (carried log) → Keeps mid new →
+    TookTurn old mid before after log (read_of s c ∷ []) → ws ≡ names_in e → names ≡ picked (Some ws) (carried_by before log) → Keeps mid new →
     CameTo mid new e turns (evaluated script (state_of mid names) e turns) result →
     MakesAtMost (cost_of_value leaf (evaluated script (state_of mid names) e turns)) mid new → input.turns ≡ turns →
     WasValued leaf input script s c e old new before after log result
 was_valued leaf input script s c e old mid new before after log turns ws names result t w n k came room i =
-    let a : AgreeOn (state_of mid names) (lookup (meant mid (carried log))) (names_in e) =
-    subst (AgreeOn (state_of mid names) (lookup (meant mid (carried log)))) w (wanted_agree mid ws log names t.stand n) in
-    let v : evaluated script (state_of mid names) e turns ≡ on_log input script e new log =
-    on_names input script e mid new log turns names t.stand k a i in
+    let a : AgreeOn (state_of mid names) (lookup (meant mid (carried_by before log))) (names_in e) =
+    subst (AgreeOn (state_of mid names) (lookup (meant mid (carried_by before log)))) w (wanted_agree mid ws (first_names before) log names t.first_stand t.stand n) in
+    let v : evaluated script (state_of mid names) e turns ≡ on_log input script e new (first_names before) log =
+    on_names input script e mid new (first_names before) log turns names t.first_stand t.stand k a i in
     record {
       read = was_read t k;
-      came = came_before old mid new e input.turns (on_log input script e new log) result t.stays.misses
-          (subst (λ u. CameTo mid new e u (on_log input script e new log) result) (sym i)
+      came = came_before old mid new e input.turns (on_log input script e new (first_names before) log) result t.stays.misses
+          (subst (λ u. CameTo mid new e u (on_log input script e new (first_names before) log) result) (sym i)
           (subst (λ u. CameTo mid new e turns u result) v came));
-      room = subst (λ m. new.made ≤ m + cost_of leaf input script e (meant new (carried log))) t.stays.made
+      room = subst (λ m. new.made ≤ m + cost_of leaf input script e (meant new (carried_by before log))) t.stays.made
           (subst (λ u. new.made ≤ mid.made + cost_of_value leaf u) v room);
     }
 
@@ -185,30 +186,30 @@ module _ (leaf : ℕ) (input : Input) (script : Script) (s c : ℕ) (item : Item
       }) v.memory (reads_of item, refl)
 
   module _ (log : List Event) (read : WasRead s c old new before after log)
-      (room : MakesAtMost (cost_of leaf input script e (meant new (carried log))) old new) where
+      (room : MakesAtMost (cost_of leaf input script e (meant new (carried_by before log))) old new) where
     pub went : Went leaf input script s c item old new before after snaps (turn_of log (read_of s c) ∷ [])
     went = record {
       through = read.through;
       own = (by_one refl refl, tt);
       begun = (read_of s c, [], refl);
       once = once_one log (read_of s c);
-      stand = (record { log = read.stand; own = (tt, tt) }, tt);
+      stand = (record { first_stand = read.first_stand; log = read.stand; own = (tt, tt) }, tt);
       snaps_stood = stood;
       room = subst (λ n. MakesAtMost n old new) (sym (v.cost_is leaf input script _ _ _)) room;
       keeps = read.keeps;
     }
 
-    pub value_due : due_on input script item new snaps (turn_of log (read_of s c) ∷ []) ≡ due_of_value then input.turns (on_log input script e new log)
-    value_due = v.due_is input script (meant new (carried log)) (snap_meant new item snaps)
+    pub value_due : due_on input script item new snaps (first_names before) (turn_of log (read_of s c) ∷ []) ≡ due_of_value then input.turns (on_log input script e new (first_names before) log)
+    value_due = v.due_is input script (meant new (carried_by before log)) (snap_meant new item snaps)
 
     -- it is refused, or the table was full
-    pub stopped_did : (o : Outcome) → (o ≡ NO_MEMORY → ⊥) → Stopped old new e input.turns (on_log input script e new log) then o →
+    pub stopped_did : (o : Outcome) → (o ≡ NO_MEMORY → ⊥) → Stopped old new e input.turns (on_log input script e new (first_names before) log) then o →
         Did leaf input script s c item old new before after snaps snaps o (prefix s c ++ refusal_text o) []
     stopped_did o n (inl h) = refuses went h.0 o (value_due ∙ h.1) h.2 (sym v.reads)
     stopped_did o n (inr (inl h)) =
-        let d : Due = due_on input script item new snaps (turn_of log (read_of s c) ∷ []) in
+        let d : Due = due_on input script item new snaps (first_names before) (turn_of log (read_of s c) ∷ []) in
         let late : IsNotEarly d =
-        subst IsNotEarly (sym value_due) (late_value then input.turns (on_log input script e new log) h.1.not_ahead v.late) in
+        subst IsNotEarly (sym value_due) (late_value then input.turns (on_log input script e new (first_names before) log) h.1.not_ahead v.late) in
         subst (λ x. Did leaf input script s c item old new before after snaps snaps x (prefix s c ++ refusal_text x) []) (sym h.0)
         (full went (v.nodes d h.1.compound late) h.1.rose (sym v.reads))
     stopped_did o n (inr (inr h)) = absurd (n h)
@@ -219,14 +220,14 @@ module _ (leaf : ℕ) (input : Input) (script : Script) (s c : ℕ) (item : Item
 
     -- the value is due, and is shown or saved
     pub shown_did : (text : List ℕ → Relation → List ℕ) (files : Relation → List SavedFile) → IsValueItem item e then text files → (r : Relation) →
-        due_of_value then input.turns (on_log input script e new log) ≡ Value r →
+        due_of_value then input.turns (on_log input script e new (first_names before) log) ≡ Value r →
         Did leaf input script s c item old new before after snaps snaps Done (text (prefix s c) r) (files r)
     shown_did text files u r h =
-        let d : Due = due_on input script item new snaps (turn_of log (read_of s c) ∷ []) in
+        let d : Due = due_on input script item new snaps (first_names before) (turn_of log (read_of s c) ∷ []) in
         let dd : d ≡ Value r = value_due ∙ h in
         is_done went snaps (text (prefix s c) r) (files r) (ap outcome_due dd) (sym (u.done d))
         (subst (HaveValues (set_of new) []) (sym (u.none_given d)) tt)
         (sym (ap (done_text (prefix s c) item) dd ∙ u.shows (prefix s c) r))
         (sym (ap (done_save item) dd ∙ u.saves r))
-        (sym (ap (λ o. keep o (carried log) snaps) u.no_snapped))
-        (subst (λ l. CommitsItem (change_taken [] (turn_of log (read_of s c) ∷ []) c) l Done) (sym u.no_block) tt)
+        (sym (ap (λ o. keep o (carried_by before log) snaps) u.no_snapped))
+        (subst (λ l. CommitsItem (change_taken (first_versions before) (turn_of log (read_of s c) ∷ []) c) l Done) (sym u.no_block) tt)

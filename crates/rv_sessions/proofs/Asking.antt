@@ -33,7 +33,7 @@ use Rattle.run_model.specs.Turns.{change_taken}
 use Rattle.run_model.specs.Events.{reads_of, done_deeds}
 use Rattle.run_model.specs.Page.{done_text, done_save}
 use Rattle.run_model.specs.Cost.{cost_of_item, cost_on_snapshot}
-use Rattle.run_model.specs.Carried.{Carried, carried}
+use Rattle.run_model.specs.Carried.{Carried}
 use Rattle.run_model.specs.Texts.{prefix, refusal_text}
 use Rattle.turn_book.specs.Views.{View as PASS}
 use Rattle.rv_eval.specs.Names.{state_of}
@@ -41,10 +41,10 @@ use Rattle.rv_workspace.specs.declared.refused.DropRefused.TheVariants.{Unknown 
 use Rattle.rv_workspace.specs.Entering.{read_of, removal}
 use Rattle.rv_sessions.specs.declared.form.Form.TheVariants.{Matrix}
 use Rattle.rv_sessions.specs.declared.told.Told.{Told}
-use Rattle.rv_sessions.specs.Standing.{AllNamesStand, Kept, KeptStand, meant}
+use Rattle.rv_sessions.specs.Standing.{first_names, first_versions, carried_by, Kept, KeptStand, meant}
 use Rattle.rv_sessions.specs.Doing.{GoesThrough, Did, keep, state_of_turns, snap_meant, due_on}
 use Rattle.rel_model.specs.Seats.{Stays}
-use Rattle.rv_workspace.specs.Books.{EventStands}
+use Rattle.rv_workspace.specs.Books.{EventStands, AllNamesStand}
 use Rattle.run_model.specs.Steps.{snapped}
 use Rattle.run_model.specs.Sessions.{HaveValues}
 use Rattle.rv_sessions.specs.Turning.{TookTurn, DropTurn}
@@ -128,11 +128,11 @@ module _ (leaf : ℕ) (input : Input) (script : Script) (s c : ℕ) (at : Place)
     snap_is : snap_meant new item snaps ≡ Some (meant new kept)
     snap_is = ap (option_map (meant new)) there
 
-    pub due_is : due_on input script item new snaps [] ≡ due_of_value printed input.turns after_
-    due_is = due_at (state_of_turns new []) (snap_meant new item snaps) ∙ ap (due_on_snapshot input script at name e) snap_is
+    pub due_is : due_on input script item new snaps (first_names p) [] ≡ due_of_value printed input.turns after_
+    due_is = due_at (state_of_turns new (first_names p) []) (snap_meant new item snaps) ∙ ap (due_on_snapshot input script at name e) snap_is
 
     room_is : MakesAtMost (cost_of_value leaf before_) old new →
-        MakesAtMost (cost_of_item leaf input script item (state_of_turns new []) (snap_meant new item snaps) (due_on input script item new snaps [])) old new
+        MakesAtMost (cost_of_item leaf input script item (state_of_turns new (first_names p) []) (snap_meant new item snaps) (due_on input script item new snaps (first_names p) [])) old new
     room_is room =
         subst (λ x. new.made ≤ old.made + cost_on_snapshot leaf input script e x) (sym snap_is)
         (subst (λ x. new.made ≤ old.made + cost_of_value leaf x) one room)
@@ -143,10 +143,10 @@ module _ (leaf : ℕ) (input : Input) (script : Script) (s c : ℕ) (at : Place)
         let r : Relation = h.0 in
         let w : Went leaf input script s c item old new p p snaps [] =
         record { through = through_none p; own = tt; begun = tt; once = tt; stand = tt; snaps_stood = stood; room = room_is room; keeps = k } in
-        let dd : due_on input script item new snaps [] ≡ Value r =
+        let dd : due_on input script item new snaps (first_names p) [] ≡ Value r =
         due_is ∙ ap (due_of_value printed input.turns) (sym one) ∙ ap (λ t. due_of_value printed t before_) i ∙ h.1 in
         is_done w snaps (prefix s c ++ bytes) [] (ap outcome_due dd) refl tt
-        (ap (λ b. prefix s c ++ b) h.2 ∙ sym (ap (done_text (prefix s c) item) dd)) (sym (at_saves at name e (due_on input script item new snaps []))) refl tt
+        (ap (λ b. prefix s c ++ b) h.2 ∙ sym (ap (done_text (prefix s c) item) dd)) (sym (at_saves at name e (due_on input script item new snaps (first_names p) []))) refl tt
 
     pub at_stopped : (o : Outcome) (result : Result Told LACK) → Stopped old new e turns before_ printed o → MakesAtMost (cost_of_value leaf before_) old new →
         TellsRefusal s c o result → DidItem leaf input script s c item old new p p snaps snaps result
@@ -186,7 +186,7 @@ module _ (leaf : ℕ) (input : Input) (script : Script) (s c : ℕ) (at : Place)
     own = (by_one a b, tt);
     begun = (e, [], refl);
     once = once_one log e;
-    stand = (record { log = t.stand; own = (n, tt) }, tt);
+    stand = (record { first_stand = t.first_stand; log = t.stand; own = (n, tt) }, tt);
     snaps_stood = stood;
     room = made_none old.made new.made t.stays.made;
     keeps = t.stays.keeps;
@@ -204,13 +204,13 @@ module _ (leaf : ℕ) (input : Input) (script : Script) (s c : ℕ) (at : Place)
     keeps = t.keeps;
   }
 
-  due_had : (log : List Event) → due input script drop (meant new (carried log)) None ≡ due_of_drop at name (option_map (set_of new) (lookup (carried log) name))
-  due_had log = due_drop (meant new (carried log)) None ∙ ap (due_of_drop at name) (valued-lookup (set_of new) (carried log) name)
+  due_had : (log : List Event) → due input script drop (meant new (carried_by before log)) None ≡ due_of_drop at name (option_map (set_of new) (lookup (carried_by before log) name))
+  due_had log = due_drop (meant new (carried_by before log)) None ∙ ap (due_of_drop at name) (valued-lookup (set_of new) (carried_by before log) name)
 
   -- the name is gone
   pub drop_done : DropTurn s c name old new before after (Ok tt) → Did leaf input script s c drop old new before after snaps snaps Done [] []
   drop_done h =
-      let dd : due input script drop (meant new (carried h.0)) None ≡ Nothing = due_had h.0 ∙ some_kept at name (set_of new) (lookup (carried h.0) name) h.2 in
+      let dd : due input script drop (meant new (carried_by before h.0)) None ≡ Nothing = due_had h.0 ∙ some_kept at name (set_of new) (lookup (carried_by before h.0) name) h.2 in
       is_done (drop_went h.0 (removal s c name) h.1 refl refl tt) snaps [] [] (ap outcome_due dd) refl tt (sym (ap (done_text (prefix s c) drop) dd))
       (sym (ap (done_save drop) dd)) refl tt
 
@@ -244,7 +244,7 @@ module _ (leaf : ℕ) (input : Input) (script : Script) (s c : ℕ) (name : List
     own = (by_one refl refl, tt);
     begun = (read_of s c, [], refl);
     once = once_one log (read_of s c);
-    stand = (record { log = t.stand; own = (tt, tt) }, tt);
+    stand = (record { first_stand = t.first_stand; log = t.stand; own = (tt, tt) }, tt);
     snaps_stood = stood;
     room = made_none old.made new.made t.stays.made;
     keeps = t.stays.keeps;
@@ -252,9 +252,9 @@ module _ (leaf : ℕ) (input : Input) (script : Script) (s c : ℕ) (name : List
 
   -- all names are kept
   pub snap_done : (log : List Event) (own : List ℕ) (names : Carried) (left : Kept) → TookTurn old new before after log (read_of s c ∷ []) → own ≡ name →
-      names ≡ carried log → left ≡ set own names snaps → Did leaf input script s c snap old new before after snaps left Done [] []
+      names ≡ carried_by before log → left ≡ set own names snaps → Did leaf input script s c snap old new before after snaps left Done [] []
   snap_done log own names left t n l e =
-      let dd : due input script snap (meant new (carried log)) None ≡ Nothing = due_snap (meant new (carried log)) None in
+      let dd : due input script snap (meant new (carried_by before log)) None ≡ Nothing = due_snap (meant new (carried_by before log)) None in
       is_done (snap_went log t) left [] [] (ap outcome_due dd) refl tt (sym (ap (done_text (prefix s c) snap) dd)) (sym (ap (done_save snap) dd))
       (e ∙ ap (λ x. set x names snaps) n ∙ ap (λ x. set name x snaps) l) tt
 
@@ -276,11 +276,11 @@ pub defined : (leaf : ℕ) (input : Input) (script : Script) (s c : ℕ) (item :
     ((state : Workspace) (snap : Option Workspace) → due input script item state snap ≡ Nothing) → done_deeds item Nothing ≡ [] → gives item Nothing ≡ [] →
     snapped item ≡ None → lets_of item ≡ None → Did leaf input script s c item w w p p snaps snaps Done [] []
 defined leaf input script s c item w p snaps stood d deeds given kept block =
-    let x : Workspace = state_of_turns w [] in
+    let x : Workspace = state_of_turns w (first_names p) [] in
     let y : Option Workspace = snap_meant w item snaps in
     is_done {ts = []}
     (record { through = through_none p; own = tt; begun = tt; once = tt; stand = tt; snaps_stood = stood; room = omega arith; keeps = keeps_itself w })
     snaps [] [] (ap outcome_due (d x y)) (sym (ap (done_deeds item) (d x y) ∙ deeds))
     (subst (HaveValues (set_of w) []) (sym (ap (gives item) (d x y) ∙ given)) tt)
-    (sym (ap (done_text (prefix s c) item) (d x y))) (sym (ap (done_save item) (d x y))) (sym (ap (λ o. keep o (carried []) snaps) kept))
-    (subst (λ l. CommitsItem (change_taken [] [] c) l Done) (sym block) tt)
+    (sym (ap (done_text (prefix s c) item) (d x y))) (sym (ap (done_save item) (d x y))) (sym (ap (λ o. keep o [] snaps) kept))
+    (subst (λ l. CommitsItem (change_taken (first_versions p) [] c) l Done) (sym block) tt)

@@ -35,17 +35,17 @@ use Rattle.run_model.specs.Outcomes.{MayLackNodes, MayLackMemory, IsNotEarly, le
 use Rattle.run_model.specs.Events.{Reads, Gives, giving, first_of, reads_of, done_deeds}
 use Rattle.run_model.specs.Page.{shown, saved_of, done_text, done_save}
 use Rattle.run_model.specs.Cost.{cost_of, cost_of_item, listed_count, listed_cost}
-use Rattle.run_model.specs.Carried.{carried}
+use Rattle.run_model.specs.Carried.{Carried, carried_from}
 use Rattle.run_model.specs.Sessions.{HaveValues}
 use Rattle.run_model.specs.Texts.{prefix, refusal_text}
 use Rattle.run_model.specs.Legal.{CommitsItem}
 use Rattle.run_model.specs.Turns.{Turn, change_taken}
 use Rattle.turn_book.specs.Views.{View as PASS}
-use Rattle.rv_workspace.specs.Books.{HistoryStands}
+use Rattle.rv_workspace.specs.Books.{HistoryStands, AllNamesStand}
 use Rattle.rv_workspace.specs.Entering.{read_of, assign_of}
-use Rattle.rv_workspace.proofs.Replaying.{history_stands}
+use Rattle.rv_workspace.proofs.Replaying.{all_names_stand, history_stands}
 use Rattle.rv_sessions.specs.declared.told.Told.{Told}
-use Rattle.rv_sessions.specs.Standing.{Kept, KeptStand, meant}
+use Rattle.rv_sessions.specs.Standing.{first_names, first_versions, carried_by, Kept, KeptStand, meant}
 use Rattle.rv_sessions.specs.Doing.{GoesThrough, Did, keep, due_on, state_of_turns, snap_meant}
 use Rattle.rv_sessions.specs.Valuing.{IsRefusal}
 use Rattle.rv_sessions.specs.Telling.{text_of, saved_by, TellsRefusal}
@@ -70,11 +70,11 @@ lack_is_not_done e = cc
 
 -- ---- 1
 -- what an expression came to is what it comes to in a worker that kept all and went on
-value_later : (input : Input) (script : Script) (e : Expr) (mid new : Worker) (log : List Event) (rel : Rel) → HistoryStands mid log → Keeps mid new → Stands mid rel →
-    due_of_value Value input.turns (on_log input script e mid log) ≡ Value (set_of mid rel) →
-    due_of_value Value input.turns (on_log input script e new log) ≡ Value (set_of new rel)
-value_later input script e mid new log rel h k st v =
-    ap (λ m. due_of_value Value input.turns (evaluated script (lookup m) e input.turns)) (sym (meant_same mid new k (carried log) (carried_stands mid log h)))
+value_later : (input : Input) (script : Script) (e : Expr) (mid new : Worker) (first : Carried) (log : List Event) (rel : Rel) → AllNamesStand mid first → HistoryStands mid log →
+    Keeps mid new → Stands mid rel → due_of_value Value input.turns (on_log input script e mid first log) ≡ Value (set_of mid rel) →
+    due_of_value Value input.turns (on_log input script e new first log) ≡ Value (set_of new rel)
+value_later input script e mid new first log rel f h k st v =
+    ap (λ m. due_of_value Value input.turns (evaluated script (lookup m) e input.turns)) (sym (meant_same mid new k (carried_from first log) (carried_stands mid first log f h)))
     ∙ v ∙ ap Value (sym (keeps_set mid new rel k st))
 
 -- a read, after which the pass went through nothing more, and the worker kept all
@@ -83,6 +83,7 @@ read_on : (s c : ℕ) (old mid new : Worker) (before between after : PASS) (log 
 read_on s c old mid new before between after log r g k = record {
   through = through_append (turn_of log (read_of s c) ∷ []) [] before between after r.through g;
   stand = history_stands mid new (λ x h. keeps_stands mid new x k h) log r.stand;
+  first_stand = all_names_stand mid new (λ x h. keeps_stands mid new x k h) (first_names before) r.first_stand;
   keeps = keeps_trans old mid new r.keeps k;
 }
 
@@ -91,11 +92,11 @@ module _ (leaf : ℕ) (input : Input) (script : Script) (s c : ℕ) (name : List
     (value : WasValued leaf input script s c e old mid before between log (Ok rel)) where
   -- no more was made in the turn of the assignment
   room_later : (puts : List Event) (taken : List Event) → TookTurn mid new between after taken puts →
-      MakesAtMost (cost_of leaf input script e (meant new (carried log))) old new
+      MakesAtMost (cost_of leaf input script e (meant new (carried_by before log))) old new
   room_later puts taken t =
       let k : Keeps mid new = t.stays.keeps in
-      subst (λ m. m ≤ old.made + cost_of leaf input script e (meant new (carried log))) (sym t.stays.made)
-      (subst (λ m. mid.made ≤ old.made + cost_of leaf input script e m) (meant_same mid new k (carried log) (carried_stands mid log value.read.stand)) value.room)
+      subst (λ m. m ≤ old.made + cost_of leaf input script e (meant new (carried_by before log))) (sym t.stays.made)
+      (subst (λ m. mid.made ≤ old.made + cost_of leaf input script e m) (meant_same mid new k (carried_by before log) (carried_stands mid (first_names before) log value.read.first_stand value.read.stand)) value.room)
 
   -- the name got the value
   pub let_done : (taken : List Event) → TookTurn mid new between after taken (assign_of s c (name, rel) ∷ []) →
@@ -103,6 +104,8 @@ module _ (leaf : ℕ) (input : Input) (script : Script) (s c : ℕ) (name : List
       Did leaf input script s c (COMMAND (LET name e)) old new before after snaps snaps Done [] []
   let_done taken t rows cols =
       let k : Keeps mid new = t.stays.keeps in
+      let first_all : AllNamesStand new (first_names before) =
+      all_names_stand mid new (λ x h. keeps_stands mid new x k h) (first_names before) value.read.first_stand in
       let ts : List Turn = turn_of log (read_of s c) ∷ turn_of taken (assign_of s c (name, rel)) ∷ [] in
       let w : Went leaf input script s c (COMMAND (LET name e)) old new before after snaps ts = record {
         through = through_append (turn_of log (read_of s c) ∷ []) (turn_of taken (assign_of s c (name, rel)) ∷ []) before between after
@@ -111,17 +114,17 @@ module _ (leaf : ℕ) (input : Input) (script : Script) (s c : ℕ) (name : List
         begun = (read_of s c, [], refl);
         once = once_read log taken s c (assign_of s c (name, rel));
         stand = (
-          record { log = history_stands mid new (λ x h. keeps_stands mid new x k h) log value.read.stand; own = (tt, tt) },
-          (record { log = t.stand; own = ((keeps_stands mid new rel k value.came.0, tt), tt) }, tt),
+          record { first_stand = first_all; log = history_stands mid new (λ x h. keeps_stands mid new x k h) log value.read.stand; own = (tt, tt) },
+          (record { first_stand = first_all; log = t.stand; own = ((keeps_stands mid new rel k value.came.0, tt), tt) }, tt),
         );
         snaps_stood = stood;
         room = room_later (assign_of s c (name, rel) ∷ []) taken t;
         keeps = keeps_trans old mid new value.read.keeps k;
       } in
-      let d : Due = due_on input script (COMMAND (LET name e)) new snaps ts in
+      let d : Due = due_on input script (COMMAND (LET name e)) new snaps (first_names before) ts in
       let dd : d ≡ Value (set_of new rel) =
-      (let_item name e).due_is input script (meant new (carried log)) None
-      ∙ value_later input script e mid new log rel value.read.stand k value.came.0 (value.came.1 Value) in
+      (let_item name e).due_is input script (meant new (carried_by before log)) None
+      ∙ value_later input script e mid new (first_names before) log rel value.read.first_stand value.read.stand k value.came.0 (value.came.1 Value) in
       is_done w snaps [] [] (ap outcome_due dd)
       (ap (λ m. Reads ∷ Gives name m rel.cols ∷ []) (sym rows) ∙ ap (λ n. Reads ∷ Gives name (set_of new rel).rows n ∷ []) (sym cols)
       ∙ sym (ap (done_deeds (COMMAND (LET name e))) dd))
@@ -157,7 +160,7 @@ pub value_not_done : (leaf : ℕ) (input : Input) (script : Script) (s c : ℕ) 
     ValuedInTurn leaf input script s c e old new before after (Err o) → o ≢ Done
 value_not_done leaf input script s c e old new before after o (inl h) d = lack_is_not_done (sym (same_outcome o NO_MEMORY h.1) ∙ d)
 value_not_done leaf input script s c e old new before after o (inr h) d =
-    stopped_not_done old new e input.turns (on_log input script e new h.0) Value o (h.1.came Value) d
+    stopped_not_done old new e input.turns (on_log input script e new (first_names before) h.0) Value o (h.1.came Value) d
 
 pub let_refused : (leaf : ℕ) (input : Input) (script : Script) (s c : ℕ) (name : List ℕ) (e : Expr) (old new : Worker) (before after : PASS)
     (snaps : Kept) → KeptStand old snaps → (o : Outcome) (result : Result Told LACK) →
@@ -180,40 +183,40 @@ pub record ReadsNothing (item : Item) : Type 0 where
 module _ (leaf : ℕ) (input : Input) (script : Script) (s c : ℕ) (item : Item) (old new : Worker) (before after : PASS) (snaps : Kept)
     (stood : KeptStand old snaps) (k : Keeps old new) (n : ReadsNothing item) where
   module _ (g : GoesThrough [] before after)
-      (room : MakesAtMost (cost_of_item leaf input script item (state_of_turns new []) (snap_meant new item snaps)
-      (due_on input script item new snaps [])) old new) where
+      (room : MakesAtMost (cost_of_item leaf input script item (state_of_turns new (first_names before) []) (snap_meant new item snaps)
+      (due_on input script item new snaps (first_names before) [])) old new) where
     went_nowhere : Went leaf input script s c item old new before after snaps []
     went_nowhere = record { through = g; own = tt; begun = tt; once = tt; stand = tt; snaps_stood = stood; room = room; keeps = k }
 
     pub unread_lacks : Did leaf input script s c item old new before after snaps snaps NO_MEMORY (prefix s c ++ refusal_text NO_MEMORY) []
     unread_lacks = lacks went_nowhere n.memory (reads_of item, refl)
 
-    pub unread_full : MayLackNodes item (due_on input script item new snaps []) → Rose old.misses new.misses →
+    pub unread_full : MayLackNodes item (due_on input script item new snaps (first_names before) []) → Rose old.misses new.misses →
         Did leaf input script s c item old new before after snaps snaps NODES (prefix s c ++ refusal_text NODES) []
     unread_full m r = full went_nowhere m r (sym n.reads)
 
-    pub unread_refuses : (when : When) (o : Outcome) → due_on input script item new snaps [] ≡ Refused when o → IsRefusal o →
+    pub unread_refuses : (when : When) (o : Outcome) → due_on input script item new snaps (first_names before) [] ≡ Refused when o → IsRefusal o →
         Did leaf input script s c item old new before after snaps snaps o (prefix s c ++ refusal_text o) []
     unread_refuses when o d r = refuses went_nowhere when o d r (sym n.reads)
 
   -- the name got the relation that is due
   pub unread_gives : (name : List ℕ) (rel : Rel) (r : Relation) (log : List Event) →
-      GoesThrough (turn_of log (assign_of s c (name, rel)) ∷ []) before after → HistoryStands new log → Stands new rel → set_of new rel ≡ r →
+      GoesThrough (turn_of log (assign_of s c (name, rel)) ∷ []) before after → HistoryStands new log → AllNamesStand new (first_names before) → Stands new rel → set_of new rel ≡ r →
       r.rows ≡ rel.rows → r.cols ≡ rel.cols →
-      due_on input script item new snaps (turn_of log (assign_of s c (name, rel)) ∷ []) ≡ Value r →
+      due_on input script item new snaps (first_names before) (turn_of log (assign_of s c (name, rel)) ∷ []) ≡ Value r →
       first_of item ≡ [] → gives item (Value r) ≡ (name, r) ∷ [] → ((numbers : List ℕ) → shown numbers item r ≡ []) → saved_of item r ≡ [] →
-      MakesAtMost (cost_of_item leaf input script item (meant new (carried log)) (snap_meant new item snaps) (Value r)) old new →
+      MakesAtMost (cost_of_item leaf input script item (meant new (carried_by before log)) (snap_meant new item snaps) (Value r)) old new →
       Did leaf input script s c item old new before after snaps snaps Done [] []
-  unread_gives name rel r log g h st v rows cols dd first given text saved room =
+  unread_gives name rel r log g h f st v rows cols dd first given text saved room =
       let ts : List Turn = turn_of log (assign_of s c (name, rel)) ∷ [] in
       let w : Went leaf input script s c item old new before after snaps ts = record {
         through = g;
         own = (by_one refl refl, tt);
         begun = (assign_of s c (name, rel), [], refl);
         once = once_one log (assign_of s c (name, rel));
-        stand = (record { log = h; own = ((st, tt), tt) }, tt);
+        stand = (record { first_stand = f; log = h; own = ((st, tt), tt) }, tt);
         snaps_stood = stood;
-        room = subst (λ d. MakesAtMost (cost_of_item leaf input script item (meant new (carried log)) (snap_meant new item snaps) d) old new) (sym dd) room;
+        room = subst (λ d. MakesAtMost (cost_of_item leaf input script item (meant new (carried_by before log)) (snap_meant new item snaps) d) old new) (sym dd) room;
         keeps = k;
       } in
       is_done w snaps [] [] (ap outcome_due dd)
@@ -221,8 +224,8 @@ module _ (leaf : ℕ) (input : Input) (script : Script) (s c : ℕ) (item : Item
       ∙ ap (λ gs. giving gs) (sym given) ∙ ap (λ ds. ds ++ giving (gives item (Value r))) (sym first) ∙ sym (ap (done_deeds item) dd))
       (subst (HaveValues (set_of new) (rel ∷ [])) (sym (ap (gives item) dd ∙ given)) (v, tt))
       (sym (ap (done_text (prefix s c) item) dd ∙ text (prefix s c))) (sym (ap (done_save item) dd ∙ saved))
-      (sym (ap (λ o. keep o (carried log) snaps) n.no_snapped))
-      (subst (λ l. CommitsItem (change_taken [] ts c) l Done) (sym n.no_block) tt)
+      (sym (ap (λ o. keep o (carried_by before log) snaps) n.no_snapped))
+      (subst (λ l. CommitsItem (change_taken (first_versions before) ts c) l Done) (sym n.no_block) tt)
 
 -- a value that came stands
 pub value_stands : (leaf : ℕ) (input : Input) (script : Script) (s c : ℕ) (e : Expr) (old new : Worker) (before after : PASS) (rel : Rel) →
@@ -283,14 +286,14 @@ module _ (leaf : ℕ) (input : Input) (script : Script) (s c : ℕ) (name : List
         Did leaf input script s c item old mid before before snaps snaps NODES (prefix s c ++ refusal_text NODES) []
     list_full r =
         unread_full leaf input script s c item old mid before before snaps stood k reads_nothing (through_none before)
-        (room_at mid (state_of_turns mid []) (snap_meant mid item snaps) _ (due_value (state_of_turns mid []) (snap_meant mid item snaps)) refl)
-        (tt, subst IsNotEarly (sym (due_value (state_of_turns mid []) (snap_meant mid item snaps))) tt) r
+        (room_at mid (state_of_turns mid (first_names before) []) (snap_meant mid item snaps) _ (due_value (state_of_turns mid (first_names before) []) (snap_meant mid item snaps)) refl)
+        (tt, subst IsNotEarly (sym (due_value (state_of_turns mid (first_names before) []) (snap_meant mid item snaps))) tt) r
 
     pub made_lacks : (new : Worker) (after : PASS) → GoesThrough [] before after → Keeps mid new → new.made ≡ mid.made →
         Did leaf input script s c item old new before after snaps snaps NO_MEMORY (prefix s c ++ refusal_text NO_MEMORY) []
     made_lacks new after g l m =
         unread_lacks leaf input script s c item old new before after snaps stood (keeps_trans old mid new k l) reads_nothing g
-        (room_at new (state_of_turns new []) (snap_meant new item snaps) _ (due_value (state_of_turns new []) (snap_meant new item snaps)) m)
+        (room_at new (state_of_turns new (first_names before) []) (snap_meant new item snaps) _ (due_value (state_of_turns new (first_names before) []) (snap_meant new item snaps)) m)
 
     -- the name got the listed relation
     pub list_given : (new : Worker) (after : PASS) (rel : Rel) (own : List ℕ) → own ≡ name → GIVES_REL mid rows cols value rel →
@@ -302,10 +305,10 @@ module _ (leaf : ℕ) (input : Input) (script : Script) (s c : ℕ) (name : List
         let l : Keeps mid new = t1.stays.keeps in
         let st : Stands mid rel = gives_stands mid rows cols value rel v in
         unread_gives leaf input script s c item old new before after snaps stood (keeps_trans old mid new k l) reads_nothing name rel value t.0
-        (through_one t1) t1.stand (keeps_stands mid new rel l st) (keeps_set mid new rel l st ∙ gives_set mid rows cols value rel v)
+        (through_one t1) t1.stand t1.first_stand (keeps_stands mid new rel l st) (keeps_set mid new rel l st ∙ gives_set mid rows cols value rel v)
         (rows-relation_of rows cols (lists list.items) ∙ sym v.row_size) (cols-relation_of rows cols (lists list.items) ∙ sym v.col_size)
-        (due_value (meant new (carried t.0)) (snap_meant new item snaps)) refl refl (λ numbers. refl) refl
-        (room_at new (meant new (carried t.0)) (snap_meant new item snaps) (Value value) refl t1.stays.made)
+        (due_value (meant new (carried_by before t.0)) (snap_meant new item snaps)) refl refl (λ numbers. refl) refl
+        (room_at new (meant new (carried_by before t.0)) (snap_meant new item snaps) (Value value) refl t1.stays.made)
 
 -- a call of an engine that a full table refused
 pub full_rose : (old new : Worker) (r : Result Rel LACK_OF) (l : LACK_OF) → HasCause false old new r → r ≡ Err l → l ≡ FULL → Rose old.misses new.misses

@@ -34,18 +34,16 @@ use Rattle.run_model.specs.Events.{Deed, Begins, HasDeeds, reads_of, reads_again
 use Rattle.run_model.specs.Outcomes.{MayLackNodes, MayLackMemory, lets_of}
 use Rattle.run_model.specs.Page.{SavedFile, reply, reply_at, save_at, done_text, done_save}
 use Rattle.run_model.specs.Cost.{cost_of_item}
-use Rattle.run_model.specs.Carried.{carried}
 use Rattle.run_model.specs.Turns.{Turn, AssignsOnce, change_taken}
 use Rattle.run_model.specs.Sessions.{HaveValues, HasValuesAt}
 use Rattle.run_model.specs.Texts.{prefix, refusal_text}
 use Rattle.turn_book.specs.Views.{View}
-use Rattle.rv_sessions.specs.Standing.{TurnsStand, Kept, KeptStand}
-use Rattle.rv_sessions.specs.Doing.{IsBy, BeginsWithEvent, GoesThrough, first_took, deeds_by, rels_by, keep, kept_behind, snap_meant, state_of_turns, due_on, Did}
+use Rattle.rv_sessions.specs.Standing.{first_names, first_versions, TurnsStand, Kept, KeptStand}
+use Rattle.rv_sessions.specs.Doing.{IsBy, BeginsWithEvent, GoesThrough, names_took, deeds_by, rels_by, keep, kept_behind, snap_meant, state_of_turns, due_on, Did}
 use Rattle.rv_workspace.specs.Entering.{read_of}
 use Rattle.rv_sessions.specs.Acting.{turn_of}
 use Rattle.rv_sessions.specs.Valuing.{IsRefusal}
-use Rattle.rv_sessions.proofs.FoldingKept.{snaps_stand, left_stands}
-use Rattle.rv_sessions.proofs.FoldingTurns.{first_stands}
+use Rattle.rv_sessions.proofs.FoldingKept.{took_stand, snaps_stand, left_stands}
 
 -- a refusal that is due ends so
 pub ends : (o : Outcome) → IsRefusal o → ending o ≡ Fails
@@ -126,10 +124,10 @@ pub record Went (leaf : ℕ) (input : Input) (script : Script) (s c : ℕ) (item
   pub own : AllByRecursion (IsBy s c) ts
   pub begun : BeginsWithEvent ts
   pub once : AssignsOnce ts
-  pub stand : TurnsStand new ts
+  pub stand : TurnsStand new (first_names before) ts
   pub snaps_stood : KeptStand old snaps
-  pub room : MakesAtMost (cost_of_item leaf input script item (state_of_turns new ts) (snap_meant new item snaps)
-      (due_on input script item new snaps ts)) old new
+  pub room : MakesAtMost (cost_of_item leaf input script item (state_of_turns new (first_names before) ts) (snap_meant new item snaps)
+      (due_on input script item new snaps (first_names before) ts)) old new
   pub keeps : Keeps old new
 
 -- the text of a refusal
@@ -139,7 +137,7 @@ told x numbers item d o e = subst (λ y. numbers ++ refusal_text o ≡ reply_at 
 module _ {leaf : ℕ} {input : Input} {script : Script} {s c : ℕ} {item : Item} {old new : Worker} {before after : View}
     {snaps : Kept} {ts : List Turn} (w : Went leaf input script s c item old new before after snaps ts) where
   abbrev d : Due
-  d = due_on input script item new snaps ts
+  d = due_on input script item new snaps (first_names before) ts
 
   -- memory ran out behind some of all reads
   pub lacks_behind : MayLackMemory item → Begins (deeds_by ts) (all_reads_of item) →
@@ -155,7 +153,7 @@ module _ {leaf : ℕ} {input : Input} {script : Script} {s c : ℕ} {item : Item
     deeds = begins;
     lawful = inr (inr (inl (refl, memory)));
     values = tt;
-    commits = no_commit (change_taken [] ts c) (lets_of item) NoMemory (λ x. tt);
+    commits = no_commit (change_taken (first_versions before) ts c) (lets_of item) NoMemory (λ x. tt);
     text_is = refl;
     saved_is = refl;
     snaps_left = refl;
@@ -184,7 +182,7 @@ module _ {leaf : ℕ} {input : Input} {script : Script} {s c : ℕ} {item : Item
     deeds = reads;
     lawful = inr (inl (refl, nodes));
     values = tt;
-    commits = no_commit (change_taken [] ts c) (lets_of item) Nodes (λ x. tt);
+    commits = no_commit (change_taken (first_versions before) ts c) (lets_of item) Nodes (λ x. tt);
     text_is = refl;
     saved_is = refl;
     snaps_left = refl;
@@ -208,10 +206,10 @@ module _ {leaf : ℕ} {input : Input} {script : Script} {s c : ℕ} {item : Item
     deeds = subst (λ x. HasDeeds x item d (deeds_by ts)) (sym (ends o refusal)) reads;
     lawful = inl (sym (ap outcome_due due_is));
     values = subst (λ x. HasValuesAt x (set_of new) (rels_by ts) (gives item d)) (sym (ends o refusal)) tt;
-    commits = no_commit (change_taken [] ts c) (lets_of item) o (refusal_commits o refusal);
+    commits = no_commit (change_taken (first_versions before) ts c) (lets_of item) o (refusal_commits o refusal);
     text_is = told (ending o) (prefix s c) item d o (ends o refusal);
     saved_is = subst (λ x. [] ≡ save_at x item d) (sym (ends o refusal)) refl;
-    snaps_left = subst (λ x. snaps ≡ kept_behind x item (carried (first_took ts)) snaps) (sym (ends o refusal)) refl;
+    snaps_left = subst (λ x. snaps ≡ kept_behind x item (names_took (first_names before) ts) snaps) (sym (ends o refusal)) refl;
     snaps_stand = snaps_stand old new w.keeps snaps w.snaps_stood;
     room = w.room;
     missed = λ e. absurd (no_full_table o refusal e);
@@ -221,7 +219,7 @@ module _ {leaf : ℕ} {input : Input} {script : Script} {s c : ℕ} {item : Item
   -- it was done
   pub is_done : (left : Kept) (text : List ℕ) (saved : List SavedFile) → outcome_due d ≡ Done → deeds_by ts ≡ done_deeds item d →
       HaveValues (set_of new) (rels_by ts) (gives item d) → text ≡ done_text (prefix s c) item d → saved ≡ done_save item d →
-      left ≡ keep (snapped item) (carried (first_took ts)) snaps → CommitsItem (change_taken [] ts c) (lets_of item) Done →
+      left ≡ keep (snapped item) (names_took (first_names before) ts) snaps → CommitsItem (change_taken (first_versions before) ts c) (lets_of item) Done →
       Did leaf input script s c item old new before after snaps left Done text saved
   unfolding reply
   is_done left text saved done deeds values text_is saved_is left_is commits = record {
@@ -239,7 +237,7 @@ module _ {leaf : ℕ} {input : Input} {script : Script} {s c : ℕ} {item : Item
     saved_is = saved_is;
     snaps_left = left_is;
     snaps_stand = subst (KeptStand new) (sym left_is)
-        (left_stands old new w.keeps Succeeds item (first_took ts) snaps (first_stands new ts w.stand) w.snaps_stood);
+        (left_stands old new w.keeps Succeeds item (names_took (first_names before) ts) snaps (took_stand new (first_names before) ts w.stand) w.snaps_stood);
     room = w.room;
     missed = λ e. absurd (done_is_no_full_table e);
     keeps = w.keeps;
@@ -247,7 +245,7 @@ module _ {leaf : ℕ} {input : Input} {script : Script} {s c : ℕ} {item : Item
 
   -- it is a block, and was refused at its commit
   pub changes : (name : List ℕ) (seen found : ℕ) → IsSome (lets_of item) → outcome_due d ≡ Done → deeds_by ts ≡ all_reads_of item →
-      CommitsItem (change_taken [] ts c) (lets_of item) (Changed name seen found) →
+      CommitsItem (change_taken (first_versions before) ts c) (lets_of item) (Changed name seen found) →
       Did leaf input script s c item old new before after snaps snaps (Changed name seen found) (prefix s c ++ refusal_text (Changed name seen found)) []
   unfolding reply
   changes name seen found block done reads commits = record {

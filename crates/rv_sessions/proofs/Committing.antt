@@ -25,7 +25,7 @@ use Rattle.run_model.specs.declared.event.Event.{Event}
 use Rattle.run_model.specs.declared.outcome.Outcome.{Outcome}
 use Rattle.run_model.specs.declared.outcome.Outcome.TheVariants.{Done, NoMemory as NO_MEMORY, Changed}
 use Rattle.run_model.specs.Blocks.{as_set, block_reads}
-use Rattle.run_model.specs.Carried.{Carried, carried}
+use Rattle.run_model.specs.Carried.{Carried, carried_from}
 use Rattle.run_model.specs.Due.{Workspace, Due, Values, due, due_of_command, due_of_lets, due_of_block, outcome_due, gives}
 use Rattle.run_model.specs.Events.{Reads, Gives, deed_of, giving, reads_of, done_deeds}
 use Rattle.run_model.specs.Inputs.{Input}
@@ -36,22 +36,23 @@ use Rattle.run_model.specs.Page.{done_text, done_save}
 use Rattle.run_model.specs.Sessions.{rel_of, HaveValues}
 use Rattle.run_model.specs.Texts.{prefix, refusal_text}
 use Rattle.run_model.specs.Turns.{Turn, AssignsOnce, taken as taken_by, taken_again, log_or_none, change_taken}
-use Rattle.run_model.specs.Versions.{Change, version, version_behind, first_changed}
+use Rattle.run_model.specs.Versions.{Change, Versions, version_behind, first_changed}
 use Rattle.run_model.proofs.Committing.{from_set}
 use Rattle.turn_book.specs.Views.{View as PASS}
 use Rattle.rv_eval.specs.Names.{HasSizes, state_of}
 use Rattle.rv_workspace.specs.declared.refused.CommitRefused.{CommitRefused}
 use Rattle.rv_workspace.specs.declared.refused.CommitRefused.TheVariants.{Changed as CHANGED, NoMemory as COMMIT_NO_MEMORY}
-use Rattle.rv_workspace.specs.Books.{EventStands, HistoryStands}
+use Rattle.rv_workspace.specs.Books.{EventStands, HistoryStands, AllNamesStand}
 use Rattle.rv_workspace.specs.Committing.{change_since}
 use Rattle.rv_workspace.specs.Entering.{read_of, assigns}
 use Rattle.rv_workspace.specs.Picking.{picked}
-use Rattle.rv_workspace.proofs.Replaying.{history_stands}
+use Rattle.rv_workspace.proofs.Replaying.{history_stands, all_names_stand}
+use Rattle.rv_workspace.specs.Starts.{first_of}
 use Rattle.rv_sessions.specs.declared.told.Told.{Told}
 use Rattle.rv_sessions.specs.Acting.{turn_of, WasNotRead, DidItem}
 use Rattle.rv_sessions.specs.Blocking.{gifts_in, GiftsStand, BlockStopped, TellsRefusedCommit}
 use Rattle.rv_sessions.specs.Doing.{IsBy, GoesThrough, Did, rels_by, due_on}
-use Rattle.rv_sessions.specs.Standing.{TurnStands, Kept, KeptStand, meant}
+use Rattle.rv_sessions.specs.Standing.{first_names, first_versions, carried_by, TurnStands, Kept, KeptStand, meant}
 use Rattle.rv_sessions.specs.Telling.{TellsRefusal}
 use Rattle.rv_sessions.specs.Turning.{TookTurn, versions_in, BlockTurn, CommitTurn}
 use Rattle.rv_sessions.proofs.Acting.{through_one, through_puts, through_nothing, not_read}
@@ -63,55 +64,53 @@ use Rattle.rv_sessions.proofs.Looking.{wanted_agree}
 use Rattle.rv_sessions.proofs.Telling.{as_told}
 
 -- ---- 1
-reads_agree : (w : Worker) (lets : List BlockLet) (log : List Event) (names : Carried) → HistoryStands w log → names ≡ picked (Some (block_reads lets)) (carried log) →
-    AgreeOn (state_of w names) (lookup (meant w (carried log))) (names_read lets)
+reads_agree : (w : Worker) (lets : List BlockLet) (first : Carried) (log : List Event) (names : Carried) → AllNamesStand w first → HistoryStands w log →
+    names ≡ picked (Some (block_reads lets)) (carried_from first log) → AgreeOn (state_of w names) (lookup (meant w (carried_from first log))) (names_read lets)
 unfolding block_reads
-reads_agree w lets log names h n =
-    from_set (λ name. state_of w names name ≡ lookup (meant w (carried log)) name) (names_read lets)
-    (wanted_agree w (names_of (as_set (names_read lets))) log names h n)
+reads_agree w lets first log names f h n =
+    from_set (λ name. state_of w names name ≡ lookup (meant w (carried_from first log)) name) (names_read lets)
+    (wanted_agree w (names_of (as_set (names_read lets))) first log names f h n)
 
--- what the expressions of a block come to on a log, in a worker
-abbrev pub block_on : Input → Script → List BlockLet → Worker → List Event → List Evaluated
-block_on input script lets w log = evaluated_block script (lookup (meant w (carried log))) lets input.turns
+-- what the expressions of a block come to on a log, behind first names, in a worker
+abbrev pub block_on : Input → Script → List BlockLet → Worker → Carried → List Event → List Evaluated
+block_on input script lets w first log = evaluated_block script (lookup (meant w (carried_from first log))) lets input.turns
 
-pub came_on_log : (input : Input) (script : Script) (lets : List BlockLet) (mid new : Worker) (log : List Event) (turns : ℕ) (names : Carried) →
-    HistoryStands mid log → Keeps mid new → names ≡ picked (Some (block_reads lets)) (carried log) → input.turns ≡ turns →
-    evaluated_block script (state_of mid names) lets turns ≡ block_on input script lets new log
-came_on_log input script lets mid new log turns names h k n i =
-    blocks_by_names script (state_of mid names) (lookup (meant mid (carried log))) lets turns (reads_agree mid lets log names h n)
-    ∙ ap (λ m. evaluated_block script (lookup m) lets turns) (meant_same mid new k (carried log) (carried_stands mid log h))
-    ∙ ap (λ t. evaluated_block script (lookup (meant new (carried log))) lets t) (sym i)
+pub came_on_log : (input : Input) (script : Script) (lets : List BlockLet) (mid new : Worker) (first : Carried) (log : List Event) (turns : ℕ) (names : Carried) →
+    AllNamesStand mid first → HistoryStands mid log → Keeps mid new → names ≡ picked (Some (block_reads lets)) (carried_from first log) → input.turns ≡ turns →
+    evaluated_block script (state_of mid names) lets turns ≡ block_on input script lets new first log
+came_on_log input script lets mid new first log turns names f h k n i =
+    blocks_by_names script (state_of mid names) (lookup (meant mid (carried_from first log))) lets turns (reads_agree mid lets first log names f h n)
+    ∙ ap (λ m. evaluated_block script (lookup m) lets turns) (meant_same mid new k (carried_from first log) (carried_stands mid first log f h))
+    ∙ ap (λ t. evaluated_block script (lookup (meant new (carried_from first log))) lets t) (sym i)
 
 -- the same, where the code hands on the block as a slice and the turns of its own
-module _ (input : Input) (script : Script) (lets slice : List BlockLet) (turns : ℕ) (reads : List (List ℕ)) (names : Carried) (log : List Event) (mid end : Worker)
-    (stand : HistoryStands mid log) (slice_is : slice ≡ lets) (reads_are : reads ≡ block_reads slice) (names_are : names ≡ picked (Some reads) (carried log))
-    (k : Keeps mid end) (i : input.turns ≡ turns) where
-  came_is : evaluated_block script (state_of mid names) slice turns ≡ block_on input script lets end log
+module _ (input : Input) (script : Script) (lets slice : List BlockLet) (turns : ℕ) (reads : List (List ℕ)) (names first : Carried) (log : List Event) (mid end : Worker)
+    (first_stand : AllNamesStand mid first) (stand : HistoryStands mid log) (slice_is : slice ≡ lets) (reads_are : reads ≡ block_reads slice)
+    (names_are : names ≡ picked (Some reads) (carried_from first log)) (k : Keeps mid end) (i : input.turns ≡ turns) where
+  came_is : evaluated_block script (state_of mid names) slice turns ≡ block_on input script lets end first log
   came_is =
       ap (λ ls. evaluated_block script (state_of mid names) ls turns) slice_is
-      ∙ came_on_log input script lets mid end log turns names stand k (names_are ∙ ap (λ ws. picked (Some ws) (carried log)) (reads_are ∙ ap block_reads slice_is)) i
+      ∙ came_on_log input script lets mid end first log turns names first_stand stand k
+      (names_are ∙ ap (λ ws. picked (Some ws) (carried_from first log)) (reads_are ∙ ap block_reads slice_is)) i
 
-  due_is_same : due_of_lets turns slice (evaluated_block script (state_of mid names) slice turns) ≡ due_of_lets input.turns lets (block_on input script lets end log)
+  due_is_same : due_of_lets turns slice (evaluated_block script (state_of mid names) slice turns) ≡ due_of_lets input.turns lets (block_on input script lets end first log)
   due_is_same = λ j. due_of_lets (sym i j) (slice_is j) (came_is j)
 
   pub stopped_there : (o : Outcome) → BlockStopped mid end slice (due_of_lets turns slice (evaluated_block script (state_of mid names) slice turns)) o →
-      BlockStopped mid end lets (due_of_lets input.turns lets (block_on input script lets end log)) o
+      BlockStopped mid end lets (due_of_lets input.turns lets (block_on input script lets end first log)) o
   stopped_there o h =
       subst (λ d. BlockStopped mid end lets d o) due_is_same
       (subst (λ ls. BlockStopped mid end ls (due_of_lets turns slice (evaluated_block script (state_of mid names) slice turns)) o) slice_is h)
 
   pub values_there : (d : Due) → due_of_lets turns slice (evaluated_block script (state_of mid names) slice turns) ≡ d →
-      due_of_lets input.turns lets (block_on input script lets end log) ≡ d
+      due_of_lets input.turns lets (block_on input script lets end first log) ≡ d
   values_there d h = sym due_is_same ∙ h
 
   pub room_there : (leaf : ℕ) → MakesAtMost (cost_of_block leaf (evaluated_block script (state_of mid names) slice turns)) mid end →
-      MakesAtMost (cost_of_block leaf (block_on input script lets end log)) mid end
+      MakesAtMost (cost_of_block leaf (block_on input script lets end first log)) mid end
   room_there leaf h = subst (λ es. MakesAtMost (cost_of_block leaf es) mid end) came_is h
 
 -- ---- commits
-no_zero : (n : ℕ) → 0 + n ≡ n
-no_zero n = omega arith
-
 turned_test : (a b : ℕ) → nat_eq a b ≡ nat_eq b a
 turned_test a b = elim (cases_Bool (nat_eq a b)) [
   | inl t ↦ t ∙ sym (eq-eqb b a (sym (eqb-true a b t)))
@@ -119,15 +118,14 @@ turned_test a b = elim (cases_Bool (nat_eq a b)) [
 ]
 
 -- the change that a commit told is the one between the two logs
-same_change : (log taken : List Event) (names : List (List ℕ)) →
-    change_since (versions_in log names) taken ≡ first_changed (version_behind [] log) (version_behind [] taken) names
-same_change log taken [] = refl
-same_change log taken (n ∷ ns) =
-    let a = no_zero (version n log) in
-    let b = no_zero (version n taken) in
-    ap (λ x. cond (nat_eq (version n taken) (version n log)) x (Some (change_of (version n log) (version n taken)))) (same_change log taken ns)
-    ∙ ap (λ t. cond t (first_changed (version_behind [] log) (version_behind [] taken) ns) (Some (change_of (version n log) (version n taken)))) (turned_test (version n taken) (version n log))
-    ∙ (λ i. cond (nat_eq (sym a i) (sym b i)) (first_changed (version_behind [] log) (version_behind [] taken) ns) (Some (change_of (sym a i) (sym b i))))
+same_change : (v : Versions) (log taken : List Event) (names : List (List ℕ)) →
+    change_since v (versions_in v log names) taken ≡ first_changed (version_behind v log) (version_behind v taken) names
+same_change v log taken [] = refl
+same_change v log taken (n ∷ ns) =
+    let a = version_behind v log n in
+    let b = version_behind v taken n in
+    ap (λ x. cond (nat_eq b a) x (Some (change_of a b))) (same_change v log taken ns)
+    ∙ ap (λ t. cond t (first_changed (version_behind v log) (version_behind v taken) ns) (Some (change_of a b))) (turned_test b a)
   where
     change_of : ℕ → ℕ → Change
     change_of seen found = record { name = n; seen = seen; found = found }
@@ -162,18 +160,18 @@ assigned_deeds w z s c (g ∷ gs) h =
     λ i. Gives g.0 (sym a i) (sym b i) ∷ rest i
 
 -- whether or not a command assigned anything, nothing changed before its commit
-no_change : (log taken : List Event) (names : List (List ℕ)) (b : Bool) → first_changed (version_behind [] log) (version_behind [] taken) names ≡ None →
-    change_at (version_behind [] log) (version_behind []) (cond b (Some taken) None) names ≡ None
-no_change log taken names true e = e
-no_change log taken names false e = refl
+no_change : (v : Versions) (log taken : List Event) (names : List (List ℕ)) (b : Bool) → first_changed (version_behind v log) (version_behind v taken) names ≡ None →
+    change_at (version_behind v log) (version_behind v) (cond b (Some taken) None) names ≡ None
+no_change v log taken names true e = e
+no_change v log taken names false e = refl
 
 -- what changed between a read and a commit is what the two turns took
-own_change : (s c : ℕ) (log taken puts : List Event) (names : List (List ℕ)) →
-    change_taken [] (turn_of log (read_of s c) ∷ record { took = taken; put = puts } ∷ []) c names
-    ≡ change_at (version_behind [] log) (version_behind []) (cond (list_any (λ e. eqb e.command c) puts) (Some taken) None) names
-own_change s c log taken puts names =
+own_change : (v : Versions) (s c : ℕ) (log taken puts : List Event) (names : List (List ℕ)) →
+    change_taken v (turn_of log (read_of s c) ∷ record { took = taken; put = puts } ∷ []) c names
+    ≡ change_at (version_behind v log) (version_behind v) (cond (list_any (λ e. eqb e.command c) puts) (Some taken) None) names
+own_change v s c log taken puts names =
     let commit : List Turn = record { took = taken; put = puts } ∷ [] in
-    ap (λ b. change_at (version_behind [] (log_or_none (cond (b || false) (Some log) (taken_by c commit)))) (version_behind [])
+    ap (λ b. change_at (version_behind v (log_or_none (cond (b || false) (Some log) (taken_by c commit)))) (version_behind v)
     (cond (b || false) (taken_by c commit) (taken_again c commit)) names) (eq-eqb c c refl)
 
 module _ (leaf : ℕ) (input : Input) (script : Script) (s c : ℕ) (lets : Vec BlockLet Global) (old : Worker) (before : PASS) (snaps : Kept) (stood : KeptStand old snaps) where
@@ -199,7 +197,7 @@ module _ (leaf : ℕ) (input : Input) (script : Script) (s c : ℕ) (lets : Vec 
   module _ (mid : Worker) (between : PASS) (log : List Event) (read : TookTurn old mid before between log (read_of s c ∷ [])) where
     -- the cost of the block on the log, in a worker that keeps all
     abbrev costs : Worker → ℕ
-    costs w = cost_of_block leaf (block_on input script lets.items w log)
+    costs w = cost_of_block leaf (block_on input script lets.items w (first_names before) log)
 
     room_from : (w : Worker) → MakesAtMost (costs w) mid w → MakesAtMost (costs w) old w
     room_from w r = subst (λ n. w.made ≤ n + costs w) read.stays.made r
@@ -211,7 +209,14 @@ module _ (leaf : ℕ) (input : Input) (script : Script) (s c : ℕ) (lets : Vec 
       own = (by_one refl refl, tt);
       begun = (read_of s c, [], refl);
       once = once_one log (read_of s c);
-      stand = (record { log = history_stands mid new (λ x h. keeps_stands mid new x k h) log read.stand; own = (tt, tt) }, tt);
+      stand = (
+        record {
+          first_stand = all_names_stand mid new (λ x h. keeps_stands mid new x k h) (first_names before) read.first_stand;
+          log = history_stands mid new (λ x h. keeps_stands mid new x k h) log read.stand;
+          own = (tt, tt);
+        },
+        tt,
+      );
       snaps_stood = stood;
       room = room_from new room;
       keeps = keeps_trans old mid new read.stays.keeps k;
@@ -224,7 +229,7 @@ module _ (leaf : ℕ) (input : Input) (script : Script) (s c : ℕ) (lets : Vec 
 
     -- the block stopped
     pub block_stopped : (new : Worker) (after : PASS) → GoesThrough [] between after → (k : Keeps mid new) → (room : MakesAtMost (costs new) mid new) →
-        (o : Outcome) (result : Result Told LACK) → BlockStopped mid new lets.items (due_of_lets input.turns lets.items (block_on input script lets.items new log)) o →
+        (o : Outcome) (result : Result Told LACK) → BlockStopped mid new lets.items (due_of_lets input.turns lets.items (block_on input script lets.items new (first_names before) log)) o →
         TellsRefusal s c o result → DidItem leaf input script s c item old new before after snaps snaps result
     block_stopped new after g k room o (Err lack) h t = block_lacks new after g k room
     block_stopped new after g k room o (Ok told) (inl h) t =
@@ -233,27 +238,28 @@ module _ (leaf : ℕ) (input : Input) (script : Script) (s c : ℕ) (lets : Vec 
     block_stopped new after g k room o (Ok told) (inr (inl h)) t =
         as_told (Did leaf input script s c item old new before after snaps snaps) s c o told t
         (subst (λ x. Did leaf input script s c item old new before after snaps snaps x (prefix s c ++ refusal_text x) []) (sym h.0)
-        (full (went new after g k room) (h.1, subst IsNotEarly (sym (due_block (meant new (carried log)) None)) h.2)
+        (full (went new after g k room) (h.1, subst IsNotEarly (sym (due_block (meant new (carried_by before log)) None)) h.2)
         (subst (λ n. Rose n new.misses) read.stays.misses h.3) refl))
     block_stopped new after g k room o (Ok told) (inr (inr h)) t = absurd (t.3 h)
 
     -- ---- 3
     -- all values are due, and the commit took another log
     module _ (end new : Worker) (after : PASS) (taken : List Event) (list : List (List ℕ × Rel)) (values : Keeps mid end) (room : MakesAtMost (costs end) mid end)
-        (stands : GiftsStand end list) (due_is : due_of_lets input.turns lets.items (block_on input script lets.items end log) ≡ Values (gifts_in end list)) where
+        (stands : GiftsStand end list) (due_is : due_of_lets input.turns lets.items (block_on input script lets.items end (first_names before) log) ≡ Values (gifts_in end list)) where
       module _ (puts : List Event) (t : TookTurn end new between after taken puts) where
         keeps_all : Keeps mid new
         keeps_all = keeps_trans mid end new values t.stays.keeps
 
-        same_block : block_on input script lets.items end log ≡ block_on input script lets.items new log
+        same_block : block_on input script lets.items end (first_names before) log ≡ block_on input script lets.items new (first_names before) log
         same_block =
             ap (λ m. evaluated_block script (lookup m) lets.items input.turns)
-            (meant_same end new t.stays.keeps (carried log) (carried_stands end log (history_stands mid end (λ x h. keeps_stands mid end x values h) log read.stand)))
+            (meant_same end new t.stays.keeps (carried_by before log) (carried_stands end (first_names before) log (all_names_stand mid end (λ x h. keeps_stands mid end x values h) (first_names before) read.first_stand)
+            (history_stands mid end (λ x h. keeps_stands mid end x values h) log read.stand)))
 
         room_all : MakesAtMost (costs new) mid new
         room_all = subst (λ n. n ≤ mid.made + costs new) (sym t.stays.made) (subst (λ es. end.made ≤ mid.made + cost_of_block leaf es) same_block room)
 
-        due_all : due_on input script item new snaps (turn_of log (read_of s c) ∷ []) ≡ Values (gifts_in new list)
+        due_all : due_on input script item new snaps (first_names before) (turn_of log (read_of s c) ∷ []) ≡ Values (gifts_in new list)
         due_all =
             due_block _ _ ∙ ap (due_of_lets input.turns lets.items) (sym same_block) ∙ due_is ∙ ap Values (sym (gifts_kept end new list t.stays.keeps stands))
 
@@ -263,13 +269,17 @@ module _ (leaf : ℕ) (input : Input) (script : Script) (s c : ℕ) (lets : Vec 
         abbrev turns : List Turn
         turns = turn_of log (read_of s c) ∷ turn ∷ []
 
-        went_on : IsBy s c turn → AssignsOnce turns → TurnStands new turn → Went leaf input script s c item old new before after snaps turns
+        -- the first names stand in it
+        first_all : AllNamesStand new (first_names before)
+        first_all = all_names_stand mid new (λ x h. keeps_stands mid new x keeps_all h) (first_names before) read.first_stand
+
+        went_on : IsBy s c turn → AssignsOnce turns → TurnStands new (first_names before) turn → Went leaf input script s c item old new before after snaps turns
         went_on by once stand = record {
           through = through_append (turn_of log (read_of s c) ∷ []) (turn ∷ []) before between after (through_one read) (through_puts t);
           own = (by_one refl refl, (by, tt));
           begun = (read_of s c, [], refl);
           once = once;
-          stand = (record { log = history_stands mid new (λ x h. keeps_stands mid new x keeps_all h) log read.stand; own = (tt, tt) }, (stand, tt));
+          stand = (record { first_stand = first_all; log = history_stands mid new (λ x h. keeps_stands mid new x keeps_all h) log read.stand; own = (tt, tt) }, (stand, tt));
           snaps_stood = stood;
           room = room_from new room_all;
           keeps = keeps_trans old mid new read.stays.keeps keeps_all;
@@ -277,34 +287,34 @@ module _ (leaf : ℕ) (input : Input) (script : Script) (s c : ℕ) (lets : Vec 
 
       -- the block was committed
       committed_did : HasSizes new → TookTurn end new between after taken (assigns s c list) →
-          change_since (versions_in log (block_reads lets.items)) taken ≡ None →
+          change_since (first_versions before) (versions_in (first_versions before) log (block_reads lets.items)) taken ≡ None →
           Did leaf input script s c item old new before after snaps snaps Done [] []
       committed_did sizes t none =
           let there : GiftsStand new list = gifts_stand_kept end new list t.stays.keeps stands in
           let w = went_on (assigns s c list) t (record { each = puts_by s c list; kind = inr (puts_assign s c list) })
-          (((λ h. absurd (false≢true h)), tt), (assigned_last s c list, tt)) (record { log = t.stand; own = puts_stand new s c list there }) in
+          (((λ h. absurd (false≢true h)), tt), (assigned_last s c list, tt)) (record { first_stand = first_all (assigns s c list) t; log = t.stand; own = puts_stand new s c list there }) in
           let dd = due_all (assigns s c list) t in
           is_done w snaps [] [] (ap outcome_due dd)
           (ap (λ es. Reads ∷ map (λ e. deed_of e.act) es) (append-nil (assigns s c list)) ∙ ap (λ ds. Reads ∷ ds) (assigned_deeds new sizes s c list there) ∙ sym (ap (done_deeds item) dd))
           (subst (HaveValues (set_of new) (rels_by (turns (assigns s c list) t))) (sym (ap (gives item) dd))
           (subst (λ es. HaveValues (set_of new) (flat_map (λ e. rel_of e.act) es) (gifts_in new list)) (sym (append-nil (assigns s c list))) (assigned_values new s c list)))
           (sym (ap (done_text (prefix s c) item) dd)) (sym (ap (done_save item) dd)) refl
-          (own_change s c log taken (assigns s c list) (block_reads lets.items)
-          ∙ no_change log taken (block_reads lets.items) (list_any (λ e. eqb e.command c) (assigns s c list)) (sym (same_change log taken (block_reads lets.items)) ∙ none))
+          (own_change (first_versions before) s c log taken (assigns s c list) (block_reads lets.items)
+          ∙ no_change (first_versions before) log taken (block_reads lets.items) (list_any (λ e. eqb e.command c) (assigns s c list)) (sym (same_change (first_versions before) log taken (block_reads lets.items)) ∙ none))
 
       changed_went : (t : TookTurn end new between after taken (read_of s c ∷ [])) →
           Went leaf input script s c item old new before after snaps (turns (read_of s c ∷ []) t)
-      changed_went t = went_on (read_of s c ∷ []) t (by_one refl refl) (once_read log taken s c (read_of s c)) (record { log = t.stand; own = (tt, tt) })
+      changed_went t = went_on (read_of s c ∷ []) t (by_one refl refl) (once_read log taken s c (read_of s c)) (record { first_stand = first_all (read_of s c ∷ []) t; log = t.stand; own = (tt, tt) })
 
       -- it was refused at its commit
       changed_did : (name : List ℕ) (seen found : ℕ) → TookTurn end new between after taken (read_of s c ∷ []) →
-          change_since (versions_in log (block_reads lets.items)) taken ≡ Some (record { name = name; seen = seen; found = found }) →
+          change_since (first_versions before) (versions_in (first_versions before) log (block_reads lets.items)) taken ≡ Some (record { name = name; seen = seen; found = found }) →
           Did leaf input script s c item old new before after snaps snaps (Changed name seen found) (prefix s c ++ refusal_text (Changed name seen found)) []
       changed_did name seen found t some =
           changes (changed_went t) name seen found refl (ap outcome_due (due_all (read_of s c ∷ []) t)) refl
-          (own_change s c log taken (read_of s c ∷ []) (block_reads lets.items)
-          ∙ ap (λ b. change_at (version_behind [] log) (version_behind []) (cond (b || false) (Some taken) None) (block_reads lets.items)) (eq-eqb c c refl)
-          ∙ sym (same_change log taken (block_reads lets.items)) ∙ some)
+          (own_change (first_versions before) s c log taken (read_of s c ∷ []) (block_reads lets.items)
+          ∙ ap (λ b. change_at (version_behind (first_versions before) log) (version_behind (first_versions before)) (cond (b || false) (Some taken) None) (block_reads lets.items)) (eq-eqb c c refl)
+          ∙ sym (same_change (first_versions before) log taken (block_reads lets.items)) ∙ some)
 
       -- memory ran out behind the second read
       change_lacks : TookTurn end new between after taken (read_of s c ∷ []) →
@@ -318,17 +328,24 @@ module _ (leaf : ℕ) (input : Input) (script : Script) (s c : ℕ) (lets : Vec 
 
     -- what a commit answered
     module _ (end new : Worker) (after : PASS) (list : List (List ℕ × Rel)) (values : Keeps mid end) (room : MakesAtMost (costs end) mid end)
-        (stands : GiftsStand end list) (due_is : due_of_lets input.turns lets.items (block_on input script lets.items end log) ≡ Values (gifts_in end list)) where
-      pub commit_done : HasSizes new → CommitTurn s c (versions_in log (block_reads lets.items)) list end new between after (Ok tt) →
-          Did leaf input script s c item old new before after snaps snaps Done [] []
-      commit_done sizes h = committed_did end new after h.0 list values room stands due_is sizes h.1 h.2
+        (stands : GiftsStand end list) (due_is : due_of_lets input.turns lets.items (block_on input script lets.items end (first_names before) log) ≡ Values (gifts_in end list)) where
+      -- what changed is told by the versions with which the book began, as each pass knows them
+      known : (taken : List Event) (x : Option Change) → change_since (first_versions between) (versions_in (first_versions before) log (block_reads lets.items)) taken ≡ x →
+          change_since (first_versions before) (versions_in (first_versions before) log (block_reads lets.items)) taken ≡ x
+      known taken x h =
+          subst (λ begun. change_since (first_of begun).versions (versions_in (first_versions before) log (block_reads lets.items)) taken ≡ x) read.kept.start h
 
-      pub commit_refused : (why : CommitRefused) (result : Result Told LACK) → CommitTurn s c (versions_in log (block_reads lets.items)) list end new between after (Err why) →
+      pub commit_done : HasSizes new → CommitTurn s c (versions_in (first_versions before) log (block_reads lets.items)) list end new between after (Ok tt) →
+          Did leaf input script s c item old new before after snaps snaps Done [] []
+      commit_done sizes h = committed_did end new after h.0 list values room stands due_is sizes h.1 (known h.0 None h.2)
+
+      pub commit_refused : (why : CommitRefused) (result : Result Told LACK) → CommitTurn s c (versions_in (first_versions before) log (block_reads lets.items)) list end new between after (Err why) →
           TellsRefusedCommit s c why result → DidItem leaf input script s c item old new before after snaps snaps result
       commit_refused (CHANGED name seen found) (Err lack) h t = change_lacks end new after h.0 list values room stands due_is h.1
       commit_refused (CHANGED name seen found) (Ok told) h t =
           as_told (Did leaf input script s c item old new before after snaps snaps) s c (Changed name seen found) told t
-          (changed_did end new after h.0 list values room stands due_is name seen found h.1 h.2)
+          (changed_did end new after h.0 list values room stands due_is name seen found h.1
+          (known h.0 (Some (record { name = name; seen = seen; found = found })) h.2))
       commit_refused COMMIT_NO_MEMORY result h t =
           subst (DidItem leaf input script s c item old new before after snaps snaps) (sym t.1) (commit_lacks end new after h.0 list values room stands due_is h.1)
 

@@ -21,7 +21,7 @@ use Rattle.run_model.specs.Due.{Workspace, Early, Explained, Refused, due, due_o
 use Rattle.run_model.specs.Events.{reads_of}
 use Rattle.run_model.specs.Page.{done_text, done_save}
 use Rattle.run_model.specs.Texts.{prefix, refusal_text}
-use Rattle.run_model.specs.Carried.{Carried, carried}
+use Rattle.run_model.specs.Carried.{Carried}
 use Rattle.turn_book.specs.Views.{View as PASS}
 use Rattle.rv_workspace.specs.Entering.{read_of}
 use Rattle.rv_workspace.specs.Picking.{picked}
@@ -33,7 +33,7 @@ use Rattle.rv_sessions.specs.declared.told.Told.{Told}
 use Rattle.rv_sessions.specs.Acting.{turn_of, WasNotRead, DidItem}
 use Rattle.rv_sessions.specs.Doing.{Did}
 use Rattle.rv_sessions.specs.Showing.{CameExplained}
-use Rattle.rv_sessions.specs.Standing.{Kept, KeptStand, meant}
+use Rattle.rv_sessions.specs.Standing.{first_names, carried_by, Kept, KeptStand, meant}
 use Rattle.rv_sessions.specs.Telling.{TellsRefusal}
 use Rattle.rv_sessions.specs.Turning.{TookTurn}
 use Rattle.rv_sessions.specs.Valuing.{outcome_told, IsRefusal}
@@ -75,7 +75,7 @@ module _ (leaf : ℕ) (input : Input) (script : Script) (s c : ℕ) (e : Expr) (
     own = (by_one refl refl, tt);
     begun = (read_of s c, [], refl);
     once = once_one log (read_of s c);
-    stand = (record { log = t.stand; own = (tt, tt) }, tt);
+    stand = (record { first_stand = t.first_stand; log = t.stand; own = (tt, tt) }, tt);
     snaps_stood = stood;
     room = made_none old.made new.made t.stays.made;
     keeps = t.stays.keeps;
@@ -89,20 +89,20 @@ module _ (leaf : ℕ) (input : Input) (script : Script) (s c : ℕ) (e : Expr) (
       tt (reads_of item, refl)
 
   module _ (log : List Event) (t : TookTurn old new before after log (read_of s c ∷ [])) (ws : List (List ℕ)) (names : Carried) (w : ws ≡ names_in e)
-      (n : names ≡ picked (Some ws) (carried log)) where
+      (n : names ≡ picked (Some ws) (carried_by before log)) where
     -- the fault ahead of all computing is that of the state that was read
-    same_early : early_fault script (state_of new names) e ≡ early_fault script (lookup (meant new (carried log))) e
+    same_early : early_fault script (state_of new names) e ≡ early_fault script (lookup (meant new (carried_by before log))) e
     same_early =
-        by_names.early script (state_of new names) (lookup (meant new (carried log))) e
-        (subst (AgreeOn (state_of new names) (lookup (meant new (carried log)))) w (wanted_agree new ws log names t.stand n))
+        by_names.early script (state_of new names) (lookup (meant new (carried_by before log))) e
+        (subst (AgreeOn (state_of new names) (lookup (meant new (carried_by before log)))) w (wanted_agree new ws (first_names before) log names t.first_stand t.stand n))
 
-    due_read : due input script item (meant new (carried log)) None ≡ due_of_steps e (early_fault script (state_of new names) e)
-    due_read = due_explained (meant new (carried log)) None ∙ ap (due_of_steps e) (sym same_early)
+    due_read : due input script item (meant new (carried_by before log)) None ≡ due_of_steps e (early_fault script (state_of new names) e)
+    due_read = due_explained (meant new (carried_by before log)) None ∙ ap (due_of_steps e) (sym same_early)
 
     pub explain_done : (bytes : List ℕ) → CameExplained (early_fault script (state_of new names) e) (steps_of (tree_of e)) (Ok bytes) →
         Did leaf input script s c item old new before after snaps snaps Done (prefix s c ++ bytes) []
     explain_done bytes h =
-        let dd : due input script item (meant new (carried log)) None ≡ Explained (steps_of (tree_of e)) = due_read ∙ ap (due_of_steps e) h.0 in
+        let dd : due input script item (meant new (carried_by before log)) None ≡ Explained (steps_of (tree_of e)) = due_read ∙ ap (due_of_steps e) h.0 in
         is_done (went log t) snaps (prefix s c ++ bytes) [] (ap outcome_due dd) refl tt
         (ap (λ b. prefix s c ++ b) h.1 ∙ sym (ap (done_text (prefix s c) item) dd)) (sym (ap (done_save item) dd)) refl tt
 
@@ -110,7 +110,7 @@ module _ (leaf : ℕ) (input : Input) (script : Script) (s c : ℕ) (e : Expr) (
         TellsRefusal s c o result → DidItem leaf input script s c item old new before after snaps snaps result
     explain_refused o (Err lack) h told = lacks (went log t) tt ([], refl)
     explain_refused o (Ok r) (inl h) told =
-        let dd : due input script item (meant new (carried log)) None ≡ Refused Early o = due_read ∙ ap (due_of_steps e) h.1 ∙ ap (Refused Early) (sym h.2) in
+        let dd : due input script item (meant new (carried_by before log)) None ≡ Refused Early o = due_read ∙ ap (due_of_steps e) h.1 ∙ ap (Refused Early) (sym h.2) in
         as_told (Did leaf input script s c item old new before after snaps snaps) s c o r told
         (refuses (went log t) Early o dd (subst IsRefusal (sym h.2) tt) refl)
     explain_refused o (Ok r) (inr h) told = absurd (told.3 h)

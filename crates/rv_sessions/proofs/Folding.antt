@@ -25,15 +25,16 @@ use Rattle.run_model.proofs.Extending.{change_old, change_new, once_append, comm
 use Rattle.run_model.specs.Outcomes.{IsOutcome, AreOutcomes, lets_of}
 use Rattle.run_model.specs.Page.{SavedFile, replies, saves_of}
 use Rattle.run_model.specs.Cost.{cost_of_step, cost_of_steps}
-use Rattle.run_model.specs.Carried.{carried_from, carried, no_first}
+use Rattle.run_model.specs.Carried.{Carried, carried_from}
 use Rattle.run_model.specs.Turns.{Turn, puts_of, IsTurn, taken, state_of_log, state_taken, change_taken}
 use Rattle.run_model.specs.Sessions.{HasValuesAt, HasValues, RunsTurns, steps_taken}
 use Rattle.turn_book.specs.Views.{View}
 use Rattle.rv_sessions.specs.declared.transcript.Transcript.{Transcript}
 use Rattle.run_model.specs.Filed.{saved_all}
 use Rattle.rv_sessions.specs.Telling.{texts_of}
-use Rattle.rv_sessions.specs.Standing.{TurnStands, Kept, meant_all}
-use Rattle.rv_sessions.specs.Doing.{first_took, deeds_by, state_of_turns, snap_meant, Did}
+use Rattle.rv_workspace.specs.Starts.{first_of}
+use Rattle.rv_sessions.specs.Standing.{first_names, first_versions, TurnStands, Kept, meant_all}
+use Rattle.rv_sessions.specs.Doing.{names_took, deeds_by, state_of_turns, snap_meant, Did}
 use Rattle.rv_sessions.specs.Running.{snaps_after, nodes_in, RoseBy, IsAmong, RanSoFar}
 use Rattle.rv_sessions.specs.Sessions.{RanScript}
 use Rattle.rv_sessions.proofs.FoldingTurns.{all_append, all_weaker, through_none, through_append, among_more, up_to, of_next, first_log, LogStands, taken_old, taken_new, rels_new, entries_by, entries_append, taken_stands, turns_stand}
@@ -44,15 +45,40 @@ use Rattle.rv_sessions.proofs.FoldingValues.{values_more, nodes_push, rose_more}
 turned : (n : ℕ) → 1 + n ≡ n + 1
 turned n = omega arith
 
--- ---- states of logs
-log_state : (v w : Worker) → Keeps v w → (o : Option (List Event)) → LogStands v o → state_of_log no_names (set_of v) o ≡ state_of_log no_names (set_of w) o
-log_state v w k None h = refl
-log_state v w k (Some log) h = meant_same v w k (carried log) (carried_stands v log h)
+-- ---- passes
+-- a pass that began as another did
+abbrev begun_as : View → View → View
+begun_as u v = record {
+  book = v.book;
+  house = v.house;
+  start = u.start;
+  seen = v.seen;
+  mine = v.mine;
+  joined = v.joined;
+  spare = v.spare;
+  turn = v.turn;
+}
 
-first_state : (w : Worker) (us : List Turn) → state_of_log no_names (set_of w) (first_log us) ≡ state_of_turns w us
-unfolding carried_from
-first_state w [] = refl
-first_state w (u ∷ us) = refl
+is_begun_as : (u v : View) → v.start ≡ u.start → v ≡ begun_as u v
+is_begun_as u v e = λ i. record {
+  book = v.book;
+  house = v.house;
+  start = e i;
+  seen = v.seen;
+  mine = v.mine;
+  joined = v.joined;
+  spare = v.spare;
+  turn = v.turn;
+}
+
+-- ---- states of logs
+log_state : (v w : Worker) → Keeps v w → (first : Carried) (o : Option (List Event)) → LogStands v first o → state_of_log first (set_of v) o ≡ state_of_log first (set_of w) o
+log_state v w k first None h = refl
+log_state v w k first (Some log) h = meant_same v w k (carried_from first log) (carried_stands v first log h.0 h.1)
+
+first_state : (w : Worker) (first : Carried) (us : List Turn) → state_of_log first (set_of w) (first_log us) ≡ state_of_turns w first us
+first_state w first [] = refl
+first_state w first (u ∷ us) = refl
 
 -- ---- commits
 no_commits : (f : ℕ → List (List ℕ) → Option Change) (items : List Item) (c : ℕ) → CommitsFrom f c items []
@@ -75,25 +101,25 @@ commits_push f (x ∷ xs) (p ∷ ps) c item o there h k =
 
 module _ (leaf : ℕ) (input : Input) (script : Script) (s : ℕ) where
   -- ---- nothing yet
-  no_steps : (w : Worker) → steps_taken no_names (set_of w) [] script [] ≡ []
+  no_steps : (w : Worker) (first : Carried) → steps_taken first (set_of w) [] script [] ≡ []
   unfolding steps
-  no_steps w = steps_none (state_taken no_names (set_of w) []) script.items.items 1 no_names
+  no_steps w first = steps_none (state_taken first (set_of w) []) script.items.items 1 no_names
 
   -- before the first item nothing is done
   pub nothing_yet : (w : Worker) (v : View) → RanSoFar leaf input script s w w v v [] [] [] []
   unfolding replies saves_of
   nothing_yet w v =
-      let none = sym (no_steps w) in
+      let none = sym (no_steps w (first_names v)) in
       record {
         ts = [];
         through = through_none v;
         own = tt;
         stand = tt;
-        snaps_are = sym (snaps_none (state_taken no_names (set_of w) []) script.items.items 1 no_names);
+        snaps_are = sym (snaps_none (state_taken (first_names v) (set_of w) []) script.items.items 1 no_names);
         snaps_stand = tt;
         few = omega arith;
         once = tt;
-        commits = no_commits (change_taken [] []) script.items.items 1;
+        commits = no_commits (change_taken (first_versions v) []) script.items.items 1;
         events = subst (λ (l : List Step). AreEvents input script s l []) none refl;
         outcomes_due = subst (λ (l : List Step). AreOutcomes input script l) none tt;
         values = subst (λ (l : List Step). AllByRecursion (HasValues input script (set_of w) []) l) none tt;
@@ -113,8 +139,8 @@ module _ (leaf : ℕ) (input : Input) (script : Script) (s : ℕ) where
   -- ---- one item more
   module _ (old mid new : Worker) (before between after : View) (snaps left : Kept) (outcomes : List Outcome) (text : List ℕ) (saved : List SavedFile)
       (item : Item) (outcome : Outcome) (more_text : List ℕ) (more_saved : List SavedFile) (there : slice_get script.items.items (length outcomes) ≡ Some item)
-      (r : RanSoFar leaf input script s old mid before between snaps outcomes text saved)
-      (d : Did leaf input script s (length outcomes + 1) item mid new between after snaps left outcome more_text more_saved) where
+      (r : RanSoFar leaf input script s old mid before (begun_as before between) snaps outcomes text saved)
+      (d : Did leaf input script s (length outcomes + 1) item mid new (begun_as before between) after snaps left outcome more_text more_saved) where
     abbrev count : ℕ
     count = length outcomes
 
@@ -123,28 +149,28 @@ module _ (leaf : ℕ) (input : Input) (script : Script) (s : ℕ) where
 
     -- the states of then, and those of now
     abbrev earlier : ℕ → Workspace
-    earlier = state_taken no_names (set_of mid) r.ts
+    earlier = state_taken (first_names before) (set_of mid) r.ts
 
     abbrev later : ℕ → Workspace
-    later = state_taken no_names (set_of new) all
+    later = state_taken (first_names before) (set_of new) all
 
     -- the steps of then, and the one of this item
     abbrev done : List Step
-    done = steps_taken no_names (set_of mid) r.ts script outcomes
+    done = steps_taken (first_names before) (set_of mid) r.ts script outcomes
 
     abbrev step : Step
-    step = record { number = count + 1; item = item; state = state_of_turns new d.ts; snap = snap_meant new item snaps; outcome = outcome }
+    step = record { number = count + 1; item = item; state = state_of_turns new (first_names before) d.ts; snap = snap_meant new item snaps; outcome = outcome }
 
     -- ---- states
     same_states : (c : ℕ) → c ≤ count → earlier c ≡ later c
     same_states c l =
-        log_state mid new d.keeps (taken c r.ts) (taken_stands mid c r.ts r.stand)
-        ∙ ap (state_of_log no_names (set_of new)) (sym (taken_old s count c r.ts d.ts l d.own))
+        log_state mid new d.keeps (first_names before) (taken c r.ts) (taken_stands mid (first_names before) c r.ts r.stand)
+        ∙ ap (state_of_log (first_names before) (set_of new)) (sym (taken_old s count c r.ts d.ts l d.own))
 
-    own_state : later (1 + count) ≡ state_of_turns new d.ts
+    own_state : later (1 + count) ≡ state_of_turns new (first_names before) d.ts
     own_state =
-        ap later (turned count) ∙ ap (state_of_log no_names (set_of new)) (taken_new s count r.ts d.ts r.own d.begun d.own)
-        ∙ first_state new d.ts
+        ap later (turned count) ∙ ap (state_of_log (first_names before) (set_of new)) (taken_new s count r.ts d.ts r.own d.begun d.own)
+        ∙ first_state new (first_names before) d.ts
 
     -- ---- snapshots
     snaps_before : snaps_after later 1 no_names script.items.items outcomes ≡ meant_all new snaps
@@ -155,7 +181,7 @@ module _ (leaf : ℕ) (input : Input) (script : Script) (s : ℕ) where
     snaps_are : meant_all new left ≡ snaps_after later 1 no_names script.items.items (outcomes ++ outcome ∷ [])
     snaps_are =
         ap (meant_all new) d.snaps_left
-        ∙ (behind_meant new (ending outcome) item (carried (first_took d.ts)) snaps
+        ∙ (behind_meant new (ending outcome) item (names_took (first_names before) d.ts) snaps
         ∙ sym (snaps_push later script.items.items outcomes 1 no_names item outcome there
         ∙ (λ i. snaps_behind item outcome (own_state i) (snaps_before i))))
 
@@ -169,7 +195,7 @@ module _ (leaf : ℕ) (input : Input) (script : Script) (s : ℕ) where
       outcome = outcome;
     }
 
-    steps_are : done ++ step ∷ [] ≡ steps_taken no_names (set_of new) all script (outcomes ++ outcome ∷ [])
+    steps_are : done ++ step ∷ [] ≡ steps_taken (first_names before) (set_of new) all script (outcomes ++ outcome ∷ [])
     unfolding steps
     steps_are = sym (
         steps_push later script.items.items outcomes 1 no_names item outcome there
@@ -191,7 +217,7 @@ module _ (leaf : ℕ) (input : Input) (script : Script) (s : ℕ) where
     values : AllByRecursion (HasValues input script (set_of new) (puts_of all)) (done ++ step ∷ [])
     values =
         all_append (HasValues input script (set_of new) (puts_of all)) done (step ∷ [])
-        (values_more mid new d.keeps input script s count r.ts d.ts r.stand d.own done numbers r.values)
+        (values_more mid new d.keeps input script (first_names before) s count r.ts d.ts r.stand d.own done numbers r.values)
         (subst (λ rs. HasValuesAt (ending outcome) (set_of new) rs (gives item (due_at input script step))) (sym (rels_new s count r.ts d.ts r.own d.own)) d.values, tt)
 
     room : MakesAtMost (cost_of_steps leaf input script (done ++ step ∷ [])) old new
@@ -207,13 +233,13 @@ module _ (leaf : ℕ) (input : Input) (script : Script) (s : ℕ) where
         subst (λ n. min (old.misses + n) (2 ^ 64 - 1) ≤ new.misses) (sym (nodes_push outcomes outcome))
         (rose_more (2 ^ 64 - 1) old.misses mid.misses new.misses (nodes_in outcomes) r.missed d.keeps.misses outcome d.missed)
 
-    commits : CommitsFrom (change_taken [] all) 1 script.items.items (outcomes ++ outcome ∷ [])
+    commits : CommitsFrom (change_taken (first_versions before) all) 1 script.items.items (outcomes ++ outcome ∷ [])
     commits =
-        commits_push (change_taken [] all) script.items.items outcomes 1 item outcome there
-        (commits_agree (change_taken [] r.ts) (change_taken [] all) script.items.items outcomes 1
-        (λ k low up. sym (change_old count [] k r.ts d.ts (omega (arith, up)) (of_next s count d.ts d.own))) r.commits)
+        commits_push (change_taken (first_versions before) all) script.items.items outcomes 1 item outcome there
+        (commits_agree (change_taken (first_versions before) r.ts) (change_taken (first_versions before) all) script.items.items outcomes 1
+        (λ k low up. sym (change_old count (first_versions before) k r.ts d.ts (omega (arith, up)) (of_next s count d.ts d.own))) r.commits)
         (subst (λ z. CommitsItem z (lets_of item) outcome)
-        (sym (change_new count [] r.ts d.ts (up_to s count r.ts r.own)) ∙ ap (change_taken [] all) (sym (turned count))) d.commits)
+        (sym (change_new count (first_versions before) r.ts d.ts (up_to s count r.ts r.own)) ∙ ap (change_taken (first_versions before) all) (sym (turned count))) d.commits)
 
     one_longer : count + 1 ≡ length (outcomes ++ outcome ∷ [])
     one_longer = let l = length-append outcomes (outcome ∷ []) in omega arith
@@ -221,11 +247,11 @@ module _ (leaf : ℕ) (input : Input) (script : Script) (s : ℕ) where
     joined : RanSoFar leaf input script s old new before after left (outcomes ++ outcome ∷ []) (text ++ more_text) (saved ++ more_saved)
     joined = record {
       ts = all;
-      through = through_append r.ts d.ts before between after r.through d.through;
+      through = through_append r.ts d.ts before (begun_as before between) after r.through d.through;
       own = subst (λ n. AllByRecursion (IsAmong s n) all) one_longer (among_more s count r.ts d.ts r.own d.own);
       once = once_append count r.ts d.ts r.once d.once (up_to s count r.ts r.own) (of_next s count d.ts d.own);
       commits = commits;
-      stand = all_append (TurnStands new) r.ts d.ts (turns_stand mid new d.keeps r.ts r.stand) d.stand;
+      stand = all_append (TurnStands new (first_names before)) r.ts d.ts (turns_stand mid new d.keeps (first_names before) r.ts r.stand) d.stand;
       snaps_are = snaps_are;
       snaps_stand = d.snaps_stand;
       few = subst (λ n. n ≤ length script.items.items) one_longer (few_more script.items.items count item there);
@@ -248,12 +274,15 @@ module _ {leaf : ℕ} {input : Input} {script : Script} {s : ℕ} where
       Did leaf input script s (length outcomes + 1) item mid new between after snaps left outcome more_text more_saved →
       RanSoFar leaf input script s old new before after left (outcomes ++ outcome ∷ []) (text ++ more_text) (saved ++ more_saved)
   one_more {old} {mid} {new} {before} {between} {after} {snaps} {left} {outcomes} {text} {more_text} {saved} {more_saved} {item} {outcome} r there d =
-      joined leaf input script s old mid new before between after snaps left outcomes text saved item outcome more_text more_saved there r d
+      let e = is_begun_as before between r.through.kept.start in
+      joined leaf input script s old mid new before between after snaps left outcomes text saved item outcome more_text more_saved there
+      (subst (λ (v : View). RanSoFar leaf input script s old mid before v snaps outcomes text saved) e r)
+      (subst (λ (v : View). Did leaf input script s (length outcomes + 1) item mid new v after snaps left outcome more_text more_saved) e d)
 
   -- where there are as many outcomes as items, the script ran in the turns so far
   pub runs_turns : {old new : Worker} {before after : View} {snaps : Kept} {outcomes : List Outcome} {text : List ℕ} {saved : List SavedFile}
       (r : RanSoFar leaf input script s old new before after snaps outcomes text saved) → length outcomes ≡ length script.items.items →
-      RunsTurns input no_first (set_of new) s script outcomes r.ts before.seen after.seen
+      RunsTurns input (first_of before.start) (set_of new) s script outcomes r.ts before.seen after.seen
   runs_turns {outcomes = outcomes} r each = record {
     turns = r.through.turns;
     own = all_weaker (IsAmong s (length outcomes)) (IsTurn s) (λ t h. h.turn) r.ts r.own;
@@ -274,11 +303,11 @@ module _ {leaf : ℕ} {input : Input} {script : Script} {s : ℕ} where
       let back = sym os in
       record {
         ts = r.ts;
-        runs = subst (λ l. RunsTurns input no_first (set_of new) s script l r.ts before.seen after.seen) back (runs_turns r each);
+        runs = subst (λ l. RunsTurns input (first_of before.start) (set_of new) s script l r.ts before.seen after.seen) back (runs_turns r each);
         mine = r.through.mine;
         stand = r.stand;
-        text = is_text ∙ (r.text_is ∙ ap (λ l. replies input script s (steps_taken no_names (set_of new) r.ts script l)) back);
-        saved = is_saved ∙ (r.saved_is ∙ ap (λ l. saves_of input script (steps_taken no_names (set_of new) r.ts script l)) back);
-        room = subst (λ l. MakesAtMost (cost_of_steps leaf input script (steps_taken no_names (set_of new) r.ts script l)) old new) back r.room;
+        text = is_text ∙ (r.text_is ∙ ap (λ l. replies input script s (steps_taken (first_names before) (set_of new) r.ts script l)) back);
+        saved = is_saved ∙ (r.saved_is ∙ ap (λ l. saves_of input script (steps_taken (first_names before) (set_of new) r.ts script l)) back);
+        room = subst (λ l. MakesAtMost (cost_of_steps leaf input script (steps_taken (first_names before) (set_of new) r.ts script l)) old new) back r.room;
         missed = subst (λ l. RoseBy (nodes_in l) old.misses new.misses) back r.missed;
       }

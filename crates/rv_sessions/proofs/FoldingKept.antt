@@ -1,6 +1,6 @@
 -- What carried relations mean in a worker, and in one that keeps all of the first.
 -- 1. A map that is set or loses a name has relations that stand, if all that it had and got do. So the relations that a
---    log leaves stand where those of its events do.
+--    log leaves stand where those of the first names and of its events do.
 -- 2. What stands keeps its set. So what stands means the same in the second worker as in the first, name by name, and so
 --    do snapshots.
 -- 3. To mean goes name by name: it passes into a look-up, and into a map that is set.
@@ -20,12 +20,13 @@ use Rattle.run_model.specs.declared.event.Act.{Act}
 use Rattle.run_model.specs.declared.event.Act.TheVariants.{Read, Assign, Remove}
 use Rattle.run_model.specs.Names.{compare, Names, lookup, set, remove}
 use Rattle.run_model.specs.Steps.{Ending, Succeeds, Fails, Changes, LacksMemory, Snapshots, snapped, asked, keep as keep_state, kept_at, snap_for}
-use Rattle.run_model.specs.States.{Replay, start}
-use Rattle.run_model.specs.Carried.{Carried, carry_act, carry, carried_from, carried}
+use Rattle.run_model.specs.States.{Replay, begun}
+use Rattle.run_model.specs.Carried.{Carried, carry_act, carry, carried_from}
+use Rattle.run_model.specs.Turns.{Turn}
 use Rattle.run_model.specs.Sessions.{rel_of}
-use Rattle.rv_workspace.specs.Books.{EventStands, HistoryStands}
-use Rattle.rv_sessions.specs.Standing.{AllNamesStand, Kept, KeptStand, meant, meant_all}
-use Rattle.rv_sessions.specs.Doing.{keep, kept_behind, snap_meant}
+use Rattle.rv_workspace.specs.Books.{EventStands, HistoryStands, AllNamesStand}
+use Rattle.rv_sessions.specs.Standing.{TurnsStand, Kept, KeptStand, meant, meant_all}
+use Rattle.rv_sessions.specs.Doing.{names_took, keep, kept_behind, snap_meant}
 use Rattle.rv_sessions.proofs.FoldingTurns.{all_weaker}
 
 -- ---- what stands
@@ -63,10 +64,15 @@ module _ (w : Worker) where
   carry_stands (e ∷ es) p h all =
       carry_stands es (carry_act e.session e.command e.act p) (All-tail (EventStands w) e es h) (act_stands e.session e.command e.act p (All-head (EventStands w) e es h) all)
 
-  -- where the relations of a log stand, so do all that it leaves
-  pub carried_stands : (es : List Event) → HistoryStands w es → AllNamesStand w (carried es)
+  -- where the relations of first names and of a log stand, so do all that it leaves
+  pub carried_stands : (first : Carried) (es : List Event) → AllNamesStand w first → HistoryStands w es → AllNamesStand w (carried_from first es)
   unfolding carried_from
-  carried_stands es h = carry_stands es start h tt
+  carried_stands first es f h = carry_stands es (begun first) h f
+
+  -- and all that the first of a command's turns took
+  pub took_stand : (first : Carried) (ts : List Turn) → TurnsStand w first ts → AllNamesStand w (names_took first ts)
+  took_stand first [] h = tt
+  took_stand first (t ∷ ts) h = carried_stands first t.took h.0.first_stand h.0.log
 
 -- ---- a worker that keeps another
 module _ (v w : Worker) (k : Keeps v w) where
@@ -84,17 +90,17 @@ module _ (v w : Worker) (k : Keeps v w) where
       all_weaker (λ entry. AllNamesStand v entry.1) (λ entry. AllNamesStand w entry.1)
       (λ e s. all_weaker (λ entry. Stands v entry.1) (λ entry. Stands w entry.1) (λ x h. keeps_stands v w x.1 k h) e.1 s) snaps h
 
-  -- so does what an item leaves, where the log that it took stands
-  pub left_stands : (x : Ending) (item : Item) (log : List Event) (snaps : Kept) → HistoryStands w log → KeptStand v snaps →
-      KeptStand w (kept_behind x item (carried log) snaps)
-  left_stands Succeeds item log snaps h s = put_stands (snapped item)
+  -- so does what an item leaves, where the names that it took stand
+  pub left_stands : (x : Ending) (item : Item) (m : Carried) (snaps : Kept) → AllNamesStand w m → KeptStand v snaps →
+      KeptStand w (kept_behind x item m snaps)
+  left_stands Succeeds item m snaps h s = put_stands (snapped item)
     where
-      put_stands : (o : Option (List ℕ)) → KeptStand w (keep o (carried log) snaps)
+      put_stands : (o : Option (List ℕ)) → KeptStand w (keep o m snaps)
       put_stands None = snaps_stand snaps s
-      put_stands (Some name) = set_each (AllNamesStand w) name (carried log) snaps (carried_stands w log h) (snaps_stand snaps s)
-  left_stands Fails item log snaps h s = snaps_stand snaps s
-  left_stands Changes item log snaps h s = snaps_stand snaps s
-  left_stands LacksMemory item log snaps h s = snaps_stand snaps s
+      put_stands (Some name) = set_each (AllNamesStand w) name m snaps h (snaps_stand snaps s)
+  left_stands Fails item m snaps h s = snaps_stand snaps s
+  left_stands Changes item m snaps h s = snaps_stand snaps s
+  left_stands LacksMemory item m snaps h s = snaps_stand snaps s
 
 -- ---- name by name
 module _ (w : Worker) where

@@ -8,7 +8,6 @@ use Rattle.std.proofs.Common.{◌≡◌, ◌≤◌, ◌+◌, ◌||◌, ℕ, Bool
 use Rattle.std.specs.List.{list_any, flat_map, AllByRecursion}
 use Rattle.std.proofs.lemmas.Bool.{eq-eqb, ne_eqb}
 use Rattle.std.proofs.lemmas.List.{map-append}
-use Rattle.std.proofs.lemmas.List.Elements.{All-nil}
 use Rattle.rel_model.specs.declared.Rel.{Rel}
 use Rattle.rel_model.specs.Worker.{Worker, Stands, Keeps}
 use Rattle.rel_model.proofs.Workers.{keeps_stands}
@@ -18,10 +17,11 @@ use Rattle.run_model.specs.Turns.{Turn, puts_of, taken}
 use Rattle.run_model.proofs.Extending.{puts_append, turns_append, UpTo, OfNext, taken_old as old_taken, taken_new as new_taken}
 use Rattle.run_model.specs.Sessions.{rel_of, rels_of}
 use Rattle.turn_book.specs.Views.{View, IsKept}
-use Rattle.rv_workspace.specs.Books.{EventStands, HistoryStands}
-use Rattle.rv_workspace.proofs.Replaying.{history_stands}
+use Rattle.run_model.specs.Carried.{Carried}
+use Rattle.rv_workspace.specs.Books.{EventStands, HistoryStands, AllNamesStand}
+use Rattle.rv_workspace.proofs.Replaying.{history_stands, all_names_stand}
 use Rattle.rv_sessions.specs.Standing.{TurnStands, TurnsStand}
-use Rattle.rv_sessions.specs.Doing.{IsBy, BeginsWithEvent, first_took, deeds_by, rels_by, GoesThrough}
+use Rattle.rv_sessions.specs.Doing.{IsBy, BeginsWithEvent, deeds_by, rels_by, GoesThrough}
 use Rattle.rv_sessions.specs.Running.{IsAmong}
 
 -- ---- elements
@@ -182,24 +182,20 @@ module _ (w : Worker) where
   picked P true x y h k = h
   picked P false x y h k = k
 
-  -- the relations of the log of the first turn
-  pub first_stands : (ts : List Turn) → TurnsStand w ts → HistoryStands w (first_took ts)
-  first_stands [] h = All-nil (EventStands w)
-  first_stands (t ∷ ts) h = h.0.log
-
-  -- those of a log, where there is one
-  abbrev pub LogStands : Option (List Event) → Type 0
-  LogStands None = Unit {0}
-  LogStands (Some log) = HistoryStands w log
+  -- the relations of the first names and of a log, where there is one
+  abbrev pub LogStands : Carried → Option (List Event) → Type 0
+  LogStands first None = Unit {0}
+  LogStands first (Some log) = AllNamesStand w first × HistoryStands w log
 
   -- those of each log that a command took
-  pub taken_stands : (c : ℕ) (ts : List Turn) → TurnsStand w ts → LogStands (taken c ts)
-  taken_stands c [] h = tt
-  taken_stands c (t ∷ ts) h = picked LogStands (list_any (λ e. eqb e.command c) t.put) (Some t.took) (taken c ts) h.0.log (taken_stands c ts h.1)
+  pub taken_stands : (first : Carried) (c : ℕ) (ts : List Turn) → TurnsStand w first ts → LogStands first (taken c ts)
+  taken_stands first c [] h = tt
+  taken_stands first c (t ∷ ts) h =
+      picked (LogStands first) (list_any (λ e. eqb e.command c) t.put) (Some t.took) (taken c ts) (h.0.first_stand, h.0.log) (taken_stands first c ts h.1)
 
-  puts_stand : (ts : List Turn) → TurnsStand w ts → AllByRecursion (EventStands w) (puts_of ts)
-  puts_stand [] h = tt
-  puts_stand (t ∷ ts) h = all_append (EventStands w) t.put (puts_of ts) h.0.own (puts_stand ts h.1)
+  puts_stand : (first : Carried) (ts : List Turn) → TurnsStand w first ts → AllByRecursion (EventStands w) (puts_of ts)
+  puts_stand first [] h = tt
+  puts_stand first (t ∷ ts) h = all_append (EventStands w) t.put (puts_of ts) h.0.own (puts_stand first ts h.1)
 
   each_stands : (c : ℕ) (es : List Event) → AllByRecursion (EventStands w) es → AllByRecursion (Stands w) (rels_of c es)
   each_stands c [] h = tt
@@ -208,15 +204,16 @@ module _ (w : Worker) where
       (all_append (Stands w) (rel_of e.act) (rels_of c es) h.0 (each_stands c es h.1)) (each_stands c es h.1)
 
   -- and those that it assigned
-  pub rels_stand : (c : ℕ) (ts : List Turn) → TurnsStand w ts → AllByRecursion (Stands w) (rels_of c (puts_of ts))
-  rels_stand c ts h = each_stands c (puts_of ts) (puts_stand ts h)
+  pub rels_stand : (first : Carried) (c : ℕ) (ts : List Turn) → TurnsStand w first ts → AllByRecursion (Stands w) (rels_of c (puts_of ts))
+  rels_stand first c ts h = each_stands c (puts_of ts) (puts_stand first ts h)
 
 -- all turns stand where what stood is kept
-pub turns_stand : (v w : Worker) → Keeps v w → (ts : List Turn) → TurnsStand v ts → TurnsStand w ts
-turns_stand v w k ts h = all_weaker (TurnStands v) (TurnStands w) (λ t s. one t s) ts h
+pub turns_stand : (v w : Worker) → Keeps v w → (first : Carried) (ts : List Turn) → TurnsStand v first ts → TurnsStand w first ts
+turns_stand v w k first ts h = all_weaker (TurnStands v first) (TurnStands w first) (λ t s. one t s) ts h
   where
-    one : (t : Turn) → TurnStands v t → TurnStands w t
+    one : (t : Turn) → TurnStands v first t → TurnStands w first t
     one t s = record {
+      first_stand = all_names_stand v w (λ r. keeps_stands v w r k) first s.first_stand;
       log = history_stands v w (λ r. keeps_stands v w r k) t.took s.log;
       own = all_weaker (EventStands v) (EventStands w) (λ e x. all_weaker (Stands v) (Stands w) (λ r. keeps_stands v w r k) (rel_of e.act) x) t.put s.own;
     }

@@ -27,6 +27,7 @@ use Rattle.run_model.specs.declared.outcome.Outcome.TheVariants.{
 use Rattle.run_model.specs.Inputs.{Input}
 use Rattle.run_model.specs.Due.{Gifts, gives}
 use Rattle.run_model.specs.Steps.{Ending, Succeeds, Fails, Changes, LacksMemory, ending, Step, due_at}
+use Rattle.run_model.specs.Carried.{Carried}
 use Rattle.run_model.specs.Turns.{Turn, puts_of}
 use Rattle.run_model.specs.Sessions.{rels_of, HaveValues, HasValuesAt, HasValues}
 use Rattle.rv_sessions.specs.Standing.{TurnsStand}
@@ -49,15 +50,15 @@ module _ (v w : Worker) (k : Keeps v w) where
   at_kept LacksMemory rs gs s h = h
 
   -- the values of earlier steps, with the turns of a later command
-  pub values_more : (input : Input) (script : Script) (s n : ℕ) (ts us : List Turn) → TurnsStand v ts → AllByRecursion (IsBy s (n + 1)) us →
+  pub values_more : (input : Input) (script : Script) (first : Carried) (s n : ℕ) (ts us : List Turn) → TurnsStand v first ts → AllByRecursion (IsBy s (n + 1)) us →
       (steps : List Step) → AllByRecursion (λ step. step.number ≤ n) steps →
       AllByRecursion (HasValues input script (set_of v) (puts_of ts)) steps →
       AllByRecursion (HasValues input script (set_of w) (puts_of (ts ++ us))) steps
-  values_more input script s n ts us stand new [] l h = tt
-  values_more input script s n ts us stand new (x ∷ xs) l h = (
+  values_more input script first s n ts us stand new [] l h = tt
+  values_more input script first s n ts us stand new (x ∷ xs) l h = (
     subst (λ rs. HasValuesAt (ending x.outcome) (set_of w) rs (gives x.item (due_at input script x))) (sym (rels_old s n x.number ts us l.0 new))
-        (at_kept (ending x.outcome) (rels_of x.number (puts_of ts)) (gives x.item (due_at input script x)) (rels_stand v x.number ts stand) h.0),
-    values_more input script s n ts us stand new xs l.1 h.1,
+        (at_kept (ending x.outcome) (rels_of x.number (puts_of ts)) (gives x.item (due_at input script x)) (rels_stand v first x.number ts stand) h.0),
+    values_more input script first s n ts us stand new xs l.1 h.1,
   )
 
 -- ---- misses

@@ -1,7 +1,7 @@
 -- What LOAD and LOAD ALL do: the relations that are due of a file's bytes, or the first test that they fail.
 -- 1. What comes of bytes, as the reader of either version says it, is what is due of the file.
 -- 2. An item of which that is due does it, where it reads nothing: it is refused, or gives the names their relations.
-use Rattle.std.proofs.Common.{◌≡◌, ◌∙◌, ◌≤◌, ◌+◌, arith, inr, ℕ, Bool, true, false, cond, List, [], ◌∷◌, ◌++◌, append-nil, length, map, Option, Some, None, Result, Ok, Err, refl, sym, ap, subst}
+use Rattle.std.proofs.Common.{◌≡◌, ◌∙◌, ◌≤◌, ◌+◌, arith, inr, ℕ, true, false, cond, List, [], ◌∷◌, ◌++◌, append-nil, length, map, Option, Some, None, Result, Ok, Err, refl, sym, ap, subst}
 use Rattle.std.specs.Prelude.{IsSome}
 use Rattle.std.specs.List.{flat_map}
 use Rattle.std.proofs.lemmas.Bool.{false≢true}
@@ -12,7 +12,7 @@ use Rattle.rel_model.specs.declared.Lack.TheVariants.{Full, NoMemory as LACK_MEM
 use Rattle.rel_model.specs.declared.NoMemory.{NoMemory as LACK}
 use Rattle.rel_model.specs.declared.Rel.{Rel}
 use Rattle.rel_model.specs.Relation.{Relation}
-use Rattle.rel_model.specs.Worker.{Worker, Stands, set_of, Gives as GIVES_REL, Keeps, MakesAtMost, Rose}
+use Rattle.rel_model.specs.Worker.{Worker, Stands, set_of, Gives as GIVES_REL, Keeps, MakesAtMost}
 use Rattle.rel_model.proofs.Workers.{keeps_itself, keeps_trans, keeps_stands, keeps_set, gives_stands, gives_set}
 use Rattle.lang_model.specs.declared.syntax.Item.{Item}
 use Rattle.lang_model.specs.declared.syntax.Item.TheVariants.{Command as COMMAND}
@@ -34,16 +34,15 @@ use Rattle.run_model.specs.declared.outcome.BadFile.TheVariants.{
   Full as FILE_FULL,
   NoMemory as FILE_NO_MEMORY,
 }
-use Rattle.run_model.specs.declared.outcome.Outcome.TheVariants.{Done, Nodes as NODES, NoFile, BadFile as BAD_FILE, NoMemory as NO_MEMORY}
+use Rattle.run_model.specs.declared.outcome.Outcome.TheVariants.{Done, NoFile, BadFile as BAD_FILE, NoMemory as NO_MEMORY}
 use Rattle.run_model.specs.Inputs.{Input, file_named}
 use Rattle.run_model.specs.Files.{k2_fault, k2_relation}
 use Rattle.run_model.specs.SharedFiles.{begins_shared, shared_fault, shared_relations, relation_named}
 use Rattle.run_model.specs.Due.{Workspace, Early, Due, Value, Values, Refused, due, due_of_command, due_of_bytes, due_of_named, due_of_shared, due_of_all, due_of_file, due_of_whole_file, outcome_due, gives}
-use Rattle.run_model.specs.Events.{Gives, deed_of, giving, first_of, done_deeds}
+use Rattle.run_model.specs.Events.{deed_of, first_of, done_deeds}
 use Rattle.run_model.specs.Outcomes.{MayLackNodes, IsNotEarly}
 use Rattle.run_model.specs.Page.{shown, saved_of, done_text, done_save}
-use Rattle.run_model.specs.Cost.{cost_of_item, where_value, where_values, cost_of_pairs, cost_of_loaded, cost_of_gifts, listed_cost}
-use Rattle.run_model.specs.Carried.{carried}
+use Rattle.run_model.specs.Cost.{cost_of_item, where_value, where_values, cost_of_loaded, cost_of_gifts, listed_cost}
 use Rattle.run_model.specs.Sessions.{rel_of, HaveValues}
 use Rattle.run_model.specs.Texts.{prefix, refusal_text}
 use Rattle.run_model.specs.Turns.{Turn, puts_of}
@@ -53,8 +52,8 @@ use Rattle.k2_read.specs.Reading.{IsReadAll, IsReadNamed, IsRefused, IsMissing, 
 use Rattle.rv_eval.specs.Names.{HasSizes}
 use Rattle.rv_workspace.specs.Entering.{assign_of, assigns}
 use Rattle.rv_sessions.specs.Blocking.{gifts_in, GiftsStand}
-use Rattle.rv_sessions.specs.Standing.{Kept, KeptStand, meant}
-use Rattle.rv_sessions.specs.Doing.{GoesThrough, Did, keep, rels_by, due_on, state_of_turns, snap_meant}
+use Rattle.rv_sessions.specs.Standing.{first_names, carried_by, Kept, KeptStand, meant}
+use Rattle.rv_sessions.specs.Doing.{GoesThrough, Did, rels_by, due_on, state_of_turns, snap_meant}
 use Rattle.rv_sessions.specs.Turning.{TookTurn, AssignAllTurn}
 use Rattle.rv_sessions.specs.Reading.{lack_in, outcome_of_file, WasRefused, ReadOne, ReadAll, due_of_one_in, due_of_all_in}
 use Rattle.rv_sessions.specs.declared.told.Told.{Told}
@@ -299,20 +298,20 @@ module _ {leaf : ℕ} {input : Input} {script : Script} {item : Item} {file : Li
       Did leaf input script s c item old new before after snaps snaps NO_MEMORY (prefix s c ++ refusal_text NO_MEMORY) []
   read_lacks new after g l m =
       unread_lacks leaf input script s c item old new before after snaps stood (keeps_trans old mid new k l) x.quiet g
-      (room_at new (state_of_turns new []) (snap_meant new item snaps) m)
+      (room_at new (state_of_turns new (first_names before) []) (snap_meant new item snaps) m)
 
   -- what is refused of a file that was not read, by what was wanting
   refused_for : (kind : BadFile) (l : Option Lack) → WasRefused due_by old mid kind l →
       Did leaf input script s c item old mid before before snaps snaps (outcome_of_file file kind l) (prefix s c ++ refusal_text (outcome_of_file file kind l)) []
   refused_for kind (Some Full) h =
       unread_full leaf input script s c item old mid before before snaps stood k x.quiet (through_none before)
-      (room_at mid (state_of_turns mid []) (snap_meant mid item snaps) refl)
-      (subst (MayLackNodes item) (sym (x.due_is (state_of_turns mid []) (snap_meant mid item snaps))) (x.nodes (h.0 file))) h.1
+      (room_at mid (state_of_turns mid (first_names before) []) (snap_meant mid item snaps) refl)
+      (subst (MayLackNodes item) (sym (x.due_is (state_of_turns mid (first_names before) []) (snap_meant mid item snaps))) (x.nodes (h.0 file))) h.1
   refused_for kind (Some LACK_MEMORY) h = read_lacks mid before (through_none before) (keeps_itself mid) refl
   refused_for kind None h =
       unread_refuses leaf input script s c item old mid before before snaps stood k x.quiet (through_none before)
-      (room_at mid (state_of_turns mid []) (snap_meant mid item snaps) refl) Early (BAD_FILE file kind)
-      (x.due_is (state_of_turns mid []) (snap_meant mid item snaps) ∙ h file) tt
+      (room_at mid (state_of_turns mid (first_names before) []) (snap_meant mid item snaps) refl) Early (BAD_FILE file kind)
+      (x.due_is (state_of_turns mid (first_names before) []) (snap_meant mid item snaps) ∙ h file) tt
 
   pub read_refused : (kind : BadFile) → WasRefused due_by old mid kind (lack_in kind) → (r : Result Told LACK) →
       TellsRefusal s c (outcome_of_file file kind (lack_in kind)) r → DidItem leaf input script s c item old mid before before snaps snaps r
@@ -332,13 +331,13 @@ module _ {leaf : ℕ} {input : Input} {script : Script} {item : Item} {file : Li
       let l : Keeps mid new = t1.stays.keeps in
       let r : Relation = v.0 in
       let st : Stands mid rel = gives_stands mid r.rows r.cols r rel v.1 in
-      let d : due input script item (meant new (carried t.0)) (snap_meant new item snaps) ≡ Value r =
-      x.due_is (meant new (carried t.0)) (snap_meant new item snaps) ∙ v.2 file in
+      let d : due input script item (meant new (carried_by before t.0)) (snap_meant new item snaps) ≡ Value r =
+      x.due_is (meant new (carried_by before t.0)) (snap_meant new item snaps) ∙ v.2 file in
       unread_gives leaf input script s c item old new before after snaps stood (keeps_trans old mid new k l) x.quiet name rel r t.0
-      (through_one t1) t1.stand (keeps_stands mid new rel l st) (keeps_set mid new rel l st ∙ gives_set mid r.rows r.cols r rel v.1)
+      (through_one t1) t1.stand t1.first_stand (keeps_stands mid new rel l st) (keeps_set mid new rel l st ∙ gives_set mid r.rows r.cols r rel v.1)
       (sym v.1.row_size) (sym v.1.col_size) d first (given r) (λ numbers. text numbers r) (saved r)
-      (subst (λ y. MakesAtMost (cost_of_item leaf input script item (meant new (carried t.0)) (snap_meant new item snaps) y) old new) d
-      (room_at new (meant new (carried t.0)) (snap_meant new item snaps) t1.stays.made))
+      (subst (λ y. MakesAtMost (cost_of_item leaf input script item (meant new (carried_by before t.0)) (snap_meant new item snaps) y) old new) d
+      (room_at new (meant new (carried_by before t.0)) (snap_meant new item snaps) t1.stays.made))
 
 -- all names got their relations
 module _ {leaf : ℕ} {input : Input} {script : Script} {file : List ℕ} {due_by : List ℕ → Due} {cost : ℕ}
@@ -360,7 +359,7 @@ module _ {leaf : ℕ} {input : Input} {script : Script} {file : List ℕ} {due_b
     once = tt;
     stand = tt;
     snaps_stood = stood;
-    room = room_at x s c old mid before snaps stood k room new (state_of_turns new []) (snap_meant new item snaps) t.stays.made;
+    room = room_at x s c old mid before snaps stood k room new (state_of_turns new (first_names before) []) (snap_meant new item snaps) t.stays.made;
     keeps = keeps_trans old mid new k t.stays.keeps;
   }
   went_through log (g ∷ gs) there t = record {
@@ -368,9 +367,9 @@ module _ {leaf : ℕ} {input : Input} {script : Script} {file : List ℕ} {due_b
     own = (record { each = puts_by s c (g ∷ gs); kind = inr (puts_assign s c (g ∷ gs)) }, tt);
     begun = (assign_of s c g, assigns s c gs, refl);
     once = (assigned_last s c (g ∷ gs), tt);
-    stand = (record { log = t.stand; own = puts_stand new s c (g ∷ gs) there }, tt);
+    stand = (record { first_stand = t.first_stand; log = t.stand; own = puts_stand new s c (g ∷ gs) there }, tt);
     snaps_stood = stood;
-    room = room_at x s c old mid before snaps stood k room new (meant new (carried log)) (snap_meant new item snaps) t.stays.made;
+    room = room_at x s c old mid before snaps stood k room new (meant new (carried_by before log)) (snap_meant new item snaps) t.stays.made;
     keeps = keeps_trans old mid new k t.stays.keeps;
   }
 
@@ -385,8 +384,8 @@ module _ {leaf : ℕ} {input : Input} {script : Script} {file : List ℕ} {due_b
       let ts = turns_of log list in
       let l : Keeps mid new = t.1.stays.keeps in
       let there : GiftsStand new list = gifts_stand_kept mid new list l stands in
-      let dd : due_on input script item new snaps ts ≡ Values (gifts_in new list) =
-      x.due_is (state_of_turns new ts) (snap_meant new item snaps) ∙ d file ∙ ap Values (sym (gifts_kept mid new list l stands)) in
+      let dd : due_on input script item new snaps (first_names before) ts ≡ Values (gifts_in new list) =
+      x.due_is (state_of_turns new (first_names before) ts) (snap_meant new item snaps) ∙ d file ∙ ap Values (sym (gifts_kept mid new list l stands)) in
       is_done (went_through log list there t.1) snaps [] [] (ap outcome_due dd)
       (ap (map (λ e. deed_of e.act)) (puts_are log list) ∙ assigned_deeds new sizes s c list there ∙ sym (ap (done_deeds item) dd))
       (subst (HaveValues (set_of new) (rels_by ts)) (sym (ap (gives item) dd))

@@ -17,13 +17,13 @@ use Rattle.lang_model.specs.Tokens.{same_text}
 use Rattle.lang_model.specs.Eval.{AgreeOn}
 use Rattle.run_model.specs.declared.event.Event.{Event}
 use Rattle.run_model.specs.Names.{compare, lookup}
-use Rattle.run_model.specs.Carried.{Carried, carried, valued}
+use Rattle.run_model.specs.Carried.{Carried, carried_from, valued}
 use Rattle.rv_eval.specs.Names.{rel_of, state_of, AllStand}
-use Rattle.rv_workspace.specs.Books.{HistoryStands, NamesStand}
+use Rattle.rv_workspace.specs.Books.{HistoryStands, NamesStand, AllNamesStand}
 use Rattle.rv_workspace.specs.Picking.{is_among, among, picked}
 use Rattle.rv_workspace.proofs.Picking.{lookup-among}
-use Rattle.rv_workspace.proofs.Replaying.{names_stand}
-use Rattle.rv_sessions.specs.Standing.{AllNamesStand, meant}
+use Rattle.rv_workspace.proofs.Replaying.{names_stand, names_stand_all}
+use Rattle.rv_sessions.specs.Standing.{meant}
 
 -- ---- 1
 other_way : (xs ys : List ℕ) → same_text xs ys ≡ eq_by_cmp compare ys xs
@@ -82,33 +82,21 @@ agree_at : (w : Worker) (names c : Carried) (n : List ℕ) → rel_of names n �
 agree_at w names c n e h = same_value w (lookup c n) (rel_of names n) e (h n) ∙ sym (valued-lookup (set_of w) c n)
 
 -- the wanted names of a log agree with what it leaves
-pub wanted_agree : (w : Worker) (ws : List (List ℕ)) (log : List Event) (names : Carried) → HistoryStands w log →
-    names ≡ picked (Some ws) (carried log) → AgreeOn (state_of w names) (lookup (meant w (carried log))) ws
-wanted_agree w ws log names h e =
-    subst (λ ns. AgreeOn (state_of w ns) (lookup (meant w (carried log))) ws) (sym e)
-    (each (λ n. state_of w (among ws (carried log)) n ≡ lookup (meant w (carried log)) n) ws
-    (λ n k. agree_at w (among ws (carried log)) (carried log) n (wanted_found ws (carried log) n k) (names_stand w log h)))
+pub wanted_agree : (w : Worker) (ws : List (List ℕ)) (first : Carried) (log : List Event) (names : Carried) → AllNamesStand w first → HistoryStands w log →
+    names ≡ picked (Some ws) (carried_from first log) → AgreeOn (state_of w names) (lookup (meant w (carried_from first log))) ws
+wanted_agree w ws first log names f h e =
+    subst (λ ns. AgreeOn (state_of w ns) (lookup (meant w (carried_from first log))) ws) (sym e)
+    (each (λ n. state_of w (among ws (carried_from first log)) n ≡ lookup (meant w (carried_from first log)) n) ws
+    (λ n k. agree_at w (among ws (carried_from first log)) (carried_from first log) n (wanted_found ws (carried_from first log) n k) (names_stand w first log f h)))
 
-pub wanted_stand : (w : Worker) (ws : List (List ℕ)) (log : List Event) (names : Carried) → HistoryStands w log →
-    names ≡ picked (Some ws) (carried log) → AllStand w names
-wanted_stand w ws log names h e =
+pub wanted_stand : (w : Worker) (ws : List (List ℕ)) (first : Carried) (log : List Event) (names : Carried) → AllNamesStand w first → HistoryStands w log →
+    names ≡ picked (Some ws) (carried_from first log) → AllStand w names
+wanted_stand w ws first log names f h e =
     subst (AllStand w) (sym e)
-    (λ n r k. names_stand w log h n r (found_before (is_among ws n) (lookup (carried log) n) r
-    (sym (lookup-among ws (carried log) n) ∙ sym (rel_of-lookup (among ws (carried log)) n) ∙ k)))
-
-same_rel : (a b : Rel) → Some a ≡ Some b → a ≡ b
-same_rel a b k = cc
-
-pub found_first : (w : Worker) (b : Bool) (x : Rel) (o : Option Rel) (r : Rel) → Stands w x → (o ≡ Some r → Stands w r) →
-    cond b (Some x) o ≡ Some r → Stands w r
-found_first w true x o r s h k = subst (Stands w) (same_rel x r k) s
-found_first w false x o r s h k = h k
+    (λ n r k. names_stand w first log f h n r (found_before (is_among ws n) (lookup (carried_from first log) n) r
+    (sym (lookup-among ws (carried_from first log) n) ∙ sym (rel_of-lookup (among ws (carried_from first log)) n) ∙ k)))
 
 -- the names of a snapshot agree with what it means
-names_stand_all : (w : Worker) (c : Carried) → AllNamesStand w c → NamesStand w c
-names_stand_all w [] h n r e = absurd (no_rel r e)
-names_stand_all w (x ∷ xs) h n r e = found_first w (eq_by_cmp compare n x.0) x.1 (lookup xs n) r h.0 (names_stand_all w xs h.1 n r) e
-
 all_agree : (w : Worker) (c : Carried) (ws : List (List ℕ)) → NamesStand w c → AgreeOn (state_of w c) (lookup (meant w c)) ws
 all_agree w c [] h = tt
 all_agree w c (n ∷ ns) h = (agree_at w c c n (rel_of-lookup c n) h, all_agree w c ns h)

@@ -1,28 +1,23 @@
 -- What SAVE ALL does: one read of all names, and the file of their relations, or its bits where these pass the limit.
-use Rattle.std.proofs.Common.{◌≡◌, ◌∙◌, ◌≤◌, ◌<◌, ◌+◌, ◌*◌, arith, inr, ℕ, Bool, true, false, cond, List, [], ◌∷◌, ◌++◌, length, map, Option, Some, None, Result, Ok, Err, refl, sym, ap, subst}
-use Rattle.std.specs.Prelude.{IfOk, nat_lt}
-use Rattle.std.specs.declared.vec.Vec.{Vec}
-use Rattle.std.specs.declared.alloc.Global.{Global}
+use Rattle.std.proofs.Common.{◌≡◌, ◌∙◌, ◌≤◌, ◌<◌, ◌+◌, ◌*◌, arith, ℕ, cond, List, [], ◌∷◌, ◌++◌, length, Option, None, Result, refl, sym, ap, subst}
 use Rattle.std.proofs.lemmas.Bool.{lt-ltb, le-ltb}
 use Rattle.rel_model.specs.declared.NoMemory.{NoMemory as LACK}
-use Rattle.rel_model.specs.declared.Rel.{Rel}
 use Rattle.rel_model.specs.Worker.{Worker, Keeps, MakesAtMost}
-use Rattle.rel_model.proofs.Workers.{keeps_itself, keeps_trans, keeps_stands}
+use Rattle.rel_model.proofs.Workers.{keeps_trans, keeps_stands}
 use Rattle.lang_model.specs.declared.syntax.Item.{Item}
 use Rattle.lang_model.specs.declared.syntax.Item.TheVariants.{Command as COMMAND}
 use Rattle.lang_model.specs.declared.syntax.Command.TheVariants.{SaveAll as SAVE_ALL}
 use Rattle.lang_model.specs.declared.syntax.Script.{Script}
 use Rattle.run_model.specs.declared.event.Event.{Event}
 use Rattle.run_model.specs.declared.outcome.Outcome.TheVariants.{Done, TooLong, NoMemory as NO_MEMORY}
-use Rattle.run_model.specs.Carried.{Carried, carried}
-use Rattle.run_model.specs.Due.{Workspace, Late, Due, Bytes, Refused, due, due_of_command, bits_in, saved_bytes, outcome_due}
-use Rattle.run_model.specs.Events.{Reads, reads_of, done_deeds}
+use Rattle.run_model.specs.Carried.{Carried}
+use Rattle.run_model.specs.Due.{Workspace, Late, Bytes, Refused, due, due_of_command, bits_in, saved_bytes, outcome_due}
+use Rattle.run_model.specs.Events.{reads_of, done_deeds}
 use Rattle.run_model.specs.Inputs.{Input}
 use Rattle.run_model.specs.Limits.{save_limit}
-use Rattle.run_model.specs.Page.{SavedFile, done_text, done_save}
+use Rattle.run_model.specs.Page.{done_text, done_save}
 use Rattle.run_model.specs.SharedFiles.{shared_file}
 use Rattle.run_model.specs.Texts.{prefix, refusal_text}
-use Rattle.run_model.specs.Turns.{Turn}
 use Rattle.turn_book.specs.Views.{View as PASS}
 use Rattle.k2_file.specs.Writing.{IsTooLong}
 use Rattle.k2_file.specs.declared.refused.WriteRefused.{WriteRefused}
@@ -30,12 +25,13 @@ use Rattle.k2_file.specs.declared.refused.WriteRefused.TheVariants.{TooLong as T
 use Rattle.k2_write.specs.Writing.{named_sets}
 use Rattle.rv_workspace.specs.Entering.{read_of}
 use Rattle.rv_workspace.specs.Picking.{picked}
-use Rattle.rv_workspace.proofs.Replaying.{history_stands}
+use Rattle.rv_workspace.specs.Books.{AllNamesStand}
+use Rattle.rv_workspace.proofs.Replaying.{history_stands, all_names_stand}
 use Rattle.rv_sessions.specs.declared.told.Told.{Told}
 use Rattle.rv_sessions.specs.Acting.{turn_of, WasNotRead, DidItem}
-use Rattle.rv_sessions.specs.Doing.{GoesThrough, Did, due_on, snap_meant}
-use Rattle.rv_sessions.specs.Standing.{AllNamesStand, Kept, KeptStand, meant}
-use Rattle.rv_sessions.specs.Telling.{TellsRefusal, TellsNotWritten}
+use Rattle.rv_sessions.specs.Doing.{Did, due_on, snap_meant}
+use Rattle.rv_sessions.specs.Standing.{first_names, carried_by, Kept, KeptStand, meant}
+use Rattle.rv_sessions.specs.Telling.{TellsNotWritten}
 use Rattle.rv_sessions.specs.Turning.{TookTurn}
 use Rattle.rv_sessions.proofs.Acting.{through_one}
 use Rattle.rv_sessions.proofs.Building.{by_one, once_one, Went, lacks, refuses, is_done}
@@ -44,8 +40,8 @@ use Rattle.rv_sessions.proofs.Telling.{refused_did}
 
 -- the names of a read stand
 pub names_stand : (mid : Worker) (log : List Event) (names : Carried) (s c : ℕ) (old : Worker) (before after : PASS) →
-    TookTurn old mid before after log (read_of s c ∷ []) → names ≡ picked None (carried log) → AllNamesStand mid names
-names_stand mid log names s c old before after t n = subst (AllNamesStand mid) (sym n) (carried_stands mid log t.stand)
+    TookTurn old mid before after log (read_of s c ∷ []) → names ≡ picked None (carried_by before log) → AllNamesStand mid names
+names_stand mid log names s c old before after t n = subst (AllNamesStand mid) (sym n) (carried_stands mid (first_names before) log t.first_stand t.stand)
 
 module _ (leaf : ℕ) (input : Input) (script : Script) (s c : ℕ) (file : List ℕ) (old : Worker) (before : PASS) (snaps : Kept)
     (stood : KeptStand old snaps) where
@@ -78,7 +74,14 @@ module _ (leaf : ℕ) (input : Input) (script : Script) (s c : ℕ) (file : List
       own = (by_one refl refl, tt);
       begun = (read_of s c, [], refl);
       once = once_one log (read_of s c);
-      stand = (record { log = history_stands mid new (λ x h. keeps_stands mid new x k h) log t.stand; own = (tt, tt) }, tt);
+      stand = (
+        record {
+          first_stand = all_names_stand mid new (λ x h. keeps_stands mid new x k h) (first_names before) t.first_stand;
+          log = history_stands mid new (λ x h. keeps_stands mid new x k h) log t.stand;
+          own = (tt, tt);
+        },
+        tt,
+      );
       snaps_stood = stood;
       room = no_more old.made mid.made new.made _ t.stays.made made;
       keeps = keeps_trans old mid new t.stays.keeps k;
@@ -88,14 +91,14 @@ module _ (leaf : ℕ) (input : Input) (script : Script) (s c : ℕ) (file : List
     pub save_lacks : Did leaf input script s c item old new before after snaps snaps NO_MEMORY (prefix s c ++ refusal_text NO_MEMORY) []
     save_lacks = lacks went tt ([], refl)
 
-    module _ (names : Carried) (n : names ≡ picked None (carried log)) where
-      same_file : shared_file (named_sets mid names) ≡ shared_file (meant new (carried log))
+    module _ (names : Carried) (n : names ≡ picked None (carried_by before log)) where
+      same_file : shared_file (named_sets mid names) ≡ shared_file (meant new (carried_by before log))
       same_file =
           ap (λ m. shared_file (named_sets mid m)) n
-          ∙ ap shared_file (meant_same mid new k (carried log) (carried_stands mid log t.stand))
+          ∙ ap shared_file (meant_same mid new k (carried_by before log) (carried_stands mid (first_names before) log t.first_stand t.stand))
 
-      due_is : due_on input script item new snaps (turn_of log (read_of s c) ∷ []) ≡ saved_bytes (shared_file (named_sets mid names))
-      due_is = due_saved (meant new (carried log)) (snap_meant new item snaps) ∙ ap saved_bytes (sym same_file)
+      due_is : due_on input script item new snaps (first_names before) (turn_of log (read_of s c) ∷ []) ≡ saved_bytes (shared_file (named_sets mid names))
+      due_is = due_saved (meant new (carried_by before log)) (snap_meant new item snaps) ∙ ap saved_bytes (sym same_file)
 
       due_within : (bytes : List ℕ) → 8 * length bytes ≤ save_limit → saved_bytes bytes ≡ Bytes bytes
       due_within bytes h = ap (λ b. cond b (Refused Late (TooLong (bits_in bytes))) (Bytes bytes)) (le-ltb save_limit (8 * length bytes) h)

@@ -5,7 +5,6 @@ use Rattle.rel_model.specs.Relation.{Relation}
 use Rattle.rel_model.specs.Worker.{Worker, MakesAtMost}
 use Rattle.run_model.specs.declared.event.Event.{Event}
 use Rattle.run_model.specs.Cost.{cost_of}
-use Rattle.run_model.specs.Carried.{carried}
 use Rattle.lang_model.specs.declared.syntax.Expr.{Expr}
 use Rattle.lang_model.specs.declared.syntax.Item.{Item}
 use Rattle.lang_model.specs.declared.syntax.Script.{Script}
@@ -18,7 +17,7 @@ use Rattle.run_model.specs.Texts.{prefix, refusal_text}
 use Rattle.turn_book.specs.Views.{View as PASS}
 use Rattle.rv_sessions.specs.declared.form.Form.{Form}
 use Rattle.rv_sessions.specs.declared.told.Told.{Told}
-use Rattle.rv_sessions.specs.Standing.{Kept, KeptStand, meant}
+use Rattle.rv_sessions.specs.Standing.{first_names, carried_by, Kept, KeptStand, meant}
 use Rattle.rv_sessions.specs.Doing.{Did}
 use Rattle.rv_sessions.specs.Telling.{text_of, saved_by, TellsRefusal}
 use Rattle.rv_sessions.specs.Valuing.{IsRefusal, Stopped}
@@ -52,14 +51,14 @@ pub shown_not_done : (leaf : ℕ) (form : Form) (input : Input) (script : Script
     (o : Outcome) → ShownInTurn leaf form input script s c e old new before after (Err o) → o ≢ Done
 shown_not_done leaf form input script s c e old new before after o (inl h) d = lack_is_not_done (sym (same_err o NO_MEMORY h.1) ∙ d)
 shown_not_done leaf form input script s c e old new before after o (inr h) d =
-    stopped_not_done old new e input.turns (on_log input script e new h.0) (wanted_in form) o h.1.came d
+    stopped_not_done old new e input.turns (on_log input script e new (first_names before) h.0) (wanted_in form) o h.1.came d
 
 -- a refusal of an item that wants a value for this, as it is told
 pub told_did : (leaf : ℕ) (input : Input) (script : Script) (s c : ℕ) (item : Item) (e : Expr) (then : Relation → Due) (old new : Worker)
     (before after : PASS) (snaps : Kept) → IsReadItem item e then → KeptStand old snaps → (o : Outcome) (result : Result Told LACK) →
     (WasNotRead old new before after × (o ≡ NO_MEMORY))
-    ⊎ ((log : List Event) × WasRead s c old new before after log × Stopped old new e input.turns (on_log input script e new log) then o
-    × MakesAtMost (cost_of leaf input script e (meant new (carried log))) old new) →
+    ⊎ ((log : List Event) × WasRead s c old new before after log × Stopped old new e input.turns (on_log input script e new (first_names before) log) then o
+    × MakesAtMost (cost_of leaf input script e (meant new (carried_by before log))) old new) →
     TellsRefusal s c o result → DidItem leaf input script s c item old new before after snaps snaps result
 told_did leaf input script s c item e then old new before after snaps v stood o (Err lack) (inl h) t =
     unread_did leaf input script s c item e then old new before after snaps v stood h.0

@@ -20,15 +20,15 @@ use Rattle.run_model.specs.Events.{Reads, reads_of, done_deeds}
 use Rattle.run_model.specs.Outcomes.{MayLackNodes, MayLackMemory, IsNotEarly, lets_of}
 use Rattle.run_model.specs.Page.{SavedFile, shown, saved_of}
 use Rattle.run_model.specs.Cost.{cost_of, cost_of_item}
-use Rattle.run_model.specs.Carried.{carried}
+use Rattle.run_model.specs.Carried.{Carried, carried_from}
 use Rattle.run_model.specs.Turns.{Turn}
 use Rattle.run_model.specs.Texts.{prefix, refusal_text}
 use Rattle.turn_book.specs.Views.{View as PASS}
-use Rattle.rv_workspace.specs.Books.{HistoryStands}
+use Rattle.rv_workspace.specs.Books.{HistoryStands, AllNamesStand}
 use Rattle.rv_workspace.specs.Entering.{read_of}
 use Rattle.rv_sessions.specs.declared.form.Form.{Form}
 use Rattle.rv_sessions.specs.declared.told.Told.{Told}
-use Rattle.rv_sessions.specs.Standing.{Kept, meant}
+use Rattle.rv_sessions.specs.Standing.{first_names, carried_by, Kept, meant}
 use Rattle.rv_sessions.specs.Doing.{GoesThrough, Did}
 use Rattle.rv_sessions.specs.Showing.{CameShown}
 use Rattle.rv_sessions.specs.Telling.{text_of, saved_by}
@@ -44,22 +44,24 @@ pub record WasNotRead (old new : Worker) (before after : PASS) : Type 0 where
   pub through : GoesThrough [] before after
   pub stays : Stays old new
 
--- a log was read, whose relations stand, and then a worker that keeps all went on
+-- a log was read, whose relations stand, as those of the first names do, and then a worker that keeps all went on
 pub record WasRead (s c : ℕ) (old new : Worker) (before after : PASS) (log : List Event) : Type 0 where
   pub through : GoesThrough (turn_of log (read_of s c) ∷ []) before after
   pub stand : HistoryStands new log
+  pub first_stand : AllNamesStand new (first_names before)
   pub keeps : Keeps old new
 
--- what an expression comes to on a log that was read
-abbrev pub on_log : Input → Script → Expr → Worker → List Event → Evaluated
-on_log input script e w log = evaluated script (lookup (meant w (carried log))) e input.turns
+-- what an expression comes to on a log that was read, behind names that had these relations first
+abbrev pub on_log : Input → Script → Expr → Worker → Carried → List Event → Evaluated
+on_log input script e w first log = evaluated script (lookup (meant w (carried_from first log))) e input.turns
 
 -- an expression was shown on the log that its command read
 pub record WasShown (leaf : ℕ) (form : Form) (input : Input) (script : Script) (s c : ℕ) (e : Expr) (old new : Worker)
     (before after : PASS) (log : List Event) (result : Result (List ℕ) Outcome) : Type 0 where
   pub read : WasRead s c old new before after log
-  pub came : CameShown form old new e input.turns (on_log input script e new log) result
-  pub room : MakesAtMost (cost_of leaf input script e (meant new (carried log))) old new
+  pub came : CameShown form old new e input.turns (on_log input script e new (first_names before) log) result
+  pub room : MakesAtMost (cost_of leaf input script e (meant new (carried_by before log)))
+      old new
 
 -- that; or memory ran out before anything was read
 abbrev pub ShownInTurn : ℕ → Form → Input → Script → ℕ → ℕ → Expr → Worker → Worker → PASS → PASS
@@ -106,8 +108,9 @@ DidItem leaf input script s c item old new before after snaps left (Err lack) =
 pub record WasValued (leaf : ℕ) (input : Input) (script : Script) (s c : ℕ) (e : Expr) (old new : Worker)
     (before after : PASS) (log : List Event) (result : Result Rel Outcome) : Type 0 where
   pub read : WasRead s c old new before after log
-  pub came : CameTo old new e input.turns (on_log input script e new log) result
-  pub room : MakesAtMost (cost_of leaf input script e (meant new (carried log))) old new
+  pub came : CameTo old new e input.turns (on_log input script e new (first_names before) log) result
+  pub room : MakesAtMost (cost_of leaf input script e (meant new (carried_by before log)))
+      old new
 
 -- that; or memory ran out before anything was read
 abbrev pub ValuedInTurn : ℕ → Input → Script → ℕ → ℕ → Expr → Worker → Worker → PASS → PASS → Result Rel Outcome

@@ -9,7 +9,7 @@ use Rattle.lang_model.specs.declared.syntax.Script.{Script}
 use Rattle.run_model.specs.declared.event.Event.{Event}
 use Rattle.run_model.specs.declared.outcome.Outcome.{Outcome}
 use Rattle.run_model.specs.declared.outcome.Outcome.TheVariants.{Nodes}
-use Rattle.run_model.specs.Names.{lookup, set}
+use Rattle.run_model.specs.Names.{no_names, lookup, set}
 use Rattle.run_model.specs.Inputs.{Input}
 use Rattle.run_model.specs.Due.{Workspace, Due, due, gives}
 use Rattle.run_model.specs.Steps.{Ending, Succeeds, Fails, Changes, LacksMemory, ending, snapped, asked}
@@ -17,12 +17,12 @@ use Rattle.run_model.specs.Events.{Deed, deed_of, HasDeeds}
 use Rattle.run_model.specs.Outcomes.{IsOutcome, lets_of}
 use Rattle.run_model.specs.Page.{SavedFile, reply, save_at}
 use Rattle.run_model.specs.Cost.{cost_of_item}
-use Rattle.run_model.specs.Carried.{Carried, carried}
+use Rattle.run_model.specs.Carried.{Carried, carried_from}
 use Rattle.run_model.specs.Legal.{is_assign, CommitsItem}
 use Rattle.run_model.specs.Turns.{Turn, puts_of, IsOne, AreTurns, AssignsOnce, change_taken}
 use Rattle.run_model.specs.Sessions.{rel_of, HasValuesAt}
 use Rattle.turn_book.specs.Views.{View, IsKept}
-use Rattle.rv_sessions.specs.Standing.{TurnsStand, Kept, KeptStand, meant}
+use Rattle.rv_sessions.specs.Standing.{first_names, first_versions, TurnsStand, Kept, KeptStand, meant}
 
 -- ---- turns
 -- a turn is of this command: it put one event of it, or assignments of it
@@ -35,10 +35,11 @@ abbrev pub BeginsWithEvent : List Turn → Type 0
 BeginsWithEvent [] = Unit {0}
 BeginsWithEvent (t ∷ ts) = (e : Event) × (rest : List Event) × (t.put ≡ e ∷ rest)
 
--- the log that the first of a command's turns took, and none where it has no turn
-abbrev pub first_took : List Turn → List Event
-first_took [] = []
-first_took (t ∷ ts) = t.took
+-- the relations that names had behind the log that the first of a command's turns took, from those that they had first;
+-- and none where it has no turn
+abbrev pub names_took : Carried → List Turn → Carried
+names_took first [] = no_names
+names_took first (t ∷ ts) = carried_from first t.took
 
 -- what turns do
 abbrev pub deeds_by : List Turn → List Deed
@@ -73,14 +74,15 @@ snap_meant w item snaps = option_map (meant w) (option_and_then (lookup snaps) (
 
 -- ---- items
 -- the workspace that the first of an item's turns took
-abbrev pub state_of_turns : Worker → List Turn → Workspace
-state_of_turns w ts = meant w (carried (first_took ts))
+abbrev pub state_of_turns : Worker → Carried → List Turn → Workspace
+state_of_turns w first ts = meant w (names_took first ts)
 
 -- what is due of an item on what it took
-abbrev pub due_on : Input → Script → Item → Worker → Kept → List Turn → Due
-due_on input script item w snaps ts = due input script item (state_of_turns w ts) (snap_meant w item snaps)
+abbrev pub due_on : Input → Script → Item → Worker → Kept → Carried → List Turn → Due
+due_on input script item w snaps first ts =
+    due input script item (state_of_turns w first ts) (snap_meant w item snaps)
 
--- item c of session s, in a worker with leaves of this height
+-- item c of session s, in a worker with leaves of this height, on what its turns took from where the book began
 pub record Did (leaf : ℕ) (input : Input) (script : Script) (s c : ℕ) (item : Item) (old new : Worker)
     (before after : View) (snaps left : Kept) (outcome : Outcome) (text : List ℕ)
     (saved : List SavedFile) : Type 0 where
@@ -89,17 +91,19 @@ pub record Did (leaf : ℕ) (input : Input) (script : Script) (s c : ℕ) (item 
   pub own : AllByRecursion (IsBy s c) ts
   pub begun : BeginsWithEvent ts
   pub once : AssignsOnce ts
-  pub stand : TurnsStand new ts
-  pub deeds : HasDeeds (ending outcome) item (due_on input script item new snaps ts) (deeds_by ts)
-  pub lawful : IsOutcome item (due_on input script item new snaps ts) outcome
+  pub stand : TurnsStand new (first_names before) ts
+  pub deeds : HasDeeds (ending outcome) item (due_on input script item new snaps (first_names before) ts)
+      (deeds_by ts)
+  pub lawful : IsOutcome item (due_on input script item new snaps (first_names before) ts) outcome
   pub values : HasValuesAt (ending outcome) (set_of new) (rels_by ts)
-      (gives item (due_on input script item new snaps ts))
-  pub commits : CommitsItem (change_taken [] ts c) (lets_of item) outcome
-  pub text_is : text ≡ reply s c item (due_on input script item new snaps ts) outcome
-  pub saved_is : saved ≡ save_at (ending outcome) item (due_on input script item new snaps ts)
-  pub snaps_left : left ≡ kept_behind (ending outcome) item (carried (first_took ts)) snaps
+      (gives item (due_on input script item new snaps (first_names before) ts))
+  pub commits : CommitsItem (change_taken (first_versions before) ts c) (lets_of item) outcome
+  pub text_is : text ≡ reply s c item (due_on input script item new snaps (first_names before) ts) outcome
+  pub saved_is : saved ≡ save_at (ending outcome) item
+      (due_on input script item new snaps (first_names before) ts)
+  pub snaps_left : left ≡ kept_behind (ending outcome) item (names_took (first_names before) ts) snaps
   pub snaps_stand : KeptStand new left
-  pub room : MakesAtMost (cost_of_item leaf input script item (state_of_turns new ts) (snap_meant new item snaps)
-      (due_on input script item new snaps ts)) old new
+  pub room : MakesAtMost (cost_of_item leaf input script item (state_of_turns new (first_names before) ts)
+      (snap_meant new item snaps) (due_on input script item new snaps (first_names before) ts)) old new
   pub missed : outcome ≡ Nodes → Rose old.misses new.misses
   pub keeps : Keeps old new

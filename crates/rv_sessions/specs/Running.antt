@@ -31,7 +31,7 @@ use Rattle.run_model.specs.Turns.{Turn, puts_of, IsTurn, AssignsOnce, state_take
 use Rattle.run_model.specs.Legal.{CommitsFrom}
 use Rattle.run_model.specs.Sessions.{HasValues, steps_taken}
 use Rattle.turn_book.specs.Views.{View}
-use Rattle.rv_sessions.specs.Standing.{TurnsStand, Kept, KeptStand, meant_all}
+use Rattle.rv_sessions.specs.Standing.{first_names, first_versions, TurnsStand, Kept, KeptStand, meant_all}
 use Rattle.rv_sessions.specs.Doing.{GoesThrough}
 
 -- 1 for a full table
@@ -77,20 +77,23 @@ pub record RanSoFar (leaf : ℕ) (input : Input) (script : Script) (s : ℕ) (ol
   pub through : GoesThrough ts before after
   pub own : AllByRecursion (IsAmong s (length outcomes)) ts
   pub once : AssignsOnce ts
-  pub stand : TurnsStand new ts
-  pub snaps_are : meant_all new snaps ≡
-      snaps_after (state_taken no_names (set_of new) ts) 1 no_names script.items.items outcomes
+  pub stand : TurnsStand new (first_names before) ts
+  pub snaps_are : meant_all new snaps ≡ snaps_after (state_taken (first_names before) (set_of new) ts) 1
+      no_names script.items.items outcomes
   pub snaps_stand : KeptStand new snaps
   pub few : length outcomes ≤ length script.items.items
-  pub events : AreEvents input script s (steps_taken no_names (set_of new) ts script outcomes)
-      (map entry_of (puts_of ts))
-  pub outcomes_due : AreOutcomes input script (steps_taken no_names (set_of new) ts script outcomes)
+  pub events : AreEvents input script s
+      (steps_taken (first_names before) (set_of new) ts script outcomes) (map entry_of (puts_of ts))
+  pub outcomes_due : AreOutcomes input script
+      (steps_taken (first_names before) (set_of new) ts script outcomes)
   pub values : AllByRecursion (HasValues input script (set_of new) (puts_of ts))
-      (steps_taken no_names (set_of new) ts script outcomes)
-  pub commits : CommitsFrom (change_taken [] ts) 1 script.items.items outcomes
-  pub text_is : text ≡ replies input script s (steps_taken no_names (set_of new) ts script outcomes)
-  pub saved_is : saved ≡ saves_of input script (steps_taken no_names (set_of new) ts script outcomes)
-  pub room : MakesAtMost (cost_of_steps leaf input script (steps_taken no_names (set_of new) ts script outcomes))
-      old new
+      (steps_taken (first_names before) (set_of new) ts script outcomes)
+  pub commits : CommitsFrom (change_taken (first_versions before) ts) 1 script.items.items outcomes
+  pub text_is : text ≡ replies input script s
+      (steps_taken (first_names before) (set_of new) ts script outcomes)
+  pub saved_is : saved ≡ saves_of input script
+      (steps_taken (first_names before) (set_of new) ts script outcomes)
+  pub room : MakesAtMost (cost_of_steps leaf input script
+      (steps_taken (first_names before) (set_of new) ts script outcomes)) old new
   pub missed : RoseBy (nodes_in outcomes) old.misses new.misses
   pub keeps : Keeps old new

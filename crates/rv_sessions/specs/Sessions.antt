@@ -11,33 +11,33 @@ use Rattle.lang_model.specs.Spelling.{SpelledBy}
 use Rattle.run_model.specs.declared.outcome.Outcome.{Outcome}
 use Rattle.run_model.specs.declared.outcome.Outcome.TheVariants.{Parse, Ill, NoMemory}
 use Rattle.run_model.specs.Inputs.{Input, Reading, NoScript, Flawed, Runs, IsReading}
-use Rattle.run_model.specs.Names.{no_names}
-use Rattle.run_model.specs.Carried.{no_first}
 use Rattle.run_model.specs.Page.{replies, refusals, saves_of}
 use Rattle.run_model.specs.Cost.{cost_of_steps}
 use Rattle.run_model.specs.Turns.{Turn, puts_of}
 use Rattle.run_model.specs.Sessions.{RunsTurns, steps_taken}
 use Rattle.turn_book.specs.Views.{View}
+use Rattle.rv_workspace.specs.Starts.{first_of}
 use Rattle.rv_sessions.specs.declared.transcript.Transcript.{Transcript}
 use Rattle.run_model.specs.Filed.{saved_all}
 use Rattle.rv_sessions.specs.Telling.{texts_of}
-use Rattle.rv_sessions.specs.Standing.{TurnsStand}
+use Rattle.rv_sessions.specs.Standing.{first_names, TurnsStand}
 use Rattle.rv_sessions.specs.Running.{nodes_in, RoseBy}
 
--- session s ran its script: in turns of its own, whose relations all stand in its worker; and replies, saves, nodes
--- and misses are those of its steps on the states that these turns took
+-- session s ran its script over a book that began so: in turns of its own, whose relations all stand in its worker; and
+-- replies, saves, nodes and misses are those of its steps on the states that these turns took
 pub record RanScript (leaf : ℕ) (input : Input) (s : ℕ) (script : Script) (old new : Worker) (before after : View)
     (told : Transcript) : Type 0 where
   pub ts : List Turn
-  pub runs : RunsTurns input no_first (set_of new) s script told.outcomes.items ts before.seen after.seen
+  pub runs : RunsTurns input (first_of before.start) (set_of new) s script told.outcomes.items ts before.seen
+      after.seen
   pub mine : after.mine ≡ before.mine ++ puts_of ts
-  pub stand : TurnsStand new ts
+  pub stand : TurnsStand new (first_names before) ts
   pub text : texts_of told.replies.items ≡ replies input script s
-      (steps_taken no_names (set_of new) ts script told.outcomes.items)
+      (steps_taken (first_names before) (set_of new) ts script told.outcomes.items)
   pub saved : saved_all told.saves.items ≡ saves_of input script
-      (steps_taken no_names (set_of new) ts script told.outcomes.items)
+      (steps_taken (first_names before) (set_of new) ts script told.outcomes.items)
   pub room : MakesAtMost (cost_of_steps leaf input script
-      (steps_taken no_names (set_of new) ts script told.outcomes.items)) old new
+      (steps_taken (first_names before) (set_of new) ts script told.outcomes.items)) old new
   pub missed : RoseBy (nodes_in told.outcomes.items) old.misses new.misses
 
 -- a session that took no turn, made no node and missed none

@@ -11,7 +11,8 @@ ghost use Rattle.lang_model.specs.declared.syntax.Command.TheVariants.{Remove as
 ghost use Rattle.run_model.specs.Inputs.{Input};
 ghost use Rattle.turn_book.specs.Views.{View as PASS, IsReady};
 ghost use Rattle.rv_sessions.specs.Acting.{DidItem};
-ghost use Rattle.rv_sessions.specs.Standing.{AllNamesStand, Kept, KeptStand};
+ghost use Rattle.rv_sessions.specs.Standing.{Kept, KeptStand};
+ghost use Rattle.rv_workspace.specs.Books.{AllNamesStand};
 ghost use Rattle.rv_sessions.specs.Telling.{TellsRefusal};
 
 use crate::by::By;

@@ -2,8 +2,8 @@
 ghost use Rattle.std.specs.Prelude.{◌≡◌, map, All, IfOk};
 ghost use Rattle.std.specs.Option.{option_map};
 ghost use Rattle.rel_model.specs.Worker.{Stands};
-ghost use Rattle.run_model.specs.Versions.{version};
 ghost use Rattle.turn_book.specs.Views.{IsReady};
+ghost use Rattle.rv_workspace.specs.Books.{versions_of};
 ghost use Rattle.rv_sessions.specs.Turning.{ReadTurn, BlockTurn, AssignTurn, AssignAllTurn, CommitTurn, DropTurn};
 
 use crate::by::By;
@@ -120,7 +120,7 @@ fn with_versions<E: Engine>(
     book: &Book<E>,
     names: Vec<Name>,
 ) -> Result<Vec<(Name, u64)>, NoMemory>
-    ensures { IfOk result (λ v. v.items ≡ map (λ name. (name, version name book.now.history)) names.items) }
+    ensures { IfOk result (λ v. v.items ≡ map (λ name. (name, versions_of book.now name)) names.items) }
 {
     let mut versions = Vec::new(alloc);
     'names: for name in names {

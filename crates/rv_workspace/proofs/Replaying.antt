@@ -1,5 +1,5 @@
 -- The names after a history that grew, and where the relations of a history stand.
-use Rattle.std.proofs.Common.{◌≡◌, ◌∙◌, ℕ, Bool, true, false, cond, List, [], ◌∷◌, ◌++◌, append_assoc, Some, None, refl, sym, ap, subst}
+use Rattle.std.proofs.Common.{◌≡◌, ◌∙◌, ℕ, Bool, true, false, cond, List, [], ◌∷◌, ◌++◌, append_assoc, Option, Some, None, refl, sym, ap, subst}
 use Rattle.std.specs.Prelude.{All}
 use Rattle.std.specs.List.{AllByRecursion}
 use Rattle.std.specs.Ordering.{eq_by_cmp}
@@ -10,11 +10,11 @@ use Rattle.run_model.specs.declared.event.Event.{Event}
 use Rattle.run_model.specs.declared.event.Act.{Act}
 use Rattle.run_model.specs.declared.event.Act.TheVariants.{Read, Assign, Remove}
 use Rattle.run_model.specs.Names.{compare, lookup, set, remove}
-use Rattle.run_model.specs.States.{Replay, start}
-use Rattle.run_model.specs.Carried.{Carried, carry_act, carry, carried_from, carried}
+use Rattle.run_model.specs.States.{Replay, begun}
+use Rattle.run_model.specs.Carried.{Carried, carry_act, carry, carried_from}
 use Rattle.run_model.specs.Sessions.{rel_of}
 use Rattle.run_model.proofs.Ordering.{names_laws}
-use Rattle.rv_workspace.specs.Books.{EventStands, HistoryStands, NamesStand}
+use Rattle.rv_workspace.specs.Books.{EventStands, HistoryStands, NamesStand, AllNamesStand}
 use Rattle.rv_workspace.specs.Entering.{read_of, removal, assign_of, assigns}
 use Rattle.name_map.specs.Giving.{set_all}
 
@@ -23,25 +23,25 @@ carry-append : (p : Replay Rel) (xs ys : List Event) → carry p (xs ++ ys) ≡ 
 carry-append p [] ys = refl
 carry-append p (x ∷ xs) ys = carry-append (carry_act x.session x.command x.act p) xs ys
 
-pub carried-nil : carried [] ≡ []
+pub carried-nil : (first : Carried) → carried_from first [] ≡ first
 unfolding carried_from
-carried-nil = refl
+carried-nil first = refl
 
-pub carried-read : (s c : ℕ) (es : List Event) → carried (es ++ read_of s c ∷ []) ≡ carried es
+pub carried-read : (first : Carried) (s c : ℕ) (es : List Event) → carried_from first (es ++ read_of s c ∷ []) ≡ carried_from first es
 unfolding carried_from
-carried-read s c es = ap (λ p. p.now) (carry-append start es (read_of s c ∷ []))
+carried-read first s c es = ap (λ p. p.now) (carry-append (begun first) es (read_of s c ∷ []))
 
-pub carried-removal : (s c : ℕ) (name : List ℕ) (es : List Event) → carried (es ++ removal s c name ∷ []) ≡ remove name (carried es)
+pub carried-removal : (first : Carried) (s c : ℕ) (name : List ℕ) (es : List Event) → carried_from first (es ++ removal s c name ∷ []) ≡ remove name (carried_from first es)
 unfolding carried_from
-carried-removal s c name es = ap (λ p. p.now) (carry-append start es (removal s c name ∷ []))
+carried-removal first s c name es = ap (λ p. p.now) (carry-append (begun first) es (removal s c name ∷ []))
 
 now-assigns : (s c : ℕ) (gifts : List (List ℕ × Rel)) (p : Replay Rel) → (carry p (assigns s c gifts)).now ≡ set_all gifts p.now
 now-assigns s c [] p = refl
 now-assigns s c (g ∷ gs) p = now-assigns s c gs (carry_act s c (Assign g.0 g.1) p)
 
-pub carried-assigns : (s c : ℕ) (gifts : List (List ℕ × Rel)) (es : List Event) → carried (es ++ assigns s c gifts) ≡ set_all gifts (carried es)
+pub carried-assigns : (first : Carried) (s c : ℕ) (gifts : List (List ℕ × Rel)) (es : List Event) → carried_from first (es ++ assigns s c gifts) ≡ set_all gifts (carried_from first es)
 unfolding carried_from
-carried-assigns s c gifts es = ap (λ p. p.now) (carry-append start es (assigns s c gifts)) ∙ now-assigns s c gifts (carry start es)
+carried-assigns first s c gifts es = ap (λ p. p.now) (carry-append (begun first) es (assigns s c gifts)) ∙ now-assigns s c gifts (carry (begun first) es)
 
 assigns-push : (s c : ℕ) (gifts : List (List ℕ × Rel)) (gift : List ℕ × Rel) → assigns s c (gifts ++ gift ∷ []) ≡ assigns s c gifts ++ assign_of s c gift ∷ []
 assigns-push s c [] gift = refl
@@ -96,7 +96,22 @@ carry_stands w [] p h all = all
 carry_stands w (e ∷ es) p h all =
     carry_stands w es (carry_act e.session e.command e.act p) (All-tail (EventStands w) e es h) (act_stands w e.session e.command e.act p (All-head (EventStands w) e es h) all)
 
--- where the relations of a history stand, so do those of the names that it leaves
-pub names_stand : (w : Worker) (es : List Event) → HistoryStands w es → NamesStand w (carried es)
+pub found_first : (w : Worker) (b : Bool) (x : Rel) (o : Option Rel) (r : Rel) → Stands w x → (o ≡ Some r → Stands w r) →
+    cond b (Some x) o ≡ Some r → Stands w r
+found_first w true x o r s h k = subst (Stands w) (same_rel x r k) s
+found_first w false x o r s h k = h k
+
+-- what stands entry by entry stands name by name
+pub names_stand_all : (w : Worker) (names : Carried) → AllNamesStand w names → NamesStand w names
+names_stand_all w [] h n r e = absurd (no_rel r e)
+names_stand_all w (x ∷ xs) h n r e = found_first w (eq_by_cmp compare n x.0) x.1 (lookup xs n) r h.0 (names_stand_all w xs h.1 n r) e
+
+-- where all that stood stands, so do the relations of names
+pub all_names_stand : (a b : Worker) → ((r : Rel) → Stands a r → Stands b r) → (names : Carried) → AllNamesStand a names → AllNamesStand b names
+all_names_stand a b more [] h = tt
+all_names_stand a b more (x ∷ xs) h = (more x.1 h.0, all_names_stand a b more xs h.1)
+
+-- where the relations of the first names and of a history stand, so do those of the names that it leaves
+pub names_stand : (w : Worker) (first : Carried) (es : List Event) → AllNamesStand w first → HistoryStands w es → NamesStand w (carried_from first es)
 unfolding carried_from
-names_stand w es h = carry_stands w es start h (λ n r e. absurd (no_rel r e))
+names_stand w first es f h = carry_stands w es (begun first) h (names_stand_all w first f)

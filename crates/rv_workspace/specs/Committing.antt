@@ -2,19 +2,20 @@
 use Rattle.std.specs.Prelude.{◌≡◌, ◌++◌, nat_eq, ℕ, cond, List, [], ◌∷◌, Option, Some, None, Result, Ok, Err}
 use Rattle.rel_model.specs.declared.Rel.{Rel}
 use Rattle.run_model.specs.declared.event.Event.{Event}
-use Rattle.run_model.specs.Versions.{Change, version}
+use Rattle.run_model.specs.Versions.{Change, Versions, version_behind}
 use Rattle.run_model.specs.Carried.{Carried}
 use Rattle.name_map.specs.Giving.{set_all}
 use Rattle.rv_workspace.specs.declared.refused.CommitRefused.{CommitRefused}
 use Rattle.rv_workspace.specs.declared.refused.CommitRefused.TheVariants.{Changed, NoMemory}
 use Rattle.rv_workspace.specs.Entering.{read_of, assigns}
 
--- the first of the names that were read whose version after a history is another than the one beside it
-abbrev pub change_since : List (List ℕ × ℕ) → List Event → Option Change
-change_since [] history = None
-change_since (read ∷ reads) history =
-    cond (nat_eq (version read.0 history) read.1) (change_since reads history)
-    (Some (record { name = read.0; seen = read.1; found = version read.0 history }))
+-- the first of the names that were read whose version, behind a history that began with these versions, is another than
+-- the one beside it
+abbrev pub change_since : Versions → List (List ℕ × ℕ) → List Event → Option Change
+change_since first [] history = None
+change_since first (read ∷ reads) history =
+    cond (nat_eq (version_behind first history read.0) read.1) (change_since first reads history)
+    (Some (record { name = read.0; seen = read.1; found = version_behind first history read.0 }))
 
 -- a commit is refused with the name that changed, and with its two versions
 abbrev pub IsCommitRefusal : Option Change → CommitRefused → Type 0

@@ -1,12 +1,13 @@
 //! The book of names, whose relations stand in its archive.
-ghost use Rattle.std.specs.Prelude.{◌≡◌, ◌∷◌, ◌++◌, [], All, IfOk, OnOk, OnErr};
+ghost use Rattle.std.specs.Prelude.{◌≡◌, ◌∷◌, ◌++◌, [], ℕ, List, All, IfOk, OnOk, OnErr};
 ghost use Rattle.std.specs.Option.{option_map};
 ghost use Rattle.rel_model.specs.Worker.{Stands};
 ghost use Rattle.rel_model.specs.Seats.{Kin, Learns};
 ghost use Rattle.run_model.specs.Names.{lookup, set};
-ghost use Rattle.rv_workspace.specs.Books.{Held, IsBook, StandAlike, names_of};
+ghost use Rattle.run_model.specs.Versions.{noted};
+ghost use Rattle.run_model.specs.Carried.{no_first};
+ghost use Rattle.rv_workspace.specs.Books.{Held, IsBook, AllNamesStand, AreFew, StandAlike, names_of, versions_of};
 ghost use Rattle.rv_workspace.specs.Entering.{read_of, assign_of, assigns, dropped, drop_entries, IsDropAnswer};
-ghost use Rattle.run_model.specs.Versions.{version};
 ghost use Rattle.rv_workspace.specs.Committing.{change_since, committed, commit_entries, IsCommitAnswer};
 ghost use Rattle.name_map.specs.Giving.{set_all};
 ghost use Rattle.rv_workspace.specs.Picking.{picked};
@@ -25,14 +26,18 @@ use run_model::event::Event;
 use rv_blocks::Versions;
 use std::alloc::Global;
 use std::marker::Model;
+use std::snapshot::Snapshot;
 
-/// Names with their relations, what happened to them, and a worker in which all these relations stand.
+/// Names with their relations, what happened to them, and a worker in which all these relations stand. The names and
+/// versions with which it began are remembered for clauses alone, and take no memory.
 #[derive(Drop)]
 pub struct Book<E: Seated> {
     archive: E,
     names: NameMap<Rel>,
     versions: Versions,
     history: Vec<Event>,
+    first_names: Snapshot<NameMap<Rel>>,
+    first_versions: Snapshot<Versions>,
 }
 
 impl<E: Seated> Model for Book<E> {
@@ -40,10 +45,19 @@ impl<E: Seated> Model for Book<E> {
 
     ghost Value = { Held E };
 
-    ghost view = { λ b. record { history = b.history.items; archive = b.archive } };
+    ghost view = { λ b. record {
+      history = b.history.items;
+      archive = b.archive;
+      first = record { names = b.first_names.value; versions = b.first_versions.value };
+    } };
 
-    ghost invariant = { λ b. AreLeft b.names b.versions b.history.items
-        × IsBook E.worker (record { history = b.history.items; archive = b.archive }) };
+    ghost invariant = { λ b. AreLeft b.names b.versions
+        (record { names = b.first_names.value; versions = b.first_versions.value }) b.history.items
+        × IsBook E.worker (record {
+          history = b.history.items;
+          archive = b.archive;
+          first = record { names = b.first_names.value; versions = b.first_versions.value };
+        }) };
 }
 
 impl<E: Seated> Book<E> {
@@ -51,13 +65,34 @@ impl<E: Seated> Book<E> {
     pub fn new(alloc: Global, archive: E) -> Book<E>
         requires spare { (E.worker archive).spare ≡ 1 }
         requires made { (E.worker archive).made ≡ 0 }
-        ensures { result ≡ record { history = []; archive = archive } }
+        ensures { result ≡ record { history = []; archive = archive; first = no_first } }
     {
+        Book::with(alloc, archive, NameMap::new(alloc), Versions::new(alloc))
+    }
+
+    /// A book that begins with these names and versions, over a worker in which the relations of the names stand, and
+    /// of which one other may be split off. Nothing has happened to the names yet. It takes no memory.
+    pub fn with(alloc: Global, archive: E, names: NameMap<Rel>, versions: Versions) -> Book<E>
+        requires spare { (E.worker archive).spare ≡ 1 }
+        requires made { (E.worker archive).made ≡ 0 }
+        requires stand { AllNamesStand (E.worker archive) names }
+        requires few { AreFew versions }
+        ensures { result ≡ record {
+          history = [];
+          archive = archive;
+          first = record { names = names; versions = versions };
+        } }
+    {
+        let first_names = Snapshot::of(&names);
+        let first_versions = Snapshot::of(&versions);
+        let history = Vec::new(alloc);
         Book {
             archive,
-            names: NameMap::new(alloc),
-            versions: Versions::new(alloc),
-            history: Vec::new(alloc),
+            names,
+            versions,
+            history,
+            first_names,
+            first_versions,
         }
     }
 
@@ -76,6 +111,7 @@ impl<E: Seated> Book<E> {
         ensures stand { IfOk result (λ v. StandAlike (E.worker self.old.archive) (E.worker mine.new) v.names.items) }
         ensures entered { OnOk result (self.new.history ≡ self.old.history ++ read_of session command ∷ []) }
         ensures as_before { OnErr result (self.new.history ≡ self.old.history) }
+        ensures first { self.new.first ≡ self.old.first }
         ensures same_names { names_of self.new ≡ names_of self.old }
         ensures archive { Learns (E.worker self.old.archive) (E.worker mine.old) (E.worker self.new.archive) }
         ensures mine { Learns (E.worker mine.old) (E.worker self.old.archive) (E.worker mine.new) }
@@ -96,6 +132,7 @@ impl<E: Seated> Book<E> {
     pub fn teach(&mut self, mine: &mut E)
         requires kin { Kin (E.worker mine.old) (E.worker self.old.archive) }
         ensures history { self.new.history ≡ self.old.history }
+        ensures first { self.new.first ≡ self.old.first }
         ensures archive { Learns (E.worker self.old.archive) (E.worker mine.old) (E.worker self.new.archive) }
         ensures mine { Learns (E.worker mine.old) (E.worker self.old.archive) (E.worker mine.new) }
     {
@@ -119,6 +156,7 @@ impl<E: Seated> Book<E> {
         ensures names { OnOk result (names_of self.new ≡ set_all list.items (names_of self.old)) }
         ensures entered { OnOk result (self.new.history ≡ self.old.history ++ assigns session command list.items) }
         ensures as_before { OnErr result (self.new.history ≡ self.old.history) }
+        ensures first { self.new.first ≡ self.old.first }
         ensures archive { Learns (E.worker self.old.archive) (E.worker mine.old) (E.worker self.new.archive) }
         ensures mine { Learns (E.worker mine.old) (E.worker self.old.archive) (E.worker mine.new) }
     {
@@ -152,6 +190,7 @@ impl<E: Seated> Book<E> {
         ensures entered { OnOk result (self.new.history
             ≡ self.old.history ++ assign_of session command (name, rel) ∷ []) }
         ensures as_before { OnErr result (self.new.history ≡ self.old.history) }
+        ensures first { self.new.first ≡ self.old.first }
         ensures archive { Learns (E.worker self.old.archive) (E.worker mine.old) (E.worker self.new.archive) }
         ensures mine { Learns (E.worker mine.old) (E.worker self.old.archive) (E.worker mine.new) }
     {
@@ -169,16 +208,17 @@ impl<E: Seated> Book<E> {
         )
     }
 
-    /// The version of a name: how often it was assigned or dropped. It takes no memory.
+    /// The version of a name: the one that it had first, and how often it was assigned or dropped since. It takes no
+    /// memory.
     pub fn version(&self, name: &Name) -> u64
-        ensures { result ≡ version name.now self.now.history }
+        ensures { result ≡ versions_of self.now name.now }
     {
         self.versions.of(name)
     }
 
-    /// Makes the assignments of a block, as `assign_all` does, where each name that the block read has still the version
-    /// that it had then. Else the first that has another is told, with both versions, and a read is entered. Versions
-    /// are compared, and never relations.
+    /// Makes the assignments of a block, as `assign_all` does, where each name that the block read has still the
+    /// version that it had then. Else the first that has another is told, with both versions, and a read is entered.
+    /// Versions are compared, and never relations.
     pub fn commit(
         &mut self,
         alloc: Global,
@@ -190,10 +230,11 @@ impl<E: Seated> Book<E> {
     ) -> Result<(), CommitRefused>
         requires kin { Kin (E.worker mine.old) (E.worker self.old.archive) }
         requires stand { All (λ gift. Stands (E.worker mine.old) gift.1) list.items }
-        ensures answer { IsCommitAnswer (change_since reads.now self.old.history) result }
+        ensures answer { IsCommitAnswer (change_since self.old.first.versions reads.now self.old.history) result }
         ensures names { names_of self.new ≡ committed list.items result (names_of self.old) }
         ensures entered { self.new.history
             ≡ self.old.history ++ commit_entries session command list.items result }
+        ensures first { self.new.first ≡ self.old.first }
         ensures archive { Learns (E.worker self.old.archive) (E.worker mine.old) (E.worker self.new.archive) }
         ensures mine { Learns (E.worker mine.old) (E.worker self.old.archive) (E.worker mine.new) }
     {
@@ -223,6 +264,7 @@ impl<E: Seated> Book<E> {
         ensures names { names_of self.new ≡ dropped name.now result (names_of self.old) }
         ensures answer { IsDropAnswer (lookup (names_of self.old) name.now) name.now result }
         ensures entered { self.new.history ≡ self.old.history ++ drop_entries session command name.now result }
+        ensures first { self.new.first ≡ self.old.first }
         ensures archive { self.new.archive ≡ self.old.archive }
     {
         let _ = &self.archive;
@@ -245,18 +287,22 @@ impl<E: Seated> Book<E> {
         self.history.as_slice()
     }
 
-    /// The archive and the history. It takes no memory.
-    pub fn into_parts(self) -> (E, Vec<Event>)
+    /// The archive, the history, and the names and versions as they are now. It takes no memory.
+    pub fn into_parts(self) -> (E, Vec<Event>, NameMap<Rel>, Versions)
         ensures archive { result.0 ≡ self.archive }
         ensures history { result.1.items ≡ self.history }
+        ensures names { result.2 ≡ names_of self }
+        ensures versions { (name : List ℕ) → noted result.3 name ≡ versions_of self name }
         ensures book { IsBook E.worker self }
     {
         let Book {
             archive,
-            names: _,
-            versions: _,
+            names,
+            versions,
             history,
+            first_names: _,
+            first_versions: _,
         } = self;
-        (archive, history)
+        (archive, history, names, versions)
     }
 }

@@ -1,7 +1,7 @@
 //! The assignments of a block, made where no name that it read has changed since.
 ghost use Rattle.std.specs.Prelude.{◌≡◌, ◌++◌, ◌∷◌, [], OnOk, OnErr};
-ghost use Rattle.run_model.specs.Versions.{version, versions_after};
-ghost use Rattle.rv_workspace.specs.Committing.{ChangeTold, change_since, committed, commit_entries, IsCommitAnswer};
+ghost use Rattle.rv_workspace.specs.Committing.{ChangeTold, committed, commit_entries};
+ghost use Rattle.rv_workspace.specs.Counting.{AreFewBehind, StayCounted, AnswersByVersions};
 ghost use Rattle.rv_workspace.specs.Entering.{read_of};
 
 use crate::giving::give_all;
@@ -53,10 +53,10 @@ pub(crate) fn commit_all(
     reads: &[(Name, u64)],
     list: Vec<(Name, Rel)>,
 ) -> Result<(), CommitRefused>
-    requires counted { versions.old ≡ versions_after [] history.old.items }
-    ensures answer { IsCommitAnswer (change_since reads.now history.old.items) result }
+    requires few { AreFewBehind versions.old history.old.items }
+    ensures answer { AnswersByVersions versions.old history.old.items reads.now result }
     ensures value { names.new ≡ committed list.items result names.old }
-    ensures versions { versions.new ≡ versions_after [] history.new.items }
+    ensures versions { StayCounted versions.old history.old.items versions.new history.new.items }
     ensures entered { history.new.items
         ≡ history.old.items ++ commit_entries session command list.items result }
 {

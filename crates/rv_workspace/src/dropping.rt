@@ -1,7 +1,8 @@
 //! A name that is dropped.
 ghost use Rattle.std.specs.Prelude.{◌≡◌, ◌<◌, ◌^◌, ◌++◌, ℕ, List, [], OnOk, OnErr, IsSome, vec_len, vec_capacity};
 ghost use Rattle.run_model.specs.Names.{lookup};
-ghost use Rattle.run_model.specs.Versions.{noted, raised, versions_after};
+ghost use Rattle.run_model.specs.Versions.{noted, raised};
+ghost use Rattle.rv_workspace.specs.Counting.{AreFewBehind, StayCounted};
 ghost use Rattle.rv_workspace.specs.Entering.{dropped, drop_entries, IsDropAnswer};
 
 use crate::refused::DropRefused;
@@ -33,10 +34,10 @@ fn remove_one(
     command: u32,
     name: Name,
 ) -> Result<(), DropRefused>
-    requires counted { versions.old ≡ versions_after [] history.old.items }
+    requires few { AreFewBehind versions.old history.old.items }
     requires room { vec_len history.old < vec_capacity history.old }
     requires there { IsSome (lookup names.old name) }
-    ensures versions { versions.new ≡ versions_after [] history.new.items }
+    ensures versions { StayCounted versions.old history.old.items versions.new history.new.items }
     ensures value { names.new ≡ dropped name result names.old }
     ensures entered { history.new.items ≡ history.old.items ++ drop_entries session command name result }
     ensures answer { IsDropAnswer (lookup names.old name) name result }
@@ -63,8 +64,8 @@ pub(crate) fn drop_one(
     command: u32,
     name: &Name,
 ) -> Result<(), DropRefused>
-    requires counted { versions.old ≡ versions_after [] history.old.items }
-    ensures versions { versions.new ≡ versions_after [] history.new.items }
+    requires few { AreFewBehind versions.old history.old.items }
+    ensures versions { StayCounted versions.old history.old.items versions.new history.new.items }
     ensures value { names.new ≡ dropped name.now result names.old }
     ensures entered { history.new.items ≡ history.old.items ++ drop_entries session command name.now result }
     ensures answer { IsDropAnswer (lookup names.old name.now) name.now result }

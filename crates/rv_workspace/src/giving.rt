@@ -2,7 +2,7 @@
 ghost use Rattle.std.specs.Prelude.{◌≡◌, ◌≤◌, ◌+◌, ◌∷◌, ◌++◌, [], IfOk, OnOk, OnErr, vec_len, vec_capacity};
 ghost use Rattle.name_map.specs.Giving.{set_all};
 ghost use Rattle.run_model.specs.Names.{names_of};
-ghost use Rattle.run_model.specs.Versions.{versions_after};
+ghost use Rattle.rv_workspace.specs.Counting.{AreFewBehind, StayCounted};
 ghost use Rattle.rv_workspace.specs.Entering.{assigns};
 
 use lang_model::syntax::Name;
@@ -49,9 +49,9 @@ pub(crate) fn give_all(
     command: u32,
     list: Vec<(Name, Rel)>,
 ) -> Result<(), NoMemory>
-    requires counted { versions.old ≡ versions_after [] history.old.items }
+    requires few { AreFewBehind versions.old history.old.items }
     ensures value { OnOk result (names.new ≡ set_all list.items names.old) }
-    ensures versions { versions.new ≡ versions_after [] history.new.items }
+    ensures versions { StayCounted versions.old history.old.items versions.new history.new.items }
     ensures entered { OnOk result (history.new.items ≡ history.old.items ++ assigns session command list.items) }
     ensures err { OnErr result (names.new ≡ names.old) }
     ensures err_history { OnErr result (history.new.items ≡ history.old.items) }
@@ -83,9 +83,9 @@ pub(crate) fn give_one(
     name: Name,
     rel: Rel,
 ) -> Result<(), NoMemory>
-    requires counted { versions.old ≡ versions_after [] history.old.items }
+    requires few { AreFewBehind versions.old history.old.items }
     ensures value { OnOk result (names.new ≡ set_all ((name, rel) ∷ []) names.old) }
-    ensures versions { versions.new ≡ versions_after [] history.new.items }
+    ensures versions { StayCounted versions.old history.old.items versions.new history.new.items }
     ensures entered { OnOk result (history.new.items ≡ history.old.items
         ++ assigns session command ((name, rel) ∷ [])) }
     ensures err { OnErr result (names.new ≡ names.old) }

@@ -6,6 +6,7 @@ use Rattle.lang_model.specs.declared.syntax.Command.TheVariants.{Atomic as ATOMI
 use Rattle.lang_model.specs.declared.syntax.Item.TheVariants.{Command as COMMAND}
 use Rattle.rv_sessions.specs.Acting.{DidItem}
 use Rattle.rv_sessions.specs.Blocking.{gifts_in}
+use Rattle.rv_sessions.specs.Standing.{first_names, first_versions}
 use Rattle.rv_sessions.specs.Turning.{versions_in, CommitTurn}
 use Rattle.rv_sessions.proofs.Committing.{block_unread, read_lacks, stopped_there, values_there, room_there, block_stopped, commit_done, commit_refused}
 use Rattle.rv_sessions.proofs.FoldingTurns.{through_none}
@@ -32,7 +33,8 @@ pub block_values-requires : goal.block_values-requires
 block_values-requires g c =
     let r = c.in-Ok-block_turn.ensures.read in
     record {
-      standing = wanted_stand (g.E.Core.worker c.block_turn.new.engine) c.in-Ok.reads.items r.0 c.in-Ok-block_turn.view.names.items r.1.stand r.2;
+      standing = wanted_stand (g.E.Core.worker c.block_turn.new.engine) c.in-Ok.reads.items (first_names c.args.pass.now) r.0 c.in-Ok-block_turn.view.names.items
+          r.1.first_stand r.1.stand r.2;
     }
 
 pub returns-in-Err-block_values : goal.returns-in-Err-block_values
@@ -50,9 +52,9 @@ returns-in-Err-block_values g c input snaps i stood =
     let reads_are = c.in-Ok.ensures ∙ ap block_reads (c.as_slice.ensures.value ∙ sym slice_is) in
     block_stopped g.E.Core.least input a.checked.now a.by.session a.by.command lets old a.pass.now snaps stood mid c.block_turn.new.pass r.0 r.1
     end c.block_turn.new.pass (through_none c.block_turn.new.pass) c.block_values.ensures.keeps
-    (room_there input a.checked.now lets.items slice a.turns c.in-Ok.reads.items view.names.items r.0 mid end r.1.stand slice_is reads_are r.2 c.block_values.ensures.keeps i g.E.Core.least c.block_values.ensures.room)
+    (room_there input a.checked.now lets.items slice a.turns c.in-Ok.reads.items view.names.items (first_names a.pass.now) r.0 mid end r.1.first_stand r.1.stand slice_is reads_are r.2 c.block_values.ensures.keeps i g.E.Core.least c.block_values.ensures.room)
     c.in-Err-block_values.outcome c.refused.result
-    (stopped_there input a.checked.now lets.items slice a.turns c.in-Ok.reads.items view.names.items r.0 mid end r.1.stand slice_is reads_are r.2 c.block_values.ensures.keeps i c.in-Err-block_values.outcome c.in-Err-block_values.ensures.came) c.refused.ensures
+    (stopped_there input a.checked.now lets.items slice a.turns c.in-Ok.reads.items view.names.items (first_names a.pass.now) r.0 mid end r.1.first_stand r.1.stand slice_is reads_are r.2 c.block_values.ensures.keeps i c.in-Err-block_values.outcome c.in-Err-block_values.ensures.came) c.refused.ensures
 
 pub returns-in-Ok-commit_turn : goal.returns-in-Ok-commit_turn
 returns-in-Ok-commit_turn g c input snaps i stood =
@@ -69,9 +71,9 @@ returns-in-Ok-commit_turn g c input snaps i stood =
     let reads_are = c.in-Ok.ensures ∙ ap block_reads (c.as_slice.ensures.value ∙ sym slice_is) in
     let new = w c.commit_turn.new.engine in
     let list = c.in-Ok-block_values.list.items in
-    let due = values_there input a.checked.now lets.items slice a.turns c.in-Ok.reads.items view.names.items r.0 mid end r.1.stand slice_is reads_are r.2 c.block_values.ensures.keeps i (Values (gifts_in end list)) c.in-Ok-block_values.ensures.came.1 in
-    let room = room_there input a.checked.now lets.items slice a.turns c.in-Ok.reads.items view.names.items r.0 mid end r.1.stand slice_is reads_are r.2 c.block_values.ensures.keeps i g.E.Core.least c.block_values.ensures.room in
-    let versions = c.as_slice-3.ensures.value ∙ r.3 ∙ ap (versions_in r.0) (reads_are ∙ ap block_reads slice_is) in
+    let due = values_there input a.checked.now lets.items slice a.turns c.in-Ok.reads.items view.names.items (first_names a.pass.now) r.0 mid end r.1.first_stand r.1.stand slice_is reads_are r.2 c.block_values.ensures.keeps i (Values (gifts_in end list)) c.in-Ok-block_values.ensures.came.1 in
+    let room = room_there input a.checked.now lets.items slice a.turns c.in-Ok.reads.items view.names.items (first_names a.pass.now) r.0 mid end r.1.first_stand r.1.stand slice_is reads_are r.2 c.block_values.ensures.keeps i g.E.Core.least c.block_values.ensures.room in
+    let versions = c.as_slice-3.ensures.value ∙ r.3 ∙ ap (versions_in (first_versions a.pass.now) r.0) (reads_are ∙ ap block_reads slice_is) in
     let sizes : HasSizes new = record { rows = g.met.E.Core.row_size c.commit_turn.new.engine; cols = g.met.E.Core.col_size c.commit_turn.new.engine } in
     subst (λ x. DidItem g.E.Core.least input a.checked.now a.by.session a.by.command (COMMAND (ATOMIC lets)) old new a.pass.now c.commit_turn.new.pass snaps snaps (Ok x)) (sym c.done.ensures)
     (commit_done g.E.Core.least input a.checked.now a.by.session a.by.command lets old a.pass.now snaps stood mid c.block_turn.new.pass r.0 r.1
@@ -93,9 +95,9 @@ returns g c input snaps i stood =
     let reads_are = c.in-Ok.ensures ∙ ap block_reads (c.as_slice.ensures.value ∙ sym slice_is) in
     let new = w c.commit_turn.new.engine in
     let list = c.in-Ok-block_values.list.items in
-    let due = values_there input a.checked.now lets.items slice a.turns c.in-Ok.reads.items view.names.items r.0 mid end r.1.stand slice_is reads_are r.2 c.block_values.ensures.keeps i (Values (gifts_in end list)) c.in-Ok-block_values.ensures.came.1 in
-    let room = room_there input a.checked.now lets.items slice a.turns c.in-Ok.reads.items view.names.items r.0 mid end r.1.stand slice_is reads_are r.2 c.block_values.ensures.keeps i g.E.Core.least c.block_values.ensures.room in
-    let versions = c.as_slice-3.ensures.value ∙ r.3 ∙ ap (versions_in r.0) (reads_are ∙ ap block_reads slice_is) in
+    let due = values_there input a.checked.now lets.items slice a.turns c.in-Ok.reads.items view.names.items (first_names a.pass.now) r.0 mid end r.1.first_stand r.1.stand slice_is reads_are r.2 c.block_values.ensures.keeps i (Values (gifts_in end list)) c.in-Ok-block_values.ensures.came.1 in
+    let room = room_there input a.checked.now lets.items slice a.turns c.in-Ok.reads.items view.names.items (first_names a.pass.now) r.0 mid end r.1.first_stand r.1.stand slice_is reads_are r.2 c.block_values.ensures.keeps i g.E.Core.least c.block_values.ensures.room in
+    let versions = c.as_slice-3.ensures.value ∙ r.3 ∙ ap (versions_in (first_versions a.pass.now) r.0) (reads_are ∙ ap block_reads slice_is) in
     commit_refused g.E.Core.least input a.checked.now a.by.session a.by.command lets old a.pass.now snaps stood mid c.block_turn.new.pass r.0 r.1
     end new c.commit_turn.new.pass list c.block_values.ensures.keeps room c.in-Ok-block_values.ensures.came.0 due c.in-Err-commit_turn.why c.not_committed.result
     (subst (λ vs. CommitTurn a.by.session a.by.command vs list end new c.block_turn.new.pass c.commit_turn.new.pass (Err c.in-Err-commit_turn.why)) versions c.in-Err-commit_turn.ensures.committed)

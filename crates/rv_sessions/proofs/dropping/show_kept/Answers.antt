@@ -2,7 +2,7 @@ use Rattle.std.proofs.Common.{◌∙◌, Some, sym, ap, subst}
 use Rattle.run_model.specs.Due.{printed}
 use Rattle.lang_model.specs.Eval.{evaluated}
 use Rattle.rv_eval.specs.Names.{state_of}
-use Rattle.rv_sessions.specs.Standing.{AllNamesStand}
+use Rattle.rv_workspace.specs.Books.{AllNamesStand}
 use Rattle.rv_sessions.proofs.Looking.{snap_stands}
 use Rattle.rv_sessions.proofs.Telling.{stopped_not_done}
 use Rattle.rv_sessions.proofs.Asking.{at_shown, at_stopped}

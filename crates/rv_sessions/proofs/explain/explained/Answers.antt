@@ -5,6 +5,7 @@ use Rattle.lang_model.specs.Eval.{early_fault}
 use Rattle.rv_eval.specs.Names.{HasSizes, state_of}
 use Rattle.rv_sessions.proofs.Acting.{not_read}
 use Rattle.rv_sessions.proofs.Explaining.{explained_not_done, explain_unread, explain_done, explain_refused}
+use Rattle.rv_sessions.specs.Standing.{first_names}
 use Rattle.rv_sessions.proofs.Looking.{wanted_stand}
 use Rattle.rv_sessions.proofs.Telling.{untouched}
 use Rattle.rv_sessions.proofs.explain.explained.Goals as goal
@@ -34,7 +35,7 @@ returns-in-Ok-explained_on g c input snaps stood =
     let sizes : HasSizes new = record { rows = g.met.E.Core.row_size c.read_turn.new.engine; cols = g.met.E.Core.col_size c.read_turn.new.engine } in
     explain_done g.E.Core.least input a.checked.now a.by.session a.by.command a.expr.now (w a.engine.now) new a.pass.now c.read_turn.new.pass snaps stood
     r.0 r.1 ws names (c.as_slice.ensures.value ∙ c.in-Ok.ensures) n c.in-Ok-explained_on.body.items
-    (c.in-Ok-explained_on.ensures new sizes (wanted_stand new ws r.0 names r.1.stand n))
+    (c.in-Ok-explained_on.ensures new sizes (wanted_stand new ws (first_names a.pass.now) r.0 names r.1.first_stand r.1.stand n))
 
 pub refused-requires : goal.refused-requires
 refused-requires g c =
@@ -45,7 +46,7 @@ refused-requires g c =
     let names = c.as_slice-2.result.now in
     let sizes : HasSizes new = record { rows = g.met.E.Core.row_size c.read_turn.new.engine; cols = g.met.E.Core.col_size c.read_turn.new.engine } in
     explained_not_done (early_fault a.checked.now (state_of new names) a.expr.now) (steps_of (tree_of a.expr.now)) c.in-Err-explained_on.outcome
-    (c.in-Err-explained_on.ensures new sizes (wanted_stand new ws r.0 names r.1.stand (c.as_slice-2.ensures.value ∙ r.2)))
+    (c.in-Err-explained_on.ensures new sizes (wanted_stand new ws (first_names a.pass.now) r.0 names r.1.first_stand r.1.stand (c.as_slice-2.ensures.value ∙ r.2)))
 
 pub returns : goal.returns
 returns g c input snaps stood =
@@ -59,4 +60,4 @@ returns g c input snaps stood =
     let sizes : HasSizes new = record { rows = g.met.E.Core.row_size c.read_turn.new.engine; cols = g.met.E.Core.col_size c.read_turn.new.engine } in
     explain_refused g.E.Core.least input a.checked.now a.by.session a.by.command a.expr.now (w a.engine.now) new a.pass.now c.read_turn.new.pass snaps stood
     r.0 r.1 ws names (c.as_slice.ensures.value ∙ c.in-Ok.ensures) n c.in-Err-explained_on.outcome c.refused.result
-    (c.in-Err-explained_on.ensures new sizes (wanted_stand new ws r.0 names r.1.stand n)) c.refused.ensures
+    (c.in-Err-explained_on.ensures new sizes (wanted_stand new ws (first_names a.pass.now) r.0 names r.1.first_stand r.1.stand n)) c.refused.ensures

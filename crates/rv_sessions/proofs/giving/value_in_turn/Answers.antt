@@ -1,4 +1,5 @@
 use Rattle.std.proofs.Common.{◌∙◌, inr}
+use Rattle.rv_sessions.specs.Standing.{first_names}
 use Rattle.rv_sessions.proofs.Looking.{wanted_stand}
 use Rattle.rv_sessions.proofs.Acting.{was_valued}
 use Rattle.rv_sessions.proofs.giving.value_in_turn.Goals as goal
@@ -7,7 +8,8 @@ pub value_on-requires : goal.value_on-requires
 value_on-requires g c =
     let r = c.in-Ok-read_turn.ensures.read in
     record {
-      standing = wanted_stand (g.E.Core.worker c.read_turn.new.engine) c.as_slice.result.now r.0 c.as_slice-in-Ok-read_turn.result.now r.1.stand
+      standing = wanted_stand (g.E.Core.worker c.read_turn.new.engine) c.as_slice.result.now (first_names c.args.pass.now) r.0 c.as_slice-in-Ok-read_turn.result.now
+          r.1.first_stand r.1.stand
           (c.as_slice-in-Ok-read_turn.ensures.value ∙ r.2);
     }
 

@@ -1,5 +1,6 @@
 use Rattle.std.proofs.Common.{◌∙◌, inr}
 use Rattle.rv_sessions.specs.Told.{bytes_of}
+use Rattle.rv_sessions.specs.Standing.{first_names}
 use Rattle.rv_sessions.proofs.Looking.{wanted_stand}
 use Rattle.rv_sessions.proofs.Acting.{was_shown}
 use Rattle.rv_sessions.proofs.showing.shown_in_turn.Goals as goal
@@ -8,7 +9,8 @@ pub shown_on-requires : goal.shown_on-requires
 shown_on-requires g c =
     let r = c.in-Ok-read_turn.ensures.read in
     record {
-      standing = wanted_stand (g.E.Core.worker c.read_turn.new.engine) c.as_slice.result.now r.0 c.as_slice-in-Ok-read_turn.result.now r.1.stand
+      standing = wanted_stand (g.E.Core.worker c.read_turn.new.engine) c.as_slice.result.now (first_names c.args.pass.now) r.0 c.as_slice-in-Ok-read_turn.result.now
+          r.1.first_stand r.1.stand
           (c.as_slice-in-Ok-read_turn.ensures.value ∙ r.2);
     }
 

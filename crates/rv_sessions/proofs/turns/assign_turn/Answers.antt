@@ -1,7 +1,13 @@
 use Rattle.std.proofs.Common.{◌∷◌, []}
 use Rattle.rv_workspace.specs.Entering.{assign_of}
-use Rattle.rv_sessions.proofs.Turning.{learnt, put_begins, put_took}
+use Rattle.rv_sessions.proofs.Turning.{learnt, first_learnt, start_back, put_begins, put_took}
 use Rattle.rv_sessions.proofs.turns.assign_turn.Goals as goal
+
+pub put-requires-clause-start : goal.put-requires-clause-start
+put-requires-clause-start g c =
+    let t = c.take-taken in
+    let r = c.assign-assigned in
+    start_back t.result.history t.result.first r.new.self.first t.new.pass c.args.pass.now t.ensures.takes t.ensures.start r.ensures.first
 
 pub put-requires-clause-begins : goal.put-requires-clause-begins
 put-requires-clause-begins g c =
@@ -21,5 +27,6 @@ returns g c =
           t.result.history r.new.self.history r.result c.requires.ready.idle t.ensures.takes t.ensures.begins c.put.ensures
           r.ensures.entered r.ensures.as_before
           (learnt (w t.result.archive) (w c.args.engine.now) (w r.new.mine) t.result.history c.history.ensures.book.stand r.ensures.mine)
+          (first_learnt (w t.result.archive) (w c.args.engine.now) (w r.new.mine) t.result.first c.args.pass.now t.ensures.start c.history.ensures.book.first_stand r.ensures.mine)
           r.ensures.mine.stays;
     }

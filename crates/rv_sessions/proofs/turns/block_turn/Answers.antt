@@ -1,9 +1,16 @@
 use Rattle.std.proofs.Common.{◌∙◌, ◌∷◌, [], inl, inr, Some, ap}
-use Rattle.run_model.specs.Carried.{carried}
+use Rattle.run_model.specs.Carried.{First, carried_from}
 use Rattle.rv_workspace.specs.Entering.{read_of}
 use Rattle.rv_workspace.specs.Picking.{picked}
-use Rattle.rv_sessions.proofs.Turning.{learnt, read_begins, took, with_nothing, versions-read}
+use Rattle.rv_sessions.specs.Standing.{first_versions}
+use Rattle.rv_sessions.proofs.Turning.{learnt, first_is, first_learnt, start_back, read_begins, took, with_nothing, versions-read}
 use Rattle.rv_sessions.proofs.turns.block_turn.Goals as goal
+
+pub put-requires-clause-start : goal.put-requires-clause-start
+put-requires-clause-start g c =
+    let t = c.take-taken in
+    let r = c.read-view in
+    start_back t.result.history t.result.first r.new.self.first t.new.pass c.args.pass.now t.ensures.takes t.ensures.start r.ensures.first
 
 pub put-requires-clause-begins : goal.put-requires-clause-begins
 put-requires-clause-begins g c =
@@ -20,14 +27,18 @@ returns-in-Ok-versions g c =
     let s = c.args.by.session in
     let k = c.args.by.command in
     let log = t.result.history in
+    let is = first_is t.result.first c.args.pass.now t.ensures.start in
     record {
       read = (
         log,
         took (w c.args.engine.now) (w r.new.mine) c.args.pass.now t.new.pass c.put.new.pass log r.new.self.history (read_of s k ∷ []) c.requires.ready.idle
             t.ensures.takes t.ensures.begins c.put.ensures c.in-Ok.ensures.entered
-            (learnt (w t.result.archive) (w c.args.engine.now) (w r.new.mine) log c.history.ensures.book.stand r.ensures.mine) r.ensures.mine.stays,
-        c.in-Ok.ensures.names ∙ ap (λ ws. picked (Some ws) (carried log)) c.as_slice.ensures.value,
-        c.in-Ok-versions.ensures ∙ versions-read s k log r.new.self.history c.args.reads.items c.in-Ok.ensures.entered,
+            (learnt (w t.result.archive) (w c.args.engine.now) (w r.new.mine) log c.history.ensures.book.stand r.ensures.mine)
+            (first_learnt (w t.result.archive) (w c.args.engine.now) (w r.new.mine) t.result.first c.args.pass.now t.ensures.start c.history.ensures.book.first_stand r.ensures.mine) r.ensures.mine.stays,
+        c.in-Ok.ensures.names ∙ ap (λ ws. picked (Some ws) (carried_from t.result.first.names log)) c.as_slice.ensures.value
+            ∙ ap (λ (f : First). picked (Some c.args.reads.items) (carried_from f.names log)) is,
+        c.in-Ok-versions.ensures ∙ versions-read s k (first_versions c.args.pass.now) r.new.self.first.versions log r.new.self.history c.args.reads.items
+            (ap (λ (f : First). f.versions) (r.ensures.first ∙ is)) c.in-Ok.ensures.entered,
       );
     }
 
@@ -42,7 +53,8 @@ returns-in-Err-versions g c =
         log,
         inl (took (w c.args.engine.now) (w r.new.mine) c.args.pass.now t.new.pass c.put.new.pass log r.new.self.history
             (read_of c.args.by.session c.args.by.command ∷ []) c.requires.ready.idle t.ensures.takes t.ensures.begins c.put.ensures c.in-Ok.ensures.entered
-            (learnt (w t.result.archive) (w c.args.engine.now) (w r.new.mine) log c.history.ensures.book.stand r.ensures.mine) r.ensures.mine.stays),
+            (learnt (w t.result.archive) (w c.args.engine.now) (w r.new.mine) log c.history.ensures.book.stand r.ensures.mine)
+            (first_learnt (w t.result.archive) (w c.args.engine.now) (w r.new.mine) t.result.first c.args.pass.now t.ensures.start c.history.ensures.book.first_stand r.ensures.mine) r.ensures.mine.stays),
       );
     }
 
@@ -57,6 +69,7 @@ returns-in-Err g c =
         log,
         inr (took (w c.args.engine.now) (w r.new.mine) c.args.pass.now t.new.pass c.put.new.pass log r.new.self.history [] c.requires.ready.idle
             t.ensures.takes t.ensures.begins c.put.ensures (with_nothing log r.new.self.history c.in-Err.ensures.as_before)
-            (learnt (w t.result.archive) (w c.args.engine.now) (w r.new.mine) log c.history.ensures.book.stand r.ensures.mine) r.ensures.mine.stays),
+            (learnt (w t.result.archive) (w c.args.engine.now) (w r.new.mine) log c.history.ensures.book.stand r.ensures.mine)
+            (first_learnt (w t.result.archive) (w c.args.engine.now) (w r.new.mine) t.result.first c.args.pass.now t.ensures.start c.history.ensures.book.first_stand r.ensures.mine) r.ensures.mine.stays),
       );
     }

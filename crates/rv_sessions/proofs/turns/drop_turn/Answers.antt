@@ -1,9 +1,15 @@
 use Rattle.std.proofs.Common.{◌∙◌, ◌++◌, ap, subst}
 use Rattle.run_model.specs.Names.{lookup}
-use Rattle.run_model.specs.Carried.{carried}
+use Rattle.run_model.specs.Carried.{First, carried_from}
 use Rattle.rv_workspace.specs.Entering.{drop_entries, IsDropAnswer}
-use Rattle.rv_sessions.proofs.Turning.{learnt, begins_back, took}
+use Rattle.rv_sessions.proofs.Turning.{learnt, first_is, first_learnt, start_back, begins_back, took}
 use Rattle.rv_sessions.proofs.turns.drop_turn.Goals as goal
+
+pub put-requires-clause-start : goal.put-requires-clause-start
+put-requires-clause-start g c =
+    let t = c.take-taken in
+    let d = c.drop_name-dropped in
+    start_back t.result.history t.result.first d.new.self.first t.new.pass c.args.pass.now t.ensures.takes t.ensures.start (d.ensures.first ∙ c.teach.ensures.first)
 
 pub put-requires-clause-begins : goal.put-requires-clause-begins
 put-requires-clause-begins g c =
@@ -26,7 +32,10 @@ returns g c =
             c.requires.ready.idle t.ensures.takes t.ensures.begins c.put.ensures
             (d.ensures.entered ∙ ap (λ z. z ++ puts) c.teach.ensures.history)
             (learnt (w t.result.archive) (w c.args.engine.now) (w c.teach.new.mine) t.result.history c.history.ensures.book.stand c.teach.ensures.mine)
+            (first_learnt (w t.result.archive) (w c.args.engine.now) (w c.teach.new.mine) t.result.first c.args.pass.now t.ensures.start c.history.ensures.book.first_stand c.teach.ensures.mine)
             c.teach.ensures.mine.stays,
-        subst (λ h. IsDropAnswer (lookup (carried h) n) n d.result) c.teach.ensures.history d.ensures.answer,
+        subst (λ (f : First). IsDropAnswer (lookup (carried_from f.names t.result.history) n) n d.result)
+            (c.teach.ensures.first ∙ first_is t.result.first c.args.pass.now t.ensures.start)
+            (subst (λ h. IsDropAnswer (lookup (carried_from c.teach.new.self.first.names h) n) n d.result) c.teach.ensures.history d.ensures.answer),
       );
     }

@@ -1,5 +1,11 @@
-use Rattle.rv_sessions.proofs.Turning.{learnt, read_begins, read_took}
+use Rattle.rv_sessions.proofs.Turning.{learnt, first_is, first_learnt, start_back, read_begins, read_took}
 use Rattle.rv_sessions.proofs.turns.read_turn.Goals as goal
+
+pub put-requires-clause-start : goal.put-requires-clause-start
+put-requires-clause-start g c =
+    let t = c.take-taken in
+    let r = c.read-view in
+    start_back t.result.history t.result.first r.new.self.first t.new.pass c.args.pass.now t.ensures.takes t.ensures.start r.ensures.first
 
 pub put-requires-clause-begins : goal.put-requires-clause-begins
 put-requires-clause-begins g c =
@@ -15,8 +21,9 @@ returns g c =
     let w = g.E.Core.worker in
     record {
       read = read_took c.args.by.session c.args.by.command _ (w c.args.engine.now) (w r.new.mine) c.args.pass.now t.new.pass c.put.new.pass
-          t.result.history r.new.self.history r.result c.requires.ready.idle t.ensures.takes t.ensures.begins c.put.ensures
+          t.result.history r.new.self.history r.result t.result.first (first_is t.result.first c.args.pass.now t.ensures.start) c.requires.ready.idle t.ensures.takes t.ensures.begins c.put.ensures
           r.ensures.entered r.ensures.as_before r.ensures.names
           (learnt (w t.result.archive) (w c.args.engine.now) (w r.new.mine) t.result.history c.history.ensures.book.stand r.ensures.mine)
+          (first_learnt (w t.result.archive) (w c.args.engine.now) (w r.new.mine) t.result.first c.args.pass.now t.ensures.start c.history.ensures.book.first_stand r.ensures.mine)
           r.ensures.mine.stays;
     }

@@ -1,10 +1,10 @@
 use Rattle.std.proofs.Common.{◌∙◌, ap}
-use Rattle.run_model.specs.Versions.{version}
+use Rattle.rv_workspace.specs.Books.{versions_of}
 use Rattle.rv_workspace.proofs.Noting.{told_of}
 use Rattle.rv_workspace.proofs.book.Book.version.Goals as goal
 
 pub returns : goal.returns
 returns g c =
     let n = c.args.name.now in
-    c.of.ensures ∙ told_of c.self.inside.versions c.self.inside.history.items n c.self.invariant.0.versions_left
-    ∙ ap (λ k. version n k.history) c.self.view_is
+    c.of.ensures ∙ told_of c.self.inside.versions c.self.inside.first_versions.value c.self.inside.history.items n c.self.invariant.0.versions_left
+    ∙ ap (λ k. versions_of k n) c.self.view_is
