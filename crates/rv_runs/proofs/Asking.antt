@@ -35,8 +35,7 @@ use Rattle.run_model.specs.Events.{Entry, entry_of, HasDeeds, AreEvents}
 use Rattle.run_model.specs.Outcomes.{IsOutcome, AreOutcomes}
 use Rattle.run_model.specs.Page.{reply, replies, save_at, saves_of}
 use Rattle.run_model.specs.Cost.{cost_of_command, cost_of_item, cost_of_step, cost_of_steps}
-use Rattle.run_model.specs.Names.{no_names}
-use Rattle.run_model.specs.Carried.{no_first}
+use Rattle.run_model.specs.Carried.{First}
 use Rattle.run_model.specs.Turns.{Turn, puts_of}
 use Rattle.run_model.specs.Sessions.{rels_of, HasValuesAt, HasValues, RunsTurns, steps_taken}
 
@@ -155,15 +154,15 @@ module _ (files : List RelationFile) (turns : ℕ) where
       all_costs_alike leaf [] = refl
       all_costs_alike leaf (step ∷ steps) = (λ i. step_cost leaf step i + all_costs_alike leaf steps i)
 
-      pub turns_alike : (means : Rel → Relation) (s : ℕ) (outcomes : List Outcome) (ts : List Turn) (old new : List Event) →
-          RunsTurns one no_first means s script outcomes ts old new → RunsTurns other no_first means s script outcomes ts old new
-      turns_alike means s outcomes ts old new r = record {
+      pub turns_alike : (first : First) (means : Rel → Relation) (s : ℕ) (outcomes : List Outcome) (ts : List Turn) (old new : List Event) →
+          RunsTurns one first means s script outcomes ts old new → RunsTurns other first means s script outcomes ts old new
+      turns_alike first means s outcomes ts old new r = record {
         turns = r.turns;
         own = r.own;
         once = r.once;
         each = r.each;
-        events = events_alike s (steps_taken no_names means ts script outcomes) (map entry_of (puts_of ts)) r.events;
-        outcomes_due = outcomes_alike (steps_taken no_names means ts script outcomes) r.outcomes_due;
-        values = values_alike means (puts_of ts) (steps_taken no_names means ts script outcomes) r.values;
+        events = events_alike s (steps_taken first.names means ts script outcomes) (map entry_of (puts_of ts)) r.events;
+        outcomes_due = outcomes_alike (steps_taken first.names means ts script outcomes) r.outcomes_due;
+        values = values_alike means (puts_of ts) (steps_taken first.names means ts script outcomes) r.values;
         commits = r.commits;
       }

@@ -2,7 +2,7 @@
 -- 1. A worker that takes in another holds all that stood in either, and has missed something where either has.
 -- 2. So it does after each piece of work, with what all of them made and had to spare.
 -- 3. The passes of works hold one list of events each, and stand for one place each.
-use Rattle.std.proofs.Common.{◌≡◌, ◌<◌, ◌+◌, ◌-◌, ◌*◌, ◌^◌, suc, ℕ, List, [], ◌∷◌, ◌++◌, map, length, refl, sym, ap, subst, ◌∙◌, arith, All, Some}
+use Rattle.std.proofs.Common.{◌≡◌, ◌<◌, ◌+◌, ◌-◌, ◌*◌, ◌^◌, suc, ℕ, List, [], ◌∷◌, ◌++◌, map, length, refl, sym, ap, subst, ◌∙◌, arith, All, Some, get_or}
 use Rattle.std.specs.Prelude.{IsSome, min}
 use Rattle.std.proofs.lemmas.List.Elements.{All-append, All-cons, All-nil, All-weaker}
 use Rattle.rel_model.specs.Worker.{Worker}
@@ -11,10 +11,12 @@ use Rattle.turn_book.specs.Logs.{Begins}
 use Rattle.turn_book.specs.Views.{View, with_other}
 use Rattle.turn_book.specs.Joined.{places, all_lists, JoinsAll}
 use Rattle.turn_book.proofs.Joining.{joins_one_more}
-use Rattle.turn_book.specs.Views.{Book, House}
+use Rattle.run_model.specs.Carried.{First}
+use Rattle.rv_workspace.specs.Starts.{first_of}
+use Rattle.turn_book.specs.Views.{Book, House, Start}
 use Rattle.rv_sessions.specs.declared.transcript.Transcript.{Transcript}
 use Rattle.rv_runs.specs.declared.work.Work.{Work}
-use Rattle.rv_runs.specs.Works.{IsAbsorbed, CanJoin, TakesAll, HaveHouse, made_by, pass_of, told_of}
+use Rattle.rv_runs.specs.Works.{IsAbsorbed, CanJoin, TakesAll, HaveHouse, HaveStart, made_by, pass_of, told_of}
 
 -- what is true of all is true of each
 pub there : {X : Type 0} (P : X → Type 0) (ys zs : List X) (w : X) → All P (ys ++ w ∷ zs) → P w
@@ -108,6 +110,15 @@ module _ {E : Type 0} where
     pub next_joins : (works yielded rest later : List (Work E)) (w : Work E) → All (CanJoin worker book) works → works ≡ yielded ++ rest → rest ≡ w ∷ later → CanJoin worker book w
     next_joins works yielded rest later w all is next =
         there (CanJoin worker book) yielded later w (subst (λ (l : List (Work E)). All (CanJoin worker book) l) (is ∙ ap (λ (l : List (Work E)). yielded ++ l) next) all)
+
+  -- what the passes of all began with is that of each
+  pub all_began : (start : Start) (first : First) (works : List (Work E)) → first_of start ≡ first → HaveStart start works → All (λ work. first_of work.pass.start ≡ first) works
+  all_began start first works is h = All-weaker (λ work. work.pass.start ≡ start) (λ work. first_of work.pass.start ≡ first) (λ work e. ap first_of e ∙ is) works h
+
+  -- works that keep theirs
+  pub starts_stay : (start : Start) (old new : List (Work E)) → HaveStart start old → length new ≡ length old
+      → ((k : ℕ) (d : Work E) → k < length old → (get_or new k d).pass.start ≡ (get_or old k d).pass.start) → HaveStart start new
+  starts_stay start old new h l s k d b = s k d (omega (arith, b, l)) ∙ h k d (omega (arith, b, l))
 
   -- its pass is of the house of all
   pub next_house : (house : House) (works yielded rest later : List (Work E)) (w : Work E) → HaveHouse house works → works ≡ yielded ++ rest → rest ≡ w ∷ later → w.pass.house ≡ house

@@ -1,7 +1,6 @@
--- Works whose sessions told something, as parts of a run: their passes make up the closed log.
--- 1. The parts of a run are the works, each with its script and its transcript.
--- 2. All events of a session's own are of its number.
--- 3. So the events of each number in the closed log are its session's own, and none is of another number.
+-- Sessions that have ended, numbered from some number on: their passes make up the closed log of their batch.
+-- 1. All events of a session's own are of its number.
+-- 2. So the events of each number in the closed log are its session's own, and none is of another number.
 use Rattle.std.specs.List.{AllByRecursion, filter}
 use Rattle.std.proofs.Common.{◌≡◌, ◌<◌, ◌≤◌, ◌≢◌, ◌+◌, ◌++◌, ◌⊎◌, ℕ, zero, suc, Bool, true, cond, eqb, List, [], ◌∷◌, length, refl, sym, ap, subst, ◌∙◌, map, inl, inr, arith, get_or}
 use Rattle.std.proofs.lemmas.Bool.{cases_Bool, cases_lt, eq-eqb, ne_eqb}
@@ -9,14 +8,17 @@ use Rattle.rel_model.specs.Worker.{Worker}
 use Rattle.run_model.specs.declared.event.Event.{Event}
 use Rattle.run_model.specs.Inputs.{Input, Reading, NoScript, Flawed, Runs}
 use Rattle.run_model.specs.States.{events_of}
+use Rattle.run_model.specs.Carried.{First}
 use Rattle.run_model.specs.Turns.{BeginsLog, Turn, puts_of, IsTurn}
 use Rattle.turn_book.specs.Logs.{MakeUp, pick}
 use Rattle.turn_book.specs.Views.{View}
 use Rattle.turn_book.proofs.Sharing.{its_own, no_ones}
 use Rattle.rv_sessions.specs.declared.transcript.Transcript.{Transcript}
 use Rattle.rv_sessions.specs.Sessions.{DidReading}
+use Rattle.rv_workspace.specs.Starts.{first_of}
+use Rattle.rv_runs.specs.Past.{IsWithin}
 use Rattle.rv_runs.specs.Works.{HasRun, IsAbsorbed}
-use Rattle.rv_runs.proofs.Accounts.{Part, Accounts}
+use Rattle.rv_runs.proofs.Accounts.{Session, Accounts}
 
 -- ---- tests of numbers
 abbrev is_of : ℕ → Event → Bool
@@ -54,97 +56,103 @@ did_own leaf given s (Flawed fault) old new before after told d none = subst (Ar
 did_own leaf given s (Runs script) old new before after told d none =
     subst (AreOf s) (sym (d.mine ∙ ap (λ l. l ++ puts_of d.ts) none)) (puts_own s d.ts d.runs.own)
 
--- each part ran, from number s on
-abbrev pub AllHaveRun : ℕ → Input → ℕ → List Part → Type 0
+-- each session ran, from number s on
+abbrev pub AllHaveRun : ℕ → Input → ℕ → List Session → Type 0
 AllHaveRun leaf given s [] = Unit {0}
-AllHaveRun leaf given s (part ∷ parts) = HasRun leaf given s part.bytes part.own part.pass part.told × AllHaveRun leaf given (s + 1) parts
+AllHaveRun leaf given s (one ∷ ones) = HasRun leaf given s one.bytes one.own one.pass one.told × AllHaveRun leaf given (s + 1) ones
 
--- the events of a part's own
-abbrev pub mine_of : Part → List Event
-mine_of part = part.pass.mine
+-- the events of a session's own
+abbrev pub mine_of : Session → List Event
+mine_of one = one.pass.mine
 
 module _ (leaf : ℕ) (given : Input) where
-  own_at : (s k : ℕ) (parts : List Part) → AllHaveRun leaf given s parts → AreOf (s + k) (get_or (map mine_of parts) k [])
+  own_at : (s k : ℕ) (ones : List Session) → AllHaveRun leaf given s ones → AreOf (s + k) (get_or (map mine_of ones) k [])
   own_at s k [] h = tt
-  own_at s zero (part ∷ parts) h = subst (λ n. AreOf n part.pass.mine) (same s) (did_own leaf given s h.0.ran.reading h.0.first part.own h.0.before part.pass part.told h.0.ran.did h.0.no_mine)
+  own_at s zero (one ∷ ones) h = subst (λ n. AreOf n one.pass.mine) (same s) (did_own leaf given s h.0.ran.reading h.0.first one.own h.0.before one.pass one.told h.0.ran.did h.0.no_mine)
     where
       same : (s : ℕ) → s ≡ s + 0
       same s = omega arith
-  own_at s (suc k) (part ∷ parts) h = subst (λ n. AreOf n (get_or (map mine_of parts) k [])) (later s k) (own_at (s + 1) k parts h.1)
+  own_at s (suc k) (one ∷ ones) h = subst (λ n. AreOf n (get_or (map mine_of ones) k [])) (later s k) (own_at (s + 1) k ones h.1)
     where
       later : (s k : ℕ) → (s + 1) + k ≡ s + suc k
       later s k = omega arith
 
   -- ---- the closed log
-  module _ (parts : List Part) (log : List Event) (ran : AllHaveRun leaf given 1 parts) (makes : MakeUp ([] ∷ map mine_of parts) log) where
-    list_past : (ps : List Part) (k : ℕ) → length ps ≤ k → get_or (map mine_of ps) k [] ≡ []
+  module _ (number : ℕ) (ones : List Session) (log : List Event) (ran : AllHaveRun leaf given number ones) (makes : MakeUp ([] ∷ map mine_of ones) log) where
+    list_past : (ps : List Session) (k : ℕ) → length ps ≤ k → get_or (map mine_of ps) k [] ≡ []
     list_past [] k l = refl
     list_past (p ∷ ps) zero l = absurd (omega arith)
     list_past (p ∷ ps) (suc k) l = list_past ps k (omega arith)
 
-    length_mine : (ps : List Part) → length (map mine_of ps) ≡ length ps
+    length_mine : (ps : List Session) → length (map mine_of ps) ≡ length ps
     length_mine [] = refl
     length_mine (p ∷ ps) = let i = length_mine ps in omega arith
 
-    others : (k j : ℕ) → j ≢ suc k → pick (is_of (1 + k)) (get_or ([] ∷ map mine_of parts) j []) ≡ []
+    others : (k j : ℕ) → j ≢ suc k → pick (is_of (number + k)) (get_or ([] ∷ map mine_of ones) j []) ≡ []
     others k zero n = refl
-    others k (suc j) n = pick_other (1 + j) (1 + k) (get_or (map mine_of parts) j []) (own_at 1 j parts ran) (λ e. n (omega arith))
+    others k (suc j) n = pick_other (number + j) (number + k) (get_or (map mine_of ones) j []) (own_at number j ones ran) (λ e. n (omega arith))
 
     -- the events of a session's number are its own
-    events_at : (k : ℕ) → k < length parts → events_of (1 + k) log ≡ get_or (map mine_of parts) k []
+    events_at : (k : ℕ) → k < length ones → events_of (number + k) log ≡ get_or (map mine_of ones) k []
     events_at k l =
-        sym (pick_is_filter (is_of (1 + k)) log)
-        ∙ its_own (is_of (1 + k)) ([] ∷ map mine_of parts) log (suc k) makes (let w = length_mine parts in omega arith)
-        (pick_own (1 + k) (get_or (map mine_of parts) k []) (own_at 1 k parts ran)) (others k)
+        sym (pick_is_filter (is_of (number + k)) log)
+        ∙ its_own (is_of (number + k)) ([] ∷ map mine_of ones) log (suc k) makes (let w = length_mine ones in omega arith)
+        (pick_own (number + k) (get_or (map mine_of ones) k []) (own_at number k ones ran)) (others k)
 
-    none_else : (s : ℕ) → (s ≡ 0) ⊎ (length parts < s) → (j : ℕ) → pick (is_of s) (get_or ([] ∷ map mine_of parts) j []) ≡ []
+    -- a number that no session has
+    abbrev IsOutside : ℕ → Type 0
+    IsOutside s = (s < number) ⊎ (number + length ones ≤ s)
+
+    none_else : (s : ℕ) → IsOutside s → (j : ℕ) → pick (is_of s) (get_or ([] ∷ map mine_of ones) j []) ≡ []
     none_else s o zero = refl
-    none_else s o (suc j) = elim (cases_lt j (length parts)) [
-      | inl l ↦ pick_other (1 + j) s (get_or (map mine_of parts) j []) (own_at 1 j parts ran) (apart o l)
-      | inr l ↦ ap (pick (is_of s)) (list_past parts j l)
+    none_else s o (suc j) = elim (cases_lt j (length ones)) [
+      | inl l ↦ pick_other (number + j) s (get_or (map mine_of ones) j []) (own_at number j ones ran) (apart o l)
+      | inr l ↦ ap (pick (is_of s)) (list_past ones j l)
     ]
       where
-        apart : (s ≡ 0) ⊎ (length parts < s) → j < length parts → 1 + j ≢ s
+        apart : IsOutside s → j < length ones → number + j ≢ s
         apart (inl z) l e = omega arith
         apart (inr g) l e = omega arith
 
     -- each event is of one of the sessions
-    pub in_range : AllByRecursion (λ e. (1 ≤ e.session) × (e.session ≤ length parts)) log
-    in_range = numbered log (λ s o. no_ones (is_of s) ([] ∷ map mine_of parts) log makes (none_else s o))
+    pub within : AllByRecursion (IsWithin number (length ones)) log
+    within = numbered log (λ s o. no_ones (is_of s) ([] ∷ map mine_of ones) log makes (none_else s o))
       where
-        wrong : (e : Event) (es : List Event) → ((s : ℕ) → (s ≡ 0) ⊎ (length parts < s) → pick (is_of s) (e ∷ es) ≡ []) → (e.session ≡ 0) ⊎ (length parts < e.session) → ⊥
+        wrong : (e : Event) (es : List Event) → ((s : ℕ) → IsOutside s → pick (is_of s) (e ∷ es) ≡ []) → IsOutside e.session → ⊥
         wrong e es h o =
             let t : eqb e.session e.session ≡ true = eq-eqb e.session e.session refl in
             let k : length (e ∷ pick (is_of e.session) es) ≡ 0 = ap length (sym (ap (λ (b : Bool). cond b (e ∷ pick (is_of e.session) es) (pick (is_of e.session) es)) t) ∙ h e.session o) in omega arith
 
-        later : (e : Event) (es : List Event) → ((s : ℕ) → (s ≡ 0) ⊎ (length parts < s) → pick (is_of s) (e ∷ es) ≡ []) → (s : ℕ) → (s ≡ 0) ⊎ (length parts < s) → pick (is_of s) es ≡ []
+        later : (e : Event) (es : List Event) → ((s : ℕ) → IsOutside s → pick (is_of s) (e ∷ es) ≡ []) → (s : ℕ) → IsOutside s → pick (is_of s) es ≡ []
         later e es h s o = elim (cases_Bool (eqb e.session s)) [
           | inl t ↦ (let k : length (e ∷ pick (is_of s) es) ≡ 0 = ap length (sym (ap (λ (b : Bool). cond b (e ∷ pick (is_of s) es) (pick (is_of s) es)) t) ∙ h s o) in absurd (omega arith))
           | inr f ↦ sym (ap (λ (b : Bool). cond b (e ∷ pick (is_of s) es) (pick (is_of s) es)) f) ∙ h s o
         ]
 
-        numbered : (es : List Event) → ((s : ℕ) → (s ≡ 0) ⊎ (length parts < s) → pick (is_of s) es ≡ []) → AllByRecursion (λ e. (1 ≤ e.session) × (e.session ≤ length parts)) es
+        numbered : (es : List Event) → ((s : ℕ) → IsOutside s → pick (is_of s) es ≡ []) → AllByRecursion (IsWithin number (length ones)) es
         numbered [] h = tt
         numbered (e ∷ es) h = (
           (
-            elim (cases_lt 0 e.session) [ inl l ↦ omega arith | inr g ↦ absurd (wrong e es h (inl (omega arith))) ],
-            elim (cases_lt (length parts) e.session) [ inl l ↦ absurd (wrong e es h (inr l)) | inr g ↦ g ],
+            elim (cases_lt e.session number) [ inl l ↦ absurd (wrong e es h (inl l)) | inr g ↦ g ],
+            elim (cases_lt e.session (number + length ones)) [ inl l ↦ l | inr g ↦ absurd (wrong e es h (inr g)) ],
           ),
           numbered es (later e es h),
         )
 
-    module _ (all : Worker) where
-      accounts_from : (s : ℕ) (ps : List Part) → AllHaveRun leaf given s ps → AllByRecursion (λ p. IsAbsorbed p.own all) ps → AllByRecursion (λ p. BeginsLog p.pass.seen log) ps
-          → ((k : ℕ) → k < length ps → events_of (s + k) log ≡ get_or (map mine_of ps) k []) → Accounts leaf given all log s ps
-      accounts_from s [] r a b e = tt
-      accounts_from s (p ∷ ps) r a b e = (
+    module _ (first : First) (all : Worker) where
+      accounts_from : (s : ℕ) (ps : List Session) → AllHaveRun leaf given s ps → AllByRecursion (λ p. first_of p.pass.start ≡ first) ps
+          → AllByRecursion (λ p. IsAbsorbed p.own all) ps → AllByRecursion (λ p. BeginsLog p.pass.seen log) ps
+          → ((k : ℕ) → k < length ps → events_of (s + k) log ≡ get_or (map mine_of ps) k []) → Accounts leaf given first all log s ps
+      accounts_from s [] r f a b e = tt
+      accounts_from s (p ∷ ps) r f a b e = (
         record {
           has_run = r.0;
+          began = f.0;
           absorbed = a.0;
           begins = b.0;
           events = subst (λ n. events_of n log ≡ p.pass.mine) (same s) (e 0 (omega arith));
         },
-        accounts_from (s + 1) ps r.1 a.1 b.1 (λ k l. subst (λ n. events_of n log ≡ get_or (map mine_of ps) k []) (later s k) (e (suc k) (omega arith))),
+        accounts_from (s + 1) ps r.1 f.1 a.1 b.1 (λ k l. subst (λ n. events_of n log ≡ get_or (map mine_of ps) k []) (later s k) (e (suc k) (omega arith))),
       )
         where
           same : (s : ℕ) → s + 0 ≡ s
@@ -154,5 +162,6 @@ module _ (leaf : ℕ) (given : Input) where
           later s k = omega arith
 
       -- all sessions have their accounts
-      pub accounts : AllByRecursion (λ p. IsAbsorbed p.own all) parts → AllByRecursion (λ p. BeginsLog p.pass.seen log) parts → Accounts leaf given all log 1 parts
-      accounts a b = accounts_from 1 parts ran a b events_at
+      pub accounts : AllByRecursion (λ p. first_of p.pass.start ≡ first) ones → AllByRecursion (λ p. IsAbsorbed p.own all) ones
+          → AllByRecursion (λ p. BeginsLog p.pass.seen log) ones → Accounts leaf given first all log number ones
+      accounts f a b = accounts_from number ones ran f a b events_at

@@ -12,9 +12,9 @@ use Rattle.rv_runs.specs.Works.{HasRun}
 
 -- a new worker and a new pass ran these bytes
 pub has_run : (leaf : ℕ) (given : Input) (s : ℕ) (bytes script : List ℕ) (first own : Worker) (before pass : View) (answer : Result Transcript NoMemory)
-    → script ≡ bytes → first.made ≡ 0 → first.misses ≡ 0 → before.seen ≡ [] → before.mine ≡ [] → IfOk answer (RanBytes leaf given s script first own before pass)
+    → script ≡ bytes → first.made ≡ 0 → first.misses ≡ 0 → before.seen ≡ [] → before.mine ≡ [] → pass.start ≡ before.start → IfOk answer (RanBytes leaf given s script first own before pass)
     → IfSome (result_ok answer) (HasRun leaf given s bytes own pass)
-has_run leaf given s bytes script first own before pass (Ok told) is made misses seen mine ran = record {
+has_run leaf given s bytes script first own before pass (Ok told) is made misses seen mine start ran = record {
   first = first;
   before = before;
   ran = subst (λ (l : List ℕ). RanBytes leaf given s l first own before pass told) is ran;
@@ -22,8 +22,9 @@ has_run leaf given s bytes script first own before pass (Ok told) is made misses
   no_misses = misses;
   no_seen = seen;
   no_mine = mine;
+  same_start = start;
 }
-has_run leaf given s bytes script first own before pass (Err lack) is made misses seen mine ran = tt
+has_run leaf given s bytes script first own before pass (Err lack) is made misses seen mine start ran = tt
 
 -- the bytes of the script at a place
 pub bytes_at : (scripts : List (Vec ℕ Global)) (k : ℕ) (script d : Vec ℕ Global) → k < length scripts → script ≡ get_or scripts k d → script.items ≡ get_or (map (λ v. v.items) scripts) k []

@@ -3,14 +3,14 @@ use Rattle.std.specs.Prelude.{◌≡◌, ◌<◌, ◌≤◌, ◌+◌, ◌-◌, �
 use Rattle.rel_model.specs.Worker.{Worker}
 use Rattle.rel_model.specs.Seats.{Holds}
 use Rattle.run_model.specs.Inputs.{Input}
-use Rattle.turn_book.specs.Views.{Book, House, View, IsReady}
+use Rattle.turn_book.specs.Views.{Book, House, Start, View, IsReady}
 use Rattle.rv_sessions.specs.declared.transcript.Transcript.{Transcript}
 use Rattle.rv_sessions.specs.Sessions.{RanBytes}
 use Rattle.rv_runs.specs.declared.work.Work.{Work}
 
--- the bytes of script number s, from 1 on
-abbrev pub bytes_of : List (List ℕ) → ℕ → List ℕ
-bytes_of scripts s = slice_index_or scripts (s - 1) []
+-- the bytes of the script of session number s, where the first one has this number
+abbrev pub bytes_of : ℕ → List (List ℕ) → ℕ → List ℕ
+bytes_of number scripts s = slice_index_or scripts (s - number) []
 
 -- a session ran these bytes in a worker and a pass of its own, which were new
 pub record HasRun (leaf : ℕ) (given : Input) (s : ℕ) (bytes : List ℕ) (own : Worker) (pass : View)
@@ -22,6 +22,7 @@ pub record HasRun (leaf : ℕ) (given : Input) (s : ℕ) (bytes : List ℕ) (own
   pub no_misses : first.misses ≡ 0
   pub no_seen : before.seen ≡ []
   pub no_mine : before.mine ≡ []
+  pub same_start : pass.start ≡ before.start
 
 -- a worker was joined into another: all that stood in it stands there, and if it missed, so did the other
 pub record IsAbsorbed (own all : Worker) : Type 0 where
@@ -32,6 +33,7 @@ pub record IsAbsorbed (own all : Worker) : Type 0 where
 pub record SplitsAll (old new : View) : Type 0 where
   pub book : new.book ≡ old.book
   pub house : new.house ≡ old.house
+  pub start : new.start ≡ old.start
   pub seen : new.seen ≡ old.seen
   pub mine : new.mine ≡ old.mine
   pub joined : new.joined ≡ old.joined
@@ -40,19 +42,24 @@ pub record SplitsAll (old new : View) : Type 0 where
 
 -- so many workers with 64 spare ones each are split off
 pub record SplitsWorkers (count : ℕ) (old new : Worker) : Type 0 where
+  pub holds : Holds old new
   pub house : new.house ≡ old.house
   pub made : new.made ≡ old.made
   pub misses : new.misses ≡ old.misses
   pub spare : new.spare + 65 * count ≡ old.spare
 
 module _ {E : Type 0} where
-  -- sessions count from 1, in order
-  abbrev pub Numbered : List (Work E) → Type 0
-  Numbered works = (k : ℕ) (d : Work E) → k < length works → (slice_index_or works k d).number ≡ k + 1
+  -- sessions count from this number on, in order
+  abbrev pub Numbered : ℕ → List (Work E) → Type 0
+  Numbered number works = (k : ℕ) (d : Work E) → k < length works → (slice_index_or works k d).number ≡ k + number
 
   -- the passes of all works are of one house
   abbrev pub HaveHouse : House → List (Work E) → Type 0
   HaveHouse house works = All (λ work. work.pass.house ≡ house) works
+
+  -- the passes of all works are of a book that began with this
+  abbrev pub HaveStart : Start → List (Work E) → Type 0
+  HaveStart start works = All (λ work. work.pass.start ≡ start) works
 
   -- the pass of a piece of work
   abbrev pub pass_of : Work E → View
@@ -63,8 +70,8 @@ module _ {E : Type 0} where
   told_of work = work.told
 
   module _ (worker : E → Worker) where
-    -- a piece of work before its session runs
-    pub record IsFresh (book : Book) (count : ℕ) (work : Work E) : Type 0 where
+    -- a piece of work before its session runs, in a batch of so many from this number on
+    pub record IsFresh (book : Book) (first count : ℕ) (work : Work E) : Type 0 where
       pub ready : IsReady book work.pass
       pub no_seen : work.pass.seen ≡ []
       pub no_mine : work.pass.mine ≡ []
@@ -74,8 +81,8 @@ module _ {E : Type 0} where
       pub seats : (worker work.engine).spare ≡ 64
       pub no_made : (worker work.engine).made ≡ 0
       pub no_misses : (worker work.engine).misses ≡ 0
-      pub from_one : 1 ≤ work.number
-      pub at_most : work.number ≤ count
+      pub from_first : first ≤ work.number
+      pub at_most : work.number < first + count
 
     -- a piece of work that can be joined
     pub record CanJoin (book : Book) (work : Work E) : Type 0 where
@@ -86,9 +93,9 @@ module _ {E : Type 0} where
       pub seats : (worker work.engine).spare ≡ 64
 
     -- what its session told, it did with the bytes of its script
-    abbrev pub RanWhereTold : ℕ → Input → List (List ℕ) → Work E → Type 0
-    RanWhereTold leaf given scripts work =
-        IfSome work.told (HasRun leaf given work.number (bytes_of scripts work.number) (worker work.engine) work.pass)
+    abbrev pub RanWhereTold : ℕ → Input → ℕ → List (List ℕ) → Work E → Type 0
+    RanWhereTold leaf given number scripts work = IfSome work.told
+        (HasRun leaf given work.number (bytes_of number scripts work.number) (worker work.engine) work.pass)
 
     -- how many nodes the workers of works made
     abbrev pub made_by : List (Work E) → ℕ

@@ -1,15 +1,17 @@
-//! What a run comes to.
+//! What a batch comes to.
+use name_map::NameMap;
+use rel_model::Rel;
 use run_model::event::Event;
-use run_model::files::Save;
-use run_model::outcome::Outcome;
+use rv_blocks::Versions;
+use rv_sessions::Transcript;
 
-/// What a run comes to: the engine with all that its sessions made, the history, the outcomes of each session in the
-/// order of the scripts, the page, and the files to be put after it.
+/// What a batch comes to: the engine with all that its sessions made, its events, what each session told in the order
+/// of the scripts, and the names and versions that it leaves.
 #[derive(Drop)]
-pub struct Ended<E> {
+pub struct BatchEnd<E> {
     pub engine: E,
-    pub history: Vec<Event>,
-    pub outcomes: Vec<Vec<Outcome>>,
-    pub page: Vec<u8>,
-    pub saves: Vec<Save>,
+    pub events: Vec<Event>,
+    pub told: Vec<Transcript>,
+    pub names: NameMap<Rel>,
+    pub versions: Versions,
 }

@@ -1,12 +1,15 @@
-//! Runs: all sessions at once over one book of names, from the bytes of the scripts to the page.
+//! Runs: all sessions of a batch at once over one book of names, from the bytes of the scripts to what they told; the
+//! page of all batches; and that batches make one run.
 #![tactic(auto)]
 
+mod batch;
 mod ended;
-mod law;
 mod page;
 mod together;
+mod whole;
 mod work;
 
-pub use ended::Ended;
-pub use law::one_script_runs_alone;
-pub use together::run_all;
+pub use batch::run_batch;
+pub use ended::BatchEnd;
+pub use page::{make_page, take_apart};
+pub use whole::{batches_make_one_run, words_hold_runs};

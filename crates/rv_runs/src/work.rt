@@ -1,5 +1,5 @@
 //! One session at its work.
-ghost use Rattle.std.specs.Prelude.{◌≡◌, ◌≤◌, ◌^◌, length, map, All};
+ghost use Rattle.std.specs.Prelude.{◌≡◌, ◌≤◌, ◌+◌, ◌^◌, length, map, All};
 ghost use Rattle.lang_model.specs.Limits.{script_limit};
 ghost use Rattle.rv_sessions.specs.Telling.{input_of};
 ghost use Rattle.rv_runs.specs.Works.{IsFresh, CanJoin, RanWhereTold};
@@ -16,7 +16,7 @@ use turn_book::{Pass, TurnBook};
 /// What is added to the number of a session, where the watch is told of it.
 const SESSIONS: u32 = 1_000_000;
 
-/// The work of one session: its number, from 1 on, with all that it needs, and what it told.
+/// The work of one session: its number in the run, with all that it needs, and what it told.
 #[derive(Drop)]
 pub struct Work<E: Engine> {
     pub number: u32,
@@ -25,28 +25,32 @@ pub struct Work<E: Engine> {
     pub told: Option<Transcript>,
 }
 
-/// Runs the session of a piece of work. Where memory is wanting, it tells nothing.
+/// Runs the session of a piece of work, in a batch whose first session has this number. Where memory is wanting, it
+/// tells nothing.
 ///
 /// The watch is told when the session begins and when it has ended, by its number and 1,000,000 more.
 pub fn run_work<R: Wait, E: Engine + Drop, W: Watch>(
     rt: &R,
     alloc: Global,
     scripts: &[Vec<u8>],
+    number: u32,
     files: &[Loaded],
     turns: u64,
     book: &TurnBook<Book<E>>,
     watch: &W,
     work: &mut Work<E>,
 )
-    requires few { length scripts.now ≤ 64 }
+    requires few { number + length scripts.now ≤ 65 }
     requires limits { All (λ v. length v.items ≤ script_limit) scripts.now }
-    requires fresh { IsFresh E.worker book.now (length scripts.now) work.old }
-    ensures ran { RanWhereTold E.worker E.least (input_of files.now turns) (map (λ v. v.items) scripts.now) work.new }
+    requires fresh { IsFresh E.worker book.now number (length scripts.now) work.old }
+    ensures ran { RanWhereTold E.worker E.least (input_of files.now turns) number (map (λ v. v.items) scripts.now)
+        work.new }
     ensures joins { CanJoin E.worker book.now work.new }
     ensures number { work.new.number ≡ work.old.number }
     ensures house { work.new.pass.house ≡ work.old.pass.house }
+    ensures start { work.new.pass.start ≡ work.old.pass.start }
 {
-    let script = scripts[work.number as usize - 1].as_slice();
+    let script = scripts[(work.number - number) as usize].as_slice();
     let piece = SESSIONS + work.number;
     watch.begins(piece);
     let ran = run(
