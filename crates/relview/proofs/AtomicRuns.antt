@@ -1,11 +1,10 @@
--- The blocks of a run are atomic: its history is lawful, and the words of its one batch hold what all of it assigned.
-use Rattle.std.proofs.Common.{◌-◌, subst}
-use Rattle.run_model.specs.States.{start, gifts_due}
-use Rattle.run_model.specs.Stored.{AreStored}
-use Rattle.rel_model.specs.Equations.{node_words}
+-- The blocks of a run are atomic: its history is lawful, and the words of each batch hold what its sessions assigned.
+use Rattle.std.proofs.Common.{◌-◌, refl}
+use Rattle.run_model.specs.Inputs.{batch_of}
 use Rattle.relview.specs.Top.{outcomes_of}
+use Rattle.relview.specs.Tables.{nodes_of_batch}
 use Rattle.relview.specs.Blocks.{BlocksAreAtomic}
-use Rattle.relview.proofs.OneBatch.{all_between}
+use Rattle.relview.proofs.Tabled.{stored_all}
 use Rattle.relview.proofs.Blocks.{is_atomic}
 use Rattle.relview.proofs.BlockGrammar.{block_has}
 
@@ -13,8 +12,8 @@ pub blocks_are_atomic : BlocksAreAtomic
 blocks_are_atomic words a b o n report ran s c script lets outcome is =
     let input = ran.input in
     let history = report.history.items in
-    let nodes = node_words ran.said.nodes report.words.items in
-    let stored : AreStored (gifts_due input) nodes start history =
-    subst (AreStored (gifts_due input) nodes start) (all_between history) ran.holds.0.stored in
-    is_atomic input history (outcomes_of report) nodes ran.legal stored s c script lets outcome is
+    let outcomes = outcomes_of report in
+    let nodes = nodes_of_batch ran.said.nodes report in
+    let stored = stored_all ran.said.nodes input history outcomes nodes 0 report.old.items report.words.items (λ k. refl) ran.holds in
+    is_atomic input history outcomes (λ t. nodes (batch_of input.ends t)) ran.legal stored s c script lets outcome is
     (block_has ran.given.scripts input.readings (s - 1) c script is.item lets ran.given.read is.is_script is.is_item is.is_block)

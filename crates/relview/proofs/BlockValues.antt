@@ -1,7 +1,7 @@
 -- What the assignments of one command give, from the state that it read.
 -- 1. Events of others leave what is noted of the command: the state at its read, and how many names it gave something.
 -- 2. So its assignments, one after another, give their names the values that are due of it, in order, and their relations
---    stand in words that hold the history with these values.
+--    stand with these values in words that hold what its session assigns.
 use Rattle.std.specs.Prelude.{slice_get}
 use Rattle.std.specs.List.{list_any}
 use Rattle.std.proofs.Common.{◌≡◌, ◌+◌, ◌&&◌, ℕ, suc, Bool, false, cond, eqb, List, [], ◌∷◌, ◌++◌, map, Option, Some, None, refl, sym, ap, subst, ◌∙◌, inl, inr, arith, add-zero}
@@ -14,18 +14,19 @@ use Rattle.run_model.specs.Due.{Workspace, Gifts}
 use Rattle.run_model.specs.Events.{entry_of, entries, giving}
 use Rattle.run_model.specs.States.{Replay, is_of, at_command, set_by, replay_act, replay}
 use Rattle.run_model.specs.Solo.{set_all}
-use Rattle.run_model.specs.Stored.{AreStored, IsStored}
+use Rattle.run_model.specs.Stored.{IsStored}
 use Rattle.run_model.proofs.Entries.{gives_event, heads, tails, not_empty}
 use Rattle.run_model.proofs.Behind.{put_here}
 use Rattle.relview.specs.Blocks.{AssignInWords}
+use Rattle.relview.proofs.Tabled.{StoredBy}
 
 abbrev gift_or : List ℕ × Relation → Option (List ℕ × Relation) → List ℕ × Relation
 gift_or d None = d
 gift_or d (Some g) = g
 
-module _ (gifts : ℕ → ℕ → Workspace → Gifts) (words : List ℕ) where
+module _ (gifts : ℕ → ℕ → Workspace → Gifts) (words : ℕ → List ℕ) where
   -- what is stored behind events
-  pub stored_behind : (p : Replay Relation) (xs ys : List Event) → AreStored gifts words p (xs ++ ys) → AreStored gifts words (replay gifts p xs) ys
+  pub stored_behind : (p : Replay Relation) (xs ys : List Event) → StoredBy gifts words p (xs ++ ys) → StoredBy gifts words (replay gifts p xs) ys
   stored_behind p [] ys h = h
   stored_behind p (x ∷ xs) ys h = stored_behind (replay_act gifts x.session x.command x.act p) xs ys h.1
 
@@ -74,8 +75,8 @@ module _ (gifts : ℕ → ℕ → Workspace → Gifts) (words : List ℕ) where
     -- ---- its assignments
     pub assigns_all : (gs all : Gifts) (k : ℕ) (state : Workspace) (p : Replay Relation) (mine later : List Event) →
         Noted p state k → gifts s c state ≡ all → ((j : ℕ) → slice_get all (k + j) ≡ slice_get gs j) →
-        map entry_of mine ≡ entries s c (giving gs) → AreStored gifts words p (mine ++ later) →
-        ((replay gifts p mine).now ≡ set_all gs p.now) × AssignInWords words mine gs
+        map entry_of mine ≡ entries s c (giving gs) → StoredBy gifts words p (mine ++ later) →
+        ((replay gifts p mine).now ≡ set_all gs p.now) × AssignInWords (words s) mine gs
     assigns_all [] all k state p [] later n a d h st = (refl, tt)
     assigns_all [] all k state p (e ∷ es) later n a d h st = absurd (not_empty _ _ h)
     assigns_all (gift ∷ gs) all k state p [] later n a d h st = absurd (not_empty _ _ (sym h))
@@ -88,10 +89,10 @@ module _ (gifts : ℕ → ℕ → Workspace → Gifts) (words : List ℕ) where
           read = n.read;
           given = put_here s c (p.given s c + 1) p.given ∙ ap (λ m. m + 1) n.given;
         } in
-        let kept : AreStored gifts words q (es ++ later) =
-        subst (λ (y : Event). AreStored gifts words (replay_act gifts y.session y.command y.act p) (es ++ later)) x.1 st.1 in
-        let here : IsStored gifts words p s c (Assign gift.0 x.0) =
-        subst (λ (y : Event). IsStored gifts words p y.session y.command y.act) x.1 st.0 in
+        let kept : StoredBy gifts words q (es ++ later) =
+        subst (λ (y : Event). StoredBy gifts words (replay_act gifts y.session y.command y.act p) (es ++ later)) x.1 st.1 in
+        let here : IsStored gifts (words s) p s c (Assign gift.0 x.0) =
+        subst (λ (y : Event). IsStored gifts (words y.session) p y.session y.command y.act) x.1 st.0 in
         let same : here.0 ≡ gift = ap (gift_or gift) (sym here.1 ∙ found) in
         let rest = assigns_all gs all (k + 1) state q es later noted a (λ j. ap (slice_get all) (later_place k j) ∙ d (suc j)) (tails _ _ _ _ h) kept in (
           ap (λ (y : Event). (replay gifts (replay_act gifts y.session y.command y.act p) es).now) x.1

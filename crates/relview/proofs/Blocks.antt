@@ -25,11 +25,11 @@ use Rattle.run_model.specs.Versions.{Change, version}
 use Rattle.run_model.specs.Blocks.{block_reads}
 use Rattle.run_model.specs.States.{Replay, events_of, events_before, before_second, start, replay_act, replay, gifts_of_item, gifts_of_script, gifts_due, state_after, state_for}
 use Rattle.run_model.specs.Legal.{IsCommit, CommitsItem, change_at, change_for, RunsScript, LegalSession, LegalSessions, IsLegal}
-use Rattle.run_model.specs.Stored.{AreStored}
 use Rattle.run_model.proofs.Committing.{blocks_are_at_once}
 use Rattle.run_model.proofs.Entries.{event, reads_event, heads, tails, not_empty}
 use Rattle.relview.specs.Blocks.{IsBlock, change_before, IsDoneAtOnce, IsChangedAt, CommitsByVersions, OnlyReads, IsAtomic}
 use Rattle.relview.proofs.BlockPlaces.{mine, SecondAt, second_at, AllAssign, from_second, all_mine}
+use Rattle.relview.proofs.Tabled.{StoredBy}
 use Rattle.relview.proofs.BlockValues.{stored_behind, replay_append, Noted, others_keep, read_notes, assigns_all}
 use Rattle.relview.proofs.BlockSteps.{own_commands, Found, find_step, find_commit, ActsAsBlock, acts_as_block}
 use Rattle.relview.proofs.BlockDue.{is_success, not_done, block_is, refused_reads, done_deeds_are, all_read, all_assign}
@@ -70,8 +70,8 @@ module _ (input : Input) (history : List Event) where
       subst (λ (n : ℕ). RunsScript input history n script own) whole (session_runs k (s + 1) xs ys script own h.1 r o)
 
 -- ---- one block
-module _ (input : Input) (history : List Event) (outcomes : List (List Outcome)) (words : List ℕ) (legal : IsLegal input history outcomes)
-    (stored : AreStored (gifts_due input) words start history)
+module _ (input : Input) (history : List Event) (outcomes : List (List Outcome)) (words : ℕ → List ℕ) (legal : IsLegal input history outcomes)
+    (stored : StoredBy (gifts_due input) words start history)
     (s c : ℕ) (script : Script) (lets : List BlockLet) (outcome : Outcome) (is : IsBlock input outcomes s c script lets outcome)
     (some : (l : BlockLet) × (ls : List BlockLet) × (lets ≡ l ∷ ls)) where
   whole_number : (n : ℕ) → 1 ≤ n → 1 + (n - 1) ≡ n
@@ -232,11 +232,11 @@ module _ (input : Input) (history : List Event) (outcomes : List (List Outcome))
           (others_keep gifts_by words s c at.mid (replay_act gifts_by s c Read first_replay) first_replay.now 0 at.quiet_mid
           (read_notes gifts_by words s c first_replay no_names at_first))
 
-      at_once : IsDoneAtOnce input history words s c script lets
+      at_once : IsDoneAtOnce input history (words s) s c script lets
       unfolding change_for state_after
       at_once =
           let rest = from_second s c history e f es at all.0 all.1 legal.together in
-          let kept = stored_behind gifts_by words start log ((f ∷ es) ++ rest.0) (subst (AreStored gifts_by words start) rest.1 stored) in
+          let kept = stored_behind gifts_by words start log ((f ∷ es) ++ rest.0) (subst (StoredBy gifts_by words start) rest.1 stored) in
           let told = assigns_all gifts_by words s c given.gifts given.gifts 0 first_replay.now (replay gifts_by start log) (f ∷ es) rest.0 noted
           (gifts_are first_replay.now given.gifts read_state given.due_to) (λ j. ap (slice_get given.gifts) (from_none j)) deeds_are kept in
           record {
@@ -257,7 +257,7 @@ module _ (input : Input) (history : List Event) (outcomes : List (List Outcome))
           from_none : (j : ℕ) → 0 + j ≡ j
           from_none j = omega arith
 
-    done_by : (xs : List Event) → mine s c history ≡ xs → IsDoneAtOnce input history words s c script lets
+    done_by : (xs : List Event) → mine s c history ≡ xs → IsDoneAtOnce input history (words s) s c script lets
     done_by [] h = absurd (not_empty _ _ (sym (ap (map entry_of) (sym h) ∙ done_events)))
     done_by (e ∷ []) h =
         let both : entry_of e ∷ [] ≡ entries s c (Reads ∷ giving (given.first ∷ given.others)) =
@@ -265,7 +265,7 @@ module _ (input : Input) (history : List Event) (outcomes : List (List Outcome))
         absurd (not_empty _ _ (sym (tails _ _ _ _ both)))
     done_by (e ∷ f ∷ es) h = at_once e f es h
 
-    pub done_at_once : IsDoneAtOnce input history words s c script lets
+    pub done_at_once : IsDoneAtOnce input history (words s) s c script lets
     done_at_once = done_by (mine s c history) refl
 
   -- (c) versions decide
@@ -286,7 +286,7 @@ module _ (input : Input) (history : List Event) (outcomes : List (List Outcome))
         }
   ]
 
-  pub is_atomic : IsAtomic input history words s c script lets outcome
+  pub is_atomic : IsAtomic input history (words s) s c script lets outcome
   is_atomic = record {
     done = done_at_once;
     changed = changed;

@@ -1,19 +1,18 @@
 -- A run in which nothing was wanting is complete.
 --
 -- 1. An outcome is the due one, or a full table, or out of memory, or tells of a block that a name was changed before
---    its commit. A full table means full words, and there is a vacant one; memory did not run out.
+--    its commit. A full table means full words of its batch, and these have a vacant one; memory did not run out.
 -- 2. The steps of a session have its outcomes, so what holds of all outcomes holds of those of the steps.
 -- 3. Of the three ways in which a page and its files are told the other two have a count that rose.
-use Rattle.std.proofs.Common.{◌≡◌, ◌≢◌, ◌+◌, ℕ, List, [], ◌∷◌, inl, inr}
+use Rattle.std.proofs.Common.{◌≡◌, ◌≢◌, ◌<◌, ◌≤◌, ◌+◌, ℕ, List, [], ◌∷◌, length, inl, inr, refl, subst, arith}
 use Rattle.std.specs.List.{AllByRecursion}
 use Rattle.lang_model.specs.declared.syntax.Item.{Item}
 use Rattle.lang_model.specs.declared.syntax.Script.{Script}
 use Rattle.rel_model.specs.Words.{IsFull}
-use Rattle.rel_model.specs.Equations.{node_words}
 use Rattle.run_model.specs.declared.event.Event.{Event}
 use Rattle.run_model.specs.declared.outcome.Outcome.{Outcome}
 use Rattle.run_model.specs.declared.outcome.Outcome.TheVariants.{Nodes, NoMemory}
-use Rattle.run_model.specs.Inputs.{Input, Reading, NoScript, Flawed, Runs}
+use Rattle.run_model.specs.Inputs.{Input, Reading, NoScript, Flawed, Runs, Rise, batch_of}
 use Rattle.run_model.specs.Due.{Workspace, Due}
 use Rattle.run_model.specs.Outcomes.{IsOutcome}
 use Rattle.run_model.specs.Steps.{Step, Snapshots, steps, steps_from, due_at, snaps_behind}
@@ -21,12 +20,16 @@ use Rattle.run_model.specs.Names.{no_names}
 use Rattle.run_model.specs.States.{state_for}
 use Rattle.run_model.specs.Legal.{LegalSession, LegalSessions, steps_in}
 use Rattle.run_model.specs.Page.{page, saves, SavedFile}
-use Rattle.run_model.specs.Stored.{FillsWhereFull}
+use Rattle.run_model.specs.Stored.{FillsWhereFull, FillsInBatch}
 use Rattle.rv_io.specs.Outside.{Told}
 use Rattle.rv_ends.specs.Writing.{Sunk, IsTold, Told_whole, Unwritten, Unput, HasPut}
 use Rattle.rv_io.specs.Writing.{Grows}
-use Rattle.relview.specs.Top.{outcomes_of, status_of}
-use Rattle.relview.proofs.OneBatch.{all_filled}
+use Rattle.rv_words.specs.Uses.{Word}
+use Rattle.relview.specs.declared.report.Report.{Report}
+use Rattle.relview.specs.Top.{HasRun, outcomes_of, status_of}
+use Rattle.relview.specs.Tables.{nodes_of_batch}
+use Rattle.relview.proofs.Batched.{batch_within, ends_rise, outcomes_many}
+use Rattle.relview.proofs.Tabled.{table_at, batch_count}
 use Rattle.relview.specs.Complete.{HadMemory, IsDue, CameDue, AllCameDue, NoneFailed, CompleteRuns}
 
 -- ---- one outcome
@@ -86,11 +89,15 @@ sessions_due input history s (r ∷ rs) (os ∷ all) h legal =
 sessions_due input history s [] (os ∷ all) h legal = absurd legal
 sessions_due input history s (r ∷ rs) [] h legal = absurd legal
 
-all_come : (words : List ℕ) → (IsFull words → ⊥) → (all : List (List Outcome)) → HadMemory all
-    → AllByRecursion (FillsWhereFull words) all → AllByRecursion (AllByRecursion Comes) all
-all_come words vacant [] memory fills = tt
-all_come words vacant (os ∷ all) memory fills =
-    (each_comes words vacant os memory.0 fills.0, all_come words vacant all memory.1 fills.1)
+-- each session is of a batch, whose words have a vacant place
+all_come : (ends : List ℕ) (count : ℕ) (rise : Rise 0 count ends) (some : 1 ≤ length ends) (nodes : ℕ → List ℕ) → ((b : ℕ) → b < length ends → IsFull (nodes b) → ⊥)
+    → (s : ℕ) (all : List (List Outcome)) → s + length all ≤ count + 1 → HadMemory all
+    → ((b : ℕ) → b < length ends → FillsInBatch ends b (nodes b) s all) → AllByRecursion (AllByRecursion Comes) all
+all_come ends count rise some nodes vacant s [] l memory fills = tt
+all_come ends count rise some nodes vacant s (os ∷ all) l memory fills =
+    let b = batch_of ends s in
+    let within = batch_within 0 count ends s rise (omega (arith, l)) some in
+    (each_comes (nodes b) (vacant b within) os memory.0 ((fills b within).0 refl), all_come ends count rise some nodes vacant (s + 1) all (omega (arith, l)) memory.1 (λ c w. (fills c w).1))
 
 -- ---- what was told
 record ToldWhole (so sn : Told) (o n : Sunk) (text : List ℕ) (files : List SavedFile) (whole status : ℕ) : Type 0 where
@@ -104,16 +111,32 @@ told_whole so sn o n text files whole status none (Told_whole e written put) = r
 told_whole so sn o n text files whole status none (Unwritten sent e part rose no_put) = absurd (none.writes rose)
 told_whole so sn o n text files whole status none (Unput e written lost) = absurd (none.puts lost.rose)
 
+-- the words of each batch are full where it found them full
+all_filled : (words : List Word) (so sn : Told) (o n : Sunk) (report : Report) (run : HasRun words so sn o n report) (b : ℕ) → b < length run.input.ends
+    → FillsInBatch run.input.ends b (nodes_of_batch run.said.nodes report b) 1 (outcomes_of report)
+all_filled words so sn o n report run b within =
+    let bits = run.said.nodes in
+    let count = batch_count bits run.input report.history.items (outcomes_of report) 0 0 0 report.old.items report.words.items run.holds in
+    let there = table_at bits run.input report.history.items (outcomes_of report) 0 0 0 report.old.items report.words.items run.holds b (omega (arith, within, count)) in
+    subst (λ k. FillsInBatch run.input.ends k (nodes_of_batch bits report b) 1 (outcomes_of report)) (whole b) there.full
+  where
+    whole : (n : ℕ) → 0 + n ≡ n
+    whole n = omega arith
+
 pub complete_runs_law : CompleteRuns
 complete_runs_law words so sn o n report run lacked =
-    let comes : AllByRecursion (AllByRecursion Comes) (outcomes_of report) =
-    all_come (node_words run.said.nodes report.words.items) lacked.vacant (outcomes_of report) lacked.memory
-    (all_filled run.input run.given.one_batch report.history.items (node_words run.said.nodes report.words.items) (outcomes_of report) run.legal.sessions run.holds.0.full) in
-    let told : ToldWhole so sn o n (page run.input report.history.items (outcomes_of report))
-    (saves run.input report.history.items (outcomes_of report)) (status_of (outcomes_of report)) report.status =
+    let outcomes = outcomes_of report in
+    let rise = ends_rise words run.said so.files run.input run.taken run.given in
+    let many = outcomes_many run.input report.history.items 1 run.input.readings outcomes run.legal.sessions in
+    let count = batch_count run.said.nodes run.input report.history.items outcomes 0 0 0 report.old.items report.words.items run.holds in
+    let comes : AllByRecursion (AllByRecursion Comes) outcomes =
+    all_come run.input.ends (length run.input.readings) rise (omega (arith, count)) (nodes_of_batch run.said.nodes report) lacked.vacant 1 outcomes (omega (arith, many)) lacked.memory
+    (all_filled words so sn o n report run) in
+    let told : ToldWhole so sn o n (page run.input report.history.items outcomes)
+    (saves run.input report.history.items outcomes) (status_of outcomes) report.status =
     told_whole so sn o n _ _ _ _ lacked.outside run.told in
     record {
-      due = sessions_due run.input report.history.items 1 run.input.readings (outcomes_of report) comes run.legal.sessions;
+      due = sessions_due run.input report.history.items 1 run.input.readings outcomes comes run.legal.sessions;
       written = told.written;
       put = told.put;
       status = told.same;

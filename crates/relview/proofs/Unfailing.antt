@@ -1,6 +1,6 @@
 -- Where no count of faults can rise, a run begins and is complete.
-use Rattle.std.proofs.Common.{◌≡◌, ℕ, Bool, true, false, List, [], ◌∷◌, Some, ◌&&◌, ap, sym, subst, arith}
-use Rattle.std.specs.Prelude.{All, IsTrue, unwrap_or}
+use Rattle.std.proofs.Common.{◌≡◌, ℕ, Bool, true, false, List, [], ◌∷◌, Some, ◌&&◌, sym, subst, arith}
+use Rattle.std.specs.Prelude.{All, IsTrue}
 use Rattle.std.specs.List.{list_all}
 use Rattle.std.specs.String.{string_bytes}
 use Rattle.std.specs.declared.string.String.{String}
@@ -8,9 +8,12 @@ use Rattle.std.specs.declared.alloc.Global.{Global}
 use Rattle.std.proofs.lemmas.List.Sums.{AllPass-from_list_all}
 use Rattle.rv_io.specs.Outside.{Told, Rose}
 use Rattle.rv_words.specs.Uses.{Word}
-use Rattle.rv_words.specs.Shown.{texts, files_told}
+use Rattle.rv_words.specs.Said.{said_by}
+use Rattle.rv_words.specs.Shown.{texts, shown}
+use Rattle.rv_words.specs.declared.options.Options.{Options}
 use Rattle.rv_ends.specs.Given.{file_words}
 use Rattle.rv_ends.specs.Writing.{Sunk}
+use Rattle.rv_ends.proofs.Wording.{words_told}
 use Rattle.relview.specs.Top.{Answers}
 use Rattle.relview.specs.Surely.{IsSure}
 use Rattle.relview.specs.declared.report.Report.{Report}
@@ -52,5 +55,5 @@ texts_pass test [] e = e
 texts_pass test (name ∷ names) e = both (test (string_bytes name)) _ _ (texts_pass test names) e
 
 -- so for the FILE words, where these are the names
-pub files_pass : (test : List ℕ → Bool) (words : List Word) (names : List (String Global)) → files_told words ≡ Some (texts names) → list_all (λ name. test (string_bytes name)) names ≡ true → All (λ w. IsTrue (test w)) (file_words words)
-files_pass test words names told e = subst (λ ws. All (λ w. IsTrue (test w)) ws) (sym (ap (λ files. unwrap_or files []) told)) (AllPass-from_list_all test (texts names) (texts_pass test names e))
+pub files_pass : (test : List ℕ → Bool) (words : List Word) (options : Options) → said_by words ≡ Some (shown options) → list_all (λ name. test (string_bytes name)) options.files.items ≡ true → All (λ w. IsTrue (test w)) (file_words words)
+files_pass test words options taken e = subst (λ ws. All (λ w. IsTrue (test w)) ws) (sym (words_told words (shown options) taken)) (AllPass-from_list_all test (texts options.files.items) (texts_pass test options.files.items e))

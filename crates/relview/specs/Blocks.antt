@@ -20,7 +20,6 @@ use Rattle.std.specs.Prelude.{
 }
 use Rattle.std.specs.List.{list_any, AllByRecursion}
 use Rattle.rel_model.specs.declared.Rel.{Rel}
-use Rattle.rel_model.specs.Equations.{node_words}
 use Rattle.rel_model.specs.Roots.{relation_in}
 use Rattle.lang_model.specs.declared.syntax.Item.{Item}
 use Rattle.lang_model.specs.declared.syntax.Let.{Let as BlockLet}
@@ -29,7 +28,7 @@ use Rattle.run_model.specs.declared.event.Event.{Event}
 use Rattle.run_model.specs.declared.event.Act.TheVariants.{Read, Assign}
 use Rattle.run_model.specs.declared.outcome.Outcome.{Outcome}
 use Rattle.run_model.specs.declared.outcome.Outcome.TheVariants.{Done, Nodes, NoMemory, Changed}
-use Rattle.run_model.specs.Inputs.{Input, Runs, item_at}
+use Rattle.run_model.specs.Inputs.{Input, Runs, item_at, batch_of}
 use Rattle.run_model.specs.Due.{Gifts, Values, due_of_block}
 use Rattle.run_model.specs.Events.{entry_of, entries, giving}
 use Rattle.run_model.specs.Versions.{Change, version, first_changed}
@@ -42,6 +41,7 @@ use Rattle.rv_words.specs.Uses.{Word}
 use Rattle.rv_ends.specs.Writing.{Sunk}
 use Rattle.relview.specs.declared.report.Report.{Report}
 use Rattle.relview.specs.Top.{HasRun, outcomes_of}
+use Rattle.relview.specs.Tables.{nodes_of_batch}
 
 -- command c of session s is an atomic block of these assignments, in this script, and came to this outcome
 pub record IsBlock (input : Input) (outcomes : List (List Outcome)) (s c : ℕ) (script : Script) (lets : List BlockLet)
@@ -125,11 +125,12 @@ pub record IsAtomic (input : Input) (history : List Event) (words : List ℕ) (s
   -- one that is refused assigns nothing
   pub refused : outcome ≢ Done → OnlyReads history s c
 
--- an atomic block of a script that ran
+-- an atomic block of a script that ran, whose relations stand in the words of its batch
 abbrev pub BlocksAreAtomic : Type 0
 BlocksAreAtomic =
     (words : List Word) (shelf_old shelf_new : Told) (old new : Sunk) (report : Report)
     (ran : HasRun words shelf_old shelf_new old new report) (s c : ℕ) (script : Script) (lets : List BlockLet)
     (outcome : Outcome)
     → IsBlock ran.input (outcomes_of report) s c script lets outcome
-    → IsAtomic ran.input report.history.items (node_words ran.said.nodes report.words.items) s c script lets outcome
+    → IsAtomic ran.input report.history.items (nodes_of_batch ran.said.nodes report (batch_of ran.input.ends s)) s c
+    script lets outcome

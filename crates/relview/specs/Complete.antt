@@ -1,8 +1,7 @@
--- What a run came to where nothing was wanting: neither memory, nor a place in the table, nor a call outside.
-use Rattle.std.specs.Prelude.{◌≡◌, ◌≢◌, ◌≤◌, ◌⊎◌, ◌+◌, ℕ, true, List, [], ◌∷◌, length, Some}
+-- What a run came to where nothing was wanting: neither memory, nor a place in a table, nor a call outside.
+use Rattle.std.specs.Prelude.{◌≡◌, ◌≢◌, ◌<◌, ◌≤◌, ◌⊎◌, ◌+◌, ℕ, true, List, [], ◌∷◌, length, Some}
 use Rattle.std.specs.List.{AllByRecursion}
 use Rattle.rel_model.specs.Words.{IsFull}
-use Rattle.rel_model.specs.Equations.{node_words}
 use Rattle.run_model.specs.declared.event.Event.{Event}
 use Rattle.run_model.specs.declared.outcome.Outcome.{Outcome}
 use Rattle.run_model.specs.declared.outcome.Outcome.TheVariants.{Parse, Ill, NoMemory}
@@ -20,6 +19,7 @@ use Rattle.rv_words.specs.Said.{Said, said_by}
 use Rattle.rv_ends.specs.Given.{file_words, limit_of}
 use Rattle.rv_ends.specs.Writing.{Sunk, HasPut}
 use Rattle.relview.specs.Top.{HasRun, Answers, outcomes_of, status_of}
+use Rattle.relview.specs.Tables.{nodes_of_batch}
 use Rattle.relview.specs.declared.report.Report.{Report}
 
 -- memory ran out for no command
@@ -52,11 +52,16 @@ pub record NoneFailed (shelf_old shelf_new : Told) (old new : Sunk) : Type 0 whe
   pub writes : Rose old.faults new.faults → ⊥
   pub puts : Rose shelf_old.put_faults shelf_new.put_faults → ⊥
 
--- nothing was wanting in a run: no command lacked memory, the words have a vacant place, and no write and no put failed
+-- the words of each batch have a vacant place
+abbrev pub AllVacant : ℕ → ℕ → Report → Type 0
+AllVacant bits count report = (b : ℕ) → b < count → IsFull (nodes_of_batch bits report b) → ⊥
+
+-- nothing was wanting in a run: no command lacked memory, the words of each batch have a vacant place, and no write and
+-- no put failed
 pub record NothingLacked (words : List Word) (shelf_old shelf_new : Told) (old new : Sunk) (report : Report)
     (run : HasRun words shelf_old shelf_new old new report) : Type 0 where
   pub memory : HadMemory (outcomes_of report)
-  pub vacant : IsFull (node_words run.said.nodes report.words.items) → ⊥
+  pub vacant : AllVacant run.said.nodes (length run.input.ends) report
   pub outside : NoneFailed shelf_old shelf_new old new
 
 -- such a run is complete: each outcome is the due one, or tells of an atomic block that a name was changed before its

@@ -1,5 +1,9 @@
+pub mod OverTable
+pub mod Between
+pub mod Batches
 pub mod Finished
 pub mod Top
+pub mod Tables
 pub mod Alone
 pub mod Ending
 pub mod Complete

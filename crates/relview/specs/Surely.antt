@@ -1,15 +1,13 @@
 -- What the program promises over a shelf and a sink of which no call fails.
 use Rattle.std.specs.Prelude.{◌≡◌, ◌≤◌, ◌⊎◌, ℕ, true, List, length, Some}
 use Rattle.std.specs.List.{AllByRecursion}
-use Rattle.rel_model.specs.Words.{IsFull}
-use Rattle.rel_model.specs.Equations.{node_words}
 use Rattle.rv_io.specs.Outside.{Files, Told}
 use Rattle.rv_words.specs.Uses.{Word}
 use Rattle.rv_words.specs.Said.{Said, said_by}
 use Rattle.rv_ends.specs.Given.{file_words, limit_of}
 use Rattle.rv_ends.specs.Writing.{Sunk}
 use Rattle.relview.specs.Top.{HasRun, Answers, outcomes_of}
-use Rattle.relview.specs.Complete.{HadMemory, IsComplete}
+use Rattle.relview.specs.Complete.{HadMemory, AllVacant, IsComplete}
 use Rattle.relview.specs.declared.report.Report.{Report}
 
 -- the file of each FILE word is within its limit
@@ -24,7 +22,7 @@ pub record IsSure (words : List Word) (shelf_old shelf_new : Told) (old new : Su
   -- where the words are in the set, and the files are told and within their limits, the scripts ran or memory ran out
   pub begins : (said : Said) → said_by words ≡ Some said → (files : Files) → shelf_old.files ≡ Some files
       → FilesFit files words → (report.ran ≡ true) ⊎ (report.status ≡ 5)
-  -- where they ran, no command lacked memory and the words of the table have a vacant place, the run is complete
+  -- where they ran, no command lacked memory and the words of each batch have a vacant place, the run is complete
   pub complete : (run : HasRun words shelf_old shelf_new old new report) → HadMemory (outcomes_of report)
-      → (IsFull (node_words run.said.nodes report.words.items) → ⊥)
+      → AllVacant run.said.nodes (length run.input.ends) report
       → IsComplete words shelf_old shelf_new old new report run

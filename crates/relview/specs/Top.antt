@@ -1,12 +1,11 @@
 -- What the program promises of each run.
-use Rattle.std.specs.Prelude.{◌≡◌, ◌⊎◌, ℕ, Bool, true, false, cond, List, [], map, Some}
+use Rattle.std.specs.Prelude.{◌≡◌, ◌⊎◌, ℕ, Bool, true, false, cond, List, map, Some}
 use Rattle.std.specs.List.{list_any, list_all}
 use Rattle.std.specs.Bool.{MatchBool}
 use Rattle.run_model.specs.declared.outcome.Outcome.{Outcome}
 use Rattle.run_model.specs.declared.outcome.Outcome.TheVariants.{Done, NoMemory}
 use Rattle.run_model.specs.Inputs.{Input, Reading, AreReadings}
 use Rattle.run_model.specs.declared.files.Loaded.{Loaded}
-use Rattle.rv_runs.specs.Runs.{input_with}
 use Rattle.run_model.specs.Legal.{IsLegal}
 use Rattle.run_model.specs.Page.{page, saves}
 use Rattle.run_model.specs.Stored.{HoldsRun, HoldsNothing}
@@ -17,6 +16,7 @@ use Rattle.rv_ends.specs.Given.{IsInput}
 use Rattle.rv_ends.specs.Lines.{IsSaid}
 use Rattle.rv_ends.specs.Writing.{Sunk, IsWritten, IsOut, IsTold, HasNoPut}
 use Rattle.relview.specs.declared.report.Report.{Report}
+use Rattle.relview.specs.Finished.{input_with}
 
 -- ---- statuses
 -- whether an outcome is want of memory
@@ -49,30 +49,31 @@ pub record HasRun (words : List Word) (shelf_old shelf_new : Told) (old new : Su
   pub given : IsInput said shelf_old.files input
   -- however the sessions took their turns, the history and the outcomes are lawful
   pub legal : IsLegal input report.history.items (outcomes_of report)
-  -- the words of the table, which all scripts share as one batch, are sound and hold each assigned relation with its
-  -- value; no more nodes are stored than the commands may cost; and where a table was full, the words are full
-  pub holds : HoldsRun said.nodes input report.history.items (outcomes_of report) [] report.words.items
+  -- the words of each batch, of those that are over and of the last one, are sound and hold each relation that the
+  -- batch assigned with its value, and those of the names that live on with theirs; no more nodes are stored than what
+  -- lived on into the batch used and its commands may cost; and where its table was full, the words are full
+  pub holds : HoldsRun said.nodes input report.history.items (outcomes_of report) report.old.items report.words.items
   -- the page was written and the files were put, with the status of the outcomes, or with 4 a part of them
   pub told : IsTold shelf_old shelf_new old new (page input report.history.items (outcomes_of report))
       (saves input report.history.items (outcomes_of report)) (status_of (outcomes_of report)) report.status
 
--- these scripts ran, with these relation files and options; the same of what the scripts are read as
+-- these scripts ran, in batches that end at these places, with these relation files and options; the same of what the
+-- scripts are read as
 pub record RanGiven (bits : ℕ) (scripts : List (List ℕ)) (files : List Loaded) (turns : ℕ) (asked : Bool)
-    (shelf_old shelf_new : Told)
-    (old new : Sunk) (report : Report) : Type 0 where
+    (ends : List ℕ) (shelf_old shelf_new : Told) (old new : Sunk) (report : Report) : Type 0 where
   pub readings : List Reading
   pub read : AreReadings scripts readings
-  pub legal : IsLegal (input_with readings files turns asked) report.history.items (outcomes_of report)
-  pub holds : HoldsRun bits (input_with readings files turns asked) report.history.items (outcomes_of report) []
-      report.words.items
-  pub told : IsTold shelf_old shelf_new old new (page (input_with readings files turns asked) report.history.items
+  pub legal : IsLegal (input_with readings files turns asked ends) report.history.items (outcomes_of report)
+  pub holds : HoldsRun bits (input_with readings files turns asked ends) report.history.items (outcomes_of report)
+      report.old.items report.words.items
+  pub told : IsTold shelf_old shelf_new old new (page (input_with readings files turns asked ends) report.history.items
       (outcomes_of report))
-      (saves (input_with readings files turns asked) report.history.items (outcomes_of report))
+      (saves (input_with readings files turns asked ends) report.history.items (outcomes_of report))
       (status_of (outcomes_of report)) report.status
 
--- the report has no history, no outcomes and no words
+-- the report has no history, no outcomes, no batch that is over and no words
 abbrev pub IsEmpty : Report → Type 0
-IsEmpty report = HoldsNothing report.history.items (outcomes_of report) [] report.words.items
+IsEmpty report = HoldsNothing report.history.items (outcomes_of report) report.old.items report.words.items
 
 -- a line was said, whole or in part
 pub record Says (words : List Word) (shelf_old shelf_new : Told) (old new : Sunk) (status : ℕ) : Type 0 where
@@ -100,7 +101,8 @@ Answers words shelf_old shelf_new old new report =
     (HasStopped words shelf_old shelf_new old new report)
 
 -- scripts that were given ran, or nothing did
-abbrev pub AnswersGiven : ℕ → List (List ℕ) → List Loaded → ℕ → Bool → Told → Told → Sunk → Sunk → Report → Type 0
-AnswersGiven bits scripts files turns asked shelf_old shelf_new old new report =
-    MatchBool report.ran (RanGiven bits scripts files turns asked shelf_old shelf_new old new report)
+abbrev pub AnswersGiven : ℕ → List (List ℕ) → List Loaded → ℕ → Bool → List ℕ → Told → Told → Sunk → Sunk → Report
+    → Type 0
+AnswersGiven bits scripts files turns asked ends shelf_old shelf_new old new report =
+    MatchBool report.ran (RanGiven bits scripts files turns asked ends shelf_old shelf_new old new report)
     (GaveUp shelf_old shelf_new old new report)

@@ -1,5 +1,5 @@
 //! Laws of the program's runs, each a function that does nothing.
-ghost use Rattle.relview.specs.Alone.{AloneIsSolo, AloneIsOneRun, EnoughRoom};
+ghost use Rattle.relview.specs.Alone.{AloneIsSolo, AloneIsOneRun, EnoughRoom, EnoughRoomAtOnce};
 ghost use Rattle.relview.specs.Blocks.{BlocksAreAtomic};
 ghost use Rattle.relview.specs.Complete.{CompleteRuns, RunsBegin};
 
@@ -15,14 +15,16 @@ pub fn alone_is_one_run()
     ensures { AloneIsOneRun }
 {}
 
-/// A run whose commands cost less than its table has places for nodes finds no full table.
+/// A batch finds no full table where the uses that lived on into it and the costs of its commands are fewer than its
+/// table has places for nodes; so does a run of one batch whose commands cost less than that.
 pub fn enough_room()
-    ensures { EnoughRoom }
+    ensures batches { EnoughRoom }
+    ensures at_once { EnoughRoomAtOnce }
 {}
 
-/// A run in which nothing was wanting is complete: where no command lacked memory, the words of the table have a vacant
-/// place, and no write and no put failed, each outcome is the one that is due, or tells of an atomic block that a name
-/// was changed before its commit, the page was written whole and its files were put.
+/// A run in which nothing was wanting is complete: where no command lacked memory, the words of each batch have a
+/// vacant place, and no write and no put failed, each outcome is the one that is due, or tells of an atomic block that
+/// a name was changed before its commit, the page was written whole and its files were put.
 pub fn complete_runs()
     ensures { CompleteRuns }
 {}

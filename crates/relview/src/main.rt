@@ -1,6 +1,8 @@
 //! `relview FILE...`: runs scripts at once, and writes their page to standard output and their files beside it.
 #![tactic(auto)]
 
+pub mod batches;
+pub mod between;
 pub mod laws;
 pub mod over_table;
 pub mod program;

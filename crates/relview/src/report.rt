@@ -2,6 +2,7 @@
 ghost use Rattle.std.specs.Prelude.{◌≡◌, false};
 ghost use Rattle.relview.specs.Top.{IsEmpty};
 
+use run_model::batch::OldBatch;
 use run_model::event::Event;
 use run_model::outcome::Outcome;
 use std::alloc::Global;
@@ -16,7 +17,10 @@ pub struct Report {
     pub history: Vec<Event>,
     /// A list of outcomes for each script.
     pub outcomes: Vec<Vec<Outcome>>,
-    /// The words of the table over which the scripts ran, in the end.
+    /// What is left of each batch but the last: how many events there were up to its end, the words of its table, and
+    /// the names that lived on with their relations in these words.
+    pub old: Vec<OldBatch>,
+    /// The words of the table over which the last batch ran, in the end.
     pub words: Vec<u64>,
 }
 
@@ -31,6 +35,7 @@ pub fn empty_report(alloc: Global, status: u8) -> Report
         ran: false,
         history: Vec::new(alloc),
         outcomes: Vec::new(alloc),
+        old: Vec::new(alloc),
         words: Vec::new(alloc),
     }
 }

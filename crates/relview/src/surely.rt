@@ -10,7 +10,7 @@ ghost use Rattle.relview.specs.Surely.{IsSure};
 use crate::report::Report;
 use crate::top::relview;
 use rv_io::{Shelf, Sink, SureShelf, SureSink};
-use rv_words::files_of;
+use rv_words::words_of;
 use std::alloc::Global;
 use std::sync::Wait;
 use std::thread::Threads;
@@ -39,8 +39,8 @@ pub fn has_files(alloc: Global, words: &[String], shelf: &SureShelf) -> bool
     ensures { result ≡ true
         → All (λ w. IsTrue ((⟦<SureShelf as Shelf>⟧.told shelf.now).may_pick w)) (file_words (texts words.now)) }
 {
-    match files_of(alloc, words) {
-        Ok(names) => has_all(names.as_slice(), shelf),
+    match words_of(alloc, words) {
+        Ok(options) => has_all(options.files.as_slice(), shelf),
         Err(_) => false,
     }
 }

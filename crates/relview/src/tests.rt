@@ -1,4 +1,5 @@
 //! What runs of the program write, with which status.
+mod batches;
 mod faults;
 mod files;
 mod gates;

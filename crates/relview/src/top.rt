@@ -5,6 +5,7 @@ ghost use Rattle.lang_model.specs.Limits.{script_limit};
 ghost use Rattle.rv_io.specs.Outside.{Told};
 ghost use Rattle.rv_io.specs.Reading.{RefusesFile};
 ghost use Rattle.run_model.specs.Filed.{saved_all};
+ghost use Rattle.run_model.specs.Inputs.{Rise};
 ghost use Rattle.rv_words.specs.Said.{said_by};
 ghost use Rattle.rv_words.specs.Uses.{Word};
 ghost use Rattle.rv_words.specs.Shown.{texts, shown};
@@ -14,7 +15,7 @@ ghost use Rattle.rv_ends.specs.Lines.{IsFirst};
 ghost use Rattle.rv_ends.specs.Writing.{IsTold, HasNoPut, sunk};
 ghost use Rattle.relview.specs.Top.{Answers, AnswersGiven, HasStopped, status_of};
 
-use crate::over_table::{Finished, run_over_table};
+use crate::batches::{Finished, run_batches};
 use crate::report::{Report, empty_report};
 use crate::statuses::status_of;
 use fork_quads::{Gate, OpenGate};
@@ -23,7 +24,7 @@ use run_model::files::Loaded;
 use rv_ends::{Halt, read_files, say_too_long, say_unread, say_usage, tell};
 use rv_generate::generate;
 use rv_io::{ReadError, Shelf, Sink};
-use rv_words::{Options, WordsError, files_of, words_of};
+use rv_words::{Options, WordsError, words_of};
 use std::alloc::Global;
 use std::sync::Wait;
 use std::thread::Threads;
@@ -59,7 +60,7 @@ pub fn relview_gated<R: Threads + Wait + Sync, S: Shelf, K: Sink, G: Gate + Sync
         (sunk (K.written sink.old) (K.faults sink.old)) (sunk (K.written sink.new) (K.faults sink.new)) result }
 {
     match words_of(alloc, words) {
-        Ok(options) => run_options(rt, alloc, words, &options, shelf, sink, gate),
+        Ok(options) => run_options(rt, alloc, &options, shelf, sink, gate),
         Err(error) => refuse_words(alloc, sink, error),
     }
 }
@@ -107,24 +108,32 @@ fn refuse_file<K: Sink>(alloc: Global, sink: &mut K, halt: Halt) -> Report
 fn run_options<R: Threads + Wait + Sync, S: Shelf, K: Sink, G: Gate + Sync>(
     rt: &R,
     alloc: Global,
-    words: &[String],
     options: &Options,
     shelf: &mut S,
     sink: &mut K,
     gate: &G,
 ) -> Report
-    requires taken { said_by (texts words.now) ≡ Some (shown options.now) }
-    requires may_pick { All (λ w. IsTrue ((S.told shelf.old).may_pick w)) (file_words (texts words.now)) }
-    ensures { Answers (texts words.now) (S.told shelf.old) (S.told shelf.new)
+    requires taken { (words : List Word) × (said_by words ≡ Some (shown options.now)) }
+    requires may_pick { All (λ w. IsTrue ((S.told shelf.old).may_pick w)) (texts options.now.files.items) }
+    ensures { (words : List Word) → said_by words ≡ Some (shown options.now)
+        → Answers words (S.told shelf.old) (S.told shelf.new)
         (sunk (K.written sink.old) (K.faults sink.old)) (sunk (K.written sink.new) (K.faults sink.new)) result }
 {
     match options.number {
         Some(number) => run_generated(rt, alloc, options, number, shelf, sink, gate),
-        None => run_named(rt, alloc, words, options, shelf, sink, gate),
+        None => run_named(rt, alloc, options, shelf, sink, gate),
     }
 }
 
-/// Runs the scripts that are generated from a number.
+/// How many scripts there are.
+fn count_of(scripts: &[Vec<u8>]) -> u32
+    requires few { length scripts.now ≤ 64 }
+    ensures { result ≡ length scripts.now }
+{
+    scripts.len() as u32
+}
+
+/// Runs the scripts that are generated from a number, as one batch.
 fn run_generated<R: Threads + Wait + Sync, S: Shelf, K: Sink, G: Gate + Sync>(
     rt: &R,
     alloc: Global,
@@ -149,6 +158,7 @@ fn run_generated<R: Threads + Wait + Sync, S: Shelf, K: Sink, G: Gate + Sync>(
             rt,
             alloc,
             options,
+            &[count_of(scripts.as_slice())],
             scripts.as_slice(),
             &[],
             shelf,
@@ -163,27 +173,24 @@ fn run_generated<R: Threads + Wait + Sync, S: Shelf, K: Sink, G: Gate + Sync>(
 fn run_named<R: Threads + Wait + Sync, S: Shelf, K: Sink, G: Gate + Sync>(
     rt: &R,
     alloc: Global,
-    words: &[String],
     options: &Options,
     shelf: &mut S,
     sink: &mut K,
     gate: &G,
 ) -> Report
-    requires taken { said_by (texts words.now) ≡ Some (shown options.now) }
+    requires taken { (words : List Word) × (said_by words ≡ Some (shown options.now)) }
     requires number { options.now.number ≡ None }
-    requires may_pick { All (λ w. IsTrue ((S.told shelf.old).may_pick w)) (file_words (texts words.now)) }
-    ensures { Answers (texts words.now) (S.told shelf.old) (S.told shelf.new)
+    requires may_pick { All (λ w. IsTrue ((S.told shelf.old).may_pick w)) (texts options.now.files.items) }
+    ensures { (words : List Word) → said_by words ≡ Some (shown options.now)
+        → Answers words (S.told shelf.old) (S.told shelf.new)
         (sunk (K.written sink.old) (K.faults sink.old)) (sunk (K.written sink.new) (K.faults sink.new)) result }
 {
-    let names = match files_of(alloc, words) {
-        Ok(names) => names,
-        Err(error) => return refuse_words(alloc, sink, error),
-    };
-    match read_files(alloc, shelf, names.as_slice()) {
+    match read_files(alloc, shelf, options.files.as_slice()) {
         Ok(given) => run_given(
             rt,
             alloc,
             options,
+            options.ends.as_slice(),
             given.scripts.as_slice(),
             given.files.as_slice(),
             shelf,
@@ -194,11 +201,12 @@ fn run_named<R: Threads + Wait + Sync, S: Shelf, K: Sink, G: Gate + Sync>(
     }
 }
 
-/// Runs scripts over a table of their own, and writes what they came to.
+/// Runs scripts in batches, which end at these places, and writes what they came to.
 fn run_given<R: Threads + Wait + Sync, S: Shelf, K: Sink, G: Gate + Sync>(
     rt: &R,
     alloc: Global,
     options: &Options,
+    ends: &[u32],
     scripts: &[Vec<u8>],
     files: &[Loaded],
     shelf: &mut S,
@@ -212,12 +220,13 @@ fn run_given<R: Threads + Wait + Sync, S: Shelf, K: Sink, G: Gate + Sync>(
     requires some { 1 ≤ length scripts.now }
     requires few { length scripts.now ≤ 64 }
     requires limits { All (λ v. length v.items ≤ script_limit) scripts.now }
+    requires ends { Rise 0 (length scripts.now) ends.now }
     ensures { AnswersGiven options.now.nodes (map (λ v. v.items) scripts.now) files.now options.now.turns
-        options.now.history
+        options.now.history ends.now
         (S.told shelf.old) (S.told shelf.new)
         (sunk (K.written sink.old) (K.faults sink.old)) (sunk (K.written sink.new) (K.faults sink.new)) result }
 {
-    match run_over_table(rt, alloc, options, scripts, files, gate) {
+    match run_batches(rt, alloc, options, ends, scripts, files, gate) {
         Ok(finished) => report_of(shelf, sink, finished),
         Err(NoMemory) => empty_report(alloc, 5),
     }
@@ -229,6 +238,7 @@ fn report_of<S: Shelf, K: Sink>(shelf: &mut S, sink: &mut K, finished: Finished)
     ensures ran { result.ran ≡ true }
     ensures history { result.history.items ≡ finished.history.items }
     ensures outcomes { result.outcomes.items ≡ finished.outcomes.items }
+    ensures old { result.old.items ≡ finished.old.items }
     ensures words { result.words.items ≡ finished.words.items }
     ensures told { IsTold (S.told shelf.old) (S.told shelf.new) (sunk (K.written sink.old) (K.faults sink.old))
         (sunk (K.written sink.new) (K.faults sink.new))
@@ -240,6 +250,7 @@ fn report_of<S: Shelf, K: Sink>(shelf: &mut S, sink: &mut K, finished: Finished)
         outcomes,
         page,
         saves,
+        old,
         words,
     } = finished;
     let whole = status_of(outcomes.as_slice());
@@ -249,6 +260,7 @@ fn report_of<S: Shelf, K: Sink>(shelf: &mut S, sink: &mut K, finished: Finished)
         ran: true,
         history,
         outcomes,
+        old,
         words,
     }
 }

@@ -4,6 +4,7 @@ ghost use Rattle.lang_model.specs.Limits.{script_limit};
 
 use fork_quads::{Crew, Gate, OpenGate};
 use lang_model::limits::SCRIPT_LIMIT;
+use name_map::NameMap;
 use pair_table::PairTable;
 use rel_engine::Works;
 use rel_model::NoMemory;
@@ -11,8 +12,9 @@ use rel_model::engine_trait::Engine;
 use run_model::event::Event;
 use run_model::files::{Loaded, Save};
 use run_model::outcome::Outcome;
+use rv_blocks::Versions;
 use rv_print::event_line;
-use rv_runs::{Ended, run_all};
+use rv_runs::{BatchEnd, make_page, run_batch, take_apart};
 use rv_sessions::{Reply, Transcript, run};
 use rv_workspace::Book;
 use std::alloc::{AllocError, Global};
@@ -185,7 +187,7 @@ fn session_over<R: Wait + Abort, E: Engine + Drop>(
         &mut pass,
         &mut engine,
     );
-    let (_, history) = book.close(pass).into_parts();
+    let (_, history, _, _) = book.close(pass).into_parts();
     let Ok(transcript) = ran else {
         panic!(rt; "no memory")
     };
@@ -261,20 +263,22 @@ fn letters_of_all(alloc: Global, outcomes: &[Vec<Outcome>]) -> Result<Vec<u8>, A
     Ok(letters)
 }
 
-/// What a run came to.
-fn run_came<E: Drop>(alloc: Global, ended: Ended<E>) -> Result<Came, AllocError> {
-    let letters = letters_of_all(alloc, ended.outcomes.as_slice())?;
-    let Ended {
+/// What a batch came to as a run of its own.
+fn run_came<E: Drop>(alloc: Global, ended: BatchEnd<E>, history: bool) -> Result<Came, NoMemory> {
+    let BatchEnd {
         engine: _,
-        history,
-        outcomes: _,
-        page,
-        saves,
+        events,
+        told,
+        names: _,
+        versions: _,
     } = ended;
+    let page = make_page(alloc, told.as_slice(), events.as_slice(), history)?;
+    let (outcomes, saves) = take_apart(alloc, told)?;
+    let letters = letters_of_all(alloc, outcomes.as_slice())?;
     Ok(Came {
         outcomes: letters,
         page,
-        history,
+        history: events,
         saves,
     })
 }
@@ -298,17 +302,24 @@ pub(crate) fn run_at_once<R: Threads + Wait + Abort + Sync, G: Gate + Sync>(
         panic!(rt; "no memory")
     };
     let works = Works::new(Crew::new(rt, &table, seat, options.workers, gate));
-    match run_all(
+    let names = NameMap::new(alloc);
+    let versions = Versions::new(alloc);
+    let Ok(ended) = run_batch(
         rt,
         alloc,
         scripts,
+        1,
         files,
         options.turns,
-        history,
         gate,
+        names,
+        versions,
         works,
-    ) {
-        Ok(ended) => run_came(alloc, ended),
+    ) else {
+        panic!(rt; "no memory")
+    };
+    match run_came(alloc, ended, history) {
+        Ok(came) => Ok(came),
         Err(NoMemory) => panic!(rt; "no memory"),
     }
 }

@@ -207,7 +207,7 @@ fn dropped_between<R: Wait + Abort, E: Engine + Drop>(
     );
     behind_the_assignment(rt, alloc, &book, &mut first, &mut second);
     book.join_pass(&mut first, second);
-    let (_, history) = book.close(first).into_parts();
+    let (_, history, _, _) = book.close(first).into_parts();
     history
 }
 
@@ -309,7 +309,7 @@ fn assigned_again<R: Wait + Abort, E: Engine + Drop>(
     assert!(rt; version_of(rt, alloc, &book, &mut first) == 3);
     assert!(rt; commits(rt, alloc, &book, &mut first, &mut mine, 3, 3).is_none());
     book.join_pass(&mut first, second);
-    let (_, history) = book.close(first).into_parts();
+    let (_, history, _, _) = book.close(first).into_parts();
     history
 }
 

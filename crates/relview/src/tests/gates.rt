@@ -186,9 +186,8 @@ fn two_sessions_go_on_at_once_and_print_what_the_history_says(rt: HostRuntime) -
     Ok(())
 }
 
-/// A script that counts the pairs of a function by chance, of 4096 elements, composed with itself: a composition so
-/// heavy that it forks.
-fn heavy_script(alloc: Global) -> Result<String, AllocError> {
+/// A function by chance, of 4096 elements: a composition with itself is so heavy that it forks.
+fn heavy_relation(alloc: Global) -> Result<String, AllocError> {
     let mut text = String::new(alloc);
     text.push_str("REL A 4096 4096 {1:1")?;
     let mut state = 1u64;
@@ -199,14 +198,15 @@ fn heavy_script(alloc: Global) -> Result<String, AllocError> {
         let col = (state >> 33) % 4096 + 1;
         text.push_str(format!(in alloc; "; {row}:{col}")?.as_str())?;
     }
-    text.push_str("}. COUNT A*A.")?;
+    text.push_str("}.")?;
     Ok(text)
 }
 
 #[test]
 fn two_workers_of_a_session_are_at_work_at_once(rt: HostRuntime) -> Result<(), Fail> {
     let alloc = rt.alloc();
-    let script = heavy_script(alloc)?;
+    let mut script = heavy_relation(alloc)?;
+    script.push_str(" COUNT A*A.")?;
     let files = [("a.rv", script.as_str().as_bytes())];
     'times: for _ in 0..TIMES {
         let gate = Holding::new(0, 1, BEGUN + ENDED);
@@ -221,4 +221,142 @@ fn two_workers_of_a_session_are_at_work_at_once(rt: HostRuntime) -> Result<(), F
         assert_written(&rt, &ran, "1.2: 4096\n", 0, "two workers")?;
     }
     Ok(())
+}
+
+/// Holds session 1 for a while, and sees whether another session than 1 and 2 begins before both have ended.
+#[derive(Drop)]
+struct Batched {
+    ended: AtomicU32,
+    later: AtomicU32,
+    early: AtomicBool,
+}
+
+impl Watch for Batched {
+    fn begins(&self, piece: u32) {
+        if piece == 1_000_001 {
+            for _ in 0..LOOKS / 10_000 {
+                spin_loop();
+            }
+        }
+        if piece > 1_000_002 {
+            let _ = self.later.fetch_add(1, Ordering::SeqCst);
+            if self.ended.load(Ordering::SeqCst) != 2 {
+                self.early.store(true, Ordering::SeqCst);
+            }
+        }
+    }
+
+    fn ends(&self, piece: u32) {
+        if piece == 1_000_001 || piece == 1_000_002 {
+            let _ = self.ended.fetch_add(1, Ordering::SeqCst);
+        }
+    }
+}
+
+impl Gate for Batched {}
+
+#[test]
+fn no_session_of_a_later_batch_begins_before_all_of_the_first_have_ended(
+    rt: HostRuntime,
+) -> Result<(), Fail> {
+    let alloc = rt.alloc();
+    let files = [("a.rv", b"REL X 1 1 {1:1}. PRINT X.".as_slice())];
+    'times: for _ in 0..TIMES / 4 {
+        let gate = Batched {
+            ended: AtomicU32::new(0),
+            later: AtomicU32::new(0),
+            early: AtomicBool::new(false),
+        };
+        let words = "a.rv a.rv --then a.rv a.rv --then a.rv";
+        let ran = run_gated(&rt, alloc, words, files.as_slice(), &gate)?;
+        assert!(rt;
+            !gate.early.load(Ordering::SeqCst),
+            "a session began too early"
+        );
+        assert_eq!(rt; gate.later.load(Ordering::SeqCst), 3);
+        let page = "1.2: 1 x 1\n1\n2.2: 1 x 1\n1\n3.2: 1 x 1\n1\n4.2: 1 x 1\n1\n5.2: 1 x 1\n1\n";
+        assert_written(&rt, &ran, page, 0, "three batches")?;
+    }
+    Ok(())
+}
+
+/// Holds the first piece of a composition until session 3 has ended, which begins when the piece has.
+#[derive(Drop)]
+struct Crossing {
+    begun: AtomicBool,
+    ended: AtomicBool,
+    gave_up: AtomicBool,
+}
+
+impl Crossing {
+    /// Waits until this is so, and gives up after so many looks.
+    fn hold(&self, until: &AtomicBool) {
+        for _ in 0..LOOKS {
+            if until.load(Ordering::SeqCst) {
+                return;
+            }
+            spin_loop();
+        }
+        self.gave_up.store(true, Ordering::SeqCst);
+    }
+}
+
+impl Watch for Crossing {
+    fn begins(&self, piece: u32) {
+        if piece == 0 {
+            self.begun.store(true, Ordering::SeqCst);
+            self.hold(&self.ended);
+        }
+        if piece == 1_000_003 {
+            self.hold(&self.begun);
+        }
+    }
+
+    fn ends(&self, piece: u32) {
+        if piece == 1_000_003 {
+            self.ended.store(true, Ordering::SeqCst);
+        }
+    }
+}
+
+impl Gate for Crossing {
+    fn group<R: Threads>(
+        &self,
+        rt: &R,
+        job: Job,
+        nodes: &mut Nodes,
+        from: u32,
+        count: u32,
+    ) -> Result<Pieces, Missed> {
+        watched(rt, self, job, nodes, from, count)
+    }
+}
+
+#[test]
+fn versions_are_counted_through_the_batches(rt: HostRuntime) -> Result<(), Fail> {
+    let alloc = rt.alloc();
+    let mut script = String::new(alloc);
+    script.push_str("REL A 1 1 {}. DROP A. ")?;
+    script.push_str(heavy_relation(alloc)?.as_str())?;
+    let files = [
+        ("a.rv", script.as_str().as_bytes()),
+        (
+            "b.rv",
+            b"ATOMIC LET B = A*A COMMIT. ATOMIC LET B = A COMMIT.",
+        ),
+        ("c.rv", b"REL A 1 1 {}."),
+    ];
+    let gate = Crossing {
+        begun: AtomicBool::new(false),
+        ended: AtomicBool::new(false),
+        gave_up: AtomicBool::new(false),
+    };
+    let words = "--workers 2 a.rv --then b.rv c.rv";
+    let ran = run_gated(&rt, alloc, words, files.as_slice(), &gate)?;
+    assert!(rt;
+        !gate.gave_up.load(Ordering::SeqCst),
+        "a piece or a session was held too long"
+    );
+    let page = "2.1: refused: A changed: version 3 at the read, 4 at the commit\n";
+    assert_written(&rt, &ran, page, 1, "a block in the second batch")
 }

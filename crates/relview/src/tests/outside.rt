@@ -4,7 +4,8 @@ use lang_model::limits::SCRIPT_LIMIT;
 use std::test::Fail;
 
 const USAGE: &str =
-    "usage: relview [--workers N] [--nodes K] [--turns T] [--history] [--gen NUMBER] FILE...\n";
+    "usage: relview [--workers N] [--nodes K] [--turns T] [--history] [--gen NUMBER] \
+    FILE... [--then FILE...]...\n";
 
 #[test]
 fn words_outside_the_set_are_answered_by_the_usage_line(rt: HostRuntime) -> Result<(), Fail> {

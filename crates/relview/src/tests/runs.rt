@@ -181,6 +181,7 @@ pub fn assert_stopped(rt: &impl Abort, ran: &Ran, what: &str) {
     assert!(rt; !ran.report.ran, "at {what}");
     assert_eq!(rt; ran.report.history.len(), 0, "at {what}");
     assert_eq!(rt; ran.report.outcomes.len(), 0, "at {what}");
+    assert_eq!(rt; ran.report.old.len(), 0, "at {what}");
     assert_eq!(rt; ran.report.words.len(), 0, "at {what}");
     assert_eq!(rt; ran.shelf.put_faults(), 0, "at {what}");
 }

@@ -11,5 +11,5 @@ pub returns-in-Ok : goal.returns-in-Ok
 returns-in-Ok c =
     let kept = c.args.shelf.now.kept in
     let test = λ (name : List ℕ). is_some (kept_at kept.bytes.items kept.places.items name) in
-    λ all. files_pass test (texts c.args.words.now) c.in-Ok.names.items c.in-Ok.ensures.files
+    λ all. files_pass test (texts c.args.words.now) c.in-Ok.options c.in-Ok.ensures.taken
     (sym (ap (λ names. list_all (λ name. test (string_bytes name)) names) c.as_slice.ensures.value) ∙ sym c.has_all.ensures ∙ all)

@@ -1,4 +1,4 @@
-use Rattle.rv_sessions.proofs.Turning.{commit_begins}
+use Rattle.rv_sessions.proofs.Turning.{start_back, commit_begins}
 use Rattle.test_sessions.proofs.turns.commits.Goals as goal
 
 pub put-requires-clause-begins : goal.put-requires-clause-begins
@@ -6,3 +6,9 @@ put-requires-clause-begins g c =
     let t = c.take-taken in
     let r = c.commit-committed in
     commit_begins 1 c.args.command c.new-list.result.items r.result t.result.history r.new.self.history t.new.pass c.args.pass.now t.ensures.takes r.ensures.entered
+
+pub put-requires-clause-start : goal.put-requires-clause-start
+put-requires-clause-start g c =
+    let t = c.take-taken in
+    let r = c.commit-committed in
+    start_back t.result.history t.result.first r.new.self.first t.new.pass c.args.pass.now t.ensures.takes t.ensures.start r.ensures.first
