@@ -1,0 +1,137 @@
+-- Rooms of calls on lines, beside those of relations that stand whole.
+use Rattle.std.proofs.Common.{◌≡◌, ◌≤◌, ◌+◌, ◌-◌, ◌*◌, ◌^◌, ◌∙◌, max, cond, zero, suc, ℕ, Bool, true, false, refl, sym, ap, arith, inl, inr}
+use Rattle.std.proofs.Math.Nat.{pow-suc, pow-le-pow_right, pow-le-pow_left, mul-le-mul, mul-le-mul_right, one-le-pow}
+use Rattle.std.proofs.lemmas.Bool.{cases_lt}
+use Rattle.std.proofs.lemmas.Nat.{pow-add}
+use Rattle.rel_model.specs.Roots.{height_over, relation_room}
+use Rattle.rel_model.specs.Worker.{Worker, height_of}
+use Rattle.rel_slices.specs.declared.thin.Value.{Value}
+use Rattle.rel_slices.specs.declared.thin.Value.TheVariants.{Whole, Lines}
+use Rattle.rel_slices.specs.Thin.{ValueStands, value_rows, value_cols}
+use Rattle.rel_slices.specs.ValueRooms.{pieces_room, complement_room, full_room}
+use Rattle.rel_model.proofs.Heights.{height_of-least}
+use Rattle.rel_slices.proofs.Membering.{tree_grows}
+
+-- a line has no more nodes than a relation of as long rows, or columns
+pub line_in_rows : (least m n : ℕ) → relation_room least 1 n ≤ relation_room least m n
+unfolding height_over
+line_in_rows least m n = let z = height_of-least 1 0 (omega arith) in tree_grows (max least (max (height_of 1) (height_of n)) - least) (max least (max (height_of m) (height_of n)) - least) (omega (arith, z))
+
+pub line_in_columns : (least m n : ℕ) → relation_room least 1 m ≤ relation_room least m n
+unfolding height_over
+line_in_columns least m n = let z = height_of-least 1 0 (omega arith) in tree_grows (max least (max (height_of 1) (height_of m)) - least) (max least (max (height_of m) (height_of n)) - least) (omega (arith, z))
+
+-- ---- pieces of a value
+-- no more than 64 trees of its sizes, whatever the leaves
+pub pieces_most : (w : Worker) (least : ℕ) (v : Value) → ValueStands w v → pieces_room least v ≤ 64 * relation_room least (value_rows v) (value_cols v)
+pieces_most w least (Whole r) s = omega arith
+pieces_most w least (Lines s) h = lines least s.turned s.count s.other h.few
+  where
+    lines : (least : ℕ) (turned : Bool) (count other : ℕ) → count ≤ 64 → count * relation_room least 1 other ≤ 64 * relation_room least (cond turned other count) (cond turned count other)
+    lines least true count other few = mul-le-mul {n₁ = count} {n₂ = 64} few (line_in_columns least other count)
+    lines least false count other few = mul-le-mul {n₁ = count} {n₂ = 64} few (line_in_rows least count other)
+
+-- ---- over leaves of 8 by 8
+squares : (h : ℕ) → 4 ^ h ≡ 2 ^ h * 2 ^ h
+squares zero = refl
+squares (suc h) =
+    let p : 4 ^ suc h ≡ 4 ^ h * 4 = pow-suc 4 h in
+    let q : 2 ^ suc h ≡ 2 ^ h * 2 = pow-suc 2 h in
+    let i = squares h in
+    p ∙ ap (λ (x : ℕ). x * 4) i ∙ (let e : 2 ^ h * 2 ^ h * 4 ≡ 2 ^ h * 2 * (2 ^ h * 2) = omega arith in e) ∙ ap (λ (x : ℕ). x * x) (sym q)
+
+-- the tree of a relation within the square of a height
+pub tree_fits : (m n h : ℕ) → m ≤ 2 ^ h → n ≤ 2 ^ h → relation_room 3 m n ≤ 2 * 4 ^ (h - 3)
+unfolding height_over
+tree_fits m n h a b =
+    let u = height_of-least m h a in
+    let v = height_of-least n h b in
+    let g = tree_grows (max 3 (max (height_of m) (height_of n)) - 3) (h - 3) (omega (arith, u, v)) in
+    omega (arith, g)
+
+-- so many trees, each of 1 / 64 of the cells
+pub trees_fit : (count t h : ℕ) → count ≤ 64 → count ≤ 2 ^ h → t ≤ 2 * 4 ^ (h - 3) → count * t ≤ 2 * 4 ^ h
+trees_fit count t h few a b =
+    let some = one-le-pow h 2 (omega arith) in
+    let sq = squares h in
+    elim (cases_lt h 3) [
+      | inl k ↦ (
+          let e : 4 ^ (h - 3) ≡ 1 = ap (λ (x : ℕ). 4 ^ x) (let y : h - 3 ≡ 0 = omega (arith, k) in y) in
+          let low : t ≤ 2 = omega (arith, b, e) in
+          let m = mul-le-mul {n₁ = count} {n₂ = 2 ^ h} a low in
+          let n = mul-le-mul_right {m = 1} {n = 2 ^ h} (2 ^ h) some in
+          omega (arith, m, n, sq))
+      | inr k ↦ (
+          let m = mul-le-mul {n₁ = count} {n₂ = 64} few b in
+          let e : 4 ^ h ≡ 4 ^ (h - 3) * 4 ^ 3 = ap (λ (x : ℕ). 4 ^ x) (let y : h ≡ h - 3 + 3 = omega (arith, k) in y) ∙ pow-add 4 (h - 3) 3 in
+          omega (arith, m, e))
+    ]
+
+-- so many products, each of a line and of as many nodes as one of squares makes at most
+pub products_fit : (count h : ℕ) → count ≤ 64 → count ≤ 2 ^ h → count * (3 * 8 ^ (h - 3)) ≤ 3 * 8 ^ h
+products_fit count h few a = elim (cases_lt h 3) [
+  | inl k ↦ (
+      let e : 8 ^ (h - 3) ≡ 1 = ap (λ (x : ℕ). 8 ^ x) (let y : h - 3 ≡ 0 = omega (arith, k) in y) in
+      let m = pow-le-pow_left {n = 2} {m = 8} (omega arith) h in
+      let f : count * (3 * 8 ^ (h - 3)) ≡ count * (3 * 1) = ap (λ (x : ℕ). count * (3 * x)) e in
+      omega (arith, m, f, a))
+  | inr k ↦ (
+      let m = mul-le-mul_right {m = count} {n = 64} (3 * 8 ^ (h - 3)) few in
+      let e : 8 ^ h ≡ 8 ^ (h - 3) * 8 ^ 3 = ap (λ (x : ℕ). 8 ^ x) (let y : h ≡ h - 3 + 3 = omega (arith, k) in y) ∙ pow-add 8 (h - 3) 3 in
+      omega (arith, m, e))
+]
+
+-- an operator piece by piece
+pub pieces_fit : (w : Worker) (v : Value) (h : ℕ) → ValueStands w v → value_rows v ≤ 2 ^ h → value_cols v ≤ 2 ^ h → pieces_room 3 v ≤ 2 * 4 ^ h
+pieces_fit w (Whole r) h s a b =
+    let t = tree_fits r.rows r.cols h a b in
+    let p = pow-le-pow_right {n = 4} (omega arith) {i = h - 3} {j = h} (omega arith) in
+    omega (arith, t, p)
+pieces_fit w (Lines s) h t a b = lines s.turned s.count s.other t.few a b
+  where
+    line : (count other : ℕ) → count ≤ 64 → count ≤ 2 ^ h → other ≤ 2 ^ h → count * relation_room 3 1 other ≤ 2 * 4 ^ h
+    line count other few a b = trees_fit count (relation_room 3 1 other) h few a (tree_fits 1 other h (one-le-pow h 2 (omega arith)) b)
+
+    lines : (turned : Bool) (count other : ℕ) → count ≤ 64 → cond turned other count ≤ 2 ^ h → cond turned count other ≤ 2 ^ h → count * relation_room 3 1 other ≤ 2 * 4 ^ h
+    lines true count other few a b = line count other few b a
+    lines false count other few a b = line count other few a b
+
+-- a complement: one full line, and a difference piece by piece
+pub complement_fits : (w : Worker) (v : Value) (h : ℕ) → ValueStands w v → value_rows v ≤ 2 ^ h → value_cols v ≤ 2 ^ h → complement_room 3 v ≤ 4 * 4 ^ h
+complement_fits w (Whole r) h s a b = let p = pieces_fit w (Whole r) h s a b in omega (arith, p)
+complement_fits w (Lines s) h t a b =
+    let p = pieces_fit w (Lines s) h t a b in
+    let q = one s.turned s.count s.other a b in
+    omega (arith, p, q)
+  where
+    line : (other : ℕ) → other ≤ 2 ^ h → relation_room 3 1 other ≤ 2 * 4 ^ h
+    line other b =
+        let t = tree_fits 1 other h (one-le-pow h 2 (omega arith)) b in
+        let p = pow-le-pow_right {n = 4} (omega arith) {i = h - 3} {j = h} (omega arith) in
+        omega (arith, t, p)
+
+    one : (turned : Bool) (count other : ℕ) → cond turned other count ≤ 2 ^ h → cond turned count other ≤ 2 ^ h → relation_room 3 1 other ≤ 2 * 4 ^ h
+    one true count other a b = line other a
+    one false count other a b = line other b
+
+-- the union of products of lines, were each product to make no more than that of squares of its height makes at most
+pub outers_fit : (count m n h : ℕ) → count ≤ 64 → count ≤ 2 ^ h → m ≤ 2 ^ h → n ≤ 2 ^ h → count * (relation_room 3 1 m + 3 * 8 ^ (h - 3) + relation_room 3 m n) ≤ 7 * 8 ^ h
+outers_fit count m n h few a b c =
+    let x = trees_fit count (relation_room 3 1 m) h few a (tree_fits 1 m h (one-le-pow h 2 (omega arith)) b) in
+    let y = products_fit count h few a in
+    let z = trees_fit count (relation_room 3 m n) h few a (tree_fits m n h b c) in
+    let p = pow-le-pow_left {n = 4} {m = 8} (omega arith) h in
+    let e : count * (relation_room 3 1 m + 3 * 8 ^ (h - 3) + relation_room 3 m n) ≡ count * relation_room 3 1 m + count * (3 * 8 ^ (h - 3)) + count * relation_room 3 m n = omega arith in
+    omega (arith, x, y, z, p, e)
+
+-- the full value of one's form, whatever the leaves
+pub full_most : (least : ℕ) (v : Value) → full_room least v ≤ relation_room least (value_rows v) (value_cols v)
+full_most least (Whole r) = omega arith
+full_most least (Lines s) = line least s.turned s.count s.other
+  where
+    line : (least : ℕ) (turned : Bool) (count other : ℕ) → relation_room least 1 other ≤ relation_room least (cond turned other count) (cond turned count other)
+    line least true count other = line_in_columns least other count
+    line least false count other = line_in_rows least count other
+
+pub complement_most : (w : Worker) (least : ℕ) (v : Value) → ValueStands w v → complement_room least v ≤ 65 * relation_room least (value_rows v) (value_cols v)
+complement_most w least v s = let a = pieces_most w least v s in let b = full_most least v in omega (arith, a, b)

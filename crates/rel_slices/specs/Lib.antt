@@ -1,0 +1,6 @@
+pub mod Thin
+pub mod Ops
+pub mod Rooms
+pub mod Members
+pub mod ValueRooms
+pub mod Fits
