@@ -50,6 +50,11 @@ def labels(names, size):
     return [names.names[at] if names else str(at + 1) for at in range(size)]
 
 
+def told_of(relation):
+    """What stands below a picture."""
+    return f"{relation.rows} x {relation.columns}, pairs {len(relation.pairs)}"
+
+
 def density(relation, block):
     """For each square of block by block cells that has a pair, how dark it is, from 1 to 8."""
     counts = {}
@@ -90,8 +95,8 @@ def bands(marks, rows, columns, side):
     return lines
 
 
-def svg(relation, options, marks):
-    """The picture of a matrix."""
+def svg(relation, options, marks, told=None):
+    """The picture of a matrix, with a line below it: what `told` says, or else its type and how many pairs it has."""
     block = max(1, -(-max(relation.rows, relation.columns) // CELLS))
     rows, columns = -(-relation.rows // block), -(-relation.columns // block)
     side = max(2, min(16, 768 // max(rows, columns, 1)))
@@ -100,7 +105,7 @@ def svg(relation, options, marks):
     above = labels(options.columns, columns) if named else []
     left = 8 + 7 * max((len(word) for word in beside), default=0)
     top = 8 + 7 * max((len(word) for word in above), default=0)
-    told = f"{relation.rows} x {relation.columns}, pairs {len(relation.pairs)}"
+    told = told or told_of(relation)
     if block > 1:
         told += f"; a square is {block} by {block}"
     # the text below may be wider than the grid
@@ -210,7 +215,7 @@ def diagram(relation, options, marks):
         raise Bad(f"a diagram has as many rows as columns, not {relation.rows} x {relation.columns}")
     ranks, words = ranks_of(relation), labels(options.rows, relation.rows)
     across = 44 + 7 * max((len(word) for word in words), default=0)
-    told = f"{relation.rows} x {relation.columns}, pairs {len(relation.pairs)}"
+    told = told_of(relation)
     width = max(across * max(map(len, ranks), default=0), 7 * len(told)) + 16
     height = 48 * len(ranks) + 28
     places = {}

@@ -1,0 +1,1 @@
+"""The tests that tools/notebook/check runs."""
