@@ -10,10 +10,10 @@ use Rattle.rel_model.specs.Relation.{Relation, has, relation_of, size_limit}
 use Rattle.rel_model.specs.Operators.{inter, compose, transpose}
 use Rattle.rel_model.specs.Algebra.{HasType}
 use Rattle.rel_model.specs.Domains.{pairing}
-use Rattle.rel_model.specs.Worker.{Worker, Stands, set_of, Gives, Keeps, height_of, height_of_three, wide_room}
+use Rattle.rel_model.specs.Worker.{Worker, Stands, set_of, Gives, Keeps, height_of, height_of_three, derived_room}
 use Rattle.rel_model.proofs.Heights.{height_of-covers, height_of-least}
 use Rattle.rel_model.proofs.Members.{inside, type-test, in_test, from_test, one_relation, type-inter, in_inter, from_inter, type-transpose, in_transpose, from_transpose, type-compose, in_compose, from_compose}
-use Rattle.rel_model.proofs.Rooms.{derived_room-least, wide_room-four}
+use Rattle.rel_model.proofs.Rooms.{derived_room-least}
 use Rattle.rel_model.proofs.Workers.{gives_set, gives_stands, keeps_set}
 use Rattle.rel_domains.specs.declared.rule.Rule.{Rule}
 use Rattle.rel_domains.specs.declared.rule.Rule.TheVariants.{Quotient, Remainder}
@@ -114,5 +114,5 @@ right_height a b l k = height_of-least b (height_of (max a b)) (let c = height_o
 pub through-most : (m n c h : ℕ) → height_of m ≤ h → height_of n ≤ h → height_of c ≤ h → 24 * 8 ^ height_of_three m n c ≤ 24 * 8 ^ h
 through-most m n c h a b d = let p = pow-le-pow_right {n = 8} (omega arith) {i = height_of_three m n c} {j = h} (omega arith) in omega (arith, p)
 
-pub wide-enough : (m k c : ℕ) → 52 * 8 ^ height_of_three m k c ≤ wide_room m k c
-wide-enough m k c = let p = derived_room-least m k c in let q = wide_room-four m k c in omega (arith, p, q)
+pub derived-enough : (m k c : ℕ) → 52 * 8 ^ height_of_three m k c ≤ derived_room m k c
+derived-enough m k c = let p = derived_room-least m k c in omega (arith, p)

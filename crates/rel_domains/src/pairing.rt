@@ -2,7 +2,7 @@
 ghost use Rattle.std.specs.Prelude.{◌≡◌, ◌<◌, ◌≤◌, ◌*◌, ◌^◌, max, IfOk};
 ghost use Rattle.rel_model.specs.Relation.{relation_of, size_limit};
 ghost use Rattle.rel_model.specs.Operators.{compose as compose_of, transpose as transpose_of};
-ghost use Rattle.rel_model.specs.Worker.{Stands, set_of, Gives, Keeps, MakesAtMost, HasCause, height_of_three, wide_room};
+ghost use Rattle.rel_model.specs.Worker.{Stands, set_of, Gives, Keeps, MakesAtMost, HasCause, height_of_three, derived_room};
 ghost use Rattle.rel_model.specs.Domains.{HasDomainCause, pairing};
 ghost use Rattle.rel_domains.specs.Rules.{IsRule, passes};
 ghost use Rattle.rel_domains.specs.Refusals.{refusal_of};
@@ -47,7 +47,7 @@ fn paired<Q: Quads>(q: &mut Q, r: Rel, s: Rel, cols: u32) -> Result<Rel, Lack>
     ensures value { IfOk result (Gives (Q.worker q.new) r.rows cols
         (pairing (set_of (Q.worker q.old) r) (set_of (Q.worker q.old) s))) }
     ensures keeps { Keeps (Q.worker q.old) (Q.worker q.new) }
-    ensures room { MakesAtMost (wide_room r.rows (max r.cols s.cols) cols) (Q.worker q.old) (Q.worker q.new) }
+    ensures room { MakesAtMost (derived_room r.rows (max r.cols s.cols) cols) (Q.worker q.old) (Q.worker q.new) }
     ensures cause { HasCause Q.lean (Q.worker q.old) (Q.worker q.new) result }
 {
     let by = s.cols.max(1);
@@ -68,7 +68,7 @@ pub fn fork<Q: Quads>(q: &mut Q, r: Rel, s: Rel) -> Result<Rel, DomainError>
     ensures value { IfOk result (Gives (Q.worker q.new) r.rows (r.cols * s.cols)
         (pairing (set_of (Q.worker q.old) r) (set_of (Q.worker q.old) s))) }
     ensures keeps { Keeps (Q.worker q.old) (Q.worker q.new) }
-    ensures room { MakesAtMost (wide_room r.rows (max r.cols s.cols) (r.cols * s.cols)) (Q.worker q.old)
+    ensures room { MakesAtMost (derived_room r.rows (max r.cols s.cols) (r.cols * s.cols)) (Q.worker q.old)
         (Q.worker q.new) }
     ensures nothing { size_limit < r.cols * s.cols → MakesAtMost 0 (Q.worker q.old) (Q.worker q.new) }
     ensures cause { HasDomainCause Q.lean (r.cols * s.cols) (Q.worker q.old) (Q.worker q.new) result }

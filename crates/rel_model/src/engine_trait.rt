@@ -152,7 +152,7 @@ pub trait Engine: Seated {
         ensures value { IfOk result (Gives (Self.worker self.new) r.rows (r.cols * s.cols)
             (pairing (set_of (Self.worker self.old) r) (set_of (Self.worker self.old) s))) }
         ensures keeps { Keeps (Self.worker self.old) (Self.worker self.new) }
-        ensures room { MakesAtMost (wide_room r.rows (max r.cols s.cols) (r.cols * s.cols)) (Self.worker self.old)
+        ensures room { MakesAtMost (derived_room r.rows (max r.cols s.cols) (r.cols * s.cols)) (Self.worker self.old)
             (Self.worker self.new) }
         ensures nothing { size_limit < r.cols * s.cols → MakesAtMost 0 (Self.worker self.old) (Self.worker self.new) }
         ensures cause { HasDomainCause Self.lean (r.cols * s.cols) (Self.worker self.old) (Self.worker self.new)
@@ -276,4 +276,8 @@ pub trait Engine: Seated {
         ensures keeps { Keeps (Self.worker self.old) (Self.worker self.new) }
         ensures room { MakesAtMost 0 (Self.worker self.old) (Self.worker self.new) }
         ensures misses { MissesNothing (Self.worker self.old) (Self.worker self.new) };
+
+    /// The leaves are blocks of 8 by 8 cells, which one word holds: over them a line of a relation has few nodes beside
+    /// what the language counts for an operator.
+    ghost leaf_height: { Self.least ≡ 3 };
 }

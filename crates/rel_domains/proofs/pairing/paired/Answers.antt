@@ -2,7 +2,7 @@ use Rattle.std.proofs.Common.{◌∙◌, max, ℕ, sym, arith}
 use Rattle.rel_model.specs.Worker.{height_of_three}
 use Rattle.rel_model.proofs.Rooms.{operator_room-most}
 use Rattle.rel_steps.proofs.Rooms.{as_high}
-use Rattle.rel_domains.proofs.Pairwise.{left_height, right_height, through-most, wide-enough, pairing_given}
+use Rattle.rel_domains.proofs.Pairwise.{left_height, right_height, through-most, derived-enough, pairing_given}
 use Rattle.rel_domains.proofs.pairing.paired.Goals as goal
 
 pub returns-in_err-left-clause-room : goal.returns-in_err-left-clause-room
@@ -14,7 +14,7 @@ returns-in_err-left-clause-room g c =
     let h : ℕ = height_of_three m k x in
     let hl = left_height c.args.r.cols c.args.s.cols (laws.col_limit c.args.q.now c.args.r c.requires.left) (laws.col_limit c.args.q.now c.args.s c.requires.right) in
     let u0 = through-most m c.args.r.cols x h (omega arith) (omega (arith, hl)) (omega arith) in
-    omega (arith, u0, wide-enough m k x, c.in_err-left.ensures.room)
+    omega (arith, u0, derived-enough m k x, c.in_err-left.ensures.room)
 
 pub returns-in_err-right-clause-room : goal.returns-in_err-right-clause-room
 returns-in_err-right-clause-room g c =
@@ -29,7 +29,7 @@ returns-in_err-right-clause-room g c =
     let hr = right_height c.args.r.cols c.args.s.cols lr ls in
     let u0 = through-most m c.args.r.cols x h (omega arith) (omega (arith, hl)) (omega arith) in
     let u1 = through-most c.args.s.rows c.args.s.cols x h (as_high _ m h (sym c.requires.rows) (omega arith)) (omega (arith, hr)) (omega arith) in
-    omega (arith, u0, u1, wide-enough m k x, c.in_ok-left.ensures.room, c.in_err-right.ensures.room)
+    omega (arith, u0, u1, derived-enough m k x, c.in_ok-left.ensures.room, c.in_err-right.ensures.room)
 
 pub returns-in_err-both-clause-room : goal.returns-in_err-both-clause-room
 returns-in_err-both-clause-room g c =
@@ -46,7 +46,7 @@ returns-in_err-both-clause-room g c =
     let u0 = through-most m c.args.r.cols x h (omega arith) (omega (arith, hl)) (omega arith) in
     let u1 = through-most c.args.s.rows c.args.s.cols x h (as_high _ m h (sym c.requires.rows) (omega arith)) (omega (arith, hr)) (omega arith) in
     let u2 = operator_room-most c.in_ok-left.left.rows c.in_ok-left.left.cols h (as_high _ m h v.row_size (omega arith)) (as_high _ x h v.col_size (omega arith)) in
-    omega (arith, u0, u1, u2, wide-enough m k x, c.in_ok-left.ensures.room, c.in_ok-right.ensures.room, c.in_err-both.ensures.room)
+    omega (arith, u0, u1, u2, derived-enough m k x, c.in_ok-left.ensures.room, c.in_ok-right.ensures.room, c.in_err-both.ensures.room)
 
 pub returns-clause-value : goal.returns-clause-value
 returns-clause-value g c =
@@ -72,4 +72,4 @@ returns-clause-room g c =
     let u0 = through-most m c.args.r.cols x h (omega arith) (omega (arith, hl)) (omega arith) in
     let u1 = through-most c.args.s.rows c.args.s.cols x h (as_high _ m h (sym c.requires.rows) (omega arith)) (omega (arith, hr)) (omega arith) in
     let u2 = operator_room-most c.in_ok-left.left.rows c.in_ok-left.left.cols h (as_high _ m h v.row_size (omega arith)) (as_high _ x h v.col_size (omega arith)) in
-    omega (arith, u0, u1, u2, wide-enough m k x, c.in_ok-left.ensures.room, c.in_ok-right.ensures.room, c.in_ok-both.ensures.room)
+    omega (arith, u0, u1, u2, derived-enough m k x, c.in_ok-left.ensures.room, c.in_ok-right.ensures.room, c.in_ok-both.ensures.room)
