@@ -1,0 +1,6 @@
+pub mod Bits
+pub mod Lines
+pub mod Steps
+pub mod Roots
+pub mod Parts
+pub mod Corners

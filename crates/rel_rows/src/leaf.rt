@@ -1,0 +1,34 @@
+//! Rows of a leaf, which lies in one word.
+ghost use Rattle.std.specs.Prelude.{◌≡◌, ◌<◌, ◌≤◌, ◌*◌, ◌^◌};
+ghost use Rattle.rel_model.specs.Relation.{size_height};
+ghost use Rattle.rel_model.specs.Cells.{bits_cells};
+ghost use Rattle.rel_rows.specs.Rows.{row_cells, added_cells};
+
+/// The side of a square of a height.
+pub(crate) fn side_of(height: u8) -> u32
+    requires { height ≤ size_height }
+    ensures { result ≡ 2 ^ height }
+{
+    1u32 << height
+}
+
+/// A row of a leaf, as the first row of a leaf that has no other cell.
+pub(crate) fn row_in_word(bits: u64, side: u32, row: u32) -> u64
+    requires small { side ≤ 8 }
+    requires within { row < side }
+    ensures cells { bits_cells side result ≡ row_cells row (bits_cells side bits) }
+    ensures none_past { result < 2 ^ (side * side) }
+{
+    (bits >> (side * row)) % (1u64 << side)
+}
+
+/// A leaf with the first row of another added to one of its rows.
+pub(crate) fn word_with_row(bits: u64, side: u32, row: u32, line: u64) -> u64
+    requires small { side ≤ 8 }
+    requires within { row < side }
+    requires none_past { bits < 2 ^ (side * side) }
+    ensures cells { bits_cells side result ≡ added_cells row (bits_cells side line) (bits_cells side bits) }
+    ensures none_past { result < 2 ^ (side * side) }
+{
+    bits | ((line % (1u64 << side)) << (side * row))
+}
