@@ -9,7 +9,8 @@ use Rattle.rel_slices.specs.declared.thin.Value.{Value}
 use Rattle.rel_slices.specs.declared.thin.Value.TheVariants.{Whole, Lines}
 use Rattle.rel_slices.specs.Thin.{ValueStands, value_rows, value_cols}
 use Rattle.rel_slices.specs.ValueRooms.{pieces_room, complement_room, full_room}
-use Rattle.rel_model.proofs.Heights.{height_of-least}
+use Rattle.rel_model.proofs.Heights.{height_of-least, power_up}
+use Rattle.rel_rows.specs.Rooms.{strip_room}
 use Rattle.rel_slices.proofs.Membering.{tree_grows}
 
 -- a line has no more nodes than a relation of as long rows, or columns
@@ -66,6 +67,41 @@ trees_fit count t h few a b =
           let e : 4 ^ h ≡ 4 ^ (h - 3) * 4 ^ 3 = ap (λ (x : ℕ). 4 ^ x) (let y : h ≡ h - 3 + 3 = omega (arith, k) in y) ∙ pow-add 4 (h - 3) 3 in
           omega (arith, m, e))
     ]
+
+-- ---- rows of relations
+-- a row within the square of a height
+pub strip_fits : (m n h : ℕ) → m ≤ 2 ^ h → n ≤ 2 ^ h → strip_room 3 m n ≤ 4 * 2 ^ (h - 3)
+unfolding strip_room height_over
+strip_fits m n h a b =
+    let u = height_of-least m h a in
+    let v = height_of-least n h b in
+    let p = power_up (max 3 (max (height_of m) (height_of n)) - 3) (h - 3) (omega (arith, u, v)) in
+    omega (arith, p)
+
+-- so many rows, no more than the square has
+pub strips_fit : (count t h : ℕ) → count ≤ 2 ^ h → t ≤ 4 * 2 ^ (h - 3) → count * t ≤ 4 * 4 ^ h
+strips_fit count t h a b =
+    let l = power_up (h - 3) h (omega arith) in
+    let low : t ≤ 4 * 2 ^ h = omega (arith, b, l) in
+    let m = mul-le-mul {n₁ = count} {n₂ = 2 ^ h} a low in
+    let sq = squares h in
+    omega (arith, m, sq)
+
+-- few rows of a large square: a sixteenth of its cells
+pub few_strips_fit : (count t h : ℕ) → count ≤ 64 → 9 ≤ h → t ≤ 4 * 2 ^ (h - 3) → 16 * (count * t) ≤ 4 ^ h
+few_strips_fit count t h few high b =
+    let m = mul-le-mul {n₁ = count} {n₂ = 64} few b in
+    let p = pow-le-pow_left {n = 2} {m = 4} (omega arith) (h - 9) in
+    let e : 2 ^ (h - 3) ≡ 2 ^ (h - 9) * 2 ^ 6 = ap (λ (x : ℕ). 2 ^ x) (let y : h - 3 ≡ h - 9 + 6 = omega (arith, high) in y) ∙ pow-add 2 (h - 9) 6 in
+    let f : 4 ^ h ≡ 4 ^ (h - 9) * 4 ^ 9 = ap (λ (x : ℕ). 4 ^ x) (let y : h ≡ h - 9 + 9 = omega (arith, high) in y) ∙ pow-add 4 (h - 9) 9 in
+    omega (arith, m, p, e, f)
+
+-- the tree of a relation: a thirty-second
+pub tree_in_part : (m n h : ℕ) → 3 ≤ h → m ≤ 2 ^ h → n ≤ 2 ^ h → 32 * relation_room 3 m n ≤ 4 ^ h
+tree_in_part m n h high a b =
+    let t = tree_fits m n h a b in
+    let e : 4 ^ h ≡ 4 ^ (h - 3) * 4 ^ 3 = ap (λ (x : ℕ). 4 ^ x) (let y : h ≡ h - 3 + 3 = omega (arith, high) in y) ∙ pow-add 4 (h - 3) 3 in
+    omega (arith, t, e)
 
 -- so many products, each of a line and of as many nodes as one of squares makes at most
 pub products_fit : (count h : ℕ) → count ≤ 64 → count ≤ 2 ^ h → count * (3 * 8 ^ (h - 3)) ≤ 3 * 8 ^ h

@@ -1,7 +1,7 @@
 -- Univalence by lines.
 -- 1. That row i of a relation has two pairs is a test on its elements (`twice`), the same for rows that are laid.
 -- 2. Of columns, an element of a row with an earlier one beside it is two columns that meet there.
-use Rattle.std.proofs.Common.{◌≡◌, ◌<◌, ◌≤◌, ◌&&◌, ◌||◌, ◌+◌, ◌∙◌, not, zero, suc, ℕ, Bool, true, false, refl, sym, ap, subst, arith}
+use Rattle.std.proofs.Common.{◌≡◌, ◌<◌, ◌&&◌, ◌||◌, ◌+◌, ◌∙◌, not, suc, ℕ, Bool, true, false, refl, sym, ap, arith}
 use Rattle.std.proofs.lemmas.Bool.{and_parts, and_from, true≢false}
 use Rattle.std.specs.Prelude.{◌↔◌}
 use Rattle.rel_model.specs.declared.Rel.{Rel}

@@ -1,5 +1,5 @@
 -- What a value means in a worker, and which form it has.
-use Rattle.std.specs.Prelude.{◌≡◌, ◌<◌, ◌≤◌, ℕ, Bool, cond, false, min, max, slice_index}
+use Rattle.std.specs.Prelude.{◌≡◌, ◌<◌, ◌≤◌, ◌⊎◌, ℕ, Bool, cond, false, min, max, slice_index}
 use Rattle.rel_model.specs.declared.Rel.{Rel}
 use Rattle.rel_model.specs.Relation.{Relation, has, relation_of, size_limit}
 use Rattle.rel_model.specs.Worker.{Worker, Stands, set_of, Gives}
@@ -73,6 +73,24 @@ value_cols (Lines s) = thin_cols s
 abbrev pub HasForm : Value → Type 0
 HasForm (Whole r) = min r.rows r.cols ≤ 64 → max r.rows r.cols ≤ 256
 HasForm (Lines s) = 257 ≤ s.other
+
+-- lines are long: each ranges over more than 256 elements
+abbrev pub IsLong : Value → Type 0
+IsLong (Whole r) = Unit {0}
+IsLong (Lines s) = 257 ≤ s.other
+
+-- the value is lines
+abbrev pub IsLines : Value → Type 0
+IsLines (Whole r) = ⊥
+IsLines (Lines s) = Unit {0}
+
+-- the sizes are thin: the shorter side is at most 64 and the longer one more than 256
+abbrev pub IsThin : ℕ → ℕ → Type 0
+IsThin rows cols = (min rows cols ≤ 64) × (257 ≤ max rows cols)
+
+-- of an operation on two values, with an answer of these sizes: not all three stand whole
+abbrev pub SomeThin : Value → Value → ℕ → ℕ → Type 0
+SomeThin x y rows cols = IsLines x ⊎ IsLines y ⊎ IsThin rows cols
 
 -- the value stands, with these sizes and this set
 pub record GivesValue (w : Worker) (rows cols : ℕ) (set : Relation) (v : Value) : Type 0 where

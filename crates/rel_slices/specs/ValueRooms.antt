@@ -1,6 +1,7 @@
 -- How many nodes the calls on values may make.
-use Rattle.std.specs.Prelude.{◌+◌, ◌*◌, ◌&&◌, nat_le, ℕ, cond}
+use Rattle.std.specs.Prelude.{◌+◌, ◌*◌, ◌^◌, ◌&&◌, nat_le, ℕ, cond}
 use Rattle.rel_model.specs.Roots.{relation_room}
+use Rattle.rel_model.specs.Worker.{height_of_three}
 use Rattle.rel_slices.specs.declared.thin.Value.{Value}
 use Rattle.rel_slices.specs.declared.thin.Value.TheVariants.{Whole, Lines}
 use Rattle.rel_slices.specs.Rooms.{whole_room, line_room, cut_room}
@@ -33,3 +34,11 @@ transpose_room least (Lines s) = 0
 abbrev pub formed_room : ℕ → ℕ → ℕ → ℕ
 formed_room least rows cols = cond (nat_le rows 64 && nat_le 257 cols) (cut_room least rows cols)
     (cond (nat_le cols 64 && nat_le 257 rows) (relation_room least rows cols + cut_room least cols rows) 0)
+
+-- a composition where an operand or the answer is thin
+abbrev pub thin_room : ℕ → ℕ → ℕ → ℕ
+thin_room k m n = 15 * 8 ^ height_of_three k m n
+
+-- a residual: a transposition, two complements and a composition
+abbrev pub residual_room : ℕ → ℕ → ℕ → ℕ
+residual_room k m n = 26 * 8 ^ height_of_three k m n

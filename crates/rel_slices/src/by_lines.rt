@@ -12,6 +12,7 @@ use crate::through::meets;
 use crate::whole::assembled;
 use rel_model::Lack;
 use rel_model::core_trait::Core;
+use rel_model::quads_trait::Quads;
 
 /// Columns times rows: the union of their products, whole.
 pub fn columns_by_rows<C: Core>(core: &mut C, a: &Thin, b: &Thin) -> Result<Value, Lack>
@@ -35,7 +36,7 @@ pub fn columns_by_rows<C: Core>(core: &mut C, a: &Thin, b: &Thin) -> Result<Valu
 }
 
 /// Rows times columns: which meet, a relation of few rows and columns, whole.
-pub fn rows_by_columns<C: Core>(core: &mut C, a: &Thin, b: &Thin) -> Result<Value, Lack>
+pub fn rows_by_columns<C: Quads>(core: &mut C, a: &Thin, b: &Thin) -> Result<Value, Lack>
     requires left { ThinStands (C.worker core.old) a.now }
     requires right { ThinStands (C.worker core.old) b.now }
     requires rows { a.now.turned ≡ false }

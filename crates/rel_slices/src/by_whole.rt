@@ -3,18 +3,19 @@ ghost use Rattle.std.specs.Prelude.{◌≡◌, ◌≤◌, ◌<◌, ◌*◌, ◌+
 ghost use Rattle.rel_model.specs.Operators.{compose as compose_of};
 ghost use Rattle.rel_model.specs.Roots.{relation_room, line_product_room};
 ghost use Rattle.rel_model.specs.Worker.{Stands, set_of, Gives, Keeps, MakesAtMost, HasCause, product_room};
-ghost use Rattle.rel_slices.specs.Thin.{thin_of, ThinStands, ValueStands, value_of, value_rows, value_cols, GivesValue, HasForm};
+ghost use Rattle.rel_slices.specs.Thin.{thin_of, ThinStands, ValueStands, value_of, value_rows, value_cols, IsThin, GivesValue, HasForm};
 ghost use Rattle.rel_slices.specs.Rooms.{line_room, outer_room, coimage_room, meeting_room, cut_room, settled_room};
+ghost use Rattle.rel_slices.specs.ValueRooms.{thin_room};
 
 use crate::forms::settled;
 use crate::thin::{LEAST, MOST, Thin, Value};
 use crate::through::{coimages, images};
 use crate::whole::{cut_columns, cut_rows};
-use rel_model::core_trait::Core;
+use rel_model::quads_trait::Quads;
 use rel_model::{Lack, Rel};
 
 /// Rows times a relation that stands whole, row by row.
-pub fn rows_by_whole<C: Core>(core: &mut C, a: &Thin, s: Rel) -> Result<Value, Lack>
+pub fn rows_by_whole<C: Quads>(core: &mut C, a: &Thin, s: Rel) -> Result<Value, Lack>
     requires left { ThinStands (C.worker core.old) a.now }
     requires right { Stands (C.worker core.old) s }
     requires rows { a.now.turned ≡ false }
@@ -33,7 +34,7 @@ pub fn rows_by_whole<C: Core>(core: &mut C, a: &Thin, s: Rel) -> Result<Value, L
 }
 
 /// A relation that stands whole times columns, column by column.
-pub fn whole_by_columns<C: Core>(core: &mut C, r: Rel, b: &Thin) -> Result<Value, Lack>
+pub fn whole_by_columns<C: Quads>(core: &mut C, r: Rel, b: &Thin) -> Result<Value, Lack>
     requires left { Stands (C.worker core.old) r }
     requires right { ThinStands (C.worker core.old) b.now }
     requires columns { b.now.turned ≡ true }
@@ -52,7 +53,7 @@ pub fn whole_by_columns<C: Core>(core: &mut C, r: Rel, b: &Thin) -> Result<Value
 }
 
 /// Two relations that stand whole: where the answer is thin, one of them is cut into lines.
-pub fn whole_by_whole<C: Core>(core: &mut C, r: Rel, s: Rel) -> Result<Value, Lack>
+pub fn whole_by_whole<C: Quads>(core: &mut C, r: Rel, s: Rel) -> Result<Value, Lack>
     requires left { Stands (C.worker core.old) r }
     requires right { Stands (C.worker core.old) s }
     requires middle { r.cols ≡ s.rows }
@@ -62,6 +63,8 @@ pub fn whole_by_whole<C: Core>(core: &mut C, r: Rel, s: Rel) -> Result<Value, La
     ensures keeps { Keeps (C.worker core.old) (C.worker core.new) }
     ensures cost { C.least ≡ 3 → MakesAtMost (product_room r.rows r.cols s.cols) (C.worker core.old)
         (C.worker core.new) }
+    ensures thin { C.least ≡ 3 → IsThin r.rows s.cols → MakesAtMost (thin_room r.rows r.cols s.cols)
+        (C.worker core.old) (C.worker core.new) }
     ensures cause { HasCause C.lean (C.worker core.old) (C.worker core.new) result }
 {
     if r.rows <= MOST && s.cols >= LEAST {

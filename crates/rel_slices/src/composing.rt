@@ -2,17 +2,18 @@
 ghost use Rattle.std.specs.Prelude.{◌≡◌, IfOk};
 ghost use Rattle.rel_model.specs.Operators.{compose as compose_of};
 ghost use Rattle.rel_model.specs.Worker.{Keeps, MakesAtMost, HasCause, product_room};
-ghost use Rattle.rel_slices.specs.Thin.{ValueStands, value_of, value_rows, value_cols, GivesValue, HasForm};
+ghost use Rattle.rel_slices.specs.Thin.{ValueStands, value_of, value_rows, value_cols, SomeThin, GivesValue, HasForm};
+ghost use Rattle.rel_slices.specs.ValueRooms.{thin_room};
 
 use crate::by_lines::{columns_by_rows, rows_by_columns};
 use crate::by_whole::{rows_by_whole, whole_by_columns, whole_by_whole};
 use crate::few::{columns_by_few, columns_by_many, few_by_rows, many_by_rows};
 use crate::thin::{MOST, Value};
 use rel_model::Lack;
-use rel_model::core_trait::Core;
+use rel_model::quads_trait::Quads;
 
 /// `R*S = {(i, k) : (i, j) in r and (j, k) in s for some j}`: the composition, of k × m with m × n.
-pub fn compose<C: Core>(core: &mut C, x: &Value, y: &Value) -> Result<Value, Lack>
+pub fn compose<C: Quads>(core: &mut C, x: &Value, y: &Value) -> Result<Value, Lack>
     requires left { ValueStands (C.worker core.old) x.now }
     requires right { ValueStands (C.worker core.old) y.now }
     requires left_form { HasForm x.now }
@@ -24,6 +25,8 @@ pub fn compose<C: Core>(core: &mut C, x: &Value, y: &Value) -> Result<Value, Lac
     ensures keeps { Keeps (C.worker core.old) (C.worker core.new) }
     ensures cost { C.least ≡ 3 → MakesAtMost (product_room (value_rows x.now) (value_cols x.now) (value_cols y.now))
         (C.worker core.old) (C.worker core.new) }
+    ensures thin { C.least ≡ 3 → SomeThin x.now y.now (value_rows x.now) (value_cols y.now) → MakesAtMost
+        (thin_room (value_rows x.now) (value_cols x.now) (value_cols y.now)) (C.worker core.old) (C.worker core.new) }
     ensures cause { HasCause C.lean (C.worker core.old) (C.worker core.new) result }
 {
     match x {

@@ -11,6 +11,7 @@ use crate::picks::pick_lines;
 use crate::thin::{Thin, Value};
 use crate::whole::{cut_columns, cut_rows};
 use rel_model::core_trait::Core;
+use rel_model::quads_trait::Quads;
 use rel_model::{Lack, Rel};
 
 /// A relation of few rows times rows: the unions of those that each of its rows picks.
@@ -34,7 +35,7 @@ pub fn few_by_rows<C: Core>(core: &mut C, r: Rel, b: &Thin) -> Result<Value, Lac
 }
 
 /// A relation of more rows times rows: the union of the products of its columns with them, whole.
-pub fn many_by_rows<C: Core>(core: &mut C, r: Rel, b: &Thin) -> Result<Value, Lack>
+pub fn many_by_rows<C: Quads>(core: &mut C, r: Rel, b: &Thin) -> Result<Value, Lack>
     requires left { Stands (C.worker core.old) r }
     requires right { ThinStands (C.worker core.old) b.now }
     requires long { 257 ≤ b.now.other }
@@ -76,7 +77,7 @@ pub fn columns_by_few<C: Core>(core: &mut C, a: &Thin, s: Rel) -> Result<Value, 
 }
 
 /// Columns times a relation of more columns: the union of their products with its rows, whole.
-pub fn columns_by_many<C: Core>(core: &mut C, a: &Thin, s: Rel) -> Result<Value, Lack>
+pub fn columns_by_many<C: Quads>(core: &mut C, a: &Thin, s: Rel) -> Result<Value, Lack>
     requires left { ThinStands (C.worker core.old) a.now }
     requires right { Stands (C.worker core.old) s }
     requires long { 257 ≤ a.now.other }

@@ -7,11 +7,11 @@ ghost use Rattle.rel_slices.specs.ValueRooms.{formed_room};
 
 use crate::thin::{LEAST, MOST, Thin, Value};
 use crate::whole::{assembled, cut_columns, cut_rows};
-use rel_model::core_trait::Core;
+use rel_model::quads_trait::Quads;
 use rel_model::{Lack, Rel};
 
 /// A relation in the form of its sizes: as its rows or its columns where these are few and long, else whole.
-pub fn formed<C: Core>(core: &mut C, r: Rel) -> Result<Value, Lack>
+pub fn formed<C: Quads>(core: &mut C, r: Rel) -> Result<Value, Lack>
     requires { Stands (C.worker core.old) r }
     ensures value { IfOk result (GivesValue (C.worker core.new) r.rows r.cols (set_of (C.worker core.old) r)) }
     ensures form { IfOk result HasForm }
@@ -31,7 +31,7 @@ pub fn formed<C: Core>(core: &mut C, r: Rel) -> Result<Value, Lack>
 }
 
 /// Lines in the form of their sizes: as they are where they are long, else made whole.
-pub fn settled<C: Core>(core: &mut C, lines: &Thin) -> Result<Value, Lack>
+pub fn settled<C: Quads>(core: &mut C, lines: &Thin) -> Result<Value, Lack>
     requires { ThinStands (C.worker core.old) lines.now }
     ensures value { IfOk result (GivesValue (C.worker core.new) (thin_rows lines.now) (thin_cols lines.now)
         (thin_of (C.worker core.old) lines.now)) }

@@ -1,6 +1,6 @@
 //! Laws of the rooms of values, each a function that does nothing.
 ghost use Rattle.rel_slices.specs.ValueRooms.{pieces_room, complement_room, transpose_room};
-ghost use Rattle.rel_slices.specs.Fits.{PiecesMost, PiecesFit, ComplementFits, OutersFit, WithinCost};
+ghost use Rattle.rel_slices.specs.Fits.{PiecesMost, PiecesFit, ComplementFits, OutersFit, WithinCost, FormedFits, AssemblyFits};
 
 /// An operator piece by piece makes no more than 64 trees of the sizes of its operand, whatever the leaves.
 pub fn pieces_are_few_trees()
@@ -22,4 +22,11 @@ pub fn costs_of_operators()
     ensures pieces { WithinCost (pieces_room 3) }
     ensures complement { WithinCost (complement_room 3) }
     ensures transpose { WithinCost (transpose_room 3) }
+{}
+
+/// Over leaves of 8 by 8, going from one form to the other takes at most as many nodes as the least square that holds
+/// the relation has cells.
+pub fn forms_by_height()
+    ensures formed { FormedFits }
+    ensures assembly { AssemblyFits }
 {}

@@ -29,7 +29,7 @@ pub use composing::compose;
 pub use forms::{formed, settled};
 pub use lines::{Boole, each};
 pub use member::member_lines;
-pub use outer::{outers, units};
+pub use outer::outers;
 pub use picks::pick_lines;
 pub use residuals::{left, right, syq};
 pub use thin::{LEAST, MOST, Thin, Value};

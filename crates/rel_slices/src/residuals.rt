@@ -3,16 +3,17 @@ ghost use Rattle.std.specs.Prelude.{◌≡◌, IfOk};
 ghost use Rattle.rel_model.specs.Operators.{right_residual, left_residual, symmetric_quotient};
 ghost use Rattle.rel_model.specs.Worker.{Keeps, MakesAtMost, HasCause, derived_room, wide_room};
 ghost use Rattle.rel_slices.specs.Thin.{ValueStands, value_of, value_rows, value_cols, GivesValue, HasForm};
+ghost use Rattle.rel_slices.specs.ValueRooms.{residual_room};
 
 use crate::composing::compose;
 use crate::lines::Boole;
 use crate::thin::Value;
 use crate::values::{boole, complement, transpose};
 use rel_model::Lack;
-use rel_model::core_trait::Core;
+use rel_model::quads_trait::Quads;
 
 /// `R\S = {(j, k) : (i, j) in r implies (i, k) in s, for all i}`: it is `-(R^ * -S)`.
-pub fn right<C: Core>(core: &mut C, r: &Value, s: &Value) -> Result<Value, Lack>
+pub fn right<C: Quads>(core: &mut C, r: &Value, s: &Value) -> Result<Value, Lack>
     requires left { ValueStands (C.worker core.old) r.now }
     requires right { ValueStands (C.worker core.old) s.now }
     requires left_form { HasForm r.now }
@@ -24,6 +25,8 @@ pub fn right<C: Core>(core: &mut C, r: &Value, s: &Value) -> Result<Value, Lack>
     ensures keeps { Keeps (C.worker core.old) (C.worker core.new) }
     ensures cost { C.least ≡ 3 → MakesAtMost (derived_room (value_rows r.now) (value_cols r.now) (value_cols s.now))
         (C.worker core.old) (C.worker core.new) }
+    ensures close { C.least ≡ 3 → MakesAtMost (residual_room (value_rows r.now) (value_cols r.now) (value_cols s.now))
+        (C.worker core.old) (C.worker core.new) }
     ensures cause { HasCause C.lean (C.worker core.old) (C.worker core.new) result }
 {
     let turned = transpose(core, r)?;
@@ -34,7 +37,7 @@ pub fn right<C: Core>(core: &mut C, r: &Value, s: &Value) -> Result<Value, Lack>
 }
 
 /// `S/R = {(i, j) : (j, k) in r implies (i, k) in s, for all k}`: it is `-(-S * R^)`.
-pub fn left<C: Core>(core: &mut C, s: &Value, r: &Value) -> Result<Value, Lack>
+pub fn left<C: Quads>(core: &mut C, s: &Value, r: &Value) -> Result<Value, Lack>
     requires left { ValueStands (C.worker core.old) s.now }
     requires right { ValueStands (C.worker core.old) r.now }
     requires left_form { HasForm s.now }
@@ -46,6 +49,8 @@ pub fn left<C: Core>(core: &mut C, s: &Value, r: &Value) -> Result<Value, Lack>
     ensures keeps { Keeps (C.worker core.old) (C.worker core.new) }
     ensures cost { C.least ≡ 3 → MakesAtMost (derived_room (value_rows s.now) (value_cols s.now) (value_rows r.now))
         (C.worker core.old) (C.worker core.new) }
+    ensures close { C.least ≡ 3 → MakesAtMost (residual_room (value_rows s.now) (value_cols s.now) (value_rows r.now))
+        (C.worker core.old) (C.worker core.new) }
     ensures cause { HasCause C.lean (C.worker core.old) (C.worker core.new) result }
 {
     let lacking = complement(core, s)?;
@@ -56,7 +61,7 @@ pub fn left<C: Core>(core: &mut C, s: &Value, r: &Value) -> Result<Value, Lack>
 }
 
 /// `syq(R,S) = {(j, k) : (i, j) in r exactly if (i, k) in s, for all i}`: it is `(R\S) & (R^/S^)`.
-pub fn syq<C: Core>(core: &mut C, r: &Value, s: &Value) -> Result<Value, Lack>
+pub fn syq<C: Quads>(core: &mut C, r: &Value, s: &Value) -> Result<Value, Lack>
     requires left { ValueStands (C.worker core.old) r.now }
     requires right { ValueStands (C.worker core.old) s.now }
     requires left_form { HasForm r.now }
@@ -67,6 +72,8 @@ pub fn syq<C: Core>(core: &mut C, r: &Value, s: &Value) -> Result<Value, Lack>
     ensures form { IfOk result HasForm }
     ensures keeps { Keeps (C.worker core.old) (C.worker core.new) }
     ensures cost { C.least ≡ 3 → MakesAtMost (wide_room (value_rows r.now) (value_cols r.now) (value_cols s.now))
+        (C.worker core.old) (C.worker core.new) }
+    ensures close { C.least ≡ 3 → MakesAtMost (derived_room (value_rows r.now) (value_cols r.now) (value_cols s.now))
         (C.worker core.old) (C.worker core.new) }
     ensures cause { HasCause C.lean (C.worker core.old) (C.worker core.new) result }
 {

@@ -13,10 +13,11 @@ use crate::lines::{Boole, each, one};
 use crate::thin::{Thin, Value};
 use crate::whole::assembled;
 use rel_model::core_trait::Core;
+use rel_model::quads_trait::Quads;
 use rel_model::{Lack, Rel, Shape};
 
 /// A value as a relation that stands whole.
-pub fn whole<C: Core>(core: &mut C, v: &Value) -> Result<Rel, Lack>
+pub fn whole<C: Quads>(core: &mut C, v: &Value) -> Result<Rel, Lack>
     requires { ValueStands (C.worker core.old) v.now }
     ensures value { IfOk result (Gives (C.worker core.new) (value_rows v.now) (value_cols v.now)
         (value_of (C.worker core.old) v.now)) }

@@ -2,81 +2,31 @@
 #![tactic(auto, using(crate::proofs::Later::rel_later, crate::proofs::Later::value_later))]
 
 ghost use Rattle.std.specs.Prelude.{◌≡◌, ◌≤◌, ◌<◌, IfOk};
-ghost use Rattle.rel_model.specs.Relation.{size_limit};
 ghost use Rattle.rel_model.specs.Worker.{Stands, Keeps};
 ghost use Rattle.rel_slices.specs.Thin.{ValueStands, value_rows, value_cols, HasForm};
 
-use crate::slow::{Op, Sizes, answers, first, left_shape, right_shape, second};
+use crate::built::built;
+use crate::slow::{Op, Sizes, Which, answers, first, left_shape, right_shape};
+use crate::trial::{Trial, on_an_engine};
 use rel_model::core_trait::Core;
-use rel_model::{Lack, Rel, Shape};
-use rel_plain::Plain;
+use rel_model::engine_trait::Engine;
+use rel_model::{Lack, Shape};
 use rel_slices::{
-    Boole, Value, boole, complement, compose, formed, included, is_empty, left, made_whole, right,
-    same, shape_of, syq, transpose,
+    Boole, Value, boole, complement, compose, included, is_empty, left, made_whole, right, same,
+    shape_of, syq, transpose,
 };
 use std::alloc::Global;
 use std::process::Abort;
-
-/// A row of the first relation or of the second, beside what there is.
-fn with_row<C: Core>(rt: &impl Abort, core: &mut C, other: bool, i: u32, r: Rel) -> Rel
-    requires standing { Stands (C.worker core.old) r }
-    requires rows { r.rows ≤ size_limit }
-    requires cols { r.cols ≤ size_limit }
-    requires row { i < r.rows }
-    ensures standing { Stands (C.worker core.new) result }
-    ensures rows { result.rows ≡ r.rows }
-    ensures cols { result.cols ≡ r.cols }
-    ensures keeps { Keeps (C.worker core.old) (C.worker core.new) }
-{
-    let shape = Shape {
-        rows: r.rows,
-        cols: r.cols,
-    };
-    let mut all = r;
-    'columns: for j in 0..shape.cols {
-        let there = if other { second(i, j) } else { first(i, j) };
-        if there {
-            let Ok(pair) = core.single(shape, i, j) else {
-                panic!(rt; "no room")
-            };
-            let Ok(more) = core.union(all, pair) else {
-                panic!(rt; "no room")
-            };
-            all = more;
-        }
-    }
-    all
-}
-
-/// The first relation or the second, of these sizes, in the form of its sizes.
-fn built<C: Core>(rt: &impl Abort, core: &mut C, other: bool, shape: Shape) -> Value
-    ensures standing { ValueStands (C.worker core.new) result }
-    ensures form { HasForm result }
-    ensures rows { value_rows result ≡ shape.rows }
-    ensures cols { value_cols result ≡ shape.cols }
-    ensures keeps { Keeps (C.worker core.old) (C.worker core.new) }
-{
-    assert!(rt; shape.rows <= 1024 && shape.cols <= 1024);
-    let Ok(mut r) = core.empty(shape) else {
-        panic!(rt; "no room")
-    };
-    'rows: for i in 0..shape.rows {
-        r = with_row(rt, core, other, i, r);
-    }
-    let Ok(value) = formed(core, r) else {
-        panic!(rt; "no room")
-    };
-    value
-}
+use std::thread::Threads;
 
 /// What an operation answers.
-fn answer_of<C: Core>(rt: &impl Abort, core: &mut C, op: Op, x: &Value, y: &Value) -> Value
-    requires left { ValueStands (C.worker core.old) x.now }
-    requires right { ValueStands (C.worker core.old) y.now }
+fn answer_of<E: Engine>(rt: &impl Abort, engine: &mut E, op: Op, x: &Value, y: &Value) -> Value
+    requires left { ValueStands (E.worker engine.old) x.now }
+    requires right { ValueStands (E.worker engine.old) y.now }
     requires left_form { HasForm x.now }
     requires right_form { HasForm y.now }
-    ensures standing { ValueStands (C.worker core.new) result }
-    ensures keeps { Keeps (C.worker core.old) (C.worker core.new) }
+    ensures standing { ValueStands (E.worker engine.new) result }
+    ensures keeps { Keeps (E.worker engine.old) (E.worker engine.new) }
 {
     let a = shape_of(x);
     let b = shape_of(y);
@@ -88,23 +38,23 @@ fn answer_of<C: Core>(rt: &impl Abort, core: &mut C, op: Op, x: &Value, y: &Valu
                 Op::Inter => Boole::Inter,
                 _ => Boole::Diff,
             };
-            boole(core, which, x, y)
+            boole(engine, which, x, y)
         }
         Op::Compose => {
             assert!(rt; a.cols == b.rows);
-            compose(core, x, y)
+            compose(engine, x, y)
         }
         Op::Right => {
             assert!(rt; a.rows == b.rows);
-            right(core, x, y)
+            right(engine, x, y)
         }
         Op::Left => {
             assert!(rt; a.cols == b.cols);
-            left(core, x, y)
+            left(engine, x, y)
         }
         Op::Syq => {
             assert!(rt; a.rows == b.rows);
-            syq(core, x, y)
+            syq(engine, x, y)
         }
     };
     match given {
@@ -114,10 +64,10 @@ fn answer_of<C: Core>(rt: &impl Abort, core: &mut C, op: Op, x: &Value, y: &Valu
 }
 
 /// Asserts that a value has exactly the pairs of an answer.
-fn is_answer<C: Core>(rt: &impl Abort, core: &mut C, op: Op, sizes: Sizes, value: &Value)
-    requires { ValueStands (C.worker core.old) value.now }
+fn is_answer<E: Engine>(rt: &impl Abort, engine: &mut E, op: Op, sizes: Sizes, value: &Value)
+    requires { ValueStands (E.worker engine.old) value.now }
 {
-    let Ok(all) = made_whole(core, value) else {
+    let Ok(all) = made_whole(engine, value) else {
         panic!(rt; "no room")
     };
     assert!(rt;
@@ -126,7 +76,7 @@ fn is_answer<C: Core>(rt: &impl Abort, core: &mut C, op: Op, sizes: Sizes, value
     );
     'rows: for i in 0..all.rows {
         'columns: for j in 0..all.cols {
-            let found = core.has(all, i, j);
+            let found = engine.has(all, i, j);
             assert!(rt;
                 found == answers(op, sizes.m, i, j),
                 "{op:?} of {sizes:?}: {i}, {j}"
@@ -136,11 +86,11 @@ fn is_answer<C: Core>(rt: &impl Abort, core: &mut C, op: Op, sizes: Sizes, value
 }
 
 /// Asserts that an operation of these sizes is answered by its membership clause.
-fn agrees<C: Core>(rt: &impl Abort, core: &mut C, op: Op, sizes: Sizes) {
-    let x = built(rt, core, false, left_shape(op, sizes));
-    let y = built(rt, core, true, right_shape(op, sizes));
-    let value = answer_of(rt, core, op, &x, &y);
-    is_answer(rt, core, op, sizes, &value);
+pub(crate) fn agrees<E: Engine>(rt: &impl Abort, engine: &mut E, op: Op, sizes: Sizes) {
+    let x = built(rt, engine, Which::First, left_shape(op, sizes));
+    let y = built(rt, engine, Which::Second, right_shape(op, sizes));
+    let value = answer_of(rt, engine, op, &x, &y);
+    is_answer(rt, engine, op, sizes, &value);
 }
 
 /// Sizes for each pair of forms, with sides at which a form begins or ends.
@@ -200,10 +150,9 @@ const TRIED: &[Sizes] = &[
 ];
 
 /// Asserts that an operation is answered by its membership clause at all these sizes.
-fn at_all_sizes(rt: &impl Abort, alloc: Global, op: Op) {
+fn at_all_sizes<R: Threads + Abort + Sync>(rt: &R, alloc: Global, op: Op) {
     for sizes in TRIED {
-        let mut plain = Plain::new(alloc);
-        agrees(rt, &mut plain, op, *sizes);
+        on_an_engine(rt, alloc, Trial::Two(op, *sizes));
     }
 }
 
@@ -228,30 +177,30 @@ fn residuals_and_quotients_have_the_pairs_of_their_clauses(rt: HostRuntime) {
 
 /// Asserts of the first relation of these sizes what its complement and its transposition have, and how it is
 /// compared with itself and with its complement.
-fn one_agrees<C: Core>(rt: &impl Abort, core: &mut C, shape: Shape) {
-    let x = built(rt, core, false, shape);
-    let Ok(rest) = complement(core, &x) else {
+pub(crate) fn one_agrees<E: Engine>(rt: &impl Abort, engine: &mut E, shape: Shape) {
+    let x = built(rt, engine, Which::First, shape);
+    let Ok(rest) = complement(engine, &x) else {
         panic!(rt; "no room")
     };
-    let Ok(turned) = transpose(core, &x) else {
+    let Ok(turned) = transpose(engine, &x) else {
         panic!(rt; "no room")
     };
-    assert!(rt; same(core, &x, &x));
-    assert!(rt; !same(core, &x, &rest));
-    assert!(rt; included(core, &x, &x) == Ok(true));
-    assert!(rt; !is_empty(core, &x));
-    let Ok(all) = made_whole(core, &rest) else {
+    assert!(rt; same(engine, &x, &x));
+    assert!(rt; !same(engine, &x, &rest));
+    assert!(rt; included(engine, &x, &x) == Ok(true));
+    assert!(rt; !is_empty(engine, &x));
+    let Ok(all) = made_whole(engine, &rest) else {
         panic!(rt; "no room")
     };
-    let Ok(back) = made_whole(core, &turned) else {
+    let Ok(back) = made_whole(engine, &turned) else {
         panic!(rt; "no room")
     };
     assert!(rt; all.rows == shape.rows && all.cols == shape.cols);
     assert!(rt; back.rows == shape.cols && back.cols == shape.rows);
     'rows: for i in 0..shape.rows {
         'columns: for j in 0..shape.cols {
-            let lacks = core.has(all, i, j);
-            let has = core.has(back, j, i);
+            let lacks = engine.has(all, i, j);
+            let has = engine.has(back, j, i);
             assert!(rt;
                 lacks != first(i, j) && has == first(i, j),
                 "{shape:?}: {i}, {j}"
@@ -262,10 +211,8 @@ fn one_agrees<C: Core>(rt: &impl Abort, core: &mut C, shape: Shape) {
 
 #[test]
 fn complements_transpositions_and_tests_have_the_pairs_of_their_clauses(rt: HostRuntime) {
-    let alloc = rt.alloc();
     for sizes in TRIED {
-        let mut plain = Plain::new(alloc);
         let Sizes { k, m: _, n } = *sizes;
-        one_agrees(&rt, &mut plain, Shape { rows: k, cols: n });
+        on_an_engine(&rt, rt.alloc(), Trial::One(Shape { rows: k, cols: n }));
     }
 }

@@ -1,14 +1,14 @@
-use Rattle.std.proofs.Common.{◌≡◌, ◌≤◌, ◌*◌, ◌∙◌, cond, ℕ, Bool, refl, sym, subst, ap, arith}
+use Rattle.std.proofs.Common.{◌≡◌, ◌≤◌, ◌*◌, ◌∙◌, cond, ℕ, Bool, refl, sym, subst, ap, arith, inl, inr}
 use Rattle.rel_slices.specs.declared.thin.Value.{Value}
 use Rattle.rel_slices.specs.declared.thin.Value.TheVariants.{Whole, Lines}
-use Rattle.rel_slices.specs.Thin.{ValueStands, HasForm, value_rows, value_cols}
+use Rattle.rel_slices.specs.Thin.{ValueStands, HasForm, IsLines, value_rows, value_cols}
 use Rattle.rel_slices.specs.Rooms.{line_room, outer_room}
 use Rattle.rel_slices.proofs.Valuing.{rows_after, columns_after}
-use Rattle.rel_slices.proofs.Costs.{images_cost, coimages_cost, few_cost, turned_few_cost, many_cost, turned_many_cost, outers_cost, meetings_cost, by_values}
+use Rattle.rel_slices.proofs.Costs.{images_cost, coimages_cost, few_cost, turned_few_cost, many_cost, turned_many_cost, outers_cost, meetings_cost, by_values, thin_product}
 use Rattle.rel_slices.proofs.composing.compose.Goals as goal
 
-pub returns-then-b-clause-cost : goal.returns-then-b-clause-cost
-returns-then-b-clause-cost g c = λ e.
+pub returns-then-b-clause-thin : goal.returns-then-b-clause-thin
+returns-then-b-clause-thin g c = λ e some.
     let laws = g.met.C.Core in
     let core = c.args.core.now in
     let least : ℕ = g.C.Core.least in
@@ -28,8 +28,14 @@ returns-then-b-clause-cost g c = λ e.
     (coimages_cost least r.rows r.cols b.count e sb.few (laws.row_limit core r sr) (laws.col_limit core r sr) (let n = sb.few in omega (arith, n))) in
     omega (arith, n, m)
 
-pub returns-then-r-le-MOST-clause-cost : goal.returns-then-r-le-MOST-clause-cost
-returns-then-r-le-MOST-clause-cost g c = λ e.
+pub returns-then-b-clause-cost : goal.returns-then-b-clause-cost
+returns-then-b-clause-cost g c = λ e.
+    let m = returns-then-b-clause-thin g c e (inr (inl (subst IsLines (sym c.in-Lines-y.is) tt))) in
+    let p = thin_product (value_rows c.args.x.now) (value_cols c.args.x.now) (value_cols c.args.y.now) in
+    omega (arith, m, p)
+
+pub returns-then-r-le-MOST-clause-thin : goal.returns-then-r-le-MOST-clause-thin
+returns-then-r-le-MOST-clause-thin g c = λ e some.
     let laws = g.met.C.Core in
     let core = c.args.core.now in
     let least : ℕ = g.C.Core.least in
@@ -50,8 +56,14 @@ returns-then-r-le-MOST-clause-cost g c = λ e.
     (few_cost least r.rows b.count b.other e sb.few (laws.row_limit core r sr) (let n = sb.few in omega (arith, n)) sb.limit) in
     omega (arith, n, m)
 
-pub returns-else-r-le-MOST-clause-cost : goal.returns-else-r-le-MOST-clause-cost
-returns-else-r-le-MOST-clause-cost g c = λ e.
+pub returns-then-r-le-MOST-clause-cost : goal.returns-then-r-le-MOST-clause-cost
+returns-then-r-le-MOST-clause-cost g c = λ e.
+    let m = returns-then-r-le-MOST-clause-thin g c e (inr (inl (subst IsLines (sym c.in-Lines-y.is) tt))) in
+    let p = thin_product (value_rows c.args.x.now) (value_cols c.args.x.now) (value_cols c.args.y.now) in
+    omega (arith, m, p)
+
+pub returns-else-r-le-MOST-clause-thin : goal.returns-else-r-le-MOST-clause-thin
+returns-else-r-le-MOST-clause-thin g c = λ e some.
     let laws = g.met.C.Core in
     let core = c.args.core.now in
     let least : ℕ = g.C.Core.least in
@@ -73,8 +85,14 @@ returns-else-r-le-MOST-clause-cost g c = λ e.
     (many_cost least r.rows r.cols b.other e few (laws.row_limit core r sr) (laws.col_limit core r sr) sb.limit) in
     omega (arith, n, m)
 
-pub returns-then-not-a-clause-cost : goal.returns-then-not-a-clause-cost
-returns-then-not-a-clause-cost g c = λ e.
+pub returns-else-r-le-MOST-clause-cost : goal.returns-else-r-le-MOST-clause-cost
+returns-else-r-le-MOST-clause-cost g c = λ e.
+    let m = returns-else-r-le-MOST-clause-thin g c e (inr (inl (subst IsLines (sym c.in-Lines-y.is) tt))) in
+    let p = thin_product (value_rows c.args.x.now) (value_cols c.args.x.now) (value_cols c.args.y.now) in
+    omega (arith, m, p)
+
+pub returns-then-not-a-clause-thin : goal.returns-then-not-a-clause-thin
+returns-then-not-a-clause-thin g c = λ e some.
     let laws = g.met.C.Core in
     let core = c.args.core.now in
     let least : ℕ = g.C.Core.least in
@@ -94,8 +112,14 @@ returns-then-not-a-clause-cost g c = λ e.
     (images_cost least a.count a.other s.cols e sa.few (let n = sa.few in omega (arith, n)) sa.limit (laws.col_limit core s ss)) in
     omega (arith, n, m)
 
-pub returns-then-s-le-MOST-clause-cost : goal.returns-then-s-le-MOST-clause-cost
-returns-then-s-le-MOST-clause-cost g c = λ e.
+pub returns-then-not-a-clause-cost : goal.returns-then-not-a-clause-cost
+returns-then-not-a-clause-cost g c = λ e.
+    let m = returns-then-not-a-clause-thin g c e (inl (subst IsLines (sym c.in-Lines.is) tt)) in
+    let p = thin_product (value_rows c.args.x.now) (value_cols c.args.x.now) (value_cols c.args.y.now) in
+    omega (arith, m, p)
+
+pub returns-then-s-le-MOST-clause-thin : goal.returns-then-s-le-MOST-clause-thin
+returns-then-s-le-MOST-clause-thin g c = λ e some.
     let laws = g.met.C.Core in
     let core = c.args.core.now in
     let least : ℕ = g.C.Core.least in
@@ -118,8 +142,14 @@ returns-then-s-le-MOST-clause-cost g c = λ e.
     (turned_few_cost least a.other s.rows s.cols e few sa.limit (laws.row_limit core s ss) (laws.col_limit core s ss)) in
     omega (arith, n, m, f)
 
-pub returns-else-s-le-MOST-clause-cost : goal.returns-else-s-le-MOST-clause-cost
-returns-else-s-le-MOST-clause-cost g c = λ e.
+pub returns-then-s-le-MOST-clause-cost : goal.returns-then-s-le-MOST-clause-cost
+returns-then-s-le-MOST-clause-cost g c = λ e.
+    let m = returns-then-s-le-MOST-clause-thin g c e (inl (subst IsLines (sym c.in-Lines.is) tt)) in
+    let p = thin_product (value_rows c.args.x.now) (value_cols c.args.x.now) (value_cols c.args.y.now) in
+    omega (arith, m, p)
+
+pub returns-else-s-le-MOST-clause-thin : goal.returns-else-s-le-MOST-clause-thin
+returns-else-s-le-MOST-clause-thin g c = λ e some.
     let laws = g.met.C.Core in
     let core = c.args.core.now in
     let least : ℕ = g.C.Core.least in
@@ -142,8 +172,14 @@ returns-else-s-le-MOST-clause-cost g c = λ e.
     (turned_many_cost least a.other s.rows s.cols e few sa.limit (laws.row_limit core s ss) (laws.col_limit core s ss)) in
     omega (arith, n, m, f)
 
-pub returns-then-a-clause-cost : goal.returns-then-a-clause-cost
-returns-then-a-clause-cost g c = λ e.
+pub returns-else-s-le-MOST-clause-cost : goal.returns-else-s-le-MOST-clause-cost
+returns-else-s-le-MOST-clause-cost g c = λ e.
+    let m = returns-else-s-le-MOST-clause-thin g c e (inl (subst IsLines (sym c.in-Lines.is) tt)) in
+    let p = thin_product (value_rows c.args.x.now) (value_cols c.args.x.now) (value_cols c.args.y.now) in
+    omega (arith, m, p)
+
+pub returns-then-a-clause-thin : goal.returns-then-a-clause-thin
+returns-then-a-clause-thin g c = λ e some.
     let laws = g.met.C.Core in
     let core = c.args.core.now in
     let least : ℕ = g.C.Core.least in
@@ -165,8 +201,14 @@ returns-then-a-clause-cost g c = λ e.
     (outers_cost least a.other a.count b.other e sa.few sa.limit (let n = sa.few in omega (arith, n)) sb.limit) in
     omega (arith, n, m)
 
-pub returns-else-a-clause-cost : goal.returns-else-a-clause-cost
-returns-else-a-clause-cost g c = λ e.
+pub returns-then-a-clause-cost : goal.returns-then-a-clause-cost
+returns-then-a-clause-cost g c = λ e.
+    let m = returns-then-a-clause-thin g c e (inl (subst IsLines (sym c.in-Lines.is) tt)) in
+    let p = thin_product (value_rows c.args.x.now) (value_cols c.args.x.now) (value_cols c.args.y.now) in
+    omega (arith, m, p)
+
+pub returns-else-a-clause-thin : goal.returns-else-a-clause-thin
+returns-else-a-clause-thin g c = λ e some.
     let laws = g.met.C.Core in
     let core = c.args.core.now in
     let least : ℕ = g.C.Core.least in
@@ -187,3 +229,9 @@ returns-else-a-clause-cost g c = λ e.
     let m = by_values x y p q a.count a.other b.count _ ex ey (ap (λ (t : Bool). cond t a.other a.count) c.if-a.false) (ap (λ (t : Bool). cond t a.count a.other) c.if-a.false) (ap (λ (t : Bool). cond t b.count b.other) turned)
     (meetings_cost least a.count a.other b.count e sa.few sb.few (let n = sa.few in omega (arith, n)) sa.limit (let n = sb.few in omega (arith, n))) in
     omega (arith, n, m)
+
+pub returns-else-a-clause-cost : goal.returns-else-a-clause-cost
+returns-else-a-clause-cost g c = λ e.
+    let m = returns-else-a-clause-thin g c e (inl (subst IsLines (sym c.in-Lines.is) tt)) in
+    let p = thin_product (value_rows c.args.x.now) (value_cols c.args.x.now) (value_cols c.args.y.now) in
+    omega (arith, m, p)

@@ -15,8 +15,8 @@ returns-clause-value g c =
     (value_type o c.args.r.now (λ r s. record { valid = laws.valid c.args.core.now r s; row_size = laws.row_size c.args.core.now r s; col_size = laws.col_size c.args.core.now r s }) c.requires.right) (value_type o c.args.s.now (λ r s. record { valid = laws.valid c.args.core.now r s; row_size = laws.row_size c.args.core.now r s; col_size = laws.col_size c.args.core.now r s }) c.requires.left)
     c.requires.cols c.requires.right c.in_ok-lacking.ensures.keeps c.in_ok-turned.ensures.keeps c.in_ok-lacking.ensures.value c.in_ok-turned.ensures.value c.in_ok-broken.ensures.value c.in_ok-rest.ensures.value
 
-pub returns-in_err-lacking-clause-cost : goal.returns-in_err-lacking-clause-cost
-returns-in_err-lacking-clause-cost g c = λ e.
+pub returns-in_err-lacking-clause-close : goal.returns-in_err-lacking-clause-close
+returns-in_err-lacking-clause-close g c = λ e.
     let laws = g.met.C.Core in
     let core = c.args.core.now in
     let o = g.C.Core.worker core in
@@ -24,17 +24,24 @@ returns-in_err-lacking-clause-cost g c = λ e.
     let r = c.args.r.now in
     let s = c.args.s.now in
     let h : ℕ = height_of_three (value_rows s) (value_cols s) (value_rows r) in
-    let z = derived_room-least (value_rows s) (value_cols s) (value_rows r) in
     let sr : value_rows s ≤ 2 ^ h = first_covered (value_rows s) (value_cols s) (value_rows r) (value_row_limit o s (laws.row_limit core) c.requires.left) in
     let sc : value_cols s ≤ 2 ^ h = middle_covered (value_rows s) (value_cols s) (value_rows r) (value_col_limit o s (laws.col_limit core) c.requires.left) in
     let rr : value_rows r ≤ 2 ^ h = last_covered (value_rows s) (value_cols s) (value_rows r) (value_row_limit o r (laws.row_limit core) c.requires.right) in
     let rc : value_cols r ≤ 2 ^ h = (let q = c.requires.cols in omega (arith, sc, q)) in
     let a = c.in_err-lacking.ensures.room in
     let fa = complement_part least h o s e c.requires.left sr sc in
-    omega (arith, z, a, fa)
+    omega (arith, a, fa)
 
-pub returns-in_err-turned-clause-cost : goal.returns-in_err-turned-clause-cost
-returns-in_err-turned-clause-cost g c = λ e.
+pub returns-in_err-lacking-clause-cost : goal.returns-in_err-lacking-clause-cost
+returns-in_err-lacking-clause-cost g c = λ e.
+    let r = c.args.r.now in
+    let s = c.args.s.now in
+    let z = derived_room-least (value_rows s) (value_cols s) (value_rows r) in
+    let a = returns-in_err-lacking-clause-close g c e in
+    omega (arith, z, a)
+
+pub returns-in_err-turned-clause-close : goal.returns-in_err-turned-clause-close
+returns-in_err-turned-clause-close g c = λ e.
     let laws = g.met.C.Core in
     let core = c.args.core.now in
     let o = g.C.Core.worker core in
@@ -42,7 +49,6 @@ returns-in_err-turned-clause-cost g c = λ e.
     let r = c.args.r.now in
     let s = c.args.s.now in
     let h : ℕ = height_of_three (value_rows s) (value_cols s) (value_rows r) in
-    let z = derived_room-least (value_rows s) (value_cols s) (value_rows r) in
     let sr : value_rows s ≤ 2 ^ h = first_covered (value_rows s) (value_cols s) (value_rows r) (value_row_limit o s (laws.row_limit core) c.requires.left) in
     let sc : value_cols s ≤ 2 ^ h = middle_covered (value_rows s) (value_cols s) (value_rows r) (value_col_limit o s (laws.col_limit core) c.requires.left) in
     let rr : value_rows r ≤ 2 ^ h = last_covered (value_rows s) (value_cols s) (value_rows r) (value_row_limit o r (laws.row_limit core) c.requires.right) in
@@ -51,10 +57,18 @@ returns-in_err-turned-clause-cost g c = λ e.
     let fa = complement_part least h o s e c.requires.left sr sc in
     let b = c.in_err-turned.ensures.room in
     let fb = transpose_part least h r e rr rc in
-    omega (arith, z, a, fa, b, fb)
+    omega (arith, a, fa, b, fb)
 
-pub returns-in_err-broken-clause-cost : goal.returns-in_err-broken-clause-cost
-returns-in_err-broken-clause-cost g c = λ e.
+pub returns-in_err-turned-clause-cost : goal.returns-in_err-turned-clause-cost
+returns-in_err-turned-clause-cost g c = λ e.
+    let r = c.args.r.now in
+    let s = c.args.s.now in
+    let z = derived_room-least (value_rows s) (value_cols s) (value_rows r) in
+    let a = returns-in_err-turned-clause-close g c e in
+    omega (arith, z, a)
+
+pub returns-in_err-broken-clause-close : goal.returns-in_err-broken-clause-close
+returns-in_err-broken-clause-close g c = λ e.
     let laws = g.met.C.Core in
     let core = c.args.core.now in
     let o = g.C.Core.worker core in
@@ -62,7 +76,6 @@ returns-in_err-broken-clause-cost g c = λ e.
     let r = c.args.r.now in
     let s = c.args.s.now in
     let h : ℕ = height_of_three (value_rows s) (value_cols s) (value_rows r) in
-    let z = derived_room-least (value_rows s) (value_cols s) (value_rows r) in
     let sr : value_rows s ≤ 2 ^ h = first_covered (value_rows s) (value_cols s) (value_rows r) (value_row_limit o s (laws.row_limit core) c.requires.left) in
     let sc : value_cols s ≤ 2 ^ h = middle_covered (value_rows s) (value_cols s) (value_rows r) (value_col_limit o s (laws.col_limit core) c.requires.left) in
     let rr : value_rows r ≤ 2 ^ h = last_covered (value_rows s) (value_cols s) (value_rows r) (value_row_limit o r (laws.row_limit core) c.requires.right) in
@@ -75,10 +88,18 @@ returns-in_err-broken-clause-cost g c = λ e.
     let t = c.in_ok-turned.ensures.value in
     let l = c.in_ok-lacking.ensures.value in
     let fd = product_part h (value_rows c.in_ok-lacking.lacking) (value_cols c.in_ok-lacking.lacking) (value_cols c.in_ok-turned.turned) (let q = l.row_size in omega (arith, q, sr)) (let q = l.col_size in omega (arith, q, sc)) (let q = t.col_size in omega (arith, q, rr)) in
-    omega (arith, z, a, fa, b, fb, d, fd)
+    omega (arith, a, fa, b, fb, d, fd)
 
-pub returns-in_err-rest-clause-cost : goal.returns-in_err-rest-clause-cost
-returns-in_err-rest-clause-cost g c = λ e.
+pub returns-in_err-broken-clause-cost : goal.returns-in_err-broken-clause-cost
+returns-in_err-broken-clause-cost g c = λ e.
+    let r = c.args.r.now in
+    let s = c.args.s.now in
+    let z = derived_room-least (value_rows s) (value_cols s) (value_rows r) in
+    let a = returns-in_err-broken-clause-close g c e in
+    omega (arith, z, a)
+
+pub returns-in_err-rest-clause-close : goal.returns-in_err-rest-clause-close
+returns-in_err-rest-clause-close g c = λ e.
     let laws = g.met.C.Core in
     let core = c.args.core.now in
     let o = g.C.Core.worker core in
@@ -86,7 +107,6 @@ returns-in_err-rest-clause-cost g c = λ e.
     let r = c.args.r.now in
     let s = c.args.s.now in
     let h : ℕ = height_of_three (value_rows s) (value_cols s) (value_rows r) in
-    let z = derived_room-least (value_rows s) (value_cols s) (value_rows r) in
     let sr : value_rows s ≤ 2 ^ h = first_covered (value_rows s) (value_cols s) (value_rows r) (value_row_limit o s (laws.row_limit core) c.requires.left) in
     let sc : value_cols s ≤ 2 ^ h = middle_covered (value_rows s) (value_cols s) (value_rows r) (value_col_limit o s (laws.col_limit core) c.requires.left) in
     let rr : value_rows r ≤ 2 ^ h = last_covered (value_rows s) (value_cols s) (value_rows r) (value_row_limit o r (laws.row_limit core) c.requires.right) in
@@ -102,10 +122,18 @@ returns-in_err-rest-clause-cost g c = λ e.
     let f = c.in_err-rest.ensures.room in
     let v = c.in_ok-broken.ensures.value in
     let ff = complement_part least h (g.C.Core.worker c.compose.new.core) c.in_ok-broken.broken e v.stands (let q = v.row_size in let u = l.row_size in omega (arith, q, u, sr)) (let q = v.col_size in let u = t.col_size in omega (arith, q, u, rr)) in
-    omega (arith, z, a, fa, b, fb, d, fd, f, ff)
+    omega (arith, a, fa, b, fb, d, fd, f, ff)
 
-pub returns-clause-cost : goal.returns-clause-cost
-returns-clause-cost g c = λ e.
+pub returns-in_err-rest-clause-cost : goal.returns-in_err-rest-clause-cost
+returns-in_err-rest-clause-cost g c = λ e.
+    let r = c.args.r.now in
+    let s = c.args.s.now in
+    let z = derived_room-least (value_rows s) (value_cols s) (value_rows r) in
+    let a = returns-in_err-rest-clause-close g c e in
+    omega (arith, z, a)
+
+pub returns-clause-close : goal.returns-clause-close
+returns-clause-close g c = λ e.
     let laws = g.met.C.Core in
     let core = c.args.core.now in
     let o = g.C.Core.worker core in
@@ -113,7 +141,6 @@ returns-clause-cost g c = λ e.
     let r = c.args.r.now in
     let s = c.args.s.now in
     let h : ℕ = height_of_three (value_rows s) (value_cols s) (value_rows r) in
-    let z = derived_room-least (value_rows s) (value_cols s) (value_rows r) in
     let sr : value_rows s ≤ 2 ^ h = first_covered (value_rows s) (value_cols s) (value_rows r) (value_row_limit o s (laws.row_limit core) c.requires.left) in
     let sc : value_cols s ≤ 2 ^ h = middle_covered (value_rows s) (value_cols s) (value_rows r) (value_col_limit o s (laws.col_limit core) c.requires.left) in
     let rr : value_rows r ≤ 2 ^ h = last_covered (value_rows s) (value_cols s) (value_rows r) (value_row_limit o r (laws.row_limit core) c.requires.right) in
@@ -129,4 +156,12 @@ returns-clause-cost g c = λ e.
     let f = c.in_ok-rest.ensures.room in
     let v = c.in_ok-broken.ensures.value in
     let ff = complement_part least h (g.C.Core.worker c.compose.new.core) c.in_ok-broken.broken e v.stands (let q = v.row_size in let u = l.row_size in omega (arith, q, u, sr)) (let q = v.col_size in let u = t.col_size in omega (arith, q, u, rr)) in
-    omega (arith, z, a, fa, b, fb, d, fd, f, ff)
+    omega (arith, a, fa, b, fb, d, fd, f, ff)
+
+pub returns-clause-cost : goal.returns-clause-cost
+returns-clause-cost g c = λ e.
+    let r = c.args.r.now in
+    let s = c.args.s.now in
+    let z = derived_room-least (value_rows s) (value_cols s) (value_rows r) in
+    let a = returns-clause-close g c e in
+    omega (arith, z, a)

@@ -1,4 +1,4 @@
-use Rattle.std.proofs.Common.{◌≡◌, ◌<◌, ◌≤◌, ◌+◌, ◌∙◌, ℕ, Bool, sym, ap, arith}
+use Rattle.std.proofs.Common.{◌≡◌, ◌∙◌, ℕ, Bool, sym, ap, arith}
 use Rattle.rel_model.specs.Relation.{Relation}
 use Rattle.rel_model.specs.Cells.{some_below}
 use Rattle.rel_model.proofs.Somes.{some_agree}

@@ -1,4 +1,4 @@
-use Rattle.std.proofs.Common.{◌≡◌, ◌∙◌, not, ℕ, Bool, sym, ap}
+use Rattle.std.proofs.Common.{◌∙◌, not, ℕ, Bool, sym, ap}
 use Rattle.rel_model.specs.Choice.{is_unival}
 use Rattle.rel_slices.specs.Thin.{line_set}
 use Rattle.rel_slices.proofs.Putting.{set_line}

@@ -3,7 +3,6 @@ use Rattle.rel_model.specs.Cells.{some_below}
 use Rattle.rel_model.specs.Choice.{is_unival}
 use Rattle.rel_model.specs.Worker.{Keeps, MakesAtMost, MissesNothing}
 use Rattle.rel_slices.specs.Thin.{line_set}
-use Rattle.rel_slices.specs.Ops.{meet}
 use Rattle.rel_slices.proofs.univalent.each_single.Given as goal
 
 abbrev pub invariant-lines : goal.invariant-lines

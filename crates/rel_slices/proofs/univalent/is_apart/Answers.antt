@@ -1,4 +1,4 @@
-use Rattle.std.proofs.Common.{◌≡◌, ◌<◌, ◌≤◌, ◌+◌, ◌∙◌, ℕ, Bool, sym, ap, arith}
+use Rattle.std.proofs.Common.{◌≡◌, ◌<◌, ◌∙◌, ℕ, Bool, sym, ap, arith}
 use Rattle.rel_model.specs.declared.Rel.{Rel}
 use Rattle.rel_model.specs.Relation.{Relation}
 use Rattle.rel_model.specs.Algebra.{HasType}

@@ -1,6 +1,5 @@
-use Rattle.std.proofs.Common.{◌≡◌, false, not}
+use Rattle.std.proofs.Common.{◌≡◌, false}
 use Rattle.rel_model.specs.Cells.{some_below}
-use Rattle.rel_model.specs.Choice.{is_unival}
 use Rattle.rel_model.specs.Worker.{Keeps, MakesAtMost, MissesNothing}
 use Rattle.rel_slices.specs.Thin.{line_set}
 use Rattle.rel_slices.specs.Ops.{meet}

@@ -1,4 +1,4 @@
-use Rattle.std.proofs.Common.{◌≡◌, ◌∙◌, ℕ, Bool, sym, subst, ap}
+use Rattle.std.proofs.Common.{◌∙◌, Bool, sym, subst, ap}
 use Rattle.rel_model.specs.Choice.{is_unival}
 use Rattle.rel_slices.specs.declared.thin.Value.{Value}
 use Rattle.rel_slices.specs.Thin.{line_of, line_set, laid, ValueStands, value_of}
