@@ -1,0 +1,4 @@
+pub mod Values
+pub mod Bounds
+pub mod Shaping
+pub mod Deciding

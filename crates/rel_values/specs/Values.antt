@@ -1,0 +1,41 @@
+-- What the operators of the language on values promise.
+use Rattle.std.specs.Prelude.{◌≤◌, ◌<◌, ◌+◌, ℕ, Bool, Result, IfOk}
+use Rattle.rel_model.specs.declared.Lack.{Lack}
+use Rattle.rel_model.specs.declared.faults.DomainError.{DomainError}
+use Rattle.rel_model.specs.Relation.{Relation, size_limit}
+use Rattle.rel_model.specs.Domains.{HasDomainCause}
+use Rattle.rel_model.specs.Worker.{Worker, Keeps, MakesAtMost, HasCause}
+use Rattle.rel_slices.specs.declared.thin.Value.{Value}
+use Rattle.rel_slices.specs.Thin.{ValueStands, IsLong, GivesValue}
+use Rattle.rel_slices.specs.ValueRooms.{assembly_room}
+
+-- the value stands, and where it is lines they are long
+pub record Fits (w : Worker) (v : Value) : Type 0 where
+  pub stands : ValueStands w v
+  pub long : IsLong v
+
+-- how many nodes making it whole takes at most
+abbrev pub owed : ℕ → Value → ℕ
+owed least v = assembly_room least v
+
+-- An operation answers a value of these sizes and this set, or refuses for its cause. All that stood stands, and no
+-- more nodes are made than it costs, those that make its answer whole counted too.
+pub record Operates (least : ℕ) (lean : Bool) (old new : Worker) (rows cols : ℕ) (set : Relation) (cost : ℕ)
+    (result : Result Value Lack) : Type 0 where
+  pub value : IfOk result (GivesValue new rows cols set)
+  pub long : IfOk result IsLong
+  pub keeps : Keeps old new
+  pub room : MakesAtMost cost old new
+  pub owes : IfOk result (λ v. new.made + owed least v ≤ old.made + cost)
+  pub cause : HasCause lean old new result
+
+-- the same of one whose answer may be too large, of so many columns: then it makes nothing
+pub record OperatesWithin (least : ℕ) (lean : Bool) (old new : Worker) (rows cols : ℕ) (set : Relation)
+    (cost wanted : ℕ) (result : Result Value DomainError) : Type 0 where
+  pub value : IfOk result (GivesValue new rows cols set)
+  pub long : IfOk result IsLong
+  pub keeps : Keeps old new
+  pub room : MakesAtMost cost old new
+  pub owes : IfOk result (λ v. new.made + owed least v ≤ old.made + cost)
+  pub nothing : size_limit < wanted → MakesAtMost 0 old new
+  pub cause : HasDomainCause lean wanted old new result

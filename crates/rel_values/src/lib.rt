@@ -1,0 +1,20 @@
+//! The operators of the language on values of either form, within the language's costs.
+#![tactic(auto)]
+
+mod boole;
+mod choice;
+mod comparing;
+mod domains;
+mod form;
+mod orders;
+mod products;
+mod shaping;
+mod standing;
+
+pub use boole::{complement, empty, full, inter, turned, union};
+pub use choice::{atom, init, inj, next, point};
+pub use comparing::{included, same};
+pub use domains::{epsi, pair};
+pub use form::{square, whole};
+pub use orders::{Bound, bounds};
+pub use products::{compose, dom, left, ran, right, syq};

@@ -1,0 +1,132 @@
+//! Composition, residuals, the symmetric quotient, and the rows and columns that have a pair.
+ghost use Rattle.std.specs.Prelude.{◌≡◌};
+ghost use Rattle.rel_model.specs.Operators.{compose as compose_of, right_residual, left_residual, symmetric_quotient};
+ghost use Rattle.rel_model.specs.Choice.{dom as dom_of, ran as ran_of};
+ghost use Rattle.rel_model.specs.Worker.{product_room, wide_room};
+ghost use Rattle.rel_slices.specs.Thin.{value_of, value_rows, value_cols};
+ghost use Rattle.rel_values.specs.Values.{Fits, Operates};
+
+use crate::shaping::in_form;
+use crate::standing::{both_whole, stays_whole};
+use rel_model::engine_trait::Engine;
+use rel_model::{Lack, Shape};
+use rel_slices::{Value, full, shape_of, transpose};
+
+/// `R*S = {(i, k) : (i, j) in r and (j, k) in s for some j}`: the composition, of k × m with m × n.
+pub fn compose<E: Engine>(engine: &mut E, x: &Value, y: &Value) -> Result<Value, Lack>
+    requires left { Fits (E.worker engine.old) x.now }
+    requires right { Fits (E.worker engine.old) y.now }
+    requires middle { value_cols x.now ≡ value_rows y.now }
+    ensures operates { let w = E.worker engine.old in Operates E.least E.lean w (E.worker engine.new)
+        (value_rows x.now) (value_cols y.now)
+        (compose_of (value_of w x.now) (value_of w y.now))
+        (product_room (value_rows x.now) (value_cols x.now) (value_cols y.now)) result }
+{
+    let first = in_form(engine, x)?;
+    let second = in_form(engine, y)?;
+    rel_slices::compose(engine, &first, &second)
+}
+
+/// `R\S = {(j, k) : (i, j) in r implies (i, k) in s, for all i}`: the right residual, of m × n under m × p.
+pub fn right<E: Engine>(engine: &mut E, x: &Value, y: &Value) -> Result<Value, Lack>
+    requires left { Fits (E.worker engine.old) x.now }
+    requires right { Fits (E.worker engine.old) y.now }
+    requires rows { value_rows x.now ≡ value_rows y.now }
+    ensures operates { let w = E.worker engine.old in Operates E.least E.lean w (E.worker engine.new)
+        (value_cols x.now) (value_cols y.now)
+        (right_residual (value_of w x.now) (value_of w y.now))
+        (wide_room (value_rows x.now) (value_cols x.now) (value_cols y.now)) result }
+{
+    let first = in_form(engine, x)?;
+    let second = in_form(engine, y)?;
+    if let Some((r, s)) = both_whole(&first, &second) {
+        return stays_whole(engine.right(r, s));
+    }
+    rel_slices::right(engine, &first, &second)
+}
+
+/// `S/R = {(i, j) : (j, k) in r implies (i, k) in s, for all k}`: the left residual, of m × p over n × p.
+pub fn left<E: Engine>(engine: &mut E, x: &Value, y: &Value) -> Result<Value, Lack>
+    requires left { Fits (E.worker engine.old) x.now }
+    requires right { Fits (E.worker engine.old) y.now }
+    requires cols { value_cols x.now ≡ value_cols y.now }
+    ensures operates { let w = E.worker engine.old in Operates E.least E.lean w (E.worker engine.new)
+        (value_rows x.now) (value_rows y.now)
+        (left_residual (value_of w x.now) (value_of w y.now))
+        (wide_room (value_rows x.now) (value_cols x.now) (value_rows y.now)) result }
+{
+    let first = in_form(engine, x)?;
+    let second = in_form(engine, y)?;
+    if let Some((r, s)) = both_whole(&first, &second) {
+        return stays_whole(engine.left(r, s));
+    }
+    rel_slices::left(engine, &first, &second)
+}
+
+/// `syq(R,S) = {(j, k) : (i, j) in r exactly if (i, k) in s, for all i}`: the symmetric quotient, of m × n and m
+/// × p.
+pub fn syq<E: Engine>(engine: &mut E, x: &Value, y: &Value) -> Result<Value, Lack>
+    requires left { Fits (E.worker engine.old) x.now }
+    requires right { Fits (E.worker engine.old) y.now }
+    requires rows { value_rows x.now ≡ value_rows y.now }
+    ensures operates { let w = E.worker engine.old in Operates E.least E.lean w (E.worker engine.new)
+        (value_cols x.now) (value_cols y.now)
+        (symmetric_quotient (value_of w x.now) (value_of w y.now))
+        (wide_room (value_rows x.now) (value_cols x.now) (value_cols y.now)) result }
+{
+    let first = in_form(engine, x)?;
+    let second = in_form(engine, y)?;
+    if let Some((r, s)) = both_whole(&first, &second) {
+        return stays_whole(engine.syq(r, s));
+    }
+    rel_slices::syq(engine, &first, &second)
+}
+
+/// `R*L`, with L one full column: the domain of definition.
+fn with_ones<E: Engine>(engine: &mut E, v: &Value) -> Result<Value, Lack>
+    requires fits { Fits (E.worker engine.old) v.now }
+    ensures operates { let w = E.worker engine.old in Operates E.least E.lean w (E.worker engine.new)
+        (value_rows v.now) 1
+        (dom_of (value_of w v.now))
+        (wide_room (value_rows v.now) (value_cols v.now) 1) result }
+{
+    let ones = full(
+        engine,
+        Shape {
+            rows: shape_of(v).cols,
+            cols: 1,
+        },
+    )?;
+    compose(engine, v, &ones)
+}
+
+/// `{(i, 0) : (i, j) in r for some j}`: the domain of definition.
+pub fn dom<E: Engine>(engine: &mut E, v: &Value) -> Result<Value, Lack>
+    requires fits { Fits (E.worker engine.old) v.now }
+    ensures operates { let w = E.worker engine.old in Operates E.least E.lean w (E.worker engine.new)
+        (value_rows v.now) 1
+        (dom_of (value_of w v.now))
+        (wide_room (value_rows v.now) (value_cols v.now) 1) result }
+{
+    match v {
+        Value::Whole(r) => stays_whole(engine.dom(*r)),
+        Value::Lines(_) => with_ones(engine, v),
+    }
+}
+
+/// `{(j, 0) : (i, j) in r for some i}`: the range.
+pub fn ran<E: Engine>(engine: &mut E, v: &Value) -> Result<Value, Lack>
+    requires fits { Fits (E.worker engine.old) v.now }
+    ensures operates { let w = E.worker engine.old in Operates E.least E.lean w (E.worker engine.new)
+        (value_cols v.now) 1
+        (ran_of (value_of w v.now))
+        (wide_room (value_rows v.now) (value_cols v.now) 1) result }
+{
+    match v {
+        Value::Whole(r) => stays_whole(engine.ran(*r)),
+        Value::Lines(_) => {
+            let turned = transpose(engine, v)?;
+            with_ones(engine, &turned)
+        }
+    }
+}
