@@ -1,6 +1,5 @@
 -- Base calls: which operands they take, and those that no text spells.
 use Rattle.std.proofs.Common.{◌≡◌, ◌≢◌, ◌≤◌, ◌+◌, ◌∙◌, ◌==◌, ◌&&◌, ℕ, Bool, true, false, cond, List, [], ◌∷◌, length, refl, ap, arith, Result}
-use Rattle.rel_model.specs.declared.Rel.{Rel}
 use Rattle.lang_model.specs.declared.syntax.Place.{Place}
 use Rattle.lang_model.specs.declared.syntax.Base.{Base}
 use Rattle.lang_model.specs.declared.syntax.Base.TheVariants.{L, O, I, Ln1, On1, L1n, O1n, Dom, Ran, Trans, Refl, Epsi, Point, Atom, Init, Next, Inj, Empty, Unival}
@@ -8,7 +7,10 @@ use Rattle.lang_model.specs.declared.syntax.Base.TheVariants.{Less, Hasse, Quot,
 use Rattle.lang_model.specs.declared.faults.TypeFault.TheVariants.{Mismatch}
 use Rattle.rel_model.specs.Relation.{Relation}
 use Rattle.rel_model.specs.Operators.{empty}
-use Rattle.rel_model.specs.Worker.{Worker, set_of, Keeps}
+use Rattle.rel_model.specs.Worker.{Worker, Keeps}
+use Rattle.rel_slices.specs.declared.thin.Value.{Value}
+use Rattle.rel_slices.specs.Thin.{value_of}
+use Rattle.rel_values.specs.Values.{owed}
 use Rattle.lang_model.specs.Rooms.{plain_cost}
 use Rattle.lang_model.specs.Outcomes.{Cost, no_cost, Ill, Makes, Refuses, with_turns}
 use Rattle.lang_model.specs.BaseNames.{base_text}
@@ -17,7 +19,7 @@ use Rattle.lang_model.specs.Mean.{fitting, based, answer_of_test, is_within}
 use Rattle.rv_eval.specs.declared.halt.Halt.{Halt}
 use Rattle.rv_eval.specs.declared.bases.Demand.TheVariants.{Nothing, Square, OneColumn}
 use Rattle.rv_eval.specs.Demands.{demanded}
-use Rattle.rv_eval.specs.Ends.{Ends}
+use Rattle.rv_eval.specs.Ends.{EndsOnce}
 use Rattle.rv_eval.proofs.Going.{goes_last}
 use Rattle.rv_eval.proofs.Operating.{same_type}
 
@@ -102,57 +104,47 @@ other_count at base (r ∷ s ∷ []) a b = absurd (b refl)
 other_count at base (r ∷ s ∷ t ∷ ts) a b = refl
 
 -- ---- two operands of one type
-module _ (w : Worker) (at : Place) (r s : Rel) (rm : (set_of w r).rows ≡ r.rows) (rn : (set_of w r).cols ≡ r.cols) (sm : (set_of w s).rows ≡ s.rows) (sn : (set_of w s).cols ≡ s.cols) where
-  tested_both : (b : Bool) → ((r.rows == s.rows) && (r.cols == s.cols)) ≡ b → (((set_of w r).rows == (set_of w s).rows) && ((set_of w r).cols == (set_of w s).cols)) ≡ b
+module _ (at : Place) (R S : Relation) (m n p q : ℕ) (rm : R.rows ≡ m) (rn : R.cols ≡ n) (sm : S.rows ≡ p) (sn : S.cols ≡ q) where
+  tested_both : (b : Bool) → ((m == p) && (n == q)) ≡ b → ((R.rows == S.rows) && (R.cols == S.cols)) ≡ b
   tested_both b e =
-      let R = set_of w r in
-      let S = set_of w s in
-      ap (λ x. (x == S.rows) && (R.cols == S.cols)) rm ∙ ap (λ x. (r.rows == x) && (R.cols == S.cols)) sm
-      ∙ ap (λ x. (r.rows == s.rows) && (x == S.cols)) rn ∙ ap (λ x. (r.rows == s.rows) && (r.cols == x)) sn ∙ e
+      ap (λ x. (x == S.rows) && (R.cols == S.cols)) rm ∙ ap (λ x. (m == x) && (R.cols == S.cols)) sm
+      ∙ ap (λ x. (m == p) && (x == S.cols)) rn ∙ ap (λ x. (m == p) && (n == x)) sn ∙ e
 
-  pub eq_fits : ((r.rows == s.rows) && (r.cols == s.cols)) ≡ true
-      → based at Eq (set_of w r ∷ set_of w s ∷ []) ≡ Makes (answer_of_test (is_within (set_of w r) (set_of w s) && is_within (set_of w s) (set_of w r))) (plain_cost r.rows r.cols)
+  pub eq_fits : ((m == p) && (n == q)) ≡ true
+      → based at Eq (R ∷ S ∷ []) ≡ Makes (answer_of_test (is_within R S && is_within S R)) (plain_cost m n)
   unfolding based
   eq_fits e =
-      let R = set_of w r in
-      let S = set_of w s in
       ap (λ b. fitting (cond b (Fits (known 1 1)) (Misfit (Mismatch at (base_text Eq) (sizes R) (sizes S)))) (Makes (answer_of_test (is_within R S && is_within S R)) (plain_cost R.rows R.cols))) (tested_both true e)
-      ∙ ap (λ m. Makes (answer_of_test (is_within R S && is_within S R)) (plain_cost m R.cols)) rm
-      ∙ ap (λ n. Makes (answer_of_test (is_within R S && is_within S R)) (plain_cost r.rows n)) rn
+      ∙ ap (λ k. Makes (answer_of_test (is_within R S && is_within S R)) (plain_cost k R.cols)) rm
+      ∙ ap (λ k. Makes (answer_of_test (is_within R S && is_within S R)) (plain_cost m k)) rn
 
-  pub eq_misfit : ((r.rows == s.rows) && (r.cols == s.cols)) ≡ false
-      → based at Eq (set_of w r ∷ set_of w s ∷ []) ≡ Refuses (Ill (Mismatch at (base_text Eq) (known r.rows r.cols) (known s.rows s.cols)))
+  pub eq_misfit : ((m == p) && (n == q)) ≡ false
+      → based at Eq (R ∷ S ∷ []) ≡ Refuses (Ill (Mismatch at (base_text Eq) (known m n) (known p q)))
   unfolding based
   eq_misfit e =
-      let R = set_of w r in
-      let S = set_of w s in
       ap (λ b. fitting (cond b (Fits (known 1 1)) (Misfit (Mismatch at (base_text Eq) (sizes R) (sizes S)))) (Makes (answer_of_test (is_within R S && is_within S R)) (plain_cost R.rows R.cols))) (tested_both false e)
-      ∙ ap (λ x. Refuses (Ill (Mismatch at (base_text Eq) x (sizes S)))) (same_type w r rm rn)
-      ∙ ap (λ x. Refuses (Ill (Mismatch at (base_text Eq) (known r.rows r.cols) x))) (same_type w s sm sn)
+      ∙ ap (λ x. Refuses (Ill (Mismatch at (base_text Eq) x (sizes S)))) (same_type R m n rm rn)
+      ∙ ap (λ x. Refuses (Ill (Mismatch at (base_text Eq) (known m n) x))) (same_type S p q sm sn)
 
-  pub incl_fits : ((r.rows == s.rows) && (r.cols == s.cols)) ≡ true
-      → based at Incl (set_of w r ∷ set_of w s ∷ []) ≡ Makes (answer_of_test (is_within (set_of w r) (set_of w s))) (plain_cost r.rows r.cols)
+  pub incl_fits : ((m == p) && (n == q)) ≡ true
+      → based at Incl (R ∷ S ∷ []) ≡ Makes (answer_of_test (is_within R S)) (plain_cost m n)
   unfolding based
   incl_fits e =
-      let R = set_of w r in
-      let S = set_of w s in
       ap (λ b. fitting (cond b (Fits (known 1 1)) (Misfit (Mismatch at (base_text Incl) (sizes R) (sizes S)))) (Makes (answer_of_test (is_within R S)) (plain_cost R.rows R.cols))) (tested_both true e)
-      ∙ ap (λ m. Makes (answer_of_test (is_within R S)) (plain_cost m R.cols)) rm
-      ∙ ap (λ n. Makes (answer_of_test (is_within R S)) (plain_cost r.rows n)) rn
+      ∙ ap (λ k. Makes (answer_of_test (is_within R S)) (plain_cost k R.cols)) rm
+      ∙ ap (λ k. Makes (answer_of_test (is_within R S)) (plain_cost m k)) rn
 
-  pub incl_misfit : ((r.rows == s.rows) && (r.cols == s.cols)) ≡ false
-      → based at Incl (set_of w r ∷ set_of w s ∷ []) ≡ Refuses (Ill (Mismatch at (base_text Incl) (known r.rows r.cols) (known s.rows s.cols)))
+  pub incl_misfit : ((m == p) && (n == q)) ≡ false
+      → based at Incl (R ∷ S ∷ []) ≡ Refuses (Ill (Mismatch at (base_text Incl) (known m n) (known p q)))
   unfolding based
   incl_misfit e =
-      let R = set_of w r in
-      let S = set_of w s in
       ap (λ b. fitting (cond b (Fits (known 1 1)) (Misfit (Mismatch at (base_text Incl) (sizes R) (sizes S)))) (Makes (answer_of_test (is_within R S)) (plain_cost R.rows R.cols))) (tested_both false e)
-      ∙ ap (λ x. Refuses (Ill (Mismatch at (base_text Incl) x (sizes S)))) (same_type w r rm rn)
-      ∙ ap (λ x. Refuses (Ill (Mismatch at (base_text Incl) (known r.rows r.cols) x))) (same_type w s sm sn)
+      ∙ ap (λ x. Refuses (Ill (Mismatch at (base_text Incl) x (sizes S)))) (same_type R m n rm rn)
+      ∙ ap (λ x. Refuses (Ill (Mismatch at (base_text Incl) (known m n) x))) (same_type S p q sm sn)
 
 -- a second operation after a first that made no more than its cost
-pub after_made : {leaf : ℕ} (old mid new : Worker) (value : Relation) (c d : Cost) (r : Result Rel Halt) → Keeps old mid → mid.made ≤ old.made + c leaf
-    → Ends leaf mid new 0 0 (with_turns (Makes value d) 0) (set_of new) r → Ends leaf old new 0 0 (with_turns (Makes value (λ l. c l + d l)) 0) (set_of new) r
+pub after_made : {leaf : ℕ} (old mid new : Worker) (value : Relation) (c d : Cost) (r : Result Value Halt) → Keeps old mid → mid.made ≤ old.made + c leaf
+    → EndsOnce leaf mid new (Makes value d) r → EndsOnce leaf old new (Makes value (λ l. c l + d l)) r
 after_made {leaf = leaf} old mid new value c d r k m e =
-    goes_last old mid new 0 0 0 (with_turns (Makes value (λ l. c l + d l)) 0) (with_turns (Makes value d) 0) (set_of new) r
-    (record { spent = c leaf; same_answer = refl; same_cost = refl; keeps = k; room = m; turns = omega arith }) e
+    goes_last {start = 0} {owed = 0} {begun = 0} old mid new 0 0 0 (with_turns (Makes value (λ l. c l + d l)) 0) (with_turns (Makes value d) 0) (value_of new) (owed leaf) r
+    (record { spent = c leaf; same_answer = refl; same_cost = refl; keeps = k; room = m; owes = omega (arith, m); turns = omega arith }) e (omega arith)

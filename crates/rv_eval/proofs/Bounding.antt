@@ -1,9 +1,8 @@
 -- Base calls of bounds and of extremes: the tests of their operands, one after the other, and what they cost.
 use Rattle.std.proofs.Common.{◌≡◌, ◌≢◌, ◌≤◌, ◌==◌, ◌∙◌, ℕ, Bool, true, false, cond, [], ◌∷◌, refl, ap, arith, Some}
-use Rattle.rel_model.specs.declared.Rel.{Rel}
 use Rattle.rel_model.specs.Relation.{Relation}
-use Rattle.rel_model.specs.Worker.{Worker, set_of, derived_room, bounds_room, wide_room, extremes_room, classes_room}
-use Rattle.rel_model.proofs.Rooms.{wide_room-four, bounds_room-two, extremes_room-eight, classes_room-sixteen}
+use Rattle.rel_model.specs.Worker.{derived_room, wide_room, classes_room}
+use Rattle.rel_model.proofs.Rooms.{wide_room-four, classes_room-sixteen}
 use Rattle.lang_model.specs.declared.syntax.Place.{Place}
 use Rattle.lang_model.specs.declared.syntax.Base.{Base}
 use Rattle.lang_model.specs.declared.syntax.Base.TheVariants.{Ubd, Lbd, Least, Greatest, Sup, Inf}
@@ -28,24 +27,10 @@ order_of_derived leaf k m n x y z a b c =
     let s = classes_room-sixteen k m n in
     omega (arith, e, s)
 
-pub order_of_bounds : (leaf k m n x y z : ℕ) → x ≡ k → y ≡ m → z ≡ n → bounds_room k m n ≤ order_cost x y z leaf
-order_of_bounds leaf k m n x y z a b c =
-    let e = room_of_order leaf k m n x y z a b c in
-    let t = bounds_room-two k m n in
-    let s = classes_room-sixteen k m n in
-    omega (arith, e, t, s)
-
 pub order_of_wide : (leaf k m n x y z : ℕ) → x ≡ k → y ≡ m → z ≡ n → wide_room k m n ≤ order_cost x y z leaf
 order_of_wide leaf k m n x y z a b c =
     let e = room_of_order leaf k m n x y z a b c in
     let t = wide_room-four k m n in
-    let s = classes_room-sixteen k m n in
-    omega (arith, e, t, s)
-
-pub order_of_extremes : (leaf k m n x y z : ℕ) → x ≡ k → y ≡ m → z ≡ n → extremes_room k m n ≤ order_cost x y z leaf
-order_of_extremes leaf k m n x y z a b c =
-    let e = room_of_order leaf k m n x y z a b c in
-    let t = extremes_room-eight k m n in
     let s = classes_room-sixteen k m n in
     omega (arith, e, t, s)
 
@@ -75,42 +60,42 @@ by_bounds at Sup r s h = refl
 by_bounds at Inf r s h = refl
 by_bounds at base r s h = absurd (let x : false ≡ true = h in cc)
 
-module _ (w : Worker) (at : Place) (r s : Rel) (rm : (set_of w r).rows ≡ r.rows) (rn : (set_of w r).cols ≡ r.cols) (sm : (set_of w s).rows ≡ s.rows) (sn : (set_of w s).cols ≡ s.cols) where
+module _ (at : Place) (R S : Relation) (m n p q : ℕ) (rm : R.rows ≡ m) (rn : R.cols ≡ n) (sm : S.rows ≡ p) (sn : S.cols ≡ q) where
   -- what comes of the tests with these answers
   abbrev tested : Base → Bool → Bool → Operation → Operation
   tested base square rows made =
-      fitting (cond square (cond rows (Fits (type_of (Some (set_of w r).rows) (Some (set_of w s).cols)))
-      (Misfit (Mismatch at (base_text base) (sizes (set_of w r)) (sizes (set_of w s)))))
-      (Misfit (NotSquare at (base_text base) (sizes (set_of w r))))) made
+      fitting (cond square (cond rows (Fits (type_of (Some R.rows) (Some S.cols)))
+      (Misfit (Mismatch at (base_text base) (sizes R) (sizes S))))
+      (Misfit (NotSquare at (base_text base) (sizes R)))) made
 
-  squares : (b : Bool) → (r.rows == r.cols) ≡ b → ((set_of w r).rows == (set_of w r).cols) ≡ b
-  squares b e = ap (λ x. x == (set_of w r).cols) rm ∙ ap (λ x. r.rows == x) rn ∙ e
+  squares : (b : Bool) → (m == n) ≡ b → (R.rows == R.cols) ≡ b
+  squares b e = ap (λ x. x == R.cols) rm ∙ ap (λ x. m == x) rn ∙ e
 
-  same_rows : (b : Bool) → (r.rows == s.rows) ≡ b → ((set_of w r).rows == (set_of w s).rows) ≡ b
-  same_rows b e = ap (λ x. x == (set_of w s).rows) rm ∙ ap (λ x. r.rows == x) sm ∙ e
+  same_rows : (b : Bool) → (m == p) ≡ b → (R.rows == S.rows) ≡ b
+  same_rows b e = ap (λ x. x == S.rows) rm ∙ ap (λ x. m == x) sm ∙ e
 
-  with_tests : (base : Base) (b c : Bool) → bounds base ≡ true → ((set_of w r).rows == (set_of w r).cols) ≡ b
-      → ((set_of w r).rows == (set_of w s).rows) ≡ c
-      → based at base (set_of w r ∷ set_of w s ∷ []) ≡ tested base b c (base_made_of_two base (set_of w r) (set_of w s))
+  with_tests : (base : Base) (b c : Bool) → bounds base ≡ true → (R.rows == R.cols) ≡ b
+      → (R.rows == S.rows) ≡ c
+      → based at base (R ∷ S ∷ []) ≡ tested base b c (base_made_of_two base R S)
   with_tests base b c h e f =
-      let made = base_made_of_two base (set_of w r) (set_of w s) in
-      by_bounds at base (set_of w r) (set_of w s) h
-      ∙ ap (λ x. tested base x ((set_of w r).rows == (set_of w s).rows) made) e ∙ ap (λ x. tested base b x made) f
+      let made = base_made_of_two base R S in
+      by_bounds at base R S h
+      ∙ ap (λ x. tested base x (R.rows == S.rows) made) e ∙ ap (λ x. tested base b x made) f
 
-  pub bounds_fit : (base : Base) → bounds base ≡ true → r.rows ≡ r.cols → r.rows ≡ s.rows
-      → based at base (set_of w r ∷ set_of w s ∷ []) ≡ base_made_of_two base (set_of w r) (set_of w s)
+  pub bounds_fit : (base : Base) → bounds base ≡ true → m ≡ n → m ≡ p
+      → based at base (R ∷ S ∷ []) ≡ base_made_of_two base R S
   bounds_fit base h e f =
-      with_tests base true true h (squares true (equal_sizes r.rows r.cols e)) (same_rows true (equal_sizes r.rows s.rows f))
+      with_tests base true true h (squares true (equal_sizes m n e)) (same_rows true (equal_sizes m p f))
 
-  pub no_square_bounds : (base : Base) → bounds base ≡ true → r.rows ≢ r.cols
-      → based at base (set_of w r ∷ set_of w s ∷ []) ≡ Refuses (Ill (NotSquare at (base_text base) (known r.rows r.cols)))
+  pub no_square_bounds : (base : Base) → bounds base ≡ true → m ≢ n
+      → based at base (R ∷ S ∷ []) ≡ Refuses (Ill (NotSquare at (base_text base) (known m n)))
   no_square_bounds base h e =
-      with_tests base false ((set_of w r).rows == (set_of w s).rows) h (squares false (unequal_sizes r.rows r.cols e)) refl
-      ∙ ap (λ x. Refuses (Ill (NotSquare at (base_text base) x))) (same_type w r rm rn)
+      with_tests base false (R.rows == S.rows) h (squares false (unequal_sizes m n e)) refl
+      ∙ ap (λ x. Refuses (Ill (NotSquare at (base_text base) x))) (same_type R m n rm rn)
 
-  pub other_rows_bounds : (base : Base) → bounds base ≡ true → r.rows ≡ r.cols → r.rows ≢ s.rows
-      → based at base (set_of w r ∷ set_of w s ∷ []) ≡ Refuses (Ill (Mismatch at (base_text base) (known r.rows r.cols) (known s.rows s.cols)))
+  pub other_rows_bounds : (base : Base) → bounds base ≡ true → m ≡ n → m ≢ p
+      → based at base (R ∷ S ∷ []) ≡ Refuses (Ill (Mismatch at (base_text base) (known m n) (known p q)))
   other_rows_bounds base h e f =
-      with_tests base true false h (squares true (equal_sizes r.rows r.cols e)) (same_rows false (unequal_sizes r.rows s.rows f))
-      ∙ ap (λ x. Refuses (Ill (Mismatch at (base_text base) x (sizes (set_of w s))))) (same_type w r rm rn)
-      ∙ ap (λ x. Refuses (Ill (Mismatch at (base_text base) (known r.rows r.cols) x))) (same_type w s sm sn)
+      with_tests base true false h (squares true (equal_sizes m n e)) (same_rows false (unequal_sizes m p f))
+      ∙ ap (λ x. Refuses (Ill (Mismatch at (base_text base) x (sizes S)))) (same_type R m n rm rn)
+      ∙ ap (λ x. Refuses (Ill (Mismatch at (base_text base) (known m n) x))) (same_type S p q sm sn)

@@ -2,14 +2,16 @@
 use Rattle.std.proofs.Common.{◌≡◌, ◌≢◌, ◌<◌, ◌≤◌, ◌+◌, ◌*◌, ◌-◌, ◌==◌, ◌∙◌, ◌⊎◌, inl, inr, Err, ℕ, zero, suc, true, false, cond, List, [], ◌∷◌, length, map, Some, None, refl, sym, ap, arith}
 use Rattle.std.proofs.lemmas.Bool.Decides.{nat_tests}
 use Rattle.std.specs.List.{AllByRecursion}
-use Rattle.rel_model.specs.declared.Rel.{Rel}
+use Rattle.rel_slices.specs.declared.thin.Value.{Value}
 use Rattle.lang_model.specs.declared.syntax.Place.{Place}
 use Rattle.lang_model.specs.declared.syntax.Item.{Item}
 use Rattle.lang_model.specs.declared.syntax.Item.TheVariants.{Function, Program, Command as COMMAND}
 use Rattle.lang_model.specs.declared.faults.TypeFault.TheVariants.{Unknown, Arity}
 use Rattle.rel_model.specs.declared.Lack.TheVariants.{NoMemory}
 use Rattle.rel_model.specs.Relation.{Relation}
-use Rattle.rel_model.specs.Worker.{Worker, Stands, set_of}
+use Rattle.rel_model.specs.Worker.{Worker}
+use Rattle.rel_slices.specs.Thin.{value_of}
+use Rattle.rel_values.specs.Values.{Fits}
 use Rattle.lang_model.specs.Defining.{defines}
 use Rattle.rv_types.specs.Defining.{IsDefinition}
 use Rattle.rv_eval.specs.declared.halt.Halt.{Halt}
@@ -17,9 +19,10 @@ use Rattle.rv_eval.specs.declared.halt.Halt.TheVariants.{Ill as ILL, Lack as LAC
 use Rattle.rv_eval.specs.Ends.{Ends}
 use Rattle.rv_eval.proofs.Going.{refuses, lacks}
 use Rattle.lang_model.specs.Outcomes.{Ill, refused, and_then}
-use Rattle.rv_eval.specs.Names.{state_of, beside}
+use Rattle.rv_eval.specs.Names.{beside}
+use Rattle.rv_eval.specs.Values.{state_by}
 use Rattle.lang_model.specs.Mean.{around_with, mean, run_by, bound, item_named, takes_arguments, body_of, called, calls_within}
-use Rattle.rv_eval.proofs.States.{state_bound}
+use Rattle.rv_eval.proofs.Fitting.{state_bound}
 use Rattle.rv_eval.proofs.Unfolding.{item_found, item_missing}
 use Rattle.lang_model.proofs.Weights.{weight, weight_by, weight_of_item, scale, below_scale, rank_falls}
 
@@ -44,14 +47,14 @@ call_of items rank at name values n item h d e =
     ranked items rank at name values n h ∙ ap (λ o. called (calls_within items (rank - 1)) at name o values n) (definition_found items name item d)
     ∙ ap (λ b. cond b (body_of (calls_within items (rank - 1)) values item n) (refused (Ill (Arity at name (takes_arguments item) (length values))))) (equal_passes _ _ e)
 
-pub call_wrong : (items : List Item) (rank : ℕ) (at : Place) (name : List ℕ) (w : Worker) (vs : List Rel) (n : ℕ) (item : Item) (takes : ℕ) → rank ≢ 0 → IsDefinition items name (Some item) → takes_arguments item ≡ takes →
-    (takes == length vs) ≡ false → calls_within items rank at name (map (set_of w) vs) n ≡ refused (Ill (Arity at name takes (length vs)))
+pub call_wrong : (items : List Item) (rank : ℕ) (at : Place) (name : List ℕ) (w : Worker) (vs : List Value) (n : ℕ) (item : Item) (takes : ℕ) → rank ≢ 0 → IsDefinition items name (Some item) → takes_arguments item ≡ takes →
+    (takes == length vs) ≡ false → calls_within items rank at name (map (value_of w) vs) n ≡ refused (Ill (Arity at name takes (length vs)))
 call_wrong items rank at name w vs n item takes h d t e =
-    let values = map (set_of w) vs in
-    let wrong : (takes_arguments item == length values) ≡ false = ap (λ k. k == length values) t ∙ ap (λ k. takes == k) (same_length (set_of w) vs) ∙ e in
+    let values = map (value_of w) vs in
+    let wrong : (takes_arguments item == length values) ≡ false = ap (λ k. k == length values) t ∙ ap (λ k. takes == k) (same_length (value_of w) vs) ∙ e in
     ranked items rank at name values n h ∙ ap (λ o. called (calls_within items (rank - 1)) at name o values n) (definition_found items name item d)
     ∙ ap (λ b. cond b (body_of (calls_within items (rank - 1)) values item n) (refused (Ill (Arity at name (takes_arguments item) (length values))))) wrong
-    ∙ ap (λ k. refused (Ill (Arity at name k (length values)))) t ∙ ap (λ k. refused (Ill (Arity at name takes k))) (same_length (set_of w) vs)
+    ∙ ap (λ k. refused (Ill (Arity at name k (length values)))) t ∙ ap (λ k. refused (Ill (Arity at name takes k))) (same_length (value_of w) vs)
 
 pub call_missing : (items : List Item) (rank : ℕ) (at : Place) (name : List ℕ) (values : List Relation) (n : ℕ) → rank ≢ 0 → IsDefinition items name None → calls_within items rank at name values n ≡ refused (Ill (Unknown at name))
 call_missing items rank at name values n h d = ranked items rank at name values n h ∙ ap (λ o. called (calls_within items (rank - 1)) at name o values n) (item_missing name items d)
@@ -78,40 +81,40 @@ module _ (items : List Item) (rank : ℕ) (name : List ℕ) (item : Item) (h : r
       let w : weight_of_item item ≡ weight_by body.items + weight result = ap weight_of_item e in
       rank_falls rank (scale items) (4 * weight result) h (omega (arith, below, w))
 
-  module _ (place : Place) (w : Worker) (ps : List (List ℕ)) (vs : List Rel) (names : List (List ℕ × Rel)) (n : ℕ) (many : length ps ≡ length vs) (beside_them : names ≡ beside ps vs) (stand : AllByRecursion (Stands w) vs) where
-    same_state : state_of w names ≡ bound ps (map (set_of w) vs)
-    same_state = ap (state_of w) beside_them ∙ state_bound w ps vs stand
+  module _ (place : Place) (w : Worker) (ps : List (List ℕ)) (vs : List Value) (names : List (List ℕ × Value)) (n : ℕ) (many : length ps ≡ length vs) (beside_them : names ≡ beside ps vs) (stand : AllByRecursion (Fits w) vs) where
+    same_state : state_by w names ≡ bound ps (map (value_of w) vs)
+    same_state = ap (state_by w) beside_them ∙ state_bound w ps vs stand
 
-    enough : (takes : ℕ) → takes ≡ length ps → takes ≡ length (map (set_of w) vs)
-    enough takes e = e ∙ many ∙ sym (same_length (set_of w) vs)
+    enough : (takes : ℕ) → takes ≡ length ps → takes ≡ length (map (value_of w) vs)
+    enough takes e = e ∙ many ∙ sym (same_length (value_of w) vs)
 
     pub function_means : (at : _) (own : _) (params : _) (body : _) → item ≡ Function at own params body → ps ≡ params.items →
-        calls_within items rank place name (map (set_of w) vs) n ≡ mean (around_with (calls_within items (rank - 1)) []) (state_of w names) body n
+        calls_within items rank place name (map (value_of w) vs) n ≡ mean (around_with (calls_within items (rank - 1)) []) (state_by w names) body n
     function_means at own params body e p =
-        call_of items rank place name (map (set_of w) vs) n item h d (enough (takes_arguments item) (ap takes_arguments e ∙ sym (ap length p)))
-        ∙ ap (λ i. body_of (calls_within items (rank - 1)) (map (set_of w) vs) i n) e
-        ∙ ap (λ s. mean (around_with (calls_within items (rank - 1)) []) s body n) (ap (λ xs. bound xs (map (set_of w) vs)) (sym p) ∙ sym same_state)
+        call_of items rank place name (map (value_of w) vs) n item h d (enough (takes_arguments item) (ap takes_arguments e ∙ sym (ap length p)))
+        ∙ ap (λ i. body_of (calls_within items (rank - 1)) (map (value_of w) vs) i n) e
+        ∙ ap (λ s. mean (around_with (calls_within items (rank - 1)) []) s body n) (ap (λ xs. bound xs (map (value_of w) vs)) (sym p) ∙ sym same_state)
 
     pub program_means : (at : _) (own : _) (params : _) (decls : _) (body : _) (result : _) → item ≡ Program at own params decls body result → ps ≡ params.items →
-        calls_within items rank place name (map (set_of w) vs) n
-        ≡ and_then (run_by (around_with (calls_within items (rank - 1)) decls.items) body.items (state_of w names) n) (λ s m. mean (around_with (calls_within items (rank - 1)) decls.items) s result m)
+        calls_within items rank place name (map (value_of w) vs) n
+        ≡ and_then (run_by (around_with (calls_within items (rank - 1)) decls.items) body.items (state_by w names) n) (λ s m. mean (around_with (calls_within items (rank - 1)) decls.items) s result m)
     program_means at own params decls body result e p =
         let a = around_with (calls_within items (rank - 1)) decls.items in
-        call_of items rank place name (map (set_of w) vs) n item h d (enough (takes_arguments item) (ap takes_arguments e ∙ sym (ap length p)))
-        ∙ ap (λ i. body_of (calls_within items (rank - 1)) (map (set_of w) vs) i n) e
-        ∙ ap (λ s. and_then (run_by a body.items s n) (λ t m. mean a t result m)) (ap (λ xs. bound xs (map (set_of w) vs)) (sym p) ∙ sym same_state)
+        call_of items rank place name (map (value_of w) vs) n item h d (enough (takes_arguments item) (ap takes_arguments e ∙ sym (ap length p)))
+        ∙ ap (λ i. body_of (calls_within items (rank - 1)) (map (value_of w) vs) i n) e
+        ∙ ap (λ s. and_then (run_by a body.items s n) (λ t m. mean a t result m)) (ap (λ xs. bound xs (map (value_of w) vs)) (sym p) ∙ sym same_state)
 
     -- the same with lists for its declarations and its statements
     pub program_reads : (at : _) (own : _) (params : _) (decls : _) (body : _) (result : _) (ds : _) (ss : _) → item ≡ Program at own params decls body result → ps ≡ params.items → ds ≡ decls.items → ss ≡ body.items →
-        calls_within items rank place name (map (set_of w) vs) n
-        ≡ and_then (run_by (around_with (calls_within items (rank - 1)) ds) ss (state_of w names) n) (λ s m. mean (around_with (calls_within items (rank - 1)) ds) s result m)
+        calls_within items rank place name (map (value_of w) vs) n
+        ≡ and_then (run_by (around_with (calls_within items (rank - 1)) ds) ss (state_by w names) n) (λ s m. mean (around_with (calls_within items (rank - 1)) ds) s result m)
     program_reads at own params decls body result ds ss e p d' s' =
         program_means at own params decls body result e p
-        ∙ ap (λ xs. and_then (run_by (around_with (calls_within items (rank - 1)) decls.items) xs (state_of w names) n) (λ s m. mean (around_with (calls_within items (rank - 1)) decls.items) s result m)) (sym s')
-        ∙ ap (λ xs. and_then (run_by (around_with (calls_within items (rank - 1)) xs) ss (state_of w names) n) (λ s m. mean (around_with (calls_within items (rank - 1)) xs) s result m)) (sym d')
+        ∙ ap (λ xs. and_then (run_by (around_with (calls_within items (rank - 1)) decls.items) xs (state_by w names) n) (λ s m. mean (around_with (calls_within items (rank - 1)) decls.items) s result m)) (sym s')
+        ∙ ap (λ xs. and_then (run_by (around_with (calls_within items (rank - 1)) xs) ss (state_by w names) n) (λ s m. mean (around_with (calls_within items (rank - 1)) xs) s result m)) (sym d')
 
 -- arguments that are too many or too few, or want of memory
-pub bound_err : {leaf : ℕ} (items : List Item) (rank : ℕ) (at : Place) (name : List ℕ) (w : Worker) (vs : List Rel) (n : ℕ) (item : Item) (ps : List (List ℕ)) (halt : Halt) (is : Rel → Relation) → rank ≢ 0 → IsDefinition items name (Some item) → takes_arguments item ≡ length ps →
-    (halt ≡ LACK NoMemory) ⊎ (((length ps == length vs) ≡ false) × (halt ≡ ILL (Arity at name (length ps) (length vs)))) → Ends leaf w w n n (calls_within items rank at name (map (set_of w) vs) n) is (Err halt)
-bound_err items rank at name w vs n item ps halt is h d t (inl m) = lacks w n (calls_within items rank at name (map (set_of w) vs) n) is halt m
-bound_err items rank at name w vs n item ps halt is h d t (inr a) = refuses w n (calls_within items rank at name (map (set_of w) vs) n) (Arity at name (length ps) (length vs)) is halt (call_wrong items rank at name w vs n item (length ps) h d t a.0) (inl a.1)
+pub bound_err : {leaf start : ℕ} (items : List Item) (rank : ℕ) (at : Place) (name : List ℕ) (w : Worker) (vs : List Value) (n : ℕ) (item : Item) (ps : List (List ℕ)) (halt : Halt) (is : Value → Relation) (owing : Value → ℕ) → rank ≢ 0 → IsDefinition items name (Some item) → takes_arguments item ≡ length ps →
+    (halt ≡ LACK NoMemory) ⊎ (((length ps == length vs) ≡ false) × (halt ≡ ILL (Arity at name (length ps) (length vs)))) → Ends leaf w w n n start (calls_within items rank at name (map (value_of w) vs) n) is owing (Err halt)
+bound_err items rank at name w vs n item ps halt is owing h d t (inl m) = lacks w n (calls_within items rank at name (map (value_of w) vs) n) is owing halt m
+bound_err items rank at name w vs n item ps halt is owing h d t (inr a) = refuses w n (calls_within items rank at name (map (value_of w) vs) n) (Arity at name (length ps) (length vs)) is owing halt (call_wrong items rank at name w vs n item (length ps) h d t a.0) (inl a.1)

@@ -5,7 +5,9 @@ pub mod Testing
 pub mod Basing
 pub mod Bounding
 pub mod States
+pub mod Fitting
 pub mod Named
+pub mod Owing
 pub mod Unfolding
 pub mod Calling
 pub mod Lacking

@@ -15,71 +15,136 @@ use Rattle.lang_model.specs.Types.{known, spelling}
 use Rattle.lang_model.specs.Mean.{result_of_both}
 use Rattle.rel_model.specs.declared.Lack.{Lack}
 use Rattle.rel_model.specs.declared.Lack.TheVariants.{Full, NoMemory}
+use Rattle.rel_model.specs.Algebra.{HasType}
 use Rattle.rel_model.specs.Worker.{Worker, Stands, set_of, Gives, Keeps, HasCause}
-use Rattle.rel_model.specs.Relation.{Relation, relation_of}
+use Rattle.rel_slices.specs.declared.thin.Value.{Value}
+use Rattle.rel_slices.specs.declared.thin.Value.TheVariants.{Whole, Lines}
+use Rattle.rel_slices.specs.Thin.{ValueStands, value_of, value_rows, value_cols}
+use Rattle.rel_slices.proofs.Valuing.{value_type, whole_value}
+use Rattle.rel_values.specs.Values.{Fits as FitsIn, owed, Operates}
+use Rattle.rel_model.specs.Relation.{Relation, IsRelation, relation_of, size_limit}
 use Rattle.lang_model.specs.Rooms.{link_cost}
-use Rattle.rel_model.proofs.Workers.{gives_set, gives_stands, keeps_itself, keeps_trans}
 use Rattle.rv_eval.specs.declared.halt.Halt.{Halt}
 use Rattle.rv_eval.specs.declared.halt.Halt.TheVariants.{Lack as LACK}
 use Rattle.lang_model.specs.Outcomes.{Cost, Ill, Got, Came, Operation, Makes, Refuses, with_turns}
 use Rattle.lang_model.specs.BaseNames.{base_text}
 use Rattle.lang_model.specs.Types.{Fits, Misfit, sizes, type_of, takes, type_of_link, squared as squared_as, square, vector}
 use Rattle.lang_model.specs.Mean.{fitting, linked, based, answer_of_test}
-use Rattle.rv_eval.specs.Ends.{Ends, lifted}
-use Rattle.rv_eval.proofs.Going.{rose_before}
+use Rattle.rv_eval.specs.Ends.{Ends, EndsOnce, wholly, lifted}
 
--- a value, at a cost that was not passed
-pub made_value : {leaf : ℕ} (old new : Worker) (value : Relation) (cost : Cost) (rel : Rel) → set_of new rel ≡ value → Keeps old new → new.made ≤ old.made + cost leaf → Ends leaf old new 0 0 (with_turns (Makes value cost) 0) (set_of new) (Ok rel)
-made_value old new value cost rel e k m = record { value = ap (λ x. Got x 0) (sym e); halted = tt; keeps = k; room = m; turns = omega arith }
+-- ---- values
+-- what a value means has its sizes, and they are within the limit
+pub type_of_fit : (w : Worker) (v : Value) → ((r : Rel) → Stands w r → IsRelation (set_of w r)) → ((r : Rel) → Stands w r → (set_of w r).rows ≡ r.rows) → ((r : Rel) → Stands w r → (set_of w r).cols ≡ r.cols)
+    → FitsIn w v → HasType (value_rows v) (value_cols v) (value_of w v)
+type_of_fit w v valid rows cols h = value_type w v (λ r s. record { valid = valid r s; row_size = rows r s; col_size = cols r s }) h.stands
 
--- want of a node word or of memory, at the second of two steps
-pub made_lack : {leaf : ℕ} {T X Y : Type 0} (old mid new : Worker) (n : ℕ) (came : Came T) (is : X → T) (lean : Bool) (lack : Lack) → HasCause {T = Y} lean mid new (Err lack) → Keeps old mid → Keeps mid new → new.made ≤ old.made + came.cost leaf → Ends leaf {X = X} old new n n came is (Err (LACK lack))
-made_lack old mid new n came is lean Full cause k l m = record { value = tt; halted = rose_before old.misses mid.misses new.misses k.misses (cause.full refl); keeps = keeps_trans old mid new k l; room = m; turns = omega arith }
-made_lack old mid new n came is lean NoMemory cause k l m = record { value = tt; halted = tt; keeps = keeps_trans old mid new k l; room = m; turns = omega arith }
+few_within : (n : ℕ) → n ≤ 64 → n ≤ size_limit
+few_within n h = omega (arith, h)
 
--- one operation of a worker
-pub one_made : {leaf : ℕ} (old new : Worker) (lean : Bool) (m n : ℕ) (value : Relation) (cost : Cost) (result : Result Rel Lack) → IfOk result (Gives new m n value) → Keeps old new → new.made ≤ old.made + cost leaf → HasCause lean old new result → Ends leaf old new 0 0 (with_turns (Makes value cost) 0) (set_of new) (lifted result)
-one_made old new lean m n value cost (Ok rel) v k r c = made_value old new value cost rel (gives_set new m n value rel v) k r
-one_made old new lean m n value cost (Err lack) v k r c = made_lack old old new 0 (with_turns (Makes value cost) 0) (set_of new) lean lack c (keeps_itself old) k r
+limits_of_lines : (turned : Bool) (count other : ℕ) → count ≤ 64 → other ≤ size_limit → (cond turned other count ≤ size_limit) × (cond turned count other ≤ size_limit)
+limits_of_lines true count other c o = (o, few_within count c)
+limits_of_lines false count other c o = (few_within count c, o)
 
-pub one_stands : (new : Worker) (m n : ℕ) (value : Relation) (result : Result Rel Lack) → IfOk result (Gives new m n value) → IfOk (lifted result) (Stands new)
-one_stands new m n value (Ok rel) v = gives_stands new m n value rel v
-one_stands new m n value (Err lack) v = tt
+pub limits_of_fit : (w : Worker) (v : Value) → ((r : Rel) → Stands w r → r.rows ≤ size_limit) → ((r : Rel) → Stands w r → r.cols ≤ size_limit) → ValueStands w v → (value_rows v ≤ size_limit) × (value_cols v ≤ size_limit)
+limits_of_fit w (Whole r) f k s = (f r s, k r s)
+limits_of_fit w (Lines t) f k s = limits_of_lines t.turned t.count t.other s.few s.limit
+
+pub stands_of_whole : (w : Worker) (v : Value) (r : Rel) → v ≡ Whole r → FitsIn w v → Stands w r
+stands_of_whole w v r e f = let h : FitsIn w (Whole r) = subst (FitsIn w) e f in h.stands
+
+-- want of a node word or of memory
+pub made_lack : {leaf start : ℕ} {T X Y : Type 0} (old new : Worker) (n : ℕ) (came : Came T) (is : X → T) (owing : X → ℕ) (lean : Bool) (lack : Lack) → HasCause {T = Y} lean old new (Err lack) → Keeps old new → new.made ≤ old.made + came.cost leaf
+    → Ends leaf {X = X} old new n n start came is owing (Err (LACK lack))
+made_lack old new n came is owing lean Full cause k m = record { value = tt; halted = cause.full refl; keeps = k; room = m; owes = tt; turns = omega arith }
+made_lack old new n came is owing lean NoMemory cause k m = record { value = tt; halted = tt; keeps = k; room = m; owes = tt; turns = omega arith }
+
+-- an operation on values, within its cost
+value_ends : {leaf : ℕ} (old new : Worker) (lean : Bool) (m n room : ℕ) (value : Relation) (cost : Cost) (given : Result Value Lack) → room ≤ cost leaf → Operates leaf lean old new m n value room given
+    → EndsOnce leaf old new (Makes value cost) (lifted given)
+value_ends {leaf = leaf} old new lean m n room value cost (Ok v) l o =
+    let made : new.made ≤ old.made + room = o.room in
+    let owes : new.made + owed leaf v ≤ old.made + room = o.owes in
+    record { value = ap (λ (x : Relation). Got x 0) (sym o.value.means); halted = tt; keeps = o.keeps; room = omega (arith, l, made); owes = omega (arith, l, owes); turns = omega arith }
+value_ends {leaf = leaf} old new lean m n room value cost (Err lack) l o =
+    let made : new.made ≤ old.made + room = o.room in
+    made_lack old new 0 (with_turns (Makes value cost) 0) (value_of new) (owed leaf) lean lack o.cause o.keeps (omega (arith, l, made))
+
+value_fits : {leaf : ℕ} (old new : Worker) (lean : Bool) (m n room : ℕ) (value : Relation) (given : Result Value Lack) → Operates leaf lean old new m n value room given → IfOk (lifted given) (FitsIn new)
+value_fits old new lean m n room value (Ok v) o = record { stands = o.value.stands; long = o.long }
+value_fits old new lean m n room value (Err lack) o = tt
+
+-- the same, of an operation in other words
+pub made_ends : {leaf : ℕ} (old new : Worker) (lean : Bool) (m n room : ℕ) (value : Relation) (cost : Cost) (o : Operation) (given : Result Value Lack) (result : Result Value Halt) → o ≡ Makes value cost → result ≡ lifted given
+    → room ≤ cost leaf → Operates leaf lean old new m n value room given → EndsOnce leaf old new o result
+made_ends {leaf = leaf} old new lean m n room value cost o given result e d l h =
+    subst (λ x. EndsOnce leaf old new x result) (sym e) (subst (λ x. EndsOnce leaf old new (Makes value cost) x) (sym d) (value_ends old new lean m n room value cost given l h))
+
+pub made_fits : {leaf : ℕ} (old new : Worker) (lean : Bool) (m n room : ℕ) (value : Relation) (given : Result Value Lack) (result : Result Value Halt) → result ≡ lifted given
+    → Operates leaf lean old new m n value room given → IfOk result (FitsIn new)
+made_fits old new lean m n room value given result d h = subst (λ x. IfOk x (FitsIn new)) (sym d) (value_fits old new lean m n room value given h)
+
+-- an answer is no refusal, and a refusal is one of any kind of answer
+pub no_refusal : {T E : Type 0} {x : T} {e : E} → Ok x ≡ Err e → ⊥
+no_refusal h = cc
+
+refused_for : {T E : Type 0} {a b : E} → ◌≡◌ {A = Result T E} (Err a) (Err b) → a ≡ b
+refused_for h = cc
+
+abbrev refusal_for : {U E : Type 0} → E → Result U E
+refusal_for e = Err e
+
+pub same_refusal : {T U E : Type 0} (a b : E) → ◌≡◌ {A = Result T E} (Err a) (Err b) → ◌≡◌ {A = Result U E} (Err a) (Err b)
+same_refusal {U = U} a b h = ap (refusal_for {U = U}) (refused_for h)
+
+-- an answer that stands whole owes nothing
+pub whole_operates : {leaf : ℕ} (old new : Worker) (lean : Bool) (m n room : ℕ) (value : Relation) (given : Result Rel Lack) (whole : Result Value Lack) → whole ≡ wholly given → IfOk given (Gives new m n value)
+    → Keeps old new → new.made ≤ old.made + room → HasCause lean old new given → Operates leaf lean old new m n value room whole
+whole_operates {leaf = leaf} old new lean m n room value given whole e = by given e
+  where
+    by : (given : Result Rel Lack) → whole ≡ wholly given → IfOk given (Gives new m n value) → Keeps old new → new.made ≤ old.made + room → HasCause lean old new given → Operates leaf lean old new m n value room whole
+    by (Ok r) e v k d c = subst (λ x. Operates leaf lean old new m n value room x) (sym e) (record {
+      value = whole_value new m n value r v;
+      long = tt;
+      keeps = k;
+      room = d;
+      owes = omega (arith, d);
+      cause = record { full = λ h. absurd (no_refusal h); no_memory = λ l h. absurd (no_refusal h); done = c.done; wanting = λ h. absurd (no_refusal h) };
+    })
+    by (Err lack) e v k d c = subst (λ x. Operates leaf lean old new m n value room x) (sym e) (record {
+      value = tt;
+      long = tt;
+      keeps = k;
+      room = d;
+      owes = tt;
+      cause = record { full = λ h. c.full (same_refusal lack Full h); no_memory = λ l h. c.no_memory l (same_refusal lack NoMemory h); done = tt; wanting = λ h. c.wanting (same_refusal lack NoMemory h) };
+    })
+
+-- the same said of another operation and another result
+pub said : {leaf : ℕ} (old new : Worker) (o p : Operation) (r q : Result Value Halt) → o ≡ p → r ≡ q → EndsOnce leaf old new p q → EndsOnce leaf old new o r
+said {leaf = leaf} old new o p r q e d ends = subst (λ x. EndsOnce leaf old new x r) (sym e) (subst (λ x. EndsOnce leaf old new p x) (sym d) ends)
 
 -- ---- operators between two
-pub same_type : (w : Worker) (r : Rel) → (set_of w r).rows ≡ r.rows → (set_of w r).cols ≡ r.cols → sizes (set_of w r) ≡ known r.rows r.cols
-same_type w r m n = ap (λ x. known x (set_of w r).cols) m ∙ ap (known r.rows) n
+pub same_type : (R : Relation) (m n : ℕ) → R.rows ≡ m → R.cols ≡ n → sizes R ≡ known m n
+same_type R m n e f = ap (λ x. known x R.cols) e ∙ ap (known m) f
 
-module _ (w : Worker) (at : Place) (op : Op2) (r s : Rel) (rm : (set_of w r).rows ≡ r.rows) (rn : (set_of w r).cols ≡ r.cols) (sm : (set_of w s).rows ≡ s.rows) (sn : (set_of w s).cols ≡ s.cols) where
-  same_takes : (b : Bool) → takes op (known r.rows r.cols) (known s.rows s.cols) ≡ b → takes op (sizes (set_of w r)) (sizes (set_of w s)) ≡ b
-  same_takes b e = ap (λ x. takes op x (sizes (set_of w s))) (same_type w r rm rn) ∙ ap (takes op (known r.rows r.cols)) (same_type w s sm sn) ∙ e
+module _ (at : Place) (op : Op2) (R S : Relation) (m n p q : ℕ) (rm : R.rows ≡ m) (rn : R.cols ≡ n) (sm : S.rows ≡ p) (sn : S.cols ≡ q) where
+  same_takes : (b : Bool) → takes op (known m n) (known p q) ≡ b → takes op (sizes R) (sizes S) ≡ b
+  same_takes b e = ap (λ x. takes op x (sizes S)) (same_type R m n rm rn) ∙ ap (takes op (known m n)) (same_type S p q sm sn) ∙ e
 
-  pub link_fits : takes op (known r.rows r.cols) (known s.rows s.cols) ≡ true → linked at op (set_of w r) (set_of w s) ≡ Makes (result_of_both op (set_of w r) (set_of w s)) (link_cost op (set_of w r) (set_of w s))
+  pub link_fits : takes op (known m n) (known p q) ≡ true → linked at op R S ≡ Makes (result_of_both op R S) (link_cost op R S)
   unfolding linked
-  link_fits e = ap (λ b. fitting (cond b (Fits (type_of_link op (sizes (set_of w r)) (sizes (set_of w s)))) (Misfit (Mismatch at (spelling op) (sizes (set_of w r)) (sizes (set_of w s))))) (Makes (result_of_both op (set_of w r) (set_of w s)) (link_cost op (set_of w r) (set_of w s)))) (same_takes true e)
+  link_fits e = ap (λ b. fitting (cond b (Fits (type_of_link op (sizes R) (sizes S))) (Misfit (Mismatch at (spelling op) (sizes R) (sizes S)))) (Makes (result_of_both op R S) (link_cost op R S))) (same_takes true e)
 
-  pub link_misfit : takes op (known r.rows r.cols) (known s.rows s.cols) ≡ false → linked at op (set_of w r) (set_of w s) ≡ Refuses (Ill (Mismatch at (spelling op) (known r.rows r.cols) (known s.rows s.cols)))
+  pub link_misfit : takes op (known m n) (known p q) ≡ false → linked at op R S ≡ Refuses (Ill (Mismatch at (spelling op) (known m n) (known p q)))
   unfolding linked
-  link_misfit e = ap (λ b. fitting (cond b (Fits (type_of_link op (sizes (set_of w r)) (sizes (set_of w s)))) (Misfit (Mismatch at (spelling op) (sizes (set_of w r)) (sizes (set_of w s))))) (Makes (result_of_both op (set_of w r) (set_of w s)) (link_cost op (set_of w r) (set_of w s)))) (same_takes false e)
-      ∙ ap (λ x. Refuses (Ill (Mismatch at (spelling op) x (sizes (set_of w s))))) (same_type w r rm rn) ∙ ap (λ x. Refuses (Ill (Mismatch at (spelling op) (known r.rows r.cols) x))) (same_type w s sm sn)
+  link_misfit e = ap (λ b. fitting (cond b (Fits (type_of_link op (sizes R) (sizes S))) (Misfit (Mismatch at (spelling op) (sizes R) (sizes S)))) (Makes (result_of_both op R S) (link_cost op R S))) (same_takes false e)
+      ∙ ap (λ x. Refuses (Ill (Mismatch at (spelling op) x (sizes S)))) (same_type R m n rm rn) ∙ ap (λ x. Refuses (Ill (Mismatch at (spelling op) (known m n) x))) (same_type S p q sm sn)
 
 pub both_fit : (m n p q : ℕ) → ((m == p) && (n == q)) ≡ true → (m ≡ p) × (n ≡ q)
 both_fit m n p q e = (grind (arith, nat_tests, e), grind (arith, nat_tests, e))
 
 pub one_fits : (m n : ℕ) → (m == n) ≡ true → m ≡ n
 one_fits m n e = grind (arith, nat_tests, e)
-
-module _ (old new : Worker) (lean : Bool) (at : Place) (op : Op2) (r s : Rel) (rm : (set_of old r).rows ≡ r.rows) (rn : (set_of old r).cols ≡ r.cols) (sm : (set_of old s).rows ≡ s.rows) (sn : (set_of old s).cols ≡ s.cols) (fits : takes op (known r.rows r.cols) (known s.rows s.cols) ≡ true)
-    {leaf : ℕ} (m n : ℕ) (given : Result Rel Lack) (result : Result Rel Halt) (tells : result ≡ lifted given) (keeps : Keeps old new) (cause : HasCause lean old new given) where
-  -- an operator whose operands fit
-  pub linked_ends : (here : Op2) → op ≡ here → IfOk given (Gives new m n (result_of_both here (set_of old r) (set_of old s))) → new.made ≤ old.made + link_cost here (set_of old r) (set_of old s) leaf →
-      Ends leaf old new 0 0 (with_turns (linked at op (set_of old r) (set_of old s)) 0) (set_of new) result
-  linked_ends here is value room =
-      let R = set_of old r in
-      let S = set_of old s in
-      let e : linked at op R S ≡ Makes (result_of_both here R S) (link_cost here R S) = link_fits old at op r s rm rn sm sn fits ∙ ap (λ o. Makes (result_of_both o R S) (link_cost o R S)) is in
-      subst (λ o. Ends leaf old new 0 0 (with_turns o 0) (set_of new) result) (sym e)
-      (subst (λ x. Ends leaf old new 0 0 (with_turns (Makes (result_of_both here R S) (link_cost here R S)) 0) (set_of new) x) (sym tells) (one_made old new lean m n (result_of_both here R S) (link_cost here R S) given value keeps room cause))
 
 pub equal_sizes : (m n : ℕ) → m ≡ n → (m == n) ≡ true
 equal_sizes m n e = grind (arith, nat_tests, e)
@@ -88,44 +153,44 @@ pub unequal_sizes : (m n : ℕ) → m ≢ n → (m == n) ≡ false
 unequal_sizes m n e = grind (arith, nat_tests, e)
 
 -- ---- base calls of one operand
-module _ (w : Worker) (at : Place) (r : Rel) (rm : (set_of w r).rows ≡ r.rows) (rn : (set_of w r).cols ≡ r.cols) where
+module _ (at : Place) (R : Relation) (m n : ℕ) (rm : R.rows ≡ m) (rn : R.cols ≡ n) where
   -- an operation by the sizes of the set, by those of the relation
-  pub by_sizes : (F : ℕ → ℕ → Operation) → F (set_of w r).rows (set_of w r).cols ≡ F r.rows r.cols
-  by_sizes F = ap (λ m. F m (set_of w r).cols) rm ∙ ap (F r.rows) rn
+  pub by_sizes : (F : ℕ → ℕ → Operation) → F R.rows R.cols ≡ F m n
+  by_sizes F = ap (λ k. F k R.cols) rm ∙ ap (F m) rn
 
-  tested_square : (b : Bool) → (r.rows == r.cols) ≡ b → ((set_of w r).rows == (set_of w r).cols) ≡ b
-  tested_square b e = ap (λ x. x == (set_of w r).cols) rm ∙ ap (λ x. r.rows == x) rn ∙ e
+  tested_square : (b : Bool) → (m == n) ≡ b → (R.rows == R.cols) ≡ b
+  tested_square b e = ap (λ x. x == R.cols) rm ∙ ap (λ x. m == x) rn ∙ e
 
-  squared : (base : Base) (b : Bool) (o : Operation) → (r.rows == r.cols) ≡ b → fitting (square at base (sizes (set_of w r))) o ≡ fitting (cond b (Fits (type_of (Some (set_of w r).rows) (Some (set_of w r).rows))) (Misfit (NotSquare at (base_text base) (sizes (set_of w r))))) o
-  squared base b o e = ap (λ x. fitting (cond x (Fits (type_of (Some (set_of w r).rows) (Some (set_of w r).rows))) (Misfit (NotSquare at (base_text base) (sizes (set_of w r))))) o) (tested_square b e)
+  squared : (base : Base) (b : Bool) (o : Operation) → (m == n) ≡ b → fitting (square at base (sizes R)) o ≡ fitting (cond b (Fits (type_of (Some R.rows) (Some R.rows))) (Misfit (NotSquare at (base_text base) (sizes R)))) o
+  squared base b o e = ap (λ x. fitting (cond x (Fits (type_of (Some R.rows) (Some R.rows))) (Misfit (NotSquare at (base_text base) (sizes R)))) o) (tested_square b e)
 
-  pub square_fits : (base : Base) (F : ℕ → ℕ → Operation) → r.rows ≡ r.cols → fitting (square at base (sizes (set_of w r))) (F (set_of w r).rows (set_of w r).cols) ≡ F r.rows r.cols
-  square_fits base F e = squared base true (F (set_of w r).rows (set_of w r).cols) (equal_sizes r.rows r.cols e) ∙ by_sizes F
+  pub square_fits : (base : Base) (F : ℕ → ℕ → Operation) → m ≡ n → fitting (square at base (sizes R)) (F R.rows R.cols) ≡ F m n
+  square_fits base F e = squared base true (F R.rows R.cols) (equal_sizes m n e) ∙ by_sizes F
 
-  pub square_misfit : (base : Base) (o : Operation) → r.rows ≢ r.cols → fitting (square at base (sizes (set_of w r))) o ≡ Refuses (Ill (NotSquare at (base_text base) (known r.rows r.cols)))
-  square_misfit base o e = squared base false o (unequal_sizes r.rows r.cols e) ∙ ap (λ x. Refuses (Ill (NotSquare at (base_text base) x))) (same_type w r rm rn)
+  pub square_misfit : (base : Base) (o : Operation) → m ≢ n → fitting (square at base (sizes R)) o ≡ Refuses (Ill (NotSquare at (base_text base) (known m n)))
+  square_misfit base o e = squared base false o (unequal_sizes m n e) ∙ ap (λ x. Refuses (Ill (NotSquare at (base_text base) x))) (same_type R m n rm rn)
 
   -- the same of a base call whose result has the side of the operand as rows alone
-  sided : (base : Base) (t : StaticShape) (b : Bool) (o : Operation) → (r.rows == r.cols) ≡ b → fitting (squared_as at base (sizes (set_of w r)) (Fits t)) o ≡ fitting (cond b (Fits t) (Misfit (NotSquare at (base_text base) (sizes (set_of w r))))) o
-  sided base t b o e = ap (λ x. fitting (cond x (Fits t) (Misfit (NotSquare at (base_text base) (sizes (set_of w r))))) o) (tested_square b e)
+  sided : (base : Base) (t : StaticShape) (b : Bool) (o : Operation) → (m == n) ≡ b → fitting (squared_as at base (sizes R) (Fits t)) o ≡ fitting (cond b (Fits t) (Misfit (NotSquare at (base_text base) (sizes R)))) o
+  sided base t b o e = ap (λ x. fitting (cond x (Fits t) (Misfit (NotSquare at (base_text base) (sizes R)))) o) (tested_square b e)
 
-  pub side_fits : (base : Base) (t : StaticShape) (F : ℕ → ℕ → Operation) → r.rows ≡ r.cols → fitting (squared_as at base (sizes (set_of w r)) (Fits t)) (F (set_of w r).rows (set_of w r).cols) ≡ F r.rows r.cols
-  side_fits base t F e = sided base t true (F (set_of w r).rows (set_of w r).cols) (equal_sizes r.rows r.cols e) ∙ by_sizes F
+  pub side_fits : (base : Base) (t : StaticShape) (F : ℕ → ℕ → Operation) → m ≡ n → fitting (squared_as at base (sizes R) (Fits t)) (F R.rows R.cols) ≡ F m n
+  side_fits base t F e = sided base t true (F R.rows R.cols) (equal_sizes m n e) ∙ by_sizes F
 
-  side_misfit : (base : Base) (t : StaticShape) (o : Operation) → r.rows ≢ r.cols → fitting (squared_as at base (sizes (set_of w r)) (Fits t)) o ≡ Refuses (Ill (NotSquare at (base_text base) (known r.rows r.cols)))
-  side_misfit base t o e = sided base t false o (unequal_sizes r.rows r.cols e) ∙ ap (λ x. Refuses (Ill (NotSquare at (base_text base) x))) (same_type w r rm rn)
+  side_misfit : (base : Base) (t : StaticShape) (o : Operation) → m ≢ n → fitting (squared_as at base (sizes R) (Fits t)) o ≡ Refuses (Ill (NotSquare at (base_text base) (known m n)))
+  side_misfit base t o e = sided base t false o (unequal_sizes m n e) ∙ ap (λ x. Refuses (Ill (NotSquare at (base_text base) x))) (same_type R m n rm rn)
 
-  vectored : (base : Base) (t : StaticShape) (b : Bool) (o : Operation) → (r.cols == 1) ≡ b → fitting (vector at base (sizes (set_of w r)) t) o ≡ fitting (cond b (Fits t) (Misfit (NotVector at (base_text base) (sizes (set_of w r))))) o
-  vectored base t b o e = ap (λ x. fitting (cond x (Fits t) (Misfit (NotVector at (base_text base) (sizes (set_of w r))))) o) (ap (λ x. x == 1) rn ∙ e)
+  vectored : (base : Base) (t : StaticShape) (b : Bool) (o : Operation) → (n == 1) ≡ b → fitting (vector at base (sizes R) t) o ≡ fitting (cond b (Fits t) (Misfit (NotVector at (base_text base) (sizes R)))) o
+  vectored base t b o e = ap (λ x. fitting (cond x (Fits t) (Misfit (NotVector at (base_text base) (sizes R)))) o) (ap (λ x. x == 1) rn ∙ e)
 
-  pub vector_fits : (base : Base) (t : StaticShape) (F : ℕ → ℕ → Operation) → r.cols ≡ 1 → fitting (vector at base (sizes (set_of w r)) t) (F (set_of w r).rows (set_of w r).cols) ≡ F r.rows r.cols
-  vector_fits base t F e = vectored base t true (F (set_of w r).rows (set_of w r).cols) (equal_sizes r.cols 1 e) ∙ by_sizes F
+  pub vector_fits : (base : Base) (t : StaticShape) (F : ℕ → ℕ → Operation) → n ≡ 1 → fitting (vector at base (sizes R) t) (F R.rows R.cols) ≡ F m n
+  vector_fits base t F e = vectored base t true (F R.rows R.cols) (equal_sizes n 1 e) ∙ by_sizes F
 
-  pub vector_misfit : (base : Base) (t : StaticShape) (o : Operation) → r.cols ≢ 1 → fitting (vector at base (sizes (set_of w r)) t) o ≡ Refuses (Ill (NotVector at (base_text base) (known r.rows r.cols)))
-  vector_misfit base t o e = vectored base t false o (unequal_sizes r.cols 1 e) ∙ ap (λ x. Refuses (Ill (NotVector at (base_text base) x))) (same_type w r rm rn)
+  pub vector_misfit : (base : Base) (t : StaticShape) (o : Operation) → n ≢ 1 → fitting (vector at base (sizes R) t) o ≡ Refuses (Ill (NotVector at (base_text base) (known m n)))
+  vector_misfit base t o e = vectored base t false o (unequal_sizes n 1 e) ∙ ap (λ x. Refuses (Ill (NotVector at (base_text base) x))) (same_type R m n rm rn)
 
   -- a base that demands a square operand refuses another
-  pub no_square : (base : Base) → demanded base ≡ Square → r.rows ≢ r.cols → based at base (set_of w r ∷ []) ≡ Refuses (Ill (NotSquare at (base_text base) (known r.rows r.cols)))
+  pub no_square : (base : Base) → demanded base ≡ Square → m ≢ n → based at base (R ∷ []) ≡ Refuses (Ill (NotSquare at (base_text base) (known m n)))
   unfolding based
   no_square I d e = square_misfit I _ e
   no_square Trans d e = square_misfit Trans _ e
@@ -140,7 +205,7 @@ module _ (w : Worker) (at : Place) (r : Rel) (rm : (set_of w r).rows ≡ r.rows)
   no_square Inj d e = absurd (let x : OneColumn ≡ Square = d in cc)
   no_square base d e = absurd (let x : Nothing ≡ Square = d in cc)
 
-  pub no_vector : (base : Base) → demanded base ≡ OneColumn → r.cols ≢ 1 → based at base (set_of w r ∷ []) ≡ Refuses (Ill (NotVector at (base_text base) (known r.rows r.cols)))
+  pub no_vector : (base : Base) → demanded base ≡ OneColumn → n ≢ 1 → based at base (R ∷ []) ≡ Refuses (Ill (NotVector at (base_text base) (known m n)))
   unfolding based
   no_vector Epsi d e = vector_misfit Epsi _ _ e
   no_vector Point d e = vector_misfit Point _ _ e

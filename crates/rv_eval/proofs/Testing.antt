@@ -2,7 +2,9 @@
 use Rattle.std.proofs.Common.{◌≡◌, ◌<◌, ◌↔◌, ◌&&◌, not, ℕ, Bool, true, false, refl, sym, ap, subst, ◌∙◌}
 use Rattle.std.proofs.lemmas.Bool.{and_parts, and_from, not-true, false≢true}
 use Rattle.rel_model.specs.Relation.{Relation, IsRelation, has, relation_of}
+use Rattle.rel_model.specs.Algebra.{HasType}
 use Rattle.rel_model.specs.Cells.{some_below}
+use Rattle.rel_model.proofs.Members.{type-test}
 use Rattle.rel_model.specs.Operators.{empty, diff}
 use Rattle.rel_model.proofs.Somes.{same_truth, not_true, some_from, some_none, some_agree}
 use Rattle.rel_model.proofs.Relations.{IsRelation-relation_of, rows-relation_of, cols-relation_of, has-relation_of, same_relation}
@@ -64,3 +66,8 @@ pub diff_test : (r s : Relation) → is_empty (diff r s) ≡ is_within r s
 unfolding diff relation_of
 diff_test r s = ap not (some_agree r.rows _ _ (λ i a. some_agree r.cols _ _
     (λ j b. has-relation_of r.rows r.cols (λ x y. has r x y && not (has s x y)) i j a b)))
+
+-- the type of a difference
+pub type_of_diff : (r s : Relation) (m n : ℕ) → r.rows ≡ m → r.cols ≡ n → HasType m n (diff r s)
+unfolding diff
+type_of_diff r s m n a b = type-test r.rows r.cols m n _ a b

@@ -1,4 +1,5 @@
 pub mod Names
+pub mod Values
 pub mod Ends
 pub mod Refusing
 pub mod Demands

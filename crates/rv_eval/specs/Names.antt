@@ -8,10 +8,14 @@ use Rattle.lang_model.specs.declared.faults.StaticShape.{StaticShape}
 use Rattle.lang_model.specs.State.{State}
 use Rattle.lang_model.specs.Types.{known}
 
+-- what stands with a name: the first that does
+abbrev pub first_of : {X : Type 0} → List (List ℕ × X) → List ℕ → Option X
+first_of [] name = None
+first_of (n ∷ ns) name = cond (same_text n.0 name) (Some n.1) (first_of ns name)
+
 -- the relation of a name
 abbrev pub rel_of : List (List ℕ × Rel) → List ℕ → Option Rel
-rel_of [] name = None
-rel_of (n ∷ ns) name = cond (same_text n.0 name) (Some n.1) (rel_of ns name)
+rel_of names name = first_of names name
 
 -- the state that the names mean in a worker
 abbrev pub state_of : Worker → List (List ℕ × Rel) → State
@@ -35,11 +39,11 @@ pub record HasSizes (w : Worker) : Type 0 where
   pub cols : (r : Rel) → Stands w r → (set_of w r).cols ≡ r.cols
 
 -- the first parameter beside the first value, and the other parameters, as given, beside the others
-abbrev pub beside_first : List ℕ → (List Rel → List (List ℕ × Rel)) → List Rel → List (List ℕ × Rel)
+abbrev pub beside_first : {X : Type 0} → List ℕ → (List X → List (List ℕ × X)) → List X → List (List ℕ × X)
 beside_first p rest [] = []
 beside_first p rest (v ∷ vs) = (p, v) ∷ rest vs
 
 -- parameters beside their values, as far as both go
-abbrev pub beside : List (List ℕ) → List Rel → List (List ℕ × Rel)
+abbrev pub beside : {X : Type 0} → List (List ℕ) → List X → List (List ℕ × X)
 beside [] = λ vs. []
 beside (p ∷ ps) = beside_first p (beside ps)

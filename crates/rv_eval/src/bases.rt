@@ -2,119 +2,134 @@
 ghost use Rattle.std.specs.Prelude.{◌≡◌, [], ◌∷◌, map, IfOk};
 ghost use Rattle.std.specs.List.{AllByRecursion};
 ghost use Rattle.rel_model.specs.Worker.{Stands, set_of, operator_room};
-ghost use Rattle.rel_model.specs.Operators.{empty};
-ghost use Rattle.lang_model.specs.Outcomes.{no_cost, with_turns, Makes};
+ghost use Rattle.rel_slices.specs.Thin.{value_of, value_rows, value_cols};
+ghost use Rattle.rel_values.specs.Values.{Fits};
+ghost use Rattle.rel_model.specs.Operators.{empty as empty_relation};
+ghost use Rattle.lang_model.specs.Outcomes.{no_cost, Makes};
 ghost use Rattle.lang_model.specs.Mean.{based, answer_of_test};
 ghost use Rattle.rv_eval.specs.declared.bases.Demand.TheVariants.{Nothing, Square, OneColumn};
 ghost use Rattle.rv_eval.specs.Demands.{demanded};
-ghost use Rattle.rv_eval.specs.Ends.{Ends};
+ghost use Rattle.rv_eval.specs.Ends.{EndsOnce};
 
 use crate::comparisons::base_of_two;
 use crate::domain_calls::lift_domain;
 use crate::faults::{not_square, not_vector};
 use crate::halt::Halt;
-use crate::operators::lift;
+use crate::operators::{as_whole, lift};
+use crate::shapes::shape_in;
 use lang_model::syntax::{Base, Place};
 use rel_model::engine_trait::Engine;
 use rel_model::{Rel, Shape};
 use rel_order::{hasse, less, quot};
+use rel_slices::{Value, is_empty, unival};
+use rel_values::{atom, dom, empty, epsi, full, init, inj, next, point, ran, square};
 use std::alloc::Global;
 
 /// The full or the empty relation of one row and one column.
-pub fn truth<E: Engine>(engine: &mut E, yes: bool) -> Result<Rel, Halt>
+pub fn truth<E: Engine>(engine: &mut E, yes: bool) -> Result<Value, Halt>
     ensures ends { let w = E.worker engine.old in
-        let o = Makes (answer_of_test yes) (λ leaf. operator_room 1 1) in
-        Ends E.least w (E.worker engine.new) 0 0 (with_turns o 0) (set_of (E.worker engine.new)) result }
-    ensures stands { IfOk result (Stands (E.worker engine.new)) }
+        EndsOnce E.least w (E.worker engine.new) (Makes (answer_of_test yes) (λ leaf. operator_room 1 1)) result }
+    ensures fits { IfOk result (Fits (E.worker engine.new)) }
 {
     let shape = Shape { rows: 1, cols: 1 };
     if yes {
-        lift(engine.full(shape))
+        lift(as_whole(engine.full(shape)))
     } else {
-        lift(engine.empty(shape))
+        lift(as_whole(engine.empty(shape)))
     }
 }
 
 /// The empty relation of no rows and no columns, for calls that no text spells.
-pub fn none_given<E: Engine>(engine: &mut E) -> Result<Rel, Halt>
+pub fn none_given<E: Engine>(engine: &mut E) -> Result<Value, Halt>
     ensures ends { let w = E.worker engine.old in
-        let o = Makes (empty 0 0) no_cost in
-        Ends E.least w (E.worker engine.new) 0 0 (with_turns o 0) (set_of (E.worker engine.new)) result }
-    ensures stands { IfOk result (Stands (E.worker engine.new)) }
+        EndsOnce E.least w (E.worker engine.new) (Makes (empty_relation 0 0) no_cost) result }
+    ensures fits { IfOk result (Fits (E.worker engine.new)) }
 {
-    lift(engine.empty(Shape { rows: 0, cols: 0 }))
+    lift(as_whole(engine.empty(Shape { rows: 0, cols: 0 })))
 }
 
 /// A base call of one operand that is not tested for. Of a base name that no text gives one operand, the empty
 /// relation of no rows and no columns.
-fn plain_base<E: Engine>(engine: &mut E, at: Place, base: Base, r: Rel) -> Result<Rel, Halt>
+fn plain_base<E: Engine>(engine: &mut E, at: Place, base: Base, r: &Value) -> Result<Value, Halt>
     requires demands { demanded base ≡ Nothing }
-    requires standing { Stands (E.worker engine.old) r }
+    requires standing { Fits (E.worker engine.old) r.now }
     ensures ends { let w = E.worker engine.old in
-        let o = based at base (set_of w r ∷ []) in
-        Ends E.least w (E.worker engine.new) 0 0 (with_turns o 0) (set_of (E.worker engine.new)) result }
-    ensures stands { IfOk result (Stands (E.worker engine.new)) }
+        EndsOnce E.least w (E.worker engine.new) (based at base (value_of w r.now ∷ [])) result }
+    ensures fits { IfOk result (Fits (E.worker engine.new)) }
 {
-    let rows = r.rows;
-    let cols = r.cols;
+    let shape = shape_in(engine, r);
+    let rows = shape.rows;
+    let cols = shape.cols;
     match base {
-        Base::L => lift(engine.full(Shape { rows, cols })),
-        Base::O => lift(engine.empty(Shape { rows, cols })),
-        Base::Ln1 => lift(engine.full(Shape { rows, cols: 1 })),
-        Base::On1 => lift(engine.empty(Shape { rows, cols: 1 })),
-        Base::L1n => lift(engine.full(Shape { rows: 1, cols })),
-        Base::O1n => lift(engine.empty(Shape { rows: 1, cols })),
-        Base::Dom => lift(engine.dom(r)),
-        Base::Ran => lift(engine.ran(r)),
-        Base::Atom => lift(engine.atom(r)),
+        Base::L => lift(full(engine, Shape { rows, cols })),
+        Base::O => lift(empty(engine, Shape { rows, cols })),
+        Base::Ln1 => lift(full(engine, Shape { rows, cols: 1 })),
+        Base::On1 => lift(empty(engine, Shape { rows, cols: 1 })),
+        Base::L1n => lift(full(engine, Shape { rows: 1, cols })),
+        Base::O1n => lift(empty(engine, Shape { rows: 1, cols })),
+        Base::Dom => lift(dom(engine, r)),
+        Base::Ran => lift(ran(engine, r)),
+        Base::Atom => lift(atom(engine, r)),
         Base::Empty => {
-            let yes = engine.is_empty(r);
+            let yes = is_empty(engine, r);
             truth(engine, yes)
         }
         Base::Unival => {
-            let yes = engine.unival(r);
+            let yes = unival(engine, r);
             truth(engine, yes)
         }
         _ => none_given(engine),
     }
 }
 
-/// A base call of a square operand.
-fn square_base<E: Engine>(engine: &mut E, at: Place, base: Base, r: Rel) -> Result<Rel, Halt>
+/// A base call of a square operand that stands whole.
+fn square_base<E: Engine>(engine: &mut E, at: Place, base: Base, r: Rel) -> Result<Value, Halt>
     requires demands { demanded base ≡ Square }
     requires standing { Stands (E.worker engine.old) r }
     requires square { r.rows ≡ r.cols }
     ensures ends { let w = E.worker engine.old in
-        let o = based at base (set_of w r ∷ []) in
-        Ends E.least w (E.worker engine.new) 0 0 (with_turns o 0) (set_of (E.worker engine.new)) result }
-    ensures stands { IfOk result (Stands (E.worker engine.new)) }
+        EndsOnce E.least w (E.worker engine.new) (based at base (set_of w r ∷ [])) result }
+    ensures fits { IfOk result (Fits (E.worker engine.new)) }
 {
     match base {
-        Base::I => lift(engine.identity(r.rows)),
-        Base::Trans => lift(engine.trans(r)),
-        Base::Less => lift(less(engine, r.rows)),
-        Base::Hasse => lift(hasse(engine, r)),
-        Base::Quot => lift(quot(engine, r)),
-        _ => lift(engine.refl(r)),
+        Base::I => lift(as_whole(engine.identity(r.rows))),
+        Base::Trans => lift(as_whole(engine.trans(r))),
+        Base::Less => lift(as_whole(less(engine, r.rows))),
+        Base::Hasse => lift(as_whole(hasse(engine, r))),
+        Base::Quot => lift(as_whole(quot(engine, r))),
+        _ => lift(as_whole(engine.refl(r))),
     }
 }
 
-/// A base call of a vector.
-fn vector_base<E: Engine>(engine: &mut E, at: Place, base: Base, r: Rel) -> Result<Rel, Halt>
-    requires demands { demanded base ≡ OneColumn }
-    requires standing { Stands (E.worker engine.old) r }
-    requires one_column { r.cols ≡ 1 }
+/// A base call of a square operand, which is never thin.
+fn square_value<E: Engine>(engine: &mut E, at: Place, base: Base, r: &Value) -> Result<Value, Halt>
+    requires demands { demanded base ≡ Square }
+    requires standing { Fits (E.worker engine.old) r.now }
+    requires square { value_rows r.now ≡ value_cols r.now }
     ensures ends { let w = E.worker engine.old in
-        let o = based at base (set_of w r ∷ []) in
-        Ends E.least w (E.worker engine.new) 0 0 (with_turns o 0) (set_of (E.worker engine.new)) result }
-    ensures stands { IfOk result (Stands (E.worker engine.new)) }
+        EndsOnce E.least w (E.worker engine.new) (based at base (value_of w r.now ∷ [])) result }
+    ensures fits { IfOk result (Fits (E.worker engine.new)) }
 {
+    let whole = square(engine, r);
+    square_base(engine, at, base, whole)
+}
+
+/// A base call of a vector.
+fn vector_base<E: Engine>(engine: &mut E, at: Place, base: Base, r: &Value) -> Result<Value, Halt>
+    requires demands { demanded base ≡ OneColumn }
+    requires standing { Fits (E.worker engine.old) r.now }
+    requires one_column { value_cols r.now ≡ 1 }
+    ensures ends { let w = E.worker engine.old in
+        EndsOnce E.least w (E.worker engine.new) (based at base (value_of w r.now ∷ [])) result }
+    ensures fits { IfOk result (Fits (E.worker engine.new)) }
+{
+    let shape = shape_in(engine, r);
     match base {
-        Base::Epsi => lift_domain(at, engine.epsi(r.rows)),
-        Base::Point => lift(engine.point(r)),
-        Base::Init => lift(engine.init(r)),
-        Base::Next => lift(engine.next(r)),
-        _ => lift(engine.inj(r)),
+        Base::Epsi => lift_domain(at, epsi(engine, shape.rows)),
+        Base::Point => lift(point(engine, r)),
+        Base::Init => lift(init(engine, r)),
+        Base::Next => lift(next(engine, r)),
+        _ => lift(inj(engine, r)),
     }
 }
 
@@ -152,28 +167,28 @@ fn base_of_one<E: Engine>(
     engine: &mut E,
     at: Place,
     base: Base,
-    r: Rel,
-) -> Result<Rel, Halt>
-    requires standing { Stands (E.worker engine.old) r }
+    r: &Value,
+) -> Result<Value, Halt>
+    requires standing { Fits (E.worker engine.old) r.now }
     ensures ends { let w = E.worker engine.old in
-        let o = based at base (set_of w r ∷ []) in
-        Ends E.least w (E.worker engine.new) 0 0 (with_turns o 0) (set_of (E.worker engine.new)) result }
-    ensures stands { IfOk result (Stands (E.worker engine.new)) }
+        EndsOnce E.least w (E.worker engine.new) (based at base (value_of w r.now ∷ [])) result }
+    ensures fits { IfOk result (Fits (E.worker engine.new)) }
 {
+    let shape = shape_in(engine, r);
     match demand_of(base) {
         Demand::Nothing => plain_base(engine, at, base, r),
         Demand::Square => {
-            if r.rows == r.cols {
-                square_base(engine, at, base, r)
+            if shape.rows == shape.cols {
+                square_value(engine, at, base, r)
             } else {
-                Err(not_square(alloc, at, base, r))
+                Err(not_square(alloc, at, base, shape))
             }
         }
         Demand::OneColumn => {
-            if r.cols == 1 {
+            if shape.cols == 1 {
                 vector_base(engine, at, base, r)
             } else {
-                Err(not_vector(alloc, at, base, r))
+                Err(not_vector(alloc, at, base, shape))
             }
         }
     }
@@ -186,18 +201,17 @@ pub fn base_call<E: Engine>(
     engine: &mut E,
     at: Place,
     base: Base,
-    values: &[Rel],
-) -> Result<Rel, Halt>
-    requires standing { AllByRecursion (Stands (E.worker engine.old)) values.now }
+    values: &[Value],
+) -> Result<Value, Halt>
+    requires standing { AllByRecursion (Fits (E.worker engine.old)) values.now }
     ensures ends { let w = E.worker engine.old in
-        let o = based at base (map (set_of w) values.now) in
-        Ends E.least w (E.worker engine.new) 0 0 (with_turns o 0) (set_of (E.worker engine.new)) result }
-    ensures stands { IfOk result (Stands (E.worker engine.new)) }
+        EndsOnce E.least w (E.worker engine.new) (based at base (map (value_of w) values.now)) result }
+    ensures fits { IfOk result (Fits (E.worker engine.new)) }
 {
     if values.len() == 1 {
-        base_of_one(alloc, engine, at, base, values[0])
+        base_of_one(alloc, engine, at, base, &values[0])
     } else if values.len() == 2 {
-        base_of_two(alloc, engine, at, base, values[0], values[1])
+        base_of_two(alloc, engine, at, base, &values[0], &values[1])
     } else {
         none_given(engine)
     }

@@ -1,40 +1,59 @@
 //! Base calls of bounds and of extremes, with their tests of types.
 ghost use Rattle.std.specs.Prelude.{◌≡◌, [], ◌∷◌, true, IfOk};
-ghost use Rattle.rel_model.specs.Worker.{Stands, set_of};
-ghost use Rattle.lang_model.specs.Outcomes.{with_turns};
-ghost use Rattle.lang_model.specs.Mean.{based};
+ghost use Rattle.rel_slices.specs.Thin.{value_of, value_rows, value_cols};
+ghost use Rattle.rel_values.specs.Values.{Fits};
+ghost use Rattle.rel_model.specs.Relation.{Relation};
+ghost use Rattle.lang_model.specs.Rooms.{order_cost};
+ghost use Rattle.lang_model.specs.Outcomes.{Makes};
+ghost use Rattle.lang_model.specs.Mean.{based, base_made_of_two};
+ghost use Rattle.rel_values.specs.Bounds.{bound_of};
 ghost use Rattle.rv_eval.specs.Demands.{bounds};
-ghost use Rattle.rv_eval.specs.Ends.{Ends};
+ghost use Rattle.rv_eval.specs.Ends.{EndsOnce};
 
 use crate::faults::{not_alike, not_square};
 use crate::halt::Halt;
 use crate::operators::lift;
+use crate::shapes::shape_in;
 use lang_model::syntax::{Base, Place};
-use rel_model::Rel;
 use rel_model::engine_trait::Engine;
-use rel_order::{greatest, inf, lbd, least, sup, ubd};
+use rel_slices::Value;
+use rel_values::Bound;
 use std::alloc::Global;
 
-/// A base call of bounds or of extremes whose operands fit.
-fn bounded<E: Engine>(engine: &mut E, at: Place, base: Base, r: Rel, s: Rel) -> Result<Rel, Halt>
-    requires bounds { bounds base ≡ true }
-    requires left { Stands (E.worker engine.old) r }
-    requires right { Stands (E.worker engine.old) s }
-    requires square { r.rows ≡ r.cols }
-    requires rows { r.rows ≡ s.rows }
-    ensures ends { let w = E.worker engine.old in
-        let o = based at base (set_of w r ∷ set_of w s ∷ []) in
-        Ends E.least w (E.worker engine.new) 0 0 (with_turns o 0) (set_of (E.worker engine.new)) result }
-    ensures stands { IfOk result (Stands (E.worker engine.new)) }
+/// Which bounds or extremes a base call is of.
+fn bound_named(base: Base) -> Bound
+    requires { bounds base ≡ true }
+    ensures { (r s : Relation) → base_made_of_two base r s ≡
+        Makes (bound_of result r s) (order_cost r.rows r.cols s.cols) }
 {
     match base {
-        Base::Ubd => lift(ubd(engine, r, s)),
-        Base::Lbd => lift(lbd(engine, r, s)),
-        Base::Least => lift(least(engine, r, s)),
-        Base::Greatest => lift(greatest(engine, r, s)),
-        Base::Sup => lift(sup(engine, r, s)),
-        _ => lift(inf(engine, r, s)),
+        Base::Ubd => Bound::Upper,
+        Base::Lbd => Bound::Lower,
+        Base::Least => Bound::Least,
+        Base::Greatest => Bound::Greatest,
+        Base::Sup => Bound::Suprema,
+        _ => Bound::Infima,
     }
+}
+
+/// A base call of bounds or of extremes whose operands fit.
+fn bounded<E: Engine>(
+    engine: &mut E,
+    at: Place,
+    base: Base,
+    r: &Value,
+    s: &Value,
+) -> Result<Value, Halt>
+    requires bounds { bounds base ≡ true }
+    requires left { Fits (E.worker engine.old) r.now }
+    requires right { Fits (E.worker engine.old) s.now }
+    requires square { value_rows r.now ≡ value_cols r.now }
+    requires rows { value_rows r.now ≡ value_rows s.now }
+    ensures ends { let w = E.worker engine.old in
+        EndsOnce E.least w (E.worker engine.new) (based at base (value_of w r.now ∷ value_of w s.now ∷ [])) result }
+    ensures fits { IfOk result (Fits (E.worker engine.new)) }
+{
+    lift(rel_values::bounds(engine, bound_named(base), r, s))
 }
 
 /// A base call of bounds or of extremes: the first operand is square, and the second has as many rows.
@@ -43,21 +62,22 @@ pub fn bounding<E: Engine>(
     engine: &mut E,
     at: Place,
     base: Base,
-    r: Rel,
-    s: Rel,
-) -> Result<Rel, Halt>
+    r: &Value,
+    s: &Value,
+) -> Result<Value, Halt>
     requires bounds { bounds base ≡ true }
-    requires left { Stands (E.worker engine.old) r }
-    requires right { Stands (E.worker engine.old) s }
+    requires left { Fits (E.worker engine.old) r.now }
+    requires right { Fits (E.worker engine.old) s.now }
     ensures ends { let w = E.worker engine.old in
-        let o = based at base (set_of w r ∷ set_of w s ∷ []) in
-        Ends E.least w (E.worker engine.new) 0 0 (with_turns o 0) (set_of (E.worker engine.new)) result }
-    ensures stands { IfOk result (Stands (E.worker engine.new)) }
+        EndsOnce E.least w (E.worker engine.new) (based at base (value_of w r.now ∷ value_of w s.now ∷ [])) result }
+    ensures fits { IfOk result (Fits (E.worker engine.new)) }
 {
-    if r.rows != r.cols {
-        Err(not_square(alloc, at, base, r))
-    } else if r.rows != s.rows {
-        Err(not_alike(alloc, at, base, r, s))
+    let a = shape_in(engine, r);
+    let b = shape_in(engine, s);
+    if a.rows != a.cols {
+        Err(not_square(alloc, at, base, a))
+    } else if a.rows != b.rows {
+        Err(not_alike(alloc, at, base, a, b))
     } else {
         bounded(engine, at, base, r, s)
     }

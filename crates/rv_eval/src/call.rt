@@ -15,16 +15,48 @@ ghost use Rattle.rv_eval.specs.Refusing.{IsAnswer, IsEvaluated};
 
 use crate::early::refused_ahead;
 use crate::halt::{Halt, Refused};
+use crate::names::wholes;
 use crate::refusal::refusal;
 use crate::steps::value_of_name;
 use crate::walk::eval_expr;
 use lang_model::limits::RANK_LIMIT;
 use lang_model::syntax::{Expr, Name};
 use rel_model::engine_trait::Engine;
-use rel_model::{NoMemory, Rel};
+use rel_model::{Lack, NoMemory, Rel};
+use rel_values::whole;
 use rv_rewrite::calm;
 use rv_types::Checked;
 use std::alloc::Global;
+
+/// The value of an expression of a command, with this many turns left, by values of either form.
+fn value_through<E: Engine>(
+    alloc: Global,
+    engine: &mut E,
+    checked: &Checked,
+    env: &[(Name, Rel)],
+    expr: &Expr,
+    turns: &mut u64,
+) -> Result<Rel, Halt>
+    requires standing { AllStand (E.worker engine.old) env.now }
+    ensures ends { let w = E.worker engine.old in
+        let m = meaning checked.now (state_of w env.now) expr.now turns.old in
+        Ends E.least w (E.worker engine.new) turns.old turns.new 0 m (set_of (E.worker engine.new)) (λ r. 0) result }
+    ensures stands { IfOk result (Stands (E.worker engine.new)) }
+{
+    let names = match wholes(alloc, env) {
+        Ok(names) => names,
+        Err(NoMemory) => return Err(Halt::Lack(Lack::NoMemory)),
+    };
+    let given = names.as_slice();
+    let value = match eval_expr(alloc, engine, checked, &[], given, RANK_LIMIT, expr, turns) {
+        Ok(value) => value,
+        Err(halt) => return Err(halt),
+    };
+    match whole(engine, &value) {
+        Ok(rel) => Ok(rel),
+        Err(lack) => Err(Halt::Lack(lack)),
+    }
+}
 
 /// The value of an expression of a command, with this many turns left. A plain name is looked up, and asks for no node.
 fn value_with<E: Engine>(
@@ -38,13 +70,13 @@ fn value_with<E: Engine>(
     requires standing { AllStand (E.worker engine.old) env.now }
     ensures ends { let w = E.worker engine.old in
         let m = meaning checked.now (state_of w env.now) expr.now turns.old in
-        Ends E.least w (E.worker engine.new) turns.old turns.new m (set_of (E.worker engine.new)) result }
+        Ends E.least w (E.worker engine.new) turns.old turns.new 0 m (set_of (E.worker engine.new)) (λ r. 0) result }
     ensures compound { IsErrOf result (LACK Full) → IsCompound expr.now }
     ensures stands { IfOk result (Stands (E.worker engine.new)) }
 {
     match expr {
         Expr::Ref { at, name } => value_of_name(alloc, env, *at, name),
-        _ => eval_expr(alloc, engine, checked, &[], env, RANK_LIMIT, expr, turns),
+        _ => value_through(alloc, engine, checked, env, expr, turns),
     }
 }
 

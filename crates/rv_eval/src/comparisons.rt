@@ -1,23 +1,26 @@
 //! Base calls of two operands, with their tests of types.
 ghost use Rattle.std.specs.Prelude.{◌≡◌, ◌==◌, ◌&&◌, [], ◌∷◌, IfOk};
-ghost use Rattle.rel_model.specs.Worker.{Stands, set_of};
+ghost use Rattle.rel_slices.specs.Thin.{value_of, value_rows, value_cols};
+ghost use Rattle.rel_values.specs.Values.{Fits};
 ghost use Rattle.lang_model.specs.declared.syntax.Base.TheVariants.{Syq, Eq, Incl};
-ghost use Rattle.lang_model.specs.Outcomes.{with_turns};
 ghost use Rattle.lang_model.specs.Mean.{based};
-ghost use Rattle.rv_eval.specs.Ends.{Ends};
+ghost use Rattle.rv_eval.specs.Ends.{EndsOnce};
 
 use crate::bases::{none_given, truth};
 use crate::bounds::bounding;
 use crate::faults::not_alike;
 use crate::halt::Halt;
 use crate::operators::lift;
+use crate::shapes::shape_in;
 use lang_model::syntax::{Base, Place};
-use rel_model::Rel;
+use rel_model::Shape;
 use rel_model::engine_trait::Engine;
+use rel_slices::Value;
+use rel_values::{included, same, syq};
 use std::alloc::Global;
 
-/// Whether two relations have one type.
-fn alike(r: Rel, s: Rel) -> bool
+/// Whether two relations of these sizes have one type.
+fn alike(r: Shape, s: Shape) -> bool
     ensures { result ≡ ((r.rows == s.rows) && (r.cols == s.cols)) }
 {
     r.rows == s.rows && r.cols == s.cols
@@ -28,20 +31,21 @@ fn quotient<E: Engine>(
     alloc: Global,
     engine: &mut E,
     at: Place,
-    r: Rel,
-    s: Rel,
-) -> Result<Rel, Halt>
-    requires left { Stands (E.worker engine.old) r }
-    requires right { Stands (E.worker engine.old) s }
+    r: &Value,
+    s: &Value,
+) -> Result<Value, Halt>
+    requires left { Fits (E.worker engine.old) r.now }
+    requires right { Fits (E.worker engine.old) s.now }
     ensures ends { let w = E.worker engine.old in
-        let o = based at Syq (set_of w r ∷ set_of w s ∷ []) in
-        Ends E.least w (E.worker engine.new) 0 0 (with_turns o 0) (set_of (E.worker engine.new)) result }
-    ensures stands { IfOk result (Stands (E.worker engine.new)) }
+        EndsOnce E.least w (E.worker engine.new) (based at Syq (value_of w r.now ∷ value_of w s.now ∷ [])) result }
+    ensures fits { IfOk result (Fits (E.worker engine.new)) }
 {
-    if r.rows == s.rows {
-        lift(engine.syq(r, s))
+    let a = shape_in(engine, r);
+    let b = shape_in(engine, s);
+    if a.rows == b.rows {
+        lift(syq(engine, r, s))
     } else {
-        Err(not_alike(alloc, at, Base::Syq, r, s))
+        Err(not_alike(alloc, at, Base::Syq, a, b))
     }
 }
 
@@ -50,21 +54,25 @@ fn equality<E: Engine>(
     alloc: Global,
     engine: &mut E,
     at: Place,
-    r: Rel,
-    s: Rel,
-) -> Result<Rel, Halt>
-    requires left { Stands (E.worker engine.old) r }
-    requires right { Stands (E.worker engine.old) s }
+    r: &Value,
+    s: &Value,
+) -> Result<Value, Halt>
+    requires left { Fits (E.worker engine.old) r.now }
+    requires right { Fits (E.worker engine.old) s.now }
     ensures ends { let w = E.worker engine.old in
-        let o = based at Eq (set_of w r ∷ set_of w s ∷ []) in
-        Ends E.least w (E.worker engine.new) 0 0 (with_turns o 0) (set_of (E.worker engine.new)) result }
-    ensures stands { IfOk result (Stands (E.worker engine.new)) }
+        EndsOnce E.least w (E.worker engine.new) (based at Eq (value_of w r.now ∷ value_of w s.now ∷ [])) result }
+    ensures fits { IfOk result (Fits (E.worker engine.new)) }
 {
-    if alike(r, s) {
-        let yes = engine.same(r, s);
+    let a = shape_in(engine, r);
+    let b = shape_in(engine, s);
+    if alike(a, b) {
+        let yes = match same(engine, r, s) {
+            Ok(yes) => yes,
+            Err(lack) => return Err(Halt::Lack(lack)),
+        };
         truth(engine, yes)
     } else {
-        Err(not_alike(alloc, at, Base::Eq, r, s))
+        Err(not_alike(alloc, at, Base::Eq, a, b))
     }
 }
 
@@ -73,25 +81,25 @@ fn inclusion<E: Engine>(
     alloc: Global,
     engine: &mut E,
     at: Place,
-    r: Rel,
-    s: Rel,
-) -> Result<Rel, Halt>
-    requires left { Stands (E.worker engine.old) r }
-    requires right { Stands (E.worker engine.old) s }
+    r: &Value,
+    s: &Value,
+) -> Result<Value, Halt>
+    requires left { Fits (E.worker engine.old) r.now }
+    requires right { Fits (E.worker engine.old) s.now }
     ensures ends { let w = E.worker engine.old in
-        let o = based at Incl (set_of w r ∷ set_of w s ∷ []) in
-        Ends E.least w (E.worker engine.new) 0 0 (with_turns o 0) (set_of (E.worker engine.new)) result }
-    ensures stands { IfOk result (Stands (E.worker engine.new)) }
+        EndsOnce E.least w (E.worker engine.new) (based at Incl (value_of w r.now ∷ value_of w s.now ∷ [])) result }
+    ensures fits { IfOk result (Fits (E.worker engine.new)) }
 {
-    if alike(r, s) {
-        let rest = match engine.diff(r, s) {
-            Ok(rest) => rest,
+    let a = shape_in(engine, r);
+    let b = shape_in(engine, s);
+    if alike(a, b) {
+        let yes = match included(engine, r, s) {
+            Ok(yes) => yes,
             Err(lack) => return Err(Halt::Lack(lack)),
         };
-        let yes = engine.is_empty(rest);
         truth(engine, yes)
     } else {
-        Err(not_alike(alloc, at, Base::Incl, r, s))
+        Err(not_alike(alloc, at, Base::Incl, a, b))
     }
 }
 
@@ -101,15 +109,14 @@ pub fn base_of_two<E: Engine>(
     engine: &mut E,
     at: Place,
     base: Base,
-    r: Rel,
-    s: Rel,
-) -> Result<Rel, Halt>
-    requires left { Stands (E.worker engine.old) r }
-    requires right { Stands (E.worker engine.old) s }
+    r: &Value,
+    s: &Value,
+) -> Result<Value, Halt>
+    requires left { Fits (E.worker engine.old) r.now }
+    requires right { Fits (E.worker engine.old) s.now }
     ensures ends { let w = E.worker engine.old in
-        let o = based at base (set_of w r ∷ set_of w s ∷ []) in
-        Ends E.least w (E.worker engine.new) 0 0 (with_turns o 0) (set_of (E.worker engine.new)) result }
-    ensures stands { IfOk result (Stands (E.worker engine.new)) }
+        EndsOnce E.least w (E.worker engine.new) (based at base (value_of w r.now ∷ value_of w s.now ∷ [])) result }
+    ensures fits { IfOk result (Fits (E.worker engine.new)) }
 {
     match base {
         Base::Syq => quotient(alloc, engine, at, r, s),

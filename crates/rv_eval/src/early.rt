@@ -17,7 +17,7 @@ use crate::missing::first_missing;
 use crate::refusal::{ill, refusal};
 use lang_model::faults::{StaticShape, TypeFault};
 use lang_model::syntax::{Expr, Name};
-use rel_model::{NoMemory, Rel};
+use rel_model::{NoMemory, Rel, Shape};
 use rv_types::{Checked, shape_of};
 use std::alloc::Global;
 
@@ -28,7 +28,10 @@ fn types_of_names(alloc: Global, env: &[(Name, Rel)]) -> Result<Vec<(Name, Stati
     let mut types = Vec::new(alloc);
     'each: for pair in env {
         let own = pair.0.copied(alloc)?;
-        let shape = type_of(pair.1);
+        let shape = type_of(Shape {
+            rows: pair.1.rows,
+            cols: pair.1.cols,
+        });
         types.push((own, shape))?;
     }
     Ok(types)

@@ -11,7 +11,7 @@ ghost use Rattle.rv_eval.specs.declared.halt.Halt.TheVariants.{Ill, Lack as LACK
 use crate::halt::Halt;
 use lang_model::faults::{StaticShape, TypeFault};
 use lang_model::syntax::{Base, Name, Op2, Place};
-use rel_model::{Lack, NoMemory, Rel};
+use rel_model::{Lack, NoMemory, Shape};
 use std::alloc::Global;
 
 /// A name that has no meaning where it stands.
@@ -75,8 +75,8 @@ pub fn no_domain(alloc: Global, at: Place, base: Base) -> Halt
     }
 }
 
-/// The type of a relation.
-pub fn type_of(r: Rel) -> StaticShape
+/// The type of a relation of these sizes.
+pub fn type_of(r: Shape) -> StaticShape
     ensures { result ≡ known r.rows r.cols }
 {
     StaticShape {
@@ -100,7 +100,7 @@ fn sign_of(op: Op2) -> &'static [u8]
 }
 
 /// Operands that do not fit.
-pub fn mismatch(alloc: Global, at: Place, op: Op2, r: Rel, s: Rel) -> Halt
+pub fn mismatch(alloc: Global, at: Place, op: Op2, r: Shape, s: Shape) -> Halt
     ensures { let fault = Mismatch at (spelling op) (known r.rows r.cols) (known s.rows s.cols) in
         (result ≡ Ill fault) ⊎ (result ≡ LACK NO_MEMORY) }
 {
@@ -116,7 +116,7 @@ pub fn mismatch(alloc: Global, at: Place, op: Op2, r: Rel, s: Rel) -> Halt
 }
 
 /// Operands of a pair that do not fit.
-pub fn no_pair(alloc: Global, at: Place, r: Rel, s: Rel) -> Halt
+pub fn no_pair(alloc: Global, at: Place, r: Shape, s: Shape) -> Halt
     ensures { let fault = Mismatch at (codes "[") (known r.rows r.cols) (known s.rows s.cols) in
         (result ≡ Ill fault) ⊎ (result ≡ LACK NO_MEMORY) }
 {
@@ -132,7 +132,7 @@ pub fn no_pair(alloc: Global, at: Place, r: Rel, s: Rel) -> Halt
 }
 
 /// An operand that is not square.
-pub fn not_square(alloc: Global, at: Place, base: Base, r: Rel) -> Halt
+pub fn not_square(alloc: Global, at: Place, base: Base, r: Shape) -> Halt
     ensures { (result ≡ Ill (NotSquare at (base_text base) (known r.rows r.cols))) ⊎ (result ≡ LACK NO_MEMORY) }
 {
     match Name::new(alloc, base.text()) {
@@ -146,7 +146,7 @@ pub fn not_square(alloc: Global, at: Place, base: Base, r: Rel) -> Halt
 }
 
 /// An operand of another number of columns than one.
-pub fn not_vector(alloc: Global, at: Place, base: Base, r: Rel) -> Halt
+pub fn not_vector(alloc: Global, at: Place, base: Base, r: Shape) -> Halt
     ensures { (result ≡ Ill (NotVector at (base_text base) (known r.rows r.cols))) ⊎ (result ≡ LACK NO_MEMORY) }
 {
     match Name::new(alloc, base.text()) {
@@ -160,7 +160,7 @@ pub fn not_vector(alloc: Global, at: Place, base: Base, r: Rel) -> Halt
 }
 
 /// Operands of a base call that do not fit one another.
-pub fn not_alike(alloc: Global, at: Place, base: Base, r: Rel, s: Rel) -> Halt
+pub fn not_alike(alloc: Global, at: Place, base: Base, r: Shape, s: Shape) -> Halt
     ensures { let fault = Mismatch at (base_text base) (known r.rows r.cols) (known s.rows s.cols) in
         (result ≡ Ill fault) ⊎ (result ≡ LACK NO_MEMORY) }
 {

@@ -15,6 +15,7 @@ mod missing;
 mod names;
 mod operators;
 mod refusal;
+mod shapes;
 mod steps;
 mod walk;
 

@@ -1,30 +1,43 @@
 //! `-R`, `R^` and the operators between two relations, with their tests of types.
-ghost use Rattle.std.specs.Prelude.{◌≡◌, ◌%◌, true, IfOk};
-ghost use Rattle.rel_model.specs.Worker.{Stands, set_of};
-ghost use Rattle.lang_model.specs.Outcomes.{with_turns};
+ghost use Rattle.std.specs.Prelude.{◌≡◌, true, IfOk};
+ghost use Rattle.rel_slices.specs.Thin.{value_of, value_rows, value_cols};
+ghost use Rattle.rel_values.specs.Values.{Fits};
 ghost use Rattle.lang_model.specs.Types.{known, takes as takes_types};
 ghost use Rattle.lang_model.specs.Mean.{linked, complemented, turned};
-ghost use Rattle.rv_eval.specs.Ends.{Ends, lifted};
+ghost use Rattle.rv_eval.specs.Ends.{EndsOnce, wholly, lifted};
 
 use crate::faults::mismatch;
 use crate::halt::Halt;
+use crate::shapes::shape_in;
 use lang_model::syntax::{Op2, Place};
 use rel_model::engine_trait::Engine;
 use rel_model::{Lack, Rel, Shape};
+use rel_slices::Value;
+use rel_values::{compose, inter, left, right, union};
 use std::alloc::Global;
 
-/// What an operation of a worker gives.
-pub fn lift(given: Result<Rel, Lack>) -> Result<Rel, Halt>
+/// What an operation of a worker gives, as a value that is whole.
+pub fn as_whole<X>(given: Result<Rel, X>) -> Result<Value, X>
+    ensures { result ≡ wholly given }
+{
+    match given {
+        Ok(rel) => Ok(Value::Whole(rel)),
+        Err(fault) => Err(fault),
+    }
+}
+
+/// What an operation on values gives.
+pub fn lift(given: Result<Value, Lack>) -> Result<Value, Halt>
     ensures { result ≡ lifted given }
 {
     match given {
-        Ok(rel) => Ok(rel),
+        Ok(value) => Ok(value),
         Err(lack) => Err(Halt::Lack(lack)),
     }
 }
 
-/// Whether an operator takes these operands.
-fn takes(op: Op2, r: Rel, s: Rel) -> bool
+/// Whether an operator takes operands of these sizes.
+fn takes(op: Op2, r: Shape, s: Shape) -> bool
     ensures { result ≡ takes_types op (known r.rows r.cols) (known s.rows s.cols) }
 {
     match op {
@@ -37,60 +50,47 @@ fn takes(op: Op2, r: Rel, s: Rel) -> bool
 }
 
 /// `{(i, j) : not (i, j) in r}`: the complement within the sizes.
-pub fn complement<E: Engine>(engine: &mut E, r: Rel) -> Result<Rel, Halt>
-    requires standing { Stands (E.worker engine.old) r }
+pub fn complement<E: Engine>(engine: &mut E, r: &Value) -> Result<Value, Halt>
+    requires standing { Fits (E.worker engine.old) r.now }
     ensures ends { let w = E.worker engine.old in
-        let o = complemented (set_of w r) in
-        Ends E.least w (E.worker engine.new) 0 0 (with_turns o 0) (set_of (E.worker engine.new)) result }
-    ensures stands { IfOk result (Stands (E.worker engine.new)) }
+        EndsOnce E.least w (E.worker engine.new) (complemented (value_of w r.now)) result }
+    ensures fits { IfOk result (Fits (E.worker engine.new)) }
 {
-    let shape = Shape {
-        rows: r.rows,
-        cols: r.cols,
-    };
-    let full = match engine.full(shape) {
-        Ok(full) => full,
-        Err(lack) => return Err(Halt::Lack(lack)),
-    };
-    match engine.diff(full, r) {
-        Ok(rest) => Ok(rest),
-        Err(lack) => Err(Halt::Lack(lack)),
-    }
+    lift(rel_values::complement(engine, r))
 }
 
 /// A relation transposed so many times.
-pub fn transposed<E: Engine>(engine: &mut E, r: Rel, times: u32) -> Result<Rel, Halt>
-    requires standing { Stands (E.worker engine.old) r }
+pub fn transposed<E: Engine>(engine: &mut E, r: &Value, times: u32) -> Result<Value, Halt>
+    requires standing { Fits (E.worker engine.old) r.now }
     ensures ends { let w = E.worker engine.old in
-        let o = turned times (set_of w r) in
-        Ends E.least w (E.worker engine.new) 0 0 (with_turns o 0) (set_of (E.worker engine.new)) result }
-    ensures stands { IfOk result (Stands (E.worker engine.new)) }
+        EndsOnce E.least w (E.worker engine.new) (turned times (value_of w r.now)) result }
+    ensures fits { IfOk result (Fits (E.worker engine.new)) }
 {
-    if times % 2 == 0 {
-        return Ok(r);
-    }
-    match engine.transpose(r) {
-        Ok(turned) => Ok(turned),
-        Err(lack) => Err(Halt::Lack(lack)),
-    }
+    lift(rel_values::turned(engine, r, times))
 }
 
 /// `R | S`, `R & S`, `R * S`, `R \ S` or `R / S`, of operands that fit.
-fn applied<E: Engine>(engine: &mut E, at: Place, op: Op2, r: Rel, s: Rel) -> Result<Rel, Halt>
-    requires left { Stands (E.worker engine.old) r }
-    requires right { Stands (E.worker engine.old) s }
-    requires fits { takes_types op (known r.rows r.cols) (known s.rows s.cols) ≡ true }
+fn applied<E: Engine>(
+    engine: &mut E,
+    at: Place,
+    op: Op2,
+    r: &Value,
+    s: &Value,
+) -> Result<Value, Halt>
+    requires left { Fits (E.worker engine.old) r.now }
+    requires right { Fits (E.worker engine.old) s.now }
+    requires takes { takes_types op (known (value_rows r.now) (value_cols r.now))
+        (known (value_rows s.now) (value_cols s.now)) ≡ true }
     ensures ends { let w = E.worker engine.old in
-        let o = linked at op (set_of w r) (set_of w s) in
-        Ends E.least w (E.worker engine.new) 0 0 (with_turns o 0) (set_of (E.worker engine.new)) result }
-    ensures stands { IfOk result (Stands (E.worker engine.new)) }
+        EndsOnce E.least w (E.worker engine.new) (linked at op (value_of w r.now) (value_of w s.now)) result }
+    ensures fits { IfOk result (Fits (E.worker engine.new)) }
 {
     match op {
-        Op2::Or => lift(engine.union(r, s)),
-        Op2::And => lift(engine.inter(r, s)),
-        Op2::Times => lift(engine.compose(r, s)),
-        Op2::Under => lift(engine.right(r, s)),
-        Op2::Over => lift(engine.left(r, s)),
+        Op2::Or => lift(union(engine, r, s)),
+        Op2::And => lift(inter(engine, r, s)),
+        Op2::Times => lift(compose(engine, r, s)),
+        Op2::Under => lift(right(engine, r, s)),
+        Op2::Over => lift(left(engine, r, s)),
     }
 }
 
@@ -100,19 +100,20 @@ pub fn link<E: Engine>(
     engine: &mut E,
     at: Place,
     op: Op2,
-    r: Rel,
-    s: Rel,
-) -> Result<Rel, Halt>
-    requires left { Stands (E.worker engine.old) r }
-    requires right { Stands (E.worker engine.old) s }
+    r: &Value,
+    s: &Value,
+) -> Result<Value, Halt>
+    requires left { Fits (E.worker engine.old) r.now }
+    requires right { Fits (E.worker engine.old) s.now }
     ensures ends { let w = E.worker engine.old in
-        let o = linked at op (set_of w r) (set_of w s) in
-        Ends E.least w (E.worker engine.new) 0 0 (with_turns o 0) (set_of (E.worker engine.new)) result }
-    ensures stands { IfOk result (Stands (E.worker engine.new)) }
+        EndsOnce E.least w (E.worker engine.new) (linked at op (value_of w r.now) (value_of w s.now)) result }
+    ensures fits { IfOk result (Fits (E.worker engine.new)) }
 {
-    if takes(op, r, s) {
+    let a = shape_in(engine, r);
+    let b = shape_in(engine, s);
+    if takes(op, a, b) {
         applied(engine, at, op, r, s)
     } else {
-        Err(mismatch(alloc, at, op, r, s))
+        Err(mismatch(alloc, at, op, a, b))
     }
 }

@@ -1,37 +1,41 @@
 //! The steps of an evaluation that need no recursion.
-ghost use Rattle.std.specs.Prelude.{◌≡◌, ◌==◌, ◌⊎◌, ℕ, List, length, cond, false, None, Some, IfOk, IfErr, OnOk, MatchOption, MatchResult, ◌∷◌, []};
+ghost use Rattle.std.specs.Prelude.{◌≡◌, ◌==◌, ◌≤◌, ◌⊎◌, ℕ, max, List, length, cond, false, None, Some, IfOk, IfErr, OnOk, MatchOption, MatchResult, ◌∷◌, []};
 ghost use Rattle.lang_model.specs.declared.faults.TypeFault.TheVariants.{Unknown, Arity};
 ghost use Rattle.rel_model.specs.declared.Lack.TheVariants.{NoMemory as NO_MEMORY};
 ghost use Rattle.lang_model.specs.Tokens.{same_text};
-ghost use Rattle.rel_model.specs.Worker.{Stands, set_of};
+ghost use Rattle.rel_slices.specs.Thin.{value_of, value_rows, value_cols};
+ghost use Rattle.rel_values.specs.Values.{Fits, owed};
 ghost use Rattle.rv_eval.specs.declared.halt.Halt.TheVariants.{Ill, Lack as LACK};
-ghost use Rattle.lang_model.specs.Outcomes.{with_turns};
 ghost use Rattle.lang_model.specs.Mean.{tested, injected_by, domain_named};
-ghost use Rattle.rv_eval.specs.Names.{rel_of, beside, state_of, AllStand};
-ghost use Rattle.rv_eval.specs.Ends.{Ends};
+ghost use Rattle.rv_eval.specs.Names.{first_of, beside};
+ghost use Rattle.rv_eval.specs.Values.{state_by, AllFit, names_owe};
+ghost use Rattle.rv_eval.specs.Ends.{Ends, EndsOnce};
 
 use crate::domain_calls::domain_call;
 use crate::faults::{no_domain, type_of, unknown, wrong_count};
 use crate::halt::Halt;
-use crate::names::{bind, find, set};
+use crate::names::{bind, find, put};
+use crate::shapes::shape_in;
 use lang_model::faults::TypeFault;
 use lang_model::syntax::{Base, Decl, Name, Place};
 use rel_model::engine_trait::Engine;
-use rel_model::{Lack, NoMemory, Rel};
+use rel_model::{Lack, NoMemory};
+use rel_slices::Value;
+use rel_values::square;
 use std::alloc::Global;
 
-/// The relation of a name.
-pub fn value_of_name(
+/// What stands with a name.
+pub fn value_of_name<T: Copy>(
     alloc: Global,
-    names: &[(Name, Rel)],
+    names: &[(Name, T)],
     at: Place,
     name: &Name,
-) -> Result<Rel, Halt>
-    ensures { MatchResult result (λ r. rel_of names.now name.now ≡ Some r)
-        (λ e. (e ≡ LACK NO_MEMORY) ⊎ ((rel_of names.now name.now ≡ None) × (e ≡ Ill (Unknown at name.now)))) }
+) -> Result<T, Halt>
+    ensures { MatchResult result (λ x. first_of names.now name.now ≡ Some x)
+        (λ e. (e ≡ LACK NO_MEMORY) ⊎ ((first_of names.now name.now ≡ None) × (e ≡ Ill (Unknown at name.now)))) }
 {
     match find(names, name.bytes()) {
-        Some(rel) => Ok(rel),
+        Some(own) => Ok(own),
         None => Err(unknown(alloc, at, name)),
     }
 }
@@ -42,8 +46,8 @@ pub fn bound_names(
     at: Place,
     name: &Name,
     params: &[Name],
-    values: &[Rel],
-) -> Result<Vec<(Name, Rel)>, Halt>
+    values: &[Value],
+) -> Result<Vec<(Name, Value)>, Halt>
     ensures { MatchResult result (λ v. (length params.now ≡ length values.now)
         × (v.items ≡ beside params.now values.now))
         (λ e. (e ≡ LACK NO_MEMORY) ⊎ (((length params.now == length values.now) ≡ false)
@@ -58,35 +62,44 @@ pub fn bound_names(
     }
 }
 
-/// Gives a variable its relation.
+/// Gives a variable its value.
 pub fn assign(
     alloc: Global,
-    names: &mut Vec<(Name, Rel)>,
+    names: &mut Vec<(Name, Value)>,
     name: &Name,
-    rel: Rel,
+    value: &Value,
 ) -> Result<(), Halt>
     ensures assigned { OnOk result ((n : List ℕ) →
-        rel_of names.new.items n ≡ cond (same_text name.now n) (Some rel) (rel_of names.old.items n)) }
+        first_of names.new.items n ≡ cond (same_text name.now n) (Some value.now) (first_of names.old.items n)) }
+    ensures owes { OnOk result ((least : ℕ) →
+        names_owe least names.new.items ≤ max (owed least value.now) (names_owe least names.old.items)) }
     ensures memory { IfErr result (λ e. e ≡ LACK NO_MEMORY) }
 {
-    match set(alloc, names, name, rel) {
+    match put(alloc, names, name, *value) {
         Ok(()) => Ok(()),
         Err(NoMemory) => Err(Halt::Lack(Lack::NoMemory)),
     }
 }
 
 /// Whether the value of a test is full.
-pub fn decide<E: Engine>(alloc: Global, engine: &mut E, at: Place, value: Rel) -> Result<bool, Halt>
-    requires { Stands (E.worker engine.old) value }
+pub fn decide<E: Engine>(
+    alloc: Global,
+    engine: &mut E,
+    at: Place,
+    value: &Value,
+) -> Result<bool, Halt>
+    requires { Fits (E.worker engine.old) value.now }
     ensures { let w = E.worker engine.old in
-        Ends E.least w (E.worker engine.new) 0 0 (tested at (set_of w value) 0) (λ b. b) result }
+        Ends E.least w (E.worker engine.new) 0 0 0 (tested at (value_of w value.now) 0) (λ b. b) (λ b. 0) result }
 {
-    if value.rows == 1 && value.cols == 1 {
-        Ok(engine.has(value, 0, 0))
+    let shape = shape_in(engine, value);
+    if shape.rows == 1 && shape.cols == 1 {
+        let whole = square(engine, value);
+        Ok(engine.has(whole, 0, 0))
     } else {
         Err(Halt::Ill(TypeFault::NotTest {
             at,
-            shape: type_of(value),
+            shape: type_of(shape),
         }))
     }
 }
@@ -131,16 +144,16 @@ pub fn inject<E: Engine>(
     alloc: Global,
     engine: &mut E,
     decls: &[Decl],
-    names: &[(Name, Rel)],
+    names: &[(Name, Value)],
     at: Place,
     base: Base,
     domain: &Name,
-) -> Result<Rel, Halt>
-    requires standing { AllStand (E.worker engine.old) names.now }
+) -> Result<Value, Halt>
+    requires standing { AllFit (E.worker engine.old) names.now }
     ensures ends { let w = E.worker engine.old in
-        let o = injected_by (state_of w names.now) at base (domain_named decls.now domain.now) in
-        Ends E.least w (E.worker engine.new) 0 0 (with_turns o 0) (set_of (E.worker engine.new)) result }
-    ensures stands { IfOk result (Stands (E.worker engine.new)) }
+        let o = injected_by (state_by w names.now) at base (domain_named decls.now domain.now) in
+        EndsOnce E.least w (E.worker engine.new) o result }
+    ensures fits { IfOk result (Fits (E.worker engine.new)) }
 {
     let (left, right) = match find_domain(decls, domain) {
         Some(found) => found,
@@ -154,5 +167,7 @@ pub fn inject<E: Engine>(
         Some(b) => b,
         None => return Err(no_domain(alloc, at, base)),
     };
-    domain_call(engine, at, base, a.rows, b.rows)
+    let first = shape_in(engine, &a);
+    let second = shape_in(engine, &b);
+    domain_call(engine, at, base, first.rows, second.rows)
 }

@@ -1,11 +1,12 @@
 //! Evaluates expressions, calls and statements.
-ghost use Rattle.std.specs.Prelude.{◌≡◌, ◌≤◌, ◌<◌, [], ℕ, List, map, IfOk, OnOk};
+ghost use Rattle.std.specs.Prelude.{◌≡◌, ◌≤◌, ◌<◌, [], ℕ, max, List, map, IfOk, OnOk};
 ghost use Rattle.std.specs.List.{AllByRecursion};
-ghost use Rattle.rel_model.specs.Worker.{Stands, set_of};
+ghost use Rattle.rel_slices.specs.Thin.{value_of};
+ghost use Rattle.rel_values.specs.Values.{Fits, owed};
 ghost use Rattle.lang_model.specs.Outcomes.{and_then, with_turns};
 ghost use Rattle.lang_model.specs.Mean.{mean, means_by, mean_by, mean_test, around_with, calls_within, based, paired, complemented, turned, run, run_by, looped};
-ghost use Rattle.rv_eval.specs.Names.{state_of, AllStand};
-ghost use Rattle.rv_eval.specs.Ends.{Ends};
+ghost use Rattle.rv_eval.specs.Values.{state_by, AllFit, names_owe, values_owe};
+ghost use Rattle.rv_eval.specs.Ends.{Ends, EndsWith, EndsRun};
 
 use crate::bases::base_call;
 use crate::domain_calls::pair;
@@ -14,8 +15,9 @@ use crate::halt::Halt;
 use crate::operators::{complement, link, transposed};
 use crate::steps::{assign, bound_names, decide, inject, value_of_name};
 use lang_model::syntax::{Base, Decl, Expr, Item, Link, Name, Place, Stmt};
+use rel_model::Lack;
 use rel_model::engine_trait::Engine;
-use rel_model::{Lack, Rel};
+use rel_slices::Value;
 use rv_types::Checked;
 use std::alloc::Global;
 
@@ -26,17 +28,17 @@ pub fn eval_expr<E: Engine>(
     engine: &mut E,
     checked: &Checked,
     decls: &[Decl],
-    names: &[(Name, Rel)],
+    names: &[(Name, Value)],
     rank: u32,
     expr: &Expr,
     turns: &mut u64,
-) -> Result<Rel, Halt>
-    requires standing { AllStand (E.worker engine.old) names.now }
+) -> Result<Value, Halt>
+    requires standing { AllFit (E.worker engine.old) names.now }
     ensures ends { let w = E.worker engine.old in
         let a = around_with (calls_within checked.now.items.items rank) decls.now in
-        let m = mean a (state_of w names.now) expr.now turns.old in
-        Ends E.least w (E.worker engine.new) turns.old turns.new m (set_of (E.worker engine.new)) result }
-    ensures stands { IfOk result (Stands (E.worker engine.new)) }
+        let m = mean a (state_by w names.now) expr.now turns.old in
+        EndsWith E.least w (E.worker engine.new) turns.old turns.new (names_owe E.least names.now) m result }
+    ensures fits { IfOk result (Fits (E.worker engine.new)) }
 {
     match expr {
         Expr::Ref { at, name } => value_of_name(alloc, names, *at, name),
@@ -78,20 +80,20 @@ fn eval_call<E: Engine>(
     engine: &mut E,
     checked: &Checked,
     decls: &[Decl],
-    names: &[(Name, Rel)],
+    names: &[(Name, Value)],
     rank: u32,
     at: Place,
     name: &Name,
     args: &[Expr],
     turns: &mut u64,
-) -> Result<Rel, Halt>
-    requires standing { AllStand (E.worker engine.old) names.now }
+) -> Result<Value, Halt>
+    requires standing { AllFit (E.worker engine.old) names.now }
     ensures ends { let w = E.worker engine.old in
         let a = around_with (calls_within checked.now.items.items rank) decls.now in
-        let s = state_of w names.now in
+        let s = state_by w names.now in
         let m = and_then (means_by a s [] args.now turns.old) (λ values k. a.calls at name.now values k) in
-        Ends E.least w (E.worker engine.new) turns.old turns.new m (set_of (E.worker engine.new)) result }
-    ensures stands { IfOk result (Stands (E.worker engine.new)) }
+        EndsWith E.least w (E.worker engine.new) turns.old turns.new (names_owe E.least names.now) m result }
+    ensures fits { IfOk result (Fits (E.worker engine.new)) }
 {
     let values = match eval_args(alloc, engine, checked, decls, names, rank, args, turns) {
         Ok(values) => values,
@@ -116,20 +118,20 @@ fn eval_base<E: Engine>(
     engine: &mut E,
     checked: &Checked,
     decls: &[Decl],
-    names: &[(Name, Rel)],
+    names: &[(Name, Value)],
     rank: u32,
     at: Place,
     base: Base,
     args: &[Expr],
     turns: &mut u64,
-) -> Result<Rel, Halt>
-    requires standing { AllStand (E.worker engine.old) names.now }
+) -> Result<Value, Halt>
+    requires standing { AllFit (E.worker engine.old) names.now }
     ensures ends { let w = E.worker engine.old in
         let a = around_with (calls_within checked.now.items.items rank) decls.now in
-        let s = state_of w names.now in
+        let s = state_by w names.now in
         let m = and_then (means_by a s [] args.now turns.old) (λ values k. with_turns (based at base values) k) in
-        Ends E.least w (E.worker engine.new) turns.old turns.new m (set_of (E.worker engine.new)) result }
-    ensures stands { IfOk result (Stands (E.worker engine.new)) }
+        EndsWith E.least w (E.worker engine.new) turns.old turns.new (names_owe E.least names.now) m result }
+    ensures fits { IfOk result (Fits (E.worker engine.new)) }
 {
     let values = match eval_args(alloc, engine, checked, decls, names, rank, args, turns) {
         Ok(values) => values,
@@ -145,21 +147,21 @@ fn eval_pair<E: Engine>(
     engine: &mut E,
     checked: &Checked,
     decls: &[Decl],
-    names: &[(Name, Rel)],
+    names: &[(Name, Value)],
     rank: u32,
     at: Place,
     left: &Expr,
     right: &Expr,
     turns: &mut u64,
-) -> Result<Rel, Halt>
-    requires standing { AllStand (E.worker engine.old) names.now }
+) -> Result<Value, Halt>
+    requires standing { AllFit (E.worker engine.old) names.now }
     ensures ends { let w = E.worker engine.old in
         let a = around_with (calls_within checked.now.items.items rank) decls.now in
-        let s = state_of w names.now in
+        let s = state_by w names.now in
         let m = and_then (mean a s left.now turns.old) (λ r k.
         and_then (mean a s right.now k) (λ q j. with_turns (paired at r q) j)) in
-        Ends E.least w (E.worker engine.new) turns.old turns.new m (set_of (E.worker engine.new)) result }
-    ensures stands { IfOk result (Stands (E.worker engine.new)) }
+        EndsWith E.least w (E.worker engine.new) turns.old turns.new (names_owe E.least names.now) m result }
+    ensures fits { IfOk result (Fits (E.worker engine.new)) }
 {
     let first = match eval_expr(alloc, engine, checked, decls, names, rank, left, turns) {
         Ok(first) => first,
@@ -169,7 +171,7 @@ fn eval_pair<E: Engine>(
         Ok(second) => second,
         Err(halt) => return Err(halt),
     };
-    pair(alloc, engine, at, first, second)
+    pair(alloc, engine, at, &first, &second)
 }
 
 /// The value of a complement.
@@ -179,24 +181,24 @@ fn eval_minus<E: Engine>(
     engine: &mut E,
     checked: &Checked,
     decls: &[Decl],
-    names: &[(Name, Rel)],
+    names: &[(Name, Value)],
     rank: u32,
     of: &Expr,
     turns: &mut u64,
-) -> Result<Rel, Halt>
-    requires standing { AllStand (E.worker engine.old) names.now }
+) -> Result<Value, Halt>
+    requires standing { AllFit (E.worker engine.old) names.now }
     ensures ends { let w = E.worker engine.old in
         let a = around_with (calls_within checked.now.items.items rank) decls.now in
-        let s = state_of w names.now in
+        let s = state_by w names.now in
         let m = and_then (mean a s of.now turns.old) (λ r k. with_turns (complemented r) k) in
-        Ends E.least w (E.worker engine.new) turns.old turns.new m (set_of (E.worker engine.new)) result }
-    ensures stands { IfOk result (Stands (E.worker engine.new)) }
+        EndsWith E.least w (E.worker engine.new) turns.old turns.new (names_owe E.least names.now) m result }
+    ensures fits { IfOk result (Fits (E.worker engine.new)) }
 {
     let operand = match eval_expr(alloc, engine, checked, decls, names, rank, of, turns) {
         Ok(operand) => operand,
         Err(halt) => return Err(halt),
     };
-    complement(engine, operand)
+    complement(engine, &operand)
 }
 
 /// The value of an operand transposed so many times.
@@ -206,25 +208,25 @@ fn eval_turned<E: Engine>(
     engine: &mut E,
     checked: &Checked,
     decls: &[Decl],
-    names: &[(Name, Rel)],
+    names: &[(Name, Value)],
     rank: u32,
     of: &Expr,
     times: u32,
     turns: &mut u64,
-) -> Result<Rel, Halt>
-    requires standing { AllStand (E.worker engine.old) names.now }
+) -> Result<Value, Halt>
+    requires standing { AllFit (E.worker engine.old) names.now }
     ensures ends { let w = E.worker engine.old in
         let a = around_with (calls_within checked.now.items.items rank) decls.now in
-        let s = state_of w names.now in
+        let s = state_by w names.now in
         let m = and_then (mean a s of.now turns.old) (λ r k. with_turns (turned times r) k) in
-        Ends E.least w (E.worker engine.new) turns.old turns.new m (set_of (E.worker engine.new)) result }
-    ensures stands { IfOk result (Stands (E.worker engine.new)) }
+        EndsWith E.least w (E.worker engine.new) turns.old turns.new (names_owe E.least names.now) m result }
+    ensures fits { IfOk result (Fits (E.worker engine.new)) }
 {
     let operand = match eval_expr(alloc, engine, checked, decls, names, rank, of, turns) {
         Ok(operand) => operand,
         Err(halt) => return Err(halt),
     };
-    transposed(engine, operand, times)
+    transposed(engine, &operand, times)
 }
 
 /// The value of a chain.
@@ -234,26 +236,26 @@ fn eval_chain<E: Engine>(
     engine: &mut E,
     checked: &Checked,
     decls: &[Decl],
-    names: &[(Name, Rel)],
+    names: &[(Name, Value)],
     rank: u32,
     first: &Expr,
     rest: &[Link],
     turns: &mut u64,
-) -> Result<Rel, Halt>
-    requires standing { AllStand (E.worker engine.old) names.now }
+) -> Result<Value, Halt>
+    requires standing { AllFit (E.worker engine.old) names.now }
     ensures ends { let w = E.worker engine.old in
         let a = around_with (calls_within checked.now.items.items rank) decls.now in
-        let s = state_of w names.now in
+        let s = state_by w names.now in
         let m = and_then (mean a s first.now turns.old) (λ r k. mean_by a s r rest.now k) in
-        Ends E.least w (E.worker engine.new) turns.old turns.new m (set_of (E.worker engine.new)) result }
-    ensures stands { IfOk result (Stands (E.worker engine.new)) }
+        EndsWith E.least w (E.worker engine.new) turns.old turns.new (names_owe E.least names.now) m result }
+    ensures fits { IfOk result (Fits (E.worker engine.new)) }
 {
     let value = match eval_expr(alloc, engine, checked, decls, names, rank, first, turns) {
         Ok(value) => value,
         Err(halt) => return Err(halt),
     };
     eval_links(
-        alloc, engine, checked, decls, names, rank, value, rest, turns,
+        alloc, engine, checked, decls, names, rank, &value, rest, turns,
     )
 }
 
@@ -264,29 +266,30 @@ fn eval_links<E: Engine>(
     engine: &mut E,
     checked: &Checked,
     decls: &[Decl],
-    names: &[(Name, Rel)],
+    names: &[(Name, Value)],
     rank: u32,
-    so_far: Rel,
+    so_far: &Value,
     rest: &[Link],
     turns: &mut u64,
-) -> Result<Rel, Halt>
-    requires standing { AllStand (E.worker engine.old) names.now }
-    requires value { Stands (E.worker engine.old) so_far }
+) -> Result<Value, Halt>
+    requires standing { AllFit (E.worker engine.old) names.now }
+    requires value { Fits (E.worker engine.old) so_far.now }
     ensures ends { let w = E.worker engine.old in
         let a = around_with (calls_within checked.now.items.items rank) decls.now in
-        let s = state_of w names.now in
-        let m = mean_by a s (set_of w so_far) rest.now turns.old in
-        Ends E.least w (E.worker engine.new) turns.old turns.new m (set_of (E.worker engine.new)) result }
-    ensures stands { IfOk result (Stands (E.worker engine.new)) }
+        let s = state_by w names.now in
+        let m = mean_by a s (value_of w so_far.now) rest.now turns.old in
+        let start = max (owed E.least so_far.now) (names_owe E.least names.now) in
+        EndsWith E.least w (E.worker engine.new) turns.old turns.new start m result }
+    ensures fits { IfOk result (Fits (E.worker engine.new)) }
 {
-    let mut all = so_far;
+    let mut all = *so_far;
     'links: for next in rest {
         let operand = &next.right;
         let right = match eval_expr(alloc, engine, checked, decls, names, rank, operand, turns) {
             Ok(right) => right,
             Err(halt) => return Err(halt),
         };
-        all = match link(alloc, engine, next.at, next.op, all, right) {
+        all = match link(alloc, engine, next.at, next.op, &all, &right) {
             Ok(joint) => joint,
             Err(halt) => return Err(halt),
         };
@@ -301,18 +304,19 @@ fn eval_args<E: Engine>(
     engine: &mut E,
     checked: &Checked,
     decls: &[Decl],
-    names: &[(Name, Rel)],
+    names: &[(Name, Value)],
     rank: u32,
     args: &[Expr],
     turns: &mut u64,
-) -> Result<Vec<Rel>, Halt>
-    requires standing { AllStand (E.worker engine.old) names.now }
+) -> Result<Vec<Value>, Halt>
+    requires standing { AllFit (E.worker engine.old) names.now }
     ensures ends { let w = E.worker engine.old in
         let a = around_with (calls_within checked.now.items.items rank) decls.now in
-        let m = means_by a (state_of w names.now) [] args.now turns.old in
+        let m = means_by a (state_by w names.now) [] args.now turns.old in
         let v = E.worker engine.new in
-        Ends E.least w v turns.old turns.new m (λ x. map (set_of v) x.items) result }
-    ensures stands { IfOk result (λ v. AllByRecursion (Stands (E.worker engine.new)) v.items) }
+        Ends E.least w v turns.old turns.new (names_owe E.least names.now) m (λ x. map (value_of v) x.items)
+        (λ x. values_owe E.least x.items) result }
+    ensures fits { IfOk result (λ v. AllByRecursion (Fits (E.worker engine.new)) v.items) }
 {
     let mut values = Vec::new(alloc);
     'args: for arg in args {
@@ -337,14 +341,14 @@ fn call<E: Engine>(
     rank: u32,
     at: Place,
     name: &Name,
-    values: &[Rel],
+    values: &[Value],
     turns: &mut u64,
-) -> Result<Rel, Halt>
-    requires standing { AllByRecursion (Stands (E.worker engine.old)) values.now }
+) -> Result<Value, Halt>
+    requires standing { AllByRecursion (Fits (E.worker engine.old)) values.now }
     ensures ends { let w = E.worker engine.old in
-        let m = calls_within checked.now.items.items rank at name.now (map (set_of w) values.now) turns.old in
-        Ends E.least w (E.worker engine.new) turns.old turns.new m (set_of (E.worker engine.new)) result }
-    ensures stands { IfOk result (Stands (E.worker engine.new)) }
+        let m = calls_within checked.now.items.items rank at name.now (map (value_of w) values.now) turns.old in
+        EndsWith E.least w (E.worker engine.new) turns.old turns.new (values_owe E.least values.now) m result }
+    ensures fits { IfOk result (Fits (E.worker engine.new)) }
 {
     if rank == 0 {
         return Err(too_deep(alloc, at, name));
@@ -407,23 +411,24 @@ fn test_of<E: Engine>(
     engine: &mut E,
     checked: &Checked,
     decls: &[Decl],
-    names: &[(Name, Rel)],
+    names: &[(Name, Value)],
     rank: u32,
     at: Place,
     test: &Expr,
     turns: &mut u64,
 ) -> Result<bool, Halt>
-    requires standing { AllStand (E.worker engine.old) names.now }
+    requires standing { AllFit (E.worker engine.old) names.now }
     ensures ends { let w = E.worker engine.old in
         let a = around_with (calls_within checked.now.items.items rank) decls.now in
-        let m = mean_test a at test.now (state_of w names.now) turns.old in
-        Ends E.least w (E.worker engine.new) turns.old turns.new m (λ b. b) result }
+        let m = mean_test a at test.now (state_by w names.now) turns.old in
+        let v = E.worker engine.new in
+        Ends E.least w v turns.old turns.new (names_owe E.least names.now) m (λ b. b) (λ b. 0) result }
 {
     let value = match eval_expr(alloc, engine, checked, decls, names, rank, test, turns) {
         Ok(value) => value,
         Err(halt) => return Err(halt),
     };
-    decide(alloc, engine, at, value)
+    decide(alloc, engine, at, &value)
 }
 
 /// Runs a statement.
@@ -433,22 +438,22 @@ fn run_stmt<E: Engine>(
     engine: &mut E,
     checked: &Checked,
     decls: &[Decl],
-    names: &mut Vec<(Name, Rel)>,
+    names: &mut Vec<(Name, Value)>,
     rank: u32,
     stmt: &Stmt,
     turns: &mut u64,
 ) -> Result<(), Halt>
-    requires standing { AllStand (E.worker engine.old) names.old.items }
+    requires standing { AllFit (E.worker engine.old) names.old.items }
     ensures ends { let w = E.worker engine.old in
         let a = around_with (calls_within checked.now.items.items rank) decls.now in
-        let m = run a stmt.now (state_of w names.old.items) turns.old in
+        let m = run a stmt.now (state_by w names.old.items) turns.old in
         let v = E.worker engine.new in
-        Ends E.least w v turns.old turns.new m (λ _. state_of v names.new.items) result }
-    ensures stands { OnOk result (AllStand (E.worker engine.new) names.new.items) }
+        EndsRun E.least w v turns.old turns.new names.old.items names.new.items m result }
+    ensures fits { OnOk result (AllFit (E.worker engine.new) names.new.items) }
 {
     match stmt {
         Stmt::Set { name, value, .. } => {
-            let rel = match eval_expr(
+            let own = match eval_expr(
                 alloc,
                 engine,
                 checked,
@@ -458,10 +463,10 @@ fn run_stmt<E: Engine>(
                 value,
                 turns,
             ) {
-                Ok(rel) => rel,
+                Ok(own) => own,
                 Err(halt) => return Err(halt),
             };
-            assign(alloc, names, name, rel)
+            assign(alloc, names, name, &own)
         }
         Stmt::While { at, test, body } => run_while(
             alloc,
@@ -508,20 +513,20 @@ fn run_while<E: Engine>(
     engine: &mut E,
     checked: &Checked,
     decls: &[Decl],
-    names: &mut Vec<(Name, Rel)>,
+    names: &mut Vec<(Name, Value)>,
     rank: u32,
     at: Place,
     test: &Expr,
     body: &[Stmt],
     turns: &mut u64,
 ) -> Result<(), Halt>
-    requires standing { AllStand (E.worker engine.old) names.old.items }
+    requires standing { AllFit (E.worker engine.old) names.old.items }
     ensures ends { let w = E.worker engine.old in
         let a = around_with (calls_within checked.now.items.items rank) decls.now in
-        let m = looped at (mean_test a at test.now) (run_by a body.now) (state_of w names.old.items) turns.old in
+        let m = looped at (mean_test a at test.now) (run_by a body.now) (state_by w names.old.items) turns.old in
         let v = E.worker engine.new in
-        Ends E.least w v turns.old turns.new m (λ _. state_of v names.new.items) result }
-    ensures stands { OnOk result (AllStand (E.worker engine.new) names.new.items) }
+        EndsRun E.least w v turns.old turns.new names.old.items names.new.items m result }
+    ensures fits { OnOk result (AllFit (E.worker engine.new) names.new.items) }
 {
     'turns: loop {
         let holds = match test_of(
@@ -559,18 +564,18 @@ fn run_stmts<E: Engine>(
     engine: &mut E,
     checked: &Checked,
     decls: &[Decl],
-    names: &mut Vec<(Name, Rel)>,
+    names: &mut Vec<(Name, Value)>,
     rank: u32,
     stmts: &[Stmt],
     turns: &mut u64,
 ) -> Result<(), Halt>
-    requires standing { AllStand (E.worker engine.old) names.old.items }
+    requires standing { AllFit (E.worker engine.old) names.old.items }
     ensures ends { let w = E.worker engine.old in
         let a = around_with (calls_within checked.now.items.items rank) decls.now in
-        let m = run_by a stmts.now (state_of w names.old.items) turns.old in
+        let m = run_by a stmts.now (state_by w names.old.items) turns.old in
         let v = E.worker engine.new in
-        Ends E.least w v turns.old turns.new m (λ _. state_of v names.new.items) result }
-    ensures stands { OnOk result (AllStand (E.worker engine.new) names.new.items) }
+        EndsRun E.least w v turns.old turns.new names.old.items names.new.items m result }
+    ensures fits { OnOk result (AllFit (E.worker engine.new) names.new.items) }
 {
     'stmts: for stmt in stmts {
         match run_stmt(alloc, engine, checked, decls, names, rank, stmt, turns) {

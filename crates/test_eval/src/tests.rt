@@ -5,3 +5,4 @@ mod full_tables;
 mod loops;
 mod refusals;
 mod rows;
+mod thin;

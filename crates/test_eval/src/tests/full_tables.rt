@@ -21,11 +21,16 @@ use std::thread::Threads;
 const SCRIPT: &str =
     "REL A 20 20 {1:2; 2:3; 3:4; 4:5; 5:6; 6:7; 7:8; 8:9; 9:10; 10:11; 11:12; 12:13; 13:14; 14:15; 15:16; 16:17; 17:18; 18:19; 19:20; 20:1}. PRINT trans(A)&-A.";
 
-/// The directed cycle of 20 elements.
-fn cycle(rt: &impl Abort, alloc: Global) -> Listed {
-    let mut list = none_of(alloc, 20, 20);
-    'elements: for i in 0..20u32 {
-        put_pair(rt, &mut list, i, i.wrapping_add(1) % 20);
+/// The directed cycle of 10 elements, and its kernels, among all 1024 sets of elements.
+const KERNELS: &str =
+    "KERNELS(G) DECL e, breaks BEG e = epsi(Ln1(G)); breaks = (e & G*e) | -(e | G*e); RETURN e*inj(-ran(breaks))^ END. REL A 10 10 {1:2; 2:3; 3:4; 4:5; 5:6; 6:7; 7:8; 8:9; 9:10; 10:1}. PRINT KERNELS(A).";
+
+/// The directed cycle of so many elements.
+fn cycle(rt: &impl Abort, alloc: Global, elements: u32) -> Listed {
+    let mut list = none_of(alloc, elements, elements);
+    'elements: for i in 0..elements {
+        let next = i.wrapping_add(1);
+        put_pair(rt, &mut list, i, if next == elements { 0 } else { next });
     }
     list
 }
@@ -65,12 +70,14 @@ fn room<R: Threads + Abort + Sync>(rt: &R, alloc: Global, cycle: &Listed) -> u32
     fill(rt, alloc, &mut engine, 2000)
 }
 
-/// The expression of the script.
+/// The expression of a script: that of its PRINT.
 fn expression<'a>(rt: &impl Abort, checked: &'a Checked) -> &'a Expr {
-    match checked.script().items.as_slice().get(1) {
-        Some(Item::Command(Command::Print { value })) => value,
-        _ => panic!(rt; "another script"),
+    'items: for item in checked.script().items.as_slice() {
+        if let Item::Command(Command::Print { value }) = item {
+            return value;
+        }
     }
+    panic!(rt; "another script")
 }
 
 /// Asserts that a relation has these pairs.
@@ -167,9 +174,9 @@ fn is_answered_beside<R: Threads + Abort + Sync>(
     is_answered(rt, alloc, &mut engine, checked, cycle, b, wanted)
 }
 
-/// The script, checked.
-fn checked_script(rt: &impl Abort, alloc: Global) -> Checked {
-    match checked_of(rt, alloc, SCRIPT.as_bytes()) {
+/// A script, checked.
+fn checked_script(rt: &impl Abort, alloc: Global, script: &str) -> Checked {
+    match checked_of(rt, alloc, script.as_bytes()) {
         Ok(checked) => checked,
         Err(_) => panic!(rt; "a fault"),
     }
@@ -193,14 +200,31 @@ fn refusals<R: Threads + Abort + Sync>(
     most
 }
 
+/// Asserts that a script on the cycle of so many elements is answered in each table with Nodes or the relation, and
+/// that both answers are met.
+fn assert_in_each_table<R: Threads + Abort + Sync>(
+    rt: &R,
+    alloc: Global,
+    script: &str,
+    elements: u32,
+) {
+    let cycle = cycle(rt, alloc, elements);
+    let checked = checked_script(rt, alloc, script);
+    let wanted = slow_answers(rt, alloc, &checked, 0);
+    let most = room(rt, alloc, &cycle);
+    assert!(rt; 0 < most && most < 1022);
+    let refused = refusals(rt, alloc, &checked, &cycle, most, wanted.as_str());
+    assert!(rt; 0 < refused && refused < most);
+}
+
 #[test]
 fn a_table_that_is_full_answers_nodes_and_any_other_the_relation(rt: HostRuntime) {
     let alloc = rt.alloc();
-    let cycle = cycle(&rt, alloc);
-    let checked = checked_script(&rt, alloc);
-    let wanted = slow_answers(&rt, alloc, &checked, 0);
-    let most = room(&rt, alloc, &cycle);
-    assert!(&rt; 0 < most && most < 1022);
-    let refused = refusals(&rt, alloc, &checked, &cycle, most, wanted.as_str());
-    assert!(&rt; 0 < refused && refused < most);
+    assert_in_each_table(&rt, alloc, SCRIPT, 20);
+}
+
+#[test]
+fn a_table_that_is_full_answers_nodes_and_any_other_the_kernels(rt: HostRuntime) {
+    let alloc = rt.alloc();
+    assert_in_each_table(&rt, alloc, KERNELS, 10);
 }

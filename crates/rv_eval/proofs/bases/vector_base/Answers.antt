@@ -1,83 +1,86 @@
-use Rattle.std.proofs.Common.{◌≤◌, ◌+◌, ◌^◌, ◌∙◌, ◌∷◌, [], ap, arith}
-use Rattle.rel_model.specs.Worker.{set_of, derived_room}
-use Rattle.rel_model.specs.Choice.{point, init, next, inj}
+use Rattle.std.proofs.Common.{◌≡◌, ◌≤◌, ◌+◌, ◌^◌, ◌∙◌, ◌∷◌, [], ap, refl, arith}
 use Rattle.rel_model.specs.Domains.{membership}
+use Rattle.rel_model.specs.Choice.{point, init, next, inj}
+use Rattle.rel_slices.specs.Thin.{value_of, value_rows, value_cols}
 use Rattle.lang_model.specs.Rooms.{wide_cost}
 use Rattle.lang_model.specs.declared.syntax.Base.TheVariants.{Epsi, Point, Init, Next, Inj}
 use Rattle.lang_model.specs.Outcomes.{Makes}
 use Rattle.lang_model.specs.Mean.{based, limited}
-use Rattle.rv_eval.proofs.Operating.{one_made, vector_fits}
-use Rattle.rv_eval.proofs.Domains.{said, domain_ends}
-use Rattle.rv_eval.proofs.Costing.{wide_within}
+use Rattle.rv_eval.proofs.Operating.{type_of_fit, made_ends, made_fits, vector_fits}
+use Rattle.rv_eval.proofs.Costing.{wide_by}
+use Rattle.rv_eval.proofs.Domains.{limited_ends, limited_fits}
 use Rattle.rv_eval.proofs.Basing.{last_vector}
 use Rattle.rv_eval.proofs.bases.vector_base.Goals as goal
 
-pub returns-in-Epsi-clause-ends : goal.returns-in-Epsi-clause-ends
+pub returns-in-Epsi : goal.returns-in-Epsi
 unfolding based
-returns-in-Epsi-clause-ends g c =
+returns-in-Epsi g c =
     let w = g.E.Core.worker c.args.engine.now in
-    let v = g.E.Core.worker c.epsi.new.self in
-    let r = c.args.r in
-    let R = set_of w r in
-    let rm = g.met.E.Core.row_size c.args.engine.now r c.requires.standing in
-    let rn = g.met.E.Core.col_size c.args.engine.now r c.requires.standing in
-    let made : v.made ≤ w.made + derived_room r.rows (2 ^ r.rows) (2 ^ r.rows) = c.epsi.ensures.room in
-    let tree = wide_within g.E.Core.least r.rows (2 ^ r.rows) (2 ^ r.rows) r.rows r.cols (2 ^ r.rows) (omega arith) (omega arith) (omega arith) in
-    said w v _ _ _ _ (ap (λ b. based c.args.at b (R ∷ [])) c.in-Epsi.is ∙ vector_fits w c.args.at r rm rn Epsi _ (λ m n. limited c.args.at (2 ^ m) (Makes (membership m) (wide_cost m n (2 ^ m)))) c.requires.one_column) c.lift_domain.ensures
-    (domain_ends w v g.E.Core.lean c.args.at r.rows (2 ^ r.rows) (2 ^ r.rows) _ _ c.epsi.ensures.keeps (omega (arith, made, tree)) c.epsi.ensures.nothing (λ rel z. (g.met.E.Core.row_limit c.epsi.new.self rel z, g.met.E.Core.col_limit c.epsi.new.self rel z)) (λ a b. b) c.epsi.result c.epsi.ensures.value c.epsi.ensures.cause)
+    let v = g.E.Core.worker c.epsi.new.engine in
+    let R = value_of w c.args.r.now in
+    let s = c.shape_in-shape.ensures in
+    let m = c.shape_in-shape.result.rows in
+    let n = c.shape_in-shape.result.cols in
+    let one : n ≡ 1 = s.cols ∙ c.requires.one_column in
+    let is = ap (λ b. based c.args.at b (R ∷ [])) c.in-Epsi.is ∙ vector_fits c.args.at R m n s.row_size s.col_size Epsi _ (λ m n. limited c.args.at (2 ^ m) (Makes (membership m) (wide_cost m n (2 ^ m)))) one in
+    let less = wide_by g.E.Core.least m 1 (2 ^ m) m n (2 ^ m) refl one refl in
+    record {
+      ends = limited_ends w v _ c.args.at _ _ _ _ _ _ less (g.met.E.Core.row_limit c.epsi.new.engine) (g.met.E.Core.col_limit c.epsi.new.engine) (λ a b. b) _ c.epsi.result c.lift_domain.result is c.lift_domain.ensures c.epsi.ensures.operates;
+      fits = limited_fits w v _ c.args.at _ _ _ _ _ c.epsi.result c.lift_domain.result c.lift_domain.ensures c.epsi.ensures.operates;
+    }
 
-pub returns-in-Point-clause-ends : goal.returns-in-Point-clause-ends
+pub returns-in-Point : goal.returns-in-Point
 unfolding based
-returns-in-Point-clause-ends g c =
+returns-in-Point g c =
     let w = g.E.Core.worker c.args.engine.now in
-    let v = g.E.Core.worker c.point.new.self in
-    let r = c.args.r in
-    let R = set_of w r in
-    let rm = g.met.E.Core.row_size c.args.engine.now r c.requires.standing in
-    let rn = g.met.E.Core.col_size c.args.engine.now r c.requires.standing in
-    let made : v.made ≤ w.made + derived_room r.rows 1 1 = c.point.ensures.room in
-    let wide = wide_within g.E.Core.least r.rows 1 1 r.rows r.cols 1 (omega arith) (omega arith) (omega arith) in
-    said w v _ _ _ _ (ap (λ b. based c.args.at b (R ∷ [])) c.in-Point.is ∙ vector_fits w c.args.at r rm rn Point _ (λ m n. Makes (point R) (wide_cost m n 1)) c.requires.one_column) c.lift.ensures
-    (one_made w v g.E.Core.lean _ _ _ _ c.point.result c.point.ensures.value c.point.ensures.keeps (omega (arith, made, wide)) c.point.ensures.cause)
+    let v = g.E.Core.worker c.point.new.engine in
+    let x = c.args.r.now in
+    let R = value_of w x in
+    let t = type_of_fit w x (g.met.E.Core.valid c.args.engine.now) (g.met.E.Core.row_size c.args.engine.now) (g.met.E.Core.col_size c.args.engine.now) c.requires.standing in
+    let is = ap (λ b. based c.args.at b (R ∷ [])) c.in-Point.is ∙ vector_fits c.args.at R _ _ t.row_size t.col_size Point _ (λ m n. Makes (point R) (wide_cost m n 1)) c.requires.one_column in
+    record {
+      ends = made_ends w v _ _ _ _ _ _ _ c.point.result c.lift.result is c.lift.ensures (wide_by g.E.Core.least _ _ _ _ _ _ refl refl refl) c.point.ensures.operates;
+      fits = made_fits w v _ _ _ _ _ c.point.result c.lift.result c.lift.ensures c.point.ensures.operates;
+    }
 
-pub returns-in-Init-clause-ends : goal.returns-in-Init-clause-ends
+pub returns-in-Init : goal.returns-in-Init
 unfolding based
-returns-in-Init-clause-ends g c =
+returns-in-Init g c =
     let w = g.E.Core.worker c.args.engine.now in
-    let v = g.E.Core.worker c.init.new.self in
-    let r = c.args.r in
-    let R = set_of w r in
-    let rm = g.met.E.Core.row_size c.args.engine.now r c.requires.standing in
-    let rn = g.met.E.Core.col_size c.args.engine.now r c.requires.standing in
-    let made : v.made ≤ w.made + derived_room r.rows 1 1 = c.init.ensures.room in
-    let wide = wide_within g.E.Core.least r.rows 1 1 r.rows r.cols 1 (omega arith) (omega arith) (omega arith) in
-    said w v _ _ _ _ (ap (λ b. based c.args.at b (R ∷ [])) c.in-Init.is ∙ vector_fits w c.args.at r rm rn Init _ (λ m n. Makes (init R) (wide_cost m n 1)) c.requires.one_column) c.lift-in-Init.ensures
-    (one_made w v g.E.Core.lean _ _ _ _ c.init.result c.init.ensures.value c.init.ensures.keeps (omega (arith, made, wide)) c.init.ensures.cause)
+    let v = g.E.Core.worker c.init.new.engine in
+    let x = c.args.r.now in
+    let R = value_of w x in
+    let t = type_of_fit w x (g.met.E.Core.valid c.args.engine.now) (g.met.E.Core.row_size c.args.engine.now) (g.met.E.Core.col_size c.args.engine.now) c.requires.standing in
+    let is = ap (λ b. based c.args.at b (R ∷ [])) c.in-Init.is ∙ vector_fits c.args.at R _ _ t.row_size t.col_size Init _ (λ m n. Makes (init R) (wide_cost m n 1)) c.requires.one_column in
+    record {
+      ends = made_ends w v _ _ _ _ _ _ _ c.init.result c.lift-in-Init.result is c.lift-in-Init.ensures (wide_by g.E.Core.least _ _ _ _ _ _ refl refl refl) c.init.ensures.operates;
+      fits = made_fits w v _ _ _ _ _ c.init.result c.lift-in-Init.result c.lift-in-Init.ensures c.init.ensures.operates;
+    }
 
-pub returns-in-Next-clause-ends : goal.returns-in-Next-clause-ends
+pub returns-in-Next : goal.returns-in-Next
 unfolding based
-returns-in-Next-clause-ends g c =
+returns-in-Next g c =
     let w = g.E.Core.worker c.args.engine.now in
-    let v = g.E.Core.worker c.next.new.self in
-    let r = c.args.r in
-    let R = set_of w r in
-    let rm = g.met.E.Core.row_size c.args.engine.now r c.requires.standing in
-    let rn = g.met.E.Core.col_size c.args.engine.now r c.requires.standing in
-    let made : v.made ≤ w.made + derived_room r.rows 1 1 = c.next.ensures.room in
-    let wide = wide_within g.E.Core.least r.rows 1 1 r.rows r.cols 1 (omega arith) (omega arith) (omega arith) in
-    said w v _ _ _ _ (ap (λ b. based c.args.at b (R ∷ [])) c.in-Next.is ∙ vector_fits w c.args.at r rm rn Next _ (λ m n. Makes (next R) (wide_cost m n 1)) c.requires.one_column) c.lift-in-Next.ensures
-    (one_made w v g.E.Core.lean _ _ _ _ c.next.result c.next.ensures.value c.next.ensures.keeps (omega (arith, made, wide)) c.next.ensures.cause)
+    let v = g.E.Core.worker c.next.new.engine in
+    let x = c.args.r.now in
+    let R = value_of w x in
+    let t = type_of_fit w x (g.met.E.Core.valid c.args.engine.now) (g.met.E.Core.row_size c.args.engine.now) (g.met.E.Core.col_size c.args.engine.now) c.requires.standing in
+    let is = ap (λ b. based c.args.at b (R ∷ [])) c.in-Next.is ∙ vector_fits c.args.at R _ _ t.row_size t.col_size Next _ (λ m n. Makes (next R) (wide_cost m n 1)) c.requires.one_column in
+    record {
+      ends = made_ends w v _ _ _ _ _ _ _ c.next.result c.lift-in-Next.result is c.lift-in-Next.ensures (wide_by g.E.Core.least _ _ _ _ _ _ refl refl refl) c.next.ensures.operates;
+      fits = made_fits w v _ _ _ _ _ c.next.result c.lift-in-Next.result c.lift-in-Next.ensures c.next.ensures.operates;
+    }
 
-pub returns-in_default-clause-ends : goal.returns-in_default-clause-ends
+pub returns-in_default : goal.returns-in_default
 unfolding based
-returns-in_default-clause-ends g c =
+returns-in_default g c =
     let w = g.E.Core.worker c.args.engine.now in
-    let v = g.E.Core.worker c.inj.new.self in
-    let r = c.args.r in
-    let R = set_of w r in
-    let rm = g.met.E.Core.row_size c.args.engine.now r c.requires.standing in
-    let rn = g.met.E.Core.col_size c.args.engine.now r c.requires.standing in
-    let made : v.made ≤ w.made + derived_room r.rows r.cols r.cols = c.inj.ensures.room in
-    let tree = wide_within g.E.Core.least r.rows r.cols r.cols r.rows r.cols 1 (omega arith) (omega arith) (omega arith) in
-    said w v _ _ _ _ (ap (λ b. based c.args.at b (R ∷ [])) (last_vector c.args.base c.requires.demands c.in_default.not-Epsi c.in_default.not-Point c.in_default.not-Init c.in_default.not-Next) ∙ vector_fits w c.args.at r rm rn Inj _ (λ m n. Makes (inj R) (wide_cost m n 1)) c.requires.one_column) c.lift-in_default.ensures
-    (one_made w v g.E.Core.lean _ _ _ _ c.inj.result c.inj.ensures.value c.inj.ensures.keeps (omega (arith, made, tree)) c.inj.ensures.cause)
+    let v = g.E.Core.worker c.inj.new.engine in
+    let x = c.args.r.now in
+    let R = value_of w x in
+    let t = type_of_fit w x (g.met.E.Core.valid c.args.engine.now) (g.met.E.Core.row_size c.args.engine.now) (g.met.E.Core.col_size c.args.engine.now) c.requires.standing in
+    let is = ap (λ b. based c.args.at b (R ∷ [])) (last_vector c.args.base c.requires.demands c.in_default.not-Epsi c.in_default.not-Point c.in_default.not-Init c.in_default.not-Next) ∙ vector_fits c.args.at R _ _ t.row_size t.col_size Inj _ (λ m n. Makes (inj R) (wide_cost m n 1)) c.requires.one_column in
+    record {
+      ends = made_ends w v _ _ _ _ _ _ _ c.inj.result c.lift-in_default.result is c.lift-in_default.ensures (wide_by g.E.Core.least _ _ _ _ _ _ refl refl refl) c.inj.ensures.operates;
+      fits = made_fits w v _ _ _ _ _ c.inj.result c.lift-in_default.result c.lift-in_default.ensures c.inj.ensures.operates;
+    }

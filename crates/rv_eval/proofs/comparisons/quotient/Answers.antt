@@ -1,34 +1,38 @@
-use Rattle.std.proofs.Common.{◌≤◌, ◌+◌, ap, arith}
-use Rattle.rel_model.specs.Worker.{wide_room}
+use Rattle.std.proofs.Common.{◌∙◌, sym, ap}
+use Rattle.rel_slices.specs.Thin.{value_of}
 use Rattle.lang_model.specs.Outcomes.{with_turns}
 use Rattle.rv_eval.proofs.Going.{refuses}
-use Rattle.rv_eval.proofs.Operating.{one_made}
-use Rattle.rv_eval.proofs.Domains.{said, syq_fits, syq_misfit}
-use Rattle.rv_eval.proofs.Costing.{wide_itself}
+use Rattle.rv_eval.proofs.Operating.{made_ends, made_fits}
+use Rattle.rv_eval.proofs.Domains.{syq_fits, syq_misfit}
+use Rattle.rv_eval.proofs.Costing.{wide_by}
 use Rattle.rv_eval.proofs.comparisons.quotient.Goals as goal
 
-pub returns-then-r-s-clause-ends : goal.returns-then-r-s-clause-ends
-returns-then-r-s-clause-ends g c =
-    let w = g.E.Core.worker c.args.engine.now in
-    let v = g.E.Core.worker c.syq.new.self in
-    let r = c.args.r in
-    let s = c.args.s in
-    let rm = g.met.E.Core.row_size c.args.engine.now r c.requires.left in
-    let rn = g.met.E.Core.col_size c.args.engine.now r c.requires.left in
-    let sm = g.met.E.Core.row_size c.args.engine.now s c.requires.right in
-    let sn = g.met.E.Core.col_size c.args.engine.now s c.requires.right in
-    let made : v.made ≤ w.made + wide_room r.rows r.cols s.cols = c.syq.ensures.room in
-    let wide = wide_itself g.E.Core.least r.rows r.cols s.cols in
-    said w v _ _ _ _ (syq_fits w c.args.at r s rm rn sm sn c.if-r-s.true) c.lift.ensures
-    (one_made w v g.E.Core.lean _ _ _ _ c.syq.result c.syq.ensures.value c.syq.ensures.keeps (omega (arith, made, wide)) c.syq.ensures.cause)
+pub syq-requires-clause-rows : goal.syq-requires-clause-rows
+syq-requires-clause-rows g c = sym c.shape_in-a.ensures.rows ∙ c.if-a-b.true ∙ c.shape_in-b.ensures.rows
 
-pub returns-else-r-s-clause-ends : goal.returns-else-r-s-clause-ends
-returns-else-r-s-clause-ends g c =
+pub returns-then-a-b : goal.returns-then-a-b
+returns-then-a-b g c =
     let w = g.E.Core.worker c.args.engine.now in
-    let r = c.args.r in
-    let s = c.args.s in
-    let rm = g.met.E.Core.row_size c.args.engine.now r c.requires.left in
-    let rn = g.met.E.Core.col_size c.args.engine.now r c.requires.left in
-    let sm = g.met.E.Core.row_size c.args.engine.now s c.requires.right in
-    let sn = g.met.E.Core.col_size c.args.engine.now s c.requires.right in
-    refuses w 0 _ _ _ _ (ap (λ o. with_turns o 0) (syq_misfit w c.args.at r s rm rn sm sn c.if-r-s.false)) c.not_alike.ensures
+    let x = c.args.r.now in
+    let y = c.args.s.now in
+    let R = value_of w x in
+    let S = value_of w y in
+    let a = c.shape_in-a.ensures in
+    let b = c.shape_in-b.ensures in
+    let v = g.E.Core.worker c.syq.new.engine in
+    let is = syq_fits c.args.at R S _ _ _ _ a.row_size a.col_size b.row_size b.col_size c.if-a-b.true in
+    record {
+      ends = made_ends w v _ _ _ _ _ _ _ c.syq.result c.lift.result is c.lift.ensures (wide_by g.E.Core.least _ _ _ _ _ _ a.rows a.cols b.cols) c.syq.ensures.operates;
+      fits = made_fits w v _ _ _ _ _ c.syq.result c.lift.result c.lift.ensures c.syq.ensures.operates;
+    }
+
+pub returns-else-a-b-clause-ends : goal.returns-else-a-b-clause-ends
+returns-else-a-b-clause-ends g c =
+    let w = g.E.Core.worker c.args.engine.now in
+    let x = c.args.r.now in
+    let y = c.args.s.now in
+    let R = value_of w x in
+    let S = value_of w y in
+    let a = c.shape_in-a.ensures in
+    let b = c.shape_in-b.ensures in
+    refuses w 0 _ _ _ _ _ (ap (λ o. with_turns o 0) (syq_misfit c.args.at R S _ _ _ _ a.row_size a.col_size b.row_size b.col_size c.if-a-b.false)) c.not_alike.ensures

@@ -1,42 +1,53 @@
-use Rattle.std.proofs.Common.{◌≤◌, ◌+◌, ◌*◌, ap, sym, subst, arith, IfOk}
-use Rattle.rel_model.specs.Worker.{Stands, derived_room}
+use Rattle.std.proofs.Common.{◌+◌, ◌*◌, ap, arith}
 use Rattle.lang_model.specs.Mean.{domain_made}
-use Rattle.rv_eval.proofs.Domains.{domain_ends, domain_stands, other_domain, said}
+use Rattle.rv_eval.proofs.Domains.{limited_ends, limited_fits, whole_within, other_domain}
 use Rattle.rv_eval.proofs.Costing.{wide_within}
 use Rattle.rv_eval.proofs.domain_calls.domain_call.Goals as goal
 
-pub returns-in-P1-clause-ends : goal.returns-in-P1-clause-ends
-returns-in-P1-clause-ends g c =
+pub returns-in-P1 : goal.returns-in-P1
+returns-in-P1 g c =
     let w = g.E.Core.worker c.args.engine.now in
     let v = g.E.Core.worker c.first.new.self in
     let x = c.args.x in
     let y = c.args.y in
-    let made : v.made ≤ w.made + derived_room (x * y) x x = c.first.ensures.room in
+    let e = c.first.ensures in
+    let given = c.as_whole.result in
+    let o = whole_within {leaf = g.E.Core.least} w v g.E.Core.lean (x * y) (x) _ (x * y) _ c.first.result given c.as_whole.ensures e.value e.keeps e.room e.nothing e.cause in
     let tree = wide_within g.E.Core.least (x * y) x x x y (x * y) (omega arith) (omega arith) (omega arith) in
-    let ends = said w v _ _ _ _ (ap (λ z. domain_made c.args.at z x y) c.in-P1.is) c.lift_domain.ensures (domain_ends w v g.E.Core.lean c.args.at (x * y) (x) (x * y) _ _ c.first.ensures.keeps (omega (arith, made, tree)) c.first.ensures.nothing (λ rel s. (g.met.E.Core.row_limit c.first.new.self rel s, g.met.E.Core.col_limit c.first.new.self rel s)) (λ a b. a) c.first.result c.first.ensures.value c.first.ensures.cause) in
-    ends
+    record {
+      ends = limited_ends w v g.E.Core.lean c.args.at _ _ _ _ _ _ tree (g.met.E.Core.row_limit c.first.new.self) (g.met.E.Core.col_limit c.first.new.self) (λ a b. a) _ given c.lift_domain.result (ap (λ z. domain_made c.args.at z x y) c.in-P1.is) c.lift_domain.ensures o;
+      fits = limited_fits w v _ c.args.at _ _ _ _ _ given c.lift_domain.result c.lift_domain.ensures o;
+    }
 
-pub returns-in-P2-clause-ends : goal.returns-in-P2-clause-ends
-returns-in-P2-clause-ends g c =
+pub returns-in-P2 : goal.returns-in-P2
+returns-in-P2 g c =
     let w = g.E.Core.worker c.args.engine.now in
     let v = g.E.Core.worker c.second.new.self in
     let x = c.args.x in
     let y = c.args.y in
-    let made : v.made ≤ w.made + derived_room (x * y) y y = c.second.ensures.room in
+    let e = c.second.ensures in
+    let given = c.as_whole-in-P2.result in
+    let o = whole_within {leaf = g.E.Core.least} w v g.E.Core.lean (x * y) (y) _ (x * y) _ c.second.result given c.as_whole-in-P2.ensures e.value e.keeps e.room e.nothing e.cause in
     let tree = wide_within g.E.Core.least (x * y) y y x y (x * y) (omega arith) (omega arith) (omega arith) in
-    let ends = said w v _ _ _ _ (ap (λ z. domain_made c.args.at z x y) c.in-P2.is) c.lift_domain-in-P2.ensures (domain_ends w v g.E.Core.lean c.args.at (x * y) (y) (x * y) _ _ c.second.ensures.keeps (omega (arith, made, tree)) c.second.ensures.nothing (λ rel s. (g.met.E.Core.row_limit c.second.new.self rel s, g.met.E.Core.col_limit c.second.new.self rel s)) (λ a b. a) c.second.result c.second.ensures.value c.second.ensures.cause) in
-    ends
+    record {
+      ends = limited_ends w v g.E.Core.lean c.args.at _ _ _ _ _ _ tree (g.met.E.Core.row_limit c.second.new.self) (g.met.E.Core.col_limit c.second.new.self) (λ a b. a) _ given c.lift_domain-in-P2.result (ap (λ z. domain_made c.args.at z x y) c.in-P2.is) c.lift_domain-in-P2.ensures o;
+      fits = limited_fits w v _ c.args.at _ _ _ _ _ given c.lift_domain-in-P2.result c.lift_domain-in-P2.ensures o;
+    }
 
-pub returns-in-I1-clause-ends : goal.returns-in-I1-clause-ends
-returns-in-I1-clause-ends g c =
+pub returns-in-I1 : goal.returns-in-I1
+returns-in-I1 g c =
     let w = g.E.Core.worker c.args.engine.now in
     let v = g.E.Core.worker c.inl.new.self in
     let x = c.args.x in
     let y = c.args.y in
-    let made : v.made ≤ w.made + derived_room x (x + y) (x + y) = c.inl.ensures.room in
+    let e = c.inl.ensures in
+    let given = c.as_whole-in-I1.result in
+    let o = whole_within {leaf = g.E.Core.least} w v g.E.Core.lean (x) (x + y) _ (x + y) _ c.inl.result given c.as_whole-in-I1.ensures e.value e.keeps e.room e.nothing e.cause in
     let tree = wide_within g.E.Core.least x (x + y) (x + y) x y (x + y) (omega arith) (omega arith) (omega arith) in
-    let ends = said w v _ _ _ _ (ap (λ z. domain_made c.args.at z x y) c.in-I1.is) c.lift_domain-in-I1.ensures (domain_ends w v g.E.Core.lean c.args.at (x) (x + y) (x + y) _ _ c.inl.ensures.keeps (omega (arith, made, tree)) c.inl.ensures.nothing (λ rel s. (g.met.E.Core.row_limit c.inl.new.self rel s, g.met.E.Core.col_limit c.inl.new.self rel s)) (λ a b. b) c.inl.result c.inl.ensures.value c.inl.ensures.cause) in
-    ends
+    record {
+      ends = limited_ends w v g.E.Core.lean c.args.at _ _ _ _ _ _ tree (g.met.E.Core.row_limit c.inl.new.self) (g.met.E.Core.col_limit c.inl.new.self) (λ a b. b) _ given c.lift_domain-in-I1.result (ap (λ z. domain_made c.args.at z x y) c.in-I1.is) c.lift_domain-in-I1.ensures o;
+      fits = limited_fits w v _ c.args.at _ _ _ _ _ given c.lift_domain-in-I1.result c.lift_domain-in-I1.ensures o;
+    }
 
 pub returns-in_default : goal.returns-in_default
 returns-in_default g c =
@@ -44,7 +55,11 @@ returns-in_default g c =
     let v = g.E.Core.worker c.inr.new.self in
     let x = c.args.x in
     let y = c.args.y in
-    let made : v.made ≤ w.made + derived_room y (x + y) (x + y) = c.inr.ensures.room in
+    let e = c.inr.ensures in
+    let given = c.as_whole-in_default.result in
+    let o = whole_within {leaf = g.E.Core.least} w v g.E.Core.lean (y) (x + y) _ (x + y) _ c.inr.result given c.as_whole-in_default.ensures e.value e.keeps e.room e.nothing e.cause in
     let tree = wide_within g.E.Core.least y (x + y) (x + y) x y (x + y) (omega arith) (omega arith) (omega arith) in
-    let ends = said w v _ _ _ _ (other_domain c.args.at c.args.base x y c.in_default.not-P1 c.in_default.not-P2 c.in_default.not-I1) c.lift_domain-in_default.ensures (domain_ends w v g.E.Core.lean c.args.at (y) (x + y) (x + y) _ _ c.inr.ensures.keeps (omega (arith, made, tree)) c.inr.ensures.nothing (λ rel s. (g.met.E.Core.row_limit c.inr.new.self rel s, g.met.E.Core.col_limit c.inr.new.self rel s)) (λ a b. b) c.inr.result c.inr.ensures.value c.inr.ensures.cause) in
-    record { ends = ends; stands = subst (λ z. IfOk z (Stands v)) (sym c.lift_domain-in_default.ensures) (domain_stands v c.args.at (y) (x + y) _ c.inr.result c.inr.ensures.value) }
+    record {
+      ends = limited_ends w v g.E.Core.lean c.args.at _ _ _ _ _ _ tree (g.met.E.Core.row_limit c.inr.new.self) (g.met.E.Core.col_limit c.inr.new.self) (λ a b. b) _ given c.lift_domain-in_default.result (other_domain c.args.at c.args.base x y c.in_default.not-P1 c.in_default.not-P2 c.in_default.not-I1) c.lift_domain-in_default.ensures o;
+      fits = limited_fits w v _ c.args.at _ _ _ _ _ given c.lift_domain-in_default.result c.lift_domain-in_default.ensures o;
+    }

@@ -1,34 +1,36 @@
-use Rattle.std.proofs.Common.{◌≤◌, ◌+◌, ◌*◌, max, ap, arith}
-use Rattle.rel_model.specs.Worker.{wide_room}
+use Rattle.std.proofs.Common.{◌∙◌, ◌*◌, max, sym, ap, refl}
+use Rattle.rel_slices.specs.Thin.{value_of, value_rows, value_cols}
 use Rattle.lang_model.specs.Outcomes.{with_turns}
 use Rattle.rv_eval.proofs.Going.{refuses}
-use Rattle.rv_eval.proofs.Domains.{domain_ends, pair_fits, pair_misfit, said}
-use Rattle.rv_eval.proofs.Operating.{unequal_sizes}
-use Rattle.rv_eval.proofs.Costing.{wide_itself}
+use Rattle.rv_eval.proofs.Domains.{limited_ends, limited_fits, pair_fits, pair_misfit}
+use Rattle.rv_eval.proofs.Operating.{type_of_fit, unequal_sizes}
+use Rattle.rv_eval.proofs.Costing.{wide_by}
 use Rattle.rv_eval.proofs.domain_calls.pair.Goals as goal
 
-pub returns-then-r-s-clause-ends : goal.returns-then-r-s-clause-ends
-returns-then-r-s-clause-ends g c =
-    let w = g.E.Core.worker c.args.engine.now in
-    let v = g.E.Core.worker c.fork.new.self in
-    let r = c.args.r in
-    let s = c.args.s in
-    let rm = g.met.E.Core.row_size c.args.engine.now r c.requires.left in
-    let rn = g.met.E.Core.col_size c.args.engine.now r c.requires.left in
-    let sm = g.met.E.Core.row_size c.args.engine.now s c.requires.right in
-    let sn = g.met.E.Core.col_size c.args.engine.now s c.requires.right in
-    let made : v.made ≤ w.made + wide_room r.rows (max r.cols s.cols) (r.cols * s.cols) = c.fork.ensures.room in
-    let wide = wide_itself g.E.Core.least r.rows (max r.cols s.cols) (r.cols * s.cols) in
-    said w v _ _ _ _ (pair_fits w c.args.at r s rm rn sm sn c.if-r-s.true) c.lift_domain.ensures
-    (domain_ends w v g.E.Core.lean c.args.at r.rows (r.cols * s.cols) (r.cols * s.cols) _ _ c.fork.ensures.keeps (omega (arith, made, wide)) c.fork.ensures.nothing (λ rel z. (g.met.E.Core.row_limit c.fork.new.self rel z, g.met.E.Core.col_limit c.fork.new.self rel z)) (λ a b. b) c.fork.result c.fork.ensures.value c.fork.ensures.cause)
+pub pair-requires-clause-rows : goal.pair-requires-clause-rows
+pair-requires-clause-rows g c = sym c.shape_in-a.ensures.rows ∙ c.if-a-b.true ∙ c.shape_in-b.ensures.rows
 
-pub returns-else-r-s-clause-ends : goal.returns-else-r-s-clause-ends
-returns-else-r-s-clause-ends g c =
+pub returns-then-a-b : goal.returns-then-a-b
+returns-then-a-b g c =
     let w = g.E.Core.worker c.args.engine.now in
-    let r = c.args.r in
-    let s = c.args.s in
-    let rm = g.met.E.Core.row_size c.args.engine.now r c.requires.left in
-    let rn = g.met.E.Core.col_size c.args.engine.now r c.requires.left in
-    let sm = g.met.E.Core.row_size c.args.engine.now s c.requires.right in
-    let sn = g.met.E.Core.col_size c.args.engine.now s c.requires.right in
-    refuses w 0 _ _ _ _ (ap (λ o. with_turns o 0) (pair_misfit w c.args.at r s rm rn sm sn (unequal_sizes r.rows s.rows c.if-r-s.false))) c.no_pair.ensures
+    let v = g.E.Core.worker c.pair.new.engine in
+    let x = c.args.r.now in
+    let y = c.args.s.now in
+    let t = type_of_fit w x (g.met.E.Core.valid c.args.engine.now) (g.met.E.Core.row_size c.args.engine.now) (g.met.E.Core.col_size c.args.engine.now) c.requires.left in
+    let u = type_of_fit w y (g.met.E.Core.valid c.args.engine.now) (g.met.E.Core.row_size c.args.engine.now) (g.met.E.Core.col_size c.args.engine.now) c.requires.right in
+    let rows = sym c.shape_in-a.ensures.rows ∙ c.if-a-b.true ∙ c.shape_in-b.ensures.rows in
+    let is = pair_fits c.args.at (value_of w x) (value_of w y) _ _ _ _ t.row_size t.col_size u.row_size u.col_size rows in
+    let less = wide_by g.E.Core.least (value_rows x) (max (value_cols x) (value_cols y)) (value_cols x * value_cols y) _ _ _ refl refl refl in
+    record {
+      ends = limited_ends w v _ c.args.at _ _ _ _ _ _ less (g.met.E.Core.row_limit c.pair.new.engine) (g.met.E.Core.col_limit c.pair.new.engine) (λ a b. b) _ c.pair.result c.lift_domain.result is c.lift_domain.ensures c.pair.ensures.operates;
+      fits = limited_fits w v _ c.args.at _ _ _ _ _ c.pair.result c.lift_domain.result c.lift_domain.ensures c.pair.ensures.operates;
+    }
+
+pub returns-else-a-b-clause-ends : goal.returns-else-a-b-clause-ends
+returns-else-a-b-clause-ends g c =
+    let w = g.E.Core.worker c.args.engine.now in
+    let R = value_of w c.args.r.now in
+    let S = value_of w c.args.s.now in
+    let a = c.shape_in-a.ensures in
+    let b = c.shape_in-b.ensures in
+    refuses w 0 _ _ _ _ _ (ap (λ o. with_turns o 0) (pair_misfit c.args.at R S _ _ _ _ a.row_size a.col_size b.row_size b.col_size (unequal_sizes _ _ c.if-a-b.false))) c.no_pair.ensures

@@ -1,52 +1,19 @@
-use Rattle.std.proofs.Common.{◌≤◌, ◌+◌, ◌∙◌, ap, arith}
-use Rattle.rel_model.specs.Worker.{set_of, operator_room}
-use Rattle.rel_model.specs.Operators.{full, diff}
-use Rattle.rel_model.proofs.Workers.{gives_set, keeps_itself, keeps_trans}
-use Rattle.rel_model.proofs.OperatorLaws.{diff-full}
+use Rattle.std.proofs.Common.{refl}
+use Rattle.rel_slices.specs.Thin.{value_rows, value_cols}
 use Rattle.lang_model.specs.Mean.{complemented}
-use Rattle.rv_eval.proofs.Operating.{made_value, made_lack}
-use Rattle.rv_eval.proofs.Costing.{two_plain_of}
-use Rattle.rv_eval.proofs.States.{set_kept}
+use Rattle.rv_eval.proofs.Operating.{type_of_fit, made_ends, made_fits}
+use Rattle.rv_eval.proofs.Costing.{plain_of}
 use Rattle.rv_eval.proofs.operators.complement.Goals as goal
 
-pub returns-in-Err-clause-ends : goal.returns-in-Err-clause-ends
+pub returns : goal.returns
 unfolding complemented
-returns-in-Err-clause-ends g c =
+returns g c =
     let w = g.E.Core.worker c.args.engine.now in
-    let v = g.E.Core.worker c.full.new.self in
-    let room : v.made ≤ w.made + operator_room c.args.r.rows c.args.r.cols = c.full.ensures.room in
-    let tree = two_plain_of g.E.Core.least w c.args.r (g.met.E.Core.row_size c.args.engine.now c.args.r c.requires.standing) (g.met.E.Core.col_size c.args.engine.now c.args.r c.requires.standing) in
-    made_lack _ w _ _ _ _ _ c.in-Err.lack c.in-Err.ensures.cause (keeps_itself w) c.full.ensures.keeps (omega (arith, room, tree))
-
-pub returns-in-Ok-diff-clause-ends : goal.returns-in-Ok-diff-clause-ends
-unfolding complemented
-returns-in-Ok-diff-clause-ends g c =
-    let w = g.E.Core.worker c.args.engine.now in
-    let v = g.E.Core.worker c.full.new.self in
-    let u = g.E.Core.worker c.diff.new.self in
-    let r = c.args.r in
-    let rows = g.met.E.Core.row_size c.args.engine.now r c.requires.standing in
-    let cols = g.met.E.Core.col_size c.args.engine.now r c.requires.standing in
-    let all = c.in-Ok.ensures.value in
-    let value = gives_set u c.in-Ok.full.rows c.in-Ok.full.cols (diff (set_of v c.in-Ok.full) (set_of v r)) c.in-Ok-diff.rest c.in-Ok-diff.ensures.value
-    ∙ ap (λ x. diff x (set_of v r)) (gives_set v r.rows r.cols (full r.rows r.cols) c.in-Ok.full all) ∙ ap (diff (full r.rows r.cols)) (set_kept w v r c.full.ensures.keeps c.requires.standing)
-    ∙ diff-full r.rows r.cols (set_of w r) rows cols in
-    let first : v.made ≤ w.made + operator_room r.rows r.cols = c.full.ensures.room in
-    let second : u.made ≤ v.made + operator_room c.in-Ok.full.rows c.in-Ok.full.cols = c.diff.ensures.room in
-    let same = ap (λ x. operator_room x c.in-Ok.full.cols) all.row_size ∙ ap (operator_room r.rows) all.col_size in
-    let tree = two_plain_of g.E.Core.least w r rows cols in
-    made_value w u _ _ c.in-Ok-diff.rest value (keeps_trans w v u c.full.ensures.keeps c.diff.ensures.keeps) (omega (arith, first, second, same, tree))
-
-pub returns-in-Err-diff-clause-ends : goal.returns-in-Err-diff-clause-ends
-unfolding complemented
-returns-in-Err-diff-clause-ends g c =
-    let w = g.E.Core.worker c.args.engine.now in
-    let v = g.E.Core.worker c.full.new.self in
-    let u = g.E.Core.worker c.diff.new.self in
-    let r = c.args.r in
-    let all = c.in-Ok.ensures.value in
-    let first : v.made ≤ w.made + operator_room r.rows r.cols = c.full.ensures.room in
-    let second : u.made ≤ v.made + operator_room c.in-Ok.full.rows c.in-Ok.full.cols = c.diff.ensures.room in
-    let same = ap (λ x. operator_room x c.in-Ok.full.cols) all.row_size ∙ ap (operator_room r.rows) all.col_size in
-    let tree = two_plain_of g.E.Core.least w r (g.met.E.Core.row_size c.args.engine.now r c.requires.standing) (g.met.E.Core.col_size c.args.engine.now r c.requires.standing) in
-    made_lack _ v _ _ _ _ _ c.in-Err-diff.lack c.in-Err-diff.ensures.cause c.full.ensures.keeps c.diff.ensures.keeps (omega (arith, first, second, same, tree))
+    let v = g.E.Core.worker c.complement.new.engine in
+    let x = c.args.r.now in
+    let t = type_of_fit w x (g.met.E.Core.valid c.args.engine.now) (g.met.E.Core.row_size c.args.engine.now) (g.met.E.Core.col_size c.args.engine.now) c.requires.standing in
+    let o = c.complement.ensures.operates in
+    record {
+      ends = made_ends w v _ _ _ _ _ _ _ c.complement.result c.lift.result refl c.lift.ensures (plain_of g.E.Core.least (value_rows x) (value_cols x) _ _ t.row_size t.col_size) o;
+      fits = made_fits w v _ _ _ _ _ c.complement.result c.lift.result c.lift.ensures o;
+    }

@@ -1,16 +1,25 @@
-use Rattle.std.proofs.Common.{◌∙◌, sym, ap}
+use Rattle.std.proofs.Common.{◌≡◌, ◌∙◌, true, sym, ap}
+use Rattle.rel_slices.specs.Thin.{value_of, value_rows, value_cols}
+use Rattle.lang_model.specs.Types.{known, takes}
 use Rattle.lang_model.specs.Outcomes.{with_turns}
 use Rattle.rv_eval.proofs.Going.{refuses}
 use Rattle.rv_eval.proofs.Operating.{link_misfit}
 use Rattle.rv_eval.proofs.operators.link.Goals as goal
 
+pub applied-requires-clause-takes : goal.applied-requires-clause-takes
+applied-requires-clause-takes g c =
+    let x = c.args.r.now in
+    let y = c.args.s.now in
+    let op = c.args.op in
+    let a = c.shape_in-a.result in
+    let b = c.shape_in-b.result in
+    sym (ap (λ k. takes op (known k a.cols) (known b.rows b.cols)) c.shape_in-a.ensures.rows ∙ ap (λ k. takes op (known (value_rows x) k) (known b.rows b.cols)) c.shape_in-a.ensures.cols
+    ∙ ap (λ k. takes op (known (value_rows x) (value_cols x)) (known k b.cols)) c.shape_in-b.ensures.rows ∙ ap (λ k. takes op (known (value_rows x) (value_cols x)) (known (value_rows y) k)) c.shape_in-b.ensures.cols)
+    ∙ sym c.takes.ensures ∙ c.if-takes.true
+
 pub returns-else-takes-clause-ends : goal.returns-else-takes-clause-ends
 returns-else-takes-clause-ends g c =
     let w = g.E.Core.worker c.args.engine.now in
-    let r = c.args.r in
-    let s = c.args.s in
-    let rm = g.met.E.Core.row_size c.args.engine.now r c.requires.left in
-    let rn = g.met.E.Core.col_size c.args.engine.now r c.requires.left in
-    let sm = g.met.E.Core.row_size c.args.engine.now s c.requires.right in
-    let sn = g.met.E.Core.col_size c.args.engine.now s c.requires.right in
-    refuses w 0 _ _ _ _ (ap (λ o. with_turns o 0) (link_misfit w c.args.at c.args.op r s rm rn sm sn (sym c.takes.ensures ∙ c.if-takes.false))) c.mismatch.ensures
+    let a = c.shape_in-a.ensures in
+    let b = c.shape_in-b.ensures in
+    refuses w 0 _ _ _ _ _ (ap (λ o. with_turns o 0) (link_misfit c.args.at c.args.op (value_of w c.args.r.now) (value_of w c.args.s.now) _ _ _ _ a.row_size a.col_size b.row_size b.col_size (sym c.takes.ensures ∙ c.if-takes.false))) c.mismatch.ensures

@@ -1,8 +1,9 @@
-use Rattle.std.proofs.Common.{◌≤◌, ◌+◌, ◌*◌, ℕ, suc, [], map, drop}
+use Rattle.std.proofs.Common.{◌≤◌, ◌+◌, ◌*◌, ℕ, max, suc, [], map, drop}
 use Rattle.std.specs.List.{AllByRecursion}
-use Rattle.rel_model.specs.Worker.{Stands, set_of}
+use Rattle.rel_slices.specs.Thin.{value_of}
+use Rattle.rel_values.specs.Values.{Fits, owed}
 use Rattle.lang_model.specs.Mean.{means_by, mean_by, mean_test, around_with, calls_within, run_by, looped, rounds}
-use Rattle.rv_eval.specs.Names.{state_of, AllStand}
+use Rattle.rv_eval.specs.Values.{state_by, AllFit, names_owe, values_owe}
 use Rattle.rv_eval.proofs.Going.{Goes}
 use Rattle.lang_model.proofs.Weights.{weight, weight_of_args, weight_of_links, weight_stmt, weight_by, scale}
 use Rattle.rv_eval.proofs.walk.+eval.Given as goal
@@ -54,10 +55,10 @@ invariant-eval_args-args-2 g l =
     let w = g.E.Core.worker l.fn.engine in
     let v = g.E.Core.worker l.engine in
     let a = around_with (calls_within l.checked.items.items l.rank) l.decls in
-    let s = state_of w l.names in
+    let s = state_by w l.names in
     record {
-      goes : Goes g.E.Core.least w v l.fn.turns l.turns (means_by a s [] l.args l.fn.turns) (means_by a s (map (set_of v) l.values.items) (drop l.arg-index l.args) l.turns);
-      stands : AllByRecursion (Stands v) l.values.items;
+      goes : Goes g.E.Core.least w v l.fn.turns l.turns (names_owe g.E.Core.least l.names) (max (values_owe g.E.Core.least l.values.items) (names_owe g.E.Core.least l.names)) (means_by a s [] l.args l.fn.turns) (means_by a s (map (value_of v) l.values.items) (drop l.arg-index l.args) l.turns);
+      stands : AllByRecursion (Fits v) l.values.items;
     }
 
 abbrev pub invariant-eval_links-links : goal.invariant-eval_links-links
@@ -65,10 +66,10 @@ invariant-eval_links-links g l =
     let w = g.E.Core.worker l.fn.engine in
     let v = g.E.Core.worker l.engine in
     let a = around_with (calls_within l.checked.items.items l.rank) l.decls in
-    let s = state_of w l.names in
+    let s = state_by w l.names in
     record {
-      goes : Goes g.E.Core.least w v l.fn.turns l.turns (mean_by a s (set_of w l.fn.so_far) l.rest l.fn.turns) (mean_by a s (set_of v l.all) (drop l.next-index l.rest) l.turns);
-      stands : Stands v l.all;
+      goes : Goes g.E.Core.least w v l.fn.turns l.turns (max (owed g.E.Core.least l.so_far) (names_owe g.E.Core.least l.names)) (max (owed g.E.Core.least l.all) (names_owe g.E.Core.least l.names)) (mean_by a s (value_of w l.so_far) l.rest l.fn.turns) (mean_by a s (value_of v l.all) (drop l.next-index l.rest) l.turns);
+      stands : Fits v l.all;
     }
 
 abbrev pub invariant-run_stmts-stmts : goal.invariant-run_stmts-stmts
@@ -77,8 +78,8 @@ invariant-run_stmts-stmts g l =
     let v = g.E.Core.worker l.engine in
     let a = around_with (calls_within l.checked.items.items l.rank) l.decls in
     record {
-      goes : Goes g.E.Core.least w v l.fn.turns l.turns (run_by a l.stmts (state_of w l.fn.names.items) l.fn.turns) (run_by a (drop l.stmt-index l.stmts) (state_of v l.names.items) l.turns);
-      stands : AllStand v l.names.items;
+      goes : Goes g.E.Core.least w v l.fn.turns l.turns (names_owe g.E.Core.least l.fn.names.items) (names_owe g.E.Core.least l.names.items) (run_by a l.stmts (state_by w l.fn.names.items) l.fn.turns) (run_by a (drop l.stmt-index l.stmts) (state_by v l.names.items) l.turns);
+      stands : AllFit v l.names.items;
     }
 
 abbrev pub invariant-run_while-turns : goal.invariant-run_while-turns
@@ -89,8 +90,8 @@ invariant-run_while-turns g l =
     let test = mean_test a l.at l.test in
     let body = run_by a l.body in
     record {
-      bound : (k : ℕ) × (l.turns ≤ k) × Goes g.E.Core.least w v l.fn.turns l.turns (looped l.at test body (state_of w l.fn.names.items) l.fn.turns) (rounds l.at test body (suc k) (state_of v l.names.items) l.turns);
-      stands : AllStand v l.names.items;
+      bound : (k : ℕ) × (l.turns ≤ k) × Goes g.E.Core.least w v l.fn.turns l.turns (names_owe g.E.Core.least l.fn.names.items) (names_owe g.E.Core.least l.names.items) (looped l.at test body (state_by w l.fn.names.items) l.fn.turns) (rounds l.at test body (suc k) (state_by v l.names.items) l.turns);
+      stands : AllFit v l.names.items;
     }
 
 abbrev pub decreases-run_while-turns : goal.decreases-run_while-turns
