@@ -41,7 +41,7 @@ use Rattle.rv_runs.proofs.Sharing.{AllHaveRun, mine_of, within, accounts}
 -- ---- works as sessions
 module _ {E : Type 0} (worker : E → Worker) (first_number : ℕ) (scripts : List (List ℕ)) where
   abbrev session_of : Work E → Transcript → Session
-  session_of w t = record { bytes = bytes_of first_number scripts w.number; own = worker w.engine; pass = w.pass; told = t }
+  session_of w t = record { bytes = bytes_of first_number scripts w.number; own = worker w.seat.engine; pass = w.seat.pass; told = t }
 
   abbrev pub sessions_of : List (Work E) → List Transcript → List Session
   sessions_of [] ts = []
@@ -74,19 +74,19 @@ module _ {E : Type 0} (worker : E → Worker) (first_number : ℕ) (scripts : Li
   have_run leaf given s [] ts e r n = tt
   have_run leaf given s (w ∷ ws) [] e r n = absurd (too_few w ws e)
   have_run leaf given s (w ∷ ws) (t ∷ ts) e r n = (
-    (let here = subst (λ o. IfSome o (HasRun leaf given w.number (bytes_of first_number scripts w.number) (worker w.engine) w.pass)) (first_told w ws t ts e) (r 0 w (omega arith)) in
+    (let here = subst (λ o. IfSome o (HasRun leaf given w.number (bytes_of first_number scripts w.number) (worker w.seat.engine) w.seat.pass)) (first_told w ws t ts e) (r 0 w (omega arith)) in
         let at : w.number ≡ 0 + s = n 0 w (omega arith) in
         let number : w.number ≡ s = omega arith in
-        subst (λ m. HasRun leaf given m (bytes_of first_number scripts w.number) (worker w.engine) w.pass t) number here),
+        subst (λ m. HasRun leaf given m (bytes_of first_number scripts w.number) (worker w.seat.engine) w.seat.pass t) number here),
     have_run leaf given (s + 1) ws ts (later_told w ws t ts e) (λ k d l. r (suc k) d (omega arith)) (later_numbers s w ws n),
   )
 
-  have_begun_with : (first : First) (ws : List (Work E)) (ts : List Transcript) → All (λ work. first_of work.pass.start ≡ first) ws → AllByRecursion (λ (p : Session). first_of p.pass.start ≡ first) (sessions_of ws ts)
+  have_begun_with : (first : First) (ws : List (Work E)) (ts : List Transcript) → All (λ work. first_of work.seat.pass.start ≡ first) ws → AllByRecursion (λ (p : Session). first_of p.pass.start ≡ first) (sessions_of ws ts)
   have_begun_with first [] ts h = tt
   have_begun_with first (w ∷ ws) [] h = tt
   have_begun_with first (w ∷ ws) (t ∷ ts) h = (h 0 w (omega arith), have_begun_with first ws ts (λ k d l. h (suc k) d (omega arith)))
 
-  have_holds : (all : Worker) (ws : List (Work E)) (ts : List Transcript) → All (λ work. IsAbsorbed (worker work.engine) all) ws → AllByRecursion (λ (p : Session). IsAbsorbed p.own all) (sessions_of ws ts)
+  have_holds : (all : Worker) (ws : List (Work E)) (ts : List Transcript) → All (λ work. IsAbsorbed (worker work.seat.engine) all) ws → AllByRecursion (λ (p : Session). IsAbsorbed p.own all) (sessions_of ws ts)
   have_holds all [] ts h = tt
   have_holds all (w ∷ ws) [] h = tt
   have_holds all (w ∷ ws) (t ∷ ts) h = (h 0 w (omega arith), have_holds all ws ts (λ k d l. h (suc k) d (omega arith)))
@@ -94,17 +94,17 @@ module _ {E : Type 0} (worker : E → Worker) (first_number : ℕ) (scripts : Li
   have_begun : (log : List Event) (ws : List (Work E)) (ts : List Transcript) → All (λ (p : View). Begins p.seen log) (map pass_of ws) → AllByRecursion (λ (p : Session). BeginsLog p.pass.seen log) (sessions_of ws ts)
   have_begun log [] ts h = tt
   have_begun log (w ∷ ws) [] h = tt
-  have_begun log (w ∷ ws) (t ∷ ts) h = (h 0 w.pass (omega arith), have_begun log ws ts (λ k d l. h (suc k) d (omega arith)))
+  have_begun log (w ∷ ws) (t ∷ ts) h = (h 0 w.seat.pass (omega arith), have_begun log ws ts (λ k d l. h (suc k) d (omega arith)))
 
-  same_lists : (ws : List (Work E)) (ts : List Transcript) → AllTold ws ts → map mine_of (sessions_of ws ts) ≡ map (λ work. work.pass.mine) ws
+  same_lists : (ws : List (Work E)) (ts : List Transcript) → AllTold ws ts → map mine_of (sessions_of ws ts) ≡ map (λ work. work.seat.pass.mine) ws
   same_lists [] ts e = refl
   same_lists (w ∷ ws) [] e = absurd (too_few w ws e)
-  same_lists (w ∷ ws) (t ∷ ts) e = ap (λ (l : List (List Event)). w.pass.mine ∷ l) (same_lists ws ts (later_told w ws t ts e))
+  same_lists (w ∷ ws) (t ∷ ts) e = ap (λ (l : List (List Event)). w.seat.pass.mine ∷ l) (same_lists ws ts (later_told w ws t ts e))
 
   same_made : (ws : List (Work E)) (ts : List Transcript) → AllTold ws ts → made_in (map part_of_session (sessions_of ws ts)) ≡ made_by worker ws
   same_made [] ts e = refl
   same_made (w ∷ ws) [] e = absurd (too_few w ws e)
-  same_made (w ∷ ws) (t ∷ ts) e = ap (λ n. (worker w.engine).made + n) (same_made ws ts (later_told w ws t ts e))
+  same_made (w ∷ ws) (t ∷ ts) e = ap (λ n. (worker w.seat.engine).made + n) (same_made ws ts (later_told w ws t ts e))
 
   same_told : (ws : List (Work E)) (ts : List Transcript) → AllTold ws ts → map (λ (p : Session). p.told) (sessions_of ws ts) ≡ ts
   same_told [] [] e = refl
@@ -192,7 +192,7 @@ module _ {E : Type 0} (worker : E → Worker) (leaf : ℕ) (scripts : List (List
     pub ran : All (RanWhereTold worker leaf (input_of files turns) number scripts) works
     pub joins : All (CanJoin worker book) works
     pub numbers : Numbered number works
-    pub starts : All (λ work. first_of work.pass.start ≡ first) works
+    pub starts : All (λ work. first_of work.seat.pass.start ≡ first) works
     pub long : length works ≡ length scripts
     pub all_told : map (λ t. Some t) told ≡ map told_of works
     pub no_mine : mid.mine ≡ []
@@ -232,7 +232,7 @@ module _ {E : Type 0} (worker : E → Worker) (leaf : ℕ) (scripts : List (List
     all_accounts =
         accounts leaf (input_of files turns) number ones log runs make_up first new
         (have_begun_with worker number scripts first works told g.starts)
-        (have_holds worker number scripts new works told (λ k d l. absorbed (worker (get_or works k d).engine) (r.takes.each k d l)))
+        (have_holds worker number scripts new works told (λ k d l. absorbed (worker (get_or works k d).seat.engine) (r.takes.each k d l)))
         (have_begun worker number scripts log works told (subst (λ (q : List Event). All (λ (p : View). Begins p.seen q) (map pass_of works)) (sym g.seen) g.joined.each_seen))
 
     -- what stood before stands, with the same sets

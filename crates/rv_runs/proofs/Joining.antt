@@ -57,28 +57,28 @@ pub joins_second : (a b c : Worker) → JoinsWorker a b c → IsAbsorbed b c
 joins_second a b c j = record { holds = j.other_holds; missed = λ l. some_missed a.misses b.misses c.misses j.misses (omega arith) }
 
 module _ {E : Type 0} (worker : E → Worker) where
-  made_more : (ys : List (Work E)) (w : Work E) → made_by worker (ys ++ w ∷ []) ≡ made_by worker ys + (worker w.engine).made
+  made_more : (ys : List (Work E)) (w : Work E) → made_by worker (ys ++ w ∷ []) ≡ made_by worker ys + (worker w.seat.engine).made
   made_more [] w = omega arith
   made_more (y ∷ ys) w = let i = made_more ys w in omega arith
 
   pub takes_none : (old : Worker) → TakesAll worker [] old old
   takes_none old = record {
     own = absorbed_itself old;
-    each = All-nil (λ work. IsAbsorbed (worker work.engine) old);
+    each = All-nil (λ work. IsAbsorbed (worker work.seat.engine) old);
     made = omega arith;
     spare = omega arith;
     house = refl;
   }
 
-  pub takes_more : (ys : List (Work E)) (w : Work E) (old mid new : Worker) → TakesAll worker ys old mid → JoinsWorker mid (worker w.engine) new → (worker w.engine).spare ≡ 64
+  pub takes_more : (ys : List (Work E)) (w : Work E) (old mid new : Worker) → TakesAll worker ys old mid → JoinsWorker mid (worker w.seat.engine) new → (worker w.seat.engine).spare ≡ 64
       → TakesAll worker (ys ++ w ∷ []) old new
   takes_more ys w old mid new t j seats =
-      let P : Work E → Type 0 = λ work. IsAbsorbed (worker work.engine) new in
-      let later = joins_first mid (worker w.engine) new j in
+      let P : Work E → Type 0 = λ work. IsAbsorbed (worker work.seat.engine) new in
+      let later = joins_first mid (worker w.seat.engine) new j in
       record {
         own = absorbed_on old mid new t.own later;
-        each = All-append P ys (w ∷ []) (All-weaker (λ work. IsAbsorbed (worker work.engine) mid) P (λ work a. absorbed_on (worker work.engine) mid new a later) ys t.each)
-            (All-cons P w [] (joins_second mid (worker w.engine) new j) (All-nil P));
+        each = All-append P ys (w ∷ []) (All-weaker (λ work. IsAbsorbed (worker work.seat.engine) mid) P (λ work a. absorbed_on (worker work.seat.engine) mid new a later) ys t.each)
+            (All-cons P w [] (joins_second mid (worker w.seat.engine) new j) (All-nil P));
         made = (let a = t.made in let b = j.made in let m = made_more ys w in let e : new.made ≡ old.made + made_by worker (ys ++ w ∷ []) = omega arith in e);
         spare = (let a = t.spare in let b = j.spares in let m = length_more ys w in let e : new.spare ≡ old.spare + 65 * length (ys ++ w ∷ []) = omega arith in e);
         house = j.house ∙ t.house;
@@ -86,10 +86,10 @@ module _ {E : Type 0} (worker : E → Worker) where
 
 -- ---- passes
 module _ {E : Type 0} where
-  pub joins_more : (ys : List (Work E)) (w : Work E) (old mid new : View) → JoinsAll (map pass_of ys) old mid → new ≡ with_other mid w.pass → Begins mid.seen new.seen → Begins w.pass.seen new.seen
+  pub joins_more : (ys : List (Work E)) (w : Work E) (old mid new : View) → JoinsAll (map pass_of ys) old mid → new ≡ with_other mid w.seat.pass → Begins mid.seen new.seen → Begins w.seat.pass.seen new.seen
       → JoinsAll (map pass_of (ys ++ w ∷ [])) old new
   joins_more ys w old mid new j is mine other =
-      subst (λ (l : List View). JoinsAll l old new) (sym (map_append pass_of ys (w ∷ []))) (joins_one_more (map pass_of ys) w.pass old mid new j is mine other)
+      subst (λ (l : List View). JoinsAll l old new) (sym (map_append pass_of ys (w ∷ []))) (joins_one_more (map pass_of ys) w.seat.pass old mid new j is mine other)
 
   pub told_more : (told : List Transcript) (t : Transcript) (ys : List (Work E)) (w : Work E) → w.told ≡ Some t → map (λ u. Some u) told ≡ map told_of ys
       → map (λ u. Some u) (told ++ t ∷ []) ≡ map told_of (ys ++ w ∷ [])
@@ -97,9 +97,9 @@ module _ {E : Type 0} where
 
   module _ (worker : E → Worker) (book : Book) where
     -- passes to which none was joined hold one list each
-    pub one_list_each : (works : List (Work E)) → All (CanJoin worker book) works → all_lists (map pass_of works) ≡ map (λ work. work.pass.mine) works
+    pub one_list_each : (works : List (Work E)) → All (CanJoin worker book) works → all_lists (map pass_of works) ≡ map (λ work. work.seat.pass.mine) works
     one_list_each [] h = refl
-    one_list_each (w ∷ ws) h = (λ i. w.pass.mine ∷ ((h 0 w (omega arith)).no_joined i ++ one_list_each ws (λ k d l. h (suc k) d (omega arith)) i))
+    one_list_each (w ∷ ws) h = (λ i. w.seat.pass.mine ∷ ((h 0 w (omega arith)).no_joined i ++ one_list_each ws (λ k d l. h (suc k) d (omega arith)) i))
 
     -- and stand for themselves alone
     pub one_place_each : (works : List (Work E)) → All (CanJoin worker book) works → places (map pass_of works) ≡ length works
@@ -112,15 +112,15 @@ module _ {E : Type 0} where
         there (CanJoin worker book) yielded later w (subst (λ (l : List (Work E)). All (CanJoin worker book) l) (is ∙ ap (λ (l : List (Work E)). yielded ++ l) next) all)
 
   -- what the passes of all began with is that of each
-  pub all_began : (start : Start) (first : First) (works : List (Work E)) → first_of start ≡ first → HaveStart start works → All (λ work. first_of work.pass.start ≡ first) works
-  all_began start first works is h = All-weaker (λ work. work.pass.start ≡ start) (λ work. first_of work.pass.start ≡ first) (λ work e. ap first_of e ∙ is) works h
+  pub all_began : (start : Start) (first : First) (works : List (Work E)) → first_of start ≡ first → HaveStart start works → All (λ work. first_of work.seat.pass.start ≡ first) works
+  all_began start first works is h = All-weaker (λ work. work.seat.pass.start ≡ start) (λ work. first_of work.seat.pass.start ≡ first) (λ work e. ap first_of e ∙ is) works h
 
   -- works that keep theirs
   pub starts_stay : (start : Start) (old new : List (Work E)) → HaveStart start old → length new ≡ length old
-      → ((k : ℕ) (d : Work E) → k < length old → (get_or new k d).pass.start ≡ (get_or old k d).pass.start) → HaveStart start new
+      → ((k : ℕ) (d : Work E) → k < length old → (get_or new k d).seat.pass.start ≡ (get_or old k d).seat.pass.start) → HaveStart start new
   starts_stay start old new h l s k d b = s k d (omega (arith, b, l)) ∙ h k d (omega (arith, b, l))
 
   -- its pass is of the house of all
-  pub next_house : (house : House) (works yielded rest later : List (Work E)) (w : Work E) → HaveHouse house works → works ≡ yielded ++ rest → rest ≡ w ∷ later → w.pass.house ≡ house
+  pub next_house : (house : House) (works yielded rest later : List (Work E)) (w : Work E) → HaveHouse house works → works ≡ yielded ++ rest → rest ≡ w ∷ later → w.seat.pass.house ≡ house
   next_house house works yielded rest later w all is next =
-      there (λ work. work.pass.house ≡ house) yielded later w (subst (λ (l : List (Work E)). HaveHouse house l) (is ∙ ap (λ (l : List (Work E)). yielded ++ l) next) all)
+      there (λ work. work.seat.pass.house ≡ house) yielded later w (subst (λ (l : List (Work E)). HaveHouse house l) (is ∙ ap (λ (l : List (Work E)). yielded ++ l) next) all)

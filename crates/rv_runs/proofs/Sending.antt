@@ -1,7 +1,7 @@
 -- A piece of work may go to another thread where its engine may.
 -- 1. What a book remembers for clauses alone owns nothing, so it may go anywhere.
 -- 2. Each other field of a book may go where it is plain, or where the engine may.
--- 3. So may a pass of such a book, and the work that holds it.
+-- 3. So may a pass of such a book, the seat that holds it, and the work that holds this.
 use denote.RattleType.{RattleType}
 use denote.Struct.Declared.{shape}
 use denote.Param.Send.{IsSend, sendable, struct_send, recorded_send, view_send}
@@ -40,4 +40,4 @@ book_send T core s =
 pub work_send : (T : RattleType) (seated : Seated.Ghosts T.Denot) (quads : Quads.Ghosts T.Denot) (core : Core.Ghosts T.Denot) → IsSend T
     → IsSend (work.the_row T seated quads core)
 work_send T seated quads core s =
-    let one = book_send T core s in search (sendable, pass.the_send, transcript.the_send) depth 20
+    let one = book_send T core s in search (sendable, pass.the_send, transcript.the_send) depth 40

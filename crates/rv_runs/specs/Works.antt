@@ -55,15 +55,15 @@ module _ {E : Type 0} where
 
   -- the passes of all works are of one house
   abbrev pub HaveHouse : House → List (Work E) → Type 0
-  HaveHouse house works = All (λ work. work.pass.house ≡ house) works
+  HaveHouse house works = All (λ work. work.seat.pass.house ≡ house) works
 
   -- the passes of all works are of a book that began with this
   abbrev pub HaveStart : Start → List (Work E) → Type 0
-  HaveStart start works = All (λ work. work.pass.start ≡ start) works
+  HaveStart start works = All (λ work. work.seat.pass.start ≡ start) works
 
   -- the pass of a piece of work
   abbrev pub pass_of : Work E → View
-  pass_of work = work.pass
+  pass_of work = work.seat.pass
 
   -- what its session told
   abbrev pub told_of : Work E → Option Transcript
@@ -72,40 +72,40 @@ module _ {E : Type 0} where
   module _ (worker : E → Worker) where
     -- a piece of work before its session runs, in a batch of so many from this number on
     pub record IsFresh (book : Book) (first count : ℕ) (work : Work E) : Type 0 where
-      pub ready : IsReady book work.pass
-      pub no_seen : work.pass.seen ≡ []
-      pub no_mine : work.pass.mine ≡ []
-      pub no_joined : work.pass.joined ≡ []
-      pub no_spare : work.pass.spare ≡ 0
-      pub kin : (worker work.engine).house ≡ work.pass.house
-      pub seats : (worker work.engine).spare ≡ 64
-      pub no_made : (worker work.engine).made ≡ 0
-      pub no_misses : (worker work.engine).misses ≡ 0
+      pub ready : IsReady book work.seat.pass
+      pub no_seen : work.seat.pass.seen ≡ []
+      pub no_mine : work.seat.pass.mine ≡ []
+      pub no_joined : work.seat.pass.joined ≡ []
+      pub no_spare : work.seat.pass.spare ≡ 0
+      pub kin : (worker work.seat.engine).house ≡ work.seat.pass.house
+      pub seats : (worker work.seat.engine).spare ≡ 64
+      pub no_made : (worker work.seat.engine).made ≡ 0
+      pub no_misses : (worker work.seat.engine).misses ≡ 0
       pub from_first : first ≤ work.number
       pub at_most : work.number < first + count
 
     -- a piece of work that can be joined
     pub record CanJoin (book : Book) (work : Work E) : Type 0 where
-      pub ready : IsReady book work.pass
-      pub no_joined : work.pass.joined ≡ []
-      pub no_spare : work.pass.spare ≡ 0
-      pub kin : (worker work.engine).house ≡ work.pass.house
-      pub seats : (worker work.engine).spare ≡ 64
+      pub ready : IsReady book work.seat.pass
+      pub no_joined : work.seat.pass.joined ≡ []
+      pub no_spare : work.seat.pass.spare ≡ 0
+      pub kin : (worker work.seat.engine).house ≡ work.seat.pass.house
+      pub seats : (worker work.seat.engine).spare ≡ 64
 
     -- what its session told, it did with the bytes of its script
     abbrev pub RanWhereTold : ℕ → Input → ℕ → List (List ℕ) → Work E → Type 0
     RanWhereTold leaf given number scripts work = IfSome work.told
-        (HasRun leaf given work.number (bytes_of number scripts work.number) (worker work.engine) work.pass)
+        (HasRun leaf given work.number (bytes_of number scripts work.number) (worker work.seat.engine) work.seat.pass)
 
     -- how many nodes the workers of works made
     abbrev pub made_by : List (Work E) → ℕ
     made_by [] = 0
-    made_by (work ∷ works) = (worker work.engine).made + made_by works
+    made_by (work ∷ works) = (worker work.seat.engine).made + made_by works
 
     -- the workers of works are joined into one
     pub record TakesAll (works : List (Work E)) (old new : Worker) : Type 0 where
       pub own : IsAbsorbed old new
-      pub each : All (λ work. IsAbsorbed (worker work.engine) new) works
+      pub each : All (λ work. IsAbsorbed (worker work.seat.engine) new) works
       pub made : new.made ≡ old.made + made_by works
       pub spare : new.spare ≡ old.spare + 65 * length works
       pub house : new.house ≡ old.house

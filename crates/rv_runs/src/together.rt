@@ -10,7 +10,7 @@ use crate::work::{Work, run_work};
 use rel_model::engine_trait::Engine;
 use rel_model::watch::Watch;
 use run_model::files::Loaded;
-use rv_sessions::Transcript;
+use rv_sessions::{Seat, Transcript};
 use rv_workspace::Book;
 use std::alloc::Global;
 use std::sync::Wait;
@@ -52,8 +52,10 @@ pub fn split_all<E: Engine + Drop>(
     'works: for i in 0..count {
         works.push_reserved(Work {
             number: number + i as u32,
-            pass: book.split_pass(pass),
-            engine: engine.split(SEATS),
+            seat: Seat {
+                pass: book.split_pass(pass),
+                engine: engine.split(SEATS),
+            },
             told: None,
         });
     }
@@ -80,9 +82,9 @@ pub fn run_works<E: Engine + Drop + Send, R: Threads + Wait + Sync, W: Watch + S
     ensures joins { All (CanJoin E.worker book.now) works.new.items }
     ensures numbers { Numbered number works.new.items }
     ensures houses { (k : ℕ) (d : _) → k < length works.old.items →
-        (slice_index_or works.new.items k d).pass.house ≡ (slice_index_or works.old.items k d).pass.house }
+        (slice_index_or works.new.items k d).seat.pass.house ≡ (slice_index_or works.old.items k d).seat.pass.house }
     ensures starts { (k : ℕ) (d : _) → k < length works.old.items →
-        (slice_index_or works.new.items k d).pass.start ≡ (slice_index_or works.old.items k d).pass.start }
+        (slice_index_or works.new.items k d).seat.pass.start ≡ (slice_index_or works.old.items k d).seat.pass.start }
     ensures length { vec_len works.new ≡ vec_len works.old }
 {
     thread::for_each_mut(
@@ -115,10 +117,13 @@ pub fn join_all<E: Engine + Drop>(
     'works: for work in works {
         let Work {
             number: _,
-            pass: other,
-            engine: theirs,
+            seat,
             told: answer,
         } = work;
+        let Seat {
+            pass: other,
+            engine: theirs,
+        } = seat;
         book.join_pass(pass, other);
         engine.join(theirs);
         match answer {

@@ -7,11 +7,11 @@ ghost use Rattle.rv_runs.specs.Works.{IsFresh, CanJoin, RanWhereTold};
 use rel_model::engine_trait::Engine;
 use rel_model::watch::Watch;
 use run_model::files::Loaded;
-use rv_sessions::{Transcript, run};
+use rv_sessions::{Seat, Setting, Transcript, run};
 use rv_workspace::Book;
 use std::alloc::Global;
 use std::sync::Wait;
-use turn_book::{Pass, TurnBook};
+use turn_book::TurnBook;
 
 /// What is added to the number of a session, where the watch is told of it.
 const SESSIONS: u32 = 1_000_000;
@@ -20,8 +20,7 @@ const SESSIONS: u32 = 1_000_000;
 #[derive(Drop)]
 pub struct Work<E: Engine> {
     pub number: u32,
-    pub pass: Pass<Book<E>>,
-    pub engine: E,
+    pub seat: Seat<E>,
     pub told: Option<Transcript>,
 }
 
@@ -47,23 +46,20 @@ pub fn run_work<R: Wait, E: Engine + Drop, W: Watch>(
         work.new }
     ensures joins { CanJoin E.worker book.now work.new }
     ensures number { work.new.number ≡ work.old.number }
-    ensures house { work.new.pass.house ≡ work.old.pass.house }
-    ensures start { work.new.pass.start ≡ work.old.pass.start }
+    ensures house { work.new.seat.pass.house ≡ work.old.seat.pass.house }
+    ensures start { work.new.seat.pass.start ≡ work.old.seat.pass.start }
 {
     let script = scripts[(work.number - number) as usize].as_slice();
     let piece = SESSIONS + work.number;
     watch.begins(piece);
-    let ran = run(
+    let setting = Setting {
         alloc,
-        work.number,
-        script,
         files,
         turns,
         book,
-        rt,
-        &mut work.pass,
-        &mut work.engine,
-    );
+        wait: rt,
+    };
+    let ran = run(&setting, work.number, script, &mut work.seat);
     watch.ends(piece);
     work.told = ran.ok();
 }

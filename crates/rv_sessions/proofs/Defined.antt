@@ -14,11 +14,10 @@ use Rattle.rv_sessions.specs.Doing.{Did}
 use Rattle.rv_sessions.specs.Standing.{Kept, KeptStand}
 use Rattle.rv_sessions.proofs.Asking.{defined}
 
-pub moved_all : {E : Type 0} (P : Item → E → PASS → Kept → Result Told LACK → Type 0) (i j : Item) (e f : E) (p q : PASS) (k l : Kept) (r t : Result Told LACK) →
-    i ≡ j → e ≡ f → p ≡ q → k ≡ l → r ≡ t → P j f q l t → P i e p k r
-moved_all P i j e f p q k l r t a b c d x h =
-    subst (λ y. P y e p k r) (sym a) (subst (λ y. P j y p k r) (sym b) (subst (λ y. P j f y k r) (sym c)
-    (subst (λ y. P j f q y r) (sym d) (subst (λ y. P j f q l y) (sym x) h))))
+pub moved_all : {S : Type 0} (P : Item → S → Kept → Result Told LACK → Type 0) (i j : Item) (e f : S) (k l : Kept) (r t : Result Told LACK) →
+    i ≡ j → e ≡ f → k ≡ l → r ≡ t → P j f l t → P i e k r
+moved_all P i j e f k l r t a b c d h =
+    subst (λ y. P y e k r) (sym a) (subst (λ y. P j y k r) (sym b) (subst (λ y. P j f y r) (sym c) (subst (λ y. P j f l y) (sym d) h)))
 
 module _ (leaf : ℕ) (input : Input) (script : Script) (s c : ℕ) where
   pub function_did : (at : _) (name : List ℕ) (params : _) (body : _) (w : Worker) (p : PASS) (snaps : Kept) → KeptStand w snaps →

@@ -95,7 +95,3 @@ module _ (leaf : ℕ) (input : Input) (s : ℕ) (bytes : List ℕ) where
   refused_bytes outcome w v (Ok told) (inr (reading, reads, is)) (one, other) =
       record { reading = reading; reads = reads; did = refused_reading leaf input s reading outcome w w v v told is one (idle w v) }
   refused_bytes outcome w v (Err lack) reads told = tt
-
--- a claim of three things is moved to their names
-pub moved_three : {E P R : Type 0} (C : E → P → R → Type 0) (e f : E) (p q : P) (r t : R) → e ≡ f → p ≡ q → r ≡ t → C f q t → C e p r
-moved_three C e f p q r t a b c h = subst (λ y. C y p r) (sym a) (subst (λ y. C f y r) (sym b) (subst (λ y. C f q y) (sym c) h))

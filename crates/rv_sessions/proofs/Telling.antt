@@ -152,9 +152,3 @@ pub refused_did : (leaf : ℕ) (input : Input) (script : Script) (s c : ℕ) (it
     Did leaf input script s c item old new before after snaps left NO_MEMORY (prefix s c ++ refusal_text NO_MEMORY) [] → DidItem leaf input script s c item old new before after snaps left r
 refused_did leaf input script s c item old new before after snaps left o (Ok told) t p q = as_told (Did leaf input script s c item old new before after snaps left) s c o told t p
 refused_did leaf input script s c item old new before after snaps left o (Err lack) t p q = q
-
--- what is so of a worker, a pass and an answer is so of those that are the same
-pub moved : {E : Type 0} (P : E → PASS → Result Told LACK → Type 0) (e f : E) (p q : PASS) (r t : Result Told LACK) →
-    e ≡ f → p ≡ q → r ≡ t → P f q t → P e p r
-moved P e f p q r t a b c h =
-    subst (λ x. P x p r) (sym a) (subst (λ x. P f x r) (sym b) (subst (λ x. P f q x) (sym c) h))

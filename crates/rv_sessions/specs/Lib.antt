@@ -4,6 +4,7 @@ pub mod Told
 pub mod Listed
 pub mod Reading
 pub mod Keeping
+pub mod Seated
 pub mod Turning
 pub mod Valuing
 pub mod Showing

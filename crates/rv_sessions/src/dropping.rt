@@ -9,7 +9,8 @@ ghost use Rattle.lang_model.specs.declared.syntax.Script.{Script as SCRIPT};
 ghost use Rattle.lang_model.specs.declared.syntax.Item.TheVariants.{Command as COMMAND};
 ghost use Rattle.lang_model.specs.declared.syntax.Command.TheVariants.{Remove as DROP, Snap as SNAP, At as AT};
 ghost use Rattle.run_model.specs.Inputs.{Input};
-ghost use Rattle.turn_book.specs.Views.{View as PASS, IsReady};
+ghost use Rattle.turn_book.specs.Views.{View as PASS};
+ghost use Rattle.rv_sessions.specs.Seated.{IsSeated};
 ghost use Rattle.rv_sessions.specs.Acting.{DidItem};
 ghost use Rattle.rv_sessions.specs.Standing.{Kept, KeptStand};
 ghost use Rattle.rv_workspace.specs.Books.{AllNamesStand};
@@ -17,7 +18,9 @@ ghost use Rattle.rv_sessions.specs.Telling.{TellsRefusal};
 
 use crate::by::By;
 use crate::form::Form;
+use crate::seat::Seat;
 use crate::snapshots::Snapshots;
+use crate::task::Task;
 use crate::told::{Told, refused};
 use crate::transcript::Reply;
 use crate::turns::{drop_turn, read_turn};
@@ -27,33 +30,31 @@ use lang_model::syntax::{Expr, Name, Place};
 use rel_model::NoMemory;
 use rel_model::engine_trait::Engine;
 use run_model::outcome::Outcome;
-use rv_types::Checked;
-use rv_workspace::{Book, DropRefused, View};
+use rv_workspace::{DropRefused, View};
 use std::alloc::Global;
 use std::sync::Wait;
-use turn_book::{Pass, TurnBook};
 
 /// Runs DROP: the removal of a name, or one read where there is no such name.
 pub(crate) fn drop_name<E: Engine, W: Wait>(
-    alloc: Global,
-    by: By,
-    book: &TurnBook<Book<E>>,
-    wait: &W,
-    pass: &mut Pass<Book<E>>,
-    engine: &mut E,
+    task: &Task<'_, E, W>,
+    seat: &mut Seat<E>,
     at: Place,
     name: &Name,
 ) -> Result<Told, NoMemory>
-    requires ready { IsReady book.now pass.old }
-    requires kin { pass.old.house ≡ (E.worker engine.old).house }
-    ensures { (input : Input) (script : SCRIPT) (snaps : Kept) → KeptStand (E.worker engine.old) snaps →
-        DidItem E.least input script by.session by.command (COMMAND (DROP at name.now)) (E.worker engine.old)
-        (E.worker engine.new) pass.old pass.new snaps snaps result }
+    requires seated { IsSeated E.worker task.now.book.now seat.old }
+    ensures { (input : Input) (script : SCRIPT) (snaps : Kept) →
+        KeptStand (E.worker seat.old.engine) snaps → DidItem E.least input script task.now.by.session
+        task.now.by.command (COMMAND (DROP at name.now)) (E.worker seat.old.engine) (E.worker seat.new.engine)
+        seat.old.pass seat.new.pass snaps snaps result }
 {
-    match drop_turn(alloc, by, book, wait, pass, engine, name) {
+    match drop_turn(task, seat, name) {
         Ok(()) => Ok(Told::done()),
         Err(DropRefused::Unknown { name }) => {
-            refused(alloc, by, Outcome::Ill(TypeFault::Unknown { at, name }))
+            refused(
+                task.alloc,
+                task.by,
+                Outcome::Ill(TypeFault::Unknown { at, name }),
+            )
         }
         Err(DropRefused::NoMemory) => Err(NoMemory),
     }
@@ -61,28 +62,23 @@ pub(crate) fn drop_name<E: Engine, W: Wait>(
 
 /// Runs SNAP: one read of all names, which are kept under a name.
 pub(crate) fn snap<E: Engine, W: Wait>(
-    alloc: Global,
-    by: By,
-    book: &TurnBook<Book<E>>,
-    wait: &W,
-    pass: &mut Pass<Book<E>>,
-    engine: &mut E,
+    task: &Task<'_, E, W>,
+    seat: &mut Seat<E>,
     snaps: &mut Snapshots,
     name: &Name,
 ) -> Result<Told, NoMemory>
-    requires ready { IsReady book.now pass.old }
-    requires kin { pass.old.house ≡ (E.worker engine.old).house }
-    requires stood { KeptStand (E.worker engine.old) snaps.old }
-    ensures { (input : Input) (script : SCRIPT) →
-        DidItem E.least input script by.session by.command (COMMAND (SNAP name.now)) (E.worker engine.old)
-        (E.worker engine.new) pass.old pass.new snaps.old snaps.new result }
+    requires seated { IsSeated E.worker task.now.book.now seat.old }
+    requires stood { KeptStand (E.worker seat.old.engine) snaps.old }
+    ensures { (input : Input) (script : SCRIPT) → DidItem E.least input script task.now.by.session task.now.by.command
+        (COMMAND (SNAP name.now)) (E.worker seat.old.engine) (E.worker seat.new.engine) seat.old.pass seat.new.pass
+        snaps.old snaps.new result }
 {
-    let _ = &pass;
+    let _ = &seat.pass;
     let _ = &snaps;
-    let Ok(own) = name.copied(alloc) else {
+    let Ok(own) = name.copied(task.alloc) else {
         return Err(NoMemory);
     };
-    let view = match read_turn(alloc, by, book, wait, pass, engine, None) {
+    let view = match read_turn(task, seat, None) {
         Ok(view) => view,
         Err(lack) => return Err(lack),
     };
@@ -93,40 +89,30 @@ pub(crate) fn snap<E: Engine, W: Wait>(
 }
 
 /// The matrix of a value on kept names.
-fn show_kept<E: Engine>(
-    alloc: Global,
-    by: By,
-    checked: &Checked,
-    turns: u64,
+fn show_kept<E: Engine, W>(
+    task: &Task<'_, E, W>,
     engine: &mut E,
     view: &View,
     expr: &Expr,
 ) -> Result<Told, NoMemory>
     requires stood { AllNamesStand (E.worker engine.old) view.now.names.items }
-    ensures { (input : Input) (pass : PASS) (snaps : Kept) (at : PLACE) (name : List ℕ) → input.turns ≡ turns →
-        KeptStand (E.worker engine.old) snaps → lookup snaps name ≡ Some view.now.names.items →
-        DidItem E.least input checked.now by.session by.command (COMMAND (AT at name expr.now)) (E.worker engine.old)
-        (E.worker engine.new) pass pass snaps snaps result }
+    ensures { (input : Input) (pass : PASS) (snaps : Kept) (at : PLACE) (name : List ℕ) →
+        input.turns ≡ task.now.turns → KeptStand (E.worker engine.old) snaps →
+        lookup snaps name ≡ Some view.now.names.items → DidItem E.least input task.now.checked.now task.now.by.session
+        task.now.by.command (COMMAND (AT at name expr.now)) (E.worker engine.old) (E.worker engine.new) pass pass
+        snaps snaps result }
 {
-    match shown_on(
-        alloc,
-        engine,
-        checked,
-        turns,
-        view.names.as_slice(),
-        Form::Matrix,
-        expr,
-    ) {
+    match shown_on(task, engine, view.names.as_slice(), Form::Matrix, expr) {
         Ok(body) => Ok(Told {
             outcome: Outcome::Done,
             reply: Reply::Told {
-                session: by.session,
-                command: by.command,
+                session: task.by.session,
+                command: task.by.command,
                 body,
             },
             save: None,
         }),
-        Err(outcome) => refused(alloc, by, outcome),
+        Err(outcome) => refused(task.alloc, task.by, outcome),
     }
 }
 
@@ -139,11 +125,8 @@ fn unknown(alloc: Global, by: By, at: Place, name: &Name) -> Result<Told, NoMemo
 }
 
 /// Runs AT: the matrix of a value on a snapshot, without a turn.
-pub(crate) fn show_at<E: Engine>(
-    alloc: Global,
-    by: By,
-    checked: &Checked,
-    turns: u64,
+pub(crate) fn show_at<E: Engine, W>(
+    task: &Task<'_, E, W>,
     engine: &mut E,
     snaps: &Snapshots,
     at: Place,
@@ -151,13 +134,14 @@ pub(crate) fn show_at<E: Engine>(
     expr: &Expr,
 ) -> Result<Told, NoMemory>
     requires stood { KeptStand (E.worker engine.old) snaps.now }
-    ensures { (input : Input) (pass : PASS) → input.turns ≡ turns →
-        DidItem E.least input checked.now by.session by.command (COMMAND (AT at name.now expr.now))
-        (E.worker engine.old) (E.worker engine.new) pass pass snaps.now snaps.now result }
+    ensures { (input : Input) (pass : PASS) → input.turns ≡ task.now.turns →
+        DidItem E.least input task.now.checked.now task.now.by.session task.now.by.command
+        (COMMAND (AT at name.now expr.now)) (E.worker engine.old) (E.worker engine.new) pass pass snaps.now snaps.now
+        result }
 {
     let _ = engine.bottom();
     match snaps.get(name) {
-        Some(view) => show_kept(alloc, by, checked, turns, engine, view, expr),
-        None => unknown(alloc, by, at, name),
+        Some(view) => show_kept(task, engine, view, expr),
+        None => unknown(task.alloc, task.by, at, name),
     }
 }

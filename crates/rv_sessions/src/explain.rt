@@ -7,14 +7,15 @@ ghost use Rattle.lang_model.specs.Trees.{tree_of};
 ghost use Rattle.lang_model.specs.Rewriting.{steps_of};
 ghost use Rattle.lang_model.specs.Eval.{early_fault};
 ghost use Rattle.run_model.specs.Inputs.{Input};
-ghost use Rattle.turn_book.specs.Views.{IsReady};
+ghost use Rattle.rv_sessions.specs.Seated.{IsSeated};
 ghost use Rattle.rv_eval.specs.Names.{HasSizes, AllStand, state_of};
 ghost use Rattle.rv_sessions.specs.Acting.{DidItem};
 ghost use Rattle.rv_sessions.specs.Showing.{CameExplained};
 ghost use Rattle.rv_sessions.specs.Standing.{Kept, KeptStand};
 ghost use Rattle.rv_sessions.specs.Told.{bytes_of};
 
-use crate::by::By;
+use crate::seat::Seat;
+use crate::task::Task;
 use crate::told::{Told, refused};
 use crate::transcript::Reply;
 use crate::turns::read_turn;
@@ -27,10 +28,8 @@ use rv_blocks::names_in;
 use rv_eval::explain;
 use rv_print::steps_text;
 use rv_types::Checked;
-use rv_workspace::Book;
 use std::alloc::Global;
 use std::sync::Wait;
-use turn_book::{Pass, TurnBook};
 
 /// The text of the steps by which an expression on names is rewritten, or why there is none.
 fn explained_on(
@@ -54,39 +53,34 @@ fn explained_on(
 
 /// Runs EXPLAIN: one read, and the steps of rewriting. Nothing is evaluated.
 pub(crate) fn explained<E: Engine, W: Wait>(
-    alloc: Global,
-    by: By,
-    checked: &Checked,
-    book: &TurnBook<Book<E>>,
-    wait: &W,
-    pass: &mut Pass<Book<E>>,
-    engine: &mut E,
+    task: &Task<'_, E, W>,
+    seat: &mut Seat<E>,
     expr: &Expr,
 ) -> Result<Told, NoMemory>
-    requires ready { IsReady book.now pass.old }
-    requires kin { pass.old.house ≡ (E.worker engine.old).house }
-    ensures { (input : Input) (snaps : Kept) → KeptStand (E.worker engine.old) snaps →
-        DidItem E.least input checked.now by.session by.command (COMMAND (EXPLAIN expr.now)) (E.worker engine.old)
-        (E.worker engine.new) pass.old pass.new snaps snaps result }
+    requires seated { IsSeated E.worker task.now.book.now seat.old }
+    ensures { (input : Input) (snaps : Kept) → KeptStand (E.worker seat.old.engine) snaps →
+        DidItem E.least input task.now.checked.now task.now.by.session task.now.by.command
+        (COMMAND (EXPLAIN expr.now)) (E.worker seat.old.engine) (E.worker seat.new.engine) seat.old.pass seat.new.pass
+        snaps snaps result }
 {
-    let _ = &pass;
-    let Ok(wanted) = names_in(alloc, expr) else {
+    let _ = &seat.pass;
+    let Ok(wanted) = names_in(task.alloc, expr) else {
         return Err(NoMemory);
     };
-    let view = match read_turn(alloc, by, book, wait, pass, engine, Some(wanted.as_slice())) {
+    let view = match read_turn(task, seat, Some(wanted.as_slice())) {
         Ok(view) => view,
         Err(lack) => return Err(lack),
     };
-    match explained_on(alloc, checked, view.names.as_slice(), expr) {
+    match explained_on(task.alloc, task.checked, view.names.as_slice(), expr) {
         Ok(body) => Ok(Told {
             outcome: Outcome::Done,
             reply: Reply::Told {
-                session: by.session,
-                command: by.command,
+                session: task.by.session,
+                command: task.by.command,
                 body,
             },
             save: None,
         }),
-        Err(outcome) => refused(alloc, by, outcome),
+        Err(outcome) => refused(task.alloc, task.by, outcome),
     }
 }

@@ -7,12 +7,14 @@ ghost use Rattle.lang_model.specs.declared.syntax.Script.{Script as SCRIPT};
 ghost use Rattle.lang_model.specs.declared.syntax.Item.TheVariants.{Command as COMMAND};
 ghost use Rattle.lang_model.specs.declared.syntax.Command.TheVariants.{Let as LET, Relation as RELATION};
 ghost use Rattle.run_model.specs.Inputs.{Input};
-ghost use Rattle.turn_book.specs.Views.{IsReady, IsKept};
+ghost use Rattle.turn_book.specs.Views.{IsKept};
+ghost use Rattle.rv_sessions.specs.Seated.{IsSeated};
 ghost use Rattle.rv_sessions.specs.Acting.{ValuedInTurn, DidItem};
 ghost use Rattle.rv_sessions.specs.Standing.{Kept, KeptStand};
 
-use crate::by::By;
 use crate::listing::{first_over, listed};
+use crate::seat::Seat;
+use crate::task::Task;
 use crate::told::{Told, refused};
 use crate::turns::{assign_turn, read_turn};
 use crate::value::value_on;
@@ -21,70 +23,53 @@ use rel_model::engine_trait::Engine;
 use rel_model::{Lack, NoMemory, Rel, Shape};
 use run_model::outcome::Outcome;
 use rv_blocks::names_in;
-use rv_types::Checked;
-use rv_workspace::Book;
-use std::alloc::Global;
 use std::sync::Wait;
-use turn_book::{Pass, TurnBook};
 
 /// Reads the names of an expression in a turn, and gives its value.
 fn value_in_turn<E: Engine, W: Wait>(
-    alloc: Global,
-    by: By,
-    checked: &Checked,
-    turns: u64,
-    book: &TurnBook<Book<E>>,
-    wait: &W,
-    pass: &mut Pass<Book<E>>,
-    engine: &mut E,
+    task: &Task<'_, E, W>,
+    seat: &mut Seat<E>,
     expr: &Expr,
 ) -> Result<Rel, Outcome>
-    requires ready { IsReady book.now pass.old }
-    requires kin { pass.old.house ≡ (E.worker engine.old).house }
-    ensures value { (input : Input) → input.turns ≡ turns →
-        ValuedInTurn E.least input checked.now by.session by.command expr.now (E.worker engine.old)
-        (E.worker engine.new) pass.old pass.new result }
-    ensures kept { IsKept pass.old pass.new }
-    ensures keeps { Keeps (E.worker engine.old) (E.worker engine.new) }
+    requires seated { IsSeated E.worker task.now.book.now seat.old }
+    ensures value { (input : Input) → input.turns ≡ task.now.turns →
+        ValuedInTurn E.least input task.now.checked.now task.now.by.session task.now.by.command expr.now
+        (E.worker seat.old.engine) (E.worker seat.new.engine) seat.old.pass seat.new.pass result }
+    ensures kept { IsKept seat.old.pass seat.new.pass }
+    ensures keeps { Keeps (E.worker seat.old.engine) (E.worker seat.new.engine) }
 {
-    let _ = &pass;
-    let Ok(wanted) = names_in(alloc, expr) else {
+    let _ = &seat.pass;
+    let Ok(wanted) = names_in(task.alloc, expr) else {
         return Err(Outcome::NoMemory);
     };
-    match read_turn(alloc, by, book, wait, pass, engine, Some(wanted.as_slice())) {
-        Ok(view) => value_on(alloc, engine, checked, turns, view.names.as_slice(), expr),
+    match read_turn(task, seat, Some(wanted.as_slice())) {
+        Ok(view) => value_on(task, &mut seat.engine, view.names.as_slice(), expr),
         Err(NoMemory) => Err(Outcome::NoMemory),
     }
 }
 
 /// Runs LET: one read, and the assignment of the value.
 pub(crate) fn let_value<E: Engine, W: Wait>(
-    alloc: Global,
-    by: By,
-    checked: &Checked,
-    turns: u64,
-    book: &TurnBook<Book<E>>,
-    wait: &W,
-    pass: &mut Pass<Book<E>>,
-    engine: &mut E,
+    task: &Task<'_, E, W>,
+    seat: &mut Seat<E>,
     name: &Name,
     expr: &Expr,
 ) -> Result<Told, NoMemory>
-    requires ready { IsReady book.now pass.old }
-    requires kin { pass.old.house ≡ (E.worker engine.old).house }
-    ensures { (input : Input) (snaps : Kept) → input.turns ≡ turns → KeptStand (E.worker engine.old) snaps →
-        DidItem E.least input checked.now by.session by.command (COMMAND (LET name.now expr.now)) (E.worker engine.old)
-        (E.worker engine.new) pass.old pass.new snaps snaps result }
+    requires seated { IsSeated E.worker task.now.book.now seat.old }
+    ensures { (input : Input) (snaps : Kept) → input.turns ≡ task.now.turns →
+        KeptStand (E.worker seat.old.engine) snaps → DidItem E.least input task.now.checked.now task.now.by.session
+        task.now.by.command (COMMAND (LET name.now expr.now)) (E.worker seat.old.engine) (E.worker seat.new.engine)
+        seat.old.pass seat.new.pass snaps snaps result }
 {
-    let _ = &pass;
-    let Ok(own) = name.copied(alloc) else {
+    let _ = &seat.pass;
+    let Ok(own) = name.copied(task.alloc) else {
         return Err(NoMemory);
     };
-    let rel = match value_in_turn(alloc, by, checked, turns, book, wait, pass, engine, expr) {
+    let rel = match value_in_turn(task, seat, expr) {
         Ok(rel) => rel,
-        Err(outcome) => return refused(alloc, by, outcome),
+        Err(outcome) => return refused(task.alloc, task.by, outcome),
     };
-    match assign_turn(alloc, by, book, wait, pass, engine, own, rel) {
+    match assign_turn(task, seat, own, rel) {
         Ok(()) => Ok(Told::done()),
         Err(lack) => Err(lack),
     }
@@ -92,12 +77,8 @@ pub(crate) fn let_value<E: Engine, W: Wait>(
 
 /// Gives a name the relation that is listed, of which no number passes its limit.
 fn listed_relation<E: Engine, W: Wait>(
-    alloc: Global,
-    by: By,
-    book: &TurnBook<Book<E>>,
-    wait: &W,
-    pass: &mut Pass<Book<E>>,
-    engine: &mut E,
+    task: &Task<'_, E, W>,
+    seat: &mut Seat<E>,
     name: &Name,
     rows: u64,
     rows_at: Place,
@@ -105,43 +86,38 @@ fn listed_relation<E: Engine, W: Wait>(
     cols_at: Place,
     list: &Vec<Row>,
 ) -> Result<Told, NoMemory>
-    requires ready { IsReady book.now pass.old }
-    requires kin { pass.old.house ≡ (E.worker engine.old).house }
+    requires seated { IsSeated E.worker task.now.book.now seat.old }
     requires within { listing_over rows rows_at cols cols_at list.now.items ≡ None }
     requires row_limit { rows ≤ size_limit }
     requires col_limit { cols ≤ size_limit }
-    ensures { (input : Input) (script : SCRIPT) (snaps : Kept) → KeptStand (E.worker engine.old) snaps →
-        DidItem E.least input script by.session by.command
-        (COMMAND (RELATION name.now rows rows_at cols cols_at list.now)) (E.worker engine.old)
-        (E.worker engine.new) pass.old pass.new snaps snaps result }
+    ensures { (input : Input) (script : SCRIPT) (snaps : Kept) → KeptStand (E.worker seat.old.engine) snaps →
+        DidItem E.least input script task.now.by.session task.now.by.command
+        (COMMAND (RELATION name.now rows rows_at cols cols_at list.now)) (E.worker seat.old.engine)
+        (E.worker seat.new.engine) seat.old.pass seat.new.pass snaps snaps result }
 {
-    let _ = &pass;
-    let _ = engine.bottom();
-    let Ok(own) = name.copied(alloc) else {
+    let _ = &seat.pass;
+    let _ = seat.engine.bottom();
+    let Ok(own) = name.copied(task.alloc) else {
         return Err(NoMemory);
     };
     let shape = Shape {
         rows: rows as u32,
         cols: cols as u32,
     };
-    match listed(alloc, engine, shape, list.as_slice()) {
-        Ok(rel) => match assign_turn(alloc, by, book, wait, pass, engine, own, rel) {
+    match listed(task.alloc, &mut seat.engine, shape, list.as_slice()) {
+        Ok(rel) => match assign_turn(task, seat, own, rel) {
             Ok(()) => Ok(Told::done()),
             Err(lack) => Err(lack),
         },
-        Err(Lack::Full) => refused(alloc, by, Outcome::Nodes),
+        Err(Lack::Full) => refused(task.alloc, task.by, Outcome::Nodes),
         Err(Lack::NoMemory) => Err(NoMemory),
     }
 }
 
 /// Runs REL: the assignment of the listed relation, or the first number that passes its limit.
 pub(crate) fn relation<E: Engine, W: Wait>(
-    alloc: Global,
-    by: By,
-    book: &TurnBook<Book<E>>,
-    wait: &W,
-    pass: &mut Pass<Book<E>>,
-    engine: &mut E,
+    task: &Task<'_, E, W>,
+    seat: &mut Seat<E>,
     name: &Name,
     rows: u64,
     rows_at: Place,
@@ -149,20 +125,15 @@ pub(crate) fn relation<E: Engine, W: Wait>(
     cols_at: Place,
     list: &Vec<Row>,
 ) -> Result<Told, NoMemory>
-    requires ready { IsReady book.now pass.old }
-    requires kin { pass.old.house ≡ (E.worker engine.old).house }
-    ensures { (input : Input) (script : SCRIPT) (snaps : Kept) → KeptStand (E.worker engine.old) snaps →
-        DidItem E.least input script by.session by.command
-        (COMMAND (RELATION name.now rows rows_at cols cols_at list.now)) (E.worker engine.old)
-        (E.worker engine.new) pass.old pass.new snaps snaps result }
+    requires seated { IsSeated E.worker task.now.book.now seat.old }
+    ensures { (input : Input) (script : SCRIPT) (snaps : Kept) → KeptStand (E.worker seat.old.engine) snaps →
+        DidItem E.least input script task.now.by.session task.now.by.command
+        (COMMAND (RELATION name.now rows rows_at cols cols_at list.now)) (E.worker seat.old.engine)
+        (E.worker seat.new.engine) seat.old.pass seat.new.pass snaps snaps result }
 {
-    let _ = &pass;
+    let _ = &seat.pass;
     match first_over(rows, rows_at, cols, cols_at, list.as_slice()) {
-        Some(outcome) => refused(alloc, by, outcome),
-        None => {
-            listed_relation(
-                alloc, by, book, wait, pass, engine, name, rows, rows_at, cols, cols_at, list,
-            )
-        }
+        Some(outcome) => refused(task.alloc, task.by, outcome),
+        None => { listed_relation(task, seat, name, rows, rows_at, cols, cols_at, list) }
     }
 }

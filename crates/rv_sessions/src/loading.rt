@@ -8,7 +8,7 @@ ghost use Rattle.run_model.specs.Cost.{where_value, where_values, cost_of_loaded
 ghost use Rattle.run_model.specs.Filed.{file_of};
 ghost use Rattle.run_model.specs.Inputs.{Input, file_named};
 ghost use Rattle.run_model.specs.declared.outcome.Outcome.TheVariants.{NoFile as NO_FILE, BadFile as BAD_FILE};
-ghost use Rattle.turn_book.specs.Views.{IsReady};
+ghost use Rattle.rv_sessions.specs.Seated.{IsSeated};
 ghost use Rattle.rv_sessions.specs.Acting.{DidItem};
 ghost use Rattle.rv_sessions.specs.Reading.{lack_in, outcome_of_file, ReadOne, ReadAll, due_of_one_in, due_of_all_in};
 ghost use Rattle.rv_sessions.specs.Standing.{Kept, KeptStand};
@@ -16,6 +16,8 @@ ghost use Rattle.rv_sessions.specs.Telling.{TellsRefusal};
 
 use crate::by::By;
 use crate::files::file_named;
+use crate::seat::Seat;
+use crate::task::Task;
 use crate::told::{Told, refused};
 use crate::turns::{assign_all_turn, assign_turn};
 use k2_file::read_k2;
@@ -24,12 +26,9 @@ use k2_read::{read_k2_all, read_k2_named};
 use lang_model::syntax::{FileText, Name};
 use rel_model::engine_trait::Engine;
 use rel_model::{Lack, NoMemory, Rel};
-use run_model::files::Loaded;
 use run_model::outcome::{BadFile, Outcome};
-use rv_workspace::Book;
 use std::alloc::Global;
 use std::sync::Wait;
-use turn_book::{Pass, TurnBook};
 
 /// What was wanting where bytes were not read, if they have no fault.
 fn lack_of(kind: BadFile) -> Option<Lack>
@@ -110,33 +109,28 @@ fn read_all<E: Engine>(
 
 /// Gives a name the relation of a file's bytes.
 fn loaded<E: Engine, W: Wait>(
-    alloc: Global,
-    by: By,
-    book: &TurnBook<Book<E>>,
-    wait: &W,
-    pass: &mut Pass<Book<E>>,
-    engine: &mut E,
+    task: &Task<'_, E, W>,
+    seat: &mut Seat<E>,
     name: &Name,
     file: &FileText,
     bytes: &[u8],
 ) -> Result<Told, NoMemory>
-    requires ready { IsReady book.now pass.old }
-    requires kin { pass.old.house ≡ (E.worker engine.old).house }
-    ensures { (input : Input) (script : SCRIPT) (snaps : Kept) → file_named input.files file.now ≡ Some bytes.now →
-        KeptStand (E.worker engine.old) snaps →
-        DidItem E.least input script by.session by.command (COMMAND (LOAD name.now file.now)) (E.worker engine.old)
-        (E.worker engine.new) pass.old pass.new snaps snaps result }
+    requires seated { IsSeated E.worker task.now.book.now seat.old }
+    ensures { (input : Input) (script : SCRIPT) (snaps : Kept) →
+        file_named input.files file.now ≡ Some bytes.now → KeptStand (E.worker seat.old.engine) snaps →
+        DidItem E.least input script task.now.by.session task.now.by.command (COMMAND (LOAD name.now file.now))
+        (E.worker seat.old.engine) (E.worker seat.new.engine) seat.old.pass seat.new.pass snaps snaps result }
 {
-    let _ = &pass;
-    let _ = engine.bottom();
-    let Ok(own) = name.copied(alloc) else {
+    let _ = &seat.pass;
+    let _ = seat.engine.bottom();
+    let Ok(own) = name.copied(task.alloc) else {
         return Err(NoMemory);
     };
-    let rel = match read_one(alloc, engine, name, bytes) {
+    let rel = match read_one(task.alloc, &mut seat.engine, name, bytes) {
         Ok(rel) => rel,
-        Err(kind) => return not_read(alloc, by, file, kind),
+        Err(kind) => return not_read(task.alloc, task.by, file, kind),
     };
-    match assign_turn(alloc, by, book, wait, pass, engine, own, rel) {
+    match assign_turn(task, seat, own, rel) {
         Ok(()) => Ok(Told::done()),
         Err(lack) => Err(lack),
     }
@@ -144,29 +138,24 @@ fn loaded<E: Engine, W: Wait>(
 
 /// Gives each name of a file's bytes its relation.
 fn loaded_all<E: Engine, W: Wait>(
-    alloc: Global,
-    by: By,
-    book: &TurnBook<Book<E>>,
-    wait: &W,
-    pass: &mut Pass<Book<E>>,
-    engine: &mut E,
+    task: &Task<'_, E, W>,
+    seat: &mut Seat<E>,
     file: &FileText,
     bytes: &[u8],
 ) -> Result<Told, NoMemory>
-    requires ready { IsReady book.now pass.old }
-    requires kin { pass.old.house ≡ (E.worker engine.old).house }
-    ensures { (input : Input) (script : SCRIPT) (snaps : Kept) → file_named input.files file.now ≡ Some bytes.now →
-        KeptStand (E.worker engine.old) snaps →
-        DidItem E.least input script by.session by.command (COMMAND (LOAD_ALL file.now)) (E.worker engine.old)
-        (E.worker engine.new) pass.old pass.new snaps snaps result }
+    requires seated { IsSeated E.worker task.now.book.now seat.old }
+    ensures { (input : Input) (script : SCRIPT) (snaps : Kept) →
+        file_named input.files file.now ≡ Some bytes.now → KeptStand (E.worker seat.old.engine) snaps →
+        DidItem E.least input script task.now.by.session task.now.by.command (COMMAND (LOAD_ALL file.now))
+        (E.worker seat.old.engine) (E.worker seat.new.engine) seat.old.pass seat.new.pass snaps snaps result }
 {
-    let _ = &pass;
-    let _ = engine.bottom();
-    let list = match read_all(alloc, engine, bytes) {
+    let _ = &seat.pass;
+    let _ = seat.engine.bottom();
+    let list = match read_all(task.alloc, &mut seat.engine, bytes) {
         Ok(list) => list,
-        Err(kind) => return not_read(alloc, by, file, kind),
+        Err(kind) => return not_read(task.alloc, task.by, file, kind),
     };
-    match assign_all_turn(alloc, by, book, wait, pass, engine, list) {
+    match assign_all_turn(task, seat, list) {
         Ok(()) => Ok(Told::done()),
         Err(lack) => Err(lack),
     }
@@ -182,51 +171,39 @@ fn no_file(alloc: Global, by: By, file: &FileText) -> Result<Told, NoMemory>
 
 /// Runs LOAD: the assignment of the relation of the first file of a name.
 pub(crate) fn load<E: Engine, W: Wait>(
-    alloc: Global,
-    by: By,
-    files: &[Loaded],
-    book: &TurnBook<Book<E>>,
-    wait: &W,
-    pass: &mut Pass<Book<E>>,
-    engine: &mut E,
+    task: &Task<'_, E, W>,
+    seat: &mut Seat<E>,
     name: &Name,
     file: &FileText,
 ) -> Result<Told, NoMemory>
-    requires ready { IsReady book.now pass.old }
-    requires kin { pass.old.house ≡ (E.worker engine.old).house }
-    ensures { (input : Input) (script : SCRIPT) (snaps : Kept) → input.files ≡ map file_of files.now
-        → KeptStand (E.worker engine.old) snaps →
-        DidItem E.least input script by.session by.command (COMMAND (LOAD name.now file.now)) (E.worker engine.old)
-        (E.worker engine.new) pass.old pass.new snaps snaps result }
+    requires seated { IsSeated E.worker task.now.book.now seat.old }
+    ensures { (input : Input) (script : SCRIPT) (snaps : Kept) →
+        input.files ≡ map file_of task.now.files.now → KeptStand (E.worker seat.old.engine) snaps →
+        DidItem E.least input script task.now.by.session task.now.by.command (COMMAND (LOAD name.now file.now))
+        (E.worker seat.old.engine) (E.worker seat.new.engine) seat.old.pass seat.new.pass snaps snaps result }
 {
-    let _ = &pass;
-    match file_named(files, file.bytes()) {
-        Some(bytes) => loaded(alloc, by, book, wait, pass, engine, name, file, bytes),
-        None => no_file(alloc, by, file),
+    let _ = &seat.pass;
+    match file_named(task.files, file.bytes()) {
+        Some(bytes) => loaded(task, seat, name, file, bytes),
+        None => no_file(task.alloc, task.by, file),
     }
 }
 
 /// Runs LOAD ALL: the assignments of all relations of the first file of a name, in one turn.
 pub(crate) fn load_all<E: Engine, W: Wait>(
-    alloc: Global,
-    by: By,
-    files: &[Loaded],
-    book: &TurnBook<Book<E>>,
-    wait: &W,
-    pass: &mut Pass<Book<E>>,
-    engine: &mut E,
+    task: &Task<'_, E, W>,
+    seat: &mut Seat<E>,
     file: &FileText,
 ) -> Result<Told, NoMemory>
-    requires ready { IsReady book.now pass.old }
-    requires kin { pass.old.house ≡ (E.worker engine.old).house }
-    ensures { (input : Input) (script : SCRIPT) (snaps : Kept) → input.files ≡ map file_of files.now
-        → KeptStand (E.worker engine.old) snaps →
-        DidItem E.least input script by.session by.command (COMMAND (LOAD_ALL file.now)) (E.worker engine.old)
-        (E.worker engine.new) pass.old pass.new snaps snaps result }
+    requires seated { IsSeated E.worker task.now.book.now seat.old }
+    ensures { (input : Input) (script : SCRIPT) (snaps : Kept) →
+        input.files ≡ map file_of task.now.files.now → KeptStand (E.worker seat.old.engine) snaps →
+        DidItem E.least input script task.now.by.session task.now.by.command (COMMAND (LOAD_ALL file.now))
+        (E.worker seat.old.engine) (E.worker seat.new.engine) seat.old.pass seat.new.pass snaps snaps result }
 {
-    let _ = &pass;
-    match file_named(files, file.bytes()) {
-        Some(bytes) => loaded_all(alloc, by, book, wait, pass, engine, file, bytes),
-        None => no_file(alloc, by, file),
+    let _ = &seat.pass;
+    match file_named(task.files, file.bytes()) {
+        Some(bytes) => loaded_all(task, seat, file, bytes),
+        None => no_file(task.alloc, task.by, file),
     }
 }

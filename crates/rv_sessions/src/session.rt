@@ -3,7 +3,8 @@ ghost use Rattle.std.specs.Prelude.{◌≡◌, ◌≢◌, ◌≤◌, ◌<◌, �
 ghost use Rattle.rel_model.specs.Worker.{Keeps};
 ghost use Rattle.lang_model.specs.Limits.{script_limit};
 ghost use Rattle.run_model.specs.declared.outcome.Outcome.TheVariants.{Done, NoMemory as NO_MEMORY};
-ghost use Rattle.turn_book.specs.Views.{IsReady, IsKept};
+ghost use Rattle.turn_book.specs.Views.{IsKept};
+ghost use Rattle.rv_sessions.specs.Seated.{IsSeated};
 ghost use Rattle.run_model.specs.Filed.{saved_all};
 ghost use Rattle.rv_sessions.specs.Telling.{input_of, texts_of};
 ghost use Rattle.rv_sessions.specs.Noting.{IsBare, TellsOne, outcome_in, text_in, saved_in};
@@ -13,21 +14,21 @@ ghost use Rattle.rv_sessions.specs.Standing.{Kept};
 
 use crate::by::By;
 use crate::item::run_item;
+use crate::seat::Seat;
+use crate::setting::Setting;
 use crate::snapshots::Snapshots;
+use crate::task::Task;
 use crate::told::Told;
 use crate::transcript::{Reply, Transcript};
 use lang_model::faults::{ParseFault, TypeFault};
 use rel_model::NoMemory;
 use rel_model::engine_trait::Engine;
-use run_model::files::Loaded;
 use run_model::outcome::Outcome;
 use rv_parse::parse;
 use rv_print::fault_text;
 use rv_types::{Checked, check};
-use rv_workspace::Book;
 use std::alloc::Global;
 use std::sync::Wait;
-use turn_book::{Pass, TurnBook};
 
 /// Notes what an item came to. It takes no memory.
 fn note(by: By, told: Result<Told, NoMemory>, lists: &mut Transcript)
@@ -71,37 +72,37 @@ fn note(by: By, told: Result<Told, NoMemory>, lists: &mut Transcript)
 
 /// Runs all items, one after another.
 fn run_items<E: Engine, W: Wait>(
-    alloc: Global,
+    setting: &Setting<'_, E, W>,
     number: u32,
     checked: &Checked,
-    files: &[Loaded],
-    turns: u64,
-    book: &TurnBook<Book<E>>,
-    wait: &W,
-    pass: &mut Pass<Book<E>>,
-    engine: &mut E,
+    seat: &mut Seat<E>,
     lists: &mut Transcript,
 )
-    requires ready { IsReady book.now pass.old }
-    requires kin { pass.old.house ≡ (E.worker engine.old).house }
+    requires seated { IsSeated E.worker setting.now.book.now seat.old }
     requires few { length checked.now.items.items < 2 ^ 32 }
     requires bare { IsBare (length checked.now.items.items) lists.old }
-    ensures ran { (snaps : Kept) × RanSoFar E.least (input_of files.now turns) checked.now number
-        (E.worker engine.old) (E.worker engine.new)
-        pass.old pass.new snaps
+    ensures ran { (snaps : Kept) × RanSoFar E.least (input_of setting.now.files.now setting.now.turns) checked.now
+        number (E.worker seat.old.engine) (E.worker seat.new.engine) seat.old.pass seat.new.pass snaps
         lists.new.outcomes.items (texts_of lists.new.replies.items) (saved_all lists.new.saves.items) }
     ensures each { length lists.new.outcomes.items ≡ length checked.now.items.items }
 {
-    let mut snaps = Snapshots::new(alloc);
+    let mut snaps = Snapshots::new(setting.alloc);
     let items = checked.script().items.as_slice();
     'items: for i in 0..items.len() {
         let by = By {
             session: number,
             command: i as u32 + 1,
         };
-        let told = run_item(
-            alloc, by, checked, files, turns, book, wait, pass, engine, &mut snaps, &items[i],
-        );
+        let task = Task {
+            alloc: setting.alloc,
+            by,
+            checked,
+            files: setting.files,
+            turns: setting.turns,
+            book: setting.book,
+            wait: setting.wait,
+        };
+        let told = run_item(&task, seat, &mut snaps, &items[i]);
         note(by, told, lists);
     }
 }
@@ -148,32 +149,25 @@ fn not_run(alloc: Global, number: u32, outcome: Outcome) -> Result<Transcript, N
 ///
 /// More items than a command's number can count would want more memory than there is: so that is the answer.
 fn run_checked<E: Engine, W: Wait>(
-    alloc: Global,
+    setting: &Setting<'_, E, W>,
     number: u32,
     checked: &Checked,
-    files: &[Loaded],
-    turns: u64,
-    book: &TurnBook<Book<E>>,
-    wait: &W,
-    pass: &mut Pass<Book<E>>,
-    engine: &mut E,
+    seat: &mut Seat<E>,
 ) -> Result<Transcript, NoMemory>
-    requires ready { IsReady book.now pass.old }
-    requires kin { pass.old.house ≡ (E.worker engine.old).house }
-    ensures ran { IfOk result (RanScript E.least (input_of files.now turns) number checked.now (E.worker engine.old)
-        (E.worker engine.new) pass.old pass.new) }
-    ensures none { OnErr result (DidNothing (E.worker engine.old) (E.worker engine.new) pass.old pass.new) }
-    ensures kept { IsKept pass.old pass.new }
-    ensures keeps { Keeps (E.worker engine.old) (E.worker engine.new) }
+    requires seated { IsSeated E.worker setting.now.book.now seat.old }
+    ensures ran { IfOk result (RanScript E.least (input_of setting.now.files.now setting.now.turns) number checked.now
+        (E.worker seat.old.engine) (E.worker seat.new.engine) seat.old.pass seat.new.pass) }
+    ensures none { OnErr result (DidNothing (E.worker seat.old.engine) (E.worker seat.new.engine) seat.old.pass
+        seat.new.pass) }
+    ensures kept { IsKept seat.old.pass seat.new.pass }
+    ensures keeps { Keeps (E.worker seat.old.engine) (E.worker seat.new.engine) }
 {
     let items = checked.script().items.len();
     if items as u64 > u32::MAX as u64 {
         return Err(NoMemory);
     }
-    let mut lists = room_for(alloc, items)?;
-    run_items(
-        alloc, number, checked, files, turns, book, wait, pass, engine, &mut lists,
-    );
+    let mut lists = room_for(setting.alloc, items)?;
+    run_items(setting, number, checked, seat, &mut lists);
     Ok(lists)
 }
 
@@ -217,32 +211,25 @@ fn told_flaw(flaw: TypeFault) -> Outcome
 /// runs. Else each item has its outcome, and a refused command is followed by the next. The memory of the lists is
 /// taken before the first item; where it is wanting, nothing ran.
 pub fn run<E: Engine, W: Wait>(
-    alloc: Global,
+    setting: &Setting<'_, E, W>,
     number: u32,
     script: &[u8],
-    files: &[Loaded],
-    turns: u64,
-    book: &TurnBook<Book<E>>,
-    wait: &W,
-    pass: &mut Pass<Book<E>>,
-    engine: &mut E,
+    seat: &mut Seat<E>,
 ) -> Result<Transcript, NoMemory>
     requires limit { length script.now ≤ script_limit }
-    requires ready { IsReady book.now pass.old }
-    requires kin { pass.old.house ≡ (E.worker engine.old).house }
-    ensures ran { IfOk result (RanBytes E.least (input_of files.now turns) number script.now (E.worker engine.old)
-        (E.worker engine.new) pass.old pass.new) }
-    ensures none { OnErr result (DidNothing (E.worker engine.old) (E.worker engine.new) pass.old pass.new) }
-    ensures kept { IsKept pass.old pass.new }
-    ensures keeps { Keeps (E.worker engine.old) (E.worker engine.new) }
+    requires seated { IsSeated E.worker setting.now.book.now seat.old }
+    ensures ran { IfOk result (RanBytes E.least (input_of setting.now.files.now setting.now.turns) number script.now
+        (E.worker seat.old.engine) (E.worker seat.new.engine) seat.old.pass seat.new.pass) }
+    ensures none { OnErr result (DidNothing (E.worker seat.old.engine) (E.worker seat.new.engine) seat.old.pass
+        seat.new.pass) }
+    ensures kept { IsKept seat.old.pass seat.new.pass }
+    ensures keeps { Keeps (E.worker seat.old.engine) (E.worker seat.new.engine) }
 {
-    match read_script(alloc, script) {
-        Ok(checked) => run_checked(
-            alloc, number, &checked, files, turns, book, wait, pass, engine,
-        ),
+    match read_script(setting.alloc, script) {
+        Ok(checked) => run_checked(setting, number, &checked, seat),
         Err(outcome) => {
-            let _ = &pass;
-            not_run(alloc, number, outcome)
+            let _ = &seat.pass;
+            not_run(setting.alloc, number, outcome)
         }
     }
 }

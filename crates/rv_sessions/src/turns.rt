@@ -2,108 +2,107 @@
 ghost use Rattle.std.specs.Prelude.{◌≡◌, map, All, IfOk};
 ghost use Rattle.std.specs.Option.{option_map};
 ghost use Rattle.rel_model.specs.Worker.{Stands};
-ghost use Rattle.turn_book.specs.Views.{IsReady};
+ghost use Rattle.rv_sessions.specs.Seated.{IsSeated};
 ghost use Rattle.rv_workspace.specs.Books.{versions_of};
 ghost use Rattle.rv_sessions.specs.Turning.{ReadTurn, BlockTurn, AssignTurn, AssignAllTurn, CommitTurn, DropTurn};
 
-use crate::by::By;
+use crate::seat::Seat;
+use crate::task::Task;
 use lang_model::syntax::Name;
 use rel_model::engine_trait::Engine;
 use rel_model::{NoMemory, Rel};
 use rv_workspace::{Book, CommitRefused, DropRefused, View};
 use std::alloc::Global;
 use std::sync::Wait;
-use turn_book::{Pass, TurnBook};
 
 /// Reads the wanted names, or all.
 pub(crate) fn read_turn<E: Engine, W: Wait>(
-    alloc: Global,
-    by: By,
-    book: &TurnBook<Book<E>>,
-    wait: &W,
-    pass: &mut Pass<Book<E>>,
-    engine: &mut E,
+    task: &Task<'_, E, W>,
+    seat: &mut Seat<E>,
     wanted: Option<&[Name]>,
 ) -> Result<View, NoMemory>
-    requires ready { IsReady book.now pass.old }
-    requires kin { pass.old.house ≡ (E.worker engine.old).house }
-    ensures read { ReadTurn by.session by.command (option_map (λ x. x.now) wanted.entry) (E.worker engine.old)
-        (E.worker engine.new) pass.old pass.new result }
+    requires seated { IsSeated E.worker task.now.book.now seat.old }
+    ensures read { ReadTurn task.now.by.session task.now.by.command (option_map (λ x. x.now) wanted.entry)
+        (E.worker seat.old.engine) (E.worker seat.new.engine) seat.old.pass seat.new.pass result }
 {
-    let mut taken = book.take(wait, pass);
+    let mut taken = task.book.take(task.wait, &mut seat.pass);
     let _ = taken.history();
-    let view = taken.read(alloc, by.session, by.command, wanted, engine);
-    book.put(pass, taken);
+    let view = taken.read(
+        task.alloc,
+        task.by.session,
+        task.by.command,
+        wanted,
+        &mut seat.engine,
+    );
+    task.book.put(&mut seat.pass, taken);
     view
 }
 
 /// Gives a name its relation.
 pub(crate) fn assign_turn<E: Engine, W: Wait>(
-    alloc: Global,
-    by: By,
-    book: &TurnBook<Book<E>>,
-    wait: &W,
-    pass: &mut Pass<Book<E>>,
-    engine: &mut E,
+    task: &Task<'_, E, W>,
+    seat: &mut Seat<E>,
     name: Name,
     rel: Rel,
 ) -> Result<(), NoMemory>
-    requires ready { IsReady book.now pass.old }
-    requires kin { pass.old.house ≡ (E.worker engine.old).house }
-    requires stands { Stands (E.worker engine.old) rel }
-    ensures assigned { AssignTurn by.session by.command name rel (E.worker engine.old)
-        (E.worker engine.new) pass.old pass.new result }
+    requires seated { IsSeated E.worker task.now.book.now seat.old }
+    requires stands { Stands (E.worker seat.old.engine) rel }
+    ensures assigned { AssignTurn task.now.by.session task.now.by.command name rel (E.worker seat.old.engine)
+        (E.worker seat.new.engine) seat.old.pass seat.new.pass result }
 {
-    let mut taken = book.take(wait, pass);
+    let mut taken = task.book.take(task.wait, &mut seat.pass);
     let _ = taken.history();
-    let assigned = taken.assign(alloc, by.session, by.command, name, rel, engine);
-    book.put(pass, taken);
+    let assigned = taken.assign(
+        task.alloc,
+        task.by.session,
+        task.by.command,
+        name,
+        rel,
+        &mut seat.engine,
+    );
+    task.book.put(&mut seat.pass, taken);
     assigned
 }
 
 /// Gives each name of a list its relation.
 pub(crate) fn assign_all_turn<E: Engine, W: Wait>(
-    alloc: Global,
-    by: By,
-    book: &TurnBook<Book<E>>,
-    wait: &W,
-    pass: &mut Pass<Book<E>>,
-    engine: &mut E,
+    task: &Task<'_, E, W>,
+    seat: &mut Seat<E>,
     list: Vec<(Name, Rel)>,
 ) -> Result<(), NoMemory>
-    requires ready { IsReady book.now pass.old }
-    requires kin { pass.old.house ≡ (E.worker engine.old).house }
-    requires stand { All (λ gift. Stands (E.worker engine.old) gift.1) list.items }
-    ensures assigned { AssignAllTurn by.session by.command list.items (E.worker engine.old)
-        (E.worker engine.new) pass.old pass.new result }
+    requires seated { IsSeated E.worker task.now.book.now seat.old }
+    requires stand { All (λ gift. Stands (E.worker seat.old.engine) gift.1) list.items }
+    ensures assigned { AssignAllTurn task.now.by.session task.now.by.command list.items (E.worker seat.old.engine)
+        (E.worker seat.new.engine) seat.old.pass seat.new.pass result }
 {
-    let mut taken = book.take(wait, pass);
+    let mut taken = task.book.take(task.wait, &mut seat.pass);
     let _ = taken.history();
-    let assigned = taken.assign_all(alloc, by.session, by.command, list, engine);
-    book.put(pass, taken);
+    let assigned = taken.assign_all(
+        task.alloc,
+        task.by.session,
+        task.by.command,
+        list,
+        &mut seat.engine,
+    );
+    task.book.put(&mut seat.pass, taken);
     assigned
 }
 
 /// Takes a name away. The worker learns what the names had.
 pub(crate) fn drop_turn<E: Engine, W: Wait>(
-    alloc: Global,
-    by: By,
-    book: &TurnBook<Book<E>>,
-    wait: &W,
-    pass: &mut Pass<Book<E>>,
-    engine: &mut E,
+    task: &Task<'_, E, W>,
+    seat: &mut Seat<E>,
     name: &Name,
 ) -> Result<(), DropRefused>
-    requires ready { IsReady book.now pass.old }
-    requires kin { pass.old.house ≡ (E.worker engine.old).house }
-    ensures dropped { DropTurn by.session by.command name.now (E.worker engine.old)
-        (E.worker engine.new) pass.old pass.new result }
+    requires seated { IsSeated E.worker task.now.book.now seat.old }
+    ensures dropped { DropTurn task.now.by.session task.now.by.command name.now (E.worker seat.old.engine)
+        (E.worker seat.new.engine) seat.old.pass seat.new.pass result }
 {
-    let mut taken = book.take(wait, pass);
+    let mut taken = task.book.take(task.wait, &mut seat.pass);
     let _ = taken.history();
-    taken.teach(engine);
-    let dropped = taken.drop_name(alloc, by.session, by.command, name);
-    book.put(pass, taken);
+    taken.teach(&mut seat.engine);
+    let dropped = taken.drop_name(task.alloc, task.by.session, task.by.command, name);
+    task.book.put(&mut seat.pass, taken);
     dropped
 }
 
@@ -132,30 +131,25 @@ fn with_versions<E: Engine>(
 
 /// Reads the names of a block, with the version of each.
 pub(crate) fn block_turn<E: Engine, W: Wait>(
-    alloc: Global,
-    by: By,
-    book: &TurnBook<Book<E>>,
-    wait: &W,
-    pass: &mut Pass<Book<E>>,
-    engine: &mut E,
+    task: &Task<'_, E, W>,
+    seat: &mut Seat<E>,
     reads: Vec<Name>,
 ) -> Result<BlockView, NoMemory>
-    requires ready { IsReady book.now pass.old }
-    requires kin { pass.old.house ≡ (E.worker engine.old).house }
-    ensures read { BlockTurn by.session by.command reads.items (E.worker engine.old)
-        (E.worker engine.new) pass.old pass.new result }
+    requires seated { IsSeated E.worker task.now.book.now seat.old }
+    ensures read { BlockTurn task.now.by.session task.now.by.command reads.items (E.worker seat.old.engine)
+        (E.worker seat.new.engine) seat.old.pass seat.new.pass result }
 {
-    let mut taken = book.take(wait, pass);
+    let mut taken = task.book.take(task.wait, &mut seat.pass);
     let _ = taken.history();
     let view = taken.read(
-        alloc,
-        by.session,
-        by.command,
+        task.alloc,
+        task.by.session,
+        task.by.command,
         Some(reads.as_slice()),
-        engine,
+        &mut seat.engine,
     );
-    let versions = with_versions(alloc, &taken, reads);
-    book.put(pass, taken);
+    let versions = with_versions(task.alloc, &taken, reads);
+    task.book.put(&mut seat.pass, taken);
     match view {
         Ok(View { names }) => match versions {
             Ok(versions) => Ok(BlockView { names, versions }),
@@ -167,24 +161,26 @@ pub(crate) fn block_turn<E: Engine, W: Wait>(
 
 /// Makes the assignments of a block, where no name that it read has another version.
 pub(crate) fn commit_turn<E: Engine, W: Wait>(
-    alloc: Global,
-    by: By,
-    book: &TurnBook<Book<E>>,
-    wait: &W,
-    pass: &mut Pass<Book<E>>,
-    engine: &mut E,
+    task: &Task<'_, E, W>,
+    seat: &mut Seat<E>,
     reads: &[(Name, u64)],
     list: Vec<(Name, Rel)>,
 ) -> Result<(), CommitRefused>
-    requires ready { IsReady book.now pass.old }
-    requires kin { pass.old.house ≡ (E.worker engine.old).house }
-    requires stand { All (λ gift. Stands (E.worker engine.old) gift.1) list.items }
-    ensures committed { CommitTurn by.session by.command reads.now list.items (E.worker engine.old)
-        (E.worker engine.new) pass.old pass.new result }
+    requires seated { IsSeated E.worker task.now.book.now seat.old }
+    requires stand { All (λ gift. Stands (E.worker seat.old.engine) gift.1) list.items }
+    ensures committed { CommitTurn task.now.by.session task.now.by.command reads.now list.items
+        (E.worker seat.old.engine) (E.worker seat.new.engine) seat.old.pass seat.new.pass result }
 {
-    let mut taken = book.take(wait, pass);
+    let mut taken = task.book.take(task.wait, &mut seat.pass);
     let _ = taken.history();
-    let committed = taken.commit(alloc, by.session, by.command, reads, list, engine);
-    book.put(pass, taken);
+    let committed = taken.commit(
+        task.alloc,
+        task.by.session,
+        task.by.command,
+        reads,
+        list,
+        &mut seat.engine,
+    );
+    task.book.put(&mut seat.pass, taken);
     committed
 }

@@ -8,13 +8,12 @@ ghost use Rattle.rv_sessions.specs.Showing.{CameShown};
 ghost use Rattle.rv_sessions.specs.Told.{bytes_of};
 
 use crate::form::{Form, shown};
+use crate::task::Task;
 use lang_model::syntax::{Expr, Name};
 use rel_model::Rel;
 use rel_model::engine_trait::Engine;
 use run_model::outcome::Outcome;
 use rv_eval::{Refused, eval};
-use rv_types::Checked;
-use std::alloc::Global;
 
 /// A refusal as an outcome.
 pub(crate) fn outcome_of(refused: Refused) -> Outcome
@@ -30,50 +29,44 @@ pub(crate) fn outcome_of(refused: Refused) -> Outcome
 }
 
 /// The value of an expression on names, or why it has none.
-pub(crate) fn value_on<E: Engine>(
-    alloc: Global,
+pub(crate) fn value_on<E: Engine, W>(
+    task: &Task<'_, E, W>,
     engine: &mut E,
-    checked: &Checked,
-    turns: u64,
     names: &[(Name, Rel)],
     expr: &Expr,
 ) -> Result<Rel, Outcome>
     requires standing { AllStand (E.worker engine.old) names.now }
     ensures came { let w = E.worker engine.old in
-        CameTo w (E.worker engine.new) expr.now turns
-        (evaluated checked.now (state_of w names.now) expr.now turns) result }
+        CameTo w (E.worker engine.new) expr.now task.now.turns
+        (evaluated task.now.checked.now (state_of w names.now) expr.now task.now.turns) result }
     ensures keeps { Keeps (E.worker engine.old) (E.worker engine.new) }
-    ensures room { let w = E.worker engine.old in
-        MakesAtMost (cost_of_value E.least (evaluated checked.now (state_of w names.now) expr.now turns))
-        w (E.worker engine.new) }
+    ensures room { let w = E.worker engine.old in MakesAtMost (cost_of_value E.least (evaluated task.now.checked.now
+        (state_of w names.now) expr.now task.now.turns)) w (E.worker engine.new) }
 {
-    match eval(alloc, engine, checked, names, expr, turns) {
+    match eval(task.alloc, engine, task.checked, names, expr, task.turns) {
         Ok(rel) => Ok(rel),
         Err(refused) => Err(outcome_of(refused)),
     }
 }
 
 /// The bytes of an expression's value in a form, or why there are none.
-pub(crate) fn shown_on<E: Engine>(
-    alloc: Global,
+pub(crate) fn shown_on<E: Engine, W>(
+    task: &Task<'_, E, W>,
     engine: &mut E,
-    checked: &Checked,
-    turns: u64,
     names: &[(Name, Rel)],
     form: Form,
     expr: &Expr,
 ) -> Result<Vec<u8>, Outcome>
     requires standing { AllStand (E.worker engine.old) names.now }
     ensures came { let w = E.worker engine.old in
-        CameShown form w (E.worker engine.new) expr.now turns
-        (evaluated checked.now (state_of w names.now) expr.now turns) (bytes_of result) }
+        CameShown form w (E.worker engine.new) expr.now task.now.turns
+        (evaluated task.now.checked.now (state_of w names.now) expr.now task.now.turns) (bytes_of result) }
     ensures keeps { Keeps (E.worker engine.old) (E.worker engine.new) }
-    ensures room { let w = E.worker engine.old in
-        MakesAtMost (cost_of_value E.least (evaluated checked.now (state_of w names.now) expr.now turns))
-        w (E.worker engine.new) }
+    ensures room { let w = E.worker engine.old in MakesAtMost (cost_of_value E.least (evaluated task.now.checked.now
+        (state_of w names.now) expr.now task.now.turns)) w (E.worker engine.new) }
 {
-    match value_on(alloc, engine, checked, turns, names, expr) {
-        Ok(rel) => match shown(alloc, engine, form, rel) {
+    match value_on(task, engine, names, expr) {
+        Ok(rel) => match shown(task.alloc, engine, form, rel) {
             Ok(bytes) => Ok(bytes),
             Err(outcome) => Err(outcome),
         },

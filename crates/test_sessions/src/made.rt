@@ -15,7 +15,7 @@ use run_model::outcome::Outcome;
 use rv_blocks::Versions;
 use rv_print::event_line;
 use rv_runs::{BatchEnd, make_page, run_batch, take_apart};
-use rv_sessions::{Reply, Transcript, run};
+use rv_sessions::{Reply, Seat, Setting, Transcript, run};
 use rv_workspace::Book;
 use std::alloc::{AllocError, Global};
 use std::process::Abort;
@@ -173,20 +173,23 @@ fn session_over<R: Wait + Abort, E: Engine + Drop>(
 {
     let archive = engine.split(1);
     let first = Book::new(alloc, archive);
-    let Ok((book, mut pass)) = TurnBook::make(alloc, first, 1) else {
+    let Ok((book, pass)) = TurnBook::make(alloc, first, 1) else {
         panic!(rt; "no memory")
     };
+    let mut seat = Seat { pass, engine };
     let ran = run(
-        alloc,
+        &Setting {
+            alloc,
+            files,
+            turns,
+            book: &book,
+            wait: rt,
+        },
         1,
         script,
-        files,
-        turns,
-        &book,
-        rt,
-        &mut pass,
-        &mut engine,
+        &mut seat,
     );
+    let Seat { pass, engine: _ } = seat;
     let (_, history, _, _) = book.close(pass).into_parts();
     let Ok(transcript) = ran else {
         panic!(rt; "no memory")

@@ -23,12 +23,12 @@ returns-clause-ran g c =
     let fresh = c.requires.fresh in
     let s = c.args.work.now.number in
     let given = input_of c.args.files.now c.args.turns in
-    let own = g.E.Core.worker c.run-ran.new.engine in
+    let own = g.E.Core.worker c.run-ran.new.seat.engine in
     let bytes = bytes_of c.args.number (map (λ v. v.items) c.args.scripts.now) s in
     let script : c.as_slice-script.result.now ≡ bytes =
     c.as_slice-script.ensures.value ∙ bytes_at c.args.scripts.now (s - c.args.number) c.index-scripts-work.result _ (omega (arith, fresh.from_first, fresh.at_most)) c.index-scripts-work.is in
-    subst (λ told. IfSome told (HasRun g.E.Core.least given s bytes own c.run-ran.new.pass)) (sym c.ok.ensures.value)
-    (has_run g.E.Core.least given s bytes c.as_slice-script.result.now (g.E.Core.worker c.args.work.now.engine) own c.args.work.now.pass c.run-ran.new.pass c.run-ran.result
+    subst (λ told. IfSome told (HasRun g.E.Core.least given s bytes own c.run-ran.new.seat.pass)) (sym c.ok.ensures.value)
+    (has_run g.E.Core.least given s bytes c.as_slice-script.result.now (g.E.Core.worker c.args.work.now.seat.engine) own c.args.work.now.seat.pass c.run-ran.new.seat.pass c.run-ran.result
     script fresh.no_made fresh.no_misses fresh.no_seen fresh.no_mine (let kept = c.run-ran.ensures.kept in kept.start) c.run-ran.ensures.ran)
 
 pub returns-clause-house : goal.returns-clause-house

@@ -18,22 +18,22 @@ pub returns-in_default : goal.returns-in_default
 returns-in_default g c input snaps i stood =
     let a = c.args in
     let w = g.E.Core.worker in
-    let old = w a.engine.now in
-    block_unread g.E.Core.least input a.checked.now a.by.session a.by.command a.lets.now old a.pass.now snaps stood old a.pass.now (untouched old a.pass.now)
+    let old = w a.seat.now.engine in
+    block_unread g.E.Core.least input a.task.now.checked.now a.task.now.by.session a.task.now.by.command a.lets.now old a.seat.now.pass snaps stood old a.seat.now.pass (untouched old a.seat.now.pass)
 
 pub returns-in-Err : goal.returns-in-Err
 returns-in-Err g c input snaps i stood =
     let a = c.args in
     let w = g.E.Core.worker in
-    let old = w a.engine.now in
-    read_lacks g.E.Core.least input a.checked.now a.by.session a.by.command a.lets.now old (w c.block_turn.new.engine) a.pass.now c.block_turn.new.pass snaps
+    let old = w a.seat.now.engine in
+    read_lacks g.E.Core.least input a.task.now.checked.now a.task.now.by.session a.task.now.by.command a.lets.now old (w c.block_turn.new.seat.engine) a.seat.now.pass c.block_turn.new.seat.pass snaps
     c.in-Ok.reads.items c.in-Err.lack stood c.in-Err.ensures.read
 
 pub block_values-requires : goal.block_values-requires
 block_values-requires g c =
     let r = c.in-Ok-block_turn.ensures.read in
     record {
-      standing = wanted_stand (g.E.Core.worker c.block_turn.new.engine) c.in-Ok.reads.items (first_names c.args.pass.now) r.0 c.in-Ok-block_turn.view.names.items
+      standing = wanted_stand (g.E.Core.worker c.block_turn.new.seat.engine) c.in-Ok.reads.items (first_names c.args.seat.now.pass) r.0 c.in-Ok-block_turn.view.names.items
           r.1.first_stand r.1.stand r.2;
     }
 
@@ -41,8 +41,8 @@ pub returns-in-Err-block_values : goal.returns-in-Err-block_values
 returns-in-Err-block_values g c input snaps i stood =
     let a = c.args in
     let w = g.E.Core.worker in
-    let old = w a.engine.now in
-    let mid = w c.block_turn.new.engine in
+    let old = w a.seat.now.engine in
+    let mid = w c.block_turn.new.seat.engine in
     let end = w c.block_values.new.engine in
     let r = c.in-Ok-block_turn.ensures.read in
     let lets = a.lets.now in
@@ -50,18 +50,18 @@ returns-in-Err-block_values g c input snaps i stood =
     let slice = c.as_slice-2.result.now in
     let slice_is = c.as_slice-2.ensures.value in
     let reads_are = c.in-Ok.ensures ∙ ap block_reads (c.as_slice.ensures.value ∙ sym slice_is) in
-    block_stopped g.E.Core.least input a.checked.now a.by.session a.by.command lets old a.pass.now snaps stood mid c.block_turn.new.pass r.0 r.1
-    end c.block_turn.new.pass (through_none c.block_turn.new.pass) c.block_values.ensures.keeps
-    (room_there input a.checked.now lets.items slice a.turns c.in-Ok.reads.items view.names.items (first_names a.pass.now) r.0 mid end r.1.first_stand r.1.stand slice_is reads_are r.2 c.block_values.ensures.keeps i g.E.Core.least c.block_values.ensures.room)
+    block_stopped g.E.Core.least input a.task.now.checked.now a.task.now.by.session a.task.now.by.command lets old a.seat.now.pass snaps stood mid c.block_turn.new.seat.pass r.0 r.1
+    end c.block_turn.new.seat.pass (through_none c.block_turn.new.seat.pass) c.block_values.ensures.keeps
+    (room_there input a.task.now.checked.now lets.items slice a.task.now.turns c.in-Ok.reads.items view.names.items (first_names a.seat.now.pass) r.0 mid end r.1.first_stand r.1.stand slice_is reads_are r.2 c.block_values.ensures.keeps i g.E.Core.least c.block_values.ensures.room)
     c.in-Err-block_values.outcome c.refused.result
-    (stopped_there input a.checked.now lets.items slice a.turns c.in-Ok.reads.items view.names.items (first_names a.pass.now) r.0 mid end r.1.first_stand r.1.stand slice_is reads_are r.2 c.block_values.ensures.keeps i c.in-Err-block_values.outcome c.in-Err-block_values.ensures.came) c.refused.ensures
+    (stopped_there input a.task.now.checked.now lets.items slice a.task.now.turns c.in-Ok.reads.items view.names.items (first_names a.seat.now.pass) r.0 mid end r.1.first_stand r.1.stand slice_is reads_are r.2 c.block_values.ensures.keeps i c.in-Err-block_values.outcome c.in-Err-block_values.ensures.came) c.refused.ensures
 
 pub returns-in-Ok-commit_turn : goal.returns-in-Ok-commit_turn
 returns-in-Ok-commit_turn g c input snaps i stood =
     let a = c.args in
     let w = g.E.Core.worker in
-    let old = w a.engine.now in
-    let mid = w c.block_turn.new.engine in
+    let old = w a.seat.now.engine in
+    let mid = w c.block_turn.new.seat.engine in
     let end = w c.block_values.new.engine in
     let r = c.in-Ok-block_turn.ensures.read in
     let lets = a.lets.now in
@@ -69,23 +69,23 @@ returns-in-Ok-commit_turn g c input snaps i stood =
     let slice = c.as_slice-2.result.now in
     let slice_is = c.as_slice-2.ensures.value in
     let reads_are = c.in-Ok.ensures ∙ ap block_reads (c.as_slice.ensures.value ∙ sym slice_is) in
-    let new = w c.commit_turn.new.engine in
+    let new = w c.commit_turn.new.seat.engine in
     let list = c.in-Ok-block_values.list.items in
-    let due = values_there input a.checked.now lets.items slice a.turns c.in-Ok.reads.items view.names.items (first_names a.pass.now) r.0 mid end r.1.first_stand r.1.stand slice_is reads_are r.2 c.block_values.ensures.keeps i (Values (gifts_in end list)) c.in-Ok-block_values.ensures.came.1 in
-    let room = room_there input a.checked.now lets.items slice a.turns c.in-Ok.reads.items view.names.items (first_names a.pass.now) r.0 mid end r.1.first_stand r.1.stand slice_is reads_are r.2 c.block_values.ensures.keeps i g.E.Core.least c.block_values.ensures.room in
-    let versions = c.as_slice-3.ensures.value ∙ r.3 ∙ ap (versions_in (first_versions a.pass.now) r.0) (reads_are ∙ ap block_reads slice_is) in
-    let sizes : HasSizes new = record { rows = g.met.E.Core.row_size c.commit_turn.new.engine; cols = g.met.E.Core.col_size c.commit_turn.new.engine } in
-    subst (λ x. DidItem g.E.Core.least input a.checked.now a.by.session a.by.command (COMMAND (ATOMIC lets)) old new a.pass.now c.commit_turn.new.pass snaps snaps (Ok x)) (sym c.done.ensures)
-    (commit_done g.E.Core.least input a.checked.now a.by.session a.by.command lets old a.pass.now snaps stood mid c.block_turn.new.pass r.0 r.1
-    end new c.commit_turn.new.pass list c.block_values.ensures.keeps room c.in-Ok-block_values.ensures.came.0 due sizes
-    (subst (λ vs. CommitTurn a.by.session a.by.command vs list end new c.block_turn.new.pass c.commit_turn.new.pass (Ok tt)) versions c.in-Ok-commit_turn.ensures.committed))
+    let due = values_there input a.task.now.checked.now lets.items slice a.task.now.turns c.in-Ok.reads.items view.names.items (first_names a.seat.now.pass) r.0 mid end r.1.first_stand r.1.stand slice_is reads_are r.2 c.block_values.ensures.keeps i (Values (gifts_in end list)) c.in-Ok-block_values.ensures.came.1 in
+    let room = room_there input a.task.now.checked.now lets.items slice a.task.now.turns c.in-Ok.reads.items view.names.items (first_names a.seat.now.pass) r.0 mid end r.1.first_stand r.1.stand slice_is reads_are r.2 c.block_values.ensures.keeps i g.E.Core.least c.block_values.ensures.room in
+    let versions = c.as_slice-3.ensures.value ∙ r.3 ∙ ap (versions_in (first_versions a.seat.now.pass) r.0) (reads_are ∙ ap block_reads slice_is) in
+    let sizes : HasSizes new = record { rows = g.met.E.Core.row_size c.commit_turn.new.seat.engine; cols = g.met.E.Core.col_size c.commit_turn.new.seat.engine } in
+    subst (λ x. DidItem g.E.Core.least input a.task.now.checked.now a.task.now.by.session a.task.now.by.command (COMMAND (ATOMIC lets)) old new a.seat.now.pass c.commit_turn.new.seat.pass snaps snaps (Ok x)) (sym c.done.ensures)
+    (commit_done g.E.Core.least input a.task.now.checked.now a.task.now.by.session a.task.now.by.command lets old a.seat.now.pass snaps stood mid c.block_turn.new.seat.pass r.0 r.1
+    end new c.commit_turn.new.seat.pass list c.block_values.ensures.keeps room c.in-Ok-block_values.ensures.came.0 due sizes
+    (subst (λ vs. CommitTurn a.task.now.by.session a.task.now.by.command vs list end new c.block_turn.new.seat.pass c.commit_turn.new.seat.pass (Ok tt)) versions c.in-Ok-commit_turn.ensures.committed))
 
 pub returns : goal.returns
 returns g c input snaps i stood =
     let a = c.args in
     let w = g.E.Core.worker in
-    let old = w a.engine.now in
-    let mid = w c.block_turn.new.engine in
+    let old = w a.seat.now.engine in
+    let mid = w c.block_turn.new.seat.engine in
     let end = w c.block_values.new.engine in
     let r = c.in-Ok-block_turn.ensures.read in
     let lets = a.lets.now in
@@ -93,12 +93,12 @@ returns g c input snaps i stood =
     let slice = c.as_slice-2.result.now in
     let slice_is = c.as_slice-2.ensures.value in
     let reads_are = c.in-Ok.ensures ∙ ap block_reads (c.as_slice.ensures.value ∙ sym slice_is) in
-    let new = w c.commit_turn.new.engine in
+    let new = w c.commit_turn.new.seat.engine in
     let list = c.in-Ok-block_values.list.items in
-    let due = values_there input a.checked.now lets.items slice a.turns c.in-Ok.reads.items view.names.items (first_names a.pass.now) r.0 mid end r.1.first_stand r.1.stand slice_is reads_are r.2 c.block_values.ensures.keeps i (Values (gifts_in end list)) c.in-Ok-block_values.ensures.came.1 in
-    let room = room_there input a.checked.now lets.items slice a.turns c.in-Ok.reads.items view.names.items (first_names a.pass.now) r.0 mid end r.1.first_stand r.1.stand slice_is reads_are r.2 c.block_values.ensures.keeps i g.E.Core.least c.block_values.ensures.room in
-    let versions = c.as_slice-3.ensures.value ∙ r.3 ∙ ap (versions_in (first_versions a.pass.now) r.0) (reads_are ∙ ap block_reads slice_is) in
-    commit_refused g.E.Core.least input a.checked.now a.by.session a.by.command lets old a.pass.now snaps stood mid c.block_turn.new.pass r.0 r.1
-    end new c.commit_turn.new.pass list c.block_values.ensures.keeps room c.in-Ok-block_values.ensures.came.0 due c.in-Err-commit_turn.why c.not_committed.result
-    (subst (λ vs. CommitTurn a.by.session a.by.command vs list end new c.block_turn.new.pass c.commit_turn.new.pass (Err c.in-Err-commit_turn.why)) versions c.in-Err-commit_turn.ensures.committed)
+    let due = values_there input a.task.now.checked.now lets.items slice a.task.now.turns c.in-Ok.reads.items view.names.items (first_names a.seat.now.pass) r.0 mid end r.1.first_stand r.1.stand slice_is reads_are r.2 c.block_values.ensures.keeps i (Values (gifts_in end list)) c.in-Ok-block_values.ensures.came.1 in
+    let room = room_there input a.task.now.checked.now lets.items slice a.task.now.turns c.in-Ok.reads.items view.names.items (first_names a.seat.now.pass) r.0 mid end r.1.first_stand r.1.stand slice_is reads_are r.2 c.block_values.ensures.keeps i g.E.Core.least c.block_values.ensures.room in
+    let versions = c.as_slice-3.ensures.value ∙ r.3 ∙ ap (versions_in (first_versions a.seat.now.pass) r.0) (reads_are ∙ ap block_reads slice_is) in
+    commit_refused g.E.Core.least input a.task.now.checked.now a.task.now.by.session a.task.now.by.command lets old a.seat.now.pass snaps stood mid c.block_turn.new.seat.pass r.0 r.1
+    end new c.commit_turn.new.seat.pass list c.block_values.ensures.keeps room c.in-Ok-block_values.ensures.came.0 due c.in-Err-commit_turn.why c.not_committed.result
+    (subst (λ vs. CommitTurn a.task.now.by.session a.task.now.by.command vs list end new c.block_turn.new.seat.pass c.commit_turn.new.seat.pass (Err c.in-Err-commit_turn.why)) versions c.in-Err-commit_turn.ensures.committed)
     c.not_committed.ensures

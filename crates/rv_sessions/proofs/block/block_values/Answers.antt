@@ -5,7 +5,7 @@ use Rattle.rv_sessions.proofs.block.block_values.Goals as goal
 
 pub lets-init : goal.lets-init
 lets-init g c =
-    none_valued g.E.Core.least c.args.checked.now c.args.turns c.args.lets.now (g.E.Core.worker c.args.engine.now) c.args.names.now.items c.new-gifts.result.items
+    none_valued g.E.Core.least c.args.task.now.checked.now c.args.task.now.turns c.args.lets.now (g.E.Core.worker c.args.engine.now) c.args.names.now.items c.new-gifts.result.items
     c.new-gifts.ensures.items c.requires.standing
 
 pub value_on-requires : goal.value_on-requires
@@ -17,7 +17,7 @@ returns-in-Err-clause-came g c =
     let w = g.E.Core.worker in
     let first = w c.args.engine.now in
     let state = state_of first c.args.names.now.items in
-    step_stops g.E.Core.least c.args.checked.now c.args.turns c.args.lets.now state first (w c.lets.engine) c.lets.names.items c.lets.gifts.items c.lets.one-index
+    step_stops g.E.Core.least c.args.task.now.checked.now c.args.task.now.turns c.args.lets.now state first (w c.lets.engine) c.lets.names.items c.lets.gifts.items c.lets.one-index
     c.one-item.result c.lets.invariant c.lets-test.true c.one-item.is (w c.value_on.new.engine) c.value_on.ensures.keeps c.as_slice.result.now c.as_slice.ensures.value
     c.value_on.ensures.room c.in-Err.outcome c.in-Err.ensures.came
 
@@ -26,7 +26,7 @@ returns-in-Err-clause-keeps g c =
     let w = g.E.Core.worker in
     let first = w c.args.engine.now in
     let state = state_of first c.args.names.now.items in
-    step_keeps g.E.Core.least c.args.checked.now c.args.turns c.args.lets.now state first (w c.lets.engine) c.lets.names.items c.lets.gifts.items c.lets.one-index
+    step_keeps g.E.Core.least c.args.task.now.checked.now c.args.task.now.turns c.args.lets.now state first (w c.lets.engine) c.lets.names.items c.lets.gifts.items c.lets.one-index
     c.one-item.result c.lets.invariant c.lets-test.true c.one-item.is (w c.value_on.new.engine) c.value_on.ensures.keeps c.as_slice.result.now c.as_slice.ensures.value
     c.value_on.ensures.room
 
@@ -35,7 +35,7 @@ returns-in-Err-clause-room g c =
     let w = g.E.Core.worker in
     let first = w c.args.engine.now in
     let state = state_of first c.args.names.now.items in
-    step_room g.E.Core.least c.args.checked.now c.args.turns c.args.lets.now state first (w c.lets.engine) c.lets.names.items c.lets.gifts.items c.lets.one-index
+    step_room g.E.Core.least c.args.task.now.checked.now c.args.task.now.turns c.args.lets.now state first (w c.lets.engine) c.lets.names.items c.lets.gifts.items c.lets.one-index
     c.one-item.result c.lets.invariant c.lets-test.true c.one-item.is (w c.value_on.new.engine) c.value_on.ensures.keeps c.as_slice.result.now c.as_slice.ensures.value
     c.value_on.ensures.room
 
@@ -44,7 +44,7 @@ returns-in_default-clause-keeps g c =
     let w = g.E.Core.worker in
     let first = w c.args.engine.now in
     let state = state_of first c.args.names.now.items in
-    step_keeps g.E.Core.least c.args.checked.now c.args.turns c.args.lets.now state first (w c.lets.engine) c.lets.names.items c.lets.gifts.items c.lets.one-index
+    step_keeps g.E.Core.least c.args.task.now.checked.now c.args.task.now.turns c.args.lets.now state first (w c.lets.engine) c.lets.names.items c.lets.gifts.items c.lets.one-index
     c.one-item.result c.lets.invariant c.lets-test.true c.one-item.is (w c.value_on.new.engine) c.value_on.ensures.keeps c.as_slice.result.now c.as_slice.ensures.value
     c.value_on.ensures.room
 
@@ -53,7 +53,7 @@ returns-in_default-clause-room g c =
     let w = g.E.Core.worker in
     let first = w c.args.engine.now in
     let state = state_of first c.args.names.now.items in
-    step_room g.E.Core.least c.args.checked.now c.args.turns c.args.lets.now state first (w c.lets.engine) c.lets.names.items c.lets.gifts.items c.lets.one-index
+    step_room g.E.Core.least c.args.task.now.checked.now c.args.task.now.turns c.args.lets.now state first (w c.lets.engine) c.lets.names.items c.lets.gifts.items c.lets.one-index
     c.one-item.result c.lets.invariant c.lets-test.true c.one-item.is (w c.value_on.new.engine) c.value_on.ensures.keeps c.as_slice.result.now c.as_slice.ensures.value
     c.value_on.ensures.room
 
@@ -62,7 +62,7 @@ returns-in_default-push-clause-keeps g c =
     let w = g.E.Core.worker in
     let first = w c.args.engine.now in
     let state = state_of first c.args.names.now.items in
-    step_keeps g.E.Core.least c.args.checked.now c.args.turns c.args.lets.now state first (w c.lets.engine) c.lets.names.items c.lets.gifts.items c.lets.one-index
+    step_keeps g.E.Core.least c.args.task.now.checked.now c.args.task.now.turns c.args.lets.now state first (w c.lets.engine) c.lets.names.items c.lets.gifts.items c.lets.one-index
     c.one-item.result c.lets.invariant c.lets-test.true c.one-item.is (w c.value_on.new.engine) c.value_on.ensures.keeps c.as_slice.result.now c.as_slice.ensures.value
     c.value_on.ensures.room
 
@@ -71,7 +71,7 @@ returns-in_default-push-clause-room g c =
     let w = g.E.Core.worker in
     let first = w c.args.engine.now in
     let state = state_of first c.args.names.now.items in
-    step_room g.E.Core.least c.args.checked.now c.args.turns c.args.lets.now state first (w c.lets.engine) c.lets.names.items c.lets.gifts.items c.lets.one-index
+    step_room g.E.Core.least c.args.task.now.checked.now c.args.task.now.turns c.args.lets.now state first (w c.lets.engine) c.lets.names.items c.lets.gifts.items c.lets.one-index
     c.one-item.result c.lets.invariant c.lets-test.true c.one-item.is (w c.value_on.new.engine) c.value_on.ensures.keeps c.as_slice.result.now c.as_slice.ensures.value
     c.value_on.ensures.room
 
@@ -80,7 +80,7 @@ returns-in_default-set-clause-keeps g c =
     let w = g.E.Core.worker in
     let first = w c.args.engine.now in
     let state = state_of first c.args.names.now.items in
-    step_keeps g.E.Core.least c.args.checked.now c.args.turns c.args.lets.now state first (w c.lets.engine) c.lets.names.items c.lets.gifts.items c.lets.one-index
+    step_keeps g.E.Core.least c.args.task.now.checked.now c.args.task.now.turns c.args.lets.now state first (w c.lets.engine) c.lets.names.items c.lets.gifts.items c.lets.one-index
     c.one-item.result c.lets.invariant c.lets-test.true c.one-item.is (w c.value_on.new.engine) c.value_on.ensures.keeps c.as_slice.result.now c.as_slice.ensures.value
     c.value_on.ensures.room
 
@@ -89,7 +89,7 @@ returns-in_default-set-clause-room g c =
     let w = g.E.Core.worker in
     let first = w c.args.engine.now in
     let state = state_of first c.args.names.now.items in
-    step_room g.E.Core.least c.args.checked.now c.args.turns c.args.lets.now state first (w c.lets.engine) c.lets.names.items c.lets.gifts.items c.lets.one-index
+    step_room g.E.Core.least c.args.task.now.checked.now c.args.task.now.turns c.args.lets.now state first (w c.lets.engine) c.lets.names.items c.lets.gifts.items c.lets.one-index
     c.one-item.result c.lets.invariant c.lets-test.true c.one-item.is (w c.value_on.new.engine) c.value_on.ensures.keeps c.as_slice.result.now c.as_slice.ensures.value
     c.value_on.ensures.room
 
@@ -98,7 +98,7 @@ lets-preserved g c =
     let w = g.E.Core.worker in
     let first = w c.args.engine.now in
     let state = state_of first c.args.names.now.items in
-    step_more g.E.Core.least c.args.checked.now c.args.turns c.args.lets.now state first (w c.lets.engine) c.lets.names.items c.lets.gifts.items c.lets.one-index
+    step_more g.E.Core.least c.args.task.now.checked.now c.args.task.now.turns c.args.lets.now state first (w c.lets.engine) c.lets.names.items c.lets.gifts.items c.lets.one-index
     c.one-item.result c.lets.invariant c.lets-test.true c.one-item.is (w c.value_on.new.engine) c.value_on.ensures.keeps c.as_slice.result.now c.as_slice.ensures.value
     c.value_on.ensures.room
     c.in-Ok.rel c.in-Ok-copied.own c.set.new.names.items c.push.new.self.items c.in-Ok.ensures.came c.in-Ok-copied.ensures c.in-Ok-set.ensures c.in-Ok-push.ensures.items
@@ -110,7 +110,7 @@ returns-clause-came g c =
     let state = state_of first c.args.names.now.items in
     let lets = c.args.lets.now in (
       c.lets.invariant.gifts_stand,
-      all_valued g.E.Core.least c.args.checked.now c.args.turns lets state first (w c.lets.engine) c.lets.names.items c.lets.gifts.items c.lets.one-index
+      all_valued g.E.Core.least c.args.task.now.checked.now c.args.task.now.turns lets state first (w c.lets.engine) c.lets.names.items c.lets.gifts.items c.lets.one-index
           c.lets.invariant (dropped_all lets c.lets.one-index (omega (arith, c.lets-test.false))),
     )
 
@@ -122,5 +122,5 @@ returns-clause-room g c =
     let w = g.E.Core.worker in
     let first = w c.args.engine.now in
     let state = state_of first c.args.names.now.items in
-    end_room g.E.Core.least c.args.checked.now c.args.turns c.args.lets.now state first (w c.lets.engine) c.lets.names.items c.lets.gifts.items c.lets.one-index
+    end_room g.E.Core.least c.args.task.now.checked.now c.args.task.now.turns c.args.lets.now state first (w c.lets.engine) c.lets.names.items c.lets.gifts.items c.lets.one-index
     c.lets.invariant

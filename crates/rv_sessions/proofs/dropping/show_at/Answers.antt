@@ -25,7 +25,7 @@ returns-in-None g c input pass i =
     let a = c.args in
     let w = g.E.Core.worker a.engine.now in
     let none = sym c.get.ensures ∙ ap (option_map (λ v. v.now.names.items)) c.in-None.is in
-    refused_did g.E.Core.least input a.checked.now a.by.session a.by.command (COMMAND (AT a.at a.name.now a.expr.now)) w w pass pass a.snaps.now a.snaps.now
+    refused_did g.E.Core.least input a.task.now.checked.now a.task.now.by.session a.task.now.by.command (COMMAND (AT a.at a.name.now a.expr.now)) w w pass pass a.snaps.now a.snaps.now
     (ILL (Unknown a.at a.name.now)) c.unknown.result c.unknown.ensures
-    (at_unknown g.E.Core.least input a.checked.now a.by.session a.by.command a.at a.name.now a.expr.now w pass a.snaps.now c.requires.stood none a.name.now refl)
-    (at_lacks g.E.Core.least input a.checked.now a.by.session a.by.command a.at a.name.now a.expr.now w pass a.snaps.now c.requires.stood)
+    (at_unknown g.E.Core.least input a.task.now.checked.now a.task.now.by.session a.task.now.by.command a.at a.name.now a.expr.now w pass a.snaps.now c.requires.stood none a.name.now refl)
+    (at_lacks g.E.Core.least input a.task.now.checked.now a.task.now.by.session a.task.now.by.command a.at a.name.now a.expr.now w pass a.snaps.now c.requires.stood)

@@ -1,17 +1,9 @@
-use Rattle.std.proofs.Common.{◌∙◌, Result, sym, ap, subst}
+use Rattle.std.proofs.Common.{◌∙◌, sym, ap, subst}
 use Rattle.run_model.specs.Due.{listing_over}
 use Rattle.rv_sessions.specs.Valuing.{IsRefusal}
 use Rattle.rv_sessions.proofs.Overs.{over_refuses, within_limits}
 use Rattle.rv_sessions.proofs.Assigning.{list_refused}
-use Rattle.lang_model.specs.declared.syntax.Item.TheVariants.{Command as COMMAND}
-use Rattle.lang_model.specs.declared.syntax.Command.TheVariants.{Relation as RELATION}
-use Rattle.rel_model.specs.declared.NoMemory.{NoMemory as LACK}
-use Rattle.turn_book.specs.Views.{View as PASS}
-use Rattle.rv_sessions.specs.declared.told.Told.{Told}
-use Rattle.rv_sessions.specs.Acting.{DidItem}
-use Rattle.rv_sessions.proofs.Telling.{moved}
 use Rattle.rv_sessions.proofs.giving.relation.Goals as goal
-use Rattle.rv_sessions.proofs.giving.relation.Goals.{in-Some, in-None}
 
 pub refused-requires : goal.refused-requires
 refused-requires g c d =
@@ -31,18 +23,9 @@ listed_relation-requires-clause-col_limit g c =
     (within_limits a.rows a.rows_at a.cols a.cols_at a.list.now.items
     (ap (listing_over a.rows a.rows_at a.cols a.cols_at) (sym c.as_slice.ensures.value) ∙ sym c.in-None.ensures)).1
 
-pub returns : goal.returns
-returns g c input script snaps stood =
+pub returns-in-Some : goal.returns-in-Some
+returns-in-Some g c input script snaps stood =
     let a = c.args in
-    let w = g.E.Core.worker in
-    let P : g.row.E.Denot → PASS → Result Told LACK → Type 0 = λ e p r. DidItem g.E.Core.least input script a.by.session a.by.command
-    (COMMAND (RELATION a.name.now a.rows a.rows_at a.cols a.cols_at a.list.now)) (w a.engine.now) (w e) a.pass.now p snaps snaps r in
-    let m = c.match-first_over in
-    elim m.branch [
-      | in-Some b ↦ moved P m.engine a.engine.now m.pass a.pass.now m.result b.refused.result b.engine-is b.pass-is b.result-is
-          (list_refused g.E.Core.least input script a.by.session a.by.command a.name.now a.rows a.rows_at a.cols a.cols_at a.list.now
-          (w a.engine.now) a.pass.now snaps stood b.in-Some.outcome b.refused.result
-          (ap (listing_over a.rows a.rows_at a.cols a.cols_at) (sym c.as_slice.ensures.value) ∙ sym b.in-Some.ensures) b.refused.ensures)
-      | in-None b ↦ moved P m.engine b.listed_relation.new.engine m.pass b.listed_relation.new.pass m.result b.listed_relation.result
-          b.engine-is b.pass-is b.result-is (b.listed_relation.ensures input script snaps stood)
-    ]
+    list_refused g.E.Core.least input script a.task.now.by.session a.task.now.by.command a.name.now a.rows a.rows_at a.cols a.cols_at a.list.now
+    (g.E.Core.worker a.seat.now.engine) a.seat.now.pass snaps stood c.in-Some.outcome c.refused.result
+    (ap (listing_over a.rows a.rows_at a.cols a.cols_at) (sym c.as_slice.ensures.value) ∙ sym c.in-Some.ensures) c.refused.ensures

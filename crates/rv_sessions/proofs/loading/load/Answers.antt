@@ -1,29 +1,19 @@
-use Rattle.std.proofs.Common.{◌∙◌, Result, map, sym, ap}
+use Rattle.std.proofs.Common.{◌∙◌, map, sym, ap}
 use Rattle.std.specs.Option.{option_map}
-use Rattle.lang_model.specs.declared.syntax.Item.TheVariants.{Command as COMMAND}
-use Rattle.lang_model.specs.declared.syntax.Command.TheVariants.{Load as LOAD}
 use Rattle.run_model.specs.Inputs.{file_named}
-use Rattle.rel_model.specs.declared.NoMemory.{NoMemory as LACK}
-use Rattle.turn_book.specs.Views.{View as PASS}
-use Rattle.rv_sessions.specs.declared.told.Told.{Told}
-use Rattle.rv_sessions.specs.Acting.{DidItem}
 use Rattle.run_model.specs.Filed.{file_of}
-use Rattle.rv_sessions.proofs.Telling.{moved}
 use Rattle.rv_sessions.proofs.Loads.{load_absent}
 use Rattle.rv_sessions.proofs.loading.load.Goals as goal
-use Rattle.rv_sessions.proofs.loading.load.Goals.{in-Some, in-None}
 
-pub returns : goal.returns
-returns g c input script snaps f stood =
+pub returns-in-Some : goal.returns-in-Some
+returns-in-Some g c input script snaps f stood =
     let a = c.args in
-    let w = g.E.Core.worker in
-    let P : g.row.E.Denot → PASS → Result Told LACK → Type 0 = λ e p r. DidItem g.E.Core.least input script a.by.session a.by.command (COMMAND (LOAD a.name.now a.file.now)) (w a.engine.now) (w e) a.pass.now p snaps snaps r in
-    let m = c.match-file_named in
-    let found = ap (λ fs. file_named fs a.file.now) f ∙ ap (file_named (map file_of a.files.now)) (sym c.bytes.ensures) ∙ sym c.file_named.ensures in
-    elim m.branch [
-      | in-Some b ↦ moved P m.engine b.loaded.new.engine m.pass b.loaded.new.pass m.result b.loaded.result b.engine-is b.pass-is b.result-is
-          (b.loaded.ensures input script snaps (found ∙ ap (option_map (λ x. x.now)) b.in-Some.is) stood)
-      | in-None b ↦ moved P m.engine a.engine.now m.pass a.pass.now m.result b.no_file.result b.engine-is b.pass-is b.result-is
-          (load_absent g.E.Core.least input script a.by.session a.by.command (w a.engine.now) a.pass.now snaps stood a.name.now a.file.now
-          (found ∙ ap (option_map (λ x. x.now)) b.in-None.is) b.no_file.result b.no_file.ensures)
-    ]
+    let found = ap (λ fs. file_named fs a.file.now) f ∙ ap (file_named (map file_of a.task.now.files.now)) (sym c.bytes.ensures) ∙ sym c.file_named.ensures in
+    c.loaded.ensures input script snaps (found ∙ ap (option_map (λ x. x.now)) c.in-Some.is) stood
+
+pub returns-in-None : goal.returns-in-None
+returns-in-None g c input script snaps f stood =
+    let a = c.args in
+    let found = ap (λ fs. file_named fs a.file.now) f ∙ ap (file_named (map file_of a.task.now.files.now)) (sym c.bytes.ensures) ∙ sym c.file_named.ensures in
+    load_absent g.E.Core.least input script a.task.now.by.session a.task.now.by.command (g.E.Core.worker a.seat.now.engine) a.seat.now.pass snaps stood a.name.now a.file.now
+    (found ∙ ap (option_map (λ x. x.now)) c.in-None.is) c.no_file.result c.no_file.ensures

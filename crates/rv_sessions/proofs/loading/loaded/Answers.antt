@@ -1,4 +1,4 @@
-use Rattle.std.proofs.Common.{◌∙◌, Result, Ok, refl, sym, ap, subst}
+use Rattle.std.proofs.Common.{Result, Ok, refl, sym, ap, subst}
 use Rattle.lang_model.specs.declared.syntax.Item.TheVariants.{Command as COMMAND}
 use Rattle.lang_model.specs.declared.syntax.Command.TheVariants.{Load as LOAD}
 use Rattle.rel_model.specs.declared.NoMemory.{NoMemory as LACK}
@@ -7,36 +7,38 @@ use Rattle.rv_sessions.specs.Acting.{DidItem}
 use Rattle.rv_sessions.proofs.Acting.{through_nothing}
 use Rattle.rv_sessions.proofs.Loads.{load_lacks, load_item, read_lacks, read_refused, read_given}
 use Rattle.rv_sessions.proofs.loading.loaded.Goals as goal
-use Rattle.rv_sessions.proofs.loading.loaded.Goals.{in-Ok-assign_turn, in-Err-assign_turn}
 
 pub returns-in_default : goal.returns-in_default
 returns-in_default g c input script snaps there stood =
     let a = c.args in
-    load_lacks g.E.Core.least input script a.by.session a.by.command (g.E.Core.worker a.engine.now) a.pass.now snaps stood a.name.now a.file.now
+    load_lacks g.E.Core.least input script a.task.now.by.session a.task.now.by.command (g.E.Core.worker a.seat.now.engine) a.seat.now.pass snaps stood a.name.now a.file.now
 
 pub returns-in-Err : goal.returns-in-Err
 returns-in-Err g c input script snaps there stood =
     let a = c.args in
     let w = g.E.Core.worker in
     let r = c.in-Err.ensures in
-    read_refused (load_item g.E.Core.least input script a.name.now a.file.now a.bytes.now there) a.by.session a.by.command (w a.engine.now) (w c.read_one.new.engine)
-    a.pass.now snaps stood r.keeps (r.room a.file.now) c.in-Err.kind r.read c.not_read.result c.not_read.ensures
+    read_refused (load_item g.E.Core.least input script a.name.now a.file.now a.bytes.now there) a.task.now.by.session a.task.now.by.command (w a.seat.now.engine) (w c.read_one.new.engine)
+    a.seat.now.pass snaps stood r.keeps (r.room a.file.now) c.in-Err.kind r.read c.not_read.result c.not_read.ensures
 
-pub returns : goal.returns
-returns g c input script snaps there stood =
+pub returns-in-Ok-assign_turn : goal.returns-in-Ok-assign_turn
+returns-in-Ok-assign_turn g c input script snaps there stood =
     let a = c.args in
     let w = g.E.Core.worker in
     let r = c.in-Ok-read_one.ensures in
     let x = load_item g.E.Core.least input script a.name.now a.file.now a.bytes.now there in
-    let P : Result Told LACK → Type 0 = λ y. DidItem g.E.Core.least input script a.by.session a.by.command (COMMAND (LOAD a.name.now a.file.now)) (w a.engine.now)
-    (w c.assign_turn.new.engine) a.pass.now c.assign_turn.new.pass snaps snaps y in
-    elim c.match-assign_turn.branch [
-      | in-Ok-assign_turn b ↦ subst P (sym (b.result-is ∙ ap (λ y. Ok y) b.done.ensures))
-          (read_given x a.by.session a.by.command (w a.engine.now) (w c.read_one.new.engine) a.pass.now snaps stood r.keeps (r.room a.file.now)
-          (w c.assign_turn.new.engine) c.assign_turn.new.pass a.name.now c.in-Ok.own c.in-Ok-read_one.rel c.in-Ok.ensures
-          refl (λ v. refl) (λ numbers v. refl) (λ v. refl) r.read b.in-Ok-assign_turn.ensures.assigned)
-      | in-Err-assign_turn b ↦ subst P (sym b.result-is)
-          (read_lacks x a.by.session a.by.command (w a.engine.now) (w c.read_one.new.engine) a.pass.now snaps stood r.keeps (r.room a.file.now)
-          (w c.assign_turn.new.engine) c.assign_turn.new.pass (through_nothing b.in-Err-assign_turn.ensures.assigned.1)
-          b.in-Err-assign_turn.ensures.assigned.1.stays.keeps b.in-Err-assign_turn.ensures.assigned.1.stays.made)
-    ]
+    let P : Result Told LACK → Type 0 = λ y. DidItem g.E.Core.least input script a.task.now.by.session a.task.now.by.command (COMMAND (LOAD a.name.now a.file.now)) (w a.seat.now.engine)
+    (w c.assign_turn.new.seat.engine) a.seat.now.pass c.assign_turn.new.seat.pass snaps snaps y in
+    subst P (sym (ap (λ y. Ok y) c.done.ensures))
+    (read_given x a.task.now.by.session a.task.now.by.command (w a.seat.now.engine) (w c.read_one.new.engine) a.seat.now.pass snaps stood r.keeps (r.room a.file.now)
+    (w c.assign_turn.new.seat.engine) c.assign_turn.new.seat.pass a.name.now c.in-Ok.own c.in-Ok-read_one.rel c.in-Ok.ensures
+    refl (λ v. refl) (λ numbers v. refl) (λ v. refl) r.read c.in-Ok-assign_turn.ensures.assigned)
+
+pub returns-in-Err-assign_turn : goal.returns-in-Err-assign_turn
+returns-in-Err-assign_turn g c input script snaps there stood =
+    let a = c.args in
+    let w = g.E.Core.worker in
+    let r = c.in-Ok-read_one.ensures in
+    let t = c.in-Err-assign_turn.ensures.assigned in
+    read_lacks (load_item g.E.Core.least input script a.name.now a.file.now a.bytes.now there) a.task.now.by.session a.task.now.by.command (w a.seat.now.engine) (w c.read_one.new.engine)
+    a.seat.now.pass snaps stood r.keeps (r.room a.file.now) (w c.assign_turn.new.seat.engine) c.assign_turn.new.seat.pass (through_nothing t.1) t.1.stays.keeps t.1.stays.made

@@ -11,7 +11,7 @@ items-init g c =
     let a = c.args in
     let bare = c.requires.bare in
     record {
-      ran = begins g.E.Core.least (input_of a.files.now a.turns) a.checked.now a.number (g.E.Core.worker a.engine.now) a.pass.now c.new-snaps.result a.lists.now c.new-snaps.ensures bare;
+      ran = begins g.E.Core.least (input_of a.setting.now.files.now a.setting.now.turns) a.checked.now a.number (g.E.Core.worker a.seat.now.engine) a.seat.now.pass c.new-snaps.result a.lists.now c.new-snaps.ensures bare;
       count = ap length bare.outcomes;
       replies = bare.replies_len;
       saves = none (vec_len a.lists.now.saves) bare.saves_len;
@@ -35,8 +35,8 @@ items-preserved g c =
     let there = subst (λ l. slice_get l k.i ≡ Some c.index-items-i.result) (c.as_slice-items.ensures.value ∙ ap (λ s. s.items.items) c.script.ensures.script)
     (slice_get_read c.as_slice-items.result.now (length c.as_slice-items.result.now) k.i c.index-items-i.result refl c.items-test.true c.index-items-i.is) in
     record {
-      ran = goes_on g.E.Core.least (input_of a.files.now a.turns) a.checked.now a.number k.i c.index-items-i.result (w a.engine.now) (w k.engine) (w t.new.engine)
-          a.pass.now k.pass t.new.pass k.snaps t.new.snaps k.lists n.new.lists t.result v.ran v.count there t.ensures n.ensures.outcome n.ensures.text n.ensures.saved;
+      ran = goes_on g.E.Core.least (input_of a.setting.now.files.now a.setting.now.turns) a.checked.now a.number k.i c.index-items-i.result (w a.seat.now.engine) (w k.seat.engine) (w t.new.seat.engine)
+          a.seat.now.pass k.seat.pass t.new.seat.pass k.snaps t.new.snaps k.lists n.new.lists t.result v.ran v.count there t.ensures n.ensures.outcome n.ensures.text n.ensures.saved;
       count = ap length n.ensures.outcome ∙ (length-append k.lists.outcomes.items (outcome_in t.result ∷ []) ∙ ap (λ m. m + 1) v.count);
       replies = n.ensures.replies_len ∙ ap (λ m. m + 1) v.replies;
       saves = more (vec_len n.new.lists.saves) (vec_len k.lists.saves) k.i n.ensures.saves_len v.saves;

@@ -6,7 +6,7 @@ use Rattle.rv_sessions.proofs.session.run_items.Given as goal
 
 abbrev pub invariant-items : goal.invariant-items
 invariant-items g l = record {
-  ran : RanSoFar g.E.Core.least (input_of l.files l.turns) l.checked l.number (g.E.Core.worker l.fn.engine) (g.E.Core.worker l.engine) l.fn.pass l.pass
+  ran : RanSoFar g.E.Core.least (input_of l.setting.files.now l.setting.turns) l.checked l.number (g.E.Core.worker l.fn.seat.engine) (g.E.Core.worker l.seat.engine) l.fn.seat.pass l.seat.pass
       l.snaps l.lists.outcomes.items (texts_of l.lists.replies.items) (saved_all l.lists.saves.items);
   count : length l.lists.outcomes.items ≡ l.i;
   replies : vec_len l.lists.replies ≡ l.i;

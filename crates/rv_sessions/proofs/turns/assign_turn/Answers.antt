@@ -7,13 +7,13 @@ pub put-requires-clause-start : goal.put-requires-clause-start
 put-requires-clause-start g c =
     let t = c.take-taken in
     let r = c.assign-assigned in
-    start_back t.result.history t.result.first r.new.self.first t.new.pass c.args.pass.now t.ensures.takes t.ensures.start r.ensures.first
+    start_back t.result.history t.result.first r.new.self.first t.new.pass c.args.seat.now.pass t.ensures.takes t.ensures.start r.ensures.first
 
 pub put-requires-clause-begins : goal.put-requires-clause-begins
 put-requires-clause-begins g c =
     let t = c.take-taken in
     let r = c.assign-assigned in
-    put_begins (assign_of c.args.by.session c.args.by.command (c.args.name, c.args.rel) ∷ []) r.result t.result.history r.new.self.history t.new.pass c.args.pass.now
+    put_begins (assign_of c.args.task.now.by.session c.args.task.now.by.command (c.args.name, c.args.rel) ∷ []) r.result t.result.history r.new.self.history t.new.pass c.args.seat.now.pass
     t.ensures.takes r.ensures.entered r.ensures.as_before
 
 pub returns : goal.returns
@@ -22,11 +22,11 @@ returns g c =
     let r = c.assign-assigned in
     let w = g.E.Core.worker in
     record {
-      assigned = put_took (assign_of c.args.by.session c.args.by.command (c.args.name, c.args.rel) ∷ []) (w c.args.engine.now) (w r.new.mine)
-          c.args.pass.now t.new.pass c.put.new.pass
-          t.result.history r.new.self.history r.result c.requires.ready.idle t.ensures.takes t.ensures.begins c.put.ensures
+      assigned = put_took (assign_of c.args.task.now.by.session c.args.task.now.by.command (c.args.name, c.args.rel) ∷ []) (w c.args.seat.now.engine) (w r.new.mine)
+          c.args.seat.now.pass t.new.pass c.put.new.pass
+          t.result.history r.new.self.history r.result c.requires.seated.ready.idle t.ensures.takes t.ensures.begins c.put.ensures
           r.ensures.entered r.ensures.as_before
-          (learnt (w t.result.archive) (w c.args.engine.now) (w r.new.mine) t.result.history c.history.ensures.book.stand r.ensures.mine)
-          (first_learnt (w t.result.archive) (w c.args.engine.now) (w r.new.mine) t.result.first c.args.pass.now t.ensures.start c.history.ensures.book.first_stand r.ensures.mine)
+          (learnt (w t.result.archive) (w c.args.seat.now.engine) (w r.new.mine) t.result.history c.history.ensures.book.stand r.ensures.mine)
+          (first_learnt (w t.result.archive) (w c.args.seat.now.engine) (w r.new.mine) t.result.first c.args.seat.now.pass t.ensures.start c.history.ensures.book.first_stand r.ensures.mine)
           r.ensures.mine.stays;
     }

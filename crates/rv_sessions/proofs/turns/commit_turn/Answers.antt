@@ -8,13 +8,13 @@ pub put-requires-clause-start : goal.put-requires-clause-start
 put-requires-clause-start g c =
     let t = c.take-taken in
     let r = c.commit-committed in
-    start_back t.result.history t.result.first r.new.self.first t.new.pass c.args.pass.now t.ensures.takes t.ensures.start r.ensures.first
+    start_back t.result.history t.result.first r.new.self.first t.new.pass c.args.seat.now.pass t.ensures.takes t.ensures.start r.ensures.first
 
 pub put-requires-clause-begins : goal.put-requires-clause-begins
 put-requires-clause-begins g c =
     let t = c.take-taken in
     let r = c.commit-committed in
-    commit_begins c.args.by.session c.args.by.command c.args.list.items r.result t.result.history r.new.self.history t.new.pass c.args.pass.now
+    commit_begins c.args.task.now.by.session c.args.task.now.by.command c.args.list.items r.result t.result.history r.new.self.history t.new.pass c.args.seat.now.pass
     t.ensures.takes r.ensures.entered
 
 pub returns : goal.returns
@@ -26,11 +26,11 @@ returns g c =
     record {
       committed = (
         log,
-        took (w c.args.engine.now) (w r.new.mine) c.args.pass.now t.new.pass c.put.new.pass log r.new.self.history
-            (commit_entries c.args.by.session c.args.by.command c.args.list.items r.result) c.requires.ready.idle t.ensures.takes t.ensures.begins
+        took (w c.args.seat.now.engine) (w r.new.mine) c.args.seat.now.pass t.new.pass c.put.new.pass log r.new.self.history
+            (commit_entries c.args.task.now.by.session c.args.task.now.by.command c.args.list.items r.result) c.requires.seated.ready.idle t.ensures.takes t.ensures.begins
             c.put.ensures r.ensures.entered
-            (learnt (w t.result.archive) (w c.args.engine.now) (w r.new.mine) log c.history.ensures.book.stand r.ensures.mine)
-            (first_learnt (w t.result.archive) (w c.args.engine.now) (w r.new.mine) t.result.first c.args.pass.now t.ensures.start c.history.ensures.book.first_stand r.ensures.mine) r.ensures.mine.stays,
-        subst (λ (f : First). IsCommitAnswer (change_since f.versions c.args.reads.now log) r.result) (first_is t.result.first c.args.pass.now t.ensures.start) r.ensures.answer,
+            (learnt (w t.result.archive) (w c.args.seat.now.engine) (w r.new.mine) log c.history.ensures.book.stand r.ensures.mine)
+            (first_learnt (w t.result.archive) (w c.args.seat.now.engine) (w r.new.mine) t.result.first c.args.seat.now.pass t.ensures.start c.history.ensures.book.first_stand r.ensures.mine) r.ensures.mine.stays,
+        subst (λ (f : First). IsCommitAnswer (change_since f.versions c.args.reads.now log) r.result) (first_is t.result.first c.args.seat.now.pass t.ensures.start) r.ensures.answer,
       );
     }
