@@ -1,7 +1,7 @@
 #!/usr/bin/env python3
 """Compares whole runs of the program with those of other ways to compute with relations.
 
-    bench/peers/run.py [ROUNDS] [GROUP..]      the groups: closure product quotient mix kernels inclusion start sessions
+    bench/peers/run.py [ROUNDS] [GROUP..]      the groups: closure product quotient mix kernels inclusion named start sessions
 
 The peers are matrices of bits in plain C (dense.c), binary decision diagrams (buddy.c, over BuDDy: Debian's libbdd-dev)
 and sparse matrices (graphblas.c, over SuiteSparse:GraphBLAS: libgraphblas-dev). A peer that is not installed is left out
@@ -37,7 +37,8 @@ SCRIPTS = {
     "quotient": 'LOAD R "r.k2". LET C = trans(R). COUNT syq(C, C).',
     "mix": 'LOAD R "r.k2". LOAD S "s.k2". COUNT (R | S) & -(R & S^).',
     "kernels": KERNELS,
-    "inclusion": "REL V {size} 1 {{}}. LET E = epsi(V). COUNT E \\ E.",
+    "inclusion": "SUBSETS(V) DECL e BEG e = epsi(V); RETURN e \\ e END. REL V {size} 1 {{}}. COUNT SUBSETS(V).",
+    "named": "REL V {size} 1 {{}}. LET E = epsi(V). COUNT E \\ E.",
 }
 
 
@@ -70,10 +71,12 @@ def cases():
     yield "quotient", "of the closure of random 1024", [steps(1024, 2, 1)]
     for chance in (0.001, 0.01, 0.1):
         yield "mix", f"1024, chance {chance}", [sparse(1024, chance, 1), sparse(1024, chance, 2)]
-    for size in (16, 20):
+    for size in (16, 20, 24):
         yield "kernels", f"of a cycle of {size}", [cycle(size)]
-    for size in (12, 16, 20):
+    for size in (16, 20, 24):
         yield "inclusion", f"of the subsets of {size}", size
+    for size in (16, 20):
+        yield "named", f"the same, of a membership that has a name, {size}", size
 
 
 def compiled(folder):
@@ -151,8 +154,9 @@ def compare(rounds, wanted, peers):
             (Path(folder) / "a.rv").write_text(SCRIPTS[group].replace("{size}", str(given)).replace("{{}}", "{}"))
             commands = {"relview": fitting(folder, files)}
             for peer, program in peers.items():
-                if not (group == "inclusion" and peer == "dense" and given > 16):
-                    commands[peer] = [program, group, *arguments]
+                work = "inclusion" if group == "named" else group
+                if not (work == "inclusion" and peer == "dense" and given > 16):
+                    commands[peer] = [program, work, *arguments]
             rows = {name: [] for name in commands}
             for _ in range(rounds):
                 for name, words in commands.items():

@@ -92,7 +92,7 @@ def cases():
         yield "subsets", f"kernels of a cycle of {vertices}", MOST, [KERNELS], (cycle, vertices)
     for vertices in (16, 20, 24):
         yield "subsets", f"kernels of an acyclic graph of {vertices}", MOST, [KERNELS], (acyclic, vertices, 3)
-    for vertices in (10, 12, 14):
+    for vertices in (14, 20, 24):
         yield "subsets", f"maximal independent sets of a cycle of {vertices}", MOST, [STABLE], (cycle, vertices)
 
 
