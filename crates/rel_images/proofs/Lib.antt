@@ -1,0 +1,5 @@
+pub mod Words
+pub mod Heaps
+pub mod Steps
+pub mod Rooms
+pub mod Roots
