@@ -6,3 +6,4 @@ pub mod Products
 pub mod Rooming
 pub mod Costs
 pub mod Univalents
+pub mod Remembering

@@ -81,9 +81,6 @@ none_more n t a b = ap (λ (m : ℕ). some_below m t) (let z : n + 1 ≡ suc n =
 pub found_one : (n : ℕ) (t : ℕ → Bool) (k : ℕ) → k < n → t k ≡ true → false ≡ not (some_below n t)
 found_one n t k l h = sym (ap not (some_from n t k l h))
 
-pub found_none : (n m : ℕ) (t : ℕ → Bool) → n ≡ m → some_below n t ≡ false → true ≡ not (some_below m t)
-found_none n m t e h = sym (ap not (ap (λ (x : ℕ). some_below x t) (sym e) ∙ h))
-
 -- whether two lines meet, by the answer of a worker
 pub meets_is : (w : Worker) (n : ℕ) (r s : Rel) (t : Bool) → HasType 1 n (set_of w r) → r.rows ≡ 1 → r.cols ≡ n → ((t ≡ false) ↔ (inter (set_of w r) (set_of w s) ≡ empty r.rows r.cols)) → meet n (set_of w r) (set_of w s) ≡ t
 meets_is w n r s true t e f h = meeting_lines n (set_of w r) (set_of w s) t (λ a. true≢false (h.1 (a ∙ sym (ap (λ (x : ℕ). empty x r.cols) e ∙ ap (empty 1) f))))

@@ -3,7 +3,7 @@
 -- 2. Lines that were given are a value of their sizes (`lines_value`), and so is what stands whole (`whole_value`).
 -- 3. A derivation is a chain of such values, each recast in the words of the definition (`right_value` and its kin).
 -- 4. The form of the sizes says how two values of one type are cut (`alike`), and what may follow what in a composition.
-use Rattle.std.proofs.Common.{◌≡◌, ◌<◌, ◌≤◌, ◌&&◌, ◌∙◌, min, max, cond, not, ℕ, Bool, true, false, refl, sym, ap, subst, arith}
+use Rattle.std.proofs.Common.{◌≡◌, ◌<◌, ◌≤◌, ◌&&◌, ◌∙◌, cond, not, ℕ, Bool, true, false, refl, sym, ap, subst, arith}
 use Rattle.rel_model.specs.declared.Rel.{Rel}
 use Rattle.rel_model.specs.Relation.{Relation, IsRelation, relation_of, has}
 use Rattle.rel_model.specs.Algebra.{HasType}
@@ -15,7 +15,7 @@ use Rattle.rel_model.proofs.Relations.{relation_of-agree, has-relation_of}
 use Rattle.rel_slices.specs.declared.thin.Thin.{Thin}
 use Rattle.rel_slices.specs.declared.thin.Value.{Value}
 use Rattle.rel_slices.specs.declared.thin.Value.TheVariants.{Whole, Lines}
-use Rattle.rel_slices.specs.Thin.{line_of, line_set, laid, thin_of, thin_rows, thin_cols, ThinStands, GivesLines, GivesRowsOf, GivesThin, ValueStands, value_of, value_rows, value_cols, GivesValue, HasForm}
+use Rattle.rel_slices.specs.Thin.{most_lines, line_of, line_set, laid, thin_of, thin_rows, thin_cols, ThinStands, GivesLines, GivesRowsOf, GivesThin, ValueStands, value_of, value_rows, value_cols, GivesValue}
 use Rattle.rel_slices.proofs.Putting.{thin_later, line_later, lines_stand, lines_sets}
 use Rattle.rel_model.specs.Cells.{some_below}
 use Rattle.rel_model.specs.Choice.{row_has, dom, ran}
@@ -228,13 +228,6 @@ columns_formed w rows cols set s v g = record {
   col_size = ap (λ (x : Bool). cond x s.count s.other) g.turned_is ∙ g.count_is;
 }
 
--- ---- forms
-pub lines_form : (w : Worker) (turned : Bool) (count other : ℕ) (line : ℕ → Relation) (s : Thin) → GivesLines w turned count other line s → 257 ≤ other → HasForm (Lines s)
-lines_form w turned count other line s g l = (let e = g.other_is in omega (arith, e, l))
-
-pub whole_form : (w : Worker) (m n : ℕ) (set : Relation) (r : Rel) → Gives w m n set r → (min m n ≤ 64 → max m n ≤ 256) → HasForm (Whole r)
-whole_form w m n set r g f = λ a. let e = g.row_size in let h = g.col_size in let b = f (omega (arith, a, e, h)) in omega (arith, b, e, h)
-
 -- the rows that were cut, as a thin relation
 pub rows_thin : (w : Worker) (rows cols : ℕ) (set : Relation) (s : Thin) → GivesRowsOf w false rows cols set s → GivesThin w false rows cols set s
 rows_thin w rows cols set s g = record {
@@ -263,25 +256,25 @@ thin_value w turned count other set s g = record {
 }
 
 -- what comes after few columns is rows, and what comes after long rows is columns
-pub rows_after : (b : Thin) (few : ℕ) → few ≡ thin_rows b → few ≤ 64 → 257 ≤ b.other → b.turned ≡ false
+pub rows_after : (b : Thin) (few : ℕ) → few ≡ thin_rows b → few ≤ most_lines → 257 ≤ b.other → b.turned ≡ false
 rows_after b few = by b.turned b.count b.other
   where
-    by : (t : Bool) (c o : ℕ) → few ≡ cond t o c → few ≤ 64 → 257 ≤ o → t ≡ false
+    by : (t : Bool) (c o : ℕ) → few ≡ cond t o c → few ≤ most_lines → 257 ≤ o → t ≡ false
     by true c o e f l = absurd (omega (arith, e, f, l))
     by false c o e f l = refl
 
-pub columns_after : (b : Thin) (long : ℕ) → long ≡ thin_rows b → b.count ≤ 64 → 257 ≤ long → b.turned ≡ true
+pub columns_after : (b : Thin) (long : ℕ) → long ≡ thin_rows b → b.count ≤ most_lines → 257 ≤ long → b.turned ≡ true
 columns_after b long = by b.turned b.count b.other
   where
-    by : (t : Bool) (c o : ℕ) → long ≡ cond t o c → c ≤ 64 → 257 ≤ long → t ≡ true
+    by : (t : Bool) (c o : ℕ) → long ≡ cond t o c → c ≤ most_lines → 257 ≤ long → t ≡ true
     by true c o e f l = refl
     by false c o e f l = absurd (omega (arith, e, f, l))
 
 -- lines of one type are cut alike
-pub alike : (s t : Thin) → s.count ≤ 64 → t.count ≤ 64 → 257 ≤ s.other → 257 ≤ t.other → thin_rows s ≡ thin_rows t → thin_cols s ≡ thin_cols t → (s.turned ≡ t.turned) × (s.count ≡ t.count) × (s.other ≡ t.other)
+pub alike : (s t : Thin) → s.count ≤ most_lines → t.count ≤ most_lines → 257 ≤ s.other → 257 ≤ t.other → thin_rows s ≡ thin_rows t → thin_cols s ≡ thin_cols t → (s.turned ≡ t.turned) × (s.count ≡ t.count) × (s.other ≡ t.other)
 alike s t = by s.turned s.count s.other t.turned t.count t.other
   where
-    by : (a : Bool) (c o : ℕ) (b : Bool) (d p : ℕ) → c ≤ 64 → d ≤ 64 → 257 ≤ o → 257 ≤ p → cond a o c ≡ cond b p d → cond a c o ≡ cond b d p → (a ≡ b) × (c ≡ d) × (o ≡ p)
+    by : (a : Bool) (c o : ℕ) (b : Bool) (d p : ℕ) → c ≤ most_lines → d ≤ most_lines → 257 ≤ o → 257 ≤ p → cond a o c ≡ cond b p d → cond a c o ≡ cond b d p → (a ≡ b) × (c ≡ d) × (o ≡ p)
     by true c o true d p h i j k e f = (refl, f, e)
     by true c o false d p h i j k e f = absurd (omega (arith, h, i, j, k, e, f))
     by false c o true d p h i j k e f = absurd (omega (arith, h, i, j, k, e, f))

@@ -4,3 +4,4 @@ pub mod Rooms
 pub mod Members
 pub mod ValueRooms
 pub mod Fits
+pub mod Remembering

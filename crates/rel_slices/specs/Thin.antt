@@ -7,17 +7,21 @@ use Rattle.rel_slices.specs.declared.thin.Thin.{Thin}
 use Rattle.rel_slices.specs.declared.thin.Value.{Value}
 use Rattle.rel_slices.specs.declared.thin.Value.TheVariants.{Whole, Lines}
 
+-- the most lines that a thin relation has
+abbrev pub most_lines : ℕ
+most_lines = 112
+
 -- line i, a relation of one row
 abbrev pub line_of : Thin → ℕ → Rel
 line_of s i = record { rows = 1; cols = s.other; root = slice_index s.roots i }
 
--- its set
+-- its set of pairs
 abbrev pub line_set : Worker → Thin → ℕ → Relation
 line_set w s i = set_of w (line_of s i)
 
--- all lines stand, there are few, and they are within the limit
+-- all lines stand, there are at most most_lines, and they are within the limit
 pub record ThinStands (w : Worker) (s : Thin) : Type 0 where
-  pub few : s.count ≤ 64
+  pub few : s.count ≤ most_lines
   pub limit : s.other ≤ size_limit
   pub lines : (i : ℕ) → i < s.count → Stands w (line_of s i)
 
@@ -29,7 +33,7 @@ thin_rows s = cond s.turned s.other s.count
 abbrev pub thin_cols : Thin → ℕ
 thin_cols s = cond s.turned s.count s.other
 
--- the relation whose rows, or whose columns where it is turned, are these lines
+-- the relation whose rows, or whose columns if turned, are these lines
 unfoldable pub laid : Bool → ℕ → ℕ → (ℕ → Relation) → Relation
 laid turned count other line = cond turned (relation_of other count (λ i j. has (line j) 0 i))
     (relation_of count other (λ i j. has (line i) 0 j))
@@ -38,12 +42,12 @@ laid turned count other line = cond turned (relation_of other count (λ i j. has
 abbrev pub thin_of : Worker → Thin → Relation
 thin_of w s = laid s.turned s.count s.other (line_set w s)
 
--- the lines stand, with these sets
+-- the lines stand, and have these sets
 pub record GivesLines (w : Worker) (turned : Bool) (count other : ℕ) (line : ℕ → Relation) (s : Thin) : Type 0 where
   pub turned_is : s.turned ≡ turned
   pub count_is : s.count ≡ count
   pub other_is : s.other ≡ other
-  pub few : count ≤ 64
+  pub few : count ≤ most_lines
   pub limit : other ≤ size_limit
   pub lines : (i : ℕ) → i < count → Gives w 1 other (line i) (line_of s i)
 
@@ -68,13 +72,13 @@ abbrev pub value_cols : Value → ℕ
 value_cols (Whole r) = r.cols
 value_cols (Lines s) = thin_cols s
 
--- The value has the form of its sizes: whole, unless its shorter side is at most 64 and its longer side more than 256,
--- else the lines of its shorter side.
+-- The value has the form of its sizes: lines along its shorter side if that is at most `most_lines` and the longer side
+-- more than 256, otherwise whole.
 abbrev pub HasForm : Value → Type 0
-HasForm (Whole r) = min r.rows r.cols ≤ 64 → max r.rows r.cols ≤ 256
+HasForm (Whole r) = min r.rows r.cols ≤ most_lines → max r.rows r.cols ≤ 256
 HasForm (Lines s) = 257 ≤ s.other
 
--- lines are long: each ranges over more than 256 elements
+-- if the value is lines, they are long: each ranges over more than 256 elements
 abbrev pub IsLong : Value → Type 0
 IsLong (Whole r) = Unit {0}
 IsLong (Lines s) = 257 ≤ s.other
@@ -84,22 +88,22 @@ abbrev pub IsLines : Value → Type 0
 IsLines (Whole r) = ⊥
 IsLines (Lines s) = Unit {0}
 
--- the sizes are thin: the shorter side is at most 64 and the longer one more than 256
+-- the sizes are thin: the shorter side is at most `most_lines` and the longer one more than 256
 abbrev pub IsThin : ℕ → ℕ → Type 0
-IsThin rows cols = (min rows cols ≤ 64) × (257 ≤ max rows cols)
+IsThin rows cols = (min rows cols ≤ most_lines) × (257 ≤ max rows cols)
 
--- of an operation on two values, with an answer of these sizes: not all three stand whole
+-- of an operation on two values whose result has these sizes: an operand is lines, or the result is thin
 abbrev pub SomeThin : Value → Value → ℕ → ℕ → Type 0
 SomeThin x y rows cols = IsLines x ⊎ IsLines y ⊎ IsThin rows cols
 
--- the value stands, with these sizes and this set
+-- the value stands, and has these sizes and this set
 pub record GivesValue (w : Worker) (rows cols : ℕ) (set : Relation) (v : Value) : Type 0 where
   pub stands : ValueStands w v
   pub means : value_of w v ≡ set
   pub row_size : value_rows v ≡ rows
   pub col_size : value_cols v ≡ cols
 
--- the lines are the rows of a relation; where they are to be columns, it is the transposed one
+-- the lines are the rows of a relation, or if turned, the columns of its transpose
 pub record GivesRowsOf (w : Worker) (turned : Bool) (rows cols : ℕ) (set : Relation) (s : Thin) : Type 0 where
   pub turned_is : s.turned ≡ turned
   pub count_is : s.count ≡ rows

@@ -1,44 +1,18 @@
-//! Values that a size alone makes.
-ghost use Rattle.std.specs.Prelude.{◌≡◌, ◌≤◌, ◌<◌, ◌*◌, ◌+◌, ◌-◌, ◌^◌, ℕ, max, IfOk};
-ghost use Rattle.rel_model.specs.Domains.{HasDomainCause, membership};
+//! Values that are given by their sizes alone: the full one and the empty one.
+ghost use Rattle.std.specs.Prelude.{◌≤◌, ◌<◌, ℕ, IfOk};
 ghost use Rattle.rel_model.specs.Operators.{full as full_relation, empty as empty_relation};
 ghost use Rattle.rel_model.specs.Relation.{size_limit};
-ghost use Rattle.rel_model.specs.Roots.{relation_room, tree_room};
-ghost use Rattle.rel_model.specs.Worker.{Gives, Keeps, MakesAtMost, HasCause, MissesNothing, wide_room};
-ghost use Rattle.rel_slices.specs.Thin.{line_of, GivesLines, GivesValue, HasForm};
+ghost use Rattle.rel_model.specs.Roots.{relation_room};
+ghost use Rattle.rel_model.specs.Worker.{Keeps, MakesAtMost, HasCause};
+ghost use Rattle.rel_slices.specs.Thin.{most_lines, line_of, GivesLines, GivesValue, HasForm};
 ghost use Rattle.rel_slices.specs.Rooms.{line_room};
 
-use crate::member::member_lines;
 use crate::thin::{LEAST, MOST, Thin, Value};
 use crate::values::{full_lines, repeated};
 use rel_model::core_trait::Core;
-use rel_model::engine_trait::Engine;
-use rel_model::faults::DomainError;
-use rel_model::{Lack, Rel, Shape};
+use rel_model::{Lack, Shape};
 
-/// The membership of x elements in their subsets, as the rows of few elements where it is long.
-pub fn epsi<E: Engine>(engine: &mut E, x: u32) -> Result<Value, DomainError>
-    requires { x ≤ size_limit }
-    ensures value { IfOk result (GivesValue (E.worker engine.new) x (2 ^ x) (membership x)) }
-    ensures form { IfOk result HasForm }
-    ensures keeps { Keeps (E.worker engine.old) (E.worker engine.new) }
-    ensures cost { E.least ≡ 3 → MakesAtMost (wide_room x (2 ^ x) (2 ^ x)) (E.worker engine.old) (E.worker engine.new) }
-    ensures cause { HasDomainCause E.lean (2 ^ x) (E.worker engine.old) (E.worker engine.new) result }
-{
-    if x < 9 || x > 24 {
-        return match engine.epsi(x) {
-            Ok(r) => Ok(Value::Whole(r)),
-            Err(fault) => Err(fault),
-        };
-    }
-    match member_lines(engine, x) {
-        Ok(lines) => Ok(Value::Lines(lines)),
-        Err(Lack::Full) => Err(DomainError::Full),
-        Err(Lack::NoMemory) => Err(DomainError::NoMemory),
-    }
-}
-
-/// The full value of these sizes, in the form of the sizes.
+/// `{(i, j) : i < rows, j < cols}`: the full value of these sizes, in the form of its sizes.
 pub fn full<C: Core>(core: &mut C, shape: Shape) -> Result<Value, Lack>
     requires row_limit { shape.rows ≤ size_limit }
     requires col_limit { shape.cols ≤ size_limit }
@@ -62,9 +36,9 @@ pub fn full<C: Core>(core: &mut C, shape: Shape) -> Result<Value, Lack>
     Ok(Value::Whole(all))
 }
 
-/// So many empty lines.
+/// `count` empty lines.
 fn empty_lines<C: Core>(core: &mut C, turned: bool, count: u32, other: u32) -> Result<Thin, Lack>
-    requires few { count ≤ 64 }
+    requires few { count ≤ most_lines }
     requires limit { other ≤ size_limit }
     ensures lines { IfOk result (GivesLines (C.worker core.new) turned count other (λ i. empty_relation 1 other)) }
     ensures keeps { Keeps (C.worker core.old) (C.worker core.new) }
@@ -79,7 +53,7 @@ fn empty_lines<C: Core>(core: &mut C, turned: bool, count: u32, other: u32) -> R
     Ok(repeated(turned, count, line))
 }
 
-/// The empty value of these sizes, in the form of the sizes.
+/// `{}`: the empty value of these sizes, in the form of its sizes.
 pub fn empty<C: Core>(core: &mut C, shape: Shape) -> Result<Value, Lack>
     requires row_limit { shape.rows ≤ size_limit }
     requires col_limit { shape.cols ≤ size_limit }

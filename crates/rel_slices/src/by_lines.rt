@@ -1,9 +1,9 @@
-//! The composition of lines with lines.
+//! Composition of lines with lines.
 ghost use Rattle.std.specs.Prelude.{◌≡◌, ◌≤◌, ◌<◌, ◌*◌, ◌+◌, ℕ, cond, IfOk, true, false};
 ghost use Rattle.rel_model.specs.Operators.{compose as compose_of};
 ghost use Rattle.rel_model.specs.Roots.{relation_room, line_product_room};
 ghost use Rattle.rel_model.specs.Worker.{Stands, set_of, Gives, Keeps, MakesAtMost, HasCause, product_room};
-ghost use Rattle.rel_slices.specs.Thin.{thin_of, ThinStands, ValueStands, value_of, value_rows, value_cols, GivesValue, HasForm};
+ghost use Rattle.rel_slices.specs.Thin.{most_lines, thin_of, ThinStands, ValueStands, value_of, value_rows, value_cols, GivesValue, HasForm};
 ghost use Rattle.rel_slices.specs.Rooms.{line_room, outer_room, coimage_room, meeting_room, cut_room, settled_room};
 
 use crate::outer::outers;
@@ -14,15 +14,15 @@ use rel_model::Lack;
 use rel_model::core_trait::Core;
 use rel_model::quads_trait::Quads;
 
-/// Columns times rows: the union of their products, whole.
+/// `R*S`, with R as its columns and S as its rows: the union of their products, as a whole relation.
 pub fn columns_by_rows<C: Core>(core: &mut C, a: &Thin, b: &Thin) -> Result<Value, Lack>
     requires left { ThinStands (C.worker core.old) a.now }
     requires right { ThinStands (C.worker core.old) b.now }
     requires columns { a.now.turned ≡ true }
     requires rows { b.now.turned ≡ false }
     requires middle { a.now.count ≡ b.now.count }
-    requires left_long { 64 < a.now.other }
-    requires right_long { 64 < b.now.other }
+    requires left_long { most_lines < a.now.other }
+    requires right_long { most_lines < b.now.other }
     ensures value { let w = C.worker core.old in IfOk result (GivesValue (C.worker core.new) a.now.other b.now.other
         (compose_of (thin_of w a.now) (thin_of w b.now))) }
     ensures form { IfOk result HasForm }
@@ -35,7 +35,7 @@ pub fn columns_by_rows<C: Core>(core: &mut C, a: &Thin, b: &Thin) -> Result<Valu
     Ok(Value::Whole(product))
 }
 
-/// Rows times columns: which meet, a relation of few rows and columns, whole.
+/// `R*S`, with R as its rows and S as its columns: which of them meet, as a whole relation of few rows and columns.
 pub fn rows_by_columns<C: Quads>(core: &mut C, a: &Thin, b: &Thin) -> Result<Value, Lack>
     requires left { ThinStands (C.worker core.old) a.now }
     requires right { ThinStands (C.worker core.old) b.now }

@@ -1,4 +1,4 @@
-//! The composition of lines with a relation that stands whole, and of two that stand whole.
+//! Composition of lines with a whole relation, and of two whole relations.
 ghost use Rattle.std.specs.Prelude.{◌≡◌, ◌≤◌, ◌<◌, ◌*◌, ◌+◌, ℕ, cond, IfOk, true, false};
 ghost use Rattle.rel_model.specs.Operators.{compose as compose_of};
 ghost use Rattle.rel_model.specs.Roots.{relation_room, line_product_room};
@@ -13,9 +13,10 @@ use crate::through::{coimages, images};
 use crate::whole::{cut_columns, cut_rows};
 use rel_model::quads_trait::Quads;
 use rel_model::{Lack, Rel};
+use std::alloc::Global;
 
-/// Rows times a relation that stands whole, row by row.
-pub fn rows_by_whole<C: Quads>(core: &mut C, a: &Thin, s: Rel) -> Result<Value, Lack>
+/// `R*S`, with R as its rows and S whole, row by row.
+pub fn rows_by_whole<C: Quads>(alloc: Global, core: &mut C, a: &Thin, s: Rel) -> Result<Value, Lack>
     requires left { ThinStands (C.worker core.old) a.now }
     requires right { Stands (C.worker core.old) s }
     requires rows { a.now.turned ≡ false }
@@ -28,13 +29,18 @@ pub fn rows_by_whole<C: Quads>(core: &mut C, a: &Thin, s: Rel) -> Result<Value, 
         + settled_room C.least false a.now.count s.cols) (C.worker core.old) (C.worker core.new) }
     ensures cause { HasCause C.lean (C.worker core.old) (C.worker core.new) result }
 {
-    let lines = images(core, false, a, s)?;
+    let lines = images(alloc, core, false, a, s)?;
     let product = settled(core, &lines)?;
     Ok(product)
 }
 
-/// A relation that stands whole times columns, column by column.
-pub fn whole_by_columns<C: Quads>(core: &mut C, r: Rel, b: &Thin) -> Result<Value, Lack>
+/// `R*S`, with R whole and S as its columns, column by column.
+pub fn whole_by_columns<C: Quads>(
+    alloc: Global,
+    core: &mut C,
+    r: Rel,
+    b: &Thin,
+) -> Result<Value, Lack>
     requires left { Stands (C.worker core.old) r }
     requires right { ThinStands (C.worker core.old) b.now }
     requires columns { b.now.turned ≡ true }
@@ -47,13 +53,13 @@ pub fn whole_by_columns<C: Quads>(core: &mut C, r: Rel, b: &Thin) -> Result<Valu
         + settled_room C.least true b.now.count r.rows) (C.worker core.old) (C.worker core.new) }
     ensures cause { HasCause C.lean (C.worker core.old) (C.worker core.new) result }
 {
-    let lines = coimages(core, r, b)?;
+    let lines = coimages(alloc, core, r, b)?;
     let product = settled(core, &lines)?;
     Ok(product)
 }
 
-/// Two relations that stand whole: where the answer is thin, one of them is cut into lines.
-pub fn whole_by_whole<C: Quads>(core: &mut C, r: Rel, s: Rel) -> Result<Value, Lack>
+/// `R*S`, with both whole. If the result is thin, one of them is cut into lines.
+pub fn whole_by_whole<C: Quads>(alloc: Global, core: &mut C, r: Rel, s: Rel) -> Result<Value, Lack>
     requires left { Stands (C.worker core.old) r }
     requires right { Stands (C.worker core.old) s }
     requires middle { r.cols ≡ s.rows }
@@ -69,11 +75,11 @@ pub fn whole_by_whole<C: Quads>(core: &mut C, r: Rel, s: Rel) -> Result<Value, L
 {
     if r.rows <= MOST && s.cols >= LEAST {
         let rows = cut_rows(core, false, r)?;
-        return rows_by_whole(core, &rows, s);
+        return rows_by_whole(alloc, core, &rows, s);
     }
     if s.cols <= MOST && r.rows >= LEAST {
         let columns = cut_columns(core, s)?;
-        return whole_by_columns(core, r, &columns);
+        return whole_by_columns(alloc, core, r, &columns);
     }
     let product = core.compose(r, s)?;
     Ok(Value::Whole(product))

@@ -1,4 +1,4 @@
-//! Tests of two values, line by line: no square is made.
+//! Tests of two values, line by line; no square is made.
 ghost use Rattle.std.specs.Prelude.{◌≡◌, ◌<◌, ◌↔◌, ℕ, IsTrue, IfOk};
 ghost use Rattle.rel_model.specs.Operators.{empty as empty_relation, diff as diff_of};
 ghost use Rattle.rel_model.specs.Worker.{Keeps, MakesAtMost, HasCause};
@@ -12,7 +12,7 @@ use crate::vectors::is_empty;
 use rel_model::Lack;
 use rel_model::core_trait::Core;
 
-/// Whether each line is that of the other.
+/// Whether each line equals the corresponding line of the other.
 fn lines_same<C: Core>(core: &C, a: &Thin, b: &Thin) -> bool
     requires left { ThinStands (C.worker core.now) a.now }
     requires right { ThinStands (C.worker core.now) b.now }
@@ -51,7 +51,7 @@ pub fn same<C: Core>(core: &C, x: &Value, y: &Value) -> bool
     }
 }
 
-/// `R <= S`: whether each pair of the first is in the second, of one type.
+/// `R <= S`: whether each pair of the first value is in the second. Both have one type.
 pub fn included<C: Core>(core: &mut C, x: &Value, y: &Value) -> Result<bool, Lack>
     requires left { ValueStands (C.worker core.old) x.now }
     requires right { ValueStands (C.worker core.old) y.now }

@@ -1,4 +1,4 @@
-//! The composition of two values, by the forms of both.
+//! Composition of two values, chosen by the forms of both.
 ghost use Rattle.std.specs.Prelude.{◌≡◌, IfOk};
 ghost use Rattle.rel_model.specs.Operators.{compose as compose_of};
 ghost use Rattle.rel_model.specs.Worker.{Keeps, MakesAtMost, HasCause, product_room};
@@ -11,9 +11,11 @@ use crate::few::{columns_by_few, columns_by_many, few_by_rows, many_by_rows};
 use crate::thin::{MOST, Value};
 use rel_model::Lack;
 use rel_model::quads_trait::Quads;
+use std::alloc::Global;
 
-/// `R*S = {(i, k) : (i, j) in r and (j, k) in s for some j}`: the composition, of k × m with m × n.
-pub fn compose<C: Quads>(core: &mut C, x: &Value, y: &Value) -> Result<Value, Lack>
+/// `R*S = {(i, k) : (i, j) in r and (j, k) in s for some j}`: the composition of a k × m and an m × n value (Schmidt
+/// and Ströhlein).
+pub fn compose<C: Quads>(alloc: Global, core: &mut C, x: &Value, y: &Value) -> Result<Value, Lack>
     requires left { ValueStands (C.worker core.old) x.now }
     requires right { ValueStands (C.worker core.old) y.now }
     requires left_form { HasForm x.now }
@@ -31,10 +33,10 @@ pub fn compose<C: Quads>(core: &mut C, x: &Value, y: &Value) -> Result<Value, La
 {
     match x {
         Value::Whole(r) => match y {
-            Value::Whole(s) => whole_by_whole(core, *r, *s),
+            Value::Whole(s) => whole_by_whole(alloc, core, *r, *s),
             Value::Lines(b) => {
                 if b.turned {
-                    whole_by_columns(core, *r, b)
+                    whole_by_columns(alloc, core, *r, b)
                 } else if r.rows <= MOST {
                     few_by_rows(core, *r, b)
                 } else {
@@ -45,7 +47,7 @@ pub fn compose<C: Quads>(core: &mut C, x: &Value, y: &Value) -> Result<Value, La
         Value::Lines(a) => match y {
             Value::Whole(s) => {
                 if !a.turned {
-                    rows_by_whole(core, a, *s)
+                    rows_by_whole(alloc, core, a, *s)
                 } else if s.cols <= MOST {
                     columns_by_few(core, a, *s)
                 } else {

@@ -1,9 +1,9 @@
-//! The composition of lines with a relation that stands whole and has as many rows, or columns, as there are lines.
+//! Composition of lines with a whole relation that has as many rows, or columns, as there are lines.
 ghost use Rattle.std.specs.Prelude.{◌≡◌, ◌≤◌, ◌<◌, ◌*◌, ◌+◌, ℕ, cond, IfOk, true, false};
 ghost use Rattle.rel_model.specs.Operators.{compose as compose_of};
 ghost use Rattle.rel_model.specs.Roots.{relation_room, line_product_room};
 ghost use Rattle.rel_model.specs.Worker.{Stands, set_of, Gives, Keeps, MakesAtMost, HasCause, product_room};
-ghost use Rattle.rel_slices.specs.Thin.{thin_of, ThinStands, ValueStands, value_of, value_rows, value_cols, GivesValue, HasForm};
+ghost use Rattle.rel_slices.specs.Thin.{most_lines, thin_of, ThinStands, ValueStands, value_of, value_rows, value_cols, GivesValue, HasForm};
 ghost use Rattle.rel_slices.specs.Rooms.{line_room, outer_room, coimage_room, meeting_room, cut_room, settled_room};
 
 use crate::by_lines::columns_by_rows;
@@ -14,12 +14,12 @@ use rel_model::core_trait::Core;
 use rel_model::quads_trait::Quads;
 use rel_model::{Lack, Rel};
 
-/// A relation of few rows times rows: the unions of those that each of its rows picks.
+/// `R*S`, with R a whole relation of few rows and S as its rows: each row of R selects the rows of S to unite.
 pub fn few_by_rows<C: Core>(core: &mut C, r: Rel, b: &Thin) -> Result<Value, Lack>
     requires left { Stands (C.worker core.old) r }
     requires right { ThinStands (C.worker core.old) b.now }
     requires long { 257 ≤ b.now.other }
-    requires few { r.rows ≤ 64 }
+    requires few { r.rows ≤ most_lines }
     requires rows { b.now.turned ≡ false }
     requires middle { r.cols ≡ b.now.count }
     ensures value { let w = C.worker core.old in IfOk result (GivesValue (C.worker core.new) r.rows b.now.other
@@ -34,12 +34,13 @@ pub fn few_by_rows<C: Core>(core: &mut C, r: Rel, b: &Thin) -> Result<Value, Lac
     Ok(Value::Lines(lines))
 }
 
-/// A relation of more rows times rows: the union of the products of its columns with them, whole.
+/// `R*S`, with R a whole relation of more rows and S as its rows: the union of the products of R's columns with them,
+/// as a whole relation.
 pub fn many_by_rows<C: Quads>(core: &mut C, r: Rel, b: &Thin) -> Result<Value, Lack>
     requires left { Stands (C.worker core.old) r }
     requires right { ThinStands (C.worker core.old) b.now }
     requires long { 257 ≤ b.now.other }
-    requires many { 64 < r.rows }
+    requires many { most_lines < r.rows }
     requires rows { b.now.turned ≡ false }
     requires middle { r.cols ≡ b.now.count }
     ensures value { let w = C.worker core.old in IfOk result (GivesValue (C.worker core.new) r.rows b.now.other
@@ -55,12 +56,13 @@ pub fn many_by_rows<C: Quads>(core: &mut C, r: Rel, b: &Thin) -> Result<Value, L
     Ok(product)
 }
 
-/// Columns times a relation of few columns: the unions of those that each of its columns picks.
+/// `R*S`, with R as its columns and S a whole relation of few columns: each column of S selects the columns of R to
+/// unite.
 pub fn columns_by_few<C: Core>(core: &mut C, a: &Thin, s: Rel) -> Result<Value, Lack>
     requires left { ThinStands (C.worker core.old) a.now }
     requires right { Stands (C.worker core.old) s }
     requires long { 257 ≤ a.now.other }
-    requires few { s.cols ≤ 64 }
+    requires few { s.cols ≤ most_lines }
     requires columns { a.now.turned ≡ true }
     requires middle { a.now.count ≡ s.rows }
     ensures value { let w = C.worker core.old in IfOk result (GivesValue (C.worker core.new) a.now.other s.cols
@@ -76,12 +78,13 @@ pub fn columns_by_few<C: Core>(core: &mut C, a: &Thin, s: Rel) -> Result<Value, 
     Ok(Value::Lines(lines))
 }
 
-/// Columns times a relation of more columns: the union of their products with its rows, whole.
+/// `R*S`, with R as its columns and S a whole relation of more columns: the union of their products with the rows of S,
+/// as a whole relation.
 pub fn columns_by_many<C: Quads>(core: &mut C, a: &Thin, s: Rel) -> Result<Value, Lack>
     requires left { ThinStands (C.worker core.old) a.now }
     requires right { Stands (C.worker core.old) s }
     requires long { 257 ≤ a.now.other }
-    requires many { 64 < s.cols }
+    requires many { most_lines < s.cols }
     requires columns { a.now.turned ≡ true }
     requires middle { a.now.count ≡ s.rows }
     ensures value { let w = C.worker core.old in IfOk result (GivesValue (C.worker core.new) a.now.other s.cols

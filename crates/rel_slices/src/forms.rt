@@ -10,7 +10,7 @@ use crate::whole::{assembled, cut_columns, cut_rows};
 use rel_model::quads_trait::Quads;
 use rel_model::{Lack, Rel};
 
-/// A relation in the form of its sizes: as its rows or its columns where these are few and long, else whole.
+/// A relation in the form of its sizes: as its rows or columns if these are few and long, otherwise whole.
 pub fn formed<C: Quads>(core: &mut C, r: Rel) -> Result<Value, Lack>
     requires { Stands (C.worker core.old) r }
     ensures value { IfOk result (GivesValue (C.worker core.new) r.rows r.cols (set_of (C.worker core.old) r)) }
@@ -30,7 +30,7 @@ pub fn formed<C: Quads>(core: &mut C, r: Rel) -> Result<Value, Lack>
     Ok(Value::Whole(r))
 }
 
-/// Lines in the form of their sizes: as they are where they are long, else made whole.
+/// Lines in the form of their sizes: as they are if they are long, otherwise made whole.
 pub fn settled<C: Quads>(core: &mut C, lines: &Thin) -> Result<Value, Lack>
     requires { ThinStands (C.worker core.old) lines.now }
     ensures value { IfOk result (GivesValue (C.worker core.new) (thin_rows lines.now) (thin_cols lines.now)

@@ -9,7 +9,7 @@ use crate::thin::Thin;
 use rel_model::core_trait::Core;
 use rel_model::{Lack, Rel};
 
-/// The operators that go line by line.
+/// The operators that go line by line. One byte.
 #[derive(Clone, Copy)]
 pub enum Boole {
     Union,
@@ -17,7 +17,7 @@ pub enum Boole {
     Diff,
 }
 
-/// One of them on two relations of one type.
+/// Applies such an operator to two relations of one type.
 pub fn one<C: Core>(core: &mut C, op: Boole, r: Rel, s: Rel) -> Result<Rel, Lack>
     requires left { Stands (C.worker core.old) r }
     requires right { Stands (C.worker core.old) s }
@@ -36,7 +36,7 @@ pub fn one<C: Core>(core: &mut C, op: Boole, r: Rel, s: Rel) -> Result<Rel, Lack
     }
 }
 
-/// The lines of two values of one form, line by line.
+/// Applies such an operator to each pair of corresponding lines of two values of one form.
 pub fn each<C: Core>(core: &mut C, op: Boole, a: &Thin, b: &Thin) -> Result<Thin, Lack>
     requires left { ThinStands (C.worker core.old) a.now }
     requires right { ThinStands (C.worker core.old) b.now }

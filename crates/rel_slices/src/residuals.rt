@@ -11,9 +11,13 @@ use crate::thin::Value;
 use crate::values::{boole, complement, transpose};
 use rel_model::Lack;
 use rel_model::quads_trait::Quads;
+use std::alloc::Global;
 
-/// `R\S = {(j, k) : (i, j) in r implies (i, k) in s, for all i}`: it is `-(R^ * -S)`.
-pub fn right<C: Quads>(core: &mut C, r: &Value, s: &Value) -> Result<Value, Lack>
+/// `R\S = {(j, k) : (i, j) in r implies (i, k) in s, for all i}`: the right residual of an m × n and an m × p value
+/// (Schmidt and Ströhlein).
+///
+/// It is computed as `-(R^ * -S)`.
+pub fn right<C: Quads>(alloc: Global, core: &mut C, r: &Value, s: &Value) -> Result<Value, Lack>
     requires left { ValueStands (C.worker core.old) r.now }
     requires right { ValueStands (C.worker core.old) s.now }
     requires left_form { HasForm r.now }
@@ -31,13 +35,16 @@ pub fn right<C: Quads>(core: &mut C, r: &Value, s: &Value) -> Result<Value, Lack
 {
     let turned = transpose(core, r)?;
     let lacking = complement(core, s)?;
-    let broken = compose(core, &turned, &lacking)?;
+    let broken = compose(alloc, core, &turned, &lacking)?;
     let rest = complement(core, &broken)?;
     Ok(rest)
 }
 
-/// `S/R = {(i, j) : (j, k) in r implies (i, k) in s, for all k}`: it is `-(-S * R^)`.
-pub fn left<C: Quads>(core: &mut C, s: &Value, r: &Value) -> Result<Value, Lack>
+/// `S/R = {(i, j) : (j, k) in r implies (i, k) in s, for all k}`: the left residual of an m × p and an n × p value
+/// (Schmidt and Ströhlein).
+///
+/// It is computed as `-(-S * R^)`.
+pub fn left<C: Quads>(alloc: Global, core: &mut C, s: &Value, r: &Value) -> Result<Value, Lack>
     requires left { ValueStands (C.worker core.old) s.now }
     requires right { ValueStands (C.worker core.old) r.now }
     requires left_form { HasForm s.now }
@@ -55,13 +62,16 @@ pub fn left<C: Quads>(core: &mut C, s: &Value, r: &Value) -> Result<Value, Lack>
 {
     let lacking = complement(core, s)?;
     let turned = transpose(core, r)?;
-    let broken = compose(core, &lacking, &turned)?;
+    let broken = compose(alloc, core, &lacking, &turned)?;
     let rest = complement(core, &broken)?;
     Ok(rest)
 }
 
-/// `syq(R,S) = {(j, k) : (i, j) in r exactly if (i, k) in s, for all i}`: it is `(R\S) & (R^/S^)`.
-pub fn syq<C: Quads>(core: &mut C, r: &Value, s: &Value) -> Result<Value, Lack>
+/// `syq(R,S) = {(j, k) : (i, j) in r exactly if (i, k) in s, for all i}`: the symmetric quotient of an m × n and an m ×
+/// p value (Schmidt and Ströhlein).
+///
+/// It is computed as `(R\S) & (R^/S^)`.
+pub fn syq<C: Quads>(alloc: Global, core: &mut C, r: &Value, s: &Value) -> Result<Value, Lack>
     requires left { ValueStands (C.worker core.old) r.now }
     requires right { ValueStands (C.worker core.old) s.now }
     requires left_form { HasForm r.now }
@@ -77,10 +87,10 @@ pub fn syq<C: Quads>(core: &mut C, r: &Value, s: &Value) -> Result<Value, Lack>
         (C.worker core.old) (C.worker core.new) }
     ensures cause { HasCause C.lean (C.worker core.old) (C.worker core.new) result }
 {
-    let forth = right(core, r, s)?;
+    let forth = right(alloc, core, r, s)?;
     let r_turned = transpose(core, r)?;
     let s_turned = transpose(core, s)?;
-    let back = left(core, &r_turned, &s_turned)?;
+    let back = left(alloc, core, &r_turned, &s_turned)?;
     let both = boole(core, Boole::Inter, &forth, &back)?;
     Ok(both)
 }

@@ -1,30 +1,31 @@
-//! Values: relations that stand whole, and thin ones as their lines.
+//! Values: whole relations, and thin ones as their lines.
 ghost use Rattle.std.specs.Prelude.{◌≡◌, ◌<◌, ◌≤◌, ◌≢◌, ℕ};
-ghost use Rattle.rel_slices.specs.Thin.{line_of};
+ghost use Rattle.rel_slices.specs.Thin.{most_lines, line_of};
 
 use rel_model::Rel;
 
-/// The most lines of a thin relation.
-pub const MOST: u32 = 64;
+/// The most lines of a thin relation. With this many, a test of two such relations, each first brought into its form,
+/// just stays within the nodes that the language charges for it.
+pub const MOST: u32 = 112;
 
-/// The least size of its longer side.
+/// The least size of the longer side of a thin relation.
 pub const LEAST: u32 = 257;
 
-/// A thin relation: one of at most 64 lines along its shorter side. Line i is its row i, or its column i where it is
-/// turned, each a relation of one row. 268 bytes.
+/// A thin relation: one with at most `MOST` lines along its shorter side. Line `i` is its row `i`, or its column `i` if
+/// `turned`; each is a relation of one row. 460 bytes.
 #[derive(Clone, Copy)]
 pub struct Thin {
     /// Whether the lines are columns.
     pub turned: bool,
-    /// How many lines there are, at most 64.
+    /// How many lines there are, at most `MOST`.
     pub count: u32,
     /// How many elements a line ranges over.
     pub other: u32,
     /// The name of each line.
-    pub roots: [u32; 64],
+    pub roots: [u32; 112],
 }
 
-/// A relation as the evaluator handles it.
+/// A relation as the evaluator handles it, whole or as its lines. Some 460 bytes, nothing on the heap.
 #[derive(Clone, Copy)]
 pub enum Value {
     Whole(Rel),
@@ -32,9 +33,9 @@ pub enum Value {
 }
 
 impl Thin {
-    /// So many lines, which are still to be put.
+    /// `count` lines that are still to be put.
     pub fn blank(turned: bool, count: u32, other: u32) -> Thin
-        requires { count ≤ 64 }
+        requires { count ≤ most_lines }
         ensures turned { result.turned ≡ turned }
         ensures count { result.count ≡ count }
         ensures other { result.other ≡ other }
@@ -43,13 +44,13 @@ impl Thin {
             turned,
             count,
             other,
-            roots: [0; 64],
+            roots: [0; 112],
         }
     }
 
-    /// Line i.
+    /// Line `i`, as a relation of one row.
     pub fn line(&self, i: u32) -> Rel
-        requires { i < 64 }
+        requires { i < most_lines }
         ensures { result ≡ line_of self.now i }
     {
         Rel {
@@ -59,9 +60,9 @@ impl Thin {
         }
     }
 
-    /// Puts a line in a place.
+    /// Puts a line at place `i`.
     pub fn put(&mut self, i: u32, line: Rel)
-        requires place { i < 64 }
+        requires place { i < most_lines }
         requires row { line.rows ≡ 1 }
         requires cols { line.cols ≡ self.old.other }
         ensures here { line_of self.new i ≡ line }

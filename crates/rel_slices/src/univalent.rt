@@ -1,4 +1,4 @@
-//! Whether a value is univalent, by its lines: rows one by one, columns two by two. Nothing is made.
+//! Whether a value is univalent, by its lines: rows one at a time, columns two at a time. No node is made.
 ghost use Rattle.std.specs.Prelude.{◌≡◌, ◌<◌, not, ℕ};
 ghost use Rattle.rel_model.specs.Cells.{some_below};
 ghost use Rattle.rel_model.specs.Choice.{is_unival};
@@ -27,7 +27,7 @@ fn each_single<E: Engine>(engine: &mut E, s: &Thin) -> bool
     true
 }
 
-/// Whether a line meets none before it.
+/// Whether line `j` meets none of the lines before it.
 fn is_apart<C: Core>(core: &mut C, s: &Thin, j: u32) -> bool
     requires standing { ThinStands (C.worker core.old) s.now }
     requires place { j < s.now.count }
@@ -62,7 +62,7 @@ fn all_apart<C: Core>(core: &mut C, s: &Thin) -> bool
     true
 }
 
-/// Whether no row has two pairs: the value is univalent.
+/// Whether no row has two pairs: the value is univalent (Schmidt and Ströhlein).
 pub fn unival<E: Engine>(engine: &mut E, v: &Value) -> bool
     requires { ValueStands (E.worker engine.old) v.now }
     ensures value { result ≡ is_unival (value_of (E.worker engine.old) v.now) }

@@ -1,10 +1,10 @@
-//! Values made whole, and the operators between two of one type.
+//! Making values whole, and the operators on two values of one type.
 ghost use Rattle.std.specs.Prelude.{◌≡◌, ◌≤◌, ◌<◌, ◌*◌, ◌+◌, ℕ, min, max, cond, not, IfOk, true, false};
 ghost use Rattle.rel_model.specs.Operators.{complement as complement_of, transpose as transpose_of, full as full_relation};
 ghost use Rattle.rel_model.specs.Relation.{size_limit};
 ghost use Rattle.rel_model.specs.Roots.{relation_room};
 ghost use Rattle.rel_model.specs.Worker.{Stands, set_of, Gives, Keeps, MakesAtMost, HasCause};
-ghost use Rattle.rel_slices.specs.Thin.{line_of, line_set, thin_rows, thin_cols, thin_of, ThinStands, GivesLines, ValueStands, value_of, value_rows, value_cols, GivesValue, HasForm};
+ghost use Rattle.rel_slices.specs.Thin.{most_lines, line_of, line_set, thin_rows, thin_cols, thin_of, ThinStands, GivesLines, ValueStands, value_of, value_rows, value_cols, GivesValue, HasForm};
 ghost use Rattle.rel_slices.specs.Ops.{boole_of};
 ghost use Rattle.rel_slices.specs.Rooms.{line_room};
 ghost use Rattle.rel_slices.specs.ValueRooms.{assembly_room, pieces_room, full_room, complement_room, transpose_room};
@@ -16,7 +16,7 @@ use rel_model::core_trait::Core;
 use rel_model::quads_trait::Quads;
 use rel_model::{Lack, Rel, Shape};
 
-/// A value as a relation that stands whole.
+/// A value as a whole relation.
 pub fn whole<C: Quads>(core: &mut C, v: &Value) -> Result<Rel, Lack>
     requires { ValueStands (C.worker core.old) v.now }
     ensures value { IfOk result (Gives (C.worker core.new) (value_rows v.now) (value_cols v.now)
@@ -31,7 +31,7 @@ pub fn whole<C: Quads>(core: &mut C, v: &Value) -> Result<Rel, Lack>
     }
 }
 
-/// An operator between lines of one form.
+/// Applies an operator to lines of one form.
 fn boole_lines<C: Core>(core: &mut C, op: Boole, a: &Thin, b: &Thin) -> Result<Value, Lack>
     requires left { ThinStands (C.worker core.old) a.now }
     requires right { ThinStands (C.worker core.old) b.now }
@@ -51,13 +51,13 @@ fn boole_lines<C: Core>(core: &mut C, op: Boole, a: &Thin, b: &Thin) -> Result<V
     Ok(Value::Lines(lines))
 }
 
-/// An operator between relations that stand whole.
+/// Applies an operator to whole relations.
 fn boole_whole<C: Core>(core: &mut C, op: Boole, r: Rel, s: Rel) -> Result<Value, Lack>
     requires left { Stands (C.worker core.old) r }
     requires right { Stands (C.worker core.old) s }
     requires rows { r.rows ≡ s.rows }
     requires cols { r.cols ≡ s.cols }
-    requires form { min r.rows r.cols ≤ 64 → max r.rows r.cols ≤ 256 }
+    requires form { min r.rows r.cols ≤ most_lines → max r.rows r.cols ≤ 256 }
     ensures value { let w = C.worker core.old in IfOk result (GivesValue (C.worker core.new) r.rows r.cols
         (boole_of op (set_of w r) (set_of w s))) }
     ensures form { IfOk result HasForm }
@@ -69,7 +69,7 @@ fn boole_whole<C: Core>(core: &mut C, op: Boole, r: Rel, s: Rel) -> Result<Value
     Ok(Value::Whole(made))
 }
 
-/// The union, the intersection or the difference of two values of one type.
+/// The union, intersection or difference of two values of one type.
 pub fn boole<C: Core>(core: &mut C, op: Boole, x: &Value, y: &Value) -> Result<Value, Lack>
     requires left { ValueStands (C.worker core.old) x.now }
     requires right { ValueStands (C.worker core.old) y.now }
@@ -96,9 +96,9 @@ pub fn boole<C: Core>(core: &mut C, op: Boole, x: &Value, y: &Value) -> Result<V
     }
 }
 
-/// So many times one line.
+/// One line, repeated `count` times.
 pub fn repeated(turned: bool, count: u32, line: Rel) -> Thin
-    requires few { count ≤ 64 }
+    requires few { count ≤ most_lines }
     requires row { line.rows ≡ 1 }
     ensures turned { result.turned ≡ turned }
     ensures count { result.count ≡ count }
@@ -112,9 +112,9 @@ pub fn repeated(turned: bool, count: u32, line: Rel) -> Thin
     made
 }
 
-/// So many full lines.
+/// `count` full lines.
 pub fn full_lines<C: Core>(core: &mut C, turned: bool, count: u32, other: u32) -> Result<Thin, Lack>
-    requires few { count ≤ 64 }
+    requires few { count ≤ most_lines }
     requires limit { other ≤ size_limit }
     ensures lines { IfOk result (GivesLines (C.worker core.new) turned count other (λ i. full_relation 1 other)) }
     ensures keeps { Keeps (C.worker core.old) (C.worker core.new) }
@@ -129,7 +129,7 @@ pub fn full_lines<C: Core>(core: &mut C, turned: bool, count: u32, other: u32) -
     Ok(repeated(turned, count, line))
 }
 
-/// `-R`: the pairs of these sizes that a value lacks.
+/// `-R = {(i, j) : not (i, j) in r}`: the complement within the sizes of R (Schmidt and Ströhlein).
 pub fn complement<C: Core>(core: &mut C, v: &Value) -> Result<Value, Lack>
     requires stands { ValueStands (C.worker core.old) v.now }
     requires form { HasForm v.now }
@@ -158,7 +158,7 @@ pub fn complement<C: Core>(core: &mut C, v: &Value) -> Result<Value, Lack>
     }
 }
 
-/// `R^`: rows and columns exchanged. No node is made of lines.
+/// `R^ = {(j, i) : (i, j) in r}`: the transposition (Schmidt and Ströhlein). If the value is lines, no node is made.
 pub fn transpose<C: Core>(core: &mut C, v: &Value) -> Result<Value, Lack>
     requires stands { ValueStands (C.worker core.old) v.now }
     requires form { HasForm v.now }
@@ -181,7 +181,7 @@ pub fn transpose<C: Core>(core: &mut C, v: &Value) -> Result<Value, Lack>
     }
 }
 
-/// The same lines the other way.
+/// The same lines, as columns if they were rows and as rows if they were columns.
 fn turned_over(s: &Thin) -> Thin
     ensures turned { result.turned ≡ not s.now.turned }
     ensures count { result.count ≡ s.now.count }

@@ -1,18 +1,11 @@
-//! Tests of values, and where they have pairs.
-ghost use Rattle.std.specs.Prelude.{◌≡◌, ◌≤◌, ◌<◌, ◌↔◌, ℕ, IsTrue, IfOk};
-ghost use Rattle.rel_model.specs.Choice.{dom as dom_of, ran as ran_of};
+//! The type of a value, and whether it is empty.
+ghost use Rattle.std.specs.Prelude.{◌≡◌, ◌<◌, ◌↔◌, ℕ, IsTrue};
 ghost use Rattle.rel_model.specs.Operators.{empty as empty_relation};
-ghost use Rattle.rel_model.specs.Worker.{Keeps, MakesAtMost, HasCause, wide_room};
-ghost use Rattle.rel_slices.specs.Thin.{line_set, thin_of, thin_rows, thin_cols, ThinStands, ValueStands, value_of, value_rows, value_cols, GivesValue, HasForm};
+ghost use Rattle.rel_slices.specs.Thin.{line_set, thin_of, ThinStands, ValueStands, value_of, value_rows, value_cols};
 
-use crate::bases::full;
-use crate::composing::compose;
-use crate::forms::formed;
 use crate::thin::{Thin, Value};
-use crate::values::transpose;
+use rel_model::Shape;
 use rel_model::core_trait::Core;
-use rel_model::engine_trait::Engine;
-use rel_model::{Lack, Shape};
 
 /// Whether no line has an element.
 fn lines_empty<C: Core>(core: &C, s: &Thin) -> bool
@@ -64,50 +57,4 @@ pub fn shape_of(v: &Value) -> Shape
             }
         }
     }
-}
-
-/// `{(i, 0) : (i, j) in r for some j}`: the domain of definition. It is `R*L`, with L one full column.
-pub fn dom<E: Engine>(engine: &mut E, v: &Value) -> Result<Value, Lack>
-    requires stands { ValueStands (E.worker engine.old) v.now }
-    requires form { HasForm v.now }
-    ensures value { IfOk result (GivesValue (E.worker engine.new) (value_rows v.now) 1
-        (dom_of (value_of (E.worker engine.old) v.now))) }
-    ensures form { IfOk result HasForm }
-    ensures keeps { Keeps (E.worker engine.old) (E.worker engine.new) }
-    ensures cost { E.least ≡ 3 → MakesAtMost (wide_room (value_rows v.now) (value_cols v.now) 1) (E.worker engine.old)
-        (E.worker engine.new) }
-    ensures cause { HasCause E.lean (E.worker engine.old) (E.worker engine.new) result }
-{
-    if let Value::Whole(r) = v {
-        let vector = engine.dom(*r)?;
-        return formed(engine, vector);
-    }
-    let shape = Shape {
-        rows: shape_of(v).cols,
-        cols: 1,
-    };
-    let ones = full(engine, shape)?;
-    let vector = compose(engine, v, &ones)?;
-    Ok(vector)
-}
-
-/// `{(j, 0) : (i, j) in r for some i}`: the range, which is the domain of definition of the transposed value.
-pub fn ran<E: Engine>(engine: &mut E, v: &Value) -> Result<Value, Lack>
-    requires stands { ValueStands (E.worker engine.old) v.now }
-    requires form { HasForm v.now }
-    ensures value { IfOk result (GivesValue (E.worker engine.new) (value_cols v.now) 1
-        (ran_of (value_of (E.worker engine.old) v.now))) }
-    ensures form { IfOk result HasForm }
-    ensures keeps { Keeps (E.worker engine.old) (E.worker engine.new) }
-    ensures cost { E.least ≡ 3 → MakesAtMost (wide_room (value_rows v.now) (value_cols v.now) 1) (E.worker engine.old)
-        (E.worker engine.new) }
-    ensures cause { HasCause E.lean (E.worker engine.old) (E.worker engine.new) result }
-{
-    if let Value::Whole(r) = v {
-        let vector = engine.ran(*r)?;
-        return formed(engine, vector);
-    }
-    let turned = transpose(engine, v)?;
-    let vector = dom(engine, &turned)?;
-    Ok(vector)
 }

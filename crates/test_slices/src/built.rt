@@ -1,4 +1,4 @@
-//! The relations that are tried, as an engine has them.
+//! The relations of the tests, built by an engine.
 #![tactic(auto, using(crate::proofs::Later::rel_later, crate::proofs::Later::value_later))]
 
 ghost use Rattle.std.specs.Prelude.{◌≡◌, ◌≤◌, ◌<◌, IfOk};
@@ -13,7 +13,7 @@ use rel_model::{Rel, Shape};
 use rel_slices::{Value, formed};
 use std::process::Abort;
 
-/// A row of one of the relations, beside what there is.
+/// Adds a row of one of the relations to what there is.
 fn row_beside<E: Engine>(rt: &impl Abort, engine: &mut E, which: Which, i: u32, r: Rel) -> Rel
     requires standing { Stands (E.worker engine.old) r }
     requires rows { r.rows ≤ size_limit }
@@ -43,7 +43,7 @@ fn row_beside<E: Engine>(rt: &impl Abort, engine: &mut E, which: Which, i: u32, 
     all
 }
 
-/// One of the relations, of these sizes, whole.
+/// One of the relations, at these sizes, as a whole relation.
 pub(crate) fn whole<E: Engine>(rt: &impl Abort, engine: &mut E, which: Which, shape: Shape) -> Rel
     ensures standing { Stands (E.worker engine.new) result }
     ensures rows { result.rows ≡ shape.rows }
@@ -60,7 +60,7 @@ pub(crate) fn whole<E: Engine>(rt: &impl Abort, engine: &mut E, which: Which, sh
     r
 }
 
-/// One of the relations, of these sizes, in the form of its sizes.
+/// One of the relations, at these sizes, in the form of its sizes.
 pub(crate) fn built<E: Engine>(rt: &impl Abort, engine: &mut E, which: Which, shape: Shape) -> Value
     ensures standing { ValueStands (E.worker engine.new) result }
     ensures form { HasForm result }

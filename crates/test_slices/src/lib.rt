@@ -1,10 +1,10 @@
-//! Tests of values over an engine, beside slow answers by the membership clauses.
+//! Tests of values over an engine, compared with slow answers by the membership formulas.
 #![tactic(auto)]
 
 #[cfg(test)]
 mod built;
 #[cfg(test)]
-mod picks;
+mod forms;
 #[cfg(test)]
 mod slow;
 #[cfg(test)]

@@ -1,4 +1,4 @@
-//! Each operation on each pair of forms, beside the membership clauses.
+//! Each operation on each pair of forms, compared with the membership formulas.
 #![tactic(auto, using(crate::proofs::Later::rel_later, crate::proofs::Later::value_later))]
 
 ghost use Rattle.std.specs.Prelude.{◌≡◌, ◌≤◌, ◌<◌, IfOk};
@@ -19,8 +19,15 @@ use std::alloc::Global;
 use std::process::Abort;
 use std::thread::Threads;
 
-/// What an operation answers.
-fn answer_of<E: Engine>(rt: &impl Abort, engine: &mut E, op: Op, x: &Value, y: &Value) -> Value
+/// The answer of an operation.
+fn answer_of<E: Engine>(
+    rt: &impl Abort,
+    alloc: Global,
+    engine: &mut E,
+    op: Op,
+    x: &Value,
+    y: &Value,
+) -> Value
     requires left { ValueStands (E.worker engine.old) x.now }
     requires right { ValueStands (E.worker engine.old) y.now }
     requires left_form { HasForm x.now }
@@ -42,19 +49,19 @@ fn answer_of<E: Engine>(rt: &impl Abort, engine: &mut E, op: Op, x: &Value, y: &
         }
         Op::Compose => {
             assert!(rt; a.cols == b.rows);
-            compose(engine, x, y)
+            compose(alloc, engine, x, y)
         }
         Op::Right => {
             assert!(rt; a.rows == b.rows);
-            right(engine, x, y)
+            right(alloc, engine, x, y)
         }
         Op::Left => {
             assert!(rt; a.cols == b.cols);
-            left(engine, x, y)
+            left(alloc, engine, x, y)
         }
         Op::Syq => {
             assert!(rt; a.rows == b.rows);
-            syq(engine, x, y)
+            syq(alloc, engine, x, y)
         }
     };
     match given {
@@ -63,7 +70,7 @@ fn answer_of<E: Engine>(rt: &impl Abort, engine: &mut E, op: Op, x: &Value, y: &
     }
 }
 
-/// Asserts that a value has exactly the pairs of an answer.
+/// Asserts that a value has exactly the pairs that the answer should have.
 fn is_answer<E: Engine>(rt: &impl Abort, engine: &mut E, op: Op, sizes: Sizes, value: &Value)
     requires { ValueStands (E.worker engine.old) value.now }
 {
@@ -85,32 +92,43 @@ fn is_answer<E: Engine>(rt: &impl Abort, engine: &mut E, op: Op, sizes: Sizes, v
     }
 }
 
-/// Asserts that an operation of these sizes is answered by its membership clause.
-pub(crate) fn agrees<E: Engine>(rt: &impl Abort, engine: &mut E, op: Op, sizes: Sizes) {
+/// Asserts that an operation at these sizes agrees with its membership formula.
+pub(crate) fn agrees<E: Engine>(
+    rt: &impl Abort,
+    alloc: Global,
+    engine: &mut E,
+    op: Op,
+    sizes: Sizes,
+) {
     let x = built(rt, engine, Which::First, left_shape(op, sizes));
     let y = built(rt, engine, Which::Second, right_shape(op, sizes));
-    let value = answer_of(rt, engine, op, &x, &y);
+    let value = answer_of(rt, alloc, engine, op, &x, &y);
     is_answer(rt, engine, op, sizes, &value);
 }
 
-/// Sizes for each pair of forms, with sides at which a form begins or ends.
+/// Sizes for each pair of forms, with sides just inside and just outside a form, and with the most lines that a
+/// relation may have.
 const TRIED: &[Sizes] = &[
     Sizes { k: 1, m: 2, n: 1 },
-    Sizes { k: 63, m: 2, n: 64 },
     Sizes {
-        k: 64,
-        m: 65,
+        k: 65,
+        m: 2,
+        n: 112,
+    },
+    Sizes {
+        k: 112,
+        m: 113,
         n: 257,
     },
     Sizes {
         k: 2,
         m: 257,
-        n: 63,
+        n: 100,
     },
     Sizes {
         k: 257,
         m: 2,
-        n: 64,
+        n: 112,
     },
     Sizes {
         k: 257,
@@ -118,24 +136,34 @@ const TRIED: &[Sizes] = &[
         n: 258,
     },
     Sizes {
-        k: 65,
+        k: 257,
+        m: 65,
+        n: 258,
+    },
+    Sizes {
+        k: 113,
         m: 3,
         n: 257,
     },
     Sizes {
         k: 257,
         m: 3,
-        n: 65,
+        n: 113,
     },
     Sizes {
         k: 3,
         m: 300,
-        n: 65,
+        n: 113,
     },
     Sizes {
-        k: 65,
+        k: 113,
         m: 300,
         n: 3,
+    },
+    Sizes {
+        k: 100,
+        m: 300,
+        n: 112,
     },
     Sizes {
         k: 257,
@@ -149,7 +177,7 @@ const TRIED: &[Sizes] = &[
     },
 ];
 
-/// Asserts that an operation is answered by its membership clause at all these sizes.
+/// Asserts that an operation agrees with its membership formula at all these sizes.
 fn at_all_sizes<R: Threads + Abort + Sync>(rt: &R, alloc: Global, op: Op) {
     for sizes in TRIED {
         on_an_engine(rt, alloc, Trial::Two(op, *sizes));
@@ -175,8 +203,8 @@ fn residuals_and_quotients_have_the_pairs_of_their_clauses(rt: HostRuntime) {
     at_all_sizes(&rt, rt.alloc(), Op::Syq);
 }
 
-/// Asserts of the first relation of these sizes what its complement and its transposition have, and how it is
-/// compared with itself and with its complement.
+/// Asserts which pairs the complement and the transposition of the first relation have at these sizes, and how it
+/// compares with itself and with its complement.
 pub(crate) fn one_agrees<E: Engine>(rt: &impl Abort, engine: &mut E, shape: Shape) {
     let x = built(rt, engine, Which::First, shape);
     let Ok(rest) = complement(engine, &x) else {

@@ -1,10 +1,10 @@
-//! What any engine is put to, and an engine over a table of its own for each.
+//! The trials that any engine can be put through, each over its own table.
 #![tactic(auto)]
 
 ghost use Rattle.rel_model.specs.Views.{IsOf};
 
-use crate::slow::{Op, Pick, Sizes};
-use crate::{picks, tests};
+use crate::slow::{Op, Sizes};
+use crate::{forms, tests};
 use fork_quads::{Crew, OpenGate};
 use pair_table::{PairTable, Seat};
 use rel_engine::Works;
@@ -14,23 +14,21 @@ use std::alloc::Global;
 use std::process::Abort;
 use std::thread::Threads;
 
-/// What an engine is put to: an operation of two values, those of one, a pick, membership, and both forms.
+/// A trial: an operation on two values, those on one, membership, or both forms.
 pub(crate) enum Trial {
     Two(Op, Sizes),
     One(Shape),
-    Picked(Pick, Shape),
     Membership(u32),
     BackAndForth(Shape),
 }
 
-/// Puts an engine to a trial.
-fn put<E: Engine>(rt: &impl Abort, engine: &mut E, trial: Trial) {
+/// Puts an engine through a trial.
+fn put<E: Engine>(rt: &impl Abort, alloc: Global, engine: &mut E, trial: Trial) {
     match trial {
-        Trial::Two(op, sizes) => tests::agrees(rt, engine, op, sizes),
+        Trial::Two(op, sizes) => tests::agrees(rt, alloc, engine, op, sizes),
         Trial::One(shape) => tests::one_agrees(rt, engine, shape),
-        Trial::Picked(pick, shape) => picks::is_picked(rt, engine, pick, shape),
-        Trial::Membership(x) => picks::is_membership(rt, engine, x),
-        Trial::BackAndForth(shape) => picks::comes_back(rt, engine, shape),
+        Trial::Membership(x) => forms::is_membership(rt, engine, x),
+        Trial::BackAndForth(shape) => forms::comes_back(rt, engine, shape),
     }
 }
 
@@ -44,9 +42,9 @@ fn table(rt: &impl Abort, alloc: Global) -> (PairTable, Seat)
     }
 }
 
-/// Puts an engine of one worker over a table of its own to a trial.
+/// Puts an engine with one worker, over its own table, through a trial.
 pub(crate) fn on_an_engine<R: Threads + Abort + Sync>(rt: &R, alloc: Global, trial: Trial) {
     let (table, seat) = table(rt, alloc);
     let mut works = Works::new(Crew::new(rt, &table, seat, 1, &OpenGate));
-    put(rt, &mut works, trial);
+    put(rt, alloc, &mut works, trial);
 }

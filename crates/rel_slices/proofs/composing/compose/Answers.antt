@@ -1,7 +1,7 @@
 use Rattle.std.proofs.Common.{◌≡◌, ◌≤◌, ◌*◌, ◌∙◌, cond, ℕ, Bool, refl, sym, subst, ap, arith, inl, inr}
 use Rattle.rel_slices.specs.declared.thin.Value.{Value}
 use Rattle.rel_slices.specs.declared.thin.Value.TheVariants.{Whole, Lines}
-use Rattle.rel_slices.specs.Thin.{ValueStands, HasForm, IsLines, value_rows, value_cols}
+use Rattle.rel_slices.specs.Thin.{most_lines, ValueStands, HasForm, IsLines, value_rows, value_cols}
 use Rattle.rel_slices.specs.Rooms.{line_room, outer_room}
 use Rattle.rel_slices.proofs.Valuing.{rows_after, columns_after}
 use Rattle.rel_slices.proofs.Costs.{images_cost, coimages_cost, few_cost, turned_few_cost, many_cost, turned_many_cost, outers_cost, meetings_cost, by_values, thin_product}
@@ -80,7 +80,7 @@ returns-else-r-le-MOST-clause-thin g c = λ e some.
     let mid : value_cols p ≡ value_rows q = sym (ap value_cols ex) ∙ c.requires.middle ∙ ap value_rows ey in
     let n = c.many_by_rows.ensures.room in
     let em = mid ∙ ap (λ (t : Bool). cond t b.other b.count) c.if-b.false in
-    let few : r.cols ≤ 64 = (let k = sb.few in omega (arith, k, em)) in
+    let few : r.cols ≤ most_lines = (let k = sb.few in omega (arith, k, em)) in
     let m = by_values x y p q r.rows r.cols b.other _ ex ey refl refl (ap (λ (t : Bool). cond t b.count b.other) c.if-b.false)
     (many_cost least r.rows r.cols b.other e few (laws.row_limit core r sr) (laws.col_limit core r sr) sb.limit) in
     omega (arith, n, m)
@@ -136,7 +136,7 @@ returns-then-s-le-MOST-clause-thin g c = λ e some.
     let mid : value_cols p ≡ value_rows q = sym (ap value_cols ex) ∙ c.requires.middle ∙ ap value_rows ey in
     let n = c.columns_by_few.ensures.room in
     let em = sym (ap (λ (t : Bool). cond t a.count a.other) c.if-not-a.false) ∙ mid in
-    let few : s.rows ≤ 64 = (let k = sa.few in omega (arith, k, em)) in
+    let few : s.rows ≤ most_lines = (let k = sa.few in omega (arith, k, em)) in
     let f = ap (λ (t : ℕ). s.cols * (t * line_room least a.other)) em in
     let m = by_values x y p q a.other s.rows s.cols _ ex ey (ap (λ (t : Bool). cond t a.other a.count) c.if-not-a.false) mid refl
     (turned_few_cost least a.other s.rows s.cols e few sa.limit (laws.row_limit core s ss) (laws.col_limit core s ss)) in
@@ -166,7 +166,7 @@ returns-else-s-le-MOST-clause-thin g c = λ e some.
     let mid : value_cols p ≡ value_rows q = sym (ap value_cols ex) ∙ c.requires.middle ∙ ap value_rows ey in
     let n = c.columns_by_many.ensures.room in
     let em = sym (ap (λ (t : Bool). cond t a.count a.other) c.if-not-a.false) ∙ mid in
-    let few : s.rows ≤ 64 = (let k = sa.few in omega (arith, k, em)) in
+    let few : s.rows ≤ most_lines = (let k = sa.few in omega (arith, k, em)) in
     let f = ap (λ (t : ℕ). t * outer_room least a.other s.cols) em in
     let m = by_values x y p q a.other s.rows s.cols _ ex ey (ap (λ (t : Bool). cond t a.other a.count) c.if-not-a.false) mid refl
     (turned_many_cost least a.other s.rows s.cols e few sa.limit (laws.row_limit core s ss) (laws.col_limit core s ss)) in

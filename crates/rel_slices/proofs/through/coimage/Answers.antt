@@ -1,48 +1,17 @@
-use Rattle.std.proofs.Common.{◌∙◌, ℕ, sym, ap, arith}
-use Rattle.rel_model.specs.Roots.{relation_room, line_product_room}
-use Rattle.rel_slices.specs.Rooms.{coimage_room}
+use Rattle.std.proofs.Common.{arith}
+use Rattle.rel_model.specs.Operators.{compose, transpose}
+use Rattle.rel_model.specs.Worker.{set_of, Gives}
+use Rattle.rel_slices.proofs.Putting.{some_given}
+use Rattle.rel_slices.proofs.Rooming.{line_in_coproduct}
 use Rattle.rel_slices.proofs.through.coimage.Goals as goal
 
-pub returns-in_err-column-clause-room : goal.returns-in_err-column-clause-room
-unfolding coimage_room
-returns-in_err-column-clause-room g c =
-    let a = c.in_err-column.ensures.tree in
-    let e = ap (λ (x : ℕ). relation_room g.C.Core.least x c.args.u.cols) c.requires.row ∙ ap (relation_room g.C.Core.least 1) (sym c.requires.middle) in
-    omega (arith, a, e)
+pub returns-in_err-walked-clause-room : goal.returns-in_err-walked-clause-room
+returns-in_err-walked-clause-room g c = let r = c.in_err-walked.ensures.room in let l = line_in_coproduct g.C.Core.least c.args.r.rows c.args.r.cols in omega (arith, r, l)
 
-pub returns-in_err-product-clause-room : goal.returns-in_err-product-clause-room
-unfolding coimage_room
-returns-in_err-product-clause-room g c =
-    let a = c.in_ok-column.ensures.tree in
-    let e = ap (λ (x : ℕ). relation_room g.C.Core.least x c.args.u.cols) c.requires.row ∙ ap (relation_room g.C.Core.least 1) (sym c.requires.middle) in
-    let t = c.in_ok-column.ensures.value.col_size in
-    let q = c.requires.row in
-    let b = c.in_err-product.ensures.line (omega (arith, t, q)) in
-    let f = ap (line_product_room g.C.Core.least c.args.r.rows c.args.r.cols) (c.in_ok-column.ensures.value.col_size ∙ c.requires.row) in
-    omega (arith, a, e, b, f)
+pub returns-in-Some-clause-value : goal.returns-in-Some-clause-value
+returns-in-Some-clause-value g c =
+    some_given (Gives (g.C.Core.worker c.image.new.q) 1 c.args.r.rows (transpose (compose (set_of (g.C.Core.worker c.args.core.now) c.args.r) (transpose (set_of (g.C.Core.worker c.args.core.now) c.args.u)))))
+    c.in_ok-walked.walked c.in-Some.line c.in-Some.is c.in_ok-walked.ensures.value
 
-pub returns-in_err-line-clause-room : goal.returns-in_err-line-clause-room
-unfolding coimage_room
-returns-in_err-line-clause-room g c =
-    let a = c.in_ok-column.ensures.tree in
-    let e = ap (λ (x : ℕ). relation_room g.C.Core.least x c.args.u.cols) c.requires.row ∙ ap (relation_room g.C.Core.least 1) (sym c.requires.middle) in
-    let t = c.in_ok-column.ensures.value.col_size in
-    let q = c.requires.row in
-    let b = c.in_ok-product.ensures.line (omega (arith, t, q)) in
-    let f = ap (line_product_room g.C.Core.least c.args.r.rows c.args.r.cols) (c.in_ok-column.ensures.value.col_size ∙ c.requires.row) in
-    let d = c.in_err-line.ensures.tree in
-    let h = ap (λ (x : ℕ). relation_room g.C.Core.least x c.in_ok-product.product.cols) c.in_ok-product.ensures.value.row_size ∙ ap (relation_room g.C.Core.least c.args.r.rows) (c.in_ok-product.ensures.value.col_size ∙ c.in_ok-column.ensures.value.col_size ∙ c.requires.row) in
-    omega (arith, a, e, b, f, d, h)
-
-pub returns-clause-room : goal.returns-clause-room
-unfolding coimage_room
-returns-clause-room g c =
-    let a = c.in_ok-column.ensures.tree in
-    let e = ap (λ (x : ℕ). relation_room g.C.Core.least x c.args.u.cols) c.requires.row ∙ ap (relation_room g.C.Core.least 1) (sym c.requires.middle) in
-    let t = c.in_ok-column.ensures.value.col_size in
-    let q = c.requires.row in
-    let b = c.in_ok-product.ensures.line (omega (arith, t, q)) in
-    let f = ap (line_product_room g.C.Core.least c.args.r.rows c.args.r.cols) (c.in_ok-column.ensures.value.col_size ∙ c.requires.row) in
-    let d = c.in_ok-line.ensures.tree in
-    let h = ap (λ (x : ℕ). relation_room g.C.Core.least x c.in_ok-product.product.cols) c.in_ok-product.ensures.value.row_size ∙ ap (relation_room g.C.Core.least c.args.r.rows) (c.in_ok-product.ensures.value.col_size ∙ c.in_ok-column.ensures.value.col_size ∙ c.requires.row) in
-    omega (arith, a, e, b, f, d, h)
+pub returns-in-Some-clause-room : goal.returns-in-Some-clause-room
+returns-in-Some-clause-room g c = let r = c.in_ok-walked.ensures.room in let l = line_in_coproduct g.C.Core.least c.args.r.rows c.args.r.cols in omega (arith, r, l)

@@ -1,5 +1,5 @@
 use Rattle.rel_model.specs.Worker.{Stands}
-use Rattle.test_slices.proofs.picks.is_picked.Given as goal
+use Rattle.test_slices.proofs.forms.is_membership.Given as goal
 
 abbrev pub invariant-rows : goal.invariant-rows
 invariant-rows g l = Stands (g.E.Core.worker l.engine) l.all
