@@ -1,4 +1,4 @@
-//! The identity by its trees, one quad for each height, and the reflexive closure by it.
+//! The identity as a tree, one quad for each height, and the reflexive closure by it.
 ghost use Rattle.std.specs.Prelude.{◌≡◌, ◌≤◌, ◌+◌, IfOk};
 ghost use Rattle.rel_model.specs.Relation.{size_limit};
 ghost use Rattle.rel_model.specs.Operators.{identity as identity_relation};
@@ -11,7 +11,7 @@ use rel_model::faults::DomainError;
 use rel_model::quads_trait::Quads;
 use rel_model::{Lack, Rel};
 
-/// `I = {(i, i)}`: the identity of n elements, which is the injection of n elements into their sum with none.
+/// `I = {(i, i)}`: the identity of n elements, built as the injection of n elements into their sum with none.
 pub fn identity_of<Q: Quads>(q: &mut Q, n: u32) -> Result<Rel, Lack>
     requires limit { n ≤ size_limit }
     ensures value { IfOk result (Gives (Q.worker q.new) n n (identity_relation n)) }
@@ -27,7 +27,7 @@ pub fn identity_of<Q: Quads>(q: &mut Q, n: u32) -> Result<Rel, Lack>
     }
 }
 
-/// `refl(R) = R | I`: a square relation with the pairs (i, i) (Schmidt and Ströhlein).
+/// `refl(R) = R | I`: the reflexive closure, a square relation with all pairs (i, i) added (Schmidt and Ströhlein).
 pub fn with_identity<Q: Quads>(q: &mut Q, r: Rel) -> Result<Rel, Lack>
     requires standing { Stands (Q.worker q.old) r }
     requires square { r.rows ≡ r.cols }

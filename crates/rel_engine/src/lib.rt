@@ -1,9 +1,10 @@
-//! The worker that does all operations of the language, over a shared node table.
+//! The worker with all operations of the language, over a shared node table.
 #![tactic(auto)]
 
 mod identity;
 mod operations;
 mod relations;
+mod remembering;
 mod seats;
 mod squares;
 mod works;

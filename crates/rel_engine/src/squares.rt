@@ -1,4 +1,4 @@
-//! Relations as quads, and the quads of the table, which are the crew's.
+//! Relations as quads, and the quads of the table, passed on to the crew.
 ghost use Rattle.fork_quads.specs.CrewLaws.{least_limit_law, low_height_law, high_height_law, square_law, none_law, one_name_law};
 
 use crate::works::Works;
@@ -25,12 +25,12 @@ impl<'t, R: Threads + Sync, G: Gate + Sync> Quads for Works<'t, R, G> {
         self.crew.bottom()
     }
 
-    /// The quad of a relation's root.
+    /// The quad at a relation's root.
     fn root(&self, r: Rel) -> Quad {
         self.crew.root(r)
     }
 
-    /// The relation of a root.
+    /// The relation with a given root.
     fn rel(&self, shape: Shape, q: Quad) -> Rel {
         self.crew.rel(shape, q)
     }
@@ -40,7 +40,7 @@ impl<'t, R: Threads + Sync, G: Gate + Sync> Quads for Works<'t, R, G> {
         self.crew.quarters(q)
     }
 
-    /// The quad of four quarters.
+    /// The quad made of four quarters.
     fn corner(&mut self, nw: Quad, ne: Quad, sw: Quad, se: Quad) -> Result<Quad, Lack> {
         self.crew.corner(nw, ne, sw, se)
     }
@@ -55,12 +55,12 @@ impl<'t, R: Threads + Sync, G: Gate + Sync> Quads for Works<'t, R, G> {
         self.crew.block(bits)
     }
 
-    /// A rectangle of a square.
+    /// `{(i, j) : i < rows, j < cols}`: a rectangle in the north-west corner of the square of a height.
     fn rect(&mut self, height: u8, rows: u32, cols: u32) -> Result<Quad, Lack> {
         self.crew.rect(height, rows, cols)
     }
 
-    /// A quad and a product, as one.
+    /// `x | y*z`: the union of a quad and the product of two others.
     fn joined(&mut self, x: Quad, y: Quad, z: Quad) -> Result<Quad, Lack> {
         self.crew.joined(x, y, z)
     }

@@ -15,7 +15,7 @@ use Rattle.rel_slices.proofs.Costs.{squares_in_cubes}
 use Rattle.rel_slices.proofs.Valuing.{value_same, later_value}
 use Rattle.rel_model.proofs.Workers.{keeps_trans}
 use Rattle.rel_values.specs.Values.{owed}
-use Rattle.rel_values.proofs.Chains.{Underway, fits_given}
+use Rattle.rel_values.proofs.Operating.{Underway, given_fits}
 use Rattle.rel_values.proofs.Thinness.{AreThin, SomeThin, ArePlain, cases_three, plain_formed, plain_owed, some_high, three_squares}
 use Rattle.rel_values.proofs.Sizes.{formed_at, owed_at}
 
@@ -38,7 +38,7 @@ ends_thin {least} {forming} {made} {cost} {rows} {cols} {w = w} h e f q a b r = 
   owes = λ set v g s.
       let i = g.row_size in
       let j = g.col_size in
-      let o = owed_at least h w v e (fits_given w v g s)
+      let o = owed_at least h w v e (given_fits v g s)
       (subst (λ (x : ℕ). height_of x ≤ h) (sym i) a) (subst (λ (x : ℕ). height_of x ≤ h) (sym j) b) in
       omega (arith, f, q, o);
 }

@@ -1,86 +1,81 @@
--- Calls one after the other, and what they come to.
--- 1. `Came` holds what a chain of calls that succeeded made and kept; it missed nothing (`begun`, `goes_on`).
--- 2. A call that fails after them ends the whole (`stopped`); an answer that stands after them is its answer (`ended`).
--- 3. Operands keep their sets on the way (`fits_stays`, `value_later`).
-use Rattle.std.proofs.Common.{◌≡◌, ◌≤◌, ◌+◌, ◌*◌, ◌/◌, ◌%◌, ◌∙◌, ℕ, Bool, Result, refl, sym, ap, subst, arith}
-use Rattle.std.specs.Prelude.{Ok, Err, IfOk, IsTrue, ◌↔◌}
+-- Calls one after the other, and what they promise together of an operation on values.
+-- 1. `Underway` holds while they come: all that stood stands, so many nodes were made at most, and no place was missing
+--    (`begun`, `goes_on`).
+-- 2. A call that fails ends the operation with its cause (`stops`).
+-- 3. The last one gives the value of the operation: one that stands whole owes nothing more (`ends_whole`), another
+--    what making it whole takes (`ends`). Or the operation answers what its last call does (`ends_value`, `ends_rel`,
+--    `after`).
+-- 4. A test ends likewise (`stops_test`, `ends_test`).
+use Rattle.std.proofs.Common.{◌≡◌, ◌≤◌, ◌+◌, ◌/◌, ◌%◌, ◌∙◌, ℕ, Bool, Result, IfOk, refl, sym, ap, subst, arith, Some}
+use Rattle.std.specs.Prelude.{Ok, Err, IfErr, IsTrue, ◌↔◌}
 use Rattle.std.specs.Result.{IsErrAnd}
 use Rattle.std.proofs.lemmas.Result.{err_from_is_err_and}
 use Rattle.rel_model.specs.declared.Lack.{Lack}
 use Rattle.rel_model.specs.declared.faults.DomainError.{DomainError}
 use Rattle.rel_model.specs.declared.Rel.{Rel}
-use Rattle.rel_model.specs.Relation.{Relation, IsRelation, size_limit}
+use Rattle.rel_model.specs.Relation.{Relation, IsRelation}
 use Rattle.rel_model.specs.Operators.{transpose, transposed_by}
 use Rattle.rel_model.specs.Algebra.{HasType}
-use Rattle.rel_model.specs.Worker.{Worker, Stands, Keeps, MakesAtMost, MissesNothing, HasCause}
+use Rattle.rel_model.specs.Worker.{Worker, Stands, Gives, Keeps, MakesAtMost, MissesNothing, HasCause}
 use Rattle.rel_model.proofs.Workers.{keeps_itself, keeps_trans}
 use Rattle.rel_model.proofs.OperatorLaws.{transposed_by-even, transposed_by-odd}
 use Rattle.rel_model.proofs.Members.{type-transpose}
-use Rattle.rel_steps.proofs.Causes.{done_cause, later_cause}
+use Rattle.rel_steps.proofs.Causes.{done_cause, later_cause, failed_cause}
 use Rattle.rel_slices.specs.declared.thin.Value.{Value}
 use Rattle.rel_slices.specs.declared.thin.Value.TheVariants.{Whole, Lines}
-use Rattle.rel_slices.specs.Thin.{ValueStands, value_of, value_rows, value_cols, GivesValue, HasForm}
-use Rattle.rel_slices.proofs.Valuing.{value_stays, value_same}
-use Rattle.rel_slices.specs.ValueRooms.{pieces_room, complement_room}
-use Rattle.rel_slices.proofs.Costs.{value_row_limit, value_col_limit}
-use Rattle.rel_values.proofs.Small.{pieces_small, complement_small, forming_small, owed_square}
-use Rattle.rel_values.specs.Shaping.{forming_room, square_room}
+use Rattle.rel_slices.specs.Thin.{ValueStands, value_of, value_rows, value_cols, GivesValue, HasForm, IsLong}
+use Rattle.rel_slices.proofs.Valuing.{value_stays, value_same, whole_value, recast_value}
 use Rattle.rel_values.specs.Values.{Fits, owed, Operates, OperatesWithin}
-use Rattle.rel_slices.specs.Thin.{IsLong}
 use Rattle.rel_values.specs.Deciding.{Decides}
 
--- calls succeeded so far: they made at most so many nodes
-pub record Came (most : ℕ) (old now : Worker) : Type 0 where
+-- calls have come so far
+pub record Underway (most : ℕ) (old now : Worker) : Type 0 where
   pub keeps : Keeps old now
   pub room : MakesAtMost most old now
   pub misses : MissesNothing old now
 
--- none yet
-pub begun : (w : Worker) → Came 0 w w
+-- none has come
+pub begun : (w : Worker) → Underway 0 w w
 begun w = record { keeps = keeps_itself w; room = omega arith; misses = refl }
 
--- one more
-pub goes_on : {T : Type 0} {lean : Bool} {m : ℕ} (n : ℕ) {x : T} {u v w : Worker} → Came m u v → Keeps v w → MakesAtMost n v w → HasCause {T = T} lean v w (Ok x) → Came (m + n) u w
+-- one more has come
+pub goes_on : {T : Type 0} {lean : Bool} {m : ℕ} (n : ℕ) {u v w : Worker} {x : T} → Underway m u v → Keeps v w → MakesAtMost n v w → HasCause lean v w (Ok x) → Underway (m + n) u w
 goes_on n {u = u} {v = v} {w = w} a k r c = record {
   keeps = keeps_trans u v w a.keeps k;
   room = omega (arith, a.room, r);
   misses = c.done ∙ a.misses;
 }
 
--- a refusal has the same cause whatever was wanted
-pub other_cause : {S T : Type 0} (lean : Bool) (v w : Worker) (x : Lack) (r : Result S Lack) → r ≡ Err x → HasCause {T = T} lean v w (Err x) → HasCause {T = S} lean v w r
-other_cause {S} {T} lean v w x r p h = subst (HasCause {T = S} lean v w) (sym p) (record {
-  full = λ f. h.full (ap Err (same f));
-  no_memory = λ l f. h.no_memory l (ap Err (same f));
+-- the cause of a call that failed is that of another which fails by it
+failed_alike : {S T : Type 0} (lean : Bool) (v w : Worker) (x : Lack) → HasCause {T = S} lean v w (Err x) → HasCause {T = T} lean v w (Err x)
+failed_alike {S} {T} lean v w x h = record {
+  full = λ e. h.full (ap (carry (Err x)) e);
+  no_memory = λ l e. h.no_memory l (ap (carry (Err x)) e);
   done = tt;
-  wanting = λ f. h.wanting (ap Err (same f));
-})
+  wanting = λ e. h.wanting (ap (carry (Err x)) e);
+}
   where
-    of : Lack → Result S Lack → Lack
-    of d (Err y) = y
-    of d (Ok y) = d
+    carry : Result S Lack → Result T Lack → Result S Lack
+    carry d (Ok a) = d
+    carry d (Err y) = Err y
 
-    same : {y : Lack} → ◌≡◌ {A = Result S Lack} (Err x) (Err y) → x ≡ y
-    same f = ap (of x) f
-
--- the last call failed, and so the whole does
-pub stopped : {T : Type 0} {lean : Bool} (n : ℕ) {least m rows cols cost : ℕ} {set : Relation} {u v w : Worker} {x : Lack} (r : Result Value Lack) → IsErrAnd r (λ (y : Lack). y ≡ x) → Came m u v
-    → Keeps v w → MakesAtMost n v w → HasCause {T = T} lean v w (Err x) → m + n ≤ cost → Operates least lean u w rows cols set cost r
-stopped {lean = lean} n {least} {rows = rows} {cols = cols} {cost = cost} {set = set} {u = u} {v = v} {w = w} {x = x} r e a k room c o =
+-- a call failed, and so the operation does
+pub stops : {T : Type 0} {lean : Bool} {m : ℕ} (n : ℕ) {least rows cols cost : ℕ} {set : Relation} {u v w : Worker} {x : Lack} (r : Result Value Lack) → IsErrAnd r (λ (y : Lack). y ≡ x) → m + n ≤ cost → Underway m u v → Keeps v w → MakesAtMost n v w
+    → HasCause {T = T} lean v w (Err x) → Operates least lean u w rows cols set cost r
+stops {T} {lean} n {least = least} {rows = rows} {cols = cols} {cost = cost} {set = set} {u = u} {v = v} {w = w} {x = x} r e o a k q c =
     let p = err_from_is_err_and r e in
-    let q : r ≡ Err x = p.1 ∙ ap Err p.2 in
     record {
-      value = subst (λ (z : Result Value Lack). IfOk z (GivesValue w rows cols set)) (sym q) tt;
-      long = subst (λ (z : Result Value Lack). IfOk z IsLong) (sym q) tt;
+      value = subst (λ (z : Result Value Lack). IfOk z (GivesValue w rows cols set)) (sym p.1) tt;
+      long = subst (λ (z : Result Value Lack). IfOk z IsLong) (sym p.1) tt;
       keeps = keeps_trans u v w a.keeps k;
-      room = omega (arith, a.room, room, o);
-      owes = subst (λ (z : Result Value Lack). IfOk z (λ y. w.made + owed least y ≤ u.made + cost)) (sym q) tt;
-      cause = later_cause lean u v w r a.misses (other_cause lean v w x r q c);
+      room = omega (arith, a.room, q, o);
+      owes = subst (λ (z : Result Value Lack). IfOk z (λ (v : Value). w.made + owed least v ≤ u.made + cost)) (sym p.1) tt;
+      cause = failed_cause lean u v w x p.0 r a.misses (failed_alike lean v w x c) p.1 p.2;
     }
 
--- what stands after them is the answer
-pub ended : {lean : Bool} {least m rows cols cost : ℕ} {set : Relation} {u w : Worker} {v : Value} → Came m u w → GivesValue w rows cols set v → IsLong v → m + owed least v ≤ cost → Operates least lean u w rows cols set cost (Ok v)
-ended {lean} {u = u} {w = w} {v = v} a g l o = record {
+-- what was made is long lines, or stands whole
+pub ends : {least rows cols cost m : ℕ} {lean : Bool} {set : Relation} {u w : Worker} {v : Value} → m + owed least v ≤ cost → Underway m u w → GivesValue w rows cols set v → IsLong v → Operates least lean u w rows cols set cost (Ok v)
+ends {lean = lean} {u = u} {w = w} {v = v} o a g l = record {
   value = g;
   long = l;
   keeps = a.keeps;
@@ -89,14 +84,76 @@ ended {lean} {u = u} {w = w} {v = v} a g l o = record {
   cause = done_cause lean u w v a.misses;
 }
 
--- ---- values on the way
+pub ends_whole : {least rows cols cost m : ℕ} {lean : Bool} {set : Relation} {u w : Worker} {r : Rel} → m ≤ cost → Underway m u w → Gives w rows cols set r → Operates least lean u w rows cols set cost (Ok (Whole r))
+ends_whole {least} {rows} {cols} {m = m} {set = set} {w = w} {r = r} o a g = ends {least = least} {m = m} (omega (arith, o)) a (whole_value w rows cols set r g) tt
+
+-- what has the form of its sizes is long
 pub form_long : (v : Value) → HasForm v → IsLong v
 form_long (Whole r) f = tt
 form_long (Lines s) f = f
 
-pub fits_stays : (u v : Worker) (x : Value) → Keeps u v → Fits u x → Fits v x
-fits_stays u v x k f = record { stands = value_stays u v x k f.stands; long = f.long }
+-- what is given, in other words
+pub regives : {m n p q : ℕ} {x y : Relation} {w : Worker} {r : Rel} → m ≡ p → n ≡ q → x ≡ y → Gives w m n x r → Gives w p q y r
+regives a b c g = record { means = g.means ∙ ap Some c; row_size = g.row_size ∙ a; col_size = g.col_size ∙ b }
 
+-- the operation answers what its last call does, a value in the form of its sizes
+pub ends_value : {lean : Bool} {m : ℕ} (n : ℕ) {least rows cols cost i j : ℕ} {set other : Relation} {u v w : Worker} (r : Result Value Lack) → Underway m u v → Keeps v w → MakesAtMost n v w → HasCause lean v w r → IfOk r (GivesValue w i j other) → IfOk r HasForm
+    → i ≡ rows → j ≡ cols → other ≡ set → m + n ≤ cost → ((a : Value) → GivesValue w rows cols set a → HasForm a → m + n + owed least a ≤ cost) → Operates least lean u w rows cols set cost r
+ends_value {lean} n {u = u} {v = v} {w = w} (Err x) a k q c g f er ec es o p = record {
+  value = tt;
+  long = tt;
+  keeps = keeps_trans u v w a.keeps k;
+  room = omega (arith, a.room, q, o);
+  owes = tt;
+  cause = later_cause lean u v w (Err x) a.misses c;
+}
+ends_value {lean} {m} n {least} {rows} {cols} {cost} {u = u} {v = v} {w = w} (Ok y) a k q c g f er ec es o p =
+    let t = recast_value w _ _ _ _ _ _ y er ec es g in
+    let l = p y t f in
+    record {
+      value = t;
+      long = form_long y f;
+      keeps = keeps_trans u v w a.keeps k;
+      room = omega (arith, a.room, q, o);
+      owes = omega (arith, a.room, q, l);
+      cause = later_cause lean u v w (Ok y) a.misses c;
+    }
+
+-- the operation answers what its last call does, a relation that stands whole
+pub ends_rel : {lean : Bool} {m : ℕ} (n : ℕ) {least rows cols cost i j : ℕ} {set other : Relation} {u v w : Worker} (s : Result Rel Lack) (r : Result Value Lack) → IfOk s (λ (x : Rel). r ≡ Ok (Whole x)) → IfErr s (λ (y : Lack). r ≡ Err y) → Underway m u v → Keeps v w → MakesAtMost n v w → HasCause lean v w s → IfOk s (Gives w i j other)
+    → i ≡ rows → j ≡ cols → other ≡ set → m + n ≤ cost → Operates least lean u w rows cols set cost r
+ends_rel {lean} {m} n {least} {rows} {cols} {cost} {set = set} {u = u} {v = v} {w = w} (Err x) r good bad a k q c g er ec es o =
+    subst (Operates least lean u w rows cols set cost) (sym bad) (record {
+      value = tt;
+      long = tt;
+      keeps = keeps_trans u v w a.keeps k;
+      room = omega (arith, a.room, q, o);
+      owes = tt;
+      cause = later_cause lean u v w (Err x) a.misses (failed_alike lean v w x c);
+    })
+ends_rel {lean} {m} n {least} {rows} {cols} {cost} {set = set} {u = u} {v = v} {w = w} (Ok x) r good bad a k q c g er ec es o =
+    subst (Operates least lean u w rows cols set cost) (sym good) (ends_whole {m = m + n} o (goes_on n a k q c) (regives er ec es g))
+
+-- the operation answers what another does
+pub after : {lean : Bool} {m least rows cols cost i j inner : ℕ} {set other : Relation} {u v w : Worker} (r : Result Value Lack) → Underway m u v → Operates least lean v w i j other inner r → i ≡ rows → j ≡ cols → other ≡ set → m + inner ≤ cost → Operates least lean u w rows cols set cost r
+after {lean} {u = u} {v = v} {w = w} (Err x) a q er ec es o = record {
+  value = tt;
+  long = tt;
+  keeps = keeps_trans u v w a.keeps q.keeps;
+  room = omega (arith, a.room, q.room, o);
+  owes = tt;
+  cause = later_cause lean u v w (Err x) a.misses q.cause;
+}
+after {lean} {u = u} {v = v} {w = w} (Ok y) a q er ec es o = record {
+  value = recast_value w _ _ _ _ _ _ y er ec es q.value;
+  long = q.long;
+  keeps = keeps_trans u v w a.keeps q.keeps;
+  room = omega (arith, a.room, q.room, o);
+  owes = omega (arith, a.room, q.owes, o);
+  cause = later_cause lean u v w (Ok y) a.misses q.cause;
+}
+
+-- a value that was given goes on meaning its set
 pub value_later : (u v : Worker) (m n : ℕ) (set : Relation) (x : Value) → Keeps u v → GivesValue u m n set x → GivesValue v m n set x
 value_later u v m n set x k g = record {
   stands = value_stays u v x k g.stands;
@@ -105,60 +162,22 @@ value_later u v m n set x k g = record {
   col_size = g.col_size;
 }
 
--- ---- rooms of what a worker holds
--- the leaves are of 8 by 8, and what stands is within the limit
-pub record Held (least : ℕ) (w : Worker) : Type 0 where
-  pub leaves : least ≡ 3
-  pub row_limit : (r : Rel) → Stands w r → r.rows ≤ size_limit
-  pub col_limit : (r : Rel) → Stands w r → r.cols ≤ size_limit
-
-pub forming_fits : {least : ℕ} {w : Worker} (v : Value) → Held least w → Fits w v → forming_room least v ≤ square_room (value_rows v) (value_cols v)
-forming_fits {least} {w} v h f = forming_small least v h.leaves (value_row_limit w v h.row_limit f.stands) (value_col_limit w v h.col_limit f.stands)
-
-pub owed_fits : {least : ℕ} {w : Worker} (v : Value) → Held least w → Fits w v → owed least v ≤ square_room (value_rows v) (value_cols v)
-owed_fits {least} {w} v h f = owed_square least w v h.leaves f.stands f.long
-
-by_sizes : (m n k l x y : ℕ) → m ≡ k → n ≡ l → x ≤ y * square_room m n → x ≤ y * square_room k l
-by_sizes m n k l x y e f o = subst (λ (z : ℕ). x ≤ y * square_room k z) f (subst (λ (z : ℕ). x ≤ y * square_room z n) e o)
-
-pub owed_given : {least m n : ℕ} {set : Relation} {w : Worker} (v : Value) → Held least w → GivesValue w m n set v → IsLong v → owed least v ≤ square_room m n
-owed_given {least} {m} {n} {w = w} v h g l =
-    let p = owed_square least w v h.leaves g.stands l in
-    let q = by_sizes (value_rows v) (value_cols v) m n (owed least v) 1 g.row_size g.col_size (omega (arith, p)) in
-    omega (arith, q)
-
-pub pieces_given : {least m n : ℕ} {set : Relation} {w : Worker} (v : Value) → Held least w → GivesValue w m n set v → pieces_room least v ≤ 2 * square_room m n
-pieces_given {least} {m} {n} {w = w} v h g = by_sizes (value_rows v) (value_cols v) m n (pieces_room least v) 2 g.row_size g.col_size
-    (pieces_small least w v h.leaves g.stands (value_row_limit w v h.row_limit g.stands) (value_col_limit w v h.col_limit g.stands))
-
-pub complement_given : {least m n : ℕ} {set : Relation} {w : Worker} (v : Value) → Held least w → GivesValue w m n set v → complement_room least v ≤ 4 * square_room m n
-complement_given {least} {m} {n} {w = w} v h g = by_sizes (value_rows v) (value_cols v) m n (complement_room least v) 4 g.row_size g.col_size
-    (complement_small least w v h.leaves g.stands (value_row_limit w v h.row_limit g.stands) (value_col_limit w v h.col_limit g.stands))
-
--- the cells of two squares of one type
-pub forming_second : {least : ℕ} {w : Worker} (x y : Value) → Held least w → Fits w y → value_rows x ≡ value_rows y → value_cols x ≡ value_cols y → forming_room least y ≤ square_room (value_rows x) (value_cols x)
-forming_second {least} x y h f e d =
-    let p = forming_fits y h f in
-    let q = by_sizes (value_rows y) (value_cols y) (value_rows x) (value_cols x) (forming_room least y) 1 (sym e) (sym d) (omega (arith, p)) in
-    omega (arith, q)
-
 -- ---- tests
--- the last call failed, and so the test does
-pub halted : {T : Type 0} {lean : Bool} (n : ℕ) {m cost : ℕ} {fact : Type 0} {u v w : Worker} {x : Lack} (r : Result Bool Lack) → IsErrAnd r (λ (y : Lack). y ≡ x) → Came m u v
-    → Keeps v w → MakesAtMost n v w → HasCause {T = T} lean v w (Err x) → m + n ≤ cost → Decides lean u w fact cost r
-halted {lean = lean} n {cost = cost} {fact = fact} {u = u} {v = v} {w = w} {x = x} r e a k room c o =
+-- a call failed, and so the test does
+pub stops_test : {T : Type 0} {lean : Bool} (n : ℕ) {m cost : ℕ} {fact : Type 0} {u v w : Worker} {x : Lack} (r : Result Bool Lack) → IsErrAnd r (λ (y : Lack). y ≡ x) → m + n ≤ cost → Underway m u v → Keeps v w → MakesAtMost n v w
+    → HasCause {T = T} lean v w (Err x) → Decides lean u w fact cost r
+stops_test {lean = lean} n {cost = cost} {fact = fact} {u = u} {v = v} {w = w} {x = x} r e o a k q c =
     let p = err_from_is_err_and r e in
-    let q : r ≡ Err x = p.1 ∙ ap Err p.2 in
     record {
-      value = subst (λ (z : Result Bool Lack). IfOk z (λ yes. IsTrue yes ↔ fact)) (sym q) tt;
+      value = subst (λ (z : Result Bool Lack). IfOk z (λ yes. IsTrue yes ↔ fact)) (sym p.1) tt;
       keeps = keeps_trans u v w a.keeps k;
-      room = omega (arith, a.room, room, o);
-      cause = later_cause lean u v w r a.misses (other_cause lean v w x r q c);
+      room = omega (arith, a.room, q, o);
+      cause = failed_cause lean u v w x p.0 r a.misses (failed_alike lean v w x c) p.1 p.2;
     }
 
 -- what was read after them is the answer
-pub decided : {lean : Bool} {m cost : ℕ} {fact : Type 0} {u w : Worker} {answer : Bool} → Came m u w → IsTrue answer ↔ fact → m ≤ cost → Decides lean u w fact cost (Ok answer)
-decided {lean} {u = u} {w = w} {answer = answer} a t o = record {
+pub ends_test : {lean : Bool} {m cost : ℕ} {fact : Type 0} {u w : Worker} {answer : Bool} → m ≤ cost → Underway m u w → IsTrue answer ↔ fact → Decides lean u w fact cost (Ok answer)
+ends_test {lean} {u = u} {w = w} {answer = answer} o a t = record {
   value = t;
   keeps = a.keeps;
   room = omega (arith, a.room, o);
@@ -201,6 +220,10 @@ turned_once {u = u} n v e t o =
     recast (sym tt.row_size ∙ ap (λ (r : Relation). r.rows) d) (sym tt.col_size ∙ ap (λ (r : Relation). r.cols) d) d o
 
 -- ---- values that fit
+-- what stood goes on standing, and lines stay long
+pub fits_stays : (u w : Worker) (v : Value) → Keeps u w → Fits u v → Fits w v
+fits_stays u w v k f = record { stands = value_stays u w v k f.stands; long = f.long }
+
 -- what was given in its form
 pub given_fits : {w : Worker} {m n : ℕ} {set : Relation} (v : Value) → GivesValue w m n set v → HasForm v → Fits w v
 given_fits v g f = record { stands = g.stands; long = form_long v f }

@@ -8,21 +8,21 @@ use Rattle.rel_model.specs.Worker.{Worker, height_of, height_of_three}
 use Rattle.rel_model.proofs.Heights.{height_of-covers, power_up}
 use Rattle.rel_slices.specs.declared.thin.Value.{Value}
 use Rattle.rel_slices.specs.declared.thin.Value.TheVariants.{Whole, Lines}
-use Rattle.rel_slices.specs.Thin.{ValueStands, value_rows, value_cols, HasForm}
+use Rattle.rel_slices.specs.Thin.{most_lines, ValueStands, value_rows, value_cols, HasForm}
 use Rattle.rel_slices.specs.ValueRooms.{formed_room}
 use Rattle.rel_values.specs.Values.{owed}
 
--- the shorter side is at most 64, and the longer one more than 256
+-- the shorter side is at most `most_lines`, and the longer one more than 256
 pub record AreThin (m n : ℕ) : Type 0 where
-  pub few : min m n ≤ 64
+  pub few : min m n ≤ most_lines
   pub long : 257 ≤ max m n
 
 -- they are not
 abbrev pub ArePlain : ℕ → ℕ → Type 0
-ArePlain m n = min m n ≤ 64 → max m n ≤ 256
+ArePlain m n = min m n ≤ most_lines → max m n ≤ 256
 
 pub cases_thin : (m n : ℕ) → AreThin m n ⊎ ArePlain m n
-cases_thin m n = elim (cases_lt 64 (min m n)) [
+cases_thin m n = elim (cases_lt most_lines (min m n)) [
   | inl a ↦ inr (λ b. absurd (omega (arith, a, b)))
   | inr a ↦ elim (cases_lt (max m n) 257) [
     | inl b ↦ inr (λ c. omega (arith, b))
@@ -53,9 +53,9 @@ cases_three k m n = elim (cases_thin k m) [
 
 -- ---- none are thin
 pub plain_formed : (least m n : ℕ) → ArePlain m n → formed_room least m n ≡ 0
-plain_formed least m n p = none (leb m 64 && leb 257 n) (leb n 64 && leb 257 m) _ _
-    (λ t. let q = and_parts (leb m 64) (leb 257 n) t in let a = leb-true m 64 q.0 in let b = leb-true 257 n q.1 in let c = p (omega (arith, a)) in omega (arith, b, c))
-    (λ t. let q = and_parts (leb n 64) (leb 257 m) t in let a = leb-true n 64 q.0 in let b = leb-true 257 m q.1 in let c = p (omega (arith, a)) in omega (arith, b, c))
+plain_formed least m n p = none (leb m most_lines && leb 257 n) (leb n most_lines && leb 257 m) _ _
+    (λ t. let q = and_parts (leb m most_lines) (leb 257 n) t in let a = leb-true m most_lines q.0 in let b = leb-true 257 n q.1 in let c = p (omega (arith, a)) in omega (arith, b, c))
+    (λ t. let q = and_parts (leb n most_lines) (leb 257 m) t in let a = leb-true n most_lines q.0 in let b = leb-true 257 m q.1 in let c = p (omega (arith, a)) in omega (arith, b, c))
   where
     none : (a b : Bool) (x y : ℕ) → (a ≡ true → ⊥) → (b ≡ true → ⊥) → cond a x (cond b y 0) ≡ 0
     none true b x y f g = absurd (f refl)
@@ -66,7 +66,7 @@ pub plain_owed : (least : ℕ) (w : Worker) (v : Value) → ValueStands w v → 
 plain_owed least w (Whole r) s f p = refl
 plain_owed least w (Lines t) s f p = absurd (by t.turned t.count t.other s.few f p)
   where
-    by : (b : Bool) (c o : ℕ) → c ≤ 64 → 257 ≤ o → ArePlain (cond b o c) (cond b c o) → ⊥
+    by : (b : Bool) (c o : ℕ) → c ≤ most_lines → 257 ≤ o → ArePlain (cond b o c) (cond b c o) → ⊥
     by true c o few long p = let q = p (omega (arith, few)) in omega (arith, long, q)
     by false c o few long p = let q = p (omega (arith, few)) in omega (arith, long, q)
 

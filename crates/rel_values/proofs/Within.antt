@@ -20,7 +20,7 @@ use Rattle.rel_slices.proofs.Membering.{member_height}
 use Rattle.rel_slices.proofs.Rooming.{trees_fit, tree_fits}
 use Rattle.rel_slices.proofs.Costs.{squares_in_cubes, first_covered, last_covered, some_side}
 use Rattle.rel_values.specs.Values.{Fits, OperatesWithin, owed}
-use Rattle.rel_values.proofs.Chains.{Underway, form_long, regives}
+use Rattle.rel_values.proofs.Operating.{Underway, form_long, regives}
 use Rattle.rel_slices.proofs.Valuing.{whole_value}
 use Rattle.rel_values.proofs.Sizes.{owed_at}
 
@@ -148,8 +148,8 @@ epsi_cost x =
     omega (arith, d, r)
 
 -- membership as lines, of which each is a tree of the columns
-pub member_cost : (least x : ℕ) → least ≡ 3 → 9 ≤ x → x ≤ 24 → x * tree_room (x - least) ≤ 2 * 4 ^ height_of_three x 1 (2 ^ x)
-member_cost least x e low few = subst (λ (l : ℕ). x * tree_room (x - l) ≤ 2 * 4 ^ height_of_three x 1 (2 ^ x)) (sym e) (
+pub member_cost : (least x : ℕ) → least ≡ 3 → 9 ≤ x → x ≤ 24 → x * tree_room (x - least) ≤ 4 * 4 ^ height_of_three x 1 (2 ^ x)
+member_cost least x e low few = subst (λ (l : ℕ). x * tree_room (x - l) ≤ 4 * 4 ^ height_of_three x 1 (2 ^ x)) (sym e) (
     let h : ℕ = height_of_three x 1 (2 ^ x) in
     let top : 2 ^ x ≤ size_limit = power_up x 24 few in
     let a = first_covered x 1 (2 ^ x) (omega (arith, few)) in
@@ -159,7 +159,7 @@ member_cost least x e low few = subst (λ (l : ℕ). x * tree_room (x - l) ≤ 2
     let m = ap (λ (y : ℕ). x * y) t in
     omega (arith, f, m))
 
-pub members_room : (x made owes : ℕ) → made ≤ 2 * 4 ^ height_of_three x 1 (2 ^ x) → owes ≤ 4 ^ height_of_three x 1 (2 ^ x) → made + owes ≤ wide_room x 1 (2 ^ x)
+pub members_room : (x made owes : ℕ) → made ≤ 4 * 4 ^ height_of_three x 1 (2 ^ x) → owes ≤ 4 ^ height_of_three x 1 (2 ^ x) → made + owes ≤ wide_room x 1 (2 ^ x)
 members_room x made owes p q =
     let s = squares_in_cubes (height_of_three x 1 (2 ^ x)) in
     let l = derived_room-least x 1 (2 ^ x) in

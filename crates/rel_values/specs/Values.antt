@@ -9,17 +9,17 @@ use Rattle.rel_slices.specs.declared.thin.Value.{Value}
 use Rattle.rel_slices.specs.Thin.{ValueStands, IsLong, GivesValue}
 use Rattle.rel_slices.specs.ValueRooms.{assembly_room}
 
--- the value stands, and where it is lines they are long
+-- the value stands, and if it is lines, they are long
 pub record Fits (w : Worker) (v : Value) : Type 0 where
   pub stands : ValueStands w v
   pub long : IsLong v
 
--- how many nodes making it whole takes at most
+-- how many nodes it takes at most to make the value whole
 abbrev pub owed : ℕ → Value → ℕ
 owed least v = assembly_room least v
 
--- An operation answers a value of these sizes and this set, or refuses for its cause. All that stood stands, and no
--- more nodes are made than it costs, those that make its answer whole counted too.
+-- An operation answers a value of these sizes and this set, or refuses with its cause. Everything that stood still
+-- stands. It makes at most as many nodes as it costs, even including those that making its answer whole would take.
 pub record Operates (least : ℕ) (lean : Bool) (old new : Worker) (rows cols : ℕ) (set : Relation) (cost : ℕ)
     (result : Result Value Lack) : Type 0 where
   pub value : IfOk result (GivesValue new rows cols set)
@@ -29,7 +29,7 @@ pub record Operates (least : ℕ) (lean : Bool) (old new : Worker) (rows cols : 
   pub owes : IfOk result (λ v. new.made + owed least v ≤ old.made + cost)
   pub cause : HasCause lean old new result
 
--- the same of one whose answer may be too large, of so many columns: then it makes nothing
+-- the same for an operation whose answer may be too large, with wanted columns: it then makes no node
 pub record OperatesWithin (least : ℕ) (lean : Bool) (old new : Worker) (rows cols : ℕ) (set : Relation)
     (cost wanted : ℕ) (result : Result Value DomainError) : Type 0 where
   pub value : IfOk result (GivesValue new rows cols set)

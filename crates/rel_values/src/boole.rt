@@ -10,10 +10,10 @@ ghost use Rattle.rel_values.specs.Values.{Fits, Operates};
 use crate::shaping::in_form;
 use rel_model::engine_trait::Engine;
 use rel_model::{Lack, Shape};
-use rel_slices::{Boole, Value};
+use rel_slices::{Boole, Remembers, Value};
 
-/// An operator between two values of one type.
-fn between<E: Engine>(engine: &mut E, op: Boole, x: &Value, y: &Value) -> Result<Value, Lack>
+/// Applies an operator to two values of one type.
+fn between<E: Remembers>(engine: &mut E, op: Boole, x: &Value, y: &Value) -> Result<Value, Lack>
     requires left { Fits (E.worker engine.old) x.now }
     requires right { Fits (E.worker engine.old) y.now }
     requires rows { value_rows x.now ≡ value_rows y.now }
@@ -29,8 +29,8 @@ fn between<E: Engine>(engine: &mut E, op: Boole, x: &Value, y: &Value) -> Result
     Ok(made)
 }
 
-/// `R | S = {(i, j) : (i, j) in r or (i, j) in s}`: the union, of two values of one type.
-pub fn union<E: Engine>(engine: &mut E, x: &Value, y: &Value) -> Result<Value, Lack>
+/// `R | S = {(i, j) : (i, j) in r or (i, j) in s}`: the union of two values of one type (Schmidt and Ströhlein).
+pub fn union<E: Remembers>(engine: &mut E, x: &Value, y: &Value) -> Result<Value, Lack>
     requires left { Fits (E.worker engine.old) x.now }
     requires right { Fits (E.worker engine.old) y.now }
     requires rows { value_rows x.now ≡ value_rows y.now }
@@ -43,8 +43,9 @@ pub fn union<E: Engine>(engine: &mut E, x: &Value, y: &Value) -> Result<Value, L
     between(engine, Boole::Union, x, y)
 }
 
-/// `R & S = {(i, j) : (i, j) in r and (i, j) in s}`: the intersection, of two values of one type.
-pub fn inter<E: Engine>(engine: &mut E, x: &Value, y: &Value) -> Result<Value, Lack>
+/// `R & S = {(i, j) : (i, j) in r and (i, j) in s}`: the intersection of two values of one type (Schmidt and
+/// Ströhlein).
+pub fn inter<E: Remembers>(engine: &mut E, x: &Value, y: &Value) -> Result<Value, Lack>
     requires left { Fits (E.worker engine.old) x.now }
     requires right { Fits (E.worker engine.old) y.now }
     requires rows { value_rows x.now ≡ value_rows y.now }
@@ -57,8 +58,8 @@ pub fn inter<E: Engine>(engine: &mut E, x: &Value, y: &Value) -> Result<Value, L
     between(engine, Boole::Inter, x, y)
 }
 
-/// `-R = {(i, j) : not (i, j) in r}`: the complement within the sizes.
-pub fn complement<E: Engine>(engine: &mut E, v: &Value) -> Result<Value, Lack>
+/// `-R = {(i, j) : not (i, j) in r}`: the complement within the sizes of R (Schmidt and Ströhlein).
+pub fn complement<E: Remembers>(engine: &mut E, v: &Value) -> Result<Value, Lack>
     requires fits { Fits (E.worker engine.old) v.now }
     ensures operates { let w = E.worker engine.old in Operates E.least E.lean w (E.worker engine.new)
         (value_rows v.now) (value_cols v.now)
@@ -70,7 +71,8 @@ pub fn complement<E: Engine>(engine: &mut E, v: &Value) -> Result<Value, Lack>
     Ok(rest)
 }
 
-/// `R^`: rows and columns exchanged. No node is made of lines, and what stands whole stays whole.
+/// `R^ = {(j, i) : (i, j) in r}`: the transposition (Schmidt and Ströhlein). Lines are transposed without making a
+/// node, and a whole value stays whole.
 fn transposed<E: Engine>(engine: &mut E, v: &Value) -> Result<Value, Lack>
     requires fits { Fits (E.worker engine.old) v.now }
     ensures operates { let w = E.worker engine.old in Operates E.least E.lean w (E.worker engine.new)
@@ -90,7 +92,7 @@ fn transposed<E: Engine>(engine: &mut E, v: &Value) -> Result<Value, Lack>
     }
 }
 
-/// `R^ ... ^`: a value transposed so many times.
+/// `R^...^`: a value transposed `times` times.
 pub fn turned<E: Engine>(engine: &mut E, v: &Value, times: u32) -> Result<Value, Lack>
     requires fits { Fits (E.worker engine.old) v.now }
     ensures operates { let w = E.worker engine.old in Operates E.least E.lean w (E.worker engine.new)
@@ -104,7 +106,7 @@ pub fn turned<E: Engine>(engine: &mut E, v: &Value, times: u32) -> Result<Value,
     transposed(engine, v)
 }
 
-/// `{(i, j) : i < rows, j < cols}`: the full relation of these sizes.
+/// `{(i, j) : i < rows, j < cols}`: the full relation of these sizes, which must be within the limit.
 pub fn full<E: Engine>(engine: &mut E, shape: Shape) -> Result<Value, Lack>
     requires row_limit { shape.rows ≤ size_limit }
     requires col_limit { shape.cols ≤ size_limit }
@@ -117,7 +119,7 @@ pub fn full<E: Engine>(engine: &mut E, shape: Shape) -> Result<Value, Lack>
     Ok(all)
 }
 
-/// `{}`: the empty relation of these sizes.
+/// `{}`: the empty relation of these sizes, which must be within the limit.
 pub fn empty<E: Engine>(engine: &mut E, shape: Shape) -> Result<Value, Lack>
     requires row_limit { shape.rows ≤ size_limit }
     requires col_limit { shape.cols ≤ size_limit }

@@ -1,4 +1,4 @@
-//! The choice of an element or a pair, and the elements of a vector.
+//! Choosing an element or a pair, and listing the elements of a vector.
 ghost use Rattle.std.specs.Prelude.{◌≡◌};
 ghost use Rattle.rel_model.specs.Choice.{holds, count_below, point as point_of, atom as atom_of, init as init_of, next as next_of, inj as inj_of};
 ghost use Rattle.rel_model.specs.Worker.{wide_room};
@@ -9,8 +9,7 @@ use rel_model::Lack;
 use rel_model::engine_trait::Engine;
 use rel_slices::{Value, made_whole};
 
-/// `{(i, 0) : i is the least element of v}`: a point of a vector that has an element, and the empty vector of one
-/// that has none.
+/// `{(i, 0) : i is the least element of v}`: a point of a vector; the empty vector if v is empty.
 pub fn point<E: Engine>(engine: &mut E, v: &Value) -> Result<Value, Lack>
     requires fits { Fits (E.worker engine.old) v.now }
     requires column { value_cols v.now ≡ 1 }
@@ -24,7 +23,8 @@ pub fn point<E: Engine>(engine: &mut E, v: &Value) -> Result<Value, Lack>
     Ok(Value::Whole(found))
 }
 
-/// `{(i, j) : (i, j) is the least pair of r by row and then by column}`, and the empty relation of one that has none.
+/// `{(i, j) : (i, j) is the least pair of r by row and then by column}`: an atom of a relation; the empty relation if
+/// it has no pair.
 pub fn atom<E: Engine>(engine: &mut E, v: &Value) -> Result<Value, Lack>
     requires fits { Fits (E.worker engine.old) v.now }
     ensures operates { let w = E.worker engine.old in Operates E.least E.lean w (E.worker engine.new)
@@ -37,7 +37,7 @@ pub fn atom<E: Engine>(engine: &mut E, v: &Value) -> Result<Value, Lack>
     Ok(Value::Whole(found))
 }
 
-/// `{(0, 0)}` with the rows of v, and the empty vector where it has none.
+/// `{(0, 0)}` with the rows of v: the first element; the empty vector if v has no rows.
 pub fn init<E: Engine>(engine: &mut E, v: &Value) -> Result<Value, Lack>
     requires fits { Fits (E.worker engine.old) v.now }
     requires column { value_cols v.now ≡ 1 }
@@ -51,7 +51,7 @@ pub fn init<E: Engine>(engine: &mut E, v: &Value) -> Result<Value, Lack>
     Ok(Value::Whole(found))
 }
 
-/// `{(i + 1, 0) : i is in v, i + 1 < rows}`: each element moved up by one, the last dropped.
+/// `{(i + 1, 0) : i is in v, i + 1 < rows}`: moves each element up by one and drops the last.
 pub fn next<E: Engine>(engine: &mut E, v: &Value) -> Result<Value, Lack>
     requires fits { Fits (E.worker engine.old) v.now }
     requires column { value_cols v.now ≡ 1 }
@@ -65,7 +65,8 @@ pub fn next<E: Engine>(engine: &mut E, v: &Value) -> Result<Value, Lack>
     Ok(Value::Whole(found))
 }
 
-/// The elements of a vector in order: row r has the element of v that r elements precede.
+/// `{(r, i) : i is the element of v with r elements before it}`: lists the elements of a vector in order, one in each
+/// row.
 pub fn inj<E: Engine>(engine: &mut E, v: &Value) -> Result<Value, Lack>
     requires fits { Fits (E.worker engine.old) v.now }
     requires column { value_cols v.now ≡ 1 }

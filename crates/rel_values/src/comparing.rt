@@ -1,4 +1,4 @@
-//! Tests: whether two values are equal, or one is in the other.
+//! Tests: whether two values are equal, or one is contained in the other.
 ghost use Rattle.std.specs.Prelude.{◌≡◌, ◌↔◌, IfOk, IsTrue};
 ghost use Rattle.rel_model.specs.Operators.{diff as diff_of, empty as empty_relation};
 ghost use Rattle.rel_model.specs.Worker.{Stands, set_of, Keeps, MakesAtMost, HasCause, operator_room};
@@ -9,10 +9,10 @@ ghost use Rattle.rel_values.specs.Deciding.{Decides};
 use crate::shaping::in_form;
 use rel_model::engine_trait::Engine;
 use rel_model::{Lack, Rel};
-use rel_slices::Value;
+use rel_slices::{Remembers, Value};
 
-/// Whether two values of one type have the same pairs, each in its form.
-fn same_in_form<E: Engine>(engine: &mut E, x: &Value, y: &Value) -> Result<bool, Lack>
+/// Whether two values of one type have the same pairs, after bringing each into the form of its sizes.
+fn same_in_form<E: Remembers>(engine: &mut E, x: &Value, y: &Value) -> Result<bool, Lack>
     requires left { Fits (E.worker engine.old) x.now }
     requires right { Fits (E.worker engine.old) y.now }
     requires rows { value_rows x.now ≡ value_rows y.now }
@@ -27,7 +27,7 @@ fn same_in_form<E: Engine>(engine: &mut E, x: &Value, y: &Value) -> Result<bool,
 }
 
 /// `R = S`: whether two values of one type have the same pairs.
-pub fn same<E: Engine>(engine: &mut E, x: &Value, y: &Value) -> Result<bool, Lack>
+pub fn same<E: Remembers>(engine: &mut E, x: &Value, y: &Value) -> Result<bool, Lack>
     requires left { Fits (E.worker engine.old) x.now }
     requires right { Fits (E.worker engine.old) y.now }
     requires rows { value_rows x.now ≡ value_rows y.now }
@@ -48,8 +48,8 @@ pub fn same<E: Engine>(engine: &mut E, x: &Value, y: &Value) -> Result<bool, Lac
     }
 }
 
-/// Whether each pair of the first is in the second, each in its form.
-fn included_in_form<E: Engine>(engine: &mut E, x: &Value, y: &Value) -> Result<bool, Lack>
+/// Whether the first value is contained in the second, after bringing each into the form of its sizes.
+fn included_in_form<E: Remembers>(engine: &mut E, x: &Value, y: &Value) -> Result<bool, Lack>
     requires left { Fits (E.worker engine.old) x.now }
     requires right { Fits (E.worker engine.old) y.now }
     requires rows { value_rows x.now ≡ value_rows y.now }
@@ -64,7 +64,7 @@ fn included_in_form<E: Engine>(engine: &mut E, x: &Value, y: &Value) -> Result<b
     Ok(yes)
 }
 
-/// Whether each pair of the first is in the second, of relations that stand whole.
+/// Whether the first of two whole relations is contained in the second.
 fn included_whole<E: Engine>(engine: &mut E, r: Rel, s: Rel) -> Result<bool, Lack>
     requires left { Stands (E.worker engine.old) r }
     requires right { Stands (E.worker engine.old) s }
@@ -78,8 +78,8 @@ fn included_whole<E: Engine>(engine: &mut E, r: Rel, s: Rel) -> Result<bool, Lac
     Ok(engine.is_empty(rest))
 }
 
-/// `R <= S`: whether each pair of the first is in the second, of one type.
-pub fn included<E: Engine>(engine: &mut E, x: &Value, y: &Value) -> Result<bool, Lack>
+/// `R <= S`: whether each pair of the first value is in the second. Both have one type.
+pub fn included<E: Remembers>(engine: &mut E, x: &Value, y: &Value) -> Result<bool, Lack>
     requires left { Fits (E.worker engine.old) x.now }
     requires right { Fits (E.worker engine.old) y.now }
     requires rows { value_rows x.now ≡ value_rows y.now }

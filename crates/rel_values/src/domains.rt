@@ -13,7 +13,7 @@ use rel_model::faults::DomainError;
 use rel_model::{Lack, Rel, SIZE_LIMIT};
 use rel_slices::{Value, made_whole, member_lines, shape_of};
 
-/// An answer that stands whole, as a value.
+/// A whole result, as a value.
 fn whole_within(given: Result<Rel, DomainError>) -> Result<Value, DomainError>
     ensures found { IfOk given (λ r. result ≡ Ok (Whole r)) }
     ensures failed { IfErr given (λ fault. result ≡ Err fault) }
@@ -24,7 +24,7 @@ fn whole_within(given: Result<Rel, DomainError>) -> Result<Value, DomainError>
     }
 }
 
-/// A size that is over the limit.
+/// The error of a size over the limit.
 fn too_large(wanted: u64) -> DomainError
     ensures { result ≡ Size wanted size_limit }
 {
@@ -34,7 +34,8 @@ fn too_large(wanted: u64) -> DomainError
     }
 }
 
-/// `{(i, s) : element i is in subset s}`: the membership of x elements in their subsets, of x × 2^x.
+/// `{(i, s) : bit i of s is 1}`: the membership relation between elements and subsets, with x rows and 2^x columns.
+/// Refused if 2^x exceeds the limit.
 pub fn epsi<E: Engine>(engine: &mut E, x: u32) -> Result<Value, DomainError>
     requires limit { x ≤ size_limit }
     ensures operates { let w = E.worker engine.old in OperatesWithin E.least E.lean w (E.worker engine.new)
@@ -52,7 +53,7 @@ pub fn epsi<E: Engine>(engine: &mut E, x: u32) -> Result<Value, DomainError>
     }
 }
 
-/// Two values made whole.
+/// Makes two values whole.
 fn two_whole<E: Engine>(engine: &mut E, x: &Value, y: &Value) -> Result<(Rel, Rel), Lack>
     requires left { Fits (E.worker engine.old) x.now }
     requires right { Fits (E.worker engine.old) y.now }
@@ -69,8 +70,8 @@ fn two_whole<E: Engine>(engine: &mut E, x: &Value, y: &Value) -> Result<(Rel, Re
     Ok((first, second))
 }
 
-/// `[R,S] = {(i, j * n + k) : (i, j) in r and (i, k) in s}`: the pairing of two values of as many rows, where s has n
-/// columns.
+/// `[R,S] = {(i, j * n + k) : (i, j) in r and (i, k) in s}`: the pairing of two values with the same number of rows,
+/// where s has n columns. Refused if the number of columns of the result exceeds the limit.
 pub fn pair<E: Engine>(engine: &mut E, x: &Value, y: &Value) -> Result<Value, DomainError>
     requires left { Fits (E.worker engine.old) x.now }
     requires right { Fits (E.worker engine.old) y.now }

@@ -1,4 +1,4 @@
-//! The operators of the language on values of either form, within the language's costs.
+//! The operators of the language on values of either form, within the costs that the language states.
 #![tactic(auto)]
 
 mod boole;

@@ -1,4 +1,4 @@
-//! Bounds and extremes in a relation on one set.
+//! Bounds and extremes with respect to a relation on one set.
 ghost use Rattle.std.specs.Prelude.{◌≡◌, IfOk};
 ghost use Rattle.rel_model.specs.Worker.{Stands, set_of, Gives, Keeps, MakesAtMost, HasCause, extremes_room, classes_room};
 ghost use Rattle.rel_slices.specs.Thin.{value_of, value_rows, value_cols};
@@ -12,7 +12,7 @@ use rel_model::{Lack, Rel};
 use rel_order::{greatest, inf, lbd, least, sup, ubd};
 use rel_slices::{Value, made_whole};
 
-/// Which bounds or extremes are meant.
+/// Which bounds or extremes are wanted. One byte.
 #[derive(Clone, Copy)]
 pub enum Bound {
     Upper,
@@ -23,7 +23,7 @@ pub enum Bound {
     Infima,
 }
 
-/// Bounds or extremes, in the first of two relations that stand whole, of the columns of the second.
+/// The bounds or extremes of the columns of `s` with respect to `r`; both are whole.
 #[tactic(auto, using(crate::proofs::Sizes::extremes))]
 fn found<E: Engine>(engine: &mut E, which: Bound, r: Rel, s: Rel) -> Result<Rel, Lack>
     requires left { Stands (E.worker engine.old) r }
@@ -46,7 +46,8 @@ fn found<E: Engine>(engine: &mut E, which: Bound, r: Rel, s: Rel) -> Result<Rel,
     }
 }
 
-/// Bounds or extremes, in the first relation, of the columns of the second.
+/// The bounds or extremes of the columns of the second value with respect to the first, which is square and has as many
+/// rows (Schmidt and Ströhlein, *Relations and Graphs*).
 pub fn bounds<E: Engine>(engine: &mut E, which: Bound, x: &Value, y: &Value) -> Result<Value, Lack>
     requires left { Fits (E.worker engine.old) x.now }
     requires right { Fits (E.worker engine.old) y.now }

@@ -1,4 +1,4 @@
-//! Composition, residuals, the symmetric quotient, and the rows and columns that have a pair.
+//! Composition, residuals, the symmetric quotient, the domain of definition and the range.
 ghost use Rattle.std.specs.Prelude.{◌≡◌};
 ghost use Rattle.rel_model.specs.Operators.{compose as compose_of, right_residual, left_residual, symmetric_quotient};
 ghost use Rattle.rel_model.specs.Choice.{dom as dom_of, ran as ran_of};
@@ -8,12 +8,18 @@ ghost use Rattle.rel_values.specs.Values.{Fits, Operates};
 
 use crate::shaping::in_form;
 use crate::standing::{both_whole, stays_whole};
-use rel_model::engine_trait::Engine;
 use rel_model::{Lack, Shape};
-use rel_slices::{Value, full, shape_of, transpose};
+use rel_slices::{Remembers, Value, full, shape_of, transpose};
+use std::alloc::Global;
 
-/// `R*S = {(i, k) : (i, j) in r and (j, k) in s for some j}`: the composition, of k × m with m × n.
-pub fn compose<E: Engine>(engine: &mut E, x: &Value, y: &Value) -> Result<Value, Lack>
+/// `R*S = {(i, k) : (i, j) in r and (j, k) in s for some j}`: the composition of a k × m and an m × n value (Schmidt
+/// and Ströhlein).
+pub fn compose<E: Remembers>(
+    alloc: Global,
+    engine: &mut E,
+    x: &Value,
+    y: &Value,
+) -> Result<Value, Lack>
     requires left { Fits (E.worker engine.old) x.now }
     requires right { Fits (E.worker engine.old) y.now }
     requires middle { value_cols x.now ≡ value_rows y.now }
@@ -24,11 +30,17 @@ pub fn compose<E: Engine>(engine: &mut E, x: &Value, y: &Value) -> Result<Value,
 {
     let first = in_form(engine, x)?;
     let second = in_form(engine, y)?;
-    rel_slices::compose(engine, &first, &second)
+    rel_slices::compose(alloc, engine, &first, &second)
 }
 
-/// `R\S = {(j, k) : (i, j) in r implies (i, k) in s, for all i}`: the right residual, of m × n under m × p.
-pub fn right<E: Engine>(engine: &mut E, x: &Value, y: &Value) -> Result<Value, Lack>
+/// `R\S = {(j, k) : (i, j) in r implies (i, k) in s, for all i}`: the right residual of an m × n and an m × p value
+/// (Schmidt and Ströhlein).
+pub fn right<E: Remembers>(
+    alloc: Global,
+    engine: &mut E,
+    x: &Value,
+    y: &Value,
+) -> Result<Value, Lack>
     requires left { Fits (E.worker engine.old) x.now }
     requires right { Fits (E.worker engine.old) y.now }
     requires rows { value_rows x.now ≡ value_rows y.now }
@@ -42,11 +54,17 @@ pub fn right<E: Engine>(engine: &mut E, x: &Value, y: &Value) -> Result<Value, L
     if let Some((r, s)) = both_whole(&first, &second) {
         return stays_whole(engine.right(r, s));
     }
-    rel_slices::right(engine, &first, &second)
+    rel_slices::right(alloc, engine, &first, &second)
 }
 
-/// `S/R = {(i, j) : (j, k) in r implies (i, k) in s, for all k}`: the left residual, of m × p over n × p.
-pub fn left<E: Engine>(engine: &mut E, x: &Value, y: &Value) -> Result<Value, Lack>
+/// `S/R = {(i, j) : (j, k) in r implies (i, k) in s, for all k}`: the left residual of an m × p and an n × p value
+/// (Schmidt and Ströhlein).
+pub fn left<E: Remembers>(
+    alloc: Global,
+    engine: &mut E,
+    x: &Value,
+    y: &Value,
+) -> Result<Value, Lack>
     requires left { Fits (E.worker engine.old) x.now }
     requires right { Fits (E.worker engine.old) y.now }
     requires cols { value_cols x.now ≡ value_cols y.now }
@@ -60,12 +78,12 @@ pub fn left<E: Engine>(engine: &mut E, x: &Value, y: &Value) -> Result<Value, La
     if let Some((r, s)) = both_whole(&first, &second) {
         return stays_whole(engine.left(r, s));
     }
-    rel_slices::left(engine, &first, &second)
+    rel_slices::left(alloc, engine, &first, &second)
 }
 
-/// `syq(R,S) = {(j, k) : (i, j) in r exactly if (i, k) in s, for all i}`: the symmetric quotient, of m × n and m
-/// × p.
-pub fn syq<E: Engine>(engine: &mut E, x: &Value, y: &Value) -> Result<Value, Lack>
+/// `syq(R,S) = {(j, k) : (i, j) in r exactly if (i, k) in s, for all i}`: the symmetric quotient of an m × n and an m ×
+/// p value (Schmidt and Ströhlein).
+pub fn syq<E: Remembers>(alloc: Global, engine: &mut E, x: &Value, y: &Value) -> Result<Value, Lack>
     requires left { Fits (E.worker engine.old) x.now }
     requires right { Fits (E.worker engine.old) y.now }
     requires rows { value_rows x.now ≡ value_rows y.now }
@@ -79,11 +97,11 @@ pub fn syq<E: Engine>(engine: &mut E, x: &Value, y: &Value) -> Result<Value, Lac
     if let Some((r, s)) = both_whole(&first, &second) {
         return stays_whole(engine.syq(r, s));
     }
-    rel_slices::syq(engine, &first, &second)
+    rel_slices::syq(alloc, engine, &first, &second)
 }
 
-/// `R*L`, with L one full column: the domain of definition.
-fn with_ones<E: Engine>(engine: &mut E, v: &Value) -> Result<Value, Lack>
+/// `R*L`, where L is a full column: the domain of definition.
+fn with_ones<E: Remembers>(alloc: Global, engine: &mut E, v: &Value) -> Result<Value, Lack>
     requires fits { Fits (E.worker engine.old) v.now }
     ensures operates { let w = E.worker engine.old in Operates E.least E.lean w (E.worker engine.new)
         (value_rows v.now) 1
@@ -97,11 +115,11 @@ fn with_ones<E: Engine>(engine: &mut E, v: &Value) -> Result<Value, Lack>
             cols: 1,
         },
     )?;
-    compose(engine, v, &ones)
+    compose(alloc, engine, v, &ones)
 }
 
-/// `{(i, 0) : (i, j) in r for some j}`: the domain of definition.
-pub fn dom<E: Engine>(engine: &mut E, v: &Value) -> Result<Value, Lack>
+/// `{(i, 0) : (i, j) in r for some j}`: the domain of definition, as a vector (Schmidt and Ströhlein).
+pub fn dom<E: Remembers>(alloc: Global, engine: &mut E, v: &Value) -> Result<Value, Lack>
     requires fits { Fits (E.worker engine.old) v.now }
     ensures operates { let w = E.worker engine.old in Operates E.least E.lean w (E.worker engine.new)
         (value_rows v.now) 1
@@ -110,12 +128,12 @@ pub fn dom<E: Engine>(engine: &mut E, v: &Value) -> Result<Value, Lack>
 {
     match v {
         Value::Whole(r) => stays_whole(engine.dom(*r)),
-        Value::Lines(_) => with_ones(engine, v),
+        Value::Lines(_) => with_ones(alloc, engine, v),
     }
 }
 
-/// `{(j, 0) : (i, j) in r for some i}`: the range.
-pub fn ran<E: Engine>(engine: &mut E, v: &Value) -> Result<Value, Lack>
+/// `{(j, 0) : (i, j) in r for some i}`: the range, as a vector (Schmidt and Ströhlein).
+pub fn ran<E: Remembers>(alloc: Global, engine: &mut E, v: &Value) -> Result<Value, Lack>
     requires fits { Fits (E.worker engine.old) v.now }
     ensures operates { let w = E.worker engine.old in Operates E.least E.lean w (E.worker engine.new)
         (value_cols v.now) 1
@@ -126,7 +144,7 @@ pub fn ran<E: Engine>(engine: &mut E, v: &Value) -> Result<Value, Lack>
         Value::Whole(r) => stays_whole(engine.ran(*r)),
         Value::Lines(_) => {
             let turned = transpose(engine, v)?;
-            with_ones(engine, &turned)
+            with_ones(alloc, engine, &turned)
         }
     }
 }

@@ -1,8 +1,10 @@
-//! Tests of the operators on values over an engine, beside slow answers by the membership clauses.
+//! Tests of the operators on values over an engine, compared with slow answers by the membership formulas.
 #![tactic(auto)]
 
 #[cfg(test)]
 mod operations;
+#[cfg(test)]
+mod remembered;
 #[cfg(test)]
 mod slow;
 #[cfg(test)]

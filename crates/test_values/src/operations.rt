@@ -1,23 +1,24 @@
-//! The calls on two values, by name.
+//! Calls the operations on values by name.
 #![tactic(auto, using(rel_values::proofs::Operating::operates_fits, rel_values::proofs::Operating::operates_within_fits))]
 
 ghost use Rattle.std.specs.Prelude.{◌≡◌, IfOk};
 ghost use Rattle.rel_values.specs.Values.{Fits};
 
 use crate::slow::{Op, Sizes};
-use rel_model::engine_trait::Engine;
 use rel_model::faults::DomainError;
 use rel_model::{Lack, Shape};
-use rel_slices::{Value, shape_of};
+use rel_slices::{Remembers, Value, shape_of};
 use rel_values::{
     Bound, atom, bounds, complement, compose, dom, empty, epsi, full, init, inj, inter, left, next,
     pair, point, ran, right, syq, turned, union,
 };
+use std::alloc::Global;
 use std::process::Abort;
 
-/// What an operation answers.
-pub(crate) fn answer_of<E: Engine>(
+/// The answer of an operation.
+pub(crate) fn answer_of<E: Remembers>(
     rt: &impl Abort,
+    alloc: Global,
     engine: &mut E,
     op: Op,
     sizes: Sizes,
@@ -34,18 +35,18 @@ pub(crate) fn answer_of<E: Engine>(
             Err(_) => panic!(rt; "refused"),
         },
         Op::Union | Op::Inter | Op::Compose | Op::Right | Op::Left | Op::Syq => {
-            given(rt, of_two(rt, engine, op, x, y))
+            given(rt, of_two(rt, alloc, engine, op, x, y))
         }
         Op::Point | Op::Init | Op::Next | Op::Inj => given(rt, of_vector(rt, engine, op, x)),
         Op::Complement | Op::Turned(_) | Op::Dom | Op::Ran | Op::Atom => {
-            given(rt, of_one(engine, op, x))
+            given(rt, of_one(alloc, engine, op, x))
         }
         Op::Full | Op::Empty => given(rt, of_sizes(rt, engine, op, sizes)),
         _ => given(rt, of_order(rt, engine, op, x, y)),
     }
 }
 
-/// The value of an answer that is not refused.
+/// The value of an answer; a refusal ends the test.
 fn given(rt: &impl Abort, answer: Result<Value, Lack>) -> Value
     ensures { answer ≡ Ok result }
 {
@@ -55,9 +56,10 @@ fn given(rt: &impl Abort, answer: Result<Value, Lack>) -> Value
     }
 }
 
-/// The operators between two values.
-fn of_two<E: Engine>(
+/// The operators on two values.
+fn of_two<E: Remembers>(
     rt: &impl Abort,
+    alloc: Global,
     engine: &mut E,
     op: Op,
     x: &Value,
@@ -80,39 +82,44 @@ fn of_two<E: Engine>(
         }
         Op::Compose => {
             assert!(rt; a.cols == b.rows);
-            compose(engine, x, y)
+            compose(alloc, engine, x, y)
         }
         Op::Right => {
             assert!(rt; a.rows == b.rows);
-            right(engine, x, y)
+            right(alloc, engine, x, y)
         }
         Op::Left => {
             assert!(rt; a.cols == b.cols);
-            left(engine, x, y)
+            left(alloc, engine, x, y)
         }
         _ => {
             assert!(rt; a.rows == b.rows);
-            syq(engine, x, y)
+            syq(alloc, engine, x, y)
         }
     }
 }
 
 /// The operations on one value.
-fn of_one<E: Engine>(engine: &mut E, op: Op, x: &Value) -> Result<Value, Lack>
+fn of_one<E: Remembers>(alloc: Global, engine: &mut E, op: Op, x: &Value) -> Result<Value, Lack>
     requires { Fits (E.worker engine.old) x.now }
     ensures { IfOk result (Fits (E.worker engine.new)) }
 {
     match op {
         Op::Complement => complement(engine, x),
         Op::Turned(times) => turned(engine, x, times),
-        Op::Dom => dom(engine, x),
-        Op::Ran => ran(engine, x),
+        Op::Dom => dom(alloc, engine, x),
+        Op::Ran => ran(alloc, engine, x),
         _ => atom(engine, x),
     }
 }
 
 /// The operations on a vector.
-fn of_vector<E: Engine>(rt: &impl Abort, engine: &mut E, op: Op, x: &Value) -> Result<Value, Lack>
+fn of_vector<E: Remembers>(
+    rt: &impl Abort,
+    engine: &mut E,
+    op: Op,
+    x: &Value,
+) -> Result<Value, Lack>
     requires { Fits (E.worker engine.old) x.now }
     ensures { IfOk result (Fits (E.worker engine.new)) }
 {
@@ -125,8 +132,13 @@ fn of_vector<E: Engine>(rt: &impl Abort, engine: &mut E, op: Op, x: &Value) -> R
     }
 }
 
-/// The values that sizes alone make.
-fn of_sizes<E: Engine>(rt: &impl Abort, engine: &mut E, op: Op, sizes: Sizes) -> Result<Value, Lack>
+/// The values that are given by sizes alone.
+fn of_sizes<E: Remembers>(
+    rt: &impl Abort,
+    engine: &mut E,
+    op: Op,
+    sizes: Sizes,
+) -> Result<Value, Lack>
     ensures { IfOk result (Fits (E.worker engine.new)) }
 {
     let shape = Shape {
@@ -141,7 +153,7 @@ fn of_sizes<E: Engine>(rt: &impl Abort, engine: &mut E, op: Op, sizes: Sizes) ->
 }
 
 /// Bounds and extremes.
-fn of_order<E: Engine>(
+fn of_order<E: Remembers>(
     rt: &impl Abort,
     engine: &mut E,
     op: Op,
@@ -158,7 +170,7 @@ fn of_order<E: Engine>(
     bounds(engine, bound_of(op), x, y)
 }
 
-/// Which bounds or extremes are meant.
+/// Which bounds or extremes an operation computes.
 fn bound_of(op: Op) -> Bound {
     match op {
         Op::Upper => Bound::Upper,
@@ -171,7 +183,7 @@ fn bound_of(op: Op) -> Bound {
 }
 
 /// Membership and pairing.
-pub(crate) fn of_domains<E: Engine>(
+pub(crate) fn of_domains<E: Remembers>(
     rt: &impl Abort,
     engine: &mut E,
     op: Op,

@@ -1,8 +1,7 @@
-//! Relations that are given by a test on a row and a column, and slow answers, each by the membership clause of its
-//! operation.
+//! Relations given by a test on row and column, and slow answers, each by the membership formula of its operation.
 use rel_model::Shape;
 
-/// The operations that answer a value.
+/// The operations whose answer is a value.
 #[derive(Clone, Copy, Debug)]
 pub(crate) enum Op {
     Union,
@@ -32,7 +31,7 @@ pub(crate) enum Op {
     Pair,
 }
 
-/// Three sizes: most answers have k rows and n columns, and m is what is asked over.
+/// Three sizes: most answers have k rows and n columns, and m is the size in between. 12 bytes.
 #[derive(Clone, Copy, Debug)]
 pub(crate) struct Sizes {
     pub(crate) k: u32,
@@ -40,7 +39,7 @@ pub(crate) struct Sizes {
     pub(crate) n: u32,
 }
 
-/// The relations that operands are.
+/// The relations that operands may be.
 #[derive(Clone, Copy, Debug)]
 pub(crate) enum Given {
     First,
@@ -59,7 +58,7 @@ fn second(i: u32, j: u32) -> bool {
     (u64::from(i) * 5 + u64::from(j) * 11 + 3) % 29 == 0 || i == j
 }
 
-/// The order of a grid of eight columns: lattice points, none right of or below the other.
+/// The order of a grid with eight columns: i precedes j if neither its row nor its column in the grid is greater.
 fn order(i: u32, j: u32) -> bool {
     i / 8 <= j / 8 && i % 8 <= j % 8
 }
@@ -74,7 +73,7 @@ pub(crate) fn has(given: Given, i: u32, j: u32) -> bool {
     }
 }
 
-/// Which relation the first operand is.
+/// Which relation the first operand of an operation is.
 pub(crate) fn left_of(op: Op) -> Given {
     match op {
         Op::Upper | Op::Lower | Op::Least | Op::Greatest | Op::Suprema | Op::Infima => Given::Order,
@@ -157,7 +156,7 @@ pub(crate) fn answers(op: Op, sizes: Sizes, i: u32, j: u32) -> bool {
     }
 }
 
-/// The same of the choices.
+/// The same for choices.
 fn chosen(op: Op, sizes: Sizes, i: u32, j: u32) -> bool {
     let Sizes { k, m: _, n } = sizes;
     match op {
@@ -169,7 +168,7 @@ fn chosen(op: Op, sizes: Sizes, i: u32, j: u32) -> bool {
     }
 }
 
-/// The same of bounds and extremes in the order of k elements, of the columns of the second relation.
+/// The same for bounds and extremes of the columns of the second relation, in the order on k elements.
 fn bounds(op: Op, k: u32, i: u32, j: u32) -> bool {
     match op {
         Op::Upper => is_upper(k, i, j),
@@ -191,12 +190,12 @@ fn is_lower(k: u32, i: u32, j: u32) -> bool {
     (0..k).all(|l| !second(l, j) || order(i, l))
 }
 
-/// Whether a row of the first relation has no pair in so many columns.
+/// Whether a row of the first relation has no pair in the first `cols` columns.
 fn row_is_empty(i: u32, cols: u32) -> bool {
     (0..cols).all(|l| !first(i, l))
 }
 
-/// How many elements of the first column of the first relation come before one.
+/// How many elements of the first relation's first column are below a given one.
 fn elements_below(i: u32) -> u32 {
     let mut count: u32 = 0;
     'elements: for l in 0..i {

@@ -1,4 +1,4 @@
-//! Each operation on each pair of forms, beside the membership clauses.
+//! Each operation on each pair of forms, compared with the membership formulas.
 #![tactic(auto, using(rel_values::proofs::Operating::fits_stays, rel_values::proofs::Operating::given_fits, rel_values::proofs::Operating::whole_fits, rel_model::proofs::Workers::keeps_trans, rel_model::proofs::Workers::keeps_stands, rel_model::proofs::Workers::gives_stands))]
 
 ghost use Rattle.std.specs.Prelude.{◌≡◌, IsTrue};
@@ -11,17 +11,21 @@ use crate::operations::answer_of;
 use crate::slow::{Given, Op, Sizes, answer_shape, answers, has, left_of, left_shape, right_shape};
 use crate::trial::{Trial, on_a_table};
 use rel_model::core_trait::Core;
-use rel_model::engine_trait::Engine;
 use rel_model::faults::DomainError;
 use rel_model::{Rel, Shape};
-use rel_slices::{Value, formed};
+use rel_slices::{Remembers, Value, formed};
 use rel_values::{empty, included, pair, same, whole};
 use std::alloc::Global;
 use std::process::Abort;
 use std::thread::Threads;
 
-/// The pairs of a relation within sizes.
-fn listed(rt: &impl Abort, alloc: Global, given: Given, shape: Shape) -> Vec<(u32, u32)> {
+/// The pairs of a relation, within sizes.
+pub(crate) fn listed(
+    rt: &impl Abort,
+    alloc: Global,
+    given: Given,
+    shape: Shape,
+) -> Vec<(u32, u32)> {
     let mut pairs = Vec::new(alloc);
     'rows: for i in 0..shape.rows {
         'columns: for j in 0..shape.cols {
@@ -34,7 +38,7 @@ fn listed(rt: &impl Abort, alloc: Global, given: Given, shape: Shape) -> Vec<(u3
 }
 
 /// Whether all pairs lie within the sizes.
-fn lie_within(pairs: &[(u32, u32)], shape: Shape) -> bool
+pub(crate) fn lie_within(pairs: &[(u32, u32)], shape: Shape) -> bool
     ensures { IsTrue result → AreWithin shape.rows shape.cols pairs.now }
 {
     'pairs: for pair in pairs {
@@ -45,8 +49,8 @@ fn lie_within(pairs: &[(u32, u32)], shape: Shape) -> bool
     true
 }
 
-/// A relation of these sizes, whole.
-fn related<E: Engine>(
+/// A whole relation of these sizes.
+fn related<E: Remembers>(
     rt: &impl Abort,
     alloc: Global,
     engine: &mut E,
@@ -67,8 +71,8 @@ fn related<E: Engine>(
     }
 }
 
-/// A relation as a value: in the form of its sizes, or whole though it be thin.
-fn built<E: Engine>(
+/// A relation as a value: in the form of its sizes, or whole even if it is thin.
+fn built<E: Remembers>(
     rt: &impl Abort,
     alloc: Global,
     engine: &mut E,
@@ -91,8 +95,8 @@ fn built<E: Engine>(
     }
 }
 
-/// Asserts that a value has exactly the pairs of an answer.
-fn is_answer<E: Engine>(rt: &impl Abort, engine: &mut E, op: Op, sizes: Sizes, value: &Value)
+/// Asserts that a value has exactly the pairs that the answer should have.
+fn is_answer<E: Remembers>(rt: &impl Abort, engine: &mut E, op: Op, sizes: Sizes, value: &Value)
     requires { Fits (E.worker engine.old) value.now }
 {
     let Ok(all) = whole(engine, value) else {
@@ -114,8 +118,8 @@ fn is_answer<E: Engine>(rt: &impl Abort, engine: &mut E, op: Op, sizes: Sizes, v
     }
 }
 
-/// Asserts that an operation at these sizes is answered by its membership clause, of operands in these forms.
-fn agrees<E: Engine>(
+/// Asserts that an operation at these sizes, with operands in these forms, agrees with its membership formula.
+fn agrees<E: Remembers>(
     rt: &impl Abort,
     alloc: Global,
     engine: &mut E,
@@ -139,12 +143,12 @@ fn agrees<E: Engine>(
         right_shape(op, sizes),
         are_formed.1,
     );
-    let value = answer_of(rt, engine, op, sizes, &x, &y);
+    let value = answer_of(rt, alloc, engine, op, sizes, &x, &y);
     is_answer(rt, engine, op, sizes, &value);
 }
 
-/// The same of each pair of forms.
-pub(crate) fn in_each_form<E: Engine>(
+/// The same for each pair of forms.
+pub(crate) fn in_each_form<E: Remembers>(
     rt: &impl Abort,
     alloc: Global,
     engine: &mut E,
@@ -156,7 +160,7 @@ pub(crate) fn in_each_form<E: Engine>(
     }
 }
 
-/// Sizes at which a form begins or ends, of most operations.
+/// Sizes just inside and just outside a form, for most operations.
 const TRIED: &[(u32, u32, u32)] = &[
     (0, 0, 0),
     (0, 2, 300),
@@ -178,7 +182,7 @@ const TRIED: &[(u32, u32, u32)] = &[
     (257, 3, 258),
 ];
 
-/// Puts an engine to some operations at all these sizes.
+/// Tries some operations with an engine at all these sizes.
 fn at_all_sizes<R: Threads + Abort + Sync>(rt: &R, alloc: Global, ops: &[Op]) {
     'operations: for op in ops {
         'sizes: for (k, m, n) in TRIED {
@@ -270,8 +274,8 @@ fn memberships_and_pairings_have_the_pairs_of_their_clauses(rt: HostRuntime) {
     on_a_table(&rt, alloc, Trial::TooWide);
 }
 
-/// Asserts that a pairing whose columns pass the limit is refused with its size.
-pub(crate) fn is_too_wide<E: Engine>(rt: &impl Abort, engine: &mut E) {
+/// Asserts that a pairing with too many columns is refused, with its size.
+pub(crate) fn is_too_wide<E: Remembers>(rt: &impl Abort, engine: &mut E) {
     let shape = Shape {
         rows: 2,
         cols: 1 << 13,
@@ -290,13 +294,13 @@ pub(crate) fn is_too_wide<E: Engine>(rt: &impl Abort, engine: &mut E) {
     assert!(rt; fault == size);
 }
 
-/// Whether each cell of these sizes that the first has is one of the second.
+/// Whether each pair of the first relation, within these sizes, is also in the second.
 fn lies_within(x: Given, y: Given, shape: Shape) -> bool {
     (0..shape.rows).all(|i| (0..shape.cols).all(|j| !has(x, i, j) || has(y, i, j)))
 }
 
-/// Asserts what the tests of two relations of one type answer, in these forms.
-fn test_agrees<E: Engine>(
+/// Asserts what the tests of two relations of one type, in these forms, answer.
+fn test_agrees<E: Remembers>(
     rt: &impl Abort,
     alloc: Global,
     engine: &mut E,
@@ -323,8 +327,13 @@ fn test_agrees<E: Engine>(
     );
 }
 
-/// The same of each pair of forms.
-pub(crate) fn tests_agree<E: Engine>(rt: &impl Abort, alloc: Global, engine: &mut E, shape: Shape) {
+/// The same for each pair of forms.
+pub(crate) fn tests_agree<E: Remembers>(
+    rt: &impl Abort,
+    alloc: Global,
+    engine: &mut E,
+    shape: Shape,
+) {
     'forms: for are_formed in [(false, false), (false, true), (true, false), (true, true)] {
         'relations: for which in [
             (Given::First, Given::First),

@@ -1,32 +1,35 @@
-//! What any engine is put to, and an engine over a table of its own for each.
+//! The trials that any engine can be put through, each over its own table.
 #![tactic(auto)]
 
 ghost use Rattle.rel_model.specs.Views.{IsOf};
 
 use crate::slow::{Op, Sizes};
-use crate::tests;
+use crate::{remembered, tests};
 use fork_quads::{Crew, OpenGate};
 use pair_table::{PairTable, Seat};
 use rel_engine::Works;
 use rel_model::Shape;
-use rel_model::engine_trait::Engine;
+use rel_slices::Remembers;
 use std::alloc::Global;
 use std::process::Abort;
 use std::thread::Threads;
 
-/// What an engine is put to: an operation at some sizes, the tests of two values, or a pairing that is too wide.
+/// A trial: an operation at some sizes, the tests of two values, a pairing that is too wide, or what the engine
+/// remembers.
 pub(crate) enum Trial {
     Operation(Op, Sizes),
     Tests(Shape),
     TooWide,
+    Remembers,
 }
 
-/// Puts an engine to a trial.
-fn put<E: Engine>(rt: &impl Abort, alloc: Global, engine: &mut E, trial: Trial) {
+/// Puts an engine through a trial.
+fn put<E: Remembers>(rt: &impl Abort, alloc: Global, engine: &mut E, trial: Trial) {
     match trial {
         Trial::Operation(op, sizes) => tests::in_each_form(rt, alloc, engine, op, sizes),
         Trial::Tests(shape) => tests::tests_agree(rt, alloc, engine, shape),
         Trial::TooWide => tests::is_too_wide(rt, engine),
+        Trial::Remembers => remembered::are_told_apart(rt, alloc, engine),
     }
 }
 
@@ -40,7 +43,7 @@ fn table(rt: &impl Abort, alloc: Global) -> (PairTable, Seat)
     }
 }
 
-/// Puts an engine over a table of its own to a trial.
+/// Puts an engine over its own table through a trial.
 pub(crate) fn on_a_table<R: Threads + Abort + Sync>(rt: &R, alloc: Global, trial: Trial) {
     let (table, seat) = table(rt, alloc);
     let mut works = Works::new(Crew::new(rt, &table, seat, 1, &OpenGate));

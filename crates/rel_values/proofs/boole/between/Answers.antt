@@ -4,9 +4,8 @@ use Rattle.rel_slices.specs.Ops.{boole_of}
 use Rattle.rel_slices.specs.Thin.{value_of, value_rows, value_cols}
 use Rattle.rel_slices.specs.ValueRooms.{pieces_room}
 use Rattle.rel_slices.proofs.Valuing.{recast_value, value_same}
-use Rattle.rel_values.specs.Shaping.{forming_room}
-use Rattle.rel_values.proofs.Small.{plain_squares}
-use Rattle.rel_values.proofs.Operating.{begun, goes_on, stopped, ended, form_long, value_later, Held, forming_fits, forming_second, pieces_given, owed_given}
+use Rattle.rel_values.proofs.Small.{forming_room, plain_squares, Held, forming_fits, forming_second, pieces_given, owed_given}
+use Rattle.rel_values.proofs.Operating.{begun, goes_on, stops, ends, form_long, value_later}
 use Rattle.rel_values.proofs.boole.between.Goals as goal
 
 pub returns-in_err-a : goal.returns-in_err-a
@@ -22,7 +21,7 @@ returns-in_err-a g c =
     let p = plain_squares (value_rows x) (value_cols x) in
     let p0 = forming_fits x h c.requires.left in
     let e = c.in_err-a.ensures in
-    record { operates = stopped (forming_room least x) c.from_residual.result c.from_residual.ensures.1 (begun o) e.keeps e.room e.cause (omega (arith, p, p0)) }
+    record { operates = stops (forming_room least x) c.from_residual.result c.from_residual.ensures.1 (omega (arith, p, p0)) (begun o) e.keeps e.room e.cause }
 
 pub returns-in_err-b : goal.returns-in_err-b
 returns-in_err-b g c =
@@ -40,7 +39,7 @@ returns-in_err-b g c =
     let c0 = goes_on (forming_room least x) (begun o) e0.keeps e0.room e0.cause in
     let p1 = forming_second x y h c.requires.right c.requires.rows c.requires.cols in
     let e = c.in_err-b.ensures in
-    record { operates = stopped (forming_room least y) c.from_residual-in_err-b.result c.from_residual-in_err-b.ensures.1 c0 e.keeps e.room e.cause (omega (arith, p, p0, p1)) }
+    record { operates = stops (forming_room least y) c.from_residual-in_err-b.result c.from_residual-in_err-b.ensures.1 (omega (arith, p, p0, p1)) c0 e.keeps e.room e.cause }
 
 pub returns-in_err-made : goal.returns-in_err-made
 returns-in_err-made g c =
@@ -65,7 +64,7 @@ returns-in_err-made g c =
     let a2 = value_later (g.E.Core.worker c.in_form.new.engine) w2 _ _ _ c.in_ok-a.a e1.keeps e0.value in
     let p2 = pieces_given c.in_ok-a.a h2 a2 in
     let e = c.in_err-made.ensures in
-    record { operates = stopped (pieces_room least c.in_ok-a.a) c.from_residual-in_err-made.result c.from_residual-in_err-made.ensures.1 c1 e.keeps e.room e.cause (omega (arith, p, p0, p1, p2)) }
+    record { operates = stops (pieces_room least c.in_ok-a.a) c.from_residual-in_err-made.result c.from_residual-in_err-made.ensures.1 (omega (arith, p, p0, p1, p2)) c1 e.keeps e.room e.cause }
 
 pub returns : goal.returns
 returns g c =
@@ -100,4 +99,4 @@ returns g c =
     (ap (λ (r : Relation). boole_of c.args.op r (value_of w2 c.in_ok-b.b)) a2.means ∙ ap (boole_of c.args.op (value_of o x)) b) e2.value in
     let long = form_long made e2.form in
     let p3 = owed_given made h3 value long in
-    record { operates = ended c2 value long (omega (arith, p, p0, p1, p2, p3)) }
+    record { operates = ends (omega (arith, p, p0, p1, p2, p3)) c2 value long }

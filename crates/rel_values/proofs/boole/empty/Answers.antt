@@ -1,6 +1,6 @@
 use Rattle.std.proofs.Common.{ℕ, arith}
-use Rattle.rel_values.proofs.Small.{plain_squares}
-use Rattle.rel_values.proofs.Operating.{begun, goes_on, ended, form_long, Held, owed_given}
+use Rattle.rel_values.proofs.Small.{plain_squares, Held, owed_given}
+use Rattle.rel_values.proofs.Operating.{begun, goes_on, ends, form_long}
 use Rattle.rel_values.proofs.boole.empty.Goals as goal
 
 pub returns : goal.returns
@@ -19,4 +19,4 @@ returns g c =
     let none = c.in_ok-none.none in
     let long = form_long none e.form in
     let p1 = owed_given none h1 e.value long in
-    record { operates = ended c0 e.value long (omega (arith, p, p1)) }
+    record { operates = ends (omega (arith, p, p1)) c0 e.value long }

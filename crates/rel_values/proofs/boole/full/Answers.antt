@@ -1,7 +1,7 @@
 use Rattle.std.proofs.Common.{ℕ, arith}
 use Rattle.rel_model.specs.Roots.{relation_room}
-use Rattle.rel_values.proofs.Small.{plain_squares, tree_small}
-use Rattle.rel_values.proofs.Operating.{begun, goes_on, stopped, ended, form_long, Held, owed_given}
+use Rattle.rel_values.proofs.Small.{plain_squares, tree_small, Held, owed_given}
+use Rattle.rel_values.proofs.Operating.{begun, goes_on, stops, ends, form_long}
 use Rattle.rel_values.proofs.boole.full.Goals as goal
 
 pub returns-in_err-all : goal.returns-in_err-all
@@ -15,7 +15,7 @@ returns-in_err-all g c =
     let p = plain_squares rows cols in
     let p0 = tree_small least rows cols leaves c.requires.row_limit c.requires.col_limit in
     let e = c.in_err-all.ensures in
-    record { operates = stopped (relation_room least rows cols) c.from_residual.result c.from_residual.ensures.1 (begun o) e.keeps e.room e.cause (omega (arith, p, p0)) }
+    record { operates = stops (relation_room least rows cols) c.from_residual.result c.from_residual.ensures.1 (omega (arith, p, p0)) (begun o) e.keeps e.room e.cause }
 
 pub returns : goal.returns
 returns g c =
@@ -34,4 +34,4 @@ returns g c =
     let all = c.in_ok-all.all in
     let long = form_long all e.form in
     let p1 = owed_given all h1 e.value long in
-    record { operates = ended c0 e.value long (omega (arith, p, p0, p1)) }
+    record { operates = ends (omega (arith, p, p0, p1)) c0 e.value long }

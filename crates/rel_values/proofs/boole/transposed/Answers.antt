@@ -7,8 +7,8 @@ use Rattle.rel_slices.specs.Thin.{value_of, value_rows, value_cols}
 use Rattle.rel_slices.specs.ValueRooms.{transpose_room}
 use Rattle.rel_slices.proofs.Valuing.{whole_value}
 use Rattle.rel_values.specs.Values.{Operates}
-use Rattle.rel_values.proofs.Small.{plain_squares, operator_squares, square_turned}
-use Rattle.rel_values.proofs.Operating.{begun, goes_on, stopped, ended, form_long, Held, owed_given}
+use Rattle.rel_values.proofs.Small.{plain_squares, operator_squares, square_turned, Held, owed_given}
+use Rattle.rel_values.proofs.Operating.{begun, goes_on, stops, ends, form_long}
 use Rattle.rel_values.proofs.boole.transposed.Goals as goal
 
 pub returns-in_err-turned-in-Whole : goal.returns-in_err-turned-in-Whole
@@ -21,7 +21,7 @@ returns-in_err-turned-in-Whole g c =
     let e = c.in_err-turned-in-Whole.ensures in
     record {
       operates = subst (λ (x : Value). Operates least g.E.Core.lean o (g.E.Core.worker c.transpose.new.self) (value_cols x) (value_rows x) (transpose (value_of o x)) (plain_room (value_rows x) (value_cols x)) c.from_residual.result) (sym c.in-Whole.is)
-          (stopped (operator_room r.rows r.cols) c.from_residual.result c.from_residual.ensures.1 (begun o) e.keeps e.room e.cause (omega (arith, p, p0)));
+          (stops (operator_room r.rows r.cols) c.from_residual.result c.from_residual.ensures.1 (omega (arith, p, p0)) (begun o) e.keeps e.room e.cause);
     }
 
 pub returns-in_ok-turned-in-Whole : goal.returns-in_ok-turned-in-Whole
@@ -36,7 +36,7 @@ returns-in_ok-turned-in-Whole g c =
     let c0 = goes_on (operator_room r.rows r.cols) (begun o) e.keeps e.room e.cause in
     record {
       operates = subst (λ (x : Value). Operates least g.E.Core.lean o (g.E.Core.worker c.transpose.new.self) (value_cols x) (value_rows x) (transpose (value_of o x)) (plain_room (value_rows x) (value_cols x)) (Ok (Whole turned))) (sym c.in-Whole.is)
-          (ended c0 (whole_value (g.E.Core.worker c.transpose.new.self) _ _ _ turned e.value) tt (omega (arith, p, p0)));
+          (ends (omega (arith, p, p0)) c0 (whole_value (g.E.Core.worker c.transpose.new.self) _ _ _ turned e.value) tt);
     }
 
 pub returns-in_ok-turned-in-Lines : goal.returns-in_ok-turned-in-Lines
@@ -56,4 +56,4 @@ returns-in_ok-turned-in-Lines g c =
     let long = form_long turned e.form in
     let p1 = owed_given turned h1 e.value long in
     let p2 = square_turned (value_rows v) (value_cols v) in
-    record { operates = ended c0 e.value long (omega (arith, p, none, p1, p2)) }
+    record { operates = ends (omega (arith, p, none, p1, p2)) c0 e.value long }

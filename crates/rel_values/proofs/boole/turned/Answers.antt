@@ -1,8 +1,8 @@
 use Rattle.std.proofs.Common.{◌≡◌, ◌%◌, ℕ, arith}
 use Rattle.rel_slices.specs.Thin.{value_rows, value_cols}
 use Rattle.rel_slices.proofs.Valuing.{value_type}
-use Rattle.rel_values.proofs.Small.{plain_squares}
-use Rattle.rel_values.proofs.Operating.{begun, ended, Held, owed_fits, turned_value, turned_once}
+use Rattle.rel_values.proofs.Small.{plain_squares, Held, owed_fits}
+use Rattle.rel_values.proofs.Operating.{begun, ends, turned_value, turned_once}
 use Rattle.rel_values.proofs.boole.turned.Goals as goal
 
 pub returns-then-times-eq0 : goal.returns-then-times-eq0
@@ -18,7 +18,7 @@ returns-then-times-eq0 g c =
     let type = value_type o v (λ r s. record { valid = laws.valid core r s; row_size = laws.row_size core r s; col_size = laws.col_size core r s }) c.requires.fits.stands in
     let even : c.args.times % 2 ≡ 0 = (let q = c.if-times-eq0.true in omega (arith, q)) in
     let p0 = owed_fits v h c.requires.fits in
-    record { operates = ended (begun o) (turned_value o c.args.times v even c.requires.fits.stands type) c.requires.fits.long (omega (arith, p, p0)) }
+    record { operates = ends (omega (arith, p, p0)) (begun o) (turned_value o c.args.times v even c.requires.fits.stands type) c.requires.fits.long }
 
 pub returns : goal.returns
 returns g c =

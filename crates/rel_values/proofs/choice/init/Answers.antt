@@ -4,7 +4,7 @@ use Rattle.rel_model.specs.Worker.{height_of_three}
 use Rattle.rel_model.proofs.Workers.{gives_set}
 use Rattle.rel_steps.proofs.Rooms.{as_high}
 use Rattle.rel_slices.specs.Thin.{value_rows, value_cols}
-use Rattle.rel_values.proofs.Chains.{begun, goes_on, stops, ends_whole, regives}
+use Rattle.rel_values.proofs.Operating.{begun, goes_on, stops, ends_whole, regives}
 use Rattle.rel_values.proofs.Sizes.{chosen_room}
 use Rattle.rel_values.proofs.choice.init.Goals as goal
 

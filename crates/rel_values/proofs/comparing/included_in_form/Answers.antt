@@ -5,9 +5,8 @@ use Rattle.rel_model.specs.Operators.{diff, empty}
 use Rattle.rel_slices.specs.Thin.{value_of, value_rows, value_cols}
 use Rattle.rel_slices.specs.ValueRooms.{pieces_room}
 use Rattle.rel_slices.proofs.Valuing.{value_same}
-use Rattle.rel_values.specs.Shaping.{forming_room}
-use Rattle.rel_values.proofs.Small.{operator_squares}
-use Rattle.rel_values.proofs.Operating.{begun, goes_on, halted, decided, value_later, Held, forming_fits, forming_second, pieces_given}
+use Rattle.rel_values.proofs.Small.{forming_room, operator_squares, Held, forming_fits, forming_second, pieces_given}
+use Rattle.rel_values.proofs.Operating.{begun, goes_on, stops_test, ends_test, value_later}
 use Rattle.rel_values.proofs.comparing.included_in_form.Goals as goal
 
 pub returns-in_err-a : goal.returns-in_err-a
@@ -23,7 +22,7 @@ returns-in_err-a g c =
     let h : Held least (g.E.Core.worker core) = record { leaves = leaves; row_limit = laws.row_limit core; col_limit = laws.col_limit core } in
     let p0 = forming_fits x h c.requires.left in
     let e = c.in_err-a.ensures in
-    record { decides = halted (forming_room least x) c.from_residual.result c.from_residual.ensures.1 (begun o) e.keeps e.room e.cause (omega (arith, p, p0)) }
+    record { decides = stops_test (forming_room least x) c.from_residual.result c.from_residual.ensures.1 (omega (arith, p, p0)) (begun o) e.keeps e.room e.cause }
 
 pub returns-in_err-b : goal.returns-in_err-b
 returns-in_err-b g c =
@@ -41,7 +40,7 @@ returns-in_err-b g c =
     let c0 = goes_on (forming_room least x) (begun o) e0.keeps e0.room e0.cause in
     let p1 = forming_second x y h c.requires.right c.requires.rows c.requires.cols in
     let e = c.in_err-b.ensures in
-    record { decides = halted (forming_room least y) c.from_residual-in_err-b.result c.from_residual-in_err-b.ensures.1 c0 e.keeps e.room e.cause (omega (arith, p, p0, p1)) }
+    record { decides = stops_test (forming_room least y) c.from_residual-in_err-b.result c.from_residual-in_err-b.ensures.1 (omega (arith, p, p0, p1)) c0 e.keeps e.room e.cause }
 
 pub returns-in_err-yes : goal.returns-in_err-yes
 returns-in_err-yes g c =
@@ -66,7 +65,7 @@ returns-in_err-yes g c =
     let h2 : Held least (g.E.Core.worker c.in_form-2.new.engine) = record { leaves = leaves; row_limit = laws.row_limit c.in_form-2.new.engine; col_limit = laws.col_limit c.in_form-2.new.engine } in
     let p2 = pieces_given c.in_ok-a.a h2 a in
     let e = c.in_err-yes.ensures in
-    record { decides = halted (pieces_room least c.in_ok-a.a) c.from_residual-in_err-yes.result c.from_residual-in_err-yes.ensures.1 c1 e.keeps e.room e.cause (omega (arith, p, p0, p1, p2)) }
+    record { decides = stops_test (pieces_room least c.in_ok-a.a) c.from_residual-in_err-yes.result c.from_residual-in_err-yes.ensures.1 (omega (arith, p, p0, p1, p2)) c1 e.keeps e.room e.cause }
 
 pub returns : goal.returns
 returns g c =
@@ -97,8 +96,7 @@ returns g c =
     let d : diff (value_of w2 c.in_ok-a.a) (value_of w2 c.in_ok-b.b) ≡ diff (value_of o x) (value_of o y) = ap (λ (r : Relation). diff r (value_of w2 c.in_ok-b.b)) a.means ∙ ap (diff (value_of o x)) b in
     let none : empty (value_rows c.in_ok-a.a) (value_cols c.in_ok-a.a) ≡ empty (value_rows x) (value_cols x) = ap (λ (n : ℕ). empty n (value_cols c.in_ok-a.a)) a.row_size ∙ ap (empty (value_rows x)) a.col_size in
     record {
-      decides = decided c2
+      decides = ends_test (omega (arith, p, p0, p1, p2)) c2
           (subst (λ (r : Relation). IsTrue answer ↔ (r ≡ empty (value_rows x) (value_cols x))) d
-          (subst (λ (r : Relation). IsTrue answer ↔ (diff (value_of w2 c.in_ok-a.a) (value_of w2 c.in_ok-b.b) ≡ r)) none e2.value))
-          (omega (arith, p, p0, p1, p2));
+          (subst (λ (r : Relation). IsTrue answer ↔ (diff (value_of w2 c.in_ok-a.a) (value_of w2 c.in_ok-b.b) ≡ r)) none e2.value));
     }

@@ -3,9 +3,8 @@ use Rattle.std.specs.Prelude.{IsTrue, ◌↔◌}
 use Rattle.rel_model.specs.Relation.{Relation}
 use Rattle.rel_slices.specs.Thin.{value_of, value_rows, value_cols}
 use Rattle.rel_slices.proofs.Valuing.{value_same}
-use Rattle.rel_values.specs.Shaping.{forming_room}
-use Rattle.rel_values.proofs.Small.{operator_squares}
-use Rattle.rel_values.proofs.Operating.{begun, goes_on, halted, decided, value_later, Held, forming_fits, forming_second}
+use Rattle.rel_values.proofs.Small.{forming_room, operator_squares, Held, forming_fits, forming_second}
+use Rattle.rel_values.proofs.Operating.{begun, goes_on, stops_test, ends_test, value_later}
 use Rattle.rel_values.proofs.comparing.same_in_form.Goals as goal
 
 pub returns-in_err-a : goal.returns-in_err-a
@@ -21,7 +20,7 @@ returns-in_err-a g c =
     let h : Held least (g.E.Core.worker core) = record { leaves = leaves; row_limit = laws.row_limit core; col_limit = laws.col_limit core } in
     let p0 = forming_fits x h c.requires.left in
     let e = c.in_err-a.ensures in
-    record { decides = halted (forming_room least x) c.from_residual.result c.from_residual.ensures.1 (begun o) e.keeps e.room e.cause (omega (arith, p, p0)) }
+    record { decides = stops_test (forming_room least x) c.from_residual.result c.from_residual.ensures.1 (omega (arith, p, p0)) (begun o) e.keeps e.room e.cause }
 
 pub returns-in_err-b : goal.returns-in_err-b
 returns-in_err-b g c =
@@ -39,7 +38,7 @@ returns-in_err-b g c =
     let c0 = goes_on (forming_room least x) (begun o) e0.keeps e0.room e0.cause in
     let p1 = forming_second x y h c.requires.right c.requires.rows c.requires.cols in
     let e = c.in_err-b.ensures in
-    record { decides = halted (forming_room least y) c.from_residual-in_err-b.result c.from_residual-in_err-b.ensures.1 c0 e.keeps e.room e.cause (omega (arith, p, p0, p1)) }
+    record { decides = stops_test (forming_room least y) c.from_residual-in_err-b.result c.from_residual-in_err-b.ensures.1 (omega (arith, p, p0, p1)) c0 e.keeps e.room e.cause }
 
 pub returns : goal.returns
 returns g c =
@@ -64,7 +63,6 @@ returns g c =
     let b : value_of w2 c.in_ok-b.b ≡ value_of o y = e1.value.means ∙ value_same o w1 y e0.keeps c.requires.right.stands in
     let answer = c.same.result in
     record {
-      decides = decided c1
-          (subst (λ (r : Relation). IsTrue answer ↔ (r ≡ value_of o y)) a.means (subst (λ (r : Relation). IsTrue answer ↔ (value_of w2 c.in_ok-a.a ≡ r)) b c.same.ensures))
-          (omega (arith, p, p0, p1));
+      decides = ends_test (omega (arith, p, p0, p1)) c1
+          (subst (λ (r : Relation). IsTrue answer ↔ (r ≡ value_of o y)) a.means (subst (λ (r : Relation). IsTrue answer ↔ (value_of w2 c.in_ok-a.a ≡ r)) b c.same.ensures));
     }

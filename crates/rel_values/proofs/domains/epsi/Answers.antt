@@ -4,7 +4,7 @@ use Rattle.rel_model.proofs.Heights.{power_up}
 use Rattle.rel_slices.specs.declared.thin.Value.TheVariants.{Lines}
 use Rattle.rel_slices.proofs.Valuing.{recast_value, lines_value}
 use Rattle.rel_slices.proofs.Membering.{members_laid}
-use Rattle.rel_values.proofs.Chains.{begun, fits_given}
+use Rattle.rel_values.proofs.Operating.{begun, given_fits}
 use Rattle.rel_steps.proofs.Rooms.{as_high}
 use Rattle.rel_values.proofs.Sizes.{owed_at}
 use Rattle.rel_values.proofs.Within.{ends_within, full_within, memory_within, lines_within, epsi_cost, member_cost, members_room}
@@ -28,7 +28,7 @@ returns-in-Ok g c =
     let v = recast_value w _ _ x (2 ^ x) _ _ (Lines c.in-Ok.lines) refl refl (members_laid x) (lines_value w _ _ _ _ c.in-Ok.lines d.lines) in
     let long : 257 ≤ c.in-Ok.lines.other = (let p = power_up 9 x low in let e = d.lines.other_is in omega (arith, p, e)) in
     let m = member_cost g.E.Core.least x leaf low few in
-    let q = owed_at g.E.Core.least h w (Lines c.in-Ok.lines) leaf (fits_given w (Lines c.in-Ok.lines) v long) (as_high _ x h v.row_size (omega arith)) (as_high _ (2 ^ x) h v.col_size (omega arith)) in
+    let q = owed_at g.E.Core.least h w (Lines c.in-Ok.lines) leaf (given_fits (Lines c.in-Ok.lines) v long) (as_high _ x h v.row_size (omega arith)) (as_high _ (2 ^ x) h v.col_size (omega arith)) in
     let r = members_room x _ _ m q in
     record { operates = lines_within _ (power_up x 24 few) r d.keeps d.room d.cause.done v long }
 

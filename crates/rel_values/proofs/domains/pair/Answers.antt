@@ -6,7 +6,7 @@ use Rattle.rel_model.specs.Worker.{set_of, derived_room}
 use Rattle.rel_model.proofs.Workers.{gives_set}
 use Rattle.rel_slices.specs.Thin.{value_of, value_cols}
 use Rattle.rel_slices.proofs.Costs.{value_col_limit}
-use Rattle.rel_values.proofs.Chains.{begun, goes_on}
+use Rattle.rel_values.proofs.Operating.{begun, goes_on}
 use Rattle.rel_values.proofs.Forming.{same_three}
 use Rattle.rel_values.proofs.Within.{ends_within, full_within, memory_within, pair_cost}
 use Rattle.rel_values.proofs.domains.pair.Given.{Over}

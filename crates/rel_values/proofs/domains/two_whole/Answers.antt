@@ -1,6 +1,6 @@
 use Rattle.std.proofs.Common.{refl}
 use Rattle.rel_slices.proofs.Valuing.{value_same}
-use Rattle.rel_values.proofs.Chains.{regives}
+use Rattle.rel_values.proofs.Operating.{regives}
 use Rattle.rel_values.proofs.domains.two_whole.Goals as goal
 
 pub returns-clause-second : goal.returns-clause-second

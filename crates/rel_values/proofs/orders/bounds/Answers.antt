@@ -5,7 +5,7 @@ use Rattle.rel_model.proofs.Workers.{gives_set}
 use Rattle.rel_slices.specs.Thin.{value_of, value_rows, value_cols}
 use Rattle.rel_slices.proofs.Valuing.{value_same}
 use Rattle.rel_values.specs.Bounds.{bound_of}
-use Rattle.rel_values.proofs.Chains.{begun, goes_on, stops, ends_rel}
+use Rattle.rel_values.proofs.Operating.{begun, goes_on, stops, ends_rel}
 use Rattle.rel_values.proofs.Forming.{same_three}
 use Rattle.rel_values.proofs.Sizes.{bounds_cost}
 use Rattle.rel_values.proofs.orders.bounds.Goals as goal

@@ -5,7 +5,7 @@ use Rattle.rel_model.specs.Worker.{MakesAtMost, product_room}
 use Rattle.rel_slices.specs.Thin.{value_of, value_rows, value_cols}
 use Rattle.rel_slices.specs.ValueRooms.{formed_room, thin_room}
 use Rattle.rel_slices.proofs.Costs.{value_row_limit, value_col_limit}
-use Rattle.rel_values.proofs.Chains.{begun, goes_on, stops, ends_value}
+use Rattle.rel_values.proofs.Operating.{begun, goes_on, stops, ends_value}
 use Rattle.rel_values.proofs.Forming.{Limits, compose_ends, product_forming, formed, same_three, some_lines}
 use Rattle.rel_values.proofs.products.compose.Goals as goal
 

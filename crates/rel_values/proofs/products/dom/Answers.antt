@@ -3,7 +3,7 @@ use Rattle.rel_model.specs.Choice.{dom}
 use Rattle.rel_model.specs.Worker.{derived_room}
 use Rattle.rel_model.proofs.Rooms.{wide_room-four}
 use Rattle.rel_slices.specs.Thin.{value_of, value_rows, value_cols}
-use Rattle.rel_values.proofs.Chains.{begun, ends_rel}
+use Rattle.rel_values.proofs.Operating.{begun, ends_rel}
 use Rattle.rel_values.proofs.Forming.{same_three}
 use Rattle.rel_values.proofs.products.dom.Goals as goal
 

@@ -5,7 +5,7 @@ use Rattle.rel_model.proofs.Rooms.{wide_room-four}
 use Rattle.rel_slices.specs.Thin.{value_of, value_rows, value_cols}
 use Rattle.rel_slices.specs.ValueRooms.{transpose_room}
 use Rattle.rel_slices.proofs.Valuing.{ran_dom}
-use Rattle.rel_values.proofs.Chains.{begun, goes_on, ends_rel, after}
+use Rattle.rel_values.proofs.Operating.{begun, goes_on, ends_rel, after}
 use Rattle.rel_values.proofs.Forming.{same_three}
 use Rattle.rel_values.proofs.Sizes.{wide_turned}
 use Rattle.rel_values.proofs.products.ran.Goals as goal

@@ -6,7 +6,7 @@ use Rattle.rel_steps.proofs.Rooms.{as_high}
 use Rattle.rel_slices.specs.Thin.{value_of, value_rows, value_cols}
 use Rattle.rel_slices.specs.ValueRooms.{formed_room}
 use Rattle.rel_slices.proofs.Costs.{value_row_limit, value_col_limit}
-use Rattle.rel_values.proofs.Chains.{begun, goes_on, stops, ends_value, ends_rel}
+use Rattle.rel_values.proofs.Operating.{begun, goes_on, stops, ends_value, ends_rel}
 use Rattle.rel_values.proofs.Forming.{Limits, IsOperand, is_operand, residual_forming, quotient_ends, formed, same_three}
 use Rattle.rel_values.proofs.Thinness.{plain_formed}
 use Rattle.rel_values.proofs.products.syq.Goals as goal

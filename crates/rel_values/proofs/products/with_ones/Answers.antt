@@ -6,7 +6,7 @@ use Rattle.rel_model.specs.Worker.{product_room}
 use Rattle.rel_slices.specs.Thin.{value_of, value_rows, value_cols}
 use Rattle.rel_slices.proofs.Costs.{value_row_limit, value_col_limit}
 use Rattle.rel_slices.proofs.Valuing.{value_same, value_type, dom_full}
-use Rattle.rel_values.proofs.Chains.{begun, goes_on, stops, after}
+use Rattle.rel_values.proofs.Operating.{begun, goes_on, stops, after}
 use Rattle.rel_values.proofs.Sizes.{ones_cost}
 use Rattle.rel_values.proofs.products.with_ones.Goals as goal
 

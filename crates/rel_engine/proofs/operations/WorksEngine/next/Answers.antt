@@ -1,0 +1,5 @@
+use Rattle.rel_engine.proofs.Keeping.{kept}
+use Rattle.rel_engine.proofs.operations.WorksEngine.next.Goals as goal
+
+pub invariant_of-self : goal.invariant_of-self
+invariant_of-self g c = kept _ _ _ c.next.ensures.keeps c.self.invariant

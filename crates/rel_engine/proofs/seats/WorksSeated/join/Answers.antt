@@ -1,0 +1,5 @@
+use Rattle.rel_engine.proofs.Keeping.{held}
+use Rattle.rel_engine.proofs.seats.WorksSeated.join.Goals as goal
+
+pub invariant_of-self : goal.invariant_of-self
+invariant_of-self g c = held _ _ _ c.join.ensures.holds c.self.invariant
