@@ -1,4 +1,4 @@
-//! The engine's calls of evaluations, without the evaluator.
+//! The engine calls that evaluations make, without the evaluator.
 ghost use Rattle.std.specs.Prelude.{◌≡◌, IfSome};
 ghost use Rattle.rel_model.specs.Worker.{Stands, Keeps};
 
@@ -6,7 +6,7 @@ use rel_model::core_trait::Core;
 use rel_model::engine_trait::Engine;
 use rel_model::{Rel, Shape};
 
-/// The complement of a relation of one row and one column.
+/// The complement of a relation with one row and one column.
 fn complemented<E: Engine>(engine: &mut E, x: Rel) -> Option<Rel>
     requires { Stands (E.worker engine.old) x × (x.rows ≡ 1) × (x.cols ≡ 1) }
     ensures value { IfSome result (λ y. Stands (E.worker engine.new) y × (y.rows ≡ 1) × (y.cols ≡ 1)) }
@@ -22,7 +22,7 @@ fn complemented<E: Engine>(engine: &mut E, x: Rel) -> Option<Rel>
     }
 }
 
-/// So many turns of a loop: a test of r, which is full, and a complement.
+/// `count` turns of a loop, each with a test whether the relation is full, and a complement.
 #[tactic(auto, using(rel_model::proofs::Workers::keeps_stands))]
 pub fn turns_alone<E: Engine>(engine: &mut E, r: Rel, count: u64) -> Option<Rel>
     requires { Stands (E.worker engine.old) r × (r.rows ≡ 1) × (r.cols ≡ 1) }
@@ -40,7 +40,7 @@ pub fn turns_alone<E: Engine>(engine: &mut E, r: Rel, count: u64) -> Option<Rel>
     Some(x)
 }
 
-/// One union fewer than operands, each of the last with r.
+/// The unions of a chain of `count` operands, one fewer than there are operands, each with r.
 #[tactic(auto, using(rel_model::proofs::Workers::keeps_stands))]
 pub fn unions_alone<E: Engine>(engine: &mut E, r: Rel, count: u64) -> Option<Rel>
     requires { Stands (E.worker engine.old) r }

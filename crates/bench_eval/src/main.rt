@@ -1,7 +1,7 @@
-//! How long evaluations take, and the engine's calls of them alone: `bench_eval TASK COUNT`.
+//! Measures evaluations, and the engine calls of them alone: `bench_eval TASK COUNT`.
 //!
-//! The tasks are `turns`, a loop of COUNT turns that complements a relation of one row and one column; `calls`, the
-//! same with a call of a function in each turn, and with an assignment in its place; and `chain`, a union of COUNT
+//! The tasks are `turns`, a loop of COUNT turns that complements a relation with one row and one column; `calls`, the
+//! same with a function call in each turn, and again with an assignment instead; and `chain`, a union of COUNT
 //! operands. Each line has a name, COUNT and nanoseconds.
 #![tactic(auto)]
 
@@ -20,8 +20,8 @@ use fork_quads::{Crew, OpenGate};
 use lang_model::syntax::{Expr, Name};
 use pair_table::PairTable;
 use rel_engine::Works;
-use rel_model::engine_trait::Engine;
 use rel_model::{Rel, Shape};
+use rel_slices::Remembers;
 use rv_eval::{Refused, eval};
 use rv_types::Checked;
 use std::alloc::Global;
@@ -40,8 +40,8 @@ const ASSIGNMENTS: &str = "W(C) DECL x BEG x = C; WHILE C DO x = x OD RETURN x E
 const CALLS: &str =
     "F(R) = R. W(C) DECL x BEG x = C; WHILE C DO x = F(x) OD RETURN x END. PRINT W(A).";
 
-/// The full relation of one row and one column.
-fn point<E: Engine>(engine: &mut E) -> Option<Rel>
+/// The full relation with one row and one column.
+fn point<E: Remembers>(engine: &mut E) -> Option<Rel>
     ensures { IfSome result (λ r. Stands (E.worker engine.new) r × (r.rows ≡ 1) × (r.cols ≡ 1)) }
 {
     match engine.full(Shape { rows: 1, cols: 1 }) {
@@ -50,7 +50,7 @@ fn point<E: Engine>(engine: &mut E) -> Option<Rel>
     }
 }
 
-/// The name A with a relation.
+/// The name A, bound to a relation.
 fn beside(alloc: Global, rel: Rel) -> Option<Vec<(Name, Rel)>>
     ensures { IfSome result (λ names. names.items ≡ (codes "A", rel) ∷ []) }
 {
@@ -64,9 +64,9 @@ fn beside(alloc: Global, rel: Rel) -> Option<Vec<(Name, Rel)>>
     Some(names)
 }
 
-/// The same of a relation that stands.
+/// The same, for a relation that stands.
 #[tactic(auto, using(crate::proofs::Standing::one_name))]
-fn named<E: Engine>(alloc: Global, engine: &E, rel: Rel) -> Option<Vec<(Name, Rel)>>
+fn named<E: Remembers>(alloc: Global, engine: &E, rel: Rel) -> Option<Vec<(Name, Rel)>>
     requires { Stands (E.worker engine.now) rel }
     ensures { IfSome result (λ names. AllStand (E.worker engine.now) names.items) }
 {
@@ -85,8 +85,8 @@ fn end_of(answer: &Result<Rel, Refused>) -> &'static str {
     }
 }
 
-/// Prints how long an evaluation of the last item of a script takes.
-fn measure_eval<R: Print + Clock, E: Engine>(
+/// Prints how long it takes to evaluate the last item of a script.
+fn measure_eval<R: Print + Clock, E: Remembers>(
     rt: &R,
     alloc: Global,
     engine: &mut E,
@@ -111,8 +111,8 @@ fn measure_eval<R: Print + Clock, E: Engine>(
     println!(rt; "{label} {turns} {time} {end}")
 }
 
-/// Prints how long the engine's calls of so many turns take.
-fn measure_turns_alone<R: Print + Clock, E: Engine>(
+/// Prints how long the engine calls of this many turns take.
+fn measure_turns_alone<R: Print + Clock, E: Remembers>(
     rt: &R,
     engine: &mut E,
     r: Rel,
@@ -129,8 +129,8 @@ fn measure_turns_alone<R: Print + Clock, E: Engine>(
     )
 }
 
-/// Prints how long so many unions take, one fewer than operands.
-fn measure_unions_alone<R: Print + Clock, E: Engine>(
+/// Prints how long this many unions take, one fewer than there are operands.
+fn measure_unions_alone<R: Print + Clock, E: Remembers>(
     rt: &R,
     engine: &mut E,
     r: Rel,
@@ -149,7 +149,7 @@ fn measure_unions_alone<R: Print + Clock, E: Engine>(
 
 /// Measures a task over an engine.
 #[tactic(auto, using(crate::proofs::Standing::names_kept, rel_model::proofs::Workers::keeps_stands))]
-fn measure<R: Print + Clock, E: Engine>(
+fn measure<R: Print + Clock, E: Remembers>(
     rt: &R,
     alloc: Global,
     engine: &mut E,
@@ -199,7 +199,7 @@ fn measure<R: Print + Clock, E: Engine>(
     }
 }
 
-/// Measures a task in a table of its own.
+/// Measures a task over its own table.
 fn measure_alone<R: Print + Clock + Threads + Sync>(
     rt: &R,
     alloc: Global,

@@ -1,10 +1,10 @@
-//! Scripts that are evaluated.
+//! The scripts that are evaluated.
 use lang_model::syntax::{Command, Expr, Item};
 use rv_parse::parse;
 use rv_types::{Checked, check};
 use std::alloc::{AllocError, Global};
 
-/// A script that is checked.
+/// Parses and checks a script.
 pub fn checked_of(alloc: Global, text: &[u8]) -> Option<Checked> {
     if text.len() > 1_048_576 {
         return None;
@@ -18,7 +18,7 @@ pub fn checked_of(alloc: Global, text: &[u8]) -> Option<Checked> {
     }
 }
 
-/// The expression of the PRINT of a script.
+/// The expression of a script's PRINT.
 pub fn expression(checked: &Checked) -> Option<&Expr> {
     'items: for item in checked.script().items.as_slice() {
         if let Item::Command(Command::Print { value }) = item {
@@ -28,7 +28,7 @@ pub fn expression(checked: &Checked) -> Option<&Expr> {
     None
 }
 
-/// The union of A with itself, of so many operands.
+/// The union of A with itself, with `count` operands.
 pub fn chain(alloc: Global, count: u32) -> Result<Vec<u8>, AllocError> {
     let mut text = Vec::new(alloc);
     text.extend_from_slice(b"PRINT A")?;

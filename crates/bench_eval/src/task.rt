@@ -11,7 +11,7 @@ pub enum Task {
     Chain,
 }
 
-/// The next word as a number, or 0.
+/// A word as a number; 0 if it is not one.
 pub fn number(word: Option<String>) -> u64 {
     match word {
         Some(word) => word.as_str().parse().unwrap_or(0),
@@ -19,7 +19,7 @@ pub fn number(word: Option<String>) -> u64 {
     }
 }
 
-/// The task of a name.
+/// The task with this name.
 pub fn task_of(word: Option<String>) -> Option<Task> {
     let word = word?;
     match word.as_str() {

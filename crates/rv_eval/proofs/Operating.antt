@@ -19,7 +19,7 @@ use Rattle.rel_model.specs.Algebra.{HasType}
 use Rattle.rel_model.specs.Worker.{Worker, Stands, set_of, Gives, Keeps, HasCause}
 use Rattle.rel_slices.specs.declared.thin.Value.{Value}
 use Rattle.rel_slices.specs.declared.thin.Value.TheVariants.{Whole, Lines}
-use Rattle.rel_slices.specs.Thin.{ValueStands, value_of, value_rows, value_cols}
+use Rattle.rel_slices.specs.Thin.{most_lines, ValueStands, value_of, value_rows, value_cols}
 use Rattle.rel_slices.proofs.Valuing.{value_type, whole_value}
 use Rattle.rel_values.specs.Values.{Fits as FitsIn, owed, Operates}
 use Rattle.rel_model.specs.Relation.{Relation, IsRelation, relation_of, size_limit}
@@ -38,10 +38,10 @@ pub type_of_fit : (w : Worker) (v : Value) → ((r : Rel) → Stands w r → IsR
     → FitsIn w v → HasType (value_rows v) (value_cols v) (value_of w v)
 type_of_fit w v valid rows cols h = value_type w v (λ r s. record { valid = valid r s; row_size = rows r s; col_size = cols r s }) h.stands
 
-few_within : (n : ℕ) → n ≤ 64 → n ≤ size_limit
+few_within : (n : ℕ) → n ≤ most_lines → n ≤ size_limit
 few_within n h = omega (arith, h)
 
-limits_of_lines : (turned : Bool) (count other : ℕ) → count ≤ 64 → other ≤ size_limit → (cond turned other count ≤ size_limit) × (cond turned count other ≤ size_limit)
+limits_of_lines : (turned : Bool) (count other : ℕ) → count ≤ most_lines → other ≤ size_limit → (cond turned other count ≤ size_limit) × (cond turned count other ≤ size_limit)
 limits_of_lines true count other c o = (o, few_within count c)
 limits_of_lines false count other c o = (few_within count c, o)
 

@@ -1,4 +1,4 @@
--- What base calls test their operands for.
+-- What base calls require of their operands.
 use Rattle.std.specs.Prelude.{Bool, true, false}
 use Rattle.lang_model.specs.declared.syntax.Base.{Base}
 use Rattle.lang_model.specs.declared.syntax.Base.TheVariants.{I, Trans, Refl, Less, Hasse, Quot, Epsi, Point, Init, Next, Inj}
@@ -6,7 +6,7 @@ use Rattle.lang_model.specs.declared.syntax.Base.TheVariants.{Ubd, Lbd, Least, G
 use Rattle.rv_eval.specs.declared.bases.Demand.{Demand}
 use Rattle.rv_eval.specs.declared.bases.Demand.TheVariants.{Nothing, Square, OneColumn}
 
--- the test of a base call of one operand
+-- what a base call of one operand requires of it
 abbrev pub demanded : Base → Demand
 demanded I = Square
 demanded Trans = Square
@@ -21,8 +21,8 @@ demanded Next = OneColumn
 demanded Inj = OneColumn
 demanded _ = Nothing
 
--- whether a base call of two operands is one of bounds or of extremes: the first is square, and the second has as many
--- rows
+-- whether a base call of two operands asks for bounds or extremes; its first operand must then be square, and the
+-- second have as many rows
 abbrev pub bounds : Base → Bool
 bounds Ubd = true
 bounds Lbd = true

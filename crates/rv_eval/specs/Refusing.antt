@@ -18,12 +18,12 @@ use Rattle.rv_eval.specs.declared.halt.Halt.TheVariants.{Ill as ILL, Size as SIZ
 use Rattle.rv_eval.specs.declared.halt.Refused.{Refused}
 use Rattle.rv_eval.specs.declared.halt.Refused.TheVariants.{Ill as IllRefused, Size as SizeRefused, Turns as TurnsRefused, Nodes, NoMemory}
 
--- a fault as a refusal: want of memory is none of the operands
+-- a fault as a refusal; if the fault is that memory ran out, the refusal is too
 abbrev pub told_ill : TypeFault → Refused
 told_ill FAULT_NO_MEMORY = NoMemory
 told_ill fault = IllRefused fault
 
--- a refusal with its limits
+-- a refusal, with the limit that was passed
 abbrev pub told : ℕ → Halt → Refused
 told turns (ILL fault) = told_ill fault
 told turns (SIZE at wanted) = SizeRefused at wanted size_limit
@@ -31,8 +31,8 @@ told turns (TURNS at) = TurnsRefused at turns
 told turns (LACK Full) = Nodes
 told turns (LACK NO_MEMORY) = NoMemory
 
--- the answer is that of the meaning: its value, or its refusal with the limit that it passed; or the table was full, or
--- memory ran out
+-- the answer is that of the meaning: its value, or its refusal with the limit that was passed; or else the table was
+-- full, or memory ran out
 abbrev pub IsAnswer : Worker → Worker → ℕ → Answer Relation → Result Rel Refused → Type 0
 IsAnswer old new turns answer (Ok rel) = (left : ℕ) × (answer ≡ Got (set_of new rel) left)
 IsAnswer old new turns answer (Err (IllRefused fault)) = answer ≡ Not (Ill fault)
@@ -42,7 +42,7 @@ IsAnswer old new turns answer (Err (TurnsRefused at limit)) = (answer ≡ Not (T
 IsAnswer old new turns answer (Err Nodes) = Rose old.misses new.misses
 IsAnswer old new turns answer (Err NoMemory) = Unit {0}
 
--- what is refused ahead of all computing is refused for this fault, or memory ran out
+-- an expression that is refused before anything is computed is refused for this fault, or because memory ran out
 abbrev pub IsRefusedFor : TypeFault → Result Rel Refused → Type 0
 IsRefusedFor fault (Ok rel) = ⊥
 IsRefusedFor fault (Err (IllRefused own)) = own ≡ fault
@@ -51,12 +51,13 @@ IsRefusedFor fault (Err (TurnsRefused at limit)) = ⊥
 IsRefusedFor fault (Err Nodes) = ⊥
 IsRefusedFor fault (Err NoMemory) = Unit {0}
 
--- the answer is what the expression comes to; where that is a fault ahead of all computing, no place was missing
+-- the answer is what the expression evaluates to; if it has a fault that is found before anything is computed, the
+-- misses do not rise
 abbrev pub IsEvaluated : Worker → Worker → ℕ → Evaluated → Result Rel Refused → Type 0
 IsEvaluated old new turns (Ahead fault) result = IsRefusedFor fault result × MissesNothing old new
 IsEvaluated old new turns (Comes came) result = IsAnswer old new turns came.answer result
 
--- a refusal ahead of all computing is for this fault, or memory ran out
+-- a refusal before anything is computed is for this fault, or because memory ran out
 abbrev pub IsRefusedAhead : Option TypeFault → Refused → Type 0
 IsRefusedAhead early (IllRefused own) = early ≡ Some own
 IsRefusedAhead early (SizeRefused at wanted limit) = ⊥
@@ -64,7 +65,8 @@ IsRefusedAhead early (TurnsRefused at limit) = ⊥
 IsRefusedAhead early Nodes = ⊥
 IsRefusedAhead early NoMemory = Unit {0}
 
--- where there is no fault ahead of all computing, these steps are told
+-- the steps are these, and there is no fault found before anything is computed; or it is refused for such a fault, or
+-- memory ran out
 abbrev pub IsExplained : Option TypeFault → List Rewritten → Result (Vec Step Global) Refused → Type 0
 IsExplained early steps (Ok told) = (early ≡ None) × (steps_by_trees told.items ≡ steps)
 IsExplained early steps (Err refused) = IsRefusedAhead early refused

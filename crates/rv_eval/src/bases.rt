@@ -1,4 +1,4 @@
-//! Base calls, with their tests of types.
+//! Calls of base names, with their type tests.
 ghost use Rattle.std.specs.Prelude.{◌≡◌, [], ◌∷◌, map, IfOk};
 ghost use Rattle.std.specs.List.{AllByRecursion};
 ghost use Rattle.rel_model.specs.Worker.{Stands, set_of, operator_room};
@@ -21,11 +21,11 @@ use lang_model::syntax::{Base, Place};
 use rel_model::engine_trait::Engine;
 use rel_model::{Rel, Shape};
 use rel_order::{hasse, less, quot};
-use rel_slices::{Value, is_empty, unival};
+use rel_slices::{Remembers, Value, is_empty, unival};
 use rel_values::{atom, dom, empty, epsi, full, init, inj, next, point, ran, square};
 use std::alloc::Global;
 
-/// The full or the empty relation of one row and one column.
+/// A truth value: the full or the empty relation with one row and one column.
 pub fn truth<E: Engine>(engine: &mut E, yes: bool) -> Result<Value, Halt>
     ensures ends { let w = E.worker engine.old in
         EndsOnce E.least w (E.worker engine.new) (Makes (answer_of_test yes) (λ leaf. operator_room 1 1)) result }
@@ -39,7 +39,7 @@ pub fn truth<E: Engine>(engine: &mut E, yes: bool) -> Result<Value, Halt>
     }
 }
 
-/// The empty relation of no rows and no columns, for calls that no text spells.
+/// The empty relation with no rows and no columns. It stands in for calls that no script text can contain.
 pub fn none_given<E: Engine>(engine: &mut E) -> Result<Value, Halt>
     ensures ends { let w = E.worker engine.old in
         EndsOnce E.least w (E.worker engine.new) (Makes (empty_relation 0 0) no_cost) result }
@@ -48,9 +48,15 @@ pub fn none_given<E: Engine>(engine: &mut E) -> Result<Value, Halt>
     lift(as_whole(engine.empty(Shape { rows: 0, cols: 0 })))
 }
 
-/// A base call of one operand that is not tested for. Of a base name that no text gives one operand, the empty
-/// relation of no rows and no columns.
-fn plain_base<E: Engine>(engine: &mut E, at: Place, base: Base, r: &Value) -> Result<Value, Halt>
+/// A base call whose one operand may have any type. If the base name never takes one operand in a script text, the
+/// result is the empty relation with no rows and no columns.
+fn plain_base<E: Remembers>(
+    alloc: Global,
+    engine: &mut E,
+    at: Place,
+    base: Base,
+    r: &Value,
+) -> Result<Value, Halt>
     requires demands { demanded base ≡ Nothing }
     requires standing { Fits (E.worker engine.old) r.now }
     ensures ends { let w = E.worker engine.old in
@@ -67,8 +73,8 @@ fn plain_base<E: Engine>(engine: &mut E, at: Place, base: Base, r: &Value) -> Re
         Base::On1 => lift(empty(engine, Shape { rows, cols: 1 })),
         Base::L1n => lift(full(engine, Shape { rows: 1, cols })),
         Base::O1n => lift(empty(engine, Shape { rows: 1, cols })),
-        Base::Dom => lift(dom(engine, r)),
-        Base::Ran => lift(ran(engine, r)),
+        Base::Dom => lift(dom(alloc, engine, r)),
+        Base::Ran => lift(ran(alloc, engine, r)),
         Base::Atom => lift(atom(engine, r)),
         Base::Empty => {
             let yes = is_empty(engine, r);
@@ -82,7 +88,7 @@ fn plain_base<E: Engine>(engine: &mut E, at: Place, base: Base, r: &Value) -> Re
     }
 }
 
-/// A base call of a square operand that stands whole.
+/// A base call of a square operand that is whole.
 fn square_base<E: Engine>(engine: &mut E, at: Place, base: Base, r: Rel) -> Result<Value, Halt>
     requires demands { demanded base ≡ Square }
     requires standing { Stands (E.worker engine.old) r }
@@ -101,7 +107,7 @@ fn square_base<E: Engine>(engine: &mut E, at: Place, base: Base, r: Rel) -> Resu
     }
 }
 
-/// A base call of a square operand, which is never thin.
+/// A base call of a square operand; a square is never thin.
 fn square_value<E: Engine>(engine: &mut E, at: Place, base: Base, r: &Value) -> Result<Value, Halt>
     requires demands { demanded base ≡ Square }
     requires standing { Fits (E.worker engine.old) r.now }
@@ -133,7 +139,7 @@ fn vector_base<E: Engine>(engine: &mut E, at: Place, base: Base, r: &Value) -> R
     }
 }
 
-/// What a base call tests its one operand for.
+/// What a base call requires of its one operand. One byte.
 #[derive(Clone, Copy)]
 enum Demand {
     Nothing,
@@ -141,7 +147,7 @@ enum Demand {
     OneColumn,
 }
 
-/// What a base call tests its one operand for.
+/// What a base call requires of its one operand.
 fn demand_of(base: Base) -> Demand
     ensures { result ≡ demanded base }
 {
@@ -162,7 +168,7 @@ fn demand_of(base: Base) -> Demand
 }
 
 /// A base call of one operand.
-fn base_of_one<E: Engine>(
+fn base_of_one<E: Remembers>(
     alloc: Global,
     engine: &mut E,
     at: Place,
@@ -176,7 +182,7 @@ fn base_of_one<E: Engine>(
 {
     let shape = shape_in(engine, r);
     match demand_of(base) {
-        Demand::Nothing => plain_base(engine, at, base, r),
+        Demand::Nothing => plain_base(alloc, engine, at, base, r),
         Demand::Square => {
             if shape.rows == shape.cols {
                 square_value(engine, at, base, r)
@@ -194,9 +200,9 @@ fn base_of_one<E: Engine>(
     }
 }
 
-/// A base call. Of none or of more than two operands, which no text gives, the empty relation of no rows and no
-/// columns.
-pub fn base_call<E: Engine>(
+/// A base call. With no operand, or with more than two, which no script text can contain, the result is the empty
+/// relation with no rows and no columns.
+pub fn base_call<E: Remembers>(
     alloc: Global,
     engine: &mut E,
     at: Place,

@@ -1,4 +1,4 @@
-//! Base calls of bounds and of extremes, with their tests of types.
+//! Base calls for bounds and extremes, with their type tests.
 ghost use Rattle.std.specs.Prelude.{◌≡◌, [], ◌∷◌, true, IfOk};
 ghost use Rattle.rel_slices.specs.Thin.{value_of, value_rows, value_cols};
 ghost use Rattle.rel_values.specs.Values.{Fits};
@@ -20,7 +20,7 @@ use rel_slices::Value;
 use rel_values::Bound;
 use std::alloc::Global;
 
-/// Which bounds or extremes a base call is of.
+/// Which bounds or extremes a base call asks for.
 fn bound_named(base: Base) -> Bound
     requires { bounds base ≡ true }
     ensures { (r s : Relation) → base_made_of_two base r s ≡
@@ -36,7 +36,7 @@ fn bound_named(base: Base) -> Bound
     }
 }
 
-/// A base call of bounds or of extremes whose operands fit.
+/// A base call for bounds or extremes whose operands fit.
 fn bounded<E: Engine>(
     engine: &mut E,
     at: Place,
@@ -56,7 +56,7 @@ fn bounded<E: Engine>(
     lift(rel_values::bounds(engine, bound_named(base), r, s))
 }
 
-/// A base call of bounds or of extremes: the first operand is square, and the second has as many rows.
+/// A base call for bounds or extremes. The first operand must be square, and the second must have as many rows.
 pub fn bounding<E: Engine>(
     alloc: Global,
     engine: &mut E,

@@ -21,15 +21,15 @@ use crate::steps::value_of_name;
 use crate::walk::eval_expr;
 use lang_model::limits::RANK_LIMIT;
 use lang_model::syntax::{Expr, Name};
-use rel_model::engine_trait::Engine;
 use rel_model::{Lack, NoMemory, Rel};
+use rel_slices::Remembers;
 use rel_values::whole;
 use rv_rewrite::calm;
 use rv_types::Checked;
 use std::alloc::Global;
 
-/// The value of an expression of a command, with this many turns left, by values of either form.
-fn value_through<E: Engine>(
+/// The value of a command's expression, with this many turns left, working with values of either form.
+fn value_through<E: Remembers>(
     alloc: Global,
     engine: &mut E,
     checked: &Checked,
@@ -58,8 +58,8 @@ fn value_through<E: Engine>(
     }
 }
 
-/// The value of an expression of a command, with this many turns left. A plain name is looked up, and asks for no node.
-fn value_with<E: Engine>(
+/// The value of a command's expression, with this many turns left. A plain name is only looked up, which makes no node.
+fn value_with<E: Remembers>(
     alloc: Global,
     engine: &mut E,
     checked: &Checked,
@@ -80,8 +80,8 @@ fn value_with<E: Engine>(
     }
 }
 
-/// The meaning of an expression of a command on these names, or why it has none.
-fn meaning_of<E: Engine>(
+/// The meaning of a command's expression over these names, or why it has none.
+fn meaning_of<E: Remembers>(
     alloc: Global,
     engine: &mut E,
     checked: &Checked,
@@ -108,8 +108,8 @@ fn meaning_of<E: Engine>(
     }
 }
 
-/// The meaning of the calm tree of an expression of a command on these names, or why it has none. A plain name is calm.
-fn calm_meaning_of<E: Engine>(
+/// The meaning of the calm tree of a command's expression over these names, or why it has none. A plain name is calm.
+fn calm_meaning_of<E: Remembers>(
     alloc: Global,
     engine: &mut E,
     checked: &Checked,
@@ -138,10 +138,12 @@ fn calm_meaning_of<E: Engine>(
     }
 }
 
-/// The value of an expression of a command on these names, or why it has none: first the leftmost name that is not
-/// among them, then the first static fault, for neither of which anything is computed, and then its meaning. What is
-/// evaluated is its calm tree, which comes to the same and costs no more than the clause `room` says.
-pub fn eval<E: Engine>(
+/// The value of a command's expression over these names, or why it has none.
+///
+/// The leftmost name that is not among them is reported first, then the first static fault; for neither of these is
+/// anything computed. Otherwise it is the meaning. What is evaluated is the expression's calm tree, which has the same
+/// meaning and costs no more than the clause `room` says.
+pub fn eval<E: Remembers>(
     alloc: Global,
     engine: &mut E,
     checked: &Checked,

@@ -1,4 +1,4 @@
-//! Base calls of two operands, with their tests of types.
+//! Base calls of two operands, with their type tests.
 ghost use Rattle.std.specs.Prelude.{◌≡◌, ◌==◌, ◌&&◌, [], ◌∷◌, IfOk};
 ghost use Rattle.rel_slices.specs.Thin.{value_of, value_rows, value_cols};
 ghost use Rattle.rel_values.specs.Values.{Fits};
@@ -14,20 +14,20 @@ use crate::operators::lift;
 use crate::shapes::shape_in;
 use lang_model::syntax::{Base, Place};
 use rel_model::Shape;
-use rel_model::engine_trait::Engine;
-use rel_slices::Value;
+use rel_slices::{Remembers, Value};
 use rel_values::{included, same, syq};
 use std::alloc::Global;
 
-/// Whether two relations of these sizes have one type.
+/// Whether relations of these sizes have the same type.
 fn alike(r: Shape, s: Shape) -> bool
     ensures { result ≡ ((r.rows == s.rows) && (r.cols == s.cols)) }
 {
     r.rows == s.rows && r.cols == s.cols
 }
 
-/// `syq(R,S)`: the symmetric quotient.
-fn quotient<E: Engine>(
+/// `syq(R,S) = {(j, k) : (i, j) in r exactly if (i, k) in s, for all i}`: the symmetric quotient. Both operands must
+/// have equally many rows.
+fn quotient<E: Remembers>(
     alloc: Global,
     engine: &mut E,
     at: Place,
@@ -43,14 +43,14 @@ fn quotient<E: Engine>(
     let a = shape_in(engine, r);
     let b = shape_in(engine, s);
     if a.rows == b.rows {
-        lift(syq(engine, r, s))
+        lift(syq(alloc, engine, r, s))
     } else {
         Err(not_alike(alloc, at, Base::Syq, a, b))
     }
 }
 
 /// `eq(R,S)`: whether two relations of one type have the same pairs.
-fn equality<E: Engine>(
+fn equality<E: Remembers>(
     alloc: Global,
     engine: &mut E,
     at: Place,
@@ -76,8 +76,8 @@ fn equality<E: Engine>(
     }
 }
 
-/// `incl(R,S)`: whether each pair of the first is in the second, of one type.
-fn inclusion<E: Engine>(
+/// `incl(R,S)`: whether each pair of the first relation is in the second. Both must have one type.
+fn inclusion<E: Remembers>(
     alloc: Global,
     engine: &mut E,
     at: Place,
@@ -103,8 +103,9 @@ fn inclusion<E: Engine>(
     }
 }
 
-/// A base call of two operands. Of a base name that no text gives two, the empty relation of no rows and no columns.
-pub fn base_of_two<E: Engine>(
+/// A base call of two operands. If the base name never takes two operands in a script text, the result is the empty
+/// relation with no rows and no columns.
+pub fn base_of_two<E: Remembers>(
     alloc: Global,
     engine: &mut E,
     at: Place,

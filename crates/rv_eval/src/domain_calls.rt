@@ -1,4 +1,4 @@
-//! Pairs and domain operators, whose results may be too large.
+//! Pairing and domain operators, whose results may be too large.
 ghost use Rattle.std.specs.Prelude.{◌≡◌, ◌≤◌, IfOk};
 ghost use Rattle.rel_model.specs.Relation.{size_limit};
 ghost use Rattle.rel_slices.specs.Thin.{value_of, value_rows, value_cols};
@@ -17,7 +17,7 @@ use rel_model::faults::DomainError;
 use rel_slices::Value;
 use std::alloc::Global;
 
-/// What an operation gives whose result may be too large.
+/// The result of an operation that may be too large, as an evaluation reports it.
 pub fn lift_domain(at: Place, given: Result<Value, DomainError>) -> Result<Value, Halt>
     ensures { result ≡ domain_lifted at given }
 {
@@ -29,7 +29,8 @@ pub fn lift_domain(at: Place, given: Result<Value, DomainError>) -> Result<Value
     }
 }
 
-/// `[R, S]`.
+/// `[R,S] = {(i, j * n + k) : (i, j) in r and (i, k) in s}`: the pairing of two relations, where s has n columns. Both
+/// must have the same number of rows.
 pub fn pair<E: Engine>(
     alloc: Global,
     engine: &mut E,
@@ -52,7 +53,7 @@ pub fn pair<E: Engine>(
     }
 }
 
-/// A domain operator of domains of x and of y elements.
+/// A domain operator, for domains of `x` and `y` elements.
 pub fn domain_call<E: Engine>(
     engine: &mut E,
     at: Place,

@@ -1,4 +1,4 @@
-//! What an expression is refused for ahead of all computing.
+//! The faults for which an expression is refused before anything is computed.
 ghost use Rattle.std.specs.Prelude.{◌≡◌, ◌⊎◌, map, None, IfOk, IfSome, MatchOption};
 ghost use Rattle.rel_model.specs.Worker.{Worker};
 ghost use Rattle.lang_model.specs.declared.faults.StaticShape.{StaticShape};
@@ -21,7 +21,7 @@ use rel_model::{NoMemory, Rel, Shape};
 use rv_types::{Checked, shape_of};
 use std::alloc::Global;
 
-/// The types of names.
+/// The names with the types of their relations.
 fn types_of_names(alloc: Global, env: &[(Name, Rel)]) -> Result<Vec<(Name, StaticShape)>, NoMemory>
     ensures { IfOk result (λ v. v.items ≡ map typed_pair_of env.now) }
 {
@@ -37,7 +37,7 @@ fn types_of_names(alloc: Global, env: &[(Name, Rel)]) -> Result<Vec<(Name, Stati
     Ok(types)
 }
 
-/// The first static fault of an expression of a command on these names, or want of memory.
+/// The first static fault of a command's expression over these names, or that memory ran out.
 fn static_fault(
     alloc: Global,
     checked: &Checked,
@@ -57,8 +57,8 @@ fn static_fault(
     }
 }
 
-/// What an expression of a command on these names is refused for ahead of all computing: the leftmost name that is not
-/// among them, and else the first static fault.
+/// Why a command's expression over these names is refused before anything is computed: for the leftmost name that is
+/// not among them, or else for its first static fault. `None`: it is not.
 pub fn refused_ahead(
     alloc: Global,
     checked: &Checked,

@@ -1,4 +1,4 @@
-//! The steps of rewriting, with nothing evaluated.
+//! The steps of rewriting an expression, without evaluating it.
 ghost use Rattle.std.specs.Prelude.{◌≡◌, IsErrOf};
 ghost use Rattle.rel_model.specs.Worker.{Worker};
 ghost use Rattle.lang_model.specs.declared.faults.TypeFault.TheVariants.{NoMemory as FAULT_NO_MEMORY};
@@ -17,8 +17,8 @@ use rv_rewrite::{Rewritten, Step, rewrite};
 use rv_types::Checked;
 use std::alloc::Global;
 
-/// The steps by which an expression of a command is rewritten, in order, or why it is refused ahead of all computing on
-/// these names: for the leftmost name that is not among them, and else for its first static fault.
+/// The steps by which a command's expression is rewritten, in order. If it is refused before anything is computed, why:
+/// for the leftmost name that is not among these names, or else for its first static fault.
 pub fn explain(
     alloc: Global,
     checked: &Checked,

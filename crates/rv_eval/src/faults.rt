@@ -14,7 +14,7 @@ use lang_model::syntax::{Base, Name, Op2, Place};
 use rel_model::{Lack, NoMemory, Shape};
 use std::alloc::Global;
 
-/// A name that has no meaning where it stands.
+/// The fault of a name that has no meaning where it is used.
 pub fn unknown(alloc: Global, at: Place, name: &Name) -> Halt
     ensures { (result ≡ Ill (Unknown at name.now)) ⊎ (result ≡ LACK NO_MEMORY) }
 {
@@ -24,7 +24,7 @@ pub fn unknown(alloc: Global, at: Place, name: &Name) -> Halt
     }
 }
 
-/// Calls that stand in one another too deep.
+/// The fault of calls that are nested too deep.
 pub fn too_deep(alloc: Global, at: Place, name: &Name) -> Halt
     ensures { (result ≡ Ill (Rank at name.now)) ⊎ (result ≡ LACK NO_MEMORY) }
 {
@@ -34,7 +34,7 @@ pub fn too_deep(alloc: Global, at: Place, name: &Name) -> Halt
     }
 }
 
-/// A call with another number of arguments.
+/// The fault of a call with the wrong number of arguments.
 pub fn wrong_count(alloc: Global, at: Place, name: &Name, takes: usize, given: usize) -> Halt
     ensures { (result ≡ Ill (Arity at name.now takes given)) ⊎ (result ≡ LACK NO_MEMORY) }
 {
@@ -52,7 +52,7 @@ pub fn wrong_count(alloc: Global, at: Place, name: &Name, takes: usize, given: u
     }
 }
 
-/// How a domain operator is written.
+/// How a domain operator is spelled.
 fn domain_text(base: Base) -> &'static [u8]
     ensures text { result.now ≡ domain_operator_text base }
     ensures some { length result.now ≡ 3 }
@@ -65,7 +65,7 @@ fn domain_text(base: Base) -> &'static [u8]
     }
 }
 
-/// A domain operator of a domain that is not declared.
+/// The fault of a domain operator whose domain is not declared.
 pub fn no_domain(alloc: Global, at: Place, base: Base) -> Halt
     ensures { (result ≡ Ill (Unknown at (domain_operator_text base))) ⊎ (result ≡ LACK NO_MEMORY) }
 {
@@ -85,7 +85,7 @@ pub fn type_of(r: Shape) -> StaticShape
     }
 }
 
-/// How an operator is written.
+/// How an operator is spelled.
 fn sign_of(op: Op2) -> &'static [u8]
     ensures sign { result.now ≡ spelling op }
     ensures one { length result.now ≡ 1 }
@@ -99,7 +99,7 @@ fn sign_of(op: Op2) -> &'static [u8]
     }
 }
 
-/// Operands that do not fit.
+/// The fault of operands that do not fit an operator.
 pub fn mismatch(alloc: Global, at: Place, op: Op2, r: Shape, s: Shape) -> Halt
     ensures { let fault = Mismatch at (spelling op) (known r.rows r.cols) (known s.rows s.cols) in
         (result ≡ Ill fault) ⊎ (result ≡ LACK NO_MEMORY) }
@@ -115,7 +115,7 @@ pub fn mismatch(alloc: Global, at: Place, op: Op2, r: Shape, s: Shape) -> Halt
     }
 }
 
-/// Operands of a pair that do not fit.
+/// The fault of operands that cannot be paired.
 pub fn no_pair(alloc: Global, at: Place, r: Shape, s: Shape) -> Halt
     ensures { let fault = Mismatch at (codes "[") (known r.rows r.cols) (known s.rows s.cols) in
         (result ≡ Ill fault) ⊎ (result ≡ LACK NO_MEMORY) }
@@ -131,7 +131,7 @@ pub fn no_pair(alloc: Global, at: Place, r: Shape, s: Shape) -> Halt
     }
 }
 
-/// An operand that is not square.
+/// The fault of an operand that must be square and is not.
 pub fn not_square(alloc: Global, at: Place, base: Base, r: Shape) -> Halt
     ensures { (result ≡ Ill (NotSquare at (base_text base) (known r.rows r.cols))) ⊎ (result ≡ LACK NO_MEMORY) }
 {
@@ -145,7 +145,7 @@ pub fn not_square(alloc: Global, at: Place, base: Base, r: Shape) -> Halt
     }
 }
 
-/// An operand of another number of columns than one.
+/// The fault of an operand that must have one column and has not.
 pub fn not_vector(alloc: Global, at: Place, base: Base, r: Shape) -> Halt
     ensures { (result ≡ Ill (NotVector at (base_text base) (known r.rows r.cols))) ⊎ (result ≡ LACK NO_MEMORY) }
 {
@@ -159,7 +159,7 @@ pub fn not_vector(alloc: Global, at: Place, base: Base, r: Shape) -> Halt
     }
 }
 
-/// Operands of a base call that do not fit one another.
+/// The fault of operands of a base call that do not fit each other.
 pub fn not_alike(alloc: Global, at: Place, base: Base, r: Shape, s: Shape) -> Halt
     ensures { let fault = Mismatch at (base_text base) (known r.rows r.cols) (known s.rows s.cols) in
         (result ≡ Ill fault) ⊎ (result ≡ LACK NO_MEMORY) }

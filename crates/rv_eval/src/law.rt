@@ -1,19 +1,19 @@
-//! Laws of evaluation, each a function that does nothing.
+//! Laws of evaluation. Each is a function with an empty body.
 ghost use Rattle.rv_eval.specs.Faultless.{NoCallIsIll};
 ghost use Rattle.rv_eval.specs.Unknown.{IllWhereUnknown, NeverIllWhereKnown};
 
-/// In a checked script the meaning of a command's expression is Ill by sizes alone, on a state that has its names: no
-/// name is unknown, no call has another number of arguments, and none stands too deep in others.
+/// In a checked script, over a state with all names of a command's expression, its meaning can be Ill only because of
+/// sizes: no name is unknown, no call has the wrong number of arguments, and calls are not nested too deep.
 pub fn no_call_is_ill()
     ensures { NoCallIsIll }
 {}
 
-/// It is Ill only at a node that tests a static size that is unknown.
+/// The meaning is Ill only at a node that tests an unknown static size.
 pub fn ill_where_unknown()
     ensures { IllWhereUnknown }
 {}
 
-/// Where no static size that is tested on the walk is unknown, it is never Ill.
+/// If the walk tests no unknown static size, the meaning is never Ill.
 pub fn never_ill_where_known()
     ensures { NeverIllWhereKnown }
 {}

@@ -1,4 +1,4 @@
-//! Evaluates expressions of the whole language over any engine.
+//! Evaluates expressions of the whole language, over any engine.
 #![tactic(auto)]
 
 mod bases;

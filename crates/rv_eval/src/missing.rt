@@ -8,7 +8,7 @@ use crate::names::find;
 use lang_model::syntax::{Expr, Link, Name, Place};
 use rel_model::Rel;
 
-/// The leftmost name that has no relation, and its place.
+/// The leftmost name in an expression that has no relation, and its place.
 #[cycle(looking)]
 pub fn first_missing<'a>(names: &[(Name, Rel)], expr: &'a Expr) -> Option<(Place, &'a Name)>
     ensures { let m = missing (sized names.now) expr.now in
@@ -35,7 +35,7 @@ pub fn first_missing<'a>(names: &[(Name, Rel)], expr: &'a Expr) -> Option<(Place
     }
 }
 
-/// The leftmost name of arguments that has no relation, and its place.
+/// The leftmost name in the arguments that has no relation, and its place.
 #[cycle(looking)]
 fn first_of_args<'a>(names: &[(Name, Rel)], args: &'a [Expr]) -> Option<(Place, &'a Name)>
     ensures { let m = missing_of_args (sized names.now) args.now in
@@ -49,7 +49,7 @@ fn first_of_args<'a>(names: &[(Name, Rel)], args: &'a [Expr]) -> Option<(Place, 
     None
 }
 
-/// The leftmost name of the links of a chain that has no relation, and its place.
+/// The leftmost name in the links of a chain that has no relation, and its place.
 #[cycle(looking)]
 fn first_of_links<'a>(names: &[(Name, Rel)], links: &'a [Link]) -> Option<(Place, &'a Name)>
     ensures { let m = missing_of_links (sized names.now) links.now in

@@ -1,4 +1,4 @@
-//! The names of an evaluation, and what stands with each.
+//! The names of an evaluation, and what is bound to each.
 ghost use Rattle.std.specs.Prelude.{◌≡◌, ◌≤◌, ℕ, max, List, length, map, cond, Some, IfOk, OnOk};
 ghost use Rattle.lang_model.specs.Tokens.{same_text};
 ghost use Rattle.rv_eval.specs.Names.{first_of, rel_of, beside};
@@ -9,7 +9,7 @@ use rel_model::{NoMemory, Rel};
 use rel_slices::Value;
 use std::alloc::Global;
 
-/// What stands with a name: the first that does.
+/// What is bound to a name. If the name occurs several times, its first entry counts.
 pub fn find<T: Copy>(names: &[(Name, T)], name: &[u8]) -> Option<T>
     ensures { result ≡ first_of names.now name.now }
 {
@@ -21,7 +21,7 @@ pub fn find<T: Copy>(names: &[(Name, T)], name: &[u8]) -> Option<T>
     None
 }
 
-/// Gives a name what stands with it.
+/// Binds a name, or rebinds it.
 pub fn put<T: Copy>(
     alloc: Global,
     names: &mut Vec<(Name, T)>,
@@ -45,7 +45,7 @@ pub fn put<T: Copy>(
     Ok(())
 }
 
-/// Gives a name its relation.
+/// Binds a name to a relation.
 pub fn set(
     alloc: Global,
     names: &mut Vec<(Name, Rel)>,
@@ -70,7 +70,7 @@ pub fn wholes(alloc: Global, names: &[(Name, Rel)]) -> Result<Vec<(Name, Value)>
     Ok(values)
 }
 
-/// Parameters with their values.
+/// Binds parameters to their values.
 pub fn bind(
     alloc: Global,
     params: &[Name],

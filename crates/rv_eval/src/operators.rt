@@ -1,4 +1,4 @@
-//! `-R`, `R^` and the operators between two relations, with their tests of types.
+//! `-R`, `R^` and the operators on two relations, with their type tests.
 ghost use Rattle.std.specs.Prelude.{◌≡◌, true, IfOk};
 ghost use Rattle.rel_slices.specs.Thin.{value_of, value_rows, value_cols};
 ghost use Rattle.rel_values.specs.Values.{Fits};
@@ -12,11 +12,11 @@ use crate::shapes::shape_in;
 use lang_model::syntax::{Op2, Place};
 use rel_model::engine_trait::Engine;
 use rel_model::{Lack, Rel, Shape};
-use rel_slices::Value;
+use rel_slices::{Remembers, Value};
 use rel_values::{compose, inter, left, right, union};
 use std::alloc::Global;
 
-/// What an operation of a worker gives, as a value that is whole.
+/// The result of a worker's operation, as a whole value.
 pub fn as_whole<X>(given: Result<Rel, X>) -> Result<Value, X>
     ensures { result ≡ wholly given }
 {
@@ -26,7 +26,7 @@ pub fn as_whole<X>(given: Result<Rel, X>) -> Result<Value, X>
     }
 }
 
-/// What an operation on values gives.
+/// The result of an operation on values, as an evaluation reports it.
 pub fn lift(given: Result<Value, Lack>) -> Result<Value, Halt>
     ensures { result ≡ lifted given }
 {
@@ -36,7 +36,7 @@ pub fn lift(given: Result<Value, Lack>) -> Result<Value, Halt>
     }
 }
 
-/// Whether an operator takes operands of these sizes.
+/// Whether an operator accepts operands of these sizes.
 fn takes(op: Op2, r: Shape, s: Shape) -> bool
     ensures { result ≡ takes_types op (known r.rows r.cols) (known s.rows s.cols) }
 {
@@ -49,8 +49,8 @@ fn takes(op: Op2, r: Shape, s: Shape) -> bool
     }
 }
 
-/// `{(i, j) : not (i, j) in r}`: the complement within the sizes.
-pub fn complement<E: Engine>(engine: &mut E, r: &Value) -> Result<Value, Halt>
+/// `-R = {(i, j) : not (i, j) in r}`: the complement within the sizes of R.
+pub fn complement<E: Remembers>(engine: &mut E, r: &Value) -> Result<Value, Halt>
     requires standing { Fits (E.worker engine.old) r.now }
     ensures ends { let w = E.worker engine.old in
         EndsOnce E.least w (E.worker engine.new) (complemented (value_of w r.now)) result }
@@ -59,7 +59,7 @@ pub fn complement<E: Engine>(engine: &mut E, r: &Value) -> Result<Value, Halt>
     lift(rel_values::complement(engine, r))
 }
 
-/// A relation transposed so many times.
+/// `R^...^`: a relation transposed `times` times.
 pub fn transposed<E: Engine>(engine: &mut E, r: &Value, times: u32) -> Result<Value, Halt>
     requires standing { Fits (E.worker engine.old) r.now }
     ensures ends { let w = E.worker engine.old in
@@ -69,8 +69,9 @@ pub fn transposed<E: Engine>(engine: &mut E, r: &Value, times: u32) -> Result<Va
     lift(rel_values::turned(engine, r, times))
 }
 
-/// `R | S`, `R & S`, `R * S`, `R \ S` or `R / S`, of operands that fit.
-fn applied<E: Engine>(
+/// `R | S`, `R & S`, `R * S`, `R \ S` or `R / S`, for operands that fit.
+fn applied<E: Remembers>(
+    alloc: Global,
     engine: &mut E,
     at: Place,
     op: Op2,
@@ -88,14 +89,14 @@ fn applied<E: Engine>(
     match op {
         Op2::Or => lift(union(engine, r, s)),
         Op2::And => lift(inter(engine, r, s)),
-        Op2::Times => lift(compose(engine, r, s)),
-        Op2::Under => lift(right(engine, r, s)),
-        Op2::Over => lift(left(engine, r, s)),
+        Op2::Times => lift(compose(alloc, engine, r, s)),
+        Op2::Under => lift(right(alloc, engine, r, s)),
+        Op2::Over => lift(left(alloc, engine, r, s)),
     }
 }
 
-/// `R | S`, `R & S`, `R * S`, `R \ S` or `R / S`.
-pub fn link<E: Engine>(
+/// `R | S`, `R & S`, `R * S`, `R \ S` or `R / S`. The operands are tested first.
+pub fn link<E: Remembers>(
     alloc: Global,
     engine: &mut E,
     at: Place,
@@ -112,7 +113,7 @@ pub fn link<E: Engine>(
     let a = shape_in(engine, r);
     let b = shape_in(engine, s);
     if takes(op, a, b) {
-        applied(engine, at, op, r, s)
+        applied(alloc, engine, at, op, r, s)
     } else {
         Err(mismatch(alloc, at, op, a, b))
     }

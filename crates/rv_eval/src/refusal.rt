@@ -1,4 +1,4 @@
-//! Why an evaluation ended, as a refusal.
+//! From why an evaluation ended to the refusal that is reported.
 ghost use Rattle.std.specs.Prelude.{◌≡◌};
 ghost use Rattle.rv_eval.specs.Refusing.{told, told_ill};
 
@@ -16,7 +16,7 @@ pub fn ill(fault: TypeFault) -> Refused
     }
 }
 
-/// A refusal with its limits.
+/// A refusal, with the limit that was passed.
 pub fn refusal(turns: u64, halt: Halt) -> Refused
     ensures { result ≡ told turns halt }
 {

@@ -8,7 +8,7 @@ use rel_model::Shape;
 use rel_model::engine_trait::Engine;
 use rel_slices::{Value, shape_of};
 
-/// The sizes of a value, which are those of what it means, and within the limit.
+/// The sizes of a value. They are the sizes of what it means, and within the limit.
 pub fn shape_in<E: Engine>(engine: &E, v: &Value) -> Shape
     requires { Fits (E.worker engine.now) v.now }
     ensures rows { result.rows ≡ value_rows v.now }
@@ -18,6 +18,7 @@ pub fn shape_in<E: Engine>(engine: &E, v: &Value) -> Shape
     ensures row_limit { result.rows ≤ size_limit }
     ensures col_limit { result.cols ≤ size_limit }
 {
+    // This use makes the checker open the invariant of `engine`, which what follows needs.
     let _ = engine;
     shape_of(v)
 }

@@ -24,7 +24,7 @@ use rel_slices::Value;
 use rel_values::square;
 use std::alloc::Global;
 
-/// What stands with a name.
+/// What is bound to a name.
 pub fn value_of_name<T: Copy>(
     alloc: Global,
     names: &[(Name, T)],
@@ -40,7 +40,7 @@ pub fn value_of_name<T: Copy>(
     }
 }
 
-/// Parameters with their values, where there are as many.
+/// Binds parameters to their values, if there are equally many of both.
 pub fn bound_names(
     alloc: Global,
     at: Place,
@@ -62,7 +62,7 @@ pub fn bound_names(
     }
 }
 
-/// Gives a variable its value.
+/// Assigns a value to a variable.
 pub fn assign(
     alloc: Global,
     names: &mut Vec<(Name, Value)>,
@@ -81,7 +81,7 @@ pub fn assign(
     }
 }
 
-/// Whether the value of a test is full.
+/// Whether the value of a test is the full relation.
 pub fn decide<E: Engine>(
     alloc: Global,
     engine: &mut E,
@@ -104,7 +104,7 @@ pub fn decide<E: Engine>(
     }
 }
 
-/// The names of a declared domain, where the declaration is of this one.
+/// The two names in a declaration of this domain. `None`: the declaration is of something else.
 fn domain_of<'a>(decl: &'a Decl, domain: &Name) -> Option<(&'a Name, &'a Name)>
     ensures { MatchOption result (domain_named (decl.now ∷ []) domain.now ≡ None)
         (λ x. domain_named (decl.now ∷ []) domain.now ≡ Some (x.0.now, x.1.now)) }
@@ -126,7 +126,7 @@ fn domain_of<'a>(decl: &'a Decl, domain: &Name) -> Option<(&'a Name, &'a Name)>
     }
 }
 
-/// The two names of a declared domain.
+/// The two names in the declaration of a domain.
 fn find_domain<'a>(decls: &'a [Decl], domain: &Name) -> Option<(&'a Name, &'a Name)>
     ensures { MatchOption result (domain_named decls.now domain.now ≡ None)
         (λ x. domain_named decls.now domain.now ≡ Some (x.0.now, x.1.now)) }
@@ -139,7 +139,7 @@ fn find_domain<'a>(decls: &'a [Decl], domain: &Name) -> Option<(&'a Name, &'a Na
     None
 }
 
-/// A domain operator.
+/// Applies a domain operator to a declared domain.
 pub fn inject<E: Engine>(
     alloc: Global,
     engine: &mut E,

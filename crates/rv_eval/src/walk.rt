@@ -1,4 +1,4 @@
-//! Evaluates expressions, calls and statements.
+//! Evaluates expressions, calls and statements, by recursion over the syntax.
 ghost use Rattle.std.specs.Prelude.{◌≡◌, ◌≤◌, ◌<◌, [], ℕ, max, List, map, IfOk, OnOk};
 ghost use Rattle.std.specs.List.{AllByRecursion};
 ghost use Rattle.rel_slices.specs.Thin.{value_of};
@@ -16,14 +16,13 @@ use crate::operators::{complement, link, transposed};
 use crate::steps::{assign, bound_names, decide, inject, value_of_name};
 use lang_model::syntax::{Base, Decl, Expr, Item, Link, Name, Place, Stmt};
 use rel_model::Lack;
-use rel_model::engine_trait::Engine;
-use rel_slices::Value;
+use rel_slices::{Remembers, Value};
 use rv_types::Checked;
 use std::alloc::Global;
 
 /// The value of an expression, with this many turns left.
 #[cycle(eval)]
-pub fn eval_expr<E: Engine>(
+pub fn eval_expr<E: Remembers>(
     alloc: Global,
     engine: &mut E,
     checked: &Checked,
@@ -73,9 +72,9 @@ pub fn eval_expr<E: Engine>(
     }
 }
 
-/// The value of a call of a definition with these arguments.
+/// The value of a call of a definition, given its arguments.
 #[cycle(eval)]
-fn eval_call<E: Engine>(
+fn eval_call<E: Remembers>(
     alloc: Global,
     engine: &mut E,
     checked: &Checked,
@@ -111,9 +110,9 @@ fn eval_call<E: Engine>(
     )
 }
 
-/// The value of a base call with these arguments.
+/// The value of a base call, given its arguments.
 #[cycle(eval)]
-fn eval_base<E: Engine>(
+fn eval_base<E: Remembers>(
     alloc: Global,
     engine: &mut E,
     checked: &Checked,
@@ -140,9 +139,9 @@ fn eval_base<E: Engine>(
     base_call(alloc, engine, at, base, values.as_slice())
 }
 
-/// The value of a pair.
+/// The value of a pairing.
 #[cycle(eval)]
-fn eval_pair<E: Engine>(
+fn eval_pair<E: Remembers>(
     alloc: Global,
     engine: &mut E,
     checked: &Checked,
@@ -176,7 +175,7 @@ fn eval_pair<E: Engine>(
 
 /// The value of a complement.
 #[cycle(eval)]
-fn eval_minus<E: Engine>(
+fn eval_minus<E: Remembers>(
     alloc: Global,
     engine: &mut E,
     checked: &Checked,
@@ -201,9 +200,9 @@ fn eval_minus<E: Engine>(
     complement(engine, &operand)
 }
 
-/// The value of an operand transposed so many times.
+/// The value of an operand transposed `times` times.
 #[cycle(eval)]
-fn eval_turned<E: Engine>(
+fn eval_turned<E: Remembers>(
     alloc: Global,
     engine: &mut E,
     checked: &Checked,
@@ -231,7 +230,7 @@ fn eval_turned<E: Engine>(
 
 /// The value of a chain.
 #[cycle(eval)]
-fn eval_chain<E: Engine>(
+fn eval_chain<E: Remembers>(
     alloc: Global,
     engine: &mut E,
     checked: &Checked,
@@ -259,9 +258,9 @@ fn eval_chain<E: Engine>(
     )
 }
 
-/// The value of the links of a chain, from the left, onto the value before them.
+/// The value of a chain, given the value so far: applies the remaining links from the left.
 #[cycle(eval)]
-fn eval_links<E: Engine>(
+fn eval_links<E: Remembers>(
     alloc: Global,
     engine: &mut E,
     checked: &Checked,
@@ -297,9 +296,9 @@ fn eval_links<E: Engine>(
     Ok(all)
 }
 
-/// The values of arguments, from the left.
+/// The values of arguments, evaluated from the left.
 #[cycle(eval)]
-fn eval_args<E: Engine>(
+fn eval_args<E: Remembers>(
     alloc: Global,
     engine: &mut E,
     checked: &Checked,
@@ -332,9 +331,9 @@ fn eval_args<E: Engine>(
     Ok(values)
 }
 
-/// The value of a call of a definition.
+/// The value of a call of a definition, given the values of its arguments.
 #[cycle(eval)]
-fn call<E: Engine>(
+fn call<E: Remembers>(
     alloc: Global,
     engine: &mut E,
     checked: &Checked,
@@ -406,7 +405,7 @@ fn call<E: Engine>(
 
 /// Whether a test holds.
 #[cycle(eval)]
-fn test_of<E: Engine>(
+fn test_of<E: Remembers>(
     alloc: Global,
     engine: &mut E,
     checked: &Checked,
@@ -433,7 +432,7 @@ fn test_of<E: Engine>(
 
 /// Runs a statement.
 #[cycle(eval)]
-fn run_stmt<E: Engine>(
+fn run_stmt<E: Remembers>(
     alloc: Global,
     engine: &mut E,
     checked: &Checked,
@@ -508,7 +507,7 @@ fn run_stmt<E: Engine>(
 
 /// Runs a WHILE.
 #[cycle(eval)]
-fn run_while<E: Engine>(
+fn run_while<E: Remembers>(
     alloc: Global,
     engine: &mut E,
     checked: &Checked,
@@ -559,7 +558,7 @@ fn run_while<E: Engine>(
 
 /// Runs statements in order.
 #[cycle(eval)]
-fn run_stmts<E: Engine>(
+fn run_stmts<E: Remembers>(
     alloc: Global,
     engine: &mut E,
     checked: &Checked,

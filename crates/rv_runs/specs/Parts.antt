@@ -1,4 +1,4 @@
--- What a batch promises of its scripts, however its sessions take their turns.
+-- What a batch promises for its scripts, however its sessions take their turns.
 use Rattle.std.specs.Prelude.{◌≡◌, ◌≤◌, ◌<◌, ◌+◌, ℕ, List, [], ◌∷◌, length}
 use Rattle.std.specs.List.{AllByRecursion}
 use Rattle.rel_model.specs.Worker.{Worker, set_of}
@@ -17,7 +17,7 @@ use Rattle.rv_sessions.specs.Telling.{texts_of}
 use Rattle.rv_runs.specs.declared.ended.BatchEnd.{BatchEnd}
 use Rattle.rv_runs.specs.Past.{Part, outcomes_of, made_in, Asks, AllTold, IsWithin}
 
--- a session that is over, by its script, by what it told, and by how many nodes it made
+-- a finished session, by its script, its answers, and how many nodes it made
 abbrev pub part_of : List ℕ → Transcript → ℕ → Part
 part_of bytes told made = record {
   bytes = bytes;
@@ -27,7 +27,7 @@ part_of bytes told made = record {
   made = made;
 }
 
--- the parts of a batch are its sessions: of each script, in order, what was told, and some number of nodes
+-- the parts of a batch are its sessions: for each script, in order, its answers and some number of nodes
 abbrev pub AreParts : List (List ℕ) → List Transcript → List Part → Type 0
 AreParts [] [] [] = Unit {0}
 AreParts (bytes ∷ scripts) (t ∷ told) (part ∷ parts) =
@@ -37,16 +37,16 @@ AreParts [] (t ∷ told) parts = ⊥
 AreParts (bytes ∷ scripts) [] parts = ⊥
 AreParts (bytes ∷ scripts) (t ∷ told) [] = ⊥
 
--- a full table among the outcomes is a miss that is counted
+-- if an outcome says that the table was full, a miss is counted
 abbrev pub MissedWhereFull : ℕ → List Outcome → Type 0
 MissedWhereFull misses = AllByRecursion (λ o. o ≡ Nodes → 0 < misses)
 
--- A batch from this number of sessions on, which began with these names and versions over the first worker, came to the
--- second one, with these events, transcripts, names and versions: each script is read as some reading, and its session
--- told what that is, with events of its own number alone; all relations of first names and of events stand in the
--- second worker, and what stood in the first has its set there; a full table was counted as a miss; no more nodes were
--- made than by the sessions; the worker is at its table, with as many to spare; and names and versions are those that
--- the events leave.
+-- A batch from this session number on, which began with these names and versions over the first worker, ended with the
+-- second one, with these events, transcripts, names and versions. Each script was read with some result, and its
+-- session answered accordingly, with events of its own number only; all relations of first names and of events stand in
+-- the second worker, and what stood in the first has the same set there; a full table was counted as a miss; no more
+-- nodes were made than by the sessions; the worker is at its table, with as many spare workers; and names and versions
+-- are those that the events leave.
 pub record CameToEnd (leaf : ℕ) (scripts : List (List ℕ)) (number : ℕ) (files : List Loaded) (turns : ℕ)
     (first : First) (old new : Worker) (log : List Event) (told : List Transcript) (names : Carried)
     (versions : List ℕ → ℕ) : Type 0 where
@@ -67,7 +67,7 @@ pub record CameToEnd (leaf : ℕ) (scripts : List (List ℕ)) (number : ℕ) (fi
   pub names_are : names ≡ carried_from first.names log
   pub versions_are : (name : List ℕ) → versions name ≡ version_behind first.versions log name
 
--- what the caller of a batch has of it
+-- what the caller of a batch gets from it
 abbrev pub EndsBatch : {E : Type 0} → (E → Worker) → ℕ → List (List ℕ) → ℕ → List Loaded → ℕ → First → Worker
     → BatchEnd E → Type 0
 EndsBatch worker leaf scripts number files turns first old ended =

@@ -1,5 +1,5 @@
--- The batches of a run as they are over: of each what it began with, the closed log of its sessions, and what each of
--- them told; and that all of them together are one lawful run.
+-- The finished batches of a run: for each, what it began with, the closed log of its sessions, and what each session
+-- answered; and that all batches together are one lawful run.
 use Rattle.std.specs.Prelude.{
   ◌≡◌,
   ◌<◌,
@@ -39,8 +39,8 @@ use Rattle.run_model.specs.Cost.{cost_of_steps, cost_of_batch}
 use Rattle.run_model.specs.Filed.{file_of}
 use Rattle.run_model.specs.Run.{IsRun}
 
--- ---- sessions that are over
--- a session that is over: the bytes of its script, its outcomes, replies and files, and how many nodes it made
+-- ---- finished sessions
+-- a finished session: the bytes of its script, its outcomes, replies and files, and how many nodes it made
 pub record Part : Type 0 where
   pub bytes : List ℕ
   pub outcomes : List Outcome
@@ -69,12 +69,12 @@ abbrev pub made_in : List Part → ℕ
 made_in [] = 0
 made_in (part ∷ parts) = part.made + made_in parts
 
--- the input has these files, and lets loops take so many turns
+-- the input has these files, and this limit on the turns of loops
 abbrev pub Asks : List Loaded → ℕ → Input → Type 0
 Asks files turns input = (input.files ≡ map file_of files) × (input.turns ≡ turns)
 
--- A session of a batch ran its script: in turns that stand in the closed log, which has no other events of its number;
--- its replies and files are those of its steps on the states that it took, and it made no more nodes than they may
+-- A session of a batch ran its script: in turns that are in the closed log, which has no other events of its number;
+-- its replies and files are those of its steps on the states that it took, and it made no more nodes than these may
 -- cost.
 pub record ToldScript (leaf : ℕ) (input : Input) (first : First) (means : Rel → Relation) (log : List Event) (s : ℕ)
     (script : Script) (part : Part) : Type 0 where
@@ -87,7 +87,7 @@ pub record ToldScript (leaf : ℕ) (input : Input) (first : First) (means : Rel 
   pub saved : part.saved ≡ saves_of input script (steps_taken first.names means ts script part.outcomes)
   pub cost : part.made ≤ cost_of_steps leaf input script (steps_taken first.names means ts script part.outcomes)
 
--- a session did not run its script: it has this one outcome, tells it, and has no event, no file and no node
+-- a session did not run its script: it has this one outcome, reports it, and has no event, no file and no node
 pub record ToldFault (log : List Event) (s : ℕ) (outcome : Outcome) (part : Part) : Type 0 where
   pub only : part.outcomes ≡ outcome ∷ []
   pub no_events : events_of s log ≡ []
@@ -95,13 +95,13 @@ pub record ToldFault (log : List Event) (s : ℕ) (outcome : Outcome) (part : Pa
   pub saved : part.saved ≡ []
   pub cost : part.made ≤ 0
 
--- a session told what its bytes are read as
+-- a session answered according to the result of reading its bytes
 abbrev pub Told : ℕ → Input → First → (Rel → Relation) → List Event → ℕ → Reading → Part → Type 0
 Told leaf input first means log s (NoScript fault) part = ToldFault log s (Parse fault) part
 Told leaf input first means log s (Flawed fault) part = ToldFault log s (Ill fault) part
 Told leaf input first means log s (Runs script) part = ToldScript leaf input first means log s script part
 
--- so did those from number s on
+-- so did the sessions from number s on
 abbrev pub AllTold : ℕ → Input → First → (Rel → Relation) → List Event → ℕ → List Reading → List Part → Type 0
 AllTold leaf input first means log s [] [] = Unit {0}
 AllTold leaf input first means log s (reading ∷ readings) (part ∷ parts) =
@@ -109,12 +109,12 @@ AllTold leaf input first means log s (reading ∷ readings) (part ∷ parts) =
 AllTold leaf input first means log s [] (part ∷ parts) = ⊥
 AllTold leaf input first means log s (reading ∷ readings) [] = ⊥
 
--- an event is of one of so many sessions from this number on
+-- an event belongs to one of this many sessions, from this number on
 abbrev pub IsWithin : ℕ → ℕ → Event → Type 0
 IsWithin number count e = (number ≤ e.session) × (e.session < number + count)
 
--- ---- batches that are over
--- a batch that is over: what its scripts are read as, the names and versions that it began with, what relations mean
+-- ---- finished batches
+-- a finished batch: the results of reading its scripts, the names and versions that it began with, what relations mean
 -- in its table, its closed log, and its sessions
 pub record Past : Type 0 where
   pub readings : List Reading
@@ -123,13 +123,14 @@ pub record Past : Type 0 where
   pub log : List Event
   pub parts : List Part
 
--- the batch of the model
+-- the batch in terms of the model
 abbrev pub batch_of_past : Past → Batch
 batch_of_past p = record { first = p.first; means = p.means; log = p.log }
 
--- Batches that are over, the first of whose sessions has this number, behind one that left this state and these
--- versions: each has some scripts, which are read so, and whose sessions told what they are; its events are of its own
--- sessions; and it began with relations of the values that the one before left, and with its versions.
+-- Finished batches, the first of whose sessions has this number, after a batch that left this state and these versions:
+-- each has some scripts, which were read with these results, and whose sessions answered accordingly; its events belong
+-- to its own sessions; and it began with relations whose values are those that the one before left, and with its
+-- versions.
 abbrev pub ArePast : ℕ → List Loaded → ℕ → ℕ → Workspace → (List ℕ → ℕ) → List Past → Type 0
 ArePast leaf files turns number state versions [] = Unit {0}
 ArePast leaf files turns number state versions (p ∷ ps) =
@@ -148,19 +149,19 @@ ArePast leaf files turns number state versions (p ∷ ps) =
 abbrev pub parts_of : List Past → List Part
 parts_of = flat_map (λ p. p.parts)
 
--- what all scripts are read as
+-- the results of reading all scripts
 abbrev pub readings_of : List Past → List Reading
 readings_of = flat_map (λ p. p.readings)
 
--- the batches of the model
+-- the batches in terms of the model
 abbrev pub batches_of : List Past → List Batch
 batches_of = map batch_of_past
 
--- the events of all batches, one log behind the other
+-- the events of all batches, one log after another
 abbrev pub history_of : List Past → List Event
 history_of ps = logs_of (batches_of ps)
 
--- for each batch the number of scripts up to its end, behind so many scripts
+-- for each batch, the number of scripts up to its end, after this many earlier scripts
 abbrev pub ends_from : ℕ → List Past → List ℕ
 ends_from count [] = []
 ends_from count (p ∷ ps) = (count + length p.parts) ∷ ends_from (count + length p.parts) ps
@@ -175,13 +176,13 @@ input_of_past files turns asked ps = record {
   ends = ends_from 0 ps;
 }
 
--- the replies of all sessions, and then a line for each event where the history is asked
+-- the replies of all sessions, and then a line for each event if the history is wanted
 abbrev pub page_of_past : Bool → List Past → List ℕ
 page_of_past asked ps = text_of (parts_of ps) ++ cond asked (flat_map event_line (history_of ps)) []
 
--- Batches that are over make one lawful run: they are the batches of a run of all their scripts, in which each session
--- ran in its batch; history, outcomes, page and files are those of a lawful run; and each batch made no more nodes
--- than its commands may cost.
+-- Finished batches make one lawful run: they are the batches of a run of all their scripts, in which each session ran
+-- in its batch; history, outcomes, page and files are those of a lawful run; and each batch made no more nodes than its
+-- commands may cost.
 pub record IsWhole (leaf : ℕ) (files : List Loaded) (turns : ℕ) (asked : Bool) (ps : List Past) : Type 0 where
   pub batches : AreAllBatches (input_of_past files turns asked ps) (batches_of ps)
   pub ran : SessionsRan (input_of_past files turns asked ps) (batches_of ps) 1 (readings_of ps)
@@ -192,7 +193,7 @@ pub record IsWhole (leaf : ℕ) (files : List Loaded) (turns : ℕ) (asked : Boo
       → made_in p.parts ≤ cost_of_batch leaf (input_of_past files turns asked ps) (history_of ps)
       (outcomes_of (parts_of ps)) k
 
--- batches that are over, from the first session on, make one lawful run, whatever the order of turns in each
+-- finished batches, from the first session on, make one lawful run, in whatever order the turns came in each
 abbrev pub WholeRuns : Type 0
 WholeRuns =
     (leaf : ℕ) (files : List Loaded) (turns : ℕ) (asked : Bool) (ps : List Past)

@@ -1,4 +1,4 @@
--- What the words of batches that are over hold, while batch after batch is put behind them.
+-- What the words of finished batches hold, as batch after batch is added.
 use Rattle.std.specs.Prelude.{◌≡◌, ◌≤◌, ◌+◌, ℕ, Bool, List, [], ◌∷◌, ◌++◌, length}
 use Rattle.std.specs.List.{AllByRecursion}
 use Rattle.rel_model.specs.Words.{stored_count}
@@ -22,32 +22,32 @@ use Rattle.rv_runs.specs.Past.{
   input_of_past,
 }
 
--- ---- behind batches that are over
--- the state that the last of them left, or this one
+-- ---- after finished batches
+-- the state left by the last of them, or this one if there is none
 abbrev pub state_behind : Workspace → List Past → Workspace
 state_behind state [] = state
 state_behind state (p ∷ ps) = state_behind (state_left (batch_of_past p)) ps
 
--- and the versions
+-- the versions left by the last of them, or these if there is none
 abbrev pub versions_behind : (List ℕ → ℕ) → List Past → List ℕ → ℕ
 versions_behind versions [] = versions
 versions_behind versions (p ∷ ps) = versions_behind (versions_left (batch_of_past p)) ps
 
--- the place of the history up to which the last of them came, or this one
+-- the place in the history that the last of them reached, or this one if there is none
 abbrev pub upto_behind : ℕ → List OldBatch → ℕ
 upto_behind from [] = from
 upto_behind from (old ∷ olds) = upto_behind old.upto olds
 
--- the uses of nodes that lived on of it, or these
+-- the uses of nodes that lived on from the last of them, or these if there is none
 abbrev pub uses_behind : ℕ → ℕ → List OldBatch → ℕ
 uses_behind bits uses [] = uses
 uses_behind bits uses (old ∷ olds) =
     uses_behind bits (uses_of_live (node_words bits old.words.items) old.live.items) olds
 
 -- ---- words
--- The words of a batch over so many uses of nodes that lived on: they are sound, with one root for each value; the
--- relations of its assignments stand in them; no more nodes are stored than were used before and than its sessions
--- made; and where a session found the table full, they are full.
+-- The words of a batch that began with this many uses of nodes that lived on: they are sound, with one root for each
+-- value; the relations of its assignments stand in them; no more nodes are stored than were used before plus those that
+-- its sessions made; and if a session found the table full, they are full.
 pub record IsHeld (bits uses : ℕ) (words : List ℕ) (p : Past) : Type 0 where
   pub sound : IsSoundTable bits words
   pub one_root : HasOneRootEach (node_words bits words)
@@ -55,9 +55,9 @@ pub record IsHeld (bits uses : ℕ) (words : List ℕ) (p : Past) : Type 0 where
   pub room : stored_count (node_words bits words) ≤ uses + made_in p.parts
   pub full : AllByRecursion (FillsWhereFull (node_words bits words)) (outcomes_of p.parts)
 
--- Batches that are over, whose events begin at this place of the history, the first of them over so many uses of
--- nodes, with what is left of each: its words hold it, it came as far as its log, and the names that it left stand in
--- its words with their relations.
+-- Finished batches, whose events begin at this place of the history and the first of which began with this many uses of
+-- nodes, with what remains of each: its words hold it, its place is the end of its log, and the names that it left
+-- stand in its words with their relations.
 abbrev pub AreHeld : ℕ → ℕ → ℕ → List Past → List OldBatch → Type 0
 AreHeld bits from uses [] [] = Unit {0}
 AreHeld bits from uses (p ∷ ps) (old ∷ olds) =
@@ -67,7 +67,7 @@ AreHeld bits from uses (p ∷ ps) (old ∷ olds) =
 AreHeld bits from uses [] (old ∷ olds) = ⊥
 AreHeld bits from uses (p ∷ ps) [] = ⊥
 
--- The words of batches that are over, and those of the last one, hold the run.
+-- The words of finished batches, and those of the last one, hold the run.
 abbrev pub WordsHoldRuns : Type 0
 WordsHoldRuns =
     (bits : ℕ) (files : List Loaded) (turns : ℕ) (asked : Bool) (ps : List Past) (p : Past) (olds : List OldBatch)

@@ -1,4 +1,5 @@
--- The work of sessions at once: what is known of it before and after its session runs, and of all when it is joined.
+-- The work of concurrent sessions: what is known of each before and after its session runs, and of all when they are
+-- joined.
 use Rattle.std.specs.Prelude.{◌≡◌, ◌<◌, ◌≤◌, ◌+◌, ◌-◌, ◌*◌, ℕ, List, [], ◌∷◌, length, slice_index_or, All, Option, IfSome}
 use Rattle.rel_model.specs.Worker.{Worker}
 use Rattle.rel_model.specs.Seats.{Holds}
@@ -8,11 +9,11 @@ use Rattle.rv_sessions.specs.declared.transcript.Transcript.{Transcript}
 use Rattle.rv_sessions.specs.Sessions.{RanBytes}
 use Rattle.rv_runs.specs.declared.work.Work.{Work}
 
--- the bytes of the script of session number s, where the first one has this number
+-- the bytes of the script of session number s, given the number of the first session
 abbrev pub bytes_of : ℕ → List (List ℕ) → ℕ → List ℕ
 bytes_of number scripts s = slice_index_or scripts (s - number) []
 
--- a session ran these bytes in a worker and a pass of its own, which were new
+-- a session ran these bytes in a new worker and a new pass of its own
 pub record HasRun (leaf : ℕ) (given : Input) (s : ℕ) (bytes : List ℕ) (own : Worker) (pass : View)
     (told : Transcript) : Type 0 where
   pub first : Worker
@@ -24,7 +25,7 @@ pub record HasRun (leaf : ℕ) (given : Input) (s : ℕ) (bytes : List ℕ) (own
   pub no_mine : before.mine ≡ []
   pub same_start : pass.start ≡ before.start
 
--- a worker was joined into another: all that stood in it stands there, and if it missed, so did the other
+-- a worker was joined into another: everything that stood in it stands there, and if it had misses, so has the other
 pub record IsAbsorbed (own all : Worker) : Type 0 where
   pub holds : Holds own all
   pub missed : 0 < own.misses → 0 < all.misses
@@ -40,7 +41,7 @@ pub record SplitsAll (old new : View) : Type 0 where
   pub turn : new.turn ≡ old.turn
   pub spare : new.spare ≡ 0
 
--- so many workers with 64 spare ones each are split off
+-- `count` workers with 64 spare ones each are split off
 pub record SplitsWorkers (count : ℕ) (old new : Worker) : Type 0 where
   pub holds : Holds old new
   pub house : new.house ≡ old.house
@@ -53,11 +54,11 @@ module _ {E : Type 0} where
   abbrev pub Numbered : ℕ → List (Work E) → Type 0
   Numbered number works = (k : ℕ) (d : Work E) → k < length works → (slice_index_or works k d).number ≡ k + number
 
-  -- the passes of all works are of one house
+  -- the passes of all works belong to one house
   abbrev pub HaveHouse : House → List (Work E) → Type 0
   HaveHouse house works = All (λ work. work.seat.pass.house ≡ house) works
 
-  -- the passes of all works are of a book that began with this
+  -- the passes of all works belong to a book that began like this
   abbrev pub HaveStart : Start → List (Work E) → Type 0
   HaveStart start works = All (λ work. work.seat.pass.start ≡ start) works
 
@@ -65,12 +66,12 @@ module _ {E : Type 0} where
   abbrev pub pass_of : Work E → View
   pass_of work = work.seat.pass
 
-  -- what its session told
+  -- what its session answered
   abbrev pub told_of : Work E → Option Transcript
   told_of work = work.told
 
   module _ (worker : E → Worker) where
-    -- a piece of work before its session runs, in a batch of so many from this number on
+    -- a piece of work before its session runs, in a batch of `count` sessions from this number on
     pub record IsFresh (book : Book) (first count : ℕ) (work : Work E) : Type 0 where
       pub ready : IsReady book work.seat.pass
       pub no_seen : work.seat.pass.seen ≡ []
@@ -92,7 +93,7 @@ module _ {E : Type 0} where
       pub kin : (worker work.seat.engine).house ≡ work.seat.pass.house
       pub seats : (worker work.seat.engine).spare ≡ 64
 
-    -- what its session told, it did with the bytes of its script
+    -- what its session answered follows from the bytes of its script
     abbrev pub RanWhereTold : ℕ → Input → ℕ → List (List ℕ) → Work E → Type 0
     RanWhereTold leaf given number scripts work = IfSome work.told
         (HasRun leaf given work.number (bytes_of number scripts work.number) (worker work.seat.engine) work.seat.pass)

@@ -1,4 +1,4 @@
-//! One batch of a run: all its scripts at once.
+//! One batch of a run: runs all its scripts concurrently.
 ghost use Rattle.std.specs.Prelude.{◌≡◌, ◌≤◌, ◌+◌, ◌*◌, ◌^◌, ℕ, List, length, map, All, IfOk};
 ghost use Rattle.lang_model.specs.Limits.{script_limit};
 ghost use Rattle.rv_workspace.specs.Books.{AllNamesStand, AreFew};
@@ -7,9 +7,9 @@ ghost use Rattle.rv_runs.specs.Parts.{EndsBatch};
 use crate::ended::BatchEnd;
 use crate::together::{join_all, run_works, split_all};
 use name_map::NameMap;
-use rel_model::engine_trait::Engine;
 use rel_model::watch::Watch;
 use rel_model::{NoMemory, Rel};
+use rel_slices::Remembers;
 use run_model::files::Loaded;
 use rv_blocks::Versions;
 use rv_workspace::Book;
@@ -18,14 +18,15 @@ use std::sync::Wait;
 use std::thread::Threads;
 use turn_book::TurnBook;
 
-/// Runs all scripts of a batch at once, a session for each, whose commands take turns at one book of names. The book
-/// begins with these names, whose relations stand in the engine, and with these versions. Sessions are numbered in
-/// order, the first by this number.
+/// Runs all scripts of a batch concurrently. Each has a session, whose commands take turns at one book of names. The
+/// book begins with these names, whose relations stand in the engine, and with these versions. Sessions are numbered in
+/// order, from `number` on.
 ///
-/// A script that does not run is told by its one fault, and the others run. An answer tells what each session told, and
-/// what the batch leaves to the next one. Where memory for the lists of the batch is wanting, there is none. The watch
-/// is told when each session begins and when it has ended, by its number and 1,000,000 more.
-pub fn run_batch<R: Threads + Wait + Sync, E: Engine + Drop + Send, W: Watch + Sync>(
+/// A script that does not run is answered by its one fault, and the others still run. The result has what each session
+/// answered, and what the batch leaves for the next one. The only error is that memory ran out for the batch itself or
+/// for the lists of a session. The watch is called when each session begins and when it has ended, with the session's
+/// number plus 1,000,000.
+pub fn run_batch<R: Threads + Wait + Sync, E: Remembers + Drop + Send, W: Watch + Sync>(
     rt: &R,
     alloc: Global,
     scripts: &[Vec<u8>],

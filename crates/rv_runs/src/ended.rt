@@ -1,12 +1,12 @@
-//! What a batch comes to.
+//! The result of a batch.
 use name_map::NameMap;
 use rel_model::Rel;
 use run_model::event::Event;
 use rv_blocks::Versions;
 use rv_sessions::Transcript;
 
-/// What a batch comes to: the engine with all that its sessions made, its events, what each session told in the order
-/// of the scripts, and the names and versions that it leaves.
+/// The result of a batch: the engine with everything that its sessions made, its events, what each session answered in
+/// the order of the scripts, and the names and versions that it leaves.
 #[derive(Drop)]
 pub struct BatchEnd<E> {
     pub engine: E,

@@ -1,5 +1,5 @@
-//! Runs: all sessions of a batch at once over one book of names, from the bytes of the scripts to what they told; the
-//! page of all batches; and that batches make one run.
+//! Runs: all sessions of a batch at once on one book of names, from the bytes of the scripts to their answers; the page
+//! of all batches; and that batches make one run.
 #![tactic(auto)]
 
 mod batch;

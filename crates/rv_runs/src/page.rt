@@ -1,4 +1,4 @@
-//! The page of a run, from what its sessions told.
+//! The page of a run, made from the answers of its sessions.
 ghost use Rattle.std.specs.Prelude.{◌≡◌, ◌++◌, [], map, IfOk, OnOk};
 ghost use Rattle.std.specs.Fmt.{decimal};
 ghost use Rattle.std.specs.List.{flat_map};
@@ -16,7 +16,7 @@ use rv_print::event_line;
 use rv_sessions::{Reply, Transcript};
 use std::alloc::{AllocError, Global};
 
-/// Adds a number in decimal.
+/// Appends a number in decimal.
 fn push_number(alloc: Global, out: &mut Vec<u8>, number: u32) -> Result<(), AllocError>
     ensures { OnOk result (out.new.items ≡ out.old.items ++ decimal number) }
 {
@@ -24,7 +24,7 @@ fn push_number(alloc: Global, out: &mut Vec<u8>, number: u32) -> Result<(), Allo
     out.extend_from_slice(digits.as_bytes())
 }
 
-/// Adds `S.C: `.
+/// Appends `S.C: `.
 fn push_prefix(
     alloc: Global,
     out: &mut Vec<u8>,
@@ -39,7 +39,7 @@ fn push_prefix(
     out.extend_from_slice(b": ")
 }
 
-/// Adds a reply.
+/// Appends a reply.
 #[tactic(auto, unfolding(run_model::specs::Texts::refusal_text, run_model::specs::Texts::outcome_text))]
 fn push_reply(alloc: Global, out: &mut Vec<u8>, reply: &Reply) -> Result<(), AllocError>
     ensures { OnOk result (out.new.items ≡ out.old.items ++ text_of reply.now) }
@@ -61,7 +61,7 @@ fn push_reply(alloc: Global, out: &mut Vec<u8>, reply: &Reply) -> Result<(), All
     }
 }
 
-/// Adds replies, one after another.
+/// Appends replies, one after another.
 fn push_replies(alloc: Global, out: &mut Vec<u8>, replies: &[Reply]) -> Result<(), AllocError>
     ensures { OnOk result (out.new.items ≡ out.old.items ++ texts_of replies.now) }
 {
@@ -71,7 +71,7 @@ fn push_replies(alloc: Global, out: &mut Vec<u8>, replies: &[Reply]) -> Result<(
     Ok(())
 }
 
-/// Adds a line for each event.
+/// Appends a line for each event.
 fn push_history(alloc: Global, out: &mut Vec<u8>, history: &[Event]) -> Result<(), NoMemory>
     ensures { OnOk result (out.new.items ≡ out.old.items ++ flat_map event_line history.now) }
 {
@@ -82,7 +82,7 @@ fn push_history(alloc: Global, out: &mut Vec<u8>, history: &[Event]) -> Result<(
     Ok(())
 }
 
-/// Adds the replies of sessions, one session after another.
+/// Appends the replies of sessions, session by session.
 fn push_sessions(alloc: Global, out: &mut Vec<u8>, told: &[Transcript]) -> Result<(), AllocError>
     ensures { OnOk result (out.new.items ≡ out.old.items ++ flat_map text_of_session told.now) }
 {
@@ -92,7 +92,7 @@ fn push_sessions(alloc: Global, out: &mut Vec<u8>, told: &[Transcript]) -> Resul
     Ok(())
 }
 
-/// The page: the replies of the sessions one after another, and then the history where it is asked.
+/// The page: the replies of the sessions one after another, and then the history if it is wanted.
 pub fn make_page(
     alloc: Global,
     told: &[Transcript],

@@ -1,4 +1,4 @@
-//! All sessions of a batch at once: passes and workers are split off, run and joined.
+//! All sessions of a batch: their passes and workers are split off, run concurrently and joined again.
 ghost use Rattle.std.specs.Prelude.{◌≡◌, ◌≤◌, ◌<◌, ◌+◌, ◌*◌, ◌^◌, ℕ, true, [], length, map, slice_index_or, vec_capacity, vec_len, All, Some};
 ghost use Rattle.lang_model.specs.Limits.{script_limit};
 ghost use Rattle.turn_book.specs.Joined.{JoinsAll};
@@ -9,6 +9,7 @@ ghost use Rattle.rv_runs.specs.Works.{IsFresh, CanJoin, RanWhereTold, Numbered, 
 use crate::work::{Work, run_work};
 use rel_model::engine_trait::Engine;
 use rel_model::watch::Watch;
+use rel_slices::Remembers;
 use run_model::files::Loaded;
 use rv_sessions::{Seat, Transcript};
 use rv_workspace::Book;
@@ -18,13 +19,13 @@ use std::thread;
 use std::thread::Threads;
 use turn_book::{Pass, TurnBook};
 
-/// The most sessions at once.
+/// At most this many sessions run concurrently.
 const MOST: usize = 64;
 
-/// The spare workers of each session.
+/// How many spare workers each session has.
 const SEATS: u32 = 64;
 
-/// Splits a pass and a worker off for each session, whose numbers count from this one on.
+/// Splits off a pass and a worker for each session. Sessions are numbered from `number` on.
 pub fn split_all<E: Engine + Drop>(
     book: &TurnBook<Book<E>>,
     pass: &mut Pass<Book<E>>,
@@ -61,8 +62,8 @@ pub fn split_all<E: Engine + Drop>(
     }
 }
 
-/// Runs the sessions of all works at once.
-pub fn run_works<E: Engine + Drop + Send, R: Threads + Wait + Sync, W: Watch + Sync>(
+/// Runs the sessions of all works concurrently.
+pub fn run_works<E: Remembers + Drop + Send, R: Threads + Wait + Sync, W: Watch + Sync>(
     rt: &R,
     alloc: Global,
     scripts: &[Vec<u8>],
@@ -95,7 +96,7 @@ pub fn run_works<E: Engine + Drop + Send, R: Threads + Wait + Sync, W: Watch + S
     );
 }
 
-/// Joins all passes and workers, and says whether all sessions told something.
+/// Joins all passes and workers again. Returns whether every session has given its transcript.
 pub fn join_all<E: Engine + Drop>(
     book: &TurnBook<Book<E>>,
     pass: &mut Pass<Book<E>>,

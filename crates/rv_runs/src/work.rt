@@ -1,4 +1,4 @@
-//! One session at its work.
+//! The work of one session.
 ghost use Rattle.std.specs.Prelude.{◌≡◌, ◌≤◌, ◌+◌, ◌^◌, length, map, All};
 ghost use Rattle.lang_model.specs.Limits.{script_limit};
 ghost use Rattle.rv_sessions.specs.Telling.{input_of};
@@ -6,6 +6,7 @@ ghost use Rattle.rv_runs.specs.Works.{IsFresh, CanJoin, RanWhereTold};
 
 use rel_model::engine_trait::Engine;
 use rel_model::watch::Watch;
+use rel_slices::Remembers;
 use run_model::files::Loaded;
 use rv_sessions::{Seat, Setting, Transcript, run};
 use rv_workspace::Book;
@@ -13,10 +14,11 @@ use std::alloc::Global;
 use std::sync::Wait;
 use turn_book::TurnBook;
 
-/// What is added to the number of a session, where the watch is told of it.
+/// The watch is called with this plus the number of a session.
 const SESSIONS: u32 = 1_000_000;
 
-/// The work of one session: its number in the run, with all that it needs, and what it told.
+/// The work of one session: its number in the run, its seat, and its transcript once it has run. The transcript's lists
+/// are on the heap.
 #[derive(Drop)]
 pub struct Work<E: Engine> {
     pub number: u32,
@@ -24,11 +26,11 @@ pub struct Work<E: Engine> {
     pub told: Option<Transcript>,
 }
 
-/// Runs the session of a piece of work, in a batch whose first session has this number. Where memory is wanting, it
-/// tells nothing.
+/// Runs the session of a work, in a batch whose first session has number `number`. If memory runs out for its lists,
+/// there is no transcript.
 ///
-/// The watch is told when the session begins and when it has ended, by its number and 1,000,000 more.
-pub fn run_work<R: Wait, E: Engine + Drop, W: Watch>(
+/// The watch is called when the session begins and when it has ended, with the session's number plus 1,000,000.
+pub fn run_work<R: Wait, E: Remembers + Drop, W: Watch>(
     rt: &R,
     alloc: Global,
     scripts: &[Vec<u8>],

@@ -1,4 +1,4 @@
--- What the commands that take a value do, before it is told.
+-- What the commands that take a value do, before it is shown.
 use Rattle.std.specs.Prelude.{◌≡◌, ◌++◌, ◌⊎◌, ℕ, List, [], ◌∷◌, Result, Ok, Err, Option, None}
 use Rattle.rel_model.specs.declared.NoMemory.{NoMemory}
 use Rattle.rel_model.specs.declared.Rel.{Rel}
@@ -44,14 +44,15 @@ pub record WasNotRead (old new : Worker) (before after : PASS) : Type 0 where
   pub through : GoesThrough [] before after
   pub stays : Stays old new
 
--- a log was read, whose relations stand, as those of the first names do, and then a worker that keeps all went on
+-- a log was read, all of whose relations stand in the worker, as do those of the first names; and the worker kept
+-- everything while it went on
 pub record WasRead (s c : ℕ) (old new : Worker) (before after : PASS) (log : List Event) : Type 0 where
   pub through : GoesThrough (turn_of log (read_of s c) ∷ []) before after
   pub stand : HistoryStands new log
   pub first_stand : AllNamesStand new (first_names before)
   pub keeps : Keeps old new
 
--- what an expression comes to on a log that was read, behind names that had these relations first
+-- the result of an expression on a log that was read, after a start at which names had these relations
 abbrev pub on_log : Input → Script → Expr → Worker → Carried → List Event → Evaluated
 on_log input script e w first log = evaluated script (lookup (meant w (carried_from first log))) e input.turns
 
@@ -63,7 +64,7 @@ pub record WasShown (leaf : ℕ) (form : Form) (input : Input) (script : Script)
   pub room : MakesAtMost (cost_of leaf input script e (meant new (carried_by before log)))
       old new
 
--- that; or memory ran out before anything was read
+-- either an expression was shown on the log that its command read, or memory ran out before anything was read
 abbrev pub ShownInTurn : ℕ → Form → Input → Script → ℕ → ℕ → Expr → Worker → Worker → PASS → PASS
     → Result (List ℕ) Outcome → Type 0
 ShownInTurn leaf form input script s c e old new before after result =
@@ -71,7 +72,7 @@ ShownInTurn leaf form input script s c e old new before after result =
     ⊎ ((log : List Event) × WasShown leaf form input script s c e old new before after log result)
 
 -- ---- items that take a value
--- an item that reads, and wants the value of an expression for this
+-- an item that reads, and needs the value of an expression for this purpose
 pub record IsReadItem (item : Item) (e : Expr) (then : Relation → Due) : Type 0 where
   pub due_is : (input : Input) (script : Script) (state : Workspace) (snap : Option Workspace) →
       due input script item state snap ≡ due_of input script then e state
@@ -82,7 +83,7 @@ pub record IsReadItem (item : Item) (e : Expr) (then : Relation → Due) : Type 
   pub memory : MayLackMemory item
   pub reads : reads_of item ≡ Reads ∷ []
 
--- one that shows the value, or saves it, and gives no name anything
+-- an item that shows or saves the value, and assigns nothing
 pub record IsValueItem (item : Item) (e : Expr) (then : Relation → Due) (text : List ℕ → Relation → List ℕ)
     (files : Relation → List SavedFile) : Type 0 where
   pub reading : IsReadItem item e then
@@ -94,7 +95,7 @@ pub record IsValueItem (item : Item) (e : Expr) (then : Relation → Due) (text 
   pub no_block : lets_of item ≡ None
 
 -- ---- what an item did
--- the item was done or refused, as it is told; or memory ran out
+-- the item was done or refused, as it reports; or memory ran out
 abbrev pub DidItem : ℕ → Input → Script → ℕ → ℕ → Item → Worker → Worker → PASS → PASS → Kept → Kept
     → Result Told NoMemory → Type 0
 DidItem leaf input script s c item old new before after snaps left (Ok told) =
@@ -112,7 +113,7 @@ pub record WasValued (leaf : ℕ) (input : Input) (script : Script) (s c : ℕ) 
   pub room : MakesAtMost (cost_of leaf input script e (meant new (carried_by before log)))
       old new
 
--- that; or memory ran out before anything was read
+-- either an expression had a value on the log that its command read, or memory ran out before anything was read
 abbrev pub ValuedInTurn : ℕ → Input → Script → ℕ → ℕ → Expr → Worker → Worker → PASS → PASS → Result Rel Outcome
     → Type 0
 ValuedInTurn leaf input script s c e old new before after result =

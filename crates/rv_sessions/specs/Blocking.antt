@@ -1,4 +1,4 @@
--- What the assignments of a block come to, one after another, and how a commit is told that is refused.
+-- The results of the assignments of a block, one after another, and how a refused commit is reported.
 use Rattle.std.specs.Prelude.{◌≡◌, ◌≤◌, ◌+◌, ◌⊎◌, ℕ, List, [], ◌∷◌, map, drop, Result, Ok, Err}
 use Rattle.std.specs.List.{AllByRecursion}
 use Rattle.std.specs.declared.vec.Vec.{Vec}
@@ -23,7 +23,7 @@ use Rattle.rv_sessions.specs.declared.told.Told.{Told}
 use Rattle.rv_sessions.specs.Telling.{TellsRefusal}
 use Rattle.rv_sessions.specs.Valuing.{IsRefusal}
 
--- names with relations, as names with the values that these have in a worker
+-- names with relations, as names with the values of these in a worker
 abbrev pub gifts_in : Worker → List (List ℕ × Rel) → Gifts
 gifts_in w = map (λ gift. (gift.0, set_of w gift.1))
 
@@ -31,14 +31,14 @@ gifts_in w = map (λ gift. (gift.0, set_of w gift.1))
 abbrev pub GiftsStand : Worker → List (List ℕ × Rel) → Type 0
 GiftsStand w = AllByRecursion (λ gift. Stands w gift.1)
 
--- a block stopped: it is refused for what is due; or the table was full, for an expression that is more than a name; or
--- memory ran out
+-- a block stopped: it is refused as is due; or the table was full, for an expression that is not just a name; or memory
+-- ran out
 abbrev pub BlockStopped : Worker → Worker → List BlockLet → Due → Outcome → Type 0
 BlockStopped old new lets d o =
     ((when : When) × (d ≡ REFUSED when o) × IsRefusal o)
     ⊎ (((o ≡ NODES) × AnyCompound lets × IsNotEarly d × Rose old.misses new.misses) ⊎ (o ≡ NO_MEMORY))
 
--- the assignments of a block, of which the expressions come to this, have these values; or the block stopped
+-- the assignments of a block have these values, given the results of their expressions; or the block stopped
 abbrev pub BlockCame : Worker → Worker → ℕ → List BlockLet → List Evaluated
     → Result (Vec (List ℕ × Rel) Global) Outcome → Type 0
 BlockCame old new turns lets es (Ok gifts) =
@@ -46,13 +46,14 @@ BlockCame old new turns lets es (Ok gifts) =
 BlockCame old new turns lets es (Err o) = BlockStopped old new lets (due_of_lets turns lets es) o
 
 -- ---- on the way
--- what is due behind values that came already
+-- what is due after values that were computed already
 abbrev pub due_behind : Gifts → Due → Due
 due_behind [] d = d
 due_behind (gift ∷ gifts) d = with_gift gift (late (due_behind gifts d))
 
--- so many assignments of a block have their values: what is due of the block is due, behind these, of the others on the
--- names as they are now; and as much was made as the expressions so far may cost
+-- the first assignments of a block have their values: what is due of the block is these values, followed by what is due
+-- of the other assignments on the names as they are now; and no more nodes were made than the expressions so far may
+-- cost
 pub record ValuedSoFar (leaf : ℕ) (script : Script) (turns : ℕ) (lets : List BlockLet) (state : State)
     (first now : Worker) (names gifts : List (List ℕ × Rel)) (done : ℕ) : Type 0 where
   pub keeps : Keeps first now
@@ -65,7 +66,7 @@ pub record ValuedSoFar (leaf : ℕ) (script : Script) (turns : ℕ) (lets : List
       ≤ first.made + cost_of_block leaf (evaluated_block script state lets turns)
 
 -- ---- commits
--- a commit that is refused is told with the name that changed; or memory ran out
+-- a refused commit is reported with the name that changed; or memory ran out
 abbrev pub TellsRefusedCommit : ℕ → ℕ → CommitRefused → Result Told NoMemory → Type 0
 TellsRefusedCommit s c (CHANGED name seen found) result = TellsRefusal s c (Changed name seen found) result
 TellsRefusedCommit s c COMMIT_NO_MEMORY result = (lack : NoMemory) × (result ≡ Err lack)

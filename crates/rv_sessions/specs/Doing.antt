@@ -25,18 +25,18 @@ use Rattle.turn_book.specs.Views.{View, IsKept}
 use Rattle.rv_sessions.specs.Standing.{first_names, first_versions, TurnsStand, Kept, KeptStand, meant}
 
 -- ---- turns
--- a turn is of this command: it put one event of it, or assignments of it
+-- a turn belongs to this command: it put one event of it, or assignments of it
 pub record IsBy (s c : ℕ) (t : Turn) : Type 0 where
   pub each : AllByRecursion (λ e. (e.session ≡ s) × (e.command ≡ c)) t.put
   pub kind : IsOne t.put ⊎ AllByRecursion (λ e. is_assign e.act ≡ true) t.put
 
--- the first of a command's turns put an event, where there is one
+-- the first of a command's turns put an event, if there is a turn
 abbrev pub BeginsWithEvent : List Turn → Type 0
 BeginsWithEvent [] = Unit {0}
 BeginsWithEvent (t ∷ ts) = (e : Event) × (rest : List Event) × (t.put ≡ e ∷ rest)
 
--- the relations that names had behind the log that the first of a command's turns took, from those that they had first;
--- and none where it has no turn
+-- the relations of names after the log that the first of a command's turns took, given those they had at first; none if
+-- there is no turn
 abbrev pub names_took : Carried → List Turn → Carried
 names_took first [] = no_names
 names_took first (t ∷ ts) = carried_from first t.took
@@ -56,19 +56,19 @@ pub record GoesThrough (ts : List Turn) (before after : View) : Type 0 where
   pub kept : IsKept before after
 
 -- ---- snapshots
--- a snapshot of this name, where there is one to keep, takes the place of an earlier one
+-- a snapshot of this name, if one is to be kept, replaces an earlier one
 abbrev pub keep : Option (List ℕ) → Carried → Kept → Kept
 keep None state snaps = snaps
 keep (Some name) state snaps = set name state snaps
 
--- what an item that ended so leaves: a SNAP that is done keeps what it took
+-- the snapshots after an item with this ending; a SNAP that is done keeps what it took
 abbrev pub kept_behind : Ending → Item → Carried → Kept → Kept
 kept_behind Succeeds item state snaps = keep (snapped item) state snaps
 kept_behind Fails item state snaps = snaps
 kept_behind Changes item state snaps = snaps
 kept_behind LacksMemory item state snaps = snaps
 
--- the snapshot that an item asks, as it means in a worker
+-- the snapshot that an item asks for, as its relations mean in a worker
 abbrev pub snap_meant : Worker → Item → Kept → Option Workspace
 snap_meant w item snaps = option_map (meant w) (option_and_then (lookup snaps) (asked item))
 
@@ -82,7 +82,7 @@ abbrev pub due_on : Input → Script → Item → Worker → Kept → Carried �
 due_on input script item w snaps first ts =
     due input script item (state_of_turns w first ts) (snap_meant w item snaps)
 
--- item c of session s, in a worker with leaves of this height, on what its turns took from where the book began
+-- item c of session s, in a worker with leaves of this height, on what its turns took, given how the book began
 pub record Did (leaf : ℕ) (input : Input) (script : Script) (s c : ℕ) (item : Item) (old new : Worker)
     (before after : View) (snaps left : Kept) (outcome : Outcome) (text : List ℕ)
     (saved : List SavedFile) : Type 0 where

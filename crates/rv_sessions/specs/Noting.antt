@@ -1,4 +1,4 @@
--- What an item came to, as it is noted.
+-- The result of an item, as it is noted.
 use Rattle.std.specs.Prelude.{◌≡◌, ◌≤◌, ℕ, List, [], ◌∷◌, ◌++◌, vec_len, vec_capacity, Result, Ok, Err}
 use Rattle.rel_model.specs.declared.NoMemory.{NoMemory}
 use Rattle.run_model.specs.declared.outcome.Outcome.{Outcome}
@@ -15,7 +15,7 @@ abbrev pub outcome_in : Result Told NoMemory → Outcome
 outcome_in (Ok told) = told.outcome
 outcome_in (Err lack) = NO_MEMORY
 
--- its reply, with the numbers of its session and its own
+-- its reply, with the numbers of its session and of itself
 abbrev pub text_in : ℕ → ℕ → Result Told NoMemory → List ℕ
 text_in s c (Ok told) = text_of told.reply
 text_in s c (Err lack) = prefix s c ++ refusal_text NO_MEMORY
@@ -25,7 +25,7 @@ abbrev pub saved_in : Result Told NoMemory → List SavedFile
 saved_in (Ok told) = saved_by told.save
 saved_in (Err lack) = []
 
--- lists with nothing in them, and room for so many items
+-- empty lists with room for `room` items
 pub record IsBare (room : ℕ) (lists : Transcript) : Type 0 where
   pub replies : lists.replies.items ≡ []
   pub saves : lists.saves.items ≡ []

@@ -1,4 +1,4 @@
--- What comes of a relation file that is read, and what was wanting where it was not.
+-- The result of reading a relation file, and what ran out if it was not read.
 use Rattle.std.specs.Prelude.{◌≡◌, ℕ, List, Option, Some, None, Result, Ok, Err}
 use Rattle.std.specs.declared.alloc.Global.{Global}
 use Rattle.std.specs.declared.vec.Vec.{Vec}
@@ -29,8 +29,8 @@ use Rattle.run_model.specs.declared.outcome.BadFile.TheVariants.{
   NoMemory as FILE_NO_MEMORY,
 }
 
--- ---- what was wanting
--- a node or memory was wanting, and not a test of the bytes failed
+-- ---- what ran out
+-- nodes or memory ran out, and the bytes failed no test
 abbrev pub lack_in : BadFile → Option Lack
 lack_in Short = None
 lack_in Magic = None
@@ -49,36 +49,36 @@ lack_in Missing = None
 lack_in FILE_FULL = Some Full
 lack_in FILE_NO_MEMORY = Some NoMemory
 
--- what a file of this name is refused for that was not read
+-- the outcome for a file of this name that was not read
 abbrev pub outcome_of_file : List ℕ → BadFile → Option Lack → Outcome
 outcome_of_file name kind (Some Full) = Nodes
 outcome_of_file name kind (Some NoMemory) = NO_MEMORY
 outcome_of_file name kind None = BAD_FILE name kind
 
--- ---- what comes of a file
--- A file of which this is due, by its name, was not read: for a test that it failed, which is due; or the table was
--- full, though what is due is not early; or memory ran out.
+-- ---- the result for a file
+-- A file, given what is due of it by its name, was not read: for a test that it failed, which is due; or the table was
+-- full, and no early refusal is due; or memory ran out.
 abbrev pub WasRefused : (List ℕ → Due) → Worker → Worker → BadFile → Option Lack → Type 0
 WasRefused due old new kind None = (file : List ℕ) → due file ≡ Refused Early (BAD_FILE file kind)
 WasRefused due old new kind (Some Full) = ((file : List ℕ) → IsNotEarly (due file)) × Rose old.misses new.misses
 WasRefused due old new kind (Some NoMemory) = Unit {0}
 
--- the relation that is due of a file was made; or the file was not read
+-- either the relation that is due of a file was made, or the file was not read
 abbrev pub ReadOne : (List ℕ → Due) → Worker → Worker → Result Rel BadFile → Type 0
 ReadOne due old new (Ok rel) =
     (r : Relation) × Gives new r.rows r.cols r rel × ((file : List ℕ) → due file ≡ Value r)
 ReadOne due old new (Err kind) = WasRefused due old new kind (lack_in kind)
 
--- the same of all relations of a file, each with its name
+-- the same for all relations of a file, each with its name
 abbrev pub ReadAll : (List ℕ → Due) → Worker → Worker → Result (Vec (List ℕ × Rel) Global) BadFile → Type 0
 ReadAll due old new (Ok list) =
     GiftsStand new list.items × ((file : List ℕ) → due file ≡ Values (gifts_in new list.items))
 ReadAll due old new (Err kind) = WasRefused due old new kind (lack_in kind)
 
--- what is due of the bytes of a file of which all relations are wanted
+-- what is due of the bytes of a file, if all its relations are wanted
 abbrev pub due_of_all_in : List ℕ → List ℕ → Due
 due_of_all_in bytes file = due_of_all file bytes (shared_fault bytes)
 
--- what is due of the bytes of a file of which the relation of a name is wanted
+-- what is due of the bytes of a file, if the relation of a name is wanted
 abbrev pub due_of_one_in : List ℕ → List ℕ → List ℕ → Due
 due_of_one_in name bytes file = due_of_either name file bytes

@@ -49,23 +49,23 @@ one_for_nodes (BAD_FILE name kind) = 0
 one_for_nodes NoMemory = 0
 one_for_nodes (Changed name seen found) = 0
 
--- how many outcomes tell of a full table
+-- how many outcomes report a full table
 abbrev pub nodes_in : List Outcome → ℕ
 nodes_in [] = 0
 nodes_in (o ∷ os) = one_for_nodes o + nodes_in os
 
--- misses rose at least so often, or stand at their last value
+-- misses rose at least by this count, or are at their maximum
 abbrev pub RoseBy : ℕ → ℕ → ℕ → Type 0
 RoseBy count before now = min (before + count) (2 ^ 64 - 1) ≤ now
 
--- the snapshots behind items from number c on
+-- the snapshots after items from number c on
 abbrev pub snaps_after : (ℕ → Workspace) → ℕ → Snapshots → List Item → List Outcome → Snapshots
 snaps_after state_of c snaps [] outcomes = snaps
 snaps_after state_of c snaps (item ∷ items) [] = snaps
 snaps_after state_of c snaps (item ∷ items) (outcome ∷ outcomes) =
     snaps_after state_of (c + 1) (snaps_behind item outcome (state_of c) snaps) items outcomes
 
--- a turn is of session s, and its events are of one of its first k commands
+-- a turn belongs to session s, and its events to one of the first k commands
 pub record IsAmong (s k : ℕ) (t : Turn) : Type 0 where
   pub turn : IsTurn s t
   pub numbers : AllByRecursion (λ e. (1 ≤ e.command) × (e.command ≤ k)) t.put

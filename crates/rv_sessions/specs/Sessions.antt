@@ -23,8 +23,8 @@ use Rattle.rv_sessions.specs.Telling.{texts_of}
 use Rattle.rv_sessions.specs.Standing.{first_names, TurnsStand}
 use Rattle.rv_sessions.specs.Running.{nodes_in, RoseBy}
 
--- session s ran its script over a book that began so: in turns of its own, whose relations all stand in its worker; and
--- replies, saves, nodes and misses are those of its steps on the states that these turns took
+-- session s ran its script on a book that began like this: in turns of its own, whose relations all stand in its
+-- worker; and replies, saves, nodes and misses are those of its steps on the states that these turns took
 pub record RanScript (leaf : ℕ) (input : Input) (s : ℕ) (script : Script) (old new : Worker) (before after : View)
     (told : Transcript) : Type 0 where
   pub ts : List Turn
@@ -40,14 +40,14 @@ pub record RanScript (leaf : ℕ) (input : Input) (s : ℕ) (script : Script) (o
       (steps_taken (first_names before) (set_of new) ts script told.outcomes.items)) old new
   pub missed : RoseBy (nodes_in told.outcomes.items) old.misses new.misses
 
--- a session that took no turn, made no node and missed none
+-- a session that took no turn, made no node and counted no miss
 pub record DidNothing (old new : Worker) (before after : View) : Type 0 where
   pub seen : after.seen ≡ before.seen
   pub mine : after.mine ≡ before.mine
   pub made : MakesAtMost 0 old new
   pub misses : MissesNothing old new
 
--- a script that does not run: its one fault, the reply that tells it, and nothing else
+-- a script that does not run: its one fault, the reply that reports it, and nothing else
 pub record Refused (s : ℕ) (outcome : Outcome) (old new : Worker) (before after : View)
     (told : Transcript) : Type 0 where
   pub outcomes : told.outcomes.items ≡ outcome ∷ []
@@ -55,40 +55,40 @@ pub record Refused (s : ℕ) (outcome : Outcome) (old new : Worker) (before afte
   pub saved : told.saves.items ≡ []
   pub nothing : DidNothing old new before after
 
--- what session s did with what its bytes are read as
+-- what session s did, given the result of reading its bytes
 abbrev pub DidReading : ℕ → Input → ℕ → Reading → Worker → Worker → View → View → Transcript → Type 0
 DidReading leaf input s (NoScript fault) old new before after told = Refused s (Parse fault) old new before after told
 DidReading leaf input s (Flawed fault) old new before after told = Refused s (Ill fault) old new before after told
 DidReading leaf input s (Runs script) old new before after told =
     RanScript leaf input s script old new before after told
 
--- session s read its bytes, and did what they are read as
+-- session s read its bytes, and did what follows from the result
 pub record RanBytes (leaf : ℕ) (input : Input) (s : ℕ) (bytes : List ℕ) (old new : Worker) (before after : View)
     (told : Transcript) : Type 0 where
   pub reading : Reading
   pub reads : IsReading bytes reading
   pub did : DidReading leaf input s reading old new before after told
 
--- the outcome that tells why a script does not run
+-- the outcome that reports why a script does not run
 abbrev pub refusal_of : Reading → Option Outcome
 refusal_of (NoScript fault) = Some (Parse fault)
 refusal_of (Flawed fault) = Some (Ill fault)
 refusal_of (Runs script) = None
 
--- the bytes were read: as a script without a flaw, or as what is refused so; or memory ran out
+-- the bytes were read: as a script without a flaw, or as something refused for this reason; or memory ran out
 abbrev pub IsRead : List ℕ → Result Script Outcome → Type 0
 IsRead bytes (Ok script) = SpelledBy bytes script × (flaw script ≡ None)
 IsRead bytes (Err outcome) =
     (outcome ≡ NoMemory)
     ⊎ ((reading : Reading) × IsReading bytes reading × (refusal_of reading ≡ Some outcome))
 
--- a fault of bytes is told as one: want of memory as itself
+-- a fault of bytes is reported as one, and running out of memory as itself
 abbrev pub TellsFault : ParseFault → Outcome → Type 0
 TellsFault fault outcome =
     ((fault ≡ NO_MEMORY_TO_PARSE) × (outcome ≡ NoMemory))
     ⊎ ((fault ≢ NO_MEMORY_TO_PARSE) × (outcome ≡ Parse fault))
 
--- a flaw of a script as well
+-- the same for a flaw of a script
 abbrev pub TellsFlaw : TypeFault → Outcome → Type 0
 TellsFlaw flaw outcome =
     ((flaw ≡ NO_MEMORY_TO_CHECK) × (outcome ≡ NoMemory))

@@ -1,4 +1,4 @@
--- What is made of a value: a reply in one of four forms, or the bytes of a file.
+-- What a value is turned into: a reply in one of four forms, or the bytes of a file.
 use Rattle.std.specs.Prelude.{◌≡◌, ◌⊎◌, ℕ, List, Option, Some, None, Result, Ok, Err}
 use Rattle.lang_model.specs.declared.faults.TypeFault.{TypeFault}
 use Rattle.lang_model.specs.Rewriting.{Step}
@@ -32,7 +32,7 @@ bytes_in Count = count_text
 bytes_in Typed = type_text
 bytes_in File = k2
 
--- a value is shown, or has too many cells, pairs or bits to be shown, or memory ran out
+-- a value is shown; or it has too many cells, pairs or bits to be shown; or memory ran out
 abbrev pub IsShown : Form → Relation → Result (List ℕ) Outcome → Type 0
 IsShown form r (Ok bytes) = (wanted_in form r ≡ Value r) × (bytes ≡ bytes_in form r)
 IsShown form r (Err o) = ((wanted_in form r ≡ REFUSED Late o) × IsRefusal o) ⊎ (o ≡ NO_MEMORY)
@@ -43,7 +43,7 @@ CameShown form old new expr turns e (Ok bytes) =
     (r : Relation) × (due_of_value (wanted_in form) turns e ≡ Value r) × (bytes ≡ bytes_in form r)
 CameShown form old new expr turns e (Err o) = Stopped old new expr turns e (wanted_in form) o
 
--- steps are told where nothing is refused ahead of all computing; else the fault is, or memory ran out
+-- the steps are shown if there is no early fault; otherwise the fault is reported, or memory ran out
 abbrev pub CameExplained : Option TypeFault → List Step → Result (List ℕ) Outcome → Type 0
 CameExplained early steps (Ok bytes) = (early ≡ None) × (bytes ≡ explanation steps)
 CameExplained early steps (Err o) = ((fault : TypeFault) × (early ≡ Some fault) × (o ≡ ILL fault)) ⊎ (o ≡ NO_MEMORY)

@@ -23,18 +23,18 @@ first_names pass = (first_of pass.start).names
 abbrev pub first_versions : PASS → Versions
 first_versions pass = (first_of pass.start).versions
 
--- the relations of names behind a log that a pass took, from those with which its book began
+-- the relations of names after a log that a pass took, given those with which its book began
 abbrev pub carried_by : PASS → List Event → Carried
 carried_by pass log = carried_from (first_names pass) log
 
--- the relations of the names with which a book began, of the log that a turn took, and of its own events, stand in a
--- worker
+-- the relations of the names with which a book began, of the log that a turn took, and of the turn's own events, stand
+-- in a worker
 pub record TurnStands (w : Worker) (first : Carried) (t : Turn) : Type 0 where
   pub first_stand : AllNamesStand w first
   pub log : HistoryStands w t.took
   pub own : AllByRecursion (EventStands w) t.put
 
--- those of all turns
+-- the same for all turns
 abbrev pub TurnsStand : Worker → Carried → List Turn → Type 0
 TurnsStand w first = AllByRecursion (TurnStands w first)
 

@@ -1,4 +1,4 @@
--- What a transcript tells, and what a session is given, in the words of runs.
+-- What a transcript contains, and what a session is given, in the terms of runs.
 use Rattle.std.specs.Prelude.{◌≡◌, ◌≢◌, ℕ, false, List, [], ◌∷◌, ◌++◌, map, Option, Some, None, Result, Ok, Err}
 use Rattle.std.specs.List.{flat_map}
 use Rattle.run_model.specs.declared.outcome.Outcome.TheVariants.{TooLong, NoMemory as NO_MEMORY}
@@ -16,7 +16,8 @@ use Rattle.rel_model.specs.declared.NoMemory.{NoMemory as NO_MEMORY_ERROR}
 use Rattle.run_model.specs.declared.outcome.Outcome.{Outcome}
 use Rattle.rv_sessions.specs.declared.transcript.Reply.TheVariants.{Nothing, Told, NoMemory}
 
--- what a session is given beside its script: the relation files and the turns of an expression's loops
+-- what a session is given besides its script: the relation files, and how many turns the loops of an expression may
+-- take
 unfoldable pub input_of : List Loaded → ℕ → Input
 input_of files turns = record { readings = []; files = map file_of files; turns = turns; history = false; ends = [] }
 
@@ -35,14 +36,14 @@ abbrev pub saved_by : Option Save → List SavedFile
 saved_by None = []
 saved_by (Some s) = saved_of s ∷ []
 
--- a refusal is told with its numbers; or memory ran out, which is no refusal
+-- a refusal is reported with its numbers; or memory ran out, which is not a refusal
 abbrev pub TellsRefusal : ℕ → ℕ → Outcome → Result TOLD NO_MEMORY_ERROR → Type 0
 TellsRefusal s c outcome (Ok told) =
     (told.outcome ≡ outcome) × (text_of told.reply ≡ prefix s c ++ refusal_text outcome) × (told.save ≡ None)
     × (outcome ≢ NO_MEMORY)
 TellsRefusal s c outcome (Err lack) = Unit {0}
 
--- a file of all relations that is not written is told with its bits; or memory ran out
+-- a file of all relations that is not written is reported with its number of bits; or memory ran out
 abbrev pub TellsNotWritten : ℕ → ℕ → WriteRefused → Result TOLD NO_MEMORY_ERROR → Type 0
 TellsNotWritten s c (TOO_LONG bits) result = TellsRefusal s c (TooLong bits) result
 TellsNotWritten s c WRITE_NO_MEMORY result = (lack : NO_MEMORY_ERROR) × (result ≡ Err lack)

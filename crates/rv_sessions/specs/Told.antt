@@ -9,12 +9,12 @@ use Rattle.rv_print.specs.declared.refused.PrintRefused.TheVariants.{TooLarge as
 use Rattle.k2_file.specs.declared.refused.WriteRefused.{WriteRefused}
 use Rattle.k2_file.specs.declared.refused.WriteRefused.TheVariants.{TooLong as TOO_LONG, NoMemory as WRITE_NO_MEMORY}
 
--- the outcome that a refusal of the printer is
+-- the outcome for a refusal of the printer
 abbrev pub print_told : PrintRefused → Outcome
 print_told (TOO_LARGE wanted unit) = TooLarge wanted unit
 print_told PRINT_NO_MEMORY = NO_MEMORY
 
--- the outcome that a refusal of the writer is
+-- the outcome for a refusal of the writer
 abbrev pub write_told : WriteRefused → Outcome
 write_told (TOO_LONG bits) = TooLong bits
 write_told WRITE_NO_MEMORY = NO_MEMORY

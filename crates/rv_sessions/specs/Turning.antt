@@ -19,8 +19,8 @@ use Rattle.rv_workspace.specs.Picking.{picked}
 use Rattle.rv_sessions.specs.declared.turns.BlockView.{BlockView}
 use Rattle.rv_sessions.specs.Standing.{first_names, first_versions, carried_by}
 
--- a turn took this log, whose relations stand in the worker then, as those of the first names do, and put these events
--- behind it
+-- a turn took this log, whose relations then stand in the worker, as do those of the first names, and appended these
+-- events
 pub record TookTurn (old new : Worker) (before after : PASS) (log puts : List Event) : Type 0 where
   pub begins : BeginsLog before.seen log
   pub seen : after.seen ≡ log ++ puts
@@ -30,19 +30,19 @@ pub record TookTurn (old new : Worker) (before after : PASS) (log puts : List Ev
   pub first_stand : AllNamesStand new (first_names before)
   pub stays : Stays old new
 
--- a read: the wanted names of the log that was taken; or memory ran out, and nothing was put
+-- a read: the wanted names in the log that was taken; or memory ran out, and nothing was put
 abbrev pub ReadTurn : ℕ → ℕ → Option (List (List ℕ)) → Worker → Worker → PASS → PASS → Result View NoMemory → Type 0
 ReadTurn s c wanted old new before after (Ok view) =
     (log : List Event) × TookTurn old new before after log (read_of s c ∷ [])
     × (view.names.items ≡ picked wanted (carried_by before log))
 ReadTurn s c wanted old new before after (Err refused) = (log : List Event) × TookTurn old new before after log []
 
--- the names of a block with their versions behind a log, from those that were first
+-- the names of a block with their versions after a log, given the first versions
 abbrev pub versions_in : Versions → List Event → List (List ℕ) → List (List ℕ × ℕ)
 versions_in first log = map (λ name. (name, version_behind first log name))
 
--- the read of a block: its names, and the versions of those that it reads; or memory ran out, and nothing more than the
--- read was put
+-- the read of a block: its names, and the versions of those that it reads; or memory ran out, and no more than the read
+-- was put
 abbrev pub BlockTurn : ℕ → ℕ → List (List ℕ) → Worker → Worker → PASS → PASS → Result BlockView NoMemory → Type 0
 BlockTurn s c reads old new before after (Ok view) =
     (log : List Event) × TookTurn old new before after log (read_of s c ∷ [])
@@ -52,7 +52,7 @@ BlockTurn s c reads old new before after (Err refused) =
     (log : List Event)
     × (TookTurn old new before after log (read_of s c ∷ []) ⊎ TookTurn old new before after log [])
 
--- a commit: all assignments where no name that was read has another version, and else a read; or memory ran out, and
+-- a commit: all assignments if no name that was read has another version, and otherwise a read; or memory ran out, and
 -- nothing was put
 abbrev pub CommitTurn : ℕ → ℕ → List (List ℕ × ℕ) → List (List ℕ × Rel) → Worker → Worker → PASS → PASS
     → Result (Unit {0}) CommitRefused → Type 0
@@ -60,7 +60,7 @@ CommitTurn s c reads list old new before after result =
     (log : List Event) × TookTurn old new before after log (commit_entries s c list result)
     × IsCommitAnswer (change_since (first_versions before) reads log) result
 
--- these events were put; or memory ran out, and nothing was put
+-- either these events were put, or memory ran out and nothing was put
 abbrev pub PutTurn : List Event → Worker → Worker → PASS → PASS → Result (Unit {0}) NoMemory → Type 0
 PutTurn puts old new before after (Ok done) = (log : List Event) × TookTurn old new before after log puts
 PutTurn puts old new before after (Err refused) = (log : List Event) × TookTurn old new before after log []
@@ -74,7 +74,7 @@ abbrev pub AssignAllTurn : ℕ → ℕ → List (List ℕ × Rel) → Worker →
     → Type 0
 AssignAllTurn s c list = PutTurn (assigns s c list)
 
--- a drop of a name: its removal, or its read where it is unknown; or memory ran out, and nothing was put
+-- a drop of a name: its removal, or a read if the name is unknown; or memory ran out, and nothing was put
 abbrev pub DropTurn : ℕ → ℕ → List ℕ → Worker → Worker → PASS → PASS → Result (Unit {0}) DropRefused → Type 0
 DropTurn s c name old new before after result =
     (log : List Event) × TookTurn old new before after log (drop_entries s c name result)

@@ -1,4 +1,4 @@
--- What an expression comes to on names, for whatever its value is wanted.
+-- The result of an expression on names, whatever its value is wanted for.
 use Rattle.std.specs.Prelude.{◌≡◌, ◌⊎◌, ℕ, Result, Ok, Err}
 use Rattle.rel_model.specs.declared.Rel.{Rel}
 use Rattle.rel_model.specs.Relation.{Relation}
@@ -24,7 +24,7 @@ use Rattle.run_model.specs.Due.{When, Due, Refused as REFUSED, due_of_value}
 use Rattle.rv_eval.specs.declared.halt.Refused.{Refused}
 use Rattle.rv_eval.specs.declared.halt.Refused.TheVariants.{Ill as ILL_REFUSED, Size as SIZE_REFUSED, Turns as TURNS_REFUSED, Nodes, NoMemory}
 
--- the outcome that a refusal of the evaluator is
+-- the outcome for a refusal of the evaluator
 abbrev pub outcome_told : Refused → Outcome
 outcome_told (ILL_REFUSED fault) = Ill fault
 outcome_told (SIZE_REFUSED at wanted limit) = Size at wanted limit
@@ -32,7 +32,7 @@ outcome_told (TURNS_REFUSED at limit) = Turns at limit
 outcome_told Nodes = NODES
 outcome_told NoMemory = NO_MEMORY
 
--- a refusal that is due: neither a full table, nor want of memory, nor a change at a commit
+-- a refusal that may be due: not a full table, not lack of memory, and not a change at a commit
 abbrev pub IsRefusal : Outcome → Type 0
 IsRefusal Done = ⊥
 IsRefusal (Parse fault) = Unit {0}
@@ -47,24 +47,24 @@ IsRefusal (BAD_FILE name kind) = Unit {0}
 IsRefusal NO_MEMORY = ⊥
 IsRefusal (Changed name seen found) = ⊥
 
--- an expression that is not refused ahead of all computing
+-- an expression without an early fault
 abbrev pub IsNotAhead : Evaluated → Type 0
 IsNotAhead (Ahead fault) = ⊥
 IsNotAhead (Comes came) = Unit {0}
 
--- the table was full: for an expression that is more than a name and was not refused ahead, a place was missing
+-- the table was full: the expression is not just a name and has no early fault, and the misses rose
 pub record WasFull (old new : Worker) (expr : Expr) (e : Evaluated) : Type 0 where
   pub compound : IsCompound expr
   pub not_ahead : IsNotAhead e
   pub rose : Rose old.misses new.misses
 
--- a refusal: it is what is due, where the value is wanted for this; or the table was full; or memory ran out
+-- a refusal: it is what is due if the value is wanted for this; or the table was full; or memory ran out
 abbrev pub Stopped : Worker → Worker → Expr → ℕ → Evaluated → (Relation → Due) → Outcome → Type 0
 Stopped old new expr turns e then o =
     ((when : When) × (due_of_value then turns e ≡ REFUSED when o) × IsRefusal o)
     ⊎ (((o ≡ NODES) × WasFull old new expr e) ⊎ (o ≡ NO_MEMORY))
 
--- an expression came to this: its value, or a refusal, whatever the value is wanted for
+-- the result of an expression: its value, or a refusal, whatever the value is wanted for
 abbrev pub CameTo : Worker → Worker → Expr → ℕ → Evaluated → Result Rel Outcome → Type 0
 CameTo old new expr turns e (Ok rel) =
     Stands new rel × ((then : Relation → Due) → due_of_value then turns e ≡ then (set_of new rel))

@@ -1,4 +1,4 @@
-//! Blocks of assignments, which are made at once where nothing that they read has changed.
+//! Blocks of assignments. They are all made at once if nothing that the block has read has changed.
 ghost use Rattle.std.specs.Prelude.{◌≡◌};
 ghost use Rattle.rel_model.specs.Worker.{Keeps, MakesAtMost};
 ghost use Rattle.lang_model.specs.Blocks.{evaluated_block, cost_of_block};
@@ -18,8 +18,8 @@ use crate::told::{Told, refused};
 use crate::turns::{BlockView, block_turn, commit_turn};
 use crate::value::value_on;
 use lang_model::syntax::{Let, Name};
-use rel_model::engine_trait::Engine;
 use rel_model::{NoMemory, Rel};
+use rel_slices::Remembers;
 use run_model::outcome::Outcome;
 use rv_blocks::reads_of;
 use rv_eval::set;
@@ -27,9 +27,9 @@ use rv_workspace::CommitRefused;
 use std::alloc::Global;
 use std::sync::Wait;
 
-/// The values of a block's assignments, in order: each on the names as they were read and on the values before it. The
-/// first that has no value ends the block.
-fn block_values<E: Engine, W>(
+/// The values of a block's assignments, in order. Each is evaluated over the names as they were read and the values
+/// before it. The first one without a value ends the block.
+fn block_values<E: Remembers, W>(
     task: &Task<'_, E, W>,
     engine: &mut E,
     names: &mut Vec<(Name, Rel)>,
@@ -62,7 +62,7 @@ fn block_values<E: Engine, W>(
     Ok(gifts)
 }
 
-/// What a block is told that is not committed.
+/// The answer to a block that was not committed.
 fn not_committed(alloc: Global, by: By, why: CommitRefused) -> Result<Told, NoMemory>
     ensures { TellsRefusedCommit by.session by.command why result }
 {
@@ -74,9 +74,9 @@ fn not_committed(alloc: Global, by: By, why: CommitRefused) -> Result<Told, NoMe
     }
 }
 
-/// Runs ATOMIC: one read of the names that the block reads, with their versions; the values; and the commit, which
-/// makes all assignments in one turn, or none where a version has changed.
-pub(crate) fn atomic<E: Engine, W: Wait>(
+/// Runs ATOMIC: one read of the names that the block reads, with their versions; then the values; and then the commit,
+/// which makes all assignments in one turn, or none if a version has changed.
+pub(crate) fn atomic<E: Remembers, W: Wait>(
     task: &Task<'_, E, W>,
     seat: &mut Seat<E>,
     lets: &Vec<Let>,
@@ -87,6 +87,7 @@ pub(crate) fn atomic<E: Engine, W: Wait>(
         task.now.by.command (COMMAND (ATOMIC lets.now)) (E.worker seat.old.engine) (E.worker seat.new.engine)
         seat.old.pass seat.new.pass snaps snaps result }
 {
+    // This use makes the checker open the invariant of the pass, which what follows needs.
     let _ = &seat.pass;
     let Ok(reads) = reads_of(task.alloc, lets.as_slice()) else {
         return Err(NoMemory);

@@ -1,6 +1,6 @@
-//! Which command of which session does something.
+//! Which command of which session acts.
 
-/// The numbers of a session and of its command, both from 1.
+/// The numbers of a session and of its command, both from 1. 8 bytes.
 #[derive(Clone, Copy)]
 pub(crate) struct By {
     pub(crate) session: u32,

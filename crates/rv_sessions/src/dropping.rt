@@ -1,4 +1,4 @@
-//! DROP, and the two commands of snapshots.
+//! DROP, and SNAP and AT, the two commands of snapshots.
 ghost use Rattle.std.specs.Prelude.{◌≡◌, ℕ, List, Some, IfOk};
 ghost use Rattle.std.specs.Option.{option_map};
 ghost use Rattle.lang_model.specs.declared.faults.TypeFault.TheVariants.{Unknown as UNKNOWN};
@@ -29,12 +29,13 @@ use lang_model::faults::TypeFault;
 use lang_model::syntax::{Expr, Name, Place};
 use rel_model::NoMemory;
 use rel_model::engine_trait::Engine;
+use rel_slices::Remembers;
 use run_model::outcome::Outcome;
 use rv_workspace::{DropRefused, View};
 use std::alloc::Global;
 use std::sync::Wait;
 
-/// Runs DROP: the removal of a name, or one read where there is no such name.
+/// Runs DROP: removes a name. If there is no such name, the turn is a read.
 pub(crate) fn drop_name<E: Engine, W: Wait>(
     task: &Task<'_, E, W>,
     seat: &mut Seat<E>,
@@ -60,7 +61,7 @@ pub(crate) fn drop_name<E: Engine, W: Wait>(
     }
 }
 
-/// Runs SNAP: one read of all names, which are kept under a name.
+/// Runs SNAP: one read of all names, kept as a snapshot under a name.
 pub(crate) fn snap<E: Engine, W: Wait>(
     task: &Task<'_, E, W>,
     seat: &mut Seat<E>,
@@ -88,8 +89,8 @@ pub(crate) fn snap<E: Engine, W: Wait>(
     }
 }
 
-/// The matrix of a value on kept names.
-fn show_kept<E: Engine, W>(
+/// The matrix of an expression's value over the names of a snapshot.
+fn show_kept<E: Remembers, W>(
     task: &Task<'_, E, W>,
     engine: &mut E,
     view: &View,
@@ -116,7 +117,7 @@ fn show_kept<E: Engine, W>(
     }
 }
 
-/// The refusal of a name that is unknown.
+/// The refusal of a name that is not known.
 fn unknown(alloc: Global, by: By, at: Place, name: &Name) -> Result<Told, NoMemory>
     ensures { TellsRefusal by.session by.command (ILL (UNKNOWN at name.now)) result }
 {
@@ -124,8 +125,8 @@ fn unknown(alloc: Global, by: By, at: Place, name: &Name) -> Result<Told, NoMemo
     refused(alloc, by, Outcome::Ill(TypeFault::Unknown { at, name }))
 }
 
-/// Runs AT: the matrix of a value on a snapshot, without a turn.
-pub(crate) fn show_at<E: Engine, W>(
+/// Runs AT: the matrix of an expression's value over a snapshot. It takes no turn.
+pub(crate) fn show_at<E: Remembers, W>(
     task: &Task<'_, E, W>,
     engine: &mut E,
     snaps: &Snapshots,

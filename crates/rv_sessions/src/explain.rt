@@ -1,4 +1,4 @@
-//! The command that tells how an expression is rewritten.
+//! The command that shows how an expression is rewritten.
 ghost use Rattle.std.specs.Prelude.{◌≡◌};
 ghost use Rattle.rel_model.specs.Worker.{Worker};
 ghost use Rattle.lang_model.specs.declared.syntax.Command.TheVariants.{Explain as EXPLAIN};
@@ -31,7 +31,7 @@ use rv_types::Checked;
 use std::alloc::Global;
 use std::sync::Wait;
 
-/// The text of the steps by which an expression on names is rewritten, or why there is none.
+/// The text of the steps by which an expression is rewritten on these names, or why there are none.
 fn explained_on(
     alloc: Global,
     checked: &Checked,
@@ -63,6 +63,7 @@ pub(crate) fn explained<E: Engine, W: Wait>(
         (COMMAND (EXPLAIN expr.now)) (E.worker seat.old.engine) (E.worker seat.new.engine) seat.old.pass seat.new.pass
         snaps snaps result }
 {
+    // This use makes the checker open the invariant of the pass, which what follows needs.
     let _ = &seat.pass;
     let Ok(wanted) = names_in(task.alloc, expr) else {
         return Err(NoMemory);

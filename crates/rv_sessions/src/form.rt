@@ -1,4 +1,4 @@
-//! In which form a value is wanted.
+//! The form in which a value is wanted.
 ghost use Rattle.std.specs.Prelude.{◌≡◌};
 ghost use Rattle.rel_model.specs.Worker.{Stands, set_of, Keeps, MakesAtMost, MissesNothing};
 ghost use Rattle.rv_sessions.specs.Showing.{IsShown};
@@ -11,7 +11,8 @@ use run_model::outcome::Outcome;
 use rv_print::{PrintRefused, count_line, listing, matrix, shape_text};
 use std::alloc::Global;
 
-/// The forms in which commands want values: those of PRINT, LIST, COUNT and TYPE, and the bytes of a relation file.
+/// The forms in which commands want values: those of PRINT, LIST, COUNT and TYPE, and the bytes of a relation file. 1
+/// byte.
 #[derive(Clone, Copy)]
 pub(crate) enum Form {
     Matrix,
@@ -21,7 +22,7 @@ pub(crate) enum Form {
     File,
 }
 
-/// Why a value is not printed or listed.
+/// The outcome for a value that is not printed or listed.
 fn print_outcome(refused: PrintRefused) -> Outcome
     ensures { result ≡ print_told refused }
 {
@@ -31,7 +32,7 @@ fn print_outcome(refused: PrintRefused) -> Outcome
     }
 }
 
-/// Why a value is not saved.
+/// The outcome for a value that is not saved.
 fn write_outcome(refused: WriteRefused) -> Outcome
     ensures { result ≡ write_told refused }
 {

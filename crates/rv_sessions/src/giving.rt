@@ -1,4 +1,4 @@
-//! The commands that give a name the value of an expression, or a listed relation.
+//! LET and REL, the commands that assign a name the value of an expression or a listed relation.
 ghost use Rattle.std.specs.Prelude.{◌≡◌, ◌≤◌, None};
 ghost use Rattle.rel_model.specs.Relation.{size_limit};
 ghost use Rattle.run_model.specs.Due.{listing_over};
@@ -21,12 +21,13 @@ use crate::value::value_on;
 use lang_model::syntax::{Expr, Name, Place, Row};
 use rel_model::engine_trait::Engine;
 use rel_model::{Lack, NoMemory, Rel, Shape};
+use rel_slices::Remembers;
 use run_model::outcome::Outcome;
 use rv_blocks::names_in;
 use std::sync::Wait;
 
-/// Reads the names of an expression in a turn, and gives its value.
-fn value_in_turn<E: Engine, W: Wait>(
+/// Reads the names of an expression in a turn, and then evaluates it.
+fn value_in_turn<E: Remembers, W: Wait>(
     task: &Task<'_, E, W>,
     seat: &mut Seat<E>,
     expr: &Expr,
@@ -48,8 +49,8 @@ fn value_in_turn<E: Engine, W: Wait>(
     }
 }
 
-/// Runs LET: one read, and the assignment of the value.
-pub(crate) fn let_value<E: Engine, W: Wait>(
+/// Runs LET: one read, then the assignment of the value.
+pub(crate) fn let_value<E: Remembers, W: Wait>(
     task: &Task<'_, E, W>,
     seat: &mut Seat<E>,
     name: &Name,
@@ -75,7 +76,7 @@ pub(crate) fn let_value<E: Engine, W: Wait>(
     }
 }
 
-/// Gives a name the relation that is listed, of which no number passes its limit.
+/// Assigns a name the listed relation. All its numbers are within their limits.
 fn listed_relation<E: Engine, W: Wait>(
     task: &Task<'_, E, W>,
     seat: &mut Seat<E>,
@@ -114,7 +115,7 @@ fn listed_relation<E: Engine, W: Wait>(
     }
 }
 
-/// Runs REL: the assignment of the listed relation, or the first number that passes its limit.
+/// Runs REL: assigns the listed relation, or refuses the first number that is over its limit.
 pub(crate) fn relation<E: Engine, W: Wait>(
     task: &Task<'_, E, W>,
     seat: &mut Seat<E>,

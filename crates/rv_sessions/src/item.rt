@@ -20,11 +20,11 @@ use crate::task::Task;
 use crate::told::Told;
 use lang_model::syntax::{Command, Item};
 use rel_model::NoMemory;
-use rel_model::engine_trait::Engine;
+use rel_slices::Remembers;
 use std::sync::Wait;
 
 /// Runs a command.
-fn run_command<E: Engine, W: Wait>(
+fn run_command<E: Remembers, W: Wait>(
     task: &Task<'_, E, W>,
     seat: &mut Seat<E>,
     snaps: &mut Snapshots,
@@ -62,8 +62,8 @@ fn run_command<E: Engine, W: Wait>(
     }
 }
 
-/// Runs an item: a definition is done at once.
-pub(crate) fn run_item<E: Engine, W: Wait>(
+/// Runs an item. For a definition there is nothing to do: it is done at once.
+pub(crate) fn run_item<E: Remembers, W: Wait>(
     task: &Task<'_, E, W>,
     seat: &mut Seat<E>,
     snaps: &mut Snapshots,

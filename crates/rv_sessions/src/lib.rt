@@ -1,4 +1,4 @@
-//! Sessions: each runs a script against the book of names that all sessions share.
+//! Sessions: each runs a script on the book of names that all sessions share.
 #![tactic(auto)]
 
 mod block;

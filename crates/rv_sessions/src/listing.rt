@@ -1,4 +1,4 @@
-//! Listed relations: the first number that passes its limit, and the relation of the listed pairs.
+//! Listed relations: the first number over its limit, and the relation of the listed pairs.
 ghost use Rattle.std.specs.Prelude.{◌≡◌, ◌==◌, ◌&&◌, ◌+◌, ◌≤◌, length, false, IfOk, OnOk};
 ghost use Rattle.std.specs.List.{list_any};
 ghost use Rattle.rel_model.specs.Relation.{relation_of, size_limit};
@@ -15,7 +15,7 @@ use rel_model::{Lack, Rel, SIZE_LIMIT, Shape};
 use run_model::outcome::Outcome;
 use std::alloc::{AllocError, Global};
 
-/// A number that passes its limit.
+/// A number over its limit.
 fn over(at: Place, wanted: u64, limit: u64) -> Option<Outcome>
     ensures { result ≡ over at wanted limit }
 {
@@ -26,7 +26,7 @@ fn over(at: Place, wanted: u64, limit: u64) -> Option<Outcome>
     }
 }
 
-/// The first column that passes the number of columns.
+/// The first column over the number of columns.
 fn columns_over(cols: u64, list: &[Column]) -> Option<Outcome>
     ensures { result ≡ columns_over cols list.now }
 {
@@ -38,7 +38,7 @@ fn columns_over(cols: u64, list: &[Column]) -> Option<Outcome>
     None
 }
 
-/// The first row that passes the number of rows, or column that passes the number of columns, in the order of the text.
+/// The first row over the number of rows, or column over the number of columns, in the order of the text.
 fn rows_over(rows: u64, cols: u64, list: &[Row]) -> Option<Outcome>
     ensures { result ≡ rows_over rows cols list.now }
 {
@@ -53,7 +53,7 @@ fn rows_over(rows: u64, cols: u64, list: &[Row]) -> Option<Outcome>
     None
 }
 
-/// The first number of a listed relation that passes its limit, in the order of the text.
+/// The first number of a listed relation over its limit, in the order of the text.
 #[tactic(auto, unfolding(run_model::specs::Due::listing_over))]
 pub(crate) fn first_over(
     rows: u64,
@@ -73,7 +73,7 @@ pub(crate) fn first_over(
     rows_over(rows, cols, list)
 }
 
-/// Adds the pair of a listed row and column, where it lies within the sizes.
+/// Appends the pair of a listed row and column, if it lies within the sizes.
 fn push_listed(
     pairs: &mut Vec<(u32, u32)>,
     shape: Shape,
@@ -92,7 +92,7 @@ fn push_listed(
     Ok(())
 }
 
-/// Adds the pairs of a listed row.
+/// Appends the pairs of a listed row.
 fn push_row(pairs: &mut Vec<(u32, u32)>, shape: Shape, row: &Row) -> Result<(), AllocError>
     requires { AreWithin shape.rows shape.cols pairs.old.items }
     ensures within { AreWithin shape.rows shape.cols pairs.new.items }

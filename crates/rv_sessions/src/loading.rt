@@ -30,7 +30,7 @@ use run_model::outcome::{BadFile, Outcome};
 use std::alloc::Global;
 use std::sync::Wait;
 
-/// What was wanting where bytes were not read, if they have no fault.
+/// What ran out, if bytes were not read although they have no fault.
 fn lack_of(kind: BadFile) -> Option<Lack>
     ensures { result ≡ lack_in kind }
 {
@@ -73,7 +73,7 @@ fn not_read(alloc: Global, by: By, file: &FileText, kind: BadFile) -> Result<Tol
     }
 }
 
-/// The relation of a file's bytes, which hold one or, where they begin so, several, of which the one of a name is read.
+/// The relation of a file's bytes. If they begin like a file of several relations, the one with this name is read.
 fn read_one<E: Engine>(
     alloc: Global,
     engine: &mut E,
@@ -107,7 +107,7 @@ fn read_all<E: Engine>(
     read_k2_all(alloc, engine, bytes)
 }
 
-/// Gives a name the relation of a file's bytes.
+/// Assigns a name the relation of a file's bytes.
 fn loaded<E: Engine, W: Wait>(
     task: &Task<'_, E, W>,
     seat: &mut Seat<E>,
@@ -136,7 +136,7 @@ fn loaded<E: Engine, W: Wait>(
     }
 }
 
-/// Gives each name of a file's bytes its relation.
+/// Assigns each name in a file's bytes its relation.
 fn loaded_all<E: Engine, W: Wait>(
     task: &Task<'_, E, W>,
     seat: &mut Seat<E>,
@@ -161,7 +161,7 @@ fn loaded_all<E: Engine, W: Wait>(
     }
 }
 
-/// The refusal of a name of which there is no file.
+/// The refusal of a name for which there is no file.
 fn no_file(alloc: Global, by: By, file: &FileText) -> Result<Told, NoMemory>
     ensures { TellsRefusal by.session by.command (NO_FILE file.now) result }
 {
@@ -169,7 +169,7 @@ fn no_file(alloc: Global, by: By, file: &FileText) -> Result<Told, NoMemory>
     refused(alloc, by, Outcome::NoFile { name })
 }
 
-/// Runs LOAD: the assignment of the relation of the first file of a name.
+/// Runs LOAD: assigns the relation of the first file of a name.
 pub(crate) fn load<E: Engine, W: Wait>(
     task: &Task<'_, E, W>,
     seat: &mut Seat<E>,
@@ -189,7 +189,7 @@ pub(crate) fn load<E: Engine, W: Wait>(
     }
 }
 
-/// Runs LOAD ALL: the assignments of all relations of the first file of a name, in one turn.
+/// Runs LOAD ALL: assigns all relations of the first file of a name, in one turn.
 pub(crate) fn load_all<E: Engine, W: Wait>(
     task: &Task<'_, E, W>,
     seat: &mut Seat<E>,

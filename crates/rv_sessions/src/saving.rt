@@ -25,7 +25,7 @@ use run_model::outcome::Outcome;
 use std::alloc::Global;
 use std::sync::Wait;
 
-/// What is told where a file was not written.
+/// The reply if a file was not written.
 fn not_written(alloc: Global, by: By, why: WriteRefused) -> Result<Told, NoMemory>
     ensures { TellsNotWritten by.session by.command why result }
 {

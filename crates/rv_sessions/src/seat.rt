@@ -3,7 +3,7 @@ use rel_model::engine_trait::Engine;
 use rv_workspace::Book;
 use turn_book::Pass;
 
-/// The seat of a session: its pass to the book of names, and its engine.
+/// The seat of a session: its pass of the book of names, and its engine.
 #[derive(Drop)]
 pub struct Seat<E: Engine> {
     pub pass: Pass<Book<E>>,

@@ -1,4 +1,4 @@
-//! A session from its bytes to its transcript.
+//! Runs a session, from the bytes of its script to its transcript.
 ghost use Rattle.std.specs.Prelude.{◌≡◌, ◌≢◌, ◌≤◌, ◌<◌, ◌+◌, ◌^◌, ◌++◌, ◌∷◌, [], length, vec_len, vec_capacity, IfOk, OnErr};
 ghost use Rattle.rel_model.specs.Worker.{Keeps};
 ghost use Rattle.lang_model.specs.Limits.{script_limit};
@@ -22,7 +22,7 @@ use crate::told::Told;
 use crate::transcript::{Reply, Transcript};
 use lang_model::faults::{ParseFault, TypeFault};
 use rel_model::NoMemory;
-use rel_model::engine_trait::Engine;
+use rel_slices::Remembers;
 use run_model::outcome::Outcome;
 use rv_parse::parse;
 use rv_print::fault_text;
@@ -30,7 +30,7 @@ use rv_types::{Checked, check};
 use std::alloc::Global;
 use std::sync::Wait;
 
-/// Notes what an item came to. It takes no memory.
+/// Notes the answer to an item. Takes no heap memory.
 fn note(by: By, told: Result<Told, NoMemory>, lists: &mut Transcript)
     requires replies { vec_len lists.old.replies < vec_capacity lists.old.replies }
     requires saves { vec_len lists.old.saves < vec_capacity lists.old.saves }
@@ -71,7 +71,7 @@ fn note(by: By, told: Result<Told, NoMemory>, lists: &mut Transcript)
 }
 
 /// Runs all items, one after another.
-fn run_items<E: Engine, W: Wait>(
+fn run_items<E: Remembers, W: Wait>(
     setting: &Setting<'_, E, W>,
     number: u32,
     checked: &Checked,
@@ -107,7 +107,7 @@ fn run_items<E: Engine, W: Wait>(
     }
 }
 
-/// Empty lists with room for so many items.
+/// Empty lists with capacity for this many items.
 fn room_for(alloc: Global, items: usize) -> Result<Transcript, NoMemory>
     ensures { IfOk result (IsBare items) }
 {
@@ -118,7 +118,7 @@ fn room_for(alloc: Global, items: usize) -> Result<Transcript, NoMemory>
     })
 }
 
-/// The transcript of one refusal, with number 0.
+/// The transcript of a single refusal, with number 0.
 fn one_refusal(alloc: Global, number: u32, outcome: Outcome) -> Result<Transcript, NoMemory>
     requires { outcome ≢ Done }
     ensures { IfOk result (TellsOne number outcome) }
@@ -134,7 +134,7 @@ fn one_refusal(alloc: Global, number: u32, outcome: Outcome) -> Result<Transcrip
     Ok(lists)
 }
 
-/// The transcript of bytes that do not run. Want of memory is no refusal of theirs.
+/// The transcript of bytes that do not run. If memory ran out, that is the error, and not a refusal of the bytes.
 fn not_run(alloc: Global, number: u32, outcome: Outcome) -> Result<Transcript, NoMemory>
     requires { outcome ≢ Done }
     ensures { IfOk result (λ t. TellsOne number outcome t × (outcome ≢ NO_MEMORY)) }
@@ -147,8 +147,9 @@ fn not_run(alloc: Global, number: u32, outcome: Outcome) -> Result<Transcript, N
 
 /// Runs a script without a flaw.
 ///
-/// More items than a command's number can count would want more memory than there is: so that is the answer.
-fn run_checked<E: Engine, W: Wait>(
+/// If there are more items than a command's number can count, it answers that memory ran out: there is never memory for
+/// that many.
+fn run_checked<E: Remembers, W: Wait>(
     setting: &Setting<'_, E, W>,
     number: u32,
     checked: &Checked,
@@ -171,7 +172,7 @@ fn run_checked<E: Engine, W: Wait>(
     Ok(lists)
 }
 
-/// The script that bytes spell, if it has no flaw: else the outcome that tells why it does not run.
+/// The script that the bytes spell, if it has no flaw; otherwise the outcome that reports why it does not run.
 fn read_script(alloc: Global, bytes: &[u8]) -> Result<Checked, Outcome>
     requires { length bytes.now ≤ script_limit }
     ensures { IsRead bytes.now result }
@@ -185,7 +186,7 @@ fn read_script(alloc: Global, bytes: &[u8]) -> Result<Checked, Outcome>
     }
 }
 
-/// What a fault of bytes is told as.
+/// The outcome that reports a fault of the bytes.
 fn told_fault(fault: ParseFault) -> Outcome
     ensures { TellsFault fault result }
 {
@@ -195,7 +196,7 @@ fn told_fault(fault: ParseFault) -> Outcome
     }
 }
 
-/// What a flaw of a script is told as.
+/// The outcome that reports a flaw of a script.
 fn told_flaw(flaw: TypeFault) -> Outcome
     ensures { TellsFlaw flaw result }
 {
@@ -205,12 +206,13 @@ fn told_flaw(flaw: TypeFault) -> Outcome
     }
 }
 
-/// Runs the script of a session against the book of names, each read, assignment and removal in a turn of its own.
+/// Runs the script of a session against the book of names. Each read, assignment and removal takes a turn of its own.
 ///
-/// Bytes that are no script, or a script with a flaw, are told as the one outcome, with number 0, and nothing of it
-/// runs. Else each item has its outcome, and a refused command is followed by the next. The memory of the lists is
-/// taken before the first item; where it is wanting, nothing ran.
-pub fn run<E: Engine, W: Wait>(
+/// If the bytes are not a script, or the script has a flaw, nothing of it runs, and the only outcome, with number 0,
+/// reports this. Otherwise each item has its outcome, and the items after a refused command still run. The memory for
+/// the lists is allocated before the first item; the only error is that memory ran out before that, and then nothing
+/// ran.
+pub fn run<E: Remembers, W: Wait>(
     setting: &Setting<'_, E, W>,
     number: u32,
     script: &[u8],

@@ -5,8 +5,8 @@ use rv_workspace::Book;
 use std::alloc::Global;
 use turn_book::TurnBook;
 
-/// What the sessions of a batch share: memory, the relation files, the turns that the loops of an expression may take,
-/// the book of names, and by what they wait for it.
+/// What the sessions of a batch share: the allocator, the relation files, how many turns the loops of an expression may
+/// take, the book of names, and how they wait for it.
 pub struct Setting<'a, E: Engine, W> {
     pub alloc: Global,
     pub files: &'a [Loaded],

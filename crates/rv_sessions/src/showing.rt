@@ -19,14 +19,14 @@ use crate::turns::read_turn;
 use crate::value::shown_on;
 use lang_model::syntax::{Expr, FileText};
 use rel_model::NoMemory;
-use rel_model::engine_trait::Engine;
+use rel_slices::Remembers;
 use run_model::files::Save;
 use run_model::outcome::Outcome;
 use rv_blocks::names_in;
 use std::sync::Wait;
 
-/// Reads the names of an expression in a turn, and gives the bytes of its value in a form.
-fn shown_in_turn<E: Engine, W: Wait>(
+/// Reads the names of an expression in a turn, and then gives the bytes of its value in this form.
+fn shown_in_turn<E: Remembers, W: Wait>(
     task: &Task<'_, E, W>,
     seat: &mut Seat<E>,
     form: Form,
@@ -47,8 +47,8 @@ fn shown_in_turn<E: Engine, W: Wait>(
     }
 }
 
-/// Runs PRINT, LIST, COUNT or TYPE: one read, and the value in its form.
-pub(crate) fn show<E: Engine, W: Wait>(
+/// Runs PRINT, LIST, COUNT or TYPE: one read, then the value in its form.
+pub(crate) fn show<E: Remembers, W: Wait>(
     task: &Task<'_, E, W>,
     seat: &mut Seat<E>,
     form: Form,
@@ -75,8 +75,8 @@ pub(crate) fn show<E: Engine, W: Wait>(
     }
 }
 
-/// Runs SAVE: one read, and the bytes of the value's file.
-pub(crate) fn save<E: Engine, W: Wait>(
+/// Runs SAVE: one read, then the bytes of the value's file.
+pub(crate) fn save<E: Remembers, W: Wait>(
     task: &Task<'_, E, W>,
     seat: &mut Seat<E>,
     expr: &Expr,

@@ -1,4 +1,4 @@
-//! The snapshots of a session: names with the relations that all names had when they were kept.
+//! The snapshots of a session: names with the relations that all names had when the snapshot was taken.
 ghost use Rattle.std.specs.Prelude.{◌≡◌, [], IfOk, OnOk, OnErr};
 ghost use Rattle.std.specs.Option.{option_map};
 ghost use Rattle.run_model.specs.Names.{lookup, set};
@@ -10,7 +10,7 @@ use std::alloc::Global;
 use std::collections::BTreeMap;
 use std::marker::Model;
 
-/// Snapshots by their names, each found in logarithmic time.
+/// Snapshots by name, each found in logarithmic time. On the heap.
 #[derive(Drop)]
 pub(crate) struct Snapshots {
     map: BTreeMap<Name, View>,
@@ -26,7 +26,7 @@ impl Model for Snapshots {
 }
 
 impl Snapshots {
-    /// No snapshots.
+    /// No snapshot.
     pub(crate) fn new(alloc: Global) -> Snapshots
         ensures { result ≡ [] }
     {
@@ -35,7 +35,7 @@ impl Snapshots {
         }
     }
 
-    /// Keeps a snapshot, in place of an earlier one of its name.
+    /// Keeps a snapshot; it replaces an earlier one of its name.
     pub(crate) fn keep(&mut self, name: Name, view: View) -> Result<(), NoMemory>
         ensures value { OnOk result (self.new ≡ set name view.names.items self.old) }
         ensures err { OnErr result (self.new ≡ self.old) }
@@ -46,7 +46,7 @@ impl Snapshots {
         }
     }
 
-    /// The snapshot of a name.
+    /// The snapshot of a name, if there is one.
     pub(crate) fn get(&self, name: &Name) -> Option<&View>
         ensures { option_map (λ v. v.now.names.items) result ≡ lookup self.now name.now }
     {

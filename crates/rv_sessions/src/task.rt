@@ -1,4 +1,4 @@
-//! What a command needs, whichever it is.
+//! What every command needs.
 use crate::by::By;
 use rel_model::engine_trait::Engine;
 use run_model::files::Loaded;
@@ -7,7 +7,7 @@ use rv_workspace::Book;
 use std::alloc::Global;
 use turn_book::TurnBook;
 
-/// The task of a command: its numbers, the script that it stands in, and what its session shares with the others.
+/// The task of a command: its numbers, the script that it belongs to, and what its session shares with the others.
 pub(crate) struct Task<'a, E: Engine, W> {
     pub(crate) alloc: Global,
     pub(crate) by: By,

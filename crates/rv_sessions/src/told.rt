@@ -1,4 +1,4 @@
-//! What an item came to.
+//! The result of an item.
 ghost use Rattle.std.specs.Prelude.{◌≢◌, ◌≡◌, None};
 ghost use Rattle.run_model.specs.declared.outcome.Outcome.TheVariants.{Done};
 ghost use Rattle.rv_sessions.specs.declared.transcript.Reply.TheVariants.{Nothing};
@@ -12,7 +12,7 @@ use run_model::outcome::Outcome;
 use rv_print::fault_text;
 use std::alloc::Global;
 
-/// The outcome of an item, the reply to it, and the file that it saves.
+/// The outcome of an item, the reply to it, and the file that it saves. Their texts are on the heap.
 #[derive(Drop)]
 pub(crate) struct Told {
     pub(crate) outcome: Outcome,
@@ -33,7 +33,7 @@ impl Told {
     }
 }
 
-/// A refusal, and the reply that tells it. Want of memory is no reply.
+/// A refusal, and the reply that reports it. If memory ran out, before or for the reply, that is the error.
 pub(crate) fn refused(alloc: Global, by: By, outcome: Outcome) -> Result<Told, NoMemory>
     requires { outcome ≢ Done }
     ensures { TellsRefusal by.session by.command outcome result }

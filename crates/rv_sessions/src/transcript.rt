@@ -1,10 +1,10 @@
-//! What a session tells.
+//! What a session answers.
 use run_model::files::Save;
 use run_model::outcome::Outcome;
 
-/// The reply to a command, behind the numbers of its session and its own.
+/// The reply to a command, with the numbers of its session and of itself. Its text is on the heap.
 pub enum Reply {
-    /// None: the command is done, and shows nothing.
+    /// No reply: the command is done, and shows nothing.
     Nothing,
     /// A text of its own.
     Told {
@@ -12,7 +12,7 @@ pub enum Reply {
         command: u32,
         body: Vec<u8>,
     },
-    /// That memory ran out, for which no memory is taken.
+    /// A report that memory ran out, which takes no memory.
     NoMemory {
         session: u32,
         command: u32,
@@ -36,8 +36,8 @@ impl Drop for Reply {
     }
 }
 
-/// What came of a session: of each item its outcome and its reply, and the files to be put, in order. A script that
-/// does not run has one outcome and one reply, with number 0.
+/// The results of a session: for each item its outcome and its reply, and the files to be put, in order. A script that
+/// does not run has one outcome and one reply, with number 0. On the heap.
 #[derive(Drop)]
 pub struct Transcript {
     pub replies: Vec<Reply>,

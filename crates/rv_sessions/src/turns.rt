@@ -15,7 +15,7 @@ use rv_workspace::{Book, CommitRefused, DropRefused, View};
 use std::alloc::Global;
 use std::sync::Wait;
 
-/// Reads the wanted names, or all.
+/// Reads the wanted names, or all of them.
 pub(crate) fn read_turn<E: Engine, W: Wait>(
     task: &Task<'_, E, W>,
     seat: &mut Seat<E>,
@@ -38,7 +38,7 @@ pub(crate) fn read_turn<E: Engine, W: Wait>(
     view
 }
 
-/// Gives a name its relation.
+/// Assigns a name its relation.
 pub(crate) fn assign_turn<E: Engine, W: Wait>(
     task: &Task<'_, E, W>,
     seat: &mut Seat<E>,
@@ -64,7 +64,7 @@ pub(crate) fn assign_turn<E: Engine, W: Wait>(
     assigned
 }
 
-/// Gives each name of a list its relation.
+/// Assigns each name of a list its relation.
 pub(crate) fn assign_all_turn<E: Engine, W: Wait>(
     task: &Task<'_, E, W>,
     seat: &mut Seat<E>,
@@ -88,7 +88,7 @@ pub(crate) fn assign_all_turn<E: Engine, W: Wait>(
     assigned
 }
 
-/// Takes a name away. The worker learns what the names had.
+/// Removes a name. The worker learns the relations of names.
 pub(crate) fn drop_turn<E: Engine, W: Wait>(
     task: &Task<'_, E, W>,
     seat: &mut Seat<E>,
@@ -106,14 +106,14 @@ pub(crate) fn drop_turn<E: Engine, W: Wait>(
     dropped
 }
 
-/// What a block read: its names with their relations, and the version of each name that it reads.
+/// What a block read: its names with their relations, and the version of each name that it reads. On the heap.
 #[derive(Drop)]
 pub(crate) struct BlockView {
     pub(crate) names: Vec<(Name, Rel)>,
     pub(crate) versions: Vec<(Name, u64)>,
 }
 
-/// The names with their versions.
+/// Names with their versions.
 fn with_versions<E: Engine>(
     alloc: Global,
     book: &Book<E>,
@@ -159,7 +159,7 @@ pub(crate) fn block_turn<E: Engine, W: Wait>(
     }
 }
 
-/// Makes the assignments of a block, where no name that it read has another version.
+/// Makes the assignments of a block, if no name that it read has another version.
 pub(crate) fn commit_turn<E: Engine, W: Wait>(
     task: &Task<'_, E, W>,
     seat: &mut Seat<E>,

@@ -11,11 +11,11 @@ use crate::form::{Form, shown};
 use crate::task::Task;
 use lang_model::syntax::{Expr, Name};
 use rel_model::Rel;
-use rel_model::engine_trait::Engine;
+use rel_slices::Remembers;
 use run_model::outcome::Outcome;
 use rv_eval::{Refused, eval};
 
-/// A refusal as an outcome.
+/// Turns a refusal into the outcome that reports it.
 pub(crate) fn outcome_of(refused: Refused) -> Outcome
     ensures { result ≡ outcome_told refused }
 {
@@ -28,8 +28,8 @@ pub(crate) fn outcome_of(refused: Refused) -> Outcome
     }
 }
 
-/// The value of an expression on names, or why it has none.
-pub(crate) fn value_on<E: Engine, W>(
+/// The value of an expression over these names, or why it has none.
+pub(crate) fn value_on<E: Remembers, W>(
     task: &Task<'_, E, W>,
     engine: &mut E,
     names: &[(Name, Rel)],
@@ -49,8 +49,8 @@ pub(crate) fn value_on<E: Engine, W>(
     }
 }
 
-/// The bytes of an expression's value in a form, or why there are none.
-pub(crate) fn shown_on<E: Engine, W>(
+/// The bytes of an expression's value in this form, or why there are none.
+pub(crate) fn shown_on<E: Remembers, W>(
     task: &Task<'_, E, W>,
     engine: &mut E,
     names: &[(Name, Rel)],

@@ -1,4 +1,4 @@
-//! What `parse`, `check` and `eval` answer to a script as a text, and what the slow evaluator says of it.
+//! What `parse`, `check` and `eval` answer to a script given as text, and what the slow evaluator answers.
 ghost use Rattle.std.specs.Prelude.{◌≡◌, ◌++◌, [], ◌∷◌};
 ghost use Rattle.rel_model.specs.Worker.{Stands, Keeps};
 ghost use Rattle.rv_eval.specs.Names.{AllStand};
@@ -12,14 +12,14 @@ use crate::texts::{
 };
 use lang_model::syntax::{Command, Expr, Item, Name, Row, Script};
 use rel_model::Rel;
-use rel_model::engine_trait::Engine;
+use rel_slices::Remembers;
 use rv_eval::eval;
 use rv_parse::parse;
 use rv_types::{Checked, check};
 use std::alloc::Global;
 use std::process::Abort;
 
-/// What a command shows of the value of its expression.
+/// What a command shows of its expression's value.
 #[derive(Clone, Copy)]
 enum View {
     Pairs,
@@ -27,7 +27,7 @@ enum View {
     Sizes,
 }
 
-/// The script of a text and that it is checked, or the fault.
+/// The script that a text spells, checked; or the fault, as text.
 pub(crate) fn checked_of(rt: &impl Abort, alloc: Global, text: &[u8]) -> Result<Checked, String> {
     if text.len() > 1_048_576 {
         panic!(rt; "too long");
@@ -41,7 +41,7 @@ pub(crate) fn checked_of(rt: &impl Abort, alloc: Global, text: &[u8]) -> Result<
     }
 }
 
-/// The listed pairs of a REL, or the first number that passes its size.
+/// The pairs that a REL lists, or the fault of the first number over its size, as text.
 fn listed(
     rt: &impl Abort,
     alloc: Global,
@@ -70,7 +70,7 @@ fn listed(
     Ok(found)
 }
 
-/// The text of a view of a list.
+/// The text of a list of pairs, in this view.
 fn list_text(rt: &impl Abort, alloc: Global, view: View, list: &Listed) -> String {
     match view {
         View::Pairs => pairs_text(rt, alloc, list),
@@ -79,8 +79,14 @@ fn list_text(rt: &impl Abort, alloc: Global, view: View, list: &Listed) -> Strin
     }
 }
 
-/// The text of a view of a relation.
-fn rel_text<E: Engine>(rt: &impl Abort, alloc: Global, engine: &mut E, view: View, r: Rel) -> String
+/// The text of a relation, in this view.
+fn rel_text<E: Remembers>(
+    rt: &impl Abort,
+    alloc: Global,
+    engine: &mut E,
+    view: View,
+    r: Rel,
+) -> String
     requires { Stands (E.worker engine.old) r }
     ensures { Keeps (E.worker engine.old) (E.worker engine.new) }
 {
@@ -97,7 +103,7 @@ fn rel_text<E: Engine>(rt: &impl Abort, alloc: Global, engine: &mut E, view: Vie
     }
 }
 
-/// The view and the expression of a command that shows one.
+/// The view and the expression of a command that shows a value.
 fn shown(command: &Command) -> Option<(View, &Expr)> {
     match command {
         Command::Print { value } => Some((View::Pairs, value)),
@@ -108,7 +114,7 @@ fn shown(command: &Command) -> Option<(View, &Expr)> {
     }
 }
 
-/// Puts a name with its relation behind the others.
+/// Appends a name and its relation.
 fn push(rt: &impl Abort, alloc: Global, names: &mut Vec<(Name, Rel)>, name: &Name, rel: Rel)
     ensures { names.new.items ≡ names.old.items ++ (name.now, rel) ∷ [] }
 {
@@ -120,8 +126,8 @@ fn push(rt: &impl Abort, alloc: Global, names: &mut Vec<(Name, Rel)>, name: &Nam
     }
 }
 
-/// The same of a relation that stands, behind others that stand.
-pub(crate) fn put<E: Engine>(
+/// The same for a relation that stands, after others that stand.
+pub(crate) fn put<E: Remembers>(
     rt: &impl Abort,
     alloc: Global,
     engine: &E,
@@ -136,9 +142,9 @@ pub(crate) fn put<E: Engine>(
     push(rt, alloc, names, name, rel)
 }
 
-/// Gives a name a listed relation; the answer where a number passes its size.
+/// Assigns a name a listed relation. Answers only if a number is over its size.
 #[tactic(auto, using(crate::proofs::Standing::names_kept))]
-fn step_relation<E: Engine>(
+fn step_relation<E: Remembers>(
     rt: &impl Abort,
     alloc: Global,
     engine: &mut E,
@@ -159,9 +165,9 @@ fn step_relation<E: Engine>(
     }
 }
 
-/// Gives a name the value of an expression; the answer where it is refused.
+/// Assigns a name the value of an expression. Answers only if it is refused.
 #[tactic(auto, using(crate::proofs::Standing::names_kept))]
-fn step_let<E: Engine>(
+fn step_let<E: Remembers>(
     rt: &impl Abort,
     alloc: Global,
     engine: &mut E,
@@ -183,8 +189,8 @@ fn step_let<E: Engine>(
     }
 }
 
-/// What a command shows of the value of an expression, or why it is refused.
-fn step_shown<E: Engine>(
+/// What a command shows of an expression's value, or why it is refused.
+fn step_shown<E: Remembers>(
     rt: &impl Abort,
     alloc: Global,
     engine: &mut E,
@@ -203,9 +209,9 @@ fn step_shown<E: Engine>(
     }
 }
 
-/// What an engine answers to a command, where it answers anything.
+/// What an engine answers to a command, if anything.
 #[tactic(auto, using(crate::proofs::Standing::names_kept))]
-fn step<E: Engine>(
+fn step<E: Remembers>(
     rt: &impl Abort,
     alloc: Global,
     engine: &mut E,
@@ -241,7 +247,7 @@ fn step<E: Engine>(
     }
 }
 
-/// Puts an answer behind others, parted by ` / `.
+/// Appends an answer to the others, separated by ` / `.
 fn put_answer(rt: &impl Abort, text: &mut String, answer: Option<String>) {
     if let Some(answer) = answer {
         if !text.as_str().is_empty() {
@@ -253,7 +259,7 @@ fn put_answer(rt: &impl Abort, text: &mut String, answer: Option<String>) {
 
 /// What an engine answers to the commands of a script.
 #[tactic(auto, using(crate::proofs::Standing::no_names))]
-pub(crate) fn answers<E: Engine>(
+pub(crate) fn answers<E: Remembers>(
     rt: &impl Abort,
     alloc: Global,
     engine: &mut E,
@@ -272,7 +278,7 @@ pub(crate) fn answers<E: Engine>(
 }
 
 /// What `parse`, `check` or an engine answers to a text.
-pub(crate) fn answer<E: Engine>(
+pub(crate) fn answer<E: Remembers>(
     rt: &impl Abort,
     alloc: Global,
     engine: &mut E,
@@ -285,7 +291,7 @@ pub(crate) fn answer<E: Engine>(
     }
 }
 
-/// Gives a name a list; what the slow evaluator says where it has none.
+/// Assigns a name a list of pairs, or gives the slow evaluator's refusal.
 fn slow_set(
     rt: &impl Abort,
     alloc: Global,
@@ -317,7 +323,7 @@ fn slow_value(
     }
 }
 
-/// What the slow evaluator shows of the value of an expression, or why it is refused.
+/// What the slow evaluator shows of an expression's value, or why it is refused.
 fn slow_shown(rt: &impl Abort, alloc: Global, view: View, given: Result<Listed, String>) -> String {
     match given {
         Ok(list) => list_text(rt, alloc, view, &list),
@@ -325,7 +331,7 @@ fn slow_shown(rt: &impl Abort, alloc: Global, view: View, given: Result<Listed, 
     }
 }
 
-/// What the slow evaluator says of a command, where it says anything.
+/// What the slow evaluator answers to a command, if anything.
 fn slow_step(
     rt: &impl Abort,
     alloc: Global,
@@ -359,7 +365,7 @@ fn slow_step(
     }
 }
 
-/// What the slow evaluator says of the commands of a script.
+/// What the slow evaluator answers to the commands of a script.
 pub(crate) fn slow_answers(
     rt: &impl Abort,
     alloc: Global,

@@ -3,7 +3,7 @@ use crate::listed::{Listed, none_of, put};
 use std::alloc::Global;
 use std::process::Abort;
 
-/// Which pairs are in the result of an operation on two relations, or on the first alone.
+/// Which pairs are in the result of an operation on two relations, or on the first one alone.
 #[derive(Clone, Copy)]
 pub(crate) enum Formula {
     Nothing,
@@ -37,15 +37,15 @@ pub(crate) enum Formula {
     Supremum,
     Infimum,
     Class,
-    /// The first factor of a product whose second has so many elements.
+    /// The projection to the first factor of a product whose second factor has this many elements.
     Factor(u32),
-    /// The second factor, of so many elements.
+    /// The projection to the second factor, which has this many elements.
     OtherFactor(u32),
-    /// The second summand behind so many elements of the first.
+    /// The injection of the second summand, after a first one with this many elements.
     Behind(u32),
 }
 
-/// Whether the pair (i, j) is in.
+/// Whether the formula holds of the pair (i, j).
 fn is_in(formula: Formula, r: &Listed, s: &Listed, i: u32, j: u32) -> bool {
     match formula {
         Formula::Nothing => false,
@@ -109,23 +109,23 @@ fn is_ordered(formula: Formula, r: &Listed, s: &Listed, i: u32, j: u32) -> bool 
     }
 }
 
-/// Whether a pair of two elements is in.
+/// Whether i and j are a pair of two distinct elements.
 fn is_step(r: &Listed, i: u32, j: u32) -> bool {
     i != j && r.has(i, j)
 }
 
-/// Whether an element is over all elements of a column.
+/// Whether an element is above all elements of a column.
 fn is_upper(r: &Listed, s: &Listed, i: u32, j: u32) -> bool {
     (0..s.rows).all(|k| !s.has(k, j) || r.has(k, i))
 }
 
-/// Whether an element is under all elements of a column.
+/// Whether an element is below all elements of a column.
 fn is_lower(r: &Listed, s: &Listed, i: u32, j: u32) -> bool {
     (0..s.rows).all(|k| !s.has(k, j) || r.has(i, k))
 }
 
-/// Whether a walk of at least one step leads from one element to another: as many rounds as there are elements, each
-/// over all pairs. It counts to 64 elements.
+/// Whether a walk of at least one step leads from i to j. It makes as many rounds as there are elements, each over all
+/// pairs, and works for up to 64 elements.
 fn is_reached(r: &Listed, i: u32, j: u32) -> bool {
     let mut reached: u64 = 0;
     'rounds: for _ in 0..r.rows {
@@ -138,7 +138,7 @@ fn is_reached(r: &Listed, i: u32, j: u32) -> bool {
     (reached >> j.min(63)) % 2 == 1
 }
 
-/// The relation of these sizes with the pairs of a formula.
+/// The relation of these sizes with the pairs of which a formula holds.
 pub(crate) fn filled(
     rt: &impl Abort,
     alloc: Global,

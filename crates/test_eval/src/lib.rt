@@ -1,4 +1,5 @@
-//! Tests of the evaluator over a node table: beside a slow evaluator over lists of pairs, and each refusal.
+//! Tests of the evaluator over a node table: compared with a slow evaluator on lists of pairs, and each of its
+//! refusals.
 #![tactic(auto)]
 
 #[cfg(test)]
@@ -17,6 +18,8 @@ mod operators;
 mod scripts;
 #[cfg(test)]
 mod slow;
+#[cfg(test)]
+mod subsets;
 #[cfg(test)]
 mod table;
 #[cfg(test)]

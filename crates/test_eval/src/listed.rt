@@ -2,18 +2,47 @@
 use std::alloc::Global;
 use std::process::Abort;
 
-/// A relation by its sizes and its pairs, counted from 0.
+/// A relation as a list of pairs, counted from 0, with its sizes, and whether the pairs are sorted by row and then
+/// column. On the heap.
 #[derive(Drop)]
 pub(crate) struct Listed {
     pub(crate) rows: u32,
     pub(crate) cols: u32,
     pub(crate) pairs: Vec<(u32, u32)>,
+    is_sorted: bool,
+}
+
+/// Whether one pair comes before another.
+fn is_before(one: (u32, u32), other: (u32, u32)) -> bool {
+    one.0 < other.0 || one.0 == other.0 && one.1 < other.1
+}
+
+/// Whether a pair is among sorted ones, fewer than 2^40 of them, by binary search.
+fn is_found(pairs: &[(u32, u32)], pair: (u32, u32)) -> bool {
+    let mut low: usize = 0;
+    let mut high = pairs.len();
+    'halves: for _ in 0..40u32 {
+        if high <= low {
+            return false;
+        }
+        let middle = low.wrapping_add(high) / 2;
+        match pairs.get(middle) {
+            Some(here) if is_before(*here, pair) => low = middle.wrapping_add(1),
+            Some(here) if is_before(pair, *here) => high = middle,
+            _ => return true,
+        }
+    }
+    false
 }
 
 impl Listed {
-    /// Whether a pair is in.
+    /// Whether the relation has a pair.
     pub(crate) fn has(&self, i: u32, j: u32) -> bool {
-        self.pairs.contains(&(i, j))
+        if self.is_sorted {
+            is_found(self.pairs.as_slice(), (i, j))
+        } else {
+            self.pairs.contains(&(i, j))
+        }
     }
 
     /// Whether an element is in a vector.
@@ -31,7 +60,7 @@ impl Listed {
         self.pairs.iter().any(|pair| pair.1 == j)
     }
 
-    /// How many elements of a vector come before one.
+    /// How many elements of a vector are below a given one.
     pub(crate) fn elements_before(&self, i: u32) -> u32 {
         let mut count: u32 = 0;
         'elements: for (x, _) in self.pairs.as_slice() {
@@ -47,7 +76,7 @@ impl Listed {
         (0..self.rows).all(|k| self.has(k, i) == self.has(k, j))
     }
 
-    /// How many classes of elements with the same columns have their least element before one.
+    /// For how many classes of elements with the same columns the least element is below a given one.
     pub(crate) fn classes_before(&self, i: u32) -> u32 {
         let mut count: u32 = 0;
         'elements: for x in 0..i {
@@ -58,7 +87,7 @@ impl Listed {
         count
     }
 
-    /// The number of an element's class, by its least element.
+    /// The number of an element's class; classes are ordered by their least elements.
     pub(crate) fn class_of(&self, i: u32) -> u32 {
         'elements: for x in 0..i {
             if self.has_same_columns(x, i) {
@@ -80,7 +109,7 @@ impl Listed {
         true
     }
 
-    /// Whether each of its pairs is in another.
+    /// Whether each pair is also in another relation.
     pub(crate) fn is_within(&self, other: &Listed) -> bool {
         'pairs: for (i, j) in self.pairs.as_slice() {
             if !other.has(*i, *j) {
@@ -97,23 +126,28 @@ pub(crate) fn none_of(alloc: Global, rows: u32, cols: u32) -> Listed {
         rows,
         cols,
         pairs: Vec::new(alloc),
+        is_sorted: true,
     }
 }
 
-/// Puts a pair behind the others.
+/// Appends a pair.
 pub(crate) fn put(rt: &impl Abort, list: &mut Listed, i: u32, j: u32) {
+    if let Some(last) = list.pairs.as_slice().last() {
+        list.is_sorted = list.is_sorted && is_before(*last, (i, j));
+    }
     if list.pairs.push((i, j)).is_err() {
         panic!(rt; "no memory");
     }
 }
 
-/// The same relation once more.
+/// A copy of a relation.
 pub(crate) fn copy(rt: &impl Abort, alloc: Global, list: &Listed) -> Listed {
     match Vec::from_slice(alloc, list.pairs.as_slice()) {
         Ok(pairs) => Listed {
             rows: list.rows,
             cols: list.cols,
             pairs,
+            is_sorted: list.is_sorted,
         },
         Err(_) => panic!(rt; "no memory"),
     }

@@ -1,4 +1,4 @@
-//! What the tests are given: tables, and relations of listed pairs.
+//! What the tests work on: tables, and relations of listed pairs.
 ghost use Rattle.std.specs.Prelude.{◌≤◌, IsTrue, IfOk};
 ghost use Rattle.rel_model.specs.Listed.{AreWithin};
 ghost use Rattle.rel_model.specs.Views.{IsOf};
@@ -6,12 +6,12 @@ ghost use Rattle.rel_model.specs.Worker.{Stands, Keeps};
 
 use crate::listed::{Listed, none_of, put};
 use pair_table::{PairTable, Seat};
-use rel_model::engine_trait::Engine;
 use rel_model::{Lack, Rel, Shape};
+use rel_slices::Remembers;
 use std::alloc::Global;
 use std::process::Abort;
 
-/// A table of 2^BITS node words, and its first seat.
+/// A table of `2^bits` node words, and its first seat.
 pub(crate) fn table(rt: &impl Abort, alloc: Global, bits: u32) -> (PairTable, Seat)
     requires low { 10 ≤ bits }
     requires high { bits ≤ 24 }
@@ -35,8 +35,8 @@ fn lie_within(pairs: &[(u32, u32)], shape: Shape) -> bool
     true
 }
 
-/// The relation of a list, where there is room for it.
-pub(crate) fn offered<E: Engine>(
+/// The relation of a list, if there is room for it.
+pub(crate) fn offered<E: Remembers>(
     rt: &impl Abort,
     alloc: Global,
     engine: &mut E,
@@ -55,8 +55,13 @@ pub(crate) fn offered<E: Engine>(
     engine.from_pairs(alloc, shape, pairs)
 }
 
-/// The relation of a list.
-pub(crate) fn told<E: Engine>(rt: &impl Abort, alloc: Global, engine: &mut E, list: &Listed) -> Rel
+/// The relation of a list. It ends the test if there is no room.
+pub(crate) fn told<E: Remembers>(
+    rt: &impl Abort,
+    alloc: Global,
+    engine: &mut E,
+    list: &Listed,
+) -> Rel
     ensures standing { Stands (E.worker engine.new) result }
     ensures keeps { Keeps (E.worker engine.old) (E.worker engine.new) }
 {
@@ -66,8 +71,13 @@ pub(crate) fn told<E: Engine>(rt: &impl Abort, alloc: Global, engine: &mut E, li
     }
 }
 
-/// The pairs of a relation, as a walk over it meets them.
-pub(crate) fn pairs_of<E: Engine>(rt: &impl Abort, alloc: Global, engine: &mut E, r: Rel) -> Listed
+/// The pairs of a relation, in the order of a walk over it.
+pub(crate) fn pairs_of<E: Remembers>(
+    rt: &impl Abort,
+    alloc: Global,
+    engine: &mut E,
+    r: Rel,
+) -> Listed
     requires { Stands (E.worker engine.old) r }
     ensures { Keeps (E.worker engine.old) (E.worker engine.new) }
 {

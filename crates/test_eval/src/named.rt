@@ -1,18 +1,18 @@
-//! Names with their values.
+//! Names bound to values.
 ghost use Rattle.std.specs.Prelude.{◌<◌, length, IfSome};
 
 use crate::listed::Listed;
 use std::alloc::Global;
 use std::process::Abort;
 
-/// A name with its value.
+/// A name and its value. On the heap.
 #[derive(Drop)]
 pub(crate) struct Named {
     name: Vec<u8>,
     value: Listed,
 }
 
-/// Where a name stands.
+/// The index of a name.
 fn place_of(names: &[Named], name: &[u8]) -> Option<usize>
     ensures { IfSome result (λ place. place < length names.now) }
 {
@@ -24,7 +24,7 @@ fn place_of(names: &[Named], name: &[u8]) -> Option<usize>
     None
 }
 
-/// Gives a name its value.
+/// Binds a name to a value.
 pub(crate) fn set(
     rt: &impl Abort,
     alloc: Global,

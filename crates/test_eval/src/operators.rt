@@ -1,4 +1,4 @@
-//! Operators, base calls and domains on lists of pairs, each with its tests of sizes in front.
+//! Operators, base calls and domain operators on lists of pairs, each with its tests of sizes first.
 use crate::formulas::{Formula, filled};
 use crate::listed::{Listed, none_of};
 use lang_model::faults::{StaticShape, TypeFault};
@@ -29,7 +29,7 @@ pub(crate) fn type_of(r: &Listed) -> StaticShape {
     }
 }
 
-/// Two operands that do not fit.
+/// The refusal of two operands that do not fit.
 fn mismatch(
     rt: &impl Abort,
     alloc: Global,
@@ -46,7 +46,7 @@ fn mismatch(
     })
 }
 
-/// A size that is within the limit.
+/// A size that is known to be within the limit.
 fn size(rt: &impl Abort, wanted: u64) -> u32 {
     match u32::try_from(wanted) {
         Ok(size) => size,
@@ -54,7 +54,7 @@ fn size(rt: &impl Abort, wanted: u64) -> u32 {
     }
 }
 
-/// A size over the limit.
+/// The refusal of a size over the limit.
 fn too_large(at: Place, wanted: u64) -> Refused {
     Refused::Size {
         at,
@@ -63,17 +63,17 @@ fn too_large(at: Place, wanted: u64) -> Refused {
     }
 }
 
-/// The complement.
+/// `-R = {(i, j) : not (i, j) in r}`: the complement.
 pub(crate) fn complement(rt: &impl Abort, alloc: Global, r: &Listed) -> Listed {
     filled(rt, alloc, r.rows, r.cols, Formula::Complement, r, r)
 }
 
-/// The transposition.
+/// `R^ = {(j, i) : (i, j) in r}`: the transposition.
 pub(crate) fn transposed(rt: &impl Abort, alloc: Global, r: &Listed) -> Listed {
     filled(rt, alloc, r.cols, r.rows, Formula::Transpose, r, r)
 }
 
-/// An operator between two relations.
+/// An operator on two relations.
 pub(crate) fn link(
     rt: &impl Abort,
     alloc: Global,
@@ -97,7 +97,7 @@ pub(crate) fn link(
     }
 }
 
-/// `[R,S]`.
+/// `[R,S] = {(i, j * n + k) : (i, j) in r and (i, k) in s}`: the pairing, where n is the number of columns of S.
 pub(crate) fn pair(
     rt: &impl Abort,
     alloc: Global,
@@ -115,12 +115,12 @@ pub(crate) fn pair(
     Ok(filled(rt, alloc, r.rows, size(rt, cols), Formula::Paired, r, s))
 }
 
-/// How many subsets so many elements have; the number ends at 2^64 - 1.
+/// How many subsets there are of `count` elements, or 2^64 - 1 if there are more.
 fn subsets(count: u32) -> u64 {
     if count < 64 { 1 << count } else { u64::MAX }
 }
 
-/// An operand that is not square.
+/// The refusal of an operand that must be square and is not.
 fn not_square(rt: &impl Abort, alloc: Global, at: Place, base: Base, r: &Listed) -> Refused {
     Refused::Ill(TypeFault::NotSquare {
         at,
@@ -129,7 +129,7 @@ fn not_square(rt: &impl Abort, alloc: Global, at: Place, base: Base, r: &Listed)
     })
 }
 
-/// The test of the operand of a base call.
+/// Tests the operand of a base call.
 fn tested(
     rt: &impl Abort,
     alloc: Global,
@@ -152,7 +152,7 @@ fn tested(
     }
 }
 
-/// The relation of one row and one column, full for yes.
+/// A truth value: a relation with one row and one column, full for yes.
 fn truth(rt: &impl Abort, alloc: Global, yes: bool, r: &Listed) -> Listed {
     let formula = if yes { Formula::All } else { Formula::Nothing };
     filled(rt, alloc, 1, 1, formula, r, r)
@@ -196,7 +196,7 @@ fn base_of_one(
     Ok(filled(rt, alloc, rows, cols, formula, r, r))
 }
 
-/// A base call of bounds and of extremes: the first operand is square, and the second has as many rows.
+/// A base call for bounds or extremes. The first operand must be square, and the second must have as many rows.
 fn bounded(
     rt: &impl Abort,
     alloc: Global,
@@ -267,7 +267,7 @@ pub(crate) fn base_call(
     }
 }
 
-/// A domain operator of domains of x and of y elements.
+/// A domain operator, for domains of x and y elements.
 pub(crate) fn domain_call(
     rt: &impl Abort,
     alloc: Global,

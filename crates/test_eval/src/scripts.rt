@@ -1,18 +1,18 @@
-//! Scripts as texts: relations by chance, and definitions with loops by chance.
+//! Random scripts as text: random relations, and random definitions with loops.
 ghost use Rattle.std.specs.Prelude.{◌<◌};
 
 use crate::table::append;
 use std::alloc::Global;
 use std::process::Abort;
 
-/// Pseudo-random numbers.
+/// A sequence of pseudo-random numbers. 8 bytes.
 #[derive(Clone, Copy)]
 pub(crate) struct Draws {
     state: u64,
 }
 
 impl Draws {
-    /// The numbers of a seed.
+    /// The sequence of a seed.
     pub(crate) fn of(seed: u64) -> Draws {
         Draws { state: seed }
     }
@@ -30,7 +30,7 @@ impl Draws {
     }
 }
 
-/// Puts a number in decimal behind a text.
+/// Appends a number in decimal.
 pub(crate) fn append_number(rt: &impl Abort, alloc: Global, text: &mut Vec<u8>, number: u32) {
     match format!(in alloc; "{number}") {
         Ok(digits) => append(rt, text, digits.as_bytes()),
@@ -38,7 +38,7 @@ pub(crate) fn append_number(rt: &impl Abort, alloc: Global, text: &mut Vec<u8>, 
     }
 }
 
-/// The columns of a row by chance, about one in so many.
+/// Random columns for a row: each of the columns with probability 1 / `one_in`.
 fn columns(rt: &impl Abort, alloc: Global, draws: &mut Draws, cols: u32, one_in: u32) -> Vec<u8>
     requires { 0 < one_in }
 {
@@ -54,7 +54,7 @@ fn columns(rt: &impl Abort, alloc: Global, draws: &mut Draws, cols: u32, one_in:
     text
 }
 
-/// Puts a REL command behind a text, in which about one pair in so many is listed.
+/// Appends a REL command that lists each pair with probability 1 / `one_in`.
 pub(crate) fn append_relation(
     rt: &impl Abort,
     alloc: Global,
@@ -88,13 +88,13 @@ pub(crate) fn append_relation(
     append(rt, text, b"}. ");
 }
 
-/// How many expressions hold of square relations of one size alone, and how many more hold in the program of a script.
+/// How many of the expressions may stand anywhere, and how many there are with those for the script's program only.
 const PLAIN: u32 = 38;
 
 const ALL: u32 = 44;
 
-/// An expression over square relations X and Y of one size, which is of that size too. Those from `PLAIN` on have the
-/// function F and the domains C and D of the program.
+/// An expression over square relations X and Y of one size, of that size too. From number `PLAIN` on, they use the
+/// function F and the program's domains C and D.
 fn square(kind: u32) -> &'static [u8] {
     match kind {
         0 => b"(X|Y)",
@@ -158,7 +158,7 @@ fn truth(kind: u32) -> &'static [u8] {
     }
 }
 
-/// Puts a form behind a text, with these in place of its X and Y.
+/// Appends a form, with these texts in place of its X and Y.
 fn append_form(rt: &impl Abort, text: &mut Vec<u8>, form: &[u8], x: &[u8], y: &[u8]) {
     'bytes: for byte in form {
         match *byte {
@@ -169,7 +169,7 @@ fn append_form(rt: &impl Abort, text: &mut Vec<u8>, form: &[u8], x: &[u8], y: &[
     }
 }
 
-/// One of the names, each of one letter; there are 2, 3 or 4.
+/// A random one of 2, 3 or 4 names of one letter each.
 fn letter(rt: &impl Abort, draws: &mut Draws, names: &[u8]) -> u8 {
     let place = draws.below(12) as usize % names.len().max(1);
     match names.get(place) {
@@ -178,7 +178,7 @@ fn letter(rt: &impl Abort, draws: &mut Draws, names: &[u8]) -> u8 {
     }
 }
 
-/// An expression by chance over names of square relations: a few forms in one another.
+/// A random expression over names of square relations: a few forms, nested.
 fn expression(
     rt: &impl Abort,
     alloc: Global,
@@ -200,7 +200,7 @@ fn expression(
     all
 }
 
-/// Puts an expression by chance behind a text.
+/// Appends a random expression.
 fn append_square(
     rt: &impl Abort,
     alloc: Global,
@@ -213,7 +213,7 @@ fn append_square(
     append(rt, text, all.as_slice());
 }
 
-/// Puts a test by chance behind a text.
+/// Appends a random test.
 fn append_test(
     rt: &impl Abort,
     alloc: Global,
@@ -227,7 +227,7 @@ fn append_test(
     append_form(rt, text, form, x.as_slice(), y.as_slice());
 }
 
-/// Puts the program G behind a text: assignments, a loop in which a choice stands, and a loop behind it.
+/// Appends the program G: assignments, a loop that contains an IF, and a second loop.
 fn append_program(rt: &impl Abort, alloc: Global, text: &mut Vec<u8>, draws: &mut Draws) {
     append(
         rt,
@@ -256,7 +256,8 @@ fn append_program(rt: &impl Abort, alloc: Global, text: &mut Vec<u8>, draws: &mu
     append(rt, text, b" END. ");
 }
 
-/// A script of a seed: a function, a program with loops, two relations of so many elements, and what is made of them.
+/// The script of a seed: a function, a program with loops, two relations on this many elements, and what is computed
+/// from them.
 pub(crate) fn script(rt: &impl Abort, alloc: Global, seed: u64, elements: u32) -> Vec<u8> {
     let mut draws = Draws::of(seed);
     let mut text = Vec::new(alloc);

@@ -1,7 +1,7 @@
-//! The slow evaluator: the meaning of expressions, statements and calls on lists of pairs.
+//! The slow evaluator: the meaning of expressions, statements and calls, on lists of pairs.
 //!
-//! Each function has so many steps in one another to take, one less than its caller, and ends the test where none is
-//! left.
+//! Each function takes a number of steps, one less than its caller's, which limits how deep calls nest. It ends the
+//! test if none is left.
 ghost use Rattle.std.specs.Prelude.{◌≡◌, ◌+◌};
 
 use crate::listed::{Listed, copy};
@@ -15,7 +15,7 @@ use rv_eval::Refused;
 use std::alloc::Global;
 use std::process::Abort;
 
-/// What a name has no meaning for.
+/// The refusal of a name that has no meaning where it is used.
 fn unknown(rt: &impl Abort, alloc: Global, at: Place, name: &[u8]) -> Refused {
     Refused::Ill(TypeFault::Unknown {
         at,
@@ -38,7 +38,7 @@ fn definition<'a>(items: &'a [Item], name: &[u8]) -> Option<&'a Item> {
     None
 }
 
-/// The rows of the two operands of a domain.
+/// How many elements the two operands of a declared domain have.
 fn factors(rt: &impl Abort, decls: &[Decl], names: &[Named], domain: &[u8]) -> (u32, u32) {
     'decls: for decl in decls {
         if let Decl::Domain {
@@ -59,7 +59,7 @@ fn factors(rt: &impl Abort, decls: &[Decl], names: &[Named], domain: &[u8]) -> (
     panic!(rt; "no domain")
 }
 
-/// One step less.
+/// One step less, or the end of the test if there is none.
 fn less(rt: &impl Abort, steps: u32) -> u32
     ensures { result + 1 ≡ steps }
 {
@@ -148,7 +148,7 @@ fn value_of_name(
     }
 }
 
-/// The value of a call with its arguments.
+/// The value of a call, given its arguments.
 #[cycle(slow)]
 fn value_of_call<R: Abort>(
     rt: &R,
@@ -166,7 +166,7 @@ fn value_of_call<R: Abort>(
     called(rt, alloc, items, name, values.as_slice(), turns, left)
 }
 
-/// The value of a base call with its arguments.
+/// The value of a base call, given its arguments.
 #[cycle(slow)]
 fn value_of_base<R: Abort>(
     rt: &R,
@@ -185,7 +185,7 @@ fn value_of_base<R: Abort>(
     base_call(rt, alloc, at, base, values.as_slice())
 }
 
-/// The value of a pair in brackets.
+/// The value of a pairing.
 #[cycle(slow)]
 fn value_of_pair<R: Abort>(
     rt: &R,
@@ -222,7 +222,7 @@ fn complement_of<R: Abort>(
     Ok(complement(rt, alloc, &r))
 }
 
-/// An expression that is transposed so many times.
+/// The value of an expression transposed `times` times.
 #[cycle(slow)]
 fn turned<R: Abort>(
     rt: &R,
@@ -243,7 +243,7 @@ fn turned<R: Abort>(
     Ok(r)
 }
 
-/// The value of a chain of operators, from the left.
+/// The value of a chain of operators, evaluated from the left.
 #[cycle(slow)]
 fn value_of_chain<R: Abort>(
     rt: &R,
@@ -265,7 +265,7 @@ fn value_of_chain<R: Abort>(
     Ok(r)
 }
 
-/// The values of arguments, from the left.
+/// The values of arguments, evaluated from the left.
 #[cycle(slow)]
 fn values_of<R: Abort>(
     rt: &R,
@@ -288,7 +288,7 @@ fn values_of<R: Abort>(
     Ok(values)
 }
 
-/// Parameters with their values.
+/// Binds parameters to their values.
 fn bound(rt: &impl Abort, alloc: Global, params: &[Name], values: &[Listed]) -> Vec<Named> {
     let mut names = Vec::new(alloc);
     'params: for i in 0..params.len() {
@@ -338,7 +338,7 @@ fn called<R: Abort>(
     }
 }
 
-/// The result of a program behind its statements.
+/// The result of a program, after its statements.
 #[cycle(slow)]
 fn came_to<R: Abort>(
     rt: &R,
@@ -458,7 +458,7 @@ fn run_set<R: Abort>(
     Ok(())
 }
 
-/// Runs a loop, which has fewer than 1000 turns in tests.
+/// Runs a loop. In the tests no loop takes 1000 turns.
 #[cycle(slow)]
 fn run_while<R: Abort>(
     rt: &R,
@@ -496,7 +496,7 @@ fn run_while<R: Abort>(
     panic!(rt; "too many turns")
 }
 
-/// Runs the first of two parts where a test holds, and else the second.
+/// Runs the first of two parts if a test holds, and otherwise the second.
 #[cycle(slow)]
 fn run_if<R: Abort>(
     rt: &R,
@@ -545,7 +545,7 @@ fn run_all<R: Abort>(
     Ok(())
 }
 
-/// The value of an expression of a command, with so many turns.
+/// The value of a command's expression, with this many turns.
 pub(crate) fn evaluated<R: Abort>(
     rt: &R,
     alloc: Global,

@@ -1,4 +1,4 @@
-//! Tables of cases as texts: a case a line.
+//! Tables of cases as text, one case per line.
 ghost use Rattle.std.specs.Prelude.{◌<◌, length, IfSome};
 
 use crate::answer::{answer, answers, checked_of, slow_answers};
@@ -6,16 +6,16 @@ use crate::made::table as new_table;
 use crate::texts::{add, made};
 use fork_quads::{Crew, OpenGate};
 use rel_engine::Works;
-use rel_model::engine_trait::Engine;
+use rel_slices::Remembers;
 use rv_types::Checked;
 use std::alloc::Global;
 use std::process::Abort;
 use std::thread::Threads;
 
-/// What parts a script and its answer.
+/// What separates a script from its answer.
 const ARROW: &[u8] = b" => ";
 
-/// Where the arrow of a line begins.
+/// The index at which the arrow of a line begins.
 fn arrow(line: &[u8]) -> Option<usize>
     ensures { IfSome result (λ place. place < length line.now) }
 {
@@ -27,7 +27,7 @@ fn arrow(line: &[u8]) -> Option<usize>
     None
 }
 
-/// Puts bytes behind others.
+/// Appends bytes.
 pub(crate) fn append(rt: &impl Abort, bytes: &mut Vec<u8>, more: &[u8]) {
     if bytes.extend_from_slice(more).is_err() {
         panic!(rt; "no memory");
@@ -51,8 +51,8 @@ pub(crate) fn lines(rt: &impl Abort, alloc: Global, table: &str) -> Vec<Vec<u8>>
     found
 }
 
-/// What a line is answered, where that is something else than it says.
-fn other_answer<E: Engine>(
+/// The answer to the script of a line, if it is not the one on the line.
+fn other_answer<E: Remembers>(
     rt: &impl Abort,
     alloc: Global,
     engine: &mut E,
@@ -70,7 +70,7 @@ fn other_answer<E: Engine>(
     }
 }
 
-/// Notes an answer that differs, with the number of its case.
+/// Notes a wrong answer, with the number of its case.
 pub(crate) fn note(
     rt: &impl Abort,
     alloc: Global,
@@ -82,8 +82,8 @@ pub(crate) fn note(
     add(rt, wrong, text.as_str());
 }
 
-/// The lines of a table that are answered otherwise than they say, each by its number and what it is answered.
-pub(crate) fn wrong_lines<E: Engine>(
+/// The lines of a table with a wrong answer, each with its number and that answer.
+pub(crate) fn wrong_lines<E: Remembers>(
     rt: &impl Abort,
     alloc: Global,
     engine: &mut E,
@@ -107,7 +107,7 @@ pub(crate) fn assert_none(rt: &impl Abort, wrong: &str) {
     assert!(rt; wrong.is_empty(), "{wrong}");
 }
 
-/// Asserts that over a new table the lines of a table of cases are answered as they say.
+/// Asserts that an engine over a new table answers each line of a table of cases as it says.
 pub(crate) fn assert_lines<R: Threads + Abort + Sync>(
     rt: &R,
     alloc: Global,
@@ -121,8 +121,8 @@ pub(crate) fn assert_lines<R: Threads + Abort + Sync>(
     assert_none(rt, wrong.as_str());
 }
 
-/// What an engine answers to a checked script, where that is something else than the slow evaluator says.
-fn differing_answers<E: Engine>(
+/// An engine's answer to a checked script, if the slow evaluator's is different.
+fn differing_answers<E: Remembers>(
     rt: &impl Abort,
     alloc: Global,
     engine: &mut E,
@@ -139,8 +139,8 @@ fn differing_answers<E: Engine>(
     }
 }
 
-/// What an engine answers to a script, where that is something else than the slow evaluator says.
-pub(crate) fn differing<E: Engine>(
+/// An engine's answer to a script, if the slow evaluator's is different.
+pub(crate) fn differing<E: Remembers>(
     rt: &impl Abort,
     alloc: Global,
     engine: &mut E,

@@ -1,4 +1,4 @@
-//! Values, refusals and faults as lines of text.
+//! Values, refusals and faults, as lines of text.
 use crate::listed::Listed;
 use lang_model::faults::{ParseFault, StaticShape, TypeFault, What};
 use lang_model::syntax::{Name, Place};
@@ -14,7 +14,7 @@ fn name_text<'a>(rt: &impl Abort, name: &'a Name) -> &'a str {
     }
 }
 
-/// A text that was made, where memory was there.
+/// A text that was made; the test ends if memory ran out.
 pub(crate) fn made<X>(rt: &impl Abort, text: Result<String, X>) -> String {
     match text {
         Ok(text) => text,
@@ -22,14 +22,14 @@ pub(crate) fn made<X>(rt: &impl Abort, text: Result<String, X>) -> String {
     }
 }
 
-/// Puts a text behind another.
+/// Appends a text.
 pub(crate) fn add(rt: &impl Abort, text: &mut String, more: &str) {
     if text.push_str(more).is_err() {
         panic!(rt; "no memory");
     }
 }
 
-/// The sizes and the pairs of a relation, counted from 1.
+/// The sizes and the pairs of a relation; pairs are counted from 1.
 pub(crate) fn pairs_text(rt: &impl Abort, alloc: Global, list: &Listed) -> String {
     let mut text = made(rt, format!(in alloc; "{}x{}", list.rows, list.cols));
     'pairs: for (i, j) in list.pairs.as_slice() {
@@ -52,7 +52,7 @@ pub(crate) fn count_text(
     made(rt, format!(in alloc; "{rows}x{cols} #{count}"))
 }
 
-/// A size, or `?` where it is unknown.
+/// A size, or `?` if it is unknown.
 fn size_text(rt: &impl Abort, alloc: Global, size: Option<u32>) -> String {
     match size {
         Some(size) => made(rt, format!(in alloc; "{size}")),
@@ -60,7 +60,7 @@ fn size_text(rt: &impl Abort, alloc: Global, size: Option<u32>) -> String {
     }
 }
 
-/// A type.
+/// A type, as text.
 fn shape_text(rt: &impl Abort, alloc: Global, shape: StaticShape) -> String {
     let mut text = size_text(rt, alloc, shape.rows);
     let cols = size_text(rt, alloc, shape.cols);
@@ -69,7 +69,7 @@ fn shape_text(rt: &impl Abort, alloc: Global, shape: StaticShape) -> String {
     text
 }
 
-/// A kind of faults, a name and a place.
+/// The kind of a fault, with a name and a place.
 fn named(rt: &impl Abort, alloc: Global, kind: &str, name: &Name, at: Place) -> String {
     let name = name_text(rt, name);
     made(
@@ -78,7 +78,7 @@ fn named(rt: &impl Abort, alloc: Global, kind: &str, name: &Name, at: Place) -> 
     )
 }
 
-/// The same with a type behind.
+/// The same, followed by a type.
 fn with_shape(rt: &impl Abort, alloc: Global, text: String, shape: StaticShape) -> String {
     let mut text = text;
     let more = shape_text(rt, alloc, shape);
@@ -87,12 +87,12 @@ fn with_shape(rt: &impl Abort, alloc: Global, text: String, shape: StaticShape) 
     text
 }
 
-/// A kind of faults and a place.
+/// The kind of a fault, with a place.
 fn placed(rt: &impl Abort, alloc: Global, kind: &str, at: Place) -> String {
     made(rt, format!(in alloc; "{kind} {}:{}", at.line, at.column))
 }
 
-/// A kind of faults, an operator, a place and a type.
+/// The kind of a fault, with an operator, a place and a type.
 fn shaped(
     rt: &impl Abort,
     alloc: Global,
@@ -105,7 +105,7 @@ fn shaped(
     with_shape(rt, alloc, text, shape)
 }
 
-/// A definition that is called with another number of arguments.
+/// The fault of a call with the wrong number of arguments.
 fn arity_text(
     rt: &impl Abort,
     alloc: Global,
@@ -120,7 +120,7 @@ fn arity_text(
     text
 }
 
-/// A fault of a script or an expression.
+/// A fault of a script or an expression, as text.
 pub(crate) fn fault_text(rt: &impl Abort, alloc: Global, fault: &TypeFault) -> String {
     match fault {
         TypeFault::Unknown { at, name } => named(rt, alloc, "Unknown", name, *at),
@@ -156,7 +156,7 @@ pub(crate) fn fault_text(rt: &impl Abort, alloc: Global, fault: &TypeFault) -> S
     }
 }
 
-/// A refusal of an evaluation.
+/// A refusal of an evaluation, as text.
 pub(crate) fn refusal_text(rt: &impl Abort, alloc: Global, refused: &Refused) -> String {
     match refused {
         Refused::Ill(fault) => fault_text(rt, alloc, fault),
@@ -172,7 +172,7 @@ pub(crate) fn refusal_text(rt: &impl Abort, alloc: Global, refused: &Refused) ->
     }
 }
 
-/// A size over its limit.
+/// The refusal of a number over its size, as text.
 pub(crate) fn size_fault(
     rt: &impl Abort,
     alloc: Global,
@@ -186,7 +186,7 @@ pub(crate) fn size_fault(
     text
 }
 
-/// What the grammar needs at a place.
+/// What the grammar requires at a place.
 fn what_text(rt: &impl Abort, alloc: Global, what: &What) -> String {
     let text = match what {
         What::Item => "an item",
@@ -200,7 +200,7 @@ fn what_text(rt: &impl Abort, alloc: Global, what: &What) -> String {
     made(rt, format!(in alloc; "Expected {text}"))
 }
 
-/// A fault of bytes that are no script.
+/// A fault of bytes that are not a script, as text.
 pub(crate) fn parse_text(rt: &impl Abort, alloc: Global, fault: &ParseFault) -> String {
     match fault {
         ParseFault::Byte { at, byte } => {

@@ -1,4 +1,4 @@
-//! Atomic blocks: rows worked out by hand, and many sessions at once, whose history is gone through event by event.
+//! Atomic blocks: rows worked out by hand, and many concurrent sessions whose history is checked event by event.
 use crate::made::{Options, comes_to, run_at_once};
 use fork_quads::OpenGate;
 use run_model::event::{Act, Event};
@@ -8,7 +8,8 @@ use std::sync::Wait;
 use std::test::Fail;
 use std::thread::Threads;
 
-/// Turns and the logarithm of the table's node words; a script, the letters of its outcomes, and its page.
+/// The number of turns, and the binary logarithm of the number of node words; a script, the letters of its outcomes,
+/// and its page.
 const ROWS: &[(u64, u32, &str, &str, &str)] = &[
     (
         7,
@@ -90,7 +91,8 @@ fn blocks_come_to_their_pages(rt: HostRuntime) -> Result<(), Fail> {
     Ok(())
 }
 
-/// What is known of a session's block: its number, the versions of the two names at its read, and whether it is over.
+/// What is known of a session's block: its number, the versions of the two names when it was read, and whether it is
+/// finished.
 #[derive(Clone, Copy)]
 struct Block {
     command: u32,
@@ -98,8 +100,8 @@ struct Block {
     over: bool,
 }
 
-/// What a history has come to: how often X and Y were assigned, the blocks of the sessions, the session that has
-/// assigned X in a block and not yet Y, and how many blocks were committed and refused.
+/// The state after a part of a history: how often X and Y were assigned, the blocks of the sessions, the session that
+/// has assigned X in a block but not yet Y, and how many blocks were committed and refused.
 #[derive(Drop)]
 struct Folded {
     versions: (u64, u64),
@@ -109,7 +111,7 @@ struct Folded {
     refused: u64,
 }
 
-/// Nothing yet.
+/// The state at the beginning.
 fn nothing() -> Folded {
     Folded {
         versions: (0, 0),
@@ -124,12 +126,12 @@ fn nothing() -> Folded {
     }
 }
 
-/// Whether a block that read these versions is refused at others. Blocks of odd sessions read Y alone.
+/// Whether a block that read these versions must be refused at others. Blocks of odd sessions read only Y.
 fn is_changed(session: u32, seen: (u64, u64), found: (u64, u64)) -> bool {
     seen.1 != found.1 || (session % 2 == 0 && seen.0 != found.0)
 }
 
-/// A read: the first of a block, or its second where it is refused.
+/// A read: the first of a block, or its second if it is refused.
 fn fold_read(rt: &impl Abort, folded: &mut Folded, session: u32, command: u32) {
     let place = session as usize;
     assert!(rt; place < 9);
@@ -181,7 +183,7 @@ fn fold_assign(rt: &impl Abort, folded: &mut Folded, session: u32, command: u32,
     };
 }
 
-/// One event: behind the first assignment of a block nothing comes but its second.
+/// One event: after the first assignment of a block, only its second may come.
 fn fold(rt: &impl Abort, folded: &mut Folded, event: &Event) {
     let half = folded.half;
     folded.half = None;
@@ -212,7 +214,7 @@ fn script_of(alloc: Global, block: &str) -> Result<Vec<u8>, Fail> {
     Ok(out)
 }
 
-/// Eight sessions of fifty blocks each over two names: those with odd numbers read Y alone, the others X and Y.
+/// Eight sessions of fifty blocks each over two names: those with odd numbers read only Y, the others X and Y.
 fn eight_scripts(alloc: Global) -> Result<Vec<Vec<u8>>, Fail> {
     let mut scripts = Vec::new(alloc);
     'pairs: for _ in 0..4 {
@@ -224,7 +226,7 @@ fn eight_scripts(alloc: Global) -> Result<Vec<Vec<u8>>, Fail> {
     Ok(scripts)
 }
 
-/// How many of these outcomes have the letter.
+/// How many of these outcomes have this letter.
 fn count_of(outcomes: &[u8], letter: u8) -> u64 {
     let mut count: u64 = 0;
     'outcomes: for outcome in outcomes {
@@ -235,8 +237,9 @@ fn count_of(outcomes: &[u8], letter: u8) -> u64 {
     count
 }
 
-/// Runs eight sessions at once, and asserts that no event stands within a commit, that each block is refused exactly
-/// where a name that it read was assigned since, and that as many were committed and refused as the outcomes tell.
+/// Runs eight sessions concurrently, and asserts that no event comes within a commit, that a block is refused if and
+/// only if a name that it read was assigned since, and that the numbers of committed and refused blocks are those in
+/// the outcomes.
 fn eight_commit<R: Threads + Wait + Abort + Sync>(
     rt: &R,
     alloc: Global,
@@ -267,7 +270,7 @@ fn eight_sessions_commit_fifty_blocks_each(rt: HostRuntime) -> Result<(), Fail> 
     eight_commit(&rt, rt.alloc(), 2)
 }
 
-/// The blocks of one session over a counter: what is left of a vector, of which each commit takes an element away.
+/// The blocks of one session over a counter: what remains of a vector from which each commit removes an element.
 fn counting(alloc: Global, first: &str, last: &str) -> Result<Vec<u8>, Fail> {
     let mut out = Vec::from_slice(alloc, first.as_bytes())?;
     'times: for _ in 0..50 {
@@ -277,7 +280,7 @@ fn counting(alloc: Global, first: &str, last: &str) -> Result<Vec<u8>, Fail> {
     Ok(out)
 }
 
-/// A lone session is never refused at a commit: a counter of 60 elements is at 10 behind fifty blocks.
+/// A lone session is never refused at a commit: a counter of 60 elements is at 10 after fifty blocks.
 #[test]
 fn a_lone_session_commits_all_its_blocks(rt: HostRuntime) -> Result<(), Fail> {
     let alloc = rt.alloc();

@@ -13,7 +13,7 @@ const OPTIONS: Options = Options {
     workers: 1,
 };
 
-/// As many turns as are wanted, and a table of 1,022 node words.
+/// As many turns as needed, and a table of 1,022 node words.
 const SMALL: Options = Options {
     turns: 1_000_000,
     nodes: 10,
@@ -123,16 +123,16 @@ fn commands_are_done_or_refused_and_the_next_one_follows(rt: HostRuntime) -> Res
     Ok(())
 }
 
-/// What stands in a script before the commands whose expressions are refused: line 1.
+/// The part of a script before the commands whose expressions are refused: line 1.
 const BEFORE: &str =
     "W(C) DECL x BEG x = C; WHILE C DO x = -x OD RETURN x END. REL A 3 2 {1:1; 3:2}. REL B 3 3 {1:2}. REL T 1 1 {1:1}. REL V 25 1 {}. SNAP t.\n";
 
-/// What happened before these commands.
+/// The history before these commands.
 const HAPPENED: &str =
     "1.2 assign A 3 x 2\n1.3 assign B 3 x 3\n1.4 assign T 1 x 1\n1.5 assign V 25 x 1\n1.6 read\n";
 
-/// Expressions that are refused, each with the column where, the text, and the letter of the outcome. Where there is no
-/// column, the place is that of the loop in line 1.
+/// Expressions that are refused, each with its column, the text, and the letter of the outcome. Without a column, the
+/// place is that of the loop in line 1.
 const REFUSED: &[(&str, Option<u64>, &str, &str)] = &[
     ("Z", Some(1), "unknown name Z", "i"),
     ("A*B|Z", Some(5), "unknown name Z", "i"),
@@ -163,7 +163,7 @@ const REFUSED: &[(&str, Option<u64>, &str, &str)] = &[
     ("W(T)", None, "more than 7 turns", "t"),
 ];
 
-/// The place of a refusal: a column behind the beginning of a command in a line, or that of the loop in line 1.
+/// The place of a refusal: a column after the beginning of a command in a line, or that of the loop in line 1.
 fn place_of(
     alloc: Global,
     line: usize,
@@ -179,7 +179,7 @@ fn place_of(
     }
 }
 
-/// A script, and what it is to come to: the letters of its outcomes, its replies and its history.
+/// A script and its expected result: the letters of its outcomes, its replies and its history.
 #[derive(Drop)]
 struct Wanted {
     script: String,
@@ -198,7 +198,7 @@ fn before_all(alloc: Global) -> Result<Wanted, AllocError> {
     })
 }
 
-/// Adds a command whose expression is refused: the i-th of all.
+/// Appends a command whose expression is refused: the i-th of all.
 fn add_refused(
     alloc: Global,
     wanted: &mut Wanted,
@@ -219,13 +219,13 @@ fn add_refused(
     wanted.outcomes.push_str(letter)
 }
 
-/// Adds that a command read.
+/// Appends that a command read.
 fn add_read(alloc: Global, history: &mut String, command: usize) -> Result<(), AllocError> {
     let line = format!(in alloc; "1.{command} read\n")?;
     history.push_str(line.as_str())
 }
 
-/// Adds the last command, which is done.
+/// Appends the last command, which is done.
 fn add_last(wanted: &mut Wanted) -> Result<(), AllocError> {
     wanted.script.push_str("LIST T.")?;
     wanted.outcomes.push_str(".")?;
@@ -234,7 +234,7 @@ fn add_last(wanted: &mut Wanted) -> Result<(), AllocError> {
     wanted.replies.push_str(wanted.history.as_str())
 }
 
-/// The script with each kind of expression in one command, which reads where it says so.
+/// The script with each kind of expression in one command, which reads if it says so.
 fn all_refused(
     alloc: Global,
     before: &str,
@@ -252,8 +252,8 @@ fn all_refused(
     Ok(wanted)
 }
 
-/// Asserts the refusal of each kind of expression by one command, which reads where it says so. They stand in lines of
-/// their own, one after another, and a last command is done.
+/// Asserts the refusal of each kind of expression by one command, which reads if it says so. The commands are on lines
+/// of their own, and a last command is done.
 fn refuses_expressions<R: Threads + Wait + Abort + Sync>(
     rt: &R,
     alloc: Global,
@@ -274,7 +274,7 @@ fn refuses_expressions<R: Threads + Wait + Abort + Sync>(
     )
 }
 
-/// A loop that has one element after another, of a vector of 1,100, and commands that make relations behind it.
+/// A loop that takes the elements of a vector of 1,100 one after another, and commands after it that make relations.
 const STEPS: &str =
     "N(V) DECL p BEG p = init(V); WHILE -empty(p) DO p = next(p) OD RETURN p END. REL V 1100 1 {}. REL A 2 2 {1:2}. SNAP t.\n";
 
@@ -284,7 +284,7 @@ const CORNERS: &[u8] = &[
     129,
 ];
 
-/// The page of a full table, where the command that was refused read or not.
+/// The page for a full table, depending on whether the refused command has read.
 fn full_page(alloc: Global, reads: bool) -> Result<String, AllocError> {
     let read = if reads { "1.5 read\n" } else { "" };
     format!(in alloc;
@@ -292,8 +292,8 @@ fn full_page(alloc: Global, reads: bool) -> Result<String, AllocError> {
     )
 }
 
-/// Asserts that a command whose expression wants more nodes than the table has is refused, and so are REL and LOAD of
-/// further relations behind it, while plain names are still shown.
+/// Asserts that a command whose expression needs more nodes than the table has is refused, and so are REL and LOAD of
+/// further relations after it, while plain names are still shown.
 fn refuses_in_a_full_table<R: Threads + Wait + Abort + Sync>(
     rt: &R,
     alloc: Global,
@@ -317,7 +317,7 @@ fn refuses_in_a_full_table<R: Threads + Wait + Abort + Sync>(
     )
 }
 
-/// What stands before and behind an expression in each command, and whether the command reads.
+/// The text before and after an expression in each command, and whether the command reads.
 const COMMANDS: &[(&str, &str, bool)] = &[
     ("LET C = ", ".", true),
     ("PRINT ", ".", true),

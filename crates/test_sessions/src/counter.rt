@@ -1,5 +1,5 @@
-//! A counter that eight sessions raise by atomic blocks. Each block that is told that the counter has changed since it
-//! was read is tried again, until all are done, and the counter is as high as commits were made.
+//! A counter that eight sessions increment by atomic blocks. Each block that is refused, because the counter has
+//! changed since it was read, is tried again until all are done; then the counter equals the number of commits.
 use crate::held::{Holding, Rule};
 use crate::made::{Came, Options, run_at_once};
 use run_model::event::{Act, Event};
@@ -15,16 +15,16 @@ const OPTIONS: Options = Options {
     workers: 1,
 };
 
-/// How many sessions raise the counter.
+/// How many sessions increment the counter.
 const SESSIONS: u32 = 8;
 
-/// How often each.
+/// How often each of them does.
 const TIMES: u32 = 50;
 
-/// One more row: the counter is how many rows X has, and T has one.
+/// One more row: the counter is the number of rows of X, and T has one row.
 const RAISED: &[u8] = b"Raised(X,T) DECL D = SUM(X,T) BEG RETURN On1(i-1(D)^) END.\n";
 
-/// The script of a session that raises the counter so many times.
+/// The script of a session that increments the counter a number of times.
 fn raising(alloc: Global, times: u32) -> Result<Vec<u8>, AllocError> {
     let mut script = Vec::from_slice(alloc, RAISED)?;
     'times: for _ in 0..times {
@@ -33,7 +33,7 @@ fn raising(alloc: Global, times: u32) -> Result<Vec<u8>, AllocError> {
     Ok(script)
 }
 
-/// The script of the session that gives the counter its value, before the others begin.
+/// The script of the session that sets the counter before the others begin.
 fn giving(alloc: Global, value: u32) -> Result<Vec<u8>, Fail> {
     let mut script = Vec::from_slice(alloc, b"REL T 1 1 {}.\nREL X ")?;
     let number = format!(in alloc; "{value}")?;
@@ -42,8 +42,8 @@ fn giving(alloc: Global, value: u32) -> Result<Vec<u8>, Fail> {
     Ok(script)
 }
 
-/// The scripts of a run: of the sessions that raise the counter so many times each, and of the one that gives its
-/// value.
+/// The scripts of a run: those of the sessions that increment the counter, each a number of times, and of the one that
+/// sets it.
 fn scripts_from(alloc: Global, value: u32, left: &[u32]) -> Result<Vec<Vec<u8>>, Fail> {
     let mut scripts = Vec::new(alloc);
     'sessions: for times in left {
@@ -53,7 +53,7 @@ fn scripts_from(alloc: Global, value: u32, left: &[u32]) -> Result<Vec<Vec<u8>>,
     Ok(scripts)
 }
 
-/// How many blocks of each session that raises the counter were told of a change.
+/// How many blocks of each incrementing session were refused for a change.
 fn told_of_a_change(
     rt: &impl Abort,
     alloc: Global,
@@ -87,7 +87,7 @@ fn value_at_the_end(history: &[Event]) -> u32 {
     value
 }
 
-/// How many these are together.
+/// The sum of these counts.
 fn total(counts: &[u32]) -> u32 {
     let mut sum: u32 = 0;
     'counts: for count in counts {
@@ -96,7 +96,7 @@ fn total(counts: &[u32]) -> u32 {
     sum
 }
 
-/// Runs the sessions over a counter of this value.
+/// Runs the sessions on a counter with this value.
 fn run_from<R: Threads + Wait + Abort + Sync>(
     rt: &R,
     alloc: Global,

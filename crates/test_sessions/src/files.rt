@@ -1,4 +1,5 @@
-//! LOAD and SAVE: what each kind of file is told as, which of two files of one name counts, and which bytes are put.
+//! LOAD and SAVE: how each kind of bad file is reported, which of two files of one name counts, and which bytes are
+//! put.
 use crate::made::{Options, comes_to};
 use std::alloc::{AllocError, Global};
 use std::process::Abort;
@@ -23,7 +24,7 @@ const STEP: &[u8] = &[
     82, 86, 75, 49, 0, 0, 0, 2, 0, 0, 0, 2, 1, 0, 0, 0, 0, 0, 0, 0, 0, 0, 0, 0, 0, 0, 0, 0, 4, 64,
 ];
 
-/// The file of the corners with one byte changed, and one byte left out or added at its end.
+/// The file of the corners with one byte changed, and one byte removed or added at its end.
 fn changed(alloc: Global, place: usize, byte: u8, longer: usize) -> Result<Vec<u8>, AllocError> {
     let mut out = Vec::new(alloc);
     for i in 0..CORNERS.len() {
@@ -42,7 +43,7 @@ fn changed(alloc: Global, place: usize, byte: u8, longer: usize) -> Result<Vec<u
     Ok(out)
 }
 
-/// The place of a byte and the byte there, how many bytes there are at the end, and the kind of the fault.
+/// The place of a byte and its new value, how many bytes there are more or fewer at the end, and the kind of the fault.
 const BAD: &[(usize, u8, usize, &str)] = &[
     (0, 82, 0, "short"),
     (3, 51, 1, "magic"),
@@ -56,7 +57,7 @@ const BAD: &[(usize, u8, usize, &str)] = &[
     (0, 82, 2, "rest"),
 ];
 
-/// Asserts that a file is told as bad with this kind, and not loaded.
+/// Asserts that a file is reported as bad with this kind, and not loaded.
 fn is_told_as<R: Threads + Wait + Abort + Sync>(
     rt: &R,
     alloc: Global,
@@ -90,7 +91,7 @@ fn a_file_that_is_bad_is_told_with_its_kind(rt: HostRuntime) -> Result<(), Fail>
     Ok(())
 }
 
-/// The page where the corners are loaded, where the step is, and where there is no file.
+/// The pages if the corners are loaded, if the step is, and if there is no file.
 const CORNERS_LISTED: &str = "1.2: 4 x 4, pairs 2\n1:1\n4:4\n1.1 assign A 4 x 4\n1.2 read\n";
 
 const STEP_LISTED: &str = "1.2: 2 x 2, pairs 1\n1:2\n1.1 assign A 2 x 2\n1.2 read\n";
@@ -98,7 +99,7 @@ const STEP_LISTED: &str = "1.2: 2 x 2, pairs 1\n1:2\n1.1 assign A 2 x 2\n1.2 rea
 const NOT_THERE: &str =
     "1.1: refused: no file \"a.k2\"\n1.2: refused: 2:6: unknown name A\n1.2 read\n";
 
-/// Files of which the first with the name is loaded, the letters of the outcomes, and the page.
+/// Files, of which the first with the name is loaded; the letters of the outcomes, and the page.
 const LOADS: &[(&[(&str, &[u8])], &str, &str)] = &[
     (&[("a.k2", CORNERS), ("b.k2", STEP)], "..", CORNERS_LISTED),
     (&[("b.k2", STEP), ("a.k2", CORNERS)], "..", CORNERS_LISTED),
@@ -108,7 +109,7 @@ const LOADS: &[(&[(&str, &[u8])], &str, &str)] = &[
     (&[("a.k22", CORNERS), ("./a.k2", STEP)], "fi", NOT_THERE),
 ];
 
-/// Two names saved, one that is not there, and another relation under a name that was put.
+/// Two names are saved, and one that does not exist, and another relation under a name that was put already.
 const SAVING: &str =
     "REL A 4 4 {1:1; 4:4}. SAVE A \"a.k2\". REL B 2 2 {1:2}. SAVE B \"b.k2\". SAVE Z \"z.k2\". SAVE A&A \"b.k2\".";
 

@@ -1,30 +1,31 @@
-//! What sessions say of one name that they share, by the history alone: the history is folded by the rules of the
+//! What sessions reply about one name that they share, computed from the history: it is folded by the rules of the
 //! commands, and each reply follows.
 use crate::made::push_history;
 use run_model::event::{Act, Event};
 use std::alloc::{AllocError, Global};
 use std::process::Abort;
 
-/// What a session has behind it: how many commands, and the cell that a LET took which has not assigned yet.
+/// The progress of a session: how many commands it has completed, and the cell that a LET took which has not assigned
+/// yet.
 #[derive(Clone, Copy)]
 struct Place {
     behind: usize,
     taken: Option<bool>,
 }
 
-/// What a command says.
+/// What a command replies.
 #[derive(Clone, Copy)]
 enum Said {
     /// Nothing.
     Nothing,
-    /// The one cell of the name.
+    /// The single cell of the name.
     Cell(bool),
-    /// That there is no such name, at a column of its line.
+    /// There is no such name, at this column of its line.
     Unknown(u32),
 }
 
-/// What an event leaves: the cell that the name has, if it is there; the place of its session; and what its command
-/// says.
+/// The state after an event: the cell of the name, if it exists; the progress of its session; and what its command
+/// replies.
 #[derive(Clone, Copy)]
 struct Left {
     cell: Option<bool>,
@@ -32,7 +33,7 @@ struct Left {
     said: Said,
 }
 
-/// The text of the command of a letter: each stands on a line of its own, and is about the one name X.
+/// The text of the command with this letter: each is on a line of its own, and is about the single name X.
 pub(crate) fn command_of(letter: u8) -> &'static str {
     match letter {
         b'N' => "LET X = -X.\n",
@@ -43,7 +44,7 @@ pub(crate) fn command_of(letter: u8) -> &'static str {
     }
 }
 
-/// The place behind a command.
+/// The progress after a command.
 fn next(place: Place) -> Place {
     Place {
         behind: place.behind.wrapping_add(1),
@@ -51,7 +52,7 @@ fn next(place: Place) -> Place {
     }
 }
 
-/// What a read leaves, by the letter of its command. None where such a command does not read then.
+/// The state after a read, given the letter of its command. None if such a command does not read then.
 fn left_by_read(letter: u8, cell: Option<bool>, place: Place) -> Option<Left> {
     let said = match (letter, cell) {
         (b'N', Some(_)) if place.taken.is_none() => {
@@ -77,7 +78,7 @@ fn left_by_read(letter: u8, cell: Option<bool>, place: Place) -> Option<Left> {
     })
 }
 
-/// What an assignment leaves, by the letter of its command. None where such a command does not assign then.
+/// The state after an assignment, given the letter of its command. None if such a command does not assign then.
 fn left_by_assign(letter: u8, place: Place) -> Option<Left> {
     let cell = match (letter, place.taken) {
         (b'N', Some(taken)) => !taken,
@@ -92,7 +93,7 @@ fn left_by_assign(letter: u8, place: Place) -> Option<Left> {
     })
 }
 
-/// What an event leaves, by the letter of its command. None where such a command does no such thing then.
+/// The state after an event, given the letter of its command. None if such a command does no such thing then.
 fn left_by(letter: u8, act: &Act, cell: Option<bool>, place: Place) -> Option<Left> {
     match act {
         Act::Read => left_by_read(letter, cell, place),
@@ -115,7 +116,7 @@ fn left_by(letter: u8, act: &Act, cell: Option<bool>, place: Place) -> Option<Le
     }
 }
 
-/// Adds what a command says.
+/// Appends what a command replies.
 fn push_said(
     alloc: Global,
     out: &mut Vec<u8>,
@@ -134,8 +135,8 @@ fn push_said(
     out.extend_from_slice(text.as_bytes())
 }
 
-/// Adds what one session says, of which each command has a letter. A history that no order of the sessions' turns makes
-/// fails the test, and so does one in which a session did not come to its end.
+/// Appends what one session replies, given a letter for each of its commands. The test fails for a history that no
+/// order of the sessions' turns can produce, and for one in which a session did not finish.
 fn push_session(
     rt: &impl Abort,
     alloc: Global,
@@ -166,7 +167,7 @@ fn push_session(
     Ok(())
 }
 
-/// What an event leaves, where the commands of its session have these letters.
+/// The state after an event, given the letters of the commands of its session.
 fn left_behind(
     rt: &impl Abort,
     letters: &[u8],
@@ -188,7 +189,7 @@ fn left_behind(
     left
 }
 
-/// The page of sessions, of which each command has a letter, by their history.
+/// The page of sessions, given a letter for each of their commands, computed from their history.
 pub(crate) fn page_by(
     rt: &impl Abort,
     alloc: Global,

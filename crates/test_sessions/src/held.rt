@@ -4,26 +4,26 @@ use rel_model::watch::Watch;
 use std::sync::atomic::{AtomicBool, AtomicU32, Ordering};
 use std::thread::yield_now;
 
-/// What the gate of a session adds to its number.
+/// What is added to the number of a session for its gate.
 const SESSIONS: u32 = 1_000_000;
 
-/// How often a session that is held looks for the others at most.
+/// How often a session that is held checks for the others at most.
 const LOOKS: u32 = 10_000_000;
 
-/// Which sessions are held, and until when.
+/// Which sessions are held, and how long.
 #[derive(Clone, Copy)]
 pub(crate) enum Rule {
-    /// None.
+    /// No session.
     Open,
-    /// All, until so many have begun.
+    /// All sessions, until this many have begun.
     UntilBegun(u32),
-    /// Those up to this number, until so many of all have ended.
+    /// Those up to this number, until this many of all have ended.
     UntilEnded(u32, u32),
-    /// Each odd session, until so many of all have ended.
+    /// Each odd session, until this many of all have ended.
     OddUntilEnded(u32),
 }
 
-/// A gate by a rule, which counts the sessions that have begun and ended.
+/// A gate with a rule, which counts the sessions that have begun and ended.
 #[derive(Drop)]
 pub(crate) struct Holding {
     rule: Rule,
@@ -52,7 +52,7 @@ impl Holding {
         self.ended.load(Ordering::SeqCst)
     }
 
-    /// Whether a session was held for too long, and went on.
+    /// Whether a session was held for too long, and let go.
     pub(crate) fn gave_up(&self) -> bool {
         self.gave_up.load(Ordering::SeqCst)
     }

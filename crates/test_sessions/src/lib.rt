@@ -1,5 +1,5 @@
-//! Tests of sessions and runs over a node table: each command with each outcome, files, rows, turns by hand, and many
-//! sessions at once.
+//! Tests of sessions and runs over a node table: each command with each outcome, files, rows, turns taken by hand, and
+//! many concurrent sessions.
 #![tactic(auto)]
 
 #[cfg(test)]

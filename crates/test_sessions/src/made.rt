@@ -1,4 +1,4 @@
-//! What scripts come to over a node table: one of them as a session over a book of its own, or all at once.
+//! The results of scripts over a node table: one of them as a session on a book of its own, or all concurrently.
 ghost use Rattle.std.specs.Prelude.{◌≡◌, ◌≤◌, ◌^◌, length, All, IsTrue};
 ghost use Rattle.lang_model.specs.Limits.{script_limit};
 
@@ -8,7 +8,7 @@ use name_map::NameMap;
 use pair_table::PairTable;
 use rel_engine::Works;
 use rel_model::NoMemory;
-use rel_model::engine_trait::Engine;
+use rel_slices::Remembers;
 use run_model::event::Event;
 use run_model::files::{Loaded, Save};
 use run_model::outcome::Outcome;
@@ -24,7 +24,7 @@ use std::test::Fail;
 use std::thread::Threads;
 use turn_book::TurnBook;
 
-/// How many turns the loops of an expression may take, the binary logarithm of the table's node words, and the number
+/// How many turns the loops of an expression may take, the binary logarithm of the number of node words, and the number
 /// of workers.
 #[derive(Clone, Copy)]
 pub(crate) struct Options {
@@ -33,7 +33,7 @@ pub(crate) struct Options {
     pub(crate) workers: u32,
 }
 
-/// What scripts came to: the outcomes by letters, with a stroke between two sessions; the page; the events; and the
+/// The results of scripts: the outcomes as letters, with a stroke between two sessions; the page; the events; and the
 /// files to be put.
 pub(crate) struct Came {
     pub(crate) outcomes: Vec<u8>,
@@ -71,7 +71,7 @@ fn letter_of(outcome: &Outcome) -> u8 {
     }
 }
 
-/// Adds the letters of a session's outcomes.
+/// Appends the letters of a session's outcomes.
 fn push_letters(out: &mut Vec<u8>, outcomes: &[Outcome]) -> Result<(), AllocError> {
     for outcome in outcomes {
         out.push(letter_of(outcome))?;
@@ -79,7 +79,7 @@ fn push_letters(out: &mut Vec<u8>, outcomes: &[Outcome]) -> Result<(), AllocErro
     Ok(())
 }
 
-/// Adds a reply behind the numbers of its session and its command.
+/// Appends a reply, with the numbers of its session and of its command.
 fn push_reply(alloc: Global, out: &mut Vec<u8>, reply: &Reply) -> Result<(), AllocError> {
     match reply {
         Reply::Nothing => Ok(()),
@@ -99,7 +99,7 @@ fn push_reply(alloc: Global, out: &mut Vec<u8>, reply: &Reply) -> Result<(), All
     }
 }
 
-/// Adds a line for each event.
+/// Appends a line for each event.
 pub(crate) fn push_history(
     alloc: Global,
     out: &mut Vec<u8>,
@@ -114,7 +114,7 @@ pub(crate) fn push_history(
     Ok(())
 }
 
-/// Relation files by their names and bytes.
+/// Relation files with their names and bytes.
 pub(crate) fn loaded(alloc: Global, files: &[(&str, &[u8])]) -> Result<Vec<Loaded>, AllocError> {
     let mut out = Vec::new(alloc);
     for (name, bytes) in files {
@@ -135,7 +135,7 @@ pub(crate) fn scripts_of(alloc: Global, texts: &[&str]) -> Result<Vec<Vec<u8>>, 
     Ok(out)
 }
 
-/// Whether no script passes the limit.
+/// Whether no script exceeds the limit.
 fn are_short(scripts: &[Vec<u8>]) -> bool
     ensures { IsTrue result → All (λ v. length v.items ≤ script_limit) scripts.now }
 {
@@ -158,8 +158,8 @@ fn assert_fit(rt: &impl Abort, options: Options)
     assert!(rt; options.workers >= 1 && options.workers <= 64);
 }
 
-/// Runs a script as the first session over a book of its own. What it told, and what happened.
-fn session_over<R: Wait + Abort, E: Engine + Drop>(
+/// Runs a script as the first session on a book of its own. Answers its transcript and the history.
+fn session_over<R: Wait + Abort, E: Remembers + Drop>(
     rt: &R,
     alloc: Global,
     turns: u64,
@@ -214,7 +214,7 @@ fn page_of(alloc: Global, replies: &[Reply], history: &[Event]) -> Result<Vec<u8
     Ok(page)
 }
 
-/// What a session came to.
+/// The results of a session.
 fn session_came(
     alloc: Global,
     transcript: Transcript,
@@ -231,7 +231,7 @@ fn session_came(
     })
 }
 
-/// Runs a script alone: its replies, and then its history.
+/// Runs a script alone. Answers its replies, and then its history.
 #[tactic(auto, unfolding(rel_model::specs::Trees::bottom_height))]
 pub(crate) fn run_alone<R: Threads + Wait + Abort + Sync>(
     rt: &R,
@@ -266,7 +266,7 @@ fn letters_of_all(alloc: Global, outcomes: &[Vec<Outcome>]) -> Result<Vec<u8>, A
     Ok(letters)
 }
 
-/// What a batch came to as a run of its own.
+/// The results of a batch as a run of its own.
 fn run_came<E: Drop>(alloc: Global, ended: BatchEnd<E>, history: bool) -> Result<Came, NoMemory> {
     let BatchEnd {
         engine: _,
@@ -286,7 +286,7 @@ fn run_came<E: Drop>(alloc: Global, ended: BatchEnd<E>, history: bool) -> Result
     })
 }
 
-/// Runs scripts at once over a table with a seat for each session and its workers, through a gate.
+/// Runs scripts concurrently over a table with a seat for each session and its workers, through a gate.
 #[tactic(auto, unfolding(rel_model::specs::Trees::bottom_height))]
 pub(crate) fn run_at_once<R: Threads + Wait + Abort + Sync, G: Gate + Sync>(
     rt: &R,
@@ -354,7 +354,7 @@ fn assert_saves(rt: &impl Abort, found: &[Save], saves: &[(&str, &[u8])], what: 
     }
 }
 
-/// Asserts what scripts came to.
+/// Asserts the results of scripts.
 pub(crate) fn assert_came(
     rt: &impl Abort,
     came: &Came,
@@ -368,7 +368,7 @@ pub(crate) fn assert_came(
     assert_text(rt, came.page.as_slice(), page, what)
 }
 
-/// Asserts what a script comes to as a session over a book of its own.
+/// Asserts the results of a script as a session on a book of its own.
 fn session_comes_to<R: Threads + Wait + Abort + Sync>(
     rt: &R,
     alloc: Global,
@@ -383,7 +383,7 @@ fn session_comes_to<R: Threads + Wait + Abort + Sync>(
     assert_came(rt, &came, outcomes, page, saves, script)
 }
 
-/// Asserts what a script comes to as a run of one script.
+/// Asserts the results of a script as a run of one script.
 fn run_comes_to<R: Threads + Wait + Abort + Sync>(
     rt: &R,
     alloc: Global,
@@ -400,7 +400,7 @@ fn run_comes_to<R: Threads + Wait + Abort + Sync>(
     assert_came(rt, &came, outcomes, page, saves, script)
 }
 
-/// Asserts what a script comes to, as a session over a book of its own and as a run of one script: its outcomes by
+/// Asserts the results of a script, as a session on a book of its own and as a run of one script: its outcomes as
 /// letters, its replies and then its history, and its files.
 pub(crate) fn comes_to<R: Threads + Wait + Abort + Sync>(
     rt: &R,

@@ -1,5 +1,5 @@
-//! A file of two relations that do not find room in a small table together: LOAD ALL is refused and assigns nothing,
-//! and LOAD of either of them is done.
+//! A file of two relations for which a small table has no room together: LOAD ALL is refused and assigns nothing, and
+//! LOAD of either of them succeeds.
 use crate::made::{Options, comes_to, run_alone};
 use std::alloc::Global;
 use std::process::Abort;
@@ -7,7 +7,7 @@ use std::sync::Wait;
 use std::test::Fail;
 use std::thread::Threads;
 
-/// A table of so many node words by their logarithm.
+/// A table, given the binary logarithm of its number of node words.
 fn options(nodes: u32) -> Options {
     Options {
         turns: 7,
@@ -16,9 +16,9 @@ fn options(nodes: u32) -> Options {
     }
 }
 
-/// Adds a relation of 1200 by 8 elements under a name. Its 150 blocks of 8 by 8 are distinct, of two pairs each. It
-/// takes more than half of 1022 node words, and fewer than all: one for each block, and up to three for each of the 153
-/// quads over them. Two whose first blocks are 150 apart share none.
+/// Appends a relation of 1200 by 8 elements under a name. Its 150 blocks of 8 by 8 are distinct, with two pairs each.
+/// It takes more than half of 1022 node words, and fewer than all: one for each block, and up to three for each of the
+/// 153 quads above them. Two of these whose first blocks are 150 apart share none.
 fn push_column(alloc: Global, script: &mut String, name: &str, first: u32) -> Result<(), Fail> {
     script.push_str(format!(in alloc; "REL {name} 1200 8 {{")?.as_str())?;
     'blocks: for i in 0..150u32 {
@@ -49,7 +49,7 @@ fn file_of_two<R: Threads + Wait + Abort + Sync>(rt: &R, alloc: Global) -> Resul
     Ok(Vec::from_slice(alloc, save.bytes.as_slice())?)
 }
 
-/// Node words by their logarithm, scripts, the letters of their outcomes, and their pages.
+/// The binary logarithm of the number of node words, scripts, the letters of their outcomes, and their pages.
 const ROWS: &[(u32, &str, &str, &str)] = &[
     (
         14,

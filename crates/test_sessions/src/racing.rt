@@ -1,5 +1,5 @@
-//! Sessions at once over one name: each printed cell, each unknown name and each drop beside the fold of the history
-//! that the run tells.
+//! Concurrent sessions over one name: each printed cell, each unknown name and each drop is compared with the fold of
+//! the history that the run reports.
 use crate::folded::{command_of, page_by};
 use crate::held::{Holding, Rule};
 use crate::made::{Options, run_at_once};
@@ -16,7 +16,7 @@ const OPTIONS: Options = Options {
     workers: 2,
 };
 
-/// The letters of a session's commands: a first part once, and then a second one so many times.
+/// The letters of a session's commands: a first part once, and then a second part a number of times.
 fn letters_of(alloc: Global, first: &str, again: &str, times: u32) -> Result<Vec<u8>, AllocError> {
     let mut out = Vec::from_slice(alloc, first.as_bytes())?;
     'times: for _ in 0..times {
@@ -25,7 +25,7 @@ fn letters_of(alloc: Global, first: &str, again: &str, times: u32) -> Result<Vec
     Ok(out)
 }
 
-/// The script of a session by the letters of its commands.
+/// The script of a session, from the letters of its commands.
 fn script_of(alloc: Global, letters: &[u8]) -> Result<Vec<u8>, AllocError> {
     let mut out = Vec::new(alloc);
     'letters: for letter in letters {
@@ -34,8 +34,8 @@ fn script_of(alloc: Global, letters: &[u8]) -> Result<Vec<u8>, AllocError> {
     Ok(out)
 }
 
-/// Runs sessions at once through a gate, and asserts that their page is what their history says, and that no command
-/// but an unknown name is refused.
+/// Runs sessions concurrently through a gate, and asserts that their page is what their history says, and that no
+/// command was refused except for an unknown name.
 fn race<R: Threads + Wait + Abort + Sync, G: Gate + Sync>(
     rt: &R,
     alloc: Global,
@@ -51,7 +51,7 @@ fn race<R: Threads + Wait + Abort + Sync, G: Gate + Sync>(
     Ok(())
 }
 
-/// The scripts of sessions by the letters of their commands.
+/// The scripts of sessions, from the letters of their commands.
 fn scripts_by(alloc: Global, letters: &[Vec<u8>]) -> Result<Vec<Vec<u8>>, AllocError> {
     let mut scripts = Vec::new(alloc);
     'letters: for own in letters {
@@ -61,7 +61,7 @@ fn scripts_by(alloc: Global, letters: &[Vec<u8>]) -> Result<Vec<Vec<u8>>, AllocE
     Ok(scripts)
 }
 
-/// Asserts that a page is the one that is wanted.
+/// Asserts that a page is the expected one.
 fn is_told(rt: &impl Abort, page: &[u8], wanted: &[u8]) -> Result<(), Fail> {
     let told = str::from_utf8(page)?;
     let wanted = str::from_utf8(wanted)?;
@@ -69,17 +69,17 @@ fn is_told(rt: &impl Abort, page: &[u8], wanted: &[u8]) -> Result<(), Fail> {
     Ok(())
 }
 
-/// Asserts that no command but an unknown name was refused.
+/// Asserts that no command was refused except for an unknown name.
 fn are_done(rt: &impl Abort, outcomes: &[u8]) {
     'outcomes: for outcome in outcomes {
         assert!(rt; *outcome == b'.' || *outcome == b'i' || *outcome == b'/');
     }
 }
 
-/// The commands of one session: a first part once, and then a second one so many times.
+/// The commands of one session: a first part once, and then a second part a number of times.
 type Commands = (&'static str, &'static str, u32);
 
-/// Asserts so many times that three sessions at once answer by their history.
+/// Asserts, a number of times, that three concurrent sessions answer according to their history.
 fn three_race<R: Threads + Wait + Abort + Sync>(
     rt: &R,
     alloc: Global,
@@ -117,7 +117,7 @@ fn replies_are_those_of_the_history(rt: HostRuntime) -> Result<(), Fail> {
     Ok(())
 }
 
-/// The commands of eight sessions that complement one name.
+/// The commands of eight sessions that each complement one name.
 const EIGHT: [Commands; 8] = [("0", "NP", 50); 8];
 
 #[test]
@@ -138,7 +138,7 @@ fn letters_of_64(alloc: Global) -> Result<Vec<Vec<u8>>, AllocError> {
     Ok(letters)
 }
 
-/// Asserts that sixty-four sessions pass a gate by this rule, and answer by their history.
+/// Asserts that sixty-four sessions pass a gate with this rule, and answer according to their history.
 fn pass_the_gate<R: Threads + Wait + Abort + Sync>(
     rt: &R,
     alloc: Global,

@@ -1,5 +1,5 @@
 //! Runs whose pages were worked out by hand: loops and their limits, kernels of a cycle, steps of rewriting, orders and
-//! classes, names that are not there, snapshots, and two sessions that do not meet.
+//! classes, names that do not exist, snapshots, and two sessions that share no name.
 use crate::made::{Options, assert_came, comes_to, run_at_once, scripts_of};
 use fork_quads::OpenGate;
 use std::alloc::Global;
@@ -151,7 +151,7 @@ fn single_scripts_come_to_their_pages(rt: HostRuntime) -> Result<(), Fail> {
     Ok(())
 }
 
-/// Two scripts, whether the history is asked for, the letters of their outcomes, and their page.
+/// Two scripts, whether the history is wanted, the letters of their outcomes, and their page.
 const APART: &[(&str, &str, bool, &str, &str)] = &[
     (
         "REL A 1 1 {}. SNAP t. AT t PRINT A.",
@@ -183,7 +183,7 @@ const APART: &[(&str, &str, bool, &str, &str)] = &[
     ),
 ];
 
-/// Asserts what two scripts come to at once.
+/// Asserts the results of two concurrent scripts.
 fn come_to<R: Threads + Wait + Abort + Sync>(
     rt: &R,
     alloc: Global,

@@ -1,5 +1,5 @@
 //! LOAD ALL and SAVE ALL: rows worked out by hand, each kind of bad file, and many sessions that load all relations of
-//! a file at once, whose history is gone through event by event.
+//! a file concurrently, whose history is checked event by event.
 use crate::made::{Came, Options, comes_to, loaded, run_at_once};
 use fork_quads::OpenGate;
 use run_model::event::{Act, Event};
@@ -34,7 +34,7 @@ const PAIR: &[u8] = b"RVK2\0\0\0\x03\0\0\0\x02\
     \x01A\0\0\0\x04\0\0\0\x04\0\0\0\x04\
     \x01B\0\0\0\x02\0\0\0\x02\0\0\0\x02";
 
-/// The same with the first two quadrants exchanged, and the numbers of both in the quadrant and the root over them.
+/// The same with the first two quadrants exchanged, and their numbers in the quadrant and the root above them adapted.
 const EXCHANGED: &[u8] = b"RVK2\0\0\0\x03\0\0\0\x02\
     \0\0\0\0\0\0\0\0\0\0\0\0\0\0\0\x01\
     \0\0\0\x01\0\0\0\0\0\0\0\0\0\0\0\0\
@@ -53,7 +53,7 @@ const REPEATED: &[u8] = b"RVK2\0\0\0\x03\0\0\0\x02\
 /// No relations.
 const EMPTY: &[u8] = b"RVK2\0\0\0\0\0\0\0\0";
 
-/// Four relations without a pair, in the order of the bytes of their names.
+/// Four relations without pairs, in the order of the bytes of their names.
 const NAMES: &[u8] = b"RVK2\0\0\0\0\0\0\0\x04\
     \x01A\0\0\0\x01\0\0\0\x01\0\0\0\0\
     \x02A1\0\0\0\x01\0\0\0\x01\0\0\0\0\
@@ -139,7 +139,7 @@ const ROWS: &[(&str, &[(&str, &[u8])], &str, &str, &[(&str, &[u8])])] = &[
         "1.1 assign A 4 x 4\n1.2 read\n",
         &[("n.k2", ALONE)],
     ),
-    // one save holds the names that are there, in the order of their bytes
+    // a SAVE ALL holds the names that exist, in the order of their bytes
     (
         "REL b 1 1 {}. REL B 2 3 {}. REL C 1 1 {1:1}. REL A1 1 1 {}. REL A 1 1 {}. DROP C. SAVE ALL \"n.k2\".",
         &[],
@@ -147,7 +147,7 @@ const ROWS: &[(&str, &[(&str, &[u8])], &str, &str, &[(&str, &[u8])])] = &[
         "1.1 assign b 1 x 1\n1.2 assign B 2 x 3\n1.3 assign C 1 x 1\n1.4 assign A1 1 x 1\n1.5 assign A 1 x 1\n1.6 drop C\n1.7 read\n",
         &[("n.k2", NAMES)],
     ),
-    // names that the file does not have stay, those that it has are assigned again, and a snapshot holds what was
+    // names that the file lacks stay, those that it has are assigned again, and a snapshot still holds the old state
     (
         "REL A 1 1 {1:1}. REL C 1 1 {1:1}. SNAP t. LOAD ALL \"c.k2\". PRINT C. COUNT A. AT t PRINT A.",
         &[("c.k2", PAIR)],
@@ -192,7 +192,7 @@ const BAD: &[(&[u8], &str)] = &[
     (b"RVK2\0\0\0\0\0\0\0\0\0", "rest"),
 ];
 
-/// Asserts that a file is told as bad with this kind, as a whole and by a name, and that nothing is loaded.
+/// Asserts that a file is reported as bad with this kind, both as a whole and for a name, and that nothing is loaded.
 fn is_told_as<R: Threads + Wait + Abort + Sync>(
     rt: &R,
     alloc: Global,
@@ -215,7 +215,7 @@ fn is_told_as<R: Threads + Wait + Abort + Sync>(
     )
 }
 
-/// The relation B without a pair.
+/// The relation B without pairs.
 const ONLY_B: &[u8] = b"RVK2\0\0\0\0\0\0\0\x01\x01B\0\0\0\x01\0\0\0\x01\0\0\0\0";
 
 #[test]
@@ -226,7 +226,7 @@ fn a_bad_file_of_several_relations_is_told_with_its_kind(rt: HostRuntime) -> Res
     Ok(())
 }
 
-/// Three relations without a pair, under the names of the pair and one more.
+/// Three relations without pairs, under the two names of the pair and one more.
 const THREE: &[u8] = b"RVK2\0\0\0\0\0\0\0\x03\
     \x01A\0\0\0\x01\0\0\0\x01\0\0\0\0\
     \x01B\0\0\0\x01\0\0\0\x01\0\0\0\0\
@@ -241,7 +241,7 @@ const PAIR_AND_THIRD: &[u8] = b"RVK2\0\0\0\x03\0\0\0\x03\
     \x01B\0\0\0\x02\0\0\0\x02\0\0\0\x02\
     \x01C\0\0\0\x01\0\0\0\x01\0\0\0\0";
 
-/// The names and sizes of the relations that a session loads, in the file's order: odd ones load the pair, and even
+/// The names and sizes of the relations that a session loads, in the file's order: odd sessions load the pair, and even
 /// ones the three.
 fn loaded_by(session: u32) -> &'static [(&'static [u8], u32)] {
     if session % 2 == 0 {
@@ -251,7 +251,7 @@ fn loaded_by(session: u32) -> &'static [(&'static [u8], u32)] {
     }
 }
 
-/// A command of which some assignments have come, so many, and others have not.
+/// A command some of whose assignments have come, and others not yet.
 #[derive(Clone, Copy)]
 struct Begun {
     session: u32,
@@ -259,7 +259,7 @@ struct Begun {
     count: usize,
 }
 
-/// An assignment behind those of its command that have come, where it is one of several: whether more are to come.
+/// An assignment after those of its command that have come, if it is one of several: whether more are to come.
 fn next_begun(rt: &impl Abort, begun: Option<Begun>, event: &Event) -> Begun {
     match begun {
         None => Begun {
@@ -278,8 +278,8 @@ fn next_begun(rt: &impl Abort, begun: Option<Begun>, event: &Event) -> Begun {
     }
 }
 
-/// One event: behind an assignment of a command come its others in the file's order, and nothing between. What is begun
-/// behind it, if the command is not over.
+/// One event: after an assignment of a command come its others in the file's order, with nothing in between. Answers
+/// what is begun after it, if the command is not finished.
 fn fold(rt: &impl Abort, begun: Option<Begun>, event: &Event) -> Option<Begun> {
     let Act::Assign { name, rel } = &event.act else {
         assert!(rt;
@@ -300,7 +300,7 @@ fn fold(rt: &impl Abort, begun: Option<Begun>, event: &Event) -> Option<Begun> {
     Some(now)
 }
 
-/// Asserts that the events of a history stand together by their commands, and tells how many commands assigned.
+/// Asserts that the events of each command in a history are adjacent, and answers how many commands assigned.
 fn commands_of(rt: &impl Abort, history: &[Event]) -> u64 {
     let mut begun = None;
     let mut commands: u64 = 0;
@@ -317,8 +317,8 @@ fn commands_of(rt: &impl Abort, history: &[Event]) -> u64 {
     commands
 }
 
-/// Eight scripts of twenty-five commands that load all relations of a file; those of even sessions save all behind
-/// each.
+/// Eight scripts of twenty-five commands that load all relations of a file; those of even sessions save all relations
+/// after each.
 fn eight_scripts(alloc: Global) -> Result<Vec<Vec<u8>>, Fail> {
     let mut scripts = Vec::new(alloc);
     'sessions: for session in 1..9u32 {
@@ -335,7 +335,7 @@ fn eight_scripts(alloc: Global) -> Result<Vec<Vec<u8>>, Fail> {
     Ok(scripts)
 }
 
-/// Asserts that each save has the relations of one whole command, and C, which stays.
+/// Asserts that each save has the relations of one whole command, and C, which does not change.
 fn are_whole(rt: &impl Abort, ran: &Came) {
     assert!(rt; ran.saves.len() == 100);
     'saves: for save in ran.saves.as_slice() {
@@ -344,7 +344,7 @@ fn are_whole(rt: &impl Abort, ran: &Came) {
     }
 }
 
-/// Runs eight sessions at once that load all relations of two files under the same names.
+/// Runs eight concurrent sessions that load all relations of two files under the same names.
 fn eight_load<R: Threads + Wait + Abort + Sync>(
     rt: &R,
     alloc: Global,

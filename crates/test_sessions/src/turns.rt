@@ -1,4 +1,4 @@
-//! Two sessions at one book, turn by turn: a name that is dropped between the read and the assignment of another
+//! Two sessions on one book, turn by turn: a name that is dropped between the read and the assignment of another
 //! session.
 #![tactic(auto, using(rel_model::proofs::Workers::keeps_stands, rel_model::proofs::Workers::keeps_trans, rel_model::proofs::Workers::gives_stands))]
 
@@ -31,7 +31,7 @@ fn name_x(rt: &impl Abort, alloc: Global) -> Name {
     }
 }
 
-/// Reads the name in a turn, and asserts what it has.
+/// Reads the name in a turn, and asserts its relation.
 fn reads<R: Wait + Abort, E: Engine + Drop>(
     rt: &R,
     alloc: Global,
@@ -64,7 +64,7 @@ fn reads<R: Wait + Abort, E: Engine + Drop>(
     }
 }
 
-/// Gives the name a relation in a turn.
+/// Assigns the name a relation in a turn.
 fn assigns<R: Wait + Abort, E: Engine + Drop>(
     rt: &R,
     alloc: Global,
@@ -88,7 +88,7 @@ fn assigns<R: Wait + Abort, E: Engine + Drop>(
     assert!(rt; assigned.is_ok());
 }
 
-/// Drops the name in a turn, and says whether it was there.
+/// Drops the name in a turn, and says whether it existed.
 fn drops<R: Wait + Abort, E: Engine + Drop>(
     rt: &R,
     alloc: Global,
@@ -133,7 +133,7 @@ fn before_the_drop<R: Wait + Abort, E: Engine + Drop>(
     reads(rt, alloc, book, first, engine, 1, 2, Some(full));
 }
 
-/// The second session drops the name, and does not find it behind that.
+/// The second session drops the name, and does not find it after that.
 fn drops_between<R: Wait + Abort, E: Engine + Drop>(
     rt: &R,
     alloc: Global,
@@ -151,7 +151,7 @@ fn drops_between<R: Wait + Abort, E: Engine + Drop>(
     reads(rt, alloc, book, second, engine, 2, 2, None);
 }
 
-/// The first session drops the name that it assigned, and the second does not find it behind that.
+/// The first session drops the name that it assigned, and the second does not find it after that.
 fn behind_the_assignment<R: Wait + Abort, E: Engine + Drop>(
     rt: &R,
     alloc: Global,
@@ -170,7 +170,8 @@ fn behind_the_assignment<R: Wait + Abort, E: Engine + Drop>(
     assert!(rt; !again, "there behind its drop");
 }
 
-/// Two sessions take turns: the second drops the name that the first has read and then assigns. What happened.
+/// Two sessions take turns: the second drops the name that the first has read, and which the first then assigns.
+/// Answers the history.
 fn dropped_between<R: Wait + Abort, E: Engine + Drop>(
     rt: &R,
     alloc: Global,
@@ -252,7 +253,7 @@ fn version_of<R: Wait + Abort, E: Engine + Drop>(
     version
 }
 
-/// Commits a block of no assignment, which read the name in this version. The two versions where it is refused.
+/// Commits a block without assignments that read the name in this version. Answers the two versions if it is refused.
 fn commits<R: Wait + Abort, E: Engine + Drop>(
     rt: &R,
     alloc: Global,
@@ -284,7 +285,7 @@ fn commits<R: Wait + Abort, E: Engine + Drop>(
 }
 
 /// The first session reads the name; the second drops it, and assigns the same relation again; so the first may not
-/// commit what it read before. What happened.
+/// commit what it read before. Answers the history.
 fn assigned_again<R: Wait + Abort, E: Engine + Drop>(
     rt: &R,
     alloc: Global,
@@ -325,5 +326,5 @@ fn an_equal_relation_that_is_assigned_again_is_a_change(rt: HostRuntime) -> Resu
     is_history(&rt, alloc, history.as_slice(), CHANGED)
 }
 
-/// The lines of the history where a name was assigned again between a read and a commit.
+/// The lines of the history in which a name was assigned again between a read and a commit.
 const CHANGED: &str = "1.1 assign X 1 x 1\n1.2 read\n2.1 drop X\n2.2 assign X 1 x 1\n1.2 read\n";

@@ -1,10 +1,10 @@
-//! Every construct on relations of 0, 1, 2, 3 and 9 elements, beside its membership formula.
+//! Every construct on relations of 0, 1, 2, 3 and 9 elements, compared with its membership formula.
 use crate::made::table;
 use crate::scripts::{Draws, append_number, append_relation};
 use crate::table::{append, assert_none, differing, lines, note};
 use fork_quads::{Crew, OpenGate};
 use rel_engine::Works;
-use rel_model::engine_trait::Engine;
+use rel_slices::Remembers;
 use std::alloc::Global;
 use std::process::Abort;
 
@@ -12,8 +12,8 @@ use std::process::Abort;
 const DEFINITIONS: &str =
     "Id(R) = R. Both(R,S) = R*S|S*R. Left(R,S) = R. Third(R,S,K) = Left(Both(K,R),S)&-R. Sec(R,S) DECL D = PROD(R,S) BEG RETURN p-2(D) END. Fst(R,S) DECL D = PROD(R,S) BEG RETURN p-1(D) END. Inl(R,S) DECL D = SUM(R,S) BEG RETURN i-1(D) END. Inr(R,S) DECL D = SUM(R,S) BEG RETURN i-2(D) END. Two(R,S) DECL D = SUM(R,S), C = PROD(S,R) BEG RETURN i-1(D)*i-2(D)^|p-2(C)^*p-1(C) END. Plain(R) BEG RETURN -R END. Pick(R,S) DECL x BEG IF empty(R) THEN x = S ELSE x = R; IF incl(S,R) THEN x = S^ FI FI RETURN x END. Reach(R,V) DECL x, y BEG x = V; y = R^*V&-x; WHILE -empty(y) DO x = x|y; y = R^*y&-x OD RETURN x END. Count(V) DECL p, n BEG p = init(V); n = On1(V); WHILE -empty(p) DO n = next(n)|p; p = next(p) OD RETURN n END. Twice(R) DECL a, b BEG a = R; a = a*a; b = a; WHILE eq(a,R) DO a = O(R); b = -a OD; IF unival(R) THEN FI RETURN a|b END. ";
 
-/// Expressions over A and B of as many rows as columns, P and U of one column more, Q of one row more, vectors V and W,
-/// the empty vector K and the full relation T of one row and one column.
+/// Expressions over A and B, which are square; P and U with one more column; Q with one more row; vectors V and W; the
+/// empty vector K; and the full relation T with one row and one column.
 const EXPRESSIONS: &str = "
 A
 A|B
@@ -136,7 +136,7 @@ Id(Both(A,Id(B)))*V
 T*T^
 ";
 
-/// The definitions and the relations of so many elements.
+/// The definitions, and the relations on this many elements.
 fn front(rt: &impl Abort, alloc: Global, elements: u32) -> Vec<u8> {
     let mut text = Vec::new(alloc);
     append(rt, &mut text, DEFINITIONS.as_bytes());
@@ -156,8 +156,8 @@ fn front(rt: &impl Abort, alloc: Global, elements: u32) -> Vec<u8> {
     text
 }
 
-/// Compares each expression over the relations of so many elements, and notes those that are answered otherwise.
-fn note_expressions<E: Engine>(
+/// Compares each expression over the relations on this many elements, and notes those with a wrong answer.
+fn note_expressions<E: Remembers>(
     rt: &impl Abort,
     alloc: Global,
     engine: &mut E,
@@ -176,7 +176,7 @@ fn note_expressions<E: Engine>(
     }
 }
 
-/// A script of a front and an expression.
+/// A script from the definitions and relations, and an expression.
 fn joined(rt: &impl Abort, alloc: Global, front: &[u8], expression: &[u8]) -> Vec<u8> {
     let mut text = Vec::new(alloc);
     append(rt, &mut text, front);

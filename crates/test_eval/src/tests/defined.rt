@@ -1,4 +1,4 @@
-//! What a checked script tells of the definition of a name.
+//! What a checked script says about the definition of a name.
 use lang_model::limits::SCRIPT_LIMIT;
 use lang_model::syntax::Item;
 use rv_parse::parse;
@@ -7,11 +7,11 @@ use std::alloc::{AllocError, Global};
 use std::process::Abort;
 use std::test::Fail;
 
-/// Four definitions, and a relation.
+/// A script with four definitions and a relation.
 const SCRIPT: &[u8] =
     b"F(R) = R. G(R,S) BEG RETURN R END. REL A 2 2 {}.\nFF(R) = F(R). f(R,S,T) = G(R,S).";
 
-/// What a checked script tells of the definition of a name: what it is, its place, and how many parameters it has.
+/// What a checked script says about the definition of a name: its kind, its place, and how many parameters it has.
 fn told(alloc: Global, checked: &Checked, name: &[u8]) -> Result<String, AllocError> {
     let (what, at, params) = match checked.definition(name) {
         None => return String::from_str(alloc, "none"),
@@ -22,7 +22,7 @@ fn told(alloc: Global, checked: &Checked, name: &[u8]) -> Result<String, AllocEr
     format!(in alloc; "{what} {}:{} of {params}", at.line, at.column)
 }
 
-/// The same of a script as a text.
+/// The same for a script given as text.
 fn definition(alloc: Global, text: &[u8], name: &[u8]) -> Result<String, AllocError> {
     if text.len() > SCRIPT_LIMIT {
         return String::from_str(alloc, "too long");
@@ -36,7 +36,7 @@ fn definition(alloc: Global, text: &[u8], name: &[u8]) -> Result<String, AllocEr
     }
 }
 
-/// Names, and what is told of them.
+/// Names, and what is said about their definitions.
 const DEFINED: [(&[u8], &str); 4] = [
     (b"F", "function 1:1 of 1"),
     (b"G", "program 1:11 of 2"),
@@ -44,7 +44,7 @@ const DEFINED: [(&[u8], &str); 4] = [
     (b"f", "function 2:15 of 3"),
 ];
 
-/// Asserts what is told of the definition of a name.
+/// Asserts what is said about the definition of a name.
 fn assert_told(
     rt: &impl Abort,
     alloc: Global,

@@ -1,4 +1,4 @@
-//! Evaluations at each point at which a table can be full.
+//! Evaluations that find the table full, at each point at which it can be.
 ghost use Rattle.rel_model.specs.Worker.{Stands, Keeps};
 
 use crate::answer::{checked_of, put, slow_answers};
@@ -9,33 +9,37 @@ use crate::texts::pairs_text;
 use fork_quads::{Crew, OpenGate};
 use lang_model::syntax::{Command, Expr, Item, Name};
 use rel_engine::Works;
-use rel_model::engine_trait::Engine;
 use rel_model::{Lack, Rel};
+use rel_slices::Remembers;
 use rv_eval::{Refused, eval};
 use rv_types::Checked;
 use std::alloc::Global;
 use std::process::Abort;
 use std::thread::Threads;
 
-/// The script: the directed cycle of 20 elements, and which of them are joined by a walk and not by one step.
+/// A script over the directed cycle of 20 elements: which of them are joined by a walk, but not by one step.
 const SCRIPT: &str =
     "REL A 20 20 {1:2; 2:3; 3:4; 4:5; 5:6; 6:7; 7:8; 8:9; 9:10; 10:11; 11:12; 12:13; 13:14; 14:15; 15:16; 16:17; 17:18; 18:19; 19:20; 20:1}. PRINT trans(A)&-A.";
 
-/// The directed cycle of 10 elements, and its kernels, among all 1024 sets of elements.
+/// A script over the directed cycle of 8 elements: its kernels, among all 256 sets of elements. Membership is one tree.
 const KERNELS: &str =
-    "KERNELS(G) DECL e, breaks BEG e = epsi(Ln1(G)); breaks = (e & G*e) | -(e | G*e); RETURN e*inj(-ran(breaks))^ END. REL A 10 10 {1:2; 2:3; 3:4; 4:5; 5:6; 6:7; 7:8; 8:9; 9:10; 10:1}. PRINT KERNELS(A).";
+    "KERNELS(G) DECL e, breaks BEG e = epsi(Ln1(G)); breaks = (e & G*e) | -(e | G*e); RETURN e*inj(-ran(breaks))^ END. REL A 8 8 {1:2; 2:3; 3:4; 4:5; 5:6; 6:7; 7:8; 8:1}. PRINT KERNELS(A).";
 
-/// The directed cycle of so many elements.
-fn cycle(rt: &impl Abort, alloc: Global, elements: u32) -> Listed {
+/// The same, with a ninth element that leads to the first. The membership of 9 elements is kept as lines.
+const KERNELS_BY_LINES: &str =
+    "KERNELS(G) DECL e, breaks BEG e = epsi(Ln1(G)); breaks = (e & G*e) | -(e | G*e); RETURN e*inj(-ran(breaks))^ END. REL A 9 9 {1:2; 2:3; 3:4; 4:5; 5:6; 6:7; 7:8; 8:1; 9:1}. PRINT KERNELS(A).";
+
+/// The directed cycle of the first `around` elements; every further element leads to the first.
+fn ring(rt: &impl Abort, alloc: Global, around: u32, elements: u32) -> Listed {
     let mut list = none_of(alloc, elements, elements);
     'elements: for i in 0..elements {
         let next = i.wrapping_add(1);
-        put_pair(rt, &mut list, i, if next == elements { 0 } else { next });
+        put_pair(rt, &mut list, i, if next < around { next } else { 0 });
     }
     list
 }
 
-/// A relation of 8 by 8, which is one block, with the lowest bits of this word.
+/// A relation of 8 by 8, which is one block, with the bits of this word as its lowest bits.
 fn block(rt: &impl Abort, alloc: Global, word: u32) -> Listed {
     let mut list = none_of(alloc, 8, 8);
     'bits: for bit in 0..32u32 {
@@ -46,8 +50,8 @@ fn block(rt: &impl Abort, alloc: Global, word: u32) -> Listed {
     list
 }
 
-/// Takes the blocks of the words from 1 on into a table, so many at most: how many there was room for.
-fn fill<E: Engine>(rt: &impl Abort, alloc: Global, engine: &mut E, most: u32) -> u32
+/// Makes the blocks of the words from 1 on in a table, at most `most` of them. Returns for how many there was room.
+fn fill<E: Remembers>(rt: &impl Abort, alloc: Global, engine: &mut E, most: u32) -> u32
     ensures { Keeps (E.worker engine.old) (E.worker engine.new) }
 {
     'words: for word in 0..most {
@@ -61,7 +65,7 @@ fn fill<E: Engine>(rt: &impl Abort, alloc: Global, engine: &mut E, most: u32) ->
     most
 }
 
-/// How many blocks a table of 2^10 words has room for beside the cycle.
+/// For how many blocks a table of 2^10 words has room in addition to the cycle.
 fn room<R: Threads + Abort + Sync>(rt: &R, alloc: Global, cycle: &Listed) -> u32 {
     let (table, seat) = table(rt, alloc, 10);
     let gate = OpenGate;
@@ -70,7 +74,7 @@ fn room<R: Threads + Abort + Sync>(rt: &R, alloc: Global, cycle: &Listed) -> u32
     fill(rt, alloc, &mut engine, 2000)
 }
 
-/// The expression of a script: that of its PRINT.
+/// The expression of a script's PRINT.
 fn expression<'a>(rt: &impl Abort, checked: &'a Checked) -> &'a Expr {
     'items: for item in checked.script().items.as_slice() {
         if let Item::Command(Command::Print { value }) = item {
@@ -81,7 +85,13 @@ fn expression<'a>(rt: &impl Abort, checked: &'a Checked) -> &'a Expr {
 }
 
 /// Asserts that a relation has these pairs.
-fn assert_value<E: Engine>(rt: &impl Abort, alloc: Global, engine: &mut E, rel: Rel, wanted: &str)
+fn assert_value<E: Remembers>(
+    rt: &impl Abort,
+    alloc: Global,
+    engine: &mut E,
+    rel: Rel,
+    wanted: &str,
+)
     requires { Stands (E.worker engine.old) rel }
     ensures { Keeps (E.worker engine.old) (E.worker engine.new) }
 {
@@ -91,25 +101,31 @@ fn assert_value<E: Engine>(rt: &impl Abort, alloc: Global, engine: &mut E, rel: 
 }
 
 /// Asserts that a table is full.
-fn assert_full<E: Engine>(rt: &impl Abort, alloc: Global, engine: &mut E)
+fn assert_full<E: Remembers>(rt: &impl Abort, alloc: Global, engine: &mut E)
     ensures { Keeps (E.worker engine.old) (E.worker engine.new) }
 {
     let more = block(rt, alloc, 1_000_000);
     assert!(rt; offered(rt, alloc, engine, &more) == Err(Lack::Full));
 }
 
-/// Asserts that the cycle has its pairs.
-fn assert_cycle<E: Engine>(rt: &impl Abort, alloc: Global, engine: &mut E, a: Rel, cycle: &Listed)
+/// Asserts that the cycle still has its pairs.
+fn assert_cycle<E: Remembers>(
+    rt: &impl Abort,
+    alloc: Global,
+    engine: &mut E,
+    a: Rel,
+    cycle: &Listed,
+)
     requires { Stands (E.worker engine.old) a }
 {
     let left = pairs_of(rt, alloc, engine, a);
     assert!(rt; left.pairs.as_slice() == cycle.pairs.as_slice());
 }
 
-/// Asserts that an evaluation of the script answers this relation, or Nodes in a table that is full. Whether it answers
-/// the relation.
+/// Asserts that an evaluation of the script answers this relation, or Nodes and the table is full. Returns whether it
+/// answers the relation.
 #[tactic(auto, using(crate::proofs::Standing::no_names, rel_model::proofs::Workers::keeps_trans))]
-fn is_value<E: Engine>(
+fn is_value<E: Remembers>(
     rt: &impl Abort,
     alloc: Global,
     engine: &mut E,
@@ -137,9 +153,9 @@ fn is_value<E: Engine>(
     }
 }
 
-/// The same, where the cycle has its pairs behind it.
+/// The same, and the cycle must have its pairs afterwards.
 #[tactic(auto, using(rel_model::proofs::Workers::keeps_stands))]
-fn is_answered<E: Engine>(
+fn is_answered<E: Remembers>(
     rt: &impl Abort,
     alloc: Global,
     engine: &mut E,
@@ -155,7 +171,7 @@ fn is_answered<E: Engine>(
     is_value
 }
 
-/// The same in a table of its own that has this many blocks beside the cycle.
+/// The same over its own table, which has this many blocks in addition to the cycle.
 fn is_answered_beside<R: Threads + Abort + Sync>(
     rt: &R,
     alloc: Global,
@@ -174,7 +190,7 @@ fn is_answered_beside<R: Threads + Abort + Sync>(
     is_answered(rt, alloc, &mut engine, checked, cycle, b, wanted)
 }
 
-/// A script, checked.
+/// Parses and checks a script.
 fn checked_script(rt: &impl Abort, alloc: Global, script: &str) -> Checked {
     match checked_of(rt, alloc, script.as_bytes()) {
         Ok(checked) => checked,
@@ -182,7 +198,7 @@ fn checked_script(rt: &impl Abort, alloc: Global, script: &str) -> Checked {
     }
 }
 
-/// In how many tables, of which each has room for one block more, an evaluation is refused before one is not.
+/// In how many tables an evaluation is refused before it is answered; each table has room for one more block.
 fn refusals<R: Threads + Abort + Sync>(
     rt: &R,
     alloc: Global,
@@ -200,31 +216,38 @@ fn refusals<R: Threads + Abort + Sync>(
     most
 }
 
-/// Asserts that a script on the cycle of so many elements is answered in each table with Nodes or the relation, and
-/// that both answers are met.
+/// Asserts that a script on a cycle is answered with Nodes or with the relation in each table, and that both occur.
 fn assert_in_each_table<R: Threads + Abort + Sync>(
     rt: &R,
     alloc: Global,
     script: &str,
-    elements: u32,
+    cycle: &Listed,
 ) {
-    let cycle = cycle(rt, alloc, elements);
     let checked = checked_script(rt, alloc, script);
     let wanted = slow_answers(rt, alloc, &checked, 0);
-    let most = room(rt, alloc, &cycle);
+    let most = room(rt, alloc, cycle);
     assert!(rt; 0 < most && most < 1022);
-    let refused = refusals(rt, alloc, &checked, &cycle, most, wanted.as_str());
+    let refused = refusals(rt, alloc, &checked, cycle, most, wanted.as_str());
     assert!(rt; 0 < refused && refused < most);
 }
 
 #[test]
 fn a_table_that_is_full_answers_nodes_and_any_other_the_relation(rt: HostRuntime) {
     let alloc = rt.alloc();
-    assert_in_each_table(&rt, alloc, SCRIPT, 20);
+    let cycle = ring(&rt, alloc, 20, 20);
+    assert_in_each_table(&rt, alloc, SCRIPT, &cycle);
 }
 
 #[test]
 fn a_table_that_is_full_answers_nodes_and_any_other_the_kernels(rt: HostRuntime) {
     let alloc = rt.alloc();
-    assert_in_each_table(&rt, alloc, KERNELS, 10);
+    let cycle = ring(&rt, alloc, 8, 8);
+    assert_in_each_table(&rt, alloc, KERNELS, &cycle);
+}
+
+#[test]
+fn a_table_that_is_full_answers_nodes_and_any_other_the_kernels_by_lines(rt: HostRuntime) {
+    let alloc = rt.alloc();
+    let cycle = ring(&rt, alloc, 8, 9);
+    assert_in_each_table(&rt, alloc, KERNELS_BY_LINES, &cycle);
 }

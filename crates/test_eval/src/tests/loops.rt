@@ -1,16 +1,16 @@
-//! Scripts of definitions and loops by chance, beside the slow evaluator, with few turns.
+//! Random scripts of definitions and loops, compared with the slow evaluator, with few turns.
 use crate::made::table;
 use crate::scripts::script;
 use crate::table::{assert_none, differing, note};
 use fork_quads::{Crew, OpenGate};
 use rel_engine::Works;
-use rel_model::engine_trait::Engine;
+use rel_slices::Remembers;
 use std::alloc::Global;
 use std::ops::Range;
 use std::process::Abort;
 
-/// Compares the scripts of some seeds, and notes those that come to something else.
-fn note_scripts<E: Engine>(
+/// Compares the scripts of some seeds, and notes those with a wrong answer.
+fn note_scripts<E: Remembers>(
     rt: &impl Abort,
     alloc: Global,
     engine: &mut E,

@@ -1,7 +1,8 @@
-//! Each refusal of an evaluation with a small script, its place and its numbers, and what comes first of two.
+//! Each refusal of an evaluation, with a small script, its place and its numbers; and of two refusals, which comes
+//! first.
 use crate::table::assert_lines;
 
-/// Scripts and their answers with 7 turns.
+/// Scripts and their answers, with 7 turns.
 const CASES: &str = r##"
 PRINT A. => Unknown A 1:7
 PRINT B&A. => Unknown B 1:7

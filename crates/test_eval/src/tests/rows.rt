@@ -1,7 +1,7 @@
-//! Small scripts from the field and what `parse`, `check` and `eval` answer to them.
+//! Small scripts from the field, and what `parse`, `check` and `eval` answer to them.
 use crate::table::assert_lines;
 
-/// Scripts and their answers with 7 turns.
+/// Scripts and their answers, with 7 turns.
 const CASES: &str = r##"
 REL A 3 3 {1:2; 2:3}. PRINT A*A. => 3x3 1:3
 REL A 3 3 {1:2; 2:3}. PRINT -A. => 3x3 1:1 1:3 2:1 2:2 3:1 3:2 3:3

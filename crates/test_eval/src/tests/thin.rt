@@ -1,20 +1,20 @@
-//! Constructs on thin relations, which are lines inside of an evaluation and stand whole where they have a name, beside
-//! their membership formulas.
+//! Constructs on thin relations, compared with their membership formulas. Within an evaluation thin relations are
+//! lines; under a name they are whole.
 use crate::made::table;
 use crate::table::{append, assert_none, differing, lines, note};
 use fork_quads::{Crew, OpenGate};
 use rel_engine::Works;
-use rel_model::engine_trait::Engine;
+use rel_slices::Remembers;
 use std::alloc::Global;
 use std::process::Abort;
 
-/// A and C of 3 rows and 257 columns, B and D of 257 rows and 2 columns, V a vector of 257 rows; small relations M of 3
-/// and N of 2 elements, K of 3 rows and 2 columns; H of 257 elements, P of 257 rows and 70 columns. And programs whose
-/// variables hold lines.
+/// The relations, and programs whose variables hold lines. A and C have 3 rows and 257 columns, B and D 257 rows and 2
+/// columns, P 257 rows and 70 columns, K 3 rows and 2 columns. V is a vector of 257 rows. M, N and H are relations on
+/// 3, 2 and 257 elements.
 const FRONT: &str =
     "REL A 3 257 {1:1,8,9,257; 2:2,64,65; 3:1,2,3,200}. REL C 3 257 {1:2,9,256; 2:2,3,65,66; 3:200,257}. REL B 257 2 {1:1; 2:1,2; 64:2; 65:1; 200:1; 257:2}. REL D 257 2 {2:2; 3:1; 65:1; 128:2; 257:1,2}. REL V 257 1 {2:1; 3:1; 65:1; 256:1; 257:1}. REL M 3 3 {1:2; 2:3; 3:1,3}. REL N 2 2 {1:2; 2:1,2}. REL K 3 2 {1:1; 3:1,2}. REL H 257 257 {1:257; 2:3; 3:2,65; 65:66; 128:1; 256:257; 257:1,256}. REL P 257 70 {1:70; 3:1; 65:65; 257:3,64}. REL X 9 9 {1:2; 2:3; 3:4; 4:5; 5:6; 6:7; 7:8; 8:9; 9:1}. REL Y 9 9 {1:2; 2:1,3; 3:2,4; 4:3,5; 5:4,6; 6:5,7; 7:6,8; 8:7,9; 9:8}. Id(R) = R. Held(R,S) DECL x, y BEG x = -R; y = x|S; x = y&R; IF incl(x,R) THEN y = x|S&x FI RETURN y END. Meet(R,S) = (-R)*(-S). Kernels(G) DECL e, breaks BEG e = epsi(Ln1(G)); breaks = (e&G*e)|-(e|G*e) RETURN e*inj(-ran(breaks))^ END. Sets(G) DECL e, v BEG e = epsi(Ln1(G)); v = -ran(e&G*e) RETURN v END. Reach(R,S) DECL x, y BEG x = S; y = R^*S&-x; WHILE -empty(y) DO x = x|y; y = R^*y&-x OD RETURN x END. Pairs(R,S) DECL D = PROD(R,S) BEG RETURN p-1(D)*p-2(D)^ END. LIST ";
 
-/// Each is one expression.
+/// One expression per line.
 const EXPRESSIONS: &str = "
 A|C
 A&C
@@ -135,7 +135,7 @@ V*V^
 V^*V
 ";
 
-/// A script of an expression.
+/// The script with an expression.
 fn script(rt: &impl Abort, alloc: Global, expression: &[u8]) -> Vec<u8> {
     let mut text = Vec::new(alloc);
     append(rt, &mut text, FRONT.as_bytes());
@@ -144,8 +144,13 @@ fn script(rt: &impl Abort, alloc: Global, expression: &[u8]) -> Vec<u8> {
     text
 }
 
-/// Compares each expression, and notes those that are answered otherwise.
-fn note_expressions<E: Engine>(rt: &impl Abort, alloc: Global, engine: &mut E, wrong: &mut String) {
+/// Compares each expression, and notes those with a wrong answer.
+fn note_expressions<E: Remembers>(
+    rt: &impl Abort,
+    alloc: Global,
+    engine: &mut E,
+    wrong: &mut String,
+) {
     let all = lines(rt, alloc, EXPRESSIONS);
     let mut number: usize = 0;
     'lines: for line in all.as_slice() {
