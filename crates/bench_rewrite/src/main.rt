@@ -1,7 +1,7 @@
-//! How long rewriting takes: `bench_rewrite CALL SHAPE COUNT`, of a chain of so many operands of a shape.
+//! Measures rewriting: `bench_rewrite CALL SHAPE COUNT`, on a chain of COUNT operands of a shape.
 //!
-//! The calls are `rewrite` and `calm`. The line has the nanoseconds of the one call, the bytes of the script, and how
-//! many steps it has.
+//! The calls are `rewrite` and `calm`. The line has the nanoseconds of the one call, the length of the script in bytes,
+//! and the number of steps.
 #![tactic(auto)]
 
 use lang_model::limits::SCRIPT_LIMIT;
@@ -20,14 +20,14 @@ enum Call {
     Calm,
 }
 
-/// A chain: its operand, again and again, and the sign between.
+/// The shape of a chain: the operand that is repeated, and the operator between.
 #[derive(Clone, Copy)]
 struct Shape {
     operand: &'static str,
     sign: &'static str,
 }
 
-/// The call of a name.
+/// The call with this name.
 fn call_of(name: &str) -> Option<Call> {
     match name {
         "rewrite" => Some(Call::Rewrite),
@@ -36,7 +36,7 @@ fn call_of(name: &str) -> Option<Call> {
     }
 }
 
-/// The shape of a name.
+/// The shape with this name.
 fn shape_of(name: &str) -> Option<Shape> {
     match name {
         "names" => Some(Shape {
@@ -71,7 +71,7 @@ fn shape_of(name: &str) -> Option<Shape> {
     }
 }
 
-/// A script that prints a chain of so many operands.
+/// A script that prints a chain of `count` operands.
 fn script(alloc: Global, shape: Shape, count: u64) -> io::Result<String> {
     let mut text = String::from_str(alloc, "PRINT ")?;
     text.push_str(shape.operand)?;
@@ -91,7 +91,8 @@ fn value_of(script: &Script) -> Option<&Expr> {
     }
 }
 
-/// Prints the nanoseconds in which an expression of so many bytes is rewritten with its steps, and how many there are.
+/// Prints how many nanoseconds it takes to rewrite an expression with its steps, the length of the script, and how many
+/// steps there are.
 fn measure_rewrite<R: Print + Clock>(
     rt: &R,
     alloc: Global,
@@ -107,7 +108,7 @@ fn measure_rewrite<R: Print + Clock>(
     }
 }
 
-/// The same without its steps.
+/// The same without the steps.
 fn measure_calm<R: Print + Clock>(
     rt: &R,
     alloc: Global,
@@ -123,7 +124,7 @@ fn measure_calm<R: Print + Clock>(
     }
 }
 
-/// Measures a call of the expression that a text prints.
+/// Measures a call on the expression that a script prints.
 fn measure<R: Print + Clock>(rt: &R, alloc: Global, call: Call, text: &str) -> io::Result<()> {
     if text.len() > SCRIPT_LIMIT {
         return println!(rt; "too long");
@@ -140,7 +141,7 @@ fn measure<R: Print + Clock>(rt: &R, alloc: Global, call: Call, text: &str) -> i
     }
 }
 
-/// The next word as a number, or 0.
+/// A word as a number; 0 if it is not one.
 fn number(word: Option<String>) -> u64 {
     match word {
         Some(word) => word.as_str().parse().unwrap_or(0),

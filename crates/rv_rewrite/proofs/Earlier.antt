@@ -1,6 +1,6 @@
 -- Operands that stand twice, by the lists that the code goes over; and equality up to places as an equivalence.
 use Rattle.std.proofs.lemmas.Grind.{common_steps}
-use Rattle.std.proofs.Common.{◌≡◌, ◌∙◌, ◌-◌, ◌==◌, ◌&&◌, ◌||◌, drop, take, get_or, ◌++◌, ◌+◌, ◌<◌, ◌≤◌, nat_lt, add-one, cond, ℕ, Bool, true, false, List, [], ◌∷◌, length, Some, None, refl, sym, ap, inl, inr, arith}
+use Rattle.std.proofs.Common.{◌≡◌, ◌∙◌, ◌-◌, ◌==◌, ◌&&◌, ◌||◌, drop, take, get_or, ◌++◌, ◌+◌, ◌<◌, ◌≤◌, nat_lt, add-one, cond, ℕ, Bool, true, false, List, [], ◌∷◌, length, Some, None, refl, sym, ap, subst, inl, inr, arith}
 use Rattle.std.proofs.lemmas.Bool.{and_parts, or_cases, false≢true}
 use Rattle.std.proofs.lemmas.Bool.Decides.{nat_tests}
 use Rattle.rv_rewrite.proofs.Equal.{same-left}
@@ -16,7 +16,7 @@ use Rattle.lang_model.specs.Limits.{compared_limit}
 use Rattle.lang_model.specs.Trees.{Tree, ChainTree, Branches, NoBranch, MoreBranches, tree_of}
 use Rattle.lang_model.specs.Rewriting.{same_operator, same_tree, same_branches, is_of_one_sign, link_count, without_repeats, repeated_operands, chain_of, where_some}
 use Rattle.rv_rewrite.specs.Items.{links_of, links_ahead}
-use Rattle.rv_rewrite.specs.Repeated.{chain_parts, is_among, kept_with, repeats, may_be_shortened, operands_behind, without_earlier, all_equal}
+use Rattle.rv_rewrite.specs.Repeated.{chain_parts, is_among, kept_with, KeepsAlike, repeats, may_be_shortened, operands_behind, without_earlier, all_equal}
 
 -- one more operand stands first
 pub behind_one : (before : List Tree) (xs : List Link) (y : Link) → operands_behind before (xs ++ y ∷ []) ≡ tree_of y.right ∷ operands_behind before xs
@@ -281,6 +281,28 @@ kept_one first all kept left x more e h = either (is_among first kept (tree_of x
     either : (b : Bool) → is_among first kept (tree_of x.right) ≡ b → KeptSoFar first all (cond b kept (kept ++ x ∷ [])) more
     either true a = kept_skip first all kept left x more e a h
     either false a = kept_more first all kept left x more e a h
+
+-- the same with a copy of the link
+kept_alike : (first : Tree) (all kept new : List Link) (x : Link) (more : List Link) → KeepsAlike first kept x new
+    → KeptSoFar first all kept (x ∷ more) → KeptSoFar first all new more
+kept_alike first all kept new x more k h =
+    let y = k.0 in
+    let a = k.1 in
+    let same : links_of (x ∷ more) ≡ links_of (y ∷ more) = λ i. MoreBranches (sym a.at i) (sym a.op i) (sym a.right i) (links_of more) in
+    subst (λ z. KeptSoFar first all z more) (sym k.2)
+    (kept_one first all kept (y ∷ more) y more refl (h ∙ ap (λ z. links_ahead kept (without_repeats (operands_behind (first ∷ []) kept) z)) same))
+
+pub kept_copied : (first : Tree) (all kept new : List Link) (i : ℕ) (x : Link) → drop i all ≡ x ∷ drop (i + 1) all → KeepsAlike first kept x new
+    → KeptSoFar first all kept (drop i all) → KeptSoFar first all new (drop (i + 1) all)
+kept_copied first all kept new i x d k h = kept_alike first all kept new x (drop (i + 1) all) k (subst (KeptSoFar first all kept) d h)
+
+pub keeps_none : (first : Tree) (kept : List Link) (x : Link) → is_among first kept (tree_of x.right) ≡ true → KeepsAlike first kept x kept
+keeps_none first kept x a = (x, record { at = refl; op = refl; right = refl }, sym (ap (λ b. cond b kept (kept ++ x ∷ [])) a))
+
+pub keeps_copy : (first : Tree) (kept : List Link) (x y : Link) (new : List Link) → is_among first kept (tree_of x.right) ≡ false
+    → y.at ≡ x.at → y.op ≡ x.op → tree_of y.right ≡ tree_of x.right → new ≡ kept ++ y ∷ [] → KeepsAlike first kept x new
+keeps_copy first kept x y new a p o r n =
+    (y, record { at = p; op = o; right = r }, n ∙ sym (ap (λ b. cond b kept (kept ++ y ∷ [])) (ap (is_among first kept) r ∙ a)))
 
 pub kept_all : (first : Tree) (all kept left : List Link) → left ≡ [] → KeptSoFar first all kept left
     → links_of kept ≡ without_repeats (first ∷ []) (links_of all)

@@ -1,4 +1,4 @@
--- Arguments and links as lists, as the code has them, and their trees.
+-- Arguments and links as the lists that the code has, and their trees.
 use Rattle.std.specs.Prelude.{List, [], ◌∷◌}
 use Rattle.lang_model.specs.declared.syntax.Expr.{Expr}
 use Rattle.lang_model.specs.declared.syntax.Link.{Link}
@@ -14,12 +14,12 @@ abbrev pub links_of : List Link → Branches
 links_of [] = NoBranch
 links_of (x ∷ links) = MoreBranches x.at x.op (tree_of x.right) (links_of links)
 
--- arguments ahead of others
+-- arguments put before others
 abbrev pub args_ahead : List Expr → Trees → Trees
 args_ahead [] others = others
 args_ahead (e ∷ args) others = MoreTrees (tree_of e) (args_ahead args others)
 
--- links ahead of others
+-- links put before others
 abbrev pub links_ahead : List Link → Branches → Branches
 links_ahead [] others = others
 links_ahead (x ∷ links) others = MoreBranches x.at x.op (tree_of x.right) (links_ahead links others)

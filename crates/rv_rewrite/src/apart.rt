@@ -1,4 +1,4 @@
-//! Nodes taken apart: what a rule keeps is moved, and never copied.
+//! Taking nodes apart. What a rule keeps is moved, never copied.
 ghost use Rattle.std.specs.Prelude.{◌≡◌, MatchOption, None, Some};
 ghost use Rattle.lang_model.specs.Trees.{tree_of};
 ghost use Rattle.lang_model.specs.Rewriting.{negated, turned_once, two_operands, operands_of};
@@ -11,7 +11,7 @@ use crate::sides::{Mark, is_lattice};
 use lang_model::syntax::{Base, Expr, Link, Op2, Place};
 use std::alloc::Global;
 
-/// Takes an expression out of its place, and leaves one that takes no memory.
+/// Takes an expression out of its place, leaving one there that uses no heap memory.
 pub fn take(alloc: Global, slot: &mut Expr) -> Expr
     ensures { result ≡ slot.old }
 {
@@ -39,7 +39,7 @@ pub struct Operands {
     pub right: Expr,
 }
 
-/// The operand of a prefix `-`.
+/// The operand of a prefix `-`, if the node has one.
 pub fn into_negated(alloc: Global, expr: Expr) -> Option<Expr>
     ensures { MatchOption result (negated (tree_of expr) ≡ None)
         (λ e. negated (tree_of expr) ≡ Some (tree_of e)) }
@@ -51,7 +51,7 @@ pub fn into_negated(alloc: Global, expr: Expr) -> Option<Expr>
     }
 }
 
-/// The operand of a single sign `^`.
+/// The operand of a single sign `^`, if the node has one.
 pub fn into_turned_once(alloc: Global, expr: Expr) -> Option<Expr>
     ensures { MatchOption result (turned_once (tree_of expr) ≡ None)
         (λ e. turned_once (tree_of expr) ≡ Some (tree_of e)) }
@@ -69,7 +69,7 @@ pub fn into_turned_once(alloc: Global, expr: Expr) -> Option<Expr>
     }
 }
 
-/// The operand of signs `^`.
+/// The operand of signs `^`, if the node has any.
 pub fn into_turns(alloc: Global, expr: Expr) -> Option<Turns>
     ensures { MatchOption result (turn (tree_of expr) ≡ None)
         (λ x. turn (tree_of expr) ≡ Some (record { at = x.at; of = tree_of x.of; times = x.times })) }
@@ -85,7 +85,7 @@ pub fn into_turns(alloc: Global, expr: Expr) -> Option<Turns>
     }
 }
 
-/// The first operand and the links of a chain.
+/// The first operand and the links of a chain, if the node is one.
 #[tactic(auto, using(crate::proofs::Items::tree_chain))]
 pub fn into_chain(alloc: Global, expr: Expr) -> Option<(Expr, Vec<Link>)>
     ensures { MatchOption result (chain_parts (tree_of expr) ≡ None)
@@ -102,7 +102,7 @@ pub fn into_chain(alloc: Global, expr: Expr) -> Option<(Expr, Vec<Link>)>
     }
 }
 
-/// The operands of a chain of exactly two.
+/// The two operands of a chain, if the node is a chain of exactly two.
 #[tactic(auto, using(crate::proofs::Items::tree_chain))]
 pub fn into_two(alloc: Global, expr: Expr) -> Option<Operands>
     ensures { MatchOption result (two_operands (tree_of expr) ≡ None)
@@ -131,7 +131,7 @@ pub fn into_two(alloc: Global, expr: Expr) -> Option<Operands>
     }
 }
 
-/// The operand of a mark.
+/// The operand that carries this mark, without it.
 fn into_marked(alloc: Global, mark: Mark, expr: Expr) -> Option<Expr>
     ensures { MatchOption result (marked mark (tree_of expr) ≡ None)
         (λ e. marked mark (tree_of expr) ≡ Some (tree_of e)) }
@@ -142,7 +142,7 @@ fn into_marked(alloc: Global, mark: Mark, expr: Expr) -> Option<Expr>
     }
 }
 
-/// The operands of two marked ones in a chain of exactly two.
+/// The two operands of a chain, without their marks, if the node is a chain of exactly two with these marks.
 fn into_sides(alloc: Global, left: Mark, right: Mark, expr: Expr) -> Option<Operands>
     ensures { MatchOption result (sides left right (tree_of expr) ≡ None)
         (λ x. sides left right (tree_of expr)
@@ -162,7 +162,7 @@ fn into_sides(alloc: Global, left: Mark, right: Mark, expr: Expr) -> Option<Oper
     })
 }
 
-/// The operands of a chain of exactly two with this operator.
+/// The two operands of a chain, if the node is a chain of exactly two with this operator.
 pub fn into_operands_of(alloc: Global, op: Op2, expr: Expr) -> Option<(Expr, Expr)>
     ensures { MatchOption result (operands_of op (tree_of expr) ≡ None)
         (λ x. operands_of op (tree_of expr) ≡ Some (tree_of x.0, tree_of x.1)) }
@@ -179,7 +179,8 @@ pub fn into_operands_of(alloc: Global, op: Op2, expr: Expr) -> Option<(Expr, Exp
     }
 }
 
-/// The operands of two marked ones with this operator between them.
+/// The two operands of a chain, without their marks, if the node is a chain of exactly two with these marks and this
+/// operator.
 pub fn into_sides_of(
     alloc: Global,
     op: Op2,
@@ -202,7 +203,7 @@ pub fn into_sides_of(
     }
 }
 
-/// The operands of two with one mark at both, and `|` or `&` between them.
+/// The two operands of a chain of `|` or `&`, without their marks, if both carry this one.
 pub fn into_lattice_sides(alloc: Global, mark: Mark, expr: Expr) -> Option<Operands>
     ensures { MatchOption result (lattice_sides mark (tree_of expr) ≡ None)
         (λ x. lattice_sides mark (tree_of expr)

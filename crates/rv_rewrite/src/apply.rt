@@ -1,4 +1,4 @@
-//! What each rule makes of a node. The parts that it keeps are moved.
+//! What each rule makes of a node. The parts that a rule keeps are moved.
 ghost use Rattle.std.specs.Prelude.{◌≡◌, ◌∷◌, [], IfOk, OnOk};
 ghost use Rattle.lang_model.specs.Trees.{tree_of};
 ghost use Rattle.lang_model.specs.Rewriting.{chain_of, without_repeats, double_complement, many_turns, turned_again, repeated_operands, to_right_residual, to_left_residual, turned_product, turned_operands, negated_operands, to_quotient, result_of_rule};
@@ -19,7 +19,7 @@ use lang_model::syntax::{Expr, Link, Op2};
 use rel_model::NoMemory;
 use std::alloc::Global;
 
-/// What the first rule makes of a node.
+/// Rule 1: `--R` becomes `R`.
 fn double_complement(alloc: Global, node: Expr) -> Result<Option<Expr>, NoMemory>
     ensures { IfOk result (IsMade (double_complement (tree_of node))) }
 {
@@ -32,7 +32,7 @@ fn double_complement(alloc: Global, node: Expr) -> Result<Option<Expr>, NoMemory
     }
 }
 
-/// What the second rule makes of a node.
+/// Rule 2: `R` turned more than once becomes `R` or `R^`.
 #[tactic(auto, using(crate::proofs::Ruled::many_turns_of))]
 fn many_turns(alloc: Global, node: Expr) -> Result<Option<Expr>, NoMemory>
     ensures { IfOk result (IsMade (many_turns (tree_of node))) }
@@ -52,7 +52,8 @@ fn many_turns(alloc: Global, node: Expr) -> Result<Option<Expr>, NoMemory>
     }
 }
 
-/// What the third rule makes of a node. More signs than a number of 32 bits counts have no room.
+/// Rule 3: `R` turned and turned again becomes `R` with all the signs. Refused if these are more than 32 bits can
+/// count.
 #[tactic(auto, using(crate::proofs::Ruled::turned_again_of))]
 fn turned_again(alloc: Global, node: Expr) -> Result<Option<Expr>, NoMemory>
     ensures { IfOk result (IsMade (turned_again (tree_of node))) }
@@ -72,7 +73,7 @@ fn turned_again(alloc: Global, node: Expr) -> Result<Option<Expr>, NoMemory>
     }
 }
 
-/// Keeps a link where its operand equals none before it.
+/// Keeps a link if its operand equals none before it.
 fn keep(first: &Expr, kept: &mut Vec<Link>, link: Link) -> Result<(), NoMemory>
     ensures { OnOk result (kept.new.items ≡ kept_with (tree_of first.now) kept.old.items link) }
 {
@@ -83,20 +84,20 @@ fn keep(first: &Expr, kept: &mut Vec<Link>, link: Link) -> Result<(), NoMemory>
     Ok(())
 }
 
-/// The links of a chain without those whose operand equals one before it.
+/// The links of a chain, without those whose operand equals one before it.
 fn kept_links(alloc: Global, first: &Expr, links: Vec<Link>) -> Result<Vec<Link>, NoMemory>
     ensures { IfOk result (λ v. links_of v.items
         ≡ without_repeats (tree_of first.now ∷ []) (links_of links.items)) }
 {
-    let mut kept = Vec::new(alloc);
+    let mut kept = Vec::with_capacity(alloc, links.len())?;
     'each: for link in links {
         keep(first, &mut kept, link)?;
     }
     Ok(kept)
 }
 
-/// A chain, or its first operand alone where no link is kept.
-fn shortened(alloc: Global, first: Expr, kept: Vec<Link>) -> Result<Expr, NoMemory>
+/// The chain of an operand and the links that are kept, or the operand alone if there are none.
+pub fn shortened(alloc: Global, first: Expr, kept: Vec<Link>) -> Result<Expr, NoMemory>
     ensures { IfOk result (λ e. tree_of e ≡ chain_of (tree_of first) (links_of kept.items)) }
 {
     if kept.as_slice().is_empty() {
@@ -106,7 +107,7 @@ fn shortened(alloc: Global, first: Expr, kept: Vec<Link>) -> Result<Expr, NoMemo
     Ok(Expr::Chain { first, rest: kept })
 }
 
-/// What the fourth rule makes of a node.
+/// Rule 4: a chain of `|` or of `&` loses its repeated operands.
 #[tactic(auto, using(crate::proofs::Earlier::repeated_of))]
 fn repeated_operands(alloc: Global, node: Expr) -> Result<Option<Expr>, NoMemory>
     ensures { IfOk result (IsMade (repeated_operands (tree_of node))) }
@@ -124,7 +125,7 @@ fn repeated_operands(alloc: Global, node: Expr) -> Result<Option<Expr>, NoMemory
     }
 }
 
-/// What the fifth rule makes of a node.
+/// Rule 5: `-(R^*-S)` becomes `R\S`.
 #[tactic(auto, using(crate::proofs::Ruled::right_residual_sides))]
 fn to_right_residual(alloc: Global, node: Expr) -> Result<Option<Expr>, NoMemory>
     ensures { IfOk result (IsMade (to_right_residual (tree_of node))) }
@@ -142,7 +143,7 @@ fn to_right_residual(alloc: Global, node: Expr) -> Result<Option<Expr>, NoMemory
     }
 }
 
-/// What the sixth rule makes of a node.
+/// Rule 6: `-(-S*R^)` becomes `S/R`.
 #[tactic(auto, using(crate::proofs::Ruled::left_residual_sides))]
 fn to_left_residual(alloc: Global, node: Expr) -> Result<Option<Expr>, NoMemory>
     ensures { IfOk result (IsMade (to_left_residual (tree_of node))) }
@@ -160,7 +161,7 @@ fn to_left_residual(alloc: Global, node: Expr) -> Result<Option<Expr>, NoMemory>
     }
 }
 
-/// What the seventh rule makes of a node.
+/// Rule 7: `R^*S^` becomes `(S*R)^`.
 #[tactic(auto, using(crate::proofs::Ruled::turned_product_sides))]
 fn turned_product(alloc: Global, node: Expr) -> Result<Option<Expr>, NoMemory>
     ensures { IfOk result (IsMade (turned_product (tree_of node))) }
@@ -176,7 +177,7 @@ fn turned_product(alloc: Global, node: Expr) -> Result<Option<Expr>, NoMemory>
     }
 }
 
-/// What the eighth rule makes of a node.
+/// Rule 8: `R^|S^` becomes `(R|S)^`, and the same for `&`.
 #[tactic(auto, using(crate::proofs::Ruled::turned_operands_sides))]
 fn turned_operands(alloc: Global, node: Expr) -> Result<Option<Expr>, NoMemory>
     ensures { IfOk result (IsMade (turned_operands (tree_of node))) }
@@ -192,7 +193,7 @@ fn turned_operands(alloc: Global, node: Expr) -> Result<Option<Expr>, NoMemory>
     }
 }
 
-/// What the ninth rule makes of a node.
+/// Rule 9: `-R&-S` becomes `-(R|S)`, and `-R|-S` becomes `-(R&S)`.
 #[tactic(auto, using(crate::proofs::Ruled::negated_operands_sides))]
 fn negated_operands(alloc: Global, node: Expr) -> Result<Option<Expr>, NoMemory>
     ensures { IfOk result (IsMade (negated_operands (tree_of node))) }
@@ -208,7 +209,7 @@ fn negated_operands(alloc: Global, node: Expr) -> Result<Option<Expr>, NoMemory>
     }
 }
 
-/// What the tenth rule makes of a node.
+/// Rule 10: `(R\S)&R^/S^` becomes `syq(R,S)`.
 #[tactic(auto, using(crate::proofs::Ruled::quotient_sides))]
 fn to_quotient(alloc: Global, node: Expr) -> Result<Option<Expr>, NoMemory>
     ensures { IfOk result (IsMade (to_quotient (tree_of node))) }
@@ -234,7 +235,7 @@ fn to_quotient(alloc: Global, node: Expr) -> Result<Option<Expr>, NoMemory>
     Ok(Some(syq))
 }
 
-/// What the rule of a number makes of a node.
+/// What the rule with this number makes of a node. `None`: it does not apply.
 #[tactic(auto, unfolding(lang_model::specs::Rewriting::result_of_rule))]
 pub fn applied(alloc: Global, rule: u32, node: Expr) -> Result<Option<Expr>, NoMemory>
     ensures { IfOk result (IsMade (result_of_rule rule (tree_of node))) }

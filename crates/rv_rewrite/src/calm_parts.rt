@@ -6,7 +6,7 @@ ghost use Rattle.rv_rewrite.specs.Items.{args_of, links_of};
 
 use lang_model::syntax::{Base, Expr, Link};
 
-/// Whether a base name is that of the symmetric quotient.
+/// Whether a base name is `syq`.
 pub fn is_quotient(base: Base) -> bool
     ensures { result ≡ is_quotient base }
 {
@@ -16,7 +16,7 @@ pub fn is_quotient(base: Base) -> bool
     }
 }
 
-/// Whether an expression has names, prefixes `-`, signs `^`, chains and symmetric quotients alone.
+/// Whether an expression consists only of names, prefixes `-`, signs `^`, chains and symmetric quotients.
 #[cycle(calm)]
 #[tactic(auto, using(crate::proofs::Items::tree_call, crate::proofs::Items::tree_base, crate::proofs::Items::tree_chain))]
 pub fn is_calm(expr: &Expr) -> bool

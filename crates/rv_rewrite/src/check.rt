@@ -1,4 +1,4 @@
-//! Whether a step is one.
+//! Checking a step.
 ghost use Rattle.std.specs.Prelude.{◌≡◌};
 ghost use Rattle.lang_model.specs.Trees.{tree_of};
 ghost use Rattle.lang_model.specs.Rewriting.{is_step, is_result, result_of_rule};
@@ -13,7 +13,7 @@ use crate::results::{
 use crate::step::Step;
 use lang_model::syntax::Expr;
 
-/// Whether a node is what the rule of a number makes of another.
+/// Whether a node is what the rule with this number makes of another.
 #[tactic(auto, unfolding(lang_model::specs::Rewriting::result_of_rule))]
 fn is_result_of_rule(rule: u32, before: &Expr, after: &Expr) -> bool
     ensures { result ≡ is_result (tree_of after.now) (result_of_rule rule (tree_of before.now)) }
@@ -33,8 +33,8 @@ fn is_result_of_rule(rule: u32, before: &Expr, after: &Expr) -> bool
     }
 }
 
-/// Whether a step is one: its node is calm, and what stands after it is, up to places, what the rule of its number
-/// makes of that node. Takes no memory.
+/// Whether a step is valid: the node before it is calm, and the node after it is, up to places, what the rule with its
+/// number makes of that node. Takes no heap memory.
 pub fn check_step(step: &Step) -> bool
     ensures { result ≡ is_step (step_of step.now) }
 {

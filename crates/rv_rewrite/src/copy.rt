@@ -7,7 +7,7 @@ use lang_model::syntax::{Expr, Link};
 use rel_model::NoMemory;
 use std::alloc::Global;
 
-/// The same expression once more.
+/// A copy of an expression.
 #[cycle(copy)]
 pub fn copied(alloc: Global, expr: &Expr) -> Result<Expr, NoMemory>
     ensures { IfOk result (λ e. tree_of e ≡ tree_of expr.now) }
@@ -71,7 +71,7 @@ pub fn copied(alloc: Global, expr: &Expr) -> Result<Expr, NoMemory>
     }
 }
 
-/// The same expression once more, in a box of its own.
+/// A copy of an expression, in a box of its own.
 #[cycle(copy)]
 fn copied_box(alloc: Global, expr: &Expr) -> Result<Box<Expr>, NoMemory>
     ensures { IfOk result (λ b. tree_of b.value ≡ tree_of expr.now) }
@@ -81,12 +81,12 @@ fn copied_box(alloc: Global, expr: &Expr) -> Result<Box<Expr>, NoMemory>
     Ok(b)
 }
 
-/// The same arguments once more.
+/// A copy of arguments.
 #[cycle(copy)]
 fn copied_args(alloc: Global, args: &[Expr]) -> Result<Vec<Expr>, NoMemory>
     ensures { IfOk result (λ v. args_of v.items ≡ args_of args.now) }
 {
-    let mut copies = Vec::new(alloc);
+    let mut copies = Vec::with_capacity(alloc, args.len())?;
     'each: for arg in args {
         let copy = copied(alloc, arg)?;
         copies.push(copy)?;
@@ -94,12 +94,12 @@ fn copied_args(alloc: Global, args: &[Expr]) -> Result<Vec<Expr>, NoMemory>
     Ok(copies)
 }
 
-/// The same links once more.
+/// A copy of links.
 #[cycle(copy)]
 fn copied_links(alloc: Global, links: &[Link]) -> Result<Vec<Link>, NoMemory>
     ensures { IfOk result (λ v. links_of v.items ≡ links_of links.now) }
 {
-    let mut copies = Vec::new(alloc);
+    let mut copies = Vec::with_capacity(alloc, links.len())?;
     'each: for link in links {
         let right = copied(alloc, &link.right)?;
         copies.push(Link {

@@ -1,4 +1,4 @@
-//! The rule of the least number that applies to a node.
+//! The rule with the least number that applies to a node.
 ghost use Rattle.std.specs.Prelude.{◌≡◌, ◌∷◌, [], true, MatchOption, None, Some, option_map};
 ghost use Rattle.lang_model.specs.Trees.{tree_of};
 ghost use Rattle.lang_model.specs.Rewriting.{chain_of, without_repeats, repeated_operands, least_rule};
@@ -7,7 +7,7 @@ ghost use Rattle.rv_rewrite.specs.Items.{links_of};
 use crate::rules;
 use lang_model::syntax::{Expr, Link};
 
-/// The parts that the fourth rule keeps, where it is not known that it does not apply.
+/// The parts that rule 4 keeps. `None` if it does not apply; it is not tried if the operands are known to be distinct.
 fn repeated_operands(node: &Expr, distinct: bool) -> Option<(&Expr, &[Link])>
     requires { distinct ≡ true → repeated_operands (tree_of node.now) ≡ None }
     ensures { let t = tree_of node.now in MatchOption result (repeated_operands t ≡ None)
@@ -20,8 +20,7 @@ fn repeated_operands(node: &Expr, distinct: bool) -> Option<(&Expr, &[Link])>
     rules::repeated_operands(node)
 }
 
-/// The number of the least rule that applies to a node. Where it is known that no operand stands twice, the fourth is
-/// not tried.
+/// The least number of a rule that applies to a node. Rule 4 is not tried if the operands are known to be distinct.
 pub fn least_rule(node: &Expr, distinct: bool) -> Option<u32>
     requires { distinct ≡ true → repeated_operands (tree_of node.now) ≡ None }
     ensures { result ≡ option_map (λ x. x.0) (least_rule (tree_of node.now)) }

@@ -7,6 +7,7 @@ mod calm_parts;
 mod check;
 mod copy;
 mod least;
+mod made;
 mod make;
 mod repeats;
 mod results;

@@ -1,4 +1,4 @@
-//! New nodes.
+//! Making new nodes.
 ghost use Rattle.std.specs.Prelude.{◌≡◌, ◌∷◌, [], IfOk};
 ghost use Rattle.lang_model.specs.Trees.{CallTree, BaseTree, PairTree, MinusTree, TurnedTree, ChainTree, NoTree, MoreTrees, tree_of};
 ghost use Rattle.lang_model.specs.Rewriting.{two};
@@ -15,7 +15,7 @@ pub fn two(alloc: Global, at: Place, left: Expr, op: Op2, right: Expr) -> Result
     ensures { IfOk result (λ e. tree_of e ≡ two at (tree_of left) op (tree_of right)) }
 {
     let first = Box::new(alloc, left)?;
-    let mut rest = Vec::new(alloc);
+    let mut rest = Vec::with_capacity(alloc, 1)?;
     rest.push(Link { at, op, right })?;
     Ok(Expr::Chain { first, rest })
 }
@@ -28,7 +28,7 @@ pub fn minus(alloc: Global, at: Place, of: Expr) -> Result<Expr, NoMemory>
     Ok(Expr::Minus { at, of })
 }
 
-/// An expression with so many signs `^`.
+/// An expression with `times` signs `^`.
 pub fn turned(alloc: Global, at: Place, of: Expr, times: u32) -> Result<Expr, NoMemory>
     ensures { IfOk result (λ e. tree_of e ≡ TurnedTree at (tree_of of) times) }
 {
@@ -40,7 +40,7 @@ pub fn turned(alloc: Global, at: Place, of: Expr, times: u32) -> Result<Expr, No
 fn two_arguments(alloc: Global, left: Expr, right: Expr) -> Result<Vec<Expr>, NoMemory>
     ensures { IfOk result (λ args. args.items ≡ left ∷ right ∷ []) }
 {
-    let mut args = Vec::new(alloc);
+    let mut args = Vec::with_capacity(alloc, 2)?;
     args.push(left)?;
     args.push(right)?;
     Ok(args)

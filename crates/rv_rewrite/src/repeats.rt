@@ -1,4 +1,4 @@
-//! Operands that stand twice in a chain of `|` alone, or of `&` alone.
+//! Repeated operands in a chain of `|` alone or of `&` alone.
 ghost use Rattle.std.specs.Prelude.{◌≡◌, ◌∷◌, []};
 ghost use Rattle.lang_model.specs.Trees.{ChainTree, tree_of};
 ghost use Rattle.lang_model.specs.Rewriting.{all_links, is_of_one_sign, is_result, repeated_operands, same_tree, same_branches, chain_of, without_repeats};
@@ -10,7 +10,7 @@ use crate::sides::is_lattice;
 use lang_model::limits::COMPARED_LIMIT;
 use lang_model::syntax::{Expr, Link, Op2};
 
-/// Whether an operand equals the first one, or that of one of these links.
+/// Whether an operand equals the first one, or the operand of one of these links.
 pub fn is_among(first: &Expr, links: &[Link], right: &Expr) -> bool
     ensures { result ≡ is_among (tree_of first.now) links.now (tree_of right.now) }
 {
@@ -22,7 +22,7 @@ pub fn is_among(first: &Expr, links: &[Link], right: &Expr) -> bool
     same(first, right)
 }
 
-/// Whether an operand of a chain equals one before it.
+/// Whether some operand of a chain equals one before it.
 fn repeats(first: &Expr, links: &[Link]) -> bool
     ensures { result ≡ repeats (tree_of first.now ∷ []) (links_of links.now) }
 {
@@ -46,7 +46,7 @@ fn all_links(op: Op2, links: &[Link]) -> bool
     true
 }
 
-/// Whether a chain is of `|` alone, or of `&` alone.
+/// Whether a chain has only operators `|`, or only operators `&`.
 fn is_of_one_sign(links: &[Link]) -> bool
     ensures { result ≡ is_of_one_sign (links_of links.now) }
 {
@@ -59,7 +59,7 @@ fn is_of_one_sign(links: &[Link]) -> bool
     all_links(link.op, more)
 }
 
-/// Whether a chain is of one sign, short enough, and has an operand that stands twice.
+/// Whether a chain has one operator throughout, is short enough, and has a repeated operand.
 pub fn may_be_shortened(first: &Expr, links: &[Link]) -> bool
     ensures { result ≡ may_be_shortened (tree_of first.now) (links_of links.now) }
 {
@@ -72,7 +72,7 @@ pub fn may_be_shortened(first: &Expr, links: &[Link]) -> bool
     repeats(first, links)
 }
 
-/// Whether all operands of links equal the first one.
+/// Whether the operands of all links equal the first one.
 fn all_equal(first: &Expr, links: &[Link]) -> bool
     ensures { result ≡ all_equal (tree_of first.now) (links_of links.now) }
 {
@@ -84,7 +84,7 @@ fn all_equal(first: &Expr, links: &[Link]) -> bool
     true
 }
 
-/// Whether links are those of a chain without operands that equal one before them.
+/// Whether the kept links are those of the chain, without the ones whose operand equals one before it.
 fn are_kept(first: &Expr, links: &[Link], kept: &[Link]) -> bool
     ensures { result ≡ same_branches (without_earlier (tree_of first.now ∷ []) (links_of links.now))
         (links_of kept.now) }
@@ -107,7 +107,7 @@ fn are_kept(first: &Expr, links: &[Link], kept: &[Link]) -> bool
     others.is_empty()
 }
 
-/// Whether a node is a chain of the first operand and of the links without those whose operand equals one before it.
+/// Whether a node is the chain of the first operand and the links, without those whose operand equals one before it.
 #[tactic(auto, using(crate::proofs::Items::tree_chain))]
 fn is_chain_kept(first: &Expr, links: &[Link], node: &Expr) -> bool
     ensures { let f = tree_of first.now in
@@ -124,7 +124,8 @@ fn is_chain_kept(first: &Expr, links: &[Link], node: &Expr) -> bool
     }
 }
 
-/// Whether a node is a chain, or its first operand alone, without the operands that equal one before them.
+/// Whether a node is what is left of a chain without the operands that equal one before them: a chain, or the first
+/// operand alone.
 fn is_shortened(first: &Expr, links: &[Link], node: &Expr) -> bool
     ensures { let f = tree_of first.now in
         result ≡ same_tree (chain_of f (without_repeats (f ∷ []) (links_of links.now))) (tree_of node.now) }
@@ -135,7 +136,7 @@ fn is_shortened(first: &Expr, links: &[Link], node: &Expr) -> bool
     is_chain_kept(first, links, node)
 }
 
-/// Whether a node is what the fourth rule makes of another.
+/// Whether a node is what rule 4 makes of another.
 pub fn is_repeated_operands(before: &Expr, after: &Expr) -> bool
     ensures { result ≡ is_result (tree_of after.now) (repeated_operands (tree_of before.now)) }
 {

@@ -1,4 +1,4 @@
-//! Whether a node is what a rule makes of another, told without making it.
+//! Whether a node is what a rule makes of another, decided without making it.
 ghost use Rattle.std.specs.Prelude.{◌≡◌};
 ghost use Rattle.lang_model.specs.Trees.{TurnedTree, BaseTree, MoreTrees, NoTree, nowhere, tree_of};
 ghost use Rattle.rv_rewrite.specs.Items.{args_of};
@@ -13,7 +13,7 @@ use crate::same::{same, same_base, same_operator};
 use crate::view::{negated, turned, turned_once, two_operands};
 use lang_model::syntax::{Base, Expr, Op2};
 
-/// The other of `|` and `&`.
+/// The other one of `|` and `&`.
 pub fn dual(op: Op2) -> Op2
     ensures { result ≡ dual op }
 {
@@ -26,7 +26,7 @@ pub fn dual(op: Op2) -> Op2
     }
 }
 
-/// Whether a node is a chain of these two operands with this operator.
+/// Whether a node is the chain of these two operands with this operator.
 #[tactic(auto, using(crate::proofs::Alike::same_two))]
 fn is_two(left: &Expr, op: Op2, right: &Expr, node: &Expr) -> bool
     ensures { result ≡ same_tree (two nowhere (tree_of left.now) op (tree_of right.now)) (tree_of node.now) }
@@ -45,7 +45,7 @@ fn is_two(left: &Expr, op: Op2, right: &Expr, node: &Expr) -> bool
     }
 }
 
-/// Whether a node is this one with so many signs `^`.
+/// Whether a node is this one with `times` signs `^`.
 #[tactic(auto, using(crate::proofs::Alike::same_turns))]
 fn is_turned(of: &Expr, times: u64, node: &Expr) -> bool
     ensures { result ≡ same_tree (TurnedTree nowhere (tree_of of.now) times) (tree_of node.now) }
@@ -61,7 +61,7 @@ fn is_turned(of: &Expr, times: u64, node: &Expr) -> bool
     }
 }
 
-/// Whether a node is what the first rule makes of another.
+/// Whether a node is what rule 1 makes of another: `--R` becomes `R`.
 pub fn is_double_complement(before: &Expr, after: &Expr) -> bool
     ensures { result ≡ is_result (tree_of after.now) (double_complement (tree_of before.now)) }
 {
@@ -71,7 +71,7 @@ pub fn is_double_complement(before: &Expr, after: &Expr) -> bool
     }
 }
 
-/// Whether a node is what the second rule makes of another.
+/// Whether a node is what rule 2 makes of another: `R` turned more than once becomes `R` or `R^`.
 #[tactic(auto, using(crate::proofs::Ruled::many_turns_of))]
 pub fn is_many_turns(before: &Expr, after: &Expr) -> bool
     ensures { result ≡ is_result (tree_of after.now) (many_turns (tree_of before.now)) }
@@ -90,7 +90,7 @@ pub fn is_many_turns(before: &Expr, after: &Expr) -> bool
     }
 }
 
-/// Whether a node is what the third rule makes of another.
+/// Whether a node is what rule 3 makes of another: `R` turned and turned again becomes `R` with all the signs.
 #[tactic(auto, using(crate::proofs::Ruled::turned_again_of))]
 pub fn is_turned_again(before: &Expr, after: &Expr) -> bool
     ensures { result ≡ is_result (tree_of after.now) (turned_again (tree_of before.now)) }
@@ -104,7 +104,7 @@ pub fn is_turned_again(before: &Expr, after: &Expr) -> bool
     }
 }
 
-/// Whether a node is what the fifth rule makes of another.
+/// Whether a node is what rule 5 makes of another: `-(R^*-S)` becomes `R\S`.
 pub fn is_right_residual(before: &Expr, after: &Expr) -> bool
     ensures { result ≡ is_result (tree_of after.now) (to_right_residual (tree_of before.now)) }
 {
@@ -114,7 +114,7 @@ pub fn is_right_residual(before: &Expr, after: &Expr) -> bool
     }
 }
 
-/// Whether a node is what the sixth rule makes of another.
+/// Whether a node is what rule 6 makes of another: `-(-S*R^)` becomes `S/R`.
 pub fn is_left_residual(before: &Expr, after: &Expr) -> bool
     ensures { result ≡ is_result (tree_of after.now) (to_left_residual (tree_of before.now)) }
 {
@@ -124,7 +124,7 @@ pub fn is_left_residual(before: &Expr, after: &Expr) -> bool
     }
 }
 
-/// Whether a node is a chain of these two operands with this operator, turned once.
+/// Whether a node is the chain of these two operands with this operator, turned once.
 #[tactic(auto, using(crate::proofs::Alike::same_turns_of_two))]
 fn is_two_turned(left: &Expr, op: Op2, right: &Expr, node: &Expr) -> bool
     ensures { result
@@ -136,7 +136,7 @@ fn is_two_turned(left: &Expr, op: Op2, right: &Expr, node: &Expr) -> bool
     }
 }
 
-/// Whether a node is what the seventh rule makes of another.
+/// Whether a node is what rule 7 makes of another: `R^*S^` becomes `(S*R)^`.
 pub fn is_turned_product(before: &Expr, after: &Expr) -> bool
     ensures { result ≡ is_result (tree_of after.now) (turned_product (tree_of before.now)) }
 {
@@ -146,7 +146,7 @@ pub fn is_turned_product(before: &Expr, after: &Expr) -> bool
     }
 }
 
-/// Whether a node is what the eighth rule makes of another.
+/// Whether a node is what rule 8 makes of another: `R^|S^` becomes `(R|S)^`, and the same for `&`.
 pub fn is_turned_operands(before: &Expr, after: &Expr) -> bool
     ensures { result ≡ is_result (tree_of after.now) (turned_operands (tree_of before.now)) }
 {
@@ -156,7 +156,7 @@ pub fn is_turned_operands(before: &Expr, after: &Expr) -> bool
     }
 }
 
-/// Whether a node is what the ninth rule makes of another.
+/// Whether a node is what rule 9 makes of another: `-R&-S` becomes `-(R|S)`, and `-R|-S` becomes `-(R&S)`.
 #[tactic(auto, using(crate::proofs::Alike::same_minus))]
 pub fn is_negated_operands(before: &Expr, after: &Expr) -> bool
     ensures { result ≡ is_result (tree_of after.now) (negated_operands (tree_of before.now)) }
@@ -170,7 +170,7 @@ pub fn is_negated_operands(before: &Expr, after: &Expr) -> bool
     }
 }
 
-/// Whether arguments are these two.
+/// Whether the arguments are these two.
 fn are_two(first: &Expr, second: &Expr, args: &[Expr]) -> bool
     ensures { result ≡ same_trees (MoreTrees (tree_of first.now) (MoreTrees (tree_of second.now) NoTree))
         (args_of args.now) }
@@ -207,7 +207,7 @@ fn is_quotient_of(first: &Expr, second: &Expr, node: &Expr) -> bool
     }
 }
 
-/// Whether a node is what the tenth rule makes of another.
+/// Whether a node is what rule 10 makes of another: `(R\S)&R^/S^` becomes `syq(R,S)`.
 pub fn is_quotient(before: &Expr, after: &Expr) -> bool
     ensures { result ≡ is_result (tree_of after.now) (to_quotient (tree_of before.now)) }
 {

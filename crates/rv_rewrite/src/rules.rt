@@ -1,4 +1,4 @@
-//! The parts of a node that each rule keeps, where the rule applies.
+//! The parts of a node that each rule keeps, if the rule applies.
 ghost use Rattle.std.specs.Prelude.{◌≡◌, ◌==◌, ◌+◌, ◌%◌, ◌∷◌, [], cond, MatchOption, None, Some};
 ghost use Rattle.lang_model.specs.Trees.{TurnedTree, MinusTree, BaseTree, MoreTrees, NoTree, tree_of};
 ghost use Rattle.rv_rewrite.specs.Items.{links_of};
@@ -12,7 +12,7 @@ use crate::sides::{Mark, lattice_sides, operands_of, sides_of};
 use crate::view::{Signs, Two, chain_parts, negated, turned};
 use lang_model::syntax::{Expr, Link, Op2};
 
-/// `--R` is `R`.
+/// Rule 1, `--R` becomes `R`: R.
 pub fn double_complement(expr: &Expr) -> Option<&Expr>
     ensures { let t = tree_of expr.now in MatchOption result (double_complement t ≡ None)
         (λ r. double_complement t ≡ Some (tree_of r.now)) }
@@ -23,7 +23,7 @@ pub fn double_complement(expr: &Expr) -> Option<&Expr>
     }
 }
 
-/// `R` turned more than once is `R` or `R^`: its signs.
+/// Rule 2, `R` turned more than once becomes `R` or `R^`: its signs.
 #[tactic(auto, using(crate::proofs::Ruled::many_turns_of))]
 pub fn many_turns(expr: &Expr) -> Option<Signs<'_>>
     ensures { let t = tree_of expr.now in MatchOption result (many_turns t ≡ None)
@@ -36,7 +36,7 @@ pub fn many_turns(expr: &Expr) -> Option<Signs<'_>>
     }
 }
 
-/// `R` turned, and turned again: the outer signs and the inner ones.
+/// Rule 3, `R` turned and turned again becomes `R` with all the signs: the outer signs and the inner ones.
 #[tactic(auto, using(crate::proofs::Ruled::turned_again_of))]
 pub fn turned_again(expr: &Expr) -> Option<(Signs<'_>, Signs<'_>)>
     ensures { let t = tree_of expr.now in MatchOption result (turned_again t ≡ None)
@@ -51,7 +51,7 @@ pub fn turned_again(expr: &Expr) -> Option<(Signs<'_>, Signs<'_>)>
     }
 }
 
-/// A chain of `|` alone, or of `&` alone, in which an operand stands twice: its first operand and its links.
+/// Rule 4, a chain of `|` alone or of `&` alone loses its repeated operands: its first operand and its links.
 #[tactic(auto, using(crate::proofs::Earlier::repeated_of))]
 pub fn repeated_operands(expr: &Expr) -> Option<(&Expr, &[Link])>
     ensures { let t = tree_of expr.now in MatchOption result (repeated_operands t ≡ None)
@@ -70,7 +70,7 @@ pub fn repeated_operands(expr: &Expr) -> Option<(&Expr, &[Link])>
     }
 }
 
-/// `-(R^*-S)` is `R\S`: R and S.
+/// Rule 5, `-(R^*-S)` becomes `R\S`: R and S.
 #[tactic(auto, using(crate::proofs::Ruled::right_residual_sides))]
 pub fn to_right_residual(expr: &Expr) -> Option<(&Expr, &Expr)>
     ensures { let t = tree_of expr.now in MatchOption result (to_right_residual t ≡ None)
@@ -82,7 +82,7 @@ pub fn to_right_residual(expr: &Expr) -> Option<(&Expr, &Expr)>
     }
 }
 
-/// `-(-S*R^)` is `S/R`: S and R.
+/// Rule 6, `-(-S*R^)` becomes `S/R`: S and R.
 #[tactic(auto, using(crate::proofs::Ruled::left_residual_sides))]
 pub fn to_left_residual(expr: &Expr) -> Option<(&Expr, &Expr)>
     ensures { let t = tree_of expr.now in MatchOption result (to_left_residual t ≡ None)
@@ -94,7 +94,7 @@ pub fn to_left_residual(expr: &Expr) -> Option<(&Expr, &Expr)>
     }
 }
 
-/// `R^*S^` is `(S*R)^`: R and S.
+/// Rule 7, `R^*S^` becomes `(S*R)^`: R and S.
 #[tactic(auto, using(crate::proofs::Ruled::turned_product_sides))]
 pub fn turned_product(expr: &Expr) -> Option<(&Expr, &Expr)>
     ensures { let t = tree_of expr.now in let at = place_of_node t in MatchOption result (turned_product t ≡ None)
@@ -103,7 +103,7 @@ pub fn turned_product(expr: &Expr) -> Option<(&Expr, &Expr)>
     sides_of(Op2::Times, Mark::Turned, Mark::Turned, expr)
 }
 
-/// `R^|S^` is `(R|S)^`, and the same of `&`: R and S, with the operator.
+/// Rule 8, `R^|S^` becomes `(R|S)^`, and the same for `&`: R and S, with the operator.
 #[tactic(auto, using(crate::proofs::Ruled::turned_operands_sides))]
 pub fn turned_operands(expr: &Expr) -> Option<Two<'_>>
     ensures { let t = tree_of expr.now in let at = place_of_node t in MatchOption result (turned_operands t ≡ None)
@@ -112,7 +112,8 @@ pub fn turned_operands(expr: &Expr) -> Option<Two<'_>>
     lattice_sides(Mark::Turned, expr)
 }
 
-/// `-R&-S` is `-(R|S)`, and `-R|-S` is `-(R&S)`: R and S, with the operator between their complements.
+/// Rule 9, `-R&-S` becomes `-(R|S)`, and `-R|-S` becomes `-(R&S)`: R and S, with the operator between their
+/// complements.
 #[tactic(auto, using(crate::proofs::Ruled::negated_operands_sides))]
 pub fn negated_operands(expr: &Expr) -> Option<Two<'_>>
     ensures { let t = tree_of expr.now in let at = place_of_node t in MatchOption result (negated_operands t ≡ None)
@@ -122,7 +123,7 @@ pub fn negated_operands(expr: &Expr) -> Option<Two<'_>>
     lattice_sides(Mark::Negated, expr)
 }
 
-/// `(R\S)&R^/S^` is `syq(R,S)`: R and S.
+/// Rule 10, `(R\S)&R^/S^` becomes `syq(R,S)`: R and S.
 #[tactic(auto, using(crate::proofs::Ruled::quotient_sides))]
 pub fn to_quotient(expr: &Expr) -> Option<(&Expr, &Expr)>
     ensures { let t = tree_of expr.now in MatchOption result (to_quotient t ≡ None)

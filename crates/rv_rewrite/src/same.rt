@@ -6,21 +6,21 @@ ghost use Rattle.rv_rewrite.specs.Items.{args_of, links_of};
 
 use lang_model::syntax::{Base, Expr, Link, Op2};
 
-/// Whether two operators are one.
+/// Whether two operators are the same.
 pub fn same_operator(a: Op2, b: Op2) -> bool
     ensures { result ≡ same_operator a b }
 {
     a == b
 }
 
-/// Whether two base names are one.
+/// Whether two base names are the same.
 pub fn same_base(a: Base, b: Base) -> bool
     ensures { result ≡ same_base a b }
 {
     a == b
 }
 
-/// Whether two expressions are one up to places.
+/// Whether two expressions are the same up to places.
 #[cycle(same)]
 pub fn same(a: &Expr, b: &Expr) -> bool
     ensures { result ≡ same_tree (tree_of a.now) (tree_of b.now) }
@@ -84,7 +84,7 @@ pub fn same(a: &Expr, b: &Expr) -> bool
     }
 }
 
-/// Whether two lists of arguments are one up to places.
+/// Whether two lists of arguments are the same up to places.
 #[cycle(same)]
 fn same_args(a: &[Expr], b: &[Expr]) -> bool
     ensures { result ≡ same_trees (args_of a.now) (args_of b.now) }
@@ -102,7 +102,7 @@ fn same_args(a: &[Expr], b: &[Expr]) -> bool
     others.is_empty()
 }
 
-/// Whether two lists of links are one up to places.
+/// Whether two lists of links are the same up to places.
 #[cycle(same)]
 fn same_links(a: &[Link], b: &[Link]) -> bool
     ensures { result ≡ same_branches (links_of a.now) (links_of b.now) }

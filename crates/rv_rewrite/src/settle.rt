@@ -1,4 +1,4 @@
-//! Steps at a calm node whose parts have no next step, until there is none.
+//! Takes steps at a calm node whose parts have none left, until it has none either.
 ghost use Rattle.std.specs.Prelude.{◌≡◌, true, IfOk, None, Some, option_map};
 ghost use Rattle.lang_model.specs.Trees.{tree_of};
 ghost use Rattle.lang_model.specs.Rewriting.{is_calm, least_rule, repeated_operands};
@@ -8,13 +8,14 @@ use crate::apart::take;
 use crate::apply::applied;
 use crate::copy::copied;
 use crate::least::least_rule;
+use crate::made::made;
 use crate::make::{minus, turned};
 use crate::step::Step;
 use lang_model::syntax::Expr;
 use rel_model::NoMemory;
 use std::alloc::Global;
 
-/// Whether what a rule makes is a prefix `-` or signs `^` with a new operand.
+/// Whether a rule makes a prefix `-` or signs `^` with a new operand.
 fn makes_operand(rule: u32) -> bool
     ensures { result ≡ makes_operand rule }
 {
@@ -26,7 +27,7 @@ fn makes_operand(rule: u32) -> bool
     }
 }
 
-/// What the least rule makes of a node.
+/// What the applicable rule with the least number makes of a node.
 #[tactic(auto, using(crate::proofs::Steady::made_by_least, crate::proofs::Steady::least_makes))]
 fn applied_least(alloc: Global, rule: u32, node: Expr) -> Result<Expr, NoMemory>
     requires { Some rule ≡ option_map (λ x. x.0) (least_rule (tree_of node)) }
@@ -38,7 +39,20 @@ fn applied_least(alloc: Global, rule: u32, node: Expr) -> Result<Expr, NoMemory>
     }
 }
 
-/// What the least rule makes of a node, with the step noted where steps are kept: they alone are copies.
+/// What the applicable rule with the least number makes of a node that stays in place.
+#[tactic(auto, using(crate::proofs::Steady::made_by_least, crate::proofs::Steady::least_makes))]
+fn made_least(alloc: Global, rule: u32, node: &Expr) -> Result<Expr, NoMemory>
+    requires { Some rule ≡ option_map (λ x. x.0) (least_rule (tree_of node.now)) }
+    ensures { IfOk result (λ e. least_rule (tree_of node.now) ≡ Some (rule, tree_of e)) }
+{
+    match made(alloc, rule, node)? {
+        Some(after) => Ok(after),
+        None => unreachable!(),
+    }
+}
+
+/// What the applicable rule with the least number makes of a node. If steps are kept, the step is noted: the node
+/// itself goes into the step, and what is made of it is copied once.
 #[tactic(auto, using(crate::proofs::Settled::notes_none))]
 fn take_step(
     alloc: Global,
@@ -54,19 +68,18 @@ fn take_step(
         let after = applied_least(alloc, rule, node)?;
         return Ok(after);
     }
-    let before = copied(alloc, &node)?;
-    let last = applied_least(alloc, rule, node)?;
-    let after = copied(alloc, &last)?;
+    let after = made_least(alloc, rule, &node)?;
+    let last = copied(alloc, &after)?;
     steps.push(Step {
         rule,
-        before,
+        before: node,
         after,
     })?;
     Ok(last)
 }
 
-/// The calm tree of a calm node whose parts have no next step. Where it is known that no operand stands twice, the
-/// fourth rule is not tried; behind a step that is always so.
+/// The calm tree of a calm node whose parts have no step left. Rule 4 is not tried if the operands are known to be
+/// distinct, which they always are after a step.
 #[cycle(settle)]
 fn settle(
     alloc: Global,
@@ -91,7 +104,7 @@ fn settle(
     }
 }
 
-/// The node that a rule made, with the calm tree of its operand where that is new.
+/// The node that a rule made; if its operand is new, it is replaced by its calm tree.
 #[cycle(settle)]
 fn settle_operand(
     alloc: Global,
@@ -127,7 +140,8 @@ fn settle_operand(
     }
 }
 
-/// The calm tree of a node whose parts have no next step, told whether it is calm.
+/// The calm tree of a node whose parts have no step left, and whether it is calm. The caller says whether the node is;
+/// if not, it stays as it is.
 pub fn finish(
     alloc: Global,
     kept: bool,

@@ -1,4 +1,4 @@
-//! Two operands, each with a sign `^` or a prefix `-`, as the rules on chains of two ask for.
+//! Chains of two operands, each with a sign `^` or a prefix `-`, as the rules on such chains require.
 ghost use Rattle.std.specs.Prelude.{◌≡◌, MatchOption, None, Some};
 ghost use Rattle.lang_model.specs.Trees.{tree_of};
 ghost use Rattle.lang_model.specs.Rewriting.{is_lattice, operands_of};
@@ -8,7 +8,7 @@ use crate::same::same_operator;
 use crate::view::{Two, negated, turned_once, two_operands};
 use lang_model::syntax::{Expr, Op2};
 
-/// What stands at an operand.
+/// A mark that an operand carries. One byte.
 #[derive(Clone, Copy)]
 pub enum Mark {
     /// A single sign `^`.
@@ -28,7 +28,7 @@ pub fn is_lattice(op: Op2) -> bool
     }
 }
 
-/// The operand of a mark.
+/// The operand that carries this mark, without it.
 pub fn marked(mark: Mark, expr: &Expr) -> Option<&Expr>
     ensures { MatchOption result (marked mark (tree_of expr.now) ≡ None)
         (λ e. marked mark (tree_of expr.now) ≡ Some (tree_of e.now)) }
@@ -39,7 +39,7 @@ pub fn marked(mark: Mark, expr: &Expr) -> Option<&Expr>
     }
 }
 
-/// The operands of two marked ones in a chain of exactly two.
+/// The two operands of a chain, without their marks, if the node is a chain of exactly two with these marks.
 pub fn sides(left: Mark, right: Mark, expr: &Expr) -> Option<Two<'_>>
     ensures { MatchOption result (sides left right (tree_of expr.now) ≡ None)
         (λ x. sides left right (tree_of expr.now)
@@ -61,7 +61,7 @@ pub fn sides(left: Mark, right: Mark, expr: &Expr) -> Option<Two<'_>>
     }
 }
 
-/// The operands of a chain of exactly two with this operator.
+/// The two operands of a chain, if the node is a chain of exactly two with this operator.
 pub fn operands_of(op: Op2, expr: &Expr) -> Option<(&Expr, &Expr)>
     ensures { MatchOption result (operands_of op (tree_of expr.now) ≡ None)
         (λ x. operands_of op (tree_of expr.now) ≡ Some (tree_of x.0.now, tree_of x.1.now)) }
@@ -78,7 +78,8 @@ pub fn operands_of(op: Op2, expr: &Expr) -> Option<(&Expr, &Expr)>
     }
 }
 
-/// The operands of two marked ones with this operator between them.
+/// The two operands of a chain, without their marks, if the node is a chain of exactly two with these marks and this
+/// operator.
 pub fn sides_of(op: Op2, left: Mark, right: Mark, expr: &Expr) -> Option<(&Expr, &Expr)>
     ensures { MatchOption result (sides_of op left right (tree_of expr.now) ≡ None)
         (λ x. sides_of op left right (tree_of expr.now) ≡ Some (tree_of x.0.now, tree_of x.1.now)) }
@@ -95,7 +96,7 @@ pub fn sides_of(op: Op2, left: Mark, right: Mark, expr: &Expr) -> Option<(&Expr,
     }
 }
 
-/// The operands of two with one mark at both, and `|` or `&` between them.
+/// The two operands of a chain of `|` or `&`, without their marks, if both carry this one.
 pub fn lattice_sides(mark: Mark, expr: &Expr) -> Option<Two<'_>>
     ensures { MatchOption result (lattice_sides mark (tree_of expr.now) ≡ None)
         (λ x. lattice_sides mark (tree_of expr.now)

@@ -1,7 +1,7 @@
-//! What rewriting gives.
+//! The result of rewriting.
 use lang_model::syntax::Expr;
 
-/// One step: the number of its rule, and the node before and after it.
+/// One step: the number of its rule, and the node before and after it, on the heap.
 #[derive(Drop)]
 pub struct Step {
     pub rule: u32,
@@ -9,7 +9,7 @@ pub struct Step {
     pub after: Expr,
 }
 
-/// An expression to which no rule applies, and the steps that lead to it, in order.
+/// An expression to which no rule applies, and the steps that led to it, in order. On the heap.
 #[derive(Drop)]
 pub struct Rewritten {
     pub expr: Expr,

@@ -1,4 +1,4 @@
-//! Each rule at its smallest expression, its places, and what stays.
+//! Each rule on its smallest expression, the places that it sets, and what it leaves alone.
 use crate::make::{call, chain, minus, pair, quotient, turned, two};
 use crate::same::same;
 use crate::view::place_of_node;
@@ -8,7 +8,7 @@ use rel_model::NoMemory;
 use std::alloc::Global;
 use std::process::Abort;
 
-/// A place of the first line.
+/// A place on the first line.
 fn at(column: u32) -> Place {
     Place { line: 1, column }
 }
@@ -31,7 +31,7 @@ fn not(alloc: Global, byte: u8) -> Result<Expr, NoMemory> {
     minus(alloc, at(3), of)
 }
 
-/// Whether an expression goes by these rules to another.
+/// Whether these rules, in order, rewrite an expression to another.
 fn goes(
     rt: &impl Abort,
     alloc: Global,
@@ -183,7 +183,7 @@ fn unions_and_intersections(rt: HostRuntime) -> Result<(), std::test::Fail> {
     Ok(())
 }
 
-/// A union of one name, so many times more.
+/// The union of a name with itself, `more` times.
 fn many(alloc: Global, more: u32) -> Result<Expr, NoMemory> {
     let mut links = Vec::new(alloc);
     for _ in 0..more {

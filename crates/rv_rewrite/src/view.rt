@@ -1,4 +1,4 @@
-//! How a node is made: its parts, behind references.
+//! The parts of a node, by reference.
 ghost use Rattle.std.specs.Prelude.{◌≡◌, MatchOption, None, Some};
 ghost use Rattle.lang_model.specs.Trees.{tree_of};
 ghost use Rattle.lang_model.specs.Rewriting.{negated, turned_once, two_operands, place_of_node};
@@ -8,7 +8,7 @@ ghost use Rattle.rv_rewrite.specs.Repeated.{chain_parts};
 
 use lang_model::syntax::{Expr, Link, Op2, Place};
 
-/// Two operands with an operator between them.
+/// Two operands and the operator between them, by reference. 24 bytes.
 #[derive(Clone, Copy)]
 pub struct Two<'a> {
     pub op: Op2,
@@ -16,7 +16,7 @@ pub struct Two<'a> {
     pub right: &'a Expr,
 }
 
-/// The operand of a prefix `-`.
+/// The operand of a prefix `-`, if the node has one.
 pub fn negated(expr: &Expr) -> Option<&Expr>
     ensures { MatchOption result (negated (tree_of expr.now) ≡ None)
         (λ e. negated (tree_of expr.now) ≡ Some (tree_of e.now)) }
@@ -27,7 +27,7 @@ pub fn negated(expr: &Expr) -> Option<&Expr>
     }
 }
 
-/// The operand of a single sign `^`.
+/// The operand of a single sign `^`, if the node has one.
 pub fn turned_once(expr: &Expr) -> Option<&Expr>
     ensures { MatchOption result (turned_once (tree_of expr.now) ≡ None)
         (λ e. turned_once (tree_of expr.now) ≡ Some (tree_of e.now)) }
@@ -38,7 +38,7 @@ pub fn turned_once(expr: &Expr) -> Option<&Expr>
     }
 }
 
-/// The operands of a chain of exactly two.
+/// The two operands of a chain, if the node is a chain of exactly two.
 #[tactic(auto, using(crate::proofs::Items::tree_chain))]
 pub fn two_operands(expr: &Expr) -> Option<Two<'_>>
     ensures { MatchOption result (two_operands (tree_of expr.now) ≡ None)
@@ -59,7 +59,7 @@ pub fn two_operands(expr: &Expr) -> Option<Two<'_>>
     }
 }
 
-/// The first operand and the links of a chain.
+/// The first operand and the links of a chain, if the node is one.
 #[tactic(auto, using(crate::proofs::Items::tree_chain))]
 pub fn chain_parts(expr: &Expr) -> Option<(&Expr, &[Link])>
     ensures { MatchOption result (chain_parts (tree_of expr.now) ≡ None)
@@ -71,7 +71,7 @@ pub fn chain_parts(expr: &Expr) -> Option<(&Expr, &[Link])>
     }
 }
 
-/// The place of a node: that of its name or sign, and of a chain that of its first operator.
+/// The place of a node: the place of its name or sign, or for a chain, that of its first operator.
 pub fn place_of_node(expr: &Expr) -> Place
     ensures { result ≡ place_of_node (tree_of expr.now) }
 {
@@ -90,7 +90,7 @@ pub fn place_of_node(expr: &Expr) -> Place
     }
 }
 
-/// The operand of signs `^`, how many there are, and their place.
+/// The operand of signs `^` by reference, how many there are, and their place.
 #[derive(Clone, Copy)]
 pub struct Signs<'a> {
     pub at: Place,
@@ -98,7 +98,7 @@ pub struct Signs<'a> {
     pub times: u32,
 }
 
-/// The operand of signs `^`.
+/// The operand of signs `^`, if the node has any.
 pub fn turned(expr: &Expr) -> Option<Signs<'_>>
     ensures { MatchOption result (turn (tree_of expr.now) ≡ None)
         (λ x. turn (tree_of expr.now) ≡ Some (record { at = x.at; of = tree_of x.of.now; times = x.times })) }

@@ -1,4 +1,4 @@
-//! The walk over an expression, operands before their node and from the left.
+//! Walks over an expression, operands before their node and from the left.
 ghost use Rattle.std.specs.Prelude.{◌≡◌, ◌&&◌, IfOk};
 ghost use Rattle.lang_model.specs.Trees.{CallTree, BaseTree, PairTree, MinusTree, TurnedTree, ChainTree, tree_of};
 ghost use Rattle.rv_rewrite.specs.Items.{args_of, links_of};
@@ -19,7 +19,7 @@ fn both(a: bool, b: bool) -> bool
     a && b
 }
 
-/// The calm tree of an expression, told whether it is calm.
+/// The calm tree of an expression, and whether it is calm.
 #[cycle(walk)]
 pub fn walk(
     alloc: Global,
@@ -65,7 +65,7 @@ pub fn walk(
     }
 }
 
-/// The same of a call of a definition.
+/// The same for a call of a definition.
 #[cycle(walk)]
 fn walk_call(
     alloc: Global,
@@ -84,7 +84,7 @@ fn walk_call(
     Ok((node, false))
 }
 
-/// The same of a call of a base name.
+/// The same for a call of a base name.
 #[cycle(walk)]
 fn walk_base(
     alloc: Global,
@@ -104,7 +104,7 @@ fn walk_base(
     Ok(done)
 }
 
-/// The same of an expression with a prefix `-`.
+/// The same for an expression with a prefix `-`.
 #[cycle(walk)]
 fn walk_minus(
     alloc: Global,
@@ -122,7 +122,7 @@ fn walk_minus(
     Ok(done)
 }
 
-/// The same of an expression with signs `^`.
+/// The same for an expression with signs `^`.
 #[cycle(walk)]
 fn walk_turned(
     alloc: Global,
@@ -141,7 +141,7 @@ fn walk_turned(
     Ok(done)
 }
 
-/// The calm trees of arguments, told whether all are calm.
+/// The calm trees of arguments, and whether all are calm.
 #[cycle(walk)]
 fn walk_args(
     alloc: Global,
@@ -152,7 +152,7 @@ fn walk_args(
     ensures { IfOk result (λ x. WalksIn kept steps.old.items steps.new.items
         (args_of args.now) (args_of x.0.items) x.1) }
 {
-    let mut done = Vec::new(alloc);
+    let mut done = Vec::with_capacity(alloc, args.len())?;
     let mut all_calm = true;
     'each: for arg in args {
         let (next, calm) = walk(alloc, kept, steps, arg)?;
@@ -162,7 +162,7 @@ fn walk_args(
     Ok((done, all_calm))
 }
 
-/// The calm trees of the operands of links, told whether all are calm.
+/// The calm trees of the operands of links, and whether all are calm.
 #[cycle(walk)]
 fn walk_links(
     alloc: Global,
@@ -173,7 +173,7 @@ fn walk_links(
     ensures { IfOk result (λ x. WalksAlong kept steps.old.items steps.new.items
         (links_of links.now) (links_of x.0.items) x.1) }
 {
-    let mut done = Vec::new(alloc);
+    let mut done = Vec::with_capacity(alloc, links.len())?;
     let mut all_calm = true;
     'each: for link in links {
         let (right, calm) = walk(alloc, kept, steps, &link.right)?;
