@@ -30,11 +30,11 @@ use Rattle.relview.specs.Top.{HasRun, outcomes_of, status_of}
 use Rattle.relview.specs.Tables.{nodes_of_batch}
 use Rattle.relview.proofs.Batched.{batch_within, ends_rise, outcomes_many}
 use Rattle.relview.proofs.Tabled.{table_at, batch_count}
-use Rattle.relview.specs.Complete.{HadMemory, IsDue, CameDue, AllCameDue, NoneFailed, CompleteRuns}
+use Rattle.relview.specs.Complete.{HadMemory, IsDue, CameDue, AllCameDue, NoneFailed, NothingLacked, CompleteRuns}
 
 -- ---- one outcome
 -- neither a full table nor out of memory
-abbrev Comes : Outcome → Type 0
+abbrev pub Comes : Outcome → Type 0
 Comes outcome = (outcome ≢ Nodes) × (outcome ≢ NoMemory)
 
 -- it is the due one, or a change is told
@@ -123,15 +123,21 @@ all_filled words so sn o n report run b within =
     whole : (n : ℕ) → 0 + n ≡ n
     whole n = omega arith
 
-pub complete_runs_law : CompleteRuns
-complete_runs_law words so sn o n report run lacked =
+-- so no outcome is a full table or out of memory
+pub all_come_due : (words : List Word) (so sn : Told) (o n : Sunk) (report : Report) (run : HasRun words so sn o n report)
+    → NothingLacked words so sn o n report run → AllByRecursion (AllByRecursion Comes) (outcomes_of report)
+all_come_due words so sn o n report run lacked =
     let outcomes = outcomes_of report in
     let rise = ends_rise words run.said so.files run.input run.taken run.given in
     let many = outcomes_many run.input report.history.items 1 run.input.readings outcomes run.legal.sessions in
     let count = batch_count run.said.nodes run.input report.history.items outcomes 0 0 0 report.old.items report.words.items run.holds in
-    let comes : AllByRecursion (AllByRecursion Comes) outcomes =
     all_come run.input.ends (length run.input.readings) rise (omega (arith, count)) (nodes_of_batch run.said.nodes report) lacked.vacant 1 outcomes (omega (arith, many)) lacked.memory
-    (all_filled words so sn o n report run) in
+    (all_filled words so sn o n report run)
+
+pub complete_runs_law : CompleteRuns
+complete_runs_law words so sn o n report run lacked =
+    let outcomes = outcomes_of report in
+    let comes = all_come_due words so sn o n report run lacked in
     let told : ToldWhole so sn o n (page run.input report.history.items outcomes)
     (saves run.input report.history.items outcomes) (status_of outcomes) report.status =
     told_whole so sn o n _ _ _ _ lacked.outside run.told in

@@ -10,6 +10,7 @@ pub mod GivenRun
 pub mod Naming
 pub mod Batched
 pub mod Tabled
+pub mod Readings
 pub mod Lonely
 pub mod Roomy
 pub mod Completing

@@ -2,7 +2,9 @@
 -- 1. Words that name one script give one reading, and a lawful run of one reading has one list of outcomes.
 -- 2. A lawful run of one script for which all sufficed is the one that the script decides (`one_script_has_one_run` of
 --    `run_model`), and two such have one page and the same files (`one_script_has_one_page`).
-use Rattle.std.proofs.Common.{◌≡◌, ◌∙◌, ℕ, List, [], ◌∷◌, Option, refl, sym, ap, subst}
+-- 3. Inputs that read the same text are one for a run (`every_reading_runs` of `rv_reading`), so a run of the second is
+--    one of the first.
+use Rattle.std.proofs.Common.{◌≡◌, ◌∙◌, ℕ, List, [], ◌∷◌, map, Option, refl, sym, ap, subst}
 use Rattle.std.specs.List.{AllByRecursion}
 use Rattle.run_model.specs.declared.event.Event.{Event}
 use Rattle.run_model.specs.declared.outcome.Outcome.{Outcome}
@@ -10,15 +12,23 @@ use Rattle.run_model.specs.Inputs.{Input, Reading, AreReadings}
 use Rattle.run_model.specs.Legal.{IsLegal, LegalSessions}
 use Rattle.run_model.specs.Page.{page, saves}
 use Rattle.run_model.specs.Solo.{Suffices}
+use Rattle.run_model.specs.Events.{entry_of}
 use Rattle.run_model.proofs.Solo.{solo_is_legal}
 use Rattle.run_model.proofs.Rootless.{one_script_one_page}
-use Rattle.rv_io.specs.Outside.{Files}
+use Rattle.rv_io.specs.Outside.{Files, Told}
+use Rattle.rv_io.specs.Writing.{Grows}
 use Rattle.rv_words.specs.Uses.{Word}
 use Rattle.rv_words.specs.Said.{Said}
 use Rattle.rv_ends.specs.Given.{IsInput, AreScripts, AreTaken}
-use Rattle.rv_ends.specs.Writing.{IsTold}
-use Rattle.relview.specs.Top.{outcomes_of, status_of}
-use Rattle.relview.specs.Alone.{AllSuffice, NameOne, AloneIsSolo, AloneIsOneRun}
+use Rattle.rv_ends.specs.Writing.{Sunk, HasPut, IsTold}
+use Rattle.rv_spell.proofs.OneScript.{one_script_law}
+use Rattle.rv_reading.specs.Inputs.{ReadAlike, AreOneInput}
+use Rattle.rv_reading.proofs.Alike.{texts_are_one_input}
+use Rattle.relview.specs.declared.report.Report.{Report}
+use Rattle.relview.specs.Top.{HasRun, outcomes_of, status_of}
+use Rattle.relview.specs.Alone.{AllSuffice, NameOne, AloneIsSolo, AloneIsOneRun, AloneIsOneAnswer}
+use Rattle.relview.proofs.Completing.{all_come_due, complete_runs_law}
+use Rattle.relview.proofs.Readings.{turned_round, told_alike, same_files_read_alike}
 
 -- ---- one of each
 one_taken : (files : Option Files) (word : Word) (scripts : List (List ℕ)) → AreTaken files (word ∷ []) scripts
@@ -78,31 +88,68 @@ alone_is_solo words a b o n report ran one all =
       history = decided.1;
     }
 
-pub alone_is_one_run : AloneIsOneRun
-alone_is_one_run words others a b c d o n p q first second ran again one same all every =
-    let input = ran.input in
-    let read = one_reading ran.said a.files input one ran.given in
-    let legal : IsLegal input second.history.items (outcomes_of second) = subst (λ i. IsLegal i second.history.items (outcomes_of second)) same again.legal in
-    let runs = runs_one input first.history.items (outcomes_of first) read.0 read.1 ran.legal all in
-    let others_run = runs_one input second.history.items (outcomes_of second) read.0 read.1 legal every in
-    let decided = (solo_is_legal input read.0 first.history.items runs.one read.1 runs.suffice).0 runs.legal in
-    let redecided = (solo_is_legal input read.0 second.history.items others_run.one read.1 others_run.suffice).0 others_run.legal in
-    let alike = one_script_one_page input read.0 first.history.items second.history.items runs.one others_run.one read.1
-    runs.suffice others_run.suffice runs.legal others_run.legal in
-    let outcomes : outcomes_of first ≡ outcomes_of second = runs.is ∙ (ap (λ os. os ∷ []) alike.0 ∙ sym others_run.is) in
-    let paged : page input second.history.items (outcomes_of second) ≡ page input first.history.items (outcomes_of first)
-    = ap (page input second.history.items) others_run.is ∙ (sym alike.1 ∙ ap (page input first.history.items) (sym runs.is)) in
-    let saved : saves input second.history.items (outcomes_of second) ≡ saves input first.history.items (outcomes_of first)
-    = ap (saves input second.history.items) others_run.is ∙ (sym alike.2 ∙ ap (saves input first.history.items) (sym runs.is)) in
-    let told = subst (λ i. IsTold c d p q (page i second.history.items (outcomes_of second))
-    (saves i second.history.items (outcomes_of second)) (status_of (outcomes_of second)) second.status) same again.told in
+-- ---- two runs
+-- two runs of inputs that read the same text
+record AreOne (a b : Input) (h k : List Event) (os ps : List (List Outcome)) : Type 0 where
+  outcomes : os ≡ ps
+  history : map entry_of h ≡ map entry_of k
+  page : page b k ps ≡ page a h os
+  saves : saves b k ps ≡ saves a h os
+
+-- the second is a run of the first input too, and both are the run that this one decides
+are_one : (a b : Input) (h k : List Event) (os ps : List (List Outcome)) (reading : Reading) → a.readings ≡ reading ∷ []
+    → AreOneInput b a → IsLegal a h os → IsLegal b k ps → AllSuffice os → AllSuffice ps → AreOne a b h k os ps
+are_one a b h k os ps reading read same legal lawful all every =
+    let runs = runs_one a h os reading read legal all in
+    let others = runs_one a k ps reading read (same.legal k ps lawful) every in
+    let decided = (solo_is_legal a reading h runs.one read runs.suffice).0 runs.legal in
+    let redecided = (solo_is_legal a reading k others.one read others.suffice).0 others.legal in
+    let alike = one_script_one_page a reading h k runs.one others.one read runs.suffice others.suffice runs.legal others.legal in
     record {
-      outcomes = outcomes;
+      outcomes = runs.is ∙ (ap (λ one. one ∷ []) alike.0 ∙ sym others.is);
       history = decided.1 ∙ sym redecided.1;
-      page = page input first.history.items (outcomes_of first);
-      files = saves input first.history.items (outcomes_of first);
+      page = same.page k ps ∙ (ap (page a k) others.is ∙ (sym alike.1 ∙ ap (page a h) (sym runs.is)));
+      saves = same.saves k ps ∙ (ap (saves a k) others.is ∙ (sym alike.2 ∙ ap (saves a h) (sym runs.is)));
+    }
+
+runs_are_one : (words others : List Word) (a b c d : Told) (o n p q : Sunk) (first second : Report)
+    (ran : HasRun words a b o n first) (again : HasRun others c d p q second) → NameOne ran.said
+    → ReadAlike ran.given.scripts ran.input again.input → AllSuffice (outcomes_of first) → AllSuffice (outcomes_of second)
+    → AreOne ran.input again.input first.history.items second.history.items (outcomes_of first) (outcomes_of second)
+runs_are_one words others a b c d o n p q first second ran again one alike all every =
+    let read = one_reading ran.said a.files ran.input one ran.given in
+    let same = texts_are_one_input one_script_law ran.given.scripts again.input ran.input
+    (turned_round ran.given.scripts ran.input again.input alike) in
+    are_one ran.input again.input first.history.items second.history.items (outcomes_of first) (outcomes_of second) read.0
+    read.1 same ran.legal again.legal all every
+
+pub alone_is_one_run : AloneIsOneRun
+alone_is_one_run words others a b c d o n p q first second ran again one alike all every =
+    let r = runs_are_one words others a b c d o n p q first second ran again one alike all every in
+    let os = outcomes_of second in record {
+      outcomes = r.outcomes;
+      history = r.history;
+      page = page ran.input first.history.items (outcomes_of first);
+      files = saves ran.input first.history.items (outcomes_of first);
       first_told = ran.told;
-      second_told = subst (λ os. IsTold c d p q (page input first.history.items (outcomes_of first)) (saves input first.history.items (outcomes_of first)) (status_of os) second.status) (sym outcomes)
-          (subst (λ fs. IsTold c d p q (page input first.history.items (outcomes_of first)) fs (status_of (outcomes_of second)) second.status) saved
-          (subst (λ t. IsTold c d p q t (saves input second.history.items (outcomes_of second)) (status_of (outcomes_of second)) second.status) paged told));
+      second_told = subst (λ xs. IsTold c d p q (page ran.input first.history.items (outcomes_of first)) (saves ran.input first.history.items (outcomes_of first)) (status_of xs) second.status) (sym r.outcomes)
+          (told_alike c d p q _ _ _ _ (status_of os) second.status r.page r.saves again.told);
+    }
+
+pub alone_is_one_answer : AloneIsOneAnswer
+alone_is_one_answer words others a b c d o n p q first second files ran again one told retold ask lacked none =
+    let alike = same_files_read_alike words others a b c d o n p q first second files ran again told retold ask in
+    let r = runs_are_one words others a b c d o n p q first second ran again one alike
+    (all_come_due words a b o n first ran lacked) (all_come_due others c d p q second again none) in
+    let x = complete_runs_law words a b o n first ran lacked in
+    let y = complete_runs_law others c d p q second again none in record {
+      outcomes = r.outcomes;
+      history = r.history;
+      status = x.status ∙ (ap status_of r.outcomes ∙ sym y.status);
+      page = page ran.input first.history.items (outcomes_of first);
+      first_written = x.written;
+      second_written = subst (Grows p.written q.written) r.page y.written;
+      files = saves ran.input first.history.items (outcomes_of first);
+      first_put = x.put;
+      second_put = subst (HasPut c.files d.files) r.saves y.put;
     }

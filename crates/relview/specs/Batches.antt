@@ -1,4 +1,4 @@
--- What there is of a run while its batches go on, one after another.
+-- The state of a run between its batches.
 use Rattle.std.specs.Prelude.{◌≡◌, ◌+◌, ℕ, List, [], ◌∷◌, ◌++◌, length}
 use Rattle.rel_model.specs.Equations.{node_words}
 use Rattle.rel_model.specs.Trees.{bottom_height}
@@ -12,9 +12,10 @@ use Rattle.rv_runs.specs.PastWords.{uses_behind, IsHeld, AreHeld}
 use Rattle.rv_runs.specs.Parts.{AreParts}
 use Rattle.relview.specs.declared.batches.SoFar.{SoFar}
 
--- The batches of these scripts, which end at these places, are over: those before the last are held by what is left of
--- each, and the last by the words of its table, in which its names stand with the values that it left; there are their
--- events and what each session told; and the versions are those that the last left, counted over all events.
+-- The batches of these scripts, which end at these places, are over. What is left of each one before the last holds
+-- that one; the words of the last one's table hold the last, and its names stand there with the values that it left.
+-- The events and the answers of the sessions are all there, and the versions are those that the last batch left,
+-- counted over all events.
 pub record IsSoFar (bits : ℕ) (files : List Loaded) (turns : ℕ) (scripts : List (List ℕ)) (ends : List ℕ)
     (so_far : SoFar) : Type 0 where
   pub before : List Past
@@ -36,7 +37,7 @@ pub record HasDone (bits : ℕ) (files : List Loaded) (turns number : ℕ) (so_f
   pub is : IsSoFar bits files turns scripts ends so_far
   pub next : number ≡ 1 + length scripts
 
--- one batch more is done, of more scripts, whose first session has this number
+-- one more batch is done, with these scripts, and its first session has this number
 abbrev pub GoesOn : ℕ → List Loaded → ℕ → ℕ → List (List ℕ) → SoFar → SoFar → Type 0
 GoesOn bits files turns number more so_far new =
     (scripts : List (List ℕ)) (ends : List ℕ) → IsSoFar bits files turns scripts ends so_far

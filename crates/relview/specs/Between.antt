@@ -9,13 +9,13 @@ use Rattle.run_model.specs.Stored.{uses_of_live}
 use Rattle.rv_compact.specs.Compacted.{nodes_of}
 use Rattle.relview.specs.declared.between.CarriedOn.{CarriedOn}
 
--- the names with other relations, each with that of its place
+-- the names with other relations: each gets the one at its own place
 abbrev pub renamed : Carried → List Rel → Carried
 renamed [] rels = []
 renamed (entry ∷ entries) [] = []
 renamed (entry ∷ entries) (rel ∷ rels) = (entry.0, rel) ∷ renamed entries rels
 
--- names have in new words relations with the sets that they had in the old ones
+-- these names have, in the new words, relations with the same sets as in the old words
 abbrev pub AreAlike : List ℕ → List ℕ → Carried → Carried → Type 0
 AreAlike old new [] [] = Unit {0}
 AreAlike old new (entry ∷ entries) (other ∷ others) =
@@ -23,8 +23,8 @@ AreAlike old new (entry ∷ entries) (other ∷ others) =
 AreAlike old new [] (other ∷ others) = ⊥
 AreAlike old new (entry ∷ entries) [] = ⊥
 
--- names that lived on from words of a table have their relations in other words of such a table, which are sound and
--- store no more nodes than the relations reached uses
+-- the names that live on have their relations in other words of such a table; these are sound, and store at most as
+-- many nodes as there are uses of nodes reached from the relations
 pub record IsCarriedOn (words : List ℕ) (live : Carried) (next : CarriedOn) : Type 0 where
   pub sound : (bits : ℕ) → IsSoundTable bits words → IsSoundTable bits next.words.items
   pub alike : AreAlike (nodes_of words) (nodes_of next.words.items) live next.names

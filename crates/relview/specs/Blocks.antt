@@ -43,7 +43,7 @@ use Rattle.relview.specs.declared.report.Report.{Report}
 use Rattle.relview.specs.Top.{HasRun, outcomes_of}
 use Rattle.relview.specs.Tables.{nodes_of_batch}
 
--- command c of session s is an atomic block of these assignments, in this script, and came to this outcome
+-- command c of session s is an atomic block of these assignments, in this script, and this is its outcome
 pub record IsBlock (input : Input) (outcomes : List (List Outcome)) (s c : ℕ) (script : Script) (lets : List BlockLet)
     (outcome : Outcome) : Type 0 where
   pub from_session : 1 ≤ s
@@ -56,13 +56,13 @@ pub record IsBlock (input : Input) (outcomes : List (List Outcome)) (s c : ℕ) 
   pub is_own : slice_get outcomes (s - 1) ≡ Some own
   pub came : slice_get own (c - 1) ≡ Some outcome
 
--- the first of the names that a block reads whose version before the second event of command c of session s, before
--- which these events stand, is not that before its read
+-- given the events before the second event of a block, which is command c of session s: the first of the names that it
+-- reads whose version has changed since just before its read
 abbrev pub change_before : List Event → List Event → ℕ → ℕ → List BlockLet → Option Change
 change_before history before s c lets =
     first_changed (λ name. version name (events_before s c history)) (λ name. version name before) (block_reads lets)
 
--- these events assign these gifts, in order: each gives its name a relation that stands in the words with the value
+-- these events make these assignments, in order: each gives its name a relation that stands in the words with the value
 abbrev pub AssignInWords : List ℕ → List Event → Gifts → Type 0
 AssignInWords words [] [] = Unit {0}
 AssignInWords words (e ∷ es) (gift ∷ gifts) =
@@ -70,10 +70,10 @@ AssignInWords words (e ∷ es) (gift ∷ gifts) =
 AssignInWords words [] (gift ∷ gifts) = ⊥
 AssignInWords words (e ∷ es) [] = ⊥
 
--- The block is done as if in one moment. There are the events before its second event, and behind its read no name that
--- it reads changed among them. Directly behind them stand its assignments, one after another with no other event among
--- them, and the block has no event behind these. They give its names the values that are due of the block on the state
--- there, and their relations stand in the words with these values.
+-- The block is done as if in one moment. Between its read and its second event, no name that it reads has changed. From
+-- the second event on come its assignments, with no other event between them, and the block has no event after these.
+-- They give its names the values that are due of the block on the state there, and their relations stand in the words
+-- with these values.
 pub record IsDoneAtOnce (input : Input) (history : List Event) (words : List ℕ) (s c : ℕ) (script : Script)
     (lets : List BlockLet) : Type 0 where
   pub before : List Event
@@ -89,15 +89,15 @@ pub record IsDoneAtOnce (input : Input) (history : List Event) (words : List ℕ
   pub values : state_after input (before ++ assigned) ≡ set_all gifts (state_after input before)
   pub in_words : AssignInWords words assigned gifts
 
--- A name that the block reads was changed between its read and its second event, the commit: this is the first such
--- name, and these are its versions at both.
+-- A name that the block reads was changed between its read and its second event, the commit. This is the first such
+-- name, with its versions at both.
 pub record IsChangedAt (history : List Event) (s c : ℕ) (lets : List BlockLet) (name : List ℕ)
     (seen found : ℕ) : Type 0 where
   pub before : List Event
   pub is_before : before_second s c history ≡ Some before
   pub change : change_before history before s c lets ≡ Some (record { name = name; seen = seen; found = found })
 
--- a block that was due to be done is done where no name that it reads was changed before its commit, and else it is
+-- a block that was due to be done is done if no name that it reads was changed before its commit; otherwise it is
 -- refused with the first such name and both its versions
 pub record CommitsByVersions (history : List Event) (s c : ℕ) (lets : List BlockLet) (outcome : Outcome) : Type 0 where
   pub before : List Event
@@ -110,22 +110,22 @@ pub record CommitsByVersions (history : List Event) (s c : ℕ) (lets : List Blo
 abbrev pub OnlyReads : List Event → ℕ → ℕ → Type 0
 OnlyReads history s c = AllByRecursion (λ e. is_of s c e ≡ true → e.act ≡ Read) history
 
--- What is promised of a block with its outcome.
+-- What is promised of a block and its outcome.
 pub record IsAtomic (input : Input) (history : List Event) (words : List ℕ) (s c : ℕ) (script : Script)
     (lets : List BlockLet) (outcome : Outcome) : Type 0 where
-  -- one that is done read and assigned as if in one moment
+  -- if it is done, it read and assigned as if in one moment
   pub done : outcome ≡ Done → IsDoneAtOnce input history words s c script lets
-  -- one that tells of a change tells the first one
+  -- if it reports a changed name, that is the first one
   pub changed : (name : List ℕ) (seen found : ℕ) → outcome ≡ Changed name seen found
       → IsChangedAt history s c lets name seen found
-  -- where neither nodes nor memory ran out, and it was due to be done on the state that it read, versions decide
+  -- if neither nodes nor memory ran out, and it was due to be done on the state that it read, the versions decide
   pub decided : outcome ≢ Nodes → outcome ≢ NoMemory → (gifts : Gifts)
       → due_of_block input script lets (state_for input history s c) ≡ Values gifts
       → CommitsByVersions history s c lets outcome
-  -- one that is refused assigns nothing
+  -- if it is refused, it assigns nothing
   pub refused : outcome ≢ Done → OnlyReads history s c
 
--- an atomic block of a script that ran, whose relations stand in the words of its batch
+-- every atomic block of a script that ran; its relations stand in the words of its batch
 abbrev pub BlocksAreAtomic : Type 0
 BlocksAreAtomic =
     (words : List Word) (shelf_old shelf_new : Told) (old new : Sunk) (report : Report)

@@ -1,4 +1,4 @@
--- What a run came to where nothing was wanting: neither memory, nor a place in a table, nor a call outside.
+-- The result of a run in which nothing went wrong: memory did not run out, tables had room, and no call outside failed.
 use Rattle.std.specs.Prelude.{◌≡◌, ◌≢◌, ◌<◌, ◌≤◌, ◌⊎◌, ◌+◌, ℕ, true, List, [], ◌∷◌, length, Some}
 use Rattle.std.specs.List.{AllByRecursion}
 use Rattle.rel_model.specs.Words.{IsFull}
@@ -22,16 +22,17 @@ use Rattle.relview.specs.Top.{HasRun, Answers, outcomes_of, status_of}
 use Rattle.relview.specs.Tables.{nodes_of_batch}
 use Rattle.relview.specs.declared.report.Report.{Report}
 
--- memory ran out for no command
+-- no command ran out of memory
 abbrev pub HadMemory : List (List Outcome) → Type 0
 HadMemory = AllByRecursion (AllByRecursion (λ outcome. outcome ≢ NoMemory))
 
--- an outcome is the one that is due of its item; or the item is an atomic block that was due to be done, and was
+-- the outcome is the one that is due of the item; or the item is an atomic block that was due to be done, and it was
 -- refused at its commit
 abbrev pub IsDue : Item → Due → Outcome → Type 0
 IsDue item d outcome = (outcome ≡ outcome_due d) ⊎ (IsChanged outcome × MayBeChanged item d)
 
--- the outcomes of a session are those that are due, each on what its item saw, but for blocks refused at their commits
+-- the outcomes of a session are those that are due, each on what its item saw, except for blocks refused at their
+-- commits
 abbrev pub CameDue : Input → List Event → ℕ → Reading → List Outcome → Type 0
 CameDue input history s (NoScript fault) outcomes = outcomes ≡ Parse fault ∷ []
 CameDue input history s (Flawed fault) outcomes = outcomes ≡ Ill fault ∷ []
@@ -39,7 +40,7 @@ CameDue input history s (Runs script) outcomes =
     AllByRecursion (λ step. IsDue step.item (due_at input script step) step.outcome)
     (steps_in input history s script outcomes)
 
--- the same of the sessions from number s on
+-- the same for the sessions from number s on
 abbrev pub AllCameDue : Input → List Event → ℕ → List Reading → List (List Outcome) → Type 0
 AllCameDue input history s [] [] = Unit {0}
 AllCameDue input history s (reading ∷ readings) (outcomes ∷ others) =
@@ -47,7 +48,7 @@ AllCameDue input history s (reading ∷ readings) (outcomes ∷ others) =
 AllCameDue input history s [] (outcomes ∷ others) = ⊥
 AllCameDue input history s (reading ∷ readings) [] = ⊥
 
--- no write and no put failed, and neither count stands at its last value
+-- no write and no put failed, and neither count of failures has reached its last value
 pub record NoneFailed (shelf_old shelf_new : Told) (old new : Sunk) : Type 0 where
   pub writes : Rose old.faults new.faults → ⊥
   pub puts : Rose shelf_old.put_faults shelf_new.put_faults → ⊥
@@ -56,16 +57,16 @@ pub record NoneFailed (shelf_old shelf_new : Told) (old new : Sunk) : Type 0 whe
 abbrev pub AllVacant : ℕ → ℕ → Report → Type 0
 AllVacant bits count report = (b : ℕ) → b < count → IsFull (nodes_of_batch bits report b) → ⊥
 
--- nothing was wanting in a run: no command lacked memory, the words of each batch have a vacant place, and no write and
--- no put failed
+-- nothing went wrong in a run: no command ran out of memory, the words of each batch have a vacant place, and no write
+-- and no put failed
 pub record NothingLacked (words : List Word) (shelf_old shelf_new : Told) (old new : Sunk) (report : Report)
     (run : HasRun words shelf_old shelf_new old new report) : Type 0 where
   pub memory : HadMemory (outcomes_of report)
   pub vacant : AllVacant run.said.nodes (length run.input.ends) report
   pub outside : NoneFailed shelf_old shelf_new old new
 
--- such a run is complete: each outcome is the due one, or tells of an atomic block that a name was changed before its
--- commit; the page was written whole, its files were put, and the status is that of the outcomes
+-- such a run is complete: each outcome is the one that is due, or says that a name was changed before an atomic block
+-- could commit; the page was written in full, its files were put, and the status is that of the outcomes
 pub record IsComplete (words : List Word) (shelf_old shelf_new : Told) (old new : Sunk) (report : Report)
     (run : HasRun words shelf_old shelf_new old new report) : Type 0 where
   pub due : AllCameDue run.input report.history.items 1 run.input.readings (outcomes_of report)
@@ -73,7 +74,7 @@ pub record IsComplete (words : List Word) (shelf_old shelf_new : Told) (old new 
   pub put : HasPut shelf_old.files shelf_new.files (saves run.input report.history.items (outcomes_of report))
   pub status : report.status ≡ status_of (outcomes_of report)
 
--- a run in which nothing was wanting is complete
+-- a run in which nothing went wrong is complete
 abbrev pub CompleteRuns : Type 0
 CompleteRuns =
     (words : List Word) (shelf_old shelf_new : Told) (old new : Sunk) (report : Report)
@@ -82,7 +83,7 @@ CompleteRuns =
     → IsComplete words shelf_old shelf_new old new report run
 
 -- ---- that a run begins
--- nothing stood in the way of a run: the words are in the set, no pick, read or write failed, the shelf tells its
+-- nothing stood in the way of a run: the words are accepted, no pick, read or write failed, the shelf reports its
 -- files, and the file of each FILE word is within its limit
 pub record NothingStopped (words : List Word) (shelf_old shelf_new : Told) (old new : Sunk) : Type 0 where
   pub said : Said
@@ -94,7 +95,7 @@ pub record NothingStopped (words : List Word) (shelf_old shelf_new : Told) (old 
   pub within : AllByRecursion (λ word. (bytes : List ℕ) → files word ≡ Some bytes → length bytes ≤ limit_of word)
       (file_words words)
 
--- where nothing stood in the way the scripts ran, or memory ran out
+-- if nothing stood in the way, the scripts ran, or memory ran out
 abbrev pub RunsBegin : Type 0
 RunsBegin =
     (words : List Word) (shelf_old shelf_new : Told) (old new : Sunk) (report : Report)

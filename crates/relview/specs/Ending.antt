@@ -15,11 +15,11 @@ use Rattle.relview.specs.declared.report.Report.{Report}
 use Rattle.rv_ends.specs.Writing.{Sunk}
 use Rattle.relview.specs.Top.{Answers, GaveUp}
 
--- what the system gives for the command line: the program's own name and its words, or an error
+-- what the system gives for the command line: the program's own name and the words after it, or an error
 abbrev pub Arguments : Type 0
 Arguments = Result (IntoIter (String Global) Global) Error
 
--- the words behind the program's own name; no words, which are outside the set, where the system's are no text
+-- the words after the program's own name; if the system's are not text, no words, which are not accepted
 abbrev pub words_in : Arguments → List Word
 words_in (Ok args) = texts (drop 1 (into_iter_items args))
 words_in (Err error) = []
@@ -29,8 +29,8 @@ abbrev pub HadNoRoom : Arguments → Type 0
 HadNoRoom (Ok args) = ⊥
 HadNoRoom (Err error) = error_kind error ≡ OutOfMemory
 
--- The program ended with the status of a report, which answers the words that the system gave; and where there was no
--- memory for these, nothing was read, put or written.
+-- The program ended with the status of a report that answers the words that the system gave. If there was no memory for
+-- these words, nothing was read, put or written.
 pub record EndsWith (given : Arguments) (shelf_old shelf_new : Told) (old new : Sunk) (code : ExitCode) : Type 0 where
   pub report : Report
   pub status : exit_status code ≡ report.status

@@ -3,6 +3,7 @@ pub mod Between
 pub mod Batches
 pub mod Finished
 pub mod Top
+pub mod Readings
 pub mod Tables
 pub mod Alone
 pub mod Ending

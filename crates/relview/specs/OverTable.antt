@@ -1,4 +1,4 @@
--- What a batch over a table of its own comes to.
+-- The result of a batch over its own table.
 use Rattle.std.specs.Prelude.{◌≡◌, ℕ, List, length, Some, IsSome}
 use Rattle.std.specs.List.{AllByRecursion}
 use Rattle.rel_model.specs.declared.Rel.{Rel}
@@ -18,14 +18,14 @@ use Rattle.rv_runs.specs.PastWords.{IsHeld}
 use Rattle.rv_runs.specs.Parts.{AreParts}
 use Rattle.relview.specs.declared.over_table.OverTable.{OverTable}
 
--- the relations of names stand in words
+-- the relations of these names stand in the words
 abbrev pub AllNamed : List ℕ → Carried → Type 0
 AllNamed words = AllByRecursion (λ entry. IsSome (relation_in words entry.1))
 
--- A batch of these scripts, whose sessions have the numbers from this one on, over a table whose first seat had seen
--- some words: it is over, with its events and what each session told; relations that stood in the words of the seat
--- kept their values; the words of the table hold it, with no more nodes than the seat counted and its sessions made;
--- and the names and versions are those that it leaves, with their relations in the words.
+-- A batch of these scripts is over; its sessions are numbered from number on, and the first seat of its table had seen
+-- some words. Its events and what each session answered are these. Relations that stood in the words of the seat kept
+-- their values. The words of the table hold the batch, with at most as many nodes as the seat counted and its sessions
+-- made. The names and versions are those that it leaves, with their relations in the words.
 pub record RanOver (bits : ℕ) (scripts : List (List ℕ)) (number : ℕ) (files : List Loaded) (turns : ℕ) (first : First)
     (seat : View) (ran : OverTable) : Type 0 where
   pub past : Past

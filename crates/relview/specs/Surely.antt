@@ -1,4 +1,4 @@
--- What the program promises over a shelf and a sink of which no call fails.
+-- What the program promises over a shelf and a sink whose calls never fail.
 use Rattle.std.specs.Prelude.{◌≡◌, ◌≤◌, ◌⊎◌, ℕ, true, List, length, Some}
 use Rattle.std.specs.List.{AllByRecursion}
 use Rattle.rv_io.specs.Outside.{Files, Told}
@@ -15,14 +15,14 @@ abbrev pub FilesFit : Files → List Word → Type 0
 FilesFit files words = AllByRecursion (λ word. (bytes : List ℕ) → files word ≡ Some bytes → length bytes ≤ limit_of word)
     (file_words words)
 
--- a run answered its words, and there was no fault
+-- a run answered its words, and no call failed
 pub record IsSure (words : List Word) (shelf_old shelf_new : Told) (old new : Sunk) (report : Report) : Type 0 where
-  -- it has the promise of each run
+  -- the promise of every run
   pub answers : Answers words shelf_old shelf_new old new report
-  -- where the words are in the set, and the files are told and within their limits, the scripts ran or memory ran out
+  -- if the words are accepted, and the files are reported and within their limits, the scripts ran, or memory ran out
   pub begins : (said : Said) → said_by words ≡ Some said → (files : Files) → shelf_old.files ≡ Some files
       → FilesFit files words → (report.ran ≡ true) ⊎ (report.status ≡ 5)
-  -- where they ran, no command lacked memory and the words of each batch have a vacant place, the run is complete
+  -- if they ran, no command ran out of memory, and the words of each batch have a vacant place, the run is complete
   pub complete : (run : HasRun words shelf_old shelf_new old new report) → HadMemory (outcomes_of report)
       → AllVacant run.said.nodes (length run.input.ends) report
       → IsComplete words shelf_old shelf_new old new report run

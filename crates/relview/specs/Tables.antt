@@ -5,13 +5,13 @@ use Rattle.run_model.specs.declared.batch.OldBatch.{OldBatch}
 use Rattle.run_model.specs.Stored.{uses_of_live}
 use Rattle.relview.specs.declared.report.Report.{Report}
 
--- the words of batch b, from 0 on, of one that is over or of the last one
+-- the words of batch b, counted from 0: one of the finished ones, or the last one
 abbrev pub words_of_batch : List OldBatch → List ℕ → ℕ → List ℕ
 words_of_batch [] last b = last
 words_of_batch (old ∷ olds) last zero = old.words.items
 words_of_batch (old ∷ olds) last (suc b) = words_of_batch olds last b
 
--- over how many uses of nodes batch b began, where the first began over so many
+-- how many uses of nodes batch b began with, if the first began with this many
 abbrev pub uses_before : ℕ → ℕ → List OldBatch → ℕ → ℕ
 uses_before bits uses olds zero = uses
 uses_before bits uses [] (suc b) = uses
@@ -22,6 +22,6 @@ uses_before bits uses (old ∷ olds) (suc b) =
 abbrev pub nodes_of_batch : ℕ → Report → ℕ → List ℕ
 nodes_of_batch bits report b = node_words bits (words_of_batch report.old.items report.words.items b)
 
--- how many uses of nodes lived on into batch b of a report: none into the first
+-- how many uses of nodes lived on into batch b of a report; none into the first
 abbrev pub uses_into : ℕ → Report → ℕ → ℕ
 uses_into bits report b = uses_before bits 0 report.old.items b

@@ -19,7 +19,7 @@ use Rattle.relview.specs.declared.report.Report.{Report}
 use Rattle.relview.specs.Finished.{input_with}
 
 -- ---- statuses
--- whether an outcome is want of memory
+-- whether an outcome says that memory ran out
 abbrev pub is_no_memory : Outcome → Bool
 is_no_memory NoMemory = true
 is_no_memory _ = false
@@ -29,36 +29,37 @@ abbrev pub is_done : Outcome → Bool
 is_done Done = true
 is_done _ = false
 
--- 5 where memory ran out in a command, else 1 where some command or script was refused, else 0
+-- 5 if memory ran out in a command; otherwise 1 if some command or script was refused; otherwise 0
 unfoldable pub status_of : List (List Outcome) → ℕ
 status_of outcomes = cond (list_any (list_any is_no_memory) outcomes) 5
     (cond (list_all (list_all is_done) outcomes) 0 1)
 
 -- ---- runs
--- the outcomes of a report, by sessions
+-- the outcomes of a report, session by session
 abbrev pub outcomes_of : Report → List (List Outcome)
 outcomes_of report = map (λ v. v.items) report.outcomes.items
 
 -- The scripts ran.
 pub record HasRun (words : List Word) (shelf_old shelf_new : Told) (old new : Sunk) (report : Report) : Type 0 where
-  -- the words are in the set
+  -- the words are accepted
   pub said : Said
   pub taken : said_by words ≡ Some said
-  -- the input: what the scripts of the words, or the generated ones, are read as, the relation files, and the options
+  -- the input: the relation files, the options, and what the scripts, named or generated, are read as. The texts have
+  -- many readings; `Readings.antt` says that everything that follows holds for each
   pub input : Input
   pub given : IsInput said shelf_old.files input
-  -- however the sessions took their turns, the history and the outcomes are lawful
+  -- in whatever order the sessions took their turns, the history and the outcomes are lawful
   pub legal : IsLegal input report.history.items (outcomes_of report)
-  -- the words of each batch, of those that are over and of the last one, are sound and hold each relation that the
-  -- batch assigned with its value, and those of the names that live on with theirs; no more nodes are stored than what
-  -- lived on into the batch used and its commands may cost; and where its table was full, the words are full
+  -- the words of each batch, finished or last, are sound. They hold each relation that the batch assigned with its
+  -- value, and the relations of the names that live on with theirs. They store at most as many nodes as the uses that
+  -- lived on into the batch plus what its commands may cost. If the table was full, the words are full
   pub holds : HoldsRun said.nodes input report.history.items (outcomes_of report) report.old.items report.words.items
-  -- the page was written and the files were put, with the status of the outcomes, or with 4 a part of them
+  -- the page was written and the files were put, with the status of the outcomes; or part of them, with status 4
   pub told : IsTold shelf_old shelf_new old new (page input report.history.items (outcomes_of report))
       (saves input report.history.items (outcomes_of report)) (status_of (outcomes_of report)) report.status
 
--- these scripts ran, in batches that end at these places, with these relation files and options; the same of what the
--- scripts are read as
+-- these scripts ran, in batches that end at these places, with these relation files and options; it is the same
+-- promise, for what the scripts are read as
 pub record RanGiven (bits : ℕ) (scripts : List (List ℕ)) (files : List Loaded) (turns : ℕ) (asked : Bool)
     (ends : List ℕ) (shelf_old shelf_new : Told) (old new : Sunk) (report : Report) : Type 0 where
   pub readings : List Reading
@@ -71,36 +72,36 @@ pub record RanGiven (bits : ℕ) (scripts : List (List ℕ)) (files : List Loade
       (saves (input_with readings files turns asked ends) report.history.items (outcomes_of report))
       (status_of (outcomes_of report)) report.status
 
--- the report has no history, no outcomes, no batch that is over and no words
+-- the report has no history, no outcomes, no finished batch and no words
 abbrev pub IsEmpty : Report → Type 0
 IsEmpty report = HoldsNothing report.history.items (outcomes_of report) report.old.items report.words.items
 
--- a line was said, whole or in part
+-- a line was written, whole or in part
 pub record Says (words : List Word) (shelf_old shelf_new : Told) (old new : Sunk) (status : ℕ) : Type 0 where
   pub line : List ℕ
   pub whole : ℕ
   pub said : IsSaid words shelf_old shelf_new line whole
   pub written : IsWritten old new line whole status
 
--- nothing ran for want of memory: the report is empty, no file was put and nothing was written
+-- nothing ran because memory ran out: the report is empty, no file was put and nothing was written
 pub record GaveUp (shelf_old shelf_new : Told) (old new : Sunk) (report : Report) : Type 0 where
   pub empty : IsEmpty report
   pub no_put : HasNoPut shelf_old shelf_new
   pub answer : IsOut old new report.status
 
--- Nothing ran: the report is empty and no file was put. A line was said with its cause, or memory ran out.
+-- Nothing ran: the report is empty and no file was put. A line with the cause was written, or memory ran out.
 pub record HasStopped (words : List Word) (shelf_old shelf_new : Told) (old new : Sunk) (report : Report) : Type 0 where
   pub empty : IsEmpty report
   pub no_put : HasNoPut shelf_old shelf_new
   pub answer : Says words shelf_old shelf_new old new report.status ⊎ IsOut old new report.status
 
--- a run answered the words: its scripts ran, or nothing did
+-- the run that answers these words: its scripts ran, or nothing did
 abbrev pub Answers : List Word → Told → Told → Sunk → Sunk → Report → Type 0
 Answers words shelf_old shelf_new old new report =
     MatchBool report.ran (HasRun words shelf_old shelf_new old new report)
     (HasStopped words shelf_old shelf_new old new report)
 
--- scripts that were given ran, or nothing did
+-- the scripts that were given ran, or nothing did
 abbrev pub AnswersGiven : ℕ → List (List ℕ) → List Loaded → ℕ → Bool → List ℕ → Told → Told → Sunk → Sunk → Report
     → Type 0
 AnswersGiven bits scripts files turns asked ends shelf_old shelf_new old new report =

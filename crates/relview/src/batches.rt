@@ -1,4 +1,4 @@
-//! The batches of a run, one after another, each over a table of its own.
+//! Runs the batches one after another, each over its own table.
 ghost use Rattle.std.specs.Prelude.{◌≡◌, ◌≤◌, ◌+◌, ◌*◌, ◌∷◌, ℕ, List, [], length, map, All, IfOk};
 ghost use Rattle.lang_model.specs.Limits.{script_limit};
 ghost use Rattle.run_model.specs.Inputs.{Rise};
@@ -24,8 +24,8 @@ use std::alloc::Global;
 use std::sync::Wait;
 use std::thread::Threads;
 
-/// What there is of a run while its batches go on: the events, what each session told, what is left of the batches but
-/// the last, and of this one the words of its table with the names and versions that it left.
+/// The state of a run between two batches: the events, what each session answered, what is left of the batches before
+/// the last one, and of the last one the words of its table and the names and versions that it left. On the heap.
 #[derive(Drop)]
 pub struct SoFar {
     pub events: Vec<Event>,
@@ -36,8 +36,8 @@ pub struct SoFar {
     pub versions: Versions,
 }
 
-/// A run that came to its end: its history, the outcomes of each session in the order of the scripts, the page, the
-/// files to be put after it, what is left of each batch but the last, and the words of the table of this one.
+/// A finished run: its history, the outcomes of each session in the order of the scripts, the page, the files to be put
+/// after it, what is left of each batch before the last one, and the words of the last one's table. On the heap.
 #[derive(Drop)]
 pub struct Finished {
     pub history: Vec<Event>,
@@ -56,7 +56,7 @@ fn seats_for(count: usize) -> u32
     65 * count as u32 + 3
 }
 
-/// Runs the first batch, over a table of no words.
+/// Runs the first batch, over an empty table.
 fn begin<R: Threads + Wait + Sync, G: Gate + Sync>(
     rt: &R,
     alloc: Global,
@@ -194,7 +194,7 @@ fn run_all<R: Threads + Wait + Sync, G: Gate + Sync>(
     Ok(so_far)
 }
 
-/// The page and all else that a run comes to, of what there is behind its last batch.
+/// The page and everything else that a run results in, once its last batch is over.
 fn finish(alloc: Global, asked: bool, so_far: SoFar) -> Result<Finished, NoMemory>
     ensures { (bits turns : ℕ) (files : List Loaded) (scripts : List (List ℕ)) (ends : List ℕ)
         → IsSoFar bits files turns scripts ends so_far
@@ -220,8 +220,8 @@ fn finish(alloc: Global, asked: bool, so_far: SoFar) -> Result<Finished, NoMemor
     })
 }
 
-/// Runs scripts in batches, which end at these places: those of a batch at once, and batch after batch, each over a
-/// table of its own in which the names of the one before live on.
+/// Runs scripts in batches that end at these places. The scripts of a batch run concurrently, and the batches one after
+/// another, each over its own table, in which the names of the one before live on.
 pub fn run_batches<R: Threads + Wait + Sync, G: Gate + Sync>(
     rt: &R,
     alloc: Global,

@@ -1,4 +1,4 @@
-//! Between two batches: the names that live on are moved into words for the next table.
+//! What happens between two batches: the names that live on are moved into words for the next table.
 ghost use Rattle.std.specs.Prelude.{◌≡◌, length, map, IfOk};
 ghost use Rattle.run_model.specs.Names.{IsIncreasing};
 ghost use Rattle.rv_compact.specs.Compacted.{IsTable, nodes_of};
@@ -11,14 +11,14 @@ use rel_model::{NoMemory, Rel};
 use rv_compact::{CompactRefused, compact};
 use std::alloc::Global;
 
-/// Words for the next table, and the names with their relations in these words.
+/// Words for the next table, and the names with their relations in these words. On the heap.
 #[derive(Drop)]
 pub struct CarriedOn {
     pub words: Vec<u64>,
     pub names: NameMap<Rel>,
 }
 
-/// The relations of names.
+/// The relations of these names, in order.
 fn rels_of(alloc: Global, live: &[(Name, Rel)]) -> Result<Vec<Rel>, NoMemory>
     ensures { IfOk result (λ rels. rels.items ≡ map (λ entry. entry.1) live.now) }
 {
@@ -29,7 +29,7 @@ fn rels_of(alloc: Global, live: &[(Name, Rel)]) -> Result<Vec<Rel>, NoMemory>
     Ok(rels)
 }
 
-/// The names with other relations, each with that of its place.
+/// Gives the names other relations: each gets the one at its own place.
 fn with_rels(alloc: Global, live: &[(Name, Rel)], rels: &[Rel]) -> Result<NameMap<Rel>, NoMemory>
     requires order { IsIncreasing live.now }
     requires as_many { length rels.now ≡ length live.now }
@@ -45,9 +45,10 @@ fn with_rels(alloc: Global, live: &[(Name, Rel)], rels: &[Rel]) -> Result<NameMa
     Ok(names)
 }
 
-/// The names with their relations in words for the next table: the relations are moved into fresh words, which store
-/// what they reach alone; where they reach more uses than a table has room for, the words stay as they are, and are
-/// copied.
+/// The names, with their relations in words for the next table.
+///
+/// The relations are moved into fresh words, which store only what they reach. If this takes more uses of nodes than a
+/// table has room for, the words are copied as they are.
 pub fn carry_on(alloc: Global, words: &[u64], live: &[(Name, Rel)]) -> Result<CarriedOn, NoMemory>
     requires table { IsTable words.now }
     requires order { IsIncreasing live.now }

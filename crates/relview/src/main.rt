@@ -1,4 +1,4 @@
-//! `relview FILE...`: runs scripts at once, and writes their page to standard output and their files beside it.
+//! `relview FILE...`: runs scripts concurrently, writes their page to standard output, and puts their files.
 #![tactic(auto)]
 
 pub mod batches;
@@ -19,7 +19,7 @@ use rv_io::{FileShelf, StdoutSink};
 use std::process::ExitCode;
 use std::{env, io};
 
-/// Runs the words of the command line over real files and standard output.
+/// Runs the words of the command line, with real files and standard output.
 fn main(rt: HostRuntime) -> ExitCode {
     let alloc = rt.alloc();
     let mut shelf = FileShelf::new(alloc, rt);

@@ -1,4 +1,4 @@
-//! The scripts of a batch at once over a node table, and the words of the table in the end.
+//! Runs the scripts of a batch concurrently over a node table, and takes out the table's words at the end.
 ghost use Rattle.std.specs.Prelude.{◌≡◌, ◌≤◌, ◌+◌, ◌*◌, length, map, All, IfOk};
 ghost use Rattle.lang_model.specs.Limits.{script_limit};
 ghost use Rattle.rel_model.specs.Views.{IsOf};
@@ -20,8 +20,8 @@ use std::alloc::Global;
 use std::sync::Wait;
 use std::thread::Threads;
 
-/// A batch that came to its end: its events, what each session told in the order of the scripts, the names and versions
-/// that it leaves, and the words of the table over which it ran.
+/// A finished batch: its events, what each session answered in the order of the scripts, the names and versions that it
+/// leaves, and the words of the table over which it ran. On the heap.
 #[derive(Drop)]
 pub struct OverTable {
     pub events: Vec<Event>,
@@ -31,11 +31,11 @@ pub struct OverTable {
     pub words: Vec<u64>,
 }
 
-/// Runs the scripts of a batch at once over a table of their own, which has 65 seats for each and 3 more, and closes
+/// Runs the scripts of a batch concurrently over their own table, which has 65 seats for each and 3 more, and closes
 /// it. Sessions are numbered from `number` on. The batch begins with these names, whose relations stand in the words
 /// that the seat has seen, and with these versions.
 ///
-/// The operators of each session fork by the workers that the options name.
+/// The operators of each session fork over the workers that the options name.
 #[tactic(auto, unfolding(rel_model::specs::Trees::bottom_height))]
 pub fn run_over_table<R: Threads + Wait + Sync, G: Gate + Sync>(
     rt: &R,

@@ -1,4 +1,4 @@
-//! The program: the words that the system gives, run over a shelf and a sink.
+//! The program: runs the words that the system gives, over a shelf and a sink.
 ghost use Rattle.std.specs.Prelude.{◌≡◌, IsTrue, All};
 ghost use Rattle.rv_ends.specs.Given.{file_words};
 ghost use Rattle.rv_ends.specs.Writing.{sunk};
@@ -16,8 +16,8 @@ use std::process::ExitCode;
 use std::sync::Wait;
 use std::thread::Threads;
 
-/// Runs the words behind the program's own name. Where there is no memory for them, nothing is read, put or written,
-/// and the status is 5.
+/// Runs the words after the program's own name. If there is no memory for them, nothing is read, put or written, and
+/// the status is 5.
 fn run_arguments<R: Threads + Wait + Sync, S: Shelf, K: Sink>(
     rt: &R,
     alloc: Global,
@@ -37,7 +37,7 @@ fn run_arguments<R: Threads + Wait + Sync, S: Shelf, K: Sink>(
     }
 }
 
-/// Runs the words of the command line, and gives the status with which the program ends.
+/// Runs the words of the command line, and returns the status with which the program ends.
 pub fn run_program<R: Threads + Wait + Sync, S: Shelf, K: Sink>(
     rt: &R,
     alloc: Global,

@@ -1,4 +1,4 @@
-//! What a run reports.
+//! The report of a run.
 ghost use Rattle.std.specs.Prelude.{◌≡◌, false};
 ghost use Rattle.relview.specs.Top.{IsEmpty};
 
@@ -7,24 +7,24 @@ use run_model::event::Event;
 use run_model::outcome::Outcome;
 use std::alloc::Global;
 
-/// What a run reports. Without `ran` the lists are empty.
+/// The report of a run. The lists are empty unless `ran` is set. On the heap.
 #[derive(Drop)]
 pub struct Report {
-    /// 0 done, 1 refused, 2 usage, 3 not read, 4 not written, 5 want of memory.
+    /// 0: done; 1: refused; 2: usage; 3: not read; 4: not written; 5: memory ran out.
     pub status: u8,
     pub ran: bool,
-    /// The events of the workspace, in their order.
+    /// The events of the workspace, in order.
     pub history: Vec<Event>,
     /// A list of outcomes for each script.
     pub outcomes: Vec<Vec<Outcome>>,
-    /// What is left of each batch but the last: how many events there were up to its end, the words of its table, and
-    /// the names that lived on with their relations in these words.
+    /// What is left of each batch before the last one: how many events there were up to its end, the words of its
+    /// table, and the names that lived on, with their relations in these words.
     pub old: Vec<OldBatch>,
-    /// The words of the table over which the last batch ran, in the end.
+    /// The words of the last batch's table, at its end.
     pub words: Vec<u64>,
 }
 
-/// The report of a run that did not come to its end.
+/// The report of a run that did not finish.
 pub fn empty_report(alloc: Global, status: u8) -> Report
     ensures stopped { result.ran ≡ false }
     ensures status { result.status ≡ status }

@@ -1,4 +1,4 @@
-//! The status of a run by its outcomes.
+//! The status of a run, from its outcomes.
 ghost use Rattle.std.specs.Prelude.{◌≡◌, map};
 ghost use Rattle.std.specs.List.{list_any, list_all};
 ghost use Rattle.relview.specs.Top.{status_of, is_no_memory, is_done};
@@ -65,7 +65,7 @@ fn all_in(outcomes: &[Vec<Outcome>]) -> bool
     true
 }
 
-/// The status of a run whose page and files were written whole.
+/// The status of a run whose page and files were written in full.
 #[tactic(auto, unfolding(crate::specs::Top::status_of))]
 pub fn status_of(outcomes: &[Vec<Outcome>]) -> u8
     ensures { result ≡ status_of (map (λ v. v.items) outcomes.now) }

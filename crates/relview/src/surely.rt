@@ -1,4 +1,4 @@
-//! The program over a shelf and a sink of which no call fails.
+//! The program over a shelf and a sink whose calls never fail.
 ghost use Rattle.std.specs.Prelude.{◌≡◌, true, All, IsTrue};
 ghost use Rattle.std.specs.List.{list_all};
 ghost use Rattle.std.specs.String.{string_bytes};
@@ -15,9 +15,9 @@ use std::alloc::Global;
 use std::sync::Wait;
 use std::thread::Threads;
 
-/// Runs the scripts that the words name over a shelf and a sink that never fail: where the words are right and the
-/// files are within their limits the scripts run, or memory runs out; and a run for which memory and the table suffice
-/// is complete.
+/// Runs the scripts that the words name, over a shelf and a sink that never fail. If the words are accepted and the
+/// files are within their limits, the scripts run, or memory runs out. A run for which memory and the table suffice is
+/// complete.
 pub fn relview_surely<R: Threads + Wait + Sync>(
     rt: &R,
     alloc: Global,
@@ -34,7 +34,7 @@ pub fn relview_surely<R: Threads + Wait + Sync>(
     relview(rt, alloc, words, shelf, sink)
 }
 
-/// Whether each FILE word of the words names a file of the shelf; no where memory runs out, and for wrong words.
+/// Whether each FILE word names a file of the shelf. False if memory runs out, or if the words are not accepted.
 pub fn has_files(alloc: Global, words: &[String], shelf: &SureShelf) -> bool
     ensures { result ≡ true
         → All (λ w. IsTrue ((⟦<SureShelf as Shelf>⟧.told shelf.now).may_pick w)) (file_words (texts words.now)) }
@@ -45,7 +45,7 @@ pub fn has_files(alloc: Global, words: &[String], shelf: &SureShelf) -> bool
     }
 }
 
-/// Whether each name is that of a file of the shelf.
+/// Whether the shelf has a file for each of these names.
 fn has_all(names: &[String], shelf: &SureShelf) -> bool
     ensures { result
         ≡ list_all (λ name. (⟦<SureShelf as Shelf>⟧.told shelf.now).may_pick (string_bytes name)) names.now }

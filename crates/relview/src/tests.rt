@@ -1,4 +1,4 @@
-//! What runs of the program write, with which status.
+//! What runs of the program write, and their status.
 mod batches;
 mod faults;
 mod files;

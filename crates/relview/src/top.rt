@@ -1,4 +1,4 @@
-//! The top call: reads the words and the files, runs the scripts at once, and writes their page and their files.
+//! The top call: reads the words and the files, runs the scripts concurrently, and writes their page and their files.
 ghost use Rattle.std.specs.Prelude.{◌≡◌, ◌≤◌, ◌^◌, true, false, List, [], Some, None, map, length, IsTrue, All};
 ghost use Rattle.std.specs.Str.{IsUtf8};
 ghost use Rattle.lang_model.specs.Limits.{script_limit};
@@ -29,8 +29,8 @@ use std::alloc::Global;
 use std::sync::Wait;
 use std::thread::Threads;
 
-/// Runs the scripts that the words name, at once, and writes their page and then their files; or a line that says why
-/// nothing ran.
+/// Runs the scripts that the words name, concurrently, and writes their page and then their files; or writes a line
+/// that says why nothing ran.
 pub fn relview<R: Threads + Wait + Sync, S: Shelf, K: Sink>(
     rt: &R,
     alloc: Global,
@@ -45,8 +45,8 @@ pub fn relview<R: Threads + Wait + Sync, S: Shelf, K: Sink>(
     relview_gated(rt, alloc, words, shelf, sink, &OpenGate)
 }
 
-/// The same, with a gate that is told when each session begins and when it has ended, by the session's number and
-/// 1,000,000 more. Sessions are numbered from 1, in the order of the words.
+/// The same, with a gate that is called when each session begins and when it has ended, with the session's number plus
+/// 1,000,000. Sessions are numbered from 1, in the order of the words.
 pub fn relview_gated<R: Threads + Wait + Sync, S: Shelf, K: Sink, G: Gate + Sync>(
     rt: &R,
     alloc: Global,
@@ -65,7 +65,7 @@ pub fn relview_gated<R: Threads + Wait + Sync, S: Shelf, K: Sink, G: Gate + Sync
     }
 }
 
-/// Answers words that are not taken.
+/// Answers words that are not accepted.
 fn refuse_words<K: Sink>(alloc: Global, sink: &mut K, error: WordsError) -> Report
     ensures ran { result.ran ≡ false }
     ensures stopped { (words : List Word) (before now : Told) → HasNoPut before now
@@ -82,7 +82,7 @@ fn refuse_words<K: Sink>(alloc: Global, sink: &mut K, error: WordsError) -> Repo
     }
 }
 
-/// Answers a file that was not read.
+/// Answers that a file was not read.
 fn refuse_file<K: Sink>(alloc: Global, sink: &mut K, halt: Halt) -> Report
     ensures ran { result.ran ≡ false }
     ensures stopped { (words : List Word) (before now : Told) → HasNoPut before now
@@ -104,7 +104,7 @@ fn refuse_file<K: Sink>(alloc: Global, sink: &mut K, halt: Halt) -> Report
     }
 }
 
-/// Runs the scripts that are generated, or those that the words name.
+/// Runs the generated scripts, or those that the words name.
 fn run_options<R: Threads + Wait + Sync, S: Shelf, K: Sink, G: Gate + Sync>(
     rt: &R,
     alloc: Global,
@@ -133,7 +133,7 @@ fn count_of(scripts: &[Vec<u8>]) -> u32
     scripts.len() as u32
 }
 
-/// Runs the scripts that are generated from a number, as one batch.
+/// Generates scripts from a number, and runs them as one batch.
 fn run_generated<R: Threads + Wait + Sync, S: Shelf, K: Sink, G: Gate + Sync>(
     rt: &R,
     alloc: Global,
@@ -201,7 +201,7 @@ fn run_named<R: Threads + Wait + Sync, S: Shelf, K: Sink, G: Gate + Sync>(
     }
 }
 
-/// Runs scripts in batches, which end at these places, and writes what they came to.
+/// Runs scripts in batches that end at these places, and writes the result.
 fn run_given<R: Threads + Wait + Sync, S: Shelf, K: Sink, G: Gate + Sync>(
     rt: &R,
     alloc: Global,
@@ -232,7 +232,7 @@ fn run_given<R: Threads + Wait + Sync, S: Shelf, K: Sink, G: Gate + Sync>(
     }
 }
 
-/// Writes the page and the files of a run, and reports it.
+/// Writes the page and the files of a run, and makes its report.
 fn report_of<S: Shelf, K: Sink>(shelf: &mut S, sink: &mut K, finished: Finished) -> Report
     requires { All (λ save. IsUtf8 save.name) finished.saves.items }
     ensures ran { result.ran ≡ true }

@@ -1,4 +1,4 @@
-//! The words of the command line: those behind the program's own name.
+//! The words of the command line: those after the program's own name.
 ghost use Rattle.std.specs.Prelude.{◌≡◌, drop, IfOk, IsErr};
 ghost use Rattle.std.specs.Vec.Iter.{into_iter_items};
 ghost use Rattle.rv_words.specs.Shown.{texts};
@@ -8,7 +8,7 @@ use std::alloc::{AllocError, Global};
 use std::env::Args;
 use std::io;
 
-/// All words, in their order.
+/// All words, in order.
 fn all_words(alloc: Global, args: Args) -> Result<Vec<String>, AllocError>
     ensures { IfOk result (λ words. words.items ≡ into_iter_items args) }
 {
@@ -20,7 +20,7 @@ fn all_words(alloc: Global, args: Args) -> Result<Vec<String>, AllocError>
     Ok(words)
 }
 
-/// The words behind the program's own name, all and in their order.
+/// All words after the program's own name, in order.
 fn words_behind_name(alloc: Global, args: Args) -> Result<Vec<String>, AllocError>
     ensures { IfOk result (λ words. words.items ≡ drop 1 (into_iter_items args)) }
 {
@@ -29,8 +29,7 @@ fn words_behind_name(alloc: Global, args: Args) -> Result<Vec<String>, AllocErro
     all_words(alloc, rest)
 }
 
-/// The words of what the system gave for the command line. Where that is no text there are none, which is outside the
-/// set.
+/// The words of what the system gave for the command line. If that is not text, there are none, which is not accepted.
 pub fn words_given(alloc: Global, args: io::Result<Args>) -> Result<Vec<String>, AllocError>
     ensures words { IfOk result (λ words. texts words.items ≡ words_in args) }
     ensures memory { HadNoRoom args → IsErr result }

@@ -7,7 +7,7 @@ use std::test::Fail;
 const FULL: &str = "N(V) DECL p BEG p = init(V); WHILE -empty(p) DO p = next(p) OD RETURN p END. \
     REL V 1100 1 {}. REL A 2 2 {1:2}. COUNT N(V). PRINT A.";
 
-/// How many of a table's 1,022 places for nodes are taken in its words.
+/// How many of the 1,022 places that a table has for nodes are taken in its words.
 fn stored(words: &[u64]) -> u32 {
     let mut left: u32 = 1024;
     let mut count: u32 = 0;
@@ -121,7 +121,7 @@ fn names_live_on_and_snapshots_do_not(rt: HostRuntime) -> Result<(), Fail> {
     Ok(())
 }
 
-/// A script that gives X one square of 8 by 8 after another, 520 of them, each a leaf that no other batch has.
+/// A script that assigns X 520 squares of 8 by 8, one after another, each a leaf that no other batch has.
 fn half_script(alloc: Global, batch: u32) -> Result<String, AllocError> {
     let mut text = String::new(alloc);
     'squares: for square in 0..520u32 {
@@ -143,7 +143,7 @@ fn half_script(alloc: Global, batch: u32) -> Result<String, AllocError> {
     Ok(text)
 }
 
-/// What a script of half a table prints as session `number`.
+/// What a script that fills half a table prints as session `number`.
 fn half_page(alloc: Global, number: u32, batch: u32) -> Result<String, AllocError> {
     let mut page = format!(in alloc; "{number}.521: 8 x 8\n")?;
     'rows: for row in 1..9u32 {
@@ -211,8 +211,8 @@ fn eight_batches_that_each_fill_half_a_table_run_where_one_batch_does_not(
     Ok(())
 }
 
-/// A script that gives names to 1,010 leaves, whose words are the numbers from 2 on, and to 8 squares of 16 by 16 with
-/// one such leaf in the corner: the two pairs above the leaf are such numbers too, so nodes are read at two levels.
+/// A script that names 1,010 leaves, whose words are the numbers from 2 on, and 8 squares of 16 by 16 with one such
+/// leaf in the corner: the two pairs above the leaf are such numbers too, so nodes are read at two levels.
 fn crowded_script(alloc: Global) -> Result<String, AllocError> {
     let mut text = String::new(alloc);
     'leaves: for word in 2..1012u32 {
@@ -228,7 +228,7 @@ fn crowded_script(alloc: Global) -> Result<String, AllocError> {
     Ok(text)
 }
 
-/// Adds the cells of a word of ten bits as rows, so many rows and columns further.
+/// Appends the cells of a word of ten bits, as rows, shifted by this many rows and columns.
 fn push_cells(alloc: Global, text: &mut String, word: u32, further: u32) -> Result<(), AllocError> {
     let mut semicolon = "";
     let mut rest = word;

@@ -1,4 +1,4 @@
-//! Runs of which one call of the shelf or of the sink fails: for each call in turn, up to a run in which none failed.
+//! Runs in which one call of the shelf or the sink fails: each call in turn, up to a run in which none does.
 use super::files::{CORNERS, LISTED, LOADS, SAVES, STEP};
 use super::runs::{NEVER, assert_stopped, assert_written, run_with};
 use std::test::Fail;

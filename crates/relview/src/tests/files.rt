@@ -1,4 +1,4 @@
-//! Relation files that are read and written.
+//! Relation files, read and written.
 use super::runs::{NEVER, assert_written, run_script, run_with};
 use std::test::Fail;
 
@@ -12,7 +12,7 @@ pub const STEP: &[u8] = b"RVK1\0\0\0\x02\0\0\0\x02\x01\0\0\0\0\0\0\0\0\0\0\0\0\0
 /// A script that loads a relation and lists it.
 pub const LOADS: &str = "LOAD A \"a.k2\". LIST A.";
 
-/// The page of that script, where the file has the corners.
+/// The page of that script, if the file has the corners.
 pub const LISTED: &str = "1.2: 4 x 4, pairs 2\n1:1\n4:4\n";
 
 /// A script that saves the corners and then the step.

@@ -1,4 +1,4 @@
-//! Sessions at once, as a gate sees them.
+//! Concurrent sessions, as a gate sees them.
 ghost use Rattle.std.specs.Prelude.{◌+◌};
 ghost use Rattle.rel_model.specs.Quads.{Keeper};
 ghost use Rattle.fork_quads.specs.Forks.{CanGroup, DidPieces};
@@ -17,15 +17,15 @@ use std::sync::atomic::{AtomicBool, AtomicU32, Ordering};
 use std::test::Fail;
 use std::thread::Threads;
 
-/// How often a session that is held looks for the other one at most.
+/// How often a held session looks for the other one at most.
 const LOOKS: u32 = 100_000_000;
 
-/// What a gate is told of a session that begins, and of one that has ended.
+/// What a gate adds for a session that begins, and for one that has ended.
 const BEGUN: u32 = 1;
 
 const ENDED: u32 = 10;
 
-/// Holds one session until another one has begun, and counts what it is told.
+/// Holds one session until another one has begun, and counts its calls.
 #[derive(Drop)]
 struct Holding {
     held: u32,
@@ -38,7 +38,7 @@ struct Holding {
 }
 
 impl Holding {
-    /// Holds one piece until so much has been told of the other.
+    /// Holds piece `held` until the count of piece `awaited` has reached `until`.
     fn new(held: u32, awaited: u32, until: u32) -> Holding {
         Holding {
             held,
@@ -51,7 +51,7 @@ impl Holding {
         }
     }
 
-    /// The count of what is told of a piece.
+    /// The count of a piece.
     fn count_of(&self, piece: u32) -> &AtomicU32 {
         if piece == self.held {
             &self.of_held
@@ -62,7 +62,7 @@ impl Holding {
         }
     }
 
-    /// Waits until enough was told of the other, and gives up after so many looks.
+    /// Waits until the count of the other piece is high enough, and gives up after `LOOKS` looks.
     fn hold(&self) {
         for _ in 0..LOOKS {
             if self.of_awaited.load(Ordering::SeqCst) >= self.until {
@@ -100,7 +100,7 @@ impl Gate for Holding {
     }
 }
 
-/// The commands of the events of a session, in their order, as digits.
+/// The commands of a session's events, in order, as digits.
 fn commands_of(history: &[Event], session: u32) -> u32 {
     let mut digits = 0u32;
     for event in history {
@@ -111,7 +111,7 @@ fn commands_of(history: &[Event], session: u32) -> u32 {
     digits
 }
 
-/// What a line of the history says of an act of the two scripts.
+/// How a line of the history describes an act of the two scripts.
 fn deed_of(act: &Act) -> &'static str {
     match act {
         Act::Assign { .. } => "assign X 1 x 1",
@@ -120,8 +120,8 @@ fn deed_of(act: &Act) -> &'static str {
     }
 }
 
-/// The page that a history makes of two scripts that each assign X and print it: what a session printed is what the
-/// last assignment before its own read gave.
+/// The page that follows from the history of two scripts that each assign X and print it: a session prints what the
+/// last assignment before its own read assigned.
 fn page_of(alloc: Global, history: &[Event]) -> Result<String, AllocError> {
     let (mut cell, mut first, mut second) = ('?', '?', '?');
     let mut lines = String::new(alloc);
@@ -147,8 +147,8 @@ fn page_of(alloc: Global, history: &[Event]) -> Result<String, AllocError> {
 /// How often each of the two runs is made.
 const TIMES: u32 = 20;
 
-/// Runs the two scripts with one session held until the other has begun, and asserts that the page is what the history
-/// says.
+/// Runs the two scripts with one session held until the other one has begun, and asserts that the page agrees with the
+/// history.
 fn run_held<R: Threads + Wait + Abort + Sync>(
     rt: &R,
     alloc: Global,
@@ -186,7 +186,7 @@ fn two_sessions_go_on_at_once_and_print_what_the_history_says(rt: HostRuntime) -
     Ok(())
 }
 
-/// A function by chance, of 4096 elements: a composition with itself is so heavy that it forks.
+/// A random function on 4096 elements; composing it with itself is heavy enough to fork.
 fn heavy_relation(alloc: Global) -> Result<String, AllocError> {
     let mut text = String::new(alloc);
     text.push_str("REL A 4096 4096 {1:1")?;
@@ -223,7 +223,8 @@ fn two_workers_of_a_session_are_at_work_at_once(rt: HostRuntime) -> Result<(), F
     Ok(())
 }
 
-/// Holds session 1 for a while, and sees whether another session than 1 and 2 begins before both have ended.
+/// Holds session 1 for a while, and records whether a session after the first two begins before both of them have
+/// ended.
 #[derive(Drop)]
 struct Batched {
     ended: AtomicU32,
@@ -280,7 +281,7 @@ fn no_session_of_a_later_batch_begins_before_all_of_the_first_have_ended(
     Ok(())
 }
 
-/// Holds the first piece of a composition until session 3 has ended, which begins when the piece has.
+/// Holds the first piece of a composition until session 3 has ended; session 3 begins once the piece has.
 #[derive(Drop)]
 struct Crossing {
     begun: AtomicBool,
@@ -289,7 +290,7 @@ struct Crossing {
 }
 
 impl Crossing {
-    /// Waits until this is so, and gives up after so many looks.
+    /// Waits until the flag is set, and gives up after `LOOKS` looks.
     fn hold(&self, until: &AtomicBool) {
         for _ in 0..LOOKS {
             if until.load(Ordering::SeqCst) {

@@ -1,4 +1,4 @@
-//! Words outside the set, files that are not read, and lines that are not written.
+//! Words that are not accepted, files that cannot be read, and lines that cannot be written.
 use super::runs::{NEVER, assert_stopped, assert_written, run_with};
 use lang_model::limits::SCRIPT_LIMIT;
 use std::test::Fail;
@@ -18,7 +18,7 @@ fn words_outside_the_set_are_answered_by_the_usage_line(rt: HostRuntime) -> Resu
         ("a.k2", "no script"),
         ("-", "a hyphen alone"),
     ] {
-        // A shelf whose call 0 fails is not asked.
+        // If call 0 of a shelf is to fail, the shelf is not asked at all.
         let ran = run_with(
             &rt,
             alloc,

@@ -1,8 +1,8 @@
-//! Scripts beside the page and the status of their runs.
+//! Scripts, with the page and the status of their runs.
 use super::runs::{assert_written, run_script};
 use std::test::Fail;
 
-/// The page of the scripts that are generated from 0.
+/// The page of the scripts that are generated from number 0.
 const GENERATED: &str =
     "1.3: 3144\n1.4: 2402\n1.5: 2490\n2.3: 2955\n2.4: 2117\n2.5: 2290\n3.3: 3528\n\
     3.4: 3025\n3.5: 3046\n4.3: 3460\n4.4: 2916\n4.5: 2956\n5.3: 2704\n5.4: 1764\n\

@@ -1,4 +1,4 @@
-//! Runs of the top call over a shelf and a sink in memory.
+//! Runs of the top call, over a shelf and a sink in memory.
 ghost use Rattle.std.specs.Prelude.{[], Some, IfOk};
 ghost use Rattle.rv_words.specs.Shown.{texts};
 ghost use Rattle.rv_ends.specs.Writing.{sunk};
@@ -17,7 +17,7 @@ use std::thread::Threads;
 /// A number that no call has in these tests.
 pub const NEVER: u64 = 1_000_000;
 
-/// What a run came to.
+/// The result of a run.
 #[derive(Drop)]
 pub struct Ran {
     pub report: Report,
@@ -26,7 +26,7 @@ pub struct Ran {
 }
 
 impl Ran {
-    /// The bytes of a file in the end. The second try is for a call that was to fail and had not come before.
+    /// The bytes of a file at the end. The second try is for a call that was to fail and had not been made before.
     fn file(&mut self, alloc: Global, name: &str) -> Option<Vec<u8>> {
         let first = read_all(alloc, &mut self.shelf, name, 100).ok();
         match first {
@@ -35,7 +35,7 @@ impl Ran {
         }
     }
 
-    /// Whether a file has these bytes in the end.
+    /// Whether a file has these bytes at the end.
     pub fn has(&mut self, alloc: Global, name: &str, bytes: &[u8]) -> bool {
         match self.file(alloc, name) {
             Some(found) => found.as_slice() == bytes,
@@ -43,13 +43,13 @@ impl Ran {
         }
     }
 
-    /// Whether there is no file of this name in the end.
+    /// Whether there is no file of this name at the end.
     pub fn lacks(&mut self, alloc: Global, name: &str) -> bool {
         self.file(alloc, name).is_none()
     }
 }
 
-/// A shelf with these files, of which one call fails.
+/// A shelf with these files; one of its calls fails.
 fn shelf_of(alloc: Global, files: &[(&str, &[u8])], failing: u64) -> Result<MemShelf, AllocError> {
     let mut owned = Vec::new(alloc);
     for (name, bytes) in files {
@@ -65,7 +65,7 @@ fn shelf_of(alloc: Global, files: &[(&str, &[u8])], failing: u64) -> Result<MemS
     }
 }
 
-/// A sink of which one call fails.
+/// A sink; one of its calls fails.
 fn sink_of(alloc: Global, failing: u64) -> Result<MemSink, AllocError> {
     let calls = vec![in alloc; failing]?;
     match MemSink::new(alloc, calls) {
@@ -83,7 +83,7 @@ fn words_of(alloc: Global, line: &str) -> Result<Vec<String>, AllocError> {
     Ok(words)
 }
 
-/// Runs the words of a line over a shelf with these files, where one call of the shelf and one of the sink fail.
+/// Runs the words of a line over a shelf with these files; one call of the shelf and one of the sink fail.
 pub fn run_with<R: Threads + Wait + Sync>(
     rt: &R,
     alloc: Global,
@@ -103,7 +103,7 @@ pub fn run_with<R: Threads + Wait + Sync>(
     })
 }
 
-/// Runs the words of a line over a shelf with the file `a.rv` alone, where no call fails.
+/// Runs the words of a line over a shelf with just the file `a.rv`; no call fails.
 pub fn run_script<R: Threads + Wait + Sync>(
     rt: &R,
     alloc: Global,

@@ -1,10 +1,10 @@
-//! A run over a shelf and a sink that never fail.
+//! Runs over a shelf and a sink that never fail.
 use crate::surely::{has_files, relview_surely};
 use rv_io::{NoMemory, SureShelf, SureSink};
 use std::alloc::{AllocError, Global};
 use std::test::Fail;
 
-/// A shelf with the file `a.rv` alone.
+/// A shelf with just the file `a.rv`.
 fn shelf_of(alloc: Global, script: &str, room: usize) -> Result<SureShelf, AllocError> {
     let mut files = Vec::new(alloc);
     files.push((

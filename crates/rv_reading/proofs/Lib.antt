@@ -1,0 +1,9 @@
+pub mod Expressions
+pub mod Statements
+pub mod Definitions
+pub mod Values
+pub mod Items
+pub mod Sights
+pub mod Steps
+pub mod Runs
+pub mod Alike
