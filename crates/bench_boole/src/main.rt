@@ -1,5 +1,5 @@
-//! How long operators on quads take, cold and again: `bench_boole BITS CELLS`, over two pseudo-random relations of 4096
-//! by 4096 of which one cell in a thousand times CELLS is in each.
+//! Times operators on quads, cold and repeated: `bench_boole BITS CELLS`, over two pseudo-random relations of 4096 by
+//! 4096, each of which has CELLS in a thousand cells.
 #![tactic(auto)]
 
 ghost use Rattle.std.specs.Prelude.{◌≡◌, ◌<◌, ◌≤◌, ◌+◌, IfOk};
@@ -20,15 +20,14 @@ use std::time::Instant;
 /// The height of a square of 4096 rows and columns.
 const HEIGHT: u8 = 12;
 
-/// The pseudo-random number after another.
+/// The pseudo-random number that follows another.
 fn next(state: u64) -> u64 {
     state
         .wrapping_mul(6364136223846793005)
         .wrapping_add(1442695040888963407)
 }
 
-/// A block each of whose cells is there by chance, so many times of a thousand, and the number after those that were
-/// taken.
+/// A block each of whose cells is set with a chance of `chance` in a thousand, and the state of the generator after it.
 fn random_block(seed: u64, chance: u64) -> (u64, u64) {
     let mut state = seed;
     let mut bits: u64 = 0;
@@ -42,7 +41,7 @@ fn random_block(seed: u64, chance: u64) -> (u64, u64) {
     (bits, state)
 }
 
-/// A square of blocks by chance, and the number after those that were taken.
+/// A square of random blocks, and the state of the generator after it.
 #[cycle(making)]
 fn random_quad(nodes: &mut Nodes, height: u8, seed: u64, chance: u64) -> Result<(Quad, u64), Missed>
     requires low { bottom_height ≤ height }
@@ -78,7 +77,7 @@ enum Operator {
     Transpose,
 }
 
-/// The name of a result, or 0 where there is none.
+/// The name of a result; 0 if there is none.
 fn name_of(found: Result<Quad, Missed>) -> u32 {
     match found {
         Ok(quad) => quad.name,
@@ -86,7 +85,7 @@ fn name_of(found: Result<Quad, Missed>) -> u32 {
     }
 }
 
-/// The name of an operator's result, or 0 where the table is full.
+/// The name of an operator's result; 0 if the table is full.
 fn applied(nodes: &mut Nodes, operator: Operator, a: Quad, b: Quad) -> u32
     requires work { IsKeeper nodes.old }
     requires a_stands { QuadStands nodes.old a }
@@ -102,7 +101,7 @@ fn applied(nodes: &mut Nodes, operator: Operator, a: Quad, b: Quad) -> u32
     }
 }
 
-/// Prints the nanoseconds of an operator, cold and again, and the name of its result.
+/// Prints the nanoseconds of an operator, cold and repeated, and the name of its result.
 fn measure<R: Print + Clock>(
     rt: &R,
     nodes: &mut Nodes,
@@ -147,7 +146,7 @@ fn measure_all<R: Print + Clock>(rt: &R, alloc: Global, bits: u32, chance: u64) 
     measure(rt, &mut nodes, Operator::Transpose, a, b)
 }
 
-/// The next word as a number, or 0.
+/// The next word as a number; 0 if it is none.
 fn number(word: Option<String>) -> u64 {
     match word {
         Some(word) => word.as_str().parse().unwrap_or(0),

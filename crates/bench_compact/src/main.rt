@@ -1,4 +1,4 @@
-//! How long it takes to move relations into fresh words: `bench_compact BITS SIDE`.
+//! Times moving relations into fresh words: `bench_compact BITS SIDE`.
 #![tactic(auto)]
 
 ghost use Rattle.std.specs.Prelude.{◌≡◌, ◌≤◌, ◌+◌, IfOk, IfErr};
@@ -17,8 +17,8 @@ use std::time::Instant;
 use test_compact::standing::{all_stand, depth_of_side};
 use trees::square_trees;
 
-/// The words of a table, and two square relations whose trees have blocks of their own. A third such tree is in the
-/// table that neither of them reaches.
+/// The words of a table, and two square relations whose trees have distinct blocks. A third such tree is in the table,
+/// and neither of them reaches it.
 fn made(alloc: Global, bits: u32, side: u32) -> Result<(Vec<u64>, [Rel; 2]), &'static str>
     requires low { 10 ≤ bits }
     requires high { bits ≤ 24 }
@@ -49,7 +49,7 @@ fn square(side: u32, root: u32) -> Rel {
     }
 }
 
-/// A number for all words, in their order.
+/// A checksum of all words, which depends on their order.
 fn sum_of(words: &[u64]) -> u64 {
     let mut sum: u64 = 0;
     'words: for word in words {
@@ -58,7 +58,7 @@ fn sum_of(words: &[u64]) -> u64 {
     sum
 }
 
-/// Times one call, and prints the nanoseconds, how many words are stored then, and a number for them all.
+/// Times one call, and prints the nanoseconds, how many words are stored afterwards, and a checksum of all words.
 #[tactic(auto, using(crate::proofs::Tables::of_bits))]
 fn measure(rt: &(impl Print + Clock), alloc: Global, bits: u32, side: u32) -> io::Result<()>
     requires low { 10 ≤ bits }
@@ -85,7 +85,7 @@ fn measure(rt: &(impl Print + Clock), alloc: Global, bits: u32, side: u32) -> io
     }
 }
 
-/// The next word as a number, or 0.
+/// The next word as a number; 0 if it is none.
 fn number(word: Option<String>) -> u32 {
     match word {
         Some(word) => word.as_str().parse().unwrap_or(0),

@@ -1,4 +1,4 @@
-//! Trees whose blocks all differ.
+//! Trees all of whose blocks are distinct.
 ghost use Rattle.std.specs.Prelude.{◌≡◌, IfOk};
 ghost use Rattle.rel_model.specs.Views.{Table, View, IsOf, IsKnown, Keeps};
 
@@ -17,6 +17,7 @@ fn pair(table: &PairTable, seat: &mut Seat, left: u32, right: u32) -> Result<u32
     ensures keeps { Keeps seat.old seat.new }
     ensures known { IfOk result (IsKnown seat.new) }
 {
+    // This use makes the checker open the invariant of `seat`, which the early return below needs.
     let _ = table.spare(seat);
     if left == 0 && right == 0 {
         return Ok(0);
@@ -42,7 +43,7 @@ fn next_block(table: &PairTable, seat: &mut Seat, next: &mut u64) -> Result<u32,
     table.intern_block(seat, bits)
 }
 
-/// A whole tree of a depth, of the next blocks.
+/// A whole tree of a depth, made of the next blocks.
 #[tactic(auto, using(test_compact::proofs::Knowing::keeps_on, test_compact::proofs::Knowing::known_stays))]
 fn whole_tree(table: &PairTable, seat: &mut Seat, next: &mut u64, depth: u8) -> Result<u32, Missed>
     requires of { IsOf seat.old table.now }

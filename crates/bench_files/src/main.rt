@@ -1,10 +1,10 @@
-//! How long relations take to be written as files, to be read back and to be shown: `bench_files BITS TASK HEIGHT
-//! PAIRS`, in tables of 2^BITS words, of a relation of 2^HEIGHT rows and columns.
+//! Times writing relations to files, reading them back and showing them: `bench_files BITS TASK HEIGHT PAIRS`, in
+//! tables of 2^BITS words, for a relation of 2^HEIGHT rows and columns.
 //!
-//! Times are of the processor, in nanoseconds, so that what else runs on the machine adds little to them. The tasks are
-//! `random`, so many pairs by chance written and read, and `full`, all pairs; `shared`, pairs by chance in a file of
-//! version 2, read as a whole and then by its name; `matrix` and `listing` of so many pairs by chance; and `check`,
-//! which writes and reads a file of each version and tells no time.
+//! Times are processor times in nanoseconds, so other work on the machine adds little to them. The tasks are `random`,
+//! PAIRS random pairs written and read, and `full`, all pairs; `shared`, random pairs in a file of version 2, read as a
+//! whole and then by name; `matrix` and `listing` of PAIRS random pairs; and `check`, which writes and reads a file of
+//! each version and prints no time.
 #![tactic(auto)]
 
 mod chance;
@@ -39,7 +39,7 @@ enum Task {
     Listing,
 }
 
-/// How a file is written and read: as version 1; as version 2, and read as a whole; or the same, and read by a name.
+/// How a file is written and read: as version 1; as version 2, read as a whole; or as version 2, read by a name.
 #[derive(Clone, Copy, PartialEq, Eq)]
 enum Form {
     One,
@@ -81,7 +81,7 @@ fn built<E: Engine>(alloc: Global, engine: &mut E, work: Work) -> Option<Rel>
     }
 }
 
-/// The sum of bytes, each with its place mixed in.
+/// A checksum of bytes, which depends on their places.
 fn sum_of(bytes: &[u8]) -> u64 {
     let mut sum: u64 = 0;
     'bytes: for byte in bytes {
@@ -90,7 +90,7 @@ fn sum_of(bytes: &[u8]) -> u64 {
     sum
 }
 
-/// Prints how long a relation takes to be written, or only what was written, and gives the bytes.
+/// Prints how long writing a relation takes, or only what was written, and gives the bytes.
 fn measure_writing<R: Print + CpuClock, E: Engine>(
     rt: &R,
     alloc: Global,
@@ -119,7 +119,7 @@ fn measure_writing<R: Print + CpuClock, E: Engine>(
     Ok(bytes)
 }
 
-/// Prints how long a file takes to be read, or only what was read.
+/// Prints how long reading a file takes, or only what was read.
 fn measure_reading<R: Print + CpuClock, E: Engine>(
     rt: &R,
     alloc: Global,
@@ -196,7 +196,7 @@ fn first_table<R: Print + CpuClock + Threads + Sync>(
     }
 }
 
-/// Reads a file into a table of its own, and once more where its nodes stand.
+/// Reads a file into a table of its own, and again when its nodes are there already.
 fn second_table<R: Print + CpuClock + Threads + Sync>(
     rt: &R,
     alloc: Global,
@@ -239,7 +239,7 @@ fn both_tables<R: Print + CpuClock + Threads + Sync>(
     }
 }
 
-/// The next word as a number, or 0.
+/// The next word as a number; 0 if it is none.
 fn number(word: Option<String>) -> u64 {
     match word {
         Some(word) => word.as_str().parse().unwrap_or(0),
@@ -247,7 +247,7 @@ fn number(word: Option<String>) -> u64 {
     }
 }
 
-/// The task of a name, and the form of its file.
+/// The task with this name, and the form of its file.
 fn task_of(word: Option<String>) -> Option<(Task, Form)> {
     let word = word?;
     match word.as_str() {

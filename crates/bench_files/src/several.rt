@@ -1,4 +1,4 @@
-//! Files of version 2 with one relation, by the name A.
+//! Files of version 2 with one relation, named A.
 ghost use Rattle.std.specs.Prelude.{◌≡◌, [], ◌∷◌, codes, IfSome};
 ghost use Rattle.rel_model.specs.Worker.{Stands};
 
@@ -11,7 +11,7 @@ use rel_model::engine_trait::Engine;
 use run_model::outcome::BadFile;
 use std::alloc::Global;
 
-/// A list of one relation, by the name A.
+/// A list of one relation, named A.
 fn named(alloc: Global, rel: Rel) -> Option<Vec<(Name, Rel)>>
     ensures { IfSome result (λ list. list.items ≡ (codes "A", rel) ∷ []) }
 {
@@ -40,7 +40,7 @@ pub fn write_several<E: Engine>(
     write_k2_all(alloc, engine, list.as_slice())
 }
 
-/// The last relation of a file, of which all are read.
+/// The last relation of a file, all of whose relations are read.
 pub fn read_last<E: Engine>(alloc: Global, engine: &mut E, bytes: &[u8]) -> Result<Rel, BadFile> {
     let list = match read_k2_all(alloc, engine, bytes) {
         Ok(list) => list,

@@ -1,8 +1,8 @@
-//! How long forked operators take, at 1, 2 and 4 workers in one run: `bench_forks BITS SIDE PAIRS`, each in a table of
-//! its own of 2^BITS words.
+//! Times forked operators with 1, 2 and 4 workers in one run: `bench_forks BITS SIDE PAIRS`, each in a table of its own
+//! with 2^BITS words.
 //!
-//! Two relations of SIDE rows and columns have PAIRS pairs each, by chance. Each line has the workers, the operator,
-//! the nanoseconds, and how many pairs the answer has.
+//! Two relations of SIDE rows and columns have PAIRS random pairs each. Each line has the number of workers, the
+//! operator, the nanoseconds, and how many pairs the answer has.
 #![tactic(auto, using(rel_model::proofs::Workers::keeps_stands, rel_model::proofs::Workers::keeps_trans))]
 
 mod pairs;
@@ -27,7 +27,7 @@ use std::time::Instant;
 /// The greatest side.
 const MOST_SIDE: u64 = 1_048_576;
 
-/// The most pairs.
+/// The greatest number of pairs.
 const MOST_PAIRS: u64 = 16_777_216;
 
 /// What is measured.
@@ -101,7 +101,7 @@ fn measure<R: Print + Clock, E: Engine>(
     println!(rt; "{workers} {} {time} {pairs}", name_of(task))
 }
 
-/// A relation of pairs by chance.
+/// A relation of random pairs.
 fn built<E: Engine>(alloc: Global, engine: &mut E, size: Size, seed: u64) -> Option<Rel>
     requires some { 0 < size.side }
     requires few { size.side ≤ size_limit }
@@ -163,7 +163,7 @@ fn measure_alone<R: Print + Clock + Threads + Sync>(
     measure_over(rt, alloc, &mut works, workers, task, size)
 }
 
-/// The next word as a number, or 0.
+/// The next word as a number; 0 if it is none.
 fn number(word: Option<String>) -> u64 {
     match word {
         Some(word) => word.as_str().parse().unwrap_or(0),

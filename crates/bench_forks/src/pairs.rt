@@ -1,17 +1,17 @@
-//! Pairs by chance.
+//! Random pairs.
 ghost use Rattle.std.specs.Prelude.{◌≤◌, ◌<◌, IfOk};
 ghost use Rattle.rel_model.specs.Listed.{AreWithin};
 
 use std::alloc::{AllocError, Global};
 
-/// The pseudo-random number after another.
+/// The pseudo-random number that follows another.
 fn next(state: u64) -> u64 {
     state
         .wrapping_mul(6364136223846793005)
         .wrapping_add(1442695040888963407)
 }
 
-/// A number below a bound, by a pseudo-random one.
+/// A number below a bound, made from a pseudo-random one.
 fn below(state: u64, bound: u32) -> u32
     requires { 0 < bound }
     ensures { result < bound }
@@ -19,7 +19,7 @@ fn below(state: u64, bound: u32) -> u32
     ((state >> 33) % bound as u64) as u32
 }
 
-/// So many pairs of a square, by chance.
+/// A number of random pairs of a square.
 pub fn random(
     alloc: Global,
     side: u32,

@@ -7,22 +7,22 @@ use std::alloc::{AllocError, Global};
 /// The graphs.
 #[derive(Clone, Copy)]
 pub enum Graph {
-    /// Two edges of each vertex, by chance.
+    /// Two random edges for each vertex.
     Random,
-    /// Two edges of each vertex but the last, by chance, to vertices behind it.
+    /// Two random edges for each vertex but the last, to later vertices.
     Acyclic,
-    /// One edge of each vertex, to the next, and of the last to the first.
+    /// One edge for each vertex, to the next one, and from the last to the first.
     Cycle,
 }
 
-/// The pseudo-random number after another.
+/// The pseudo-random number that follows another.
 fn next(state: u64) -> u64 {
     state
         .wrapping_mul(6364136223846793005)
         .wrapping_add(1442695040888963407)
 }
 
-/// A number below a bound, by a pseudo-random one.
+/// A number below a bound, made from a pseudo-random one.
 fn below(state: u64, bound: u32) -> u32
     requires { 0 < bound }
     ensures { result < bound }
@@ -30,7 +30,7 @@ fn below(state: u64, bound: u32) -> u32
     ((state >> 33) % bound as u64) as u32
 }
 
-/// A vertex that an edge of `from` goes to, if it has one.
+/// A vertex to which an edge from `from` leads, if there is one.
 fn target(graph: Graph, vertices: u32, from: u32, state: u64) -> Option<u32>
     requires { from < vertices }
     ensures { IfSome result (λ to. to < vertices) }
@@ -44,7 +44,7 @@ fn target(graph: Graph, vertices: u32, from: u32, state: u64) -> Option<u32>
     }
 }
 
-/// Adds an edge of a vertex, if it has one.
+/// Appends an edge from a vertex, if there is one.
 fn push_edge(
     pairs: &mut Vec<(u32, u32)>,
     graph: Graph,

@@ -1,8 +1,8 @@
-//! How long closures and inclusions take: `bench_kernels BITS TASK SIZE`, each in a table of its own of 2^BITS words.
+//! Times closures and inclusions: `bench_kernels BITS TASK SIZE`, each in a table of its own with 2^BITS words.
 //!
-//! The tasks are `random`, `acyclic` and `cycle`, a closure of a graph of SIZE vertices, by quarters and then by
-//! squares, and `inclusion`, of the subsets of SIZE elements. Each line has a name, the nanoseconds, and how many pairs
-//! the answer has.
+//! The tasks are `random`, `acyclic` and `cycle`, the closure of a graph of SIZE vertices, by quarters and then by
+//! squaring, and `inclusion`, that of the subsets of SIZE elements. Each line has a name, the nanoseconds, and how many
+//! pairs the answer has.
 #![tactic(auto)]
 
 mod graphs;
@@ -24,10 +24,10 @@ use std::rt::Clock;
 use std::thread::Threads;
 use std::time::Instant;
 
-/// The most vertices of a graph.
+/// The greatest number of vertices of a graph.
 const MOST_VERTICES: u32 = 1_048_576;
 
-/// The ways of a closure.
+/// The two ways to close.
 #[derive(Clone, Copy)]
 enum Way {
     Quarters,
@@ -41,7 +41,7 @@ enum Task {
     Inclusion,
 }
 
-/// How many pairs an answer has, or 0 where there is none.
+/// How many pairs an answer has; 0 if there is none.
 fn pairs_of<E: Engine>(alloc: Global, engine: &mut E, answer: Result<Rel, Lack>) -> u64
     requires { IfOk answer (Stands (E.worker engine.old)) }
 {
@@ -51,7 +51,7 @@ fn pairs_of<E: Engine>(alloc: Global, engine: &mut E, answer: Result<Rel, Lack>)
     engine.count(alloc, rel).unwrap_or(0)
 }
 
-/// The closure of a relation in one of both ways.
+/// The closure of a relation in one of the two ways.
 fn closed<E: Engine>(engine: &mut E, way: Way, r: Rel) -> Result<Rel, Lack>
     requires stands { Stands (E.worker engine.old) r }
     requires square { r.rows ≡ r.cols }
@@ -84,7 +84,7 @@ fn measure_closure<R: Print + Clock, E: Engine>(
     }
 }
 
-/// Prints how long the inclusion of subsets takes: `E\E`, where E is membership.
+/// Prints how long the inclusion of subsets takes: `E\E`, where E is the membership relation.
 fn measure_inclusion<R: Print + Clock, E: Engine>(
     rt: &R,
     alloc: Global,
@@ -103,7 +103,7 @@ fn measure_inclusion<R: Print + Clock, E: Engine>(
     println!(rt; "inclusion {time} {pairs}")
 }
 
-/// The relation of a graph, where it fits.
+/// The relation of a graph, if it fits.
 fn built<E: Engine>(alloc: Global, engine: &mut E, graph: Graph, vertices: u32) -> Option<Rel>
     requires some { 0 < vertices }
     requires few { vertices ≤ size_limit }
@@ -165,7 +165,7 @@ fn measure_alone<R: Print + Clock + Threads + Sync>(
     measure(rt, alloc, &mut works, task, size, way)
 }
 
-/// The next word as a number, or 0.
+/// The next word as a number; 0 if it is none.
 fn number(word: Option<String>) -> u64 {
     match word {
         Some(word) => word.as_str().parse().unwrap_or(0),
@@ -173,7 +173,7 @@ fn number(word: Option<String>) -> u64 {
     }
 }
 
-/// The task of a name.
+/// The task with this name.
 fn task_of(word: Option<String>) -> Option<Task> {
     let word = word?;
     match word.as_str() {

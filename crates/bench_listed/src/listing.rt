@@ -6,7 +6,7 @@ use lang_model::syntax::Row;
 use rel_model::Shape;
 use std::alloc::{AllocError, Global};
 
-/// Adds a listed pair, where it lies within the sizes.
+/// Appends a listed pair, if it lies within the sizes.
 fn push_listed(
     pairs: &mut Vec<(u32, u32)>,
     shape: Shape,
@@ -22,7 +22,7 @@ fn push_listed(
     Ok(())
 }
 
-/// Adds the pairs of a listed row.
+/// Appends the pairs of a listed row.
 fn push_row(pairs: &mut Vec<(u32, u32)>, shape: Shape, row: &Row) -> Result<(), AllocError>
     requires { AreWithin shape.rows shape.cols pairs.old.items }
     ensures { AreWithin shape.rows shape.cols pairs.new.items }

@@ -1,5 +1,5 @@
-//! How long listed relations take: `bench_listed a.rv` reads a script of three REL, builds their relations in one
-//! table, unites the last two, and prints how many pairs the first and the union have.
+//! Times listed relations: `bench_listed a.rv` reads a script of three REL, builds their relations in one table, unites
+//! the last two, and prints how many pairs the first and the union have.
 #![tactic(auto)]
 
 mod listing;
@@ -23,7 +23,7 @@ use std::alloc::Global;
 use std::io;
 use std::thread::Threads;
 
-/// The bits of the program's table.
+/// The binary logarithm of the number of node words in the program's table.
 const TABLE_BITS: u32 = 20;
 
 /// The relation of an item that is a REL.

@@ -1,8 +1,8 @@
-//! How long orders and classes take: `bench_order BITS TASK SIZE`, in a table of 2^BITS words.
+//! Times orders and classes: `bench_order BITS TASK SIZE`, in a table of 2^BITS words.
 //!
 //! The tasks are `less`, the strict order of SIZE elements; `hasse`, the Hasse diagram of a chain of SIZE elements;
 //! `blocks` and `residues`, the classes of an equivalence of SIZE * SIZE elements, by their quotients and by their
-//! remainders. The line has the task, the nanoseconds of the one call, and how many pairs its answer has.
+//! remainders. The line has the task, the nanoseconds of the single call, and how many pairs its answer has.
 #![tactic(auto)]
 
 ghost use Rattle.std.specs.Prelude.{◌≡◌, ◌≤◌, IfOk, IfSome};
@@ -23,7 +23,7 @@ use std::rt::Clock;
 use std::thread::Threads;
 use std::time::Instant;
 
-/// By what elements are equivalent.
+/// What makes elements equivalent.
 #[derive(Clone, Copy)]
 enum Part {
     Quotient,
@@ -38,7 +38,7 @@ enum Task {
     Classes(Part),
 }
 
-/// How many pairs an answer has, or 0 where there is none.
+/// How many pairs an answer has; 0 if there is none.
 fn pairs_of<Q: Quads>(alloc: Global, q: &mut Q, answer: Result<Rel, Lack>) -> u64
     requires { IfOk answer (Stands (Q.worker q.old)) }
 {
@@ -48,7 +48,7 @@ fn pairs_of<Q: Quads>(alloc: Global, q: &mut Q, answer: Result<Rel, Lack>) -> u6
     count(alloc, q, rel).unwrap_or(0)
 }
 
-/// The strict order of so many elements.
+/// The strict order of n elements.
 fn ordered<Q: Quads>(q: &mut Q, n: u32) -> Result<Rel, Lack>
     requires { n ≤ size_limit }
     ensures { IfOk result (λ r. Stands (Q.worker q.new) r × (r.rows ≡ n) × (r.cols ≡ n)) }
@@ -56,7 +56,7 @@ fn ordered<Q: Quads>(q: &mut Q, n: u32) -> Result<Rel, Lack>
     less(q, n)
 }
 
-/// The chain of so many elements: all pairs but those of a greater and a lesser one.
+/// The chain of n elements: all pairs except those of a greater and a lesser element.
 fn chain<Q: Quads>(q: &mut Q, n: u32) -> Result<Rel, Lack>
     requires { n ≤ size_limit }
     ensures { IfOk result (λ r. Stands (Q.worker q.new) r × (r.rows ≡ n) × (r.cols ≡ n)) }
@@ -67,7 +67,7 @@ fn chain<Q: Quads>(q: &mut Q, n: u32) -> Result<Rel, Lack>
     q.diff(all, greater)
 }
 
-/// The projection of the pairs of so many elements to one of both.
+/// The projection of the pairs of elements to one of their two parts.
 fn projection<Q: Quads>(q: &mut Q, side: u32, part: Part) -> Option<Rel>
     requires { side ≤ size_limit }
     ensures { IfSome result (Stands (Q.worker q.new)) }
@@ -82,7 +82,7 @@ fn projection<Q: Quads>(q: &mut Q, side: u32, part: Part) -> Option<Rel>
     }
 }
 
-/// The equivalence of the pairs that have one image.
+/// The equivalence of elements with the same image.
 fn equivalence<Q: Quads>(q: &mut Q, map: Rel) -> Result<Rel, Lack>
     requires { Stands (Q.worker q.old) map }
     ensures { IfOk result (λ r. Stands (Q.worker q.new) r × (r.rows ≡ r.cols)) }
@@ -173,7 +173,7 @@ fn measure<R: Print + Clock + Threads + Sync>(
     }
 }
 
-/// The next word as a number, or 0.
+/// The next word as a number; 0 if it is none.
 fn number(word: Option<String>) -> u64 {
     match word {
         Some(word) => word.as_str().parse().unwrap_or(0),
@@ -181,7 +181,7 @@ fn number(word: Option<String>) -> u64 {
     }
 }
 
-/// The task of a name.
+/// The task with this name.
 fn task_of(word: Option<String>) -> Option<Task> {
     let word = word?;
     match word.as_str() {

@@ -1,5 +1,4 @@
-//! How long `parse` takes: `bench_parse SHAPE COUNT`, over one chain of so many names, one relation of so many rows, or
-//! so many items.
+//! Times `parse`: `bench_parse SHAPE COUNT`, on one chain of COUNT names, one relation of COUNT rows, or COUNT items.
 #![tactic(auto)]
 
 use lang_model::limits::SCRIPT_LIMIT;
@@ -9,7 +8,7 @@ use std::io;
 use std::rt::Clock;
 use std::time::Instant;
 
-/// How a script begins, the part that it repeats, and how it ends.
+/// How a script begins, the part that is repeated, and how it ends.
 #[derive(Clone, Copy)]
 struct Shape {
     front: &'static str,
@@ -17,7 +16,7 @@ struct Shape {
     behind: &'static str,
 }
 
-/// The shape of a name.
+/// The shape with this name.
 fn shape_of(name: &str) -> Option<Shape> {
     match name {
         "chain" => Some(Shape {
@@ -39,7 +38,7 @@ fn shape_of(name: &str) -> Option<Shape> {
     }
 }
 
-/// A script in which so many names, rows or items stand.
+/// A script with a number of names, rows or items.
 fn script(alloc: Global, shape: Shape, count: u64) -> io::Result<String> {
     let mut text = String::from_str(alloc, shape.front)?;
     'parts: for _part in 1..count {
@@ -49,7 +48,7 @@ fn script(alloc: Global, shape: Shape, count: u64) -> io::Result<String> {
     Ok(text)
 }
 
-/// Prints the nanoseconds that a script is read in, its bytes and its items.
+/// Prints the nanoseconds for reading a script, its bytes and its items.
 fn measure<R: Print + Clock>(rt: &R, alloc: Global, text: &str) -> io::Result<()> {
     if text.len() > SCRIPT_LIMIT {
         return println!(rt; "too long");
@@ -63,7 +62,7 @@ fn measure<R: Print + Clock>(rt: &R, alloc: Global, text: &str) -> io::Result<()
     }
 }
 
-/// The next word as a number, or 0.
+/// The next word as a number; 0 if it is none.
 fn number(word: Option<String>) -> u64 {
     match word {
         Some(word) => word.as_str().parse().unwrap_or(0),

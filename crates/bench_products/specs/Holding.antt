@@ -1,9 +1,9 @@
--- What stood goes on standing, and what was made stands.
+-- What stood still stands, and what was made stands.
 use Rattle.std.specs.Prelude.{◌≡◌, ℕ}
 use Rattle.rel_model.specs.declared.Quad.{Quad}
 use Rattle.rel_model.specs.Quads.{Keeper, IsKeeper, QuadStands}
 
--- each quad that stood stands
+-- each quad that stood still stands
 pub record Holds (old new : Keeper) : Type 0 where
   pub after : IsKeeper new
   pub standing : (q : Quad) → QuadStands old q → QuadStands new q

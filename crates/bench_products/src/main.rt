@@ -1,9 +1,8 @@
-//! How long compositions of quads take, by rows where that pays and by quarters alone: `bench_products BITS HEIGHT KIND
-//! CELLS`.
+//! Times compositions of quads, by rows if that pays and by quarters only: `bench_products BITS HEIGHT KIND CELLS`.
 //!
 //! Both operands are squares of 2^HEIGHT rows. KIND is `random`, with CELLS cells in a row on average, or `cycle`,
-//! `less`, `blocks` or `parity`. Each way has a table of its own of 2^BITS words, and prints a line with its name, the
-//! nanoseconds, and the name of the product, or 0 where the table was full.
+//! `less`, `blocks` or `parity`. Each way has a table of its own with 2^BITS words, and prints a line with its name,
+//! the nanoseconds, and the name of the product, or 0 if the table was full.
 #![tactic(auto)]
 
 ghost use Rattle.std.specs.Prelude.{◌≡◌, ◌<◌, ◌≤◌, ◌+◌, IfOk};
@@ -23,26 +22,26 @@ use std::time::Instant;
 /// Which cells a square has.
 #[derive(Clone, Copy)]
 enum Kind {
-    /// Each by chance, so many times of a million.
+    /// Each cell at random, with a chance of this many in a million.
     Random(u64),
-    /// Each row has the next column, and the last row the first.
+    /// Each row has the next column, and the last row has the first.
     Cycle,
-    /// Each row has all columns behind it.
+    /// Each row has all columns after its own number.
     Less,
     /// Each row has the columns of its block of 32.
     Blocks,
-    /// Each row has the columns that are even or odd as it is.
+    /// Each row has the columns of its own parity.
     Parity,
 }
 
-/// The ways of a composition.
+/// The two ways to compose.
 #[derive(Clone, Copy)]
 enum Way {
     Rows,
     Quarters,
 }
 
-/// The pseudo-random number after another.
+/// The pseudo-random number that follows another.
 fn next(state: u64) -> u64 {
     state
         .wrapping_mul(6364136223846793005)
@@ -63,7 +62,7 @@ fn has(kind: Kind, side: u64, row: u64, col: u64, state: u64) -> bool {
     }
 }
 
-/// A block of a square of a side, from a row and a column on, and the number after those that were taken.
+/// A block of a square of a side, from a row and a column on, and the state of the generator after it.
 fn block_of(kind: Kind, side: u64, row: u64, col: u64, seed: u64) -> (u64, u64) {
     let mut state = seed;
     let mut bits: u64 = 0;
@@ -80,7 +79,7 @@ fn block_of(kind: Kind, side: u64, row: u64, col: u64, seed: u64) -> (u64, u64) 
     (bits, state)
 }
 
-/// A part of a square of a side, and the number after those that were taken.
+/// A part of a square of a side, and the state of the generator after it.
 #[cycle(making)]
 fn quad_of(
     nodes: &mut Nodes,
@@ -117,7 +116,7 @@ fn quad_of(
     }
 }
 
-/// The name of a result, or 0 where there is none.
+/// The name of a result; 0 if there is none.
 fn name_of(found: Result<Quad, Missed>) -> u32 {
     match found {
         Ok(quad) => quad.name,
@@ -125,7 +124,7 @@ fn name_of(found: Result<Quad, Missed>) -> u32 {
     }
 }
 
-/// The name of the product of two quads, or 0 where the table is full.
+/// The name of the product of two quads; 0 if the table is full.
 fn product_of(nodes: &mut Nodes, way: Way, a: Quad, b: Quad) -> u32
     requires a_stands { QuadStands nodes.old a }
     requires b_stands { QuadStands nodes.old b }
@@ -186,7 +185,7 @@ fn measure_alone<R: Print + Clock>(
     measure(rt, &mut nodes, way, a, b)
 }
 
-/// The next word as a number, or 0.
+/// The next word as a number; 0 if it is none.
 fn number(word: Option<String>) -> u64 {
     match word {
         Some(word) => word.as_str().parse().unwrap_or(0),
@@ -194,7 +193,7 @@ fn number(word: Option<String>) -> u64 {
     }
 }
 
-/// The kind of a name.
+/// The kind with this name.
 fn kind_of(word: Option<String>, chance: u64) -> Option<Kind> {
     let word = word?;
     match word.as_str() {

@@ -1,4 +1,4 @@
-//! How long the node table takes for inserts and for hits: `bench_table BITS LOAD THREADS`, with the load in percent.
+//! Times inserts into the node table and hits: `bench_table BITS LOAD THREADS`, with the load in percent.
 #![tactic(auto)]
 
 ghost use Rattle.std.specs.Prelude.{◌≡◌, ◌≢◌, ◌<◌, ◌≤◌, ◌+◌, ◌^◌};
@@ -14,16 +14,16 @@ use std::time::Instant;
 /// The factor that spreads the numbers of words over 64 bits.
 const SPREAD: u64 = 11400714819323198485;
 
-/// What one thread does.
+/// The work of one thread.
 #[derive(Clone, Copy)]
 enum Work {
-    /// Interns the words with numbers from one below another.
+    /// Interns the words with numbers `from` up to `to`.
     Insert { from: u64, to: u64 },
-    /// Interns so many words, picked at random among the first `stored`.
+    /// Interns `count` words, picked at random among the first `stored`.
     Hit { stored: u64, count: u64, seed: u64 },
 }
 
-/// Does a work, and adds up the names.
+/// Does the work of one thread, and adds up the names.
 #[inline(never)]
 fn one(table: &PairTable, mut seat: Seat, work: Work) -> (Seat, u64)
     requires { IsOf seat table.now }
@@ -79,7 +79,7 @@ fn hit(table: &PairTable, seat: &mut Seat, stored: u64, count: u64, seed: u64) -
     sum
 }
 
-/// A work as two of half the size.
+/// Splits a work into two of half the size.
 fn halves(work: Work) -> (Work, Work) {
     match work {
         Work::Insert { from, to } => {
@@ -175,7 +175,7 @@ fn share<R: Threads + Sync>(
     one(table, seat, work)
 }
 
-/// The next word as a number, or 0.
+/// The next word as a number; 0 if it is none.
 fn number(word: Option<String>) -> u64 {
     match word {
         Some(word) => word.as_str().parse().unwrap_or(0),
@@ -183,7 +183,7 @@ fn number(word: Option<String>) -> u64 {
     }
 }
 
-/// What is measured: a table and how full it is, by how many threads, and how often a word is looked up.
+/// What is measured: a table and its load, the number of threads, and how often a word is looked up.
 #[derive(Clone, Copy)]
 struct Case {
     bits: u32,

@@ -2,6 +2,6 @@
 use Rattle.turn_book.specs.Views.{Book, IsReady}
 use Rattle.bench_turns.specs.declared.Work.{Work}
 
--- its pass is of the book, and holds no turn
+-- its pass belongs to the book, and does not have the turn
 abbrev pub IsWork : Book → Work → Type 0
 IsWork book work = IsReady book work.pass

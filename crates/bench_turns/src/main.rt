@@ -1,4 +1,4 @@
-//! How long turns take: `bench_turns PASSES TURNS`, with so many turns of each pass, and all passes at once.
+//! Times turns: `bench_turns PASSES TURNS`, with TURNS turns for each pass, and all passes at once.
 #![tactic(auto)]
 
 ghost use Rattle.std.specs.Prelude.{◌≡◌, ◌≤◌, ◌<◌, ◌+◌, ◌-◌, [], length, vec_capacity, vec_len, All};
@@ -32,7 +32,7 @@ impl Kept for Diary {
     ghost start = { λ _. no_start };
 }
 
-/// What one thread does: so many turns, and when they began and ended, in nanoseconds.
+/// The work of one thread: a number of turns, and when they began and ended, in nanoseconds.
 #[derive(Drop)]
 pub struct Work {
     pub number: u32,
@@ -42,7 +42,7 @@ pub struct Work {
     pub ended: u128,
 }
 
-/// One turn: an event is put behind the others.
+/// One turn: an event is appended to the others.
 fn turn<R: Wait>(rt: &R, book: &TurnBook<Diary>, pass: &mut Pass<Diary>, session: u32, command: u32)
     requires ready { IsReady book.now pass.old }
     ensures ready { IsReady book.now pass.new }
@@ -69,7 +69,7 @@ fn turns<R: Wait>(rt: &R, book: &TurnBook<Diary>, pass: &mut Pass<Diary>, sessio
     }
 }
 
-/// Waits a while for the others, so that all begin at once.
+/// Waits a while for the others, so that all threads begin at once.
 fn meet(there: &AtomicU64, wanted: u64) {
     there.fetch_add(1, Ordering::SeqCst);
     for _ in 0..4_000_000u32 {
@@ -150,7 +150,7 @@ fn split_all(
     }
 }
 
-/// From the first turn's beginning to the last one's end.
+/// The time from the first turn's beginning to the last turn's end.
 fn span(works: &Vec<Work>) -> u128 {
     let mut first = u128::MAX;
     let mut last = 0;
@@ -187,7 +187,7 @@ fn measure<R: Threads + Wait + Clock + Print + Sync>(
     println!(rt; "{} {}", span(&works), diary.events.len())
 }
 
-/// The next word as a number, or 0.
+/// The next word as a number; 0 if it is none.
 fn number(word: Option<String>) -> u32 {
     match word {
         Some(word) => word.as_str().parse().unwrap_or(0),

@@ -21,7 +21,7 @@ no_row = record { w0 = 0; w1 = 0; w2 = 0; w3 = 0 }
 abbrev pub rows_cells : List Row → Cells
 rows_cells rows i j = row_has (slice_index_or rows i no_row) j
 
--- a row has each column of so many rows, from a row on
+-- a row has every column of `count` rows, from a row on
 abbrev pub HasColumns : List Row → ℕ → ℕ → Row → Type 0
 HasColumns rows from count r = (t j : ℕ) → t < count → rows_cells rows (from + t) j ≡ true → row_has r j ≡ true
 
@@ -33,10 +33,10 @@ pub record IsSplit (w k rest : ℕ) : Type 0 where
   pub others : (i : ℕ) → i < 64 → (i ≡ k → ⊥) → has_bit rest i ≡ has_bit w i
   pub smaller : rest < w
 
--- whether some of 64 rows has a column, of those whose bit a word has
+-- whether one of 64 rows has a column, among those whose bit a word has
 unfoldable pub picks : List Row → ℕ → ℕ → ℕ → Bool
 picks rows from w j = some_below 64 (λ k. has_bit w k && rows_cells rows (from + k) j)
 
--- whether some row has a column, of those whose column a row has
+-- whether one of the rows has a column, among those whose number is a column of a row
 abbrev pub product_has : Row → List Row → ℕ → Bool
 product_has row rows j = some_below (length rows) (λ k. row_has row k && rows_cells rows k j)

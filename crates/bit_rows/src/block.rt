@@ -1,4 +1,4 @@
-//! Blocks of 8 by 8 cells, written to rows and read from them.
+//! Blocks of 8 by 8 cells, written to rows and read back from them.
 ghost use Rattle.std.specs.Prelude.{◌≡◌, ◌<◌, ◌≤◌, ◌+◌, ◌*◌, ◌%◌, ◌||◌, ℕ, length};
 ghost use Rattle.rel_model.specs.Cells.{block_cells, cells_union};
 ghost use Rattle.bit_rows.specs.Rows.{row_has, rows_cells, has_bit};
@@ -15,7 +15,7 @@ fn byte_of(w: u64, from: usize) -> u64
     (w >> from) & 255
 }
 
-/// A row with the bits of a byte besides, from a column on.
+/// A row with the bits of a byte added from a column on.
 #[inline(always)]
 fn with_byte(r: Row, byte: u64, col: usize) -> Row
     requires small { byte < 256 }
@@ -74,7 +74,7 @@ pub(crate) fn byte_at(r: Row, col: usize) -> u64
     byte_of(r.w3, col - 192)
 }
 
-/// Adds the cells of a block, from a row and a column on.
+/// Adds the cells of a block to rows, with its first cell at a row and a column.
 pub fn add_block(z: &mut [Row], bits: u64, row: usize, col: usize)
     requires z_len { length z.old ≡ 256 }
     requires row_in { row + 8 ≤ 256 }
@@ -88,7 +88,7 @@ pub fn add_block(z: &mut [Row], bits: u64, row: usize, col: usize)
     }
 }
 
-/// The block of the cells from a row and a column on.
+/// The block of 8 by 8 cells whose first cell is at a row and a column.
 pub fn block_at(z: &[Row], row: usize, col: usize) -> u64
     requires z_len { length z.now ≡ 256 }
     requires row_in { row + 8 ≤ 256 }

@@ -1,4 +1,4 @@
-//! Parts of rows with no cell.
+//! Parts of rows without a cell.
 ghost use Rattle.std.specs.Prelude.{◌≡◌, ◌<◌, ◌≤◌, ◌+◌, ◌%◌, ℕ, true, false, length};
 ghost use Rattle.rel_model.specs.Cells.{no_cells};
 ghost use Rattle.bit_rows.specs.Rows.{row_has, rows_cells, HasColumns};
@@ -7,7 +7,7 @@ ghost use Rattle.bit_rows.specs.Places.{window};
 use crate::block::byte_at;
 use crate::row::{Row, joined};
 
-/// The columns of so many rows, from a row on.
+/// A row with at least the columns of `count` rows, from a row on: their union.
 fn columns_of(z: &[Row], row: usize, count: usize) -> Row
     requires { row + count ≤ length z.now }
     ensures { HasColumns z.now row count result }
@@ -24,7 +24,7 @@ fn columns_of(z: &[Row], row: usize, count: usize) -> Row
     all
 }
 
-/// Whether a row has none of so many columns, from a column on.
+/// Whether a row has none of `count` columns, from a column on.
 fn has_none(r: Row, col: usize, count: usize) -> bool
     requires on { col % 8 ≡ 0 }
     requires whole { count % 8 ≡ 0 }
@@ -39,7 +39,7 @@ fn has_none(r: Row, col: usize, count: usize) -> bool
     true
 }
 
-/// Whether no cell is in the square of a side, from a row and a column on.
+/// Whether a square of a given side, with its first cell at a row and a column, has no cell.
 pub fn is_clear(z: &[Row], row: usize, col: usize, side: usize) -> bool
     requires z_len { length z.now ≡ 256 }
     requires row_in { row + side ≤ 256 }

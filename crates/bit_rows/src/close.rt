@@ -33,7 +33,7 @@ pub fn row_test(row: Row, j: usize) -> bool
     test_bit(row.w3, j - 192)
 }
 
-/// A row, and another where the first has a column.
+/// A row; with another row added if it has a column.
 #[inline(always)]
 fn stepped(x: Row, k: usize, row: Row) -> Row
     requires { k < 256 }
@@ -42,7 +42,7 @@ fn stepped(x: Row, k: usize, row: Row) -> Row
     if row_test(x, k) { joined(x, row) } else { x }
 }
 
-/// Adds a row to each that has a column.
+/// Adds a row to each row that has a column (one step of Warshall's algorithm).
 fn step_all(z: &mut [Row], k: usize, row: Row)
     requires z_len { length z.old ≡ 256 }
     requires column { k < 256 }
@@ -55,7 +55,7 @@ fn step_all(z: &mut [Row], k: usize, row: Row)
     }
 }
 
-/// The transitive closure of a square, in its place.
+/// `trans(z)`: replaces a square of rows by its transitive closure (Warshall's algorithm).
 pub fn rows_close(z: &mut [Row])
     requires { length z.old ≡ 256 }
     ensures len { length z.new ≡ 256 }

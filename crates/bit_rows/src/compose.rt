@@ -6,7 +6,7 @@ ghost use Rattle.bit_rows.specs.Rows.{row_has, rows_cells, product_has};
 use crate::row::{Row, with_picked};
 use crate::tables::{compose_by_tables, has_many_cells};
 
-/// A row and all rows of which another has the column.
+/// A row, with all rows added whose number is a column of another row.
 #[inline(always)]
 fn with_product(sum: Row, row: Row, rows: &[Row]) -> Row
     requires { length rows.now ≡ 256 }
@@ -18,7 +18,7 @@ fn with_product(sum: Row, row: Row, rows: &[Row]) -> Row
     with_picked(sum, row.w3, rows, 192)
 }
 
-/// Adds the composition of two squares to a third, one bit after another.
+/// Adds the composition of two squares to a third, bit by bit.
 fn compose_by_bits(z: &mut [Row], a: &[Row], b: &[Row])
     requires z_len { length z.old ≡ 256 }
     requires a_len { length a.now ≡ 256 }
@@ -32,7 +32,7 @@ fn compose_by_bits(z: &mut [Row], a: &[Row], b: &[Row])
     }
 }
 
-/// Adds the composition of two squares to a third.
+/// `z | {(i, k) : (i, j) in a and (j, k) in b for some j}`: adds the composition of two squares of rows to a third.
 pub fn rows_compose_into(z: &mut [Row], a: &[Row], b: &[Row])
     requires z_len { length z.old ≡ 256 }
     requires a_len { length a.now ≡ 256 }

@@ -1,4 +1,4 @@
-//! Rows to work on.
+//! Rows to work on, on the stack.
 ghost use Rattle.std.specs.Prelude.{◌≡◌, length};
 ghost use Rattle.rel_model.specs.Cells.{no_cells};
 ghost use Rattle.bit_rows.specs.Rows.{rows_cells};

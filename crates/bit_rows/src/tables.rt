@@ -1,4 +1,4 @@
-//! The composition of squares with many cells, four rows at a time, by tables: the method of the four Russians.
+//! The composition of squares with many cells by tables, four rows at a time: the method of the four Russians.
 ghost use Rattle.std.specs.Prelude.{◌≡◌, ◌<◌, ◌≤◌, ◌+◌, ◌*◌, ◌/◌, ◌%◌, ◌||◌, ℕ, length};
 ghost use Rattle.rel_model.specs.Cells.{cells_union, cells_compose};
 ghost use Rattle.bit_rows.specs.Rows.{row_has, rows_cells, has_bit, IsSplit};
@@ -7,7 +7,7 @@ ghost use Rattle.bit_rows.specs.Tables.{picks_first, word_product, AreTables, Is
 use crate::row::{Row, joined, split_first};
 use crate::scratch::no_rows;
 
-/// How many cells of a square are many: with as many, tables are quicker than one bit after another.
+/// From this number of cells on, tables are quicker than going bit by bit.
 const MANY_CELLS: u32 = 8192;
 
 /// How many columns a row has.
@@ -18,7 +18,7 @@ fn columns_in(row: Row) -> u32
     row.w0.count_ones() + row.w1.count_ones() + row.w2.count_ones() + row.w3.count_ones()
 }
 
-/// Whether a square has many cells. It is a guess at what is quicker, and nothing else rests on it.
+/// Whether a square has many cells. This is a guess at what is quicker; nothing else depends on it.
 pub(crate) fn has_many_cells(a: &[Row]) -> bool
     requires { length a.now ≡ 256 }
 {
@@ -56,7 +56,7 @@ fn word_of(row: Row, q: usize) -> u64
     row.w3
 }
 
-/// The place of the first of four bits, and the others.
+/// The place of the first of four bits, and the remaining bits.
 #[inline(always)]
 fn split_four(m: usize) -> (usize, usize)
     requires some { 0 < m }
@@ -68,7 +68,7 @@ fn split_four(m: usize) -> (usize, usize)
     (k, rest as usize)
 }
 
-/// An entry of the tables, by one before it: that without the first of its rows, and this row.
+/// An entry of the tables, computed from an earlier one: the entry without the first of its rows, and that row added.
 #[inline(always)]
 fn entry(tables: &[Row], e: usize, rows: &[Row], from: usize) -> Row
     requires tables_len { length tables.now ≡ 256 }
@@ -90,7 +90,7 @@ fn entry(tables: &[Row], e: usize, rows: &[Row], from: usize) -> Row
     joined(rows[from + 4 * (e / 16) + k], tables[e - m + rest])
 }
 
-/// Makes the tables of 64 rows, from a row on.
+/// Fills the tables of 64 rows, from a row on.
 fn fill_tables(tables: &mut [Row], rows: &[Row], from: usize)
     requires tables_len { length tables.old ≡ 256 }
     requires rows_in { from + 64 ≤ length rows.now }
@@ -102,7 +102,7 @@ fn fill_tables(tables: &mut [Row], rows: &[Row], from: usize)
     }
 }
 
-/// A row and all those rows of 64 of which a word has the bit, by the tables of those rows.
+/// A row, with those of 64 rows added whose bits a word has, by looking them up in the tables of those rows.
 #[inline(always)]
 fn with_looked_up(sum: Row, word: u64, tables: &[Row]) -> Row
     requires { length tables.now ≡ 256 }
@@ -115,7 +115,7 @@ fn with_looked_up(sum: Row, word: u64, tables: &[Row]) -> Row
     all
 }
 
-/// Adds the composition with a middle element among the 64 of a word. The tables are made anew.
+/// Adds the part of a composition whose middle elements are the 64 of a word. Fills the tables anew.
 fn add_word(z: &mut [Row], a: &[Row], b: &[Row], q: usize, tables: &mut [Row])
     requires z_len { length z.old ≡ 256 }
     requires a_len { length a.now ≡ 256 }
@@ -134,7 +134,7 @@ fn add_word(z: &mut [Row], a: &[Row], b: &[Row], q: usize, tables: &mut [Row])
 
 /// Adds the composition of two squares to a third, by tables.
 ///
-/// The tables are on the stack, 8 KB, so this is a call of its own.
+/// The tables take 8 KB of stack; keeping this a separate call puts them there only while it runs.
 #[inline(never)]
 pub(crate) fn compose_by_tables(z: &mut [Row], a: &[Row], b: &[Row])
     requires z_len { length z.old ≡ 256 }

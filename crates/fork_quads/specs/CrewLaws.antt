@@ -1,4 +1,4 @@
--- What stands in a crew, as the traits' laws want it.
+-- What stands in a crew satisfies the laws of the traits.
 use Rattle.std.proofs.Common.{◌≡◌, ◌≢◌, ◌<◌, ◌≤◌, ◌^◌, ◌&&◌, ◌⊎◌, not, eqb, leb, ℕ, Bool, true, false, List, [], length, get_or, Some, refl, sym, ap, subst, ◌∙◌, inl, inr, arith}
 use Rattle.std.specs.Prelude.{IsSome, unwrap_or}
 use Rattle.std.proofs.lemmas.Bool.{false≢true, cases_Bool, cases_lt, cases_eq, leb-true, le-leb, eqb-true, eqb-false, eq-eqb, ne_eqb, and_parts, and_from, and_cases, and_left, or_parts, or_from, not-true, not_from_false, not_from_true}
@@ -21,7 +21,7 @@ use Rattle.rel_model.proofs.Rooting.{relation_in-rooted, rooted-relation_in, som
 use Rattle.fork_quads.specs.Crew.{is_spoilt, is_canonical, named_set, quad_in, worker_of}
 
 -- ---- canonical names
--- where the test says so, names are canonical
+-- if the test passes, names are canonical
 pub canonical_means : (words : List ℕ) → is_canonical words ≡ true → IsDistinct words
 unfolding is_canonical
 canonical_means words e =
@@ -60,7 +60,7 @@ canonical_means words e =
       ];
     }
 
--- where names are canonical, the test says so
+-- if names are canonical, the test passes
 pub canonical_from : (words : List ℕ) → IsDistinct words → is_canonical words ≡ true
 unfolding is_canonical
 canonical_from words d =
@@ -95,7 +95,7 @@ pub record IsNamed (words : List ℕ) (q : Quad) : Type 0 where
   pub standing : stands words (depth_of q.height) q.name ≡ true
   pub canonical : (q.name ≡ 0) ⊎ IsDistinct words
 
--- a quad that stands has such a height and such a name
+-- a quad that stands has a height and a name of this kind
 pub quad_in-named : (words : List ℕ) (q : Quad) → IsSome (quad_in words q) → IsNamed words q
 unfolding quad_in
 quad_in-named words q h = elim (cases_Bool (leb bottom_height q.height && leb q.height top_height)) [
@@ -124,7 +124,7 @@ quad_in-named words q h = elim (cases_Bool (leb bottom_height q.height && leb q.
       ]
     ]
 
--- its set: none of name 0, and else that of its name
+-- the set of a quad named 0 is empty
 pub quad_in-none : (words : List ℕ) (h n : ℕ) → bottom_height ≤ h → h ≤ top_height → n ≡ 0
     → quad_in words (record { height = h; name = n }) ≡ Some no_cells
 unfolding quad_in
@@ -169,11 +169,11 @@ pub valid_law : (w : Keeper) (r : Rel) → Stands (worker_of w) r → IsRelation
 valid_law w r h = subst IsRelation (sym (set_is w r h))
     (IsRelation-relation_of r.rows r.cols (root_cells w.view.words r))
 
--- it has as many rows as its name says
+-- it has as many rows as it claims
 pub rows_law : (w : Keeper) (r : Rel) → Stands (worker_of w) r → (set_of (worker_of w) r).rows ≡ r.rows
 rows_law w r h = ap (λ x. x.rows) (set_is w r h) ∙ rows-relation_of r.rows r.cols (root_cells w.view.words r)
 
--- it has as many columns as its name says
+-- it has as many columns as it claims
 pub cols_law : (w : Keeper) (r : Rel) → Stands (worker_of w) r → (set_of (worker_of w) r).cols ≡ r.cols
 cols_law w r h = ap (λ x. x.cols) (set_is w r h) ∙ cols-relation_of r.rows r.cols (root_cells w.view.words r)
 
@@ -195,7 +195,7 @@ pub low_height_law : (w : Keeper) (q : Quad) → HasQuad (worker_of w) q → 3 �
 unfolding bottom_height
 low_height_law w q h = (quad_in-named w.view.words q h).low
 
--- no quad is over the greatest height
+-- no quad is above the greatest height
 pub high_height_law : (w : Keeper) (q : Quad) → HasQuad (worker_of w) q → q.height ≤ top_height
 high_height_law w q h = (quad_in-named w.view.words q h).high
 
@@ -221,7 +221,7 @@ pub none_law : (w : Keeper) (h : ℕ) → 3 ≤ h → h ≤ top_height
 unfolding bottom_height
 none_law w h l t = quad_in-none w.view.words h 0 l t refl
 
--- quads of one height with one set have one name
+-- quads of one height with the same set have the same name
 pub one_name_law : (w : Keeper) (p q : Quad) → HasQuad (worker_of w) p → HasQuad (worker_of w) q → p.height ≡ q.height
     → quad_set (worker_of w) p ≡ quad_set (worker_of w) q → p.name ≡ q.name
 one_name_law w p q h k e f =

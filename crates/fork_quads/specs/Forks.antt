@@ -1,4 +1,4 @@
--- Operators done piece by piece: the squares of a result, their numbers, and what a group of pieces does.
+-- Operators computed piece by piece: the squares of a result, their numbers, and what a group of pieces does.
 use Rattle.std.specs.Prelude.{◌≡◌, ◌≢◌, ◌<◌, ◌≤◌, ◌+◌, ◌-◌, ◌*◌, ◌/◌, ◌%◌, ◌^◌, ◌&&◌, nat_lt, ℕ, zero, suc, List, slice_index_or, Result, IfOk, Ok, Err, IsOk, IsErr}
 use Rattle.rel_model.specs.declared.Quad.{Quad}
 use Rattle.rel_model.specs.Cells.{Cells, cells_compose}
@@ -11,7 +11,7 @@ use Rattle.fork_quads.specs.declared.pieces.Job.{Job}
 use Rattle.fork_quads.specs.Middle.{whole_room, most_turns}
 
 -- ---- squares and their numbers
--- one of four, by its number: north-west, north-east, south-west and south-east
+-- one of four by its number: north-west, north-east, south-west and south-east
 abbrev pub nth : {A : Type 0} → ℕ → A → A → A → A → A
 nth zero a b c d = a
 nth (suc zero) a b c d = b
@@ -25,52 +25,52 @@ quarter m (suc zero) f i j = nat_lt i m && (nat_lt j m && f i (m + j))
 quarter m (suc (suc zero)) f i j = nat_lt i m && (nat_lt j m && f (m + i) j)
 quarter m (suc (suc (suc k))) f i j = nat_lt i m && (nat_lt j m && f (m + i) (m + j))
 
--- the number of the square in which a square lies, so many cuts before
+-- the number of the square, c cuts earlier, in which a square lies
 abbrev pub number_before : ℕ → ℕ → ℕ
 number_before zero n = n
 number_before (suc c) n = number_before c (n / 4)
 
--- which of four squares it lies in at the cut after which so many follow
+-- in which of four squares it lies at the cut that c cuts follow
 abbrev pub place_at_cut : ℕ → ℕ → ℕ
 place_at_cut c n = number_before c n % 4
 
--- the square of a number, where a set in the square of a height is cut so often, each time in four
+-- the square with this number, after a set in the square of a height was cut in four this many times
 abbrev pub part : ℕ → ℕ → ℕ → Cells → Cells
 part height zero n f = f
 part height (suc c) n f = part (height - 1) c n (quarter (side_of (height - 1)) (place_at_cut c n) f)
 
--- how far down a quarter lies in a square of twice the side m, by its place
+-- how many rows down a quarter begins in a square of twice the side m, by its place
 abbrev pub south : ℕ → ℕ → ℕ
 south k m = nth k 0 0 m m
 
--- how far across it lies there
+-- how many columns across it begins there
 abbrev pub east : ℕ → ℕ → ℕ
 east k m = nth k 0 m 0 m
 
--- the first row of the square of a number, or its first column, as the quarters lie south or east
+-- the first row of the square with this number (for `south`), or its first column (for `east`)
 abbrev pub first_at : (ℕ → ℕ → ℕ) → ℕ → ℕ → ℕ → ℕ
 first_at by height zero n = 0
 first_at by height (suc c) n = by (place_at_cut c n) (side_of (height - 1)) + first_at by (height - 1) c n
 
--- the square of a number of the composition of two quads
+-- the square of the composition of two quads with this number
 abbrev pub product_of : Keeper → Quad → Quad → ℕ → ℕ → Cells
 product_of w a b cuts number = part a.height cuts number
     (cells_compose (side_of a.height) (quad_cells w a) (quad_cells w b))
 
--- the square of the first operand of which that of the result is made, by its place
+-- the place of the square of the first operand from which a square of the result is computed, by its place
 abbrev pub source : Operator → ℕ → ℕ
 source Transpose (suc zero) = 2
 source Transpose (suc (suc zero)) = 1
 source op k = k
 
 -- ---- rooms
--- how many words an operator on squares of a height places at most, where the middle of a composition may be halved so
--- often
+-- how many words an operator on squares of a height places at most, if the middle of a composition may be halved this
+-- many times
 abbrev pub work_room : Operator → ℕ → ℕ → ℕ
 work_room Compose turns height = whole_room turns height
 work_room op turns height = quad_room height
 
--- how many words a square of a composition places at most, cut so often: two products at each cut, and their unions
+-- how many words a square of a composition places at most, after c cuts: two products for each cut, and their unions
 abbrev pub product_words : ℕ → ℕ → ℕ → ℕ
 product_words turns height zero = whole_room turns height
 product_words turns height (suc c) = product_words turns (height - 1) c + product_words turns (height - 1) c
@@ -81,25 +81,25 @@ abbrev pub piece_room : Operator → ℕ → ℕ → ℕ → ℕ
 piece_room Compose turns height cuts = product_words turns height cuts
 piece_room op turns height cuts = quad_room (height - cuts)
 
--- how many words the corners over all pieces place at most
+-- how many words the corners above all pieces place at most
 abbrev pub corner_words : ℕ → ℕ
 corner_words zero = 0
 corner_words (suc c) = corner_words c + corner_words c + (corner_words c + corner_words c) + 3
 
--- how many words a composition that may be forked places at most, so many quarterings above the blocks: as many as
--- the recursion does where its middle is not halved
+-- how many words a composition that may be forked places at most, d heights above the blocks: as many as the recursion
+-- if its middle is not halved
 abbrev pub fork_words : ℕ → ℕ → ℕ
 fork_words zero d = composed_words d
 fork_words (suc n) zero = 1
 fork_words (suc n) (suc d) = 4096 * 8 ^ suc d
 
--- those of an operator on squares of a height
+-- how many words an operator on squares of a height places at most
 abbrev pub fork_room : Operator → ℕ → ℕ → ℕ
 fork_room Compose turns height = fork_words turns (height - bottom_height)
 fork_room op turns height = quad_room height
 
 -- ---- answers
--- a call that missed places counts them, and one that succeeded counts nothing
+-- a call that failed has raised the misses, and one that succeeded has not changed them
 abbrev pub TellsMisses : {T E : Type 0} → Keeper → Keeper → Result T E → Type 0
 TellsMisses old new (Ok x) = new.misses ≡ old.misses
 TellsMisses old new (Err e) = Rose old.misses new.misses
@@ -109,17 +109,17 @@ pub record HasSet (w : Keeper) (height : ℕ) (f : Cells) : Type 0 where
   pub quad : Quad
   pub is : IsQuad w height f quad
 
--- a call answers, places no word and misses nothing
+-- a call succeeds, places no word and counts no miss
 pub record IsQuiet {T E : Type 0} (old new : Keeper) (answer : Result T E) : Type 0 where
   pub answered : IsOk answer
   pub reads : ReadsQuads old new
 
 -- ---- groups of pieces
--- the set that a job makes
+-- the set that a job computes
 abbrev pub job_set : Keeper → Job → Cells
 job_set w job = result_of (operator_of job.op) (side_of job.a.height) (quad_cells w job.a) (quad_cells w job.b)
 
--- both operands stand, at one height, and the squares of the last cut are not below the leaves
+-- both operands stand at one height, and the squares of the last cut are no lower than the leaves
 pub record CanDo (w : Keeper) (job : Job) : Type 0 where
   pub a_stands : QuadStands w job.a
   pub b_stands : QuadStands w job.b
@@ -127,17 +127,17 @@ pub record CanDo (w : Keeper) (job : Job) : Type 0 where
   pub deep : bottom_height + job.cuts ≤ job.a.height
   pub few : job.pieces.turns ≤ most_turns
 
--- the quads from a number on, up to another, are the squares of a set of these numbers
+-- the quads from one number up to another are the squares of a set with these numbers
 abbrev pub HavePieces : Keeper → Job → Cells → ℕ → ℕ → List Quad → Type 0
 HavePieces w job f from past quads = (n : ℕ) → from ≤ n → n < past → (d : Quad)
     → IsQuad w (job.a.height - job.cuts) (part job.a.height job.cuts n f) (slice_index_or quads n d)
 
--- quads of these squares stood
+-- quads of these squares stood already
 abbrev pub HadPieces : Keeper → Job → ℕ → ℕ → Type 0
 HadPieces w job from past = (n : ℕ) → from ≤ n → n < past
     → HasSet w (job.a.height - job.cuts) (part job.a.height job.cuts n (job_set w job))
 
--- pieces from a number on, up to another, were done
+-- the pieces from one number up to another were computed
 pub record DidPieces {E : Type 0} (old new : Keeper) (job : Job) (from past : ℕ) (answer : Result (List Quad) E)
     : Type 0 where
   pub value : IfOk answer (HavePieces new job (job_set old job) from past)
@@ -146,7 +146,7 @@ pub record DidPieces {E : Type 0} (old new : Keeper) (job : Job) (from past : �
   pub misses : TellsMisses old new answer
   pub stood : operator_of job.op ≢ Compose → HadPieces old job from past → IsQuiet old new answer
 
--- a group of pieces can be done: they are in the array, and there is a seat for each
+-- a group of pieces can be computed: they are in the array, and there is a seat for each
 pub record CanGroup (w : Keeper) (job : Job) (from count : ℕ) : Type 0 where
   pub can : CanDo w job
   pub some : 1 ≤ count
@@ -159,28 +159,28 @@ abbrev pub last_piece : ℕ → ℕ → ℕ
 last_piece zero n = n
 last_piece (suc c) n = last_piece c (4 * n + 2 + 1)
 
--- the quads of the pieces of a square stand, at one height
+-- the quads of the pieces of a square stand at one height
 abbrev pub HoldPieces : Keeper → ℕ → ℕ → ℕ → List Quad → Type 0
 HoldPieces w height cuts number quads = (n : ℕ) → number_before cuts n ≡ number → (d : Quad)
     → IsQuad w height (quad_cells w (slice_index_or quads n d)) (slice_index_or quads n d)
 
--- the set of a square, of the quads of its pieces
+-- the set of a square, put together from the quads of its pieces
 abbrev pub tiled : Keeper → ℕ → ℕ → ℕ → List Quad → Cells
 tiled w height zero number quads = quad_cells w (slice_index_or quads number (record { height = 0; name = 0 }))
 tiled w height (suc c) number quads = quartered (side_of (height - 1)) (tiled w (height - 1) c (4 * number) quads)
     (tiled w (height - 1) c (4 * number + 1) quads) (tiled w (height - 1) c (4 * number + 2) quads)
     (tiled w (height - 1) c (4 * number + 2 + 1) quads)
 
--- a quad stands in the place of each of 64 pieces
+-- a quad is at the place of each of 64 pieces
 abbrev pub AreAll : Quad → List Quad → Type 0
 AreAll quad quads = (n : ℕ) (d : Quad) → n < 64 → slice_index_or quads n d ≡ quad
 
--- two lists of quads as one: the first up to a number, and the second from there on
+-- two lists of quads merged: the first up to a number, and the second from there on
 pub record AreMerged (first second : List Quad) (from : ℕ) (all : List Quad) : Type 0 where
   pub before : (n : ℕ) (d : Quad) → n < from → n < 64 → slice_index_or all n d ≡ slice_index_or first n d
   pub after : (n : ℕ) (d : Quad) → from ≤ n → n < 64 → slice_index_or all n d ≡ slice_index_or second n d
 
--- the quads of two groups as those of one, where both have theirs
+-- the quads of two groups as those of one group, if both succeeded
 abbrev pub AreBoth : {E : Type 0} → Result (List Quad) E → Result (List Quad) E → ℕ → Result (List Quad) E → Type 0
 AreBoth (Ok p) (Ok q) from answer = IfOk answer (AreMerged p q from) × IsOk answer
 AreBoth (Ok p) (Err e) from answer = IsErr answer

@@ -1,4 +1,4 @@
-//! A crew: made over a table and a seat, and giving the seat back.
+//! A crew, made from a table and a seat, and giving the seat back.
 ghost use Rattle.std.specs.Prelude.{◌≡◌, ◌≢◌, ◌≤◌};
 ghost use Rattle.rel_model.specs.Words.{IsFull};
 ghost use Rattle.rel_model.specs.Views.{IsOf};
@@ -11,7 +11,7 @@ use quad_nodes::Nodes;
 use std::marker::Model;
 use std::thread::Threads;
 
-/// A worker over a node table, of one seat there, with what lets it start threads. 48 bytes.
+/// A worker on one seat of a node table, with what it needs to start threads. 48 bytes.
 #[derive(Drop)]
 pub struct Crew<'t, R: Threads + Sync, G: Gate + Sync> {
     pub(crate) team: Team<'t, R, G>,
@@ -27,10 +27,10 @@ impl<'t, R: Threads + Sync, G: Gate + Sync> Model for Crew<'t, R, G> {
 }
 
 impl<'t, R: Threads + Sync, G: Gate + Sync> Crew<'t, R, G> {
-    /// The relations and quads of a table, for the seat; nothing was missed yet.
+    /// A worker for the relations and quads of a table, at this seat, without a miss so far.
     ///
-    /// With more workers than one the five operators fork: each piece of their work passes the gate. With one worker no
-    /// gate is called.
+    /// With more than one worker the five operators fork, and each piece of their work passes the gate. With one worker
+    /// the gate is never called.
     pub fn new(
         rt: &'t R,
         table: &'t PairTable,
@@ -49,7 +49,7 @@ impl<'t, R: Threads + Sync, G: Gate + Sync> Crew<'t, R, G> {
         }
     }
 
-    /// The seat, which is given back.
+    /// Gives the seat back.
     pub fn into_seat(self) -> Seat
         ensures view { result ≡ self.entry.view }
         ensures of { IsOf result self.entry.table }

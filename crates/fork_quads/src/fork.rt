@@ -1,4 +1,4 @@
-//! Operators that are forked: their pieces are done by the workers of a team.
+//! Operators that fork: their pieces are computed by the workers of a team.
 ghost use Rattle.std.specs.Prelude.{◌≡◌, ◌≢◌, ◌<◌, ◌≤◌, ◌+◌, ◌^◌, IfOk};
 ghost use Rattle.rel_model.specs.Trees.{bottom_height};
 ghost use Rattle.rel_model.specs.Equations.{Compose, Transpose, result_of, side_of};
@@ -20,13 +20,13 @@ use quad_nodes::Nodes;
 use rel_model::Quad;
 use std::thread::Threads;
 
-/// The most workers of a crew.
+/// The greatest number of workers of a crew.
 const MOST_WORKERS: u32 = 64;
 
-/// The least height of operands that are cut: squares of 512 rows and columns, whose squares have 256.
+/// The least height of operands that are cut: squares of 512 rows and columns, which are cut into squares of 256.
 const LEAST_HEIGHT: u8 = 9;
 
-/// What lets work be forked: that threads may be started, a gate, and how many workers there are. 24 bytes.
+/// What forking needs: the right to start threads, a gate, and the number of workers. 24 bytes.
 #[derive(Drop)]
 pub(crate) struct Team<'t, R: Threads, G: Gate> {
     pub rt: &'t R,
@@ -35,7 +35,7 @@ pub(crate) struct Team<'t, R: Threads, G: Gate> {
 }
 
 /// How often the result of an operator on quads of a height is cut in four, so that there is a piece for each worker
-/// and none has fewer than 256 rows: not at all where the operands are low, or where there are too few spare seats.
+/// and no piece has fewer than 256 rows: never if the operands are low, or if there are too few spare seats.
 #[tactic(auto, unfolding(rel_model::specs::Trees::bottom_height))]
 pub(crate) fn cuts_for(workers: u32, height: u8, spare: u32) -> u8
     requires low { bottom_height ≤ height }
@@ -55,7 +55,7 @@ pub(crate) fn cuts_for(workers: u32, height: u8, spare: u32) -> u8
     enough.min(height - 8)
 }
 
-/// How many pieces there are after so many cuts.
+/// How many pieces there are after this number of cuts.
 fn count_of(cuts: u8) -> u32
     requires few { cuts ≤ 3 }
     ensures { result ≡ 4 ^ cuts }
@@ -68,7 +68,7 @@ fn count_of(cuts: u8) -> u32
     }
 }
 
-/// All pieces of an operator's result, put together.
+/// Computes all pieces of an operator's result, and puts them together.
 fn put_together<R: Threads, G: Gate>(
     team: &Team<'_, R, G>,
     nodes: &mut Nodes,
@@ -85,6 +85,7 @@ fn put_together<R: Threads, G: Gate>(
     ensures keeps { KeepsQuads (fork_room (operator_of job.op) job.pieces.turns job.a.height) nodes.old nodes.new }
     ensures misses { TellsMisses nodes.old nodes.new result }
 {
+    // This use makes the checker open the invariant of `nodes`, which what follows needs.
     let _ = nodes.bottom();
     let past = count_of(job.cuts);
     match groups(team.rt, team.gate, team.workers, nodes, job, 0, past) {
@@ -93,7 +94,7 @@ fn put_together<R: Threads, G: Gate>(
     }
 }
 
-/// An operator on two quads of one height, by pieces where there is so much to do that threads pay.
+/// An operator on two quads of one height, by pieces if there is so much to do that threads pay.
 fn weighed<R: Threads, G: Gate>(
     team: &Team<'_, R, G>,
     nodes: &mut Nodes,
@@ -125,8 +126,8 @@ fn weighed<R: Threads, G: Gate>(
     }
 }
 
-/// An operator on two quads of one height by its pieces. What was noted of both is looked up first, and what is found
-/// is noted.
+/// An operator on two quads of one height, by its pieces. Looks up whether the result was noted; if not, computes and
+/// notes it.
 fn forked<R: Threads, G: Gate>(
     team: &Team<'_, R, G>,
     nodes: &mut Nodes,
@@ -154,7 +155,7 @@ fn forked<R: Threads, G: Gate>(
     answer
 }
 
-/// An operator on two quads of one height, by the workers of a team where it is worth while.
+/// An operator on two quads of one height, by the workers of a team if that is worthwhile.
 pub(crate) fn worked<R: Threads, G: Gate>(
     team: &Team<'_, R, G>,
     nodes: &mut Nodes,

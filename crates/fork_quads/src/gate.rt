@@ -1,4 +1,4 @@
-//! What a forked piece of work passes.
+//! The gate that the pieces of forked work pass.
 ghost use Rattle.std.specs.Prelude.{◌+◌};
 ghost use Rattle.rel_model.specs.Quads.{Keeper};
 ghost use Rattle.fork_quads.specs.Forks.{CanGroup, DidPieces};
@@ -10,13 +10,13 @@ use quad_nodes::Nodes;
 use rel_model::watch::Watch;
 use std::thread::Threads;
 
-/// Passes the pieces of a forked work, and is told when each begins and ends.
+/// Runs the pieces of forked work, and is called when each begins and ends.
 pub trait Gate: Watch {
-    /// Does the pieces of a group, of these numbers, at once, each on nodes of its own: all begin, then they work in
-    /// threads of their own, and then all end.
+    /// Runs the pieces with these numbers at once, each on nodes of its own: all begin, then all work in threads of
+    /// their own, and then all end.
     ///
-    /// A gate that holds a piece until another comes or goes is told of each in the thread of the piece: it does its
-    /// groups by [`watched`].
+    /// A gate that holds a piece until another begins or ends has to be called for each in the thread of that piece: it
+    /// implements this by [`watched`].
     fn group<R: Threads>(
         &self,
         rt: &R,
@@ -39,7 +39,7 @@ pub trait Gate: Watch {
     }
 }
 
-/// A gate that lets every piece pass.
+/// A gate that lets every piece pass. No bytes.
 #[derive(Clone, Copy, Debug)]
 pub struct OpenGate;
 

@@ -10,7 +10,7 @@ use pair_table::Missed;
 use quad_nodes::Nodes;
 use rel_model::Quad;
 
-/// The square of a number, so many cuts above its pieces.
+/// The square with this number, given how many cuts it is above its pieces.
 #[cycle(gathering)]
 pub(crate) fn gathered(
     nodes: &mut Nodes,
@@ -37,7 +37,7 @@ pub(crate) fn gathered(
     nodes.corner(north.0, north.1, south.0, south.1)
 }
 
-/// The squares of a number and of the next.
+/// The squares with this number and the next one.
 #[cycle(gathering)]
 fn beside(
     nodes: &mut Nodes,

@@ -1,4 +1,4 @@
-//! Groups of pieces, those of a group at once, each on a split of the nodes.
+//! Groups of pieces that are computed at once, each on a split of the nodes.
 ghost use Rattle.std.specs.Prelude.{◌≤◌, ◌<◌, ◌+◌, ◌-◌};
 ghost use Rattle.std.specs.Thread.{IsSync};
 ghost use Rattle.rel_model.specs.Quads.{Keeper};
@@ -12,17 +12,17 @@ use rel_model::Quad;
 use rel_model::watch::Watch;
 use std::thread::{Threads, join_mut};
 
-/// The quads of all pieces, each in the place of its number.
+/// The quads of all pieces, each at the place of its number. 512 bytes.
 pub type Pieces = [Quad; 64];
 
-/// A quad in the place of every piece.
+/// The same quad for every piece.
 fn filled(quad: Quad) -> Pieces
     ensures { AreAll quad result }
 {
     [quad; 64]
 }
 
-/// One piece, between its beginning and its end.
+/// Computes one piece, and tells the watch when it begins and ends.
 fn one<W: Watch>(watch: &W, job: Job, nodes: &mut Nodes, number: u32) -> Result<Pieces, Missed>
     requires can { CanDo nodes.old job }
     requires within { number < 64 }
@@ -37,7 +37,7 @@ fn one<W: Watch>(watch: &W, job: Job, nodes: &mut Nodes, number: u32) -> Result<
     }
 }
 
-/// The first pieces up to a number, and the second from there on.
+/// The first pieces up to a number, and the second pieces from there on.
 #[tactic(auto, using(crate::proofs::Merging::copied_none, crate::proofs::Merging::copied_one, crate::proofs::Merging::copied_all))]
 fn merged(first: Pieces, second: Pieces, from: u32) -> Pieces
     ensures { AreMerged first second from result }
@@ -49,8 +49,8 @@ fn merged(first: Pieces, second: Pieces, from: u32) -> Pieces
     both
 }
 
-/// Does a group of pieces at once, each on nodes of its own: the last in a thread of its own, while the others go on
-/// here the same way. Each piece is told to the watch in its own thread.
+/// Computes a group of pieces at once, each on nodes of its own: the last in a thread of its own, while the others are
+/// computed here in the same way. The watch is called for each piece in that piece's thread.
 pub fn watched<R: Threads, W: Watch + Sync>(
     rt: &R,
     watch: &W,
@@ -84,7 +84,7 @@ pub fn watched<R: Threads, W: Watch + Sync>(
     both(first, second, last)
 }
 
-/// The pieces of two groups as those of one, where both have theirs.
+/// The pieces of two groups as those of one group, if both succeeded.
 fn both(
     first: Result<Pieces, Missed>,
     second: Result<Pieces, Missed>,
@@ -97,7 +97,7 @@ fn both(
     Ok(merged(first, second, from))
 }
 
-/// Does all pieces from a number on, in groups of as many as there are workers, one group after another.
+/// Computes all pieces from a number on, group after group, with as many pieces in a group as there are workers.
 pub(crate) fn groups<R: Threads, G: Gate>(
     rt: &R,
     gate: &G,

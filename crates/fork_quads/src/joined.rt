@@ -1,4 +1,4 @@
-//! A quad and a product, as one quad.
+//! A quad joined with a product.
 ghost use Rattle.std.specs.Prelude.{◌≡◌, ◌+◌, IfOk};
 ghost use Rattle.rel_model.specs.Cells.{cells_union, cells_compose};
 ghost use Rattle.rel_model.specs.Equations.{side_of};
@@ -15,7 +15,7 @@ use rel_compose::{joined_by_rows, joins_by_rows};
 use rel_model::Quad;
 use std::thread::Threads;
 
-/// `x | y*z`, of quads of one height: the product, and then the union.
+/// `x | y*z`, of quads of one height: first the product, and then the union.
 pub(crate) fn joined_in_turn<R: Threads, G: Gate>(
     team: &Team<'_, R, G>,
     nodes: &mut Nodes,
@@ -38,7 +38,7 @@ pub(crate) fn joined_in_turn<R: Threads, G: Gate>(
     Ok(both)
 }
 
-/// Whether `x | y*z` goes by rows of bits: no piece of it would be forked, and `y` and `z` are dense.
+/// Whether `x | y*z` should go by rows of bits: no piece of it would be forked, and `y` and `z` are dense.
 fn goes_by_rows<R: Threads, G: Gate>(
     team: &Team<'_, R, G>,
     nodes: &mut Nodes,
@@ -57,7 +57,8 @@ fn goes_by_rows<R: Threads, G: Gate>(
     joins_by_rows(nodes, y, z)
 }
 
-/// `x | y*z`, of quads of one height: in rows of bits where that pays, so that no product is named, and else in turn.
+/// `x | y*z`, of quads of one height: in rows of bits if that pays, so that no product is named; otherwise the product
+/// and then the union.
 pub(crate) fn joined<R: Threads, G: Gate>(
     team: &Team<'_, R, G>,
     nodes: &mut Nodes,

@@ -1,4 +1,4 @@
-//! Whether halves of the middle are lighter than the whole, by the quads under them.
+//! Whether the two halves of the middle are lighter than the whole, judged by the quads under them.
 ghost use Rattle.std.specs.Prelude.{◌≡◌, ◌≤◌, ◌*◌, length};
 ghost use Rattle.rel_model.specs.Quads.{Keeper, QuadStands, ReadsQuads};
 ghost use Rattle.fork_quads.specs.Middle.{AreStanding};
@@ -6,8 +6,8 @@ ghost use Rattle.fork_quads.specs.Middle.{AreStanding};
 use quad_nodes::Nodes;
 use rel_model::Quad;
 
-/// Counts the quads of a height and above under a quad, on to those met before; a name is told from those met before
-/// by its place.
+/// Counts distinct quads of at least a height from `q` down, adding to `met`. `seen` is a direct-mapped cache of the
+/// names met so far, so a quad may be counted twice.
 fn met_under(nodes: &mut Nodes, q: Quad, least: u8, seen: &mut [u32], met: u32) -> u32
     requires stands { QuadStands nodes.old q }
     requires places { length seen.old ≡ 16384 }
@@ -34,8 +34,8 @@ fn met_under(nodes: &mut Nodes, q: Quad, least: u8, seen: &mut [u32], met: u32) 
     met_under(nodes, se, least, seen, third)
 }
 
-/// How many quads of a height and above are under a quad, counted to 16384. It is a call of its own, so that its
-/// array is on the stack once.
+/// How many quads of at least a height are under a quad, counted up to 16384. Keeping this a separate call puts its
+/// array on the stack once.
 #[inline(never)]
 fn weight(nodes: &mut Nodes, q: Quad, least: u8) -> u64
     requires stands { QuadStands nodes.old q }
@@ -58,7 +58,7 @@ fn weights(nodes: &mut Nodes, a: Quad, b: Quad, least: u8) -> u64
     first * second
 }
 
-/// Whether both halves together have at most half the pairs of quads that the whole has.
+/// Whether both halves together have at most half as many pairs of quads as the whole.
 pub(crate) fn lighter(
     nodes: &mut Nodes,
     whole: (Quad, Quad),

@@ -1,4 +1,4 @@
-//! The pieces of an operator's result: the squares into which it is cut, each done by itself.
+//! The pieces of an operator's result: the squares into which it is cut, each computed on its own.
 ghost use Rattle.std.specs.Prelude.{◌≡◌, ◌≢◌, ◌≤◌, ◌+◌, ◌-◌, IfOk};
 ghost use Rattle.rel_model.specs.Cells.{cells_union};
 ghost use Rattle.rel_model.specs.Trees.{bottom_height};
@@ -19,7 +19,7 @@ use rel_boole::{diff_quads, inter_quads, union_quads};
 use rel_compose::transpose_quad;
 use rel_model::Quad;
 
-/// An operator on two quads of one height, cut so often. A transposition has no second operand.
+/// An operator on two quads of one height, and how often its result is cut. A transposition has no second operand.
 #[derive(Clone, Copy)]
 pub struct Job {
     pub(crate) op: Op,
@@ -27,11 +27,11 @@ pub struct Job {
     pub(crate) b: Quad,
     pub(crate) pieces: Halving,
     pub(crate) cuts: u8,
-    /// Whether the squares of a composition are done by sums of rows.
+    /// Whether the squares of a composition are computed by sums of rows.
     pub(crate) by_sums: bool,
 }
 
-/// An operator on two quads of one height, without cuts.
+/// An operator on two quads of one height, uncut.
 pub(crate) fn alone(
     nodes: &mut Nodes,
     op: Op,
@@ -59,7 +59,7 @@ pub(crate) fn alone(
     }
 }
 
-/// The place among four squares, at the cut after which so many follow.
+/// The place among four squares of the square with this number, at the cut that this many cuts follow.
 pub(crate) fn place(cuts: u8, number: u32) -> u32
     ensures { result ≡ place_at_cut cuts number }
 {
@@ -69,7 +69,7 @@ pub(crate) fn place(cuts: u8, number: u32) -> u32
     place(cuts - 1, number / 4)
 }
 
-/// One of four, by its place.
+/// One of four by its place.
 pub(crate) fn picked<T: Copy>(four: (T, T, T, T), k: u32) -> T
     ensures { result ≡ nth k four.0 four.1 four.2 four.3 }
 {
@@ -81,7 +81,7 @@ pub(crate) fn picked<T: Copy>(four: (T, T, T, T), k: u32) -> T
     }
 }
 
-/// The place of the square of the first operand of which a square of the result is made.
+/// The place of the square of the first operand from which a square of the result is computed.
 fn source_of(op: Op, k: u32) -> u32
     ensures { result ≡ source (operator_of op) k }
 {
@@ -95,7 +95,7 @@ fn source_of(op: Op, k: u32) -> u32
     }
 }
 
-/// The square of an operator's result of a number, where it is cut so often. A composition is done otherwise.
+/// The square of an operator's result with this number, after this many cuts. Not for a composition.
 fn square_part(
     nodes: &mut Nodes,
     op: Op,
@@ -128,7 +128,7 @@ fn square_part(
     square_part(nodes, op, left, right, cuts - 1, number, pieces)
 }
 
-/// Two of four quads: those of the north or the south, of the west or the east.
+/// Two of four quads: the northern or the southern row.
 fn row_of(four: (Quad, Quad, Quad, Quad), k: u32) -> (Quad, Quad)
     ensures first { result.0 ≡ nth k four.0 four.0 four.2 four.2 }
     ensures second { result.1 ≡ nth k four.1 four.1 four.3 four.3 }
@@ -139,7 +139,7 @@ fn row_of(four: (Quad, Quad, Quad, Quad), k: u32) -> (Quad, Quad)
     }
 }
 
-/// The quads of the west or the east.
+/// Two of four quads: the western or the eastern column.
 fn column_of(four: (Quad, Quad, Quad, Quad), k: u32) -> (Quad, Quad)
     ensures first { result.0 ≡ nth k four.0 four.1 four.0 four.1 }
     ensures second { result.1 ≡ nth k four.2 four.3 four.2 four.3 }
@@ -150,7 +150,7 @@ fn column_of(four: (Quad, Quad, Quad, Quad), k: u32) -> (Quad, Quad)
     }
 }
 
-/// The square of a composition of a number, where it is cut so often: the sum of its partial products, two at each
+/// The square of a composition with this number, after this many cuts: the sum of its partial products, two for each
 /// cut.
 #[cycle(multiplying)]
 fn product_part(
@@ -196,7 +196,7 @@ fn product_part(
     )
 }
 
-/// The square of a number in the product of a row and a column.
+/// The square with this number in the product of a row and a column.
 #[cycle(multiplying)]
 fn sum_part(
     nodes: &mut Nodes,
@@ -221,7 +221,7 @@ fn sum_part(
     union_quads(nodes, first, second)
 }
 
-/// The square of a composition of a number, by sums of rows where the job says so.
+/// The square of a composition with this number, by sums of rows if the job asks for that.
 fn composed_part(nodes: &mut Nodes, job: Job, number: u32) -> Result<Quad, Missed>
     requires { CanDo nodes.old job }
     ensures value { IfOk result (IsQuad nodes.new (job.a.height - job.cuts)
@@ -235,7 +235,7 @@ fn composed_part(nodes: &mut Nodes, job: Job, number: u32) -> Result<Quad, Misse
     product_part(nodes, job.a, job.b, job.cuts, number, job.pieces)
 }
 
-/// The piece of a number.
+/// The piece with this number.
 pub(crate) fn piece(nodes: &mut Nodes, job: Job, number: u32) -> Result<Quad, Missed>
     requires { CanDo nodes.old job }
     ensures value { IfOk result (IsQuad nodes.new (job.a.height - job.cuts)

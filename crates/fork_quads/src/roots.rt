@@ -1,4 +1,4 @@
-//! Relations as the quads of their roots, and answers of the table as those of a worker.
+//! Relations as the quads of their roots, and answers of the table as answers of a worker.
 ghost use Rattle.std.specs.Prelude.{◌≡◌, ◌≤◌};
 ghost use Rattle.rel_model.specs.Relation.{size_limit};
 ghost use Rattle.rel_model.specs.Roots.{tree_height};
@@ -8,7 +8,8 @@ use pair_table::Missed;
 use quad_nodes::side_of_height;
 use rel_model::{Lack, Quad, Rel, TOP_HEIGHT};
 
-/// The height of the tree of a relation: the least from the leaves' on whose side is at least both sizes.
+/// The height of the tree of a relation: the least, from the height of the leaves on, whose side is at least both
+/// sizes.
 pub(crate) fn height_of_tree(rows: u32, cols: u32) -> u8
     requires row_limit { rows ≤ size_limit }
     requires col_limit { cols ≤ size_limit }
@@ -35,7 +36,7 @@ pub(crate) fn root_of(r: Rel) -> Quad
     }
 }
 
-/// The relation of these sizes that an answer is the root of.
+/// The relation with these sizes whose root is the answer.
 pub(crate) fn named(rows: u32, cols: u32, answer: Result<Quad, Missed>) -> Result<Rel, Lack>
     ensures { result ≡ named_as rows cols answer }
 {
@@ -49,7 +50,7 @@ pub(crate) fn named(rows: u32, cols: u32, answer: Result<Quad, Missed>) -> Resul
     }
 }
 
-/// The answer of a worker.
+/// An answer of the table as that of a worker: a miss becomes a full table.
 pub(crate) fn told(answer: Result<Quad, Missed>) -> Result<Quad, Lack>
     ensures { result ≡ told_as answer }
 {

@@ -1,4 +1,4 @@
-//! Crews over one table, which are split and joined by their seats.
+//! Crews on one table are split and joined by splitting and joining their seats.
 use crate::crew::Crew;
 use crate::fork::Team;
 use crate::gate::Gate;
@@ -6,7 +6,7 @@ use rel_model::seated_trait::Seated;
 use std::thread::Threads;
 
 impl<'t, R: Threads + Sync, G: Gate + Sync> Seated for Crew<'t, R, G> {
-    /// A second crew, over a seat that is split off.
+    /// A second crew, on a seat that is split off.
     fn split(&mut self, spare: u32) -> Crew<'t, R, G> {
         let _ = self.nodes.bottom();
         Crew {
@@ -19,7 +19,7 @@ impl<'t, R: Threads + Sync, G: Gate + Sync> Seated for Crew<'t, R, G> {
         }
     }
 
-    /// Both as one, over the seats joined.
+    /// Joins another crew into this one, by joining their seats.
     fn join(&mut self, other: Crew<'t, R, G>) {
         let Crew { team: _, nodes } = other;
         let _ = self.nodes.bottom();

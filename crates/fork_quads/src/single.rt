@@ -1,4 +1,4 @@
-//! One cell: its block, and the corners above it.
+//! A single cell: its block, and the corners above it.
 ghost use Rattle.std.specs.Prelude.{◌≡◌, ◌<◌, ◌≤◌, ◌-◌, ◌&&◌, cond, nat_lt, IfOk};
 ghost use Rattle.rel_model.specs.Cells.{block_cells};
 ghost use Rattle.rel_model.specs.Trees.{bottom_height, top_height};
@@ -26,7 +26,7 @@ fn in_half(place: u32, half: u32) -> u32
     if place < half { place } else { place - half }
 }
 
-/// The quad where both hold, and else the one with no cell in its place.
+/// The quad if both hold, and otherwise the empty one.
 fn placed(row: bool, col: bool, quad: Quad) -> Quad
     ensures { result ≡ placed_quad (row && col) quad }
 {
@@ -40,7 +40,7 @@ fn placed(row: bool, col: bool, quad: Quad) -> Quad
     }
 }
 
-/// `{(i, j)}`, in the square of a height.
+/// `{(i, j)}`, in the square of a height, which must hold the cell.
 pub(crate) fn single_quad(nodes: &mut Nodes, height: u8, i: u32, j: u32) -> Result<Quad, Missed>
     requires low { bottom_height ≤ height }
     requires high { height ≤ top_height }

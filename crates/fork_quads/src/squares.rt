@@ -44,7 +44,7 @@ impl<'t, R: Threads + Sync, G: Gate + Sync> Quads for Crew<'t, R, G> {
         }
     }
 
-    /// The quarters of a quad.
+    /// The quarters of a quad: north-west, north-east, south-west and south-east.
     fn quarters(&mut self, q: Quad) -> (Quad, Quad, Quad, Quad) {
         self.nodes.quarters(q)
     }
@@ -59,17 +59,17 @@ impl<'t, R: Threads + Sync, G: Gate + Sync> Quads for Crew<'t, R, G> {
         self.nodes.bits(q)
     }
 
-    /// The quad of a block.
+    /// The quad with the cells of a block.
     fn block(&mut self, bits: u64) -> Result<Quad, Lack> {
         told(self.nodes.block(bits))
     }
 
-    /// A rectangle of a square.
+    /// `{(i, j) : i < rows, j < cols}` in the square of a height.
     fn rect(&mut self, height: u8, rows: u32, cols: u32) -> Result<Quad, Lack> {
         told(self.nodes.rect(height, rows, cols))
     }
 
-    /// A quad and a product, as one.
+    /// `x | y*z`: a quad joined with a product.
     fn joined(&mut self, x: Quad, y: Quad, z: Quad) -> Result<Quad, Lack> {
         told(joined(&self.team, &mut self.nodes, x, y, z))
     }

@@ -1,4 +1,4 @@
-//! How an operator on two large quads is done: by one worker, or by pieces.
+//! How an operator on two large quads is computed: by one worker, or by pieces.
 ghost use Rattle.std.specs.Prelude.{◌≡◌, length};
 ghost use Rattle.rel_model.specs.Quads.{Keeper, QuadStands, ReadsQuads};
 ghost use Rattle.fork_quads.specs.Forks.{CanDo};
@@ -9,24 +9,24 @@ use quad_nodes::Nodes;
 use rel_compose::goes_by_sums;
 use rel_model::Quad;
 
-/// How an operator on two quads is done.
+/// How an operator on two quads is computed. 1 byte.
 #[derive(Clone, Copy, Debug, PartialEq, Eq)]
 pub(crate) enum Way {
-    /// By the worker that was asked.
+    /// By the worker that was called.
     Alone,
-    /// By pieces, each as the whole would be done.
+    /// By pieces, each like the whole.
     Parts,
     /// By pieces, each by sums of rows.
     Sums,
 }
 
-/// How many places are looked at in an operand at most.
+/// How many places of an operand are sampled at most.
 const LOOKS: u32 = 64;
 
-/// How many different quads are met there at least where it pays to start threads.
+/// How many distinct quads the sample must have for threads to pay.
 const LEAST_MET: u32 = 24;
 
-/// How many quarterings below the operand is looked, as it was measured: a composition has more to do for each quad.
+/// How far below the operand the sample is taken, in heights; measured. A composition has more to do for each quad.
 fn depth_for(op: Op) -> u8 {
     match op {
         Op::Compose => 4,
@@ -34,8 +34,8 @@ fn depth_for(op: Op) -> u8 {
     }
 }
 
-/// The name of the quad so many quarterings below another, or at the blocks, which a path leads to: its first two bits
-/// are the place of the first quarter.
+/// The name of the quad `depth` heights below another, or at the blocks, to which a path leads: the first two bits of
+/// the path are the place of the first quarter.
 fn name_below(nodes: &mut Nodes, q: Quad, path: u32, depth: u8) -> u32
     requires stands { QuadStands nodes.old q }
     ensures reads { ReadsQuads nodes.old nodes.new }
@@ -54,9 +54,9 @@ fn name_below(nodes: &mut Nodes, q: Quad, path: u32, depth: u8) -> u32
     }
 }
 
-/// Counts the different quads that are met at places spread over a quad, on to those met before, with so many places
-/// left. The quad named 0 is not counted, and a name is told from those met before by its place. It ends where it is
-/// known whether there are enough.
+/// Counts the distinct quads, other than the empty one, at `left` places spread over a quad, adding to `met`. Stops as
+/// soon as the answer is known. `seen` is a direct-mapped cache of the names met so far, so a quad may be counted
+/// twice.
 fn met_at(nodes: &mut Nodes, q: Quad, depth: u8, seen: &mut [u32], left: u32, met: u32) -> u32
     requires stands { QuadStands nodes.old q }
     requires places { length seen.old ≡ 256 }
@@ -76,7 +76,7 @@ fn met_at(nodes: &mut Nodes, q: Quad, depth: u8, seen: &mut [u32], left: u32, me
     met_at(nodes, q, depth, seen, left - 1, met + 1)
 }
 
-/// Whether many different quads are so many quarterings below a quad.
+/// Whether a sample `depth` heights below a quad has many distinct quads.
 fn has_many(nodes: &mut Nodes, q: Quad, depth: u8) -> bool
     requires stands { QuadStands nodes.old q }
     ensures reads { ReadsQuads nodes.old nodes.new }
@@ -85,7 +85,7 @@ fn has_many(nodes: &mut Nodes, q: Quad, depth: u8) -> bool
     met_at(nodes, q, depth, &mut seen, LOOKS, 0) >= LEAST_MET
 }
 
-/// Whether many different quads are so many quarterings below each of two quads.
+/// Whether samples `depth` heights below two quads both have many distinct quads.
 fn have_many(nodes: &mut Nodes, a: Quad, b: Quad, depth: u8) -> bool
     requires a_stands { QuadStands nodes.old a }
     requires b_stands { QuadStands nodes.old b }
@@ -97,7 +97,7 @@ fn have_many(nodes: &mut Nodes, a: Quad, b: Quad, depth: u8) -> bool
     has_many(nodes, b, depth)
 }
 
-/// Whether an operator has so much to do that it pays to start threads. What is cut off at once is not.
+/// Whether an operator has so much to do that starting threads pays. An operator whose result follows at once does not.
 fn is_heavy(nodes: &mut Nodes, job: Job) -> bool
     requires { CanDo nodes.old job }
     ensures reads { ReadsQuads nodes.old nodes.new }
@@ -117,7 +117,7 @@ fn is_heavy(nodes: &mut Nodes, job: Job) -> bool
     }
 }
 
-/// How a job is done.
+/// How a job is computed.
 pub(crate) fn way_of(nodes: &mut Nodes, job: Job) -> Way
     requires { CanDo nodes.old job }
     ensures reads { ReadsQuads nodes.old nodes.new }
@@ -131,7 +131,7 @@ pub(crate) fn way_of(nodes: &mut Nodes, job: Job) -> Way
     }
 }
 
-/// By which pieces a composition is done.
+/// By which kind of pieces a composition is computed.
 fn by_sums(nodes: &mut Nodes, job: Job) -> Way
     requires { CanDo nodes.old job }
     ensures reads { ReadsQuads nodes.old nodes.new }

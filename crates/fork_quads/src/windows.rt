@@ -1,4 +1,4 @@
-//! The squares of a composition by sums of rows, each by itself.
+//! The squares of a composition by sums of rows, each on its own.
 ghost use Rattle.std.specs.Prelude.{◌≡◌, ◌≤◌, ◌+◌, ◌-◌, IfOk};
 ghost use Rattle.rel_model.specs.Trees.{bottom_height, top_height};
 ghost use Rattle.rel_model.specs.Quads.{Keeper, QuadStands, IsQuad, KeepsQuads, Counts, quad_room};
@@ -10,7 +10,7 @@ use quad_nodes::{Nodes, side_of_height};
 use rel_compose::compose_window;
 use rel_model::Quad;
 
-/// The first row and the first column of the square of a number, where the square of a height is cut so often.
+/// The first row and the first column of the square with this number, in the square of a height after this many cuts.
 fn first_of(height: u8, cuts: u8, number: u32) -> (u32, u32)
     requires deep { bottom_height + cuts ≤ height }
     requires high { height ≤ top_height }
@@ -28,7 +28,7 @@ fn first_of(height: u8, cuts: u8, number: u32) -> (u32, u32)
     (down + row, across + col)
 }
 
-/// The square of a number of a composition, by sums of rows.
+/// The square of a composition with this number, by sums of rows.
 pub(crate) fn window_part(
     nodes: &mut Nodes,
     a: Quad,

@@ -1,15 +1,15 @@
--- A file whose bytes pass all tests, by its header and its parts.
+-- A file whose bytes pass all tests, given by its header and its parts.
 use Rattle.std.specs.Prelude.{◌≡◌, ◌≤◌, ℕ, List, true, None}
 use Rattle.rel_model.specs.Relation.{size_limit}
 use Rattle.run_model.specs.Files.{Corner, file_height, chosen, zero_group, k2_fault}
 use Rattle.k2_file.specs.declared.root.Form.{Form}
 use Rattle.k2_file.specs.Told.{bits_in, both_in, cells_by, fit_by, outside_by, pairs_told, AreFields}
 
--- the pairs that are told
+-- the pairs that the file describes
 abbrev pub pairs_in : Form → List Corner
 pairs_in form = chosen (cells_by form.header form.parts.tree) (bits_in form.parts.cells)
 
--- the header has its height, the bits are those of the levels, no group is without a set bit, and no pair is outside
+-- the header has its height, the bits are those of the levels, each group has a set bit, and no pair is outside
 pub record IsWhole (form : Form) : Type 0 where
   pub row_limit : form.header.rows ≤ size_limit
   pub col_limit : form.header.cols ≤ size_limit

@@ -1,4 +1,4 @@
--- The levels of a tree by sets of cells: which bits a level has, and which squares the next one.
+-- The levels of a tree by sets of cells: which bits a level has, and which squares the next level has.
 use Rattle.std.specs.Prelude.{◌≡◌, ◌+◌, ◌^◌, zero, suc, ℕ, Bool, List, [], ◌∷◌, ◌++◌, map, filter, Option, Some, None}
 use Rattle.std.specs.List.{flat_map, AllByRecursion}
 use Rattle.rel_model.specs.Cells.{Cells}
@@ -12,7 +12,7 @@ use Rattle.k2_file.specs.Squares.{piece, some_cell, four_pieces, square_cells, s
 abbrev pub quarter_bits : ℕ → Cells → List Bool
 quarter_bits m f = map (some_cell m) (four_pieces m f)
 
--- those quarters that have one
+-- those quarters of side m of a set that have cells
 abbrev pub quarters_met : ℕ → Cells → List Cells
 quarters_met m f = filter (some_cell m) (four_pieces m f)
 
@@ -29,12 +29,12 @@ abbrev pub upper_bits : ℕ → List Cells → List Bool
 upper_bits zero fs = []
 upper_bits (suc k) fs = level_bits (2 ^ suc k) fs ++ upper_bits k (next_level (2 ^ suc k) fs)
 
--- the bits of the cells below them
+-- the bits of the cells below sets in squares of height k + 1
 abbrev pub lowest_bits : ℕ → List Cells → List Bool
 lowest_bits zero fs = level_bits 1 fs
 lowest_bits (suc k) fs = lowest_bits k (next_level (2 ^ suc k) fs)
 
--- the set of a relation in the square of a height, where it has a pair
+-- the set of a relation in the square of a height, if it has a pair
 abbrev pub first_level : ℕ → Relation → List Cells
 first_level h r = filter (some_cell (2 ^ h)) (piece (2 ^ h) 0 0 (has r) ∷ [])
 
@@ -43,7 +43,7 @@ pub record AreSquares (w : Worker) (least h : ℕ) (squares : List Square) (fs :
   pub sound : AllByRecursion (IsSquare w least h) squares
   pub means : map (square_cells w (2 ^ h)) squares ≡ fs
 
--- squares with these cells were added behind those of a list, and all have this height
+-- squares with these cells were appended to a list, and all have this height
 pub record Adds (old new : Worker) (least h : ℕ) (before after : List Square) (more : List Cells) : Type 0 where
   pub sound : AllByRecursion (IsSquare new least h) after
   pub means : map (square_cells new (2 ^ h)) after ≡ map (square_cells old (2 ^ h)) before ++ more
@@ -52,7 +52,7 @@ pub record Adds (old new : Worker) (least h : ℕ) (before after : List Square) 
 abbrev pub bits_of : Worker → ℕ → Square → List Bool
 bits_of w h s = quarter_bits (2 ^ h) (square_set w (h + 1) s)
 
--- its quarters that have a cell were added
+-- its quarters that have cells were appended
 abbrev pub AddsQuarters : Worker → Worker → ℕ → ℕ → Square → List Square → List Square → Type 0
 AddsQuarters old new least h s before after = Adds old new least h before after
     (quarters_met (2 ^ h) (square_set old (h + 1) s))
@@ -66,11 +66,11 @@ abbrev pub AreNext : Worker → Worker → ℕ → ℕ → List Square → List 
 AreNext old new least h squares next = AreSquares new least h next
     (next_level (2 ^ h) (map (square_cells old (2 ^ (h + 1))) squares))
 
--- the square of a relation, where it has a pair
+-- the square of a relation, if it has a pair
 abbrev pub IsFirst : Worker → Worker → ℕ → ℕ → Rel → List Square → Type 0
 IsFirst old new least h rel squares = AreSquares new least h squares (first_level h (set_of old rel))
 
--- the square that is there
+-- a square as a list, empty if there is none
 abbrev pub list_of : Option Square → List Square
 list_of None = []
 list_of (Some s) = s ∷ []

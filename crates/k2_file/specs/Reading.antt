@@ -1,4 +1,4 @@
--- What comes of bytes that are read.
+-- The result of reading bytes.
 use Rattle.std.specs.Prelude.{◌≡◌, ℕ, List, length, Option, Some, None, Result, Ok, Err}
 use Rattle.rel_model.specs.declared.Rel.{Rel}
 use Rattle.run_model.specs.declared.outcome.BadFile.{BadFile}
@@ -24,11 +24,11 @@ use Rattle.rel_model.specs.Worker.{Worker, Gives, MakesAtMost, MissesNothing, Ro
 use Rattle.run_model.specs.Files.{k2_fault, k2_relation}
 use Rattle.run_model.specs.Cost.{listed_cost}
 
--- a fault of bytes, for which no node was asked
+-- a fault of the bytes, for which no node was asked
 abbrev pub IsFault : Worker → Worker → List ℕ → BadFile → Type 0
 IsFault old new bytes fault = (k2_fault bytes ≡ Some fault) × MissesNothing old new × MakesAtMost 0 old new
 
--- what comes of bytes: the relation of their cells where no test fails, or the first test that fails, for which no
+-- the result of reading bytes: the relation of their cells if no test fails; or the first test that fails, for which no
 -- node was asked; or the table was full, or memory ran out
 abbrev pub IsRead : Worker → Worker → List ℕ → Result Rel BadFile → Type 0
 IsRead old new bytes (Ok rel) =
@@ -50,12 +50,12 @@ IsRead old new bytes (Err (Root at)) = IsFault old new bytes (Root at)
 IsRead old new bytes (Err (Order at)) = IsFault old new bytes (Order at)
 IsRead old new bytes (Err Missing) = IsFault old new bytes Missing
 
--- how many nodes bytes may take where this test fails first, or none: none where one fails
+-- how many nodes bytes may take, given the first test that they fail: none if there is one
 abbrev pub cost_unless : Option BadFile → ℕ → ℕ
 cost_unless None cost = cost
 cost_unless (Some fault) cost = 0
 
--- how many nodes a file may take, by the height of the worker's leaves: none where a test fails
+-- how many nodes a file may take, by the height of the worker's leaves; none if a test fails
 unfoldable pub cost_of_file : ℕ → List ℕ → ℕ
 cost_of_file leaf bytes =
     let r = k2_relation bytes in cost_unless (k2_fault bytes) (listed_cost leaf (length r.pairs) r.rows r.cols)

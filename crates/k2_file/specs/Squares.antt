@@ -1,4 +1,4 @@
--- Squares of cells as the walk over a relation's tree has them: pieces of sets, and what a square stands for.
+-- Squares of cells as the walk over a relation's tree uses them: pieces of sets, and what a square stands for.
 use Rattle.std.specs.Prelude.{◌≡◌, ◌<◌, ◌≤◌, ◌+◌, ◌^◌, ◌&&◌, nat_lt, ℕ, Bool, true, false, List, [], ◌∷◌, Option, Some, None}
 use Rattle.rel_model.specs.Cells.{Cells, some_below, bits_cells}
 use Rattle.rel_model.specs.Relation.{has}
@@ -25,7 +25,7 @@ four_pieces m f = piece m 0 0 f ∷ piece m 0 m f ∷ piece m m 0 f ∷ piece m 
 abbrev pub window_cells : ℕ → Window → Cells
 window_cells m v = piece m v.row v.col (bits_cells v.side v.bits)
 
--- those of a window of a height
+-- the cells of a window of a height
 abbrev pub window_set : ℕ → Window → Cells
 window_set h v = window_cells (2 ^ h) v
 
@@ -47,11 +47,11 @@ abbrev pub square_cells : Worker → ℕ → Square → Cells
 square_cells w m (Tree q) = piece m 0 0 (quad_set w q)
 square_cells w m (Part v) = window_cells m v
 
--- those of a square of a height
+-- the cells of a square of a height
 abbrev pub square_set : Worker → ℕ → Square → Cells
 square_set w h s = square_cells w (2 ^ h) s
 
--- those of a quad
+-- the cells of a quad
 abbrev pub quad_piece : Worker → Quad → Cells
 quad_piece w q = piece (2 ^ q.height) 0 0 (quad_set w q)
 
@@ -59,23 +59,23 @@ quad_piece w q = piece (2 ^ q.height) 0 0 (quad_set w q)
 abbrev pub rel_piece : Worker → ℕ → Rel → Cells
 rel_piece w h rel = piece (2 ^ h) 0 0 (has (set_of w rel))
 
--- a square has this height: a quad over the leaves stands with it, and a window lies in its leaf
+-- a square has this height: a quad above the leaves stands with it, or a window lies in its leaf
 abbrev pub IsSquare : Worker → ℕ → ℕ → Square → Type 0
 IsSquare w least h (Tree q) = HasQuad w q × (q.height ≡ h) × (least < h)
 IsSquare w least h (Part v) = IsWindow (2 ^ h) v
 
--- a square of this height has the cells of a set, which has some
+-- a square of this height has the cells of a set, which is not empty
 pub record IsShown (w : Worker) (least h : ℕ) (f : Cells) (s : Square) : Type 0 where
   pub square : IsSquare w least h s
   pub means : square_cells w (2 ^ h) s ≡ f
   pub some : some_cell (2 ^ h) f ≡ true
 
--- a set is shown by a square with its cells, and by none where it has no cell
+-- a set is shown by a square with its cells, or by none if it is empty
 abbrev pub Shows : Worker → ℕ → ℕ → Cells → Option Square → Type 0
 Shows w least h f None = some_cell (2 ^ h) f ≡ false
 Shows w least h f (Some s) = IsShown w least h f s
 
--- its quarters are shown, of half its side
+-- the quarters of a set, of half its side, are shown
 pub record ShowsFour (w : Worker) (least h : ℕ) (f : Cells)
     (four : Option Square × Option Square × Option Square × Option Square) : Type 0 where
   pub nw : Shows w least h (piece (2 ^ h) 0 0 f) four.0
@@ -83,19 +83,19 @@ pub record ShowsFour (w : Worker) (least h : ℕ) (f : Cells)
   pub sw : Shows w least h (piece (2 ^ h) (2 ^ h) 0 f) four.2
   pub se : Shows w least h (piece (2 ^ h) (2 ^ h) (2 ^ h) f) four.3
 
--- the same of a window
+-- a window of this height has the cells of a set, which is not empty
 pub record IsShownPart (h : ℕ) (f : Cells) (v : Window) : Type 0 where
   pub square : IsWindow (2 ^ h) v
   pub means : window_cells (2 ^ h) v ≡ f
   pub some : some_cell (2 ^ h) f ≡ true
 
--- a set within a leaf is shown by a window
+-- a set within a leaf is shown by a window, or by none if it is empty
 abbrev pub ShowsWindow : ℕ → Cells → Option Square → Type 0
 ShowsWindow h f None = some_cell (2 ^ h) f ≡ false
 ShowsWindow h f (Some (Tree q)) = ⊥
 ShowsWindow h f (Some (Part v)) = IsShownPart h f v
 
--- its quarters are
+-- the quarters of a set within a leaf are shown by windows
 pub record ShowsFourWindows (h : ℕ) (f : Cells) (four : Option Square × Option Square × Option Square
     × Option Square) : Type 0 where
   pub nw : ShowsWindow h (piece (2 ^ h) 0 0 f) four.0

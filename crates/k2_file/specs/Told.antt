@@ -1,4 +1,5 @@
--- What the parts of a file tell: its bits as a list, its header, and the tests in the groups in which they are made.
+-- What the parts of a file describe: its bits as a list, its header, and the tests in the groups in which they are
+-- made.
 use Rattle.std.specs.Prelude.{◌≡◌, ◌==◌, ◌&&◌, ◌||◌, ◌+◌, ◌-◌, ◌≤◌, ◌++◌, nat_le, cond, ℕ, Bool, false, List, [], ◌∷◌, length, take, drop, codes, Option, Some}
 use Rattle.std.specs.List.{AllByRecursion, slice_index_or}
 use Rattle.run_model.specs.declared.outcome.BadFile.{BadFile}
@@ -10,15 +11,15 @@ use Rattle.run_model.specs.Files.{Corner, unpacked, bytes_for, header_length, fi
 use Rattle.k2_file.specs.declared.bits.Bits.{Bits}
 use Rattle.k2_file.specs.declared.header.Header.{Header}
 
--- so many bits of bytes
+-- the first bits of some bytes
 unfoldable pub bits_told : ℕ → List ℕ → List Bool
 bits_told count bytes = take count (unpacked bytes)
 
--- the bits that are told of its bytes
+-- the bits in these bytes
 abbrev pub bits_in : Bits → List Bool
 bits_in bits = bits_told bits.count bits.bytes.now
 
--- those of T and L, one behind the other
+-- the bits of T followed by those of L
 abbrev pub both_in : Bits → Bits → List Bool
 both_in tree cells = bits_in tree ++ bits_in cells
 
@@ -26,7 +27,7 @@ both_in tree cells = bits_in tree ++ bits_in cells
 abbrev pub AreInside : ℕ → List Corner → Type 0
 AreInside side = AllByRecursion (λ p. (p.0 + side ≤ size_limit) × (p.1 + side ≤ size_limit))
 
--- how many groups the first level has, by the counts of the bits: none of the empty relation, and else one
+-- how many groups the first level has, by the counts of bits: none for the empty relation, and otherwise one
 abbrev pub groups_of : ℕ → ℕ → ℕ
 groups_of tree_count cell_count = cond ((tree_count == 0) && (cell_count == 0)) 0 1
 
@@ -72,7 +73,7 @@ header_fault bytes =
     ∷ []
     )
 
--- the cells that the last level tells of, by the header and the bits T
+-- the cells whose bits the last level has, from the header and the bits T
 abbrev pub told_by : Header → List Bool → List Corner
 told_by h tree = cells_below (h.height - 1) (take (groups_of h.tree_count h.cell_count) whole) tree
 
@@ -89,12 +90,12 @@ fault_of_levels height groups tree cells cell_count =
 abbrev pub fit_by : Header → Bits → Bool
 fit_by h tree = levels_fit (h.height - 1) (groups_of h.tree_count h.cell_count) (bits_in tree) h.cell_count
 
--- the first test of the tree that the bits fail, by the header
+-- the first test of the tree that the bits fail, given the header
 abbrev pub levels_by : Header → Bits → Bits → Option BadFile
 levels_by h tree cells = fault_of_levels h.height (groups_of h.tree_count h.cell_count) (bits_in tree) (bits_in cells)
     h.cell_count
 
--- the cells that the last level tells of, by the header and the bits T
+-- the cells whose bits the last level has, from the header and the bits T
 abbrev pub cells_by : Header → Bits → List Corner
 cells_by h tree = told_by h (bits_in tree)
 
@@ -102,7 +103,7 @@ cells_by h tree = told_by h (bits_in tree)
 abbrev pub outside_by : Header → Bits → Bits → Option ℕ
 outside_by h tree cells = cell_outside h.rows h.cols h.tree_count (cells_by h tree) (bits_in cells)
 
--- the first test of the end that bytes fail
+-- the first of the final tests that bytes fail
 unfoldable pub end_fault : List ℕ → Option BadFile
 end_fault bytes =
     let f = fields bytes in
@@ -122,7 +123,7 @@ outside_fault bytes =
     let f = fields bytes in
     found_at Outside (cell_outside f.rows f.cols f.tree_count (cells_told f) (take f.cell_count f.cells))
 
--- the fault that is found is this one; or memory ran out
+-- either this is the fault that is found, or memory ran out
 abbrev pub IsFaultOf : Option BadFile → BadFile → Type 0
 IsFaultOf found NoMemory = Unit {0}
 IsFaultOf found Full = ⊥

@@ -1,7 +1,7 @@
 //! Bits in bytes, the highest of each byte first.
 ghost use Rattle.std.specs.Prelude.{◌≤◌, ◌*◌, length};
 
-/// So many bits of bytes. 24 bytes.
+/// The first `count` bits of some bytes. 24 bytes.
 #[derive(Drop)]
 pub(crate) struct Bits<'a> {
     pub(crate) bytes: &'a [u8],
@@ -9,7 +9,7 @@ pub(crate) struct Bits<'a> {
     ghost fits: { count ≤ 8 * length bytes.now },
 }
 
-/// Four bits, one behind the other: whether each quarter of a submatrix has a pair.
+/// Four consecutive bits: whether each quarter of a submatrix has a pair. 4 bytes.
 #[derive(Clone, Copy)]
 pub(crate) struct Group {
     pub(crate) nw: bool,
@@ -65,7 +65,7 @@ impl Bits<'_> {
         }
     }
 
-    /// How many bits are set in so many groups from a number on.
+    /// How many bits are set in `groups` groups from a number on.
     pub(crate) fn ones_in_groups(&self, from: u64, groups: u64) -> u64
         requires { 4 * from + 4 * groups ≤ self.now.count }
         ensures value { result ≡ ones (take (4 * groups) (drop (4 * from) (bits_in self.now))) }
@@ -78,7 +78,7 @@ impl Bits<'_> {
         found
     }
 
-    /// How many bits are set of so many from a place on.
+    /// How many of `count` bits from a place on are set.
     pub(crate) fn ones(&self, from: u64, count: u64) -> u64
         requires { from + count ≤ self.now.count }
         ensures value { result ≡ ones (take count (drop from (bits_in self.now))) }
@@ -93,7 +93,7 @@ impl Bits<'_> {
         found
     }
 
-    /// How many bits are set behind the end.
+    /// How many bits after the end are set.
     pub(crate) fn padding(&self) -> u64
         requires { 8 * length self.now.bytes.now < 2 ^ 64 }
         ensures { result ≡ ones (drop self.now.count (unpacked self.now.bytes.now)) }

@@ -1,4 +1,4 @@
-//! Quads of a file's bits, from the leaves upwards, each node asked for once.
+//! Quads from a file's bits, built from the leaves upwards; each node is asked for once.
 ghost use Rattle.std.specs.Prelude.{◌≡◌, ◌<◌, ◌≤◌, ◌+◌, ◌-◌, ◌^◌, length, true, IfOk, OnOk};
 ghost use Rattle.rel_model.specs.Relation.{size_height};
 ghost use Rattle.rel_model.specs.Worker.{GivesQuad, Keeps, MakesAtMost, HasCause, listed_room};
@@ -34,7 +34,7 @@ pub(crate) fn built_leaf<E: Engine>(
     engine.block(word)
 }
 
-/// The quad of a submatrix of a height, and the one that has no cell where its bit is not set.
+/// The quad of a submatrix of a height; the empty one if its bit is not set.
 #[cycle(built)]
 pub(crate) fn built_part<E: Engine>(
     engine: &mut E,
@@ -64,7 +64,7 @@ pub(crate) fn built_part<E: Engine>(
     built_square(engine, parts, places, height)
 }
 
-/// The quad of a submatrix over the leaves, by its quarters.
+/// The quad of a submatrix above the leaves, by its quarters.
 #[cycle(built)]
 fn built_square<E: Engine>(
     engine: &mut E,

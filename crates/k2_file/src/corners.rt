@@ -1,4 +1,4 @@
-//! Submatrices, each by its first row and its first column.
+//! Submatrices, each given by its first row and its first column.
 ghost use Rattle.std.specs.Prelude.{◌≡◌, ◌<◌, ◌≤◌, ◌+◌, ◌*◌, ◌^◌, ◌++◌, ◌&&◌, ◌∷◌, [], not, nat_lt, cond, OnOk, IfOk, length, drop};
 ghost use Rattle.std.specs.List.{flat_map};
 ghost use Rattle.rel_model.specs.Relation.{size_limit};
@@ -8,7 +8,7 @@ ghost use Rattle.k2_file.specs.Told.{AreInside, bits_in};
 use crate::bits::Bits;
 use std::alloc::{AllocError, Global};
 
-/// Adds the quarters, of this side, of a submatrix.
+/// Appends the quarters, of this side, of a submatrix.
 fn push_quarters(out: &mut Vec<(u32, u32)>, side: u32, corner: (u32, u32)) -> Result<(), AllocError>
     requires row { corner.0 + side ≤ size_limit }
     requires col { corner.1 + side ≤ size_limit }
@@ -34,7 +34,7 @@ pub(crate) fn quarters_of(
     Ok(out)
 }
 
-/// Adds a submatrix whose bit is set.
+/// Appends a submatrix if its bit is set.
 fn push_if(out: &mut Vec<(u32, u32)>, is_set: bool, corner: (u32, u32)) -> Result<(), AllocError>
     ensures { OnOk result (out.new.items ≡ out.old.items ++ cond is_set (corner ∷ []) []) }
 {
@@ -68,7 +68,7 @@ fn is_set_outside(rows: u32, cols: u32, cell: (u32, u32), is_set: bool) -> bool
     is_set && !(cell.0 < rows && cell.1 < cols)
 }
 
-/// The number of the first cell outside the sizes whose bit is set, counted from a number.
+/// The number of the first cell outside the sizes whose bit is set, counting from `at`.
 pub(crate) fn first_outside(
     rows: u32,
     cols: u32,

@@ -12,8 +12,8 @@ use rel_model::{NoMemory, Rel};
 use std::alloc::Global;
 use std::collections::HashMap;
 
-/// How many bits the tree of a relation has: four for each square of its levels that has a pair (Knuth, for a sum
-/// over a shared tree by a memory of its parts).
+/// How many bits the tree of a relation has: four for each square of its levels that has a pair, as a sum over a shared
+/// tree that remembers the sums of its parts (Knuth).
 pub(crate) fn count_bits<E: Engine>(
     alloc: Global,
     engine: &mut E,
@@ -32,7 +32,7 @@ pub(crate) fn count_bits<E: Engine>(
     counted_part(engine, &mut counts, first, height)
 }
 
-/// How many bits there are below a square of a height, and none below one that has no cell.
+/// How many bits there are below a square of a height; none if it has no cell.
 #[cycle(counted)]
 fn counted_part<E: Engine>(
     engine: &mut E,
@@ -55,7 +55,7 @@ fn counted_part<E: Engine>(
     }
 }
 
-/// How many bits there are below a square of a height. Each quad over the leaves is counted once.
+/// How many bits there are below a square of a height. Each quad above the leaves is counted once.
 #[cycle(counted)]
 fn counted_square<E: Engine>(
     engine: &mut E,
@@ -86,7 +86,7 @@ fn counted_square<E: Engine>(
     Ok(sum)
 }
 
-/// The same by the quarters.
+/// The same, by the quarters.
 #[cycle(counted)]
 fn counted_below<E: Engine>(
     engine: &mut E,

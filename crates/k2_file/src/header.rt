@@ -12,7 +12,7 @@ use byteorder::{BigEndian, ByteOrder};
 use rel_model::SIZE_LIMIT;
 use run_model::outcome::BadFile;
 
-/// What the header of a file says. 32 bytes.
+/// The contents of a file's header. 32 bytes.
 #[derive(Drop)]
 pub(crate) struct Header {
     pub(crate) rows: u32,
@@ -22,7 +22,7 @@ pub(crate) struct Header {
     pub(crate) cell_count: u64,
 }
 
-/// How many bytes hold so many bits.
+/// How many bytes hold this many bits.
 fn bytes_of_bits(bits: u64) -> u64
     ensures value { result ≡ bytes_for bits }
     ensures limit { result ≤ 2 ^ 61 }
@@ -49,14 +49,14 @@ impl Header {
         }
     }
 
-    /// How many bytes a file with this header has.
+    /// How many bytes a file with this header should have.
     pub(crate) fn end(&self) -> u64
         ensures { result ≡ 29 + bytes_for self.now.tree_count + bytes_for self.now.cell_count }
     {
         29 + bytes_of_bits(self.tree_count) + bytes_of_bits(self.cell_count)
     }
 
-    /// How many groups the first level has: none of the empty relation, and else one.
+    /// How many groups the first level has: none for the empty relation, and otherwise one.
     pub(crate) fn groups(&self) -> u64
         ensures value { result ≡ groups_of self.now.tree_count self.now.cell_count }
         ensures limit { result ≤ 1 }
@@ -88,7 +88,7 @@ impl Header {
     }
 }
 
-/// So many bits from a byte on.
+/// This many bits, from a byte on.
 fn part_of(bytes: &[u8], at: u64, count: u64) -> Bits<'_>
     requires { at + bytes_for count ≤ length bytes.now }
     ensures count { result.count ≡ count }
@@ -107,7 +107,7 @@ fn has_name(bytes: &[u8]) -> bool
     &bytes[..4] == b"RVK1".as_slice()
 }
 
-/// The header of a file, or the first of its tests that the bytes fail.
+/// The header of a file, or the first test of the header that the bytes fail.
 pub(crate) fn read_header(bytes: &[u8]) -> Result<Header, BadFile>
     ensures header { IfOk result (IsHeader bytes.now) }
     ensures fault { result_err result ≡ header_fault bytes.now }

@@ -1,7 +1,7 @@
-//! The laws of relation files, a function that does nothing.
+//! The laws of relation files, the contract of a function with an empty body.
 ghost use Rattle.run_model.specs.Files.{FilesLaws};
 
-/// Bytes without a fault are those of their relation, and a relation's bytes have none and are read as it.
+/// Bytes without a fault are those of their relation; the bytes of a relation have no fault, and are read back as it.
 pub fn files_laws()
     ensures { FilesLaws }
 {}

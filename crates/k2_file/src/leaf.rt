@@ -9,7 +9,7 @@ ghost use Rattle.k2_file.specs.Depth.{rests_in, MovesIn};
 use crate::parts::Parts;
 use crate::sides::small_side;
 
-/// The word of a leaf of this side with one more cell, where it lies in the leaf.
+/// The word of a leaf of this side with one more cell, if that lies in the leaf.
 fn with_cell(side: u8, word: u64, cell: (u8, u8)) -> u64
     requires side { side ≤ 8 }
     requires none_past { word < 2 ^ (side * side) }
@@ -23,7 +23,7 @@ fn with_cell(side: u8, word: u64, cell: (u8, u8)) -> u64
     word | 1u64 << (side * cell.0 + cell.1)
 }
 
-/// The word of a leaf of this side with the cells below a submatrix of a height, where the submatrix is set.
+/// The word of a leaf of this side with the cells below a submatrix of a height added, if the submatrix is set.
 pub(crate) fn with_part(
     parts: &Parts<'_>,
     places: &mut [u64],

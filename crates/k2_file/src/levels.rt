@@ -1,4 +1,4 @@
-//! The levels of a file's tree: whether its bits are theirs, its groups of four, and the cells that it tells of.
+//! The levels of a file's tree: whether its bits fit them, its groups of four, and the cells that it describes.
 ghost use Rattle.std.specs.Prelude.{◌≡◌, ◌==◌, ◌<◌, ◌≤◌, ◌+◌, ◌*◌, ◌^◌, IfOk, length, take, drop, true, false};
 ghost use Rattle.std.specs.List.{flat_map, slice_index_or};
 ghost use Rattle.rel_model.specs.Relation.{size_height};
@@ -12,7 +12,8 @@ use crate::sides::side_of;
 use run_model::outcome::BadFile;
 use std::alloc::{AllocError, Global};
 
-/// Whether the bits of T are those of so many levels, of which the first has so many groups, with so many cells below.
+/// Whether the bits of T are those of this many levels, given the number of groups of the first level and of cells
+/// below the last.
 fn do_levels_fit(tree: &Bits<'_>, levels: u8, first: u64, cell_count: u64) -> bool
     ensures { result ≡ levels_fit levels first (bits_in tree.now) cell_count }
 {
@@ -33,14 +34,14 @@ fn do_levels_fit(tree: &Bits<'_>, levels: u8, first: u64, cell_count: u64) -> bo
     are_of_groups(cell_count, groups)
 }
 
-/// Whether these are the cells of so many groups of four.
+/// Whether this is the number of cells of this many groups of four.
 fn are_of_groups(cells: u64, groups: u64) -> bool
     ensures { result ≡ (cells == 4 * groups) }
 {
     cells % 4 == 0 && cells / 4 == groups
 }
 
-/// Whether a bit of T and L, one behind the other, is set.
+/// Whether a bit is set, where places run through T and then L.
 fn is_set_of(tree: &Bits<'_>, cells: &Bits<'_>, place: u64) -> bool
     requires { place < tree.now.count + cells.now.count }
     ensures { result ≡ slice_index_or (both_in tree.now cells.now) place false }
@@ -52,7 +53,7 @@ fn is_set_of(tree: &Bits<'_>, cells: &Bits<'_>, place: u64) -> bool
     }
 }
 
-/// Whether a bit is set in the group of four of T and L that begins at a place.
+/// Whether a bit is set in the group of four that begins at a place, where places run through T and then L.
 fn has_set(tree: &Bits<'_>, cells: &Bits<'_>, at: u64) -> bool
     requires fits { tree.now.count + cells.now.count < 2 ^ 64 }
     requires place { at + 4 ≤ tree.now.count + cells.now.count }
@@ -64,7 +65,7 @@ fn has_set(tree: &Bits<'_>, cells: &Bits<'_>, at: u64) -> bool
         || is_set_of(tree, cells, at + 3)
 }
 
-/// The first bit of the first group of four of T and L without a set bit.
+/// The first bit of the first group of four without a set bit, in T and then L.
 fn first_zero_group(tree: &Bits<'_>, cells: &Bits<'_>) -> Option<u64>
     requires { tree.now.count + cells.now.count < 2 ^ 64 }
     ensures { result ≡ zero_group 0 (both_in tree.now cells.now) }
@@ -95,7 +96,7 @@ pub(crate) fn fault_in_levels(header: &Header, tree: &Bits<'_>, cells: &Bits<'_>
     }
 }
 
-/// The submatrices of the next level: the quarters of these whose bits, from a place on, are set.
+/// The submatrices of the next level: those quarters whose bits, from a place on, are set.
 fn next_level(
     alloc: Global,
     tree: &Bits<'_>,
@@ -125,7 +126,7 @@ fn first_level(alloc: Global, groups: u64) -> Result<Vec<(u32, u32)>, AllocError
     Ok(corners)
 }
 
-/// The cells that the last level tells of.
+/// The cells whose bits the last level has.
 pub(crate) fn cells_of(
     alloc: Global,
     header: &Header,

@@ -1,4 +1,4 @@
-//! The places of a relation file.
+//! Lengths in a relation file.
 
-/// How many bytes the header of a relation file has.
+/// The length of a relation file's header, in bytes.
 pub const HEADER: usize = 29;

@@ -1,11 +1,11 @@
-//! Numbers as bytes, the highest byte first.
+//! Numbers as bytes, highest byte first.
 ghost use Rattle.std.specs.Prelude.{◌≡◌, ◌++◌, OnOk};
 ghost use Rattle.std.specs.Int.{w32, w64, to_be_bytes};
 
 use byteorder::{BigEndian, ByteOrder};
 use std::alloc::AllocError;
 
-/// Adds the four bytes of a number, the highest first.
+/// Appends the four bytes of a number, highest first.
 pub fn push_u32(out: &mut Vec<u8>, number: u32) -> Result<(), AllocError>
     ensures { OnOk result (out.new.items ≡ out.old.items ++ to_be_bytes w32 number) }
 {
@@ -14,7 +14,7 @@ pub fn push_u32(out: &mut Vec<u8>, number: u32) -> Result<(), AllocError>
     out.extend_from_slice(&bytes)
 }
 
-/// Adds the eight bytes of a number, the highest first.
+/// Appends the eight bytes of a number, highest first.
 pub fn push_u64(out: &mut Vec<u8>, number: u64) -> Result<(), AllocError>
     ensures { OnOk result (out.new.items ≡ out.old.items ++ to_be_bytes w64 number) }
 {

@@ -5,14 +5,14 @@ ghost use Rattle.k2_file.specs.Packing.{PacksBit};
 
 use std::alloc::AllocError;
 
-/// A byte that is begun: how many bits it has, and the number of them.
+/// A byte under construction: how many bits it has so far, and their value. 2 bytes.
 #[derive(Clone, Copy)]
 struct Begun {
     value: u8,
     held: u8,
 }
 
-/// Adds bits as bytes. The bits of the last byte behind the last bit are 0.
+/// Appends bits as bytes. In the last byte, the bits after the last one are 0.
 pub(crate) fn push_packed(out: &mut Vec<u8>, bits: &[bool]) -> Result<(), AllocError>
     ensures { OnOk result (out.new.items ≡ out.old.items ++ packed 0 0 bits.now) }
 {
@@ -26,7 +26,7 @@ pub(crate) fn push_packed(out: &mut Vec<u8>, bits: &[bool]) -> Result<(), AllocE
     Ok(())
 }
 
-/// Adds a bit to the byte that is begun, and the byte to the others where it is the last of eight.
+/// Adds a bit to the byte under construction, and appends the byte if the bit is its eighth.
 fn push_bit(out: &mut Vec<u8>, begun: Begun, bit: bool) -> Result<Begun, AllocError>
     requires held { begun.held < 8 }
     requires value { begun.value < 2 ^ begun.held }
@@ -45,7 +45,7 @@ fn push_bit(out: &mut Vec<u8>, begun: Begun, bit: bool) -> Result<Begun, AllocEr
     Ok(Begun { value: 0, held: 0 })
 }
 
-/// A byte that is begun, with the rest 0.
+/// A byte under construction, with the remaining bits 0.
 fn filled(value: u8, held: u8) -> u8
     requires held { held < 8 }
     requires some { 1 ≤ held }

@@ -4,7 +4,7 @@ ghost use Rattle.k2_file.specs.Depth.{level_in};
 
 use crate::bits::{Bits, Group};
 
-/// The bits T, of the levels above the cells, and L, of the cells. 48 bytes.
+/// The bits T, of the levels above the cells, and the bits L, of the cells. 48 bytes.
 #[derive(Drop)]
 pub(crate) struct Parts<'a> {
     pub(crate) tree: Bits<'a>,

@@ -1,4 +1,4 @@
-//! Relation files that are read: the tests in their order, and then the relation from its leaves upwards.
+//! Reading a relation file: the tests in order, and then the relation, built from its leaves upwards.
 ghost use Rattle.std.specs.Prelude.{◌≡◌, ◌≤◌, ◌+◌, ◌<◌, ◌^◌, None, true, IfErr, OnOk, IfOk};
 ghost use Rattle.rel_model.specs.Relation.{size_height};
 ghost use Rattle.rel_model.specs.Worker.{Keeps, MakesAtMost};
@@ -20,9 +20,9 @@ use rel_model::{Lack, Rel};
 use run_model::outcome::BadFile;
 use std::alloc::Global;
 
-/// The relation of a file's bytes, in time linear in its bits, or the first of the tests that they fail.
+/// The relation of a file's bytes, in time linear in its bits, or the first test that they fail.
 ///
-/// A file that fails a test asks no node of the engine.
+/// A file that fails a test asks the engine for no node.
 pub fn read_k2<E: Engine>(alloc: Global, engine: &mut E, bytes: &[u8]) -> Result<Rel, BadFile>
     ensures answer { IsRead (E.worker engine.old) (E.worker engine.new) bytes.now result }
     ensures keeps { Keeps (E.worker engine.old) (E.worker engine.new) }
@@ -39,7 +39,7 @@ pub fn read_k2<E: Engine>(alloc: Global, engine: &mut E, bytes: &[u8]) -> Result
     }
 }
 
-/// The form of a file, or the first of the tests that its bytes fail.
+/// The form of a file, or the first test that its bytes fail.
 fn read_form(alloc: Global, bytes: &[u8]) -> Result<Form<'_>, BadFile>
     ensures form { IfOk result (IsFormOf bytes.now) }
     ensures fault { IfErr result (IsFaultOf (k2_fault bytes.now)) }
@@ -63,7 +63,7 @@ fn read_form(alloc: Global, bytes: &[u8]) -> Result<Form<'_>, BadFile>
     Ok(Form { header, parts })
 }
 
-/// Whether no cell whose bit is set is outside the sizes, or the first that is.
+/// Whether no cell whose bit is set lies outside the sizes; otherwise the first one that does.
 fn look_outside(
     alloc: Global,
     header: &Header,
@@ -98,7 +98,7 @@ fn look_outside(
     }
 }
 
-/// The first test of the end that the bytes fail: the bits behind the ends of T and L are not set, and no byte is left.
+/// The first of the final tests that the bytes fail: no bit is set after the ends of T and L, and no byte is left.
 fn fault_in_end(bytes: &[u8], header: &Header, tree: &Bits<'_>, cells: &Bits<'_>) -> Option<BadFile>
     requires fields { AreFields bytes.now header.now }
     requires tree { tree.now.count ≡ header.now.tree_count }

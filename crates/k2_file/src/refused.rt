@@ -2,10 +2,10 @@
 use rel_model::NoMemory;
 use std::alloc::{AllocError, AllocFailed};
 
-/// Why a relation is not written.
+/// Why a relation is not written. 16 bytes.
 #[derive(Clone, Copy, Debug, PartialEq, Eq)]
 pub enum WriteRefused {
-    /// Its tree has so many bits, which is over the limit.
+    /// Its tree has this many bits, which is over the limit.
     TooLong { bits: u64 },
     /// Memory ran out.
     NoMemory,

@@ -24,7 +24,7 @@ pub(crate) struct Form<'a> {
     pub(crate) parts: Parts<'a>,
 }
 
-/// The quad of a file whose sizes have this height, as high as the tree of its relation.
+/// The quad of a file whose sizes have this height, at the height of the relation's tree.
 fn built_root<E: Engine>(
     engine: &mut E,
     parts: &Parts<'_>,

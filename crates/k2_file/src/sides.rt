@@ -15,7 +15,7 @@ pub fn side_of(height: u8) -> u32
     1u32 << height
 }
 
-/// The side of a square of a leaf.
+/// The side of a square within a leaf.
 pub fn small_side(height: u8) -> u8
     requires { height ≤ 3 }
     ensures { result ≡ 2 ^ height }
@@ -23,7 +23,7 @@ pub fn small_side(height: u8) -> u8
     1u8 << height
 }
 
-/// The least height whose side is at least a size.
+/// The least height whose side is at least this size.
 fn height_of_size(size: u32) -> u8
     ensures value { result ≡ height_of size }
     ensures limit { result ≤ size_height }
@@ -37,7 +37,7 @@ fn height_of_size(size: u32) -> u8
     height
 }
 
-/// The height of the tree of a relation of these sizes over leaves of a height.
+/// The height of the tree of a relation with these sizes over leaves of a height.
 #[tactic(auto, unfolding(rel_model::specs::Roots::height_over))]
 pub fn height_of_tree(least: u8, rows: u32, cols: u32) -> u8
     ensures { result ≡ height_over least rows cols }
@@ -45,7 +45,7 @@ pub fn height_of_tree(least: u8, rows: u32, cols: u32) -> u8
     least.max(height_of_size(rows).max(height_of_size(cols)))
 }
 
-/// The least height from 1 on whose square holds both sizes.
+/// The least height, at least 1, whose square holds both sizes.
 #[tactic(auto, unfolding(run_model::specs::Files::file_height))]
 pub fn height_of_file(rows: u32, cols: u32) -> u8
     ensures value { result ≡ file_height rows cols }

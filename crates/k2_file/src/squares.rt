@@ -1,4 +1,4 @@
-//! Squares of cells of a relation, over the leaves and within them, and their quarters.
+//! Squares of cells of a relation, above the leaves and within them, and their quarters.
 ghost use Rattle.std.specs.Prelude.{◌≡◌, ◌<◌, ◌≤◌, ◌+◌, ◌-◌, ◌^◌};
 ghost use Rattle.rel_model.specs.Worker.{Stands, HasQuad, quad_set, Keeps, MakesAtMost, MissesNothing};
 ghost use Rattle.run_model.specs.Files.{file_height};
@@ -9,10 +9,10 @@ use crate::windows::{Window, has_cell};
 use rel_model::engine_trait::Engine;
 use rel_model::{Quad, Rel};
 
-/// A square of cells that has a cell. 24 bytes.
+/// A square of cells that is not empty. 24 bytes.
 #[derive(Clone, Copy)]
 pub enum Square {
-    /// A quad over the leaves.
+    /// A quad above the leaves.
     Tree(Quad),
     /// A square within a leaf.
     Part(Window),
@@ -36,7 +36,7 @@ fn leaf_window<E: Engine>(engine: &mut E, quad: Quad) -> Window
     }
 }
 
-/// A window of a height, where it has a cell.
+/// A window of a height, if it has a cell.
 fn shown_window(window: Window, height: u8) -> Option<Square>
     requires window { IsWindow (2 ^ height) window }
     requires small { height ≤ 3 }
@@ -49,7 +49,7 @@ fn shown_window(window: Window, height: u8) -> Option<Square>
     }
 }
 
-/// A quad, where it has a cell.
+/// A quad, if it has a cell.
 fn shown_quad<E: Engine>(engine: &mut E, quad: Quad) -> Option<Square>
     requires stands { HasQuad (E.worker engine.old) quad }
     ensures shows { Shows (E.worker engine.new) E.least quad.height (quad_piece (E.worker engine.old) quad) result }
@@ -67,7 +67,7 @@ fn shown_quad<E: Engine>(engine: &mut E, quad: Quad) -> Option<Square>
     Some(Square::Tree(quad))
 }
 
-/// The square of the file of a relation, where the relation has a pair.
+/// The square of the file of a relation, if the relation has a pair.
 pub fn first_square<E: Engine>(engine: &mut E, rel: Rel, height: u8) -> Option<Square>
     requires stands { Stands (E.worker engine.old) rel }
     requires height { height ≡ file_height rel.rows rel.cols }
@@ -84,7 +84,7 @@ pub fn first_square<E: Engine>(engine: &mut E, rel: Rel, height: u8) -> Option<S
     shown_quad(engine, quad)
 }
 
-/// The quarters of a quad that have a cell: north-west, north-east, south-west and south-east.
+/// The quarters of a quad that have cells: north-west, north-east, south-west and south-east.
 fn quad_quarters<E: Engine>(
     engine: &mut E,
     quad: Quad,
@@ -110,7 +110,7 @@ fn quad_quarters<E: Engine>(
     (north_west, north_east, south_west, south_east)
 }
 
-/// The window of a height so many rows below another and so many columns to its right, where it has a cell.
+/// The window of a height that lies `below` rows below and `right` columns to the right of another, if it has a cell.
 fn shown_quarter(window: Window, below: u8, right: u8, height: u8) -> Option<Square>
     requires window { IsWindow (2 ^ (height + 1)) window }
     requires small { height ≤ 2 }
@@ -126,7 +126,7 @@ fn shown_quarter(window: Window, below: u8, right: u8, height: u8) -> Option<Squ
     shown_window(quarter, height)
 }
 
-/// The quarters, of a height, of a window that have a cell.
+/// The quarters, of a height, of a window that have cells.
 fn window_quarters(
     window: Window,
     height: u8,
@@ -149,7 +149,7 @@ fn window_quarters(
     )
 }
 
-/// The quarters, of a height, of a square that have a cell.
+/// The quarters, of a height, of a square that have cells.
 pub fn quarters_of<E: Engine>(
     engine: &mut E,
     square: Square,

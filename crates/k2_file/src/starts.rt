@@ -11,7 +11,7 @@ use rel_model::TOP_HEIGHT;
 /// The greatest height of a file.
 const TOP: usize = TOP_HEIGHT as usize;
 
-/// Where the levels begin in T, in groups, and at last that L begins at its own first group.
+/// Where the levels begin in T, counted in groups; the last entry is for L, which begins at its own first group.
 pub(crate) fn starts(tree: &Bits<'_>, height: u8, groups: u64, cell_count: u64) -> [u64; TOP]
     requires low { 1 ≤ height }
     requires high { height ≤ size_height }

@@ -11,14 +11,15 @@ use rel_model::Rel;
 use rel_model::engine_trait::Engine;
 use std::alloc::{AllocError, Global};
 
-/// The bits of a relation's tree: those of all levels but the last, and those of the last, which are the cells.
+/// The bits of a relation's tree: those of all levels but the last, and those of the last, which are the cells. On the
+/// heap.
 #[derive(Drop)]
 pub(crate) struct TreeBits {
     pub tree: Vec<bool>,
     pub cells: Vec<bool>,
 }
 
-/// The bits of the tree of a relation, level by level. Squares that have no pair are not walked.
+/// The bits of the tree of a relation, level by level. Squares without pairs are not walked.
 pub(crate) fn tree_bits<E: Engine>(
     alloc: Global,
     engine: &mut E,
@@ -46,7 +47,7 @@ pub(crate) fn tree_bits<E: Engine>(
     Ok(TreeBits { tree, cells })
 }
 
-/// The square of the file of a relation, where the relation has a pair.
+/// The square of the file of a relation, if the relation has a pair.
 fn first_squares<E: Engine>(
     alloc: Global,
     engine: &mut E,
@@ -68,7 +69,7 @@ fn first_squares<E: Engine>(
     Ok(squares)
 }
 
-/// Adds the bits of a level, and gives the squares of the next one: the quarters, of a height, that have a cell.
+/// Appends the bits of a level, and gives the squares of the next level: those quarters, of a height, that have cells.
 fn push_level<E: Engine>(
     alloc: Global,
     engine: &mut E,
@@ -92,7 +93,7 @@ fn push_level<E: Engine>(
     Ok(next)
 }
 
-/// Adds the bits of the quarters, of a height, of a square, and those that have a cell.
+/// Appends the bits of the quarters, of a height, of a square, and collects those that have cells.
 fn push_square<E: Engine>(
     engine: &mut E,
     square: Square,
@@ -114,7 +115,7 @@ fn push_square<E: Engine>(
     push_two(sw, se, bits, next)
 }
 
-/// Adds whether there are two squares, and the squares.
+/// Appends for two squares whether they are there, and collects those that are.
 fn push_two(
     west: Option<Square>,
     east: Option<Square>,
@@ -128,7 +129,7 @@ fn push_two(
     push_part(east, bits, next)
 }
 
-/// Adds whether there is a square, and the square.
+/// Appends whether there is a square, and collects it.
 fn push_part(
     part: Option<Square>,
     bits: &mut Vec<bool>,
@@ -144,7 +145,7 @@ fn push_part(
     Ok(())
 }
 
-/// Adds the bits of the last level: the cells of squares of side 2.
+/// Appends the bits of the last level: the cells of squares of side 2.
 fn push_cells<E: Engine>(
     engine: &mut E,
     squares: &Vec<Square>,
@@ -163,7 +164,7 @@ fn push_cells<E: Engine>(
     Ok(())
 }
 
-/// Adds the four cells of a square of side 2.
+/// Appends the four cells of a square of side 2.
 fn push_four<E: Engine>(
     engine: &mut E,
     square: Square,

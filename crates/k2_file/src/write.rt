@@ -17,9 +17,10 @@ use rel_model::engine_trait::Engine;
 use run_model::limits::SAVE_LIMIT;
 use std::alloc::{AllocError, Global};
 
-/// `RVK1`, the sizes, the height, the numbers of bits, and the bits of a relation's tree, level by level.
+/// The bytes of a relation file: `RVK1`, the sizes, the height, the numbers of bits, and the bits of the relation's
+/// tree, level by level.
 ///
-/// A relation whose tree has more bits than the limit is refused before a byte is made.
+/// A relation whose tree has more bits than the limit is refused before any byte is made.
 pub fn write_k2<E: Engine>(alloc: Global, engine: &mut E, rel: Rel) -> Result<Vec<u8>, WriteRefused>
     requires { Stands (E.worker engine.old) rel }
     ensures text { IfOk result (λ v. v.items ≡ k2 (set_of (E.worker engine.old) rel)) }
@@ -52,7 +53,8 @@ fn file_bytes(alloc: Global, rel: Rel, height: u8, parts: &TreeBits) -> Result<V
     Ok(out)
 }
 
-/// Adds the header of the file of a relation: its height, and how many bits are above the cells and how many are cells.
+/// Appends the header of the file of a relation: its height, and how many bits are above the cells and how many are
+/// cells.
 fn push_header(
     out: &mut Vec<u8>,
     rel: Rel,
@@ -69,7 +71,7 @@ fn push_header(
     push_counts(out, tree, cells)
 }
 
-/// Adds how many bits are above the cells, and how many are cells.
+/// Appends how many bits are above the cells, and how many are cells.
 fn push_counts(out: &mut Vec<u8>, tree: u64, cells: u64) -> Result<(), AllocError>
     ensures { OnOk result (out.new.items ≡ out.old.items ++ (to_be_bytes w64 tree ++ to_be_bytes w64 cells)) }
 {

@@ -1,4 +1,4 @@
--- The tests of a named relation in the groups in which they are made, and what is known of those that were read.
+-- The tests of a named relation in the groups in which they are made, and what is known of the ones read so far.
 use Rattle.std.specs.Prelude.{◌≡◌, ◌==◌, ◌&&◌, ◌-◌, ◌^◌, ◌≤◌, nat_le, ℕ, true, List, [], ◌∷◌, length, slice_get, option_map, Option, None}
 use Rattle.run_model.specs.declared.outcome.BadFile.{BadFile}
 use Rattle.run_model.specs.declared.outcome.BadFile.TheVariants.{Short, Sizes, Outside, Rest, Names as BAD_NAMES, Root, Order}
@@ -14,12 +14,12 @@ use Rattle.k2_parts.specs.Told.{quadrants_told, root_told, roots_told, AreSound}
 use Rattle.k2_parts.specs.Extents.{AreExtents}
 use Rattle.k2_parts.specs.Visits.{AreRooted}
 
--- of the listed quadrants none is bad, and their heights and extents are these
+-- none of the listed quadrants is bad, and these are their heights and extents
 pub record AreSquares (s : Squares) : Type 0 where
   pub sound : AreSound s.quads.now s.heights.now
   pub reached : AreExtents (quadrants_told s.quads.now) s.heights.now s.extents.now
 
--- the first test that a root fails, by the sizes of its relation and its place
+-- the first test that a root fails, given the sizes of its relation and the relation's place
 unfoldable pub root_fault : List Quadrant → List ℕ → ℕ → ℕ → ℕ → ℕ → Option BadFile
 root_fault quads heights at rows cols root =
     let h = file_height rows cols in
@@ -30,7 +30,7 @@ root_fault quads heights at rows cols root =
     ∷ []
     )
 
--- the first test that the name fails that bytes begin with, at this place behind this name
+-- the first test failed by the name at the start of these bytes, given its place and the name before it
 unfoldable pub name_fault : ℕ → Option (List ℕ) → List ℕ → Option BadFile
 name_fault at earlier bytes =
     let l = name_length bytes in
@@ -43,11 +43,11 @@ name_fault at earlier bytes =
     ∷ []
     )
 
--- the name of the last relation, where there is one
+-- the name of the last relation, if there is one
 abbrev pub last_name : List NAMED → Option (List ℕ)
 last_name roots = option_map (λ r. r.name) (slice_get roots (length roots - 1))
 
--- the name that bytes begin with
+-- the name at the start of these bytes
 pub record IsName (bytes name : List ℕ) : Type 0 where
   pub told : name ≡ (entry_in bytes).name
   pub count : length name ≡ name_length bytes
@@ -55,7 +55,7 @@ pub record IsName (bytes name : List ℕ) : Type 0 where
   pub limit : length name ≤ name_limit
   pub long : entry_length bytes ≤ length bytes
 
--- the named root that bytes begin with, which passes its tests behind earlier ones
+-- the named root at the start of these bytes, which passes its tests given the earlier ones
 pub record IsRootOf (s : Squares) (roots : List NAMED) (bytes : List ℕ) (r : NAMED) : Type 0 where
   pub told : root_told r ≡ entry_in bytes
   pub passes : entry_fault (quadrants_told s.quads.now) s.heights.now (length roots) (last_name roots) bytes ≡ None
@@ -63,14 +63,14 @@ pub record IsRootOf (s : Squares) (roots : List NAMED) (bytes : List ℕ) (r : N
   pub count : length r.name ≡ name_length bytes
   pub long : entry_length bytes ≤ length bytes
 
--- the named roots that bytes begin with, so many, which pass their tests
+-- the first named roots of these bytes, which pass their tests
 pub record AreRoots (s : Squares) (count : ℕ) (bytes : List ℕ) (r : Roots) : Type 0 where
   pub told : roots_told r.roots.items ≡ entries_in count bytes
   pub passes : entries_fault (quadrants_told s.quads.now) s.heights.now 0 None count bytes ≡ None
   pub ends : r.end ≡ entries_length count bytes
   pub rooted : AreRooted (quadrants_told s.quads.now) (roots_told r.roots.items)
 
--- the first test that the bytes behind the listed quadrants fail
+-- the first test failed by the bytes after the listed quadrants
 unfoldable pub rest_fault : List Quadrant → List ℕ → ℕ → List ℕ → Option BadFile
 rest_fault quads heights count bytes =
     first_of_all (
@@ -80,7 +80,7 @@ rest_fault quads heights count bytes =
     ∷ []
     )
 
--- they pass their tests, and have these named roots
+-- the bytes after the listed quadrants pass their tests, and have these named roots
 pub record IsRest (quads : List Quadrant) (heights : List ℕ) (count : ℕ) (bytes : List ℕ) (roots : List NAMED)
     : Type 0 where
   pub told : roots_told roots ≡ entries_in count bytes

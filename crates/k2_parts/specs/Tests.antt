@@ -23,14 +23,14 @@ header_fault bytes =
     ∷ []
     )
 
--- a header has the counts of the bytes, which pass its tests
+-- a header has the counts in the bytes, which pass its tests
 pub record IsHeader (bytes : List ℕ) (h : Header) : Type 0 where
   pub quads_are : h.quads ≡ quadrant_count bytes
   pub roots_are : h.roots ≡ entry_count bytes
   pub long : entries_at bytes ≤ length bytes
 
 -- ---- quadrants
--- the first number other than 0, or 0
+-- the first number other than 0; 0 if there is none
 abbrev pub first_part : Quadrant → ℕ
 first_part q = cond (q.nw == 0) (cond (q.ne == 0) (cond (q.sw == 0) q.se q.sw) q.ne) q.nw
 
@@ -41,7 +41,7 @@ pub record AreBelow (n : ℕ) (q : LISTED) : Type 0 where
   pub sw : q.sw < n
   pub se : q.se < n
 
--- whether the next quadrant behind those of these heights is none, whatever numbers the earlier ones have
+-- whether the next quadrant is invalid given the heights of the earlier ones, whatever numbers these have
 abbrev pub is_unsound : List ℕ → Quadrant → Bool
 is_unsound heights q =
     no_parts (parts_of q)
@@ -49,38 +49,38 @@ is_unsound heights q =
     || (list_any (λ m. not (height_at heights m + 1 == height_of_quadrant heights q)) (parts_of q)
     || nat_lt size_height (height_of_quadrant heights q)))
 
--- its height, or none
+-- the height of the next quadrant; none if it is invalid
 unfoldable pub sound_height : List ℕ → Quadrant → Option ℕ
 sound_height heights q = cond (is_unsound heights q) None (Some (height_of_quadrant heights q))
 
--- a quadrant has the four numbers that bytes begin with
+-- a quadrant has the four numbers at the start of these bytes
 abbrev pub TellsFour : List ℕ → LISTED → Type 0
 TellsFour bytes q =
     (q.nw ≡ number_at bytes 0) × (q.ne ≡ number_at bytes 4) × (q.sw ≡ number_at bytes 8) × (q.se ≡ number_at bytes 12)
 
--- each quadrant that was read has its height, and the set has those that were read
+-- each quadrant read so far has its height, and the set consists of those read so far
 pub record IsListing (l : Listing) : Type 0 where
   pub as_many : length l.heights.items ≡ length l.quads.items
   pub same : l.known.keys ≡ l.quads.items
 
--- whether the next quadrant is none
+-- whether the next quadrant is invalid
 abbrev pub is_bad_next : Listing → LISTED → Bool
 is_bad_next l q =
     is_bad (length l.heights.items + 2) (quadrants_told l.quads.items) l.heights.items (quadrant_told q)
 
--- it is not, and stands behind the others with its height
+-- the next quadrant is valid, and was appended with its height
 pub record IsBehind (old new : Listing) (q : LISTED) : Type 0 where
   pub good : is_bad_next old q ≡ false
   pub quads : new.quads.items ≡ old.quads.items ++ q ∷ []
   pub heights : new.heights.items ≡ old.heights.items ++ height_of_quadrant old.heights.items (quadrant_told q) ∷ []
   pub listing : IsListing new
 
--- whether a quadrant was added: where it was not, it is none
+-- whether a quadrant was added; if not, it is invalid
 abbrev pub IsAdded : Listing → Listing → LISTED → Bool → Type 0
 IsAdded old new q true = IsBehind old new q
 IsAdded old new q false = is_bad_next old q ≡ true
 
--- the fault of the first listed quadrant that is none
+-- the fault of the first invalid quadrant in a list
 abbrev pub quads_fault : List Quadrant → Option BadFile
 quads_fault quads = found_at Quad (first_bad 2 [] [] quads)
 

@@ -1,4 +1,4 @@
--- What the parts of a file tell, and that bytes without a fault have these parts.
+-- What the parts of a file describe, and that bytes without a fault have these parts.
 use Rattle.std.specs.Prelude.{◌≡◌, ℕ, List, [], map, None}
 use Rattle.run_model.specs.SharedFiles.{
   Quadrant,
@@ -13,7 +13,7 @@ use Rattle.k2_parts.specs.declared.form.Quadrant.{Quadrant as LISTED}
 use Rattle.k2_parts.specs.declared.form.NamedRoot.{NamedRoot as NAMED}
 use Rattle.k2_parts.specs.declared.form.Form.{Form}
 
--- a listed quadrant by its numbers
+-- a listed quadrant, by its numbers
 abbrev pub quadrant_told : LISTED → Quadrant
 quadrant_told q = record { nw = q.nw; ne = q.ne; sw = q.sw; se = q.se }
 
@@ -21,11 +21,11 @@ quadrant_told q = record { nw = q.nw; ne = q.ne; sw = q.sw; se = q.se }
 abbrev pub quadrants_told : List LISTED → List Quadrant
 quadrants_told quads = map quadrant_told quads
 
--- a named root as the bytes tell it
+-- a named root as given in the bytes
 abbrev pub root_told : NAMED → NamedRoot
 root_told r = record { name = r.name; rows = r.rows; cols = r.cols; root = r.root }
 
--- named roots as the bytes tell them
+-- named roots as given in the bytes
 abbrev pub roots_told : List NAMED → List NamedRoot
 roots_told roots = map root_told roots
 

@@ -1,4 +1,4 @@
-//! A file taken apart: the tests in their order.
+//! Taking a file apart: the tests in order.
 ghost use Rattle.std.specs.Prelude.{IfOk, IfErr};
 ghost use Rattle.run_model.specs.SharedFiles.{shared_fault};
 ghost use Rattle.k2_file.specs.Told.{IsFaultOf};
@@ -15,7 +15,8 @@ use crate::visits::first_out_of_order;
 use run_model::outcome::BadFile;
 use std::alloc::Global;
 
-/// The named roots of a file, so many, by the bytes behind its quadrants; or the first of the tests that these fail.
+/// The named roots of a file, from the bytes after its quadrants, given how many there are; or the first test that
+/// these fail.
 fn read_rest(
     alloc: Global,
     quads: &[Quadrant],
@@ -50,7 +51,7 @@ fn read_rest(
     Ok(named.roots)
 }
 
-/// The parts of a file, or the first of the tests that its bytes fail. It takes time linear in the bytes.
+/// The parts of a file, or the first test that its bytes fail, in time linear in the bytes.
 pub fn take_apart(alloc: Global, bytes: &[u8]) -> Result<Form, BadFile>
     ensures form { IfOk result (IsFormOf bytes.now) }
     ensures fault { IfErr result (IsFaultOf (shared_fault bytes.now)) }

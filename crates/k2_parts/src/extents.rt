@@ -1,4 +1,4 @@
-//! The extents of squares: how many rows and columns their cells reach to.
+//! The extents of squares: how many rows and columns their cells occupy.
 ghost use Rattle.std.specs.Prelude.{◌≡◌, ◌<◌, ◌≤◌, ◌+◌, ◌^◌, ◌-◌, true, max, length, IfOk};
 ghost use Rattle.rel_model.specs.Roots.{lies_within};
 ghost use Rattle.run_model.specs.Files.{file_height};
@@ -10,15 +10,15 @@ use crate::form::Quadrant;
 use k2_file::sides::side_of;
 use std::alloc::{AllocError, Global};
 
-/// How many rows and columns a square's cells reach to: one more than the last row, and than the last column, that has
-/// one. 8 bytes.
+/// How many rows and columns the cells of a square occupy: one more than the last row, and the last column, that has a
+/// cell. 8 bytes.
 #[derive(Clone, Copy)]
 pub(crate) struct Extent {
     pub(crate) rows: u32,
     pub(crate) cols: u32,
 }
 
-/// How far two halves reach of which the second begins a side behind the first.
+/// How far the cells of two halves extend, where the second begins `side` after the first.
 fn reach(side: u32, first: u32, second: u32) -> u32
     requires { side + second < 2 ^ 32 }
     ensures { result ≡ reach_of side first second }
@@ -55,7 +55,8 @@ fn extent_at(quads: &[Quadrant], heights: &[u8], extents: &[Extent], at: usize) 
     extent_over(side, nw, ne, sw, se)
 }
 
-/// The extents of all numbers: of 0, of 1, and then of each listed quadrant from those of its quarters. Linear time.
+/// The extents of all numbers: of 0, of 1, and then of each listed quadrant from those of its quarters. Takes linear
+/// time.
 pub(crate) fn extents_of(
     alloc: Global,
     quads: &[Quadrant],

@@ -3,8 +3,8 @@ use lang_model::syntax::Name;
 
 /// A listed quadrant: the numbers of its quarters, north-west, north-east, south-west and south-east. 16 bytes.
 ///
-/// Number 0 is the empty square at every height, 1 the full cell, and from 2 on the listed quadrants have their numbers
-/// in the order of the list.
+/// Number 0 is the empty square at every height, and 1 is the full cell. The listed quadrants are numbered from 2 on in
+/// the order of the list.
 #[derive(Clone, Copy, PartialEq, Eq, Hash)]
 pub struct Quadrant {
     pub nw: u32,
@@ -13,7 +13,7 @@ pub struct Quadrant {
     pub se: u32,
 }
 
-/// A named relation of a file: its sizes, and the number of its square.
+/// A named relation of a file: its sizes, and the number of its square. The name is on the heap.
 #[derive(Drop)]
 pub struct NamedRoot {
     pub name: Name,
@@ -22,7 +22,7 @@ pub struct NamedRoot {
     pub root: u32,
 }
 
-/// The parts of a file. `heights` has the height of each listed quadrant.
+/// The parts of a file, on the heap. `heights` has the height of each listed quadrant.
 #[derive(Drop)]
 pub struct Form {
     pub quads: Vec<Quadrant>,

@@ -7,7 +7,7 @@ ghost use Rattle.k2_parts.specs.Tests.{IsHeader, header_fault};
 use crate::numbers::number_at;
 use run_model::outcome::BadFile;
 
-/// How long the header is.
+/// The length of the header, in bytes.
 pub(crate) const HEADER: usize = 12;
 
 /// How many quadrants and relations a file lists. 8 bytes.
@@ -18,7 +18,7 @@ pub(crate) struct Header {
 }
 
 impl Header {
-    /// How many bytes stand before the relations.
+    /// How many bytes come before the relations.
     pub(crate) fn end(&self) -> u64
         ensures { result ≡ 12 + 16 * self.now.quads }
     {
@@ -26,14 +26,14 @@ impl Header {
     }
 }
 
-/// Whether bytes begin as those of a file of version 2.
+/// Whether bytes begin like those of a file of version 2.
 pub fn begins_shared(bytes: &[u8]) -> bool
     ensures { result ≡ begins_shared bytes.now }
 {
     bytes.starts_with(b"RVK2".as_slice())
 }
 
-/// The header of a file, or the first of its tests that the bytes fail.
+/// The header of a file, or the first test of the header that the bytes fail.
 pub(crate) fn read_header(bytes: &[u8]) -> Result<Header, BadFile>
     ensures header { IfOk result (IsHeader bytes.now) }
     ensures fault { result_err result ≡ header_fault bytes.now }

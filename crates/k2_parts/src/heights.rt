@@ -8,7 +8,7 @@ ghost use Rattle.k2_parts.specs.Tests.{AreBelow, first_part, sound_height};
 use crate::form::Quadrant;
 use rel_model::TOP_HEIGHT;
 
-/// The height of a number, by those of the listed quadrants: that of a cell for 0 and 1.
+/// The height of a number, given those of the listed quadrants; numbers 0 and 1 have that of a cell.
 pub(crate) fn height_at(heights: &[u8], number: u32) -> u8
     requires { number < length heights.now + 2 }
     ensures { result ≡ height_at heights.now number }
@@ -37,7 +37,7 @@ fn is_over(quad: &Quadrant, number: u64) -> bool
         || number <= u64::from(quad.se)
 }
 
-/// The first number other than 0, or 0.
+/// The first number other than 0; 0 if there is none.
 fn first_part(quad: &Quadrant) -> u32
     ensures { result ≡ first_part (quadrant_told quad.now) }
 {
@@ -52,7 +52,7 @@ fn first_part(quad: &Quadrant) -> u32
     }
 }
 
-/// Whether a number is other than 0, and its height is not this one less 1.
+/// Whether a number is not 0, and its height is not one less than this height.
 fn differs(heights: &[u8], number: u32, height: u16) -> bool
     requires { number < length heights.now + 2 }
     ensures { result ≡ (not (number == 0) && not (height_at heights.now number + 1 == height)) }
@@ -60,7 +60,7 @@ fn differs(heights: &[u8], number: u32, height: u16) -> bool
     number != 0 && u16::from(height_at(heights, number)) + 1 != height
 }
 
-/// Whether one of the numbers other than 0 has another height than this one less 1.
+/// Whether one of the numbers other than 0 has a height that is not one less than this height.
 fn has_other_height(heights: &[u8], quad: &Quadrant, height: u16) -> bool
     requires { AreBelow (length heights.now + 2) quad.now }
     ensures { result
@@ -72,7 +72,7 @@ fn has_other_height(heights: &[u8], quad: &Quadrant, height: u16) -> bool
         || differs(heights, quad.se, height)
 }
 
-/// The height of the next quadrant behind those with these heights, or none where it is no quadrant by its numbers.
+/// The height of the next quadrant, given the heights of the earlier ones; none if its numbers make it invalid.
 pub(crate) fn sound_height(heights: &[u8], quad: &Quadrant) -> Option<u8>
     ensures { result ≡ sound_height heights.now (quadrant_told quad.now) }
 {

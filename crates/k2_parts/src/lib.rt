@@ -1,4 +1,4 @@
-//! A relation file of version 2 taken apart: its list of quadrants and its named roots, and the tests in their order.
+//! Takes apart a relation file of version 2: its list of quadrants and its named roots, with the tests in order.
 #![tactic(auto)]
 
 mod apart;

@@ -1,4 +1,4 @@
-//! Numbers in bytes, the highest byte first.
+//! Numbers in bytes, highest byte first.
 ghost use Rattle.std.specs.Prelude.{◌≡◌, ◌≤◌, ◌+◌, length};
 ghost use Rattle.run_model.specs.SharedFiles.{number_at};
 

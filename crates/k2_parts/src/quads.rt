@@ -1,4 +1,4 @@
-//! The listed quadrants of a file with their heights, or the first that is none.
+//! The listed quadrants of a file with their heights, or the first invalid one.
 ghost use Rattle.std.specs.Prelude.{◌≡◌, ◌≤◌, ◌*◌, [], IfOk, IfErr, length};
 ghost use Rattle.run_model.specs.SharedFiles.{quadrants_in};
 ghost use Rattle.k2_file.specs.Told.{IsFaultOf};
@@ -22,7 +22,7 @@ pub(crate) struct Listed {
     pub(crate) heights: Vec<u8>,
 }
 
-/// The quadrants that were read so far, with their heights, and the set of them.
+/// The quadrants read so far, with their heights, and as a set. On the heap.
 #[derive(Drop)]
 pub(crate) struct Listing {
     pub(crate) quads: Vec<Quadrant>,
@@ -44,7 +44,7 @@ impl Listing {
         }
     }
 
-    /// Adds the next quadrant, unless it is none. Whether it was added.
+    /// Adds the next quadrant if it is valid, and says whether it was added.
     fn add(&mut self, quad: Quadrant) -> Result<bool, NoMemory>
         requires { IsListing self.old }
         ensures { IfOk result (IsAdded self.old self.new quad) }
@@ -62,7 +62,7 @@ impl Listing {
     }
 }
 
-/// The quadrant that bytes begin with.
+/// The quadrant at the start of these bytes.
 fn quadrant_in(bytes: &[u8]) -> Quadrant
     requires { 16 ≤ length bytes.now }
     ensures { TellsFour bytes.now result }
@@ -75,7 +75,7 @@ fn quadrant_in(bytes: &[u8]) -> Quadrant
     }
 }
 
-/// The quadrants that bytes begin with, so many, with their heights, or the first that is none.
+/// The first `count` quadrants of these bytes with their heights, or the first invalid one.
 pub(crate) fn read_quads(alloc: Global, count: u32, bytes: &[u8]) -> Result<Listed, BadFile>
     requires { 16 * count ≤ length bytes.now }
     ensures listed { IfOk result (AreListed (quadrants_in count bytes.now)) }

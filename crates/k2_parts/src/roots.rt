@@ -1,4 +1,4 @@
-//! The named roots of a file, or the first of their tests that fails.
+//! The named roots of a file, or the first test that they fail.
 ghost use Rattle.std.specs.Prelude.{◌≡◌, IfOk, IfErr, None, length};
 ghost use Rattle.std.specs.Result.{result_err};
 ghost use Rattle.run_model.specs.SharedFiles.{entry_fault, entries_fault, is_behind};
@@ -15,17 +15,17 @@ use lang_model::syntax::Name;
 use run_model::outcome::BadFile;
 use std::alloc::Global;
 
-/// How many bytes a named root has beside its name.
+/// How many bytes a named root has besides its name.
 const BESIDE: usize = 13;
 
-/// The named roots of a file, and how many bytes they have.
+/// The named roots of a file, and their length in bytes. On the heap.
 #[derive(Drop)]
 pub(crate) struct Roots {
     pub(crate) roots: Vec<NamedRoot>,
     pub(crate) end: usize,
 }
 
-/// Whether a name stands behind that of the last of these, where there is one.
+/// Whether a name comes after that of the last of these roots, if there is one.
 fn is_behind(roots: &[NamedRoot], name: &[u8]) -> bool
     ensures { result ≡ is_behind (last_name roots.now) name.now }
 {
@@ -35,7 +35,7 @@ fn is_behind(roots: &[NamedRoot], name: &[u8]) -> bool
     }
 }
 
-/// The name that bytes begin with, of the relation behind these, or the first of its tests that fails.
+/// The name at the start of these bytes, given the roots before it, or the first test that it fails.
 fn read_name<'a>(roots: &[NamedRoot], bytes: &'a [u8]) -> Result<&'a [u8], BadFile>
     ensures name { IfOk result (λ name. IsName bytes.now name.now) }
     ensures fault { result_err result ≡ name_fault (length roots.now) (last_name roots.now) bytes.now }
@@ -58,7 +58,7 @@ fn read_name<'a>(roots: &[NamedRoot], bytes: &'a [u8]) -> Result<&'a [u8], BadFi
     Ok(name)
 }
 
-/// The named root that bytes begin with, behind these, or the first of its tests that fails.
+/// The named root at the start of these bytes, given the roots before it, or the first test that it fails.
 fn read_root(
     alloc: Global,
     squares: &Squares<'_>,
@@ -92,7 +92,7 @@ fn read_root(
     }
 }
 
-/// The named roots that bytes begin with, so many, or the first of their tests that fails.
+/// The first `count` named roots of these bytes, or the first test that they fail.
 pub(crate) fn read_roots(
     alloc: Global,
     squares: &Squares<'_>,

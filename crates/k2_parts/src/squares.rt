@@ -1,4 +1,4 @@
-//! The squares of a file, and the tests of a root by them.
+//! The squares of a file, and the tests of a root against them.
 ghost use Rattle.std.specs.Prelude.{◌≡◌};
 ghost use Rattle.run_model.specs.SharedFiles.{is_root};
 ghost use Rattle.k2_parts.specs.Told.{quadrants_told};
@@ -20,7 +20,7 @@ pub(crate) struct Squares<'a> {
 }
 
 impl Squares<'_> {
-    /// Whether a number is 0, or that of a listed quadrant of a height.
+    /// Whether a number is 0, or that of a listed quadrant of this height.
     fn is_root(&self, number: u32, height: u8) -> bool
         requires { AreSquares self.now }
         ensures { result ≡ is_root (quadrants_told self.now.quads.now) self.now.heights.now height number }
@@ -31,7 +31,7 @@ impl Squares<'_> {
                     && height_at(self.heights, number) == height))
     }
 
-    /// The first test that a root of these sizes fails. Its relation stands at this place.
+    /// The first test that a root fails, given the sizes of its relation and the relation's place in the file.
     pub(crate) fn fault_of_root(&self, at: u64, rows: u32, cols: u32, root: u32) -> Option<BadFile>
         requires { AreSquares self.now }
         ensures { result ≡ root_fault (quadrants_told self.now.quads.now) self.now.heights.now at rows cols root }

@@ -1,4 +1,4 @@
-//! Files taken apart: one by hand, and the smallest file of each fault.
+//! Taking files apart: one written by hand, and the smallest file for each fault.
 use crate::form::Quadrant;
 use crate::take_apart;
 use run_model::outcome::BadFile;

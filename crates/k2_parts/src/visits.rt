@@ -6,15 +6,15 @@ ghost use Rattle.k2_parts.specs.Visits.{ListsNumber, Visits, AreRooted};
 
 use crate::form::{NamedRoot, Quadrant};
 
-/// What is noted of the numbers that visits have listed: they are those from 2 up to the next one, in order, or the
-/// next one is out of its place, since another stands there. 16 bytes.
+/// The state of the visits: the numbers listed so far are those from 2 up to but not including `next`, in order, and
+/// either none is out of place, or `next` is, since another number is at its place. 16 bytes.
 #[derive(Clone, Copy)]
 pub(crate) struct Noted {
     pub(crate) next: u64,
     pub(crate) is_out: bool,
 }
 
-/// Notes a number that stands behind those listed, or is among them.
+/// Lists a number, which comes after those listed.
 fn list_number(noted: Noted, number: u32) -> Noted
     requires low { 2 ≤ noted.next }
     requires high { noted.next ≤ number }
@@ -37,8 +37,9 @@ fn list_number(noted: Noted, number: u32) -> Noted
     }
 }
 
-/// Visits the square of a number: its quarters in order, and then it stands behind them. One that was listed is not
-/// visited again, and no number once another is out of its place. Calls nest no deeper than the square is high.
+/// Visits the square of a number: its quarters in order, and then lists it after them. A number that was listed is not
+/// visited again, and nothing is visited once a number is out of place. Calls nest no deeper than the height of the
+/// square.
 fn visit(quads: &[Quadrant], number: u32, noted: Noted) -> Noted
     requires sound { first_bad 2 [] [] (quadrants_told quads.now) ≡ None }
     requires within { number < length quads.now + 2 }
@@ -58,8 +59,8 @@ fn visit(quads: &[Quadrant], number: u32, noted: Noted) -> Noted
     list_number(noted, number)
 }
 
-/// The least number from 2 on that does not stand in its place of the visits from the roots, over the listed
-/// quadrants. Each of these is visited once, and no memory is taken.
+/// The least number, from 2 on, that is not at its place in the visits from the roots over the listed quadrants. Each
+/// quadrant is visited once, and no memory is taken.
 pub(crate) fn first_out_of_order(quads: &[Quadrant], roots: &[NamedRoot]) -> Option<u64>
     requires sound { first_bad 2 [] [] (quadrants_told quads.now) ≡ None }
     requires rooted { AreRooted (quadrants_told quads.now) (roots_told roots.now) }

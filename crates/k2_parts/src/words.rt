@@ -1,4 +1,4 @@
-//! Words: a letter, and then letters, digits and `_`.
+//! Words: a letter followed by letters, digits and `_`.
 ghost use Rattle.std.specs.Prelude.{◌≡◌};
 ghost use Rattle.std.specs.List.{list_all};
 ghost use Rattle.lang_model.specs.Tokens.{is_letter, is_word_byte};

@@ -1,4 +1,4 @@
--- Cells that are put into a leaf from a row and a column on.
+-- Cells placed into a leaf from a row and a column on.
 use Rattle.std.specs.Prelude.{◌&&◌, ◌-◌, nat_lt, nat_le, ℕ}
 use Rattle.rel_model.specs.Cells.{Cells}
 

@@ -1,4 +1,4 @@
--- What is said of numbers while their quads are made: how many cells they have, what is noted, and named roots.
+-- What holds of numbers while their quads are made: how many cells they have, what is noted, and named roots.
 use Rattle.std.specs.Prelude.{
   ◌≡◌,
   ◌≢◌,
@@ -34,33 +34,35 @@ use Rattle.k2_parts.specs.declared.form.NamedRoot.{NamedRoot as NAMED}
 use Rattle.k2_parts.specs.Told.{roots_told}
 use Rattle.k2_read.specs.declared.root.Root.{Root as ROOT}
 
--- how many cells the square of a number has, by its height
+-- how many cells the square of a number has at a height
 abbrev pub cells_under : List Quadrant → ℕ → ℕ → ℕ
 cells_under quads h n = cells_count (2 ^ h) (2 ^ h) (cells_told quads h n)
 
--- a call makes the quad of a number of a height, over leaves of a height, and no more nodes than as many listed cells
+-- a call makes the quad of a number at a height, over leaves of a height, and at most as many nodes as for a list of as
+-- many cells
 abbrev pub MakesNumber : Bool → ℕ → List Quadrant → ℕ → ℕ → Worker → Worker → Result Quad Lack → Type 0
 MakesNumber lean least quads height number =
     MakesQuad lean (listed_room (cells_under quads height number) (height - least)) height
     (cells_told quads height number)
 
--- each quad that is noted at a number other than 0 stands, and has the cells of that number, at its height
+-- each quad noted for a number other than 0 stands, and has the cells of that number at its height
 pub record AreNoted (worker : Worker) (quads : List Quadrant) (noted : List (Option Quad)) : Type 0 where
   pub given : (n : ℕ) (quad : Quad) → slice_index_or noted n None ≡ Some quad → n ≢ 0 → (h : ℕ)
       → IsNumber quads h n → GivesQuad worker h (cells_told quads h n) quad
 
--- sizes are within the limit, and a number stands at the height of a file of these sizes, with no cell outside them
+-- the sizes are within the limit, and a number stands at the height of a file with these sizes, with no cell outside
+-- them
 pub record IsSound (quads : List Quadrant) (rows cols number : ℕ) : Type 0 where
   pub row_limit : rows ≤ size_limit
   pub col_limit : cols ≤ size_limit
   pub is_number : IsNumber quads (file_height rows cols) number
   pub inside : LiesWithin rows cols (cells_told quads (file_height rows cols) number)
 
--- the relation of these sizes that a number stands for
+-- the relation with these sizes that a number describes
 abbrev pub relation_at : List Quadrant → ℕ → ℕ → ℕ → Relation
 relation_at quads rows cols number = relation_of rows cols (cells_told quads (file_height rows cols) number)
 
--- a call makes the quad of a root of these sizes, as high as the tree of its relation over leaves of a height
+-- a call makes the quad of a root with these sizes, at the height of the tree of its relation over leaves of a height
 abbrev pub MakesRoot : Bool → ℕ → List Quadrant → ℕ → ℕ → ℕ → Worker → Worker → Result Quad Lack → Type 0
 MakesRoot lean least quads rows cols number =
     MakesQuad lean
@@ -71,7 +73,7 @@ MakesRoot lean least quads rows cols number =
 abbrev pub entries_told : List Quadrant → List NAMED → List (List ℕ × Relation)
 entries_told quads roots = map (relation_told quads) (roots_told roots)
 
--- the root of the first relation of a name
+-- the root of the first relation with this name
 abbrev pub root_named : List ℕ → List NAMED → Option ROOT
 root_named name [] = None
 root_named name (r ∷ rs) =

@@ -10,9 +10,9 @@ use rel_model::{Lack, Rel};
 use run_model::outcome::BadFile;
 use std::alloc::Global;
 
-/// All relations of a file, in its order, or the first of the tests that its bytes fail.
+/// All relations of a file, in its order, or the first test that its bytes fail.
 ///
-/// Each listed quadrant is asked for once. A file that fails a test asks no node of the engine.
+/// Each listed quadrant is asked for once. A file that fails a test asks the engine for no node.
 pub fn read_k2_all<E: Engine>(
     alloc: Global,
     engine: &mut E,

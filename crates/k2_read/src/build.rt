@@ -1,4 +1,4 @@
-//! Quads of numbers, from the leaves upwards, each number asked for once.
+//! The quads of numbers, built from the leaves upwards; each number is asked for once.
 ghost use Rattle.std.specs.Prelude.{◌≡◌, ◌≢◌, ◌<◌, ◌≤◌, ◌+◌, length, OnOk};
 ghost use Rattle.rel_model.specs.Relation.{size_height};
 ghost use Rattle.run_model.proofs.SharedCells.{IsNumber};
@@ -10,7 +10,7 @@ use k2_parts::form::Quadrant;
 use rel_model::engine_trait::Engine;
 use rel_model::{Lack, Quad};
 
-/// The quad of a number of a height from the leaves' on: the one that is noted, or else a new one, which is noted then.
+/// The quad of a number at a height, no lower than the leaves: the noted one, or a new one, which is then noted.
 #[cycle(built)]
 pub(crate) fn built<E: Engine>(
     engine: &mut E,
@@ -39,7 +39,7 @@ pub(crate) fn built<E: Engine>(
     Ok(quad)
 }
 
-/// The same of a number other than 0 that is not noted: a leaf, or the corner of its quarters.
+/// The same for a number other than 0 that is not noted: a leaf, or the corner of its quarters.
 #[cycle(built)]
 fn built_anew<E: Engine>(
     engine: &mut E,

@@ -24,7 +24,7 @@ pub(crate) fn quarters(quads: &[Quadrant], number: u32) -> Quadrant
     quads[number as usize - 2]
 }
 
-/// The word of a leaf of this side with one more cell, where it lies in the leaf.
+/// The word of a leaf of this side with one more cell, if that lies in the leaf.
 fn with_cell(side: u8, word: u64, cell: (u8, u8)) -> u64
     requires side { side ≤ 8 }
     requires none_past { word < 2 ^ (side * side) }
@@ -38,7 +38,7 @@ fn with_cell(side: u8, word: u64, cell: (u8, u8)) -> u64
     word | 1u64 << (side * cell.0 + cell.1)
 }
 
-/// The word of a leaf of this side with the cells of a number, in its square from a row and a column on.
+/// The word of a leaf of this side with the cells of a number added, whose square begins at a row and a column.
 fn with_part(
     quads: &[Quadrant],
     side: u8,
@@ -73,7 +73,7 @@ fn with_part(
     with_part(quads, side, third, (south, east), quadrant.se, below)
 }
 
-/// The leaf with the cells of a number of a height up to 3, all of which lie in it.
+/// The leaf with the cells of a number at a height up to 3, all of which must lie in it.
 pub(crate) fn built_leaf<E: Engine>(
     engine: &mut E,
     quads: &[Quadrant],

@@ -1,4 +1,4 @@
-//! Relations that are read from a file of version 2, each from its root upwards.
+//! Reads relations from a file of version 2, each built from the leaves upwards.
 #![tactic(auto)]
 
 mod all;

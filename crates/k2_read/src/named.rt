@@ -10,7 +10,7 @@ use rel_model::{Lack, Rel};
 use run_model::outcome::BadFile;
 use std::alloc::Global;
 
-/// The relation of a name in a file, or the first of the tests that its bytes fail, or that no relation has the name.
+/// The relation of a name in a file, or the first test that its bytes fail, or that no relation has this name.
 ///
 /// No other relation of the file is made.
 pub fn read_k2_named<E: Engine>(

@@ -26,7 +26,7 @@ pub(crate) struct Root {
     pub(crate) number: u32,
 }
 
-/// The root of the relation of a name.
+/// The root of the relation with this name, if there is one.
 pub(crate) fn root_of(roots: &[NamedRoot], name: &Name) -> Option<Root>
     ensures { result ≡ root_named name.now roots.now }
 {
@@ -44,7 +44,7 @@ pub(crate) fn root_of(roots: &[NamedRoot], name: &Name) -> Option<Root>
     None
 }
 
-/// The quad of a root, as high as the tree of its relation.
+/// The quad of a root, at the height of the relation's tree.
 fn built_root<E: Engine>(
     engine: &mut E,
     quads: &[Quadrant],
@@ -94,7 +94,7 @@ pub(crate) fn built_relation<E: Engine>(
     Ok(engine.rel(root.shape, quad))
 }
 
-/// Adds the relation of a named root.
+/// Appends the relation of a named root.
 fn push_built<E: Engine>(
     engine: &mut E,
     quads: &[Quadrant],
@@ -127,7 +127,7 @@ fn push_built<E: Engine>(
     Ok(())
 }
 
-/// The relations of named roots, in their order.
+/// The relations of named roots, in order.
 pub(crate) fn built_all<E: Engine>(
     alloc: Global,
     engine: &mut E,

@@ -10,7 +10,7 @@ use Rattle.k2_write.specs.declared.listing.Listing.{Listing}
 use Rattle.k2_write.specs.declared.visits.Visits.{Visits}
 use Rattle.k2_write.specs.Visiting.{quarters_in, Lists}
 
--- the squares of named relations are listed by their quarters, and the bytes of these relations are there
+-- the squares of named relations are listed by their quarters, with the bytes of these relations
 pub record IsListing (named : List (List ℕ × Relation)) (listing : Listing) : Type 0 where
   pub behind : AllBehind (visit_all [] named)
   pub keys : listing.squares.keys ≡ map (quarters_in (visit_all [] named)) (visit_all [] named)
@@ -20,7 +20,7 @@ pub record IsListing (named : List (List ℕ × Relation)) (listing : Listing) :
 abbrev pub IsKnown : List Square → List ℕ × Relation → Type 0
 IsKnown squares entry = Known squares (length squares) (file_height entry.1.rows entry.1.cols) entry.1.pairs
 
--- so many named relations were visited, and these are their bytes
+-- the first named relations were visited, and these are their bytes
 pub record AreListed (w : Worker) (least : ℕ) (named : List (List ℕ × Relation)) (visits : Visits)
     (bytes : List ℕ) : Type 0 where
   pub lists : Lists w least (visit_all [] named) visits

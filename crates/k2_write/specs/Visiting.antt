@@ -1,4 +1,4 @@
--- Visits of squares: what the listed squares are, and what a visit makes of them.
+-- Visits of squares: what the listed squares are, and how a visit extends them.
 use Rattle.std.specs.Prelude.{◌≡◌, ◌^◌, ◌&&◌, nat_eq, length, zero, suc, ℕ, Bool, List, [], map, Option, Some, None}
 use Rattle.std.specs.HashMap.{get}
 use Rattle.rel_model.specs.Cells.{Cells}
@@ -23,11 +23,11 @@ Pairs = List (ℕ × ℕ)
 abbrev pub pairs_in : ℕ → Cells → Pairs
 pairs_in h f = (relation_of (2 ^ h) (2 ^ h) f).pairs
 
--- those of a square
+-- the pairs of a square
 abbrev pub square_pairs : Worker → ℕ → Shown → Pairs
 square_pairs w h s = pairs_in h (square_cells w (2 ^ h) s)
 
--- those of a square where there is one
+-- the pairs of a square, if there is one
 abbrev pub part_pairs : Worker → ℕ → Option Shown → Pairs
 part_pairs w h None = []
 part_pairs w h (Some s) = square_pairs w h s
@@ -40,7 +40,7 @@ whole_leaf h bits = record { bits = bits; side = 2 ^ h; row = 0; col = 0 }
 abbrev pub quad_at : ℕ → ℕ → Shown
 quad_at h name = Tree (record { height = h; name = name })
 
--- that of a leaf, by its height and bits
+-- the square of a leaf, by its height and bits
 abbrev pub leaf_at : ℕ → ℕ → Shown
 leaf_at h bits = Part (whole_leaf h bits)
 
@@ -58,7 +58,7 @@ quarters_by squares (suc h) ps = record {
   se = number_in squares h (quarter (2 ^ h) (2 ^ h) (2 ^ h) ps);
 }
 
--- those of a listed square
+-- the numbers of the quarters of a listed square
 abbrev pub quarters_in : List Square → Square → Quarters
 quarters_in squares s = quarters_by squares s.height s.pairs
 
@@ -68,7 +68,7 @@ AreNumbers w least at squares found = (h n c : ℕ) → found (h, n) ≡ Some c
     → IsSquare w least h (at h n) × Known squares (length squares) h (square_pairs w h (at h n))
     × (c ≡ number_in squares h (square_pairs w h (at h n)))
 
--- the visits so far list these squares: each stands behind its quarters, and none stands twice
+-- the visits so far list these squares: each comes after its quarters, and none occurs twice
 pub record Lists (w : Worker) (least : ℕ) (squares : List Square) (visits : Visits) : Type 0 where
   pub behind : AllBehind squares
   pub once : NoneTwice squares
@@ -76,7 +76,7 @@ pub record Lists (w : Worker) (least : ℕ) (squares : List Square) (visits : Vi
   pub quads_noted : AreNumbers w least quad_at squares (get same_key visits.quads)
   pub leaves_noted : AreNumbers w least leaf_at squares (get same_key visits.leaves)
 
--- after a visit its squares are listed, and it gave the square's number
+-- after a visit its squares are listed, and it gave the number of the square
 pub record IsVisited (w : Worker) (least : ℕ) (squares : List Square) (after : Visits) (h : ℕ) (ps : Pairs)
     (n : ℕ) : Type 0 where
   pub lists : Lists w least (visit h ps squares) after
@@ -87,14 +87,14 @@ abbrev pub Visited : Worker → Worker → ℕ → Visits → Visits → ℕ →
 Visited old new least before after h ps n =
     (squares : List Square) → Lists old least squares before → IsVisited new least squares after h ps n
 
--- after visits of two, the squares of both are listed, and each has its number
+-- after visits of two squares, the squares of both are listed, and each has its number
 pub record AreVisited (w : Worker) (least : ℕ) (squares : List Square) (after : Visits) (h : ℕ) (west east : Pairs)
     (m n : ℕ) : Type 0 where
   pub lists : Lists w least (visit h east (visit h west squares)) after
   pub west_number : m ≡ number_in (visit h east (visit h west squares)) h west
   pub east_number : n ≡ number_in (visit h east (visit h west squares)) h east
 
--- the same for two, the west before the east
+-- the same for two, west before east
 abbrev pub VisitedTwo : Worker → Worker → ℕ → Visits → Visits → ℕ → Pairs → Pairs → ℕ × ℕ → Type 0
 VisitedTwo old new least before after h west east n =
     (squares : List Square) → Lists old least squares before → AreVisited new least squares after h west east n.0 n.1

@@ -1,4 +1,4 @@
-//! Relation files of version 2: several named relations over one list of squares, in which no square stands twice
+//! Relation files of version 2: several named relations over one list of squares, in which no square occurs twice
 //! (Brisaboa, Ladra and Navarro, for the tree; Bryant, for the sharing).
 #![tactic(auto)]
 

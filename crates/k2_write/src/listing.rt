@@ -17,7 +17,7 @@ use rel_model::engine_trait::Engine;
 use rel_model::{NoMemory, Rel};
 use std::alloc::Global;
 
-/// The squares of relations, in the order of the visits, and the bytes of the relations.
+/// The squares of relations, in the order of the visits, and the bytes of the relations. On the heap.
 #[derive(Drop)]
 pub(crate) struct Listing {
     pub(crate) squares: IndexSet<Quarters>,
@@ -38,7 +38,7 @@ fn visit_rel<E: Engine>(engine: &mut E, visits: &mut Visits, rel: Rel) -> Result
     visit_part(engine, visits, first, height)
 }
 
-/// The squares of relations, visited in their order, and the bytes of the relations.
+/// The squares of relations, which are visited in order, and the bytes of the relations.
 pub(crate) fn listing_of<E: Engine>(
     alloc: Global,
     engine: &mut E,

@@ -9,7 +9,7 @@ use lang_model::syntax::Name;
 use rel_model::{NoMemory, Rel};
 use std::alloc::{AllocError, Global};
 
-/// Adds the bytes of a relation: the length of its name, the name, its sizes and the number of its square.
+/// Appends the bytes of a relation: the length of its name, the name, its sizes and the number of its square.
 pub(crate) fn push_named(
     out: &mut Vec<u8>,
     name: &Name,
@@ -30,7 +30,7 @@ pub(crate) fn push_named(
     Ok(())
 }
 
-/// Adds the numbers of the quarters of a square.
+/// Appends the numbers of the quarters of a square.
 fn push_quarters(out: &mut Vec<u8>, quarters: Quarters) -> Result<(), AllocError>
     ensures { OnOk result (out.new.items ≡ out.old.items ++ quarters_bytes quarters) }
 {
@@ -40,7 +40,7 @@ fn push_quarters(out: &mut Vec<u8>, quarters: Quarters) -> Result<(), AllocError
     push_u32(out, quarters.se)
 }
 
-/// Adds the header of a file of so many squares and relations.
+/// Appends the header of a file with these numbers of squares and relations.
 fn push_header(out: &mut Vec<u8>, squares: u32, relations: u32) -> Result<(), AllocError>
     ensures { OnOk result (out.new.items ≡ out.old.items ++ header_bytes squares relations) }
 {
@@ -49,7 +49,7 @@ fn push_header(out: &mut Vec<u8>, squares: u32, relations: u32) -> Result<(), Al
     push_u32(out, relations)
 }
 
-/// Adds the numbers of the quarters of squares, in their order.
+/// Appends the numbers of the quarters of squares, in order.
 fn push_squares(out: &mut Vec<u8>, squares: &[Quarters]) -> Result<(), AllocError>
     ensures { OnOk result (out.new.items ≡ out.old.items ++ flat_map quarters_bytes squares.now) }
 {
@@ -59,7 +59,7 @@ fn push_squares(out: &mut Vec<u8>, squares: &[Quarters]) -> Result<(), AllocErro
     Ok(())
 }
 
-/// The bytes of the file of these squares, with so many relations and their bytes.
+/// The bytes of the file with these squares, this number of relations, and their bytes.
 pub(crate) fn file_bytes(
     alloc: Global,
     squares: &[Quarters],

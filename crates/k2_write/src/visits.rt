@@ -1,4 +1,4 @@
-//! The squares that were visited, and their numbers.
+//! The squares visited so far, and their numbers.
 ghost use Rattle.std.specs.Prelude.{◌≡◌, ◌+◌, ◌<◌, ◌^◌, ℕ, [], Some, slice_get, IfOk, OnOk};
 ghost use Rattle.rel_model.specs.Worker.{Worker};
 ghost use Rattle.indexmap.specs.IndexSet.{insert_key};
@@ -9,7 +9,7 @@ use rel_model::NoMemory;
 use std::alloc::Global;
 use std::collections::HashMap;
 
-/// The numbers of the quarters of a square: 0 where there is no pair, 1 for the cell, and else from 2 on. 16 bytes.
+/// The numbers of the quarters of a square: 0 without pairs, 1 for the cell, and otherwise from 2 on. 16 bytes.
 #[derive(Clone, Copy, Debug, PartialEq, Eq, Hash)]
 pub(crate) struct Quarters {
     pub(crate) nw: u32,
@@ -18,10 +18,10 @@ pub(crate) struct Quarters {
     pub(crate) se: u32,
 }
 
-/// The squares that were visited, in the order of the visits and each by its quarters.
+/// The squares visited so far, in the order of the visits, each by its quarters. On the heap.
 ///
-/// Beside them the numbers of quads over the leaves, by height and name, and of leaves, by height and bits, so that the
-/// quarters of each are visited once.
+/// It also has the numbers of quads above the leaves, by height and name, and of leaves, by height and bits, so that
+/// the quarters of each are visited once.
 #[derive(Drop)]
 pub(crate) struct Visits {
     pub(crate) squares: IndexSet<Quarters>,
@@ -42,8 +42,8 @@ impl Visits {
     }
 }
 
-/// The number of the square with these quarters, which is listed where it was not yet. Numbers count from 2 on; more
-/// squares than four bytes count do not fit into memory.
+/// The number of the square with these quarters, which is listed if it was not yet. Numbers count from 2 on. More
+/// squares than four bytes can count are reported as lack of memory.
 pub(crate) fn listed(squares: &mut IndexSet<Quarters>, quarters: Quarters) -> Result<u32, NoMemory>
     ensures keys { OnOk result (squares.new.keys ≡ insert_key same_quarters squares.old.keys quarters) }
     ensures number { IfOk result (λ n. (k : _) × (slice_get squares.new.keys k ≡ Some quarters) × (n ≡ k + 2)) }

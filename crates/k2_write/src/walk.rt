@@ -1,5 +1,5 @@
-//! The visits of squares: the quarters of a square before the square itself, north-west, north-east, south-west and
-//! south-east.
+//! The visits of squares in post-order: the quarters, north-west, north-east, south-west and south-east, before the
+//! square itself.
 ghost use Rattle.std.specs.Prelude.{◌≡◌, ◌<◌, ◌≤◌, ◌+◌, ◌^◌, IfOk, IsTrue};
 ghost use Rattle.rel_model.specs.Relation.{size_height};
 ghost use Rattle.rel_model.specs.Worker.{Keeps, MakesAtMost, MissesNothing};
@@ -23,7 +23,7 @@ fn is_leaf(window: Window, height: u8) -> bool
     window.row == 0 && window.col == 0 && window.side == small_side(height)
 }
 
-/// Visits a square of a height, and gives its number. There is nothing to visit where it has no cell.
+/// Visits a square of a height, if it has a cell, and gives its number; 0 for an empty one.
 #[cycle(visit)]
 pub(crate) fn visit_part<E: Engine>(
     engine: &mut E,
@@ -70,7 +70,7 @@ fn visit_square<E: Engine>(
     }
 }
 
-/// The same for a quad over the leaves, whose quarters are visited once.
+/// The same for a quad above the leaves, whose quarters are visited once.
 #[cycle(visit)]
 fn visit_quad<E: Engine>(
     engine: &mut E,
@@ -123,7 +123,7 @@ fn visit_window<E: Engine>(
     Ok(number)
 }
 
-/// The same by its quarters, behind which it is listed.
+/// The same by its quarters, after which it is listed.
 #[cycle(visit)]
 fn visit_quarters<E: Engine>(
     engine: &mut E,
@@ -148,7 +148,7 @@ fn visit_quarters<E: Engine>(
     Ok(number)
 }
 
-/// Visits two squares of a height, the west before the east, and gives their numbers.
+/// Visits two squares of a height, west before east, and gives their numbers.
 #[cycle(visit)]
 fn visit_two<E: Engine>(
     engine: &mut E,

@@ -16,13 +16,13 @@ use rel_model::engine_trait::Engine;
 use run_model::limits::SAVE_LIMIT;
 use std::alloc::Global;
 
-/// How many bytes the header of a file has.
+/// The length of a file's header, in bytes.
 const HEADER: u64 = 12;
 
-/// How many bytes a square has.
+/// The length of a square, in bytes.
 const SQUARE: u64 = 16;
 
-/// How many bits a file has with so many squares, and so many bytes of relations.
+/// How many bits a file has, given the number of its squares, and of bytes of its relations.
 fn bits_of(squares: u64, relations: u64) -> Option<u64>
     ensures { IfSome result (λ n. n ≡ 8 * (12 + 16 * squares + relations)) }
 {
@@ -30,10 +30,10 @@ fn bits_of(squares: u64, relations: u64) -> Option<u64>
     bytes.checked_add(HEADER)?.checked_mul(8)
 }
 
-/// The file of version 2 of named relations: each distinct square of them once, in the order of visits, and each
-/// relation by its name, its sizes and the number of its square.
+/// The file of version 2 of named relations: each distinct square once, in the order of the visits, and each relation
+/// by its name, its sizes and the number of its square.
 ///
-/// A file of more bits than the limit is refused before it is made.
+/// A file with more bits than the limit is refused before it is made.
 pub fn write_k2_all<E: Engine>(
     alloc: Global,
     engine: &mut E,

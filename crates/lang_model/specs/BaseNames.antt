@@ -1,4 +1,4 @@
--- The base names and the domain operators, each in one place: how it is written, and what it takes.
+-- The base names and the domain operators, defined once: how each is written, and what it takes.
 use Rattle.std.specs.Prelude.{ℕ, List, [], ◌∷◌, codes}
 use Rattle.lang_model.specs.declared.syntax.Base.{Base}
 use Rattle.lang_model.specs.declared.syntax.Base.TheVariants.{L, O, I, Ln1, On1, L1n, O1n, Dom, Ran, Trans, Refl, Epsi}
@@ -50,11 +50,11 @@ base_names =
     L ∷ O ∷ I ∷ Ln1 ∷ On1 ∷ L1n ∷ O1n ∷ Dom ∷ Ran ∷ Trans ∷ Refl ∷ Epsi ∷ Point ∷ Atom ∷ Init ∷ Next ∷ Inj ∷ Empty
     ∷ Unival ∷ Less ∷ Hasse ∷ Quot ∷ Syq ∷ Eq ∷ Incl ∷ Ubd ∷ Lbd ∷ Least ∷ Greatest ∷ Sup ∷ Inf ∷ []
 
--- the domain operators, which are no words
+-- the domain operators, which are not words
 abbrev pub domain_operator_names : List Base
 domain_operator_names = P1 ∷ P2 ∷ I1 ∷ I2 ∷ []
 
--- what stands in the parentheses behind a base name or a domain operator: one expression, two, or the name of a domain
+-- what stands in the parentheses after a base name or a domain operator: one expression, two, or the name of a domain
 pub data Form : Type 0 where
   TakesOne : Form
   TakesTwo : Form

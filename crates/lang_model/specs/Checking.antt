@@ -31,11 +31,11 @@ Names = List ℕ → Bool
 abbrev pub among : List (List ℕ) → Names
 among names name = list_any (λ n. same_text n name) names
 
--- no name
+-- the empty set of names
 abbrev pub no_name : Names
 no_name name = false
 
--- a definition that stands earlier in the script: its name, how many arguments it takes, and its rank
+-- a definition that occurs earlier in the script: its name, how many arguments it takes, and its rank
 pub record Known : Type 0 where
   pub name : List ℕ
   pub takes : ℕ
@@ -46,20 +46,20 @@ abbrev pub definition_of : List Known → List ℕ → Option Known
 definition_of [] name = None
 definition_of (d ∷ ds) name = cond (same_text d.name name) (Some d) (definition_of ds name)
 
--- what the names of an expression may be
+-- what the names of an expression may refer to
 pub record Scope : Type 0 where
-  -- whether its names are those of relations, which are decided when the command runs
+  -- whether its names are names of relations, which are looked up when the command runs
   pub is_command : Bool
   pub parameters : List (List ℕ)
   pub variables : List (List ℕ)
-  -- the domains that are declared by PROD, and by SUM
+  -- the domains declared by PROD, and by SUM
   pub products : List (List ℕ)
   pub sums : List (List ℕ)
   -- the definitions of earlier items
   pub earlier : List Known
 
 -- ---- expressions
--- how a domain operator is written; no text is read as a tree with another base there
+-- how a domain operator is written; no text is parsed to a tree with another base there
 abbrev pub domain_operator_text : Base → List ℕ
 domain_operator_text P1 = codes "p-1"
 domain_operator_text P2 = codes "p-2"
@@ -72,18 +72,18 @@ is_projection P1 = true
 is_projection P2 = true
 is_projection _ = false
 
--- a name is a relation's, a parameter, or a variable that is assigned on every path before it
+-- a name must be a relation's, a parameter, or a variable that is assigned on every path before it
 unfoldable pub ref_faults : Scope → Names → Place → List ℕ → List TypeFault
 ref_faults scope assigned at name =
     cond (scope.is_command || among scope.parameters name) [] (cond (among scope.variables name)
     (cond (assigned name) [] (Unassigned at name ∷ [])) (Unknown at name ∷ []))
 
--- a call is of a definition of an earlier item, with as many arguments as it takes
+-- a call must be of a definition of an earlier item, with the number of arguments that it takes
 unfoldable pub call_faults : Scope → Place → List ℕ → ℕ → List TypeFault
 call_faults scope at name given = option_map_or (λ d. cond (d.takes == given) [] (Arity at name d.takes given ∷ []))
     (definition_of scope.earlier name) (Unknown at name ∷ [])
 
--- a projection is of a declared product, and an injection of a declared sum
+-- a projection must be of a declared product, and an injection of a declared sum
 unfoldable pub domain_faults : Scope → Place → Base → List ℕ → List TypeFault
 domain_faults scope at base domain = cond (among (cond (is_projection base) scope.products scope.sums)
     domain) [] (Unknown at (domain_operator_text base) ∷ [])
@@ -93,7 +93,7 @@ abbrev pub count_in : {m : _} → Row_of-Expr m → ℕ
 count_in end_of-Expr = 0
 count_in (more_of-Expr e rest) = count_in rest + 1
 
--- the faults of an expression before which these variables are assigned
+-- the faults of an expression, given the variables assigned before it
 abbrev mutual
   -- the faults of an expression, in the order of its places
   pub faults : Scope → Names → Expr → List TypeFault
@@ -107,25 +107,25 @@ abbrev mutual
   faults scope assigned (Turned' at p of times) = faults scope assigned of
   faults scope assigned (Chain' p first shape rest) = faults scope assigned first ++ faults_along scope assigned rest
 
-  -- those of arguments
+  -- the faults of arguments
   pub faults_in : Scope → Names → {m : _} → Row_of-Expr m → List TypeFault
   faults_in scope assigned end_of-Expr = []
   faults_in scope assigned (more_of-Expr e rest) = faults scope assigned e ++ faults_in scope assigned rest
 
-  -- those of the links of a chain
+  -- the faults of the links of a chain
   pub faults_along : Scope → Names → {m : _} → Row_of-Link m → List TypeFault
   faults_along scope assigned end_of-Link = []
   faults_along scope assigned (more_of-Link at op right rest) = faults scope assigned right
       ++ faults_along scope assigned rest
 
 -- ---- ranks
--- the rank of the definition of a name, or 0 where there is none
+-- the rank of the definition of a name; 0 if there is none
 abbrev pub rank_named : List Known → List ℕ → ℕ
 rank_named earlier name = option_map_or (λ d. d.rank) (definition_of earlier name) 0
 
--- the greatest rank among the definitions that an expression calls, or 0 where it calls none
+-- the greatest rank of the definitions that an expression calls; 0 if it calls none
 abbrev mutual
-  -- the greatest rank of the definitions that an expression calls, and 0 where it calls none
+  -- the same for one expression
   pub called : List Known → Expr → ℕ
   called earlier (Ref at name) = 0
   called earlier (Call' at name shape args) = max (rank_named earlier name) (called_in earlier args)
@@ -136,42 +136,42 @@ abbrev mutual
   called earlier (Turned' at p of times) = called earlier of
   called earlier (Chain' p first shape rest) = max (called earlier first) (called_along earlier rest)
 
-  -- that of arguments
+  -- the same for arguments
   pub called_in : List Known → {m : _} → Row_of-Expr m → ℕ
   called_in earlier end_of-Expr = 0
   called_in earlier (more_of-Expr e rest) = max (called earlier e) (called_in earlier rest)
 
-  -- that of the links of a chain
+  -- the same for the links of a chain
   pub called_along : List Known → {m : _} → Row_of-Link m → ℕ
   called_along earlier end_of-Link = 0
   called_along earlier (more_of-Link at op right rest) = max (called earlier right) (called_along earlier rest)
 
 -- ---- statements
--- the variables that are assigned on every path behind a statement: behind an IF those of both parts too; behind a
--- WHILE those from before, since its body may run no time
+-- the variables that are assigned on every path after a statement: after an IF, those assigned in both branches too;
+-- after a WHILE, only those from before it, since its body may never run
 abbrev mutual
-  -- the names that are assigned behind a statement
+  -- the names assigned after a statement
   pub assigned_after : Names → Stmt → Names
   assigned_after before (Set at name value) = λ n. same_text name n || before n
   assigned_after before (While' at test s body) = before
   assigned_after before (If' at test s first t second) = λ n. before n
       || (assigned_behind before first n && assigned_behind before second n)
 
-  -- those behind a list of statements
+  -- the names assigned after a row of statements
   pub assigned_behind : Names → {m : _} → Row_of-Stmt m → Names
   assigned_behind before end_of-Stmt = before
   assigned_behind before (more_of-Stmt s rest) = assigned_behind (assigned_after before s) rest
 
--- the same behind a list of statements
+-- the names assigned after a list of statements
 abbrev pub assigned_by : Names → List Stmt → Names
 assigned_by before [] = before
 assigned_by before (s ∷ ss) = assigned_by (assigned_after before s) ss
 
--- an assignment is to a declared variable
+-- an assignment must be to a declared variable
 unfoldable pub target_faults : Scope → Place → List ℕ → List TypeFault
 target_faults scope at name = cond (among scope.variables name) [] (Unknown at name ∷ [])
 
--- the faults of statements before which these variables are assigned; a test is read before its parts
+-- the faults of statements, given the variables assigned before them; a test is checked before its branches
 abbrev mutual
   -- the faults of a statement
   pub faults_of : Scope → Names → Stmt → List TypeFault
@@ -180,18 +180,18 @@ abbrev mutual
   faults_of scope before (If' at test s first t second) = faults scope before test
       ++ (faults_within scope before first ++ faults_within scope before second)
 
-  -- those of a list of statements
+  -- the faults of a row of statements
   pub faults_within : Scope → Names → {m : _} → Row_of-Stmt m → List TypeFault
   faults_within scope before end_of-Stmt = []
   faults_within scope before (more_of-Stmt s rest) = faults_of scope before s
       ++ faults_within scope (assigned_after before s) rest
 
--- the same of a list of statements
+-- the faults of a list of statements
 abbrev pub faults_by : Scope → Names → List Stmt → List TypeFault
 faults_by scope before [] = []
 faults_by scope before (s ∷ ss) = faults_of scope before s ++ faults_by scope (assigned_after before s) ss
 
--- the greatest rank among the definitions that statements call
+-- the greatest rank of the definitions that statements call
 abbrev mutual
   -- the greatest rank of the definitions that a statement calls
   pub called_by : List Known → Stmt → ℕ
@@ -200,12 +200,12 @@ abbrev mutual
   called_by earlier (If' at test s first t second) = max (called earlier test)
       (max (called_within earlier first) (called_within earlier second))
 
-  -- that of a list of statements
+  -- the same for a row of statements
   pub called_within : List Known → {m : _} → Row_of-Stmt m → ℕ
   called_within earlier end_of-Stmt = 0
   called_within earlier (more_of-Stmt s rest) = max (called_by earlier s) (called_within earlier rest)
 
--- the same of a list of statements
+-- the same for a list of statements
 abbrev pub called_by_all : List Known → List Stmt → ℕ
 called_by_all earlier [] = 0
 called_by_all earlier (s ∷ ss) = max (called_by earlier s) (called_by_all earlier ss)
@@ -229,7 +229,7 @@ domains_of sums (Variable at name ∷ ds) = domains_of sums ds
 domains_of sums (Domain at name sum left right ∷ ds) = cond (cond sums sum (not sum)) (name ∷ domains_of sums ds)
     (domains_of sums ds)
 
--- a domain is of two parameters; the first that is none is named, at the declaration
+-- a domain must be of two parameters; the first operand that is not one is reported, at the declaration
 abbrev pub operand_faults : List (List ℕ) → Decl → List TypeFault
 operand_faults parameters (Variable at name) = []
 operand_faults parameters (Domain at name sum left right) = cond (among parameters left)
@@ -240,15 +240,15 @@ abbrev pub place_of_decl : Decl → Place
 place_of_decl (Variable at name) = at
 place_of_decl (Domain at name sum left right) = at
 
--- declarations whose name was given before, to a parameter or in an earlier declaration, and those with operands that
--- are no parameters
+-- declarations whose name is taken, by a parameter or an earlier declaration, and those with operands that are not
+-- parameters
 abbrev pub decl_faults : List (List ℕ) → List (List ℕ) → List Decl → List TypeFault
 decl_faults parameters before [] = []
 decl_faults parameters before (d ∷ ds) =
     (cond (among before (name_of d)) (Twice (place_of_decl d) (name_of d) ∷ []) [] ++ operand_faults parameters d)
     ++ decl_faults parameters (name_of d ∷ before) ds
 
--- parameters whose name was given before, at the place of the definition's name
+-- parameters whose name is taken, reported at the place of the definition's name
 abbrev pub parameter_faults : Place → List (List ℕ) → List (List ℕ) → List TypeFault
 parameter_faults at before [] = []
 parameter_faults at before (p ∷ ps) = cond (among before p) (Twice at p ∷ []) [] ++ parameter_faults at (p ∷ before) ps
@@ -257,14 +257,14 @@ parameter_faults at before (p ∷ ps) = cond (among before p) (Twice at p ∷ []
 abbrev pub names_of : List Known → List (List ℕ)
 names_of = map (λ d. d.name)
 
--- the faults at the name of a definition of this rank: it is over the limit, or the name was defined before, or a
--- parameter stands twice
+-- the faults at the name of a definition of this rank: the rank exceeds the limit, the name is already defined, or a
+-- parameter occurs twice
 unfoldable pub head_faults : List Known → Place → List ℕ → List (List ℕ) → ℕ → List TypeFault
 head_faults earlier at name parameters rank =
     cond (nat_lt rank_limit rank) (Rank at name ∷ []) []
     ++ (cond (among (names_of earlier) name) (Twice at name ∷ []) [] ++ parameter_faults at [] parameters)
 
--- what the names of a function may be
+-- what the names of a function may refer to
 abbrev pub function_scope : List Known → List (List ℕ) → Scope
 function_scope earlier parameters = record {
   is_command = false;
@@ -275,7 +275,7 @@ function_scope earlier parameters = record {
   earlier = earlier;
 }
 
--- what the names of a program may be
+-- what the names of a program may refer to
 abbrev pub program_scope : List Known → List (List ℕ) → List Decl → Scope
 program_scope earlier parameters decls =
     record {
@@ -287,7 +287,7 @@ program_scope earlier parameters decls =
       earlier = earlier;
     }
 
--- what the names of a command may be
+-- what the names of a command may refer to
 abbrev pub command_scope : List Known → Scope
 command_scope earlier = record {
   is_command = true;
@@ -298,7 +298,7 @@ command_scope earlier = record {
   earlier = earlier;
 }
 
--- the rank of a definition: 1 more than the greatest rank of the earlier definitions that it calls, or 1
+-- the rank of a definition: 1 more than the greatest rank of the earlier definitions that it calls; 1 if it calls none
 unfoldable pub rank_of : List Known → Item → ℕ
 rank_of earlier (Function at name params body) = called earlier body + 1
 rank_of earlier (Program at name params decls body result) = max (called_by_all earlier body.items)
@@ -324,7 +324,7 @@ command_faults earlier (Atomic lets) = let_faults (command_scope earlier) lets.i
 command_faults earlier (Explain value) = faults (command_scope earlier) no_name value
 command_faults earlier _ = []
 
--- the faults of an item behind earlier ones
+-- the faults of an item, given the earlier ones
 unfoldable pub item_faults : List Known → Item → List TypeFault
 item_faults earlier (Function at name params body) =
     head_faults earlier at name params.items (rank_of earlier (Function at name params body))
@@ -336,7 +336,7 @@ item_faults earlier (Program at name params decls body result) =
     ++ (faults_by scope no_name body.items ++ faults scope (assigned_by no_name body.items) result))
 item_faults earlier (COMMAND command) = command_faults earlier command
 
--- the definitions up to and with an item
+-- the definitions up to and including an item
 unfoldable pub known_with : List Known → Item → List Known
 known_with earlier (Function at name params body) = earlier
     ++ record { name = name; takes = length params.items; rank = rank_of earlier (Function at name params body) } ∷ []
@@ -348,7 +348,7 @@ known_with earlier (Program at name params decls body result) = earlier
     } ∷ []
 known_with earlier (COMMAND command) = earlier
 
--- the faults of items behind earlier ones
+-- the faults of items, given the earlier ones
 abbrev pub items_faults : List Known → List Item → List TypeFault
 items_faults earlier [] = []
 items_faults earlier (item ∷ items) = item_faults earlier item ++ items_faults (known_with earlier item) items
@@ -367,7 +367,7 @@ place_of (NotTest at shape) = at
 place_of (Twice at name) = at
 place_of NoMemory = record { line = 0; column = 0 }
 
--- the number of a fault's kind, by which faults at one place are ordered
+-- the number of a fault's kind, which orders faults at one place
 abbrev pub number_of : TypeFault → ℕ
 number_of (Unknown at name) = 1
 number_of (Arity at name takes given) = 2
@@ -388,7 +388,7 @@ precedes f g =
     nat_lt p.line q.line || ((p.line == q.line) && (nat_lt p.column q.column
     || ((p.column == q.column) && nat_lt (number_of f) (number_of g))))
 
--- the first of two faults, and the left one where none precedes
+-- the first of two faults; the left one if neither precedes the other
 abbrev pub first_of_two : TypeFault → Option TypeFault → TypeFault
 first_of_two f None = f
 first_of_two f (Some g) = cond (precedes g f) g f
@@ -398,6 +398,6 @@ abbrev pub first_fault : List TypeFault → Option TypeFault
 first_fault [] = None
 first_fault (f ∷ fs) = Some (first_of_two f (first_fault fs))
 
--- the fault of a script: the first in the text, and at one place the one of the least number
+-- the fault of a script that is reported: the first in the text, and at one place the one with the least number
 unfoldable pub flaw : Script → Option TypeFault
 flaw script = first_fault (items_faults [] script.items.items)

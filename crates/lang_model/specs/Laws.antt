@@ -3,7 +3,7 @@ use Rattle.std.specs.Prelude.{◌≡◌, ◌≢◌, ℕ, List, Some, None}
 use Rattle.rel_model.specs.Relation.{Relation}
 use Rattle.lang_model.specs.State.{State, nothing, assigned, removed}
 
--- no name has a relation at first; assigning a name, or taking it away, changes that name alone
+-- at first no name has a relation; assigning or removing a name changes that name only
 pub record StateLaws : Type 0 where
   pub at_first : (n : List ℕ) → nothing n ≡ None
   pub assigned_name : (name : List ℕ) (r : Relation) (state : State) → assigned name r state name ≡ Some r

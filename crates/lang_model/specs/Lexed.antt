@@ -1,4 +1,4 @@
--- The tokens with which a text begins, up to its end or to the first byte, number, word or file text that is no token.
+-- The tokens at the start of a text, up to its end or to the first byte, number, word or file text that is not a token.
 use Rattle.std.specs.Prelude.{◌==◌, ◌&&◌, ◌-◌, not, nat_lt, ℕ, Bool, cond, List, [], ◌∷◌, drop, zero, suc}
 use Rattle.std.specs.Option.{option_map_or}
 use Rattle.lang_model.specs.Limits.{file_text_limit}
@@ -10,7 +10,7 @@ use Rattle.lang_model.specs.declared.token.Kind.{Kind}
 use Rattle.lang_model.specs.declared.token.Token.{Token}
 use Rattle.lang_model.specs.Tokens.{is_allowed, is_blank, is_digit, is_letter, is_file_byte, run_length, kind_at, behind, behind_all}
 
--- where a text ends, or the fault at which its tokens end before that
+-- the end of the text, or the fault that ends the tokens earlier
 pub data Ending : Type 0 where
   EndsAt : Place → Ending
   Broken : ParseFault → Ending
@@ -24,25 +24,25 @@ pub record Lexed : Type 0 where
 abbrev pub is_comment_byte : ℕ → Bool
 is_comment_byte b = is_allowed b && not (b == 10)
 
--- The fault of a file text within its limit, by the bytes behind these: its end is missing, it is empty, or a
--- byte in it is not allowed.
+-- The fault of a file text within its limit, given the bytes that follow: its closing quote is missing, it is empty, or
+-- it has a byte that is not allowed.
 abbrev pub text_fault : Place → Place → List ℕ → ParseFault
 text_fault quote there [] = Expected there (TOKEN (34 ∷ []))
 text_fault quote there (b ∷ bs) = cond (b == 34) (Expected quote FileText)
     (cond (is_allowed b) (Expected there (TOKEN (34 ∷ []))) (Byte there b))
 
--- the fault of a file text that is none, by the place of its first quote and the bytes behind it
+-- the fault of an invalid file text, given the place of its first quote and the bytes after it
 unfoldable pub file_fault : Place → List ℕ → ParseFault
 file_fault quote bs =
     let n = run_length is_file_byte bs in cond (nat_lt file_text_limit n) (NameTooLong quote)
     (text_fault quote (behind_all n (behind 34 quote) bs) (drop n bs))
 
--- the fault of a byte that begins no token, with the bytes behind it
+-- the fault of a byte that begins no token, given the bytes after it
 unfoldable pub token_fault : Place → ℕ → List ℕ → ParseFault
 token_fault at b bs = cond (is_letter b) (NameTooLong at)
     (cond (is_digit b) (NumberTooLarge at) (cond (b == 34) (file_fault at bs) (Byte at b)))
 
--- a token before the others
+-- a token in front of the others
 abbrev pub before : Place → Kind → Lexed → Lexed
 before at kind found = record { tokens = record { at = at; kind = kind } ∷ found.tokens; ending = found.ending }
 
@@ -50,7 +50,7 @@ before at kind found = record { tokens = record { at = at; kind = kind } ∷ fou
 abbrev pub broken : ParseFault → Lexed
 broken fault = record { tokens = []; ending = Broken fault }
 
--- the same from a place on, behind as many bytes as the last token still has
+-- the same from a place on, after skipping the bytes that the last token still has
 abbrev pub lexed_from : ℕ → Place → List ℕ → Lexed
 lexed_from k at [] = record { tokens = []; ending = EndsAt at }
 lexed_from (suc k) at (b ∷ bs) = lexed_from k (behind b at) bs

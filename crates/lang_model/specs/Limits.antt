@@ -1,15 +1,15 @@
 -- The limits of texts.
 use Rattle.std.specs.Prelude.{◌^◌, ℕ}
 
--- how many bytes a script has at most
+-- the greatest length of a script, in bytes
 abbrev pub script_limit : ℕ
 script_limit = 2 ^ 20
 
--- how many bytes a name has at most
+-- the greatest length of a name, in bytes
 abbrev pub name_limit : ℕ
 name_limit = 64
 
--- how many bytes the text of a file's name has at most
+-- the greatest length of a file's name in a script, in bytes
 abbrev pub file_text_limit : ℕ
 file_text_limit = 255
 
@@ -17,7 +17,7 @@ file_text_limit = 255
 abbrev pub nesting_limit : ℕ
 nesting_limit = 40
 
--- how many more parameters, or arguments, may stand behind the first
+-- how many more parameters, or arguments, may follow the first
 abbrev pub more_limit : ℕ
 more_limit = 15
 
@@ -25,6 +25,6 @@ more_limit = 15
 abbrev pub rank_limit : ℕ
 rank_limit = 16
 
--- how many operands a chain has at most of which those that stand twice are looked for
+-- the greatest number of operands of a chain in which repeated operands are looked for
 abbrev pub compared_limit : ℕ
 compared_limit = 64

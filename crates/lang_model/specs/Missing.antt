@@ -1,17 +1,17 @@
--- The leftmost name of an expression that has no relation.
+-- The leftmost name of an expression that has no relation in a state.
 use Rattle.std.specs.Prelude.{ℕ, cond, List, Option, Some, None, is_some}
 use Rattle.lang_model.specs.declared.syntax.Place.{Place}
 use Rattle.lang_model.specs.declared.syntax.Expr.{Expr, Ref, Call', Base', Inject, Pair', Minus', Turned', Chain', Row_of-Expr, end_of-Expr, more_of-Expr, Row_of-Link, end_of-Link, more_of-Link}
 use Rattle.lang_model.specs.State.{State}
 
--- the first of two that is there
+-- the first of two that is present
 abbrev pub first_of_both : {T : Type 0} → Option T → Option T → Option T
 first_of_both None y = y
 first_of_both (Some x) y = Some x
 
 -- the leftmost relation name that the state lacks, and its place
 abbrev mutual
-  -- that of an expression
+  -- that of one expression
   pub missing : State → Expr → Option (Place × List ℕ)
   missing state (Ref at name) = cond (is_some (state name)) None (Some (at, name))
   missing state (Call' at name shape args) = missing_in state args

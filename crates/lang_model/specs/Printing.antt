@@ -1,4 +1,4 @@
--- How an expression is written: without blanks, and with parentheses only where a looser operand needs them.
+-- How an expression is written: without blanks, and with parentheses only around operands that bind more loosely.
 use Rattle.std.specs.Prelude.{◌++◌, ℕ, Bool, cond, List, [], ◌∷◌, nat_le, nat_lt, replicate}
 use Rattle.lang_model.specs.declared.syntax.Op2.{Op2}
 use Rattle.lang_model.specs.declared.syntax.Op2.TheVariants.{Or, And, Times, Under, Over}
@@ -16,30 +16,30 @@ sign_of Times = 42
 sign_of Under = 92
 sign_of Over = 47
 
--- how tightly the chains of an operator hold together
+-- how tightly chains of an operator bind
 abbrev pub chain_rank : Op2 → ℕ
 chain_rank Or = 0
 chain_rank And = 1
 chain_rank _ = 2
 
--- the same of a chain, by its first link
+-- the same for a chain, by its first link
 abbrev pub links_rank_tree : Branches → ℕ
 links_rank_tree NoBranch = 2
 links_rank_tree (MoreBranches at op right links) = chain_rank op
 
--- how tightly a tree holds together: chains by their level, then a prefix -, then signs ^, then all others
+-- how tightly a tree binds: chains by their level, then a prefix -, then signs ^, then everything else
 abbrev pub rank_tree : Tree → ℕ
 rank_tree (ChainTree first links) = links_rank_tree links
 rank_tree (MinusTree at of) = 3
 rank_tree (TurnedTree at of times) = 4
 rank_tree _ = 5
 
--- a text in parentheses, where they are needed
+-- a text, in parentheses if they are needed
 abbrev pub within : Bool → List ℕ → List ℕ
 within needed text = cond needed (40 ∷ text ++ 41 ∷ []) text
 
--- The text of a tree. An operand of a chain stands in parentheses where it is a chain of the same or a looser level,
--- that of - where it is a chain, and that of ^ where it is a chain or has a - or a ^ in front.
+-- The text of a tree. An operand of a chain is in parentheses if it is a chain of the same or a looser level, that of -
+-- if it is a chain, and that of ^ if it is a chain or has a - or a ^ itself.
 abbrev mutual
   -- the text of an expression
   pub printed_tree : Tree → List ℕ
@@ -53,27 +53,27 @@ abbrev mutual
   printed_tree (ChainTree first links) = within (nat_le (rank_tree first) (links_rank_tree links)) (printed_tree first)
       ++ printed_branches (links_rank_tree links) links
 
-  -- arguments, with commas between them
+  -- the text of arguments, separated by commas
   pub printed_trees : Trees → List ℕ
   printed_trees NoTree = []
   printed_trees (MoreTrees t args) = printed_tree t ++ printed_more_trees args
 
-  -- further arguments, each behind a comma
+  -- the text of further arguments, each after a comma
   pub printed_more_trees : Trees → List ℕ
   printed_more_trees NoTree = []
   printed_more_trees (MoreTrees t args) = 44 ∷ printed_tree t ++ printed_more_trees args
 
-  -- the links of a chain of so loose operators
+  -- the text of the links of a chain whose operators bind this tightly
   pub printed_branches : ℕ → Branches → List ℕ
   printed_branches n NoBranch = []
   printed_branches n (MoreBranches at op right links) = sign_of op ∷ within (nat_le (rank_tree right) n)
       (printed_tree right) ++ printed_branches n links
 
--- how tightly an expression holds together
+-- how tightly an expression binds
 abbrev pub rank : Expr → ℕ
 rank e = rank_tree (tree_of e)
 
--- how tightly a chain with these links does
+-- how tightly a chain with these links binds
 abbrev pub links_rank : {m : _} → Row_of-Link m → ℕ
 links_rank links = links_rank_tree (branches_of links)
 
@@ -81,14 +81,14 @@ links_rank links = links_rank_tree (branches_of links)
 abbrev pub printed : Expr → List ℕ
 printed e = printed_tree (tree_of e)
 
--- the same of arguments, with commas between them
+-- the same for arguments, separated by commas
 abbrev pub printed_args : {m : _} → Row_of-Expr m → List ℕ
 printed_args args = printed_trees (trees_of args)
 
--- the same of further arguments, each behind a comma
+-- the same for further arguments, each after a comma
 abbrev pub printed_more : {m : _} → Row_of-Expr m → List ℕ
 printed_more args = printed_more_trees (trees_of args)
 
--- the same of the links of a chain of so loose operators
+-- the same for the links of a chain whose operators bind this tightly
 abbrev pub printed_links : ℕ → {m : _} → Row_of-Link m → List ℕ
 printed_links n links = printed_branches n (branches_of links)

@@ -1,5 +1,5 @@
--- Rewriting by laws of relation algebra: in which parts of an expression, by which rules, and in which order. Equality
--- of trees is up to places; new nodes have the place of the node that they replace.
+-- Rewriting by laws of relation algebra: in which parts of an expression, by which rules, and in which order. Trees are
+-- compared up to places; a new node takes the place of the node that it replaces.
 use Rattle.std.specs.Prelude.{◌==◌, ◌&&◌, ◌+◌, ◌%◌, nat_le, nat_lt, cond, zero, suc, ℕ, Bool, true, false, List, []}
 use Rattle.std.specs.Prelude.{◌∷◌, Option, Some, None, option_map}
 use Rattle.std.specs.List.{list_any}
@@ -16,13 +16,13 @@ use Rattle.lang_model.specs.Trees.{Tree, NameTree, CallTree, BaseTree, InjectTre
 use Rattle.lang_model.specs.Trees.{ChainTree, Trees, NoTree, MoreTrees, Branches, NoBranch, MoreBranches, nowhere}
 
 -- ---- parts that may be rewritten
--- whether a base name is that of the symmetric quotient
+-- whether a base name is the symmetric quotient
 abbrev pub is_quotient : Base → Bool
 is_quotient Syq = true
 is_quotient _ = false
 
--- whether a tree is calm: it has names, prefixes -, signs ^, chains and symmetric quotients alone, so that where its
--- types fit it has a value, whatever the turns
+-- whether a tree is calm: it consists of names, prefixes -, signs ^, chains and symmetric quotients only, so it has a
+-- value whenever its types fit, for any number of turns
 abbrev mutual
   -- a tree
   pub is_calm : Tree → Bool
@@ -46,15 +46,15 @@ abbrev mutual
   are_calm_along (MoreBranches at op right links) = is_calm right && are_calm_along links
 
 -- ---- equality up to places
--- whether two operators are one
+-- whether two operators are equal
 abbrev pub same_operator : Op2 → Op2 → Bool
 same_operator a b = sign_of a == sign_of b
 
--- whether two base names are one
+-- whether two base names are equal
 abbrev pub same_base : Base → Base → Bool
 same_base a b = same_text (base_text a) (base_text b)
 
--- whether two trees are one up to places
+-- whether two trees are equal up to places
 abbrev mutual
   -- two expressions
   pub same_tree : Tree → Tree → Bool
@@ -83,17 +83,17 @@ abbrev mutual
   same_branches _ _ = false
 
 -- ---- how a node is made
--- nothing of nothing, or what is made of something
+-- a partial function applied to an optional value
 abbrev pub where_some : {A B : Type 0} → Option A → (A → Option B) → Option B
 where_some None f = None
 where_some (Some x) f = f x
 
--- the operand of a prefix -
+-- the operand of a prefix -, if the tree is one
 abbrev pub negated : Tree → Option Tree
 negated (MinusTree at of) = Some of
 negated _ = None
 
--- the operand of a single sign ^
+-- the operand of a single sign ^, if the tree is one
 abbrev pub turned_once : Tree → Option Tree
 turned_once (TurnedTree at of times) = cond (times == 1) (Some of) None
 turned_once _ = None
@@ -104,13 +104,13 @@ pub record Two : Type 0 where
   pub left : Tree
   pub right : Tree
 
--- those of a chain of exactly two
+-- the operands of a chain of exactly two
 abbrev pub two_operands : Tree → Option Two
 two_operands (ChainTree first (MoreBranches at op right NoBranch)) =
     Some (record { op = op; left = first; right = right })
 two_operands _ = None
 
--- those of a chain of exactly two with this operator
+-- the operands of a chain of exactly two with this operator
 abbrev pub operands_of : Op2 → Tree → Option (Tree × Tree)
 operands_of op t = where_some (two_operands t) (λ x. cond (same_operator x.op op) (Some (x.left, x.right)) None)
 
@@ -118,12 +118,12 @@ operands_of op t = where_some (two_operands t) (λ x. cond (same_operator x.op o
 abbrev pub two : Place → Tree → Op2 → Tree → Tree
 two at left op right = ChainTree left (MoreBranches at op right NoBranch)
 
--- a chain, or its one operand alone
+-- a chain, or its only operand if it has no links
 abbrev pub chain_of : Tree → Branches → Tree
 chain_of first NoBranch = first
 chain_of first (MoreBranches at op right links) = ChainTree first (MoreBranches at op right links)
 
--- the place of a node: that of its name or sign, and of a chain that of its first operator
+-- the place of a node: that of its name or sign; for a chain, that of its first operator
 abbrev pub place_of_node : Tree → Place
 place_of_node (NameTree at name) = at
 place_of_node (CallTree at name args) = at
@@ -142,7 +142,7 @@ is_lattice Or = true
 is_lattice And = true
 is_lattice _ = false
 
--- the other of | and &
+-- the dual operator: | for &, & for |
 abbrev pub dual : Op2 → Op2
 dual Or = And
 dual And = Or
@@ -155,7 +155,7 @@ abbrev pub all_links : Op2 → Branches → Bool
 all_links op NoBranch = true
 all_links op (MoreBranches at own right links) = same_operator own op && all_links op links
 
--- whether a chain is of | alone, or of & alone
+-- whether all operators of a chain are |, or all are &
 abbrev pub is_of_one_sign : Branches → Bool
 is_of_one_sign NoBranch = false
 is_of_one_sign (MoreBranches at op right links) = is_lattice op && all_links op links
@@ -165,14 +165,14 @@ abbrev pub link_count : Branches → ℕ
 link_count NoBranch = 0
 link_count (MoreBranches at op right links) = link_count links + 1
 
--- the links without those whose operand equals one before it
+-- the links without those whose operand equals an earlier one
 abbrev pub without_repeats : List Tree → Branches → Branches
 without_repeats before NoBranch = NoBranch
 without_repeats before (MoreBranches at op right links) =
     cond (list_any (λ t. same_tree t right) before) (without_repeats before links)
     (MoreBranches at op right (without_repeats (right ∷ before) links))
 
--- a chain without the operands that equal an earlier one, where there are such
+-- a chain without the operands that equal an earlier one, if there are any
 abbrev pub shortened : Tree → Branches → Branches → Option Tree
 shortened first links kept =
     cond (is_of_one_sign links
@@ -184,17 +184,17 @@ shortened first links kept =
 abbrev pub double_complement : Tree → Option Tree
 double_complement t = where_some (negated t) negated
 
--- 2. `R` turned more than once is `R` where the signs are even, and else `R^`
+-- 2. `R` turned more than once is `R` if the number of signs is even, and `R^` otherwise
 abbrev pub many_turns : Tree → Option Tree
 many_turns (TurnedTree at of times) = cond (nat_le 2 times) (Some (cond (times % 2 == 0) of (TurnedTree at of 1))) None
 many_turns _ = None
 
--- 3. turned and turned again is turned as often as both together
+-- 3. turning twice in succession adds up the signs
 abbrev pub turned_again : Tree → Option Tree
 turned_again (TurnedTree at (TurnedTree there of less) times) = Some (TurnedTree at of (times + less))
 turned_again _ = None
 
--- 4. in a chain of | alone, or of & alone, no operand stands twice
+-- 4. in a chain of | only, or of & only, repeated operands are dropped
 abbrev pub repeated_operands : Tree → Option Tree
 repeated_operands (ChainTree first links) = shortened first links (without_repeats (first ∷ []) links)
 repeated_operands _ = None
@@ -217,7 +217,7 @@ turned_product t =
     where_some (operands_of Times t) (λ x. where_some (turned_once x.0) (λ r. where_some (turned_once x.1)
     (λ s. Some (TurnedTree (place_of_node t) (two (place_of_node t) s Times r) 1))))
 
--- 8. `R^|S^` is `(R|S)^`, and the same of &
+-- 8. `R^|S^` is `(R|S)^`, and the same for &
 abbrev pub turned_operands : Tree → Option Tree
 turned_operands t =
     where_some (two_operands t)
@@ -231,7 +231,7 @@ negated_operands t =
     (λ x. cond (is_lattice x.op) (where_some (negated x.left) (λ r. where_some (negated x.right)
     (λ s. Some (MinusTree (place_of_node t) (two (place_of_node t) r (dual x.op) s))))) None)
 
--- 10. `(R\S)&R^/S^`, with the same R and S twice, is `syq(R,S)`
+-- 10. `(R\S)&R^/S^`, with the same R and S in both, is `syq(R,S)`
 abbrev pub to_quotient : Tree → Option Tree
 to_quotient t =
     where_some (operands_of And t) (λ x. where_some (operands_of Under x.0) (λ y. where_some (operands_of Over x.1)
@@ -239,12 +239,12 @@ to_quotient t =
     (λ s. cond (same_tree y.0 r && same_tree y.1 s)
     (Some (BaseTree (place_of_node t) Syq (MoreTrees y.0 (MoreTrees y.1 NoTree)))) None)))))
 
--- a rule's number and its result, where it applies, and else what further rules give
+-- a rule's number and its result if it applies, and otherwise what further rules give
 abbrev pub numbered : ℕ → Option Tree → Option (ℕ × Tree) → Option (ℕ × Tree)
 numbered n (Some t) others = Some (n, t)
 numbered n None others = others
 
--- the rule of the least number that applies to a node, with its result
+-- the rule with the least number that applies to a node, with its result
 abbrev pub least_rule : Tree → Option (ℕ × Tree)
 least_rule t =
     numbered 1 (double_complement t) (numbered 2 (many_turns t) (numbered 3 (turned_again t)
@@ -252,7 +252,7 @@ least_rule t =
     (numbered 7 (turned_product t) (numbered 8 (turned_operands t) (numbered 9 (negated_operands t)
     (numbered 10 (to_quotient t) None)))))))))
 
--- what the rule of a number makes of a node, where it applies
+-- what the rule with this number makes of a node, if it applies
 unfoldable pub result_of_rule : ℕ → Tree → Option Tree
 result_of_rule n t =
     cond (n == 1) (double_complement t) (cond (n == 2) (many_turns t) (cond (n == 3) (turned_again t)
@@ -272,7 +272,7 @@ abbrev pub is_result : Tree → Option Tree → Bool
 is_result after None = false
 is_result after (Some t) = same_tree t after
 
--- whether a step is one: the node is calm, and the rule of its number makes of it what stands after it
+-- whether a step is valid: its node is calm, and its rule makes of it the node after the step
 abbrev pub is_step : Step → Bool
 is_step s = is_calm s.before && is_result s.after (result_of_rule s.rule s.before)
 
@@ -280,12 +280,13 @@ is_step s = is_calm s.before && is_result s.after (result_of_rule s.rule s.befor
 abbrev pub here : Tree → Option (Step × Tree)
 here t = cond (is_calm t) (option_map (λ x. (record { rule = x.0; before = t; after = x.1 }, x.1)) (least_rule t)) None
 
--- a step in a part, with the whole around it, or else another
+-- a step in a part, with the whole rebuilt around it, or else another
 abbrev pub inside : {A B : Type 0} → (A → B) → Option (Step × A) → Option (Step × B) → Option (Step × B)
 inside whole (Some x) other = Some (x.0, whole x.1)
 inside whole None other = other
 
--- the next step, with the tree behind it: at the first node with a rule, operands before their node and from the left
+-- the next step and the tree after it: the step is at the first node to which a rule applies, operands before their
+-- node and from left to right
 abbrev mutual
   -- that of an expression
   pub next_step : Tree → Option (Step × Tree)
@@ -316,9 +317,9 @@ abbrev mutual
       inside (λ t. MoreBranches at op t links) (next_step right)
       (inside (MoreBranches at op right) (next_along links) None)
 
--- how many nodes a tree has, and signs ^ together; each step lowers it
+-- the weight of a tree: how many nodes and signs ^ it has together; each step lowers it
 abbrev mutual
-  -- those of an expression
+  -- that of an expression
   pub weight : Tree → ℕ
   weight (NameTree at name) = 1
   weight (CallTree at name args) = weight_in args + 1
@@ -329,40 +330,40 @@ abbrev mutual
   weight (TurnedTree at of times) = weight of + times + 1
   weight (ChainTree first links) = weight first + weight_along links + 1
 
-  -- those of arguments
+  -- the sum for arguments
   pub weight_in : Trees → ℕ
   weight_in NoTree = 0
   weight_in (MoreTrees t args) = weight t + weight_in args
 
-  -- those of the operands of links
+  -- the sum for the operands of links
   pub weight_along : Branches → ℕ
   weight_along NoBranch = 0
   weight_along (MoreBranches at op right links) = weight right + weight_along links
 
--- a step before those that come behind it
+-- a step, and then those that come after it
 abbrev pub steps_behind : Option (Step × Tree) → (Tree → List Step) → List Step
 steps_behind None more = []
 steps_behind (Some x) more = x.0 ∷ more x.1
 
--- so many steps at most
+-- at most k steps
 abbrev pub steps_within : ℕ → Tree → List Step
 steps_within zero t = []
 steps_within (suc k) t = steps_behind (next_step t) (steps_within k)
 
--- a tree behind a step, or the tree itself where there is none
+-- the tree after a step, or the tree itself if there is none
 abbrev pub calm_behind : Tree → Option (Step × Tree) → (Tree → Tree) → Tree
 calm_behind t None more = t
 calm_behind t (Some x) more = more x.1
 
--- the tree behind so many steps at most
+-- the tree after at most k steps
 abbrev pub calm_within : ℕ → Tree → Tree
 calm_within zero t = t
 calm_within (suc k) t = calm_behind t (next_step t) (calm_within k)
 
--- the steps of a tree, until there is none: no more than its weight
+-- the steps of a tree until no rule applies: at most as many as its weight
 unfoldable pub steps_of : Tree → List Step
 steps_of t = steps_within (weight t) t
 
--- the tree behind all its steps
+-- the tree after all its steps
 unfoldable pub calmed : Tree → Tree
 calmed t = calm_within (weight t) t

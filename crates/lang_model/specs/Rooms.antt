@@ -1,6 +1,6 @@
--- How many nodes an expression counts for each node that its evaluation brings past its tests: bounds on what single
--- operators make, with room for a worker that goes through a relation in other ways. The height of such a node is the
--- least h with 2 ^ h at least every size of its operands and of its result. No bound here depends on a worker's leaves.
+-- How many nodes an expression counts for each node of it that passes its tests: bounds on what single operators make,
+-- wide enough for a worker that computes in another way. In these bounds h is the least height with 2 ^ h at least
+-- every size of the operands and of the result. No bound depends on a worker's leaves.
 use Rattle.std.specs.Prelude.{ℕ}
 use Rattle.lang_model.specs.declared.syntax.Op2.{Op2}
 use Rattle.lang_model.specs.declared.syntax.Op2.TheVariants.{Or, And, Times, Under, Over}

@@ -1,5 +1,5 @@
--- The static types of expressions and statements, or the first fault, in the order of evaluation, each statement once
--- in the order of the text. It recurses as the meaning does, but for turns.
+-- The static types of expressions and statements, or the first fault in the order of evaluation, where each statement
+-- is visited once, in the order of the text. The recursion is that of the meaning, without turns.
 use Rattle.std.specs.Prelude.{◌==◌, ◌&&◌, cond, zero, suc, ℕ, Bool, true, false, List, [], ◌∷◌, ◌++◌, length, codes, Option, Some, None}
 use Rattle.lang_model.specs.declared.syntax.Place.{Place}
 use Rattle.lang_model.specs.declared.syntax.Base.{Base}
@@ -33,33 +33,33 @@ Types = List ℕ → Option StaticShape
 unfoldable pub no_types : Types
 no_types name = None
 
--- this name has this type, and all others what they had
+-- this name has this type, and all other names keep theirs
 unfoldable pub typed_as : List ℕ → StaticShape → Types → Types
 typed_as name s types = λ n. cond (same_text name n) (Some s) (types n)
 
--- what an expression stands in: the types of calls there, and the declarations of its program
+-- the surroundings of an expression: the types of calls there, and the declarations of its program
 pub record AroundTypes : Type 0 where
   pub calls : Place → List ℕ → List StaticShape → Typed
   pub decls : List Decl
 
--- the type of a name, where it has one
+-- the type of a name, if it has one
 abbrev pub typed_name : Place → List ℕ → Option StaticShape → Typed
 typed_name at name None = Misfit (Unknown at name)
 typed_name at name (Some s) = Fits s
 
--- a base call of these operands; no text spells one of none or of more than two
+-- a base call of these operands; no text spells one with none or with more than two
 unfoldable pub typed_based : Place → Base → List StaticShape → Typed
 typed_based at base [] = Fits (known 0 0)
 typed_based at base (s ∷ []) = typed_base at base s
 typed_based at base (s ∷ t ∷ []) = typed_base_of_two at base s t
 typed_based at base (s ∷ t ∷ u ∷ us) = Fits (known 0 0)
 
--- a domain operator, where both names of its domain have types: their rows are the sizes of the two domains
+-- a domain operator, if both names of its domain have types: their numbers of rows are the sizes of the two domains
 abbrev pub typed_injected_of : Place → Base → Option StaticShape → Option StaticShape → Typed
 typed_injected_of at base (Some a) (Some b) = Fits (type_of_domain base a.rows b.rows)
 typed_injected_of at base _ _ = Misfit (Unknown at (domain_operator_text base))
 
--- and where the domain is declared
+-- the same if the domain is declared
 abbrev pub typed_injected : Types → Place → Base → Option (List ℕ × List ℕ) → Typed
 typed_injected types at base None = Misfit (Unknown at (domain_operator_text base))
 typed_injected types at base (Some names) = typed_injected_of at base (types names.0) (types names.1)
@@ -82,13 +82,13 @@ abbrev mutual
   shape_tree around types (ChainTree first links) =
       passing (shape_tree around types first) (λ t. shape_branches around types t links)
 
-  -- those of arguments; those so far are given
+  -- the types of arguments, after those already found
   pub shape_trees : AroundTypes → Types → List StaticShape → Trees → Passed (List StaticShape)
   shape_trees around types ss NoTree = Fits ss
   shape_trees around types ss (MoreTrees t rest) =
       passing (shape_tree around types t) (λ s. shape_trees around types (ss ++ s ∷ []) rest)
 
-  -- that of a chain, whose type so far is given
+  -- the type of a chain, after the type so far
   pub shape_branches : AroundTypes → Types → StaticShape → Branches → Typed
   shape_branches around types s NoBranch = Fits s
   shape_branches around types s (MoreBranches at op right rest) =
@@ -99,22 +99,22 @@ abbrev mutual
 abbrev pub shape : AroundTypes → Types → Expr → Typed
 shape around types e = shape_tree around types (tree_of e)
 
--- the same of arguments
+-- the same for arguments
 abbrev pub shapes : AroundTypes → Types → List StaticShape → {m : _} → Row_of-Expr m → Passed (List StaticShape)
 shapes around types ss args = shape_trees around types ss (trees_of args)
 
--- the same of the links of a chain
+-- the same for the links of a chain
 abbrev pub shape_along : AroundTypes → Types → StaticShape → {m : _} → Row_of-Link m → Typed
 shape_along around types s rest = shape_branches around types s (branches_of rest)
 
 -- ---- statements
--- a size that the type of a variable knows is known and equal in that of a later value
+-- if a variable's size is known, a later value must be known to have the same
 abbrev pub keeps_size : Option ℕ → Option ℕ → Bool
 keeps_size None n = true
 keeps_size (Some m) None = false
 keeps_size (Some m) (Some n) = m == n
 
--- the types behind an assignment: the first in the text decides, and a later one fits it
+-- the types after an assignment: the first in the text fixes the type of the variable, and later ones must fit it
 abbrev pub set_type : Place → List ℕ → StaticShape → Types → Option StaticShape → Passed Types
 set_type at name s types None = Fits (typed_as name s types)
 set_type at name s types (Some t) =
@@ -126,7 +126,7 @@ shape_test around at test types = passing (shape around types test) (λ s. typed
 
 -- how statements change the types of variables
 abbrev mutual
-  -- the types behind a statement
+  -- the types after a statement
   pub typed_behind : AroundTypes → Stmt → Types → Passed Types
   typed_behind around (Set at name value) types =
       passing (shape around types value) (λ s. set_type at name s types (types name))
@@ -136,13 +136,13 @@ abbrev mutual
       passing (shape_test around at test types)
       (λ u. passing (typed_within around first types) (λ more. typed_within around second more))
 
-  -- those behind a list of statements
+  -- the types after a row of statements
   pub typed_within : AroundTypes → {m : _} → Row_of-Stmt m → Types → Passed Types
   typed_within around end_of-Stmt types = Fits types
   typed_within around (more_of-Stmt s rest) types =
       passing (typed_behind around s types) (λ more. typed_within around rest more)
 
--- the same of a list of statements
+-- the types after a list of statements
 abbrev pub typed_by : AroundTypes → List Stmt → Types → Passed Types
 typed_by around [] types = Fits types
 typed_by around (s ∷ ss) types = passing (typed_behind around s types) (λ more. typed_by around ss more)
@@ -152,16 +152,16 @@ abbrev pub types_first : List ℕ → (List StaticShape → Types) → List Stat
 types_first p rest [] = no_types
 types_first p rest (s ∷ ss) = typed_as p s (rest ss)
 
--- parameters with the types of the arguments
+-- parameters bound to the types of the arguments
 abbrev pub types_bound : List (List ℕ) → List StaticShape → Types
 types_bound [] = λ ss. no_types
 types_bound (p ∷ ps) = types_first p (types_bound ps)
 
--- a definition in which calls have these types, with these declarations
+-- the surroundings inside a definition, in which calls have these types, with these declarations
 abbrev pub around_types : (Place → List ℕ → List StaticShape → Typed) → List Decl → AroundTypes
 around_types calls decls = record { calls = calls; decls = decls }
 
--- the type of a definition whose arguments have these types: of a program that of its result behind its statements
+-- the type of a definition whose arguments have these types; for a program, the type of its result after its statements
 abbrev pub type_of_body : (Place → List ℕ → List StaticShape → Typed) → List StaticShape → Item → Typed
 type_of_body calls ss (Function at name params body) = shape (around_types calls []) (types_bound params.items ss) body
 type_of_body calls ss (Program at name params decls body result) =
@@ -169,7 +169,7 @@ type_of_body calls ss (Program at name params decls body result) =
     (λ types. shape (around_types calls decls.items) types result)
 type_of_body calls ss (COMMAND command) = Fits (known 0 0)
 
--- a call of a definition that takes as many arguments
+-- a call of a definition; it must take this number of arguments
 abbrev pub type_of_called :
     (Place → List ℕ → List StaticShape → Typed) → Place → List ℕ → Option Item → List StaticShape → Typed
 type_of_called calls at name None ss = Misfit (Unknown at name)
@@ -177,7 +177,7 @@ type_of_called calls at name (Some item) ss =
     cond (takes_arguments item == length ss) (type_of_body calls ss item)
     (Misfit (Arity at name (takes_arguments item) (length ss)))
 
--- the types of calls where at most so many definitions may stand in one another
+-- the types of calls if at most this many definitions may nest
 abbrev pub types_of_calls : List Item → ℕ → Place → List ℕ → List StaticShape → Typed
 types_of_calls items zero at name ss = Misfit (Rank at name)
 types_of_calls items (suc rank) at name ss =

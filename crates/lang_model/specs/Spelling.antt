@@ -1,5 +1,5 @@
--- Which tokens spell a tree of the whole language, one case for each line of the grammar. Each relation has the
--- tokens before and after.
+-- Which tokens spell a tree of the whole language, one case for each line of the grammar. Each relation has as
+-- arguments the tokens before and after.
 use Rattle.std.specs.Prelude.{◌≡◌, ◌≤◌, ◌<◌, ℕ, Bool, cond, List, [], ◌∷◌, length, suc, Some}
 use Rattle.lang_model.specs.declared.syntax.Place.{Place}
 use Rattle.lang_model.specs.declared.syntax.Column.{Column}
@@ -96,8 +96,8 @@ IsOperatorOf ProdLevel Under sign = sign ≡ 92
 IsOperatorOf ProdLevel Over sign = sign ≡ 47
 IsOperatorOf _ _ sign = ⊥
 
--- The tokens of an expression at a level of the grammar, where so many constructs are open around it; those of
--- further arguments, at most so many; and those of the links of a chain.
+-- The tokens of an expression at a level of the grammar, given how many constructs are open around it; those of further
+-- arguments, with a bound on their number; and those of the links of a chain.
 mutual
   -- an expression
   pub data Spelled : Level → ℕ → Expr → List Token → List Token → Type 0 where
@@ -156,7 +156,7 @@ mutual
         → Linked l d xs after rest → Linked l d (x ∷ xs) tokens rest
 
 -- ---- statements
--- The tokens of a statement where so many constructs are open around it, and of a list of statements.
+-- The tokens of a statement, given how many constructs are open around it, and those of a list of statements.
 mutual
   -- a statement
   pub data SpelledStmt : ℕ → Stmt → List Token → List Token → Type 0 where
@@ -194,7 +194,7 @@ SpellsMoreNames [] tokens rest = rest ≡ tokens
 SpellsMoreNames (name ∷ names) tokens rest = (mid after : List Token) × Takes (Sign 44) tokens mid
     × Takes (Word name) mid after × SpellsMoreNames names after rest
 
--- NAME { "," NAME }, with a bound on the names behind the first
+-- NAME { "," NAME }, with a bound on the names after the first
 abbrev pub SpellsParams : List (List ℕ) → List Token → List Token → Type 0
 SpellsParams [] tokens rest = ⊥
 SpellsParams (name ∷ names) tokens rest = (mid : List Token) × Takes (Word name) tokens mid

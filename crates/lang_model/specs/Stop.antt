@@ -1,5 +1,5 @@
--- Where a text goes wrong: a recogniser of the grammar over the parts that are still to come, from the left, without
--- trees and without looking ahead.
+-- Where a text goes wrong: a recogniser of the grammar over a list of parts still to come, from left to right, without
+-- trees and without lookahead.
 use Rattle.std.specs.Prelude.{◌==◌, ◌++◌, ℕ, Bool, true, false, cond, List, [], ◌∷◌, Option, Some, None, option_map, unwrap_or, nat_lt, codes, zero, suc}
 use Rattle.lang_model.specs.declared.faults.ParseFault.{ParseFault}
 use Rattle.lang_model.specs.declared.faults.ParseFault.TheVariants.{Expected, TooDeep}
@@ -23,8 +23,8 @@ use Rattle.lang_model.specs.BaseNames.{Form, TakesOne, TakesTwo, TakesDomain, fo
 use Rattle.lang_model.specs.Spelling.{Level, OrLevel, AndLevel, ProdLevel, UnaryLevel, PostLevel, PrimLevel, tighter}
 use Rattle.lang_model.specs.Lexed.{Ending, EndsAt, Broken, lexed_of}
 
--- Parts of the grammar. A number behind an expression, a statement or a sign that opens a construct says how many
--- constructs are open around it; one behind further names or arguments, how many may still come.
+-- Parts of the grammar. The number after an expression, a statement or a sign that opens a construct is how many
+-- constructs are open around it; the number after further names or arguments is how many may still come.
 pub data Part : Type 0 where
   NamePart : Part
   NumberPart : Part
@@ -55,8 +55,8 @@ pub data Part : Type 0 where
   MoreLets : Part
   ItemsPart : Part
 
--- what a part does with a token: the token doesn't begin it; another word is expected in its place; the token opens
--- too many constructs; or these parts are to come behind it
+-- what a part does with a token: the token does not begin the part; another word is expected in its place; the token
+-- opens one construct too many; or these parts have to follow it
 pub data Step : Type 0 where
   NotBegun : Step
   Instead : What → Step
@@ -75,15 +75,15 @@ is_operator AndLevel kind = is_sign 38 kind
 is_operator ProdLevel kind = cond (is_sign 42 kind) true (cond (is_sign 92 kind) true (is_sign 47 kind))
 is_operator _ kind = false
 
--- these parts are to come where the test passes
+-- these parts have to follow if the test passes
 abbrev pub where_it : Bool → List Part → Step
 where_it test parts = cond test (Behind parts) NotBegun
 
--- these parts are to come behind a token that opens one more construct
+-- these parts have to follow a token that opens one more construct
 abbrev pub opening : ℕ → List Part → Step
 opening d parts = cond (nat_lt d nesting_limit) (Behind parts) Deeper
 
--- further parts behind those that are to come
+-- further parts after those that have to follow
 abbrev pub followed : List Part → Step → Step
 followed more NotBegun = NotBegun
 followed more (Instead what) = Instead what
@@ -99,14 +99,14 @@ from_one (suc n) parts = Behind parts
 abbrev pub row_parts : List Part
 row_parts = FromOne ∷ SignPart 58 ∷ FromOne ∷ MoreColumns ∷ []
 
--- what stands behind a base name or a domain operator
+-- what follows a base name or a domain operator
 abbrev pub form_parts : Form → ℕ → List Part
 form_parts TakesOne d = OpenPart d ∷ ExprPart OrLevel (suc d) ∷ SignPart 41 ∷ []
 form_parts TakesTwo d = OpenPart d ∷ ExprPart OrLevel (suc d) ∷ SignPart 44 ∷ ExprPart OrLevel (suc d) ∷ SignPart 41
     ∷ []
 form_parts TakesDomain d = OpenPart d ∷ NamePart ∷ SignPart 41 ∷ []
 
--- prim
+-- a prim
 abbrev pub prim_step : ℕ → Kind → Step
 prim_step d (Word name) = Behind (CallPart d ∷ [])
 prim_step d (BASE base) = Behind (form_parts (form_of base) d)
@@ -141,7 +141,7 @@ stmts_step d (KEYWORD IF) = opening d (ExprPart OrLevel (suc d) ∷ WordPart THE
     ∷ WordPart FI ∷ MoreStmts d ∷ [])
 stmts_step d _ = NotBegun
 
--- what a program has from BEG on, behind it
+-- what a program has from BEG on
 abbrev pub program_parts : List Part
 program_parts = StmtsPart 0 ∷ WordPart RETURN ∷ ExprPart OrLevel 0 ∷ WordPart END ∷ []
 
@@ -158,7 +158,7 @@ domain_step (KEYWORD PROD) = Behind (SignPart 40 ∷ NamePart ∷ SignPart 44 �
 domain_step (KEYWORD SUM) = Behind (SignPart 40 ∷ NamePart ∷ SignPart 44 ∷ NamePart ∷ SignPart 41 ∷ [])
 domain_step _ = NotBegun
 
--- what stands in a block behind LET, up to the next LET or the end of the block
+-- what follows LET in a block, up to the next LET or the end of the block
 abbrev pub let_parts : List Part
 let_parts = NamePart ∷ SignPart 61 ∷ ExprPart OrLevel 0 ∷ MoreLets ∷ []
 
@@ -178,7 +178,7 @@ abbrev pub lets_step : Kind → Step
 lets_step (KEYWORD LET) = Behind let_parts
 lets_step _ = NotBegun
 
--- the rest of a command behind its keyword
+-- the rest of a command after its keyword
 abbrev pub command_step : Keyword → Step
 command_step REL = Behind (NamePart ∷ NumberPart ∷ NumberPart ∷ SignPart 123 ∷ RowsPart ∷ SignPart 125 ∷ [])
 command_step LET = Behind (NamePart ∷ SignPart 61 ∷ ExprPart OrLevel 0 ∷ [])
@@ -201,7 +201,7 @@ item_step (Word name) = Behind (SignPart 40 ∷ NamePart ∷ MoreParams more_lim
 item_step (KEYWORD keyword) = command_step keyword
 item_step _ = NotBegun
 
--- the number of a keyword among all
+-- the number of a keyword, in their order
 abbrev pub number_of : Keyword → ℕ
 number_of REL = 0
 number_of LET = 1
@@ -307,8 +307,8 @@ written ATOMIC = codes "ATOMIC"
 written COMMIT = codes "COMMIT"
 written EXPLAIN = codes "EXPLAIN"
 
--- the word of a part that must come: what it begins with, or the first alternative of its choice; none for optional
--- and repeated parts
+-- the word of a part that must come: what it begins with, or the first alternative of its choice; optional and repeated
+-- parts have none
 abbrev pub word_of : Part → Option What
 word_of NamePart = Some Name
 word_of NumberPart = Some A_NUMBER
@@ -329,16 +329,16 @@ abbrev pub or_else : Option What → Option What → Option What
 or_else (Some what) other = Some what
 or_else None other = other
 
--- What the grammar needs where all optional and repeated parts are passed over: nothing where only they are to come.
+-- What the grammar needs if all optional and repeated parts are skipped: nothing if there are only those.
 abbrev pub needed : List Part → Option What
 needed [] = None
 needed (part ∷ parts) = or_else (word_of part) (needed parts)
 
--- the word for what is needed: where nothing is, a further item may come
+-- what is reported as needed; if nothing is, a further item may come
 abbrev pub what_of : List Part → What
 what_of parts = unwrap_or (needed parts) AN_ITEM
 
--- what parts do with a token, by what the first does, by its word, and by what the others do
+-- what parts do with a token: by what the first does, by the first's word, and by what the others do
 abbrev pub first_of : Step → Option What → List Part → Step → Step
 first_of (Behind inner) word parts others = Behind (inner ++ parts)
 first_of Deeper word parts others = Deeper
@@ -346,31 +346,31 @@ first_of (Instead what) word parts others = Instead what
 first_of NotBegun None parts others = others
 first_of NotBegun (Some what) parts others = NotBegun
 
--- The parts behind a token, or why it doesn't fit: the first part that is not dropped decides. Optional and repeated
--- parts are dropped where the token doesn't begin them.
+-- The parts after a token, or why it does not fit. Optional and repeated parts that the token does not begin are
+-- dropped, and the first part that is not dropped decides.
 abbrev pub step : Kind → List Part → Step
 step kind [] = NotBegun
 step kind (part ∷ parts) = first_of (entered part kind) (word_of part) parts (step kind parts)
 
--- the fault of a token at a place where these parts are to come, or that of what comes behind it
+-- the fault of a token where these parts have to come, or the fault of what comes after it
 abbrev pub fault_at : Place → What → Step → (List Part → Option ParseFault) → Option ParseFault
 fault_at at what NotBegun later = Some (Expected at what)
 fault_at at what (Instead other) later = Some (Expected at other)
 fault_at at what Deeper later = Some (TooDeep at)
 fault_at at what (Behind next) later = later next
 
--- the fault of the end where these parts are to come, or the one at which the tokens end
+-- the fault of the end where these parts have to come, or the fault at which the tokens end
 abbrev pub fault_of_end : List Part → Ending → Option ParseFault
 fault_of_end parts (EndsAt place) = option_map (λ what. Expected place what) (needed parts)
 fault_of_end parts (Broken fault) = Some fault
 
--- The fault of the tokens where these parts are to come, if there is one: the first token or end that doesn't fit, or
--- that opens too many constructs, or the fault at which the tokens end.
+-- The fault of the tokens where these parts have to come, if there is one: the first token (or the end) that does not
+-- fit or opens one construct too many, or the fault at which the tokens end.
 abbrev pub stop_of : List Part → List Token → Ending → Option ParseFault
 stop_of parts [] ending = fault_of_end parts ending
 stop_of parts (token ∷ tokens) ending = fault_at token.at (what_of parts) (step token.kind parts)
     (λ next. stop_of next tokens ending)
 
--- the fault of a text, if it is no script
+-- the fault of a text, if it is not a script
 abbrev pub stop : List ℕ → Option ParseFault
 stop bytes = stop_of (ItemsPart ∷ []) (lexed_of bytes).tokens (lexed_of bytes).ending

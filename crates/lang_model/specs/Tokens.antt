@@ -42,7 +42,7 @@ is_letter b = (nat_le 65 b && nat_le b 90) || (nat_le 97 b && nat_le b 122)
 abbrev pub is_word_byte : ℕ → Bool
 is_word_byte b = is_letter b || (is_digit b || (b == 95))
 
--- a byte that may stand in a file text: a printing one that is no quote
+-- a byte that may stand in a file text: a printing one other than a quote
 abbrev pub is_file_byte : ℕ → Bool
 is_file_byte b = nat_le 32 b && (nat_le b 126 && not (b == 34))
 
@@ -54,7 +54,7 @@ signs = 40 ∷ 41 ∷ 91 ∷ 93 ∷ 123 ∷ 125 ∷ 44 ∷ 59 ∷ 58 ∷ 46 ∷ 
 abbrev pub is_sign_byte : ℕ → Bool
 is_sign_byte b = list_any (λ s. s == b) signs
 
--- the place behind a byte
+-- the place after a byte
 unfoldable pub behind : ℕ → Place → Place
 behind b at = cond (b == 10) (record { line = at.line + 1; column = 1 })
     (record { line = at.line; column = at.column + 1 })
@@ -69,7 +69,7 @@ abbrev pub value_from : ℕ → List ℕ → ℕ
 value_from v [] = v
 value_from v (d ∷ ds) = value_from (10 * v + (d - 48)) ds
 
--- the words that are no names, with what they are
+-- the words that are not names, with their kinds
 unfoldable pub reserved_words : List (List ℕ × Kind)
 reserved_words =
     (codes "REL", Keyword REL) ∷ (codes "LET", Keyword LET) ∷ (codes "PRINT", Keyword PRINT)
@@ -85,12 +85,12 @@ reserved_words =
     ∷ (codes "EXPLAIN", Keyword EXPLAIN)
     ∷ map (λ base. (base_text base, BASE base)) base_names
 
--- what the first entry with this text is
+-- the kind of the first entry with this text
 abbrev pub found_in : List ℕ → List (List ℕ × Kind) → Option Kind
 found_in text [] = None
 found_in text (entry ∷ entries) = cond (same_text entry.0 text) (Some entry.1) (found_in text entries)
 
--- a word is reserved, or a name
+-- the kind of a word: a reserved word, or else a name
 unfoldable pub word_kind : List ℕ → Kind
 word_kind w = unwrap_or (found_in w reserved_words) (Word w)
 
@@ -98,7 +98,7 @@ word_kind w = unwrap_or (found_in w reserved_words) (Word w)
 unfoldable pub domain_operators : List (List ℕ × Kind)
 domain_operators = map (λ base. (base_text base, BASE base)) domain_operator_names
 
--- the domain operator that begins these bytes, behind which no letter, digit or _ follows
+-- the domain operator that begins these bytes, if no letter, digit or _ follows it
 unfoldable pub domain_operator_at : List ℕ → Option Kind
 domain_operator_at (a ∷ b ∷ c ∷ bs) = cond (nat_eq (run_length is_word_byte bs) 0)
     (found_in (a ∷ b ∷ c ∷ []) domain_operators) None
@@ -109,14 +109,15 @@ abbrev pub begins_with_quote : List ℕ → Bool
 begins_with_quote [] = false
 begins_with_quote (b ∷ bs) = b == 34
 
--- a file text within its limit, whose bytes and last quote stand behind its first quote
+-- the file text whose first quote these bytes follow, if it is one within its limit, and how many bytes it has with
+-- both quotes
 unfoldable pub file_at : List ℕ → Option (Kind × ℕ)
 file_at bs =
     let n = run_length is_file_byte bs in
     cond ((nat_le 1 n && nat_le n file_text_limit) && begins_with_quote (drop n bs))
     (Some (File (take n bs), n + 2)) None
 
--- the token that begins these bytes, and how many it has
+-- the token that begins these bytes, and how many bytes it has
 unfoldable pub kind_at : List ℕ → Option (Kind × ℕ)
 kind_at [] = None
 kind_at (b ∷ bs) =
@@ -128,11 +129,12 @@ kind_at (b ∷ bs) =
     (cond (is_digit b) (cond (nat_lt value (2 ^ 64)) (Some (Number value, digits)) None)
     (cond (b == 34) (file_at bs) (cond (is_sign_byte b) (Some (Sign b, 1)) None)))
 
--- a token before the others, where these are some
+-- a token in front of the others, if there are any
 abbrev pub with_token : Place → Kind → Option (List Token) → Option (List Token)
 with_token at kind rest = option_map (λ ts. record { at = at; kind = kind } ∷ ts) rest
 
--- The tokens from a place on, behind as many bytes as the last token still has. A comment ends before a line feed.
+-- The tokens from a place on, after skipping the bytes that the last token still has. A comment ends before a line
+-- feed.
 abbrev pub tokens_from : ℕ → Place → List ℕ → Option (List Token)
 tokens_from k at [] = Some []
 tokens_from (suc k) at (b ∷ bs) = tokens_from k (behind b at) bs
@@ -141,11 +143,11 @@ tokens_from zero at (b ∷ bs) =
     (cond (b == 35) (tokens_from (run_length (λ c. not (c == 10)) bs) (behind b at) bs)
     (option_map_or (λ t. with_token at t.0 (tokens_from (t.1 - 1) (behind b at) bs)) (kind_at (b ∷ bs)) None))
 
--- the tokens of a text, where all bytes are allowed and each token is one
+-- the tokens of a text, if all its bytes are allowed and all its tokens valid
 unfoldable pub tokens_of : List ℕ → Option (List Token)
 tokens_of bytes = cond (list_all is_allowed bytes) (tokens_from 0 (record { line = 1; column = 1 }) bytes) None
 
--- the place behind so many bytes
+-- the place after k bytes
 abbrev pub behind_all : ℕ → Place → List ℕ → Place
 behind_all k at [] = at
 behind_all zero at (b ∷ bs) = at

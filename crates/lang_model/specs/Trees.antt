@@ -1,5 +1,5 @@
--- The tree of an expression: what stands in the vectors and boxes that the code has, and all places. And when two
--- expressions are the same up to places: without their places they are one tree.
+-- The tree of an expression: the contents of the vectors and boxes that the code has, with all places; and when two
+-- expressions are equal up to places, which is when their trees without places are equal.
 use Rattle.std.specs.Prelude.{◌≡◌, ℕ, List}
 use Rattle.lang_model.specs.declared.syntax.Place.{Place}
 use Rattle.lang_model.specs.declared.syntax.Op2.{Op2}
@@ -8,8 +8,8 @@ use Rattle.lang_model.specs.declared.syntax.Expr.{Expr, Ref, Call', Base', Injec
 use Rattle.lang_model.specs.declared.syntax.Expr.{Row_of-Link, end_of-Link, more_of-Link, Row_of-Expr, end_of-Expr}
 use Rattle.lang_model.specs.declared.syntax.Expr.{more_of-Expr}
 
--- A tree with its places: a name, a call of a definition or a base name, a domain operator, a pair, a prefix -, signs
--- ^, and a chain; its arguments; and the operators of a chain with their right operands.
+-- A tree with its places: a name, a call of a definition or of a base name, a domain operator, a pair, a prefix -,
+-- signs ^, and a chain; the arguments of a call; and the operators of a chain with their right operands.
 mutual
   -- an expression
   pub data Tree : Type 0 where
@@ -55,13 +55,13 @@ abbrev mutual
   branches_of end_of-Link = NoBranch
   branches_of (more_of-Link at op right links) = MoreBranches at op (tree_of right) (branches_of links)
 
--- no place of a text, whose lines and columns count from 1
+-- a place outside every text, since lines and columns count from 1
 abbrev pub nowhere : Place
 nowhere = record { line = 0; column = 0 }
 
--- the same tree, the same arguments and the same links without their places
+-- a tree, arguments and links without their places
 abbrev mutual
-  -- that of an expression
+  -- an expression
   pub without_places : Tree → Tree
   without_places (NameTree at name) = NameTree nowhere name
   without_places (CallTree at name args) = CallTree nowhere name (all_without_places args)
@@ -72,21 +72,21 @@ abbrev mutual
   without_places (TurnedTree at of times) = TurnedTree nowhere (without_places of) times
   without_places (ChainTree first links) = ChainTree (without_places first) (links_without_places links)
 
-  -- those of arguments
+  -- arguments
   pub all_without_places : Trees → Trees
   all_without_places NoTree = NoTree
   all_without_places (MoreTrees e args) = MoreTrees (without_places e) (all_without_places args)
 
-  -- those of links
+  -- links
   pub links_without_places : Branches → Branches
   links_without_places NoBranch = NoBranch
   links_without_places (MoreBranches at op right links) = MoreBranches nowhere op (without_places right)
       (links_without_places links)
 
--- one tree, at other places
+-- two trees are equal up to places
 abbrev pub SameTrees : Tree → Tree → Type 0
 SameTrees t u = without_places t ≡ without_places u
 
--- the trees of two expressions are one, at other places
+-- the trees of two expressions are equal up to places
 abbrev pub SameUpToPlaces : Expr → Expr → Type 0
 SameUpToPlaces e f = SameTrees (tree_of e) (tree_of f)

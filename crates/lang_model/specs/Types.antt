@@ -1,4 +1,4 @@
--- The types of operators and base calls. A size is known or not; where all sizes of the operands are known, these are
+-- The types of operators and base calls. A size is known or unknown; if all sizes of the operands are known, these are
 -- the tests that evaluation makes.
 use Rattle.std.specs.Prelude.{◌==◌, ◌&&◌, ◌+◌, ◌*◌, ◌^◌, nat_lt, cond, zero, suc, ℕ, Bool, true, List, codes, Option, Some, None}
 use Rattle.lang_model.specs.declared.syntax.Place.{Place}
@@ -16,12 +16,12 @@ use Rattle.lang_model.specs.BaseNames.{base_text}
 use Rattle.rel_model.specs.Relation.{Relation, size_limit}
 use Rattle.lang_model.specs.Missing.{first_of_both}
 
--- what a test comes to: what passes, or the fault
+-- the result of a test: what passes, or the fault
 pub data Passed (T : Type 0) : Type 0 where
   Fits : T → Passed T
   Misfit : TypeFault → Passed T
 
--- the type of an operation
+-- the type of an operation, or its fault
 abbrev pub Typed : Type 0
 Typed = Passed StaticShape
 
@@ -33,30 +33,30 @@ known m n = record { rows = Some m; cols = Some n }
 abbrev pub sizes : Relation → StaticShape
 sizes r = known r.rows r.cols
 
--- a type with these sizes, where they are known
+-- a type with these sizes, as far as they are known
 abbrev pub type_of : Option ℕ → Option ℕ → StaticShape
 type_of m n = record { rows = m; cols = n }
 
--- a test between two sizes: it fails exactly where both are known and differ
+-- a test between two sizes: it fails if and only if both are known and differ
 abbrev pub agree : Option ℕ → Option ℕ → Bool
 agree (Some m) (Some n) = m == n
 agree (Some m) None = true
 agree None n = true
 
--- a test on one size
+-- a test on one size: it fails if and only if the size is known and differs
 abbrev pub may_be : ℕ → Option ℕ → Bool
 may_be n m = agree m (Some n)
 
--- a size that is computed from one or two sizes: known where they are, and where it is within the limit
+-- a size computed from others: it is known only if it is within the limit
 abbrev pub within_limit : ℕ → Option ℕ
 within_limit n = cond (nat_lt size_limit n) None (Some n)
 
--- one that is computed from one size
+-- a size computed from one size, if that is known
 abbrev pub computed : (ℕ → ℕ) → Option ℕ → Option ℕ
 computed f None = None
 computed f (Some m) = within_limit (f m)
 
--- one that is computed from two
+-- a size computed from two sizes, if both are known
 abbrev pub computed_of_two : (ℕ → ℕ → ℕ) → Option ℕ → Option ℕ → Option ℕ
 computed_of_two f None n = None
 computed_of_two f (Some m) n = computed (f m) n
@@ -90,7 +90,7 @@ type_of_link Over s t = type_of s.rows t.rows
 abbrev pub typed_link : Place → Op2 → StaticShape → StaticShape → Typed
 typed_link at op s t = cond (takes op s t) (Fits (type_of_link op s t)) (Misfit (Mismatch at (spelling op) s t))
 
--- [R, S]: as many rows; the columns are multiplied
+-- [R, S]: both have the same number of rows; the columns are multiplied
 abbrev pub typed_pair : Place → StaticShape → StaticShape → Typed
 typed_pair at s t =
     cond (agree s.rows t.rows)
@@ -101,7 +101,7 @@ typed_pair at s t =
 abbrev pub type_turned : StaticShape → StaticShape
 type_turned s = type_of s.cols s.rows
 
--- transposed so many times
+-- transposed n times
 abbrev pub type_turned_by : ℕ → StaticShape → StaticShape
 type_turned_by zero s = s
 type_turned_by (suc n) s = type_turned (type_turned_by n s)
@@ -111,26 +111,26 @@ type_turned_by (suc n) s = type_turned (type_turned_by n s)
 abbrev pub side : StaticShape → Option ℕ
 side s = first_of_both s.rows s.cols
 
--- the operand is square
+-- the operand must be square
 abbrev pub squared : Place → Base → StaticShape → Typed → Typed
 squared at base s rest = cond (agree s.rows s.cols) rest (Misfit (NotSquare at (base_text base) s))
 
--- the operand is square: the type has the known one of its sizes twice
+-- the operand must be square: both sizes of the type are the known one of its sizes
 abbrev pub square : Place → Base → StaticShape → Typed
 square at base s = squared at base s (Fits (type_of (side s) (side s)))
 
--- the first operand is square, and the second has as many rows: the type has the known one of these sizes, and the
--- columns of the second
+-- the first operand must be square, and the second have the same number of rows: the type has the known one of these
+-- sizes, and the columns of the second
 abbrev pub bounding : Place → Base → StaticShape → StaticShape → Typed
 bounding at base s t =
     squared at base s (cond (agree (side s) t.rows) (Fits (type_of (first_of_both (side s) t.rows) t.cols))
     (Misfit (Mismatch at (base_text base) s t)))
 
--- the operand has one column
+-- the operand must have one column
 abbrev pub vector : Place → Base → StaticShape → StaticShape → Typed
 vector at base s t = cond (may_be 1 s.cols) (Fits t) (Misfit (NotVector at (base_text base) s))
 
--- a base call of one operand; no text spells such a call of any other base name
+-- a base call of one operand; no text calls another base name with one
 abbrev pub typed_base : Place → Base → StaticShape → Typed
 typed_base at L s = Fits s
 typed_base at O s = Fits s
@@ -156,7 +156,7 @@ typed_base at Hasse s = square at Hasse s
 typed_base at Quot s = squared at Quot s (Fits (type_of (side s) None))
 typed_base at _ s = Fits (known 0 0)
 
--- a base call of two operands; no text spells such a call of any other base name
+-- a base call of two operands; no text calls another base name with two
 abbrev pub typed_base_of_two : Place → Base → StaticShape → StaticShape → Typed
 typed_base_of_two at Syq s t =
     cond (agree s.rows t.rows) (Fits (type_of s.cols t.cols)) (Misfit (Mismatch at (base_text Syq) s t))
@@ -172,7 +172,8 @@ typed_base_of_two at Sup s t = bounding at Sup s t
 typed_base_of_two at Inf s t = bounding at Inf s t
 typed_base_of_two at _ s t = Fits (known 0 0)
 
--- the domain operators of domains of x and of y elements: the last line is that of i-2, and no text spells any other
+-- the domain operators on domains of x and of y elements; the last line is that of i-2, the only other base name that
+-- can occur
 abbrev pub type_of_domain : Base → Option ℕ → Option ℕ → StaticShape
 type_of_domain P1 x y = type_of (computed_of_two (λ m n. m * n) x y) x
 type_of_domain P2 x y = type_of (computed_of_two (λ m n. m * n) x y) y

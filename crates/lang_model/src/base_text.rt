@@ -1,4 +1,4 @@
-//! How the base names and the domain operators are written.
+//! How base names and domain operators are written.
 ghost use Rattle.std.specs.Prelude.{◌≡◌, ◌≤◌, length};
 ghost use Rattle.lang_model.specs.Limits.{name_limit};
 ghost use Rattle.lang_model.specs.BaseNames.{base_text};
@@ -6,7 +6,7 @@ ghost use Rattle.lang_model.specs.BaseNames.{base_text};
 use crate::syntax::Base;
 
 impl Base {
-    /// How the base name or the domain operator is written: at most 8 bytes, which are no name.
+    /// The text of a base name or a domain operator: at most 8 bytes, which are not a name.
     pub fn text(self) -> &'static [u8]
         ensures text { result.now ≡ base_text self }
         ensures some { 1 ≤ length result.now }

@@ -1,7 +1,7 @@
 //! Why scripts and expressions are refused.
 use crate::syntax::{Name, Place};
 
-/// What the grammar needs at a place.
+/// What the grammar expects at a place.
 #[derive(Drop)]
 pub enum What {
     Item,
@@ -10,11 +10,11 @@ pub enum What {
     Number,
     NumberFromOne,
     FileText,
-    /// The one sign or word that must come.
+    /// A single sign or word that must come.
     Token(Name),
 }
 
-/// Why bytes are no script.
+/// Why bytes are not a script.
 pub enum ParseFault {
     Byte { at: Place, byte: u8 },
     Expected { at: Place, what: What },
@@ -37,7 +37,7 @@ impl Drop for ParseFault {
     }
 }
 
-/// The sizes of an expression, where they are known before it runs.
+/// The sizes of an expression, as far as they are known before it runs. 16 bytes.
 #[derive(Clone, Copy, Debug, PartialEq, Eq)]
 pub struct StaticShape {
     pub rows: Option<u32>,

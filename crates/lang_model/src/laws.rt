@@ -1,4 +1,4 @@
-//! Laws of the language, each a function that does nothing.
+//! Laws of the language, each the contract of a function with an empty body.
 ghost use Rattle.std.specs.Prelude.{◌≡◌, ◌+◌};
 ghost use Rattle.lang_model.specs.Limits.{script_limit, name_limit, file_text_limit, nesting_limit, more_limit, rank_limit, compared_limit};
 ghost use Rattle.lang_model.specs.Eval.{EvaluatedByNames, ComesUnlessEarly};
@@ -12,7 +12,7 @@ use crate::limits::{
     SCRIPT_LIMIT,
 };
 
-/// Each limit of a text is one number in the code and in the definitions.
+/// Each limit of a text is the same number in the code and in the definitions.
 pub fn one_limit_each()
     ensures script { SCRIPT_LIMIT ≡ script_limit }
     ensures name { NAME_LIMIT ≡ name_limit }
@@ -23,44 +23,44 @@ pub fn one_limit_each()
     ensures operands { COMPARED_LIMIT ≡ compared_limit }
 {}
 
-/// A name that is assigned has that relation, one that is taken away has none, and all others stay.
+/// A name that is assigned has that relation, a removed name has none, and all other names stay.
 pub fn laws_of_the_workspace()
     ensures { StateLaws }
 {}
 
-/// What an expression of a command comes to, its cost, and the fault ahead of it depend on the relations of the names
-/// alone that it uses.
+/// The result of an expression of a command, its cost, and its early fault depend only on the relations of the names
+/// that it uses.
 pub fn by_names_alone()
     ensures { EvaluatedByNames }
 {}
 
-/// An expression of a command is refused ahead of all computing where it has an early fault, and else comes to its
-/// meaning.
+/// An expression of a command is refused before anything is computed if it has an early fault; otherwise its result is
+/// its meaning.
 pub fn early_faults_come_first()
     ensures { ComesUnlessEarly }
 {}
 
-/// What a block comes to depends on the relations of the names alone that it reads.
+/// The results of a block depend only on the relations of the names that it reads.
 pub fn blocks_by_names_alone()
     ensures { BlocksByNames }
 {}
 
-/// A known static size of an expression is the size of its value.
+/// A static size of an expression, if known, is the size of its value.
 pub fn static_sizes()
     ensures { StaticSizesHold }
 {}
 
-/// Where the types of an expression fit, its calm tree has its type, and comes to the same as it does.
+/// If the types of an expression fit, its calm tree has the same type and the same result.
 pub fn rewriting_keeps_meanings()
     ensures { CalmMeansTheSame }
 {}
 
-/// Each step of rewriting lowers the number of nodes and signs `^`, and no rule applies in a calm tree.
+/// Each step of rewriting lowers the number of nodes plus signs `^`, and no rule applies in a calm tree.
 pub fn rewriting_ends()
     ensures { StepsEnd }
 {}
 
-/// Each step of rewriting is its rule's result on a calm node.
+/// Each step of rewriting replaces a calm node by the result of its rule.
 pub fn rewriting_goes_by_its_rules()
     ensures { StepsAreSteps }
 {}

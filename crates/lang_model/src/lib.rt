@@ -1,4 +1,4 @@
-//! The language: its trees and tokens, its grammar and faults, what its expressions mean, and what they cost.
+//! The language: its trees and tokens, its grammar and faults, and what its expressions mean and cost.
 #![tactic(auto)]
 
 mod base_text;

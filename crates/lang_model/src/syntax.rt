@@ -1,4 +1,4 @@
-//! Scripts as trees. Each place is that of the name, number or sign beside it.
+//! Scripts as trees. A place is that of the name, number or sign that it stands beside.
 ghost use Rattle.std.specs.Prelude.{◌≡◌, ◌≤◌, length, IfOk, Some, refl, nat_eq};
 ghost use Rattle.std.specs.Cmp;
 ghost use Rattle.std.specs.Cmp.Lexicographic.{pointwise, slice_cmp, nat_list_cmp_total, nat_list_eq_equiv, texts_ties, texts_po};
@@ -10,14 +10,14 @@ use std::alloc::Global;
 use std::cmp::Ordering;
 use std::marker::Model;
 
-/// A place in a text: line and column, both counted from 1, a column in bytes.
+/// A place in a text: line and column, both counted from 1, columns in bytes. 8 bytes.
 #[derive(Clone, Copy, Debug, PartialEq, Eq)]
 pub struct Place {
     pub line: u32,
     pub column: u32,
 }
 
-/// A name of 1 to 64 bytes.
+/// A name of 1 to 64 bytes, on the heap.
 #[derive(Drop)]
 pub struct Name {
     bytes: Vec<u8>,
@@ -35,7 +35,7 @@ impl Model for Name {
 }
 
 impl Name {
-    /// The name with these bytes.
+    /// The name with these bytes. Refused only if memory runs out.
     pub fn new(alloc: Global, bytes: &[u8]) -> Result<Name, NoMemory>
         requires { (1 ≤ length bytes.now) × (length bytes.now ≤ name_limit) }
         ensures { IfOk result (λ n. n ≡ bytes.now) }
@@ -44,14 +44,14 @@ impl Name {
         Ok(Name { bytes })
     }
 
-    /// The same name once more.
+    /// A copy of a name. Refused only if memory runs out.
     pub fn copied(&self, alloc: Global) -> Result<Name, NoMemory>
         ensures { IfOk result (λ n. n ≡ self.now) }
     {
         Name::new(alloc, self.bytes.as_slice())
     }
 
-    /// Its bytes.
+    /// The bytes of a name.
     pub fn bytes(&self) -> &[u8]
         ensures { result.now ≡ self.now }
     {
@@ -83,7 +83,7 @@ impl PartialOrd for Name {
     }
 }
 
-/// Names are ordered by their bytes: by the first that differs, and else the shorter one first.
+/// Names are ordered by the first byte that differs; a prefix comes before the longer name.
 impl Ord for Name {
     ghost cmp = { slice_cmp nat_cmp };
 
@@ -98,7 +98,7 @@ impl Ord for Name {
     }
 }
 
-/// The text of a file's name, of 1 to 255 bytes.
+/// The text of a file's name, of 1 to 255 bytes, on the heap.
 #[derive(Drop)]
 pub struct FileText {
     bytes: Vec<u8>,
@@ -116,7 +116,7 @@ impl Model for FileText {
 }
 
 impl FileText {
-    /// The text with these bytes.
+    /// The text with these bytes. Refused only if memory runs out.
     pub fn new(alloc: Global, bytes: &[u8]) -> Result<FileText, NoMemory>
         requires { (1 ≤ length bytes.now) × (length bytes.now ≤ file_text_limit) }
         ensures { IfOk result (λ n. n ≡ bytes.now) }
@@ -125,14 +125,14 @@ impl FileText {
         Ok(FileText { bytes })
     }
 
-    /// The same text once more.
+    /// A copy of a text. Refused only if memory runs out.
     pub fn copied(&self, alloc: Global) -> Result<FileText, NoMemory>
         ensures { IfOk result (λ n. n ≡ self.now) }
     {
         FileText::new(alloc, self.bytes.as_slice())
     }
 
-    /// Its bytes.
+    /// The bytes of a text.
     pub fn bytes(&self) -> &[u8]
         ensures { result.now ≡ self.now }
     {
@@ -140,7 +140,7 @@ impl FileText {
     }
 }
 
-/// The base names, and the four domain operators behind them.
+/// The base names, followed by the four domain operators. 1 byte.
 #[derive(Clone, Copy, Debug, PartialEq, Eq)]
 pub enum Base {
     L,
@@ -180,7 +180,7 @@ pub enum Base {
     I2,
 }
 
-/// The operators of chains: `|`, `&`, `*`, `\` and `/`.
+/// The operators of chains: `|`, `&`, `*`, `\` and `/`. 1 byte.
 #[derive(Clone, Copy, Debug, PartialEq, Eq)]
 pub enum Op2 {
     Or,
@@ -190,7 +190,7 @@ pub enum Op2 {
     Over,
 }
 
-/// An expression. Parentheses make no node.
+/// An expression. Parentheses have no node of their own. Names and operands are on the heap.
 #[cycle(expr)]
 pub enum Expr {
     /// A relation's name, a parameter or a variable.
@@ -227,13 +227,13 @@ pub enum Expr {
         at: Place,
         of: Box<Expr>,
     },
-    /// `of^`, with so many `^`.
+    /// `of^`, with the number of `^` given.
     Turned {
         at: Place,
         of: Box<Expr>,
         times: u32,
     },
-    /// Two or more operands of one level of precedence, read from the left.
+    /// Two or more operands of one precedence level, grouped from the left.
     Chain {
         first: Box<Expr>,
         rest: Vec<Link>,
@@ -285,7 +285,7 @@ pub struct Link {
     pub right: Expr,
 }
 
-/// A declaration of a program.
+/// A declaration of a program. Names are on the heap.
 pub enum Decl {
     /// A variable.
     Variable {
@@ -317,7 +317,7 @@ impl Drop for Decl {
     }
 }
 
-/// A statement of a program.
+/// A statement of a program. Its parts are on the heap.
 pub enum Stmt {
     /// `name = value`.
     Set {
@@ -363,14 +363,14 @@ impl Drop for Stmt {
     }
 }
 
-/// A column of a listed row.
+/// A column in a listed row. 16 bytes.
 #[derive(Clone, Copy, Debug, PartialEq, Eq)]
 pub struct Column {
     pub col: u64,
     pub at: Place,
 }
 
-/// A row of a listed relation.
+/// A row in a listed relation. Its columns are on the heap.
 #[derive(Drop)]
 pub struct Row {
     pub row: u64,
@@ -378,7 +378,7 @@ pub struct Row {
     pub cols: Vec<Column>,
 }
 
-/// An assignment of a block: `LET name = value`.
+/// An assignment in a block: `LET name = value`.
 #[derive(Drop)]
 pub struct Let {
     pub at: Place,
@@ -538,7 +538,7 @@ impl Drop for Item {
     }
 }
 
-/// A script.
+/// A script. Its items are on the heap.
 #[derive(Drop)]
 pub struct Script {
     pub items: Vec<Item>,

@@ -5,7 +5,7 @@ ghost use Rattle.leaf_block.specs.Lanes.{IsPicked};
 
 use std::simd::prelude::*;
 
-/// The lanes of `row` where `rows` has the bits of `bits`, and 0 elsewhere.
+/// The lanes of `row` in which `rows` has all bits of `bits`; 0 in the other lanes.
 #[inline(always)]
 fn picked(rows: u8x16, bits: u8x16, row: u8x16) -> u8x16
     ensures { IsPicked rows bits row result }
@@ -13,11 +13,10 @@ fn picked(rows: u8x16, bits: u8x16, row: u8x16) -> u8x16
     (rows & bits).simd_eq(bits).select(row, u8x16::splat(0))
 }
 
-/// Cell (i, j) where some k has cell (i, k) in `a` and cell (k, j) in `b`.
+/// `{(i, j) : (i, k) in a and (k, j) in b for some k}`: the composition of two blocks.
 ///
-/// The eight rows of `a` lie in the lanes twice. Step k takes row k of `b` into each of the first eight lanes whose
-/// row has
-/// column k, and row k + 4 into each of the last eight whose row has column k + 4.
+/// The eight rows of `a` are in the lanes twice. Step k takes row k of `b` into each of the first eight lanes whose row
+/// has column k, and row k + 4 into each of the last eight whose row has column k + 4.
 pub fn block_compose(a: u64, b: u64) -> u64
     ensures { block_cells result ≡ cells_compose 8 (block_cells a) (block_cells b) }
 {

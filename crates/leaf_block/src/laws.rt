@@ -1,4 +1,4 @@
-//! Laws of blocks, each a function that does nothing.
+//! Laws of blocks, each the contract of a function with an empty body.
 ghost use Rattle.leaf_block.specs.Blocks.{EmptyIsZero, UnionIsOr, InterIsAnd, DiffIsAndNot, SameCellsSameBlock, BlockIsWithin, SetHasBlock};
 
 /// The block 0 has no cell.
@@ -6,12 +6,12 @@ pub fn empty_is_zero()
     ensures { EmptyIsZero }
 {}
 
-/// The word-or of two blocks has the union of their cells.
+/// The bitwise or of two blocks has the union of their cells.
 pub fn union_is_or()
     ensures { UnionIsOr }
 {}
 
-/// The word-and of two blocks has the intersection of their cells.
+/// The bitwise and of two blocks has the intersection of their cells.
 pub fn inter_is_and()
     ensures { InterIsAnd }
 {}
@@ -21,7 +21,7 @@ pub fn diff_is_and_not()
     ensures { DiffIsAndNot }
 {}
 
-/// Two blocks are equal exactly where their sets are.
+/// Two blocks are equal if and only if their sets are.
 pub fn same_cells_same_block()
     ensures { SameCellsSameBlock }
 {}
@@ -31,7 +31,7 @@ pub fn block_is_within()
     ensures { BlockIsWithin }
 {}
 
-/// Every set within 8 rows and 8 columns is the set of one block.
+/// Every set within 8 rows and 8 columns is the set of some block.
 pub fn set_has_block()
     ensures { SetHasBlock }
 {}

@@ -1,4 +1,4 @@
-//! Blocks: sets of cells of 8 rows and 8 columns in one word, of which cell (i, j) is bit 8 * i + j.
+//! Blocks: sets of cells in 8 rows and 8 columns, one word each, where cell (i, j) is bit 8 * i + j.
 #![tactic(auto)]
 
 mod compose;

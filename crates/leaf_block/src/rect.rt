@@ -1,10 +1,10 @@
-//! The blocks that are full up to a row and a column.
+//! Blocks that are full up to a row and a column.
 ghost use Rattle.std.specs.Prelude.{◌≡◌, ◌≤◌};
 ghost use Rattle.rel_model.specs.Cells.{block_cells, cells_rect};
 
 use std::simd::prelude::*;
 
-/// Cell (i, j) where i < rows and j < cols.
+/// `{(i, j) : i < rows, j < cols}`: the first rows and columns of a block, at most 8 of each.
 pub fn block_rect(rows: u32, cols: u32) -> u64
     requires row { rows ≤ 8 }
     requires col { cols ≤ 8 }

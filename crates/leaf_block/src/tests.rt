@@ -1,4 +1,4 @@
-//! The kernels beside plain loops over the cells.
+//! The kernels against plain loops over the cells.
 ghost use Rattle.std.specs.Prelude.{◌<◌};
 
 use super::*;
@@ -45,7 +45,7 @@ fn transposed(a: u64) -> u64 {
     all
 }
 
-/// A number after x, in a row that looks random.
+/// The pseudo-random number that follows x.
 fn next(mut x: u64) -> u64 {
     x ^= x << 13;
     x ^= x >> 7;
@@ -53,7 +53,7 @@ fn next(mut x: u64) -> u64 {
     x
 }
 
-/// Whether a single cell composes with each other cell where the middle is one.
+/// Whether a single cell composes with each other single cell exactly if their middle elements are equal.
 fn composes_where_one(i: u32, k: u32) -> bool
     requires row { i < 8 }
     requires col { k < 8 }
@@ -87,12 +87,12 @@ fn single_cells_turn_over_the_diagonal(rt: HostRuntime) {
     }
 }
 
-/// Whether two blocks compose as by the plain loop.
+/// Whether two blocks compose as the plain loop says.
 fn composes(a: u64, b: u64) -> bool {
     block_compose(a, b) == composed(a, b)
 }
 
-/// Whether sparse, even and dense blocks of three compose, and one is turned, as by the plain loops.
+/// Whether sparse, medium and dense blocks, made of three words, compose and transpose as the plain loops say.
 fn agree(a: u64, b: u64, c: u64) -> bool {
     composes(a, b)
         && composes(a & b, b & c)
@@ -127,7 +127,7 @@ const COMPOSED: [(u64, u64, u64); 8] = [
     (0x0101_0101_0101_0101, 0xFF, FULL),
 ];
 
-/// Blocks, and what they are turned over the diagonal.
+/// Blocks and their transpositions.
 const TURNED: [(u64, u64); 4] = [
     (0, 0),
     (FULL, FULL),

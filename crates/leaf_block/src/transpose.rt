@@ -5,7 +5,7 @@ ghost use Rattle.leaf_block.specs.Lanes.{swapped};
 
 use std::simd::prelude::*;
 
-/// Exchanges the cells of the mask with those `by` places after them.
+/// Exchanges the cells under the mask with those `by` places after them.
 #[inline(always)]
 fn swap(x: u64x1, by: u64, mask: u64) -> u64x1
     requires { by < 64 }
@@ -16,10 +16,10 @@ fn swap(x: u64x1, by: u64, mask: u64) -> u64x1
     x ^ turned ^ (turned << places)
 }
 
-/// Cell (i, j) where (j, i) is in `a`.
+/// `{(i, j) : (j, i) in a}`: the transposition of a block.
 ///
-/// Three swaps, of the squares that lie across in each square of 2, of 4 and of 8 rows. The eight rows are one lane
-/// of 64 bits.
+/// Three swaps, of the off-diagonal quarters in each square of 2, of 4 and of 8 rows. The eight rows are one lane of 64
+/// bits.
 pub fn block_transpose(a: u64) -> u64
     ensures { block_cells result ≡ cells_transpose (block_cells a) }
 {

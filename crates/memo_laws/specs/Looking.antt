@@ -8,7 +8,7 @@ use Rattle.memo_laws.specs.declared.equation.Op.{Op}
 use Rattle.memo_laws.specs.declared.equation.Op.TheVariants.{Union as UNION, Inter as INTER, Diff as DIFF, Transpose as TRANSPOSE, Compose as COMPOSE}
 use Rattle.memo_laws.specs.declared.equation.Equation.{Equation as Stated}
 
--- the operator that the code names
+-- the operator that the code means
 abbrev pub operator_of : Op → Operator
 operator_of UNION = Union
 operator_of INTER = Inter
@@ -20,12 +20,12 @@ operator_of COMPOSE = Compose
 abbrev pub equation_of : Stated → Equation
 equation_of e = record { op = operator_of e.op; height = e.height; a = e.a; b = e.b; r = e.r }
 
--- a word is the equation with this operator, height and operands, and this result
+-- a word is that of the equation with this operator, height, operands and result
 abbrev pub IsWordFor : ℕ → Operator → ℕ → ℕ → ℕ → ℕ → Type 0
 IsWordFor word op height a b r = word ≡ word_of_equation (record { op = op; height = height; a = a; b = b; r = r })
 
--- an equation with this operator, height and operands was looked up: the last memo load is that of its home slot, and
--- there is an answer exactly where the word is such an equation, which then is true and has this result
+-- an equation with this operator, height and operands was looked up: the last memo load is from its home slot, and
+-- there is an answer if and only if the word is such an equation, which then is true and has this result
 pub record Looks (op : Operator) (height a b : ℕ) (old new : View) (answer : Option ℕ) : Type 0 where
   pub word : ℕ
   pub last : new.last ≡ Some (home_slot a b, word)

@@ -1,6 +1,6 @@
 //! Equations between names.
 
-/// The operator of an equation.
+/// The operator of an equation. 1 byte.
 #[derive(Clone, Copy, Debug, PartialEq, Eq)]
 pub enum Op {
     Union,
@@ -10,7 +10,7 @@ pub enum Op {
     Compose,
 }
 
-/// The set of `r` is the operator's result on the sets of `a` and `b`, as names at one height. 16 bytes.
+/// The set of `r` is the operator's result on the sets of `a` and `b`; all three are names at one height. 16 bytes.
 #[derive(Clone, Copy, Debug, PartialEq, Eq)]
 pub struct Equation {
     pub op: Op,

@@ -1,12 +1,12 @@
-//! The laws of equations, each a function that does nothing.
+//! The laws of equations, each the contract of a function with an empty body.
 ghost use Rattle.memo_laws.specs.Laws.{EquationsAreReadBack, EquationsStay};
 
-/// An equation that is true stays true, wherever words extend those in which it is, as every call on a seat promises.
+/// A true equation stays true in all words that extend those in which it is, as every call on a seat promises.
 pub fn equations_stay()
     ensures { EquationsStay }
 {}
 
-/// Of the equations that are true in the words of one view, no two have one word and one slot.
+/// Two different equations that are true in the words of one view never have both the same word and the same slot.
 pub fn equations_are_read_back()
     ensures { EquationsAreReadBack }
 {}

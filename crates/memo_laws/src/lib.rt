@@ -1,4 +1,4 @@
-//! Equations between names, kept in the memo words of a table: what was found once is looked up again.
+//! Equations between names in the memo words of a table (a computed table): results are noted and looked up again.
 #![tactic(auto)]
 
 mod equation;

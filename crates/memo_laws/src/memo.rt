@@ -1,4 +1,4 @@
-//! What was found is noted in a table, and looked up again.
+//! Results are noted in a table, and looked up again.
 ghost use Rattle.std.specs.Prelude.{◌≡◌, ◌≤◌, true};
 ghost use Rattle.rel_model.specs.Trees.{bottom_height, top_height, stands};
 ghost use Rattle.rel_model.specs.Equations.{Transpose, IsTrueIn, depth_of};
@@ -10,7 +10,7 @@ use crate::word::{result_in, slot_of, word_of};
 use pair_table::{PairTable, Seat};
 
 /// `set(r) = op(set(a), set(b))` for the answer `r`: the result of the equation with this operator, height and
-/// operands, where the memo word of its slot is one.
+/// operands, if the memo word of its slot is that equation.
 pub fn look(table: &PairTable, seat: &mut Seat, op: Op, height: u8, a: u32, b: u32) -> Option<u32>
     requires of { IsOf seat.old table.now }
     requires low { bottom_height ≤ height }
@@ -32,7 +32,7 @@ pub fn look(table: &PairTable, seat: &mut Seat, op: Op, height: u8, a: u32, b: u
     result_in(word, asked)
 }
 
-/// Notes an equation that is true: its slot held its word right after.
+/// Notes an equation, which must be true. Its slot held its word right after the store.
 pub fn note(table: &PairTable, seat: &mut Seat, eq: Equation)
     requires of { IsOf seat.old table.now }
     requires holds { IsTrueIn seat.old.words (equation_of eq) }

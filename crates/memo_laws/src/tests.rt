@@ -1,4 +1,4 @@
-//! What was noted is found again, and nothing else is.
+//! What was noted is found again, and nothing else is found.
 ghost use Rattle.std.specs.Prelude.{◌≡◌, ◌≤◌, ◌+◌, true};
 ghost use Rattle.rel_model.specs.Trees.{stands};
 ghost use Rattle.rel_model.specs.Equations.{depth_of};
@@ -56,7 +56,7 @@ fn note_union_with_itself(rt: &impl Abort, table: &PairTable, seat: &mut Seat, b
     name
 }
 
-/// Notes that at a height an operator makes nothing of nothing.
+/// Notes that an operator makes the empty set of empty sets at a height.
 fn note_nothing(table: &PairTable, seat: &mut Seat, op: Op, height: u8)
     requires of { IsOf seat.old table.now }
     requires low { 3 ≤ height }
@@ -73,7 +73,7 @@ fn note_nothing(table: &PairTable, seat: &mut Seat, op: Op, height: u8)
     note(table, seat, eq);
 }
 
-/// Looks up what an operator makes of two blocks, or of the first one if it has one operand.
+/// Looks up the result of an operator on two blocks, or on the first one if the operator has one operand.
 #[tactic(auto, using(rel_model::proofs::TreeLaws::kept_stands, crate::proofs::Trying::limits))]
 fn look_blocks(
     rt: &impl Abort,
@@ -94,7 +94,7 @@ fn look_blocks(
     look(table, seat, op, 3, a, b)
 }
 
-/// Looks up what an operator makes of nothing at a height.
+/// Looks up the result of an operator on empty sets at a height.
 #[tactic(auto, using(crate::proofs::Trying::limits, rel_model::proofs::TreeLaws::zero_stands))]
 fn look_nothing(table: &PairTable, seat: &mut Seat, op: Op, height: u8) -> Option<u32>
     requires of { IsOf seat.old table.now }
@@ -105,7 +105,7 @@ fn look_nothing(table: &PairTable, seat: &mut Seat, op: Op, height: u8) -> Optio
     look(table, seat, op, height, 0, 0)
 }
 
-/// Looks up what each operator makes of nothing at each height, and finds what was noted alone.
+/// Looks up the result of each operator on empty sets at each height, and finds only the one that was noted.
 fn finds_alone(rt: &impl Abort, table: &PairTable, seat: &mut Seat, noted: Option<(Op, u8)>)
     requires { IsOf seat.old table.now }
     ensures { IsOf seat.new table.now }
@@ -120,7 +120,7 @@ fn finds_alone(rt: &impl Abort, table: &PairTable, seat: &mut Seat, noted: Optio
     }
 }
 
-/// Notes each operator on nothing at each height, all in one slot, and finds it alone.
+/// Notes the result of each operator on empty sets at each height, all in one slot, and finds only the last.
 fn finds_the_last_alone(rt: &impl Abort, table: &PairTable, seat: &mut Seat)
     requires { IsOf seat.old table.now }
     ensures { IsOf seat.new table.now }
@@ -133,7 +133,7 @@ fn finds_the_last_alone(rt: &impl Abort, table: &PairTable, seat: &mut Seat)
     }
 }
 
-/// Looks up what operators make of two blocks, and finds what each case says.
+/// Looks up results of operators on two blocks, and finds what each case says.
 fn finds_as_told(
     rt: &impl Abort,
     table: &PairTable,
@@ -179,7 +179,8 @@ fn what_was_noted_is_found_with_its_operator_and_operands_alone(rt: HostRuntime)
     finds_as_told(&rt, &table, &mut seat, &cases);
 }
 
-/// The homes of these blocks, and so their names in a new table, are 18 and 1042, which have one remainder by 1024.
+/// The homes of these blocks, and so their names in a new table, are 18 and 1042, which have the same remainder modulo
+/// 1024.
 const LOW: u64 = 126;
 
 const HIGH: u64 = 2;

@@ -1,4 +1,4 @@
-//! An equation as one word, and the result read back from it.
+//! An equation packed into one word, and the result unpacked from it.
 ghost use Rattle.std.specs.Prelude.{◌≡◌, ◌≢◌, ◌<◌, ◌≤◌, ◌+◌, ◌*◌, ◌/◌, ◌%◌, ◌^◌, ℕ, IfSome, IfNone};
 ghost use Rattle.rel_model.specs.Words.{most_bits};
 ghost use Rattle.rel_model.specs.Equations.{code_of, home_slot, memo_slots, word_of_equation};
@@ -6,7 +6,7 @@ ghost use Rattle.memo_laws.specs.Looking.{equation_of, operator_of};
 
 use crate::equation::{Equation, Op};
 
-/// How many slots begin with one remainder of the first name, and how many remainders the second name has.
+/// How many slots belong to one remainder of the first name; also how many remainders the second name has.
 const SLOT_ROW: u32 = 1 << 10;
 
 /// The number of an operator in a memo word.
@@ -30,7 +30,7 @@ pub fn slot_of(a: u32, b: u32) -> u32
     a % SLOT_ROW * SLOT_ROW + b % SLOT_ROW
 }
 
-/// An equation as one word, without what its slot tells of a and b.
+/// An equation packed into one word, without the part of `a` and `b` that its slot determines.
 pub fn word_of(eq: Equation) -> u64
     requires a_fits { eq.a < 2 ^ most_bits }
     requires b_fits { eq.b < 2 ^ most_bits }
@@ -42,7 +42,7 @@ pub fn word_of(eq: Equation) -> u64
     operands + ((eq.r as u64) << 9) + (code(eq.op) << 5) + eq.height as u64
 }
 
-/// The result in a memo word, where but for its result it is the word that is asked for, in which the result is 0.
+/// The result in a memo word, if the word otherwise equals the one that is asked for, in which the result is 0.
 pub fn result_in(word: u64, asked: u64) -> Option<u32>
     requires { asked / 2 ^ 9 % 2 ^ most_bits ≡ 0 }
     ensures found { IfSome result (λ r. (r < 2 ^ most_bits) × (word ≡ asked + r * 2 ^ 9)) }

@@ -1,4 +1,4 @@
-//! Names that get values, all or none.
+//! Names that are given values, all or none.
 ghost use Rattle.std.specs.Prelude.{◌≡◌, ◌<◌, ◌+◌, ◌∷◌, ◌++◌, [], IfOk, OnOk, OnErr, vec_len, vec_capacity};
 ghost use Rattle.run_model.specs.Names.{Names, IsIncreasing, lookup, set};
 ghost use Rattle.name_map.specs.Giving.{set_all, Led};
@@ -8,7 +8,7 @@ use lang_model::syntax::Name;
 use rel_model::NoMemory;
 use std::alloc::Global;
 
-/// A name gets a value, and the journal notes what it had.
+/// Gives a name a value, and notes in the journal what it had.
 pub fn put_noted<V: Copy + Drop>(
     names: &mut NameMap<V>,
     journal: &mut Vec<(Name, Option<V>)>,
@@ -31,7 +31,7 @@ pub fn put_noted<V: Copy + Drop>(
     Ok(())
 }
 
-/// All names of the journal have again what they had, the last first. It takes no memory.
+/// Undoes a journal, last entry first: all its names have again what they had. It takes no memory.
 pub fn take_back<V: Copy + Drop>(names: &mut NameMap<V>, mut journal: Vec<(Name, Option<V>)>)
     ensures { (first : Names V) → IsIncreasing first → Led journal.items first names.old → names.new ≡ first }
 {
@@ -40,8 +40,8 @@ pub fn take_back<V: Copy + Drop>(names: &mut NameMap<V>, mut journal: Vec<(Name,
     }
 }
 
-/// All names of the list get their values, one after another, or none does. The journal, by which `take_back` undoes
-/// it.
+/// Gives all names of a list their values, one after another, or none. Answers the journal, with which `take_back`
+/// undoes it.
 pub fn put_all<V: Copy + Drop>(
     names: &mut NameMap<V>,
     alloc: Global,

@@ -1,4 +1,4 @@
-//! Names with what they have, in the order of their bytes, each found in logarithmic time.
+//! Names with their values, in the order of their bytes; each is found in logarithmic time.
 ghost use Rattle.std.specs.Prelude.{◌≡◌, [], false, is_some, IsSome, IfOk, OnOk, OnErr};
 ghost use Rattle.run_model.specs.Names.{Names, IsIncreasing, lookup, set, remove};
 
@@ -8,7 +8,7 @@ use std::alloc::Global;
 use std::collections::BTreeMap;
 use std::marker::Model;
 
-/// Names with what they have.
+/// Names with their values. On the heap.
 #[derive(Drop)]
 pub struct NameMap<V> {
     map: BTreeMap<Name, V>,
@@ -34,21 +34,22 @@ impl<V: Copy + Drop> NameMap<V> {
         }
     }
 
-    /// Each name stands before all that follow.
+    /// Each name comes before all that follow.
     pub fn in_order(&self)
         ensures { IsIncreasing self.now }
     {
+        // This use makes the checker open the invariant of `self`, which the clause follows from.
         let _ = &self.map;
     }
 
-    /// What a name has.
+    /// The value of a name, if it has one.
     pub fn get(&self, name: &Name) -> Option<V>
         ensures { result ≡ lookup self.now name.now }
     {
         self.map.get(name).copied()
     }
 
-    /// The name has this from here on. What it had comes back.
+    /// Gives a name a value, and answers the one it had.
     pub fn put(&mut self, name: Name, value: V) -> Result<Option<V>, NoMemory>
         ensures value { OnOk result (self.new ≡ set name value self.old) }
         ensures had { IfOk result (λ had. had ≡ lookup self.old name) }
@@ -60,7 +61,7 @@ impl<V: Copy + Drop> NameMap<V> {
         Ok(had)
     }
 
-    /// A name that has something has this instead. It takes no memory.
+    /// Changes the value of a name that has one. It takes no memory.
     fn change(&mut self, name: &Name, value: V)
         ensures { IsSome (lookup self.old name.now) → self.new ≡ set name.now value self.old }
     {
@@ -70,7 +71,7 @@ impl<V: Copy + Drop> NameMap<V> {
         *place = value;
     }
 
-    /// The name has nothing from here on. Whether it had something.
+    /// Removes a name, and says whether it had a value.
     pub fn take(&mut self, name: &Name) -> bool
         ensures had { result ≡ is_some (lookup self.old name.now) }
         ensures value { self.new ≡ remove name.now self.old }
@@ -92,7 +93,7 @@ impl<V: Copy + Drop> NameMap<V> {
         }
     }
 
-    /// All names with what they have, in order.
+    /// All names with their values, in order.
     pub fn listed(&self, alloc: Global) -> Result<Vec<(Name, V)>, NoMemory>
         ensures { IfOk result (λ v. v.items ≡ self.now) }
     {
@@ -104,7 +105,7 @@ impl<V: Copy + Drop> NameMap<V> {
         Ok(all)
     }
 
-    /// All names with what they have, in order, given away.
+    /// All names with their values, in order; uses up the map.
     pub fn into_list(self, alloc: Global) -> Result<Vec<(Name, V)>, NoMemory>
         ensures { IfOk result (λ v. v.items ≡ self) }
     {

@@ -8,11 +8,11 @@ use Rattle.rel_model.specs.Views.{House, View}
 use Rattle.pair_table.specs.declared.rule.Known.{Known}
 use Rattle.pair_table.specs.declared.rule.Start.{Start}
 
--- the house of a table
+-- the identity of a table
 abbrev pub house_of : TableId → House
 house_of id = table_id_coded.code id
 
--- a table has its node words and its memo words, and no slot
+-- a table has its node words and its memo words, and no slot for values
 pub record IsTable (id : TableId) (key : Start) (count bits seats : ℕ) : Type 0 where
   pub words : id.words ≡ 2 ^ bits + memo_slots
   pub slots : id.slots ≡ 0

@@ -14,8 +14,8 @@ abbrev pub total : (Known → ℕ) → List Known → ℕ
 total f [] = 0
 total f (v ∷ vs) = f v + total f vs
 
--- the rule of the node words: they are sound; each seat that was not joined away has seen, and was told of, no other
--- words; together the seats count as many words as are stored, and stand for as many seats as the table has
+-- the rule of the node words: they are sound; the words extend what each seat has seen, and what a seat that was joined
+-- to it had seen; the seats together count as many words as are stored, and stand for as many seats as the table has
 pub record NodesHold (start : Start) (words : List ℕ) (views : List Known) : Type 0 where
   pub size_is : length words ≡ 2 ^ start.bits
   pub sound : IsSound words
@@ -26,8 +26,8 @@ pub record NodesHold (start : Start) (words : List ℕ) (views : List Known) : T
   pub parts_in_all : total (λ v. v.parts) views ≡ start.seats
   pub few : start.seats < 2 ^ 32
 
--- the whole rule: that of the node words, each memo word that is not 0 is a true equation at home in its slot, a slot
--- that a seat found or left taken stays taken, and with one seat its word stays
+-- the whole rule: that of the node words; each memo word that is not 0 is a true equation at home in its slot; a slot
+-- that a seat found or left taken stays taken; and with a single seat its word stays
 pub record Holds {S : Type 0} (start : Start) (s : State S Known) : Type 0 where
   pub long : length s.words ≡ 2 ^ start.bits + memo_slots
   pub nodes : NodesHold start (node_words start.bits s.words) s.views
@@ -59,11 +59,12 @@ left_of v = record {
   last = v.last;
 }
 
--- what the second seat gets
+-- what the second seat gets when it is split off
 abbrev pub right_of : Known → Known
 right_of v = record { words = v.words; told = v.told; made = 0; parts = v.cut + 1; cut = 0; last = v.last }
 
--- what one seat is when another was joined to it: it is told of what the other has seen
+-- what a seat is after another was joined to it: it also keeps the words that the other has seen, which a further step
+-- adds to its own
 abbrev pub both_of : Known → Known → Known
 both_of v w = record {
   words = v.words;

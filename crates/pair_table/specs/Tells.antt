@@ -1,4 +1,4 @@
--- What each kind of step tells the seat that takes it.
+-- What each kind of step adds to the view of the seat that takes it.
 use Rattle.std.specs.Prelude.{◌≡◌, ◌≢◌, ◌⊎◌, ◌<◌, ◌≤◌, ◌+◌, ◌-◌, ◌%◌, ◌^◌, ℕ, slice_index, length, Result, IfOk, IsOk, IsErr, Some}
 use Rattle.atomic_table.specs.Table.{Me, Step}
 use Rattle.rel_model.specs.Words.{Extends, IsDistinct, IsFullOfOthers, home_sum}
@@ -12,7 +12,7 @@ pub record Steps (old new : Known) : Type 0 where
   pub canonical : IsDistinct new.words
   pub parts : new.parts ≡ old.parts
 
--- a load of a node word: the word is seen, and what the seat was told of
+-- a load of a node word: this word is seen now, and so are the words of a seat that was joined before
 pub record SeesWord (place found : ℕ) (old new : Known) : Type 0 where
   pub steps : Steps old new
   pub told : Extends old.told new.words
@@ -21,8 +21,8 @@ pub record SeesWord (place found : ℕ) (old new : Known) : Type 0 where
   pub made : new.made ≡ old.made
   pub last : new.last ≡ old.last
 
--- a compare-exchange of a node word from 0: where 0 was found, the own word was placed, and stood nowhere in the view
--- before; else the word that was found is seen
+-- a compare-exchange of a node word from 0: if 0 was found, the seat's word was placed, which stood nowhere in the view
+-- before; otherwise the word that was found is seen
 pub record TriesWord (place word found : ℕ) (old new : Known) : Type 0 where
   pub steps : Steps old new
   pub lost : found ≢ 0 → (slice_index new.words place ≡ found) × (new.made ≡ old.made)
@@ -30,14 +30,14 @@ pub record TriesWord (place word found : ℕ) (old new : Known) : Type 0 where
   pub absent : found ≡ 0 → (n : ℕ) → slice_index old.words n ≢ word
   pub last : new.last ≡ old.last
 
--- a step that writes down how many spare seats will be cut off
+-- a step that notes how many spare seats will be cut off
 pub record NotesCut (spare : ℕ) (old new : Known) : Type 0 where
   pub steps : Steps old new
   pub cut : new.cut ≡ spare
   pub made : new.made ≡ old.made
   pub last : new.last ≡ old.last
 
--- a load of a memo word: it is 0, or a true equation in the view after it, and it is the last memo step
+-- a load of a memo word: it is 0 or a true equation in the view after it, and it is the last memo step
 pub record SeesMemo (slot found : ℕ) (old new : Known) : Type 0 where
   pub steps : Steps old new
   pub made : new.made ≡ old.made
@@ -50,12 +50,12 @@ pub record StoresMemo (slot word : ℕ) (old new : Known) : Type 0 where
   pub made : new.made ≡ old.made
   pub last : new.last ≡ Some (slot, word)
 
--- ---- the same of a step of the base crate, which leaves the seat's slots as they were
--- a load of a node word, at the step's word
+-- ---- the same for a step of the base crate, which leaves the seat's slots unchanged
+-- a load of the node word named by the step
 abbrev pub load_tells : {S : Type 0} → Step S → Me S Known → ℕ → Me S Known → Type 0
 load_tells s m found n = SeesWord s.word found m.0 n.0 × (n.1 ≡ m.1)
 
--- a compare-exchange of a node word, whose own word is the second operand
+-- a compare-exchange of a node word, whose second operand is the word to be placed
 abbrev pub place_tells : {S : Type 0} → Step S → Me S Known → ℕ → Me S Known → Type 0
 place_tells s m found n = TriesWord s.word s.second found m.0 n.0 × (n.1 ≡ m.1)
 
@@ -63,15 +63,16 @@ place_tells s m found n = TriesWord s.word s.second found m.0 n.0 × (n.1 ≡ m.
 abbrev pub cut_tells : {S : Type 0} → Step S → Me S Known → ℕ → Me S Known → Type 0
 cut_tells s m found n = NotesCut s.first m.0 n.0 × (n.1 ≡ m.1)
 
--- a load of a memo word, whose slot is the word's place behind the node words, of which a view has as many
+-- a load of a memo word; its slot is the place of the word minus the number of node words, which is the length of the
+-- view
 abbrev pub memo_load_tells : {S : Type 0} → Step S → Me S Known → ℕ → Me S Known → Type 0
 memo_load_tells s m found n = SeesMemo (s.word - length m.0.words) found m.0 n.0 × (n.1 ≡ m.1)
 
--- a store of a memo word, whose slot is found likewise, and whose own word is the first operand
+-- a store of a memo word; its slot is computed likewise, and the first operand is the word to be stored
 abbrev pub memo_store_tells : {S : Type 0} → Step S → Me S Known → ℕ → Me S Known → Type 0
 memo_store_tells s m found n = StoresMemo (s.word - length m.0.words) s.first m.0 n.0 × (n.1 ≡ m.1)
 
--- ---- what a call of several steps tells
+-- ---- what a call of several steps adds
 -- on the way from a word's home, in a call that began with the view `old`
 pub record IsUnderWay (old now : Known) (word step place count : ℕ) : Type 0 where
   pub steps : Steps old now

@@ -1,13 +1,13 @@
-//! Where a word is looked for first: its home, found without a division.
+//! The home of a word, where the probe for it begins, computed without a division.
 ghost use Rattle.std.specs.Prelude.{◌≡◌, ◌<◌, ◌≤◌, ◌+◌, ◌/◌, ◌%◌, ◌^◌};
 ghost use Rattle.rel_model.specs.Words.{home_sum, most_bits};
 
-/// The factors by which the two halves of a word are mixed.
+/// The factors by which the two halves of a word are multiplied.
 const FIRST_FACTOR: u64 = 2654435761;
 
 const SECOND_FACTOR: u64 = 2246822519;
 
-/// The number that is taken modulo the places from 2 on to find a word's home.
+/// The hash value of a word: its remainder by the number of places from 2 on gives the home.
 fn mixed(word: u64) -> u64
     ensures { result ≡ home_sum word }
 {
@@ -16,7 +16,7 @@ fn mixed(word: u64) -> u64
     (first * FIRST_FACTOR).wrapping_add(second * SECOND_FACTOR)
 }
 
-/// A smaller number of the same remainder: 2^bits is 2 more than `count`, so what stands above these bits counts twice.
+/// A smaller number with the same remainder: `2^bits` is 2 more than `count`, so the bits above count twice.
 fn folded(sum: u64, bits: u32, count: u64) -> u64
     requires size { 2 ^ bits ≡ count + 2 }
     requires few { bits ≤ most_bits }

@@ -1,4 +1,4 @@
-//! The probe: where a word stands, or is placed.
+//! The probe for a word: it is found, or placed.
 ghost use Rattle.std.specs.Prelude.{◌≡◌, ◌≢◌, ◌<◌, ◌≤◌, ◌^◌, ◌+◌, ◌%◌, length};
 ghost use Rattle.rel_model.specs.Words.{IsDistinct, most_bits};
 ghost use Rattle.rel_model.specs.Equations.{memo_slots};
@@ -10,7 +10,7 @@ use crate::rule::{Known, Order, Start};
 use crate::steps::{exchange_word, load_word};
 use atomic_table::{Seat, Shared};
 
-/// The place that follows, of `count` places in a ring.
+/// The next of `count` places in a ring.
 fn next(place: usize, count: usize) -> usize
     requires { place < count }
     ensures { result ≡ (place + 1) % count }
@@ -18,7 +18,7 @@ fn next(place: usize, count: usize) -> usize
     if place + 1 == count { 0 } else { place + 1 }
 }
 
-/// The one name of a word: from its home on, the first place that holds it or takes it.
+/// The one name of a word: from its home on, the first place that holds the word, or at which it can be placed.
 pub fn intern_word(
     table: &Shared<(), Known, Start, Order>,
     seat: &mut Seat<(), Known>,

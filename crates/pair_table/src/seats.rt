@@ -1,8 +1,8 @@
-//! A seat at a table: the right of one thread to step on it, and what that thread knows.
+//! A seat at a table: one thread's right to step on it, with a ghost of what that thread knows.
 use crate::rule::Known;
 use std::marker::Model;
 
-/// A seat at a table, of four bytes. It may cross threads, and each call on it sees its view.
+/// A seat at a table. It may be sent to another thread, and each call on it sees its view. 4 bytes.
 #[derive(Drop)]
 pub struct Seat {
     pub(crate) inner: atomic_table::Seat<(), Known>,

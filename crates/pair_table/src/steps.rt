@@ -1,4 +1,4 @@
-//! Each kind of atomic step of a table, under its rule.
+//! Each kind of atomic step of a table, under the rule.
 ghost use Rattle.std.specs.Prelude.{◌≡◌, ◌≢◌, ◌<◌, ◌≤◌, ◌^◌, ◌+◌, [], length};
 ghost use Rattle.rel_model.specs.Words.{IsDistinct, most_bits};
 ghost use Rattle.rel_model.specs.Equations.{IsMemo, memo_slots};
@@ -8,7 +8,7 @@ ghost use Rattle.pair_table.specs.Tells.{SeesWord, TriesWord, SeesMemo, StoresMe
 use crate::rule::{Both, Cut, Halves, Known, Load, MemoLoad, MemoStore, Order, Place, Start};
 use atomic_table::{Seat, Shared};
 
-/// A load of a node word.
+/// Loads a node word.
 pub fn load_word(
     table: &Shared<(), Known, Start, Order>,
     seat: &mut Seat<(), Known>,
@@ -25,7 +25,7 @@ pub fn load_word(
     table.load::<Load>(seat, place)
 }
 
-/// A compare-exchange of a node word from 0.
+/// Places a node word by a compare-exchange from 0.
 pub fn exchange_word(
     table: &Shared<(), Known, Start, Order>,
     seat: &mut Seat<(), Known>,
@@ -45,7 +45,7 @@ pub fn exchange_word(
     table.compare_exchange::<Place>(seat, place, 0, word)
 }
 
-/// A load of a memo word, behind `size` node words.
+/// Loads a memo word; memo words follow the `size` node words.
 pub fn load_memo(
     table: &Shared<(), Known, Start, Order>,
     seat: &mut Seat<(), Known>,
@@ -66,7 +66,7 @@ pub fn load_memo(
     table.load::<MemoLoad>(seat, size + slot)
 }
 
-/// A store of a memo word that is a true equation, behind `size` node words.
+/// Stores a memo word, which must be a true equation; memo words follow the `size` node words.
 pub fn store_memo(
     table: &Shared<(), Known, Start, Order>,
     seat: &mut Seat<(), Known>,
@@ -90,7 +90,7 @@ pub fn store_memo(
     table.store::<MemoStore>(seat, size + slot, word)
 }
 
-/// Splits a second seat off, with so many spare ones.
+/// Splits off a second seat, which gets `spare` spare seats.
 pub fn cut_off(
     table: &Shared<(), Known, Start, Order>,
     seat: &mut Seat<(), Known>,
@@ -107,7 +107,7 @@ pub fn cut_off(
     ensures held { seat.new.me.1 ≡ seat.old.me.1 }
     ensures second_held { result.me.1 ≡ [] }
 {
-    // A split has no operand, so this step tells the view how many seats go.
+    // A split has no operand, so this step writes into the view how many seats go with it.
     table.compare_exchange::<Cut>(seat, 0, spare, spare);
     table.split_seat::<Halves>(seat)
 }
@@ -130,6 +130,7 @@ pub fn take_in(
     ensures held { seat.new.me.1 ≡ seat.old.me.1 }
 {
     table.join_seat::<Both>(seat, other);
-    // A join names no word, so this step turns what the seat was told into what it has seen.
+    // A join names no word, so this step turns the words that the joined seat had seen into words that this seat has
+    // seen.
     load_word(table, seat, 0);
 }

@@ -1,4 +1,4 @@
-//! The table whose words any number of seats share, by single atomic steps.
+//! The table, whose words any number of seats share by single atomic steps.
 ghost use Rattle.std.specs.Prelude.{◌≡◌, ◌≢◌, ◌<◌, ◌≤◌, ◌+◌, ◌-◌, ◌*◌, ◌/◌, ◌%◌, ◌^◌, slice_index, IfOk};
 ghost use Rattle.std.specs.Mem.Slots.{slots_items, slots_len, IsFull};
 ghost use Rattle.rel_model.specs.Words.{most_bits};
@@ -17,7 +17,7 @@ use rel_model::NoMemory;
 use std::alloc::{AllocError, Global};
 use std::marker::Model;
 
-/// The node table: 2^bits node words and 2^20 memo words of eight bytes each.
+/// The node table: `2^bits` node words and `2^20` memo words of 8 bytes each, on the heap.
 #[derive(Drop)]
 pub struct PairTable {
     table: atomic_table::Table<(), Known, Start, Order, Global>,
@@ -40,7 +40,8 @@ impl Model for PairTable {
 
 #[tactic(auto, using(crate::proofs::Wrapping::one_table, crate::proofs::Wrapping::still_seat))]
 impl PairTable {
-    /// A table with 2^bits node words, all vacant, and its first seat, from which `seats - 1` others may be split off.
+    /// A table with `2^bits` vacant node words, and its first seat, from which `seats - 1` others may be split off.
+    /// Refused only if memory runs out.
     pub fn make(alloc: Global, bits: u32, seats: u32) -> Result<(PairTable, Seat), NoMemory>
         requires low { LEAST_BITS ≤ bits }
         requires high { bits ≤ MOST_BITS }
@@ -54,8 +55,9 @@ impl PairTable {
         PairTable::open_words(alloc, bits, words, seats)
     }
 
-    /// A table over words that another one left, node words and then memo words, and its first seat, which has seen
-    /// all node words and counts the stored ones as made. `seats - 1` others may be split off it.
+    /// A table over the words left by another one, node words followed by memo words, and its first seat, which has
+    /// seen all node words and counts the stored ones as made. `seats - 1` others may be split off. Refused only if
+    /// memory runs out.
     pub fn open_words(
         alloc: Global,
         bits: u32,
@@ -88,7 +90,7 @@ impl PairTable {
         ))
     }
 
-    /// The one name of a word.
+    /// The one name of a word. Refused only if every place holds another word.
     fn intern_any(&self, seat: &mut Seat, word: u64) -> Result<u32, Missed>
         requires of { IsOf seat.old self.now }
         requires some { word ≢ 0 }
@@ -104,7 +106,7 @@ impl PairTable {
         )
     }
 
-    /// The one name of a pair of names.
+    /// The one name of a pair of names. Refused only if every place holds another word.
     pub fn intern(&self, seat: &mut Seat, left: u32, right: u32) -> Result<u32, Missed>
         requires of { IsOf seat.old self.now }
         requires left_in { IsKnown seat.old left }
@@ -117,7 +119,7 @@ impl PairTable {
         self.intern_any(seat, word)
     }
 
-    /// The one name of a block of 64 cells.
+    /// The one name of a block of 64 cells. Refused only if every place holds another word.
     pub fn intern_block(&self, seat: &mut Seat, bits: u64) -> Result<u32, Missed>
         requires of { IsOf seat.old self.now }
         requires some { bits ≢ 0 }
@@ -127,7 +129,7 @@ impl PairTable {
         self.intern_any(seat, bits)
     }
 
-    /// The word of a name.
+    /// The word of a name, which is a block's 64 cells if it names a block.
     pub fn block_of(&self, seat: &mut Seat, name: u32) -> u64
         requires of { IsOf seat.old self.now }
         requires known { slice_index seat.old.words name ≢ 0 }
@@ -138,7 +140,7 @@ impl PairTable {
         load_word(&self.table.shared, &mut seat.inner, name as usize)
     }
 
-    /// The pair of names of a name.
+    /// The two names in the word of a name.
     pub fn kids(&self, seat: &mut Seat, name: u32) -> (u32, u32)
         requires of { IsOf seat.old self.now }
         requires known { slice_index seat.old.words name ≢ 0 }
@@ -151,7 +153,7 @@ impl PairTable {
         ((word >> 32) as u32, (word % (1 << 32)) as u32)
     }
 
-    /// The memo word of a slot, which is 0 or a true equation.
+    /// The memo word of a slot: 0 or a true equation.
     pub fn memo_load(&self, seat: &mut Seat, slot: u32) -> u64
         requires of { IsOf seat.old self.now }
         requires within { slot < memo_slots }
@@ -166,7 +168,7 @@ impl PairTable {
         )
     }
 
-    /// Stores a true equation at home in its slot.
+    /// Stores a memo word, which must be a true equation at home in this slot.
     pub fn memo_store(&self, seat: &mut Seat, slot: u32, word: u64)
         requires of { IsOf seat.old self.now }
         requires within { slot < memo_slots }
@@ -183,7 +185,7 @@ impl PairTable {
         );
     }
 
-    /// Splits off a second seat, which knows as much and has so many spare seats.
+    /// Splits off a second seat, which knows the same and gets `spare` spare seats.
     pub fn split(&self, seat: &mut Seat, spare: u32) -> Seat
         requires of { IsOf seat.old self.now }
         requires fewer { spare < seat.old.spare }
@@ -203,7 +205,7 @@ impl PairTable {
         seat.spare
     }
 
-    /// Both seats as one, which knows what either knew.
+    /// Joins another seat of the same table into this one, which then knows what either knew.
     pub fn join(&self, seat: &mut Seat, other: Seat)
         requires of { IsOf seat.old self.now }
         requires other_of { IsOf other self.now }
@@ -215,7 +217,8 @@ impl PairTable {
         seat.spare = seat.spare + spare + 1;
     }
 
-    /// The words in the end: node words and then memo words. All seats are joined into this one.
+    /// Closes the table, and gives its words: node words followed by memo words. All seats must have been joined into
+    /// this one. Refused only if memory runs out.
     pub fn close(self, seat: Seat) -> Result<Vec<u64>, NoMemory>
         requires of { IsOf seat self }
         requires whole { seat.spare + 1 ≡ self.seats }
@@ -252,7 +255,7 @@ fn size_of_bits(bits: u32) -> usize
     1 << bits
 }
 
-/// The words of a table that is closed.
+/// A copy of the words of a closed table.
 fn copied(
     alloc: Global,
     closed: &atomic_table::Closed<(), Global>,

@@ -21,7 +21,7 @@ fn small_table(rt: &impl Abort, alloc: Global, seats: u32) -> (PairTable, Seat)
     }
 }
 
-/// The name of a block, which reads back as the block.
+/// The name of a block; asserts that it reads back as the block.
 fn name_of_block(rt: &impl Abort, table: &PairTable, seat: &mut Seat, bits: u64) -> u32
     requires of { IsOf seat.old table.now }
     requires some { bits ≢ 0 }
@@ -79,7 +79,7 @@ fn a_pair_and_a_block_with_one_word_have_one_name(rt: HostRuntime) {
     assert!(rt; table.kids(&mut seat, block) == (left, right));
 }
 
-/// Interns `count` pairs, each of the last one and a new block, and gives their names.
+/// Interns `count` pairs, each of the last name and a new block, and gives their names.
 fn names_of_pairs(
     rt: &impl Abort,
     alloc: Global,
@@ -99,7 +99,7 @@ fn names_of_pairs(
     (seat, names)
 }
 
-/// The name of a pair of a name and a block, which reads back as the pair.
+/// The name of a pair of a name and a block; asserts that it reads back as the pair.
 fn name_of_pair(rt: &impl Abort, table: &PairTable, seat: &mut Seat, left: u32, bits: u64) -> u32
     requires of { IsOf seat.old table.now }
     requires known { IsKnown seat.old left }
@@ -117,7 +117,7 @@ fn name_of_pair(rt: &impl Abort, table: &PairTable, seat: &mut Seat, left: u32, 
     name
 }
 
-/// Two callers at once, each with its own seat, and the seats as one.
+/// Two callers at once, each with its own seat; the seats are joined at the end.
 fn two_callers<R: Abort + thread::Threads + Sync>(
     rt: &R,
     alloc: Global,
@@ -168,20 +168,20 @@ fn four_callers_on_threads_of_their_own_agree_on_the_names_of_500_pairs(rt: Host
     assert!(rt; a == alone);
 }
 
-/// The name of a word in a slow list of words and names.
+/// The name of a word in a plain list of words and names.
 fn listed(list: &[(u64, u32)], word: u64) -> Option<u32> {
     list.iter()
         .find(|entry| entry.0 == word)
         .map(|entry| entry.1)
 }
 
-/// Lists a word with its name, which no other word has.
+/// Adds a word and its name to the list; asserts that no other word has the name.
 fn list_new(rt: &impl Abort, list: &mut Vec<(u64, u32)>, word: u64, name: u32) {
     assert!(rt; list.iter().all(|entry| entry.1 != name), "at {word}");
     list.push((word, name)).expect(rt, "memory");
 }
 
-/// Interns a block, and compares the answer with a slow list of all words that the table has.
+/// Interns a block, and compares the answer with a plain list of all words in the table.
 fn interned_as_listed(
     rt: &impl Abort,
     table: &PairTable,
@@ -209,7 +209,7 @@ fn pseudo_random_words_are_named_as_in_a_slow_list(rt: HostRuntime) {
         state = state
             .wrapping_mul(6364136223846793005)
             .wrapping_add(1442695040888963407);
-        // 1,100 words whose halves differ, more than there are places
+        // 1,100 words with different halves, more than there are places
         let first = (state >> 33) % 100 + 1;
         let second = (state >> 48) % 11;
         interned_as_listed(&rt, &table, &mut seat, &mut list, (first << 32) + second);
@@ -217,7 +217,7 @@ fn pseudo_random_words_are_named_as_in_a_slow_list(rt: HostRuntime) {
     assert!(rt; list.len() == 1022);
 }
 
-/// Asserts that the words of a closed table are vacant but for a block and the first memo word.
+/// Asserts that the words of a closed table are vacant except for a block and the first memo word.
 fn assert_words(rt: &impl Abort, words: &[u64], name: u32, block: u64, union: u64) {
     assert!(rt; words.len() == 1024 + MEMO_SLOTS as usize);
     for (at, word) in words.iter().enumerate() {
@@ -232,7 +232,7 @@ fn assert_words(rt: &impl Abort, words: &[u64], name: u32, block: u64, union: u6
     }
 }
 
-/// Stores a memo word where none was stored, and gives it.
+/// Stores a memo word, asserts that none was there before, and gives it.
 fn stored(rt: &impl Abort, table: &PairTable, seat: &mut Seat) -> u64
     requires { IsOf seat.old table.now }
     ensures { IsOf seat.new table.now × (seat.new.spare ≡ seat.old.spare) }
@@ -258,7 +258,8 @@ fn close_gives_all_words_and_the_memo_word_that_was_stored(rt: HostRuntime) {
     }
 }
 
-/// Stores that at height 3 the union of the empty set with itself is empty, and gives the memo word: operator 1 five bits up, and the height.
+/// Stores that at height 3 the union of the empty set with itself is empty, and gives the memo word: the number 1 of
+/// the operator five bits up, plus the height.
 fn store_empty_union(table: &PairTable, seat: &mut Seat) -> u64
     requires { IsOf seat.old table.now }
     ensures { IsOf seat.new table.now × (seat.new.spare ≡ seat.old.spare) }
@@ -268,7 +269,7 @@ fn store_empty_union(table: &PairTable, seat: &mut Seat) -> u64
     word
 }
 
-/// The name of a wide set of depth 1: a block on the left, and nothing on the right.
+/// The name of a wide set of depth 1: a block on the left, and the empty set on the right.
 fn block_and_nothing(table: &PairTable, seat: &mut Seat, bits: u64) -> Result<u32, Missed>
     requires of { IsOf seat.old table.now }
     requires some { bits ≢ 0 }
@@ -288,7 +289,7 @@ fn a_block_beside_nothing_is_one_name_however_often_it_is_made(rt: HostRuntime) 
     assert!(rt; block_and_nothing(&table, &mut seat, 9) == first);
 }
 
-/// The words of a table whose seats are all joined.
+/// The words of a table all of whose seats are joined.
 fn closed(rt: &impl Abort, table: PairTable, seat: Seat) -> Vec<u64>
     requires of { IsOf seat table }
     requires whole { seat.spare + 1 ≡ table.seats }
@@ -324,7 +325,7 @@ fn a_table_opened_over_words_answers_the_old_names_and_goes_on(rt: HostRuntime) 
     let (seat, names) = names_of_pairs(&rt, alloc, &table, seat, 300);
     assert!(rt; table.spare(&seat) == 0);
     let words = closed(&rt, table, seat);
-    // Block 1 is at its home 489, so the pair of nothing and block 1 is none of the blocks up to 400.
+    // Block 1 is at its home 489, so the pair of the empty set and block 1 is not one of the blocks up to 400.
     assert!(rt; taken(&words) == 600);
     let before = words.clone().expect(&rt, "memory");
     let (table, mut seat) = opened(&rt, alloc, words, 3);

@@ -1,4 +1,4 @@
--- What is noted of quads.
+-- What is noted about quads.
 use Rattle.rel_model.specs.declared.Quad.{Quad}
 use Rattle.rel_model.specs.Equations.{Operator, Equation}
 

@@ -1,4 +1,4 @@
-//! Whether a cell is in the set of a quad.
+//! Whether the set of a quad has a cell.
 ghost use Rattle.std.specs.Prelude.{◌≡◌, ◌<◌, ◌-◌, cond, nat_lt};
 ghost use Rattle.rel_model.specs.Equations.{side_of};
 ghost use Rattle.rel_model.specs.Quads.{Keeper, QuadStands, quad_cells, ReadsQuads};
@@ -8,7 +8,7 @@ use crate::nodes::Nodes;
 use crate::sides::side_of_height;
 use rel_model::Quad;
 
-/// The half in which a row or column lies, and its place there.
+/// The half in which a row or column lies, and its place in that half.
 fn half_at(first: u32, second: u32, place: u32, half: u32) -> (u32, u32)
     ensures name { result.0 ≡ cond (nat_lt place half) first second }
     ensures place { result.1 ≡ cond (nat_lt place half) place (place - half) }
@@ -20,7 +20,7 @@ fn half_at(first: u32, second: u32, place: u32, half: u32) -> (u32, u32)
     }
 }
 
-/// Whether cell (i, j) is in a block.
+/// Whether a block has cell (i, j).
 fn block_has(bits: u64, i: u32, j: u32) -> bool
     requires row { i < 8 }
     requires col { j < 8 }
@@ -30,7 +30,7 @@ fn block_has(bits: u64, i: u32, j: u32) -> bool
 }
 
 impl<'t> Nodes<'t> {
-    /// Whether cell (i, j) is in the set of `q`.
+    /// `(i, j) in q`: whether the set of `q` has a cell within its square.
     pub fn has(&mut self, q: Quad, i: u32, j: u32) -> bool
         requires stands { QuadStands self.old q }
         requires row { i < side_of q.height }

@@ -8,7 +8,8 @@ use crate::nodes::Nodes;
 use rel_model::Quad;
 
 impl<'t> Nodes<'t> {
-    /// Whether `q` has every cell of its square: its halves are one name, and so are theirs, down to a full block.
+    /// `q = {(i, j) : i, j < side}`: whether `q` has every cell of its square. Its halves have the same name, and so
+    /// have their halves, down to a full block.
     pub fn is_full(&mut self, q: Quad) -> bool
         requires stands { QuadStands self.old q }
         ensures full { result ≡ true → quad_cells self.old q ≡ cells_rect (side_of q.height) (side_of q.height) }

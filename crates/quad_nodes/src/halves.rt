@@ -1,4 +1,4 @@
-//! Names of two halves, read and interned.
+//! Pairs of names, read and interned.
 ghost use Rattle.std.specs.Prelude.{◌≡◌, ℕ, suc, true, IfOk, Ok};
 ghost use Rattle.rel_model.specs.Trees.{stands};
 ghost use Rattle.rel_model.specs.Views.{IsKnown};
@@ -10,13 +10,14 @@ use crate::nodes::Nodes;
 use pair_table::Missed;
 
 impl<'t> Nodes<'t> {
-    /// The names of both halves of a name.
+    /// The two names in the word of a name; two zeros for name 0.
     pub(crate) fn halves(&mut self, name: u32) -> (u32, u32)
         requires { IsKnown self.old.view name }
         ensures halves { (k : ℕ) → stands self.old.view.words (suc k) name ≡ true
             → AreHalves self.old self.new k name result.0 result.1 }
         ensures reads { ReadsQuads self.old self.new }
     {
+        // This use makes the checker open the invariant of `self`, which the early return below needs.
         let _ = &self.seat;
         if name == 0 {
             return (0, 0);
@@ -24,7 +25,7 @@ impl<'t> Nodes<'t> {
         self.table.kids(&mut self.seat, name)
     }
 
-    /// The name of two halves; of nothing beside nothing it is 0.
+    /// The name of a pair of names; 0 for two empty sets. Refused only if the table is full.
     pub(crate) fn pair(&mut self, left: u32, right: u32) -> Result<u32, Missed>
         requires left_in { IsKnown self.old.view left }
         requires right_in { IsKnown self.old.view right }

@@ -1,4 +1,4 @@
-//! What an operator made of quads is noted, and looked up again.
+//! Results of operators on quads are noted, and looked up again.
 ghost use Rattle.std.specs.Prelude.{◌≡◌, IfSome, option_map};
 ghost use Rattle.rel_model.specs.Equations.{Transpose, result_of, side_of};
 ghost use Rattle.rel_model.specs.Quads.{Keeper, QuadStands, IsQuad, quad_cells, ReadsQuads};
@@ -10,7 +10,7 @@ use memo_laws::{Equation, Op};
 use rel_model::Quad;
 
 impl<'t> Nodes<'t> {
-    /// `set(r) = op(set(a), set(b))` for the answer `r`, where the memo word of `a` and `b` is that equation.
+    /// `set(r) = op(set(a), set(b))` for the answer `r`, if the memo word of `a` and `b` is that equation.
     pub fn look(&mut self, op: Op, a: Quad, b: Quad) -> Option<Quad>
         requires a_stands { QuadStands self.old a }
         requires b_stands { QuadStands self.old b }
@@ -32,7 +32,8 @@ impl<'t> Nodes<'t> {
         }
     }
 
-    /// Notes that `set(r) = op(set(a), set(b))`: the slot of `a` and `b` held this equation right after.
+    /// Notes that `set(r) = op(set(a), set(b))`, which must be true. The slot of `a` and `b` held this equation right
+    /// after.
     pub fn note(&mut self, op: Op, a: Quad, b: Quad, r: Quad)
         requires a_stands { QuadStands self.old a }
         requires b_stands { QuadStands self.old b }

@@ -1,8 +1,8 @@
-//! What works on quads: a table, a seat at it, and a count of misses.
+//! A keeper of quads: a table, a seat at it, and a count of misses.
 use pair_table::{PairTable, Seat};
 use std::marker::Model;
 
-/// A table, a seat at it, and how often a place for a word was missing there. 24 bytes.
+/// A table, a seat at it, and how often no place for a word was found there. 24 bytes.
 #[derive(Drop)]
 pub struct Nodes<'t> {
     pub(crate) table: &'t PairTable,

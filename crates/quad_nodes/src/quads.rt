@@ -1,4 +1,4 @@
-//! The quarters of a quad, the corner of four, and blocks.
+//! The quarters of a quad, the corner of four quads, and blocks.
 ghost use Rattle.std.specs.Prelude.{◌≡◌, ◌<◌, ◌+◌, IfOk, Ok};
 ghost use Rattle.rel_model.specs.Cells.{block_cells};
 ghost use Rattle.rel_model.specs.Trees.{bottom_height, top_height, quartered};
@@ -22,7 +22,7 @@ impl<'t> Nodes<'t> {
         3
     }
 
-    /// The quarters of a quad: north-west, north-east, south-west and south-east.
+    /// The quarters of a quad above the blocks: north-west, north-east, south-west and south-east.
     pub fn quarters(&mut self, q: Quad) -> (Quad, Quad, Quad, Quad)
         requires stands { QuadStands self.old q }
         requires over { bottom_height < q.height }
@@ -41,7 +41,8 @@ impl<'t> Nodes<'t> {
         )
     }
 
-    /// Reads the word of a quad, and over the blocks those of its halves, so that a later read of them need not wait.
+    /// Reads the word of a quad, and above the blocks those of its halves, so that a later read of them need not wait
+    /// (prefetch).
     #[inline(always)]
     pub fn read_ahead(&mut self, q: Quad)
         requires stands { QuadStands self.old q }
@@ -55,8 +56,8 @@ impl<'t> Nodes<'t> {
         }
     }
 
-    /// The quarters of a quad, as `quarters` gives them. Their words and those of their halves are read at once, so
-    /// that these reads do not wait for one another, nor for words that are placed meanwhile.
+    /// The quarters of a quad, as `quarters` gives them. Reads their words and those of their halves in one go, so that
+    /// these reads wait neither for one another nor for words that are placed meanwhile.
     #[inline(always)]
     pub fn quarters_ahead(&mut self, q: Quad) -> (Quad, Quad, Quad, Quad)
         requires stands { QuadStands self.old q }
@@ -92,8 +93,8 @@ impl<'t> Nodes<'t> {
         (first, second)
     }
 
-    /// The quad with these quarters; of four quads with no cell it is the one with no cell, whatever the table has
-    /// room for.
+    /// The quad with these quarters, which must have one height. The quad of four empty ones is the empty one, even if
+    /// the table is full; otherwise refused if the table is full.
     pub fn corner(&mut self, nw: Quad, ne: Quad, sw: Quad, se: Quad) -> Result<Quad, Missed>
         requires nw_stands { QuadStands self.old nw }
         requires ne_stands { QuadStands self.old ne }
@@ -123,7 +124,7 @@ impl<'t> Nodes<'t> {
         })
     }
 
-    /// The cells of a block, in one word of which cell (i, j) is bit 8i + j.
+    /// The cells of a block as one word: cell (i, j) is bit 8i + j.
     pub fn bits(&mut self, q: Quad) -> u64
         requires stands { QuadStands self.old q }
         requires bottom { q.height ≡ bottom_height }
@@ -137,8 +138,8 @@ impl<'t> Nodes<'t> {
         self.table.block_of(&mut self.seat, q.name)
     }
 
-    /// The quad of a block, of which cell (i, j) is bit 8i + j; of no cell it is the one with no cell, whatever the
-    /// table has room for.
+    /// The quad of a block: cell (i, j) is bit 8i + j. Without a cell it is the empty quad, even if the table is full;
+    /// otherwise refused if the table is full.
     #[tactic(auto, unfolding(rel_model::specs::Trees::bottom_height))]
     pub fn block(&mut self, bits: u64) -> Result<Quad, Missed>
         ensures value { IfOk result (IsQuad self.new bottom_height (block_cells bits)) }

@@ -14,8 +14,8 @@ use pair_table::Missed;
 use rel_model::Quad;
 
 impl<'t> Nodes<'t> {
-    /// Cell (i, j) where i < rows and j < cols, in the square of a height; of no row or no column it is the quad with
-    /// no cell, whatever the table has room for.
+    /// `{(i, j) : i < rows, j < cols}` in the square of a height, with at most as many rows and columns as its side.
+    /// Without rows or columns it is the empty quad, even if the table is full; otherwise refused if the table is full.
     ///
     /// Equal quarters are made once, so the full square takes two words for each height.
     #[cycle(rects)]
@@ -46,7 +46,8 @@ impl<'t> Nodes<'t> {
         self.corner(nw, ne, sw, se)
     }
 
-    /// The first columns of a rectangle, as many as a square of a height has, and those behind them.
+    /// The part of a rectangle in the first columns, as many as a square of a height has, and the part in the columns
+    /// after them.
     #[cycle(rects)]
     fn rects_beside(&mut self, height: u8, rows: u32, cols: u32) -> Result<(Quad, Quad), Missed>
         requires low { bottom_height ≤ height }

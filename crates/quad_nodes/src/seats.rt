@@ -1,4 +1,4 @@
-//! Nodes as seats: made over one, split and joined, and given back.
+//! Keepers of quads as seats: made from one, split, joined, and given back as one.
 ghost use Rattle.std.specs.Prelude.{◌≡◌, ◌<◌};
 ghost use Rattle.rel_model.specs.Views.{IsOf};
 ghost use Rattle.rel_model.specs.Quads.{Keeper, IsKeeper, SplitsKeeper, JoinsKeeper};
@@ -7,7 +7,7 @@ use crate::nodes::Nodes;
 use pair_table::{PairTable, Seat};
 
 impl<'t> Nodes<'t> {
-    /// The quads of a table, for the seat; nothing was missed yet.
+    /// A keeper of quads at a seat of a table, without a miss so far.
     pub fn new(table: &'t PairTable, seat: Seat) -> Nodes<'t>
         requires of { IsOf seat table.now }
         ensures value { result ≡ record { table = table.now; view = seat; misses = 0 } }
@@ -20,7 +20,7 @@ impl<'t> Nodes<'t> {
         }
     }
 
-    /// Splits off a second keeper, which knows as much, has so many spare seats, and has missed nothing.
+    /// Splits off a second keeper, which knows the same, gets `spare` spare seats, and has missed nothing.
     pub fn split(&mut self, spare: u32) -> Nodes<'t>
         requires fewer { spare < self.old.view.spare }
         ensures { SplitsKeeper spare self.old self.new result }
@@ -40,7 +40,7 @@ impl<'t> Nodes<'t> {
         self.table.spare(&self.seat)
     }
 
-    /// Both as one, which knows what either knew and counts what both missed.
+    /// Joins another keeper into this one, which then knows what either knew and counts the misses of both.
     pub fn join(&mut self, other: Nodes<'t>)
         requires one_table { other.table ≡ self.old.table }
         ensures { JoinsKeeper self.old other.entry self.new }
@@ -54,7 +54,7 @@ impl<'t> Nodes<'t> {
         self.misses = self.misses.saturating_add(misses);
     }
 
-    /// The seat, which is given back.
+    /// Gives the seat back.
     pub fn into_seat(self) -> Seat
         ensures view { result ≡ self.entry.view }
         ensures work { IsKeeper self.entry }

@@ -1,4 +1,4 @@
--- Operators that go cell by cell.
+-- Operators that work cell by cell.
 use Rattle.std.specs.Prelude.{◌≡◌, ◌≢◌, ◌⊎◌, ◌&&◌, ◌||◌, not, Bool, true, Option, IfSome}
 use Rattle.rel_model.specs.declared.Quad.{Quad}
 use Rattle.rel_model.specs.Cells.{Cells, cells_rect}
@@ -7,7 +7,7 @@ use Rattle.rel_model.specs.Quads.{Keeper, IsKeeper, quad_cells, QuadStands, IsQu
 use Rattle.rel_boole.specs.declared.boole.Boole.{Boole}
 use Rattle.rel_boole.specs.declared.boole.Boole.TheVariants.{Union as UNION, Inter as INTER, Diff as DIFF}
 
--- whether the operator holds, where the operands hold or do not
+-- whether the operator holds, given whether its operands do
 abbrev pub holds_by : Boole → Bool → Bool → Bool
 holds_by UNION x y = x || y
 holds_by INTER x y = x && y
@@ -23,17 +23,17 @@ operator_for UNION = Union
 operator_for INTER = Inter
 operator_for DIFF = Diff
 
--- where there is an answer, it is the operator's result, wherever both operands stand
+-- if there is an answer, it is the operator's result in all words in which both operands stand
 abbrev pub CutsOff : Boole → Quad → Quad → Option Quad → Type 0
 CutsOff op a b answer = (w : Keeper) → IsKeeper w → QuadStands w a → QuadStands w b → b.height ≡ a.height
     → IfSome answer (IsQuad w a.height (cells_by op (quad_cells w a) (quad_cells w b)))
 
--- both operands as they are, or exchanged where that makes no difference
+-- both operands as they are, or exchanged if that makes no difference
 abbrev pub IsInOrder : Boole → Quad → Quad → Quad × Quad → Type 0
 IsInOrder op a b pair = (pair ≡ (a, b)) ⊎ ((op ≢ DIFF) × (pair ≡ (b, a)))
 
--- where there is an answer, it is the operator's result, wherever both operands stand, and have all cells of their
--- square where they are said to be full
+-- if there is an answer, it is the operator's result in all words in which both operands stand and are full squares as
+-- far as they are said to be
 abbrev pub CutsOffFull : Boole → Quad → Quad → Bool → Bool → Option Quad → Type 0
 CutsOffFull op a b a_full b_full answer = (w : Keeper) → IsKeeper w → QuadStands w a → QuadStands w b
     → b.height ≡ a.height

@@ -1,4 +1,4 @@
-//! Quarters of two quads, with what the recursion reads first of them read ahead.
+//! The quarters of two quads, with prefetching of what the recursion reads first.
 ghost use Rattle.std.specs.Prelude.{◌≡◌, ◌<◌};
 ghost use Rattle.rel_model.specs.Trees.{bottom_height};
 ghost use Rattle.rel_model.specs.Quads.{Keeper, QuadStands, AreQuarters, ReadsQuads};
@@ -9,7 +9,7 @@ use crate::found::op_of;
 use quad_nodes::Nodes;
 use rel_model::Quad;
 
-/// Reads the memo word of two quads over the blocks, so that looking it up later need not wait.
+/// Reads the memo word of two quads above the blocks, so that looking it up later need not wait.
 #[inline(always)]
 fn look_ahead(nodes: &mut Nodes, op: Boole, a: Quad, b: Quad)
     requires a_stands { QuadStands nodes.old a }
@@ -25,7 +25,7 @@ fn look_ahead(nodes: &mut Nodes, op: Boole, a: Quad, b: Quad)
     nodes.look(op_of(op), first, second);
 }
 
-/// Reads what the recursion reads first of two quads, unless they are cut off.
+/// Reads what the recursion on two quads reads first, unless the result follows at once.
 #[inline(always)]
 fn read_ahead(nodes: &mut Nodes, op: Boole, a: Quad, b: Quad)
     requires a_stands { QuadStands nodes.old a }
@@ -33,6 +33,7 @@ fn read_ahead(nodes: &mut Nodes, op: Boole, a: Quad, b: Quad)
     requires one_height { b.height ≡ a.height }
     ensures reads { ReadsQuads nodes.old nodes.new }
 {
+    // This use makes the checker open the invariant of `nodes`, which the early return below needs.
     let _ = nodes.bottom();
     if a.name == 0 || b.name == 0 || a.name == b.name {
         return;
@@ -42,8 +43,8 @@ fn read_ahead(nodes: &mut Nodes, op: Boole, a: Quad, b: Quad)
     look_ahead(nodes, op, a, b);
 }
 
-/// The quarters of two quads. What the recursion reads first of the quarters two by two is read at once, so that these
-/// reads do not wait for one another, nor for words that are placed meanwhile.
+/// The quarters of two quads. What the recursion reads first of each two quarters is read in one go, so that these
+/// reads wait neither for one another nor for words that are placed meanwhile.
 #[inline(always)]
 pub fn quarters_to_combine(
     nodes: &mut Nodes,

@@ -1,4 +1,4 @@
-//! Dense squares of 256 rows, by their blocks in tree order.
+//! Dense squares of 256 rows, combined by their blocks in tree order.
 ghost use Rattle.std.specs.Prelude.{ℕ, ◌≡◌, ◌<◌, length, slice_index, true};
 ghost use Rattle.rel_model.specs.Cells.{block_cells};
 ghost use Rattle.rel_model.specs.Quads.{Keeper, QuadStands, quad_cells, quad_room, ReadsQuads};
@@ -13,7 +13,7 @@ use quad_nodes::Nodes;
 use rel_model::Quad;
 use tree_blocks::{blocks_pay, gather_blocks, spill_blocks};
 
-/// Whether two quads of one height are squares of 256 rows that are quicker by blocks than by quarters.
+/// Whether two quads of one height are squares of 256 rows for which going by blocks is quicker than by quarters.
 pub fn both_pay(nodes: &mut Nodes, a: Quad, b: Quad) -> bool
     requires a_stands { QuadStands nodes.old a }
     requires b_stands { QuadStands nodes.old b }
@@ -26,7 +26,7 @@ pub fn both_pay(nodes: &mut Nodes, a: Quad, b: Quad) -> bool
     blocks_pay(nodes, b)
 }
 
-/// Writes over each block of a list what the operator makes of it and of the block at its place in another.
+/// Replaces each block of a list by the operator's result on it and the block at the same place of another list.
 fn combine_blocks(op: Boole, blocks: &mut [u64], others: &[u64])
     requires len { length others.now ≡ length blocks.old }
     ensures len { length blocks.new ≡ length blocks.old }
@@ -38,10 +38,10 @@ fn combine_blocks(op: Boole, blocks: &mut [u64], others: &[u64])
     }
 }
 
-/// Cell (i, j) where the operator holds of two squares of 256 rows there, by one operation on the words of each two
-/// blocks; the result is noted.
+/// `{(i, j) : op holds of (i, j) in a and (i, j) in b}` for two squares of 256 rows, by one operation on the words of
+/// each two blocks. Notes the result. Refused only if the table is full.
 ///
-/// It is a call of its own, so that its blocks are on the stack once.
+/// Keeping this a separate call puts its blocks on the stack once.
 #[inline(never)]
 pub fn combined_by_blocks(nodes: &mut Nodes, op: Boole, a: Quad, b: Quad) -> Result<Quad, Missed>
     requires a_stands { QuadStands nodes.old a }

@@ -1,4 +1,4 @@
-//! The recursion over the operator.
+//! The recursion, with the operator as an argument.
 ghost use Rattle.std.specs.Prelude.{◌≡◌, ◌<◌};
 ghost use Rattle.rel_model.specs.Trees.{bottom_height};
 ghost use Rattle.rel_model.specs.Quads.{Keeper, QuadStands, quad_cells, quad_room};
@@ -14,7 +14,7 @@ use pair_table::Missed;
 use quad_nodes::Nodes;
 use rel_model::Quad;
 
-/// An operator that goes cell by cell.
+/// An operator that works cell by cell. 1 byte.
 #[derive(Clone, Copy, Debug, PartialEq, Eq)]
 pub enum Boole {
     Union,
@@ -22,7 +22,8 @@ pub enum Boole {
     Diff,
 }
 
-/// Cell (i, j) where the operator holds of `a` and `b` there.
+/// `{(i, j) : op holds of (i, j) in a and (i, j) in b}`: the result of the operator on two quads of one height. Refused
+/// only if the table is full.
 #[cycle(combining)]
 pub fn combined(nodes: &mut Nodes, op: Boole, a: Quad, b: Quad) -> Result<Quad, Missed>
     requires a_stands { QuadStands nodes.old a }
@@ -42,8 +43,8 @@ pub fn combined(nodes: &mut Nodes, op: Boole, a: Quad, b: Quad) -> Result<Quad, 
     combined_over(nodes, op, first, second)
 }
 
-/// The same over the blocks: a full operand is cut off, what was noted is looked up, and what is left goes by blocks
-/// where both operands are dense squares of 256 rows, else by quarters.
+/// The same above the blocks: a full operand settles the result, or a noted result is found; otherwise it goes by
+/// blocks if both operands are dense squares of 256 rows, and by quarters if not.
 #[cycle(combining)]
 fn combined_over(nodes: &mut Nodes, op: Boole, a: Quad, b: Quad) -> Result<Quad, Missed>
     requires a_stands { QuadStands nodes.old a }
@@ -62,7 +63,7 @@ fn combined_over(nodes: &mut Nodes, op: Boole, a: Quad, b: Quad) -> Result<Quad,
     combined_by_quarters(nodes, op, a, b)
 }
 
-/// The same by quarters; the result is noted.
+/// The same by quarters. Notes the result.
 #[cycle(combining)]
 fn combined_by_quarters(nodes: &mut Nodes, op: Boole, a: Quad, b: Quad) -> Result<Quad, Missed>
     requires a_stands { QuadStands nodes.old a }

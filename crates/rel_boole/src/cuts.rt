@@ -1,11 +1,11 @@
-//! What needs no recursion: equal and empty operands, and operands in one order.
+//! Cases without recursion: equal and empty operands; and ordering the operands.
 ghost use Rattle.std.specs.Prelude.{◌≡◌, ◌⊎◌, IsSome};
 ghost use Rattle.rel_boole.specs.Cellwise.{CutsOff, IsInOrder};
 
 use crate::boole::Boole;
 use rel_model::Quad;
 
-/// The result where the operands are one, or one of them has no cell.
+/// The result if the operands are equal or one of them is empty.
 pub fn cut_off(op: Boole, a: Quad, b: Quad) -> Option<Quad>
     ensures value { CutsOff op a b result }
     ensures cuts { (a.name ≡ b.name) ⊎ ((a.name ≡ 0) ⊎ (b.name ≡ 0)) → IsSome result }
@@ -45,7 +45,7 @@ pub fn cut_off(op: Boole, a: Quad, b: Quad) -> Option<Quad>
     }
 }
 
-/// The operands, that with the lesser name first where their order makes no difference.
+/// The operands, with the lesser name first if the operator is commutative.
 pub fn in_order(op: Boole, a: Quad, b: Quad) -> (Quad, Quad)
     ensures { IsInOrder op a b result }
 {

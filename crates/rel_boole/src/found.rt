@@ -1,4 +1,4 @@
-//! What is known without going by quarters: full operands, and what was noted.
+//! What is known without recursion: full operands, and noted results.
 ghost use Rattle.std.specs.Prelude.{◌≡◌, IfSome};
 ghost use Rattle.rel_model.specs.Quads.{Keeper, QuadStands, IsQuad, quad_cells, ReadsQuads};
 ghost use Rattle.memo_laws.specs.Looking.{operator_of};
@@ -9,7 +9,7 @@ use memo_laws::Op;
 use quad_nodes::Nodes;
 use rel_model::Quad;
 
-/// The operator as equations name it.
+/// The operator, as it is named in equations.
 pub fn op_of(op: Boole) -> Op
     ensures { operator_of result ≡ operator_for op }
 {
@@ -20,7 +20,7 @@ pub fn op_of(op: Boole) -> Op
     }
 }
 
-/// The result where one operand is the full square, and nothing of the other needs be known.
+/// The result if one operand is the full square, as far as the other operand need not be known.
 fn with_full(op: Boole, a: Quad, b: Quad, a_full: bool, b_full: bool) -> Option<Quad>
     ensures { CutsOffFull op a b a_full b_full result }
 {
@@ -47,7 +47,7 @@ fn with_full(op: Boole, a: Quad, b: Quad, a_full: bool, b_full: bool) -> Option<
     }
 }
 
-/// The result where an operand is the full square.
+/// The result if an operand is the full square and that settles it.
 fn cut_off_full(nodes: &mut Nodes, op: Boole, a: Quad, b: Quad) -> Option<Quad>
     requires a_stands { QuadStands nodes.old a }
     requires b_stands { QuadStands nodes.old b }
@@ -61,7 +61,8 @@ fn cut_off_full(nodes: &mut Nodes, op: Boole, a: Quad, b: Quad) -> Option<Quad>
     with_full(op, a, b, a_full, b_full)
 }
 
-/// What follows from a full operand, which is told by the words of the operands alone; else what was noted.
+/// The result if a full operand settles it, which is recognised from the words of the operands; otherwise the noted
+/// result, if there is one.
 pub fn found_before(nodes: &mut Nodes, op: Boole, a: Quad, b: Quad) -> Option<Quad>
     requires a_stands { QuadStands nodes.old a }
     requires b_stands { QuadStands nodes.old b }

@@ -1,4 +1,4 @@
-//! Blocks, by one operation on the words.
+//! Blocks, combined by one operation on words.
 ghost use Rattle.std.specs.Prelude.{◌≡◌};
 ghost use Rattle.rel_model.specs.Cells.{block_cells};
 ghost use Rattle.rel_model.specs.Trees.{bottom_height};
@@ -12,7 +12,7 @@ use pair_table::Missed;
 use quad_nodes::Nodes;
 use rel_model::Quad;
 
-/// Cell (i, j) where the operator holds of two blocks there.
+/// `{(i, j) : op holds of (i, j) in a and (i, j) in b}` for two blocks.
 pub fn block_by(op: Boole, a: u64, b: u64) -> u64
     ensures { block_cells result ≡ cells_by op (block_cells a) (block_cells b) }
 {
@@ -23,7 +23,7 @@ pub fn block_by(op: Boole, a: u64, b: u64) -> u64
     }
 }
 
-/// Cell (i, j) where the operator holds of two quads of the height of blocks there.
+/// The same for two quads of the height of blocks. Refused only if the table is full.
 pub fn leaf(nodes: &mut Nodes, op: Boole, a: Quad, b: Quad) -> Result<Quad, Missed>
     requires a_stands { QuadStands nodes.old a }
     requires b_stands { QuadStands nodes.old b }

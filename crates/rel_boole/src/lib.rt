@@ -1,4 +1,4 @@
-//! Union, intersection and difference of quads: one recursion over the operator.
+//! Union, intersection and difference of quads: one recursion with the operator as an argument.
 #![tactic(auto)]
 
 mod ahead;

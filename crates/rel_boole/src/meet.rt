@@ -1,4 +1,4 @@
-//! Whether two quads have a cell in common: a walk by quarters, up to the first cell that is found.
+//! Whether two quads have a cell in common: a walk by quarters that stops at the first common cell.
 ghost use Rattle.std.specs.Prelude.{◌≡◌, ◌<◌, ◌↔◌, false};
 ghost use Rattle.rel_model.specs.Cells.{no_cells, cells_inter};
 ghost use Rattle.rel_model.specs.Trees.{bottom_height};
@@ -29,8 +29,8 @@ fn blocks_meet(nodes: &mut Nodes, a: Quad, b: Quad) -> bool
 
 /// `(i, j) in a and (i, j) in b` for some i and j: whether two quads of one height have a cell in common.
 ///
-/// It makes no node and takes no memory. Where none was found, it is noted that the intersection is empty, so that
-/// each two nodes are walked once.
+/// It makes no node and takes no memory. If there is no common cell, it notes that the intersection is empty, so that
+/// each pair of nodes is walked only once.
 #[cycle(meeting)]
 pub fn quads_meet(nodes: &mut Nodes, a: Quad, b: Quad) -> bool
     requires a_stands { QuadStands nodes.old a }
@@ -50,7 +50,7 @@ pub fn quads_meet(nodes: &mut Nodes, a: Quad, b: Quad) -> bool
     meet_over(nodes, first, second)
 }
 
-/// The same over the blocks: a full operand is cut off, and what was noted is looked up.
+/// The same above the blocks: a full operand settles the answer, or a noted result is found.
 #[cycle(meeting)]
 fn meet_over(nodes: &mut Nodes, a: Quad, b: Quad) -> bool
     requires a_stands { QuadStands nodes.old a }
@@ -66,7 +66,7 @@ fn meet_over(nodes: &mut Nodes, a: Quad, b: Quad) -> bool
     meet_by_quarters(nodes, a, b)
 }
 
-/// The same by quarters, up to the first two that meet; that none did is noted.
+/// The same by quarters, up to the first two that meet. If none do, this is noted.
 #[cycle(meeting)]
 fn meet_by_quarters(nodes: &mut Nodes, a: Quad, b: Quad) -> bool
     requires a_stands { QuadStands nodes.old a }

@@ -9,7 +9,7 @@ use pair_table::Missed;
 use quad_nodes::Nodes;
 use rel_model::Quad;
 
-/// Cell (i, j) where it is in `a` or in `b`, for two quads of one height.
+/// `{(i, j) : (i, j) in a or (i, j) in b}`: the union of two quads of one height. Refused only if the table is full.
 pub fn union_quads(nodes: &mut Nodes, a: Quad, b: Quad) -> Result<Quad, Missed>
     requires a_stands { QuadStands nodes.old a }
     requires b_stands { QuadStands nodes.old b }
@@ -20,7 +20,8 @@ pub fn union_quads(nodes: &mut Nodes, a: Quad, b: Quad) -> Result<Quad, Missed>
     combined(nodes, Boole::Union, a, b)
 }
 
-/// Cell (i, j) where it is in `a` and in `b`, for two quads of one height.
+/// `{(i, j) : (i, j) in a and (i, j) in b}`: the intersection of two quads of one height. Refused only if the table is
+/// full.
 pub fn inter_quads(nodes: &mut Nodes, a: Quad, b: Quad) -> Result<Quad, Missed>
     requires a_stands { QuadStands nodes.old a }
     requires b_stands { QuadStands nodes.old b }
@@ -31,7 +32,8 @@ pub fn inter_quads(nodes: &mut Nodes, a: Quad, b: Quad) -> Result<Quad, Missed>
     combined(nodes, Boole::Inter, a, b)
 }
 
-/// Cell (i, j) where it is in `a` and not in `b`, for two quads of one height.
+/// `{(i, j) : (i, j) in a and not (i, j) in b}`: the difference of two quads of one height. Refused only if the table
+/// is full.
 pub fn diff_quads(nodes: &mut Nodes, a: Quad, b: Quad) -> Result<Quad, Missed>
     requires a_stands { QuadStands nodes.old a }
     requires b_stands { QuadStands nodes.old b }

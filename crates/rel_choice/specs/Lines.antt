@@ -1,10 +1,10 @@
--- Sets of cells that have at most one cell in each row, and sets that share no row.
+-- Sets of cells with at most one cell in each row, and sets that share no row.
 use Rattle.std.specs.Prelude.{◌&&◌, ◌^◌, not, ℕ, Bool}
 use Rattle.rel_model.specs.declared.Quad.{Quad}
 use Rattle.rel_model.specs.Cells.{Cells, some_below}
 use Rattle.rel_model.specs.Worker.{Worker, quad_set}
 
--- whether a test passes at two numbers below n
+-- whether a test passes at two different numbers below n
 abbrev pub passes_twice : ℕ → (ℕ → Bool) → Bool
 passes_twice n t = some_below n (λ j. t j && some_below j t)
 

@@ -1,4 +1,4 @@
--- The step from each number to the one behind it, as a set of cells and as a relation.
+-- The step from each number to the next one, as a set of cells and as a relation.
 use Rattle.std.specs.Prelude.{◌==◌, ◌&&◌, ◌+◌, ◌-◌, ◌*◌, ◌^◌, nat_lt, ℕ}
 use Rattle.rel_model.specs.Relation.{Relation, relation_of}
 use Rattle.rel_model.specs.Cells.{Cells}
@@ -18,7 +18,7 @@ carry_cells m i j = (i == 0) && (j + 1 == m)
 unfoldable pub step_relation : ℕ → Relation
 step_relation n = relation_of n n (λ i j. i == j + 1)
 
--- the quads of a height that have the steps within their square, and the step into it from the square before
+-- the quads of a height for the steps within their square, and for the step into it from the square before
 pub record GivesSteps (w : Worker) (height : ℕ) (steps : Steps) : Type 0 where
   pub whole : GivesQuad w height (step_cells (2 ^ height)) steps.whole
   pub carry : GivesQuad w height (carry_cells (2 ^ height)) steps.carry

@@ -7,8 +7,7 @@ use crate::walking::next_pair;
 use rel_model::quads_trait::Quads;
 use rel_model::{Lack, Rel, Shape};
 
-/// `{(i, 0) : i is the least element of v}`: a point of a vector that has an element, and the empty vector of one
-/// that has none.
+/// `{(i, 0) : i is the least element of v}`: a point of a vector; the empty vector if v is empty.
 pub fn point<Q: Quads>(q: &mut Q, v: Rel) -> Result<Rel, Lack>
     requires stands { Stands (Q.worker q.old) v }
     requires column { v.cols ≡ 1 }
@@ -21,7 +20,8 @@ pub fn point<Q: Quads>(q: &mut Q, v: Rel) -> Result<Rel, Lack>
     atom(q, v)
 }
 
-/// `{(i, j) : (i, j) is the least pair of r by row and then by column}`, and the empty relation of one that has none.
+/// `{(i, j) : (i, j) is the least pair of r by row and then by column}`: an atom of a relation; the empty relation if r
+/// is empty.
 pub fn atom<Q: Quads>(q: &mut Q, r: Rel) -> Result<Rel, Lack>
     requires { Stands (Q.worker q.old) r }
     ensures value { IfOk result (Gives (Q.worker q.new) r.rows r.cols (atom_of (set_of (Q.worker q.old) r))) }
@@ -40,7 +40,7 @@ pub fn atom<Q: Quads>(q: &mut Q, r: Rel) -> Result<Rel, Lack>
     q.single(shape, row, column)
 }
 
-/// `{(0, 0)}` with the rows of v, and the empty vector where it has none.
+/// `{(0, 0)}` with the rows of v: the first element; the empty vector if v has no rows.
 pub fn init<Q: Quads>(q: &mut Q, v: Rel) -> Result<Rel, Lack>
     requires stands { Stands (Q.worker q.old) v }
     requires column { v.cols ≡ 1 }

@@ -1,5 +1,5 @@
-//! The next cell of a row, down the path of the row. An eastern half that is the western again is not looked at where
-//! that has no cell.
+//! The next cell of a row, found along the path of the row. If both halves are the same quad and the western one has no
+//! cell, the eastern one is not searched.
 ghost use Rattle.std.specs.Prelude.{◌≡◌, ◌<◌, ◌≤◌, ◌+◌, ◌^◌};
 ghost use Rattle.rel_model.specs.Trees.{beside};
 ghost use Rattle.rel_model.specs.Worker.{HasQuad, quad_set, Keeps, MakesAtMost, MissesNothing};
@@ -9,7 +9,7 @@ use crate::leaf::{column_in, side_of};
 use rel_model::Quad;
 use rel_model::quads_trait::Quads;
 
-/// The least column from `from` on and below `below` that has a cell in a row of a quad.
+/// The least column, at least `from` and below `below`, that has a cell in a row of a quad.
 #[cycle(column)]
 pub(crate) fn column_from<Q: Quads>(
     q: &mut Q,
@@ -40,7 +40,7 @@ pub(crate) fn column_from<Q: Quads>(
     column_over(q, quad, row, from, below)
 }
 
-/// The same over the leaves.
+/// The same above the leaves.
 #[cycle(column)]
 fn column_over<Q: Quads>(q: &mut Q, quad: Quad, row: u32, from: u32, below: u32) -> Option<u32>
     requires stands { HasQuad (Q.worker q.old) quad }

@@ -11,8 +11,8 @@ use rel_model::{NoMemory, Quad, Rel};
 use std::alloc::Global;
 use std::collections::HashMap;
 
-/// How many pairs a relation has (Knuth, for a sum over a shared tree by a memory of its parts). A relation with no
-/// pair, and one whose tree is a leaf, take no memory.
+/// How many pairs a relation has, as a sum over a shared tree that remembers the sums of its parts (Knuth). The empty
+/// relation, and one whose tree is a leaf, take no memory. Refused only if memory runs out.
 pub fn count<Q: Quads>(alloc: Global, q: &mut Q, r: Rel) -> Result<u64, NoMemory>
     requires { Stands (Q.worker q.old) r }
     ensures value { IfOk result (λ n. n ≡ count_of (set_of (Q.worker q.old) r)) }
@@ -27,7 +27,7 @@ pub fn count<Q: Quads>(alloc: Global, q: &mut Q, r: Rel) -> Result<u64, NoMemory
     counted(q, &mut counts, quad)
 }
 
-/// How many cells a quad has. Each quad over the leaves is counted once.
+/// How many cells a quad has. Each quad above the leaves is counted once.
 #[cycle(counted)]
 fn counted<Q: Quads>(
     q: &mut Q,
@@ -59,7 +59,7 @@ fn counted<Q: Quads>(
     Ok(sum)
 }
 
-/// The same over the leaves, as the sum of the quarters.
+/// The same above the leaves, as the sum over the quarters.
 #[cycle(counted)]
 fn counted_over<Q: Quads>(
     q: &mut Q,

@@ -1,4 +1,4 @@
-//! The rows and the columns that have a pair.
+//! The rows and the columns that have pairs.
 ghost use Rattle.std.specs.Prelude.{◌≡◌, ◌+◌, IfOk};
 ghost use Rattle.rel_model.specs.Choice.{dom as dom_of, ran as ran_of};
 ghost use Rattle.rel_model.specs.Worker.{Stands, set_of, Keeps, MakesAtMost, Gives, HasCause, operator_room, product_room, derived_room};
@@ -6,7 +6,7 @@ ghost use Rattle.rel_model.specs.Worker.{Stands, set_of, Keeps, MakesAtMost, Giv
 use rel_model::quads_trait::Quads;
 use rel_model::{Lack, Rel, Shape};
 
-/// `{(i, 0) : (i, j) in r for some j}`: the domain of definition (Schmidt and Ströhlein).
+/// `{(i, 0) : (i, j) in r for some j}`: the domain of definition, as a vector (Schmidt and Ströhlein).
 pub fn dom<Q: Quads>(q: &mut Q, r: Rel) -> Result<Rel, Lack>
     requires { Stands (Q.worker q.old) r }
     ensures value { IfOk result (Gives (Q.worker q.new) r.rows 1 (dom_of (set_of (Q.worker q.old) r))) }
@@ -19,7 +19,7 @@ pub fn dom<Q: Quads>(q: &mut Q, r: Rel) -> Result<Rel, Lack>
     rows_met(q, r)
 }
 
-/// `{(j, 0) : (i, j) in r for some i}`: the range (Schmidt and Ströhlein).
+/// `{(j, 0) : (i, j) in r for some i}`: the range, as a vector (Schmidt and Ströhlein).
 pub fn ran<Q: Quads>(q: &mut Q, r: Rel) -> Result<Rel, Lack>
     requires { Stands (Q.worker q.old) r }
     ensures value { IfOk result (Gives (Q.worker q.new) r.cols 1 (ran_of (set_of (Q.worker q.old) r))) }
@@ -33,7 +33,7 @@ pub fn ran<Q: Quads>(q: &mut Q, r: Rel) -> Result<Rel, Lack>
     rows_met(q, turned)
 }
 
-/// The rows that have a pair: the relation composed with the full vector of its columns.
+/// The rows that have pairs: the relation composed with the full vector of its columns.
 fn rows_met<Q: Quads>(q: &mut Q, r: Rel) -> Result<Rel, Lack>
     requires { Stands (Q.worker q.old) r }
     ensures value { IfOk result (Gives (Q.worker q.new) r.rows 1 (dom_of (set_of (Q.worker q.old) r))) }

@@ -1,4 +1,4 @@
-//! Lines of a leaf, which lies in one word.
+//! Lines of a leaf, which is one word.
 ghost use Rattle.std.specs.Prelude.{◌≡◌, ◌<◌, ◌≤◌, ◌&&◌, ◌^◌};
 ghost use Rattle.rel_model.specs.Relation.{size_height};
 ghost use Rattle.rel_model.specs.Cells.{bits_cells, some_below};
@@ -13,7 +13,7 @@ pub(crate) fn side_of(height: u8) -> u32
     1u32 << height
 }
 
-/// The least column from `from` on and below `below` that has a cell in a row of a leaf.
+/// The least column, at least `from` and below `below`, that has a cell in a row of a leaf.
 pub(crate) fn column_in(bits: u64, side: u32, row: u32, from: u32, below: u32) -> Option<u32>
     requires small { side ≤ 8 }
     requires row_within { row < side }
@@ -28,7 +28,7 @@ pub(crate) fn column_in(bits: u64, side: u32, row: u32, from: u32, below: u32) -
     None
 }
 
-/// The least row from `from` on and below `below` that has a cell in a leaf.
+/// The least row, at least `from` and below `below`, that has a cell in a leaf.
 pub(crate) fn row_in(bits: u64, side: u32, from: u32, below: u32) -> Option<u32>
     requires small { side ≤ 8 }
     requires within { below ≤ side }

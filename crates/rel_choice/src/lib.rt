@@ -1,4 +1,4 @@
-//! Choice, tests and walks over pairs, for whatever keeps relations as trees of quadrants.
+//! Choice, tests and walks over pairs, over any worker that keeps relations as trees of quadrants.
 #![tactic(auto)]
 
 mod choosing;

@@ -1,4 +1,4 @@
-//! Whether a relation is univalent, by quarters. What the quarters are is looked at before they are compared.
+//! Whether a relation is univalent, by quarters. Each quarter is examined by itself before two are compared.
 ghost use Rattle.std.specs.Prelude.{◌≡◌, ◌<◌, true};
 ghost use Rattle.rel_model.specs.Choice.{is_unival};
 ghost use Rattle.rel_model.specs.Worker.{Stands, set_of, HasQuad, Keeps, MakesAtMost, MissesNothing};
@@ -8,7 +8,7 @@ use crate::leaf::{leaf_is_single, leaves_are_apart, side_of};
 use rel_model::quads_trait::Quads;
 use rel_model::{Quad, Rel};
 
-/// Whether no row has two pairs (Schmidt and Ströhlein: the relation is univalent).
+/// Whether no row has two pairs: the relation is univalent (Schmidt and Ströhlein).
 pub fn unival<Q: Quads>(q: &mut Q, r: Rel) -> bool
     requires { Stands (Q.worker q.old) r }
     ensures value { result ≡ is_unival (set_of (Q.worker q.old) r) }
@@ -40,7 +40,7 @@ fn is_single<Q: Quads>(q: &mut Q, quad: Quad) -> bool
     is_single_over(q, quad)
 }
 
-/// The same over the leaves.
+/// The same above the leaves.
 #[cycle(single)]
 fn is_single_over<Q: Quads>(q: &mut Q, quad: Quad) -> bool
     requires stands { HasQuad (Q.worker q.old) quad }
@@ -69,7 +69,7 @@ fn is_single_over<Q: Quads>(q: &mut Q, quad: Quad) -> bool
     are_apart(q, sw, se)
 }
 
-/// The same of a quad beside two of its height of which it is known.
+/// The same for a quad, given two quads of its height for which it is known.
 #[cycle(single)]
 fn is_single_besides<Q: Quads>(q: &mut Q, quad: Quad, one: Quad, other: Quad) -> bool
     requires stands { HasQuad (Q.worker q.old) quad }
@@ -117,7 +117,7 @@ fn are_apart<Q: Quads>(q: &mut Q, a: Quad, b: Quad) -> bool
     are_apart_over(q, a, b)
 }
 
-/// The same over the leaves.
+/// The same above the leaves.
 #[cycle(apart)]
 fn are_apart_over<Q: Quads>(q: &mut Q, a: Quad, b: Quad) -> bool
     requires a_stands { HasQuad (Q.worker q.old) a }

@@ -1,5 +1,5 @@
-//! The next row that has a cell. A half in which none can be less than what was found is not looked at, nor one that
-//! is the other half again.
+//! The next row that has a cell. A half is not searched if it can have no lesser row than the one found, or if it is
+//! the same quad as the other half.
 ghost use Rattle.std.specs.Prelude.{◌≡◌, ◌<◌, ◌≤◌, ◌^◌};
 ghost use Rattle.rel_model.specs.Worker.{HasQuad, quad_set, Keeps, MakesAtMost, MissesNothing};
 ghost use Rattle.rel_choice.specs.Leasts.{IsLeast, row_meets, row_meets_either};
@@ -8,7 +8,7 @@ use crate::leaf::{row_in, side_of};
 use rel_model::Quad;
 use rel_model::quads_trait::Quads;
 
-/// The least row from `from` on and below `below` that has a cell in a quad.
+/// The least row, at least `from` and below `below`, that has a cell in a quad.
 #[cycle(row)]
 pub(crate) fn row_from<Q: Quads>(q: &mut Q, quad: Quad, from: u32, below: u32) -> Option<u32>
     requires stands { HasQuad (Q.worker q.old) quad }
@@ -32,7 +32,7 @@ pub(crate) fn row_from<Q: Quads>(q: &mut Q, quad: Quad, from: u32, below: u32) -
     row_over(q, quad, from, below)
 }
 
-/// The same over the leaves.
+/// The same above the leaves.
 #[cycle(row)]
 fn row_over<Q: Quads>(q: &mut Q, quad: Quad, from: u32, below: u32) -> Option<u32>
     requires stands { HasQuad (Q.worker q.old) quad }

@@ -1,4 +1,4 @@
-//! The step from each element of a domain to the one behind it.
+//! The step from each element of a domain to the next one.
 ghost use Rattle.std.specs.Prelude.{◌≡◌, ◌<◌, ◌≤◌, ◌*◌, ◌^◌, IfOk};
 ghost use Rattle.rel_model.specs.Relation.{size_limit};
 ghost use Rattle.rel_model.specs.Cells.{bits_cells};
@@ -11,9 +11,9 @@ use crate::leaf::side_of;
 use rel_model::quads_trait::Quads;
 use rel_model::{Lack, Quad, Rel, Shape};
 
-/// `{(i + 1, 0) : i is in v, i + 1 < rows}`: each element moved up by one, the last dropped.
+/// `{(i + 1, 0) : i is in v, i + 1 < rows}`: moves each element up by one and drops the last.
 ///
-/// It is the relation of the steps composed with the vector, so what was composed before is shared.
+/// It is the relation of all steps composed with the vector, so it shares what was composed before.
 pub fn next<Q: Quads>(q: &mut Q, v: Rel) -> Result<Rel, Lack>
     requires stands { Stands (Q.worker q.old) v }
     requires column { v.cols ≡ 1 }
@@ -32,7 +32,7 @@ pub fn next<Q: Quads>(q: &mut Q, v: Rel) -> Result<Rel, Lack>
     q.compose(step, v)
 }
 
-/// `{(j + 1, j) : j + 1 < n}`: the steps of the square of n, cut to n.
+/// `{(j + 1, j) : j + 1 < n}`: the steps of the square of n elements, cut to n rows and columns.
 fn step_below<Q: Quads>(q: &mut Q, n: u32) -> Result<Rel, Lack>
     requires { n ≤ size_limit }
     ensures value { IfOk result (Gives (Q.worker q.new) n n (step_relation n)) }
@@ -62,7 +62,7 @@ struct Steps {
     carry: Quad,
 }
 
-/// The steps of a height, by those of the height below: twice the same, and the step between them.
+/// The steps of a height from those of the height below: the same twice, and the step between them.
 fn steps_of<Q: Quads>(q: &mut Q, height: u8) -> Result<Steps, Lack>
     requires low { Q.least ≤ height }
     requires high { height ≤ top_height }

@@ -11,7 +11,7 @@ use crate::rows::row_from;
 use rel_model::quads_trait::Quads;
 use rel_model::{Quad, Rel};
 
-/// The least pair by row and then by column, of those behind `after` where it is given.
+/// The least pair of a relation by row and then by column; if `after` is given, the least pair after that one.
 ///
 /// It takes no memory and makes no node.
 pub fn next_pair<Q: Quads>(q: &mut Q, r: Rel, after: Option<(u32, u32)>) -> Option<(u32, u32)>
@@ -29,7 +29,7 @@ pub fn next_pair<Q: Quads>(q: &mut Q, r: Rel, after: Option<(u32, u32)>) -> Opti
     pair_behind(q, quad, row, column)
 }
 
-/// The least cell of a quad behind one place.
+/// The least cell of a quad after a place.
 fn pair_behind<Q: Quads>(q: &mut Q, quad: Quad, row: u32, column: u32) -> Option<(u32, u32)>
     requires { HasQuad (Q.worker q.old) quad }
     ensures value { IsLeastPair (quad_set (Q.worker q.old) quad) (behind row column) result }

@@ -3,7 +3,7 @@ ghost use Rattle.std.specs.Prelude.{◌≡◌, ◌<◌, ◌+◌, ◌-◌, ◌^�
 use std::marker::Model;
 use std::sync::ledger::{Blank, Book, Ledger, Share};
 
-/// A count of steps, which never falls. The ledger `L` keeps it exactly; the number that can be read stops at its
+/// A count of steps, which never falls. The ledger `L` keeps it exactly; the number that can be read saturates at its
 /// last value. 8 bytes.
 #[derive(Drop)]
 pub struct Steps<L: Ledger> {
@@ -23,7 +23,7 @@ impl<L: Ledger> Model for Steps<L> {
 }
 
 impl<L: Ledger> Steps<L> {
-    /// No step yet, of a ledger that nobody else keeps.
+    /// No step yet, in a ledger that nobody else keeps.
     pub fn new(blank: Blank) -> Steps<L>
         requires name { blank.name ≡ L.name }
         requires parts { blank.parts ≡ L.parts }
@@ -45,7 +45,7 @@ impl<L: Ledger> Steps<L> {
         self.count
     }
 
-    /// One more step.
+    /// Counts one more step.
     pub fn step(&mut self)
         ensures { self.new ≡ self.old + 1 }
     {

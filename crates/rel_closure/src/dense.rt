@@ -1,4 +1,5 @@
-//! Whether a square is so dense that its closure is quicker by rows of bits than by quarters.
+//! Whether a square is so dense that its closure is quicker by rows of bits than by quarters. All of this is a guess;
+//! no result depends on it.
 ghost use Rattle.std.specs.Prelude.{◌≡◌, ◌<◌, ◌≤◌, true, length};
 ghost use Rattle.rel_model.specs.Worker.{HasQuad};
 ghost use Rattle.rel_closure.specs.Reading.{OnlyReads};
@@ -6,7 +7,7 @@ ghost use Rattle.rel_closure.specs.Reading.{OnlyReads};
 use rel_model::Quad;
 use rel_model::quads_trait::Quads;
 
-/// How many different quads are under a dense square of a height, at least.
+/// A dense square of a height has at least this many distinct quads under it.
 fn least_under(height: u8) -> u32 {
     match height {
         8 => 80,
@@ -15,8 +16,8 @@ fn least_under(height: u8) -> u32 {
     }
 }
 
-/// Counts the quads under a quad, on to those met before and up to a bound; a name is told from those met before by
-/// its place.
+/// Counts distinct quads from `q` down, adding to `met`, and stops at `most`. `seen` is a direct-mapped cache of the
+/// names met so far, so a quad may be counted twice.
 fn met_under<Q: Quads>(quads: &mut Q, q: Quad, seen: &mut [u32], met: u32, most: u32) -> u32
     requires stands { HasQuad (Q.worker quads.old) q }
     requires places { length seen.old ≡ 256 }
@@ -41,7 +42,7 @@ fn met_under<Q: Quads>(quads: &mut Q, q: Quad, seen: &mut [u32], met: u32, most:
     met_under(quads, se, seen, third, most)
 }
 
-/// Whether the first and the last quarter of a square differ, as they do not in many regular relations.
+/// Whether the first and the last quarter of a square differ. In many regular relations they are equal.
 fn ends_differ<Q: Quads>(quads: &mut Q, q: Quad) -> bool
     requires stands { HasQuad (Q.worker quads.old) q }
     requires over { Q.least < q.height }
@@ -51,9 +52,9 @@ fn ends_differ<Q: Quads>(quads: &mut Q, q: Quad) -> bool
     nw.name != se.name
 }
 
-/// Whether many different quads are under a square.
+/// Whether many distinct quads are under a square.
 ///
-/// It is a call of its own, so that its array is on the stack once.
+/// Keeping this a separate call puts its array on the stack once, not in each frame of a recursion.
 #[inline(never)]
 fn has_many<Q: Quads>(quads: &mut Q, q: Quad) -> bool
     requires stands { HasQuad (Q.worker quads.old) q }

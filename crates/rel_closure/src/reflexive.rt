@@ -29,7 +29,7 @@ fn part<C: Core>(core: &mut C, n: u32, first: u32, count: u32) -> Result<Rel, La
     Ok(both)
 }
 
-/// `I = {(i, i)}`: the identity of n elements (Schmidt and Ströhlein), by one call of `single` for each.
+/// `I = {(i, i)}`: the identity of n elements (Schmidt and Ströhlein), by one call of `single` for each element.
 pub fn identity<C: Core>(core: &mut C, n: u32) -> Result<Rel, Lack>
     requires limit { n ≤ size_limit }
     ensures value { IfOk result (Gives (C.worker core.new) n n (identity_of n)) }
@@ -45,7 +45,7 @@ pub fn identity<C: Core>(core: &mut C, n: u32) -> Result<Rel, Lack>
     Ok(all)
 }
 
-/// `refl(R) = R | I`: a square relation with the pairs (i, i) (Schmidt and Ströhlein).
+/// `refl(R) = R | I`: the reflexive closure, a square relation with all pairs (i, i) added (Schmidt and Ströhlein).
 pub fn refl<C: Core>(core: &mut C, r: Rel) -> Result<Rel, Lack>
     requires standing { Stands (C.worker core.old) r }
     requires square { r.rows ≡ r.cols }

@@ -43,7 +43,7 @@ fn spill<Q: Quads>(quads: &mut Q, q: Quad, z: &mut [Row], row: usize, col: usize
     spill(quads, se, z, row + half, col + half);
 }
 
-/// The quad of the cells of rows, from a row and a column on. A square with no cell is seen before it is cut.
+/// The quad of the cells of rows, from a row and a column on. A square without a cell is recognised before it is cut.
 fn gather<Q: Quads>(
     quads: &mut Q,
     z: &[Row],
@@ -78,10 +78,10 @@ fn gather<Q: Quads>(
     Ok(all)
 }
 
-/// The closure of a square of up to 256 rows and columns over blocks of 8 by 8: its cells are written to rows, which
-/// are closed, and the quad of their cells is the result.
+/// The closure of a square of up to 256 rows and columns over blocks of 8 by 8: writes its cells to rows, closes these,
+/// and names the quad of their cells.
 ///
-/// The rows are on the stack, 8 KB, so this is a call of its own.
+/// The rows take 8 KB of stack; keeping this a separate call puts them there only while it runs.
 #[inline(never)]
 pub(crate) fn closed_by_rows<Q: Quads>(quads: &mut Q, q: Quad) -> Result<Quad, Lack>
     requires stands { HasQuad (Q.worker quads.old) q }

@@ -8,12 +8,12 @@ use rel_model::{Lack, Rel};
 use std::marker::Brand;
 use std::sync::ledger::{Blank, Ledger};
 
-/// `trans(R)`: the pairs that a walk of at least one step joins (Schmidt and Ströhlein), by squares. Each composition
-/// is counted.
+/// `trans(R)`: the pairs joined by a walk of at least one step (Schmidt and Ströhlein), by squaring. R must be square.
+/// Each composition is counted.
 ///
-/// After k squares the pairs are those of walks of up to `2^k` steps, and as many steps as there are elements are
-/// enough. It stops before where a square adds no pair. So no fewer are counted than the closure needs: it has the
-/// walks of up to `2^k` steps, where k were counted.
+/// After k squarings the result has the pairs joined by walks of up to `2^k` steps, and as many steps as there are
+/// elements are enough. It stops early if a squaring adds no pair. So it counts no fewer than the closure needs: with k
+/// counted, walks of up to `2^k` steps are the closure.
 pub fn trans_counted<C: Core, L: Ledger>(
     core: &mut C,
     r: Rel,
@@ -68,7 +68,8 @@ fn trans_alone<C: Core, L: Ledger>(core: &mut C, r: Rel, blank: Blank) -> Result
     }
 }
 
-/// `trans(R)`: the pairs that a walk of at least one step joins (Schmidt and Ströhlein).
+/// `trans(R)`: the transitive closure of a square relation, the pairs joined by a walk of at least one step (Schmidt
+/// and Ströhlein).
 pub fn trans<C: Core>(core: &mut C, r: Rel) -> Result<Rel, Lack>
     requires standing { Stands (C.worker core.old) r }
     requires square { r.rows ≡ r.cols }

@@ -15,7 +15,7 @@ pub record BothStand (w : Keeper) (height : ℕ) (pair : Quad × Quad) : Type 0 
   pub first_height : pair.0.height ≡ height
   pub second_height : pair.1.height ≡ height
 
--- a row of two sets times a column of two, each of side m
+-- the product of a row of two sets with a column of two, each of side m
 abbrev pub row_by_column : ℕ → Cells → Cells → Cells → Cells → Cells
 row_by_column m a b e g = cells_union (cells_compose m a e) (cells_compose m b g)
 
@@ -34,13 +34,13 @@ pub record AreProducts (old new : Keeper) (row west east : Quad × Quad) (pair :
 abbrev pub quarter_room : ℕ → ℕ
 quarter_room height = compose_room height + compose_room height + quad_room height
 
--- the half of two in which a place lies, and the place within it
+-- the one of two halves in which a place lies, and the place within it
 pub record IsHalf (first second : Quad × Quad) (place half : ℕ) (pair : Quad × Quad) (rest : ℕ) : Type 0 where
   pub which : ((place < half) × (pair ≡ first) × (rest ≡ place))
       ⊎ ((half ≤ place) × (pair ≡ second) × (rest ≡ place - half))
 
--- to four squares of rows the cells of a set were added that are within 512 rows and columns, from a row and a column
--- on: to each square those of its 256
+-- the cells of a set in 512 rows and columns, from a row and a column on, were added to four squares of rows: to each
+-- square those in its 256 rows and columns
 pub record AddsWindows (old new : Squares) (row col : ℕ) (f : Cells) : Type 0 where
   pub nw : rows_cells new.nw ≡ cells_union (rows_cells old.nw) (window row col 256 f)
   pub ne : rows_cells new.ne ≡ cells_union (rows_cells old.ne) (window row (col + 256) 256 f)
@@ -58,7 +58,7 @@ pub record FourAreSmall (w : Keeper) (four : Quad × Quad × Quad × Quad) : Typ
   pub sw_height : four.2.height ≡ 8
   pub se_height : four.3.height ≡ 8
 
--- to four squares of rows the cells of four quads were added
+-- the cells of four quads were added to four squares of rows
 pub record AddsQuads (w : Keeper) (four : Quad × Quad × Quad × Quad) (old new : Squares) : Type 0 where
   pub nw : rows_cells new.nw ≡ cells_union (rows_cells old.nw) (placed 0 0 (quad_cells w four.0))
   pub ne : rows_cells new.ne ≡ cells_union (rows_cells old.ne) (placed 0 0 (quad_cells w four.1))

@@ -1,4 +1,4 @@
-//! The composition, by quarters, and by rows of bits where that pays.
+//! The composition, by quarters, and by rows of bits if that pays.
 ghost use Rattle.std.specs.Prelude.{◌≡◌, ◌⊎◌, ◌<◌, ◌+◌, IfOk};
 ghost use Rattle.rel_model.specs.Cells.{cells_rect, cells_compose};
 ghost use Rattle.rel_model.specs.Trees.{bottom_height};
@@ -17,7 +17,8 @@ use quad_nodes::Nodes;
 use rel_boole::union_quads;
 use rel_model::Quad;
 
-/// Cell (i, k) where some j has (i, j) in `a` and (j, k) in `b`, for two quads of one height.
+/// `{(i, k) : (i, j) in a and (j, k) in b for some j}`: the composition of two quads of one height. Refused only if the
+/// table is full.
 pub fn compose_quads(nodes: &mut Nodes, a: Quad, b: Quad) -> Result<Quad, Missed>
     requires a_stands { QuadStands nodes.old a }
     requires b_stands { QuadStands nodes.old b }
@@ -36,7 +37,7 @@ pub fn compose_quads(nodes: &mut Nodes, a: Quad, b: Quad) -> Result<Quad, Missed
     composed(nodes, a, b, TALLEST)
 }
 
-/// The same by quarters alone, never by rows.
+/// The same, by quarters only, never by rows.
 pub fn compose_by_quarters(nodes: &mut Nodes, a: Quad, b: Quad) -> Result<Quad, Missed>
     requires a_stands { QuadStands nodes.old a }
     requires b_stands { QuadStands nodes.old b }
@@ -55,7 +56,7 @@ pub fn compose_by_quarters(nodes: &mut Nodes, a: Quad, b: Quad) -> Result<Quad, 
     composed(nodes, a, b, 0)
 }
 
-/// The same, by rows up to a height where that pays.
+/// The same, going by rows up to a height if that pays.
 #[cycle(composing)]
 fn composed(nodes: &mut Nodes, a: Quad, b: Quad, tallest: u8) -> Result<Quad, Missed>
     requires a_stands { QuadStands nodes.old a }
@@ -88,7 +89,7 @@ fn composed(nodes: &mut Nodes, a: Quad, b: Quad, tallest: u8) -> Result<Quad, Mi
     composed_over(nodes, a, b, tallest)
 }
 
-/// The same over the blocks: what was noted is looked up, and what was not is composed and noted.
+/// The same above the blocks. Looks up whether the result was noted; if not, composes and notes it.
 #[cycle(composing)]
 fn composed_over(nodes: &mut Nodes, a: Quad, b: Quad, tallest: u8) -> Result<Quad, Missed>
     requires a_stands { QuadStands nodes.old a }
@@ -113,7 +114,7 @@ fn composed_over(nodes: &mut Nodes, a: Quad, b: Quad, tallest: u8) -> Result<Qua
     by_quarters(nodes, a, b, under)
 }
 
-/// The same by quarters, and it is noted.
+/// The same by quarters. Notes the result.
 #[cycle(composing)]
 fn by_quarters(nodes: &mut Nodes, a: Quad, b: Quad, tallest: u8) -> Result<Quad, Missed>
     requires a_stands { QuadStands nodes.old a }
@@ -133,7 +134,7 @@ fn by_quarters(nodes: &mut Nodes, a: Quad, b: Quad, tallest: u8) -> Result<Quad,
     Ok(found)
 }
 
-/// A row of two quads times both columns of a square.
+/// The products of a row of two quads with both columns of a square.
 #[cycle(composing)]
 fn row_of_products(
     nodes: &mut Nodes,
@@ -154,7 +155,7 @@ fn row_of_products(
     Ok((first, second))
 }
 
-/// A row of two quads times a column of two: the union of two compositions.
+/// The product of a row of two quads with a column of two: the union of two compositions.
 #[cycle(composing)]
 fn product(
     nodes: &mut Nodes,

@@ -1,4 +1,5 @@
-//! Whether two squares are so dense that their product is quicker by rows of bits than by quarters.
+//! Whether two squares are so dense that their product is quicker by rows of bits than by quarters. All of this is a
+//! guess; no result depends on it.
 ghost use Rattle.std.specs.Prelude.{◌≡◌, ◌<◌, ◌≤◌, true, length};
 ghost use Rattle.rel_model.specs.Trees.{bottom_height};
 ghost use Rattle.rel_model.specs.Equations.{side_of};
@@ -7,13 +8,13 @@ ghost use Rattle.rel_model.specs.Quads.{Keeper, QuadStands, ReadsQuads};
 use quad_nodes::Nodes;
 use rel_model::Quad;
 
-/// The greatest height of squares that are composed by rows, or by sums of rows.
+/// The greatest height of squares that are composed by rows or by sums of rows.
 pub(crate) const TALLEST: u8 = 13;
 
-/// How many of the sixteen squares two heights below a dense square have a cell, at least.
+/// A dense square has at least this many non-empty squares among the sixteen two heights below it.
 const MOST_FILLED: u32 = 12;
 
-/// How many different quads are under a dense square of a height, at least.
+/// A dense square of a height has at least this many distinct quads under it.
 fn least_under(height: u8) -> u32 {
     match height {
         8 => 80,
@@ -22,8 +23,8 @@ fn least_under(height: u8) -> u32 {
     }
 }
 
-/// Counts the quads under a quad, on to those met before and up to a bound; a name is told from those met before by
-/// its place.
+/// Counts distinct quads from `q` down, adding to `met`, and stops at `most`. `seen` is a direct-mapped cache of the
+/// names met so far, so a quad may be counted twice.
 fn met_under(nodes: &mut Nodes, q: Quad, seen: &mut [u32], met: u32, most: u32) -> u32
     requires stands { QuadStands nodes.old q }
     requires places { length seen.old ≡ 256 }
@@ -49,8 +50,8 @@ fn met_under(nodes: &mut Nodes, q: Quad, seen: &mut [u32], met: u32, most: u32) 
     met_under(nodes, se, seen, third, most)
 }
 
-/// Whether a square with these quarters may be dense: at most one has no cell, and the first and the last differ, as
-/// they do not in many regular relations.
+/// Whether a square with these quarters may be dense: at most one is empty, and the first and the last differ. In many
+/// regular relations these are equal.
 fn may_be_dense(four: (Quad, Quad, Quad, Quad)) -> bool {
     let (nw, ne, sw, se) = four;
     if nw.name == se.name {
@@ -62,7 +63,7 @@ fn may_be_dense(four: (Quad, Quad, Quad, Quad)) -> bool {
     ne.name != 0 || sw.name != 0
 }
 
-/// How many quarters of a quad have a cell; of a block none are counted.
+/// How many quarters of a quad are non-empty; 0 for a block.
 fn filled_quarters(nodes: &mut Nodes, q: Quad) -> u32
     requires stands { QuadStands nodes.old q }
     ensures reads { ReadsQuads nodes.old nodes.new }
@@ -77,7 +78,7 @@ fn filled_quarters(nodes: &mut Nodes, q: Quad) -> u32
     north.saturating_add(south)
 }
 
-/// Whether most of the sixteen quarters of four quads have a cell, as they have in squares of 256 rows that are dense.
+/// Whether most of the sixteen quarters of four quads are non-empty, as in dense squares of 256 rows.
 fn are_filled(nodes: &mut Nodes, four: (Quad, Quad, Quad, Quad)) -> bool
     requires nw { QuadStands nodes.old four.0 }
     requires ne { QuadStands nodes.old four.1 }
@@ -95,9 +96,9 @@ fn are_filled(nodes: &mut Nodes, four: (Quad, Quad, Quad, Quad)) -> bool
     north.saturating_add(south) >= MOST_FILLED
 }
 
-/// Whether a quad may be dense by its quarters, and has many different quads under it.
+/// Whether a quad is dense: it may be by its quarters, and it has many distinct quads under it.
 ///
-/// It is a call of its own, so that its array is on the stack once.
+/// Keeping this a separate call puts its array on the stack once, not in each frame of a recursion.
 #[inline(never)]
 fn is_dense(nodes: &mut Nodes, q: Quad) -> bool
     requires stands { QuadStands nodes.old q }
@@ -116,7 +117,7 @@ fn is_dense(nodes: &mut Nodes, q: Quad) -> bool
     met_under(nodes, q, &mut seen, 0, most) >= most
 }
 
-/// Whether two quads of one height, which is at most `tallest` and that of rows, are both dense.
+/// Whether two quads are both dense and have a height at which rows pay (6 to 8, and at most `tallest`).
 pub(crate) fn rows_pay(nodes: &mut Nodes, a: Quad, b: Quad, tallest: u8) -> bool
     requires a_stands { QuadStands nodes.old a }
     requires b_stands { QuadStands nodes.old b }
@@ -125,6 +126,7 @@ pub(crate) fn rows_pay(nodes: &mut Nodes, a: Quad, b: Quad, tallest: u8) -> bool
     ensures small { result ≡ true → side_of a.height ≤ 256 }
     ensures reads { ReadsQuads nodes.old nodes.new }
 {
+    // This use makes the checker open the invariant of `nodes`, which the early return below needs.
     let _ = nodes.bottom();
     if a.height < 6 || a.height > 8 || a.height > tallest {
         return false;
@@ -135,8 +137,8 @@ pub(crate) fn rows_pay(nodes: &mut Nodes, a: Quad, b: Quad, tallest: u8) -> bool
     is_dense(nodes, b)
 }
 
-/// How many different quads are under each of two squares of a height, at least, where a quad is joined with their
-/// product in rows: fewer than where the product alone is done so, since neither it nor a sum below it is named.
+/// At least how many distinct quads are under each of two squares of a height, for their product to be joined with a
+/// quad in rows. Fewer are needed than for a product alone, because neither the product nor a partial sum is named.
 fn least_joined(height: u8) -> u32 {
     match height {
         8 => 40,
@@ -145,9 +147,9 @@ fn least_joined(height: u8) -> u32 {
     }
 }
 
-/// Whether a quad has so many different quads under it.
+/// Whether at least `least` distinct quads are under a quad.
 ///
-/// It is a call of its own, so that its array is on the stack once.
+/// Keeping this a separate call puts its array on the stack once.
 #[inline(never)]
 fn has_under(nodes: &mut Nodes, q: Quad, least: u32) -> bool
     requires stands { QuadStands nodes.old q }
@@ -158,8 +160,8 @@ fn has_under(nodes: &mut Nodes, q: Quad, least: u32) -> bool
     met_under(nodes, q, &mut seen, 0, least) >= least
 }
 
-/// Whether a quad is joined in rows with the product of two quads, which have one height, that of rows, and many
-/// different quads under them.
+/// Whether the product of two quads of one height should be joined with a quad in rows: their height is one at which
+/// rows pay, and both have many distinct quads under them.
 pub(crate) fn joins_pay(nodes: &mut Nodes, y: Quad, z: Quad) -> bool
     requires y_stands { QuadStands nodes.old y }
     requires z_stands { QuadStands nodes.old z }
@@ -176,7 +178,8 @@ pub(crate) fn joins_pay(nodes: &mut Nodes, y: Quad, z: Quad) -> bool
     has_under(nodes, z, least)
 }
 
-/// How many different dense squares of 256 rows are under a square whose products are summed, at least.
+/// At least how many distinct dense squares of 256 rows are under a square of a height, for products to be summed in
+/// rows.
 fn least_dense(height: u8) -> u32 {
     match height {
         9 => 2,
@@ -187,8 +190,8 @@ fn least_dense(height: u8) -> u32 {
     }
 }
 
-/// Whether a square of 256 rows counts: it is dense, or, where a quad is joined with the product, has many different
-/// quads under it.
+/// Whether a square of 256 rows counts for that: it is dense or, if a quad is joined with the product, has many
+/// distinct quads under it.
 fn is_counted(nodes: &mut Nodes, q: Quad, join: bool) -> bool
     requires stands { QuadStands nodes.old q }
     requires over { bottom_height < q.height }
@@ -200,8 +203,8 @@ fn is_counted(nodes: &mut Nodes, q: Quad, join: bool) -> bool
     is_dense(nodes, q)
 }
 
-/// Counts the squares of 256 rows under a quad that are dense, or have many quads, on to those met before and up to a
-/// bound; a name is told from those met before by its place.
+/// Counts distinct squares of 256 rows under `q` that `is_counted` accepts, adding to `met`, and stops at `most`.
+/// `seen` is a direct-mapped cache of the names met so far, so a square may be counted twice.
 fn dense_under(nodes: &mut Nodes, q: Quad, join: bool, seen: &mut [u32], met: u32, most: u32) -> u32
     requires stands { QuadStands nodes.old q }
     requires tall { 8 ≤ q.height }
@@ -228,9 +231,9 @@ fn dense_under(nodes: &mut Nodes, q: Quad, join: bool, seen: &mut [u32], met: u3
     dense_under(nodes, se, join, seen, third, most)
 }
 
-/// Whether many different squares of 256 rows under a quad are dense, or have many quads.
+/// Whether many distinct squares of 256 rows under a quad are dense or, if `join`, have many quads.
 ///
-/// It is a call of its own, so that its array is on the stack once.
+/// Keeping this a separate call puts its array on the stack once.
 #[inline(never)]
 fn has_many(nodes: &mut Nodes, q: Quad, join: bool) -> bool
     requires stands { QuadStands nodes.old q }
@@ -247,9 +250,9 @@ fn has_many(nodes: &mut Nodes, q: Quad, join: bool) -> bool
     dense_under(nodes, q, join, &mut seen, 0, least) >= least
 }
 
-/// Whether a dense square of 256 rows is under a quad.
+/// Whether there is a dense square of 256 rows under a quad.
 ///
-/// It is a call of its own, so that its array is on the stack once.
+/// Keeping this a separate call puts its array on the stack once.
 #[inline(never)]
 fn has_dense(nodes: &mut Nodes, q: Quad) -> bool
     requires stands { QuadStands nodes.old q }
@@ -261,8 +264,8 @@ fn has_dense(nodes: &mut Nodes, q: Quad) -> bool
     dense_under(nodes, q, false, &mut seen, 0, 1) > 0
 }
 
-/// Up to which height it is asked of the squares under two squares whether rows pay, where it did not pay for these:
-/// not at all where one of them has no dense square of 256 rows, nor under squares of 128 rows, which are many.
+/// Up to which height the recursion asks again whether rows pay, after they did not pay for these two squares. It does
+/// not ask at all if one of them has no dense square of 256 rows, nor below squares of 128 rows, since there are many.
 pub(crate) fn asked_under(nodes: &mut Nodes, a: Quad, b: Quad, tallest: u8) -> u8
     requires a_stands { QuadStands nodes.old a }
     requires b_stands { QuadStands nodes.old b }
@@ -282,8 +285,8 @@ pub(crate) fn asked_under(nodes: &mut Nodes, a: Quad, b: Quad, tallest: u8) -> u
     if has_dense(nodes, b) { tallest } else { 0 }
 }
 
-/// Whether two quads of one height, which is at most `tallest` and over that of rows, both have many dense squares, or,
-/// where a quad is joined with their product, squares with many quads.
+/// Whether the products of two quads should be summed in rows: their height is more than 8 and at most `tallest`, and
+/// both have many dense squares or, if the product is joined with a quad, many squares with many quads.
 pub(crate) fn sums_pay(nodes: &mut Nodes, a: Quad, b: Quad, join: bool, tallest: u8) -> bool
     requires a_stands { QuadStands nodes.old a }
     requires b_stands { QuadStands nodes.old b }

@@ -1,5 +1,4 @@
-//! A quad and a product as one: the cells of the quad are the rows to which the product is added, and only the sum is
-//! named.
+//! A quad joined with a product: the product is added to the rows of the quad's cells, and only the sum is named.
 ghost use Rattle.std.specs.Prelude.{◌≡◌, ◌<◌, ◌≤◌, IfOk};
 ghost use Rattle.rel_model.specs.Cells.{cells_union, cells_compose};
 ghost use Rattle.rel_model.specs.Trees.{bottom_height};
@@ -17,8 +16,8 @@ use quad_nodes::Nodes;
 use rel_model::Quad;
 use row_quads::{add_product, gather_quad, spill_quad};
 
-/// Whether two quads of one height have so many different quads under them that a quad is joined with their product in
-/// rows, or in sums of rows.
+/// Whether two quads of one height have so many distinct quads under them that their product should be joined with a
+/// quad in rows, or in sums of rows.
 fn both_dense(nodes: &mut Nodes, y: Quad, z: Quad) -> bool
     requires y_stands { QuadStands nodes.old y }
     requires z_stands { QuadStands nodes.old z }
@@ -32,8 +31,8 @@ fn both_dense(nodes: &mut Nodes, y: Quad, z: Quad) -> bool
     sums_pay(nodes, y, z, true, TALLEST)
 }
 
-/// Whether `x | y*z`, of quads of one height, is done in rows of bits, whatever `x` is: `y` and `z` have many different
-/// quads, neither is empty, not both are full, and their product was not noted.
+/// Whether `x | y*z`, of quads of one height, should be done in rows of bits, whatever `x` is: `y` and `z` have many
+/// distinct quads, neither is empty, not both are full, and their product is not noted.
 pub fn joins_by_rows(nodes: &mut Nodes, y: Quad, z: Quad) -> bool
     requires y_stands { QuadStands nodes.old y }
     requires z_stands { QuadStands nodes.old z }
@@ -58,7 +57,8 @@ pub fn joins_by_rows(nodes: &mut Nodes, y: Quad, z: Quad) -> bool
 
 /// `x | y*z`, of quads of one height up to 8.
 ///
-/// The rows are on the stack, 24 KB with those of `add_product`, so this is a call of its own.
+/// The rows take 24 KB of stack, including those of `add_product`; keeping this a separate call puts them there only
+/// while it runs.
 #[inline(never)]
 fn joined_small(nodes: &mut Nodes, x: Quad, y: Quad, z: Quad) -> Result<Quad, Missed>
     requires x_stands { QuadStands nodes.old x }
@@ -76,8 +76,8 @@ fn joined_small(nodes: &mut Nodes, x: Quad, y: Quad, z: Quad) -> Result<Quad, Mi
     gather_quad(nodes, &sum, x.height, 0, 0)
 }
 
-/// `x | y*z`, of quads of one height: cell (i, k) where it is in `x`, or some j has (i, j) in `y` and (j, k) in `z`.
-/// The product is not named, and nothing is noted.
+/// `x | y*z = {(i, k) : (i, k) in x, or (i, j) in y and (j, k) in z for some j}`, of quads of one height. The product
+/// gets no name, and nothing is noted. Refused only if the table is full.
 pub fn joined_by_rows(nodes: &mut Nodes, x: Quad, y: Quad, z: Quad) -> Result<Quad, Missed>
     requires x_stands { QuadStands nodes.old x }
     requires y_stands { QuadStands nodes.old y }

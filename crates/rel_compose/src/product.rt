@@ -1,4 +1,4 @@
-//! Products that need no recursion, of blocks and of full squares, and the quarters of two squares.
+//! Products without recursion, of blocks and of full squares, and the quarters of two squares.
 ghost use Rattle.std.specs.Prelude.{◌≡◌, ◌<◌, true, IfOk};
 ghost use Rattle.rel_model.specs.Cells.{cells_rect, cells_compose};
 ghost use Rattle.rel_model.specs.Trees.{bottom_height};
@@ -12,7 +12,8 @@ use pair_table::Missed;
 use quad_nodes::Nodes;
 use rel_model::Quad;
 
-/// The composition of two quads of the height of blocks. This is where the recursion ends.
+/// `{(i, k) : (i, j) in a and (j, k) in b for some j}` of two quads of the height of blocks, where the recursion ends.
+/// Refused only if the table is full.
 pub fn leaf(nodes: &mut Nodes, a: Quad, b: Quad) -> Result<Quad, Missed>
     requires a_stands { QuadStands nodes.old a }
     requires b_stands { QuadStands nodes.old b }
@@ -30,7 +31,7 @@ pub fn leaf(nodes: &mut Nodes, a: Quad, b: Quad) -> Result<Quad, Missed>
     nodes.block(block_compose(first, second))
 }
 
-/// Whether both operands have every cell of their square, and with them the composition, which is `a`.
+/// Whether both operands are full squares, so that their composition is `a`.
 pub fn both_full(nodes: &mut Nodes, a: Quad, b: Quad) -> bool
     requires a_stands { QuadStands nodes.old a }
     requires b_stands { QuadStands nodes.old b }
@@ -47,8 +48,8 @@ pub fn both_full(nodes: &mut Nodes, a: Quad, b: Quad) -> bool
     nodes.is_full(b)
 }
 
-/// The quarters of two quads. Their words are not read ahead: of two sparse squares most quarters meet an empty one,
-/// and are not gone into.
+/// The quarters of two quads, without prefetching: in sparse squares most quarters meet an empty one, and are never
+/// visited.
 #[inline(always)]
 pub fn both_quarters(
     nodes: &mut Nodes,

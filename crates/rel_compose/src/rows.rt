@@ -1,4 +1,4 @@
-//! The composition by rows of bits, which is noted.
+//! The composition by rows of bits, with the result noted.
 ghost use Rattle.std.specs.Prelude.{◌≡◌, ◌≤◌, IfOk};
 ghost use Rattle.rel_model.specs.Cells.{cells_compose};
 ghost use Rattle.rel_model.specs.Equations.{side_of};
@@ -10,7 +10,7 @@ use quad_nodes::Nodes;
 use rel_model::Quad;
 use row_quads::compose_by_rows;
 
-/// The composition of two quads of one height, whose side is at most 256.
+/// The composition of two quads of one height, up to 8, by rows of bits. Notes the result.
 pub(crate) fn noted_by_rows(nodes: &mut Nodes, a: Quad, b: Quad) -> Result<Quad, Missed>
     requires a_stands { QuadStands nodes.old a }
     requires b_stands { QuadStands nodes.old b }

@@ -1,5 +1,5 @@
-//! The composition of two large squares: the partial products of each square of 256 rows and columns are summed in
-//! rows of bits, on to the cells of an addend, and only their sum is named.
+//! The composition of two large squares. For each square of 256 rows and columns of the result, the partial products
+//! are summed in rows of bits, starting from the cells of an addend, and only the sum is named.
 ghost use Rattle.std.specs.Prelude.{◌≡◌, ◌<◌, ◌≤◌, ◌+◌, ◌%◌, true, length, IfOk};
 ghost use Rattle.rel_model.specs.Cells.{cells_union, cells_compose};
 ghost use Rattle.rel_model.specs.Trees.{top_height};
@@ -18,7 +18,7 @@ use quad_nodes::{Nodes, side_of_height};
 use rel_model::Quad;
 use row_quads::{Squares, add_four_products, add_product, gather_quad, spill_quad};
 
-/// The half of two in which a place lies, and the place within it.
+/// The one of two halves in which a place lies, and the place within it.
 fn half_at(first: (Quad, Quad), second: (Quad, Quad), place: u32, half: u32) -> ((Quad, Quad), u32)
     ensures { IsHalf first second place half result.0 result.1 }
 {
@@ -28,7 +28,7 @@ fn half_at(first: (Quad, Quad), second: (Quad, Quad), place: u32, half: u32) -> 
     (second, place - half)
 }
 
-/// Adds to rows the cells of a composition within 256 rows and columns, from a row and a column on.
+/// Adds to rows the cells of a composition in 256 rows and columns, from a row and a column on.
 fn add_products(nodes: &mut Nodes, a: Quad, b: Quad, row: u32, col: u32, z: &mut [Row])
     requires a_stands { QuadStands nodes.old a }
     requires b_stands { QuadStands nodes.old b }
@@ -63,9 +63,9 @@ fn add_products(nodes: &mut Nodes, a: Quad, b: Quad, row: u32, col: u32, z: &mut
     add_products(nodes, left.1, right.1, inner_row, inner_col, z);
 }
 
-/// The quad of an addend's cells, and of a composition's cells within 256 rows and columns, from a row and a column on.
+/// The quad of the cells of an addend and of a composition in 256 rows and columns, from a row and a column on.
 ///
-/// The rows are on the stack, 8 KB, so this is a call of its own.
+/// The rows take 8 KB of stack; keeping this a separate call puts them there only while it runs.
 #[inline(never)]
 fn sum_at(nodes: &mut Nodes, x: Quad, a: Quad, b: Quad, row: u32, col: u32) -> Result<Quad, Missed>
     requires x_stands { QuadStands nodes.old x }
@@ -87,7 +87,7 @@ fn sum_at(nodes: &mut Nodes, x: Quad, a: Quad, b: Quad, row: u32, col: u32) -> R
     gather_quad(nodes, &z, 8, 0, 0)
 }
 
-/// Adds to four squares of rows the cells of a composition within 512 rows and columns, from a row and a column on.
+/// Adds to four squares of rows the cells of a composition in 512 rows and columns, from a row and a column on.
 fn add_to_squares(nodes: &mut Nodes, a: Quad, b: Quad, row: u32, col: u32, z: &mut Squares)
     requires a_stands { QuadStands nodes.old a }
     requires b_stands { QuadStands nodes.old b }
@@ -137,9 +137,9 @@ fn spill_four(nodes: &mut Nodes, four: (Quad, Quad, Quad, Quad), z: &mut Squares
     spill_quad(nodes, four.3, &mut z.se, 0, 0);
 }
 
-/// The quad of an addend's cells, and of a composition's cells within 512 rows and columns, from a row and a column on.
+/// The quad of the cells of an addend and of a composition in 512 rows and columns, from a row and a column on.
 ///
-/// The rows are on the stack, 32 KB, so this is a call of its own.
+/// The rows take 32 KB of stack; keeping this a separate call puts them there only while it runs.
 #[inline(never)]
 #[tactic(auto, using(crate::proofs::Summing::eight_low, crate::proofs::Summing::eight_high, crate::proofs::Summing::eight_small))]
 fn four_sums_at(
@@ -179,7 +179,7 @@ fn four_sums_at(
     nodes.corner(nw, ne, sw, se)
 }
 
-/// Whether a square of a height from a row and a column on is one of 512 rows at a multiple of them.
+/// Whether a square of a height, from a row and a column on, has 512 rows and begins at multiples of 512.
 fn is_by_512(height: u8, row: u32, col: u32) -> bool
     ensures nine { result ≡ true → height ≡ 9 }
     ensures row_on { result ≡ true → row % 512 ≡ 0 }
@@ -188,7 +188,8 @@ fn is_by_512(height: u8, row: u32, col: u32) -> bool
     height == 9 && row % 512 == 0 && col % 512 == 0
 }
 
-/// The quad of an addend's cells, and of a composition's cells within its side, from a row and a column on.
+/// The quad of the cells of an addend and of the square of a composition with the addend's side, from a row and a
+/// column on.
 pub(crate) fn summed_quad(
     nodes: &mut Nodes,
     x: Quad,
@@ -227,7 +228,7 @@ pub(crate) fn summed_quad(
     nodes.corner(nw, ne, sw, se)
 }
 
-/// The quad of a height of a composition's cells from a row and a column on: to no cell they are added.
+/// The quad of the square of a composition with a height, from a row and a column on, summed up from an empty addend.
 pub(crate) fn product_window(
     nodes: &mut Nodes,
     a: Quad,
@@ -253,7 +254,7 @@ pub(crate) fn product_window(
     summed_quad(nodes, none, a, b, row, col)
 }
 
-/// The composition of two quads of one height from 8 on, by sums, which is noted.
+/// The composition of two quads of one height, at least 8, by sums. Notes the result.
 pub(crate) fn noted_by_sums(nodes: &mut Nodes, a: Quad, b: Quad) -> Result<Quad, Missed>
     requires a_stands { QuadStands nodes.old a }
     requires b_stands { QuadStands nodes.old b }

@@ -1,4 +1,4 @@
-//! The transposition, by quarters, and by blocks where that pays.
+//! The transposition, by quarters, and by blocks if that pays.
 ghost use Rattle.std.specs.Prelude.{◌≡◌, ◌<◌};
 ghost use Rattle.rel_model.specs.Cells.{cells_transpose};
 ghost use Rattle.rel_model.specs.Trees.{bottom_height};
@@ -12,7 +12,7 @@ use quad_nodes::Nodes;
 use rel_model::Quad;
 use tree_blocks::{blocks_pay, gather_blocks, spill_turned};
 
-/// Cell (i, j) where (j, i) is in `a`.
+/// `{(i, j) : (j, i) in a}`: the transposition of a quad. Refused only if the table is full.
 #[cycle(transposing)]
 pub fn transpose_quad(nodes: &mut Nodes, a: Quad) -> Result<Quad, Missed>
     requires stands { QuadStands nodes.old a }
@@ -33,8 +33,8 @@ pub fn transpose_quad(nodes: &mut Nodes, a: Quad) -> Result<Quad, Missed>
     transposed_over(nodes, a)
 }
 
-/// The same over the blocks: what was noted is looked up, and what was not goes by blocks where it is a dense square of
-/// 256 rows, else by quarters.
+/// The same above the blocks. Looks up whether the result was noted; if not, it goes by blocks for a dense square of
+/// 256 rows, and by quarters otherwise.
 #[cycle(transposing)]
 fn transposed_over(nodes: &mut Nodes, a: Quad) -> Result<Quad, Missed>
     requires stands { QuadStands nodes.old a }
@@ -55,9 +55,9 @@ fn transposed_over(nodes: &mut Nodes, a: Quad) -> Result<Quad, Missed>
     transposed_by_quarters(nodes, a)
 }
 
-/// Cell (i, j) where (j, i) is in a square of 256 rows, by its blocks; the result is noted.
+/// The same for a square of 256 rows, by its blocks. Notes the result.
 ///
-/// It is a call of its own, so that its blocks are on the stack once.
+/// Keeping this a separate call puts its blocks on the stack once.
 #[inline(never)]
 fn transposed_by_blocks(nodes: &mut Nodes, a: Quad) -> Result<Quad, Missed>
     requires stands { QuadStands nodes.old a }
@@ -77,7 +77,7 @@ fn transposed_by_blocks(nodes: &mut Nodes, a: Quad) -> Result<Quad, Missed>
     Ok(found)
 }
 
-/// The same by quarters; the result is noted.
+/// The same by quarters. Notes the result.
 #[cycle(transposing)]
 fn transposed_by_quarters(nodes: &mut Nodes, a: Quad) -> Result<Quad, Missed>
     requires stands { QuadStands nodes.old a }

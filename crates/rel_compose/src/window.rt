@@ -1,4 +1,4 @@
-//! A square of a composition by itself, without the others.
+//! A single square of a composition, without the rest of it.
 ghost use Rattle.std.specs.Prelude.{◌≡◌, ◌≤◌, ◌+◌, ◌%◌, true, IfOk};
 ghost use Rattle.rel_model.specs.Cells.{cells_compose};
 ghost use Rattle.rel_model.specs.Equations.{side_of};
@@ -11,7 +11,7 @@ use pair_table::Missed;
 use quad_nodes::Nodes;
 use rel_model::Quad;
 
-/// Whether the composition of two quads of one height goes by sums of rows: both have many different dense squares of
+/// Whether the composition of two quads of one height goes by sums of rows: both have many distinct dense squares of
 /// 256 rows and columns.
 pub fn goes_by_sums(nodes: &mut Nodes, a: Quad, b: Quad) -> bool
     requires a_stands { QuadStands nodes.old a }
@@ -23,7 +23,9 @@ pub fn goes_by_sums(nodes: &mut Nodes, a: Quad, b: Quad) -> bool
     sums_pay(nodes, a, b, false, TALLEST)
 }
 
-/// The quad of a height of a composition's cells from a row and a column on, by sums of rows. Nothing is noted.
+/// `{(i, k) : (row + i, j) in a and (j, col + k) in b for some j}`: the square of a composition with this height, from
+/// a row and a column on, which are multiples of 256. It goes by sums of rows, and nothing is noted. Refused only if
+/// the table is full.
 pub fn compose_window(
     nodes: &mut Nodes,
     a: Quad,

@@ -1,12 +1,13 @@
--- The elements of a vector in order.
+-- The elements of a vector listed in order.
 use Rattle.std.specs.Prelude.{◌==◌, ◌+◌, ◌&&◌, nat_lt, ℕ, Bool}
 use Rattle.rel_model.specs.Cells.{Cells}
 use Rattle.rel_model.specs.Choice.{count_below}
 
--- whether an element is in the vector whose cells are those of the first column
+-- whether an element is in the vector whose cells are the first column of a set
 abbrev pub first_column : Cells → ℕ → Bool
 first_column f x = f x 0
 
--- the square of side m that has, from a row on, the elements of a vector in order, so many of which come before
+-- the square of side m, from a row on, of the list of a vector's elements in order; `before` elements come before those
+-- of this vector
 abbrev pub ranked : ℕ → ℕ → ℕ → (ℕ → Bool) → Cells
 ranked m row before t i x = nat_lt i m && (nat_lt x m && (t x && (before + count_below x t == row + i)))

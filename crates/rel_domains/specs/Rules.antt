@@ -1,4 +1,4 @@
--- Sets of cells by a rule on a row and a column, and their squares.
+-- Sets of cells given by a rule on row and column, and their squares.
 use Rattle.std.specs.Prelude.{◌==◌, ◌<◌, ◌≤◌, ◌+◌, ◌/◌, ◌%◌, ◌&&◌, nat_lt, ℕ, Bool}
 use Rattle.std.specs.Int.{bit_at}
 use Rattle.rel_model.specs.Relation.{size_limit, size_height}
@@ -13,15 +13,15 @@ passes (Quotient by) i j = i / by == j
 passes (Remainder by) i j = i % by == j
 passes Member i j = bit_at j i == 1
 
--- a rule can be asked of so many rows: it shifts by no more than a size, divides by one that is not 0, and asks for
--- bits of numbers up to the limit
+-- a rule is valid for this many rows: it shifts by at most the size limit, divides by a number other than 0, and asks
+-- for bits of numbers up to the limit
 abbrev pub IsRule : ℕ → Rule → Type 0
 IsRule rows (Shift by) = by ≤ size_limit
 IsRule rows (Quotient by) = 0 < by
 IsRule rows (Remainder by) = (0 < by) × (by ≤ size_limit)
 IsRule rows Member = rows ≤ size_height
 
--- the cells that pass a rule, within so many rows and columns
+-- the cells that pass a rule, in the first rows and columns
 abbrev pub rule_cells : ℕ → ℕ → Rule → Cells
 rule_cells rows cols rule i j = nat_lt i rows && (nat_lt j cols && passes rule i j)
 

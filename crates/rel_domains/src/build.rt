@@ -1,4 +1,4 @@
-//! Quads of cells by their places, built bottom up.
+//! Quads built bottom up from the places of their cells.
 ghost use Rattle.std.specs.Prelude.{◌≡◌, ◌<◌, ◌≤◌, ◌+◌, ◌^◌, length, IfOk, OnErr};
 ghost use Rattle.std.specs.List.Sorted.{IsNonDecreasing};
 ghost use Rattle.rel_model.specs.Trees.{top_height};
@@ -14,8 +14,7 @@ use rel_model::core_trait::Core;
 use rel_model::quads_trait::Quads;
 use rel_model::{Lack, Quad};
 
-/// The quad of the cells whose places, counted from a base on, are listed in order, so many quarterings above the
-/// leaves.
+/// The quad, `depth` heights above the leaves, of the cells whose places are listed in order; places count from `base`.
 #[tactic(auto, unfolding(rel_model::specs::Trees::top_height), using(crate::proofs::Places::cells_step, crate::proofs::Places::power_step, crate::proofs::Places::some_cells))]
 pub fn build<Q: Quads>(q: &mut Q, depth: u8, base: u64, places: &[u64]) -> Result<Quad, Lack>
     requires high { Q.least + depth ≤ top_height }

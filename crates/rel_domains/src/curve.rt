@@ -1,4 +1,4 @@
-//! Places on the Z-curve.
+//! Places on the Z-curve (Morton order).
 ghost use Rattle.std.specs.Prelude.{◌≡◌, ◌<◌, ◌≤◌, ◌+◌, ◌^◌, map, length, IfOk, OnErr};
 ghost use Rattle.std.specs.List.{AllByRecursion};
 ghost use Rattle.rel_model.specs.Trees.{top_height};
@@ -8,7 +8,7 @@ ghost use Rattle.rel_domains.specs.Curve.{place};
 use crate::heights::{cells_of, side_of};
 use std::alloc::{AllocError, Global};
 
-/// The place of a cell, so many quarterings above leaves of a height.
+/// The place of a cell in a square `depth` heights above leaves of a height.
 #[tactic(auto, unfolding(rel_model::specs::Trees::top_height), using(crate::proofs::Places::side_step, crate::proofs::Places::cells_step, crate::proofs::Places::place_lt))]
 fn place_of(least: u8, depth: u8, i: u32, j: u32) -> u64
     requires high { least + depth ≤ top_height }
@@ -36,7 +36,7 @@ fn place_of(least: u8, depth: u8, i: u32, j: u32) -> u64
     }
 }
 
-/// The places of listed pairs.
+/// The places of a list of pairs.
 pub fn places_of(
     alloc: Global,
     least: u8,

@@ -1,4 +1,4 @@
-//! Numbers in order, cut at a bound.
+//! A sorted list of numbers, cut at a bound.
 ghost use Rattle.std.specs.Prelude.{◌≡◌, ◌<◌, nat_lt};
 ghost use Rattle.std.specs.List.Sorted.{IsNonDecreasing};
 ghost use Rattle.rel_domains.specs.Curve.{IsCut};

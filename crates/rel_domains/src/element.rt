@@ -1,4 +1,4 @@
-//! The elements of a vector in the word of a leaf, of which they are the first column.
+//! The elements of a vector in the word of a leaf, where they are the first column.
 ghost use Rattle.std.specs.Prelude.{◌≡◌, ◌<◌, ◌≤◌, ◌+◌, ◌*◌, ◌^◌, ◌==◌, ◌&&◌, ◌||◌, ℕ};
 ghost use Rattle.std.specs.Int.{bit_at};
 ghost use Rattle.rel_model.specs.Cells.{bits_cells};
@@ -32,7 +32,7 @@ pub fn count_in(least: u8, vector: u64) -> u32
     count
 }
 
-/// A leaf, from a row on, with one more element where its rank is one of its rows.
+/// A leaf whose first row is `row`, with element `x` added in the row given by its rank, if the leaf has that row.
 fn with_rank(bits: u64, side: u32, row: u32, rank: u32, x: u32) -> u64
     requires side { side ≤ 8 }
     requires within { x < side }
@@ -49,7 +49,8 @@ fn with_rank(bits: u64, side: u32, row: u32, rank: u32, x: u32) -> u64
     }
 }
 
-/// The leaf that has, from a row on, the elements of a vector in order, so many of which come before.
+/// The leaf, from a row on, of the list of a vector's elements in order; `before` elements come before those of this
+/// vector.
 pub fn ranks_in(least: u8, vector: u64, row: u32, before: u32) -> u64
     requires low { least ≤ 3 }
     requires row { row + 2 ^ least ≤ size_limit }

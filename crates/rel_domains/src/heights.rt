@@ -1,4 +1,4 @@
-//! Heights of squares, their sides and how many cells they have.
+//! Heights of squares, their sides, and how many cells they have.
 ghost use Rattle.std.specs.Prelude.{◌≡◌, ◌≤◌, ◌+◌, ◌^◌};
 ghost use Rattle.rel_model.specs.Relation.{size_limit};
 ghost use Rattle.rel_model.specs.Trees.{top_height};
@@ -24,7 +24,7 @@ pub fn cells_of(height: u8) -> u64
     1 << (2 * height)
 }
 
-/// The least height whose side is at least a size.
+/// The least height whose side is at least this size.
 #[tactic(auto, unfolding(rel_model::specs::Trees::top_height))]
 fn height_of(size: u32) -> u8
     ensures value { result ≡ height_of size }
@@ -39,7 +39,7 @@ fn height_of(size: u32) -> u8
     height
 }
 
-/// How many quarterings the tree of a relation of these sizes has over leaves of a height.
+/// How many heights the tree of a relation with these sizes has above leaves of a height.
 #[tactic(auto, unfolding(rel_model::specs::Roots::height_over))]
 pub fn depth_over(least: u8, rows: u32, cols: u32) -> u8
     requires { least ≤ top_height }

@@ -1,7 +1,7 @@
-//! Laws of products, sums and power sets, each a function that does nothing.
+//! Laws of products, sums and power sets, each the contract of a function with an empty body.
 ghost use Rattle.rel_domains.specs.Laws.{ProjectionLaws, InjectionLaws, MembershipLaw};
 
-/// `p*p^ & q*q^ = I`; `p^*p = I` and `q^*q = I`, each where the other factor is not empty, and else `O`; `p^*q = L`.
+/// `p*p^ & q*q^ = I`; `p^*p = I` and `q^*q = I`, or `O` if the other factor is empty; `p^*q = L`.
 pub fn projections()
     ensures { ProjectionLaws }
 {}

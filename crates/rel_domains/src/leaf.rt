@@ -3,7 +3,7 @@ ghost use Rattle.std.specs.Prelude.{◌≡◌, ◌<◌, ◌≤◌, ◌+◌, ◌*
 ghost use Rattle.rel_model.specs.Cells.{bits_cells};
 ghost use Rattle.rel_domains.specs.Curve.{AreFrom, cells_at};
 
-/// The word of the cells whose places, counted from a base on, are listed.
+/// The word of the cells whose places are listed; places count from `base`.
 pub fn leaf_word(least: u8, base: u64, places: &[u64]) -> u64
     requires low { least ≤ 3 }
     requires from { AreFrom base (base + 4 ^ least) places.now }

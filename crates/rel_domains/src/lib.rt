@@ -1,4 +1,5 @@
-//! Relations made of listed pairs, and those of products, sums and power sets, over whatever keeps quadrant trees.
+//! Relations from lists of pairs, and the relations of products, sums and power sets, over any worker that keeps
+//! quadrant trees.
 #![tactic(auto)]
 
 mod build;

@@ -1,4 +1,4 @@
-//! Relations of rules that have a size which may be over the limit.
+//! Relations defined by rules, with a size that may exceed the limit.
 ghost use Rattle.std.specs.Prelude.{◌≡◌, ◌<◌, ◌≤◌, ◌-◌, ◌^◌, min, IfOk};
 ghost use Rattle.rel_model.specs.declared.faults.DomainError.TheVariants.{Size};
 ghost use Rattle.rel_model.specs.Relation.{relation_of, size_limit};
@@ -15,7 +15,7 @@ use rel_model::faults::DomainError;
 use rel_model::quads_trait::Quads;
 use rel_model::{Lack, Rel, SIZE_LIMIT, Shape};
 
-/// A size that is over the limit.
+/// The refusal for a size that exceeds the limit.
 pub fn too_large(wanted: u64) -> DomainError
     ensures { result ≡ Size wanted size_limit }
 {
@@ -25,7 +25,7 @@ pub fn too_large(wanted: u64) -> DomainError
     }
 }
 
-/// The want of an operator, as that of a domain.
+/// A refusal of an operator as that of an operation on domains.
 pub fn refusal(lack: Lack) -> DomainError
     ensures { result ≡ refusal_of lack }
 {
@@ -35,7 +35,7 @@ pub fn refusal(lack: Lack) -> DomainError
     }
 }
 
-/// `{(i, j) : row i has column j}`: the relation of a rule with so many rows, which may be too many.
+/// `{(i, j) : row i has column j}`: the relation of a rule. Refused if the number of rows exceeds the limit.
 #[tactic(auto, using(crate::proofs::Named::rooms_derived))]
 pub fn tall<Q: Quads>(q: &mut Q, rows: u64, cols: u32, rule: Rule) -> Result<Rel, DomainError>
     requires limit { cols ≤ size_limit }
@@ -60,7 +60,7 @@ pub fn tall<Q: Quads>(q: &mut Q, rows: u64, cols: u32, rule: Rule) -> Result<Rel
     }
 }
 
-/// `{(i, j) : row i has column j}`: the relation of a rule with so many columns, which may be too many.
+/// `{(i, j) : row i has column j}`: the relation of a rule. Refused if the number of columns exceeds the limit.
 #[tactic(auto, using(crate::proofs::Named::rooms_derived))]
 pub fn wide<Q: Quads>(q: &mut Q, rows: u32, cols: u64, rule: Rule) -> Result<Rel, DomainError>
     requires limit { rows ≤ size_limit }

@@ -1,4 +1,4 @@
-//! Squares that no pair of a rule meets, and squares that are like others.
+//! Squares without a pair of a rule, and squares equal to others, recognised without looking at each cell.
 ghost use Rattle.std.specs.Prelude.{◌≡◌, ◌<◌, ◌≤◌, ◌+◌, ◌*◌, ◌%◌, ◌^◌, ◌⊎◌, ℕ, IsTrue};
 ghost use Rattle.rel_model.specs.Cells.{no_cells};
 ghost use Rattle.rel_model.specs.Relation.{size_limit};
@@ -7,7 +7,7 @@ ghost use Rattle.rel_domains.specs.Rules.{IsRule, rule_cells, window};
 use crate::rule::Rule;
 use rel_model::Shape;
 
-/// A row, from one on, before which none has its remainder from `col` on and below `col + side`.
+/// A row, at least `row`, such that no row before it has its remainder in the columns from `col` up to `col + side`.
 fn first_with(by: u32, row: u32, col: u32, side: u32) -> u32
     requires by { 0 < by }
     requires by_limit { by ≤ size_limit }
@@ -25,7 +25,7 @@ fn first_with(by: u32, row: u32, col: u32, side: u32) -> u32
     }
 }
 
-/// Whether a square is seen to have no cell of a rule.
+/// Whether a square is recognised as having no cell of a rule. If not, it may still have none.
 pub fn misses(shape: Shape, rule: Rule, row: u32, col: u32, side: u32) -> bool
     requires rule { IsRule shape.rows rule }
     requires side { 0 < side }
@@ -45,7 +45,7 @@ pub fn misses(shape: Shape, rule: Rule, row: u32, col: u32, side: u32) -> bool
     }
 }
 
-/// Whether the lower half of a square, of two such sides, is seen to have the same cells as the upper.
+/// Whether the lower half of a square is recognised as having the same cells as the upper half.
 pub fn repeats(shape: Shape, rule: Rule, row: u32, half: u32) -> bool
     requires rule { IsRule shape.rows rule }
     requires half { 0 < half }
@@ -63,7 +63,7 @@ pub fn repeats(shape: Shape, rule: Rule, row: u32, half: u32) -> bool
     }
 }
 
-/// Whether a square is seen to have the same cells as the one half its side down and to the right.
+/// Whether the south-eastern quarter of a square is recognised as having the same cells as the north-western one.
 pub fn goes_on(shape: Shape, rule: Rule, row: u32, col: u32, half: u32) -> bool
     requires rule { IsRule shape.rows rule }
     requires row { row + 2 * half ≤ size_limit }

@@ -15,8 +15,8 @@ use rel_model::faults::DomainError;
 use rel_model::quads_trait::Quads;
 use rel_model::{Lack, Rel, SIZE_LIMIT, Shape};
 
-/// `{(i, c) : (i, j) in r and row c has column j}`: a relation through the converse of that of a rule, which has so
-/// many rows.
+/// `{(i, c) : (i, j) in r and row c has column j}`: the composition of a relation with the transposed relation of a
+/// rule, which has `cols` rows.
 fn through<Q: Quads>(q: &mut Q, r: Rel, cols: u32, rule: Rule) -> Result<Rel, Lack>
     requires stands { Stands (Q.worker q.old) r }
     requires limit { cols ≤ size_limit }
@@ -37,7 +37,7 @@ fn through<Q: Quads>(q: &mut Q, r: Rel, cols: u32, rule: Rule) -> Result<Rel, La
     Ok(joined)
 }
 
-/// The pairing of relations whose columns make a product within the limit.
+/// The pairing of two relations, if the product of their columns is within the limit.
 fn paired<Q: Quads>(q: &mut Q, r: Rel, s: Rel, cols: u32) -> Result<Rel, Lack>
     requires left { Stands (Q.worker q.old) r }
     requires right { Stands (Q.worker q.old) s }
@@ -57,10 +57,11 @@ fn paired<Q: Quads>(q: &mut Q, r: Rel, s: Rel, cols: u32) -> Result<Rel, Lack>
     Ok(both)
 }
 
-/// `[R,S] = {(i, j * n + k) : (i, j) in r and (i, k) in s}`: the pairing of two relations of as many rows (Schmidt
-/// and Ströhlein, *Relations and Graphs*), where s has n columns. It is refused where its columns are over the limit.
+/// `[R,S] = {(i, j * n + k) : (i, j) in r and (i, k) in s}`: the pairing of two relations with the same number of rows,
+/// where s has n columns (Schmidt and Ströhlein, *Relations and Graphs*). Refused if the number of columns of the
+/// result exceeds the limit.
 ///
-/// It is `(R * p^) & (S * q^)`, with the projections p and q of the product of their columns.
+/// It is computed as `(R * p^) & (S * q^)`, with the projections p and q of the product of their columns.
 pub fn fork<Q: Quads>(q: &mut Q, r: Rel, s: Rel) -> Result<Rel, DomainError>
     requires left { Stands (Q.worker q.old) r }
     requires right { Stands (Q.worker q.old) s }

@@ -1,4 +1,4 @@
-//! Relations from listed pairs.
+//! Relations from lists of pairs.
 ghost use Rattle.std.specs.Prelude.{◌≡◌, ◌≤◌, ◌<◌, ◌-◌, ℕ, length, true, false, IfOk, OnErr, IsErrOf};
 ghost use Rattle.rel_model.specs.declared.Lack.TheVariants.{NoMemory};
 ghost use Rattle.rel_model.specs.Relation.{relation_of, size_limit};
@@ -14,9 +14,9 @@ use rel_model::quads_trait::Quads;
 use rel_model::{Lack, Rel, Shape};
 use std::alloc::Global;
 
-/// `{p : p in pairs}`: the relation of listed pairs, in any order, repeats allowed. It sorts, so memory may run out
-/// whatever keeps the quads, but not where no pair is listed; where it runs out over a worker that is lean, no node
-/// was made.
+/// `{p : p in pairs}`: the relation of a list of pairs, in any order and with repeats allowed. It sorts the list, so
+/// memory may run out whatever worker it is, but not if the list is empty. If memory runs out over a lean worker, no
+/// node was made.
 #[tactic(auto, unfolding(rel_model::specs::Trees::top_height))]
 pub fn from_pairs<Q: Quads>(
     alloc: Global,

@@ -12,8 +12,8 @@ use rel_model::core_trait::Core;
 use rel_model::faults::DomainError;
 use rel_model::quads_trait::Quads;
 
-/// `{(i, s) : bit i of s is 1}`: membership of the elements of a domain in its subsets (Schmidt and Ströhlein,
-/// *Relations and Graphs*), of x rows and 2 ^ x columns. It is refused where 2 ^ x is over the limit.
+/// `{(i, s) : bit i of s is 1}`: the membership relation between the elements of a domain and its subsets, with x rows
+/// and 2 ^ x columns (Schmidt and Ströhlein, *Relations and Graphs*). Refused if 2 ^ x exceeds the limit.
 pub fn epsi<Q: Quads>(q: &mut Q, x: u32) -> Result<Rel, DomainError>
     requires { x ≤ size_limit }
     ensures value { IfOk result (Gives (Q.worker q.new) x (2 ^ x) (membership x)) }

@@ -12,8 +12,8 @@ use rel_model::core_trait::Core;
 use rel_model::faults::DomainError;
 use rel_model::quads_trait::Quads;
 
-/// `{(i * y + j, i) : i < x, j < y}`: the projection of a product to its first factor (Schmidt and Ströhlein,
-/// *Relations and Graphs*), of x * y rows and x columns. It is refused where x * y is over the limit.
+/// `{(i * y + j, i) : i < x, j < y}`: the projection of a product to its first factor, with x * y rows and x columns
+/// (Schmidt and Ströhlein, *Relations and Graphs*). Refused if x * y exceeds the limit.
 #[tactic(auto, using(crate::proofs::Named::first_is))]
 pub fn first<Q: Quads>(q: &mut Q, x: u32, y: u32) -> Result<Rel, DomainError>
     requires x_limit { x ≤ size_limit }
@@ -29,8 +29,8 @@ pub fn first<Q: Quads>(q: &mut Q, x: u32, y: u32) -> Result<Rel, DomainError>
     tall(q, u64::from(x) * u64::from(y), x, rule)
 }
 
-/// `{(i * y + j, j) : i < x, j < y}`: the projection of a product to its second factor, of x * y rows and y columns.
-/// It is refused where x * y is over the limit.
+/// `{(i * y + j, j) : i < x, j < y}`: the projection of a product to its second factor, with x * y rows and y columns
+/// (Schmidt and Ströhlein, *Relations and Graphs*). Refused if x * y exceeds the limit.
 #[tactic(auto, using(crate::proofs::Named::second_is))]
 pub fn second<Q: Quads>(q: &mut Q, x: u32, y: u32) -> Result<Rel, DomainError>
     requires x_limit { x ≤ size_limit }

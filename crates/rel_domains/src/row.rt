@@ -1,4 +1,4 @@
-//! Rows of a rule in a leaf, bit after bit.
+//! Rows of a rule in a leaf, computed bit by bit.
 ghost use Rattle.std.specs.Prelude.{◌≡◌, ◌<◌, ◌≤◌, ◌+◌, ◌*◌, ◌^◌, ◌==◌, ◌&&◌, nat_lt, ℕ};
 ghost use Rattle.std.specs.Int.{bit_at};
 ghost use Rattle.rel_model.specs.Relation.{size_limit};
@@ -7,7 +7,7 @@ ghost use Rattle.rel_domains.specs.Rules.{IsRule, rule_cells};
 use crate::rule::Rule;
 use rel_model::Shape;
 
-/// The cell in one column of a row, from a column on: column `col + k` is bit k.
+/// The single cell of a row in column `at`, from column `col` on: column `col + k` is bit k.
 fn one_cell(cols: u32, at: u32, col: u32, side: u32) -> u64
     requires side { side ≤ 8 }
     requires col { col + side ≤ size_limit }
@@ -37,7 +37,7 @@ fn octet(block: u32, i: u32) -> u64
     }
 }
 
-/// Bit i of each column of a row, from a column on: column `col + k` is bit k.
+/// Bit i of the number of each column, from column `col` on: column `col + k` is bit k.
 fn members(cols: u32, i: u32, col: u32, side: u32) -> u64
     requires side { side ≤ 8 }
     requires row { i < 32 }
@@ -52,7 +52,7 @@ fn members(cols: u32, i: u32, col: u32, side: u32) -> u64
     ((low + (high << 8)) >> (col % 8)) % (1u64 << width)
 }
 
-/// The cells of a row, from a column on: column `col + k` is bit k.
+/// The cells of a row, from column `col` on: column `col + k` is bit k.
 pub fn row_at(shape: Shape, rule: Rule, i: u32, col: u32, side: u32) -> u64
     requires rule { IsRule shape.rows rule }
     requires side { side ≤ 8 }

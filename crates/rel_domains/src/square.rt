@@ -1,4 +1,4 @@
-//! The tree of a set of cells that is given by a rule, built from its squares.
+//! The tree of the relation of a rule, built from its squares.
 ghost use Rattle.std.specs.Prelude.{◌≡◌, ◌<◌, ◌≤◌, ◌+◌, ◌-◌, ◌*◌, ◌^◌, IfOk};
 ghost use Rattle.rel_model.specs.Cells.{bits_cells};
 ghost use Rattle.rel_model.specs.Relation.{relation_of, size_limit};
@@ -34,7 +34,7 @@ fn word_at(least: u8, shape: Shape, rule: Rule, row: u32, col: u32) -> u64
     bits
 }
 
-/// The quad of a square from a row and a column on, so many quarterings above the leaves.
+/// The quad of the square from a row and a column on, `depth` heights above the leaves.
 #[tactic(auto, unfolding(rel_model::specs::Trees::top_height), using(crate::proofs::Places::side_step, crate::proofs::Places::power_step, crate::proofs::Places::some_cells))]
 fn square<Q: Quads>(
     q: &mut Q,

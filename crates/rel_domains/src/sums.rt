@@ -12,8 +12,8 @@ use rel_model::core_trait::Core;
 use rel_model::faults::DomainError;
 use rel_model::quads_trait::Quads;
 
-/// `{(i, i) : i < x}`: the injection of the first summand (Schmidt and Ströhlein, *Relations and Graphs*), of x rows
-/// and x + y columns. It is refused where x + y is over the limit.
+/// `{(i, i) : i < x}`: the injection of the first summand, with x rows and x + y columns (Schmidt and Ströhlein,
+/// *Relations and Graphs*). Refused if x + y exceeds the limit.
 #[tactic(auto, using(crate::proofs::Named::inl_is))]
 pub fn inl<Q: Quads>(q: &mut Q, x: u32, y: u32) -> Result<Rel, DomainError>
     requires x_limit { x ≤ size_limit }
@@ -28,8 +28,8 @@ pub fn inl<Q: Quads>(q: &mut Q, x: u32, y: u32) -> Result<Rel, DomainError>
     wide(q, x, u64::from(x + y), Rule::Shift { by: 0 })
 }
 
-/// `{(j, x + j) : j < y}`: the injection of the second summand, of y rows and x + y columns. It is refused where x +
-/// y is over the limit.
+/// `{(j, x + j) : j < y}`: the injection of the second summand, with y rows and x + y columns (Schmidt and Ströhlein,
+/// *Relations and Graphs*). Refused if x + y exceeds the limit.
 #[tactic(auto, using(crate::proofs::Named::inr_is))]
 pub fn inr<Q: Quads>(q: &mut Q, x: u32, y: u32) -> Result<Rel, DomainError>
     requires x_limit { x ≤ size_limit }

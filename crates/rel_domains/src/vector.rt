@@ -1,4 +1,4 @@
-//! The elements of a vector in order.
+//! The elements of a vector listed in order.
 ghost use Rattle.std.specs.Prelude.{◌≡◌, ◌<◌, ◌≤◌, ◌+◌, ◌-◌, ◌*◌, ◌^◌, ℕ, IsTrue, IfOk};
 ghost use Rattle.rel_model.specs.Cells.{no_cells};
 ghost use Rattle.rel_model.specs.Choice.{holds, count_below, inj as inj_of};
@@ -15,7 +15,7 @@ use rel_model::core_trait::Core;
 use rel_model::quads_trait::Quads;
 use rel_model::{Lack, Quad, Rel, Shape};
 
-/// How many elements a vector has. Halves that are one quad are counted once.
+/// How many elements a vector has. If both halves are the same quad, it is counted once.
 fn elements<Q: Quads>(q: &mut Q, vector: Quad) -> u32
     requires { HasQuad (Q.worker q.old) vector }
     ensures count { result ≡ count_below (2 ^ vector.height) (first_column (quad_set (Q.worker q.old) vector)) }
@@ -39,7 +39,7 @@ fn elements<Q: Quads>(q: &mut Q, vector: Quad) -> u32
     above + below
 }
 
-/// Whether no rank of a vector is one of the rows of a square.
+/// Whether no rank of a vector's elements is a row of a square.
 fn passes_by(side: u32, many: u32, row: u32, before: u32) -> bool
     requires row { row + side ≤ size_limit }
     requires before { before + many ≤ size_limit }
@@ -48,7 +48,8 @@ fn passes_by(side: u32, many: u32, row: u32, before: u32) -> bool
     many == 0 || row + side <= before || before + many <= row
 }
 
-/// The square that has, from a row on, the elements of a vector in order, so many of which come before.
+/// The square, from a row on, of the list of a vector's elements in order; `before` elements come before those of this
+/// vector.
 #[tactic(auto, unfolding(rel_model::specs::Trees::top_height), using(crate::proofs::Places::side_step, crate::proofs::Places::power_step, crate::proofs::Places::some_cells))]
 fn ranks<Q: Quads>(
     q: &mut Q,
@@ -98,8 +99,8 @@ fn ranks<Q: Quads>(
     Ok(corner)
 }
 
-/// `{(r, x) : x is element number r of v, from 0}`: the elements of a vector in order, the injection of the subset
-/// that it is (Schmidt and Ströhlein, *Relations and Graphs*), with as many rows as it has elements.
+/// `{(r, x) : x is element number r of v, from 0}`: lists the elements of a vector in order, with one row for each
+/// element; the injection of the subset that the vector is (Schmidt and Ströhlein, *Relations and Graphs*).
 #[tactic(auto, unfolding(rel_model::specs::Trees::top_height))]
 pub fn inj<Q: Quads>(q: &mut Q, v: Rel) -> Result<Rel, Lack>
     requires stands { Stands (Q.worker q.old) v }

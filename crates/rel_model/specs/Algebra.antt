@@ -12,7 +12,8 @@ pub record HasType (m n : ℕ) (r : Relation) : Type 0 where
   pub row_size : r.rows ≡ m
   pub col_size : r.cols ≡ n
 
--- transposition goes into unions, intersections, complements and compositions, keeps inclusion, and twice is nothing
+-- transposition distributes over unions, intersections and complements, reverses compositions, keeps inclusion, and is
+-- its own inverse
 pub record TransposeLaws : Type 0 where
   pub twice : (r : Relation) → IsRelation r → transpose (transpose r) ≡ r
   pub union : (m n : ℕ) (r s : Relation) → HasType m n r → HasType m n s
@@ -24,13 +25,13 @@ pub record TransposeLaws : Type 0 where
       → transpose (compose r s) ≡ compose (transpose s) (transpose r)
   pub within : (m n : ℕ) (r s : Relation) → HasType m n s → IsWithin r s → IsWithin (transpose r) (transpose s)
 
--- so many transpositions are none where they are even, and one where they are odd; and more after them add up
+-- an even number of transpositions cancels out, and an odd number is one; k of them after l of them are k + l
 pub record TurnLaws : Type 0 where
   pub even : (k : ℕ) (r : Relation) → IsRelation r → transposed_by (k + k) r ≡ r
   pub odd : (k : ℕ) (r : Relation) → IsRelation r → transposed_by (k + k + 1) r ≡ transpose r
   pub more : (k l : ℕ) (r : Relation) → transposed_by k (transposed_by l r) ≡ transposed_by (k + l) r
 
--- the complement of a complement is the relation, and complements go out of unions and intersections (De Morgan)
+-- the complement is its own inverse, and De Morgan's laws
 pub record ComplementLaws : Type 0 where
   pub twice : (r : Relation) → IsRelation r → complement (complement r) ≡ r
   pub of_union : (m n : ℕ) (r s : Relation) → HasType m n r → HasType m n s
@@ -38,8 +39,8 @@ pub record ComplementLaws : Type 0 where
   pub of_inter : (m n : ℕ) (r s : Relation) → HasType m n r → HasType m n s
       → inter (complement r) (complement s) ≡ complement (union r s)
 
--- an operand of a union that stands before changes nothing, nor does one of an intersection: each operand lies within
--- a union, and each intersection within its operands
+-- an operand of a union or an intersection that occurs earlier may be dropped (absorption): each operand lies within a
+-- union, and an intersection lies within each of its operands
 pub record RepeatLaws : Type 0 where
   pub of_union : (m n : ℕ) (r s : Relation) → HasType m n r → HasType m n s → IsWithin s r → union r s ≡ r
   pub of_inter : (m n : ℕ) (r s : Relation) → HasType m n r → HasType m n s → IsWithin r s → inter r s ≡ r
@@ -48,7 +49,7 @@ pub record RepeatLaws : Type 0 where
   pub left_of_inter : (m n : ℕ) (r s : Relation) → HasType m n r → HasType m n s → IsWithin (inter r s) r
   pub right_of_inter : (m n : ℕ) (r s : Relation) → HasType m n r → HasType m n s → IsWithin (inter r s) s
 
--- composition is associative, has the identities, and goes into unions from both sides
+-- composition is associative, has the identities, and distributes over unions from both sides
 pub record ComposeLaws : Type 0 where
   pub associative : (m n p q : ℕ) (r s t : Relation) → HasType m n r → HasType n p s → HasType p q t
       → compose (compose r s) t ≡ compose r (compose s t)
@@ -59,7 +60,7 @@ pub record ComposeLaws : Type 0 where
   pub union_over : (m n p : ℕ) (r s t : Relation) → HasType m n r → HasType m n s → HasType n p t
       → compose (union r s) t ≡ union (compose r t) (compose s t)
 
--- larger operands have larger unions, intersections and compositions, and a larger one has a smaller complement
+-- unions, intersections and compositions are monotone, and the complement is antitone
 pub record MonotoneLaws : Type 0 where
   pub union : (m n : ℕ) (r s t u : Relation) → HasType m n r → HasType m n s → HasType m n t → HasType m n u
       → IsWithin r t → IsWithin s u → IsWithin (union r s) (union t u)
@@ -70,8 +71,7 @@ pub record MonotoneLaws : Type 0 where
   pub compose : (m n p : ℕ) (r s t u : Relation) → HasType m n r → HasType n p s → HasType m n t → HasType n p u
       → IsWithin r t → IsWithin s u → IsWithin (compose r s) (compose t u)
 
--- both residuals are complements of compositions, and each is the greatest relation whose composition lies within
--- another
+-- both residuals are complements of compositions; each is the greatest relation whose composition with r lies within s
 pub record ResidualLaws : Type 0 where
   pub right : (m n p : ℕ) (r s : Relation) → HasType m n r → HasType m p s
       → right_residual r s ≡ complement (compose (transpose r) (complement s))
@@ -82,12 +82,12 @@ pub record ResidualLaws : Type 0 where
   pub left_greatest : (m n p : ℕ) (r x s : Relation) → HasType n p r → HasType m n x → HasType m p s
       → IsWithin (compose x r) s ↔ IsWithin x (left_residual s r)
 
--- the symmetric quotient is both residuals
+-- the symmetric quotient is the intersection of two residuals
 abbrev pub QuotientByResiduals : Type 0
 QuotientByResiduals = (m n p : ℕ) (r s : Relation) → HasType m n r → HasType m p s
     → symmetric_quotient r s ≡ inter (right_residual r s) (left_residual (transpose r) (transpose s))
 
--- Schröder: three inclusions are equivalent
+-- Schröder's rule: three inclusions are equivalent
 pub record SchroederLaws : Type 0 where
   pub first_second : (m n p : ℕ) (r s t : Relation) → HasType m n r → HasType n p s → HasType m p t
       → IsWithin (compose r s) t ↔ IsWithin (compose (transpose r) (complement t)) (complement s)
@@ -99,8 +99,8 @@ abbrev pub DedekindRule : Type 0
 DedekindRule = (m n p : ℕ) (r s t : Relation) → HasType m n r → HasType n p s → HasType m p t
     → IsWithin (inter (compose r s) t) (compose (inter r (compose t (transpose s))) (inter s (compose (transpose r) t)))
 
--- the transitive closure has the pairs that a walk joins, of however many steps, and is the least transitive relation
--- over the given one
+-- the transitive closure has exactly the pairs that a walk of any length joins, and is the least transitive relation
+-- that contains the given one
 pub record ClosureLaws : Type 0 where
   pub walks : (n : ℕ) (r : Relation) → HasType n n r → (x y : ℕ) → x < n → y < n
       → (has (transitive_closure r) x y ≡ true) ↔ AreJoined r x y

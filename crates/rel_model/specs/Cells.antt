@@ -1,5 +1,5 @@
--- Sets of cells, as tests on a row and a column, and the operators on them. The tree words and the blocks speak of
--- these; two sets are compared as functions.
+-- Sets of cells, as tests on a row and a column, and the operators on them. Definitions on trees and blocks use these;
+-- two sets are compared as functions.
 use Rattle.std.specs.Prelude.{◌==◌, ◌+◌, ◌*◌, ◌&&◌, ◌||◌, not, nat_lt, zero, suc, ℕ, Bool, false}
 use Rattle.std.specs.Int.{bit_at}
 
@@ -40,10 +40,10 @@ some_below (suc n) t = t n || some_below n t
 abbrev pub cells_compose : ℕ → Cells → Cells → Cells
 cells_compose m f g i j = some_below m (λ k. f i k && g k j)
 
--- the cells of a block of 8 rows and 8 columns, of which cell (i, j) is bit 8 * i + j
+-- the cells of a block of 8 by 8: cell (i, j) is bit 8 * i + j of the word
 abbrev pub block_cells : ℕ → Cells
 block_cells bits i j = nat_lt i 8 && (nat_lt j 8 && (bit_at bits (8 * i + j) == 1))
 
--- the cells of a square of side m in one word, of which cell (i, j) is bit m * i + j
+-- the cells of a square of side m in one word: cell (i, j) is bit m * i + j
 abbrev pub bits_cells : ℕ → ℕ → Cells
 bits_cells m bits i j = nat_lt i m && (nat_lt j m && (bit_at bits (m * i + j) == 1))

@@ -3,18 +3,18 @@ use Rattle.std.specs.Prelude.{◌≡◌, ◌==◌, ◌&&◌, ◌||◌, zero, suc
 use Rattle.rel_model.specs.Relation.{Relation, has, relation_of}
 use Rattle.rel_model.specs.Cells.{some_below}
 
--- whether there is a walk of so many steps: of one step it is a pair, and of one step more it is a pair and a walk
--- from its end; no walk has no step
+-- whether there is a walk of this many steps: a walk of one step is a pair, a longer one is a pair and a walk from its
+-- end; no walk has zero steps
 abbrev pub walk : Relation → ℕ → ℕ → ℕ → Bool
 walk r zero x y = false
 walk r (suc zero) x y = has r x y
 walk r (suc (suc k)) x y = some_below r.cols (λ z. has r x z && walk r (suc k) z y)
 
--- the pairs that a walk joins of at least one step and at most so many
+-- the pairs joined by a walk of at least one and at most m steps
 unfoldable pub walks_within : ℕ → Relation → Relation
 walks_within m r = relation_of r.rows r.cols (λ x y. some_below m (λ k. walk r (suc k) x y))
 
--- the transitive closure: (x, y) where there is a walk from x to y of at least one step; none needs more steps than
+-- the transitive closure: (x, y) if there is a walk from x to y of at least one step; no more steps are needed than
 -- there are elements
 unfoldable pub transitive_closure : Relation → Relation
 transitive_closure r = walks_within r.rows r
@@ -24,7 +24,7 @@ unfoldable pub reflexive_closure : Relation → Relation
 reflexive_closure r = relation_of r.rows r.cols (λ i j. has r i j || (i == j))
 
 -- ---- what these are
--- two elements that a walk joins, of however many steps
+-- two elements joined by a walk of any length
 pub record AreJoined (r : Relation) (x y : ℕ) : Type 0 where
   pub steps : ℕ
   pub walks : walk r steps x y ≡ true

@@ -1,4 +1,4 @@
--- Equations between names, the memo words that hold them, and what the words of a whole table are.
+-- Equations between names, the memo words that hold them, and when all words of a table are sound.
 use Rattle.std.specs.Prelude.{◌≡◌, ◌≢◌, ◌<◌, ◌≤◌, ◌+◌, ◌-◌, ◌*◌, ◌/◌, ◌%◌, ◌^◌, ℕ, true, List, length, take, slice_index}
 use Rattle.rel_model.specs.Cells.{Cells, cells_union, cells_inter, cells_diff, cells_transpose, cells_compose}
 use Rattle.rel_model.specs.Trees.{bottom_height, top_height, cells, stands, twice, side}
@@ -20,7 +20,7 @@ result_of Diff m f g = cells_diff f g
 result_of Transpose m f g = cells_transpose f
 result_of Compose m f g = cells_compose m f g
 
--- the set of r is the operator's result on the sets of a and b, as names at one height
+-- the set of r is the operator's result on the sets of a and b; all three are names at one height
 pub record Equation : Type 0 where
   pub op : Operator
   pub height : ℕ
@@ -36,8 +36,8 @@ depth_of height = twice (height - bottom_height)
 abbrev pub side_of : ℕ → ℕ
 side_of height = side (height - bottom_height)
 
--- the three names stand at the height, and the set of r is the operator's of the other two; a transposition has no
--- second operand
+-- the three names stand at the height, and the set of r is the operator's result on the other two; a transposition has
+-- no second operand
 pub record IsTrueIn (words : List ℕ) (e : Equation) : Type 0 where
   pub low : bottom_height ≤ e.height
   pub high : e.height ≤ top_height
@@ -60,19 +60,19 @@ code_of Compose = 5
 abbrev pub memo_slots : ℕ
 memo_slots = 2 ^ 20
 
--- how many slots begin with one remainder of the first name, and how many remainders the second name has
+-- how many slots belong to one remainder of the first name; also how many remainders the second name has
 abbrev pub slot_row : ℕ
 slot_row = 2 ^ 10
 
--- the slot of an equation with these operands
+-- the slot of an equation with these two operands
 abbrev pub home_slot : ℕ → ℕ → ℕ
 home_slot a b = a % slot_row * slot_row + b % slot_row
 
--- an equation as one word, without what its slot tells of a and b
+-- an equation packed into one word, without the part of a and b that its slot determines
 abbrev pub word_of_equation : Equation → ℕ
 word_of_equation e = e.a / slot_row * 2 ^ 47 + e.b / slot_row * 2 ^ 33 + e.r * 2 ^ 9 + code_of e.op * 2 ^ 5 + e.height
 
--- a memo word: that of a true equation at home in its slot
+-- a valid memo word: that of a true equation, at home in its slot
 pub record IsMemo (words : List ℕ) (slot word : ℕ) : Type 0 where
   pub equation : Equation
   pub is_word : word ≡ word_of_equation equation
@@ -84,7 +84,7 @@ pub record IsMemo (words : List ℕ) (slot word : ℕ) : Type 0 where
 abbrev pub node_words : ℕ → List ℕ → List ℕ
 node_words bits words = take (2 ^ bits) words
 
--- the memo word of a slot, behind the node words
+-- the memo word of a slot; memo words follow the node words
 abbrev pub memo_word : ℕ → List ℕ → ℕ → ℕ
 memo_word bits words slot = slice_index words (2 ^ bits + slot)
 

@@ -1,5 +1,5 @@
 -- Orders and classes of elements, each relation by its membership clause (Schmidt and Ströhlein, Relations and Graphs).
--- The numbering of classes is this project's.
+-- The numbering of classes is defined by this project.
 use Rattle.std.specs.Prelude.{◌≡◌, ◌<◌, ◌↔◌, ◌==◌, ◌&&◌, not, nat_lt, ℕ, Bool, true}
 use Rattle.rel_model.specs.Relation.{Relation, has, relation_of}
 use Rattle.rel_model.specs.Cells.{some_below}
@@ -12,7 +12,7 @@ use Rattle.rel_model.specs.Algebra.{HasType}
 unfoldable pub less : ℕ → Relation
 less n = relation_of n n (λ i j. nat_lt i j)
 
--- whether a pair of two different elements is in the relation
+-- whether a relation has this pair and its two elements are different
 abbrev pub is_proper : Relation → ℕ → ℕ → Bool
 is_proper r x y = has r x y && not (x == y)
 
@@ -21,19 +21,19 @@ unfoldable pub hasse : Relation → Relation
 hasse r = relation_of r.rows r.cols (λ x y. is_proper r x y
     && not (some_below r.rows (λ z. is_proper r x z && is_proper r z y)))
 
--- the upper bounds of the columns of s: (x, y) where for all z, (z, y) in s implies (z, x) in r
+-- the upper bounds of the columns of s: (x, y) if (z, y) in s implies (z, x) in r, for all z
 unfoldable pub upper_bounds : Relation → Relation → Relation
 upper_bounds r s = relation_of r.rows s.cols (λ x y. not (some_below s.rows (λ z. has s z y && not (has r z x))))
 
--- the lower bounds of the columns of s: (x, y) where for all z, (z, y) in s implies (x, z) in r
+-- the lower bounds of the columns of s: (x, y) if (z, y) in s implies (x, z) in r, for all z
 unfoldable pub lower_bounds : Relation → Relation → Relation
 lower_bounds r s = relation_of r.rows s.cols (λ x y. not (some_below s.rows (λ z. has s z y && not (has r x z))))
 
--- the greatest elements of the columns of s: their upper bounds among themselves
+-- the greatest elements of the columns of s: the upper bounds that are in the column
 unfoldable pub greatest : Relation → Relation → Relation
 greatest r s = inter s (upper_bounds r s)
 
--- the least elements of the columns of s: their lower bounds among themselves
+-- the least elements of the columns of s: the lower bounds that are in the column
 unfoldable pub least : Relation → Relation → Relation
 least r s = inter s (lower_bounds r s)
 
@@ -50,7 +50,7 @@ infima r s = greatest r (lower_bounds r s)
 abbrev pub same_column : Relation → ℕ → ℕ → Bool
 same_column r x y = not (some_below r.rows (λ i. differ (has r i x) (has r i y)))
 
--- whether an element is the least of its class, of elements with equal columns
+-- whether an element is the least of its class; a class is the elements with equal columns
 abbrev pub leads : Relation → ℕ → Bool
 leads r x = not (some_below x (λ y. same_column r y x))
 
@@ -82,9 +82,9 @@ pub record IsOrder (n : ℕ) (r : Relation) : Type 0 where
   pub antisymmetric : (x y : ℕ) → has r x y ≡ true → has r y x ≡ true → x ≡ y
   pub transitive : (x y z : ℕ) → has r x y ≡ true → has r y z ≡ true → has r x z ≡ true
 
--- the classes of an equivalence are those of its elements: each element is in one, and two elements are in one exactly
--- where they are a pair; of two classes the one with the lesser least element has the lesser number; and the classes
--- composed with their transpose are the equivalence
+-- the classes of an equivalence partition its elements: each element is in one class, and two elements are in one class
+-- if and only if they are a pair; classes are numbered by their least elements; and the classes composed with their
+-- transposition are the equivalence
 pub record ClassLaws : Type 0 where
   pub some : (n : ℕ) (r : Relation) → IsEquivalence n r → (x : ℕ) → x < n
       → (k : ℕ) × (has (classes r) x k ≡ true)
@@ -103,8 +103,7 @@ pub record BoundLaws : Type 0 where
   pub lower : (n q : ℕ) (r s : Relation) → HasType n n r → HasType n q s
       → lower_bounds r s ≡ left_residual r (transpose s)
 
--- in an order a column has at most one least and at most one greatest element, and so at most one supremum and at most
--- one infimum
+-- in an order, each column has at most one least and one greatest element, hence at most one supremum and one infimum
 pub record ExtremeLaws : Type 0 where
   pub least : (n q : ℕ) (r s : Relation) → IsOrder n r → HasType n q s → (x y k : ℕ) → has (least r s) x k ≡ true
       → has (least r s) y k ≡ true → x ≡ y

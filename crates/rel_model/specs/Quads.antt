@@ -1,5 +1,5 @@
--- Quads: squares of cells by their names in a table; what a keeper of quads holds, what its calls keep, and how it
--- counts what it missed.
+-- Quads: squares of cells by their names in a table. What a keeper of quads holds, what its calls keep, and how it
+-- counts misses.
 use Rattle.std.specs.Prelude.{◌≡◌, ◌≢◌, ◌<◌, ◌≤◌, ◌+◌, ◌-◌, ◌*◌, ◌^◌, min, ℕ, zero, suc, true, Result, Ok, Err}
 use Rattle.rel_model.specs.declared.Quad.{Quad}
 use Rattle.rel_model.specs.Cells.{Cells}
@@ -14,17 +14,17 @@ pub record Keeper : Type 0 where
   pub table : Table
   -- what its seat knows
   pub view : View
-  -- how often a place for a word was missing
+  -- how often no place for a word was found
   pub misses : ℕ
 
--- the seat is of the table, the count has 64 bits, and where a place was missing every place is taken, as the view
+-- the seat belongs to the table, the count fits in 64 bits, and if it is not 0 then every place is taken, as the view
 -- shows
 pub record IsKeeper (w : Keeper) : Type 0 where
   pub of : IsOf w.view w.table
   pub counted : w.misses < 2 ^ 64
   pub full : w.misses ≢ 0 → IsFull w.view.words
 
--- the set of a quad, of which no cell lies outside its square
+-- the set of a quad; no cell lies outside its square
 abbrev pub quad_cells : Keeper → Quad → Cells
 quad_cells w q = cells w.view.words (depth_of q.height) q.name
 
@@ -40,7 +40,7 @@ pub record IsQuad (w : Keeper) (height : ℕ) (f : Cells) (q : Quad) : Type 0 wh
   pub stands : QuadStands w q
   pub means : quad_cells w q ≡ f
 
--- a call keeps the table, the spare seats and all that was seen, and places at most so many words
+-- a call keeps the table, the spare seats and all that was seen, and places at most `most` words
 pub record KeepsQuads (most : ℕ) (old new : Keeper) : Type 0 where
   pub before : IsKeeper old
   pub after : IsKeeper new
@@ -56,11 +56,11 @@ pub record ReadsQuads (old new : Keeper) : Type 0 where
   pub keeps : KeepsQuads 0 old new
   pub misses : new.misses ≡ old.misses
 
--- one more, up to the last value of the count
+-- one miss more; the count saturates
 abbrev pub one_more_miss : ℕ → ℕ
 one_more_miss n = min (n + 1) (2 ^ 64 - 1)
 
--- a call that missed a place counts it once, and one that succeeded counts nothing
+-- a call that found no place counts one miss, and one that succeeded counts none
 abbrev pub Counts : {T E : Type 0} → Keeper → Keeper → Result T E → Type 0
 Counts old new (Ok x) = new.misses ≡ old.misses
 Counts old new (Err e) = new.misses ≡ one_more_miss old.misses
@@ -78,22 +78,22 @@ pub record AreQuarters (old new : Keeper) (q : Quad) (four : Quad × Quad × Qua
   pub means : quad_cells old q ≡ quartered (side_of four.0.height) (quad_cells new four.0) (quad_cells new four.1)
       (quad_cells new four.2) (quad_cells new four.3)
 
--- how many words an operator on squares of a height places at most: 1 for a block, and above it those of four results
--- and 3 for their corner
+-- how many words an operator on squares of a height places at most: 1 for a block; above blocks, those of the four
+-- quarters of the result, and 3 for their corner
 abbrev pub quad_room : ℕ → ℕ
 quad_room height = 2 * 4 ^ (height - bottom_height) - 1
 
--- how many words a composition places at most, so many quarterings above the blocks: 1 for a block, and above it
--- those of eight products and four unions of the quarters, and 3 for their corner
+-- how many words a composition d heights above the blocks places at most: 1 for a block; above blocks, those of eight
+-- products and four unions of quarters, and 3 for their corner
 abbrev pub composed_words : ℕ → ℕ
 composed_words zero = 1
 composed_words (suc d) = 8 * composed_words d + 4 * (2 * 4 ^ d - 1) + 3
 
--- those of a composition on squares of a height
+-- how many words a composition of squares of a height places at most
 abbrev pub compose_room : ℕ → ℕ
 compose_room height = composed_words (height - bottom_height)
 
--- a second keeper is split off: both know as much, and it has missed nothing
+-- a second keeper is split off: both know the same, and the second has missed nothing
 pub record SplitsKeeper (spare : ℕ) (old new second : Keeper) : Type 0 where
   pub views : Splits spare old.view new.view second.view
   pub table : new.table ≡ old.table
@@ -103,7 +103,7 @@ pub record SplitsKeeper (spare : ℕ) (old new second : Keeper) : Type 0 where
   pub after : IsKeeper new
   pub second_after : IsKeeper second
 
--- two keepers become one, which knows what either knew, and counts what both missed, up to the last value of the count
+-- two keepers become one, which knows what either knew and counts the misses of both (the count saturates)
 pub record JoinsKeeper (old other new : Keeper) : Type 0 where
   pub views : Joins old.view other.view new.view
   pub table : new.table ≡ old.table

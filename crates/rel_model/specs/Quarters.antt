@@ -1,11 +1,11 @@
--- Quadrants as a worker keeps them: the four quarters of a quad, and sets within rows and columns.
+-- Quadrants as a worker keeps them: the four quarters of a quad, and sets confined to given rows and columns.
 use Rattle.std.specs.Prelude.{◌≡◌, ◌<◌, ◌+◌, ◌^◌, ℕ, true}
 use Rattle.rel_model.specs.declared.Quad.{Quad}
 use Rattle.rel_model.specs.Cells.{Cells}
 use Rattle.rel_model.specs.Trees.{quartered}
 use Rattle.rel_model.specs.Worker.{Worker, HasQuad, quad_set}
 
--- a set has no cell outside so many rows and columns
+-- a set has no cell outside the first rows and columns
 pub record LiesWithin (rows cols : ℕ) (f : Cells) : Type 0 where
   pub row : (i j : ℕ) → f i j ≡ true → i < rows
   pub col : (i j : ℕ) → f i j ≡ true → j < cols

@@ -1,10 +1,10 @@
--- What it is to split a worker off and to join two into one.
+-- Splitting a worker off, and joining two into one.
 use Rattle.std.specs.Prelude.{◌≡◌, ◌<◌, ◌+◌, ◌-◌, ◌^◌, min, ℕ}
 use Rattle.rel_model.specs.declared.Rel.{Rel}
 use Rattle.rel_model.specs.declared.Quad.{Quad}
 use Rattle.rel_model.specs.Worker.{Worker, Stands, HasQuad, Keeps}
 
--- all that stood in the one stands in the other, with the same sets
+-- everything that stood in the first stands in the second, with the same sets
 pub record Holds (old new : Worker) : Type 0 where
   pub same : (r : Rel) → Stands old r → new.relation r ≡ old.relation r
   pub same_quads : (q : Quad) → HasQuad old q → new.quad q ≡ old.quad q
@@ -13,8 +13,8 @@ pub record Holds (old new : Worker) : Type 0 where
 abbrev pub Kin : Worker → Worker → Type 0
 Kin a b = a.house ≡ b.house
 
--- a second worker is split off: all that stood stands in both; it has missed and made nothing, and has so many spare
--- workers; the first loses these and one
+-- a second worker is split off: everything that stood stands in both; the second has missed and made nothing and has
+-- `spare` spare workers; the first loses these and one more
 pub record SplitsWorker (spare : ℕ) (old new second : Worker) : Type 0 where
   pub holds : Holds old new
   pub second_holds : Holds old second
@@ -28,8 +28,8 @@ pub record SplitsWorker (spare : ℕ) (old new second : Worker) : Type 0 where
   pub spares : new.spare + spare + 1 ≡ old.spare
   pub second_spare : second.spare ≡ spare
 
--- two workers become one: all that stood in either stands there; it counts what both missed, up to the last value of
--- the count, and what both made, and has the spare workers of both and one more
+-- two workers become one: everything stands that stood in either; misses add up (saturating), nodes made add up, and
+-- the spare workers are those of both and one more
 pub record JoinsWorker (old other new : Worker) : Type 0 where
   pub holds : Holds old new
   pub other_holds : Holds other new
@@ -39,13 +39,13 @@ pub record JoinsWorker (old other new : Worker) : Type 0 where
   pub made : new.made ≡ old.made + other.made
   pub spares : new.spare ≡ old.spare + other.spare + 1
 
--- all that stood stands, with the same sets, and the table and all counts stay
+-- everything that stood stands with the same sets, and the table and all counts are unchanged
 pub record Stays (old new : Worker) : Type 0 where
   pub keeps : Keeps old new
   pub misses : new.misses ≡ old.misses
   pub made : new.made ≡ old.made
 
--- and what stood in another worker stands too, with the same sets
+-- everything that stood in another worker stands here too, with the same sets
 pub record Learns (old other new : Worker) : Type 0 where
   pub stays : Stays old new
   pub other_holds : Holds other new

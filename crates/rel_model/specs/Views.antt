@@ -6,11 +6,11 @@ use Rattle.rel_model.specs.Trees.{cells, stands}
 use Rattle.rel_model.specs.Words.{least_bits, most_bits, Extends, IsDistinct, IsFullOfOthers, stored_count}
 use Rattle.rel_model.specs.Equations.{IsMemo, IsSoundTable, node_words}
 
--- which table it is: of a house no more is known than whether it is another's
+-- an opaque table identity; only equality can be tested
 abbrev pub House : Type 0
 House = Gv
 
--- a table of 2 ^ bits node words, for at most so many seats
+-- a table of 2 ^ bits node words, with at most this many seats
 pub record Table : Type 0 where
   pub house : House
   pub bits : ℕ
@@ -18,18 +18,18 @@ pub record Table : Type 0 where
 
 -- what a seat knows
 pub record View : Type 0 where
-  -- the table at which it sits
+  -- the table that the seat belongs to
   pub house : House
-  -- the words that it has seen, each at its place, and 0 at every other place
+  -- the words that it has seen, each at its place; 0 at every other place
   pub words : List ℕ
   -- how many words it placed
   pub made : ℕ
   -- how many seats may still be split off
   pub spare : ℕ
-  -- the slot of its last memo step, and the word that it loaded or stored there, if there was one
+  -- the slot of its last memo step, with the word loaded or stored there; none before the first
   pub last : Option (ℕ × ℕ)
 
--- the seat is of this table, whose size is within the limits, and its names are canonical
+-- the seat belongs to this table, whose size is within the limits, and its names are canonical
 pub record IsOf (seat : View) (table : Table) : Type 0 where
   pub one_house : seat.house ≡ table.house
   pub size : length seat.words ≡ 2 ^ table.bits
@@ -68,14 +68,14 @@ pub record IsFresh (bits seats : ℕ) (made : Table × View) : Type 0 where
   pub spare_is : made.1.spare + 1 ≡ seats
   pub no_load : made.1.last ≡ None
 
--- a call placed its word, which stood nowhere in the view before: one more was made
+-- a call placed its word, which stood nowhere in the view before, and counts one more as made
 pub record IsPlacedNow {E : Type 0} (old new : View) (word : ℕ) (result : Result ℕ E) : Type 0 where
   pub more : new.made ≡ old.made + 1
   pub absent : (n : ℕ) → slice_index old.words n ≢ word
   pub answered : IsOk result
 
--- a word is interned: the answer is its one name, and there is none exactly where every place holds another word;
--- none was made unless the word was placed
+-- a word is interned: the answer is its one name; there is no answer if and only if every place holds another word;
+-- nothing was made unless the word was placed
 pub record Interns {E : Type 0} (old new : View) (word : ℕ) (result : Result ℕ E) : Type 0 where
   pub named : IfOk result (λ n. (2 ≤ n) × (slice_index new.words n ≡ word))
   pub missed : IsErr result → IsFullOfOthers new.words word
@@ -84,14 +84,14 @@ pub record Interns {E : Type 0} (old new : View) (word : ℕ) (result : Result �
   pub keeps : Keeps old new
   pub last : new.last ≡ old.last
 
--- a memo word is loaded: it is 0, or a true equation at home in its slot, and it is the last memo step
+-- a memo word is loaded: it is 0 or a true equation at home in its slot, and the load is the last memo step
 pub record Loads (slot word : ℕ) (old new : View) : Type 0 where
   pub holds : word ≢ 0 → IsMemo new.words slot word
   pub keeps : Keeps old new
   pub made : new.made ≡ old.made
   pub last : new.last ≡ Some (slot, word)
 
--- a second seat is split off: both know as much, and it has made nothing
+-- a second seat is split off: both know the same, and the second has made nothing
 pub record Splits (spare : ℕ) (old new second : View) : Type 0 where
   pub seen : Extends old.words new.words
   pub words : second.words ≡ new.words
@@ -113,7 +113,7 @@ pub record Joins (old other new : View) : Type 0 where
   pub spares : new.spare ≡ old.spare + other.spare + 1
   pub last : new.last ≡ old.last
 
--- the words in the end: sound, they hold all that the seat has seen, and as many nodes are stored as it made
+-- the words at the end: they are sound, hold all that the seat has seen, and store as many nodes as the seat made
 pub record IsClosed (bits : ℕ) (seat : View) (words : List ℕ) : Type 0 where
   pub sound : IsSoundTable bits words
   pub holds : Extends seat.words (node_words bits words)

@@ -1,7 +1,7 @@
-//! All operations of the language on relations, over whatever keeps them.
+//! All operations of the language on relations, over any worker that keeps relations.
 //!
-//! Every call keeps all relations and quads that stood, with the same sets, makes at most its room of nodes, and
-//! refuses only for its named cause.
+//! Every call leaves all relations and quads that stood with the same sets, makes at most as many nodes as its room,
+//! and refuses only for its stated cause.
 ghost use Rattle.std.specs.Prelude.{◌≡◌, ◌<◌, ◌≤◌, ◌+◌, ◌-◌, ◌*◌, ◌^◌, max, length, IfOk, OnErr, IsErrOf, IfSome, true, false};
 ghost use Rattle.rel_model.specs.declared.Lack.TheVariants.{NoMemory as NO_MEMORY};
 ghost use Rattle.rel_model.specs.Relation.{has, relation_of, size_limit};
@@ -18,9 +18,10 @@ use crate::seated_trait::Seated;
 use crate::{Lack, NoMemory, Rel, Shape};
 use std::alloc::Global;
 
-/// A worker that does all operations of the language (Schmidt and Ströhlein, *Relations and Graphs*).
+/// A worker that has all operations of the language (Schmidt and Ströhlein, *Relations and Graphs*).
 pub trait Engine: Seated {
-    /// `R\S = {(j, k) : (i, j) in r implies (i, k) in s, for all i}`: the right residual, of m × n under m × p.
+    /// `R\S = {(j, k) : (i, j) in r implies (i, k) in s, for all i}`: the right residual of an m × n and an m × p
+    /// relation.
     fn right(&mut self, r: Rel, s: Rel) -> Result<Rel, Lack>
         requires left { Stands (Self.worker self.old) r }
         requires right { Stands (Self.worker self.old) s }
@@ -31,7 +32,8 @@ pub trait Engine: Seated {
         ensures room { MakesAtMost (derived_room r.rows r.cols s.cols) (Self.worker self.old) (Self.worker self.new) }
         ensures cause { HasCause Self.lean (Self.worker self.old) (Self.worker self.new) result };
 
-    /// `S/R = {(i, j) : (j, k) in r implies (i, k) in s, for all k}`: the left residual, of m × p over n × p.
+    /// `S/R = {(i, j) : (j, k) in r implies (i, k) in s, for all k}`: the left residual of an m × p and an n × p
+    /// relation.
     fn left(&mut self, s: Rel, r: Rel) -> Result<Rel, Lack>
         requires left { Stands (Self.worker self.old) s }
         requires right { Stands (Self.worker self.old) r }
@@ -42,8 +44,8 @@ pub trait Engine: Seated {
         ensures room { MakesAtMost (derived_room s.rows s.cols r.rows) (Self.worker self.old) (Self.worker self.new) }
         ensures cause { HasCause Self.lean (Self.worker self.old) (Self.worker self.new) result };
 
-    /// `syq(R,S) = {(j, k) : (i, j) in r exactly if (i, k) in s, for all i}`: the symmetric quotient, of m × n and m
-    /// × p.
+    /// `syq(R,S) = {(j, k) : (i, j) in r exactly if (i, k) in s, for all i}`: the symmetric quotient of an m × n and an
+    /// m × p relation.
     fn syq(&mut self, r: Rel, s: Rel) -> Result<Rel, Lack>
         requires left { Stands (Self.worker self.old) r }
         requires right { Stands (Self.worker self.old) s }
@@ -54,7 +56,7 @@ pub trait Engine: Seated {
         ensures room { MakesAtMost (wide_room r.rows r.cols s.cols) (Self.worker self.old) (Self.worker self.new) }
         ensures cause { HasCause Self.lean (Self.worker self.old) (Self.worker self.new) result };
 
-    /// `trans(R)`: the pairs that a walk of at least one step joins.
+    /// `trans(R)`: the transitive closure of a square relation, the pairs joined by a walk of at least one step.
     fn trans(&mut self, r: Rel) -> Result<Rel, Lack>
         requires standing { Stands (Self.worker self.old) r }
         requires square { r.rows ≡ r.cols }
@@ -65,7 +67,7 @@ pub trait Engine: Seated {
         ensures nothing { r.rows ≤ 1 → MakesAtMost 0 (Self.worker self.old) (Self.worker self.new) }
         ensures cause { HasCause Self.lean (Self.worker self.old) (Self.worker self.new) result };
 
-    /// `refl(R) = R | I`: a square relation with the pairs (i, i).
+    /// `refl(R) = R | I`: the reflexive closure, a square relation with all pairs (i, i) added.
     fn refl(&mut self, r: Rel) -> Result<Rel, Lack>
         requires standing { Stands (Self.worker self.old) r }
         requires square { r.rows ≡ r.cols }
@@ -86,7 +88,7 @@ pub trait Engine: Seated {
         ensures tree { MakesAtMost (relation_room Self.least n n) (Self.worker self.old) (Self.worker self.new) }
         ensures cause { HasCause Self.lean (Self.worker self.old) (Self.worker self.new) result };
 
-    /// `{(i * y + j, i)}`: the projection of a product to its first factor. It is refused where the product is over
+    /// `{(i * y + j, i)}`: the projection of a product to its first factor. Refused if the size of the product exceeds
     /// the limit.
     fn first(&mut self, x: u32, y: u32) -> Result<Rel, DomainError>
         requires x_limit { x ≤ size_limit }
@@ -98,7 +100,7 @@ pub trait Engine: Seated {
         ensures nothing { size_limit < x * y → MakesAtMost 0 (Self.worker self.old) (Self.worker self.new) }
         ensures cause { HasDomainCause Self.lean (x * y) (Self.worker self.old) (Self.worker self.new) result };
 
-    /// `{(i * y + j, j)}`: the projection of a product to its second factor. It is refused where the product is over
+    /// `{(i * y + j, j)}`: the projection of a product to its second factor. Refused if the size of the product exceeds
     /// the limit.
     fn second(&mut self, x: u32, y: u32) -> Result<Rel, DomainError>
         requires x_limit { x ≤ size_limit }
@@ -110,7 +112,7 @@ pub trait Engine: Seated {
         ensures nothing { size_limit < x * y → MakesAtMost 0 (Self.worker self.old) (Self.worker self.new) }
         ensures cause { HasDomainCause Self.lean (x * y) (Self.worker self.old) (Self.worker self.new) result };
 
-    /// `{(i, i)}`: the injection of the first summand into a sum. It is refused where the sum is over the limit.
+    /// `{(i, i)}`: the injection of the first summand into a sum. Refused if the size of the sum exceeds the limit.
     fn inl(&mut self, x: u32, y: u32) -> Result<Rel, DomainError>
         requires x_limit { x ≤ size_limit }
         requires y_limit { y ≤ size_limit }
@@ -121,7 +123,8 @@ pub trait Engine: Seated {
         ensures nothing { size_limit < x + y → MakesAtMost 0 (Self.worker self.old) (Self.worker self.new) }
         ensures cause { HasDomainCause Self.lean (x + y) (Self.worker self.old) (Self.worker self.new) result };
 
-    /// `{(j, x + j)}`: the injection of the second summand into a sum. It is refused where the sum is over the limit.
+    /// `{(j, x + j)}`: the injection of the second summand into a sum. Refused if the size of the sum exceeds the
+    /// limit.
     fn inr(&mut self, x: u32, y: u32) -> Result<Rel, DomainError>
         requires x_limit { x ≤ size_limit }
         requires y_limit { y ≤ size_limit }
@@ -132,8 +135,8 @@ pub trait Engine: Seated {
         ensures nothing { size_limit < x + y → MakesAtMost 0 (Self.worker self.old) (Self.worker self.new) }
         ensures cause { HasDomainCause Self.lean (x + y) (Self.worker self.old) (Self.worker self.new) result };
 
-    /// `{(i, s) : bit i of s is 1}`: membership of elements in subsets, of x rows and 2 ^ x columns. It is refused
-    /// where 2 ^ x is over the limit.
+    /// `{(i, s) : bit i of s is 1}`: the membership relation between elements and subsets, with x rows and 2 ^ x
+    /// columns. Refused if 2 ^ x exceeds the limit.
     fn epsi(&mut self, x: u32) -> Result<Rel, DomainError>
         requires { x ≤ size_limit }
         ensures value { IfOk result (Gives (Self.worker self.new) x (2 ^ x) (membership x)) }
@@ -143,8 +146,8 @@ pub trait Engine: Seated {
         ensures nothing { size_limit < 2 ^ x → MakesAtMost 0 (Self.worker self.old) (Self.worker self.new) }
         ensures cause { HasDomainCause Self.lean (2 ^ x) (Self.worker self.old) (Self.worker self.new) result };
 
-    /// `[R,S] = {(i, j * n + k) : (i, j) in r and (i, k) in s}`: the pairing of two relations of as many rows, where
-    /// s has n columns. It is refused where its columns are over the limit.
+    /// `[R,S] = {(i, j * n + k) : (i, j) in r and (i, k) in s}`: the pairing of two relations with the same number of
+    /// rows, where s has n columns. Refused if the number of columns of the result exceeds the limit.
     fn fork(&mut self, r: Rel, s: Rel) -> Result<Rel, DomainError>
         requires left { Stands (Self.worker self.old) r }
         requires right { Stands (Self.worker self.old) s }
@@ -158,7 +161,8 @@ pub trait Engine: Seated {
         ensures cause { HasDomainCause Self.lean (r.cols * s.cols) (Self.worker self.old) (Self.worker self.new)
             result };
 
-    /// The elements of a vector in order: row r has the element of v that r elements precede.
+    /// `{(r, i) : i is the element of v with r elements before it}`: lists the elements of a vector in order, one in
+    /// each row.
     fn inj(&mut self, v: Rel) -> Result<Rel, Lack>
         requires stands { Stands (Self.worker self.old) v }
         requires one_column { v.cols ≡ 1 }
@@ -171,8 +175,8 @@ pub trait Engine: Seated {
             (Self.worker self.new) }
         ensures cause { HasCause Self.lean (Self.worker self.old) (Self.worker self.new) result };
 
-    /// `{p : p in pairs}`: the relation of listed pairs, in any order, repeats allowed. It sorts, so memory may run
-    /// out even where the worker is lean.
+    /// `{p : p in pairs}`: the relation of a list of pairs, in any order and with repeats allowed. It sorts the list,
+    /// so memory may run out even if the worker is lean.
     fn from_pairs(&mut self, alloc: Global, shape: Shape, pairs: &[(u32, u32)]) -> Result<Rel, Lack>
         requires row_limit { shape.rows ≤ size_limit }
         requires col_limit { shape.cols ≤ size_limit }
@@ -190,8 +194,7 @@ pub trait Engine: Seated {
         ensures untouched { Self.lean ≡ true → IsErrOf result NO_MEMORY
             → MakesAtMost 0 (Self.worker self.old) (Self.worker self.new) };
 
-    /// `{(i, 0) : i is the least element of v}`: a point of a vector that has an element, and the empty vector of one
-    /// that has none.
+    /// `{(i, 0) : i is the least element of v}`: a point of a vector; the empty vector if v is empty.
     fn point(&mut self, v: Rel) -> Result<Rel, Lack>
         requires stands { Stands (Self.worker self.old) v }
         requires column { v.cols ≡ 1 }
@@ -202,8 +205,8 @@ pub trait Engine: Seated {
         ensures few { MakesAtMost (operator_room v.rows 1) (Self.worker self.old) (Self.worker self.new) }
         ensures cause { HasCause Self.lean (Self.worker self.old) (Self.worker self.new) result };
 
-    /// `{(i, j) : (i, j) is the least pair of r by row and then by column}`, and the empty relation of one that has
-    /// none.
+    /// `{(i, j) : (i, j) is the least pair of r by row and then by column}`: an atom of a relation; the empty relation
+    /// if r is empty.
     fn atom(&mut self, r: Rel) -> Result<Rel, Lack>
         requires { Stands (Self.worker self.old) r }
         ensures value { IfOk result (Gives (Self.worker self.new) r.rows r.cols
@@ -213,7 +216,7 @@ pub trait Engine: Seated {
         ensures few { MakesAtMost (operator_room r.rows r.cols) (Self.worker self.old) (Self.worker self.new) }
         ensures cause { HasCause Self.lean (Self.worker self.old) (Self.worker self.new) result };
 
-    /// `{(0, 0)}` with the rows of v, and the empty vector where it has none.
+    /// `{(0, 0)}` with the rows of v: the first element; the empty vector if v has no rows.
     fn init(&mut self, v: Rel) -> Result<Rel, Lack>
         requires stands { Stands (Self.worker self.old) v }
         requires column { v.cols ≡ 1 }
@@ -224,7 +227,7 @@ pub trait Engine: Seated {
         ensures few { MakesAtMost (operator_room v.rows 1) (Self.worker self.old) (Self.worker self.new) }
         ensures cause { HasCause Self.lean (Self.worker self.old) (Self.worker self.new) result };
 
-    /// `{(i + 1, 0) : i is in v, i + 1 < rows}`: each element moved up by one, the last dropped.
+    /// `{(i + 1, 0) : i is in v, i + 1 < rows}`: moves each element up by one and drops the last.
     fn next(&mut self, v: Rel) -> Result<Rel, Lack>
         requires stands { Stands (Self.worker self.old) v }
         requires column { v.cols ≡ 1 }
@@ -258,7 +261,7 @@ pub trait Engine: Seated {
         ensures room { MakesAtMost 0 (Self.worker self.old) (Self.worker self.new) }
         ensures misses { MissesNothing (Self.worker self.old) (Self.worker self.new) };
 
-    /// How many pairs a relation has.
+    /// How many pairs a relation has. Refused only if memory runs out.
     fn count(&mut self, alloc: Global, r: Rel) -> Result<u64, NoMemory>
         requires { Stands (Self.worker self.old) r }
         ensures value { IfOk result (λ n. n ≡ count_of (set_of (Self.worker self.old) r)) }
@@ -268,7 +271,7 @@ pub trait Engine: Seated {
         ensures some { OnErr result (0 < count_of (set_of (Self.worker self.old) r)) }
         ensures over { OnErr result (Self.least < height_over Self.least r.rows r.cols) };
 
-    /// The least pair by row and then by column, of those behind `after` where it is given.
+    /// The least pair of a relation by row and then by column; if `after` is given, the least pair after that one.
     fn next_pair(&mut self, r: Rel, after: Option<(u32, u32)>) -> Option<(u32, u32)>
         requires { Stands (Self.worker self.old) r }
         ensures value { result ≡ next_pair_of (set_of (Self.worker self.old) r) after }
@@ -277,7 +280,7 @@ pub trait Engine: Seated {
         ensures room { MakesAtMost 0 (Self.worker self.old) (Self.worker self.new) }
         ensures misses { MissesNothing (Self.worker self.old) (Self.worker self.new) };
 
-    /// The leaves are blocks of 8 by 8 cells, which one word holds: over them a line of a relation has few nodes beside
-    /// what the language counts for an operator.
+    /// The leaves are blocks of 8 by 8 cells, one word each: above them, a line of a relation has few nodes compared
+    /// with what the language counts for an operator.
     ghost leaf_height: { Self.least ≡ 3 };
 }

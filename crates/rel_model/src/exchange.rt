@@ -4,9 +4,10 @@ ghost use Rattle.rel_model.specs.Seats.{Kin, Learns};
 
 use crate::seated_trait::Seated;
 
-/// Each learns all that stands in the other, by a split of each that is joined into the other.
+/// Each worker learns all that stands in the other: each takes in a worker split off from the other.
 ///
-/// The first needs no spare worker: it has one while it has taken in the split of the other.
+/// The first worker needs no spare of its own: it has one at that moment, because it has just joined the one split off
+/// from the other.
 pub fn exchange<E: Seated>(mine: &mut E, other: &mut E)
     requires kin { Kin (E.worker mine.old) (E.worker other.old) }
     requires spare { 0 < (E.worker other.old).spare }

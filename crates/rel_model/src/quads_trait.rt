@@ -1,7 +1,7 @@
-//! Relations as trees of quadrants, over whatever keeps them (Brisaboa, Ladra and Navarro, for k²-trees with k = 2).
+//! Relations as trees of quadrants (k²-trees with k = 2, Brisaboa, Ladra and Navarro), over any worker that keeps them.
 //!
-//! Every call keeps all relations and quads that stood, with the same sets, makes at most its room of nodes, and
-//! refuses only for its named cause.
+//! Every call leaves all relations and quads that stood with the same sets, makes at most as many nodes as its room,
+//! and refuses only for its stated cause.
 ghost use Rattle.std.specs.Prelude.{◌≡◌, ◌<◌, ◌≤◌, ◌+◌, ◌-◌, ◌*◌, ◌^◌, ℕ, Some, IfOk};
 ghost use Rattle.rel_model.specs.declared.Quad.{Quad};
 ghost use Rattle.rel_model.specs.Relation.{Relation, has, relation_of, size_limit};
@@ -16,18 +16,18 @@ use crate::{Lack, Quad, Rel, Shape};
 
 /// A worker whose relations are quadrant trees. A quad of height h is a set of cells within a square of side `2 ^ h`.
 pub trait Quads: Core {
-    /// The height of the leaves.
+    /// The height of the leaves of all trees.
     fn bottom(&self) -> u8
         ensures { result ≡ Self.least };
 
-    /// The quad of a relation: its cells are the relation's pairs, and its height is the least from the leaves' on
+    /// The quad of a relation: its cells are the relation's pairs. Its height is the least, from that of the leaves on,
     /// whose side is at least both sizes.
     fn root(&self, r: Rel) -> Quad
         requires { Stands (Self.worker self.now) r }
         ensures { GivesQuad (Self.worker self.now) (height_over Self.least r.rows r.cols)
             (has (set_of (Self.worker self.now) r)) result };
 
-    /// `{(i, j) : cell (i, j) is in q}`: the relation of these sizes, within which all cells of `q` lie.
+    /// `{(i, j) : cell (i, j) is in q}`: the relation with this shape, within which all cells of `q` must lie.
     fn rel(&self, shape: Shape, q: Quad) -> Rel
         requires row_limit { shape.rows ≤ size_limit }
         requires col_limit { shape.cols ≤ size_limit }
@@ -37,7 +37,7 @@ pub trait Quads: Core {
         ensures { Gives (Self.worker self.now) shape.rows shape.cols
             (relation_of shape.rows shape.cols (quad_set (Self.worker self.now) q)) result };
 
-    /// The quarters of a quad over the leaves: north-west, north-east, south-west and south-east.
+    /// The quarters of a quad above the leaves: north-west, north-east, south-west and south-east.
     fn quarters(&mut self, q: Quad) -> (Quad, Quad, Quad, Quad)
         requires stands { HasQuad (Self.worker self.old) q }
         requires over { Self.least < q.height }
@@ -46,7 +46,7 @@ pub trait Quads: Core {
         ensures room { MakesAtMost 0 (Self.worker self.old) (Self.worker self.new) }
         ensures misses { MissesNothing (Self.worker self.old) (Self.worker self.new) };
 
-    /// The quad with these quarters, which are of one height.
+    /// The quad with these four quarters, which must have one height.
     fn corner(&mut self, nw: Quad, ne: Quad, sw: Quad, se: Quad) -> Result<Quad, Lack>
         requires nw_stands { HasQuad (Self.worker self.old) nw }
         requires ne_stands { HasQuad (Self.worker self.old) ne }
@@ -66,7 +66,7 @@ pub trait Quads: Core {
         ensures room { MakesAtMost 3 (Self.worker self.old) (Self.worker self.new) }
         ensures cause { HasCause Self.lean (Self.worker self.old) (Self.worker self.new) result };
 
-    /// The cells of a leaf in one word: cell (i, j) is bit `2 ^ bottom * i + j`.
+    /// The cells of a leaf as one word: cell (i, j) is bit `2 ^ bottom * i + j`.
     fn bits(&mut self, q: Quad) -> u64
         requires stands { HasQuad (Self.worker self.old) q }
         requires leaf { q.height ≡ Self.least }
@@ -76,7 +76,7 @@ pub trait Quads: Core {
         ensures room { MakesAtMost 0 (Self.worker self.old) (Self.worker self.new) }
         ensures misses { MissesNothing (Self.worker self.old) (Self.worker self.new) };
 
-    /// The leaf whose cells are in this word: cell (i, j) is bit `2 ^ bottom * i + j`.
+    /// The leaf with the cells of this word: cell (i, j) is bit `2 ^ bottom * i + j`.
     fn block(&mut self, bits: u64) -> Result<Quad, Lack>
         requires none_past { bits < 2 ^ (2 ^ Self.least * 2 ^ Self.least) }
         ensures value { IfOk result (GivesQuad (Self.worker self.new) Self.least (bits_cells (2 ^ Self.least) bits)) }
@@ -86,7 +86,7 @@ pub trait Quads: Core {
         ensures room { MakesAtMost 1 (Self.worker self.old) (Self.worker self.new) }
         ensures cause { HasCause Self.lean (Self.worker self.old) (Self.worker self.new) result };
 
-    /// `{(i, j) : i < rows, j < cols}`, in the square of a height.
+    /// `{(i, j) : i < rows, j < cols}`: a rectangle in the north-west corner of the square of a height.
     fn rect(&mut self, height: u8, rows: u32, cols: u32) -> Result<Quad, Lack>
         requires low { Self.least ≤ height }
         requires high { height ≤ top_height }
@@ -99,8 +99,8 @@ pub trait Quads: Core {
         ensures room { MakesAtMost (tree_room (height - Self.least)) (Self.worker self.old) (Self.worker self.new) }
         ensures cause { HasCause Self.lean (Self.worker self.old) (Self.worker self.new) result };
 
-    /// `x | y*z`: the cells of `x`, and each (i, j) with (i, k) in `y` and (k, j) in `z` for some k. The three are of one
-    /// height.
+    /// `x | y*z`: the cells of `x`, and each (i, j) with (i, k) in `y` and (k, j) in `z` for some k. All three must
+    /// have one height.
     fn joined(&mut self, x: Quad, y: Quad, z: Quad) -> Result<Quad, Lack>
         requires x_stands { HasQuad (Self.worker self.old) x }
         requires y_stands { HasQuad (Self.worker self.old) y }
@@ -114,10 +114,10 @@ pub trait Quads: Core {
         ensures room { MakesAtMost (20 * 8 ^ x.height) (Self.worker self.old) (Self.worker self.new) }
         ensures cause { HasCause Self.lean (Self.worker self.old) (Self.worker self.new) result };
 
-    /// The leaves have at most 64 cells, which one word holds.
+    /// Leaves have at most 64 cells, so that one word holds them.
     ghost least_limit: { Self.least ≤ 3 };
 
-    /// The heights of quads that stand.
+    /// Quads that stand are no lower than the leaves and no higher than the highest square.
     ghost low_height: { (quads : Self) (q : Quad) → HasQuad (Self.worker quads) q → Self.least ≤ q.height };
 
     ghost high_height: { (quads : Self) (q : Quad) → HasQuad (Self.worker quads) q → q.height ≤ top_height };
@@ -126,11 +126,11 @@ pub trait Quads: Core {
     ghost square: { (quads : Self) (q : Quad) → HasQuad (Self.worker quads) q
         → LiesWithin (2 ^ q.height) (2 ^ q.height) (quad_set (Self.worker quads) q) };
 
-    /// The quad named 0 has no cell, at each height.
+    /// The quad named 0 is empty, at each height.
     ghost none: { (quads : Self) (h : ℕ) → Self.least ≤ h → h ≤ top_height
         → (Self.worker quads).quad (record { height = h; name = 0 }) ≡ Some no_cells };
 
-    /// Quads of one height with one set have one name.
+    /// Quads of one height with the same set have the same name.
     ghost one_name: { (quads : Self) (p q : Quad) → HasQuad (Self.worker quads) p → HasQuad (Self.worker quads) q
         → p.height ≡ q.height → quad_set (Self.worker quads) p ≡ quad_set (Self.worker quads) q → p.name ≡ q.name };
 }

@@ -1,4 +1,4 @@
-//! A caller of a worker of any kind.
+//! A generic caller of any worker.
 ghost use Rattle.std.specs.Prelude.{◌≡◌, IfOk};
 ghost use Rattle.rel_model.specs.Operators.{union as union_of, transpose as transpose_of};
 ghost use Rattle.rel_model.specs.Worker.{Stands, set_of, Keeps, Gives, HasCause};

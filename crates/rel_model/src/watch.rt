@@ -1,6 +1,6 @@
-//! What is told of the pieces of a forked work.
+//! An observer of the pieces into which an operator is forked.
 
-/// Is told of each piece in the piece's own thread, where it may hold it.
+/// Is called when a piece begins and ends, in the thread that computes it, and may hold that thread.
 pub trait Watch {
     /// The piece of this number begins.
     fn begins(&self, piece: u32);

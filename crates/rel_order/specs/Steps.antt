@@ -1,4 +1,4 @@
--- What the calls find on their way.
+-- Intermediate results of the calls.
 use Rattle.std.specs.Prelude.{◌*◌, ◌&&◌, not, nat_lt, ℕ}
 use Rattle.rel_model.specs.Relation.{Relation, has, relation_of}
 use Rattle.rel_model.specs.Cells.{Cells, some_below}
@@ -13,7 +13,7 @@ ascending m i j = nat_lt i j && nat_lt j m
 unfoldable pub proper_pairs : Relation → Relation
 proper_pairs r = relation_of r.rows r.cols (λ x y. is_proper r x y)
 
--- the elements that no lesser one stands beside, as a vector
+-- the elements that are related to no lesser one, as a vector
 unfoldable pub leading : Relation → Relation
 leading r = relation_of r.rows 1 (λ x k. not (some_below x (λ y. has r x y)))
 

@@ -8,8 +8,8 @@ use rel_model::quads_trait::Quads;
 use rel_model::{Lack, Rel};
 use rel_residual::left;
 
-/// `ubd(R,S) = R^/S^ = {(x, y) : (z, y) in s implies (z, x) in r, for all z}`, of n × n and n × m: the upper bounds of
-/// the columns of s (Schmidt and Ströhlein, *Relations and Graphs*).
+/// `ubd(R,S) = R^/S^ = {(x, y) : (z, y) in s implies (z, x) in r, for all z}`: the upper bounds of the columns of s,
+/// for an n × n and an n × m relation (Schmidt and Ströhlein, *Relations and Graphs*).
 pub fn ubd<Q: Quads>(q: &mut Q, r: Rel, s: Rel) -> Result<Rel, Lack>
     requires left { Stands (Q.worker q.old) r }
     requires right { Stands (Q.worker q.old) s }
@@ -27,8 +27,8 @@ pub fn ubd<Q: Quads>(q: &mut Q, r: Rel, s: Rel) -> Result<Rel, Lack>
     Ok(bounds)
 }
 
-/// `lbd(R,S) = R/S^ = {(x, y) : (z, y) in s implies (x, z) in r, for all z}`, of n × n and n × m: the lower bounds of
-/// the columns of s (Schmidt and Ströhlein, *Relations and Graphs*).
+/// `lbd(R,S) = R/S^ = {(x, y) : (z, y) in s implies (x, z) in r, for all z}`: the lower bounds of the columns of s, for
+/// an n × n and an n × m relation (Schmidt and Ströhlein, *Relations and Graphs*).
 pub fn lbd<Q: Quads>(q: &mut Q, r: Rel, s: Rel) -> Result<Rel, Lack>
     requires left { Stands (Q.worker q.old) r }
     requires right { Stands (Q.worker q.old) s }

@@ -11,7 +11,7 @@ use rel_model::quads_trait::Quads;
 use rel_model::{Lack, Rel, Shape};
 use rel_residual::syq;
 
-/// `{(x, 0) : no y < x has (x, y) in r}`: the elements that stand beside no lesser one, as a vector.
+/// `{(x, 0) : no y < x has (x, y) in r}`: the elements that are related to no lesser one, as a vector.
 fn leaders<Q: Quads>(q: &mut Q, r: Rel) -> Result<Rel, Lack>
     requires stands { Stands (Q.worker q.old) r }
     requires square { r.rows ≡ r.cols }
@@ -32,12 +32,12 @@ fn leaders<Q: Quads>(q: &mut Q, r: Rel) -> Result<Rel, Lack>
     Ok(rest)
 }
 
-/// `{(x, k) : x is in class k}`, where two elements are in one class if their columns of r are equal, and classes are
-/// numbered from 0 by their least elements: the quotient of an equivalence by itself (Schmidt and Ströhlein, *Relations
-/// and Graphs*), with as many columns as there are classes.
+/// `{(x, k) : x is in class k}`: the quotient of an equivalence, with one column for each class (Schmidt and Ströhlein,
+/// *Relations and Graphs*). Two elements are in one class if their columns of r are equal; classes are numbered from 0
+/// by their least elements.
 ///
-/// Elements with equal columns are the symmetric quotient of r by itself. No two columns are compared: the least
-/// elements of the classes are numbered in order, and each number takes the elements of its class.
+/// Elements with equal columns are the pairs of the symmetric quotient of r by itself. No two columns are compared: the
+/// least elements of the classes are numbered in order, and each number takes the elements of its class.
 pub fn quot<Q: Quads>(q: &mut Q, r: Rel) -> Result<Rel, Lack>
     requires stands { Stands (Q.worker q.old) r }
     requires square { r.rows ≡ r.cols }

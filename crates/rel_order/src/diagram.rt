@@ -9,7 +9,7 @@ use rel_model::core_trait::Core;
 use rel_model::quads_trait::Quads;
 use rel_model::{Lack, Rel};
 
-/// `{(x, y) : (x, y) in r, x other than y}`: the pairs of two different elements.
+/// `{(x, y) : (x, y) in r, x other than y}`: the pairs of different elements.
 fn proper<Q: Quads>(q: &mut Q, r: Rel) -> Result<Rel, Lack>
     requires stands { Stands (Q.worker q.old) r }
     requires square { r.rows ≡ r.cols }
@@ -25,8 +25,8 @@ fn proper<Q: Quads>(q: &mut Q, r: Rel) -> Result<Rel, Lack>
     Ok(rest)
 }
 
-/// `P & -(P*P)`, where P has the pairs of r of two different elements: (x, y) in P such that no z has (x, z) and (z, y)
-/// in P, the Hasse diagram of an order (Schmidt and Ströhlein, *Relations and Graphs*).
+/// `P & -(P*P)`, where P has the pairs of r of different elements: those (x, y) in P for which no z has (x, z) and (z,
+/// y) in P. It is the Hasse diagram of an order (Schmidt and Ströhlein, *Relations and Graphs*). r must be square.
 pub fn hasse<Q: Quads>(q: &mut Q, r: Rel) -> Result<Rel, Lack>
     requires stands { Stands (Q.worker q.old) r }
     requires square { r.rows ≡ r.cols }

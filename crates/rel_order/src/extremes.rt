@@ -8,8 +8,8 @@ use rel_model::core_trait::Core;
 use rel_model::quads_trait::Quads;
 use rel_model::{Lack, Rel};
 
-/// `least(R,S) = S & lbd(R,S)`: the elements of each column of s that are lower bounds of it (Schmidt and Ströhlein,
-/// *Relations and Graphs*), of n × n and n × m. In an order a column has at most one.
+/// `least(R,S) = S & lbd(R,S)`: the elements of each column of s that are lower bounds of it, for an n × n and an n × m
+/// relation (Schmidt and Ströhlein, *Relations and Graphs*). In an order, each column has at most one.
 pub fn least<Q: Quads>(q: &mut Q, r: Rel, s: Rel) -> Result<Rel, Lack>
     requires left { Stands (Q.worker q.old) r }
     requires right { Stands (Q.worker q.old) s }
@@ -26,8 +26,8 @@ pub fn least<Q: Quads>(q: &mut Q, r: Rel, s: Rel) -> Result<Rel, Lack>
     Ok(found)
 }
 
-/// `greatest(R,S) = S & ubd(R,S)`: the elements of each column of s that are upper bounds of it (Schmidt and
-/// Ströhlein, *Relations and Graphs*), of n × n and n × m. In an order a column has at most one.
+/// `greatest(R,S) = S & ubd(R,S)`: the elements of each column of s that are upper bounds of it, for an n × n and an n
+/// × m relation (Schmidt and Ströhlein, *Relations and Graphs*). In an order, each column has at most one.
 pub fn greatest<Q: Quads>(q: &mut Q, r: Rel, s: Rel) -> Result<Rel, Lack>
     requires left { Stands (Q.worker q.old) r }
     requires right { Stands (Q.worker q.old) s }
@@ -44,8 +44,8 @@ pub fn greatest<Q: Quads>(q: &mut Q, r: Rel, s: Rel) -> Result<Rel, Lack>
     Ok(found)
 }
 
-/// `sup(R,S) = least(R, ubd(R,S))`: the least upper bounds of the columns of s (Schmidt and Ströhlein, *Relations and
-/// Graphs*), of n × n and n × m. In an order a column has at most one.
+/// `sup(R,S) = least(R, ubd(R,S))`: the least upper bounds of the columns of s, for an n × n and an n × m relation
+/// (Schmidt and Ströhlein, *Relations and Graphs*). In an order, each column has at most one.
 pub fn sup<Q: Quads>(q: &mut Q, r: Rel, s: Rel) -> Result<Rel, Lack>
     requires left { Stands (Q.worker q.old) r }
     requires right { Stands (Q.worker q.old) s }
@@ -62,8 +62,8 @@ pub fn sup<Q: Quads>(q: &mut Q, r: Rel, s: Rel) -> Result<Rel, Lack>
     Ok(found)
 }
 
-/// `inf(R,S) = greatest(R, lbd(R,S))`: the greatest lower bounds of the columns of s (Schmidt and Ströhlein,
-/// *Relations and Graphs*), of n × n and n × m. In an order a column has at most one.
+/// `inf(R,S) = greatest(R, lbd(R,S))`: the greatest lower bounds of the columns of s, for an n × n and an n × m
+/// relation (Schmidt and Ströhlein, *Relations and Graphs*). In an order, each column has at most one.
 pub fn inf<Q: Quads>(q: &mut Q, r: Rel, s: Rel) -> Result<Rel, Lack>
     requires left { Stands (Q.worker q.old) r }
     requires right { Stands (Q.worker q.old) s }

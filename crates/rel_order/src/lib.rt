@@ -1,4 +1,4 @@
-//! Orders and classes of elements, over whatever keeps quadrant trees.
+//! Orders and classes of elements, over any worker that keeps quadrant trees.
 #![tactic(auto)]
 
 mod bounds;

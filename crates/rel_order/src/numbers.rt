@@ -20,7 +20,7 @@ fn side_of(height: u8) -> u32
     1 << height
 }
 
-/// The word of a leaf, row after row: each row has the columns behind its own number.
+/// The word of a leaf, row by row: each row has the columns after its own number.
 fn leaf_word(least: u8) -> u64
     requires { least ≤ 3 }
     ensures cells { bits_cells (2 ^ least) result ≡ ascending (2 ^ least) }
@@ -34,8 +34,8 @@ fn leaf_word(least: u8) -> u64
     }
 }
 
-/// The quad of the cells (i, j) with i < j, so many quarterings above the leaves: its north-western and its
-/// south-eastern quarters are one quad, and its north-eastern quarter is full.
+/// The quad of the cells (i, j) with i < j, `depth` heights above the leaves: its north-western and south-eastern
+/// quarters are the same quad, and its north-eastern quarter is full.
 #[tactic(auto, unfolding(rel_model::specs::Trees::top_height))]
 fn upper<Q: Quads>(q: &mut Q, depth: u8) -> Result<Quad, Lack>
     requires { Q.least + depth ≤ top_height }
@@ -62,7 +62,7 @@ fn upper<Q: Quads>(q: &mut Q, depth: u8) -> Result<Quad, Lack>
 
 /// `{(i, j) : i < j}`: the strict order of n elements by their numbers, with n rows and n columns.
 ///
-/// It is built by halves in the least square that has n rows, and cut to its first n rows and columns.
+/// It is built by halving in the least square that has n rows, and cut to its first n rows and columns.
 #[tactic(auto, unfolding(rel_model::specs::Trees::top_height))]
 pub fn less<Q: Quads>(q: &mut Q, n: u32) -> Result<Rel, Lack>
     requires { n ≤ size_limit }

@@ -7,21 +7,21 @@ use Rattle.rel_model.specs.Worker.{Worker}
 
 -- a relation within the limit
 pub record IsKept (k : Relation) : Type 0 where
-  -- its pairs lie within its sizes, and increase
+  -- its pairs lie within its sizes, and are increasing
   pub valid : IsRelation k
   -- its sizes are within the limit
   pub row_limit : k.rows ≤ size_limit
   pub col_limit : k.cols ≤ size_limit
 
--- what is kept, as a relation of these sizes; none where its sizes are others, or past the limit
+-- what is kept, as a relation with these sizes; none if its sizes differ or exceed the limit
 abbrev pub kept_as : Rel → Relation → Option Relation
 kept_as r k = cond ((k.rows == r.rows) && (k.cols == r.cols) && nat_le r.rows size_limit && nat_le r.cols size_limit)
     (Some (relation_of r.rows r.cols (has k))) None
 
--- a relation stands where its root is the place of a kept one of its sizes
+-- a relation stands if its root is the place of a kept one with its sizes
 unfoldable pub relation_at : List Relation → Rel → Option Relation
 relation_at ks r = option_and_then (kept_as r) (slice_get ks r.root)
 
--- the worker that keeps these: it has no table and no nodes, so its house is none and its counts are 0 for ever
+-- the worker that keeps these: it has no table and no nodes, so its house is a fixed one and its counts stay 0
 abbrev pub worker_of : List Relation → Worker
 worker_of ks = record { relation = relation_at ks; quad = λ q. None; misses = 0; made = 0; house = gnil; spare = 0 }

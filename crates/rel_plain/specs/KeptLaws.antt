@@ -1,4 +1,4 @@
--- What stands, as the trait's laws want it.
+-- What stands satisfies the laws of the trait.
 use Rattle.std.proofs.Common.{◌≡◌, ◌≤◌, ◌&&◌, Bool, true, false, cond, eqb, leb, List, [], Option, Some, None, refl, sym, ap, subst, ◌∙◌}
 use Rattle.std.proofs.lemmas.Bool.{and_parts, eqb-true, leb-true, false≢true}
 use Rattle.std.specs.Prelude.{IsSome, slice_get, unwrap_or, option_and_then}
@@ -56,12 +56,12 @@ pub valid_law : (ks : List Relation) (r : Rel) → Stands (worker_of ks) r → I
 valid_law ks r h = let s = standing ks r h in subst IsRelation (sym (set_is ks r s))
     (IsRelation-relation_of r.rows r.cols (has s.kept))
 
--- it has as many rows as its name says
+-- it has as many rows as it claims
 pub rows_law : (ks : List Relation) (r : Rel) → Stands (worker_of ks) r → (set_of (worker_of ks) r).rows ≡ r.rows
 rows_law ks r h = let s = standing ks r h in ap (λ x. x.rows) (set_is ks r s)
     ∙ rows-relation_of r.rows r.cols (has s.kept)
 
--- it has as many columns as its name says
+-- it has as many columns as it claims
 pub cols_law : (ks : List Relation) (r : Rel) → Stands (worker_of ks) r → (set_of (worker_of ks) r).cols ≡ r.cols
 cols_law ks r h = let s = standing ks r h in ap (λ x. x.cols) (set_is ks r s)
     ∙ cols-relation_of r.rows r.cols (has s.kept)

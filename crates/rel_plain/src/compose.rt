@@ -6,7 +6,8 @@ use crate::merge::merged;
 use crate::part::EITHER;
 use std::alloc::{AllocError, Global};
 
-/// Adds (i, k) for each pair (j, k), which are found by halving: a half is left out where its rows are all others.
+/// Appends (i, k) for each pair (j, k) of a list, found by halving: a half whose rows are all different from j is
+/// skipped.
 fn push_through(
     out: &mut Vec<(u32, u32)>,
     i: u32,
@@ -38,7 +39,7 @@ fn push_through(
     push_through(out, i, j, back)
 }
 
-/// The composition of two lists, in order: that of each half of the first, and merged.
+/// The composition of two lists, in order: that of each half of the first list, and the two merged.
 pub(crate) fn composed(
     alloc: Global,
     left: &[(u32, u32)],

@@ -3,7 +3,7 @@ ghost use Rattle.rel_model.specs.Relation.{grid, row_of};
 
 use std::alloc::{AllocError, Global};
 
-/// All pairs of these sizes, in order.
+/// All pairs within these sizes, in order.
 pub(crate) fn full_pairs(alloc: Global, rows: u32, cols: u32) -> Result<Vec<(u32, u32)>, AllocError>
     ensures { IfOk result (λ v. v.items ≡ grid rows cols) }
 {
@@ -14,7 +14,7 @@ pub(crate) fn full_pairs(alloc: Global, rows: u32, cols: u32) -> Result<Vec<(u32
     Ok(out)
 }
 
-/// Adds the pairs of a row.
+/// Appends the pairs of a row.
 fn push_row(out: &mut Vec<(u32, u32)>, i: u32, cols: u32) -> Result<(), AllocError>
     ensures { OnOk result (out.new.items ≡ out.old.items ++ row_of cols i) }
 {

@@ -3,7 +3,7 @@ ghost use Rattle.rel_plain.specs.Kept.{IsKept};
 
 use std::marker::Model;
 
-/// A relation that is kept: its sizes, and its pairs in order. A pair takes 8 bytes.
+/// A relation that is kept: its sizes, and its pairs in order, on the heap with 8 bytes each.
 #[derive(Drop)]
 pub(crate) struct Kept {
     rows: u32,
@@ -31,7 +31,7 @@ impl Kept {
         Kept { rows, cols, pairs }
     }
 
-    /// Its pairs, in order.
+    /// The pairs, in order.
     pub(crate) fn pairs(&self) -> &[(u32, u32)]
         ensures valid { IsKept self.now }
         ensures value { result.now ≡ self.now.pairs }

@@ -12,7 +12,7 @@ fn is_before(p: (u32, u32), q: (u32, u32)) -> bool
     p.0 < q.0 || (p.0 == q.0 && p.1 < q.1)
 }
 
-/// Adds a pair where it is wanted.
+/// Appends a pair if it is wanted.
 fn push_if(out: &mut Vec<(u32, u32)>, is_wanted: bool, p: (u32, u32)) -> Result<(), AllocError>
     ensures { OnOk result (out.new.items ≡ out.old.items ++ (if is_wanted then p ∷ [] else [])) }
 {
@@ -22,7 +22,7 @@ fn push_if(out: &mut Vec<(u32, u32)>, is_wanted: bool, p: (u32, u32)) -> Result<
     Ok(())
 }
 
-/// Adds a list where it is wanted.
+/// Appends a list if it is wanted.
 fn extend_if(
     out: &mut Vec<(u32, u32)>,
     is_wanted: bool,
@@ -36,7 +36,7 @@ fn extend_if(
     Ok(())
 }
 
-/// The wanted pairs of two increasing lists, in order; where one list is empty, the other is copied or left out whole.
+/// The wanted pairs of two increasing lists, in order. If one list is empty, the other is copied or skipped as a whole.
 pub(crate) fn merged(
     alloc: Global,
     part: Part,

@@ -1,11 +1,11 @@
 /// Which pairs of two lists are wanted. 3 bytes.
 #[derive(Clone, Copy, Debug)]
 pub(crate) struct Part {
-    /// Those of the first list alone.
+    /// Those of the first list only.
     pub(crate) left: bool,
     /// Those of both.
     pub(crate) both: bool,
-    /// Those of the second alone.
+    /// Those of the second list only.
     pub(crate) right: bool,
 }
 
@@ -23,7 +23,7 @@ pub(crate) const COMMON: Part = Part {
     right: false,
 };
 
-/// The pairs of the first list that the second lacks.
+/// The pairs of the first list that are not in the second.
 pub(crate) const FIRST_ALONE: Part = Part {
     left: true,
     both: false,

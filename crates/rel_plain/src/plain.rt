@@ -17,8 +17,8 @@ use rel_model::{Lack, Rel, Shape};
 use std::alloc::Global;
 use std::marker::Model;
 
-/// The relations that were made, in the order in which they were made: the name of a relation is its place. A pair
-/// takes 8 bytes, and no relation is dropped before the worker.
+/// The relations made so far, in order: the name of a relation is its place. A pair takes 8 bytes on the heap, and no
+/// relation is dropped before the worker.
 #[derive(Drop)]
 pub struct Plain {
     alloc: Global,
@@ -56,7 +56,7 @@ impl Plain {
         kept.pairs()
     }
 
-    /// Keeps one more relation, behind those that stand.
+    /// Keeps one more relation, after those that stand.
     fn keep(&mut self, rows: u32, cols: u32, pairs: Vec<(u32, u32)>) -> Result<Rel, Lack>
         requires { IsKept (record { rows = rows; cols = cols; pairs = pairs.items }) }
         ensures value { IfOk result (Gives (worker_of self.new) rows cols
@@ -93,7 +93,7 @@ impl Core for Plain {
 
     ghost lean = { false };
 
-    // Lists have no nodes; the height is that of a table's blocks, so that a caller may ask for it.
+    // Lists have no nodes; the height is that of a table's blocks, so that callers may ask for it.
     ghost least = { 3 };
 
     ghost valid = { valid_law };
@@ -106,53 +106,54 @@ impl Core for Plain {
 
     ghost col_limit = { col_limit_law };
 
-    /// `{}`: a list of no pairs.
+    /// `{}`: the empty relation, an empty list.
     fn empty(&mut self, shape: Shape) -> Result<Rel, Lack> {
         let alloc = self.alloc;
         self.keep(shape.rows, shape.cols, Vec::new(alloc))
     }
 
-    /// `{(i, j) : i < rows, j < cols}`: the pairs row by row.
+    /// `{(i, j) : i < rows, j < cols}`: the full relation, row by row.
     fn full(&mut self, shape: Shape) -> Result<Rel, Lack> {
         let pairs = full_pairs(self.alloc, shape.rows, shape.cols)?;
         self.keep(shape.rows, shape.cols, pairs)
     }
 
-    /// `{(i, j)}`: a list of one pair.
+    /// `{(i, j)}`: the relation of one pair.
     fn single(&mut self, shape: Shape, i: u32, j: u32) -> Result<Rel, Lack> {
         let mut pairs = Vec::new(self.alloc);
         pairs.push((i, j))?;
         self.keep(shape.rows, shape.cols, pairs)
     }
 
-    /// `{(i, j) : (i, j) in r or (i, j) in s}`: one merge.
+    /// `{(i, j) : (i, j) in r or (i, j) in s}`: the union of two relations of one shape, by one merge.
     fn union(&mut self, r: Rel, s: Rel) -> Result<Rel, Lack> {
         self.combined(EITHER, r, s)
     }
 
-    /// `{(i, j) : (i, j) in r and (i, j) in s}`: one merge.
+    /// `{(i, j) : (i, j) in r and (i, j) in s}`: the intersection of two relations of one shape, by one merge.
     fn inter(&mut self, r: Rel, s: Rel) -> Result<Rel, Lack> {
         self.combined(COMMON, r, s)
     }
 
-    /// `{(i, j) : (i, j) in r and not (i, j) in s}`: one merge.
+    /// `{(i, j) : (i, j) in r and not (i, j) in s}`: the difference of two relations of one shape, by one merge.
     fn diff(&mut self, r: Rel, s: Rel) -> Result<Rel, Lack> {
         self.combined(FIRST_ALONE, r, s)
     }
 
-    /// `{(j, i) : (i, j) in r}`: the pairs turned round and sorted by merges.
+    /// `{(j, i) : (i, j) in r}`: the transposition, with each pair turned round and the list sorted by merging.
     fn transpose(&mut self, r: Rel) -> Result<Rel, Lack> {
         let pairs = turned(self.alloc, self.pairs_of(r))?;
         self.keep(r.cols, r.rows, pairs)
     }
 
-    /// `{(i, k) : (i, j) in r and (j, k) in s for some j}`: each pair of r through its row of s, merged.
+    /// `{(i, k) : (i, j) in r and (j, k) in s for some j}`: the composition of a k × m and an m × n relation: each pair
+    /// of r with its row of s, merged.
     fn compose(&mut self, r: Rel, s: Rel) -> Result<Rel, Lack> {
         let pairs = composed(self.alloc, self.pairs_of(r), self.pairs_of(s))?;
         self.keep(r.rows, s.cols, pairs)
     }
 
-    /// `r = s`: increasing lists of one relation are equal.
+    /// `r = s`: the increasing lists of equal relations are equal.
     fn same(&self, r: Rel, s: Rel) -> bool {
         self.pairs_of(r) == self.pairs_of(s)
     }
@@ -162,7 +163,7 @@ impl Core for Plain {
         share(self.pairs_of(r), self.pairs_of(s))
     }
 
-    /// `(i, j) in r`, by halving.
+    /// `(i, j) in r`, by binary search.
     fn has(&mut self, r: Rel, i: u32, j: u32) -> bool {
         contains(self.pairs_of(r), i, j)
     }

@@ -17,7 +17,7 @@ enum Operator {
     Difference,
 }
 
-/// Whether the pair is listed, by looking at each.
+/// Whether the pair is listed, by comparing it with each.
 fn is_listed(list: &[(u32, u32)], i: u32, j: u32) -> bool {
     let mut found = false;
     for &(row, col) in list {
@@ -28,7 +28,7 @@ fn is_listed(list: &[(u32, u32)], i: u32, j: u32) -> bool {
     found
 }
 
-/// Whether a pair of the first list is in the second, by looking at each.
+/// Whether a pair of the first list is in the second, by comparing all.
 fn have_common(first: &[(u32, u32)], second: &[(u32, u32)]) -> bool {
     let mut found = false;
     for &(row, col) in first {
@@ -39,7 +39,7 @@ fn have_common(first: &[(u32, u32)], second: &[(u32, u32)]) -> bool {
     found
 }
 
-/// The pairs of a number: bit `i * cols + j` is the pair (i, j).
+/// The pairs that a number encodes: bit `i * cols + j` is the pair (i, j).
 fn listed(alloc: Global, shape: Shape, number: u32) -> Result<Vec<(u32, u32)>, AllocError> {
     let mut list = Vec::new(alloc);
     let mut left = number;
@@ -89,7 +89,7 @@ fn expected(
     Ok(out)
 }
 
-/// The relation of the listed pairs, by a union for each.
+/// The relation of the listed pairs, as a union of single pairs.
 fn built(core: &mut Plain, shape: Shape, list: &[(u32, u32)]) -> Result<Rel, Lack>
     requires row_limit { shape.rows ≤ size_limit }
     requires col_limit { shape.cols ≤ size_limit }
@@ -156,7 +156,7 @@ fn is_expected(
     Ok(is_list(core, r, &want))
 }
 
-/// Whether two relations of listed pairs answer each operator by its formula.
+/// Whether each operator on two relations of listed pairs agrees with its formula.
 fn operators_agree(
     alloc: Global,
     core: &mut Plain,
@@ -189,7 +189,7 @@ fn operators_agree(
     Ok(is_either && is_both && is_rest)
 }
 
-/// Whether two relations of listed pairs answer each call on two relations by its formula, and stand as before.
+/// Whether each call on two relations of listed pairs agrees with its formula, and leaves both as they were.
 fn lists_agree(
     alloc: Global,
     shape: Shape,
@@ -210,7 +210,7 @@ fn lists_agree(
     Ok(is_same && meet && agree && stood)
 }
 
-/// The same of two relations of these numbers.
+/// The same for two relations given by numbers.
 fn pair_agrees(alloc: Global, shape: Shape, left: u32, right: u32) -> Result<bool, Lack>
     requires row_limit { shape.rows ≤ size_limit }
     requires col_limit { shape.cols ≤ size_limit }
@@ -220,7 +220,8 @@ fn pair_agrees(alloc: Global, shape: Shape, left: u32, right: u32) -> Result<boo
     lists_agree(alloc, shape, &first, &second, left == right)
 }
 
-/// Whether the relation of this number is empty as it should be, and is transposed by the formula, twice to itself.
+/// Whether emptiness and transposition of the relation with this number agree with their formulas, and transposing
+/// twice gives it back.
 fn one_agrees(alloc: Global, shape: Shape, number: u32) -> Result<bool, Lack>
     requires row_limit { shape.rows ≤ size_limit }
     requires col_limit { shape.cols ≤ size_limit }
@@ -239,7 +240,7 @@ fn one_agrees(alloc: Global, shape: Shape, number: u32) -> Result<bool, Lack>
     Ok(is_turned && is_empty && is_again && is_once && stood)
 }
 
-/// Whether the empty and the full relation of these sizes, and that of each pair, are those of their formulas.
+/// Whether the empty and the full relation of these sizes, and that of each single pair, agree with their formulas.
 fn makers_agree(alloc: Global, shape: Shape, all: u32) -> Result<bool, Lack>
     requires row_limit { shape.rows ≤ size_limit }
     requires col_limit { shape.cols ≤ size_limit }
@@ -258,7 +259,7 @@ fn makers_agree(alloc: Global, shape: Shape, all: u32) -> Result<bool, Lack>
     Ok(agrees)
 }
 
-/// Whether two relations stand with their pairs after each operator, also where it is refused.
+/// Whether two relations stand with their pairs after each operator, even if it is refused.
 fn stands_after_each_call(alloc: Global) -> Result<bool, Lack> {
     let shape = Shape { rows: 2, cols: 2 };
     let first = listed(alloc, shape, 7)?;
@@ -295,7 +296,7 @@ const LARGE: [u32; 8] = [0, 1, 16384, 992, 4228, 4161, 21845, 32767];
 /// Three rows and five columns.
 const SHAPE: Shape = Shape { rows: 3, cols: 5 };
 
-/// Asserts that each two relations of these sizes answer by the formulas.
+/// Asserts that calls on each two relations of these sizes agree with their formulas.
 fn assert_pairs(rt: &impl Abort, alloc: Global, rows: u32, cols: u32)
     requires row_limit { rows ≤ size_limit }
     requires col_limit { cols ≤ size_limit }
@@ -320,7 +321,8 @@ fn every_two_relations_of_sizes_up_to_2_answer_by_the_formulas(rt: HostRuntime) 
     }
 }
 
-/// Asserts that each relation of these sizes is transposed and tested for emptiness, and that the makers make theirs.
+/// Asserts that transposition and emptiness of each relation of these sizes, and the calls that make relations, agree
+/// with their formulas.
 fn assert_ones(rt: &impl Abort, alloc: Global, rows: u32, cols: u32)
     requires row_limit { rows ≤ size_limit }
     requires col_limit { cols ≤ size_limit }

@@ -5,7 +5,7 @@ use crate::merge::merged;
 use crate::part::EITHER;
 use std::alloc::{AllocError, Global};
 
-/// Each pair turned round, in order: both halves of the list are turned, and merged.
+/// The pairs turned round, in order: turns both halves of the list, and merges them.
 pub(crate) fn turned(alloc: Global, pairs: &[(u32, u32)]) -> Result<Vec<(u32, u32)>, AllocError>
     ensures { IfOk result (λ v. IsTurned pairs.now v.items) }
 {

@@ -5,7 +5,7 @@ ghost use Rattle.rel_model.specs.Worker.{Stands, set_of, Keeps, MakesAtMost, Giv
 use rel_model::core_trait::Core;
 use rel_model::{Lack, Rel, Shape};
 
-/// `{(i, j) : not (i, j) in r}`: what the full relation has and this one lacks.
+/// `{(i, j) : not (i, j) in r}`: the complement, computed as the difference of the full relation and r.
 pub fn complement<C: Core>(core: &mut C, r: Rel) -> Result<Rel, Lack>
     requires { Stands (C.worker core.old) r }
     ensures value { IfOk result (Gives (C.worker core.new) r.rows r.cols

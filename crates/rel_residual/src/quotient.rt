@@ -6,9 +6,10 @@ use crate::residuals::{left, right};
 use rel_model::core_trait::Core;
 use rel_model::{Lack, Rel};
 
-/// `syq(R,S) = {(j, k) : (i, j) in r exactly if (i, k) in s, for all i}`, of m × n and m × p (Schmidt and Ströhlein).
+/// `syq(R,S) = {(j, k) : (i, j) in r exactly if (i, k) in s, for all i}`: the symmetric quotient of an m × n and an m ×
+/// p relation (Schmidt and Ströhlein).
 ///
-/// It is `(R\S) & (R^/S^)`: both implications.
+/// It is computed as `(R\S) & (R^/S^)`: both implications.
 pub fn syq<C: Core>(core: &mut C, r: Rel, s: Rel) -> Result<Rel, Lack>
     requires left { Stands (C.worker core.old) r }
     requires right { Stands (C.worker core.old) s }

@@ -6,9 +6,10 @@ use crate::complement::complement;
 use rel_model::core_trait::Core;
 use rel_model::{Lack, Rel};
 
-/// `R\S = {(j, k) : (i, j) in r implies (i, k) in s, for all i}`, of m × n under m × p (Schmidt and Ströhlein).
+/// `R\S = {(j, k) : (i, j) in r implies (i, k) in s, for all i}`: the right residual of an m × n and an m × p relation
+/// (Schmidt and Ströhlein).
 ///
-/// It is `-(R^ * -S)`: the pairs (j, k) for which no i has (i, j) in r and lacks (i, k) in s.
+/// It is computed as `-(R^ * -S)`: the pairs (j, k) for which no i has (i, j) in r but not (i, k) in s.
 pub fn right<C: Core>(core: &mut C, r: Rel, s: Rel) -> Result<Rel, Lack>
     requires left { Stands (C.worker core.old) r }
     requires right { Stands (C.worker core.old) s }
@@ -26,9 +27,10 @@ pub fn right<C: Core>(core: &mut C, r: Rel, s: Rel) -> Result<Rel, Lack>
     Ok(rest)
 }
 
-/// `S/R = {(i, j) : (j, k) in r implies (i, k) in s, for all k}`, of m × p over n × p (Schmidt and Ströhlein).
+/// `S/R = {(i, j) : (j, k) in r implies (i, k) in s, for all k}`: the left residual of an m × p and an n × p relation
+/// (Schmidt and Ströhlein).
 ///
-/// It is `-(-S * R^)`: the pairs (i, j) for which no k has (j, k) in r and lacks (i, k) in s.
+/// It is computed as `-(-S * R^)`: the pairs (i, j) for which no k has (j, k) in r but not (i, k) in s.
 pub fn left<C: Core>(core: &mut C, s: Rel, r: Rel) -> Result<Rel, Lack>
     requires left { Stands (C.worker core.old) s }
     requires right { Stands (C.worker core.old) r }

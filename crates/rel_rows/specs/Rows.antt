@@ -1,4 +1,4 @@
--- One row of a relation, and a relation with one row added; the same of sets of cells.
+-- One row of a relation, and a relation with one row added; the same for sets of cells.
 use Rattle.std.specs.Prelude.{◌==◌, ◌&&◌, ◌||◌, ℕ}
 use Rattle.rel_model.specs.Relation.{Relation, has, relation_of}
 use Rattle.rel_model.specs.Cells.{Cells}

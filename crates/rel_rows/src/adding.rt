@@ -10,8 +10,8 @@ use rel_model::{Lack, Rel, Shape};
 
 /// `r | {(i, j) : (0, j) in line}`: a relation with the elements of a line added to its row i.
 ///
-/// It walks down the row alone. A quarter to which nothing is added stays, and where the two quarters that the row
-/// crosses are one quad and get the same, it walks down one of them.
+/// It walks down this row only. A quarter to which nothing is added stays; and if the two quarters that the row crosses
+/// are the same quad and get the same, it walks down only one of them.
 pub fn with_row<Q: Quads>(q: &mut Q, r: Rel, i: u32, line: Rel) -> Result<Rel, Lack>
     requires standing { Stands (Q.worker q.old) r }
     requires line { Stands (Q.worker q.old) line }

@@ -1,4 +1,4 @@
-//! Rows of a leaf, which lies in one word.
+//! Rows of a leaf, which is one word.
 ghost use Rattle.std.specs.Prelude.{◌≡◌, ◌<◌, ◌≤◌, ◌*◌, ◌^◌};
 ghost use Rattle.rel_model.specs.Relation.{size_height};
 ghost use Rattle.rel_model.specs.Cells.{bits_cells};
@@ -12,7 +12,7 @@ pub(crate) fn side_of(height: u8) -> u32
     1u32 << height
 }
 
-/// A row of a leaf, as the first row of a leaf that has no other cell.
+/// A row of a leaf, as the first row of a leaf without other cells.
 pub(crate) fn row_in_word(bits: u64, side: u32, row: u32) -> u64
     requires small { side ≤ 8 }
     requires within { row < side }

@@ -1,5 +1,5 @@
-//! One row of a relation, and a relation with one row added, over whatever keeps quadrant trees: each walks the tree
-//! down the row alone.
+//! One row of a relation, and a relation with one row added, over any worker that keeps quadrant trees: both walk down
+//! the tree along this row only.
 #![tactic(auto)]
 
 mod adding;

@@ -1,4 +1,4 @@
-//! A quad with a line added to one of its rows. What is added twice to one quad is added once.
+//! A quad with a line added to one of its rows. If the same is to be added twice to one quad, it is added once.
 ghost use Rattle.std.specs.Prelude.{◌≡◌, ◌<◌, ◌≤◌, ◌-◌, ◌+◌, ◌*◌, ◌^◌};
 ghost use Rattle.rel_model.specs.Trees.{top_height};
 ghost use Rattle.rel_model.specs.Worker.{HasQuad, quad_set};
@@ -11,7 +11,7 @@ use crate::leaf::{side_of, word_with_row};
 use rel_model::quads_trait::Quads;
 use rel_model::{Lack, Quad};
 
-/// A quad with the first row of another, which is no higher, added to its row i.
+/// A quad with the first row of another, which must not be higher, added to its row i.
 #[cycle(line)]
 pub(crate) fn with_line<Q: Quads>(q: &mut Q, quad: Quad, i: u32, line: Quad) -> Result<Quad, Lack>
     requires stands { HasQuad (Q.worker q.old) quad }
@@ -34,7 +34,7 @@ pub(crate) fn with_line<Q: Quads>(q: &mut Q, quad: Quad, i: u32, line: Quad) -> 
     with_line_over(q, quad, i, line)
 }
 
-/// The same of leaves.
+/// The same for leaves.
 fn with_line_in_leaf<Q: Quads>(q: &mut Q, quad: Quad, i: u32, line: Quad) -> Result<Quad, Lack>
     requires stands { HasQuad (Q.worker q.old) quad }
     requires line_stands { HasQuad (Q.worker q.old) line }
@@ -51,7 +51,7 @@ fn with_line_in_leaf<Q: Quads>(q: &mut Q, quad: Quad, i: u32, line: Quad) -> Res
     q.block(word_with_row(bits, side, i, more))
 }
 
-/// The same over the leaves, where the line is lower: it lies in the western half.
+/// The same above the leaves, if the line is lower: it lies in the western half.
 #[cycle(line)]
 fn with_low_line<Q: Quads>(q: &mut Q, quad: Quad, i: u32, line: Quad) -> Result<Quad, Lack>
     requires stands { HasQuad (Q.worker q.old) quad }
@@ -75,7 +75,7 @@ fn with_low_line<Q: Quads>(q: &mut Q, quad: Quad, i: u32, line: Quad) -> Result<
     Ok(corner)
 }
 
-/// The same over the leaves, where both are of one height.
+/// The same above the leaves, if both have one height.
 #[cycle(line)]
 fn with_line_over<Q: Quads>(q: &mut Q, quad: Quad, i: u32, line: Quad) -> Result<Quad, Lack>
     requires stands { HasQuad (Q.worker q.old) quad }
@@ -100,7 +100,7 @@ fn with_line_over<Q: Quads>(q: &mut Q, quad: Quad, i: u32, line: Quad) -> Result
     Ok(corner)
 }
 
-/// Two quads, side by side, each with its half of a line added.
+/// Two quads side by side, each with its half of a line added.
 #[cycle(line)]
 fn with_halves<Q: Quads>(
     q: &mut Q,

@@ -1,4 +1,4 @@
-//! One row of a quad, as a quad of one row. An eastern half that is the western again is not walked a second time.
+//! One row of a quad, as a quad of one row. If both halves are the same quad, only one is walked.
 ghost use Rattle.std.specs.Prelude.{◌≡◌, ◌<◌, ◌-◌, ◌+◌, ◌^◌};
 ghost use Rattle.rel_model.specs.Trees.{beside, top_height};
 ghost use Rattle.rel_model.specs.Worker.{HasQuad, quad_set};
@@ -27,7 +27,7 @@ pub(crate) fn row_in_quad<Q: Quads>(q: &mut Q, quad: Quad, i: u32) -> Result<Qua
     row_over(q, quad, i)
 }
 
-/// The same of a leaf.
+/// The same for a leaf.
 fn row_in_leaf<Q: Quads>(q: &mut Q, quad: Quad, i: u32) -> Result<Quad, Lack>
     requires stands { HasQuad (Q.worker q.old) quad }
     requires leaf { quad.height ≡ Q.least }
@@ -40,7 +40,7 @@ fn row_in_leaf<Q: Quads>(q: &mut Q, quad: Quad, i: u32) -> Result<Quad, Lack>
     q.block(row_in_word(bits, side, i))
 }
 
-/// The same over the leaves.
+/// The same above the leaves.
 #[cycle(row)]
 fn row_over<Q: Quads>(q: &mut Q, quad: Quad, i: u32) -> Result<Quad, Lack>
     requires stands { HasQuad (Q.worker q.old) quad }
@@ -57,7 +57,7 @@ fn row_over<Q: Quads>(q: &mut Q, quad: Quad, i: u32) -> Result<Quad, Lack>
     row_of_two(q, sw, se, i - half)
 }
 
-/// The same of two quads of one height, side by side.
+/// The same for two quads of one height, side by side.
 #[cycle(row)]
 fn row_of_two<Q: Quads>(q: &mut Q, west: Quad, east: Quad, i: u32) -> Result<Quad, Lack>
     requires west_stands { HasQuad (Q.worker q.old) west }

@@ -15,7 +15,8 @@ use rel_model::{Lack, Quad, Rel, Shape};
 
 /// `{(0, j) : (i, j) in r}`: row i of a relation, as a relation of one row.
 ///
-/// It walks down the row alone, and where the two quarters that the row crosses are one quad, down one of them.
+/// It walks down this row only; and if the two quarters that the row crosses are the same quad, it walks down only one
+/// of them.
 pub fn row<Q: Quads>(q: &mut Q, r: Rel, i: u32) -> Result<Rel, Lack>
     requires standing { Stands (Q.worker q.old) r }
     requires within { i < r.rows }
@@ -37,7 +38,7 @@ pub fn row<Q: Quads>(q: &mut Q, r: Rel, i: u32) -> Result<Rel, Lack>
     }
 }
 
-/// Row i of a quad whose cells lie within so many columns, in row 0 of the least quad that is as wide.
+/// Row i of a quad whose cells lie in the first columns, as row 0 of the least quad that is as wide.
 fn row_within<Q: Quads>(q: &mut Q, quad: Quad, cols: u32, i: u32) -> Result<Quad, Lack>
     requires stands { HasQuad (Q.worker q.old) quad }
     requires limit { cols ≤ size_limit }

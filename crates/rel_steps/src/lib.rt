@@ -1,3 +1,3 @@
-//! What operators over the traits of a worker say of their calls, one after the other: one record, and lemmas that bind
-//! such calls. It has no code.
+//! How operators over the traits of a worker reason about successive calls: one record, and lemmas that chain such
+//! calls. There is no code.
 #![tactic(auto)]

@@ -14,7 +14,7 @@ pub record AreWhole (z : Squares) : Type 0 where
   pub sw : length z.sw ≡ 256
   pub se : length z.se ≡ 256
 
--- two quads, one above the other, and two, one beside the other, stand at one height
+-- a column of two quads and a row of two quads stand at one height
 pub record FourStand (w : Keeper) (column row : Quad × Quad) : Type 0 where
   pub upper : QuadStands w column.0
   pub lower : QuadStands w column.1
@@ -24,7 +24,8 @@ pub record FourStand (w : Keeper) (column row : Quad × Quad) : Type 0 where
   pub west_height : row.0.height ≡ column.0.height
   pub east_height : row.1.height ≡ column.0.height
 
--- to each of four squares a product was added: of the upper or lower quad by the western or eastern one
+-- a product was added to each of four squares: of the upper or lower quad of the column with the western or eastern
+-- quad of the row
 pub record AddsProducts (w : Keeper) (column row : Quad × Quad) (old new : Squares) : Type 0 where
   pub nw : rows_cells new.nw ≡ cells_union (rows_cells old.nw)
       (cells_compose (side_of column.0.height) (quad_cells w column.0) (quad_cells w row.0))

@@ -1,4 +1,4 @@
-//! The composition of two quads of up to 256 rows and columns by rows.
+//! The composition of two quads of up to 256 rows and columns, by rows.
 ghost use Rattle.std.specs.Prelude.{◌≡◌, ◌≤◌, length};
 ghost use Rattle.rel_model.specs.Cells.{cells_union, cells_compose};
 ghost use Rattle.rel_model.specs.Equations.{side_of};
@@ -13,9 +13,10 @@ use pair_table::Missed;
 use quad_nodes::Nodes;
 use rel_model::Quad;
 
-/// Adds to rows each cell (i, k) where some j has (i, j) in `a` and (j, k) in `b`, for two quads of one height up to 8.
+/// `z | {(i, k) : (i, j) in a and (j, k) in b for some j}`: adds the composition of two quads of one height, up to 8,
+/// to rows.
 ///
-/// The rows of both are on the stack, 16 KB, so this is a call of its own.
+/// The rows of both operands take 16 KB of stack; keeping this a separate call puts them there only while it runs.
 #[inline(never)]
 pub fn add_product(nodes: &mut Nodes, a: Quad, b: Quad, z: &mut [Row])
     requires a_stands { QuadStands nodes.old a }
@@ -35,9 +36,11 @@ pub fn add_product(nodes: &mut Nodes, a: Quad, b: Quad, z: &mut [Row])
     rows_compose_into(z, &x, &y);
 }
 
-/// Cell (i, k) where some j has (i, j) in `a` and (j, k) in `b`, for two quads of one height up to 8.
+/// `{(i, k) : (i, j) in a and (j, k) in b for some j}`: the composition of two quads of one height, up to 8. Refused
+/// only if the table is full.
 ///
-/// The rows are on the stack, 24 KB with those of `add_product`, so this is a call of its own.
+/// The rows take 24 KB of stack, including those of `add_product`; keeping this a separate call puts them there only
+/// while it runs.
 #[inline(never)]
 pub fn compose_by_rows(nodes: &mut Nodes, a: Quad, b: Quad) -> Result<Quad, Missed>
     requires a_stands { QuadStands nodes.old a }

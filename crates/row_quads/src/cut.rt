@@ -9,7 +9,7 @@ ghost use Rattle.tree_blocks.specs.Order.{blocks_count, square_cells};
 use bit_rows::{Row, block_at};
 use quad_nodes::side_of_height;
 
-/// Writes square `k` of a height to blocks in tree order: the cells of rows from a row and a column on.
+/// Writes square `k` of a height, whose first cell is at a row and a column, as blocks in tree order.
 pub fn cut_square(z: &[Row], height: u8, row: usize, col: usize, k: usize, blocks: &mut [u64])
     requires z_len { length z.now ≡ 256 }
     requires low { bottom_height ≤ height }

@@ -14,9 +14,10 @@ use quad_nodes::{Nodes, side_of_height};
 use rel_model::Quad;
 use tree_blocks::gather_blocks;
 
-/// The quad of the cells of rows, from a row and a column on. A square with no cell is seen before it is cut.
+/// The quad of the cells of rows from a row and a column on. A square without a cell is recognised before it is cut
+/// into blocks. Refused only if the table is full.
 ///
-/// Its blocks are on the stack, 8 KB, so this is a call of its own.
+/// The blocks take 8 KB of stack; keeping this a separate call puts them there only while it runs.
 #[inline(never)]
 pub fn gather_quad(
     nodes: &mut Nodes,
@@ -34,6 +35,7 @@ pub fn gather_quad(
     ensures { MakesQuad (quad_room height) height (window row col (side_of height) (rows_cells z.now))
         nodes.old nodes.new result }
 {
+    // This use makes the checker open the invariant of `nodes`, which the early return below needs.
     let _ = nodes.bottom();
     let side = side_of_height(height) as usize;
     if is_clear(z, row, col, side) {

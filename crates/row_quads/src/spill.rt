@@ -58,8 +58,8 @@ fn spill_blocks(
     spill_block(nodes, four.3, z, row + half, col + half);
 }
 
-/// Adds the cells of a quad whose quarters are known. The words of all four are read before any of them is written, so
-/// that these reads need not wait for one another.
+/// Adds the cells of a quad whose quarters are known. Reads the words of all four quarters before writing any of them,
+/// so that these reads need not wait for one another.
 fn spill_quarters(
     nodes: &mut Nodes,
     q: Quad,

@@ -1,4 +1,4 @@
-//! Four squares of rows, to which products are added two by two.
+//! Four squares of rows, to which four products are added at once.
 ghost use Rattle.std.specs.Prelude.{◌≡◌, ◌≤◌, true, length};
 ghost use Rattle.rel_model.specs.Cells.{cells_union, cells_compose};
 ghost use Rattle.rel_model.specs.Equations.{side_of};
@@ -11,7 +11,7 @@ use bit_rows::{Row, no_rows, rows_compose_into};
 use quad_nodes::Nodes;
 use rel_model::Quad;
 
-/// Four squares of 256 rows and columns, two above two. 32 KB.
+/// Four squares of 256 rows and columns, arranged two by two. 32 KB.
 #[derive(Drop)]
 pub struct Squares {
     pub nw: [Row; 256],
@@ -20,9 +20,9 @@ pub struct Squares {
     pub se: [Row; 256],
 }
 
-/// Adds the products of two squares of rows by one quad to two others.
+/// Adds the products of two squares of rows with one quad to two other squares.
 ///
-/// The rows of the quad are on the stack, 8 KB, so this is a call of its own.
+/// The rows of the quad take 8 KB of stack; keeping this a separate call puts them there only while it runs.
 #[inline(never)]
 fn add_times(
     nodes: &mut Nodes,
@@ -56,7 +56,7 @@ fn add_times(
     rows_compose_into(south, lower, &y);
 }
 
-/// Whether neither of two quads has a cell.
+/// Whether both quads are empty.
 fn are_empty(pair: (Quad, Quad)) -> bool
     ensures first { result ≡ true → pair.0.name ≡ 0 }
     ensures second { result ≡ true → pair.1.name ≡ 0 }
@@ -64,10 +64,11 @@ fn are_empty(pair: (Quad, Quad)) -> bool
     pair.0.name == 0 && pair.1.name == 0
 }
 
-/// Adds to four squares the products of two quads, one above the other, by two, one beside the other, all of one height
-/// up to 8. Each of the four is spilled once.
+/// Adds to four squares the products of a column of two quads with a row of two quads, all of one height up to 8. Each
+/// of the four is written to rows once.
 ///
-/// The rows of the first two are on the stack, 24 KB with those of `add_times`, so this is a call of its own.
+/// The rows of the column take 24 KB of stack, including those of `add_times`; keeping this a separate call puts them
+/// there only while it runs.
 #[inline(never)]
 pub fn add_four_products(
     nodes: &mut Nodes,

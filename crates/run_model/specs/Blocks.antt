@@ -1,4 +1,4 @@
--- The assignments of an atomic block: what they read, and which of their expressions are more than a name.
+-- The assignments of an atomic block: what they read, and which of their expressions are not just a name.
 use Rattle.std.specs.Prelude.{◌⊎◌, ℕ, List, [], ◌∷◌}
 use Rattle.lang_model.specs.declared.syntax.Let.{Let}
 use Rattle.lang_model.specs.Eval.{IsCompound}
@@ -10,11 +10,11 @@ abbrev pub as_set : List (List ℕ) → Names (Unit {0})
 as_set [] = no_names
 as_set (name ∷ names) = set name tt (as_set names)
 
--- the names that a block reads, each once and in the order of their bytes
+-- the names that a block reads, each once, in the order of their bytes
 unfoldable pub block_reads : List Let → List (List ℕ)
 block_reads lets = names_of (as_set (names_read lets))
 
--- an expression of the block is more than a name
+-- some expression of the block is not just a name
 abbrev pub AnyCompound : List Let → Type 0
 AnyCompound [] = ⊥
 AnyCompound (l ∷ ls) = IsCompound l.value ⊎ AnyCompound ls

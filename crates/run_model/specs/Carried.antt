@@ -1,5 +1,5 @@
--- The workspace by the relations that events carry, which is what the book and its sessions know; and the values that
--- these relations have in one worker.
+-- The workspace by the relations that events carry, which is what the book and its sessions know; and the values of
+-- these relations in one worker.
 use Rattle.std.specs.Prelude.{◌≡◌, ◌+◌, ℕ, Bool, true, List, [], ◌∷◌, map, Some, slice_get}
 use Rattle.std.specs.List.{AllByRecursion}
 use Rattle.rel_model.specs.declared.Rel.{Rel}
@@ -28,11 +28,11 @@ abbrev pub carry : Replay Rel → List Event → Replay Rel
 carry p [] = p
 carry p (e ∷ es) = carry (carry_act e.session e.command e.act p) es
 
--- the relations that names have after these events, from those that they had first
+-- the relations that names have after these events, given those they had at first
 unfoldable pub carried_from : Carried → List Event → Carried
 carried_from first es = (carry (begun first) es).now
 
--- those after the events of a first batch, before which no name has a relation
+-- the relations after the events of a first batch, before which no name has a relation
 abbrev pub carried : List Event → Carried
 carried es = carried_from no_names es
 
@@ -41,7 +41,7 @@ pub record First : Type 0 where
   pub names : Carried
   pub versions : Versions
 
--- the first batch begins with no relation of any name, and with no version but 0
+-- the first batch begins with no relation, and with version 0 of each name
 abbrev pub no_first : First
 no_first = record { names = no_names; versions = [] }
 
@@ -49,7 +49,7 @@ no_first = record { names = no_names; versions = [] }
 abbrev pub valued : (Rel → Relation) → Carried → Workspace
 valued means = map (λ entry. (entry.0, means entry.1))
 
--- an assigned relation has the value that is due next of its command on the carried state at the command's last read
+-- an assigned relation has the value that is due next of its command, on the carried state at the command's last read
 abbrev pub HasDue : (ℕ → ℕ → Workspace → Gifts) → (Rel → Relation) → ℕ → ℕ → Act → Replay Rel → Type 0
 HasDue gifts means s c Read p = Unit {0}
 HasDue gifts means s c (Assign name rel) p =
@@ -57,27 +57,27 @@ HasDue gifts means s c (Assign name rel) p =
     × (means rel ≡ gift.1)
 HasDue gifts means s c (Remove name) p = Unit {0}
 
--- so have all that follow
+-- so have all assigned relations that follow
 abbrev pub AllHaveDue : (ℕ → ℕ → Workspace → Gifts) → (Rel → Relation) → Replay Rel → List Event → Type 0
 AllHaveDue gifts means p [] = Unit {0}
 AllHaveDue gifts means p (e ∷ es) =
     HasDue gifts means e.session e.command e.act p
     × AllHaveDue gifts means (carry_act e.session e.command e.act p) es
 
--- two replays of values are the same to sessions of a kind: the same now, and the same noted of their commands
+-- two replays of values look the same to sessions of a kind: the same state now, and the same notes of their commands
 pub record SameTo (kind : ℕ → Bool) (p q : Replay Relation) : Type 0 where
   pub now : p.now ≡ q.now
   pub at_read : (s c : ℕ) → kind s ≡ true → p.at_read s c ≡ q.at_read s c
   pub given : (s c : ℕ) → kind s ≡ true → p.given s c ≡ q.given s c
 
--- a replay of carried relations, as one of their values
+-- a replay of carried relations, turned into one of their values
 abbrev pub valued_replay : (Rel → Relation) → Replay Rel → Replay Relation
 valued_replay means p =
     record { now = valued means p.now; at_read = λ s c. valued means (p.at_read s c); given = p.given }
 
--- Where each assigned relation has the value that is due, the state by what is due is that of the carried relations,
--- now and at the last read of each command: from first names that have the values of the state before, for events of
--- sessions of which nothing was noted before.
+-- If each assigned relation has the value that is due, the state by what is due is that of the carried relations, now
+-- and at the last read of each command. This starts from first names that have the values of the state before, for
+-- events of sessions of which nothing was noted before.
 abbrev pub CarriedIsState : Type 0
 CarriedIsState =
     (kind : ℕ → Bool) (gifts : ℕ → ℕ → Workspace → Gifts) (means : Rel → Relation) (first : Carried)

@@ -1,6 +1,7 @@
--- How many nodes the commands of a run may make, by the height of the leaves of the workers that make them: of an
--- expression the cost of its calm tree, each turn of a loop counted; of a block that of its expressions up to the first
--- that is refused; of a listed or loaded relation what its pairs may take; and none where what is due is early.
+-- How many nodes the commands of a run may make, by the height of the leaves of the workers that make them: for an
+-- expression, the cost of its calm tree, with each turn of a loop counted; for a block, that of its expressions up to
+-- the first that is refused; for a listed or loaded relation, what its pairs may take; and none if an early refusal is
+-- due.
 use Rattle.std.specs.Prelude.{◌==◌, ◌+◌, ◌-◌, cond, ℕ, List, [], ◌∷◌, length, Option, Some, None}
 use Rattle.lang_model.specs.declared.syntax.Row.{Row}
 use Rattle.lang_model.specs.declared.syntax.Expr.{Expr}
@@ -39,13 +40,13 @@ use Rattle.run_model.specs.Steps.{Step, due_at}
 use Rattle.run_model.specs.Legal.{steps_in}
 
 -- ---- listed pairs
--- how many pairs rows list, repeats counted
+-- how many pairs the rows list, repeats counted
 abbrev pub listed_count : List Row → ℕ
 listed_count [] = 0
 listed_count (row ∷ rows) = length row.cols.items + listed_count rows
 
--- a relation of so many pairs, repeats counted: for each pair a leaf, and the three nodes of a corner at each height
--- above it
+-- a relation of this many listed pairs, repeats counted: for each pair a leaf, and the three nodes of a corner at each
+-- height above it
 unfoldable pub listed_cost : ℕ → ℕ → ℕ → ℕ → ℕ
 listed_cost leaf count rows cols = listed_room count (height_over leaf rows cols - leaf)
 
@@ -54,12 +55,12 @@ listed_cost leaf count rows cols = listed_room count (height_over leaf rows cols
 abbrev pub cost_of : ℕ → Input → Script → Expr → Workspace → ℕ
 cost_of leaf input script e state = cost_of_value leaf (evaluated script (lookup state) e input.turns)
 
--- an expression on a snapshot, where there is one
+-- an expression on a snapshot, if the snapshot exists
 abbrev pub cost_on_snapshot : ℕ → Input → Script → Expr → Option Workspace → ℕ
 cost_on_snapshot leaf input script e None = 0
 cost_on_snapshot leaf input script e (Some snap) = cost_of leaf input script e snap
 
--- so many nodes where a value is due
+-- this many nodes if a value is due
 abbrev pub where_value : Due → (Relation → ℕ) → ℕ
 where_value Nothing cost = 0
 where_value (Value r) cost = cost r
@@ -68,7 +69,7 @@ where_value (Bytes bytes) cost = 0
 where_value (Explained steps) cost = 0
 where_value (Refused when outcome) cost = 0
 
--- a relation of so many pairs, repeats counted
+-- a relation with this many pairs, repeats counted
 abbrev pub cost_of_pairs : ℕ → ℕ → Relation → ℕ
 cost_of_pairs leaf count r = listed_cost leaf count r.rows r.cols
 
@@ -81,7 +82,7 @@ abbrev pub cost_of_gifts : ℕ → Gifts → ℕ
 cost_of_gifts leaf [] = 0
 cost_of_gifts leaf (gift ∷ gifts) = cost_of_loaded leaf gift.1 + cost_of_gifts leaf gifts
 
--- so many nodes where values are due
+-- this many nodes if values are due
 abbrev pub where_values : Due → (Gifts → ℕ) → ℕ
 where_values Nothing cost = 0
 where_values (Value r) cost = 0
@@ -90,7 +91,7 @@ where_values (Bytes bytes) cost = 0
 where_values (Explained steps) cost = 0
 where_values (Refused when outcome) cost = 0
 
--- a command, of which this is due on a workspace with the snapshot that it asks
+-- a command, given what is due of it on a workspace, and the snapshot that it asks for
 abbrev pub cost_of_command : ℕ → Input → Script → Command → Workspace → Option Workspace → Due → ℕ
 cost_of_command leaf input script (RELATION name rows rows_at cols cols_at list) state snap d =
     where_value d (cost_of_pairs leaf (listed_count list.items))
@@ -128,7 +129,7 @@ cost_of_steps leaf input script [] = 0
 cost_of_steps leaf input script (step ∷ steps) = cost_of_step leaf input script step + cost_of_steps leaf input script
     steps
 
--- a session: a script that does not run costs nothing
+-- a session; a script that does not run costs nothing
 abbrev pub cost_of_session : ℕ → Input → List Event → ℕ → Reading → List Outcome → ℕ
 cost_of_session leaf input history s (NoScript fault) outcomes = 0
 cost_of_session leaf input history s (Flawed fault) outcomes = 0
@@ -142,7 +143,7 @@ cost_of_sessions leaf input history s (reading ∷ readings) (outcomes ∷ other
 cost_of_sessions leaf input history s [] others = 0
 cost_of_sessions leaf input history s (reading ∷ readings) [] = 0
 
--- those of batch b among sessions from number s on
+-- the sessions of batch b, among those from number s on
 abbrev pub cost_in_batch : ℕ → Input → List Event → ℕ → ℕ → List Reading → List (List Outcome) → ℕ
 cost_in_batch leaf input history b s (reading ∷ readings) (outcomes ∷ others) =
     cond (batch_of input.ends s == b) (cost_of_session leaf input history s reading outcomes) 0

@@ -1,4 +1,4 @@
--- What is due of an item: that it is done, with a value or with none, or a refusal.
+-- What is due of an item: that it is done, with or without a value, or a refusal.
 use Rattle.std.specs.Prelude.{◌*◌, nat_lt, cond, ℕ, List, [], ◌∷◌, length, Option, Some, None}
 use Rattle.lang_model.specs.declared.syntax.Place.{Place}
 use Rattle.lang_model.specs.declared.syntax.Column.{Column}
@@ -61,7 +61,7 @@ abbrev pub Workspace : Type 0
 Workspace = Names Relation
 
 -- ---- what may be due
--- a refusal is early where nothing was computed before it: no node was asked for
+-- a refusal is early if nothing was computed before it, so that no node was asked for
 pub data When : Type 0 where
   Early : When
   Late : When
@@ -74,13 +74,13 @@ Gifts = List (List ℕ × Relation)
 pub data Due : Type 0 where
   -- that it is done, and shows nothing
   Nothing : Due
-  -- that it is done with this value, which it shows, saves, or gives its name
+  -- that it is done with this value, which it shows, saves, or assigns to its name
   Value : Relation → Due
-  -- that it is done and gives these names these values
+  -- that it is done and assigns these values to these names
   Values : Gifts → Due
   -- that it is done with these bytes, which it saves
   Bytes : List ℕ → Due
-  -- that it is done and tells these steps of rewriting
+  -- that it is done and shows these steps of rewriting
   Explained : List Rewritten → Due
   -- that it is refused
   Refused : When → Outcome → Due
@@ -95,7 +95,7 @@ outcome_due (Explained steps) = Done
 outcome_due (Refused when outcome) = outcome
 
 -- ---- limits
--- a value that passes a limit is refused, and else is due
+-- a value over a limit is refused, any other is due
 abbrev pub within : ℕ → ℕ → Outcome → Relation → Due
 within limit wanted outcome r = cond (nat_lt limit wanted) (Refused Late outcome) (Value r)
 
@@ -112,86 +112,86 @@ abbrev pub saved : Relation → Due
 saved r = within save_limit (bits_count r) (TooLong (bits_count r)) r
 
 -- ---- expressions
--- a refusal of the meaning, with the limit that was passed
+-- a refusal of the meaning as an outcome, with the limit that was exceeded
 abbrev pub outcome_of : ℕ → Refusal → Outcome
 outcome_of turns (Ill fault) = ILL fault
 outcome_of turns (Size at wanted) = SIZE at wanted size_limit
 outcome_of turns (Turns at) = TURNS at turns
 
--- what is due where the meaning comes to this: what its value is for, or its refusal
+-- what is due given the meaning: what its value is used for, or its refusal
 abbrev pub due_of_answer : (Relation → Due) → ℕ → Answer Relation → Due
 due_of_answer then turns (Got r left) = then r
 due_of_answer then turns (Not why) = Refused Late (outcome_of turns why)
 
--- what is due where an expression comes to this: a fault ahead of all computing is early
+-- what is due given the result of an expression; a fault found before anything is computed is early
 abbrev pub due_of_value : (Relation → Due) → ℕ → Evaluated → Due
 due_of_value then turns (Ahead fault) = Refused Early (ILL fault)
 due_of_value then turns (Comes came) = due_of_answer then turns came.answer
 
--- what is due of an expression on a workspace, with what its value is for
+-- what is due of an expression on a workspace, given what its value is used for
 abbrev pub due_of : Input → Script → (Relation → Due) → Expr → Workspace → Due
 due_of input script then e state = due_of_value then input.turns (evaluated script (lookup state) e input.turns)
 
 -- ---- listed relations
--- a number that passes its limit, with its place
+-- a number over its limit, with its place
 abbrev pub over : Place → ℕ → ℕ → Option Outcome
 over at wanted limit = cond (nat_lt limit wanted) (Some (SIZE at wanted limit)) None
 
--- the first column that passes the number of columns
+-- the first column over the number of columns
 abbrev pub columns_over : ℕ → List Column → Option Outcome
 columns_over cols [] = None
 columns_over cols (c ∷ cs) = first_of_both (over c.at c.col cols) (columns_over cols cs)
 
--- the first row that passes the number of rows, or column that passes the number of columns, in the order of the text
+-- the first row over the number of rows, or column over the number of columns, in the order of the text
 abbrev pub rows_over : ℕ → ℕ → List Row → Option Outcome
 rows_over rows cols [] = None
 rows_over rows cols (r ∷ rs) =
     first_of_both (over r.at r.row rows) (first_of_both (columns_over cols r.cols.items) (rows_over rows cols rs))
 
--- the first number of a listed relation that passes its limit, in the order of the text
+-- the first number of a listed relation over its limit, in the order of the text
 unfoldable pub listing_over : ℕ → Place → ℕ → Place → List Row → Option Outcome
 listing_over rows rows_at cols cols_at list =
     first_of_both (over rows_at rows size_limit)
     (first_of_both (over cols_at cols size_limit) (rows_over rows cols list))
 
--- a refusal where there is one, and else a value
+-- a refusal if there is one, and otherwise a value
 abbrev pub unless_over : Option Outcome → Relation → Due
 unless_over (Some outcome) r = Refused Early outcome
 unless_over None r = Value r
 
 -- ---- files
--- a file is no relation file, or its relation is due
+-- either a file is not a relation file, or its relation is due
 abbrev pub due_of_bytes : List ℕ → List ℕ → Option BadFile → Due
 due_of_bytes file bytes (Some kind) = Refused Early (BAD_FILE file kind)
 due_of_bytes file bytes None = Value (k2_relation bytes)
 
--- no relation of a file has the name, or its relation is due
+-- either no relation of a file has this name, or its relation is due
 abbrev pub due_of_named : List ℕ → Option Relation → Due
 due_of_named file None = Refused Early (BAD_FILE file Missing)
 due_of_named file (Some r) = Value r
 
--- a file is no shared file, or the relation of the name is due, as it stands there first
+-- either a file is not a shared file, or the first relation of this name in it is due
 abbrev pub due_of_shared : List ℕ → List ℕ → List ℕ → Option BadFile → Due
 due_of_shared name file bytes (Some kind) = Refused Early (BAD_FILE file kind)
 due_of_shared name file bytes None = due_of_named file (relation_named name (shared_relations bytes))
 
--- a file that begins as a shared one is read as such, and any other as a file of one relation
+-- a file that begins like a shared file is read as one, and any other as a file of one relation
 abbrev pub due_of_either : List ℕ → List ℕ → List ℕ → Due
 due_of_either name file bytes =
     cond (begins_shared bytes) (due_of_shared name file bytes (shared_fault bytes))
     (due_of_bytes file bytes (k2_fault bytes))
 
--- there is no file of this name, or its bytes decide what the name gets
+-- either there is no file of this name, or its bytes determine what the name gets
 abbrev pub due_of_file : List ℕ → List ℕ → Option (List ℕ) → Due
 due_of_file name file None = Refused Early (NoFile file)
 due_of_file name file (Some bytes) = due_of_either name file bytes
 
--- a file is no shared file, or all its relations are due
+-- either a file is not a shared file, or all its relations are due
 abbrev pub due_of_all : List ℕ → List ℕ → Option BadFile → Due
 due_of_all file bytes (Some kind) = Refused Early (BAD_FILE file kind)
 due_of_all file bytes None = Values (shared_relations bytes)
 
--- there is no file of this name, or its bytes decide
+-- either there is no file of this name, or its bytes determine what is due
 abbrev pub due_of_whole_file : List ℕ → Option (List ℕ) → Due
 due_of_whole_file file None = Refused Early (NoFile file)
 due_of_whole_file file (Some bytes) = due_of_all file bytes (shared_fault bytes)
@@ -200,23 +200,23 @@ due_of_whole_file file (Some bytes) = due_of_all file bytes (shared_fault bytes)
 abbrev pub bits_in : List ℕ → ℕ
 bits_in bytes = 8 * length bytes
 
--- the bytes of a shared file are due where they pass no limit
+-- the bytes of a shared file are due if they exceed no limit
 abbrev pub saved_bytes : List ℕ → Due
 saved_bytes bytes = cond (nat_lt save_limit (bits_in bytes)) (Refused Late (TooLong (bits_in bytes))) (Bytes bytes)
 
 -- ---- names
--- a name that has a relation may be taken away
+-- a name that has a relation may be removed
 abbrev pub due_of_drop : Place → List ℕ → Option Relation → Due
 due_of_drop at name None = Refused Early (ILL (Unknown at name))
 due_of_drop at name (Some r) = Nothing
 
--- an expression is printed on a snapshot, where the session has one of this name
+-- an expression is printed on a snapshot, if the session has one of this name
 abbrev pub due_on_snapshot : Input → Script → Place → List ℕ → Expr → Option Workspace → Due
 due_on_snapshot input script at name e None = Refused Early (ILL (Unknown at name))
 due_on_snapshot input script at name e (Some snap) = due_of input script printed e snap
 
 -- ---- atomic blocks
--- a refusal that comes behind other values is late
+-- a refusal that comes after other values is late
 abbrev pub late : Due → Due
 late Nothing = Nothing
 late (Value r) = Value r
@@ -225,7 +225,7 @@ late (Bytes bytes) = Bytes bytes
 late (Explained steps) = Explained steps
 late (Refused when outcome) = Refused Late outcome
 
--- a gift before those that are due
+-- a gift in front of those that are due
 abbrev pub with_gift : List ℕ × Relation → Due → Due
 with_gift gift Nothing = Nothing
 with_gift gift (Value r) = Value r
@@ -234,7 +234,7 @@ with_gift gift (Bytes bytes) = Bytes bytes
 with_gift gift (Explained steps) = Explained steps
 with_gift gift (Refused when outcome) = Refused when outcome
 
--- an assignment of which this is due, with what is due behind its value
+-- an assignment, given what is due of it and what is due after its value
 abbrev pub behind_let : List ℕ → Due → Due → Due
 behind_let name rest (Value r) = with_gift (name, r) (late rest)
 behind_let name rest (Refused when outcome) = Refused when outcome
@@ -243,26 +243,26 @@ behind_let name rest (Values gifts) = Values []
 behind_let name rest (Bytes bytes) = Values []
 behind_let name rest (Explained steps) = Values []
 
--- assignments whose expressions came to these, up to the first that has no value: the first refusal, which is early
--- for the first assignment alone, or all values
+-- assignments, given the results of their expressions up to the first without a value: the first refusal, which is
+-- early only for the first assignment, or all values
 abbrev pub due_of_lets : ℕ → List BlockLet → List Evaluated → Due
 due_of_lets turns (l ∷ ls) (v ∷ vs) = behind_let l.name (due_of_lets turns ls vs) (due_of_value Value turns v)
 due_of_lets turns [] vs = Values []
 due_of_lets turns (l ∷ ls) [] = Values []
 
--- the assignments of a block in order, each on the state that the earlier ones leave
+-- the assignments of a block in order, each on the state left by the earlier ones
 abbrev pub due_of_block : Input → Script → List BlockLet → Workspace → Due
 due_of_block input script lets state =
     due_of_lets input.turns lets (evaluated_block script (lookup state) lets input.turns)
 
 -- ---- rewriting
--- an expression that is refused ahead of all computing is refused, and else its steps are due
+-- an expression with an early fault is refused; otherwise its steps are due
 abbrev pub due_of_steps : Expr → Option TypeFault → Due
 due_of_steps e (Some fault) = Refused Early (ILL fault)
 due_of_steps e None = Explained (steps_of (tree_of e))
 
 -- ---- items
--- what is due of a command on a workspace, with the snapshot that it names
+-- what is due of a command on a workspace, given the snapshot that it names
 unfoldable pub due_of_command : Input → Script → Command → Workspace → Option Workspace → Due
 due_of_command input script (RELATION name rows rows_at cols cols_at list) state snap =
     unless_over (listing_over rows rows_at cols cols_at list.items) (relation_of rows cols (lists list.items))
@@ -281,14 +281,14 @@ due_of_command input script (SaveAll file) state snap = saved_bytes (shared_file
 due_of_command input script (Atomic lets) state snap = due_of_block input script lets.items state
 due_of_command input script (Explain e) state snap = due_of_steps e (early_fault script (lookup state) e)
 
--- what is due of an item: of a definition, that it is done
+-- what is due of an item; a definition is just done
 unfoldable pub due : Input → Script → Item → Workspace → Option Workspace → Due
 due input script (COMMAND command) state snap = due_of_command input script command state snap
 due input script (Function at name params body) state snap = Nothing
 due input script (Program at name params decls body result) state snap = Nothing
 
 -- ---- what a value is given to
--- a name gets a value, where one is due
+-- a name gets a value, if one is due
 abbrev pub given : List ℕ → Due → Gifts
 given name Nothing = []
 given name (Value r) = (name, r) ∷ []
@@ -297,7 +297,7 @@ given name (Bytes bytes) = []
 given name (Explained steps) = []
 given name (Refused when outcome) = []
 
--- names get the values that are due, where some are
+-- names get the values that are due, if any
 abbrev pub given_all : Due → Gifts
 given_all Nothing = []
 given_all (Value r) = []
@@ -306,7 +306,7 @@ given_all (Bytes bytes) = []
 given_all (Explained steps) = []
 given_all (Refused when outcome) = []
 
--- the names that a command gives values, in order, each with its value
+-- the names to which a command assigns values, in order, each with its value
 abbrev pub gives_of_command : Command → Due → Gifts
 gives_of_command (RELATION name rows rows_at cols cols_at list) d = given name d
 gives_of_command (Let name e) d = given name d
@@ -324,7 +324,7 @@ gives_of_command (SaveAll file) d = []
 gives_of_command (Atomic lets) d = given_all d
 gives_of_command (Explain e) d = []
 
--- those of an item
+-- the same for an item
 abbrev pub gives : Item → Due → Gifts
 gives (COMMAND command) d = gives_of_command command d
 gives (Function at name params body) d = []

@@ -1,4 +1,4 @@
--- The files of a run by their bytes, in the words of runs.
+-- The files of a run as bytes, in terms of the model.
 use Rattle.std.specs.Prelude.{List, map}
 use Rattle.std.specs.String.{string_bytes}
 use Rattle.run_model.specs.Inputs.{RelationFile}
@@ -6,14 +6,14 @@ use Rattle.run_model.specs.Page.{SavedFile}
 use Rattle.run_model.specs.declared.files.Loaded.{Loaded}
 use Rattle.run_model.specs.declared.files.Save.{Save}
 
--- a relation file of the command line
+-- a relation file named on the command line
 abbrev pub file_of : Loaded → RelationFile
 file_of f = record { name = string_bytes f.name; bytes = f.bytes.items }
 
--- a file that is put after the page
+-- a file written after the page
 abbrev pub saved_of : Save → SavedFile
 saved_of s = record { name = s.name; bytes = s.bytes.items }
 
--- all of them
+-- all files written after the page
 abbrev pub saved_all : List Save → List SavedFile
 saved_all = map saved_of

@@ -1,5 +1,6 @@
--- Relation files, version 1: a header, and the bits of the k²-tree with k = 2 (Brisaboa, Ladra and Navarro), which ask
--- submatrices of the relation whether they have a pair. Header, padding and the empty relation's no bits are our own.
+-- Relation files, version 1: a header, and the bits of the k²-tree with k = 2 (Brisaboa, Ladra and Navarro), each of
+-- which says whether a submatrix of the relation has a pair. Header, padding, and that the empty relation has no bits,
+-- are defined by this project.
 use Rattle.std.specs.Prelude.{
   ◌≡◌,
   ◌==◌,
@@ -76,12 +77,12 @@ abbrev pub meets : Relation → ℕ → Corner → Bool
 meets r side p =
     list_any (λ q. (nat_le p.0 q.0 && nat_lt q.0 (p.0 + side)) && (nat_le p.1 q.1 && nat_lt q.1 (p.1 + side))) r.pairs
 
--- the quarters, of this side, of those of a list that have a pair
+-- the quarters, of this side, of the submatrices in a list, as far as they have a pair
 abbrev pub quarters_met : Relation → ℕ → List Corner → List Corner
 quarters_met r side ps = flat_map (quarters side) (filter (meets r (side + side)) ps)
 
 -- ---- the bits
--- the least height from 1 on whose square holds both sizes
+-- the least height, at least 1, whose square holds both sizes
 unfoldable pub file_height : ℕ → ℕ → ℕ
 file_height rows cols = max 1 (max (height_of rows) (height_of cols))
 
@@ -91,7 +92,7 @@ inner_bits r zero ps = []
 inner_bits r (suc k) ps =
     let qs = quarters_met r (2 ^ suc k) ps in map (meets r (2 ^ suc k)) qs ++ inner_bits r k qs
 
--- the bits of the cells below them
+-- the bits of the cells below submatrices of height k + 1
 abbrev pub cell_bits : Relation → ℕ → List Corner → List Bool
 cell_bits r zero ps = map (meets r 1) (quarters_met r 1 ps)
 cell_bits r (suc k) ps = cell_bits r k (quarters_met r (2 ^ suc k) ps)
@@ -104,7 +105,7 @@ tree_part r = inner_bits r (file_height r.rows r.cols - 1) whole
 unfoldable pub cell_part : Relation → List Bool
 cell_part r = cell_bits r (file_height r.rows r.cols - 1) whole
 
--- how many bits both have
+-- how many bits T and L have together
 unfoldable pub bits_count : Relation → ℕ
 bits_count r = length (tree_part r) + length (cell_part r)
 
@@ -113,7 +114,8 @@ bits_count r = length (tree_part r) + length (cell_part r)
 abbrev pub number_of_bit : Bool → ℕ
 number_of_bit b = cond b 1 0
 
--- bits as bytes, the first bit highest, behind k bits of the value v that are in the byte already; the rest is 0
+-- bits as bytes, the first bit highest, after k bits with the value v that are in the byte already; the rest of the
+-- last byte is 0
 abbrev pub packed : ℕ → ℕ → List Bool → List ℕ
 packed v k [] = cond (k == 0) [] (v * 2 ^ (8 - k) ∷ [])
 packed v k (b ∷ bs) =
@@ -123,7 +125,7 @@ packed v k (b ∷ bs) =
 abbrev pub unpacked : List ℕ → List Bool
 unpacked = flat_map (λ byte. map (λ i. bit_at byte (7 - i) == 1) (range_with_len 0 8))
 
--- how many bytes hold so many bits
+-- how many bytes hold this many bits
 abbrev pub bytes_for : ℕ → ℕ
 bytes_for bits = (bits + 7) / 8
 
@@ -147,15 +149,15 @@ pub record Fields : Type 0 where
   -- how many bits T and L have
   pub tree_count : ℕ
   pub cell_count : ℕ
-  -- the bits of the bytes of T and of L, with those behind their ends
+  -- the bits of the bytes of T and of L, including the padding
   pub tree : List Bool
   pub cells : List Bool
 
--- the bytes from a place on, so many
+-- this many bytes from a place on
 abbrev pub part : List ℕ → ℕ → ℕ → List ℕ
 part bytes at count = take count (drop at bytes)
 
--- the fields that bytes have at their places
+-- the fields of a file, read from their places
 unfoldable pub fields : List ℕ → Fields
 fields bytes =
     let t = from_be_bytes w64 (part bytes 13 8) in
@@ -180,17 +182,18 @@ abbrev pub no_bits : List Bool → Bool
 no_bits [] = true
 no_bits (b ∷ bs) = false
 
--- whether bits are those of so many levels above the cells, of which the next has g groups, with so many cells below
+-- whether bits are those of this many levels above the cells, where the next level has g groups and the last level has
+-- this many cells
 abbrev pub levels_fit : ℕ → ℕ → List Bool → ℕ → Bool
 levels_fit zero g bits cell_count = no_bits bits && (cell_count == 4 * g)
 levels_fit (suc k) g bits cell_count =
     nat_le (4 * g) (length bits) && levels_fit k (ones (take (4 * g) bits)) (drop (4 * g) bits) cell_count
 
--- how many groups the first level has: none of the empty relation, and else one
+-- how many groups the first level has: none for the empty relation, and otherwise one
 abbrev pub first_groups : Fields → ℕ
 first_groups f = cond ((f.tree_count == 0) && (f.cell_count == 0)) 0 1
 
--- the first bit of the first group of four without a set bit, counted from this number
+-- the number of the first bit of the first group of four without a set bit, counting from this number
 abbrev pub zero_group : ℕ → List Bool → Option ℕ
 zero_group at (a ∷ b ∷ c ∷ d ∷ bits) = cond (a || (b || (c || d))) (zero_group (at + 4) bits) (Some at)
 zero_group at [] = None
@@ -198,34 +201,34 @@ zero_group at (a ∷ []) = None
 zero_group at (a ∷ b ∷ []) = None
 zero_group at (a ∷ b ∷ c ∷ []) = None
 
--- those of a list whose bits are set
+-- the submatrices in a list whose bits are set
 abbrev pub chosen : List Corner → List Bool → List Corner
 chosen (p ∷ ps) (b ∷ bits) = cond b (p ∷ chosen ps bits) (chosen ps bits)
 chosen [] bits = []
 chosen (p ∷ ps) [] = []
 
--- the cells that the last level tells of, below submatrices of height k + 1
+-- the cells whose bits the last level has, below submatrices of height k + 1
 abbrev pub cells_below : ℕ → List Corner → List Bool → List Corner
 cells_below zero ps bits = flat_map (quarters 1) ps
 cells_below (suc k) ps bits =
     let qs = flat_map (quarters (2 ^ suc k)) ps in cells_below k (chosen qs bits) (drop (length qs) bits)
 
--- all of them
+-- all cells whose bits the last level has
 unfoldable pub cells_told : Fields → List Corner
 cells_told f = cells_below (f.height - 1) (take (first_groups f) whole) (take f.tree_count f.tree)
 
--- the number of the first cell outside the sizes whose bit is set, counted from this number
+-- the number of the first cell outside the sizes whose bit is set, counting from this number
 abbrev pub cell_outside : ℕ → ℕ → ℕ → List Corner → List Bool → Option ℕ
 cell_outside rows cols at (p ∷ ps) (b ∷ bits) =
     cond (b && not (nat_lt p.0 rows && nat_lt p.1 cols)) (Some at) (cell_outside rows cols (at + 1) ps bits)
 cell_outside rows cols at [] bits = None
 cell_outside rows cols at (p ∷ ps) [] = None
 
--- a test that fails is this fault
+-- this fault if a test fails
 abbrev pub unless : Bool → BadFile → Option BadFile
 unless passes fault = cond passes None (Some fault)
 
--- a place that is found is this fault
+-- this fault if a place is found
 abbrev pub found_at : (ℕ → BadFile) → Option ℕ → Option BadFile
 found_at fault None = None
 found_at fault (Some at) = Some (fault at)
@@ -235,7 +238,7 @@ abbrev pub first_of_all : List (Option BadFile) → Option BadFile
 first_of_all [] = None
 first_of_all (fault ∷ faults) = first_of_both fault (first_of_all faults)
 
--- the first test that bytes fail as a relation file
+-- the first test that bytes fail to be a relation file
 unfoldable pub k2_fault : List ℕ → Option BadFile
 k2_fault bytes =
     let f = fields bytes in
@@ -261,8 +264,8 @@ unfoldable pub k2_relation : List ℕ → Relation
 k2_relation bytes =
     let f = fields bytes in relation_of f.rows f.cols (is_among (chosen (cells_told f) (take f.cell_count f.cells)))
 
--- Laws: bytes without a fault are those of their relation, and a relation's bytes
--- have none and are read as it.
+-- Laws: bytes without a fault are those of their relation; the bytes of a relation have no fault, and are read back as
+-- it.
 pub record FilesLaws : Type 0 where
   pub bytes_of_read : (bytes : List ℕ) → AllByRecursion (λ b. b < 256) bytes → k2_fault bytes ≡ None →
       k2 (k2_relation bytes) ≡ bytes

@@ -65,7 +65,7 @@ names_of_command (SaveAll file) = []
 names_of_command (Atomic lets) = names_read lets.items
 names_of_command (Explain e) = names_in e
 
--- and those that it takes from the snapshot that it asks
+-- the names whose relations a command takes from the snapshot that it asks for
 abbrev pub names_of_snapshot : Command → List (List ℕ)
 names_of_snapshot (RELATION name rows rows_at cols cols_at list) = []
 names_of_snapshot (Let name e) = []
@@ -101,42 +101,43 @@ all_of_command (SaveAll file) = true
 all_of_command (Atomic lets) = false
 all_of_command (Explain e) = false
 
--- the same of items
+-- the same for items
 abbrev pub takes_all : Item → Bool
 takes_all (COMMAND command) = all_of_command command
 takes_all (Function at name params body) = false
 takes_all (Program at name params decls body result) = false
 
--- two states are one where an item takes all relations
+-- two states are equal if an item takes all relations
 abbrev pub OneWhereAll : Bool → Workspace → Workspace → Type 0
 OneWhereAll false s t = Unit {0}
 OneWhereAll true s t = s ≡ t
 
--- the names that an item takes from the workspace: a definition takes none
+-- the names whose relations an item takes from the workspace; a definition takes none
 abbrev pub names_taken : Item → List (List ℕ)
 names_taken (COMMAND command) = names_of_command command
 names_taken (Function at name params body) = []
 names_taken (Program at name params decls body result) = []
 
--- and those that it takes from the snapshot that it asks
+-- the names whose relations an item takes from the snapshot that it asks for
 abbrev pub names_asked : Item → List (List ℕ)
 names_asked (COMMAND command) = names_of_snapshot command
 names_asked (Function at name params body) = []
 names_asked (Program at name params decls body result) = []
 
--- two states look alike to an item: they have the same relations of the names that it takes, and all if it takes all
+-- two states look alike to an item: they have the same relations of the names that it takes, and are equal if it takes
+-- all
 abbrev pub LooksAlike : Item → Workspace → Workspace → Type 0
 LooksAlike item s t = AgreeOn (lookup s) (lookup t) (names_taken item) × OneWhereAll (takes_all item) s t
 
--- both snapshots are there, with the same relations of these names, or both are not
+-- either both snapshots exist and have the same relations of these names, or neither exists
 abbrev pub SnapsAgree : Option Workspace → Option Workspace → List (List ℕ) → Type 0
 SnapsAgree None None names = Unit {0}
 SnapsAgree (Some s) (Some t) names = AgreeOn (lookup s) (lookup t) names
 SnapsAgree None (Some t) names = ⊥
 SnapsAgree (Some s) None names = ⊥
 
--- What is due of an item, and its cost, depend on the relations alone that it takes. So a session that took those with
--- the values that they have in a history is due what the history makes due.
+-- What is due of an item, and its cost, depend only on the relations that it takes. So a session that took those with
+-- the values that they have in a history has due what the history makes due.
 abbrev pub DueByNames : Type 0
 DueByNames =
     (input : Input) (script : Script) (item : Item) (s t : Workspace) (snap other : Option Workspace)
@@ -145,7 +146,7 @@ DueByNames =
     × ((leaf : ℕ) (d : Due) → cost_of_item leaf input script item s snap d
     ≡ cost_of_item leaf input script item t other d)
 
--- what is due is early
+-- an early refusal is due
 abbrev pub IsEarly : Due → Type 0
 IsEarly Nothing = ⊥
 IsEarly (Value r) = ⊥
@@ -155,7 +156,7 @@ IsEarly (Explained steps) = ⊥
 IsEarly (Refused Early outcome) = Unit {0}
 IsEarly (Refused Late outcome) = ⊥
 
--- No node is asked for before an early refusal, nor by a command that a full table cannot refuse.
+-- No node is asked for before an early refusal, nor by a command that cannot be refused by a full table.
 pub record FreeCommands : Type 0 where
   pub early : (leaf : ℕ) (input : Input) (script : Script) (item : Item) (s : Workspace) (snap : Option Workspace) →
       IsEarly (due input script item s snap) → cost_of_item leaf input script item s snap
@@ -164,9 +165,9 @@ pub record FreeCommands : Type 0 where
       (snap : Option Workspace) (d : Due) →
       (WantsNodes command → ⊥) → cost_of_command leaf input script command s snap d ≡ 0
 
--- Where no name that a block reads has another version before its second event than before its first, the block is due
--- the same on the state just before its second event, its first assignment, as on the state that it read. So nobody can
--- tell a block that is done from one that read and assigned in one moment.
+-- If no name that a block reads has another version before its second event than before its first, the same is due of
+-- the block on the state just before its second event, which is its first assignment, as on the state that it read. So
+-- a block that is done cannot be distinguished from one that read and assigned in a single moment.
 abbrev pub BlocksAreAtOnce : Type 0
 BlocksAreAtOnce =
     (input : Input) (script : Script) (history : List Event) (s c : ℕ) (lets : List BlockLet) (log : List Event)

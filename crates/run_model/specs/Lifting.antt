@@ -1,4 +1,4 @@
--- From the states that a session took to those of a history: what a run is asked for does not change.
+-- From the states that a session took to those of a history: what is asked of a run stays the same.
 use Rattle.std.specs.Prelude.{◌≡◌, ◌+◌, ℕ, List, [], ◌∷◌}
 use Rattle.std.specs.List.{AllByRecursion}
 use Rattle.rel_model.specs.declared.Rel.{Rel}
@@ -19,12 +19,13 @@ use Rattle.run_model.specs.Carried.{First}
 use Rattle.run_model.specs.Turns.{Turn, puts_of, state_taken}
 use Rattle.run_model.specs.Sessions.{rel_of, HasValues, RunsTurns}
 
--- to items from number c on, the states of each number look alike
+-- for items from number c on, the states for each number look alike
 abbrev pub LookAlike : (ℕ → Workspace) → (ℕ → Workspace) → ℕ → List Item → Type 0
 LookAlike f g c [] = Unit {0}
 LookAlike f g c (item ∷ items) = LooksAlike item (f c) (g c) × LookAlike f g (c + 1) items
 
--- what is asked of steps is the same of others: events, outcomes, values of what is assigned, replies, saves and cost
+-- two lists of steps agree in all that is asked of a run: events, outcomes, values of what is assigned, replies, saves
+-- and cost
 pub record SameRun (input : Input) (script : Script) (first second : List Step) : Type 0 where
   pub events : (s : ℕ) (log : List Entry) → AreEvents input script s first log → AreEvents input script s second log
   pub outcomes : AreOutcomes input script first → AreOutcomes input script second
@@ -45,7 +46,8 @@ LookAlikeRunAlike =
 abbrev pub MeanAlike : (Rel → Relation) → (Rel → Relation) → List Event → Type 0
 MeanAlike means other = AllByRecursion (λ e. AllByRecursion (λ rel. means rel ≡ other rel) (rel_of e.act))
 
--- what a session promises in its own worker it promises in another one, where what it took and assigned means the same
+-- what a session promises in its own worker, it promises in any worker in which what it took and assigned means the
+-- same
 abbrev pub OtherWorkerRunsAlike : Type 0
 OtherWorkerRunsAlike =
     (input : Input) (first : First) (means other : Rel → Relation) (s : ℕ) (script : Script) (outcomes : List Outcome)

@@ -1,14 +1,14 @@
--- How much is printed, listed and saved at most.
+-- Limits on what is printed, listed and saved.
 use Rattle.std.specs.Prelude.{◌^◌, ℕ}
 
--- how many cells are printed at most
+-- the greatest number of cells of a relation that is printed
 abbrev pub print_limit : ℕ
 print_limit = 2 ^ 20
 
--- how many pairs are listed at most
+-- the greatest number of pairs of a relation that is listed
 abbrev pub list_limit : ℕ
 list_limit = 2 ^ 20
 
--- how many bits of a relation's tree are saved at most
+-- the greatest number of bits of a relation's tree that is saved
 abbrev pub save_limit : ℕ
 save_limit = 2 ^ 26

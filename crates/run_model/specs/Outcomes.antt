@@ -1,4 +1,4 @@
--- Which outcomes are lawful of an item of which this is due.
+-- Which outcomes are lawful for an item, given what is due of it.
 use Rattle.std.specs.Prelude.{◌≡◌, ◌⊎◌, ℕ, List, Option, Some, None, IsSome}
 use Rattle.std.specs.List.{AllByRecursion}
 use Rattle.lang_model.specs.Eval.{IsCompound}
@@ -43,7 +43,7 @@ use Rattle.run_model.specs.Blocks.{AnyCompound}
 use Rattle.lang_model.specs.declared.syntax.Let.{Let as BlockLet}
 use Rattle.run_model.specs.Steps.{Step, due_at}
 
--- a command that makes a relation or applies an operator, so that a full table may refuse it
+-- a command that makes a relation or applies an operator, so that it may be refused by a full table
 abbrev pub WantsNodes : Command → Type 0
 WantsNodes (RELATION name rows rows_at cols cols_at list) = Unit {0}
 WantsNodes (Let name e) = IsCompound e
@@ -61,12 +61,12 @@ WantsNodes (SaveAll file) = ⊥
 WantsNodes (Atomic lets) = AnyCompound lets.items
 WantsNodes (Explain e) = ⊥
 
--- a refusal that is early comes before any node is asked for
+-- a late refusal; an early one comes before any node is asked for
 abbrev pub IsLate : When → Type 0
 IsLate Early = ⊥
 IsLate Late = Unit {0}
 
--- what is due is not early
+-- no early refusal is due
 abbrev pub IsNotEarly : Due → Type 0
 IsNotEarly Nothing = Unit {0}
 IsNotEarly (Value r) = Unit {0}
@@ -75,24 +75,24 @@ IsNotEarly (Bytes bytes) = Unit {0}
 IsNotEarly (Explained steps) = Unit {0}
 IsNotEarly (Refused when outcome) = IsLate when
 
--- the table may have been full for a command that wants nodes, where what is due is not early
+-- the table may have been full for a command that needs nodes, unless an early refusal is due
 abbrev pub MayLackNodes : Item → Due → Type 0
 MayLackNodes (COMMAND command) d = WantsNodes command × IsNotEarly d
 MayLackNodes (Function at name params body) d = ⊥
 MayLackNodes (Program at name params decls body result) d = ⊥
 
--- memory may have run out for any command, and for no definition
+-- memory may have run out for any command, but for no definition
 abbrev pub MayLackMemory : Item → Type 0
 MayLackMemory (COMMAND command) = Unit {0}
 MayLackMemory (Function at name params body) = ⊥
 MayLackMemory (Program at name params decls body result) = ⊥
 
--- the assignments of an atomic block, and none of another item
+-- the assignments of an atomic block; other items have none
 abbrev pub lets_of : Item → Option (List BlockLet)
 lets_of (COMMAND (Atomic lets)) = Some lets.items
 lets_of item = None
 
--- an atomic block may be refused at its commit, where what is due is that it is done
+-- an atomic block may be refused at its commit, if it is due to be done
 abbrev pub MayBeChanged : Item → Due → Type 0
 MayBeChanged item d = IsSome (lets_of item) × (outcome_due d ≡ Done)
 
@@ -100,8 +100,8 @@ MayBeChanged item d = IsSome (lets_of item) × (outcome_due d ≡ Done)
 abbrev pub IsChanged : Outcome → Type 0
 IsChanged outcome = (name : List ℕ) × (seen found : ℕ) × (outcome ≡ Changed name seen found)
 
--- the outcome is the one that is due; or the table was full; or memory ran out; or a block is refused at its commit,
--- of which `CommitsFrom` in `Legal.antt` says when
+-- the outcome is the one that is due; or the table was full; or memory ran out; or a block was refused at its commit,
+-- and `CommitsFrom` in `Legal.antt` says when
 abbrev pub IsOutcome : Item → Due → Outcome → Type 0
 IsOutcome item d outcome =
     (outcome ≡ outcome_due d)

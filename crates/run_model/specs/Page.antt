@@ -64,7 +64,7 @@ unfoldable pub type_text : Relation → List ℕ
 type_text r = sizes_text r.rows r.cols ++ line_feed
 
 -- ---- replies
--- what a command shows of its value, behind the numbers of its session and itself
+-- what a command shows of its value, after the numbers of its session and of itself
 abbrev pub shown_by : List ℕ → Command → Relation → List ℕ
 shown_by numbers (RELATION name rows rows_at cols cols_at list) r = []
 shown_by numbers (Let name e) r = []
@@ -82,7 +82,7 @@ shown_by numbers (SaveAll file) r = []
 shown_by numbers (Atomic lets) r = []
 shown_by numbers (Explain e) r = []
 
--- the same of items: a definition shows nothing
+-- the same for items; a definition shows nothing
 abbrev pub shown : List ℕ → Item → Relation → List ℕ
 shown numbers (COMMAND command) r = shown_by numbers command r
 shown numbers (Function at name params body) r = []
@@ -97,7 +97,7 @@ step_text step =
 unfoldable pub explanation : List Rewritten → List ℕ
 explanation steps = decimal (length steps) ++ codes " steps" ++ line_feed ++ flat_map step_text steps
 
--- the reply to an item that is done: its value or its steps, where some are due
+-- the reply to an item that is done: its value or its steps, if any are due
 abbrev pub done_text : List ℕ → Item → Due → List ℕ
 done_text numbers item Nothing = []
 done_text numbers item (Value r) = shown numbers item r
@@ -106,7 +106,7 @@ done_text numbers item (Bytes bytes) = []
 done_text numbers item (Explained steps) = numbers ++ explanation steps
 done_text numbers item (Refused when outcome) = []
 
--- the reply to an item that ended so
+-- the reply to an item with this ending
 abbrev pub reply_at : Ending → List ℕ → Item → Due → Outcome → List ℕ
 reply_at Succeeds numbers item d outcome = done_text numbers item d
 reply_at Fails numbers item d outcome = numbers ++ refusal_text outcome
@@ -126,7 +126,7 @@ unfoldable pub refusals : ℕ → List Outcome → List ℕ
 refusals s = flat_map (λ outcome. prefix s 0 ++ refusal_text outcome)
 
 -- ---- the history
--- what an act writes
+-- how an act is written
 abbrev pub act_text : Act → List ℕ
 act_text Read = codes "read"
 act_text (Assign name rel) = codes "assign " ++ name ++ codes " " ++ sizes_text rel.rows rel.cols
@@ -151,18 +151,18 @@ sessions_page input history s (reading ∷ readings) (outcomes ∷ others) =
 sessions_page input history s [] others = []
 sessions_page input history s (reading ∷ readings) [] = []
 
--- the page of a run: the replies by session and command, and then a line for each event where the history is asked
+-- the page of a run: the replies by session and command, and, if the history is wanted, a line for each event
 unfoldable pub page : Input → List Event → List (List Outcome) → List ℕ
 page input history outcomes =
     sessions_page input history 1 input.readings outcomes ++ cond input.history (flat_map event_line history) []
 
 -- ---- saves
--- a file that is put after the page
+-- a file written after the page
 pub record SavedFile : Type 0 where
   pub name : List ℕ
   pub bytes : List ℕ
 
--- the file of a value, which a SAVE of an expression alone has
+-- the file of a value; only a SAVE of an expression has one
 abbrev pub saved_by : Command → Relation → List SavedFile
 saved_by (RELATION name rows rows_at cols cols_at list) r = []
 saved_by (Let name e) r = []
@@ -180,13 +180,13 @@ saved_by (SaveAll file) r = []
 saved_by (Atomic lets) r = []
 saved_by (Explain e) r = []
 
--- the same of items
+-- the same for items
 abbrev pub saved_of : Item → Relation → List SavedFile
 saved_of (COMMAND command) r = saved_by command r
 saved_of (Function at name params body) r = []
 saved_of (Program at name params decls body result) r = []
 
--- the file of bytes, which a SAVE ALL alone has
+-- the file of bytes; only a SAVE ALL has one
 abbrev pub written_by : Command → List ℕ → List SavedFile
 written_by (RELATION name rows rows_at cols cols_at list) bytes = []
 written_by (Let name e) bytes = []
@@ -204,7 +204,7 @@ written_by (SaveAll file) bytes = record { name = file; bytes = bytes } ∷ []
 written_by (Atomic lets) bytes = []
 written_by (Explain e) bytes = []
 
--- the same of items
+-- the same for items
 abbrev pub written_of : Item → List ℕ → List SavedFile
 written_of (COMMAND command) bytes = written_by command bytes
 written_of (Function at name params body) bytes = []
@@ -219,7 +219,7 @@ done_save item (Bytes bytes) = written_of item bytes
 done_save item (Explained steps) = []
 done_save item (Refused when outcome) = []
 
--- the file of an item that ended so
+-- the file of an item with this ending
 abbrev pub save_at : Ending → Item → Due → List SavedFile
 save_at Succeeds item d = done_save item d
 save_at Fails item d = []
@@ -230,14 +230,14 @@ save_at LacksMemory item d = []
 unfoldable pub saves_of : Input → Script → List Step → List SavedFile
 saves_of input script = flat_map (λ step. save_at (ending step.outcome) step.item (due_at input script step))
 
--- those of a session: a script that does not run saves none
+-- the files of a session; a script that does not run saves none
 abbrev pub session_saves : Input → List Event → ℕ → Reading → List Outcome → List SavedFile
 session_saves input history s (NoScript fault) outcomes = []
 session_saves input history s (Flawed fault) outcomes = []
 session_saves input history s (Runs script) outcomes =
     saves_of input script (steps_in input history s script outcomes)
 
--- those of sessions from number s on
+-- the files of the sessions from number s on
 abbrev pub sessions_saves : Input → List Event → ℕ → List Reading → List (List Outcome) → List SavedFile
 sessions_saves input history s (reading ∷ readings) (outcomes ∷ others) =
     session_saves input history s reading outcomes ++ sessions_saves input history (s + 1) readings others

@@ -10,8 +10,8 @@ use Rattle.run_model.specs.Page.{SavedFile, page, saves}
 use Rattle.run_model.specs.Cost.{cost_of_run, cost_of_batch}
 use Rattle.run_model.specs.Solo.{Suffices}
 
--- a lawful run of scripts: the input reads their bytes, each batch has some and the last ends with the last of them,
--- history and outcomes are lawful for it, and page and files are theirs
+-- a lawful run of scripts: the input is the result of reading their bytes, each batch has at least one script and the
+-- last ends with the last script, history and outcomes are lawful for the input, and page and files are theirs
 pub record IsRun (scripts : List (List ℕ)) (input : Input) (history : List Event) (outcomes : List (List Outcome))
     (shown : List ℕ) (files : List SavedFile) : Type 0 where
   pub read : AreReadings scripts input.readings
@@ -28,13 +28,13 @@ pub record SameWithoutRoots (input : Input) (outcomes : List (List Outcome)) (fi
   pub cost_of_batches : (leaf b : ℕ) →
       cost_of_batch leaf input first outcomes b ≡ cost_of_batch leaf input second outcomes b
 
--- histories that have the same entries show, save and cost the same
+-- histories with the same entries have the same page, files and cost
 abbrev pub RootsMeanNothing : Type 0
 RootsMeanNothing =
     (input : Input) (outcomes : List (List Outcome)) (first second : List Event)
     → map entry_of first ≡ map entry_of second → SameWithoutRoots input outcomes first second
 
--- two runs of one script, in which nothing ran out, have the same outcomes, and show and save the same
+-- two runs of one script in which nothing ran out have the same outcomes, pages and files
 abbrev pub OneScriptOnePage : Type 0
 OneScriptOnePage =
     (input : Input) (reading : Reading) (first second : List Event) (os others : List Outcome)

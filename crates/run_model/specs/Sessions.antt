@@ -37,7 +37,7 @@ rel_of Read = []
 rel_of (Assign name rel) = rel ∷ []
 rel_of (Remove name) = []
 
--- the relations that command c assigns among events, in order
+-- the relations that command c assigns in these events, in order
 abbrev pub rels_of : ℕ → List Event → List Rel
 rels_of c [] = []
 rels_of c (e ∷ es) = cond (e.command == c) (rel_of e.act ++ rels_of c es) (rels_of c es)
@@ -49,14 +49,14 @@ HaveValues means (rel ∷ rels) (gift ∷ gifts) = (means rel ≡ gift.1) × Hav
 HaveValues means [] (gift ∷ gifts) = ⊥
 HaveValues means (rel ∷ rels) [] = ⊥
 
--- the relations of an item that ended so: those of a done one have the values that it gives
+-- the relations of an item with this ending: those of one that is done have the values that it assigns
 abbrev pub HasValuesAt : Ending → (Rel → Relation) → List Rel → Gifts → Type 0
 HasValuesAt Succeeds means rels gifts = HaveValues means rels gifts
 HasValuesAt Fails means rels gifts = Unit {0}
 HasValuesAt Changes means rels gifts = Unit {0}
 HasValuesAt LacksMemory means rels gifts = Unit {0}
 
--- those of a step among its session's events
+-- the relations of a step, among its session's events
 abbrev pub HasValues : Input → Script → (Rel → Relation) → List Event → Step → Type 0
 HasValues input script means events step =
     HasValuesAt (ending step.outcome) means (rels_of step.number events) (gives step.item (due_at input script step))
@@ -66,25 +66,25 @@ HasValues input script means events step =
 abbrev pub steps_taken : Carried → (Rel → Relation) → List Turn → Script → List Outcome → List Step
 steps_taken first means ts script outcomes = steps (state_taken first means ts) script outcomes
 
--- session s of a batch that began so, which had seen the old log, ran its script in these turns with these outcomes,
--- and then saw the new log
+-- session s of a batch that began like this, which had seen the old log, ran its script in these turns with these
+-- outcomes, and then saw the new log
 pub record RunsTurns (input : Input) (first : First) (means : Rel → Relation) (s : ℕ) (script : Script)
     (outcomes : List Outcome) (ts : List Turn) (old new : List Event) : Type 0 where
   pub turns : AreTurns ts old new
-  -- each turn put one event, or assignments of one command
+  -- each turn put one event, or the assignments of one command
   pub own : AllByRecursion (IsTurn s) ts
-  -- no other event stands between assignments of one command, since they are put at once
+  -- no other event comes between assignments of one command, since they are put in one turn
   pub once : AssignsOnce ts
   pub each : length outcomes ≡ length script.items.items
   pub events : AreEvents input script s (steps_taken first.names means ts script outcomes) (map entry_of (puts_of ts))
   pub outcomes_due : AreOutcomes input script (steps_taken first.names means ts script outcomes)
   pub values : AllByRecursion (HasValues input script means (puts_of ts))
       (steps_taken first.names means ts script outcomes)
-  -- a block commits where no name that it read has another version, and else tells the first that has
+  -- a block commits if no name that it read has another version, and otherwise reports the first that has
   pub commits : CommitsFrom (change_taken first.versions ts) 1 script.items.items outcomes
 
--- In the history, where the log of the batch stands behind earlier events and before later ones that have none of its
--- number, a session that ran its script in turns ran it by the states of the history.
+-- If the log of the batch comes after earlier events and before later ones, and these have none of its number, a
+-- session that ran its script in turns ran it on the states of the history.
 abbrev pub TurnsRunScript : Type 0
 TurnsRunScript =
     (input : Input) (kind : ℕ → Bool) (means : Rel → Relation) (first : First) (s : ℕ) (script : Script)
@@ -93,7 +93,7 @@ TurnsRunScript =
     → BeginsLog seen log → events_of s log ≡ puts_of ts → events_of s done ≡ [] → events_of s later ≡ []
     → RunsScript input (done ++ (log ++ later)) s script outcomes
 
--- session s ran its script in turns that stand in the closed log of its batch, which has no other events of its number
+-- session s ran its script in turns that are in the closed log of its batch, which has no other events of its number
 pub record RanIn (input : Input) (first : First) (means : Rel → Relation) (log : List Event) (s : ℕ) : Type 0 where
   pub script : Script
   pub is_script : script_at input s ≡ Some script
@@ -104,14 +104,15 @@ pub record RanIn (input : Input) (first : First) (means : Rel → Relation) (log
   pub begins : BeginsLog seen log
   pub all : events_of s log ≡ puts_of ts
 
--- where each event is of a session that ran so, each assigned relation has the value that is due
+-- if each event belongs to a session that ran like this, each assigned relation has the value that is due
 abbrev pub SessionsMakeDue : Type 0
 SessionsMakeDue =
     (input : Input) (first : First) (means : Rel → Relation) (log : List Event)
     → AllByRecursion (λ e. RanIn input first means log e.session) log
     → AllHaveDue (gifts_due input) means (begun first.names) log
 
--- session s ran what its bytes are read as: the one fault and no event, or its script in turns that stand in the log
+-- session s ran what its bytes are read as: either the one fault and no event, or its script in turns that are in the
+-- log
 abbrev pub SessionRan : Input → First → (Rel → Relation) → List Event → ℕ → Reading → List Outcome → Type 0
 SessionRan input first means log s (NoScript fault) outcomes = (outcomes ≡ Parse fault ∷ []) × (events_of s log ≡ [])
 SessionRan input first means log s (Flawed fault) outcomes = (outcomes ≡ Ill fault ∷ []) × (events_of s log ≡ [])

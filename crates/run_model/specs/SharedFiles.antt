@@ -1,4 +1,4 @@
--- Relation files, version 2: several named relations over one list of squares, in which no square stands twice.
+-- Relation files, version 2: several named relations over one list of squares, in which no square occurs twice.
 use Rattle.std.specs.Prelude.{
   ◌≡◌,
   ◌==◌,
@@ -70,7 +70,7 @@ pub record Square : Type 0 where
   pub height : ℕ
   pub pairs : List (ℕ × ℕ)
 
--- the pairs of a submatrix of this side, from its first row and column, which count from 0 there
+-- the pairs of a submatrix of this side, counted from its first row and column
 abbrev pub quarter : ℕ → ℕ → ℕ → List (ℕ × ℕ) → List (ℕ × ℕ)
 quarter side row col pairs = (relation_of side side (λ i j. is_among pairs (row + i) (col + j))).pairs
 
@@ -82,18 +82,18 @@ same_pairs = pointwise (λ p q. (p.0 == q.0) && (p.1 == q.1))
 abbrev pub same_square : Square → Square → Bool
 same_square a b = (a.height == b.height) && same_pairs a.pairs b.pairs
 
--- a square behind the others, unless it is among them
+-- a square after the others, unless it is among them
 abbrev pub with_square : Square → List Square → List Square
 with_square square list = cond (list_any (same_square square) list) list (list ++ square ∷ [])
 
--- the list of squares where there is no pair, and else what the visits of a square make of it
+-- the list itself if there is no pair, and otherwise the list made by the visit of a square
 abbrev pub where_pairs : List (ℕ × ℕ) → List Square → List Square → List Square
 where_pairs [] list visited = list
 where_pairs (p ∷ ps) list visited = visited
 
--- A visit of a square, by its height and its pairs: a cell, or a square without pairs, leaves the list of squares as
--- it is. Of any other the quarters are visited, north-west, north-east, south-west and south-east, and then it stands
--- behind them, unless it is among them.
+-- A visit of a square, given by its height and its pairs. A cell, or a square without pairs, leaves the list of squares
+-- unchanged. For any other square, its quarters are visited first, north-west, north-east, south-west and south-east,
+-- and then the square is listed after them, unless it is listed already (post-order).
 abbrev pub visit : ℕ → List (ℕ × ℕ) → List Square → List Square
 visit zero pairs list = list
 visit (suc h) pairs list =
@@ -105,7 +105,7 @@ visit (suc h) pairs list =
     (visit h (quarter side 0 side pairs)
     (visit h (quarter side 0 0 pairs) list)))))
 
--- the squares of named relations behind those of a list: each relation is visited in order, as a square of its height
+-- the squares of named relations after those of a list: each relation is visited in order, as a square of its height
 abbrev pub visit_all : List Square → List (List ℕ × Relation) → List Square
 visit_all list [] = list
 visit_all list (entry ∷ entries) =
@@ -120,15 +120,15 @@ abbrev pub place_in : List Square → Square → ℕ
 place_in [] square = 0
 place_in (x ∷ xs) square = cond (same_square x square) 0 (1 + place_in xs square)
 
--- the number of a square, by its height and its pairs: 0 where there is no pair, 1 for the cell, and else from 2 on its
--- place in the list
+-- the number of a square, given by its height and its pairs: 0 without pairs, 1 for the cell, and otherwise its place
+-- in the list, counted from 2
 abbrev pub number_in : List Square → ℕ → List (ℕ × ℕ) → ℕ
 number_in squares h [] = 0
 number_in squares zero (p ∷ ps) = 1
 number_in squares (suc h) (p ∷ ps) = 2 + place_in squares (record { height = suc h; pairs = p ∷ ps })
 
 -- ---- bytes
--- the four numbers of a square's quarters, by their height
+-- the four numbers of a square's quarters, given their height
 abbrev pub quarter_bytes : List Square → ℕ → List (ℕ × ℕ) → List ℕ
 quarter_bytes squares zero pairs = []
 quarter_bytes squares (suc h) pairs =
@@ -153,7 +153,7 @@ shared_file list =
     ++ flat_map (λ s. quarter_bytes squares s.height s.pairs) squares ++ flat_map (entry_bytes squares) list
 
 -- ---- reading
--- whether bytes begin as those of a file of version 2
+-- whether bytes begin like those of a file of version 2
 unfoldable pub begins_shared : List ℕ → Bool
 begins_shared bytes = same_text (take 4 bytes) (codes "RVK2")
 
@@ -176,22 +176,22 @@ shared_header = 12
 abbrev pub quadrant_length : ℕ
 quadrant_length = 16
 
--- the listed squares that bytes begin with, so many
+-- the first k listed squares in these bytes
 abbrev pub quadrants_in : ℕ → List ℕ → List Quadrant
 quadrants_in zero bytes = []
 quadrants_in (suc k) bytes =
     record { nw = number_at bytes 0; ne = number_at bytes 4; sw = number_at bytes 8; se = number_at bytes 12 }
     ∷ quadrants_in k (drop quadrant_length bytes)
 
--- how many squares a file says that it lists
+-- how many squares a file claims to list
 abbrev pub quadrant_count : List ℕ → ℕ
 quadrant_count bytes = number_at bytes 4
 
--- how many relations
+-- how many relations a file claims to have
 abbrev pub entry_count : List ℕ → ℕ
 entry_count bytes = number_at bytes 8
 
--- where its relations begin
+-- where the relations begin
 abbrev pub entries_at : List ℕ → ℕ
 entries_at bytes = shared_header + quadrant_length * quadrant_count bytes
 
@@ -207,7 +207,7 @@ numbers_of q = q.nw ∷ q.ne ∷ q.sw ∷ q.se ∷ []
 abbrev pub same_quadrant : Quadrant → Quadrant → Bool
 same_quadrant a b = same_text (numbers_of a) (numbers_of b)
 
--- the height of a number, by those of the listed squares: that of a cell for 1
+-- the height of a number, given those of the listed squares; number 1 has the height of a cell
 abbrev pub height_at : List ℕ → ℕ → ℕ
 height_at heights n = cond (nat_le n 1) 0 (slice_index heights (n - 2))
 
@@ -224,18 +224,18 @@ height_over_parts heights (n ∷ ns) = height_at heights n + 1
 abbrev pub height_of_quadrant : List ℕ → Quadrant → ℕ
 height_of_quadrant heights q = height_over_parts heights (parts_of q)
 
--- the heights of listed squares, behind those of earlier ones
+-- the heights of listed squares, given those of earlier ones
 abbrev pub heights_behind : List ℕ → List Quadrant → List ℕ
 heights_behind heights [] = heights
 heights_behind heights (q ∷ qs) = heights_behind (heights ++ height_of_quadrant heights q ∷ []) qs
 
--- whether no number is but 0
+-- whether all numbers are 0
 abbrev pub no_parts : List ℕ → Bool
 no_parts [] = true
 no_parts (n ∷ ns) = false
 
--- whether square number n is none, behind the earlier ones: its numbers are all 0, or one is not below its own, or two
--- other than 0 have different heights, or it is too high, or an earlier one has the same numbers
+-- whether square number n is invalid, given the earlier ones: all its numbers are 0, or one is not below its own, or
+-- two other than 0 have different heights, or it is too high, or an earlier square has the same numbers
 abbrev pub is_bad : ℕ → List Quadrant → List ℕ → Quadrant → Bool
 is_bad n earlier heights q =
     no_parts (parts_of q)
@@ -243,14 +243,14 @@ is_bad n earlier heights q =
     || (list_any (λ m. not (height_at heights m + 1 == height_of_quadrant heights q)) (parts_of q)
     || (nat_lt size_height (height_of_quadrant heights q) || list_any (same_quadrant q) earlier)))
 
--- the number of the first square that is none, from number n on
+-- the number of the first invalid square, from number n on
 abbrev pub first_bad : ℕ → List Quadrant → List ℕ → List Quadrant → Option ℕ
 first_bad n earlier heights [] = None
 first_bad n earlier heights (q ∷ qs) =
     cond (is_bad n earlier heights q) (Some n)
     (first_bad (n + 1) (earlier ++ q ∷ []) (heights ++ height_of_quadrant heights q ∷ []) qs)
 
--- a square of no pair
+-- a square without pairs
 abbrev pub no_quadrant : Quadrant
 no_quadrant = record { nw = 0; ne = 0; sw = 0; se = 0 }
 
@@ -258,7 +258,8 @@ no_quadrant = record { nw = 0; ne = 0; sw = 0; se = 0 }
 abbrev pub quadrant_at : List Quadrant → ℕ → Quadrant
 quadrant_at quads n = cond (nat_le n 1) no_quadrant (unwrap_or (slice_get quads (n - 2)) no_quadrant)
 
--- the cells of the square of a number, by its height: the one cell of number 1, and else those of its quarters
+-- the cells of the square with this number, given its height: the one cell for number 1, and otherwise the cells of its
+-- quarters
 abbrev pub cells_told : List Quadrant → ℕ → ℕ → Cells
 cells_told quads zero n = λ i j. (n == 1) && ((i == 0) && (j == 0))
 cells_told quads (suc h) n =
@@ -267,22 +268,22 @@ cells_told quads (suc h) n =
     (cells_told quads h q.se)
 
 -- ---- named relations
--- a named relation as the bytes tell it
+-- a named relation as given in the bytes
 pub record NamedRoot : Type 0 where
   pub name : List ℕ
   pub rows : ℕ
   pub cols : ℕ
   pub root : ℕ
 
--- how many bytes the name has that bytes begin with
+-- the length of the name at the start of these bytes
 abbrev pub name_length : List ℕ → ℕ
 name_length bytes = slice_index bytes 0
 
--- how many bytes a named relation has
+-- the length of the named relation at the start of these bytes
 abbrev pub entry_length : List ℕ → ℕ
 entry_length bytes = 1 + name_length bytes + 12
 
--- the named relation that bytes begin with
+-- the named relation at the start of these bytes
 abbrev pub entry_in : List ℕ → NamedRoot
 entry_in bytes =
     let l = name_length bytes in
@@ -293,22 +294,22 @@ entry_in bytes =
       root = number_at bytes (1 + l + 8);
     }
 
--- those that bytes begin with, so many
+-- the first k named relations in these bytes
 abbrev pub entries_in : ℕ → List ℕ → List NamedRoot
 entries_in zero bytes = []
 entries_in (suc k) bytes = entry_in bytes ∷ entries_in k (drop (entry_length bytes) bytes)
 
--- how many bytes they have together
+-- their length in bytes
 abbrev pub entries_length : ℕ → List ℕ → ℕ
 entries_length zero bytes = 0
 entries_length (suc k) bytes = entry_length bytes + entries_length k (drop (entry_length bytes) bytes)
 
--- whether bytes are a letter and then letters, digits and _
+-- whether bytes are a letter followed by letters, digits and _
 abbrev pub is_word : List ℕ → Bool
 is_word [] = false
 is_word (b ∷ bs) = is_letter b && (list_all is_word_byte bs && nat_le (length (b ∷ bs)) name_limit)
 
--- a name stands behind the one before it, where there is one
+-- a name comes after the one before it, if there is one
 abbrev pub is_behind : Option (List ℕ) → List ℕ → Bool
 is_behind None name = true
 is_behind (Some earlier) name = is_lt (compare earlier name)
@@ -318,7 +319,7 @@ abbrev pub is_root : List Quadrant → List ℕ → ℕ → ℕ → Bool
 is_root quads heights h n =
     (n == 0) || ((nat_le 2 n && nat_lt n (length quads + 2)) && (height_at heights n == h))
 
--- the first test that the named relation fails that bytes begin with, which stands at this place behind this name
+-- the first test failed by the named relation at the start of these bytes, at this place and after this name
 unfoldable pub entry_fault : List Quadrant → List ℕ → ℕ → Option (List ℕ) → List ℕ → Option BadFile
 entry_fault quads heights at earlier bytes =
     let l = name_length bytes in
@@ -335,7 +336,7 @@ entry_fault quads heights at earlier bytes =
     ∷ []
     )
 
--- the first test that named relations fail, so many, from this place on
+-- the first test failed by k named relations from this place on
 abbrev pub entries_fault : List Quadrant → List ℕ → ℕ → Option (List ℕ) → ℕ → List ℕ → Option BadFile
 entries_fault quads heights at earlier zero bytes = None
 entries_fault quads heights at earlier (suc k) bytes =
@@ -347,11 +348,11 @@ unfoldable pub entries_of : List ℕ → List NamedRoot
 entries_of bytes = entries_in (entry_count bytes) (drop (entries_at bytes) bytes)
 
 -- ---- the order of the squares
--- a number behind the others, unless it is among them
+-- a number after the others, unless it is among them
 abbrev pub with_number : ℕ → List ℕ → List ℕ
 with_number n list = cond (list_any (λ m. m == n) list) list (list ++ n ∷ [])
 
--- a visit of the square of a number, by its height, as that of a square
+-- a visit of the square with this number, given its height, like that of a square
 abbrev pub visit_number : List Quadrant → ℕ → ℕ → List ℕ → List ℕ
 visit_number quads zero n list = list
 visit_number quads (suc h) n list =
@@ -372,13 +373,13 @@ abbrev pub begins_with : ℕ → List ℕ → Bool
 begins_with n [] = false
 begins_with n (m ∷ ms) = m == n
 
--- the first of so many numbers, from n on, that does not stand in its place of the list
+-- the first of k numbers from n on that is not at its place in the list
 abbrev pub first_out : ℕ → ℕ → List ℕ → Option ℕ
 first_out n zero list = None
 first_out n (suc k) list = cond (begins_with n list) (first_out (n + 1) k (drop 1 list)) (Some n)
 
 -- ---- the tests of a file
--- the first test that bytes fail as a file of named relations
+-- the first test that bytes fail to be a file of named relations
 unfoldable pub shared_fault : List ℕ → Option BadFile
 shared_fault bytes =
     let q = quadrant_count bytes in
@@ -397,7 +398,7 @@ shared_fault bytes =
     ∷ []
     )
 
--- a named relation by the listed squares
+-- a named relation, from the listed squares
 abbrev pub relation_told : List Quadrant → NamedRoot → List ℕ × Relation
 relation_told quads e = (e.name, relation_of e.rows e.cols (cells_told quads (file_height e.rows e.cols) e.root))
 
@@ -411,15 +412,15 @@ relation_named name [] = None
 relation_named name (entry ∷ entries) = cond (same_text entry.0 name) (Some entry.1) (relation_named name entries)
 
 -- ---- laws
--- a relation that a file may have: its sizes are within the limit
+-- a relation that a file may hold: its sizes are within the limit
 pub record IsFiled (entry : List ℕ × Relation) : Type 0 where
   pub word : is_word entry.0 ≡ true
   pub valid : IsRelation entry.1
   pub rows : entry.1.rows ≤ size_limit
   pub cols : entry.1.cols ≤ size_limit
 
--- A list has one file, and a file one list: bytes without a fault are those of their list, and the bytes of a list of
--- words in order have none and are read as it, where its squares and relations are so few that four bytes count them.
+-- A list has one file, and a file one list: bytes without a fault are those of their list; the bytes of a list of words
+-- in order have no fault and are read back as it, provided that four bytes can count its squares and its relations.
 pub record SharedFilesLaws : Type 0 where
   pub bytes_of_read : (bytes : List ℕ) → AllByRecursion (λ b. b < 256) bytes → shared_fault bytes ≡ None →
       shared_file (shared_relations bytes) ≡ bytes

@@ -1,4 +1,4 @@
--- The one run of a script that runs alone, where neither nodes nor memory run out: a function of the input.
+-- The one run of a script that runs alone, if neither nodes nor memory run out: a function of the input.
 use Rattle.std.specs.Prelude.{◌≡◌, ◌≢◌, ◌+◌, ◌↔◌, ℕ, List, [], ◌∷◌, ◌++◌, map}
 use Rattle.std.specs.List.{AllByRecursion}
 use Rattle.lang_model.specs.declared.syntax.Command.{Command}
@@ -45,18 +45,18 @@ use Rattle.run_model.specs.Steps.{Snapshots, snaps_behind, snap_for}
 use Rattle.run_model.specs.Events.{Deed, Entry, entry_of, entries, done_deeds, reads_of}
 use Rattle.run_model.specs.Legal.{IsLegal}
 
--- the outcomes of a script, and its events without the roots of their relations
+-- the outcomes of a script, and its events apart from the roots of their relations
 pub record Told : Type 0 where
   pub outcomes : List Outcome
   pub log : List Entry
 
 -- ---- one item
--- the names of gifts have their values
+-- the names of gifts get their values
 abbrev pub set_all : Gifts → Workspace → Workspace
 set_all [] state = state
 set_all (gift ∷ gifts) state = set_all gifts (set gift.0 gift.1 state)
 
--- the name that a command takes away
+-- the workspace without the name that a command removes
 abbrev pub without_dropped : Command → Workspace → Workspace
 without_dropped (RELATION name rows rows_at cols cols_at list) state = state
 without_dropped (Let name e) state = state
@@ -74,13 +74,13 @@ without_dropped (SaveAll file) state = state
 without_dropped (Atomic lets) state = state
 without_dropped (Explain e) state = state
 
--- the same of items
+-- the same for items
 abbrev pub without : Item → Workspace → Workspace
 without (COMMAND command) state = without_dropped command state
 without (Function at name params body) state = state
 without (Program at name params decls body result) state = state
 
--- the workspace behind an item of which this is due: a refused one leaves it as it is
+-- the workspace after an item, given what is due of it; a refused item leaves it unchanged
 abbrev pub state_behind : Item → Due → Workspace → Workspace
 state_behind item Nothing state = set_all (gives item Nothing) (without item state)
 state_behind item (Value r) state = set_all (gives item (Value r)) (without item state)
@@ -89,7 +89,7 @@ state_behind item (Bytes bytes) state = set_all (gives item (Bytes bytes)) (with
 state_behind item (Explained steps) state = set_all (gives item (Explained steps)) (without item state)
 state_behind item (Refused when outcome) state = state
 
--- what an item does of which this is due
+-- the deeds of an item, given what is due of it
 abbrev pub deeds_due : Item → Due → List Deed
 deeds_due item Nothing = done_deeds item Nothing
 deeds_due item (Value r) = done_deeds item (Value r)
@@ -99,11 +99,11 @@ deeds_due item (Explained steps) = done_deeds item (Explained steps)
 deeds_due item (Refused when outcome) = reads_of item
 
 -- ---- all items
--- one more outcome, and its entries, before the others
+-- one more outcome, and its entries, in front of the others
 abbrev pub telling : Outcome → List Entry → Told → Told
 telling outcome mine rest = record { outcomes = outcome ∷ rest.outcomes; log = mine ++ rest.log }
 
--- items from number c on, from this workspace and these snapshots: each comes to what is due of it
+-- items from number c on, from this workspace and these snapshots: each has the outcome that is due
 abbrev pub solo_from : Input → Script → ℕ → Workspace → Snapshots → List Item → Told
 solo_from input script c state snaps [] = record { outcomes = []; log = [] }
 solo_from input script c state snaps (item ∷ items) =
@@ -117,12 +117,12 @@ solo input (NoScript fault) = record { outcomes = Parse fault ∷ []; log = [] }
 solo input (Flawed fault) = record { outcomes = Ill fault ∷ []; log = [] }
 solo input (Runs script) = solo_from input script 1 no_names no_names script.items.items
 
--- an outcome that is due alone: neither nodes nor memory ran out
+-- an outcome for which neither nodes nor memory ran out
 abbrev pub Suffices : Outcome → Type 0
 Suffices outcome = (outcome ≢ Nodes) × (outcome ≢ NoMemory)
 
--- the run of one script where nothing ran out is lawful exactly if it is the one that the script alone decides: no name
--- changes between the read of a block and its commit, and so no block is refused there
+-- the run of one script in which nothing ran out is lawful if and only if it is the one that the script determines; no
+-- name changes between the read and the commit of a block, so no block is refused at its commit
 abbrev pub SoloIsLegal : Type 0
 SoloIsLegal =
     (input : Input) (reading : Reading) (history : List Event) (outcomes : List Outcome)

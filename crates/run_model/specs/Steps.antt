@@ -1,6 +1,6 @@
--- The steps of a session: each item with what it sees and what came of it. All that a run is asked for goes by these:
--- its events, its outcomes, its page, its saves and its cost. A session that knows only the states that it took itself
--- has its steps by those, and one history for all sessions has them by its own.
+-- The steps of a session: each item with what it sees and its outcome. All that is asked of a run is a function of
+-- these: its events, its outcomes, its page, its saves and its cost. A session that knows only the states that it took
+-- itself has its steps on those, and one history for all sessions has them on its own.
 use Rattle.std.specs.Prelude.{◌+◌, ℕ, List, [], ◌∷◌, Option, Some, None, option_and_then}
 use Rattle.lang_model.specs.declared.syntax.Command.{Command}
 use Rattle.lang_model.specs.declared.syntax.Command.TheVariants.{
@@ -43,7 +43,7 @@ use Rattle.run_model.specs.Inputs.{Input}
 use Rattle.run_model.specs.Due.{Workspace, Due, due}
 
 -- ---- how an item ended
--- it is done, it is refused, it is refused at its commit, or memory ran out
+-- it is done, refused, refused at its commit, or memory ran out
 pub data Ending : Type 0 where
   Succeeds : Ending
   Fails : Ending
@@ -51,7 +51,7 @@ pub data Ending : Type 0 where
   Changes : Ending
   LacksMemory : Ending
 
--- the ending that an outcome tells
+-- the ending given by an outcome
 abbrev pub ending : Outcome → Ending
 ending Done = Succeeds
 ending (Parse fault) = Fails
@@ -71,7 +71,7 @@ ending (Changed name seen found) = Changes
 abbrev pub Snapshots : Type 0
 Snapshots = Names Workspace
 
--- the name of the snapshot that a command keeps
+-- the name under which a command keeps a snapshot
 abbrev pub snapped_by : Command → Option (List ℕ)
 snapped_by (RELATION name rows rows_at cols cols_at list) = None
 snapped_by (Let name e) = None
@@ -89,7 +89,7 @@ snapped_by (SaveAll file) = None
 snapped_by (Atomic lets) = None
 snapped_by (Explain e) = None
 
--- and of the snapshot that it asks
+-- the name of the snapshot that a command asks for
 abbrev pub asked_by : Command → Option (List ℕ)
 asked_by (RELATION name rows rows_at cols cols_at list) = None
 asked_by (Let name e) = None
@@ -107,40 +107,40 @@ asked_by (SaveAll file) = None
 asked_by (Atomic lets) = None
 asked_by (Explain e) = None
 
--- the name of the snapshot that an item keeps
+-- the name under which an item keeps a snapshot
 abbrev pub snapped : Item → Option (List ℕ)
 snapped (COMMAND command) = snapped_by command
 snapped (Function at name params body) = None
 snapped (Program at name params decls body result) = None
 
--- and of the snapshot that it asks
+-- the name of the snapshot that an item asks for
 abbrev pub asked : Item → Option (List ℕ)
 asked (COMMAND command) = asked_by command
 asked (Function at name params body) = None
 asked (Program at name params decls body result) = None
 
--- a snapshot of this name, where there is one to keep, takes the place of an earlier one
+-- a snapshot of this name, if one is to be kept, replaces an earlier one
 abbrev pub keep : Option (List ℕ) → Workspace → Snapshots → Snapshots
 keep None state snaps = snaps
 keep (Some name) state snaps = set name state snaps
 
--- a command that ended so leaves these: a SNAP that is done keeps the state that it read
+-- the snapshots after a command with this ending; a SNAP that is done keeps the state that it read
 abbrev pub kept_at : Ending → Item → Workspace → Snapshots → Snapshots
 kept_at Succeeds item state snaps = keep (snapped item) state snaps
 kept_at Fails item state snaps = snaps
 kept_at Changes item state snaps = snaps
 kept_at LacksMemory item state snaps = snaps
 
--- the snapshots behind an item that saw this state
+-- the snapshots after an item that saw this state
 abbrev pub snaps_behind : Item → Outcome → Workspace → Snapshots → Snapshots
 snaps_behind item outcome = kept_at (ending outcome) item
 
--- the snapshot that an item asks, where the session has it
+-- the snapshot that an item asks for, if the session has it
 abbrev pub snap_for : Item → Snapshots → Option Workspace
 snap_for item snaps = option_and_then (lookup snaps) (asked item)
 
 -- ---- steps
--- an item of a session: its number, the state that it sees, the snapshot that it asks, and what came of it
+-- an item of a session: its number, the state that it sees, the snapshot that it asks for, and its outcome
 pub record Step : Type 0 where
   pub number : ℕ
   pub item : Item
@@ -148,7 +148,7 @@ pub record Step : Type 0 where
   pub snap : Option Workspace
   pub outcome : Outcome
 
--- what is due of it
+-- what is due of a step
 abbrev pub due_at : Input → Script → Step → Due
 due_at input script step = due input script step.item step.state step.snap
 

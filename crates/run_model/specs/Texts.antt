@@ -30,7 +30,7 @@ abbrev pub prefix : ℕ → ℕ → List ℕ
 prefix s c = decimal s ++ codes "." ++ decimal c ++ codes ": "
 
 -- ---- relations
--- `1` for a pair and `.` for none
+-- `1` for a pair and `.` otherwise
 abbrev pub cell : Relation → ℕ → ℕ → ℕ
 cell r i j = cond (has r i j) 49 46
 
@@ -51,7 +51,7 @@ matrix r = decimal r.rows ++ codes " x " ++ decimal r.cols ++ 10 ∷ [] ++ rows_
 unfoldable pub place_text : Place → List ℕ
 place_text at = decimal at.line ++ codes ":" ++ decimal at.column ++ codes ": "
 
--- a size, or `?` where it is unknown
+-- a size, or `?` if it is unknown
 abbrev pub size_text : Option ℕ → List ℕ
 size_text None = codes "?"
 size_text (Some n) = decimal n
@@ -60,7 +60,7 @@ size_text (Some n) = decimal n
 unfoldable pub shape_text : StaticShape → List ℕ
 shape_text shape = size_text shape.rows ++ codes " x " ++ size_text shape.cols
 
--- what the grammar needs
+-- what the grammar expects
 unfoldable pub what_text : What → List ℕ
 what_text ITEM = codes "an item"
 what_text Expression = codes "an expression"
@@ -70,7 +70,7 @@ what_text NumberFromOne = codes "a number from 1"
 what_text FileText = codes "a file text"
 what_text (Token text) = text
 
--- why bytes are no script
+-- why bytes are not a script
 unfoldable pub parse_fault_text : ParseFault → List ℕ
 parse_fault_text (Byte at byte) = place_text at ++ codes "byte " ++ decimal byte ++ codes " is not allowed"
 parse_fault_text (Expected at what) = place_text at ++ codes "expected " ++ what_text what
@@ -79,11 +79,11 @@ parse_fault_text (NumberTooLarge at) = place_text at ++ codes "number over 64 bi
 parse_fault_text (NameTooLong at) = place_text at ++ codes "name too long"
 parse_fault_text PARSE_NO_MEMORY = codes "no memory"
 
--- at a place: a name has no relation there
+-- a name that has no relation, with its place
 unfoldable pub unknown_text : Place → List ℕ → List ℕ
 unknown_text at name = place_text at ++ codes "unknown name " ++ name
 
--- at a place: an operator does not take its operands
+-- operands that do not fit an operator, with its place
 unfoldable pub mismatch_text : Place → List ℕ → StaticShape → StaticShape → List ℕ
 mismatch_text at op left right = place_text at ++ op ++ codes " does not fit " ++ shape_text left ++ codes " and "
     ++ shape_text right
@@ -103,7 +103,7 @@ type_fault_text (NotTest at shape) = place_text at ++ codes "a test must be 1 x 
 type_fault_text (Twice at name) = place_text at ++ name ++ codes " is defined twice"
 type_fault_text TYPE_NO_MEMORY = codes "no memory"
 
--- why bytes are no relation file
+-- why bytes are not a relation file
 unfoldable pub bad_file_text : BadFile → List ℕ
 bad_file_text Short = codes "short"
 bad_file_text Magic = codes "magic"
@@ -127,7 +127,7 @@ abbrev pub unit_text : COUNTED → List ℕ
 unit_text Cells = codes " cells"
 unit_text Pairs = codes " pairs"
 
--- the limit of it
+-- the limit of what is counted
 abbrev pub unit_limit : COUNTED → ℕ
 unit_limit Cells = print_limit
 unit_limit Pairs = list_limit

@@ -1,9 +1,9 @@
-//! What is left of a batch of scripts whose table was closed before the next one began.
+//! What remains of a batch of scripts after its table was closed and before the next batch begins.
 use lang_model::syntax::Name;
 use rel_model::Rel;
 
-/// A batch that is over: how many events there were up to its end, the words of its table, and the names that lived on
-/// with their relations in these words.
+/// A finished batch: how many events there were up to its end, the words of its table, and the names that lived on,
+/// with their relations in these words. On the heap.
 #[derive(Drop)]
 pub struct OldBatch {
     pub upto: u64,

@@ -2,13 +2,13 @@
 use lang_model::syntax::Name;
 use rel_model::Rel;
 
-/// What an event does to the workspace.
+/// What an event does to the workspace. A name in it is on the heap.
 pub enum Act {
     /// Nothing: the command took its relations here.
     Read,
-    /// The name has the relation from here on.
+    /// The name has this relation from here on.
     Assign { name: Name, rel: Rel },
-    /// The name is gone from here on.
+    /// The name has no relation from here on.
     Remove { name: Name },
 }
 

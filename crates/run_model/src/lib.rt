@@ -1,5 +1,5 @@
 //! Runs: what a run is given, its events and outcomes, which of them are lawful, what it shows, saves and costs, and
-//! what the words of a table hold of it.
+//! what the words of its tables hold.
 #![tactic(auto)]
 
 pub mod batch;

@@ -1,10 +1,10 @@
-//! How much is printed, listed and saved at most.
+//! Limits on what is printed, listed and saved.
 
-/// How many cells are printed at most.
+/// The greatest number of cells of a relation that is printed.
 pub const PRINT_LIMIT: u64 = 1 << 20;
 
-/// How many pairs are listed at most.
+/// The greatest number of pairs of a relation that is listed.
 pub const LIST_LIMIT: u64 = 1 << 20;
 
-/// How many bits of a relation's tree are saved at most.
+/// The greatest number of bits of a relation's tree that is saved.
 pub const SAVE_LIMIT: u64 = 1 << 26;

@@ -1,15 +1,15 @@
-//! What comes of commands.
+//! The outcomes of commands.
 use lang_model::faults::{ParseFault, TypeFault};
 use lang_model::syntax::{FileText, Name, Place};
 
-/// What a limit counts.
+/// What a limit counts. 1 byte.
 #[derive(Clone, Copy, Debug, PartialEq, Eq)]
 pub enum Unit {
     Cells,
     Pairs,
 }
 
-/// What came of a command.
+/// The outcome of a command. Names in it are on the heap.
 pub enum Outcome {
     Done,
     Parse(ParseFault),
@@ -22,7 +22,7 @@ pub enum Outcome {
     NoFile { name: FileText },
     BadFile { name: FileText, kind: BadFile },
     NoMemory,
-    /// A name that an atomic block read was changed before its commit: its version at the read, and at the commit.
+    /// A name that an atomic block read was changed before its commit: its version when read, and at the commit.
     Changed { name: Name, seen: u64, found: u64 },
 }
 
@@ -53,7 +53,7 @@ impl Drop for Outcome {
     }
 }
 
-/// Why bytes are no relation file.
+/// Why bytes are not a relation file.
 #[derive(Clone, Copy, Debug, PartialEq, Eq)]
 pub enum BadFile {
     Short,
@@ -67,14 +67,14 @@ pub enum BadFile {
     Rest,
     Full,
     NoMemory,
-    /// Of a file of several relations: a quadrant that is none, by its number.
+    /// In a file of several relations: an invalid quadrant, by its number.
     Quad { at: u64 },
-    /// A name that is no word, or not after the one before, by the place of its relation.
+    /// A name that is not a word, or not after the one before it, by the place of its relation.
     Names { at: u64 },
-    /// A root that is no quadrant of the relation's height, by the place of its relation.
+    /// A root that is not a quadrant of the relation's height, by the place of its relation.
     Root { at: u64 },
-    /// A quadrant that does not stand in the order of the visits, by its number.
+    /// A quadrant that is not in the order of the visits, by its number.
     Order { at: u64 },
-    /// No relation of this name.
+    /// There is no relation of this name.
     Missing,
 }

@@ -7,7 +7,7 @@ use lang_model::syntax::{Expr, Link, Name};
 use rel_model::NoMemory;
 use std::alloc::Global;
 
-/// Adds a name.
+/// Appends a name.
 fn push_name(alloc: Global, names: &mut Vec<Name>, name: &Name) -> Result<(), NoMemory>
     ensures { OnOk result (names.new.items ≡ names.old.items ++ name.now ∷ []) }
 {
@@ -15,7 +15,7 @@ fn push_name(alloc: Global, names: &mut Vec<Name>, name: &Name) -> Result<(), No
     Ok(())
 }
 
-/// Adds the relation names of an expression, from the left, repeats kept.
+/// Appends the relation names of an expression, from left to right, with repeats.
 #[cycle(pushing)]
 fn push_names(alloc: Global, names: &mut Vec<Name>, expr: &Expr) -> Result<(), NoMemory>
     ensures { OnOk result (names.new.items ≡ names.old.items ++ names_in expr.now) }
@@ -38,7 +38,7 @@ fn push_names(alloc: Global, names: &mut Vec<Name>, expr: &Expr) -> Result<(), N
     }
 }
 
-/// Adds the relation names of arguments.
+/// Appends the relation names of arguments.
 #[cycle(pushing)]
 fn push_args(alloc: Global, names: &mut Vec<Name>, args: &[Expr]) -> Result<(), NoMemory>
     ensures { OnOk result (names.new.items ≡ names.old.items ++ names_of_args args.now) }
@@ -49,7 +49,7 @@ fn push_args(alloc: Global, names: &mut Vec<Name>, args: &[Expr]) -> Result<(), 
     Ok(())
 }
 
-/// Adds the relation names of the links of a chain.
+/// Appends the relation names of the links of a chain.
 #[cycle(pushing)]
 fn push_links(alloc: Global, names: &mut Vec<Name>, links: &[Link]) -> Result<(), NoMemory>
     ensures { OnOk result (names.new.items ≡ names.old.items ++ names_of_links links.now) }
@@ -60,7 +60,7 @@ fn push_links(alloc: Global, names: &mut Vec<Name>, links: &[Link]) -> Result<()
     Ok(())
 }
 
-/// The relation names of an expression, from the left, repeats kept.
+/// The relation names of an expression, from left to right, with repeats.
 pub fn names_in(alloc: Global, expr: &Expr) -> Result<Vec<Name>, NoMemory>
     ensures { IfOk result (λ v. v.items ≡ names_in expr.now) }
 {

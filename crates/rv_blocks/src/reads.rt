@@ -10,7 +10,7 @@ use name_map::NameMap;
 use rel_model::NoMemory;
 use std::alloc::Global;
 
-/// Adds the names that no earlier assignment gives a value.
+/// Adds those names to which no earlier assignment gives a value.
 fn note_new(
     alloc: Global,
     given: &NameMap<()>,
@@ -40,8 +40,8 @@ fn names_alone(alloc: Global, entries: Vec<(Name, ())>) -> Result<Vec<Name>, NoM
     Ok(names)
 }
 
-/// The names that a block reads, each once and in the order of their bytes: those of its expressions that no earlier
-/// assignment of it gives a value.
+/// The names that a block reads, each once, in the order of their bytes: those in its expressions to which no earlier
+/// assignment of the block gives a value.
 pub fn reads_of(alloc: Global, lets: &[Let]) -> Result<Vec<Name>, NoMemory>
     ensures { IfOk result (λ v. v.items ≡ block_reads lets.now) }
 {

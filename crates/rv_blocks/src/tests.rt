@@ -81,8 +81,7 @@ fn names(alloc: Global, letters: &[u8]) -> Result<Vec<Name>, NoMemory> {
     Ok(names)
 }
 
-/// Whether these names, noted once for each time that they stand there, have these versions, and the place of the first
-/// that has not.
+/// Whether these names, noted once for each occurrence, have these versions, and the place of the first that does not.
 fn noted(alloc: Global, raised: &[u8], reads: &[(Name, u64)]) -> Result<Option<usize>, NoMemory> {
     let mut versions = Versions::new(alloc);
     let list = names(alloc, raised)?;

@@ -1,4 +1,4 @@
-//! Versions of names: how often each was assigned or taken away.
+//! Versions of names: how often each was assigned or removed.
 ghost use Rattle.std.specs.Prelude.{◌≡◌, ◌<◌, ◌^◌, ℕ, List, [], OnOk, OnErr};
 ghost use Rattle.run_model.specs.Versions.{noted, all_raised};
 ghost use Rattle.rv_blocks.specs.Changes.{first_other};
@@ -9,7 +9,7 @@ use rel_model::NoMemory;
 use std::alloc::Global;
 use std::marker::Model;
 
-/// The versions of names, each found in logarithmic time. A name that was never noted has version 0.
+/// The versions of names, each found in logarithmic time. A name that was never noted has version 0. On the heap.
 #[derive(Drop)]
 pub struct Versions {
     map: NameMap<u64>,
@@ -23,7 +23,7 @@ impl Model for Versions {
     ghost view = { λ v. v.map };
 }
 
-/// Each name has one version more for each time that it stands there, or all stay as they are.
+/// Raises the version of each name by one for each occurrence, or changes nothing.
 fn raise_all(map: &mut NameMap<u64>, alloc: Global, names: &[Name]) -> Result<(), NoMemory>
     requires fits { (name : List ℕ) → noted (all_raised names.now map.old) name < 2 ^ 64 }
     ensures value { OnOk result (map.new ≡ all_raised names.now map.old) }
@@ -61,7 +61,7 @@ impl Versions {
         self.map.get(name).unwrap_or(0)
     }
 
-    /// Each name has one version more for each time that it stands there, or all stay as they are.
+    /// Raises the version of each name by one for each occurrence, or changes nothing. Refused only if memory runs out.
     pub fn note_all(&mut self, alloc: Global, names: &[Name]) -> Result<(), NoMemory>
         requires fits { (name : List ℕ) → noted (all_raised names.now self.old) name < 2 ^ 64 }
         ensures value { OnOk result (self.new ≡ all_raised names.now self.old) }
@@ -71,8 +71,8 @@ impl Versions {
     }
 }
 
-/// The place of the first read name whose version is another than the one that was read; none exactly where each has
-/// that version still. It compares versions, and takes no memory.
+/// The place of the first read name whose version differs from the one that was read; none if and only if each still
+/// has that version. Compares versions only, and takes no memory.
 pub fn first_changed(versions: &Versions, reads: &[(Name, u64)]) -> Option<usize>
     ensures { result ≡ first_other versions.now reads.now }
 {

@@ -8,7 +8,7 @@ use Rattle.rel_model.specs.Uses.{is_reached, uses_count}
 use Rattle.rv_compact.specs.declared.compacting.CompactRefused.{CompactRefused}
 use Rattle.rv_compact.specs.declared.compacting.CompactRefused.TheVariants.{Full, NoMemory}
 
--- how many node words a table has, of whose words the last ones are its memo words
+-- how many node words a table has, whose last words are the memo words
 abbrev pub node_count : List ℕ → ℕ
 node_count words = length words - memo_slots
 
@@ -39,22 +39,22 @@ pub record IsMoved (old new : List ℕ) (before after : Rel) : Type 0 where
 
 -- words that keep the relations of others, with other roots, and store exactly the nodes that these reach
 pub record IsCompacted (words : List ℕ) (rels : List Rel) (new : List ℕ) (moved : List Rel) : Type 0 where
-  -- there are as many words
+  -- there are as many words as before
   pub same_length : length new ≡ length words
-  -- they are sound, with as many bits
+  -- they are sound words of a table of the same size
   pub sound : (bits : ℕ) → length words ≡ 2 ^ bits + memo_slots → IsSoundTable bits new
-  -- no memo word is taken
+  -- all memo words are 0
   pub no_memo : (slot : ℕ) → slice_index new (node_count words + slot) ≡ 0
-  -- each relation has another one in its place, with its sizes and its set
+  -- each relation is replaced by one with its sizes and its set
   pub as_many : length moved ≡ length rels
   pub each : (k : ℕ) (d : Rel) → k < length rels
       → IsMoved (nodes_of words) (nodes_of new) (slice_index_or rels k d) (slice_index_or moved k d)
   -- the nodes are those that the moved relations reach
   pub reached : (n : ℕ) → (slice_index (nodes_of new) n ≢ 0) ↔ (is_reached (nodes_of new) moved n ≡ true)
-  -- they are no more than the uses that the relations reach in the old words
+  -- there are at most as many as the uses that the relations reach in the old words
   pub few : stored_count (nodes_of new) ≤ uses_count (nodes_of words) rels
 
--- why relations are not moved: they reach so many uses, which are more than there is room for; or memory ran out
+-- why relations are not moved: they reach this many uses, more than there is room for; or memory ran out
 abbrev pub HasCause : List ℕ → List Rel → CompactRefused → Type 0
 HasCause words rels (Full uses) = (uses ≡ uses_count (nodes_of words) rels) × (node_room words < uses)
 HasCause words rels NoMemory = Unit {0}

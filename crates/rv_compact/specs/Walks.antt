@@ -1,4 +1,4 @@
--- Lists of uses, each a depth and a name, in which each use stands behind those of the names of its word.
+-- Lists of uses, each a depth and a name, in which each use comes after those of the names in its word.
 use Rattle.std.specs.Prelude.{◌≡◌, ◌≢◌, ◌<◌, ◌⊎◌, ◌&&◌, nat_eq, zero, suc, ℕ, Bool, true, List, length, take, slice_index, slice_index_or}
 use Rattle.std.specs.List.{list_any, flat_map}
 use Rattle.rel_model.specs.declared.Rel.{Rel}
@@ -7,7 +7,7 @@ use Rattle.rel_model.specs.Roots.{tree_height}
 use Rattle.rel_model.specs.Equations.{depth_of}
 use Rattle.rel_model.specs.Uses.{Use, uses_from, uses_of, same_use}
 
--- whether two uses are one
+-- whether two uses are equal
 abbrev pub same_key : ℕ × ℕ → ℕ × ℕ → Bool
 same_key a b = nat_eq a.0 b.0 && nat_eq a.1 b.1
 
@@ -19,17 +19,17 @@ has_key keys k n = list_any (same_key (k, n)) keys
 abbrev pub has_use : List Use → ℕ → ℕ → Bool
 has_use uses k n = list_any (same_use (record { depth = k; name = n })) uses
 
--- a name at a depth is 0, or its use is in the list
+-- a name is 0, or its use at a depth is in the list
 abbrev pub IsListed : List (ℕ × ℕ) → ℕ → ℕ → Type 0
 IsListed keys k n = (n ≡ 0) ⊎ (has_key keys k n ≡ true)
 
--- the names of a word over depth 0 are listed
+-- the names in a word above depth 0 are listed
 abbrev pub HasKids : List ℕ → List (ℕ × ℕ) → ℕ → ℕ → Type 0
 HasKids words keys zero n = Unit {0}
 HasKids words keys (suc k) n =
     IsListed keys k (first_of (slice_index words n)) × IsListed keys k (second_of (slice_index words n))
 
--- each use is that of a stored name, and stands behind those of the names of its word
+-- each use is that of a stored name, and comes after those of the names in its word
 abbrev pub IsClosed : List ℕ → List (ℕ × ℕ) → Type 0
 IsClosed words keys = (i : ℕ) (d : ℕ × ℕ) → i < length keys
     → (slice_index words (slice_index_or keys i d).1 ≢ 0)
@@ -39,19 +39,20 @@ IsClosed words keys = (i : ℕ) (d : ℕ × ℕ) → i < length keys
 abbrev pub KeepsKeys : List (ℕ × ℕ) → List (ℕ × ℕ) → Type 0
 KeepsKeys old new = (k n : ℕ) → has_key old k n ≡ true → has_key new k n ≡ true
 
--- what is listed now was listed, or is reached from a name at a depth
+-- what is listed now was listed before, or is reached from a name at a depth
 abbrev pub AddsFrom : List ℕ → ℕ → ℕ → List (ℕ × ℕ) → List (ℕ × ℕ) → Type 0
 AddsFrom words depth name old new = (k n : ℕ) → has_key new k n ≡ true
     → (has_key old k n ≡ true) ⊎ (has_use (uses_from words depth name) k n ≡ true)
 
--- what a walk from a name at a depth makes of a list: the name is listed, all else was or is reached from it
+-- how a walk from a name at a depth extends a list: the name is listed, and everything else was listed before or is
+-- reached from it
 pub record Walked (words : List ℕ) (depth name : ℕ) (old new : List (ℕ × ℕ)) : Type 0 where
   pub closed : IsClosed words new
   pub kept : KeepsKeys old new
   pub adds : AddsFrom words depth name old new
   pub listed : IsListed new depth name
 
--- what the walks from the names of its word make of it
+-- how the walks from the names in its word extend it
 pub record WalkedKids (words : List ℕ) (depth name : ℕ) (old new : List (ℕ × ℕ)) : Type 0 where
   pub closed : IsClosed words new
   pub kept : KeepsKeys old new

@@ -10,7 +10,7 @@ use pair_table::{LEAST_BITS, MEMO_SLOTS, MOST_BITS};
 use rel_model::Rel;
 use std::alloc::Global;
 
-/// Why relations are not moved into fresh words.
+/// Why relations are not moved into fresh words. 16 bytes.
 #[derive(Clone, Copy, Debug, PartialEq, Eq)]
 pub enum CompactRefused {
     /// The relations reach more uses than a table has room for.
@@ -19,7 +19,7 @@ pub enum CompactRefused {
     NoMemory,
 }
 
-/// How many bits a number of node words has, a power of 2.
+/// The binary logarithm of a number of node words, which is a power of 2.
 fn bits_of(size: usize) -> u32
     requires { (bits : ℕ) × (least_bits ≤ bits) × (bits ≤ most_bits) × (size ≡ 2 ^ bits) }
     ensures power { 2 ^ result ≡ size }
@@ -42,9 +42,9 @@ fn power_of_two(bits: u32) -> usize
     1 << bits
 }
 
-/// The relations in fresh words of a table of the same size, which store exactly the nodes that they reach. Refuses
-/// where they reach more uses, each a level and a node, than the table has room for: one new node for each use is
-/// always enough (Cheney, for the copy of what is reached).
+/// The relations in fresh words of a table of the same size, which store exactly the nodes that they reach. Refused if
+/// they reach more uses, each a level and a node, than the table has room for: one new node for each use is always
+/// enough. (Cheney's copying of what is reachable.)
 pub fn compact(
     alloc: Global,
     words: &[u64],

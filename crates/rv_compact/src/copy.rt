@@ -1,4 +1,4 @@
-//! The nodes of listed uses, as copies in other words.
+//! The nodes of listed uses, copied into other words.
 ghost use Rattle.std.specs.Prelude.{◌≡◌, ◌≢◌, ◌<◌, ◌≤◌, ◌^◌, ◌+◌, ◌%◌, length, take, replicate, slice_index, IfOk, IsTrue};
 ghost use Rattle.rel_model.specs.Words.{IsDistinct, most_bits};
 ghost use Rattle.rv_compact.specs.Walks.{IsClosed, IsListed, HasKids, HasRoots};
@@ -11,7 +11,7 @@ use indexmap::IndexSet;
 use rel_model::{NoMemory, Rel};
 use std::alloc::Global;
 
-/// The new name of a name at a depth, whose use is among the first, which have their new names.
+/// The new name of a name at a depth, whose use must be among the first ones, which already have new names.
 fn new_name(uses: &IndexSet<Use>, names: &[u32], depth: u8, name: u32) -> u32
     requires { IsListed (take (length names.now) uses.now.keys) depth name }
     ensures { IsNamed uses.now.keys names.now depth name result }

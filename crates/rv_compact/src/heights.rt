@@ -18,7 +18,7 @@ fn side_of(height: u8) -> u32
     1u32 << height
 }
 
-/// The least height whose side is at least a size.
+/// The least height whose side is at least this size.
 fn height_of_size(size: u32) -> u8
     ensures value { result ≡ height_of size }
     ensures limit { result ≤ size_height }
@@ -32,7 +32,7 @@ fn height_of_size(size: u32) -> u8
     height
 }
 
-/// The height of the tree of a relation of these sizes.
+/// The height of the tree of a relation with these sizes.
 #[tactic(auto, unfolding(rel_model::specs::Roots::height_over, rel_model::specs::Trees::bottom_height))]
 fn height_of_tree(rows: u32, cols: u32) -> u8
     ensures value { result ≡ tree_height rows cols }
@@ -42,7 +42,7 @@ fn height_of_tree(rows: u32, cols: u32) -> u8
     BOTTOM_HEIGHT.max(height_of_size(rows).max(height_of_size(cols)))
 }
 
-/// How many pairings the root of a relation stands above the blocks.
+/// How many pairings the root of a relation is above the blocks.
 pub(crate) fn depth_of_root(rel: Rel) -> u8
     ensures { result ≡ root_depth rel }
 {

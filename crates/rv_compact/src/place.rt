@@ -1,11 +1,11 @@
-//! A word in its place: the first from its home on that holds it or is vacant.
+//! Placing a word: at the first place from its home on that holds it or is vacant.
 ghost use Rattle.std.specs.Prelude.{◌≡◌, ◌≢◌, ◌<◌, ◌≤◌, ◌^◌, ◌+◌, ◌%◌, length};
 ghost use Rattle.rel_model.specs.Words.{IsSound, home_sum, most_bits, stored_count};
 ghost use Rattle.rv_compact.specs.Copies.{Places};
 
 use pair_table::home_of;
 
-/// The place that follows, of `count` places in a ring.
+/// The next of `count` places in a ring.
 fn next(place: usize, count: usize) -> usize
     requires { place < count }
     ensures { result ≡ (place + 1) % count }
@@ -13,7 +13,7 @@ fn next(place: usize, count: usize) -> usize
     if place + 1 == count { 0 } else { place + 1 }
 }
 
-/// The name of a word, which is placed where it stands nowhere yet. A place is vacant.
+/// The name of a word, which is placed if it stands nowhere yet. There must be a vacant place.
 pub(crate) fn place_word(nodes: &mut [u64], bits: u32, word: u64) -> u32
     requires sound { IsSound nodes.old }
     requires size { length nodes.old ≡ 2 ^ bits }

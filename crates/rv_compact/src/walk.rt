@@ -1,4 +1,4 @@
-//! The walk over the uses that relations reach, each listed once, behind those of the names of its word.
+//! The walk over the uses that relations reach. Each is listed once, after those of the names in its word.
 ghost use Rattle.std.specs.Prelude.{◌≡◌, ◌≢◌, ◌<◌, ◌/◌, ◌%◌, ◌^◌, true, length, slice_index, IfOk, OnOk};
 ghost use Rattle.rel_model.specs.Trees.{stands, first_of, second_of};
 ghost use Rattle.rv_compact.specs.Compacted.{AllStand};
@@ -12,7 +12,7 @@ use std::alloc::Global;
 /// A use of a node: a depth above the blocks, and a name.
 pub(crate) type Use = (u8, u32);
 
-/// Both names of a word.
+/// The two names in a word.
 pub(crate) fn kids(word: u64) -> (u32, u32)
     ensures first { result.0 ≡ first_of word }
     ensures second { result.1 ≡ second_of word }
@@ -38,7 +38,7 @@ fn walk(words: &[u64], depth: u8, name: u32, found: &mut IndexSet<Use>) -> Resul
     Ok(())
 }
 
-/// The same for both names of a word over depth 0.
+/// The same for both names in a word above depth 0.
 #[cycle(walk)]
 fn walk_kids(words: &[u64], depth: u8, name: u32, found: &mut IndexSet<Use>) -> Result<(), NoMemory>
     requires standing { stands words.now depth name ≡ true }

@@ -13,16 +13,16 @@ use Rattle.rv_ends.specs.declared.given.Given.{Given}
 use Rattle.rv_ends.specs.declared.given.Halt.{Halt}
 
 -- ---- limits
--- the most bytes of a relation file
+-- the greatest length of a relation file, in bytes
 abbrev pub relation_limit : ℕ
 relation_limit = 8388638
 
--- the most bytes of the file that a FILE word names
+-- the greatest length of the file that a FILE word names, in bytes
 unfoldable pub limit_of : Word → ℕ
 limit_of word = cond (is_relation_word word) relation_limit script_limit
 
 -- ---- files
--- the FILE words of all parts, in the order in which they stand; none where the words are outside the set
+-- the FILE words of all parts, in the order in which they occur; none if the words are outside the accepted set
 abbrev pub file_words : List Word → List Word
 file_words words = unwrap_or (option_map (λ said. said.files) (said_by words)) []
 
@@ -45,30 +45,30 @@ AreWithin files = AllByRecursion (λ word. (bytes : List ℕ) × IsTaken files w
 abbrev pub names_of : List RelationFile → List Word
 names_of = map (λ file. file.name)
 
--- their bytes
+-- the bytes of relation files
 abbrev pub bytes_of : List RelationFile → List (List ℕ)
 bytes_of = map (λ file. file.bytes)
 
--- the files of FILE words: the scripts in their order, and the relation files in theirs, by their names
+-- the files of FILE words: the scripts in order, and the relation files in order, with their names
 pub record Gives (files : Option Files) (words : List Word) (scripts : List (List ℕ))
     (loaded : List RelationFile) : Type 0 where
   pub scripts_are : AreTaken files (scripts_in words) scripts
   pub named : names_of loaded ≡ relations_in words
   pub loaded_are : AreTaken files (relations_in words) (bytes_of loaded)
 
--- the same of what was read
+-- the same for what was read
 abbrev pub GivesFiles : Option Files → List Word → Given → Type 0
 GivesFiles files words given = Gives files words (map (λ v. v.items) given.scripts.items)
     (map file_of given.files.items)
 
--- a file joined what was read, as a script or as a relation file
+-- a file was added to what was read, as a script or as a relation file
 pub record Adds (name : Word) (bytes : List ℕ) (old new : Given) : Type 0 where
   pub scripts : map (λ v. v.items) new.scripts.items ≡ map (λ v. v.items) old.scripts.items
       ++ cond (is_relation_word name) [] (bytes ∷ [])
   pub files : map file_of new.files.items ≡ map file_of old.files.items
       ++ cond (is_relation_word name) (record { name = name; bytes = bytes } ∷ []) []
 
--- a file was not read: those before it were, and the shelf or the reader refused it
+-- a file was not read: those before it were, and the shelf or the reader refused this one
 pub record IsHalted (old new : Told) (words : List Word) (halt : Halt) : Type 0 where
   pub before : List Word
   pub after : List Word
@@ -77,17 +77,17 @@ pub record IsHalted (old new : Told) (words : List Word) (halt : Halt) : Type 0 
   pub refused : RefusesFile old new halt.name.now (limit_of halt.name.now) halt.error
 
 -- ---- inputs
--- the scripts of a run: those that are generated from its number, or else those of its FILE words
+-- the scripts of a run: those generated from its number, or those of its FILE words
 abbrev pub AreScripts : Option ℕ → Option Files → List Word → List (List ℕ) → Type 0
 AreScripts (Some number) files words scripts = scripts ≡ generated number
 AreScripts None files words scripts = AreTaken files words scripts
 
--- for each batch of a run of so many scripts the number of scripts up to its end: generated scripts are one batch, and
--- else each part of the words is a batch
+-- for each batch of a run with this many scripts, the number of scripts up to its end: generated scripts are one batch,
+-- and otherwise each part of the words is a batch
 abbrev pub ends_of : Said → ℕ → List ℕ
 ends_of said count = cond (is_some said.number) (count ∷ []) said.ends
 
--- the input of a run: what its scripts are read as, their batches, the relation files of the start, and the options
+-- the input of a run: its scripts as read, their batches, the relation files given at the start, and the options
 pub record IsInput (said : Said) (files : Option Files) (input : Input) : Type 0 where
   pub scripts : List (List ℕ)
   pub given : AreScripts said.number files said.scripts scripts

@@ -13,17 +13,17 @@ use run_model::files::Loaded;
 use rv_io::{ReadError, Shelf, read_all};
 use std::alloc::Global;
 
-/// The most bytes of a relation file.
+/// The greatest length of a relation file, in bytes.
 const RELATION_LIMIT: u64 = 8_388_638;
 
-/// The scripts and the relation files of a run.
+/// The scripts and the relation files of a run. On the heap.
 #[derive(Drop)]
 pub struct Given {
     pub scripts: Vec<Vec<u8>>,
     pub files: Vec<Loaded>,
 }
 
-/// A FILE word whose file was not read, and why.
+/// A FILE word whose file was not read, and why. 32 bytes.
 #[derive(Clone, Copy, Debug)]
 pub struct Halt<'a> {
     pub name: &'a str,
@@ -38,7 +38,7 @@ fn is_relation_word(word: &[u8]) -> bool
     &word[start..] == b".k2".as_slice()
 }
 
-/// The most bytes of the file that a FILE word names.
+/// The greatest length of the file that a FILE word names, in bytes.
 #[tactic(auto, unfolding(crate::specs::Given::limit_of))]
 fn limit_of(word: &str) -> u64
     ensures { result ≡ limit_of word.now }
@@ -68,7 +68,7 @@ fn add_file(alloc: Global, given: &mut Given, name: &str, bytes: Vec<u8>) -> Res
     }
 }
 
-/// Reads the file of a FILE word, within its limit, and adds it.
+/// Reads the file that a FILE word names, within its limit, and adds it.
 fn read_file<S: Shelf>(
     alloc: Global,
     shelf: &mut S,
@@ -88,7 +88,7 @@ fn read_file<S: Shelf>(
     }
 }
 
-/// Reads the files of FILE words, in their order. The first that is not read ends it.
+/// Reads the files of FILE words, in order, up to the first that cannot be read.
 pub fn read_files<'a, S: Shelf>(
     alloc: Global,
     shelf: &mut S,
@@ -109,7 +109,7 @@ pub fn read_files<'a, S: Shelf>(
     }
 }
 
-/// Reads the files of FILE words and adds each to the others, of which there are none.
+/// Reads the files of FILE words and adds each to the others, of which there are none yet.
 fn read_each<'a, S: Shelf>(
     alloc: Global,
     shelf: &mut S,

@@ -1,4 +1,4 @@
-//! The ends of a run: the files that it is given, and the page, the lines and the files that it leaves.
+//! The ends of a run: the files that it is given, and the page, the lines and the files that it leaves behind.
 #![tactic(auto)]
 
 mod given;

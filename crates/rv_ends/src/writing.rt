@@ -23,7 +23,7 @@ fn put_file<S: Shelf>(shelf: &mut S, save: &Save) -> Result<(), Failed>
     }
 }
 
-/// Puts files in their order. The first that is not put ends it.
+/// Puts files, in order, up to the first that cannot be put.
 fn put_files<S: Shelf>(shelf: &mut S, saves: &[Save]) -> Result<(), Failed>
     requires { All (λ save. IsUtf8 save.name) saves.now }
     ensures put { OnOk result (HasPut (S.told shelf.old).files (S.told shelf.new).files (saved_all saves.now)) }
@@ -40,8 +40,8 @@ fn put_files<S: Shelf>(shelf: &mut S, saves: &[Save]) -> Result<(), Failed>
     Ok(())
 }
 
-/// Writes a page and then puts the files, and gives the status: 4 where a write or a put failed, and else the one
-/// that is passed.
+/// Writes a page and then puts the files, and gives the status: 4 if a write or a put failed, and otherwise the one
+/// passed in.
 pub fn tell<S: Shelf, K: Sink>(
     shelf: &mut S,
     sink: &mut K,

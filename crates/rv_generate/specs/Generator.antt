@@ -1,4 +1,4 @@
--- The scripts that are generated from a number: random graphs, with questions on their closures and quotients.
+-- The scripts generated from a number: random graphs, with questions on their closures and quotients.
 use Rattle.std.specs.Prelude.{ℕ, zero, suc, ◌+◌, ◌*◌, ◌/◌, ◌%◌, ◌^◌, List, [], ◌∷◌, ◌++◌, map, codes}
 use Rattle.std.specs.List.{range_with_len}
 use Rattle.std.specs.Fmt.{decimal}
@@ -6,16 +6,16 @@ use Rattle.std.specs.declared.vec.Vec.{Vec}
 use Rattle.std.specs.declared.alloc.Global.{Global}
 
 -- ---- numbers that are drawn
--- the state behind this one, by the linear congruence
+-- the state after this one, by the linear congruence
 abbrev pub step : ℕ → ℕ
 step x = (1664525 * x + 1013904223) % 2 ^ 32
 
--- the state behind so many draws from state x on
+-- the state after k draws from state x on
 unfoldable pub after : ℕ → ℕ → ℕ
 after x zero = x
 after x (suc k) = step (after x k)
 
--- the number, from 1 to 64, that is drawn when a state is reached
+-- the number, from 1 to 64, that is drawn on reaching a state
 abbrev pub value_of : ℕ → ℕ
 value_of x = 1 + (x / 65536) % 64
 
@@ -48,17 +48,17 @@ counts_text s =
     codes " COUNT C" ++ decimal s ++ codes " & C" ++ decimal s
     ++ codes "^. COUNT syq(C" ++ decimal s ++ codes ",C" ++ decimal s ++ codes ")."
 
--- script s, drawn from state x on: a graph of 64 vertices by rows, and the questions on it; one line
+-- script s, drawn from state x on: a graph of 64 vertices by rows, and the questions on it, in one line
 unfoldable pub script_text : ℕ → ℕ → List ℕ
 script_text x s =
     codes "REL G" ++ decimal s ++ codes " 64 64 {" ++ rows_text x 63 ++ codes "}." ++ closure_text s ++ counts_text s
     ++ 10 ∷ []
 
--- the scripts 1 to n, drawn from state x on: each has 128 draws, and they go on from script to script
+-- the scripts 1 to n, drawn from state x on: each takes 128 draws, and the draws continue from script to script
 abbrev pub scripts_from : ℕ → ℕ → List (List ℕ)
 scripts_from x n = map (λ k. script_text (after x (128 * k)) (k + 1)) (range_with_len 0 n)
 
--- the eight scripts of a number
+-- the eight scripts generated from a number
 unfoldable pub generated : ℕ → List (List ℕ)
 generated number = scripts_from (number % 2 ^ 32) 8
 

@@ -1,4 +1,4 @@
-//! Numbers that are drawn one after another.
+//! Pseudo-random numbers, drawn one after another.
 ghost use Rattle.std.specs.Prelude.{◌≡◌, ◌%◌, ◌^◌};
 ghost use Rattle.rv_generate.specs.Generator.{step, value_of};
 
@@ -12,7 +12,7 @@ pub(crate) struct Draws {
 }
 
 impl Draws {
-    /// Begins with a number modulo 2^32.
+    /// Starts from a number modulo 2^32.
     pub(crate) fn new(number: u64) -> Draws
         ensures { result.state ≡ number % 2 ^ 32 }
     {

@@ -1,4 +1,4 @@
-//! Generated scripts: from a number, eight scripts on random graphs.
+//! Generated scripts: eight scripts on random graphs, from a number.
 #![tactic(auto)]
 
 pub(crate) mod draws;

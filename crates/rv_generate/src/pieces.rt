@@ -1,11 +1,11 @@
-//! The parts of which scripts are made: each call adds its text behind what is there.
+//! The pieces from which scripts are made: each call appends its text.
 ghost use Rattle.std.specs.Prelude.{◌≡◌, ◌++◌, OnOk};
 ghost use Rattle.std.specs.Fmt.{decimal};
 ghost use Rattle.rv_generate.specs.Generator.{row_text, closure_text, counts_text};
 
 use std::alloc::{AllocError, Global};
 
-/// Adds a text and then a number in decimal.
+/// Appends a text and then a number in decimal.
 pub(crate) fn push_with_number(
     alloc: Global,
     out: &mut Vec<u8>,
@@ -19,7 +19,7 @@ pub(crate) fn push_with_number(
     out.extend_from_slice(digits.as_bytes())
 }
 
-/// Adds `ROW:A,B`.
+/// Appends `ROW:A,B`.
 #[tactic(auto, unfolding(crate::specs::Generator::row_text))]
 pub(crate) fn push_row(
     alloc: Global,
@@ -36,7 +36,7 @@ pub(crate) fn push_row(
     Ok(())
 }
 
-/// Adds the closure of graph `s`, and the count of its pairs.
+/// Appends the closure of graph `s`, and the count of its pairs.
 #[tactic(auto, unfolding(crate::specs::Generator::closure_text))]
 pub(crate) fn push_closure(alloc: Global, out: &mut Vec<u8>, s: u32) -> Result<(), AllocError>
     ensures { OnOk result (out.new.items ≡ out.old.items ++ closure_text s) }
@@ -48,7 +48,7 @@ pub(crate) fn push_closure(alloc: Global, out: &mut Vec<u8>, s: u32) -> Result<(
     Ok(())
 }
 
-/// Adds the counts of what reaches each other, and of the closure's symmetric quotient.
+/// Appends the count of the pairs that reach each other, and that of the closure's symmetric quotient.
 #[tactic(auto, unfolding(crate::specs::Generator::counts_text))]
 pub(crate) fn push_counts(alloc: Global, out: &mut Vec<u8>, s: u32) -> Result<(), AllocError>
     ensures { OnOk result (out.new.items ≡ out.old.items ++ counts_text s) }

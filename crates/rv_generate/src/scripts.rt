@@ -6,7 +6,7 @@ use crate::draws::Draws;
 use crate::pieces::{push_closure, push_counts, push_row, push_with_number};
 use std::alloc::{AllocError, AllocFailed, Global};
 
-/// There was no memory left.
+/// Memory ran out. No bytes.
 #[derive(Clone, Copy, Debug, PartialEq, Eq)]
 pub struct NoMemory;
 
@@ -28,11 +28,11 @@ const SCRIPTS: u32 = 8;
 /// How many vertices each graph has.
 const VERTICES: u32 = 64;
 
-/// Eight scripts, each a graph of 64 vertices with two edges drawn for each vertex, and questions on it:
-/// its transitive closure, which vertices reach each other, and which are reached by the same.
+/// Eight scripts. Each has a graph of 64 vertices with two edges drawn for each vertex, and questions on it: its
+/// transitive closure, which vertices reach each other, and which are reached by the same vertices.
 ///
-/// Equal numbers give equal scripts, and of a number its last 32 bits count. No script uses a name of
-/// another, so that sessions which run them all at once answer the same in each order.
+/// Equal numbers give equal scripts, and only the last 32 bits of a number count. No script uses a name of another, so
+/// sessions that run all of them at once answer the same in any order. Refused only if memory runs out.
 pub fn generate(alloc: Global, number: u64) -> Result<Vec<Vec<u8>>, NoMemory>
     ensures { IfOk result (λ v. texts_of v.items ≡ generated number) }
 {
@@ -61,7 +61,7 @@ fn script_text(alloc: Global, draws: &mut Draws, s: u32) -> Result<Vec<u8>, Allo
     Ok(out)
 }
 
-/// Adds the rows of a graph, joined by `; `.
+/// Appends the rows of a graph, joined by `; `.
 fn push_rows(alloc: Global, out: &mut Vec<u8>, draws: &mut Draws) -> Result<(), AllocError>
     ensures text { OnOk result (out.new.items ≡ out.old.items ++ rows_text draws.old.state 63) }
     ensures draws { OnOk result (draws.new.state ≡ after draws.old.state 128) }
@@ -74,7 +74,7 @@ fn push_rows(alloc: Global, out: &mut Vec<u8>, draws: &mut Draws) -> Result<(), 
     Ok(())
 }
 
-/// Adds a row with the next two draws.
+/// Appends a row with the next two draws.
 fn push_drawn_row(
     alloc: Global,
     out: &mut Vec<u8>,

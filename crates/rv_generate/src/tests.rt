@@ -42,7 +42,7 @@ fn draws_go_on_from_script_to_script_and_the_last_32_bits_count(
     assert!(rt; scripts.len() == 8 && later.len() == 8);
     let second = &scripts[1].as_slice();
     let first = &later[0].as_slice();
-    // The names differ, `G2` and `G1`, and behind them the rows are one.
+    // The names `G2` and `G1` differ; after them, the rows are the same.
     assert!(rt; second.len() > 600 && first.len() > 600);
     assert_eq!(rt; &second[6..600], &first[6..600]);
     let same = generate(alloc, 5 + (1 << 32))?;

@@ -1,15 +1,15 @@
--- What a shelf and a sink that never fail keep, in room that was taken before, and what they tell of it.
+-- What a shelf and a sink that never fail keep in room reserved before, and what they report of it.
 use Rattle.std.specs.Prelude.{◌≡◌, ◌≤◌, ◌+◌, ◌-◌, ℕ, Bool, true, cond, nat_lt, List, [], ◌∷◌, length, take, drop, nat_eq, max, Option, Some, None}
 use Rattle.std.specs.List.{AllByRecursion}
 use Rattle.rv_io.specs.Outside.{Files}
 use Rattle.rv_io.specs.declared.kept.Place.{Place}
 use lib.Pointwise.{pointwise}
 
--- what is told: nothing where something was lost
+-- what is reported: nothing if something was lost
 abbrev pub told_unless : {T : Type 0} → Bool → T → Option T
 told_unless lost told = cond lost None (Some told)
 
--- whether something is lost behind a call: something was lost before, or what it takes is more than was left
+-- whether something is lost after a call: something was lost before, or the call takes more room than was left
 abbrev pub lost_after : Bool → ℕ → ℕ → Bool
 lost_after lost left taken = cond lost true (nat_lt left taken)
 
@@ -21,7 +21,7 @@ between bytes from to = take (to - from) (drop from bytes)
 abbrev pub name_in : List ℕ → Place → List ℕ
 name_in bytes place = between bytes place.name place.content
 
--- its content
+-- the content of a kept file
 abbrev pub content_in : List ℕ → Place → List ℕ
 content_in bytes place = between bytes place.content place.end
 
@@ -29,24 +29,24 @@ content_in bytes place = between bytes place.content place.end
 abbrev pub is_named : List ℕ → List ℕ → Place → Bool
 is_named bytes name place = pointwise nat_eq (name_in bytes place) name
 
--- the content of the first kept file of this name
+-- the content of the first kept file of this name, if there is one
 abbrev pub kept_at : List ℕ → List Place → List ℕ → Option (List ℕ)
 kept_at bytes [] name = None
 kept_at bytes (place ∷ places) name = cond (is_named bytes name place) (Some (content_in bytes place)) (kept_at bytes places name)
 
--- a kept file lies within the bytes, its content behind its name
+-- a kept file lies within the bytes, its content after its name
 abbrev pub IsWithin : List ℕ → Place → Type 0
 IsWithin bytes place = (place.name ≤ place.content) × (place.content ≤ place.end) × (place.end ≤ length bytes)
 
--- each of them does
+-- each kept file lies within the bytes
 abbrev pub AreWithin : List ℕ → List Place → Type 0
 AreWithin bytes = AllByRecursion (IsWithin bytes)
 
--- these files with another one before them
+-- these files with another one in front
 abbrev pub with_first : List ℕ → List ℕ → Files → Files
 with_first name content files other = cond (pointwise nat_eq name other) (Some content) (files other)
 
--- how much room a put takes: its name and its bytes, and one where there are neither
+-- how much room a put takes: its name and its bytes, and one if both are empty
 abbrev pub cost_of : List ℕ → List ℕ → ℕ
 cost_of name bytes = max 1 (length name + length bytes)
 

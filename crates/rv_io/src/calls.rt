@@ -1,9 +1,9 @@
-//! The calls of a shelf or a sink in memory, of which chosen ones fail.
+//! The calls of a shelf or a sink in memory, some of which are made to fail.
 ghost use Rattle.std.specs.Prelude.{◌≡◌, ◌≤◌};
 ghost use Rattle.rv_io.specs.Outside.{Rose};
 ghost use Rattle.rv_io.specs.Memory.{one_more, is_listed};
 
-/// Which calls fail, by their numbers from 0, how many there were, and how many of them failed.
+/// Which calls fail, by their numbers from 0; how many calls there were, and how many failed.
 #[derive(Drop)]
 pub(crate) struct Calls {
     failing: Vec<u64>,
@@ -12,7 +12,7 @@ pub(crate) struct Calls {
 }
 
 impl Calls {
-    /// No call was made yet.
+    /// No call has been made yet.
     pub(crate) fn new(failing: Vec<u64>) -> Calls
         ensures { result ≡ record { failing = failing; count = 0; faults = 0 } }
     {
@@ -30,7 +30,7 @@ impl Calls {
         self.faults
     }
 
-    /// Counts this call, and answers whether it is one of those that fail.
+    /// Counts this call, and says whether it is one of those that fail.
     pub(crate) fn begins_to_fail(&mut self) -> bool
         ensures listed { result ≡ is_listed self.old.failing.items self.old.count }
         ensures after { self.new ≡ record self.old { count = one_more self.old.count } }

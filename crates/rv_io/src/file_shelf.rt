@@ -1,5 +1,5 @@
-//! Real files. They tell no content: what is left of a file is told only where the runtime's files tell it. A file
-//! is replaced whole or not at all.
+//! Real files. As a shelf it reports no contents, and what is left of a file only if the runtime's own files report it.
+//! A file is replaced as a whole or not at all.
 ghost use Rattle.std.specs.Prelude.{◌≡◌, ◌↔◌, [], None, Some, true, IsSome, IsOk, OnOk};
 ghost use Rattle.rv_io.specs.Outside.{Leaves, HasCause};
 ghost use Rattle.rv_io.specs.Files.{left_in};
@@ -11,10 +11,10 @@ use std::io::{BufReader, ErrorKind, Read, Write};
 use std::rt::Files;
 use std::{fs, io};
 
-/// How many names are tried for the file beside the one that is put.
+/// How many names are tried for the new file next to the one that is replaced.
 const TRIES: u32 = 1000;
 
-/// The files that a runtime opens, each behind std's buffered reader.
+/// The files of a runtime, each read through std's buffered reader.
 #[derive(Drop)]
 pub struct FileShelf<R: Files + Drop> {
     rt: R,
@@ -25,7 +25,7 @@ pub struct FileShelf<R: Files + Drop> {
 }
 
 impl<R: Files + Drop> FileShelf<R> {
-    /// A shelf of the files of this runtime, of which none is picked.
+    /// A shelf of the files of this runtime, none of which is picked.
     pub fn new(alloc: Global, rt: R) -> FileShelf<R>
         ensures { ⟦<FileShelf<R> as Shelf>⟧.told result
             ≡ record {
@@ -56,7 +56,7 @@ impl<R: Files + Drop> Shelf for FileShelf<R> {
     } };
 
     fn pick(&mut self, name: &str) -> Result<(), Failed>
-        // A file is open exactly where the pick succeeded.
+        // A file is open if and only if the pick succeeded.
         ensures open { IsSome self.new.file ↔ IsOk result }
         ensures leaves { Leaves (⟦<FileShelf<R> as Shelf>⟧.told self.old)
             (⟦<FileShelf<R> as Shelf>⟧.told self.new) }
@@ -94,8 +94,8 @@ impl<R: Files + Drop> Shelf for FileShelf<R> {
     }
 }
 
-/// Replaces the file of this name: the bytes are written to a new file beside it, which is then
-/// renamed over it. Where that fails, the new file is removed.
+/// Replaces the file of this name: writes the bytes to a new file in the same folder, and then renames that over it. If
+/// this fails, the new file is removed.
 fn replace<R: Files>(rt: &R, alloc: Global, name: &str, bytes: &[u8]) -> io::Result<()> {
     let (beside, file) = file_beside(rt, alloc, name)?;
     let replaced = write_whole(file, bytes).and_then(|()| fs::rename(rt, beside.as_str(), name));
@@ -105,8 +105,8 @@ fn replace<R: Files>(rt: &R, alloc: Global, name: &str, bytes: &[u8]) -> io::Res
     replaced
 }
 
-/// Makes a new file in the folder of the file of this name. Its name is short, so that it fits
-/// wherever `name` fits, and no other file has it.
+/// Makes a new file in the folder of the file of this name. Its name is short, so that it fits wherever `name` fits,
+/// and no other file has it.
 fn file_beside<R: Files>(rt: &R, alloc: Global, name: &str) -> io::Result<(String, R::File)> {
     'numbers: for number in 0..TRIES {
         let beside = name_beside(alloc, name, number)?;
@@ -117,7 +117,7 @@ fn file_beside<R: Files>(rt: &R, alloc: Global, name: &str) -> io::Result<(Strin
     Err(io::Error::from(ErrorKind::AlreadyExists))
 }
 
-/// The name of this number in the folder of the file of this name.
+/// The name with this number in the folder of the file of this name.
 fn name_beside(alloc: Global, name: &str, number: u32) -> Result<String, AllocError> {
     match name.rsplit_once('/') {
         Some((folder, _)) => format!(in alloc; "{folder}/put-{number}.part"),
@@ -125,7 +125,7 @@ fn name_beside(alloc: Global, name: &str, number: u32) -> Result<String, AllocEr
     }
 }
 
-/// Makes a new file of this name, where no other file has it.
+/// Makes a new file of this name, if no other file has it.
 fn create_new<R: Files>(rt: &R, name: &str) -> io::Result<Option<R::File>> {
     match File::create_new(rt, name) {
         Ok(file) => Ok(Some(file)),
@@ -134,7 +134,7 @@ fn create_new<R: Files>(rt: &R, name: &str) -> io::Result<Option<R::File>> {
     }
 }
 
-/// Writes all of `bytes` to a file, through to where it is kept.
+/// Writes all of `bytes` to a file, and flushes it to storage.
 fn write_whole<F: Write + OpenFile + Drop>(mut file: F, bytes: &[u8]) -> io::Result<()> {
     file.write_all(bytes)?;
     file.sync_all()

@@ -1,4 +1,4 @@
-//! Files one behind another in one row of bytes, of which the newest of a name counts.
+//! Files stored one after another in one row of bytes; the newest of a name counts.
 ghost use Rattle.std.specs.Prelude.{◌≡◌, ◌≤◌, ◌<◌, ◌+◌, ◌⊎◌, ℕ, List, length, Some, None, MatchOption, OnOk, OnErr, IfOk};
 ghost use Rattle.std.proofs.Props.{props};
 ghost use Rattle.std.specs.Vec.{vec_len, vec_capacity};
@@ -8,7 +8,7 @@ ghost use Rattle.rv_io.specs.Sure.{between, kept_at, is_named, IsWithin, AreWith
 
 use std::alloc::{AllocError, Global};
 
-/// Where a file lies: its name, then its content, up to the end.
+/// Where a file lies: its name, then its content, and where that ends. 24 bytes.
 #[derive(Clone, Copy)]
 pub(crate) struct Place {
     name: usize,
@@ -16,7 +16,7 @@ pub(crate) struct Place {
     end: usize,
 }
 
-/// Files, the newest first.
+/// Files, newest first. On the heap.
 #[derive(Drop)]
 pub(crate) struct Kept {
     places: Vec<Place>,
@@ -36,7 +36,7 @@ impl Kept {
         }
     }
 
-    /// Takes room for so many more files and for so many more bytes.
+    /// Reserves room for this many more files and this many more bytes.
     pub(crate) fn reserve(&mut self, room: usize) -> Result<(), AllocError>
         ensures places { self.new.places.items ≡ self.old.places.items }
         ensures bytes { self.new.bytes.items ≡ self.old.bytes.items }
@@ -47,7 +47,7 @@ impl Kept {
         self.bytes.reserve(room)
     }
 
-    /// Keeps a file before all others. Where there is no room the files stay.
+    /// Keeps a file in front of all others. Without room, the files stay as they are.
     pub(crate) fn add(&mut self, name: &str, content: &[u8]) -> Result<(), AllocError>
         ensures added { OnOk result ((other : List ℕ) → kept_at self.new.bytes.items self.new.places.items other
             ≡ with_first name.now content.now (kept_at self.old.bytes.items self.old.places.items) other) }
@@ -66,7 +66,7 @@ impl Kept {
         }
     }
 
-    /// Where the content of the newest file of this name lies.
+    /// Where the content of the newest file of this name lies, if there is one.
     pub(crate) fn find(&self, name: &str) -> Option<(usize, usize)>
         ensures { MatchOption result (kept_at self.now.bytes.items self.now.places.items name.now ≡ None)
             (λ r. (kept_at self.now.bytes.items self.now.places.items name.now
@@ -86,7 +86,7 @@ impl Kept {
     }
 }
 
-/// Puts a name and a content behind the bytes.
+/// Appends a name and a content to the bytes.
 #[tactic(auto, using(crate::proofs::Keeping::placed))]
 fn append(bytes: &mut Vec<u8>, name: &[u8], content: &[u8]) -> Result<Place, AllocError>
     ensures placed { IfOk result (IsPlaced name.now content.now bytes.new.items) }
@@ -106,7 +106,7 @@ fn append(bytes: &mut Vec<u8>, name: &[u8], content: &[u8]) -> Result<Place, All
     })
 }
 
-/// Where the content of the first file of this name lies.
+/// Where the content of the first file of this name lies, if there is one.
 fn find_in(bytes: &[u8], places: &[Place], name: &str) -> Option<(usize, usize)>
     requires { AreWithin bytes.now places.now }
     ensures { MatchOption result (kept_at bytes.now places.now name.now ≡ None)
@@ -131,7 +131,7 @@ fn is_named(bytes: &[u8], place: Place, name: &str) -> bool
     &bytes[place.name..place.content] == name.as_bytes()
 }
 
-/// Keeps files, the last of them first, so that the first of a name counts.
+/// Keeps files, last one first, so that the first of a name counts.
 pub(crate) fn keep_all(kept: &mut Kept, files: &[(String, Vec<u8>)]) -> Result<(), AllocError>
     requires { kept.old.places.items ≡ [] }
     ensures { OnOk result ((name : List ℕ) → kept_at kept.new.bytes.items kept.new.places.items name

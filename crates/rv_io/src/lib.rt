@@ -1,4 +1,4 @@
-//! The outside of the program: shelves of files, sinks that take bytes, and the calls that read and write them whole.
+//! The outside of the program: shelves of files, sinks that take bytes, and calls that read and write them as a whole.
 #![tactic(auto)]
 
 pub(crate) mod calls;

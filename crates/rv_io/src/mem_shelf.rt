@@ -1,4 +1,4 @@
-//! A shelf in memory, which tells everything, and of which chosen calls fail.
+//! A shelf in memory, which reports everything, and some of whose calls are made to fail.
 ghost use Rattle.std.specs.Prelude.{MatchOption, ◌≡◌, ◌≢◌, ◌<◌, ◌≤◌, ◌↔◌, ℕ, List, [], Option, Some, None, true, drop, length, position, IfOk, IsOk, IfSome, OnOk, OnErr, IsTrue};
 ghost use Rattle.std.specs.Io.{ReadsAtMost};
 ghost use Rattle.std.specs.Io.KnownBytes.{ReadConsumes};
@@ -9,7 +9,7 @@ use crate::calls::Calls;
 use crate::{Failed, NoMemory, Shelf};
 use std::alloc::{AllocError, Global};
 
-/// A shelf in memory. Each pick, each read and each put is a call, and the calls are numbered from 0.
+/// A shelf in memory. Each pick, each read and each put is a call, and calls are numbered from 0.
 #[derive(Drop)]
 pub struct MemShelf {
     alloc: Global,
@@ -22,8 +22,8 @@ pub struct MemShelf {
 }
 
 impl MemShelf {
-    /// A shelf with these files, of which the first of a name counts. The calls with the numbers
-    /// `failing` fail, and so does each call to which growth is refused. No memory is taken yet.
+    /// A shelf with these files; the first of a name counts. The calls with the numbers `failing` fail, and so does
+    /// each call that cannot get memory to grow. No memory is taken yet.
     pub fn new(
         alloc: Global,
         files: Vec<(String, Vec<u8>)>,
@@ -66,7 +66,7 @@ impl MemShelf {
     }
 }
 
-/// The bytes of the first file of this name.
+/// The bytes of the first file of this name, if there is one.
 fn find<'a>(files: &'a [(String, Vec<u8>)], name: &str) -> Option<&'a [u8]>
     ensures { MatchOption result (file_at files.now name.now ≡ None)
         (λ bytes. file_at files.now name.now ≡ Some bytes.now) }
@@ -79,15 +79,15 @@ fn find<'a>(files: &'a [(String, Vec<u8>)], name: &str) -> Option<&'a [u8]>
     None
 }
 
-/// The place of the first file of this name.
+/// The place of the first file of this name, if there is one.
 fn place_of(files: &[(String, Vec<u8>)], name: &str) -> Option<usize>
     ensures { result ≡ position (has_name name.now) files.now }
 {
     files.iter().position(|file| file.0.as_str() == name)
 }
 
-/// Gives the file of this name these bytes: the first of that name, or a new one behind all others.
-/// Where memory is refused all files stay.
+/// Gives the file of this name these bytes: the first of that name, or a new one after all others. If memory runs out,
+/// all files stay as they are.
 fn set_file(
     alloc: Global,
     files: &mut Vec<(String, Vec<u8>)>,
@@ -124,7 +124,7 @@ impl Shelf for MemShelf {
         ensures leaves { Leaves (⟦<MemShelf as Shelf>⟧.told self.old)
             (⟦<MemShelf as Shelf>⟧.told self.new) }
         ensures counted { IsCounted result self.old.calls self.new.calls }
-        // No memory is wanted of a file of no bytes.
+        // A file without bytes needs no memory.
         ensures alone { file_at self.old.files.items name.now ≡ Some []
             → OnErr result (IsTrue (is_listed self.old.calls.failing.items self.old.calls.count)) }
     {
@@ -172,7 +172,7 @@ impl Shelf for MemShelf {
             bytes.now) }
         ensures others { KeepsOthers (⟦<MemShelf as Shelf>⟧.told self.old).files
             (⟦<MemShelf as Shelf>⟧.told self.new).files name.now }
-        // A file in memory is put whole or not at all.
+        // A file in memory is put as a whole or not at all.
         ensures stay { OnErr result ((⟦<MemShelf as Shelf>⟧.told self.new).files
             ≡ (⟦<MemShelf as Shelf>⟧.told self.old).files) }
         ensures reading { KeepsReading (⟦<MemShelf as Shelf>⟧.told self.old)

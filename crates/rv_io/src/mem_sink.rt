@@ -1,4 +1,4 @@
-//! A sink in memory, which tells everything, and of which chosen calls fail.
+//! A sink in memory, which reports everything, and some of whose calls are made to fail.
 ghost use Rattle.std.specs.Prelude.{◌≡◌, ◌≤◌, [], Some, length, IfOk, IsOk};
 ghost use Rattle.std.specs.Io.KnownBytes.{WriteAppends};
 ghost use Rattle.rv_io.specs.Memory.{IsCounted};
@@ -7,7 +7,7 @@ use crate::calls::Calls;
 use crate::{Failed, NoMemory, Sink};
 use std::alloc::Global;
 
-/// A sink in memory. Each write is a call, and the calls are numbered from 0.
+/// A sink in memory. Each write is a call, and calls are numbered from 0.
 #[derive(Drop)]
 pub struct MemSink {
     written: Vec<u8>,
@@ -15,8 +15,8 @@ pub struct MemSink {
 }
 
 impl MemSink {
-    /// An empty sink. The calls with the numbers `failing` fail, and so does each call to which
-    /// growth is refused. No memory is taken yet.
+    /// An empty sink. The calls with the numbers `failing` fail, and so does each call that cannot get memory to grow.
+    /// No memory is taken yet.
     pub fn new(alloc: Global, failing: Vec<u64>) -> Result<MemSink, NoMemory>
         ensures made { IsOk result }
         ensures written { IfOk result (λ s. ⟦<MemSink as Sink>⟧.written s ≡ Some []) }
@@ -30,7 +30,7 @@ impl MemSink {
         })
     }
 
-    /// The bytes that were taken so far.
+    /// The bytes taken so far.
     pub fn written(&self) -> &[u8]
         ensures { ⟦<MemSink as Sink>⟧.written self.now ≡ Some result.now }
     {

@@ -1,4 +1,4 @@
-//! Files read whole.
+//! Reading files as a whole.
 ghost use Rattle.std.specs.Prelude.{◌+◌, ◌≤◌, IsTrue, length, IfOk, OnOk, IfErr};
 ghost use Rattle.rv_io.specs.Outside.{Leaves, IsFile};
 ghost use Rattle.rv_io.specs.Reading.{RefusesFile, CountsFault, StopsIn, ReadsOn, ReadsToEnd, RefusesMore};
@@ -7,7 +7,7 @@ use crate::{Failed, Shelf};
 use std::alloc::Global;
 use thiserror::Error;
 
-/// Why a file was not read.
+/// Why a file was not read. 16 bytes.
 #[derive(Clone, Copy, Debug, PartialEq, Eq, Drop, Error)]
 pub enum ReadError {
     /// The shelf failed.
@@ -16,18 +16,18 @@ pub enum ReadError {
     /// The file has more bytes than the limit.
     #[error("TooLong")]
     TooLong { limit: u64 },
-    /// There was no memory left.
+    /// Memory ran out.
     #[error("NoMemory")]
     NoMemory,
 }
 
-/// How many bytes one read asks for at most.
+/// How many bytes a single read asks for at most.
 const PIECE: usize = 1024;
 
 /// Reads the whole file of this name, of at most `limit` bytes.
 ///
-/// `Fault` comes exactly where the shelf's faults rose, and `TooLong` exactly where more than `limit`
-/// bytes came before the end. At most `limit + 1` bytes are ever taken.
+/// It answers `Fault` if and only if the shelf's faults rose, and `TooLong` if and only if more than `limit` bytes came
+/// before the end. It never takes more than `limit + 1` bytes.
 pub fn read_all<S: Shelf>(
     alloc: Global,
     shelf: &mut S,
@@ -68,7 +68,7 @@ fn read_left<S: Shelf>(alloc: Global, shelf: &mut S, limit: u64) -> Result<Vec<u
     }
 }
 
-/// Reads the next bytes and puts them after `bytes`, which stay at most `limit` long.
+/// Reads the next bytes and appends them to `bytes`, which never has more than `limit`.
 fn read_piece<S: Shelf>(shelf: &mut S, bytes: &mut Vec<u8>, limit: u64) -> Result<usize, ReadError>
     requires { length bytes.old.items ≤ limit }
     ensures on { IfOk result (λ n. ReadsOn (S.told shelf.old).rest (S.told shelf.new).rest

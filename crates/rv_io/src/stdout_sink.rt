@@ -1,4 +1,4 @@
-//! Standard output, or any other writer. It tells no content.
+//! Standard output, or any other writer. As a sink it reports no content.
 ghost use Rattle.std.specs.Prelude.{◌≡◌, ◌≤◌, None, take, IfOk, OnOk, OnErr};
 ghost use Rattle.std.specs.Io.KnownBytes.{Appends};
 ghost use Rattle.rv_io.specs.Outside.{HasCause, TakesSome};
@@ -7,7 +7,7 @@ ghost use Rattle.rv_io.specs.Writing.{HasPassed};
 use crate::{Failed, Sink};
 use std::io::Write;
 
-/// A writer, as standard output is. Each write is flushed before it is answered.
+/// A writer, such as standard output. Each write is flushed before the call returns.
 #[derive(Drop)]
 pub struct StdoutSink<W: Write + Drop> {
     inner: W,
@@ -31,10 +31,10 @@ impl<W: Write + Drop> Sink for StdoutSink<W> {
 
     fn write(&mut self, bytes: &[u8]) -> Result<usize, Failed>
         ensures some { TakesSome result bytes.now }
-        // The writer holds those bytes.
+        // The writer has taken those bytes.
         ensures passed { IfOk result (λ n. Appends (W.contents self.old.inner)
             (W.contents self.new.inner) (take n bytes.now)) }
-        // A write that failed passed none of them, or one piece that could not be flushed.
+        // A write that failed passed on none of them, or one piece that could not be flushed.
         ensures failed { OnErr result (HasPassed (W.contents self.old.inner)
             (W.contents self.new.inner) bytes.now) }
         ensures later { self.old.faults ≤ self.new.faults }

@@ -1,5 +1,5 @@
-//! A shelf that never fails: it keeps what is put in room that was taken before, and tells no files once it does not
-//! fit.
+//! A shelf that never fails: it keeps what is put in room reserved before, and stops reporting its files once that is
+//! too small.
 ghost use Rattle.std.specs.Prelude.{◌≡◌, ◌≤◌, ◌<◌, ◌+◌, ◌↔◌, ℕ, List, [], Option, Some, None, IsOk, true, false, is_some, length, IfOk, IfSome, IsTrue, OnOk};
 ghost use Rattle.std.specs.Vec.{vec_len, vec_capacity};
 ghost use Rattle.std.specs.Io.{ReadsAtMost};
@@ -12,9 +12,9 @@ use crate::kept::{Kept, keep_all};
 use crate::{Failed, NoMemory, Shelf};
 use std::alloc::Global;
 
-/// A shelf of which each call does its work, where the names that are picked are those of its files.
+/// A shelf on which no call fails, as long as only names of its files are picked.
 ///
-/// It tells its files while the names and bytes of all puts together fit in its room, and no files after that. A put
+/// It reports its files as long as the names and bytes of all puts together fit in its room, and none after that. A put
 /// of no bytes under the empty name counts as one byte.
 #[derive(Drop)]
 pub struct SureShelf {
@@ -30,7 +30,7 @@ pub struct SureShelf {
 }
 
 impl SureShelf {
-    /// A shelf with these files, of which the first of a name counts, and with room for puts of so many bytes. All
+    /// A shelf with these files, of which the first of a name counts, and with room for puts of `room` bytes. All
     /// memory is taken here.
     pub fn new(
         alloc: Global,
@@ -56,7 +56,7 @@ impl SureShelf {
         })
     }
 
-    /// Whether a file of this name may be picked: it is among the files.
+    /// Whether a file of this name may be picked: whether it is among the files.
     pub fn has(&self, name: &str) -> bool
         ensures { result ≡ (⟦<SureShelf as Shelf>⟧.told self.now).may_pick name.now }
     {
@@ -113,7 +113,7 @@ impl Shelf for SureShelf {
             (⟦<SureShelf as Shelf>⟧.told self.new).files name.now }
         ensures reading { KeepsReading (⟦<SureShelf as Shelf>⟧.told self.old)
             (⟦<SureShelf as Shelf>⟧.told self.new) }
-        // The files are told on exactly where they were told and this put fits.
+        // The files are still reported if and only if they were before and this put fits.
         ensures lost { self.new.lost ≡ lost_after self.old.lost self.old.left
             (cost_of name.now bytes.now) }
         ensures left { self.new.lost ≡ false

@@ -1,4 +1,4 @@
-//! A sink that never fails: it keeps bytes in room that was taken before, and tells nothing once they do not fit.
+//! A sink that never fails: it keeps bytes in room reserved before, and stops reporting them once that is too small.
 ghost use Rattle.std.specs.Prelude.{◌≡◌, ◌≤◌, ◌+◌, ◌<◌, [], Some, Ok, false, length, IfOk, IfSome, IsSome};
 ghost use Rattle.std.specs.Vec.{vec_len, vec_capacity};
 ghost use Rattle.rv_io.specs.Outside.{TakesSome};
@@ -8,7 +8,7 @@ ghost use Rattle.rv_io.specs.Sure.{told_unless, lost_after};
 use crate::{Failed, NoMemory, Sink};
 use std::alloc::Global;
 
-/// A sink that takes all bytes. It tells them while those of all writes together fit in its room, and nothing after
+/// A sink that takes all bytes. It reports them as long as those of all writes together fit in its room, and none after
 /// that.
 #[derive(Drop)]
 pub struct SureSink {
@@ -19,7 +19,7 @@ pub struct SureSink {
 }
 
 impl SureSink {
-    /// An empty sink with room for so many bytes, all of which is taken here.
+    /// An empty sink with room for `room` bytes, all of which is reserved here.
     pub fn new(alloc: Global, room: usize) -> Result<SureSink, NoMemory>
         ensures written { IfOk result (λ s. ⟦<SureSink as Sink>⟧.written s ≡ Some []) }
         ensures room { IfOk result (λ s. s.left ≡ room) }
@@ -35,7 +35,7 @@ impl SureSink {
         }
     }
 
-    /// The bytes that were taken, where all of them were kept.
+    /// The bytes taken so far, if all of them were kept.
     pub fn written(&self) -> Option<&[u8]>
         ensures kept { self.now.lost ≡ false → IsSome result }
         ensures written { IfSome result (λ bytes. ⟦<SureSink as Sink>⟧.written self.now ≡ Some bytes.now) }
@@ -59,7 +59,7 @@ impl Sink for SureSink {
         ensures whole { (result ≡ Ok (length bytes.now)) }
         ensures bytes { TakesIn (⟦<SureSink as Sink>⟧.written self.old)
             (⟦<SureSink as Sink>⟧.written self.new) result bytes.now }
-        // What was told before is told, exactly where these bytes fit too.
+        // The bytes are still reported if and only if they were before and these fit too.
         ensures lost { self.new.lost ≡ lost_after self.old.lost self.old.left (length bytes.now) }
         ensures left { self.new.lost ≡ false → self.new.left + length bytes.now ≡ self.old.left }
     {

@@ -9,7 +9,7 @@ use std::alloc::{AllocError, Global};
 use std::process::Abort;
 use std::test::Fail;
 
-/// As many bytes, which count up from 0 to 250 over and over.
+/// `len` bytes that count up from 0 to 250 over and over.
 fn counting(alloc: Global, len: usize) -> Result<Vec<u8>, AllocError> {
     let mut bytes = Vec::new(alloc);
     for place in 0..len {
@@ -18,7 +18,7 @@ fn counting(alloc: Global, len: usize) -> Result<Vec<u8>, AllocError> {
     Ok(bytes)
 }
 
-/// Files of these names and bytes.
+/// Files with these names and bytes.
 fn files_of(alloc: Global, listed: &[(&str, &[u8])]) -> Result<Vec<(String, Vec<u8>)>, AllocError> {
     let mut files = Vec::new(alloc);
     for (name, bytes) in listed {
@@ -28,7 +28,7 @@ fn files_of(alloc: Global, listed: &[(&str, &[u8])]) -> Result<Vec<(String, Vec<
     Ok(files)
 }
 
-/// A shelf with these files, of which one call fails.
+/// A shelf with these files on which one call fails.
 fn shelf_with(
     alloc: Global,
     listed: &[(&str, &[u8])],
@@ -42,13 +42,13 @@ fn shelf_with(
     }
 }
 
-/// A shelf with the file `a.rv` of counting bytes, of which one call fails.
+/// A shelf with the file `a.rv` of counting bytes on which one call fails.
 fn shelf_of(alloc: Global, len: usize, failing: u64) -> Result<MemShelf, AllocError> {
     let bytes = counting(alloc, len)?;
     shelf_with(alloc, &[("a.rv", bytes.as_slice())], failing)
 }
 
-/// A number that no call has in these tests.
+/// A call number that never occurs in these tests.
 const NEVER: u64 = 1_000_000;
 
 /// Whether a file is read within a limit, and has these bytes.
@@ -61,7 +61,7 @@ fn reads<S: Shelf>(alloc: Global, shelf: &mut S, name: &str, limit: u64, bytes: 
     }
 }
 
-/// Whether a file is not read within a limit, for this cause.
+/// Whether reading a file within a limit fails for this cause.
 fn refuses<S: Shelf>(alloc: Global, shelf: &mut S, name: &str, limit: u64, cause: ReadError) -> bool
     requires { IsTrue ((S.told shelf.old).may_pick name.now) }
 {
@@ -71,7 +71,7 @@ fn refuses<S: Shelf>(alloc: Global, shelf: &mut S, name: &str, limit: u64, cause
     }
 }
 
-/// Whether a read into four bytes takes so many, and they are these then.
+/// Whether a read into four bytes takes `count` bytes, and the four are these afterwards.
 fn takes<S: Shelf>(shelf: &mut S, count: usize, bytes: [u8; 4]) -> bool {
     let mut rest = [0u8; 4];
     shelf.read(&mut rest) == Ok(count) && rest == bytes
@@ -91,7 +91,7 @@ fn assert_files(rt: &impl Abort, alloc: Global, shelf: &mut MemShelf, files: &[(
     }
 }
 
-/// Whether a file of so many bytes is read whole within a limit or is too long for it, and without a fault.
+/// Whether a file of `len` bytes is read whole or is too long for the limit, as it should, and without a fault.
 fn is_limited(alloc: Global, len: usize, limit: u64) -> Result<bool, AllocError> {
     let mut shelf = shelf_of(alloc, len, NEVER)?;
     let bytes = counting(alloc, len)?;
@@ -140,7 +140,7 @@ fn an_absent_file_is_a_fault_and_leaves_nothing_to_read(rt: HostRuntime) -> Resu
     Ok(())
 }
 
-/// Three files, of which two have one name.
+/// Three files, two of which have one name.
 const OF_ONE_NAME: [(&str, &[u8]); 3] = [("b", &[7]), ("a", &[1, 2]), ("a", &[3])];
 
 #[test]
@@ -156,7 +156,7 @@ fn the_first_file_of_a_name_counts_and_a_second_pick_begins_again(
     Ok(())
 }
 
-/// Whether a file of 2,000 bytes is not read where this call fails, and one fault is counted.
+/// Whether a file of 2,000 bytes is not read if this call fails, and one fault is counted.
 fn is_fault(alloc: Global, failing: u64) -> Result<bool, AllocError> {
     let mut shelf = shelf_of(alloc, 2000, failing)?;
     let is_it = refuses(alloc, &mut shelf, "a.rv", 4000, ReadError::Fault);
@@ -166,7 +166,7 @@ fn is_fault(alloc: Global, failing: u64) -> Result<bool, AllocError> {
 #[test]
 fn each_call_of_a_shelf_that_fails_is_a_fault_and_is_counted(rt: HostRuntime) -> Result<(), Fail> {
     let alloc = rt.alloc();
-    // 2,000 bytes: call 0 picks, calls 1 and 2 read the bytes, and call 3 sees the end.
+    // 2,000 bytes: call 0 picks the file, calls 1 and 2 read the bytes, and call 3 sees the end.
     for failing in 0..4 {
         let is_it = is_fault(alloc, failing)?;
         assert!(rt; is_it, "call {failing}");
@@ -187,10 +187,10 @@ fn a_read_that_failed_takes_nothing(rt: HostRuntime) -> Result<(), Fail> {
     Ok(())
 }
 
-/// The files `a`, of the bytes 1 and 2, and `b`, of the byte 3.
+/// The files `a`, with the bytes 1 and 2, and `b`, with the byte 3.
 const TWO_FILES: [(&str, &[u8]); 2] = [("a", &[1, 2]), ("b", &[3])];
 
-/// Puts, and what each file holds behind them.
+/// Puts, and what each file holds after them.
 const PUTS: [(&str, &[u8]); 3] = [("c", &[4, 5]), ("a", &[6, 7]), ("c", &[8, 9])];
 
 const AFTER_THE_PUTS: [(&str, &[u8]); 3] = [("a", &[6, 7]), ("b", &[3]), ("c", &[8, 9])];
@@ -201,13 +201,13 @@ fn a_file_has_the_bytes_that_were_put_last_and_others_stay(rt: HostRuntime) -> R
     let mut shelf = shelf_with(alloc, &TWO_FILES, NEVER)?;
     assert!(rt; shelf.pick("a").is_ok());
     assert_puts(&rt, &mut shelf, &PUTS);
-    // What was picked before the puts is read on.
+    // What was picked before the puts can still be read on.
     assert!(rt; takes(&mut shelf, 2, [1, 2, 0, 0]));
     assert_files(&rt, alloc, &mut shelf, &AFTER_THE_PUTS);
     Ok(())
 }
 
-/// Asserts that a first put fails, leaves all other files and is counted, and that a second one does not fail.
+/// Asserts that a first put fails, leaves all other files and is counted, and that a second one succeeds.
 fn assert_put_fails(rt: &impl Abort, alloc: Global, shelf: &mut MemShelf, name: &str) {
     assert!(rt; shelf.put(name, &[9]).is_err(), "{name}");
     assert!(rt; shelf.faults() == 0 && shelf.put_faults() == 1);
@@ -219,7 +219,7 @@ fn assert_put_fails(rt: &impl Abort, alloc: Global, shelf: &mut MemShelf, name: 
     assert!(rt; shelf.put(name, &[9]).is_ok());
 }
 
-/// Asserts that a pick fails behind a put that does not, and is counted as a fault of reading.
+/// Asserts that a pick fails after a put that succeeds, and is counted as a fault of reading.
 fn assert_pick_fails(rt: &impl Abort, shelf: &mut MemShelf) {
     assert!(rt; shelf.put("a", &[9]).is_ok());
     assert!(rt; shelf.pick("a").is_err());

@@ -1,20 +1,20 @@
-//! Texts written whole.
+//! Writing texts as a whole.
 ghost use Rattle.std.specs.Prelude.{◌≡◌, ◌≤◌, OnOk, IfErr};
 ghost use Rattle.rv_io.specs.Outside.{HasCause};
 ghost use Rattle.rv_io.specs.Writing.{Grows, HasSent};
 
 use crate::Sink;
 
-/// Where a write stopped.
+/// Where a write stopped. 8 bytes.
 #[derive(Clone, Copy, Debug, PartialEq, Eq)]
 pub struct WriteError {
-    /// How many bytes from the front the sink took before it failed.
+    /// How many bytes from the front the sink had taken when it failed.
     pub sent: usize,
 }
 
 /// Writes all of `bytes`. It takes no memory.
 ///
-/// It stops at the first write that fails: the sink then took exactly the first `sent` bytes.
+/// It stops at the first write that fails; the sink has then taken exactly the first `sent` bytes.
 pub fn write_all<K: Sink>(sink: &mut K, bytes: &[u8]) -> Result<(), WriteError>
     ensures all { OnOk result (Grows (K.written sink.old) (K.written sink.new) bytes.now) }
     ensures sent { IfErr result (λ e. HasSent (K.written sink.old) (K.written sink.new) bytes.now

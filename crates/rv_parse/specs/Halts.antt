@@ -1,4 +1,4 @@
--- The faults that the readers' own words for them stand for.
+-- The faults in the model that the parser's own words for them mean.
 use Rattle.std.specs.Prelude.{List, [], ◌∷◌}
 use Rattle.lang_model.specs.declared.faults.ParseFault.{ParseFault}
 use Rattle.lang_model.specs.declared.faults.ParseFault.TheVariants.{Expected, TooDeep, NoMemory as NO_MEMORY}
@@ -13,7 +13,7 @@ use Rattle.rv_parse.specs.declared.halt.Wanted.TheVariants.{Item, Expression, Na
 use Rattle.rv_parse.specs.declared.halt.Halt.{Halt}
 use Rattle.rv_parse.specs.declared.halt.Halt.TheVariants.{Expected as EXPECTED, TooDeep as TOO_DEEP, Broken as BROKEN_OFF, NoMemory}
 
--- the word for what is wanted
+-- what is expected, in terms of the model
 abbrev pub what : Wanted → What
 what Item = AN_ITEM
 what Expression = AN_EXPRESSION
@@ -24,14 +24,14 @@ what File = FileText
 what (Sign s) = TOKEN (s ∷ [])
 what (Word keyword) = TOKEN (written keyword)
 
--- the fault that ends the reading
+-- the fault that ends the parse
 abbrev pub fault_of : Halt → ParseFault
 fault_of (EXPECTED at wanted) = Expected at (what wanted)
 fault_of (TOO_DEEP at) = TooDeep at
 fault_of (BROKEN_OFF flaw) = flaw_fault flaw
 fault_of NoMemory = NO_MEMORY
 
--- the fault where something is expected in place of the first token, or of the end
+-- the fault if something is expected in place of the first token, or of the end
 abbrev pub missing : What → List Token → Ending → ParseFault
 missing what [] (EndsAt place) = Expected place what
 missing what [] (Broken fault) = fault

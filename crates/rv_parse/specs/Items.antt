@@ -28,12 +28,12 @@ abbrev pub is_name : Kind → Bool
 is_name (Word name) = true
 is_name _ = false
 
--- whether a name comes first
+-- whether the first token is a name
 abbrev pub begins_name : List Token → Bool
 begins_name [] = false
 begins_name (token ∷ tokens) = is_name token.kind
 
--- what a keyword opens
+-- what a keyword begins
 abbrev pub keyword_step : Kind → Step
 keyword_step (KEYWORD keyword) = command_step keyword
 keyword_step _ = NotBegun

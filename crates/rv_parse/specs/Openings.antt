@@ -1,4 +1,4 @@
--- The keywords that open commands, and what is to come behind them.
+-- The keywords that begin commands, and what has to follow them.
 use Rattle.std.specs.Prelude.{◌≡◌, List, [], ◌∷◌}
 use Rattle.lang_model.specs.declared.token.Keyword.{Keyword}
 use Rattle.lang_model.specs.declared.token.Keyword.TheVariants.{Rel as REL, Let as LET, Print as PRINT, List as LIST, Count as COUNT, «Type» as TYPE, Drop as DROP, Snap as SNAP, At as AT, Load as LOAD, Save as SAVE, Atomic as ATOMIC, Explain as EXPLAIN}
@@ -26,7 +26,7 @@ opening_word Save = SAVE
 opening_word Atomic = ATOMIC
 opening_word Explain = EXPLAIN
 
--- the parts behind it
+-- the parts after it
 abbrev pub opening_parts : Opening → List Part
 opening_parts Relation = relation_parts
 opening_parts Let = NamePart ∷ SignPart 61 ∷ ExprPart OrLevel 0 ∷ []
@@ -42,7 +42,7 @@ opening_parts Save = ExprOrAll ∷ FilePart ∷ []
 opening_parts Atomic = block_parts
 opening_parts Explain = ExprPart OrLevel 0 ∷ []
 
--- the keyword that asks this
+-- the keyword of a command that does this with a value
 abbrev pub asked_word : Asked → Keyword
 asked_word PrintIt = PRINT
 asked_word ListIt = LIST
@@ -50,6 +50,6 @@ asked_word CountIt = COUNT
 asked_word TypeIt = TYPE
 asked_word ExplainIt = EXPLAIN
 
--- the keyword opens this command
+-- the keyword begins this command
 abbrev pub Opens : Keyword → Opening → Type 0
 Opens keyword opening = (keyword ≡ opening_word opening) × (command_step keyword ≡ Behind (opening_parts opening))

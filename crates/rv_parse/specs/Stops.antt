@@ -1,4 +1,4 @@
--- The faults of a text that is no script.
+-- The faults of a text that is not a script.
 use Rattle.std.specs.Prelude.{◌≡◌, ℕ, List, None, Some}
 use Rattle.lang_model.specs.declared.syntax.Script.{Script}
 use Rattle.lang_model.specs.declared.faults.ParseFault.{ParseFault}
@@ -12,24 +12,23 @@ use Rattle.rv_tokens.specs.declared.ending.Flaw.TheVariants.{Unclosed}
 use Rattle.rv_parse.specs.declared.halt.Halt.{Halt}
 use Rattle.rv_parse.specs.declared.halt.Halt.TheVariants.{Expected as EXPECTED, Broken as BROKEN_OFF, NoMemory as NO_MEMORY}
 
--- The fault is right for these bytes: memory ran out, or it is the first fault of the text, with its place and words,
--- and then the bytes spell no script.
+-- The fault is right for these bytes: either memory ran out, or it is the first fault of the text, with its place and
+-- words, and the bytes spell no script.
 abbrev pub StopsAt : List ℕ → ParseFault → Type 0
 StopsAt bytes fault = (fault ≡ NoMemory → ⊥) → (stop bytes ≡ Some fault)
     × ((script : Script) → SpelledBy bytes script → ⊥)
 
--- the fault that ended the reading, unless memory ran out
+-- the fault that ended the parse, unless memory ran out
 abbrev pub IsFaultOf : Halt → ParseFault → Type 0
 IsFaultOf halt fault = (fault ≡ NoMemory → ⊥) → fault ≡ fault_of halt
 
--- a token is wanted, whose text the fault holds
+-- a token is expected, and the fault holds its text
 abbrev pub IsToken : Wanted → Type 0
 IsToken (Sign s) = Unit {0}
 IsToken (Word keyword) = Unit {0}
 IsToken _ = ⊥
 
--- Only of these may the telling want memory: a token that is wanted, a last quote that is missing, and want of memory
--- itself.
+-- Reporting a fault may take memory only if a token is expected, a closing quote is missing, or memory ran out before.
 abbrev pub TakesMemory : Halt → Type 0
 TakesMemory (EXPECTED at wanted) = IsToken wanted
 TakesMemory (BROKEN_OFF (Unclosed at)) = Unit {0}

@@ -18,7 +18,7 @@ use lang_model::token::{Keyword, Token};
 use rv_tokens::Ending;
 use std::alloc::Global;
 
-/// An assignment of a block behind its LET.
+/// An assignment of a block, after its LET.
 fn one_let(alloc: Global, tokens: &[Token], end: Ending) -> Result<(Let, &[Token]), Halt>
     requires { length tokens.now < 2 ^ 32 }
     ensures { MatchResult result (λ x. Got (ending_of end) (NamePart ∷ SignPart 61 ∷ ExprPart OrLevel 0 ∷ [])
@@ -31,7 +31,7 @@ fn one_let(alloc: Global, tokens: &[Token], end: Ending) -> Result<(Let, &[Token
     Ok((Let { at, name, value }, rest))
 }
 
-/// The first assignment of a block with its LET.
+/// The first assignment of a block, with its LET.
 fn first_let(alloc: Global, tokens: &[Token], end: Ending) -> Result<(Let, &[Token]), Halt>
     requires { length tokens.now < 2 ^ 32 }
     ensures { MatchResult result (λ x. Got (ending_of end)
@@ -65,7 +65,7 @@ fn lets(alloc: Global, tokens: &[Token], end: Ending) -> Result<(Vec<Let>, &[Tok
     Ok((lets, rest))
 }
 
-/// A block behind ATOMIC.
+/// A block, after ATOMIC.
 pub fn block(alloc: Global, tokens: &[Token], end: Ending) -> Result<(Command, &[Token]), Halt>
     requires { length tokens.now < 2 ^ 32 }
     ensures { MatchResult result (λ x. Got (ending_of end) block_parts

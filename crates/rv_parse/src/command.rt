@@ -21,7 +21,7 @@ use lang_model::token::{Keyword, Token};
 use rv_tokens::Ending;
 use std::alloc::Global;
 
-/// The keywords that open a command.
+/// The keywords that begin a command. 1 byte.
 #[derive(Clone, Copy, Debug)]
 pub enum Opening {
     Relation,
@@ -39,7 +39,7 @@ pub enum Opening {
     Explain,
 }
 
-/// The command that a keyword opens.
+/// The command that a keyword begins, if it does.
 pub fn opening_of(keyword: Keyword) -> Option<Opening>
     ensures { MatchOption result (command_step keyword ≡ NotBegun) (Opens keyword) }
 {
@@ -61,7 +61,7 @@ pub fn opening_of(keyword: Keyword) -> Option<Opening>
     }
 }
 
-/// An assignment behind LET.
+/// An assignment, after LET.
 fn assignment(alloc: Global, tokens: &[Token], end: Ending) -> Result<(Command, &[Token]), Halt>
     requires { length tokens.now < 2 ^ 32 }
     ensures { MatchResult result (λ x. Got (ending_of end) (opening_parts LET)
@@ -75,7 +75,7 @@ fn assignment(alloc: Global, tokens: &[Token], end: Ending) -> Result<(Command, 
     Ok((command, rest))
 }
 
-/// A look at a snapshot behind AT.
+/// A look at a snapshot, after AT.
 fn look(alloc: Global, tokens: &[Token], end: Ending) -> Result<(Command, &[Token]), Halt>
     requires { length tokens.now < 2 ^ 32 }
     ensures { MatchResult result (λ x. Got (ending_of end) (opening_parts AT)
@@ -89,7 +89,7 @@ fn look(alloc: Global, tokens: &[Token], end: Ending) -> Result<(Command, &[Toke
     Ok((command, rest))
 }
 
-/// Behind LOAD: a relation's file, or that of all its relations.
+/// After LOAD: a relation and its file, or a file all of whose relations are loaded.
 fn loading(alloc: Global, tokens: &[Token], end: Ending) -> Result<(Command, &[Token]), Halt>
     ensures { MatchResult result (λ x. Got (ending_of end) (opening_parts LOAD)
         (λ t r. (before : List TOKEN) → Takes (KEYWORD (opening_word LOAD)) before t → SpellsCommand x.0 before r)
@@ -105,7 +105,7 @@ fn loading(alloc: Global, tokens: &[Token], end: Ending) -> Result<(Command, &[T
     Ok((command, rest))
 }
 
-/// Behind SAVE: a value, or all relations, and their file.
+/// After SAVE: a value, or all relations, and their file.
 fn saving(alloc: Global, tokens: &[Token], end: Ending) -> Result<(Command, &[Token]), Halt>
     requires { length tokens.now < 2 ^ 32 }
     ensures { MatchResult result (λ x. Got (ending_of end) (opening_parts SAVE)
@@ -122,7 +122,7 @@ fn saving(alloc: Global, tokens: &[Token], end: Ending) -> Result<(Command, &[To
     Ok((command, rest))
 }
 
-/// What a command asks of a value.
+/// What a command does with a value. 1 byte.
 #[derive(Clone, Copy)]
 enum Asked {
     Print,
@@ -132,7 +132,7 @@ enum Asked {
     Explain,
 }
 
-/// The command that asks this of a value.
+/// The command that does this with a value.
 fn asking(asked: Asked, value: Expr) -> Command
     ensures { (before t r : List TOKEN) → Takes (KEYWORD (asked_word asked)) before t → Spelled OrLevel 0 value t r
         → SpellsCommand result before r }
@@ -146,7 +146,7 @@ fn asking(asked: Asked, value: Expr) -> Command
     }
 }
 
-/// A value of which this is asked, behind its keyword.
+/// A value with which this is done, after the keyword.
 fn asked_value(
     alloc: Global,
     asked: Asked,
@@ -163,7 +163,7 @@ fn asked_value(
     Ok((command, rest))
 }
 
-/// A relation's name behind DROP.
+/// The name of a relation, after DROP.
 fn removal(alloc: Global, tokens: &[Token], end: Ending) -> Result<(Command, &[Token]), Halt>
     ensures { MatchResult result (λ x. Got (ending_of end) (opening_parts DROP)
         (λ t r. (before : List TOKEN) → Takes (KEYWORD (opening_word DROP)) before t → SpellsCommand x.0 before r)
@@ -173,7 +173,7 @@ fn removal(alloc: Global, tokens: &[Token], end: Ending) -> Result<(Command, &[T
     Ok((Command::Remove { at, name }, rest))
 }
 
-/// A snapshot's name behind SNAP.
+/// The name of a snapshot, after SNAP.
 fn snapshot(alloc: Global, tokens: &[Token], end: Ending) -> Result<(Command, &[Token]), Halt>
     ensures { MatchResult result (λ x. Got (ending_of end) (opening_parts SNAP)
         (λ t r. (before : List TOKEN) → Takes (KEYWORD (opening_word SNAP)) before t → SpellsCommand x.0 before r)
@@ -183,7 +183,7 @@ fn snapshot(alloc: Global, tokens: &[Token], end: Ending) -> Result<(Command, &[
     Ok((Command::Snap { name }, rest))
 }
 
-/// The command behind its keyword.
+/// The command, after its keyword.
 pub fn command(
     alloc: Global,
     opening: Opening,

@@ -22,7 +22,7 @@ use lang_model::token::{Keyword, Kind, Token};
 use rv_tokens::Ending;
 use std::alloc::Global;
 
-/// What BEG and what stands behind it spell.
+/// What is spelled from BEG on.
 #[derive(Drop)]
 struct Tail {
     body: Vec<Stmt>,
@@ -68,7 +68,7 @@ fn params_in_parentheses(
     Ok((list, rest))
 }
 
-/// PROD or SUM, and whether it is SUM.
+/// PROD or SUM: whether it is SUM.
 fn domain_word(tokens: &[Token], end: Ending) -> Result<(bool, &[Token]), Halt>
     ensures read { MatchResult result (λ x. Takes (domain_word x.0) tokens.now x.1.now
         × ReadsTo (ending_of end) (DomainPart ∷ []) (SignPart 40 ∷ NamePart ∷ SignPart 44 ∷ NamePart ∷ SignPart 41
@@ -85,7 +85,7 @@ fn domain_word(tokens: &[Token], end: Ending) -> Result<(bool, &[Token]), Halt>
     }
 }
 
-/// PROD or SUM with the parenthesis behind it, and whether it is SUM.
+/// PROD or SUM with the parenthesis after it: whether it is SUM.
 fn domain_open(tokens: &[Token], end: Ending) -> Result<(bool, &[Token]), Halt>
     ensures { MatchResult result (λ x. (mid : List TOKEN) × Takes (domain_word x.0) tokens.now mid
         × Takes (Sign 40) mid x.1.now × ReadsTo (ending_of end) (DomainPart ∷ [])
@@ -97,7 +97,7 @@ fn domain_open(tokens: &[Token], end: Ending) -> Result<(bool, &[Token]), Halt>
     Ok((sum, rest))
 }
 
-/// A name with this sign behind it.
+/// A name with this sign after it.
 fn name_and_sign(
     alloc: Global,
     tokens: &[Token],
@@ -113,7 +113,7 @@ fn name_and_sign(
     Ok((name, rest))
 }
 
-/// The meaning of a domain behind its sign of equality.
+/// The definition of a domain, after its sign of equality.
 fn domain(
     alloc: Global,
     at: Place,
@@ -156,7 +156,7 @@ fn next_decl(alloc: Global, tokens: &[Token], end: Ending) -> Result<(Decl, &[To
     }
 }
 
-/// The declarations behind DECL.
+/// The declarations, after DECL.
 #[tactic(auto, using(crate::proofs::Defs::drop_decls, crate::proofs::Defs::enter_decls))]
 fn decls(alloc: Global, tokens: &[Token], end: Ending) -> Result<(Vec<Decl>, &[Token]), Halt>
     ensures { MatchResult result (λ x. Got (ending_of end) (NamePart ∷ MeaningPart ∷ MoreDecls ∷ [])
@@ -175,7 +175,7 @@ fn decls(alloc: Global, tokens: &[Token], end: Ending) -> Result<(Vec<Decl>, &[T
     Ok((decls, rest))
 }
 
-/// The declarations of a program behind DECL, up to BEG.
+/// The declarations of a program, after DECL and up to BEG.
 fn program_decls(
     alloc: Global,
     tokens: &[Token],
@@ -215,7 +215,7 @@ fn program_result(alloc: Global, tokens: &[Token], end: Ending) -> Result<(Expr,
     Ok((result, rest))
 }
 
-/// The statements and the result of a program, behind BEG.
+/// The statements and the result of a program, after BEG.
 fn program_end(alloc: Global, tokens: &[Token], end: Ending) -> Result<(Tail, &[Token]), Halt>
     requires { length tokens.now < 2 ^ 32 }
     ensures { MatchResult result (λ x. Got (ending_of end) program_parts (SpellsTail x.0.body.items x.0.result)
@@ -226,7 +226,7 @@ fn program_end(alloc: Global, tokens: &[Token], end: Ending) -> Result<(Tail, &[
     Ok((Tail { body, result }, rest))
 }
 
-/// The body of a function, behind its sign of equality.
+/// The body of a function, after its sign of equality.
 fn function_body(
     alloc: Global,
     at: Place,
@@ -251,7 +251,7 @@ fn function_body(
     Ok((item, rest))
 }
 
-/// A program without declarations, behind BEG.
+/// A program without declarations, after BEG.
 fn plain_program(
     alloc: Global,
     at: Place,
@@ -278,7 +278,7 @@ fn plain_program(
     Ok((item, rest))
 }
 
-/// A program with declarations, behind DECL.
+/// A program with declarations, after DECL.
 fn declared_program(
     alloc: Global,
     at: Place,
@@ -305,7 +305,7 @@ fn declared_program(
     Ok((item, rest))
 }
 
-/// What a definition means, behind its head.
+/// The body of a definition, after its head.
 #[tactic(auto, using(crate::proofs::Defs::no_body))]
 fn meaning(
     alloc: Global,
@@ -332,7 +332,7 @@ fn meaning(
     Err(missing(tokens, end, Wanted::Sign(b'=')))
 }
 
-/// A definition behind its name.
+/// A definition, after its name.
 pub fn definition<'a>(
     alloc: Global,
     name: &Name,

@@ -21,7 +21,7 @@ use lang_model::token::{Kind, Token};
 use rv_tokens::Ending;
 use std::alloc::Global;
 
-/// The levels of chains.
+/// The levels of chains. 1 byte.
 #[derive(Clone, Copy, Debug)]
 enum Chains {
     Or,
@@ -29,7 +29,7 @@ enum Chains {
     Prod,
 }
 
-/// What stands in the parentheses behind a base name or a domain operator.
+/// What stands in the parentheses after a base name or a domain operator. 1 byte.
 #[derive(Clone, Copy, Debug)]
 enum Form {
     One,
@@ -37,7 +37,7 @@ enum Form {
     Domain,
 }
 
-/// The operator of a sign on a level.
+/// The operator that a sign is on a level, if it is one.
 fn operator_of(level: Chains, sign: u8) -> Option<Op2>
     ensures { OperatorIs (level_of level) sign result }
 {
@@ -59,7 +59,7 @@ fn operator_of(level: Chains, sign: u8) -> Option<Op2>
     }
 }
 
-/// The operator of a level that comes first.
+/// The operator of a level, if the first token is one.
 fn operator(level: Chains, tokens: &[Token]) -> Option<(Op2, Place, &[Token])>
     ensures { MatchOption result (begins_operator (level_of level) tokens.now ≡ false)
         (λ x. IsLink (level_of level) x.0 x.1 tokens.now x.2.now) }
@@ -76,7 +76,7 @@ fn operator(level: Chains, tokens: &[Token]) -> Option<(Op2, Place, &[Token])>
     }
 }
 
-/// How many signs `^` come first.
+/// The number of signs `^` at the front.
 #[tactic(auto, using(crate::proofs::Optional::drop_carets))]
 fn carets(tokens: &[Token]) -> (u32, &[Token])
     requires { length tokens.now < 2 ^ 32 }
@@ -106,7 +106,7 @@ fn form_of(base: Base) -> Form
     }
 }
 
-/// A domain operator with its domain, behind the operator.
+/// A domain operator with its domain, after the operator.
 fn with_domain(
     alloc: Global,
     base: Base,
@@ -125,7 +125,7 @@ fn with_domain(
     Ok((Expr::Inject { at, base, domain }, rest))
 }
 
-/// The list of one argument.
+/// A list with one argument.
 fn one_argument(alloc: Global, argument: Expr) -> Result<Vec<Expr>, Halt>
     ensures { MatchResult result (λ args. args.items ≡ argument ∷ []) (λ halt. halt ≡ NoMemory) }
 {
@@ -134,7 +134,7 @@ fn one_argument(alloc: Global, argument: Expr) -> Result<Vec<Expr>, Halt>
     Ok(args)
 }
 
-/// The list of two arguments.
+/// A list with two arguments.
 fn two_arguments(alloc: Global, first: Expr, second: Expr) -> Result<Vec<Expr>, Halt>
     ensures { MatchResult result (λ args. args.items ≡ first ∷ second ∷ []) (λ halt. halt ≡ NoMemory) }
 {
@@ -152,7 +152,7 @@ fn boxes(alloc: Global, left: Expr, right: Expr) -> Result<(Box<Expr>, Box<Expr>
     Ok((left, right))
 }
 
-/// An expression inside of a construct around which so many are open.
+/// An expression inside a construct, given how many are open around the construct.
 #[cycle(expr)]
 pub fn inner(
     alloc: Global,
@@ -168,7 +168,7 @@ pub fn inner(
     chain(alloc, tokens, end, depth + 1, Chains::Or)
 }
 
-/// An expression inside of a construct around which so many are open, with this sign behind it.
+/// An expression inside a construct, with this sign after it, given how many are open around the construct.
 #[cycle(expr)]
 fn inner_and_sign(
     alloc: Global,
@@ -188,7 +188,8 @@ fn inner_and_sign(
     Ok((expr, rest))
 }
 
-/// Two expressions inside of a construct around which so many are open, with a comma between them and this sign behind.
+/// Two expressions inside a construct, with a comma between them and this sign after them, given how many are open
+/// around the construct.
 #[cycle(expr)]
 fn inner_pair(
     alloc: Global,
@@ -209,7 +210,7 @@ fn inner_pair(
     Ok((left, right, rest))
 }
 
-/// A base name with one argument, behind the name.
+/// A base name with one argument, after the name.
 #[cycle(expr)]
 fn with_one(
     alloc: Global,
@@ -230,7 +231,7 @@ fn with_one(
     Ok((Expr::Base { at, base, args }, rest))
 }
 
-/// A base name with two arguments, behind the name.
+/// A base name with two arguments, after the name.
 #[cycle(expr)]
 fn with_two(
     alloc: Global,
@@ -251,7 +252,7 @@ fn with_two(
     Ok((Expr::Base { at, base, args }, rest))
 }
 
-/// A base name or a domain operator with what it takes, behind the word.
+/// A base name or a domain operator with what it takes, after the word.
 #[cycle(expr)]
 fn based(
     alloc: Global,
@@ -272,7 +273,7 @@ fn based(
     }
 }
 
-/// The arguments of a call around which so many constructs are open.
+/// The arguments of a call, given how many constructs are open around it.
 #[cycle(expr)]
 fn arguments(
     alloc: Global,
@@ -300,7 +301,7 @@ fn arguments(
     Ok((args, rest))
 }
 
-/// A name, or a call of a definition, behind the name.
+/// A name, or a call of a definition, after the name.
 #[cycle(expr)]
 fn named<'a>(
     alloc: Global,
@@ -328,7 +329,7 @@ fn named<'a>(
     }
 }
 
-/// An expression behind its opening parenthesis.
+/// An expression in parentheses, after the opening one.
 #[cycle(expr)]
 fn enclosed(
     alloc: Global,
@@ -347,7 +348,7 @@ fn enclosed(
     Ok((expr, rest))
 }
 
-/// A pair behind its opening bracket.
+/// A pair, after its opening bracket.
 #[cycle(expr)]
 fn pair(
     alloc: Global,
@@ -400,7 +401,7 @@ fn prim(alloc: Global, tokens: &[Token], end: Ending, depth: u32) -> Result<(Exp
     }
 }
 
-/// A prim with the signs `^` behind it.
+/// A prim with the signs `^` after it.
 #[cycle(expr)]
 fn post(alloc: Global, tokens: &[Token], end: Ending, depth: u32) -> Result<(Expr, &[Token]), Halt>
     requires depth { depth ≤ nesting_limit }
@@ -462,7 +463,7 @@ fn operand(
     }
 }
 
-/// One or more operands of a level, read from the left.
+/// One or more operands of a level, grouped from the left.
 #[cycle(expr)]
 fn chain(
     alloc: Global,
@@ -491,7 +492,7 @@ fn chain(
     Ok((Expr::Chain { first, rest: links }, rest))
 }
 
-/// A whole expression, around which so many constructs are open.
+/// A whole expression, given how many constructs are open around it.
 pub fn expression(
     alloc: Global,
     tokens: &[Token],

@@ -4,7 +4,7 @@ use lang_model::token::Keyword;
 use rv_tokens::Flaw;
 use std::alloc::{AllocError, AllocFailed};
 
-/// What the grammar needs at a place.
+/// What the grammar expects at a place.
 #[derive(Clone, Copy, Debug)]
 pub enum Wanted {
     Item,
@@ -17,7 +17,7 @@ pub enum Wanted {
     Word(Keyword),
 }
 
-/// Why a part of the grammar is not read.
+/// Why a part of the grammar cannot be read.
 #[derive(Clone, Copy, Debug)]
 pub enum Halt {
     Expected { at: Place, wanted: Wanted },

@@ -1,4 +1,4 @@
-//! A law of texts, a function that does nothing.
+//! A law of texts, the contract of a function with an empty body.
 ghost use Rattle.rv_parse.specs.Stops.{ScriptsHaveNoFault};
 
 /// A text that spells a script has no fault.

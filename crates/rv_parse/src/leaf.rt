@@ -1,4 +1,4 @@
-//! The first token, read as one part of the grammar, with the fault where it is another.
+//! The first token, read as one part of the grammar, or the fault if it is not that part.
 ghost use Rattle.std.specs.Prelude.{◌≡◌, ◌≤◌, ◌<◌, ◌∷◌, [], true, false, IfErr, MatchResult, MatchOption};
 ghost use Rattle.lang_model.specs.Taken.{TakesAt, Takes};
 ghost use Rattle.lang_model.specs.Limits.{nesting_limit};
@@ -17,7 +17,7 @@ use lang_model::token::{Keyword, Kind, Token};
 use rv_tokens::Ending;
 use std::alloc::Global;
 
-/// Something else is wanted in place of the first token, or of the end.
+/// Something else is expected in place of the first token, or of the end.
 pub fn missing(tokens: &[Token], end: Ending, wanted: Wanted) -> Halt
     ensures fault { fault_of result ≡ missing (what wanted) tokens.now (ending_of end) }
     ensures memory { result ≡ NoMemory → ⊥ }
@@ -34,7 +34,7 @@ pub fn missing(tokens: &[Token], end: Ending, wanted: Wanted) -> Halt
     }
 }
 
-/// What stands behind this sign, where it comes first.
+/// What follows this sign, if it is the first token.
 pub fn behind_sign(tokens: &[Token], byte: u8) -> Option<(Place, &[Token])>
     ensures { MatchOption result (begins byte tokens.now ≡ false) (λ x. TakesAt x.0 (Sign byte) tokens.now x.1.now) }
 {
@@ -53,7 +53,7 @@ pub fn behind_sign(tokens: &[Token], byte: u8) -> Option<(Place, &[Token])>
     }
 }
 
-/// This sign.
+/// This sign, which must come.
 #[tactic(auto, using(crate::proofs::Leaves::reads_sign, crate::proofs::Leaves::no_sign))]
 pub fn next_sign(tokens: &[Token], end: Ending, byte: u8) -> Result<(Place, &[Token]), Halt>
     ensures read { MatchResult result (λ x. TakesAt x.0 (Sign byte) tokens.now x.1.now
@@ -67,7 +67,7 @@ pub fn next_sign(tokens: &[Token], end: Ending, byte: u8) -> Result<(Place, &[To
     }
 }
 
-/// What was read, with this sign behind it.
+/// What was read, if this sign follows it.
 pub fn with_sign<T: Drop>(
     found: T,
     tokens: &[Token],
@@ -82,7 +82,7 @@ pub fn with_sign<T: Drop>(
     Ok((found, rest))
 }
 
-/// The number of a keyword among all.
+/// The number of a keyword, in their order.
 fn number_of(keyword: Keyword) -> u8
     ensures { result ≡ number_of keyword }
 {
@@ -118,7 +118,7 @@ fn number_of(keyword: Keyword) -> u8
     }
 }
 
-/// What stands behind this keyword, where it comes first.
+/// What follows this keyword, if it is the first token.
 #[tactic(auto, using(crate::proofs::Leaves::one_number))]
 pub fn behind_word(tokens: &[Token], keyword: Keyword) -> Option<(Place, &[Token])>
     ensures { MatchOption result (begins_word keyword tokens.now ≡ false)
@@ -139,7 +139,7 @@ pub fn behind_word(tokens: &[Token], keyword: Keyword) -> Option<(Place, &[Token
     }
 }
 
-/// What stands behind ALL, where it comes first; where it doesn't, a name or an expression must come.
+/// What follows ALL, if it is the first token; if not, a name or an expression must come.
 #[tactic(auto, using(crate::proofs::AllOrOne::takes_all, crate::proofs::AllOrOne::wants_one))]
 pub fn behind_all(tokens: &[Token]) -> Option<&[Token]>
     ensures { MatchOption result (WantsOne tokens.now) (λ rest. TakesAll tokens.now rest.now) }
@@ -150,7 +150,7 @@ pub fn behind_all(tokens: &[Token]) -> Option<&[Token]>
     }
 }
 
-/// This keyword.
+/// This keyword, which must come.
 #[tactic(auto, using(crate::proofs::Leaves::reads_word, crate::proofs::Leaves::no_word))]
 pub fn next_word(tokens: &[Token], end: Ending, keyword: Keyword) -> Result<(Place, &[Token]), Halt>
     ensures read { MatchResult result (λ x. TakesAt x.0 (KEYWORD keyword) tokens.now x.1.now
@@ -164,7 +164,7 @@ pub fn next_word(tokens: &[Token], end: Ending, keyword: Keyword) -> Result<(Pla
     }
 }
 
-/// What was read, with this keyword behind it.
+/// What was read, if this keyword follows it.
 pub fn with_word<T: Drop>(
     found: T,
     tokens: &[Token],
@@ -179,7 +179,7 @@ pub fn with_word<T: Drop>(
     Ok((found, rest))
 }
 
-/// A name, whose copy takes memory.
+/// A name, which must come. Its copy takes memory.
 pub fn next_name(
     alloc: Global,
     tokens: &[Token],
@@ -202,7 +202,7 @@ pub fn next_name(
     }
 }
 
-/// A number.
+/// A number, which must come.
 pub fn next_number(tokens: &[Token], end: Ending) -> Result<(u64, Place, &[Token]), Halt>
     ensures read { MatchResult result (λ x. TakesAt x.1 (Number x.0) tokens.now x.2.now
         × Reads (ending_of end) (NumberPart ∷ []) tokens.now x.2.now)
@@ -218,7 +218,7 @@ pub fn next_number(tokens: &[Token], end: Ending) -> Result<(u64, Place, &[Token
     }
 }
 
-/// A number from 1.
+/// A number that is at least 1, which must come.
 pub fn next_from_one(tokens: &[Token], end: Ending) -> Result<(u64, Place, &[Token]), Halt>
     ensures read { MatchResult result (λ x. TakesAt x.1 (Number x.0) tokens.now x.2.now × (1 ≤ x.0)
         × Reads (ending_of end) (FromOne ∷ []) tokens.now x.2.now)
@@ -239,7 +239,7 @@ pub fn next_from_one(tokens: &[Token], end: Ending) -> Result<(u64, Place, &[Tok
     }
 }
 
-/// A file text, whose copy takes memory.
+/// A file text, which must come. Its copy takes memory.
 pub fn next_file(alloc: Global, tokens: &[Token], end: Ending) -> Result<(FileText, &[Token]), Halt>
     ensures read { MatchResult result (λ x. Takes (File x.0) tokens.now x.1.now
         × Reads (ending_of end) (FilePart ∷ []) tokens.now x.1.now)
@@ -258,7 +258,7 @@ pub fn next_file(alloc: Global, tokens: &[Token], end: Ending) -> Result<(FileTe
     }
 }
 
-/// The parenthesis that opens one more construct where so many are open.
+/// The parenthesis that opens one more construct, given how many are open.
 #[tactic(auto, using(crate::proofs::Leaves::no_open, crate::proofs::Leaves::opens, crate::proofs::Leaves::opens_too_deep))]
 pub fn open(tokens: &[Token], end: Ending, depth: u32) -> Result<(Place, &[Token]), Halt>
     ensures read { MatchResult result (λ x. TakesAt x.0 (Sign 40) tokens.now x.1.now × (depth < nesting_limit)

@@ -1,4 +1,4 @@
-//! Reads scripts: the tree that the tokens of a text spell.
+//! Parses scripts: the tree that the tokens of a text spell.
 #![tactic(auto)]
 
 mod block;

@@ -17,7 +17,7 @@ use lang_model::token::{Kind, Token};
 use rv_tokens::Ending;
 use std::alloc::Global;
 
-/// How many rows and columns a listed relation has, and where these numbers stand.
+/// The numbers of rows and columns of a listed relation, with their places. 32 bytes.
 #[derive(Clone, Copy)]
 struct Sizes {
     rows: u64,
@@ -26,7 +26,7 @@ struct Sizes {
     cols_at: Place,
 }
 
-/// Whether a number comes first.
+/// Whether the first token is a number.
 fn begins_number(tokens: &[Token]) -> bool
     ensures { result ≡ begins_number tokens.now }
 {
@@ -118,7 +118,7 @@ fn braced_rows(alloc: Global, tokens: &[Token], end: Ending) -> Result<(Vec<Row>
     Ok((list, rest))
 }
 
-/// The relation behind REL.
+/// The listed relation, after REL.
 pub fn relation(alloc: Global, tokens: &[Token], end: Ending) -> Result<(Command, &[Token]), Halt>
     ensures { MatchResult result (λ x. Got (ending_of end) relation_parts
         (λ t r. (before : List TOKEN) → Takes (KEYWORD REL) before t → SpellsCommand x.0 before r) tokens.now x.1.now)

@@ -27,7 +27,7 @@ use rel_model::NoMemory;
 use rv_tokens::{Ending, Flaw, lexed};
 use std::alloc::Global;
 
-/// The name that comes first.
+/// The name at the front, if the first token is one.
 fn first_name(tokens: &[Token]) -> Option<(&Name, Place, &[Token])>
     ensures { MatchOption result (begins_name tokens.now ≡ false) (λ x. TakesAt x.1 (Word x.0.now) tokens.now x.2.now) }
 {
@@ -40,7 +40,7 @@ fn first_name(tokens: &[Token]) -> Option<(&Name, Place, &[Token])>
     }
 }
 
-/// The keyword of a command that comes first.
+/// The keyword of a command at the front, if the first token is one.
 fn first_opening(tokens: &[Token]) -> Option<(Opening, &[Token])>
     ensures { MatchOption result (NoCommand tokens.now) (λ x. Takes (KEYWORD (opening_word x.0)) tokens.now x.1.now) }
 {
@@ -153,7 +153,7 @@ fn written(keyword: Keyword) -> &'static [u8]
     }
 }
 
-/// The word for what is wanted.
+/// How what is expected is reported.
 fn what_of(alloc: Global, wanted: Wanted) -> Result<What, NoMemory>
     ensures word { IfOk result (λ w. w ≡ what wanted) }
     ensures memory { IfErr result (λ e. IsToken wanted) }
@@ -170,7 +170,7 @@ fn what_of(alloc: Global, wanted: Wanted) -> Result<What, NoMemory>
     }
 }
 
-/// The fault that a flaw of a token is.
+/// The fault for a flaw of a token.
 fn flaw_fault(alloc: Global, flaw: Flaw) -> ParseFault
     ensures fault { IsFaultOf (BROKEN flaw) result }
     ensures memory { result ≡ NO_MEMORY → TakesMemory (BROKEN flaw) }
@@ -190,7 +190,7 @@ fn flaw_fault(alloc: Global, flaw: Flaw) -> ParseFault
     }
 }
 
-/// The fault that ended the reading.
+/// The fault that ended the parse.
 fn fault_of(alloc: Global, halt: Halt) -> ParseFault
     ensures fault { IsFaultOf halt result }
     ensures memory { result ≡ NO_MEMORY → TakesMemory halt }
@@ -208,11 +208,10 @@ fn fault_of(alloc: Global, halt: Halt) -> ParseFault
 
 /// The script that the bytes spell, or the first fault of the text.
 ///
-/// The text is read token by token. The fault is the first of these: a byte, number, word or file
-/// text that is no token; a token, or the end, that does not fit what is to come; a token that makes
-/// the nesting 41. At one token a fault of the first kind comes before the others, and a token that
-/// does not fit before one that nests too deep. Takes time and memory in the length of the text; its
-/// recursion is as deep as the nesting.
+/// The text is read token by token. The fault is the first of these: a byte, number, word or file text that is not a
+/// token; a token, or the end, that does not fit what has to come; a token that raises the nesting to 41. At one token,
+/// a fault of the first kind comes before the others, and a token that does not fit comes before one that nests too
+/// deeply. Time and memory are linear in the length of the text, and the recursion is as deep as the nesting.
 pub fn parse(alloc: Global, bytes: &[u8]) -> Result<Script, ParseFault>
     requires { length bytes.now ≤ script_limit }
     ensures spelled { IfOk result (SpelledBy bytes.now) }

@@ -20,7 +20,7 @@ use lang_model::token::{Keyword, Kind, Token};
 use rv_tokens::Ending;
 use std::alloc::Global;
 
-/// An assignment behind its name.
+/// An assignment, after its name.
 fn set<'a>(
     alloc: Global,
     name: &Name,
@@ -41,7 +41,7 @@ fn set<'a>(
     Ok((Stmt::Set { at, name, value }, rest))
 }
 
-/// A test inside of a construct around which so many are open, with the keyword behind it.
+/// A test inside a construct, with the keyword after it, given how many are open around the construct.
 fn test_and_word(
     alloc: Global,
     tokens: &[Token],
@@ -60,7 +60,7 @@ fn test_and_word(
     Ok((test, rest))
 }
 
-/// Statements inside of a construct around which so many are open.
+/// Statements inside a construct, given how many are open around the construct.
 #[cycle(stmt)]
 fn inner_stmts(
     alloc: Global,
@@ -77,7 +77,7 @@ fn inner_stmts(
     stmts(alloc, tokens, end, depth + 1)
 }
 
-/// Statements inside of a construct around which so many are open, with the keyword behind them.
+/// Statements inside a construct, with the keyword after them, given how many are open around the construct.
 #[cycle(stmt)]
 fn stmts_and_word(
     alloc: Global,
@@ -97,7 +97,7 @@ fn stmts_and_word(
     Ok((body, rest))
 }
 
-/// The second part of a choice, where it has one, up to FI.
+/// The second branch of an IF, if it has one, up to FI.
 #[cycle(stmt)]
 fn second_part(
     alloc: Global,
@@ -123,7 +123,7 @@ fn second_part(
     }
 }
 
-/// A loop behind WHILE.
+/// A loop, after WHILE.
 #[cycle(stmt)]
 fn looped(
     alloc: Global,
@@ -143,7 +143,7 @@ fn looped(
     Ok((Stmt::While { at, test, body }, rest))
 }
 
-/// A choice behind IF.
+/// A choice, after IF.
 #[cycle(stmt)]
 fn branched(
     alloc: Global,
@@ -164,7 +164,7 @@ fn branched(
     Ok((Stmt::If { at, test, yes, no }, rest))
 }
 
-/// A statement, where one begins.
+/// A statement, if the first token begins one.
 #[cycle(stmt)]
 fn next_stmt(
     alloc: Global,
@@ -206,7 +206,7 @@ fn next_stmt(
     }
 }
 
-/// A list of statements, around which so many constructs are open.
+/// A list of statements, given how many constructs are open around it.
 #[cycle(stmt)]
 pub fn stmts(
     alloc: Global,

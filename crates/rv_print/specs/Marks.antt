@@ -1,7 +1,7 @@
 -- The marks of a row of cells.
 use Rattle.std.specs.Prelude.{ℕ, Bool, cond, zero, suc, List, [], ◌∷◌, ◌++◌}
 
--- `1` for a cell that is in the set and `.` for one that is not
+-- `1` for a cell in the set, and `.` otherwise
 abbrev pub mark : Bool → ℕ
 mark is = cond is 49 46
 

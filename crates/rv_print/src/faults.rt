@@ -1,4 +1,4 @@
-//! The texts of refusals: each call adds why something was refused.
+//! The texts of refusals: each call appends why something was refused.
 ghost use Rattle.std.specs.Prelude.{◌≡◌, ◌≢◌, ◌++◌, List, ℕ, OnOk, IfOk};
 ghost use Rattle.lang_model.specs.declared.faults.TypeFault.TheVariants.{Arity, Rank, NotTest};
 ghost use Rattle.lang_model.specs.declared.faults.ParseFault.TheVariants.{Byte, Expected, TooDeep};
@@ -14,7 +14,7 @@ use run_model::limits::{LIST_LIMIT, PRINT_LIMIT, SAVE_LIMIT};
 use run_model::outcome::{BadFile, Outcome, Unit};
 use std::alloc::{AllocError, Global};
 
-/// `refused: TEXT`, a line: why a command was refused.
+/// `refused: TEXT` as a line: why a command was refused.
 #[tactic(auto, unfolding(run_model::specs::Texts::refusal_text))]
 pub fn fault_text(alloc: Global, outcome: &Outcome) -> Result<Vec<u8>, NoMemory>
     requires { outcome.now ≢ Done }
@@ -27,7 +27,7 @@ pub fn fault_text(alloc: Global, outcome: &Outcome) -> Result<Vec<u8>, NoMemory>
     Ok(out)
 }
 
-/// Adds why a command was refused.
+/// Appends why a command was refused.
 #[tactic(auto, unfolding(run_model::specs::Texts::outcome_text))]
 fn push_outcome(alloc: Global, out: &mut Vec<u8>, outcome: &Outcome) -> Result<(), AllocError>
     ensures { OnOk result (out.new.items ≡ out.old.items ++ outcome_text outcome.now) }
@@ -48,8 +48,8 @@ fn push_outcome(alloc: Global, out: &mut Vec<u8>, outcome: &Outcome) -> Result<(
     }
 }
 
-// ---- what commands come to
-/// Adds that a size passes its limit.
+// ---- outcomes of commands
+/// Appends that a size exceeds its limit.
 #[tactic(auto, unfolding(run_model::specs::Texts::outcome_text))]
 fn push_size_over(
     alloc: Global,
@@ -65,7 +65,7 @@ fn push_size_over(
     push_number_after(alloc, out, b" passes the limit ", limit)
 }
 
-/// Adds that loops took too many turns.
+/// Appends that loops took too many turns.
 #[tactic(auto, unfolding(run_model::specs::Texts::outcome_text))]
 fn push_turns(alloc: Global, out: &mut Vec<u8>, at: Place, limit: u64) -> Result<(), AllocError>
     ensures { OnOk result (out.new.items ≡ out.old.items ++ outcome_text (Turns at limit)) }
@@ -85,7 +85,7 @@ fn unit_name(unit: Unit) -> &'static [u8]
     }
 }
 
-/// The limit of it.
+/// The limit of what is counted.
 fn limit_of(unit: Unit) -> u64
     ensures { result ≡ unit_limit unit }
 {
@@ -95,7 +95,7 @@ fn limit_of(unit: Unit) -> u64
     }
 }
 
-/// Adds that a relation has too many cells or pairs to be shown.
+/// Appends that a relation has too many cells or pairs to be shown.
 #[tactic(auto, unfolding(run_model::specs::Texts::outcome_text))]
 fn push_too_large(
     alloc: Global,
@@ -110,7 +110,7 @@ fn push_too_large(
     push_number_after(alloc, out, b" pass the limit ", limit_of(unit))
 }
 
-/// Adds that a relation's tree has too many bits to be saved.
+/// Appends that a relation's tree has too many bits to be saved.
 #[tactic(auto, unfolding(run_model::specs::Texts::outcome_text))]
 fn push_too_long(alloc: Global, out: &mut Vec<u8>, bits: u64) -> Result<(), AllocError>
     ensures { OnOk result (out.new.items ≡ out.old.items ++ outcome_text (TooLong bits)) }
@@ -119,7 +119,7 @@ fn push_too_long(alloc: Global, out: &mut Vec<u8>, bits: u64) -> Result<(), Allo
     push_number_after(alloc, out, b" bits pass the limit ", SAVE_LIMIT)
 }
 
-/// Adds that a name was changed between the read of an atomic block and its commit.
+/// Appends that a name was changed between the read of an atomic block and its commit.
 #[tactic(auto, unfolding(run_model::specs::Texts::outcome_text))]
 fn push_changed(
     alloc: Global,
@@ -137,7 +137,7 @@ fn push_changed(
 }
 
 // ---- relation files
-/// Adds a text in quotes.
+/// Appends a text in quotes.
 fn push_quoted(out: &mut Vec<u8>, text: &[u8]) -> Result<(), AllocError>
     ensures { OnOk result (out.new.items ≡ out.old.items ++ quoted text.now) }
 {
@@ -146,7 +146,7 @@ fn push_quoted(out: &mut Vec<u8>, text: &[u8]) -> Result<(), AllocError>
     out.extend_from_slice(b"\"")
 }
 
-/// Adds that there is no file of a name.
+/// Appends that there is no file of a name.
 #[tactic(auto, unfolding(run_model::specs::Texts::outcome_text))]
 fn push_no_file(out: &mut Vec<u8>, name: &FileText) -> Result<(), AllocError>
     ensures { OnOk result (out.new.items ≡ out.old.items ++ outcome_text (NoFile name.now)) }
@@ -155,7 +155,7 @@ fn push_no_file(out: &mut Vec<u8>, name: &FileText) -> Result<(), AllocError>
     push_quoted(out, name.bytes())
 }
 
-/// Adds that a file is no relation file.
+/// Appends that a file is not a relation file.
 #[tactic(auto, unfolding(run_model::specs::Texts::outcome_text))]
 fn push_bad(
     alloc: Global,
@@ -171,7 +171,7 @@ fn push_bad(
     push_kind(alloc, out, kind)
 }
 
-/// Adds why bytes are no relation file.
+/// Appends why bytes are not a relation file.
 #[tactic(auto, unfolding(run_model::specs::Texts::bad_file_text))]
 fn push_kind(alloc: Global, out: &mut Vec<u8>, kind: BadFile) -> Result<(), AllocError>
     ensures { OnOk result (out.new.items ≡ out.old.items ++ bad_file_text kind) }
@@ -197,7 +197,7 @@ fn push_kind(alloc: Global, out: &mut Vec<u8>, kind: BadFile) -> Result<(), Allo
 }
 
 // ---- grammar
-/// What the grammar needs.
+/// What the grammar expects.
 #[tactic(auto, unfolding(run_model::specs::Texts::what_text))]
 fn what_name(what: &What) -> &[u8]
     ensures { result.now ≡ what_text what.now }
@@ -213,7 +213,7 @@ fn what_name(what: &What) -> &[u8]
     }
 }
 
-/// Adds that a byte stands in no token.
+/// Appends that a byte belongs to no token.
 #[tactic(auto, unfolding(run_model::specs::Texts::parse_fault_text))]
 fn push_byte(alloc: Global, out: &mut Vec<u8>, at: Place, byte: u8) -> Result<(), AllocError>
     ensures { OnOk result (out.new.items ≡ out.old.items ++ parse_fault_text (Byte at byte)) }
@@ -223,7 +223,7 @@ fn push_byte(alloc: Global, out: &mut Vec<u8>, at: Place, byte: u8) -> Result<()
     out.extend_from_slice(b" is not allowed")
 }
 
-/// Adds what is expected at a place.
+/// Appends what is expected at a place.
 #[tactic(auto, unfolding(run_model::specs::Texts::parse_fault_text))]
 fn push_expected(alloc: Global, out: &mut Vec<u8>, at: Place, what: &What) -> Result<(), AllocError>
     ensures { OnOk result (out.new.items ≡ out.old.items ++ parse_fault_text (Expected at what.now)) }
@@ -232,7 +232,7 @@ fn push_expected(alloc: Global, out: &mut Vec<u8>, at: Place, what: &What) -> Re
     out.extend_from_slice(what_name(what))
 }
 
-/// Adds that a script is nested too deep.
+/// Appends that a script is nested too deeply.
 #[tactic(auto, unfolding(run_model::specs::Texts::parse_fault_text))]
 fn push_too_deep(alloc: Global, out: &mut Vec<u8>, at: Place) -> Result<(), AllocError>
     ensures { OnOk result (out.new.items ≡ out.old.items ++ parse_fault_text (TooDeep at)) }
@@ -241,7 +241,7 @@ fn push_too_deep(alloc: Global, out: &mut Vec<u8>, at: Place) -> Result<(), Allo
     push_number(alloc, out, u64::from(NESTING_LIMIT))
 }
 
-/// Adds why bytes are no script.
+/// Appends why bytes are not a script.
 #[tactic(auto, unfolding(run_model::specs::Texts::parse_fault_text))]
 fn push_parse_fault(alloc: Global, out: &mut Vec<u8>, fault: &ParseFault) -> Result<(), AllocError>
     ensures { OnOk result (out.new.items ≡ out.old.items ++ parse_fault_text fault.now) }
@@ -257,7 +257,7 @@ fn push_parse_fault(alloc: Global, out: &mut Vec<u8>, fault: &ParseFault) -> Res
 }
 
 // ---- meaning
-/// Adds that a name has no relation, at its place.
+/// Appends that a name has no relation, at its place.
 #[tactic(auto, unfolding(run_model::specs::Texts::unknown_text))]
 fn push_unknown(alloc: Global, out: &mut Vec<u8>, at: Place, name: &Name) -> Result<(), AllocError>
     ensures { OnOk result (out.new.items ≡ out.old.items ++ unknown_text at name.now) }
@@ -266,7 +266,7 @@ fn push_unknown(alloc: Global, out: &mut Vec<u8>, at: Place, name: &Name) -> Res
     out.extend_from_slice(name.bytes())
 }
 
-/// Adds what is said of a name, at its place.
+/// Appends what is said about a name, at its place.
 fn push_said(
     alloc: Global,
     out: &mut Vec<u8>,
@@ -280,7 +280,7 @@ fn push_said(
     out.extend_from_slice(said)
 }
 
-/// Adds that an operator needs another shape than that of its operand.
+/// Appends that an operator needs an operand of another shape.
 fn push_unfit(
     alloc: Global,
     out: &mut Vec<u8>,
@@ -296,7 +296,7 @@ fn push_unfit(
     push_shape(alloc, out, shape)
 }
 
-/// Adds that a definition has too high a rank.
+/// Appends that a definition has too high a rank.
 #[tactic(auto, unfolding(run_model::specs::Texts::type_fault_text))]
 fn push_rank(alloc: Global, out: &mut Vec<u8>, at: Place, name: &Name) -> Result<(), AllocError>
     ensures { OnOk result (out.new.items ≡ out.old.items ++ type_fault_text (Rank at name.now)) }
@@ -305,7 +305,7 @@ fn push_rank(alloc: Global, out: &mut Vec<u8>, at: Place, name: &Name) -> Result
     push_number(alloc, out, u64::from(RANK_LIMIT))
 }
 
-/// Adds that a test is not of one row and one column.
+/// Appends that a test does not have one row and one column.
 #[tactic(auto, unfolding(run_model::specs::Texts::type_fault_text))]
 fn push_no_test(
     alloc: Global,
@@ -319,7 +319,7 @@ fn push_no_test(
     push_shape(alloc, out, shape)
 }
 
-/// Adds that a definition takes so many arguments.
+/// Appends how many arguments a definition takes.
 #[tactic(auto, unfolding(run_model::specs::Texts::type_fault_text))]
 fn push_arity(
     alloc: Global,
@@ -336,7 +336,7 @@ fn push_arity(
     push_number_after(alloc, out, b" arguments, not ", u64::from(given))
 }
 
-/// Adds that operands do not fit.
+/// Appends that operands do not fit.
 #[tactic(auto, unfolding(run_model::specs::Texts::mismatch_text))]
 fn push_mismatch(
     alloc: Global,
@@ -354,7 +354,7 @@ fn push_mismatch(
     push_shape(alloc, out, right)
 }
 
-/// Adds why an expression or a script has no meaning.
+/// Appends why an expression or a script has no meaning.
 #[tactic(auto, unfolding(run_model::specs::Texts::type_fault_text))]
 fn push_type_fault(alloc: Global, out: &mut Vec<u8>, fault: &TypeFault) -> Result<(), AllocError>
     ensures { OnOk result (out.new.items ≡ out.old.items ++ type_fault_text fault.now) }

@@ -7,7 +7,7 @@ use rel_model::NoMemory;
 use run_model::event::{Act, Event};
 use std::alloc::{AllocError, Global};
 
-/// Adds what an event does.
+/// Appends what an event does.
 fn push_act(alloc: Global, out: &mut Vec<u8>, act: &Act) -> Result<(), AllocError>
     ensures { OnOk result (out.new.items ≡ out.old.items ++ act_text act.now) }
 {
@@ -26,7 +26,7 @@ fn push_act(alloc: Global, out: &mut Vec<u8>, act: &Act) -> Result<(), AllocErro
     }
 }
 
-/// `S.C read`, `S.C assign N R x K` or `S.C drop N`, a line.
+/// `S.C read`, `S.C assign N R x K` or `S.C drop N`, as a line.
 #[tactic(auto, unfolding(run_model::specs::Page::event_line))]
 pub fn event_line(alloc: Global, event: &Event) -> Result<Vec<u8>, NoMemory>
     ensures { IfOk result (λ v. v.items ≡ event_line event.now) }

@@ -18,7 +18,7 @@ use std::alloc::{AllocError, Global};
 
 /// `M x N, pairs K`, and a line `I:J` for each pair, by row and then by column, in time linear in the pairs.
 ///
-/// A relation of more pairs than the limit is refused before a byte is made.
+/// A relation with more pairs than the limit is refused before any byte is made.
 #[tactic(auto, unfolding(run_model::specs::Page::listing))]
 pub fn listing<E: Engine>(alloc: Global, engine: &mut E, rel: Rel) -> Result<Vec<u8>, PrintRefused>
     requires { Stands (E.worker engine.old) rel }
@@ -42,7 +42,7 @@ pub fn listing<E: Engine>(alloc: Global, engine: &mut E, rel: Rel) -> Result<Vec
     Ok(out)
 }
 
-/// Adds `M x N, pairs K` and a line feed.
+/// Appends `M x N, pairs K` and a line feed.
 fn push_head(alloc: Global, out: &mut Vec<u8>, rel: Rel, count: u64) -> Result<(), AllocError>
     ensures { OnOk result (out.new.items ≡ out.old.items ++ sizes_text rel.rows rel.cols
         ++ codes ", pairs " ++ decimal count ++ line_feed) }
@@ -52,7 +52,7 @@ fn push_head(alloc: Global, out: &mut Vec<u8>, rel: Rel, count: u64) -> Result<(
     out.extend_from_slice(b"\n")
 }
 
-/// Adds the line of a pair, counted from 1.
+/// Appends the line of a pair, counted from 1.
 fn push_pair(alloc: Global, out: &mut Vec<u8>, pair: (u32, u32)) -> Result<(), AllocError>
     ensures { OnOk result (out.new.items ≡ out.old.items ++ pair_text pair) }
 {
@@ -61,7 +61,7 @@ fn push_pair(alloc: Global, out: &mut Vec<u8>, pair: (u32, u32)) -> Result<(), A
     out.extend_from_slice(b"\n")
 }
 
-/// Adds the lines of all pairs.
+/// Appends the lines of all pairs.
 fn push_pairs<E: Engine>(
     alloc: Global,
     engine: &mut E,

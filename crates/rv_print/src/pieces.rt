@@ -1,4 +1,4 @@
-//! The parts of which texts are made: each call adds its text behind what is there.
+//! The pieces from which texts are made: each call appends its text.
 ghost use Rattle.std.specs.Prelude.{◌≡◌, ◌++◌, OnOk};
 ghost use Rattle.std.specs.Fmt.{decimal};
 ghost use Rattle.run_model.specs.Texts.{place_text, size_text, shape_text};
@@ -8,7 +8,7 @@ use lang_model::faults::StaticShape;
 use lang_model::syntax::Place;
 use std::alloc::{AllocError, Global};
 
-/// Adds a number in decimal.
+/// Appends a number in decimal.
 pub(crate) fn push_number(alloc: Global, out: &mut Vec<u8>, n: u64) -> Result<(), AllocError>
     ensures { OnOk result (out.new.items ≡ out.old.items ++ decimal n) }
 {
@@ -16,7 +16,7 @@ pub(crate) fn push_number(alloc: Global, out: &mut Vec<u8>, n: u64) -> Result<()
     out.extend_from_slice(text.as_bytes())
 }
 
-/// Adds a text and a number behind it.
+/// Appends a text and then a number.
 pub(crate) fn push_number_after(
     alloc: Global,
     out: &mut Vec<u8>,
@@ -29,7 +29,7 @@ pub(crate) fn push_number_after(
     push_number(alloc, out, n)
 }
 
-/// Adds `M x N`.
+/// Appends `M x N`.
 pub(crate) fn push_sizes(
     alloc: Global,
     out: &mut Vec<u8>,
@@ -42,7 +42,7 @@ pub(crate) fn push_sizes(
     push_number_after(alloc, out, b" x ", u64::from(cols))
 }
 
-/// Adds `LINE:COLUMN: `.
+/// Appends `LINE:COLUMN: `.
 #[tactic(auto, unfolding(run_model::specs::Texts::place_text))]
 fn push_place(alloc: Global, out: &mut Vec<u8>, at: Place) -> Result<(), AllocError>
     ensures { OnOk result (out.new.items ≡ out.old.items ++ place_text at) }
@@ -52,7 +52,7 @@ fn push_place(alloc: Global, out: &mut Vec<u8>, at: Place) -> Result<(), AllocEr
     out.extend_from_slice(b": ")
 }
 
-/// Adds a place and a text behind it.
+/// Appends a place and then a text.
 pub(crate) fn push_text_at(
     alloc: Global,
     out: &mut Vec<u8>,
@@ -65,7 +65,7 @@ pub(crate) fn push_text_at(
     out.extend_from_slice(text)
 }
 
-/// Adds a size, or `?` where it is unknown.
+/// Appends a size, or `?` if it is unknown.
 fn push_size(alloc: Global, out: &mut Vec<u8>, size: Option<u32>) -> Result<(), AllocError>
     ensures { OnOk result (out.new.items ≡ out.old.items ++ size_text size) }
 {
@@ -75,7 +75,7 @@ fn push_size(alloc: Global, out: &mut Vec<u8>, size: Option<u32>) -> Result<(), 
     }
 }
 
-/// Adds `M x N` of sizes that may be unknown.
+/// Appends `M x N` for sizes that may be unknown.
 #[tactic(auto, unfolding(run_model::specs::Texts::shape_text))]
 pub(crate) fn push_shape(
     alloc: Global,

@@ -6,7 +6,7 @@ use std::alloc::{AllocError, AllocFailed};
 /// Why a relation is not shown.
 #[derive(Clone, Copy, Debug, PartialEq, Eq)]
 pub enum PrintRefused {
-    /// It has so many cells or pairs, which is over the limit.
+    /// It has this many cells or pairs, which is over the limit.
     TooLarge { wanted: u64, unit: Unit },
     /// Memory ran out.
     NoMemory,

@@ -1,4 +1,4 @@
-//! The matrix of a relation: a line for each row. A row is a walk over the quads that it meets.
+//! The matrix of a relation: a line for each row. A row is a walk over the quads that it crosses.
 ghost use Rattle.std.specs.Prelude.{◌≡◌, ◌<◌, ◌≤◌, ◌+◌, ◌*◌, ◌^◌, ◌++◌, OnOk, IfOk, IfErr, Err, false};
 ghost use Rattle.rel_model.specs.Relation.{size_height};
 ghost use Rattle.rel_model.specs.Cells.{bits_cells};
@@ -18,9 +18,9 @@ use run_model::limits::PRINT_LIMIT;
 use run_model::outcome::Unit;
 use std::alloc::{AllocError, Global};
 
-/// `M x N`, and a line for each row with `1` for a pair and `.` for none, in time linear in the cells.
+/// `M x N`, and a line for each row with `1` for a pair and `.` otherwise, in time linear in the cells.
 ///
-/// A relation of more cells than the limit is refused before a byte is made.
+/// A relation with more cells than the limit is refused before any byte is made.
 #[tactic(auto, unfolding(run_model::specs::Texts::matrix))]
 pub fn matrix<E: Engine>(alloc: Global, engine: &mut E, rel: Rel) -> Result<Vec<u8>, PrintRefused>
     requires { Stands (E.worker engine.old) rel }
@@ -45,7 +45,7 @@ pub fn matrix<E: Engine>(alloc: Global, engine: &mut E, rel: Rel) -> Result<Vec<
     Ok(out)
 }
 
-/// Adds the line of each row.
+/// Appends the line of each row.
 fn push_rows<E: Engine>(engine: &mut E, out: &mut Vec<u8>, rel: Rel) -> Result<(), AllocError>
     requires standing { Stands (E.worker engine.old) rel }
     ensures text { OnOk result (out.new.items ≡ out.old.items ++ rows_text (set_of (E.worker engine.old) rel)) }
@@ -59,7 +59,7 @@ fn push_rows<E: Engine>(engine: &mut E, out: &mut Vec<u8>, rel: Rel) -> Result<(
     Ok(())
 }
 
-/// Adds the line of a row.
+/// Appends the line of a row.
 fn push_row<E: Engine>(
     engine: &mut E,
     out: &mut Vec<u8>,
@@ -86,7 +86,7 @@ fn side_of(height: u8) -> u32
     1u32 << height
 }
 
-/// Adds the marks of the first cells of a row of a quad.
+/// Appends the marks of the first cells in a row of a quad.
 #[cycle(cells)]
 fn push_cells<E: Engine>(
     engine: &mut E,
@@ -114,7 +114,7 @@ fn push_cells<E: Engine>(
     push_half(engine, out, quad, row, cols)
 }
 
-/// The same over the leaves.
+/// The same above the leaves.
 #[cycle(cells)]
 fn push_half<E: Engine>(
     engine: &mut E,
@@ -141,7 +141,7 @@ fn push_half<E: Engine>(
     }
 }
 
-/// The same of two quads of one height, side by side.
+/// The same for two quads of one height, side by side.
 #[cycle(cells)]
 fn push_two<E: Engine>(
     engine: &mut E,
@@ -168,7 +168,7 @@ fn push_two<E: Engine>(
     push_cells(engine, out, east, row, cols.saturating_sub(half))
 }
 
-/// Adds so many marks of no pair.
+/// Appends a mark for no pair in each of `cols` columns.
 fn push_none(out: &mut Vec<u8>, cols: u32) -> Result<(), AllocError>
     ensures { OnOk result (out.new.items ≡ out.old.items ++ marks (λ j. false) cols) }
 {
@@ -184,7 +184,7 @@ fn mark_of(is: bool) -> u8
     if is { b'1' } else { b'.' }
 }
 
-/// Adds the marks of the first cells of a row of a leaf.
+/// Appends the marks of the first cells in a row of a leaf.
 fn push_bits(out: &mut Vec<u8>, bits: u64, side: u32, row: u32, cols: u32) -> Result<(), AllocError>
     requires small { side ≤ 8 }
     requires row { row < side }

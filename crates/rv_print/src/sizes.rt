@@ -10,7 +10,7 @@ use rel_model::engine_trait::Engine;
 use rel_model::{NoMemory, Rel};
 use std::alloc::Global;
 
-/// `M x N`, a line: the type of a relation.
+/// `M x N` as a line: the type of a relation.
 #[tactic(auto, unfolding(run_model::specs::Page::type_text))]
 pub fn shape_text(alloc: Global, rel: Rel) -> Result<Vec<u8>, NoMemory>
     ensures text { IfOk result (λ v. v.items ≡ sizes_text rel.rows rel.cols ++ 10 ∷ []) }
@@ -22,7 +22,7 @@ pub fn shape_text(alloc: Global, rel: Rel) -> Result<Vec<u8>, NoMemory>
     Ok(out)
 }
 
-/// How many pairs a relation has, a line.
+/// How many pairs a relation has, as a line.
 #[tactic(auto, unfolding(run_model::specs::Page::count_text))]
 pub fn count_line<E: Engine>(alloc: Global, engine: &mut E, rel: Rel) -> Result<Vec<u8>, NoMemory>
     requires { Stands (E.worker engine.old) rel }

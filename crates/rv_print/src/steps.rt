@@ -9,7 +9,7 @@ use rv_rewrite::Step;
 use rv_spell::print_expr;
 use std::alloc::Global;
 
-/// Adds `RULE: BEFORE -> AFTER` and a line feed.
+/// Appends `RULE: BEFORE -> AFTER` and a line feed.
 fn push_step(alloc: Global, out: &mut Vec<u8>, step: &Step) -> Result<(), NoMemory>
     ensures { OnOk result (out.new.items ≡ out.old.items ++ step_text (step_of step.now)) }
 {

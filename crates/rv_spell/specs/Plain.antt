@@ -1,5 +1,5 @@
--- The tree of a script: what stands in the vectors and boxes that the code has, with all places, names and file
--- texts. And that a text spells one such tree alone.
+-- The tree of a script: the contents of the vectors and boxes that the code has, with all places, names and file texts.
+-- And that a text spells at most one such tree.
 use Rattle.std.specs.Prelude.{◌≡◌, ℕ, List, [], ◌∷◌, map}
 use Rattle.lang_model.specs.declared.syntax.Place.{Place}
 use Rattle.lang_model.specs.declared.syntax.Column.{Column}
@@ -29,7 +29,7 @@ row_tree r = record { row = r.row; at = r.at; cols = r.cols.items }
 -- ---- statements
 -- a statement, and a list of statements
 mutual
-  -- `name = value`, a WHILE with its test and body, an IF with its test and two parts
+  -- `name = value`, a WHILE with its test and body, an IF with its test and two branches
   pub data StmtTree : Type 0 where
     SetTree : Place → List ℕ → Tree → StmtTree
     WhileTree : Place → Tree → StmtTrees → StmtTree
@@ -42,30 +42,30 @@ mutual
 
 -- the tree of a statement, and of statements
 abbrev mutual
-  -- that of one
+  -- the tree of one statement
   pub stmt_tree : Stmt → StmtTree
   stmt_tree (Set at name value) = SetTree at name (tree_of value)
   stmt_tree (While' at test s body) = WhileTree at (tree_of test) (stmt_trees body)
   stmt_tree (If' at test s first t second) = IfTree at (tree_of test) (stmt_trees first) (stmt_trees second)
 
-  -- those of a row of them
+  -- the trees of a row of statements
   pub stmt_trees : {m : _} → Row_of-Stmt m → StmtTrees
   stmt_trees end_of-Stmt = NoStmt
   stmt_trees (more_of-Stmt s rest) = MoreStmts (stmt_tree s) (stmt_trees rest)
 
--- the same of a list
+-- the trees of a list of statements
 abbrev pub stmts_in : List Stmt → StmtTrees
 stmts_in [] = NoStmt
 stmts_in (s ∷ ss) = MoreStmts (stmt_tree s) (stmts_in ss)
 
 -- ---- blocks
--- an assignment of a block: the place of its name, the name and its expression
+-- an assignment in a block: the place of its name, the name and its expression
 pub record LetTreeOf : Type 0 where
   pub at : Place
   pub name : List ℕ
   pub value : Tree
 
--- the tree of an assignment of a block
+-- the tree of an assignment in a block
 abbrev pub let_tree : LetOf → LetTreeOf
 let_tree l = record { at = l.at; name = l.name; value = tree_of l.value }
 
@@ -125,7 +125,7 @@ abbrev pub script_tree : Script → List ItemTree
 script_tree script = map item_tree script.items.items
 
 -- ---- the law
--- whatever scripts the same bytes spell, they have one tree
+-- whatever scripts the same bytes spell, they have the same tree
 abbrev pub OneScript : Type 0
 OneScript = (bytes : List ℕ) (script other : Script) → SpelledBy bytes script → SpelledBy bytes other
     → script_tree script ≡ script_tree other

@@ -1,13 +1,13 @@
-//! Laws of texts and trees, each a function that does nothing.
+//! Laws of texts and trees, each the contract of a function with an empty body.
 ghost use Rattle.rv_spell.specs.Plain.{OneScript};
 ghost use Rattle.rv_spell.specs.SameTrees.{SameExceptPlaces};
 
-/// A text spells one script alone: whatever scripts its bytes spell, they have one tree, with all places.
+/// A text spells at most one script: whatever scripts its bytes spell, they have the same tree, with all places.
 pub fn one_script()
     ensures { OneScript }
 {}
 
-/// Rewriting takes two trees for one exactly where they differ in places alone.
+/// Rewriting regards two trees as equal if and only if they differ in places only.
 pub fn same_except_places()
     ensures { SameExceptPlaces }
 {}

@@ -1,4 +1,4 @@
-//! Writes expressions, so that they are read again as the same; and a text spells one script alone.
+//! Prints expressions so that they are read back as the same; and a text spells at most one script.
 #![tactic(auto)]
 
 mod law;

@@ -21,7 +21,7 @@ fn sign_of(op: Op2) -> u8
     }
 }
 
-/// How tightly the chains of an operator hold together.
+/// How tightly chains of an operator bind.
 fn chain_rank(op: Op2) -> u32
     ensures { result ≡ chain_rank op }
 {
@@ -32,7 +32,7 @@ fn chain_rank(op: Op2) -> u32
     }
 }
 
-/// How tightly a chain with these links holds together.
+/// How tightly a chain with these links binds.
 fn links_rank(links: &[Link]) -> u32
     ensures { result ≡ rank_of_links links.now }
 {
@@ -42,7 +42,7 @@ fn links_rank(links: &[Link]) -> u32
     }
 }
 
-/// How tightly an expression holds together: chains by their level, then a prefix `-`, then signs `^`, then all others.
+/// How tightly an expression binds: chains by their level, then a prefix `-`, then signs `^`, then everything else.
 fn rank(expr: &Expr) -> u32
     ensures { result ≡ rank expr.now }
 {
@@ -54,7 +54,7 @@ fn rank(expr: &Expr) -> u32
     }
 }
 
-/// So many signs `^` more.
+/// Appends a number of signs `^`.
 fn write_carets(text: &mut Vec<u8>, times: u32) -> Result<(), NoMemory>
     ensures { OnOk result (text.new.items ≡ text.old.items ++ replicate times 94) }
 {
@@ -64,7 +64,7 @@ fn write_carets(text: &mut Vec<u8>, times: u32) -> Result<(), NoMemory>
     Ok(())
 }
 
-/// An operand more, in parentheses where they are needed.
+/// Appends an operand, in parentheses if they are needed.
 #[cycle(print)]
 fn write_operand(text: &mut Vec<u8>, needed: bool, expr: &Expr) -> Result<(), NoMemory>
     ensures { OnOk result (text.new.items ≡ text.old.items ++ within needed (printed expr.now)) }
@@ -78,7 +78,7 @@ fn write_operand(text: &mut Vec<u8>, needed: bool, expr: &Expr) -> Result<(), No
     write_expr(text, expr)
 }
 
-/// Arguments more, with commas between them.
+/// Appends arguments, separated by commas.
 #[cycle(print)]
 fn write_args(text: &mut Vec<u8>, args: &[Expr]) -> Result<(), NoMemory>
     ensures { OnOk result (text.new.items ≡ text.old.items ++ printed_all_args args.now) }
@@ -94,7 +94,7 @@ fn write_args(text: &mut Vec<u8>, args: &[Expr]) -> Result<(), NoMemory>
     Ok(())
 }
 
-/// A word more, and arguments in parentheses.
+/// Appends a word, and arguments in parentheses.
 #[cycle(print)]
 fn write_call(text: &mut Vec<u8>, word: &[u8], args: &[Expr]) -> Result<(), NoMemory>
     ensures { OnOk result (text.new.items ≡ text.old.items
@@ -107,7 +107,7 @@ fn write_call(text: &mut Vec<u8>, word: &[u8], args: &[Expr]) -> Result<(), NoMe
     Ok(())
 }
 
-/// The links of a chain of so loose operators more.
+/// Appends the links of a chain whose operators bind this tightly.
 #[cycle(print)]
 fn write_links(text: &mut Vec<u8>, loose: u32, links: &[Link]) -> Result<(), NoMemory>
     ensures { OnOk result (text.new.items ≡ text.old.items ++ printed_all_links loose links.now) }
@@ -120,7 +120,7 @@ fn write_links(text: &mut Vec<u8>, loose: u32, links: &[Link]) -> Result<(), NoM
     Ok(())
 }
 
-/// An expression more.
+/// Appends an expression.
 #[cycle(print)]
 fn write_expr(text: &mut Vec<u8>, expr: &Expr) -> Result<(), NoMemory>
     ensures { OnOk result (text.new.items ≡ text.old.items ++ printed expr.now) }
@@ -164,11 +164,11 @@ fn write_expr(text: &mut Vec<u8>, expr: &Expr) -> Result<(), NoMemory>
     }
 }
 
-/// The text of an expression, without blanks, and with parentheses only where a looser operand needs them.
+/// The text of an expression, without blanks, and with parentheses only around operands that bind more loosely.
 ///
-/// An operand of a chain stands in parentheses where it is a chain of the same or a looser level, that of `-` where
-/// it is a chain, and that of `^` where it is a chain or has a `-` or a `^` in front. Takes time and memory in the
-/// length of the text; its recursion is as deep as the nesting.
+/// An operand of a chain is in parentheses if it is a chain of the same or a looser level, that of `-` if it is a
+/// chain, and that of `^` if it is a chain or has a `-` or a `^` itself. Time and memory are linear in the length of
+/// the text, and the recursion is as deep as the nesting. Refused only if memory runs out.
 pub fn print_expr(alloc: Global, expr: &Expr) -> Result<Vec<u8>, NoMemory>
     ensures text { IfOk result (λ v. v.items ≡ printed expr.now) }
     ensures again { IfOk result (λ v. ReadAgain expr.now v.items) }

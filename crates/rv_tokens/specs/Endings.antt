@@ -1,4 +1,4 @@
--- The faults that the lexer's own words for them stand for.
+-- The faults in the model that the lexer's own words for them mean.
 use Rattle.std.specs.Prelude.{[], ◌∷◌}
 use Rattle.lang_model.specs.declared.faults.ParseFault.{ParseFault}
 use Rattle.lang_model.specs.declared.faults.ParseFault.TheVariants.{Byte, Expected, NumberTooLarge, NameTooLong}
@@ -9,7 +9,7 @@ use Rattle.rv_tokens.specs.declared.ending.Flaw.TheVariants.{Byte as BYTE, Numbe
 use Rattle.rv_tokens.specs.declared.ending.Ending.{Ending as HOW_IT_ENDS}
 use Rattle.rv_tokens.specs.declared.ending.Ending.TheVariants.{At, Broken as BROKEN}
 
--- the fault that a flaw of a token is
+-- the fault for a flaw of a token
 abbrev pub flaw_fault : Flaw → ParseFault
 flaw_fault (BYTE at byte) = Byte at byte
 flaw_fault (NUMBER_TOO_LARGE at) = NumberTooLarge at

@@ -1,4 +1,4 @@
--- What the splitting of a text into tokens answers, one step at a time.
+-- What splitting a text into tokens answers, step by step.
 use Rattle.std.specs.Prelude.{◌≡◌, ◌≤◌, ℕ, List, ◌++◌, length, drop}
 use Rattle.lang_model.specs.declared.syntax.Place.{Place}
 use Rattle.lang_model.specs.declared.token.Token.{Token}
@@ -8,11 +8,11 @@ use Rattle.rv_tokens.specs.Endings.{flaw_fault}
 use Rattle.rv_tokens.specs.declared.lexer.Lexeme.{Lexeme}
 use Rattle.rv_tokens.specs.declared.lexer.Lexeme.TheVariants.{Blank, Token as TOKEN, Broken}
 
--- so many bytes from 1 on
+-- at least 1 byte, and no more than there are
 abbrev pub Within : ℕ → List ℕ → Type 0
 Within n bs = (1 ≤ n) × (n ≤ length bs)
 
--- the bytes begin with a blank or a comment of so many bytes, with a token, or with a flaw
+-- the bytes begin with a blank or a comment, with a token, or with a flaw
 abbrev pub Lexes : Place → List ℕ → Lexeme → Type 0
 Lexes at bs (Blank n) = Within n bs × (lexed_from 0 at bs ≡ lexed_from 0 (behind_all n at bs) (drop n bs))
 Lexes at bs (TOKEN kind n) = Within n bs × (lexed_from 0 at bs

@@ -1,9 +1,9 @@
-//! Classes of bytes, and how far they run.
+//! Classes of bytes, and how far they extend.
 ghost use Rattle.std.specs.Prelude.{◌≡◌, ◌≤◌, length};
 ghost use Rattle.lang_model.specs.Tokens.{is_letter, is_digit, is_blank, is_sign_byte, is_allowed, run_length};
 ghost use Rattle.rv_tokens.specs.Lexing.{passes};
 
-/// Classes of bytes that run on.
+/// Classes of bytes that form runs. 1 byte.
 #[derive(Clone, Copy, Debug)]
 pub enum Class {
     /// Letters, digits and `_`.
@@ -51,7 +51,7 @@ pub fn is_sign(b: u8) -> bool
     b"()[]{},;:.=^-*\\/&|".contains(&b)
 }
 
-/// Whether a byte is of a class.
+/// Whether a byte belongs to a class.
 fn passes(class: Class, b: u8) -> bool
     ensures { result ≡ passes class b }
 {
@@ -63,7 +63,7 @@ fn passes(class: Class, b: u8) -> bool
     }
 }
 
-/// How many bytes from the front are of a class.
+/// How many bytes at the front belong to a class.
 pub fn run(class: Class, bytes: &[u8]) -> usize
     ensures value { result ≡ run_length (passes class) bytes.now }
     ensures within { result ≤ length bytes.now }

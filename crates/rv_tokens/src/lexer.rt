@@ -1,4 +1,4 @@
-//! Splits a text into tokens, up to its end or its first byte, number, word or file text that is no token.
+//! Splits a text into tokens, up to its end or to the first byte, number, word or file text that is not a token.
 ghost use Rattle.std.specs.Prelude.{◌≡◌, ◌<◌, ◌≤◌, ◌+◌, ◌^◌, ◌∷◌, [], length, drop, get_or, IfOk};
 ghost use Rattle.lang_model.specs.Limits.{script_limit};
 ghost use Rattle.lang_model.specs.Lexed.{file_fault, text_fault, token_fault, lexed_of};
@@ -18,15 +18,15 @@ use std::alloc::Global;
 /// What a text begins with.
 #[derive(Drop)]
 enum Lexeme {
-    /// So many bytes that are blank or a comment.
+    /// A number of bytes that are blank or a comment.
     Blank(usize),
-    /// A token of so many bytes.
+    /// A token with a number of bytes.
     Token(Kind, usize),
     /// No token.
     Broken(Flaw),
 }
 
-/// Why a file text is none, by the place of its first quote and the bytes behind it.
+/// Why a file text is not valid, given the place of its first quote and the bytes after it.
 #[tactic(auto, unfolding(lang_model::specs::Lexed::file_fault))]
 fn text_flaw(quote: Place, bytes: &[u8]) -> Flaw
     requires line { quote.line + 1 + length bytes.now < 2 ^ 32 }
@@ -44,7 +44,7 @@ fn text_flaw(quote: Place, bytes: &[u8]) -> Flaw
     }
 }
 
-/// Why a file text is none, by the place of its first quote and the byte behind its own, with its place.
+/// Why a file text is not valid, given the place of its first quote, and the byte after its own bytes with its place.
 fn stopped_text(quote: Place, at: Place, next: u8) -> Flaw
     ensures { flaw_fault result ≡ text_fault quote at (next ∷ []) }
 {
@@ -78,7 +78,7 @@ fn flaw(at: Place, bytes: &[u8]) -> Flaw
     Flaw::Byte { at, byte }
 }
 
-/// A blank, a comment, a token or a flaw.
+/// The blank, comment, token or flaw at the front.
 fn next_lexeme(alloc: Global, at: Place, bytes: &[u8]) -> Result<Lexeme, NoMemory>
     requires first { 0 < length bytes.now }
     requires line { at.line + length bytes.now < 2 ^ 32 }

@@ -3,7 +3,7 @@
 /// Why bytes begin no token.
 #[derive(Clone, Copy, Debug, PartialEq, Eq)]
 pub enum Refusal {
-    /// They spell none.
+    /// They spell no token.
     Unfit,
     NoMemory,
 }

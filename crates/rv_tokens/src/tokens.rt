@@ -1,4 +1,4 @@
-//! The token that begins some bytes, and the place behind it.
+//! The token at the front of some bytes, and the place after it.
 ghost use Rattle.std.specs.Prelude.{◌≡◌, ◌<◌, ◌≤◌, ◌+◌, ◌*◌, ◌^◌, OnSome, IfOk, IfErr, length, option_map};
 ghost use Rattle.std.specs.Option.{SomeIff};
 ghost use Rattle.lang_model.specs.Limits.{name_limit};
@@ -14,7 +14,7 @@ use lang_model::syntax::{FileText, Name, Place};
 use lang_model::token::Kind;
 use std::alloc::Global;
 
-/// The value of digits, where it is below 2 ^ 64.
+/// The value of digits, if it is below 2 ^ 64.
 #[tactic(auto, using(crate::proofs::Lexing::too_large))]
 fn number(digits: &[u8]) -> Option<u64>
     ensures { SomeIff result (value_from 0 digits.now < 2 ^ 64) (value_from 0 digits.now) }
@@ -30,7 +30,7 @@ fn number(digits: &[u8]) -> Option<u64>
     Some(value)
 }
 
-/// The value with one more digit, where it is below 2 ^ 64.
+/// The value with one more digit, if it is below 2 ^ 64.
 fn next_value(value: u64, digit: u64) -> Option<u64>
     ensures { SomeIff result (10 * value + digit < 2 ^ 64) (10 * value + digit) }
 {
@@ -40,7 +40,7 @@ fn next_value(value: u64, digit: u64) -> Option<u64>
     }
 }
 
-/// The place behind a byte.
+/// The place after a byte.
 #[tactic(auto, unfolding(lang_model::specs::Tokens::behind))]
 pub fn step(at: Place, b: u8) -> Place
     requires line { at.line + 1 < 2 ^ 32 }
@@ -62,7 +62,7 @@ pub fn step(at: Place, b: u8) -> Place
     }
 }
 
-/// The place behind so many bytes.
+/// The place after `n` bytes.
 pub fn advance(at: Place, bytes: &[u8], n: usize) -> Place
     requires within { n ≤ length bytes.now }
     requires line { at.line + n < 2 ^ 32 }
@@ -78,7 +78,7 @@ pub fn advance(at: Place, bytes: &[u8], n: usize) -> Place
     place
 }
 
-/// A keyword, a base name or a name.
+/// The kind of a word: a keyword, a base name or a name.
 #[tactic(auto, unfolding(lang_model::specs::Tokens::word_kind))]
 fn word_kind(alloc: Global, word: &[u8]) -> Result<Kind, Refusal>
     requires { (1 ≤ length word.now) × (length word.now ≤ name_limit) }
@@ -91,7 +91,7 @@ fn word_kind(alloc: Global, word: &[u8]) -> Result<Kind, Refusal>
     }
 }
 
-/// The domain operator that begins the bytes.
+/// The domain operator at the front, if there is one.
 fn domain_operator_at(bytes: &[u8]) -> Option<Reserved>
     ensures value { option_map kind_of result ≡ domain_operator_at bytes.now }
     ensures within { OnSome result (3 ≤ length bytes.now) }
@@ -105,7 +105,7 @@ fn domain_operator_at(bytes: &[u8]) -> Option<Reserved>
     domain_operator(&bytes[..3])
 }
 
-/// The word that begins the bytes, and how many it has.
+/// The word at the front, and how many bytes it has.
 fn word_at(alloc: Global, bytes: &[u8]) -> Result<(Kind, usize), Refusal>
     requires { 1 ≤ run_length is_word_byte bytes.now }
     ensures within { IfOk result (λ x. (1 ≤ x.1) × (x.1 ≤ length bytes.now)) }
@@ -121,7 +121,7 @@ fn word_at(alloc: Global, bytes: &[u8]) -> Result<(Kind, usize), Refusal>
     }
 }
 
-/// The number that begins the bytes, and how many it has.
+/// The number at the front, and how many bytes it has.
 fn number_at(bytes: &[u8]) -> Result<(Kind, usize), Refusal>
     ensures within { IfOk result (λ x. x.1 ≤ length bytes.now) }
     ensures kind { Finds (number_at bytes.now) result }
@@ -134,7 +134,7 @@ fn number_at(bytes: &[u8]) -> Result<(Kind, usize), Refusal>
     }
 }
 
-/// The file text behind whose first quote the bytes stand, and how many bytes it has with its quotes.
+/// The file text whose first quote these bytes follow, and how many bytes it has with both quotes.
 #[tactic(auto, unfolding(lang_model::specs::Tokens::file_at))]
 fn file_at(alloc: Global, bytes: &[u8]) -> Result<(Kind, usize), Refusal>
     ensures within { IfOk result (λ x. (1 ≤ x.1) × (x.1 ≤ length bytes.now + 1)) }
@@ -151,7 +151,7 @@ fn file_at(alloc: Global, bytes: &[u8]) -> Result<(Kind, usize), Refusal>
     Ok((Kind::File(text), count + 2))
 }
 
-/// Whether a quote comes first.
+/// Whether the first byte is a quote.
 fn begins_with_quote(bytes: &[u8]) -> bool
     ensures { result ≡ begins_with_quote bytes.now }
 {
@@ -161,7 +161,7 @@ fn begins_with_quote(bytes: &[u8]) -> bool
     }
 }
 
-/// The token that begins the bytes, and how many it has.
+/// The token at the front, and how many bytes it has.
 pub fn kind_at(alloc: Global, bytes: &[u8]) -> Result<(Kind, usize), Refusal>
     requires { 0 < length bytes.now }
     ensures within { IfOk result (λ x. (1 ≤ x.1) × (x.1 ≤ length bytes.now)) }
@@ -186,7 +186,7 @@ pub fn kind_at(alloc: Global, bytes: &[u8]) -> Result<(Kind, usize), Refusal>
     Err(Refusal::Unfit)
 }
 
-/// The token that a reserved word is.
+/// The token for a reserved word.
 fn kind_of(meaning: Reserved) -> Kind
     ensures { result ≡ kind_of meaning }
 {

@@ -1,4 +1,4 @@
-//! The words that are no names.
+//! The words that are not names.
 ghost use Rattle.std.specs.Prelude.{◌≡◌, map, option_map};
 ghost use Rattle.lang_model.specs.BaseNames.{base_text};
 ghost use Rattle.lang_model.specs.Tokens.{found_in, reserved_words, domain_operators};

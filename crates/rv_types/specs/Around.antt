@@ -1,4 +1,4 @@
--- What an expression stands in, as the walk over types keeps it.
+-- The surroundings of an expression, as the walk over types keeps them.
 use Rattle.lang_model.specs.Shape.{AroundTypes, around_types, types_of_calls}
 use Rattle.rv_types.specs.declared.typing.Around.{Around}
 

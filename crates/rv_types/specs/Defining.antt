@@ -14,7 +14,7 @@ is_definition (Function at own params body) = true
 is_definition (Program at own params decls body result) = true
 is_definition (COMMAND command) = false
 
--- what may want memory: a script with a definition, and the telling of a fault
+-- what may take memory: a script with a definition, and reporting a fault
 abbrev pub TakesMemory : Script → Type 0
 TakesMemory script = (list_any is_definition script.items.items ≡ true) ⊎ IsSome (flaw script)
 
@@ -22,16 +22,16 @@ TakesMemory script = (list_any is_definition script.items.items ≡ true) ⊎ Is
 abbrev pub NoneDefines : List ℕ → List Item → Type 0
 NoneDefines name items = list_any (defines name) items ≡ false
 
--- what the items of a script give a name
+-- what a name is in the items of a script
 abbrev pub IsDefinition : List Item → List ℕ → Option Item → Type 0
--- no definition: none of them defines it
+-- no definition: none of the items defines it
 IsDefinition items name None = NoneDefines name items
--- an item: it is one of them and defines the name, and none of the others does
+-- an item: it is one of them and defines the name, and no other does
 IsDefinition items name (Some item) =
     (before behind : List Item) × (items ≡ before ++ item ∷ behind) × (defines name item ≡ true)
     × NoneDefines name before × NoneDefines name behind
 
--- the number that stands beside a name, the first where the name stands twice
+-- the number beside a name; the first, if the name occurs twice
 abbrev pub number_beside : List (List ℕ × ℕ) → List ℕ → Option ℕ
 number_beside [] name = None
 number_beside (entry ∷ entries) name = cond (same_text entry.0 name) (Some entry.1) (number_beside entries name)

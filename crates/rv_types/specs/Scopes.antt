@@ -1,10 +1,10 @@
--- What the names of an expression may be, as the walk over a script keeps it.
+-- What the names of an expression may refer to, as the walk over a script keeps it.
 use Rattle.std.specs.Prelude.{◌≡◌, ℕ, Bool, List, [], false, true}
 use Rattle.lang_model.specs.declared.syntax.Decl.{Decl}
 use Rattle.lang_model.specs.Checking.{among, Known, Scope, variables_of, domains_of}
 use Rattle.rv_types.specs.declared.scope.Scope.{Scope as Kept}
 
--- the scope that is kept
+-- the scope that the walk keeps
 abbrev pub scope_of : Kept → Scope
 scope_of kept = record {
   is_command = kept.is_command;
@@ -15,7 +15,7 @@ scope_of kept = record {
   earlier = kept.earlier.now;
 }
 
--- the scope of no parameter and no declaration behind these definitions
+-- the scope without parameters and declarations, after these definitions
 abbrev pub scope_behind : Bool → List Known → Scope
 scope_behind is_command earlier = record {
   is_command = is_command;
@@ -37,7 +37,7 @@ with_parameters parameters scope = record {
   earlier = scope.earlier;
 }
 
--- a scope of a program with these parameters and declarations behind these definitions
+-- a scope of a program with these parameters and declarations, after these definitions
 pub record OfProgram (earlier : List Known) (parameters : List (List ℕ)) (decls : List Decl)
     (scope : Scope) : Type 0 where
   pub kind : scope.is_command ≡ false

@@ -20,14 +20,14 @@ fn typed(rows: Option<u32>, cols: Option<u32>) -> StaticShape
     StaticShape { rows, cols }
 }
 
-/// The known one of the two sizes of a square operand.
+/// The known one of the two sizes of a square operand, if either is known.
 fn side(s: StaticShape) -> Option<u32>
     ensures { result ≡ side_of s }
 {
     known_of_both(s.rows, s.cols)
 }
 
-/// This type of a base call of a square operand.
+/// A given type, for a base call whose operand must be square.
 fn squared(
     alloc: Global,
     at: Place,
@@ -44,7 +44,7 @@ fn squared(
     }
 }
 
-/// The type of a base call of a square operand that gives a square result.
+/// The type of a base call that takes a square operand and gives a square result of the same size.
 fn square(alloc: Global, at: Place, base: Base, s: StaticShape) -> Result<StaticShape, TypeFault>
     ensures { Answers (square_as at base s) (λ u. u) result }
 {
@@ -52,7 +52,7 @@ fn square(alloc: Global, at: Place, base: Base, s: StaticShape) -> Result<Static
     squared(alloc, at, base, s, typed(size, size))
 }
 
-/// This type of a base call of a vector.
+/// A given type, for a base call whose operand must be a vector.
 fn vector(
     alloc: Global,
     at: Place,
@@ -69,7 +69,7 @@ fn vector(
     }
 }
 
-/// The type of a base call of one operand. No text gives one operand to any other base name.
+/// The type of a base call with one operand. No text calls another base name with one.
 fn base_of_one(
     alloc: Global,
     at: Place,
@@ -106,7 +106,7 @@ fn base_of_one(
     }
 }
 
-/// This type of a base call of two operands, where they fit.
+/// A given type, for a base call whose two operands must fit.
 fn compared(
     alloc: Global,
     at: Place,
@@ -126,7 +126,7 @@ fn compared(
     }
 }
 
-/// The type of a base call of a square operand and of a second one with as many rows.
+/// The type of a base call of a square operand and a second one with the same number of rows.
 fn bounding(
     alloc: Global,
     at: Place,
@@ -145,7 +145,7 @@ fn bounding(
     }
 }
 
-/// The type of a base call of two operands. No text gives two operands to any other base name.
+/// The type of a base call with two operands. No text calls another base name with two.
 fn base_of_two(
     alloc: Global,
     at: Place,
@@ -173,7 +173,7 @@ fn base_of_two(
     }
 }
 
-/// The type of a base call. No text gives none or more than two operands.
+/// The type of a base call. No text has one with no operand or with more than two.
 pub fn base_call(
     alloc: Global,
     at: Place,
@@ -191,7 +191,7 @@ pub fn base_call(
     }
 }
 
-/// The type of a domain operator of domains of x and of y elements.
+/// The type of a domain operator on domains of x and of y elements.
 pub fn domain_call(base: Base, x: Option<u32>, y: Option<u32>) -> StaticShape
     ensures { result ≡ type_of_domain base x y }
 {

@@ -1,4 +1,4 @@
-//! Scripts whose names, arguments, assignments and ranks of definitions are right.
+//! Scripts whose names, arguments, assignments and ranks of definitions have been checked.
 ghost use Rattle.std.specs.Prelude.{◌≡◌, ◌⊎◌, [], None, Some, true, option_copied, IfOk, IfErr, OnErr, MatchResult};
 ghost use Rattle.std.specs.List.{list_any};
 ghost use Rattle.lang_model.specs.declared.faults.TypeFault.TheVariants.{NoMemory as NO_MEMORY};
@@ -16,7 +16,8 @@ use rel_model::NoMemory;
 use std::alloc::Global;
 use std::marker::Model;
 
-/// A script with no fault of names, arguments, assignments or ranks, and what item of it defines each name.
+/// A script without a fault of names, arguments, assignments or ranks, and for each name the item that defines it. On
+/// the heap.
 #[derive(Drop)]
 pub struct Checked {
     script: Script,
@@ -44,7 +45,7 @@ impl Model for Checked {
         ≡ position_from (defines name) 0 c.script.items.items) };
 }
 
-/// The first fault of items. Afterwards their definitions stand.
+/// The first fault of items. Afterwards their definitions are known.
 fn find_fault<'a>(
     alloc: Global,
     items: &'a [Item],
@@ -63,7 +64,7 @@ fn find_fault<'a>(
     Ok(found)
 }
 
-/// The fault that was found, or that memory is wanted for its name.
+/// The fault that was found, or that memory ran out for its name.
 fn fault_or_want(alloc: Global, found: Found) -> TypeFault
     ensures { (result ≡ NO_MEMORY) ⊎ (result ≡ fault found.entry) }
 {
@@ -73,7 +74,7 @@ fn fault_or_want(alloc: Global, found: Found) -> TypeFault
     }
 }
 
-/// Whether a script has no fault: its first one is the error.
+/// Whether a script has no fault; otherwise its first fault is the error.
 fn find_flaw(alloc: Global, script: &Script) -> Result<(), TypeFault>
     ensures fault { MatchResult result (λ _. flaw script.now ≡ None)
         (λ f. (f ≡ NO_MEMORY) ⊎ (flaw script.now ≡ Some f)) }
@@ -87,8 +88,8 @@ fn find_flaw(alloc: Global, script: &Script) -> Result<(), TypeFault>
     }
 }
 
-/// Decides names, arguments, assignments and ranks of definitions, and the definitions that commands call: the
-/// script, or its first fault by place and then by number. Commands alone, where they have no fault, take no memory.
+/// Checks names, arguments, assignments and ranks of definitions, and the definitions that commands call. Gives the
+/// script, or its first fault by place and then by number. A script of commands only that has no fault takes no memory.
 pub fn check(alloc: Global, script: Script) -> Result<Checked, TypeFault>
     ensures checked { MatchResult result (λ c. (c ≡ script) × (flaw script ≡ None))
         (λ f. (f ≡ NO_MEMORY) ⊎ (flaw script ≡ Some f)) }
@@ -115,7 +116,7 @@ impl Checked {
         &self.script
     }
 
-    /// The function or program of this name, where the script defines it: the item is the only one that does.
+    /// The function or program with this name, if the script defines it; no other item does.
     pub fn definition(&self, name: &[u8]) -> Option<&Item>
         ensures { IsDefinition self.now.items.items name.now (option_copied result) }
     {

@@ -10,7 +10,8 @@ use crate::names::Names;
 use lang_model::syntax::{Decl, Name, Place};
 use rel_model::NoMemory;
 
-/// A domain is of two parameters: the first of its two names that is none is unknown at the declaration.
+/// A domain must be of two parameters: the first of its two names that is not one is reported as unknown, at the
+/// declaration.
 fn check_operands<'a>(
     parameters: &Names<'a>,
     decl: &'a Decl,
@@ -65,7 +66,7 @@ fn place_of(decl: &Decl) -> Place
     }
 }
 
-/// The faults of a declaration behind names that were given before.
+/// The faults of a declaration, given the names that are already taken.
 fn check_decl<'a>(
     parameters: &Names<'a>,
     before: &Names<'a>,
@@ -79,7 +80,7 @@ fn check_decl<'a>(
     check_operands(parameters, decl, repeated)
 }
 
-/// The faults of declarations behind names that were given before, to which their names are added.
+/// The faults of declarations, given the names that are already taken. Adds their names to these.
 fn check_decls_behind<'a>(
     parameters: &Names<'a>,
     before: &mut Names<'a>,
@@ -97,7 +98,7 @@ fn check_decls_behind<'a>(
     Ok(found)
 }
 
-/// The faults of declarations behind parameters.
+/// The faults of declarations, given the parameters.
 pub fn check_decls<'a>(
     parameters: &Names<'a>,
     decls: &'a [Decl],
@@ -110,7 +111,7 @@ pub fn check_decls<'a>(
     check_decls_behind(parameters, &mut before, decls, so_far)
 }
 
-/// One more name, where a declaration is of a variable.
+/// Adds the name of a declaration that is of a variable.
 fn add_variable<'a>(names: &mut Names<'a>, decl: &'a Decl) -> Result<(), NoMemory>
     ensures { OnOk result ((n : List ℕ) → among names.new n
         ≡ (among (variables_of (decl.now ∷ [])) n || among names.old n)) }
@@ -121,7 +122,7 @@ fn add_variable<'a>(names: &mut Names<'a>, decl: &'a Decl) -> Result<(), NoMemor
     }
 }
 
-/// The declared variables, added to names.
+/// Adds the declared variables to names.
 pub fn add_variables<'a>(names: &mut Names<'a>, decls: &'a [Decl]) -> Result<(), NoMemory>
     ensures names { OnOk result ((n : List ℕ) → among names.new n
         ≡ (among (variables_of decls.now) n || among names.old n)) }
@@ -133,7 +134,7 @@ pub fn add_variables<'a>(names: &mut Names<'a>, decls: &'a [Decl]) -> Result<(),
     Ok(())
 }
 
-/// One more name, where a declaration is of a domain of this kind.
+/// Adds the name of a declaration that is of a domain of this kind.
 fn add_domain<'a>(names: &mut Names<'a>, sums: bool, decl: &'a Decl) -> Result<(), NoMemory>
     ensures { OnOk result ((n : List ℕ) → among names.new n
         ≡ (among (domains_of sums (decl.now ∷ [])) n || among names.old n)) }
@@ -150,7 +151,7 @@ fn add_domain<'a>(names: &mut Names<'a>, sums: bool, decl: &'a Decl) -> Result<(
     }
 }
 
-/// The declared domains, those of SUM or those of PROD, added to names.
+/// Adds the declared domains, those of SUM or those of PROD, to names.
 pub fn add_domains<'a>(names: &mut Names<'a>, sums: bool, decls: &'a [Decl]) -> Result<(), NoMemory>
     ensures names { OnOk result ((n : List ℕ) → among names.new n
         ≡ (among (domains_of sums decls.now) n || among names.old n)) }

@@ -8,14 +8,14 @@ use rel_model::NoMemory;
 use std::alloc::Global;
 use std::marker::Model;
 
-/// What a call needs to know of a definition: how many arguments it takes, and its rank.
+/// What a call needs to know of a definition: how many arguments it takes, and its rank. 16 bytes.
 #[derive(Clone, Copy)]
 pub struct Summary {
     pub takes: usize,
     pub rank: usize,
 }
 
-/// The first definition of each name, numbered in the order of the text.
+/// The first definition of each name, numbered in the order of the text. On the heap.
 #[derive(Drop)]
 pub struct Definitions {
     by_name: IndexMap<Vec<u8>, Summary>,
@@ -41,14 +41,14 @@ impl Definitions {
         }
     }
 
-    /// The definition of a name.
+    /// The definition of a name, if it has one.
     pub fn find(&self, name: &[u8]) -> Option<Summary>
         ensures { result ≡ option_map summary_of (definition_of self.now name.now) }
     {
         self.by_name.get(name).copied()
     }
 
-    /// One more definition, where the name has none.
+    /// Adds a definition, if its name has none.
     pub fn add(&mut self, alloc: Global, name: &[u8], summary: Summary) -> Result<(), NoMemory>
         ensures known { OnOk result ((n : List ℕ) → definition_of self.new n
             ≡ definition_of (self.old ++ known_as name.now summary ∷ []) n) }

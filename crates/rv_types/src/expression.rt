@@ -1,4 +1,4 @@
-//! The faults of an expression, and the greatest rank among the definitions that it calls.
+//! The faults of an expression, and the greatest rank of the definitions that it calls.
 ghost use Rattle.std.specs.Prelude.{◌≡◌};
 ghost use Rattle.lang_model.specs.Checking.{among, faults, called, rank_named as rank_of_name};
 ghost use Rattle.rv_types.specs.Found.{told, noted as noted_all};
@@ -10,7 +10,7 @@ use crate::names::Names;
 use crate::scope::{Scope, check_call, check_domain, check_ref};
 use lang_model::syntax::{Expr, Name};
 
-/// The first fault so far and of an expression before which these variables are assigned.
+/// The first fault, of those found so far and those of an expression, given the variables assigned before it.
 pub fn check_expr<'a>(
     scope: &Scope<'a, '_>,
     assigned: &Names<'a>,
@@ -53,7 +53,7 @@ pub fn check_expr<'a>(
     }
 }
 
-/// The rank of the definition of a name, or 0 where there is none.
+/// The rank of the definition of a name; 0 if there is none.
 fn rank_named(earlier: &Definitions, name: &Name) -> usize
     ensures { result ≡ rank_of_name earlier.now name.now }
 {
@@ -63,7 +63,7 @@ fn rank_named(earlier: &Definitions, name: &Name) -> usize
     }
 }
 
-/// The greatest rank among the definitions that an expression calls, or 0 where it calls none.
+/// The greatest rank of the definitions that an expression calls; 0 if it calls none.
 pub fn greatest_called(earlier: &Definitions, expr: &Expr) -> usize
     ensures { result ≡ called earlier.now expr.now }
 {

@@ -1,4 +1,4 @@
-//! Faults on the way, with their names still in the script, and the first of them.
+//! Faults during the walk, with their names still in the script, and the first of them.
 ghost use Rattle.std.specs.Prelude.{◌≡◌, ◌==◌, ◌&&◌, ◌||◌, nat_lt, length, Some, IfOk, OnErr};
 ghost use Rattle.lang_model.specs.Checking.{precedes as precedes_as, domain_operator_text};
 ghost use Rattle.rv_types.specs.Found.{number_as, spelled, fault, fault_as, IsTooMany, told, noting};
@@ -65,7 +65,7 @@ fn precedes(f: Found, g: Found) -> bool
     less_or(f.at.line, g.at.line, by_column)
 }
 
-/// The first of the faults so far and one more.
+/// The first of the faults so far and another one.
 pub fn noted<'a>(so_far: Option<Found<'a>>, found: Found<'a>) -> Option<Found<'a>>
     ensures { told result ≡ noting (told so_far.entry) (fault found.entry) }
 {
@@ -94,7 +94,7 @@ fn operator_text(base: Base) -> &'static [u8]
     }
 }
 
-/// The name that a fault gives, as a name of its own.
+/// The name in a fault, copied out of the script.
 fn owned(alloc: Global, name: Spelled) -> Result<Name, NoMemory>
     ensures { IfOk result (λ n. n ≡ spelled name.entry) }
 {
@@ -104,7 +104,8 @@ fn owned(alloc: Global, name: Spelled) -> Result<Name, NoMemory>
     }
 }
 
-/// The fault that was found, with its name. Numbers of arguments that its fields do not hold want memory.
+/// The fault that was found, with its name. A number of arguments that does not fit into the fault's fields is reported
+/// as lack of memory.
 fn fault_with(found: Found, name: Name) -> Result<TypeFault, NoMemory>
     ensures fault { IfOk result (λ f. f ≡ fault_as found.entry.cause found.entry.at name) }
     ensures memory { OnErr result (IsTooMany found.entry.cause) }

@@ -1,4 +1,4 @@
-//! The faults at the name of a definition: its rank, and names that were given before.
+//! The faults at the name of a definition: its rank, and names that are already taken.
 ghost use Rattle.std.specs.Prelude.{◌≡◌, ◌<◌, ◌||◌, ◌∷◌, [], ℕ, List, cond, length, nat_lt, IfOk, OnOk, OnErr};
 ghost use Rattle.lang_model.specs.declared.faults.TypeFault.TheVariants.{Rank, Twice};
 ghost use Rattle.lang_model.specs.Checking.{among, names_of, parameter_faults, head_faults};
@@ -12,7 +12,7 @@ use lang_model::limits::RANK_LIMIT;
 use lang_model::syntax::{Name, Place};
 use rel_model::NoMemory;
 
-/// The name of a definition, its place, its parameters and its rank.
+/// The name of a definition, its place, its parameters and its rank. 40 bytes.
 #[derive(Clone, Copy)]
 pub struct Head<'a> {
     pub at: Place,
@@ -21,7 +21,7 @@ pub struct Head<'a> {
     pub rank: usize,
 }
 
-/// A name that was given before.
+/// A name that is already taken.
 pub fn check_repeated<'a>(
     before: &Names<'a>,
     at: Place,
@@ -45,7 +45,8 @@ pub fn check_repeated<'a>(
     }
 }
 
-/// Parameters that stand twice, at the place of the definition's name. Afterwards all are among the names.
+/// Parameters that occur twice, reported at the place of the definition's name. Afterwards all parameters are among the
+/// names.
 fn check_parameters<'a>(
     at: Place,
     before: &mut Names<'a>,
@@ -65,7 +66,7 @@ fn check_parameters<'a>(
     Ok(found)
 }
 
-/// A rank over the limit.
+/// A rank that exceeds the limit.
 fn check_rank<'a>(head: Head<'a>, so_far: Option<Found<'a>>) -> Option<Found<'a>>
     ensures { told result ≡ noted_all (told so_far.entry)
         (cond (nat_lt rank_limit head.entry.rank) (Rank head.entry.at head.entry.name.now ∷ []) []) }
@@ -84,7 +85,7 @@ fn check_rank<'a>(head: Head<'a>, so_far: Option<Found<'a>>) -> Option<Found<'a>
     }
 }
 
-/// A name that an earlier item defines.
+/// A name that an earlier item already defines.
 fn check_defined<'a>(
     earlier: &Definitions,
     head: Head<'a>,

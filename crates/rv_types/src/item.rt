@@ -1,4 +1,4 @@
-//! The faults of an item behind the definitions of earlier ones, and what it defines.
+//! The faults of an item, given the definitions of earlier ones, and what it defines.
 ghost use Rattle.std.specs.Prelude.{◌≡◌, ◌-◌, ◌^◌, true, false, ℕ, List, IfOk, OnOk, OnErr, option_copied};
 ghost use Rattle.lang_model.specs.Checking.{among, faults_by, assigned_by, called_by_all, rank_of as rank_of_item, item_faults, known_with, definition_of, head_faults, decl_faults, faults, function_scope, program_scope as scope_of_program, no_name, let_faults, command_faults};
 ghost use Rattle.rv_types.specs.Found.{told, noted as noted_all};
@@ -18,7 +18,7 @@ use lang_model::syntax::{Command, Decl, Expr, Item, Let, Stmt};
 use rel_model::NoMemory;
 use std::alloc::Global;
 
-/// The greatest rank among the definitions that statements call, or 0 where they call none.
+/// The greatest rank of the definitions that statements call; 0 if they call none.
 fn greatest_called_by_all(earlier: &Definitions, stmts: &[Stmt]) -> usize
     ensures { result ≡ called_by_all earlier.now stmts.now }
 {
@@ -29,7 +29,7 @@ fn greatest_called_by_all(earlier: &Definitions, stmts: &[Stmt]) -> usize
     most
 }
 
-/// The greatest rank among the definitions that an item calls, or 0 where it calls none.
+/// The greatest rank of the definitions that an item calls; 0 if it calls none.
 fn greatest_called_by_item(earlier: &Definitions, item: &Item) -> usize
     ensures { result ≡ called_by_item earlier.now item.now }
 {
@@ -42,7 +42,7 @@ fn greatest_called_by_item(earlier: &Definitions, item: &Item) -> usize
     }
 }
 
-/// The expression of a command that has one.
+/// The expression of a command, if it has one.
 fn value_of(command: &Command) -> Option<&Expr>
     ensures { option_copied result ≡ value_of_command command.now }
 {
@@ -59,7 +59,7 @@ fn value_of(command: &Command) -> Option<&Expr>
     }
 }
 
-/// The assignments of a command that is a block.
+/// The assignments of a command, if it is a block.
 fn lets_of(command: &Command) -> Option<&[Let]>
     ensures { option_copied result ≡ lets_of_command command.now }
 {
@@ -69,7 +69,7 @@ fn lets_of(command: &Command) -> Option<&[Let]>
     }
 }
 
-/// The rank of the definition of an item, or 0 for a command.
+/// The rank of the definition of an item; 0 for a command.
 #[tactic(auto, unfolding(lang_model::specs::Checking::rank_of))]
 pub fn rank_of(earlier: &Definitions, item: &Item) -> usize
     requires { RanksWithin (2 ^ 64 - 2) earlier.now }
@@ -110,7 +110,8 @@ fn check_lets<'a>(
     found
 }
 
-/// The faults of a function's head and of its body, in a scope of no parameter. Afterwards it has the function's.
+/// The faults of a function's head and body, starting from a scope without parameters. Afterwards the scope has the
+/// function's.
 fn check_head_and_value<'a>(
     alloc: Global,
     scope: &mut Scope<'a, '_>,
@@ -127,7 +128,7 @@ fn check_head_and_value<'a>(
     Ok(check_alone(alloc, scope, body, found))
 }
 
-/// What declarations declare, added to a scope of no declaration.
+/// Adds to a scope without declarations what declarations declare.
 fn declare<'a>(scope: &mut Scope<'a, '_>, decls: &'a [Decl]) -> Result<(), NoMemory>
     requires { scope_of scope.old ≡ with_parameters scope.old.parameters (scope_behind false scope.old.earlier.now) }
     ensures { OnOk result (OfProgram scope.old.earlier.now scope.old.parameters decls.now (scope_of scope.new)) }
@@ -138,7 +139,7 @@ fn declare<'a>(scope: &mut Scope<'a, '_>, decls: &'a [Decl]) -> Result<(), NoMem
     Ok(())
 }
 
-/// The faults of a program's head and declarations, in a scope of no name. Afterwards it has their names.
+/// The faults of a program's head and declarations, starting from an empty scope. Afterwards the scope has their names.
 fn check_declared<'a>(
     scope: &mut Scope<'a, '_>,
     head: Head<'a>,
@@ -175,7 +176,8 @@ fn check_body<'a>(
     Ok(check_expr(scope, &assigned, value, found))
 }
 
-/// The faults of a program's parts in order, in a scope of no name. Afterwards it has the program's.
+/// The faults of a program's parts in order, starting from an empty scope. Afterwards the scope has the program's
+/// names.
 fn check_parts<'a>(
     alloc: Global,
     scope: &mut Scope<'a, '_>,
@@ -198,7 +200,7 @@ fn check_parts<'a>(
     Ok(found)
 }
 
-/// The faults of a command, in a scope of no name.
+/// The faults of a command, in an empty scope.
 fn check_command<'a>(
     alloc: Global,
     scope: &Scope<'a, '_>,
@@ -217,7 +219,8 @@ fn check_command<'a>(
     }
 }
 
-/// The first fault so far and of an item of this rank, in a scope of no name. Afterwards it has the item's.
+/// The first fault, of those found so far and those of an item of this rank, starting from an empty scope. Afterwards
+/// the scope has the item's names.
 #[tactic(auto, unfolding(lang_model::specs::Checking::item_faults))]
 fn check_in<'a>(
     alloc: Global,
@@ -280,7 +283,7 @@ fn check_in<'a>(
     }
 }
 
-/// The first fault so far and of an item of this rank. A command takes no memory.
+/// The first fault, of those found so far and those of an item of this rank. A command takes no memory.
 pub fn check_item<'a>(
     alloc: Global,
     earlier: &Definitions,
@@ -296,7 +299,7 @@ pub fn check_item<'a>(
     check_in(alloc, &mut scope, item, rank, so_far)
 }
 
-/// The definitions up to and with an item of this rank. A command takes no memory.
+/// The definitions up to and including an item of this rank. A command takes no memory.
 #[tactic(auto, unfolding(lang_model::specs::Checking::known_with))]
 pub fn define(
     alloc: Global,

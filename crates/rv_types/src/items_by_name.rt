@@ -1,4 +1,4 @@
-//! The items of a script that define names, by these names.
+//! The items of a script that define names, by name.
 ghost use Rattle.std.specs.Prelude.{◌≡◌, cond, true, ℕ, List, [], Some, None, IfOk, OnOk, OnErr};
 ghost use Rattle.std.specs.Option.{option_or};
 ghost use Rattle.std.specs.List.{position_from, list_any};
@@ -12,7 +12,8 @@ use rel_model::NoMemory;
 use std::alloc::Global;
 use std::marker::Model;
 
-/// The number of the first item that defines a name, counted from 0. It is seen as the names with their numbers.
+/// For each name, the number of the first item that defines it, counted from 0. In clauses it is the list of names with
+/// their numbers. On the heap.
 #[derive(Drop)]
 pub struct ItemsByName {
     numbers: IndexMap<Vec<u8>, usize>,
@@ -36,14 +37,14 @@ impl ItemsByName {
         }
     }
 
-    /// The number of the item that defines a name.
+    /// The number of the item that defines a name, if one does.
     pub fn find(&self, name: &[u8]) -> Option<usize>
         ensures { result ≡ number_beside self.now name.now }
     {
         self.numbers.get(name).copied()
     }
 
-    /// One more item, where none before it defines its name.
+    /// Adds an item for a name, if no earlier item defines it.
     fn add(&mut self, alloc: Global, name: &[u8], number: usize) -> Result<(), NoMemory>
         ensures { OnOk result ((n : List ℕ) → number_beside self.new n
             ≡ option_or (number_beside self.old n) (cond (same_text name.now n) (Some number) None)) }
@@ -58,7 +59,7 @@ impl ItemsByName {
         }
     }
 
-    /// One more item, where it defines a name and none before it does.
+    /// Adds an item, if it defines a name and no earlier item does.
     fn add_item(&mut self, alloc: Global, item: &Item, number: usize) -> Result<(), NoMemory>
         ensures numbers { OnOk result ((n : List ℕ) → number_beside self.new n
             ≡ option_or (number_beside self.old n) (cond (defines n item.now) (Some number) None)) }

@@ -1,5 +1,5 @@
-//! Decides before a script runs whether its names, arguments, assignments and ranks of definitions are right, and
-//! which fault stands first; finds the static types of expressions.
+//! Checks, before a script runs, whether its names, arguments, assignments and ranks of definitions are right, and
+//! finds the first fault; finds the static types of expressions.
 #![tactic(auto)]
 
 mod bases;

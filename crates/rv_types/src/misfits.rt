@@ -12,7 +12,7 @@ use lang_model::syntax::{Base, Name, Place};
 use rel_model::NoMemory;
 use std::alloc::Global;
 
-/// A fault of a name.
+/// A fault of a name, with the name copied.
 pub fn misnamed(alloc: Global, at: Place, cause: Cause, name: Spelled) -> TypeFault
     ensures { Tells (fault_as cause at (spelled name.entry)) result }
 {
@@ -22,7 +22,7 @@ pub fn misnamed(alloc: Global, at: Place, cause: Cause, name: Spelled) -> TypeFa
     }
 }
 
-/// Operands of an operator that do not fit one another.
+/// Operands that do not fit an operator.
 pub fn mismatch(
     alloc: Global,
     at: Place,
@@ -55,7 +55,7 @@ pub fn not_square(alloc: Global, at: Place, base: Base, shape: StaticShape) -> T
     }
 }
 
-/// An operand of another number of columns than one.
+/// An operand whose number of columns is not one.
 pub fn not_vector(alloc: Global, at: Place, base: Base, shape: StaticShape) -> TypeFault
     ensures { Tells (NotVector at (base_text base) shape) result }
 {

@@ -8,7 +8,7 @@ use rel_model::NoMemory;
 use std::alloc::Global;
 use std::marker::Model;
 
-/// A set of names of a script.
+/// A set of names of a script. On the heap.
 pub struct Names<'a> {
     names: IndexSet<&'a [u8]>,
 }
@@ -28,7 +28,7 @@ impl<'a> Model for Names<'a> {
 }
 
 impl<'a> Names<'a> {
-    /// No name.
+    /// The empty set.
     pub fn new(alloc: Global) -> Names<'a>
         ensures { result ≡ [] }
     {
@@ -37,14 +37,14 @@ impl<'a> Names<'a> {
         }
     }
 
-    /// Whether a name is among them.
+    /// Whether a name is in the set.
     pub fn has(&self, name: &[u8]) -> bool
         ensures { result ≡ among self.now name.now }
     {
         self.names.contains(name)
     }
 
-    /// One more name. One that is there takes no memory.
+    /// Adds a name. A name that is already there takes no memory.
     pub fn add(&mut self, name: &'a [u8]) -> Result<(), NoMemory>
         ensures names { OnOk result ((n : List ℕ) → among self.new n ≡ (same_text name.now n || among self.old n)) }
         ensures memory { OnErr result (among self.old name.now ≡ false) }
@@ -53,7 +53,7 @@ impl<'a> Names<'a> {
         Ok(())
     }
 
-    /// The same set once more.
+    /// A copy of the set. Refused only if memory runs out.
     pub fn copied(&self) -> Result<Names<'a>, NoMemory>
         ensures { IfOk result (λ r. r ≡ self.now) }
     {
@@ -61,7 +61,7 @@ impl<'a> Names<'a> {
         Ok(Names { names })
     }
 
-    /// All that two other sets share.
+    /// Adds all names that two other sets have in common.
     pub fn add_shared(&mut self, first: &Names<'a>, second: &Names<'a>) -> Result<(), NoMemory>
         ensures { OnOk result ((n : List ℕ) → among self.new n
             ≡ (among self.old n || (among first.now n && among second.now n))) }

@@ -1,4 +1,4 @@
-//! The types of operators, with their tests: `[R, S]`, `R^` and those of chains.
+//! The types of operators, with their tests: `[R, S]`, `R^` and the operators of chains.
 ghost use Rattle.std.specs.Prelude.{◌≡◌, length};
 ghost use Rattle.lang_model.specs.declared.syntax.Op2.TheVariants.{Or};
 ghost use Rattle.lang_model.specs.Types.{spelling, takes as takes_types, type_of_link, typed_link, typed_pair, type_turned_by, typed_test};
@@ -44,7 +44,7 @@ fn takes(op: Op2, s: StaticShape, t: StaticShape) -> bool
     }
 }
 
-/// The type of two operands together that agree.
+/// The type of two operands that agree: each size that either knows.
 fn merged(s: StaticShape, t: StaticShape) -> StaticShape
     ensures { result ≡ type_of_link Or s t }
 {
@@ -54,7 +54,7 @@ fn merged(s: StaticShape, t: StaticShape) -> StaticShape
     }
 }
 
-/// The type of `R | S`, `R & S`, `R * S`, `R \ S` or `R / S`, of operands that fit.
+/// The type of `R | S`, `R & S`, `R * S`, `R \ S` or `R / S` for operands that fit.
 fn joint(op: Op2, s: StaticShape, t: StaticShape) -> StaticShape
     ensures { result ≡ type_of_link op s t }
 {
@@ -112,7 +112,7 @@ pub fn pair(
     }
 }
 
-/// The type of `R^`, with so many `^`.
+/// The type of `R^`, with a number of `^`.
 pub fn turned(s: StaticShape, times: u32) -> StaticShape
     ensures { result ≡ type_turned_by times s }
 {

@@ -1,4 +1,4 @@
-//! What the names of an expression may be, and the faults of one name.
+//! What the names of an expression may refer to, and the faults of one name.
 ghost use Rattle.std.specs.Prelude.{◌≡◌, false};
 ghost use Rattle.lang_model.specs.Checking.{among, ref_faults, call_faults, domain_faults, target_faults};
 ghost use Rattle.rv_types.specs.Found.{told, noted as noted_all};
@@ -10,15 +10,15 @@ use crate::names::Names;
 use lang_model::syntax::{Base, Name, Place};
 use std::alloc::Global;
 
-/// What the names of an expression may be.
+/// What the names of an expression may refer to.
 pub struct Scope<'a, 'd> {
-    /// Whether its names are those of relations.
+    /// Whether its names are names of relations.
     pub is_command: bool,
     pub parameters: Names<'a>,
     pub variables: Names<'a>,
-    /// The domains that are declared by PROD.
+    /// The domains declared by PROD.
     pub products: Names<'a>,
-    /// The domains that are declared by SUM.
+    /// The domains declared by SUM.
     pub sums: Names<'a>,
     /// The definitions of earlier items.
     pub earlier: &'d Definitions,
@@ -38,7 +38,7 @@ impl Drop for Scope<'_, '_> {
 }
 
 impl<'a, 'd> Scope<'a, 'd> {
-    /// The scope of a definition with no parameter and no declaration, behind these definitions.
+    /// The scope of a definition without parameters and declarations, after these definitions.
     pub fn new(alloc: Global, earlier: &'d Definitions) -> Scope<'a, 'd>
         ensures { scope_of result ≡ scope_behind false earlier.now }
     {
@@ -53,7 +53,7 @@ impl<'a, 'd> Scope<'a, 'd> {
     }
 }
 
-/// A name is a relation's, a parameter, or a variable that is assigned on every path before it.
+/// A name must be a relation's, a parameter, or a variable that is assigned on every path before it.
 #[tactic(auto, unfolding(lang_model::specs::Checking::ref_faults))]
 pub fn check_ref<'a>(
     scope: &Scope<'a, '_>,
@@ -85,7 +85,7 @@ pub fn check_ref<'a>(
     )
 }
 
-/// A call is of a definition of an earlier item, with as many arguments as it takes.
+/// A call must be of a definition of an earlier item, with the number of arguments that it takes.
 #[tactic(auto, unfolding(lang_model::specs::Checking::call_faults))]
 pub fn check_call<'a>(
     scope: &Scope<'a, '_>,
@@ -118,7 +118,7 @@ pub fn check_call<'a>(
     )
 }
 
-/// A projection is of a declared product, and an injection of a declared sum.
+/// A projection must be of a declared product, and an injection of a declared sum.
 #[tactic(auto, unfolding(lang_model::specs::Checking::domain_faults))]
 pub fn check_domain<'a>(
     scope: &Scope<'a, '_>,
@@ -147,7 +147,7 @@ pub fn check_domain<'a>(
     )
 }
 
-/// An assignment is to a declared variable.
+/// An assignment must be to a declared variable.
 #[tactic(auto, unfolding(lang_model::specs::Checking::target_faults))]
 pub fn check_target<'a>(
     scope: &Scope<'a, '_>,

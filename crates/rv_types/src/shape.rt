@@ -12,8 +12,8 @@ use lang_model::limits::RANK_LIMIT;
 use lang_model::syntax::{Expr, Name};
 use std::alloc::Global;
 
-/// The static type of an expression of a command on names with these types, or its first misfit in the order of
-/// evaluation, each statement once in the order of the text.
+/// The static type of an expression of a command, given the types of names; or its first misfit in the order of
+/// evaluation, where each statement is visited once, in the order of the text.
 pub fn shape_of(
     alloc: Global,
     checked: &Checked,

@@ -1,4 +1,4 @@
-//! Sizes of types, which may be unknown: whether two agree, and those that are computed.
+//! Sizes of types, which may be unknown: whether two agree, and sizes computed from others.
 ghost use Rattle.std.specs.Prelude.{◌≡◌, ◌≤◌, ◌+◌, ◌*◌, ◌^◌};
 ghost use Rattle.lang_model.specs.Missing.{first_of_both};
 ghost use Rattle.lang_model.specs.Types.{agree as agree_as, within_limit as limited, computed, computed_of_two};
@@ -6,10 +6,10 @@ ghost use Rattle.lang_model.specs.Shape.{keeps_size};
 
 use rel_model::SIZE_LIMIT;
 
-/// The greatest number of elements whose subsets are not too many.
+/// The greatest number of elements whose power set is within the limit.
 const MOST_ELEMENTS: u32 = 24;
 
-/// Whether two sizes may be equal: all but known ones that differ.
+/// Whether two sizes may be equal: not if both are known and differ.
 pub fn agree(m: Option<u32>, n: Option<u32>) -> bool
     ensures { result ≡ agree_as m n }
 {
@@ -22,7 +22,7 @@ pub fn agree(m: Option<u32>, n: Option<u32>) -> bool
     }
 }
 
-/// The size that is known, of two that agree.
+/// The known one of two sizes that agree, if either is known.
 pub fn known_of_both(m: Option<u32>, n: Option<u32>) -> Option<u32>
     ensures { result ≡ first_of_both m n }
 {
@@ -32,7 +32,7 @@ pub fn known_of_both(m: Option<u32>, n: Option<u32>) -> Option<u32>
     }
 }
 
-/// Whether a later value has the size of a variable's type, where that is known.
+/// Whether a later value is known to have the size of a variable's type, if that size is known.
 pub fn keeps(m: Option<u32>, n: Option<u32>) -> bool
     ensures { result ≡ keeps_size m n }
 {
@@ -45,7 +45,7 @@ pub fn keeps(m: Option<u32>, n: Option<u32>) -> bool
     }
 }
 
-/// A size that is computed: known only within the limit.
+/// A computed size: known only if it is within the limit.
 fn within_limit(size: u64) -> Option<u32>
     ensures { result ≡ limited size }
 {
@@ -56,7 +56,7 @@ fn within_limit(size: u64) -> Option<u32>
     }
 }
 
-/// As many as pairs of both.
+/// The size of a product.
 pub fn product(m: Option<u32>, n: Option<u32>) -> Option<u32>
     ensures { result ≡ computed_of_two (λ p q. p * q) m n }
 {
@@ -69,7 +69,7 @@ pub fn product(m: Option<u32>, n: Option<u32>) -> Option<u32>
     }
 }
 
-/// As many as both together.
+/// The size of a sum.
 pub fn sum(m: Option<u32>, n: Option<u32>) -> Option<u32>
     ensures { result ≡ computed_of_two (λ p q. p + q) m n }
 {
@@ -82,7 +82,7 @@ pub fn sum(m: Option<u32>, n: Option<u32>) -> Option<u32>
     }
 }
 
-/// As many as subsets of so many elements, where they are not too many.
+/// How many subsets `m` elements have, for at most `MOST_ELEMENTS`.
 fn subsets(m: u32) -> u64
     requires { m ≤ MOST_ELEMENTS }
     ensures { result ≡ 2 ^ m }
@@ -90,7 +90,7 @@ fn subsets(m: u32) -> u64
     1 << m
 }
 
-/// As many as subsets.
+/// The size of a power set.
 pub fn power(m: Option<u32>) -> Option<u32>
     ensures { result ≡ computed (λ n. 2 ^ n) m }
 {

@@ -1,5 +1,5 @@
-//! The faults of statements, the variables that are assigned behind them, and the greatest rank among the definitions
-//! that it calls.
+//! The faults of statements, the variables that are assigned after them, and the greatest rank of the definitions that
+//! they call.
 ghost use Rattle.std.specs.Prelude.{◌≡◌, ◌||◌, ◌&&◌, ℕ, List, IfOk, OnOk};
 ghost use Rattle.lang_model.specs.Tokens.{same_text};
 ghost use Rattle.lang_model.specs.Checking.{among, faults, target_faults, faults_of, faults_by, assigned_after, assigned_by, called_by};
@@ -14,7 +14,8 @@ use crate::scope::{Scope, check_target};
 use lang_model::syntax::{Expr, Name, Place, Stmt};
 use rel_model::NoMemory;
 
-/// The first fault so far and of the assignment `name := value`. Afterwards its variable is assigned.
+/// The first fault, of those found so far and those of the assignment `name := value`. Afterwards its variable is
+/// assigned.
 fn check_assignment<'a>(
     scope: &Scope<'a, '_>,
     assigned: &mut Names<'a>,
@@ -35,7 +36,8 @@ fn check_assignment<'a>(
     Ok(found)
 }
 
-/// The first fault so far and of a statement before which these variables are assigned. Afterwards those behind it are.
+/// The first fault, of those found so far and those of a statement, given the variables assigned before it. Afterwards
+/// the set has those assigned after it.
 #[cycle(checking)]
 fn check_stmt<'a>(
     scope: &Scope<'a, '_>,
@@ -63,8 +65,8 @@ fn check_stmt<'a>(
     }
 }
 
-/// The first fault so far and of statements before which these variables are assigned. Afterwards those behind them
-/// are.
+/// The first fault, of those found so far and those of statements, given the variables assigned before them. Afterwards
+/// the set has those assigned after them.
 #[cycle(checking)]
 pub fn check_stmts<'a>(
     scope: &Scope<'a, '_>,
@@ -84,7 +86,7 @@ pub fn check_stmts<'a>(
     Ok(found)
 }
 
-/// The first fault so far and of the body of a WHILE. It assigns nothing for what stands behind it.
+/// The first fault, of those found so far and those of the body of a WHILE. What it assigns does not count after it.
 #[cycle(checking)]
 fn check_loop<'a>(
     scope: &Scope<'a, '_>,
@@ -99,7 +101,8 @@ fn check_loop<'a>(
     check_stmts(scope, &mut within, body, so_far)
 }
 
-/// The first fault so far and of the two parts of an IF. Afterwards the variables that both assign are assigned.
+/// The first fault, of those found so far and those of the two branches of an IF. Afterwards the variables that both
+/// assign are assigned.
 #[cycle(checking)]
 fn check_choice<'a>(
     scope: &Scope<'a, '_>,
@@ -119,8 +122,8 @@ fn check_choice<'a>(
     check_second(scope, assigned, &first, no, found)
 }
 
-/// The first fault so far and of the second part of an IF, behind whose first part these variables are assigned.
-/// Afterwards the variables that both assign are assigned.
+/// The first fault, of those found so far and those of the second branch of an IF, given the variables assigned after
+/// its first branch. Afterwards the variables that both assign are assigned.
 #[cycle(checking)]
 fn check_second<'a>(
     scope: &Scope<'a, '_>,
@@ -140,7 +143,7 @@ fn check_second<'a>(
     Ok(found)
 }
 
-/// The greatest rank among the definitions that a statement calls, or 0 where it calls none.
+/// The greatest rank of the definitions that a statement calls; 0 if it calls none.
 pub fn greatest_called_by(earlier: &Definitions, stmt: &Stmt) -> usize
     ensures { result ≡ called_by earlier.now stmt.now }
 {

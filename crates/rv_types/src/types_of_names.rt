@@ -7,7 +7,7 @@ use lang_model::syntax::Name;
 use rel_model::NoMemory;
 use std::alloc::Global;
 
-/// The type of a name: the first that stands there.
+/// The type of a name: the first entry for it.
 pub fn find(names: &[(Name, StaticShape)], name: &[u8]) -> Option<StaticShape>
     ensures { result ≡ types_of names.now name.now }
 {
@@ -19,7 +19,7 @@ pub fn find(names: &[(Name, StaticShape)], name: &[u8]) -> Option<StaticShape>
     None
 }
 
-/// One more name with its type.
+/// Adds a name with its type.
 pub fn add(
     alloc: Global,
     names: &mut Vec<(Name, StaticShape)>,

@@ -1,4 +1,4 @@
-//! The walk over expressions, calls and statements that finds types: the first misfit ends it.
+//! The walk over expressions, calls and statements that finds types. It ends at the first misfit.
 ghost use Rattle.std.specs.Prelude.{[]};
 ghost use Rattle.lang_model.specs.Shape.{shape, shape_test, types_of_calls, typed_behind, typed_by};
 ghost use Rattle.rv_types.specs.Shaping.{types_of, shapes_by, shape_by, Answers};
@@ -14,8 +14,8 @@ use lang_model::faults::{StaticShape, TypeFault};
 use lang_model::syntax::{Decl, Expr, Item, Link, Name, Place, Stmt};
 use std::alloc::Global;
 
-/// What an expression stands in: the script, how many definitions may stand in one another from here, and the
-/// declarations of its program.
+/// The surroundings of an expression: the script, how many definitions may still nest from here, and the declarations
+/// of its program.
 #[derive(Clone, Copy)]
 pub struct Around<'a> {
     pub checked: &'a Checked,
@@ -69,7 +69,7 @@ pub fn type_of_expr(
     }
 }
 
-/// The type of a chain whose first operand has this type: links from the left.
+/// The type of a chain, given the type of its first operand: links from left to right.
 #[cycle(typing)]
 fn type_of_chain(
     alloc: Global,
@@ -94,7 +94,7 @@ fn type_of_chain(
     Ok(all)
 }
 
-/// The types of arguments, from the left.
+/// The types of arguments, from left to right.
 #[cycle(typing)]
 fn types_of_args(
     alloc: Global,
@@ -192,7 +192,7 @@ fn type_of_test(
     }
 }
 
-/// Types a statement: afterwards its names have their types.
+/// Types a statement. Afterwards the variables have the types that it gives them.
 #[cycle(typing)]
 fn type_stmt(
     alloc: Global,

@@ -1,4 +1,4 @@
-//! The steps of the walk that need no recursion: names, arguments, assignments and domain operators.
+//! The steps of the walk without recursion: names, arguments, assignments and domain operators.
 ghost use Rattle.std.specs.Prelude.{◌≡◌, ◌∷◌, [], None, Some, MatchOption};
 ghost use Rattle.lang_model.specs.Mean.{domain_named};
 ghost use Rattle.lang_model.specs.Shape.{typed_name, typed_injected_of, typed_injected, set_type};
@@ -29,7 +29,7 @@ pub fn type_of_name(
     }
 }
 
-/// The parameters of a definition with the types of as many arguments.
+/// The parameters of a definition with the types of the arguments, which must be as many.
 pub fn with_arguments(
     alloc: Global,
     at: Place,
@@ -53,7 +53,8 @@ pub fn with_arguments(
     }
 }
 
-/// Assigns a value of this type: the first assignment in the text gives a variable its type, and later ones fit it.
+/// Assigns a value of this type: the first assignment in the text gives a variable its type, and later ones must fit
+/// it.
 pub fn assign(
     alloc: Global,
     names: &mut Vec<(Name, StaticShape)>,
@@ -79,7 +80,7 @@ pub fn assign(
     }
 }
 
-/// The names of a declared domain, where the declaration is of this one.
+/// The two names of a domain, if this declaration declares it.
 fn domain_of<'a>(decl: &'a Decl, domain: &Name) -> Option<(&'a Name, &'a Name)>
     ensures { let named = domain_named (decl.now ∷ []) domain.now in
         MatchOption result (named ≡ None) (λ x. named ≡ Some (x.0.now, x.1.now)) }

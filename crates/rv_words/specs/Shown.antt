@@ -1,4 +1,4 @@
--- How a contract sees the words, the options that are read off them, and what clap finds in them.
+-- How contracts see the words, the options read from them, and what clap finds in them.
 use Rattle.std.specs.Prelude.{◌≡◌, List, [], map, Option, Some, None, unwrap_or, option_map, String}
 use Rattle.std.specs.String.{string_bytes}
 use Rattle.std.specs.declared.alloc.Global.{Global}
@@ -27,11 +27,11 @@ shown options = record {
   ends = options.ends.items;
 }
 
--- what a list of FILE words lists
+-- the contents of a list of FILE words
 abbrev pub listed_by : FileList → Listed
 listed_by list = record { files = texts list.files.items; ends = list.ends.items }
 
--- a list of FILE words has their scripts and their relation files
+-- a list of FILE words has the scripts and relation files among them
 pub record IsSorted (list : FileList) : Type 0 where
   pub scripts : texts list.scripts.items ≡ scripts_in (texts list.files.items)
   pub relations : texts list.relations.items ≡ relations_in (texts list.files.items)
@@ -40,7 +40,7 @@ pub record IsSorted (list : FileList) : Type 0 where
 abbrev pub found_values : ArgMatches → Word → List Word
 found_values matches name = unwrap_or (option_map raw_values (matched_of (found_of matches) name)) []
 
--- clap found the uses: under each name their values
+-- clap found the uses: their values under each name
 abbrev pub Finds : Option (List Use) → ArgMatches → Type 0
 Finds None matches = ⊥
 Finds (Some uses) matches = (name : Word) → found_values matches name ≡ values_of uses name

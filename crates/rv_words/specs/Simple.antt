@@ -1,15 +1,15 @@
--- The one simple command that clap reads, in clap's own words.
+-- The one simple command that clap reads, in clap's own terms.
 use Rattle.std.specs.Prelude.{true, [], ◌∷◌, codes, Some}
 use Rattle.clap.specs.Words.{App, Rule, new_app, new_rule, with_rule}
 use Rattle.clap.specs.Simple.{on_top}
 use Rattle.clap.specs.declared.builder.action.ArgAction.TheVariants.{Append}
 use Rattle.rv_words.specs.Uses.{Word, workers_name, nodes_name, turns_name, gen_name, history_name, file_name}
 
--- an option that takes one value, each time that it stands
+-- an option that takes one value each time that it occurs
 abbrev pub valued : Word → Rule
 valued name = record (new_rule name) { long = Some name; action = Some Append }
 
--- the option that takes none, which has one empty value each time that it stands
+-- the option that takes no value: it has one empty value each time that it occurs
 abbrev pub history : Rule
 history = record (new_rule history_name) {
   long = Some history_name;
@@ -22,7 +22,7 @@ history = record (new_rule history_name) {
 abbrev pub file : Rule
 file = record (new_rule file_name) { action = Some Append }
 
--- a command with no help, whose words do not hold the program's own name
+-- a command without help, whose words do not include the program's own name
 abbrev pub bare : App
 bare = on_top (λ s. record s { no_binary_name = true; disable_help_flag = true }) (new_app (codes "relview"))
 

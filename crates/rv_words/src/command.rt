@@ -1,4 +1,4 @@
-//! The one simple command by which `clap` splits the words, and the values that it found.
+//! The one simple command by which `clap` splits the words, and the values that it finds.
 ghost use Rattle.std.specs.Prelude.{◌≡◌, ◌≢◌, false, IfOk, IfErr, None};
 ghost use Rattle.clap.specs.Words.{app_of, kind_of, rule_of, with_rule};
 ghost use Rattle.clap.specs.declared.error.kind.ErrorKind.TheVariants as kind;
@@ -12,7 +12,7 @@ use clap::error::ErrorKind;
 use clap::{Arg, ArgAction, ArgMatches, Command, Error};
 use std::alloc::{AllocError, Global};
 
-/// An option that takes a value, each time that it stands.
+/// An option that takes a value each time that it occurs.
 fn valued<'a>(alloc: Global, name: &'a str) -> Arg<'a>
     ensures rule { rule_of result ≡ simple.valued name.now }
     ensures local { result.global ≡ false }
@@ -40,7 +40,7 @@ fn file<'a>(alloc: Global) -> Arg<'a>
     Arg::new(alloc, "file").action(ArgAction::Append)
 }
 
-/// A command with no arguments, no help, no version and no shortened names.
+/// A command without arguments, help, version or abbreviated names.
 fn bare<'a>(alloc: Global) -> Command<'a>
     ensures { app_of result ≡ simple.bare }
 {
@@ -116,7 +116,7 @@ fn command<'a>(alloc: Global) -> Result<Command<'a>, AllocError>
     }
 }
 
-/// Why clap found nothing.
+/// Why clap gave no result.
 fn cause_of(error: &Error) -> WordsError
     ensures { result ≡ words_error.Usage → kind_of error.now ≢ kind.OutOfMemory }
 {
@@ -126,7 +126,7 @@ fn cause_of(error: &Error) -> WordsError
     }
 }
 
-/// What stands in the words.
+/// What clap finds in the words.
 pub fn found<'a>(alloc: Global, words: &'a [String]) -> Result<ArgMatches<'a>, WordsError>
     ensures finds { IfOk result (Finds (uses_in (texts words.now))) }
     ensures usage { IfErr result (λ error. error ≡ words_error.Usage → uses_in (texts words.now) ≡ None) }

@@ -1,4 +1,5 @@
-//! The FILE words of the parts: which are taken, the scripts and the relation files, and where each part ends.
+//! The FILE words of the parts: which are accepted, which are scripts and which relation files, and where each part
+//! ends.
 ghost use Rattle.std.specs.Prelude.{◌≡◌, ◌++◌, ◌∷◌, [], ◌&&◌, nat_le, nat_lt, length, map, OnOk, IfErr, Some, None};
 ghost use Rattle.std.specs.List.{list_all};
 ghost use Rattle.rv_words.specs.Parts.{most_parts};
@@ -9,26 +10,26 @@ ghost use Rattle.rv_words.specs.declared.options.WordsError.TheVariants as words
 use crate::WordsError;
 use std::alloc::{AllocError, Global};
 
-/// The most scripts, and the most relation files.
+/// The greatest number of scripts, and of relation files.
 const MOST_FILES: usize = 64;
 
-/// The most parts.
+/// The greatest number of parts.
 const MOST_PARTS: usize = 8;
 
-/// The FILE words of some parts.
+/// The FILE words of some parts. On the heap.
 #[derive(Debug, Drop)]
 pub struct FileList {
-    /// All of them, in their order.
+    /// All of them, in order.
     pub files: Vec<String>,
     /// The scripts among them.
     pub scripts: Vec<String>,
     /// The relation files among them.
     pub relations: Vec<String>,
-    /// For each part the number of scripts up to its end.
+    /// For each part, the number of scripts up to its end.
     pub ends: Vec<u32>,
 }
 
-/// The list of no part.
+/// The list for no part.
 pub fn no_part(alloc: Global) -> FileList
     ensures none { listed_by result ≡ said.no_part }
     ensures sorted { IsSorted result }
@@ -41,7 +42,7 @@ pub fn no_part(alloc: Global) -> FileList
     }
 }
 
-/// Whether a FILE word is taken: it is not empty, and not the word `-`.
+/// Whether a FILE word is accepted: it is neither empty nor the word `-`.
 fn is_file_word(word: &str) -> bool
     ensures { result ≡ said.is_file_word word.now }
 {
@@ -56,7 +57,7 @@ fn is_relation_word(word: &[u8]) -> bool
     &word[start..] == b".k2".as_slice()
 }
 
-/// Whether each FILE word is taken.
+/// Whether each FILE word is accepted.
 fn all_file_words(files: &[&str]) -> bool
     ensures { result ≡ list_all said.is_file_word (map (λ file. file.now) files.now) }
 {
@@ -70,7 +71,7 @@ fn all_file_words(files: &[&str]) -> bool
     true
 }
 
-/// Adds a name to the names.
+/// Appends a name to the names.
 fn add_name(alloc: Global, name: &str, names: &mut Vec<String>) -> Result<(), AllocError>
     ensures { OnOk result (texts names.new.items ≡ texts names.old.items ++ name.now ∷ []) }
 {
@@ -78,7 +79,7 @@ fn add_name(alloc: Global, name: &str, names: &mut Vec<String>) -> Result<(), Al
     Ok(())
 }
 
-/// Adds a FILE word to the scripts or to the relation files.
+/// Appends a FILE word to the scripts or to the relation files.
 fn sort_word(alloc: Global, file: &str, list: &mut FileList) -> Result<(), AllocError>
     ensures scripts { OnOk result (texts list.new.scripts.items
         ≡ texts list.old.scripts.items ++ said.scripts_in (file.now ∷ [])) }
@@ -94,7 +95,7 @@ fn sort_word(alloc: Global, file: &str, list: &mut FileList) -> Result<(), Alloc
     }
 }
 
-/// Adds a FILE word to all of them, and to the scripts or to the relation files.
+/// Appends a FILE word to the list of all, and to the scripts or the relation files.
 fn add_word(alloc: Global, file: &str, list: &mut FileList) -> Result<(), AllocError>
     ensures files { OnOk result (texts list.new.files.items ≡ texts list.old.files.items ++ file.now ∷ []) }
     ensures sorted { OnOk result (IsSorted list.old → IsSorted list.new) }
@@ -105,7 +106,7 @@ fn add_word(alloc: Global, file: &str, list: &mut FileList) -> Result<(), AllocE
     Ok(())
 }
 
-/// Adds FILE words, in their order.
+/// Appends FILE words, in order.
 fn add_words(alloc: Global, files: &[&str], list: &mut FileList) -> Result<(), AllocError>
     ensures files { OnOk result (texts list.new.files.items
         ≡ texts list.old.files.items ++ map (λ file. file.now) files.now) }
@@ -120,7 +121,8 @@ fn add_words(alloc: Global, files: &[&str], list: &mut FileList) -> Result<(), A
     Ok(())
 }
 
-/// Whether the FILE words of a part are taken, which were added to those before it, among them so many scripts.
+/// Whether the FILE words of a part are accepted, after they were appended to those before it, which included
+/// `scripts_before` scripts.
 fn is_part_taken(files: &[&str], scripts_before: usize, list: &FileList) -> bool
     requires { IsSorted list.now }
     ensures { result ≡ (list_all said.is_file_word (map (λ file. file.now) files.now)
@@ -136,7 +138,7 @@ fn is_part_taken(files: &[&str], scripts_before: usize, list: &FileList) -> bool
                 && (scripts <= MOST_FILES && list.relations.len() <= MOST_FILES)))
 }
 
-/// Adds the FILE words of one more part.
+/// Appends the FILE words of one more part.
 pub fn add_part(alloc: Global, files: &[&str], list: &mut FileList) -> Result<(), WordsError>
     requires { IsSorted list.old }
     ensures taken { OnOk result (said.with_part (listed_by list.old) (map (λ file. file.now) files.now)

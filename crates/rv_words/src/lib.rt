@@ -1,4 +1,4 @@
-//! The words of the command line: which of them are taken, and what they say.
+//! The words of the command line: which are accepted, and what they say.
 #![tactic(auto)]
 
 pub(crate) mod command;

@@ -21,7 +21,7 @@ fn is_number(text: &str) -> bool
     1 <= text.len() && (text.len() <= 20 && all_digits(text.as_bytes()))
 }
 
-/// The number that a value writes, where it lies in its range.
+/// The number that a value spells, if it is within its range.
 fn number_within(text: &str, least: u64, most: u64) -> Option<u64>
     ensures number { result ≡ said.number_within least most text.now }
     ensures within { IfSome result (λ number. number ≤ most) }
@@ -41,7 +41,7 @@ fn number_within(text: &str, least: u64, most: u64) -> Option<u64>
     }
 }
 
-/// The number that the values of an option give, which stands at most once, and without it the default.
+/// The number that the values of an option give; the option occurs at most once, and without it the default counts.
 fn number_of(values: &[&str], least: u64, most: u64, default: u64) -> Option<u64>
     requires { default ≤ most }
     ensures number { result ≡ said.number_or least most default (map (λ value. value.now) values.now) }
@@ -54,7 +54,7 @@ fn number_of(values: &[&str], least: u64, most: u64, default: u64) -> Option<u64
     }
 }
 
-/// The number that the values of `--gen` give, which stands at most once.
+/// The number that the values of `--gen` give; it occurs at most once.
 fn gen_number_of(values: &[&str]) -> Option<Option<u64>>
     ensures { result ≡ said.gen_number (map (λ value. value.now) values.now) }
 {
@@ -68,7 +68,7 @@ fn gen_number_of(values: &[&str]) -> Option<Option<u64>>
     }
 }
 
-/// Whether the values of `--history` tell that it stands there, which it does at most once.
+/// Whether `--history` occurs, from its values; it occurs at most once.
 fn switched_by(values: &[&str]) -> Option<bool>
     ensures { result ≡ said.switched (map (λ value. value.now) values.now) }
 {

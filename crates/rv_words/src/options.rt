@@ -1,4 +1,4 @@
-//! The options of a run, and how they are read off the words.
+//! The options of a run, and how they are read from the words.
 ghost use Rattle.std.specs.Prelude.{◌≡◌, IfOk, IfErr, Some, None, codes, option_map};
 ghost use Rattle.rv_words.specs.Parts.{parts_behind};
 ghost use Rattle.rv_words.specs.Said as said;
@@ -12,20 +12,20 @@ use clap::ArgMatches;
 use std::alloc::Global;
 use thiserror::Error;
 
-/// What the words of a run say.
+/// What the words of a run say. On the heap.
 #[derive(Debug, Drop)]
 pub struct Options {
     /// How many workers a session has, from 1 to 64.
     pub workers: u32,
-    /// The table has two to this power of node words, from 10 to 24.
+    /// The table has `2^nodes` node words; from 10 to 24.
     pub nodes: u32,
-    /// How many turns the loops of a command may take.
+    /// How many turns the loops of a command may take together.
     pub turns: u64,
     /// Whether the history is shown.
     pub history: bool,
-    /// The number of which the scripts are generated, where they are.
+    /// The number from which scripts are generated, if they are.
     pub number: Option<u64>,
-    /// The FILE words of all parts, in the order in which they stand.
+    /// The FILE words of all parts, in the order in which they occur.
     pub files: Vec<String>,
     /// The names of the scripts, at most 64.
     pub scripts: Vec<String>,
@@ -35,20 +35,20 @@ pub struct Options {
     pub ends: Vec<u32>,
 }
 
-/// Why the words gave no options.
+/// Why the words gave no options. 1 byte.
 #[derive(Clone, Copy, Debug, PartialEq, Eq, Drop, Error)]
 pub enum WordsError {
-    /// The words are outside the set.
+    /// The words are outside the accepted set.
     #[error("Usage")]
     Usage,
-    /// There was no memory left.
+    /// Memory ran out.
     #[error("NoMemory")]
     NoMemory,
 }
 
-/// Reads the words, which do not hold the program's own name.
+/// Reads the words, which do not include the program's own name.
 ///
-/// The answer is `Usage` exactly where the words are outside the set.
+/// It answers `Usage` if and only if the words are outside the accepted set.
 pub fn words_of(alloc: Global, words: &[String]) -> Result<Options, WordsError>
     ensures taken { IfOk result (λ options. said.said_by (texts words.now) ≡ Some (shown options)) }
     ensures usage { IfErr result (λ error. error ≡ words_error.Usage → said.said_by (texts words.now) ≡ None) }
@@ -60,7 +60,7 @@ pub fn words_of(alloc: Global, words: &[String]) -> Result<Options, WordsError>
     }
 }
 
-/// The options with the FILE words of the parts, where these are taken.
+/// The options with the FILE words of the parts, if these are accepted.
 fn with_files(
     alloc: Global,
     matches: &ArgMatches,
@@ -96,7 +96,7 @@ fn with_files(
     })
 }
 
-/// The options that the values of the first part give, with the parts behind it.
+/// The options from the values of the first part, with the parts after it.
 fn options_of(
     alloc: Global,
     matches: &ArgMatches,

@@ -1,4 +1,4 @@
-//! The parts of the words, and the FILE words that stand in them.
+//! The parts of the words, and the FILE words in them.
 ghost use Rattle.std.specs.Prelude.{◌≡◌, ◌∷◌, codes, option_map, IfOk, OnOk, IfErr, Some, None};
 ghost use Rattle.rv_words.specs.Parts.{parts_of, parts_behind};
 ghost use Rattle.rv_words.specs.Said as said;
@@ -11,7 +11,7 @@ use crate::files::{FileList, add_part, no_part};
 use clap::ArgMatches;
 use std::alloc::Global;
 
-/// The first part of the words, and the words behind the `--then` that ends it, where there is one.
+/// The first part of the words, and the words after the `--then` that ends it, if there is one.
 pub fn first_part(words: &[String]) -> (&[String], Option<&[String]>)
     ensures { parts_of (texts words.now)
         ≡ texts result.0.now ∷ parts_behind (option_map (λ later. texts later.now) result.1) }
@@ -50,7 +50,7 @@ fn has_options(matches: &ArgMatches) -> bool
             || (stands(matches, "turns") || (stands(matches, "gen") || stands(matches, "history"))))
 }
 
-/// Adds the FILE words that clap found in one more part.
+/// Appends the FILE words that clap found in one more part.
 fn add_found(alloc: Global, matches: &ArgMatches, list: &mut FileList) -> Result<(), WordsError>
     requires { IsSorted list.old }
     ensures taken { OnOk result (said.with_part (listed_by list.old) (found_values matches.now (codes "file"))
@@ -65,7 +65,7 @@ fn add_found(alloc: Global, matches: &ArgMatches, list: &mut FileList) -> Result
     }
 }
 
-/// Adds the FILE words of one more part, which has no option.
+/// Appends the FILE words of one more part, which must have no option.
 fn add_later_part(alloc: Global, part: &[String], list: &mut FileList) -> Result<(), WordsError>
     requires { IsSorted list.old }
     ensures taken { OnOk result (said.with_later_part (listed_by list.old) (texts part.now)
@@ -86,7 +86,7 @@ fn add_later_part(alloc: Global, part: &[String], list: &mut FileList) -> Result
     }
 }
 
-/// Adds the FILE words of the parts behind the first, one part after another.
+/// Appends the FILE words of the parts after the first, part by part.
 fn add_later(alloc: Global, later: Option<&[String]>, list: &mut FileList) -> Result<(), WordsError>
     requires { IsSorted list.old }
     ensures taken { OnOk result (said.with_later (parts_behind (option_map (λ words. texts words.now) later.entry))
@@ -108,7 +108,7 @@ fn add_later(alloc: Global, later: Option<&[String]>, list: &mut FileList) -> Re
     Ok(())
 }
 
-/// The list of one part with no FILE word, as `--gen` has it.
+/// The list for one part without a FILE word, as with `--gen`.
 fn generated_part(
     alloc: Global,
     matches: &ArgMatches,
@@ -134,7 +134,7 @@ fn generated_part(
     }
 }
 
-/// The list of the first part with the parts behind it.
+/// The list for the first part with the parts after it.
 fn several_parts(
     alloc: Global,
     matches: &ArgMatches,
@@ -158,7 +158,7 @@ fn several_parts(
     }
 }
 
-/// The list of the first part with the parts behind it, where `--gen` has this number or is not there.
+/// The list for the first part with the parts after it, given the number of `--gen`, if there is one.
 pub fn with_parts(
     alloc: Global,
     number: Option<u64>,

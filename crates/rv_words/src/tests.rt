@@ -3,7 +3,7 @@ use std::alloc::{AllocError, Global};
 use std::process::Abort;
 use std::test::Fail;
 
-/// The words of a line, which stand between single blanks; a `_` is an empty word.
+/// The words of a line, separated by single blanks; a `_` is an empty word.
 fn words_in(alloc: Global, line: &str) -> Result<Vec<String>, AllocError> {
     let mut words = Vec::new(alloc);
     for word in line.split(' ') {
@@ -41,7 +41,7 @@ fn answer(alloc: Global, words: &[String]) -> Result<String, Fail> {
     }
 }
 
-/// Lines that are taken, and the options that they give.
+/// Lines that are accepted, and the options that they give.
 const TAKEN: &[(&str, &str)] = &[
     ("a.rv", "1 20 1000000 false None [\"a.rv\"] [1]"),
     (
@@ -108,7 +108,7 @@ const TAKEN: &[(&str, &str)] = &[
     ),
 ];
 
-/// Lines that are taken, with their scripts and their relation files.
+/// Lines that are accepted, with their scripts and their relation files.
 const SORTED: &[(&str, &str)] = &[
     ("b.k2 a.rv .k2", "[\"a.rv\"] [\"b.k2\", \".k2\"]"),
     ("--gen 7", "[] []"),
@@ -118,7 +118,7 @@ const SORTED: &[(&str, &str)] = &[
     ),
 ];
 
-/// Lines outside the set.
+/// Lines outside the accepted set.
 const OUTSIDE: &[&str] = &[
     "--workers 0 a.rv",
     "--workers 65 a.rv",
@@ -188,7 +188,7 @@ const OUTSIDE: &[&str] = &[
     "a --then b --then c --then d --then e --then f --then g --then h --then i",
 ];
 
-/// Asserts what a line gives.
+/// Asserts the result of a line.
 fn assert_answer(rt: &impl Abort, alloc: Global, line: &str, want: &str) -> Result<(), Fail> {
     let words = words_in(alloc, line)?;
     let given = answer(alloc, words.as_slice())?;
@@ -228,7 +228,7 @@ fn scripts_and_relation_files_keep_their_order(rt: HostRuntime) -> Result<(), Fa
     Ok(())
 }
 
-/// Parts that have so many scripts and relation files each, and one word more in the last.
+/// Parts with these numbers of scripts and relation files each, and one more word in the last part.
 fn parts_in(
     alloc: Global,
     parts: u32,
@@ -252,7 +252,7 @@ fn parts_in(
     Ok(words)
 }
 
-/// So many parts with so many scripts and relation files each, one word more, and whether they are taken.
+/// Numbers of parts, and of scripts and relation files in each, one more word, and whether the words are accepted.
 const LIMITS: &[(u32, u32, u32, &str, bool)] = &[
     (1, 64, 64, "", true),
     (1, 64, 64, "a.rv", false),
@@ -268,7 +268,7 @@ const LIMITS: &[(u32, u32, u32, &str, bool)] = &[
     (9, 1, 0, "", false),
 ];
 
-/// Asserts whether a line of the limits is taken.
+/// Asserts whether a line of the limits is accepted.
 fn assert_limit(
     rt: &impl Abort,
     alloc: Global,

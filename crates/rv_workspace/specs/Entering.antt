@@ -12,39 +12,39 @@ use Rattle.rv_workspace.specs.declared.refused.DropRefused.TheVariants.{Unknown,
 abbrev pub read_of : ℕ → ℕ → Event
 read_of session command = record { session = session; command = command; act = Read }
 
--- the removal of a name
+-- the removal of a name by a command
 abbrev pub removal : ℕ → ℕ → List ℕ → Event
 removal session command name = record { session = session; command = command; act = Remove name }
 
--- an assignment
+-- an assignment by a command
 abbrev pub assign_of : ℕ → ℕ → List ℕ × Rel → Event
 assign_of session command gift = record { session = session; command = command; act = Assign gift.0 gift.1 }
 
--- the assignments of a command, one for each place of a list and in its order
+-- the assignments of a command, one for each place of a list, in order
 abbrev pub assigns : ℕ → ℕ → List (List ℕ × Rel) → List Event
 assigns session command = map (assign_of session command)
 
--- a drop that is refused enters its read where the name is unknown, and nothing where memory ran out
+-- a refused drop enters its read if the name is unknown, and nothing if memory ran out
 abbrev pub refusal_entries : ℕ → ℕ → DropRefused → List Event
 refusal_entries session command (Unknown name) = read_of session command ∷ []
 refusal_entries session command NoMemory = []
 
--- a drop that is done enters the removal
+-- a drop that is made enters the removal
 abbrev pub drop_entries : ℕ → ℕ → List ℕ → Result (Unit {0}) DropRefused → List Event
 drop_entries session command name (Ok done) = removal session command name ∷ []
 drop_entries session command name (Err refused) = refusal_entries session command refused
 
--- it takes the name away, and changes no name where it is refused
+-- a drop that is made removes the name, and a refused one changes no name
 abbrev pub dropped : List ℕ → Result (Unit {0}) DropRefused → Carried → Carried
 dropped name (Ok done) names = remove name names
 dropped name (Err refused) names = names
 
--- it is refused for an unknown name only where the name has no relation
+-- a drop is refused for an unknown name only if the name has no relation
 abbrev pub IsRefusal : Option Rel → List ℕ → DropRefused → Type 0
 IsRefusal had name (Unknown told) = (told ≡ name) × (had ≡ None)
 IsRefusal had name NoMemory = Unit {0}
 
--- it is done only where the name has one
+-- a drop is made only if the name has a relation
 abbrev pub IsDropAnswer : Option Rel → List ℕ → Result (Unit {0}) DropRefused → Type 0
 IsDropAnswer had name (Ok done) = IsSome had
 IsDropAnswer had name (Err refused) = IsRefusal had name refused

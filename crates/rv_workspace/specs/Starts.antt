@@ -1,4 +1,4 @@
--- With what a book begins, as a turn book keeps it: the relations of names and their versions, as lists.
+-- What a book begins with, in the form that a turn book keeps: relations of names, and versions, as lists.
 use Rattle.std.specs.Prelude.{ℕ, map}
 use Rattle.rel_model.specs.declared.Rel.{Rel}
 use Rattle.run_model.specs.Carried.{First}
@@ -8,7 +8,7 @@ use Rattle.turn_book.specs.Views.{Start}
 abbrev pub parts_of : Rel → ℕ × ℕ × ℕ
 parts_of rel = (rel.rows, rel.cols, rel.root)
 
--- the relation of such parts
+-- the relation with such parts
 abbrev pub rel_from : ℕ × ℕ × ℕ → Rel
 rel_from parts = record { rows = parts.0; cols = parts.1; root = parts.2 }
 

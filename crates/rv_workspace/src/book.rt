@@ -28,8 +28,9 @@ use std::alloc::Global;
 use std::marker::Model;
 use std::snapshot::Snapshot;
 
-/// Names with their relations, what happened to them, and a worker in which all these relations stand. The names and
-/// versions with which it began are remembered for clauses alone, and take no memory.
+/// Names with their relations, the history of what happened to them, and the archive, a worker in which all these
+/// relations stand. The names and versions with which the book began are remembered in clauses only, and take no
+/// memory.
 #[derive(Drop)]
 pub struct Book<E: Seated> {
     archive: E,
@@ -61,7 +62,7 @@ impl<E: Seated> Model for Book<E> {
 }
 
 impl<E: Seated> Book<E> {
-    /// A book with no names, over a worker of which one other may be split off.
+    /// A book without names, over a worker from which one other may be split off.
     pub fn new(alloc: Global, archive: E) -> Book<E>
         requires spare { (E.worker archive).spare ≡ 1 }
         requires made { (E.worker archive).made ≡ 0 }
@@ -71,7 +72,7 @@ impl<E: Seated> Book<E> {
     }
 
     /// A book that begins with these names and versions, over a worker in which the relations of the names stand, and
-    /// of which one other may be split off. Nothing has happened to the names yet. It takes no memory.
+    /// from which one other may be split off. Nothing has happened to the names yet. It takes no memory.
     pub fn with(alloc: Global, archive: E, names: NameMap<Rel>, versions: Versions) -> Book<E>
         requires spare { (E.worker archive).spare ≡ 1 }
         requires made { (E.worker archive).made ≡ 0 }
@@ -96,7 +97,8 @@ impl<E: Seated> Book<E> {
         }
     }
 
-    /// The wanted names with their relations, or all, which another worker learns. The read is entered.
+    /// The wanted names with their relations, or all of them; another worker learns the relations, and the read is
+    /// entered into the history. Refused only if memory runs out.
     pub fn read(
         &mut self,
         alloc: Global,
@@ -116,6 +118,7 @@ impl<E: Seated> Book<E> {
         ensures archive { Learns (E.worker self.old.archive) (E.worker mine.old) (E.worker self.new.archive) }
         ensures mine { Learns (E.worker mine.old) (E.worker self.old.archive) (E.worker mine.new) }
     {
+        // This use makes the checker open the invariant of `self`, which the calls on its fields below need.
         let _ = &self.archive;
         exchange(mine, &mut self.archive);
         take_view(
@@ -128,7 +131,7 @@ impl<E: Seated> Book<E> {
         )
     }
 
-    /// Another worker learns all that stands in the archive. Names and history stay.
+    /// Another worker learns everything that stands in the archive. Names and history are unchanged.
     pub fn teach(&mut self, mine: &mut E)
         requires kin { Kin (E.worker mine.old) (E.worker self.old.archive) }
         ensures history { self.new.history ≡ self.old.history }
@@ -140,9 +143,9 @@ impl<E: Seated> Book<E> {
         exchange(mine, &mut self.archive);
     }
 
-    /// Each name of the list has its relation from here on, that of its last place, or all names stay. An assignment
-    /// is entered for each place, in order. The archive learns the relations, with all that stands in the worker that
-    /// has them.
+    /// From here on each name of the list has the relation at its last place in the list; or nothing changes. One
+    /// assignment is entered for each place, in order. The archive learns everything that stands in the worker that has
+    /// the relations.
     pub fn assign_all(
         &mut self,
         alloc: Global,
@@ -173,8 +176,8 @@ impl<E: Seated> Book<E> {
         )
     }
 
-    /// The name has this relation from here on, or all stays. The assignment is entered, and the
-    /// archive learns the relation, with all that stands in the worker that has it.
+    /// From here on the name has this relation; or nothing changes. The assignment is entered, and the archive learns
+    /// everything that stands in the worker that has the relation.
     pub fn assign(
         &mut self,
         alloc: Global,
@@ -208,7 +211,7 @@ impl<E: Seated> Book<E> {
         )
     }
 
-    /// The version of a name: the one that it had first, and how often it was assigned or dropped since. It takes no
+    /// The version of a name: the one that it began with, plus how often it was assigned or dropped since. It takes no
     /// memory.
     pub fn version(&self, name: &Name) -> u64
         ensures { result ≡ versions_of self.now name.now }
@@ -216,9 +219,9 @@ impl<E: Seated> Book<E> {
         self.versions.of(name)
     }
 
-    /// Makes the assignments of a block, as `assign_all` does, where each name that the block read has still the
-    /// version that it had then. Else the first that has another is told, with both versions, and a read is entered.
-    /// Versions are compared, and never relations.
+    /// Makes the assignments of a block, as `assign_all` does, if each name that the block read still has the version
+    /// that it had then. Otherwise reports the first that has another, with both versions, and enters a read. Versions
+    /// are compared, never relations.
     pub fn commit(
         &mut self,
         alloc: Global,
@@ -252,8 +255,8 @@ impl<E: Seated> Book<E> {
         )
     }
 
-    /// The name has no relation from here on, and the removal is entered. It is refused where there is no such name,
-    /// and then the read is entered.
+    /// From here on the name has no relation, and the removal is entered. Refused if there is no such name, and then a
+    /// read is entered.
     pub fn drop_name(
         &mut self,
         alloc: Global,
@@ -279,7 +282,7 @@ impl<E: Seated> Book<E> {
         )
     }
 
-    /// What happened to the names, the first event first.
+    /// What happened to the names, oldest event first.
     pub fn history(&self) -> &[Event]
         ensures value { result.now ≡ self.now.history }
         ensures book { IsBook E.worker self.now }
@@ -287,7 +290,7 @@ impl<E: Seated> Book<E> {
         self.history.as_slice()
     }
 
-    /// The archive, the history, and the names and versions as they are now. It takes no memory.
+    /// The archive, the history, and the present names and versions. It takes no memory.
     pub fn into_parts(self) -> (E, Vec<Event>, NameMap<Rel>, Versions)
         ensures archive { result.0 ≡ self.archive }
         ensures history { result.1.items ≡ self.history }

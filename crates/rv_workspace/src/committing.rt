@@ -1,4 +1,4 @@
-//! The assignments of a block, made where no name that it read has changed since.
+//! The assignments of a block, made only if no name that it read has changed since.
 ghost use Rattle.std.specs.Prelude.{◌≡◌, ◌++◌, ◌∷◌, [], OnOk, OnErr};
 ghost use Rattle.rv_workspace.specs.Committing.{ChangeTold, committed, commit_entries};
 ghost use Rattle.rv_workspace.specs.Counting.{AreFewBehind, StayCounted, AnswersByVersions};
@@ -13,7 +13,7 @@ use run_model::event::{Act, Event};
 use rv_blocks::{Versions, first_changed};
 use std::alloc::Global;
 
-/// Enters a read, and tells the name that changed, with both versions.
+/// Enters a read, and reports the name that changed, with both versions.
 fn tell_change(
     history: &mut Vec<Event>,
     alloc: Global,
@@ -41,8 +41,8 @@ fn tell_change(
     }
 }
 
-/// Makes all assignments, where each name that was read has the version that was read. Else it tells the first that has
-/// another, and enters a read.
+/// Makes all assignments if each name that was read still has the version that was read. Otherwise reports the first
+/// that has another, and enters a read.
 pub(crate) fn commit_all(
     names: &mut NameMap<Rel>,
     versions: &mut Versions,

@@ -1,4 +1,4 @@
-//! A name that is dropped.
+//! Dropping a name.
 ghost use Rattle.std.specs.Prelude.{◌≡◌, ◌<◌, ◌^◌, ◌++◌, ℕ, List, [], OnOk, OnErr, IsSome, vec_len, vec_capacity};
 ghost use Rattle.run_model.specs.Names.{lookup};
 ghost use Rattle.run_model.specs.Versions.{noted, raised};
@@ -13,7 +13,7 @@ use run_model::event::{Act, Event};
 use rv_blocks::Versions;
 use std::alloc::Global;
 
-/// One version more of a name, or all stay.
+/// Raises the version of a name by one, or changes nothing.
 fn note_one(versions: &mut Versions, alloc: Global, name: &Name) -> Result<(), NoMemory>
     requires fits { (other : List ℕ) → noted (raised name.now versions.old) other < 2 ^ 64 }
     ensures value { OnOk result (versions.new ≡ raised name.now versions.old) }
@@ -24,7 +24,7 @@ fn note_one(versions: &mut Versions, alloc: Global, name: &Name) -> Result<(), N
     versions.note_all(alloc, list.as_slice())
 }
 
-/// Takes away a name that has a relation, and enters the removal, or all stays.
+/// Removes a name that has a relation, and enters the removal, or changes nothing.
 fn remove_one(
     names: &mut NameMap<Rel>,
     versions: &mut Versions,
@@ -54,7 +54,7 @@ fn remove_one(
     Ok(())
 }
 
-/// Drops a name, which has one version more then, and enters the removal, or the read where there is no such name.
+/// Drops a name, raises its version by one and enters the removal; or enters a read if there is no such name.
 pub(crate) fn drop_one(
     names: &mut NameMap<Rel>,
     versions: &mut Versions,

@@ -1,4 +1,4 @@
-//! Names that get relations, all or none.
+//! Names that are assigned relations, all or none.
 ghost use Rattle.std.specs.Prelude.{◌≡◌, ◌≤◌, ◌+◌, ◌∷◌, ◌++◌, [], IfOk, OnOk, OnErr, vec_len, vec_capacity};
 ghost use Rattle.name_map.specs.Giving.{set_all};
 ghost use Rattle.run_model.specs.Names.{names_of};
@@ -12,7 +12,7 @@ use run_model::event::{Act, Event};
 use rv_blocks::Versions;
 use std::alloc::Global;
 
-/// The names of a list, copied.
+/// Copies of the names in a list.
 fn names_given(alloc: Global, list: &[(Name, Rel)]) -> Result<Vec<Name>, NoMemory>
     ensures { IfOk result (λ v. v.items ≡ names_of list.now) }
 {
@@ -38,8 +38,8 @@ fn enter_all(history: &mut Vec<Event>, session: u32, command: u32, list: Vec<(Na
     }
 }
 
-/// All names of the list get their relations, each one version more for each place, and the history an assignment for
-/// each place, or nothing changes.
+/// Assigns all names of the list their relations, raises their versions by one for each place, and enters an assignment
+/// for each place; or changes nothing.
 pub(crate) fn give_all(
     names: &mut NameMap<Rel>,
     versions: &mut Versions,
@@ -72,7 +72,7 @@ pub(crate) fn give_all(
     }
 }
 
-/// One name gets its relation and one version more, and the history its assignment, or nothing changes.
+/// Assigns a name its relation, raises its version by one, and enters the assignment; or changes nothing.
 pub(crate) fn give_one(
     names: &mut NameMap<Rel>,
     versions: &mut Versions,

@@ -11,13 +11,13 @@ use rel_model::{NoMemory, Rel};
 use run_model::event::{Act, Event};
 use std::alloc::Global;
 
-/// Names with their relations at the moment of a read, each once and in the order of their bytes.
+/// Names with their relations at the moment of a read, each once, in the order of their bytes. On the heap.
 #[derive(Drop)]
 pub struct View {
     pub names: Vec<(Name, Rel)>,
 }
 
-/// The name is found too, where it has a relation.
+/// Adds the name to those found, if it has a relation.
 fn pick(
     names: &NameMap<Rel>,
     found: &mut NameMap<Rel>,
@@ -38,7 +38,7 @@ fn pick(
     }
 }
 
-/// Those of the names that are wanted.
+/// Those names that are wanted.
 fn wanted_of(
     names: &NameMap<Rel>,
     alloc: Global,
@@ -54,7 +54,7 @@ fn wanted_of(
     found.into_list(alloc)
 }
 
-/// Those of the names that are wanted, or all.
+/// Those names that are wanted, or all of them.
 fn view_of(
     names: &NameMap<Rel>,
     alloc: Global,

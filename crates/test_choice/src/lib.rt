@@ -1,4 +1,4 @@
-//! Tests of choice, tests and walks over relations in a node table, beside slow lists.
+//! Tests of choice, tests and walks over relations in a node table, against slow lists.
 #![tactic(auto)]
 
 #[cfg(test)]

@@ -1,15 +1,15 @@
-//! Slow answers from the pairs of a relation, which are listed by row and then by column.
+//! Slow answers computed from the pairs of a relation, which are listed by row and then by column.
 use std::alloc::Global;
 use std::process::Abort;
 
-/// A pair put behind others.
+/// Appends a pair to others.
 pub(crate) fn put(rt: &impl Abort, pairs: &mut Vec<(u32, u32)>, pair: (u32, u32)) {
     if pairs.push(pair).is_err() {
         panic!(rt; "no memory");
     }
 }
 
-/// The elements that a column of so many rows has, as pairs with column 0.
+/// The elements of a column with this many rows, as pairs with column 0.
 pub(crate) fn vector(rt: &impl Abort, alloc: Global, rows: u32, has: &[u32]) -> Vec<(u32, u32)> {
     let mut out = Vec::new(alloc);
     'rows: for i in 0..rows {
@@ -42,12 +42,12 @@ pub(crate) fn cols_of(rt: &impl Abort, alloc: Global, pairs: &[(u32, u32)]) -> V
     out
 }
 
-/// Whether two pairs that stand side by side have one row.
+/// Whether two adjacent pairs of the list have the same row.
 pub(crate) fn has_two_in_a_row(pairs: &[(u32, u32)]) -> bool {
     pairs.windows(2).any(|two| two[0].0 == two[1].0)
 }
 
-/// The first of the pairs that stands behind a place, by row and then by column.
+/// The first of the pairs that comes after a place, by row and then by column.
 pub(crate) fn behind(pairs: &[(u32, u32)], i: u32, j: u32) -> Option<(u32, u32)> {
     'pairs: for (k, l) in pairs {
         if *k > i || *k == i && *l > j {

@@ -1,4 +1,4 @@
-//! Each call over relations in a node table, beside what their lists of pairs say.
+//! Each call over relations in a node table, compared with what their lists of pairs say.
 #![tactic(auto, using(crate::proofs::Later::rel_later, crate::proofs::Later::given_stands))]
 
 ghost use Rattle.std.specs.Prelude.{◌≡◌, ◌≤◌, IfOk};
@@ -14,7 +14,7 @@ use rel_model::{Lack, Rel, Shape};
 use std::alloc::Global;
 use std::process::Abort;
 
-/// The relation of some pairs, put in one after another.
+/// The relation of some pairs, added one after another.
 fn of_pairs<Q: Quads>(rt: &impl Abort, q: &mut Q, shape: Shape, pairs: &[(u32, u32)]) -> Rel
     requires row { shape.rows ≤ size_limit }
     requires col { shape.cols ≤ size_limit }
@@ -56,7 +56,7 @@ fn walked<Q: Quads>(rt: &impl Abort, alloc: Global, q: &mut Q, r: Rel) -> Vec<(u
     pairs
 }
 
-/// Asserts that a relation was given, of this shape and with these pairs.
+/// Asserts that a relation with this shape and these pairs was answered.
 fn is_given<Q: Quads>(
     rt: &impl Abort,
     alloc: Global,
@@ -74,7 +74,7 @@ fn is_given<Q: Quads>(
     assert!(rt; found.as_slice() == pairs, "{pairs:?}");
 }
 
-/// Asserts what is walked and counted of the relation of some pairs.
+/// Asserts what the walk and the count over the relation of some pairs give.
 fn is_counted<Q: Quads>(rt: &impl Abort, alloc: Global, q: &mut Q, r: Rel, pairs: &[(u32, u32)])
     requires { Stands (Q.worker q.old) r }
     ensures { Keeps (Q.worker q.old) (Q.worker q.new) }
@@ -131,7 +131,7 @@ fn has_its_cols<Q: Quads>(
     );
 }
 
-/// Asserts what each call answers of the relation of some pairs, which are listed by row and then by column.
+/// Asserts what each call answers on the relation of some pairs, which are listed by row and then by column.
 fn is_right<Q: Quads>(rt: &impl Abort, alloc: Global, q: &mut Q, shape: Shape, pairs: &[(u32, u32)])
     requires row { shape.rows ≤ size_limit }
     requires col { shape.cols ≤ size_limit }
@@ -145,7 +145,7 @@ fn is_right<Q: Quads>(rt: &impl Abort, alloc: Global, q: &mut Q, shape: Shape, p
     has_its_cols(rt, alloc, q, r, shape.cols, pairs);
 }
 
-/// The elements behind those of a vector of so many rows.
+/// The successors of the elements of a vector with this many rows.
 fn one_up(rt: &impl Abort, alloc: Global, rows: u32, pairs: &[(u32, u32)]) -> Vec<(u32, u32)> {
     let mut up = Vec::new(alloc);
     'pairs: for (i, _) in pairs {
@@ -156,7 +156,7 @@ fn one_up(rt: &impl Abort, alloc: Global, rows: u32, pairs: &[(u32, u32)]) -> Ve
     up
 }
 
-/// Asserts what the calls on vectors answer of the vector of some elements, which are listed in order.
+/// Asserts what the calls on vectors answer on the vector of some elements, which are listed in order.
 fn is_right_of_vectors<Q: Quads>(
     rt: &impl Abort,
     alloc: Global,
@@ -178,7 +178,7 @@ fn is_right_of_vectors<Q: Quads>(
     is_given(rt, alloc, q, given, shape, &up);
 }
 
-/// The pairs of the cells of a grid whose bits are set, from the lowest on.
+/// The pairs of the cells of a grid whose bits are set, lowest first.
 fn cells_of(rt: &impl Abort, alloc: Global, shape: Shape, bits: u64) -> Vec<(u32, u32)> {
     let mut pairs = Vec::new(alloc);
     let mut left = bits;
@@ -200,7 +200,7 @@ fn stepped(state: u64) -> u64 {
         .wrapping_add(1442695040888963407)
 }
 
-/// The pairs of a grid that a generator picks, one in so many.
+/// The pairs of a grid that a generator picks, one in a given number.
 fn some_of(
     rt: &impl Abort,
     alloc: Global,
@@ -222,7 +222,7 @@ fn some_of(
     pairs
 }
 
-/// Asserts which pair of a relation comes behind each place of its grid, and behind those one past it.
+/// Asserts which pair of a relation comes after each place of its grid, and after the places one past it.
 fn is_walked_from_each_place<Q: Quads>(
     rt: &impl Abort,
     q: &mut Q,
@@ -241,7 +241,7 @@ fn is_walked_from_each_place<Q: Quads>(
     }
 }
 
-/// Asserts what each call answers of all relations of sizes up to 3.
+/// Asserts what each call answers on all relations of sizes up to 3.
 pub(crate) fn up_to_3<Q: Quads>(rt: &impl Abort, alloc: Global, q: &mut Q) {
     'rows: for rows in 0..4 {
         'cols: for cols in 0..4 {
@@ -275,7 +275,7 @@ const BY_AT_MOST_3: &[(u32, u32)] = &[
     (4, 3),
 ];
 
-/// Asserts the same of all relations of size 4 by at most 3.
+/// Asserts the same for all relations of size 4 by at most 3.
 pub(crate) fn four_by_at_most_3<Q: Quads>(rt: &impl Abort, alloc: Global, q: &mut Q) {
     'shapes: for &(rows, cols) in BY_AT_MOST_3 {
         'sets: for bits in 0..4096 {
@@ -295,7 +295,7 @@ fn all_relations_of_size_4_by_at_most_3_are_answered_as_by_lists(rt: HostRuntime
     on_a_crew(&rt, rt.alloc(), Trial::FourByAtMost3);
 }
 
-/// Asserts the same of one in sixteen relations of sizes 4 and 4.
+/// Asserts the same for one in sixteen relations of sizes 4 and 4.
 pub(crate) fn four_by_4<Q: Quads>(rt: &impl Abort, alloc: Global, q: &mut Q) {
     let shape = Shape { rows: 4, cols: 4 };
     let mut state: u64 = 4;
@@ -311,7 +311,7 @@ fn one_in_sixteen_relations_of_sizes_4_and_4_is_answered_as_by_lists(rt: HostRun
     on_a_crew(&rt, rt.alloc(), Trial::FourBy4);
 }
 
-/// Asserts what the calls on vectors answer of all vectors of up to 8 rows.
+/// Asserts what the calls on vectors answer on all vectors of up to 8 rows.
 pub(crate) fn vectors<Q: Quads>(rt: &impl Abort, alloc: Global, q: &mut Q) {
     'sizes: for rows in 0..9 {
         'sets: for bits in 0..256 {
@@ -329,7 +329,7 @@ fn all_vectors_of_up_to_8_rows_are_answered_as_by_lists(rt: HostRuntime) {
     on_a_crew(&rt, rt.alloc(), Trial::Vectors);
 }
 
-/// Asserts what each call answers of relations that a generator picks.
+/// Asserts what each call answers on relations that a generator picks.
 pub(crate) fn pseudo_random<Q: Quads>(rt: &impl Abort, alloc: Global, q: &mut Q) {
     'shapes: for (rows, cols) in [
         (40, 40),
@@ -357,7 +357,7 @@ fn pseudo_random_relations_are_answered_as_by_lists(rt: HostRuntime) {
     on_a_crew(&rt, rt.alloc(), Trial::PseudoRandom);
 }
 
-/// Asserts what is counted and found of the full relation of the greatest sizes.
+/// Asserts what is counted and found in the full relation of the greatest sizes.
 pub(crate) fn greatest<Q: Quads>(rt: &impl Abort, alloc: Global, q: &mut Q) {
     let side = 16_777_216;
     let Ok(full) = q.full(Shape {
@@ -377,7 +377,7 @@ fn a_full_relation_of_2_to_the_48_pairs_is_counted(rt: HostRuntime) {
     on_a_crew(&rt, rt.alloc(), Trial::Greatest);
 }
 
-/// The relation of 8 rows and so many columns whose last row is full.
+/// The relation of 8 rows and this many columns whose last row is full.
 fn last_of_8<Q: Quads>(rt: &impl Abort, q: &mut Q, cols: u32) -> Rel
     requires { cols ≤ size_limit }
     ensures { Stands (Q.worker q.new) result }
@@ -394,7 +394,7 @@ fn last_of_8<Q: Quads>(rt: &impl Abort, q: &mut Q, cols: u32) -> Rel
     row
 }
 
-/// Asserts what is found of one row and of one column of the greatest size.
+/// Asserts what is found in one row and in one column of the greatest size.
 pub(crate) fn one_row_and_column<Q: Quads>(rt: &impl Abort, q: &mut Q) {
     let row = last_of_8(rt, q, 16_777_216);
     let Ok(column) = q.transpose(row) else {

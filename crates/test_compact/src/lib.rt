@@ -1,5 +1,5 @@
-//! Tests of `rv_compact` over the node table: what is moved and what is left behind, where it is refused, and that a
-//! table over the new words goes on.
+//! Tests of `rv_compact` over the node table: what is moved and what is left behind, when it is refused, and that work
+//! goes on with a table over the new words.
 #![tactic(auto)]
 
 #[cfg(test)]

@@ -1,14 +1,14 @@
-//! Relations and what they reach, read off the words slowly: by halving squares, and depth by depth.
+//! Relations and what they reach, read from the words slowly: by halving squares, and depth by depth.
 use crate::standing::{depth_of_side, halves, word_of};
 use rel_model::Rel;
 use std::alloc::Global;
 use std::process::Abort;
 
-/// Whether a pair is in a square relation with 8 rows, or twice as many, up to 64.
+/// Whether a pair is in a square relation with 8, 16, 32 or 64 rows.
 ///
-/// The word of a square over 8 by 8 has the names of its upper and lower half, the word of such a half the names of
-/// the squares on the left and on the right, and the word of a square of 8 by 8 has the cell in row i and column j as
-/// bit 8 i + j.
+/// The word of a square larger than 8 by 8 has the names of its upper and lower half; the word of such a half has the
+/// names of its left and right square; and the word of a square of 8 by 8 has the cell in row i and column j as bit 8 i
+/// + j.
 pub(crate) fn reads(words: &[u64], rel: Rel, i: u32, j: u32) -> bool {
     let mut side = rel.rows;
     let (mut row, mut col, mut name) = (i, j, rel.root);
@@ -34,7 +34,7 @@ pub(crate) fn taken(words: &[u64]) -> usize {
     words.iter().filter(|word| **word != 0).count()
 }
 
-/// As many marks as there are names, none of them set.
+/// As many marks as there are names, all of them unset.
 fn no_marks(rt: &impl Abort, alloc: Global, count: usize) -> Vec<bool> {
     match vec![in alloc; false; count] {
         Ok(marks) => marks,
@@ -42,7 +42,7 @@ fn no_marks(rt: &impl Abort, alloc: Global, count: usize) -> Vec<bool> {
     }
 }
 
-/// The name of a place among the first 1024, and 0 for any other.
+/// The name of a place among the first 1024; 0 for any other place.
 pub(crate) fn name_of(place: usize) -> u32 {
     if place < 1024 { place as u32 } else { 0 }
 }
@@ -55,7 +55,7 @@ fn mark(marks: &mut [bool], name: u32) {
     }
 }
 
-/// Marks the names that stand below those that are marked.
+/// Marks the names in the words of those that are marked.
 fn mark_below(words: &[u64], marks: &[bool], below: &mut [bool]) {
     'names: for (place, is_marked) in marks.iter().enumerate() {
         if *is_marked && place > 0 {

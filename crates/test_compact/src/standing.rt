@@ -1,4 +1,4 @@
-//! Whether square relations stand in words, found by a walk over their whole trees.
+//! Whether square relations stand in words, determined by a walk over their whole trees.
 ghost use Rattle.std.specs.Prelude.{◌≡◌, ◌<◌, true, slice_index, IfSome, IsTrue};
 ghost use Rattle.rel_model.specs.Trees.{stands};
 ghost use Rattle.rel_model.specs.Roots.{stands_in};
@@ -7,7 +7,7 @@ ghost use Rattle.test_compact.specs.Sides.{IsSide};
 
 use rel_model::Rel;
 
-/// The word of a name, or 0 where there is none.
+/// The word of a name; 0 if there is none.
 pub fn word_of(words: &[u64], name: u32) -> u64
     ensures { result ≡ slice_index words.now name }
 {
@@ -15,12 +15,12 @@ pub fn word_of(words: &[u64], name: u32) -> u64
     if place < words.len() { words[place] } else { 0 }
 }
 
-/// Both names of a word.
+/// The two names in a word.
 pub fn halves(word: u64) -> (u32, u32) {
     ((word >> 32) as u32, (word % (1 << 32)) as u32)
 }
 
-/// Whether a name stands at a depth: it is 0, or it is stored, and so are both its names at the depth below.
+/// Whether a name stands at a depth: it is 0, or it is stored and the two names in its word stand at the depth below.
 pub fn name_stands(words: &[u64], depth: u8, name: u32) -> bool
     ensures { IsTrue result → stands words.now depth name ≡ true }
 {
@@ -40,7 +40,7 @@ pub fn name_stands(words: &[u64], depth: u8, name: u32) -> bool
     name_stands(words, depth - 1, (word % (1 << 32)) as u32)
 }
 
-/// The depth of the root of a square relation with so many rows.
+/// The depth of the root of a square relation with this many rows.
 #[tactic(auto, unfolding(rel_model::specs::Roots::height_over, rel_model::specs::Trees::bottom_height, rel_model::specs::Worker::height_of))]
 pub fn depth_of_side(side: u32) -> Option<u8>
     ensures { IfSome result (IsSide side) }
@@ -57,7 +57,7 @@ pub fn depth_of_side(side: u32) -> Option<u8>
     }
 }
 
-/// Whether a relation stands, which is square and as large as its tree.
+/// Whether a relation stands; it must be square and fill its tree.
 fn stands_as_square(words: &[u64], rel: Rel) -> bool
     ensures { IsTrue result → stands_in words.now rel ≡ true }
 {
@@ -70,7 +70,7 @@ fn stands_as_square(words: &[u64], rel: Rel) -> bool
     }
 }
 
-/// Whether all relations stand, which are such squares.
+/// Whether all relations stand, which must be such squares.
 pub fn all_stand(words: &[u64], rels: &[Rel]) -> bool
     ensures { IsTrue result → AllStand words.now rels.now }
 {

@@ -43,7 +43,7 @@ fn opened(rt: &impl Abort, alloc: Global, words: Vec<u64>, rels: &[Rel]) -> (Pai
     }
 }
 
-/// The words of a table that is closed.
+/// The words of a table after closing it.
 fn closed(rt: &impl Abort, table: PairTable, seat: Seat) -> Vec<u64>
     requires of { IsOf seat table }
     requires whole { seat.spare + 1 ≡ table.seats }
@@ -56,7 +56,7 @@ fn closed(rt: &impl Abort, table: PairTable, seat: Seat) -> Vec<u64>
     }
 }
 
-/// What `compact` makes of relations that stand, which is asserted.
+/// The result of `compact` on relations that stand, which is asserted.
 #[tactic(auto, using(crate::proofs::Squares::of_ten))]
 fn compacted(
     rt: &impl Abort,
@@ -90,7 +90,7 @@ fn no_relations_leave_no_word(rt: HostRuntime) {
     }
 }
 
-/// Puts a square relation behind others.
+/// Appends a square relation to others.
 fn push_square(rt: &impl Abort, rels: &mut Vec<Rel>, side: u32, root: u32) {
     let rel = Rel {
         rows: side,
@@ -102,7 +102,7 @@ fn push_square(rt: &impl Abort, rels: &mut Vec<Rel>, side: u32, root: u32) {
     }
 }
 
-/// Interns the blocks from one number to another, each as a relation of 8 by 8.
+/// Interns the blocks with numbers from one to another, each as a relation of 8 by 8.
 #[tactic(auto, using(crate::proofs::Knowing::keeps_itself, crate::proofs::Knowing::keeps_on))]
 fn push_blocks(
     rt: &impl Abort,
@@ -122,8 +122,8 @@ fn push_blocks(
     }
 }
 
-/// A full table: blocks 1 to 1020, each a relation of 8 by 8, the pair of the first two, and as a relation of 16 by 16
-/// the pair of this pair and nothing. The last relation is the pair, read as a block.
+/// A full table: blocks 1 to 1020, each as a relation of 8 by 8; the pair of the first two; and, as a relation of 16 by
+/// 16, the pair of this pair and the empty set. The last relation is the pair, read as a block.
 fn full_words(rt: &impl Abort, alloc: Global) -> (Vec<u64>, Vec<Rel>)
     ensures { IsSoundTable 10 result.0.items }
 {
@@ -148,7 +148,7 @@ fn a_node_that_is_reached_at_two_levels_of_a_full_table_is_one_use_too_many(rt: 
         Ok(_) => panic!(&rt; "not refused"),
         Err(refused) => assert!(&rt; refused == CompactRefused::Full { uses: 1023 }),
     }
-    // without the last relation the pair is reached at one level alone
+    // without the last relation, the pair is reached at one level only
     let _last = rels.pop();
     match compacted(&rt, alloc, &words, &rels) {
         Ok((new, moved)) => assert!(&rt; taken(&new) == 1022 && moved.len() == 1021),
@@ -156,7 +156,7 @@ fn a_node_that_is_reached_at_two_levels_of_a_full_table_is_one_use_too_many(rt: 
     }
 }
 
-/// Relations by chance, and as many trees that none of them reaches.
+/// Random relations, and as many trees that none of them reaches.
 fn some_words(rt: &impl Abort, alloc: Global) -> (Vec<u64>, Vec<Rel>)
     ensures { IsSoundTable 10 result.0.items }
 {
@@ -196,7 +196,7 @@ fn have_the_same_cells(
     assert!(rt; count > 1000);
 }
 
-/// Asserts that the nodes that are stored are those that relations reach, each with a use or more.
+/// Asserts that the stored nodes are exactly those that relations reach, each with at least one use.
 fn only_what_is_reached_is_stored(rt: &impl Abort, alloc: Global, words: &[u64], rels: &[Rel]) {
     let (marks, uses) = reached(rt, alloc, words, rels, 1024);
     'names: for (place, is_marked) in marks.iter().enumerate() {
@@ -206,7 +206,7 @@ fn only_what_is_reached_is_stored(rt: &impl Abort, alloc: Global, words: &[u64],
     assert!(rt; taken(words) <= uses);
 }
 
-/// Asserts that all relations stand in a table over their words, under their old names, and that new nodes are made.
+/// Asserts that all relations stand in a table over their words, under their old names, and that new nodes can be made.
 fn go_on(rt: &impl Abort, alloc: Global, words: Vec<u64>, rels: &[Rel])
     requires sound { IsSoundTable 10 words.items }
     requires stand { AllStand (nodes_of words.items) rels.now }

@@ -1,4 +1,4 @@
-//! Trees in a table, made by chance or once more.
+//! Trees in a table: random ones, and copies.
 ghost use Rattle.std.specs.Prelude.{◌≡◌, ◌≢◌};
 ghost use Rattle.rel_model.specs.Views.{Table, View, IsOf, IsKnown, Keeps};
 
@@ -23,6 +23,7 @@ pub(crate) fn block(rt: &impl Abort, table: &PairTable, seat: &mut Seat, bits: u
     ensures keeps { Keeps seat.old seat.new }
     ensures known { IsKnown seat.new result }
 {
+    // This use makes the checker open the invariant of `seat`, which the early return below needs.
     let _ = table.spare(seat);
     if bits == 0 {
         return 0;
@@ -59,7 +60,7 @@ pub(crate) fn pair(
     }
 }
 
-/// A tree by chance: each of its parts is empty once in eight times, and its blocks are of a hundred.
+/// A random tree: each of its parts is empty once in eight times, and its blocks are taken from a hundred.
 #[tactic(auto, using(crate::proofs::Knowing::keeps_itself, crate::proofs::Knowing::keeps_on, crate::proofs::Knowing::known_stays))]
 pub(crate) fn any_tree(
     rt: &impl Abort,
@@ -86,7 +87,7 @@ pub(crate) fn any_tree(
     pair(rt, table, seat, left, right)
 }
 
-/// Makes a tree of other words once more, and asserts that each of its nodes has its name there.
+/// Makes a tree of other words again, and asserts that each of its nodes has the same name there.
 #[tactic(auto, using(crate::proofs::Knowing::keeps_on, crate::proofs::Knowing::known_stays))]
 pub(crate) fn same_tree(
     rt: &impl Abort,

@@ -1,4 +1,4 @@
-//! Closures of dense squares, which go by rows of bits, beside closures by squares.
+//! Closures of dense squares, which go by rows of bits, compared with closures by squaring.
 #![tactic(auto, using(rel_model::proofs::Workers::keeps_stands, rel_model::proofs::Workers::keeps_trans, rel_model::proofs::Workers::gives_stands))]
 
 ghost use Rattle.std.specs.Prelude.{◌≤◌, ◌<◌};
@@ -11,7 +11,7 @@ use rel_model::Shape;
 use rel_model::quads_trait::Quads;
 use std::process::Abort;
 
-/// Asserts that both ways close a graph of two pseudo-random edges a vertex alike.
+/// Asserts that both ways give the same closure of a graph with two pseudo-random edges for each vertex.
 fn ways_agree<Q: Quads>(rt: &impl Abort, quads: &mut Q, vertices: u32)
     requires some { 0 < vertices }
     requires few { vertices ≤ 4096 }

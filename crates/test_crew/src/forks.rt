@@ -1,4 +1,4 @@
-//! Crews of several workers: what they answer, and what a gate is told of their pieces.
+//! Crews of several workers: their answers, and which pieces a gate sees.
 #![tactic(auto, using(rel_model::proofs::Workers::keeps_stands, rel_model::proofs::Workers::keeps_trans, rel_model::proofs::Workers::gives_stands))]
 
 ghost use Rattle.std.specs.Prelude.{◌≡◌, ◌<◌, ◌≤◌, ◌+◌};
@@ -23,7 +23,7 @@ use std::thread::Threads;
 /// How often a piece looks for the others of its group at most.
 const LOOKS: u32 = 1_000_000;
 
-/// Holds each piece of a group until all of them have begun, and counts what it is told.
+/// Holds each piece of a group until all of them have begun, and counts the pieces.
 #[derive(Drop)]
 struct Meeting {
     group: u32,
@@ -33,7 +33,7 @@ struct Meeting {
 }
 
 impl Meeting {
-    /// A meeting of so many pieces.
+    /// A meeting of groups of this many pieces.
     fn new(group: u32) -> Meeting {
         Meeting {
             group,
@@ -43,7 +43,7 @@ impl Meeting {
         }
     }
 
-    /// Waits until so many pieces have begun, and gives up after so many looks.
+    /// Waits until this many pieces have begun, and gives up after a number of looks.
     fn hold(&self, wanted: u32) {
         for _ in 0..LOOKS {
             if self.begun.load(Ordering::SeqCst) >= wanted {
@@ -82,10 +82,10 @@ impl Gate for Meeting {
     }
 }
 
-/// So many pairs by chance make a relation of 2048 rows and columns so heavy that each operator forks on it.
+/// With this many random pairs, a relation of 2048 rows and columns is so heavy that each operator forks on it.
 const MANY: u32 = 6000;
 
-/// A table of 2^20 node words for so many seats, and its first seat.
+/// A table of 2^20 node words for this many seats, and its first seat.
 pub(crate) fn table_for(rt: &impl Abort, alloc: Global, seats: u32) -> (PairTable, Seat)
     requires some { 1 ≤ seats }
     requires few { seats ≤ 65 }
@@ -97,7 +97,7 @@ pub(crate) fn table_for(rt: &impl Abort, alloc: Global, seats: u32) -> (PairTabl
     }
 }
 
-/// A relation of so many pseudo-random pairs.
+/// A relation of a number of pseudo-random pairs.
 pub(crate) fn scattered<C: Core>(
     rt: &impl Abort,
     core: &mut C,
@@ -147,7 +147,7 @@ fn heavy_pair<C: Core>(rt: &impl Abort, core: &mut C) -> (Rel, Rel)
     (r, s)
 }
 
-/// Asserts how unions, intersections and differences of two relations are tied to one another.
+/// Asserts how unions, intersections and differences of two relations are related.
 fn differences_fit<C: Core>(rt: &impl Abort, core: &mut C, r: Rel, s: Rel)
     requires r_stands { Stands (C.worker core.old) r }
     requires s_stands { Stands (C.worker core.old) s }
@@ -163,7 +163,7 @@ fn differences_fit<C: Core>(rt: &impl Abort, core: &mut C, r: Rel, s: Rel)
     assert!(rt; !core.is_empty(both));
 }
 
-/// Asserts that a relation turned twice is itself.
+/// Asserts that a relation transposed twice is itself.
 fn turns_back<C: Core>(rt: &impl Abort, core: &mut C, r: Rel)
     requires { Stands (C.worker core.old) r }
     ensures { Keeps (C.worker core.old) (C.worker core.new) }
@@ -173,7 +173,7 @@ fn turns_back<C: Core>(rt: &impl Abort, core: &mut C, r: Rel)
     assert!(rt; core.same(back, r), "turned twice");
 }
 
-/// Asserts that a product turned is the product of what is turned, in the other order.
+/// Asserts that a transposed product is the product of the transposed operands, in the other order.
 fn products_turn<C: Core>(rt: &impl Abort, core: &mut C, r: Rel, s: Rel)
     requires r_stands { Stands (C.worker core.old) r }
     requires s_stands { Stands (C.worker core.old) s }
@@ -189,7 +189,7 @@ fn products_turn<C: Core>(rt: &impl Abort, core: &mut C, r: Rel, s: Rel)
     assert!(rt; same, "the product turned");
 }
 
-/// Asserts laws that tie the five operators on two pseudo-random relations to one another.
+/// Asserts laws that relate the five operators, on two pseudo-random relations.
 fn fits_together<C: Core>(rt: &impl Abort, core: &mut C) {
     let (r, s) = heavy_pair(rt, core);
     differences_fit(rt, core, r, s);
@@ -213,7 +213,7 @@ fn unite_and_compose<C: Core>(rt: &impl Abort, core: &mut C) {
     let _ = given(rt, core.compose(r, s));
 }
 
-/// Asserts that a meeting was told of groups of so many pieces, of which none waited too long.
+/// Asserts that a meeting has seen groups of this many pieces, none of which waited too long.
 fn was_told(rt: &impl Abort, meeting: &Meeting, pieces: u32) {
     let gave_up = meeting.gave_up.load(Ordering::SeqCst);
     assert!(rt; !gave_up, "a piece waited too long");
@@ -223,7 +223,7 @@ fn was_told(rt: &impl Abort, meeting: &Meeting, pieces: u32) {
     assert!(rt; pieces == 0 || begun % pieces == 0, "pieces were left out");
 }
 
-/// Asserts what a meeting of so many pieces was told of operators of so many workers, with so many seats.
+/// Asserts what a meeting sees of the operators of a number of workers, on a table with a number of seats.
 fn is_met<R: Threads + Abort + Sync>(rt: &R, alloc: Global, seats: u32, workers: u32, pieces: u32)
     requires some { 1 ≤ seats }
     requires few { seats ≤ 65 }
@@ -257,7 +257,7 @@ fn nothing_is_forked_with_one_worker_or_too_few_seats(rt: HostRuntime) {
     }
 }
 
-/// Adds pairs by chance to a relation until the table is full: the last relation that there was room for.
+/// Adds random pairs to a relation until the table is full, and gives the last relation that fitted.
 fn filled<C: Core>(rt: &impl Abort, core: &mut C, shape: Shape) -> Rel
     requires row { 2048 ≤ shape.rows }
     requires col { 2048 ≤ shape.cols }
@@ -287,7 +287,7 @@ fn filled<C: Core>(rt: &impl Abort, core: &mut C, shape: Shape) -> Rel
     panic!(rt; "never full")
 }
 
-/// Asserts that a keeper whose table fills refuses, keeps what stood, and still tells what meets.
+/// Asserts that a worker whose table is full refuses, keeps what stood, and still answers which relations meet.
 fn refuses_and_keeps<C: Core>(rt: &impl Abort, core: &mut C) {
     let shape = Shape {
         rows: 2048,

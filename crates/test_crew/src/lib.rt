@@ -1,4 +1,4 @@
-//! Tests of a crew beside plain relations, through the traits that both implement, and of its quads.
+//! Tests of a crew against plain relations, through the traits that both implement, and of its quads.
 #![tactic(auto)]
 
 #[cfg(test)]

@@ -1,4 +1,4 @@
-//! Whether two relations meet: disjoint ones, equal ones, and those that share the last corner of their square alone.
+//! Whether two relations meet: disjoint ones, equal ones, and those that share only the last corner of their square.
 #![tactic(auto, using(rel_model::proofs::Workers::keeps_stands, rel_model::proofs::Workers::keeps_trans, rel_model::proofs::Workers::gives_stands))]
 
 ghost use Rattle.std.specs.Prelude.{◌≡◌, ◌≤◌, ◌<◌};
@@ -11,7 +11,8 @@ use rel_model::core_trait::Core;
 use rel_model::{Rel, Shape};
 use std::process::Abort;
 
-/// Asserts that two relations meet exactly where their intersection has a pair, asked before it is made and after.
+/// Asserts that two relations meet if and only if their intersection has a pair, asked both before and after it is
+/// made.
 fn meet_where_they_share<C: Core>(rt: &impl Abort, core: &mut C, r: Rel, s: Rel)
     requires r_stands { Stands (C.worker core.old) r }
     requires s_stands { Stands (C.worker core.old) s }
@@ -46,7 +47,7 @@ fn random_ones_meet<C: Core>(rt: &impl Abort, core: &mut C, size: u32)
     assert!(rt; core.meets(r, full), "the full relation");
 }
 
-/// Asserts that two relations of a square that share its last corner alone meet, and do not without it.
+/// Asserts that two relations of a square that share only its last corner meet, and do not meet without it.
 fn last_corners_meet<C: Core>(rt: &impl Abort, core: &mut C, size: u32)
     requires some { 0 < size }
     requires few { size ≤ 4096 }

@@ -1,4 +1,4 @@
-//! A crew beside plain relations, by the traits that both implement, and its quads.
+//! A crew compared with plain relations through the traits that both implement, and its quads.
 #![tactic(auto, using(rel_model::proofs::Workers::keeps_stands, rel_model::proofs::Workers::keeps_trans, rel_model::proofs::Workers::gives_stands, crate::proofs::Later::given_stands))]
 
 ghost use Rattle.std.specs.Prelude.{◌≡◌, ◌<◌, ◌≤◌, IfOk};
@@ -61,7 +61,7 @@ fn plain_of<P: Core>(rt: &impl Abort, plain: &mut P, shape: Shape, count: u32, s
     r
 }
 
-/// One relation, in a crew and in a plain keeper.
+/// One relation, in a crew and in a plain worker.
 #[derive(Clone, Copy)]
 struct Twin {
     crew: Rel,
@@ -78,7 +78,7 @@ pub(crate) fn given(rt: &impl Abort, answer: Result<Rel, Lack>) -> Rel
     }
 }
 
-/// A relation with one pair more.
+/// A relation with one more pair.
 pub(crate) fn with_pair<C: Core>(rt: &impl Abort, core: &mut C, r: Rel, i: u32, j: u32) -> Rel
     requires standing { Stands (C.worker core.old) r }
     requires row { i < r.rows }
@@ -96,7 +96,7 @@ pub(crate) fn with_pair<C: Core>(rt: &impl Abort, core: &mut C, r: Rel, i: u32, 
     given(rt, core.union(r, one))
 }
 
-/// The relation of a number: its bits, the lowest first, say row by row which pairs are in it.
+/// The relation of a number: its bits, lowest first, say row by row which pairs are in it.
 fn of_number<C: Core>(rt: &impl Abort, core: &mut C, shape: Shape, number: u32) -> Rel
     requires row { shape.rows ≤ size_limit }
     requires col { shape.cols ≤ size_limit }
@@ -118,7 +118,7 @@ fn of_number<C: Core>(rt: &impl Abort, core: &mut C, shape: Shape, number: u32) 
     r
 }
 
-/// Asserts that a relation of one keeper and one of another have the same pairs.
+/// Asserts that a relation of one worker and one of another have the same pairs.
 fn same_pairs<C: Core, P: Core>(rt: &impl Abort, crew: &mut C, plain: &mut P, r: Rel, p: Rel)
     requires standing { Stands (C.worker crew.old) r }
     requires plain_standing { Stands (P.worker plain.old) p }
@@ -135,7 +135,7 @@ fn same_pairs<C: Core, P: Core>(rt: &impl Abort, crew: &mut C, plain: &mut P, r:
     assert!(rt; crew.is_empty(r) == plain.is_empty(p));
 }
 
-/// Asserts that both keepers gave a relation, each of the same pairs.
+/// Asserts that both workers gave a relation, and that these have the same pairs.
 fn same_answers<C: Core, P: Core>(
     rt: &impl Abort,
     crew: &mut C,
@@ -153,7 +153,7 @@ fn same_answers<C: Core, P: Core>(
     same_pairs(rt, crew, plain, r, p);
 }
 
-/// Asserts that both keepers answer each operator on two relations of one type alike.
+/// Asserts that both workers answer each operator on two relations of one type alike.
 fn pair_agrees<C: Core, P: Core>(rt: &impl Abort, crew: &mut C, plain: &mut P, a: Twin, b: Twin)
     requires left { Stands (C.worker crew.old) a.crew }
     requires right { Stands (C.worker crew.old) b.crew }
@@ -180,7 +180,7 @@ fn pair_agrees<C: Core, P: Core>(rt: &impl Abort, crew: &mut C, plain: &mut P, a
     same_answers(rt, crew, plain, rest, plain_rest);
 }
 
-/// Asserts that both keepers answer alike what has one relation, or none.
+/// Asserts that both workers answer alike the calls on one relation, or on none.
 fn one_agrees<C: Core, P: Core>(rt: &impl Abort, crew: &mut C, plain: &mut P, r: Rel, p: Rel)
     requires standing { Stands (C.worker crew.old) r }
     requires plain_standing { Stands (P.worker plain.old) p }
@@ -207,7 +207,7 @@ fn one_agrees<C: Core, P: Core>(rt: &impl Abort, crew: &mut C, plain: &mut P, r:
     same_answers(rt, crew, plain, full, plain_full);
 }
 
-/// Asserts that both keepers answer the composition alike.
+/// Asserts that both workers answer the composition alike.
 fn product_agrees<C: Core, P: Core>(rt: &impl Abort, crew: &mut C, plain: &mut P, a: Twin, b: Twin)
     requires left { Stands (C.worker crew.old) a.crew }
     requires right { Stands (C.worker crew.old) b.crew }
@@ -223,7 +223,7 @@ fn product_agrees<C: Core, P: Core>(rt: &impl Abort, crew: &mut C, plain: &mut P
     same_answers(rt, crew, plain, product, plain_product);
 }
 
-/// Asserts that both keepers have the same residuals and symmetric quotient of two relations of one type.
+/// Asserts that both workers have the same residuals and symmetric quotient of two relations of one type.
 fn residuals_agree<C: Core, P: Core>(rt: &impl Abort, crew: &mut C, plain: &mut P, a: Twin, b: Twin)
     requires left { Stands (C.worker crew.old) a.crew }
     requires right { Stands (C.worker crew.old) b.crew }
@@ -247,7 +247,7 @@ fn residuals_agree<C: Core, P: Core>(rt: &impl Abort, crew: &mut C, plain: &mut 
     same_answers(rt, crew, plain, quotient, plain_quotient);
 }
 
-/// Asserts that both keepers have the same closures of a relation, where it is square.
+/// Asserts that both workers have the same closures of a relation, if it is square.
 fn closures_agree<C: Core, P: Core>(rt: &impl Abort, crew: &mut C, plain: &mut P, r: Rel, p: Rel)
     requires standing { Stands (C.worker crew.old) r }
     requires plain_standing { Stands (P.worker plain.old) p }
@@ -264,7 +264,8 @@ fn closures_agree<C: Core, P: Core>(rt: &impl Abort, crew: &mut C, plain: &mut P
     }
 }
 
-/// Asserts that both keepers answer every operator on two relations of one type alike, and the calls made of several.
+/// Asserts that both workers answer alike every operator on two relations of one type, and the calls that combine
+/// several.
 fn twins_agree<C: Core, P: Core>(rt: &impl Abort, crew: &mut C, plain: &mut P, a: Twin, b: Twin)
     requires left { Stands (C.worker crew.old) a.crew }
     requires right { Stands (C.worker crew.old) b.crew }
@@ -283,7 +284,7 @@ fn twins_agree<C: Core, P: Core>(rt: &impl Abort, crew: &mut C, plain: &mut P, a
     turned_agree(rt, crew, plain, a, b);
 }
 
-/// Asserts that both keepers turn a relation alike, and compose another with it.
+/// Asserts that both workers transpose a relation alike, and compose another with the result.
 fn turned_agree<C: Core, P: Core>(rt: &impl Abort, crew: &mut C, plain: &mut P, a: Twin, b: Twin)
     requires left { Stands (C.worker crew.old) a.crew }
     requires right { Stands (C.worker crew.old) b.crew }
@@ -303,7 +304,7 @@ fn turned_agree<C: Core, P: Core>(rt: &impl Abort, crew: &mut C, plain: &mut P, 
     product_agrees(rt, crew, plain, a, second);
 }
 
-/// Asserts that both keepers answer every operator on the relations of two numbers alike.
+/// Asserts that both workers answer alike every operator on the relations of two numbers.
 fn numbers_agree<C: Core, P: Core>(
     rt: &impl Abort,
     crew: &mut C,
@@ -324,7 +325,7 @@ fn numbers_agree<C: Core, P: Core>(
     one_agrees(rt, crew, plain, r, p);
 }
 
-/// Asserts the same of two pseudo-random relations.
+/// Asserts the same for two pseudo-random relations.
 fn random_agree<C: Core, P: Core>(
     rt: &impl Abort,
     crew: &mut C,
@@ -346,7 +347,7 @@ fn random_agree<C: Core, P: Core>(
     one_agrees(rt, crew, plain, r, p);
 }
 
-/// Asserts that both keepers answer the composition of two pseudo-random relations alike.
+/// Asserts that both workers answer alike the composition of two pseudo-random relations.
 fn random_product_agrees<C: Core, P: Core>(
     rt: &impl Abort,
     crew: &mut C,
@@ -375,7 +376,8 @@ fn random_product_agrees<C: Core, P: Core>(
     product_agrees(rt, crew, plain, first, Twin { crew: s, plain: q });
 }
 
-/// Asserts that the rectangle of the sizes is the root of the full relation, and that the relation of that root is it.
+/// Asserts that the rectangle of the sizes is the root of the full relation, and that the relation with this root is
+/// the full one.
 fn full_is_a_rectangle<Q: Quads>(rt: &impl Abort, quads: &mut Q, shape: Shape)
     requires row { shape.rows ≤ size_limit }
     requires col { shape.cols ≤ size_limit }
@@ -390,7 +392,8 @@ fn full_is_a_rectangle<Q: Quads>(rt: &impl Abort, quads: &mut Q, shape: Shape)
     assert!(rt; quads.rel(shape, rect) == full);
 }
 
-/// Asserts that a quad is the corner of its quarters, and each block down its north-west quarters that of its bits.
+/// Asserts that a quad is the corner of its quarters, and that each block down its north-west quarters is that of its
+/// bits.
 fn goes_by_quarters<Q: Quads>(rt: &impl Abort, quads: &mut Q, q: Quad)
     requires stands { HasQuad (Q.worker quads.old) q }
     ensures keeps { Keeps (Q.worker quads.old) (Q.worker quads.new) }
@@ -415,7 +418,7 @@ fn goes_by_quarters<Q: Quads>(rt: &impl Abort, quads: &mut Q, q: Quad)
     }
 }
 
-/// All shapes up to 2 by 2, and how many relations each has.
+/// All shapes up to 2 by 2, and how many relations each of them has.
 const SMALL: &[(u32, u32, u32)] = &[
     (0, 0, 1),
     (0, 1, 1),
@@ -428,7 +431,7 @@ const SMALL: &[(u32, u32, u32)] = &[
     (2, 2, 16),
 ];
 
-/// Asserts that both keepers answer every operator on all relations up to 2 by 2 alike.
+/// Asserts that both workers answer alike every operator on all relations up to 2 by 2.
 fn small_relations_agree<C: Core, P: Core>(rt: &impl Abort, crew: &mut C, plain: &mut P) {
     'shapes: for &(rows, cols, count) in SMALL {
         assert!(rt; rows <= 2 && cols <= 2);
@@ -449,7 +452,7 @@ fn a_crew_answers_as_plain_relations_on_all_relations_up_to_2_by_2(rt: HostRunti
     small_relations_agree(&rt, &mut crew, &mut plain);
 }
 
-/// Asserts that both keepers answer every operator on pseudo-random relations alike.
+/// Asserts that both workers answer alike every operator on pseudo-random relations.
 fn random_relations_agree<C: Core, P: Core>(rt: &impl Abort, crew: &mut C, plain: &mut P) {
     'shapes: for (rows, cols) in [(40, 40), (1, 40), (40, 1), (17, 33), (3, 40), (9, 8)] {
         random_agree(rt, crew, plain, Shape { rows, cols }, 60);
@@ -467,7 +470,7 @@ fn a_crew_answers_as_plain_relations_on_pseudo_random_ones(rt: HostRuntime) {
     random_relations_agree(&rt, &mut crew, &mut plain);
 }
 
-/// Takes quads of two relations apart, and puts them together.
+/// Takes quads of two relations apart, and puts them together again.
 fn takes_apart<Q: Quads>(rt: &impl Abort, quads: &mut Q)
     ensures { Keeps (Q.worker quads.old) (Q.worker quads.new) }
 {

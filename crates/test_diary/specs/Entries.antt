@@ -12,6 +12,6 @@ abbrev pub entries : ℕ → ℕ → List Entry
 entries session zero = []
 entries session (suc n) = entries session n ++ entry session (suc n) ∷ []
 
--- whether an entry is a session's
+-- whether an entry belongs to a session
 abbrev pub is_of : ℕ → Entry → Bool
 is_of session e = eqb e.session session

@@ -1,4 +1,4 @@
--- What a session does to its pass, and what a run of sessions at once reports.
+-- What a session does to its pass, and what a run of concurrent sessions reports.
 use Rattle.std.specs.Prelude.{◌≡◌, ◌⊎◌, ◌<◌, ◌+◌, ℕ, List, [], ◌++◌, length, slice_index, slice_index_or}
 use Rattle.turn_book.specs.Entries.{Entry}
 use Rattle.turn_book.specs.Logs.{pick}
@@ -18,7 +18,7 @@ pub record IsFresh (book : Book) (work : Work) : Type 0 where
   pub no_joined : work.pass.joined ≡ []
   pub no_spare : work.pass.spare ≡ 0
 
--- and after it
+-- a piece of work after its session ran
 pub record IsRun (book : Book) (work : Work) : Type 0 where
   pub ready : IsReady book work.pass
   pub mine : work.pass.mine ≡ entries work.number work.told
@@ -50,7 +50,8 @@ pub record SplitsAll (old new : View) : Type 0 where
   pub turn : new.turn ≡ old.turn
   pub spare : new.spare ≡ 0
 
--- the log has each session's entries once and in their order, and no others: session k + 1 told how many commands it entered
+-- the log has each session's entries once and in order, and no others; session k + 1 reported how many commands it
+-- entered
 pub record Holds (told : List ℕ) (log : List Entry) : Type 0 where
   pub each : (k : ℕ) → k < length told → pick (is_of (k + 1)) log ≡ entries (k + 1) (slice_index told k)
   pub others : (s : ℕ) → (s ≡ 0) ⊎ (length told < s) → pick (is_of s) log ≡ []

@@ -1,4 +1,4 @@
-//! A list of events that a turn book keeps.
+//! A list of events, kept by a turn book.
 use run_model::event::Event;
 use turn_book::Kept;
 

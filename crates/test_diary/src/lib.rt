@@ -1,5 +1,5 @@
-//! Tests of the turn book: a diary that sessions write at once, each command in a turn of its own, with what is proved
-//! of it.
+//! Tests of the turn book: a diary that sessions write concurrently, each command in a turn of its own, with what is
+//! proved of it.
 #![tactic(auto)]
 
 mod diary;

@@ -1,4 +1,4 @@
-//! Sessions at once.
+//! Concurrent sessions.
 ghost use Rattle.std.specs.Prelude.{◌≡◌, ◌≤◌, ◌<◌, ◌+◌, ℕ, [], length, map, slice_index_or, vec_capacity, vec_len, All, IfOk};
 ghost use Rattle.test_diary.specs.declared.sessions.Work.{Work};
 ghost use Rattle.turn_book.specs.Joined.{JoinsAll};
@@ -14,7 +14,7 @@ use std::thread;
 use std::thread::Threads;
 use turn_book::{NoMemory, Pass, TurnBook};
 
-/// The most sessions.
+/// The greatest number of sessions.
 pub const MOST: usize = 64;
 
 /// How many commands each session entered, and the log.
@@ -46,7 +46,7 @@ fn split_all(book: &TurnBook<Diary>, pass: &mut Pass<Diary>, counts: &[u32], wor
     }
 }
 
-/// Runs all sessions at once.
+/// Runs all sessions concurrently.
 fn run_all<R: Threads + Wait + Sync>(rt: &R, book: &TurnBook<Diary>, works: &mut Vec<Work>)
     requires fresh { All (IsFresh book.now) works.old.items }
     requires numbers { Numbered works.old.items }
@@ -83,7 +83,7 @@ fn join_all(book: &TurnBook<Diary>, pass: &mut Pass<Diary>, works: Vec<Work>, to
     }
 }
 
-/// Runs sessions at once, each over its own pass. The log has each session's entries once and in their order, and no
+/// Runs sessions concurrently, each on its own pass. The log has each session's entries once and in order, and no
 /// others.
 pub fn race<R: Threads + Wait + Sync>(
     rt: &R,

@@ -1,4 +1,4 @@
-//! One session, over its own pass.
+//! One session, on its own pass.
 ghost use Rattle.std.specs.Prelude.{◌≡◌, ◌≤◌, ◌<◌, ◌+◌, ◌++◌, ◌∷◌, [], false, if◌then◌else◌};
 ghost use Rattle.test_diary.specs.Entries.{entry, entries};
 ghost use Rattle.turn_book.specs.Views.{IsReady, IsKept};
@@ -9,7 +9,7 @@ use run_model::event::{Act, Event};
 use std::sync::Wait;
 use turn_book::{Pass, TurnBook};
 
-/// The work of one session, with all that it needs.
+/// The work of one session, with everything that it needs.
 #[derive(Drop)]
 pub struct Work {
     pub number: u32,
@@ -43,7 +43,7 @@ fn enter<R: Wait>(
     done
 }
 
-/// Enters up to so many commands, each in a turn of its own, and says how many it entered.
+/// Enters up to a number of commands, each in a turn of its own, and says how many it entered.
 pub fn session<R: Wait>(
     rt: &R,
     book: &TurnBook<Diary>,

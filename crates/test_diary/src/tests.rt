@@ -1,4 +1,4 @@
-//! Sessions at once, each test within a time of its own, and passes that are joined in another order than they were
+//! Concurrent sessions, with a time limit for each test, and passes that are joined in another order than they were
 //! split.
 ghost use Rattle.std.specs.Prelude.{◌≡◌, ◌≤◌, length};
 ghost use Rattle.turn_book.specs.Views.{IsReady};
@@ -15,7 +15,7 @@ use std::thread::{Threads, join};
 use std::time::Duration;
 use turn_book::{Pass, TurnBook};
 
-/// Ends the test where it is not done within so many hundredths of a second.
+/// Aborts the test if it is not done within a number of hundredths of a second.
 fn watch<R: Clock + Abort>(rt: &R, done: &AtomicU64, hundredths: u32) {
     for _ in 0..hundredths {
         if done.load(Ordering::SeqCst) != 0 {
@@ -26,7 +26,7 @@ fn watch<R: Clock + Abort>(rt: &R, done: &AtomicU64, hundredths: u32) {
     panic!(rt; "the time limit of the test has passed")
 }
 
-/// A race in a limited time.
+/// A race with a time limit.
 fn race_in_time<R: Threads + Wait + Clock + Abort + Sync>(
     rt: &R,
     alloc: Global,
@@ -50,7 +50,7 @@ fn race_in_time<R: Threads + Wait + Clock + Abort + Sync>(
     report
 }
 
-/// Whether each session's commands stand in the log from 1 on, in order, as many as are wanted, and no others.
+/// Whether each session's commands are in the log from 1 on, in order, as many as are wanted, and no others.
 fn is_whole(log: &[Event], counts: &[u32]) -> bool {
     let mut last = [0u32; 65];
     for event in log {

@@ -1,4 +1,4 @@
-//! Products, sums and power sets over relations in a node table, beside what their rules count out.
+//! Products, sums and power sets over relations in a node table, compared with lists computed from their rules.
 #![tactic(auto, using(crate::proofs::Later::rel_later, crate::proofs::Later::given_stands, crate::proofs::Later::wanted_stands))]
 
 ghost use Rattle.std.specs.Prelude.{◌≤◌, IfOk};
@@ -12,7 +12,7 @@ use rel_model::quads_trait::Quads;
 use std::alloc::Global;
 use std::process::Abort;
 
-/// Asserts what the calls on two sizes give of them.
+/// Asserts the results of the calls on two sizes.
 fn are_counted_out<Q: Quads>(rt: &impl Abort, alloc: Global, q: &mut Q, x: u32, y: u32)
     requires x { x ≤ 40 }
     requires y { y ≤ 40 }
@@ -29,7 +29,7 @@ fn are_counted_out<Q: Quads>(rt: &impl Abort, alloc: Global, q: &mut Q, x: u32, 
     is_given(rt, q, given, y, x + y, &injection(rt, alloc, y, x));
 }
 
-/// Asserts what the calls on all sizes up to 4 give.
+/// Asserts the results of the calls on all sizes up to 4.
 pub(crate) fn small_sizes<Q: Quads>(rt: &impl Abort, alloc: Global, q: &mut Q) {
     'firsts: for x in 0..5 {
         'seconds: for y in 0..5 {
@@ -43,7 +43,7 @@ fn projections_and_injections_of_all_sizes_up_to_4_are_those_counted_out(rt: Hos
     on_a_crew(&rt, rt.alloc(), Trial::SmallSizes);
 }
 
-/// Sizes of which one is more than 4.
+/// Sizes, at least one of them more than 4.
 const LARGER: &[(u32, u32)] = &[
     (0, 40),
     (40, 0),
@@ -60,7 +60,7 @@ const LARGER: &[(u32, u32)] = &[
     (3, 13),
 ];
 
-/// Asserts what the calls on listed sizes up to 40 give, and on some that a generator picks.
+/// Asserts the results of the calls on listed sizes up to 40, and on some that a generator picks.
 pub(crate) fn larger_sizes<Q: Quads>(rt: &impl Abort, alloc: Global, q: &mut Q) {
     'sizes: for &(x, y) in LARGER {
         assert!(rt; x <= 40 && y <= 40);
@@ -93,7 +93,7 @@ const SUBSETS: &[(u32, u32)] = &[
     (12, 4096),
 ];
 
-/// Asserts that subsets of up to 12 elements have the elements of their bits.
+/// Asserts that the subsets of up to 12 elements have the elements given by their bits.
 pub(crate) fn subsets<Q: Quads>(rt: &impl Abort, alloc: Global, q: &mut Q) {
     'sizes: for &(x, subsets) in SUBSETS {
         assert!(rt; x <= 40);

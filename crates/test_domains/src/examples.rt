@@ -1,4 +1,4 @@
-//! Worked examples, and sizes at and over the limit.
+//! Worked examples, and sizes at the limit and over it.
 #![tactic(auto, using(crate::proofs::Later::rel_later, crate::proofs::Later::given_stands, crate::proofs::Later::wanted_stands))]
 
 ghost use Rattle.std.specs.Prelude.{IfOk};
@@ -13,7 +13,7 @@ use rel_model::quads_trait::Quads;
 use rel_model::{Rel, SIZE_LIMIT, Shape};
 use std::process::Abort;
 
-/// The pairs of three elements and the subsets that have them.
+/// The pairs of three elements and the subsets that contain them.
 const MEMBERS: &[(u32, u32)] = &[
     (0, 1),
     (0, 3),
@@ -78,7 +78,7 @@ fn two_and_one_elements_are_injected_into_their_sum_of_three(rt: HostRuntime) {
     on_a_crew(&rt, rt.alloc(), Trial::SumOfThree);
 }
 
-/// Asserts that a size is over the limit.
+/// Asserts that a size was refused as over the limit.
 fn is_refused(rt: &impl Abort, given: Result<Rel, DomainError>, size: u64) {
     match given {
         Err(DomainError::Size { wanted, limit }) => {
@@ -103,7 +103,7 @@ fn a_product_of_the_greatest_sizes_is_refused_with_its_size(rt: HostRuntime) {
     on_a_crew(&rt, rt.alloc(), Trial::GreatestProducts);
 }
 
-/// Asserts that subsets which no number counts are refused.
+/// Asserts that power sets whose size no number holds are refused.
 pub(crate) fn subsets_without_number<Q: Quads>(rt: &impl Abort, q: &mut Q) {
     is_refused(rt, epsi(q, 64), 18_446_744_073_709_551_615);
     is_refused(rt, epsi(q, 1_048_576), 18_446_744_073_709_551_615);
@@ -115,7 +115,7 @@ fn subsets_without_number_are_refused_with_the_last_number(rt: HostRuntime) {
     on_a_crew(&rt, rt.alloc(), Trial::SubsetsWithoutNumber);
 }
 
-/// Asserts that a relation of these sizes was given, which has its last pair.
+/// Asserts that a relation with these sizes was answered, and has its last pair.
 fn has_its_last<Q: Quads>(
     rt: &impl Abort,
     q: &mut Q,
@@ -132,7 +132,7 @@ fn has_its_last<Q: Quads>(
     assert!(rt; q.has(r, r.rows - 1, r.cols - 1));
 }
 
-/// Asserts that products and sums of one element more than the limit are refused.
+/// Asserts that products and sums one element over the limit are refused.
 fn are_refused<Q: Quads>(rt: &impl Abort, q: &mut Q) {
     is_refused(rt, first(q, 4097, 4096), 16_781_312);
     is_refused(rt, second(q, 257, 65_281), 16_777_217);
@@ -140,7 +140,7 @@ fn are_refused<Q: Quads>(rt: &impl Abort, q: &mut Q) {
     is_refused(rt, inr(q, 1, SIZE_LIMIT), 16_777_217);
 }
 
-/// Asserts that subsets and pairings over the limit are refused.
+/// Asserts that power sets and pairings over the limit are refused.
 fn are_too_many<Q: Quads>(rt: &impl Abort, q: &mut Q) {
     is_refused(rt, epsi(q, 25), 33_554_432);
     is_refused(rt, epsi(q, 63), 9_223_372_036_854_775_808);
@@ -154,7 +154,7 @@ fn are_too_many<Q: Quads>(rt: &impl Abort, q: &mut Q) {
     is_refused(rt, fork(q, row, row), 16_785_409);
 }
 
-/// Asserts that sizes one over the limit are refused, and subsets and pairings of more.
+/// Asserts that sizes one over the limit are refused, as are larger power sets and pairings.
 pub(crate) fn one_over_the_limit<Q: Quads>(rt: &impl Abort, q: &mut Q) {
     are_refused(rt, q);
     are_too_many(rt, q);
@@ -165,7 +165,7 @@ fn a_size_one_over_the_limit_is_refused(rt: HostRuntime) {
     on_a_crew(&rt, rt.alloc(), Trial::OneOverTheLimit);
 }
 
-/// Asserts that sums at the limit are given.
+/// Asserts that sums at the limit are not refused.
 pub(crate) fn at_the_limit<Q: Quads>(rt: &impl Abort, q: &mut Q) {
     let half = 8_388_608;
     let given = inl(q, SIZE_LIMIT, 0);

@@ -1,4 +1,4 @@
-//! Products and vectors of the greatest sizes, whose trees repeat.
+//! Products and vectors of the greatest sizes, whose trees repeat themselves.
 #![tactic(auto, using(crate::proofs::Later::rel_later, crate::proofs::Later::given_stands, crate::proofs::Later::wanted_stands))]
 
 ghost use Rattle.std.specs.Prelude.{◌<◌, ◌≤◌};
@@ -13,7 +13,7 @@ use rel_model::quads_trait::Quads;
 use rel_model::{Rel, SIZE_LIMIT, Shape};
 use std::process::Abort;
 
-/// Asserts that a row of a relation has one column, and neither the one before nor the one behind.
+/// Asserts that a row of a relation has one column, and neither the one before nor the one after.
 fn has_alone<Q: Quads>(rt: &impl Abort, q: &mut Q, r: Rel, row: u32, col: u32)
     requires { Stands (Q.worker q.old) r }
     ensures { Keeps (Q.worker q.old) (Q.worker q.new) }
@@ -25,7 +25,7 @@ fn has_alone<Q: Quads>(rt: &impl Abort, q: &mut Q, r: Rel, row: u32, col: u32)
     assert!(rt; !behind && !before, "{row} {col} is not alone");
 }
 
-/// Asserts that two projections have the parts of numbers that a generator picks, where the second factor has so many.
+/// Asserts that two projections have the parts of numbers that a generator picks, given the size of the second factor.
 fn have_the_parts<Q: Quads>(
     rt: &impl Abort,
     q: &mut Q,
@@ -107,7 +107,7 @@ fn the_projections_of_products_of_other_sizes_are_those_of_the_parts(rt: HostRun
     on_a_crew(&rt, rt.alloc(), Trial::ProductsOfOthers);
 }
 
-/// Asserts that the elements of a full vector are their own numbers, in rows that a generator picks.
+/// Asserts that the elements of a full vector have their own numbers, in rows that a generator picks.
 fn are_numbered_as_they_are<Q: Quads>(rt: &impl Abort, q: &mut Q, rows: u32)
     requires { rows ≤ size_limit }
     ensures { Keeps (Q.worker q.old) (Q.worker q.new) }
@@ -128,7 +128,7 @@ fn are_numbered_as_they_are<Q: Quads>(rt: &impl Abort, q: &mut Q, rows: u32)
     }
 }
 
-/// Asserts that all elements of full vectors are their own numbers.
+/// Asserts that all elements of full vectors have their own numbers.
 pub(crate) fn full_vectors<Q: Quads>(rt: &impl Abort, q: &mut Q) {
     are_numbered_as_they_are(rt, q, SIZE_LIMIT);
     are_numbered_as_they_are(rt, q, 10_000_000);

@@ -1,4 +1,4 @@
-//! Tests of products, sums, power sets, pairings, vectors and listed pairs over a node table, beside slow lists.
+//! Tests of products, sums, power sets, pairings, vectors and lists of pairs over a node table, against slow lists.
 #![tactic(auto)]
 
 #[cfg(test)]

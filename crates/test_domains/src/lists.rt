@@ -1,4 +1,4 @@
-//! Listed pairs, pairings and the elements of vectors over relations in a node table, beside slow lists.
+//! Lists of pairs, pairings and the elements of vectors over relations in a node table, compared with slow lists.
 #![tactic(auto, using(crate::proofs::Later::rel_later, crate::proofs::Later::given_stands, crate::proofs::Later::wanted_stands, crate::proofs::Listing::within_more))]
 
 ghost use Rattle.std.specs.Prelude.{◌≤◌};
@@ -15,7 +15,7 @@ use rel_model::quads_trait::Quads;
 use std::alloc::Global;
 use std::process::Abort;
 
-/// Listed pairs, each of which is asserted to lie within the sizes.
+/// Listed pairs, each of which is asserted to be within the sizes.
 fn within(
     rt: &impl Abort,
     alloc: Global,
@@ -35,7 +35,7 @@ fn within(
     list
 }
 
-/// Asserts that listed pairs make the relation that has these in order.
+/// Asserts that listed pairs make the relation whose pairs are these in order.
 fn are_collected<Q: Quads>(
     rt: &impl Abort,
     alloc: Global,
@@ -53,7 +53,7 @@ fn are_collected<Q: Quads>(
     is_made(rt, q, given, shape.rows, shape.cols, pairs);
 }
 
-/// Pairs in the other order, and then in theirs: each twice.
+/// Pairs in reverse order, and then in their own: each twice.
 fn twice(rt: &impl Abort, alloc: Global, pairs: &[(u32, u32)]) -> Vec<(u32, u32)> {
     let mut out = Vec::new(alloc);
     'back: for (i, j) in pairs.iter().rev() {
@@ -65,7 +65,7 @@ fn twice(rt: &impl Abort, alloc: Global, pairs: &[(u32, u32)]) -> Vec<(u32, u32)
     out
 }
 
-/// Asserts that all relations of sizes up to 3 are made of their lists.
+/// Asserts that all relations of sizes up to 3 are made from their lists.
 pub(crate) fn small_lists<Q: Quads>(rt: &impl Abort, alloc: Global, q: &mut Q) {
     'rows: for rows in 0..4 {
         'cols: for cols in 0..4 {
@@ -88,7 +88,7 @@ fn all_relations_of_sizes_up_to_3_are_made_of_their_lists(rt: HostRuntime) {
     on_a_crew(&rt, rt.alloc(), Trial::SmallLists);
 }
 
-/// Asserts that relations of sizes up to 40 are made of lists in the order of a generator.
+/// Asserts that relations of sizes up to 40 are made from lists in the order of a generator.
 pub(crate) fn larger_lists<Q: Quads>(rt: &impl Abort, alloc: Global, q: &mut Q) {
     let mut state = 3;
     'rounds: for round in 0..40 {
@@ -109,7 +109,8 @@ fn relations_of_sizes_up_to_40_are_made_of_lists_in_any_order(rt: HostRuntime) {
     on_a_crew(&rt, rt.alloc(), Trial::LargerLists);
 }
 
-/// Asserts that two relations of so many rows, listed by row and then by column, have the pairing of their lists.
+/// Asserts that the pairing of two relations with this many rows, listed by row and then by column, is that of their
+/// lists.
 fn are_paired<Q: Quads>(
     rt: &impl Abort,
     alloc: Global,
@@ -145,7 +146,7 @@ fn are_paired<Q: Quads>(
     );
 }
 
-/// Asserts that all relations of so many rows and columns are paired as by their lists.
+/// Asserts that the pairings of all relations with this many rows and columns are those of their lists.
 fn are_all_paired<Q: Quads>(rt: &impl Abort, alloc: Global, q: &mut Q, rows: u32, n: u32, k: u32)
     requires rows { rows ≤ 2 }
     requires left { n ≤ 2 }
@@ -163,7 +164,7 @@ fn are_all_paired<Q: Quads>(rt: &impl Abort, alloc: Global, q: &mut Q, rows: u32
     }
 }
 
-/// Asserts that all relations of sizes up to 2 are paired as by lists.
+/// Asserts that the pairings of all relations of sizes up to 2 are those of lists.
 pub(crate) fn small_pairings<Q: Quads>(rt: &impl Abort, alloc: Global, q: &mut Q) {
     'rows: for rows in 0..3 {
         'lefts: for n in 0..3 {
@@ -179,7 +180,7 @@ fn all_relations_of_sizes_up_to_2_are_paired_as_by_lists(rt: HostRuntime) {
     on_a_crew(&rt, rt.alloc(), Trial::SmallPairings);
 }
 
-/// The rows of two relations, and the columns of each.
+/// The number of rows of two relations, and the number of columns of each.
 const PAIRED: &[(u32, u32, u32)] = &[
     (0, 2, 3),
     (3, 0, 2),
@@ -197,7 +198,7 @@ const PAIRED: &[(u32, u32, u32)] = &[
     (40, 8, 8),
 ];
 
-/// Asserts that relations of sizes up to 40 are paired as by lists.
+/// Asserts that the pairings of relations of sizes up to 40 are those of lists.
 pub(crate) fn larger_pairings<Q: Quads>(rt: &impl Abort, alloc: Global, q: &mut Q) {
     'sizes: for &(rows, n, k) in PAIRED {
         assert!(rt; rows <= 40 && n <= 40 && k <= 40);

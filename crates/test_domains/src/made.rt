@@ -1,4 +1,4 @@
-//! Relations of pairs, and the comparison of a relation with pairs.
+//! Relations made from pairs, and comparing a relation with pairs.
 #![tactic(auto, using(crate::proofs::Later::rel_later, crate::proofs::Later::given_stands, crate::proofs::Later::wanted_stands))]
 
 ghost use Rattle.std.specs.Prelude.{◌≡◌, ◌<◌, ◌≤◌, IfOk};
@@ -11,7 +11,7 @@ use rel_model::quads_trait::Quads;
 use rel_model::{Lack, Rel, Shape};
 use std::process::Abort;
 
-/// The relation of some pairs, put in one after another.
+/// The relation of some pairs, added one after another.
 pub(crate) fn of_pairs<Q: Quads>(
     rt: &impl Abort,
     q: &mut Q,
@@ -41,7 +41,7 @@ pub(crate) fn of_pairs<Q: Quads>(
     r
 }
 
-/// Asserts that a relation has a pair exactly where it is wanted.
+/// Asserts that a relation has a pair if and only if it is wanted.
 fn has_as_wanted<Q: Quads>(rt: &impl Abort, q: &mut Q, r: Rel, i: u32, j: u32, wanted: bool)
     requires standing { Stands (Q.worker q.old) r }
     requires row { i < r.rows }
@@ -79,7 +79,7 @@ pub(crate) fn has_exactly<Q: Quads>(
     assert!(rt; met == pairs.len(), "{rows} x {cols}");
 }
 
-/// Asserts that a relation was given, of these sizes and with exactly these pairs.
+/// Asserts that a relation with these sizes and exactly these pairs was answered.
 pub(crate) fn is_given<Q: Quads>(
     rt: &impl Abort,
     q: &mut Q,
@@ -95,7 +95,7 @@ pub(crate) fn is_given<Q: Quads>(
     has_exactly(rt, q, r, rows, cols, pairs);
 }
 
-/// The same of a call that is never refused for a size.
+/// The same for a call that is never refused for a size.
 pub(crate) fn is_made<Q: Quads>(
     rt: &impl Abort,
     q: &mut Q,

@@ -1,17 +1,17 @@
-//! Slow answers as lists of pairs by row and then by column, each counted out from its rule.
+//! Slow answers as lists of pairs, by row and then by column, computed from their rules.
 ghost use Rattle.std.specs.Prelude.{◌≤◌};
 
 use std::alloc::Global;
 use std::process::Abort;
 
-/// A pair put behind others.
+/// Appends a pair to others.
 pub(crate) fn put(rt: &impl Abort, pairs: &mut Vec<(u32, u32)>, pair: (u32, u32)) {
     if pairs.push(pair).is_err() {
         panic!(rt; "no memory");
     }
 }
 
-/// The pairs of a number and its parts in a product, to the first factor and to the second.
+/// The pairs of a number in a product and its part, for the first and for the second factor.
 pub(crate) fn projections(
     rt: &impl Abort,
     alloc: Global,
@@ -31,7 +31,7 @@ pub(crate) fn projections(
     (first, second)
 }
 
-/// The pairs of so many elements and theirs in a sum, from an element on.
+/// The pairs of elements and their numbers in a sum, where they begin at a given number.
 pub(crate) fn injection(rt: &impl Abort, alloc: Global, size: u32, from: u32) -> Vec<(u32, u32)> {
     let mut pairs = Vec::new(alloc);
     'elements: for i in 0..size {
@@ -40,7 +40,7 @@ pub(crate) fn injection(rt: &impl Abort, alloc: Global, size: u32, from: u32) ->
     pairs
 }
 
-/// A subset halved as often as elements come before one.
+/// A subset's number divided by 2 the given number of times.
 fn halved(subset: u32, times: u32) -> u32 {
     let mut rest = subset;
     'times: for _ in 0..times {
@@ -49,7 +49,8 @@ fn halved(subset: u32, times: u32) -> u32 {
     rest
 }
 
-/// The pairs of an element and a subset that has it: halved as often as elements come before, the subset is odd.
+/// The pairs of an element and a subset that contains it: after dividing by 2 once for each earlier element, the
+/// subset's number is odd.
 pub(crate) fn membership(rt: &impl Abort, alloc: Global, x: u32, subsets: u32) -> Vec<(u32, u32)> {
     let mut pairs = Vec::new(alloc);
     'elements: for i in 0..x {
@@ -62,7 +63,7 @@ pub(crate) fn membership(rt: &impl Abort, alloc: Global, x: u32, subsets: u32) -
     pairs
 }
 
-/// The pairs of a pairing, where the second has so many columns.
+/// The pairs of a pairing, given the number of columns of the second relation.
 pub(crate) fn pairing(
     rt: &impl Abort,
     alloc: Global,
@@ -111,7 +112,7 @@ pub(crate) fn in_order(
     pairs
 }
 
-/// The cells of a grid whose bits are set, from the lowest on, by row and then by column.
+/// The cells of a grid whose bits are set, lowest first, by row and then by column.
 pub(crate) fn cells_of(
     rt: &impl Abort,
     alloc: Global,
@@ -139,14 +140,14 @@ pub(crate) fn stepped(state: u64) -> u64 {
         .wrapping_add(1442695040888963407)
 }
 
-/// A size up to 40, by a generator's state.
+/// A size up to 40, from a generator's state.
 pub(crate) fn size_of(state: u64) -> u32
     ensures { result ≤ 40 }
 {
     ((state >> 33) % 41) as u32
 }
 
-/// The pairs of a grid that a generator picks, one in so many, by row and then by column.
+/// The pairs of a grid that a generator picks, one in a given number, by row and then by column.
 pub(crate) fn some_of(
     rt: &impl Abort,
     alloc: Global,
@@ -169,7 +170,7 @@ pub(crate) fn some_of(
     pairs
 }
 
-/// So many pairs of a grid that a generator picks, in its order, some of them more than once.
+/// A number of pairs of a grid that a generator picks, in its order, some of them more than once.
 pub(crate) fn picked(
     rt: &impl Abort,
     alloc: Global,

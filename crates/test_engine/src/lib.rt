@@ -1,4 +1,5 @@
-//! Tests of the engine: all operations of the language beside what their membership clauses say of lists of pairs.
+//! Tests of the engine: all operations of the language compared with what their membership clauses say of lists of
+//! pairs.
 #![tactic(auto)]
 
 #[cfg(test)]

@@ -1,4 +1,4 @@
-//! The operations that give a relation, and their answers by an engine.
+//! The operations that give a relation, and an engine's answers to them.
 ghost use Rattle.std.specs.Prelude.{◌≡◌, ◌≤◌, IfSome, IfOk};
 ghost use Rattle.rel_model.specs.Worker.{Stands, Keeps};
 
@@ -8,7 +8,7 @@ use rel_model::faults::DomainError;
 use rel_model::{Lack, Rel, Shape};
 use std::process::Abort;
 
-/// An operation on two relations, or on one or on sizes alone.
+/// An operation on two relations, on one, or on sizes only.
 #[derive(Clone, Copy, Debug, PartialEq, Eq)]
 pub(crate) enum Operation {
     Empty,
@@ -101,7 +101,7 @@ fn shape_of(r: Rel) -> Shape
     }
 }
 
-/// The result of an operation, where the operands fit.
+/// The result of an operation, if the operands fit.
 pub(crate) fn answer<E: Engine>(
     rt: &impl Abort,
     engine: &mut E,
@@ -153,7 +153,7 @@ fn single<E: Engine>(rt: &impl Abort, engine: &mut E, shape: Shape) -> Option<Re
     Some(given(rt, engine.single(shape, shape.rows - 1, shape.cols - 1)))
 }
 
-/// The cell-wise operators, of relations of one type.
+/// The cell-wise operators, on relations of one type.
 fn of_one_type<E: Engine>(
     rt: &impl Abort,
     engine: &mut E,
@@ -177,7 +177,7 @@ fn of_one_type<E: Engine>(
     Some(given(rt, answer))
 }
 
-/// Composition, residuals and the symmetric quotient, of relations with one size in common.
+/// Composition, residuals and the symmetric quotient, on relations with one size in common.
 fn of_two_types<E: Engine>(
     rt: &impl Abort,
     engine: &mut E,
@@ -199,7 +199,7 @@ fn of_two_types<E: Engine>(
     }
 }
 
-/// Closures of a square relation, and the identity of its rows.
+/// Closures of a square relation, and the identity on its rows.
 fn closed<E: Engine>(rt: &impl Abort, engine: &mut E, operation: Operation, r: Rel) -> Option<Rel>
     requires standing { Stands (E.worker engine.old) r }
     requires row { r.rows ≤ 40 }
@@ -214,7 +214,7 @@ fn closed<E: Engine>(rt: &impl Abort, engine: &mut E, operation: Operation, r: R
     }
 }
 
-/// Projections and injections, by two sizes.
+/// Projections and injections, from two sizes.
 fn of_sizes<E: Engine>(rt: &impl Abort, engine: &mut E, operation: Operation, x: u32, y: u32) -> Rel
     requires row { x ≤ 40 }
     requires col { y ≤ 40 }

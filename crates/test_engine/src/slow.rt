@@ -1,10 +1,10 @@
-//! Relations as lists of pairs, and each operation by its membership clause on them.
+//! Relations as lists of pairs, and each operation on them by its membership clause.
 use crate::operations::Operation;
 use rel_model::Shape;
 use std::alloc::Global;
 use std::process::Abort;
 
-/// A relation by its sizes and its pairs, by row and then by column.
+/// A relation as its sizes and its pairs, by row and then by column.
 #[derive(Debug, Drop)]
 pub(crate) struct Listed {
     pub(crate) shape: Shape,
@@ -12,12 +12,12 @@ pub(crate) struct Listed {
 }
 
 impl Listed {
-    /// Whether a pair is in.
+    /// Whether it has a pair.
     pub(crate) fn has(&self, i: u32, j: u32) -> bool {
         self.pairs.contains(&(i, j))
     }
 
-    /// Whether an element is in a vector.
+    /// Whether the vector has an element.
     fn holds(&self, i: u32) -> bool {
         self.has(i, 0)
     }
@@ -64,14 +64,14 @@ pub(crate) fn none_of(alloc: Global, shape: Shape) -> Listed {
     }
 }
 
-/// Puts a pair behind the others.
+/// Appends a pair to the others.
 pub(crate) fn put(rt: &impl Abort, list: &mut Listed, i: u32, j: u32) {
     if list.pairs.push((i, j)).is_err() {
         panic!(rt; "no memory");
     }
 }
 
-/// The sizes of an operation's result, or none where the operands do not fit.
+/// The sizes of an operation's result; none if the operands do not fit.
 pub(crate) fn shape_of(operation: Operation, r: &Listed, s: &Listed) -> Option<(u32, u32)> {
     let (m, n) = (r.shape.rows, r.shape.cols);
     let (p, q) = (s.shape.rows, s.shape.cols);
@@ -143,8 +143,8 @@ fn is_chosen(operation: Operation, r: &Listed, s: &Listed, i: u32, j: u32) -> bo
     }
 }
 
-/// Whether a walk of at least one step leads from one element to another: as many rounds as there are elements, each
-/// over all pairs.
+/// Whether a walk of at least one step leads from one element to another, found in as many rounds as there are
+/// elements, each over all pairs.
 fn is_reached(r: &Listed, i: u32, j: u32) -> bool {
     let mut reached: u64 = 0;
     'rounds: for _ in 0..r.shape.rows {

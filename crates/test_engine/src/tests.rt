@@ -1,4 +1,4 @@
-//! All operations of an engine over a node table, beside their membership clauses on lists of pairs.
+//! All operations of an engine over a node table, compared with their membership clauses on lists of pairs.
 #![tactic(auto, using(rel_model::proofs::Workers::keeps_stands, rel_model::proofs::Workers::keeps_trans, rel_model::proofs::Workers::gives_stands))]
 
 ghost use Rattle.std.specs.Prelude.{◌≡◌, ◌<◌, ◌≤◌, IsTrue};
@@ -55,7 +55,7 @@ fn told<E: Engine>(rt: &impl Abort, alloc: Global, engine: &mut E, list: &Listed
     }
 }
 
-/// Asserts that a relation has these sizes and exactly the pairs of a list, by every call that tells of them.
+/// Asserts that a relation has these sizes and exactly the pairs of a list, by every call that answers about them.
 fn has_exactly<E: Engine>(rt: &impl Abort, alloc: Global, engine: &mut E, r: Rel, list: &Listed)
     requires standing { Stands (E.worker engine.old) r }
     ensures keeps { Keeps (E.worker engine.old) (E.worker engine.new) }
@@ -87,7 +87,7 @@ fn walks_over<E: Engine>(rt: &impl Abort, engine: &mut E, r: Rel, pairs: &[(u32,
     assert_eq!(rt; engine.next_pair(r, after), None);
 }
 
-/// The result of an operation by its membership clause, where the operands fit.
+/// The result of an operation by its membership clause, if the operands fit.
 fn counted_out(
     rt: &impl Abort,
     alloc: Global,
@@ -108,7 +108,7 @@ fn counted_out(
 }
 
 /// Asserts that an operation on two relations gives what its membership clause says of their lists, or fits neither.
-/// Whether it fits.
+/// Answers whether it fits.
 fn agrees<E: Engine>(
     rt: &impl Abort,
     alloc: Global,
@@ -132,7 +132,7 @@ fn agrees<E: Engine>(
     }
 }
 
-/// Asserts that all operations on two relations give what their membership clauses say. How many fit.
+/// Asserts that all operations on two relations give what their membership clauses say. Answers how many fit.
 fn all_agree<E: Engine>(
     rt: &impl Abort,
     alloc: Global,
@@ -152,7 +152,7 @@ fn all_agree<E: Engine>(
     fitting
 }
 
-/// Asserts that two relations of one type are the same exactly if their lists are.
+/// Asserts that two relations of one type are the same if and only if their lists are.
 fn one_set_is_the_same<E: Engine>(
     rt: &impl Abort,
     alloc: Global,
@@ -170,7 +170,7 @@ fn one_set_is_the_same<E: Engine>(
     }
 }
 
-/// The relation of a number: its bits, the lowest first, say row by row which pairs are in it.
+/// The relation of a number: its bits, lowest first, say row by row which pairs are in it.
 fn of_number(rt: &impl Abort, alloc: Global, shape: Shape, number: u32) -> Listed {
     let mut list = none_of(alloc, shape);
     let mut left = number;
@@ -185,7 +185,7 @@ fn of_number(rt: &impl Abort, alloc: Global, shape: Shape, number: u32) -> Liste
     list
 }
 
-/// A pseudo-random relation that has about one pair in so many.
+/// A pseudo-random relation that has about one pair in a given number.
 fn some_of(rt: &impl Abort, alloc: Global, shape: Shape, one_in: u64, seed: u64) -> Listed
     requires { 0 < one_in }
 {
@@ -204,7 +204,7 @@ fn some_of(rt: &impl Abort, alloc: Global, shape: Shape, one_in: u64, seed: u64)
     list
 }
 
-/// The shapes with sizes up to 2, and how many relations each has.
+/// The shapes with sizes up to 2, and how many relations each of them has.
 const SMALL: [(u32, u32, u32); 9] = [
     (0, 0, 1),
     (0, 1, 1),

@@ -6,7 +6,7 @@ use rv_parse::parse;
 use std::alloc::Global;
 use std::test::Fail;
 
-/// What the grammar needs, in words.
+/// What the grammar expects, in words.
 fn wanted(alloc: Global, what: &What) -> Result<String, Fail> {
     let word = match what {
         What::Item => "an item",
@@ -25,7 +25,7 @@ fn placed(alloc: Global, at: Place, text: &str) -> Result<String, Fail> {
     Ok(format!(in alloc; "{}:{}: {text}", at.line, at.column)?)
 }
 
-/// A fault as its reply says it.
+/// A fault in the words of its reply.
 pub fn reply(alloc: Global, fault: &ParseFault) -> Result<String, Fail> {
     match fault {
         ParseFault::Byte { at, byte } => {
@@ -43,7 +43,7 @@ pub fn reply(alloc: Global, fault: &ParseFault) -> Result<String, Fail> {
     }
 }
 
-/// The fault of a text, or `read` where it is a script.
+/// The fault of a text; `read` if it is a script.
 pub fn refusal(alloc: Global, text: &[u8]) -> Result<String, Fail> {
     if text.len() > SCRIPT_LIMIT {
         return Ok(String::from_str(alloc, "too long")?);

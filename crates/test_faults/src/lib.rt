@@ -1,4 +1,4 @@
-//! What `parse` refuses and how expressions are written, as lines of text, and tests of both on texts that are no
+//! What `parse` refuses and how expressions are printed, as lines of text, and tests of both that do not fit into a
 //! table.
 #![tactic(auto)]
 

@@ -1,4 +1,4 @@
-//! What many texts have in common: single bytes, texts that are cut off, and a long chain.
+//! Properties of many texts: single bytes, truncated texts, and a long chain.
 mod bytes;
 mod chain;
 mod prefixes;

@@ -1,4 +1,4 @@
-//! How expressions are written.
+//! How expressions are printed.
 use lang_model::limits::SCRIPT_LIMIT;
 use lang_model::syntax::{Command, Item};
 use rv_parse::parse;
@@ -6,7 +6,7 @@ use rv_spell::print_expr;
 use std::alloc::Global;
 use std::test::Fail;
 
-/// The text of the expression that a script of one PRINT has.
+/// The text of the expression in a script of one PRINT.
 pub fn printed(alloc: Global, script: &[u8]) -> Result<String, Fail> {
     if script.len() > SCRIPT_LIMIT {
         return Ok(String::from_str(alloc, "too long")?);

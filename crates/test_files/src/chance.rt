@@ -1,11 +1,11 @@
-//! Numbers, pairs and files by chance, the same in each run.
+//! Random numbers, pairs and files, the same in each run.
 ghost use Rattle.std.specs.Prelude.{◌<◌, ◌≤◌};
 
 use crate::made::put;
 use std::alloc::Global;
 use std::process::Abort;
 
-/// Pseudo-random numbers, one after another (Knuth, MMIX).
+/// Pseudo-random numbers (Knuth's MMIX).
 #[derive(Drop)]
 pub(crate) struct Chance {
     pub(crate) state: u64,
@@ -24,7 +24,7 @@ impl Chance {
         ((self.state >> 33) % u64::from(bound)) as u32
     }
 
-    /// Whether what happens once in so many times happens.
+    /// Whether an event that happens once in `times` times happens.
     pub(crate) fn is_once_in(&mut self, times: u32) -> bool
         requires { 0 < times }
     {
@@ -37,7 +37,7 @@ impl Chance {
     }
 }
 
-/// So many pairs within the sizes.
+/// A number of random pairs within the sizes.
 pub(crate) fn pairs_within(
     rt: &impl Abort,
     alloc: Global,
@@ -55,7 +55,7 @@ pub(crate) fn pairs_within(
     pairs
 }
 
-/// Fewer than 64 bytes, that begin as a relation file does or not.
+/// Fewer than 64 random bytes, which may begin like a relation file.
 pub(crate) fn bytes_by_chance(
     rt: &impl Abort,
     alloc: Global,
@@ -73,14 +73,14 @@ pub(crate) fn bytes_by_chance(
     out
 }
 
-/// Adds the name of the format.
+/// Appends the name of the format.
 fn put_name(rt: &impl Abort, out: &mut Vec<u8>) {
     'letters: for letter in [82u8, 86, 75, 49] {
         put(rt, out, letter);
     }
 }
 
-/// The side of a square of a height, and often a number below it.
+/// The side of a square of a height; often a smaller number.
 fn size(chance: &mut Chance, height: u32) -> u32
     requires { height ≤ 4 }
 {
@@ -92,7 +92,7 @@ fn size(chance: &mut Chance, height: u32) -> u32
     }
 }
 
-/// Adds so many groups of four bits, and tells how many of their bits are set. Few groups have none.
+/// Appends a number of groups of four bits, and answers how many of their bits are set. Few groups have none.
 fn put_groups(rt: &impl Abort, chance: &mut Chance, bits: &mut Vec<bool>, groups: u32) -> u32 {
     let mut found: u32 = 0;
     'groups: for _ in 0..groups {
@@ -112,7 +112,7 @@ fn put_groups(rt: &impl Abort, chance: &mut Chance, bits: &mut Vec<bool>, groups
     found
 }
 
-/// A number, and seldom another near it.
+/// A number; seldom another near it.
 fn maybe_changed(chance: &mut Chance, number: u64) -> u64 {
     if chance.is_once_in(24) {
         number ^ u64::from(1 + chance.below(31))
@@ -121,7 +121,7 @@ fn maybe_changed(chance: &mut Chance, number: u64) -> u64 {
     }
 }
 
-/// Adds the lowest bytes of a number, so many, the most significant first.
+/// Appends the lowest `count` bytes of a number, most significant first.
 pub(crate) fn put_number(rt: &impl Abort, out: &mut Vec<u8>, number: u64, count: u32)
     requires { count ≤ 8 }
 {
@@ -131,7 +131,7 @@ pub(crate) fn put_number(rt: &impl Abort, out: &mut Vec<u8>, number: u64, count:
     }
 }
 
-/// Adds bits as bytes, the first highest, and seldom sets the last bit of the last byte.
+/// Appends bits as bytes, the first bit highest; seldom sets the last bit of the last byte.
 fn put_bits(rt: &impl Abort, chance: &mut Chance, out: &mut Vec<u8>, bits: &[bool]) {
     let mut byte: u8 = 0;
     let mut held: u32 = 0;
@@ -155,7 +155,7 @@ fn put_bits(rt: &impl Abort, chance: &mut Chance, out: &mut Vec<u8>, bits: &[boo
     }
 }
 
-/// Adds a header with these numbers, of which few are changed, of a height up to 4.
+/// Appends a header with these numbers, few of which are changed, for a height up to 4.
 fn put_header(
     rt: &impl Abort,
     chance: &mut Chance,
@@ -176,7 +176,7 @@ fn put_header(
     put_number(rt, out, maybe_changed(chance, cells), 8);
 }
 
-/// A file of a height up to 4, of which few parts are not as they are to be.
+/// A random file of a height up to 4, few parts of which are not as they should be.
 pub(crate) fn file_by_chance(rt: &impl Abort, alloc: Global, chance: &mut Chance) -> Vec<u8> {
     let height = 1 + chance.below(4);
     let mut tree = Vec::new(alloc);

@@ -1,4 +1,4 @@
-//! Files with one change, files by chance, and relations by chance: each is answered as the format says.
+//! Files with one change, random files, and random relations: each is answered as the format says.
 #![tactic(auto, using(rel_model::proofs::Workers::keeps_stands, rel_model::proofs::Workers::keeps_trans, rel_model::proofs::Workers::gives_stands))]
 
 ghost use Rattle.std.specs.Prelude.{◌<◌};
@@ -16,7 +16,7 @@ use run_model::outcome::BadFile;
 use std::alloc::Global;
 use std::process::Abort;
 
-/// Whether this came of bytes: a kind of fault, with its place where it has one, or that they are read.
+/// Whether reading bytes had this result: a kind of fault, with its place if it has one, or success.
 fn is_kind(read: Result<Rel, BadFile>, kind: &str, at: u64) -> bool {
     let (name, place) = match read {
         Ok(_) => ("read", 0),
@@ -40,9 +40,9 @@ fn is_kind(read: Result<Rel, BadFile>, kind: &str, at: u64) -> bool {
     name == kind && place == at
 }
 
-/// Files in hexadecimal digits, and what each is told as, with its place.
+/// Files in hexadecimal digits, and the fault of each, with its place.
 const CHANGED: &[(&str, &str, u64)] = &[
-    // the two pairs of the corners of 4 by 4, and what one change makes of them
+    // the two pairs in the corners of 4 by 4, and the results of a single change
     (
         "52564b31 00000004 00000004 02 0000000000000004 0000000000000008 90 81",
         "read",
@@ -118,7 +118,7 @@ const CHANGED: &[(&str, &str, u64)] = &[
         "rest",
         0,
     ),
-    // the smallest file that is read, and the smallest of each fault
+    // the smallest file that is read, and the smallest for each fault
     (
         "52564b31 00000000 00000000 01 0000000000000000 0000000000000000",
         "read",
@@ -203,7 +203,7 @@ const CHANGED: &[(&str, &str, u64)] = &[
     ),
 ];
 
-/// Asserts that each file with one change is told by its first fault.
+/// Asserts that each file with one change is refused for its first fault.
 pub(crate) fn one_change<E: Engine>(rt: &impl Abort, alloc: Global, engine: &mut E) {
     'files: for &(hex, kind, at) in CHANGED {
         let bytes = bytes_of(rt, alloc, hex);
@@ -217,7 +217,7 @@ fn a_file_with_one_change_is_told_by_its_first_fault(rt: HostRuntime) {
     on_an_engine(&rt, rt.alloc(), Trial::OneChange);
 }
 
-/// Asserts that bytes are read as the ten tests say, and tells by a number which came of them.
+/// Asserts that bytes are read as the ten tests say, and answers the result as a number.
 fn is_as_told<E: Engine>(rt: &impl Abort, alloc: Global, engine: &mut E, bytes: &[u8]) -> u32
     ensures { result < 17 }
 {
@@ -233,7 +233,7 @@ fn is_as_told<E: Engine>(rt: &impl Abort, alloc: Global, engine: &mut E, bytes: 
     number_of(read)
 }
 
-/// The number of what came of bytes.
+/// The number of a result of reading.
 fn number_of(read: Result<Rel, BadFile>) -> u32
     ensures { result < 17 }
 {
@@ -258,7 +258,7 @@ fn number_of(read: Result<Rel, BadFile>) -> u32
     }
 }
 
-/// Asserts that files by chance are answered as the ten tests say, and that each of the faults came.
+/// Asserts that random files are answered as the ten tests say, and that each of the faults occurs.
 pub(crate) fn files_by_chance<E: Engine>(rt: &impl Abort, alloc: Global, engine: &mut E) {
     let mut chance = Chance { state: 1 };
     let mut seen: u32 = 0;
@@ -270,7 +270,7 @@ pub(crate) fn files_by_chance<E: Engine>(rt: &impl Abort, alloc: Global, engine:
         let bytes = bytes_by_chance(rt, alloc, &mut chance, i % 2 == 0);
         seen |= 1u32 << is_as_told(rt, alloc, engine, bytes.as_slice());
     }
-    // each of the faults came, and files that are read
+    // each of the faults occurred, and some files were read
     assert!(rt; seen == 0b11_1111_1111);
 }
 
@@ -279,7 +279,7 @@ fn files_by_chance_are_answered_as_the_ten_tests_say(rt: HostRuntime) {
     on_an_engine(&rt, rt.alloc(), Trial::FilesByChance);
 }
 
-/// A copy of bytes, with some bits of one byte turned over.
+/// A copy of bytes with some bits of one byte flipped.
 pub(crate) fn with_turned(
     rt: &impl Abort,
     alloc: Global,
@@ -298,7 +298,7 @@ pub(crate) fn with_turned(
     out
 }
 
-/// Asserts that a file with any one bit turned over is answered as the ten tests say.
+/// Asserts that a file with any one bit flipped is answered as the ten tests say.
 fn each_bit_counts<E: Engine>(rt: &impl Abort, alloc: Global, engine: &mut E, bytes: &[u8]) {
     'bytes: for at in 0..bytes.len() {
         'bits: for bit in 0..8u32 {
@@ -308,7 +308,7 @@ fn each_bit_counts<E: Engine>(rt: &impl Abort, alloc: Global, engine: &mut E, by
     }
 }
 
-/// Sizes, and how many pairs within them.
+/// Sizes, and how many pairs there are within them.
 const FEW_PAIRS: &[(u32, u32, u32)] = &[
     (1, 1, 1),
     (2, 2, 2),
@@ -320,7 +320,7 @@ const FEW_PAIRS: &[(u32, u32, u32)] = &[
     (1_048_576, 3, 2),
 ];
 
-/// Asserts the same of files with one bit turned over.
+/// Asserts the same for files with one bit flipped.
 pub(crate) fn bits_turned<E: Engine>(rt: &impl Abort, alloc: Global, engine: &mut E) {
     let mut chance = Chance { state: 2 };
     'relations: for &(rows, cols, count) in FEW_PAIRS {
@@ -338,7 +338,7 @@ fn files_with_one_bit_turned_are_answered_as_the_ten_tests_say(rt: HostRuntime) 
     on_an_engine(&rt, rt.alloc(), Trial::BitsTurned);
 }
 
-/// The same of larger relations.
+/// The same for larger relations.
 const MORE_PAIRS: &[(u32, u32, u32)] = &[
     (1, 1, 1),
     (3, 2, 4),
@@ -354,7 +354,7 @@ const MORE_PAIRS: &[(u32, u32, u32)] = &[
     (1_000_000, 16_777_216, 200),
 ];
 
-/// Asserts that relations by chance are written and read back.
+/// Asserts that random relations are written and read back.
 pub(crate) fn relations_by_chance<E: Engine>(rt: &impl Abort, alloc: Global, engine: &mut E) {
     let mut chance = Chance { state: 3 };
     'relations: for &(rows, cols, count) in MORE_PAIRS {

@@ -15,7 +15,7 @@ pub(crate) struct Entry {
 /// A named relation in a table.
 pub(crate) type Listed = (&'static str, u32, u32, &'static [(u32, u32)]);
 
-/// The relation of a name, without a pair.
+/// A relation with this name, without pairs.
 pub(crate) fn without_pairs(
     rt: &impl Abort,
     alloc: Global,
@@ -47,7 +47,7 @@ pub(crate) fn entries_of(rt: &impl Abort, alloc: Global, table: &[Listed]) -> Ve
     entries
 }
 
-/// The relation of a name, with all pairs.
+/// A relation with this name, with all pairs.
 pub(crate) fn with_all_pairs(
     rt: &impl Abort,
     alloc: Global,

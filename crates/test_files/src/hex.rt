@@ -1,4 +1,4 @@
-//! Bytes as they are written in hexadecimal digits.
+//! Bytes written in hexadecimal digits.
 ghost use Rattle.std.specs.Prelude.{◌<◌, IfSome};
 
 use crate::made::put;
@@ -16,7 +16,7 @@ fn digit(byte: u8) -> Option<u8>
     }
 }
 
-/// The bytes whose digits a text has. Whatever is no digit stands between them.
+/// The bytes that a text spells in digits. Other characters only separate them.
 pub(crate) fn bytes_of(rt: &impl Abort, alloc: Global, text: &str) -> Vec<u8> {
     let mut out = Vec::new(alloc);
     let mut high = None;

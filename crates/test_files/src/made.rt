@@ -10,7 +10,7 @@ use rel_model::{Rel, SIZE_LIMIT, Shape};
 use std::alloc::Global;
 use std::process::Abort;
 
-/// Adds something to a list.
+/// Appends something to a list.
 pub(crate) fn put<T: Drop>(rt: &impl Abort, list: &mut Vec<T>, item: T) {
     if list.push(item).is_err() {
         panic!(rt; "no memory");

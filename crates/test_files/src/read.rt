@@ -1,4 +1,4 @@
-//! Files as they are read: each fault with a small file, and what was written read back.
+//! Reading files: each fault with a small file, and reading back what was written.
 #![tactic(auto, using(rel_model::proofs::Workers::keeps_stands, rel_model::proofs::Workers::keeps_trans, rel_model::proofs::Workers::gives_stands))]
 
 ghost use Rattle.rel_model.specs.Worker.{Stands, Keeps};
@@ -13,7 +13,7 @@ use run_model::outcome::BadFile;
 use std::alloc::Global;
 use std::process::Abort;
 
-/// A file: its name, sizes of one byte and height, the numbers of bits of both parts, and what is behind them.
+/// A file: its name, sizes of one byte and height, the numbers of bits of both parts, and what follows them.
 fn file(
     rt: &impl Abort,
     alloc: Global,
@@ -35,7 +35,7 @@ fn file(
     out
 }
 
-/// Asserts that bytes were read as this.
+/// Asserts the result of reading bytes.
 pub(crate) fn is_read_as(
     rt: &impl Abort,
     bytes: &[u8],
@@ -45,8 +45,7 @@ pub(crate) fn is_read_as(
     assert!(rt; read == wanted, "{read:?} for {wanted:?} of {bytes:?}");
 }
 
-/// Small files, and the one fault of each: sizes and height, the numbers of bits of both parts, and what is behind
-/// them.
+/// Small files, and the one fault of each: sizes and height, the numbers of bits of both parts, and what follows them.
 const SMALL_FAULTS: &[([u8; 2], u8, [u8; 2], &[u8], BadFile)] = &[
     ([0, 0], 0, [0, 0], &[], BadFile::Height),
     ([0, 0], 2, [0, 0], &[], BadFile::Height),
@@ -92,7 +91,7 @@ const SMALL_FAULTS: &[([u8; 2], u8, [u8; 2], &[u8], BadFile)] = &[
     ([1, 1], 1, [0, 4], &[129, 0], BadFile::Padding),
 ];
 
-/// Asserts that each small file with one fault is told which it is.
+/// Asserts that each small file with one fault is refused for that fault.
 pub(crate) fn small_faults<E: Engine>(rt: &impl Abort, alloc: Global, engine: &mut E) {
     'cases: for &(sizes, height, counts, parts, fault) in SMALL_FAULTS {
         let bytes = file(rt, alloc, sizes, height, counts, parts);
@@ -106,7 +105,7 @@ fn small_files_with_one_fault_are_told_which(rt: HostRuntime) {
     on_an_engine(&rt, rt.alloc(), Trial::SmallFaults);
 }
 
-/// Files with a fault in the header, and which it is.
+/// Files with a fault in the header, and their faults.
 const HEADER_FAULTS: &[(&[u8], BadFile)] = &[
     (&[], BadFile::Short),
     (&[83, 86, 75, 49], BadFile::Short),
@@ -160,7 +159,7 @@ const HEADER_FAULTS: &[(&[u8], BadFile)] = &[
     ),
 ];
 
-/// Asserts that each header with one fault is told which it is.
+/// Asserts that each header with one fault is refused for that fault.
 pub(crate) fn header_faults<E: Engine>(rt: &impl Abort, alloc: Global, engine: &mut E) {
     'cases: for &(bytes, fault) in HEADER_FAULTS {
         let read = read_k2(alloc, engine, bytes);
@@ -209,7 +208,7 @@ fn small_files_are_read_as_their_relations(rt: HostRuntime) {
     on_an_engine(&rt, rt.alloc(), Trial::SmallFiles);
 }
 
-/// Asserts that what a relation is written as is read back as the relation.
+/// Asserts that the file of a relation is read back as the relation.
 pub(crate) fn comes_back<E: Engine>(rt: &impl Abort, alloc: Global, engine: &mut E, rel: Rel)
     requires { Stands (E.worker engine.old) rel }
     ensures { Keeps (E.worker engine.old) (E.worker engine.new) }
@@ -235,7 +234,7 @@ const LISTED: &[(u32, u32, &[(u32, u32)])] = &[
     ),
 ];
 
-/// Asserts that what listed and full relations are written as is read back.
+/// Asserts that the files of listed and of full relations are read back.
 pub(crate) fn written_back<E: Engine>(rt: &impl Abort, alloc: Global, engine: &mut E) {
     'listed: for &(rows, cols, pairs) in LISTED {
         let rel = told(rt, alloc, engine, rows, cols, pairs);

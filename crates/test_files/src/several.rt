@@ -1,4 +1,4 @@
-//! Files of several relations: each is read as its relations, by each of their names, and written as it was.
+//! Files of several relations: each is read as its relations, and by each of their names, and written again as it was.
 #![tactic(auto, using(rel_model::proofs::Workers::keeps_stands, rel_model::proofs::Workers::keeps_trans, rel_model::proofs::Workers::gives_stands))]
 
 ghost use Rattle.std.specs.List.{AllByRecursion};
@@ -20,7 +20,7 @@ use run_model::outcome::BadFile;
 use std::alloc::Global;
 use std::process::Abort;
 
-/// Asserts that relations that were read are those that are listed, in their order.
+/// Asserts that the relations that were read are those listed, in order.
 fn are_entries<E: Engine>(
     rt: &impl Abort,
     alloc: Global,
@@ -40,7 +40,7 @@ fn are_entries<E: Engine>(
     }
 }
 
-/// Asserts what comes of bytes and a name.
+/// Asserts the result of reading bytes for a name.
 pub(crate) fn is_named<E: Engine>(
     rt: &impl Abort,
     alloc: Global,
@@ -93,7 +93,7 @@ fn are_written<E: Engine>(
     }
 }
 
-/// Asserts that the relations of a file are written as its bytes.
+/// Asserts that the relations of a file are written as the bytes of that file.
 pub(crate) fn is_written_again<E: Engine>(
     rt: &impl Abort,
     alloc: Global,
@@ -106,7 +106,7 @@ pub(crate) fn is_written_again<E: Engine>(
     }
 }
 
-/// Asserts that bytes are the file of relations: they are read as these, by each of their names, and written again.
+/// Asserts that bytes are the file of relations: they are read as these, and by each of their names, and written again.
 pub(crate) fn are_of<E: Engine>(
     rt: &impl Abort,
     alloc: Global,
@@ -145,7 +145,7 @@ fn the_worked_file_is_read_and_written_byte_for_byte(rt: HostRuntime) {
     on_an_engine(&rt, rt.alloc(), Trial::WorkedFile);
 }
 
-/// Asserts that the file of relations has so many quadrants, and is read and written.
+/// Asserts that the file of relations has this many quadrants, and is read and written.
 fn has_quadrants<E: Engine>(
     rt: &impl Abort,
     alloc: Global,
@@ -159,10 +159,10 @@ fn has_quadrants<E: Engine>(
     are_of(rt, alloc, engine, bytes.as_slice(), entries);
 }
 
-/// Relations, and how many squares they have together, each counted once.
+/// Relations, and how many squares they have together, each distinct square counted once.
 const SQUARES: &[(&[Listed], u64)] = &[
     (&[], 0),
-    // sizes with no pair
+    // sizes without a pair
     (&[("A", 0, 0, &[])], 0),
     (&[("A", 0, 9, &[])], 0),
     (&[("A", 16_777_216, 0, &[])], 0),
@@ -175,7 +175,7 @@ const SQUARES: &[(&[Listed], u64)] = &[
     (&[("A", 1, 9, &[(0, 8)])], 4),
     (&[("A", 16_777_216, 1, &[(16_777_215, 0)])], 24),
     (&[("A", 1, 16_777_216, &[(0, 16_777_215)])], 24),
-    // opposite corners: two at each height but the highest
+    // opposite corners: two squares at each height but the highest
     (&[("A", 8, 8, &[(0, 0), (7, 7)])], 5),
     (
         &[(
@@ -186,7 +186,7 @@ const SQUARES: &[(&[Listed], u64)] = &[
         )],
         47,
     ),
-    // all squares shared, at one height and at two
+    // all squares are shared, at one height and at two
     (
         &[
             ("A", 9, 9, &[(0, 0), (8, 8)]),
@@ -203,10 +203,10 @@ const SQUARES: &[(&[Listed], u64)] = &[
         1,
     ),
     (&[("A", 8, 8, &[(0, 0)]), ("B", 9, 9, &[(0, 0)])], 4),
-    // none
+    // no square is shared
     (&[("A", 8, 8, &[(0, 0)]), ("B", 8, 8, &[(7, 7)])], 6),
     (&[("A", 2, 2, &[(0, 1)]), ("B", 2, 2, &[(1, 0)])], 2),
-    // half: the lower squares are shared, and the higher are not
+    // half of them: the lower squares are shared, and the higher ones are not
     (&[("A", 4, 4, &[(0, 0)]), ("B", 4, 4, &[(2, 2)])], 3),
     (
         &[
@@ -215,7 +215,7 @@ const SQUARES: &[(&[Listed], u64)] = &[
         ],
         36,
     ),
-    // names in the order of their bytes: upper before lower case, and shorter ones first
+    // names in the order of their bytes: upper case before lower case, and prefixes first
     (
         &[
             ("A", 1, 1, &[]),
@@ -228,7 +228,7 @@ const SQUARES: &[(&[Listed], u64)] = &[
     ),
 ];
 
-/// Asserts that tables of relations are read and written, with so many quadrants.
+/// Asserts that tables of relations are read and written, with this many quadrants.
 pub(crate) fn tables_of_relations<E: Engine>(rt: &impl Abort, alloc: Global, engine: &mut E) {
     'tables: for &(table, quadrants) in SQUARES {
         let entries = entries_of(rt, alloc, table);
@@ -241,14 +241,14 @@ fn relations_that_share_all_none_or_half_have_each_square_once(rt: HostRuntime) 
     on_an_engine(&rt, rt.alloc(), Trial::TablesOfRelations);
 }
 
-/// What the relations of a file of 64 have.
+/// What the relations in a file of 64 consist of.
 #[derive(Clone, Copy)]
 enum Kind {
     /// All pairs of 8 by 8 elements.
     Full,
-    /// The pair of its number, of 8 by 8 elements.
+    /// The pair with its number, of 8 by 8 elements.
     Single,
-    /// Their last pair, of sizes of each kind in turn.
+    /// The last pair, for five sizes in turn.
     Last,
 }
 
@@ -282,7 +282,7 @@ fn numbered(rt: &impl Abort, alloc: Global, number: u32, kind: Kind) -> Entry {
     }
 }
 
-/// The relation of a name, as many rows as columns, with its last pair, if it has one.
+/// The relation with this name, with as many rows as columns, and its last pair, if it has one.
 fn with_last_pair(rt: &impl Abort, alloc: Global, name: &[u8], size: u32) -> Entry {
     let mut relation = without_pairs(rt, alloc, name, size, size);
     if size != 0 {
@@ -293,7 +293,7 @@ fn with_last_pair(rt: &impl Abort, alloc: Global, name: &[u8], size: u32) -> Ent
 
 /// Asserts that 64 relations are read and written. Those of all pairs share their three squares. Those of one pair each
 /// have the four squares of height 1, the sixteen of height 2 and 64 of their own. Those of the last pairs of four
-/// sizes have one square, three, four with that one among them, and 24 with those three.
+/// sizes have one square, three, four including that one, and 24 including those three.
 pub(crate) fn sixty_four<E: Engine>(rt: &impl Abort, alloc: Global, engine: &mut E) {
     'tables: for (kind, quadrants) in [
         (Kind::Full, 3),
@@ -314,7 +314,7 @@ fn sixty_four_relations_are_read_and_written(rt: HostRuntime) {
     on_an_engine(&rt, rt.alloc(), Trial::SixtyFour);
 }
 
-/// Adds the quadrants of the full squares of the heights from 1 to 24, with the numbers from 2 on.
+/// Appends the quadrants of the full squares of the heights from 1 to 24, numbered from 2 on.
 fn put_full_squares(rt: &impl Abort, out: &mut Vec<u8>) {
     'heights: for below in 1..25u8 {
         'quarters: for _ in 0..4u8 {
@@ -325,13 +325,13 @@ fn put_full_squares(rt: &impl Abort, out: &mut Vec<u8>) {
     }
 }
 
-/// The header of a file of 24 quadrants and one relation, and the relation: its greatest sizes and number 25.
+/// The header of a file with 24 quadrants and one relation, and the relation: the greatest sizes and number 25.
 const FULL_HEADER: &str = "52564b32 00000018 00000001";
 
 const FULL_ROOT: &str = "01 4c 01000000 01000000 00000019";
 
-/// Asserts that all pairs of the greatest sizes are read from 24 quadrants, each four times the one before, and written
-/// so.
+/// Asserts that the full relation of the greatest sizes is read from 24 quadrants, each consisting of four times the
+/// one before, and written as these.
 pub(crate) fn greatest_full<E: Engine>(rt: &impl Abort, alloc: Global, engine: &mut E) {
     let mut bytes = bytes_of(rt, alloc, FULL_HEADER);
     put_full_squares(rt, &mut bytes);

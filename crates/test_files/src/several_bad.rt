@@ -1,8 +1,8 @@
-//! Files of several relations that fail a test: the smallest of each fault at each place, and which of two faults is
-//! told.
+//! Files of several relations that fail a test: the smallest for each fault at each place, and which of two faults is
+//! reported.
 use run_model::outcome::BadFile;
 
-/// Files in hexadecimal digits, and the fault that each is told by.
+/// Files in hexadecimal digits, and the fault of each.
 pub(crate) const FAULTS: &[(&str, BadFile)] = &[
     // the first four bytes
     ("", BadFile::Magic),
@@ -12,7 +12,7 @@ pub(crate) const FAULTS: &[(&str, BadFile)] = &[
     ("52564b30 00000000 00000000", BadFile::Magic),
     ("5256 4b33 00000000 00000000 00", BadFile::Magic),
     ("00000000 00000000 00000000", BadFile::Magic),
-    // the header, and the quadrants that it tells
+    // the header, and the quadrants that it announces
     ("52564b32", BadFile::Short),
     ("52564b32 00000000 000000", BadFile::Short),
     ("52564b32 00000001 00000000", BadFile::Short),
@@ -26,7 +26,7 @@ pub(crate) const FAULTS: &[(&str, BadFile)] = &[
     ),
     ("52564b32 ffffffff 00000000", BadFile::Short),
     ("52564b32 10000000 00000000", BadFile::Short),
-    // a quadrant of no number but 0
+    // a quadrant whose numbers are all 0
     (
         "52564b32 00000001 00000000 00000000 00000000 00000000 00000000",
         BadFile::Quad { at: 2 },
@@ -83,7 +83,7 @@ pub(crate) const FAULTS: &[(&str, BadFile)] = &[
         00000002 00000002 00000002 00000001",
         BadFile::Quad { at: 3 },
     ),
-    // the numbers of an earlier one
+    // the numbers of an earlier quadrant
     (
         "52564b32 00000002 00000000 00000001 00000000 00000000 00000000
         00000001 00000000 00000000 00000000",
@@ -123,7 +123,7 @@ pub(crate) const FAULTS: &[(&str, BadFile)] = &[
         "52564b32 00000000 00000002 01 41 00000000 00000000 00000000 01",
         BadFile::Short,
     ),
-    // a name that is no word
+    // a name that is not a word
     (
         "52564b32 00000000 00000001 01 00 00000000 00000000 00000000",
         BadFile::Names { at: 0 },
@@ -172,7 +172,7 @@ pub(crate) const FAULTS: &[(&str, BadFile)] = &[
         "52564b32 00000000 00000001 03 70 2d 31 00000000 00000000 00000000",
         BadFile::Names { at: 0 },
     ),
-    // a name that is not behind the one before
+    // a name that is not after the one before
     (
         "52564b32 00000000 00000002 01 41 00000000 00000000 00000000 01 41 00000000 00000000 00000000",
         BadFile::Names { at: 1 },
@@ -285,7 +285,7 @@ pub(crate) const FAULTS: &[(&str, BadFile)] = &[
         00000000 00000000 00000000 00000002 01 41 00000004 00000003 00000003",
         BadFile::Outside { at: 0 },
     ),
-    // a quadrant that no visit lists, or that another one ought to stand before
+    // a quadrant that no visit lists, or that should come after another one
     (
         "52564b32 00000001 00000000 00000001 00000000 00000000 00000000",
         BadFile::Order { at: 2 },
@@ -329,7 +329,7 @@ pub(crate) const FAULTS: &[(&str, BadFile)] = &[
         01 41 00000004 00000004 00000004",
         BadFile::Order { at: 2 },
     ),
-    // what is behind the relations
+    // what follows the relations
     ("52564b32 00000000 00000000 00", BadFile::Rest),
     (
         "52564b32 00000000 00000001 01 41 00000000 00000000 00000000 00",
@@ -341,7 +341,7 @@ pub(crate) const FAULTS: &[(&str, BadFile)] = &[
     ),
 ];
 
-/// Of two faults in a file the one that is told: of an earlier test, or of an earlier relation.
+/// The fault that is reported of two faults in a file: that of the earlier test, or of the earlier relation.
 pub(crate) const FIRST_FAULTS: &[(&str, BadFile)] = &[
     ("53564b32 00000001", BadFile::Magic),
     (

@@ -1,4 +1,4 @@
-//! Relations by chance, several in a file, read and written.
+//! Random relations, several in a file, written and read.
 #![tactic(auto, using(rel_model::proofs::Workers::keeps_stands, rel_model::proofs::Workers::keeps_trans, rel_model::proofs::Workers::gives_stands))]
 
 use crate::chance::{Chance, pairs_within};
@@ -11,7 +11,7 @@ use rel_model::engine_trait::Engine;
 use std::alloc::Global;
 use std::process::Abort;
 
-/// The next of the sizes from which relations by chance have theirs.
+/// The next of the sizes that random relations have.
 fn next_size(chance: &mut Chance) -> u32 {
     match chance.below(8) {
         0 => 0,
@@ -25,7 +25,7 @@ fn next_size(chance: &mut Chance) -> u32 {
     }
 }
 
-/// A relation by chance, under a name of two letters.
+/// A random relation, with a name of two letters.
 fn by_chance(rt: &impl Abort, alloc: Global, chance: &mut Chance, number: u8) -> Entry {
     let name = [b'R', b'a'.wrapping_add(number)];
     let (rows, cols) = (next_size(chance), next_size(chance));
@@ -37,7 +37,7 @@ fn by_chance(rt: &impl Abort, alloc: Global, chance: &mut Chance, number: u8) ->
     relation
 }
 
-/// The pairs of a relation once more, for a larger one.
+/// The pairs of a relation again, for a larger one.
 fn with_pairs_of(rt: &impl Abort, alloc: Global, other: &Entry, number: u8) -> Entry {
     let name = [b'R', b'a'.wrapping_add(number)];
     let (rows, cols) = (other.rows.max(300), other.cols.max(3));
@@ -48,7 +48,7 @@ fn with_pairs_of(rt: &impl Abort, alloc: Global, other: &Entry, number: u8) -> E
     relation
 }
 
-/// Relations by chance, so many, of which some have the pairs of an earlier one.
+/// A number of random relations, some of which have the pairs of an earlier one.
 pub(crate) fn entries_by_chance(
     rt: &impl Abort,
     alloc: Global,
@@ -67,7 +67,7 @@ pub(crate) fn entries_by_chance(
     entries
 }
 
-/// Asserts that relations by chance are written and read back.
+/// Asserts that random relations are written and read back.
 pub(crate) fn several_by_chance<E: Engine>(rt: &impl Abort, alloc: Global, engine: &mut E) {
     let mut chance = Chance { state: 4 };
     'files: for i in 0..40u32 {

@@ -1,5 +1,5 @@
-//! Files of several relations that fail a test: the smallest of each fault at each place, which of two faults is told,
-//! and files with a bit or a number changed, each answered as the slow reader answers it.
+//! Files of several relations that fail a test: the smallest for each fault at each place, which of two faults is
+//! reported, and files with a bit or a number changed, each answered as the slow reader answers it.
 #![tactic(auto, using(rel_model::proofs::Workers::keeps_stands, rel_model::proofs::Workers::keeps_trans, rel_model::proofs::Workers::gives_stands))]
 
 ghost use Rattle.std.specs.Prelude.{◌<◌};
@@ -20,7 +20,7 @@ use run_model::outcome::BadFile;
 use std::alloc::Global;
 use std::process::Abort;
 
-/// Asserts that a file is told by a fault, as a whole and by a name.
+/// Asserts that a file is refused for a fault, both as a whole and for a name.
 fn has_fault<E: Engine>(
     rt: &impl Abort,
     alloc: Global,
@@ -35,7 +35,7 @@ fn has_fault<E: Engine>(
     is_named(rt, alloc, engine, bytes, b"A".as_slice(), Err(wanted));
 }
 
-/// Asserts that each file is told by its first fault.
+/// Asserts that each file is refused for its first fault.
 pub(crate) fn several_faults<E: Engine>(rt: &impl Abort, alloc: Global, engine: &mut E) {
     'tables: for table in [FAULTS, FIRST_FAULTS] {
         'files: for &(hex, fault) in table {
@@ -50,7 +50,7 @@ fn a_file_of_several_relations_is_told_by_its_first_fault(rt: HostRuntime) {
     on_an_engine(&rt, rt.alloc(), Trial::SeveralFaults);
 }
 
-/// A file of so many quadrants, each the first quarter of the next, and no relation.
+/// A file with this many quadrants, each the first quarter of the next, and no relation.
 fn chain(rt: &impl Abort, alloc: Global, count: u32) -> Vec<u8> {
     let mut bytes = bytes_of(rt, alloc, "52564b32");
     put_number(rt, &mut bytes, u64::from(count), 4);
@@ -64,7 +64,7 @@ fn chain(rt: &impl Abort, alloc: Global, count: u32) -> Vec<u8> {
     bytes
 }
 
-/// Asserts that a quadrant of height 24 is one, and that of height 25 is none, whatever is behind it.
+/// Asserts that a quadrant of height 24 is valid, and one of height 25 is not, whatever follows it.
 pub(crate) fn too_high<E: Engine>(rt: &impl Abort, alloc: Global, engine: &mut E) {
     'counts: for (count, fault) in [
         (24, BadFile::Order { at: 2 }),
@@ -81,7 +81,7 @@ fn a_quadrant_of_height_25_is_none(rt: HostRuntime) {
     on_an_engine(&rt, rt.alloc(), Trial::TooHigh);
 }
 
-/// Files whose names are words, though the language has other uses for some of them.
+/// Files whose names are words, although some of them have other uses in the language.
 const NAMES: &[(&str, &[u8])] = &[
     (
         "52564b32 00000000 00000001 01 7a 00000000 00000000 00000000",
@@ -110,7 +110,7 @@ const NAMES: &[(&str, &[u8])] = &[
     ),
 ];
 
-/// Asserts that a file has the one relation of a name.
+/// Asserts that a file has a single relation, with this name.
 fn has_name<E: Engine>(rt: &impl Abort, alloc: Global, engine: &mut E, bytes: &[u8], name: &[u8]) {
     match read_k2_all(alloc, engine, bytes) {
         Ok(list) => assert!(rt; list.len() == 1 && list[0].0.bytes() == name),
@@ -132,7 +132,7 @@ fn each_word_is_a_name_in_a_file(rt: HostRuntime) {
     on_an_engine(&rt, rt.alloc(), Trial::WordsAsNames);
 }
 
-/// The number of what came of bytes.
+/// The number of a fault.
 fn number_of(fault: BadFile) -> u32
     ensures { result < 32 }
 {
@@ -150,7 +150,7 @@ fn number_of(fault: BadFile) -> u32
     }
 }
 
-/// Asserts that bytes are answered as the slow reader answers them, and notes by a bit which came of them.
+/// Asserts that bytes are answered as the slow reader answers them, and notes the result by a bit.
 fn is_as_slow<E: Engine>(
     rt: &impl Abort,
     alloc: Global,
@@ -170,7 +170,7 @@ fn is_as_slow<E: Engine>(
     }
 }
 
-/// Asserts the same of a file with any one bit turned over.
+/// Asserts the same for a file with any one bit flipped.
 fn each_bit_counts<E: Engine>(
     rt: &impl Abort,
     alloc: Global,
@@ -186,8 +186,8 @@ fn each_bit_counts<E: Engine>(
     }
 }
 
-/// Asserts that the worked file with any one bit turned over is answered as the slow reader answers it. Each fault but
-/// what is behind the relations comes, and files that are read.
+/// Asserts that the worked file with any one bit flipped is answered as the slow reader answers it. Each fault occurs
+/// except that of bytes after the relations, and some files are read.
 pub(crate) fn worked_bits<E: Engine>(rt: &impl Abort, alloc: Global, engine: &mut E) {
     let bytes = bytes_of(rt, alloc, WORKED_FILE);
     let mut seen = 0;
@@ -200,7 +200,7 @@ fn the_worked_file_with_one_bit_turned_is_answered_as_the_slow_reader_does(rt: H
     on_an_engine(&rt, rt.alloc(), Trial::WorkedBits);
 }
 
-/// Asserts the same of files by chance.
+/// Asserts the same for random files.
 pub(crate) fn several_bits<E: Engine>(rt: &impl Abort, alloc: Global, engine: &mut E) {
     let mut chance = Chance { state: 5 };
     let mut seen = 0;
@@ -216,7 +216,7 @@ fn files_of_several_with_one_bit_turned_are_answered_as_the_slow_reader_does(rt:
     on_an_engine(&rt, rt.alloc(), Trial::SeveralBits);
 }
 
-/// A copy of bytes, with a number of four bytes at a place in place of what is there.
+/// A copy of bytes in which the four bytes at a place are replaced by a number.
 fn with_number(rt: &impl Abort, alloc: Global, bytes: &[u8], at: usize, number: u8) -> Vec<u8> {
     let mut out = Vec::new(alloc);
     'bytes: for i in 0..bytes.len() {
@@ -238,8 +238,8 @@ const PLACES: &[usize] = &[
 ];
 
 /// Asserts that the worked file with any two numbers of its quadrants and relations changed to others up to 5 is
-/// answered as the slow reader answers it. Each fault comes but those of the first bytes and of sizes, and files that
-/// are read.
+/// answered as the slow reader answers it. Each fault occurs except those of the first bytes and of sizes, and some
+/// files are read.
 pub(crate) fn two_numbers<E: Engine>(rt: &impl Abort, alloc: Global, engine: &mut E) {
     let bytes = bytes_of(rt, alloc, WORKED_FILE);
     let mut seen = 0;
@@ -252,7 +252,7 @@ pub(crate) fn two_numbers<E: Engine>(rt: &impl Abort, alloc: Global, engine: &mu
     assert!(rt; seen == 0b11_1101_1101, "{seen}");
 }
 
-/// The same of a file in which one number is changed.
+/// The same for a file in which one number is changed already.
 fn second_numbers<E: Engine>(
     rt: &impl Abort,
     alloc: Global,

@@ -1,5 +1,5 @@
-//! Files of several relations over a small table: a full one is told, a bad file makes nothing, and a name is read
-//! where the whole file finds no room.
+//! Files of several relations over a small table: a full table is reported, a bad file makes no node, and a name can be
+//! read although the whole file has no room.
 #![tactic(auto, using(rel_model::proofs::Workers::keeps_stands, rel_model::proofs::Workers::keeps_trans, rel_model::proofs::Workers::gives_stands))]
 
 use crate::entry::{Entry, without_pairs};
@@ -12,9 +12,9 @@ use run_model::outcome::BadFile;
 use std::alloc::Global;
 use std::process::Abort;
 
-/// A relation of 1200 by 8 elements whose 150 blocks of 8 by 8 are distinct, each of two pairs. It takes more than half
-/// of 1022 node words, and fewer than all: one for each block, and up to three for each of the 153 quads over them. Two
-/// whose first blocks are 150 apart share none.
+/// A relation of 1200 by 8 elements whose 150 blocks of 8 by 8 are distinct, with two pairs each. It takes more than
+/// half of 1022 node words, and fewer than all: one for each block, and up to three for each of the 153 quads above
+/// them. Two of these whose first blocks are 150 apart share none.
 fn column(rt: &impl Abort, alloc: Global, name: &[u8], first: u32) -> Entry {
     let mut relation = without_pairs(rt, alloc, name, 1200, 8);
     'blocks: for i in 0..150u32 {
@@ -41,7 +41,7 @@ fn columns(rt: &impl Abort, alloc: Global, firsts: &[u32]) -> Vec<u8> {
     file_of(rt, alloc, entries.as_slice())
 }
 
-/// Asserts what comes of a file: that it is read, or its fault.
+/// Asserts the result of reading a file: success, or its fault.
 fn comes_as<E: Engine>(
     rt: &impl Abort,
     alloc: Global,
@@ -56,7 +56,7 @@ fn comes_as<E: Engine>(
     assert!(rt; found == wanted, "{found:?} for {wanted:?}");
 }
 
-/// The same by a name.
+/// The same for a name.
 fn name_comes_as<E: Engine>(
     rt: &impl Abort,
     alloc: Global,
@@ -73,7 +73,7 @@ fn name_comes_as<E: Engine>(
     assert!(rt; found == wanted, "{found:?} for {wanted:?} by name");
 }
 
-/// A copy of bytes with one changed, counted from the last, or with one more behind them.
+/// A copy of bytes with one changed, counted from the last, or with one more after them.
 fn damaged(rt: &impl Abort, alloc: Global, bytes: &[u8], from_last: usize, byte: u8) -> Vec<u8> {
     let mut out = Vec::new(alloc);
     let place = bytes.len().wrapping_sub(from_last);
@@ -86,7 +86,7 @@ fn damaged(rt: &impl Abort, alloc: Global, bytes: &[u8], from_last: usize, byte:
     out
 }
 
-/// What is changed of a file of one column, and its fault: a byte behind it, the name, the sizes and the root.
+/// What is changed in a file of one column, and its fault: a byte after it, the name, the sizes and the root.
 const DAMAGES: &[(usize, u8, BadFile)] = &[
     (0, 0, BadFile::Rest),
     (13, b'1', BadFile::Names { at: 0 }),
@@ -96,8 +96,8 @@ const DAMAGES: &[(usize, u8, BadFile)] = &[
     (1, 0, BadFile::Root { at: 0 }),
 ];
 
-/// Asserts that bad files of one column, and a missing name, leave room for another column, and that behind this one
-/// the first finds no more: the table is full, as a whole and by name.
+/// Asserts that bad files of one column, and a missing name, leave room for another column, and that after that one the
+/// first has no room any more: the table is full, both as a whole and for a name.
 pub(crate) fn bad_files_make_nothing<E: Engine>(rt: &impl Abort, alloc: Global, engine: &mut E) {
     let (first, second) = (columns(rt, alloc, &[0]), columns(rt, alloc, &[150]));
     let (first, second) = (first.as_slice(), second.as_slice());
@@ -139,7 +139,7 @@ fn a_bad_file_makes_nothing_and_a_full_table_is_told(rt: HostRuntime) {
     on_a_table(&rt, rt.alloc(), 10, Trial::BadFilesMakeNothing);
 }
 
-/// Asserts that a column is read by its name from a file of two, though the whole file finds no room, and that a name
+/// Asserts that a column is read by its name from a file of two, although the whole file has no room, and that a name
 /// is missing.
 pub(crate) fn one_name_alone<E: Engine>(rt: &impl Abort, alloc: Global, engine: &mut E) {
     let bytes = columns(rt, alloc, &[0, 150]);

@@ -1,8 +1,8 @@
-//! Files of several relations made by the definition of visits, over lists of codes.
+//! Files of several relations made from the definition of visits, over lists of codes.
 //!
-//! The code of a pair has the bits of its row and of its column in turn, the row's before the column's. So codes that
-//! increase go through the quarters of every square in their order, the pairs of a square stand together, and a visit
-//! is over where the square's last pair is.
+//! The code of a pair interleaves the bits of its row and its column, with the row's bit first. So increasing codes go
+//! through the quarters of every square in order, the pairs of a square are adjacent, and a visit ends at the last pair
+//! of its square.
 use crate::chance::put_number;
 use crate::entry::Entry;
 use crate::made::put;
@@ -51,12 +51,12 @@ fn codes_of(rt: &impl Abort, alloc: Global, pairs: &[(u32, u32)]) -> Vec<u64> {
     once
 }
 
-/// The number of the square of a height in which a code lies.
+/// The number of the square of a height that contains a code.
 fn square_of(code: u64, height: u32) -> u64 {
     if height < 32 { code >> (2 * height) } else { 0 }
 }
 
-/// The codes that lie in a square of a height, as they are within it.
+/// The codes in a square of a height, relative to that square.
 fn codes_in(rt: &impl Abort, alloc: Global, codes: &[u64], height: u32, square: u64) -> Vec<u64> {
     let mut within = Vec::new(alloc);
     let pairs = if height < 32 { 1u64 << (2 * height) } else { 0 };
@@ -72,8 +72,8 @@ fn codes_in(rt: &impl Abort, alloc: Global, codes: &[u64], height: u32, square: 
     within
 }
 
-/// The number of a square: 0 without a pair, 1 for the cell, and else from 2 on its place in the list. 0 where it is
-/// not listed, too.
+/// The number of a square: 0 without a pair, 1 for the cell, and otherwise its place in the list, from 2 on; also 0 if
+/// it is not listed.
 fn number_of(squares: &[Square], height: u32, codes: &[u64]) -> u64 {
     if codes.is_empty() {
         return 0;
@@ -117,7 +117,7 @@ fn list_square(
     put(rt, squares, square);
 }
 
-/// Visits the square of a height with these codes: each smaller square is listed behind its last code.
+/// Visits the square of a height with these codes: each smaller square is listed after its last code.
 fn visit(rt: &impl Abort, alloc: Global, squares: &mut Vec<Square>, codes: &[u64], top: u32) {
     'codes: for i in 0..codes.len() {
         let code = codes[i];
@@ -134,7 +134,7 @@ fn visit(rt: &impl Abort, alloc: Global, squares: &mut Vec<Square>, codes: &[u64
     }
 }
 
-/// Adds the bytes of a named relation whose square has a number.
+/// Appends the bytes of a named relation, given the number of its square.
 fn put_entry(rt: &impl Abort, out: &mut Vec<u8>, entry: &Entry, number: u64) {
     put_number(rt, out, entry.name.len() as u64, 1);
     'bytes: for byte in entry.name.as_slice() {
@@ -145,7 +145,7 @@ fn put_entry(rt: &impl Abort, out: &mut Vec<u8>, entry: &Entry, number: u64) {
     put_number(rt, out, number, 4);
 }
 
-/// Adds the header and the listed squares.
+/// Appends the header and the listed squares.
 fn put_squares(rt: &impl Abort, out: &mut Vec<u8>, squares: &[Square], count: u64) {
     'letters: for letter in [82u8, 86, 75, 50] {
         put(rt, out, letter);

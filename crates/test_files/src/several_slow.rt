@@ -1,7 +1,7 @@
 //! Files of several relations answered by the six tests of the format, one after another.
 //!
-//! It is slow, and goes its own way: each quadrant has the list of its cells and the list of its visits, and what is
-//! among others is looked for from the first to the last.
+//! This is slow, and computed in another way: each quadrant has the list of its cells and the list of its visits, and
+//! lists are searched from the first entry to the last.
 use crate::entry::Entry;
 use crate::made::put;
 use crate::slow::{height_of, number};
@@ -9,7 +9,7 @@ use run_model::outcome::BadFile;
 use std::alloc::Global;
 use std::process::Abort;
 
-/// A square by its number: its height, the numbers of its quarters, its cells, and what a visit of it lists.
+/// A square by its number: its height, the numbers of its quarters, its cells, and what a visit to it lists.
 #[derive(Drop)]
 struct Square {
     height: u64,
@@ -38,7 +38,7 @@ fn lowest(alloc: Global, cells: Vec<(u64, u64)>) -> Square {
     }
 }
 
-/// The numbers 0 and 1: the square without a cell, and the cell.
+/// The numbers 0 and 1: the empty square, and the cell.
 fn numbers_below_2(rt: &impl Abort, alloc: Global) -> Vec<Square> {
     let mut cell = Vec::new(alloc);
     put(rt, &mut cell, (0, 0));
@@ -48,8 +48,8 @@ fn numbers_below_2(rt: &impl Abort, alloc: Global) -> Vec<Square> {
     squares
 }
 
-/// One more than the height of the quarters other than 0. None where there is no such quarter, where one has no number
-/// yet, or where two have different heights.
+/// One more than the height of the quarters other than 0. None if there is no such quarter, if one has no number yet,
+/// or if two have different heights.
 fn height_over(squares: &[Square], quarters: [u64; 4]) -> Option<u64> {
     let mut height = None;
     'quarters: for quarter in quarters {
@@ -76,7 +76,7 @@ fn is_listed(squares: &[Square], quarters: [u64; 4]) -> bool {
     false
 }
 
-/// Adds the cells of a quarter that begins at a row and a column.
+/// Appends the cells of a quarter that begins at a row and a column.
 fn put_cells(
     rt: &impl Abort,
     cells: &mut Vec<(u64, u64)>,
@@ -90,7 +90,7 @@ fn put_cells(
     }
 }
 
-/// Adds a number, unless it is among those that are there.
+/// Appends a number, unless it is in the list.
 fn put_once(rt: &impl Abort, list: &mut Vec<u64>, number: u64) {
     'numbers: for other in list.as_slice() {
         if *other == number {
@@ -100,7 +100,7 @@ fn put_once(rt: &impl Abort, list: &mut Vec<u64>, number: u64) {
     put(rt, list, number);
 }
 
-/// Adds numbers, each unless it is among those that are there.
+/// Appends those numbers that are not in the list.
 fn put_all_once(rt: &impl Abort, list: &mut Vec<u64>, numbers: &[u64]) {
     'numbers: for number in numbers {
         put_once(rt, list, *number);
@@ -116,7 +116,7 @@ fn side_of(height: u64) -> u64 {
     side
 }
 
-/// The quadrant with these quarters and this height, by the squares of its quarters.
+/// The quadrant with these quarters and this height, from the squares of its quarters.
 fn quadrant(
     rt: &impl Abort,
     alloc: Global,
@@ -147,7 +147,7 @@ fn quadrant(
     }
 }
 
-/// The squares of all numbers, or the first quadrant that is none.
+/// The squares of all numbers, or the first invalid quadrant.
 fn squares_of(
     rt: &impl Abort,
     alloc: Global,
@@ -188,7 +188,7 @@ fn is_word(name: &[u8]) -> bool {
     true
 }
 
-/// Whether a name stands before another by its bytes.
+/// Whether a name comes before another by its bytes.
 fn is_before(name: &[u8], other: &[u8]) -> bool {
     'bytes: for i in 0..other.len() {
         let Some(byte) = name.get(i) else {
@@ -201,8 +201,8 @@ fn is_before(name: &[u8], other: &[u8]) -> bool {
     false
 }
 
-/// The named relation at a place of the bytes, behind another one, or the first of the tests of both its lengths and of
-/// its name that it fails.
+/// The named relation at a place of the bytes, after another one, or the first test that it fails among those of its
+/// lengths and of its name.
 fn root_at(
     rt: &impl Abort,
     alloc: Global,
@@ -250,7 +250,7 @@ fn bytes_between(rt: &impl Abort, alloc: Global, bytes: &[u8], from: u64, to: u6
     out
 }
 
-/// The first of the other three tests of a named relation that it fails.
+/// The first test that it fails among the other three of a named relation.
 fn root_fault(squares: &[Square], root: &Root, at: u64) -> Option<BadFile> {
     if root.rows > 16_777_216 || root.cols > 16_777_216 {
         return Some(BadFile::Sizes);
@@ -269,7 +269,7 @@ fn root_fault(squares: &[Square], root: &Root, at: u64) -> Option<BadFile> {
     None
 }
 
-/// The named relations, so many from a place on, or the first of their tests that fails.
+/// A number of named relations from a place on, or the first test that they fail.
 fn roots_of(
     rt: &impl Abort,
     alloc: Global,
@@ -291,7 +291,7 @@ fn roots_of(
     Ok(roots)
 }
 
-/// The number that does not stand in its place of the visits from the roots, the least.
+/// The least number that is not at its place in the visits from the roots.
 fn out_of_order(
     rt: &impl Abort,
     alloc: Global,
@@ -314,7 +314,7 @@ fn out_of_order(
     None
 }
 
-/// A named relation with the cells of its square as its pairs.
+/// A named relation whose pairs are the cells of its square.
 fn entry_told(rt: &impl Abort, alloc: Global, squares: &[Square], root: Root) -> Entry {
     let mut pairs = Vec::new(alloc);
     if let Some(square) = squares.get(root.square as usize) {
@@ -331,7 +331,7 @@ fn entry_told(rt: &impl Abort, alloc: Global, squares: &[Square], root: Root) ->
     }
 }
 
-/// The fault of the header of a file, by how many quadrants it says that it lists.
+/// The fault of a file's header, given the number of quadrants that it announces.
 fn header_fault(bytes: &[u8], count: u64) -> Option<BadFile> {
     if bytes.len() < 4 || number(bytes, 0, 4) != 0x5256_4b32 {
         return Some(BadFile::Magic);
@@ -343,7 +343,7 @@ fn header_fault(bytes: &[u8], count: u64) -> Option<BadFile> {
     None
 }
 
-/// What the bytes of a file tell, or the first of the six tests that they fail.
+/// The relations in the bytes of a file, or the first of the six tests that they fail.
 pub(crate) fn entries_answered(
     rt: &impl Abort,
     alloc: Global,

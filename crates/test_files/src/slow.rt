@@ -1,7 +1,7 @@
 //! Relation files answered by the ten tests of the format, one after another, over a list of bits.
 //!
-//! It is slow, and goes its own way: the row and the column of a cell come of a climb from its bit up to the whole
-//! matrix.
+//! This is slow, and computed in another way: the row and the column of a cell are found by climbing from its bit up to
+//! the whole matrix.
 use crate::made::put;
 use run_model::outcome::BadFile;
 use std::alloc::Global;
@@ -15,7 +15,7 @@ pub(crate) struct Told {
     pub(crate) pairs: Vec<(u32, u32)>,
 }
 
-/// The numbers of a header, and where the bits L and where the file end.
+/// The numbers of a header, and where the bits L begin and where the file ends.
 #[derive(Clone, Copy)]
 struct Fields {
     rows: u64,
@@ -27,12 +27,12 @@ struct Fields {
     end: u64,
 }
 
-/// The byte at a place, or 0 behind the end.
+/// The byte at a place; 0 after the end.
 fn byte_at(bytes: &[u8], place: u64) -> u8 {
     bytes.get(place as usize).copied().unwrap_or(0)
 }
 
-/// The number in so many bytes from a place on, the most significant first.
+/// The number in `count` bytes from a place on, most significant first.
 pub(crate) fn number(bytes: &[u8], from: u64, count: u64) -> u64 {
     let mut value: u64 = 0;
     'bytes: for i in 0..count {
@@ -42,13 +42,13 @@ pub(crate) fn number(bytes: &[u8], from: u64, count: u64) -> u64 {
     value
 }
 
-/// The bit at a place of the bytes from a place on, the most significant of each first.
+/// The bit at a place, counted from a byte on, most significant of each byte first.
 fn bit_at(bytes: &[u8], from: u64, place: u64) -> bool {
     let byte = byte_at(bytes, from.wrapping_add(place / 8));
     (byte >> ((7 - place % 8) as u32)) & 1 == 1
 }
 
-/// How many bytes hold so many bits.
+/// How many bytes hold this many bits.
 fn bytes_for(bits: u64) -> u64 {
     if bits % 8 == 0 {
         bits / 8
@@ -57,7 +57,7 @@ fn bytes_for(bits: u64) -> u64 {
     }
 }
 
-/// The least number from 1 on whose power of two is at least both sizes.
+/// The least number, at least 1, such that 2 to this power is at least both sizes.
 pub(crate) fn height_of(rows: u64, cols: u64) -> u64 {
     let mut side: u64 = 2;
     'heights: for height in 1..64u64 {
@@ -85,7 +85,7 @@ fn fields_of(bytes: &[u8]) -> Fields {
     }
 }
 
-/// The first of the five tests of the header that fails.
+/// The first of the five tests of the header that the bytes fail.
 fn header_fault(bytes: &[u8], fields: Fields) -> Option<BadFile> {
     let length = bytes.len() as u64;
     if length < 29 {
@@ -106,7 +106,7 @@ fn header_fault(bytes: &[u8], fields: Fields) -> Option<BadFile> {
     None
 }
 
-/// The bits T, and behind them the bits L.
+/// The bits T, followed by the bits L.
 fn bits_of(rt: &impl Abort, alloc: Global, bytes: &[u8], fields: Fields) -> Vec<bool> {
     let mut bits = Vec::new(alloc);
     'tree: for i in 0..fields.tree {
@@ -134,7 +134,7 @@ fn ones(bits: &[bool], from: u64, to: u64) -> u64 {
     found
 }
 
-/// Whether all levels but the last are the bits T, and the last has the bits L.
+/// Whether all levels but the last consist of the bits T, and the last of the bits L.
 fn lengths_fit(bits: &[bool], fields: Fields) -> bool {
     let mut groups: u64 = if fields.tree == 0 && fields.cells == 0 {
         0
@@ -153,7 +153,7 @@ fn lengths_fit(bits: &[bool], fields: Fields) -> bool {
     end == fields.tree && groups.wrapping_mul(4) == fields.cells
 }
 
-/// The first bit of the first group of four that has no 1.
+/// The first bit of the first group of four without a 1.
 fn zero_group(bits: &[bool]) -> Option<u64> {
     'groups: for group in 0..bits.len() as u64 / 4 {
         let at = group.wrapping_mul(4);
@@ -164,7 +164,7 @@ fn zero_group(bits: &[bool]) -> Option<u64> {
     None
 }
 
-/// The places of the 1s of T: the k-th, from 0 on, is the parent of the group with the number k + 1.
+/// The places of the 1s in T: the k-th, counted from 0, is the parent of group number k + 1.
 fn parents_of(rt: &impl Abort, alloc: Global, bits: &[bool], tree: u64) -> Vec<u64> {
     let mut places = Vec::new(alloc);
     'places: for place in 0..tree {
@@ -175,7 +175,7 @@ fn parents_of(rt: &impl Abort, alloc: Global, bits: &[bool], tree: u64) -> Vec<u
     places
 }
 
-/// The row and the column of the bit at a place of L, by a climb from group to parent.
+/// The row and the column of the bit at a place of L, by climbing from groups to their parents.
 fn cell_of(parents: &[u64], bit: u64, height: u64) -> (u64, u64) {
     let mut place = bit;
     let mut side: u64 = 1;
@@ -191,7 +191,7 @@ fn cell_of(parents: &[u64], bit: u64, height: u64) -> (u64, u64) {
     (row, col)
 }
 
-/// The pairs of the 1s of L, or the first of them that lies outside the sizes.
+/// The pairs for the 1s in L, or the first that lies outside the sizes.
 fn pairs_of(
     rt: &impl Abort,
     alloc: Global,
@@ -216,7 +216,7 @@ fn pairs_of(
     Ok(pairs)
 }
 
-/// Whether a bit is set behind so many, in the last of their bytes.
+/// Whether a bit is set after this many bits, in the last of their bytes.
 fn has_padding(bytes: &[u8], from: u64, count: u64) -> bool {
     'places: for place in count..bytes_for(count).wrapping_mul(8) {
         if bit_at(bytes, from, place) {
@@ -226,7 +226,7 @@ fn has_padding(bytes: &[u8], from: u64, count: u64) -> bool {
     false
 }
 
-/// The first of the tests of the bits' numbers and groups that fails.
+/// The first test of the numbers and groups of bits that the bytes fail.
 fn bits_fault(bits: &[bool], fields: Fields) -> Option<BadFile> {
     if !lengths_fit(bits, fields) {
         return Some(BadFile::Lengths);
@@ -235,7 +235,7 @@ fn bits_fault(bits: &[bool], fields: Fields) -> Option<BadFile> {
     Some(BadFile::ZeroGroup { at })
 }
 
-/// The first of the two tests of what is behind the bits that fails.
+/// The first of the two tests of what follows the bits that the bytes fail.
 fn end_fault(bytes: &[u8], fields: Fields) -> Option<BadFile> {
     if has_padding(bytes, 29, fields.tree) || has_padding(bytes, fields.cells_from, fields.cells) {
         return Some(BadFile::Padding);
@@ -260,7 +260,7 @@ fn pairs_told(
     pairs_of(rt, alloc, bits.as_slice(), fields)
 }
 
-/// What the bytes of a file tell, or the first of the ten tests that they fail.
+/// The relation in the bytes of a file, or the first of the ten tests that they fail.
 pub(crate) fn answered(rt: &impl Abort, alloc: Global, bytes: &[u8]) -> Result<Told, BadFile> {
     let fields = fields_of(bytes);
     if let Some(fault) = header_fault(bytes, fields) {

@@ -1,4 +1,4 @@
-//! What any engine is put to, and an engine over a table of its own for each.
+//! The trials that any engine is put to, and an engine over a table of its own for each.
 ghost use Rattle.rel_model.specs.Views.{IsOf};
 
 use crate::{changed, read, several, several_chance, several_faults, several_full, written};
@@ -10,7 +10,7 @@ use std::alloc::Global;
 use std::process::Abort;
 use std::thread::Threads;
 
-/// What an engine is put to: an assertion of its own for each test.
+/// A trial for an engine: each has an assertion of its own.
 pub(crate) enum Trial {
     SmallFaults,
     HeaderFaults,
@@ -66,7 +66,7 @@ fn put_to<E: Engine>(rt: &impl Abort, alloc: Global, engine: &mut E, trial: Tria
     }
 }
 
-/// A table of so many node words, by their logarithm, and its first seat.
+/// A table, given the binary logarithm of its number of node words, and its first seat.
 fn table(rt: &impl Abort, alloc: Global, bits: u32) -> (PairTable, Seat)
     ensures { IsOf result.1 result.0 }
 {
@@ -77,12 +77,13 @@ fn table(rt: &impl Abort, alloc: Global, bits: u32) -> (PairTable, Seat)
     }
 }
 
-/// Puts an engine of one worker over a table of its own, of 2^16 node words, to a trial.
+/// Puts an engine of one worker over a table of its own, with 2^16 node words, to a trial.
 pub(crate) fn on_an_engine<R: Threads + Abort + Sync>(rt: &R, alloc: Global, trial: Trial) {
     on_a_table(rt, alloc, 16, trial);
 }
 
-/// Puts an engine of one worker over a table of its own, of so many node words by their logarithm, to a trial.
+/// Puts an engine of one worker over a table of its own, given the binary logarithm of its number of node words, to a
+/// trial.
 pub(crate) fn on_a_table<R: Threads + Abort + Sync>(
     rt: &R,
     alloc: Global,

@@ -1,4 +1,4 @@
-//! Relations as they are written: small files byte for byte, and the limit.
+//! Writing relations: small files byte for byte, and the limit.
 #![tactic(auto, using(rel_model::proofs::Workers::keeps_stands, rel_model::proofs::Workers::keeps_trans, rel_model::proofs::Workers::gives_stands))]
 
 ghost use Rattle.rel_model.specs.Worker.{Stands, Keeps};
@@ -12,7 +12,7 @@ use rel_model::{Rel, Shape};
 use std::alloc::Global;
 use std::process::Abort;
 
-/// Asserts what a relation of listed pairs is written as.
+/// Asserts the bytes of a file of listed pairs.
 fn is_written<E: Engine>(
     rt: &impl Abort,
     alloc: Global,
@@ -143,7 +143,7 @@ const WRITTEN: &[(u32, u32, &[(u32, u32)], &[u8])] = &[
     ),
 ];
 
-/// Asserts what small relations are written as, byte for byte.
+/// Asserts the files of small relations byte for byte.
 pub(crate) fn small_relations<E: Engine>(rt: &impl Abort, alloc: Global, engine: &mut E) {
     'cases: for &(rows, cols, pairs, wanted) in WRITTEN {
         is_written(rt, alloc, engine, rows, cols, pairs, wanted);
@@ -173,7 +173,7 @@ fn is_long<E: Engine>(
     }
 }
 
-/// Asserts that full squares are written up to the limit, and refused past it.
+/// Asserts that full squares are written up to the limit, and refused above it.
 pub(crate) fn past_the_limit<E: Engine>(rt: &impl Abort, alloc: Global, engine: &mut E) {
     'cases: for (side, wanted) in [
         (4096, Ok(29 + 699_051 + 2_097_152)),

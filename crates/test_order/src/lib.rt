@@ -1,4 +1,4 @@
-//! Tests of orders and classes over a node table, beside slow answers from lists of pairs.
+//! Tests of orders and classes over a node table, against slow answers from lists of pairs.
 #![tactic(auto)]
 
 #[cfg(test)]

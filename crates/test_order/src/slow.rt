@@ -1,4 +1,4 @@
-//! Slow answers from lists of pairs, cell by cell, each by the membership clause of its call.
+//! Slow answers from lists of pairs, computed cell by cell from the membership clause of each call.
 /// The calls.
 #[derive(Clone, Copy, Debug)]
 pub(crate) enum Call {
@@ -13,7 +13,7 @@ pub(crate) enum Call {
     Inf,
 }
 
-/// A relation of n elements, and one from them to so many columns, as pairs.
+/// A relation of n elements, and another from them to a number of columns, as pairs.
 #[derive(Clone, Copy, Debug)]
 pub(crate) struct Operands<'a> {
     pub(crate) n: u32,
@@ -52,7 +52,7 @@ fn is_proper(given: Operands, x: u32, y: u32) -> bool {
     x != y && has(given.r, x, y)
 }
 
-/// Whether a pair is a step with none between.
+/// Whether a pair is a step with no element in between.
 fn is_step(given: Operands, x: u32, y: u32) -> bool {
     let between = (0..given.n).any(|z| is_proper(given, x, z) && is_proper(given, z, y));
     is_proper(given, x, y) && !between

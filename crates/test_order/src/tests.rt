@@ -1,4 +1,4 @@
-//! Each call over relations in a node table, beside what their lists of pairs say.
+//! Each call over relations in a node table, compared with what their lists of pairs say.
 #![tactic(auto, using(crate::proofs::Later::rel_later, crate::proofs::Later::given_stands))]
 
 ghost use Rattle.std.specs.Prelude.{◌≡◌, ◌≤◌, IfOk};
@@ -15,7 +15,7 @@ use rel_order::{greatest, hasse, inf, lbd, least, less, quot, sup, ubd};
 use std::alloc::Global;
 use std::process::Abort;
 
-/// The calls, each once.
+/// The calls, once each.
 const CALLS: &[Call] = &[
     Call::Less,
     Call::Hasse,
@@ -28,7 +28,7 @@ const CALLS: &[Call] = &[
     Call::Inf,
 ];
 
-/// The relation of some pairs, put in one after another.
+/// The relation of some pairs, added one after another.
 fn of_pairs<Q: Quads>(rt: &impl Abort, q: &mut Q, shape: Shape, pairs: &[(u32, u32)]) -> Rel
     requires row { shape.rows ≤ size_limit }
     requires col { shape.cols ≤ size_limit }
@@ -53,7 +53,7 @@ fn of_pairs<Q: Quads>(rt: &impl Abort, q: &mut Q, shape: Shape, pairs: &[(u32, u
     r
 }
 
-/// What a call answers.
+/// The answer of a call.
 fn answer_of<Q: Quads>(q: &mut Q, call: Call, r: Rel, s: Rel) -> Result<Rel, Lack>
     requires left { Stands (Q.worker q.old) r }
     requires right { Stands (Q.worker q.old) s }
@@ -108,7 +108,7 @@ fn are_right<Q: Quads>(rt: &impl Abort, q: &mut Q, r: Rel, s: Rel, given: Operan
     }
 }
 
-/// Asserts what each call answers of two lists of pairs.
+/// Asserts what each call answers on two lists of pairs.
 fn is_right<Q: Quads>(rt: &impl Abort, q: &mut Q, given: Operands)
     requires elements { given.n ≤ size_limit }
     requires columns { given.cols ≤ size_limit }
@@ -123,14 +123,14 @@ fn is_right<Q: Quads>(rt: &impl Abort, q: &mut Q, given: Operands)
     are_right(rt, q, r, s, given);
 }
 
-/// A pair put behind others.
+/// Appends a pair to others.
 fn put(rt: &impl Abort, pairs: &mut Vec<(u32, u32)>, pair: (u32, u32)) {
     if pairs.push(pair).is_err() {
         panic!(rt; "no memory");
     }
 }
 
-/// The pairs of the cells of a grid whose bits are set, from the lowest on.
+/// The pairs of the cells of a grid whose bits are set, lowest first.
 fn cells_of(rt: &impl Abort, alloc: Global, shape: Shape, bits: u64) -> Vec<(u32, u32)> {
     let mut pairs = Vec::new(alloc);
     let mut left = bits;
@@ -145,7 +145,7 @@ fn cells_of(rt: &impl Abort, alloc: Global, shape: Shape, bits: u64) -> Vec<(u32
     pairs
 }
 
-/// Asserts what each call answers of a relation of at most 3 elements and of all vectors, and of the relation twice.
+/// Asserts what each call answers on a relation of at most 3 elements with all vectors, and with the relation itself.
 fn with_all_vectors<Q: Quads>(rt: &impl Abort, alloc: Global, q: &mut Q, n: u32, r: &[(u32, u32)])
     requires { n ≤ 3 }
 {
@@ -186,7 +186,7 @@ fn with_all_vectors<Q: Quads>(rt: &impl Abort, alloc: Global, q: &mut Q, n: u32,
     }
 }
 
-/// Asserts what each call answers of all relations of at most 3 elements.
+/// Asserts what each call answers on all relations of at most 3 elements.
 pub(crate) fn up_to_3<Q: Quads>(rt: &impl Abort, alloc: Global, q: &mut Q) {
     'sizes: for n in 0..4 {
         'sets: for bits in 0..512 {
@@ -210,7 +210,7 @@ fn stepped(state: u64) -> u64 {
         .wrapping_add(1442695040888963407)
 }
 
-/// The pairs of a grid that a generator picks, one in so many.
+/// The pairs of a grid that a generator picks, one in a given number.
 fn some_of(
     rt: &impl Abort,
     alloc: Global,
@@ -232,7 +232,7 @@ fn some_of(
     pairs
 }
 
-/// Asserts what each call answers of relations of 9 and 17 elements that a generator picks.
+/// Asserts what each call answers on relations of 9 and 17 elements that a generator picks.
 pub(crate) fn pseudo_random<Q: Quads>(rt: &impl Abort, alloc: Global, q: &mut Q) {
     'sizes: for n in [9, 17] {
         assert!(rt; n <= 17);
@@ -258,7 +258,8 @@ fn pseudo_random_relations_of_9_and_17_elements_are_answered_as_by_lists(rt: Hos
     on_a_crew(&rt, rt.alloc(), Trial::PseudoRandom);
 }
 
-/// The pairs (i, j) of numbers from 1 on where the first divides the second, or where both have one remainder by 3.
+/// The pairs (i, j) of numbers from 1 on such that the first divides the second, or such that both have the same
+/// remainder modulo 3.
 fn numbers(rt: &impl Abort, alloc: Global, n: u32, divides: bool) -> Vec<(u32, u32)>
     requires { n ≤ 12 }
 {
@@ -278,7 +279,7 @@ fn numbers(rt: &impl Abort, alloc: Global, n: u32, divides: bool) -> Vec<(u32, u
     pairs
 }
 
-/// Asserts what each call answers of an order and of an equivalence, of all two-element columns.
+/// Asserts what each call answers on an order and on an equivalence, with all two-element columns.
 pub(crate) fn divisors<Q: Quads>(rt: &impl Abort, alloc: Global, q: &mut Q) {
     let n = 12;
     let mut s = Vec::new(alloc);
@@ -308,7 +309,7 @@ fn the_divisors_up_to_12_and_the_remainders_by_3_are_answered_as_by_lists(rt: Ho
     on_a_crew(&rt, rt.alloc(), Trial::Divisors);
 }
 
-/// Asserts that the classes of the pairs of 1,024 elements with one image are the projection to that image.
+/// Asserts that the classes of the pairs of 1,024 elements with one image under a projection are that projection.
 fn is_its_projection<Q: Quads>(rt: &impl Abort, q: &mut Q, map: Rel)
     requires { Stands (Q.worker q.old) map }
 {
@@ -325,7 +326,7 @@ fn is_its_projection<Q: Quads>(rt: &impl Abort, q: &mut Q, map: Rel)
     assert!(rt; q.same(found, map));
 }
 
-/// Asserts that of both projections, whose 2^20 elements have 2^10 classes.
+/// Asserts this for both projections, whose 2^20 elements have 2^10 classes.
 pub(crate) fn regular<Q: Quads>(rt: &impl Abort, q: &mut Q) {
     let Ok(quotient) = first(q, 1024, 1024) else {
         panic!(rt; "no room")

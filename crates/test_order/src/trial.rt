@@ -1,4 +1,4 @@
-//! What any keeper of quads is put to, and a crew over a table of its own for each.
+//! The trials that any worker of quads is put to, and a crew over a table of its own for each.
 #![tactic(auto)]
 
 ghost use Rattle.rel_model.specs.Views.{IsOf};
@@ -11,7 +11,7 @@ use std::alloc::Global;
 use std::process::Abort;
 use std::thread::Threads;
 
-/// What a keeper of quads is put to: an assertion of its own for each test.
+/// A trial for a worker of quads: each has an assertion of its own.
 pub(crate) enum Trial {
     UpTo3,
     PseudoRandom,
@@ -19,7 +19,7 @@ pub(crate) enum Trial {
     Regular,
 }
 
-/// Puts a keeper of quads to a trial.
+/// Puts a worker of quads to a trial.
 fn put<Q: Quads>(rt: &impl Abort, alloc: Global, q: &mut Q, trial: Trial) {
     match trial {
         Trial::UpTo3 => tests::up_to_3(rt, alloc, q),

@@ -6,7 +6,7 @@ use std::alloc::Global;
 use std::test::Fail;
 use test_faults::reply;
 
-/// The script of a text written out, or its fault.
+/// A text's script written out, or its fault.
 pub fn answer(alloc: Global, text: &[u8]) -> Result<String, Fail> {
     if text.len() > SCRIPT_LIMIT {
         return Ok(String::from_str(alloc, "too long")?);

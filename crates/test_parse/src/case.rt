@@ -1,20 +1,21 @@
-//! A case as a line: a script, in which control bytes stand as their pictures, and repeated parts in brackets.
+//! A case as a line: a script in which control bytes are replaced by their pictures, and repeated parts are in
+//! brackets.
 use crate::answer::answer;
 use std::alloc::Global;
 use std::test::Fail;
 use test_faults::{printed, refusal};
 
-/// What a byte of a line stands in.
+/// What the bytes of a line are part of.
 #[derive(Clone, Copy, Debug)]
 enum Inside {
     Text,
-    /// Behind `«`, how often the part is to stand.
+    /// After `«`: how often the part is repeated.
     Count,
-    /// Behind the blank, the part up to `»`.
+    /// After the blank: the part, up to `»`.
     Part,
 }
 
-/// A line with each part in brackets as often as they say: `«3 ab»` is `ababab`.
+/// A line in which each part in brackets is repeated: `«3 ab»` is `ababab`.
 fn repeated(alloc: Global, line: &[u8]) -> Result<Vec<u8>, Fail> {
     let mut out = Vec::new(alloc);
     let mut part: Vec<u8> = Vec::new(alloc);
@@ -47,7 +48,7 @@ fn repeated(alloc: Global, line: &[u8]) -> Result<Vec<u8>, Fail> {
     Ok(out)
 }
 
-/// Bytes in which control bytes stood as their pictures, of U+2400 on.
+/// Bytes in which control bytes were replaced by their pictures, from U+2400 on.
 fn without_pictures(alloc: Global, line: &[u8]) -> Result<Vec<u8>, Fail> {
     let mut bytes = Vec::new(alloc);
     let mut is_picture = false;
@@ -68,8 +69,8 @@ fn without_pictures(alloc: Global, line: &[u8]) -> Result<Vec<u8>, Fail> {
     Ok(bytes)
 }
 
-/// What a case is answered: the script written out, or its fault. Behind `?` only whether it is read, behind `!` the
-/// expression of its PRINT as it is written.
+/// The answer for a case: the script written out, or its fault. After `?`, only whether it is read; after `!`, the
+/// expression of its PRINT as it is printed.
 pub fn answered(alloc: Global, line: &str) -> Result<String, Fail> {
     let line = repeated(alloc, line.as_bytes())?;
     let text = without_pictures(alloc, line.as_slice())?;

@@ -1,5 +1,5 @@
-//! What scripts are answered: each line of standard input is a script, and is written again with its answer behind an
-//! arrow. Titles begin with `==`.
+//! The answers for scripts: each line of standard input is a script, and is written again, followed by an arrow and its
+//! answer. Titles begin with `==`.
 #![tactic(auto)]
 
 mod answer;

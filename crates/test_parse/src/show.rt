@@ -1,4 +1,4 @@
-//! Scripts written out, to be compared: each name, number, operator and construct with its place.
+//! Scripts written out for comparison: each name, number, operator and construct with its place.
 mod command;
 mod definition;
 mod expression;
@@ -54,7 +54,7 @@ fn push_item(alloc: Global, out: &mut String, item: &Item) -> Result<(), Fail> {
     }
 }
 
-/// A script written out, its items in order, each with a full stop.
+/// A script written out: its items in order, each with a full stop.
 pub fn shown(alloc: Global, script: &Script) -> Result<String, Fail> {
     let mut out = String::new(alloc);
     'items: for item in script.items.as_slice() {

@@ -1,11 +1,11 @@
-//! What rewriting makes of an expression, as a line of text.
+//! The result of rewriting an expression, as a line of text.
 use crate::texts::{are_one, places_of, script_of, text_of, value_of};
 use lang_model::syntax::Expr;
 use rv_rewrite::{Step, calm, check_step, rewrite};
 use std::alloc::Global;
 use std::test::Fail;
 
-/// Whether a step is one by its own rule, and by no other.
+/// Whether a step is valid by its own rule, and by no other.
 pub fn is_of_one_rule(step: Step) -> bool {
     let mut step = step;
     let own = step.rule;
@@ -18,7 +18,7 @@ pub fn is_of_one_rule(step: Step) -> bool {
     true
 }
 
-/// A step more: its rule, the node before and after it, and the places of the latter.
+/// Appends a step: its rule, the node before and after it, and the places of the latter.
 fn push_step(alloc: Global, out: &mut String, step: &Step) -> Result<(), Fail> {
     let before = text_of(alloc, &step.before)?;
     let after = text_of(alloc, &step.after)?;
@@ -29,7 +29,7 @@ fn push_step(alloc: Global, out: &mut String, step: &Step) -> Result<(), Fail> {
     Ok(())
 }
 
-/// What rewriting makes of an expression: each step, and the calm tree behind `=`.
+/// The result of rewriting an expression: each step, and the calm tree after `=`.
 fn answer_of(alloc: Global, expr: &Expr) -> Result<String, Fail> {
     let mut out = String::new(alloc);
     let found = rewrite(alloc, expr)?;
@@ -49,7 +49,7 @@ fn answer_of(alloc: Global, expr: &Expr) -> Result<String, Fail> {
     Ok(out)
 }
 
-/// What rewriting makes of the expression of a text.
+/// The result of rewriting the expression of a text.
 pub fn answer(alloc: Global, text: &[u8]) -> Result<String, Fail> {
     let Some(script) = script_of(alloc, text)? else {
         return Ok(String::from_str(alloc, "no script")?);

@@ -1,18 +1,18 @@
-//! A case as a line: an expression, in which repeated parts stand in brackets.
+//! A case as a line: an expression in which repeated parts are in brackets.
 use std::alloc::Global;
 use std::test::Fail;
 
-/// What a byte of a line stands in.
+/// What the bytes of a line are part of.
 #[derive(Clone, Copy, Debug)]
 enum Inside {
     Text,
-    /// Behind `«`, how often the part is to stand.
+    /// After `«`: how often the part is repeated.
     Count,
-    /// Behind the blank, the part up to `»`.
+    /// After the blank: the part, up to `»`.
     Part,
 }
 
-/// A line with each part in brackets as often as they say: `«3 ab»` is `ababab`.
+/// A line in which each part in brackets is repeated: `«3 ab»` is `ababab`.
 pub fn repeated(alloc: Global, line: &[u8]) -> Result<Vec<u8>, Fail> {
     let mut out = Vec::new(alloc);
     let mut part: Vec<u8> = Vec::new(alloc);

@@ -1,4 +1,4 @@
-//! Calm expressions by chance, whose operands fit.
+//! Random calm expressions whose operands fit.
 ghost use Rattle.std.specs.Prelude.{◌<◌, ◌≤◌, ◌-◌};
 
 use lang_model::syntax::{Base, Expr, Link, Name, Op2, Place};
@@ -30,7 +30,7 @@ impl Draws {
     }
 }
 
-/// The sizes of a relation, each by its number from 0 to 2.
+/// The sizes of a relation, each given by a number from 0 to 2.
 #[derive(Clone, Copy)]
 pub(crate) struct Sizes {
     pub(crate) rows: u8,
@@ -38,13 +38,13 @@ pub(crate) struct Sizes {
 }
 
 impl Sizes {
-    /// Those of the transposed relation.
+    /// The sizes of the transposed relation.
     fn turned(self) -> Sizes {
         sized(self.cols, self.rows)
     }
 }
 
-/// The sizes of so many rows and columns.
+/// The sizes with these numbers of rows and columns.
 fn sized(rows: u8, cols: u8) -> Sizes {
     Sizes { rows, cols }
 }
@@ -100,7 +100,7 @@ fn minus(alloc: Global, places: &mut Columns, of: Expr) -> Result<Expr, NoMemory
     })
 }
 
-/// An expression with so many signs `^`.
+/// An expression with a number of signs `^`.
 fn turned(alloc: Global, places: &mut Columns, of: Expr, times: u32) -> Result<Expr, NoMemory> {
     let of = Box::new(alloc, of)?;
     Ok(Expr::Turned {
@@ -110,7 +110,7 @@ fn turned(alloc: Global, places: &mut Columns, of: Expr, times: u32) -> Result<E
     })
 }
 
-/// A chain with one link more.
+/// A chain with one more link.
 fn with_link(
     places: &mut Columns,
     rest: &mut Vec<Link>,
@@ -156,10 +156,10 @@ fn quotient(
     })
 }
 
-/// How an expression is made of two others, R and S.
+/// How an expression is built from two others, R and S.
 #[derive(Clone, Copy)]
 enum Form {
-    /// `R|S` and its like.
+    /// `R|S` and similar.
     Plain(Op2),
     /// `syq(R,S)`.
     Quotient,
@@ -171,9 +171,9 @@ enum Form {
     RightResidual,
     /// `-(-S*R^)`.
     LeftResidual,
-    /// `R|S|R|S` and `R&S&R&S`, with copies or with others.
+    /// `R|S|R|S` and `R&S&R&S`, with the same R and S in both halves or with others.
     Four(Op2),
-    /// `(R\S)&R^/S^`, with copies or with others.
+    /// `(R\S)&R^/S^`, with the same R and S in both halves or with others.
     Halves,
 }
 
@@ -199,7 +199,7 @@ fn form_of(number: u32) -> Form {
     }
 }
 
-/// How many nodes a form has beside R and S.
+/// How many nodes a form has besides R and S.
 fn own_nodes(form: Form) -> u32
     ensures { 1 ≤ result }
 {
@@ -211,12 +211,12 @@ fn own_nodes(form: Form) -> u32
     }
 }
 
-/// Whether R and S stand twice in a form.
+/// Whether R and S occur twice in a form.
 fn is_twice(form: Form) -> bool {
     matches!(form, Form::Four(_) | Form::Halves)
 }
 
-/// The sizes of two operands with an operator between them, over a size between them.
+/// The sizes of two operands for a result of these sizes, given the size between them.
 fn plain_sizes(op: Op2, of: Sizes, mid: u8) -> (Sizes, Sizes) {
     match op {
         Op2::Or | Op2::And => (of, of),
@@ -226,7 +226,7 @@ fn plain_sizes(op: Op2, of: Sizes, mid: u8) -> (Sizes, Sizes) {
     }
 }
 
-/// The sizes of R and S in a form of these sizes, over a size between them.
+/// The sizes of R and S for a form of these sizes, given the size between them.
 fn operand_sizes(form: Form, of: Sizes, mid: u8) -> (Sizes, Sizes) {
     match form {
         Form::Plain(op) | Form::Negated(op) | Form::Four(op) => plain_sizes(op, of, mid),
@@ -242,7 +242,7 @@ fn operand_sizes(form: Form, of: Sizes, mid: u8) -> (Sizes, Sizes) {
     }
 }
 
-/// What a form makes of R and S, where each stands in it once.
+/// The expression built from R and S, each of which occurs once.
 fn made(
     alloc: Global,
     places: &mut Columns,
@@ -278,7 +278,7 @@ fn made(
     }
 }
 
-/// What a form makes of R and S, each twice.
+/// The expression built from R and S, each of which occurs twice.
 fn made_twice(
     alloc: Global,
     places: &mut Columns,
@@ -306,7 +306,7 @@ fn made_twice(
     }
 }
 
-/// An expression with at most so many nodes.
+/// An expression with at most `nodes` nodes.
 #[cycle(chance)]
 pub(crate) fn expression(
     alloc: Global,
@@ -339,7 +339,7 @@ pub(crate) fn expression(
     }
 }
 
-/// How many nodes R and S have together at most, where a form of them has at most so many.
+/// How many nodes R and S have together at most, if a form of them has at most `nodes`.
 fn shared(nodes: u32, form: Form) -> u32
     ensures { result ≤ nodes - 1 }
 {
@@ -347,7 +347,7 @@ fn shared(nodes: u32, form: Form) -> u32
     if is_twice(form) { left / 2 } else { left }
 }
 
-/// An expression of a form with at most so many nodes, or a name where they are too few.
+/// An expression of a form with at most `nodes` nodes; a name if these are too few.
 #[cycle(chance)]
 fn composed(
     alloc: Global,
@@ -374,7 +374,7 @@ fn composed(
     made(alloc, places, form, first.0, first.1)
 }
 
-/// Two expressions, each with at most so many nodes.
+/// Two expressions, each with at most `nodes` nodes.
 #[cycle(chance)]
 fn both(
     alloc: Global,

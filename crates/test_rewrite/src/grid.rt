@@ -1,4 +1,4 @@
-//! A slow evaluator of calm expressions, over matrices of at most 16 rows and columns: each operation by its membership
+//! A slow evaluator of calm expressions over matrices of at most 16 rows and columns: each operation by its membership
 //! formula, cell by cell.
 use lang_model::syntax::{Base, Expr, Op2};
 
@@ -20,12 +20,12 @@ impl Grid {
         }
     }
 
-    /// Whether a pair is in.
+    /// Whether it has a pair.
     pub(crate) fn has(&self, i: u32, j: u32) -> bool {
         (self.cells[(i % 16) as usize] >> (j % 16)) % 2 == 1
     }
 
-    /// Puts a pair in.
+    /// Adds a pair.
     pub(crate) fn put(&mut self, i: u32, j: u32) {
         self.cells[(i % 16) as usize] |= 1 << (j % 16);
     }
@@ -39,7 +39,7 @@ impl Grid {
     }
 }
 
-/// Which pairs are in the result of an operation on two relations, or on the first alone.
+/// Which pairs the result of an operation on two relations, or on one, has.
 #[derive(Clone, Copy)]
 enum Formula {
     Complement,
@@ -48,7 +48,7 @@ enum Formula {
     Link(Op2),
 }
 
-/// Whether the pair (i, j) is in.
+/// Whether the result has the pair (i, j).
 fn is_in(formula: Formula, r: &Grid, s: &Grid, i: u32, j: u32) -> bool {
     match formula {
         Formula::Complement => !r.has(i, j),
@@ -62,7 +62,7 @@ fn is_in(formula: Formula, r: &Grid, s: &Grid, i: u32, j: u32) -> bool {
     }
 }
 
-/// The sizes of the result, where those of the operands fit.
+/// The sizes of the result, if those of the operands fit.
 fn sizes(formula: Formula, r: &Grid, s: &Grid) -> Option<(u32, u32)> {
     let (fits, rows, cols) = match formula {
         Formula::Complement => (true, r.rows, r.cols),
@@ -75,7 +75,7 @@ fn sizes(formula: Formula, r: &Grid, s: &Grid) -> Option<(u32, u32)> {
     if fits { Some((rows, cols)) } else { None }
 }
 
-/// The result of an operation, where its operands fit.
+/// The result of an operation, if its operands fit.
 fn result_of(formula: Formula, r: &Grid, s: &Grid) -> Option<Grid> {
     let (rows, cols) = sizes(formula, r, s)?;
     let mut grid = Grid::none(rows, cols);
@@ -89,13 +89,14 @@ fn result_of(formula: Formula, r: &Grid, s: &Grid) -> Option<Grid> {
     Some(grid)
 }
 
-/// Relations by their names of three bytes: a letter of A, B and C, and two digits, each the number of a size from 0 to 2.
+/// Relations by their names of three bytes: a letter of A, B and C, and two digits, each the number of a size from 0 to
+/// 2.
 #[derive(Drop)]
 pub(crate) struct Relations {
     pub(crate) grids: [Grid; 27],
 }
 
-/// The number of a relation: its letter counts nine, its first digit three.
+/// The number of a relation: its letter counts nine times, its first digit three times.
 fn number_of(letter: u8, left: u8, right: u8) -> usize {
     let letter = usize::from(letter.wrapping_sub(b'A'));
     let left = usize::from(left.wrapping_sub(b'0'));
@@ -114,7 +115,7 @@ fn relation(relations: &Relations, name: &[u8]) -> Option<Grid> {
     }
 }
 
-/// The value of a calm expression, where its operands fit.
+/// The value of a calm expression, if its operands fit.
 pub(crate) fn value_of(relations: &Relations, expr: &Expr) -> Option<Grid> {
     match expr {
         Expr::Ref { name, .. } => relation(relations, name.bytes()),

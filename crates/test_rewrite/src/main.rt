@@ -1,5 +1,5 @@
-//! What rewriting makes of expressions: each line of standard input is an expression, and is written again with its
-//! steps and its calm tree behind an arrow. Titles begin with `==`.
+//! The results of rewriting expressions: each line of standard input is an expression, and is written again, followed
+//! by an arrow, its steps and its calm tree. Titles begin with `==`.
 #![tactic(auto)]
 
 mod answer;

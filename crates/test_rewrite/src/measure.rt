@@ -1,7 +1,7 @@
 //! How large expressions are.
 use lang_model::syntax::Expr;
 
-/// How many nodes an expression has, and with them how many signs `^`.
+/// How many nodes an expression has, and how many signs `^`.
 #[derive(Clone, Copy)]
 pub(crate) struct Size {
     pub(crate) nodes: u64,
@@ -9,12 +9,12 @@ pub(crate) struct Size {
 }
 
 impl Size {
-    /// What each step lowers.
+    /// The number that each step lowers.
     pub(crate) fn measure(self) -> u64 {
         self.nodes.wrapping_add(self.signs)
     }
 
-    /// Both together, and so many signs at a node more.
+    /// The sum of both, with more signs at one node.
     fn with(self, other: Size) -> Size {
         Size {
             nodes: self.nodes.wrapping_add(other.nodes),
@@ -23,7 +23,7 @@ impl Size {
     }
 }
 
-/// A node with so many signs.
+/// A node with a number of signs.
 fn node(signs: u64) -> Size {
     Size { nodes: 1, signs }
 }

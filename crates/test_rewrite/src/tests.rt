@@ -1,3 +1,3 @@
-//! Expressions that are no lines of a table.
+//! Expressions that do not fit into a table of lines.
 mod by_chance;
 mod long;

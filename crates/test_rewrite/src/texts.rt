@@ -1,4 +1,4 @@
-//! Expressions of texts, and the texts and places of expressions.
+//! Expressions from texts, and the texts and places of expressions.
 use lang_model::limits::SCRIPT_LIMIT;
 use lang_model::syntax::{Command, Expr, Item, Place, Script};
 use rv_parse::parse;
@@ -6,7 +6,8 @@ use rv_spell::print_expr;
 use std::alloc::Global;
 use std::test::Fail;
 
-/// The script that prints an expression. The expression stands alone on the second line, so that each column is its own.
+/// The script that prints an expression. The expression is alone on the second line, so its columns are those of its
+/// own text.
 pub fn script_of(alloc: Global, text: &[u8]) -> Result<Option<Script>, Fail> {
     let mut script = Vec::new(alloc);
     script.extend_from_slice(b"PRINT\n")?;
@@ -35,7 +36,7 @@ pub fn text_of(alloc: Global, expr: &Expr) -> Result<String, Fail> {
     Ok(String::from_str(alloc, str::from_utf8(text.as_slice())?)?)
 }
 
-/// A place more, by its column alone on the second line.
+/// Appends a place, which is just a column on the second line.
 fn push_place(alloc: Global, out: &mut String, at: Place) -> Result<(), Fail> {
     if !out.is_empty() {
         out.push_str(",")?;
@@ -47,7 +48,7 @@ fn push_place(alloc: Global, out: &mut String, at: Place) -> Result<(), Fail> {
     Ok(())
 }
 
-/// The places of arguments more.
+/// Appends the places of arguments.
 #[cycle(places)]
 fn push_args(alloc: Global, out: &mut String, args: &[Expr]) -> Result<(), Fail> {
     'args: for arg in args {
@@ -56,7 +57,7 @@ fn push_args(alloc: Global, out: &mut String, args: &[Expr]) -> Result<(), Fail>
     Ok(())
 }
 
-/// The places of an expression more.
+/// Appends the places of an expression.
 #[cycle(places)]
 fn push_places(alloc: Global, out: &mut String, expr: &Expr) -> Result<(), Fail> {
     match expr {
@@ -101,7 +102,7 @@ pub fn places_of(alloc: Global, expr: &Expr) -> Result<String, Fail> {
     Ok(places)
 }
 
-/// Whether two expressions have one text and the same places.
+/// Whether two expressions have the same text and the same places.
 pub fn are_one(alloc: Global, a: &Expr, b: &Expr) -> Result<bool, Fail> {
     let (text, other) = (print_expr(alloc, a)?, print_expr(alloc, b)?);
     if text.as_slice() != other.as_slice() {

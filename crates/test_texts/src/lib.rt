@@ -1,4 +1,4 @@
-//! Tests of the texts that the program writes, beside the texts that its formats prescribe.
+//! Tests of the texts that the program writes, compared with the texts that its formats prescribe.
 #![tactic(auto)]
 
 #[cfg(test)]

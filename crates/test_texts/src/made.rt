@@ -1,4 +1,4 @@
-//! What the tests are given: a table, relations of listed pairs, names, and texts as they are compared.
+//! What the tests are given: a table, relations of listed pairs, names, and texts to compare with.
 ghost use Rattle.std.specs.Prelude.{◌≤◌, IsTrue};
 ghost use Rattle.rel_model.specs.Listed.{AreWithin};
 ghost use Rattle.rel_model.specs.Views.{IsOf};

@@ -10,14 +10,14 @@ use rv_print::fault_text;
 use std::alloc::Global;
 use std::process::Abort;
 
-/// Whether an outcome is that a command is done.
+/// Whether an outcome says that a command is done.
 fn is_done(outcome: &Outcome) -> bool
     ensures { outcome.now ≡ Done → result ≡ true }
 {
     matches!(outcome, Outcome::Done)
 }
 
-/// Asserts what a refusal is told as.
+/// Asserts how a refusal is reported.
 fn is_told(rt: &impl Abort, alloc: Global, outcome: Outcome, wanted: &str) {
     assert!(rt; !is_done(&outcome));
     match fault_text(alloc, &outcome) {

@@ -1,4 +1,4 @@
-//! What some calls of the language come to, as it is shown.
+//! The results of some calls of the language, as they are shown.
 #![tactic(auto, using(rel_model::proofs::Workers::keeps_stands, rel_model::proofs::Workers::keeps_trans, rel_model::proofs::Workers::gives_stands))]
 
 use crate::made::{are, table};

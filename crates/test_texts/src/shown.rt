@@ -1,4 +1,4 @@
-//! Relations as they are shown: the worked rows of the formats, and the limits.
+//! Relations as they are shown: the worked examples of the formats, and the limits.
 #![tactic(auto, using(rel_model::proofs::Workers::keeps_stands, rel_model::proofs::Workers::keeps_trans, rel_model::proofs::Workers::gives_stands))]
 
 ghost use Rattle.rel_model.specs.Worker.{Stands, Keeps};
@@ -14,7 +14,7 @@ use rv_print::{PrintRefused, count_line, listing, matrix, shape_text};
 use std::alloc::Global;
 use std::process::Abort;
 
-/// Asserts what a relation of listed pairs is shown as.
+/// Asserts how a relation of listed pairs is shown.
 fn is_shown<E: Engine>(
     rt: &impl Abort,
     alloc: Global,
@@ -91,7 +91,7 @@ fn rows_and_columns_stand_in_their_places(rt: HostRuntime) {
     }
 }
 
-/// Asserts what the type and the number of pairs of a relation are shown as.
+/// Asserts how the type and the number of pairs of a relation are shown.
 fn is_counted<E: Engine>(
     rt: &impl Abort,
     alloc: Global,

@@ -2,7 +2,7 @@
 use Rattle.rel_model.specs.Words.{Extends}
 use Rattle.rel_model.specs.Quads.{Keeper, IsKeeper}
 
--- all that was seen stays seen
+-- everything that was seen stays seen
 pub record Stays (old new : Keeper) : Type 0 where
   pub before : IsKeeper old
   pub after : IsKeeper new

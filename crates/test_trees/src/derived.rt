@@ -1,4 +1,4 @@
-//! Residuals, the symmetric quotient and closures, beside their formulas.
+//! Residuals, the symmetric quotient and closures, compared with their formulas.
 #![tactic(auto, using(rel_model::proofs::Workers::keeps_stands, rel_model::proofs::Workers::keeps_trans, rel_model::proofs::Workers::gives_stands))]
 
 ghost use Rattle.std.specs.Prelude.{◌≡◌, ◌<◌, ◌≤◌, IfOk};
@@ -35,7 +35,7 @@ fn at<C: Core>(rt: &impl Abort, core: &mut C, r: Rel, i: u32, j: u32) -> bool
     core.has(r, i, j)
 }
 
-/// Asserts that a pair is in a relation exactly where it is wanted.
+/// Asserts that a pair is in a relation if and only if it is wanted.
 fn has_as_wanted<C: Core>(rt: &impl Abort, core: &mut C, r: Rel, i: u32, j: u32, wanted: bool)
     requires standing { Stands (C.worker core.old) r }
     ensures keeps { Keeps (C.worker core.old) (C.worker core.new) }
@@ -44,8 +44,8 @@ fn has_as_wanted<C: Core>(rt: &impl Abort, core: &mut C, r: Rel, i: u32, j: u32,
     assert!(rt; found == wanted, "at {i}, {j}: {wanted} is wanted");
 }
 
-/// Whether the formula of a call holds of the pair (x, y) as far as the element z goes: that it does for all z, or for
-/// some z.
+/// Whether the formula of a call holds of the pair (x, y) as far as the element z is concerned. It has to hold for all
+/// z, or for some z.
 fn holds<C: Core>(
     rt: &impl Abort,
     core: &mut C,
@@ -69,7 +69,7 @@ fn holds<C: Core>(
     }
 }
 
-/// Whether the formula of a call holds of the pair (x, y), where walks have up to two steps.
+/// Whether the formula of a call holds of the pair (x, y); walks have up to two steps.
 fn formula<C: Core>(
     rt: &impl Abort,
     core: &mut C,
@@ -102,7 +102,7 @@ fn formula<C: Core>(
     if for_all { all } else { some }
 }
 
-/// What a call makes of two relations whose types fit it.
+/// The result of a call on two relations whose types fit it.
 fn made<C: Core>(rt: &impl Abort, core: &mut C, call: Call, r: Rel, s: Rel) -> Rel
     requires left { Stands (C.worker core.old) r }
     requires right { Stands (C.worker core.old) s }
@@ -129,7 +129,7 @@ fn made<C: Core>(rt: &impl Abort, core: &mut C, call: Call, r: Rel, s: Rel) -> R
     }
 }
 
-/// Asserts that a call makes of two relations what its formula says of each pair.
+/// Asserts that the result of a call on two relations is what its formula says of each pair.
 fn is_its_formula<C: Core>(rt: &impl Abort, core: &mut C, call: Call, r: Rel, s: Rel)
     requires left { Stands (C.worker core.old) r }
     requires right { Stands (C.worker core.old) s }
@@ -144,7 +144,7 @@ fn is_its_formula<C: Core>(rt: &impl Abort, core: &mut C, call: Call, r: Rel, s:
     }
 }
 
-/// Asserts the same of all two relations of one type with sizes up to 2.
+/// Asserts the same for all pairs of relations of one type with sizes up to 2.
 fn small_ones_are_their_formulas(rt: &impl Abort, alloc: Global, call: Call, shape: Shape)
     requires row { shape.rows ≤ 2 }
     requires col { shape.cols ≤ 2 }
@@ -180,7 +180,7 @@ fn closures_are_their_formulas(rt: HostRuntime) {
     }
 }
 
-/// The relation of the pairs (i, i + 1), and (n - 1, 0) where it is a cycle.
+/// The relation of the pairs (i, i + 1), and (n - 1, 0) for a cycle.
 fn path<C: Core>(core: &mut C, n: u32, is_cycle: bool) -> Result<Rel, Lack>
     requires some { 0 < n }
     requires few { n ≤ 64 }
@@ -261,7 +261,7 @@ fn cycle_is_full<C: Core>(rt: &impl Abort, core: &mut C) {
     assert!(rt; core.same(closure, full));
 }
 
-/// Asserts that the closure of a path of five has the pairs whose first element comes first.
+/// Asserts that the closure of a path of five has the pairs whose first element is before the second.
 fn path_is_not<C: Core>(rt: &impl Abort, core: &mut C) {
     let line = given(rt, path(core, 5, false));
     let ways = given(rt, trans(core, line));
@@ -295,7 +295,7 @@ fn the_square_of_two_steps_is_one_pair(rt: HostRuntime) {
     ends_of_three(&rt, &mut Plain::new(rt.alloc()));
 }
 
-/// Asserts what the quotient of one pair of 2 by 3 by itself is.
+/// Asserts what the symmetric quotient of a 2 × 3 relation of one pair by itself is.
 fn quotient_of_one_pair<C: Core>(rt: &impl Abort, core: &mut C) {
     let r = given(rt, core.single(Shape { rows: 2, cols: 3 }, 0, 0));
     let quotient = given(rt, syq(core, r, r));
@@ -311,7 +311,7 @@ fn the_quotient_of_one_pair_by_itself(rt: HostRuntime) {
     quotient_of_one_pair(&rt, &mut Plain::new(rt.alloc()));
 }
 
-/// Asserts that the identity of so many elements has the diagonal alone.
+/// Asserts that the identity of n elements has the diagonal only.
 fn has_the_diagonal<C: Core>(rt: &impl Abort, core: &mut C, n: u32)
     requires { n ≤ 18 }
 {

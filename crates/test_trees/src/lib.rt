@@ -1,4 +1,4 @@
-//! Tests of the operators on trees, beside plain relations, and of those over any worker.
+//! Tests of the operators on trees against plain relations, and of the operators over any worker.
 #![tactic(auto)]
 
 #[cfg(test)]

@@ -1,4 +1,4 @@
-//! What the tests are made of: tables, quads of plain relations, and comparisons.
+//! What the tests are built from: tables, quads of plain relations, and comparisons.
 #![tactic(auto, using(crate::proofs::Later::stays_kept, crate::proofs::Later::stays_on, crate::proofs::Later::stands_kept, crate::proofs::Later::stands_later, crate::proofs::Later::rel_later, crate::proofs::Later::none_stands), unfolding(rel_model::specs::Trees::bottom_height, rel_model::specs::Trees::top_height))]
 
 ghost use Rattle.std.specs.Prelude.{◌≡◌, ◌<◌, ◌≤◌};
@@ -27,7 +27,7 @@ pub fn table(rt: &impl Abort, alloc: Global) -> (PairTable, Seat)
     }
 }
 
-/// The quad of one cell: a rectangle less the rectangles above and on the left of its last cell.
+/// The quad of one cell: a rectangle minus the rectangles above its last cell and to the left of it.
 pub fn cell(rt: &impl Abort, nodes: &mut Nodes, height: u8, i: u32, j: u32) -> Quad
     requires low { bottom_height ≤ height }
     requires high { height ≤ top_height }
@@ -56,7 +56,7 @@ pub fn cell(rt: &impl Abort, nodes: &mut Nodes, height: u8, i: u32, j: u32) -> Q
     }
 }
 
-/// A quad with one cell more.
+/// A quad with one more cell.
 pub fn with_cell(rt: &impl Abort, nodes: &mut Nodes, q: Quad, i: u32, j: u32) -> Quad
     requires stands { QuadStands nodes.old q }
     requires row { i < side_of q.height }
@@ -72,7 +72,7 @@ pub fn with_cell(rt: &impl Abort, nodes: &mut Nodes, q: Quad, i: u32, j: u32) ->
     }
 }
 
-/// The quad of a plain relation, made cell by cell.
+/// The quad of a plain relation, built cell by cell.
 pub fn quad_of<P: Core>(
     rt: &impl Abort,
     nodes: &mut Nodes,
@@ -135,7 +135,7 @@ pub fn plain_of<P: Core>(rt: &impl Abort, plain: &mut P, shape: Shape, count: u3
     r
 }
 
-/// Asserts that a quad has the cells of a plain relation alone.
+/// Asserts that a quad has exactly the cells of a plain relation.
 pub fn has_the_cells<P: Core>(rt: &impl Abort, nodes: &mut Nodes, plain: &mut P, q: Quad, r: Rel)
     requires stands { QuadStands nodes.old q }
     requires standing { Stands (P.worker plain.old) r }

@@ -1,4 +1,4 @@
-//! Compositions of trees beside those of plain relations.
+//! Compositions of trees compared with those of plain relations.
 #![tactic(auto, using(crate::proofs::Later::stays_kept, crate::proofs::Later::stays_on, crate::proofs::Later::stands_kept, crate::proofs::Later::stands_later, crate::proofs::Later::rel_later, crate::proofs::Later::none_stands), unfolding(rel_model::specs::Trees::bottom_height, rel_model::specs::Trees::top_height))]
 
 ghost use Rattle.std.specs.Prelude.{◌≡◌, ◌<◌, ◌≤◌};
@@ -42,7 +42,7 @@ fn products_agree<P: Core>(
     assert!(rt; found == wanted, "the product");
 }
 
-/// Asserts that two pseudo-random relations compose as plain ones.
+/// Asserts that two pseudo-random relations compose like plain ones.
 fn two_products_agree<P: Core>(
     rt: &impl Abort,
     nodes: &mut Nodes,
@@ -68,7 +68,7 @@ fn two_products_agree<P: Core>(
     products_agree(rt, nodes, plain, r, s, height);
 }
 
-/// Asserts that each two of some pseudo-random relations compose as plain ones.
+/// Asserts that each two of some pseudo-random relations compose like plain ones.
 fn all_products_agree(
     rt: &impl Abort,
     alloc: Global,
@@ -99,7 +99,7 @@ fn all_products_agree(
     }
 }
 
-/// Asserts that each two relations with sizes up to 2 compose as plain ones.
+/// Asserts that each two relations with sizes up to 2 compose like plain ones.
 fn small_products_agree(rt: &impl Abort, alloc: Global, left: Shape, right: Shape)
     requires rows { left.rows ≤ 2 }
     requires middle { left.cols ≤ 2 }
@@ -116,7 +116,7 @@ fn small_products_agree(rt: &impl Abort, alloc: Global, left: Shape, right: Shap
     }
 }
 
-/// Asserts that two relations with sizes up to 2 compose as plain ones.
+/// Asserts that two relations with sizes up to 2 compose like plain ones.
 fn two_small_products_agree<P: Core>(
     rt: &impl Abort,
     nodes: &mut Nodes,

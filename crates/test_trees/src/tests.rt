@@ -1,4 +1,4 @@
-//! The trees beside plain relations, and what the operators note.
+//! The trees compared with plain relations, and what the operators note.
 #![tactic(auto, using(crate::proofs::Later::stays_kept, crate::proofs::Later::stays_on, crate::proofs::Later::stands_kept, crate::proofs::Later::stands_later, crate::proofs::Later::rel_later, crate::proofs::Later::none_stands), unfolding(rel_model::specs::Trees::bottom_height, rel_model::specs::Trees::top_height))]
 
 ghost use Rattle.std.specs.Prelude.{◌≡◌, ◌≢◌, ◌<◌, ◌≤◌, ◌+◌};
@@ -22,7 +22,7 @@ use rel_plain::Plain;
 use std::alloc::Global;
 use std::process::Abort;
 
-/// What an operator makes of two quads, or of the first one if it has one operand.
+/// The result of an operator on two quads, or on the first one if it has one operand.
 fn result_of(rt: &impl Abort, nodes: &mut Nodes, op: Op, a: Quad, b: Quad) -> Quad
     requires a_stands { QuadStands nodes.old a }
     requires b_stands { QuadStands nodes.old b }
@@ -44,7 +44,7 @@ fn result_of(rt: &impl Abort, nodes: &mut Nodes, op: Op, a: Quad, b: Quad) -> Qu
     }
 }
 
-/// What an operator makes of two plain relations, or of the first one if it has one operand.
+/// The result of an operator on two plain relations, or on the first one if it has one operand.
 fn plain_result<P: Core>(rt: &impl Abort, plain: &mut P, op: Op, r: Rel, s: Rel) -> Rel
     requires left { Stands (P.worker plain.old) r }
     requires right { Stands (P.worker plain.old) s }
@@ -69,7 +69,7 @@ fn plain_result<P: Core>(rt: &impl Abort, plain: &mut P, op: Op, r: Rel, s: Rel)
     }
 }
 
-/// Asserts that each operator makes in the trees what it makes of plain relations: the same cells, under the same name.
+/// Asserts that each operator has the same result on trees as on plain relations: the same cells, under the same name.
 fn agree<P: Core>(
     rt: &impl Abort,
     nodes: &mut Nodes,
@@ -238,7 +238,7 @@ fn of_16_vertices(rt: &impl Abort, nodes: &mut Nodes, by: u32, more: u32) -> Qua
     q
 }
 
-/// Asserts that right after an operator its result is looked up.
+/// Asserts that the result of an operator is found by a look-up right after it was made.
 fn finds_what_it_made(rt: &impl Abort, nodes: &mut Nodes, op: Op, a: Quad, b: Quad)
     requires a_stands { QuadStands nodes.old a }
     requires b_stands { QuadStands nodes.old b }
@@ -260,7 +260,7 @@ fn finds_what_it_made(rt: &impl Abort, nodes: &mut Nodes, op: Op, a: Quad, b: Qu
     assert!(rt; found == Some(made), "{op:?}");
 }
 
-/// Looks up an operator whose operands have the lesser name first.
+/// Looks up the result of an operator, with the lesser name first.
 fn look_in_order(nodes: &mut Nodes, op: Op, a: Quad, b: Quad) -> Option<Quad>
     requires a_stands { QuadStands nodes.old a }
     requires b_stands { QuadStands nodes.old b }

@@ -1,4 +1,4 @@
-//! What `check` answers, as a line of text.
+//! The answer of `check`, as a line of text.
 use lang_model::faults::TypeFault;
 use lang_model::limits::SCRIPT_LIMIT;
 use lang_model::syntax::{Name, Place};
@@ -7,7 +7,7 @@ use rv_types::check;
 use std::alloc::Global;
 use std::test::Fail;
 
-/// A kind of faults, the name and the place.
+/// A kind of fault, the name and the place.
 fn line(alloc: Global, kind: &str, name: &Name, at: Place) -> Result<String, Fail> {
     let text = str::from_utf8(name.bytes())?;
     Ok(format!(in alloc; "{kind} {text} {}:{}", at.line, at.column)?)
@@ -33,7 +33,7 @@ fn shown(alloc: Global, fault: &TypeFault) -> Result<String, Fail> {
     }
 }
 
-/// The fault of a script, or `none`.
+/// The fault of a script; `none` if it has none.
 pub fn answer(alloc: Global, text: &[u8]) -> Result<String, Fail> {
     if text.len() > SCRIPT_LIMIT {
         return Ok(String::from_str(alloc, "too long")?);

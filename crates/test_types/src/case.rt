@@ -1,13 +1,13 @@
-//! A case as a line: a script, in which control bytes stand as their pictures.
+//! A case as a line: a script in which control bytes are replaced by their pictures.
 use crate::answer::answer;
 use std::alloc::Global;
 use std::test::Fail;
 
-/// Sixteen definitions, each of which calls the one before.
+/// Sixteen definitions, each calling the one before.
 const TOWER: &[u8] =
     b"A(R)=R.\nB(R)=A(R).\nC(R)=B(R).\nD(R)=C(R).\nE(R)=D(R).\nF(R)=E(R).\nG(R)=F(R).\nH(R)=G(R).\nV(R)=H(R).\nJ(R)=V(R).\nK(R)=J(R).\nM(R)=K(R).\nN(R)=M(R).\nP(R)=N(R).\nQ(R)=P(R).\nS(R)=Q(R).\n";
 
-/// Adds bytes in which control bytes stood as their pictures, of U+2400 on.
+/// Appends bytes in which control bytes were replaced by their pictures, from U+2400 on.
 fn push_text(text: &mut Vec<u8>, line: &[u8]) -> Result<(), Fail> {
     let mut is_picture = false;
     'bytes: for byte in line {
@@ -27,7 +27,7 @@ fn push_text(text: &mut Vec<u8>, line: &[u8]) -> Result<(), Fail> {
     Ok(())
 }
 
-/// What a case is answered: `none`, or the fault of the script. What stands behind `%` stands behind the tower.
+/// The answer for a case: `none`, or the fault of the script. What follows `%` comes after the sixteen definitions.
 pub fn answered(alloc: Global, line: &str) -> Result<String, Fail> {
     let mut text = Vec::new(alloc);
     match line.as_bytes() {

@@ -1,28 +1,29 @@
-//! Whether a square is so dense that it is quicker by blocks than by quarters.
+//! Whether a square is so dense that going by blocks is quicker than by quarters.
 ghost use Rattle.std.specs.Prelude.{◌≡◌, true, length};
 ghost use Rattle.rel_model.specs.Quads.{Keeper, QuadStands, ReadsQuads};
 
 use quad_nodes::Nodes;
 use rel_model::Quad;
 
-/// The weight with which a square comes in.
+/// The weight with which the count of a square begins.
 const FIRST: u32 = 12;
 
 /// The weight of a dense square.
 const DENSE: u32 = 42;
 
-/// What an empty square takes off.
+/// How much an empty square lowers the weight.
 const EMPTY: u32 = 4;
 
-/// Weighs the squares of 16 rows or more under a quad, on from a weight, to which each new one adds 1, and from which
-/// each empty one takes off `EMPTY`; a square is told from those met before by the place of its name. The walk ends
-/// where the weight is that of a dense square, or none.
+/// Adds up a weight over the distinct squares of at least 16 rows under a quad, starting from `weight`: each new square
+/// adds 1, and each empty one subtracts `EMPTY`. The walk stops once the weight is that of a dense square, or 0. `seen`
+/// is a direct-mapped cache of the names met so far, so a square may be counted twice.
 fn weighed_under(nodes: &mut Nodes, q: Quad, seen: &mut [u32], weight: u32) -> u32
     requires stands { QuadStands nodes.old q }
     requires places { length seen.old ≡ 256 }
     ensures same_places { length seen.new ≡ 256 }
     ensures reads { ReadsQuads nodes.old nodes.new }
 {
+    // This use makes the checker open the invariant of `nodes`, which the early returns below need.
     let _ = nodes.bottom();
     if weight == 0 || weight >= DENSE {
         return weight;
@@ -45,10 +46,10 @@ fn weighed_under(nodes: &mut Nodes, q: Quad, seen: &mut [u32], weight: u32) -> u
     weighed_under(nodes, se, seen, third)
 }
 
-/// Whether a quad is a square of 256 rows that is quicker by blocks than by quarters: many different squares are under
-/// it, and few empty ones.
+/// Whether going by blocks is quicker for a quad: it is a square of 256 rows with many different squares under it and
+/// few empty ones. This is a guess; no result depends on it.
 ///
-/// It is a call of its own, so that its array is on the stack once.
+/// Keeping this a separate call puts its array on the stack once, not in each frame of a recursion.
 #[inline(never)]
 pub fn blocks_pay(nodes: &mut Nodes, q: Quad) -> bool
     requires stands { QuadStands nodes.old q }

@@ -1,4 +1,4 @@
-//! The quad of blocks in tree order.
+//! The quad with given blocks in tree order.
 ghost use Rattle.std.specs.Prelude.{ℕ, ◌≡◌, ◌<◌, ◌≤◌, ◌+◌, ◌-◌, ◌*◌, length, slice_index, IfOk};
 ghost use Rattle.rel_model.specs.Cells.{block_cells};
 ghost use Rattle.rel_model.specs.Trees.{bottom_height, top_height};
@@ -34,7 +34,7 @@ fn name_blocks(
     Ok(())
 }
 
-/// The corner of the four names from 4k on.
+/// The corner of the four names from place 4k on.
 #[inline(always)]
 fn corner_at(nodes: &mut Nodes, names: &[u32], k: usize, height: u8) -> Result<Quad, Missed>
     requires room { 4 * k + 4 ≤ length names.now }
@@ -60,7 +60,7 @@ fn corner_at(nodes: &mut Nodes, names: &[u32], k: usize, height: u8) -> Result<Q
     )
 }
 
-/// Puts corners over names of a height, four names under each, from the first of them on.
+/// Makes a corner for each four names of a height, from the first of them on.
 fn close_level(nodes: &mut Nodes, names: &mut [u32], count: usize, height: u8) -> Result<(), Missed>
     requires kept { IsKeeper nodes.old }
     requires room { 4 * count ≤ length names.old }
@@ -80,7 +80,7 @@ fn close_level(nodes: &mut Nodes, names: &mut [u32], count: usize, height: u8) -
     Ok(())
 }
 
-/// Names the squares of a height that blocks are cut into, one level after the other.
+/// Names the squares of a height that consist of these blocks, level by level.
 fn gather_level(
     nodes: &mut Nodes,
     blocks: &[u64],
@@ -108,8 +108,8 @@ fn gather_level(
     close_level(nodes, names, count, height - 1)
 }
 
-/// The quad of the first blocks of a list in tree order, of a height up to 8. All blocks are named first, and then the
-/// squares of each height before those of the next.
+/// The quad of a height up to 8 that consists of the first blocks of a list, in tree order. Names all blocks first, and
+/// then level by level, all squares of a height before those of the next.
 pub fn gather_blocks(nodes: &mut Nodes, blocks: &[u64], height: u8) -> Result<Quad, Missed>
     requires low { bottom_height ≤ height }
     requires high { height ≤ 8 }

@@ -1,4 +1,5 @@
-//! The blocks of a quad: those of its north-west quarter first, then north-east, south-west and south-east.
+//! The blocks of a quad in tree order: those of the north-west quarter first, then north-east, south-west and
+//! south-east.
 ghost use Rattle.std.specs.Prelude.{ℕ, ◌≡◌, ◌<◌, ◌≤◌, ◌+◌, ◌-◌, ◌*◌, length, slice_index, true, false};
 ghost use Rattle.rel_model.specs.Cells.{block_cells, cells_transpose};
 ghost use Rattle.rel_model.specs.Trees.{bottom_height};
@@ -10,7 +11,8 @@ use leaf_block::block_transpose;
 use quad_nodes::Nodes;
 use rel_model::Quad;
 
-/// Puts the four quarters of name `k` at the places from 4k on; turned, north-east and south-west change places.
+/// Puts the four quarters of name `k` at the places from 4k on; for a transposition, north-east and south-west are
+/// exchanged.
 #[inline(always)]
 fn open_name(nodes: &mut Nodes, names: &mut [u32], k: usize, height: u8, turned: bool)
     requires room { 4 * k + 4 ≤ length names.old }
@@ -33,8 +35,8 @@ fn open_name(nodes: &mut Nodes, names: &mut [u32], k: usize, height: u8, turned:
     names[4 * k + 3] = se.name;
 }
 
-/// Opens the first names of a list, from the last of them to the first, so that each is read before its place is
-/// taken. No read waits for that of another name.
+/// Expands the first names of a list into their quarters, from the last name to the first, so that each is read before
+/// its place is overwritten. No read waits for that of another name.
 fn open_level(nodes: &mut Nodes, names: &mut [u32], count: usize, height: u8, turned: bool)
     requires kept { IsKeeper nodes.old }
     requires room { 4 * count ≤ length names.old }
@@ -49,7 +51,7 @@ fn open_level(nodes: &mut Nodes, names: &mut [u32], count: usize, height: u8, tu
     }
 }
 
-/// A block, or turned its transposition.
+/// A block, or its transposition.
 #[inline(always)]
 fn block_turned(bits: u64, turned: bool) -> u64
     ensures cells { block_cells result ≡ turned_cells turned (block_cells bits) }
@@ -57,7 +59,7 @@ fn block_turned(bits: u64, turned: bool) -> u64
     if turned { block_transpose(bits) } else { bits }
 }
 
-/// Writes the blocks of names of blocks, or those of their transpositions.
+/// Writes the blocks with these names, or their transpositions.
 fn read_blocks(nodes: &mut Nodes, names: &[u32], bottom: u8, turned: bool, out: &mut [u64])
     requires kept { IsKeeper nodes.old }
     requires room { length out.old ≤ length names.now }
@@ -77,7 +79,7 @@ fn read_blocks(nodes: &mut Nodes, names: &[u32], bottom: u8, turned: bool, out: 
     }
 }
 
-/// Writes the blocks of the first names of a list, one level after the other.
+/// Writes the blocks of the first names of a list, level by level.
 fn spill_level(
     nodes: &mut Nodes,
     names: &mut [u32],
@@ -105,9 +107,9 @@ fn spill_level(
     spill_level(nodes, names, 4 * count, height - 1, turned, out);
 }
 
-/// Writes the blocks of a quad of a height up to 8 in tree order, as the leaves of a k²-tree follow one another in
-/// Brisaboa, Ladra and Navarro's array of leaves, those of empty squares among them. The names of each height are
-/// opened before those of the next, so that their reads need not wait for one another.
+/// Writes the blocks of a quad of a height up to 8 in tree order, those of empty squares too, in the order of the array
+/// of leaves of a k²-tree (Brisaboa, Ladra and Navarro). Expands all names of a height before those of the next, so
+/// that their reads need not wait for one another.
 pub fn spill_blocks(nodes: &mut Nodes, q: Quad, out: &mut [u64])
     requires stands { QuadStands nodes.old q }
     requires high { q.height ≤ 8 }
@@ -122,8 +124,8 @@ pub fn spill_blocks(nodes: &mut Nodes, q: Quad, out: &mut [u64])
     spill_level(nodes, &mut names, 1, q.height, false, out);
 }
 
-/// Writes the blocks of the transposition of a quad of a height up to 8 in tree order, as `spill_blocks` does: where
-/// a name is opened, north-east and south-west change places, and each block is transposed.
+/// Writes the blocks of the transposition of a quad of a height up to 8 in tree order, like `spill_blocks`. In each
+/// expansion of a name north-east and south-west are exchanged, and each block is transposed.
 pub fn spill_turned(nodes: &mut Nodes, q: Quad, out: &mut [u64])
     requires stands { QuadStands nodes.old q }
     requires high { q.height ≤ 8 }

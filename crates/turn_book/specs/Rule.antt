@@ -11,7 +11,7 @@ use Rattle.turn_book.specs.Logs.{Begins, EachWithin, weigh, weigh_all}
 use Rattle.turn_book.specs.Origins.{Origin}
 use Rattle.turn_book.specs.Views.{longer, shorter}
 
--- one for a ticket, and nothing for none
+-- one for a ticket, zero for none
 abbrev pub waiting_for : Option ℕ → ℕ
 waiting_for None = 0
 waiting_for (Some t) = 1
@@ -20,7 +20,7 @@ module _ {S : Type 0} where
   abbrev pub waiting : Known S → ℕ
   waiting v = waiting_for v.ticket
 
-  -- a number added up over all views
+  -- the sum of a number over all views
   abbrev pub total : (Known S → ℕ) → List (Known S) → ℕ
   total f [] = 0
   total f (v ∷ vs) = f v + total f vs
@@ -29,7 +29,7 @@ module _ {S : Type 0} where
   abbrev pub lists : Known S → List (List Entry)
   lists v = v.mine ∷ v.joined
 
-  -- a pass that was joined away has no ticket and holds no entry
+  -- a pass that was joined to another has no ticket and holds no entry
   pub record IsSpent (v : Known S) : Type 0 where
     pub no_ticket : v.ticket ≡ None
     pub no_turn : v.turn ≡ false
@@ -37,14 +37,14 @@ module _ {S : Type 0} where
     pub no_mine : v.mine ≡ []
     pub no_joined : v.joined ≡ []
 
-  -- the passes are as many as the book was made for
+  -- the passes stand for as many as the book was made for
   pub record Counted (passes : ℕ) (views : List (Known S)) : Type 0 where
     pub in_all : total (λ v. v.parts) views ≡ passes
     pub few : passes < 2 ^ 32
     pub idle : (id : ℕ) (v : Known S) → get_elem? views id ≡ some v → v.parts ≡ 0 → IsSpent v
 
-  -- tickets and turns, counted modulo 2^64: as many turns were served as there were tickets drawn, but for those of
-  -- the passes that wait, which have the numbers that come next, each another one
+  -- tickets and turns, modulo 2^64: the tickets drawn are the turns served plus the passes that wait, and these have
+  -- the next numbers, all different
   pub record Queued (ticket serving : ℕ) (views : List (Known S)) : Type 0 where
     pub served : ℕ
     pub serving_is : serving ≡ served % 2 ^ 64
@@ -54,7 +54,7 @@ module _ {S : Type 0} where
     pub apart : (i j : ℕ) (v w : Known S) (t : ℕ) → get_elem? views i ≡ some v → get_elem? views j ≡ some w
         → v.ticket ≡ Some t → w.ticket ≡ Some t → i ≡ j
 
-  -- what a pass has seen and added, in the present log
+  -- the logs that passes have seen are prefixes of the present log, and the entries that they added make it up
   pub record Logged (present : List Entry) (views : List (Known S)) : Type 0 where
     pub seen : (id : ℕ) (v : Known S) → get_elem? views id ≡ some v → Begins v.seen present
     pub told : (id : ℕ) (v : Known S) → get_elem? views id ≡ some v → Begins v.told present
@@ -62,8 +62,8 @@ module _ {S : Type 0} where
     pub in_order : (id : ℕ) (v : Known S) → get_elem? views id ≡ some v → EachWithin (lists v) present
     pub exactly : (h : Entry → ℕ) → total (λ v. weigh_all h (lists v)) views ≡ weigh h present
 
-  -- the value stands in the slot, or the pass whose turn it is has it; while it is out, the present log is the one
-  -- with which it was taken
+  -- either the value is in the slot, or the pass with the turn has it; while it is out, the present log is the one with
+  -- which it was taken
   module _ (log : S → List Entry) (origin : S → Origin) (first : S) where
     pub record IsHome (present : List Entry) (home : maybe.Option (Option S)) (views : List (Known S)) : Type 0 where
       pub value : S
@@ -127,12 +127,13 @@ module _ {S : Type 0} where
     joined = v.joined;
   }
 
-  -- what the second pass gets
+  -- what the second pass gets when it is split off
   abbrev pub right_of : Known S → Known S
   right_of v =
       record { origin = v.origin; parts = 1; ticket = None; turn = false; seen = v.seen; told = []; mine = []; joined = [] }
 
-  -- what one pass is when another was joined to it: it keeps the longer of both logs, and has been told of the shorter
+  -- what a pass is after another was joined to it: it has seen the longer of both logs, and keeps the shorter until it
+  -- is known to be a prefix
   abbrev pub both_of : Known S → Known S → Known S
   both_of v w = record {
     origin = v.origin;

@@ -1,4 +1,4 @@
--- What each kind of step tells the pass that takes it.
+-- What each kind of step adds to the view of the pass that takes it.
 use Rattle.std.specs.Prelude.{◌≡◌, ◌≢◌, ◌<◌, ◌^◌, ℕ, true, false, List, [], ◌∷◌, ◌++◌, length, drop, Option, Some, None}
 use Rattle.atomic_table.specs.Table.{Me, Step}
 use Rattle.turn_book.specs.Entries.{Entry}
@@ -20,7 +20,7 @@ module _ {S : Type 0} where
     joined = v.joined;
   }
 
-  -- the turn has come, and the log is seen
+  -- the turn has come, and the value's log is seen
   abbrev pub holding : List Entry → Known S → Known S
   holding log v = record {
     origin = v.origin;
@@ -33,7 +33,7 @@ module _ {S : Type 0} where
     joined = v.joined;
   }
 
-  -- the turn is given back
+  -- the value is put back, with the entries that were added
   abbrev pub given : List Entry → Known S → Known S
   given log v = record {
     origin = v.origin;
@@ -46,7 +46,7 @@ module _ {S : Type 0} where
     joined = v.joined;
   }
 
-  -- what was told is seen
+  -- after a join, the shorter log is known to be a prefix of the longer one, and is dropped
   abbrev pub settled : Known S → Known S
   settled v = record {
     origin = v.origin;
@@ -59,27 +59,27 @@ module _ {S : Type 0} where
     joined = v.joined;
   }
 
-  -- a ticket is drawn, which is the number found
+  -- a ticket is drawn; its number is the one found
   abbrev pub draw_tells : Step (Option S) → Me (Option S) (Known S) → ℕ → Me (Option S) (Known S) → Type 0
   draw_tells s m found n = n ≡ (drawn found m.0, m.1)
 
-  -- a ticket is drawn, where it is this number; else nothing changes
+  -- a ticket is drawn if the next number is this one; otherwise nothing changes
   pub record DrawWhereTells (number : ℕ) (m : Me (Option S) (Known S)) (found : ℕ)
       (n : Me (Option S) (Known S)) : Type 0 where
     pub there : found ≡ number → n ≡ (drawn number m.0, m.1)
     pub gone : found ≢ number → n ≡ m
 
-  -- the same, of the step
+  -- the same for the step
   abbrev pub draw_where_tells : Step (Option S) → Me (Option S) (Known S) → ℕ → Me (Option S) (Known S) → Type 0
   draw_where_tells s m found n = DrawWhereTells s.first m found n
 
-  -- the value is taken: its log begins with what was seen, and it has the book's origin
+  -- the value is taken: what was seen is a prefix of its log, and it has the book's origin
   abbrev pub TakesValue : (S → List Entry) → (S → Origin) → Me (Option S) (Known S) → Me (Option S) (Known S) → Type 0
   TakesValue log origin m n = (y : S) × (n ≡ (holding (log y) m.0, (0, Some y) ∷ m.1)) × Begins m.0.seen (log y)
       × ((x : S) → m.0.origin ≡ Some x → origin y ≡ origin x)
 
-  -- a look at the number that is served: at the own ticket the value is taken, whose log begins with what was seen;
-  -- else nothing changes
+  -- a look at the number being served: if it is the pass's own ticket, the value is taken, and what was seen is a
+  -- prefix of its log; otherwise nothing changes
   pub record LookTells (log : S → List Entry) (origin : S → Origin) (m : Me (Option S) (Known S)) (found : ℕ)
       (n : Me (Option S) (Known S)) : Type 0 where
     pub own : m.0.ticket ≡ Some found → TakesValue log origin m n
@@ -89,20 +89,20 @@ module _ {S : Type 0} where
       → Me (Option S) (Known S) → Type 0
   look_tells log origin s m found n = LookTells log origin m found n
 
-  -- the value is in hand: its log begins with what was seen, and it has the book's origin
+  -- the pass has the value: what was seen is a prefix of its log, and it has the book's origin
   abbrev pub HasValue : (S → List Entry) → (S → Origin) → Me (Option S) (Known S) → Type 0
   HasValue log origin m = (y : S) × (m.1 ≡ (0, Some y) ∷ []) × Begins m.0.seen (log y)
       × ((x : S) → m.0.origin ≡ Some x → origin y ≡ origin x)
 
-  -- the next number is served, and the value is given back
+  -- the value is put back, and the next number is served
   abbrev pub GivesValue : (S → List Entry) → Me (Option S) (Known S) → Me (Option S) (Known S) → Type 0
   GivesValue log m n = (y : S) → m.1 ≡ (0, Some y) ∷ [] → n ≡ (given (log y) m.0, [])
 
-  -- the same, of the step
+  -- the same for the step
   abbrev pub serve_tells : (S → List Entry) → Step (Option S) → Me (Option S) (Known S) → ℕ → Me (Option S) (Known S)
       → Type 0
   serve_tells log s m found n = GivesValue log m n
 
-  -- a load after a join: what was told is the beginning of what was seen
+  -- a load after a join: the shorter log is a prefix of what was seen
   abbrev pub settle_tells : Step (Option S) → Me (Option S) (Known S) → ℕ → Me (Option S) (Known S) → Type 0
   settle_tells s m found n = (n ≡ (settled m.0, m.1)) × Begins m.0.told m.0.seen × (m.0.parts < 2 ^ 32)

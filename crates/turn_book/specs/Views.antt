@@ -3,13 +3,12 @@ use Rattle.std.specs.Prelude.{◌≡◌, ◌+◌, ◌-◌, ℕ, Bool, true, fals
 use base.Stored.{Gv}
 use Rattle.turn_book.specs.Entries.{Entry}
 
--- the identity to which a value belongs: no more is known of it than whether it is another's
+-- the identity that a value belongs to; opaque, only equality can be tested
 abbrev pub House : Type 0
 House = Gv
 
--- with what a value began: two finite maps, from names to relations and from names to numbers, each as a list of its
--- pairs
--- a name is the list of its bytes, and a relation its rows, its columns and its name in the table
+-- what a value began with: two finite maps, from names to relations and from names to numbers, each as a list of pairs.
+-- A name is the list of its bytes, a relation is its rows, its columns and its name in the table
 pub record Start : Type 0 where
   pub relations : List (List ℕ × (ℕ × ℕ × ℕ))
   pub numbers : List (List ℕ × ℕ)
@@ -20,28 +19,28 @@ no_start = record { relations = []; numbers = [] }
 
 -- a turn book
 pub record Book : Type 0 where
-  -- which one it is
+  -- its identity
   pub book : Gv
-  -- for how many passes it was made
+  -- how many passes it was made for
   pub passes : ℕ
 
 -- a pass
 pub record View : Type 0 where
-  -- the book of which it is
+  -- the book that it belongs to
   pub book : Gv
   -- the house of the book's value
   pub house : House
-  -- with what the book's value began
+  -- what the book's value began with
   pub start : Start
   -- the log as it was last seen
   pub seen : List Entry
-  -- the entries that were added by it
+  -- the entries that it added itself
   pub mine : List Entry
   -- the entries of each pass that was joined to it
   pub joined : List (List Entry)
   -- how many passes may still be split off
   pub spare : ℕ
-  -- whether it holds the turn
+  -- whether it has the turn
   pub turn : Bool
 
 -- the longer of two lists
@@ -52,7 +51,7 @@ longer xs ys = cond (ltb (length xs) (length ys)) ys xs
 abbrev pub shorter : List Entry → List Entry → List Entry
 shorter xs ys = cond (ltb (length xs) (length ys)) xs ys
 
--- all lists of entries that a pass holds: its own and the joined ones
+-- all lists of entries that a pass holds: its own and those of joined passes
 abbrev pub lists_of : View → List (List Entry)
 lists_of v = v.mine ∷ v.joined
 
@@ -69,17 +68,17 @@ first_pass book house start passes = record {
   turn = false;
 }
 
--- a book that was made, and its first pass
+-- a new book, and its first pass
 pub record IsFresh (passes : ℕ) (house : House) (start : Start) (made : Book × View) : Type 0 where
   pub passes_are : made.0.passes ≡ passes
   pub pass_is : made.1 ≡ first_pass made.0.book house start passes
 
--- a pass is of this book, and holds no turn
+-- a pass belongs to this book, and does not have the turn
 pub record IsReady (book : Book) (pass : View) : Type 0 where
   pub of : pass.book ≡ book.book
   pub idle : pass.turn ≡ false
 
--- a pass keeps all but what it saw and entered
+-- a pass keeps everything except what it has seen and entered
 pub record IsKept (old new : View) : Type 0 where
   pub book : new.book ≡ old.book
   pub house : new.house ≡ old.house
@@ -101,7 +100,7 @@ with_turn log v = record {
   turn = true;
 }
 
--- a turn is given back: the new entries are the pass's own
+-- the value is put back: the new entries belong to the pass
 abbrev pub with_log : List Entry → View → View
 with_log log v = record {
   book = v.book;
@@ -140,7 +139,7 @@ split_off v = record {
   turn = false;
 }
 
--- two passes become one: the longer log is seen, and the lists of both are kept
+-- two passes become one: it has seen the longer log, and keeps the lists of both
 abbrev pub with_other : View → View → View
 with_other v w = record {
   book = v.book;

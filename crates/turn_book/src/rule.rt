@@ -1,4 +1,4 @@
-//! What is kept, the rule of a book, what a pass knows, and what each kind of step tells it.
+//! What is kept, the rule of a book, what a pass knows, and what each kind of step adds to that.
 ghost use Rattle.std.specs.Prelude.{List};
 ghost use Rattle.turn_book.specs.Entries.{Entry};
 ghost use Rattle.turn_book.specs.Views.{House, Start};
@@ -10,10 +10,10 @@ use std::snapshot::Snapshot;
 
 /// A value with a log.
 pub trait Kept {
-    /// Its entries, the oldest first.
+    /// Its entries, oldest first.
     ghost log: { Self → List Entry };
 
-    /// The identity to which it belongs.
+    /// The identity that it belongs to.
     ghost house: { Self → House };
 
     /// The names with which it began.
@@ -27,27 +27,27 @@ pub struct Opening<S> {
     pub passes: u32,
 }
 
-/// What a pass knows. No value of it is made, and a clause reads an array as a list, of any length.
+/// What a pass knows. No value of this type exists at run time; clauses read an array of it as a list of any length.
 pub struct Known<S> {
-    /// The value with which the book was made, or none once the pass was joined to another.
+    /// The value with which the book was made; none after the pass was joined to another.
     pub origin: Option<S>,
-    /// How many passes it stands for: itself and those that may be split off it, or none once it was joined to another.
+    /// How many passes it stands for: itself and those that may be split off; none after it was joined to another.
     pub parts: u64,
     /// Its ticket, while it waits or holds the turn.
     pub ticket: Option<u64>,
-    /// Whether it holds the turn.
+    /// Whether it has the turn.
     pub turn: bool,
     /// The log as it was last seen.
     pub seen: [Event; 0],
-    /// What a pass had seen that was joined to it, where that is the shorter log.
+    /// The shorter of two logs after a join, until a further step shows that it is a prefix of the longer one.
     pub told: [Event; 0],
-    /// The entries that it added.
+    /// The entries that it added itself.
     pub mine: [Event; 0],
     /// The entries of each pass that was joined to it.
     pub joined: [[Event; 0]; 0],
 }
 
-/// The rule of the words, of the slot and of all views.
+/// The rule: what holds of the words, the slot and all views at every moment. No bytes.
 pub struct Order;
 
 impl<S: Kept> TableRule<Option<S>, Known<S>, Opening<S>> for Order {
@@ -59,7 +59,7 @@ impl<S: Kept> TableRule<Option<S>, Known<S>, Opening<S>> for Order {
     ghost first = { first_view };
 }
 
-/// A ticket is drawn.
+/// Draws a ticket.
 pub struct Draw;
 
 impl<S> Play<Option<S>, Known<S>> for Draw {
@@ -68,7 +68,7 @@ impl<S> Play<Option<S>, Known<S>> for Draw {
     ghost then = { draw_tells };
 }
 
-/// A ticket is drawn, where it is the number that was named.
+/// Draws a ticket if it has the number named.
 pub struct DrawWhere;
 
 impl<S> Play<Option<S>, Known<S>> for DrawWhere {
@@ -77,7 +77,7 @@ impl<S> Play<Option<S>, Known<S>> for DrawWhere {
     ghost then = { draw_where_tells };
 }
 
-/// A look at the number that is served.
+/// Looks at the number that is being served.
 pub struct Look;
 
 impl<S: Kept> Play<Option<S>, Known<S>> for Look {
@@ -87,7 +87,7 @@ impl<S: Kept> Play<Option<S>, Known<S>> for Look {
     ghost then = { look_tells S.log (origin_of S.house S.start) };
 }
 
-/// The next number is served.
+/// Serves the next number.
 pub struct Serve;
 
 impl<S: Kept> Play<Option<S>, Known<S>> for Serve {
@@ -96,7 +96,7 @@ impl<S: Kept> Play<Option<S>, Known<S>> for Serve {
     ghost then = { serve_tells S.log };
 }
 
-/// A load after a join.
+/// A load after a join, which shows that the shorter log is a prefix of the longer one.
 pub struct Settle;
 
 impl<S> Play<Option<S>, Known<S>> for Settle {
@@ -105,7 +105,7 @@ impl<S> Play<Option<S>, Known<S>> for Settle {
     ghost then = { settle_tells };
 }
 
-/// A view as two.
+/// A view as two, when a pass is split.
 pub struct Halves;
 
 impl<S> Split<Known<S>> for Halves {
@@ -116,7 +116,7 @@ impl<S> Split<Known<S>> for Halves {
     ghost right = { right_of };
 }
 
-/// Two views as one.
+/// Two views as one, when passes are joined.
 pub struct Both;
 
 impl<S> Join<Known<S>> for Both {

@@ -1,4 +1,4 @@
-//! Turns whose tickets pass the end of 64 bits, while a pass sleeps and is woken.
+//! Turns whose ticket numbers wrap around at 2^64, while a pass sleeps and is woken.
 ghost use Rattle.std.specs.Prelude.{◌≡◌};
 ghost use Rattle.turn_book.specs.Views.{IsReady};
 
@@ -30,7 +30,7 @@ impl Kept for Lines {
     ghost start = { λ _. no_start };
 }
 
-/// Takes so many turns, and holds each for some time.
+/// Takes a number of turns, and holds each for some time.
 fn hold<R: Wait + Clock>(
     rt: &R,
     book: &TurnBook<Lines>,
@@ -59,7 +59,7 @@ fn hold<R: Wait + Clock>(
     pass
 }
 
-/// Ends the test where it is not done within so many hundredths of a second.
+/// Aborts the test if it is not done within a number of hundredths of a second.
 fn watch<R: Clock + Abort>(rt: &R, done: &AtomicU64, hundredths: u32) {
     for _ in 0..hundredths {
         if done.load(Ordering::SeqCst) != 0 {
@@ -99,7 +99,7 @@ fn both_hold<R: Threads + Wait + Clock + Sync>(
     )
 }
 
-/// The same, in a limited time.
+/// The same, with a time limit.
 fn both_hold_in_time<R: Threads + Wait + Clock + Abort + Sync>(
     rt: &R,
     book: &TurnBook<Lines>,

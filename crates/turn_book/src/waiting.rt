@@ -1,4 +1,4 @@
-//! How a pass waits for its turn: a short while awake, and then asleep.
+//! How a pass waits for its turn: spinning for a short while, and then asleep.
 ghost use Rattle.std.specs.Prelude.{◌≡◌, ◌≢◌, ◌≤◌, ◌<◌, ◌+◌, true, false, None, Some};
 ghost use Rattle.turn_book.specs.Origins.{origin_of};
 ghost use Rattle.turn_book.specs.Tells.{drawn, TakesValue};
@@ -10,27 +10,27 @@ use std::hint::spin_loop;
 use std::sync::Wait;
 use std::thread::yield_now;
 
-/// How often a pass with no ticket looks whether the turn is free, before it draws one all the same.
+/// How often a pass without a ticket checks whether the turn is free before it draws a ticket anyway.
 const LOOKS_BEFORE: u32 = 200;
 
-/// How often a pass with a ticket looks for its turn, before it sleeps.
+/// How often a pass with a ticket checks for its turn before it sleeps.
 const LOOKS_IN_LINE: u32 = 100;
 
-/// How many looks of a pass with no ticket let no other thread run.
+/// For how many of these checks a pass without a ticket only pauses; after that it yields to other threads.
 const QUICK_LOOKS: u32 = 10;
 
-/// The longest pause between two looks, in steps of the processor's own pause.
+/// The longest pause between two checks, in steps of the processor's own pause.
 const LONGEST_PAUSE: u32 = 10;
 
-/// A pause between two looks, which gets longer from look to look.
+/// A pause between two checks, longer with each check.
 fn pause(look: u32) {
     for _ in 0..look.min(LONGEST_PAUSE) {
         spin_loop();
     }
 }
 
-/// Draws a ticket: as soon as nobody has one, so that a thread that runs may go on without waking another, and after
-/// a short while all the same.
+/// Draws a ticket: at once if nobody has one, so that a running thread may go on without waking another; after a short
+/// while in any case.
 pub fn draw_in_time<S: Kept>(
     table: &Shared<Option<S>, Known<S>, Opening<S>, Order>,
     seat: &mut Seat<Option<S>, Known<S>>,
@@ -56,7 +56,8 @@ pub fn draw_in_time<S: Kept>(
     draw(table, seat)
 }
 
-/// Waits a short while until the own ticket is served, and says whether it was, and the value was taken.
+/// Spins for a short while until the pass's own ticket is served. Says whether it was, in which case the value is
+/// taken.
 fn stay_awake<S: Kept>(
     table: &Shared<Option<S>, Known<S>, Opening<S>, Order>,
     seat: &mut Seat<Option<S>, Known<S>>,
@@ -80,7 +81,7 @@ fn stay_awake<S: Kept>(
     false
 }
 
-/// Sleeps until the own ticket is served, and takes the value.
+/// Sleeps until the pass's own ticket is served, and takes the value.
 fn sleep<S: Kept, R: Wait>(
     table: &Shared<Option<S>, Known<S>, Opening<S>, Order>,
     wait: &R,
@@ -105,7 +106,7 @@ fn sleep<S: Kept, R: Wait>(
     unreachable!()
 }
 
-/// Waits until the own ticket is served, and takes the value.
+/// Waits until the pass's own ticket is served, and takes the value.
 pub fn wait_for<S: Kept, R: Wait>(
     table: &Shared<Option<S>, Known<S>, Opening<S>, Order>,
     wait: &R,
@@ -125,8 +126,8 @@ pub fn wait_for<S: Kept, R: Wait>(
     }
 }
 
-/// Wakes those that sleep, where another pass has a ticket: the number that is served now is not the next one to be
-/// drawn.
+/// Wakes the sleepers if another pass has a ticket, which is so if the number now being served is not the next one to
+/// be drawn.
 pub fn wake<S: Kept>(table: &Shared<Option<S>, Known<S>, Opening<S>, Order>, served: u64)
     requires words { table.now.table_id.words ≡ 2 }
 {

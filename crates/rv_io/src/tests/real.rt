@@ -7,13 +7,13 @@ use std::process::Abort;
 use std::rt::Files;
 use std::test::Fail;
 
-/// Whether a sample is read whole within the limit, and one byte more is too long.
+/// Whether a sample is read whole within the limit, and is too long with one byte more.
 fn has_sample(alloc: Global, shelf: &mut FileShelf<HostRuntime>, bytes: &[u8]) -> bool {
     let over = ReadError::TooLong { limit: 4999 };
     reads(alloc, shelf, "sample.rv", 5000, bytes) && refuses(alloc, shelf, "sample.rv", 4999, over)
 }
 
-/// Asserts which names are no file, or one that is too long.
+/// Asserts that some names are not files, and that one file is too long.
 fn assert_no_files(rt: &impl Abort, alloc: Global, shelf: &mut FileShelf<HostRuntime>) {
     for (name, limit, cause) in [
         ("/dev/zero", 9, ReadError::TooLong { limit: 9 }),
@@ -40,7 +40,7 @@ fn a_real_file_is_read_and_what_is_no_file_is_a_fault(rt: HostRuntime) -> Result
     Ok(())
 }
 
-/// Asserts that a file has each time the bytes that were put last.
+/// Asserts that a file always has the bytes that were put last.
 fn assert_replaced(rt: &impl Abort, alloc: Global, shelf: &mut FileShelf<HostRuntime>) {
     for bytes in [b"one".as_slice(), b"another", b""] {
         assert!(rt; shelf.put("made/a.k2", bytes).is_ok());
@@ -48,7 +48,7 @@ fn assert_replaced(rt: &impl Abort, alloc: Global, shelf: &mut FileShelf<HostRun
     }
 }
 
-/// Asserts that what was picked is read on, though its file is replaced.
+/// Asserts that a picked file can be read on, although it is replaced meanwhile.
 fn assert_read_on(rt: &impl Abort, shelf: &mut FileShelf<HostRuntime>) {
     assert!(rt; shelf.put("a.k2", b"old").is_ok());
     assert!(rt; shelf.pick("a.k2").is_ok());
@@ -63,7 +63,7 @@ fn assert_lost(rt: &impl Abort, shelf: &mut FileShelf<HostRuntime>) {
     }
 }
 
-/// Asserts that there is no file beside those that were put.
+/// Asserts that there are no files besides those that were put.
 fn assert_none_beside<R: Files + Abort>(rt: &R) -> Result<(), Fail> {
     for beside in ["put-0.part", "made/put-1.part"] {
         assert!(rt; !fs::exists(rt, beside)?, "{beside}");

@@ -1,4 +1,4 @@
-//! Sinks: which bytes they took where writes fail.
+//! Sinks: which bytes they have taken when writes fail.
 ghost use Rattle.std.specs.Prelude.{◌≤◌};
 
 use super::NEVER;
@@ -9,7 +9,7 @@ use std::io::Write;
 use std::process::Abort;
 use std::test::Fail;
 
-/// Texts that are written, and where each stops.
+/// Texts to be written, and where each one stops.
 const TEXTS: [(&[u8], Option<usize>); 5] = [
     (b"one ", None),
     (b"lost", Some(0)),
@@ -18,7 +18,7 @@ const TEXTS: [(&[u8], Option<usize>); 5] = [
     (b"lost", Some(0)),
 ];
 
-/// What a write answers that stops there.
+/// The answer of a write that stops there.
 fn answer_of(stop: Option<usize>) -> Result<(), WriteError> {
     match stop {
         Some(sent) => Err(WriteError { sent }),
@@ -26,7 +26,7 @@ fn answer_of(stop: Option<usize>) -> Result<(), WriteError> {
     }
 }
 
-/// Asserts that the texts are written or stop.
+/// Asserts that the texts are written, or stop.
 fn assert_texts(rt: &impl Abort, sink: &mut MemSink) {
     for (text, stop) in TEXTS {
         assert!(rt; write_all(sink, text) == answer_of(stop));
@@ -46,8 +46,7 @@ fn a_sink_in_memory_keeps_what_it_took_and_counts_the_writes_that_fail(
     Ok(())
 }
 
-/// A writer that takes at most 3 bytes at a time. One write fails, one takes nothing, and flushes
-/// may fail.
+/// A writer that takes at most 3 bytes at a time. One write fails, one takes nothing, and flushes may fail.
 #[derive(Drop)]
 struct Trickle {
     taken: Vec<u8>,
@@ -58,7 +57,7 @@ struct Trickle {
 }
 
 impl Trickle {
-    /// A writer that took nothing yet.
+    /// A writer that has taken nothing yet.
     fn new(alloc: Global, failing: u64, empty: u64, can_flush: bool) -> Trickle {
         Trickle {
             taken: Vec::new(alloc),
@@ -94,7 +93,7 @@ impl Write for Trickle {
     }
 }
 
-/// How many of 10 bytes are out before a write. They go out in 4 writes, of 3, 3, 3 and 1 bytes.
+/// How many of 10 bytes are out before a write: they go out in 4 writes, of 3, 3, 3 and 1 bytes.
 fn sent_before(write: u64) -> usize
     ensures { result ≤ 10 }
 {

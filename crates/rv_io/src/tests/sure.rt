@@ -1,17 +1,17 @@
-//! The shelf and the sink that never fail, up to the call that does not fit their room, and behind it.
+//! The shelf and the sink that never fail: up to the call that does not fit their room, and after it.
 use super::{assert_puts, files_of, reads, takes};
 use crate::{NoMemory, Shelf, SureShelf, SureSink, write_all};
 use std::alloc::{AllocError, Global};
 use std::process::Abort;
 use std::test::Fail;
 
-/// A file `a`, of the bytes 1 and 2, one `b`, of no bytes, and a second `a`.
+/// A file `a` with the bytes 1 and 2, a file `b` without bytes, and a second `a`.
 const FILES: [(&str, &[u8]); 3] = [("a", &[1, 2]), ("b", &[]), ("a", &[3])];
 
 /// What each name of a new shelf holds.
 const START: [(&str, &[u8]); 2] = [("a", &[1, 2]), ("b", &[])];
 
-/// A shelf with these files and so much room.
+/// A shelf with these files and this room.
 fn shelf_of(alloc: Global, room: usize) -> Result<SureShelf, AllocError> {
     let files = files_of(alloc, &FILES)?;
     match SureShelf::new(alloc, files, room) {
@@ -20,7 +20,7 @@ fn shelf_of(alloc: Global, room: usize) -> Result<SureShelf, AllocError> {
     }
 }
 
-/// Asserts that each of these files, which are among those of the shelf, has its bytes.
+/// Asserts that each of these files, which are on the shelf, has its bytes.
 fn assert_holds(rt: &impl Abort, alloc: Global, shelf: &mut SureShelf, files: &[(&str, &[u8])]) {
     for (name, bytes) in files {
         let is_it = shelf.has(name) && reads(alloc, shelf, name, 9, bytes);
@@ -31,7 +31,7 @@ fn assert_holds(rt: &impl Abort, alloc: Global, shelf: &mut SureShelf, files: &[
 /// Puts, which take 3, 2, 3 and 1 bytes.
 const PUTS: [(&str, &[u8]); 4] = [("a", &[6, 7]), ("b", &[8]), ("cc", &[9]), ("d", &[])];
 
-/// Whether the file `a` is there, and is picked.
+/// Whether the file `a` is there and can be picked.
 fn picks(shelf: &mut SureShelf) -> bool {
     shelf.has("a") && shelf.pick("a").is_ok()
 }
@@ -44,7 +44,7 @@ fn files_are_read_and_put_while_names_and_bytes_fit(rt: HostRuntime) -> Result<(
     assert!(&rt; !shelf.has("c") && !shelf.has("") && !shelf.has("ab"));
     assert!(&rt; picks(&mut shelf));
     assert_puts(&rt, &mut shelf, &PUTS);
-    // What was picked before the puts is read on.
+    // What was picked before the puts can still be read on.
     assert!(&rt; takes(&mut shelf, 2, [1, 2, 0, 0]) && takes(&mut shelf, 0, [0, 0, 0, 0]));
     assert_holds(&rt, alloc, &mut shelf, &PUTS);
     Ok(())
@@ -54,7 +54,7 @@ fn files_are_read_and_put_while_names_and_bytes_fit(rt: HostRuntime) -> Result<(
 fn a_put_that_does_not_fit_is_answered_and_not_kept(rt: HostRuntime) -> Result<(), Fail> {
     let alloc = rt.alloc();
     let mut shelf = shelf_of(alloc, 4)?;
-    // The second would fit, and is not kept behind the first.
+    // The second put would fit, but is not kept after the first.
     let puts: [(&str, &[u8]); 2] = [("c", &[1, 2, 3, 4]), ("d", &[1])];
     for put in puts {
         assert_puts(&rt, &mut shelf, &[put]);
@@ -64,7 +64,7 @@ fn a_put_that_does_not_fit_is_answered_and_not_kept(rt: HostRuntime) -> Result<(
     Ok(())
 }
 
-/// Asserts that a sink takes seven bytes, and keeps them where they fit its room.
+/// Asserts that a sink takes seven bytes, and keeps them if they fit its room.
 fn assert_kept(rt: &impl Abort, sink: SureSink, room: usize) {
     let mut sink = sink;
     let texts: [&[u8]; 3] = [b"one ", b"", b"two"];

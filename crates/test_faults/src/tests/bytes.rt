@@ -17,7 +17,7 @@ fn is_allowed(byte: u8) -> bool {
     byte == 9 || byte == 10 || byte == 13 || (32 <= byte && byte <= 126)
 }
 
-/// What a text of one byte is answered.
+/// The answer for a text of a single byte.
 fn alone(alloc: Global, byte: u8) -> Result<String, Fail> {
     let text = match byte {
         9 | 10 | 13 | 32 | b'#' => "read",

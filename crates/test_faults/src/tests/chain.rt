@@ -1,4 +1,4 @@
-//! A long chain is written as it was read.
+//! A long chain is printed as it was read.
 use crate::text::printed;
 use std::test::Fail;
 

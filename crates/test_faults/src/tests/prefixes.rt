@@ -1,5 +1,4 @@
-//! Texts that are cut off: no proper part from the left of an item is a script, and its fault stands at the end or in
-//! the last word.
+//! Truncated texts: no proper prefix of an item is a script, and its fault is at the end or in the last word.
 use crate::fault::refusal;
 use lang_model::faults::ParseFault;
 use lang_model::limits::SCRIPT_LIMIT;
@@ -8,7 +7,7 @@ use rv_parse::parse;
 use std::alloc::Global;
 use std::test::Fail;
 
-/// One item of each kind, in which each line of the grammar stands.
+/// One item of each kind, in which each line of the grammar occurs.
 const ITEMS: [&str; 18] = [
     "F(R,S) = -(R|S^)&[R,S]*G(R)\\trans(R)/syq(R,S).",
     "G(R) DECL a, D = PROD(R,R), E = SUM(R,R) BEG a = p-1(D); WHILE empty(a) DO IF eq(a,R) THEN a = i-2(E); ELSE IF R THEN FI; b = --R FI OD RETURN a^^ END.",
@@ -30,7 +29,7 @@ const ITEMS: [&str; 18] = [
     "EXPLAIN quot(A)\\ubd(A,B).",
 ];
 
-/// Where the fault of a text is, if it is no script.
+/// Where the fault of a text is, if it is not a script.
 fn place(alloc: Global, text: &[u8]) -> Option<Place> {
     if text.len() > SCRIPT_LIMIT {
         return None;
@@ -46,7 +45,7 @@ fn place(alloc: Global, text: &[u8]) -> Option<Place> {
     }
 }
 
-/// How many bytes come before the last word: up to the last byte that is no letter and no digit.
+/// How many bytes come before the last word: those up to the last byte that is neither a letter nor a digit.
 fn before_last_word(text: &[u8]) -> usize {
     let mut last = 0;
     'bytes: for place in 0..text.len() {
@@ -80,7 +79,7 @@ fn no_item_is_complete_before_its_full_stop(rt: HostRuntime) -> Result<(), Fail>
     Ok(())
 }
 
-/// Whether only blanks stand behind the last full stop.
+/// Whether only blanks follow the last full stop.
 fn ends_with_a_full_stop(text: &[u8]) -> bool {
     let mut ends = true;
     'bytes: for byte in text {

@@ -36,7 +36,7 @@ fn push_named(out: &mut String, word: &str, name: &Name) -> Result<(), Fail> {
     push_name(out, name)
 }
 
-/// The rows of a listed relation behind its sizes.
+/// The rows of a listed relation, after its sizes.
 fn push_rows(alloc: Global, out: &mut String, rows: &[Row]) -> Result<(), Fail> {
     out.push_str(" {")?;
     'rows: for row in rows {

@@ -1,4 +1,4 @@
-//! Functions and programs written out behind their names.
+//! Functions and programs written out, after their names.
 use super::expression::push_expr;
 use super::{push_name, push_place};
 use lang_model::syntax::{Decl, Expr, Name, Stmt};
@@ -19,7 +19,7 @@ fn push_params(out: &mut String, params: &[Name]) -> Result<(), Fail> {
     Ok(())
 }
 
-/// Parameters and the expression of a function.
+/// The parameters and the expression of a function.
 pub fn push_function(
     alloc: Global,
     out: &mut String,
@@ -56,7 +56,7 @@ fn push_decl(alloc: Global, out: &mut String, decl: &Decl) -> Result<(), Fail> {
     }
 }
 
-/// Statements in braces, each behind a blank.
+/// Statements in braces, each after a blank.
 #[cycle(shown)]
 fn push_stmts(alloc: Global, out: &mut String, stmts: &[Stmt]) -> Result<(), Fail> {
     out.push_str("{")?;
@@ -100,7 +100,7 @@ fn push_stmt(alloc: Global, out: &mut String, stmt: &Stmt) -> Result<(), Fail> {
     }
 }
 
-/// Parameters, declarations, statements and result of a program.
+/// The parameters, declarations, statements and result of a program.
 pub fn push_program(
     alloc: Global,
     out: &mut String,

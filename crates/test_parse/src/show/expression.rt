@@ -54,7 +54,7 @@ fn word_of(base: Base) -> &'static str {
     }
 }
 
-/// Arguments in parentheses, parted by blanks.
+/// Arguments in parentheses, separated by blanks.
 #[cycle(shown)]
 fn push_args(alloc: Global, out: &mut String, args: &[Expr]) -> Result<(), Fail> {
     out.push_str("(")?;
@@ -70,7 +70,7 @@ fn push_args(alloc: Global, out: &mut String, args: &[Expr]) -> Result<(), Fail>
     Ok(())
 }
 
-/// The links of a chain, each behind a blank.
+/// The links of a chain, each after a blank.
 #[cycle(shown)]
 fn push_links(alloc: Global, out: &mut String, links: &[Link]) -> Result<(), Fail> {
     'links: for link in links {

@@ -1,4 +1,4 @@
-//! Calm expressions by chance: each step is one, lowers the measure and keeps the value.
+//! Random calm expressions: each step is valid, lowers the measure and keeps the value.
 use crate::chance::{Columns, Draws, Sizes, expression};
 use crate::grid::{Grid, Relations, value_of};
 use crate::measure::size_of;
@@ -14,14 +14,14 @@ const EXPRESSIONS: u64 = 100_000;
 
 const NODES: u32 = 40;
 
-/// How often each rule was taken, and how many nodes the greatest expression had.
+/// How often each rule was applied, and how many nodes the largest expression had.
 #[derive(Drop)]
 struct Tally {
     rules: [u64; 16],
     greatest: u64,
 }
 
-/// A relation of these sizes by chance.
+/// A random relation with these sizes.
 fn grid(draws: &mut Draws, rows: u32, cols: u32) -> Grid {
     let mut grid = Grid::none(rows, cols);
     let bound = draws.below(4);
@@ -35,7 +35,7 @@ fn grid(draws: &mut Draws, rows: u32, cols: u32) -> Grid {
     grid
 }
 
-/// Three relations for each two of three sizes by chance, from 0 to 9.
+/// Three random relations for each pair of three sizes; the sizes are random, from 0 to 9.
 fn relations(draws: &mut Draws) -> Relations {
     let sides = [draws.below(10), draws.below(10), draws.below(10)];
     let mut relations = Relations {
@@ -47,7 +47,7 @@ fn relations(draws: &mut Draws) -> Relations {
     relations
 }
 
-/// Whether two expressions have one value.
+/// Whether two expressions have the same value.
 fn have_one_value(relations: &Relations, a: &Expr, b: &Expr) -> bool {
     match (value_of(relations, a), value_of(relations, b)) {
         (Some(r), Some(s)) => r.is(&s),
@@ -55,7 +55,7 @@ fn have_one_value(relations: &Relations, a: &Expr, b: &Expr) -> bool {
     }
 }
 
-/// Asserts of a step that it is one, lowers the measure and keeps the value, and tells by how much.
+/// Asserts that a step is valid, lowers the measure and keeps the value, and answers by how much it lowers the measure.
 fn lowered_by(rt: &impl Abort, relations: &Relations, seed: u64, step: &Step) -> u64 {
     assert!(rt; check_step(step), "a step of {seed}");
     let before = size_of(&step.before).measure();
@@ -66,7 +66,7 @@ fn lowered_by(rt: &impl Abort, relations: &Relations, seed: u64, step: &Step) ->
     before.wrapping_sub(after)
 }
 
-/// Asserts of an expression and its calm tree that the steps lead from one to the other.
+/// Asserts that the steps lead from an expression to its calm tree.
 fn follow(
     rt: &impl Abort,
     alloc: Global,
@@ -98,7 +98,7 @@ fn follow(
     Ok(())
 }
 
-/// Asserts it of the expression of a seed.
+/// Asserts the same for the expression of a seed.
 fn follow_seed(rt: &impl Abort, alloc: Global, seed: u64, tally: &mut Tally) -> Result<(), Fail> {
     let mut draws = Draws::of(seed);
     let relations = relations(&mut draws);

@@ -8,7 +8,7 @@ use std::test::Fail;
 /// How many operands the long chains have.
 const OPERANDS: u32 = 10_000;
 
-/// An operand so many times, with a sign between.
+/// An operand repeated a number of times, with a sign in between.
 fn chain(alloc: Global, operand: &str, sign: &str, count: u32) -> Result<String, Fail> {
     let mut text = String::from_str(alloc, operand)?;
     'more: for _ in 1..count {
@@ -18,7 +18,7 @@ fn chain(alloc: Global, operand: &str, sign: &str, count: u32) -> Result<String,
     Ok(text)
 }
 
-/// What rewriting makes of the expression of a text; its calm tree alone is the same.
+/// The result of rewriting the expression of a text; its calm tree computed alone is the same.
 fn rewritten(rt: &impl Abort, alloc: Global, text: &str) -> Result<Rewritten, Fail> {
     let script = script_of(alloc, text.as_bytes())?.expect(rt, "a script");
     let expr = value_of(&script).expect(rt, "an expression");
@@ -28,7 +28,7 @@ fn rewritten(rt: &impl Abort, alloc: Global, text: &str) -> Result<Rewritten, Fa
     Ok(found)
 }
 
-/// Asserts that a text has no step.
+/// Asserts that no step applies to a text.
 fn stays(rt: &impl Abort, alloc: Global, text: &str) -> Result<(), Fail> {
     let found = rewritten(rt, alloc, text)?;
     assert!(rt; found.steps.is_empty());
@@ -36,7 +36,7 @@ fn stays(rt: &impl Abort, alloc: Global, text: &str) -> Result<(), Fail> {
     Ok(())
 }
 
-/// Asserts that each operand of a long chain is rewritten by itself, in order.
+/// Asserts that each operand of a long chain is rewritten on its own, in order.
 fn each_goes(
     rt: &impl Abort,
     alloc: Global,
