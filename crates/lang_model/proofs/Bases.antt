@@ -105,6 +105,8 @@ module _ (s : StaticShape) (r : Relation) (h : Describes s r) (at : Place) (n : 
   known_twice : r.rows ≡ r.cols → IsSize (first_of_both s.rows s.cols) r.rows
   known_twice e = known_of s.rows s.cols r.rows r.cols h.row_size h.col_size e
 
+  -- the type of a base call of one operand describes its value, base by base: each size that it knows is one of the
+  -- operand's, or is computed from one as the value's own is
   base-agree : (base : Base) → Agree Describes (typed_base at base s) (with_turns (fitting (typed_base at base (sizes r)) (limited at (base_wants base r) (base_made base r))) n).answer
   unfolding full empty identity dom ran transitive_closure walks_within reflexive_closure membership point atom init next inj less hasse classes
   base-agree L = describes_test s.rows s.cols r.rows r.cols _ h.row_size h.col_size
@@ -153,6 +155,7 @@ two-agree t v f cost n false c k j h = tt
 two-agree t v f cost n true false k j h = tt
 two-agree t v f cost n true true k j h = h
 
+-- and so for two operands: where their sizes pass the base's test, its result has the sizes that the type tells
 base-agree-of_two : (at : Place) (base : Base) (s t : StaticShape) (r q : Relation) (n : ℕ) → Describes s r → Describes t q → Agree Describes (typed_base_of_two at base s t) (with_turns (fitting (typed_base_of_two at base (sizes r) (sizes q)) (base_made_of_two base r q)) n).answer
 unfolding symmetric_quotient upper_bounds lower_bounds least greatest suprema infima inter relation_of
 base-agree-of_two at Syq s t r q n h k = two-agree _ _ _ _ n (agree s.rows t.rows) (r.rows == q.rows) _ _ (describes_test s.cols t.cols r.cols q.cols _ h.col_size k.col_size)
@@ -166,6 +169,7 @@ base-agree-of_two at Sup s t r q n h k = bounding-agree at Sup s t r q (suprema 
 base-agree-of_two at Inf s t r q n h k = bounding-agree at Inf s t r q (infima r q) _ n h k (λ e. refl) refl
 base-agree-of_two at base s t r q n h k = none_given
 
+-- by the number of operands: one and two as above, and any other number gives the relation without rows and columns
 pub based-agree : (at : Place) (base : Base) (ss : List StaticShape) (rs : List Relation) (n : ℕ) → AreDescribed ss rs → Agree Describes (typed_based at base ss) (with_turns (based at base rs) n).answer
 unfolding typed_based based
 based-agree at base [] [] n h = none_given
@@ -200,6 +204,8 @@ module _ (at : Place) (a b : Option ℕ) (x y : ℕ) (h : IsSize a x) (k : IsSiz
   domain-agree I1 = limited-agree _ _ at (x + y) _ n (describes_test a _ x (x + y) _ h (computed-size-of_two (λ m p. m + p) a b x y h k))
   domain-agree base = limited-agree _ _ at (x + y) _ n (describes_test b _ y (x + y) _ k (computed-size-of_two (λ m p. m + p) a b x y h k))
 
+-- the type of a domain operator describes its value: both are made of the rows of its two names, whose
+-- types cover their relations
 pub injected-agree : (T : Types) (S : State) → Covers T S → (at : Place) (base : Base) (o : Option (List ℕ × List ℕ)) (n : ℕ) → Agree Describes (typed_injected T at base o) (with_turns (injected_by S at base o) n).answer
 injected-agree T S c at base None n = tt
 injected-agree T S c at base (Some names) n = by (T names.0) (T names.1) (S names.0) (S names.1) (c names.0) (c names.1)

@@ -4,6 +4,7 @@ pub mod Sounding
 pub mod Bases
 pub mod Soundness
 pub mod Values
+pub mod Sameness
 pub mod Ruling
 pub mod Repeats
 pub mod Lighter

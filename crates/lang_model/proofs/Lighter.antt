@@ -9,7 +9,7 @@ use Rattle.lang_model.specs.Trees.{Tree, NameTree, CallTree, BaseTree, InjectTre
 use Rattle.lang_model.specs.Limits.{compared_limit}
 use Rattle.lang_model.specs.Calm.{StepsEnd}
 use Rattle.lang_model.specs.Rewriting.{same_operator, same_tree, negated, turned_once, Two, two_operands, operands_of, two, chain_of, place_of_node, is_lattice, dual, link_count, without_repeats, double_complement, many_turns, turned_again, repeated_operands, to_right_residual, to_left_residual, turned_product, turned_operands, negated_operands, to_quotient, numbered, least_rule, is_calm, Step, here, inside, next_step, next_in, next_along, weight, weight_in, weight_along, calm_within, calm_behind, calmed, is_of_one_sign}
-use Rattle.lang_model.proofs.Ruling.{found, passed, same_some}
+use Rattle.lang_model.proofs.Sameness.{found, passed, same_some}
 
 -- ---- parts of a rule
 pub weight-negated : (t u : Tree) → negated t ≡ Some u → weight t ≡ weight u + 1
@@ -103,6 +103,7 @@ chain_weight : (first : Tree) (links : Branches) → weight (chain_of first link
 chain_weight first NoBranch = omega arith
 chain_weight first (MoreBranches at op right links) = omega arith
 
+-- a chain without its repeated operands weighs less: each operand that is dropped has a node
 rule_4 : (t u : Tree) → repeated_operands t ≡ Some u → weight u < weight t
 rule_4 (ChainTree first links) u h =
     let kept = without_repeats (first ∷ []) links in
@@ -116,6 +117,7 @@ rule_4 (ChainTree first links) u h =
     (omega (arith, chain_weight first kept, kept_weight (first ∷ []) links, fewer))
 rule_4 t u h = absurd (let z : None ≡ Some u = h in cc)
 
+-- `R\S` weighs less than `-(R^*-S)`: both complements and the turn are gone
 rule_5 : (t u : Tree) → to_right_residual t ≡ Some u → weight u < weight t
 rule_5 t u h =
     let f = found (negated t) _ u h in
@@ -132,6 +134,7 @@ rule_5 t u h =
       weight-negated (g.at).1 b.at b.first,
     ))
 
+-- `S/R` weighs less than `-(-S*R^)`, for the same reason
 rule_6 : (t u : Tree) → to_left_residual t ≡ Some u → weight u < weight t
 rule_6 t u h =
     let f = found (negated t) _ u h in
@@ -148,6 +151,7 @@ rule_6 t u h =
       weight-turned (g.at).1 b.at b.first,
     ))
 
+-- `(S*R)^` weighs less than `R^*S^`: one turn stands where there were two
 rule_7 : (t u : Tree) → turned_product t ≡ Some u → weight u < weight t
 rule_7 t u h =
     let g = found (operands_of Times t) _ u h in
@@ -162,6 +166,7 @@ rule_7 t u h =
           (g.at).1 b.at b.first,
     ))
 
+-- `(R|S)^` weighs less than `R^|S^`, and so for &: one turn stands where there were two
 rule_8 : (t u : Tree) → turned_operands t ≡ Some u → weight u < weight t
 rule_8 t u h =
     let g = found (two_operands t) _ u h in
@@ -177,6 +182,7 @@ rule_8 t u h =
           (g.at).right b.at b.first,
     ))
 
+-- `-(R|S)` weighs less than `-R&-S`, and so for | and & exchanged: one complement stands where there were two
 rule_9 : (t u : Tree) → negated_operands t ≡ Some u → weight u < weight t
 rule_9 t u h =
     let g = found (two_operands t) _ u h in
@@ -235,6 +241,7 @@ pub record AtNode (t : Tree) (x : Step × Tree) : Type 0 where
   pub step : (record { rule = rule.0; before = t; after = rule.1 }) ≡ x.0
   pub after : rule.1 ≡ x.1
 
+-- a step at a node is that of the least rule which applies there, and the node is calm: otherwise there is none
 pub at_node : (t : Tree) (x : Step × Tree) → here t ≡ Some x → AtNode t x
 at_node t x h =
     let p = passed (is_calm t) _ x h in
@@ -278,6 +285,8 @@ here_lower t x h =
     omega (arith, l, e)
 
 mutual
+  -- a step lowers the weight of the whole tree: by induction, it is at the node itself, or it lowers one
+  -- part and leaves the others
   lower : (t : Tree) (x : Step × Tree) → next_step t ≡ Some x → weight x.1 < weight t
   lower (NameTree at name) x h = here_lower (NameTree at name) x h
   lower (CallTree at name args) x h = elim (in_part (CallTree at name) (next_in args)
@@ -325,6 +334,7 @@ mutual
         ]
       ]
 
+  -- the same for arguments: the step is in the first that has one, and the others keep their weight
   lower_in : (args : Trees) (x : Step × Trees) → next_in args ≡ Some x → weight_in x.1 < weight_in args
   lower_in NoTree x h = absurd (let z : None ≡ Some x = h in cc)
   lower_in (MoreTrees t args) x h = elim (in_part (λ u. MoreTrees u args) (next_step t)
@@ -338,6 +348,7 @@ mutual
         ]
       ]
 
+  -- and for the links of a chain
   lower_along : (links : Branches) (x : Step × Branches) → next_along links ≡ Some x
       → weight_along x.1 < weight_along links
   lower_along NoBranch x h = absurd (let z : None ≡ Some x = h in cc)

@@ -15,7 +15,8 @@ use Rattle.lang_model.specs.Types.{sizes, takes}
 use Rattle.lang_model.specs.Mean.{result_of_both}
 use Rattle.lang_model.specs.Rewriting.{same_operator, same_tree, chain_of, is_lattice, all_links, is_of_one_sign, without_repeats, repeated_operands}
 use Rattle.lang_model.proofs.Values.{value, value_along, HasValue, HaveValue, valid-value}
-use Rattle.lang_model.proofs.Ruling.{Means, passed, same_some, same_op, same_value, lattice_agrees}
+use Rattle.lang_model.proofs.Sameness.{passed, same_some, same_op, same_value}
+use Rattle.lang_model.proofs.Ruling.{Means, lattice_agrees}
 
 -- what | or & leaves as it is
 abbrev Absorbs : Op2 → Relation → Relation → Type 0
@@ -75,6 +76,8 @@ module _ (S : State) (op : Op2) (l : is_lattice op ≡ true) where
     pub have : HaveValue S c kept
     pub same : value_along S c kept ≡ value_along S c links
 
+  -- links without repeated operands come to the same value, by induction: the value so far absorbs an operand that
+  -- stood before, and any other is kept and absorbed from then on
   shorter : (m n : ℕ) (c : Relation) (before : List Tree) (links : Branches) → HasType m n c → All c before
       → all_links op links ≡ true → HaveValue S c links → Shorter c links (without_repeats before links)
   shorter m n c before NoBranch t a o h = record { have = tt; same = refl }
@@ -152,6 +155,8 @@ one_operator S first (MoreBranches at op right links) v h o =
     own_sign Under q = q
     own_sign Over q = q
 
+-- dropping repeated operands keeps the value: the rule applies to chains of one sign alone,
+-- whose value so far absorbs them
 pub repeats_rule : (S : State) (t u : Tree) → HasValue S t → repeated_operands t ≡ Some u → Means S u (value S t)
 repeats_rule S (ChainTree first links) u v h =
     let p = passed _ _ u h in

@@ -1,7 +1,6 @@
 -- Each rule keeps the value of a calm tree whose types fit.
-use Rattle.std.proofs.Common.{◌≡◌, ◌≢◌, ◌∙◌, ◌==◌, ◌&&◌, ◌+◌, ◌/◌, ◌%◌, nat_le, ℕ, Bool, true, false, cond, ◌∷◌, Option, Some, None, refl, sym, ap, subst, arith}
+use Rattle.std.proofs.Common.{◌≡◌, ◌≢◌, ◌∙◌, ◌==◌, ◌&&◌, ◌+◌, ◌/◌, ◌%◌, nat_le, ℕ, Bool, true, false, cond, Some, None, refl, sym, ap, subst, arith}
 use Rattle.std.proofs.lemmas.Bool.{and_parts, and_from, eqb-true, false≢true}
-use Rattle.std.specs.Cmp.Lexicographic.{same_text as text_of_test}
 use Rattle.lang_model.specs.declared.syntax.Place.{Place}
 use Rattle.lang_model.specs.declared.syntax.Op2.{Op2}
 use Rattle.lang_model.specs.declared.syntax.Op2.TheVariants.{Or, And, Times, Under, Over}
@@ -11,40 +10,15 @@ use Rattle.rel_model.specs.Algebra.{HasType}
 use Rattle.rel_model.proofs.AlgebraLaws.{transpose_laws, residual_laws, quotient_by_residuals}
 use Rattle.rel_model.proofs.RuleLaws.{turn_laws, complement_laws}
 use Rattle.lang_model.specs.State.{State}
-use Rattle.lang_model.specs.Trees.{Tree, NameTree, CallTree, BaseTree, InjectTree, PairTree, MinusTree, TurnedTree, ChainTree, Trees, NoTree, MoreTrees, Branches, NoBranch, MoreBranches}
+use Rattle.lang_model.specs.Trees.{Tree, NameTree, CallTree, BaseTree, InjectTree, PairTree, MinusTree, TurnedTree, ChainTree, NoBranch, MoreBranches}
 use Rattle.lang_model.specs.Types.{sizes, takes}
 use Rattle.lang_model.specs.Mean.{result_of_both}
-use Rattle.lang_model.specs.Rewriting.{same_operator, same_tree, same_trees, same_branches, where_some, negated, turned_once, Two, two_operands, operands_of, two, place_of_node, is_lattice, dual, double_complement, many_turns, turned_again, to_right_residual, to_left_residual, turned_product, turned_operands, negated_operands, to_quotient}
-use Rattle.lang_model.proofs.Values.{value, values, value_along, value_named, value_of_quotient, HasValue, valid-value, sizes-complement, sizes-transpose}
+use Rattle.lang_model.specs.Rewriting.{same_operator, same_tree, negated, turned_once, Two, two_operands, operands_of, two, place_of_node, is_lattice, dual, double_complement, many_turns, turned_again, to_right_residual, to_left_residual, turned_product, turned_operands, negated_operands, to_quotient}
+use Rattle.lang_model.proofs.Values.{value, HasValue, valid-value, sizes-complement, sizes-transpose}
 use Rattle.lang_model.proofs.Sizes.{both_fit, one_fits, equal_passes}
+use Rattle.lang_model.proofs.Sameness.{found, passed, same_some, same_op, same_value}
 
--- ---- parts of a rule
-pub record Found {A B : Type 0} (o : Option A) (f : A → Option B) (y : B) : Type 0 where
-  pub at : A
-  pub first : o ≡ Some at
-  pub then : f at ≡ Some y
-
-pub found : {A B : Type 0} (o : Option A) (f : A → Option B) (y : B) → where_some o f ≡ Some y → Found o f y
-found None f y h = absurd (let z : None ≡ Some y = h in cc)
-found (Some x) f y h = record { at = x; first = refl; then = h }
-
--- what is given where a test passes
-pub passed : {A : Type 0} (b : Bool) (o : Option A) (y : A) → cond b o None ≡ Some y → (b ≡ true) × (o ≡ Some y)
-passed true o y h = (refl, h)
-passed false o y h = absurd (let z : None ≡ Some y = h in cc)
-
-pub same_some : {A : Type 0} {x y : A} → Some x ≡ Some y → x ≡ y
-same_some e = cc
-
--- operators that are one
-pub same_op : (a b : Op2) → same_operator a b ≡ true → a ≡ b
-same_op Or Or h = refl
-same_op And And h = refl
-same_op Times Times h = refl
-same_op Under Under h = refl
-same_op Over Over h = refl
-same_op a b h = absurd (false≢true h)
-
+-- ---- relations and their sizes
 -- a relation and its sizes
 own : (r : Relation) → IsRelation r → HasType r.rows r.cols r
 own r v = record { valid = v; row_size = refl; col_size = refl }
@@ -99,6 +73,7 @@ module _ (S : State) where
   of_negated (TurnedTree at of times) u v h = absurd (let z : None ≡ Some u = h in cc)
   of_negated (ChainTree first links) u v h = absurd (let z : None ≡ Some u = h in cc)
 
+  -- a tree turned once has its operand's value transposed: it is a ^ with one sign
   pub of_turned : (t u : Tree) → HasValue S t → turned_once t ≡ Some u
       → HasValue S u × (value S t ≡ transpose (value S u))
   of_turned (TurnedTree at of times) u v h =
@@ -160,6 +135,7 @@ module _ (S : State) where
             ∙ complement_laws.twice (value S u) (valid-value S u b.0));
       }
 
+  -- an even number of turns is none, and an odd one is a single turn: a relation transposed twice is itself
   two_turns : (at : Place) (of : Tree) (times : ℕ) (even : Bool) → (times % 2 == 0) ≡ even → HasValue S of
       → Means S (cond even of (TurnedTree at of 1)) (transposed_by times (value S of))
   two_turns at of times true e v =
@@ -181,6 +157,7 @@ module _ (S : State) where
             ∙ turn_laws.odd k (value S of) (valid-value S of v));
       }
 
+  -- so more turns than one may be cut down to none or one, by whether their number is even
   pub turns : (t u : Tree) → HasValue S t → many_turns t ≡ Some u → Means S u (value S t)
   turns (TurnedTree at of times) u v h =
       let p = passed (nat_le 2 times) _ u h in
@@ -194,6 +171,7 @@ module _ (S : State) where
   turns (MinusTree at of) u v h = absurd (let z : None ≡ Some u = h in cc)
   turns (ChainTree first links) u v h = absurd (let z : None ≡ Some u = h in cc)
 
+  -- turns of turns are as many as both numbers together, since transposing so many times and again so many adds up
   pub again : (t u : Tree) → HasValue S t → turned_again t ≡ Some u → Means S u (value S t)
   again (TurnedTree at (TurnedTree there of less) times) u v h =
       subst (λ x. Means S x (transposed_by times (transposed_by less (value S of)))) (same_some h)
@@ -219,6 +197,8 @@ module _ (S : State) where
       → takes op (sizes x) (sizes y) ≡ true
   taken op l r x y e f h = sym (λ i. takes op (sizes (e i)) (sizes (f i))) ∙ h
 
+  -- `-(R^*-S)` has the value of `R\S`, by the law of the right residual: as the product's operands
+  -- fit, R and S have as many rows
   pub right_residual_rule : (t u : Tree) → HasValue S t → to_right_residual t ≡ Some u → Means S u (value S t)
   right_residual_rule t u v h =
       let f = found (negated t) _ u h in
@@ -245,6 +225,7 @@ module _ (S : State) where
       rows_agree R Q h = one_fits R.rows Q.rows (sym (λ i. takes Times (sizes-transpose R i) (sizes-complement Q i))
           ∙ h)
 
+  -- `-(-S*R^)` has the value of `S/R`, by the law of the left residual: here S and R have as many columns
   pub left_residual_rule : (t u : Tree) → HasValue S t → to_left_residual t ≡ Some u → Means S u (value S t)
   left_residual_rule t u v h =
       let f = found (negated t) _ u h in
@@ -271,6 +252,7 @@ module _ (S : State) where
       cols_agree Q R h = one_fits Q.cols R.cols (sym (λ i. takes Times (sizes-complement Q i) (sizes-transpose R i))
           ∙ h)
 
+  -- `R^*S^` has the value of `(S*R)^`: transposition turns a composition around
   pub product_rule : (t u : Tree) → HasValue S t → turned_product t ≡ Some u → Means S u (value S t)
   product_rule t u v h =
       let g = found (operands_of Times t) _ u h in
@@ -326,6 +308,7 @@ module _ (S : State) where
   dual_lattice And l = refl
   dual_lattice op l = absurd (false≢true l)
 
+  -- `R^|S^` has the value of `(R|S)^`, and so for &: transposition passes through both
   pub turned_rule : (t u : Tree) → HasValue S t → turned_operands t ≡ Some u → Means S u (value S t)
   turned_rule t u v h =
       let g = found (two_operands t) _ u h in
@@ -356,6 +339,7 @@ module _ (S : State) where
       cols_back : (R Q : Relation) → (transpose R).rows ≡ (transpose Q).rows → R.cols ≡ Q.cols
       cols_back R Q h = rows_of R ∙ h ∙ sym (rows_of Q)
 
+  -- `-R&-S` has the value of `-(R|S)`, and so for | and & exchanged, by De Morgan's laws
   pub negated_rule : (t u : Tree) → HasValue S t → negated_operands t ≡ Some u → Means S u (value S t)
   negated_rule t u v h =
       let g = found (two_operands t) _ u h in
@@ -381,42 +365,8 @@ module _ (S : State) where
       })
 
   -- ---- 10
+  -- `(R\S)&R^/S^` has the value of `syq(R,S)`: the symmetric quotient is the intersection of the two residuals, and
   -- trees that are one up to places have one value
-  mutual
-    pub same_value : (t u : Tree) → same_tree t u ≡ true → value S t ≡ value S u
-    same_value (NameTree at name) (NameTree there other) h = ap (λ n. value_named (S n))
-        (text_of_test name other (sym h))
-    same_value (CallTree at name args) (CallTree there other others) h = refl
-    same_value (BaseTree at base args) (BaseTree there other others) h = ap value_of_quotient
-        (same_values args others (and_parts _ _ h).1)
-    same_value (InjectTree at base domain) (InjectTree there other another) h = refl
-    same_value (PairTree at left right) (PairTree there other another) h = refl
-    same_value (MinusTree at of) (MinusTree there other) h = ap complement (same_value of other h)
-    same_value (TurnedTree at of times) (TurnedTree there other signs) h =
-        let k = and_parts _ _ h in
-        (λ i. transposed_by (eqb-true times signs k.0 i) (same_value of other k.1 i))
-    same_value (ChainTree first links) (ChainTree other others) h =
-        let k = and_parts _ _ h in
-        ap (λ r. value_along S r links) (same_value first other k.0) ∙ same_value_along links others k.1 (value S other)
-    same_value t u h = absurd (false≢true h)
-
-    same_values : (args others : Trees) → same_trees args others ≡ true → values S args ≡ values S others
-    same_values NoTree NoTree h = refl
-    same_values (MoreTrees t args) (MoreTrees u others) h =
-        let k = and_parts _ _ h in
-        (λ i. same_value t u k.0 i ∷ same_values args others k.1 i)
-    same_values t u h = absurd (false≢true h)
-
-    same_value_along : (links others : Branches) → same_branches links others ≡ true → (r : Relation)
-        → value_along S r links ≡ value_along S r others
-    same_value_along NoBranch NoBranch h r = refl
-    same_value_along (MoreBranches at op right links) (MoreBranches there other another others) h r =
-        let k = and_parts _ _ h in
-        let j = and_parts _ _ k.1 in
-        (λ i. value_along S (result_of_both (same_op op other k.0 i) r (same_value right another j.0 i)) links)
-        ∙ same_value_along links others j.1 (result_of_both other r (value S another))
-    same_value_along t u h r = absurd (false≢true h)
-
   pub quotient_rule : (t u : Tree) → HasValue S t → to_quotient t ≡ Some u → Means S u (value S t)
   quotient_rule t u v h =
       let g = found (operands_of And t) _ u h in
@@ -433,8 +383,8 @@ module _ (S : State) where
       let s = of_turned (d.at).1 b.at y.has_right b.first in
       let R = value S (c.at).0 in
       let Q = value S (c.at).1 in
-      let e : value S (d.at).0 ≡ transpose R = r.1 ∙ ap transpose (sym (same_value (c.at).0 a.at q.0)) in
-      let f : value S (d.at).1 ≡ transpose Q = s.1 ∙ ap transpose (sym (same_value (c.at).1 b.at q.1)) in
+      let e : value S (d.at).0 ≡ transpose R = r.1 ∙ ap transpose (sym (same_value S (c.at).0 a.at q.0)) in
+      let f : value S (d.at).1 ≡ transpose Q = s.1 ∙ ap transpose (sym (same_value S (c.at).1 b.at q.1)) in
       let w : value S (g.at).1 ≡ left_residual (transpose R) (transpose Q) =
       y.made ∙ (λ j. left_residual (e j) (f j)) in
       let z : value S t ≡ inter (right_residual R Q) (left_residual (transpose R) (transpose Q)) =

@@ -56,6 +56,7 @@ module _ (s t : State) where
   agree_left [] ys h = tt
   agree_left (x ∷ xs) ys h = (h.0, agree_left xs ys h.1)
 
+  -- states that agree on two lists of names agree on the second, by induction on the first
   agree_right : (xs ys : List (List ℕ)) → AgreeOn s t (xs ++ ys) → AgreeOn s t ys
   agree_right [] ys h = h
   agree_right (x ∷ xs) ys h = agree_right xs ys h.1

@@ -70,6 +70,7 @@ name_more : (T U : Types) → Extends T U → (at : Place) (name : List ℕ) (s 
 name_more T U x at name s None e h = absurd (let d : typed_name at name None ≡ Fits s = ap (typed_name at name) (sym e) ∙ h in let f : Misfit _ ≡ Fits s = d in cc)
 name_more T U x at name s (Some t) e h = ap (typed_name at name) (x name t e) ∙ ap (typed_name at name) (sym e) ∙ h
 
+-- more types of names leave the type of a domain operator: it fits only where both its names have types, and these stay
 injected_more : (T U : Types) → Extends T U → (at : Place) (base : Base) (s : StaticShape) (o : Option (List ℕ × List ℕ)) → typed_injected T at base o ≡ Fits s → typed_injected U at base o ≡ Fits s
 injected_more T U x at base s None h = h
 injected_more T U x at base s (Some names) h = both (T names.0) (T names.1) refl refl h
@@ -197,6 +198,7 @@ extends_trans T U V x y name s e = y name s (x name s e)
 pub fits_same : {A : Type 0} {x y : A} → Fits x ≡ Fits y → x ≡ y
 fits_same e = cc
 
+-- an assignment only adds types: a name without one gets that of the value, and a name that has one keeps it
 set-grows : (at : Place) (name : List ℕ) (s : StaticShape) (T T1 : Types) (o : Option StaticShape) → T name ≡ o → set_type at name s T o ≡ Fits T1 → Extends T T1
 unfolding typed_as
 set-grows at name s T T1 None e h = subst (Extends T) (fits_same h) (λ n t g. at_name n t g (same_text name n) refl)
@@ -259,6 +261,8 @@ covers-assigned U S name s r c e d n = at (same_text name n) refl
     at true f = subst (λ t. CoversAt t (Some r)) (sym (ap U (sym (text_of_test name n (sym f))) ∙ e)) d
     at false f = c n
 
+-- an assignment keeps the state covered by the types behind all statements: the value is described by the name's type
+-- there, be it the one set here or an earlier one that it fits
 set-kept : (U : Types) (at : Place) (name : List ℕ) (s : StaticShape) (T T1 : Types) (o : Option StaticShape) → T name ≡ o → set_type at name s T o ≡ Fits T1 → Extends T U → Extends T1 U → (S : State) → Covers U S → (a : Answer Relation) → Agree Describes (Fits s) a →
     CoveredBy U (following a (λ r m. got (assigned name r S) m)).answer
 unfolding typed_as

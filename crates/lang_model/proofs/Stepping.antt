@@ -22,7 +22,8 @@ use Rattle.lang_model.specs.Rewriting.{Step, same_operator, same_tree, same_tree
 use Rattle.lang_model.proofs.Sounding.{passes}
 use Rattle.lang_model.proofs.Sizes.{equal_passes}
 use Rattle.lang_model.proofs.Values.{value, HasValue, shape-value, value-from, mean-value}
-use Rattle.lang_model.proofs.Ruling.{Means, same_some, one, turns, again, right_residual_rule, left_residual_rule, product_rule, turned_rule, negated_rule, quotient_rule}
+use Rattle.lang_model.proofs.Sameness.{same_some}
+use Rattle.lang_model.proofs.Ruling.{Means, one, turns, again, right_residual_rule, left_residual_rule, product_rule, turned_rule, negated_rule, quotient_rule}
 use Rattle.lang_model.proofs.Repeats.{repeats_rule}
 use Rattle.lang_model.proofs.Lighter.{least_by, at_node, in_part}
 
@@ -59,6 +60,7 @@ module _ (S : State) (valid : AreRelations S) (A : AroundTypes) (B : Around) whe
     pub type : shape_branches A (types_in S) s others ≡ Fits t
     pub mean : (r : Relation) (n : ℕ) → (mean_branches B S r others n).answer ≡ (mean_branches B S r links n).answer
 
+  -- a step at a node keeps its type and meaning: a calm node whose types fit has a value, and the rule keeps that value
   kept_here : (t : Tree) (x : Step × Tree) (s : StaticShape) → here t ≡ Some x → shape_tree A (types_in S) t ≡ Fits s
       → Kept t x.1 s
   kept_here t x s h f =
@@ -299,6 +301,7 @@ step_here t x h =
     (and_from _ _ n.calm (ap (is_result (n.rule).1) (result_of_least t n.rule n.least) ∙ tree_itself (n.rule).1))
 
 mutual
+  -- each step is valid, by induction on the tree: it is in a part, or it is that of the least rule at a calm node
   stepped : (t : Tree) (x : Step × Tree) → next_step t ≡ Some x → is_step x.0 ≡ true
   stepped (NameTree at name) x h = step_here (NameTree at name) x h
   stepped (CallTree at name args) x h = elim (in_part (CallTree at name) (next_in args)

@@ -12,7 +12,7 @@ use Rattle.lang_model.specs.Outcomes.{and_then, with_turns}
 use Rattle.lang_model.specs.Mean.{Calls, around_with, named, based, paired, complemented, turned, linked, mean_tree, mean_trees, mean_branches}
 use Rattle.lang_model.specs.Eval.{names_in, names_in_all, names_along, AgreeOn}
 use Rattle.lang_model.specs.Rewriting.{Step, same_operator, same_tree, negated, turned_once, Two, two_operands, operands_of, chain_of, is_lattice, without_repeats, double_complement, many_turns, turned_again, repeated_operands, to_right_residual, to_left_residual, turned_product, turned_operands, negated_operands, to_quotient, here, inside, next_step, next_in, next_along, weight, calm_within, calm_behind, calmed}
-use Rattle.lang_model.proofs.Ruling.{found, passed, same_some}
+use Rattle.lang_model.proofs.Sameness.{found, passed, same_some}
 use Rattle.lang_model.proofs.Lighter.{least_by, at_node, in_part}
 
 module _ (Q : List ℕ → Type 0) where
@@ -88,6 +88,7 @@ module _ (Q : List ℕ → Type 0) where
   uses_3 (TurnedTree at (ChainTree first links) times) u v h = absurd (let z : None ≡ Some u = h in cc)
   uses_3 t u v h = absurd (let z : None ≡ Some u = h in cc)
 
+  -- links without repeated operands use no other names, by induction: an operand is kept or dropped
   kept_uses : (before : List Tree) (links : Branches) → UsesAlong links → UsesAlong (without_repeats before links)
   kept_uses before NoBranch v = tt
   kept_uses before (MoreBranches at op right links) v =
@@ -261,6 +262,7 @@ module _ (s t : State) where
   left_of [] ys h = tt
   left_of (x ∷ xs) ys h = (h.0, left_of xs ys h.1)
 
+  -- states that agree on two lists of names agree on the second, by induction on the first
   pub right_of : (xs ys : List (List ℕ)) → AgreeOn s t (xs ++ ys) → AgreeOn s t ys
   right_of [] ys h = h
   right_of (x ∷ xs) ys h = right_of xs ys h.1

@@ -52,6 +52,7 @@ abbrev mutual
   values S NoTree = []
   values S (MoreTrees t args) = value S t ∷ values S args
 
+  -- that of links behind a value so far, from left to right
   pub value_along : State → Relation → Branches → Relation
   value_along S r NoBranch = r
   value_along S r (MoreBranches at op right links) = value_along S (result_of_both op r (value S right)) links
@@ -126,6 +127,7 @@ sizes-turned : (n : ℕ) (r : Relation) → sizes (transposed_by n r) ≡ type_t
 sizes-turned zero r = refl
 sizes-turned (suc n) r = sizes-transpose (transposed_by n r) ∙ ap type_turned (sizes-turned n r)
 
+-- an operator's result has the sizes that its type makes of the operands' sizes, operator by operator
 sizes-both : (op : Op2) (r s : Relation) → sizes (result_of_both op r s) ≡ type_of_link op (sizes r) (sizes s)
 unfolding union inter compose right_residual left_residual relation_of
 sizes-both Or r s = refl
@@ -211,6 +213,7 @@ complement_made : (r : Relation) (n : ℕ) → (with_turns (complemented r) n).a
 unfolding complemented
 complement_made r n = refl
 
+-- turning a relation transposes it as many times: nothing is refused, and no turn of a loop is spent
 turned_made : (times : ℕ) (r : Relation) (n : ℕ) → (with_turns (turned times r) n).answer ≡ Got
     (transposed_by times r) n
 unfolding turned

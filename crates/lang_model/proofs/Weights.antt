@@ -88,6 +88,7 @@ weight-while at test body = search (rules, stmt_lemmas, weight_within-items)
 pub weight-if : (at : _) (test : _) (first : _) (second : _) → weight_stmt (If at test first second) ≡ weight test + (weight_by first.items + weight_by second.items) + 1
 weight-if at test first second = search (rules, stmt_lemmas, weight_within-items)
 
+-- a statement weighs no more than its list, by induction to its place
 pub weight_one : (ss : List Stmt) (k : ℕ) (s d : Stmt) → k < length ss → s ≡ get_or ss k d → weight_stmt s ≤ weight_by ss
 weight_one [] k s d h is = absurd (omega arith)
 weight_one (x ∷ xs) zero s d h is = let same : weight_stmt s ≡ weight_stmt x = ap weight_stmt is in omega (arith, same)

@@ -1,5 +1,4 @@
--- The faults that a script has before it runs, and the first of them: names, arguments, assignments and ranks of
--- definitions, and the definitions that commands call.
+-- The faults that a script has before it runs, and the first of them: of names, arguments, assignments and ranks.
 use Rattle.std.specs.Prelude.{◌==◌, ◌&&◌, ◌||◌, ◌+◌, not, nat_lt, max, cond, ℕ, Bool, true, false, List, [], ◌∷◌, ◌++◌, length, map, codes, Option, Some, None}
 use Rattle.std.specs.List.{list_any}
 use Rattle.std.specs.Option.{option_map_or}
@@ -13,8 +12,7 @@ use Rattle.lang_model.specs.declared.syntax.Decl.{Decl}
 use Rattle.lang_model.specs.declared.syntax.Decl.TheVariants.{Variable, Domain}
 use Rattle.lang_model.specs.declared.syntax.Let.{Let as LetOf}
 use Rattle.lang_model.specs.declared.syntax.Command.{Command}
-use Rattle.lang_model.specs.declared.syntax.Command.TheVariants.{Let, Print, List as LIST, Count, Typed, At, Save}
-use Rattle.lang_model.specs.declared.syntax.Command.TheVariants.{Atomic, Explain}
+use Rattle.lang_model.specs.declared.syntax.Command.TheVariants.{Let, Print, List as LIST, Count, Typed, At, Save, Atomic, Explain}
 use Rattle.lang_model.specs.declared.syntax.Item.{Item}
 use Rattle.lang_model.specs.declared.syntax.Item.TheVariants.{Function, Program, Command as COMMAND}
 use Rattle.lang_model.specs.declared.syntax.Script.{Script}
@@ -240,8 +238,7 @@ abbrev pub place_of_decl : Decl → Place
 place_of_decl (Variable at name) = at
 place_of_decl (Domain at name sum left right) = at
 
--- declarations whose name is taken, by a parameter or an earlier declaration, and those with operands that are not
--- parameters
+-- declarations whose name a parameter or an earlier one has, and those with operands that are not parameters
 abbrev pub decl_faults : List (List ℕ) → List (List ℕ) → List Decl → List TypeFault
 decl_faults parameters before [] = []
 decl_faults parameters before (d ∷ ds) =
@@ -257,8 +254,7 @@ parameter_faults at before (p ∷ ps) = cond (among before p) (Twice at p ∷ []
 abbrev pub names_of : List Known → List (List ℕ)
 names_of = map (λ d. d.name)
 
--- the faults at the name of a definition of this rank: the rank exceeds the limit, the name is already defined, or a
--- parameter occurs twice
+-- the faults at a definition's name: its rank is over the limit, its name is taken, or a parameter occurs twice
 unfoldable pub head_faults : List Known → Place → List ℕ → List (List ℕ) → ℕ → List TypeFault
 head_faults earlier at name parameters rank =
     cond (nat_lt rank_limit rank) (Rank at name ∷ []) []

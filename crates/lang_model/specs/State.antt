@@ -1,7 +1,7 @@
 -- The workspace: which names have relations.
 use Rattle.std.specs.Prelude.{◌==◌, ◌&&◌, ◌+◌, ℕ, Bool, cond, List, Option, Some, None}
 use Rattle.std.specs.List.{list_any}
-use Rattle.lang_model.specs.declared.syntax.Row.{Row}
+use Rattle.lang_model.specs.declared.rows.Row.{Row}
 use Rattle.rel_model.specs.Relation.{Relation}
 use Rattle.lang_model.specs.Tokens.{same_text}
 

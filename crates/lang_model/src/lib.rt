@@ -5,7 +5,7 @@ mod base_text;
 pub mod faults;
 pub mod laws;
 pub mod limits;
+pub mod names;
+pub mod rows;
 pub mod syntax;
-#[cfg(test)]
-mod tests;
 pub mod token;

@@ -88,6 +88,7 @@ right_identity m n r t =
     (λ i j h. let x = in_compose r (identity n) i j h in subst (λ (y : ℕ). has r i y ≡ true) (in_identity n x.at j x.second) x.first)
     (λ i j h. let w = inside m n r t i j h in from_compose m n n r (identity n) t (type-identity n) i j j h (from_identity n j j w.col refl))
 
+-- composition distributes over union: the pair that follows the middle element lies in one of the two relations
 over_union : (m n p : ℕ) (r s t : Relation) → HasType m n r → HasType n p s → HasType n p t → compose r (union s t) ≡ union (compose r s) (compose r t)
 over_union m n p r s t tr ts tt =
     let st = type-union n p s t ts in
@@ -180,6 +181,8 @@ left_greatest m n p r x s tr tx ts = (
 pub residual_laws : ResidualLaws
 residual_laws = record { right = right_by_complement; left = left_by_complement; right_greatest = right_greatest; left_greatest = left_greatest }
 
+-- the symmetric quotient is two residuals intersected: two columns are equal where each lies within the other, and each
+-- residual says one of these
 pub quotient_by_residuals : QuotientByResiduals
 quotient_by_residuals m n p r s tr ts =
     let R = type-transpose m n r tr in
@@ -203,6 +206,7 @@ quotient_by_residuals m n p r s tr ts =
 not_lacking : (m n : ℕ) (r : Relation) → HasType m n r → (i j : ℕ) → i < m → j < n → (has (complement r) i j ≡ true → ⊥) → has r i j ≡ true
 not_lacking m n r t i j a b f = elim (has_or r i j) [ inl h ↦ h | inr g ↦ absurd (f (from_complement m n r t i j a b g)) ]
 
+-- one of Schröder's equivalences: each side says that no i, j, k have (i, j) in r and (j, k) in s, but (i, k) not in t
 first_second : (m n p : ℕ) (r s t : Relation) → HasType m n r → HasType n p s → HasType m p t → IsWithin (compose r s) t ↔ IsWithin (compose (transpose r) (complement t)) (complement s)
 first_second m n p r s t tr ts tt = (
   (λ f j k h. let x = in_compose (transpose r) (complement t) j k h in

@@ -158,6 +158,8 @@ module _ (n : ℕ) (r : Relation) (q : IsEquivalence n r) where
       (same_through r a.at x b.at a.same (same_turned r b.at x b.same)) in
       sym a.number ∙ ap (λ z. count_below z (leads r)) e ∙ b.number
 
+  -- y is in the class of x exactly where the two are related: a class has one leader, and all its elements have the
+  -- leader's column
   class_pairs : (x y k : ℕ) → has (classes r) x k ≡ true → (has (classes r) y k ≡ true) ↔ (has r x y ≡ true)
   class_pairs x y k h =
       let c = type-classes n r q.type in

@@ -22,6 +22,7 @@ height_of-counted n = sym (is_count_by (counted n) (λ k. ltb (2 ^ k) n) refl (�
 pub power_up : (i j : ℕ) → i ≤ j → 2 ^ i ≤ 2 ^ j
 power_up i j l = pow-le-pow_right {n = 2} (omega arith) {i = i} {j = j} l
 
+-- at most h - a of the powers of 2 from 2 ^ a on are below n: those from 2 ^ h on are not, as n is at most 2 ^ h
 counted-least : (n h a len : ℕ) → n ≤ 2 ^ h → counted n (range_with_len a len) ≤ h - a
 unfolding counted
 counted-least n h a zero l = omega arith

@@ -50,6 +50,7 @@ unfolding lower_bounds
 from_lower n q r s t u x y a b f = from_test r.rows s.cols n q _ t.row_size u.col_size x y a b
     (not_from_false _ (some_none s.rows _ (λ z l. none_but (has s z y) (has r x z) (f z))))
 
+-- upper bounds are a left residual of transposes: both ask that each z in column y of s be related to x
 upper_by_residual : (n q : ℕ) (r s : Relation) → HasType n n r → HasType n q s
     → upper_bounds r s ≡ left_residual (transpose r) (transpose s)
 upper_by_residual n q r s t u =
@@ -65,6 +66,7 @@ upper_by_residual n q r s t u =
     from_upper n q r s t u x y w.row w.col (λ z g. in_transpose r x z
     (in_left n n (transpose s) (transpose r) R S.col_size S.valid x y h z (from_transpose n q s u y z g))))
 
+-- lower bounds are a left residual too: both ask that x be related to each z in column y of s
 lower_by_residual : (n q : ℕ) (r s : Relation) → HasType n n r → HasType n q s
     → lower_bounds r s ≡ left_residual r (transpose s)
 lower_by_residual n q r s t u =

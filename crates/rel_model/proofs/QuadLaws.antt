@@ -3,6 +3,7 @@ use Rattle.std.proofs.Common.{◌≡◌, ◌<◌, ◌≤◌, ◌+◌, ◌-◌, �
 use Rattle.std.proofs.lemmas.Bool.{or_cases, eqb-true, and_parts}
 use Rattle.std.proofs.Math.Nat.{pow-suc, one-le-pow}
 use Rattle.rel_model.specs.declared.Quad.{Quad}
+use Rattle.rel_model.specs.declared.Quarters.{Quarters}
 use Rattle.rel_model.specs.Cells.{Cells, no_cells}
 use Rattle.rel_model.specs.Trees.{bottom_height, top_height, cells, stands, twice, side, quartered}
 use Rattle.rel_model.specs.Words.{Extends, IsFull, IsFullOfOthers}
@@ -152,25 +153,25 @@ room-some h l = let a = one-le-pow (h - bottom_height) 4 (omega arith) in omega 
 
 -- ---- quarters and corners over several calls
 -- quarters stay quarters
-pub quarters-stay : (m : ℕ) (u v w : Keeper) (q : Quad) (four : Quad × Quad × Quad × Quad) → KeepsQuads m v w → AreQuarters u v q four → AreQuarters u w q four
+pub quarters-stay : (m : ℕ) (u v w : Keeper) (q : Quad) (four : Quarters) → KeepsQuads m v w → AreQuarters u v q four → AreQuarters u w q four
 quarters-stay m u v w q four k a = record {
-  nw = quad_stays m v w four.0 k a.nw;
-  ne = quad_stays m v w four.1 k a.ne;
-  sw = quad_stays m v w four.2 k a.sw;
-  se = quad_stays m v w four.3 k a.se;
+  nw = quad_stays m v w four.nw k a.nw;
+  ne = quad_stays m v w four.ne k a.ne;
+  sw = quad_stays m v w four.sw k a.sw;
+  se = quad_stays m v w four.se k a.se;
   nw_height = a.nw_height;
   ne_height = a.ne_height;
   sw_height = a.sw_height;
   se_height = a.se_height;
   means = a.means
-      ∙ ap (λ (c : Cells). quartered (side_of four.0.height) c (quad_cells v four.1) (quad_cells v four.2) (quad_cells v four.3)) (sym (quad_cells-stay m v w four.0 k a.nw))
-      ∙ ap (λ (c : Cells). quartered (side_of four.0.height) (quad_cells w four.0) c (quad_cells v four.2) (quad_cells v four.3)) (sym (quad_cells-stay m v w four.1 k a.ne))
-      ∙ ap (λ (c : Cells). quartered (side_of four.0.height) (quad_cells w four.0) (quad_cells w four.1) c (quad_cells v four.3)) (sym (quad_cells-stay m v w four.2 k a.sw))
-      ∙ ap (λ (c : Cells). quartered (side_of four.0.height) (quad_cells w four.0) (quad_cells w four.1) (quad_cells w four.2) c) (sym (quad_cells-stay m v w four.3 k a.se));
+      ∙ ap (λ (c : Cells). quartered (side_of four.nw.height) c (quad_cells v four.ne) (quad_cells v four.sw) (quad_cells v four.se)) (sym (quad_cells-stay m v w four.nw k a.nw))
+      ∙ ap (λ (c : Cells). quartered (side_of four.nw.height) (quad_cells w four.nw) c (quad_cells v four.sw) (quad_cells v four.se)) (sym (quad_cells-stay m v w four.ne k a.ne))
+      ∙ ap (λ (c : Cells). quartered (side_of four.nw.height) (quad_cells w four.nw) (quad_cells w four.ne) c (quad_cells v four.se)) (sym (quad_cells-stay m v w four.sw k a.sw))
+      ∙ ap (λ (c : Cells). quartered (side_of four.nw.height) (quad_cells w four.nw) (quad_cells w four.ne) (quad_cells w four.sw) c) (sym (quad_cells-stay m v w four.se k a.se));
 }
 
 -- the quarters of a quad that stood before
-pub quarters-before : (m : ℕ) (t u v : Keeper) (q : Quad) (four : Quad × Quad × Quad × Quad) → KeepsQuads m t u → QuadStands t q → AreQuarters u v q four → AreQuarters t v q four
+pub quarters-before : (m : ℕ) (t u v : Keeper) (q : Quad) (four : Quarters) → KeepsQuads m t u → QuadStands t q → AreQuarters u v q four → AreQuarters t v q four
 quarters-before m t u v q four k s a = record {
   nw = a.nw;
   ne = a.ne;

@@ -108,6 +108,7 @@ pub record IsRooted (words : List ℕ) (rel : Rel) : Type 0 where
   pub standing : stands words (depth_of (tree_height rel.rows rel.cols)) rel.root ≡ true
   pub within : LiesWithin rel.rows rel.cols (root_cells words rel)
 
+-- what `stands_in` tests of a relation: sizes within the limit, and a root that stands, whose set lies within them
 rooted_parts : (words : List ℕ) (rel : Rel) → stands_in words rel ≡ true → IsRooted words rel
 unfolding stands_in
 rooted_parts words rel e =

@@ -35,6 +35,7 @@ complement-twice r v =
     (λ i j h. let w = inside r.rows r.cols r t i j h in from_complement r.rows r.cols (complement r) c i j w.row w.col
     (λ g. apart r i j g h))
 
+-- De Morgan's law for union: a pair that the intersection lacks is lacking in one of the two relations
 complement-union : (m n : ℕ) (r s : Relation) → HasType m n r → HasType m n s
     → union (complement r) (complement s) ≡ complement (inter r s)
 complement-union m n r s t u =
@@ -56,6 +57,7 @@ complement-union m n r s t u =
       | inr y ↦ left_union m n (complement r) (complement s) cr i j (from_complement m n r t i j w.row w.col y)
     ])
 
+-- De Morgan's law for intersection: a pair that the union lacks is lacking in both relations
 complement-inter : (m n : ℕ) (r s : Relation) → HasType m n r → HasType m n s
     → inter (complement r) (complement s) ≡ complement (union r s)
 complement-inter m n r s t u =

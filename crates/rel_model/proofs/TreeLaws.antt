@@ -39,6 +39,7 @@ pub zero_stands : (words : List ℕ) (k : ℕ) → stands words k 0 ≡ true
 zero_stands words zero = refl
 zero_stands words (suc k) = refl
 
+-- what stands keeps standing as words are added: by induction on the depth, since its word is kept and its halves stand
 pub kept_stands : (old new : List ℕ) → Extends old new → (k n : ℕ) → stands old k n ≡ true → stands new k n ≡ true
 kept_stands old new x zero n s =
     elim (or_cases _ _ s) [
@@ -142,6 +143,8 @@ pub record Halves (f g x y : Cells) : Type 0 where
   pub firsts : f ≡ x
   pub seconds : g ≡ y
 
+-- two sets side by side are told apart: columns below n belong to the first, which lies within them, and later ones to
+-- the second
 beside_halves : (m n : ℕ) (f g x y : Cells) → Within m n f → Within m n x → beside n f g ≡ beside n x y → Halves f g x y
 beside_halves m n f g x y v w e = record {
   firsts = same_cells f x (λ i j. elim (cases_Bool (ltb j n)) [
@@ -155,6 +158,7 @@ beside_halves m n f g x y v w e = record {
       rw (d, b) at h);
 }
 
+-- so are two sets one above the other: rows below m belong to the first, and later ones to the second
 above_halves : (m n : ℕ) (f g x y : Cells) → Within m n f → Within m n x → above m f g ≡ above m x y → Halves f g x y
 above_halves m n f g x y v w e = record {
   firsts = same_cells f x (λ i j. elim (cases_Bool (ltb i m)) [

@@ -96,6 +96,7 @@ record Middle (r : Relation) (a b x y : ℕ) : Type 0 where
   first : walk r (suc a) x at ≡ true
   second : walk r (suc b) at y ≡ true
 
+-- a walk of a + b + 2 steps is cut after its first a + 1 steps: by induction on a, one step taken off at a time
 split : (n : ℕ) (r : Relation) → HasType n n r → (a b x y : ℕ) → walk r (suc (suc (a + b))) x y ≡ true → Middle r a b x y
 split n r t zero b x y h =
     let s = step_in r b x y (subst (λ (c : ℕ). walk r (suc (suc c)) x y ≡ true) (let e : 0 + b ≡ b = omega arith in e) h) in
@@ -275,6 +276,8 @@ walks_within-still n m r t z e =
     (λ x y h. let p = some_passes m _ (in_walks m r x y h) in closed n r t x y p.at p.passes)
     (λ x y h. let p = open_walk n r t x y h in stays_in n r w t tw (λ a b g. from_walks n m r t a b 0 z g) up p.at x y p.passes)
 
+-- the laws of closures: a pair is in the transitive closure exactly where a walk leads from one to the other, so joined
+-- walks make it transitive, and each walk stays within a transitive relation over r
 pub closure_laws : ClosureLaws
 closure_laws = record {
   walks = λ n r t x y a b. ((λ h. let p = open_walk n r t x y h in record { steps = suc p.at; walks = p.passes }), (λ j. some_steps n r t x y j.steps j.walks));

@@ -2,6 +2,7 @@
 -- counts misses.
 use Rattle.std.specs.Prelude.{◌≡◌, ◌≢◌, ◌<◌, ◌≤◌, ◌+◌, ◌-◌, ◌*◌, ◌^◌, min, ℕ, zero, suc, true, Result, Ok, Err}
 use Rattle.rel_model.specs.declared.Quad.{Quad}
+use Rattle.rel_model.specs.declared.Quarters.{Quarters}
 use Rattle.rel_model.specs.Cells.{Cells}
 use Rattle.rel_model.specs.Trees.{bottom_height, top_height, cells, stands, quartered}
 use Rattle.rel_model.specs.Words.{Extends, IsFull}
@@ -60,23 +61,24 @@ pub record ReadsQuads (old new : Keeper) : Type 0 where
 abbrev pub one_more_miss : ℕ → ℕ
 one_more_miss n = min (n + 1) (2 ^ 64 - 1)
 
--- a call that found no place counts one miss, and one that succeeded counts none
+-- a call that found no place counts one miss, and one that succeeded counts none; where the misses are the refusals of
+-- the keeper's seat, a call that fails has asked the table for a place and was refused, exactly once
 abbrev pub Counts : {T E : Type 0} → Keeper → Keeper → Result T E → Type 0
 Counts old new (Ok x) = new.misses ≡ old.misses
 Counts old new (Err e) = new.misses ≡ one_more_miss old.misses
 
 -- the quarters of a quad: north-west, north-east, south-west and south-east
-pub record AreQuarters (old new : Keeper) (q : Quad) (four : Quad × Quad × Quad × Quad) : Type 0 where
-  pub nw : QuadStands new four.0
-  pub ne : QuadStands new four.1
-  pub sw : QuadStands new four.2
-  pub se : QuadStands new four.3
-  pub nw_height : four.0.height + 1 ≡ q.height
-  pub ne_height : four.1.height + 1 ≡ q.height
-  pub sw_height : four.2.height + 1 ≡ q.height
-  pub se_height : four.3.height + 1 ≡ q.height
-  pub means : quad_cells old q ≡ quartered (side_of four.0.height) (quad_cells new four.0) (quad_cells new four.1)
-      (quad_cells new four.2) (quad_cells new four.3)
+pub record AreQuarters (old new : Keeper) (q : Quad) (four : Quarters) : Type 0 where
+  pub nw : QuadStands new four.nw
+  pub ne : QuadStands new four.ne
+  pub sw : QuadStands new four.sw
+  pub se : QuadStands new four.se
+  pub nw_height : four.nw.height + 1 ≡ q.height
+  pub ne_height : four.ne.height + 1 ≡ q.height
+  pub sw_height : four.sw.height + 1 ≡ q.height
+  pub se_height : four.se.height + 1 ≡ q.height
+  pub means : quad_cells old q ≡ quartered (side_of four.nw.height) (quad_cells new four.nw) (quad_cells new four.ne)
+      (quad_cells new four.sw) (quad_cells new four.se)
 
 -- how many words an operator on squares of a height places at most: 1 for a block; above blocks, those of the four
 -- quarters of the result, and 3 for their corner

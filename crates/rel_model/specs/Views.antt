@@ -1,9 +1,9 @@
 -- What callers see of a table and of a seat, and what each call on them promises.
-use Rattle.std.specs.Prelude.{◌≡◌, ◌≢◌, ◌⊎◌, ◌≤◌, ◌+◌, ◌^◌, ℕ, true, List, slice_index, length, Result, IfOk, IsOk, IsErr, Option, Some, None}
+use Rattle.std.specs.Prelude.{◌≡◌, ◌≢◌, ◌⊎◌, ◌<◌, ◌≤◌, ◌+◌, ◌-◌, ◌^◌, min, ℕ, true, List, slice_index, length, Result, IfOk, IsOk, IsErr, Option, Some, None}
 use base.Stored.{Gv}
 use Rattle.rel_model.specs.Cells.{Cells}
 use Rattle.rel_model.specs.Trees.{cells, stands}
-use Rattle.rel_model.specs.Words.{least_bits, most_bits, Extends, IsDistinct, IsFullOfOthers, stored_count}
+use Rattle.rel_model.specs.Words.{least_bits, most_bits, Extends, IsDistinct, IsFull, IsFullOfOthers, stored_count}
 use Rattle.rel_model.specs.Equations.{IsMemo, IsSoundTable, node_words}
 
 -- an opaque table identity; only equality can be tested
@@ -28,14 +28,19 @@ pub record View : Type 0 where
   pub spare : ℕ
   -- the slot of its last memo step, with the word loaded or stored there; none before the first
   pub last : Option (ℕ × ℕ)
+  -- how often it was refused a place, counted up to 2 ^ 64 - 1
+  pub refused : ℕ
 
--- the seat belongs to this table, whose size is within the limits, and its names are canonical
+-- the seat belongs to this table, whose size is within the limits, its names are canonical, and it was refused a place
+-- only if it saw that every place is taken
 pub record IsOf (seat : View) (table : Table) : Type 0 where
   pub one_house : seat.house ≡ table.house
   pub size : length seat.words ≡ 2 ^ table.bits
   pub low : least_bits ≤ table.bits
   pub high : table.bits ≤ most_bits
   pub canonical : IsDistinct seat.words
+  pub counted : seat.refused < 2 ^ 64
+  pub full : seat.refused ≢ 0 → IsFull seat.words
 
 -- name 0, or a name whose word was seen
 abbrev pub IsKnown : View → ℕ → Type 0
@@ -52,11 +57,12 @@ pub record Keeps (old new : View) : Type 0 where
   pub house : new.house ≡ old.house
   pub spare : new.spare ≡ old.spare
 
--- a call that places no word keeps the count of words made and the last memo step too
+-- a call that places no word keeps the counts of words made and of refusals, and the last memo step too
 pub record Reads (old new : View) : Type 0 where
   pub keeps : Keeps old new
   pub made : new.made ≡ old.made
   pub last : new.last ≡ old.last
+  pub refused : new.refused ≡ old.refused
 
 -- a table with no word, and its first seat
 pub record IsFresh (bits seats : ℕ) (made : Table × View) : Type 0 where
@@ -67,6 +73,7 @@ pub record IsFresh (bits seats : ℕ) (made : Table × View) : Type 0 where
   pub none_made : made.1.made ≡ 0
   pub spare_is : made.1.spare + 1 ≡ seats
   pub no_load : made.1.last ≡ None
+  pub none_refused : made.1.refused ≡ 0
 
 -- a call placed its word, which stood nowhere in the view before, and counts one more as made
 pub record IsPlacedNow {E : Type 0} (old new : View) (word : ℕ) (result : Result ℕ E) : Type 0 where
@@ -74,12 +81,18 @@ pub record IsPlacedNow {E : Type 0} (old new : View) (word : ℕ) (result : Resu
   pub absent : (n : ℕ) → slice_index old.words n ≢ word
   pub answered : IsOk result
 
--- a word is interned: the answer is its one name; there is no answer if and only if every place holds another word;
--- nothing was made unless the word was placed
+-- one refusal more; the count saturates
+abbrev pub one_more_refusal : ℕ → ℕ
+one_more_refusal n = min (n + 1) (2 ^ 64 - 1)
+
+-- a word is interned: the answer is its one name; there is no answer if and only if every place holds another word, and
+-- this alone counts as a refusal; nothing was made unless the word was placed
 pub record Interns {E : Type 0} (old new : View) (word : ℕ) (result : Result ℕ E) : Type 0 where
   pub named : IfOk result (λ n. (2 ≤ n) × (slice_index new.words n ≡ word))
   pub missed : IsErr result → IsFullOfOthers new.words word
   pub only_full : IsFullOfOthers new.words word → IsErr result
+  pub granted : IsOk result → new.refused ≡ old.refused
+  pub refused : IsErr result → new.refused ≡ one_more_refusal old.refused
   pub made : (new.made ≡ old.made) ⊎ IsPlacedNow old new word result
   pub keeps : Keeps old new
   pub last : new.last ≡ old.last
@@ -89,9 +102,10 @@ pub record Loads (slot word : ℕ) (old new : View) : Type 0 where
   pub holds : word ≢ 0 → IsMemo new.words slot word
   pub keeps : Keeps old new
   pub made : new.made ≡ old.made
+  pub refused : new.refused ≡ old.refused
   pub last : new.last ≡ Some (slot, word)
 
--- a second seat is split off: both know the same, and the second has made nothing
+-- a second seat is split off: both know the same, and the second has made nothing and was refused nothing
 pub record Splits (spare : ℕ) (old new second : View) : Type 0 where
   pub seen : Extends old.words new.words
   pub words : second.words ≡ new.words
@@ -103,8 +117,10 @@ pub record Splits (spare : ℕ) (old new second : View) : Type 0 where
   pub second_spare : second.spare ≡ spare
   pub last : new.last ≡ old.last
   pub second_last : second.last ≡ old.last
+  pub refused : new.refused ≡ old.refused
+  pub second_refused : second.refused ≡ 0
 
--- two seats become one, which knows what either knew
+-- two seats become one, which knows what either knew and counts the refusals of both (the count saturates)
 pub record Joins (old other new : View) : Type 0 where
   pub seen : Extends old.words new.words
   pub also_seen : Extends other.words new.words
@@ -112,6 +128,7 @@ pub record Joins (old other new : View) : Type 0 where
   pub made : new.made ≡ old.made + other.made
   pub spares : new.spare ≡ old.spare + other.spare + 1
   pub last : new.last ≡ old.last
+  pub refused : new.refused ≡ min (old.refused + other.refused) (2 ^ 64 - 1)
 
 -- the words at the end: they are sound, hold all that the seat has seen, and store as many nodes as the seat made
 pub record IsClosed (bits : ℕ) (seat : View) (words : List ℕ) : Type 0 where

@@ -2,21 +2,23 @@
 //!
 //! Every call leaves all relations and quads that stood with the same sets, makes at most as many nodes as its room,
 //! and refuses only for its stated cause.
-ghost use Rattle.std.specs.Prelude.{◌≡◌, ◌<◌, ◌≤◌, ◌+◌, ◌-◌, ◌*◌, ◌^◌, max, length, IfOk, OnErr, IsErrOf, IfSome, true, false};
+ghost use Rattle.std.specs.Prelude.{◌≡◌, ◌<◌, ◌≤◌, ◌+◌, ◌-◌, ◌*◌, ◌^◌, max, length, IfOk, OnOk, OnErr, IsErrOf, IfSome, true, false};
 ghost use Rattle.rel_model.specs.declared.Lack.TheVariants.{NoMemory as NO_MEMORY};
 ghost use Rattle.rel_model.specs.Relation.{has, relation_of, size_limit};
 ghost use Rattle.rel_model.specs.Operators.{right_residual, left_residual, symmetric_quotient, identity as identity_of};
-ghost use Rattle.rel_model.specs.Closures.{transitive_closure, reflexive_closure};
+ghost use Rattle.rel_model.specs.Closures.{walks_within, transitive_closure, reflexive_closure};
 ghost use Rattle.rel_model.specs.Choice.{holds, count_below, point as point_of, atom as atom_of, init as init_of, next as next_of, dom as dom_of, ran as ran_of, is_unival, count as count_of, next_pair as next_pair_of, inj as inj_of};
 ghost use Rattle.rel_model.specs.Domains.{HasDomainCause, first_projection, second_projection, left_injection, right_injection, membership, pairing};
 ghost use Rattle.rel_model.specs.Roots.{height_over, relation_room};
 ghost use Rattle.rel_model.specs.Listed.{AreWithin, is_among};
 ghost use Rattle.rel_model.specs.Worker.{Stands, set_of, Gives, Keeps, MakesAtMost, MissesNothing, HasCause, listed_room, pairs_room, operator_room, derived_room, wide_room};
 
+use crate::counter::Steps;
 use crate::faults::DomainError;
 use crate::seated_trait::Seated;
 use crate::{Lack, NoMemory, Rel, Shape};
 use std::alloc::Global;
+use std::sync::ledger::Ledger;
 
 /// A worker that has all operations of the language (Schmidt and Ströhlein, *Relations and Graphs*).
 pub trait Engine: Seated {
@@ -66,6 +68,24 @@ pub trait Engine: Seated {
         ensures room { MakesAtMost (derived_room r.rows r.rows r.rows) (Self.worker self.old) (Self.worker self.new) }
         ensures nothing { r.rows ≤ 1 → MakesAtMost 0 (Self.worker self.old) (Self.worker self.new) }
         ensures cause { HasCause Self.lean (Self.worker self.old) (Self.worker self.new) result };
+
+    /// `trans(R)` by squaring, with each composition counted.
+    ///
+    /// With k compositions counted, the pairs joined by walks of up to `2^k` steps are the closure, and k is at most
+    /// the number of binary digits of the size.
+    fn trans_counted<L: Ledger>(&mut self, r: Rel, steps: &mut Steps<L>) -> Result<Rel, Lack>
+        requires standing { Stands (Self.worker self.old) r }
+        requires square { r.rows ≡ r.cols }
+        ensures value { IfOk result (Gives (Self.worker self.new) r.rows r.cols
+            (transitive_closure (set_of (Self.worker self.old) r))) }
+        ensures keeps { Keeps (Self.worker self.old) (Self.worker self.new) }
+        ensures room { MakesAtMost (derived_room r.rows r.rows r.rows) (Self.worker self.old) (Self.worker self.new) }
+        ensures nothing { r.rows ≤ 1 → MakesAtMost 0 (Self.worker self.old) (Self.worker self.new) }
+        ensures cause { HasCause Self.lean (Self.worker self.old) (Self.worker self.new) result }
+        ensures rises { steps.old ≤ steps.new }
+        ensures digits { 2 ^ (steps.new - steps.old) ≤ max 1 (2 * r.rows - 1) }
+        ensures enough { OnOk result (transitive_closure (set_of (Self.worker self.old) r)
+            ≡ walks_within (2 ^ (steps.new - steps.old)) (set_of (Self.worker self.old) r)) };
 
     /// `refl(R) = R | I`: the reflexive closure, a square relation with all pairs (i, i) added.
     fn refl(&mut self, r: Rel) -> Result<Rel, Lack>

@@ -12,7 +12,7 @@ ghost use Rattle.rel_model.specs.Quarters.{LiesWithin, GivesQuarters};
 ghost use Rattle.rel_model.specs.Worker.{Worker, Stands, set_of, HasQuad, quad_set, GivesQuad, Gives, Keeps, MakesAtMost, MissesNothing, HasCause, FindsQuad};
 
 use crate::core_trait::Core;
-use crate::{Lack, Quad, Rel, Shape};
+use crate::{Lack, Quad, Quarters, Rel, Shape};
 
 /// A worker whose relations are quadrant trees. A quad of height h is a set of cells within a square of side `2 ^ h`.
 pub trait Quads: Core {
@@ -38,7 +38,17 @@ pub trait Quads: Core {
             (relation_of shape.rows shape.cols (quad_set (Self.worker self.now) q)) result };
 
     /// The quarters of a quad above the leaves: north-west, north-east, south-west and south-east.
-    fn quarters(&mut self, q: Quad) -> (Quad, Quad, Quad, Quad)
+    fn quarters(&mut self, q: Quad) -> Quarters
+        requires stands { HasQuad (Self.worker self.old) q }
+        requires over { Self.least < q.height }
+        ensures quarters { GivesQuarters (Self.worker self.old) (Self.worker self.new) q result }
+        ensures keeps { Keeps (Self.worker self.old) (Self.worker self.new) }
+        ensures room { MakesAtMost 0 (Self.worker self.old) (Self.worker self.new) }
+        ensures misses { MissesNothing (Self.worker self.old) (Self.worker self.new) };
+
+    /// The quarters of a quad, as `quarters` gives them, whose own words are read in the same go (prefetch): for walks
+    /// over trees that are larger than the processor's caches.
+    fn quarters_ahead(&mut self, q: Quad) -> Quarters
         requires stands { HasQuad (Self.worker self.old) q }
         requires over { Self.least < q.height }
         ensures quarters { GivesQuarters (Self.worker self.old) (Self.worker self.new) q result }

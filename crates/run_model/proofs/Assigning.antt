@@ -32,6 +32,8 @@ same_test n name = elim (cases_Bool (eq_by_cmp compare n name)) [
       | inr g ↦ g
     ]
 
+-- a map with a name set is looked up as the state with that name assigned: names that the order does
+-- not tell apart are one text
 pub set_is_assigned : (name : List ℕ) (r : Relation) (s : Workspace) → lookup (set name r s) ≡ assigned name r (lookup s)
 unfolding assigned
 set_is_assigned name r s = λ i n.
@@ -79,6 +81,7 @@ module _ (turns : ℕ) (l : BlockLet) (ls : List BlockLet) (more : Relation → 
       at (Got q left) e = ap (λ x. cost_of_block leaf (more x)) (ap (value_in r) e)
       at (Not why) e = absurd (false≢true (ap is_value e))
 
+  -- where the first assignment is refused, the block costs what its value costs: behind a refusal nothing is evaluated
   pub costs_stop : (leaf : ℕ) (v : Evaluated) (when : When) (outcome : Outcome) → due_of_value Value turns v ≡ Refused when outcome →
       cost_of_block leaf (after_value v more) ≡ cost_of_value leaf v
   costs_stop leaf (Ahead fault) when outcome e = refl

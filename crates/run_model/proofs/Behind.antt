@@ -170,6 +170,7 @@ module _ (gifts : ℕ → ℕ → Workspace → Gifts) (c : ℕ) (p : Replay Rel
         from_zero j = omega arith
 
 module _ (input : Input) (script : Script) (only : script_at input 1 ≡ Some script) where
+  -- a command of the only script is due to give what its item gives: its session and number find script and item
   gifts_here : (c : ℕ) (item : Item) (s : Workspace) → item_at script c ≡ Some item →
       gifts_due input 1 c s ≡ gives item (due input script item s None)
   unfolding gifts_due

@@ -57,6 +57,7 @@ pub first_refused : (script : Script) → due_of_block given script (let_name (c
 unfolding evaluated
 first_refused script = refl
 
+-- LET A = B; LET A = Z: the first assignment stands, so that the unknown name of the second is refused late
 pub second_refused : (script : Script) →
     due_of_block given script (let_name (codes "A") (codes "B") 1 ∷ let_name (codes "A") (codes "Z") 7 ∷ []) state
     ≡ Refused Late (Ill (Unknown (at 7) (codes "Z")))

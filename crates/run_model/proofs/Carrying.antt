@@ -40,6 +40,7 @@ module _ (means : Rel → Relation) where
       keep_valued (not (eq_by_cmp compare name e.0)) e (remove name es)
       ∙ ap (λ z. cond (not (eq_by_cmp compare name e.0)) ((e.0, means e.1) ∷ z) z) (remove_valued name es)
 
+  -- a choice of two carried maps has the values of the one that is chosen
   pub pick_valued : (b : Bool) (x y : Carried) → cond b (valued means x) (valued means y) ≡ valued means (cond b x y)
   pick_valued true x y = refl
   pick_valued false x y = refl

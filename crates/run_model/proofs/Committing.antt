@@ -110,6 +110,8 @@ all_weaker : (P Q : List ℕ → Type 0) → ((name : List ℕ) → P name → Q
 all_weaker P Q f [] h = tt
 all_weaker P Q f (n ∷ ns) h = (f n h.0, all_weaker P Q f ns h.1)
 
+-- a block is due the same by the log before its commit as by the one before its read: a name that it reads has one
+-- version in both, so that no event between them touched its relation
 pub blocks_are_at_once : BlocksAreAtOnce
 unfolding change_for block_reads state_for state_after
 blocks_are_at_once input script history s c lets log second none =

@@ -35,6 +35,7 @@ act_counts Read name versions = none_more (noted versions name)
 act_counts (Assign other rel) name versions = noted_raised other name versions
 act_counts (Remove other) name versions = noted_raised other name versions
 
+-- by induction on the log: an event raises the names that it changes by one, and the later events count on from there
 pub versions_are_counted : VersionsAreCounted
 versions_are_counted versions [] name = none_more (noted versions name)
   where

@@ -28,7 +28,7 @@ use Rattle.lang_model.specs.Blocks.{names_read, cost_of_block}
 use Rattle.lang_model.proofs.Seeing.{by_names}
 use Rattle.lang_model.proofs.Blocking.{blocks_by_names}
 use Rattle.run_model.specs.Names.{lookup}
-use Rattle.run_model.specs.SharedFiles.{shared_file}
+use Rattle.run_model.specs.SharedBytes.{shared_file}
 use Rattle.lang_model.specs.declared.syntax.Let.{Let as BlockLet}
 use Rattle.run_model.specs.Inputs.{Input}
 use Rattle.run_model.specs.Due.{
@@ -82,6 +82,8 @@ module _ (input : Input) (script : Script) where
   block_due ls s t h =
       ap (due_of_lets input.turns ls) (blocks_by_names script (lookup s) (lookup t) ls input.turns h)
 
+  -- the same is due of an item on states that look alike to it: case by case, an expression or a block
+  -- depends on its names alone
   pub same_due : (item : Item) (s t : Workspace) (snap other : Option Workspace) →
       LooksAlike item s t → SnapsAgree snap other (names_asked item) →
       due input script item s snap ≡ due input script item t other
@@ -105,6 +107,7 @@ module _ (input : Input) (script : Script) where
   same_due (Function at name params body) s t snap other h k = refl
   same_due (Program at name params decls body result) s t snap other h k = refl
 
+  -- and it costs the same, case by case: so do an expression and a block where their names have the same relations
   same_cost : (leaf : ℕ) (item : Item) (s t : Workspace) (snap other : Option Workspace) →
       LooksAlike item s t → SnapsAgree snap other (names_asked item) →
       (d : Due) → cost_of_item leaf input script item s snap d ≡ cost_of_item leaf input script item t other d

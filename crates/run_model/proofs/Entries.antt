@@ -52,6 +52,7 @@ gives_event e s c name m n h =
     let a = act_gives e.act name m n (ap (λ (x : Entry). x.deed) h) in
     (a.0, λ i. record { session = (h i).session; command = (h i).command; act = a.1 i })
 
+-- an event whose entry is a removal is that removal: an entry without a relation tells the whole act
 pub removes_event : (e : Event) (s c : ℕ) (name : List ℕ) → entry_of e ≡ entry s c (Removes name) → e ≡ event s c (Remove name)
 removes_event e s c name h =
     let a = act_removes e.act name (ap (λ (x : Entry). x.deed) h) in
@@ -94,6 +95,7 @@ split (x ∷ xs) (a ∷ mine) bs h =
     let e = heads (entry_of x) a (map entry_of xs) (mine ++ bs) h in
     (x ∷ r.0, r.1, ap (λ l. x ∷ l) r.2, (λ i. e i ∷ r.3 i), r.4)
 
+-- the entries of two lists one behind the other are those of each, by induction on the first
 pub map_append : (xs ys : List Event) → map entry_of (xs ++ ys) ≡ map entry_of xs ++ map entry_of ys
 map_append [] ys = refl
 map_append (x ∷ xs) ys = ap (λ l. entry_of x ∷ l) (map_append xs ys)

@@ -21,6 +21,8 @@ turns_from : (ts : List Turn) (a b c : List Event) → BeginsLog a b → AreTurn
 turns_from [] a b c h k = begins_on a b c h k
 turns_from (t ∷ ts) a b c h k = (begins_on a b t.took h k.0, k.1)
 
+-- turns of a log and turns that go on from its end are turns of the whole: by induction on the first, each
+-- keeps the log that it took
 pub turns_append : (ts us : List Turn) (a b c : List Event) → AreTurns ts a b → AreTurns us b c → AreTurns (ts ++ us) a c
 turns_append [] us a b c h k = turns_from us a b c h k
 turns_append (t ∷ ts) us a b c h k = (h.0, turns_append ts us (t.took ++ t.put) b c h.1 k)

@@ -188,6 +188,7 @@ module _ (leaf : ℕ) (input : Input) (script : Script) where
       early_lets leaf input.turns l ls (evaluated script (lookup s) l.value input.turns)
       (λ r. evaluated_block script (assigned l.name r (lookup s)) ls input.turns) k
 
+  -- an item that is refused early costs nothing: case by case, the refusal stands ahead of every value
   early_free : (item : Item) (s : Workspace) (snap : Option Workspace) → IsEarly (due input script item s snap) →
       cost_of_item leaf input script item s snap (due input script item s snap) ≡ 0
   unfolding due due_of_command
@@ -216,6 +217,7 @@ module _ (leaf : ℕ) (input : Input) (script : Script) where
   plain_snap e None h = refl
   plain_snap e (Some snap) h = plain_of e snap h
 
+  -- a command that wants no nodes costs nothing: its expressions are names, and a name is only looked up
   plain_free : (command : Command) (s : Workspace) (snap : Option Workspace) (d : Due) → (WantsNodes command → ⊥) →
       cost_of_command leaf input script command s snap d ≡ 0
   plain_free (RELATION name rows rows_at cols cols_at list) s snap d h = absurd (h tt)

@@ -69,6 +69,7 @@ keep_alike (COMMAND (Explain e)) s t snaps h = refl
 keep_alike (Function at name params body) s t snaps h = refl
 keep_alike (Program at name params decls body result) s t snaps h = refl
 
+-- the same snapshots are kept on both states: one is kept only on success, of an item that takes all relations
 pub kept_alike : (x : Ending) (item : Item) (s t : Workspace) (snaps : Snapshots) → OneWhereAll (takes_all item) s t →
     kept_at x item s snaps ≡ kept_at x item t snaps
 kept_alike Succeeds item s t snaps h = keep_alike item s t snaps h
@@ -98,6 +99,8 @@ module _ (input : Input) (script : Script) (f g : ℕ → Workspace) where
       cost_of_item leaf input script item (f c) (snap_for item snaps) d ≡ cost_of_item leaf input script item (g c) (snap_for item snaps) d
   cost leaf c item snaps h = (due_by_names input script item (f c) (g c) (snap_for item snaps) (snap_for item snaps) h (snaps_itself (snap_for item snaps) (names_asked item))).1 leaf
 
+  -- the whole runs are the same, by induction on the items: each is due the same at the same cost, and leaves the
+  -- same snapshots to the rest
   pub run_alike : (items : List Item) (outcomes : List Outcome) (c : ℕ) (snaps : Snapshots) → LookAlike f g c items →
       SameRun input script (before c snaps items outcomes) (behind c snaps items outcomes)
   unfolding replies saves_of cost_of_step
@@ -174,6 +177,8 @@ module _ (means other : Rel → Relation) where
     all_other input script evs h steps k.1,
   )
 
+-- a session ran for one worker as it ran for another to which the relations mean the same: the states that its turns
+-- took look alike, and so does each value that it gave
 pub other_worker_runs_alike : OtherWorkerRunsAlike
 other_worker_runs_alike input first means other s script outcomes ts old new alike agree r =
     let same = look_alike_run_alike input script outcomes (state_taken first.names means ts) (state_taken first.names other ts) alike in

@@ -82,6 +82,7 @@ quiet_leads : (deeds : List Deed) → NonePass is_reads deeds → Leads deeds
 quiet_leads [] h = tt
 quiet_leads (d ∷ ds) h = h.1
 
+-- an item's reads give no name, case by case: they are reads and nothing else
 reads_quiet : (item : Item) → NonePass gives_name (reads_of item) × NonePass gives_name (all_reads_of item)
 reads_quiet (COMMAND (RELATION name rows rows_at cols cols_at list)) = (tt, tt)
 reads_quiet (COMMAND (Let name e)) = ((refl, tt), (refl, tt))
@@ -101,6 +102,7 @@ reads_quiet (COMMAND (Explain e)) = ((refl, tt), (refl, tt))
 reads_quiet (Function at name params body) = (tt, tt)
 reads_quiet (Program at name params decls body result) = (tt, tt)
 
+-- a read among the deeds of an item that is done stands first: behind the first deed the item only gives
 pub done_leads : (item : Item) (d : Due) → Leads (done_deeds item d)
 done_leads (COMMAND (RELATION name rows rows_at cols cols_at list)) d = quiet_leads (giving (gives (COMMAND (RELATION name rows rows_at cols cols_at list)) d)) (giving_quiet (gives (COMMAND (RELATION name rows rows_at cols cols_at list)) d))
 done_leads (COMMAND (Let name e)) d = giving_quiet (gives (COMMAND (Let name e)) d)
@@ -178,6 +180,7 @@ block_number : (s n c : ℕ) (deeds : List Deed) → n < c → AllByRecursion (�
 block_number s n c [] l = tt
 block_number s n c (d ∷ ds) l = (l, block_number s n c ds l)
 
+-- two lists of entries of lower commands make one, by induction on the first
 lower_append : (c : ℕ) (xs ys : List Entry) → AllByRecursion (λ x. x.command < c) xs → AllByRecursion (λ x. x.command < c) ys → AllByRecursion (λ x. x.command < c) (xs ++ ys)
 lower_append c [] ys h k = k
 lower_append c (x ∷ xs) ys h k = (h.0, lower_append c xs ys h.1 k)
@@ -201,6 +204,8 @@ module _ (input : Input) (script : Script) (s : ℕ) (means : Rel → Relation) 
     pub before : us ≡ lower ++ entries s c pre
     pub is_lower : AllByRecursion (λ x. x.command < c) lower
 
+  -- by induction on the items: an entry is one of the first item's, or it stands behind them and the rest locates it;
+  -- all that stands before it is of lower commands
   pub locate : (items : List Item) (outcomes : List Outcome) (n : ℕ) (snaps : Snapshots) (c : ℕ) (d : Deed) (us vs : List Entry) →
       ((k : ℕ) → item_at script (n + k) ≡ slice_get items k) →
       AreEvents input script s (steps_from f n snaps items outcomes) (us ++ entry s c d ∷ vs) →

@@ -86,6 +86,7 @@ module _ (s c : ℕ) where
       picked false None f e = let k : 0 ≡ 1 = ap count e in absurd (omega (arith, k))
       picked false (Some k) f e = let r = f k refl in (ap (λ z. x ∷ z) r.0 ∙ ap (of_some []) e, r.1)
 
+  -- a command without a first event has no event: by induction on the log, each test fails
   pub none_is : (xs : List Event) → before_first s c xs ≡ None → list_any (is_of s c) xs ≡ false
   none_is [] h = refl
   none_is (x ∷ xs) h = picked (is_of s c x) (before_first s c xs) (none_is xs) h

@@ -1,8 +1,8 @@
 -- What is due is never want of memory, and a refusal that is due is one that an outcome tells as a failure.
 use Rattle.std.proofs.Common.{◌≡◌, ◌*◌, nat_lt, length, ℕ, Bool, true, false, cond, List, [], ◌∷◌, Option, Some, None, refl}
 use Rattle.lang_model.specs.declared.syntax.Place.{Place}
-use Rattle.lang_model.specs.declared.syntax.Column.{Column}
-use Rattle.lang_model.specs.declared.syntax.Row.{Row}
+use Rattle.lang_model.specs.declared.rows.Column.{Column}
+use Rattle.lang_model.specs.declared.rows.Row.{Row}
 use Rattle.lang_model.specs.declared.syntax.Expr.{Expr}
 use Rattle.lang_model.specs.declared.syntax.Command.TheVariants.{
   Relation as RELATION,
@@ -36,7 +36,8 @@ use Rattle.lang_model.specs.Eval.{Evaluated, Ahead, Comes, evaluated, early_faul
 use Rattle.lang_model.specs.Blocks.{evaluated_block}
 use Rattle.lang_model.specs.declared.faults.TypeFault.{TypeFault}
 use Rattle.run_model.specs.Names.{lookup}
-use Rattle.run_model.specs.SharedFiles.{begins_shared, shared_fault, shared_relations, shared_file, relation_named}
+use Rattle.run_model.specs.SharedFiles.{begins_shared, shared_fault, shared_relations, relation_named}
+use Rattle.run_model.specs.SharedBytes.{shared_file}
 use Rattle.lang_model.specs.declared.syntax.Let.{Let as BlockLet}
 use Rattle.run_model.specs.Inputs.{Input, file_named}
 use Rattle.run_model.specs.Files.{k2_fault, bits_count}
@@ -249,6 +250,7 @@ module _ (input : Input) (script : Script) where
   snap_fails at name e None = refl
   snap_fails at name e (Some s) = of_fails printed e s printed_fails
 
+  -- a refusal that is due of an item is a failure: case by case, each test that an item undergoes refuses with one
   pub due_fails_well : (item : Item) (s : Workspace) (snap : Option Workspace) → FailsWell (due input script item s snap)
   unfolding due due_of_command
   due_fails_well (COMMAND (RELATION name rows rows_at cols cols_at list)) s snap =

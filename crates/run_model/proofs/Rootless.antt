@@ -39,6 +39,7 @@ module _ (gifts : ℕ → ℕ → Workspace → Gifts) where
   act_deed s c (Assign name rel) p = refl
   act_deed s c (Remove name) p = refl
 
+  -- a replay of events is one of their entries, event by event: no step asks for a relation's root
   by_entries : (xs : List Event) (p : Replay Relation) → replay gifts p xs ≡ replay_entries p (map entry_of xs)
   by_entries [] p = refl
   by_entries (x ∷ xs) p =
@@ -69,6 +70,7 @@ abbrev state_by : Input → List Entry → ℕ → ℕ → Workspace
 state_by input log s c =
     cond (list_any (is_at s c) log) (replay_entries (gifts_due input) start (before_entry s c log)).now no_names
 
+-- so is the state that a command sees: events and entries are cut alike before the command's first
 state_for_by : (input : Input) (xs : List Event) (s c : ℕ) → state_for input xs s c ≡ state_by input (map entry_of xs) s c
 unfolding state_for state_after
 state_for_by input xs s c = λ i.

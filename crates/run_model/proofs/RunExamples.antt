@@ -60,6 +60,7 @@ pub events_come : (script : Script) → (solo_from given script 1 no_names no_na
 unfolding due due_of_command evaluated begins_shared k2_fault k2_relation fields cells_told file_height height_of relation_of
 events_come script = refl
 
+-- AT t PRINT A prints the relation that the snapshot kept, row by row below its sizes
 pub printed_reply : reply 1 6 (COMMAND (At (at 4) t (Ref (at 5) a))) (Value corners) Done ≡
     prefix 1 6 ++ (decimal 4 ++ codes " x " ++ decimal 4 ++ 10 ∷ [] ++ codes "1...\n....\n....\n...1\n")
 unfolding reply matrix rows_text row_text

@@ -23,7 +23,8 @@ use Rattle.rel_model.proofs.Rooting.{same_within, lies_within-means}
 use Rattle.run_model.specs.declared.outcome.BadFile.{BadFile}
 use Rattle.run_model.specs.declared.outcome.BadFile.TheVariants.{Short, Magic, Sizes, Outside, Rest, Quad, Names as BAD_NAMES, Root, Order}
 use Rattle.run_model.specs.Files.{file_height, part, unless, found_at}
-use Rattle.run_model.specs.SharedFiles.{visit, visit_all, squares_of, entry_bytes, shared_file, begins_shared, Quadrant, shared_header, quadrant_count, entry_count, entries_at, quadrants_of, height_at, heights_behind, first_bad, cells_told, NamedRoot, name_length, entry_length, entry_in, entries_in, entries_length, is_word, is_behind, is_root, entry_fault, entries_fault, entries_of, visit_number, visit_roots, first_out, shared_fault, relation_told, shared_relations, quarter_bytes, number_in}
+use Rattle.run_model.specs.SharedFiles.{begins_shared, Quadrant, shared_header, quadrant_count, entry_count, entries_at, quadrants_of, height_at, heights_behind, first_bad, cells_told, NamedRoot, name_length, entry_length, entry_in, entries_in, entries_length, is_word, is_behind, is_root, entry_fault, entries_fault, entries_of, visit_number, visit_roots, first_out, shared_fault, relation_told, shared_relations}
+use Rattle.run_model.specs.SharedBytes.{visit, visit_all, squares_of, entry_bytes, shared_file, quarter_bytes, number_in}
 use Rattle.run_model.proofs.SharedCells.{among_within, among_pairs, IsNumber, cells_within}
 use Rattle.run_model.proofs.SharedVisits.{pairs_at, visited, visited_listed}
 use Rattle.run_model.proofs.SharedTable.{height_is, IsTable, table}
@@ -74,6 +75,8 @@ module _ (quads : List Quadrant) (heights : List ℕ) (t : IsTable quads heights
     pub number : IsNumber quads (file_height e.rows e.cols) e.root
     pub inside : LiesWithin e.rows e.cols (cells_told quads (file_height e.rows e.cols) e.root)
 
+  -- a root that passes its test is a number at its relation's height: it is 0, or one of the listed squares, which
+  -- stand at their heights in the table
   pub root_number : (h n : ℕ) → is_root quads heights h n ≡ true → IsNumber quads h n
   root_number h n is = elim (cases_Bool (eqb n 0)) [
     | inl z ↦ subst (IsNumber quads h) (sym (eqb-true n 0 z)) (none h)
@@ -174,6 +177,8 @@ module _ (quads : List Quadrant) (heights : List ℕ) (t : IsTable quads heights
   first_byte [] l = absurd (omega (arith, l))
   first_byte (x ∷ xs) l = refl
 
+  -- the name, the sizes and the root of a relation are its bytes again: cut off one behind the
+  -- other, they leave what follows
   entry_back : (xs : List ℕ) → AreBytes xs → 1 ≤ length xs → entry_length xs ≤ length xs → entry_text (entry_in xs) ++ drop (entry_length xs) xs ≡ xs
   entry_back xs b one long =
       let l = name_length xs in
@@ -200,6 +205,7 @@ module _ (quads : List Quadrant) (heights : List ℕ) (t : IsTable quads heights
       eight : (l : ℕ) → 1 + l + 8 ≡ (1 + l + 4) + 4
       eight l = omega arith
 
+  -- by induction on the number of relations: the first one's bytes come back, and the rest follows behind them
   entries_back : (at : ℕ) (earlier : Option (List ℕ)) (k : ℕ) (xs : List ℕ) → AreBytes xs → entries_fault quads heights at earlier k xs ≡ None →
       flat_map (entry_bytes (all_squares quads heights t)) (map (relation_told quads) (entries_in k xs)) ++ drop (entries_length k xs) xs ≡ xs
   entries_back at earlier zero xs b none = refl
@@ -236,6 +242,8 @@ pub map_length : {A B : Type 0} (f : A → B) (xs : List A) → length (map f xs
 map_length f [] = refl
 map_length f (x ∷ xs) = ap suc (map_length f xs)
 
+-- bytes that pass all tests are written again as they were: their squares are the listed ones in order, and so header,
+-- squares and relations are each their own bytes
 pub bytes_of_read : (bytes : List ℕ) → AreBytes bytes → shared_fault bytes ≡ None → shared_file (shared_relations bytes) ≡ bytes
 unfolding shared_fault shared_file shared_relations begins_shared quadrants_of entries_of
 bytes_of_read bytes b none =

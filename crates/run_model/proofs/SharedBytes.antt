@@ -57,6 +57,7 @@ sixteen xs h l =
     ∙ (append_assoc (part xs 0 4) (part xs 4 4) (drop 8 xs)
     ∙ (ap (λ ys. part xs 0 4 ++ ys) (part_drop xs 4 4) ∙ part_drop xs 0 4))))))
 
+-- quadrants are their bytes again, sixteen at a time, by induction on their number
 pub quadrants_bytes : (k : ℕ) (xs : List ℕ) → AreBytes xs → 16 * k ≤ length xs → flat_map quadrant_bytes (quadrants_in k xs) ++ drop (16 * k) xs ≡ xs
 quadrants_bytes zero xs h l = ap (λ n. drop n xs) (none_at_all 16)
   where

@@ -14,7 +14,8 @@ use Rattle.rel_model.proofs.Pairs.{all-member}
 use Rattle.rel_model.proofs.Relations.{IsRelation-relation_of, has-relation_of, relation_of-agree, of_itself}
 use Rattle.rel_model.proofs.Rooting.{same_within}
 use Rattle.rel_model.proofs.TreeLaws.{same_cells}
-use Rattle.run_model.specs.SharedFiles.{Quadrant, no_quadrant, parts_of, no_parts, quadrant_at, cells_told, quarter}
+use Rattle.run_model.specs.SharedFiles.{Quadrant, no_quadrant, parts_of, no_parts, quadrant_at, cells_told}
+use Rattle.run_model.specs.SharedBytes.{quarter}
 
 -- ---- squares as sets of cells
 pub two-halves : (h : ℕ) → 2 ^ h + 2 ^ h ≡ 2 ^ suc h
@@ -73,6 +74,8 @@ module _ (m : ℕ) (a b c d : Cells) where
       back : (m j : ℕ) → (m + j) - m ≡ j
       back m j = omega arith
 
+  -- four sets within squares of side m make one within side 2 m: a cell lies in one quarter,
+  -- whose set bounds its offsets
   pub within_quartered : LiesWithin m m a → LiesWithin m m b → LiesWithin m m c → LiesWithin m m d → LiesWithin (m + m) (m + m) (quartered m a b c d)
   within_quartered v w x y = record {
     row = λ i j h. (both i j h).0;
@@ -123,6 +126,7 @@ module _ (m : ℕ) (a b c d : Cells) (va : LiesWithin m m a) (vb : LiesWithin m 
       from_zero : (n : ℕ) → 0 + n ≡ n
       from_zero n = omega arith
 
+  -- the south-eastern quarter of the pairs is the fourth set's, cell by cell, as in the others
   pub se_quarter : quarter m m m (pairs_of (m + m) (quartered m a b c d)) ≡ pairs_of m d
   se_quarter = pairs_agree m (λ i j. is_among (pairs_of (m + m) (quartered m a b c d)) (m + i) (m + j)) d
       (λ i j x y. (λ k. whole_is k (m + i) (m + j)) ∙ se_cell m a b c d i j)

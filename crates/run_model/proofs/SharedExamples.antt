@@ -8,16 +8,8 @@ use Rattle.rel_model.specs.Roots.{lies_within}
 use Rattle.rel_model.specs.Worker.{height_of}
 use Rattle.run_model.specs.Due.{Early, Value, Refused, due_of_file}
 use Rattle.run_model.specs.Files.{file_height}
-use Rattle.run_model.specs.SharedFiles.{
-  squares_of,
-  shared_file,
-  begins_shared,
-  quadrants_of,
-  entry_fault,
-  entries_of,
-  shared_fault,
-  shared_relations,
-}
+use Rattle.run_model.specs.SharedBytes.{squares_of, shared_file}
+use Rattle.run_model.specs.SharedFiles.{begins_shared, quadrants_of, entry_fault, entries_of, shared_fault, shared_relations}
 use Rattle.run_model.proofs.FileExamples.{corners, file}
 
 -- 2 x 2 with the pair (1,1), counted from 1

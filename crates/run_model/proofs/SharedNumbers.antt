@@ -14,7 +14,8 @@ use Rattle.rel_model.specs.Cells.{Cells, no_cells}
 use Rattle.rel_model.specs.Trees.{quartered}
 use Rattle.rel_model.proofs.Pairs.{same_itself}
 use Rattle.rel_model.proofs.Rooting.{same_within}
-use Rattle.run_model.specs.SharedFiles.{Square, same_square, quarter, place_in, number_in, Quadrant, no_quadrant, numbers_of, parts_of, no_parts, same_quadrant, height_at, height_over_parts, height_of_quadrant, heights_behind, is_bad, first_bad, cells_told}
+use Rattle.run_model.specs.SharedFiles.{Quadrant, no_quadrant, numbers_of, parts_of, no_parts, same_quadrant, height_at, height_over_parts, height_of_quadrant, heights_behind, is_bad, first_bad, cells_told}
+use Rattle.run_model.specs.SharedBytes.{Square, same_square, quarter, place_in, number_in}
 use Rattle.run_model.proofs.SharedCells.{pairs_of, pairs_among, among_within, IsNumber, zero_cells, cells_within, cells_listed, one_height}
 use Rattle.run_model.proofs.SharedVisits.{same_square-true, same_square_itself, not_true}
 use Rattle.run_model.proofs.SharedTable.{get_front, get_next, get_back, one_of_two, height_is}
@@ -93,6 +94,7 @@ module _ (squares : List Square) (all : AllBehind squares) (once : NoneTwice squ
   abbrev pub number : ℕ → List (ℕ × ℕ) → ℕ
   number h ps = number_in squares h ps
 
+  -- the number of a listed square is 2 more than its place, since none is listed twice
   number_there : (h : ℕ) (p : ℕ × ℕ) (ps : List (ℕ × ℕ)) (k : ℕ) → slice_get squares k ≡ Some (square_of (suc h) (p ∷ ps)) → number (suc h) (p ∷ ps) ≡ k + 2
   number_there h p ps k at = let e = place_is k (square_of (suc h) (p ∷ ps)) at in omega (arith, e)
 
@@ -192,6 +194,7 @@ module _ (squares : List Square) (all : AllBehind squares) (once : NoneTwice squ
   part_below k (suc h) (q ∷ qs) (inr (inl e)) = absurd (empty q qs e)
   part_below k (suc h) (q ∷ qs) (inr (inr (j, less, at))) = let e = number_there h q qs j at in omega (arith, e, less)
 
+  -- the height that the earlier squares tell of a part is its own: a part with a number above 1 is listed among them
   part_height : (pre : List Square) (more : List Square) → squares ≡ pre ++ more → (h : ℕ) (qs : List (ℕ × ℕ)) → Known squares (length pre) h qs → number h qs ≢ 0 →
       height_at (map (λ s. s.height) pre) (number h qs) ≡ h
   part_height pre more w h [] kn other = absurd (other refl)
@@ -221,6 +224,8 @@ module _ (squares : List Square) (all : AllBehind squares) (once : NoneTwice squ
     pub is_se : IsNumber quads below (number below (quarter (2 ^ below) (2 ^ below) (2 ^ below) s.pairs))
     pub cells : cells_told quads (suc below) (k + 2) ≡ is_among s.pairs
 
+  -- a listed square has the quadrant of its parts' numbers and, by these, its own cells: its parts are known before it,
+  -- so that each has its number and its cells
   pub placed : (k : ℕ) (s : Square) → slice_get squares k ≡ Some s → Placed k s
   placed k s at =
       let b = all k s at in
@@ -336,6 +341,8 @@ module _ (squares : List Square) (all : AllBehind squares) (once : NoneTwice squ
         ap (height_of_quadrant heights) p.quadrant ∙ (top ∙ sym p.is_height),
       )
 
+  -- by induction on the squares: behind the earlier ones a square is not bad and has its height, so that the
+  -- search goes on to the next
   none_bad : (pre qs : List Square) → squares ≡ pre ++ qs → first_bad (length pre + 2) (map quadrant_of pre) (map (λ s. s.height) pre) (map quadrant_of qs) ≡ None
   none_bad pre [] w = refl
   none_bad pre (s ∷ qs) w =

@@ -6,7 +6,8 @@ use Rattle.std.specs.List.{list_any, flat_map, AllByRecursion}
 use Rattle.std.specs.Int.{w32, to_be_bytes}
 use Rattle.std.proofs.lemmas.Bool.{cases_Bool, eqb-true, eq-eqb, ne_eqb, or_parts, or_from, false≢true}
 use Rattle.std.proofs.lemmas.Option.{slice_get_within}
-use Rattle.run_model.specs.SharedFiles.{Square, same_square, Quadrant, quadrant_at, height_at, with_number, visit_number, first_out, place_in, number_in, quarter_bytes}
+use Rattle.run_model.specs.SharedFiles.{Quadrant, quadrant_at, height_at, with_number, visit_number, first_out}
+use Rattle.run_model.specs.SharedBytes.{Square, same_square, place_in, number_in, quarter_bytes}
 use Rattle.run_model.proofs.SharedCells.{IsNumber}
 use Rattle.run_model.proofs.SharedVisits.{pairs_at, some_pairs, no_pairs, quarters_are, square_at, IsListed, square_is, same_number}
 use Rattle.run_model.proofs.SharedTable.{get_next, IsTable, table_height}
@@ -37,6 +38,7 @@ among_append n (x ∷ xs) ys = ap (λ b. eqb x n || b) (among_append n xs ys) �
     or_or true b c = refl
     or_or false b c = refl
 
+-- a list without repeats stays so when a number that is not in it is put behind it
 once_append : (xs : List ℕ) (n : ℕ) → Once xs → among n xs ≡ false → Once (xs ++ n ∷ [])
 once_append [] n h k = (refl, tt)
 once_append (x ∷ xs) n h k =
@@ -98,6 +100,7 @@ in_order n (suc k) (m ∷ list) h = elim (cases_Bool (eqb m n)) [
   | inr f ↦ let e : 1 ≡ 0 = ap out_count (sym (ap (λ b. cond b (first_out (n + 1) k list) (Some n)) f) ∙ h) in absurd (omega (arith, e))
 ]
 
+-- in a list without repeats, what stands behind is not among what stands before: by induction on the latter
 once_left : (xs : List ℕ) (v : ℕ) (rest : List ℕ) → Once (xs ++ v ∷ rest) → among v xs ≡ false
 once_left [] v rest o = refl
 once_left (x ∷ xs) v rest o =
@@ -116,6 +119,7 @@ module _ (quads : List Quadrant) (heights : List ℕ) (t : IsTable quads heights
   abbrev pub height : ℕ → ℕ
   height = height_at heights
 
+  -- the table gives each number other than 0 above the cells the height at which it is a number
   pub high : (h n : ℕ) → IsNumber quads (suc h) n → n ≢ 0 → height n ≡ suc h
   high h n is other = table_height quads heights t h n is other
 

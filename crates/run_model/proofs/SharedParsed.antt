@@ -42,6 +42,7 @@ at_third a b c d ys = append_assoc ((a ++ b) ++ c) d ys ∙ append_assoc (a ++ b
 at_fourth : (a b c d ys : List ℕ) → in_four a b c d ys ≡ ((a ++ b) ++ c) ++ (d ++ ys)
 at_fourth a b c d ys = append_assoc ((a ++ b) ++ c) d ys
 
+-- quadrants are read off their bytes again: by induction, the four numbers at the head and then the rest
 pub quadrants_read : (qs : List Quadrant) (ys : List ℕ) → AllByRecursion IsSmall qs → quadrants_in (length qs) (flat_map quadrant_bytes qs ++ ys) ≡ qs
 quadrants_read [] ys h = refl
 quadrants_read (q ∷ qs) ys h =
@@ -61,6 +62,7 @@ quadrants_read (q ∷ qs) ys h =
     }
     ∷ (ap (quadrants_in (length qs)) (drop_at (quadrant_bytes q) rest 16 refl) ∙ quadrants_read qs ys h.1) i)
 
+-- each quadrant takes sixteen bytes, so that the bytes of a list are sixteen times as many as its quadrants
 pub quadrants_length : (qs : List Quadrant) → length (flat_map quadrant_bytes qs) ≡ 16 * length qs
 quadrants_length [] = none 16
   where
@@ -96,6 +98,7 @@ pub record ReadBack (e : NamedRoot) (ys : List ℕ) : Type 0 where
   pub long : entry_length (root_text e ++ ys) ≡ length (root_text e)
   pub rest : drop (entry_length (root_text e ++ ys)) (root_text e ++ ys) ≡ ys
 
+-- a named relation is read off its bytes again: the name's length tells where the sizes and the root stand
 pub root_read : (e : NamedRoot) (ys : List ℕ) → IsSmallRoot e → ReadBack e ys
 root_read e ys s =
     let n = e.name in

@@ -3,153 +3,39 @@
 --    each root is a number of its relation's height with the relation's pairs.
 -- 2. The numbers are read off the bytes, and so are the squares and the relations.
 -- 3. The visits of the roots list the squares of the list, which are those of the numbers from 2 on, and so these numbers.
-use Rattle.std.proofs.Common.{◌≡◌, ◌≢◌, ◌<◌, ◌≤◌, ◌+◌, ◌^◌, ◌&&◌, ◌||◌, leb, ltb, cond, eqb, zero, suc, ℕ, Bool, true, false, List, [], ◌∷◌, ◌++◌, map, length, drop, codes, Option, Some, None, option_map, refl, sym, ap, subst, ◌∙◌, inl, inr, arith, append_assoc, append-nil, length-append}
+use Rattle.std.proofs.Common.{◌≡◌, ◌≢◌, ◌<◌, ◌≤◌, ◌+◌, ◌^◌, ◌&&◌, ◌||◌, leb, ltb, cond, eqb, zero, suc, ℕ, Bool, true, false, List, [], ◌∷◌, ◌++◌, map, length, drop, codes, Option, Some, None, option_map, refl, sym, ap, subst, ◌∙◌, inl, inr, arith, append_assoc, length-append}
 use Rattle.std.specs.Prelude.{slice_get, T}
-use Rattle.std.specs.List.{flat_map, AllByRecursion, list_all}
-use Rattle.std.specs.Ordering.{is_lt}
+use Rattle.std.specs.List.{flat_map, AllByRecursion}
 use Rattle.std.specs.FinMap.Entries.{below_all, is_sorted}
-use Rattle.std.proofs.lemmas.Bool.{cases_Bool, eqb-true, eq-eqb, le-leb, lt-ltb, leb-true, and_parts, and_from, false≢true}
+use Rattle.std.proofs.lemmas.Bool.{cases_Bool, eqb-true, eq-eqb, le-leb, lt-ltb, and_from}
 use Rattle.std.proofs.lemmas.Option.{slice_get_within, slice_get-map}
 use Rattle.std.proofs.lemmas.List.{drop_at}
 use Rattle.lang_model.specs.Limits.{name_limit}
-use Rattle.lang_model.specs.Missing.{first_of_both}
-use Rattle.lang_model.specs.Tokens.{same_text, is_letter, is_word_byte}
-use Rattle.rel_model.specs.Relation.{Relation, IsRelation, relation_of, size_limit, size_height}
+use Rattle.lang_model.specs.Tokens.{same_text}
+use Rattle.rel_model.specs.Relation.{Relation, relation_of, size_limit}
 use Rattle.rel_model.specs.Listed.{is_among}
-use Rattle.rel_model.specs.Worker.{height_of}
 use Rattle.rel_model.specs.Roots.{lies_within}
 use Rattle.rel_model.specs.Quarters.{LiesWithin}
 use Rattle.rel_model.proofs.Relations.{of_itself}
-use Rattle.rel_model.proofs.Heights.{power_up, height_of-covers, height_of-limit}
 use Rattle.rel_model.proofs.Rooting.{lies_within-from}
 use Rattle.run_model.specs.declared.outcome.BadFile.{BadFile}
 use Rattle.run_model.specs.declared.outcome.BadFile.TheVariants.{Short, Magic, Sizes, Outside, Rest, Quad, Names as BAD_NAMES, Root, Order}
 use Rattle.run_model.specs.Names.{compare, Names, IsIncreasing}
 use Rattle.run_model.specs.Files.{file_height, unless, found_at, first_of_all}
-use Rattle.run_model.specs.SharedFiles.{quarter, Square, same_square, visit, visit_all, squares_of, place_in, number_in, quarter_bytes, entry_bytes, shared_file, begins_shared, Quadrant, shared_header, quadrant_count, entry_count, entries_at, quadrants_in, quadrants_of, height_at, heights_behind, first_bad, cells_told, NamedRoot, name_length, entry_length, entry_in, entries_in, entries_length, is_word, is_behind, is_root, entry_fault, entries_fault, entries_of, visit_roots, first_out, shared_fault, relation_told, shared_relations, IsFiled, SharedFilesLaws}
+use Rattle.run_model.specs.SharedFiles.{begins_shared, Quadrant, shared_header, quadrant_count, entry_count, entries_at, quadrants_in, quadrants_of, height_at, heights_behind, first_bad, cells_told, NamedRoot, name_length, entry_length, entries_in, entries_length, is_word, is_behind, is_root, entry_fault, entries_fault, entries_of, visit_roots, first_out, shared_fault, relation_told, shared_relations, IsFiled, SharedFilesLaws}
+use Rattle.run_model.specs.SharedBytes.{quarter, Square, same_square, visit_all, squares_of, number_in, quarter_bytes, entry_bytes, shared_file}
 use Rattle.run_model.proofs.SharedCells.{pairs_of, pairs_among, among_within, IsNumber}
 use Rattle.run_model.proofs.SharedVisits.{pairs_at, same_square_itself}
-use Rattle.run_model.proofs.SharedTable.{get_next, one_of_two, height_is, IsTable, table, table_height}
+use Rattle.run_model.proofs.SharedTable.{get_next, height_is, IsTable, table, table_height}
 use Rattle.run_model.proofs.SharedBytes.{quadrant_bytes}
 use Rattle.run_model.proofs.SharedOrder.{numbers_from, height, high, Listed, square}
 use Rattle.run_model.proofs.SharedVisits.{same_number}
 use Rattle.run_model.proofs.SharedBack.{IsEntry, roots_visited, roots_listed, map_length, some_height, bytes_of_read}
-use Rattle.run_model.proofs.SharedSquares.{square_of, Proper, Known, known_more, Behind, AllBehind, NoneTwice, visit_grows}
+use Rattle.run_model.proofs.SharedSquares.{square_of, Known, Behind, AllBehind, NoneTwice}
 use Rattle.run_model.proofs.SharedNumbers.{quadrant_of, quads, told, placed, no_bad_square, heights_are}
 use Rattle.run_model.proofs.SharedParsed.{word_of, number_behind, IsSmall, quadrants_read, quadrants_length, root_text, IsSmallRoot, root_read, roots_read, roots_length}
-
--- ---- heights
-pub low_height : (rows cols : ℕ) → file_height rows cols ≤ size_height
-unfolding file_height
-low_height rows cols = omega (arith, height_of-limit rows, height_of-limit cols)
-
-pub covers_rows : (rows cols : ℕ) → rows ≤ size_limit → rows ≤ 2 ^ file_height rows cols
-unfolding file_height
-covers_rows rows cols l =
-    let a = height_of-covers rows l in
-    let b = power_up (height_of rows) (file_height rows cols) (omega arith) in
-    omega (arith, a, b)
-
-pub covers_cols : (rows cols : ℕ) → cols ≤ size_limit → cols ≤ 2 ^ file_height rows cols
-unfolding file_height
-covers_cols rows cols l =
-    let a = height_of-covers cols l in
-    let b = power_up (height_of cols) (file_height rows cols) (omega arith) in
-    omega (arith, a, b)
-
--- the pairs of a relation are those of a square of its height
-pub proper_relation : (r : Relation) → IsRelation r → r.rows ≤ size_limit → r.cols ≤ size_limit → Proper (file_height r.rows r.cols) r.pairs
-proper_relation r v a b =
-    record { within = wider r.pairs v.within; increasing = v.increasing }
-  where
-    wider : (ps : List (ℕ × ℕ)) → AllByRecursion (λ p. (p.0 < r.rows) × (p.1 < r.cols)) ps → AllByRecursion (λ p. (p.0 < 2 ^ file_height r.rows r.cols) × (p.1 < 2 ^ file_height r.rows r.cols)) ps
-    wider [] h = tt
-    wider (p ∷ ps) h =
-        ((let c = covers_rows r.rows r.cols a in let x = h.0.0 in omega (arith, c, x), let c = covers_cols r.rows r.cols b in let x = h.0.1 in omega (arith, c, x)), wider ps h.1)
-
--- ---- the squares of a list
-abbrev Entry : Type 0
-Entry = List ℕ × Relation
-
-abbrev KnownIn : List Square → Entry → Type 0
-KnownIn squares e = Known squares (length squares) (file_height e.1.rows e.1.cols) e.1.pairs
-
-record AllGrown (old new : List Square) (list : List Entry) : Type 0 where
-  behind : AllBehind new
-  once : NoneTwice new
-  more : List Square
-  is_more : new ≡ old ++ more
-  known : AllByRecursion (KnownIn new) list
-
-all_grow : (list : List Entry) (old : List Square) → AllByRecursion IsFiled list → AllBehind old → NoneTwice old → AllGrown old (visit_all old list) list
-all_grow [] old f all once = record { behind = all; once = once; more = []; is_more = sym (append-nil old); known = tt }
-all_grow (e ∷ list) old f all once =
-    let h = file_height e.1.rows e.1.cols in
-    let mid = visit h e.1.pairs old in
-    let g = visit_grows h e.1.pairs old (low_height e.1.rows e.1.cols) (proper_relation e.1 f.0.valid f.0.rows f.0.cols) all once in
-    let r = all_grow list mid f.1 g.behind g.once in
-    let n = length-append mid r.more in
-    record {
-      behind = r.behind;
-      once = r.once;
-      more = g.more ++ r.more;
-      is_more = r.is_more ∙ (ap (λ z. z ++ r.more) g.is_more ∙ append_assoc old g.more r.more);
-      known = (
-        subst (λ z. Known z (length z) h e.1.pairs) (sym r.is_more) (known_more mid r.more (length mid) (length (mid ++ r.more)) h e.1.pairs (omega (arith, n)) g.known),
-        r.known,
-      );
-    }
-
--- ---- names in order
-is_true : (b : Bool) → T b → b ≡ true
-is_true true h = refl
-is_true false h = absurd h
-
-both_true : (a b : Bool) → T (a && b) → T a × T b
-both_true true b h = (tt, h)
-both_true false b h = absurd h
-
--- the name before is before the first
-abbrev Before : Option (List ℕ) → List Entry → Type 0
-Before earlier [] = Unit {0}
-Before earlier (e ∷ list) = is_behind earlier e.0 ≡ true
-
-next_before : (e : Entry) (list : List Entry) → T (is_sorted compare (e ∷ list)) → Before (Some e.0) list
-next_before e [] h = tt
-next_before e (x ∷ list) h =
-    is_true (is_lt (compare e.0 x.0)) (both_true (is_lt (compare e.0 x.0)) (below_all compare e.0 list) (both_true (below_all compare e.0 (x ∷ list)) (is_sorted compare (x ∷ list)) h).0).0
-
-pub word_length : (name : List ℕ) → is_word name ≡ true → (1 ≤ length name) × (length name ≤ 64)
-word_length [] h = absurd (false≢true h)
-word_length (b ∷ bs) h =
-    let p = and_parts (list_all is_word_byte bs) (leb (length (b ∷ bs)) name_limit) (and_parts (is_letter b) (list_all is_word_byte bs && leb (length (b ∷ bs)) name_limit) h).1 in
-    (omega arith, leb-true (length (b ∷ bs)) 64 p.1)
-
--- ---- tests that pass
-passed : (b : Bool) (f : BadFile) → b ≡ true → unless b f ≡ None
-passed b f e = ap (λ z. unless z f) e
-
-both_pass : (a b : Option BadFile) → a ≡ None → b ≡ None → first_of_both a b ≡ None
-both_pass a b e f = ap (λ z. first_of_both z b) e ∙ f
-
--- the tests of a named relation by its parts
-abbrev tests_of : List Quadrant → List ℕ → ℕ → Option (List ℕ) → ℕ → ℕ → ℕ → NamedRoot → Option BadFile
-tests_of qs heights at earlier long l all e =
-    first_of_all (
-    unless (leb 1 long) Short
-    ∷ unless (leb 1 l && leb l name_limit) (BAD_NAMES at)
-    ∷ unless (leb all long) Short
-    ∷ unless (is_word e.name && is_behind earlier e.name) (BAD_NAMES at)
-    ∷ unless (leb e.rows size_limit && leb e.cols size_limit) Sizes
-    ∷ unless (is_root qs heights (file_height e.rows e.cols) e.root) (Root at)
-    ∷ unless (lies_within (2 ^ file_height e.rows e.cols) e.rows e.cols (cells_told qs (file_height e.rows e.cols) e.root)) (Outside at)
-    ∷ []
-    )
-
-tests_are : (qs : List Quadrant) (heights : List ℕ) (at : ℕ) (earlier : Option (List ℕ)) (xs : List ℕ) →
-    entry_fault qs heights at earlier xs ≡ tests_of qs heights at earlier (length xs) (name_length xs) (entry_length xs) (entry_in xs)
-unfolding entry_fault
-tests_are qs heights at earlier xs = refl
+use Rattle.run_model.proofs.SharedEntries.{Entry, AllGrown, KnownIn, Before, tests_of, proper_relation, all_grow, both_true, next_before, word_length, passed, both_pass, tests_are}
+use Rattle.run_model.proofs.SharedPlaces.{number_low, to_end}
 
 -- ---- one list
 module _ (list : List Entry) (filed : AllByRecursion IsFiled list) (few : length (squares_of list) + 1 < 2 ^ 32) where
@@ -217,40 +103,8 @@ module _ (list : List Entry) (filed : AllByRecursion IsFiled list) (few : length
   are_entries (e ∷ es) f k = (record { number = (told_root e f.0 k.0).0; inside = inside e f.0 k.0 }, are_entries es f.1 k.1)
 
   -- ---- small numbers
-  -- a square that is listed stands before the end
-  place_before : (xs : List Square) (s : Square) (j : ℕ) → slice_get xs j ≡ Some s → place_in xs s < length xs
-  place_before [] s j at = absurd (none_listed j s at)
-    where
-      none_listed : (j : ℕ) (s : Square) → slice_get [] j ≡ Some s → ⊥
-      none_listed j s at = let w = slice_get_within [] j s at in omega (arith, w)
-  place_before (x ∷ xs) s zero at = picked (same_square x s) (same_first x s at)
-    where
-      same_first : (x s : Square) → Some x ≡ Some s → same_square x s ≡ true
-      same_first x s e = subst (λ y. same_square x y ≡ true) (one_of_two x s e) (same_square_itself x)
-
-      picked : (b : Bool) → b ≡ true → cond b 0 (1 + place_in xs s) < length (x ∷ xs)
-      picked true e = omega arith
-      picked false e = absurd (false≢true e)
-  place_before (x ∷ xs) s (suc j) at = picked (same_square x s) (place_before xs s j at)
-    where
-      picked : (b : Bool) → place_in xs s < length xs → cond b 0 (1 + place_in xs s) < length (x ∷ xs)
-      picked true i = omega arith
-      picked false i = omega (arith, i)
-
-  number_low : (h : ℕ) (ps : List (ℕ × ℕ)) → Known squares (length squares) h ps → number_in squares h ps < 2 ^ 32
-  number_low h [] k = omega arith
-  number_low zero (p ∷ ps) k = omega arith
-  number_low (suc h) (p ∷ ps) (inl e) = absurd (omega (arith, e))
-  number_low (suc h) (p ∷ ps) (inr (inl e)) = absurd (let d : p ∷ ps ≡ [] = e in cc)
-  number_low (suc h) (p ∷ ps) (inr (inr (j, less, at))) =
-      let a = place_before squares (square_of (suc h) (p ∷ ps)) j at in let b = few_squares in omega (arith, a, b)
-
-  -- what stands before a listed square stands before the end
-  to_end : (k h : ℕ) (ps : List (ℕ × ℕ)) → k ≤ length squares → Known squares k h ps → Known squares (length squares) h ps
-  to_end k h ps l (inl e) = inl e
-  to_end k h ps l (inr (inl e)) = inr (inl e)
-  to_end k h ps l (inr (inr (j, less, at))) = inr (inr (j, omega (arith, less, l), at))
-
+  -- each of the four numbers of a listed square fits in four bytes: parts stand before the
+  -- end, and there are few squares
   small_squares : (xs : List Square) → ((j : ℕ) (s : Square) → slice_get xs j ≡ Some s → (k : ℕ) × (k ≤ length squares) × Behind squares k s) →
       AllByRecursion IsSmall (map (quadrant_of squares grown.behind grown.once) xs)
   small_squares [] f = tt
@@ -262,23 +116,24 @@ module _ (list : List Entry) (filed : AllByRecursion IsFiled list) (few : length
       small (suc h) ps (k, l, b) =
           let e : b.below ≡ h = let g = b.is_height in omega (arith, g) in
           record {
-            nw = number_low h _ (to_end k h _ l (subst (λ (z : ℕ). Known squares k z (quarter (2 ^ z) 0 0 ps)) e b.nw));
-            ne = number_low h _ (to_end k h _ l (subst (λ (z : ℕ). Known squares k z (quarter (2 ^ z) 0 (2 ^ z) ps)) e b.ne));
-            sw = number_low h _ (to_end k h _ l (subst (λ (z : ℕ). Known squares k z (quarter (2 ^ z) (2 ^ z) 0 ps)) e b.sw));
-            se = number_low h _ (to_end k h _ l (subst (λ (z : ℕ). Known squares k z (quarter (2 ^ z) (2 ^ z) (2 ^ z) ps)) e b.se));
+            nw = number_low squares few_squares h _ (to_end squares k h _ l (subst (λ (z : ℕ). Known squares k z (quarter (2 ^ z) 0 0 ps)) e b.nw));
+            ne = number_low squares few_squares h _ (to_end squares k h _ l (subst (λ (z : ℕ). Known squares k z (quarter (2 ^ z) 0 (2 ^ z) ps)) e b.ne));
+            sw = number_low squares few_squares h _ (to_end squares k h _ l (subst (λ (z : ℕ). Known squares k z (quarter (2 ^ z) (2 ^ z) 0 ps)) e b.sw));
+            se = number_low squares few_squares h _ (to_end squares k h _ l (subst (λ (z : ℕ). Known squares k z (quarter (2 ^ z) (2 ^ z) (2 ^ z) ps)) e b.se));
           }
 
   all_small : AllByRecursion IsSmall (map (quadrant_of squares grown.behind grown.once) squares)
   all_small = small_squares squares (λ j s at.
       (j, let w = slice_get_within squares j s at in omega (arith, w), grown.behind j s at))
 
+  -- and so do the sizes and the root of each relation: sizes keep to their limit, and roots are numbers like these
   small_roots : (es : List Entry) → AllByRecursion IsFiled es → AllByRecursion (KnownIn squares) es → AllByRecursion IsSmallRoot (map root_of es)
   small_roots [] f k = tt
   small_roots (e ∷ es) f k = (
     record {
       rows = let a = f.0.rows in omega (arith, a);
       cols = let a = f.0.cols in omega (arith, a);
-      root = number_low (file_height e.1.rows e.1.cols) e.1.pairs k.0;
+      root = number_low squares few_squares (file_height e.1.rows e.1.cols) e.1.pairs k.0;
     },
     small_roots es f.1 k.1,
   )
@@ -306,6 +161,8 @@ module _ (list : List Entry) (filed : AllByRecursion IsFiled list) (few : length
   abbrev header : List ℕ
   header = (codes "RVK2" ++ word_of (length squares)) ++ word_of (length list)
 
+  -- the file of the list is the header, the bytes of the squares by their numbers, and those of
+  -- the relations by their roots
   written : shared_file list ≡ (header ++ squares_text) ++ roots_text
   unfolding shared_file squares_of
   written = λ i.

@@ -13,7 +13,7 @@ use Rattle.rel_model.specs.Trees.{quartered}
 use Rattle.rel_model.specs.Quarters.{LiesWithin}
 use Rattle.rel_model.proofs.Relations.{has-relation_of}
 use Rattle.rel_model.proofs.Rooting.{same_within}
-use Rattle.run_model.specs.SharedFiles.{Square, same_square, with_square, visit, quarter}
+use Rattle.run_model.specs.SharedBytes.{Square, same_square, with_square, visit, quarter}
 use Rattle.run_model.proofs.SharedCells.{two-halves, pairs_valid, among_within, nw_cell, ne_cell, sw_cell, se_cell, within_quartered}
 use Rattle.run_model.proofs.SharedVisits.{same_square-true, same_square_itself}
 use Rattle.run_model.proofs.SharedTable.{get_front, get_next, get_back, one_of_two, found_one}
@@ -55,6 +55,7 @@ known_more squares more k m h ps l (inl e) = inl e
 known_more squares more k m h ps l (inr (inl e)) = inr (inl e)
 known_more squares more k m h ps l (inr (inr (j, less, at))) = inr (inr (j, omega (arith, less, l), get_front squares more j (square_of h ps) at))
 
+-- more squares behind the others leave a square where it stood: its quarters are still known before it
 behind_more : (squares more : List Square) (k : ℕ) (s : Square) → Behind squares k s → Behind (squares ++ more) k s
 behind_more squares more k s b = record {
   below = b.below;
@@ -201,6 +202,7 @@ module _ (h : ℕ) (ps : List (ℕ × ℕ)) (v : Proper (suc h) ps) where
   part_within : (row col : ℕ) → LiesWithin (2 ^ h) (2 ^ h) (part row col)
   part_within row col = among_within (2 ^ h) (2 ^ h) (quarter (2 ^ h) row col ps) (proper_quarter h row col ps)
 
+  -- a square is put together of its four quarters: a cell of a quarter is the square's cell moved by half a side
   pub by_quarters : is_among ps ≡ quartered (2 ^ h) (part 0 0) (part 0 (2 ^ h)) (part (2 ^ h) 0) (part (2 ^ h) (2 ^ h))
   by_quarters =
       let m = 2 ^ h in

@@ -43,6 +43,7 @@ module _ {X : Type 0} where
       or_else d None = d
       or_else d (Some z) = z
 
+  -- where an element of a list passes a test, some element does: by induction to its place
   pub found_one : (p : X → Bool) (xs : List X) (k : ℕ) (x : X) → slice_get xs k ≡ Some x → p x ≡ true → list_any p xs ≡ true
   found_one p [] k x h t = let e : 0 ≡ 1 = ap get_count h in absurd (omega (arith, e))
   found_one p (y ∷ xs) zero x h t = ap (λ z. p z || list_any p xs) (one_of_two y x h) ∙ ap (λ b. b || list_any p xs) t

@@ -10,7 +10,8 @@ use Rattle.rel_model.specs.Listed.{is_among}
 use Rattle.rel_model.specs.Cells.{no_cells}
 use Rattle.rel_model.proofs.Pairs.{same, same-true, same_itself}
 use Rattle.rel_model.specs.Trees.{quartered}
-use Rattle.run_model.specs.SharedFiles.{Square, same_pairs, same_square, with_square, where_pairs, visit, quarter, Quadrant, cells_told, with_number, visit_number}
+use Rattle.run_model.specs.SharedFiles.{Quadrant, cells_told, with_number, visit_number}
+use Rattle.run_model.specs.SharedBytes.{Square, same_pairs, same_square, with_square, where_pairs, visit, quarter}
 use Rattle.run_model.proofs.SharedCells.{pairs_of, among_pairs, two-halves, nw_quarter, ne_quarter, sw_quarter, se_quarter, IsNumber, IsDistinct, quadrant-listed, zero_cells, cells_within, cells_listed, some_cell, one_number}
 
 -- ---- lists of pairs
@@ -78,6 +79,7 @@ module _ (quads : List Quadrant) where
     pub sw : quarter (2 ^ h) (2 ^ h) 0 (pairs_at (suc h) (k + 2)) ≡ pairs_at h q.sw
     pub se : quarter (2 ^ h) (2 ^ h) (2 ^ h) (pairs_at (suc h) (k + 2)) ≡ pairs_at h q.se
 
+  -- the quarters of a listed square are the squares of its parts, since its cells are those of its parts put together
   pub quarters_are : (h k : ℕ) (q : Quadrant) → slice_get quads k ≡ Some q → Quarters h k q
   quarters_are h k q at =
       let m = 2 ^ h in

@@ -38,7 +38,8 @@ use Rattle.run_model.specs.States.{events_of, state_for}
 use Rattle.run_model.specs.Legal.{CommitsFrom, change_for, RunsScript, LegalSession, LegalSessions, is_assign, assigns, BeginsWithAssign, AssignsTogether, IsNotBefore, BatchesInOrder}
 use Rattle.run_model.specs.Solo.{state_behind, deeds_due, solo_from, solo, Suffices, SoloIsLegal}
 use Rattle.run_model.proofs.Entries.{entry, heads, tails, not_empty, none, split, From, one_session, sessions_from}
-use Rattle.run_model.proofs.Alone.{solo_numbers, to_solo, from_solo}
+use Rattle.run_model.proofs.Alone.{to_solo, from_solo}
+use Rattle.run_model.proofs.AloneSteps.{solo_numbers}
 
 -- ---- the assignments of each command
 -- whether a deed gives
@@ -86,6 +87,7 @@ module _ (item : Item) where
   first_on x n f r (Explained steps) = subst (λ l. GiveOn (l ++ giving (gives item (Explained steps)))) (sym f) (one_on x (giving (gives item (Explained steps))) n (giving_all (gives item (Explained steps))))
   first_on x n f r (Refused when outcome) = subst GiveOn (sym r) (one_on Reads [] refl tt)
 
+-- behind the first assignment of an item there are only assignments, case by case: an item gives last of all
 deeds_on : (item : Item) (d : Due) → GiveOn (deeds_due item d)
 deeds_on (COMMAND (RELATION name rows rows_at cols cols_at list)) d =
     quiet_on (COMMAND (RELATION name rows rows_at cols cols_at list)) refl refl d
@@ -222,6 +224,8 @@ module _ (input : Input) (history : List Event) (outcomes : List Outcome) where
       (placed_first script) r.each (subst (λ l. AreEvents input script 1 (steps (state_for input history 1) script outcomes) (map entry_of l)) (one_session history one) r.events)
       r.outcomes_due su r.commits
 
+  -- where outcomes and log are the computed ones, the session ran its script: all events are its own, and each item
+  -- came to what is due on the state that it sees
   solo_runs : (script : Script) → input.readings ≡ Runs script ∷ [] → IsSolo (Runs script) → RunsScript input history 1 script outcomes
   unfolding solo steps
   solo_runs script is h =
@@ -265,6 +269,8 @@ module _ (input : Input) (history : List Event) (outcomes : List Outcome) where
   solo_together (Flawed fault) h = subst AssignsTogether (sym (none history h.1)) tt
   solo_together (Runs script) h = together input script script.items.items 1 no_names no_names history h.1
 
+-- the run of one script is lawful exactly if it is the computed one: the laws of numbers, assignments and batches hold
+-- where there is one session
 pub solo_is_legal : SoloIsLegal
 solo_is_legal input reading history outcomes is su = (
   (λ legal.

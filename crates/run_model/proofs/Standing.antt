@@ -74,6 +74,8 @@ module _ (s : ℕ) where
   mid_own : (t : Turn) → IsTurn s t → events_of s (t.took ++ t.put) ≡ events_of s t.took ++ t.put
   mid_own t h = own_append t.took t.put ∙ ap (λ (l : List Event). events_of s t.took ++ l) (put_own t h)
 
+  -- the log behind turns has at least the session's events before them and those that they put: by induction on the
+  -- turns, each log begins with the one before
   turns_length : (ts : List Turn) (old new : List Event) → AreTurns ts old new → Own ts → length (events_of s old) + length (puts_of ts) ≤ length (events_of s new)
   turns_length [] old new h own = let l = own_length old new h in omega arith
   turns_length (t ∷ ts) old new h own =
@@ -99,6 +101,8 @@ module _ (s : ℕ) where
     pub whole : log ≡ (t.took ++ t.put) ++ rest
     pub next : Ahead ts (t.took ++ t.put) log
 
+  -- between the log before and the first turn's own the session has no event: counted with what its turns put, the
+  -- closed log has no place for more
   pub first_turn : (t : Turn) (ts : List Turn) (p log : List Event) → Ahead (t ∷ ts) p log → First t ts p log
   first_turn t ts p log a =
       let z = a.turns.0.0 in
@@ -255,6 +259,8 @@ module _ (s : ℕ) where
   of_all P [] e ys h = h
   of_all P (x ∷ xs) e ys h = of_all P xs e ys h.1
 
+  -- an assignment is followed by one of its command, or none follows: by induction on the turns, it is one of the first
+  -- turn's, which are put at once and never again, or it stands behind that turn
   pub goes_on : (ts : List Turn) (p log rest : List Event) → Ahead ts p log → AssignsOnce ts → log ≡ p ++ rest →
       (xs : List Event) (e : Event) (ys : List Event) → rest ≡ xs ++ e ∷ ys → e.session ≡ s → GoesOn e ys
   goes_on [] p log rest a once w xs e ys r own = absurd (not_quiet xs e ys own (sym (ap (events_of s) r) ∙ none_left p log rest a w))

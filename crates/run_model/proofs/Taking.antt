@@ -101,6 +101,8 @@ begins_kind : (kind : ℕ → Bool) (xs ys : List Event) → AllByRecursion (λ 
 begins_kind kind [] ys h = tt
 begins_kind kind (x ∷ xs) ys h = (h.0, begins_kind kind xs ys h.1)
 
+-- the state that a command took is that of the history before its first event: the log that its turn took ends there,
+-- and its replay is that of the carried relations
 pub taken_is_state : TakenIsState
 unfolding state_for state_after carried_from
 taken_is_state input kind means first s ts done seen log later place stand before behind c =
@@ -126,6 +128,8 @@ same_changes : (f g : List ℕ → ℕ) (v w : List ℕ → ℕ) → ((name : Li
     (names : List (List ℕ)) → first_changed f v names ≡ first_changed g w names
 same_changes f g v w h k names = λ i. first_changed (λ name. h name i) (λ name. k name i) names
 
+-- a name changed between a command's turns exactly if it did between its events: both compare versions in the same two
+-- logs, of which each has the earlier batches' in front
 pub taken_is_change : TakenIsChange
 unfolding change_for
 taken_is_change versions s ts done seen log later first stand before behind c names =

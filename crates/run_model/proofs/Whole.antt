@@ -1,10 +1,8 @@
 -- All sessions' promises together: the closed logs of all batches are one lawful history.
 -- 1. Each event is of a session that ran in its batch, so that each assigned relation has the value that is due.
--- 2. Batch after batch, the state behind the log is that of the carried relations, which the next batch begins with; and of
---    its sessions nothing was noted before.
+-- 2. Batch after batch, the state behind the log is that of the carried relations, with which the next batch begins.
 -- 3. So each log stands behind those before it, and each session ran by the states of the whole history.
-use Rattle.std.proofs.Common.{◌≡◌, ◌<◌, ◌≤◌, ◌+◌, ◌-◌, ◌++◌, ◌&&◌, ◌||◌, ℕ, zero, suc, Bool, true, false, cond, eqb, List, [], ◌∷◌, length, take, Option, Some, None, refl, sym, ap, subst, ◌∙◌, inl, inr, arith, append_assoc, add-zero, length-append}
-use Rattle.std.proofs.lemmas.List.{take_at, drop_at}
+use Rattle.std.proofs.Common.{◌≡◌, ◌<◌, ◌≤◌, ◌+◌, ◌-◌, ◌++◌, ◌&&◌, ◌||◌, ℕ, zero, suc, Bool, true, false, cond, eqb, List, [], ◌∷◌, length, Option, Some, None, refl, sym, ap, subst, ◌∙◌, inl, inr, arith, append_assoc, add-zero}
 use Rattle.std.specs.Prelude.{slice_get, option_and_then}
 use Rattle.std.specs.List.{list_any, AllByRecursion}
 use Rattle.std.proofs.lemmas.Bool.{cases_Bool, false≢true, eq-eqb, ne_eqb, or_parts}
@@ -22,14 +20,13 @@ use Rattle.run_model.specs.Carried.{SameTo, carried_from, valued}
 use Rattle.run_model.specs.Legal.{LegalSession, LegalSessions, assigns, BeginsWithAssign, GoesOn, AssignsTogether, BatchesInOrder}
 use Rattle.run_model.specs.Turns.{StandsBehind}
 use Rattle.run_model.specs.Sessions.{RanIn, SessionRan}
-use Rattle.run_model.specs.Stored.{AreStored, AreAllInWords, events_between, StoredFrom, DueIsStored}
-use Rattle.run_model.specs.Batches.{Batch, logs_of, IsOfBatch, state_left, versions_left, AreBatches, RanInBatch, SessionsRan, ClosedLogsAreLegal, LeaveStates, BatchesLeaveStates}
-use Rattle.run_model.proofs.Carrying.{carried_is_state, stored}
+use Rattle.run_model.specs.Batches.{Batch, logs_of, IsOfBatch, state_left, versions_left, AreBatches, RanInBatch, SessionsRan, ClosedLogsAreLegal, LeaveStates}
+use Rattle.run_model.proofs.Carrying.{carried_is_state}
 use Rattle.run_model.proofs.Places.{version-append}
 use Rattle.run_model.proofs.Standing.{Ahead, goes_on}
 use Rattle.run_model.proofs.Taking.{replay_append}
 use Rattle.run_model.proofs.Closing.{own_between, turns_run_script}
-use Rattle.run_model.proofs.Values.{sessions_make_due}
+use Rattle.run_model.proofs.SessionValues.{sessions_make_due}
 
 -- ---- events of sessions
 -- a log without events of a session has none
@@ -87,6 +84,7 @@ pub all_append : (P : Event → Type 0) (xs ys : List Event) → AllByRecursion 
 all_append P [] ys h k = k
 all_append P (x ∷ xs) ys h k = (h.0, all_append P xs ys h.1 k)
 
+-- where one property of an event implies another, it does so for all events of a list
 pub all_map : (P Q : Event → Type 0) → ((e : Event) → P e → Q e) → (xs : List Event) → AllByRecursion P xs → AllByRecursion Q xs
 all_map P Q f [] h = tt
 all_map P Q f (x ∷ xs) h = (f x h.0, all_map P Q f xs h.1)
@@ -108,7 +106,7 @@ module _ (input : Input) where
   abbrev Later : ℕ → List Event → Type 0
   Later k = AllByRecursion (λ e. k ≤ batch_of input.ends e.session)
 
-  abbrev of_batch : ℕ → ℕ → Bool
+  abbrev pub of_batch : ℕ → ℕ → Bool
   of_batch k s = eqb (batch_of input.ends s) k
 
   pub not_earlier : (s k : ℕ) → batch_of input.ends s ≡ k → (xs : List Event) → Earlier k xs → AllByRecursion (λ e. e.session ≡ s → ⊥) xs
@@ -149,6 +147,8 @@ module _ (input : Input) where
     in_order k xs ys h.1 l o,
   )
 
+  -- the events of the batches stand in the order of the batches: by induction, a batch's own
+  -- come before the later ones'
   pub all_in_order : (k : ℕ) (state : Workspace) (versions : List ℕ → ℕ) (bs : List Batch) → AreBatches input k state versions bs → BatchesInOrder input.ends (logs_of bs)
   all_in_order k state versions [] h = tt
   all_in_order k state versions (b ∷ bs) h =
@@ -157,7 +157,7 @@ module _ (input : Input) where
 
   -- ---- each batch behind the earlier ones
   -- so do all batches stand, from number k on
-  abbrev AllStand : ℕ → List Event → List Batch → Type 0
+  abbrev pub AllStand : ℕ → List Event → List Batch → Type 0
   AllStand k done [] = Unit {0}
   AllStand k done (b ∷ bs) = StandsBehind input (of_batch k) b.means b.first done b.log × AllStand (k + 1) (done ++ b.log) bs
 
@@ -194,6 +194,8 @@ module _ (input : Input) where
       let l = left_behind k done b st.0 in
       (l.0, l.1, all_left (k + 1) (done ++ b.log) bs st.1)
 
+  -- by induction on the batches: the state and versions behind the log so far are those that the next batch begins
+  -- with, so that its log stands behind it
   pub all_stand : (k : ℕ) (state : Workspace) (versions : List ℕ → ℕ) (bs : List Batch) (done : List Event) → AreBatches input k state versions bs → AllRan bs →
       (replay (gifts_due input) start done).now ≡ state → ((name : List ℕ) → version name done ≡ versions name) → Earlier k done → AllStand k done bs
   unfolding carried_from
@@ -224,6 +226,7 @@ module _ (input : Input) where
     pub is_earlier : Earlier k done
     pub is_later : Later (k + 1) later
 
+  -- a batch stands in the whole history behind the earlier batches and before the later ones: by induction to its place
   pub place : (bs : List Batch) (k n : ℕ) (state : Workspace) (versions : List ℕ → ℕ) (done : List Event) (b : Batch) → AreBatches input k state versions bs →
       AllStand k done bs → Earlier k done → slice_get bs n ≡ Some b → Place (k + n) b (done ++ logs_of bs)
   place [] k n state versions done b h st earlier is = let q : 0 ≡ 1 = ap batch_count is in absurd (omega (arith, q))
@@ -305,7 +308,7 @@ module _ (input : Input) where
     batch_ran k b is xs (e ∷ es) w h =
         (event_ran k b is e xs es w h.0, batch_ran k b is (xs ++ e ∷ []) es (w ∙ sym (append_assoc xs (e ∷ []) es)) h.1)
 
-    all_ran : (k : ℕ) (state : Workspace) (versions : List ℕ → ℕ) (bs : List Batch) → ((n : ℕ) → slice_get batches (k + n) ≡ slice_get bs n) →
+    pub all_ran : (k : ℕ) (state : Workspace) (versions : List ℕ → ℕ) (bs : List Batch) → ((n : ℕ) → slice_get batches (k + n) ≡ slice_get bs n) →
         AreBatches input k state versions bs → AllRan bs
     all_ran k state versions [] at h = tt
     all_ran k state versions (b ∷ bs) at h = (
@@ -381,6 +384,7 @@ module _ (input : Input) where
 pub from_zero : (n : ℕ) → 0 + n ≡ n
 from_zero n = omega arith
 
+-- the logs of all batches are a lawful history: each has its place there, so each session ran by its states
 pub closed_logs_are_legal : ClosedLogsAreLegal
 closed_logs_are_legal input batches outcomes are ran =
     let all = all_ran input batches outcomes ran 0 no_names (λ name. 0) batches (λ n. ap (slice_get batches) (from_zero n)) are in
@@ -393,39 +397,3 @@ closed_logs_are_legal input batches outcomes are ran =
       together = all_together input batches outcomes ran 0 no_names (λ name. 0) batches are all;
       batches = all_in_order input 0 no_names (λ name. 0) batches are;
     }
-
-pub batches_leave_states : BatchesLeaveStates
-batches_leave_states input batches outcomes are ran =
-    let all = all_ran input batches outcomes ran 0 no_names (λ name. 0) batches (λ n. ap (slice_get batches) (from_zero n)) are in
-    all_left input 0 [] batches (all_stand input 0 no_names (λ name. 0) batches [] are all refl (λ name. refl) tt)
-
--- ---- words
-module _ (input : Input) where
-  -- the events of a batch between those before and those behind
-  pub between : (done log later : List Event) → events_between (length done) (length done + length log) (done ++ (log ++ later)) ≡ log
-  between done log later =
-      (λ i. take (more (length done) (length log) i) (drop_at done (log ++ later) (length done) refl i)) ∙ take_at log later (length log) refl
-    where
-      more : (m n : ℕ) → (m + n) - m ≡ n
-      more m n = omega arith
-
-  pub all_stored : (bs : List Batch) (words : List (List ℕ)) (k : ℕ) (done : List Event) → AllStand input k done bs → AreAllInWords bs words →
-      StoredFrom input (done ++ logs_of bs) (length done) bs words
-  all_stored [] [] k done st h = tt
-  all_stored [] (w ∷ ws) k done st h = h
-  all_stored (b ∷ bs) [] k done st h = h
-  all_stored (b ∷ bs) (w ∷ ws) k done st h =
-      let here = between done b.log (logs_of bs) in
-      let front : take (length done) (done ++ (b.log ++ logs_of bs)) ≡ done = take_at done (b.log ++ logs_of bs) (length done) refl in
-      let one = stored b.means (of_batch input k) (gifts_due input) w b.log (replay (gifts_due input) start done) (begun b.first.names) st.0.of_kind st.0.same st.0.dues h.0 in (
-        here,
-        subst (λ l. AreStored (gifts_due input) w (replay (gifts_due input) start l) (events_between (length done) (length done + length b.log) (done ++ (b.log ++ logs_of bs)))) (sym front)
-            (subst (AreStored (gifts_due input) w (replay (gifts_due input) start done)) (sym here) one),
-        subst (λ l. StoredFrom input l (length done + length b.log) bs ws) (append_assoc done b.log (logs_of bs))
-            (subst (λ n. StoredFrom input ((done ++ b.log) ++ logs_of bs) n bs ws) (length-append done b.log) (all_stored bs ws (k + 1) (done ++ b.log) st.1 h.1)),
-      )
-
-pub due_is_stored : DueIsStored
-due_is_stored input batches outcomes words are ran h =
-    let all = all_ran input batches outcomes ran 0 no_names (λ name. 0) batches (λ n. ap (slice_get batches) (from_zero n)) are in
-    all_stored input batches words 0 [] (all_stand input 0 no_names (λ name. 0) batches [] are all refl (λ name. refl) tt) h

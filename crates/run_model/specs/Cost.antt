@@ -3,7 +3,7 @@
 -- the first that is refused; for a listed or loaded relation, what its pairs may take; and none if an early refusal is
 -- due.
 use Rattle.std.specs.Prelude.{◌==◌, ◌+◌, ◌-◌, cond, ℕ, List, [], ◌∷◌, length, Option, Some, None}
-use Rattle.lang_model.specs.declared.syntax.Row.{Row}
+use Rattle.lang_model.specs.declared.rows.Row.{Row}
 use Rattle.lang_model.specs.declared.syntax.Expr.{Expr}
 use Rattle.lang_model.specs.declared.syntax.Command.{Command}
 use Rattle.lang_model.specs.declared.syntax.Command.TheVariants.{

@@ -1,8 +1,8 @@
 -- What is due of an item: that it is done, with or without a value, or a refusal.
 use Rattle.std.specs.Prelude.{◌*◌, nat_lt, cond, ℕ, List, [], ◌∷◌, length, Option, Some, None}
 use Rattle.lang_model.specs.declared.syntax.Place.{Place}
-use Rattle.lang_model.specs.declared.syntax.Column.{Column}
-use Rattle.lang_model.specs.declared.syntax.Row.{Row}
+use Rattle.lang_model.specs.declared.rows.Column.{Column}
+use Rattle.lang_model.specs.declared.rows.Row.{Row}
 use Rattle.lang_model.specs.declared.syntax.Expr.{Expr}
 use Rattle.lang_model.specs.declared.syntax.Command.{Command}
 use Rattle.lang_model.specs.declared.syntax.Command.TheVariants.{
@@ -54,7 +54,8 @@ use Rattle.run_model.specs.Names.{Names, lookup}
 use Rattle.run_model.specs.Inputs.{Input, file_named}
 use Rattle.run_model.specs.Limits.{print_limit, list_limit, save_limit}
 use Rattle.run_model.specs.Files.{k2_fault, k2_relation, bits_count}
-use Rattle.run_model.specs.SharedFiles.{begins_shared, shared_fault, shared_relations, shared_file, relation_named}
+use Rattle.run_model.specs.SharedFiles.{begins_shared, shared_fault, shared_relations, relation_named}
+use Rattle.run_model.specs.SharedBytes.{shared_file}
 
 -- the workspace: which relation each name has
 abbrev pub Workspace : Type 0

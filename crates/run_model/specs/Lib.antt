@@ -2,6 +2,7 @@ pub mod Names
 pub mod Inputs
 pub mod Files
 pub mod SharedFiles
+pub mod SharedBytes
 pub mod Versions
 pub mod Blocks
 pub mod Limits

@@ -1,4 +1,4 @@
-use Rattle.run_model.proofs.Whole.{batches_leave_states}
+use Rattle.run_model.proofs.WholeWords.{batches_leave_states}
 use Rattle.run_model.proofs.laws.batches_leave_states.Goals as goal
 
 pub returns : goal.returns
