@@ -123,6 +123,7 @@ pub picks_first-all : (rows : List Row) (from w j : ℕ) → picks_first 64 rows
 unfolding picks picks_first
 picks_first-all rows from w j = refl
 
+-- four more bits of a word pick four more rows: the or over 4 * g + 4 bits splits after the first 4 * g
 pub picks_first-more : (rows : List Row) (from w g m j : ℕ) → IsFourOf w (4 * g) m
     → picks_first (4 * (g + 1)) rows from w j ≡ (picks_first (4 * g) rows from w j || picks_first 4 rows (from + 4 * g) m j)
 unfolding picks_first
@@ -201,6 +202,7 @@ pub record AreWordAdded (old a b : List Row) (q : ℕ) (new : List Row) (i : ℕ
 pub word_none : (old a b : List Row) (q : ℕ) → length old ≡ 256 → AreWordAdded old a b q old 0
 word_none old a b q e = record { len = e; below = λ k j h. absurd (omega arith); above = λ k h. refl }
 
+-- one row more has the product of word q added: row i is replaced, and all others are as they were
 pub word_more : (old a b : List Row) (q : ℕ) (new : List Row) (i w : ℕ) (r d e : Row) → i < 256 → length a ≡ 256 → AreWordAdded old a b q new i
     → ((k : ℕ) → k < 64 → has_bit w k ≡ row_has (get_or a i e) (64 * q + k))
     → ((j : ℕ) → row_has r j ≡ (row_has (get_or new i d) j || picks b (64 * q) w j)) → AreWordAdded old a b q (set new i r) (i + 1)
@@ -219,6 +221,7 @@ word_more old a b q new i w r d e l m s g f =
       above = λ k h. get_or-set_other new i k r no_row (λ y. omega arith) ∙ s.above k (omega arith);
     }
 
+-- after 256 rows each row has the product added: those past the end are empty on both sides
 pub word_all : (old a b : List Row) (q : ℕ) (new : List Row) (i : ℕ) → length old ≡ 256 → length a ≡ 256 → 256 ≤ i → AreWordAdded old a b q new i
     → (k j : ℕ) → rows_cells new k j ≡ (rows_cells old k j || word_product a b q k j)
 word_all old a b q new i m n l s k j = elim (cases_lt k 256) [

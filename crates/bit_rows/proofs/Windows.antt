@@ -70,6 +70,7 @@ quartered_sw m a b d e i j p q = let x = le-ltb i m p in let y = lt-ltb j m q in
 pub quartered_se : (m : ℕ) (a b d e : Cells) (i j : ℕ) → m ≤ i → m ≤ j → quartered m a b d e i j ≡ e (i - m) (j - m)
 quartered_se m a b d e i j p q = let x = le-ltb i m p in let y = le-ltb j m q in rw (x, y) refl
 
+-- four quarters placed one by one are the placed square: a cell lies in at most one of them, and the others lack it
 pub four_placed : (m r c : ℕ) (z a b d e : Cells) → Within m m a → Within m m b → Within m m d → Within m m e
     → cells_union (cells_union (cells_union (cells_union z (placed r c a)) (placed r (c + m) b)) (placed (r + m) c d)) (placed (r + m) (c + m) e) ≡ cells_union z (placed r c (quartered m a b d e))
 four_placed m r c z a b d e wa wb wd we = same_cells _ _ (λ i j. here i j (cases_lt i r) (cases_lt j c) (cases_lt i (r + m)) (cases_lt j (c + m)))
@@ -111,6 +112,8 @@ upper m i l = lt-ltb i (m + m) (omega arith) ∙ sym (lt-ltb i m l)
 three : {p q x s t u : Bool} → p ≡ s → q ≡ t → x ≡ u → (p && (q && x)) ≡ (s && (t && u))
 three a b d = cc
 
+-- a window's quarters are windows of half its side: row and column tell the quarter, and past the middle they are
+-- counted from there
 pub window-quartered : (m r c : ℕ) (f : Cells) → window r c (m + m) f ≡ quartered m (window r c m f) (window r (c + m) m f) (window (r + m) c m f) (window (r + m) (c + m) m f)
 window-quartered m r c f = same_cells _ _ (λ i j. here i j (cases_lt i m) (cases_lt j m))
   where

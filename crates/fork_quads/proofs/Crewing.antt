@@ -11,7 +11,7 @@ use Rattle.rel_model.specs.Trees.{bottom_height, top_height, cells, stands}
 use Rattle.rel_model.specs.Equations.{depth_of, side_of}
 use Rattle.rel_model.specs.Views.{Table}
 use Rattle.rel_model.specs.Quads.{Keeper, IsKeeper, QuadStands, IsQuad, quad_cells, KeepsQuads, ReadsQuads, Counts, quad_room}
-use Rattle.rel_model.specs.Roots.{tree_height, relation_room, root_cells, relation_in}
+use Rattle.rel_model.specs.Roots.{tree_height, relation_room, root_cells}
 use Rattle.rel_model.specs.Quarters.{LiesWithin}
 use Rattle.rel_model.specs.Worker.{Stands, set_of, HasQuad, quad_set, Gives, GivesQuad, Keeps, HasCause, MakesAtMost, operator_room}
 use Rattle.rel_model.proofs.QuadLaws.{quad_stays, quad_cells-stay, side_of-power}

@@ -141,6 +141,8 @@ value_seen : {E : Type 0} (v w : Keeper) (job : Job) (f g : Cells) (from past : 
 value_seen v w job f g from past (Ok p) x e h = have_seen v w job f g from past p x e h
 value_seen v w job f g from past (Err p) x e h = tt
 
+-- two groups that were computed at once, each on its part of a split, are one group: what stood before the split stands
+-- in both parts, and the join adds up their words and misses
 pub both_did : {E : Type 0} (s : ℕ) (old own other mine theirs new : Keeper) (job : Job) (from middle past : ℕ) (first second answer : Result (List Quad) E) → CanDo old job → from ≤ middle → middle ≤ past → past ≤ 64 → IsKeeper old
     → SplitsKeeper s old own other → DidPieces own mine job from middle first → DidPieces other theirs job middle past second → JoinsKeeper mine theirs new → AreBoth first second middle answer → DidPieces old new job from past answer
 both_did s old own other mine theirs new job from middle past first second answer c l m top i p a b j e =
@@ -168,6 +170,7 @@ split_misses : {E : Type 0} (s : ℕ) (old own other theirs new : Keeper) (answe
 split_misses s old own other theirs new (Ok p) i sp a j = let c = j.misses in let d = sp.misses in let g = sp.second_misses in let f = i.counted in omega (arith, a)
 split_misses s old own other theirs new (Err p) i sp a j = let c = j.misses in let d = sp.misses in let g = sp.second_misses in let f = i.counted in omega (arith, a)
 
+-- a group that was computed on the part that was split off, while the other part did nothing, was computed on the whole
 pub split_did : {E : Type 0} (s : ℕ) (old own other theirs new : Keeper) (job : Job) (from past : ℕ) (answer : Result (List Quad) E) → CanDo old job → IsKeeper old → SplitsKeeper s old own other → DidPieces other theirs job from past answer
     → JoinsKeeper own theirs new → DidPieces old new job from past answer
 split_did s old own other theirs new job from past answer c i p b j =
@@ -175,7 +178,7 @@ split_did s old own other theirs new job from past answer c i p b j =
     let v = join_second own theirs new b.keeps.after j in
     record {
       value = value_seen theirs new job _ _ from past answer v (set_seen old other job y c) b.value;
-      keeps = keeps_as (0 + (past - from) * piece_room (operator_of job.op) job.pieces.turns job.a.height job.cuts) ((past - from) * piece_room (operator_of job.op) job.pieces.turns job.a.height job.cuts) old new (none_more ((past - from) * piece_room (operator_of job.op) job.pieces.turns job.a.height job.cuts))
+      keeps = keeps_as (0 + (past - from) * piece_room (operator_of job.op) job.halving.times job.a.height job.cuts) ((past - from) * piece_room (operator_of job.op) job.halving.times job.a.height job.cuts) old new (none_more ((past - from) * piece_room (operator_of job.op) job.halving.times job.a.height job.cuts))
           (joined_keeps s 0 _ old own other own theirs new i p (keeps_itself own 0 p.after) b.keeps j);
       misses = split_misses s old own other theirs new answer i p b.misses j;
       stood = λ o h.
@@ -190,6 +193,7 @@ then_misses old mid new p q (Ok x) (Err y) middle a b e = absurd (cc)
 then_misses old mid new p q (Err x) (Ok y) middle a b e = absurd (cc)
 then_misses old mid new p q (Err x) (Err y) middle a b e = omega (arith, a, b)
 
+-- two groups one after the other are one group: the second saw all that the first had made
 pub then_did : {E : Type 0} (old mid new : Keeper) (job : Job) (from middle past : ℕ) (p : List Quad) (second answer : Result (List Quad) E) → CanDo old job → from ≤ middle → middle ≤ past → past ≤ 64
     → DidPieces {E = E} old mid job from middle (Ok p) → DidPieces mid new job middle past second → AreBoth (Ok p) second middle answer → DidPieces old new job from past answer
 then_did {E} old mid new job from middle past p second answer c l m top a b e =
@@ -211,7 +215,7 @@ then_did {E} old mid new job from middle past p second answer c l m top a b e =
 pub one_did : {D E : Type 0} (old new : Keeper) (job : Job) (n : ℕ) (q : Quad) (quads : List Quad) (r : Result Quad D) → n < 64 → AreAll q quads → r ≡ Ok q → CanDo old job
     → IfOk r (IsQuad new (job.a.height - job.cuts) (part job.a.height job.cuts n (job_set old job)))
     → (operator_of job.op ≢ Compose → FindsQuad old new (job.a.height - job.cuts) (part job.a.height job.cuts n (job_set old job)) r)
-    → KeepsQuads (piece_room (operator_of job.op) job.pieces.turns job.a.height job.cuts) old new → Counts old new r → DidPieces {E = E} old new job n (n + 1) (Ok quads)
+    → KeepsQuads (piece_room (operator_of job.op) job.halving.times job.a.height job.cuts) old new → Counts old new r → DidPieces {E = E} old new job n (n + 1) (Ok quads)
 one_did {D} {E} old new job n q quads r l all e c v s k m =
     let is : IsQuad new (job.a.height - job.cuts) (part job.a.height job.cuts n (job_set old job)) q = subst (λ (x : Result Quad D). IfOk x (IsQuad new (job.a.height - job.cuts) (part job.a.height job.cuts n (job_set old job)))) e v in
     let none : Counts {T = Quad} {E = D} old new (Ok q) = subst (λ (x : Result Quad D). Counts old new x) e m in
@@ -219,7 +223,7 @@ one_did {D} {E} old new job n q quads r l all e c v s k m =
       value = λ i a b d. let g : i ≡ n = omega arith in
           subst (λ (z : Quad). IsQuad new (job.a.height - job.cuts) (part job.a.height job.cuts i (job_set old job)) z) (sym (all i d (omega arith)))
           (subst (λ (j : ℕ). IsQuad new (job.a.height - job.cuts) (part job.a.height job.cuts j (job_set old job)) q) (sym g) is);
-      keeps = keeps_as (piece_room (operator_of job.op) job.pieces.turns job.a.height job.cuts) _ old new (one_more n (piece_room (operator_of job.op) job.pieces.turns job.a.height job.cuts)) k;
+      keeps = keeps_as (piece_room (operator_of job.op) job.halving.times job.a.height job.cuts) _ old new (one_more n (piece_room (operator_of job.op) job.halving.times job.a.height job.cuts)) k;
       misses = none;
       stood = λ o h. let p = h n (omega arith) (omega arith) in record { answered = refl; reads = (s o p.quad p.is).reads };
     }
@@ -245,7 +249,7 @@ pub did_longer : {E : Type 0} (old new : Keeper) (job : Job) (from middle past :
 did_longer old new job from middle past (Ok p) e l m a = absurd (cc)
 did_longer old new job from middle past (Err x) e l m a = record {
   value = tt;
-  keeps = (let b = rooms_both from middle past (piece_room (operator_of job.op) job.pieces.turns job.a.height job.cuts) l m in keeps_most _ _ old new (omega (arith, b)) a.keeps);
+  keeps = (let b = rooms_both from middle past (piece_room (operator_of job.op) job.halving.times job.a.height job.cuts) l m in keeps_most _ _ old new (omega (arith, b)) a.keeps);
   misses = a.misses;
   stood = λ o h. a.stood o (had_before old job from middle past m h);
 }

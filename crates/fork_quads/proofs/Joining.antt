@@ -1,7 +1,7 @@
 -- An operator by its pieces: all of them, put together, and the room that they take.
 use Rattle.std.proofs.Common.{◌≡◌, ◌≢◌, ◌<◌, ◌≤◌, ◌+◌, ◌-◌, ◌*◌, ◌^◌, zero, suc, ℕ, List, Result, Ok, Err, IfOk, refl, sym, ap, subst, ◌∙◌, arith}
 use Rattle.std.specs.Prelude.{IsOk}
-use Rattle.std.proofs.Math.Nat.{pow-suc, one-le-pow, pow-le-pow_left}
+use Rattle.std.proofs.Math.Nat.{pow-suc, one-le-pow, pow-le-pow_left, mul_comm, mul_assoc, add-mul}
 use Rattle.rel_model.specs.declared.Quad.{Quad}
 use Rattle.rel_model.specs.Cells.{Cells}
 use Rattle.rel_model.specs.Trees.{bottom_height}
@@ -9,21 +9,22 @@ use Rattle.rel_model.specs.Equations.{Operator, Union, Inter, Diff, Transpose, C
 use Rattle.rel_model.specs.Quads.{Keeper, IsKeeper, quad_cells, QuadStands, IsQuad, KeepsQuads, ReadsQuads, Counts, quad_room, composed_words}
 use Rattle.rel_model.specs.Worker.{Stands}
 use Rattle.rel_model.proofs.TreeLaws.{Within, zero_stands}
-use Rattle.rel_model.proofs.QuadLaws.{keeps_on, keeps_most, reads_on, is_quad-stays}
+use Rattle.rel_model.proofs.QuadLaws.{keeps_on, keeps_most, reads_on, is_quad-stays, rooms-next}
 use Rattle.rel_model.proofs.Rooms.{composed_words-most}
 use Rattle.row_quads.proofs.Placing.{quad_within}
 use Rattle.memo_laws.specs.Looking.{operator_of}
 use Rattle.quad_nodes.specs.Finding.{FindsQuad}
-use Rattle.quad_nodes.proofs.Finding.{found_later}
+use Rattle.quad_nodes.specs.Making.{MakesQuad}
+use Rattle.quad_nodes.proofs.Finding.{found_is, found_later}
 use Rattle.rel_model.specs.declared.Rel.{Rel}
 use Rattle.fork_quads.specs.Crew.{worker_of, root_quad}
 use Rattle.fork_quads.proofs.Crewing.{stands_root}
 use Rattle.fork_quads.specs.declared.pieces.Job.{Job}
 use Rattle.fork_quads.specs.Middle.{whole_words}
-use Rattle.fork_quads.specs.Forks.{work_room, product_words, piece_room, corner_words, fork_words, fork_room, TellsMisses, job_set, CanDo, HavePieces, HadPieces, DidPieces, HoldPieces, tiled}
+use Rattle.fork_quads.specs.Forks.{work_room, product_words, piece_room, corner_words, fork_words, fork_room, TellsMisses, job_set, CanDo, DidJob, HavePieces, HadPieces, DidPieces, HoldPieces, tiled}
 use Rattle.fork_quads.proofs.Parts.{result-within}
 use Rattle.fork_quads.proofs.Tiling.{before-few, tiled-is, part_stood}
-use Rattle.fork_quads.proofs.Forking.{set_seen, keeps_sees}
+use Rattle.fork_quads.proofs.Forking.{can_seen, set_seen, keeps_sees}
 
 -- ---- misses
 pub counts_tells : {T E : Type 0} (old new : Keeper) (r : Result T E) → Counts old new r → TellsMisses old new r
@@ -100,10 +101,6 @@ work_room-fork Diff t h = omega arith
 work_room-fork Transpose t h = omega arith
 work_room-fork Compose t h = whole_words-fork t (h - bottom_height)
 
--- an operator done alone after a look has the room of one that may be forked
-pub work_room-after : (op : Operator) (t h : ℕ) (u v w : Keeper) → ReadsQuads u v → KeepsQuads (work_room op t h) v w → KeepsQuads (fork_room op t h) u w
-work_room-after op t h u v w r k = let l = work_room-fork op t h in keeps_most (0 + work_room op t h) (fork_room op t h) u w (omega (arith, l)) (keeps_on 0 (work_room op t h) u v w r.keeps k)
-
 -- ---- rooms of all pieces
 whole_words-most : (t d : ℕ) → whole_words (suc t) d ≤ 3840 * 8 ^ d
 whole_words-most t zero = omega arith
@@ -112,127 +109,83 @@ whole_words-most t (suc d) =
     let p = pow-le-pow_left {n = 4} {m = 8} (omega arith) (suc d) in
     omega (arith, a, p)
 
-quad_words-most : (d : ℕ) → 2 * 4 ^ d - 1 ≤ 2 * 8 ^ d
-quad_words-most d = let p = pow-le-pow_left {n = 4} {m = 8} (omega arith) d in omega (arith, p)
+-- one cut more makes four times as many pieces
+four_times : (c x : ℕ) → 4 ^ suc c * x ≡ 4 * (4 ^ c * x)
+four_times c x = ap (λ (y : ℕ). y * x) (pow-suc 4 c ∙ mul_comm (4 ^ c) 4) ∙ mul_assoc 4 (4 ^ c) x
+
+two_and_one : (p x q : ℕ) → p * (x + x + q) ≡ p * x + p * x + p * q
+two_and_one p x q =
+    mul_comm p (x + x + q) ∙ add-mul (x + x) q p ∙ ap (λ (y : ℕ). y + q * p) (add-mul x x p)
+    ∙ ap (λ (y : ℕ). y + y + q * p) (mul_comm x p) ∙ ap (λ (y : ℕ). p * x + p * x + y) (mul_comm q p)
+
+four_sums : (c x q : ℕ) → 4 ^ suc c * (x + x + q) ≡ 4 * (4 ^ c * x + 4 ^ c * x + 4 ^ c * q)
+four_sums c x q = four_times c (x + x + q) ∙ ap (λ (y : ℕ). 4 * y) (two_and_one (4 ^ c) x q)
+
+height_next : (h c : ℕ) → bottom_height + suc c ≤ h → h - bottom_height ≡ suc (h - 1 - bottom_height)
+height_next h c d = omega arith
+
+-- squares of one height have the room of the whole, with their corners
+squares_fit : (c h : ℕ) → bottom_height + c ≤ h → 4 ^ c * quad_room (h - c) + corner_words c ≤ quad_room h
+squares_fit zero h d = let q : quad_room (h - 0) ≡ quad_room h = ap (λ (x : ℕ). quad_room x) (let g : h - 0 ≡ h = omega arith in g) in omega (arith, q)
+squares_fit (suc c) h d =
+    let e : quad_room (h - suc c) ≡ quad_room (h - 1 - c) = ap (λ (x : ℕ). quad_room x) (let g : h - suc c ≡ h - 1 - c = omega arith in g) in
+    subst (λ (y : ℕ). y + corner_words (suc c) ≤ quad_room h) (sym (ap (λ (x : ℕ). 4 ^ suc c * x) e ∙ four_times c (quad_room (h - 1 - c))))
+    (next (4 ^ c * quad_room (h - 1 - c)) (corner_words c) (quad_room (h - 1)) (quad_room h) (squares_fit c (h - 1) (omega arith)) (rooms-next h (omega arith)))
+  where
+    next : (x w m n : ℕ) → x + w ≤ m → m + m + m + m + 3 ≡ n → 4 * x + (w + w + (w + w) + 3) ≤ n
+    next x w m n a b = omega (arith, a, b)
 
 -- pieces of a composition whose middle is not halved place no more than the recursion
-lines_fit : (c h : ℕ) → 0 < c → c ≤ 3 → bottom_height + c ≤ h → 4 ^ c * product_words 0 h c + corner_words c ≤ composed_words (h - bottom_height)
-unfolding bottom_height
-lines_fit zero h s l d = absurd (omega (arith, s))
-lines_fit (suc zero) h s l d =
-    let j : ℕ = h - 1 - 3 in
-    let t : composed_words (h - 3) ≡ composed_words (suc j) = ap composed_words (let e : h - 3 ≡ suc j = omega arith in e) in
-    let q : quad_room (h - 1 - 0) ≡ 2 * 4 ^ j - 1 = ap (λ (x : ℕ). 2 * 4 ^ x - 1) (let g : h - 1 - 0 - 3 ≡ j = omega arith in g) in
-    let o = one-le-pow j 4 (omega arith) in
-    omega (arith, t, q, o)
-lines_fit (suc (suc zero)) h s l d =
-    let j : ℕ = h - 1 - 1 - 3 in
-    let t : composed_words (h - 3) ≡ composed_words (suc (suc j)) = ap composed_words (let e : h - 3 ≡ suc (suc j) = omega arith in e) in
-    let p : 4 ^ suc j ≡ 4 ^ j * 4 = pow-suc 4 j in
-    let q : quad_room (h - 1 - 1 - 0) ≡ 2 * 4 ^ j - 1 = ap (λ (x : ℕ). 2 * 4 ^ x - 1) (let g : h - 1 - 1 - 0 - 3 ≡ j = omega arith in g) in
-    let q1 : quad_room (h - 1 - 1) ≡ 2 * 4 ^ j - 1 = refl in
-    let o = one-le-pow j 4 (omega arith) in
-    omega (arith, t, p, q, q1, o)
-lines_fit (suc (suc (suc zero))) h s l d =
-    let j : ℕ = h - 1 - 1 - 1 - 3 in
-    let t : composed_words (h - 3) ≡ composed_words (suc (suc (suc j))) = ap composed_words (let e : h - 3 ≡ suc (suc (suc j)) = omega arith in e) in
-    let p : 4 ^ suc (suc j) ≡ 4 ^ suc j * 4 = pow-suc 4 (suc j) in
-    let p0 : 4 ^ suc j ≡ 4 ^ j * 4 = pow-suc 4 j in
-    let q : quad_room (h - 1 - 1 - 1 - 0) ≡ 2 * 4 ^ j - 1 = ap (λ (x : ℕ). 2 * 4 ^ x - 1) (let g : h - 1 - 1 - 1 - 0 - 3 ≡ j = omega arith in g) in
-    let q1 : quad_room (h - 1 - 1 - 1) ≡ 2 * 4 ^ j - 1 = refl in
-    let q2 : quad_room (h - 1 - 2) ≡ 2 * 4 ^ j - 1 = ap (λ (x : ℕ). 2 * 4 ^ x - 1) (let g : h - 1 - 2 - 3 ≡ j = omega arith in g) in
-    let o = one-le-pow j 4 (omega arith) in
-    omega (arith, t, p, p0, q, q1, q2, o)
-lines_fit (suc (suc (suc (suc c)))) h s l d = absurd (omega (arith, l))
+lines_fit : (c h : ℕ) → bottom_height + c ≤ h → 4 ^ c * product_words 0 h c + corner_words c ≤ composed_words (h - bottom_height)
+lines_fit zero h d = omega arith
+lines_fit (suc c) h d =
+    subst (λ (y : ℕ). y + corner_words (suc c) ≤ composed_words (h - bottom_height)) (sym (four_sums c (product_words 0 (h - 1) c) (quad_room (h - 1 - c))))
+    (next (4 ^ c * product_words 0 (h - 1) c) (4 ^ c * quad_room (h - 1 - c)) (corner_words c) (composed_words (h - 1 - bottom_height)) (quad_room (h - 1)) (composed_words (h - bottom_height))
+    (lines_fit c (h - 1) (omega arith)) (squares_fit c (h - 1) (omega arith)) (ap composed_words (height_next h c d)))
+  where
+    next : (x q w m n z : ℕ) → x + w ≤ m → q + w ≤ n → z ≡ 8 * m + 4 * n + 3 → 4 * (x + x + q) + (w + w + (w + w) + 3) ≤ z
+    next x q w m n z a b e = omega (arith, a, b, e)
 
--- those of one whose middle may be halved
-products_fit : (n c h : ℕ) → 0 < c → c ≤ 3 → bottom_height + c ≤ h → 4 ^ c * product_words (suc n) h c + corner_words c ≤ fork_words (suc n) (h - bottom_height)
-unfolding bottom_height
-products_fit n zero h s l d = absurd (omega (arith, s))
-products_fit n (suc zero) h s l d =
-    let j : ℕ = h - 1 - 3 in
-    let e : h - 3 ≡ suc j = omega arith in
-    let t : fork_words (suc n) (h - 3) ≡ fork_words (suc n) (suc j) = ap (fork_words (suc n)) e in
-    let p : 8 ^ suc j ≡ 8 ^ j * 8 = pow-suc 8 j in
-    let w = whole_words-most n j in
-    let q : quad_room (h - 1 - 0) ≡ 2 * 4 ^ j - 1 = ap (λ (x : ℕ). 2 * 4 ^ x - 1) (let g : h - 1 - 0 - 3 ≡ j = omega arith in g) in
-    let b = quad_words-most j in
-    let o = one-le-pow j 8 (omega arith) in
-    omega (arith, t, p, w, q, b, o)
-products_fit n (suc (suc zero)) h s l d =
-    let j : ℕ = h - 1 - 1 - 3 in
-    let e : h - 3 ≡ suc (suc j) = omega arith in
-    let t : fork_words (suc n) (h - 3) ≡ fork_words (suc n) (suc (suc j)) = ap (fork_words (suc n)) e in
-    let p : 8 ^ suc (suc j) ≡ 8 ^ suc j * 8 = pow-suc 8 (suc j) in
-    let p0 : 8 ^ suc j ≡ 8 ^ j * 8 = pow-suc 8 j in
-    let w = whole_words-most n j in
-    let q : quad_room (h - 1 - 1 - 0) ≡ 2 * 4 ^ j - 1 = ap (λ (x : ℕ). 2 * 4 ^ x - 1) (let g : h - 1 - 1 - 0 - 3 ≡ j = omega arith in g) in
-    let q1 : quad_room (h - 1 - 1) ≡ 2 * 4 ^ j - 1 = refl in
-    let b = quad_words-most j in
-    let o = one-le-pow j 8 (omega arith) in
-    omega (arith, t, p, p0, w, q, q1, b, o)
-products_fit n (suc (suc (suc zero))) h s l d =
-    let j : ℕ = h - 1 - 1 - 1 - 3 in
-    let e : h - 3 ≡ suc (suc (suc j)) = omega arith in
-    let t : fork_words (suc n) (h - 3) ≡ fork_words (suc n) (suc (suc (suc j))) = ap (fork_words (suc n)) e in
-    let p : 8 ^ suc (suc (suc j)) ≡ 8 ^ suc (suc j) * 8 = pow-suc 8 (suc (suc j)) in
-    let p0 : 8 ^ suc (suc j) ≡ 8 ^ suc j * 8 = pow-suc 8 (suc j) in
-    let p1 : 8 ^ suc j ≡ 8 ^ j * 8 = pow-suc 8 j in
-    let w = whole_words-most n j in
-    let q : quad_room (h - 1 - 1 - 1 - 0) ≡ 2 * 4 ^ j - 1 = ap (λ (x : ℕ). 2 * 4 ^ x - 1) (let g : h - 1 - 1 - 1 - 0 - 3 ≡ j = omega arith in g) in
-    let q1 : quad_room (h - 1 - 1 - 1) ≡ 2 * 4 ^ j - 1 = refl in
-    let q2 : quad_room (h - 1 - 2) ≡ 2 * 4 ^ j - 1 = ap (λ (x : ℕ). 2 * 4 ^ x - 1) (let g : h - 1 - 2 - 3 ≡ j = omega arith in g) in
-    let b = quad_words-most j in
-    let o = one-le-pow j 8 (omega arith) in
-    omega (arith, t, p, p0, p1, w, q, q1, q2, b, o)
-products_fit n (suc (suc (suc (suc c)))) h s l d = absurd (omega (arith, l))
+-- those of one whose middle may be halved place a little more than the whole
+products_fit : (n c h : ℕ) → bottom_height + c ≤ h → 4 ^ c * product_words (suc n) h c + corner_words c + 2 * 4 ^ (h - bottom_height) ≤ 3842 * 8 ^ (h - bottom_height)
+products_fit n zero h d =
+    let w = whole_words-most n (h - bottom_height) in
+    let p = pow-le-pow_left {n = 4} {m = 8} (omega arith) (h - bottom_height) in
+    omega (arith, w, p)
+products_fit n (suc c) h d =
+    let k : ℕ = h - 1 - bottom_height in
+    let e : h - bottom_height ≡ suc k = height_next h c d in
+    let four : 4 ^ (h - bottom_height) ≡ 4 ^ k * 4 = ap (λ (x : ℕ). 4 ^ x) e ∙ pow-suc 4 k in
+    let eight : 8 ^ (h - bottom_height) ≡ 8 ^ k * 8 = ap (λ (x : ℕ). 8 ^ x) e ∙ pow-suc 8 k in
+    subst (λ (y : ℕ). y + corner_words (suc c) + 2 * 4 ^ (h - bottom_height) ≤ 3842 * 8 ^ (h - bottom_height)) (sym (four_sums c (product_words (suc n) (h - 1) c) (quad_room (h - 1 - c))))
+    (next (4 ^ c * product_words (suc n) (h - 1) c) (4 ^ c * quad_room (h - 1 - c)) (corner_words c) (4 ^ k) (8 ^ k) (4 ^ (h - bottom_height)) (8 ^ (h - bottom_height))
+    (products_fit n c (h - 1) (omega arith)) (squares_fit c (h - 1) (omega arith)) (one-le-pow k 4 (omega arith)) four eight)
+  where
+    next : (x q w f g f4 g8 : ℕ) → x + w + 2 * f ≤ 3842 * g → q + w ≤ 2 * f - 1 → 1 ≤ f → f4 ≡ f * 4 → g8 ≡ g * 8 → 4 * (x + x + q) + (w + w + (w + w) + 3) + 2 * f4 ≤ 3842 * g8
+    next x q w f g f4 g8 a b o e s = omega (arith, a, b, o, e, s)
 
-squares_fit : (c h : ℕ) → c ≤ 3 → bottom_height + c ≤ h → 4 ^ c * quad_room (h - c) + corner_words c ≤ quad_room h
-unfolding bottom_height
-squares_fit zero h l d = let q : quad_room (h - 0) ≡ quad_room h = ap (λ (x : ℕ). quad_room x) (let g : h - 0 ≡ h = omega arith in g) in omega (arith, q)
-squares_fit (suc zero) h l d =
-    let j : ℕ = h - 1 - 3 in
-    let t : 4 ^ (h - 3) ≡ 4 ^ suc j = ap (λ (x : ℕ). 4 ^ x) (let g : h - 3 ≡ suc j = omega arith in g) in
-    let p : 4 ^ suc j ≡ 4 ^ j * 4 = pow-suc 4 j in
-    let o = one-le-pow j 4 (omega arith) in
-    omega (arith, t, p, o)
-squares_fit (suc (suc zero)) h l d =
-    let j : ℕ = h - 2 - 3 in
-    let t : 4 ^ (h - 3) ≡ 4 ^ suc (suc j) = ap (λ (x : ℕ). 4 ^ x) (let g : h - 3 ≡ suc (suc j) = omega arith in g) in
-    let p : 4 ^ suc (suc j) ≡ 4 ^ suc j * 4 = pow-suc 4 (suc j) in
-    let p0 : 4 ^ suc j ≡ 4 ^ j * 4 = pow-suc 4 j in
-    let o = one-le-pow j 4 (omega arith) in
-    omega (arith, t, p, p0, o)
-squares_fit (suc (suc (suc zero))) h l d =
-    let j : ℕ = h - 3 - 3 in
-    let t : 4 ^ (h - 3) ≡ 4 ^ suc (suc (suc j)) = ap (λ (x : ℕ). 4 ^ x) (let g : h - 3 ≡ suc (suc (suc j)) = omega arith in g) in
-    let p : 4 ^ suc (suc (suc j)) ≡ 4 ^ suc (suc j) * 4 = pow-suc 4 (suc (suc j)) in
-    let p0 : 4 ^ suc (suc j) ≡ 4 ^ suc j * 4 = pow-suc 4 (suc j) in
-    let p1 : 4 ^ suc j ≡ 4 ^ j * 4 = pow-suc 4 j in
-    let o = one-le-pow j 4 (omega arith) in
-    omega (arith, t, p, p0, p1, o)
-squares_fit (suc (suc (suc (suc c)))) h l d = absurd (omega (arith, l))
+fork_words-some : (n d : ℕ) → 0 < d → fork_words (suc n) d ≡ 4096 * 8 ^ d
+fork_words-some n zero l = absurd (omega (arith, l))
+fork_words-some n (suc d) l = refl
 
-pub pieces_fit : (op : Operator) (t c h : ℕ) → 0 < c → c ≤ 3 → bottom_height + c ≤ h → 4 ^ c * piece_room op t h c + corner_words c ≤ fork_room op t h
-pieces_fit Union t c h s l d = squares_fit c h l d
-pieces_fit Inter t c h s l d = squares_fit c h l d
-pieces_fit Diff t c h s l d = squares_fit c h l d
-pieces_fit Transpose t c h s l d = squares_fit c h l d
-pieces_fit Compose zero c h s l d = lines_fit c h s l d
-pieces_fit Compose (suc n) c h s l d = products_fit n c h s l d
+pub pieces_fit : (op : Operator) (t c h : ℕ) → 0 < c → bottom_height + c ≤ h → 4 ^ c * piece_room op t h c + corner_words c ≤ fork_room op t h
+pieces_fit Union t c h s d = squares_fit c h d
+pieces_fit Inter t c h s d = squares_fit c h d
+pieces_fit Diff t c h s d = squares_fit c h d
+pieces_fit Transpose t c h s d = squares_fit c h d
+pieces_fit Compose zero c h s d = lines_fit c h d
+pieces_fit Compose (suc n) c h s d = most (4 ^ c * product_words (suc n) h c) (corner_words c) (4 ^ (h - bottom_height)) (8 ^ (h - bottom_height)) (fork_words (suc n) (h - bottom_height))
+    (products_fit n c h d) (fork_words-some n (h - bottom_height) (omega (arith, s, d)))
+  where
+    most : (x w f g z : ℕ) → x + w + 2 * f ≤ 3842 * g → z ≡ 4096 * g → x + w ≤ z
+    most x w f g z a e = omega (arith, a, e)
 
--- what all pieces and their corners place
-pub all_keeps : (u v w : Keeper) (op : Operator) (t c h past : ℕ) → 0 < c → c ≤ 3 → bottom_height + c ≤ h → past ≡ 4 ^ c → KeepsQuads ((past - 0) * piece_room op t h c) u v → KeepsQuads (corner_words c) v w → KeepsQuads (fork_room op t h) u w
-all_keeps u v w op t c h past s l d e k m =
+-- what all pieces place, and their corners
+all_room : (op : Operator) (t c h past : ℕ) → 0 < c → bottom_height + c ≤ h → past ≡ 4 ^ c → (past - 0) * piece_room op t h c + corner_words c ≤ fork_room op t h
+all_room op t c h past s d e =
     let r : (past - 0) * piece_room op t h c ≡ 4 ^ c * piece_room op t h c = ap (λ (x : ℕ). x * piece_room op t h c) (let g : past - 0 ≡ 4 ^ c = omega arith in g) in
-    let f = pieces_fit op t c h s l d in
-    keeps_most _ (fork_room op t h) u w (omega (arith, r, f)) (keeps_on _ _ u v w k m)
-
-pub all_keeps-missed : (u v : Keeper) (op : Operator) (t c h past : ℕ) → 0 < c → c ≤ 3 → bottom_height + c ≤ h → past ≡ 4 ^ c → KeepsQuads ((past - 0) * piece_room op t h c) u v → KeepsQuads (fork_room op t h) u v
-all_keeps-missed u v op t c h past s l d e k =
-    let r : (past - 0) * piece_room op t h c ≡ 4 ^ c * piece_room op t h c = ap (λ (x : ℕ). x * piece_room op t h c) (let g : past - 0 ≡ 4 ^ c = omega arith in g) in
-    let f = pieces_fit op t c h s l d in
-    keeps_most _ (fork_room op t h) u v (omega (arith, r, f)) k
+    let f = pieces_fit op t c h s d in
+    omega (arith, r, f)
 
 -- what the two products of a square place
 pub product_keeps : (u v w : Keeper) (t h k c : ℕ) → c ≢ 0 → k + 1 ≡ h → ReadsQuads u v → KeepsQuads (product_words t k (c - 1) + product_words t k (c - 1) + quad_room (k - (c - 1))) v w → KeepsQuads (product_words t h c) u w
@@ -253,16 +206,75 @@ pieces_few (suc (suc zero)) past l e = omega arith
 pieces_few (suc (suc (suc zero))) past l e = omega arith
 pieces_few (suc (suc (suc (suc c)))) past l e = absurd (omega (arith, l))
 
--- ---- after a look
-pub after_value : {E : Type 0} (m : ℕ) (v w z : Keeper) (job : Job) (r : Result Quad E) → KeepsQuads m v w → CanDo v job → IfOk r (IsQuad z job.a.height (job_set w job)) → IfOk r (IsQuad z job.a.height (job_set v job))
-after_value m v w z job r k c i = subst (λ (f : Cells). IfOk r (IsQuad z job.a.height f)) (set_seen v w job (keeps_sees m v w k) c) i
+-- ---- jobs
+-- a job can be done after calls that keep its operands
+pub can_kept : {m : ℕ} {v w : Keeper} {job : Job} → KeepsQuads m v w → CanDo v job → CanDo w job
+can_kept {m} {v} {w} {job} k c = can_seen v w job (keeps_sees m v w k) c
 
-pub after_found : {E : Type 0} (v w z : Keeper) (job : Job) (r : Result Quad E) → ReadsQuads v w → CanDo v job → FindsQuad w z job.a.height (job_set w job) r → FindsQuad v z job.a.height (job_set v job) r
-after_found v w z job r k c f = found_later v w z job.a.height job.a.height _ _ r k refl (set_seen v w job (keeps_sees 0 v w k.keeps) c) f
+-- and computes the same set
+pub set_kept : {m : ℕ} {v w : Keeper} {job : Job} → KeepsQuads m v w → CanDo v job → job_set w job ≡ job_set v job
+set_kept {m} {v} {w} {job} k c = set_seen v w job (keeps_sees m v w k) c
 
--- before a note
-pub later_found : {E : Type 0} (v w z : Keeper) (h : ℕ) (f : Cells) (q : Quad) → ReadsQuads w z → FindsQuad {E = E} v w h f (Ok q) → FindsQuad {E = E} v z h f (Ok q)
-later_found v w z h f q k find x s = let g = find x s in record { answer = g.answer; reads = reads_on v w z g.reads k }
+-- by one worker
+pub job_sequential : {E : Type 0} {v w : Keeper} (job : Job) (r : Result Quad E) → IfOk r (IsQuad w job.a.height (job_set v job)) → (operator_of job.op ≢ Compose → FindsQuad v w job.a.height (job_set v job) r)
+    → KeepsQuads (work_room (operator_of job.op) job.halving.times job.a.height) v w → Counts v w r → DidJob v w job r
+job_sequential {E} {v} {w} job r i f k c = record {
+  value = i;
+  stood = f;
+  keeps = keeps_most _ _ v w (work_room-fork (operator_of job.op) job.halving.times job.a.height) k;
+  misses = counts_tells v w r c;
+}
+
+-- by a quad that was noted
+pub job_found : {E : Type 0} {v w : Keeper} (job : Job) {q : Quad} → ReadsQuads v w → IsQuad w job.a.height (job_set v job) q → DidJob {E = E} v w job (Ok q)
+job_found {E} {v} {w} job {q} r s = record {
+  value = s;
+  stood = λ other. found_is {E = E} v w job.a.height (job_set v job) q r s;
+  keeps = keeps_most 0 _ v w (omega arith) r.keeps;
+  misses = r.misses;
+}
+
+-- after a call that reads
+pub job_after : {E : Type 0} {u v w : Keeper} {job : Job} {r : Result Quad E} → ReadsQuads u v → CanDo u job → DidJob v w job r → DidJob u w job r
+job_after {E} {u} {v} {w} {job} {r} a c s =
+    let m : ℕ = fork_room (operator_of job.op) job.halving.times job.a.height in
+    let e : job_set v job ≡ job_set u job = set_kept a.keeps c in
+    record {
+      value = subst (λ (f : Cells). IfOk r (IsQuad w job.a.height f)) e s.value;
+      stood = λ other. found_later u v w job.a.height job.a.height _ _ r a refl e (s.stood other);
+      keeps = keeps_most (0 + m) m u w (omega arith) (keeps_on 0 m u v w a.keeps s.keeps);
+      misses = tells_after u v w r a.misses s.misses;
+    }
+
+-- and before one
+pub job_before : {E : Type 0} {u v w : Keeper} {job : Job} {q : Quad} → DidJob {E = E} u v job (Ok q) → ReadsQuads v w → DidJob {E = E} u w job (Ok q)
+job_before {E} {u} {v} {w} {job} {q} s a =
+    let m : ℕ = fork_room (operator_of job.op) job.halving.times job.a.height in
+    record {
+      value = is_quad-stays 0 v w job.a.height (job_set u job) q a.keeps s.value;
+      stood = λ other p i. let g = s.stood other p i in record { answer = g.answer; reads = reads_on u v w g.reads a };
+      keeps = keeps_most (m + 0) m u w (omega arith) (keeps_on m 0 u v w s.keeps a.keeps);
+      misses = a.misses ∙ s.misses;
+    }
+
+-- by all its pieces, put together
+pub job_pieces : {D E : Type 0} {v w z : Keeper} {job : Job} {past : ℕ} {quads : List Quad} {r : Result Quad E} → IsKeeper v → CanDo v job → 0 < job.cuts → past ≡ 4 ^ job.cuts
+    → DidPieces {E = D} v w job 0 past (Ok quads) → MakesQuad (corner_words job.cuts) job.a.height (tiled w job.a.height job.cuts 0 quads) w z r → DidJob v z job r
+job_pieces {D} {E} {v} {w} {z} {job} {past} {quads} {r} i c over e did s = record {
+  value = all_value v w z job past quads r c e did.value s.value;
+  stood = λ other. all_found {D = D} {E = E} v w z job past quads r i c e other did s.stood;
+  keeps = keeps_most _ _ v z (all_room (operator_of job.op) job.halving.times job.cuts job.a.height past over c.deep e) (keeps_on _ _ v w z did.keeps s.keeps);
+  misses = tells_after v w z r did.misses (counts_tells w z r s.counts);
+}
+
+-- or not, where a piece was missed
+pub job_missed : {D E : Type 0} {v w : Keeper} {job : Job} {past : ℕ} {x : D} {y : E} → IsKeeper v → CanDo v job → 0 < job.cuts → past ≡ 4 ^ job.cuts → DidPieces {E = D} v w job 0 past (Err x) → DidJob {E = E} v w job (Err y)
+job_missed {D} {E} {v} {w} {job} {past} {x} {y} i c over e did = record {
+  value = tt;
+  stood = λ other. all_missed {D = D} {E = E} v w job past x (Err y) i c other did;
+  keeps = (let l = all_room (operator_of job.op) job.halving.times job.cuts job.a.height past over c.deep e in keeps_most _ (fork_room (operator_of job.op) job.halving.times job.a.height) v w (omega (arith, l)) did.keeps);
+  misses = did.misses;
+}
 
 -- ---- operators that are no composition
 pub union_other : Union ≢ Compose

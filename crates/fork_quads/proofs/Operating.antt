@@ -25,7 +25,7 @@ use Rattle.quad_nodes.specs.Finding.{Finds, FindsQuad}
 use Rattle.fork_quads.specs.Crew.{worker_of, root_quad, named_as, one_cell}
 use Rattle.fork_quads.specs.Forks.{TellsMisses}
 use Rattle.fork_quads.specs.CrewLaws.{rows_law, cols_law, row_limit_law, col_limit_law}
-use Rattle.fork_quads.proofs.Crewing.{has-root, root_within, root_stands, tree_height-high, is_quad-relation, named_value, keeps_telling, root_room, root_tree, tells_cause}
+use Rattle.fork_quads.proofs.Crewing.{has-root, root_within, root_stands, tree_height-high, is_quad-relation, named_value, keeps_telling, makes_room, makes_tree, tells_cause}
 
 -- ---- sets within sizes
 pub none_within : (m n : ℕ) → LiesWithin m n no_cells
@@ -103,36 +103,6 @@ inter_lifts = record { within = λ m n f g v w. inter_within m n f g v; is = int
 pub diff_lifts : Lifts cells_diff diff
 diff_lifts = record { within = λ m n f g v w. diff_within m n f g v; is = diff_is }
 
--- what it gives on the roots of two relations of one type
-pub lifted_value : {E : Type 0} (op : Cells → Cells → Cells) (of : Relation → Relation → Relation) (w inside new : Keeper) (r s : Rel) (p q : Quad) (a : Result Quad E) (result : Result Rel Lack) → Lifts op of → inside ≡ w
-    → Stands (worker_of w) r → Stands (worker_of w) s → r.rows ≡ s.rows → r.cols ≡ s.cols → p ≡ root_quad r → q ≡ root_quad s
-    → IfOk a (IsQuad new p.height (op (quad_cells inside p) (quad_cells inside q))) → result ≡ named_as r.rows r.cols a
-    → IfOk result (Gives (worker_of new) r.rows r.cols (of (set_of (worker_of w) r) (set_of (worker_of w) s)))
-lifted_value op of w inside new r s p q a result l v hr hs er ec ep eq h e =
-    let f : Cells = root_cells w.view.words r in
-    let g : Cells = root_cells w.view.words s in
-    let wg : LiesWithin r.rows r.cols g = subst (λ (x : ℕ). LiesWithin x r.cols g) (sym er) (subst (λ (y : ℕ). LiesWithin s.rows y g) (sym ec) (root_within w s hs)) in
-    let ef : quad_cells inside p ≡ f = ap (λ (x : Keeper). quad_cells x p) v ∙ ap (quad_cells w) ep in
-    let eg : quad_cells inside q ≡ g = ap (λ (x : Keeper). quad_cells x q) v ∙ ap (quad_cells w) eq in
-    let h' : IfOk a (IsQuad new (tree_height r.rows r.cols) (op f g)) =
-    subst (λ (k : ℕ). IfOk a (IsQuad new k (op f g))) (ap (λ (x : Quad). x.height) ep) (subst (λ (c : Cells). IfOk a (IsQuad new p.height c)) (ap (λ (c : Cells). op c (quad_cells inside q)) ef ∙ ap (λ (c : Cells). op f c) eg) h) in
-    subst (λ (x : Result Rel Lack). IfOk x (Gives (worker_of new) r.rows r.cols (of (set_of (worker_of w) r) (set_of (worker_of w) s)))) (sym e)
-    (named_value new r.rows r.cols (op f g) _ a (row_limit_law w r hr) (col_limit_law w r hr) (l.within r.rows r.cols f g (root_within w r hr) wg)
-    (l.is r.rows r.cols (set_of (worker_of w) r) (set_of (worker_of w) s) f g (rows_law w r hr) (cols_law w r hr) (has-root w r hr) (has-root w s hs)) h')
-
--- the transposition on the root of a relation
-pub transposed_value : {E : Type 0} (w inside new : Keeper) (r : Rel) (p : Quad) (a : Result Quad E) (result : Result Rel Lack) → inside ≡ w → Stands (worker_of w) r → p ≡ root_quad r
-    → IfOk a (IsQuad new p.height (cells_transpose (quad_cells inside p))) → result ≡ named_as r.cols r.rows a
-    → IfOk result (Gives (worker_of new) r.cols r.rows (transpose (set_of (worker_of w) r)))
-transposed_value w inside new r p a result v hr ep h e =
-    let f : Cells = root_cells w.view.words r in
-    let ef : quad_cells inside p ≡ f = ap (λ (x : Keeper). quad_cells x p) v ∙ ap (quad_cells w) ep in
-    let h' : IfOk a (IsQuad new (tree_height r.cols r.rows) (cells_transpose f)) =
-    subst (λ (k : ℕ). IfOk a (IsQuad new k (cells_transpose f))) (ap (λ (x : Quad). x.height) ep ∙ sym (height_over-turned bottom_height r.rows r.cols)) (subst (λ (c : Cells). IfOk a (IsQuad new p.height c)) (ap cells_transpose ef) h) in
-    subst (λ (x : Result Rel Lack). IfOk x (Gives (worker_of new) r.cols r.rows (transpose (set_of (worker_of w) r)))) (sym e)
-    (named_value new r.cols r.rows (cells_transpose f) _ a (col_limit_law w r hr) (row_limit_law w r hr) (transpose_within r.rows r.cols f (root_within w r hr))
-    (transpose_is r.rows r.cols (set_of (worker_of w) r) f (rows_law w r hr) (cols_law w r hr) (has-root w r hr)) h')
-
 -- a set made at the height of a relation's tree
 pub made_value : {E : Type 0} (new : Keeper) (m n h : ℕ) (f : Cells) (value : Relation) (a : Result Quad E) (result : Result Rel Lack) → m ≤ size_limit → n ≤ size_limit → LiesWithin m n f → relation_of m n f ≡ value → h ≡ tree_height m n
     → IfOk a (IsQuad new h f) → result ≡ named_as m n a → IfOk result (Gives (worker_of new) m n value)
@@ -167,55 +137,58 @@ made_found w inside new m n h f value a result v l is eh find e =
     (λ lean rel g. named_found w inside new m n value rel a v g
     (find (root_quad rel) (subst (λ (x : Keeper). IsQuad x h f (root_quad rel)) (sym v) (subst (λ (k : ℕ). IsQuad w k f (root_quad rel)) (sym eh) (root_of_value w m n f value rel l is g)))))
 
--- so is an operator's result on the roots of two relations of one type
-pub lifted_found : {E : Type 0} (op : Cells → Cells → Cells) (of : Relation → Relation → Relation) (w inside new : Keeper) (r s : Rel) (p q : Quad) (a : Result Quad E) (result : Result Rel Lack) → Lifts op of → inside ≡ w
+-- all that is promised of a relation that is made
+pub record MakesRelation (w new : Keeper) (m n : ℕ) (value : Relation) (result : Result Rel Lack) : Type 0 where
+  pub gives : IfOk result (Gives (worker_of new) m n value)
+  pub stood : FindsRelation true (worker_of w) (worker_of new) m n value result
+  pub keeps : Keeps (worker_of w) (worker_of new)
+  pub room : MakesAtMost (operator_room m n) (worker_of w) (worker_of new)
+  pub tree : MakesAtMost (relation_room 3 m n) (worker_of w) (worker_of new)
+  pub cause : HasCause true (worker_of w) (worker_of new) result
+
+-- a quad at the height of a relation's tree, with a set within the relation's sizes, is the root of that relation, so
+-- each clause is that of the quad
+pub made : {E : Type 0} {w inside new : Keeper} {m n h : ℕ} {f : Cells} {value : Relation} (a : Result Quad E) (result : Result Rel Lack) → inside ≡ w → m ≤ size_limit → n ≤ size_limit → LiesWithin m n f → relation_of m n f ≡ value → h ≡ tree_height m n
+    → IfOk a (IsQuad new h f) → FindsQuad inside new h f a → KeepsQuads (quad_room h) inside new → TellsMisses inside new a → result ≡ named_as m n a → MakesRelation w new m n value result
+made {w = w} {inside = inside} {new = new} {m = m} {n = n} {h = h} {f = f} {value = value} a result v lm ln l is eh ok find keeps misses e =
+    let k : KeepsQuads (quad_room (tree_height m n)) inside new = subst (λ (x : ℕ). KeepsQuads (quad_room x) inside new) eh keeps in
+    record {
+      gives = made_value new m n h f value a result lm ln l is eh ok e;
+      stood = made_found w inside new m n h f value a result v l is eh find e;
+      keeps = keeps_telling (quad_room h) w inside new a v keeps misses;
+      room = subst (λ (x : Keeper). MakesAtMost (operator_room m n) (worker_of x) (worker_of new)) v (makes_room m n inside new k);
+      tree = subst (λ (x : Keeper). MakesAtMost (relation_room 3 m n) (worker_of x) (worker_of new)) v (makes_tree m n inside new k);
+      cause = tells_cause w inside new m n a result v misses e;
+    }
+
+-- by an operator on the roots of two relations of one type
+pub lifted : {E : Type 0} {op : Cells → Cells → Cells} {of : Relation → Relation → Relation} {w inside new : Keeper} {r s : Rel} {p q : Quad} (a : Result Quad E) (result : Result Rel Lack) → Lifts op of → inside ≡ w
     → Stands (worker_of w) r → Stands (worker_of w) s → r.rows ≡ s.rows → r.cols ≡ s.cols → p ≡ root_quad r → q ≡ root_quad s
-    → FindsQuad inside new p.height (op (quad_cells inside p) (quad_cells inside q)) a → result ≡ named_as r.rows r.cols a
-    → FindsRelation true (worker_of w) (worker_of new) r.rows r.cols (of (set_of (worker_of w) r) (set_of (worker_of w) s)) result
-lifted_found op of w inside new r s p q a result l v hr hs er ec ep eq find e =
+    → IfOk a (IsQuad new p.height (op (quad_cells inside p) (quad_cells inside q))) → FindsQuad inside new p.height (op (quad_cells inside p) (quad_cells inside q)) a
+    → KeepsQuads (quad_room p.height) inside new → TellsMisses inside new a → result ≡ named_as r.rows r.cols a
+    → MakesRelation w new r.rows r.cols (of (set_of (worker_of w) r) (set_of (worker_of w) s)) result
+lifted {op = op} {of = of} {w = w} {inside = inside} {new = new} {r = r} {s = s} {p = p} {q = q} a result l v hr hs er ec ep eq ok find keeps misses e =
     let f : Cells = root_cells w.view.words r in
     let g : Cells = root_cells w.view.words s in
     let wg : LiesWithin r.rows r.cols g = subst (λ (x : ℕ). LiesWithin x r.cols g) (sym er) (subst (λ (y : ℕ). LiesWithin s.rows y g) (sym ec) (root_within w s hs)) in
     let ef : quad_cells inside p ≡ f = ap (λ (x : Keeper). quad_cells x p) v ∙ ap (quad_cells w) ep in
     let eg : quad_cells inside q ≡ g = ap (λ (x : Keeper). quad_cells x q) v ∙ ap (quad_cells w) eq in
     let set : op (quad_cells inside p) (quad_cells inside q) ≡ op f g = ap (λ (c : Cells). op c (quad_cells inside q)) ef ∙ ap (λ (c : Cells). op f c) eg in
-    made_found w inside new r.rows r.cols p.height (op f g) _ a result v (l.within r.rows r.cols f g (root_within w r hr) wg)
-    (l.is r.rows r.cols (set_of (worker_of w) r) (set_of (worker_of w) s) f g (rows_law w r hr) (cols_law w r hr) (has-root w r hr) (has-root w s hs))
-    (ap (λ (x : Quad). x.height) ep) (subst (λ (c : Cells). FindsQuad inside new p.height c a) set find) e
+    made a result v (row_limit_law w r hr) (col_limit_law w r hr) (l.within r.rows r.cols f g (root_within w r hr) wg)
+    (l.is r.rows r.cols (set_of (worker_of w) r) (set_of (worker_of w) s) f g (rows_law w r hr) (cols_law w r hr) (has-root w r hr) (has-root w s hs)) (ap (λ (x : Quad). x.height) ep)
+    (subst (λ (c : Cells). IfOk a (IsQuad new p.height c)) set ok) (subst (λ (c : Cells). FindsQuad inside new p.height c a) set find) keeps misses e
 
--- all that an operator promises of two relations of one type
-pub record Answers (w new : Keeper) (r : Rel) (value : Relation) (result : Result Rel Lack) : Type 0 where
-  pub gives : IfOk result (Gives (worker_of new) r.rows r.cols value)
-  pub stood : FindsRelation true (worker_of w) (worker_of new) r.rows r.cols value result
-  pub keeps : Keeps (worker_of w) (worker_of new)
-  pub room : MakesAtMost (operator_room r.rows r.cols) (worker_of w) (worker_of new)
-  pub tree : MakesAtMost (relation_room 3 r.rows r.cols) (worker_of w) (worker_of new)
-  pub cause : HasCause true (worker_of w) (worker_of new) result
-
-pub lifted : {E : Type 0} {op : Cells → Cells → Cells} {of : Relation → Relation → Relation} {w inside new : Keeper} {r s : Rel} {p q : Quad} (a : Result Quad E) (result : Result Rel Lack) → Lifts op of → inside ≡ w
-    → Stands (worker_of w) r → Stands (worker_of w) s → r.rows ≡ s.rows → r.cols ≡ s.cols → p ≡ root_quad r → q ≡ root_quad s
-    → IfOk a (IsQuad new p.height (op (quad_cells inside p) (quad_cells inside q))) → FindsQuad inside new p.height (op (quad_cells inside p) (quad_cells inside q)) a
-    → KeepsQuads (quad_room p.height) inside new → TellsMisses inside new a → result ≡ named_as r.rows r.cols a
-    → Answers w new r (of (set_of (worker_of w) r) (set_of (worker_of w) s)) result
-lifted {op = op} {of = of} {w = w} {inside = inside} {new = new} {r = r} {s = s} {p = p} {q = q} a result l v hr hs er ec ep eq value stood keeps misses e = record {
-  gives = lifted_value op of w inside new r s p q a result l v hr hs er ec ep eq value e;
-  stood = lifted_found op of w inside new r s p q a result l v hr hs er ec ep eq stood e;
-  keeps = keeps_telling (quad_room p.height) w inside new a v keeps misses;
-  room = root_room w inside new r p v ep keeps;
-  tree = root_tree w inside new r p v ep keeps;
-  cause = tells_cause w inside new r.rows r.cols a result v misses e;
-}
-
--- and a transposition
-pub transposed_found : {E : Type 0} (w inside new : Keeper) (r : Rel) (p : Quad) (a : Result Quad E) (result : Result Rel Lack) → inside ≡ w → Stands (worker_of w) r → p ≡ root_quad r
-    → FindsQuad inside new p.height (cells_transpose (quad_cells inside p)) a → result ≡ named_as r.cols r.rows a
-    → FindsRelation true (worker_of w) (worker_of new) r.cols r.rows (transpose (set_of (worker_of w) r)) result
-transposed_found w inside new r p a result v hr ep find e =
+-- by the transposition on the root of a relation
+pub transposed : {E : Type 0} {w inside new : Keeper} {r : Rel} {p : Quad} (a : Result Quad E) (result : Result Rel Lack) → inside ≡ w → Stands (worker_of w) r → p ≡ root_quad r
+    → IfOk a (IsQuad new p.height (cells_transpose (quad_cells inside p))) → FindsQuad inside new p.height (cells_transpose (quad_cells inside p)) a
+    → KeepsQuads (quad_room p.height) inside new → TellsMisses inside new a → result ≡ named_as r.cols r.rows a
+    → MakesRelation w new r.cols r.rows (transpose (set_of (worker_of w) r)) result
+transposed {w = w} {inside = inside} {new = new} {r = r} {p = p} a result v hr ep ok find keeps misses e =
     let f : Cells = root_cells w.view.words r in
     let ef : quad_cells inside p ≡ f = ap (λ (x : Keeper). quad_cells x p) v ∙ ap (quad_cells w) ep in
-    made_found w inside new r.cols r.rows p.height (cells_transpose f) _ a result v (transpose_within r.rows r.cols f (root_within w r hr))
-    (transpose_is r.rows r.cols (set_of (worker_of w) r) f (rows_law w r hr) (cols_law w r hr) (has-root w r hr))
-    (ap (λ (x : Quad). x.height) ep ∙ sym (height_over-turned bottom_height r.rows r.cols)) (subst (λ (c : Cells). FindsQuad inside new p.height (cells_transpose c) a) ef find) e
+    made a result v (col_limit_law w r hr) (row_limit_law w r hr) (transpose_within r.rows r.cols f (root_within w r hr))
+    (transpose_is r.rows r.cols (set_of (worker_of w) r) f (rows_law w r hr) (cols_law w r hr) (has-root w r hr)) (ap (λ (x : Quad). x.height) ep ∙ sym (height_over-turned bottom_height r.rows r.cols))
+    (subst (λ (c : Cells). IfOk a (IsQuad new p.height (cells_transpose c))) ef ok) (subst (λ (c : Cells). FindsQuad inside new p.height (cells_transpose c) a) ef find) keeps misses e
 
 -- the empty relation has root 0
 pub nothing_value : (w : Keeper) (m n : ℕ) → IsKeeper w → m ≤ size_limit → n ≤ size_limit → Gives (worker_of w) m n (empty m n) (record { rows = m; cols = n; root = 0 })

@@ -5,6 +5,7 @@
 use Rattle.std.proofs.Common.{◌≡◌, ◌≢◌, ◌<◌, ◌≤◌, ◌+◌, ◌-◌, ◌/◌, ◌%◌, ◌&&◌, ◌||◌, ◌⊎◌, not, ltb, zero, suc, ℕ, Bool, true, false, refl, sym, ap, subst, ◌∙◌, inl, inr, arith}
 use Rattle.std.proofs.lemmas.Bool.{cases_lt, ltb-true, lt-ltb, le-ltb, and_left, and_right, and_parts, or_cases}
 use Rattle.rel_model.specs.declared.Quad.{Quad}
+use Rattle.rel_model.specs.declared.Quarters.{Quarters}
 use Rattle.rel_model.specs.Cells.{Cells, no_cells, cells_union}
 use Rattle.rel_model.specs.Trees.{bottom_height, quartered}
 use Rattle.rel_model.specs.Equations.{Operator, Union, Inter, Diff, Transpose, Compose, result_of, side_of}
@@ -123,6 +124,7 @@ result-within Diff m f g v w = record { row = λ i j e. v.row i j (and_parts _ _
 result-within Transpose m f g v w = record { row = λ i j e. v.col j i e; col = λ i j e. v.row j i e }
 result-within Compose m f g v w = product_within m f g v w
 
+-- the result on quarters at a place is the operator on the quarters from which it comes, checked place by place
 made-nth : (op : Operator) → op ≢ Compose → (n k : ℕ) (a0 a1 a2 a3 b0 b1 b2 b3 : Cells) → nth k (made op n 0 a0 a1 a2 a3 b0 b1 b2 b3) (made op n 1 a0 a1 a2 a3 b0 b1 b2 b3) (made op n 2 a0 a1 a2 a3 b0 b1 b2 b3) (made op n 3 a0 a1 a2 a3 b0 b1 b2 b3)
     ≡ made op n k a0 a1 a2 a3 b0 b1 b2 b3
 made-nth op h n zero a0 a1 a2 a3 b0 b1 b2 b3 = refl
@@ -135,17 +137,18 @@ made-nth Transpose h n (suc (suc (suc k))) a0 a1 a2 a3 b0 b1 b2 b3 = refl
 made-nth Compose h n (suc (suc (suc k))) a0 a1 a2 a3 b0 b1 b2 b3 = absurd (h refl)
 
 -- four quads of one height
-pub record FourAt (w : Keeper) (h : ℕ) (four : Quad × Quad × Quad × Quad) : Type 0 where
-  pub nw : QuadStands w four.0
-  pub ne : QuadStands w four.1
-  pub sw : QuadStands w four.2
-  pub se : QuadStands w four.3
-  pub nw_height : four.0.height ≡ h
-  pub ne_height : four.1.height ≡ h
-  pub sw_height : four.2.height ≡ h
-  pub se_height : four.3.height ≡ h
+pub record FourAt (w : Keeper) (h : ℕ) (four : Quarters) : Type 0 where
+  pub nw : QuadStands w four.nw
+  pub ne : QuadStands w four.ne
+  pub sw : QuadStands w four.sw
+  pub se : QuadStands w four.se
+  pub nw_height : four.nw.height ≡ h
+  pub ne_height : four.ne.height ≡ h
+  pub sw_height : four.sw.height ≡ h
+  pub se_height : four.se.height ≡ h
 
-pub four_at : (v w : Keeper) (q : Quad) (four : Quad × Quad × Quad × Quad) → AreQuarters v w q four → FourAt w (q.height - 1) four
+-- the quarters of a quad stand, one height below it
+pub four_at : (v w : Keeper) (q : Quad) (four : Quarters) → AreQuarters v w q four → FourAt w (q.height - 1) four
 four_at v w q four a = record {
   nw = a.nw;
   ne = a.ne;
@@ -162,44 +165,44 @@ pub record StandsAt (w : Keeper) (h : ℕ) (q : Quad) : Type 0 where
   pub stands : QuadStands w q
   pub height : q.height ≡ h
 
-pub nth_at : (w : Keeper) (h k : ℕ) (four : Quad × Quad × Quad × Quad) → FourAt w h four → StandsAt w h (nth k four.0 four.1 four.2 four.3)
-nth_at w h k four f = nth-all (StandsAt w h) k four.0 four.1 four.2 four.3
+pub nth_at : (w : Keeper) (h k : ℕ) (four : Quarters) → FourAt w h four → StandsAt w h (nth k four.nw four.ne four.sw four.se)
+nth_at w h k four f = nth-all (StandsAt w h) k four.nw four.ne four.sw four.se
     (record { stands = f.nw; height = f.nw_height }) (record { stands = f.ne; height = f.ne_height }) (record { stands = f.sw; height = f.sw_height }) (record { stands = f.se; height = f.se_height })
 
 -- the sets of quads of one height lie within its square
-pub four-within : (w : Keeper) (h : ℕ) (four : Quad × Quad × Quad × Quad) → FourAt w h four → AreWithin (side_of h) (quad_cells w four.0) (quad_cells w four.1) (quad_cells w four.2) (quad_cells w four.3)
-four-within w h four f = record { nw = within_at w h four.0 f.nw_height; ne = within_at w h four.1 f.ne_height; sw = within_at w h four.2 f.sw_height; se = within_at w h four.3 f.se_height }
+pub four-within : (w : Keeper) (h : ℕ) (four : Quarters) → FourAt w h four → AreWithin (side_of h) (quad_cells w four.nw) (quad_cells w four.ne) (quad_cells w four.sw) (quad_cells w four.se)
+four-within w h four f = record { nw = within_at w h four.nw f.nw_height; ne = within_at w h four.ne f.ne_height; sw = within_at w h four.sw f.sw_height; se = within_at w h four.se f.se_height }
 
 -- a quad by its quarters, of the height below
-pub quarters_at : (v w : Keeper) (q : Quad) (four : Quad × Quad × Quad × Quad) → AreQuarters v w q four → quad_cells v q ≡ quartered (side_of (q.height - 1)) (quad_cells w four.0) (quad_cells w four.1) (quad_cells w four.2) (quad_cells w four.3)
+pub quarters_at : (v w : Keeper) (q : Quad) (four : Quarters) → AreQuarters v w q four → quad_cells v q ≡ quartered (side_of (q.height - 1)) (quad_cells w four.nw) (quad_cells w four.ne) (quad_cells w four.sw) (quad_cells w four.se)
 quarters_at v w q four a =
-    let e : four.0.height ≡ q.height - 1 = (let x = a.nw_height in omega arith) in
-    a.means ∙ ap (λ (h : ℕ). quartered (side_of h) (quad_cells w four.0) (quad_cells w four.1) (quad_cells w four.2) (quad_cells w four.3)) e
+    let e : four.nw.height ≡ q.height - 1 = (let x = a.nw_height in omega arith) in
+    a.means ∙ ap (λ (h : ℕ). quartered (side_of h) (quad_cells w four.nw) (quad_cells w four.ne) (quad_cells w four.sw) (quad_cells w four.se)) e
 
 -- a quarter of a result is the result on quarters
-pub quarter-result : (op : Operator) (v w : Keeper) (a b : Quad) (fa fb : Quad × Quad × Quad × Quad) (k : ℕ) → op ≢ Compose → b.height ≡ a.height → AreQuarters v w a fa → AreQuarters v w b fb
+pub quarter-result : (op : Operator) (v w : Keeper) (a b : Quad) (fa fb : Quarters) (k : ℕ) → op ≢ Compose → b.height ≡ a.height → AreQuarters v w a fa → AreQuarters v w b fb
     → quarter (side_of (a.height - 1)) k (result_of op (side_of a.height) (quad_cells v a) (quad_cells v b))
-    ≡ result_of op (side_of (a.height - 1)) (quad_cells w (nth (source op k) fa.0 fa.1 fa.2 fa.3)) (quad_cells w (nth k fb.0 fb.1 fb.2 fb.3))
+    ≡ result_of op (side_of (a.height - 1)) (quad_cells w (nth (source op k) fa.nw fa.ne fa.sw fa.se)) (quad_cells w (nth k fb.nw fb.ne fb.sw fb.se))
 quarter-result op v w a b fa fb k other e pa pb =
     let m : ℕ = side_of (a.height - 1) in
     let n : ℕ = side_of a.height in
     let f : Quad → Cells = quad_cells w in
     let ha : FourAt w (a.height - 1) fa = four_at v w a fa pa in
     let hb : FourAt w (a.height - 1) fb = subst (λ (h : ℕ). FourAt w (h - 1) fb) e (four_at v w b fb pb) in
-    let ea : quad_cells v a ≡ quartered m (f fa.0) (f fa.1) (f fa.2) (f fa.3) = quarters_at v w a fa pa in
-    let eb : quad_cells v b ≡ quartered m (f fb.0) (f fb.1) (f fb.2) (f fb.3) =
-    quarters_at v w b fb pb ∙ ap (λ (h : ℕ). quartered (side_of (h - 1)) (f fb.0) (f fb.1) (f fb.2) (f fb.3)) e in
+    let ea : quad_cells v a ≡ quartered m (f fa.nw) (f fa.ne) (f fa.sw) (f fa.se) = quarters_at v w a fa pa in
+    let eb : quad_cells v b ≡ quartered m (f fb.nw) (f fb.ne) (f fb.sw) (f fb.se) =
+    quarters_at v w b fb pb ∙ ap (λ (h : ℕ). quartered (side_of (h - 1)) (f fb.nw) (f fb.ne) (f fb.sw) (f fb.se)) e in
     let wa = four-within w (a.height - 1) fa ha in
     let wb = four-within w (a.height - 1) fb hb in
-    let some : (j : ℕ) → Within m m (made op m j (f fa.0) (f fa.1) (f fa.2) (f fa.3) (f fb.0) (f fb.1) (f fb.2) (f fb.3)) =
+    let some : (j : ℕ) → Within m m (made op m j (f fa.nw) (f fa.ne) (f fa.sw) (f fa.se) (f fb.nw) (f fb.ne) (f fb.sw) (f fb.se)) =
     λ j. result-within op m _ _ (nth-all (Within m m) (source op j) _ _ _ _ wa.nw wa.ne wa.sw wa.se) (nth-all (Within m m) j _ _ _ _ wb.nw wb.ne wb.sw wb.se) in
     ap (λ (c : Cells). quarter m k (result_of op n c (quad_cells v b))) ea
-    ∙ ap (λ (c : Cells). quarter m k (result_of op n (quartered m (f fa.0) (f fa.1) (f fa.2) (f fa.3)) c)) eb
-    ∙ ap (quarter m k) (result-quartered op other n m (f fa.0) (f fa.1) (f fa.2) (f fa.3) (f fb.0) (f fb.1) (f fb.2) (f fb.3))
+    ∙ ap (λ (c : Cells). quarter m k (result_of op n (quartered m (f fa.nw) (f fa.ne) (f fa.sw) (f fa.se)) c)) eb
+    ∙ ap (quarter m k) (result-quartered op other n m (f fa.nw) (f fa.ne) (f fa.sw) (f fa.se) (f fb.nw) (f fb.ne) (f fb.sw) (f fb.se))
     ∙ quarter-quartered m k _ _ _ _ (record { nw = some 0; ne = some 1; sw = some 2; se = some 3 })
-    ∙ made-nth op other m k (f fa.0) (f fa.1) (f fa.2) (f fa.3) (f fb.0) (f fb.1) (f fb.2) (f fb.3)
-    ∙ ap (λ (c : Cells). result_of op m c (nth k (f fb.0) (f fb.1) (f fb.2) (f fb.3))) (sym (nth-cells w (source op k) fa.0 fa.1 fa.2 fa.3))
-    ∙ ap (λ (c : Cells). result_of op m (f (nth (source op k) fa.0 fa.1 fa.2 fa.3)) c) (sym (nth-cells w k fb.0 fb.1 fb.2 fb.3))
+    ∙ made-nth op other m k (f fa.nw) (f fa.ne) (f fa.sw) (f fa.se) (f fb.nw) (f fb.ne) (f fb.sw) (f fb.se)
+    ∙ ap (λ (c : Cells). result_of op m c (nth k (f fb.nw) (f fb.ne) (f fb.sw) (f fb.se))) (sym (nth-cells w (source op k) fa.nw fa.ne fa.sw fa.se))
+    ∙ ap (λ (c : Cells). result_of op m (f (nth (source op k) fa.nw fa.ne fa.sw fa.se)) c) (sym (nth-cells w k fb.nw fb.ne fb.sw fb.se))
 
 -- ---- parts
 -- a part by the quarter in which it lies
@@ -269,8 +272,10 @@ pub record SquareStep (op : Operator) (v w : Keeper) (a b left right : Quad) (c 
   pub height : left.height - (c - 1) ≡ a.height - c
   pub same : part left.height (c - 1) n (result_of op (side_of left.height) (quad_cells w left) (quad_cells w right)) ≡ part a.height c n (result_of op (side_of a.height) (quad_cells v a) (quad_cells v b))
 
-pub square_step : (op : Operator) (v w : Keeper) (a b left right : Quad) (fa fb : Quad × Quad × Quad × Quad) (c n k s : ℕ) → op ≢ Compose → b.height ≡ a.height → c ≢ 0 → bottom_height + c ≤ a.height → AreQuarters v w a fa → AreQuarters v w b fb
-    → k ≡ place_at_cut (c - 1) n → s ≡ source op k → left ≡ nth s fa.0 fa.1 fa.2 fa.3 → right ≡ nth k fb.0 fb.1 fb.2 fb.3 → SquareStep op v w a b left right c n
+-- one cut down, a square of a result is the same square of the result on two quarters: an operator that is no
+-- composition goes quarter by quarter, and cutting goes on within the quarter
+pub square_step : (op : Operator) (v w : Keeper) (a b left right : Quad) (fa fb : Quarters) (c n k s : ℕ) → op ≢ Compose → b.height ≡ a.height → c ≢ 0 → bottom_height + c ≤ a.height → AreQuarters v w a fa → AreQuarters v w b fb
+    → k ≡ place_at_cut (c - 1) n → s ≡ source op k → left ≡ nth s fa.nw fa.ne fa.sw fa.se → right ≡ nth k fb.nw fb.ne fb.sw fb.se → SquareStep op v w a b left right c n
 square_step op v w a b left right fa fb c n k s other e some deep pa pb ek es el er =
     let ha : FourAt w (a.height - 1) fa = four_at v w a fa pa in
     let hb : FourAt w (a.height - 1) fb = subst (λ (h : ℕ). FourAt w (h - 1) fb) e (four_at v w b fb pb) in
@@ -279,10 +284,10 @@ square_step op v w a b left right fa fb c n k s other e some deep pa pb ek es el
     let lh = l.height in
     let rh = r.height in
     let pos : 0 < c = omega arith in
-    let eq : quad_cells w left ≡ quad_cells w (nth (source op (place_at_cut (c - 1) n)) fa.0 fa.1 fa.2 fa.3) =
-    ap (quad_cells w) el ∙ ap (λ (x : ℕ). quad_cells w (nth x fa.0 fa.1 fa.2 fa.3)) (es ∙ ap (source op) ek) in
-    let er2 : quad_cells w right ≡ quad_cells w (nth (place_at_cut (c - 1) n) fb.0 fb.1 fb.2 fb.3) =
-    ap (quad_cells w) er ∙ ap (λ (x : ℕ). quad_cells w (nth x fb.0 fb.1 fb.2 fb.3)) ek in
+    let eq : quad_cells w left ≡ quad_cells w (nth (source op (place_at_cut (c - 1) n)) fa.nw fa.ne fa.sw fa.se) =
+    ap (quad_cells w) el ∙ ap (λ (x : ℕ). quad_cells w (nth x fa.nw fa.ne fa.sw fa.se)) (es ∙ ap (source op) ek) in
+    let er2 : quad_cells w right ≡ quad_cells w (nth (place_at_cut (c - 1) n) fb.nw fb.ne fb.sw fb.se) =
+    ap (quad_cells w) er ∙ ap (λ (x : ℕ). quad_cells w (nth x fb.nw fb.ne fb.sw fb.se)) ek in
     record {
       left_stands = l.stands;
       right_stands = r.stands;
@@ -292,7 +297,7 @@ square_step op v w a b left right fa fb c n k s other e some deep pa pb ek es el
       height = omega arith;
       same = ap (λ (h : ℕ). part h (c - 1) n (result_of op (side_of h) (quad_cells w left) (quad_cells w right))) lh
           ∙ ap (λ (f : Cells). part (a.height - 1) (c - 1) n (result_of op (side_of (a.height - 1)) f (quad_cells w right))) eq
-          ∙ ap (λ (f : Cells). part (a.height - 1) (c - 1) n (result_of op (side_of (a.height - 1)) (quad_cells w (nth (source op (place_at_cut (c - 1) n)) fa.0 fa.1 fa.2 fa.3)) f)) er2
+          ∙ ap (λ (f : Cells). part (a.height - 1) (c - 1) n (result_of op (side_of (a.height - 1)) (quad_cells w (nth (source op (place_at_cut (c - 1) n)) fa.nw fa.ne fa.sw fa.se)) f)) er2
           ∙ ap (part (a.height - 1) (c - 1) n) (sym (quarter-result op v w a b fa fb (place_at_cut (c - 1) n) other e pa pb))
           ∙ sym (part-next a.height c n (result_of op (side_of a.height) (quad_cells v a) (quad_cells v b)) pos);
     }

@@ -2,6 +2,7 @@
 use Rattle.std.proofs.Common.{◌≡◌, ◌≤◌, ◌+◌, ◌-◌, ◌^◌, ℕ, Result, IfOk, refl, sym, ap, subst, ◌∙◌, arith}
 use Rattle.rel_model.specs.declared.Rel.{Rel}
 use Rattle.rel_model.specs.declared.Quad.{Quad}
+use Rattle.rel_model.specs.declared.Quarters.{Quarters}
 use Rattle.rel_model.specs.declared.Lack.{Lack}
 use Rattle.rel_model.specs.Relation.{has, relation_of, size_limit}
 use Rattle.std.specs.Prelude.{IsSome, unwrap_or, true}
@@ -69,24 +70,25 @@ pub corner_found : {E : Type 0} (w inside new : Keeper) (nw ne sw se : Quad) (a 
     → FindsQuad true (worker_of w) (worker_of new) (nw.height + 1) (quartered (2 ^ nw.height) (quad_set (worker_of w) nw) (quad_set (worker_of w) ne) (quad_set (worker_of w) sw) (quad_set (worker_of w) se)) result
 corner_found w inside new nw ne sw se a result v i h0 h1 h2 h3 find e = told_found w inside new (nw.height + 1) _ _ a result v i (corner_set w inside nw ne sw se v i h0 h1 h2 h3) find e
 
-pub quarters_give : (w inside new : Keeper) (q : Quad) (four : Quad × Quad × Quad × Quad) → inside ≡ w → HasQuad (worker_of w) q → ReadsQuads inside new → AreQuarters inside new q four → GivesQuarters (worker_of w) (worker_of new) q four
+-- the quarters of a quad are quarters for a worker too: each stands there with its set, and the sides are the same
+pub quarters_give : (w inside new : Keeper) (q : Quad) (four : Quarters) → inside ≡ w → HasQuad (worker_of w) q → ReadsQuads inside new → AreQuarters inside new q four → GivesQuarters (worker_of w) (worker_of new) q four
 quarters_give w inside new q four v h r a =
     let j = r.keeps.after in
     record {
-      nw = stands-has_quad new four.0 j a.nw;
-      ne = stands-has_quad new four.1 j a.ne;
-      sw = stands-has_quad new four.2 j a.sw;
-      se = stands-has_quad new four.3 j a.se;
+      nw = stands-has_quad new four.nw j a.nw;
+      ne = stands-has_quad new four.ne j a.ne;
+      sw = stands-has_quad new four.sw j a.sw;
+      se = stands-has_quad new four.se j a.se;
       nw_height = a.nw_height;
       ne_height = a.ne_height;
       sw_height = a.sw_height;
       se_height = a.se_height;
       means = sym (set_inside w inside q v r.keeps.before h) ∙ a.means
-          ∙ ap (λ (m : ℕ). quartered m (quad_cells new four.0) (quad_cells new four.1) (quad_cells new four.2) (quad_cells new four.3)) (side_of-power four.0.height a.nw.low)
-          ∙ ap (λ (c : Cells). quartered (2 ^ four.0.height) c (quad_cells new four.1) (quad_cells new four.2) (quad_cells new four.3)) (sym (quad_set-cells new four.0 j a.nw))
-          ∙ ap (λ (c : Cells). quartered (2 ^ four.0.height) (quad_set (worker_of new) four.0) c (quad_cells new four.2) (quad_cells new four.3)) (sym (quad_set-cells new four.1 j a.ne))
-          ∙ ap (λ (c : Cells). quartered (2 ^ four.0.height) (quad_set (worker_of new) four.0) (quad_set (worker_of new) four.1) c (quad_cells new four.3)) (sym (quad_set-cells new four.2 j a.sw))
-          ∙ ap (λ (c : Cells). quartered (2 ^ four.0.height) (quad_set (worker_of new) four.0) (quad_set (worker_of new) four.1) (quad_set (worker_of new) four.2) c) (sym (quad_set-cells new four.3 j a.se));
+          ∙ ap (λ (m : ℕ). quartered m (quad_cells new four.nw) (quad_cells new four.ne) (quad_cells new four.sw) (quad_cells new four.se)) (side_of-power four.nw.height a.nw.low)
+          ∙ ap (λ (c : Cells). quartered (2 ^ four.nw.height) c (quad_cells new four.ne) (quad_cells new four.sw) (quad_cells new four.se)) (sym (quad_set-cells new four.nw j a.nw))
+          ∙ ap (λ (c : Cells). quartered (2 ^ four.nw.height) (quad_set (worker_of new) four.nw) c (quad_cells new four.sw) (quad_cells new four.se)) (sym (quad_set-cells new four.ne j a.ne))
+          ∙ ap (λ (c : Cells). quartered (2 ^ four.nw.height) (quad_set (worker_of new) four.nw) (quad_set (worker_of new) four.ne) c (quad_cells new four.se)) (sym (quad_set-cells new four.sw j a.sw))
+          ∙ ap (λ (c : Cells). quartered (2 ^ four.nw.height) (quad_set (worker_of new) four.nw) (quad_set (worker_of new) four.ne) (quad_set (worker_of new) four.sw) c) (sym (quad_set-cells new four.se j a.se));
     }
 
 -- ---- roots

@@ -110,6 +110,7 @@ quartered-within m f0 f1 f2 f3 a = record {
   ];
 }
 
+-- pieces put together lie within their square: by induction on the cuts, four squares of half the side lie within one
 pub tiled-within : (w : Keeper) (h c p : ℕ) (quads : List Quad) → bottom_height + c ≤ h → HoldPieces w (h - c) c p quads → Within (side_of h) (side_of h) (tiled w h c p quads)
 tiled-within w h zero p quads l hold = within_at w h _ ((hold p refl _).same_height ∙ (let e : h - 0 ≡ h = omega arith in e))
 tiled-within w h (suc c) p quads l hold =

@@ -28,25 +28,25 @@ union_of_product most w0 w1 w2 x y z product both e k h p u = record {
 }
 
 -- ---- of a worker
-pub joined_set : (w inside : Keeper) (x y z : Quad) → inside ≡ w → IsKeeper inside → HasQuad (worker_of w) x → HasQuad (worker_of w) y → HasQuad (worker_of w) z → bottom_height ≤ x.height
+pub union_with_product_set : (w inside : Keeper) (x y z : Quad) → inside ≡ w → IsKeeper inside → HasQuad (worker_of w) x → HasQuad (worker_of w) y → HasQuad (worker_of w) z → bottom_height ≤ x.height
     → cells_union (quad_cells inside x) (cells_compose (side_of x.height) (quad_cells inside y) (quad_cells inside z))
     ≡ cells_union (quad_set (worker_of w) x) (cells_compose (2 ^ x.height) (quad_set (worker_of w) y) (quad_set (worker_of w) z))
-joined_set w inside x y z v i hx hy hz low =
+union_with_product_set w inside x y z v i hx hy hz low =
     ap (λ (f : Cells). cells_union f (cells_compose (side_of x.height) (quad_cells inside y) (quad_cells inside z))) (set_inside w inside x v i hx)
     ∙ ap (λ (m : ℕ). cells_union (quad_set (worker_of w) x) (cells_compose m (quad_cells inside y) (quad_cells inside z))) (side_of-power x.height low)
     ∙ ap (λ (f : Cells). cells_union (quad_set (worker_of w) x) (cells_compose (2 ^ x.height) f (quad_cells inside z))) (set_inside w inside y v i hy)
     ∙ ap (λ (f : Cells). cells_union (quad_set (worker_of w) x) (cells_compose (2 ^ x.height) (quad_set (worker_of w) y) f)) (set_inside w inside z v i hz)
 
 -- a product and a union place at most 20 * 8 ^ h words
-joined_room : (h : ℕ) → compose_room h + quad_room h ≤ 20 * 8 ^ h
+union_with_product_room : (h : ℕ) → compose_room h + quad_room h ≤ 20 * 8 ^ h
 unfolding bottom_height
-joined_room h =
+union_with_product_room h =
     let c = composed_words-most (h - 3) in
     let p = pow-le-pow_right {n = 8} (omega arith) {i = h - 3} {j = h} (omega arith) in
     omega (arith, c, p)
 
-pub joined_makes : (h : ℕ) (w inside new : Keeper) → inside ≡ w → bottom_height ≤ h → KeepsQuads (compose_room h + quad_room h) inside new → MakesAtMost (20 * 8 ^ h) (worker_of w) (worker_of new)
-joined_makes h w inside new v low k =
-    let r = joined_room h in
+pub union_with_product_makes : (h : ℕ) (w inside new : Keeper) → inside ≡ w → bottom_height ≤ h → KeepsQuads (compose_room h + quad_room h) inside new → MakesAtMost (20 * 8 ^ h) (worker_of w) (worker_of new)
+union_with_product_makes h w inside new v low k =
+    let r = union_with_product_room h in
     let p = k.room in
     subst (λ (x : Keeper). MakesAtMost (20 * 8 ^ h) (worker_of x) (worker_of new)) v (omega (arith, p, r))

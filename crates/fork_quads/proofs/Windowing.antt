@@ -5,6 +5,7 @@ use Rattle.std.proofs.Common.{◌≡◌, ◌≢◌, ◌<◌, ◌≤◌, ◌+◌,
 use Rattle.std.proofs.Math.Nat.{pow-suc}
 use Rattle.std.proofs.lemmas.Bool.{cases_lt, lt-ltb, le-ltb, and_left, and_right}
 use Rattle.rel_model.specs.declared.Quad.{Quad}
+use Rattle.rel_model.specs.Relation.{size_limit}
 use Rattle.rel_model.specs.Cells.{Cells, cells_compose}
 use Rattle.rel_model.specs.Trees.{bottom_height, top_height}
 use Rattle.rel_model.specs.Equations.{side_of}
@@ -17,6 +18,7 @@ use Rattle.bit_rows.proofs.Windows.{window_whole}
 use Rattle.row_quads.proofs.ByRows.{product_within, same_value}
 use Rattle.rel_compose.proofs.Summing.{side_of_by_256, side_most}
 use Rattle.fork_quads.specs.Middle.{whole_words}
+use Rattle.fork_quads.proofs.Parts.{nth-all}
 use Rattle.fork_quads.specs.Forks.{place_at_cut, quarter, part, south, east, first_at, product_of, product_words}
 
 -- ---- windows
@@ -83,28 +85,16 @@ windowed_value v w a b c n row col r h l er ec i =
 
 -- ---- first rows and columns
 pub south_most : (k m : ℕ) → south k m ≤ m
-south_most zero m = omega arith
-south_most (suc zero) m = omega arith
-south_most (suc (suc zero)) m = omega arith
-south_most (suc (suc (suc k))) m = omega arith
+south_most k m = nth-all (λ (x : ℕ). x ≤ m) k 0 0 m m (omega arith) (omega arith) (omega arith) (omega arith)
 
 pub east_most : (k m : ℕ) → east k m ≤ m
-east_most zero m = omega arith
-east_most (suc zero) m = omega arith
-east_most (suc (suc zero)) m = omega arith
-east_most (suc (suc (suc k))) m = omega arith
+east_most k m = nth-all (λ (x : ℕ). x ≤ m) k 0 m 0 m (omega arith) (omega arith) (omega arith) (omega arith)
 
 south_on : (k m : ℕ) → m % 256 ≡ 0 → south k m % 256 ≡ 0
-south_on zero m h = refl
-south_on (suc zero) m h = refl
-south_on (suc (suc zero)) m h = h
-south_on (suc (suc (suc k))) m h = h
+south_on k m h = nth-all (λ (x : ℕ). x % 256 ≡ 0) k 0 0 m m refl refl h h
 
 east_on : (k m : ℕ) → m % 256 ≡ 0 → east k m % 256 ≡ 0
-east_on zero m h = refl
-east_on (suc zero) m h = h
-east_on (suc (suc zero)) m h = refl
-east_on (suc (suc (suc k))) m h = h
+east_on k m h = nth-all (λ (x : ℕ). x % 256 ≡ 0) k 0 m 0 m refl h refl h
 
 first_fits : (by : ℕ → ℕ → ℕ) → ((k m : ℕ) → by k m ≤ m) → (h c n : ℕ) → bottom_height + c ≤ h → first_at by h c n + side_of (h - c) ≤ side_of h
 first_fits by q h zero n l = let d : h - 0 ≡ h = omega arith in let e = ap side_of d in omega (arith, e)
@@ -166,7 +156,7 @@ unfolding bottom_height
 deep_over h c l = omega (arith, l)
 
 -- ---- sums of places
-sum_small : (h half x y : ℕ) → bottom_height < h → h ≤ top_height → half ≡ side_of (h - 1) → x ≤ half → y ≤ half → x + y ≤ 2 ^ 24
+sum_small : (h half x y : ℕ) → bottom_height < h → h ≤ top_height → half ≡ side_of (h - 1) → x ≤ half → y ≤ half → x + y ≤ size_limit
 sum_small h half x y l t e p q =
     let up = side_of-next h l in
     let m = side_most h (omega (arith, l)) t in
@@ -175,8 +165,8 @@ sum_small h half x y l t e p q =
 rest_small : (by : ℕ → ℕ → ℕ) → ((k m : ℕ) → by k m ≤ m) → (h c n half rest : ℕ) → c ≢ 0 → bottom_height + c ≤ h → half ≡ side_of (h - 1) → rest ≡ first_at by (h - 1) (c - 1) n → rest ≤ half
 rest_small by q h c n half rest s l e r = let f = first_fits by q (h - 1) (c - 1) n (omega (arith, s, l)) in omega (arith, e, r, f)
 
-pub row_sum : (h c n k half x y : ℕ) → c ≢ 0 → bottom_height + c ≤ h → h ≤ top_height → half ≡ side_of (h - 1) → x ≡ south k half → y ≡ first_at south (h - 1) (c - 1) n → x + y ≤ 2 ^ 24
+pub row_sum : (h c n k half x y : ℕ) → c ≢ 0 → bottom_height + c ≤ h → h ≤ top_height → half ≡ side_of (h - 1) → x ≡ south k half → y ≡ first_at south (h - 1) (c - 1) n → x + y ≤ size_limit
 row_sum h c n k half x y s l t e ex ey = sum_small h half x y (omega (arith, s, l)) t e (let m = south_most k half in omega (arith, m, ex)) (rest_small south south_most h c n half y s l e ey)
 
-pub col_sum : (h c n k half x y : ℕ) → c ≢ 0 → bottom_height + c ≤ h → h ≤ top_height → half ≡ side_of (h - 1) → x ≡ east k half → y ≡ first_at east (h - 1) (c - 1) n → x + y ≤ 2 ^ 24
+pub col_sum : (h c n k half x y : ℕ) → c ≢ 0 → bottom_height + c ≤ h → h ≤ top_height → half ≡ side_of (h - 1) → x ≡ east k half → y ≡ first_at east (h - 1) (c - 1) n → x + y ≤ size_limit
 col_sum h c n k half x y s l t e ex ey = sum_small h half x y (omega (arith, s, l)) t e (let m = east_most k half in omega (arith, m, ex)) (rest_small east east_most h c n half y s l e ey)

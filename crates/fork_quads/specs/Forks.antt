@@ -7,8 +7,9 @@ use Rattle.rel_model.specs.Equations.{Operator, Transpose, Compose, result_of, s
 use Rattle.rel_model.specs.Quads.{Keeper, quad_cells, QuadStands, IsQuad, KeepsQuads, ReadsQuads, quad_room, composed_words}
 use Rattle.rel_model.specs.Worker.{Rose}
 use Rattle.memo_laws.specs.Looking.{operator_of}
+use Rattle.quad_nodes.specs.Finding.{FindsQuad}
 use Rattle.fork_quads.specs.declared.pieces.Job.{Job}
-use Rattle.fork_quads.specs.Middle.{whole_room, most_turns}
+use Rattle.fork_quads.specs.Middle.{whole_room, most_halvings}
 
 -- ---- squares and their numbers
 -- one of four by its number: north-west, north-east, south-west and south-east
@@ -67,19 +68,19 @@ source op k = k
 -- how many words an operator on squares of a height places at most, if the middle of a composition may be halved this
 -- many times
 abbrev pub work_room : Operator → ℕ → ℕ → ℕ
-work_room Compose turns height = whole_room turns height
-work_room op turns height = quad_room height
+work_room Compose times height = whole_room times height
+work_room op times height = quad_room height
 
 -- how many words a square of a composition places at most, after c cuts: two products for each cut, and their unions
 abbrev pub product_words : ℕ → ℕ → ℕ → ℕ
-product_words turns height zero = whole_room turns height
-product_words turns height (suc c) = product_words turns (height - 1) c + product_words turns (height - 1) c
+product_words times height zero = whole_room times height
+product_words times height (suc c) = product_words times (height - 1) c + product_words times (height - 1) c
     + quad_room (height - 1 - c)
 
 -- how many words a piece places at most
 abbrev pub piece_room : Operator → ℕ → ℕ → ℕ → ℕ
-piece_room Compose turns height cuts = product_words turns height cuts
-piece_room op turns height cuts = quad_room (height - cuts)
+piece_room Compose times height cuts = product_words times height cuts
+piece_room op times height cuts = quad_room (height - cuts)
 
 -- how many words the corners above all pieces place at most
 abbrev pub corner_words : ℕ → ℕ
@@ -95,8 +96,8 @@ fork_words (suc n) (suc d) = 4096 * 8 ^ suc d
 
 -- how many words an operator on squares of a height places at most
 abbrev pub fork_room : Operator → ℕ → ℕ → ℕ
-fork_room Compose turns height = fork_words turns (height - bottom_height)
-fork_room op turns height = quad_room height
+fork_room Compose times height = fork_words times (height - bottom_height)
+fork_room op times height = quad_room height
 
 -- ---- answers
 -- a call that failed has raised the misses, and one that succeeded has not changed them
@@ -125,7 +126,15 @@ pub record CanDo (w : Keeper) (job : Job) : Type 0 where
   pub b_stands : QuadStands w job.b
   pub one_height : job.b.height ≡ job.a.height
   pub deep : bottom_height + job.cuts ≤ job.a.height
-  pub few : job.pieces.turns ≤ most_turns
+  pub few : job.halving.times ≤ most_halvings
+
+-- a job was done: its set is answered, or misses are counted; all that stood is kept, and except for a composition
+-- a quad of the set is found if one stood
+pub record DidJob {E : Type 0} (old new : Keeper) (job : Job) (result : Result Quad E) : Type 0 where
+  pub value : IfOk result (IsQuad new job.a.height (job_set old job))
+  pub stood : operator_of job.op ≢ Compose → FindsQuad old new job.a.height (job_set old job) result
+  pub keeps : KeepsQuads (fork_room (operator_of job.op) job.halving.times job.a.height) old new
+  pub misses : TellsMisses old new result
 
 -- the quads from one number up to another are the squares of a set with these numbers
 abbrev pub HavePieces : Keeper → Job → Cells → ℕ → ℕ → List Quad → Type 0
@@ -141,7 +150,7 @@ HadPieces w job from past = (n : ℕ) → from ≤ n → n < past
 pub record DidPieces {E : Type 0} (old new : Keeper) (job : Job) (from past : ℕ) (answer : Result (List Quad) E)
     : Type 0 where
   pub value : IfOk answer (HavePieces new job (job_set old job) from past)
-  pub keeps : KeepsQuads ((past - from) * piece_room (operator_of job.op) job.pieces.turns job.a.height job.cuts)
+  pub keeps : KeepsQuads ((past - from) * piece_room (operator_of job.op) job.halving.times job.a.height job.cuts)
       old new
   pub misses : TellsMisses old new answer
   pub stood : operator_of job.op ≢ Compose → HadPieces old job from past → IsQuiet old new answer

@@ -27,7 +27,8 @@ impl<'t, R: Threads + Sync, G: Gate + Sync> Model for Crew<'t, R, G> {
 }
 
 impl<'t, R: Threads + Sync, G: Gate + Sync> Crew<'t, R, G> {
-    /// A worker for the relations and quads of a table, at this seat, without a miss so far.
+    /// A worker for the relations and quads of a table, at this seat. Its misses are the refusals that the seat counts,
+    /// those before included.
     ///
     /// With more than one worker the five operators fork, and each piece of their work passes the gate. With one worker
     /// the gate is never called.
@@ -41,7 +42,7 @@ impl<'t, R: Threads + Sync, G: Gate + Sync> Crew<'t, R, G> {
         requires some { 1 ≤ workers }
         requires few { workers ≤ 64 }
         requires of { IsOf seat table.now }
-        ensures { result ≡ record { table = table.now; view = seat; misses = 0 } }
+        ensures { result ≡ record { table = table.now; view = seat; misses = seat.refused } }
     {
         Crew {
             team: Team { rt, gate, workers },

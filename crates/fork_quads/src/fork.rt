@@ -5,15 +5,15 @@ ghost use Rattle.rel_model.specs.Equations.{Compose, Transpose, result_of, side_
 ghost use Rattle.rel_model.specs.Quads.{Keeper, QuadStands, IsQuad, quad_cells, KeepsQuads};
 ghost use Rattle.memo_laws.specs.Looking.{operator_of};
 ghost use Rattle.quad_nodes.specs.Finding.{FindsQuad};
-ghost use Rattle.fork_quads.specs.Middle.{most_turns};
-ghost use Rattle.fork_quads.specs.Forks.{CanDo, TellsMisses, job_set, fork_room};
+ghost use Rattle.fork_quads.specs.Middle.{most_halvings};
+ghost use Rattle.fork_quads.specs.Forks.{CanDo, DidJob, TellsMisses, fork_room};
 
 use crate::gate::Gate;
 use crate::gather::gathered;
 use crate::group::groups;
 use crate::middle::Halving;
-use crate::pieces::{Job, alone};
-use crate::way::{Way, way_of};
+use crate::pieces::{Job, compute_sequential};
+use crate::plan::{Plan, plan_of};
 use memo_laws::Op;
 use pair_table::Missed;
 use quad_nodes::Nodes;
@@ -69,7 +69,7 @@ fn count_of(cuts: u8) -> u32
 }
 
 /// Computes all pieces of an operator's result, and puts them together.
-fn put_together<R: Threads, G: Gate>(
+fn compute_in_pieces<R: Threads, G: Gate>(
     team: &Team<'_, R, G>,
     nodes: &mut Nodes,
     job: Job,
@@ -79,11 +79,7 @@ fn put_together<R: Threads, G: Gate>(
     requires seats { team.now.workers ≤ nodes.old.view.spare }
     requires cut { job.cuts ≤ 3 }
     requires over { 0 < job.cuts }
-    ensures value { IfOk result (IsQuad nodes.new job.a.height (job_set nodes.old job)) }
-    ensures stood { operator_of job.op ≢ Compose → FindsQuad nodes.old nodes.new job.a.height
-        (job_set nodes.old job) result }
-    ensures keeps { KeepsQuads (fork_room (operator_of job.op) job.pieces.turns job.a.height) nodes.old nodes.new }
-    ensures misses { TellsMisses nodes.old nodes.new result }
+    ensures { DidJob nodes.old nodes.new job result }
 {
     // This use makes the checker open the invariant of `nodes`, which what follows needs.
     let _ = nodes.bottom();
@@ -95,7 +91,7 @@ fn put_together<R: Threads, G: Gate>(
 }
 
 /// An operator on two quads of one height, by pieces if there is so much to do that threads pay.
-fn weighed<R: Threads, G: Gate>(
+fn compute_planned<R: Threads, G: Gate>(
     team: &Team<'_, R, G>,
     nodes: &mut Nodes,
     job: Job,
@@ -106,16 +102,12 @@ fn weighed<R: Threads, G: Gate>(
     requires seats { team.now.workers ≤ nodes.old.view.spare }
     requires cut { job.cuts ≤ 3 }
     requires over { 0 < job.cuts }
-    ensures value { IfOk result (IsQuad nodes.new job.a.height (job_set nodes.old job)) }
-    ensures stood { operator_of job.op ≢ Compose → FindsQuad nodes.old nodes.new job.a.height
-        (job_set nodes.old job) result }
-    ensures keeps { KeepsQuads (fork_room (operator_of job.op) job.pieces.turns job.a.height) nodes.old nodes.new }
-    ensures misses { TellsMisses nodes.old nodes.new result }
+    ensures { DidJob nodes.old nodes.new job result }
 {
-    match way_of(nodes, job) {
-        Way::Alone => alone(nodes, job.op, job.a, job.b, job.pieces),
-        Way::Parts => put_together(team, nodes, job),
-        Way::Sums => put_together(
+    match plan_of(nodes, job) {
+        Plan::Sequential => compute_sequential(nodes, job.op, job.a, job.b, job.halving),
+        Plan::Parts => compute_in_pieces(team, nodes, job),
+        Plan::Sums => compute_in_pieces(
             team,
             nodes,
             Job {
@@ -128,7 +120,7 @@ fn weighed<R: Threads, G: Gate>(
 
 /// An operator on two quads of one height, by its pieces. Looks up whether the result was noted; if not, computes and
 /// notes it.
-fn forked<R: Threads, G: Gate>(
+fn compute_noted<R: Threads, G: Gate>(
     team: &Team<'_, R, G>,
     nodes: &mut Nodes,
     job: Job,
@@ -139,16 +131,12 @@ fn forked<R: Threads, G: Gate>(
     requires seats { team.now.workers ≤ nodes.old.view.spare }
     requires cut { job.cuts ≤ 3 }
     requires over { 0 < job.cuts }
-    ensures value { IfOk result (IsQuad nodes.new job.a.height (job_set nodes.old job)) }
-    ensures stood { operator_of job.op ≢ Compose → FindsQuad nodes.old nodes.new job.a.height
-        (job_set nodes.old job) result }
-    ensures keeps { KeepsQuads (fork_room (operator_of job.op) job.pieces.turns job.a.height) nodes.old nodes.new }
-    ensures misses { TellsMisses nodes.old nodes.new result }
+    ensures { DidJob nodes.old nodes.new job result }
 {
     if let Some(found) = nodes.look(job.op, job.a, job.b) {
         return Ok(found);
     }
-    let answer = weighed(team, nodes, job);
+    let answer = compute_planned(team, nodes, job);
     if let Ok(found) = answer {
         nodes.note(job.op, job.a, job.b, found);
     }
@@ -156,37 +144,37 @@ fn forked<R: Threads, G: Gate>(
 }
 
 /// An operator on two quads of one height, by the workers of a team if that is worthwhile.
-pub(crate) fn worked<R: Threads, G: Gate>(
+pub(crate) fn compute<R: Threads, G: Gate>(
     team: &Team<'_, R, G>,
     nodes: &mut Nodes,
     op: Op,
     a: Quad,
     b: Quad,
-    pieces: Halving,
+    halving: Halving,
 ) -> Result<Quad, Missed>
     requires a_stands { QuadStands nodes.old a }
     requires b_stands { QuadStands nodes.old b }
     requires one_height { b.height ≡ a.height }
     requires one_operand { operator_of op ≡ Transpose → b.name ≡ 0 }
-    requires few { pieces.turns ≤ most_turns }
+    requires few { halving.times ≤ most_halvings }
     ensures value { IfOk result (IsQuad nodes.new a.height (result_of (operator_of op) (side_of a.height)
         (quad_cells nodes.old a) (quad_cells nodes.old b))) }
     ensures stood { operator_of op ≢ Compose → FindsQuad nodes.old nodes.new a.height
         (result_of (operator_of op) (side_of a.height) (quad_cells nodes.old a) (quad_cells nodes.old b)) result }
-    ensures keeps { KeepsQuads (fork_room (operator_of op) pieces.turns a.height) nodes.old nodes.new }
+    ensures keeps { KeepsQuads (fork_room (operator_of op) halving.times a.height) nodes.old nodes.new }
     ensures misses { TellsMisses nodes.old nodes.new result }
 {
     let cuts = cuts_for(team.workers, a.height, nodes.spare());
     if cuts == 0 {
-        return alone(nodes, op, a, b, pieces);
+        return compute_sequential(nodes, op, a, b, halving);
     }
     let job = Job {
         op,
         a,
         b,
-        pieces,
+        halving,
         cuts,
         by_sums: false,
     };
-    forked(team, nodes, job)
+    compute_noted(team, nodes, job)
 }

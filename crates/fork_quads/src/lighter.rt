@@ -1,38 +1,14 @@
 //! Whether the two halves of the middle are lighter than the whole, judged by the quads under them.
-ghost use Rattle.std.specs.Prelude.{◌≡◌, ◌≤◌, ◌*◌, length};
+ghost use Rattle.std.specs.Prelude.{◌≤◌, ◌*◌};
 ghost use Rattle.rel_model.specs.Quads.{Keeper, QuadStands, ReadsQuads};
 ghost use Rattle.fork_quads.specs.Middle.{AreStanding};
 
 use quad_nodes::Nodes;
+use rel_compose::distinct_under;
 use rel_model::Quad;
 
-/// Counts distinct quads of at least a height from `q` down, adding to `met`. `seen` is a direct-mapped cache of the
-/// names met so far, so a quad may be counted twice.
-fn met_under(nodes: &mut Nodes, q: Quad, least: u8, seen: &mut [u32], met: u32) -> u32
-    requires stands { QuadStands nodes.old q }
-    requires places { length seen.old ≡ 16384 }
-    ensures same_places { length seen.new ≡ 16384 }
-    ensures few { met ≤ 16384 → result ≤ 16384 }
-    ensures reads { ReadsQuads nodes.old nodes.new }
-{
-    let bottom = nodes.bottom();
-    if q.name == 0 || met >= 16384 {
-        return met;
-    }
-    let place = (q.name % 16384) as usize;
-    if seen[place] == q.name {
-        return met;
-    }
-    seen[place] = q.name;
-    if q.height == bottom || q.height <= least {
-        return met + 1;
-    }
-    let (nw, ne, sw, se) = nodes.quarters(q);
-    let first = met_under(nodes, nw, least, seen, met + 1);
-    let second = met_under(nodes, ne, least, seen, first);
-    let third = met_under(nodes, sw, least, seen, second);
-    met_under(nodes, se, least, seen, third)
-}
+/// How many quads are counted at most.
+const MOST_COUNTED: u32 = 16384;
 
 /// How many quads of at least a height are under a quad, counted up to 16384. Keeping this a separate call puts its
 /// array on the stack once.
@@ -43,7 +19,7 @@ fn weight(nodes: &mut Nodes, q: Quad, least: u8) -> u64
     ensures reads { ReadsQuads nodes.old nodes.new }
 {
     let mut seen = [0; 16384];
-    met_under(nodes, q, least, &mut seen, 0) as u64
+    distinct_under(nodes, q, least, &mut seen, 0, MOST_COUNTED) as u64
 }
 
 /// The product of the weights of two quads.

@@ -7,7 +7,7 @@ ghost use Rattle.rel_model.specs.Quads.{Keeper, QuadStands, IsQuad, quad_cells, 
 ghost use Rattle.memo_laws.specs.Looking.{operator_of};
 ghost use Rattle.quad_nodes.specs.Finding.{FindsQuad};
 ghost use Rattle.rel_compose.specs.Products.{BothStand};
-ghost use Rattle.fork_quads.specs.Middle.{most_turns};
+ghost use Rattle.fork_quads.specs.Middle.{most_halvings};
 ghost use Rattle.fork_quads.specs.Forks.{nth, place_at_cut, part, source, work_room, piece_room, product_words, product_of, job_set, CanDo};
 
 use crate::middle::{Halving, composed};
@@ -17,7 +17,7 @@ use pair_table::Missed;
 use quad_nodes::Nodes;
 use rel_boole::{diff_quads, inter_quads, union_quads};
 use rel_compose::transpose_quad;
-use rel_model::Quad;
+use rel_model::{Quad, Quarters};
 
 /// An operator on two quads of one height, and how often its result is cut. A transposition has no second operand.
 #[derive(Clone, Copy)]
@@ -25,29 +25,29 @@ pub struct Job {
     pub(crate) op: Op,
     pub(crate) a: Quad,
     pub(crate) b: Quad,
-    pub(crate) pieces: Halving,
+    pub(crate) halving: Halving,
     pub(crate) cuts: u8,
     /// Whether the squares of a composition are computed by sums of rows.
     pub(crate) by_sums: bool,
 }
 
 /// An operator on two quads of one height, uncut.
-pub(crate) fn alone(
+pub(crate) fn compute_sequential(
     nodes: &mut Nodes,
     op: Op,
     a: Quad,
     b: Quad,
-    pieces: Halving,
+    halving: Halving,
 ) -> Result<Quad, Missed>
     requires a_stands { QuadStands nodes.old a }
     requires b_stands { QuadStands nodes.old b }
     requires one_height { b.height ≡ a.height }
-    requires few { pieces.turns ≤ most_turns }
+    requires few { halving.times ≤ most_halvings }
     ensures value { IfOk result (IsQuad nodes.new a.height (result_of (operator_of op) (side_of a.height)
         (quad_cells nodes.old a) (quad_cells nodes.old b))) }
     ensures stood { operator_of op ≢ Compose → FindsQuad nodes.old nodes.new a.height
         (result_of (operator_of op) (side_of a.height) (quad_cells nodes.old a) (quad_cells nodes.old b)) result }
-    ensures keeps { KeepsQuads (work_room (operator_of op) pieces.turns a.height) nodes.old nodes.new }
+    ensures keeps { KeepsQuads (work_room (operator_of op) halving.times a.height) nodes.old nodes.new }
     ensures counts { Counts nodes.old nodes.new result }
 {
     match op {
@@ -55,7 +55,7 @@ pub(crate) fn alone(
         Op::Inter => inter_quads(nodes, a, b),
         Op::Diff => diff_quads(nodes, a, b),
         Op::Transpose => transpose_quad(nodes, a),
-        Op::Compose => composed(nodes, a, b, pieces),
+        Op::Compose => composed(nodes, a, b, halving),
     }
 }
 
@@ -70,14 +70,14 @@ pub(crate) fn place(cuts: u8, number: u32) -> u32
 }
 
 /// One of four by its place.
-pub(crate) fn picked<T: Copy>(four: (T, T, T, T), k: u32) -> T
-    ensures { result ≡ nth k four.0 four.1 four.2 four.3 }
+pub(crate) fn picked<T: Copy>(nw: T, ne: T, sw: T, se: T, k: u32) -> T
+    ensures { result ≡ nth k nw ne sw se }
 {
     match k {
-        0 => four.0,
-        1 => four.1,
-        2 => four.2,
-        _ => four.3,
+        0 => nw,
+        1 => ne,
+        2 => sw,
+        _ => se,
     }
 }
 
@@ -103,14 +103,14 @@ fn square_part(
     b: Quad,
     cuts: u8,
     number: u32,
-    pieces: Halving,
+    halving: Halving,
 ) -> Result<Quad, Missed>
     requires a_stands { QuadStands nodes.old a }
     requires b_stands { QuadStands nodes.old b }
     requires one_height { b.height ≡ a.height }
     requires no_product { operator_of op ≢ Compose }
     requires deep { bottom_height + cuts ≤ a.height }
-    requires few { pieces.turns ≤ most_turns }
+    requires few { halving.times ≤ most_halvings }
     ensures value { IfOk result (IsQuad nodes.new (a.height - cuts) (part a.height cuts number
         (result_of (operator_of op) (side_of a.height) (quad_cells nodes.old a) (quad_cells nodes.old b)))) }
     ensures stood { FindsQuad nodes.old nodes.new (a.height - cuts) (part a.height cuts number
@@ -119,34 +119,34 @@ fn square_part(
     ensures counts { Counts nodes.old nodes.new result }
 {
     if cuts == 0 {
-        return alone(nodes, op, a, b, pieces);
+        return compute_sequential(nodes, op, a, b, halving);
     }
     let (fa, fb) = nodes.quarters_of_both(a, b);
     let k = place(cuts - 1, number);
-    let left = picked(fa, source_of(op, k));
-    let right = picked(fb, k);
-    square_part(nodes, op, left, right, cuts - 1, number, pieces)
+    let left = picked(fa.nw, fa.ne, fa.sw, fa.se, source_of(op, k));
+    let right = picked(fb.nw, fb.ne, fb.sw, fb.se, k);
+    square_part(nodes, op, left, right, cuts - 1, number, halving)
 }
 
 /// Two of four quads: the northern or the southern row.
-fn row_of(four: (Quad, Quad, Quad, Quad), k: u32) -> (Quad, Quad)
-    ensures first { result.0 ≡ nth k four.0 four.0 four.2 four.2 }
-    ensures second { result.1 ≡ nth k four.1 four.1 four.3 four.3 }
+fn row_of(four: Quarters, k: u32) -> (Quad, Quad)
+    ensures first { result.0 ≡ nth k four.nw four.nw four.sw four.sw }
+    ensures second { result.1 ≡ nth k four.ne four.ne four.se four.se }
 {
     match k {
-        0 | 1 => (four.0, four.1),
-        _ => (four.2, four.3),
+        0 | 1 => (four.nw, four.ne),
+        _ => (four.sw, four.se),
     }
 }
 
 /// Two of four quads: the western or the eastern column.
-fn column_of(four: (Quad, Quad, Quad, Quad), k: u32) -> (Quad, Quad)
-    ensures first { result.0 ≡ nth k four.0 four.1 four.0 four.1 }
-    ensures second { result.1 ≡ nth k four.2 four.3 four.2 four.3 }
+fn column_of(four: Quarters, k: u32) -> (Quad, Quad)
+    ensures first { result.0 ≡ nth k four.nw four.ne four.nw four.ne }
+    ensures second { result.1 ≡ nth k four.sw four.se four.sw four.se }
 {
     match k {
-        0 | 2 => (four.0, four.2),
-        _ => (four.1, four.3),
+        0 | 2 => (four.nw, four.sw),
+        _ => (four.ne, four.se),
     }
 }
 
@@ -159,15 +159,15 @@ fn product_part(
     b: Quad,
     cuts: u8,
     number: u32,
-    pieces: Halving,
+    halving: Halving,
 ) -> Result<Quad, Missed>
     requires a_stands { QuadStands nodes.old a }
     requires b_stands { QuadStands nodes.old b }
     requires one_height { b.height ≡ a.height }
     requires deep { bottom_height + cuts ≤ a.height }
-    requires few { pieces.turns ≤ most_turns }
+    requires few { halving.times ≤ most_halvings }
     ensures value { IfOk result (IsQuad nodes.new (a.height - cuts) (product_of nodes.old a b cuts number)) }
-    ensures keeps { KeepsQuads (product_words pieces.turns a.height cuts) nodes.old nodes.new }
+    ensures keeps { KeepsQuads (product_words halving.times a.height cuts) nodes.old nodes.new }
     ensures counts { Counts nodes.old nodes.new result }
 {
     let _ = nodes.bottom();
@@ -182,7 +182,7 @@ fn product_part(
         return Ok(none);
     }
     if cuts == 0 {
-        return composed(nodes, a, b, pieces);
+        return composed(nodes, a, b, halving);
     }
     let (fa, fb) = nodes.quarters_of_both(a, b);
     let k = place(cuts - 1, number);
@@ -192,7 +192,7 @@ fn product_part(
         column_of(fb, k),
         cuts - 1,
         number,
-        pieces,
+        halving,
     )
 }
 
@@ -204,20 +204,20 @@ fn sum_part(
     column: (Quad, Quad),
     cuts: u8,
     number: u32,
-    pieces: Halving,
+    halving: Halving,
 ) -> Result<Quad, Missed>
     requires row_stands { BothStand nodes.old row.0.height row }
     requires column_stands { BothStand nodes.old row.0.height column }
     requires deep { bottom_height + cuts ≤ row.0.height }
-    requires few { pieces.turns ≤ most_turns }
+    requires few { halving.times ≤ most_halvings }
     ensures value { IfOk result (IsQuad nodes.new (row.0.height - cuts) (cells_union
         (product_of nodes.old row.0 column.0 cuts number) (product_of nodes.old row.1 column.1 cuts number))) }
-    ensures keeps { KeepsQuads (product_words pieces.turns row.0.height cuts
-        + product_words pieces.turns row.0.height cuts + quad_room (row.0.height - cuts)) nodes.old nodes.new }
+    ensures keeps { KeepsQuads (product_words halving.times row.0.height cuts
+        + product_words halving.times row.0.height cuts + quad_room (row.0.height - cuts)) nodes.old nodes.new }
     ensures counts { Counts nodes.old nodes.new result }
 {
-    let first = product_part(nodes, row.0, column.0, cuts, number, pieces)?;
-    let second = product_part(nodes, row.1, column.1, cuts, number, pieces)?;
+    let first = product_part(nodes, row.0, column.0, cuts, number, halving)?;
+    let second = product_part(nodes, row.1, column.1, cuts, number, halving)?;
     union_quads(nodes, first, second)
 }
 
@@ -226,13 +226,13 @@ fn composed_part(nodes: &mut Nodes, job: Job, number: u32) -> Result<Quad, Misse
     requires { CanDo nodes.old job }
     ensures value { IfOk result (IsQuad nodes.new (job.a.height - job.cuts)
         (product_of nodes.old job.a job.b job.cuts number)) }
-    ensures keeps { KeepsQuads (product_words job.pieces.turns job.a.height job.cuts) nodes.old nodes.new }
+    ensures keeps { KeepsQuads (product_words job.halving.times job.a.height job.cuts) nodes.old nodes.new }
     ensures counts { Counts nodes.old nodes.new result }
 {
     if job.by_sums && job.a.height - job.cuts >= 8 {
         return window_part(nodes, job.a, job.b, job.cuts, number);
     }
-    product_part(nodes, job.a, job.b, job.cuts, number, job.pieces)
+    product_part(nodes, job.a, job.b, job.cuts, number, job.halving)
 }
 
 /// The piece with this number.
@@ -242,12 +242,12 @@ pub(crate) fn piece(nodes: &mut Nodes, job: Job, number: u32) -> Result<Quad, Mi
         (part job.a.height job.cuts number (job_set nodes.old job))) }
     ensures stood { operator_of job.op ≢ Compose → FindsQuad nodes.old nodes.new (job.a.height - job.cuts)
         (part job.a.height job.cuts number (job_set nodes.old job)) result }
-    ensures keeps { KeepsQuads (piece_room (operator_of job.op) job.pieces.turns job.a.height job.cuts)
+    ensures keeps { KeepsQuads (piece_room (operator_of job.op) job.halving.times job.a.height job.cuts)
         nodes.old nodes.new }
     ensures counts { Counts nodes.old nodes.new result }
 {
     match job.op {
         Op::Compose => composed_part(nodes, job, number),
-        _ => square_part(nodes, job.op, job.a, job.b, job.cuts, number, job.pieces),
+        _ => square_part(nodes, job.op, job.a, job.b, job.cuts, number, job.halving),
     }
 }

@@ -33,10 +33,7 @@ fn placed(row: bool, col: bool, quad: Quad) -> Quad
     if row && col {
         quad
     } else {
-        Quad {
-            height: quad.height,
-            name: 0,
-        }
+        Quad::empty(quad.height)
     }
 }
 

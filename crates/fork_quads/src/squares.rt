@@ -3,10 +3,10 @@ ghost use Rattle.fork_quads.specs.CrewLaws.{least_limit_law, low_height_law, hig
 
 use crate::crew::Crew;
 use crate::gate::Gate;
-use crate::joined::joined;
 use crate::roots::{root_of, told};
+use crate::union_product::union_with_product;
 use rel_model::quads_trait::Quads;
-use rel_model::{Lack, Quad, Rel, Shape};
+use rel_model::{Lack, Quad, Quarters, Rel, Shape};
 use std::thread::Threads;
 
 #[tactic(auto, using(crate::specs::CrewLaws::row_limit_law, crate::specs::CrewLaws::col_limit_law))]
@@ -45,8 +45,13 @@ impl<'t, R: Threads + Sync, G: Gate + Sync> Quads for Crew<'t, R, G> {
     }
 
     /// The quarters of a quad: north-west, north-east, south-west and south-east.
-    fn quarters(&mut self, q: Quad) -> (Quad, Quad, Quad, Quad) {
+    fn quarters(&mut self, q: Quad) -> Quarters {
         self.nodes.quarters(q)
+    }
+
+    /// The quarters of a quad, whose words are read in the same go.
+    fn quarters_ahead(&mut self, q: Quad) -> Quarters {
+        self.nodes.quarters_ahead(q)
     }
 
     /// The quad of four quarters.
@@ -71,6 +76,6 @@ impl<'t, R: Threads + Sync, G: Gate + Sync> Quads for Crew<'t, R, G> {
 
     /// `x | y*z`: a quad joined with a product.
     fn joined(&mut self, x: Quad, y: Quad, z: Quad) -> Result<Quad, Lack> {
-        told(joined(&self.team, &mut self.nodes, x, y, z))
+        told(union_with_product(&self.team, &mut self.nodes, x, y, z))
     }
 }

@@ -23,8 +23,8 @@ fn first_of(height: u8, cuts: u8, number: u32) -> (u32, u32)
     let half = side_of_height(height - 1);
     let k = place(cuts - 1, number);
     let (row, col) = first_of(height - 1, cuts - 1, number);
-    let down = picked((0, 0, half, half), k);
-    let across = picked((0, half, 0, half), k);
+    let down = picked(0, 0, half, half, k);
+    let across = picked(0, half, 0, half, k);
     (down + row, across + col)
 }
 

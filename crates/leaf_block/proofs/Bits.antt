@@ -50,6 +50,7 @@ bit-number w (x ∷ xs) (suc i) j f b =
     ap (λ (v : ℕ). bit_at v (w * suc i + j)) c ∙ bit_at_cat_high (number_l (2 ^ w) xs) w x (w * suc i + j) f.0 (omega arith)
     ∙ ap (bit_at (number_l (2 ^ w) xs)) e ∙ bit-number w xs i j f.1 b
 
+-- each digit fits its width, since it is a remainder by 2 ^ w
 pub digits-fit : (w k x : ℕ) → Each1 (λ v. v < 2 ^ w) (digits_l (2 ^ w) k x)
 digits-fit w zero x = tt
 digits-fit w (suc k) x = (mod_below x w, digits-fit w k (x / 2 ^ w))
@@ -119,6 +120,7 @@ taken s m x n d e g =
     ap (λ (v : ℕ). ((bit_at x n + min ((bit_at x n + bit_at x (s + n)) % 2) (bit_at m n)) % 2 + v) % 2) t
     ∙ from_below _ _ _ _ _ (bit_at-lt x n) (bit_at-lt x (s + n)) (bit_at-lt x (n - s)) (clear m n e) (eqb-true _ 1 g)
 
+-- a swap gives bit n its partner's value: the mask has bit n, or the bit s places below it, or neither of them
 pub swapped-partner : (s m x n : ℕ) → n < 64 → is_apart s m n ≡ true → bit_at (swapped s m x) n ≡ bit_at x (partner s m n)
 swapped-partner s m x n l a = bit-swapped s m x n l ∙ elim (cases_Bool (eqb (bit_at m n) 1)) [
   | inl e ↦ from_above _ _ _ _ (bit_at-lt x n) (bit_at-lt x (s + n)) (eqb-true _ 1 e) (none_below s m x n a e) ∙ ap (bit_at x) (sym (cond-true _ _ _ e))

@@ -20,6 +20,8 @@ use Rattle.leaf_block.proofs.Sets.{block_is, block_within, is_set, is_set-or, bi
 abbrev pub all_ones : Bool → ℕ
 all_ones t = cond t (2 ^ 8 - 1) 0
 
+-- a step keeps a lane of `row` where `rows` has all of `bits` in that lane, and clears it elsewhere: every instruction
+-- works lane by lane
 pub picked-lanes : (rows bits row : List ℕ) → (length rows ≡ 16) × Each1 (Fits w8) rows → (length bits ≡ 16) × Each1 (Fits w8) bits → (length row ≡ 16) × Each1 (Fits w8) row
     → IsPicked rows bits row (sel_l (map (top 7) (zip2 (λ a b. all_ones (eqb a b)) (zip2 bit_and rows bits) bits)) row (replicate 16 0))
 picked-lanes rows bits row f g h =
@@ -118,6 +120,7 @@ pub record AllSteps (s0 s1 s2 s3 : List ℕ) : Type 0 where
   pub len : length (all_steps s0 s1 s2 s3) ≡ 16
   pub lanes : (l : ℕ) → l < 16 → get_or (all_steps s0 s1 s2 s3) l 0 ≡ bit_or (get_or s3 l 0) (bit_or (get_or s2 l 0) (bit_or (get_or s1 l 0) (get_or s0 l 0)))
 
+-- four steps joined by or: each lane is the or of their lanes there
 pub all_lanes : (s0 s1 s2 s3 : List ℕ) → length s0 ≡ 16 → length s1 ≡ 16 → length s2 ≡ 16 → length s3 ≡ 16 → AllSteps s0 s1 s2 s3
 all_lanes s0 s1 s2 s3 a b c d =
     let t1 = zip2 bit_or s1 s0 in
@@ -162,6 +165,7 @@ half_at g (suc (suc h)) l i p q e = absurd (omega arith)
 length-rows_twice : (a : ℕ) → length (rows_twice a) ≡ 16
 length-rows_twice a = refl
 
+-- each lane of half h picks row 4 * h + k of the block, since that half has the same number in all its lanes
 row_at : (b k h l i : ℕ) → k < 4 → h < 2 → i < 8 → l ≡ 8 * h + i → get_or (row_pair b (4 * 0 + k) (4 * 1 + k)) l 0 ≡ get_or (rows_twice b) (4 * h + k) 0
 row_at b k h l i r p q e =
     let rows = rows_twice b in
@@ -200,6 +204,7 @@ steps_fit a b s0 s1 s2 s3 s t = Each1-from_get_or (λ x. x < 2 ^ 8) (all_steps s
 abbrev pub word_of : List ℕ → ℕ → ℕ
 word_of all h = get_or (digits_l (2 ^ 64) 2 (number_l (2 ^ 8) all)) h 0
 
+-- half h has cell (i, j) where one of its four middle elements joins i to j: its lanes are the or of the four steps'
 half_joins : (a b : ℕ) (s0 s1 s2 s3 : List ℕ) → a < 2 ^ 64 → b < 2 ^ 64 → Steps a b s0 s1 s2 s3 → (h i j : ℕ) → h < 2 → i < 8 → j < 8
     → is_set (word_of (all_steps s0 s1 s2 s3) h) i j ≡ (joins a b i j (4 * h + 3) || (joins a b i j (4 * h + 2) || (joins a b i j (4 * h + 1) || joins a b i j (4 * h + 0))))
 half_joins a b s0 s1 s2 s3 p q s h i j ph pi pj =

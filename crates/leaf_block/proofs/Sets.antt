@@ -133,6 +133,7 @@ bits_below-lt f (suc n) =
 bit_one : bit_at 1 0 ≡ 1
 bit_one = refl
 
+-- bit m is the cell that m stands for: by induction on n, as 2 ^ n sets the top bit and leaves those below it
 pub bit-bits_below : (f : Cells) (n m : ℕ) → m < n → eqb (bit_at (bits_below f n) m) 1 ≡ f (m / 8) (m % 8)
 bit-bits_below f zero m l = absurd (omega arith)
 bit-bits_below f (suc n) m l =

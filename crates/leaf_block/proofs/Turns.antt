@@ -34,6 +34,7 @@ record Turns (n : ℕ) : Type 0 where
   apart_cells : is_apart 7 0x00AA_00AA_00AA_00AA (before_pairs n) ≡ true
   ends : before_cells n ≡ 8 * (n % 8) + n / 8
 
+-- what the three swaps ask of bit n, and the place it comes from: computed for all 64 bits, and read off for this one
 turns_at : (n : ℕ) → n < 64 → Turns n
 turns_at n l =
     let t = and_parts (is_apart 28 0x0000_0000_F0F0_F0F0 n && (ltb (before_fours n) 64 && is_apart 14 0x0000_CCCC_0000_CCCC (before_fours n))) _ (agree_below_at turns (λ _. true) 64 n refl l) in

@@ -64,6 +64,7 @@ looked_up old new t op height a b word asked answer o h l e = read answer
       only_none = λ _. refl;
       keeps = l.keeps;
       made = l.made;
+      refused = l.refused;
     }
     read (Some r) s _ =
         let w : IsWordFor word op height a b r = s.1 ∙ step r in
@@ -79,4 +80,5 @@ looked_up old new t op height a b word asked answer o h l e = read answer
           only_none = λ f. absurd (f r s.0 w);
           keeps = l.keeps;
           made = l.made;
+          refused = l.refused;
         }

@@ -35,6 +35,7 @@ pub record Looks (op : Operator) (height a b : ℕ) (old new : View) (answer : O
   pub only_none : ((r : ℕ) → r < 2 ^ most_bits → IsWordFor word op height a b r → ⊥) → answer ≡ None
   pub keeps : Keeps old new
   pub made : new.made ≡ old.made
+  pub refused : new.refused ≡ old.refused
 
 -- an equation was noted: its word was stored in its home slot, which is the last memo step
 abbrev pub Notes : Equation → View → View → Type 0

@@ -231,6 +231,7 @@ split_all start id v c s r e = record { long = r.long; nodes = split_allowed sta
 pub join_all : {S : Type 0} (start : Start) (id other : ℕ) (v w : Known) → v.parts ≢ 0 → w.parts ≢ 0 → Joins {S = S} (Holds start) id v other w (both_of v w) spent
 join_all start id other v w a b s r e n o = record { long = r.long; nodes = join_allowed start id other v w a b (record { words = node_words start.bits s.words; homes = []; views = s.views }) r.nodes e n o; memo = r.memo; taken = all_taken_on start.bits s.words s.words (set s.views id (both_of v w)) other spent (λ k z. z) tt (all_taken_on start.bits s.words s.words s.views id (both_of v w) (λ k z. z) (r.taken id v e) r.taken); alone = all_there_on start s.words s.words (set s.views id (both_of v w)) other spent (λ k. refl) (λ o z. absurd (z refl)) (all_there_on start s.words s.words s.views id (both_of v w) (λ k. refl) (λ o z. r.alone o id v e a) r.alone) }
 
+-- a sound table meets the rule when it is opened: its only seat has seen all the words and has made no memo step
 pub opening_all : {S : Type 0} (start : Start) (words : List ℕ) (homes : List (mathlib.Core.Option.Option S)) → start.seats < 2 ^ 32 → 1 ≤ start.seats → IsSoundTable start.bits start.words.items → words ≡ start.words.items
     → Holds start (record { words = words; homes = homes; views = first_view start ∷ [] })
 opening_all start words homes h l t e = subst (λ (ws : List ℕ). Holds start (record { words = ws; homes = homes; views = first_view start ∷ [] })) (sym e) (record {

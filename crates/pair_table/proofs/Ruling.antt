@@ -235,6 +235,8 @@ split_allowed start id v c s r e =
       few = r.few;
     }
 
+-- a join keeps the rule of the node words: the joined view has seen only what its two parts have seen, and the totals
+-- stay, as their numbers are added up
 pub join_allowed : (start : Start) (id other : ℕ) (v w : Known) → v.parts ≢ 0 → w.parts ≢ 0 → Joins {S = Unit {0}} (NodesOf start) id v other w (both_of v w) spent
 join_allowed start id other v w live also s r e apart o =
     let views = set s.views id (both_of v w) in

@@ -1,19 +1,17 @@
 -- From what the steps tell to what callers see.
-use Rattle.std.proofs.Common.{◌≡◌, ◌≤◌, ◌≢◌, ◌+◌, ◌-◌, ◌^◌, ℕ, List, [], replicate, ◌∷◌, ◌++◌, take, zero, suc, length, refl, sym, ap, subst, ◌∙◌, inl, inr, arith, get_or, Result, Ok, Err, IsErr, IfOk}
+use Rattle.std.proofs.Common.{◌≡◌, ◌≤◌, ◌≢◌, ◌+◌, ◌-◌, ◌^◌, ℕ, List, [], replicate, ◌∷◌, ◌++◌, take, zero, suc, length, refl, sym, ap, subst, ◌∙◌, arith, get_or, Result, Ok, Err, IfOk}
 use Rattle.std.proofs.Math.Pow.{pow_mono}
-use Rattle.std.proofs.lemmas.Bool.{cases_lt}
-use Rattle.std.proofs.lemmas.List.{get_or_past}
 use mathlib.Core.Option.{some, some-injective, some-ne-none}
 use lib.ListN.{get_elem?}
 use Rattle.atomic_table.specs.Table.{Me, Final, Seen}
 use Rattle.atomic_table.specs.Seated.{TableId, table_id_coded}
-use Rattle.rel_model.specs.Words.{IsDistinct, IsFullOfOthers, stored_count}
+use Rattle.rel_model.specs.Words.{IsDistinct, stored_count}
 use Rattle.rel_model.specs.Equations.{IsSoundTable, memo_slots, node_words}
-use Rattle.rel_model.specs.Views.{Table, View, Interns, Keeps, IsFresh, IsClosed}
+use Rattle.rel_model.specs.Views.{Table, View, IsFresh, IsClosed}
 use Rattle.pair_table.specs.declared.rule.Known.{Known}
 use Rattle.pair_table.specs.declared.rule.Start.{Start}
 use Rattle.pair_table.specs.Rule.{Holds, first_view}
-use Rattle.pair_table.specs.Tells.{Steps, InternsFor}
+use Rattle.pair_table.specs.Tells.{Steps}
 use Rattle.pair_table.specs.Opened.{IsOpened}
 use Rattle.pair_table.specs.Held.{house_of, IsSeat, IsTable, view_of}
 use Rattle.pair_table.proofs.Placing.{vacant_at, vacant_count}
@@ -27,32 +25,10 @@ one_table a b e = table_id_coded.inj a b e
 pub still_seat : {S : Type 0} (me after : Me S Known) (spare : ℕ) → IsSeat me spare → Steps me.0 after.0 → after.1 ≡ me.1 → IsSeat after spare
 still_seat me after spare s t h = record { parts = t.parts ∙ s.parts; none_held = h ∙ s.none_held; canonical = t.canonical }
 
--- a step keeps what callers see
-pub still_kept : {S : Type 0} (id new : TableId) (me after : Me S Known) (spare : ℕ) → new ≡ id → Steps me.0 after.0 → Keeps (view_of id me spare) (view_of new after spare)
-still_kept id new me after spare e t = record { seen = t.seen; house = ap house_of e; spare = refl }
-
--- a word is interned, as callers see it
-pub interned : {S E : Type 0} (id new : TableId) (me after : Me S Known) (spare word : ℕ) (r : Result ℕ E) → word ≢ 0 → new ≡ id → InternsFor me.0 after.0 word r → Interns (view_of id me spare) (view_of new after spare) word r
-interned {S} {E} id new me after spare word r h e i = record {
-  named = i.named;
-  missed = i.missed;
-  only_full = full r i;
-  made = elim i.made [ inl m ↦ inl m | inr m ↦ inr (record { more = m.more; absent = m.absent; answered = m.answered }) ];
-  keeps = still_kept id new me after spare e i.steps;
-  last = i.last;
-}
-  where
-    full : (r : Result ℕ E) → InternsFor me.0 after.0 word r → IsFullOfOthers after.0.words word → IsErr r
-    full (Ok n) i f = absurd (elim (cases_lt n (length after.0.words)) [
-      | inl l ↦ (f n i.named.0 l).1 i.named.1
-      | inr l ↦ h (sym i.named.1 ∙ get_or_past after.0.words n 0 l)
-    ])
-    full (Err x) i f = refl
-
 -- the words in the end, as callers see them
-pub closed_from : {S : Type 0} (id : TableId) (me : Me S Known) (spare : ℕ) (start : Start) (place : ℕ) (words : List ℕ) (xs : List S) → Final (Seen (Holds start) place me.0) words xs → IsSeat me spare → spare + 1 ≡ start.seats
-    → IsClosed start.bits (view_of id me spare) words
-closed_from id me spare start place words xs f s e =
+pub closed_from : {S : Type 0} (id : TableId) (me : Me S Known) (spare refused : ℕ) (start : Start) (place : ℕ) (words : List ℕ) (xs : List S) → Final (Seen (Holds start) place me.0) words xs → IsSeat me spare → spare + 1 ≡ start.seats
+    → IsClosed start.bits (view_of id me spare refused) words
+closed_from id me spare refused start place words xs f s e =
     let p : me.0.parts ≡ start.seats = s.parts ∙ e in
     let l : me.0.parts ≢ 0 = (λ z. let a = s.parts in omega arith) in
     let d = ended_all start words xs place me.0 f p l in
@@ -71,8 +47,9 @@ table_from id key bits seats count a b e w z k s =
     let high : 2 ^ bits ≤ 2 ^ 24 = pow_mono b in
     record { words = w; slots = z; bits_are = k; seats_are = s; count_is = omega arith; few_bits = b; small = omega arith; not_none = omega arith }
 
+-- what a caller sees of a table that is opened: the first view has all its words, and a sound table stores none twice
 pub opened_from : {S : Type 0} (id seat : TableId) (me : Me S Known) (start : Start) → 10 ≤ start.bits → start.bits ≤ 24 → 1 ≤ start.seats → IsSoundTable start.bits start.words.items → seat ≡ id → me ≡ (first_view start, [])
-    → IsOpened start.bits start.words.items start.seats (record { house = house_of id; bits = start.bits; seats = start.seats }, view_of seat me (start.seats - 1))
+    → IsOpened start.bits start.words.items start.seats (record { house = house_of id; bits = start.bits; seats = start.seats }, view_of seat me (start.seats - 1) 0)
 opened_from id seat me start a b h t e m =
     let w : me.0.words ≡ node_words start.bits start.words.items = ap (λ p. p.0.words) m in
     record {
@@ -84,11 +61,14 @@ opened_from id seat me start a b h t e m =
         low = a;
         high = b;
         canonical = subst (λ (ws : List ℕ). IsDistinct ws) (sym w) t.nodes.distinct;
+        counted = omega arith;
+        full = λ z. absurd (z refl);
       };
       words_are = w;
       all_made = ap (λ p. p.0.made) m;
       spare_is = omega arith;
       no_load = ap (λ p. p.0.last) m;
+      none_refused = refl;
     }
 
 -- a table over vacant words is new
@@ -103,6 +83,7 @@ fresh_from bits seats words made e o =
       none_made = o.all_made ∙ ap (λ (ws : List ℕ). stored_count (node_words bits ws)) e ∙ ap stored_count (vacant_nodes bits) ∙ vacant_count (2 ^ bits);
       spare_is = o.spare_is;
       no_load = o.no_load;
+      none_refused = o.none_refused;
     }
 
 pub fresh_where_opened : {E : Type 0} (bits seats : ℕ) (words : List ℕ) (r : Result (Table × View) E) → words ≡ replicate (2 ^ bits + memo_slots) zero → IfOk r (IsOpened bits words seats) → IfOk r (IsFresh bits seats)

@@ -30,11 +30,12 @@ pub record IsSeat {S : Type 0} (me : Me S Known) (spare : ℕ) : Type 0 where
   pub canonical : IsDistinct me.0.words
 
 -- a seat as callers see it
-abbrev pub view_of : {S : Type 0} → TableId → Me S Known → ℕ → View
-view_of id me spare = record {
+abbrev pub view_of : {S : Type 0} → TableId → Me S Known → ℕ → ℕ → View
+view_of id me spare refused = record {
   house = house_of id;
   words = me.0.words;
   made = me.0.made;
   spare = spare;
   last = me.0.last;
+  refused = refused;
 }

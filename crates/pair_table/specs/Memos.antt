@@ -9,6 +9,7 @@ pub record Stores (slot word : ℕ) (old new : View) : Type 0 where
   pub keeps : Keeps old new
   pub made : new.made ≡ old.made
   pub last : new.last ≡ Some (slot, word)
+  pub refused : new.refused ≡ old.refused
 
 -- if a last memo step left its slot taken, the slot is still taken
 abbrev pub IsStillTaken : ℕ → List ℕ → Option (ℕ × ℕ) → Type 0

@@ -19,3 +19,5 @@ pub record IsOpened (bits : ℕ) (words : List ℕ) (seats : ℕ) (made : Table 
   pub spare_is : made.1.spare + 1 ≡ seats
   -- it has made no memo step
   pub no_load : made.1.last ≡ None
+  -- and was refused nothing
+  pub none_refused : made.1.refused ≡ 0

@@ -2,11 +2,14 @@
 use crate::rule::Known;
 use std::marker::Model;
 
-/// A seat at a table. It may be sent to another thread, and each call on it sees its view. 4 bytes.
+/// A seat at a table, which counts how often it was refused a place. It may be sent to another thread, and each call on
+/// it sees its view. 16 bytes in all.
 #[derive(Drop)]
 pub struct Seat {
     pub(crate) inner: atomic_table::Seat<(), Known>,
     pub(crate) spare: u32,
+    /// How often it was refused a place, up to 2^64 - 1.
+    pub(crate) refused: u64,
 }
 
 impl Model for Seat {
@@ -15,7 +18,7 @@ impl Model for Seat {
 
     ghost Value = { View };
 
-    ghost view = { λ s. view_of s.inner.table_id s.inner.me s.spare };
+    ghost view = { λ s. view_of s.inner.table_id s.inner.me s.spare s.refused };
 
     ghost invariant = { λ s. IsSeat s.inner.me s.spare };
 }

@@ -86,27 +86,34 @@ impl PairTable {
             Seat {
                 inner,
                 spare: seats - 1,
+                refused: 0,
             },
         ))
     }
 
-    /// The one name of a word. Refused only if every place holds another word.
+    /// The one name of a word. Refused only if every place holds another word, and the seat counts each refusal.
     fn intern_any(&self, seat: &mut Seat, word: u64) -> Result<u32, Missed>
         requires of { IsOf seat.old self.now }
         requires some { word ≢ 0 }
         ensures interns { Interns seat.old seat.new word result }
         ensures of { IsOf seat.new self.now }
     {
-        intern_word(
+        match intern_word(
             &self.table.shared,
             &mut seat.inner,
             self.bits,
             self.count,
             word,
-        )
+        ) {
+            Ok(name) => Ok(name),
+            Err(Missed) => {
+                seat.refused = seat.refused.saturating_add(1);
+                Err(Missed)
+            }
+        }
     }
 
-    /// The one name of a pair of names. Refused only if every place holds another word.
+    /// The one name of a pair of names. Refused only if every place holds another word, which the seat counts.
     pub fn intern(&self, seat: &mut Seat, left: u32, right: u32) -> Result<u32, Missed>
         requires of { IsOf seat.old self.now }
         requires left_in { IsKnown seat.old left }
@@ -119,7 +126,7 @@ impl PairTable {
         self.intern_any(seat, word)
     }
 
-    /// The one name of a block of 64 cells. Refused only if every place holds another word.
+    /// The one name of a block of 64 cells. Refused only if every place holds another word, which the seat counts.
     pub fn intern_block(&self, seat: &mut Seat, bits: u64) -> Result<u32, Missed>
         requires of { IsOf seat.old self.now }
         requires some { bits ≢ 0 }
@@ -185,7 +192,7 @@ impl PairTable {
         );
     }
 
-    /// Splits off a second seat, which knows the same and gets `spare` spare seats.
+    /// Splits off a second seat, which knows the same, gets `spare` spare seats, and was refused nothing.
     pub fn split(&self, seat: &mut Seat, spare: u32) -> Seat
         requires of { IsOf seat.old self.now }
         requires fewer { spare < seat.old.spare }
@@ -195,7 +202,11 @@ impl PairTable {
     {
         let inner = cut_off(&self.table.shared, &mut seat.inner, spare as u64);
         seat.spare -= spare + 1;
-        Seat { inner, spare }
+        Seat {
+            inner,
+            spare,
+            refused: 0,
+        }
     }
 
     /// How many seats may still be split off.
@@ -205,16 +216,22 @@ impl PairTable {
         seat.spare
     }
 
-    /// Joins another seat of the same table into this one, which then knows what either knew.
+    /// Joins another seat of the same table into this one, which then knows what either knew and counts the refusals of
+    /// both.
     pub fn join(&self, seat: &mut Seat, other: Seat)
         requires of { IsOf seat.old self.now }
         requires other_of { IsOf other self.now }
         ensures joins { Joins seat.old other seat.new }
         ensures of { IsOf seat.new self.now }
     {
-        let Seat { inner, spare } = other;
+        let Seat {
+            inner,
+            spare,
+            refused,
+        } = other;
         take_in(&self.table.shared, &mut seat.inner, inner);
         seat.spare = seat.spare + spare + 1;
+        seat.refused = seat.refused.saturating_add(refused);
     }
 
     /// Closes the table, and gives its words: node words followed by memo words. All seats must have been joined into
@@ -233,7 +250,11 @@ impl PairTable {
             bits: _,
             seats: _,
         } = self;
-        let Seat { inner, spare: _ } = seat;
+        let Seat {
+            inner,
+            spare: _,
+            refused: _,
+        } = seat;
         let closed = table.close_with(inner);
         let words = copied(alloc, &closed, count + 2 + MEMO_SLOTS as usize);
         closed.free();

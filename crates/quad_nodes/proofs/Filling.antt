@@ -48,6 +48,7 @@ full_quarters m =
     ∙ ap (λ (x : ℕ). quartered m (cells_rect x x) (cells_rect x (m + m - m)) (cells_rect (m + m - m) x) (cells_rect (m + m - m) (m + m - m))) a
     ∙ ap (λ (y : ℕ). quartered m (cells_rect m m) (cells_rect m y) (cells_rect y m) (cells_rect y y)) b)
 
+-- a square is full where its halves are one name, and so are theirs, that of a full square: all its quarters are full
 pub full_by_quarter : (s0 s1 s2 : Keeper) (q : Quad) (north south west east : ℕ) → QuadStands s0 q → bottom_height < q.height → Halve s0 s1 q.name north south → north ≡ south → Halve s1 s2 north west east → west ≡ east
     → cells s2.view.words (depth_of (q.height - 1)) west ≡ all_of (side_of (q.height - 1)) → quad_cells s0 q ≡ all_of (side_of q.height)
 full_by_quarter s0 s1 s2 q north south west east s l h0 ns h1 we full =
@@ -83,6 +84,7 @@ pub record FullHalves (w : Keeper) (h north south : ℕ) : Type 0 where
   pub row : cells w.view.words (suc (depth_of h)) north ≡ paired (depth_of h) (all_of (side_of h)) (all_of (side_of h))
   pub within : Within (rows_at (depth_of h)) (cols_at (depth_of h)) (all_of (side_of h))
 
+-- the halves of a full square are one name: its four quarters are full, so both halves have one set, hence one name
 pub full_halves : (s0 s1 : Keeper) (q : Quad) (north south : ℕ) → IsKeeper s1 → QuadStands s0 q → bottom_height < q.height → Halve s0 s1 q.name north south → quad_cells s0 q ≡ all_of (side_of q.height) → FullHalves s1 (q.height - 1) north south
 full_halves s0 s1 q north south i s l h0 full =
     let W : List ℕ = s1.view.words in

@@ -2,7 +2,7 @@
 -- 1. A word that stands at a name is not missed, and its name is answered (`interns_again`).
 -- 2. The word of a name is the pair of the names of its halves (`pair_word`), and that of a block its bits (`same_block` of `leaf_block`): so pairs and blocks are found (`pair_found`, `block_found`).
 -- 3. Quarters that lie within their squares are read back from a quartered set (`quartered_parts`), so over a quad that stands its four quarters stand (`quarters_stood`): so a corner is found (`corner_found`).
-use Rattle.std.proofs.Common.{◌≡◌, ◌<◌, ◌≤◌, ◌≢◌, ◌+◌, ◌-◌, ◌*◌, ◌^◌, ltb, zero, suc, ℕ, true, false, List, Result, Ok, Err, refl, sym, ap, subst, ◌∙◌, inl, inr, arith, get_or, IsErr}
+use Rattle.std.proofs.Common.{◌≡◌, ◌<◌, ◌≤◌, ◌≢◌, ◌+◌, ◌-◌, ◌*◌, ◌^◌, ltb, zero, suc, ℕ, true, false, List, Result, Ok, Err, refl, sym, ap, subst, ◌∙◌, inl, inr, arith, get_or, IsErr, IfOk}
 use Rattle.std.proofs.lemmas.Result.{IfOk-at_ok}
 use Rattle.std.proofs.lemmas.Bool.{true≢false, cases_Bool, ltb-false, le-ltb, eqb-true, and_parts, or_cases}
 use Rattle.rel_model.specs.declared.Quad.{Quad}
@@ -13,9 +13,11 @@ use Rattle.rel_model.specs.Equations.{depth_of, side_of}
 use Rattle.rel_model.specs.Views.{View, IsSet, Interns}
 use Rattle.rel_model.specs.Quads.{Keeper, IsKeeper, quad_cells, QuadStands, IsQuad, KeepsQuads, ReadsQuads, Counts, one_more_miss}
 use Rattle.rel_model.proofs.TreeLaws.{stored_not_0, stored_below, parts_stand, paired_halves, cells_within, one_set_one_name, same_cells, Within, out_of}
+use Rattle.rel_model.proofs.NamesStand.{pair_set}
 use Rattle.rel_model.proofs.Squares.{rows_at-twice, cols_at-twice, four_squares}
 use Rattle.rel_model.proofs.QuadLaws.{depth_of-next, is_quad-stays, reads_itself, reads_on, set_after}
 use Rattle.leaf_block.proofs.Sets.{same_block}
+use Rattle.quad_nodes.specs.Halves.{IsPaired}
 use Rattle.quad_nodes.specs.Finding.{Finds, FindsQuad, FindsPair}
 
 -- a refusal is no answer
@@ -48,6 +50,11 @@ interns_again v w word n (Ok m) dv dw h x i =
     let e : m ≡ n = dw.one_place m n (λ z. h (sym i.named.1 ∙ z)) (i.named.1 ∙ sym y) in
     record { answer = ap Ok e; made = elim i.made [ inl a ↦ a | inr p ↦ absurd (p.absent n x) ] }
 
+-- a keeper whose misses are its seat's refusals counts a word that was refused
+pub refusals_count : {E : Type 0} (v w : Keeper) (word : ℕ) (r : Result ℕ E) → v.misses ≡ v.view.refused → w.misses ≡ w.view.refused → Interns v.view w.view word r → Counts v w r
+refusals_count v w word (Ok n) e f i = f ∙ i.granted refl ∙ sym e
+refusals_count v w word (Err x) e f i = f ∙ i.refused refl ∙ ap one_more_miss (sym e)
+
 -- a call that made nothing and missed nothing only read
 reads_from : {T E : Type 0} (m : ℕ) (v w : Keeper) (x : T) (r : Result T E) → KeepsQuads m v w → Counts v w r → r ≡ Ok x → w.view.made ≡ v.view.made → ReadsQuads v w
 reads_from {T} {E} m v w x r k c e made =
@@ -79,11 +86,10 @@ pair_found v w a b r h k c i depth name f g s t u =
     let x = interns_again v.view w.view (a * 2 ^ 32 + b) name r k.before.of.canonical k.after.of.canonical some (pair_word v.view depth name a b f g k.before.of.canonical s t u) i in
     record { answer = x.answer; reads = reads_from 1 v w name r k c x.answer x.made }
 
--- a word of which a name stands is not missed
-pub pair_missed : {D E : Type 0} (v w : Keeper) (u : View) (a b : ℕ) (e : D) (r : Result ℕ E) → a + b ≢ 0 → IsDistinct v.view.words → IsDistinct u.words → Interns v.view u (a * 2 ^ 32 + b) (Err e) → FindsPair v w a b r
-pair_missed v w u a b e r h d n i depth name f g s t x =
-    let some : a * 2 ^ 32 + b ≢ 0 = omega arith in
-    absurd (no_answer e name (Err e) refl (interns_again v.view u (a * 2 ^ 32 + b) name (Err e) d n some (pair_word v.view depth name a b f g d s t x) i).answer)
+-- its answer has the pairing of the two names' sets
+pub pair_is : {E : Type 0} (v w : Keeper) (a b : ℕ) (r : Result ℕ E) → b < 2 ^ 32 → a + b ≢ 0 → KeepsQuads 1 v w → Interns v.view w.view (a * 2 ^ 32 + b) r → IfOk r (IsPaired v w a b)
+pair_is v w a b (Ok n) l h k i = λ depth f g s t. pair_set v.view w.view a b n depth f g l h k.before.of.canonical k.after.of.canonical i s t
+pair_is v w a b (Err e) l h k i = tt
 
 -- nothing beside nothing
 pub pair_found-none : {E : Type 0} (v : Keeper) (a b : ℕ) → a ≡ 0 → b ≡ 0 → IsKeeper v → FindsPair {E = E} v v a b (Ok 0)
@@ -126,6 +132,7 @@ block_found {E} v w bits n h l k c i q s =
     ap (λ (m : ℕ). quad_of bottom_height m) e ∙ ap (λ (m : ℕ). quad_of m q.name) (sym s.same_height) in
     record { answer = ap Ok y; reads = reads_from {E = E} 1 v w n (Ok n) k c refl x.made }
 
+-- a word of which a name stands is not missed
 pub block_missed : {D E : Type 0} (v w : Keeper) (u : View) (bits : ℕ) (e : D) (r : Result Quad E) → bits ≢ 0 → bits < 2 ^ 64 → IsDistinct v.view.words → IsDistinct u.words → Interns v.view u bits (Err e) → FindsQuad v w bottom_height (block_cells bits) r
 block_missed v w u bits e r h l d n i q s =
     absurd (no_answer e q.name (Err e) refl (interns_again v.view u bits q.name (Err e) d n h (block_word v bits q d l s) i).answer)
@@ -204,6 +211,8 @@ pub record QuartersStood (w : Keeper) (h : ℕ) (q : Quad) (f0 f1 f2 f3 : Cells)
   pub sw_is : IsQuad w h f2 (record { height = h; name = sw })
   pub se_is : IsQuad w h f3 (record { height = h; name = se })
 
+-- where a quad stands, so do its four quarters: sets within their squares are read back from the whole, so the quarters
+-- that its words name have these sets
 pub quarters_stood : (w : Keeper) (h : ℕ) (q : Quad) (f0 f1 f2 f3 : Cells) → IsKeeper w → bottom_height ≤ h → AreWithin (side_of h) f0 f1 f2 f3 → IsQuad w (h + 1) (quartered (side_of h) f0 f1 f2 f3) q → QuartersStood w h q f0 f1 f2 f3
 quarters_stood w h q f0 f1 f2 f3 i low a s =
     let W : List ℕ = w.view.words in

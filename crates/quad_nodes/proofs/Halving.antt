@@ -39,9 +39,11 @@ Halve v w n a b = (k : ℕ) → stands v.view.words (suc k) n ≡ true → AreHa
 pub halves_stand : (v w : Keeper) (q : Quad) (a b : ℕ) → QuadStands v q → bottom_height < q.height → Halve v w q.name a b → AreHalves v w (suc (depth_of (q.height - 1))) q.name a b
 halves_stand v w q a b s l h = h (suc (depth_of (q.height - 1))) (subst (λ (m : ℕ). stands v.view.words m q.name ≡ true) (depth_of-next q.height l) s.standing)
 
+-- the halves of a quad's halves are its quarters: two pairings are one quartered square, and each name that was read
+-- keeps standing through the later calls
 pub quarters_are : (s0 s1 s2 s3 : Keeper) (q : Quad) (north south nw ne sw se : ℕ) → QuadStands s0 q → bottom_height < q.height → ReadsQuads s0 s1 → ReadsQuads s1 s2 → ReadsQuads s2 s3
     → Halve s0 s1 q.name north south → Halve s1 s2 north nw ne → Halve s2 s3 south sw se
-    → AreQuarters s0 s3 q (record { height = q.height - 1; name = nw }, record { height = q.height - 1; name = ne }, record { height = q.height - 1; name = sw }, record { height = q.height - 1; name = se })
+    → AreQuarters s0 s3 q (record { nw = record { height = q.height - 1; name = nw }; ne = record { height = q.height - 1; name = ne }; sw = record { height = q.height - 1; name = sw }; se = record { height = q.height - 1; name = se } })
 quarters_are s0 s1 s2 s3 q north south nw ne sw se s l r0 r1 r2 h0 h1 h2 =
     let k : ℕ = depth_of (q.height - 1) in
     let x1 : KeepsQuads 0 s1 s2 = r1.keeps in
@@ -75,6 +77,8 @@ set_of-quad w h q e s = record {
   means = sym (ap (λ (m : ℕ). cells w.view.words (depth_of m) q.name) e);
 }
 
+-- two pairs, paired in turn, are the quad of four quarters: sets are kept from call to call, and two pairings are one
+-- quartered square
 pub corner_is : (l m n : ℕ) (s0 s1 s2 s3 : Keeper) (nw ne sw se : Quad) (north south name : ℕ) → QuadStands s0 nw → QuadStands s0 ne → QuadStands s0 sw → QuadStands s0 se
     → ne.height ≡ nw.height → sw.height ≡ nw.height → se.height ≡ nw.height → nw.height < top_height
     → KeepsQuads l s0 s1 → KeepsQuads m s1 s2 → KeepsQuads n s2 s3 → IsPaired s0 s1 nw.name ne.name north → IsPaired s1 s2 sw.name se.name south → IsPaired s2 s3 north south name

@@ -40,6 +40,8 @@ pub record IsPlace (v w : Keeper) (q quarter : Quad) (i j row col : ℕ) : Type 
   pub col_in : col < side_of quarter.height
   pub same : quad_cells v q i j ≡ quad_cells w quarter row col
 
+-- a cell of a square is a cell of one quarter: the row picks the half and the column its half, and past the middle each
+-- is moved back by half a side
 pub place_is : (s0 s1 s2 : Keeper) (q : Quad) (i j m north south wide row west east name col : ℕ) → QuadStands s0 q → bottom_height < q.height → i < side_of q.height → j < side_of q.height → m ≡ side_of (q.height - 1)
     → Halve s0 s1 q.name north south → wide ≡ cond (ltb i m) north south → row ≡ cond (ltb i m) i (i - m) → Halve s1 s2 wide west east → name ≡ cond (ltb j m) west east → col ≡ cond (ltb j m) j (j - m)
     → IsPlace s0 s2 q (record { height = q.height - 1; name = name }) i j row col

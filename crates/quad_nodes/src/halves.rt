@@ -39,12 +39,6 @@ impl<'t> Nodes<'t> {
         if left == 0 && right == 0 {
             return Ok(0);
         }
-        match self.table.intern(&mut self.seat, left, right) {
-            Ok(name) => Ok(name),
-            Err(Missed) => {
-                self.misses = self.misses.saturating_add(1);
-                Err(Missed)
-            }
-        }
+        self.table.intern(&mut self.seat, left, right)
     }
 }

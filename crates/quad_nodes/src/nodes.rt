@@ -1,13 +1,12 @@
-//! A keeper of quads: a table, a seat at it, and a count of misses.
+//! A keeper of quads: a table and a seat at it, which counts the misses.
 use pair_table::{PairTable, Seat};
 use std::marker::Model;
 
-/// A table, a seat at it, and how often no place for a word was found there. 24 bytes.
+/// A table, and a seat at it. The misses of the keeper are the refusals that the seat counts. 24 bytes.
 #[derive(Drop)]
 pub struct Nodes<'t> {
     pub(crate) table: &'t PairTable,
     pub(crate) seat: Seat,
-    pub(crate) misses: u64,
 }
 
 impl<'t> Model for Nodes<'t> {
@@ -15,7 +14,7 @@ impl<'t> Model for Nodes<'t> {
 
     ghost Value = { Keeper };
 
-    ghost view = { λ n. record { table = n.table.now; view = n.seat; misses = n.misses } };
+    ghost view = { λ n. record { table = n.table.now; view = n.seat; misses = n.seat.refused } };
 
-    ghost invariant = { λ n. IsKeeper (record { table = n.table.now; view = n.seat; misses = n.misses }) };
+    ghost invariant = { λ n. IsKeeper (record { table = n.table.now; view = n.seat; misses = n.seat.refused }) };
 }

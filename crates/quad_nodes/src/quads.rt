@@ -8,7 +8,7 @@ ghost use Rattle.quad_nodes.specs.Finding.{FindsQuad};
 
 use crate::nodes::Nodes;
 use pair_table::Missed;
-use rel_model::Quad;
+use rel_model::{Quad, Quarters};
 
 impl<'t> Nodes<'t> {
     /// The height of the leaves, which are blocks of 8 by 8 cells.
@@ -23,7 +23,7 @@ impl<'t> Nodes<'t> {
     }
 
     /// The quarters of a quad above the blocks: north-west, north-east, south-west and south-east.
-    pub fn quarters(&mut self, q: Quad) -> (Quad, Quad, Quad, Quad)
+    pub fn quarters(&mut self, q: Quad) -> Quarters
         requires stands { QuadStands self.old q }
         requires over { bottom_height < q.height }
         ensures quarters { AreQuarters self.old self.new q result }
@@ -33,12 +33,12 @@ impl<'t> Nodes<'t> {
         let (nw, ne) = self.halves(north);
         let (sw, se) = self.halves(south);
         let height = q.height - 1;
-        (
-            Quad { height, name: nw },
-            Quad { height, name: ne },
-            Quad { height, name: sw },
-            Quad { height, name: se },
-        )
+        Quarters {
+            nw: Quad { height, name: nw },
+            ne: Quad { height, name: ne },
+            sw: Quad { height, name: sw },
+            se: Quad { height, name: se },
+        }
     }
 
     /// Reads the word of a quad, and above the blocks those of its halves, so that a later read of them need not wait
@@ -59,27 +59,23 @@ impl<'t> Nodes<'t> {
     /// The quarters of a quad, as `quarters` gives them. Reads their words and those of their halves in one go, so that
     /// these reads wait neither for one another nor for words that are placed meanwhile.
     #[inline(always)]
-    pub fn quarters_ahead(&mut self, q: Quad) -> (Quad, Quad, Quad, Quad)
+    pub fn quarters_ahead(&mut self, q: Quad) -> Quarters
         requires stands { QuadStands self.old q }
         requires over { bottom_height < q.height }
         ensures quarters { AreQuarters self.old self.new q result }
         ensures reads { ReadsQuads self.old self.new }
     {
-        let (nw, ne, sw, se) = self.quarters(q);
-        self.read_ahead(nw);
-        self.read_ahead(ne);
-        self.read_ahead(sw);
-        self.read_ahead(se);
-        (nw, ne, sw, se)
+        let four = self.quarters(q);
+        self.read_ahead(four.nw);
+        self.read_ahead(four.ne);
+        self.read_ahead(four.sw);
+        self.read_ahead(four.se);
+        four
     }
 
     /// The quarters of two quads, each as `quarters_ahead` gives them.
     #[inline(always)]
-    pub fn quarters_of_both(
-        &mut self,
-        a: Quad,
-        b: Quad,
-    ) -> ((Quad, Quad, Quad, Quad), (Quad, Quad, Quad, Quad))
+    pub fn quarters_of_both(&mut self, a: Quad, b: Quad) -> (Quarters, Quarters)
         requires a_stands { QuadStands self.old a }
         requires b_stands { QuadStands self.old b }
         requires a_over { bottom_height < a.height }
@@ -132,7 +128,7 @@ impl<'t> Nodes<'t> {
         ensures reads { ReadsQuads self.old self.new }
     {
         let _ = &self.seat;
-        if q.name == 0 {
+        if q.is_empty() {
             return 0;
         }
         self.table.block_of(&mut self.seat, q.name)
@@ -150,14 +146,9 @@ impl<'t> Nodes<'t> {
     {
         let _ = &self.seat;
         if bits == 0 {
-            return Ok(Quad { height: 3, name: 0 });
+            return Ok(Quad::empty(3));
         }
-        match self.table.intern_block(&mut self.seat, bits) {
-            Ok(name) => Ok(Quad { height: 3, name }),
-            Err(Missed) => {
-                self.misses = self.misses.saturating_add(1);
-                Err(Missed)
-            }
-        }
+        let name = self.table.intern_block(&mut self.seat, bits)?;
+        Ok(Quad { height: 3, name })
     }
 }

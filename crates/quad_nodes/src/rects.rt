@@ -32,7 +32,7 @@ impl<'t> Nodes<'t> {
     {
         let bottom = self.bottom();
         if rows == 0 || cols == 0 {
-            return Ok(Quad { height, name: 0 });
+            return Ok(Quad::empty(height));
         }
         if height == bottom {
             return self.block(block_rect(rows, cols));

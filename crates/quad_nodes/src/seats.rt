@@ -7,17 +7,13 @@ use crate::nodes::Nodes;
 use pair_table::{PairTable, Seat};
 
 impl<'t> Nodes<'t> {
-    /// A keeper of quads at a seat of a table, without a miss so far.
+    /// A keeper of quads at a seat of a table. Its misses are the refusals that the seat counts, those before included.
     pub fn new(table: &'t PairTable, seat: Seat) -> Nodes<'t>
         requires of { IsOf seat table.now }
-        ensures value { result ≡ record { table = table.now; view = seat; misses = 0 } }
+        ensures value { result ≡ record { table = table.now; view = seat; misses = seat.refused } }
         ensures work { IsKeeper result }
     {
-        Nodes {
-            table,
-            seat,
-            misses: 0,
-        }
+        Nodes { table, seat }
     }
 
     /// Splits off a second keeper, which knows the same, gets `spare` spare seats, and has missed nothing.
@@ -29,7 +25,6 @@ impl<'t> Nodes<'t> {
         Nodes {
             table: self.table,
             seat,
-            misses: 0,
         }
     }
 
@@ -45,13 +40,8 @@ impl<'t> Nodes<'t> {
         requires one_table { other.table ≡ self.old.table }
         ensures { JoinsKeeper self.old other.entry self.new }
     {
-        let Nodes {
-            table: _,
-            seat,
-            misses,
-        } = other;
+        let Nodes { table: _, seat } = other;
         self.table.join(&mut self.seat, seat);
-        self.misses = self.misses.saturating_add(misses);
     }
 
     /// Gives the seat back.

@@ -40,6 +40,8 @@ below c d n l =
     let e : c * (4 * m) ≡ 4 * c * m = sym (mul_assoc c 4 m) ∙ ap (λ (x : ℕ). x * m) (mul_comm c 4) in
     subst (λ (x : ℕ). x ≤ n) e l
 
+-- an operator on each two blocks is the operator on squares: by induction on their height, since it works quarter by
+-- quarter
 pub square_by : (op : Boole) (ws xs ys : List ℕ) (n : ℕ) → ((j : ℕ) → j < n → block_cells (get_or ys j 0) ≡ cells_by op (block_cells (get_or ws j 0)) (block_cells (get_or xs j 0)))
     → (d c : ℕ) → c * blocks_count d ≤ n → (k : ℕ) → k < c → square_cells d ys k ≡ cells_by op (square_cells d ws k) (square_cells d xs k)
 square_by op ws xs ys n e zero c l k m =

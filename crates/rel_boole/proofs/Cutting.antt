@@ -1,8 +1,9 @@
--- Operators cell by cell: operands that are one, that are empty, that are exchanged, and quarters.
-use Rattle.std.proofs.Common.{◌≡◌, ◌≢◌, ◌⊎◌, ◌&&◌, ◌||◌, not, ℕ, Bool, true, false, Some, refl, sym, ap, subst, ◌∙◌, inl, inr, arith}
+-- Operators cell by cell: operands that are one, that are empty, and quarters.
+use Rattle.std.proofs.Common.{◌≡◌, ◌≢◌, ◌≤◌, ◌⊎◌, ◌&&◌, ◌||◌, not, ℕ, Bool, true, false, Some, refl, sym, ap, subst, ◌∙◌, inl, inr, arith}
 use Rattle.rel_model.specs.declared.Quad.{Quad}
+use Rattle.rel_model.specs.declared.Quarters.{Quarters}
 use Rattle.rel_model.specs.Cells.{Cells, no_cells}
-use Rattle.rel_model.specs.Trees.{cells, quartered}
+use Rattle.rel_model.specs.Trees.{bottom_height, top_height, cells, quartered}
 use Rattle.rel_model.specs.Equations.{result_of, depth_of, side_of}
 use Rattle.rel_model.specs.Quads.{Keeper, IsKeeper, quad_cells, QuadStands, IsQuad, AreQuarters}
 use Rattle.rel_model.proofs.TreeLaws.{same_cells}
@@ -10,7 +11,7 @@ use Rattle.rel_model.proofs.Squares.{each_cell-quartered}
 use Rattle.rel_model.proofs.QuadLaws.{empty_quad}
 use Rattle.rel_boole.specs.declared.boole.Boole.{Boole}
 use Rattle.rel_boole.specs.declared.boole.Boole.TheVariants.{Union as UNION, Inter as INTER, Diff as DIFF}
-use Rattle.rel_boole.specs.Cellwise.{holds_by, cells_by, operator_for, CutsOff, IsInOrder}
+use Rattle.rel_boole.specs.Cellwise.{holds_by, cells_by, operator_for, CutsOff}
 
 -- ---- equal and empty operands
 -- the operator on equal operands
@@ -24,6 +25,10 @@ same_by DIFF h x = absurd (h refl)
 -- a quad named 0 has no cell
 pub named_0 : (w : Keeper) (q : Quad) → IsKeeper w → QuadStands w q → q.name ≡ 0 → quad_cells w q ≡ no_cells
 named_0 w q i s e = (empty_quad w q.height q.name i s.low s.high e).means
+
+-- the empty quad of a height
+pub no_quad : (w : Keeper) (h : ℕ) (q : Quad) → q ≡ record { height = h; name = 0 } → IsKeeper w → bottom_height ≤ h → h ≤ top_height → IsQuad w h no_cells q
+no_quad w h q e i l t = subst (λ (x : Quad). IsQuad w h no_cells x) (sym e) (empty_quad w h 0 i l t refl)
 
 -- two quads of one height and one name have one set
 one_name : (w : Keeper) (a b : Quad) → b.height ≡ a.height → a.name ≡ b.name → quad_cells w b ≡ quad_cells w a
@@ -49,11 +54,11 @@ cut_second op a b z n w i s t e =
     record { same_height = e; stands = t; means = f }
 
 -- the result has no cell
-pub cut_none : (op : Boole) (a b : Quad) → ((w : Keeper) → IsKeeper w → QuadStands w a → QuadStands w b → b.height ≡ a.height → (i j : ℕ) → holds_by op (quad_cells w a i j) (quad_cells w b i j) ≡ false)
-    → CutsOff op a b (Some (record { height = a.height; name = 0 }))
-cut_none op a b z w i s t e =
-    let q = empty_quad w a.height 0 i s.low s.high refl in
-    record { same_height = refl; stands = q.stands; means = q.means ∙ sym (same_cells (cells_by op (quad_cells w a) (quad_cells w b)) no_cells (z w i s t e)) }
+pub cut_none : (op : Boole) (a b q : Quad) → q ≡ record { height = a.height; name = 0 } → ((w : Keeper) → IsKeeper w → QuadStands w a → QuadStands w b → b.height ≡ a.height → (i j : ℕ) → holds_by op (quad_cells w a i j) (quad_cells w b i j) ≡ false)
+    → CutsOff op a b (Some q)
+cut_none op a b q n z w i s t e =
+    let x = no_quad w a.height q n i s.low s.high in
+    record { same_height = x.same_height; stands = x.stands; means = x.means ∙ sym (same_cells (cells_by op (quad_cells w a) (quad_cells w b)) no_cells (z w i s t e)) }
 
 and_false : (x : Bool) → (x && false) ≡ false
 and_false true = refl
@@ -80,52 +85,20 @@ union_first a b h = elim h [ inl e ↦ cut_first UNION a b or_false e | inr e �
 pub union_second : (a b : Quad) → a.name ≡ 0 → CutsOff UNION a b (Some b)
 union_second a b e = cut_second UNION a b (λ x. refl) e
 
-pub inter_none : (a b : Quad) → (a.name ≡ 0) ⊎ (b.name ≡ 0) → CutsOff INTER a b (Some (record { height = a.height; name = 0 }))
-inter_none a b h = elim h [
-  | inl e ↦ cut_none INTER a b (λ w i s t g x y. ap (λ (c : Cells). c x y && quad_cells w b x y) (named_0 w a i s e))
-  | inr e ↦ cut_none INTER a b (λ w i s t g x y. ap (λ (c : Cells). quad_cells w a x y && c x y) (named_0 w b i t e) ∙ and_false (quad_cells w a x y))
+pub inter_none : (a b q : Quad) → q ≡ record { height = a.height; name = 0 } → (a.name ≡ 0) ⊎ (b.name ≡ 0) → CutsOff INTER a b (Some q)
+inter_none a b q n h = elim h [
+  | inl e ↦ cut_none INTER a b q n (λ w i s t g x y. ap (λ (c : Cells). c x y && quad_cells w b x y) (named_0 w a i s e))
+  | inr e ↦ cut_none INTER a b q n (λ w i s t g x y. ap (λ (c : Cells). quad_cells w a x y && c x y) (named_0 w b i t e) ∙ and_false (quad_cells w a x y))
 ]
 
-pub diff_none : (a b : Quad) → (a.name ≡ 0) ⊎ (a.name ≡ b.name) → CutsOff DIFF a b (Some (record { height = a.height; name = 0 }))
-diff_none a b h = elim h [
-  | inl e ↦ cut_none DIFF a b (λ w i s t g x y. ap (λ (c : Cells). c x y && not (quad_cells w b x y)) (named_0 w a i s e))
-  | inr e ↦ cut_none DIFF a b (λ w i s t g x y. ap (λ (c : Cells). quad_cells w a x y && not (c x y)) (one_name w a b g e) ∙ and_not (quad_cells w a x y))
+pub diff_none : (a b q : Quad) → q ≡ record { height = a.height; name = 0 } → (a.name ≡ 0) ⊎ (a.name ≡ b.name) → CutsOff DIFF a b (Some q)
+diff_none a b q n h = elim h [
+  | inl e ↦ cut_none DIFF a b q n (λ w i s t g x y. ap (λ (c : Cells). c x y && not (quad_cells w b x y)) (named_0 w a i s e))
+  | inr e ↦ cut_none DIFF a b q n (λ w i s t g x y. ap (λ (c : Cells). quad_cells w a x y && not (c x y)) (one_name w a b g e) ∙ and_not (quad_cells w a x y))
 ]
 
 pub diff_first : (a b : Quad) → b.name ≡ 0 → CutsOff DIFF a b (Some a)
 diff_first a b e = cut_first DIFF a b and_true e
-
--- ---- operands in order
-holds_by-exchanged : (op : Boole) → op ≢ DIFF → (x y : Bool) → holds_by op x y ≡ holds_by op y x
-holds_by-exchanged UNION h true true = refl
-holds_by-exchanged UNION h true false = refl
-holds_by-exchanged UNION h false true = refl
-holds_by-exchanged UNION h false false = refl
-holds_by-exchanged INTER h true true = refl
-holds_by-exchanged INTER h true false = refl
-holds_by-exchanged INTER h false true = refl
-holds_by-exchanged INTER h false false = refl
-holds_by-exchanged DIFF h x y = absurd (h refl)
-
-pub record Ordered (w : Keeper) (op : Boole) (a b first second : Quad) : Type 0 where
-  pub first_stands : QuadStands w first
-  pub second_stands : QuadStands w second
-  pub first_height : first.height ≡ a.height
-  pub one_height : second.height ≡ first.height
-  pub same : cells_by op (quad_cells w first) (quad_cells w second) ≡ cells_by op (quad_cells w a) (quad_cells w b)
-
-pub ordered : (w : Keeper) (op : Boole) (a b : Quad) (pair : Quad × Quad) → QuadStands w a → QuadStands w b → b.height ≡ a.height → IsInOrder op a b pair → Ordered w op a b pair.0 pair.1
-ordered w op a b pair s t e o = elim o [
-  | inl p ↦ subst (λ (x : Quad × Quad). Ordered w op a b x.0 x.1) (sym p) (record { first_stands = s; second_stands = t; first_height = refl; one_height = e; same = refl })
-  | inr p ↦ subst (λ (x : Quad × Quad). Ordered w op a b x.0 x.1) (sym p.1)
-      (record {
-        first_stands = t;
-        second_stands = s;
-        first_height = e;
-        one_height = sym e;
-        same = same_cells (cells_by op (quad_cells w b) (quad_cells w a)) (cells_by op (quad_cells w a) (quad_cells w b)) (λ i j. holds_by-exchanged op p.0 (quad_cells w b i j) (quad_cells w a i j));
-      })
-]
 
 -- ---- the operator as equations have it
 pub result_of-by : (op : Boole) (m : ℕ) (f g : Cells) → result_of (operator_for op) m f g ≡ cells_by op f g
@@ -134,11 +107,11 @@ result_of-by INTER m f g = refl
 result_of-by DIFF m f g = refl
 
 -- ---- quarters
-pub by_quarters : (op : Boole) (v w : Keeper) (a b : Quad) (fa fb : Quad × Quad × Quad × Quad) → b.height ≡ a.height → AreQuarters v w a fa → AreQuarters v w b fb
-    → quartered (side_of fa.0.height) (cells_by op (quad_cells w fa.0) (quad_cells w fb.0)) (cells_by op (quad_cells w fa.1) (quad_cells w fb.1)) (cells_by op (quad_cells w fa.2) (quad_cells w fb.2)) (cells_by op (quad_cells w fa.3) (quad_cells w fb.3))
+pub by_quarters : (op : Boole) (v w : Keeper) (a b : Quad) (fa fb : Quarters) → b.height ≡ a.height → AreQuarters v w a fa → AreQuarters v w b fb
+    → quartered (side_of fa.nw.height) (cells_by op (quad_cells w fa.nw) (quad_cells w fb.nw)) (cells_by op (quad_cells w fa.ne) (quad_cells w fb.ne)) (cells_by op (quad_cells w fa.sw) (quad_cells w fb.sw)) (cells_by op (quad_cells w fa.se) (quad_cells w fb.se))
     ≡ cells_by op (quad_cells v a) (quad_cells v b)
 by_quarters op v w a b fa fb e p q =
-    let h : fb.0.height ≡ fa.0.height = (let x = p.nw_height in let y = q.nw_height in omega arith) in
-    sym (each_cell-quartered (holds_by op) (side_of fa.0.height) (quad_cells w fa.0) (quad_cells w fa.1) (quad_cells w fa.2) (quad_cells w fa.3) (quad_cells w fb.0) (quad_cells w fb.1) (quad_cells w fb.2) (quad_cells w fb.3))
-    ∙ ap (λ (c : Cells). cells_by op c (quartered (side_of fa.0.height) (quad_cells w fb.0) (quad_cells w fb.1) (quad_cells w fb.2) (quad_cells w fb.3))) (sym p.means)
-    ∙ ap (λ (c : Cells). cells_by op (quad_cells v a) c) (ap (λ (x : ℕ). quartered (side_of x) (quad_cells w fb.0) (quad_cells w fb.1) (quad_cells w fb.2) (quad_cells w fb.3)) (sym h) ∙ sym q.means)
+    let h : fb.nw.height ≡ fa.nw.height = (let x = p.nw_height in let y = q.nw_height in omega arith) in
+    sym (each_cell-quartered (holds_by op) (side_of fa.nw.height) (quad_cells w fa.nw) (quad_cells w fa.ne) (quad_cells w fa.sw) (quad_cells w fa.se) (quad_cells w fb.nw) (quad_cells w fb.ne) (quad_cells w fb.sw) (quad_cells w fb.se))
+    ∙ ap (λ (c : Cells). cells_by op c (quartered (side_of fa.nw.height) (quad_cells w fb.nw) (quad_cells w fb.ne) (quad_cells w fb.sw) (quad_cells w fb.se))) (sym p.means)
+    ∙ ap (λ (c : Cells). cells_by op (quad_cells v a) c) (ap (λ (x : ℕ). quartered (side_of x) (quad_cells w fb.nw) (quad_cells w fb.ne) (quad_cells w fb.sw) (quad_cells w fb.se)) (sym h) ∙ sym q.means)

@@ -8,11 +8,11 @@ use Rattle.rel_model.specs.Equations.{Operator, result_of, depth_of, side_of}
 use Rattle.rel_model.specs.Quads.{Keeper, quad_cells, QuadStands, IsQuad, ReadsQuads}
 use Rattle.rel_model.proofs.TreeLaws.{same_cells, cells_within}
 use Rattle.rel_model.proofs.Squares.{rows_at-twice, cols_at-twice}
-use Rattle.rel_model.proofs.QuadLaws.{reads_on, quad_stays, quad_cells-stay, empty_quad}
+use Rattle.rel_model.proofs.QuadLaws.{reads_on, quad_stays, quad_cells-stay}
 use Rattle.rel_boole.specs.declared.boole.Boole.{Boole}
 use Rattle.rel_boole.specs.declared.boole.Boole.TheVariants.{Union as UNION, Inter as INTER, Diff as DIFF}
 use Rattle.rel_boole.specs.Cellwise.{cells_by, operator_for, CutsOffFull}
-use Rattle.rel_boole.proofs.Cutting.{result_of-by}
+use Rattle.rel_boole.proofs.Cutting.{result_of-by, no_quad}
 
 -- a quad lies within its square
 pub square_has : (w : Keeper) (q : Quad) (i j : ℕ) → quad_cells w q i j ≡ true → cells_rect (side_of q.height) (side_of q.height) i j ≡ true
@@ -81,10 +81,10 @@ pub inter_full_second : (a b : Quad) (r : Bool) → CutsOffFull INTER a b r true
 inter_full_second a b r w i p q e f g =
     record { same_height = refl; stands = p; means = sym (ap (λ (c : Cells). cells_by INTER (quad_cells w a) c) (g refl) ∙ same_cells _ (quad_cells w a) (λ x y. and_right_full (all_cells b x y) (quad_cells w a x y) (other_has_back w a b e x y))) }
 
-pub diff_full_second : (a b : Quad) (r : Bool) → CutsOffFull DIFF a b r true (Some (record { height = a.height; name = 0 }))
-diff_full_second a b r w i p q e f g =
-    let n = empty_quad w a.height 0 i p.low p.high refl in
-    record { same_height = refl; stands = n.stands; means = n.means ∙ sym (ap (λ (c : Cells). cells_by DIFF (quad_cells w a) c) (g refl) ∙ same_cells _ no_cells (λ x y. diff_full (all_cells b x y) (quad_cells w a x y) (other_has_back w a b e x y))) }
+pub diff_full_second : (a b none : Quad) (r : Bool) → none ≡ record { height = a.height; name = 0 } → CutsOffFull DIFF a b r true (Some none)
+diff_full_second a b none r z w i p q e f g =
+    let n = no_quad w a.height none z i p.low p.high in
+    record { same_height = n.same_height; stands = n.stands; means = n.means ∙ sym (ap (λ (c : Cells). cells_by DIFF (quad_cells w a) c) (g refl) ∙ same_cells _ no_cells (λ x y. diff_full (all_cells b x y) (quad_cells w a x y) (other_has_back w a b e x y))) }
 
 -- ---- seen from before the calls
 pub found_full : (s0 s1 s2 : Keeper) (op : Boole) (a b : Quad) (a_full b_full : Bool) (r : Option Quad) → QuadStands s0 a → QuadStands s0 b → b.height ≡ a.height → ReadsQuads s0 s1 → ReadsQuads s1 s2

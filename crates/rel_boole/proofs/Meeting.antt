@@ -2,20 +2,21 @@
 -- 1. A quad has no cell exactly where its name is 0, since one set has one name; a block, where its word is 0.
 -- 2. So where the intersection has a name, by a cut or a note, its name says whether the quads meet.
 -- 3. Else four sets within their squares are empty exactly where the set of which they are the quarters is.
-use Rattle.std.proofs.Common.{◌≡◌, ◌<◌, ◌↔◌, ◌^◌, eqb, ltb, not, ℕ, Bool, true, false, refl, sym, ap, ◌∙◌, inl, inr, arith}
+use Rattle.std.proofs.Common.{◌≡◌, ◌≢◌, ◌<◌, ◌↔◌, ◌^◌, eqb, ltb, not, ℕ, Bool, true, false, refl, sym, ap, ◌∙◌, inl, inr, arith}
 use Rattle.std.proofs.lemmas.Bool.{cases_Bool, false≢true, eqb-true, eq-eqb}
 use Rattle.rel_model.specs.declared.Quad.{Quad}
+use Rattle.rel_model.specs.declared.Quarters.{Quarters}
 use Rattle.rel_model.specs.Cells.{Cells, no_cells, block_cells}
 use Rattle.rel_model.specs.Trees.{quartered}
 use Rattle.rel_model.specs.Equations.{depth_of, side_of}
 use Rattle.rel_model.specs.Quads.{Keeper, IsKeeper, quad_cells, QuadStands, IsQuad, KeepsQuads, ReadsQuads}
 use Rattle.rel_model.proofs.TreeLaws.{same_cells, zero_cells, zero_stands, one_set_one_name, Within}
-use Rattle.rel_model.proofs.QuadLaws.{empty_quad, keeps_on}
+use Rattle.rel_model.proofs.QuadLaws.{keeps_on}
 use Rattle.leaf_block.proofs.Sets.{same_block, block_cells-zero}
 use Rattle.quad_nodes.proofs.Finding.{AreSame, quartered_parts}
 use Rattle.quad_nodes.proofs.Making.{AreParts}
 use Rattle.rel_boole.specs.declared.boole.Boole.TheVariants.{Inter as INTER}
-use Rattle.rel_boole.proofs.Cutting.{named_0}
+use Rattle.rel_boole.proofs.Cutting.{no_quad, named_0}
 use Rattle.rel_boole.proofs.Combining.{HaveQuarters, StandBelow, part, are_parts, operands_stay, ne_stand, sw_stand, se_stand}
 
 -- whether a set is empty, as a call tells it
@@ -33,11 +34,11 @@ is_0 : (n : ℕ) → n ≡ 0 → not (eqb n 0) ≡ false
 is_0 n e = ap not (eq-eqb n 0 e)
 
 -- the name of the intersection tells whether it is empty
-pub told_by_name : {w : Keeper} {h : ℕ} {f : Cells} {q : Quad} → IsKeeper w → IsQuad w h f q → Tells (not (eqb q.name 0)) f
-told_by_name {w} {h} {f} {q} i s = (
-  (λ e. sym s.means ∙ named_0 w q i s.stands (not_0 q.name e)),
-  (λ e. is_0 q.name (none_named w q i s.stands (s.means ∙ e))),
-)
+pub told_by_name : {w : Keeper} {h : ℕ} {f : Cells} {q : Quad} {t : Bool} → IsKeeper w → IsQuad w h f q → (t ≡ true → q.name ≡ 0) → (t ≡ false → q.name ≢ 0) → Tells (not t) f
+told_by_name {w} {h} {f} {q} {t} i s empty filled = elim (cases_Bool t) [
+  | inl a ↦ ((λ e. sym s.means ∙ named_0 w q i s.stands (empty a)), (λ e. ap not a))
+  | inr a ↦ ((λ e. absurd (false≢true (sym e ∙ ap not a))), (λ e. absurd (filled a (none_named w q i s.stands (s.means ∙ e)))))
+]
 
 -- so does the word of the common block
 pub told_by_word : {f : Cells} {bits : ℕ} → bits < 2 ^ 64 → block_cells bits ≡ f → Tells (not (eqb bits 0)) f
@@ -84,8 +85,8 @@ pub met : {t : Bool} {f g : Cells} → t ≡ true → Tells t g → (f ≡ no_ce
 met e s h = ((λ z. absurd (false≢true (sym z))), (λ z. absurd (false≢true (sym (s.1 (h z)) ∙ e))))
 
 -- where no two quarters meet, each told of its own state, the squares do not
-pub none_met : {s0 s2 v1 v2 v3 : Keeper} {a b : Quad} {fa fb : Quad × Quad × Quad × Quad} {t0 t1 t2 t3 : Bool} → HaveQuarters s0 s2 a b fa fb → ReadsQuads s2 v1 → ReadsQuads v1 v2 → ReadsQuads v2 v3
-    → Tells t0 (part INTER s2 fa.0 fb.0) → Tells t1 (part INTER v1 fa.1 fb.1) → Tells t2 (part INTER v2 fa.2 fb.2) → Tells t3 (part INTER v3 fa.3 fb.3) → t0 ≡ false → t1 ≡ false → t2 ≡ false → t3 ≡ false
+pub none_met : {s0 s2 v1 v2 v3 : Keeper} {a b : Quad} {fa fb : Quarters} {t0 t1 t2 t3 : Bool} → HaveQuarters s0 s2 a b fa fb → ReadsQuads s2 v1 → ReadsQuads v1 v2 → ReadsQuads v2 v3
+    → Tells t0 (part INTER s2 fa.nw fb.nw) → Tells t1 (part INTER v1 fa.ne fb.ne) → Tells t2 (part INTER v2 fa.sw fb.sw) → Tells t3 (part INTER v3 fa.se fb.se) → t0 ≡ false → t1 ≡ false → t2 ≡ false → t3 ≡ false
     → part INTER s0 a b ≡ no_cells
 none_met {s0} {s2} {v1} {v2} {v3} q r1 r2 r3 x0 x1 x2 x3 e0 e1 e2 e3 =
     let k2 = keeps_on 0 0 s2 v1 v2 r1.keeps r2.keeps in
@@ -93,7 +94,7 @@ none_met {s0} {s2} {v1} {v2} {v3} q r1 r2 r3 x0 x1 x2 x3 e0 e1 e2 e3 =
     square_none (are_parts INTER q) (x0.0 e0) ((told_before r1.keeps (ne_stand q) x1).0 e1) ((told_before k2 (sw_stand q) x2).0 e2) ((told_before k3 (se_stand q) x3).0 e3)
 
 -- that the intersection is empty may be noted later
-pub none_noted : {m : ℕ} {v w : Keeper} {a b : Quad} → KeepsQuads m v w → QuadStands v a → QuadStands v b → part INTER v a b ≡ no_cells → IsQuad w a.height (part INTER w a b) (record { height = a.height; name = 0 })
-none_noted {m} {v} {w} {a} {b} k s t e =
-    let n = empty_quad w a.height 0 k.after s.low s.high refl in
-    record { same_height = refl; stands = n.stands; means = n.means ∙ sym (operands_stay INTER k s t ∙ e) }
+pub none_noted : {m : ℕ} {v w : Keeper} {a b none : Quad} → none ≡ record { height = a.height; name = 0 } → KeepsQuads m v w → QuadStands v a → QuadStands v b → part INTER v a b ≡ no_cells → IsQuad w a.height (part INTER w a b) none
+none_noted {m} {v} {w} {a} {b} {none} z k s t e =
+    let n = no_quad w a.height none z k.after s.low s.high in
+    record { same_height = n.same_height; stands = n.stands; means = n.means ∙ sym (operands_stay INTER k s t ∙ e) }

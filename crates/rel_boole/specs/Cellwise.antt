@@ -1,5 +1,5 @@
 -- Operators that work cell by cell.
-use Rattle.std.specs.Prelude.{◌≡◌, ◌≢◌, ◌⊎◌, ◌&&◌, ◌||◌, not, Bool, true, Option, IfSome}
+use Rattle.std.specs.Prelude.{◌≡◌, ◌&&◌, ◌||◌, not, Bool, true, Option, IfSome}
 use Rattle.rel_model.specs.declared.Quad.{Quad}
 use Rattle.rel_model.specs.Cells.{Cells, cells_rect}
 use Rattle.rel_model.specs.Equations.{Operator, Union, Inter, Diff, side_of}
@@ -27,10 +27,6 @@ operator_for DIFF = Diff
 abbrev pub CutsOff : Boole → Quad → Quad → Option Quad → Type 0
 CutsOff op a b answer = (w : Keeper) → IsKeeper w → QuadStands w a → QuadStands w b → b.height ≡ a.height
     → IfSome answer (IsQuad w a.height (cells_by op (quad_cells w a) (quad_cells w b)))
-
--- both operands as they are, or exchanged if that makes no difference
-abbrev pub IsInOrder : Boole → Quad → Quad → Quad × Quad → Type 0
-IsInOrder op a b pair = (pair ≡ (a, b)) ⊎ ((op ≢ DIFF) × (pair ≡ (b, a)))
 
 -- if there is an answer, it is the operator's result in all words in which both operands stand and are full squares as
 -- far as they are said to be

@@ -4,10 +4,9 @@ ghost use Rattle.rel_model.specs.Trees.{bottom_height};
 ghost use Rattle.rel_model.specs.Quads.{Keeper, QuadStands, AreQuarters, ReadsQuads};
 
 use crate::boole::Boole;
-use crate::cuts::in_order;
 use crate::found::op_of;
 use quad_nodes::Nodes;
-use rel_model::Quad;
+use rel_model::{Quad, Quarters};
 
 /// Reads the memo word of two quads above the blocks, so that looking it up later need not wait.
 #[inline(always)]
@@ -21,8 +20,7 @@ fn look_ahead(nodes: &mut Nodes, op: Boole, a: Quad, b: Quad)
     if a.height == bottom {
         return;
     }
-    let (first, second) = in_order(op, a, b);
-    nodes.look(op_of(op), first, second);
+    nodes.look(op_of(op), a, b);
 }
 
 /// Reads what the recursion on two quads reads first, unless the result follows at once.
@@ -35,7 +33,7 @@ fn read_ahead(nodes: &mut Nodes, op: Boole, a: Quad, b: Quad)
 {
     // This use makes the checker open the invariant of `nodes`, which the early return below needs.
     let _ = nodes.bottom();
-    if a.name == 0 || b.name == 0 || a.name == b.name {
+    if a.is_empty() || b.is_empty() || a.name == b.name {
         return;
     }
     nodes.read_ahead(a);
@@ -46,12 +44,7 @@ fn read_ahead(nodes: &mut Nodes, op: Boole, a: Quad, b: Quad)
 /// The quarters of two quads. What the recursion reads first of each two quarters is read in one go, so that these
 /// reads wait neither for one another nor for words that are placed meanwhile.
 #[inline(always)]
-pub fn quarters_to_combine(
-    nodes: &mut Nodes,
-    op: Boole,
-    a: Quad,
-    b: Quad,
-) -> ((Quad, Quad, Quad, Quad), (Quad, Quad, Quad, Quad))
+pub fn quarters_to_combine(nodes: &mut Nodes, op: Boole, a: Quad, b: Quad) -> (Quarters, Quarters)
     requires a_stands { QuadStands nodes.old a }
     requires b_stands { QuadStands nodes.old b }
     requires one_height { b.height ≡ a.height }
@@ -62,9 +55,9 @@ pub fn quarters_to_combine(
 {
     let of_a = nodes.quarters(a);
     let of_b = nodes.quarters(b);
-    read_ahead(nodes, op, of_a.0, of_b.0);
-    read_ahead(nodes, op, of_a.1, of_b.1);
-    read_ahead(nodes, op, of_a.2, of_b.2);
-    read_ahead(nodes, op, of_a.3, of_b.3);
+    read_ahead(nodes, op, of_a.nw, of_b.nw);
+    read_ahead(nodes, op, of_a.ne, of_b.ne);
+    read_ahead(nodes, op, of_a.sw, of_b.sw);
+    read_ahead(nodes, op, of_a.se, of_b.se);
     (of_a, of_b)
 }

@@ -7,7 +7,7 @@ ghost use Rattle.rel_boole.specs.Cellwise.{cells_by};
 
 use crate::ahead::quarters_to_combine;
 use crate::blocks::{both_pay, combined_by_blocks};
-use crate::cuts::{cut_off, in_order};
+use crate::cuts::cut_off;
 use crate::found::{found_before, op_of};
 use crate::leaf::leaf;
 use pair_table::Missed;
@@ -39,8 +39,7 @@ pub fn combined(nodes: &mut Nodes, op: Boole, a: Quad, b: Quad) -> Result<Quad, 
     if a.height == bottom {
         return leaf(nodes, op, a, b);
     }
-    let (first, second) = in_order(op, a, b);
-    combined_over(nodes, op, first, second)
+    combined_over(nodes, op, a, b)
 }
 
 /// The same above the blocks: a full operand settles the result, or a noted result is found; otherwise it goes by
@@ -73,11 +72,11 @@ fn combined_by_quarters(nodes: &mut Nodes, op: Boole, a: Quad, b: Quad) -> Resul
     ensures { MakesQuad (quad_room a.height) a.height
         (cells_by op (quad_cells nodes.old a) (quad_cells nodes.old b)) nodes.old nodes.new result }
 {
-    let ((a_nw, a_ne, a_sw, a_se), (b_nw, b_ne, b_sw, b_se)) = quarters_to_combine(nodes, op, a, b);
-    let nw = combined(nodes, op, a_nw, b_nw)?;
-    let ne = combined(nodes, op, a_ne, b_ne)?;
-    let sw = combined(nodes, op, a_sw, b_sw)?;
-    let se = combined(nodes, op, a_se, b_se)?;
+    let (of_a, of_b) = quarters_to_combine(nodes, op, a, b);
+    let nw = combined(nodes, op, of_a.nw, of_b.nw)?;
+    let ne = combined(nodes, op, of_a.ne, of_b.ne)?;
+    let sw = combined(nodes, op, of_a.sw, of_b.sw)?;
+    let se = combined(nodes, op, of_a.se, of_b.se)?;
     let found = nodes.corner(nw, ne, sw, se)?;
     nodes.note(op_of(op), a, b, found);
     Ok(found)

@@ -1,6 +1,6 @@
-//! Cases without recursion: equal and empty operands; and ordering the operands.
+//! Cases without recursion: equal and empty operands.
 ghost use Rattle.std.specs.Prelude.{◌≡◌, ◌⊎◌, IsSome};
-ghost use Rattle.rel_boole.specs.Cellwise.{CutsOff, IsInOrder};
+ghost use Rattle.rel_boole.specs.Cellwise.{CutsOff};
 
 use crate::boole::Boole;
 use rel_model::Quad;
@@ -10,48 +10,34 @@ pub fn cut_off(op: Boole, a: Quad, b: Quad) -> Option<Quad>
     ensures value { CutsOff op a b result }
     ensures cuts { (a.name ≡ b.name) ⊎ ((a.name ≡ 0) ⊎ (b.name ≡ 0)) → IsSome result }
 {
-    let none = Quad {
-        height: a.height,
-        name: 0,
-    };
+    let none = Quad::empty(a.height);
     match op {
         Boole::Union => {
             if a.name == b.name {
                 return Some(a);
             }
-            if a.name == 0 {
+            if a.is_empty() {
                 return Some(b);
             }
-            if b.name == 0 { Some(a) } else { None }
+            if b.is_empty() { Some(a) } else { None }
         }
         Boole::Inter => {
             if a.name == b.name {
                 return Some(a);
             }
-            if a.name == 0 {
+            if a.is_empty() {
                 return Some(none);
             }
-            if b.name == 0 { Some(none) } else { None }
+            if b.is_empty() { Some(none) } else { None }
         }
         Boole::Diff => {
             if a.name == b.name {
                 return Some(none);
             }
-            if a.name == 0 {
+            if a.is_empty() {
                 return Some(none);
             }
-            if b.name == 0 { Some(a) } else { None }
+            if b.is_empty() { Some(a) } else { None }
         }
-    }
-}
-
-/// The operands, with the lesser name first if the operator is commutative.
-pub fn in_order(op: Boole, a: Quad, b: Quad) -> (Quad, Quad)
-    ensures { IsInOrder op a b result }
-{
-    if op != Boole::Diff && b.name < a.name {
-        (b, a)
-    } else {
-        (a, b)
     }
 }

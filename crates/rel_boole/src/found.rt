@@ -38,10 +38,7 @@ fn with_full(op: Boole, a: Quad, b: Quad, a_full: bool, b_full: bool) -> Option<
             if b_full { Some(a) } else { None }
         }
         Boole::Diff => {
-            let none = Quad {
-                height: a.height,
-                name: 0,
-            };
+            let none = Quad::empty(a.height);
             if b_full { Some(none) } else { None }
         }
     }

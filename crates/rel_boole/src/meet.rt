@@ -5,7 +5,7 @@ ghost use Rattle.rel_model.specs.Trees.{bottom_height};
 ghost use Rattle.rel_model.specs.Quads.{Keeper, QuadStands, quad_cells, ReadsQuads};
 
 use crate::boole::Boole;
-use crate::cuts::{cut_off, in_order};
+use crate::cuts::cut_off;
 use crate::found::found_before;
 use crate::leaf::block_by;
 use memo_laws::Op;
@@ -41,13 +41,12 @@ pub fn quads_meet(nodes: &mut Nodes, a: Quad, b: Quad) -> bool
 {
     let bottom = nodes.bottom();
     if let Some(common) = cut_off(Boole::Inter, a, b) {
-        return common.name != 0;
+        return !common.is_empty();
     }
     if a.height == bottom {
         return blocks_meet(nodes, a, b);
     }
-    let (first, second) = in_order(Boole::Inter, a, b);
-    meet_over(nodes, first, second)
+    meet_over(nodes, a, b)
 }
 
 /// The same above the blocks: a full operand settles the answer, or a noted result is found.
@@ -61,7 +60,7 @@ fn meet_over(nodes: &mut Nodes, a: Quad, b: Quad) -> bool
     ensures reads { ReadsQuads nodes.old nodes.new }
 {
     if let Some(common) = found_before(nodes, Boole::Inter, a, b) {
-        return common.name != 0;
+        return !common.is_empty();
     }
     meet_by_quarters(nodes, a, b)
 }
@@ -76,23 +75,19 @@ fn meet_by_quarters(nodes: &mut Nodes, a: Quad, b: Quad) -> bool
     ensures value { (result ≡ false) ↔ (cells_inter (quad_cells nodes.old a) (quad_cells nodes.old b) ≡ no_cells) }
     ensures reads { ReadsQuads nodes.old nodes.new }
 {
-    let ((a_nw, a_ne, a_sw, a_se), (b_nw, b_ne, b_sw, b_se)) = nodes.quarters_of_both(a, b);
-    if quads_meet(nodes, a_nw, b_nw) {
+    let (of_a, of_b) = nodes.quarters_of_both(a, b);
+    if quads_meet(nodes, of_a.nw, of_b.nw) {
         return true;
     }
-    if quads_meet(nodes, a_ne, b_ne) {
+    if quads_meet(nodes, of_a.ne, of_b.ne) {
         return true;
     }
-    if quads_meet(nodes, a_sw, b_sw) {
+    if quads_meet(nodes, of_a.sw, of_b.sw) {
         return true;
     }
-    if quads_meet(nodes, a_se, b_se) {
+    if quads_meet(nodes, of_a.se, of_b.se) {
         return true;
     }
-    let none = Quad {
-        height: a.height,
-        name: 0,
-    };
-    nodes.note(Op::Inter, a, b, none);
+    nodes.note(Op::Inter, a, b, Quad::empty(a.height));
     false
 }

@@ -7,6 +7,7 @@ use Rattle.std.proofs.Common.{◌≡◌, ◌<◌, ◌≤◌, ◌+◌, ◌-◌, �
 use Rattle.std.specs.Prelude.{is_some}
 use Rattle.std.proofs.lemmas.Bool.{cases_lt, cases_order, and_parts, and_from, false≢true, not-true, not_from_false}
 use Rattle.rel_model.specs.declared.Quad.{Quad}
+use Rattle.rel_model.specs.declared.Quarters.{Quarters}
 use Rattle.rel_model.specs.Relation.{Relation, IsRelation, has}
 use Rattle.rel_model.specs.Cells.{Cells, no_cells, some_below}
 use Rattle.rel_model.specs.Trees.{quartered}
@@ -142,6 +143,8 @@ single-quartered m a b c d = same_truth _ _ parts whole
         at_corner : (i j : ℕ) → m ≤ i → m ≤ j → q i j ≡ true → d (i - m) (j - m) ≡ true
         at_corner i j l x t = sym (quartered-se m a b c d (i - m) (j - m)) ∙ (let e : m + (i - m) ≡ i = omega (arith, l) in let f : m + (j - m) ≡ j = omega (arith, x) in ap (λ (y : ℕ). q y (m + (j - m))) e ∙ ap (q i) f ∙ t)
 
+-- two squares share no row exactly if none of the quarters of one shares a row with one of the other in the same half:
+-- a cell of a row lies in one of the two quarters of its half
 pub apart-quartered : (m : ℕ) (a b c d e f g h : Cells) → rows_apart (m + m) (m + m) (quartered m a b c d) (quartered m e f g h)
     ≡ (((rows_apart m m a e && rows_apart m m a f) && (rows_apart m m b e && rows_apart m m b f)) && ((rows_apart m m c g && rows_apart m m c h) && (rows_apart m m d g && rows_apart m m d h)))
 apart-quartered m a b c d e f g h = same_truth _ _ parts whole
@@ -244,53 +247,55 @@ at_height w q h e = ap (λ (x : ℕ). single_rows (2 ^ x) (2 ^ x) (quad_set w q)
 apart_at : (w : Worker) (a b : Quad) (h : ℕ) → a.height ≡ h → quads_apart w a b ≡ rows_apart (2 ^ h) (2 ^ h) (quad_set w a) (quad_set w b)
 apart_at w a b h e = ap (λ (x : ℕ). rows_apart (2 ^ x) (2 ^ x) (quad_set w a) (quad_set w b)) e
 
-pub single-quarters : (old new : Worker) (q : Quad) (four : Quad × Quad × Quad × Quad) → GivesQuarters old new q four → quad_single old q
-    ≡ (((quad_single new four.0 && quad_single new four.1) && (quad_single new four.2 && quad_single new four.3)) && (quads_apart new four.0 four.1 && quads_apart new four.2 four.3))
+-- no row of a quad has two cells exactly if no row of a quarter has and quarters side by side share none: each quarter
+-- has half the side
+pub single-quarters : (old new : Worker) (q : Quad) (four : Quarters) → GivesQuarters old new q four → quad_single old q
+    ≡ (((quad_single new four.nw && quad_single new four.ne) && (quad_single new four.sw && quad_single new four.se)) && (quads_apart new four.nw four.ne && quads_apart new four.sw four.se))
 single-quarters old new q four g =
-    let h : ℕ = four.0.height in
+    let h : ℕ = four.nw.height in
     let m : ℕ = 2 ^ h in
     let x0 = g.nw_height in
     let x1 = g.ne_height in
     let x2 = g.sw_height in
     let x3 = g.se_height in
-    let b = at_height new four.1 h (omega (arith, x0, x1)) in
-    let c = at_height new four.2 h (omega (arith, x0, x2)) in
-    let d = at_height new four.3 h (omega (arith, x0, x3)) in
-    let f = apart_at new four.2 four.3 h (omega (arith, x0, x2)) in
+    let b = at_height new four.ne h (omega (arith, x0, x1)) in
+    let c = at_height new four.sw h (omega (arith, x0, x2)) in
+    let d = at_height new four.se h (omega (arith, x0, x3)) in
+    let f = apart_at new four.sw four.se h (omega (arith, x0, x2)) in
     ap (λ (x : ℕ). single_rows x x (quad_set old q)) (power-half h q.height x0) ∙ ap (single_rows (m + m) (m + m)) g.means
-    ∙ single-quartered m (quad_set new four.0) (quad_set new four.1) (quad_set new four.2) (quad_set new four.3)
-    ∙ ap (λ x. ((quad_single new four.0 && x) && (single_rows m m (quad_set new four.2) && single_rows m m (quad_set new four.3))) && (quads_apart new four.0 four.1 && rows_apart m m (quad_set new four.2) (quad_set new four.3))) (sym b)
-    ∙ ap (λ x. ((quad_single new four.0 && quad_single new four.1) && (x && single_rows m m (quad_set new four.3))) && (quads_apart new four.0 four.1 && rows_apart m m (quad_set new four.2) (quad_set new four.3))) (sym c)
-    ∙ ap (λ x. ((quad_single new four.0 && quad_single new four.1) && (quad_single new four.2 && x)) && (quads_apart new four.0 four.1 && rows_apart m m (quad_set new four.2) (quad_set new four.3))) (sym d)
-    ∙ ap (λ x. ((quad_single new four.0 && quad_single new four.1) && (quad_single new four.2 && quad_single new four.3)) && (quads_apart new four.0 four.1 && x)) (sym f)
+    ∙ single-quartered m (quad_set new four.nw) (quad_set new four.ne) (quad_set new four.sw) (quad_set new four.se)
+    ∙ ap (λ x. ((quad_single new four.nw && x) && (single_rows m m (quad_set new four.sw) && single_rows m m (quad_set new four.se))) && (quads_apart new four.nw four.ne && rows_apart m m (quad_set new four.sw) (quad_set new four.se))) (sym b)
+    ∙ ap (λ x. ((quad_single new four.nw && quad_single new four.ne) && (x && single_rows m m (quad_set new four.se))) && (quads_apart new four.nw four.ne && rows_apart m m (quad_set new four.sw) (quad_set new four.se))) (sym c)
+    ∙ ap (λ x. ((quad_single new four.nw && quad_single new four.ne) && (quad_single new four.sw && x)) && (quads_apart new four.nw four.ne && rows_apart m m (quad_set new four.sw) (quad_set new four.se))) (sym d)
+    ∙ ap (λ x. ((quad_single new four.nw && quad_single new four.ne) && (quad_single new four.sw && quad_single new four.se)) && (quads_apart new four.nw four.ne && x)) (sym f)
 
 -- the quarters of both quads, of which the first were taken one call before
-pub apart-quarters : (u v w : Worker) (a b : Quad) (fa fb : Quad × Quad × Quad × Quad) → GivesQuarters u v a fa → GivesQuarters v w b fb → Keeps u v → Keeps v w → HasQuad u b → b.height ≡ a.height
-    → quads_apart u a b ≡ (halves_apart w (fa.0, fa.1) (fb.0, fb.1) && halves_apart w (fa.2, fa.3) (fb.2, fb.3))
+pub apart-quarters : (u v w : Worker) (a b : Quad) (fa fb : Quarters) → GivesQuarters u v a fa → GivesQuarters v w b fb → Keeps u v → Keeps v w → HasQuad u b → b.height ≡ a.height
+    → quads_apart u a b ≡ (halves_apart w (fa.nw, fa.ne) (fb.nw, fb.ne) && halves_apart w (fa.sw, fa.se) (fb.sw, fb.se))
 apart-quarters u v w a b fa fb g h k l s e =
-    let n : ℕ = fa.0.height in
+    let n : ℕ = fa.nw.height in
     let m : ℕ = 2 ^ n in
     let x0 = g.nw_height in
     let x1 = g.ne_height in
     let x2 = g.sw_height in
     let x3 = g.se_height in
     let y0 = h.nw_height in
-    let o : fb.0.height ≡ n = omega (arith, x0, y0, e) in
-    let f : quad_set u a ≡ quartered m (quad_set w fa.0) (quad_set w fa.1) (quad_set w fa.2) (quad_set w fa.3) = g.means ∙ four_later fa v w g.nw g.ne g.sw g.se l m in
-    let i : quad_set u b ≡ quartered m (quad_set w fb.0) (quad_set w fb.1) (quad_set w fb.2) (quad_set w fb.3) = sym (kept_set u v b k s) ∙ h.means ∙ ap (λ (x : ℕ). quartered (2 ^ x) (quad_set w fb.0) (quad_set w fb.1) (quad_set w fb.2) (quad_set w fb.3)) o in
+    let o : fb.nw.height ≡ n = omega (arith, x0, y0, e) in
+    let f : quad_set u a ≡ quartered m (quad_set w fa.nw) (quad_set w fa.ne) (quad_set w fa.sw) (quad_set w fa.se) = g.means ∙ four_later fa v w g.nw g.ne g.sw g.se l m in
+    let i : quad_set u b ≡ quartered m (quad_set w fb.nw) (quad_set w fb.ne) (quad_set w fb.sw) (quad_set w fb.se) = sym (kept_set u v b k s) ∙ h.means ∙ ap (λ (x : ℕ). quartered (2 ^ x) (quad_set w fb.nw) (quad_set w fb.ne) (quad_set w fb.sw) (quad_set w fb.se)) o in
     ap (λ (x : ℕ). rows_apart x x (quad_set u a) (quad_set u b)) (power-half n a.height x0)
-    ∙ ap (λ z. rows_apart (m + m) (m + m) z (quad_set u b)) f ∙ ap (rows_apart (m + m) (m + m) (quartered m (quad_set w fa.0) (quad_set w fa.1) (quad_set w fa.2) (quad_set w fa.3))) i
-    ∙ apart-quartered m (quad_set w fa.0) (quad_set w fa.1) (quad_set w fa.2) (quad_set w fa.3) (quad_set w fb.0) (quad_set w fb.1) (quad_set w fb.2) (quad_set w fb.3)
-    ∙ eight _ _ _ _ _ _ _ _ _ _ _ _ _ _ _ _ (sym (apart_at w fa.0 fb.0 n refl)) (sym (apart_at w fa.0 fb.1 n refl)) (sym (apart_at w fa.1 fb.0 n (omega (arith, x0, x1)))) (sym (apart_at w fa.1 fb.1 n (omega (arith, x0, x1))))
-    (sym (apart_at w fa.2 fb.2 n (omega (arith, x0, x2)))) (sym (apart_at w fa.2 fb.3 n (omega (arith, x0, x2)))) (sym (apart_at w fa.3 fb.2 n (omega (arith, x0, x3)))) (sym (apart_at w fa.3 fb.3 n (omega (arith, x0, x3))))
+    ∙ ap (λ z. rows_apart (m + m) (m + m) z (quad_set u b)) f ∙ ap (rows_apart (m + m) (m + m) (quartered m (quad_set w fa.nw) (quad_set w fa.ne) (quad_set w fa.sw) (quad_set w fa.se))) i
+    ∙ apart-quartered m (quad_set w fa.nw) (quad_set w fa.ne) (quad_set w fa.sw) (quad_set w fa.se) (quad_set w fb.nw) (quad_set w fb.ne) (quad_set w fb.sw) (quad_set w fb.se)
+    ∙ eight _ _ _ _ _ _ _ _ _ _ _ _ _ _ _ _ (sym (apart_at w fa.nw fb.nw n refl)) (sym (apart_at w fa.nw fb.ne n refl)) (sym (apart_at w fa.ne fb.nw n (omega (arith, x0, x1)))) (sym (apart_at w fa.ne fb.ne n (omega (arith, x0, x1))))
+    (sym (apart_at w fa.sw fb.sw n (omega (arith, x0, x2)))) (sym (apart_at w fa.sw fb.se n (omega (arith, x0, x2)))) (sym (apart_at w fa.se fb.sw n (omega (arith, x0, x3)))) (sym (apart_at w fa.se fb.se n (omega (arith, x0, x3))))
   where
-    four_later : (fa : Quad × Quad × Quad × Quad) (v w : Worker) → HasQuad v fa.0 → HasQuad v fa.1 → HasQuad v fa.2 → HasQuad v fa.3 → Keeps v w → (m : ℕ)
-        → quartered m (quad_set v fa.0) (quad_set v fa.1) (quad_set v fa.2) (quad_set v fa.3) ≡ quartered m (quad_set w fa.0) (quad_set w fa.1) (quad_set w fa.2) (quad_set w fa.3)
+    four_later : (fa : Quarters) (v w : Worker) → HasQuad v fa.nw → HasQuad v fa.ne → HasQuad v fa.sw → HasQuad v fa.se → Keeps v w → (m : ℕ)
+        → quartered m (quad_set v fa.nw) (quad_set v fa.ne) (quad_set v fa.sw) (quad_set v fa.se) ≡ quartered m (quad_set w fa.nw) (quad_set w fa.ne) (quad_set w fa.sw) (quad_set w fa.se)
     four_later fa v w p q r t l m =
-        ap (λ z. quartered m z (quad_set v fa.1) (quad_set v fa.2) (quad_set v fa.3)) (sym (kept_set v w fa.0 l p))
-        ∙ ap (λ z. quartered m (quad_set w fa.0) z (quad_set v fa.2) (quad_set v fa.3)) (sym (kept_set v w fa.1 l q))
-        ∙ ap (λ z. quartered m (quad_set w fa.0) (quad_set w fa.1) z (quad_set v fa.3)) (sym (kept_set v w fa.2 l r))
-        ∙ ap (quartered m (quad_set w fa.0) (quad_set w fa.1) (quad_set w fa.2)) (sym (kept_set v w fa.3 l t))
+        ap (λ z. quartered m z (quad_set v fa.ne) (quad_set v fa.sw) (quad_set v fa.se)) (sym (kept_set v w fa.nw l p))
+        ∙ ap (λ z. quartered m (quad_set w fa.nw) z (quad_set v fa.sw) (quad_set v fa.se)) (sym (kept_set v w fa.ne l q))
+        ∙ ap (λ z. quartered m (quad_set w fa.nw) (quad_set w fa.ne) z (quad_set v fa.se)) (sym (kept_set v w fa.sw l r))
+        ∙ ap (quartered m (quad_set w fa.nw) (quad_set w fa.ne) (quad_set w fa.sw)) (sym (kept_set v w fa.se l t))
 
     eight : (a0 b0 a1 b1 a2 b2 a3 b3 a4 b4 a5 b5 a6 b6 a7 b7 : Bool) → a0 ≡ b0 → a1 ≡ b1 → a2 ≡ b2 → a3 ≡ b3 → a4 ≡ b4 → a5 ≡ b5 → a6 ≡ b6 → a7 ≡ b7
         → (((a0 && a1) && (a2 && a3)) && ((a4 && a5) && (a6 && a7))) ≡ (((b0 && b1) && (b2 && b3)) && ((b4 && b5) && (b6 && b7)))

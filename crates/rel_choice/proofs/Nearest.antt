@@ -51,6 +51,7 @@ least-first t a m from below k e l =
     let high = l.high in
     record { low = low; high = omega (arith, high); passes = e k (omega (arith, high)) ∙ l.passes; first = λ x p q. e x (omega (arith, high, q)) ∙ l.first x p q }
 
+-- where none below the middle passes, the least from the middle on is the least of all
 pub least-second : (t a b : ℕ → Bool) (m from below k : ℕ) → ((x : ℕ) → x < m → t x ≡ a x) → ((x : ℕ) → t (m + x) ≡ b x) → IsLeast a from (min below m) None → Least b (from - m) (below - m) k → Least t from below (m + k)
 least-second t a b m from below k e f n l =
     let low = l.low in
@@ -97,6 +98,8 @@ none-passes t (p ∷ ps) h =
     let e = h p (ap (λ b. b || member p ps) (same_itself p)) in
     rw e (none-passes t ps (λ q m. h q (or_right (same p q) _ m)))
 
+-- in an increasing list the least that passes is the first that does, by induction: a head that passes is that one,
+-- since it is before all others
 one-passes : (t : ℕ × ℕ → Bool) (ps : List (ℕ × ℕ)) (p : ℕ × ℕ) → IsIncreasing ps → member p ps ≡ true → t p ≡ true → ((q : ℕ × ℕ) → member q ps ≡ true → t q ≡ true → before q p ≡ false) → Some p ≡ first_in (filter t ps)
 one-passes t [] p w m s h = absurd (false≢true m)
 one-passes t (x ∷ xs) p w m s h =

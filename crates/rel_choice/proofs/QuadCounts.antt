@@ -5,6 +5,7 @@ use Rattle.std.proofs.Math.Nat.{pow-suc, pow-le-pow_right, mul-le-mul}
 use Rattle.std.proofs.lemmas.Bool.{cases_Bool, and_parts, eqb-true}
 use Rattle.std.specs.Int.Count.{ones}
 use Rattle.rel_model.specs.declared.Quad.{Quad}
+use Rattle.rel_model.specs.declared.Quarters.{Quarters}
 use Rattle.rel_model.specs.Relation.{Relation, IsRelation, has}
 use Rattle.rel_model.specs.Cells.{no_cells, bits_cells}
 use Rattle.rel_model.specs.Trees.{top_height, quartered}
@@ -36,17 +37,18 @@ power-half h k e = ap (λ (x : ℕ). 2 ^ x) (sym e) ∙ (let p : 2 ^ (h + 1) ≡
 side-count : (w : Worker) (q : Quad) (h : ℕ) → q.height ≡ h → quad_count w q ≡ cells_count (2 ^ h) (2 ^ h) (quad_set w q)
 side-count w q h e = ap (λ (x : ℕ). cells_count (2 ^ x) (2 ^ x) (quad_set w q)) e
 
-pub quarters-count : (old new : Worker) (q : Quad) (four : Quad × Quad × Quad × Quad) → GivesQuarters old new q four → quad_count old q ≡ (quad_count new four.0 + quad_count new four.1) + (quad_count new four.2 + quad_count new four.3)
+-- a quad has as many cells as its quarters together: it is made of them, and each has half its side
+pub quarters-count : (old new : Worker) (q : Quad) (four : Quarters) → GivesQuarters old new q four → quad_count old q ≡ (quad_count new four.nw + quad_count new four.ne) + (quad_count new four.sw + quad_count new four.se)
 quarters-count old new q four g =
-    let h : ℕ = four.0.height in
+    let h : ℕ = four.nw.height in
     let p = power-half h q.height g.nw_height in
     let e : quad_count old q ≡ cells_count (2 ^ h + 2 ^ h) (2 ^ h + 2 ^ h) (quad_set old q) = ap (λ (x : ℕ). cells_count x x (quad_set old q)) p in
-    let f : cells_count (2 ^ h + 2 ^ h) (2 ^ h + 2 ^ h) (quad_set old q) ≡ cells_count (2 ^ h + 2 ^ h) (2 ^ h + 2 ^ h) (quartered (2 ^ h) (quad_set new four.0) (quad_set new four.1) (quad_set new four.2) (quad_set new four.3)) = ap (cells_count (2 ^ h + 2 ^ h) (2 ^ h + 2 ^ h)) g.means in
-    let s = cells_count-quartered (2 ^ h) (quad_set new four.0) (quad_set new four.1) (quad_set new four.2) (quad_set new four.3) in
+    let f : cells_count (2 ^ h + 2 ^ h) (2 ^ h + 2 ^ h) (quad_set old q) ≡ cells_count (2 ^ h + 2 ^ h) (2 ^ h + 2 ^ h) (quartered (2 ^ h) (quad_set new four.nw) (quad_set new four.ne) (quad_set new four.sw) (quad_set new four.se)) = ap (cells_count (2 ^ h + 2 ^ h) (2 ^ h + 2 ^ h)) g.means in
+    let s = cells_count-quartered (2 ^ h) (quad_set new four.nw) (quad_set new four.ne) (quad_set new four.sw) (quad_set new four.se) in
     let a = g.nw_height in
-    let b = side-count new four.1 h (let x = g.ne_height in omega (arith, x, a)) in
-    let c = side-count new four.2 h (let x = g.sw_height in omega (arith, x, a)) in
-    let d = side-count new four.3 h (let x = g.se_height in omega (arith, x, a)) in
+    let b = side-count new four.ne h (let x = g.ne_height in omega (arith, x, a)) in
+    let c = side-count new four.sw h (let x = g.sw_height in omega (arith, x, a)) in
+    let d = side-count new four.se h (let x = g.se_height in omega (arith, x, a)) in
     omega (arith, e, f, s, b, c, d)
 
 -- a quad has at most 2 ^ 48 cells

@@ -4,6 +4,7 @@ use Rattle.std.specs.Prelude.{is_some}
 use Rattle.std.proofs.Math.Nat.{pow-le-pow_right}
 use Rattle.std.proofs.lemmas.Bool.{false≢true, true≢false}
 use Rattle.rel_model.specs.declared.Quad.{Quad}
+use Rattle.rel_model.specs.declared.Quarters.{Quarters}
 use Rattle.rel_model.specs.Cells.{no_cells, some_below}
 use Rattle.rel_model.specs.Trees.{quartered}
 use Rattle.rel_model.specs.Quarters.{GivesQuarters}
@@ -34,51 +35,51 @@ none-least w q from below h (inl e) = λ x a b. ap (λ f. row_meets (2 ^ q.heigh
 none-least w q from below h (inr l) = λ x a b. absurd (omega (arith, l, a, b))
 
 -- the rows of a quad are those of its quarters
-rows_of-quad : (old new : Worker) (q : Quad) (four : Quad × Quad × Quad × Quad) → GivesQuarters old new q four → (x : ℕ)
-    → row_meets (2 ^ q.height) (quad_set old q) x ≡ row_meets (2 ^ four.0.height + 2 ^ four.0.height) (quartered (2 ^ four.0.height) (quad_set new four.0) (quad_set new four.1) (quad_set new four.2) (quad_set new four.3)) x
+rows_of-quad : (old new : Worker) (q : Quad) (four : Quarters) → GivesQuarters old new q four → (x : ℕ)
+    → row_meets (2 ^ q.height) (quad_set old q) x ≡ row_meets (2 ^ four.nw.height + 2 ^ four.nw.height) (quartered (2 ^ four.nw.height) (quad_set new four.nw) (quad_set new four.ne) (quad_set new four.sw) (quad_set new four.se)) x
 rows_of-quad old new q four g x =
-    ap (λ (n : ℕ). row_meets n (quad_set old q) x) (power-half four.0.height q.height g.nw_height) ∙ ap (λ f. row_meets (2 ^ four.0.height + 2 ^ four.0.height) f x) g.means
+    ap (λ (n : ℕ). row_meets n (quad_set old q) x) (power-half four.nw.height q.height g.nw_height) ∙ ap (λ f. row_meets (2 ^ four.nw.height + 2 ^ four.nw.height) f x) g.means
 
-north : (old new : Worker) (q : Quad) (four : Quad × Quad × Quad × Quad) (half : ℕ) → GivesQuarters old new q four → half ≡ 2 ^ four.0.height → (x : ℕ) → x < half
-    → row_meets (2 ^ q.height) (quad_set old q) x ≡ row_meets_either (2 ^ four.0.height) (quad_set new four.0) (quad_set new four.1) x
+north : (old new : Worker) (q : Quad) (four : Quarters) (half : ℕ) → GivesQuarters old new q four → half ≡ 2 ^ four.nw.height → (x : ℕ) → x < half
+    → row_meets (2 ^ q.height) (quad_set old q) x ≡ row_meets_either (2 ^ four.nw.height) (quad_set new four.nw) (quad_set new four.ne) x
 north old new q four half g e x l =
-    rows_of-quad old new q four g x ∙ row_meets-north (2 ^ four.0.height) (quad_set new four.0) (quad_set new four.1) (quad_set new four.2) (quad_set new four.3) x (omega (arith, e, l))
+    rows_of-quad old new q four g x ∙ row_meets-north (2 ^ four.nw.height) (quad_set new four.nw) (quad_set new four.ne) (quad_set new four.sw) (quad_set new four.se) x (omega (arith, e, l))
 
-south : (old new : Worker) (q : Quad) (four : Quad × Quad × Quad × Quad) (half : ℕ) → GivesQuarters old new q four → half ≡ 2 ^ four.0.height → (x : ℕ)
-    → row_meets (2 ^ q.height) (quad_set old q) (half + x) ≡ row_meets_either (2 ^ four.0.height) (quad_set new four.2) (quad_set new four.3) x
+south : (old new : Worker) (q : Quad) (four : Quarters) (half : ℕ) → GivesQuarters old new q four → half ≡ 2 ^ four.nw.height → (x : ℕ)
+    → row_meets (2 ^ q.height) (quad_set old q) (half + x) ≡ row_meets_either (2 ^ four.nw.height) (quad_set new four.sw) (quad_set new four.se) x
 south old new q four half g e x =
-    ap (λ (y : ℕ). row_meets (2 ^ q.height) (quad_set old q) (y + x)) e ∙ rows_of-quad old new q four g (2 ^ four.0.height + x)
-    ∙ row_meets-south (2 ^ four.0.height) (quad_set new four.0) (quad_set new four.1) (quad_set new four.2) (quad_set new four.3) x
+    ap (λ (y : ℕ). row_meets (2 ^ q.height) (quad_set old q) (y + x)) e ∙ rows_of-quad old new q four g (2 ^ four.nw.height + x)
+    ∙ row_meets-south (2 ^ four.nw.height) (quad_set new four.nw) (quad_set new four.ne) (quad_set new four.sw) (quad_set new four.se) x
 
 -- the southern quarters one call later
-south_rows : (old new later : Worker) (q : Quad) (four : Quad × Quad × Quad × Quad) → GivesQuarters old new q four → Keeps new later → (x : ℕ)
-    → row_meets_either (2 ^ four.2.height) (quad_set later four.2) (quad_set later four.3) x ≡ row_meets_either (2 ^ four.0.height) (quad_set new four.2) (quad_set new four.3) x
+south_rows : (old new later : Worker) (q : Quad) (four : Quarters) → GivesQuarters old new q four → Keeps new later → (x : ℕ)
+    → row_meets_either (2 ^ four.sw.height) (quad_set later four.sw) (quad_set later four.se) x ≡ row_meets_either (2 ^ four.nw.height) (quad_set new four.sw) (quad_set new four.se) x
 south_rows old new later q four g k x =
     let a = g.nw_height in
     let b = g.sw_height in
-    let e : four.2.height ≡ four.0.height = omega (arith, a, b) in
-    ap (λ (h : ℕ). row_meets_either (2 ^ h) (quad_set later four.2) (quad_set later four.3) x) e
-    ∙ ap (λ f. row_meets_either (2 ^ four.0.height) f (quad_set later four.3) x) (kept_set new later four.2 k g.sw)
-    ∙ ap (λ f. row_meets_either (2 ^ four.0.height) (quad_set new four.2) f x) (kept_set new later four.3 k g.se)
+    let e : four.sw.height ≡ four.nw.height = omega (arith, a, b) in
+    ap (λ (h : ℕ). row_meets_either (2 ^ h) (quad_set later four.sw) (quad_set later four.se) x) e
+    ∙ ap (λ f. row_meets_either (2 ^ four.nw.height) f (quad_set later four.se) x) (kept_set new later four.sw k g.sw)
+    ∙ ap (λ f. row_meets_either (2 ^ four.nw.height) (quad_set new four.sw) f x) (kept_set new later four.se k g.se)
 
 -- ---- the least row
-pub row-first : (old new : Worker) (q : Quad) (four : Quad × Quad × Quad × Quad) (half from below cut k : ℕ) → GivesQuarters old new q four → half ≡ 2 ^ four.0.height → cut ≡ min below half
-    → Least (row_meets_either (2 ^ four.0.height) (quad_set new four.0) (quad_set new four.1)) from cut k → Least (row_meets (2 ^ q.height) (quad_set old q)) from below k
+pub row-first : (old new : Worker) (q : Quad) (four : Quarters) (half from below cut k : ℕ) → GivesQuarters old new q four → half ≡ 2 ^ four.nw.height → cut ≡ min below half
+    → Least (row_meets_either (2 ^ four.nw.height) (quad_set new four.nw) (quad_set new four.ne)) from cut k → Least (row_meets (2 ^ q.height) (quad_set old q)) from below k
 row-first old new q four half from below cut k g e c l =
-    least-first (row_meets (2 ^ q.height) (quad_set old q)) (row_meets_either (2 ^ four.0.height) (quad_set new four.0) (quad_set new four.1)) half from below k (north old new q four half g e)
-    (subst (λ (x : ℕ). Least (row_meets_either (2 ^ four.0.height) (quad_set new four.0) (quad_set new four.1)) from x k) c l)
+    least-first (row_meets (2 ^ q.height) (quad_set old q)) (row_meets_either (2 ^ four.nw.height) (quad_set new four.nw) (quad_set new four.ne)) half from below k (north old new q four half g e)
+    (subst (λ (x : ℕ). Least (row_meets_either (2 ^ four.nw.height) (quad_set new four.nw) (quad_set new four.ne)) from x k) c l)
 
-pub row-second : (old new later : Worker) (q : Quad) (four : Quad × Quad × Quad × Quad) (half from below cut start rest k : ℕ) → GivesQuarters old new q four → Keeps new later → half ≡ 2 ^ four.0.height → cut ≡ min below half → start ≡ from - half → rest ≡ below - half
-    → IsLeast (row_meets_either (2 ^ four.0.height) (quad_set new four.0) (quad_set new four.1)) from cut None → Least (row_meets_either (2 ^ four.2.height) (quad_set later four.2) (quad_set later four.3)) start rest k
+pub row-second : (old new later : Worker) (q : Quad) (four : Quarters) (half from below cut start rest k : ℕ) → GivesQuarters old new q four → Keeps new later → half ≡ 2 ^ four.nw.height → cut ≡ min below half → start ≡ from - half → rest ≡ below - half
+    → IsLeast (row_meets_either (2 ^ four.nw.height) (quad_set new four.nw) (quad_set new four.ne)) from cut None → Least (row_meets_either (2 ^ four.sw.height) (quad_set later four.sw) (quad_set later four.se)) start rest k
     → Least (row_meets (2 ^ q.height) (quad_set old q)) from below (half + k)
 row-second old new later q four half from below cut start rest k g p e c s r n l =
-    least-second (row_meets (2 ^ q.height) (quad_set old q)) (row_meets_either (2 ^ four.0.height) (quad_set new four.0) (quad_set new four.1)) (row_meets_either (2 ^ four.2.height) (quad_set later four.2) (quad_set later four.3)) half from below k
+    least-second (row_meets (2 ^ q.height) (quad_set old q)) (row_meets_either (2 ^ four.nw.height) (quad_set new four.nw) (quad_set new four.ne)) (row_meets_either (2 ^ four.sw.height) (quad_set later four.sw) (quad_set later four.se)) half from below k
     (north old new q four half g e) (λ x. south old new q four half g e x ∙ sym (south_rows old new later q four g p x)) (λ x a b. n x a (omega (arith, b, c)))
-    (subst (λ (x : ℕ). Least (row_meets_either (2 ^ four.2.height) (quad_set later four.2) (quad_set later four.3)) x (below - half) k) s (subst (λ (x : ℕ). Least (row_meets_either (2 ^ four.2.height) (quad_set later four.2) (quad_set later four.3)) start x k) r l))
+    (subst (λ (x : ℕ). Least (row_meets_either (2 ^ four.sw.height) (quad_set later four.sw) (quad_set later four.se)) x (below - half) k) s (subst (λ (x : ℕ). Least (row_meets_either (2 ^ four.sw.height) (quad_set later four.sw) (quad_set later four.se)) start x k) r l))
 
-pub row-neither : (old new later : Worker) (q : Quad) (four : Quad × Quad × Quad × Quad) (half from below cut start rest : ℕ) → GivesQuarters old new q four → Keeps new later → half ≡ 2 ^ four.0.height → cut ≡ min below half → start ≡ from - half → rest ≡ below - half
-    → IsLeast (row_meets_either (2 ^ four.0.height) (quad_set new four.0) (quad_set new four.1)) from cut None → IsLeast (row_meets_either (2 ^ four.2.height) (quad_set later four.2) (quad_set later four.3)) start rest None
+pub row-neither : (old new later : Worker) (q : Quad) (four : Quarters) (half from below cut start rest : ℕ) → GivesQuarters old new q four → Keeps new later → half ≡ 2 ^ four.nw.height → cut ≡ min below half → start ≡ from - half → rest ≡ below - half
+    → IsLeast (row_meets_either (2 ^ four.nw.height) (quad_set new four.nw) (quad_set new four.ne)) from cut None → IsLeast (row_meets_either (2 ^ four.sw.height) (quad_set later four.sw) (quad_set later four.se)) start rest None
     → IsLeast (row_meets (2 ^ q.height) (quad_set old q)) from below None
 row-neither old new later q four half from below cut start rest g p e c s r n l =
-    least-neither (row_meets (2 ^ q.height) (quad_set old q)) (row_meets_either (2 ^ four.0.height) (quad_set new four.0) (quad_set new four.1)) (row_meets_either (2 ^ four.2.height) (quad_set later four.2) (quad_set later four.3)) half from below
+    least-neither (row_meets (2 ^ q.height) (quad_set old q)) (row_meets_either (2 ^ four.nw.height) (quad_set new four.nw) (quad_set new four.ne)) (row_meets_either (2 ^ four.sw.height) (quad_set later four.sw) (quad_set later four.se)) half from below
     (north old new q four half g e) (λ x. south old new q four half g e x ∙ sym (south_rows old new later q four g p x)) (λ x a b. n x a (omega (arith, b, c))) (λ x a b. l x (omega (arith, a, s)) (omega (arith, b, r)))

@@ -56,6 +56,8 @@ steps-quartered m = by_quarters m (step_cells (m + m)) (step_cells m) no_cells (
     (λ i j k. same_truth _ _ (λ h. let p = step_at (m + m) (m + i) j h in carry_from m i j (omega (arith, p.1, k)) (omega (arith, p.1, k))) (λ h. let p = carry_at m i j h in step_from (m + m) (m + i) j (omega (arith, p.0, k)) (omega (arith, p.0, p.1))))
     (λ i j. same_truth _ _ (λ h. let p = step_at (m + m) (m + i) (m + j) h in step_from m i j (omega (arith, p.0)) (omega (arith, p.1))) (λ h. let p = step_at m i j h in step_from (m + m) (m + i) (m + j) (omega (arith, p.0)) (omega (arith, p.1))))
 
+-- the carry of a square is one cell in its north-east corner, so it is the carry of that quarter, and the others have
+-- no cell
 pub carry-quartered : (m : ℕ) → 1 ≤ m → carry_cells (m + m) ≡ quartered m no_cells (carry_cells m) no_cells no_cells
 carry-quartered m s = by_quarters m (carry_cells (m + m)) no_cells (carry_cells m) no_cells no_cells
     (λ i j l k. same_truth _ _ (λ h. let p = carry_at (m + m) i j h in absurd (omega (arith, p.1, k))) (λ h. absurd (no i j h)))

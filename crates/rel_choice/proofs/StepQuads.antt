@@ -16,7 +16,7 @@ use Rattle.rel_model.proofs.Heights.{power_up, height_of-covers, height_of-least
 use Rattle.rel_model.proofs.Workers.{gives_set}
 use Rattle.rel_choice.specs.declared.stepping.Steps.{Steps}
 use Rattle.rel_choice.specs.Steps.{step_cells, carry_cells, GivesSteps, step_room}
-use Rattle.rel_steps.proofs.Given.{gives_has, gives_quad_set, kept_set}
+use Rattle.rel_steps.proofs.Given.{gives_has, gives_quad_set, gives_later, kept_set}
 use Rattle.rel_choice.proofs.QuadCounts.{power-half}
 use Rattle.rel_choice.proofs.StepCells.{steps-quartered, carry-quartered}
 
@@ -25,15 +25,14 @@ use Rattle.rel_choice.proofs.StepCells.{steps-quartered, carry-quartered}
 gives_as : (w : Worker) (h k : ℕ) (f g : Cells) (q : Quad) → h ≡ k → f ≡ g → GivesQuad w h f q → GivesQuad w k g q
 gives_as w h k f g q e d x = record { means = x.means ∙ ap (λ (z : Cells). Some z) d; same_height = x.same_height ∙ e }
 
-keeps_given : (v w : Worker) (h : ℕ) (f : Cells) (q : Quad) → Keeps v w → GivesQuad v h f q → GivesQuad w h f q
-keeps_given v w h f q k g = record { means = k.same_quads q (gives_has v h f q g) ∙ g.means; same_height = g.same_height }
-
+-- the whole of a height is the whole below it twice, with the carry in the south-west, and the carry is the one below
+-- it in the north-east; calls that keep the quads leave both as they are
 pub steps-next : (u v w : Worker) (height : ℕ) (below : Steps) (none whole carry : Quad) → 1 ≤ height → GivesSteps u (height - 1) below → GivesQuad u (height - 1) no_cells none → Keeps u v → Keeps v w
     → GivesQuad v (below.whole.height + 1) (quartered (2 ^ below.whole.height) (quad_set u below.whole) (quad_set u none) (quad_set u below.carry) (quad_set u below.whole)) whole
     → GivesQuad w (none.height + 1) (quartered (2 ^ none.height) (quad_set v none) (quad_set v below.carry) (quad_set v none) (quad_set v none)) carry
     → GivesSteps w height (record { whole = whole; carry = carry })
 steps-next u v w height below none whole carry l s n k p a b = record {
-  whole = keeps_given v w height (step_cells (2 ^ height)) whole p (gives_as v (below.whole.height + 1) height _ (step_cells (2 ^ height)) whole (omega (arith, h)) whole_set a);
+  whole = gives_later v w height (step_cells (2 ^ height)) whole p (gives_as v (below.whole.height + 1) height _ (step_cells (2 ^ height)) whole (omega (arith, h)) whole_set a);
   carry = gives_as w (none.height + 1) height _ (carry_cells (2 ^ height)) carry (omega (arith, o)) carry_set b;
 }
   where

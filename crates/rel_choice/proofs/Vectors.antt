@@ -70,6 +70,8 @@ atom-none r m n a b h =
     ∙ ap (λ (x : ℕ). relation_of x n (λ i j. has r i j && (not (some_below i (row_has r)) && not (some_below j (has r i))))) (sym a)
     ∙ ap (λ (x : ℕ). relation_of r.rows x (λ i j. has r i j && (not (some_below i (row_has r)) && not (some_below j (has r i))))) (sym b)
 
+-- the atom of a relation is the first pair of its list: none before it is in the relation, and for every other pair
+-- this one stands in a row before it or before it in its row
 pub atom-some : (r : Relation) (m n x y : ℕ) → IsRelation r → r.rows ≡ m → r.cols ≡ n → Some (x, y) ≡ next_pair r None → single m n x y ≡ atom r
 unfolding next_pair atom single
 atom-some r m n x y v a b h =

@@ -5,9 +5,10 @@ ghost use Rattle.rel_model.specs.Trees.{beside};
 ghost use Rattle.rel_model.specs.Worker.{HasQuad, quad_set, Keeps, MakesAtMost, MissesNothing};
 ghost use Rattle.rel_choice.specs.Leasts.{IsLeast};
 
-use crate::leaf::{column_in, side_of};
-use rel_model::Quad;
+use crate::leaf::column_in;
+use rel_model::empty::side_of;
 use rel_model::quads_trait::Quads;
+use rel_model::{Quad, Quarters};
 
 /// The least column, at least `from` and below `below`, that has a cell in a row of a quad.
 #[cycle(column)]
@@ -29,7 +30,7 @@ pub(crate) fn column_from<Q: Quads>(
     if below <= from {
         return None;
     }
-    if quad.name == 0 {
+    if quad.is_empty() {
         return None;
     }
     if quad.height == q.bottom() {
@@ -52,7 +53,7 @@ fn column_over<Q: Quads>(q: &mut Q, quad: Quad, row: u32, from: u32, below: u32)
     ensures room { MakesAtMost 0 (Q.worker q.old) (Q.worker q.new) }
     ensures misses { MissesNothing (Q.worker q.old) (Q.worker q.new) }
 {
-    let (nw, ne, sw, se) = q.quarters(quad);
+    let Quarters { nw, ne, sw, se } = q.quarters(quad);
     let half = side_of(nw.height);
     if row < half {
         return column_of_two(q, nw, ne, row, from, below);

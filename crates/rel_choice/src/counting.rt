@@ -7,7 +7,7 @@ ghost use Rattle.rel_model.specs.Worker.{Stands, set_of, HasQuad, Keeps, MakesAt
 ghost use Rattle.rel_choice.specs.Counts.{quad_count, same_key, AreCounts};
 
 use rel_model::quads_trait::Quads;
-use rel_model::{NoMemory, Quad, Rel};
+use rel_model::{NoMemory, Quad, Quarters, Rel};
 use std::alloc::Global;
 use std::collections::HashMap;
 
@@ -44,7 +44,7 @@ fn counted<Q: Quads>(
     ensures some { OnErr result (0 < quad.name) }
     ensures over { OnErr result (Q.least < quad.height) }
 {
-    if quad.name == 0 {
+    if quad.is_empty() {
         return Ok(0);
     }
     if quad.height == q.bottom() {
@@ -75,7 +75,7 @@ fn counted_over<Q: Quads>(
     ensures room { MakesAtMost 0 (Q.worker q.old) (Q.worker q.new) }
     ensures misses { MissesNothing (Q.worker q.old) (Q.worker q.new) }
 {
-    let (nw, ne, sw, se) = q.quarters(quad);
+    let Quarters { nw, ne, sw, se } = q.quarters(quad);
     let north_west = counted(q, counts, nw)?;
     let north_east = counted(q, counts, ne)?;
     let south_west = counted(q, counts, sw)?;

@@ -1,17 +1,8 @@
 //! Lines of a leaf, which is one word.
-ghost use Rattle.std.specs.Prelude.{◌≡◌, ◌<◌, ◌≤◌, ◌&&◌, ◌^◌};
-ghost use Rattle.rel_model.specs.Relation.{size_height};
+ghost use Rattle.std.specs.Prelude.{◌≡◌, ◌<◌, ◌≤◌, ◌&&◌};
 ghost use Rattle.rel_model.specs.Cells.{bits_cells, some_below};
 ghost use Rattle.rel_choice.specs.Leasts.{IsLeast, row_meets};
 ghost use Rattle.rel_choice.specs.Lines.{passes_twice, single_rows, rows_apart};
-
-/// The side of a square of a height.
-pub(crate) fn side_of(height: u8) -> u32
-    requires { height ≤ size_height }
-    ensures { result ≡ 2 ^ height }
-{
-    1u32 << height
-}
 
 /// The least column, at least `from` and below `below`, that has a cell in a row of a leaf.
 pub(crate) fn column_in(bits: u64, side: u32, row: u32, from: u32, below: u32) -> Option<u32>

@@ -4,9 +4,10 @@ ghost use Rattle.rel_model.specs.Choice.{is_unival};
 ghost use Rattle.rel_model.specs.Worker.{Stands, set_of, HasQuad, Keeps, MakesAtMost, MissesNothing};
 ghost use Rattle.rel_choice.specs.Lines.{quad_single, quads_apart, halves_apart};
 
-use crate::leaf::{leaf_is_single, leaves_are_apart, side_of};
+use crate::leaf::{leaf_is_single, leaves_are_apart};
+use rel_model::empty::side_of;
 use rel_model::quads_trait::Quads;
-use rel_model::{Quad, Rel};
+use rel_model::{Quad, Quarters, Rel};
 
 /// Whether no row has two pairs: the relation is univalent (Schmidt and Ströhlein).
 pub fn unival<Q: Quads>(q: &mut Q, r: Rel) -> bool
@@ -29,7 +30,7 @@ fn is_single<Q: Quads>(q: &mut Q, quad: Quad) -> bool
     ensures room { MakesAtMost 0 (Q.worker q.old) (Q.worker q.new) }
     ensures misses { MissesNothing (Q.worker q.old) (Q.worker q.new) }
 {
-    if quad.name == 0 {
+    if quad.is_empty() {
         return true;
     }
     if quad.height == q.bottom() {
@@ -50,7 +51,7 @@ fn is_single_over<Q: Quads>(q: &mut Q, quad: Quad) -> bool
     ensures room { MakesAtMost 0 (Q.worker q.old) (Q.worker q.new) }
     ensures misses { MissesNothing (Q.worker q.old) (Q.worker q.new) }
 {
-    let (nw, ne, sw, se) = q.quarters(quad);
+    let Quarters { nw, ne, sw, se } = q.quarters(quad);
     if !is_single(q, nw) {
         return false;
     }
@@ -102,10 +103,10 @@ fn are_apart<Q: Quads>(q: &mut Q, a: Quad, b: Quad) -> bool
     ensures room { MakesAtMost 0 (Q.worker q.old) (Q.worker q.new) }
     ensures misses { MissesNothing (Q.worker q.old) (Q.worker q.new) }
 {
-    if a.name == 0 {
+    if a.is_empty() {
         return true;
     }
-    if b.name == 0 {
+    if b.is_empty() {
         return true;
     }
     if a.height == q.bottom() {
@@ -129,12 +130,12 @@ fn are_apart_over<Q: Quads>(q: &mut Q, a: Quad, b: Quad) -> bool
     ensures room { MakesAtMost 0 (Q.worker q.old) (Q.worker q.new) }
     ensures misses { MissesNothing (Q.worker q.old) (Q.worker q.new) }
 {
-    let (a_nw, a_ne, a_sw, a_se) = q.quarters(a);
-    let (b_nw, b_ne, b_sw, b_se) = q.quarters(b);
-    if !are_halves_apart(q, (a_nw, a_ne), (b_nw, b_ne)) {
+    let a_four = q.quarters(a);
+    let b_four = q.quarters(b);
+    if !are_halves_apart(q, (a_four.nw, a_four.ne), (b_four.nw, b_four.ne)) {
         return false;
     }
-    are_halves_apart(q, (a_sw, a_se), (b_sw, b_se))
+    are_halves_apart(q, (a_four.sw, a_four.se), (b_four.sw, b_four.se))
 }
 
 /// The same for two halves, each of two quads side by side.

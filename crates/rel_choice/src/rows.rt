@@ -4,9 +4,10 @@ ghost use Rattle.std.specs.Prelude.{◌≡◌, ◌<◌, ◌≤◌, ◌^◌};
 ghost use Rattle.rel_model.specs.Worker.{HasQuad, quad_set, Keeps, MakesAtMost, MissesNothing};
 ghost use Rattle.rel_choice.specs.Leasts.{IsLeast, row_meets, row_meets_either};
 
-use crate::leaf::{row_in, side_of};
-use rel_model::Quad;
+use crate::leaf::row_in;
+use rel_model::empty::side_of;
 use rel_model::quads_trait::Quads;
+use rel_model::{Quad, Quarters};
 
 /// The least row, at least `from` and below `below`, that has a cell in a quad.
 #[cycle(row)]
@@ -21,7 +22,7 @@ pub(crate) fn row_from<Q: Quads>(q: &mut Q, quad: Quad, from: u32, below: u32) -
     if below <= from {
         return None;
     }
-    if quad.name == 0 {
+    if quad.is_empty() {
         return None;
     }
     if quad.height == q.bottom() {
@@ -43,7 +44,7 @@ fn row_over<Q: Quads>(q: &mut Q, quad: Quad, from: u32, below: u32) -> Option<u3
     ensures room { MakesAtMost 0 (Q.worker q.old) (Q.worker q.new) }
     ensures misses { MissesNothing (Q.worker q.old) (Q.worker q.new) }
 {
-    let (nw, ne, sw, se) = q.quarters(quad);
+    let Quarters { nw, ne, sw, se } = q.quarters(quad);
     let half = side_of(nw.height);
     if let Some(found) = row_of_two(q, nw, ne, from, below.min(half)) {
         return Some(found);

@@ -7,7 +7,7 @@ ghost use Rattle.rel_model.specs.Choice.{next as next_of};
 ghost use Rattle.rel_model.specs.Worker.{Stands, set_of, Keeps, MakesAtMost, Gives, HasCause, derived_room};
 ghost use Rattle.rel_choice.specs.Steps.{step_cells, carry_cells, step_relation, GivesSteps, steps_room, step_room};
 
-use crate::leaf::side_of;
+use rel_model::empty::side_of;
 use rel_model::quads_trait::Quads;
 use rel_model::{Lack, Quad, Rel, Shape};
 
@@ -75,10 +75,7 @@ fn steps_of<Q: Quads>(q: &mut Q, height: u8) -> Result<Steps, Lack>
         return leaf_steps(q);
     }
     let below = steps_of(q, height - 1)?;
-    let none = Quad {
-        height: height - 1,
-        name: 0,
-    };
+    let none = Quad::empty(height - 1);
     let whole = q.corner(below.whole, none, below.carry, below.whole)?;
     let carry = q.corner(none, below.carry, none, none)?;
     Ok(Steps { whole, carry })

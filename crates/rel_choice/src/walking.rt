@@ -6,8 +6,8 @@ ghost use Rattle.rel_model.specs.Worker.{Stands, set_of, HasQuad, quad_set, Keep
 ghost use Rattle.rel_choice.specs.Leasts.{IsLeastPair, from_row, behind};
 
 use crate::columns::column_from;
-use crate::leaf::side_of;
 use crate::rows::row_from;
+use rel_model::empty::side_of;
 use rel_model::quads_trait::Quads;
 use rel_model::{Quad, Rel};
 

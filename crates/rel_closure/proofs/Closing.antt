@@ -2,7 +2,7 @@
 -- 1. The identity is the union of its halves, down to single pairs.
 -- 2. A square united with its relation has the walks of twice as many steps; where it adds no pair, or has as many steps as there are elements, it is the transitive closure.
 -- 3. The rooms of the calls add up: at most 2 n of single pairs and unions for the identity, and one composition and one union for each binary digit of n for the closure.
-use Rattle.std.proofs.Common.{◌≡◌, ◌<◌, ◌≤◌, ◌+◌, ◌-◌, ◌*◌, ◌^◌, ◌∙◌, ◌&&◌, ltb, leb, eqb, max, suc, ℕ, true, Some, refl, sym, ap, subst, inl, inr, arith}
+use Rattle.std.proofs.Common.{◌≡◌, ◌≢◌, ◌<◌, ◌≤◌, ◌+◌, ◌-◌, ◌*◌, ◌/◌, ◌^◌, ◌∙◌, ◌&&◌, ltb, leb, eqb, max, suc, ℕ, true, Some, refl, sym, ap, subst, inl, inr, arith}
 use Rattle.std.proofs.lemmas.Bool.{cases_lt, and_parts, and_from, eqb-true, eq-eqb, ltb-true, lt-ltb, leb-true, le-leb}
 use Rattle.std.proofs.lemmas.Nat.{mul-pow}
 use Rattle.std.proofs.Math.Nat.{pow-suc, mul-le-mul, pow-le-pow_right}
@@ -11,14 +11,14 @@ use Rattle.rel_model.specs.Relation.{Relation, has, size_limit}
 use Rattle.rel_model.specs.Operators.{empty, single, union, compose, identity}
 use Rattle.rel_model.specs.Closures.{walks_within, transitive_closure, reflexive_closure}
 use Rattle.rel_model.specs.Algebra.{HasType}
-use Rattle.rel_model.specs.Worker.{Worker, Stands, set_of, Gives, Keeps, height_of, operator_room, derived_room, height_of_three, product_room}
+use Rattle.rel_model.specs.Worker.{Worker, Stands, set_of, Gives, Keeps, height_of, operator_room, derived_room, wide_room, height_of_three, product_room}
 use Rattle.rel_model.proofs.Somes.{same_truth}
 use Rattle.rel_model.proofs.Workers.{stands_some, gives_set, gives_stands, keeps_set, keeps_gives, keeps_trans}
 use Rattle.rel_model.proofs.Relations.{relation_of-agree}
 use Rattle.rel_model.proofs.Members.{inside, type-test, in_test, from_test, one_relation, type-union, in_union, left_union, right_union}
 use Rattle.rel_model.proofs.Heights.{height_of-covers}
 use Rattle.rel_steps.proofs.Rooms.{as_high}
-use Rattle.rel_model.proofs.Rooms.{derived_room-least, product_room-most, operator_room-most}
+use Rattle.rel_model.proofs.Rooms.{derived_room-least, wide_room-four, product_room-most, operator_room-most}
 use Rattle.rel_model.proofs.Walking.{walks_within-one, walks_within-double, walks_within-enough, walks_within-still, reflexive-union}
 use Rattle.rel_closure.specs.Diagonal.{diagonal}
 
@@ -57,6 +57,8 @@ single-diagonal n a k e = relation_of-agree n n _ _ (λ i j l m. same_truth (eqb
     (λ h. let p = and_parts _ _ h in let q = and_parts _ _ p.1 in let x = eqb-true i j p.0 in let y = leb-true a i q.0 in let z = ltb-true i (a + k) q.1 in
     and_from (eqb i a) (eqb j a) (eq-eqb i a (omega (arith, x, y, z, e))) (eq-eqb j a (omega (arith, x, y, z, e)))))
 
+-- two stretches of the diagonal, one behind the other, are one: each of its pairs lies before the place where they
+-- meet or from there on
 diagonal-halves : (n a k m : ℕ) → union (diagonal n a k) (diagonal n (a + k) m) ≡ diagonal n a (k + m)
 diagonal-halves n a k m =
     let x = type-diagonal n a k in
@@ -142,13 +144,27 @@ first_given w r t s = record { means = stands_some w r s ∙ ap Some (sym (walks
 
 -- ---- rooms
 -- both halves and their union
-pub halves_room : (a b count x : ℕ) → 0 < a → 0 < b → a + b ≡ count → (a + a - 1) * x + (b + b - 1) * x + x ≤ (count + count - 1) * x
+halves_room : (a b count x : ℕ) → 0 < a → 0 < b → a + b ≡ count → (a + a - 1) * x + (b + b - 1) * x + x ≤ (count + count - 1) * x
 halves_room a b count x p q e =
     let one : count + count - 1 ≡ (a + a - 1) + (b + b - 1) + 1 = omega (arith, p, q, e) in
     let f : (count + count - 1) * x ≡ ((a + a - 1) + (b + b - 1) + 1) * x = ap (λ (y : ℕ). y * x) one in
     let g = distrib ((a + a - 1) + (b + b - 1)) 1 x in
     let h = distrib (a + a - 1) (b + b - 1) x in
     omega (arith, f, g, h)
+
+pub part_room : (n count x y : ℕ) → 0 < count → count ≢ 1 → x ≡ n → y ≡ n → let half = count / 2 in let rest = count - count / 2 in
+    (half + half - 1) * operator_room n n + (rest + rest - 1) * operator_room n n + operator_room x y ≤ (count + count - 1) * operator_room n n
+part_room n count x y some more a b =
+    let r = halves_room (count / 2) (count - count / 2) count (operator_room n n) (omega (arith, some, more)) (omega (arith, some, more)) (omega arith) in
+    let same : operator_room x y ≡ operator_room n n = ap (λ (m : ℕ). operator_room m y) a ∙ ap (operator_room n) b in
+    omega (arith, r, same)
+
+-- the identity and a union
+pub reflexive_rooms : (n c : ℕ) → n ≡ c → derived_room n n n + operator_room n c ≤ wide_room n n n
+reflexive_rooms n c e =
+    let h : ℕ = height_of_three n n n in
+    let u = operator_room-most n c h (omega arith) (as_high c n h (sym e) (omega arith)) in
+    omega (arith, u, derived_room-least n n n, wide_room-four n n n)
 
 -- twice as many operators as elements
 pub identity_room : (n : ℕ) → n ≤ size_limit → (n + n - 1) * operator_room n n ≤ derived_room n n n
@@ -190,6 +206,8 @@ pub record Round (d n : ℕ) (rows cols : ℕ) : Type 0 where
   pub next : (old now mid new : ℕ) → now ≤ old + d * (20 * 8 ^ height_of n) → mid ≤ now + product_room rows cols cols → new ≤ mid + operator_room rows cols → new ≤ old + (d + 1) * (20 * 8 ^ height_of n)
   pub room : (old now mid new : ℕ) → now ≤ old + d * (20 * 8 ^ height_of n) → mid ≤ now + product_room rows cols cols → new ≤ mid + operator_room rows cols → new ≤ old + derived_room n n n
 
+-- while the walks reach fewer steps than there are elements one more round has room: each round doubles the steps, so
+-- there were fewer rounds than the height of n
 pub round_of : (d n reach rows cols : ℕ) → n ≤ size_limit → 2 ^ d ≡ reach → reach < n → rows ≡ n → cols ≡ n → Round d n rows cols
 round_of d n reach rows cols limit power under er ec =
     let h : ℕ = height_of n in

@@ -7,19 +7,20 @@ use Rattle.std.proofs.Common.{◌≡◌, ◌<◌, ◌≤◌, ◌+◌, ◌-◌, �
 use Rattle.std.specs.Prelude.{unwrap_or}
 use Rattle.std.proofs.Math.Nat.{pow-suc, one-le-pow, pow-le-pow_left, pow-le-pow_right}
 use Rattle.rel_model.specs.declared.Quad.{Quad}
+use Rattle.rel_model.specs.declared.Quarters.{Quarters}
 use Rattle.rel_model.specs.Cells.{Cells, no_cells, cells_union, block_cells, bits_cells}
 use Rattle.rel_model.specs.Trees.{top_height, quartered}
 use Rattle.rel_model.specs.Quarters.{LiesWithin, GivesQuarters}
 use Rattle.rel_model.specs.Roots.{tree_room}
 use Rattle.rel_model.specs.Worker.{Worker, HasQuad, quad_set, GivesQuad, Keeps}
 use Rattle.rel_model.proofs.TreeLaws.{Within}
-use Rattle.rel_model.proofs.Workers.{keeps_itself, keeps_trans}
+use Rattle.rel_model.proofs.Workers.{keeps_trans}
 use Rattle.bit_rows.specs.Places.{placed, window}
 use Rattle.bit_rows.specs.Closing.{IsClosure}
 use Rattle.bit_rows.proofs.Windows.{four_placed, window-quartered, union_none, spilled_alone, window_whole, closure_within}
+use Rattle.rel_steps.proofs.Empty.{empty_given}
 use Rattle.rel_steps.proofs.Given.{AreParts}
 use Rattle.rel_closure.specs.ByQuarters.{cells_closure}
-use Rattle.rel_closure.specs.Reading.{OnlyReads}
 use Rattle.rel_closure.proofs.Quartering.{one_closure, closure_is}
 use Rattle.rel_steps.proofs.Given.{kept_set}
 use Rattle.rel_closure.proofs.OverQuads.{double_side}
@@ -70,21 +71,6 @@ under_top k h e l m = omega (arith, e, l, m)
 within_square : (m : ℕ) (f : Cells) → LiesWithin m m f → Within m m f
 within_square m f w = record { row = w.row; col = w.col }
 
--- ---- calls that only read
-pub reads_itself : (w : Worker) → OnlyReads w w
-reads_itself w = record { keeps = keeps_itself w; room = omega arith; misses = refl }
-
-pub reads_on : (u v w : Worker) → OnlyReads u v → OnlyReads v w → OnlyReads u w
-reads_on u v w s t = record {
-  keeps = keeps_trans u v w s.keeps t.keeps;
-  room = (let a = s.room in let b = t.room in omega (arith, a, b));
-  misses = t.misses ∙ s.misses;
-}
-
--- five calls
-pub reads_five : (s t u v w x : Worker) → OnlyReads s t → OnlyReads t u → OnlyReads u v → OnlyReads v w → OnlyReads w x → OnlyReads s x
-reads_five s t u v w x a b c d e = reads_on s t x a (reads_on t u x b (reads_on u v x c (reads_on v w x d e)))
-
 -- ---- the steps of a spill
 pub spilled_none : (w : Worker) (q : Quad) (r c : ℕ) (z : Cells) → w.quad (record { height = q.height; name = 0 }) ≡ Some no_cells → q.name ≡ 0 → z ≡ cells_union z (placed r c (quad_set w q))
 spilled_none w q r c z e n =
@@ -96,30 +82,32 @@ spilled_block w q least bits r c z y l e f =
     let same : block_cells bits ≡ quad_set w q = ap (λ (k : ℕ). bits_cells (2 ^ k) bits) (sym l) ∙ e in
     f ∙ ap (λ (g : Cells). cells_union z (placed r c g)) same
 
-pub spilled_four : (w0 w1 w2 w3 w4 : Worker) (q : Quad) (four : Quad × Quad × Quad × Quad) (r c m : ℕ) (z0 z1 z2 z3 z4 : Cells)
-    → GivesQuarters w0 w1 q four → ((p : Quad) → HasQuad w1 p → LiesWithin (2 ^ p.height) (2 ^ p.height) (quad_set w1 p)) → m ≡ 2 ^ four.0.height
+-- four quarters that are added to rows one after the other add the square: it is made of them, and each is still the
+-- same when its turn comes
+pub spilled_four : (w0 w1 w2 w3 w4 : Worker) (q : Quad) (four : Quarters) (r c m : ℕ) (z0 z1 z2 z3 z4 : Cells)
+    → GivesQuarters w0 w1 q four → ((p : Quad) → HasQuad w1 p → LiesWithin (2 ^ p.height) (2 ^ p.height) (quad_set w1 p)) → m ≡ 2 ^ four.nw.height
     → Keeps w1 w2 → Keeps w2 w3 → Keeps w3 w4
-    → z1 ≡ cells_union z0 (placed r c (quad_set w1 four.0)) → z2 ≡ cells_union z1 (placed r (c + m) (quad_set w2 four.1))
-    → z3 ≡ cells_union z2 (placed (r + m) c (quad_set w3 four.2)) → z4 ≡ cells_union z3 (placed (r + m) (c + m) (quad_set w4 four.3))
+    → z1 ≡ cells_union z0 (placed r c (quad_set w1 four.nw)) → z2 ≡ cells_union z1 (placed r (c + m) (quad_set w2 four.ne))
+    → z3 ≡ cells_union z2 (placed (r + m) c (quad_set w3 four.sw)) → z4 ≡ cells_union z3 (placed (r + m) (c + m) (quad_set w4 four.se))
     → z4 ≡ cells_union z0 (placed r c (quad_set w0 q))
 spilled_four w0 w1 w2 w3 w4 q four r c m z0 z1 z2 z3 z4 a square e k12 k23 k34 f0 f1 f2 f3 =
     let k13 = keeps_trans w1 w2 w3 k12 k23 in
     let k14 = keeps_trans w1 w3 w4 k13 k34 in
-    let nw : Cells = quad_set w1 four.0 in
-    let ne : Cells = quad_set w1 four.1 in
-    let sw : Cells = quad_set w1 four.2 in
-    let se : Cells = quad_set w1 four.3 in
+    let nw : Cells = quad_set w1 four.nw in
+    let ne : Cells = quad_set w1 four.ne in
+    let sw : Cells = quad_set w1 four.sw in
+    let se : Cells = quad_set w1 four.se in
     let p0 = a.nw_height in
     let p1 = a.ne_height in
     let p2 = a.sw_height in
     let p3 = a.se_height in
-    let e1 : quad_set w2 four.1 ≡ ne = kept_set w1 w2 four.1 k12 a.ne in
-    let e2 : quad_set w3 four.2 ≡ sw = kept_set w1 w3 four.2 k13 a.sw in
-    let e3 : quad_set w4 four.3 ≡ se = kept_set w1 w4 four.3 k14 a.se in
-    let v0 : Within m m nw = here four.0 nw (square four.0 a.nw) refl in
-    let v1 : Within m m ne = here four.1 ne (square four.1 a.ne) (omega (arith, p0, p1)) in
-    let v2 : Within m m sw = here four.2 sw (square four.2 a.sw) (omega (arith, p0, p2)) in
-    let v3 : Within m m se = here four.3 se (square four.3 a.se) (omega (arith, p0, p3)) in
+    let e1 : quad_set w2 four.ne ≡ ne = kept_set w1 w2 four.ne k12 a.ne in
+    let e2 : quad_set w3 four.sw ≡ sw = kept_set w1 w3 four.sw k13 a.sw in
+    let e3 : quad_set w4 four.se ≡ se = kept_set w1 w4 four.se k14 a.se in
+    let v0 : Within m m nw = here four.nw nw (square four.nw a.nw) refl in
+    let v1 : Within m m ne = here four.ne ne (square four.ne a.ne) (omega (arith, p0, p1)) in
+    let v2 : Within m m sw = here four.sw sw (square four.sw a.sw) (omega (arith, p0, p2)) in
+    let v3 : Within m m se = here four.se se (square four.se a.se) (omega (arith, p0, p3)) in
     f3 ∙ ap (λ (g : Cells). cells_union z3 (placed (r + m) (c + m) g)) e3
     ∙ ap (λ (g : Cells). cells_union g (placed (r + m) (c + m) se)) (f2 ∙ ap (λ (g : Cells). cells_union z2 (placed (r + m) c g)) e2
     ∙ ap (λ (g : Cells). cells_union g (placed (r + m) c sw)) (f1 ∙ ap (λ (g : Cells). cells_union z1 (placed r (c + m) g)) e1
@@ -128,7 +116,7 @@ spilled_four w0 w1 w2 w3 w4 q four r c m z0 z1 z2 z3 z4 a square e k12 k23 k34 f
     ∙ ap (λ (n : ℕ). cells_union z0 (placed r c (quartered n nw ne sw se))) e
     ∙ ap (λ (g : Cells). cells_union z0 (placed r c g)) (sym a.means)
   where
-    here : (p : Quad) (f : Cells) → LiesWithin (2 ^ p.height) (2 ^ p.height) f → p.height ≡ four.0.height → Within m m f
+    here : (p : Quad) (f : Cells) → LiesWithin (2 ^ p.height) (2 ^ p.height) f → p.height ≡ four.nw.height → Within m m f
     here p f w h = within_square m f (subst (λ (n : ℕ). LiesWithin n n f) (ap (λ (k : ℕ). 2 ^ k) h ∙ sym e) w)
 
 -- ---- the quad of a window
@@ -143,8 +131,8 @@ gathered_parts h r c m f l e =
     }
 
 -- a window with no cell
-pub clear_value : (w : Worker) (h r c m : ℕ) (f : Cells) → w.quad (record { height = h; name = 0 }) ≡ Some no_cells → m ≡ 2 ^ h → window r c m f ≡ no_cells → GivesQuad w h (window r c (2 ^ h) f) (record { height = h; name = 0 })
-clear_value w h r c m f z e n = record { means = z ∙ ap (λ (x : Cells). Some x) (sym n ∙ ap (λ (k : ℕ). window r c k f) e); same_height = refl }
+pub clear_value : (w : Worker) (h r c m : ℕ) (f : Cells) (q : Quad) → q ≡ record { height = h; name = 0 } → w.quad (record { height = h; name = 0 }) ≡ Some no_cells → m ≡ 2 ^ h → window r c m f ≡ no_cells → GivesQuad w h (window r c (2 ^ h) f) q
+clear_value w h r c m f q i z e n = empty_given w h (window r c (2 ^ h) f) q i z (ap (λ (k : ℕ). window r c k f) (sym e) ∙ n)
 
 -- the word of a block fits in a leaf, and is that of a window
 pub word_fits : (least bits : ℕ) → least ≡ 3 → bits < 2 ^ 64 → bits < 2 ^ (2 ^ least * 2 ^ least)

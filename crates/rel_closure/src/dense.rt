@@ -2,10 +2,10 @@
 //! no result depends on it.
 ghost use Rattle.std.specs.Prelude.{◌≡◌, ◌<◌, ◌≤◌, true, length};
 ghost use Rattle.rel_model.specs.Worker.{HasQuad};
-ghost use Rattle.rel_closure.specs.Reading.{OnlyReads};
+ghost use Rattle.rel_steps.specs.Reading.{OnlyReads};
 
-use rel_model::Quad;
 use rel_model::quads_trait::Quads;
+use rel_model::{Quad, Quarters};
 
 /// A dense square of a height has at least this many distinct quads under it.
 fn least_under(height: u8) -> u32 {
@@ -24,7 +24,7 @@ fn met_under<Q: Quads>(quads: &mut Q, q: Quad, seen: &mut [u32], met: u32, most:
     ensures same_places { length seen.new ≡ 256 }
     ensures reads { OnlyReads (Q.worker quads.old) (Q.worker quads.new) }
 {
-    if q.name == 0 || met >= most {
+    if q.is_empty() || met >= most {
         return met;
     }
     let place = (q.name % 256) as usize;
@@ -35,7 +35,7 @@ fn met_under<Q: Quads>(quads: &mut Q, q: Quad, seen: &mut [u32], met: u32, most:
     if q.height == quads.bottom() {
         return met + 1;
     }
-    let (nw, ne, sw, se) = quads.quarters(q);
+    let Quarters { nw, ne, sw, se } = quads.quarters(q);
     let first = met_under(quads, nw, seen, met + 1, most);
     let second = met_under(quads, ne, seen, first, most);
     let third = met_under(quads, sw, seen, second, most);
@@ -48,7 +48,7 @@ fn ends_differ<Q: Quads>(quads: &mut Q, q: Quad) -> bool
     requires over { Q.least < q.height }
     ensures reads { OnlyReads (Q.worker quads.old) (Q.worker quads.new) }
 {
-    let (nw, _, _, se) = quads.quarters(q);
+    let Quarters { nw, se, .. } = quads.quarters(q);
     nw.name != se.name
 }
 

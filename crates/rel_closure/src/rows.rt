@@ -7,12 +7,12 @@ ghost use Rattle.rel_steps.specs.Making.{MakesQuad};
 ghost use Rattle.bit_rows.specs.Rows.{rows_cells};
 ghost use Rattle.bit_rows.specs.Places.{placed, window};
 ghost use Rattle.rel_closure.specs.ByQuarters.{cells_closure};
-ghost use Rattle.rel_closure.specs.Reading.{OnlyReads};
+ghost use Rattle.rel_steps.specs.Reading.{OnlyReads};
 
-use crate::side::side_of;
 use bit_rows::{Row, add_block, block_at, is_clear, no_rows, rows_close};
+use rel_model::empty::side_of;
 use rel_model::quads_trait::Quads;
-use rel_model::{Lack, Quad};
+use rel_model::{Lack, Quad, Quarters};
 
 /// Adds the cells of a quad to rows, from a row and a column on.
 fn spill<Q: Quads>(quads: &mut Q, q: Quad, z: &mut [Row], row: usize, col: usize)
@@ -27,7 +27,7 @@ fn spill<Q: Quads>(quads: &mut Q, q: Quad, z: &mut [Row], row: usize, col: usize
         ≡ cells_union (rows_cells z.old) (placed row col (quad_set (Q.worker quads.old) q)) }
     ensures reads { OnlyReads (Q.worker quads.old) (Q.worker quads.new) }
 {
-    if q.name == 0 {
+    if q.is_empty() {
         return;
     }
     if q.height == quads.bottom() {
@@ -35,7 +35,7 @@ fn spill<Q: Quads>(quads: &mut Q, q: Quad, z: &mut [Row], row: usize, col: usize
         add_block(z, bits, row, col);
         return;
     }
-    let (nw, ne, sw, se) = quads.quarters(q);
+    let Quarters { nw, ne, sw, se } = quads.quarters(q);
     let half = side_of(nw.height) as usize;
     spill(quads, nw, z, row, col);
     spill(quads, ne, z, row, col + half);
@@ -67,7 +67,7 @@ fn gather<Q: Quads>(
     }
     let side = side_of(height) as usize;
     if is_clear(z, row, col, side) {
-        return Ok(Quad { height, name: 0 });
+        return Ok(Quad::empty(height));
     }
     let half = side_of(height - 1) as usize;
     let nw = gather(quads, z, height - 1, row, col)?;

@@ -2,8 +2,8 @@ ghost use Rattle.std.specs.Prelude.{◌≡◌, ◌≤◌, ◌+◌, ◌-◌, ◌*
 ghost use Rattle.rel_model.specs.Closures.{walks_within, transitive_closure};
 ghost use Rattle.rel_model.specs.Worker.{Stands, set_of, Keeps, MakesAtMost, Gives, HasCause, derived_room};
 
-use crate::counter::Steps;
 use rel_model::core_trait::Core;
+use rel_model::counter::Steps;
 use rel_model::{Lack, Rel};
 use std::marker::Brand;
 use std::sync::ledger::{Blank, Ledger};

@@ -3,8 +3,8 @@ use Rattle.std.proofs.Common.{◌≡◌, ◌≤◌, ◌-◌, ◌*◌, ◌^◌, z
 use Rattle.std.proofs.Math.Nat.{pow-suc, one-le-pow, pow-le-pow_right}
 use Rattle.rel_model.specs.Trees.{bottom_height}
 use Rattle.rel_model.specs.Equations.{side_of}
-use Rattle.rel_model.specs.Quads.{Keeper, ReadsQuads, quad_room, composed_words, compose_room}
-use Rattle.rel_model.proofs.QuadLaws.{side_of-power, reads_on}
+use Rattle.rel_model.specs.Quads.{quad_room, composed_words, compose_room}
+use Rattle.rel_model.proofs.QuadLaws.{side_of-power}
 
 -- one result has room where a composition has
 tree_fits : (d : ℕ) → 2 * 4 ^ d - 1 ≤ composed_words d
@@ -24,7 +24,3 @@ side_small h l m =
     let p = side_of-power h l in
     let q = pow-le-pow_right {n = 2} (omega arith) {i = h} {j = 8} m in
     omega (arith, p, q)
-
--- three calls that read
-pub three_reads : (s t u v : Keeper) → ReadsQuads s t → ReadsQuads t u → ReadsQuads u v → ReadsQuads s v
-three_reads s t u v a b c = reads_on s u v (reads_on s t u a b) c

@@ -3,6 +3,7 @@
 -- 2. In a square of 512 rows they are the products of its quarters.
 use Rattle.std.proofs.Common.{◌≡◌, ◌<◌, ◌≤◌, ◌+◌, ◌-◌, ◌%◌, ◌≢◌, zero, suc, ℕ, refl, sym, ap, ◌∙◌, inl, inr, arith}
 use Rattle.rel_model.specs.declared.Quad.{Quad}
+use Rattle.rel_model.specs.declared.Quarters.{Quarters}
 use Rattle.rel_model.specs.Cells.{Cells, cells_union, cells_compose}
 use Rattle.rel_model.specs.Trees.{bottom_height, side}
 use Rattle.rel_model.specs.Equations.{side_of}
@@ -50,32 +51,34 @@ pub record FourCrossing (w : Keeper) (h m : ℕ) (left right : Quad × Quad) (r 
   pub col_on : c % 512 ≡ 0
   pub half_on : m % 512 ≡ 0
 
-pub four_crossing_of : (s0 s1 : Keeper) (a b : Quad) (fa fb : Quad × Quad × Quad × Quad) (left right : Quad × Quad) (m row col r c : ℕ)
+-- in a square of more than 512 rows half the side is a multiple of 512, so places that are such multiples remain so
+-- within their halves, and all four windows meet the same quarters
+pub four_crossing_of : (s0 s1 : Keeper) (a b : Quad) (fa fb : Quarters) (left right : Quad × Quad) (m row col r c : ℕ)
     → 9 ≤ a.height → a.height ≢ 9 → b.height ≡ a.height → AreQuarters s0 s1 a fa → AreQuarters s0 s1 b fb → m ≡ side_of (a.height - 1)
-    → IsHalf (fa.0, fa.1) (fa.2, fa.3) row m left r → IsHalf (fb.0, fb.2) (fb.1, fb.3) col m right c
+    → IsHalf (fa.nw, fa.ne) (fa.sw, fa.se) row m left r → IsHalf (fb.nw, fb.sw) (fb.ne, fb.se) col m right c
     → row % 512 ≡ 0 → col % 512 ≡ 0 → row < side_of a.height → col < side_of a.height → FourCrossing s1 a.height m left right r c
 four_crossing_of s0 s1 a b fa fb left right m row col r c l n eh pa pb em hl hr ro co ri ci =
     let mo : m % 512 ≡ 0 = ap (λ (x : ℕ). x % 512) em ∙ side_of_by_512 (a.height - 1) (omega arith) in
     let l8 : 8 ≤ a.height = omega arith in
     record {
       one = crossing_of s0 s1 a b fa fb left right m row col r c l8 (λ e. absurd (omega (arith, l, e))) eh pa pb em hl hr (by_256_of row ro) (by_256_of col co) ri ci;
-      row_on = half_by_512 (fa.0, fa.1) (fa.2, fa.3) left row m r hl ro mo;
-      col_on = half_by_512 (fb.0, fb.2) (fb.1, fb.3) right col m c hr co mo;
+      row_on = half_by_512 (fa.nw, fa.ne) (fa.sw, fa.se) left row m r hl ro mo;
+      col_on = half_by_512 (fb.nw, fb.sw) (fb.ne, fb.se) right col m c hr co mo;
       half_on = mo;
     }
 
 -- two products of half the side were added to four squares
-pub four_sums_added : (s0 s1 s2 : Keeper) (a b : Quad) (fa fb : Quad × Quad × Quad × Quad) (left right : Quad × Quad) (m row col r c : ℕ) (z0 z1 z2 : Squares)
+pub four_sums_added : (s0 s1 s2 : Keeper) (a b : Quad) (fa fb : Quarters) (left right : Quad × Quad) (m row col r c : ℕ) (z0 z1 z2 : Squares)
     → b.height ≡ a.height → AreQuarters s0 s1 a fa → AreQuarters s0 s1 b fb → m ≡ side_of (a.height - 1)
-    → IsHalf (fa.0, fa.1) (fa.2, fa.3) row m left r → IsHalf (fb.0, fb.2) (fb.1, fb.3) col m right c
+    → IsHalf (fa.nw, fa.ne) (fa.sw, fa.se) row m left r → IsHalf (fb.nw, fb.sw) (fb.ne, fb.se) col m right c
     → row % 512 ≡ 0 → col % 512 ≡ 0 → ReadsQuads s1 s2 → FourCrossing s1 a.height m left right r c
     → AddsWindows z0 z1 r c (cells_compose (side_of left.0.height) (quad_cells s1 left.0) (quad_cells s1 right.0))
     → AddsWindows z1 z2 r c (cells_compose (side_of left.1.height) (quad_cells s2 left.1) (quad_cells s2 right.1))
     → AddsWindows z0 z2 row col (cells_compose (side_of a.height) (quad_cells s0 a) (quad_cells s0 b))
 four_sums_added s0 s1 s2 a b fa fb left right m row col r c z0 z1 z2 eh pa pb em hl hr ro co k x e1 e2 =
     let y = x.one in
-    let hl2 = half_shifted (fa.0, fa.1) (fa.2, fa.3) left row m r hl ro x.half_on in
-    let hr2 = half_shifted (fb.0, fb.2) (fb.1, fb.3) right col m c hr co x.half_on in
+    let hl2 = half_shifted (fa.nw, fa.ne) (fa.sw, fa.se) left row m r hl ro x.half_on in
+    let hr2 = half_shifted (fb.nw, fb.sw) (fb.ne, fb.se) right col m c hr co x.half_on in
     let r1 = by_256_of row ro in
     let c1 = by_256_of col co in
     let r2 = shifted_by_256 row ro in
@@ -88,9 +91,9 @@ four_sums_added s0 s1 s2 a b fa fb left right m row col r c z0 z1 z2 eh pa pb em
     }
 
 -- both middles of a square of 512 rows were added to one of the four
-one_added : (s0 s1 s2 : Keeper) (a b : Quad) (fa fb : Quad × Quad × Quad × Quad) (left right : Quad × Quad) (m row col r c : ℕ) (z0 z1 z2 : Cells)
+one_added : (s0 s1 s2 : Keeper) (a b : Quad) (fa fb : Quarters) (left right : Quad × Quad) (m row col r c : ℕ) (z0 z1 z2 : Cells)
     → a.height ≡ 9 → b.height ≡ a.height → AreQuarters s0 s1 a fa → AreQuarters s0 s1 b fb → m ≡ side_of (a.height - 1)
-    → IsHalf (fa.0, fa.1) (fa.2, fa.3) row m left r → IsHalf (fb.0, fb.2) (fb.1, fb.3) col m right c
+    → IsHalf (fa.nw, fa.ne) (fa.sw, fa.se) row m left r → IsHalf (fb.nw, fb.sw) (fb.ne, fb.se) col m right c
     → row % 256 ≡ 0 → col % 256 ≡ 0 → row < side_of a.height → col < side_of a.height → ReadsQuads s1 s2
     → z1 ≡ cells_union z0 (cells_compose (side_of left.0.height) (quad_cells s1 left.0) (quad_cells s1 right.0))
     → z2 ≡ cells_union z1 (cells_compose (side_of left.1.height) (quad_cells s2 left.1) (quad_cells s2 right.1))
@@ -112,18 +115,18 @@ unfolding bottom_height
 side_of_9 = refl
 
 -- both products of two rows of quarters were added to four squares
-pub four_products_added : (s0 s1 s2 : Keeper) (a b : Quad) (fa fb : Quad × Quad × Quad × Quad) (row col : ℕ) (z0 z1 z2 : Squares)
+pub four_products_added : (s0 s1 s2 : Keeper) (a b : Quad) (fa fb : Quarters) (row col : ℕ) (z0 z1 z2 : Squares)
     → a.height ≡ 9 → b.height ≡ a.height → AreQuarters s0 s1 a fa → AreQuarters s0 s1 b fb → row % 512 ≡ 0 → col % 512 ≡ 0 → row < side_of a.height → col < side_of a.height → ReadsQuads s1 s2
-    → AddsProducts s1 (fa.0, fa.2) (fb.0, fb.1) z0 z1 → AddsProducts s2 (fa.1, fa.3) (fb.2, fb.3) z1 z2
+    → AddsProducts s1 (fa.nw, fa.sw) (fb.nw, fb.ne) z0 z1 → AddsProducts s2 (fa.ne, fa.se) (fb.sw, fb.se) z1 z2
     → AddsWindows z0 z2 row col (cells_compose (side_of a.height) (quad_cells s0 a) (quad_cells s0 b))
 four_products_added s0 s1 s2 a b fa fb row col z0 z1 z2 e9 eh pa pb ro co ri ci k x y =
     let m : ℕ = side_of (a.height - 1) in
     let em : m ≡ 256 = (let e8 : a.height - 1 ≡ 8 = omega arith in ap side_of e8 ∙ side_of_8) in
     let es : side_of a.height ≡ 512 = ap side_of e9 ∙ side_of_9 in
-    let n = half_first (fa.0, fa.1) (fa.2, fa.3) row m (omega arith) in
-    let s = half_second (fa.0, fa.1) (fa.2, fa.3) (row + 256) m (omega arith) in
-    let w = half_first (fb.0, fb.2) (fb.1, fb.3) col m (omega arith) in
-    let e = half_second (fb.0, fb.2) (fb.1, fb.3) (col + 256) m (omega arith) in
+    let n = half_first (fa.nw, fa.ne) (fa.sw, fa.se) row m (omega arith) in
+    let s = half_second (fa.nw, fa.ne) (fa.sw, fa.se) (row + 256) m (omega arith) in
+    let w = half_first (fb.nw, fb.sw) (fb.ne, fb.se) col m (omega arith) in
+    let e = half_second (fb.nw, fb.sw) (fb.ne, fb.se) (col + 256) m (omega arith) in
     let r1 = by_256_of row ro in
     let c1 = by_256_of col co in
     let r2 = shifted_by_256 row ro in
@@ -131,10 +134,10 @@ four_products_added s0 s1 s2 a b fa fb row col z0 z1 z2 e9 eh pa pb ro co ri ci 
     let ri2 : row + 256 < side_of a.height = omega arith in
     let ci2 : col + 256 < side_of a.height = omega arith in
     record {
-      nw = one_added s0 s1 s2 a b fa fb (fa.0, fa.1) (fb.0, fb.2) m row col row col (rows_cells z0.nw) (rows_cells z1.nw) (rows_cells z2.nw) e9 eh pa pb refl n w r1 c1 ri ci k x.nw y.nw;
-      ne = one_added s0 s1 s2 a b fa fb (fa.0, fa.1) (fb.1, fb.3) m row (col + 256) row (col + 256 - m) (rows_cells z0.ne) (rows_cells z1.ne) (rows_cells z2.ne) e9 eh pa pb refl n e r1 c2 ri ci2 k x.ne y.ne;
-      sw = one_added s0 s1 s2 a b fa fb (fa.2, fa.3) (fb.0, fb.2) m (row + 256) col (row + 256 - m) col (rows_cells z0.sw) (rows_cells z1.sw) (rows_cells z2.sw) e9 eh pa pb refl s w r2 c1 ri2 ci k x.sw y.sw;
-      se = one_added s0 s1 s2 a b fa fb (fa.2, fa.3) (fb.1, fb.3) m (row + 256) (col + 256) (row + 256 - m) (col + 256 - m) (rows_cells z0.se) (rows_cells z1.se) (rows_cells z2.se) e9 eh pa pb refl s e r2 c2 ri2 ci2 k x.se y.se;
+      nw = one_added s0 s1 s2 a b fa fb (fa.nw, fa.ne) (fb.nw, fb.sw) m row col row col (rows_cells z0.nw) (rows_cells z1.nw) (rows_cells z2.nw) e9 eh pa pb refl n w r1 c1 ri ci k x.nw y.nw;
+      ne = one_added s0 s1 s2 a b fa fb (fa.nw, fa.ne) (fb.ne, fb.se) m row (col + 256) row (col + 256 - m) (rows_cells z0.ne) (rows_cells z1.ne) (rows_cells z2.ne) e9 eh pa pb refl n e r1 c2 ri ci2 k x.ne y.ne;
+      sw = one_added s0 s1 s2 a b fa fb (fa.sw, fa.se) (fb.nw, fb.sw) m (row + 256) col (row + 256 - m) col (rows_cells z0.sw) (rows_cells z1.sw) (rows_cells z2.sw) e9 eh pa pb refl s w r2 c1 ri2 ci k x.sw y.sw;
+      se = one_added s0 s1 s2 a b fa fb (fa.sw, fa.se) (fb.ne, fb.se) m (row + 256) (col + 256) (row + 256 - m) (col + 256 - m) (rows_cells z0.se) (rows_cells z1.se) (rows_cells z2.se) e9 eh pa pb refl s e r2 c2 ri2 ci2 k x.se y.se;
     }
   where
     half_first : (p q : Quad × Quad) (place half : ℕ) → place < half → IsHalf p q place half p place

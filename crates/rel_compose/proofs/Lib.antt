@@ -1,7 +1,9 @@
+pub mod FourParts
 pub mod Transposing
 pub mod Multiplying
 pub mod Finding
 pub mod Fitting
+pub mod Reading
 pub mod Summing
 pub mod FourSums
 pub mod Joining

@@ -5,13 +5,14 @@
 use Rattle.std.proofs.Common.{◌≡◌, ◌<◌, ◌+◌, ◌-◌, ◌&&◌, ◌||◌, ltb, zero, suc, ℕ, Bool, true, false, Result, Ok, Err, IfOk, refl, sym, ap, subst, ◌∙◌, arith}
 use Rattle.std.proofs.lemmas.Bool.{lt-ltb}
 use Rattle.rel_model.specs.declared.Quad.{Quad}
+use Rattle.rel_model.specs.declared.Quarters.{Quarters}
 use Rattle.rel_model.specs.Cells.{Cells, no_cells, cells_rect, cells_union, cells_compose, some_below}
 use Rattle.rel_model.specs.Trees.{bottom_height, quartered, side}
 use Rattle.rel_model.specs.Equations.{side_of}
 use Rattle.rel_model.specs.Quads.{Keeper, IsKeeper, quad_cells, QuadStands, IsQuad, KeepsQuads, ReadsQuads, AreQuarters}
 use Rattle.rel_model.proofs.TreeLaws.{same_cells}
 use Rattle.rel_model.proofs.Composing.{cells_compose-quartered}
-use Rattle.rel_model.proofs.QuadLaws.{keeps_on, keeps_itself, quad_stays, quad_cells-stay, is_quad-stays, side_of-next, empty_quad, quarters-before, result_later, corner_value}
+use Rattle.rel_model.proofs.QuadLaws.{keeps_on, keeps_itself, quad_stays, quad_cells-stay, is_quad-stays, reads_on, side_of-next, empty_quad, quarters-stay, quarters-before, result_later, corner_value}
 use Rattle.rel_compose.specs.Products.{BothStand, row_by_column, IsProduct, AreProducts, quarter_room}
 
 -- ---- without recursion
@@ -64,6 +65,8 @@ some_side : (d : ℕ) → 0 < side d
 some_side zero = omega arith
 some_side (suc d) = let i = some_side d in omega (arith, i)
 
+-- two full squares compose to a full square, so the first of them is the result: any element leads from any row to any
+-- column
 pub composed_full : (s0 s1 s2 : Keeper) (a b : Quad) → ReadsQuads s0 s1 → ReadsQuads s1 s2 → QuadStands s0 a → b.height ≡ a.height → QuadStands s0 b
     → quad_cells s0 a ≡ cells_rect (side_of a.height) (side_of a.height) → quad_cells s1 b ≡ cells_rect (side_of b.height) (side_of b.height)
     → IsQuad s2 a.height (cells_compose (side_of a.height) (quad_cells s0 a) (quad_cells s0 b)) a
@@ -125,14 +128,25 @@ pub products_value : (m0 m1 : ℕ) (s0 s1 s2 : Keeper) (row west east : Quad × 
 products_value m0 m1 s0 s1 s2 row west east p q sr se k0 k1 a b = record { first = product_after m1 s0 s1 s2 row west p k1 a; second = product_before m0 s0 s1 s2 row east q k0 sr se b }
 
 -- ---- the square
--- the rows and columns of two squares by their quarters
-pub record Squares (w : Keeper) (height : ℕ) (fa fb : Quad × Quad × Quad × Quad) : Type 0 where
-  pub north : BothStand w height (fa.0, fa.1)
-  pub south : BothStand w height (fa.2, fa.3)
-  pub west : BothStand w height (fb.0, fb.2)
-  pub east : BothStand w height (fb.1, fb.3)
+-- the quarters of two quads, which were read one after the other
+pub record BothQuarters (v w : Keeper) (a b : Quad) (fa fb : Quarters) : Type 0 where
+  pub first : AreQuarters v w a fa
+  pub second : AreQuarters v w b fb
+  pub reads : ReadsQuads v w
 
-pub squares : (t w : Keeper) (a b : Quad) (fa fb : Quad × Quad × Quad × Quad) → b.height ≡ a.height → AreQuarters t w a fa → AreQuarters t w b fb → Squares w fa.0.height fa fb
+pub read_both : {u v w : Keeper} {a b : Quad} {fa fb : Quarters} → ReadsQuads u v → ReadsQuads v w → QuadStands u b → AreQuarters u v a fa → AreQuarters v w b fb → BothQuarters u w a b fa fb
+read_both {u} {v} {w} {a} {b} {fa} {fb} r s i p q = record { first = quarters-stay 0 u v w a fa s.keeps p; second = quarters-before 0 u v w b fb r.keeps i q; reads = reads_on u v w r s }
+
+-- the rows and columns of two squares by their quarters
+pub record Squares (w : Keeper) (height : ℕ) (fa fb : Quarters) : Type 0 where
+  pub north : BothStand w height (fa.nw, fa.ne)
+  pub south : BothStand w height (fa.sw, fa.se)
+  pub west : BothStand w height (fb.nw, fb.sw)
+  pub east : BothStand w height (fb.ne, fb.se)
+
+-- the quarters of two squares of one height stand at one height, and so do the rows of the one and the columns of the
+-- other
+pub squares : (t w : Keeper) (a b : Quad) (fa fb : Quarters) → b.height ≡ a.height → AreQuarters t w a fa → AreQuarters t w b fb → Squares w fa.nw.height fa fb
 squares t w a b fa fb e p q =
     let a0 = p.nw_height in
     let a1 = p.ne_height in
@@ -149,21 +163,23 @@ squares t w a b fa fb e p q =
       east = record { first = q.ne; second = q.se; first_height = omega arith; second_height = omega arith };
     }
 
-pub squares-stay : (m : ℕ) (v w : Keeper) (h : ℕ) (fa fb : Quad × Quad × Quad × Quad) → KeepsQuads m v w → Squares v h fa fb → Squares w h fa fb
+pub squares-stay : (m : ℕ) (v w : Keeper) (h : ℕ) (fa fb : Quarters) → KeepsQuads m v w → Squares v h fa fb → Squares w h fa fb
 squares-stay m v w h fa fb k s = record {
-  north = both_stay m v w h (fa.0, fa.1) k s.north;
-  south = both_stay m v w h (fa.2, fa.3) k s.south;
-  west = both_stay m v w h (fb.0, fb.2) k s.west;
-  east = both_stay m v w h (fb.1, fb.3) k s.east;
+  north = both_stay m v w h (fa.nw, fa.ne) k s.north;
+  south = both_stay m v w h (fa.sw, fa.se) k s.south;
+  west = both_stay m v w h (fb.nw, fb.sw) k s.west;
+  east = both_stay m v w h (fb.ne, fb.se) k s.east;
 }
 
 -- a pair that stands at a height stands at that of another quad
 pub both_at : (w : Keeper) (h k : ℕ) (p : Quad × Quad) → k ≡ h → BothStand w h p → BothStand w k p
 both_at w h k p e b = subst (λ (x : ℕ). BothStand w x p) (sym e) b
 
-pub composed_value : {E : Type 0} (m0 m1 : ℕ) (s0 s1 s2 s3 s4 s5 : Keeper) (a b : Quad) (fa fb : Quad × Quad × Quad × Quad) (nw ne sw se : Quad) (r : Result Quad E)
+-- the corner of the four products is the composition of the squares, as matrices are multiplied by blocks; since quads
+-- stay, each product is the same before and after the calls of the others
+pub composed_value : {E : Type 0} (m0 m1 : ℕ) (s0 s1 s2 s3 s4 s5 : Keeper) (a b : Quad) (fa fb : Quarters) (nw ne sw se : Quad) (r : Result Quad E)
     → bottom_height < a.height → QuadStands s0 a → QuadStands s0 b → b.height ≡ a.height → KeepsQuads 0 s0 s1 → AreQuarters s1 s2 a fa → AreQuarters s1 s2 b fb → KeepsQuads m0 s2 s3 → KeepsQuads m1 s3 s4
-    → AreProducts s2 s3 (fa.0, fa.1) (fb.0, fb.2) (fb.1, fb.3) (nw, ne) → AreProducts s3 s4 (fa.2, fa.3) (fb.0, fb.2) (fb.1, fb.3) (sw, se)
+    → AreProducts s2 s3 (fa.nw, fa.ne) (fb.nw, fb.sw) (fb.ne, fb.se) (nw, ne) → AreProducts s3 s4 (fa.sw, fa.se) (fb.nw, fb.sw) (fb.ne, fb.se) (sw, se)
     → IfOk r (IsQuad s5 (nw.height + 1) (quartered (side_of nw.height) (quad_cells s4 nw) (quad_cells s4 ne) (quad_cells s4 sw) (quad_cells s4 se)))
     → IfOk r (IsQuad s5 a.height (cells_compose (side_of a.height) (quad_cells s0 a) (quad_cells s0 b)))
 composed_value m0 m1 s0 s1 s2 s3 s4 s5 a b fa fb nw ne sw se (Err e) l sa sb eh k01 qa qb k0 k1 north south v = tt
@@ -171,28 +187,28 @@ composed_value {E} m0 m1 s0 s1 s2 s3 s4 s5 a b fa fb nw ne sw se (Ok q) l sa sb 
     let pa = quarters-before 0 s0 s1 s2 a fa k01 sa qa in
     let pb = quarters-before 0 s0 s1 s2 b fb k01 sb qb in
     let sq = squares s1 s2 a b fa fb eh qa qb in
-    let h : ℕ = fa.0.height in
+    let h : ℕ = fa.nw.height in
     let f : Quad → Cells = quad_cells s2 in
     let R : Cells → Cells → Cells → Cells → Cells = row_by_column (side_of h) in
-    let es : fa.2.height ≡ h = sq.south.first_height in
-    let eb : fb.0.height ≡ h = sq.west.first_height in
+    let es : fa.sw.height ≡ h = sq.south.first_height in
+    let eb : fb.nw.height ≡ h = sq.west.first_height in
     let up : side_of h + side_of h ≡ side_of a.height = (let x = pa.nw_height in let g : h ≡ a.height - 1 = omega arith in ap (λ (x : ℕ). side_of x + side_of x) g ∙ sym (side_of-next a.height l)) in
-    let n0 = product_after m1 s2 s3 s4 (fa.0, fa.1) (fb.0, fb.2) nw k1 north.first in
-    let n1 = product_after m1 s2 s3 s4 (fa.0, fa.1) (fb.1, fb.3) ne k1 north.second in
-    let rs = both_at s2 h fa.2.height (fa.2, fa.3) es sq.south in
-    let n2 = product_before m0 s2 s3 s4 (fa.2, fa.3) (fb.0, fb.2) sw k0 rs (both_at s2 h fa.2.height (fb.0, fb.2) es sq.west) south.first in
-    let n3 = product_before m0 s2 s3 s4 (fa.2, fa.3) (fb.1, fb.3) se k0 rs (both_at s2 h fa.2.height (fb.1, fb.3) es sq.east) south.second in
-    let x2 = subst (λ (x : ℕ). IsQuad s4 x (row_by_column (side_of x) (f fa.2) (f fa.3) (f fb.0) (f fb.2)) sw) es n2 in
-    let x3 = subst (λ (x : ℕ). IsQuad s4 x (row_by_column (side_of x) (f fa.2) (f fa.3) (f fb.1) (f fb.3)) se) es n3 in
-    let y = corner_value {E = E} s4 s5 h (R (f fa.0) (f fa.1) (f fb.0) (f fb.2)) (R (f fa.0) (f fa.1) (f fb.1) (f fb.3)) (R (f fa.2) (f fa.3) (f fb.0) (f fb.2)) (R (f fa.2) (f fa.3) (f fb.1) (f fb.3)) nw ne sw se (Ok q) n0 n1 x2 x3 v in
-    let mb : quad_cells s0 b ≡ quartered (side_of h) (f fb.0) (f fb.1) (f fb.2) (f fb.3) = pb.means ∙ ap (λ (x : ℕ). quartered (side_of x) (f fb.0) (f fb.1) (f fb.2) (f fb.3)) eb in
+    let n0 = product_after m1 s2 s3 s4 (fa.nw, fa.ne) (fb.nw, fb.sw) nw k1 north.first in
+    let n1 = product_after m1 s2 s3 s4 (fa.nw, fa.ne) (fb.ne, fb.se) ne k1 north.second in
+    let rs = both_at s2 h fa.sw.height (fa.sw, fa.se) es sq.south in
+    let n2 = product_before m0 s2 s3 s4 (fa.sw, fa.se) (fb.nw, fb.sw) sw k0 rs (both_at s2 h fa.sw.height (fb.nw, fb.sw) es sq.west) south.first in
+    let n3 = product_before m0 s2 s3 s4 (fa.sw, fa.se) (fb.ne, fb.se) se k0 rs (both_at s2 h fa.sw.height (fb.ne, fb.se) es sq.east) south.second in
+    let x2 = subst (λ (x : ℕ). IsQuad s4 x (row_by_column (side_of x) (f fa.sw) (f fa.se) (f fb.nw) (f fb.sw)) sw) es n2 in
+    let x3 = subst (λ (x : ℕ). IsQuad s4 x (row_by_column (side_of x) (f fa.sw) (f fa.se) (f fb.ne) (f fb.se)) se) es n3 in
+    let y = corner_value {E = E} s4 s5 h (R (f fa.nw) (f fa.ne) (f fb.nw) (f fb.sw)) (R (f fa.nw) (f fa.ne) (f fb.ne) (f fb.se)) (R (f fa.sw) (f fa.se) (f fb.nw) (f fb.sw)) (R (f fa.sw) (f fa.se) (f fb.ne) (f fb.se)) nw ne sw se (Ok q) n0 n1 x2 x3 v in
+    let mb : quad_cells s0 b ≡ quartered (side_of h) (f fb.nw) (f fb.ne) (f fb.sw) (f fb.se) = pb.means ∙ ap (λ (x : ℕ). quartered (side_of x) (f fb.nw) (f fb.ne) (f fb.sw) (f fb.se)) eb in
     record {
       same_height = y.same_height ∙ pa.nw_height;
       stands = y.stands;
       means = y.means
-          ∙ sym (cells_compose-quartered (side_of h) (f fa.0) (f fa.1) (f fa.2) (f fa.3) (f fb.0) (f fb.1) (f fb.2) (f fb.3))
-          ∙ ap (λ (x : ℕ). cells_compose x (quartered (side_of h) (f fa.0) (f fa.1) (f fa.2) (f fa.3)) (quartered (side_of h) (f fb.0) (f fb.1) (f fb.2) (f fb.3))) up
-          ∙ ap (λ (c : Cells). cells_compose (side_of a.height) c (quartered (side_of h) (f fb.0) (f fb.1) (f fb.2) (f fb.3))) (sym pa.means)
+          ∙ sym (cells_compose-quartered (side_of h) (f fa.nw) (f fa.ne) (f fa.sw) (f fa.se) (f fb.nw) (f fb.ne) (f fb.sw) (f fb.se))
+          ∙ ap (λ (x : ℕ). cells_compose x (quartered (side_of h) (f fa.nw) (f fa.ne) (f fa.sw) (f fa.se)) (quartered (side_of h) (f fb.nw) (f fb.ne) (f fb.sw) (f fb.se))) up
+          ∙ ap (λ (c : Cells). cells_compose (side_of a.height) c (quartered (side_of h) (f fb.nw) (f fb.ne) (f fb.sw) (f fb.se))) (sym pa.means)
           ∙ ap (λ (c : Cells). cells_compose (side_of a.height) (quad_cells s0 a) c) (sym mb);
     }
 
@@ -214,5 +230,3 @@ composed_after v w z a b r k s t i =
 -- the room of a row of products of the height below
 pub row_below : (h k : ℕ) (v w : Keeper) → k + 1 ≡ h → KeepsQuads (quarter_room k + quarter_room k) v w → KeepsQuads (quarter_room (h - 1) + quarter_room (h - 1)) v w
 row_below h k v w e x = subst (λ (n : ℕ). KeepsQuads (quarter_room n + quarter_room n) v w) (let g : k ≡ h - 1 = omega arith in g) x
-
--- ---- misses

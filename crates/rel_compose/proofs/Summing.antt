@@ -6,6 +6,7 @@ use Rattle.std.proofs.Common.{◌≡◌, ◌<◌, ◌≤◌, ◌+◌, ◌-◌, �
 use Rattle.std.proofs.lemmas.Bool.{cases_lt, le-ltb, and_left, and_right}
 use Rattle.std.proofs.Math.Nat.{pow-le-pow_right}
 use Rattle.rel_model.specs.declared.Quad.{Quad}
+use Rattle.rel_model.specs.declared.Quarters.{Quarters}
 use Rattle.rel_model.specs.Cells.{Cells, no_cells, cells_union, cells_compose}
 use Rattle.rel_model.specs.Trees.{bottom_height, top_height, quartered, side}
 use Rattle.rel_model.specs.Equations.{side_of}
@@ -105,6 +106,8 @@ half_stands w k first second pair place half rest s a b = elim s.which [
 abbrev pub crossing : Keeper → ℕ → Quad × Quad → Quad × Quad → Cells
 crossing w m row column = row_by_column m (quad_cells w row.0) (quad_cells w row.1) (quad_cells w column.0) (quad_cells w column.1)
 
+-- a window of a square of four products lies in one of them, that of the row of its half and the column of its half,
+-- and is the window there
 crossed : (w : Keeper) (m row col r c : ℕ) (n s e t left right : Quad × Quad) → IsHalf n s row m left r → IsHalf e t col m right c
     → row % 256 ≡ 0 → col % 256 ≡ 0 → m % 256 ≡ 0
     → window row col 256 (quartered m (crossing w m n e) (crossing w m n t) (crossing w m s e) (crossing w m s t)) ≡ window r c 256 (crossing w m left right)
@@ -123,20 +126,20 @@ crossed w m row col r c n s e t left right p q a b d = here p.which q.which
     here (inr x) (inr y) = let k = x.0 in let l = y.0 in part_se m row col (crossing w m n e) (crossing w m n t) (crossing w m s e) (crossing w m s t) k l ∙ rest (row - m) (col - m) s t x.2 y.2 x.1 y.1
 
 -- the product of two squares by their quarters
-product_quartered : (s0 s1 : Keeper) (a b : Quad) (fa fb : Quad × Quad × Quad × Quad) (m : ℕ) → bottom_height < a.height → b.height ≡ a.height → AreQuarters s0 s1 a fa → AreQuarters s0 s1 b fb → m ≡ side_of (a.height - 1)
+product_quartered : (s0 s1 : Keeper) (a b : Quad) (fa fb : Quarters) (m : ℕ) → bottom_height < a.height → b.height ≡ a.height → AreQuarters s0 s1 a fa → AreQuarters s0 s1 b fb → m ≡ side_of (a.height - 1)
     → cells_compose (side_of a.height) (quad_cells s0 a) (quad_cells s0 b)
-    ≡ quartered m (crossing s1 m (fa.0, fa.1) (fb.0, fb.2)) (crossing s1 m (fa.0, fa.1) (fb.1, fb.3)) (crossing s1 m (fa.2, fa.3) (fb.0, fb.2)) (crossing s1 m (fa.2, fa.3) (fb.1, fb.3))
+    ≡ quartered m (crossing s1 m (fa.nw, fa.ne) (fb.nw, fb.sw)) (crossing s1 m (fa.nw, fa.ne) (fb.ne, fb.se)) (crossing s1 m (fa.sw, fa.se) (fb.nw, fb.sw)) (crossing s1 m (fa.sw, fa.se) (fb.ne, fb.se))
 product_quartered s0 s1 a b fa fb m l eh pa pb em =
     let f : Quad → Cells = quad_cells s1 in
-    let ea : side_of fa.0.height ≡ m = (let x = pa.nw_height in let g : fa.0.height ≡ a.height - 1 = omega arith in ap side_of g ∙ sym em) in
-    let eb : side_of fb.0.height ≡ m = (let x = pb.nw_height in let g : fb.0.height ≡ a.height - 1 = omega arith in ap side_of g ∙ sym em) in
+    let ea : side_of fa.nw.height ≡ m = (let x = pa.nw_height in let g : fa.nw.height ≡ a.height - 1 = omega arith in ap side_of g ∙ sym em) in
+    let eb : side_of fb.nw.height ≡ m = (let x = pb.nw_height in let g : fb.nw.height ≡ a.height - 1 = omega arith in ap side_of g ∙ sym em) in
     let up : side_of a.height ≡ m + m = side_of-next a.height l ∙ ap (λ (x : ℕ). x + x) (sym em) in
-    let ma : quad_cells s0 a ≡ quartered m (f fa.0) (f fa.1) (f fa.2) (f fa.3) = pa.means ∙ ap (λ (x : ℕ). quartered x (f fa.0) (f fa.1) (f fa.2) (f fa.3)) ea in
-    let mb : quad_cells s0 b ≡ quartered m (f fb.0) (f fb.1) (f fb.2) (f fb.3) = pb.means ∙ ap (λ (x : ℕ). quartered x (f fb.0) (f fb.1) (f fb.2) (f fb.3)) eb in
+    let ma : quad_cells s0 a ≡ quartered m (f fa.nw) (f fa.ne) (f fa.sw) (f fa.se) = pa.means ∙ ap (λ (x : ℕ). quartered x (f fa.nw) (f fa.ne) (f fa.sw) (f fa.se)) ea in
+    let mb : quad_cells s0 b ≡ quartered m (f fb.nw) (f fb.ne) (f fb.sw) (f fb.se) = pb.means ∙ ap (λ (x : ℕ). quartered x (f fb.nw) (f fb.ne) (f fb.sw) (f fb.se)) eb in
     ap (λ (x : ℕ). cells_compose x (quad_cells s0 a) (quad_cells s0 b)) up
     ∙ ap (λ (c : Cells). cells_compose (m + m) c (quad_cells s0 b)) ma
-    ∙ ap (λ (c : Cells). cells_compose (m + m) (quartered m (f fa.0) (f fa.1) (f fa.2) (f fa.3)) c) mb
-    ∙ cells_compose-quartered m (f fa.0) (f fa.1) (f fa.2) (f fa.3) (f fb.0) (f fb.1) (f fb.2) (f fb.3)
+    ∙ ap (λ (c : Cells). cells_compose (m + m) (quartered m (f fa.nw) (f fa.ne) (f fa.sw) (f fa.se)) c) mb
+    ∙ cells_compose-quartered m (f fa.nw) (f fa.ne) (f fa.sw) (f fa.se) (f fb.nw) (f fb.ne) (f fb.sw) (f fb.se)
 
 union_on : (f g h : Cells) → cells_union (cells_union f g) h ≡ cells_union f (cells_union g h)
 union_on f g h = same_cells _ _ (λ i j. or_on (f i j) (g i j) (h i j))
@@ -146,9 +149,9 @@ union_on f g h = same_cells _ _ (λ i j. or_on (f i j) (g i j) (h i j))
     or_on false b c = refl
 
 -- two products of half the side were added to rows
-pub sums_added : (s0 s1 s2 : Keeper) (a b : Quad) (fa fb : Quad × Quad × Quad × Quad) (left right : Quad × Quad) (m row col r c : ℕ) (z0 z1 z2 : Cells)
+pub sums_added : (s0 s1 s2 : Keeper) (a b : Quad) (fa fb : Quarters) (left right : Quad × Quad) (m row col r c : ℕ) (z0 z1 z2 : Cells)
     → bottom_height < a.height → b.height ≡ a.height → AreQuarters s0 s1 a fa → AreQuarters s0 s1 b fb → m ≡ side_of (a.height - 1)
-    → IsHalf (fa.0, fa.1) (fa.2, fa.3) row m left r → IsHalf (fb.0, fb.2) (fb.1, fb.3) col m right c
+    → IsHalf (fa.nw, fa.ne) (fa.sw, fa.se) row m left r → IsHalf (fb.nw, fb.sw) (fb.ne, fb.se) col m right c
     → row % 256 ≡ 0 → col % 256 ≡ 0 → m % 256 ≡ 0 → ReadsQuads s1 s2 → BothStand s1 (a.height - 1) left → BothStand s1 (a.height - 1) right
     → z1 ≡ cells_union z0 (window r c 256 (cells_compose (side_of left.0.height) (quad_cells s1 left.0) (quad_cells s1 right.0)))
     → z2 ≡ cells_union z1 (window r c 256 (cells_compose (side_of left.1.height) (quad_cells s2 left.1) (quad_cells s2 right.1)))
@@ -166,7 +169,7 @@ sums_added s0 s1 s2 a b fa fb left right m row col r c z0 z1 z2 l eh pa pb em hl
     ∙ ap (λ (g : Cells). cells_union z1 (window r c 256 (cells_compose m (f left.1) g))) (quad_cells-stay 0 s1 s2 right.1 k.keeps sr.second) in
     d2 ∙ ap (λ (g : Cells). cells_union g (window r c 256 y)) d1 ∙ union_on z0 (window r c 256 x) (window r c 256 y)
     ∙ ap (λ (g : Cells). cells_union z0 g) (sym (window_union 256 r c x y)
-    ∙ sym (crossed s1 m row col r c (fa.0, fa.1) (fa.2, fa.3) (fb.0, fb.2) (fb.1, fb.3) left right hl hr a0 b0 m0)
+    ∙ sym (crossed s1 m row col r c (fa.nw, fa.ne) (fa.sw, fa.se) (fb.nw, fb.sw) (fb.ne, fb.se) left right hl hr a0 b0 m0)
     ∙ ap (λ (g : Cells). window row col 256 g) (sym (product_quartered s0 s1 a b fa fb m l eh pa pb em)))
 
 -- ---- where nothing is added
@@ -260,21 +263,23 @@ pub record Crossing (w : Keeper) (h m : ℕ) (left right : Quad × Quad) (r c : 
   pub row_second : r < side_of left.1.height
   pub col_second : c < side_of left.1.height
 
-pub crossing_of : (s0 s1 : Keeper) (a b : Quad) (fa fb : Quad × Quad × Quad × Quad) (left right : Quad × Quad) (m row col r c : ℕ)
+-- a window of a product meets one row of quarters of the first square and one column of the second: half the side is a
+-- multiple of 256, so the window lies wholly in one half each way
+pub crossing_of : (s0 s1 : Keeper) (a b : Quad) (fa fb : Quarters) (left right : Quad × Quad) (m row col r c : ℕ)
     → 8 ≤ a.height → a.height ≢ 8 → b.height ≡ a.height → AreQuarters s0 s1 a fa → AreQuarters s0 s1 b fb → m ≡ side_of (a.height - 1)
-    → IsHalf (fa.0, fa.1) (fa.2, fa.3) row m left r → IsHalf (fb.0, fb.2) (fb.1, fb.3) col m right c
+    → IsHalf (fa.nw, fa.ne) (fa.sw, fa.se) row m left r → IsHalf (fb.nw, fb.sw) (fb.ne, fb.se) col m right c
     → row % 256 ≡ 0 → col % 256 ≡ 0 → row < side_of a.height → col < side_of a.height → Crossing s1 a.height m left right r c
 crossing_of s0 s1 a b fa fb left right m row col r c l n eh pa pb em hl hr ro co ri ci =
     let o : bottom_height < a.height = low_at a.height l n in
     let k : ℕ = a.height - 1 in
-    let ek : k ≡ fa.0.height = (let x = pa.nw_height in omega arith) in
+    let ek : k ≡ fa.nw.height = (let x = pa.nw_height in omega arith) in
     let sq = squares s0 s1 a b fa fb eh pa pb in
-    let sl = half_stands s1 k (fa.0, fa.1) (fa.2, fa.3) left row m r hl (both_at s1 fa.0.height k (fa.0, fa.1) ek sq.north) (both_at s1 fa.0.height k (fa.2, fa.3) ek sq.south) in
-    let sr = half_stands s1 k (fb.0, fb.2) (fb.1, fb.3) right col m c hr (both_at s1 fa.0.height k (fb.0, fb.2) ek sq.west) (both_at s1 fa.0.height k (fb.1, fb.3) ek sq.east) in
+    let sl = half_stands s1 k (fa.nw, fa.ne) (fa.sw, fa.se) left row m r hl (both_at s1 fa.nw.height k (fa.nw, fa.ne) ek sq.north) (both_at s1 fa.nw.height k (fa.sw, fa.se) ek sq.south) in
+    let sr = half_stands s1 k (fb.nw, fb.sw) (fb.ne, fb.se) right col m c hr (both_at s1 fa.nw.height k (fb.nw, fb.sw) ek sq.west) (both_at s1 fa.nw.height k (fb.ne, fb.se) ek sq.east) in
     let up : side_of a.height ≡ m + m = side_of-next a.height o ∙ ap (λ (x : ℕ). x + x) (sym em) in
     let mo : m % 256 ≡ 0 = ap (λ (x : ℕ). x % 256) em ∙ side_of_by_256 k (omega arith) in
-    let x = place_in (fa.0, fa.1) (fa.2, fa.3) left row m r hl ro mo (omega arith) in
-    let y = place_in (fb.0, fb.2) (fb.1, fb.3) right col m c hr co mo (omega arith) in
+    let x = place_in (fa.nw, fa.ne) (fa.sw, fa.se) left row m r hl ro mo (omega arith) in
+    let y = place_in (fb.nw, fb.sw) (fb.ne, fb.se) right col m c hr co mo (omega arith) in
     let n0 : side_of left.0.height ≡ m = ap side_of sl.first_height ∙ sym em in
     let n1 : side_of left.1.height ≡ m = ap side_of sl.second_height ∙ sym em in
     let xw = x.within in
@@ -300,3 +305,10 @@ eight_in h place side e l = let s = ap side_of e in let t = side_of_8 in omega a
 pub side_most : (h : ℕ) → bottom_height ≤ h → h ≤ top_height → side_of h ≤ 2 ^ 24
 unfolding top_height
 side_most h l m = subst (λ (x : ℕ). x ≤ 2 ^ 24) (sym (side_of-power h l)) (pow-le-pow_right {n = 2} (omega arith) {i = h} {j = 24} m)
+
+-- a place in the second half of a square within another
+pub place_fits : (k h place half : ℕ) → bottom_height < k → bottom_height ≤ h → h ≤ top_height → half ≡ side_of (k - 1) → place + side_of k ≤ side_of h → place + half < 2 ^ 32
+place_fits k h place half o l m e i =
+    let s = side_of-next k o in
+    let b = side_most h l m in
+    omega arith

@@ -1,21 +1,24 @@
 -- One step of the recursion: the transposed quarters, of which north-east and south-west change places, and their corner.
-use Rattle.std.proofs.Common.{◌≡◌, ◌<◌, ◌+◌, ◌-◌, ltb, ℕ, [], ◌∷◌, Result, refl, sym, ap, ◌∙◌, arith}
+use Rattle.std.proofs.Common.{◌≡◌, ◌<◌, ◌+◌, ◌-◌, ltb, ℕ, refl, sym, ap, subst, ◌∙◌, arith}
 use Rattle.std.proofs.Math.Bool.{and_comm}
 use Rattle.rel_model.specs.declared.Quad.{Quad}
+use Rattle.rel_model.specs.declared.Quarters.{Quarters}
 use Rattle.rel_model.specs.Cells.{Cells, no_cells, cells_rect, cells_transpose}
 use Rattle.rel_model.specs.Trees.{bottom_height, quartered}
 use Rattle.rel_model.specs.Equations.{depth_of, side_of}
-use Rattle.rel_model.specs.Quads.{Keeper, IsKeeper, quad_cells, QuadStands, IsQuad, KeepsQuads, ReadsQuads, AreQuarters, quad_room}
+use Rattle.rel_model.specs.Quads.{Keeper, IsKeeper, quad_cells, QuadStands, IsQuad, KeepsQuads, ReadsQuads, AreQuarters}
 use Rattle.rel_model.proofs.TreeLaws.{zero_stands, same_cells, Within}
 use Rattle.rel_model.proofs.Composing.{cells_transpose-quartered}
-use Rattle.rel_model.proofs.QuadLaws.{quad_stays, quad_cells-stay, empty_quad, rooms-next}
-use Rattle.quad_nodes.specs.Making.{MakesQuad}
-use Rattle.quad_nodes.proofs.Finding.{within_at, corner_cells}
-use Rattle.quad_nodes.proofs.Making.{AreParts, Underway, made_at, made_after, ends, cornered}
+use Rattle.rel_model.proofs.QuadLaws.{quad_stays, quad_cells-stay, empty_quad}
+use Rattle.quad_nodes.proofs.Finding.{within_at}
+use Rattle.quad_nodes.proofs.Making.{AreParts}
+use Rattle.rel_compose.proofs.FourParts.{Aim, Plan, Stays, Four}
 
--- the quad of name 0 stands at the height of any quad
-pub none_stands : (w : Keeper) (a : Quad) → QuadStands w a → QuadStands w (record { height = a.height; name = 0 })
-none_stands w a s = record { low = s.low; high = s.high; standing = zero_stands w.view.words (depth_of a.height) }
+-- the empty quad stands at the height of any quad
+pub none_stands : {w : Keeper} {a none : Quad} → none ≡ record { height = a.height; name = 0 } → QuadStands w a → QuadStands w none
+none_stands {w} {a} {none} e s =
+    let i : QuadStands w (record { height = a.height; name = 0 }) = record { low = s.low; high = s.high; standing = zero_stands w.view.words (depth_of a.height) } in
+    subst (λ (q : Quad). QuadStands w q) (sym e) i
 
 -- a quad named 0 is its own transposition
 pub transposed_none : (w : Keeper) (a : Quad) → IsKeeper w → QuadStands w a → a.name ≡ 0 → IsQuad w a.height (cells_transpose (quad_cells w a)) a
@@ -28,7 +31,7 @@ abbrev pub turned : Keeper → Quad → Cells
 turned w a = cells_transpose (quad_cells w a)
 
 -- a quad and its quarters, which were read first
-pub record HasQuarters (s0 s2 : Keeper) (a : Quad) (fa : Quad × Quad × Quad × Quad) : Type 0 where
+pub record HasQuarters (s0 s2 : Keeper) (a : Quad) (fa : Quarters) : Type 0 where
   pub stands : QuadStands s0 a
   pub over : bottom_height < a.height
   pub four : AreQuarters s0 s2 a fa
@@ -39,38 +42,39 @@ transpose-within : (m : ℕ) (f : Cells) → Within m m f → Within m m (cells_
 transpose-within m f a = record { row = λ i j e. a.col j i e; col = λ i j e. a.row j i e }
 
 -- its transposed quarters are the quarters of its transposition
-pub are_parts : {s0 s2 : Keeper} {a : Quad} {fa : Quad × Quad × Quad × Quad} → HasQuarters s0 s2 a fa
-    → AreParts s2 a.height (turned s0 a) (a.height - 1) (turned s2 fa.0) (turned s2 fa.2) (turned s2 fa.1) (turned s2 fa.3)
+pub are_parts : {s0 s2 : Keeper} {a : Quad} {fa : Quarters} → HasQuarters s0 s2 a fa
+    → AreParts s2 a.height (turned s0 a) (a.height - 1) (turned s2 fa.nw) (turned s2 fa.sw) (turned s2 fa.ne) (turned s2 fa.se)
 are_parts {s0} {s2} {a} {fa} q =
     let p = q.four in
     let low = p.nw.low in
     let h0 = p.nw_height in
-    let e : a.height - 1 ≡ fa.0.height = omega arith in
+    let e : a.height - 1 ≡ fa.nw.height = omega arith in
     let within : (x : Quad) → x.height + 1 ≡ a.height → Within (side_of (a.height - 1)) (side_of (a.height - 1)) (turned s2 x) = λ x i. transpose-within (side_of (a.height - 1)) _ (within_at s2 (a.height - 1) x (omega arith)) in
     record {
       work = q.reads.keeps.after;
       low = omega arith;
       next = omega arith;
-      within = record { nw = within fa.0 p.nw_height; ne = within fa.2 p.sw_height; sw = within fa.1 p.ne_height; se = within fa.3 p.se_height };
-      means = ap (λ (x : ℕ). quartered (side_of x) (turned s2 fa.0) (turned s2 fa.2) (turned s2 fa.1) (turned s2 fa.3)) e
-          ∙ sym (cells_transpose-quartered (side_of fa.0.height) (quad_cells s2 fa.0) (quad_cells s2 fa.1) (quad_cells s2 fa.2) (quad_cells s2 fa.3)) ∙ ap (λ (c : Cells). cells_transpose c) (sym p.means);
+      within = record { nw = within fa.nw p.nw_height; ne = within fa.sw p.sw_height; sw = within fa.ne p.ne_height; se = within fa.se p.se_height };
+      means = ap (λ (x : ℕ). quartered (side_of x) (turned s2 fa.nw) (turned s2 fa.sw) (turned s2 fa.ne) (turned s2 fa.se)) e
+          ∙ sym (cells_transpose-quartered (side_of fa.nw.height) (quad_cells s2 fa.nw) (quad_cells s2 fa.ne) (quad_cells s2 fa.sw) (quad_cells s2 fa.se)) ∙ ap (λ (c : Cells). cells_transpose c) (sym p.means);
     }
 
 -- the transposition after a call that keeps the quad
 pub turned_stay : {m : ℕ} {v w : Keeper} {a : Quad} → KeepsQuads m v w → QuadStands v a → turned w a ≡ turned v a
 turned_stay {m} {v} {w} {a} k s = ap (λ (c : Cells). cells_transpose c) (quad_cells-stay m v w a k s)
 
--- the result on a quarter as it was before the calls so far
-pub part_made : {E : Type 0} {m h : ℕ} {u v w : Keeper} {a : Quad} {r : Result Quad E} → KeepsQuads m u v → QuadStands u a → a.height + 1 ≡ h
-    → MakesQuad (quad_room a.height) a.height (turned v a) v w r → MakesQuad (quad_room (h - 1)) (h - 1) (turned u a) v w r
-part_made k s e x = made_at (omega arith) (turned_stay k s) x
+-- the transpositions of the quarters, of which north-east and south-west change places
+abbrev turn : Quad → Aim
+turn x = record { height = x.height; after = λ (w : Keeper). turned w x }
 
--- the four results and their corner
-pub whole_made : {E : Type 0} {s0 s2 v w : Keeper} {a nw ne sw se : Quad} {fa : Quad × Quad × Quad × Quad} {r : Result Quad E} → HasQuarters s0 s2 a fa
-    → Underway (0 + quad_room (a.height - 1) + quad_room (a.height - 1) + quad_room (a.height - 1) + quad_room (a.height - 1)) a.height (turned s0 a) (a.height - 1)
-    ((se, turned s2 fa.3) ∷ (sw, turned s2 fa.1) ∷ (ne, turned s2 fa.2) ∷ (nw, turned s2 fa.0) ∷ []) s2 v
-    → MakesQuad 3 (nw.height + 1) (corner_cells v nw ne sw se) v w r → MakesQuad (quad_room a.height) a.height (turned s0 a) s0 w r
-whole_made {a = a} q u s = let x = rooms-next a.height q.over in made_after q.reads (ends (omega (arith, x)) u (cornered (are_parts q) u s))
+abbrev pub turns : Keeper → Quad → Quarters → Plan
+turns s0 a fa = record { height = a.height; set = turned s0 a; nw = turn fa.nw; ne = turn fa.sw; sw = turn fa.ne; se = turn fa.se }
+
+turn_stays : {u : Keeper} {k : ℕ} {x : Quad} → QuadStands u x → x.height + 1 ≡ k → Stays u (k - 1) (turn x)
+turn_stays s e = record { height = omega arith; same = λ n v i. turned_stay i s }
+
+pub four_turned : {s0 s2 : Keeper} {a : Quad} {fa : Quarters} → HasQuarters s0 s2 a fa → Four s2 (turns s0 a fa)
+four_turned q = let f = q.four in record { parts = are_parts q; nw = turn_stays f.nw f.nw_height; ne = turn_stays f.sw f.sw_height; sw = turn_stays f.ne f.ne_height; se = turn_stays f.se f.se_height }
 
 -- the result as an equation says it
 pub transposed_now : (m : ℕ) (v w : Keeper) (a r : Quad) → KeepsQuads m v w → QuadStands v a → IsQuad w a.height (cells_transpose (quad_cells v a)) r → IsQuad w a.height (cells_transpose (quad_cells w a)) r

@@ -6,7 +6,8 @@ ghost use Rattle.rel_model.specs.Equations.{side_of};
 ghost use Rattle.rel_model.specs.Quads.{Keeper, QuadStands, quad_cells, ReadsQuads, quad_room};
 ghost use Rattle.quad_nodes.specs.Making.{MakesQuad};
 
-use crate::dense::{TALLEST, joins_pay, sums_pay};
+use crate::dense::{TALLEST, Wanted, rows_pay};
+use crate::large::sums_pay;
 use crate::product::both_full;
 use crate::sums::summed_quad;
 use bit_rows::no_rows;
@@ -16,8 +17,8 @@ use quad_nodes::Nodes;
 use rel_model::Quad;
 use row_quads::{add_product, gather_quad, spill_quad};
 
-/// Whether two quads of one height have so many distinct quads under them that their product should be joined with a
-/// quad in rows, or in sums of rows.
+/// Whether two quads of one height have so many distinct quads under them that the union of their product with a quad
+/// should be done in rows, or in sums of rows.
 fn both_dense(nodes: &mut Nodes, y: Quad, z: Quad) -> bool
     requires y_stands { QuadStands nodes.old y }
     requires z_stands { QuadStands nodes.old z }
@@ -25,10 +26,10 @@ fn both_dense(nodes: &mut Nodes, y: Quad, z: Quad) -> bool
     requires over { bottom_height < y.height }
     ensures reads { ReadsQuads nodes.old nodes.new }
 {
-    if joins_pay(nodes, y, z) {
+    if rows_pay(nodes, y, z, Wanted::Union, TALLEST) {
         return true;
     }
-    sums_pay(nodes, y, z, true, TALLEST)
+    sums_pay(nodes, y, z, Wanted::Union, TALLEST)
 }
 
 /// Whether `x | y*z`, of quads of one height, should be done in rows of bits, whatever `x` is: `y` and `z` have many
@@ -43,7 +44,7 @@ pub fn joins_by_rows(nodes: &mut Nodes, y: Quad, z: Quad) -> bool
     if y.height == bottom {
         return false;
     }
-    if y.name == 0 || z.name == 0 {
+    if y.is_empty() || z.is_empty() {
         return false;
     }
     if both_full(nodes, y, z) {
@@ -60,7 +61,7 @@ pub fn joins_by_rows(nodes: &mut Nodes, y: Quad, z: Quad) -> bool
 /// The rows take 24 KB of stack, including those of `add_product`; keeping this a separate call puts them there only
 /// while it runs.
 #[inline(never)]
-fn joined_small(nodes: &mut Nodes, x: Quad, y: Quad, z: Quad) -> Result<Quad, Missed>
+fn summed_small(nodes: &mut Nodes, x: Quad, y: Quad, z: Quad) -> Result<Quad, Missed>
     requires x_stands { QuadStands nodes.old x }
     requires y_stands { QuadStands nodes.old y }
     requires z_stands { QuadStands nodes.old z }
@@ -68,7 +69,8 @@ fn joined_small(nodes: &mut Nodes, x: Quad, y: Quad, z: Quad) -> Result<Quad, Mi
     requires z_height { z.height ≡ x.height }
     requires small { side_of x.height ≤ 256 }
     ensures { MakesQuad (quad_room x.height) x.height (cells_union (quad_cells nodes.old x)
-        (cells_compose (side_of x.height) (quad_cells nodes.old y) (quad_cells nodes.old z))) nodes.old nodes.new result }
+        (cells_compose (side_of x.height) (quad_cells nodes.old y) (quad_cells nodes.old z)))
+        nodes.old nodes.new result }
 {
     let mut sum = no_rows();
     spill_quad(nodes, x, &mut sum, 0, 0);
@@ -85,11 +87,12 @@ pub fn joined_by_rows(nodes: &mut Nodes, x: Quad, y: Quad, z: Quad) -> Result<Qu
     requires y_height { y.height ≡ x.height }
     requires z_height { z.height ≡ x.height }
     ensures { MakesQuad (quad_room x.height) x.height (cells_union (quad_cells nodes.old x)
-        (cells_compose (side_of x.height) (quad_cells nodes.old y) (quad_cells nodes.old z))) nodes.old nodes.new result }
+        (cells_compose (side_of x.height) (quad_cells nodes.old y) (quad_cells nodes.old z)))
+        nodes.old nodes.new result }
 {
     let _ = nodes.bottom();
     if x.height <= 8 {
-        return joined_small(nodes, x, y, z);
+        return summed_small(nodes, x, y, z);
     }
     summed_quad(nodes, x, y, z, 0, 0)
 }

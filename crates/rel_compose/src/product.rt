@@ -1,11 +1,11 @@
-//! Products without recursion, of blocks and of full squares, and the quarters of two squares.
-ghost use Rattle.std.specs.Prelude.{◌≡◌, ◌<◌, true, IfOk};
-ghost use Rattle.rel_model.specs.Cells.{cells_rect, cells_compose};
+//! Products without recursion: of blocks, and of full squares.
+ghost use Rattle.std.specs.Prelude.{◌≡◌, true, IfOk};
+ghost use Rattle.rel_model.specs.Cells.{cells_compose};
 ghost use Rattle.rel_model.specs.Trees.{bottom_height};
 ghost use Rattle.rel_model.specs.Equations.{side_of};
-ghost use Rattle.rel_model.specs.Quads.{Keeper, QuadStands, IsQuad, AreQuarters, quad_cells, KeepsQuads, ReadsQuads};
-ghost use Rattle.rel_model.specs.Quads.{Counts};
+ghost use Rattle.rel_model.specs.Quads.{Keeper, QuadStands, IsQuad, quad_cells, KeepsQuads, ReadsQuads, Counts};
 ghost use Rattle.quad_nodes.specs.Finding.{FindsQuad};
+ghost use Rattle.rel_compose.specs.Products.{IsComposition, IsFull};
 
 use leaf_block::block_compose;
 use pair_table::Missed;
@@ -36,35 +36,12 @@ pub fn both_full(nodes: &mut Nodes, a: Quad, b: Quad) -> bool
     requires a_stands { QuadStands nodes.old a }
     requires b_stands { QuadStands nodes.old b }
     requires one_height { b.height ≡ a.height }
-    ensures full { result ≡ true → IsQuad nodes.new a.height
-        (cells_compose (side_of a.height) (quad_cells nodes.old a) (quad_cells nodes.old b)) a }
-    ensures only_full { quad_cells nodes.old a ≡ cells_rect (side_of a.height) (side_of a.height)
-        → quad_cells nodes.old b ≡ cells_rect (side_of b.height) (side_of b.height) → result ≡ true }
+    ensures full { result ≡ true → IsComposition nodes.old nodes.new a b a }
+    ensures only_full { IsFull nodes.old a → IsFull nodes.old b → result ≡ true }
     ensures reads { ReadsQuads nodes.old nodes.new }
 {
     if !nodes.is_full(a) {
         return false;
     }
     nodes.is_full(b)
-}
-
-/// The quarters of two quads, without prefetching: in sparse squares most quarters meet an empty one, and are never
-/// visited.
-#[inline(always)]
-pub fn both_quarters(
-    nodes: &mut Nodes,
-    a: Quad,
-    b: Quad,
-) -> ((Quad, Quad, Quad, Quad), (Quad, Quad, Quad, Quad))
-    requires a_stands { QuadStands nodes.old a }
-    requires b_stands { QuadStands nodes.old b }
-    requires a_over { bottom_height < a.height }
-    requires b_over { bottom_height < b.height }
-    ensures first { AreQuarters nodes.old nodes.new a result.0 }
-    ensures second { AreQuarters nodes.old nodes.new b result.1 }
-    ensures reads { ReadsQuads nodes.old nodes.new }
-{
-    let first = nodes.quarters(a);
-    let second = nodes.quarters(b);
-    (first, second)
 }

@@ -1,8 +1,8 @@
 //! The composition by rows of bits, with the result noted.
-ghost use Rattle.std.specs.Prelude.{◌≡◌, ◌≤◌, IfOk};
-ghost use Rattle.rel_model.specs.Cells.{cells_compose};
+ghost use Rattle.std.specs.Prelude.{◌≡◌, ◌≤◌};
 ghost use Rattle.rel_model.specs.Equations.{side_of};
-ghost use Rattle.rel_model.specs.Quads.{Keeper, QuadStands, IsQuad, quad_cells, KeepsQuads, Counts, compose_room};
+ghost use Rattle.rel_model.specs.Quads.{Keeper, QuadStands, compose_room};
+ghost use Rattle.rel_compose.specs.Products.{IsComposition, Gives};
 
 use memo_laws::Op;
 use pair_table::Missed;
@@ -16,10 +16,7 @@ pub(crate) fn noted_by_rows(nodes: &mut Nodes, a: Quad, b: Quad) -> Result<Quad,
     requires b_stands { QuadStands nodes.old b }
     requires one_height { b.height ≡ a.height }
     requires small { side_of a.height ≤ 256 }
-    ensures value { IfOk result (IsQuad nodes.new a.height
-        (cells_compose (side_of a.height) (quad_cells nodes.old a) (quad_cells nodes.old b))) }
-    ensures keeps { KeepsQuads (compose_room a.height) nodes.old nodes.new }
-    ensures counts { Counts nodes.old nodes.new result }
+    ensures { Gives (compose_room a.height) (IsComposition nodes.old nodes.new a b) nodes.old nodes.new result }
 {
     let found = compose_by_rows(nodes, a, b)?;
     nodes.note(Op::Compose, a, b, found);

@@ -1,21 +1,22 @@
 //! The composition of two large squares. For each square of 256 rows and columns of the result, the partial products
 //! are summed in rows of bits, starting from the cells of an addend, and only the sum is named.
-ghost use Rattle.std.specs.Prelude.{◌≡◌, ◌<◌, ◌≤◌, ◌+◌, ◌%◌, true, length, IfOk};
-ghost use Rattle.rel_model.specs.Cells.{cells_union, cells_compose};
+ghost use Rattle.std.specs.Prelude.{◌≡◌, ◌<◌, ◌≤◌, ◌+◌, ◌%◌, true, length};
+ghost use Rattle.rel_model.specs.Cells.{cells_union};
 ghost use Rattle.rel_model.specs.Trees.{top_height};
 ghost use Rattle.rel_model.specs.Equations.{side_of};
-ghost use Rattle.rel_model.specs.Quads.{Keeper, QuadStands, IsQuad, quad_cells, KeepsQuads, ReadsQuads, Counts, quad_room, compose_room};
+ghost use Rattle.rel_model.specs.Quads.{Keeper, QuadStands, ReadsQuads, quad_room, compose_room};
 ghost use Rattle.quad_nodes.specs.Making.{MakesQuad};
 ghost use Rattle.bit_rows.specs.Rows.{rows_cells};
 ghost use Rattle.bit_rows.specs.Places.{window};
 ghost use Rattle.row_quads.specs.Adding.{AreWhole};
-ghost use Rattle.rel_compose.specs.Products.{IsHalf, AddsWindows, FourAreSmall, AddsQuads};
+ghost use Rattle.rel_compose.specs.Products.{composition, IsComposition, Gives, summed, IsHalf, AddsWindows};
+ghost use Rattle.rel_compose.specs.Products.{FourAreSmall, AddsQuads};
 
 use bit_rows::{Row, no_rows};
 use memo_laws::Op;
 use pair_table::Missed;
 use quad_nodes::{Nodes, side_of_height};
-use rel_model::Quad;
+use rel_model::{Quad, Quarters};
 use row_quads::{Squares, add_four_products, add_product, gather_quad, spill_quad};
 
 /// The one of two halves in which a place lies, and the place within it.
@@ -40,15 +41,15 @@ fn add_products(nodes: &mut Nodes, a: Quad, b: Quad, row: u32, col: u32, z: &mut
     requires col_in { col < side_of a.height }
     requires z_len { length z.old ≡ 256 }
     ensures len { length z.new ≡ 256 }
-    ensures cells { rows_cells z.new ≡ cells_union (rows_cells z.old) (window row col 256
-        (cells_compose (side_of a.height) (quad_cells nodes.old a) (quad_cells nodes.old b))) }
+    ensures cells { rows_cells z.new
+        ≡ cells_union (rows_cells z.old) (window row col 256 (composition nodes.old a b)) }
     ensures reads { ReadsQuads nodes.old nodes.new }
 {
     let _ = nodes.bottom();
-    if a.name == 0 {
+    if a.is_empty() {
         return;
     }
-    if b.name == 0 {
+    if b.is_empty() {
         return;
     }
     if a.height == 8 {
@@ -57,8 +58,8 @@ fn add_products(nodes: &mut Nodes, a: Quad, b: Quad, row: u32, col: u32, z: &mut
     }
     let half = side_of_height(a.height - 1);
     let (fa, fb) = nodes.quarters_of_both(a, b);
-    let (left, inner_row) = half_at((fa.0, fa.1), (fa.2, fa.3), row, half);
-    let (right, inner_col) = half_at((fb.0, fb.2), (fb.1, fb.3), col, half);
+    let (left, inner_row) = half_at((fa.nw, fa.ne), (fa.sw, fa.se), row, half);
+    let (right, inner_col) = half_at((fb.nw, fb.sw), (fb.ne, fb.se), col, half);
     add_products(nodes, left.0, right.0, inner_row, inner_col, z);
     add_products(nodes, left.1, right.1, inner_row, inner_col, z);
 }
@@ -78,8 +79,8 @@ fn sum_at(nodes: &mut Nodes, x: Quad, a: Quad, b: Quad, row: u32, col: u32) -> R
     requires col_on { col % 256 ≡ 0 }
     requires row_in { row < side_of a.height }
     requires col_in { col < side_of a.height }
-    ensures { MakesQuad (quad_room 8) 8 (cells_union (quad_cells nodes.old x) (window row col (side_of 8)
-        (cells_compose (side_of a.height) (quad_cells nodes.old a) (quad_cells nodes.old b)))) nodes.old nodes.new result }
+    ensures { MakesQuad (quad_room 8) 8 (summed nodes.old x 8 row col (composition nodes.old a b))
+        nodes.old nodes.new result }
 {
     let mut z = no_rows();
     spill_quad(nodes, x, &mut z, 0, 0);
@@ -99,42 +100,41 @@ fn add_to_squares(nodes: &mut Nodes, a: Quad, b: Quad, row: u32, col: u32, z: &m
     requires col_in { col < side_of a.height }
     requires z_whole { AreWhole z.old }
     ensures whole { AreWhole z.new }
-    ensures cells { AddsWindows z.old z.new row col
-        (cells_compose (side_of a.height) (quad_cells nodes.old a) (quad_cells nodes.old b)) }
+    ensures cells { AddsWindows z.old z.new row col (composition nodes.old a b) }
     ensures reads { ReadsQuads nodes.old nodes.new }
 {
     let _ = nodes.bottom();
-    if a.name == 0 {
+    if a.is_empty() {
         return;
     }
-    if b.name == 0 {
+    if b.is_empty() {
         return;
     }
     let (fa, fb) = nodes.quarters_of_both(a, b);
     if a.height == 9 {
-        add_four_products(nodes, (fa.0, fa.2), (fb.0, fb.1), z);
-        add_four_products(nodes, (fa.1, fa.3), (fb.2, fb.3), z);
+        add_four_products(nodes, (fa.nw, fa.sw), (fb.nw, fb.ne), z);
+        add_four_products(nodes, (fa.ne, fa.se), (fb.sw, fb.se), z);
         return;
     }
     let half = side_of_height(a.height - 1);
-    let (left, inner_row) = half_at((fa.0, fa.1), (fa.2, fa.3), row, half);
-    let (right, inner_col) = half_at((fb.0, fb.2), (fb.1, fb.3), col, half);
+    let (left, inner_row) = half_at((fa.nw, fa.ne), (fa.sw, fa.se), row, half);
+    let (right, inner_col) = half_at((fb.nw, fb.sw), (fb.ne, fb.se), col, half);
     add_to_squares(nodes, left.0, right.0, inner_row, inner_col, z);
     add_to_squares(nodes, left.1, right.1, inner_row, inner_col, z);
 }
 
 /// Adds the cells of four quads to four squares of rows.
-fn spill_four(nodes: &mut Nodes, four: (Quad, Quad, Quad, Quad), z: &mut Squares)
+fn spill_four(nodes: &mut Nodes, four: Quarters, z: &mut Squares)
     requires stand { FourAreSmall nodes.old four }
     requires z_whole { AreWhole z.old }
     ensures whole { AreWhole z.new }
     ensures cells { AddsQuads nodes.old four z.old z.new }
     ensures reads { ReadsQuads nodes.old nodes.new }
 {
-    spill_quad(nodes, four.0, &mut z.nw, 0, 0);
-    spill_quad(nodes, four.1, &mut z.ne, 0, 0);
-    spill_quad(nodes, four.2, &mut z.sw, 0, 0);
-    spill_quad(nodes, four.3, &mut z.se, 0, 0);
+    spill_quad(nodes, four.nw, &mut z.nw, 0, 0);
+    spill_quad(nodes, four.ne, &mut z.ne, 0, 0);
+    spill_quad(nodes, four.sw, &mut z.sw, 0, 0);
+    spill_quad(nodes, four.se, &mut z.se, 0, 0);
 }
 
 /// The quad of the cells of an addend and of a composition in 512 rows and columns, from a row and a column on.
@@ -160,8 +160,8 @@ fn four_sums_at(
     requires col_on { col % 512 ≡ 0 }
     requires row_in { row < side_of a.height }
     requires col_in { col < side_of a.height }
-    ensures { MakesQuad (quad_room 9) 9 (cells_union (quad_cells nodes.old x) (window row col (side_of 9)
-        (cells_compose (side_of a.height) (quad_cells nodes.old a) (quad_cells nodes.old b)))) nodes.old nodes.new result }
+    ensures { MakesQuad (quad_room 9) 9 (summed nodes.old x 9 row col (composition nodes.old a b))
+        nodes.old nodes.new result }
 {
     let four = nodes.quarters(x);
     let mut z = Squares {
@@ -208,9 +208,8 @@ pub(crate) fn summed_quad(
     requires col_on { col % 256 ≡ 0 }
     requires row_in { row + side_of x.height ≤ side_of a.height }
     requires col_in { col + side_of x.height ≤ side_of a.height }
-    ensures { MakesQuad (quad_room x.height) x.height (cells_union (quad_cells nodes.old x)
-        (window row col (side_of x.height)
-        (cells_compose (side_of a.height) (quad_cells nodes.old a) (quad_cells nodes.old b)))) nodes.old nodes.new result }
+    ensures { MakesQuad (quad_room x.height) x.height
+        (summed nodes.old x x.height row col (composition nodes.old a b)) nodes.old nodes.new result }
 {
     let _ = nodes.bottom();
     if x.height == 8 {
@@ -221,10 +220,10 @@ pub(crate) fn summed_quad(
     }
     let half = side_of_height(x.height - 1);
     let four = nodes.quarters(x);
-    let nw = summed_quad(nodes, four.0, a, b, row, col)?;
-    let ne = summed_quad(nodes, four.1, a, b, row, col + half)?;
-    let sw = summed_quad(nodes, four.2, a, b, row + half, col)?;
-    let se = summed_quad(nodes, four.3, a, b, row + half, col + half)?;
+    let nw = summed_quad(nodes, four.nw, a, b, row, col)?;
+    let ne = summed_quad(nodes, four.ne, a, b, row, col + half)?;
+    let sw = summed_quad(nodes, four.sw, a, b, row + half, col)?;
+    let se = summed_quad(nodes, four.se, a, b, row + half, col + half)?;
     nodes.corner(nw, ne, sw, se)
 }
 
@@ -246,12 +245,11 @@ pub(crate) fn product_window(
     requires col_on { col % 256 ≡ 0 }
     requires row_in { row + side_of height ≤ side_of a.height }
     requires col_in { col + side_of height ≤ side_of a.height }
-    ensures { MakesQuad (quad_room height) height (window row col (side_of height)
-        (cells_compose (side_of a.height) (quad_cells nodes.old a) (quad_cells nodes.old b))) nodes.old nodes.new result }
+    ensures { MakesQuad (quad_room height) height
+        (window row col (side_of height) (composition nodes.old a b)) nodes.old nodes.new result }
 {
     let _ = nodes.bottom();
-    let none = Quad { height, name: 0 };
-    summed_quad(nodes, none, a, b, row, col)
+    summed_quad(nodes, Quad::empty(height), a, b, row, col)
 }
 
 /// The composition of two quads of one height, at least 8, by sums. Notes the result.
@@ -260,10 +258,7 @@ pub(crate) fn noted_by_sums(nodes: &mut Nodes, a: Quad, b: Quad) -> Result<Quad,
     requires b_stands { QuadStands nodes.old b }
     requires one_height { b.height ≡ a.height }
     requires tall { 8 ≤ a.height }
-    ensures value { IfOk result (IsQuad nodes.new a.height
-        (cells_compose (side_of a.height) (quad_cells nodes.old a) (quad_cells nodes.old b))) }
-    ensures keeps { KeepsQuads (compose_room a.height) nodes.old nodes.new }
-    ensures counts { Counts nodes.old nodes.new result }
+    ensures { Gives (compose_room a.height) (IsComposition nodes.old nodes.new a b) nodes.old nodes.new result }
 {
     let found = product_window(nodes, a, b, a.height, 0, 0)?;
     nodes.note(Op::Compose, a, b, found);

@@ -9,7 +9,7 @@ use leaf_block::block_transpose;
 use memo_laws::Op;
 use pair_table::Missed;
 use quad_nodes::Nodes;
-use rel_model::Quad;
+use rel_model::{Quad, Quarters};
 use tree_blocks::{blocks_pay, gather_blocks, spill_turned};
 
 /// `{(i, j) : (j, i) in a}`: the transposition of a quad. Refused only if the table is full.
@@ -20,7 +20,7 @@ pub fn transpose_quad(nodes: &mut Nodes, a: Quad) -> Result<Quad, Missed>
         nodes.old nodes.new result }
 {
     let bottom = nodes.bottom();
-    if a.name == 0 {
+    if a.is_empty() {
         return Ok(a);
     }
     if a.height == bottom {
@@ -42,10 +42,7 @@ fn transposed_over(nodes: &mut Nodes, a: Quad) -> Result<Quad, Missed>
     ensures { MakesQuad (quad_room a.height) a.height (cells_transpose (quad_cells nodes.old a))
         nodes.old nodes.new result }
 {
-    let none = Quad {
-        height: a.height,
-        name: 0,
-    };
+    let none = Quad::empty(a.height);
     if let Some(found) = nodes.look(Op::Transpose, a, none) {
         return Ok(found);
     }
@@ -65,14 +62,12 @@ fn transposed_by_blocks(nodes: &mut Nodes, a: Quad) -> Result<Quad, Missed>
     ensures { MakesQuad (quad_room a.height) a.height (cells_transpose (quad_cells nodes.old a))
         nodes.old nodes.new result }
 {
+    // This use makes the checker open the invariant of `nodes`, which an early return needs.
     let _ = nodes.bottom();
     let mut blocks = [0u64; 1024];
     spill_turned(nodes, a, &mut blocks);
     let found = gather_blocks(nodes, &blocks, a.height)?;
-    let none = Quad {
-        height: a.height,
-        name: 0,
-    };
+    let none = Quad::empty(a.height);
     nodes.note(Op::Transpose, a, none, found);
     Ok(found)
 }
@@ -85,11 +80,13 @@ fn transposed_by_quarters(nodes: &mut Nodes, a: Quad) -> Result<Quad, Missed>
     ensures { MakesQuad (quad_room a.height) a.height (cells_transpose (quad_cells nodes.old a))
         nodes.old nodes.new result }
 {
-    let none = Quad {
-        height: a.height,
-        name: 0,
-    };
-    let (a_nw, a_ne, a_sw, a_se) = nodes.quarters_ahead(a);
+    let none = Quad::empty(a.height);
+    let Quarters {
+        nw: a_nw,
+        ne: a_ne,
+        sw: a_sw,
+        se: a_se,
+    } = nodes.quarters_ahead(a);
     let nw = transpose_quad(nodes, a_nw)?;
     let ne = transpose_quad(nodes, a_sw)?;
     let sw = transpose_quad(nodes, a_ne)?;

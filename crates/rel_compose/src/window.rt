@@ -1,11 +1,12 @@
 //! A single square of a composition, without the rest of it.
 ghost use Rattle.std.specs.Prelude.{◌≡◌, ◌≤◌, ◌+◌, ◌%◌, true, IfOk};
-ghost use Rattle.rel_model.specs.Cells.{cells_compose};
 ghost use Rattle.rel_model.specs.Equations.{side_of};
-ghost use Rattle.rel_model.specs.Quads.{Keeper, QuadStands, IsQuad, quad_cells, KeepsQuads, ReadsQuads, Counts, quad_room};
+ghost use Rattle.rel_model.specs.Quads.{Keeper, QuadStands, IsQuad, KeepsQuads, ReadsQuads, Counts, quad_room};
 ghost use Rattle.bit_rows.specs.Places.{window};
+ghost use Rattle.rel_compose.specs.Products.{composition};
 
-use crate::dense::{TALLEST, sums_pay};
+use crate::dense::{TALLEST, Wanted};
+use crate::large::sums_pay;
 use crate::sums::product_window;
 use pair_table::Missed;
 use quad_nodes::Nodes;
@@ -20,7 +21,7 @@ pub fn goes_by_sums(nodes: &mut Nodes, a: Quad, b: Quad) -> bool
     ensures tall { result ≡ true → 8 ≤ a.height }
     ensures reads { ReadsQuads nodes.old nodes.new }
 {
-    sums_pay(nodes, a, b, false, TALLEST)
+    sums_pay(nodes, a, b, Wanted::Product, TALLEST)
 }
 
 /// `{(i, k) : (row + i, j) in a and (j, col + k) in b for some j}`: the square of a composition with this height, from
@@ -43,8 +44,8 @@ pub fn compose_window(
     requires col_on { col % 256 ≡ 0 }
     requires row_in { row + side_of height ≤ side_of a.height }
     requires col_in { col + side_of height ≤ side_of a.height }
-    ensures value { IfOk result (IsQuad nodes.new height (window row col (side_of height)
-        (cells_compose (side_of a.height) (quad_cells nodes.old a) (quad_cells nodes.old b)))) }
+    ensures value { IfOk result (IsQuad nodes.new height
+        (window row col (side_of height) (composition nodes.old a b))) }
     ensures keeps { KeepsQuads (quad_room height) nodes.old nodes.new }
     ensures counts { Counts nodes.old nodes.new result }
 {

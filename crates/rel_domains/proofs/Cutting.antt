@@ -11,6 +11,8 @@ by_places : (P : ℕ → Type 0) (xs : List ℕ) → ((k : ℕ) → k < length x
 by_places P [] h = tt
 by_places P (x ∷ xs) h = (h 0 (omega arith), by_places P xs (λ k l. h (suc k) (omega arith)))
 
+-- numbers in order that are cut at their partition point are cut at the bound: each one before that point is below the
+-- bound, and none from there on
 pub cut_there : (bound : ℕ) (xs front back : List ℕ) (i : ℕ) → i ≤ length xs → IsNonDecreasing xs → IsPartitionPoint (λ y. ltb y bound ≡ true) (λ y. ltb y bound ≡ false) xs i → front ≡ take i xs → back ≡ drop i xs → IsCut bound xs front back
 cut_there bound xs front back i l order point e f = record {
   parts = sym (ap (λ a. a ++ back) e ∙ ap (λ b. take i xs ++ b) f ∙ take-append-drop i xs);

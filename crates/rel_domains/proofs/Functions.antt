@@ -108,6 +108,7 @@ module _ (x y : ℕ) where
   abbrev q : Relation
   q = second_projection x y
 
+  -- the two projections tell a pair apart from all others: a number is known by its quotient and its remainder
   faithful_law : inter (compose p (transpose p)) (compose q (transpose q)) ≡ identity (x * y)
   faithful_law = one_relation (x * y) (x * y) (inter (compose p (transpose p)) (compose q (transpose q))) (identity (x * y)) (type-inter (x * y) (x * y) (compose p (transpose p)) (compose q (transpose q)) first_type) (type-identity (x * y))
       (λ i k h.
@@ -214,6 +215,7 @@ module _ (x y : ℕ) where
       type : HasType x x (compose i (transpose i))
       type = meet_type x (x + y) x (λ n. n) (λ n. n) i i (left_map x y) (left_map x y)
 
+  -- from the right and back each number comes to itself alone: x + a is x + b only where a is b
   right_law : compose k (transpose k) ≡ identity y
   right_law = one_relation y y (compose k (transpose k)) (identity y) type (type-identity y)
       (λ a b h.
@@ -246,6 +248,8 @@ module _ (x y : ℕ) where
   right_type : HasType (x + y) (x + y) (compose (transpose k) k)
   right_type = join_type y (x + y) (x + y) (λ n. x + n) (λ n. x + n) k k (right_map x y) (right_map x y)
 
+  -- both injections together reach each number of the sum, and each from one number alone: below x from the left, and
+  -- from x on from the right
   together_law : union (compose (transpose i) i) (compose (transpose k) k) ≡ identity (x + y)
   together_law = one_relation (x + y) (x + y) (union (compose (transpose i) i) (compose (transpose k) k)) (identity (x + y)) type (type-identity (x + y))
       (λ s t h.

@@ -6,7 +6,8 @@ use Rattle.std.proofs.lemmas.Nat.{pow_pos}
 use Rattle.std.proofs.lemmas.Bool.{lt-ltb, and_parts, eqb-true, ltb-true}
 use Rattle.rel_model.specs.declared.Rel.{Rel}
 use Rattle.rel_model.specs.declared.Quad.{Quad}
-use Rattle.rel_model.specs.Relation.{Relation, has, relation_of, size_limit, IsRelation}
+use Rattle.rel_model.specs.declared.Quarters.{Quarters}
+use Rattle.rel_model.specs.Relation.{Relation, has, relation_of, size_height, size_limit, IsRelation}
 use Rattle.rel_model.specs.Cells.{Cells, no_cells}
 use Rattle.rel_model.specs.Choice.{holds, count_below, inj}
 use Rattle.rel_model.specs.Trees.{quartered, top_height}
@@ -31,23 +32,23 @@ none_set w q e z = ap (λ n. unwrap_or (w.quad (record { height = q.height; name
 pub none_count : (w : Worker) (q : Quad) → w.quad (record { height = q.height; name = 0 }) ≡ Some no_cells → q.name ≡ 0 → 0 ≡ count_below (2 ^ q.height) (first_column (quad_set w q))
 none_count w q e z = sym (count-none (2 ^ q.height) (first_column (quad_set w q)) (λ k l. ap (λ f. first_column f k) (none_set w q e z)))
 
-pub count_limit : (h : ℕ) (t : ℕ → Bool) → h ≤ top_height → count_below (2 ^ h) t ≤ 2 ^ 24
+pub count_limit : (h : ℕ) (t : ℕ → Bool) → h ≤ top_height → count_below (2 ^ h) t ≤ size_limit
 unfolding top_height
-count_limit h t l = let p : 2 ^ h ≤ 2 ^ 24 = pow_mono {i = h} {j = 24} l in let q = count-most (2 ^ h) t in omega (arith, p, q)
+count_limit h t l = let p : 2 ^ h ≤ size_limit = pow_mono {i = h} {j = size_height} l in let q = count-most (2 ^ h) t in omega (arith, p, q)
 
 double_side : (h k : ℕ) → h + 1 ≡ k → 2 ^ k ≡ 2 ^ h + 2 ^ h
 double_side h k e = let s = side_step 0 k (omega (arith, e)) in let g : 2 ^ (0 + k) ≡ 2 ^ k = ap (λ n. 2 ^ n) (let z : 0 + k ≡ k = omega arith in z) in let f : 2 ^ (0 + (k - 1)) ≡ 2 ^ h = ap (λ n. 2 ^ n) (let z : 0 + (k - 1) ≡ h = omega (arith, e) in z) in omega (arith, s, g, f)
 
 -- what a vector has is what its halves have
-pub halves_count : (w0 w1 : Worker) (vector : Quad) (four : Quad × Quad × Quad × Quad) → GivesQuarters w0 w1 vector four
-    → count_below (2 ^ vector.height) (first_column (quad_set w0 vector)) ≡ count_below (2 ^ four.0.height) (first_column (quad_set w1 four.0)) + count_below (2 ^ four.2.height) (first_column (quad_set w1 four.2))
+pub halves_count : (w0 w1 : Worker) (vector : Quad) (four : Quarters) → GivesQuarters w0 w1 vector four
+    → count_below (2 ^ vector.height) (first_column (quad_set w0 vector)) ≡ count_below (2 ^ four.nw.height) (first_column (quad_set w1 four.nw)) + count_below (2 ^ four.sw.height) (first_column (quad_set w1 four.sw))
 halves_count w0 w1 vector four g =
-    let m = 2 ^ four.0.height in
-    let e : four.2.height ≡ four.0.height = let a = g.nw_height in let b = g.sw_height in omega (arith, a, b) in
-    ap (λ n. count_below n (first_column (quad_set w0 vector))) (double_side four.0.height vector.height g.nw_height)
+    let m = 2 ^ four.nw.height in
+    let e : four.sw.height ≡ four.nw.height = let a = g.nw_height in let b = g.sw_height in omega (arith, a, b) in
+    ap (λ n. count_below n (first_column (quad_set w0 vector))) (double_side four.nw.height vector.height g.nw_height)
     ∙ ap (λ f. count_below (m + m) (first_column f)) g.means
-    ∙ count-halves m (pow_pos four.0.height) (quad_set w1 four.0) (quad_set w1 four.1) (quad_set w1 four.2) (quad_set w1 four.3)
-    ∙ ap (λ n. count_below m (first_column (quad_set w1 four.0)) + count_below (2 ^ n) (first_column (quad_set w1 four.2))) (sym e)
+    ∙ count-halves m (pow_pos four.nw.height) (quad_set w1 four.nw) (quad_set w1 four.ne) (quad_set w1 four.sw) (quad_set w1 four.se)
+    ∙ ap (λ n. count_below m (first_column (quad_set w1 four.nw)) + count_below (2 ^ n) (first_column (quad_set w1 four.sw))) (sym e)
 
 -- both halves as they stand, with their heights, sets and counts
 pub record AreHalves (w : Worker) (h many above : ℕ) (upper lower : Quad) (a c : Cells) : Type 0 where
@@ -61,6 +62,7 @@ pub record AreHalves (w : Worker) (h many above : ℕ) (upper lower : Quad) (a c
   pub lower_many : many - above ≡ count_below (2 ^ lower.height) (first_column (quad_set w lower))
   pub fits : above ≤ many
 
+-- the halves of a vector stay so in a later worker, which keeps their sets and so what they count
 pub halves_later : (v w : Worker) (h many above : ℕ) (upper lower : Quad) (a c : Cells) → Keeps v w → AreHalves v h many above upper lower a c → AreHalves w h many above upper lower a c
 halves_later v w h many above upper lower a c k p =
     let u = kept_set v w upper k p.upper_stands in
@@ -77,12 +79,13 @@ halves_later v w h many above upper lower a c k p =
       fits = p.fits;
     }
 
-pub halves_first : (w0 w1 w2 : Worker) (least depth many above : ℕ) (vector : Quad) (four : Quad × Quad × Quad × Quad) → depth ≢ 0 → vector.height ≡ least + depth → GivesQuarters w0 w1 vector four
-    → many ≡ count_below (2 ^ vector.height) (first_column (quad_set w0 vector)) → above ≡ count_below (2 ^ four.0.height) (first_column (quad_set w1 four.0)) → Keeps w1 w2
-    → AreHalves w2 (least + (depth - 1)) many above four.0 four.2 (quad_set w1 four.0) (quad_set w1 four.2)
+-- the western quarters of a vector are its halves: what it counts is what both of them count
+pub halves_first : (w0 w1 w2 : Worker) (least depth many above : ℕ) (vector : Quad) (four : Quarters) → depth ≢ 0 → vector.height ≡ least + depth → GivesQuarters w0 w1 vector four
+    → many ≡ count_below (2 ^ vector.height) (first_column (quad_set w0 vector)) → above ≡ count_below (2 ^ four.nw.height) (first_column (quad_set w1 four.nw)) → Keeps w1 w2
+    → AreHalves w2 (least + (depth - 1)) many above four.nw four.sw (quad_set w1 four.nw) (quad_set w1 four.sw)
 halves_first w0 w1 w2 least depth many above vector four over e g m n k =
     let s = halves_count w0 w1 vector four g in
-    halves_later w1 w2 (least + (depth - 1)) many above four.0 four.2 (quad_set w1 four.0) (quad_set w1 four.2) k
+    halves_later w1 w2 (least + (depth - 1)) many above four.nw four.sw (quad_set w1 four.nw) (quad_set w1 four.sw) k
     (record {
       upper_stands = g.nw;
       lower_stands = g.sw;
@@ -108,28 +111,30 @@ ranked_whole m row before half above big a b c d s2 s3 s4 s5 v some e n p q r s 
     ∙ ranked-quartered m row before some a b c d
     ∙ ap (λ x. ranked (m + m) row before (first_column x)) (sym w) ∙ ap (λ x. ranked x row before (first_column v)) u
 
-pub ranks_given : (w0 w1 w2 w3 w4 w5 w6 w7 : Worker) (least depth many row before half above : ℕ) (vector : Quad) (four : Quad × Quad × Quad × Quad) (nw ne sw se q : Quad) → depth ≢ 0 → vector.height ≡ least + depth
-    → half ≡ 2 ^ (vector.height - 1) → GivesQuarters w0 w1 vector four → above ≡ count_below (2 ^ four.0.height) (first_column (quad_set w1 four.0))
-    → AreHalves w2 (least + (depth - 1)) many above four.0 four.2 (quad_set w1 four.0) (quad_set w1 four.2) → Keeps w2 w3
-    → GivesQuad w3 (least + (depth - 1)) (ranked (2 ^ (least + (depth - 1))) row before (first_column (quad_set w2 four.0))) nw → Keeps w3 w4
-    → GivesQuad w4 (least + (depth - 1)) (ranked (2 ^ (least + (depth - 1))) row (before + above) (first_column (quad_set w3 four.2))) ne → Keeps w4 w5
-    → GivesQuad w5 (least + (depth - 1)) (ranked (2 ^ (least + (depth - 1))) (row + half) before (first_column (quad_set w4 four.0))) sw → Keeps w5 w6
-    → GivesQuad w6 (least + (depth - 1)) (ranked (2 ^ (least + (depth - 1))) (row + half) (before + above) (first_column (quad_set w5 four.2))) se
+-- the squares of ranks of both halves, in the upper and in the lower rows, and their corner are the vector's square:
+-- the lower half counts on from the upper one
+pub ranks_given : (w0 w1 w2 w3 w4 w5 w6 w7 : Worker) (least depth many row before half above : ℕ) (vector : Quad) (four : Quarters) (nw ne sw se q : Quad) → depth ≢ 0 → vector.height ≡ least + depth
+    → half ≡ 2 ^ (vector.height - 1) → GivesQuarters w0 w1 vector four → above ≡ count_below (2 ^ four.nw.height) (first_column (quad_set w1 four.nw))
+    → AreHalves w2 (least + (depth - 1)) many above four.nw four.sw (quad_set w1 four.nw) (quad_set w1 four.sw) → Keeps w2 w3
+    → GivesQuad w3 (least + (depth - 1)) (ranked (2 ^ (least + (depth - 1))) row before (first_column (quad_set w2 four.nw))) nw → Keeps w3 w4
+    → GivesQuad w4 (least + (depth - 1)) (ranked (2 ^ (least + (depth - 1))) row (before + above) (first_column (quad_set w3 four.sw))) ne → Keeps w4 w5
+    → GivesQuad w5 (least + (depth - 1)) (ranked (2 ^ (least + (depth - 1))) (row + half) before (first_column (quad_set w4 four.nw))) sw → Keeps w5 w6
+    → GivesQuad w6 (least + (depth - 1)) (ranked (2 ^ (least + (depth - 1))) (row + half) (before + above) (first_column (quad_set w5 four.sw))) se
     → GivesQuad w7 (nw.height + 1) (quartered (2 ^ nw.height) (quad_set w6 nw) (quad_set w6 ne) (quad_set w6 sw) (quad_set w6 se)) q
     → GivesQuad w7 (least + depth) (ranked (2 ^ (least + depth)) row before (first_column (quad_set w0 vector))) q
 ranks_given w0 w1 w2 w3 w4 w5 w6 w7 least depth many row before half above vector four nw ne sw se q over e hf g n p2 k3 g3 k4 g4 k5 g5 k6 g6 g7 =
     let d : ℕ = least + (depth - 1) in
-    let p3 = halves_later w2 w3 d many above four.0 four.2 _ _ k3 p2 in
-    let p4 = halves_later w3 w4 d many above four.0 four.2 _ _ k4 p3 in
-    let p5 = halves_later w4 w5 d many above four.0 four.2 _ _ k5 p4 in
+    let p3 = halves_later w2 w3 d many above four.nw four.sw _ _ k3 p2 in
+    let p4 = halves_later w3 w4 d many above four.nw four.sw _ _ k4 p3 in
+    let p5 = halves_later w4 w5 d many above four.nw four.sw _ _ k5 p4 in
     let r = corner_of w3 w4 w5 w6 w7 d _ _ _ _ nw ne sw se q g3 k4 g4 k5 g5 k6 g6 g7 in
-    let dh : four.0.height ≡ d = p2.upper_height in
+    let dh : four.nw.height ≡ d = p2.upper_height in
     let hm : half ≡ 2 ^ d = hf ∙ ap (λ x. 2 ^ x) (let z : vector.height - 1 ≡ d = omega (arith, e, over) in z) in
-    let nm : above ≡ count_below (2 ^ d) (first_column (quad_set w1 four.0)) = n ∙ ap (λ x. count_below (2 ^ x) (first_column (quad_set w1 four.0))) dh in
-    let vm : quad_set w0 vector ≡ quartered (2 ^ d) (quad_set w1 four.0) (quad_set w1 four.1) (quad_set w1 four.2) (quad_set w1 four.3) = g.means ∙ ap (λ x. quartered (2 ^ x) (quad_set w1 four.0) (quad_set w1 four.1) (quad_set w1 four.2) (quad_set w1 four.3)) dh in
+    let nm : above ≡ count_below (2 ^ d) (first_column (quad_set w1 four.nw)) = n ∙ ap (λ x. count_below (2 ^ x) (first_column (quad_set w1 four.nw))) dh in
+    let vm : quad_set w0 vector ≡ quartered (2 ^ d) (quad_set w1 four.nw) (quad_set w1 four.ne) (quad_set w1 four.sw) (quad_set w1 four.se) = g.means ∙ ap (λ x. quartered (2 ^ x) (quad_set w1 four.nw) (quad_set w1 four.ne) (quad_set w1 four.sw) (quad_set w1 four.se)) dh in
     let big : 2 ^ d + 2 ^ d ≡ 2 ^ (least + depth) = let s = side_step least depth over in omega (arith, s) in
     record {
-      means = r.means ∙ ap Some (ranked_whole (2 ^ d) row before half above (2 ^ (least + depth)) (quad_set w1 four.0) (quad_set w1 four.1) (quad_set w1 four.2) (quad_set w1 four.3) _ _ _ _ (quad_set w0 vector)
+      means = r.means ∙ ap Some (ranked_whole (2 ^ d) row before half above (2 ^ (least + depth)) (quad_set w1 four.nw) (quad_set w1 four.ne) (quad_set w1 four.sw) (quad_set w1 four.se) _ _ _ _ (quad_set w0 vector)
           (pow_pos d) hm nm p2.upper_is p3.lower_is p4.upper_is p5.lower_is vm big);
       same_height = (let h = r.same_height in omega (arith, h, over));
     }
@@ -152,29 +157,39 @@ ranks_again w3 w4 w5 d row before half above t u nw e f g k l =
     record { means = r.means ∙ ap Some (ranked-later (2 ^ d) row before half t ∙ ap (λ n. ranked (2 ^ d) (row + half) (before + n) t) (sym e) ∙ ap (ranked (2 ^ d) (row + half) (before + above)) f); same_height = r.same_height }
 
 -- ---- the relation
-module _ (least many m : ℕ) (v : Relation) (valid : IsRelation v) (rows : v.rows ≡ m) (cols : v.cols ≡ 1) (limit : m ≤ size_limit) (h : ℕ) (high : h ≡ height_over least m 1) (all : many ≡ count_below (2 ^ h) (first_column (has v))) where
+-- a vector, the height of its tree and the number of its elements
+pub record IsListed (least many m h : ℕ) (v : Relation) : Type 0 where
+  pub valid : IsRelation v
+  pub rows : v.rows ≡ m
+  pub cols : v.cols ≡ 1
+  pub limit : m ≤ size_limit
+  pub high : h ≡ height_over least m 1
+  pub all : many ≡ count_below (2 ^ h) (first_column (has v))
+
+module _ (least many m h : ℕ) (v : Relation) (is : IsListed least many m h v) where
   elements_within : (x : ℕ) → holds v x ≡ true → x < m
-  elements_within x t = let w = inside m 1 v (record { valid = valid; row_size = rows; col_size = cols }) x 0 t in w.row
+  elements_within x t = let w = inside m 1 v (record { valid = is.valid; row_size = is.rows; col_size = is.cols }) x 0 t in w.row
 
   side_covers : m ≤ 2 ^ h
-  side_covers = subst (λ k. m ≤ 2 ^ k) (sym high) (height_over-rows least m 1 limit)
+  side_covers = subst (λ k. m ≤ 2 ^ k) (sym is.high) (height_over-rows least m 1 is.limit)
 
   pub many_is : many ≡ count_below v.rows (holds v)
-  many_is = all ∙ count-beyond m (2 ^ h) (holds v) side_covers elements_within ∙ ap (λ n. count_below n (holds v)) (sym rows)
+  many_is = is.all ∙ count-beyond m (2 ^ h) (holds v) side_covers elements_within ∙ ap (λ n. count_below n (holds v)) (sym is.rows)
 
   pub many_most : many ≤ m
-  many_most = let c = count-most v.rows (holds v) in omega (arith, many_is, c, rows)
+  many_most = let c = count-most v.rows (holds v) in omega (arith, many_is, c, is.rows)
 
   pub ranks_height : h ≡ height_over least many m
   unfolding height_over
   ranks_height =
-      let a = height_of-least many (height_of m) (let c = height_of-covers m limit in let l = many_most in omega (arith, c, l)) in
+      let a = height_of-least many (height_of m) (let c = height_of-covers m is.limit in let l = many_most in omega (arith, c, l)) in
       let b = height_of-least 1 0 (omega arith) in
-      omega (arith, high, a, b)
+      omega (arith, is.high, a, b)
 
+  -- ranks lie within the sizes: an element's row is how many come before it, fewer than all, and its column is itself
   pub ranks_within : LiesWithin many m (ranked (2 ^ h) 0 0 (first_column (has v)))
   ranks_within = record {
-    row = λ i x t. (let p = parts i x t in let q = count-past (2 ^ h) x (holds v) p.0 p.1 in let e = p.2 in omega (arith, q, e, all));
+    row = λ i x t. (let p = parts i x t in let q = count-past (2 ^ h) x (holds v) p.0 p.1 in let e = p.2 in omega (arith, q, e, is.all));
     col = λ i x t. (let p = parts i x t in elements_within x p.1);
   }
     where
@@ -193,12 +208,12 @@ module _ (least many m : ℕ) (v : Relation) (valid : IsRelation v) (rows : v.ro
       let s = side_covers in
       rw (lt-ltb i (2 ^ h) (omega (arith, a, l, s)), lt-ltb x (2 ^ h) (omega (arith, b, s)))
       (ap (λ n. holds v x && eqb n (0 + i)) (let z : 0 + count_below x (holds v) ≡ count_below x (holds v) = omega arith in z) ∙ ap (λ n. holds v x && eqb (count_below x (holds v)) n) (let z : 0 + i ≡ i = omega arith in z)))
-      ∙ ap (λ n. relation_of n m (λ r x. holds v x && eqb (count_below x (holds v)) r)) many_is ∙ ap (λ n. relation_of (count_below v.rows (holds v)) n (λ r x. holds v x && eqb (count_below x (holds v)) r)) (sym rows)
+      ∙ ap (λ n. relation_of n m (λ r x. holds v x && eqb (count_below x (holds v)) r)) many_is ∙ ap (λ n. relation_of (count_below v.rows (holds v)) n (λ r x. holds v x && eqb (count_below x (holds v)) r)) (sym is.rows)
 
   pub inj_given : (w : Worker) (q : Quad) (rel : Rel) → GivesQuad w h (ranked (2 ^ h) 0 0 (first_column (has v))) q → Gives w many m (relation_of many m (quad_set w q)) rel → Gives w (count_below m (holds v)) m (inj v) rel
   inj_given w q rel g r = record {
     means = r.means ∙ ap Some (ap (relation_of many m) (gives_quad_set w h _ q g) ∙ inj_is);
-    row_size = r.row_size ∙ many_is ∙ ap (λ n. count_below n (holds v)) rows;
+    row_size = r.row_size ∙ many_is ∙ ap (λ n. count_below n (holds v)) is.rows;
     col_size = r.col_size;
   }
 

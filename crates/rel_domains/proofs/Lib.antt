@@ -1,4 +1,3 @@
-pub mod Powers
 pub mod Places
 pub mod Cutting
 pub mod Leaves

@@ -60,6 +60,7 @@ cells_listed least d ps xs ys i j h e p a b =
     ap (λ t. t && (ltb j (2 ^ (least + d)) && holds ys (0 + place least d i j))) (lt-ltb i _ a) ∙ ap (λ t. t && holds ys (0 + place least d i j)) (lt-ltb j _ b)
     ∙ ap (holds ys) z ∙ sym (list_any-IsPermutation (λ x. eqb x (place least d i j)) xs ys p) ∙ ap (λ l. holds l (place least d i j)) e ∙ holds-map least d ps i j h a b
 
+-- a cell at a listed place is in the square, which is tested before the place
 cells_inside : (least d : ℕ) (xs : List ℕ) (i j : ℕ) → cells_at least d 0 xs i j ≡ true → (i < 2 ^ (least + d)) × (j < 2 ^ (least + d))
 cells_inside least d xs i j t =
     let a = and_parts _ _ t in
@@ -84,6 +85,7 @@ module _ (least d m n : ℕ) (ps : List (ℕ × ℕ)) (xs ys : List ℕ) (rows :
   pub lies_within : (w : Worker) (q : Quad) → GivesQuad w (least + d) (cells_at least d 0 ys) q → LiesWithin m n (quad_set w q)
   lies_within w q g = subst (LiesWithin m n) (sym (gives_quad_set w (least + d) (cells_at least d 0 ys) q g)) (record { row = λ i j t. (is_within i j t).0; col = λ i j t. (is_within i j t).1 })
 
+  -- a quad with the cells at the listed places gives the relation of the pairs: its square has all within the sizes
   pub relation_given : (w : Worker) (q : Quad) (rel : Rel) → GivesQuad w (least + d) (cells_at least d 0 ys) q → Gives w m n (relation_of m n (quad_set w q)) rel → Gives w m n (relation_of m n (is_among ps)) rel
   relation_given w q rel g r = record {
     means = r.means ∙ ap Some (ap (relation_of m n) (gives_quad_set w (least + d) (cells_at least d 0 ys) q g) ∙ relation_of-agree m n _ _ (λ i j a b. is_listed i j (row_in i a) (col_in j b)));

@@ -8,7 +8,7 @@ use Rattle.std.proofs.lemmas.Nat.{mul-le}
 use Rattle.rel_model.specs.declared.Rel.{Rel}
 use Rattle.rel_model.specs.declared.faults.DomainError.{DomainError}
 use Rattle.rel_model.specs.declared.faults.DomainError.TheVariants.{Size}
-use Rattle.rel_model.specs.Relation.{relation_of, size_limit}
+use Rattle.rel_model.specs.Relation.{relation_of, size_height, size_limit}
 use Rattle.rel_model.specs.Worker.{Worker, Gives, height_of, height_of_three, operator_room, derived_room}
 use Rattle.rel_model.specs.Domains.{IsOverSize, first_projection, second_projection, left_injection, right_injection, membership}
 use Rattle.rel_model.proofs.Relations.{relation_of-agree}
@@ -55,13 +55,13 @@ rooms_derived m n =
     omega (arith, p, q, r, s)
 
 -- ---- powers
-few_elements : (x : ℕ) → 2 ^ x ≤ size_limit → x ≤ 24
-few_elements x l = elim (cases_lt 24 x) [
-  | inl a ↦ absurd (let p : 2 ^ 25 ≤ 2 ^ x = pow_mono {i = 25} {j = x} a in omega (arith, p, l))
+few_elements : (x : ℕ) → 2 ^ x ≤ size_limit → x ≤ size_height
+few_elements x l = elim (cases_lt size_height x) [
+  | inl a ↦ absurd (let p : 2 ^ (size_height + 1) ≤ 2 ^ x = pow_mono {i = size_height + 1} {j = x} a in omega (arith, p, l))
   | inr a ↦ a
 ]
 
-pub member_rule : (x n : ℕ) → x < 64 → n ≡ 1 * 2 ^ x % 18446744073709551616 → n ≤ size_limit → x ≤ 24
+pub member_rule : (x n : ℕ) → x < 64 → n ≡ 1 * 2 ^ x % 18446744073709551616 → n ≤ size_limit → x ≤ size_height
 member_rule x n a e l = few_elements x (omega (arith, l, e, shifted x a))
 
 pub all_subsets : (x : ℕ) → 64 ≤ x → IsOverSize (2 ^ x) (Size (2 ^ 64 - 1) size_limit)

@@ -2,7 +2,7 @@
 -- 1. A relation through the converse of a rule's has the pairs whose column is that of the rule.
 -- 2. Both together are the pairing.
 -- 3. Rooms.
-use Rattle.std.proofs.Common.{◌≡◌, ◌<◌, ◌≤◌, ◌*◌, ◌/◌, ◌%◌, ◌^◌, ◌∙◌, ◌&&◌, max, ℕ, true, Some, refl, sym, ap, subst, arith}
+use Rattle.std.proofs.Common.{◌≡◌, ◌<◌, ◌≤◌, ◌+◌, ◌*◌, ◌/◌, ◌%◌, ◌^◌, ◌∙◌, ◌&&◌, max, ℕ, true, Some, refl, sym, ap, subst, arith}
 use Rattle.std.proofs.Math.Nat.{pow-le-pow_right}
 use Rattle.std.proofs.lemmas.Bool.{and_parts, and_from, eqb-true, eq-eqb}
 use Rattle.rel_model.specs.declared.Rel.{Rel}
@@ -10,11 +10,12 @@ use Rattle.rel_model.specs.Relation.{Relation, has, relation_of, size_limit}
 use Rattle.rel_model.specs.Operators.{inter, compose, transpose}
 use Rattle.rel_model.specs.Algebra.{HasType}
 use Rattle.rel_model.specs.Domains.{pairing}
-use Rattle.rel_model.specs.Worker.{Worker, Stands, set_of, Gives, Keeps, height_of, height_of_three, derived_room}
+use Rattle.rel_model.specs.Worker.{Worker, Stands, set_of, Gives, Keeps, height_of, height_of_three, operator_room, product_room, derived_room}
 use Rattle.rel_model.proofs.Heights.{height_of-covers, height_of-least}
 use Rattle.rel_model.proofs.Members.{inside, type-test, in_test, from_test, one_relation, type-inter, in_inter, from_inter, type-transpose, in_transpose, from_transpose, type-compose, in_compose, from_compose}
-use Rattle.rel_model.proofs.Rooms.{derived_room-least}
+use Rattle.rel_model.proofs.Rooms.{operator_room-most, product_room-most, derived_room-least}
 use Rattle.rel_model.proofs.Workers.{gives_set, gives_stands, keeps_set}
+use Rattle.rel_steps.proofs.Rooms.{as_high}
 use Rattle.rel_domains.specs.declared.rule.Rule.{Rule}
 use Rattle.rel_domains.specs.declared.rule.Rule.TheVariants.{Quotient, Remainder}
 use Rattle.rel_domains.specs.Rules.{passes}
@@ -40,6 +41,7 @@ module _ (m n c : ℕ) (r : Relation) (rule : Rule) (f : ℕ → ℕ) (is : (i j
       let u = in_test c n c n (passes rule) refl refl x p.at (in_transpose ruled p.at x p.second) in
       subst (λ j. has r i j ≡ true) (sym (is x p.at u)) p.first
 
+  -- and back: an element in the column that the rule gives to x is one of the product in column x
   pub from_through : (i x : ℕ) → x < c → has r i (f x) ≡ true → has (compose r (transpose ruled)) i x ≡ true
   from_through i x l h =
       let w = inside m n r t i (f x) h in
@@ -67,6 +69,7 @@ module _ (m n k c by : ℕ) (r s : Relation) (tr : HasType m n r) (ts : HasType 
   by_columns : (x : ℕ) → x < c → by ≡ s.cols
   by_columns x l = b ∙ divisor n k x (subst (λ y. x < y) e l) ∙ sym ts.col_size
 
+  -- first and second columns together are the pairing: a column of the product is a quotient and a remainder
   pub pairing_is : inter firsts seconds ≡ pairing r s
   unfolding pairing
   pairing_is = one_relation m c (inter firsts seconds) (pairing r s) (type-inter m c firsts seconds firsts_type) pairing_type
@@ -105,14 +108,34 @@ pairing_given w0 w1 w2 w3 m n k c by r s left right both tr ts e b ss k0 k1 g1 g
 
 -- ---- rooms
 -- the greater of two sizes is at least as high as either
-pub left_height : (a b : ℕ) → a ≤ size_limit → b ≤ size_limit → height_of a ≤ height_of (max a b)
+left_height : (a b : ℕ) → a ≤ size_limit → b ≤ size_limit → height_of a ≤ height_of (max a b)
 left_height a b l k = height_of-least a (height_of (max a b)) (let c = height_of-covers (max a b) (omega arith) in omega (arith, c))
 
-pub right_height : (a b : ℕ) → a ≤ size_limit → b ≤ size_limit → height_of b ≤ height_of (max a b)
+right_height : (a b : ℕ) → a ≤ size_limit → b ≤ size_limit → height_of b ≤ height_of (max a b)
 right_height a b l k = height_of-least b (height_of (max a b)) (let c = height_of-covers (max a b) (omega arith) in omega (arith, c))
 
-pub through-most : (m n c h : ℕ) → height_of m ≤ h → height_of n ≤ h → height_of c ≤ h → 24 * 8 ^ height_of_three m n c ≤ 24 * 8 ^ h
+through-most : (m n c h : ℕ) → height_of m ≤ h → height_of n ≤ h → height_of c ≤ h → 24 * 8 ^ height_of_three m n c ≤ 24 * 8 ^ h
 through-most m n c h a b d = let p = pow-le-pow_right {n = 8} (omega arith) {i = height_of_three m n c} {j = h} (omega arith) in omega (arith, p)
 
-pub derived-enough : (m k c : ℕ) → 52 * 8 ^ height_of_three m k c ≤ derived_room m k c
+derived-enough : (m k c : ℕ) → 52 * 8 ^ height_of_three m k c ≤ derived_room m k c
 derived-enough m k c = let p = derived_room-least m k c in omega (arith, p)
+
+-- the calls of a composition through a rule, and those of a pairing
+pub through_rooms : (k n c x y z : ℕ) → x ≡ c → y ≡ n → z ≡ c → operator_room c n + operator_room x y + product_room k n z ≤ 24 * 8 ^ height_of_three k n c
+through_rooms k n c x y z a b d =
+    let h : ℕ = height_of_three k n c in
+    let u = operator_room-most c n h (omega arith) (omega arith) in
+    let v = operator_room-most x y h (as_high x c h a (omega arith)) (as_high y n h b (omega arith)) in
+    let w = product_room-most k n z h (omega arith) (omega arith) (as_high z c h d (omega arith)) in
+    omega (arith, u, v, w)
+
+pub paired_rooms : (m i p q c x y : ℕ) → p ≤ size_limit → q ≤ size_limit → m ≡ i → x ≡ m → y ≡ c
+    → 24 * 8 ^ height_of_three m p c + 24 * 8 ^ height_of_three i q c + operator_room x y ≤ derived_room m (max p q) c
+paired_rooms m i p q c x y lp lq a b d =
+    let h : ℕ = height_of_three m (max p q) c in
+    let l = left_height p q lp lq in
+    let r = right_height p q lp lq in
+    let u = through-most m p c h (omega arith) (omega (arith, l)) (omega arith) in
+    let v = through-most i q c h (as_high i m h (sym a) (omega arith)) (omega (arith, r)) (omega arith) in
+    let w = operator_room-most x y h (as_high x m h b (omega arith)) (as_high y c h d (omega arith)) in
+    omega (arith, u, v, w, derived-enough m (max p q) c)

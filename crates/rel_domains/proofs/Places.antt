@@ -62,6 +62,7 @@ double least d = let e : least + suc d ≡ 1 + (least + d) = omega arith in let 
 pub fourfold : (least d : ℕ) → 4 ^ (least + suc d) ≡ 4 * 4 ^ (least + d)
 fourfold least d = let e : least + suc d ≡ 1 + (least + d) = omega arith in ap (λ k. 4 ^ k) e ∙ pow-add 4 1 (least + d)
 
+-- a place is below the number of cells, by induction: a quarter has a fourth of them, and at most three come before it
 pub place_lt : (least d i j : ℕ) → i < 2 ^ (least + d) → j < 2 ^ (least + d) → place least d i j < 4 ^ (least + d)
 place_lt least zero i j a b =
     let e : least + 0 ≡ least = omega arith in
@@ -106,6 +107,7 @@ record InQuarter (least d i j : ℕ) : Type 0 where
   col : j ≡ b * 2 ^ (least + d) + y
   here : place least (suc d) i j ≡ (2 * a + b) * 4 ^ (least + d) + place least d x y
 
+-- each cell lies in one of four quarters: the half of its row and the half of its column tell which
 quarter_of : (least d i j : ℕ) → i < 2 ^ (least + d) + 2 ^ (least + d) → j < 2 ^ (least + d) + 2 ^ (least + d) → InQuarter least d i j
 quarter_of least d i j p q =
     let m = 2 ^ (least + d) in
@@ -120,6 +122,7 @@ quarter_of least d i j p q =
       ]
     ]
 
+-- two cells with one place are one cell, by induction: the place tells the quarter, and the place in it
 pub place_one : (least d i j x y : ℕ) → i < 2 ^ (least + d) → j < 2 ^ (least + d) → x < 2 ^ (least + d) → y < 2 ^ (least + d) → place least d i j ≡ place least d x y → (i ≡ x) × (j ≡ y)
 place_one least zero i j x y a b c e h = let z : least + 0 ≡ least = omega arith in row_alone (2 ^ least) i j x y (subst (λ k. j < 2 ^ k) z b) (subst (λ k. y < 2 ^ k) z e) h
 place_one least (suc d) i j x y a b c e h =

@@ -57,6 +57,7 @@ pub record AreSpans (base n k : ℕ) (in_nw in_ne in_sw in_se : List ℕ) : Type
   pub sw_span : AreFrom (base + 2 * n) (base + 2 * n + k) in_sw
   pub se_span : AreFrom (base + 3 * n) (base + 3 * n + k) in_se
 
+-- the spans of four parts one after another are those of four squares of half the side
 pub spans : (base n k : ℕ) (all in_nw in_ne in_sw in_se : List ℕ) → n ≡ k → AreFour base n all in_nw in_ne in_sw in_se → AreSpans base n k in_nw in_ne in_sw in_se
 spans base n k all in_nw in_ne in_sw in_se e f =
     let p : base + n ≡ base + k = omega (arith, e) in
@@ -189,6 +190,8 @@ module _ (least d base : ℕ) (all in_nw in_ne in_sw in_se : List ℕ) (f : AreF
       wide i j ∙ ap (λ t. t && (ltb j (m + m) && holds all (base + place least (suc d) i j))) (high_test m i a) ∙ ap (λ t. ltb (i - m) m && (t && holds all (base + place least (suc d) i j))) (high_test m j b)
       ∙ guarded (ltb (i - m) m) (ltb (j - m) m) _ _ (λ s t. ap (λ k. holds all (base + k)) (se least d i j a b) ∙ asks_se base n all in_nw in_ne in_sw in_se f (place least d (i - m) (j - m)) (place_lt least d (i - m) (j - m) (is_lt (i - m) s) (is_lt (j - m) t)))
 
+  -- the cells at listed places are those of the four parts in the four quarters: a place in a quarter is in the span of
+  -- its part alone
   pub cells_quartered : quartered m (cells_at least d base in_nw) (cells_at least d (base + n) in_ne) (cells_at least d (base + 2 * n) in_sw) (cells_at least d (base + 3 * n) in_se) ≡ cells_at least (suc d) base all
   cells_quartered = same_cells _ _ (λ i j.
       let a = cells_at least d base in_nw in

@@ -115,6 +115,8 @@ module _ (m row before n : ℕ) (t a c : ℕ → Bool) (low : (x : ℕ) → x < 
   down : (i : ℕ) → m ≤ i → row + m + (i - m) ≡ row + i
   down i p = omega arith
 
+  -- the squares of ranks of two halves are that of the vector: the left columns are the upper half, and the right ones
+  -- the lower half, counted on from what the upper one has
   pub halves-ranked : quartered m (ranked m row before a) (ranked m row (before + n) c) (ranked m (row + m) before a) (ranked m (row + m) (before + n) c) ≡ ranked (m + m) row before t
   halves-ranked = same_cells _ _ (λ i x. elim (cases_lt i m) [
     | inl p ↦ elim (cases_lt x m) [

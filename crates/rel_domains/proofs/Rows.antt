@@ -20,6 +20,7 @@ pub record Filled (m row col : ℕ) (f : Cells) (n bits : ℕ) : Type 0 where
   pub cells : (i j : ℕ) → i < n → j < m → eqb (bit_at bits (m * i + j)) 1 ≡ f (row + i) (col + j)
   pub small : bits < 2 ^ (m * n)
 
+-- one row more is filled: its bits stand above those of the rows before, in the same word
 pub filled-more : (m row col n bits word : ℕ) (f : Cells) → Filled m row col f n bits → ((k : ℕ) → k < m → eqb (bit_at word k) 1 ≡ f (row + n) (col + k)) → word < 2 ^ m → Filled m row col f (n + 1) (bits + word * 2 ^ (m * n))
 filled-more m row col n bits word f p h w =
     let turn : bits + word * 2 ^ (m * n) ≡ word * 2 ^ (m * n) + bits = omega arith in

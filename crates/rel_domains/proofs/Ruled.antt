@@ -4,7 +4,7 @@ use Rattle.std.proofs.Math.Pow.{pow_mono}
 use Rattle.std.proofs.lemmas.Bool.{lt-ltb, and_parts, ltb-true}
 use Rattle.rel_model.specs.declared.Rel.{Rel}
 use Rattle.rel_model.specs.declared.Quad.{Quad}
-use Rattle.rel_model.specs.Relation.{relation_of, size_limit}
+use Rattle.rel_model.specs.Relation.{relation_of, size_height, size_limit}
 use Rattle.rel_model.specs.Trees.{top_height}
 use Rattle.rel_model.specs.Roots.{height_over}
 use Rattle.rel_model.specs.Cells.{Cells}
@@ -18,9 +18,9 @@ use Rattle.rel_domains.proofs.Listing.{power_mono}
 use Rattle.rel_steps.proofs.Given.{gives_quad_set}
 
 -- the side of a square is within the limit
-pub side_limit : (h : ℕ) → h ≤ top_height → 0 + 2 ^ h ≤ 2 ^ 24
+pub side_limit : (h : ℕ) → h ≤ top_height → 0 + 2 ^ h ≤ size_limit
 unfolding top_height
-side_limit h l = let p : 2 ^ h ≤ 2 ^ 24 = pow_mono {i = h} {j = 24} l in omega (arith, p)
+side_limit h l = let p : 2 ^ h ≤ size_limit = pow_mono {i = h} {j = size_height} l in omega (arith, p)
 
 module _ (least d m n : ℕ) (rule : Rule) (rows : m ≤ size_limit) (cols : n ≤ size_limit) (high : least + d ≡ height_over least m n) where
   abbrev pub whole : Cells
@@ -34,6 +34,7 @@ module _ (least d m n : ℕ) (rule : Rule) (rows : m ≤ size_limit) (cols : n �
       (ap (λ k. rule_cells m n rule k (0 + j)) (let e : 0 + i ≡ i = omega arith in e) ∙ ap (rule_cells m n rule i) (let e : 0 + j ≡ j = omega arith in e)
       ∙ ap (λ t. t && (ltb j n && passes rule i j)) (lt-ltb i m a) ∙ ap (λ t. t && passes rule i j) (lt-ltb j n b))
 
+  -- the cells of a rule lie within the sizes, which are tested with the rule
   pub ruled_within : LiesWithin m n whole
   ruled_within = record {
     row = λ i j t. (let p = inside i j t in omega (arith, p.0));

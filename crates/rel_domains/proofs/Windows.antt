@@ -55,6 +55,7 @@ rest_of by row k l = let e : k ≡ row + (k - row) = omega arith in ap (λ n. n 
 pub rest_before : (by row col k : ℕ) → row ≤ k → k < row + (col - row % by) → k % by < col
 rest_before by row col k l a = let e = rest_of by row k l in let u = mod-le (row % by + (k - row)) by in omega (arith, e, u, a)
 
+-- from a remainder behind the columns on, the next ones are behind them too, until they begin at 0 again, before them
 pub rest_behind : (by row col m k : ℕ) → 0 < by → col + m ≤ row % by → row ≤ k → k < row + (by - row % by) + col → (k % by < col) ⊎ (col + m ≤ k % by)
 rest_behind by row col m k p h l a =
     let e = rest_of by row k l in
@@ -84,6 +85,7 @@ module _ (m row col : ℕ) (f : Cells) where
   in_half : (i r : ℕ) → m ≤ i → r + m + (i - m) ≡ r + i
   in_half i r l = omega arith
 
+  -- a square is its four quarters: a row or a column behind the middle is one of the half that begins m further on
   pub windows-quartered : quartered m (window m row col f) (window m row (col + m) f) (window m (row + m) col f) (window m (row + m) (col + m) f) ≡ window (m + m) row col f
   windows-quartered = same_cells _ _ (λ i j. elim (cases_lt i m) [
     | inl p ↦ elim (cases_lt j m) [

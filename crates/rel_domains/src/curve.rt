@@ -5,7 +5,8 @@ ghost use Rattle.rel_model.specs.Trees.{top_height};
 ghost use Rattle.rel_model.specs.Listed.{AreWithin};
 ghost use Rattle.rel_domains.specs.Curve.{place};
 
-use crate::heights::{cells_of, side_of};
+use crate::heights::cells_of;
+use rel_model::empty::side_of;
 use std::alloc::{AllocError, Global};
 
 /// The place of a cell in a square `depth` heights above leaves of a height.

@@ -6,7 +6,7 @@ ghost use Rattle.rel_model.specs.Choice.{count_below};
 ghost use Rattle.rel_model.specs.Relation.{size_limit};
 ghost use Rattle.rel_domains.specs.Ranks.{first_column, ranked};
 
-use crate::heights::side_of;
+use rel_model::empty::side_of;
 
 /// Whether a vector has an element.
 fn has_element(vector: u64, side: u32, x: u32) -> bool

@@ -22,7 +22,7 @@ mod sums;
 mod vector;
 
 pub use pairing::fork;
-pub use pairs::from_pairs;
+pub use pairs::{from_pairs, from_pairs_or_none};
 pub use power_set::epsi;
 pub use products::{first, second};
 pub use sums::{inl, inr};

@@ -8,11 +8,12 @@ ghost use Rattle.rel_steps.specs.Making.{MakesQuad};
 ghost use Rattle.rel_domains.specs.Rules.{IsRule, passes, rule_cells, window};
 ghost use Rattle.rel_model.specs.Roots.{relation_room, tree_room};
 
-use crate::heights::{depth_over, side_of};
+use crate::heights::depth_over;
 use crate::missing::{goes_on, misses, repeats};
 use crate::row::row_at;
 use crate::rule::Rule;
 use rel_model::core_trait::Core;
+use rel_model::empty::side_of;
 use rel_model::quads_trait::Quads;
 use rel_model::{Lack, Quad, Rel, Shape};
 

@@ -10,10 +10,10 @@ ghost use Rattle.rel_domains.specs.Ranks.{first_column, ranked};
 ghost use Rattle.rel_model.specs.Roots.{relation_room, tree_room};
 
 use crate::element::{count_in, ranks_in};
-use crate::heights::side_of;
 use rel_model::core_trait::Core;
+use rel_model::empty::side_of;
 use rel_model::quads_trait::Quads;
-use rel_model::{Lack, Quad, Rel, Shape};
+use rel_model::{Lack, Quad, Quarters, Rel, Shape};
 
 /// How many elements a vector has. If both halves are the same quad, it is counted once.
 fn elements<Q: Quads>(q: &mut Q, vector: Quad) -> u32
@@ -24,13 +24,17 @@ fn elements<Q: Quads>(q: &mut Q, vector: Quad) -> u32
     ensures room { MakesAtMost 0 (Q.worker q.old) (Q.worker q.new) }
     ensures misses { MissesNothing (Q.worker q.old) (Q.worker q.new) }
 {
-    if vector.name == 0 {
+    if vector.is_empty() {
         return 0;
     }
     if vector.height == q.bottom() {
         return count_in(vector.height, q.bits(vector));
     }
-    let (upper, _, lower, _) = q.quarters(vector);
+    let Quarters {
+        nw: upper,
+        sw: lower,
+        ..
+    } = q.quarters(vector);
     let above = elements(q, upper);
     if lower.name == upper.name {
         return above + above;
@@ -78,7 +82,11 @@ fn ranks<Q: Quads>(
         return Ok(leaf);
     }
     let half = side_of(height - 1);
-    let (upper, _, lower, _) = q.quarters(vector);
+    let Quarters {
+        nw: upper,
+        sw: lower,
+        ..
+    } = q.quarters(vector);
     let above = elements(q, upper);
     let nw = ranks(q, depth - 1, upper, above, row, before)?;
     let ne = ranks(q, depth - 1, lower, many - above, row, before + above)?;

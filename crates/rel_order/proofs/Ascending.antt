@@ -43,6 +43,8 @@ eight_bits i j a b =
     agree_below_at (λ k. eqb (bit_at 0x80c0e0f0f8fcfe k) 1) (λ k. ltb (k / 8) (k % 8)) 64 (8 * i + j) refl (omega (arith, a, b))
     ∙ ap (λ k. ltb k ((8 * i + j) % 8)) e ∙ ap (ltb i) f
 
+-- bits that agree with the order within a leaf make it the strict order as cells: outside of the leaf neither has a
+-- cell
 pub leaf_ascending : (m bits : ℕ) → ((i j : ℕ) → i < m → j < m → eqb (bit_at bits (m * i + j)) 1 ≡ ltb i j) → bits_cells m bits ≡ ascending m
 leaf_ascending m bits h = same_cells _ _ (λ i j. elim (cases_lt j m) [
   | inl b ↦ elim (cases_lt i m) [
@@ -70,6 +72,8 @@ same_order a b c d f g = elim (cases_lt a b) [
   ]
 ]
 
+-- the strict order by quarters: each half has its own, every element of the first half is less than every one of the
+-- second, and none the other way round
 pub ascending-quartered : (m : ℕ) → quartered m (ascending m) (cells_rect m m) no_cells (ascending m) ≡ ascending (m + m)
 ascending-quartered m = same_cells _ _ (λ i j. elim (cases_lt i m) [
   | inl p ↦ elim (cases_lt j m) [
@@ -145,6 +149,8 @@ cut-has n m i j h =
 pub cut-within : (n m : ℕ) → LiesWithin n n (has (cut n m))
 cut-within n m = record { row = λ i j h. (cut-has n m i j h).1; col = λ i j h. (cut-has n m i j h).2 }
 
+-- cut to n rows and columns, the strict order of a larger square is that of n elements: between two numbers below n it
+-- makes no difference where the square ends
 pub cut-less : (n m : ℕ) → n ≤ m → relation_of n n (has (cut n m)) ≡ less n
 unfolding less inter
 cut-less n m most = relation_of-agree n n (has (cut n m)) (λ i j. ltb i j) (λ i j a b.
@@ -230,19 +236,18 @@ cut_root w least n h side rel quad i e g r =
     }
 
 -- ---- rooms
+tree_of : (least n h : ℕ) → IsHigh least n h → tree_room (h - least) ≤ operator_room n n
+tree_of least n h i = let l = i.low in let e = i.is in rule_room least (h - least) n n (omega (arith, l, e))
+
 -- the trees of three steps have the room of one derived call
-pub three_trees : (least n h : ℕ) → IsHigh least n h → 3 * operator_room n n ≤ derived_room n n n
-three_trees least n h i =
+pub tree_rooms : (least n h bottom : ℕ) → IsHigh least n h → bottom ≡ least → tree_room (h - bottom) + tree_room (h - least) + operator_room n n ≤ derived_room n n n
+tree_rooms least n h bottom i e =
     let k : ℕ = height_of_three n n n in
     let p = operator_room-most n n k (omega arith) (omega arith) in
     let q = derived_room-least n n n in
-    omega (arith, p, q)
-
-pub tree_of : (least n h : ℕ) → IsHigh least n h → tree_room (h - least) ≤ operator_room n n
-tree_of least n h i = let l = i.low in let e = i.is in rule_room least (h - least) n n (omega (arith, l, e))
-
-pub tree_from : (least n h bottom : ℕ) → IsHigh least n h → bottom ≡ least → tree_room (h - bottom) ≤ operator_room n n
-tree_from least n h bottom i e = subst (λ k. tree_room (h - k) ≤ operator_room n n) (sym e) (tree_of least n h i)
+    let t = tree_of least n h i in
+    let b = ap (λ k. tree_room (h - k)) e in
+    omega (arith, p, q, t, b)
 
 pub tree_side : (least n h side rows cols : ℕ) → IsHigh least n h → side ≡ 2 ^ h → rows ≡ side → cols ≡ side → relation_room least rows cols ≤ operator_room n n
 tree_side least n h side rows cols i e a b =

@@ -2,19 +2,22 @@
 -- 1. What was given is kept by the calls after it, so that each set is read off where the next call takes it.
 -- 2. So the set of the answer is the operators' own, one within another.
 -- 3. The laws of bounds, and what Finding says of the rest, give the relation of the definition; its sizes are those of the answers on the way.
-use Rattle.std.proofs.Common.{◌≡◌, ◌≤◌, ◌∙◌, ℕ, Bool, Some, sym, ap, arith}
+-- 4. What all calls of a function make together has room, so what the first of them make has.
+use Rattle.std.proofs.Common.{◌≡◌, ◌≤◌, ◌+◌, ◌*◌, ◌^◌, ◌∙◌, ℕ, Bool, Some, refl, sym, ap, arith}
 use Rattle.rel_model.specs.declared.Rel.{Rel}
 use Rattle.rel_model.specs.Relation.{Relation, size_limit}
 use Rattle.rel_model.specs.Operators.{full, union, inter, diff, transpose, compose, left_residual, symmetric_quotient}
 use Rattle.rel_model.specs.Choice.{holds, count_below, inj}
 use Rattle.rel_model.specs.Algebra.{HasType}
 use Rattle.rel_model.specs.Orders.{less, hasse, upper_bounds, lower_bounds, class_count, classes}
-use Rattle.rel_model.specs.Worker.{Worker, Stands, set_of, Gives, Keeps, height_of}
+use Rattle.rel_model.specs.Worker.{Worker, Stands, set_of, Gives, Keeps, height_of, height_of_three, operator_room, product_room, derived_room, bounds_room, wide_room, extremes_room, classes_room}
 use Rattle.rel_model.proofs.Heights.{height_of-covers, height_of-least}
 use Rattle.rel_model.proofs.Ordering.{bound_laws}
+use Rattle.rel_model.proofs.Rooms.{operator_room-most, product_room-most, derived_room-least, derived_room-most, bounds_room-two, wide_room-four, extremes_room-eight, classes_room-sixteen}
 use Rattle.rel_model.proofs.Workers.{gives_set, gives_stands, keeps_set, keeps_trans}
 use Rattle.rel_domains.proofs.Ranking.{count-most}
-use Rattle.rel_order.specs.Steps.{proper_pairs, leading}
+use Rattle.rel_steps.proofs.Rooms.{as_high, step_rooms}
+use Rattle.rel_order.specs.Steps.{proper_pairs, leading, proper_room, leading_room}
 use Rattle.rel_order.proofs.Finding.{proper_found, hasse_found, leading_found, classes_found, class-count, type-leaders}
 
 -- a relation that was given, some calls later
@@ -84,6 +87,8 @@ proper_given w0 w1 w2 w3 w4 r lesser greater other rest t s k0 k1 k2 g1 g2 g3 g4
       col_size = g4.col_size;
     }
 
+-- the proper pairs without those that two of them make are the Hasse diagram: each call found what the calls before it
+-- gave
 pub hasse_given : (w0 w1 w2 w3 : Worker) (r steps twice rest : Rel) → HasType r.rows r.rows (set_of w0 r) → Keeps w1 w2 → Gives w1 r.rows r.cols (proper_pairs (set_of w0 r)) steps
     → Gives w2 steps.rows steps.cols (compose (set_of w1 steps) (set_of w1 steps)) twice → Gives w3 steps.rows steps.cols (diff (set_of w2 steps) (set_of w2 twice)) rest
     → Gives w3 r.rows r.cols (hasse (set_of w0 r)) rest
@@ -129,6 +134,8 @@ numbers_many w0 w1 w2 r alike least square t g1 g2 =
     let rows : least.rows ≡ V.rows = g2.row_size ∙ g1.row_size ∙ sym square ∙ sym (type-leaders r.rows R t).row_size in
     ap (λ x. count_below least.rows (holds x)) e ∙ ap (λ n. count_below n (holds V)) rows ∙ class-count r.rows R t
 
+-- elements with equal columns, composed with the numbers of those that lead, are the classes: each element has the
+-- number of the one that leads its class
 pub classes_given : (w0 w1 w2 w3 w4 w5 : Worker) (r alike least numbers numbered found : Rel) → r.rows ≡ r.cols → HasType r.rows r.rows (set_of w0 r)
     → Keeps w1 w2 → Keeps w2 w3 → Keeps w3 w4
     → Gives w1 r.cols r.cols (symmetric_quotient (set_of w0 r) (set_of w0 r)) alike → Gives w2 alike.rows 1 (leading (set_of w1 alike)) least
@@ -161,3 +168,68 @@ fewer_high m h t l k =
 -- and one element has none
 pub one_high : (h : ℕ) → height_of 1 ≤ h
 one_high h = let a = height_of-least 1 0 (omega arith) in omega (arith, a)
+
+-- ---- rooms
+pub bound_rooms : (r s : Rel) → r.rows ≡ s.rows → operator_room r.rows r.cols + operator_room s.rows s.cols + derived_room r.rows r.cols s.cols ≤ bounds_room r.rows r.cols s.cols
+bound_rooms r s e =
+    let q = step_rooms r.rows r.cols s.cols in
+    omega (arith, q.least, bounds_room-two r.rows r.cols s.cols, q.km r.rows r.cols refl refl, q.kn s.rows s.cols (sym e) refl)
+
+pub among_rooms : (r s : Rel) → r.rows ≡ s.rows → bounds_room r.rows r.cols s.cols + operator_room s.rows s.cols ≤ wide_room r.rows r.cols s.cols
+among_rooms r s e =
+    let q = step_rooms r.rows r.cols s.cols in
+    omega (arith, q.least, bounds_room-two r.rows r.cols s.cols, wide_room-four r.rows r.cols s.cols, q.kn s.rows s.cols (sym e) refl)
+
+pub extreme_rooms : (k m n x : ℕ) → x ≡ n → bounds_room k m n + wide_room k m x ≤ extremes_room k m n
+extreme_rooms k m n x e = omega (arith, bounds_room-two k m n, wide_room-four k m n, extremes_room-eight k m n, ap (wide_room k m) e)
+
+-- the strict order of the rows, and what operators make of it
+pub less_room : (k m : ℕ) → derived_room k k k ≤ derived_room k m m
+less_room k m = derived_room-most k k k k m m (omega arith) (omega arith) (omega arith)
+
+pub less_rooms : (k m : ℕ) (x : Rel) → x.rows ≡ k → x.cols ≡ k → derived_room k k k + 2 * operator_room x.rows x.cols + operator_room k m + operator_room k 1 + 20 * 8 ^ height_of_three k m m ≤ proper_room k m
+less_rooms k m x a b =
+    let h : ℕ = height_of_three k m m in
+    let u = operator_room-most x.rows x.cols h (as_high x.rows k h a (omega arith)) (as_high x.cols k h b (omega arith)) in
+    let v = operator_room-most k m h (omega arith) (omega arith) in
+    let w = operator_room-most k 1 h (omega arith) (one_high h) in
+    omega (arith, derived_room-least k m m, less_room k m, u, v, w)
+
+pub hasse_rooms : (k m : ℕ) (p : Rel) → p.rows ≡ k → p.cols ≡ m → proper_room k m + product_room p.rows p.cols p.cols + operator_room p.rows p.cols ≤ wide_room k m m
+hasse_rooms k m p a b =
+    let q = step_rooms k m m in
+    omega (arith, q.least, wide_room-four k m m, q.kmn p.rows p.cols p.cols a b b, q.km p.rows p.cols a b)
+
+-- those that lead
+pub leading_rooms : (k m : ℕ) (b a : Rel) → b.rows ≡ k → b.cols ≡ m → a.rows ≡ k → a.cols ≡ 1
+    → product_room b.rows b.cols a.cols + operator_room a.rows a.cols ≤ 20 * 8 ^ height_of_three k m m
+leading_rooms k m b a br bc ar ac =
+    let h : ℕ = height_of_three k m m in
+    let u = product_room-most b.rows b.cols a.cols h (as_high b.rows k h br (omega arith)) (as_high b.cols m h bc (omega arith)) (as_high a.cols 1 h ac (one_high h)) in
+    let v = operator_room-most a.rows a.cols h (as_high a.rows k h ar (omega arith)) (as_high a.cols 1 h ac (one_high h)) in
+    omega (arith, u, v)
+
+-- classes
+pub alike_rooms : (k m : ℕ) (a : Rel) → a.rows ≡ m → a.cols ≡ m → wide_room k m m + leading_room a.rows a.cols + 10 * derived_room k m m ≤ classes_room k m m
+alike_rooms k m a ar ac =
+    let h : ℕ = height_of_three k m m in
+    let u = derived_room-most a.rows a.cols a.cols k m m (as_high a.rows m h ar (omega arith)) (as_high a.cols m h ac (omega arith)) (as_high a.cols m h ac (omega arith)) in
+    omega (arith, wide_room-four k m m, classes_room-sixteen k m m, u)
+
+pub numbers_room : (k m : ℕ) (l : Rel) → l.rows ≡ m → l.cols ≡ 1 → derived_room l.rows l.cols l.cols ≤ derived_room k m m
+numbers_room k m l a b =
+    let h : ℕ = height_of_three k m m in
+    let c = as_high l.cols 1 h b (one_high h) in
+    derived_room-most l.rows l.cols l.cols k m m (as_high l.rows m h a (omega arith)) c c
+
+pub numbered_room : (k m : ℕ) (n : Rel) → height_of n.rows ≤ height_of_three k m m → n.cols ≡ m → operator_room n.rows n.cols ≤ derived_room k m m
+numbered_room k m n few a =
+    let h : ℕ = height_of_three k m m in
+    let u = operator_room-most n.rows n.cols h few (as_high n.cols m h a (omega arith)) in
+    omega (arith, derived_room-least k m m, u)
+
+pub found_room : (k m x : ℕ) (a d : Rel) → a.rows ≡ m → a.cols ≡ m → height_of x ≤ height_of_three k m m → d.cols ≡ x → product_room a.rows a.cols d.cols ≤ derived_room k m m
+found_room k m x a d ar ac few e =
+    let h : ℕ = height_of_three k m m in
+    let u = product_room-most a.rows a.cols d.cols h (as_high a.rows m h ar (omega arith)) (as_high a.cols m h ac (omega arith)) (as_high d.cols x h e few) in
+    omega (arith, derived_room-least k m m, u)

@@ -71,6 +71,8 @@ module _ (n : ℕ) (r : Relation) (t : HasType n n r) where
       ∙ some_agree n (λ z. has P i z && has P z j) (λ z. is_proper r i z && is_proper r z j) (λ z l. ap (λ x. x && has P z j) (proper-has i z a l) ∙ ap (λ x. is_proper r i z && x) (proper-has z j l b))
       ∙ ap (λ k. some_below k (λ z. is_proper r i z && is_proper r z j)) (sym t.row_size)
 
+  -- a step of the Hasse diagram is a proper pair that is not in the product of the proper pairs with themselves: both
+  -- sides say so at each cell
   pub hasse_found : diff (proper_pairs r) (compose (proper_pairs r) (proper_pairs r)) ≡ hasse r
   unfolding diff hasse
   hasse_found =
@@ -94,6 +96,7 @@ module _ (n : ℕ) (r : Relation) (t : HasType n n r) where
   unfolding full
   in_full i a = from_test n 1 n 1 (λ i j. true) refl refl i 0 a (omega arith) refl
 
+  -- an element has a pair in r & less^ exactly if it is related to one before it, and the full column asks for no more
   followers-has : (x : ℕ) → x < n → has (compose behind (full n 1)) x 0 ≡ some_below x (has r x)
   followers-has x a =
       let b = type-inter n n r (transpose (less n)) t in
@@ -123,6 +126,7 @@ count-agree : (n : ℕ) (t u : ℕ → Bool) → ((k : ℕ) → k < n → t k �
 count-agree zero t u f = refl
 count-agree (suc n) t u f = ap (λ k. k + cond (t n) 1 0) (count-agree n t u (λ k l. f k (omega (arith, l)))) ∙ ap (λ b. count_below n u + cond b 1 0) (f n (omega arith))
 
+-- to differ does not depend on which of both comes first
 differ-turned : (a b : Bool) → differ a b ≡ differ b a
 differ-turned true true = refl
 differ-turned true false = refl
@@ -185,6 +189,8 @@ module _ (n : ℕ) (r : Relation) (t : HasType n n r) where
       has-relation_of (inj leaders).cols (inj leaders).rows (λ i j. has (inj leaders) j i) e k (subst (λ m. e < m) (sym cols-inj) a) (subst (λ m. k < m) (sym rows-inj) b)
       ∙ numbers-has k e b a
 
+  -- an element is in a class exactly if some element with an equal column leads and has the number of the class: that
+  -- is the composition, cell by cell
   pub classes_found : compose alike (transpose (inj leaders)) ≡ classes r
   unfolding compose classes
   classes_found =

@@ -9,16 +9,9 @@ ghost use Rattle.rel_model.specs.Worker.{Gives, GivesQuad, Keeps, MakesAtMost, H
 ghost use Rattle.rel_order.specs.Steps.{ascending};
 
 use rel_model::core_trait::Core;
+use rel_model::empty::side_of;
 use rel_model::quads_trait::Quads;
 use rel_model::{Lack, Quad, Rel, Shape};
-
-/// The side of a square of a height.
-fn side_of(height: u8) -> u32
-    requires { height ≤ top_height }
-    ensures { result ≡ 2 ^ height }
-{
-    1 << height
-}
 
 /// The word of a leaf, row by row: each row has the columns after its own number.
 fn leaf_word(least: u8) -> u64

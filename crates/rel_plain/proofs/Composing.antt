@@ -115,6 +115,7 @@ member-through x y i k (p ∷ ps) = elim (cases_Bool (eqb p.0 y)) [
     both true b c = refl
     both false b c = refl
 
+-- pairs composed through row y keep the order of the list: two pairs of that row differ in their columns
 through-after : (x y : ℕ) (p : ℕ × ℕ) (ps : List (ℕ × ℕ)) → p.0 ≡ y → AllByRecursion (λ q. before p q ≡ true) ps → AllByRecursion (λ q. before (x, p.1) q ≡ true) (row_through x y ps)
 through-after x y p [] e h = tt
 through-after x y p (q ∷ ps) e h = elim (cases_Bool (eqb q.0 y)) [
@@ -152,6 +153,7 @@ composed_single [] right before after d up l e f = absurd (omega (arith, l))
 composed_single (p ∷ []) right before after d up l e f = subst (λ zs. IsComposed (p ∷ []) right zs) (sym (f ∙ ap (λ zs. zs ++ row_through p.0 p.1 right) e)) (composed_one p.0 p.1 right up)
 composed_single (p ∷ q ∷ ps) right before after d up l e f = absurd (omega (arith, l))
 
+-- compositions of two halves merge to that of the whole: some pair of the whole passes where one of a half does
 pub composed_merge : (left front back right xs ys zs : List (ℕ × ℕ)) → front ++ back ≡ left → IsComposed front right xs → IsComposed back right ys → IsMerge (record { left = true; both = true; right = true }) xs ys zs → IsComposed left right zs
 composed_merge left front back right xs ys zs e c d is = record {
   increasing = is.increasing;

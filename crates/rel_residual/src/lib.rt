@@ -4,8 +4,6 @@
 mod complement;
 mod quotient;
 mod residuals;
-#[cfg(test)]
-mod tests;
 
 pub use quotient::syq;
 pub use residuals::{left, right};

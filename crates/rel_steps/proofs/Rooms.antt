@@ -18,6 +18,7 @@ pub record StepRooms (k m n : ℕ) : Type 0 where
   pub derived : (x y z : ℕ) → x ≡ m → y ≡ k → z ≡ n → derived_room x y z ≤ derived_room k m n
   pub least : 64 * 8 ^ height_of_three k m n ≤ derived_room k m n
 
+-- no operator makes more than its bound at the height of all three sizes, since none of them has a greater height
 pub step_rooms : (k m n : ℕ) → StepRooms k m n
 step_rooms k m n =
     let h : ℕ = height_of_three k m n in

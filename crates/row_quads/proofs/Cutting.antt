@@ -81,6 +81,7 @@ cut_value h k r c m f x1 x2 x3 x4 over e c0 c1 c2 c3 r1 r2 r3 =
     ∙ sym (window-quartered n r c f)
     ∙ ap (λ (x : ℕ). window r c x f) (sym (side_of-next h over))
 
+-- cutting square k leaves every other square as it was: only its four quarters are written, which no other square has
 pub cut_rest : (h k : ℕ) (x0 x1 x2 x3 x4 : List ℕ) → bottom_height < h
     → ((j : ℕ) → j ≢ 4 * k → square_cells (h - 1 - bottom_height) x1 j ≡ square_cells (h - 1 - bottom_height) x0 j)
     → ((j : ℕ) → j ≢ 4 * k + 1 → square_cells (h - 1 - bottom_height) x2 j ≡ square_cells (h - 1 - bottom_height) x1 j)

@@ -48,7 +48,8 @@ pub fn compose_by_rows(nodes: &mut Nodes, a: Quad, b: Quad) -> Result<Quad, Miss
     requires one_height { b.height ≡ a.height }
     requires small { side_of a.height ≤ 256 }
     ensures { MakesQuad (quad_room a.height) a.height
-        (cells_compose (side_of a.height) (quad_cells nodes.old a) (quad_cells nodes.old b)) nodes.old nodes.new result }
+        (cells_compose (side_of a.height) (quad_cells nodes.old a) (quad_cells nodes.old b))
+        nodes.old nodes.new result }
 {
     let mut z = no_rows();
     add_product(nodes, a, b, &mut z);

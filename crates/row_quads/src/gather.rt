@@ -39,7 +39,7 @@ pub fn gather_quad(
     let _ = nodes.bottom();
     let side = side_of_height(height) as usize;
     if is_clear(z, row, col, side) {
-        return Ok(Quad { height, name: 0 });
+        return Ok(Quad::empty(height));
     }
     let mut blocks = [0u64; 1024];
     cut_square(z, height, row, col, 0, &mut blocks);

@@ -47,7 +47,7 @@ fn add_times(
     ensures reads { ReadsQuads nodes.old nodes.new }
 {
     let _ = nodes.bottom();
-    if b.name == 0 {
+    if b.is_empty() {
         return;
     }
     let mut y = no_rows();
@@ -61,7 +61,7 @@ fn are_empty(pair: (Quad, Quad)) -> bool
     ensures first { result ≡ true → pair.0.name ≡ 0 }
     ensures second { result ≡ true → pair.1.name ≡ 0 }
 {
-    pair.0.name == 0 && pair.1.name == 0
+    pair.0.is_empty() && pair.1.is_empty()
 }
 
 /// Adds to four squares the products of a column of two quads with a row of two quads, all of one height up to 8. Each

@@ -53,6 +53,8 @@ as_named w h f xs k q e i =
     let x : q ≡ named h xs k = ap (λ (n : ℕ). quad_of n q.name) i.same_height ∙ ap (λ (n : ℕ). quad_of h n) (sym e) in
     subst (λ (p : Quad). IsQuad w h f p) x i
 
+-- a loop names one square more: its name is written at its place, those before it stand, and where all stood at first
+-- the loop has still only read
 pub gathered_more : {E : Type 0} (m : ℕ) (r s t : Keeper) (h : ℕ) (f : ℕ → Cells) (g : Cells) (ns xs : List ℕ) (count done : ℕ) (q : Quad) → m * done + m ≡ m * (done + 1) → done < count → done < length xs → g ≡ f done
     → AreGathered m r s h f ns xs count done → IsQuad t h g q → FindsQuad {E = E} s t h g (Ok q) → KeepsQuads m s t → t.misses ≡ s.misses → AreGathered m r t h f ns (set xs done q.name) count (done + 1)
 gathered_more {E} m r s t h f g ns xs count done q room l long same i is found keeps misses = record {
@@ -143,6 +145,7 @@ level_value s t h ws xs ys count (Ok u) over a v =
 block_lies : (a : ℕ) → Within 8 8 (block_cells a)
 block_lies a = record { row = λ i j h. (block_within a i j h).0; col = λ i j h. (block_within a i j h).1 }
 
+-- four sets within their quarters lie within the square: a cell past its edge would be past the edge of a quarter
 four_within : (m : ℕ) (a b c d : Cells) → Within m m a → Within m m b → Within m m c → Within m m d → Within (m + m) (m + m) (quartered m a b c d)
 four_within m a b c d p q r s = record {
   row = λ i j h. elim (cases_Bool (ltb i m)) [

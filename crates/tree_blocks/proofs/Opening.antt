@@ -5,6 +5,7 @@
 use Rattle.std.proofs.Common.{◌≡◌, ◌<◌, ◌≤◌, ◌+◌, ◌-◌, ◌*◌, ◌/◌, zero, suc, ℕ, Bool, true, false, List, length, refl, sym, ap, subst, ◌∙◌, arith, get_or, set, inl, inr}
 use Rattle.std.proofs.lemmas.List.{length-set, get_or-set_same, get_or-set_other}
 use Rattle.rel_model.specs.declared.Quad.{Quad}
+use Rattle.rel_model.specs.declared.Quarters.{Quarters}
 use Rattle.rel_model.specs.Cells.{Cells, block_cells, cells_transpose}
 use Rattle.rel_model.specs.Trees.{bottom_height, side, quartered}
 use Rattle.rel_model.specs.Equations.{side_of}
@@ -33,39 +34,42 @@ quarter_named h xs j q e n =
     let a : q.height ≡ h - 1 = omega arith in
     ap (λ (x : ℕ). quad_of x q.name) a ∙ ap (λ (x : ℕ). quad_of (h - 1) x) (sym n)
 
-pub opened_plain : (w v : Keeper) (h k : ℕ) (ns xs : List ℕ) (four : Quad × Quad × Quad × Quad) → AreQuarters w v (named h ns k) four
-    → get_or xs (4 * k) 0 ≡ four.0.name → get_or xs (4 * k + 1) 0 ≡ four.1.name → get_or xs (4 * k + 2) 0 ≡ four.2.name → get_or xs (4 * k + 3) 0 ≡ four.3.name
+-- a name is opened by its quarters, written at its four places in their order: their sets make up its set
+pub opened_plain : (w v : Keeper) (h k : ℕ) (ns xs : List ℕ) (four : Quarters) → AreQuarters w v (named h ns k) four
+    → get_or xs (4 * k) 0 ≡ four.nw.name → get_or xs (4 * k + 1) 0 ≡ four.ne.name → get_or xs (4 * k + 2) 0 ≡ four.sw.name → get_or xs (4 * k + 3) 0 ≡ four.se.name
     → IsOpened false w v h ns xs k
 opened_plain w v h k ns xs four p n0 n1 n2 n3 =
-    let e0 = quarter_named h xs (4 * k) four.0 p.nw_height n0 in
-    let e1 = quarter_named h xs (4 * k + 1) four.1 p.ne_height n1 in
-    let e2 = quarter_named h xs (4 * k + 2) four.2 p.sw_height n2 in
-    let e3 = quarter_named h xs (4 * k + 3) four.3 p.se_height n3 in
+    let e0 = quarter_named h xs (4 * k) four.nw p.nw_height n0 in
+    let e1 = quarter_named h xs (4 * k + 1) four.ne p.ne_height n1 in
+    let e2 = quarter_named h xs (4 * k + 2) four.sw p.sw_height n2 in
+    let e3 = quarter_named h xs (4 * k + 3) four.se p.se_height n3 in
     let S : Quad → Cells = λ (q : Quad). quad_cells v q in
     record {
       nw = subst (λ (q : Quad). QuadStands v q) e0 p.nw;
       ne = subst (λ (q : Quad). QuadStands v q) e1 p.ne;
       sw = subst (λ (q : Quad). QuadStands v q) e2 p.sw;
       se = subst (λ (q : Quad). QuadStands v q) e3 p.se;
-      means = sym (quartered_same (side_of four.0.height) (side_of (h - 1)) _ _ _ _ _ _ _ _ (ap (λ (q : Quad). side_of q.height) e0) (ap S e0) (ap S e1) (ap S e2) (ap S e3)) ∙ sym p.means;
+      means = sym (quartered_same (side_of four.nw.height) (side_of (h - 1)) _ _ _ _ _ _ _ _ (ap (λ (q : Quad). side_of q.height) e0) (ap S e0) (ap S e1) (ap S e2) (ap S e3)) ∙ sym p.means;
     }
 
-pub opened_turned : (w v : Keeper) (h k : ℕ) (ns xs : List ℕ) (four : Quad × Quad × Quad × Quad) → AreQuarters w v (named h ns k) four
-    → get_or xs (4 * k) 0 ≡ four.0.name → get_or xs (4 * k + 1) 0 ≡ four.2.name → get_or xs (4 * k + 2) 0 ≡ four.1.name → get_or xs (4 * k + 3) 0 ≡ four.3.name
+-- a name is opened turned by its quarters with north-east and south-west exchanged: transposing a square transposes its
+-- quarters and exchanges these two
+pub opened_turned : (w v : Keeper) (h k : ℕ) (ns xs : List ℕ) (four : Quarters) → AreQuarters w v (named h ns k) four
+    → get_or xs (4 * k) 0 ≡ four.nw.name → get_or xs (4 * k + 1) 0 ≡ four.sw.name → get_or xs (4 * k + 2) 0 ≡ four.ne.name → get_or xs (4 * k + 3) 0 ≡ four.se.name
     → IsOpened true w v h ns xs k
 opened_turned w v h k ns xs four p n0 n1 n2 n3 =
-    let e0 = quarter_named h xs (4 * k) four.0 p.nw_height n0 in
-    let e1 = quarter_named h xs (4 * k + 1) four.2 p.sw_height n1 in
-    let e2 = quarter_named h xs (4 * k + 2) four.1 p.ne_height n2 in
-    let e3 = quarter_named h xs (4 * k + 3) four.3 p.se_height n3 in
+    let e0 = quarter_named h xs (4 * k) four.nw p.nw_height n0 in
+    let e1 = quarter_named h xs (4 * k + 1) four.sw p.sw_height n1 in
+    let e2 = quarter_named h xs (4 * k + 2) four.ne p.ne_height n2 in
+    let e3 = quarter_named h xs (4 * k + 3) four.se p.se_height n3 in
     let S : Quad → Cells = λ (q : Quad). cells_transpose (quad_cells v q) in
     record {
       nw = subst (λ (q : Quad). QuadStands v q) e0 p.nw;
       ne = subst (λ (q : Quad). QuadStands v q) e1 p.sw;
       sw = subst (λ (q : Quad). QuadStands v q) e2 p.ne;
       se = subst (λ (q : Quad). QuadStands v q) e3 p.se;
-      means = sym (quartered_same (side_of four.0.height) (side_of (h - 1)) _ _ _ _ _ _ _ _ (ap (λ (q : Quad). side_of q.height) e0) (ap S e0) (ap S e1) (ap S e2) (ap S e3))
-          ∙ sym (cells_transpose-quartered (side_of four.0.height) (quad_cells v four.0) (quad_cells v four.1) (quad_cells v four.2) (quad_cells v four.3))
+      means = sym (quartered_same (side_of four.nw.height) (side_of (h - 1)) _ _ _ _ _ _ _ _ (ap (λ (q : Quad). side_of q.height) e0) (ap S e0) (ap S e1) (ap S e2) (ap S e3))
+          ∙ sym (cells_transpose-quartered (side_of four.nw.height) (quad_cells v four.nw) (quad_cells v four.ne) (quad_cells v four.sw) (quad_cells v four.se))
           ∙ ap (λ (f : Cells). cells_transpose f) (sym p.means);
     }
 
@@ -79,6 +83,7 @@ record FourSet (xs : List ℕ) (k a b c d : ℕ) : Type 0 where
 abbrev with_four : List ℕ → ℕ → ℕ → ℕ → ℕ → ℕ → List ℕ
 with_four ns k a b c d = set (set (set (set ns (4 * k) a) (4 * k + 1) b) (4 * k + 2) c) (4 * k + 3) d
 
+-- four places written one after the other hold what was written, as each write leaves the other places
 four_set : (ns : List ℕ) (k a b c d : ℕ) → 4 * k + 4 ≤ length ns → FourSet (with_four ns k a b c d) k a b c d
 four_set ns k a b c d l =
     let x1 : List ℕ = set ns (4 * k) a in
@@ -94,19 +99,19 @@ four_set ns k a b c d l =
       p3 = get_or-set_same x3 (4 * k + 3) d 0 (omega arith);
     }
 
-pub set_turned : (w v : Keeper) (b : Bool) (h k : ℕ) (ns : List ℕ) (four : Quad × Quad × Quad × Quad) (two : Quad × Quad) → b ≡ true → two ≡ (four.2, four.1) → 4 * k + 4 ≤ length ns
-    → AreQuarters w v (named h ns k) four → IsOpened b w v h ns (with_four ns k four.0.name two.0.name two.1.name four.3.name) k
+pub set_turned : (w v : Keeper) (b : Bool) (h k : ℕ) (ns : List ℕ) (four : Quarters) (two : Quad × Quad) → b ≡ true → two ≡ (four.sw, four.ne) → 4 * k + 4 ≤ length ns
+    → AreQuarters w v (named h ns k) four → IsOpened b w v h ns (with_four ns k four.nw.name two.0.name two.1.name four.se.name) k
 set_turned w v b h k ns four two e f l p =
-    let xs : List ℕ = with_four ns k four.0.name two.0.name two.1.name four.3.name in
-    let s = four_set ns k four.0.name two.0.name two.1.name four.3.name l in
+    let xs : List ℕ = with_four ns k four.nw.name two.0.name two.1.name four.se.name in
+    let s = four_set ns k four.nw.name two.0.name two.1.name four.se.name l in
     subst (λ (x : Bool). IsOpened x w v h ns xs k) (sym e)
     (opened_turned w v h k ns xs four p s.p0 (s.p1 ∙ ap (λ (t : Quad × Quad). t.0.name) f) (s.p2 ∙ ap (λ (t : Quad × Quad). t.1.name) f) s.p3)
 
-pub set_plain : (w v : Keeper) (b : Bool) (h k : ℕ) (ns : List ℕ) (four : Quad × Quad × Quad × Quad) (two : Quad × Quad) → b ≡ false → two ≡ (four.1, four.2) → 4 * k + 4 ≤ length ns
-    → AreQuarters w v (named h ns k) four → IsOpened b w v h ns (with_four ns k four.0.name two.0.name two.1.name four.3.name) k
+pub set_plain : (w v : Keeper) (b : Bool) (h k : ℕ) (ns : List ℕ) (four : Quarters) (two : Quad × Quad) → b ≡ false → two ≡ (four.ne, four.sw) → 4 * k + 4 ≤ length ns
+    → AreQuarters w v (named h ns k) four → IsOpened b w v h ns (with_four ns k four.nw.name two.0.name two.1.name four.se.name) k
 set_plain w v b h k ns four two e f l p =
-    let xs : List ℕ = with_four ns k four.0.name two.0.name two.1.name four.3.name in
-    let s = four_set ns k four.0.name two.0.name two.1.name four.3.name l in
+    let xs : List ℕ = with_four ns k four.nw.name two.0.name two.1.name four.se.name in
+    let s = four_set ns k four.nw.name two.0.name two.1.name four.se.name l in
     subst (λ (x : Bool). IsOpened x w v h ns xs k) (sym e)
     (opened_plain w v h k ns xs four p s.p0 (s.p1 ∙ ap (λ (t : Quad × Quad). t.0.name) f) (s.p2 ∙ ap (λ (t : Quad × Quad). t.1.name) f) s.p3)
 
@@ -124,6 +129,7 @@ name_stays s t h xs ys j r e i =
       cells = ap (λ (q : Quad). quad_cells t q) x ∙ quad_cells-stay 0 s t (named h xs j) r.keeps i;
     }
 
+-- an opened name stays opened: its four places are not written again, and a table that is only read keeps all sets
 opened_stays : (b : Bool) (r s t : Keeper) (h : ℕ) (ns xs ys : List ℕ) (k : ℕ) → ReadsQuads s t → ((j : ℕ) → 4 * k ≤ j → get_or ys j 0 ≡ get_or xs j 0) → IsOpened b r s h ns xs k → IsOpened b r t h ns ys k
 opened_stays b r s t h ns xs ys k x e i =
     let T : Cells → Cells = λ (f : Cells). turned_cells b f in
@@ -160,6 +166,8 @@ stands_yet b r s h ns xs count done stand l i =
     let k : ℕ = count - 1 - done in
     (name_stays r s h ns xs k i.reads (i.rest k (omega arith)) (stand k (omega arith))).stands
 
+-- one name more is opened: only its own four places are written, so the names still to come and those already opened
+-- are as they were
 pub opened_more : (b : Bool) (r s t : Keeper) (h : ℕ) (ns xs ys : List ℕ) (count done : ℕ) → AllStand r h ns count → done < count → AreOpened b r s h ns xs count done
     → length ys ≡ length xs → IsOpened b s t h xs ys (count - 1 - done) → ((j : ℕ) → j < 4 * (count - 1 - done) → get_or ys j 0 ≡ get_or xs j 0)
     → ((j : ℕ) → 4 * (count - 1 - done) + 4 ≤ j → get_or ys j 0 ≡ get_or xs j 0) → ReadsQuads s t → AreOpened b r t h ns ys count (done + 1)
@@ -227,6 +235,7 @@ spilled_level b s t h ns xs out count over opened below k l =
     ∙ quartered_same (side_of (h - 1)) (side_of (h - 1)) _ _ _ _ _ _ _ _ refl (below (4 * k) (omega arith)) (below (4 * k + 1) (omega arith)) (below (4 * k + 2) (omega arith)) (below (4 * k + 3) (omega arith))
     ∙ (opened k l).means
 
+-- the quarters of opened names all stand: place j has one of the four quarters of name j / 4
 pub all_opened : (b : Bool) (s t : Keeper) (h : ℕ) (ns xs : List ℕ) (count : ℕ) → ((k : ℕ) → k < count → IsOpened b s t h ns xs k) → AllStand t (h - 1) xs (4 * count)
 all_opened b s t h ns xs count opened j l =
     let k : ℕ = j / 4 in

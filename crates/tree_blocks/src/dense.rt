@@ -3,7 +3,7 @@ ghost use Rattle.std.specs.Prelude.{◌≡◌, true, length};
 ghost use Rattle.rel_model.specs.Quads.{Keeper, QuadStands, ReadsQuads};
 
 use quad_nodes::Nodes;
-use rel_model::Quad;
+use rel_model::{Quad, Quarters};
 
 /// The weight with which the count of a square begins.
 const FIRST: u32 = 12;
@@ -28,7 +28,7 @@ fn weighed_under(nodes: &mut Nodes, q: Quad, seen: &mut [u32], weight: u32) -> u
     if weight == 0 || weight >= DENSE {
         return weight;
     }
-    if q.name == 0 {
+    if q.is_empty() {
         return weight.saturating_sub(EMPTY);
     }
     let place = (q.name % 256) as usize;
@@ -39,7 +39,7 @@ fn weighed_under(nodes: &mut Nodes, q: Quad, seen: &mut [u32], weight: u32) -> u
     if q.height < 5 {
         return weight + 1;
     }
-    let (nw, ne, sw, se) = nodes.quarters(q);
+    let Quarters { nw, ne, sw, se } = nodes.quarters(q);
     let first = weighed_under(nodes, nw, seen, weight + 1);
     let second = weighed_under(nodes, ne, seen, first);
     let third = weighed_under(nodes, sw, seen, second);

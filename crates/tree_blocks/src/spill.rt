@@ -9,7 +9,7 @@ ghost use Rattle.tree_blocks.specs.Levels.{named, AllStand, IsOpened};
 
 use leaf_block::block_transpose;
 use quad_nodes::Nodes;
-use rel_model::Quad;
+use rel_model::{Quad, Quarters};
 
 /// Puts the four quarters of name `k` at the places from 4k on; for a transposition, north-east and south-west are
 /// exchanged.
@@ -24,7 +24,7 @@ fn open_name(nodes: &mut Nodes, names: &mut [u32], k: usize, height: u8, turned:
     ensures upper { (j : ℕ) → 4 * k + 4 ≤ j → slice_index names.new j ≡ slice_index names.old j }
     ensures reads { ReadsQuads nodes.old nodes.new }
 {
-    let (nw, ne, sw, se) = nodes.quarters(Quad {
+    let Quarters { nw, ne, sw, se } = nodes.quarters(Quad {
         height,
         name: names[k],
     });

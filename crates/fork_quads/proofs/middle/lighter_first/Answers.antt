@@ -35,6 +35,6 @@ returns-then-not-pays-clause-keeps c =
 
 pub returns-clause-keeps : goal.returns-clause-keeps
 returns-clause-keeps c =
-    let m = middle_room-most c.args.a.height c.args.pieces.turns c.requires.few c.requires.over in
+    let m = middle_room-most c.args.a.height c.args.halving.times c.requires.few c.requires.over in
     keeps_most _ _ c.args.nodes.now c.middle_first.new.nodes (omega (arith, m))
-    (keeps_on (6 * quad_room c.args.a.height) (middle_room c.args.a.height c.args.pieces.turns) c.args.nodes.now c.halving_pays.new.nodes c.middle_first.new.nodes c.in_ok-pays.ensures.keeps c.middle_first.ensures.keeps)
+    (keeps_on (6 * quad_room c.args.a.height) (middle_room c.args.a.height c.args.halving.times) c.args.nodes.now c.halving_pays.new.nodes c.middle_first.new.nodes c.in_ok-pays.ensures.keeps c.middle_first.ensures.keeps)

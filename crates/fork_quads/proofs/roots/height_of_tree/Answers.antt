@@ -1,4 +1,5 @@
 use Rattle.std.proofs.Common.{◌≡◌, ◌<◌, ◌≤◌, ◌+◌, ◌-◌, ◌^◌, ◌∙◌, ap, arith, ℕ}
+use Rattle.rel_model.specs.Relation.{size_height}
 use Rattle.rel_model.specs.Trees.{bottom_height, top_height}
 use Rattle.rel_model.specs.Equations.{side_of}
 use Rattle.rel_model.proofs.QuadLaws.{side_of-power}
@@ -34,6 +35,6 @@ heights-preserved c l =
 
 pub returns : goal.returns
 returns c =
-    let e : c.heights.height ≡ 24 = omega (arith, c.heights-test.false) in
-    tree_height-found c.args.rows c.args.cols c.max-most.result 24 c.requires.row_limit c.requires.col_limit c.max-most.ensures (omega arith) (omega arith)
-    (λ _. let g : c.heights.height - 1 ≡ 23 = omega arith in let p : 2 ^ (c.heights.height - 1) < c.max-most.result = c.heights.invariant (omega arith) in let q : 2 ^ (c.heights.height - 1) ≡ 2 ^ 23 = ap (λ (x : ℕ). 2 ^ x) g in omega arith)
+    let e : c.heights.height ≡ size_height = omega (arith, c.heights-test.false) in
+    tree_height-found c.args.rows c.args.cols c.max-most.result size_height c.requires.row_limit c.requires.col_limit c.max-most.ensures (omega arith) (omega arith)
+    (λ _. let g : c.heights.height - 1 ≡ size_height - 1 = omega arith in let p : 2 ^ (c.heights.height - 1) < c.max-most.result = c.heights.invariant (omega arith) in let q : 2 ^ (c.heights.height - 1) ≡ 2 ^ (size_height - 1) = ap (λ (x : ℕ). 2 ^ x) g in omega arith)

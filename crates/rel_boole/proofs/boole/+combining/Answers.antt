@@ -1,10 +1,9 @@
 use Rattle.std.proofs.Common.{◌+◌, ◌-◌, ℕ, [], ◌∷◌, refl, arith, ◌∙◌, sym}
 use Rattle.rel_model.specs.Quads.{quad_room, ReadsQuads}
 use Rattle.rel_model.proofs.QuadLaws.{quad_stays, keeps_on, rooms-next, room-some, reads_itself, reads_on}
-use Rattle.quad_nodes.proofs.Making.{Underway, begun, goes_on, stops, nw_under, ne_under, sw_under, se_under, made_is, made_as, made_at, made_within, made_after, made_before, made_failed}
-use Rattle.rel_boole.proofs.Cutting.{Ordered, ordered}
+use Rattle.quad_nodes.proofs.Making.{Underway, begun, goes_on, stops, nw_under, ne_under, sw_under, se_under, made_is, made_as, made_within, made_after, made_before, made_failed}
 use Rattle.rel_boole.proofs.Combining.{HaveQuarters, part, are_parts, part_made, whole_made, operands_stay, stand_below, nw_stand, ne_stand, sw_stand, se_stand, as_equation, no_transposition}
-use Rattle.rel_boole.proofs.boole.+combining.Goals.{combined-After-in_order, combined_over-After-both_pay, combined_by_quarters-After-quarters_to_combine, combined_by_quarters-In_ok-se}
+use Rattle.rel_boole.proofs.boole.+combining.Goals.{combined_over-After-both_pay, combined_by_quarters-After-quarters_to_combine, combined_by_quarters-In_ok-se}
 use Rattle.rel_boole.proofs.boole.+combining.Goals as goal
 
 -- ---- by quarters
@@ -85,7 +84,7 @@ four_made : (t : ℕ) (c : combined_by_quarters-In_ok-se t) → let m : ℕ = qu
     let x = c.quarters_to_combine.result.0 in
     let y = c.quarters_to_combine.result.1 in
     Underway (0 + m + m + m + m) c.args.a.height (part c.args.op c.args.nodes.now c.args.a c.args.b) (c.args.a.height - 1)
-    ((c.in_ok-se.se, part c.args.op w x.3 y.3) ∷ (c.in_ok-sw.sw, part c.args.op w x.2 y.2) ∷ (c.in_ok-ne.ne, part c.args.op w x.1 y.1) ∷ (c.in_ok-nw.nw, part c.args.op w x.0 y.0) ∷ []) w c.combined-4.new.nodes
+    ((c.in_ok-se.se, part c.args.op w x.se y.se) ∷ (c.in_ok-sw.sw, part c.args.op w x.sw y.sw) ∷ (c.in_ok-ne.ne, part c.args.op w x.ne y.ne) ∷ (c.in_ok-nw.nw, part c.args.op w x.nw y.nw) ∷ []) w c.combined-4.new.nodes
 four_made t c =
     let e = c.quarters_to_combine.ensures in
     let q : HaveQuarters c.args.nodes.now c.quarters_to_combine.new.nodes c.args.a c.args.b c.quarters_to_combine.result.0 c.quarters_to_combine.result.1 =
@@ -184,9 +183,6 @@ combined_over-returns t c =
     made_after k (made_as refl (operands_stay c.args.op k.keeps c.requires.a_stands c.requires.b_stands) c.combined_by_quarters.ensures)
 
 -- ---- what needs no recursion
-in_order : (t : ℕ) (c : combined-After-in_order t) → Ordered c.args.nodes.now c.args.op c.args.a c.args.b c.in_order.result.0 c.in_order.result.1
-in_order t c = ordered c.args.nodes.now c.args.op c.args.a c.args.b c.in_order.result c.requires.a_stands c.requires.b_stands c.requires.one_height c.in_order.ensures
-
 pub combined-returns-in-Some : goal.combined-returns-in-Some
 combined-returns-in-Some t c =
     let i = c.bottom-bottom.ensures.work in
@@ -202,14 +198,10 @@ combined-returns-then-a-bottom t c =
 
 pub combined-combined_over-requires : goal.combined-combined_over-requires
 combined-combined_over-requires t c =
-    let o = in_order t (goal.at.combined-combined_over-requires t c).After-in_order in
-    let e = o.first_height in
     let d = c.decreases in
     let low = c.requires.a_stands.low in
     let over = c.if-a-bottom.false in
-    (omega (arith, e, d), (o.first_stands, (o.second_stands, (o.one_height, omega (arith, e, low, over, c.bottom-bottom.ensures.height)))))
+    (omega (arith, d), (c.requires.a_stands, (c.requires.b_stands, (c.requires.one_height, omega (arith, low, over, c.bottom-bottom.ensures.height)))))
 
 pub combined-returns : goal.combined-returns
-combined-returns t c =
-    let o = in_order t (goal.at.combined-returns t c).After-in_order in
-    made_at o.first_height o.same c.combined_over.ensures
+combined-returns t c = c.combined_over.ensures

@@ -32,6 +32,6 @@ returns-then-b_full-2 c =
 
 pub returns-then-b_full-3 : goal.returns-then-b_full-3
 returns-then-b_full-3 c =
-    let r : Quad = (record { height = c.args.a.height; name = 0 }) in
+    let r : Quad = c.empty-none.result in
     subst (λ (o : Boole). CutsOffFull o c.args.a c.args.b c.args.a_full c.args.b_full (Some r)) (sym c.in-Diff.is)
-    (subst (λ (s : Bool). CutsOffFull DIFF c.args.a c.args.b c.args.a_full s (Some r)) (sym c.if-b_full-3.true) (diff_full_second c.args.a c.args.b c.args.a_full))
+    (subst (λ (s : Bool). CutsOffFull DIFF c.args.a c.args.b c.args.a_full s (Some r)) (sym c.if-b_full-3.true) (diff_full_second c.args.a c.args.b r c.args.a_full c.empty-none.ensures))

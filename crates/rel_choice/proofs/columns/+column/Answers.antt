@@ -12,4 +12,4 @@ column_of_two-side_of-half-requires g t c = g.met.Q.Quads.high_height c.args.q.n
 
 pub column_over-side_of-half-requires : goal.column_over-side_of-half-requires
 unfolding top_height
-column_over-side_of-half-requires g t c = g.met.Q.Quads.high_height c.quarters.new.self c.quarters.result.0 c.quarters.ensures.quarters.nw
+column_over-side_of-half-requires g t c = g.met.Q.Quads.high_height c.quarters.new.self c.quarters.result.nw c.quarters.ensures.quarters.nw

@@ -1,15 +1,17 @@
-use Rattle.std.proofs.Common.{◌∙◌, sym, arith}
+use Rattle.std.proofs.Common.{◌≤◌, ◌+◌, ◌*◌, ◌^◌, ◌∙◌, ℕ, sym, arith}
 use Rattle.std.specs.HashMap.{get}
 use Rattle.rel_model.proofs.Workers.{keeps_trans}
 use Rattle.rel_choice.specs.Counts.{same_key}
 use Rattle.rel_choice.proofs.QuadCounts.{none-count, leaf-count, kept-count, quarters-count, count-limit, counts-put-later, counts-found}
+use Rattle.rel_choice.proofs.counting.+counted.Given.{Over}
+use Rattle.rel_choice.proofs.counting.+counted.Goals.{counted_over-In_ok-south_east}
 use Rattle.rel_choice.proofs.counting.+counted.Goals as goal
 
-pub counted-returns-then-quad-eq0-clause-value : goal.counted-returns-then-quad-eq0-clause-value
-counted-returns-then-quad-eq0-clause-value g t c =
+pub counted-returns-then-is_empty-clause-value : goal.counted-returns-then-is_empty-clause-value
+counted-returns-then-is_empty-clause-value g t c =
     let l = g.met.Q.Quads.low_height c.args.q.now c.args.quad c.requires.stands in
     let h = g.met.Q.Quads.high_height c.args.q.now c.args.quad c.requires.stands in
-    none-count (g.Q.Core.worker c.args.q.now) c.args.quad c.if-quad-eq0.true (g.met.Q.Quads.none c.args.q.now c.args.quad.height l h)
+    none-count (g.Q.Core.worker c.args.q.now) c.args.quad (c.is_empty.ensures.empty c.if-is_empty.true) (g.met.Q.Quads.none c.args.q.now c.args.quad.height l h)
 
 pub counted-returns-then-quad-bottom-clause-value : goal.counted-returns-then-quad-bottom-clause-value
 counted-returns-then-quad-bottom-clause-value g t c =
@@ -24,50 +26,26 @@ counted-returns-clause-known g t c =
     counts-put-later (g.Q.Core.worker c.args.q.now) (g.Q.Core.worker c.counted_over.new.q) c.args.quad c.in_ok-sum.sum (get same_key c.counted_over.new.counts) (get same_key c.insert.new.self)
     c.in_ok-sum.ensures.keeps c.requires.stands c.in_ok-sum.ensures.value c.in_ok-sum.ensures.known c.in_ok-insert.ensures.updates.0
 
-pub counted_over-overflow_add-result : goal.counted_over-overflow_add-result
-counted_over-overflow_add-result g t c =
+-- ---- four counts are few
+few : (g : Over) (t : ℕ) (c : counted_over-In_ok-south_east g t) → c.in_ok-north_west.north_west + c.in_ok-north_east.north_east + c.in_ok-south_west.south_west + c.in_ok-south_east.south_east ≤ 4 * 2 ^ 48
+few g t c =
     let q = c.quarters.ensures.quarters in
-    let h = g.met.Q.Quads.high_height c.quarters.new.self c.quarters.result.0 q.nw in
-    let x0 = q.nw_height in
-    let x1 = q.ne_height in
-    let a = c.in_ok-north_west.ensures.value in
-    let b = c.in_ok-north_east.ensures.value in
-    let la = count-limit (g.Q.Core.worker c.quarters.new.self) c.quarters.result.0 h in
-    let lb = count-limit (g.Q.Core.worker c.counted.new.q) c.quarters.result.1 (omega (arith, h, x0, x1)) in
-    omega (arith, a, b, la, lb)
+    let four = c.quarters.result in
+    let h = g.met.Q.Quads.high_height c.quarters.new.self four.nw q.nw in
+    let a = count-limit (g.Q.Core.worker c.quarters.new.self) four.nw h in
+    let b = count-limit (g.Q.Core.worker c.counted.new.q) four.ne (omega (arith, h, q.nw_height, q.ne_height)) in
+    let d = count-limit (g.Q.Core.worker c.counted-2.new.q) four.sw (omega (arith, h, q.nw_height, q.sw_height)) in
+    let e = count-limit (g.Q.Core.worker c.counted-3.new.q) four.se (omega (arith, h, q.nw_height, q.se_height)) in
+    omega (arith, a, b, d, e, c.in_ok-north_west.ensures.value, c.in_ok-north_east.ensures.value, c.in_ok-south_west.ensures.value, c.in_ok-south_east.ensures.value)
+
+pub counted_over-overflow_add-result : goal.counted_over-overflow_add-result
+counted_over-overflow_add-result g t c = omega (arith, few g t (goal.at.counted_over-overflow_add-result g t c).In_ok-south_east)
 
 pub counted_over-overflow_add-result-2 : goal.counted_over-overflow_add-result-2
-counted_over-overflow_add-result-2 g t c =
-    let q = c.quarters.ensures.quarters in
-    let h = g.met.Q.Quads.high_height c.quarters.new.self c.quarters.result.0 q.nw in
-    let x0 = q.nw_height in
-    let x1 = q.ne_height in
-    let x2 = q.sw_height in
-    let a = c.in_ok-north_west.ensures.value in
-    let b = c.in_ok-north_east.ensures.value in
-    let la = count-limit (g.Q.Core.worker c.quarters.new.self) c.quarters.result.0 h in
-    let lb = count-limit (g.Q.Core.worker c.counted.new.q) c.quarters.result.1 (omega (arith, h, x0, x1)) in
-    let d = c.in_ok-south_west.ensures.value in
-    let ld = count-limit (g.Q.Core.worker c.counted-2.new.q) c.quarters.result.2 (omega (arith, h, x0, x2)) in
-    omega (arith, a, b, la, lb, d, ld)
+counted_over-overflow_add-result-2 g t c = omega (arith, few g t (goal.at.counted_over-overflow_add-result-2 g t c).In_ok-south_east)
 
 pub counted_over-overflow_add-result-3 : goal.counted_over-overflow_add-result-3
-counted_over-overflow_add-result-3 g t c =
-    let q = c.quarters.ensures.quarters in
-    let h = g.met.Q.Quads.high_height c.quarters.new.self c.quarters.result.0 q.nw in
-    let x0 = q.nw_height in
-    let x1 = q.ne_height in
-    let x2 = q.sw_height in
-    let x3 = q.se_height in
-    let a = c.in_ok-north_west.ensures.value in
-    let b = c.in_ok-north_east.ensures.value in
-    let la = count-limit (g.Q.Core.worker c.quarters.new.self) c.quarters.result.0 h in
-    let lb = count-limit (g.Q.Core.worker c.counted.new.q) c.quarters.result.1 (omega (arith, h, x0, x1)) in
-    let d = c.in_ok-south_west.ensures.value in
-    let ld = count-limit (g.Q.Core.worker c.counted-2.new.q) c.quarters.result.2 (omega (arith, h, x0, x2)) in
-    let e = c.in_ok-south_east.ensures.value in
-    let le = count-limit (g.Q.Core.worker c.counted-3.new.q) c.quarters.result.3 (omega (arith, h, x0, x3)) in
-    omega (arith, a, b, la, lb, d, ld, e, le)
+counted_over-overflow_add-result-3 g t c = omega (arith, few g t (goal.at.counted_over-overflow_add-result-3 g t c).In_ok-south_east)
 
 pub counted_over-returns-clause-value : goal.counted_over-returns-clause-value
 counted_over-returns-clause-value g t c =
@@ -82,9 +60,9 @@ counted_over-returns-clause-value g t c =
     let k4 = keeps_trans w1 w3 w4 k3 c.in_ok-south_west.ensures.keeps in
     let s = quarters-count w0 w1 c.args.quad c.quarters.result q in
     let a = c.in_ok-north_west.ensures.value in
-    let b = c.in_ok-north_east.ensures.value ∙ kept-count w1 w2 c.quarters.result.1 k2 q.ne in
-    let d = c.in_ok-south_west.ensures.value ∙ kept-count w1 w3 c.quarters.result.2 k3 q.sw in
-    let e = c.in_ok-south_east.ensures.value ∙ kept-count w1 w4 c.quarters.result.3 k4 q.se in
+    let b = c.in_ok-north_east.ensures.value ∙ kept-count w1 w2 c.quarters.result.ne k2 q.ne in
+    let d = c.in_ok-south_west.ensures.value ∙ kept-count w1 w3 c.quarters.result.sw k3 q.sw in
+    let e = c.in_ok-south_east.ensures.value ∙ kept-count w1 w4 c.quarters.result.se k4 q.se in
     omega (arith, s, a, b, d, e)
 
 pub counted_over-returns-in_err-north_west-clause-keeps : goal.counted_over-returns-in_err-north_west-clause-keeps

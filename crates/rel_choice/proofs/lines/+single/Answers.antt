@@ -7,30 +7,30 @@ use Rattle.rel_choice.proofs.lines.+single.Given.{Over}
 use Rattle.rel_choice.proofs.lines.+single.Goals.{is_single_over-After-is_single-2, is_single_over-After-is_single_besides, is_single_over-After-is_single_besides-2, is_single_over-After-are_apart, is_single_over-After-are_apart-2}
 use Rattle.rel_choice.proofs.lines.+single.Goals as goal
 
-pub is_single-returns-then-quad-eq0-clause-value : goal.is_single-returns-then-quad-eq0-clause-value
-is_single-returns-then-quad-eq0-clause-value g t c =
+pub is_single-returns-then-is_empty-clause-value : goal.is_single-returns-then-is_empty-clause-value
+is_single-returns-then-is_empty-clause-value g t c =
     let l = g.met.Q.Quads.low_height c.args.q.now c.args.quad c.requires in
     let h = g.met.Q.Quads.high_height c.args.q.now c.args.quad c.requires in
-    none-single (g.Q.Core.worker c.args.q.now) c.args.quad c.if-quad-eq0.true (g.met.Q.Quads.none c.args.q.now c.args.quad.height l h)
+    none-single (g.Q.Core.worker c.args.q.now) c.args.quad (c.is_empty.ensures.empty c.if-is_empty.true) (g.met.Q.Quads.none c.args.q.now c.args.quad.height l h)
 
 pub is_single-leaf_is_single-requires : goal.is_single-leaf_is_single-requires
 is_single-leaf_is_single-requires g t c = leaf-side c.args.quad.height g.Q.Core.least c.side_of-side.result (c.if-quad-bottom.true ∙ c.bottom.ensures) g.met.Q.Quads.least_limit c.side_of-side.ensures
 
 -- ---- what was found on the way
-found_1 : (g : Over) (t : ℕ) (c : is_single_over-After-is_single-2 g t) → quad_single (g.Q.Core.worker c.quarters.new.self) c.quarters.result.0 ≡ true
+found_1 : (g : Over) (t : ℕ) (c : is_single_over-After-is_single-2 g t) → quad_single (g.Q.Core.worker c.quarters.new.self) c.quarters.result.nw ≡ true
 found_1 g t c = sym c.is_single.ensures.value ∙ c.if-not-is_single.false
 
-found_2 : (g : Over) (t : ℕ) (c : is_single_over-After-is_single_besides g t) → quad_single (g.Q.Core.worker c.quarters.new.self) c.quarters.result.1 ≡ true
-found_2 g t c = sym (kept-single _ _ c.quarters.result.1 (c.is_single.ensures.keeps) c.quarters.ensures.quarters.ne) ∙ (sym c.is_single-2.ensures.value ∙ c.if-not-is_single-2.false)
+found_2 : (g : Over) (t : ℕ) (c : is_single_over-After-is_single_besides g t) → quad_single (g.Q.Core.worker c.quarters.new.self) c.quarters.result.ne ≡ true
+found_2 g t c = sym (kept-single _ _ c.quarters.result.ne (c.is_single.ensures.keeps) c.quarters.ensures.quarters.ne) ∙ (sym c.is_single-2.ensures.value ∙ c.if-not-is_single-2.false)
 
-found_3 : (g : Over) (t : ℕ) (c : is_single_over-After-is_single_besides-2 g t) → quad_single (g.Q.Core.worker c.quarters.new.self) c.quarters.result.2 ≡ true
-found_3 g t c = sym (kept-single _ _ c.quarters.result.2 (keeps_trans _ _ _ c.is_single.ensures.keeps c.is_single-2.ensures.keeps) c.quarters.ensures.quarters.sw) ∙ (sym c.is_single_besides.ensures.value ∙ c.if-not-is_single_besides.false)
+found_3 : (g : Over) (t : ℕ) (c : is_single_over-After-is_single_besides-2 g t) → quad_single (g.Q.Core.worker c.quarters.new.self) c.quarters.result.sw ≡ true
+found_3 g t c = sym (kept-single _ _ c.quarters.result.sw (keeps_trans _ _ _ c.is_single.ensures.keeps c.is_single-2.ensures.keeps) c.quarters.ensures.quarters.sw) ∙ (sym c.is_single_besides.ensures.value ∙ c.if-not-is_single_besides.false)
 
-found_4 : (g : Over) (t : ℕ) (c : is_single_over-After-are_apart g t) → quad_single (g.Q.Core.worker c.quarters.new.self) c.quarters.result.3 ≡ true
-found_4 g t c = sym (kept-single _ _ c.quarters.result.3 (keeps_trans _ _ _ (keeps_trans _ _ _ c.is_single.ensures.keeps c.is_single-2.ensures.keeps) c.is_single_besides.ensures.keeps) c.quarters.ensures.quarters.se) ∙ (sym c.is_single_besides-2.ensures.value ∙ c.if-not-is_single_besides-2.false)
+found_4 : (g : Over) (t : ℕ) (c : is_single_over-After-are_apart g t) → quad_single (g.Q.Core.worker c.quarters.new.self) c.quarters.result.se ≡ true
+found_4 g t c = sym (kept-single _ _ c.quarters.result.se (keeps_trans _ _ _ (keeps_trans _ _ _ c.is_single.ensures.keeps c.is_single-2.ensures.keeps) c.is_single_besides.ensures.keeps) c.quarters.ensures.quarters.se) ∙ (sym c.is_single_besides-2.ensures.value ∙ c.if-not-is_single_besides-2.false)
 
-found_5 : (g : Over) (t : ℕ) (c : is_single_over-After-are_apart-2 g t) → quads_apart (g.Q.Core.worker c.quarters.new.self) c.quarters.result.0 c.quarters.result.1 ≡ true
-found_5 g t c = sym (kept-apart _ _ c.quarters.result.0 c.quarters.result.1 (keeps_trans _ _ _ (keeps_trans _ _ _ (keeps_trans _ _ _ c.is_single.ensures.keeps c.is_single-2.ensures.keeps) c.is_single_besides.ensures.keeps) c.is_single_besides-2.ensures.keeps) c.quarters.ensures.quarters.nw c.quarters.ensures.quarters.ne) ∙ (sym c.are_apart.ensures.value ∙ c.if-not-are_apart.false)
+found_5 : (g : Over) (t : ℕ) (c : is_single_over-After-are_apart-2 g t) → quads_apart (g.Q.Core.worker c.quarters.new.self) c.quarters.result.nw c.quarters.result.ne ≡ true
+found_5 g t c = sym (kept-apart _ _ c.quarters.result.nw c.quarters.result.ne (keeps_trans _ _ _ (keeps_trans _ _ _ (keeps_trans _ _ _ c.is_single.ensures.keeps c.is_single-2.ensures.keeps) c.is_single_besides.ensures.keeps) c.is_single_besides-2.ensures.keeps) c.quarters.ensures.quarters.nw c.quarters.ensures.quarters.ne) ∙ (sym c.are_apart.ensures.value ∙ c.if-not-are_apart.false)
 
 -- ---- each answer
 pub is_single_over-returns-then-not-is_single : goal.is_single_over-returns-then-not-is_single
@@ -39,7 +39,7 @@ is_single_over-returns-then-not-is_single g t c =
     let four = c.quarters.result in
     let s = single-quarters _ w c.args.quad four c.quarters.ensures.quarters in
     record {
-      value = sym (s ∙ fails-1 (quad_single w four.0) (quad_single w four.1) (quad_single w four.2) (quad_single w four.3) (quads_apart w four.0 four.1) (quads_apart w four.2 four.3) (sym c.is_single.ensures.value ∙ c.if-not-is_single.true));
+      value = sym (s ∙ fails-1 (quad_single w four.nw) (quad_single w four.ne) (quad_single w four.sw) (quad_single w four.se) (quads_apart w four.nw four.ne) (quads_apart w four.sw four.se) (sym c.is_single.ensures.value ∙ c.if-not-is_single.true));
       keeps = keeps_trans _ _ _ c.quarters.ensures.keeps c.is_single.ensures.keeps;
       room = omega arith;
       misses = c.is_single.ensures.misses ∙ c.quarters.ensures.misses;
@@ -52,7 +52,7 @@ is_single_over-returns-then-not-is_single-2 g t c =
     let four = c.quarters.result in
     let s = single-quarters _ w c.args.quad four c.quarters.ensures.quarters in
     record {
-      value = sym (s ∙ fails-2 (quad_single w four.0) (quad_single w four.1) (quad_single w four.2) (quad_single w four.3) (quads_apart w four.0 four.1) (quads_apart w four.2 four.3) (found_1 g t at.After-is_single-2) (sym (kept-single _ _ c.quarters.result.1 (c.is_single.ensures.keeps) c.quarters.ensures.quarters.ne) ∙ (sym c.is_single-2.ensures.value ∙ c.if-not-is_single-2.true)));
+      value = sym (s ∙ fails-2 (quad_single w four.nw) (quad_single w four.ne) (quad_single w four.sw) (quad_single w four.se) (quads_apart w four.nw four.ne) (quads_apart w four.sw four.se) (found_1 g t at.After-is_single-2) (sym (kept-single _ _ c.quarters.result.ne (c.is_single.ensures.keeps) c.quarters.ensures.quarters.ne) ∙ (sym c.is_single-2.ensures.value ∙ c.if-not-is_single-2.true)));
       keeps = keeps_trans _ _ _ c.quarters.ensures.keeps (keeps_trans _ _ _ c.is_single.ensures.keeps c.is_single-2.ensures.keeps);
       room = omega arith;
       misses = c.is_single-2.ensures.misses ∙ c.is_single.ensures.misses ∙ c.quarters.ensures.misses;
@@ -65,7 +65,7 @@ is_single_over-returns-then-not-is_single_besides g t c =
     let four = c.quarters.result in
     let s = single-quarters _ w c.args.quad four c.quarters.ensures.quarters in
     record {
-      value = sym (s ∙ fails-3 (quad_single w four.0) (quad_single w four.1) (quad_single w four.2) (quad_single w four.3) (quads_apart w four.0 four.1) (quads_apart w four.2 four.3) (found_1 g t at.After-is_single-2) (found_2 g t at.After-is_single_besides) (sym (kept-single _ _ c.quarters.result.2 (keeps_trans _ _ _ c.is_single.ensures.keeps c.is_single-2.ensures.keeps) c.quarters.ensures.quarters.sw) ∙ (sym c.is_single_besides.ensures.value ∙ c.if-not-is_single_besides.true)));
+      value = sym (s ∙ fails-3 (quad_single w four.nw) (quad_single w four.ne) (quad_single w four.sw) (quad_single w four.se) (quads_apart w four.nw four.ne) (quads_apart w four.sw four.se) (found_1 g t at.After-is_single-2) (found_2 g t at.After-is_single_besides) (sym (kept-single _ _ c.quarters.result.sw (keeps_trans _ _ _ c.is_single.ensures.keeps c.is_single-2.ensures.keeps) c.quarters.ensures.quarters.sw) ∙ (sym c.is_single_besides.ensures.value ∙ c.if-not-is_single_besides.true)));
       keeps = keeps_trans _ _ _ c.quarters.ensures.keeps (keeps_trans _ _ _ c.is_single.ensures.keeps (keeps_trans _ _ _ c.is_single-2.ensures.keeps c.is_single_besides.ensures.keeps));
       room = omega arith;
       misses = c.is_single_besides.ensures.misses ∙ c.is_single-2.ensures.misses ∙ c.is_single.ensures.misses ∙ c.quarters.ensures.misses;
@@ -78,7 +78,7 @@ is_single_over-returns-then-not-is_single_besides-2 g t c =
     let four = c.quarters.result in
     let s = single-quarters _ w c.args.quad four c.quarters.ensures.quarters in
     record {
-      value = sym (s ∙ fails-4 (quad_single w four.0) (quad_single w four.1) (quad_single w four.2) (quad_single w four.3) (quads_apart w four.0 four.1) (quads_apart w four.2 four.3) (found_1 g t at.After-is_single-2) (found_2 g t at.After-is_single_besides) (found_3 g t at.After-is_single_besides-2) (sym (kept-single _ _ c.quarters.result.3 (keeps_trans _ _ _ (keeps_trans _ _ _ c.is_single.ensures.keeps c.is_single-2.ensures.keeps) c.is_single_besides.ensures.keeps) c.quarters.ensures.quarters.se) ∙ (sym c.is_single_besides-2.ensures.value ∙ c.if-not-is_single_besides-2.true)));
+      value = sym (s ∙ fails-4 (quad_single w four.nw) (quad_single w four.ne) (quad_single w four.sw) (quad_single w four.se) (quads_apart w four.nw four.ne) (quads_apart w four.sw four.se) (found_1 g t at.After-is_single-2) (found_2 g t at.After-is_single_besides) (found_3 g t at.After-is_single_besides-2) (sym (kept-single _ _ c.quarters.result.se (keeps_trans _ _ _ (keeps_trans _ _ _ c.is_single.ensures.keeps c.is_single-2.ensures.keeps) c.is_single_besides.ensures.keeps) c.quarters.ensures.quarters.se) ∙ (sym c.is_single_besides-2.ensures.value ∙ c.if-not-is_single_besides-2.true)));
       keeps = keeps_trans _ _ _ c.quarters.ensures.keeps (keeps_trans _ _ _ c.is_single.ensures.keeps (keeps_trans _ _ _ c.is_single-2.ensures.keeps (keeps_trans _ _ _ c.is_single_besides.ensures.keeps c.is_single_besides-2.ensures.keeps)));
       room = omega arith;
       misses = c.is_single_besides-2.ensures.misses ∙ c.is_single_besides.ensures.misses ∙ c.is_single-2.ensures.misses ∙ c.is_single.ensures.misses ∙ c.quarters.ensures.misses;
@@ -91,7 +91,7 @@ is_single_over-returns-then-not-are_apart g t c =
     let four = c.quarters.result in
     let s = single-quarters _ w c.args.quad four c.quarters.ensures.quarters in
     record {
-      value = sym (s ∙ fails-5 (quad_single w four.0) (quad_single w four.1) (quad_single w four.2) (quad_single w four.3) (quads_apart w four.0 four.1) (quads_apart w four.2 four.3) (found_1 g t at.After-is_single-2) (found_2 g t at.After-is_single_besides) (found_3 g t at.After-is_single_besides-2) (found_4 g t at.After-are_apart) (sym (kept-apart _ _ c.quarters.result.0 c.quarters.result.1 (keeps_trans _ _ _ (keeps_trans _ _ _ (keeps_trans _ _ _ c.is_single.ensures.keeps c.is_single-2.ensures.keeps) c.is_single_besides.ensures.keeps) c.is_single_besides-2.ensures.keeps) c.quarters.ensures.quarters.nw c.quarters.ensures.quarters.ne) ∙ (sym c.are_apart.ensures.value ∙ c.if-not-are_apart.true)));
+      value = sym (s ∙ fails-5 (quad_single w four.nw) (quad_single w four.ne) (quad_single w four.sw) (quad_single w four.se) (quads_apart w four.nw four.ne) (quads_apart w four.sw four.se) (found_1 g t at.After-is_single-2) (found_2 g t at.After-is_single_besides) (found_3 g t at.After-is_single_besides-2) (found_4 g t at.After-are_apart) (sym (kept-apart _ _ c.quarters.result.nw c.quarters.result.ne (keeps_trans _ _ _ (keeps_trans _ _ _ (keeps_trans _ _ _ c.is_single.ensures.keeps c.is_single-2.ensures.keeps) c.is_single_besides.ensures.keeps) c.is_single_besides-2.ensures.keeps) c.quarters.ensures.quarters.nw c.quarters.ensures.quarters.ne) ∙ (sym c.are_apart.ensures.value ∙ c.if-not-are_apart.true)));
       keeps = keeps_trans _ _ _ c.quarters.ensures.keeps (keeps_trans _ _ _ c.is_single.ensures.keeps (keeps_trans _ _ _ c.is_single-2.ensures.keeps (keeps_trans _ _ _ c.is_single_besides.ensures.keeps (keeps_trans _ _ _ c.is_single_besides-2.ensures.keeps c.are_apart.ensures.keeps))));
       room = omega arith;
       misses = c.are_apart.ensures.misses ∙ c.is_single_besides-2.ensures.misses ∙ c.is_single_besides.ensures.misses ∙ c.is_single-2.ensures.misses ∙ c.is_single.ensures.misses ∙ c.quarters.ensures.misses;
@@ -104,7 +104,7 @@ is_single_over-returns g t c =
     let four = c.quarters.result in
     let s = single-quarters _ w c.args.quad four c.quarters.ensures.quarters in
     record {
-      value = c.are_apart-2.ensures.value ∙ kept-apart _ _ four.2 four.3 (keeps_trans _ _ _ (keeps_trans _ _ _ (keeps_trans _ _ _ (keeps_trans _ _ _ c.is_single.ensures.keeps c.is_single-2.ensures.keeps) c.is_single_besides.ensures.keeps) c.is_single_besides-2.ensures.keeps) c.are_apart.ensures.keeps) c.quarters.ensures.quarters.sw c.quarters.ensures.quarters.se ∙ sym (s ∙ last-decides (quad_single w four.0) (quad_single w four.1) (quad_single w four.2) (quad_single w four.3) (quads_apart w four.0 four.1) (quads_apart w four.2 four.3) (found_1 g t at.After-is_single-2) (found_2 g t at.After-is_single_besides) (found_3 g t at.After-is_single_besides-2) (found_4 g t at.After-are_apart) (found_5 g t at.After-are_apart-2));
+      value = c.are_apart-2.ensures.value ∙ kept-apart _ _ four.sw four.se (keeps_trans _ _ _ (keeps_trans _ _ _ (keeps_trans _ _ _ (keeps_trans _ _ _ c.is_single.ensures.keeps c.is_single-2.ensures.keeps) c.is_single_besides.ensures.keeps) c.is_single_besides-2.ensures.keeps) c.are_apart.ensures.keeps) c.quarters.ensures.quarters.sw c.quarters.ensures.quarters.se ∙ sym (s ∙ last-decides (quad_single w four.nw) (quad_single w four.ne) (quad_single w four.sw) (quad_single w four.se) (quads_apart w four.nw four.ne) (quads_apart w four.sw four.se) (found_1 g t at.After-is_single-2) (found_2 g t at.After-is_single_besides) (found_3 g t at.After-is_single_besides-2) (found_4 g t at.After-are_apart) (found_5 g t at.After-are_apart-2));
       keeps = keeps_trans _ _ _ c.quarters.ensures.keeps (keeps_trans _ _ _ c.is_single.ensures.keeps (keeps_trans _ _ _ c.is_single-2.ensures.keeps (keeps_trans _ _ _ c.is_single_besides.ensures.keeps (keeps_trans _ _ _ c.is_single_besides-2.ensures.keeps (keeps_trans _ _ _ c.are_apart.ensures.keeps c.are_apart-2.ensures.keeps)))));
       room = omega arith;
       misses = c.are_apart-2.ensures.misses ∙ c.are_apart.ensures.misses ∙ c.is_single_besides-2.ensures.misses ∙ c.is_single_besides.ensures.misses ∙ c.is_single-2.ensures.misses ∙ c.is_single.ensures.misses ∙ c.quarters.ensures.misses;

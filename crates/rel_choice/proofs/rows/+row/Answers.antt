@@ -5,18 +5,18 @@ use Rattle.rel_model.specs.Worker.{quad_set}
 use Rattle.rel_choice.specs.Leasts.{IsLeast, row_meets}
 use Rattle.rel_choice.proofs.rows.+row.Goals as goal
 
-pub row_from-returns-then-quad-eq0-clause-value : goal.row_from-returns-then-quad-eq0-clause-value
-row_from-returns-then-quad-eq0-clause-value g t c =
+pub row_from-returns-then-is_empty-clause-value : goal.row_from-returns-then-is_empty-clause-value
+row_from-returns-then-is_empty-clause-value g t c =
     let l = g.met.Q.Quads.low_height c.args.q.now c.args.quad c.requires.stands in
     let h = g.met.Q.Quads.high_height c.args.q.now c.args.quad c.requires.stands in
-    none-least (g.Q.Core.worker c.args.q.now) c.args.quad c.args.from c.args.below (g.met.Q.Quads.none c.args.q.now c.args.quad.height l h) (inl c.if-quad-eq0.true)
+    none-least (g.Q.Core.worker c.args.q.now) c.args.quad c.args.from c.args.below (g.met.Q.Quads.none c.args.q.now c.args.quad.height l h) (inl (c.is_empty.ensures.empty c.if-is_empty.true))
 
 pub row_from-row_in-requires-clause-small : goal.row_from-row_in-requires-clause-small
 row_from-row_in-requires-clause-small g t c = leaf-side c.args.quad.height g.Q.Core.least c.side_of-side.result (c.if-quad-bottom.true ∙ c.bottom.ensures) g.met.Q.Quads.least_limit c.side_of-side.ensures
 
 pub row_over-side_of-half-requires : goal.row_over-side_of-half-requires
 unfolding top_height
-row_over-side_of-half-requires g t c = g.met.Q.Quads.high_height c.quarters.new.self c.quarters.result.0 c.quarters.ensures.quarters.nw
+row_over-side_of-half-requires g t c = g.met.Q.Quads.high_height c.quarters.new.self c.quarters.result.nw c.quarters.ensures.quarters.nw
 
 pub row_over-returns-in-Some-clause-value : goal.row_over-returns-in-Some-clause-value
 row_over-returns-in-Some-clause-value g t c =

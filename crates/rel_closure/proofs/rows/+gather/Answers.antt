@@ -1,5 +1,6 @@
 use Rattle.std.proofs.Common.{◌≡◌, ◌<◌, ◌≤◌, ◌+◌, ◌-◌, ◌%◌, ◌^◌, ◌∙◌, ℕ, inl, inr, refl, ap, arith}
 use Rattle.rel_model.proofs.Workers.{keeps_itself}
+use Rattle.rel_model.specs.Trees.{top_height}
 use Rattle.bit_rows.specs.Rows.{rows_cells}
 use Rattle.rel_steps.proofs.Causes.{done_cause}
 use Rattle.rel_steps.proofs.Making.{begun, goes_on, failed, stops, four_stand, corner_made}
@@ -41,6 +42,7 @@ returns-then-height-bottom g t c =
 
 -- ---- a square with no cell
 pub side_of-side-requires : goal.side_of-side-requires
+unfolding top_height
 side_of-side-requires g t c = below_top c.args.height c.requires.high
 
 pub is_clear-requires-clause-row_in : goal.is_clear-requires-clause-row_in
@@ -57,7 +59,7 @@ returns-then-is_clear g t c =
     let o = c.args.quads.now in
     let low : g.Q.Core.least ≤ c.args.height = (let d = c.requires.leaf in let l = c.requires.low in omega (arith, d, l)) in
     record {
-      value = clear_value (g.Q.Core.worker o) c.args.height c.args.row c.args.col c.side_of-side.result (rows_cells c.args.z.now) (g.met.Q.Quads.none o c.args.height low (below_top c.args.height c.requires.high)) c.side_of-side.ensures (c.is_clear.ensures c.if-is_clear.true);
+      value = clear_value (g.Q.Core.worker o) c.args.height c.args.row c.args.col c.side_of-side.result (rows_cells c.args.z.now) _ c.empty.ensures (g.met.Q.Quads.none o c.args.height low (below_top c.args.height c.requires.high)) c.side_of-side.ensures (c.is_clear.ensures c.if-is_clear.true);
       keeps = keeps_itself _;
       room = omega arith;
       cause = done_cause _ _ _ _ refl;
@@ -65,6 +67,7 @@ returns-then-is_clear g t c =
 
 -- ---- four quarters
 pub side_of-half-requires : goal.side_of-half-requires
+unfolding top_height
 side_of-half-requires g t c = below_top (c.args.height - 1) (let h = c.requires.high in omega (arith, h))
 
 pub gather-requires : goal.gather-requires

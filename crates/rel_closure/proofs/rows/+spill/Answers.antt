@@ -1,18 +1,20 @@
 use Rattle.std.proofs.Common.{◌≡◌, ◌<◌, ◌^◌, ◌∙◌, ℕ, ap, arith, ◌+◌, inl, inr, refl}
+use Rattle.rel_model.specs.Trees.{top_height}
 use Rattle.bit_rows.specs.Rows.{rows_cells}
 use Rattle.rel_steps.proofs.Given.{kept_quad}
-use Rattle.rel_closure.proofs.OverRows.{fits, reads_itself, reads_five, spilled_none, spilled_block, spilled_four}
+use Rattle.rel_steps.proofs.Reading.{reads, reads_itself, reads_on}
+use Rattle.rel_closure.proofs.OverRows.{fits, spilled_none, spilled_block, spilled_four}
 use Rattle.rel_closure.proofs.rows.+spill.Goals as goal
 
-pub returns-then-q-eq0-clause-cells : goal.returns-then-q-eq0-clause-cells
-returns-then-q-eq0-clause-cells g t c =
+pub returns-then-is_empty-clause-cells : goal.returns-then-is_empty-clause-cells
+returns-then-is_empty-clause-cells g t c =
     let laws = g.met.Q.Quads in
     let o = c.args.quads.now in
     let q = c.args.q in
-    spilled_none (g.Q.Core.worker o) q c.args.row c.args.col (rows_cells c.args.z.now) (laws.none o q.height (laws.low_height o q c.requires.stands) (laws.high_height o q c.requires.stands)) c.if-q-eq0.true
+    spilled_none (g.Q.Core.worker o) q c.args.row c.args.col (rows_cells c.args.z.now) (laws.none o q.height (laws.low_height o q c.requires.stands) (laws.high_height o q c.requires.stands)) (c.is_empty.ensures.empty c.if-is_empty.true)
 
-pub returns-then-q-eq0-clause-reads : goal.returns-then-q-eq0-clause-reads
-returns-then-q-eq0-clause-reads g t c = reads_itself (g.Q.Core.worker c.args.quads.now)
+pub returns-then-is_empty-clause-reads : goal.returns-then-is_empty-clause-reads
+returns-then-is_empty-clause-reads g t c = reads_itself (g.Q.Core.worker c.args.quads.now)
 
 pub add_block-requires-clause-row_in : goal.add_block-requires-clause-row_in
 add_block-requires-clause-row_in g t c =
@@ -34,16 +36,17 @@ pub returns-then-q-bottom-clause-reads : goal.returns-then-q-bottom-clause-reads
 returns-then-q-bottom-clause-reads g t c = record { keeps = c.bits-bits.ensures.keeps; room = c.bits-bits.ensures.room; misses = c.bits-bits.ensures.misses }
 
 pub side_of-half-requires : goal.side_of-half-requires
-side_of-half-requires g t c = g.met.Q.Quads.high_height c.quarters.new.self c.quarters.result.0 c.quarters.ensures.quarters.nw
+unfolding top_height
+side_of-half-requires g t c = g.met.Q.Quads.high_height c.quarters.new.self c.quarters.result.nw c.quarters.ensures.quarters.nw
 
 pub spill-requires : goal.spill-requires
 spill-requires g t c κs within =
     let q = c.quarters.ensures.quarters in
     let four = c.quarters.result in
     let e = q.nw_height in
-    let low = g.met.Q.Quads.low_height c.quarters.new.self four.0 q.nw in
-    let falls : four.0.height < t = (let d = c.decreases in omega (arith, e, d)) in
-    let f = fits c.args.q.height four.0.height four.0.height c.side_of-half.result c.args.row c.args.col c.args.row c.args.col (omega (arith, low, c.requires.leaf)) q.nw_height e c.side_of-half.ensures c.requires.row_in c.requires.col_in c.requires.col_on (inl refl) (inl refl) in
+    let low = g.met.Q.Quads.low_height c.quarters.new.self four.nw q.nw in
+    let falls : four.nw.height < t = (let d = c.decreases in omega (arith, e, d)) in
+    let f = fits c.args.q.height four.nw.height four.nw.height c.side_of-half.result c.args.row c.args.col c.args.row c.args.col (omega (arith, low, c.requires.leaf)) q.nw_height e c.side_of-half.ensures c.requires.row_in c.requires.col_in c.requires.col_on (inl refl) (inl refl) in
     (falls, (within, (q.nw, (c.requires.leaf, (c.requires.z_len, (f.row_in, (f.col_in, f.col_on)))))))
 
 pub spill-requires-2 : goal.spill-requires-2
@@ -51,9 +54,9 @@ spill-requires-2 g t c κs within =
     let q = c.quarters.ensures.quarters in
     let four = c.quarters.result in
     let e = q.ne_height in
-    let low = g.met.Q.Quads.low_height c.quarters.new.self four.0 q.nw in
-    let falls : four.1.height < t = (let d = c.decreases in omega (arith, e, d)) in
-    let f = fits c.args.q.height four.0.height four.1.height c.side_of-half.result c.args.row c.args.col c.args.row (c.args.col + c.side_of-half.result) (omega (arith, low, c.requires.leaf)) q.nw_height e c.side_of-half.ensures c.requires.row_in c.requires.col_in c.requires.col_on (inl refl) (inr refl) in
+    let low = g.met.Q.Quads.low_height c.quarters.new.self four.nw q.nw in
+    let falls : four.ne.height < t = (let d = c.decreases in omega (arith, e, d)) in
+    let f = fits c.args.q.height four.nw.height four.ne.height c.side_of-half.result c.args.row c.args.col c.args.row (c.args.col + c.side_of-half.result) (omega (arith, low, c.requires.leaf)) q.nw_height e c.side_of-half.ensures c.requires.row_in c.requires.col_in c.requires.col_on (inl refl) (inr refl) in
     (falls, (within, (kept_quad _ _ _ c.spill.ensures.reads.keeps q.ne, (c.requires.leaf, (c.spill.ensures.len, (f.row_in, (f.col_in, f.col_on)))))))
 
 pub spill-requires-3 : goal.spill-requires-3
@@ -61,9 +64,9 @@ spill-requires-3 g t c κs within =
     let q = c.quarters.ensures.quarters in
     let four = c.quarters.result in
     let e = q.sw_height in
-    let low = g.met.Q.Quads.low_height c.quarters.new.self four.0 q.nw in
-    let falls : four.2.height < t = (let d = c.decreases in omega (arith, e, d)) in
-    let f = fits c.args.q.height four.0.height four.2.height c.side_of-half.result c.args.row c.args.col (c.args.row + c.side_of-half.result) c.args.col (omega (arith, low, c.requires.leaf)) q.nw_height e c.side_of-half.ensures c.requires.row_in c.requires.col_in c.requires.col_on (inr refl) (inl refl) in
+    let low = g.met.Q.Quads.low_height c.quarters.new.self four.nw q.nw in
+    let falls : four.sw.height < t = (let d = c.decreases in omega (arith, e, d)) in
+    let f = fits c.args.q.height four.nw.height four.sw.height c.side_of-half.result c.args.row c.args.col (c.args.row + c.side_of-half.result) c.args.col (omega (arith, low, c.requires.leaf)) q.nw_height e c.side_of-half.ensures c.requires.row_in c.requires.col_in c.requires.col_on (inr refl) (inl refl) in
     (falls, (within, (kept_quad _ _ _ c.spill-2.ensures.reads.keeps (kept_quad _ _ _ c.spill.ensures.reads.keeps q.sw), (c.requires.leaf, (c.spill-2.ensures.len, (f.row_in, (f.col_in, f.col_on)))))))
 
 pub spill-requires-4 : goal.spill-requires-4
@@ -71,9 +74,9 @@ spill-requires-4 g t c κs within =
     let q = c.quarters.ensures.quarters in
     let four = c.quarters.result in
     let e = q.se_height in
-    let low = g.met.Q.Quads.low_height c.quarters.new.self four.0 q.nw in
-    let falls : four.3.height < t = (let d = c.decreases in omega (arith, e, d)) in
-    let f = fits c.args.q.height four.0.height four.3.height c.side_of-half.result c.args.row c.args.col (c.args.row + c.side_of-half.result) (c.args.col + c.side_of-half.result) (omega (arith, low, c.requires.leaf)) q.nw_height e c.side_of-half.ensures c.requires.row_in c.requires.col_in c.requires.col_on (inr refl) (inr refl) in
+    let low = g.met.Q.Quads.low_height c.quarters.new.self four.nw q.nw in
+    let falls : four.se.height < t = (let d = c.decreases in omega (arith, e, d)) in
+    let f = fits c.args.q.height four.nw.height four.se.height c.side_of-half.result c.args.row c.args.col (c.args.row + c.side_of-half.result) (c.args.col + c.side_of-half.result) (omega (arith, low, c.requires.leaf)) q.nw_height e c.side_of-half.ensures c.requires.row_in c.requires.col_in c.requires.col_on (inr refl) (inr refl) in
     (falls, (within, (kept_quad _ _ _ c.spill-3.ensures.reads.keeps (kept_quad _ _ _ c.spill-2.ensures.reads.keeps (kept_quad _ _ _ c.spill.ensures.reads.keeps q.se)), (c.requires.leaf, (c.spill-3.ensures.len, (f.row_in, (f.col_in, f.col_on)))))))
 
 pub returns-clause-cells : goal.returns-clause-cells
@@ -86,6 +89,5 @@ returns-clause-cells g t c =
 
 pub returns-clause-reads : goal.returns-clause-reads
 returns-clause-reads g t c =
-    reads_five (g.Q.Core.worker c.args.quads.now) (g.Q.Core.worker c.quarters.new.self) (g.Q.Core.worker c.spill.new.quads) (g.Q.Core.worker c.spill-2.new.quads) (g.Q.Core.worker c.spill-3.new.quads) (g.Q.Core.worker c.spill-4.new.quads)
-    (record { keeps = c.quarters.ensures.keeps; room = c.quarters.ensures.room; misses = c.quarters.ensures.misses })
-    c.spill.ensures.reads c.spill-2.ensures.reads c.spill-3.ensures.reads c.spill-4.ensures.reads
+    let q = reads c.quarters.ensures.keeps c.quarters.ensures.room c.quarters.ensures.misses in
+    reads_on q (reads_on c.spill.ensures.reads (reads_on c.spill-2.ensures.reads (reads_on c.spill-3.ensures.reads c.spill-4.ensures.reads)))

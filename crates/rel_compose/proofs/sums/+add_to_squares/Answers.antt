@@ -1,16 +1,18 @@
-use Rattle.std.proofs.Common.{◌<◌, ◌∙◌, sym, subst, arith}
+use Rattle.std.proofs.Common.{◌<◌, ℕ, ◌∙◌, sym, subst, arith}
 use Rattle.rel_model.specs.Trees.{bottom_height}
-use Rattle.rel_model.proofs.QuadLaws.{quad_stays, reads_on}
+use Rattle.rel_model.proofs.QuadLaws.{quad_stays}
+use Rattle.rel_compose.proofs.Reading.{three_reads}
 use Rattle.rel_compose.proofs.Summing.{side_small_8}
-use Rattle.rel_compose.proofs.FourSums.{nine_low, four_crossing_of, four_sums_added, four_products_added, four_none_left, four_none_right}
+use Rattle.rel_compose.proofs.FourSums.{nine_low, FourCrossing, four_crossing_of, four_sums_added, four_products_added, four_none_left, four_none_right}
+use Rattle.rel_compose.proofs.sums.+add_to_squares.Goals.{After-half_at-inner_col}
 use Rattle.rel_compose.proofs.sums.+add_to_squares.Goals as goal
 
 -- nothing to add
-pub returns-then-a-eq0-clause-cells : goal.returns-then-a-eq0-clause-cells
-returns-then-a-eq0-clause-cells t c = four_none_left c.args.nodes.now c.args.a c.args.b c.args.row c.args.col c.args.z.now c.bottom.ensures.work c.requires.a_stands c.if-a-eq0.true
+pub returns-then-is_empty-clause-cells : goal.returns-then-is_empty-clause-cells
+returns-then-is_empty-clause-cells t c = four_none_left c.args.nodes.now c.args.a c.args.b c.args.row c.args.col c.args.z.now c.bottom.ensures.work c.requires.a_stands (c.is_empty.ensures.empty c.if-is_empty.true)
 
-pub returns-then-b-eq0-clause-cells : goal.returns-then-b-eq0-clause-cells
-returns-then-b-eq0-clause-cells t c = four_none_right c.args.nodes.now c.args.a c.args.b c.args.row c.args.col c.args.z.now c.bottom.ensures.work c.requires.b_stands c.requires.one_height c.if-b-eq0.true
+pub returns-then-is_empty-2-clause-cells : goal.returns-then-is_empty-2-clause-cells
+returns-then-is_empty-2-clause-cells t c = four_none_right c.args.nodes.now c.args.a c.args.b c.args.row c.args.col c.args.z.now c.bottom.ensures.work c.requires.b_stands c.requires.one_height (c.is_empty-2.ensures.empty c.if-is_empty-2.true)
 
 -- quarters
 pub quarters_of_both-requires-clause-a_over : goal.quarters_of_both-requires-clause-a_over
@@ -32,7 +34,7 @@ add_four_products-requires-clause-stand t c =
     record { upper = p.nw; lower = p.sw; west = q.nw; east = q.ne; lower_height = omega arith; west_height = omega arith; east_height = omega arith }
 
 pub add_four_products-requires-clause-small : goal.add_four_products-requires-clause-small
-add_four_products-requires-clause-small t c = let e = c.if-a-eq9.true in let x = c.quarters_of_both.ensures.first.nw_height in side_small_8 c.quarters_of_both.result.0.0.height (omega arith)
+add_four_products-requires-clause-small t c = let e = c.if-a-eq9.true in let x = c.quarters_of_both.ensures.first.nw_height in side_small_8 c.quarters_of_both.result.0.nw.height (omega arith)
 
 pub add_four_products-requires-then-a-eq9-clause-stand : goal.add_four_products-requires-then-a-eq9-clause-stand
 add_four_products-requires-then-a-eq9-clause-stand t c =
@@ -47,17 +49,17 @@ add_four_products-requires-then-a-eq9-clause-stand t c =
     let s2 = c.add_four_products.new.nodes in
     let k = c.add_four_products.ensures.reads.keeps in
     record {
-      upper = quad_stays 0 s1 s2 c.quarters_of_both.result.0.1 k p.ne;
-      lower = quad_stays 0 s1 s2 c.quarters_of_both.result.0.3 k p.se;
-      west = quad_stays 0 s1 s2 c.quarters_of_both.result.1.2 k q.sw;
-      east = quad_stays 0 s1 s2 c.quarters_of_both.result.1.3 k q.se;
+      upper = quad_stays 0 s1 s2 c.quarters_of_both.result.0.ne k p.ne;
+      lower = quad_stays 0 s1 s2 c.quarters_of_both.result.0.se k p.se;
+      west = quad_stays 0 s1 s2 c.quarters_of_both.result.1.sw k q.sw;
+      east = quad_stays 0 s1 s2 c.quarters_of_both.result.1.se k q.se;
       lower_height = omega arith;
       west_height = omega arith;
       east_height = omega arith;
     }
 
 pub add_four_products-requires-then-a-eq9-clause-small : goal.add_four_products-requires-then-a-eq9-clause-small
-add_four_products-requires-then-a-eq9-clause-small t c = let e = c.if-a-eq9.true in let x = c.quarters_of_both.ensures.first.ne_height in side_small_8 c.quarters_of_both.result.0.1.height (omega arith)
+add_four_products-requires-then-a-eq9-clause-small t c = let e = c.if-a-eq9.true in let x = c.quarters_of_both.ensures.first.ne_height in side_small_8 c.quarters_of_both.result.0.ne.height (omega arith)
 
 pub returns-then-a-eq9-clause-cells : goal.returns-then-a-eq9-clause-cells
 returns-then-a-eq9-clause-cells t c =
@@ -68,12 +70,17 @@ returns-then-a-eq9-clause-cells t c =
 pub side_of_height-half-requires-clause-low : goal.side_of_height-half-requires-clause-low
 side_of_height-half-requires-clause-low t c = let o = nine_low c.args.a.height c.requires.tall in omega arith
 
+cross : (t : ℕ) (c : After-half_at-inner_col t) → FourCrossing c.quarters_of_both.new.self c.args.a.height c.side_of_height-half.result c.half_at-inner_row.result.0 c.half_at-inner_col.result.0 c.half_at-inner_row.result.1 c.half_at-inner_col.result.1
+cross t c =
+    four_crossing_of c.args.nodes.now c.quarters_of_both.new.self c.args.a c.args.b c.quarters_of_both.result.0 c.quarters_of_both.result.1 c.half_at-inner_row.result.0 c.half_at-inner_col.result.0 c.side_of_height-half.result c.args.row c.args.col
+    c.half_at-inner_row.result.1 c.half_at-inner_col.result.1 c.requires.tall c.if-a-eq9.false c.requires.one_height c.quarters_of_both.ensures.first c.quarters_of_both.ensures.second c.side_of_height-half.ensures c.half_at-inner_row.ensures c.half_at-inner_col.ensures
+    c.requires.row_on c.requires.col_on c.requires.row_in c.requires.col_in
+
 pub add_to_squares-requires : goal.add_to_squares-requires
 add_to_squares-requires t c =
     let n = c.if-a-eq9.false in
     let l = c.requires.tall in
-    let y = four_crossing_of c.args.nodes.now c.quarters_of_both.new.self c.args.a c.args.b c.quarters_of_both.result.0 c.quarters_of_both.result.1 c.half_at-inner_row.result.0 c.half_at-inner_col.result.0 c.side_of_height-half.result c.args.row c.args.col c.half_at-inner_row.result.1 c.half_at-inner_col.result.1
-    l n c.requires.one_height c.quarters_of_both.ensures.first c.quarters_of_both.ensures.second c.side_of_height-half.ensures c.half_at-inner_row.ensures c.half_at-inner_col.ensures c.requires.row_on c.requires.col_on c.requires.row_in c.requires.col_in in
+    let y = cross t (goal.at.add_to_squares-requires t c).After-half_at-inner_col in
     let x = y.one in
     let e = x.left_stands.first_height in
     let f = x.right_stands.first_height in
@@ -83,8 +90,7 @@ pub add_to_squares-requires-2 : goal.add_to_squares-requires-2
 add_to_squares-requires-2 t c =
     let n = c.if-a-eq9.false in
     let l = c.requires.tall in
-    let y = four_crossing_of c.args.nodes.now c.quarters_of_both.new.self c.args.a c.args.b c.quarters_of_both.result.0 c.quarters_of_both.result.1 c.half_at-inner_row.result.0 c.half_at-inner_col.result.0 c.side_of_height-half.result c.args.row c.args.col c.half_at-inner_row.result.1 c.half_at-inner_col.result.1
-    l n c.requires.one_height c.quarters_of_both.ensures.first c.quarters_of_both.ensures.second c.side_of_height-half.ensures c.half_at-inner_row.ensures c.half_at-inner_col.ensures c.requires.row_on c.requires.col_on c.requires.row_in c.requires.col_in in
+    let y = cross t (goal.at.add_to_squares-requires-2 t c).After-half_at-inner_col in
     let x = y.one in
     let e = x.left_stands.second_height in
     let f = x.right_stands.second_height in
@@ -93,10 +99,7 @@ add_to_squares-requires-2 t c =
 
 pub returns-clause-cells : goal.returns-clause-cells
 returns-clause-cells t c =
-    let n = c.if-a-eq9.false in
-    let l = c.requires.tall in
-    let y = four_crossing_of c.args.nodes.now c.quarters_of_both.new.self c.args.a c.args.b c.quarters_of_both.result.0 c.quarters_of_both.result.1 c.half_at-inner_row.result.0 c.half_at-inner_col.result.0 c.side_of_height-half.result c.args.row c.args.col c.half_at-inner_row.result.1 c.half_at-inner_col.result.1
-    l n c.requires.one_height c.quarters_of_both.ensures.first c.quarters_of_both.ensures.second c.side_of_height-half.ensures c.half_at-inner_row.ensures c.half_at-inner_col.ensures c.requires.row_on c.requires.col_on c.requires.row_in c.requires.col_in in
+    let y = cross t (goal.at.returns-clause-cells t c).After-half_at-inner_col in
     four_sums_added c.args.nodes.now c.quarters_of_both.new.self c.add_to_squares.new.nodes c.args.a c.args.b c.quarters_of_both.result.0 c.quarters_of_both.result.1 c.half_at-inner_row.result.0 c.half_at-inner_col.result.0 c.side_of_height-half.result c.args.row c.args.col c.half_at-inner_row.result.1 c.half_at-inner_col.result.1
     c.args.z.now c.add_to_squares.new.z c.add_to_squares-2.new.z
     c.requires.one_height c.quarters_of_both.ensures.first c.quarters_of_both.ensures.second c.side_of_height-half.ensures c.half_at-inner_row.ensures c.half_at-inner_col.ensures
@@ -104,10 +107,8 @@ returns-clause-cells t c =
 
 pub returns-then-a-eq9-clause-reads : goal.returns-then-a-eq9-clause-reads
 returns-then-a-eq9-clause-reads t c =
-    let k1 = reads_on c.args.nodes.now c.quarters_of_both.new.self c.add_four_products.new.nodes c.quarters_of_both.ensures.reads c.add_four_products.ensures.reads in
-    reads_on c.args.nodes.now c.add_four_products.new.nodes c.add_four_products-then-a-eq9.new.nodes k1 c.add_four_products-then-a-eq9.ensures.reads
+    three_reads c.quarters_of_both.ensures.reads c.add_four_products.ensures.reads c.add_four_products-then-a-eq9.ensures.reads
 
 pub returns-clause-reads : goal.returns-clause-reads
 returns-clause-reads t c =
-    let k1 = reads_on c.args.nodes.now c.quarters_of_both.new.self c.add_to_squares.new.nodes c.quarters_of_both.ensures.reads c.add_to_squares.ensures.reads in
-    reads_on c.args.nodes.now c.add_to_squares.new.nodes c.add_to_squares-2.new.nodes k1 c.add_to_squares-2.ensures.reads
+    three_reads c.quarters_of_both.ensures.reads c.add_to_squares.ensures.reads c.add_to_squares-2.ensures.reads

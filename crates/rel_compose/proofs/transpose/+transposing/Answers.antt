@@ -1,17 +1,20 @@
-use Rattle.std.proofs.Common.{◌+◌, ◌-◌, ℕ, [], ◌∷◌, refl, arith, ◌∙◌, sym, ap}
+use Rattle.std.proofs.Common.{ℕ, Ok, refl, arith, ◌∙◌, sym, ap}
 use Rattle.rel_model.specs.Cells.{Cells, cells_transpose}
 use Rattle.rel_model.specs.Quads.{quad_room, ReadsQuads}
-use Rattle.rel_model.proofs.QuadLaws.{quad_stays, keeps_on, rooms-next, room-some, reads_itself, reads_on}
-use Rattle.quad_nodes.proofs.Making.{Underway, begun, goes_on, stops, nw_under, ne_under, sw_under, se_under, made_is, made_as, made_within, made_after, made_before, made_failed}
-use Rattle.rel_compose.proofs.Transposing.{HasQuarters, turned, are_parts, part_made, whole_made, turned_stay, none_stands, transposed_none, transposed_full, transposed_now}
-use Rattle.rel_compose.proofs.transpose.+transposing.Goals.{transposed_over-After-blocks_pay, transposed_by_quarters-After-quarters_ahead, transposed_by_quarters-In_ok-se}
+use Rattle.rel_model.proofs.QuadLaws.{quad_stays, room-some, reads_itself, reads_on}
+use Rattle.quad_nodes.specs.Making.{MakesQuad}
+use Rattle.quad_nodes.proofs.Making.{made_is, made_as, made_within, made_after, made_before, made_failed}
+use Rattle.pair_table.specs.declared.Missed.{Missed}
+use Rattle.rel_compose.proofs.FourParts.{AllMade, first_fails, second_fails, third_fails, fourth_fails, all_made, whole_made}
+use Rattle.rel_compose.proofs.Transposing.{HasQuarters, turned, turns, four_turned, turned_stay, none_stands, transposed_none, transposed_full, transposed_now}
+use Rattle.rel_compose.proofs.transpose.+transposing.Goals.{transposed_over-After-blocks_pay, transposed_by_quarters-After-quarters_ahead, transposed_by_quarters-In_ok-se, transposed_by_quarters-In_ok-found}
 use Rattle.rel_compose.proofs.transpose.+transposing.Goals as goal
 
 -- ---- what needs no recursion
-pub transpose_quad-returns-then-a-eq0 : goal.transpose_quad-returns-then-a-eq0
-transpose_quad-returns-then-a-eq0 t c =
+pub transpose_quad-returns-then-is_empty : goal.transpose_quad-returns-then-is_empty
+transpose_quad-returns-then-is_empty t c =
     let i = c.bottom-bottom.ensures.work in
-    made_is (reads_itself _ i) (transposed_none c.args.nodes.now c.args.a i c.requires.stands c.if-a-eq0.true)
+    made_is (reads_itself _ i) (transposed_none c.args.nodes.now c.args.a i c.requires.stands (c.is_empty.ensures.empty c.if-is_empty.true))
 
 pub transpose_quad-returns-then-a-bottom : goal.transpose_quad-returns-then-a-bottom
 transpose_quad-returns-then-a-bottom t c =
@@ -39,7 +42,7 @@ known : (t : ℕ) (c : transposed_over-After-blocks_pay t) → ReadsQuads c.args
 known t c = reads_on _ _ _ c.look.ensures.reads c.blocks_pay.ensures.reads
 
 pub transposed_over-look-requires-clause-b_stands : goal.transposed_over-look-requires-clause-b_stands
-transposed_over-look-requires-clause-b_stands t c = none_stands c.args.nodes.now c.args.a c.requires.stands
+transposed_over-look-requires-clause-b_stands t c = none_stands c.empty-none.ensures c.requires.stands
 
 pub transposed_over-returns-in-Some : goal.transposed_over-returns-in-Some
 transposed_over-returns-in-Some t c = made_is c.in-Some.ensures.reads c.in-Some.ensures.found
@@ -78,10 +81,7 @@ transposed_by_quarters-transpose_quad-requires t c =
 pub transposed_by_quarters-returns-in_err-nw : goal.transposed_by_quarters-returns-in_err-nw
 transposed_by_quarters-returns-in_err-nw t c =
     let q = quarters t (goal.at.transposed_by_quarters-returns-in_err-nw t c).After-quarters_ahead in
-    let p = are_parts q in
-    let r = rooms-next c.args.a.height c.requires.over in
-    let u0 = begun (reads_itself _ q.reads.keeps.after) in
-    made_after q.reads (stops c.from_residual.result c.from_residual.ensures.0 (omega (arith, r)) u0 (nw_under p) (part_made u0.keeps q.four.nw q.four.nw_height c.in_err-nw.ensures))
+    first_fails q.reads (four_turned q) c.from_residual.result c.from_residual.ensures.0 c.in_err-nw.ensures
 
 pub transposed_by_quarters-transpose_quad-requires-2 : goal.transposed_by_quarters-transpose_quad-requires-2
 transposed_by_quarters-transpose_quad-requires-2 t c =
@@ -92,11 +92,7 @@ transposed_by_quarters-transpose_quad-requires-2 t c =
 pub transposed_by_quarters-returns-in_err-ne : goal.transposed_by_quarters-returns-in_err-ne
 transposed_by_quarters-returns-in_err-ne t c =
     let q = quarters t (goal.at.transposed_by_quarters-returns-in_err-ne t c).After-quarters_ahead in
-    let p = are_parts q in
-    let r = rooms-next c.args.a.height c.requires.over in
-    let u0 = begun (reads_itself _ q.reads.keeps.after) in
-    let u1 = goes_on u0 (nw_under p) (part_made u0.keeps q.four.nw q.four.nw_height c.in_ok-nw.ensures) in
-    made_after q.reads (stops c.from_residual-in_err-ne.result c.from_residual-in_err-ne.ensures.0 (omega (arith, r)) u1 (ne_under p) (part_made u1.keeps q.four.sw q.four.sw_height c.in_err-ne.ensures))
+    second_fails q.reads (four_turned q) c.from_residual-in_err-ne.result c.from_residual-in_err-ne.ensures.0 c.in_ok-nw.ensures c.in_err-ne.ensures
 
 pub transposed_by_quarters-transpose_quad-requires-3 : goal.transposed_by_quarters-transpose_quad-requires-3
 transposed_by_quarters-transpose_quad-requires-3 t c =
@@ -107,12 +103,7 @@ transposed_by_quarters-transpose_quad-requires-3 t c =
 pub transposed_by_quarters-returns-in_err-sw : goal.transposed_by_quarters-returns-in_err-sw
 transposed_by_quarters-returns-in_err-sw t c =
     let q = quarters t (goal.at.transposed_by_quarters-returns-in_err-sw t c).After-quarters_ahead in
-    let p = are_parts q in
-    let r = rooms-next c.args.a.height c.requires.over in
-    let u0 = begun (reads_itself _ q.reads.keeps.after) in
-    let u1 = goes_on u0 (nw_under p) (part_made u0.keeps q.four.nw q.four.nw_height c.in_ok-nw.ensures) in
-    let u2 = goes_on u1 (ne_under p) (part_made u1.keeps q.four.sw q.four.sw_height c.in_ok-ne.ensures) in
-    made_after q.reads (stops c.from_residual-in_err-sw.result c.from_residual-in_err-sw.ensures.0 (omega (arith, r)) u2 (sw_under p) (part_made u2.keeps q.four.ne q.four.ne_height c.in_err-sw.ensures))
+    third_fails q.reads (four_turned q) c.from_residual-in_err-sw.result c.from_residual-in_err-sw.ensures.0 c.in_ok-nw.ensures c.in_ok-ne.ensures c.in_err-sw.ensures
 
 pub transposed_by_quarters-transpose_quad-requires-4 : goal.transposed_by_quarters-transpose_quad-requires-4
 transposed_by_quarters-transpose_quad-requires-4 t c =
@@ -123,68 +114,66 @@ transposed_by_quarters-transpose_quad-requires-4 t c =
 pub transposed_by_quarters-returns-in_err-se : goal.transposed_by_quarters-returns-in_err-se
 transposed_by_quarters-returns-in_err-se t c =
     let q = quarters t (goal.at.transposed_by_quarters-returns-in_err-se t c).After-quarters_ahead in
-    let p = are_parts q in
-    let r = rooms-next c.args.a.height c.requires.over in
-    let u0 = begun (reads_itself _ q.reads.keeps.after) in
-    let u1 = goes_on u0 (nw_under p) (part_made u0.keeps q.four.nw q.four.nw_height c.in_ok-nw.ensures) in
-    let u2 = goes_on u1 (ne_under p) (part_made u1.keeps q.four.sw q.four.sw_height c.in_ok-ne.ensures) in
-    let u3 = goes_on u2 (sw_under p) (part_made u2.keeps q.four.ne q.four.ne_height c.in_ok-sw.ensures) in
-    made_after q.reads (stops c.from_residual-in_err-se.result c.from_residual-in_err-se.ensures.0 (omega (arith, r)) u3 (se_under p) (part_made u3.keeps q.four.se q.four.se_height c.in_err-se.ensures))
+    fourth_fails q.reads (four_turned q) c.from_residual-in_err-se.result c.from_residual-in_err-se.ensures.0 c.in_ok-nw.ensures c.in_ok-ne.ensures c.in_ok-sw.ensures c.in_err-se.ensures
 
 -- four parts were made
-four_made : (t : ℕ) (c : transposed_by_quarters-In_ok-se t) → let m : ℕ = quad_room (c.args.a.height - 1) in
-    let w = c.quarters_ahead.new.self in
-    let x = c.quarters_ahead.result in
-    Underway (0 + m + m + m + m) c.args.a.height (turned c.args.nodes.now c.args.a) (c.args.a.height - 1)
-    ((c.in_ok-se.se, turned w x.3) ∷ (c.in_ok-sw.sw, turned w x.1) ∷ (c.in_ok-ne.ne, turned w x.2) ∷ (c.in_ok-nw.nw, turned w x.0) ∷ []) w c.transpose_quad-4.new.nodes
-four_made t c =
-    let q : HasQuarters c.args.nodes.now c.quarters_ahead.new.self c.args.a c.quarters_ahead.result =
-    record { stands = c.requires.stands; over = c.requires.over; four = c.quarters_ahead.ensures.quarters; reads = c.quarters_ahead.ensures.reads } in
-    let p = are_parts q in
-    let u0 = begun (reads_itself _ q.reads.keeps.after) in
-    let u1 = goes_on u0 (nw_under p) (part_made u0.keeps q.four.nw q.four.nw_height c.in_ok-nw.ensures) in
-    let u2 = goes_on u1 (ne_under p) (part_made u1.keeps q.four.sw q.four.sw_height c.in_ok-ne.ensures) in
-    let u3 = goes_on u2 (sw_under p) (part_made u2.keeps q.four.ne q.four.ne_height c.in_ok-sw.ensures) in
-    goes_on u3 (se_under p) (part_made u3.keeps q.four.se q.four.se_height c.in_ok-se.ensures)
+made : (t : ℕ) (c : transposed_by_quarters-In_ok-se t) → HasQuarters c.args.nodes.now c.quarters_ahead.new.self c.args.a c.quarters_ahead.result
+    → AllMade (turns c.args.nodes.now c.args.a c.quarters_ahead.result) c.in_ok-nw.nw c.in_ok-ne.ne c.in_ok-sw.sw c.in_ok-se.se c.quarters_ahead.new.self c.transpose_quad-4.new.nodes
+made t c q = all_made (four_turned q) c.in_ok-nw.ensures c.in_ok-ne.ensures c.in_ok-sw.ensures c.in_ok-se.ensures
 
-pub transposed_by_quarters-corner-requires-clause-nw_stands : goal.transposed_by_quarters-corner-requires-clause-nw_stands
-transposed_by_quarters-corner-requires-clause-nw_stands t c =
-    (four_made t (goal.at.transposed_by_quarters-corner-requires-clause-nw_stands t c).In_ok-se).are.1.1.1.0.stands
-
-pub transposed_by_quarters-corner-requires-clause-ne_stands : goal.transposed_by_quarters-corner-requires-clause-ne_stands
-transposed_by_quarters-corner-requires-clause-ne_stands t c =
-    (four_made t (goal.at.transposed_by_quarters-corner-requires-clause-ne_stands t c).In_ok-se).are.1.1.0.stands
-
-pub transposed_by_quarters-corner-requires-clause-sw_stands : goal.transposed_by_quarters-corner-requires-clause-sw_stands
-transposed_by_quarters-corner-requires-clause-sw_stands t c =
-    (four_made t (goal.at.transposed_by_quarters-corner-requires-clause-sw_stands t c).In_ok-se).are.1.0.stands
+pub transposed_by_quarters-corner-requires : goal.transposed_by_quarters-corner-requires
+transposed_by_quarters-corner-requires t c =
+    let at = goal.at.transposed_by_quarters-corner-requires t c in
+    let m = (made t at.In_ok-se (quarters t at.After-quarters_ahead)).are in
+    let e = m.1.1.1.0.same_height in
+    let h = c.requires.stands.high in
+    let l = c.requires.over in
+    record {
+      nw_stands = m.1.1.1.0.stands;
+      ne_stands = m.1.1.0.stands;
+      sw_stands = m.1.0.stands;
+      se_stands = m.0.stands;
+      ne_height = m.1.1.0.same_height ∙ sym e;
+      sw_height = m.1.0.same_height ∙ sym e;
+      se_height = m.0.same_height ∙ sym e;
+      below = omega arith;
+    }
 
 pub transposed_by_quarters-returns-in_err-found : goal.transposed_by_quarters-returns-in_err-found
 transposed_by_quarters-returns-in_err-found t c =
     let at = goal.at.transposed_by_quarters-returns-in_err-found t c in
+    let q = quarters t at.After-quarters_ahead in
     let e = c.in_err-found.ensures in
     made_failed c.from_residual-in_err-found.result c.from_residual-in_err-found.ensures.0
-    (whole_made (quarters t at.After-quarters_ahead) (four_made t at.In_ok-se) (record { value = e.value; stood = e.stood; keeps = e.keeps; counts = e.counts }))
+    (whole_made q.reads (four_turned q) (made t at.In_ok-se q) (record { value = e.value; stood = e.stood; keeps = e.keeps; counts = e.counts }))
+
+-- ---- the result is noted
+whole : (t : ℕ) (c : transposed_by_quarters-In_ok-found t) → HasQuarters c.args.nodes.now c.quarters_ahead.new.self c.args.a c.quarters_ahead.result
+    → AllMade (turns c.args.nodes.now c.args.a c.quarters_ahead.result) c.in_ok-nw.nw c.in_ok-ne.ne c.in_ok-sw.sw c.in_ok-se.se c.quarters_ahead.new.self c.transpose_quad-4.new.nodes
+    → MakesQuad {E = Missed} (quad_room c.args.a.height) c.args.a.height (turned c.args.nodes.now c.args.a) c.args.nodes.now c.corner.new.self (Ok c.in_ok-found.found)
+whole t c q m = let e = c.in_ok-found.ensures in whole_made q.reads (four_turned q) m (record { value = e.value; stood = e.stood; keeps = e.keeps; counts = e.counts })
 
 pub transposed_by_quarters-note-requires-clause-a_stands : goal.transposed_by_quarters-note-requires-clause-a_stands
 transposed_by_quarters-note-requires-clause-a_stands t c =
-    let k = keeps_on _ _ _ _ _ (four_made t (goal.at.transposed_by_quarters-note-requires-clause-a_stands t c).In_ok-se).keeps c.in_ok-found.ensures.keeps in
-    quad_stays _ _ _ _ k (quad_stays _ _ _ _ c.quarters_ahead.ensures.reads.keeps c.requires.stands)
+    let at = goal.at.transposed_by_quarters-note-requires-clause-a_stands t c in
+    let q = quarters t at.After-quarters_ahead in
+    quad_stays _ _ _ _ (whole t at.In_ok-found q (made t at.In_ok-se q)).keeps c.requires.stands
 
 pub transposed_by_quarters-note-requires-clause-b_stands : goal.transposed_by_quarters-note-requires-clause-b_stands
 transposed_by_quarters-note-requires-clause-b_stands t c =
-    let k = keeps_on _ _ _ _ _ (four_made t (goal.at.transposed_by_quarters-note-requires-clause-b_stands t c).In_ok-se).keeps c.in_ok-found.ensures.keeps in
-    none_stands _ c.args.a (quad_stays _ _ _ _ k (quad_stays _ _ _ _ c.quarters_ahead.ensures.reads.keeps c.requires.stands))
+    let at = goal.at.transposed_by_quarters-note-requires-clause-b_stands t c in
+    let q = quarters t at.After-quarters_ahead in
+    none_stands c.empty-none.ensures (quad_stays _ _ _ _ (whole t at.In_ok-found q (made t at.In_ok-se q)).keeps c.requires.stands)
 
 pub transposed_by_quarters-note-requires-clause-holds : goal.transposed_by_quarters-note-requires-clause-holds
 transposed_by_quarters-note-requires-clause-holds t c =
     let at = goal.at.transposed_by_quarters-note-requires-clause-holds t c in
-    let e = c.in_ok-found.ensures in
-    let w = whole_made (quarters t at.After-quarters_ahead) (four_made t at.In_ok-se) (record { value = e.value; stood = e.stood; keeps = e.keeps; counts = e.counts }) in
+    let q = quarters t at.After-quarters_ahead in
+    let w = whole t at.In_ok-found q (made t at.In_ok-se q) in
     transposed_now _ _ _ _ _ w.keeps c.requires.stands w.value
 
 pub transposed_by_quarters-returns : goal.transposed_by_quarters-returns
 transposed_by_quarters-returns t c =
     let at = goal.at.transposed_by_quarters-returns t c in
-    let e = c.in_ok-found.ensures in
-    made_before (whole_made (quarters t at.After-quarters_ahead) (four_made t at.In_ok-se) (record { value = e.value; stood = e.stood; keeps = e.keeps; counts = e.counts })) c.note.ensures.reads
+    let q = quarters t at.After-quarters_ahead in
+    made_before (whole t at.In_ok-found q (made t at.In_ok-se q)) c.note.ensures.reads

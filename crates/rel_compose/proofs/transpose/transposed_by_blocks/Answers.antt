@@ -28,7 +28,7 @@ pub note-requires-clause-a_stands : goal.note-requires-clause-a_stands
 note-requires-clause-a_stands c = quad_stays _ _ _ _ (made (goal.at.note-requires-clause-a_stands c).After-gather_blocks).keeps c.requires.stands
 
 pub note-requires-clause-b_stands : goal.note-requires-clause-b_stands
-note-requires-clause-b_stands c = none_stands _ c.args.a (quad_stays _ _ _ _ (made (goal.at.note-requires-clause-b_stands c).After-gather_blocks).keeps c.requires.stands)
+note-requires-clause-b_stands c = none_stands c.empty-none.ensures (quad_stays _ _ _ _ (made (goal.at.note-requires-clause-b_stands c).After-gather_blocks).keeps c.requires.stands)
 
 pub note-requires-clause-holds : goal.note-requires-clause-holds
 note-requires-clause-holds c =

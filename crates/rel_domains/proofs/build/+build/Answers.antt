@@ -1,8 +1,10 @@
-use Rattle.std.proofs.Common.{rules, ◌≡◌, ◌<◌, ◌+◌, ◌-◌, ◌^◌, ◌∙◌, length, ℕ, ap, arith}
+use Rattle.std.proofs.Common.{rules, ◌≡◌, ◌≤◌, ◌+◌, ◌-◌, ◌*◌, ◌^◌, ◌∙◌, length, ℕ, ap, arith}
+use Rattle.rel_model.specs.Trees.{top_height}
+use Rattle.rel_model.specs.Worker.{listed_room}
 use Rattle.rel_steps.proofs.Making.{begun, goes_on, failed, stops, four_stand, corner_made}
 use Rattle.rel_domains.proofs.Places.{cells_step}
 use Rattle.rel_domains.proofs.Fewness.{room_of_parts}
-use Rattle.rel_domains.proofs.Quartering.{AreFour, four_of, spans, places_parts, leaf_given}
+use Rattle.rel_domains.proofs.Quartering.{AreFour, AreSpans, four_of, spans, places_parts, leaf_given}
 use Rattle.rel_domains.proofs.Steps.{room_step, room_some}
 use Rattle.rel_domains.proofs.build.+build.Given.{Over}
 use Rattle.rel_domains.proofs.build.+build.Goals.{After-cut_at-3}
@@ -15,64 +17,51 @@ part g t c = c.cells_of-part.ensures.value ∙ ap (λ k. 4 ^ k) (omega (arith, c
 four : (g : Over) (t : ℕ) (c : After-cut_at-3 g t) → AreFour c.args.base c.cells_of-part.result c.args.places.now c.cut_at-2.result.0.now c.cut_at-2.result.1.now c.cut_at-3.result.0.now c.cut_at-3.result.1.now
 four g t c = four_of g.Q.Core.least c.args.depth c.args.base c.cells_of-part.result c.args.places.now _ _ _ _ _ _ c.if-depth-eq0.false (part g t c) c.requires.from c.cut_at.ensures c.cut_at-2.ensures c.cut_at-3.ensures
 
+parts : (g : Over) (t : ℕ) (c : After-cut_at-3 g t) → AreSpans c.args.base c.cells_of-part.result (4 ^ (g.Q.Core.least + (c.args.depth - 1))) c.cut_at-2.result.0.now c.cut_at-2.result.1.now c.cut_at-3.result.0.now c.cut_at-3.result.1.now
+parts g t c = spans c.args.base c.cells_of-part.result _ c.args.places.now _ _ _ _ (part g t c) (four g t c)
+
+fits : (g : Over) (t : ℕ) (c : After-cut_at-3 g t) → c.args.base + 3 * c.cells_of-part.result + 4 ^ (g.Q.Core.least + (c.args.depth - 1)) ≤ 4 ^ top_height
+fits g t c = omega (arith, part g t c, c.requires.base, cells_step g.Q.Core.least c.args.depth c.if-depth-eq0.false)
+
 pub build-requires : goal.build-requires
 build-requires g t c κs within =
     let at = (goal.at.build-requires g t c).After-cut_at-3 in
-    let n = part g t at in
-    let parts = spans c.args.base c.cells_of-part.result _ c.args.places.now _ _ _ _ n (four g t at) in
-    (search rules, (within, (omega (arith, c.requires.high), (omega (arith, n, c.requires.base, cells_step g.Q.Core.least c.args.depth c.if-depth-eq0.false), (c.cut_at-2.ensures.front_order, parts.nw_span)))))
+    (search rules, (within, (omega (arith, c.requires.high), (omega (arith, fits g t at), (c.cut_at-2.ensures.front_order, (parts g t at).nw_span)))))
 
 pub build-requires-2 : goal.build-requires-2
 build-requires-2 g t c κs within =
     let at = (goal.at.build-requires-2 g t c).After-cut_at-3 in
-    let n = part g t at in
-    let parts = spans c.args.base c.cells_of-part.result _ c.args.places.now _ _ _ _ n (four g t at) in
-    (search rules, (within, (omega (arith, c.requires.high), (omega (arith, n, c.requires.base, cells_step g.Q.Core.least c.args.depth c.if-depth-eq0.false), (c.cut_at-2.ensures.back_order, parts.ne_span)))))
+    (search rules, (within, (omega (arith, c.requires.high), (omega (arith, fits g t at), (c.cut_at-2.ensures.back_order, (parts g t at).ne_span)))))
 
 pub build-requires-3 : goal.build-requires-3
 build-requires-3 g t c κs within =
     let at = (goal.at.build-requires-3 g t c).After-cut_at-3 in
-    let n = part g t at in
-    let parts = spans c.args.base c.cells_of-part.result _ c.args.places.now _ _ _ _ n (four g t at) in
-    (search rules, (within, (omega (arith, c.requires.high), (omega (arith, n, c.requires.base, cells_step g.Q.Core.least c.args.depth c.if-depth-eq0.false), (c.cut_at-3.ensures.front_order, parts.sw_span)))))
+    (search rules, (within, (omega (arith, c.requires.high), (omega (arith, fits g t at), (c.cut_at-3.ensures.front_order, (parts g t at).sw_span)))))
 
 pub build-requires-4 : goal.build-requires-4
 build-requires-4 g t c κs within =
     let at = (goal.at.build-requires-4 g t c).After-cut_at-3 in
-    let n = part g t at in
-    let parts = spans c.args.base c.cells_of-part.result _ c.args.places.now _ _ _ _ n (four g t at) in
-    (search rules, (within, (omega (arith, c.requires.high), (omega (arith, n, c.requires.base, cells_step g.Q.Core.least c.args.depth c.if-depth-eq0.false), (c.cut_at-3.ensures.back_order, parts.se_span)))))
+    (search rules, (within, (omega (arith, c.requires.high), (omega (arith, fits g t at), (c.cut_at-3.ensures.back_order, (parts g t at).se_span)))))
 
 -- ---- how few nodes
+few : (g : Over) (t : ℕ) (c : After-cut_at-3 g t) → listed_room (length c.cut_at-2.result.0.now) (c.args.depth - 1) + (listed_room (length c.cut_at-2.result.1.now) (c.args.depth - 1)
+    + (listed_room (length c.cut_at-3.result.0.now) (c.args.depth - 1) + (listed_room (length c.cut_at-3.result.1.now) (c.args.depth - 1) + 3))) ≤ listed_room (length c.args.places.now) c.args.depth
+few g t c = room_of_parts c.args.places.now _ _ _ _ _ _ c.args.depth c.cut_at.ensures.parts c.cut_at-2.ensures.parts c.cut_at-3.ensures.parts (search rules) c.if-depth-eq0.false
+
 pub returns-in_err-ne-clause-few : goal.returns-in_err-ne-clause-few
-returns-in_err-ne-clause-few g t c =
-    let more : 0 < length c.args.places.now = search rules in
-    let r = room_of_parts c.args.places.now c.cut_at.result.0.now c.cut_at.result.1.now c.cut_at-2.result.0.now c.cut_at-2.result.1.now c.cut_at-3.result.0.now c.cut_at-3.result.1.now c.args.depth c.cut_at.ensures.parts c.cut_at-2.ensures.parts c.cut_at-3.ensures.parts more c.if-depth-eq0.false in
-    omega (arith, r, c.in_ok-nw.ensures.few, c.in_err-ne.ensures.few)
+returns-in_err-ne-clause-few g t c = omega (arith, few g t (goal.at.returns-in_err-ne-clause-few g t c).After-cut_at-3, c.in_ok-nw.ensures.few, c.in_err-ne.ensures.few)
 
 pub returns-in_err-sw-clause-few : goal.returns-in_err-sw-clause-few
-returns-in_err-sw-clause-few g t c =
-    let more : 0 < length c.args.places.now = search rules in
-    let r = room_of_parts c.args.places.now c.cut_at.result.0.now c.cut_at.result.1.now c.cut_at-2.result.0.now c.cut_at-2.result.1.now c.cut_at-3.result.0.now c.cut_at-3.result.1.now c.args.depth c.cut_at.ensures.parts c.cut_at-2.ensures.parts c.cut_at-3.ensures.parts more c.if-depth-eq0.false in
-    omega (arith, r, c.in_ok-nw.ensures.few, c.in_ok-ne.ensures.few, c.in_err-sw.ensures.few)
+returns-in_err-sw-clause-few g t c = omega (arith, few g t (goal.at.returns-in_err-sw-clause-few g t c).After-cut_at-3, c.in_ok-nw.ensures.few, c.in_ok-ne.ensures.few, c.in_err-sw.ensures.few)
 
 pub returns-in_err-se-clause-few : goal.returns-in_err-se-clause-few
-returns-in_err-se-clause-few g t c =
-    let more : 0 < length c.args.places.now = search rules in
-    let r = room_of_parts c.args.places.now c.cut_at.result.0.now c.cut_at.result.1.now c.cut_at-2.result.0.now c.cut_at-2.result.1.now c.cut_at-3.result.0.now c.cut_at-3.result.1.now c.args.depth c.cut_at.ensures.parts c.cut_at-2.ensures.parts c.cut_at-3.ensures.parts more c.if-depth-eq0.false in
-    omega (arith, r, c.in_ok-nw.ensures.few, c.in_ok-ne.ensures.few, c.in_ok-sw.ensures.few, c.in_err-se.ensures.few)
+returns-in_err-se-clause-few g t c = omega (arith, few g t (goal.at.returns-in_err-se-clause-few g t c).After-cut_at-3, c.in_ok-nw.ensures.few, c.in_ok-ne.ensures.few, c.in_ok-sw.ensures.few, c.in_err-se.ensures.few)
 
 pub returns-in_err-corner-clause-few : goal.returns-in_err-corner-clause-few
-returns-in_err-corner-clause-few g t c =
-    let more : 0 < length c.args.places.now = search rules in
-    let r = room_of_parts c.args.places.now c.cut_at.result.0.now c.cut_at.result.1.now c.cut_at-2.result.0.now c.cut_at-2.result.1.now c.cut_at-3.result.0.now c.cut_at-3.result.1.now c.args.depth c.cut_at.ensures.parts c.cut_at-2.ensures.parts c.cut_at-3.ensures.parts more c.if-depth-eq0.false in
-    omega (arith, r, c.in_ok-nw.ensures.few, c.in_ok-ne.ensures.few, c.in_ok-sw.ensures.few, c.in_ok-se.ensures.few, c.in_err-corner.ensures.room)
+returns-in_err-corner-clause-few g t c = omega (arith, few g t (goal.at.returns-in_err-corner-clause-few g t c).After-cut_at-3, c.in_ok-nw.ensures.few, c.in_ok-ne.ensures.few, c.in_ok-sw.ensures.few, c.in_ok-se.ensures.few, c.in_err-corner.ensures.room)
 
 pub returns-clause-few : goal.returns-clause-few
-returns-clause-few g t c =
-    let more : 0 < length c.args.places.now = search rules in
-    let r = room_of_parts c.args.places.now c.cut_at.result.0.now c.cut_at.result.1.now c.cut_at-2.result.0.now c.cut_at-2.result.1.now c.cut_at-3.result.0.now c.cut_at-3.result.1.now c.args.depth c.cut_at.ensures.parts c.cut_at-2.ensures.parts c.cut_at-3.ensures.parts more c.if-depth-eq0.false in
-    omega (arith, r, c.in_ok-nw.ensures.few, c.in_ok-ne.ensures.few, c.in_ok-sw.ensures.few, c.in_ok-se.ensures.few, c.in_ok-corner.ensures.room)
+returns-clause-few g t c = omega (arith, few g t (goal.at.returns-clause-few g t c).After-cut_at-3, c.in_ok-nw.ensures.few, c.in_ok-ne.ensures.few, c.in_ok-sw.ensures.few, c.in_ok-se.ensures.few, c.in_ok-corner.ensures.room)
 
 -- ---- a leaf
 pub returns-in_err-leaf-clause-makes : goal.returns-in_err-leaf-clause-makes

@@ -34,7 +34,7 @@ returns-then-passes_by g t c =
 known : (g : Over) (t : ℕ) (c : After-elements-above g t) → Underway 0 (g.Q.Core.least + (c.args.depth - 1)) [] (g.Q.Core.worker c.args.q.now) (g.Q.Core.worker c.elements-above.new.q)
 known g t c = read (keeps_trans _ _ _ c.quarters.ensures.keeps c.elements-above.ensures.keeps) (omega (arith, c.quarters.ensures.room, c.elements-above.ensures.room)) (c.elements-above.ensures.misses ∙ c.quarters.ensures.misses)
 
-halves : (g : Over) (t : ℕ) (c : After-elements-above g t) → let w = g.Q.Core.worker c.quarters.new.self in let four = c.quarters.result in AreHalves (g.Q.Core.worker c.elements-above.new.q) (g.Q.Core.least + (c.args.depth - 1)) c.args.many c.elements-above.result four.0 four.2 (quad_set w four.0) (quad_set w four.2)
+halves : (g : Over) (t : ℕ) (c : After-elements-above g t) → let w = g.Q.Core.worker c.quarters.new.self in let four = c.quarters.result in AreHalves (g.Q.Core.worker c.elements-above.new.q) (g.Q.Core.least + (c.args.depth - 1)) c.args.many c.elements-above.result four.nw four.sw (quad_set w four.nw) (quad_set w four.sw)
 halves g t c = halves_first _ _ _ g.Q.Core.least c.args.depth c.args.many c.elements-above.result c.args.vector c.quarters.result c.if-depth-eq0.false c.requires.height c.quarters.ensures.quarters c.requires.many c.elements-above.ensures.count c.elements-above.ensures.keeps
 
 pub ranks-requires : goal.ranks-requires
@@ -142,7 +142,7 @@ returns-then-above-half g t c =
     let four = c.quarters.result in
     let p2 = halves g t at in
     let p5 = halves_later _ _ _ _ _ _ _ _ _ c.in_ok-sw.ensures.keeps (halves_later _ _ _ _ _ _ _ _ _ c.in_ok-ne.ensures.keeps (halves_later _ _ _ _ _ _ _ _ _ c.in_ok-nw.ensures.keeps p2)) in
-    let one = one_quad four.2 four.0 (let a = p2.upper_height in let b = p2.lower_height in omega (arith, a, b)) c.if-lower-upper.true in
+    let one = one_quad four.sw four.nw (let a = p2.upper_height in let b = p2.lower_height in omega (arith, a, b)) c.if-lower-upper.true in
     let same = ap first_column (p2.upper_is ∙ ap (quad_set w1) (sym one) ∙ sym p5.lower_is) in
     let se = ranks_again _ _ _ d c.args.row c.args.before c.side_of-half.result c.elements-above.result _ _ c.in_ok-nw.nw c.if-above-half.true same c.in_ok-nw.ensures.value c.in_ok-ne.ensures.keeps c.in_ok-sw.ensures.keeps in
     let given = ranks_given _ _ _ _ _ _ _ _ g.Q.Core.least c.args.depth c.args.many c.args.row c.args.before c.side_of-half.result c.elements-above.result c.args.vector four _ _ _ _ _ c.if-depth-eq0.false c.requires.height

@@ -1,51 +1,21 @@
-use Rattle.std.proofs.Common.{◌∙◌, ℕ, sym, arith}
-use Rattle.rel_model.specs.Worker.{height_of_three}
-use Rattle.rel_model.proofs.Rooms.{operator_room-most, derived_room-least, derived_room-most, bounds_room-two}
-use Rattle.rel_steps.proofs.Rooms.{as_high}
+use Rattle.std.proofs.Common.{◌∙◌, sym, ap, arith}
 use Rattle.rel_model.specs.Algebra.{HasType}
-use Rattle.rel_model.specs.Worker.{set_of}
-use Rattle.rel_order.proofs.Calling.{lower_given}
+use Rattle.rel_model.specs.Worker.{set_of, derived_room}
+use Rattle.rel_order.proofs.Calling.{lower_given, bound_rooms}
 use Rattle.rel_order.proofs.bounds.lbd.Goals as goal
 
 pub returns-in_err-s_turned-clause-room : goal.returns-in_err-s_turned-clause-room
-returns-in_err-s_turned-clause-room g c =
-    let k : ℕ = c.args.r.rows in
-    let m : ℕ = c.args.r.cols in
-    let n : ℕ = c.args.s.cols in
-    let h : ℕ = height_of_three k m n in
-    let least = derived_room-least k m n in
-    let two = bounds_room-two k m n in
-    let a0 = c.in_err-s_turned.ensures.room in
-    let u00 = operator_room-most c.args.s.rows n h (as_high c.args.s.rows k h (sym c.requires.rows) (omega arith)) (omega arith) in
-    omega (arith, least, two, a0, u00)
+returns-in_err-s_turned-clause-room g c = omega (arith, bound_rooms c.args.r c.args.s c.requires.rows, c.in_err-s_turned.ensures.room)
 
 pub returns-in_err-bounds-clause-room : goal.returns-in_err-bounds-clause-room
 returns-in_err-bounds-clause-room g c =
-    let k : ℕ = c.args.r.rows in
-    let m : ℕ = c.args.r.cols in
-    let n : ℕ = c.args.s.cols in
-    let h : ℕ = height_of_three k m n in
-    let least = derived_room-least k m n in
-    let two = bounds_room-two k m n in
-    let a0 = c.in_ok-s_turned.ensures.room in
-    let u00 = operator_room-most c.args.s.rows n h (as_high c.args.s.rows k h (sym c.requires.rows) (omega arith)) (omega arith) in
-    let a1 = c.in_err-bounds.ensures.room in
-    let u10 = derived_room-most k m c.in_ok-s_turned.s_turned.rows k m n (omega arith) (omega arith) (as_high _ n h c.in_ok-s_turned.ensures.value.row_size (omega arith)) in
-    omega (arith, least, two, a0, u00, a1, u10)
+    let e = ap (derived_room c.args.r.rows c.args.r.cols) c.in_ok-s_turned.ensures.value.row_size in
+    omega (arith, bound_rooms c.args.r c.args.s c.requires.rows, e, c.in_ok-s_turned.ensures.room, c.in_err-bounds.ensures.room)
 
 pub returns-clause-room : goal.returns-clause-room
 returns-clause-room g c =
-    let k : ℕ = c.args.r.rows in
-    let m : ℕ = c.args.r.cols in
-    let n : ℕ = c.args.s.cols in
-    let h : ℕ = height_of_three k m n in
-    let least = derived_room-least k m n in
-    let two = bounds_room-two k m n in
-    let a0 = c.in_ok-s_turned.ensures.room in
-    let u00 = operator_room-most c.args.s.rows n h (as_high c.args.s.rows k h (sym c.requires.rows) (omega arith)) (omega arith) in
-    let a1 = c.in_ok-bounds.ensures.room in
-    let u10 = derived_room-most k m c.in_ok-s_turned.s_turned.rows k m n (omega arith) (omega arith) (as_high _ n h c.in_ok-s_turned.ensures.value.row_size (omega arith)) in
-    omega (arith, least, two, a0, u00, a1, u10)
+    let e = ap (derived_room c.args.r.rows c.args.r.cols) c.in_ok-s_turned.ensures.value.row_size in
+    omega (arith, bound_rooms c.args.r c.args.s c.requires.rows, e, c.in_ok-s_turned.ensures.room, c.in_ok-bounds.ensures.room)
 
 pub returns-clause-value : goal.returns-clause-value
 returns-clause-value g c =

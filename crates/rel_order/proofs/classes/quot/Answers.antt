@@ -1,112 +1,44 @@
-use Rattle.std.proofs.Common.{◌∙◌, ℕ, sym, arith}
-use Rattle.rel_model.specs.Worker.{height_of_three}
-use Rattle.rel_model.proofs.Rooms.{operator_room-most, product_room-most, derived_room-least, derived_room-most, wide_room-four, classes_room-sixteen}
-use Rattle.rel_steps.proofs.Rooms.{as_high}
+use Rattle.std.proofs.Common.{◌≤◌, ◌≡◌, ◌∙◌, ℕ, sym, arith}
 use Rattle.rel_model.specs.Algebra.{HasType}
-use Rattle.rel_model.specs.Worker.{set_of}
+use Rattle.rel_model.specs.Worker.{set_of, height_of, height_of_three}
+use Rattle.rel_model.proofs.Rooms.{classes_room-sixteen, wide_room-four}
 use Rattle.rel_model.proofs.Workers.{gives_stands}
-use Rattle.rel_order.proofs.Calling.{classes_given, fewer_high, one_high}
+use Rattle.rel_steps.proofs.Rooms.{as_high}
+use Rattle.rel_order.proofs.Calling.{classes_given, fewer_high, alike_rooms, numbers_room, numbered_room, found_room}
+use Rattle.rel_order.proofs.classes.quot.Given.{Over}
+use Rattle.rel_order.proofs.classes.quot.Goals.{In_ok-least, In_ok-numbers}
 use Rattle.rel_order.proofs.classes.quot.Goals as goal
 
+-- ---- sizes on the way
+many : (g : Over) (c : In_ok-least g) → c.in_ok-least.least.rows ≡ c.args.r.cols
+many g c = c.in_ok-least.ensures.value.row_size ∙ c.in_ok-alike.ensures.value.row_size
+
+few : (g : Over) (c : In_ok-numbers g) → height_of c.in_ok-numbers.numbers.rows ≤ height_of_three c.args.r.rows c.args.r.cols c.args.r.cols
+few g c =
+    let h : ℕ = height_of_three c.args.r.rows c.args.r.cols c.args.r.cols in
+    let n : ℕ = c.in_ok-least.least.rows in
+    let s = gives_stands (g.Q.Core.worker c.leaders.new.q) _ _ _ c.in_ok-least.least c.in_ok-least.ensures.value in
+    let e : n ≡ c.args.r.cols = c.in_ok-least.ensures.value.row_size ∙ c.in_ok-alike.ensures.value.row_size in
+    as_high _ _ h c.in_ok-numbers.ensures.value.row_size (fewer_high n h _ (g.met.Q.Core.row_limit c.leaders.new.q c.in_ok-least.least s) (as_high n c.args.r.cols h e (omega arith)))
+
+-- ---- rooms
 pub returns-in_err-alike-clause-room : goal.returns-in_err-alike-clause-room
-returns-in_err-alike-clause-room g c =
-    let k : ℕ = c.args.r.rows in
-    let m : ℕ = c.args.r.cols in
-    let n : ℕ = c.args.r.cols in
-    let h : ℕ = height_of_three k m n in
-    let small = derived_room-least k m n in
-    let four = wide_room-four k m n in
-    let sixteen = classes_room-sixteen k m n in
-    let a0 = c.in_err-alike.ensures.room in
-    omega (arith, small, four, sixteen, a0)
+returns-in_err-alike-clause-room g c = omega (arith, classes_room-sixteen c.args.r.rows c.args.r.cols c.args.r.cols, wide_room-four c.args.r.rows c.args.r.cols c.args.r.cols, c.in_err-alike.ensures.room)
 
 pub returns-in_err-least-clause-room : goal.returns-in_err-least-clause-room
-returns-in_err-least-clause-room g c =
-    let k : ℕ = c.args.r.rows in
-    let m : ℕ = c.args.r.cols in
-    let n : ℕ = c.args.r.cols in
-    let h : ℕ = height_of_three k m n in
-    let small = derived_room-least k m n in
-    let four = wide_room-four k m n in
-    let sixteen = classes_room-sixteen k m n in
-    let a0 = c.in_ok-alike.ensures.room in
-    let a1 = c.in_err-least.ensures.room in
-    let u10 = derived_room-most c.in_ok-alike.alike.rows c.in_ok-alike.alike.cols c.in_ok-alike.alike.cols k m n (as_high _ m h c.in_ok-alike.ensures.value.row_size (omega arith)) (as_high _ m h c.in_ok-alike.ensures.value.col_size (omega arith)) (as_high _ m h c.in_ok-alike.ensures.value.col_size (omega arith)) in
-    omega (arith, small, four, sixteen, a0, a1, u10)
+returns-in_err-least-clause-room g c = omega (arith, alike_rooms c.args.r.rows c.args.r.cols c.in_ok-alike.alike c.in_ok-alike.ensures.value.row_size c.in_ok-alike.ensures.value.col_size, c.in_ok-alike.ensures.room, c.in_err-least.ensures.room)
 
 pub returns-in_err-numbers-clause-room : goal.returns-in_err-numbers-clause-room
-returns-in_err-numbers-clause-room g c =
-    let k : ℕ = c.args.r.rows in
-    let m : ℕ = c.args.r.cols in
-    let n : ℕ = c.args.r.cols in
-    let h : ℕ = height_of_three k m n in
-    let small = derived_room-least k m n in
-    let four = wide_room-four k m n in
-    let sixteen = classes_room-sixteen k m n in
-    let a0 = c.in_ok-alike.ensures.room in
-    let a1 = c.in_ok-least.ensures.room in
-    let u10 = derived_room-most c.in_ok-alike.alike.rows c.in_ok-alike.alike.cols c.in_ok-alike.alike.cols k m n (as_high _ m h c.in_ok-alike.ensures.value.row_size (omega arith)) (as_high _ m h c.in_ok-alike.ensures.value.col_size (omega arith)) (as_high _ m h c.in_ok-alike.ensures.value.col_size (omega arith)) in
-    let a2 = c.in_err-numbers.ensures.room in
-    let u20 = derived_room-most c.in_ok-least.least.rows c.in_ok-least.least.cols c.in_ok-least.least.cols k m n (as_high _ m h (c.in_ok-least.ensures.value.row_size ∙ c.in_ok-alike.ensures.value.row_size) (omega arith)) (as_high _ 1 h c.in_ok-least.ensures.value.col_size (one_high h)) (as_high _ 1 h c.in_ok-least.ensures.value.col_size (one_high h)) in
-    omega (arith, small, four, sixteen, a0, a1, u10, a2, u20)
+returns-in_err-numbers-clause-room g c = omega (arith, alike_rooms c.args.r.rows c.args.r.cols c.in_ok-alike.alike c.in_ok-alike.ensures.value.row_size c.in_ok-alike.ensures.value.col_size, numbers_room c.args.r.rows c.args.r.cols c.in_ok-least.least (many g (goal.at.returns-in_err-numbers-clause-room g c).In_ok-least) c.in_ok-least.ensures.value.col_size, c.in_ok-alike.ensures.room, c.in_ok-least.ensures.room, c.in_err-numbers.ensures.room)
 
 pub returns-in_err-numbered-clause-room : goal.returns-in_err-numbered-clause-room
-returns-in_err-numbered-clause-room g c =
-    let k : ℕ = c.args.r.rows in
-    let m : ℕ = c.args.r.cols in
-    let n : ℕ = c.args.r.cols in
-    let h : ℕ = height_of_three k m n in
-    let small = derived_room-least k m n in
-    let four = wide_room-four k m n in
-    let sixteen = classes_room-sixteen k m n in
-    let a0 = c.in_ok-alike.ensures.room in
-    let a1 = c.in_ok-least.ensures.room in
-    let u10 = derived_room-most c.in_ok-alike.alike.rows c.in_ok-alike.alike.cols c.in_ok-alike.alike.cols k m n (as_high _ m h c.in_ok-alike.ensures.value.row_size (omega arith)) (as_high _ m h c.in_ok-alike.ensures.value.col_size (omega arith)) (as_high _ m h c.in_ok-alike.ensures.value.col_size (omega arith)) in
-    let a2 = c.in_ok-numbers.ensures.room in
-    let u20 = derived_room-most c.in_ok-least.least.rows c.in_ok-least.least.cols c.in_ok-least.least.cols k m n (as_high _ m h (c.in_ok-least.ensures.value.row_size ∙ c.in_ok-alike.ensures.value.row_size) (omega arith)) (as_high _ 1 h c.in_ok-least.ensures.value.col_size (one_high h)) (as_high _ 1 h c.in_ok-least.ensures.value.col_size (one_high h)) in
-    let a3 = c.in_err-numbered.ensures.room in
-    let u30 = operator_room-most c.in_ok-numbers.numbers.rows c.in_ok-numbers.numbers.cols h (as_high _ _ h c.in_ok-numbers.ensures.value.row_size (fewer_high c.in_ok-least.least.rows h _ (g.met.Q.Core.row_limit c.leaders.new.q c.in_ok-least.least (gives_stands (g.Q.Core.worker c.leaders.new.q) _ _ _ c.in_ok-least.least c.in_ok-least.ensures.value)) (as_high _ m h (c.in_ok-least.ensures.value.row_size ∙ c.in_ok-alike.ensures.value.row_size) (omega arith)))) (as_high _ c.in_ok-least.least.rows h c.in_ok-numbers.ensures.value.col_size (as_high _ m h (c.in_ok-least.ensures.value.row_size ∙ c.in_ok-alike.ensures.value.row_size) (omega arith))) in
-    omega (arith, small, four, sixteen, a0, a1, u10, a2, u20, a3, u30)
+returns-in_err-numbered-clause-room g c = omega (arith, alike_rooms c.args.r.rows c.args.r.cols c.in_ok-alike.alike c.in_ok-alike.ensures.value.row_size c.in_ok-alike.ensures.value.col_size, numbers_room c.args.r.rows c.args.r.cols c.in_ok-least.least (many g (goal.at.returns-in_err-numbered-clause-room g c).In_ok-least) c.in_ok-least.ensures.value.col_size, numbered_room c.args.r.rows c.args.r.cols c.in_ok-numbers.numbers (few g (goal.at.returns-in_err-numbered-clause-room g c).In_ok-numbers) (c.in_ok-numbers.ensures.value.col_size ∙ many g (goal.at.returns-in_err-numbered-clause-room g c).In_ok-least), c.in_ok-alike.ensures.room, c.in_ok-least.ensures.room, c.in_ok-numbers.ensures.room, c.in_err-numbered.ensures.room)
 
 pub returns-in_err-found-clause-room : goal.returns-in_err-found-clause-room
-returns-in_err-found-clause-room g c =
-    let k : ℕ = c.args.r.rows in
-    let m : ℕ = c.args.r.cols in
-    let n : ℕ = c.args.r.cols in
-    let h : ℕ = height_of_three k m n in
-    let small = derived_room-least k m n in
-    let four = wide_room-four k m n in
-    let sixteen = classes_room-sixteen k m n in
-    let a0 = c.in_ok-alike.ensures.room in
-    let a1 = c.in_ok-least.ensures.room in
-    let u10 = derived_room-most c.in_ok-alike.alike.rows c.in_ok-alike.alike.cols c.in_ok-alike.alike.cols k m n (as_high _ m h c.in_ok-alike.ensures.value.row_size (omega arith)) (as_high _ m h c.in_ok-alike.ensures.value.col_size (omega arith)) (as_high _ m h c.in_ok-alike.ensures.value.col_size (omega arith)) in
-    let a2 = c.in_ok-numbers.ensures.room in
-    let u20 = derived_room-most c.in_ok-least.least.rows c.in_ok-least.least.cols c.in_ok-least.least.cols k m n (as_high _ m h (c.in_ok-least.ensures.value.row_size ∙ c.in_ok-alike.ensures.value.row_size) (omega arith)) (as_high _ 1 h c.in_ok-least.ensures.value.col_size (one_high h)) (as_high _ 1 h c.in_ok-least.ensures.value.col_size (one_high h)) in
-    let a3 = c.in_ok-numbered.ensures.room in
-    let u30 = operator_room-most c.in_ok-numbers.numbers.rows c.in_ok-numbers.numbers.cols h (as_high _ _ h c.in_ok-numbers.ensures.value.row_size (fewer_high c.in_ok-least.least.rows h _ (g.met.Q.Core.row_limit c.leaders.new.q c.in_ok-least.least (gives_stands (g.Q.Core.worker c.leaders.new.q) _ _ _ c.in_ok-least.least c.in_ok-least.ensures.value)) (as_high _ m h (c.in_ok-least.ensures.value.row_size ∙ c.in_ok-alike.ensures.value.row_size) (omega arith)))) (as_high _ c.in_ok-least.least.rows h c.in_ok-numbers.ensures.value.col_size (as_high _ m h (c.in_ok-least.ensures.value.row_size ∙ c.in_ok-alike.ensures.value.row_size) (omega arith))) in
-    let a4 = c.in_err-found.ensures.room in
-    let u40 = product_room-most c.in_ok-alike.alike.rows c.in_ok-alike.alike.cols c.in_ok-numbered.numbered.cols h (as_high _ m h c.in_ok-alike.ensures.value.row_size (omega arith)) (as_high _ m h c.in_ok-alike.ensures.value.col_size (omega arith)) (as_high _ _ h (c.in_ok-numbered.ensures.value.col_size ∙ c.in_ok-numbers.ensures.value.row_size) (fewer_high c.in_ok-least.least.rows h _ (g.met.Q.Core.row_limit c.leaders.new.q c.in_ok-least.least (gives_stands (g.Q.Core.worker c.leaders.new.q) _ _ _ c.in_ok-least.least c.in_ok-least.ensures.value)) (as_high _ m h (c.in_ok-least.ensures.value.row_size ∙ c.in_ok-alike.ensures.value.row_size) (omega arith)))) in
-    omega (arith, small, four, sixteen, a0, a1, u10, a2, u20, a3, u30, a4, u40)
+returns-in_err-found-clause-room g c = omega (arith, alike_rooms c.args.r.rows c.args.r.cols c.in_ok-alike.alike c.in_ok-alike.ensures.value.row_size c.in_ok-alike.ensures.value.col_size, numbers_room c.args.r.rows c.args.r.cols c.in_ok-least.least (many g (goal.at.returns-in_err-found-clause-room g c).In_ok-least) c.in_ok-least.ensures.value.col_size, numbered_room c.args.r.rows c.args.r.cols c.in_ok-numbers.numbers (few g (goal.at.returns-in_err-found-clause-room g c).In_ok-numbers) (c.in_ok-numbers.ensures.value.col_size ∙ many g (goal.at.returns-in_err-found-clause-room g c).In_ok-least), found_room c.args.r.rows c.args.r.cols _ c.in_ok-alike.alike c.in_ok-numbered.numbered c.in_ok-alike.ensures.value.row_size c.in_ok-alike.ensures.value.col_size (few g (goal.at.returns-in_err-found-clause-room g c).In_ok-numbers) (c.in_ok-numbered.ensures.value.col_size), c.in_ok-alike.ensures.room, c.in_ok-least.ensures.room, c.in_ok-numbers.ensures.room, c.in_ok-numbered.ensures.room, c.in_err-found.ensures.room)
 
 pub returns-clause-room : goal.returns-clause-room
-returns-clause-room g c =
-    let k : ℕ = c.args.r.rows in
-    let m : ℕ = c.args.r.cols in
-    let n : ℕ = c.args.r.cols in
-    let h : ℕ = height_of_three k m n in
-    let small = derived_room-least k m n in
-    let four = wide_room-four k m n in
-    let sixteen = classes_room-sixteen k m n in
-    let a0 = c.in_ok-alike.ensures.room in
-    let a1 = c.in_ok-least.ensures.room in
-    let u10 = derived_room-most c.in_ok-alike.alike.rows c.in_ok-alike.alike.cols c.in_ok-alike.alike.cols k m n (as_high _ m h c.in_ok-alike.ensures.value.row_size (omega arith)) (as_high _ m h c.in_ok-alike.ensures.value.col_size (omega arith)) (as_high _ m h c.in_ok-alike.ensures.value.col_size (omega arith)) in
-    let a2 = c.in_ok-numbers.ensures.room in
-    let u20 = derived_room-most c.in_ok-least.least.rows c.in_ok-least.least.cols c.in_ok-least.least.cols k m n (as_high _ m h (c.in_ok-least.ensures.value.row_size ∙ c.in_ok-alike.ensures.value.row_size) (omega arith)) (as_high _ 1 h c.in_ok-least.ensures.value.col_size (one_high h)) (as_high _ 1 h c.in_ok-least.ensures.value.col_size (one_high h)) in
-    let a3 = c.in_ok-numbered.ensures.room in
-    let u30 = operator_room-most c.in_ok-numbers.numbers.rows c.in_ok-numbers.numbers.cols h (as_high _ _ h c.in_ok-numbers.ensures.value.row_size (fewer_high c.in_ok-least.least.rows h _ (g.met.Q.Core.row_limit c.leaders.new.q c.in_ok-least.least (gives_stands (g.Q.Core.worker c.leaders.new.q) _ _ _ c.in_ok-least.least c.in_ok-least.ensures.value)) (as_high _ m h (c.in_ok-least.ensures.value.row_size ∙ c.in_ok-alike.ensures.value.row_size) (omega arith)))) (as_high _ c.in_ok-least.least.rows h c.in_ok-numbers.ensures.value.col_size (as_high _ m h (c.in_ok-least.ensures.value.row_size ∙ c.in_ok-alike.ensures.value.row_size) (omega arith))) in
-    let a4 = c.in_ok-found.ensures.room in
-    let u40 = product_room-most c.in_ok-alike.alike.rows c.in_ok-alike.alike.cols c.in_ok-numbered.numbered.cols h (as_high _ m h c.in_ok-alike.ensures.value.row_size (omega arith)) (as_high _ m h c.in_ok-alike.ensures.value.col_size (omega arith)) (as_high _ _ h (c.in_ok-numbered.ensures.value.col_size ∙ c.in_ok-numbers.ensures.value.row_size) (fewer_high c.in_ok-least.least.rows h _ (g.met.Q.Core.row_limit c.leaders.new.q c.in_ok-least.least (gives_stands (g.Q.Core.worker c.leaders.new.q) _ _ _ c.in_ok-least.least c.in_ok-least.ensures.value)) (as_high _ m h (c.in_ok-least.ensures.value.row_size ∙ c.in_ok-alike.ensures.value.row_size) (omega arith)))) in
-    omega (arith, small, four, sixteen, a0, a1, u10, a2, u20, a3, u30, a4, u40)
+returns-clause-room g c = omega (arith, alike_rooms c.args.r.rows c.args.r.cols c.in_ok-alike.alike c.in_ok-alike.ensures.value.row_size c.in_ok-alike.ensures.value.col_size, numbers_room c.args.r.rows c.args.r.cols c.in_ok-least.least (many g (goal.at.returns-clause-room g c).In_ok-least) c.in_ok-least.ensures.value.col_size, numbered_room c.args.r.rows c.args.r.cols c.in_ok-numbers.numbers (few g (goal.at.returns-clause-room g c).In_ok-numbers) (c.in_ok-numbers.ensures.value.col_size ∙ many g (goal.at.returns-clause-room g c).In_ok-least), found_room c.args.r.rows c.args.r.cols _ c.in_ok-alike.alike c.in_ok-numbered.numbered c.in_ok-alike.ensures.value.row_size c.in_ok-alike.ensures.value.col_size (few g (goal.at.returns-clause-room g c).In_ok-numbers) (c.in_ok-numbered.ensures.value.col_size), c.in_ok-alike.ensures.room, c.in_ok-least.ensures.room, c.in_ok-numbers.ensures.room, c.in_ok-numbered.ensures.room, c.in_ok-found.ensures.room)
 
 pub returns-clause-value : goal.returns-clause-value
 returns-clause-value g c =

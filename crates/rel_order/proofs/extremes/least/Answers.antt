@@ -1,51 +1,17 @@
-use Rattle.std.proofs.Common.{ℕ, sym, arith}
-use Rattle.rel_model.specs.Worker.{height_of_three}
-use Rattle.rel_model.proofs.Rooms.{operator_room-most, derived_room-least, wide_room-four, bounds_room-two}
-use Rattle.rel_steps.proofs.Rooms.{as_high}
+use Rattle.std.proofs.Common.{arith}
 use Rattle.rel_model.specs.Worker.{set_of}
 use Rattle.rel_model.specs.Orders.{lower_bounds}
-use Rattle.rel_order.proofs.Calling.{among_given}
+use Rattle.rel_order.proofs.Calling.{among_given, among_rooms}
 use Rattle.rel_order.proofs.extremes.least.Goals as goal
 
 pub returns-in_err-below-clause-room : goal.returns-in_err-below-clause-room
-returns-in_err-below-clause-room g c =
-    let k : ℕ = c.args.r.rows in
-    let m : ℕ = c.args.r.cols in
-    let n : ℕ = c.args.s.cols in
-    let h : ℕ = height_of_three k m n in
-    let least = derived_room-least k m n in
-    let two = bounds_room-two k m n in
-    let four = wide_room-four k m n in
-    let a0 = c.in_err-below.ensures.room in
-    omega (arith, least, two, four, a0)
+returns-in_err-below-clause-room g c = omega (arith, among_rooms c.args.r c.args.s c.requires.rows, c.in_err-below.ensures.room)
 
 pub returns-in_err-found-clause-room : goal.returns-in_err-found-clause-room
-returns-in_err-found-clause-room g c =
-    let k : ℕ = c.args.r.rows in
-    let m : ℕ = c.args.r.cols in
-    let n : ℕ = c.args.s.cols in
-    let h : ℕ = height_of_three k m n in
-    let least = derived_room-least k m n in
-    let two = bounds_room-two k m n in
-    let four = wide_room-four k m n in
-    let a0 = c.in_ok-below.ensures.room in
-    let a1 = c.in_err-found.ensures.room in
-    let u10 = operator_room-most c.args.s.rows n h (as_high c.args.s.rows k h (sym c.requires.rows) (omega arith)) (omega arith) in
-    omega (arith, least, two, four, a0, a1, u10)
+returns-in_err-found-clause-room g c = omega (arith, among_rooms c.args.r c.args.s c.requires.rows, c.in_ok-below.ensures.room, c.in_err-found.ensures.room)
 
 pub returns-clause-room : goal.returns-clause-room
-returns-clause-room g c =
-    let k : ℕ = c.args.r.rows in
-    let m : ℕ = c.args.r.cols in
-    let n : ℕ = c.args.s.cols in
-    let h : ℕ = height_of_three k m n in
-    let least = derived_room-least k m n in
-    let two = bounds_room-two k m n in
-    let four = wide_room-four k m n in
-    let a0 = c.in_ok-below.ensures.room in
-    let a1 = c.in_ok-found.ensures.room in
-    let u10 = operator_room-most c.args.s.rows n h (as_high c.args.s.rows k h (sym c.requires.rows) (omega arith)) (omega arith) in
-    omega (arith, least, two, four, a0, a1, u10)
+returns-clause-room g c = omega (arith, among_rooms c.args.r c.args.s c.requires.rows, c.in_ok-below.ensures.room, c.in_ok-found.ensures.room)
 
 pub returns-clause-value : goal.returns-clause-value
 unfolding Rattle.rel_model.specs.Orders.least

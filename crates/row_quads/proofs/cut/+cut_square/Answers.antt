@@ -1,8 +1,8 @@
-use Rattle.std.proofs.Common.{◌≡◌, ◌<◌, ◌+◌, ◌-◌, length, inl, inr, refl, ◌∙◌, arith}
+use Rattle.std.proofs.Common.{◌≡◌, ◌<◌, ◌+◌, ◌-◌, length, ◌∙◌, arith}
 use Rattle.std.proofs.lemmas.Grind.{common_steps}
 use Rattle.bit_rows.specs.Rows.{rows_cells}
 use Rattle.tree_blocks.proofs.Counting.{room_below}
-use Rattle.row_quads.proofs.Placing.{fits, side_of-bottom}
+use Rattle.row_quads.proofs.Placing.{four_fit, side_of-bottom}
 use Rattle.row_quads.proofs.Cutting.{at_bottom, over_bottom, place_in, places_in, cut_value, cut_rest, block_value, block_rest}
 use Rattle.row_quads.proofs.cut.+cut_square.Goals as goal
 
@@ -80,7 +80,7 @@ cut_square-requires t c =
     let l = c.requires.high in
     let falls : c.args.height - 1 < t = omega arith in
     let one : c.args.height - 1 + 1 ≡ c.args.height = omega arith in
-    let f = fits c.args.height (c.args.height - 1) (c.args.height - 1) c.side_of_height-half.result c.args.row c.args.col c.args.row c.args.col over one one c.side_of_height-half.ensures c.requires.row_in c.requires.col_in c.requires.col_on (inl refl) (inl refl) in
+    let f = (four_fit _ _ _ _ _ c.side_of_height-half.result c.args.row c.args.col over one one one one c.side_of_height-half.ensures c.requires.row_in c.requires.col_in c.requires.col_on).nw in
     let x = room_below (c.args.k + 1) c.args.height (length c.args.blocks.now) over c.requires.room in
     (falls, (c.requires.z_len, (omega arith, (omega arith, (f.row_in, (f.col_in, (f.col_on, omega (arith, x))))))))
 
@@ -90,7 +90,7 @@ cut_square-requires-2 t c =
     let l = c.requires.high in
     let falls : c.args.height - 1 < t = omega arith in
     let one : c.args.height - 1 + 1 ≡ c.args.height = omega arith in
-    let f = fits c.args.height (c.args.height - 1) (c.args.height - 1) c.side_of_height-half.result c.args.row c.args.col c.args.row (c.args.col + c.side_of_height-half.result) over one one c.side_of_height-half.ensures c.requires.row_in c.requires.col_in c.requires.col_on (inl refl) (inr refl) in
+    let f = (four_fit _ _ _ _ _ c.side_of_height-half.result c.args.row c.args.col over one one one one c.side_of_height-half.ensures c.requires.row_in c.requires.col_in c.requires.col_on).ne in
     let x = room_below (c.args.k + 1) c.args.height (length c.args.blocks.now) over c.requires.room in
     let y = c.cut_square.ensures.len in
     (falls, (c.requires.z_len, (omega arith, (omega arith, (f.row_in, (f.col_in, (f.col_on, omega (arith, x, y))))))))
@@ -101,7 +101,7 @@ cut_square-requires-3 t c =
     let l = c.requires.high in
     let falls : c.args.height - 1 < t = omega arith in
     let one : c.args.height - 1 + 1 ≡ c.args.height = omega arith in
-    let f = fits c.args.height (c.args.height - 1) (c.args.height - 1) c.side_of_height-half.result c.args.row c.args.col (c.args.row + c.side_of_height-half.result) c.args.col over one one c.side_of_height-half.ensures c.requires.row_in c.requires.col_in c.requires.col_on (inr refl) (inl refl) in
+    let f = (four_fit _ _ _ _ _ c.side_of_height-half.result c.args.row c.args.col over one one one one c.side_of_height-half.ensures c.requires.row_in c.requires.col_in c.requires.col_on).sw in
     let x = room_below (c.args.k + 1) c.args.height (length c.args.blocks.now) over c.requires.room in
     let y = c.cut_square-2.ensures.len ∙ c.cut_square.ensures.len in
     (falls, (c.requires.z_len, (omega arith, (omega arith, (f.row_in, (f.col_in, (f.col_on, omega (arith, x, y))))))))
@@ -112,7 +112,7 @@ cut_square-requires-4 t c =
     let l = c.requires.high in
     let falls : c.args.height - 1 < t = omega arith in
     let one : c.args.height - 1 + 1 ≡ c.args.height = omega arith in
-    let f = fits c.args.height (c.args.height - 1) (c.args.height - 1) c.side_of_height-half.result c.args.row c.args.col (c.args.row + c.side_of_height-half.result) (c.args.col + c.side_of_height-half.result) over one one c.side_of_height-half.ensures c.requires.row_in c.requires.col_in c.requires.col_on (inr refl) (inr refl) in
+    let f = (four_fit _ _ _ _ _ c.side_of_height-half.result c.args.row c.args.col over one one one one c.side_of_height-half.ensures c.requires.row_in c.requires.col_in c.requires.col_on).se in
     let x = room_below (c.args.k + 1) c.args.height (length c.args.blocks.now) over c.requires.room in
     let y = c.cut_square-3.ensures.len ∙ c.cut_square-2.ensures.len ∙ c.cut_square.ensures.len in
     (falls, (c.requires.z_len, (omega arith, (omega arith, (f.row_in, (f.col_in, (f.col_on, omega (arith, x, y))))))))

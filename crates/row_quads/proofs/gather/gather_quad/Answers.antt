@@ -23,7 +23,7 @@ pub returns-then-is_clear : goal.returns-then-is_clear
 returns-then-is_clear c =
     let i = c.bottom.ensures.work in
     made_is (reads_itself c.args.nodes.now i)
-    (clear_value c.args.nodes.now c.args.height c.args.row c.args.col c.side_of_height-side.result (rows_cells c.args.z.now) i c.requires.low c.requires.high c.side_of_height-side.ensures (c.is_clear.ensures c.if-is_clear.true))
+    (clear_value c.args.nodes.now c.args.height c.args.row c.args.col c.side_of_height-side.result (rows_cells c.args.z.now) c.empty.result i c.requires.low c.requires.high c.side_of_height-side.ensures (c.is_clear.ensures c.if-is_clear.true) c.empty.ensures)
 
 -- ---- the blocks of a square
 pub cut_square-requires-clause-room : goal.cut_square-requires-clause-room

@@ -2,7 +2,8 @@ use Rattle.std.proofs.Common.{◌≤◌, sym, subst, ap, arith}
 use Rattle.bit_rows.specs.Rows.{rows_cells}
 use Rattle.rel_model.specs.Equations.{side_of}
 use Rattle.rel_model.specs.Quads.{quad_cells}
-use Rattle.rel_model.proofs.QuadLaws.{keeps_on, keeps_itself, quad_stays, reads_on}
+use Rattle.rel_model.proofs.QuadLaws.{keeps_on, keeps_itself, quad_stays}
+use Rattle.row_quads.proofs.Reading.{reads_four}
 use Rattle.row_quads.proofs.Adding.{none_times, quads_added}
 use Rattle.row_quads.proofs.squares.add_four_products.Goals as goal
 
@@ -62,10 +63,7 @@ add_times-requires-2-clause-stands c =
     quad_stays 0 s0 c.add_times.new.nodes c.args.row.1 k3 c.requires.stand.east
 
 pub returns-clause-reads : goal.returns-clause-reads
-returns-clause-reads c =
-    let k1 = reads_on c.args.nodes.now c.spill_quad.new.nodes c.spill_quad-2.new.nodes c.spill_quad.ensures.reads c.spill_quad-2.ensures.reads in
-    let k2 = reads_on c.args.nodes.now c.spill_quad-2.new.nodes c.add_times.new.nodes k1 c.add_times.ensures.reads in
-    reads_on c.args.nodes.now c.add_times.new.nodes c.add_times-2.new.nodes k2 c.add_times-2.ensures.reads
+returns-clause-reads c = reads_four c.spill_quad.ensures.reads c.spill_quad-2.ensures.reads c.add_times.ensures.reads c.add_times-2.ensures.reads
 
 pub add_times-requires-clause-upper_len : goal.add_times-requires-clause-upper_len
 add_times-requires-clause-upper_len c = c.spill_quad.ensures.len

@@ -4,11 +4,11 @@ use Rattle.rel_model.specs.Quads.{quad_cells}
 use Rattle.row_quads.proofs.Adding.{times_none, times_added}
 use Rattle.row_quads.proofs.squares.add_times.Goals as goal
 
-pub returns-then-b-eq0-clause-above : goal.returns-then-b-eq0-clause-above
-returns-then-b-eq0-clause-above c = times_none c.args.nodes.now c.args.b (length c.args.upper.now) (rows_cells c.args.upper.now) (rows_cells c.args.north.now) c.bottom.ensures.work c.requires.stands c.if-b-eq0.true
+pub returns-then-is_empty-clause-above : goal.returns-then-is_empty-clause-above
+returns-then-is_empty-clause-above c = times_none c.args.nodes.now c.args.b (length c.args.upper.now) (rows_cells c.args.upper.now) (rows_cells c.args.north.now) c.bottom.ensures.work c.requires.stands (c.is_empty.ensures.empty c.if-is_empty.true)
 
-pub returns-then-b-eq0-clause-below : goal.returns-then-b-eq0-clause-below
-returns-then-b-eq0-clause-below c = times_none c.args.nodes.now c.args.b (length c.args.lower.now) (rows_cells c.args.lower.now) (rows_cells c.args.south.now) c.bottom.ensures.work c.requires.stands c.if-b-eq0.true
+pub returns-then-is_empty-clause-below : goal.returns-then-is_empty-clause-below
+returns-then-is_empty-clause-below c = times_none c.args.nodes.now c.args.b (length c.args.lower.now) (rows_cells c.args.lower.now) (rows_cells c.args.south.now) c.bottom.ensures.work c.requires.stands (c.is_empty.ensures.empty c.if-is_empty.true)
 
 pub returns-clause-above : goal.returns-clause-above
 returns-clause-above c =

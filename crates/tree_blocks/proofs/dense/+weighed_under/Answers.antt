@@ -11,7 +11,7 @@ weighed_under-second-requires t c =
     let q = c.quarters.ensures.quarters in
     let e = q.ne_height in
     let d = c.decreases in
-    (omega (arith, e, d), (quad_stays 0 c.quarters.new.self c.weighed_under-first.new.nodes c.quarters.result.1 c.weighed_under-first.ensures.reads.keeps q.ne, c.weighed_under-first.ensures.same_places))
+    (omega (arith, e, d), (quad_stays 0 c.quarters.new.self c.weighed_under-first.new.nodes c.quarters.result.ne c.weighed_under-first.ensures.reads.keeps q.ne, c.weighed_under-first.ensures.same_places))
 
 pub weighed_under-third-requires : goal.weighed_under-third-requires
 weighed_under-third-requires t c =
@@ -19,7 +19,7 @@ weighed_under-third-requires t c =
     let e = q.sw_height in
     let d = c.decreases in
     let k = reads_on c.quarters.new.self c.weighed_under-first.new.nodes c.weighed_under-second.new.nodes c.weighed_under-first.ensures.reads c.weighed_under-second.ensures.reads in
-    (omega (arith, e, d), (quad_stays 0 c.quarters.new.self c.weighed_under-second.new.nodes c.quarters.result.2 k.keeps q.sw, c.weighed_under-second.ensures.same_places))
+    (omega (arith, e, d), (quad_stays 0 c.quarters.new.self c.weighed_under-second.new.nodes c.quarters.result.sw k.keeps q.sw, c.weighed_under-second.ensures.same_places))
 
 pub weighed_under-requires : goal.weighed_under-requires
 weighed_under-requires t c =
@@ -28,4 +28,4 @@ weighed_under-requires t c =
     let d = c.decreases in
     let j = reads_on c.quarters.new.self c.weighed_under-first.new.nodes c.weighed_under-second.new.nodes c.weighed_under-first.ensures.reads c.weighed_under-second.ensures.reads in
     let k = reads_on c.quarters.new.self c.weighed_under-second.new.nodes c.weighed_under-third.new.nodes j c.weighed_under-third.ensures.reads in
-    (omega (arith, e, d), (quad_stays 0 c.quarters.new.self c.weighed_under-third.new.nodes c.quarters.result.3 k.keeps q.se, c.weighed_under-third.ensures.same_places))
+    (omega (arith, e, d), (quad_stays 0 c.quarters.new.self c.weighed_under-third.new.nodes c.quarters.result.se k.keeps q.se, c.weighed_under-third.ensures.same_places))

@@ -16,8 +16,8 @@ returns-in-Ok-clause-closed c =
     let b : c.self.inside.table.shared.key.bits ≡ c.args.self.bits = c.self.invariant.bits_are ∙ ap (λ (t : Table). t.bits) c.self.view_is in
     let w : c.seat.inside.spare + 1 ≡ c.self.inside.seats = ap (λ (v : View). v.spare + 1) c.seat.view_is ∙ c.requires.whole ∙ sym (ap (λ (t : Table). t.seats) c.self.view_is) in
     rw (← c.seat.view_is, ← b)
-    (subst (λ (ws : List ℕ). IsClosed c.self.inside.table.shared.key.bits (view_of c.seat.inside.inner.table_id c.seat.inside.inner.me c.seat.inside.spare) ws) (sym c.in-Ok.ensures)
-    (closed_from c.seat.inside.inner.table_id c.seat.inside.inner.me c.seat.inside.spare c.self.inside.table.shared.key c.seat.inside.inner.id _ _ c.close_with-closed.ensures.values.2 c.seat.invariant (w ∙ sym e)))
+    (subst (λ (ws : List ℕ). IsClosed c.self.inside.table.shared.key.bits (view_of c.seat.inside.inner.table_id c.seat.inside.inner.me c.seat.inside.spare c.seat.inside.refused) ws) (sym c.in-Ok.ensures)
+    (closed_from c.seat.inside.inner.table_id c.seat.inside.inner.me c.seat.inside.spare c.seat.inside.refused c.self.inside.table.shared.key c.seat.inside.inner.id _ _ c.close_with-closed.ensures.values.2 c.seat.invariant (w ∙ sym e)))
 
 pub returns-in-Ok-clause-taken : goal.returns-in-Ok-clause-taken
 returns-in-Ok-clause-taken c =

@@ -1,4 +1,4 @@
-use Rattle.std.proofs.Common.{◌≡◌, ◌<◌, ◌≤◌, ◌-◌, ◌⊎◌, ◌∙◌, min, ℕ, ap, inl, inr, arith, sym, refl, subst}
+use Rattle.std.proofs.Common.{◌≡◌, ◌<◌, ◌≤◌, ◌-◌, ◌⊎◌, ◌∙◌, min, ℕ, Ok, ap, inl, inr, arith, sym, refl, subst}
 use Rattle.rel_model.specs.Trees.{bottom_height}
 use Rattle.rel_model.specs.Equations.{side_of}
 use Rattle.rel_model.specs.declared.Quad.{Quad}
@@ -15,8 +15,9 @@ rect-returns-then-rows-eq0 t c =
     let w = c.args.self.now in
     let i = c.bottom-bottom.ensures.work in
     let z : (c.args.rows ≡ 0) ⊎ (c.args.cols ≡ 0) = elim c.then-rows-eq0.branch [ rect-then-rows-eq0-via-then-rows-eq0 w ↦ inl w.if-rows-eq0.true | rect-then-rows-eq0-via-else-rows-eq0+then-cols-eq0 w ↦ inr w.if-cols-eq0.true ] in
-    let m = made_is {m = quad_room c.args.height} (reads_itself w i) (rect_none w c.args.height c.args.rows c.args.cols i c.requires.low c.requires.high z) in
-    record { value = m.value; nothing = λ y. refl; stood = m.stood; keeps = m.keeps; counts = m.counts }
+    let e : IsQuad w c.args.height (cells_rect c.args.rows c.args.cols) c.empty.result = subst (λ (q : Quad). IsQuad w c.args.height (cells_rect c.args.rows c.args.cols) q) (sym c.empty.ensures) (rect_none w c.args.height c.args.rows c.args.cols i c.requires.low c.requires.high z) in
+    let m = made_is {m = quad_room c.args.height} (reads_itself w i) e in
+    record { value = m.value; nothing = λ y. ap Ok c.empty.ensures; stood = m.stood; keeps = m.keeps; counts = m.counts }
 
 pub rect-returns-then-height-bottom-clause-keeps : goal.rect-returns-then-height-bottom-clause-keeps
 rect-returns-then-height-bottom-clause-keeps t c =

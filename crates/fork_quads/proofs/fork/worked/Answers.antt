@@ -1,7 +1,0 @@
-use Rattle.memo_laws.specs.Looking.{operator_of}
-use Rattle.rel_model.proofs.QuadLaws.{keeps_most}
-use Rattle.fork_quads.proofs.Joining.{work_room-fork}
-use Rattle.fork_quads.proofs.fork.worked.Goals as goal
-
-pub returns-then-cuts-eq0-clause-keeps : goal.returns-then-cuts-eq0-clause-keeps
-returns-then-cuts-eq0-clause-keeps g c = keeps_most _ _ c.args.nodes.now c.alone.new.nodes (work_room-fork (operator_of c.args.op) c.args.pieces.turns c.args.a.height) c.alone.ensures.keeps

@@ -1,4 +1,0 @@
-use Rattle.fork_quads.proofs.way.+met_at.Given as goal
-
-abbrev pub decreases-met_at : goal.decreases-met_at
-decreases-met_at l = l.left
