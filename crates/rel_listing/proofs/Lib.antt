@@ -1,0 +1,5 @@
+pub mod Truth
+pub mod Lists
+pub mod Strips
+pub mod Halves
+pub mod RowSteps

@@ -1,0 +1,67 @@
+//! The two halves of a strip: its northern and its southern quarters.
+ghost use Rattle.std.specs.Prelude.{◌≡◌, ◌<◌, ◌≤◌, ◌+◌, ◌^◌, ◌++◌, OnOk, []};
+ghost use Rattle.rel_model.specs.Relation.{size_limit};
+ghost use Rattle.rel_model.specs.Worker.{HasQuad};
+ghost use Rattle.rel_steps.specs.Reading.{OnlyReads};
+ghost use Rattle.rel_listing.specs.Strips.{IsStrip, kept, Halves, Quartered};
+
+use rel_model::empty::side_of;
+use rel_model::quads_trait::Quads;
+use rel_model::{NoMemory, Quad, Quarters};
+
+/// Puts the quarters, of a height, of a strip's quads into two strips, from left to right.
+pub(crate) fn halve<Q: Quads>(
+    q: &mut Q,
+    strip: &[(Quad, u32)],
+    height: u8,
+    upper: &mut Vec<(Quad, u32)>,
+    lower: &mut Vec<(Quad, u32)>,
+) -> Result<(), NoMemory>
+    requires strip { IsStrip (Q.worker q.old) (height + 1) size_limit strip.now }
+    requires low { Q.least ≤ height }
+    requires no_upper { upper.old.items ≡ [] }
+    requires no_lower { lower.old.items ≡ [] }
+    ensures halves { OnOk result
+        (Halves (Q.worker q.old) (Q.worker q.new) height strip.now upper.new.items lower.new.items) }
+    ensures reads { OnlyReads (Q.worker q.old) (Q.worker q.new) }
+{
+    'quads: for (quad, column) in strip {
+        push_quarters(q, *quad, *column, upper, lower)?;
+    }
+    Ok(())
+}
+
+/// Puts the northern quarters of a quad into one strip, and the southern ones into another.
+#[tactic(auto, using(rel_steps::proofs::Reading::reads))]
+fn push_quarters<Q: Quads>(
+    q: &mut Q,
+    quad: Quad,
+    column: u32,
+    upper: &mut Vec<(Quad, u32)>,
+    lower: &mut Vec<(Quad, u32)>,
+) -> Result<(), NoMemory>
+    requires stands { HasQuad (Q.worker q.old) quad }
+    requires over { Q.least < quad.height }
+    requires fits { column + 2 ^ quad.height ≤ size_limit }
+    ensures quarters { OnOk result (Quartered (Q.worker q.old) (Q.worker q.new) quad column
+        upper.old.items upper.new.items lower.old.items lower.new.items) }
+    ensures reads { OnlyReads (Q.worker q.old) (Q.worker q.new) }
+{
+    let Quarters { nw, ne, sw, se } = q.quarters_ahead(quad);
+    let east = column + side_of(nw.height);
+    push_quad(upper, nw, column)?;
+    push_quad(upper, ne, east)?;
+    push_quad(lower, sw, column)?;
+    push_quad(lower, se, east)
+}
+
+/// Appends a quad to a strip, unless it is empty.
+fn push_quad(strip: &mut Vec<(Quad, u32)>, quad: Quad, column: u32) -> Result<(), NoMemory>
+    ensures { OnOk result (strip.new.items ≡ strip.old.items ++ kept quad column) }
+{
+    if quad.is_empty() {
+        return Ok(());
+    }
+    strip.push((quad, column))?;
+    Ok(())
+}
