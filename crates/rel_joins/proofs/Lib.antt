@@ -1,0 +1,5 @@
+pub mod Starts
+pub mod Joins
+pub mod Products
+pub mod Reaches
+pub mod Closed

@@ -1,0 +1,14 @@
+//! Compositions and transitive closures of scattered relations by lists of pairs, over any worker that keeps trees.
+#![tactic(auto)]
+
+mod closure;
+mod counting;
+mod index;
+mod joining;
+mod paying;
+mod product;
+mod reaching;
+mod sampling;
+
+pub use closure::close_by_lists;
+pub use product::compose_by_lists;

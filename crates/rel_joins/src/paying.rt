@@ -1,0 +1,115 @@
+//! Whether lists pay. No result depends on it.
+ghost use Rattle.std.specs.Prelude.{◌≡◌, ◌<◌, true};
+ghost use Rattle.rel_model.specs.Worker.{Stands, HasQuad};
+ghost use Rattle.rel_steps.specs.Reading.{OnlyReads};
+
+use crate::counting::left_of;
+use crate::sampling::sampled;
+use rel_model::quads_trait::Quads;
+use rel_model::{Quad, Rel};
+
+/// Up to this size, the recursion on trees is fast enough.
+const SMALL: u32 = 256;
+
+/// How many pairs of an operand are listed at most.
+const MOST_LISTED: u64 = 1 << 22;
+
+/// A closure is left to trees if there are more pairs than this for each row, since it is hardly sparse then.
+const THIN: u64 = 4;
+
+/// A closure may have so many full rows among its first ones, as that of a tree has, and still be sparse.
+const FULL_ROWS: u64 = 8;
+
+/// A product is left to trees if it may fill more than one cell in so many.
+const SPARSE: u64 = 64;
+
+/// With fewer pairs than one for so many rows, an index of the rows costs more than the recursion on trees.
+const ROWS_A_PAIR: u64 = 16;
+
+/// How many pairs a quad may have, if a sample says that it is scattered, and 0 if not.
+fn estimate<Q: Quads>(q: &mut Q, quad: Quad) -> u64
+    requires stands { HasQuad (Q.worker q.old) quad }
+    ensures reads { OnlyReads (Q.worker q.old) (Q.worker q.new) }
+{
+    if quad.is_empty() {
+        return 0;
+    }
+    let met = sampled(q, quad);
+    if met.is_scattered() { met.pairs() } else { 0 }
+}
+
+/// Whether a quad has not many more pairs than was estimated.
+fn is_within<Q: Quads>(q: &mut Q, quad: Quad, pairs: u64) -> bool
+    requires stands { HasQuad (Q.worker q.old) quad }
+    ensures reads { OnlyReads (Q.worker q.old) (Q.worker q.new) }
+{
+    let most = pairs
+        .saturating_mul(2)
+        .saturating_add(1000)
+        .min(MOST_LISTED);
+    left_of(q, quad, most as u32) > 0
+}
+
+/// Whether operands with so many pairs have a sparse product that takes few steps to join.
+fn is_sparse(rows: u32, middle: u32, cols: u32, lefts: u64, rights: u64) -> bool
+    requires some { 0 < middle }
+{
+    if lefts == 0 || rights == 0 || lefts > MOST_LISTED || rights > MOST_LISTED {
+        return false;
+    }
+    if u64::from(middle) / ROWS_A_PAIR > lefts.saturating_add(rights) {
+        return false;
+    }
+    let joined = lefts.saturating_mul(rights) / u64::from(middle);
+    let cells = u64::from(rows).saturating_mul(u64::from(cols));
+    joined <= MOST_LISTED && joined <= cells / SPARSE
+}
+
+/// Whether composition by lists pays: both relations are large, scattered and thin, and so is the product.
+pub(crate) fn pays<Q: Quads>(q: &mut Q, r: Rel, s: Rel) -> bool
+    requires left { Stands (Q.worker q.old) r }
+    requires right { Stands (Q.worker q.old) s }
+    ensures large { result ≡ true → 256 < r.rows }
+    ensures reads { OnlyReads (Q.worker q.old) (Q.worker q.new) }
+{
+    if r.rows <= SMALL || r.cols <= SMALL || s.cols <= SMALL {
+        return false;
+    }
+    let left = q.root(r);
+    let right = q.root(s);
+    let lefts = estimate(q, left);
+    if lefts == 0 {
+        return false;
+    }
+    let rights = estimate(q, right);
+    if !is_sparse(r.rows, r.cols, s.cols, lefts, rights) {
+        return false;
+    }
+    is_within(q, left, lefts) && is_within(q, right, rights)
+}
+
+/// Whether so many pairs in the first rows of a closure of `n` elements are few enough for lists: no more than one cell
+/// in `SPARSE`, beside `FULL_ROWS` full rows.
+pub(crate) fn is_sparse_so_far(n: u32, rows: u32, pairs: usize) -> bool {
+    let cells = u64::from(n).saturating_mul(u64::from(rows));
+    pairs as u64
+        <= u64::from(n)
+            .saturating_mul(FULL_ROWS)
+            .saturating_add(cells / SPARSE)
+}
+
+/// Whether the transitive closure by lists pays: the relation is large, scattered and thin.
+pub(crate) fn pays_to_close<Q: Quads>(q: &mut Q, r: Rel) -> bool
+    requires stands { Stands (Q.worker q.old) r }
+    ensures large { result ≡ true → 256 < r.rows }
+    ensures reads { OnlyReads (Q.worker q.old) (Q.worker q.new) }
+{
+    if r.rows <= SMALL {
+        return false;
+    }
+    let root = q.root(r);
+    let pairs = estimate(q, root);
+    let least = u64::from(r.rows) / ROWS_A_PAIR;
+    let most = u64::from(r.rows).saturating_mul(THIN).min(MOST_LISTED);
+    pairs > 0 && pairs >= least && pairs <= most && is_within(q, root, pairs)
+}
