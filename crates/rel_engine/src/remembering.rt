@@ -1,4 +1,4 @@
-//! The lines that an engine remembers.
+//! The lines and pairs that an engine remembers.
 use crate::works::Works;
 use fork_quads::Gate;
 use rel_model::Rel;
@@ -17,5 +17,23 @@ impl<'t, R: Threads + Sync, G: Gate + Sync> Remembers for Works<'t, R, G> {
     fn note_lines(&mut self, r: Rel, lines: &Thin) {
         let _ = &self.crew;
         self.remembered.note(r, lines);
+    }
+
+    /// The pairs of a relation, if they are kept.
+    fn take_listing(&mut self, r: Rel) -> Option<Vec<(u32, u32)>> {
+        let _ = &self.crew;
+        self.remembered.take_listing(r)
+    }
+
+    /// Keeps the pairs of a relation.
+    fn keep_listing(&mut self, r: Rel, pairs: Vec<(u32, u32)>) {
+        let _ = &self.crew;
+        self.remembered.keep_listing(r, pairs);
+    }
+
+    /// Notes that a relation was walked, and tells whether its pairs are now worth a list.
+    fn is_worth_listing(&mut self, r: Rel) -> bool {
+        let _ = &self.crew;
+        self.remembered.is_worth_listing(r)
     }
 }

@@ -4,7 +4,7 @@ ghost use Rattle.fork_quads.specs.CrewLaws.{least_limit_law, low_height_law, hig
 use crate::works::Works;
 use fork_quads::Gate;
 use rel_model::quads_trait::Quads;
-use rel_model::{Lack, Quad, Rel, Shape};
+use rel_model::{Lack, Quad, Quarters, Rel, Shape};
 use std::thread::Threads;
 
 impl<'t, R: Threads + Sync, G: Gate + Sync> Quads for Works<'t, R, G> {
@@ -36,8 +36,13 @@ impl<'t, R: Threads + Sync, G: Gate + Sync> Quads for Works<'t, R, G> {
     }
 
     /// The quarters of a quad.
-    fn quarters(&mut self, q: Quad) -> (Quad, Quad, Quad, Quad) {
+    fn quarters(&mut self, q: Quad) -> Quarters {
         self.crew.quarters(q)
+    }
+
+    /// The quarters of a quad, whose words are read in the same go.
+    fn quarters_ahead(&mut self, q: Quad) -> Quarters {
+        self.crew.quarters_ahead(q)
     }
 
     /// The quad made of four quarters.

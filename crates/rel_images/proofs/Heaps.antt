@@ -21,7 +21,7 @@ pub double-over : (least d : ℕ) → 2 ^ (least + suc d) ≡ 2 ^ (least + d) + 
 double-over least d = let e : least + suc d ≡ suc (least + d) = omega arith in ap (λ (n : ℕ). 2 ^ n) e ∙ double (least + d)
 
 -- ---- truth values
-and-or : (c a b : Bool) → (c && (a || b)) ≡ ((c && a) || (c && b))
+pub and-or : (c a b : Bool) → (c && (a || b)) ≡ ((c && a) || (c && b))
 and-or true a b = refl
 and-or false a b = refl
 
@@ -161,6 +161,7 @@ pub record AreMarked (leaves t : ℕ) (old new : List ℕ) : Type 0 where
 pub marks_none : (leaves : ℕ) (xs : List ℕ) → AreMarked leaves 1 xs xs
 marks_none leaves xs = record { len = refl; same = λ n l. refl; none = λ k p l s e. absurd (omega (arith, l, s)) }
 
+-- one entry more is marked, from the leaves up: it is the or of its children, so where it is 0 both of them are
 pub marks_more : (leaves t k : ℕ) (old xs : List ℕ) → k ≡ leaves - t → 0 < t → t < leaves → length old ≡ 2 * leaves → AreMarked leaves t old xs → AreMarked leaves (t + 1) old (set xs k (bit_or (get_or xs (2 * k) 0) (get_or xs (2 * k + 1) 0)))
 marks_more leaves t k old xs w p q l a = record {
   len = length-set xs k v ∙ a.len;
@@ -250,7 +251,7 @@ zero-at n k = elim (cases_lt k n) [
   | inr l ↦ get_or_past (replicate n 0) k 0 (let e = length-replicate {A = ℕ} n 0 in omega (arith, l, e))
 ]
 
-zeros_line : (least d k n j : ℕ) → line_under least (bits_of (replicate n 0)) d k j ≡ false
+pub zeros_line : (least d k n j : ℕ) → line_under least (bits_of (replicate n 0)) d k j ≡ false
 zeros_line least d k n j =
     ap (λ (b : Bits). line_under least b d k j) (same_cells (bits_of (replicate n 0)) (λ m b. false) (λ m b. ap (λ (v : ℕ). has_bit v b) (zero-at n m) ∙ zero-bits b))
     ∙ line_under-none least d k j

@@ -1,5 +1,6 @@
 pub mod Words
 pub mod Heaps
+pub mod Listing
 pub mod Steps
 pub mod Rooms
 pub mod Roots

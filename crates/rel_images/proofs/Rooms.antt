@@ -1,16 +1,10 @@
--- How many nodes a tree of one row has.
-use Rattle.std.proofs.Common.{◌≡◌, ◌<◌, ◌≤◌, ◌+◌, ◌-◌, ◌*◌, ◌^◌, ◌∙◌, zero, suc, ℕ, ap, arith}
+-- The room of a tree of one row, within that of any tree.
+use Rattle.std.proofs.Common.{◌≡◌, ◌≤◌, ◌-◌, ◌*◌, ◌^◌, zero, suc, ℕ, arith}
 use Rattle.std.proofs.Math.Nat.{pow-suc}
 use Rattle.std.proofs.lemmas.Nat.{pow_pos}
 use Rattle.rel_model.specs.Roots.{height_over, tree_room, relation_room}
-use Rattle.rel_images.specs.Rooms.{strip, line_room}
-
-strip-next : (d : ℕ) → strip (suc d) ≡ 2 * strip d + 3
-strip-next d = let p : 2 ^ suc d ≡ 2 ^ d * 2 = pow-suc 2 d in let q = pow_pos d in omega (arith, p, q)
-
--- one quartering more
-pub strip-down : (h k least : ℕ) → h + 1 ≡ k → least < k → strip (k - least) ≡ 2 * strip (h - least) + 3
-strip-down h k least e l = let n : k - least ≡ suc (h - least) = omega (arith, e, l) in ap strip n ∙ strip-next (h - least)
+use Rattle.rel_rows.specs.Rooms.{strip}
+use Rattle.rel_images.specs.Rooms.{line_room}
 
 strip-tree : (d : ℕ) → strip d ≤ tree_room d
 strip-tree zero = omega arith

@@ -16,7 +16,7 @@ use Rattle.rel_model.specs.Operators.{transpose, compose}
 use Rattle.rel_model.specs.Trees.{quartered}
 use Rattle.rel_model.specs.Quarters.{LiesWithin}
 use Rattle.rel_model.specs.Roots.{height_over}
-use Rattle.rel_model.specs.Worker.{Worker, GivesQuad, Gives, Keeps, MakesAtMost, HasCause}
+use Rattle.rel_model.specs.Worker.{Worker, GivesQuad, quad_set, Gives, Keeps, MakesAtMost, HasCause}
 use Rattle.rel_model.proofs.AlgebraLaws.{transpose_laws}
 use Rattle.rel_model.proofs.Composing.{compose-cells}
 use Rattle.rel_model.proofs.Heights.{height_over-is, height_over-least, height_over-low, height_over-rows, height_over-cols}
@@ -29,10 +29,11 @@ use Rattle.rel_model.proofs.TreeLaws.{same_cells}
 use Rattle.rel_model.proofs.Workers.{keeps_itself}
 use Rattle.rel_steps.specs.Making.{MakesQuad}
 use Rattle.rel_steps.proofs.Causes.{done_cause}
-use Rattle.rel_steps.proofs.Given.{AreParts}
+use Rattle.rel_steps.proofs.Given.{AreParts, gives_has, gives_quad_set, kept_set}
 use Rattle.rel_images.specs.Images.{image_of}
 use Rattle.rel_images.specs.Lines.{Line, Bits, byte_line, bits_of, first_row, one_row, turned_cells, image_line, line_under, IsMarked, IsHeap}
-use Rattle.rel_images.specs.Rooms.{strip, line_room}
+use Rattle.rel_rows.specs.Rooms.{strip}
+use Rattle.rel_images.specs.Rooms.{line_room}
 use Rattle.rel_images.proofs.Heaps.{none_under, line_under-past}
 
 -- ---- rows by quarters
@@ -62,14 +63,14 @@ named_parts least h k bits l =
 
 -- ---- quads that are made
 -- of nothing
-pub empty_named : (lean : Bool) (least h k n : ℕ) (w : Worker) (ys : List ℕ) → w.quad (record { height = h; name = 0 }) ≡ Some no_cells → IsMarked least ys (h - least) k → slice_index ys k ≡ 0
-    → MakesQuad lean n h (one_row (line_under least (bits_of ys) (h - least) k)) w w (Ok (record { height = h; name = 0 }))
-empty_named lean least h k n w ys e m z = record {
+pub empty_named : (lean : Bool) (least h k n : ℕ) (w : Worker) (ys : List ℕ) (q : Quad) → q ≡ record { height = h; name = 0 } → w.quad (record { height = h; name = 0 }) ≡ Some no_cells → IsMarked least ys (h - least) k → slice_index ys k ≡ 0
+    → MakesQuad lean n h (one_row (line_under least (bits_of ys) (h - least) k)) w w (Ok q)
+empty_named lean least h k n w ys q s e m z = subst (λ (p : Quad). MakesQuad lean n h (one_row (line_under least (bits_of ys) (h - least) k)) w w (Ok p)) (sym s) (record {
   value = record { means = e ∙ ap Some (same_cells no_cells (one_row (line_under least (bits_of ys) (h - least) k)) (λ i j. sym (and_right (eqb i 0) _ (none_under least ys (h - least) k m z j)))); same_height = refl };
   keeps = keeps_itself w;
   room = omega arith;
   cause = done_cause lean w w (record { height = h; name = 0 }) refl;
-}
+})
 
 -- of one entry
 pub leaf_named : (lean : Bool) (least h k : ℕ) (v w : Worker) (ys : List ℕ) (r : Result Quad Lack) → h ≡ least → MakesQuad lean 1 least (one_row (byte_line (2 ^ least) (slice_index ys k))) v w r
@@ -116,6 +117,9 @@ west_line least h k cols bits l c n j =
     no_element true f = absurd (f refl)
     no_element false f = refl
 
+pub west_narrow : (least h k cols : ℕ) (bits : Bits) → least < h → cols ≤ 2 ^ (h - 1) → ((j : ℕ) → line_under least bits (h - least) k j ≡ true → j < cols) → (j : ℕ) → line_under least bits (h - 1 - least) (2 * k) j ≡ true → j < cols
+west_narrow least h k cols bits l c n j t = n j (sym (west_line least h k cols bits l c n j) ∙ t)
+
 pub west_named : (lean : Bool) (least h k cols n o : ℕ) (bits : Bits) (v w : Worker) (r : Result Quad Lack) → ((j : ℕ) → line_under least bits (h - 1 - least) (2 * k) j ≡ line_under least bits (h - least) k j)
     → MakesQuad lean n o (one_row (line_under least bits (h - 1 - least) (2 * k))) v w r → MakesQuad lean n o (one_row (line_under least bits (h - least) k)) v w r
 west_named lean least h k cols n o bits v w r e s = subst (λ (f : Cells). MakesQuad lean n o f v w r) (same_cells _ _ (λ a j. ap (λ b. eqb a 0 && b) (e j))) s
@@ -146,15 +150,13 @@ cols-turned false r = refl
 cols-turned true r = cols-transpose r
 
 -- the relation of the image of the cells of two relations
-pub image-relation : (turned : Bool) (m cols : ℕ) (u r : Relation) (f g : Cells) (x : Line) → IsRelation u → IsRelation r → u.rows ≡ 1 → u.cols ≡ cond turned r.cols r.rows → cols ≡ cond turned r.rows r.cols → u.cols ≤ m → cols ≤ m
-    → f ≡ has u → g ≡ has r → ((j : ℕ) → j < m → x j ≡ image_line m (first_row f) (turned_cells turned g) j) → relation_of 1 cols (one_row x) ≡ image_of turned u r
-image-relation turned m cols u r f g x v w one middle wide um cm fu gr h =
+image-relation : (turned : Bool) (m cols : ℕ) (u r : Relation) (x : Line) → IsRelation u → IsRelation r → u.rows ≡ 1 → u.cols ≡ cond turned r.cols r.rows → cols ≡ cond turned r.rows r.cols → u.cols ≤ m → cols ≤ m
+    → ((j : ℕ) → j < m → x j ≡ image_line m (first_row (has u)) (turned_cells turned (has r)) j) → relation_of 1 cols (one_row x) ≡ image_of turned u r
+image-relation turned m cols u r x v w one middle wide um cm h =
     let t : Relation = turned_relation turned r in
     relation_of-agree 1 cols (one_row x) (cells_compose m (has u) (has t)) (λ a j p q.
     let z : a ≡ 0 = omega (arith, p) in
     ap (λ b. b && x j) (eq-eqb a 0 z) ∙ h j (omega (arith, q, cm))
-    ∙ ap (λ (y : Cells). image_line m (first_row y) (turned_cells turned g) j) fu
-    ∙ ap (λ (y : Cells). image_line m (first_row (has u)) (turned_cells turned y) j) gr
     ∙ ap (λ (y : Cells). image_line m (first_row (has u)) y j) (sym (has-turned turned r w))
     ∙ ap (λ (y : ℕ). cells_compose m (has u) (has t) y j) (sym z))
     ∙ ap (λ (y : ℕ). relation_of y cols (cells_compose m (has u) (has t))) (sym one)
@@ -162,12 +164,12 @@ image-relation turned m cols u r f g x v w one middle wide um cm fu gr h =
     ∙ sym (compose-cells m u t v um) ∙ sym (image-compose turned u r v w middle)
 
 -- an image lies within the columns
-pub image-narrow : (turned : Bool) (m cols : ℕ) (r : Relation) (f g : Cells) (x : Line) → IsRelation r → cols ≡ cond turned r.rows r.cols → g ≡ has r → ((j : ℕ) → j < m → x j ≡ image_line m (first_row f) (turned_cells turned g) j)
+image-narrow : (turned : Bool) (m cols : ℕ) (r : Relation) (y x : Line) → IsRelation r → cols ≡ cond turned r.rows r.cols → ((j : ℕ) → j < m → x j ≡ image_line m y (turned_cells turned (has r)) j)
     → ((j : ℕ) → m ≤ j → x j ≡ false) → (j : ℕ) → x j ≡ true → j < cols
-image-narrow turned m cols r f g x v e gr h past j t = elim (cases_lt j m) [
+image-narrow turned m cols r y x v e h past j t = elim (cases_lt j m) [
   | inr l ↦ absurd (false≢true (sym (past j l) ∙ t))
-  | inl l ↦ (let p = some_passes m (λ k. f 0 k && turned_cells turned g k j) (sym (h j l) ∙ t) in
-      subst (λ (n : ℕ). j < n) (sym e) (column turned p.at (sym (ap (λ (y : Cells). turned_cells turned y p.at j) gr) ∙ (and_parts (f 0 p.at) (turned_cells turned g p.at j) p.passes).1)))
+  | inl l ↦ (let p = some_passes m (λ k. y k && turned_cells turned (has r) k j) (sym (h j l) ∙ t) in
+      subst (λ (n : ℕ). j < n) (sym e) (column turned p.at (and_parts (y p.at) (turned_cells turned (has r) p.at j) p.passes).1))
 ]
   where
     column : (b : Bool) (k : ℕ) → turned_cells b (has r) k j ≡ true → j < cond b r.rows r.cols
@@ -214,10 +216,10 @@ pub heap_past : (least h j : ℕ) (xs : List ℕ) → least ≤ h → 2 ^ h ≤ 
 heap_past least h j xs l p = line_under-past least (h - least) 1 (bits_of xs) j (let w : h ≡ least + (h - least) = omega (arith, l) in subst (λ (x : ℕ). 2 ^ x ≤ j) w p)
 
 -- what is in the heap of an image, by the relation of the walk's quad
-pub heap_narrow : (least h cols m n : ℕ) (turned : Bool) (r : Relation) (f g : Cells) (xs : List ℕ) → IsRelation r → least ≤ h → r.rows ≡ m → r.cols ≡ n → cols ≡ cond turned m n → g ≡ has r
-    → IsHeap least h (image_line (2 ^ h) (first_row f) (turned_cells turned g)) xs → (j : ℕ) → line_under least (bits_of xs) (h - least) 1 j ≡ true → j < cols
-heap_narrow least h cols m n turned r f g xs v l a b e gr s =
-    image-narrow turned (2 ^ h) cols r f g (line_under least (bits_of xs) (h - least) 1) v (e ∙ sizes-turned turned m n r.rows r.cols (sym a) (sym b)) gr s.line (λ j p. heap_past least h j xs l p)
+pub heap_narrow : (least h cols m n : ℕ) (turned : Bool) (r : Relation) (y : Line) (xs : List ℕ) → IsRelation r → least ≤ h → r.rows ≡ m → r.cols ≡ n → cols ≡ cond turned m n
+    → IsHeap least h (image_line (2 ^ h) y (turned_cells turned (has r))) xs → (j : ℕ) → line_under least (bits_of xs) (h - least) 1 j ≡ true → j < cols
+heap_narrow least h cols m n turned r y xs v l a b e s =
+    image-narrow turned (2 ^ h) cols r y (line_under least (bits_of xs) (h - least) 1) v (e ∙ sizes-turned turned m n r.rows r.cols (sym a) (sym b)) s.line (λ j p. heap_past least h j xs l p)
 
 pub answer_within : (cols : ℕ) (f : Cells) (x : Line) → f ≡ one_row x → ((j : ℕ) → x j ≡ true → j < cols) → LiesWithin 1 cols f
 answer_within cols f x e n = subst (LiesWithin 1 cols) (sym e) (record {
@@ -226,20 +228,32 @@ answer_within cols f x e n = subst (LiesWithin 1 cols) (sym e) (record {
 })
 
 -- the relation of the answer's tree is the image
-pub answer_gives : (least h cols m n k : ℕ) (turned : Bool) (u r : Relation) (f g a : Cells) (xs : List ℕ) (w : Worker) (rel : Rel) → IsRelation u → IsRelation r → u.rows ≡ 1 → u.cols ≡ k → k ≡ cond turned n m → r.rows ≡ m → r.cols ≡ n → cols ≡ cond turned m n → k ≤ 2 ^ h → cols ≤ 2 ^ h
-    → f ≡ has u → g ≡ has r → IsHeap least h (image_line (2 ^ h) (first_row f) (turned_cells turned g)) xs → a ≡ one_row (line_under least (bits_of xs) (h - least) 1)
+pub answer_gives : (least h cols m n k : ℕ) (turned : Bool) (u r : Relation) (a : Cells) (xs : List ℕ) (w : Worker) (rel : Rel) → IsRelation u → IsRelation r → u.rows ≡ 1 → u.cols ≡ k → k ≡ cond turned n m → r.rows ≡ m → r.cols ≡ n → cols ≡ cond turned m n → k ≤ 2 ^ h → cols ≤ 2 ^ h
+    → IsHeap least h (image_line (2 ^ h) (first_row (has u)) (turned_cells turned (has r))) xs → a ≡ one_row (line_under least (bits_of xs) (h - least) 1)
     → Gives w 1 cols (relation_of 1 cols a) rel → Gives w 1 (cond turned m n) (image_of turned u r) rel
-answer_gives least h cols m n k turned u r f g a xs w rel vu vr one uk kn rm rn cw kh ch fu gr s e given = record {
-  means = given.means ∙ ap Some (ap (relation_of 1 cols) e ∙ image-relation turned (2 ^ h) cols u r f g (line_under least (bits_of xs) (h - least) 1) vu vr one
-      (uk ∙ kn ∙ sizes-turned turned n m r.cols r.rows (sym rn) (sym rm)) (cw ∙ sizes-turned turned m n r.rows r.cols (sym rm) (sym rn)) (omega (arith, uk, kh)) ch fu gr s.line);
+answer_gives least h cols m n k turned u r a xs w rel vu vr one uk kn rm rn cw kh ch s e given = record {
+  means = given.means ∙ ap Some (ap (relation_of 1 cols) e ∙ image-relation turned (2 ^ h) cols u r (line_under least (bits_of xs) (h - least) 1) vu vr one
+      (uk ∙ kn ∙ sizes-turned turned n m r.cols r.rows (sym rn) (sym rm)) (cw ∙ sizes-turned turned m n r.rows r.cols (sym rm) (sym rn)) (omega (arith, uk, kh)) ch s.line);
   row_size = given.row_size;
   col_size = given.col_size ∙ cw;
 }
 
+-- the heap of an image, by the sets of the roots of a line and of a relation
+pub heap_of_roots : (least h : ℕ) (turned : Bool) (u v : Worker) (line quad : Quad) (a b : ℕ) (x y : Cells) (xs ys : List ℕ) → Keeps u v → GivesQuad u a x line → GivesQuad u b y quad → ys ≡ xs
+    → IsHeap least h (image_line (2 ^ h) (first_row (quad_set v line)) (turned_cells turned (quad_set v quad))) xs → IsHeap least h (image_line (2 ^ h) (first_row x) (turned_cells turned y)) ys
+heap_of_roots least h turned u v line quad a b x y xs ys k l r e s =
+    let elements = kept_set u v line k (gives_has u a x line l) ∙ gives_quad_set u a x line l in
+    let cells = kept_set u v quad k (gives_has u b y quad r) ∙ gives_quad_set u b y quad r in
+    subst (λ (zs : List ℕ). IsHeap least h (image_line (2 ^ h) (first_row x) (turned_cells turned y)) zs) (sym e)
+    (subst (λ (z : Cells). IsHeap least h (image_line (2 ^ h) (first_row z) (turned_cells turned y)) xs) elements
+    (subst (λ (z : Cells). IsHeap least h (image_line (2 ^ h) (first_row (quad_set v line)) (turned_cells turned z)) xs) cells s))
+
+-- the relation of its tree is the image, for a relation of m rows and n columns
+pub image_gives : (least h cols m n k : ℕ) (turned : Bool) (u r : Relation) (xs : List ℕ) (w : Worker) (rel : Rel) → IsRelation u → IsRelation r → u.rows ≡ 1 → u.cols ≡ k → k ≡ cond turned n m → r.rows ≡ m → r.cols ≡ n → m ≤ size_limit → n ≤ size_limit → h ≡ height_over least m n → cols ≡ cond turned m n
+    → IsHeap least h (image_line (2 ^ h) (first_row (has u)) (turned_cells turned (has r))) xs → Gives w 1 cols (relation_of 1 cols (one_row (line_under least (bits_of xs) (h - least) 1))) rel → Gives w 1 (cond turned m n) (image_of turned u r) rel
+image_gives least h cols m n k turned u r xs w rel vu vr one uk kn rm rn ml nl e cw s given =
+    answer_gives least h cols m n k turned u r (one_row (line_under least (bits_of xs) (h - least) 1)) xs w rel vu vr one uk kn rm rn cw (line_fits least m n k h turned ml nl e kn) (width_fits least m n cols h turned ml nl e cw) s refl given
+
 -- ---- steps of a naming
 pub over_leaf : (h b least : ℕ) → h ≢ b → b ≡ least → least ≤ h → least < h
 over_leaf h b least n e l = omega (arith, n, e, l)
-
--- the quad named 0 is given
-pub none_gives : {w : Worker} (h : ℕ) → w.quad (record { height = h; name = 0 }) ≡ Some no_cells → GivesQuad w h no_cells (record { height = h; name = 0 })
-none_gives h e = record { means = e; same_height = refl }

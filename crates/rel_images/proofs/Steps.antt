@@ -7,6 +7,7 @@ use Rattle.std.specs.Prelude.{slice_index, unwrap_or}
 use Rattle.std.proofs.lemmas.Bool.{cases_lt, lt-ltb, le-ltb, and_left, and_right, or_left, or_right, or_cases}
 use Rattle.std.proofs.lemmas.Nat.{pow_pos}
 use Rattle.rel_model.specs.declared.Quad.{Quad}
+use Rattle.rel_model.specs.declared.Quarters.{Quarters}
 use Rattle.rel_model.specs.Cells.{Cells, no_cells, bits_cells, some_below}
 use Rattle.rel_model.specs.Trees.{quartered}
 use Rattle.rel_model.specs.Quarters.{LiesWithin, GivesQuarters}
@@ -14,22 +15,12 @@ use Rattle.rel_model.specs.Worker.{Worker, quad_set, Keeps}
 use Rattle.rel_model.proofs.Somes.{same_truth, some_from, some_passes, some_none, some_agree, some_weaker}
 use Rattle.rel_model.proofs.Heights.{power_up}
 use Rattle.rel_model.proofs.Rooting.{outside}
-use Rattle.rel_model.proofs.Workers.{keeps_itself, keeps_trans}
+use Rattle.rel_model.proofs.Workers.{keeps_trans}
 use Rattle.rel_steps.proofs.Given.{kept_set}
+use Rattle.rel_steps.proofs.Reading.{reads_itself, reads_on}
 use Rattle.rel_images.specs.Lines.{Line, Bits, has_bit, bits_of, first_row, turned_cells, image_line, line_under, bits_under, image_bits, IsMarked, IsHeap, Adds, Walks, GivesTurned}
-use Rattle.rel_images.specs.Reading.{OnlyReads}
-use Rattle.rel_images.proofs.Heaps.{double, or-or, or-both, within_left, within_right, none_under, bits_under-agree, bits_under-none, bits_under-or, adds_none, adds_then, adds_same}
-
--- ---- calls that only read
-pub reads_itself : (w : Worker) → OnlyReads w w
-reads_itself w = record { keeps = keeps_itself w; room = omega arith; misses = refl }
-
-pub reads_on : (u v w : Worker) → OnlyReads u v → OnlyReads v w → OnlyReads u w
-reads_on u v w s t = record {
-  keeps = keeps_trans u v w s.keeps t.keeps;
-  room = (let a = s.room in let b = t.room in omega (arith, a, b));
-  misses = t.misses ∙ s.misses;
-}
+use Rattle.rel_steps.specs.Reading.{OnlyReads}
+use Rattle.rel_images.proofs.Heaps.{double, or-or, or-both, within_left, within_right, within_here, none_under, bits_under-agree, bits_under-none, bits_under-or, adds_none, adds_then, adds_same}
 
 -- ---- the image of a line
 some_split : (m n : ℕ) (t : ℕ → Bool) → some_below (m + n) t ≡ (some_below m t || some_below n (λ k. t (m + k)))
@@ -96,6 +87,8 @@ module _ (least d i j : ℕ) (bits : Bits) (a b c e : Cells) where
 pub level-next : (least h k : ℕ) → least ≤ h → h + 1 ≡ k → k - least ≡ suc (h - least)
 level-next least h k l e = omega (arith, l, e)
 
+-- the bits of an image are those of the images by the four quarters: each half of the line goes through two quarters,
+-- one for each half of the image
 pub image_bits-four : (least i j h k : ℕ) (xs : List ℕ) (a b c e f : Cells) → least ≤ h → h + 1 ≡ k → f ≡ quartered (2 ^ h) a b c e → (n y : ℕ)
     → (((image_bits least xs (2 * i) (2 * j) h a n y || image_bits least xs (2 * i) (2 * j + 1) h b n y) || image_bits least xs (2 * i + 1) (2 * j) h c n y) || image_bits least xs (2 * i + 1) (2 * j + 1) h e n y)
     ≡ image_bits least xs i j k f n y
@@ -127,7 +120,7 @@ walks_then a b f g l u v w xs ys zs s t = record {
   adds = λ p. adds_then a b xs ys zs (s.adds (t.less p)) (t.adds p);
   less = λ p. s.less (t.less p);
   len = t.len ∙ s.len;
-  reads = reads_on u v w s.reads t.reads;
+  reads = reads_on s.reads t.reads;
 }
 
 -- the same after calls that read, from more fuel, and by other words for the bits
@@ -136,36 +129,38 @@ walks_after a b f g l u v w ys zs h m r s = record {
   adds = λ p. adds_same a b ys zs h (s.adds p);
   less = λ p. m (s.less p);
   len = s.len;
-  reads = reads_on u v w r s.reads;
+  reads = reads_on r s.reads;
 }
 
 -- a walk by a quad of another height that is the same, whose set was kept
 pub walks_same : (least i j h k f l : ℕ) (xs ys zs : List ℕ) (a b : Cells) (u v : Worker) → h ≡ k → a ≡ b → Walks (image_bits least xs i j h a) f l u v ys zs → Walks (image_bits least xs i j k b) f l u v ys zs
 walks_same least i j h k f l xs ys zs a b u v e s w = subst (λ (x : ℕ). Walks (image_bits least xs i j x b) f l u v ys zs) e (subst (λ (x : Cells). Walks (image_bits least xs i j h x) f l u v ys zs) s w)
 
-pub walks_four : (least i j f l1 l2 l3 l4 : ℕ) (turned : Bool) (xs y0 y1 y2 y3 y4 : List ℕ) (quad : Quad) (four : Quad × Quad × Quad × Quad) (u v w1 w2 w3 w4 : Worker) → least ≤ four.0.height
+-- four walks by a quad's quarters are the walk by the quad: each leaves the sets of the others as they were, and their
+-- images together are its image
+pub walks_four : (least i j f l1 l2 l3 l4 : ℕ) (turned : Bool) (xs y0 y1 y2 y3 y4 : List ℕ) (quad : Quad) (four : Quarters) (u v w1 w2 w3 w4 : Worker) → least ≤ four.nw.height
     → GivesTurned turned u v quad four → OnlyReads u v
-    → Walks (image_bits least xs (2 * i) (2 * j) four.0.height (turned_cells turned (quad_set v four.0))) (f - 1) l1 v w1 y0 y1
-    → Walks (image_bits least xs (2 * i) (2 * j + 1) four.1.height (turned_cells turned (quad_set w1 four.1))) l1 l2 w1 w2 y1 y2
-    → Walks (image_bits least xs (2 * i + 1) (2 * j) four.2.height (turned_cells turned (quad_set w2 four.2))) l2 l3 w2 w3 y2 y3
-    → Walks (image_bits least xs (2 * i + 1) (2 * j + 1) four.3.height (turned_cells turned (quad_set w3 four.3))) l3 l4 w3 w4 y3 y4
+    → Walks (image_bits least xs (2 * i) (2 * j) four.nw.height (turned_cells turned (quad_set v four.nw))) (f - 1) l1 v w1 y0 y1
+    → Walks (image_bits least xs (2 * i) (2 * j + 1) four.ne.height (turned_cells turned (quad_set w1 four.ne))) l1 l2 w1 w2 y1 y2
+    → Walks (image_bits least xs (2 * i + 1) (2 * j) four.sw.height (turned_cells turned (quad_set w2 four.sw))) l2 l3 w2 w3 y2 y3
+    → Walks (image_bits least xs (2 * i + 1) (2 * j + 1) four.se.height (turned_cells turned (quad_set w3 four.se))) l3 l4 w3 w4 y3 y4
     → Walks (image_bits least xs i j quad.height (turned_cells turned (quad_set u quad))) f l4 u w4 y0 y4
 walks_four least i j f l1 l2 l3 l4 turned xs y0 y1 y2 y3 y4 quad four u v w1 w2 w3 w4 low g r s1 s2 s3 s4 =
-    let h : ℕ = four.0.height in
+    let h : ℕ = four.nw.height in
     let p0 = g.nw_height in
     let p1 = g.ne_height in
     let p2 = g.sw_height in
     let p3 = g.se_height in
-    let a : Cells = turned_cells turned (quad_set v four.0) in
-    let b : Cells = turned_cells turned (quad_set v four.1) in
-    let c : Cells = turned_cells turned (quad_set v four.2) in
-    let e : Cells = turned_cells turned (quad_set v four.3) in
+    let a : Cells = turned_cells turned (quad_set v four.nw) in
+    let b : Cells = turned_cells turned (quad_set v four.ne) in
+    let c : Cells = turned_cells turned (quad_set v four.sw) in
+    let e : Cells = turned_cells turned (quad_set v four.se) in
     let k1 = s1.reads.keeps in
     let k2 = keeps_trans v w1 w2 k1 s2.reads.keeps in
     let k3 = keeps_trans v w2 w3 k2 s3.reads.keeps in
-    let t2 = walks_same least (2 * i) (2 * j + 1) four.1.height h l1 l2 xs y1 y2 _ b w1 w2 (omega (arith, p0, p1)) (ap (turned_cells turned) (kept_set v w1 four.1 k1 g.ne)) s2 in
-    let t3 = walks_same least (2 * i + 1) (2 * j) four.2.height h l2 l3 xs y2 y3 _ c w2 w3 (omega (arith, p0, p2)) (ap (turned_cells turned) (kept_set v w2 four.2 k2 g.sw)) s3 in
-    let t4 = walks_same least (2 * i + 1) (2 * j + 1) four.3.height h l3 l4 xs y3 y4 _ e w3 w4 (omega (arith, p0, p3)) (ap (turned_cells turned) (kept_set v w3 four.3 k3 g.se)) s4 in
+    let t2 = walks_same least (2 * i) (2 * j + 1) four.ne.height h l1 l2 xs y1 y2 _ b w1 w2 (omega (arith, p0, p1)) (ap (turned_cells turned) (kept_set v w1 four.ne k1 g.ne)) s2 in
+    let t3 = walks_same least (2 * i + 1) (2 * j) four.sw.height h l2 l3 xs y2 y3 _ c w2 w3 (omega (arith, p0, p2)) (ap (turned_cells turned) (kept_set v w2 four.sw k2 g.sw)) s3 in
+    let t4 = walks_same least (2 * i + 1) (2 * j + 1) four.se.height h l3 l4 xs y3 y4 _ e w3 w4 (omega (arith, p0, p3)) (ap (turned_cells turned) (kept_set v w3 four.se k3 g.se)) s4 in
     let b1 : Bits = image_bits least xs (2 * i) (2 * j) h a in
     let b2 : Bits = image_bits least xs (2 * i) (2 * j + 1) h b in
     let b3 : Bits = image_bits least xs (2 * i + 1) (2 * j) h c in
@@ -225,6 +220,52 @@ pub place_east : (least h k q i n : ℕ) → least ≤ h → h + 1 ≡ q → k �
 place_east least h k q i n l e s w =
     subst (λ (x : ℕ). (2 * i + 1 + 1) * 2 ^ (x - least) ≤ n) (sym s) (within_right i (h - least) n (subst (λ (x : ℕ). (i + 1) * 2 ^ x ≤ n) (level-next least h q l e) w))
 
+-- those under a node of each heap, whose quad is of height h
+pub record Under (least h n m i j : ℕ) (xs : List ℕ) : Type 0 where
+  pub marked : IsMarked least xs (h - least) i
+  pub from : (i + 1) * 2 ^ (h - least) ≤ n
+  pub to : (j + 1) * 2 ^ (h - least) ≤ m
+
+-- those of the quarters
+pub record FourUnder (least n m i j : ℕ) (xs : List ℕ) (four : Quarters) : Type 0 where
+  pub nw : Under least four.nw.height n m (2 * i) (2 * j) xs
+  pub ne : Under least four.ne.height n m (2 * i) (2 * j + 1) xs
+  pub sw : Under least four.sw.height n m (2 * i + 1) (2 * j) xs
+  pub se : Under least four.se.height n m (2 * i + 1) (2 * j + 1) xs
+
+-- what holds under a quad's places in the two heaps holds under those of its quarters, since these are their children
+pub four_under : (least n m i j : ℕ) (xs : List ℕ) (turned : Bool) (u v : Worker) (quad : Quad) (four : Quarters) → least ≤ four.nw.height → GivesTurned turned u v quad four → Under least quad.height n m i j xs → FourUnder least n m i j xs four
+four_under least n m i j xs turned u v quad four l g p =
+    let h : ℕ = four.nw.height in
+    let k : ℕ = quad.height in
+    let e = g.nw_height in
+    let e1 = g.ne_height in
+    let e2 = g.sw_height in
+    let e3 = g.se_height in
+    let s1 : four.ne.height ≡ h = omega (arith, e, e1) in
+    let s2 : four.sw.height ≡ h = omega (arith, e, e2) in
+    let s3 : four.se.height ≡ h = omega (arith, e, e3) in
+    record {
+      nw = record { marked = marked_west least h h k i xs l e refl p.marked; from = place_west least h h k i n l e refl p.from; to = place_west least h h k j m l e refl p.to };
+      ne = record { marked = marked_west least h four.ne.height k i xs l e s1 p.marked; from = place_west least h four.ne.height k i n l e s1 p.from; to = place_east least h four.ne.height k j m l e s1 p.to };
+      sw = record { marked = marked_east least h four.sw.height k i xs l e s2 p.marked; from = place_east least h four.sw.height k i n l e s2 p.from; to = place_west least h four.sw.height k j m l e s2 p.to };
+      se = record { marked = marked_east least h four.se.height k i xs l e s3 p.marked; from = place_east least h four.se.height k i n l e s3 p.from; to = place_east least h four.se.height k j m l e s3 p.to };
+    }
+
+-- those of the halves of a line, in one heap
+pub half_under : (least h n k : ℕ) (xs : List ℕ) → least < h → IsMarked least xs (h - least) k → (k + 1) * 2 ^ (h - least) ≤ n → Under least (h - 1) n n (2 * k) (2 * k) xs × Under least (h - 1) n n (2 * k + 1) (2 * k + 1) xs
+half_under least h n k xs l m p =
+    let d : ℕ = h - 1 in
+    let low : least ≤ d = omega (arith, l) in
+    let e : d + 1 ≡ h = omega (arith, l) in
+    let west = place_west least d d h k n low e refl p in
+    let east = place_east least d d h k n low e refl p in
+    (record { marked = marked_west least d d h k xs low e refl m; from = west; to = west }, record { marked = marked_east least d d h k xs low e refl m; from = east; to = east })
+
+-- both halves are within the heap
+pub half_within : (least h n k : ℕ) → least < h → (k + 1) * 2 ^ (h - least) ≤ n → 2 * k + 1 < n
+half_within least h n k l p = let d : ℕ = h - 1 in within_here (2 * k + 1) (d - least) n (place_east least d d h k n (omega (arith, l)) (omega (arith, l)) refl p)
+
 -- ---- spreading
 pub spread_none : (least h k : ℕ) (w : Worker) (q : Quad) (xs : List ℕ) → w.quad (record { height = q.height; name = 0 }) ≡ Some no_cells → q.name ≡ 0 → Adds (bits_under least (h - least) k (first_row (quad_set w q))) xs xs
 spread_none least h k w q xs e s =
@@ -255,23 +296,23 @@ spread_low least h k f p ys zs l o n w s =
     or-false false = refl
 
 -- two halves
-pub spread_two : (least h k : ℕ) (q : Quad) (four : Quad × Quad × Quad × Quad) (u v w : Worker) (xs ys zs : List ℕ) → least ≤ h - 1 → 0 < h → q.height ≡ h → GivesQuarters u v q four → Keeps v w
-    → Adds (bits_under least (h - 1 - least) (2 * k) (first_row (quad_set v four.0))) xs ys → Adds (bits_under least (h - 1 - least) (2 * k + 1) (first_row (quad_set w four.1))) ys zs
+pub spread_two : (least h k : ℕ) (q : Quad) (four : Quarters) (u v w : Worker) (xs ys zs : List ℕ) → least ≤ h - 1 → 0 < h → q.height ≡ h → GivesQuarters u v q four → Keeps v w
+    → Adds (bits_under least (h - 1 - least) (2 * k) (first_row (quad_set v four.nw))) xs ys → Adds (bits_under least (h - 1 - least) (2 * k + 1) (first_row (quad_set w four.ne))) ys zs
     → Adds (bits_under least (h - least) k (first_row (quad_set u q))) xs zs
 spread_two least h k q four u v w xs ys zs l o s g kept a b =
     let d : ℕ = h - 1 - least in
     let m : ℕ = 2 ^ (least + d) in
     let e = level-next least (h - 1) h l (omega (arith, o)) in
     let nh = g.nw_height in
-    let r : four.0.height ≡ least + d = omega (arith, nh, l, o, s) in
-    let all : Cells = quartered m (quad_set v four.0) (quad_set v four.1) (quad_set v four.2) (quad_set v four.3) in
-    let is : quad_set u q ≡ all = g.means ∙ ap (λ (x : ℕ). quartered (2 ^ x) (quad_set v four.0) (quad_set v four.1) (quad_set v four.2) (quad_set v four.3)) r in
-    let east : quad_set w four.1 ≡ quad_set v four.1 = kept_set v w four.1 kept g.ne in
+    let r : four.nw.height ≡ least + d = omega (arith, nh, l, o, s) in
+    let all : Cells = quartered m (quad_set v four.nw) (quad_set v four.ne) (quad_set v four.sw) (quad_set v four.se) in
+    let is : quad_set u q ≡ all = g.means ∙ ap (λ (x : ℕ). quartered (2 ^ x) (quad_set v four.nw) (quad_set v four.ne) (quad_set v four.sw) (quad_set v four.se)) r in
+    let east : quad_set w four.ne ≡ quad_set v four.ne = kept_set v w four.ne kept g.ne in
     let pos = pow_pos (least + d) in
     let z : ltb 0 m ≡ true = lt-ltb 0 m (omega (arith, pos)) in
     subst (λ (x : ℕ). Adds (bits_under least x k (first_row (quad_set u q))) xs zs) (sym e) (adds_same _ _ xs zs (λ x y.
-    ap (λ t. t || bits_under least d (2 * k + 1) (first_row (quad_set w four.1)) x y) (bits_under-agree least d (2 * k) (first_row (quad_set v four.0)) (first_row (quad_set u q)) x y (λ j i. sym (ap (λ (f : Cells). f 0 j) is ∙ (let t : ltb j m ≡ true = lt-ltb j m i in rw (z, t) refl))))
-    ∙ ap (λ t. bits_under least d (2 * k) (first_row (quad_set u q)) x y || t) (bits_under-agree least d (2 * k + 1) (first_row (quad_set w four.1)) (λ j. quad_set u q 0 (m + j)) x y (λ j i. ap (λ (f : Cells). f 0 j) east ∙ sym (ap (λ (f : Cells). f 0 (m + j)) is ∙ (let t : ltb (m + j) m ≡ false = le-ltb (m + j) m (omega arith) in let c : m + j - m ≡ j = omega arith in rw (z, t, c) refl)))))
+    ap (λ t. t || bits_under least d (2 * k + 1) (first_row (quad_set w four.ne)) x y) (bits_under-agree least d (2 * k) (first_row (quad_set v four.nw)) (first_row (quad_set u q)) x y (λ j i. sym (ap (λ (f : Cells). f 0 j) is ∙ (let t : ltb j m ≡ true = lt-ltb j m i in rw (z, t) refl))))
+    ∙ ap (λ t. bits_under least d (2 * k) (first_row (quad_set u q)) x y || t) (bits_under-agree least d (2 * k + 1) (first_row (quad_set w four.ne)) (λ j. quad_set u q 0 (m + j)) x y (λ j i. ap (λ (f : Cells). f 0 j) east ∙ sym (ap (λ (f : Cells). f 0 (m + j)) is ∙ (let t : ltb (m + j) m ≡ false = le-ltb (m + j) m (omega arith) in let c : m + j - m ≡ j = omega arith in rw (z, t, c) refl)))))
     (adds_then _ _ xs ys zs a b))
 
 -- ---- the heap of an image

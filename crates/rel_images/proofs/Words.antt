@@ -26,7 +26,7 @@ and-all false b e = refl
 
 -- ---- bits
 -- one bit shifted
-one-shifted : (s : ℕ) → s ≤ 8 → 1 * 2 ^ s % 18446744073709551616 ≡ 2 ^ s
+pub one-shifted : (s : ℕ) → s ≤ 8 → 1 * 2 ^ s % 18446744073709551616 ≡ 2 ^ s
 one-shifted s l = let p = pow_mono {i = s} {j = 8} l in omega (arith, p)
 
 -- the low bits of a number
@@ -136,7 +136,7 @@ meets_some m bits line t row s l h n =
 pub meeting_left : (all m bits line t j : ℕ) → row_meets m bits line t ≡ false → has_bit all j ≡ (has_bit all j || (eqb j t && row_meets m bits line t))
 meeting_left all m bits line t j e = or-none (has_bit all j) _ (and_right (eqb j t) _ e)
 
-pow-bit : (t j : ℕ) → has_bit (2 ^ t) j ≡ eqb j t
+pub pow-bit : (t j : ℕ) → has_bit (2 ^ t) j ≡ eqb j t
 pow-bit t j = elim (cases_eq j t) [
   | inl e ↦ eq-eqb (bit_at (2 ^ t) j) 1 (ap (bit_at (2 ^ t)) e ∙ bit_at-pow_same t) ∙ sym (eq-eqb j t e)
   | inr e ↦ ne_eqb (bit_at (2 ^ t) j) 1 (λ y. let z = bit_at-pow_other t j e in omega (arith, y, z)) ∙ sym (ne_eqb j t e)
@@ -193,6 +193,7 @@ line-cells line m s = ap (λ (x : ℕ). bits_cells m (line % x)) (one-shifted m 
       rw (ne_eqb a 0 e) (and_right (ltb a m) _ (and_right (ltb j m) _ (past-bits (line % 2 ^ m) m (m * a + j) (mod_below line (2 ^ m) (pow_pos m)) (omega (arith, q))))))
 ])
 
+-- the m bits of a line fit the word of a leaf, which has m * m
 pub line-small : (line m : ℕ) → m ≤ 8 → line % (1 * 2 ^ m % 18446744073709551616) < 2 ^ (m * m)
 line-small line m s =
     let e = one-shifted m s in

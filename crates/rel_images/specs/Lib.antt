@@ -1,4 +1,4 @@
 pub mod Images
 pub mod Lines
-pub mod Reading
+pub mod Listing
 pub mod Rooms

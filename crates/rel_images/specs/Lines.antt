@@ -4,10 +4,11 @@
 use Rattle.std.specs.Prelude.{◌≡◌, ◌==◌, ◌<◌, ◌≤◌, ◌+◌, ◌-◌, ◌*◌, ◌^◌, ◌&&◌, ◌||◌, nat_lt, cond, zero, suc, ℕ, Bool, false, List, length, slice_index}
 use Rattle.std.specs.Int.{bit_at}
 use Rattle.rel_model.specs.declared.Quad.{Quad}
+use Rattle.rel_model.specs.declared.Quarters.{Quarters}
 use Rattle.rel_model.specs.Cells.{Cells, some_below}
 use Rattle.rel_model.specs.Trees.{quartered}
 use Rattle.rel_model.specs.Worker.{Worker, HasQuad, quad_set}
-use Rattle.rel_images.specs.Reading.{OnlyReads}
+use Rattle.rel_steps.specs.Reading.{OnlyReads}
 
 -- a set of elements
 abbrev pub Line : Type 0
@@ -96,15 +97,15 @@ pub record Walks (added : Bits) (fuel left : ℕ) (old new : Worker) (ys zs : Li
   pub reads : OnlyReads old new
 
 -- the quarters of a quad, or of its transpose
-pub record GivesTurned (turned : Bool) (old new : Worker) (quad : Quad) (four : Quad × Quad × Quad × Quad) : Type 0 where
-  pub nw : HasQuad new four.0
-  pub ne : HasQuad new four.1
-  pub sw : HasQuad new four.2
-  pub se : HasQuad new four.3
-  pub nw_height : four.0.height + 1 ≡ quad.height
-  pub ne_height : four.1.height + 1 ≡ quad.height
-  pub sw_height : four.2.height + 1 ≡ quad.height
-  pub se_height : four.3.height + 1 ≡ quad.height
-  pub means : turned_cells turned (quad_set old quad) ≡ quartered (2 ^ four.0.height)
-      (turned_cells turned (quad_set new four.0)) (turned_cells turned (quad_set new four.1))
-      (turned_cells turned (quad_set new four.2)) (turned_cells turned (quad_set new four.3))
+pub record GivesTurned (turned : Bool) (old new : Worker) (quad : Quad) (four : Quarters) : Type 0 where
+  pub nw : HasQuad new four.nw
+  pub ne : HasQuad new four.ne
+  pub sw : HasQuad new four.sw
+  pub se : HasQuad new four.se
+  pub nw_height : four.nw.height + 1 ≡ quad.height
+  pub ne_height : four.ne.height + 1 ≡ quad.height
+  pub sw_height : four.sw.height + 1 ≡ quad.height
+  pub se_height : four.se.height + 1 ≡ quad.height
+  pub means : turned_cells turned (quad_set old quad) ≡ quartered (2 ^ four.nw.height)
+      (turned_cells turned (quad_set new four.nw)) (turned_cells turned (quad_set new four.ne))
+      (turned_cells turned (quad_set new four.sw)) (turned_cells turned (quad_set new four.se))

@@ -1,16 +1,7 @@
 //! Operations on leaves, and on the elements that one byte holds.
 ghost use Rattle.std.specs.Prelude.{◌≡◌, ◌==◌, ◌<◌, ◌≤◌, ◌*◌, ◌^◌, ◌&&◌, ◌||◌, nat_lt, ℕ, true, length};
-ghost use Rattle.rel_model.specs.Relation.{size_height};
 ghost use Rattle.rel_model.specs.Cells.{bits_cells, some_below};
 ghost use Rattle.rel_images.specs.Lines.{has_bit, byte_line, one_row, image_line, turned_cells, Adds};
-
-/// The side of a square of a height.
-pub(crate) fn side_of(height: u8) -> u32
-    requires { height ≤ size_height }
-    ensures { result ≡ 2 ^ height }
-{
-    1u32 << height
-}
 
 /// One row of a leaf.
 #[inline(always)]

@@ -4,6 +4,7 @@
 
 mod images;
 mod leaf;
+mod listed;
 mod marking;
 mod naming;
 mod paying;
@@ -12,4 +13,4 @@ mod reaching;
 mod spreading;
 mod walking;
 
-pub use images::image;
+pub use images::{image, image_of_pairs};

@@ -5,9 +5,11 @@ ghost use Rattle.rel_model.specs.Trees.{top_height};
 ghost use Rattle.rel_model.specs.Roots.{height_over};
 ghost use Rattle.rel_steps.specs.Making.{MakesQuad};
 ghost use Rattle.rel_images.specs.Lines.{IsMarked, bits_of, line_under, one_row, has_bit, byte_line};
-ghost use Rattle.rel_images.specs.Rooms.{strip, line_room};
+ghost use Rattle.rel_rows.specs.Rooms.{strip};
+ghost use Rattle.rel_images.specs.Rooms.{line_room};
 
-use crate::leaf::{line_block, side_of};
+use crate::leaf::line_block;
+use rel_model::empty::side_of;
 use rel_model::quads_trait::Quads;
 use rel_model::{Lack, Quad};
 
@@ -30,19 +32,15 @@ pub(crate) fn named<Q: Quads>(q: &mut Q, ys: &[u8], height: u8, k: usize) -> Res
         (one_row (line_under Q.least (bits_of ys.now) (height - Q.least) k)) (Q.worker q.old) (Q.worker q.new) result }
 {
     if ys[k] == 0 {
-        return Ok(Quad { height, name: 0 });
+        return Ok(Quad::empty(height));
     }
     if height == q.bottom() {
         return named_leaf(q, ys[k]);
     }
-    let none = Quad {
-        height: height - 1,
-        name: 0,
-    };
+    let none = Quad::empty(height - 1);
     let west = named(q, ys, height - 1, 2 * k)?;
     let east = named(q, ys, height - 1, 2 * k + 1)?;
-    let corner = q.corner(west, east, none, none)?;
-    Ok(corner)
+    q.corner(west, east, none, none)
 }
 
 /// The same for a line of `cols` elements, as row 0 of the smallest quad that is as wide.

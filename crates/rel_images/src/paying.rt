@@ -1,10 +1,10 @@
 //! Whether a walk pays, estimated from a sample. No result depends on it.
 ghost use Rattle.std.specs.Prelude.{◌≡◌, ◌⊎◌, length};
 ghost use Rattle.rel_model.specs.Worker.{HasQuad};
-ghost use Rattle.rel_images.specs.Reading.{OnlyReads};
+ghost use Rattle.rel_steps.specs.Reading.{OnlyReads};
 
-use rel_model::Quad;
 use rel_model::quads_trait::Quads;
+use rel_model::{Quad, Quarters};
 
 /// A walk pays only for a relation that reaches at least this many heights above its leaves.
 const LEAST_DEPTH: u8 = 6;
@@ -39,16 +39,16 @@ fn picked(nw: Quad, ne: Quad, sw: Quad, se: Quad, place: u64) -> Quad
         2 => sw,
         _ => se,
     };
-    if first.name != 0 {
+    if !first.is_empty() {
         return first;
     }
-    if nw.name != 0 {
+    if !nw.is_empty() {
         return nw;
     }
-    if ne.name != 0 {
+    if !ne.is_empty() {
         return ne;
     }
-    if sw.name != 0 {
+    if !sw.is_empty() {
         return sw;
     }
     se
@@ -94,7 +94,7 @@ fn descent<Q: Quads>(
     ensures same_places { length seen.new ≡ 1024 }
     ensures reads { OnlyReads (Q.worker q.old) (Q.worker q.new) }
 {
-    if quad.name == 0 {
+    if quad.is_empty() {
         return met;
     }
     let now = counted(met, seen, quad, from);
@@ -104,7 +104,7 @@ fn descent<Q: Quads>(
     if quad.height == q.bottom() {
         return now;
     }
-    let (nw, ne, sw, se) = q.quarters(quad);
+    let Quarters { nw, ne, sw, se } = q.quarters(quad);
     let next = picked(nw, ne, sw, se, chance % 4);
     descent(q, next, low, from, chance / 4, seen, now)
 }
@@ -133,7 +133,7 @@ pub(crate) fn pays<Q: Quads>(q: &mut Q, line: Quad, quad: Quad) -> bool
     ensures reads { OnlyReads (Q.worker q.old) (Q.worker q.new) }
 {
     let bottom = q.bottom();
-    if line.name == 0 || quad.name == 0 {
+    if line.is_empty() || quad.is_empty() {
         return false;
     }
     if quad.height < bottom || quad.height - bottom < LEAST_DEPTH {

@@ -3,7 +3,7 @@ ghost use Rattle.std.specs.Prelude.{◌≡◌, ◌≤◌, ◌*◌, ◌-◌, ◌^
 ghost use Rattle.rel_model.specs.Relation.{size_height};
 ghost use Rattle.rel_model.specs.Worker.{HasQuad, quad_set};
 ghost use Rattle.rel_images.specs.Lines.{IsMarked, IsHeap, bits_of, line_under, first_row, image_line, turned_cells};
-ghost use Rattle.rel_images.specs.Reading.{OnlyReads};
+ghost use Rattle.rel_steps.specs.Reading.{OnlyReads};
 
 use crate::marking::mark;
 use crate::spreading::spread;
@@ -16,7 +16,7 @@ use std::alloc::Global;
 const VISITS_PER_ROW: u64 = 512;
 
 /// How many leaves a heap has.
-fn leaves_of(height: u8, bottom: u8) -> usize
+pub(crate) fn leaves_of(height: u8, bottom: u8) -> usize
     requires low { bottom ≤ height }
     requires high { height ≤ size_height }
     ensures { result ≡ 2 ^ (height - bottom) }
@@ -25,7 +25,7 @@ fn leaves_of(height: u8, bottom: u8) -> usize
 }
 
 /// `len` zero bytes. `None`: there is no memory for them.
-fn zeros(alloc: Global, len: usize) -> Option<Vec<u8>>
+pub(crate) fn zeros(alloc: Global, len: usize) -> Option<Vec<u8>>
     ensures { IfSome result (λ v. v.items ≡ replicate len 0) }
 {
     match vec![in alloc; 0u8; len] {
@@ -49,7 +49,7 @@ fn fill_line<Q: Quads>(q: &mut Q, line: Quad, height: u8, leaves: usize, xs: &mu
 }
 
 /// The heap of row 0 of a quad. `None`: there is no memory for it.
-fn heap_of<Q: Quads>(alloc: Global, q: &mut Q, line: Quad, height: u8) -> Option<Vec<u8>>
+pub(crate) fn heap_of<Q: Quads>(alloc: Global, q: &mut Q, line: Quad, height: u8) -> Option<Vec<u8>>
     requires stands { HasQuad (Q.worker q.old) line }
     requires no_higher { line.height ≤ height }
     requires high { height ≤ size_height }
@@ -64,14 +64,15 @@ fn heap_of<Q: Quads>(alloc: Global, q: &mut Q, line: Quad, height: u8) -> Option
     Some(xs)
 }
 
-/// How many quads a walk visits at most by a quad of this height.
+/// How many quads a walk by a quad of this height visits at most.
 fn visits_of(height: u8) -> u64
     requires { height ≤ size_height }
 {
     VISITS_PER_ROW << height
 }
 
-/// Turns a heap of zeros into the heap of the image of a line by a quad, or by its transpose. False: the walk gave up.
+/// Turns a heap of zeros into the heap of the image of a line by a quad, or by its transpose, in at most `visits`
+/// visits. False: the walk gave up.
 fn fill_image<Q: Quads>(
     q: &mut Q,
     turned: bool,
@@ -79,6 +80,7 @@ fn fill_image<Q: Quads>(
     xs: &[u8],
     leaves: usize,
     ys: &mut [u8],
+    visits: u64,
 ) -> bool
     requires stands { HasQuad (Q.worker q.old) quad }
     requires marked { IsMarked Q.least xs.now (quad.height - Q.least) 1 }
@@ -90,7 +92,7 @@ fn fill_image<Q: Quads>(
         (turned_cells turned (quad_set (Q.worker q.old) quad))) ys.new }
     ensures reads { OnlyReads (Q.worker q.old) (Q.worker q.new) }
 {
-    let left = walk(q, turned, quad, xs, 1, ys, 1, visits_of(quad.height));
+    let left = walk(q, turned, quad, xs, 1, ys, 1, visits);
     if left == 0 {
         return false;
     }
@@ -98,14 +100,15 @@ fn fill_image<Q: Quads>(
     true
 }
 
-/// The heap of the image of a heap's line by a quad, or by its transpose. `None`: the walk gave up, or there is no
-/// memory for it.
-fn heap_from<Q: Quads>(
+/// The heap of the image of a heap's line by a quad, or by its transpose, in at most so many visits. `None`: the walk
+/// gave up, or there is no memory for it.
+pub(crate) fn heap_from<Q: Quads>(
     alloc: Global,
     q: &mut Q,
     turned: bool,
     quad: Quad,
     xs: &[u8],
+    visits: u64,
 ) -> Option<Vec<u8>>
     requires stands { HasQuad (Q.worker q.old) quad }
     requires high { quad.height ≤ size_height }
@@ -120,7 +123,7 @@ fn heap_from<Q: Quads>(
     let Some(mut ys) = zeros(alloc, 2 * leaves) else {
         return None;
     };
-    if fill_image(q, turned, quad, xs, leaves, &mut ys) {
+    if fill_image(q, turned, quad, xs, leaves, &mut ys, visits) {
         return Some(ys);
     }
     None
@@ -145,7 +148,7 @@ pub(crate) fn reached<Q: Quads>(
     let Some(xs) = heap_of(alloc, q, line, quad.height) else {
         return None;
     };
-    match heap_from(alloc, q, turned, quad, &xs) {
+    match heap_from(alloc, q, turned, quad, &xs, visits_of(quad.height)) {
         Some(ys) => Some(ys),
         None => None,
     }

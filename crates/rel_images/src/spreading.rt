@@ -3,11 +3,12 @@ ghost use Rattle.std.specs.Prelude.{◌≤◌, ◌+◌, ◌-◌, ◌*◌, ◌^�
 ghost use Rattle.rel_model.specs.Relation.{size_height};
 ghost use Rattle.rel_model.specs.Worker.{HasQuad, quad_set};
 ghost use Rattle.rel_images.specs.Lines.{Adds, bits_under, first_row};
-ghost use Rattle.rel_images.specs.Reading.{OnlyReads};
+ghost use Rattle.rel_steps.specs.Reading.{OnlyReads};
 
-use crate::leaf::{add_line, first_line, side_of};
-use rel_model::Quad;
+use crate::leaf::{add_line, first_line};
+use rel_model::empty::side_of;
 use rel_model::quads_trait::Quads;
+use rel_model::{Quad, Quarters};
 
 /// Adds row 0 of a quad to the leaves under a node. The node stands for the elements of a height, which may be more
 /// than the quad has columns.
@@ -20,7 +21,7 @@ pub(crate) fn spread<Q: Quads>(q: &mut Q, quad: Quad, height: u8, xs: &mut [u8],
         xs.old xs.new }
     ensures reads { OnlyReads (Q.worker q.old) (Q.worker q.new) }
 {
-    if quad.name == 0 {
+    if quad.is_empty() {
         return;
     }
     if height == q.bottom() {
@@ -33,7 +34,7 @@ pub(crate) fn spread<Q: Quads>(q: &mut Q, quad: Quad, height: u8, xs: &mut [u8],
         spread(q, quad, height - 1, xs, 2 * k);
         return;
     }
-    let (nw, ne, _, _) = q.quarters(quad);
+    let Quarters { nw, ne, .. } = q.quarters(quad);
     spread(q, nw, height - 1, xs, 2 * k);
     spread(q, ne, height - 1, xs, 2 * k + 1);
 }

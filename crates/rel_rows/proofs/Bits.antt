@@ -57,6 +57,7 @@ taken-small bits m i l =
     let q = pow_mono {i = m} {j = m * m} (omega (arith, s)) in
     omega (arith, p, q)
 
+-- the bits taken out are row i, as the first row of a word: it has m bits, so the other rows have none
 pub taken-cells : (bits m i : ℕ) → i < m → bits_cells m (bits / 2 ^ (m * i) % 2 ^ m) ≡ row_cells i (bits_cells m bits)
 taken-cells bits m i l = same_cells _ _ (λ a j. elim (cases_eq a 0) [
   | inl e ↦ first a j e
@@ -88,6 +89,7 @@ put-small bits line m i l b =
     let q = pow_mono {i = m + m * i} {j = m * m} (within-square m i l) in
     or_lt (m * m) bits ((line % 2 ^ m) * 2 ^ (m * i)) b (omega (arith, p, q))
 
+-- a line shifted up by m * i bits has its bits in row i alone: any other row's bits stand below or above those m
 put-bit : (line m i a j : ℕ) → j < m → eqb (bit_at ((line % 2 ^ m) * 2 ^ (m * i)) (m * a + j)) 1 ≡ (eqb a i && eqb (bit_at line (m * 0 + j)) 1)
 put-bit line m i a j l =
     let w = line % 2 ^ m in
@@ -105,6 +107,7 @@ put-bit line m i a j l =
       ]
     ]
 
+-- putting a line into a leaf's word adds the line's first row to row i: the or of two words has the cells of both
 pub put-cells : (bits line m i : ℕ) → i < m → bits_cells m (bit_or bits ((line % 2 ^ m) * 2 ^ (m * i))) ≡ added_cells i (bits_cells m line) (bits_cells m bits)
 put-cells bits line m i l = same_cells _ _ (λ a j. elim (cases_lt j m) [
   | inl b ↦ elim (cases_lt a m) [

@@ -73,6 +73,7 @@ module _ (m i : ℕ) (a b c d : Cells) where
     ]
   ])
 
+  -- in the southern half it is added to the south-west quarter, with the row counted from the middle
   pub low-south : (g : Cells) (n : ℕ) → LiesWithin n m g → m ≤ i → quartered m a b (added_cells (i - m) g c) d ≡ added_cells i g (quartered m a b c d)
   low-south g n w l = same_cells _ _ (λ r j. elim (cases_lt r m) [
     | inl p ↦ elim (cases_lt j m) [

@@ -5,16 +5,17 @@ use Rattle.std.proofs.lemmas.Bool.{false≢true}
 use Rattle.std.proofs.Math.Nat.{pow-suc}
 use Rattle.std.proofs.lemmas.Nat.{pow_pos}
 use Rattle.rel_model.specs.declared.Quad.{Quad}
+use Rattle.rel_model.specs.declared.Quarters.{Quarters}
 use Rattle.rel_model.specs.declared.Lack.{Lack}
 use Rattle.rel_model.specs.Cells.{Cells, no_cells}
-use Rattle.rel_model.specs.Trees.{beside}
+use Rattle.rel_model.specs.Trees.{beside, quartered}
 use Rattle.rel_model.specs.Quarters.{GivesQuarters}
-use Rattle.rel_model.specs.Worker.{Worker, HasQuad, quad_set, GivesQuad, Keeps, MakesAtMost, MissesNothing}
+use Rattle.rel_model.specs.Worker.{Worker, HasQuad, quad_set, GivesQuad, Keeps, MakesAtMost, MissesNothing, HasCause}
 use Rattle.rel_model.proofs.Workers.{keeps_trans}
 use Rattle.rel_steps.specs.Making.{MakesQuad}
 use Rattle.rel_steps.proofs.Given.{AreParts, gives_later}
 use Rattle.rel_steps.proofs.Causes.{later_cause}
-use Rattle.rel_steps.proofs.Making.{AreGiven, Underway}
+use Rattle.rel_steps.proofs.Making.{AreGiven, Underway, ends}
 use Rattle.rel_rows.specs.Making.{MakesTwo}
 use Rattle.rel_rows.specs.Rooms.{strip}
 use Rattle.rel_rows.specs.Rows.{row_cells}
@@ -48,16 +49,16 @@ has_gives w q h s e = record { means = some (w.quad q) s; same_height = e }
 pub gives_same : {w : Worker} {h : ℕ} {f g : Cells} {q : Quad} → f ≡ g → GivesQuad w h f q → GivesQuad w h g q
 gives_same {w} {h} {q = q} e s = subst (λ (x : Cells). GivesQuad w h x q) e s
 
--- the quad named 0 is given
-pub none_gives : {w : Worker} (h : ℕ) → w.quad (record { height = h; name = 0 }) ≡ Some no_cells → GivesQuad w h no_cells (record { height = h; name = 0 })
-none_gives h e = record { means = e; same_height = refl }
-
 -- ---- calls
 pub makes_same : {lean : Bool} {n h : ℕ} {f g : Cells} {v w : Worker} {r : Result Quad Lack} → f ≡ g → MakesQuad lean n h f v w r → MakesQuad lean n h g v w r
 makes_same {lean} {n} {h} {v = v} {w = w} {r = r} e s = subst (λ (x : Cells). MakesQuad lean n h x v w r) e s
 
 pub makes_high : {lean : Bool} {n h k : ℕ} {f : Cells} {v w : Worker} {r : Result Quad Lack} → h ≡ k → MakesQuad lean n h f v w r → MakesQuad lean n k f v w r
 makes_high {lean} {n} {f = f} {v = v} {w = w} {r = r} e s = subst (λ (x : ℕ). MakesQuad lean n x f v w r) e s
+
+-- the same where the room goes by the height
+pub makes_at : {lean : Bool} {h k : ℕ} {f : Cells} {v w : Worker} {r : Result Quad Lack} (room : ℕ → ℕ) → h ≡ k → MakesQuad lean (room h) h f v w r → MakesQuad lean (room k) k f v w r
+makes_at {lean} {f = f} {v = v} {w = w} {r = r} room e s = subst (λ (x : ℕ). MakesQuad lean (room x) x f v w r) e s
 
 -- a call after one that reads
 pub after_reading : {lean : Bool} {m n h : ℕ} {f g : Cells} {u v w : Worker} {r : Result Quad Lack} → Keeps u v → MakesAtMost 0 u v → MissesNothing u v → m ≤ n → f ≡ g → MakesQuad lean m h f v w r → MakesQuad lean n h g u w r
@@ -72,9 +73,12 @@ after_reading {lean} {h = h} {f = f} {u = u} {v = v} {w = w} {r = r} k a b l e s
 pub row_parts : (h i : ℕ) (f g : Cells) → AreParts (h + 1) (row_cells i (beside (2 ^ h) f g)) h (row_cells i f) (row_cells i g) no_cells no_cells
 row_parts h i f g = record { next = refl; means = row-corner (2 ^ h) i f g (pow_pos h) }
 
--- the quarters of a quad
-pub quarters_read : {u v : Worker} {q : Quad} {four : Quad × Quad × Quad × Quad} → GivesQuarters u v q four → Keeps u v → MakesAtMost 0 u v → MissesNothing u v
-    → Underway 0 four.0.height ((four.3, quad_set v four.3) ∷ (four.2, quad_set v four.2) ∷ (four.1, quad_set v four.1) ∷ (four.0, quad_set v four.0) ∷ []) u v
+-- the quarters of a quad, with their sets
+abbrev pub quarters_of : Worker → Quarters → List (Quad × Cells)
+quarters_of v four = (four.se, quad_set v four.se) ∷ (four.sw, quad_set v four.sw) ∷ (four.ne, quad_set v four.ne) ∷ (four.nw, quad_set v four.nw) ∷ []
+
+-- the quarters of a quad, once read, are the first four quads of a walk: reading makes no node and keeps all sets
+pub quarters_read : {u v : Worker} {q : Quad} {four : Quarters} → GivesQuarters u v q four → Keeps u v → MakesAtMost 0 u v → MissesNothing u v → Underway 0 four.nw.height (quarters_of v four) u v
 quarters_read {u} {v} {q} {four} g k r m =
     let a = g.nw_height in
     let b = g.ne_height in
@@ -84,7 +88,7 @@ quarters_read {u} {v} {q} {four} g k r m =
       keeps = k;
       room = r;
       misses = m;
-      are = (has_gives v four.3 four.0.height g.se (omega arith), (has_gives v four.2 four.0.height g.sw (omega arith), (has_gives v four.1 four.0.height g.ne (omega arith), (has_gives v four.0 four.0.height g.nw refl, tt))));
+      are = (has_gives v four.se four.nw.height g.se (omega arith), (has_gives v four.sw four.nw.height g.sw (omega arith), (has_gives v four.ne four.nw.height g.ne (omega arith), (has_gives v four.nw four.nw.height g.nw refl, tt))));
     }
 
 -- quads that are given are given later
@@ -111,3 +115,15 @@ err_of {S} {x = x} e = ap (λ r. Err (lack_of r)) e
 
 pub failed_two : {lean : Bool} {n h : ℕ} {f g : Cells} {v w : Worker} {x : Lack} → MakesTwo lean n h f g v w (Err x) → MakesQuad lean n 0 no_cells v w (Err x)
 failed_two s = record { value = tt; keeps = s.keeps; room = s.room; cause = record { full = λ e. s.cause.full (err_of e); no_memory = λ l e. s.cause.no_memory l (err_of e); done = tt; wanting = λ e. s.cause.wanting (err_of e) } }
+
+-- the corner of four quads, made or refused, is what the whole is to make
+pub ends_by : {lean : Bool} (n : ℕ) {m h k l : ℕ} {f f0 f1 f2 f3 : Cells} {ps : List (Quad × Cells)} {u v w : Worker} {nw ne sw se : Quad} (r : Result Quad Lack) → m + n ≤ l → AreParts k f h f0 f1 f2 f3 → Underway m h ps u v
+    → GivesQuad v h f0 nw → GivesQuad v h f1 ne → GivesQuad v h f2 sw → GivesQuad v h f3 se
+    → IfOk r (GivesQuad w (nw.height + 1) (quartered (2 ^ nw.height) (quad_set v nw) (quad_set v ne) (quad_set v sw) (quad_set v se))) → Keeps v w → MakesAtMost n v w → HasCause lean v w r → MakesQuad lean l k f u w r
+ends_by n (Ok q) o p a g0 g1 g2 g3 g kept room c = ends n o p a g0 g1 g2 g3 g kept room c
+ends_by {lean} n {u = u} {v = v} {w = w} (Err x) o p a g0 g1 g2 g3 g kept room c = record {
+  value = tt;
+  keeps = keeps_trans u v w a.keeps kept;
+  room = omega (arith, a.room, room, o);
+  cause = later_cause lean u v w (Err x) a.misses c;
+}

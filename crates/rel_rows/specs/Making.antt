@@ -7,7 +7,8 @@ use Rattle.rel_model.specs.Worker.{Worker, GivesQuad, Keeps, MakesAtMost, HasCau
 
 -- a call answers two quads of this height with these sets, or refuses for its cause; it keeps everything that stood,
 -- and makes at most `most` nodes
-pub record MakesTwo (lean : Bool) (most height : ℕ) (f g : Cells) (old new : Worker) (result : Result (Quad × Quad) Lack)
+pub record MakesTwo (lean : Bool) (most height : ℕ) (f g : Cells) (old new : Worker)
+    (result : Result (Quad × Quad) Lack)
     : Type 0 where
   pub value : IfOk result (λ p. GivesQuad new height f p.0 × GivesQuad new height g p.1)
   pub keeps : Keeps old new

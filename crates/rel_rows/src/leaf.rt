@@ -1,16 +1,7 @@
 //! Rows of a leaf, which is one word.
 ghost use Rattle.std.specs.Prelude.{◌≡◌, ◌<◌, ◌≤◌, ◌*◌, ◌^◌};
-ghost use Rattle.rel_model.specs.Relation.{size_height};
 ghost use Rattle.rel_model.specs.Cells.{bits_cells};
 ghost use Rattle.rel_rows.specs.Rows.{row_cells, added_cells};
-
-/// The side of a square of a height.
-pub(crate) fn side_of(height: u8) -> u32
-    requires { height ≤ size_height }
-    ensures { result ≡ 2 ^ height }
-{
-    1u32 << height
-}
 
 /// A row of a leaf, as the first row of a leaf without other cells.
 pub(crate) fn row_in_word(bits: u64, side: u32, row: u32) -> u64

@@ -7,9 +7,10 @@ ghost use Rattle.rel_rows.specs.Making.{MakesTwo};
 ghost use Rattle.rel_rows.specs.Rooms.{strip};
 ghost use Rattle.rel_rows.specs.Rows.{added_cells};
 
-use crate::leaf::{side_of, word_with_row};
+use crate::leaf::word_with_row;
+use rel_model::empty::side_of;
 use rel_model::quads_trait::Quads;
-use rel_model::{Lack, Quad};
+use rel_model::{Lack, Quad, Quarters};
 
 /// A quad with the first row of another, which must not be higher, added to its row i.
 #[cycle(line)]
@@ -22,7 +23,7 @@ pub(crate) fn with_line<Q: Quads>(q: &mut Q, quad: Quad, i: u32, line: Quad) -> 
         (added_cells i (quad_set (Q.worker q.old) line) (quad_set (Q.worker q.old) quad))
         (Q.worker q.old) (Q.worker q.new) result }
 {
-    if line.name == 0 {
+    if line.is_empty() {
         return Ok(quad);
     }
     if quad.height == q.bottom() {
@@ -63,16 +64,14 @@ fn with_low_line<Q: Quads>(q: &mut Q, quad: Quad, i: u32, line: Quad) -> Result<
         (added_cells i (quad_set (Q.worker q.old) line) (quad_set (Q.worker q.old) quad))
         (Q.worker q.old) (Q.worker q.new) result }
 {
-    let (nw, ne, sw, se) = q.quarters(quad);
+    let Quarters { nw, ne, sw, se } = q.quarters(quad);
     let half = side_of(nw.height);
     if i < half {
         let north = with_line(q, nw, i, line)?;
-        let corner = q.corner(north, ne, sw, se)?;
-        return Ok(corner);
+        return q.corner(north, ne, sw, se);
     }
     let south = with_line(q, sw, i - half, line)?;
-    let corner = q.corner(nw, ne, south, se)?;
-    Ok(corner)
+    q.corner(nw, ne, south, se)
 }
 
 /// The same above the leaves, if both have one height.
@@ -87,17 +86,19 @@ fn with_line_over<Q: Quads>(q: &mut Q, quad: Quad, i: u32, line: Quad) -> Result
         (added_cells i (quad_set (Q.worker q.old) line) (quad_set (Q.worker q.old) quad))
         (Q.worker q.old) (Q.worker q.new) result }
 {
-    let (nw, ne, sw, se) = q.quarters(quad);
-    let (west, east, _, _) = q.quarters(line);
+    let Quarters { nw, ne, sw, se } = q.quarters(quad);
+    let Quarters {
+        nw: west,
+        ne: east,
+        ..
+    } = q.quarters(line);
     let half = side_of(nw.height);
     if i < half {
         let north = with_halves(q, nw, ne, i, west, east)?;
-        let corner = q.corner(north.0, north.1, sw, se)?;
-        return Ok(corner);
+        return q.corner(north.0, north.1, sw, se);
     }
     let south = with_halves(q, sw, se, i - half, west, east)?;
-    let corner = q.corner(nw, ne, south.0, south.1)?;
-    Ok(corner)
+    q.corner(nw, ne, south.0, south.1)
 }
 
 /// Two quads side by side, each with its half of a line added.

@@ -6,9 +6,10 @@ ghost use Rattle.rel_steps.specs.Making.{MakesQuad};
 ghost use Rattle.rel_rows.specs.Rooms.{strip};
 ghost use Rattle.rel_rows.specs.Rows.{row_cells};
 
-use crate::leaf::{row_in_word, side_of};
+use crate::leaf::row_in_word;
+use rel_model::empty::side_of;
 use rel_model::quads_trait::Quads;
-use rel_model::{Lack, Quad};
+use rel_model::{Lack, Quad, Quarters};
 
 /// Row i of a quad, in row 0 of a quad of its height.
 #[cycle(row)]
@@ -18,7 +19,7 @@ pub(crate) fn row_in_quad<Q: Quads>(q: &mut Q, quad: Quad, i: u32) -> Result<Qua
     ensures { MakesQuad Q.lean (strip (quad.height - Q.least)) quad.height
         (row_cells i (quad_set (Q.worker q.old) quad)) (Q.worker q.old) (Q.worker q.new) result }
 {
-    if quad.name == 0 {
+    if quad.is_empty() {
         return Ok(quad);
     }
     if quad.height == q.bottom() {
@@ -49,7 +50,7 @@ fn row_over<Q: Quads>(q: &mut Q, quad: Quad, i: u32) -> Result<Quad, Lack>
     ensures { MakesQuad Q.lean (strip (quad.height - Q.least)) quad.height
         (row_cells i (quad_set (Q.worker q.old) quad)) (Q.worker q.old) (Q.worker q.new) result }
 {
-    let (nw, ne, sw, se) = q.quarters(quad);
+    let Quarters { nw, ne, sw, se } = q.quarters(quad);
     let half = side_of(nw.height);
     if i < half {
         return row_of_two(q, nw, ne, i);
@@ -69,16 +70,11 @@ fn row_of_two<Q: Quads>(q: &mut Q, west: Quad, east: Quad, i: u32) -> Result<Qua
         (row_cells i (beside (2 ^ west.height) (quad_set (Q.worker q.old) west) (quad_set (Q.worker q.old) east)))
         (Q.worker q.old) (Q.worker q.new) result }
 {
-    let none = Quad {
-        height: west.height,
-        name: 0,
-    };
+    let none = Quad::empty(west.height);
     let left = row_in_quad(q, west, i)?;
     if east.name == west.name {
-        let twice = q.corner(left, left, none, none)?;
-        return Ok(twice);
+        return q.corner(left, left, none, none);
     }
     let right = row_in_quad(q, east, i)?;
-    let corner = q.corner(left, right, none, none)?;
-    Ok(corner)
+    q.corner(left, right, none, none)
 }

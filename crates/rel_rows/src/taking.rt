@@ -8,10 +8,10 @@ ghost use Rattle.rel_steps.specs.Making.{MakesQuad};
 ghost use Rattle.rel_rows.specs.Rooms.{strip, strip_room};
 ghost use Rattle.rel_rows.specs.Rows.{row_of, row_cells};
 
-use crate::leaf::side_of;
 use crate::strips::row_in_quad;
+use rel_model::empty::side_of;
 use rel_model::quads_trait::Quads;
-use rel_model::{Lack, Quad, Rel, Shape};
+use rel_model::{Lack, Quad, Quarters, Rel, Shape};
 
 /// `{(0, j) : (i, j) in r}`: row i of a relation, as a relation of one row.
 ///
@@ -55,7 +55,7 @@ fn row_within<Q: Quads>(q: &mut Q, quad: Quad, cols: u32, i: u32) -> Result<Quad
     if cols > half {
         return row_in_quad(q, quad, i);
     }
-    let (nw, _, sw, _) = q.quarters(quad);
+    let Quarters { nw, sw, .. } = q.quarters(quad);
     if i < half {
         return row_within(q, nw, cols, i);
     }

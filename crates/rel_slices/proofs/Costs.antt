@@ -18,7 +18,7 @@ use Rattle.rel_slices.specs.declared.thin.Value.TheVariants.{Whole, Lines}
 use Rattle.rel_slices.specs.Thin.{most_lines, ValueStands, value_rows, value_cols, IsLong}
 use Rattle.rel_rows.specs.Rooms.{strip_room}
 use Rattle.rel_slices.specs.ValueRooms.{assembly_room, pieces_room, complement_room, transpose_room, formed_room, thin_room, residual_room}
-use Rattle.rel_slices.specs.Rooms.{line_room, outer_room, coimage_room, meet_room, whole_room, cut_room, meeting_room, settled_room}
+use Rattle.rel_slices.specs.Rooms.{line_tree_room, outer_room, coimage_room, meet_room, whole_room, cut_room, meeting_room, settled_room}
 use Rattle.rel_slices.proofs.Rooming.{tree_fits, trees_fit, trees_in_cube, products_fit, pieces_fit, complement_fits, strip_fits, strips_fit, few_strips_fit, tree_in_part}
 
 -- ---- at a height
@@ -123,7 +123,7 @@ many_lines_within k count other h a few b c =
     let d : k * (2 * (count * relation_room 3 1 other)) ≡ 2 * (k * (count * relation_room 3 1 other)) = omega arith in
     omega (arith, m, e, d)
 
-picks_within : (k count other h : ℕ) → k ≤ 2 ^ h → count ≤ most_lines → count ≤ 2 ^ h → other ≤ 2 ^ h → k * (count * line_room 3 other) ≤ 4 * 8 ^ h
+picks_within : (k count other h : ℕ) → k ≤ 2 ^ h → count ≤ most_lines → count ≤ 2 ^ h → other ≤ 2 ^ h → k * (count * line_tree_room 3 other) ≤ 4 * 8 ^ h
 picks_within k count other h a few b c = let x = many_lines_within k count other h a few b c in omega (arith, x)
 
 meetings_within : (k n h : ℕ) → k ≤ most_lines → n ≤ most_lines → k ≤ 2 ^ h → n ≤ 2 ^ h → meeting_room 3 k n ≤ 13 * 8 ^ h
@@ -161,12 +161,12 @@ coimages_cost least m n count e few k l o = subst (λ (x : ℕ). count * coimage
     (at_most_thin m n count _ k l o (λ h a b c. let x = coimages_within count m n h few c a b in let y = settled_within true count m h c a in omega (arith, x, y)))
 
 -- few rows times rows, columns times few columns
-pub few_cost : (least k m n : ℕ) → least ≡ 3 → m ≤ most_lines → k ≤ size_limit → m ≤ size_limit → n ≤ size_limit → k * (m * line_room least n) ≤ thin_room k m n
-few_cost least k m n e few a b c = subst (λ (x : ℕ). k * (m * line_room x n) ≤ thin_room k m n) (sym e)
+pub few_cost : (least k m n : ℕ) → least ≡ 3 → m ≤ most_lines → k ≤ size_limit → m ≤ size_limit → n ≤ size_limit → k * (m * line_tree_room least n) ≤ thin_room k m n
+few_cost least k m n e few a b c = subst (λ (x : ℕ). k * (m * line_tree_room x n) ≤ thin_room k m n) (sym e)
     (at_most_thin k m n _ a b c (λ h i j l. let x = picks_within k m n h i few j l in omega (arith, x)))
 
-pub turned_few_cost : (least k m n : ℕ) → least ≡ 3 → m ≤ most_lines → k ≤ size_limit → m ≤ size_limit → n ≤ size_limit → relation_room least m n + n * (m * line_room least k) ≤ thin_room k m n
-turned_few_cost least k m n e few a b c = subst (λ (x : ℕ). relation_room x m n + n * (m * line_room x k) ≤ thin_room k m n) (sym e)
+pub turned_few_cost : (least k m n : ℕ) → least ≡ 3 → m ≤ most_lines → k ≤ size_limit → m ≤ size_limit → n ≤ size_limit → relation_room least m n + n * (m * line_tree_room least k) ≤ thin_room k m n
+turned_few_cost least k m n e few a b c = subst (λ (x : ℕ). relation_room x m n + n * (m * line_tree_room x k) ≤ thin_room k m n) (sym e)
     (at_most_thin k m n _ a b c (λ h i j l. let x = picks_within n m k h l few j i in let y = tree_in_cube m n h j l in omega (arith, x, y)))
 
 -- more rows times rows, columns times more columns
@@ -205,17 +205,6 @@ pub cut_coimages_cost : (least k m n : ℕ) → least ≡ 3 → n ≤ most_lines
     → relation_room least m n + cut_room least n m + (n * coimage_room least k m + settled_room least true n k) ≤ thin_room k m n
 cut_coimages_cost least k m n e few long a b c = subst (λ (x : ℕ). relation_room x m n + cut_room x n m + (n * coimage_room x k m + settled_room x true n k) ≤ thin_room k m n) (sym e)
     (at_most_thin k m n _ a b c (λ h i j l. let x = tree_in_cube m n h j l in let z = cuts_within n m h l j in let y = coimages_within n k m h few l i j in let s = settled_long true n k long in omega (arith, x, z, y, s)))
-
--- the cost by the sizes of two values
-pub by_values : (x y p q : Value) (k m n z : ℕ) → x ≡ p → y ≡ q → value_rows p ≡ k → value_cols p ≡ m → value_cols q ≡ n → z ≤ thin_room k m n → z ≤ thin_room (value_rows x) (value_cols x) (value_cols y)
-by_values x y p q k m n z ex ey a b c l =
-    let e : thin_room (value_rows x) (value_cols x) (value_cols y) ≡ thin_room k m n =
-    ap (λ (v : Value). thin_room (value_rows v) (value_cols v) (value_cols y)) ex
-    ∙ ap (λ (v : Value). thin_room (value_rows p) (value_cols p) (value_cols v)) ey
-    ∙ ap (λ (t : ℕ). thin_room t (value_cols p) (value_cols q)) a
-    ∙ ap (λ (t : ℕ). thin_room k t (value_cols q)) b
-    ∙ ap (λ (t : ℕ). thin_room k m t) c in
-    subst (λ (t : ℕ). z ≤ t) (sym e) l
 
 -- ---- the sizes of a value
 pub value_row_limit : (w : Worker) (v : Value) → ((r : Rel) → Stands w r → r.rows ≤ size_limit) → ValueStands w v → value_rows v ≤ size_limit

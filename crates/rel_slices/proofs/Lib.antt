@@ -5,5 +5,8 @@ pub mod Valuing
 pub mod Products
 pub mod Rooming
 pub mod Costs
+pub mod Deriving
+pub mod Underway
 pub mod Univalents
 pub mod Remembering
+pub mod Counting

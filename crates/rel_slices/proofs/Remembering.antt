@@ -1,17 +1,18 @@
 -- What is remembered stays true where all that stood stands: a worker with the relations of the new one and the counts
 -- of the old one keeps what stood in the old one, and lines mean the same in workers with the same relations.
-use Rattle.std.proofs.Common.{◌≡◌, ◌∙◌, ℕ, refl, sym, ap, subst, arith, Option, None, Some}
-use Rattle.std.specs.Prelude.{All, IfSome}
+use Rattle.std.proofs.Common.{◌∙◌, refl, sym, ap, arith, Option, None, Some}
+use Rattle.std.specs.Prelude.{IfSome}
 use Rattle.rel_model.specs.declared.Rel.{Rel}
-use Rattle.rel_model.specs.Worker.{Worker, Stands, set_of, Gives, Keeps}
+use Rattle.rel_model.specs.Relation.{Relation}
+use Rattle.rel_model.specs.Worker.{Worker, Stands, Keeps}
 use Rattle.rel_model.specs.Seats.{Holds}
 use Rattle.rel_model.proofs.Workers.{keeps_stands, keeps_set}
 use Rattle.rel_slices.specs.declared.thin.Thin.{Thin}
 use Rattle.rel_slices.specs.declared.thin.Value.TheVariants.{Lines}
 use Rattle.rel_slices.specs.declared.recall.Remembered.{Remembered}
 use Rattle.rel_slices.specs.declared.recall.Entry.{Entry}
-use Rattle.rel_slices.specs.Thin.{ThinStands, GivesValue, value_rows, value_cols}
-use Rattle.rel_slices.specs.Remembering.{AreLinesOf, IsTrue, AllTrue}
+use Rattle.rel_slices.specs.declared.listings.Listing.{Listing}
+use Rattle.rel_slices.specs.Remembering.{AreLinesOf, IsTrue, IsListed, AllTrue}
 use Rattle.rel_slices.proofs.Valuing.{value_same}
 use Rattle.rel_slices.proofs.Putting.{thin_later}
 
@@ -34,8 +35,13 @@ some_keeps : (u v : Worker) (o : Option Entry) → Keeps u v → IfSome o (IsTru
 some_keeps u v None k t = t
 some_keeps u v (Some e) k t = true_keeps u v e k t
 
+-- pairs of a relation later on
+listing_keeps : (u v : Worker) (o : Option Listing) → Keeps u v → IfSome o (IsListed u) → IfSome o (IsListed v)
+listing_keeps u v None k t = t
+listing_keeps u v (Some e) k t = record { stands = keeps_stands u v e.rel k t.stands; pairs = t.pairs ∙ sym (ap (λ (r : Relation). r.pairs) (keeps_set u v e.rel k t.stands)) }
+
 pub all_keep : (u v : Worker) (m : Remembered) → Keeps u v → AllTrue u m → AllTrue v m
-all_keep u v m k h = λ i d l. some_keeps u v _ k (h i d l)
+all_keep u v m k h = record { lines = λ i d l. some_keeps u v _ k (h.lines i d l); listings = λ i d l. listing_keeps u v _ k (h.listings i d l) }
 
 -- the relations of one worker with the counts of another
 abbrev counted_as : Worker → Worker → Worker
@@ -63,5 +69,9 @@ some_hold : (u v : Worker) (o : Option Entry) → Holds u v → IfSome o (IsTrue
 some_hold u v None h t = t
 some_hold u v (Some e) h t = recounted u v e (true_keeps u (counted_as u v) e (keeps_counted u v h) t)
 
+listing_holds : (u v : Worker) (o : Option Listing) → Holds u v → IfSome o (IsListed u) → IfSome o (IsListed v)
+listing_holds u v None h t = t
+listing_holds u v (Some e) h t = let k = listing_keeps u (counted_as u v) (Some e) (keeps_counted u v h) t in record { stands = k.stands; pairs = k.pairs }
+
 pub all_hold : (u v : Worker) (m : Remembered) → Holds u v → AllTrue u m → AllTrue v m
-all_hold u v m h t = λ i d l. some_hold u v _ h (t i d l)
+all_hold u v m h t = record { lines = λ i d l. some_hold u v _ h (t.lines i d l); listings = λ i d l. listing_holds u v _ h (t.listings i d l) }

@@ -1,19 +1,23 @@
 -- Univalence by lines.
 -- 1. That row i of a relation has two pairs is a test on its elements (`twice`), the same for rows that are laid.
 -- 2. Of columns, an element of a row with an earlier one beside it is two columns that meet there.
+-- 3. Lines are tried one after the other, until one passes (`Tried`, `tried_more`, `found_one`).
 use Rattle.std.proofs.Common.{◌≡◌, ◌<◌, ◌&&◌, ◌||◌, ◌+◌, ◌∙◌, not, suc, ℕ, Bool, true, false, refl, sym, ap, arith}
 use Rattle.std.proofs.lemmas.Bool.{and_parts, and_from, true≢false}
 use Rattle.std.specs.Prelude.{◌↔◌}
 use Rattle.rel_model.specs.declared.Rel.{Rel}
 use Rattle.rel_model.specs.Operators.{inter, empty}
-use Rattle.rel_model.specs.Worker.{Worker, set_of}
+use Rattle.rel_model.specs.Worker.{Worker, set_of, Keeps, MakesAtMost, MissesNothing}
 use Rattle.rel_model.specs.Relation.{Relation, has}
 use Rattle.rel_model.specs.Cells.{some_below}
 use Rattle.rel_model.specs.Algebra.{HasType}
 use Rattle.rel_model.specs.Choice.{is_unival}
+use Rattle.rel_model.proofs.Workers.{keeps_itself, keeps_trans}
 use Rattle.rel_model.proofs.Somes.{same_truth, some_agree, some_from, some_passes}
-use Rattle.rel_slices.specs.Thin.{laid}
+use Rattle.rel_slices.specs.declared.thin.Thin.{Thin}
+use Rattle.rel_slices.specs.Thin.{laid, line_set, ThinStands}
 use Rattle.rel_slices.specs.Ops.{meet}
+use Rattle.rel_slices.proofs.Putting.{line_later}
 use Rattle.rel_slices.proofs.Laying.{type-laid, apart_lines, meeting_lines}
 use Rattle.rel_slices.proofs.Products.{has-rows, has-columns}
 
@@ -47,6 +51,8 @@ rows_univalent c o f t =
     unival_by c o (laid false c o f) y.row_size y.col_size
     ∙ ap not (some_agree c (twice o (laid false c o f)) (λ i. not (is_unival (f i))) (λ i l. twice_agree o (laid false c o f) (f i) i 0 (λ j m. has-rows c o f i j l m) ∙ sym (line_twice o (f i) (t i l))))
 
+-- columns are univalent exactly if no two of them meet: two elements in a row of the relation are an element that two
+-- columns share
 pub columns_univalent : (c o : ℕ) (f : ℕ → Relation) → is_unival (laid true c o f) ≡ not (some_below c (λ j. some_below j (λ k. meet o (f k) (f j))))
 columns_univalent c o f =
     let r : Relation = laid true c o f in
@@ -74,9 +80,33 @@ columns_univalent c o f =
     (and_from _ _ (has-columns c o f p.at q.at p.within q.within ∙ a.1)
     (some_from q.at (has r p.at) s.at s.within (has-columns c o f p.at s.at p.within (omega (arith, lq, ls)) ∙ a.0))))))
 
--- one number more
-pub none_more : (n : ℕ) (t : ℕ → Bool) → some_below n t ≡ false → t n ≡ false → some_below (n + 1) t ≡ false
-none_more n t a b = ap (λ (m : ℕ). some_below m t) (let z : n + 1 ≡ suc n = omega arith in z) ∙ ap (λ (x : Bool). x || some_below n t) b ∙ a
+-- ---- lines that are tried one after the other
+-- whether lines j and k meet
+abbrev pub lines_meet : Worker → Thin → ℕ → ℕ → Bool
+lines_meet w s j k = meet s.other (line_set w s k) (line_set w s j)
+
+-- of a worker later on, no others do
+pub lines_meet-later : (u v : Worker) (s : Thin) (j k : ℕ) → Keeps u v → ThinStands u s → j < s.count → k < s.count → lines_meet v s j k ≡ lines_meet u s j k
+lines_meet-later u v s j k h t l m =
+    ap (λ (x : Relation). meet s.other x (line_set v s j)) (line_later u v s h t k m) ∙ ap (meet s.other (line_set u s k)) (line_later u v s h t j l)
+
+-- the first i numbers fail the test, and nothing else has changed
+pub record Tried (old now : Worker) (test : ℕ → Bool) (i : ℕ) : Type 0 where
+  pub none : some_below i test ≡ false
+  pub keeps : Keeps old now
+  pub room : MakesAtMost 0 old now
+  pub misses : MissesNothing old now
+
+pub tried_none : (w : Worker) (test : ℕ → Bool) → Tried w w test 0
+tried_none w test = record { none = refl; keeps = keeps_itself w; room = omega arith; misses = refl }
+
+pub tried_more : (old now next : Worker) (test : ℕ → Bool) (i : ℕ) → Tried old now test i → test i ≡ false → Keeps now next → MakesAtMost 0 now next → MissesNothing now next → Tried old next test (i + 1)
+tried_more old now next test i t f k r m = record {
+  none = ap (λ (x : ℕ). some_below x test) (let z : i + 1 ≡ suc i = omega arith in z) ∙ ap (λ (x : Bool). x || some_below i test) f ∙ t.none;
+  keeps = keeps_trans old now next t.keeps k;
+  room = (let a = t.room in omega (arith, a, r));
+  misses = m ∙ t.misses;
+}
 
 pub found_one : (n : ℕ) (t : ℕ → Bool) (k : ℕ) → k < n → t k ≡ true → false ≡ not (some_below n t)
 found_one n t k l h = sym (ap not (some_from n t k l h))
@@ -86,8 +116,6 @@ pub meets_is : (w : Worker) (n : ℕ) (r s : Rel) (t : Bool) → HasType 1 n (se
 meets_is w n r s true t e f h = meeting_lines n (set_of w r) (set_of w s) t (λ a. true≢false (h.1 (a ∙ sym (ap (λ (x : ℕ). empty x r.cols) e ∙ ap (empty 1) f))))
 meets_is w n r s false t e f h = apart_lines n (set_of w r) (set_of w s) t (h.0 refl ∙ ap (λ (x : ℕ). empty x r.cols) e ∙ ap (empty 1) f)
 
-pub one_met : (s t : Bool) → t ≡ not s → t ≡ false → s ≡ true
-one_met s t a b = sym (not_not s) ∙ ap not (sym a ∙ b)
-
-pub none_met : (s t : Bool) → t ≡ not s → t ≡ true → s ≡ false
-none_met s t a b = sym (not_not s) ∙ ap not (sym a ∙ b)
+-- of a test that answers the opposite
+pub opposite : (s t : Bool) → t ≡ not s → s ≡ not t
+opposite s t a = sym (not_not s) ∙ ap not (sym a)

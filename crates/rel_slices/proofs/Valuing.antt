@@ -1,9 +1,11 @@
 -- What a worker keeps of values, and values from what stands.
 -- 1. A value goes on standing with the same meaning where all that stood does (`value_stays`, `value_same`).
 -- 2. Lines that were given are a value of their sizes (`lines_value`), and so is what stands whole (`whole_value`).
--- 3. A derivation is a chain of such values, each recast in the words of the definition (`right_value` and its kin).
+-- 3. A derivation is a chain of such values, each recast in the words of the definition (`right_set` and its kin).
 -- 4. The form of the sizes says how two values of one type are cut (`alike`), and what may follow what in a composition.
-use Rattle.std.proofs.Common.{◌≡◌, ◌<◌, ◌≤◌, ◌&&◌, ◌∙◌, cond, not, ℕ, Bool, true, false, refl, sym, ap, subst, arith}
+use Rattle.std.proofs.Common.{◌≡◌, ◌<◌, ◌≤◌, ◌&&◌, ◌∙◌, cond, not, ℕ, Bool, true, false, Result, IfOk, refl, sym, ap, subst, arith}
+use Rattle.std.specs.Prelude.{Ok, Err}
+use Rattle.rel_model.specs.declared.Lack.{Lack}
 use Rattle.rel_model.specs.declared.Rel.{Rel}
 use Rattle.rel_model.specs.Relation.{Relation, IsRelation, relation_of, has}
 use Rattle.rel_model.specs.Algebra.{HasType}
@@ -81,6 +83,7 @@ boole_lines_given o w op a b s ta e f h g =
     ∙ ap (λ (x : ℕ). boole_of op (thin_of o a) (laid b.turned b.count x (line_set o b))) h)
     (lines_value w a.turned a.count a.other _ s g)
 
+-- full lines without those of a set are its complement: laid beside each other they are the full relation
 pub complement_lines_given : (o w1 w2 : Worker) (s all made : Thin) → Keeps o w1 → ThinStands o s → GivesLines w1 s.turned s.count s.other (λ i. full 1 s.other) all
     → GivesLines w2 all.turned all.count all.other (λ i. boole_of Diff (line_set w1 all i) (line_set w1 s i)) made → GivesValue w2 (thin_rows s) (thin_cols s) (complement (thin_of o s)) (Lines made)
 complement_lines_given o w1 w2 s all made k h ga gm =
@@ -128,38 +131,41 @@ turned_given w s t h a b c d = record {
 pub later_value : (u v : Worker) (m n : ℕ) (set : Relation) (x : Value) → Keeps u v → GivesValue u m n set x → value_of v x ≡ set
 later_value u v m n set x k g = value_same u v x k g.stands ∙ g.means
 
-pub right_value : (w0 w1 w2 w3 w4 : Worker) (r s turned lacking broken rest : Value) → HasType (value_rows r) (value_cols r) (value_of w0 r) → HasType (value_rows s) (value_cols s) (value_of w0 s) → value_rows r ≡ value_rows s → ValueStands w0 s → Keeps w0 w1 → Keeps w1 w2
+-- an answer by other words
+pub recast_ok : (w : Worker) {m n p q : ℕ} {x y : Relation} (r : Result Value Lack) → m ≡ p → n ≡ q → x ≡ y → IfOk r (GivesValue w m n x) → IfOk r (GivesValue w p q y)
+recast_ok w (Ok v) e f h g = recast_value w _ _ _ _ _ _ v e f h g
+recast_ok w (Err x) e f h g = tt
+
+pub right_set : (w0 w1 w2 : Worker) (r s turned lacking : Value) → HasType (value_rows r) (value_cols r) (value_of w0 r) → HasType (value_rows s) (value_cols s) (value_of w0 s) → value_rows r ≡ value_rows s → ValueStands w0 s → Keeps w0 w1 → Keeps w1 w2
     → GivesValue w1 (value_cols r) (value_rows r) (transpose (value_of w0 r)) turned → GivesValue w2 (value_rows s) (value_cols s) (complement (value_of w1 s)) lacking
-    → GivesValue w3 (value_rows turned) (value_cols lacking) (compose (value_of w2 turned) (value_of w2 lacking)) broken → GivesValue w4 (value_rows broken) (value_cols broken) (complement (value_of w3 broken)) rest
-    → GivesValue w4 (value_cols r) (value_cols s) (right_residual (value_of w0 r) (value_of w0 s)) rest
-right_value w0 w1 w2 w3 w4 r s turned lacking broken rest tr ts e ss k0 k1 g1 g2 g3 g4 =
+    → complement (compose (value_of w2 turned) (value_of w2 lacking)) ≡ right_residual (value_of w0 r) (value_of w0 s)
+right_set w0 w1 w2 r s turned lacking tr ts e ss k0 k1 g1 g2 =
     let R : Relation = value_of w0 r in
     let S : Relation = value_of w0 s in
     let e1 : value_of w2 turned ≡ transpose R = later_value w1 w2 _ _ _ turned k1 g1 in
     let e2 : value_of w2 lacking ≡ complement S = g2.means ∙ ap complement (value_same w0 w1 s k0 ss) in
-    let e3 : value_of w3 broken ≡ compose (transpose R) (complement S) = g3.means ∙ ap (λ (x : Relation). compose x (value_of w2 lacking)) e1 ∙ ap (compose (transpose R)) e2 in
-    recast_value w4 _ _ _ _ _ _ rest (g3.row_size ∙ g1.row_size) (g3.col_size ∙ g2.col_size)
-    (ap complement e3 ∙ sym (residual_laws.right (value_rows r) (value_cols r) (value_cols s) R S tr (subst (λ (x : ℕ). HasType x (value_cols s) S) (sym e) ts))) g4
+    ap (λ (x : Relation). complement (compose x (value_of w2 lacking))) e1 ∙ ap (λ (x : Relation). complement (compose (transpose R) x)) e2
+    ∙ sym (residual_laws.right (value_rows r) (value_cols r) (value_cols s) R S tr (subst (λ (x : ℕ). HasType x (value_cols s) S) (sym e) ts))
 
-pub left_value : (w0 w1 w2 w3 w4 : Worker) (s r lacking turned broken rest : Value) → HasType (value_rows r) (value_cols r) (value_of w0 r) → HasType (value_rows s) (value_cols s) (value_of w0 s) → value_cols s ≡ value_cols r → ValueStands w0 r → Keeps w0 w1 → Keeps w1 w2
+pub left_set : (w0 w1 w2 : Worker) (s r lacking turned : Value) → HasType (value_rows r) (value_cols r) (value_of w0 r) → HasType (value_rows s) (value_cols s) (value_of w0 s) → value_cols s ≡ value_cols r → ValueStands w0 r → Keeps w0 w1 → Keeps w1 w2
     → GivesValue w1 (value_rows s) (value_cols s) (complement (value_of w0 s)) lacking → GivesValue w2 (value_cols r) (value_rows r) (transpose (value_of w1 r)) turned
-    → GivesValue w3 (value_rows lacking) (value_cols turned) (compose (value_of w2 lacking) (value_of w2 turned)) broken → GivesValue w4 (value_rows broken) (value_cols broken) (complement (value_of w3 broken)) rest
-    → GivesValue w4 (value_rows s) (value_rows r) (left_residual (value_of w0 s) (value_of w0 r)) rest
-left_value w0 w1 w2 w3 w4 s r lacking turned broken rest tr ts e sr k0 k1 g1 g2 g3 g4 =
+    → complement (compose (value_of w2 lacking) (value_of w2 turned)) ≡ left_residual (value_of w0 s) (value_of w0 r)
+left_set w0 w1 w2 s r lacking turned tr ts e sr k0 k1 g1 g2 =
     let R : Relation = value_of w0 r in
     let S : Relation = value_of w0 s in
     let e1 : value_of w2 lacking ≡ complement S = later_value w1 w2 _ _ _ lacking k1 g1 in
     let e2 : value_of w2 turned ≡ transpose R = g2.means ∙ ap transpose (value_same w0 w1 r k0 sr) in
-    let e3 : value_of w3 broken ≡ compose (complement S) (transpose R) = g3.means ∙ ap (λ (x : Relation). compose x (value_of w2 turned)) e1 ∙ ap (compose (complement S)) e2 in
-    recast_value w4 _ _ _ _ _ _ rest (g3.row_size ∙ g1.row_size) (g3.col_size ∙ g2.col_size)
-    (ap complement e3 ∙ sym (residual_laws.left (value_rows s) (value_rows r) (value_cols s) R S (subst (λ (x : ℕ). HasType (value_rows r) x R) (sym e) tr) ts)) g4
+    ap (λ (x : Relation). complement (compose x (value_of w2 turned))) e1 ∙ ap (λ (x : Relation). complement (compose (complement S) x)) e2
+    ∙ sym (residual_laws.left (value_rows s) (value_rows r) (value_cols s) R S (subst (λ (x : ℕ). HasType (value_rows r) x R) (sym e) tr) ts)
 
-pub quotient_value : (w0 w1 w2 w3 w4 w5 : Worker) (r s forth rt st back both : Value) → HasType (value_rows r) (value_cols r) (value_of w0 r) → HasType (value_rows s) (value_cols s) (value_of w0 s) → value_rows r ≡ value_rows s → ValueStands w0 r → ValueStands w0 s
+-- the symmetric quotient is the intersection of two residuals, the left one of transposed relations: what each step
+-- made still means the same at the end
+pub quotient_set : (w0 w1 w2 w3 w4 : Worker) (r s forth rt st back : Value) → HasType (value_rows r) (value_cols r) (value_of w0 r) → HasType (value_rows s) (value_cols s) (value_of w0 s) → value_rows r ≡ value_rows s → ValueStands w0 r → ValueStands w0 s
     → Keeps w0 w1 → Keeps w1 w2 → Keeps w2 w3 → Keeps w3 w4
     → GivesValue w1 (value_cols r) (value_cols s) (right_residual (value_of w0 r) (value_of w0 s)) forth → GivesValue w2 (value_cols r) (value_rows r) (transpose (value_of w1 r)) rt → GivesValue w3 (value_cols s) (value_rows s) (transpose (value_of w2 s)) st
-    → GivesValue w4 (value_rows rt) (value_rows st) (left_residual (value_of w3 rt) (value_of w3 st)) back → GivesValue w5 (value_rows forth) (value_cols forth) (inter (value_of w4 forth) (value_of w4 back)) both
-    → GivesValue w5 (value_cols r) (value_cols s) (symmetric_quotient (value_of w0 r) (value_of w0 s)) both
-quotient_value w0 w1 w2 w3 w4 w5 r s forth rt st back both tr ts e sr ss k0 k1 k2 k3 g1 g2 g3 g4 g5 =
+    → GivesValue w4 (value_rows rt) (value_rows st) (left_residual (value_of w3 rt) (value_of w3 st)) back
+    → inter (value_of w4 forth) (value_of w4 back) ≡ symmetric_quotient (value_of w0 r) (value_of w0 s)
+quotient_set w0 w1 w2 w3 w4 r s forth rt st back tr ts e sr ss k0 k1 k2 k3 g1 g2 g3 g4 =
     let R : Relation = value_of w0 r in
     let S : Relation = value_of w0 s in
     let k02 = keeps_trans w0 w1 w2 k0 k1 in
@@ -168,8 +174,7 @@ quotient_value w0 w1 w2 w3 w4 w5 r s forth rt st back both tr ts e sr ss k0 k1 k
     let e2 : value_of w3 rt ≡ transpose R = later_value w2 w3 _ _ _ rt k2 g2 ∙ ap transpose (value_same w0 w1 r k0 sr) in
     let e3 : value_of w3 st ≡ transpose S = g3.means ∙ ap transpose (value_same w0 w2 s k02 ss) in
     let e4 : value_of w4 back ≡ left_residual (transpose R) (transpose S) = g4.means ∙ ap (λ (x : Relation). left_residual x (value_of w3 st)) e2 ∙ ap (left_residual (transpose R)) e3 in
-    recast_value w5 _ _ _ _ _ _ both g1.row_size g1.col_size
-    (ap (λ (x : Relation). inter x (value_of w4 back)) e1 ∙ ap (inter (right_residual R S)) e4 ∙ sym (quotient_by_residuals (value_rows r) (value_cols r) (value_cols s) R S tr (subst (λ (x : ℕ). HasType x (value_cols s) S) (sym e) ts))) g5
+    ap (λ (x : Relation). inter x (value_of w4 back)) e1 ∙ ap (inter (right_residual R S)) e4 ∙ sym (quotient_by_residuals (value_rows r) (value_cols r) (value_cols s) R S tr (subst (λ (x : ℕ). HasType x (value_cols s) S) (sym e) ts))
 
 -- ---- empty lines
 pub laid_empty : (turned : Bool) (count other : ℕ) → laid turned count other (λ i. empty 1 other) ≡ empty (cond turned other count) (cond turned count other)

@@ -5,3 +5,4 @@ pub mod Members
 pub mod ValueRooms
 pub mod Fits
 pub mod Remembering
+pub mod Derived

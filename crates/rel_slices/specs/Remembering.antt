@@ -1,11 +1,13 @@
--- Lines that are remembered for the relations they mean.
-use Rattle.std.specs.Prelude.{◌≤◌, All, IfSome}
+-- Lines and pairs that are remembered for the relations they mean.
+use Rattle.std.specs.Prelude.{◌≡◌, ◌≤◌, ◌+◌, ℕ, List, Option, None, Some, [], ◌∷◌, length, All, IfSome}
 use Rattle.rel_model.specs.declared.Rel.{Rel}
 use Rattle.rel_model.specs.Worker.{Worker, Stands, set_of}
 use Rattle.rel_slices.specs.declared.thin.Thin.{Thin}
 use Rattle.rel_slices.specs.declared.thin.Value.TheVariants.{Lines}
 use Rattle.rel_slices.specs.declared.recall.Remembered.{Remembered}
 use Rattle.rel_slices.specs.declared.recall.Entry.{Entry}
+use Rattle.rel_slices.specs.declared.listings.Listing.{Listing}
+use Rattle.rel_slices.specs.declared.listings.Listings.{Listings}
 use Rattle.rel_slices.specs.Thin.{GivesValue}
 
 -- long lines that mean relation r
@@ -18,6 +20,26 @@ pub record IsTrue (w : Worker) (e : Entry) : Type 0 where
   pub stands : Stands w e.rel
   pub lines : AreLinesOf w e.rel e.lines
 
+-- a relation that stands, and its pairs
+pub record IsListed (w : Worker) (l : Listing) : Type 0 where
+  pub stands : Stands w l.rel
+  pub pairs : l.pairs.items ≡ (set_of w l.rel).pairs
+
+-- pairs that are kept are those of relations that stand
+abbrev pub AreListed : Worker → Listings → Type 0
+AreListed w s = All (λ l. IfSome l (IsListed w)) s.kept
+
+-- how many pairs are kept at a place
+unfoldable pub pairs_at : Option Listing → ℕ
+pairs_at None = 0
+pairs_at (Some l) = length l.pairs.items
+
+-- how many pairs are kept together
+unfoldable pub pairs_kept : List (Option Listing) → ℕ
+pairs_kept [] = 0
+pairs_kept (o ∷ rest) = pairs_at o + pairs_kept rest
+
 -- everything that is remembered is true in a worker
-abbrev pub AllTrue : Worker → Remembered → Type 0
-AllTrue w m = All (λ e. IfSome e (IsTrue w)) m.entries
+pub record AllTrue (w : Worker) (m : Remembered) : Type 0 where
+  pub lines : All (λ e. IfSome e (IsTrue w)) m.entries
+  pub listings : AreListed w m.listings

@@ -5,7 +5,7 @@ use Rattle.rel_model.specs.Worker.{height_of_three}
 use Rattle.rel_slices.specs.declared.thin.Value.{Value}
 use Rattle.rel_slices.specs.declared.thin.Value.TheVariants.{Whole, Lines}
 use Rattle.rel_slices.specs.Thin.{most_lines}
-use Rattle.rel_slices.specs.Rooms.{whole_room, line_room, cut_room}
+use Rattle.rel_slices.specs.Rooms.{whole_room, line_tree_room, cut_room}
 
 -- making a value whole
 abbrev pub assembly_room : ℕ → Value → ℕ
@@ -15,12 +15,12 @@ assembly_room least (Lines s) = whole_room least s.turned s.count s.other
 -- an operator applied to one value piece by piece
 abbrev pub pieces_room : ℕ → Value → ℕ
 pieces_room least (Whole r) = relation_room least r.rows r.cols
-pieces_room least (Lines s) = s.count * line_room least s.other
+pieces_room least (Lines s) = s.count * line_tree_room least s.other
 
 -- the full value of this one's form: one line, used for all
 abbrev pub full_room : ℕ → Value → ℕ
 full_room least (Whole r) = relation_room least r.rows r.cols
-full_room least (Lines s) = line_room least s.other
+full_room least (Lines s) = line_tree_room least s.other
 
 -- the full value, and an operator applied piece by piece
 abbrev pub complement_room : ℕ → Value → ℕ

@@ -5,7 +5,7 @@ ghost use Rattle.rel_model.specs.Relation.{size_limit};
 ghost use Rattle.rel_model.specs.Roots.{relation_room};
 ghost use Rattle.rel_model.specs.Worker.{Keeps, MakesAtMost, HasCause};
 ghost use Rattle.rel_slices.specs.Thin.{most_lines, line_of, GivesLines, GivesValue, HasForm};
-ghost use Rattle.rel_slices.specs.Rooms.{line_room};
+ghost use Rattle.rel_slices.specs.Rooms.{line_tree_room};
 
 use crate::thin::{LEAST, MOST, Thin, Value};
 use crate::values::{full_lines, repeated};

@@ -4,7 +4,7 @@ ghost use Rattle.rel_model.specs.Operators.{compose as compose_of};
 ghost use Rattle.rel_model.specs.Roots.{relation_room, line_product_room};
 ghost use Rattle.rel_model.specs.Worker.{Stands, set_of, Gives, Keeps, MakesAtMost, HasCause, product_room};
 ghost use Rattle.rel_slices.specs.Thin.{most_lines, thin_of, ThinStands, ValueStands, value_of, value_rows, value_cols, GivesValue, HasForm};
-ghost use Rattle.rel_slices.specs.Rooms.{line_room, outer_room, coimage_room, meeting_room, cut_room, settled_room};
+ghost use Rattle.rel_slices.specs.Rooms.{line_tree_room, outer_room, coimage_room, meeting_room, cut_room, settled_room};
 
 use crate::outer::outers;
 use crate::thin::{Thin, Value};

@@ -4,19 +4,26 @@ ghost use Rattle.rel_model.specs.Operators.{compose as compose_of};
 ghost use Rattle.rel_model.specs.Roots.{relation_room, line_product_room};
 ghost use Rattle.rel_model.specs.Worker.{Stands, set_of, Gives, Keeps, MakesAtMost, HasCause, product_room};
 ghost use Rattle.rel_slices.specs.Thin.{thin_of, ThinStands, ValueStands, value_of, value_rows, value_cols, IsThin, GivesValue, HasForm};
-ghost use Rattle.rel_slices.specs.Rooms.{line_room, outer_room, coimage_room, meeting_room, cut_room, settled_room};
+ghost use Rattle.rel_slices.specs.Rooms.{line_tree_room, outer_room, coimage_room, meeting_room, cut_room, settled_room};
 ghost use Rattle.rel_slices.specs.ValueRooms.{thin_room};
 
 use crate::forms::settled;
+use crate::recall::Remembers;
 use crate::thin::{LEAST, MOST, Thin, Value};
 use crate::through::{coimages, images};
 use crate::whole::{cut_columns, cut_rows};
+use rel_joins::compose_by_lists;
 use rel_model::quads_trait::Quads;
 use rel_model::{Lack, Rel};
 use std::alloc::Global;
 
 /// `R*S`, with R as its rows and S whole, row by row.
-pub fn rows_by_whole<C: Quads>(alloc: Global, core: &mut C, a: &Thin, s: Rel) -> Result<Value, Lack>
+pub fn rows_by_whole<C: Remembers>(
+    alloc: Global,
+    core: &mut C,
+    a: &Thin,
+    s: Rel,
+) -> Result<Value, Lack>
     requires left { ThinStands (C.worker core.old) a.now }
     requires right { Stands (C.worker core.old) s }
     requires rows { a.now.turned ≡ false }
@@ -35,7 +42,7 @@ pub fn rows_by_whole<C: Quads>(alloc: Global, core: &mut C, a: &Thin, s: Rel) ->
 }
 
 /// `R*S`, with R whole and S as its columns, column by column.
-pub fn whole_by_columns<C: Quads>(
+pub fn whole_by_columns<C: Remembers>(
     alloc: Global,
     core: &mut C,
     r: Rel,
@@ -58,8 +65,34 @@ pub fn whole_by_columns<C: Quads>(
     Ok(product)
 }
 
+/// `R*S` as one tree: by lists of pairs if that pays, otherwise by the product of squares.
+fn product_of<C: Quads>(alloc: Global, core: &mut C, r: Rel, s: Rel) -> Result<Rel, Lack>
+    requires left { Stands (C.worker core.old) r }
+    requires right { Stands (C.worker core.old) s }
+    requires middle { r.cols ≡ s.rows }
+    ensures value { let w = C.worker core.old in IfOk result (Gives (C.worker core.new) r.rows s.cols
+        (compose_of (set_of w r) (set_of w s))) }
+    ensures keeps { Keeps (C.worker core.old) (C.worker core.new) }
+    ensures room { MakesAtMost (product_room r.rows r.cols s.cols) (C.worker core.old) (C.worker core.new) }
+    ensures cause { HasCause C.lean (C.worker core.old) (C.worker core.new) result }
+{
+    let listed = compose_by_lists(alloc, core, r, s)?;
+    match listed {
+        Some(product) => Ok(product),
+        None => {
+            let product = core.compose(r, s)?;
+            Ok(product)
+        }
+    }
+}
+
 /// `R*S`, with both whole. If the result is thin, one of them is cut into lines.
-pub fn whole_by_whole<C: Quads>(alloc: Global, core: &mut C, r: Rel, s: Rel) -> Result<Value, Lack>
+pub fn whole_by_whole<C: Remembers>(
+    alloc: Global,
+    core: &mut C,
+    r: Rel,
+    s: Rel,
+) -> Result<Value, Lack>
     requires left { Stands (C.worker core.old) r }
     requires right { Stands (C.worker core.old) s }
     requires middle { r.cols ≡ s.rows }
@@ -81,6 +114,6 @@ pub fn whole_by_whole<C: Quads>(alloc: Global, core: &mut C, r: Rel, s: Rel) -> 
         let columns = cut_columns(core, s)?;
         return whole_by_columns(alloc, core, r, &columns);
     }
-    let product = core.compose(r, s)?;
+    let product = product_of(alloc, core, r, s)?;
     Ok(Value::Whole(product))
 }

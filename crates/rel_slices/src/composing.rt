@@ -8,14 +8,19 @@ ghost use Rattle.rel_slices.specs.ValueRooms.{thin_room};
 use crate::by_lines::{columns_by_rows, rows_by_columns};
 use crate::by_whole::{rows_by_whole, whole_by_columns, whole_by_whole};
 use crate::few::{columns_by_few, columns_by_many, few_by_rows, many_by_rows};
+use crate::recall::Remembers;
 use crate::thin::{MOST, Value};
 use rel_model::Lack;
-use rel_model::quads_trait::Quads;
 use std::alloc::Global;
 
 /// `R*S = {(i, k) : (i, j) in r and (j, k) in s for some j}`: the composition of a k × m and an m × n value (Schmidt
 /// and Ströhlein).
-pub fn compose<C: Quads>(alloc: Global, core: &mut C, x: &Value, y: &Value) -> Result<Value, Lack>
+pub fn compose<C: Remembers>(
+    alloc: Global,
+    core: &mut C,
+    x: &Value,
+    y: &Value,
+) -> Result<Value, Lack>
     requires left { ValueStands (C.worker core.old) x.now }
     requires right { ValueStands (C.worker core.old) y.now }
     requires left_form { HasForm x.now }

@@ -4,7 +4,7 @@ ghost use Rattle.rel_model.specs.Operators.{compose as compose_of};
 ghost use Rattle.rel_model.specs.Roots.{relation_room, line_product_room};
 ghost use Rattle.rel_model.specs.Worker.{Stands, set_of, Gives, Keeps, MakesAtMost, HasCause, product_room};
 ghost use Rattle.rel_slices.specs.Thin.{most_lines, thin_of, ThinStands, ValueStands, value_of, value_rows, value_cols, GivesValue, HasForm};
-ghost use Rattle.rel_slices.specs.Rooms.{line_room, outer_room, coimage_room, meeting_room, cut_room, settled_room};
+ghost use Rattle.rel_slices.specs.Rooms.{line_tree_room, outer_room, coimage_room, meeting_room, cut_room, settled_room};
 
 use crate::by_lines::columns_by_rows;
 use crate::picks::pick_lines;
@@ -26,7 +26,7 @@ pub fn few_by_rows<C: Core>(core: &mut C, r: Rel, b: &Thin) -> Result<Value, Lac
         (compose_of (set_of w r) (thin_of w b.now))) }
     ensures form { IfOk result HasForm }
     ensures keeps { Keeps (C.worker core.old) (C.worker core.new) }
-    ensures room { MakesAtMost (r.rows * (b.now.count * line_room C.least b.now.other)) (C.worker core.old)
+    ensures room { MakesAtMost (r.rows * (b.now.count * line_tree_room C.least b.now.other)) (C.worker core.old)
         (C.worker core.new) }
     ensures cause { HasCause C.lean (C.worker core.old) (C.worker core.new) result }
 {
@@ -70,7 +70,7 @@ pub fn columns_by_few<C: Core>(core: &mut C, a: &Thin, s: Rel) -> Result<Value, 
     ensures form { IfOk result HasForm }
     ensures keeps { Keeps (C.worker core.old) (C.worker core.new) }
     ensures room { MakesAtMost (relation_room C.least s.rows s.cols
-        + s.cols * (a.now.count * line_room C.least a.now.other)) (C.worker core.old) (C.worker core.new) }
+        + s.cols * (a.now.count * line_tree_room C.least a.now.other)) (C.worker core.old) (C.worker core.new) }
     ensures cause { HasCause C.lean (C.worker core.old) (C.worker core.new) result }
 {
     let turned = core.transpose(s)?;

@@ -1,9 +1,11 @@
-//! Remembers the lines of relations, so that a named relation is cut into lines only once.
-ghost use Rattle.std.specs.Prelude.{◌≡◌, IfSome};
-ghost use Rattle.rel_model.specs.Worker.{Worker, Stands};
-ghost use Rattle.rel_slices.specs.Remembering.{AreLinesOf, AllTrue};
+//! Remembers the lines of relations, so that a named relation is cut into lines only once, and the pairs of a few.
+ghost use Rattle.std.specs.Prelude.{◌≡◌, ◌≤◌, ◌^◌, IfSome};
+ghost use Rattle.rel_model.specs.Worker.{Worker, Stands, set_of};
+ghost use Rattle.rel_slices.specs.Remembering.{AreLinesOf, AllTrue, pairs_kept};
 
+use crate::listings::Listings;
 use crate::thin::Thin;
+use crate::walks::Walks;
 use rel_model::Rel;
 use rel_model::engine_trait::Engine;
 
@@ -17,11 +19,14 @@ pub struct Entry {
     pub lines: Thin,
 }
 
-/// The lines of the 16 relations that were noted last. It takes no memory beyond itself, some 8 KB.
+/// The lines of the `REMEMBERED` relations that were noted last, and the pairs of a few that were walked several times.
+/// Beyond the pairs it takes some 8 KB.
 #[derive(Drop)]
 pub struct Remembered {
     next: u32,
-    entries: [Option<Entry>; 16],
+    entries: [Option<Entry>; REMEMBERED as usize],
+    listings: Listings,
+    walks: Walks,
 }
 
 impl Remembered {
@@ -31,7 +36,9 @@ impl Remembered {
     {
         Remembered {
             next: 0,
-            entries: [None; 16],
+            entries: [None; REMEMBERED as usize],
+            listings: Listings::none(),
+            walks: Walks::none(),
         }
     }
 
@@ -60,9 +67,36 @@ impl Remembered {
         self.entries[place] = Some(Entry { rel, lines: *lines });
         self.next = self.next.wrapping_add(1);
     }
+
+    /// The pairs of a relation, if they are kept. They are kept no longer: whoever takes them puts them back.
+    pub fn take_listing(&mut self, r: Rel) -> Option<Vec<(u32, u32)>>
+        ensures pairs { (w : Worker) → AllTrue w self.old
+            → IfSome result (λ v. v.items ≡ (set_of w r).pairs) }
+        ensures rest { (w : Worker) → AllTrue w self.old → AllTrue w self.new }
+    {
+        self.listings.take(r)
+    }
+
+    /// Keeps the pairs of a relation, maybe in place of those that were kept longest ago.
+    pub fn keep_listing(&mut self, rel: Rel, pairs: Vec<(u32, u32)>)
+        ensures all { (w : Worker) → AllTrue w self.old → Stands w rel → pairs.items ≡ (set_of w rel).pairs
+            → AllTrue w self.new }
+        ensures within { pairs_kept self.new.listings.kept ≤ 2 ^ 23 }
+    {
+        self.listings.keep(rel, pairs);
+    }
+
+    /// Notes that a relation was walked, and tells whether its pairs are now worth a list: at the second walk lately,
+    /// the fourth, the eighth and so on. So a list that goes again and again costs little beside the walks.
+    pub fn is_worth_listing(&mut self, r: Rel) -> bool
+        ensures { (w : Worker) → AllTrue w self.old → AllTrue w self.new }
+    {
+        let walks = self.walks.note(r);
+        walks > 1 && walks.is_power_of_two()
+    }
 }
 
-/// An engine that may remember the lines of relations that stand in it.
+/// An engine that may remember the lines, or the pairs, of relations that stand in it.
 pub trait Remembers: Engine {
     /// The lines of a relation, if they are remembered.
     fn lines_of(&self, r: Rel) -> Option<Thin>
@@ -73,5 +107,21 @@ pub trait Remembers: Engine {
     fn note_lines(&mut self, r: Rel, lines: &Thin)
         requires standing { Stands (Self.worker self.old) r }
         requires means { AreLinesOf (Self.worker self.old) r lines.now }
+        ensures same { Self.worker self.new ≡ Self.worker self.old };
+
+    /// The pairs of a relation, if they are kept. They are kept no longer: whoever takes them puts them back.
+    fn take_listing(&mut self, r: Rel) -> Option<Vec<(u32, u32)>>
+        requires standing { Stands (Self.worker self.old) r }
+        ensures pairs { IfSome result (λ v. v.items ≡ (set_of (Self.worker self.old) r).pairs) }
+        ensures same { Self.worker self.new ≡ Self.worker self.old };
+
+    /// Keeps the pairs of a relation. It does not promise to keep them, nor for how long.
+    fn keep_listing(&mut self, r: Rel, pairs: Vec<(u32, u32)>)
+        requires standing { Stands (Self.worker self.old) r }
+        requires pairs { pairs.items ≡ (set_of (Self.worker self.old) r).pairs }
+        ensures same { Self.worker self.new ≡ Self.worker self.old };
+
+    /// Notes that a relation was walked, and tells whether its pairs are now worth a list. Nothing is promised.
+    fn is_worth_listing(&mut self, r: Rel) -> bool
         ensures same { Self.worker self.new ≡ Self.worker self.old };
 }

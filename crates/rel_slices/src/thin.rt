@@ -22,7 +22,7 @@ pub struct Thin {
     /// How many elements a line ranges over.
     pub other: u32,
     /// The name of each line.
-    pub roots: [u32; 112],
+    pub roots: [u32; MOST as usize],
 }
 
 /// A relation as the evaluator handles it, whole or as its lines. Some 460 bytes, nothing on the heap.
@@ -44,7 +44,7 @@ impl Thin {
             turned,
             count,
             other,
-            roots: [0; 112],
+            roots: [0; MOST as usize],
         }
     }
 

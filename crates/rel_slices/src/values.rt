@@ -6,7 +6,7 @@ ghost use Rattle.rel_model.specs.Roots.{relation_room};
 ghost use Rattle.rel_model.specs.Worker.{Stands, set_of, Gives, Keeps, MakesAtMost, HasCause};
 ghost use Rattle.rel_slices.specs.Thin.{most_lines, line_of, line_set, thin_rows, thin_cols, thin_of, ThinStands, GivesLines, ValueStands, value_of, value_rows, value_cols, GivesValue, HasForm};
 ghost use Rattle.rel_slices.specs.Ops.{boole_of};
-ghost use Rattle.rel_slices.specs.Rooms.{line_room};
+ghost use Rattle.rel_slices.specs.Rooms.{line_tree_room};
 ghost use Rattle.rel_slices.specs.ValueRooms.{assembly_room, pieces_room, full_room, complement_room, transpose_room};
 
 use crate::lines::{Boole, each, one};
@@ -43,7 +43,7 @@ fn boole_lines<C: Core>(core: &mut C, op: Boole, a: &Thin, b: &Thin) -> Result<V
         (thin_cols a.now) (boole_of op (thin_of w a.now) (thin_of w b.now))) }
     ensures form { IfOk result HasForm }
     ensures keeps { Keeps (C.worker core.old) (C.worker core.new) }
-    ensures room { MakesAtMost (a.now.count * line_room C.least a.now.other) (C.worker core.old)
+    ensures room { MakesAtMost (a.now.count * line_tree_room C.least a.now.other) (C.worker core.old)
         (C.worker core.new) }
     ensures cause { HasCause C.lean (C.worker core.old) (C.worker core.new) result }
 {
@@ -118,7 +118,7 @@ pub fn full_lines<C: Core>(core: &mut C, turned: bool, count: u32, other: u32) -
     requires limit { other ≤ size_limit }
     ensures lines { IfOk result (GivesLines (C.worker core.new) turned count other (λ i. full_relation 1 other)) }
     ensures keeps { Keeps (C.worker core.old) (C.worker core.new) }
-    ensures room { MakesAtMost (line_room C.least other) (C.worker core.old) (C.worker core.new) }
+    ensures room { MakesAtMost (line_tree_room C.least other) (C.worker core.old) (C.worker core.new) }
     ensures cause { HasCause C.lean (C.worker core.old) (C.worker core.new) result }
 {
     let shape = Shape {

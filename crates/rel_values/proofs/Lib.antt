@@ -5,3 +5,6 @@ pub mod Sizes
 pub mod Forming
 pub mod Within
 pub mod Noting
+pub mod LineCounts
+pub mod LineLists
+pub mod Turning

@@ -1,5 +1,5 @@
 -- A value that is made whole, beside the lines it was.
-use Rattle.std.proofs.Common.{◌≡◌, ◌∙◌, ℕ, sym, subst}
+use Rattle.std.proofs.Common.{◌≡◌, ◌∙◌, sym, subst}
 use Rattle.rel_model.specs.declared.Rel.{Rel}
 use Rattle.rel_model.specs.Worker.{Worker, Gives, Keeps}
 use Rattle.rel_model.proofs.Workers.{gives_set}

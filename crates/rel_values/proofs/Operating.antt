@@ -1,6 +1,6 @@
 -- Calls one after the other, and what they promise together of an operation on values.
 -- 1. `Underway` holds while they come: all that stood stands, so many nodes were made at most, and no place was missing
---    (`begun`, `goes_on`).
+--    (`begun`, `called`, `goes_on`).
 -- 2. A call that fails ends the operation with its cause (`stops`).
 -- 3. The last one gives the value of the operation: one that stands whole owes nothing more (`ends_whole`), another
 --    what making it whole takes (`ends`). Or the operation answers what its last call does (`ends_value`, `ends_rel`,
@@ -37,6 +37,10 @@ pub record Underway (most : ℕ) (old now : Worker) : Type 0 where
 -- none has come
 pub begun : (w : Worker) → Underway 0 w w
 begun w = record { keeps = keeps_itself w; room = omega arith; misses = refl }
+
+-- one has come
+pub called : {T : Type 0} {lean : Bool} {n : ℕ} {v w : Worker} {x : T} → Keeps v w → MakesAtMost n v w → HasCause lean v w (Ok x) → Underway n v w
+called k r c = record { keeps = k; room = r; misses = c.done }
 
 -- one more has come
 pub goes_on : {T : Type 0} {lean : Bool} {m : ℕ} (n : ℕ) {u v w : Worker} {x : T} → Underway m u v → Keeps v w → MakesAtMost n v w → HasCause lean v w (Ok x) → Underway (m + n) u w

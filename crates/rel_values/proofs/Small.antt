@@ -3,7 +3,7 @@
 --    `owed_small`); an operator piece by piece takes three and a half times as many (`pieces_small`).
 -- 2. What the language counts is a multiple of them too (`plain_squares`, `operator_squares`).
 -- 3. So it is for values that a worker holds (`forming_fits`, `owed_given`, `pieces_given`).
-use Rattle.std.proofs.Common.{◌≡◌, ◌≤◌, ◌*◌, ◌^◌, max, ℕ, sym, ap, subst, arith}
+use Rattle.std.proofs.Common.{◌≡◌, ◌≤◌, ◌+◌, ◌*◌, ◌^◌, max, ℕ, sym, ap, subst, arith}
 use Rattle.rel_model.specs.declared.Rel.{Rel}
 use Rattle.rel_model.specs.Relation.{Relation, size_limit}
 use Rattle.rel_model.specs.Roots.{relation_room}
@@ -111,3 +111,7 @@ forming_second {least} x y h f e d =
     let p = forming_fits y h f in
     let q = by_sizes (value_rows y) (value_cols y) (value_rows x) (value_cols x) (4 * forming_room least y) 1 (sym e) (sym d) (omega (arith, p)) in
     omega (arith, q)
+
+-- putting two of one type into their forms
+pub forming_both : {least : ℕ} {w : Worker} (x y : Value) → Held least w → Fits w x → Fits w y → value_rows x ≡ value_rows y → value_cols x ≡ value_cols y → 2 * (forming_room least x + forming_room least y) ≤ square_room (value_rows x) (value_cols x)
+forming_both x y h f g e d = omega (arith, forming_fits x h f, forming_second x y h g e d)

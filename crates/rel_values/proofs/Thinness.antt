@@ -21,6 +21,7 @@ pub record AreThin (m n : ℕ) : Type 0 where
 abbrev pub ArePlain : ℕ → ℕ → Type 0
 ArePlain m n = min m n ≤ most_lines → max m n ≤ 256
 
+-- two sizes are thin or plain, as their shorter side is short enough or not and their longer one is long enough or not
 pub cases_thin : (m n : ℕ) → AreThin m n ⊎ ArePlain m n
 cases_thin m n = elim (cases_lt most_lines (min m n)) [
   | inl a ↦ inr (λ b. absurd (omega (arith, a, b)))

@@ -6,13 +6,20 @@ use Rattle.rel_model.specs.Relation.{Relation, size_limit}
 use Rattle.rel_model.specs.Domains.{HasDomainCause}
 use Rattle.rel_model.specs.Worker.{Worker, Keeps, MakesAtMost, HasCause}
 use Rattle.rel_slices.specs.declared.thin.Value.{Value}
-use Rattle.rel_slices.specs.Thin.{ValueStands, IsLong, GivesValue}
+use Rattle.rel_slices.specs.Thin.{ValueStands, value_of, value_rows, value_cols, IsLong, GivesValue, HasForm}
 use Rattle.rel_slices.specs.ValueRooms.{assembly_room}
 
 -- the value stands, and if it is lines, they are long
 pub record Fits (w : Worker) (v : Value) : Type 0 where
   pub stands : ValueStands w v
   pub long : IsLong v
+
+-- two values in the form of their sizes, which mean what two others meant
+pub record AreForms (old new : Worker) (x y a b : Value) : Type 0 where
+  pub left : GivesValue new (value_rows x) (value_cols x) (value_of old x) a
+  pub left_form : HasForm a
+  pub right : GivesValue new (value_rows y) (value_cols y) (value_of old y) b
+  pub right_form : HasForm b
 
 -- how many nodes it takes at most to make the value whole
 abbrev pub owed : ℕ → Value → ℕ

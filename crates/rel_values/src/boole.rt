@@ -7,7 +7,7 @@ ghost use Rattle.rel_slices.specs.Ops.{boole_of};
 ghost use Rattle.rel_slices.specs.Thin.{value_of, value_rows, value_cols};
 ghost use Rattle.rel_values.specs.Values.{Fits, Operates};
 
-use crate::shaping::in_form;
+use crate::shaping::{both_in_form, in_form};
 use rel_model::engine_trait::Engine;
 use rel_model::{Lack, Shape};
 use rel_slices::{Boole, Remembers, Value};
@@ -23,9 +23,8 @@ fn between<E: Remembers>(engine: &mut E, op: Boole, x: &Value, y: &Value) -> Res
         (boole_of op (value_of w x.now) (value_of w y.now))
         (plain_room (value_rows x.now) (value_cols x.now)) result }
 {
-    let a = in_form(engine, x)?;
-    let b = in_form(engine, y)?;
-    let made = rel_slices::boole(engine, op, &a, &b)?;
+    let two = both_in_form(engine, x, y)?;
+    let made = rel_slices::boole(engine, op, &two.0, &two.1)?;
     Ok(made)
 }
 

@@ -5,6 +5,7 @@ ghost use Rattle.rel_model.specs.Worker.{wide_room};
 ghost use Rattle.rel_slices.specs.Thin.{value_of, value_rows, value_cols};
 ghost use Rattle.rel_values.specs.Values.{Fits, Operates};
 
+use crate::standing::stays_whole;
 use rel_model::Lack;
 use rel_model::engine_trait::Engine;
 use rel_slices::{Value, made_whole};
@@ -19,8 +20,7 @@ pub fn point<E: Engine>(engine: &mut E, v: &Value) -> Result<Value, Lack>
         (wide_room (value_rows v.now) (value_cols v.now) 1) result }
 {
     let all = made_whole(engine, v)?;
-    let found = engine.point(all)?;
-    Ok(Value::Whole(found))
+    stays_whole(engine.point(all))
 }
 
 /// `{(i, j) : (i, j) is the least pair of r by row and then by column}`: an atom of a relation; the empty relation if
@@ -33,8 +33,7 @@ pub fn atom<E: Engine>(engine: &mut E, v: &Value) -> Result<Value, Lack>
         (wide_room (value_rows v.now) (value_cols v.now) 1) result }
 {
     let all = made_whole(engine, v)?;
-    let found = engine.atom(all)?;
-    Ok(Value::Whole(found))
+    stays_whole(engine.atom(all))
 }
 
 /// `{(0, 0)}` with the rows of v: the first element; the empty vector if v has no rows.
@@ -47,8 +46,7 @@ pub fn init<E: Engine>(engine: &mut E, v: &Value) -> Result<Value, Lack>
         (wide_room (value_rows v.now) (value_cols v.now) 1) result }
 {
     let all = made_whole(engine, v)?;
-    let found = engine.init(all)?;
-    Ok(Value::Whole(found))
+    stays_whole(engine.init(all))
 }
 
 /// `{(i + 1, 0) : i is in v, i + 1 < rows}`: moves each element up by one and drops the last.
@@ -61,8 +59,7 @@ pub fn next<E: Engine>(engine: &mut E, v: &Value) -> Result<Value, Lack>
         (wide_room (value_rows v.now) (value_cols v.now) 1) result }
 {
     let all = made_whole(engine, v)?;
-    let found = engine.next(all)?;
-    Ok(Value::Whole(found))
+    stays_whole(engine.next(all))
 }
 
 /// `{(r, i) : i is the element of v with r elements before it}`: lists the elements of a vector in order, one in each
@@ -76,6 +73,5 @@ pub fn inj<E: Engine>(engine: &mut E, v: &Value) -> Result<Value, Lack>
         (wide_room (value_rows v.now) (value_cols v.now) 1) result }
 {
     let all = made_whole(engine, v)?;
-    let found = engine.inj(all)?;
-    Ok(Value::Whole(found))
+    stays_whole(engine.inj(all))
 }

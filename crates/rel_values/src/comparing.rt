@@ -6,7 +6,7 @@ ghost use Rattle.rel_slices.specs.Thin.{value_of, value_rows, value_cols};
 ghost use Rattle.rel_values.specs.Values.{Fits};
 ghost use Rattle.rel_values.specs.Deciding.{Decides};
 
-use crate::shaping::in_form;
+use crate::shaping::both_in_form;
 use rel_model::engine_trait::Engine;
 use rel_model::{Lack, Rel};
 use rel_slices::{Remembers, Value};
@@ -21,9 +21,8 @@ fn same_in_form<E: Remembers>(engine: &mut E, x: &Value, y: &Value) -> Result<bo
         (value_of w x.now ≡ value_of w y.now)
         (operator_room (value_rows x.now) (value_cols x.now)) result }
 {
-    let a = in_form(engine, x)?;
-    let b = in_form(engine, y)?;
-    Ok(rel_slices::same(engine, &a, &b))
+    let two = both_in_form(engine, x, y)?;
+    Ok(rel_slices::same(engine, &two.0, &two.1))
 }
 
 /// `R = S`: whether two values of one type have the same pairs.
@@ -58,9 +57,8 @@ fn included_in_form<E: Remembers>(engine: &mut E, x: &Value, y: &Value) -> Resul
         (diff_of (value_of w x.now) (value_of w y.now) ≡ empty_relation (value_rows x.now) (value_cols x.now))
         (operator_room (value_rows x.now) (value_cols x.now)) result }
 {
-    let a = in_form(engine, x)?;
-    let b = in_form(engine, y)?;
-    let yes = rel_slices::included(engine, &a, &b)?;
+    let two = both_in_form(engine, x, y)?;
+    let yes = rel_slices::included(engine, &two.0, &two.1)?;
     Ok(yes)
 }
 

@@ -6,7 +6,7 @@ ghost use Rattle.rel_model.specs.Worker.{product_room, wide_room};
 ghost use Rattle.rel_slices.specs.Thin.{value_of, value_rows, value_cols};
 ghost use Rattle.rel_values.specs.Values.{Fits, Operates};
 
-use crate::shaping::in_form;
+use crate::shaping::both_in_form;
 use crate::standing::{both_whole, stays_whole};
 use rel_model::{Lack, Shape};
 use rel_slices::{Remembers, Value, full, shape_of, transpose};
@@ -28,9 +28,8 @@ pub fn compose<E: Remembers>(
         (compose_of (value_of w x.now) (value_of w y.now))
         (product_room (value_rows x.now) (value_cols x.now) (value_cols y.now)) result }
 {
-    let first = in_form(engine, x)?;
-    let second = in_form(engine, y)?;
-    rel_slices::compose(alloc, engine, &first, &second)
+    let two = both_in_form(engine, x, y)?;
+    rel_slices::compose(alloc, engine, &two.0, &two.1)
 }
 
 /// `R\S = {(j, k) : (i, j) in r implies (i, k) in s, for all i}`: the right residual of an m × n and an m × p value
@@ -49,12 +48,11 @@ pub fn right<E: Remembers>(
         (right_residual (value_of w x.now) (value_of w y.now))
         (wide_room (value_rows x.now) (value_cols x.now) (value_cols y.now)) result }
 {
-    let first = in_form(engine, x)?;
-    let second = in_form(engine, y)?;
-    if let Some((r, s)) = both_whole(&first, &second) {
+    let two = both_in_form(engine, x, y)?;
+    if let Some((r, s)) = both_whole(&two.0, &two.1) {
         return stays_whole(engine.right(r, s));
     }
-    rel_slices::right(alloc, engine, &first, &second)
+    rel_slices::right(alloc, engine, &two.0, &two.1)
 }
 
 /// `S/R = {(i, j) : (j, k) in r implies (i, k) in s, for all k}`: the left residual of an m × p and an n × p value
@@ -73,12 +71,11 @@ pub fn left<E: Remembers>(
         (left_residual (value_of w x.now) (value_of w y.now))
         (wide_room (value_rows x.now) (value_cols x.now) (value_rows y.now)) result }
 {
-    let first = in_form(engine, x)?;
-    let second = in_form(engine, y)?;
-    if let Some((r, s)) = both_whole(&first, &second) {
+    let two = both_in_form(engine, x, y)?;
+    if let Some((r, s)) = both_whole(&two.0, &two.1) {
         return stays_whole(engine.left(r, s));
     }
-    rel_slices::left(alloc, engine, &first, &second)
+    rel_slices::left(alloc, engine, &two.0, &two.1)
 }
 
 /// `syq(R,S) = {(j, k) : (i, j) in r exactly if (i, k) in s, for all i}`: the symmetric quotient of an m × n and an m ×
@@ -92,12 +89,11 @@ pub fn syq<E: Remembers>(alloc: Global, engine: &mut E, x: &Value, y: &Value) ->
         (symmetric_quotient (value_of w x.now) (value_of w y.now))
         (wide_room (value_rows x.now) (value_cols x.now) (value_cols y.now)) result }
 {
-    let first = in_form(engine, x)?;
-    let second = in_form(engine, y)?;
-    if let Some((r, s)) = both_whole(&first, &second) {
+    let two = both_in_form(engine, x, y)?;
+    if let Some((r, s)) = both_whole(&two.0, &two.1) {
         return stays_whole(engine.syq(r, s));
     }
-    rel_slices::syq(alloc, engine, &first, &second)
+    rel_slices::syq(alloc, engine, &two.0, &two.1)
 }
 
 /// `R*L`, where L is a full column: the domain of definition.

@@ -1,10 +1,12 @@
-use Rattle.std.proofs.Common.{◌-◌, ◌^◌, ◌∙◌, ℕ, List, sym, subst}
+use Rattle.std.proofs.Common.{◌≡◌, ◌^◌, ◌∙◌, ℕ, List}
 use Rattle.rel_model.specs.Relation.{has}
 use Rattle.rel_model.specs.Roots.{height_over}
-use Rattle.rel_model.specs.Worker.{set_of, quad_set}
-use Rattle.rel_steps.proofs.Given.{gives_has, gives_quad_set, kept_set}
-use Rattle.rel_images.specs.Lines.{IsHeap, bits_of, first_row, image_line, turned_cells, one_row, line_under}
-use Rattle.rel_images.proofs.Roots.{roots_lower, width_fits, line_fits, heap_narrow, answer_within, answer_gives}
+use Rattle.rel_model.specs.Worker.{set_of}
+use Rattle.rel_steps.proofs.Given.{gives_has}
+use Rattle.rel_images.specs.Lines.{IsHeap, first_row, image_line, turned_cells}
+use Rattle.rel_images.proofs.Roots.{roots_lower, width_fits, heap_narrow, heap_of_roots, image_gives}
+use Rattle.rel_images.proofs.images.image.Given.{Over}
+use Rattle.rel_images.proofs.images.image.Goals.{In-Some}
 use Rattle.rel_images.proofs.images.image.Goals as goal
 
 pub reached-requires-clause-no_higher : goal.reached-requires-clause-no_higher
@@ -14,66 +16,39 @@ reached-requires-clause-no_higher g c =
     roots_lower g.Q.Core.least a.r.rows a.r.cols a.u.rows a.u.cols c.root-line.result.height c.root-quad.result.height a.turned (core.row_limit a.q.now a.r c.requires.standing) (core.col_limit a.q.now a.r c.requires.standing)
     c.requires.row c.requires.middle c.root-line.ensures.same_height c.root-quad.ensures.same_height
 
-pub named_within-requires-clause-fits : goal.named_within-requires-clause-fits
-named_within-requires-clause-fits g c =
+pub answered-requires-clause-fits : goal.answered-requires-clause-fits
+answered-requires-clause-fits g c =
     let a = c.args in
     let core = g.met.Q.Core in
     width_fits g.Q.Core.least a.r.rows a.r.cols c.width_of-cols.result c.root-quad.result.height a.turned (core.row_limit a.q.now a.r c.requires.standing) (core.col_limit a.q.now a.r c.requires.standing) c.root-quad.ensures.same_height c.width_of-cols.ensures
 
-pub named_within-requires-clause-narrow : goal.named_within-requires-clause-narrow
-named_within-requires-clause-narrow g c =
+-- the heap holds the image of the line's relation
+heap : (g : Over) (c : In-Some g) (xs : List ℕ) → xs ≡ c.in-Some.ys.items
+    → IsHeap g.Q.Core.least c.root-quad.result.height (image_line (2 ^ c.root-quad.result.height) (first_row (has (set_of (g.Q.Core.worker c.args.q.now) c.args.u))) (turned_cells c.args.turned (has (set_of (g.Q.Core.worker c.args.q.now) c.args.r)))) xs
+heap g c xs e =
     let a = c.args in
-    let core = g.met.Q.Core in
     let least : ℕ = g.Q.Core.least in
     let u = g.Q.Core.worker a.q.now in
-    let v = g.Q.Core.worker c.pays.new.q in
-    let quad = c.root-quad.result in
-    let h : ℕ = height_over least a.r.rows a.r.cols in
-    let stands = gives_has u h (has (set_of u a.r)) quad c.root-quad.ensures in
-    heap_narrow least quad.height c.width_of-cols.result a.r.rows a.r.cols a.turned (set_of u a.r) (quad_set v c.root-line.result) (quad_set v quad) c.deref.result.now (core.valid a.q.now a.r c.requires.standing)
-    (g.met.Q.Quads.low_height a.q.now quad stands) (core.row_size a.q.now a.r c.requires.standing) (core.col_size a.q.now a.r c.requires.standing) c.width_of-cols.ensures
-    (kept_set u v quad c.pays.ensures.reads.keeps stands ∙ gives_quad_set u h (has (set_of u a.r)) quad c.root-quad.ensures) (subst (λ (xs : List ℕ). IsHeap least quad.height (image_line (2 ^ quad.height) (first_row (quad_set v c.root-line.result)) (turned_cells a.turned (quad_set v quad))) xs) (sym c.deref.ensures.value) c.in-Some.ensures.heap)
+    heap_of_roots least c.root-quad.result.height a.turned u (g.Q.Core.worker c.pays.new.q) c.root-line.result c.root-quad.result (height_over least a.u.rows a.u.cols) (height_over least a.r.rows a.r.cols) (has (set_of u a.u)) (has (set_of u a.r)) c.in-Some.ys.items xs
+    c.pays.ensures.reads.keeps c.root-line.ensures c.root-quad.ensures e c.in-Some.ensures.heap
 
-pub rel-requires-clause-within : goal.rel-requires-clause-within
-rel-requires-clause-within g c =
+pub answered-requires-clause-narrow : goal.answered-requires-clause-narrow
+answered-requires-clause-narrow g c =
     let a = c.args in
     let core = g.met.Q.Core in
     let least : ℕ = g.Q.Core.least in
     let u = g.Q.Core.worker a.q.now in
-    let v = g.Q.Core.worker c.pays.new.q in
-    let w = g.Q.Core.worker c.named_within.new.q in
     let quad = c.root-quad.result in
-    let h : ℕ = height_over least a.r.rows a.r.cols in
-    let stands = gives_has u h (has (set_of u a.r)) quad c.root-quad.ensures in
-    answer_within c.width_of-cols.result (quad_set w c.in-Ok.answer) (line_under least (bits_of c.deref.result.now) (quad.height - least) 1)
-    (gives_quad_set w (height_over least 1 c.width_of-cols.result) (one_row (line_under least (bits_of c.deref.result.now) (quad.height - least) 1)) c.in-Ok.answer c.in-Ok.ensures.value)
-    (heap_narrow least quad.height c.width_of-cols.result a.r.rows a.r.cols a.turned (set_of u a.r) (quad_set v c.root-line.result) (quad_set v quad) c.deref.result.now (core.valid a.q.now a.r c.requires.standing)
-    (g.met.Q.Quads.low_height a.q.now quad stands) (core.row_size a.q.now a.r c.requires.standing) (core.col_size a.q.now a.r c.requires.standing) c.width_of-cols.ensures
-    (kept_set u v quad c.pays.ensures.reads.keeps stands ∙ gives_quad_set u h (has (set_of u a.r)) quad c.root-quad.ensures) (subst (λ (xs : List ℕ). IsHeap least quad.height (image_line (2 ^ quad.height) (first_row (quad_set v c.root-line.result)) (turned_cells a.turned (quad_set v quad))) xs) (sym c.deref.ensures.value) c.in-Some.ensures.heap))
+    let stands = gives_has u (height_over least a.r.rows a.r.cols) (has (set_of u a.r)) quad c.root-quad.ensures in
+    heap_narrow least quad.height c.width_of-cols.result a.r.rows a.r.cols a.turned (set_of u a.r) (first_row (has (set_of u a.u))) c.deref.result.now (core.valid a.q.now a.r c.requires.standing) (g.met.Q.Quads.low_height a.q.now quad stands)
+    (core.row_size a.q.now a.r c.requires.standing) (core.col_size a.q.now a.r c.requires.standing) c.width_of-cols.ensures (heap g (goal.at.answered-requires-clause-narrow g c).In-Some c.deref.result.now c.deref.ensures.value)
 
 pub returns-in-Ok-clause-value : goal.returns-in-Ok-clause-value
 returns-in-Ok-clause-value g c =
     let a = c.args in
     let core = g.met.Q.Core in
-    let least : ℕ = g.Q.Core.least in
     let u = g.Q.Core.worker a.q.now in
-    let v = g.Q.Core.worker c.pays.new.q in
-    let w = g.Q.Core.worker c.named_within.new.q in
-    let quad = c.root-quad.result in
-    let line = c.root-line.result in
-    let h : ℕ = height_over least a.r.rows a.r.cols in
-    let k : ℕ = height_over least a.u.rows a.u.cols in
-    let stands = gives_has u h (has (set_of u a.r)) quad c.root-quad.ensures in
-    let line_stands = gives_has u k (has (set_of u a.u)) line c.root-line.ensures in
-    let rows = core.row_limit a.q.now a.r c.requires.standing in
-    let cols = core.col_limit a.q.now a.r c.requires.standing in
-    answer_gives least quad.height c.width_of-cols.result a.r.rows a.r.cols a.u.cols a.turned (set_of u a.u) (set_of u a.r) (quad_set v line) (quad_set v quad) (quad_set w c.in-Ok.answer) c.deref.result.now w c.rel.result
+    image_gives g.Q.Core.least c.root-quad.result.height c.width_of-cols.result a.r.rows a.r.cols a.u.cols a.turned (set_of u a.u) (set_of u a.r) c.deref.result.now (g.Q.Core.worker c.answered.new.q) c.in-Ok.answer
     (core.valid a.q.now a.u c.requires.line) (core.valid a.q.now a.r c.requires.standing) (core.row_size a.q.now a.u c.requires.line ∙ c.requires.row) (core.col_size a.q.now a.u c.requires.line) c.requires.middle
-    (core.row_size a.q.now a.r c.requires.standing) (core.col_size a.q.now a.r c.requires.standing) c.width_of-cols.ensures
-    (line_fits least a.r.rows a.r.cols a.u.cols quad.height a.turned rows cols c.root-quad.ensures.same_height c.requires.middle)
-    (width_fits least a.r.rows a.r.cols c.width_of-cols.result quad.height a.turned rows cols c.root-quad.ensures.same_height c.width_of-cols.ensures)
-    (kept_set u v line c.pays.ensures.reads.keeps line_stands ∙ gives_quad_set u k (has (set_of u a.u)) line c.root-line.ensures)
-    (kept_set u v quad c.pays.ensures.reads.keeps stands ∙ gives_quad_set u h (has (set_of u a.r)) quad c.root-quad.ensures)
-    (subst (λ (xs : List ℕ). IsHeap least quad.height (image_line (2 ^ quad.height) (first_row (quad_set v c.root-line.result)) (turned_cells a.turned (quad_set v quad))) xs) (sym c.deref.ensures.value) c.in-Some.ensures.heap)
-    (gives_quad_set w (height_over least 1 c.width_of-cols.result) (one_row (line_under least (bits_of c.deref.result.now) (quad.height - least) 1)) c.in-Ok.answer c.in-Ok.ensures.value)
-    c.rel.ensures
+    (core.row_size a.q.now a.r c.requires.standing) (core.col_size a.q.now a.r c.requires.standing) (core.row_limit a.q.now a.r c.requires.standing) (core.col_limit a.q.now a.r c.requires.standing) c.root-quad.ensures.same_height c.width_of-cols.ensures
+    (heap g (goal.at.returns-in-Ok-clause-value g c).In-Some c.deref.result.now c.deref.ensures.value) c.in-Ok.ensures.value

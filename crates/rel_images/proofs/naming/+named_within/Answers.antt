@@ -1,8 +1,8 @@
-use Rattle.std.proofs.Common.{◌<◌, ◌≤◌, ◌-◌, ◌^◌, ◌∙◌, ℕ, length, refl, sym, arith}
+use Rattle.std.proofs.Common.{◌<◌, ◌≤◌, ◌-◌, ◌^◌, ℕ, length, arith}
 use Rattle.rel_model.specs.Trees.{top_height}
 use Rattle.rel_images.specs.Lines.{bits_of}
-use Rattle.rel_images.proofs.Roots.{line_named, west_line, west_named, over_leaf}
-use Rattle.rel_images.proofs.Steps.{marked_west, place_west}
+use Rattle.rel_images.proofs.Roots.{line_named, west_line, west_narrow, west_named, over_leaf}
+use Rattle.rel_images.proofs.Steps.{half_under}
 use Rattle.rel_images.proofs.naming.+named_within.Goals as goal
 
 pub returns-then-height-bottom : goal.returns-then-height-bottom
@@ -33,33 +33,10 @@ named_within-requires g t c κs within =
     let m = c.if-cols-half.false in
     let s = c.side_of-half.ensures in
     let falls : a.height - 1 < t = omega (arith, over, d) in
-    let marked = marked_west least (a.height - 1) (a.height - 1) a.height a.k a.ys.now (omega (arith, over)) (omega (arith, over)) refl c.requires.marked in
-    let place = place_west least (a.height - 1) (a.height - 1) a.height a.k (length a.ys.now) (omega (arith, over)) (omega (arith, over)) refl c.requires.within in
-    let fits : a.cols ≤ 2 ^ (a.height - 1) = omega (arith, m, s) in (
-      falls,
-      (
-        within,
-        (
-          omega (arith, over),
-          (
-            omega (arith, high),
-            (
-              marked,
-              (
-                place,
-                (
-                  c.requires.limit,
-                  (
-                    fits,
-                    (λ j h. c.requires.narrow j (sym (west_line least a.height a.k a.cols (bits_of a.ys.now) over fits c.requires.narrow j) ∙ h)),
-                  ),
-                ),
-              ),
-            ),
-          ),
-        ),
-      ),
-    )
+    let p = (half_under least a.height (length a.ys.now) a.k a.ys.now over c.requires.marked c.requires.within).0 in
+    let fits : a.cols ≤ 2 ^ (a.height - 1) = omega (arith, m, s) in
+    let narrow = west_narrow least a.height a.k a.cols (bits_of a.ys.now) over fits c.requires.narrow in
+    (falls, (within, (omega (arith, over), (omega (arith, high), (p.marked, (p.from, (c.requires.limit, (fits, narrow))))))))
 
 pub returns : goal.returns
 returns g t c =

@@ -1,5 +1,5 @@
 use Rattle.std.proofs.Common.{◌≡◌, length}
-use Rattle.rel_images.specs.Reading.{OnlyReads}
+use Rattle.rel_steps.specs.Reading.{OnlyReads}
 use Rattle.rel_images.proofs.paying.is_scattered.Given as goal
 
 abbrev pub invariant-descents : goal.invariant-descents

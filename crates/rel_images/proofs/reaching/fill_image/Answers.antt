@@ -1,13 +1,8 @@
 use Rattle.std.proofs.Common.{◌-◌, ◌^◌, ◌∙◌, length, arith}
-use Rattle.rel_model.specs.Trees.{top_height}
 use Rattle.rel_model.specs.Worker.{quad_set}
 use Rattle.rel_images.specs.Lines.{bits_of, image_line, line_under, turned_cells}
 use Rattle.rel_images.proofs.Heaps.{heap_made, length-zeros, root_place}
 use Rattle.rel_images.proofs.reaching.fill_image.Goals as goal
-
-pub visits_of-requires : goal.visits_of-requires
-unfolding top_height
-visits_of-requires g c = g.met.Q.Quads.high_height c.args.q.now c.args.quad c.requires.stands
 
 pub walk-left-requires-clause-from : goal.walk-left-requires-clause-from
 walk-left-requires-clause-from g c = let e = c.requires.places in omega (arith, e)

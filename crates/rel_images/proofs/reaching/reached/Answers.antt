@@ -10,6 +10,10 @@ pub heap_of-requires-clause-high : goal.heap_of-requires-clause-high
 unfolding top_height
 heap_of-requires-clause-high g c = g.met.Q.Quads.high_height c.args.q.now c.args.quad c.requires.stands
 
+pub visits_of-requires : goal.visits_of-requires
+unfolding top_height
+visits_of-requires g c = g.met.Q.Quads.high_height c.args.q.now c.args.quad c.requires.stands
+
 pub heap_from-requires-clause-high : goal.heap_from-requires-clause-high
 unfolding top_height
 heap_from-requires-clause-high g c = g.met.Q.Quads.high_height c.args.q.now c.args.quad c.requires.stands

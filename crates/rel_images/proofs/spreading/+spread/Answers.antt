@@ -5,12 +5,12 @@ use Rattle.rel_images.proofs.Words.{leaf-side}
 use Rattle.rel_images.proofs.Steps.{spread_none, spread_leaf, spread_low, spread_two, place_west, place_east}
 use Rattle.rel_images.proofs.spreading.+spread.Goals as goal
 
-pub returns-then-quad-eq0-clause-adds : goal.returns-then-quad-eq0-clause-adds
-returns-then-quad-eq0-clause-adds g t c =
+pub returns-then-is_empty-clause-adds : goal.returns-then-is_empty-clause-adds
+returns-then-is_empty-clause-adds g t c =
     let laws = g.met.Q.Quads in
     let o = c.args.q.now in
     let p = c.args.quad in
-    spread_none g.Q.Core.least c.args.height c.args.k (g.Q.Core.worker o) p c.args.xs.now (laws.none o p.height (laws.low_height o p c.requires.stands) (laws.high_height o p c.requires.stands)) c.if-quad-eq0.true
+    spread_none g.Q.Core.least c.args.height c.args.k (g.Q.Core.worker o) p c.args.xs.now (laws.none o p.height (laws.low_height o p c.requires.stands) (laws.high_height o p c.requires.stands)) (c.is_empty.ensures.empty c.if-is_empty.true)
 
 pub first_line-requires-clause-small : goal.first_line-requires-clause-small
 first_line-requires-clause-small g t c = leaf-side c.args.height g.Q.Core.least c.side_of-side.result (c.if-height-bottom.true ∙ c.bottom.ensures) g.met.Q.Quads.least_limit c.side_of-side.ensures
@@ -46,7 +46,7 @@ spread-requires-2 g t c κs within =
     let least : ℕ = g.Q.Core.least in
     let q = c.quarters.ensures.quarters in
     let e = q.nw_height in
-    let low = g.met.Q.Quads.low_height c.quarters.new.self c.quarters.result.0 q.nw in
+    let low = g.met.Q.Quads.low_height c.quarters.new.self c.quarters.result.nw q.nw in
     let same = c.requires.no_higher in
     let d = c.decreases in
     let high = c.requires.high in
@@ -59,20 +59,20 @@ spread-requires-3 g t c κs within =
     let least : ℕ = g.Q.Core.least in
     let q = c.quarters.ensures.quarters in
     let e = q.ne_height in
-    let low = g.met.Q.Quads.low_height c.quarters.new.self c.quarters.result.1 q.ne in
+    let low = g.met.Q.Quads.low_height c.quarters.new.self c.quarters.result.ne q.ne in
     let same = c.requires.no_higher in
     let d = c.decreases in
     let high = c.requires.high in
     let falls : c.args.height - 1 < t = omega (arith, e, same, d) in
     let place = place_east least (c.args.height - 1) (c.args.height - 1) c.args.height c.args.k (length c.args.xs.now) (omega (arith, low, e, same)) (omega (arith, e, same)) refl c.requires.within in
-    let stands = kept_quad (g.Q.Core.worker c.quarters.new.self) (g.Q.Core.worker c.spread-2.new.q) c.quarters.result.1 c.spread-2.ensures.reads.keeps q.ne in
+    let stands = kept_quad (g.Q.Core.worker c.quarters.new.self) (g.Q.Core.worker c.spread-2.new.q) c.quarters.result.ne c.spread-2.ensures.reads.keeps q.ne in
     (falls, (within, (stands, (omega (arith, e, same), (omega (arith, high), subst (λ (n : ℕ). (2 * c.args.k + 1 + 1) * 2 ^ (c.args.height - 1 - least) ≤ n) (sym c.spread-2.ensures.adds.len) place)))))
 
 pub returns-clause-adds : goal.returns-clause-adds
 returns-clause-adds g t c =
     let q = c.quarters.ensures.quarters in
     let e = q.nw_height in
-    let low = g.met.Q.Quads.low_height c.quarters.new.self c.quarters.result.0 q.nw in
+    let low = g.met.Q.Quads.low_height c.quarters.new.self c.quarters.result.nw q.nw in
     let same = c.requires.no_higher in
     let over = c.if-quad-height.false in
     spread_two g.Q.Core.least c.args.height c.args.k c.args.quad c.quarters.result (g.Q.Core.worker c.args.q.now) (g.Q.Core.worker c.quarters.new.self) (g.Q.Core.worker c.spread-2.new.q) c.args.xs.now c.spread-2.new.xs c.spread-3.new.xs

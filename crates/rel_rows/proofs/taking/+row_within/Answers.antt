@@ -1,7 +1,7 @@
-use Rattle.std.proofs.Common.{◌^◌, sym, arith}
+use Rattle.std.proofs.Common.{sym, arith}
 use Rattle.rel_model.specs.Trees.{top_height}
-use Rattle.rel_rows.proofs.Steps.{strip-down, makes_high, after_reading}
-use Rattle.rel_rows.proofs.Parts.{north_part, south_part}
+use Rattle.rel_rows.proofs.Steps.{makes_high}
+use Rattle.rel_rows.proofs.Parts.{north_part, south_part, part_made}
 use Rattle.rel_rows.proofs.Roots.{line_height}
 use Rattle.rel_rows.proofs.taking.+row_within.Goals as goal
 
@@ -25,44 +25,28 @@ returns-then-cols-half g t c =
 -- ---- a quarter
 pub row_within-requires : goal.row_within-requires
 row_within-requires g t c κs within =
-    let a = c.args in
-    let four = c.quarters.result in
     let q = c.quarters.ensures.quarters in
-    let p = north_part (g.Q.Core.worker a.q.now) (g.Q.Core.worker c.quarters.new.self) a.quad four (2 ^ a.quad.height) a.cols a.i c.side_of-half.result q c.side_of-half.ensures (omega (arith, c.if-cols-half.false)) c.requires.narrow
-    (g.met.Q.Quads.square c.quarters.new.self four.0 q.nw) c.if-i-half.true in
+    let p = north_part _ _ _ _ _ c.args.cols _ _ q c.side_of-half.ensures (omega (arith, c.if-cols-half.false)) c.requires.narrow (g.met.Q.Quads.square c.quarters.new.self c.quarters.result.nw q.nw) c.if-i-half.true in
     let over = p.over in
     (omega (arith, over), (within, (q.nw, (c.requires.limit, (p.fits, (p.narrow, p.within))))))
 
 pub returns-then-i-half : goal.returns-then-i-half
 returns-then-i-half g t c =
-    let a = c.args in
-    let four = c.quarters.result in
     let e = c.quarters.ensures in
-    let p = north_part (g.Q.Core.worker a.q.now) (g.Q.Core.worker c.quarters.new.self) a.quad four (2 ^ a.quad.height) a.cols a.i c.side_of-half.result e.quarters c.side_of-half.ensures (omega (arith, c.if-cols-half.false)) c.requires.narrow
-    (g.met.Q.Quads.square c.quarters.new.self four.0 e.quarters.nw) c.if-i-half.true in
-    let low = g.met.Q.Quads.low_height c.quarters.new.self four.0 e.quarters.nw in
-    let over = p.over in
-    let r = strip-down four.0.height a.quad.height g.Q.Core.least over (omega (arith, over, low)) in
-    after_reading e.keeps e.room e.misses (omega (arith, r)) p.same c.row_within.ensures
+    let q = e.quarters in
+    let p = north_part _ _ _ _ _ c.args.cols _ _ q c.side_of-half.ensures (omega (arith, c.if-cols-half.false)) c.requires.narrow (g.met.Q.Quads.square c.quarters.new.self c.quarters.result.nw q.nw) c.if-i-half.true in
+    part_made p (g.met.Q.Quads.low_height c.quarters.new.self c.quarters.result.nw q.nw) e.keeps e.room e.misses c.row_within.ensures
 
 pub row_within-requires-2 : goal.row_within-requires-2
 row_within-requires-2 g t c κs within =
-    let a = c.args in
-    let four = c.quarters.result in
     let q = c.quarters.ensures.quarters in
-    let p = south_part (g.Q.Core.worker a.q.now) (g.Q.Core.worker c.quarters.new.self) a.quad four (2 ^ a.quad.height) a.cols a.i c.side_of-half.result q c.side_of-half.ensures (omega (arith, c.if-cols-half.false)) c.requires.narrow
-    (g.met.Q.Quads.square c.quarters.new.self four.2 q.sw) (omega (arith, c.if-i-half.false)) c.requires.within in
+    let p = south_part _ _ _ _ _ c.args.cols _ _ q c.side_of-half.ensures (omega (arith, c.if-cols-half.false)) c.requires.narrow (g.met.Q.Quads.square c.quarters.new.self c.quarters.result.sw q.sw) (omega (arith, c.if-i-half.false)) c.requires.within in
     let over = p.over in
     (omega (arith, over), (within, (q.sw, (c.requires.limit, (p.fits, (p.narrow, p.within))))))
 
 pub returns : goal.returns
 returns g t c =
-    let a = c.args in
-    let four = c.quarters.result in
     let e = c.quarters.ensures in
-    let p = south_part (g.Q.Core.worker a.q.now) (g.Q.Core.worker c.quarters.new.self) a.quad four (2 ^ a.quad.height) a.cols a.i c.side_of-half.result e.quarters c.side_of-half.ensures (omega (arith, c.if-cols-half.false)) c.requires.narrow
-    (g.met.Q.Quads.square c.quarters.new.self four.2 e.quarters.sw) (omega (arith, c.if-i-half.false)) c.requires.within in
-    let low = g.met.Q.Quads.low_height c.quarters.new.self four.2 e.quarters.sw in
-    let over = p.over in
-    let r = strip-down four.2.height a.quad.height g.Q.Core.least over (omega (arith, over, low)) in
-    after_reading e.keeps e.room e.misses (omega (arith, r)) p.same c.row_within-2.ensures
+    let q = e.quarters in
+    let p = south_part _ _ _ _ _ c.args.cols _ _ q c.side_of-half.ensures (omega (arith, c.if-cols-half.false)) c.requires.narrow (g.met.Q.Quads.square c.quarters.new.self c.quarters.result.sw q.sw) (omega (arith, c.if-i-half.false)) c.requires.within in
+    part_made p (g.met.Q.Quads.low_height c.quarters.new.self c.quarters.result.sw q.sw) e.keeps e.room e.misses c.row_within-2.ensures

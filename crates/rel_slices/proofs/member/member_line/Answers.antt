@@ -1,5 +1,6 @@
 use Rattle.std.proofs.Common.{◌≡◌, ◌≤◌, ◌+◌, ◌-◌, ◌^◌, ◌∙◌, ℕ, Some, refl, sym, ap, subst, arith}
 use Rattle.std.specs.Prelude.{unwrap_or, Option, IsSome}
+use Rattle.rel_model.specs.declared.Quad.{Quad}
 use Rattle.rel_model.specs.Cells.{Cells, no_cells}
 use Rattle.rel_model.specs.Relation.{relation_of}
 use Rattle.rel_model.specs.Trees.{top_height}
@@ -34,8 +35,8 @@ doublings-preserved g c =
     let low = g.met.Q.Quads.low_height c.doublings.q c.doublings.quad (subst (λ (o : Option Cells). IsSome o) (sym v.gives.means) refl) in
     let same = v.gives.same_height in
     let least : g.Q.Core.least ≤ h = omega (arith, low, same) in
-    let none : w1.quad (record { height = h; name = 0 }) ≡ Some no_cells = g.met.Q.Quads.none c.doublings.q h least (omega (arith, most, under)) in
-    let empty : quad_set w1 (record { height = h; name = 0 }) ≡ no_cells = ap (λ (o : Option Cells). unwrap_or o no_cells) none in
+    let none : w1.quad c.empty-none.result ≡ Some no_cells = subst (λ (q : Quad). w1.quad q ≡ Some no_cells) (sym c.empty-none.ensures) (g.met.Q.Quads.none c.doublings.q h least (omega (arith, most, under))) in
+    let empty : quad_set w1 c.empty-none.result ≡ no_cells = ap (λ (o : Option Cells). unwrap_or o no_cells) none in
     let own = quad_given w1 h (member_cells h i) c.doublings.quad v.gives in
     let above = v.above in
     let space = v.space in

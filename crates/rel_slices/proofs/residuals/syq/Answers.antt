@@ -1,207 +1,86 @@
-use Rattle.std.proofs.Common.{◌≤◌, ◌^◌, ℕ, arith}
-use Rattle.rel_model.specs.Worker.{height_of_three}
+use Rattle.std.proofs.Common.{◌≤◌, ◌*◌, ◌^◌, ℕ, arith}
+use Rattle.rel_model.specs.declared.Rel.{Rel}
+use Rattle.rel_model.specs.Algebra.{HasType}
+use Rattle.rel_model.specs.Worker.{Stands, set_of, height_of_three}
 use Rattle.rel_model.proofs.Heights.{height_of-least}
-use Rattle.rel_model.proofs.Rooms.{derived_room-least, wide_room-four}
-use Rattle.rel_model.proofs.Workers.{keeps_trans}
+use Rattle.rel_model.proofs.Rooms.{derived_room-least}
 use Rattle.rel_slices.specs.Thin.{value_rows, value_cols}
-use Rattle.rel_slices.proofs.Costs.{value_row_limit, value_col_limit, first_covered, middle_covered, last_covered, transpose_part, pieces_part, residual_room-most}
-use Rattle.rel_slices.proofs.Valuing.{value_type, value_stays, quotient_value}
+use Rattle.rel_slices.specs.ValueRooms.{residual_room}
+use Rattle.rel_slices.proofs.Costs.{residual_room-most}
+use Rattle.rel_slices.proofs.Deriving.{beside, later, given, transposed, combined}
+use Rattle.rel_slices.proofs.Underway.{Underway, begun, called, goes_on, stops, ends, quotient_counted}
+use Rattle.rel_slices.proofs.Valuing.{value_type, quotient_set}
+use Rattle.rel_slices.proofs.residuals.syq.Given.{Over}
+use Rattle.rel_slices.proofs.residuals.syq.Goals.{In_ok-s_turned}
 use Rattle.rel_slices.proofs.residuals.syq.Goals as goal
 
-pub returns-clause-value : goal.returns-clause-value
-returns-clause-value g c =
-    let laws = g.met.C.Core in
-    let o = g.C.Core.worker c.args.core.now in
-    quotient_value o (g.C.Core.worker c.right.new.core) (g.C.Core.worker c.transpose.new.core) (g.C.Core.worker c.transpose-2.new.core) (g.C.Core.worker c.left.new.core) (g.C.Core.worker c.boole.new.core)
-    c.args.r.now c.args.s.now c.in_ok-forth.forth c.in_ok-r_turned.r_turned c.in_ok-s_turned.s_turned c.in_ok-back.back c.in_ok-both.both
-    (value_type o c.args.r.now (λ r s. record { valid = laws.valid c.args.core.now r s; row_size = laws.row_size c.args.core.now r s; col_size = laws.col_size c.args.core.now r s }) c.requires.left) (value_type o c.args.s.now (λ r s. record { valid = laws.valid c.args.core.now r s; row_size = laws.row_size c.args.core.now r s; col_size = laws.col_size c.args.core.now r s }) c.requires.right)
-    c.requires.rows c.requires.left c.requires.right c.in_ok-forth.ensures.keeps c.in_ok-r_turned.ensures.keeps c.in_ok-s_turned.ensures.keeps c.in_ok-back.ensures.keeps
-    c.in_ok-forth.ensures.value c.in_ok-r_turned.ensures.value c.in_ok-s_turned.ensures.value c.in_ok-back.ensures.value c.in_ok-both.ensures.value
+-- the first residual is there, and both operands are turned
+turned : (g : Over) (c : In_ok-s_turned g) → Underway g.C.Core.least (30 * 8 ^ height_of_three (value_rows c.args.r.now) (value_cols c.args.r.now) (value_cols c.args.s.now)) (g.C.Core.worker c.args.core.now) (g.C.Core.worker c.transpose-2.new.core)
+turned g c =
+    let h : ℕ = height_of_three (value_rows c.args.r.now) (value_cols c.args.r.now) (value_cols c.args.s.now) in
+    let b = beside _ c.args.r.now c.args.s.now (g.met.C.Core.row_limit c.args.core.now) (g.met.C.Core.col_limit c.args.core.now) c.requires.left c.requires.right c.requires.rows in
+    let f = c.in_ok-forth.ensures in
+    let r = c.in_ok-r_turned.ensures in
+    let s = c.in_ok-s_turned.ensures in
+    let a = goes_on (2 * 8 ^ h) (goes_on (2 * 8 ^ h) (called (26 * 8 ^ h) f.keeps f.close f.cause) r.keeps (λ e. omega (arith, r.room, transposed e (later b.first f.keeps))) r.cause)
+    s.keeps (λ e. omega (arith, s.room, transposed e (later (later b.second f.keeps) r.keeps))) s.cause in
+    record { keeps = a.keeps; room = λ e. omega (arith, a.room e); misses = a.misses }
 
-pub returns-in_err-forth-clause-close : goal.returns-in_err-forth-clause-close
-returns-in_err-forth-clause-close g c = λ e.
-    let laws = g.met.C.Core in
-    let core = c.args.core.now in
-    let o = g.C.Core.worker core in
-    let least : ℕ = g.C.Core.least in
-    let r = c.args.r.now in
-    let s = c.args.s.now in
-    let h : ℕ = height_of_three (value_rows r) (value_cols r) (value_cols s) in
-    let z = derived_room-least (value_rows r) (value_cols r) (value_cols s) in
-    let rr : value_rows r ≤ 2 ^ h = first_covered (value_rows r) (value_cols r) (value_cols s) (value_row_limit o r (laws.row_limit core) c.requires.left) in
-    let rc : value_cols r ≤ 2 ^ h = middle_covered (value_rows r) (value_cols r) (value_cols s) (value_col_limit o r (laws.col_limit core) c.requires.left) in
-    let sr : value_rows s ≤ 2 ^ h = (let q = c.requires.rows in omega (arith, rr, q)) in
-    let sc : value_cols s ≤ 2 ^ h = last_covered (value_rows r) (value_cols r) (value_cols s) (value_col_limit o s (laws.col_limit core) c.requires.right) in
-    let a = c.in_err-forth.ensures.close e in
-    omega (arith, z, a)
+-- the second residual is of the same height
+back_height : (g : Over) (c : In_ok-s_turned g) → residual_room (value_rows c.in_ok-r_turned.r_turned) (value_cols c.in_ok-r_turned.r_turned) (value_rows c.in_ok-s_turned.s_turned) ≤ 26 * 8 ^ height_of_three (value_rows c.args.r.now) (value_cols c.args.r.now) (value_cols c.args.s.now)
+back_height g c =
+    let b = beside _ c.args.r.now c.args.s.now (g.met.C.Core.row_limit c.args.core.now) (g.met.C.Core.col_limit c.args.core.now) c.requires.left c.requires.right c.requires.rows in
+    let r = c.in_ok-r_turned.ensures.value in
+    let s = c.in_ok-s_turned.ensures.value in
+    residual_room-most _ _ _ _ (height_of-least _ _ (omega (arith, r.row_size, b.first.cols))) (height_of-least _ _ (omega (arith, r.col_size, b.first.rows))) (height_of-least _ _ (omega (arith, s.row_size, b.second.cols)))
 
-pub returns-in_err-forth-clause-cost : goal.returns-in_err-forth-clause-cost
-returns-in_err-forth-clause-cost g c = λ e.
-    let r = c.args.r.now in
-    let s = c.args.s.now in
-    let y = wide_room-four (value_rows r) (value_cols r) (value_cols s) in
-    let a = returns-in_err-forth-clause-close g c e in
-    omega (arith, y, a)
+pub returns-in_err-forth : goal.returns-in_err-forth
+returns-in_err-forth g c =
+    let h : ℕ = height_of_three (value_rows c.args.r.now) (value_cols c.args.r.now) (value_cols c.args.s.now) in
+    let f = c.in_err-forth.ensures in
+    stops (26 * 8 ^ h) c.from_residual.result c.from_residual.ensures.1 (begun _ _) f.keeps f.close f.cause (omega (arith, derived_room-least (value_rows c.args.r.now) (value_cols c.args.r.now) (value_cols c.args.s.now))) (quotient_counted (value_rows c.args.r.now) (value_cols c.args.r.now) (value_cols c.args.s.now))
 
-pub returns-in_err-r_turned-clause-close : goal.returns-in_err-r_turned-clause-close
-returns-in_err-r_turned-clause-close g c = λ e.
-    let laws = g.met.C.Core in
-    let core = c.args.core.now in
-    let o = g.C.Core.worker core in
-    let least : ℕ = g.C.Core.least in
-    let r = c.args.r.now in
-    let s = c.args.s.now in
-    let h : ℕ = height_of_three (value_rows r) (value_cols r) (value_cols s) in
-    let z = derived_room-least (value_rows r) (value_cols r) (value_cols s) in
-    let rr : value_rows r ≤ 2 ^ h = first_covered (value_rows r) (value_cols r) (value_cols s) (value_row_limit o r (laws.row_limit core) c.requires.left) in
-    let rc : value_cols r ≤ 2 ^ h = middle_covered (value_rows r) (value_cols r) (value_cols s) (value_col_limit o r (laws.col_limit core) c.requires.left) in
-    let sr : value_rows s ≤ 2 ^ h = (let q = c.requires.rows in omega (arith, rr, q)) in
-    let sc : value_cols s ≤ 2 ^ h = last_covered (value_rows r) (value_cols r) (value_cols s) (value_col_limit o s (laws.col_limit core) c.requires.right) in
-    let a = c.in_ok-forth.ensures.close e in
-    let b = c.in_err-r_turned.ensures.room in
-    let fb = transpose_part least h r e rr rc in
-    omega (arith, z, a, b, fb)
+pub returns-in_err-r_turned : goal.returns-in_err-r_turned
+returns-in_err-r_turned g c =
+    let h : ℕ = height_of_three (value_rows c.args.r.now) (value_cols c.args.r.now) (value_cols c.args.s.now) in
+    let b = beside _ c.args.r.now c.args.s.now (g.met.C.Core.row_limit c.args.core.now) (g.met.C.Core.col_limit c.args.core.now) c.requires.left c.requires.right c.requires.rows in
+    let f = c.in_ok-forth.ensures in
+    let r = c.in_err-r_turned.ensures in
+    stops (2 * 8 ^ h) c.from_residual-in_err-r_turned.result c.from_residual-in_err-r_turned.ensures.1 (called (26 * 8 ^ h) f.keeps f.close f.cause) r.keeps (λ e. omega (arith, r.room, transposed e (later b.first f.keeps))) r.cause (omega (arith, derived_room-least (value_rows c.args.r.now) (value_cols c.args.r.now) (value_cols c.args.s.now))) (quotient_counted (value_rows c.args.r.now) (value_cols c.args.r.now) (value_cols c.args.s.now))
 
-pub returns-in_err-r_turned-clause-cost : goal.returns-in_err-r_turned-clause-cost
-returns-in_err-r_turned-clause-cost g c = λ e.
-    let r = c.args.r.now in
-    let s = c.args.s.now in
-    let y = wide_room-four (value_rows r) (value_cols r) (value_cols s) in
-    let a = returns-in_err-r_turned-clause-close g c e in
-    omega (arith, y, a)
+pub returns-in_err-s_turned : goal.returns-in_err-s_turned
+returns-in_err-s_turned g c =
+    let h : ℕ = height_of_three (value_rows c.args.r.now) (value_cols c.args.r.now) (value_cols c.args.s.now) in
+    let b = beside _ c.args.r.now c.args.s.now (g.met.C.Core.row_limit c.args.core.now) (g.met.C.Core.col_limit c.args.core.now) c.requires.left c.requires.right c.requires.rows in
+    let f = c.in_ok-forth.ensures in
+    let r = c.in_ok-r_turned.ensures in
+    let s = c.in_err-s_turned.ensures in
+    stops (2 * 8 ^ h) c.from_residual-in_err-s_turned.result c.from_residual-in_err-s_turned.ensures.1 (goes_on (2 * 8 ^ h) (called (26 * 8 ^ h) f.keeps f.close f.cause) r.keeps (λ e. omega (arith, r.room, transposed e (later b.first f.keeps))) r.cause)
+    s.keeps (λ e. omega (arith, s.room, transposed e (later (later b.second f.keeps) r.keeps))) s.cause (omega (arith, derived_room-least (value_rows c.args.r.now) (value_cols c.args.r.now) (value_cols c.args.s.now))) (quotient_counted (value_rows c.args.r.now) (value_cols c.args.r.now) (value_cols c.args.s.now))
 
-pub returns-in_err-s_turned-clause-close : goal.returns-in_err-s_turned-clause-close
-returns-in_err-s_turned-clause-close g c = λ e.
+pub returns-in_err-back : goal.returns-in_err-back
+returns-in_err-back g c =
+    let h : ℕ = height_of_three (value_rows c.args.r.now) (value_cols c.args.r.now) (value_cols c.args.s.now) in
+    let at = (goal.at.returns-in_err-back g c).In_ok-s_turned in
+    let b = c.in_err-back.ensures in
+    stops (26 * 8 ^ h) c.from_residual-in_err-back.result c.from_residual-in_err-back.ensures.1 (turned g at) b.keeps (λ e. omega (arith, b.close e, back_height g at)) b.cause (omega (arith, derived_room-least (value_rows c.args.r.now) (value_cols c.args.r.now) (value_cols c.args.s.now))) (quotient_counted (value_rows c.args.r.now) (value_cols c.args.r.now) (value_cols c.args.s.now))
+
+pub returns : goal.returns
+returns g c =
+    let h : ℕ = height_of_three (value_rows c.args.r.now) (value_cols c.args.r.now) (value_cols c.args.s.now) in
+    let at = (goal.at.returns g c).In_ok-s_turned in
     let laws = g.met.C.Core in
     let core = c.args.core.now in
     let o = g.C.Core.worker core in
-    let least : ℕ = g.C.Core.least in
-    let r = c.args.r.now in
-    let s = c.args.s.now in
-    let h : ℕ = height_of_three (value_rows r) (value_cols r) (value_cols s) in
-    let z = derived_room-least (value_rows r) (value_cols r) (value_cols s) in
-    let rr : value_rows r ≤ 2 ^ h = first_covered (value_rows r) (value_cols r) (value_cols s) (value_row_limit o r (laws.row_limit core) c.requires.left) in
-    let rc : value_cols r ≤ 2 ^ h = middle_covered (value_rows r) (value_cols r) (value_cols s) (value_col_limit o r (laws.col_limit core) c.requires.left) in
-    let sr : value_rows s ≤ 2 ^ h = (let q = c.requires.rows in omega (arith, rr, q)) in
-    let sc : value_cols s ≤ 2 ^ h = last_covered (value_rows r) (value_cols r) (value_cols s) (value_col_limit o s (laws.col_limit core) c.requires.right) in
-    let a = c.in_ok-forth.ensures.close e in
-    let b = c.in_ok-r_turned.ensures.room in
-    let fb = transpose_part least h r e rr rc in
-    let d = c.in_err-s_turned.ensures.room in
-    let fd = transpose_part least h s e sr sc in
-    omega (arith, z, a, b, fb, d, fd)
-
-pub returns-in_err-s_turned-clause-cost : goal.returns-in_err-s_turned-clause-cost
-returns-in_err-s_turned-clause-cost g c = λ e.
-    let r = c.args.r.now in
-    let s = c.args.s.now in
-    let y = wide_room-four (value_rows r) (value_cols r) (value_cols s) in
-    let a = returns-in_err-s_turned-clause-close g c e in
-    omega (arith, y, a)
-
-pub returns-in_err-back-clause-close : goal.returns-in_err-back-clause-close
-returns-in_err-back-clause-close g c = λ e.
-    let laws = g.met.C.Core in
-    let core = c.args.core.now in
-    let o = g.C.Core.worker core in
-    let least : ℕ = g.C.Core.least in
-    let r = c.args.r.now in
-    let s = c.args.s.now in
-    let h : ℕ = height_of_three (value_rows r) (value_cols r) (value_cols s) in
-    let z = derived_room-least (value_rows r) (value_cols r) (value_cols s) in
-    let rr : value_rows r ≤ 2 ^ h = first_covered (value_rows r) (value_cols r) (value_cols s) (value_row_limit o r (laws.row_limit core) c.requires.left) in
-    let rc : value_cols r ≤ 2 ^ h = middle_covered (value_rows r) (value_cols r) (value_cols s) (value_col_limit o r (laws.col_limit core) c.requires.left) in
-    let sr : value_rows s ≤ 2 ^ h = (let q = c.requires.rows in omega (arith, rr, q)) in
-    let sc : value_cols s ≤ 2 ^ h = last_covered (value_rows r) (value_cols r) (value_cols s) (value_col_limit o s (laws.col_limit core) c.requires.right) in
-    let a = c.in_ok-forth.ensures.close e in
-    let b = c.in_ok-r_turned.ensures.room in
-    let fb = transpose_part least h r e rr rc in
-    let d = c.in_ok-s_turned.ensures.room in
-    let fd = transpose_part least h s e sr sc in
-    let f = c.in_err-back.ensures.close e in
-    let t = c.in_ok-r_turned.ensures.value in
-    let l = c.in_ok-s_turned.ensures.value in
-    let ff = residual_room-most (value_rows c.in_ok-r_turned.r_turned) (value_cols c.in_ok-r_turned.r_turned) (value_rows c.in_ok-s_turned.s_turned) h (height_of-least _ h (let q = t.row_size in omega (arith, q, rc))) (height_of-least _ h (let q = t.col_size in omega (arith, q, rr))) (height_of-least _ h (let q = l.row_size in omega (arith, q, sc))) in
-    omega (arith, z, a, b, fb, d, fd, f, ff)
-
-pub returns-in_err-back-clause-cost : goal.returns-in_err-back-clause-cost
-returns-in_err-back-clause-cost g c = λ e.
-    let r = c.args.r.now in
-    let s = c.args.s.now in
-    let y = wide_room-four (value_rows r) (value_cols r) (value_cols s) in
-    let a = returns-in_err-back-clause-close g c e in
-    omega (arith, y, a)
-
-pub returns-in_err-both-clause-close : goal.returns-in_err-both-clause-close
-returns-in_err-both-clause-close g c = λ e.
-    let laws = g.met.C.Core in
-    let core = c.args.core.now in
-    let o = g.C.Core.worker core in
-    let least : ℕ = g.C.Core.least in
-    let r = c.args.r.now in
-    let s = c.args.s.now in
-    let h : ℕ = height_of_three (value_rows r) (value_cols r) (value_cols s) in
-    let z = derived_room-least (value_rows r) (value_cols r) (value_cols s) in
-    let rr : value_rows r ≤ 2 ^ h = first_covered (value_rows r) (value_cols r) (value_cols s) (value_row_limit o r (laws.row_limit core) c.requires.left) in
-    let rc : value_cols r ≤ 2 ^ h = middle_covered (value_rows r) (value_cols r) (value_cols s) (value_col_limit o r (laws.col_limit core) c.requires.left) in
-    let sr : value_rows s ≤ 2 ^ h = (let q = c.requires.rows in omega (arith, rr, q)) in
-    let sc : value_cols s ≤ 2 ^ h = last_covered (value_rows r) (value_cols r) (value_cols s) (value_col_limit o s (laws.col_limit core) c.requires.right) in
-    let a = c.in_ok-forth.ensures.close e in
-    let b = c.in_ok-r_turned.ensures.room in
-    let fb = transpose_part least h r e rr rc in
-    let d = c.in_ok-s_turned.ensures.room in
-    let fd = transpose_part least h s e sr sc in
-    let f = c.in_ok-back.ensures.close e in
-    let t = c.in_ok-r_turned.ensures.value in
-    let l = c.in_ok-s_turned.ensures.value in
-    let ff = residual_room-most (value_rows c.in_ok-r_turned.r_turned) (value_cols c.in_ok-r_turned.r_turned) (value_rows c.in_ok-s_turned.s_turned) h (height_of-least _ h (let q = t.row_size in omega (arith, q, rc))) (height_of-least _ h (let q = t.col_size in omega (arith, q, rr))) (height_of-least _ h (let q = l.row_size in omega (arith, q, sc))) in
-    let i = c.in_err-both.ensures.room in
-    let v = c.in_ok-forth.ensures.value in
-    let k = keeps_trans (g.C.Core.worker c.right.new.core) (g.C.Core.worker c.transpose.new.core) (g.C.Core.worker c.left.new.core) c.in_ok-r_turned.ensures.keeps (keeps_trans (g.C.Core.worker c.transpose.new.core) (g.C.Core.worker c.transpose-2.new.core) (g.C.Core.worker c.left.new.core) c.in_ok-s_turned.ensures.keeps c.in_ok-back.ensures.keeps) in
-    let fi = pieces_part least h (g.C.Core.worker c.left.new.core) c.in_ok-forth.forth e (value_stays _ _ c.in_ok-forth.forth k v.stands) (let q = v.row_size in omega (arith, q, rc)) (let q = v.col_size in omega (arith, q, sc)) in
-    omega (arith, z, a, b, fb, d, fd, f, ff, i, fi)
-
-pub returns-in_err-both-clause-cost : goal.returns-in_err-both-clause-cost
-returns-in_err-both-clause-cost g c = λ e.
-    let r = c.args.r.now in
-    let s = c.args.s.now in
-    let y = wide_room-four (value_rows r) (value_cols r) (value_cols s) in
-    let a = returns-in_err-both-clause-close g c e in
-    omega (arith, y, a)
-
-pub returns-clause-close : goal.returns-clause-close
-returns-clause-close g c = λ e.
-    let laws = g.met.C.Core in
-    let core = c.args.core.now in
-    let o = g.C.Core.worker core in
-    let least : ℕ = g.C.Core.least in
-    let r = c.args.r.now in
-    let s = c.args.s.now in
-    let h : ℕ = height_of_three (value_rows r) (value_cols r) (value_cols s) in
-    let z = derived_room-least (value_rows r) (value_cols r) (value_cols s) in
-    let rr : value_rows r ≤ 2 ^ h = first_covered (value_rows r) (value_cols r) (value_cols s) (value_row_limit o r (laws.row_limit core) c.requires.left) in
-    let rc : value_cols r ≤ 2 ^ h = middle_covered (value_rows r) (value_cols r) (value_cols s) (value_col_limit o r (laws.col_limit core) c.requires.left) in
-    let sr : value_rows s ≤ 2 ^ h = (let q = c.requires.rows in omega (arith, rr, q)) in
-    let sc : value_cols s ≤ 2 ^ h = last_covered (value_rows r) (value_cols r) (value_cols s) (value_col_limit o s (laws.col_limit core) c.requires.right) in
-    let a = c.in_ok-forth.ensures.close e in
-    let b = c.in_ok-r_turned.ensures.room in
-    let fb = transpose_part least h r e rr rc in
-    let d = c.in_ok-s_turned.ensures.room in
-    let fd = transpose_part least h s e sr sc in
-    let f = c.in_ok-back.ensures.close e in
-    let t = c.in_ok-r_turned.ensures.value in
-    let l = c.in_ok-s_turned.ensures.value in
-    let ff = residual_room-most (value_rows c.in_ok-r_turned.r_turned) (value_cols c.in_ok-r_turned.r_turned) (value_rows c.in_ok-s_turned.s_turned) h (height_of-least _ h (let q = t.row_size in omega (arith, q, rc))) (height_of-least _ h (let q = t.col_size in omega (arith, q, rr))) (height_of-least _ h (let q = l.row_size in omega (arith, q, sc))) in
-    let i = c.in_ok-both.ensures.room in
-    let v = c.in_ok-forth.ensures.value in
-    let k = keeps_trans (g.C.Core.worker c.right.new.core) (g.C.Core.worker c.transpose.new.core) (g.C.Core.worker c.left.new.core) c.in_ok-r_turned.ensures.keeps (keeps_trans (g.C.Core.worker c.transpose.new.core) (g.C.Core.worker c.transpose-2.new.core) (g.C.Core.worker c.left.new.core) c.in_ok-s_turned.ensures.keeps c.in_ok-back.ensures.keeps) in
-    let fi = pieces_part least h (g.C.Core.worker c.left.new.core) c.in_ok-forth.forth e (value_stays _ _ c.in_ok-forth.forth k v.stands) (let q = v.row_size in omega (arith, q, rc)) (let q = v.col_size in omega (arith, q, sc)) in
-    omega (arith, z, a, b, fb, d, fd, f, ff, i, fi)
-
-pub returns-clause-cost : goal.returns-clause-cost
-returns-clause-cost g c = λ e.
-    let r = c.args.r.now in
-    let s = c.args.s.now in
-    let y = wide_room-four (value_rows r) (value_cols r) (value_cols s) in
-    let a = returns-clause-close g c e in
-    omega (arith, y, a)
+    let x = c.args.r.now in
+    let y = c.args.s.now in
+    let typed : (r : Rel) → Stands o r → HasType r.rows r.cols (set_of o r) = λ r s. record { valid = laws.valid core r s; row_size = laws.row_size core r s; col_size = laws.col_size core r s } in
+    let a = beside o x y (laws.row_limit core) (laws.col_limit core) c.requires.left c.requires.right c.requires.rows in
+    let f = c.in_ok-forth.ensures in
+    let r = c.in_ok-r_turned.ensures in
+    let s = c.in_ok-s_turned.ensures in
+    let b = c.in_ok-back.ensures in
+    let d = c.boole.ensures in
+    let v = later (later (later (given f.value a.first.cols a.second.cols) r.keeps) s.keeps) b.keeps in
+    ends (4 * 8 ^ h) c.boole.result (goes_on (26 * 8 ^ h) (turned g at) b.keeps (λ e. omega (arith, b.close e, back_height g at)) b.cause) d.keeps (λ e. omega (arith, d.room, combined e v)) d.cause d.value d.form f.value.row_size f.value.col_size
+    (quotient_set o _ _ _ _ x y c.in_ok-forth.forth c.in_ok-r_turned.r_turned c.in_ok-s_turned.s_turned c.in_ok-back.back (value_type o x typed c.requires.left) (value_type o y typed c.requires.right) c.requires.rows c.requires.left c.requires.right f.keeps r.keeps s.keeps b.keeps f.value r.value s.value b.value) (omega (arith, derived_room-least (value_rows c.args.r.now) (value_cols c.args.r.now) (value_cols c.args.s.now))) (quotient_counted (value_rows c.args.r.now) (value_cols c.args.r.now) (value_cols c.args.s.now))

@@ -10,7 +10,7 @@ returns-in_err-walked-clause-room g c = let r = c.in_err-walked.ensures.room in 
 
 pub returns-in-Some-clause-value : goal.returns-in-Some-clause-value
 returns-in-Some-clause-value g c =
-    some_given (Gives (g.C.Core.worker c.image.new.q) 1 c.args.r.rows (transpose (compose (set_of (g.C.Core.worker c.args.core.now) c.args.r) (transpose (set_of (g.C.Core.worker c.args.core.now) c.args.u)))))
+    some_given (Gives (g.C.Core.worker c.sparse_image.new.core) 1 c.args.r.rows (transpose (compose (set_of (g.C.Core.worker c.args.core.now) c.args.r) (transpose (set_of (g.C.Core.worker c.args.core.now) c.args.u)))))
     c.in_ok-walked.walked c.in-Some.line c.in-Some.is c.in_ok-walked.ensures.value
 
 pub returns-in-Some-clause-room : goal.returns-in-Some-clause-room

@@ -1,14 +1,6 @@
-use Rattle.std.proofs.Common.{◌≡◌, false}
 use Rattle.rel_model.specs.Cells.{some_below}
-use Rattle.rel_model.specs.Worker.{Keeps, MakesAtMost, MissesNothing}
-use Rattle.rel_slices.specs.Thin.{line_set}
-use Rattle.rel_slices.specs.Ops.{meet}
+use Rattle.rel_slices.proofs.Univalents.{Tried, lines_meet}
 use Rattle.rel_slices.proofs.univalent.all_apart.Given as goal
 
 abbrev pub invariant-lines : goal.invariant-lines
-invariant-lines g l = record {
-  none : some_below l.j (λ j. some_below j (λ k. meet l.s.other (line_set (g.C.Core.worker l.fn.core) l.s k) (line_set (g.C.Core.worker l.fn.core) l.s j))) ≡ false;
-  keeps : Keeps (g.C.Core.worker l.fn.core) (g.C.Core.worker l.core);
-  room : MakesAtMost 0 (g.C.Core.worker l.fn.core) (g.C.Core.worker l.core);
-  misses : MissesNothing (g.C.Core.worker l.fn.core) (g.C.Core.worker l.core);
-}
+invariant-lines g l = Tried (g.C.Core.worker l.fn.core) (g.C.Core.worker l.core) (λ j. some_below j (lines_meet (g.C.Core.worker l.fn.core) l.s j)) l.j

@@ -4,7 +4,7 @@ use Rattle.rel_model.specs.Worker.{height_of_three}
 use Rattle.rel_model.proofs.Workers.{gives_set}
 use Rattle.rel_steps.proofs.Rooms.{as_high}
 use Rattle.rel_slices.specs.Thin.{value_rows, value_cols}
-use Rattle.rel_values.proofs.Operating.{begun, goes_on, stops, ends_whole, regives}
+use Rattle.rel_values.proofs.Operating.{begun, called, stops, ends_rel}
 use Rattle.rel_values.proofs.Sizes.{chosen_room}
 use Rattle.rel_values.proofs.choice.atom.Goals as goal
 
@@ -14,21 +14,12 @@ returns-in_err-all g c =
     let r = chosen_room g.E.Core.least (g.E.Core.worker c.args.engine.now) c.args.v.now 1 1 1 g.met.E.Engine.leaf_height c.requires.fits (omega arith) (omega arith) (omega arith) in
     record { operates = stops _ c.from_residual.result c.from_residual.ensures.1 (omega (arith, r)) (begun _) a.keeps a.room a.cause }
 
-pub returns-in_err-found : goal.returns-in_err-found
-returns-in_err-found g c =
-    let v = c.args.v.now in
-    let h : ℕ = height_of_three (value_rows v) (value_cols v) 1 in
-    let a = c.in_ok-all.ensures in
-    let b = c.in_err-found.ensures in
-    let r = chosen_room g.E.Core.least (g.E.Core.worker c.args.engine.now) v _ _ 1 g.met.E.Engine.leaf_height c.requires.fits (as_high _ (value_rows v) h a.value.row_size (omega arith)) (as_high _ (value_cols v) h a.value.col_size (omega arith)) (omega arith) in
-    record { operates = stops _ c.from_residual-in_err-found.result c.from_residual-in_err-found.ensures.1 (omega (arith, r)) (goes_on _ (begun _) a.keeps a.room a.cause) b.keeps b.room b.cause }
-
 pub returns : goal.returns
 returns g c =
     let v = c.args.v.now in
     let h : ℕ = height_of_three (value_rows v) (value_cols v) 1 in
     let a = c.in_ok-all.ensures in
-    let b = c.in_ok-found.ensures in
+    let b = c.atom.ensures in
     let r = chosen_room g.E.Core.least (g.E.Core.worker c.args.engine.now) v _ _ 1 g.met.E.Engine.leaf_height c.requires.fits (as_high _ (value_rows v) h a.value.row_size (omega arith)) (as_high _ (value_cols v) h a.value.col_size (omega arith)) (omega arith) in
     let e = gives_set _ _ _ _ _ a.value in
-    record { operates = ends_whole (omega (arith, r)) (goes_on _ (goes_on _ (begun _) a.keeps a.room a.cause) b.keeps b.room b.cause) (regives a.value.row_size a.value.col_size (ap atom e) b.value) }
+    record { operates = ends_rel _ c.atom.result c.stays_whole.result c.stays_whole.ensures.found c.stays_whole.ensures.failed (called a.keeps a.room a.cause) b.keeps b.room b.cause b.value a.value.row_size a.value.col_size (ap atom e) (omega (arith, r)) }

@@ -1,62 +1,40 @@
-use Rattle.std.proofs.Common.{◌∙◌, ℕ, ap, subst, sym, arith}
-use Rattle.rel_model.specs.Relation.{Relation}
+use Rattle.std.proofs.Common.{◌∙◌, ℕ, subst, sym, arith}
 use Rattle.rel_model.specs.Operators.{compose}
 use Rattle.rel_model.specs.Worker.{MakesAtMost, product_room}
-use Rattle.rel_slices.specs.Thin.{value_of, value_rows, value_cols}
-use Rattle.rel_slices.specs.ValueRooms.{formed_room, thin_room}
+use Rattle.rel_slices.specs.Thin.{value_rows, value_cols}
+use Rattle.rel_slices.specs.ValueRooms.{thin_room}
 use Rattle.rel_slices.proofs.Costs.{value_row_limit, value_col_limit}
-use Rattle.rel_values.proofs.Operating.{begun, goes_on, stops, ends_value}
-use Rattle.rel_values.proofs.Forming.{Limits, compose_ends, product_forming, formed, same_three, some_lines}
+use Rattle.rel_values.proofs.Small.{Held}
+use Rattle.rel_values.proofs.Operating.{begun, called, stops, ends_value}
+use Rattle.rel_values.proofs.Thinness.{ArePlain, plain_formed}
+use Rattle.rel_values.proofs.Forming.{Limits, chained, compose_ends, product_forming, both_mean, same_three, some_lines}
 use Rattle.rel_values.proofs.products.compose.Goals as goal
 
-pub returns-in_err-first : goal.returns-in_err-first
-returns-in_err-first g c =
-    let laws = g.met.E.Core in
+pub returns-in_err-two : goal.returns-in_err-two
+returns-in_err-two g c =
     let engine = c.args.engine.now in
-    let o = g.E.Core.worker engine in
     let x = c.args.x.now in
     let y = c.args.y.now in
-    let limits : Limits (value_rows x) (value_cols x) (value_cols y) = record { first = value_row_limit o x (laws.row_limit engine) c.requires.left.stands; middle = value_col_limit o x (laws.col_limit engine) c.requires.left.stands; last = value_col_limit o y (laws.col_limit engine) c.requires.right.stands } in
-    let a = c.in_err-first.ensures in
-    let p = product_forming g.E.Core.least _ _ _ g.met.E.Engine.leaf_height limits in
-    record { operates = stops _ c.from_residual.result c.from_residual.ensures.1 (omega (arith, p)) (begun o) a.keeps a.room a.cause }
-
-pub returns-in_err-second : goal.returns-in_err-second
-returns-in_err-second g c =
-    let laws = g.met.E.Core in
-    let engine = c.args.engine.now in
-    let o = g.E.Core.worker engine in
-    let x = c.args.x.now in
-    let y = c.args.y.now in
-    let limits : Limits (value_rows x) (value_cols x) (value_cols y) = record { first = value_row_limit o x (laws.row_limit engine) c.requires.left.stands; middle = value_col_limit o x (laws.col_limit engine) c.requires.left.stands; last = value_col_limit o y (laws.col_limit engine) c.requires.right.stands } in
-    let a = c.in_ok-first.ensures in
-    let b = c.in_err-second.ensures in
-    let p = product_forming g.E.Core.least _ _ _ g.met.E.Engine.leaf_height limits in
-    let m = ap (λ (z : ℕ). formed_room g.E.Core.least z (value_cols y)) c.requires.middle in
-    record { operates = stops _ c.from_residual-in_err-second.result c.from_residual-in_err-second.ensures.1 (omega (arith, p, m)) (goes_on _ (begun o) a.keeps a.room a.cause) b.keeps b.room b.cause }
+    let h : Held g.E.Core.least (g.E.Core.worker engine) = record { leaves = g.met.E.Engine.leaf_height; row_limit = g.met.E.Core.row_limit engine; col_limit = g.met.E.Core.col_limit engine } in
+    let a = c.in_err-two.ensures in
+    record { operates = stops _ c.from_residual.result c.from_residual.ensures.1 (omega (arith, product_forming (value_rows x) (value_cols x) (value_cols y) (chained x y h c.requires.left c.requires.right c.requires.middle))) (begun (g.E.Core.worker engine)) a.keeps a.room a.cause }
 
 pub returns : goal.returns
 returns g c =
-    let laws = g.met.E.Core in
     let engine = c.args.engine.now in
-    let o = g.E.Core.worker engine in
     let x = c.args.x.now in
     let y = c.args.y.now in
-    let limits : Limits (value_rows x) (value_cols x) (value_cols y) = record { first = value_row_limit o x (laws.row_limit engine) c.requires.left.stands; middle = value_col_limit o x (laws.col_limit engine) c.requires.left.stands; last = value_col_limit o y (laws.col_limit engine) c.requires.right.stands } in
-    let w2 = g.E.Core.worker c.in_form-2.new.engine in
+    let h : Held g.E.Core.least (g.E.Core.worker engine) = record { leaves = g.met.E.Engine.leaf_height; row_limit = g.met.E.Core.row_limit engine; col_limit = g.met.E.Core.col_limit engine } in
+    let limits : Limits (value_rows x) (value_cols x) (value_cols y) = record { first = value_row_limit _ x h.row_limit c.requires.left.stands; middle = value_col_limit _ x h.col_limit c.requires.left.stands; last = value_col_limit _ y h.col_limit c.requires.right.stands } in
+    let w2 = g.E.Core.worker c.both_in_form.new.engine in
     let w3 = g.E.Core.worker c.compose.new.core in
-    let a = c.in_ok-first.ensures in
-    let b = c.in_ok-second.ensures in
+    let t = c.in_ok-two.ensures in
+    let l = t.forms.left in
+    let r = t.forms.right in
     let d = c.compose.ensures in
-    let s = formed c.requires.right.stands a.value a.keeps a.room a.cause b.value b.keeps b.room b.cause in
-    let e = compose_ends g.E.Core.least _ _ _ w2 w3 g.met.E.Engine.leaf_height limits
-    (subst (λ (z : ℕ). MakesAtMost z w2 w3) (same_three product_room a.value.row_size a.value.col_size b.value.col_size) (d.cost g.met.E.Engine.leaf_height))
-    (λ t. subst (λ (z : ℕ). MakesAtMost z w2 w3) (same_three thin_room a.value.row_size a.value.col_size b.value.col_size) (d.thin g.met.E.Engine.leaf_height
-    (some_lines c.in_ok-first.first c.in_ok-second.second _ _ _ a.form b.form a.value.row_size a.value.col_size (b.value.row_size ∙ sym c.requires.middle) b.value.col_size t))) in
-    let m = ap (λ (z : ℕ). formed_room g.E.Core.least z (value_cols y)) c.requires.middle in
-    let f = e.1.fits in
-    record {
-      operates = ends_value _ c.compose.result s.underway d.keeps e.1.room d.cause d.value d.form a.value.row_size b.value.col_size
-          (ap (λ (z : Relation). compose z (value_of w2 c.in_ok-second.second)) s.first_means ∙ ap (compose (value_of o x)) s.second_means)
-          (omega (arith, f, m)) (λ v i j. let q = e.1.owes _ v i j in omega (arith, q, m));
-    }
+    let e = compose_ends (value_rows x) (value_cols x) (value_cols y) w2 w3 h.leaves limits (chained x y h c.requires.left c.requires.right c.requires.middle)
+    (λ p. omega (arith, plain_formed g.E.Core.least _ _ p.first, plain_formed g.E.Core.least _ _ (subst (λ (z : ℕ). ArePlain z (value_cols y)) c.requires.middle p.second)))
+    (subst (λ (z : ℕ). MakesAtMost z w2 w3) (same_three product_room l.row_size l.col_size r.col_size) (d.cost h.leaves))
+    (λ s. subst (λ (z : ℕ). MakesAtMost z w2 w3) (same_three thin_room l.row_size l.col_size r.col_size) (d.thin h.leaves
+    (some_lines c.in_ok-two.two.0 c.in_ok-two.two.1 _ _ _ t.forms.left_form t.forms.right_form l.row_size l.col_size (r.row_size ∙ sym c.requires.middle) r.col_size s))) in
+    record { operates = ends_value _ c.compose.result (called t.keeps t.room t.cause) d.keeps e.1.room d.cause d.value d.form l.row_size r.col_size (both_mean compose t.forms) e.1.fits (e.1.owes _) }
