@@ -28,6 +28,7 @@ value_entered (KEYWORD ALL) h = absurd (false≢true (sym h))
 value_entered (KEYWORD _) h = refl
 value_entered _ h = refl
 
+-- where the first token is not ALL, a name or an expression is wanted, just as where ALL may not stand
 pub wants_one : (tokens : List Token) → begins_word ALL tokens ≡ false → WantsOne tokens
 wants_one [] h = record { name = named; value = valued }
   where

@@ -17,8 +17,8 @@ use Rattle.lang_model.specs.Spelling.{Level, OrLevel, AndLevel, ProdLevel, Unary
 use Rattle.lang_model.specs.Stop.{Part, ExprPart, MoreLinks, MoreCarets, MoreArgs, Step, NotBegun, Instead, Deeper, Behind, followed, first_of, fault_at, expr_step, unary_step, prim_step, stop_of}
 use Rattle.rv_parse.specs.Readers.{Reads, Refuses, begins, level_of, IsLink, IsRead}
 use Rattle.rv_parse.specs.declared.halt.Halt.{Halt}
-use Rattle.rv_parse.specs.declared.expr.Chains.{Chains}
-use Rattle.rv_parse.specs.declared.expr.Chains.TheVariants.{Or, And, Prod}
+use Rattle.rv_parse.specs.declared.operators.Chains.{Chains}
+use Rattle.rv_parse.specs.declared.operators.Chains.TheVariants.{Or, And, Prod}
 use Rattle.rv_parse.proofs.Optional.{enter_args, last_args, drop_carets, enter_carets}
 
 -- how far chains and their operands are from the tightest part of an expression

@@ -78,6 +78,7 @@ tight_tighter UnaryLevel h = absurd h
 tight_tighter PostLevel h = tt
 tight_tighter PrimLevel h = tt
 
+-- an expression of these levels begins with no minus: by its first token, or that of the expression it begins with
 pub no_minus : {l : Level} {d : ℕ} {x : Expr} {tokens rest : List Token} → Spelled l d x tokens rest → IsTight l → begins 45 tokens ≡ false
 no_minus (named d at text tokens rest t) h = ap (begins 45) t
 no_minus (called d at text args first more tokens t1 t2 t3 t4 rest l q t _ _ _ _) h = ap (begins 45) t
@@ -176,6 +177,8 @@ begins_paired : (d : ℕ) (at : Place) (tokens rest : List Token) (e : Ending) (
 begins_paired d at tokens rest e behind l t = rw t (rw (lt-ltb d 40 l) refl)
 
 mutual
+  -- an expression with no '(' behind it fits, by induction on how it is spelled: its first token enters it, its parts
+  -- fit in turn, and each ends at the sign behind it
   pub fits : {l : Level} {d : ℕ} {x : Expr} {tokens rest : List Token} → Spelled l d x tokens rest → begins 40 rest ≡ false → (e : Ending) (behind : List Part) → stop_of (ExprPart l d ∷ behind) tokens e ≡ stop_of (after l d ++ behind) rest e
   fits (named d at text tokens rest t) h e behind = begins_named d text at tokens rest e behind t ∙ drop_call d rest e behind h
   fits (called d at text args first more tokens t1 t2 t3 t4 rest l q t opened s ls close) h e behind =
@@ -254,6 +257,8 @@ no_else : (d : ℕ) (at : Place) (tokens rest : List Token) (e : Ending) (behind
 no_else d at tokens rest e behind t = rw t refl
 
 mutual
+  -- a statement fits, by induction on how it is spelled: its first token enters it, its parts fit in turn, and each
+  -- ends at the keyword behind it
   fits_stmt : {d : ℕ} {s : Stmt} {tokens rest : List Token} → SpelledStmt d s tokens rest → Closed rest → (e : Ending) (behind : List Part) → stop_of (StmtsPart d ∷ behind) tokens e ≡ stop_of (MoreStmts d ∷ behind) rest e
   fits_stmt (assigned d at name value tokens t1 t2 rest t equals v) c e behind =
       begins_set d name at tokens t1 e behind t ∙ reads_sign 61 equals.0 t1 t2 e (ExprPart OrLevel d ∷ MoreStmts d ∷ behind) equals.1 ∙ fits_whole v c e (MoreStmts d ∷ behind)

@@ -43,6 +43,7 @@ reads_word w at tokens rest e behind h = rw h (rw (eq-eqb (number_of w) (number_
 abbrev keyword_at : ℕ → Keyword
 keyword_at n = get_or (REL ∷ LET ∷ PRINT ∷ LIST ∷ COUNT ∷ TYPE ∷ DROP ∷ SNAP ∷ AT ∷ LOAD ∷ SAVE ∷ DECL ∷ PROD ∷ SUM ∷ BEG ∷ END ∷ RETURN ∷ WHILE ∷ DO ∷ OD ∷ IF ∷ THEN ∷ ELSE ∷ FI ∷ ALL ∷ ATOMIC ∷ COMMIT ∷ EXPLAIN ∷ []) n REL
 
+-- a keyword's number leads back to it, keyword by keyword
 keyword_back : (w : Keyword) → keyword_at (number_of w) ≡ w
 keyword_back REL = refl
 keyword_back LET = refl

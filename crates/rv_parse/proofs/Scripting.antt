@@ -3,8 +3,8 @@ use Rattle.std.proofs.Common.{◌≡◌, ◌<◌, ◌≤◌, ℕ, true, false, L
 use Rattle.std.proofs.lemmas.Bool.{false≢true}
 use Rattle.std.proofs.lemmas.List.{append-nil}
 use Rattle.lang_model.specs.declared.syntax.Place.{Place}
-use Rattle.lang_model.specs.declared.syntax.Column.{Column}
-use Rattle.lang_model.specs.declared.syntax.Row.{Row}
+use Rattle.lang_model.specs.declared.rows.Column.{Column}
+use Rattle.lang_model.specs.declared.rows.Row.{Row}
 use Rattle.lang_model.specs.declared.syntax.Decl.{Decl}
 use Rattle.lang_model.specs.declared.syntax.Decl.TheVariants.{Variable, Domain}
 use Rattle.lang_model.specs.declared.syntax.Expr.{Expr}
@@ -40,6 +40,7 @@ use Rattle.rv_parse.proofs.Blocks.{fits_lets}
 pub item_begins : (kind : Kind) (parts : List Part) (at : Place) (tokens rest : List Token) (e : Ending) → item_step kind ≡ Behind parts → TakesAt at kind tokens rest → stop_of (ItemsPart ∷ []) tokens e ≡ stop_of (parts ++ SignPart 46 ∷ ItemsPart ∷ []) rest e
 item_begins kind parts at tokens rest e s t = rw t (rw s (ap (λ ps. stop_of ps rest e) (append-nil (parts ++ SignPart 46 ∷ ItemsPart ∷ []))))
 
+-- the word that opens a command leads to its parts, command by command
 opening_step : (o : Opening) → command_step (opening_word o) ≡ Behind (opening_parts o)
 opening_step OPENS_RELATION = refl
 opening_step OPENS_LET = refl
@@ -166,6 +167,8 @@ reads_number n at tokens rest e behind t = rw t refl
 fits_valued : (w : Keyword) (value : Expr) (tokens rest end : List Token) → command_step w ≡ Behind (ExprPart OrLevel 0 ∷ []) → SpellsValued (KEYWORD w) value tokens rest → Closed rest → (e : Ending) → stop_of (ItemsPart ∷ []) tokens e ≡ stop_of (SignPart 46 ∷ ItemsPart ∷ []) rest e
 fits_valued w value tokens rest end k s c e = item_begins (KEYWORD w) _ s.1.0 tokens s.0 e k s.1.1 ∙ fits_whole s.2 c e (SignPart 46 ∷ ItemsPart ∷ [])
 
+-- a command before its full stop fits, by its kind: its keyword enters it, and its parts are read in order up to the
+-- stop
 fits_command : (c : Command) (tokens rest end : List Token) → SpellsCommand c tokens rest → Takes (Sign 46) rest end → (e : Ending) → stop_of (ItemsPart ∷ []) tokens e ≡ stop_of (SignPart 46 ∷ ItemsPart ∷ []) rest e
 fits_command (Relation name rows rows_at cols cols_at list) tokens rest end s stop e =
     let more : List Part = SignPart 46 ∷ ItemsPart ∷ [] in

@@ -18,10 +18,10 @@ use Rattle.lang_model.specs.Stop.{Part, NamePart, NameOrAll, ExprOrAll, ExprPart
 use Rattle.rv_parse.specs.Halts.{fault_of}
 use Rattle.rv_parse.specs.declared.halt.Halt.{Halt}
 use Rattle.rv_parse.specs.declared.halt.Halt.TheVariants.{NoMemory}
-use Rattle.rv_parse.specs.declared.expr.Form.{Form as FORM}
-use Rattle.rv_parse.specs.declared.expr.Form.TheVariants.{One, Two, Domain}
-use Rattle.rv_parse.specs.declared.expr.Chains.{Chains}
-use Rattle.rv_parse.specs.declared.expr.Chains.TheVariants.{Or, And, Prod}
+use Rattle.rv_parse.specs.declared.forms.Form.{Form as FORM}
+use Rattle.rv_parse.specs.declared.forms.Form.TheVariants.{One, Two, Domain}
+use Rattle.rv_parse.specs.declared.operators.Chains.{Chains}
+use Rattle.rv_parse.specs.declared.operators.Chains.TheVariants.{Or, And, Prod}
 
 -- whatever has to come after them, these parts take the tokens up to `rest`
 abbrev pub Reads : Ending → List Part → List Token → List Token → Type 0

@@ -69,7 +69,8 @@ fn lets(alloc: Global, tokens: &[Token], end: Ending) -> Result<(Vec<Let>, &[Tok
 pub fn block(alloc: Global, tokens: &[Token], end: Ending) -> Result<(Command, &[Token]), Halt>
     requires { length tokens.now < 2 ^ 32 }
     ensures { MatchResult result (λ x. Got (ending_of end) block_parts
-        (λ t r. (before : List TOKEN) → Takes (KEYWORD ATOMIC) before t → SpellsCommand x.0 before r) tokens.now x.1.now)
+        (λ t r. (before : List TOKEN) → Takes (KEYWORD ATOMIC) before t → SpellsCommand x.0 before r)
+        tokens.now x.1.now)
         (Refuses (ending_of end) block_parts tokens.now) }
 {
     let (list, rest) = lets(alloc, tokens, end)?;

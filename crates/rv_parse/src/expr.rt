@@ -1,156 +1,25 @@
 //! Expressions: chains of operands, a prefix `-`, signs `^`, calls, pairs and parentheses.
-ghost use Rattle.std.specs.Prelude.{◌≡◌, ◌<◌, ◌≤◌, ◌+◌, ◌^◌, ◌∷◌, [], ℕ, List, false, suc, length, MatchResult, MatchOption};
-ghost use Rattle.lang_model.specs.Taken.{Carets, Takes, TakesAt};
+ghost use Rattle.std.specs.Prelude.{◌≡◌, ◌<◌, ◌≤◌, ◌^◌, ◌∷◌, [], List, suc, length, MatchResult};
+ghost use Rattle.lang_model.specs.Taken.{Takes};
 ghost use Rattle.lang_model.specs.Limits.{nesting_limit, more_limit};
-ghost use Rattle.lang_model.specs.Lexed.{Ending as ENDING};
-ghost use Rattle.lang_model.specs.BaseNames.{TakesOne, TakesTwo, TakesDomain, form_of};
+ghost use Rattle.lang_model.specs.BaseNames.{TakesOne, TakesTwo, form_of};
 ghost use Rattle.lang_model.specs.Spelling.{OrLevel, Spelled, UnaryLevel, PostLevel, PrimLevel, tighter};
-ghost use Rattle.lang_model.specs.Stop.{Part, ExprPart, CallPart, MoreArgs, MoreCarets, SignPart, form_parts, stop_of};
+ghost use Rattle.lang_model.specs.Stop.{ExprPart, CallPart, MoreArgs, SignPart, form_parts};
 ghost use Rattle.lang_model.specs.declared.token.Kind.TheVariants.{Base as BASE, Word, Sign};
 ghost use Rattle.lang_model.specs.declared.token.Token.{Token as TOKEN};
 ghost use Rattle.rv_tokens.specs.Endings.{ending_of};
-ghost use Rattle.rv_parse.specs.declared.halt.Halt.TheVariants.{NoMemory};
 ghost use Rattle.rv_parse.specs.Got.{Got, pair_parts};
-ghost use Rattle.rv_parse.specs.Readers.{Reads, Refuses, begins, begins_operator, level_of, form_is, OperatorIs, IsLink, IsRead, IsBehind, AreArguments};
+ghost use Rattle.rv_parse.specs.Readers.{Refuses, level_of, IsRead, IsBehind, AreArguments};
 
+use crate::forms::{Form, boxes, form_of, one_argument, two_arguments, with_domain};
 use crate::halt::{Halt, Wanted};
-use crate::leaf::{behind_sign, missing, next_name, next_sign, open, with_sign};
+use crate::leaf::{behind_sign, missing, next_sign, open, with_sign};
+use crate::operators::{Chains, carets, operator};
 use lang_model::limits::{NESTING_LIMIT, PARAMETER_LIMIT};
-use lang_model::syntax::{Base, Expr, Link, Name, Op2, Place};
+use lang_model::syntax::{Base, Expr, Link, Name, Place};
 use lang_model::token::{Kind, Token};
 use rv_tokens::Ending;
 use std::alloc::Global;
-
-/// The levels of chains. 1 byte.
-#[derive(Clone, Copy, Debug)]
-enum Chains {
-    Or,
-    And,
-    Prod,
-}
-
-/// What stands in the parentheses after a base name or a domain operator. 1 byte.
-#[derive(Clone, Copy, Debug)]
-enum Form {
-    One,
-    Two,
-    Domain,
-}
-
-/// The operator that a sign is on a level, if it is one.
-fn operator_of(level: Chains, sign: u8) -> Option<Op2>
-    ensures { OperatorIs (level_of level) sign result }
-{
-    match level {
-        Chains::Or => match sign {
-            b'|' => Some(Op2::Or),
-            _ => None,
-        },
-        Chains::And => match sign {
-            b'&' => Some(Op2::And),
-            _ => None,
-        },
-        Chains::Prod => match sign {
-            b'*' => Some(Op2::Times),
-            b'\\' => Some(Op2::Under),
-            b'/' => Some(Op2::Over),
-            _ => None,
-        },
-    }
-}
-
-/// The operator of a level, if the first token is one.
-fn operator(level: Chains, tokens: &[Token]) -> Option<(Op2, Place, &[Token])>
-    ensures { MatchOption result (begins_operator (level_of level) tokens.now ≡ false)
-        (λ x. IsLink (level_of level) x.0 x.1 tokens.now x.2.now) }
-{
-    let [first, rest @ ..] = tokens else {
-        return None;
-    };
-    match &first.kind {
-        Kind::Sign(sign) => match operator_of(level, *sign) {
-            Some(op) => Some((op, first.at, rest)),
-            None => None,
-        },
-        _ => None,
-    }
-}
-
-/// The number of signs `^` at the front.
-#[tactic(auto, using(crate::proofs::Optional::drop_carets))]
-fn carets(tokens: &[Token]) -> (u32, &[Token])
-    requires { length tokens.now < 2 ^ 32 }
-    ensures spelled { Carets result.0 tokens.now result.1.now }
-    ensures count { result.0 + length result.1.now ≡ length tokens.now }
-    ensures read { (e : ENDING) → Reads e (MoreCarets ∷ []) tokens.now result.1.now }
-{
-    let mut count = 0;
-    let mut rest = tokens;
-    'carets: while let Some((_, behind)) = behind_sign(rest, b'^') {
-        rest = behind;
-        count += 1;
-    }
-    (count, rest)
-}
-
-/// The form of a base name or a domain operator.
-fn form_of(base: Base) -> Form
-    ensures { form_is result ≡ form_of base }
-{
-    match base {
-        Base::Syq | Base::Eq | Base::Incl => Form::Two,
-        Base::Ubd | Base::Lbd | Base::Least => Form::Two,
-        Base::Greatest | Base::Sup | Base::Inf => Form::Two,
-        Base::P1 | Base::P2 | Base::I1 | Base::I2 => Form::Domain,
-        _ => Form::One,
-    }
-}
-
-/// A domain operator with its domain, after the operator.
-fn with_domain(
-    alloc: Global,
-    base: Base,
-    at: Place,
-    tokens: &[Token],
-    end: Ending,
-    depth: u32,
-) -> Result<(Expr, &[Token]), Halt>
-    requires form { form_of base ≡ TakesDomain }
-    ensures { MatchResult result (λ x. IsBehind (ending_of end) at (BASE base) (form_parts TakesDomain depth) depth
-        x.0 tokens.now x.1.now) (Refuses (ending_of end) (form_parts TakesDomain depth) tokens.now) }
-{
-    let (_, rest) = open(tokens, end, depth)?;
-    let (domain, _, rest) = next_name(alloc, rest, end)?;
-    let (_, rest) = next_sign(rest, end, b')')?;
-    Ok((Expr::Inject { at, base, domain }, rest))
-}
-
-/// A list with one argument.
-fn one_argument(alloc: Global, argument: Expr) -> Result<Vec<Expr>, Halt>
-    ensures { MatchResult result (λ args. args.items ≡ argument ∷ []) (λ halt. halt ≡ NoMemory) }
-{
-    let mut args = Vec::new(alloc);
-    args.push(argument)?;
-    Ok(args)
-}
-
-/// A list with two arguments.
-fn two_arguments(alloc: Global, first: Expr, second: Expr) -> Result<Vec<Expr>, Halt>
-    ensures { MatchResult result (λ args. args.items ≡ first ∷ second ∷ []) (λ halt. halt ≡ NoMemory) }
-{
-    let mut args = one_argument(alloc, first)?;
-    args.push(second)?;
-    Ok(args)
-}
-
-/// The two parts of a pair, each in a box of its own.
-fn boxes(alloc: Global, left: Expr, right: Expr) -> Result<(Box<Expr>, Box<Expr>), Halt>
-    ensures { MatchResult result (λ b. (b.0.value ≡ left) × (b.1.value ≡ right)) (λ halt. halt ≡ NoMemory) }
-{
-    let left = Box::new(alloc, left)?;
-    let right = Box::new(alloc, right)?;
-    Ok((left, right))
-}
 
 /// An expression inside a construct, given how many are open around the construct.
 #[cycle(expr)]

@@ -32,6 +32,7 @@ one_flaw : (script other : Script) → script_tree script ≡ script_tree other 
 one_flaw script other same =
     flaw-tree script ∙ (ap (λ items. first_fault (faults_of_items [] items)) same ∙ sym (flaw-tree other))
 
+-- scripts of one tree have the same flaw, types and values: each of these is a function of the tree, here and there
 pub scripts_go_by_trees : ScriptsGoByTrees
 scripts_go_by_trees script other same = record {
   flaw = one_flaw script other same;
@@ -68,6 +69,7 @@ module _ (a b : Input) (same : input_tree a ≡ input_tree b) where
   same_ends : a.ends ≡ b.ends
   same_ends = ap (λ (T : InputTree). T.ends) same
 
+  -- inputs of one tree have as many readings, since the tree has one for each
   same_count : length a.readings ≡ length b.readings
   same_count =
       sym (length-map a.readings reading_tree)
@@ -149,6 +151,8 @@ some_none : {X : Type 0} {x : X} → Some x ≡ None → ⊥
 some_none {X} {x} e = let z : Some x ≡ None = e in cc
 
 module _ (one : OneScript) where
+  -- two readings of one text have one tree: either both are no script, with the one fault of its syntax, or both go by
+  -- its one script, which has a flaw or none
   one_reading : (bytes : List ℕ) (reading other : Reading) → IsReading bytes reading → IsReading bytes other
       → reading_tree reading ≡ reading_tree other
   one_reading bytes (NoScript fault) (NoScript again) h k = ap NoScriptTree (one_some (sym h.1 ∙ k.1))

@@ -62,6 +62,7 @@ takes_tree (FunctionTree at name params body) = length params
 takes_tree (ProgramTree at name params decls body result) = length params
 takes_tree (CommandItem command) = 0
 
+-- an item takes as many arguments as its tree, which keeps the parameters
 takes-tree : (item : Item) → takes_arguments item ≡ takes_tree (item_tree item)
 takes-tree (Function at own params body) = refl
 takes-tree (Program at own params decls body result) = refl
@@ -103,6 +104,7 @@ call-tree calls at name (Some item) values n = λ i.
     cond (takes-tree item i == length values) (body-tree calls values item n i)
     (refused (Ill (Arity at name (takes-tree item i) (length values))))
 
+-- calls mean what the trees say, by induction on the rank: the definitions that stand in one another are one rank lower
 pub calls-trees : (items : List Item) (rank : ℕ) → calls_within items rank ≡ calls_of_trees (map item_tree items) rank
 calls-trees items zero = refl
 calls-trees items (suc rank) = λ i at name values n.
@@ -148,6 +150,7 @@ type-call calls at name (Some item) ss = λ i.
     cond (takes-tree item i == length ss) (type-tree calls ss item i)
     (Misfit (Arity at name (takes-tree item i) (length ss)))
 
+-- and calls have the types that the trees say, by the same induction
 pub types-trees : (items : List Item) (rank : ℕ) → types_of_calls items rank ≡ types_of_trees (map item_tree items) rank
 types-trees items zero = refl
 types-trees items (suc rank) = λ i at name ss.
@@ -174,6 +177,7 @@ abbrev pub lets_faults : Scope → List LetTreeOf → List TypeFault
 lets_faults scope [] = []
 lets_faults scope (l ∷ ls) = tree_faults scope no_name l.value ++ lets_faults scope ls
 
+-- the faults of a block's assignments are those of their trees, one after another
 lets-faults : (scope : Scope) (ls : List LetOf) → let_faults scope ls ≡ lets_faults scope (map let_tree ls)
 lets-faults scope [] = refl
 lets-faults scope (l ∷ ls) = λ i. faults-tree scope no_name l.value i ++ lets-faults scope ls i
@@ -191,6 +195,8 @@ faults_of_command earlier (AtomicTree lets) = lets_faults (command_scope earlier
 faults_of_command earlier (ExplainTree t) = tree_faults (command_scope earlier) no_name t
 faults_of_command earlier _ = []
 
+-- the faults of a command are those of its tree, case by case: an expression's go by its tree, and
+-- without one there are none
 faults-command : (earlier : List Known) (c : Command) → command_faults earlier c ≡ faults_of_command earlier (command_tree c)
 unfolding command_faults
 faults-command earlier (RELATION name rows rows_at cols cols_at list) = refl
@@ -221,6 +227,7 @@ faults_of_item earlier (ProgramTree at name params decls body result) =
     ++ tree_faults (program_scope earlier params decls) (assigned_trees no_name body) result))
 faults_of_item earlier (CommandItem command) = faults_of_command earlier command
 
+-- so are those of an item: a definition's head goes by its rank, and its body by statements and expressions
 faults-item : (earlier : List Known) (item : Item) → item_faults earlier item ≡ faults_of_item earlier (item_tree item)
 unfolding item_faults
 faults-item earlier (Function at name params body) = λ i.
@@ -245,6 +252,7 @@ known_with_tree earlier (ProgramTree at name params decls body result) = earlier
     } ∷ []
 known_with_tree earlier (CommandItem command) = earlier
 
+-- the definitions that are known behind an item go by its tree, as its rank does
 known-tree : (earlier : List Known) (item : Item) → known_with earlier item ≡ known_with_tree earlier (item_tree item)
 unfolding known_with
 known-tree earlier (Function at name params body) = λ i.

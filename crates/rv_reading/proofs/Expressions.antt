@@ -93,6 +93,7 @@ mutual
   names-trees end_of-Expr = refl
   names-trees (more_of-Expr e rest) = λ i. names-tree e i ++ names-trees rest i
 
+  -- the names of links are those of their trees, link after link
   names-branches : {m : _} (links : Row_of-Link m) → names_along links ≡ names_of_branches (branches_of links)
   names-branches end_of-Link = refl
   names-branches (more_of-Link at op right rest) = λ i. names-tree right i ++ names-branches rest i
@@ -108,6 +109,7 @@ IsCompoundTree (MinusTree at of) = Unit {0}
 IsCompoundTree (TurnedTree at of times) = Unit {0}
 IsCompoundTree (ChainTree first links) = Unit {0}
 
+-- an expression is more than a name exactly if its tree is, case by case
 pub compound-tree : (e : Expr) → IsCompound e ≡ IsCompoundTree (tree_of e)
 compound-tree (Ref at name) = refl
 compound-tree (Call' at name shape args) = refl
@@ -124,6 +126,7 @@ abbrev pub count_trees : Trees → ℕ
 count_trees NoTree = 0
 count_trees (MoreTrees t args) = count_trees args + 1
 
+-- arguments are as many as their trees, by induction
 count-trees : {m : _} (args : Row_of-Expr m) → count_in args ≡ count_trees (trees_of args)
 count-trees end_of-Expr = refl
 count-trees (more_of-Expr e rest) = ap (λ n. n + 1) (count-trees rest)

@@ -4,7 +4,7 @@ use Rattle.std.proofs.Common.{Bool, ◌&&◌, ◌||◌, ◌≡◌, ◌+◌, ◌=
 use Rattle.std.specs.Prelude.{option_map}
 use Rattle.std.specs.List.{list_any}
 use Rattle.lang_model.specs.declared.syntax.Place.{Place}
-use Rattle.lang_model.specs.declared.syntax.Row.{Row}
+use Rattle.lang_model.specs.declared.rows.Row.{Row}
 use Rattle.lang_model.specs.declared.syntax.Expr.{Expr}
 use Rattle.lang_model.specs.declared.syntax.Let.{Let as BlockLet}
 use Rattle.lang_model.specs.declared.syntax.Command.{Command}
@@ -26,7 +26,7 @@ use Rattle.lang_model.specs.Rewriting.{steps_of}
 use Rattle.run_model.specs.Names.{lookup}
 use Rattle.run_model.specs.Inputs.{Input, RelationFile, file_named}
 use Rattle.run_model.specs.Due.{Workspace, Due, Nothing, Value, Values, Explained, Refused, Early, printed, listed, saved, due_of_value, due_of, over, columns_over, rows_over, listing_over, unless_over, due_of_file, due_of_whole_file, saved_bytes, due_of_drop, due_on_snapshot, behind_let, due_of_lets, due_of_block, due_of_steps, due_of_command, due}
-use Rattle.run_model.specs.SharedFiles.{shared_file}
+use Rattle.run_model.specs.SharedBytes.{shared_file}
 use Rattle.run_model.specs.Cost.{listed_count, cost_of, cost_on_snapshot, where_value, cost_of_pairs, cost_of_loaded, cost_of_gifts, where_values, cost_of_item}
 use Rattle.run_model.specs.Outcomes.{WantsNodes, IsNotEarly, MayLackNodes, MayLackMemory, lets_of}
 use Rattle.rv_spell.specs.Plain.{RowTree, row_tree, LetTreeOf, let_tree, CommandTree, RelationTree, LetTree, PrintTree, ListTree, CountTree, TypedTree, RemoveTree, SnapTree, AtTree, LoadTree, SaveTree, LoadAllTree, SaveAllTree, AtomicTree, ExplainTree, command_tree, ItemTree, FunctionTree, ProgramTree, CommandItem, item_tree, script_tree}
@@ -92,6 +92,7 @@ abbrev pub lets_of_tree : ItemTree → Option (List LetTreeOf)
 lets_of_tree (CommandItem (AtomicTree lets)) = Some lets
 lets_of_tree _ = None
 
+-- the assignments of a block, as trees, are those of the item's tree, case by case: no other item has any
 pub lets-tree : (item : Item) → option_map (λ ls. map let_tree ls) (lets_of item) ≡ lets_of_tree (item_tree item)
 lets-tree (COMMAND (RELATION name rows rows_at cols cols_at list)) = refl
 lets-tree (COMMAND (Let name e)) = refl
@@ -130,6 +131,7 @@ NodesTree (SaveAllTree file) = ⊥
 NodesTree (AtomicTree lets) = AnyCompoundTree lets
 NodesTree (ExplainTree t) = ⊥
 
+-- a command wants nodes exactly if its tree does, case by case: an expression wants them if it is more than a name
 nodes-tree : (c : Command) → WantsNodes c ≡ NodesTree (command_tree c)
 nodes-tree (RELATION name rows rows_at cols cols_at list) = refl
 nodes-tree (Let name e) = compound-tree e
@@ -164,6 +166,7 @@ LacksRoom (CommandItem command) = Unit {0}
 LacksRoom (FunctionTree at name params body) = ⊥
 LacksRoom (ProgramTree at name params decls body result) = ⊥
 
+-- memory may be wanting for an item exactly if it may be for its tree: for commands and not for definitions
 pub lacks-room : (item : Item) → MayLackMemory item ≡ LacksRoom (item_tree item)
 lacks-room (COMMAND command) = refl
 lacks-room (Function at name params body) = refl
@@ -263,6 +266,8 @@ module _ (input : Input) (script : Script) where
   due-block ls state =
       due-lets input.turns ls _ ∙ ap (due_of_let_trees input.turns (map let_tree ls)) (values-tree script (lookup state) ls input.turns)
 
+  -- what is due of an item is due of its tree, case by case: values, listed relations and steps of rewriting go by
+  -- trees, and files and names are kept there
   pub due-tree : (item : Item) (state : Workspace) (snap : Option Workspace)
       → due input script item state snap ≡ due_tree input.turns input.files (script_tree script) (item_tree item) state snap
   unfolding due due_of_command
@@ -294,6 +299,8 @@ module _ (input : Input) (script : Script) where
   cost-snapshot leaf e None = refl
   cost-snapshot leaf e (Some snap) = cost-by leaf e snap
 
+  -- and it costs the same, case by case: values cost what those of their trees do, and a listed
+  -- relation by the count of its pairs
   pub cost-tree : (leaf : ℕ) (item : Item) (state : Workspace) (snap : Option Workspace) (d : Due)
       → cost_of_item leaf input script item state snap d ≡ cost_tree input.turns input.files (script_tree script) leaf (item_tree item) state snap d
   cost-tree leaf (COMMAND (RELATION name rows rows_at cols cols_at list)) state snap d =

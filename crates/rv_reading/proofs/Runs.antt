@@ -82,6 +82,7 @@ module _ (input : Input) where
   unfolding state_after
   state-behind es = ap (λ g. (replay g start es).now) gifts-by
 
+  -- the state just before a command goes by the input's tree, as does the state behind any events
   state-at : (history : List Event) (s : ℕ) → state_for input history s ≡ state_at (input_tree input) history s
   unfolding state_for
   state-at history s = λ i c. cond (list_any (is_of s c) history) (state-behind (events_before s c history) i) no_names
@@ -290,6 +291,7 @@ module _ (input : Input) (history : List Event) where
   lawful-sessions s [] (o ∷ os) h = absurd h
   lawful-sessions s (r ∷ rs) [] h = absurd h
 
+  -- and back: sessions that are lawful by their trees are legal, one after another
   legal-sessions : (s : ℕ) (readings : List Reading) (outcomes : List (List Outcome))
       → LawfulSessions (input_tree input) history s (map reading_tree readings) outcomes
       → LegalSessions input history s readings outcomes

@@ -23,6 +23,7 @@ pub record Sight : Type 0 where
   pub asked : Option (List ℕ)
   pub reads : List Deed
   pub all_reads : List Deed
+  -- the deeds with which it begins where it is done
   pub first : List Deed
 
 -- that of an item
@@ -81,6 +82,7 @@ sight_of (CommandItem command) = sight_of_command command
 sight_of (FunctionTree at name params body) = only_giving (λ d. []) [] []
 sight_of (ProgramTree at name params decls body result) = only_giving (λ d. []) [] []
 
+-- a run sees of an item what it sees of its tree, case by case: no part of a sight looks at an expression
 pub sight-tree : (item : Item) → sight item ≡ sight_of (item_tree item)
 sight-tree (COMMAND (RELATION name rows rows_at cols cols_at list)) = refl
 sight-tree (COMMAND (Let name e)) = refl

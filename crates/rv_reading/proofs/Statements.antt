@@ -48,6 +48,7 @@ module _ (around : Around) where
     run-trees end_of-Stmt state n = refl
     run-trees (more_of-Stmt s rest) state n = λ i. and_then (run-tree s state n i) (λ t m. run-trees rest t m i)
 
+  -- a list of statements runs as its trees do, one statement after another
   pub run-list : (ss : List Stmt) (state : State) (n : ℕ) → run_by around ss state n ≡ run_trees (stmts_in ss) state n
   run-list [] state n = refl
   run-list (s ∷ ss) state n = λ i. and_then (run-tree s state n i) (λ t m. run-list ss t m i)
@@ -115,6 +116,7 @@ mutual
   assigned-trees before (more_of-Stmt s rest) =
       assigned-trees (assigned_after before s) rest ∙ ap (λ names. assigned_trees names (stmt_trees rest)) (assigned-tree before s)
 
+-- the names that are assigned behind a list are those behind its trees, one statement after another
 pub assigned-list : (before : Names) (ss : List Stmt) → assigned_by before ss ≡ assigned_trees before (stmts_in ss)
 assigned-list before [] = refl
 assigned-list before (s ∷ ss) =
@@ -149,6 +151,7 @@ module _ (scope : Scope) where
         ++ (stmts-faults (assigned_after before s) rest
         ∙ ap (λ names. stmts_faults names (stmt_trees rest)) (assigned-tree before s)) i
 
+  -- the faults of a list are those of its trees: each statement's stand behind the names that the earlier ones assigned
   pub faults-list : (before : Names) (ss : List Stmt) → faults_by scope before ss ≡ stmts_faults before (stmts_in ss)
   faults-list before [] = refl
   faults-list before (s ∷ ss) = λ i.

@@ -42,6 +42,7 @@ pub record Seen : Type 0 where
   pub item : ItemTree
   pub state : Workspace
   pub snap : Option Workspace
+  -- what its item came to
   pub outcome : Outcome
 
 abbrev pub seen : Step → Seen
@@ -90,6 +91,7 @@ steps-by state_of c snaps (item ∷ items) (outcome ∷ outcomes) = λ i.
     ∷ (steps-by state_of (c + 1) (snaps_behind item outcome (state_of c) snaps) items outcomes
     ∙ ap (λ s. steps_by state_of (c + 1) s (map item_tree items) outcomes) (kept-by (ending outcome) item (state_of c) snaps)) i
 
+-- the steps of a script are those of its tree: they begin at command 1, without snapshots
 pub script-steps : (state_of : ℕ → Workspace) (script : Script) (outcomes : List Outcome)
     → map seen (steps state_of script outcomes) ≡ steps_by state_of 1 no_names (script_tree script) outcomes
 unfolding steps
@@ -113,6 +115,7 @@ commits-by : (change : List (List ℕ) → Option Change) (o : Option (List Bloc
 commits-by change None outcome = refl
 commits-by change (Some lets) outcome = ap (λ names. IsCommit outcome (change names)) (reads-lets lets)
 
+-- the commits of items are those of their trees, item by item: a block's goes by the names that its tree reads
 pub commits-along : (change : ℕ → List (List ℕ) → Option Change) (c : ℕ) (items : List Item) (outcomes : List Outcome)
     → CommitsFrom change c items outcomes ≡ CommitsAlong change c (map item_tree items) outcomes
 commits-along change c [] outcomes = refl
@@ -155,6 +158,8 @@ OutcomeBy item d outcome =
     ⊎ (((outcome ≡ Nodes) × LacksNodes item d) ⊎ (((outcome ≡ NoMemory) × LacksRoom item)
     ⊎ (IsChanged outcome × ChangesBy item d)))
 
+-- an outcome is lawful of an item exactly if it is of its tree: it is due, or nodes or memory were wanting, or a block
+-- was refused at its commit, and all of these go by the tree
 outcome-by : (item : Item) (d : Due) (outcome : Outcome) → IsOutcome item d outcome ≡ OutcomeBy (item_tree item) d outcome
 outcome-by item d outcome = λ i.
     (outcome ≡ outcome_due d)
@@ -171,6 +176,7 @@ done_by numbers item (Bytes bytes) = []
 done_by numbers item (Explained steps) = numbers ++ explanation steps
 done_by numbers item (Refused when outcome) = []
 
+-- the reply to an item that is done is that to its tree: only a value is shown by what the item is
 done-by : (numbers : List ℕ) (item : Item) (d : Due) → done_text numbers item d ≡ done_by numbers (item_tree item) d
 done-by numbers item Nothing = refl
 done-by numbers item (Value r) = ap (λ (s : Sight). s.shown numbers r) (sight-tree item)
@@ -186,6 +192,7 @@ reply_by Fails numbers item d outcome = numbers ++ refusal_text outcome
 reply_by Changes numbers item d outcome = numbers ++ refusal_text outcome
 reply_by LacksMemory numbers item d outcome = numbers ++ refusal_text outcome
 
+-- so is the reply to an item that ended in whatever way: a refusal is told by its outcome alone
 reply-by : (end : Ending) (numbers : List ℕ) (item : Item) (d : Due) (outcome : Outcome)
     → reply_at end numbers item d outcome ≡ reply_by end numbers (item_tree item) d outcome
 reply-by Succeeds numbers item d outcome = done-by numbers item d
@@ -203,6 +210,7 @@ done_saves item (Bytes bytes) = (sight_of item).written bytes
 done_saves item (Explained steps) = []
 done_saves item (Refused when outcome) = []
 
+-- the file that an item saves is that of its tree: a value's and a workspace's bytes go to the file that is named there
 done-saves : (item : Item) (d : Due) → done_save item d ≡ done_saves (item_tree item) d
 done-saves item Nothing = refl
 done-saves item (Value r) = ap (λ (s : Sight). s.saved r) (sight-tree item)
@@ -218,6 +226,7 @@ saves_by Fails item d = []
 saves_by Changes item d = []
 saves_by LacksMemory item d = []
 
+-- so is the file of an item that ended in whatever way: one that is not done saves none
 saves-by : (end : Ending) (item : Item) (d : Due) → save_at end item d ≡ saves_by end (item_tree item) d
 saves-by Succeeds item d = done-saves item d
 saves-by Fails item d = refl

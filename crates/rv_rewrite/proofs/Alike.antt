@@ -20,6 +20,8 @@ and_false : (b : Bool) → (b && false) ≡ false
 and_false true = refl
 and_false false = refl
 
+-- a node is one operator on two operands, up to places, exactly where it has two, and the operator and both operands
+-- are the same
 pub same_two : (at : Place) (left : Tree) (op : Op2) (right node : Tree) → same_tree (two at left op right) node
     ≡ passes (two_operands node) (λ x. same_tree left x.left && (same_operator op x.op && same_tree right x.right))
 same_two at left op right (ChainTree first (MoreBranches there other another NoBranch)) =

@@ -187,6 +187,8 @@ absorbed r x (y ∷ before) h = elim (or_cases (same_tree y r) (list_any (λ t. 
       ∙ ap (λ b. same_tree y x || b) (absorbed r x before e)
 ]
 
+-- the code compares with all earlier operands, and the rule with those that it kept: both leave out the same links,
+-- since what equals one that was left out equals one that was kept
 pub earlier-repeats : (earlier before : List Tree) (links : Branches)
     → ((x : Tree) → list_any (λ t. same_tree t x) earlier ≡ list_any (λ t. same_tree t x) before)
     → without_earlier earlier links ≡ without_repeats before links

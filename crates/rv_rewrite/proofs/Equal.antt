@@ -34,6 +34,8 @@ number : (n m k : ℕ) → (n == m) ≡ true → (n == k) ≡ (m == k)
 number n m k h = ap (λ z. z == k) (eqb-true n m h)
 
 mutual
+  -- what equals a tree up to places equals the same trees as it, by induction on all three: their kinds, texts, numbers
+  -- and parts agree in turn
   pub same-left : (t u v : Tree) → same_tree t u ≡ true → same_tree t v ≡ same_tree u v
   same-left (NameTree a1 n1) (NameTree a2 n2) (NameTree a3 n3) h = text n1 n2 n3 h
   same-left (NameTree a1 n1) (NameTree a2 n2) v h = refl

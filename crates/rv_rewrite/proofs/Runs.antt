@@ -34,6 +34,8 @@ record Enough (j k : ℕ) (t : Tree) : Type 0 where
   pub steps : steps_within j t ≡ steps_within k t
   pub calm : calm_within j t ≡ calm_within k t
 
+-- two numbers no less than the weight allow the same steps and lead to the same calm tree: each step makes the tree
+-- lighter, so that what is left of both is still enough
 enough : (j k : ℕ) (t : Tree) → weight t ≤ j → weight t ≤ k → Enough j k t
 enough zero k t l m = absurd (omega (arith, weight-some t, l))
 enough (suc j) zero t l m = absurd (omega (arith, weight-some t, m))
@@ -63,6 +65,8 @@ record ThenWithin (k : ℕ) (t : Tree) (ss : List Step) (u : Tree) : Type 0 wher
   pub steps : steps_within k t ≡ ss ++ steps_of u
   pub calm : calm_within k t ≡ calmed u
 
+-- the steps of a run come first among those of its tree, and the rest are those of the tree that it leads to: by
+-- induction on the run, since each step makes the tree lighter
 then_within : (ss : List Step) (k : ℕ) (t u : Tree) → weight t ≤ k → Goes next_step t ss u → ThenWithin k t ss u
 unfolding steps_of calmed
 then_within [] k t u l g = subst (λ x. ThenWithin k t [] x) g (

@@ -92,6 +92,8 @@ pub left_over : (kept : Bool) (old new : List Step) (ss whole more : List STEP) 
 left_over kept old new ss whole more e n = λ k. ap (λ z. steps_by_trees old ++ z) e ∙ sym (append_assoc (steps_by_trees old) ss more)
     ∙ ap (λ z. z ++ more) (n k ∙ append-nil (steps_by_trees new))
 
+-- a prefix - comes nearer to its calm tree where its operand has settled: the operand's steps come first, and what is
+-- left are the steps of the - on the calm operand
 pub nearer_minus : (kept : Bool) (old new : List Step) (at : _) (of v : Tree) → Settles kept old new of v
     → ComesNearer kept old new (MinusTree at of) (MinusTree at v)
 nearer_minus kept old new at of v f =
@@ -107,6 +109,7 @@ nearer_minus kept old new at of v f =
       noted = left_over kept old new (steps_of of) _ _ (h.steps ∙ ap (λ z. steps_of of ++ steps_of (MinusTree at z)) (sym f.after)) f.noted;
     }
 
+-- and so do signs ^ whose operand has settled
 pub nearer_turned : (kept : Bool) (old new : List Step) (at : _) (n : ℕ) (of v : Tree) → Settles kept old new of v
     → ComesNearer kept old new (TurnedTree at of n) (TurnedTree at v n)
 nearer_turned kept old new at n of v f =

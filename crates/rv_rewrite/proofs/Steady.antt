@@ -10,7 +10,7 @@ use Rattle.lang_model.specs.declared.syntax.Base.TheVariants.{Syq}
 use Rattle.lang_model.specs.Trees.{Tree, NameTree, CallTree, BaseTree, InjectTree, PairTree, MinusTree, TurnedTree, ChainTree, NoTree, MoreTrees, Branches, NoBranch, MoreBranches}
 use Rattle.lang_model.specs.Limits.{compared_limit}
 use Rattle.lang_model.specs.Rewriting.{Step as STEP, numbered, result_of_rule, shortened, same_operator, same_tree, negated, turned_once, Two, two_operands, operands_of, two, chain_of, place_of_node, is_lattice, dual, link_count, is_of_one_sign, without_repeats, double_complement, many_turns, turned_again, repeated_operands, to_right_residual, to_left_residual, turned_product, turned_operands, negated_operands, to_quotient, least_rule, is_calm, are_calm_along, inside, next_step, next_in, next_along}
-use Rattle.lang_model.proofs.Ruling.{found, passed, same_some}
+use Rattle.lang_model.proofs.Sameness.{found, passed, same_some}
 use Rattle.rv_rewrite.specs.Running.{StillInside, ReadyInside, Follows}
 use Rattle.rv_rewrite.proofs.Runs.{still_here, still_parts, still_links}
 
@@ -85,6 +85,7 @@ record GoodTwo (x : Two) : Type 0 where
   pub left : Good x.left
   pub right : Good x.right
 
+-- both operands of such a node are calm with no next step, since they are its parts
 good_two : (t : Tree) (x : Two) → GoodInside t → two_operands t ≡ Some x → GoodTwo x
 good_two (ChainTree first (MoreBranches at op right NoBranch)) x g h =
     let c = and_parts _ _ g.calm in
@@ -169,6 +170,7 @@ rule_2 (TurnedTree at of times) u g h =
     either false w = record { calm = w.calm; ready = still_parts of w.still; still = λ e. w.still; distinct = refl }
 rule_2 t u g h = absurd (let z : None ≡ Some u = h in cc)
 
+-- signs ^ on signs ^ become signs ^ on the inner operand, which is calm with no next step, since it was part of a part
 rule_3 : (t u : Tree) → GoodInside t → turned_again t ≡ Some u → Follows 3 u
 rule_3 (TurnedTree at (TurnedTree there of less) times) u g h =
     subst (Follows 3) (same_some h) (record {
@@ -191,6 +193,7 @@ record GoodLinks (links : Branches) : Type 0 where
   pub calm : are_calm_along links ≡ true
   pub still : next_along links ≡ None
 
+-- links stay calm with no next step where those whose operands stood before are left out: each that is kept was so
 good_kept : (before : List Tree) (links : Branches) → GoodLinks links → GoodLinks (without_repeats before links)
 good_kept before NoBranch g = record { calm = refl; still = refl }
 good_kept before (MoreBranches at op right links) g =

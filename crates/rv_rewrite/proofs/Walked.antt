@@ -144,6 +144,8 @@ pub record LinksSoFar (kept : Bool) (old new : List Step) (all done : List Link)
 pub no_links_yet : (kept : Bool) (old : List Step) (all : List Link) → LinksSoFar kept old old all [] true all
 no_links_yet kept old all = record { after = refl; calm_or_not = refl; noted = λ k. refl }
 
+-- a link more is walked: it goes behind those that are done, with the operand that came of its walk, and the steps of
+-- its operand are noted behind theirs
 pub one_link_more : (kept : Bool) (old mid new : List Step) (all done : List Link) (calm now both : Bool) (left : List Link) (x y : Link) (more : List Link)
     → left ≡ x ∷ more → both ≡ (calm && now) → y.at ≡ x.at → y.op ≡ x.op → LinksSoFar kept old mid all done calm left
     → Walks kept mid new (tree_of x.right) (tree_of y.right) now

@@ -3,6 +3,7 @@ ghost use Rattle.std.specs.Prelude.{◌≡◌, IfOk};
 ghost use Rattle.lang_model.specs.Trees.{tree_of};
 ghost use Rattle.rv_rewrite.specs.Items.{args_of, links_of};
 
+use crate::make::{base_call, call, chain, injected, minus, pair, turned};
 use lang_model::syntax::{Expr, Link};
 use rel_model::NoMemory;
 use std::alloc::Global;
@@ -20,65 +21,35 @@ pub fn copied(alloc: Global, expr: &Expr) -> Result<Expr, NoMemory>
         Expr::Call { at, name, args } => {
             let name = name.copied(alloc)?;
             let args = copied_args(alloc, args.as_slice())?;
-            Ok(Expr::Call {
-                at: *at,
-                name,
-                args,
-            })
+            Ok(call(*at, name, args))
         }
         Expr::Base { at, base, args } => {
             let args = copied_args(alloc, args.as_slice())?;
-            Ok(Expr::Base {
-                at: *at,
-                base: *base,
-                args,
-            })
+            Ok(base_call(*at, *base, args))
         }
         Expr::Inject { at, base, domain } => {
             let domain = domain.copied(alloc)?;
-            Ok(Expr::Inject {
-                at: *at,
-                base: *base,
-                domain,
-            })
+            Ok(injected(*at, *base, domain))
         }
         Expr::Pair { at, left, right } => {
-            let left = copied_box(alloc, left)?;
-            let right = copied_box(alloc, right)?;
-            Ok(Expr::Pair {
-                at: *at,
-                left,
-                right,
-            })
+            let left = copied(alloc, left)?;
+            let right = copied(alloc, right)?;
+            pair(alloc, *at, left, right)
         }
         Expr::Minus { at, of } => {
-            let of = copied_box(alloc, of)?;
-            Ok(Expr::Minus { at: *at, of })
+            let of = copied(alloc, of)?;
+            minus(alloc, *at, of)
         }
         Expr::Turned { at, of, times } => {
-            let of = copied_box(alloc, of)?;
-            Ok(Expr::Turned {
-                at: *at,
-                of,
-                times: *times,
-            })
+            let of = copied(alloc, of)?;
+            turned(alloc, *at, of, *times)
         }
         Expr::Chain { first, rest } => {
-            let first = copied_box(alloc, first)?;
+            let first = copied(alloc, first)?;
             let rest = copied_links(alloc, rest.as_slice())?;
-            Ok(Expr::Chain { first, rest })
+            chain(alloc, first, rest)
         }
     }
-}
-
-/// A copy of an expression, in a box of its own.
-#[cycle(copy)]
-fn copied_box(alloc: Global, expr: &Expr) -> Result<Box<Expr>, NoMemory>
-    ensures { IfOk result (λ b. tree_of b.value ≡ tree_of expr.now) }
-{
-    let copy = copied(alloc, expr)?;
-    let b = Box::new(alloc, copy)?;
-    Ok(b)
 }
 
 /// A copy of arguments.

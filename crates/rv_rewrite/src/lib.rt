@@ -17,8 +17,6 @@ mod same;
 mod settle;
 mod sides;
 mod step;
-#[cfg(test)]
-mod tests;
 mod view;
 mod walk;
 

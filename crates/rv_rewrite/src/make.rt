@@ -1,6 +1,6 @@
 //! Making new nodes.
 ghost use Rattle.std.specs.Prelude.{◌≡◌, ◌∷◌, [], IfOk};
-ghost use Rattle.lang_model.specs.Trees.{CallTree, BaseTree, PairTree, MinusTree, TurnedTree, ChainTree, NoTree, MoreTrees, tree_of};
+ghost use Rattle.lang_model.specs.Trees.{CallTree, BaseTree, InjectTree, PairTree, MinusTree, TurnedTree, ChainTree, NoTree, MoreTrees, tree_of};
 ghost use Rattle.lang_model.specs.Rewriting.{two};
 ghost use Rattle.rv_rewrite.specs.Items.{args_of, links_of};
 ghost use Rattle.lang_model.specs.declared.syntax.Base.TheVariants.{Syq as SYQ};
@@ -90,4 +90,11 @@ pub fn base_call(at: Place, base: Base, args: Vec<Expr>) -> Expr
     ensures { tree_of result ≡ BaseTree at base (args_of args.items) }
 {
     Expr::Base { at, base, args }
+}
+
+/// A domain operator with the name of its domain.
+pub fn injected(at: Place, base: Base, domain: Name) -> Expr
+    ensures { tree_of result ≡ InjectTree at base domain }
+{
+    Expr::Inject { at, base, domain }
 }

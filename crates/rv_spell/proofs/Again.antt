@@ -84,6 +84,8 @@ only_print (item ∷ []) t e = let p = prints item t (first_is (CommandItem (Pri
 same_printed : (e found : Expr) (other : Script) → SameUpToPlaces e found → CommandItem (PrintTree (tree_of found)) ∷ [] ≡ script_tree other → PrintsSame e other
 same_printed e found other h k = let p = only_print other.items.items (tree_of found) k in (p.0, p.1, h ∙ ap without_places p.2)
 
+-- PRINT, the printed expression and '.' are a script that prints the same up to places: their tokens stand one behind
+-- another, and a text has one script
 pub prints_again : (d : ℕ) (e : Expr) (v : Vec ℕ Global) → v.items ≡ printed e → StandsIn d e → PrintsAgain e v.items
 prints_again d e v is i =
     let start : Place = record { line = 1; column = 1 } in

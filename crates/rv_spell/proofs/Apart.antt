@@ -116,6 +116,7 @@ opened_call t k = false≢true (sym k ∙ ap (begins 40) t)
 pub not_sign : (s u : ℕ) → Sign s ≡ Sign u → s ≡ u
 not_sign s u e = cc
 
+-- a word has one text
 pub one_word : (v w : List ℕ) → Word v ≡ Word w → v ≡ w
 one_word v w e = cc
 
@@ -170,6 +171,8 @@ pub record Chained (l : Level) (d : ℕ) (e : Expr) (tokens rest : List Token) :
   pub tail : Linked l d links mid rest
   pub shape : tree_of e ≡ chain_tree (tree_of first) (branches_in links)
 
+-- on a level of chains an expression is an operand with links behind it, or without any: by how it is spelled, as the
+-- other lines of the grammar stand on other levels
 pub as_chain : {l : Level} {d : ℕ} {e : Expr} {tokens rest : List Token} → Spelled l d e tokens rest → IsChains l → Chained l d e tokens rest
 as_chain (named d at text tokens rest t) h = absurd h
 as_chain (called d at text args first more tokens t1 t2 t3 t4 rest l q t _ _ _ _) h = absurd h
@@ -191,6 +194,7 @@ pub record Negated (d : ℕ) (e : Expr) (tokens rest : List Token) : Type 0 wher
   pub inner : Spelled UnaryLevel (suc d) of mid rest
   pub shape : tree_of e ≡ MinusTree at (tree_of of)
 
+-- on the level of a prefix - an expression begins with that sign, or it is one of the next tighter level
 pub as_unary : {l : Level} {d : ℕ} {e : Expr} {tokens rest : List Token} → Spelled l d e tokens rest → IsUnary l → Negated d e tokens rest ⊎ Spelled (tighter l) d e tokens rest
 as_unary (named d at text tokens rest t) h = absurd h
 as_unary (called d at text args first more tokens t1 t2 t3 t4 rest l q t _ _ _ _) h = absurd h
@@ -217,6 +221,7 @@ pub record Posted (l : Level) (d : ℕ) (e : Expr) (tokens rest : List Token) : 
   pub signs : Carets times mid rest
   pub shape : tree_of e ≡ post_tree (place_of_first mid) (tree_of of) times
 
+-- on the level of signs ^ it is an expression of the tightest level with signs behind it, or without any
 pub as_post : {l : Level} {d : ℕ} {e : Expr} {tokens rest : List Token} → Spelled l d e tokens rest → IsPost l → Posted l d e tokens rest
 as_post (named d at text tokens rest t) h = absurd h
 as_post (called d at text args first more tokens t1 t2 t3 t4 rest l q t _ _ _ _) h = absurd h
@@ -289,6 +294,7 @@ pub record PairedIn (d : ℕ) (e : Expr) (at : Place) (t1 rest : List Token) : T
   pub comma : Takes (Sign 44) t2 t3
   pub tail : Spelled OrLevel (suc d) second t3 t4
   pub close : Takes (Sign 93) t4 rest
+  -- its tree is the pair of their trees
   pub shape : tree_of e ≡ PairTree at (tree_of first) (tree_of second)
 
 -- what stands behind a base name or a domain operator, by its form
@@ -311,6 +317,8 @@ pub record Primed (d : ℕ) (e : Expr) (tokens rest : List Token) : Type 0 where
   pub takes : TakesAt at kind tokens t1
   pub shape : PrimShape d e at kind t1 rest
 
+-- on the tightest level the first token tells the form: a name, alone or before arguments; a base name or domain
+-- operator; a parenthesis; or a bracket
 pub as_prim : {l : Level} {d : ℕ} {e : Expr} {tokens rest : List Token} → Spelled l d e tokens rest → IsPrim l → Primed d e tokens rest
 as_prim (named d at text tokens rest t) h = record { at = at; kind = Word text; t1 = rest; takes = t; shape = inl (refl, refl) }
 as_prim (called d at text args first more tokens t1 t2 t3 t4 rest l q t opened s ls close) h = record {

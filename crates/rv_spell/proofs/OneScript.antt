@@ -5,8 +5,8 @@
 use Rattle.std.proofs.Common.{◌≡◌, ℕ, Bool, true, false, List, [], ◌∷◌, map, Some, refl, sym, ap, ◌∙◌, subst, arith}
 use Rattle.std.proofs.lemmas.Bool.{false≢true}
 use Rattle.lang_model.specs.declared.syntax.Place.{Place}
-use Rattle.lang_model.specs.declared.syntax.Column.{Column}
-use Rattle.lang_model.specs.declared.syntax.Row.{Row}
+use Rattle.lang_model.specs.declared.rows.Column.{Column}
+use Rattle.lang_model.specs.declared.rows.Row.{Row}
 use Rattle.lang_model.specs.declared.syntax.Expr.{Expr}
 use Rattle.lang_model.specs.declared.syntax.Decl.{Decl}
 use Rattle.lang_model.specs.declared.syntax.Decl.TheVariants.{Variable, Domain}
@@ -216,6 +216,8 @@ command_first (SaveAll file) tokens rest s = (s.2.0, s.0, s.2.1)
 command_first (Atomic lets) tokens rest s = (s.2.0, s.0, s.2.1)
 command_first (Explain value) tokens rest s = (s.1.0, s.0, s.1.1)
 
+-- the same tokens spell one command: its keyword tells which, ALL behind it tells a file of all relations, and
+-- the parts agree from the left
 agree_command : (c e : Command) (tokens others rest behind : List Token) → SpellsCommand c tokens rest → SpellsCommand e others behind → tokens ≡ others → Ends OrLevel rest → Ends OrLevel behind → (command_tree c ≡ command_tree e) × (rest ≡ behind)
 agree_command (Relation name rows rows_at cols cols_at list) (Relation name' rows' rows_at' cols' cols_at' list') tokens others rest behind s u q h h' =
     let n = agree_named (KEYWORD REL) (KEYWORD REL) name name' tokens others s.0 u.0 s.5 u.5 q in
@@ -274,6 +276,8 @@ is_name _ = false
 no_command : {at : Place} {name : List ℕ} {tokens others rest : List Token} (c : Command) (behind : List Token) → TakesAt at (Word name) tokens rest → SpellsCommand c others behind → others ≡ tokens → ⊥
 no_command {others = others} c behind t u q = let f = command_first c others behind u in false≢true (ap is_name (one_kind f.2 t q))
 
+-- the same tokens spell one item: a definition begins with a name and a command does not, '=' behind the head tells a
+-- function, and the parts agree from the left
 agree_item : (a b : Item) (tokens others rest behind : List Token) → SpellsItem a tokens rest → SpellsItem b others behind → tokens ≡ others → Ends OrLevel rest → Ends OrLevel behind → (item_tree a ≡ item_tree b) × (rest ≡ behind)
 agree_item (Function at name params body) (Function at' name' params' body') tokens others rest behind s u q h h' =
     let d = agree_head at at' name name' params.items params'.items tokens others s.0 u.0 s.2 u.2 q in

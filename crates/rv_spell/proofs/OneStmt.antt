@@ -39,6 +39,7 @@ differ {at} {at'} {kind} {kind'} {ts} {ts'} {rest} {rest'} t t' q n = false≢tr
 pub ends_keyword : {at : Place} {word : Keyword} {tokens rest : List Token} → TakesAt at (KEYWORD word) tokens rest → Ends OrLevel tokens
 ends_keyword t = subst (Ends OrLevel) (sym t) (refl, (refl, (refl, (refl, refl))))
 
+-- nor does a ';'
 pub ends_semicolon : {at : Place} {tokens rest : List Token} → TakesAt at (Sign 59) tokens rest → Ends OrLevel tokens
 ends_semicolon t = subst (Ends OrLevel) (sym t) (refl, (refl, (refl, (refl, refl))))
 
@@ -80,6 +81,8 @@ pub record AgreesStmts (ss vs : List Stmt) (rest others : List Token) : Type 0 w
   pub left : rest ≡ others
 
 mutual
+  -- the same tokens spell one statement, by induction: its first token tells which, ELSE or FI behind the first branch
+  -- whether there is a second, and the parts agree from the left
   pub agree_stmt : {d : ℕ} {s : Stmt} {tokens rest : List Token} → SpelledStmt d s tokens rest → {k : ℕ} {v : Stmt} {others behind : List Token} → SpelledStmt k v others behind → tokens ≡ others → Ends OrLevel rest → Ends OrLevel behind → AgreesStmt s v rest behind
   agree_stmt (assigned d at name value tokens t1 t2 rest t sign s) (assigned k at' name' value' others u1 u2 behind t' sign' u) q h h' =
       let a = agree s u (one_rest sign.1 sign'.1 (one_rest t t' q)) h h' in
@@ -116,6 +119,7 @@ mutual
   agree_stmt (branched_twice d at test first second tokens t1 t2 t3 t4 t5 t6 rest l t _ _ _ _ _ _) (assigned k at' name' value' others u1 u2 behind t' _ _) q h h' = absurd (differ t t' q refl)
   agree_stmt (branched_twice d at test first second tokens t1 t2 t3 t4 t5 t6 rest l t _ _ _ _ _ _) (looped k at' test' body' others u1 u2 u3 u4 behind l' t' _ _ _ _) q h h' = absurd (differ t t' q refl)
 
+  -- and one list of statements: behind each that agrees, a ';' or a closing keyword tells whether the list goes on
   pub agree_stmts : {d : ℕ} {ss : List Stmt} {tokens rest : List Token} → SpelledStmts d ss tokens rest → {k : ℕ} {vs : List Stmt} {others behind : List Token} → SpelledStmts k vs others behind → tokens ≡ others → Closing rest → Closing behind → AgreesStmts ss vs rest behind
   agree_stmts (no_stmt d tokens rest e) (no_stmt k others behind e') q c c' = record { same = refl; left = e ∙ q ∙ sym e' }
   agree_stmts (no_stmt d tokens rest e) (one_stmt k v others behind u) q c c' = absurd (no_stmt_there u c (e ∙ q))

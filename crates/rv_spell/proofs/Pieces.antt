@@ -94,6 +94,7 @@ operator_ends Times bs = refl
 operator_ends Under bs = refl
 operator_ends Over bs = refl
 
+-- each operator's sign is an allowed byte
 pub operator_allowed : (op : Op2) → is_allowed (sign_of op) ≡ true
 operator_allowed Or = refl
 operator_allowed And = refl
@@ -289,6 +290,7 @@ base_kind P2 bs = refl
 base_kind I1 bs = refl
 base_kind I2 bs = refl
 
+-- a base name or domain operator before its parenthesis is split off as one token, name by name
 pub base_lexes : (base : Base) (at : Place) (bs : List ℕ) → Lexes at (base_text base ++ 40 ∷ bs) (token at (BASE base)) (past at (base_text base)) (40 ∷ bs)
 base_lexes L at bs = word_lexes 76 [] (BASE L) at (40 ∷ bs) refl refl (base_kind L bs)
 base_lexes O at bs = word_lexes 79 [] (BASE O) at (40 ∷ bs) refl refl (base_kind O bs)
@@ -326,6 +328,7 @@ base_lexes P2 at bs = word_lexes 112 (45 ∷ 50 ∷ []) (BASE P2) at (40 ∷ bs)
 base_lexes I1 at bs = word_lexes 105 (45 ∷ 49 ∷ []) (BASE I1) at (40 ∷ bs) refl refl (base_kind I1 bs)
 base_lexes I2 at bs = word_lexes 105 (45 ∷ 50 ∷ []) (BASE I2) at (40 ∷ bs) refl refl (base_kind I2 bs)
 
+-- and all its bytes are allowed
 pub base_allowed : (base : Base) → list_all is_allowed (base_text base) ≡ true
 base_allowed L = refl
 base_allowed O = refl

@@ -129,6 +129,8 @@ some_there n X e h = absurd (omega arith)
 
 -- ---- the induction
 mutual
+  -- the text of an expression is read as the same up to places, by induction on how it was spelled: its parts are read,
+  -- in parentheses where they hold together too loosely, and put together
   pub reread : {l : Level} {d : ℕ} {e : Expr} {tokens rest : List Token} → Spelled l d e tokens rest → AllNamed tokens → Reread l d e rest
   reread (named d at text tokens rest t) a =
       let n = named_first at (Word text) tokens rest t a in
@@ -246,6 +248,7 @@ mutual
       let r = reread s a in
       record { names = r.names; allowed = r.allowed; own = r.own; exact = r.exact; plain = r.plain; tight = loosened l (rank e) ((d < nesting_limit) × Stands r.own (suc d) e) r.tight }
 
+  -- so are further arguments, each behind its comma
   reread_more : {n d : ℕ} {es : List Expr} {tokens rest : List Token} → Listed n d es tokens rest → AllNamed tokens → RereadMore n d es rest
   reread_more (no_more n d tokens rest q) a = record {
     names = subst AllNamed (sym q) a;
@@ -273,6 +276,7 @@ mutual
             };
       }
 
+  -- and links, whose operands stand in parentheses exactly if they hold together no tighter than the chain
   reread_links : {l : Level} {d : ℕ} {xs : List Link} {tokens rest : List Token} → Linked l d xs tokens rest → AllNamed tokens → RereadLinks l d xs rest
   reread_links (no_link l d tokens rest q) a = record {
     names = subst AllNamed (sym q) a;

@@ -92,6 +92,8 @@ operator_itself Over = refl
 
 -- ---- what passes the test is one
 mutual
+  -- trees that pass the test are one without their places, by induction on both: they are of one kind, with one text or
+  -- number and parts that pass
   one_tree : (t u : Tree) → same_tree t u ≡ true → without_places t ≡ without_places u
   one_tree (NameTree at name) (NameTree there other) h = ap (NameTree nowhere) (text name other h)
   one_tree (CallTree at name args) (CallTree there other others) h =

@@ -58,6 +58,8 @@ sign_differs : (s u : ℕ) {at at' : Place} {tokens others rest behind : List To
 sign_differs s u t t' q n = n (not_sign s u (one_kind t t' q))
 
 mutual
+  -- the same tokens spell one expression, by induction on how the first is spelled: the second is taken apart on the
+  -- same level, and each of its parts ends where the other's does
   pub agree : {l : Level} {d : ℕ} {e : Expr} {tokens rest : List Token} → Spelled l d e tokens rest → {k : ℕ} {f : Expr} {others behind : List Token} → Spelled l k f others behind → tokens ≡ others → Ends l rest → Ends l behind → Agrees e f rest behind
   agree (named d at text tokens rest t) {k} {f} {others} {behind} u q h h' =
       let c = only_name k f at text rest behind (prim_at (Word text) t q u) h in

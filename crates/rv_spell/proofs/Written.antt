@@ -138,6 +138,7 @@ read_name k at there text n = record {
   spells = λ rest. named k at text (token at (Word text) rest) rest refl;
 }
 
+-- a call: its name, and in parentheses the first argument and the further ones, each read where the one before ends
 pub read_call : (k : ℕ) (at there : Place) (text : List ℕ) (args : Vec Expr Global) (first : Expr) (more : List Expr) → k < nesting_limit → args.items ≡ first ∷ more → IsName text
     → (f : Read OrLevel (suc k) first (printed first) (behind 40 (past at text))) → ReadMore 15 (suc k) more f.end → Read PrimLevel k (Call there text args) (text ++ (40 ∷ printed_all_args args.items ++ 41 ∷ [])) at
 read_call k at there text args first more l q n f m =
@@ -156,6 +157,7 @@ read_call k at there text args first more l q n f m =
           refl (past at text, refl) (f.spells (tail rest)) (m.spells (token m.end (Sign 41) rest)) (m.end, refl);
     }
 
+-- a base call of one operand: the base name, and the operand in parentheses
 pub read_one : (k : ℕ) (at there : Place) (base : Base) (args : Vec Expr Global) (e : Expr) → k < nesting_limit → form_of base ≡ TakesOne → args.items ≡ e ∷ []
     → Read OrLevel (suc k) e (printed e) (behind 40 (past at (base_text base))) → Read PrimLevel k (BaseCall there base args) (base_text base ++ (40 ∷ printed_all_args args.items ++ 41 ∷ [])) at
 read_one k at there base args e l form q f =
@@ -180,6 +182,7 @@ second_lex k e at g left ends =
     then (token at (Sign 44)) g.put at (behind 44 at) g.end (44 ∷ ((printed e ++ []) ++ left)) ((printed e ++ []) ++ left) left (comma_lexes at ((printed e ++ []) ++ left))
     (ap (tokens_from 0 (behind 44 at)) (append_assoc (printed e) [] left) ∙ g.lexes left ends)
 
+-- a base call of two operands: the second is read behind the comma
 pub read_two : (k : ℕ) (at there : Place) (base : Base) (args : Vec Expr Global) (e x : Expr) → k < nesting_limit → form_of base ≡ TakesTwo → args.items ≡ e ∷ x ∷ []
     → (f : Read OrLevel (suc k) e (printed e) (behind 40 (past at (base_text base)))) → Read OrLevel (suc k) x (printed x) (behind 44 f.end) → Read PrimLevel k (BaseCall there base args) (base_text base ++ (40 ∷ printed_all_args args.items ++ 41 ∷ [])) at
 read_two k at there base args e x l form q f g =
@@ -199,6 +202,7 @@ read_two k at there base args e x l form q f g =
           refl (word, refl) (f.spells (token f.end (Sign 44) (last rest))) (f.end, refl) (g.spells (token g.end (Sign 41) rest)) (g.end, refl);
     }
 
+-- a domain operator, and the name of its domain in parentheses
 pub read_injection : (k : ℕ) (at there : Place) (base : Base) (domain : List ℕ) → k < nesting_limit → form_of base ≡ TakesDomain → IsName domain → Read PrimLevel k (Inject there base domain) (base_text base ++ (40 ∷ domain ++ 41 ∷ [])) at
 read_injection k at there base domain l form n =
     let word = past at (base_text base) in
@@ -216,6 +220,7 @@ read_injection k at there base domain l form n =
           refl (word, refl) (name, refl) (end, refl);
     }
 
+-- a pairing: both operands in brackets, and a comma between them
 pub read_pair : (k : ℕ) (at there : Place) (left right : Box Expr Global) → k < nesting_limit → (f : Read OrLevel (suc k) left.value (printed left.value) (behind 91 at)) → Read OrLevel (suc k) right.value (printed right.value) (behind 44 f.end)
     → Read PrimLevel k (Pair there left right) (91 ∷ (printed left.value ++ (44 ∷ printed right.value ++ 93 ∷ []))) at
 read_pair k at there left right l f g =
@@ -240,6 +245,7 @@ read_pair k at there left right l f g =
           refl (f.spells (token f.end (Sign 44) (last rest))) (f.end, refl) (g.spells (token g.end (Sign 93) rest)) (g.end, refl);
     }
 
+-- an operand with signs ^ behind it, which go on with no name
 pub read_turned : (k n : ℕ) (at there : Place) (of : Box Expr Global) (text : List ℕ) → Read PrimLevel k of.value text at → Read PostLevel k (Turned there of (suc n)) (text ++ replicate (suc n) 94) at
 read_turned k n at there of text f =
     let other = with_value of f.found in
@@ -270,6 +276,7 @@ pub links_end : (n : ℕ) (xs : List Link) (left : List ℕ) → 0 < length xs �
 links_end n [] left h = absurd (omega arith)
 links_end n (x ∷ xs) left h = operator_ends x.op ((within (nat_le (rank x.right) n) (printed x.right) ++ printed_all_links n xs) ++ left)
 
+-- a chain: its first operand with the links behind it, which go on with no name
 pub read_chain : (l : Level) (k : ℕ) (at : Place) (first : Box Expr Global) (links : Vec Link Global) (text : List ℕ) → 0 < length links.items → (f : Read (tighter l) k first.value text at) → ReadLinks l k links.items f.end
     → Read l k (Chain first links) (text ++ printed_all_links (level_rank l) links.items) at
 read_chain l k at first links text h f m =

@@ -176,6 +176,8 @@ number_covered b bs kind n h e =
     let m = run_length is_digit (b ∷ bs) in
     subst (λ k. Covered b bs k) (chosen (nat_lt (value_from 0 (take m (b ∷ bs))) (2 ^ 64)) _ kind m n e) (covered m b bs (digit_runs (b ∷ bs) (omega arith) h) (run_allowed is_digit digit_allowed (b ∷ bs)))
 
+-- all bytes of a token are allowed: the first tells whether it is a word, a number, a file text or a sign, and each of
+-- these goes over bytes of its own
 kind_covered : (b : ℕ) (bs : List ℕ) (kind : Kind) (n : ℕ) → kind_at (b ∷ bs) ≡ Some (kind, n) → Covered b bs n
 kind_covered b bs kind n e = letter (is_letter b) refl
   where
@@ -246,6 +248,7 @@ lexed_none b bs from p q k = rw (p, q) (rw k refl)
 abbrev LexesAll : List ℕ → Type 0
 LexesAll bs = (k : ℕ) (from : Place) (ts : List Token) → list_all is_allowed bs ≡ true → tokens_from k from bs ≡ Some ts → (place : Place) × (lexed_from k from bs ≡ clean ts place)
 
+-- one byte more: behind a blank, a comment or a token both splittings go on at the same byte
 lexes_step : (b : ℕ) (bs : List ℕ) (from : Place) (ts : List Token) → LexesAll bs → list_all is_allowed (b ∷ bs) ≡ true → tokens_from 0 from (b ∷ bs) ≡ Some ts → (place : Place) × (lexed_from 0 from (b ∷ bs) ≡ clean ts place)
 lexes_step b bs from ts ih a e = blank (is_blank b) refl
   where
@@ -292,6 +295,7 @@ ends_clean (Broken fault) = false
 abbrev EndsAll : List ℕ → Type 0
 EndsAll bs = (k : ℕ) (from : Place) (ts : List Token) (place : Place) → list_all is_allowed (take k bs) ≡ true → lexed_from k from bs ≡ clean ts place → Clean bs k from ts
 
+-- one byte more: a blank, a comment or a token has allowed bytes, and what is lexed behind it comes to the end as well
 ends_step : (b : ℕ) (bs : List ℕ) (from : Place) (ts : List Token) (place : Place) → EndsAll bs → lexed_from 0 from (b ∷ bs) ≡ clean ts place → Clean (b ∷ bs) zero from ts
 ends_step b bs from ts place ih e = blank (is_blank b) refl
   where

@@ -21,6 +21,7 @@ pub record IsName (text : List ℕ) : Type 0 where
   pub letter : is_letter head ≡ true
   pub word : list_all is_word_byte tail ≡ true
   pub short : length text ≤ 64
+  -- and it is no reserved word
   pub free : word_kind text ≡ Word text
 
 -- the token is no name, or a proper one
@@ -157,6 +158,8 @@ with_named : (at : Place) (kind : Kind) (o : Option (List Token)) → NamesWell 
 with_named at kind None h n = tt
 with_named at kind (Some ts) h n = (h, n)
 
+-- the names among the tokens are proper, by induction on the bytes: blanks and comments are passed over, and each token
+-- that is found at a byte is proper
 from_named : (k : ℕ) (at : Place) (bs : List ℕ) → SomeNamed (tokens_from k at bs)
 from_named zero at [] = tt
 from_named (suc k) at [] = tt

@@ -42,6 +42,8 @@ module _ (S T : Scope) (h : Agrees S T) where
       by true = h.same_products n
       by false = h.same_sums n
 
+  -- an assignment's target has the same faults, since the scopes have the same variables; expressions and statements
+  -- have, by induction, since each name in them is found alike
   same-target : (at : Place) (n : List ℕ) → target_faults S at n ≡ target_faults T at n
   unfolding target_faults
   same-target at n = λ i. cond (h.same_variables n i) [] (Unknown at n ∷ [])
@@ -80,6 +82,8 @@ module _ (S T : Scope) (h : Agrees S T) where
   same-faults_by A (s ∷ ss) = λ i. same-faults_of A s i ++ same-faults_by (assigned_after A s) ss i
 
 module _ (D E : List Known) (h : SameDefinitions D E) where
+  -- a name has the same rank, which is that of its one definition; and so, by induction, has what expressions and
+  -- statements call
   same-rank : (n : List ℕ) → rank_named D n ≡ rank_named E n
   same-rank n = ap (λ o. option_map_or (λ d. d.rank) o 0) (h n)
 

@@ -98,13 +98,8 @@ module _ (items : List Item) (rank : ℕ) (name : List ℕ) (item : Item) (h : r
       rank_falls rank (scale items) (4 * weight body) h (omega (arith, below, w))
 
   pub program_falls : (place : _) (own : _) (params : _) (decls : _) (body : _) (value : _) (stmts : List Stmt) → item ≡ Program place own params decls body value → stmts ≡ body.items →
-      (rank - 1) * scale items + (4 * weight_by stmts + 2) < rank * scale items
+      (rank - 1) * scale items + (4 * (weight_by stmts + weight value) + 3) < rank * scale items
   program_falls place own params decls body value stmts e s =
       let w : weight_of_item item ≡ weight_by body.items + weight value = ap weight_of_item e in
       let same : weight_by stmts ≡ weight_by body.items = ap weight_by s in
-      rank_falls rank (scale items) (4 * weight_by stmts + 2) h (omega (arith, below, w, same))
-
-  pub value_falls : (place : _) (own : _) (params : _) (decls : _) (body : _) (value : _) → item ≡ Program place own params decls body value → (rank - 1) * scale items + 4 * weight value < rank * scale items
-  value_falls place own params decls body value e =
-      let w : weight_of_item item ≡ weight_by body.items + weight value = ap weight_of_item e in
-      rank_falls rank (scale items) (4 * weight value) h (omega (arith, below, w))
+      rank_falls rank (scale items) (4 * (weight_by stmts + weight value) + 3) h (omega (arith, below, w, same))

@@ -31,6 +31,8 @@ pub option_or-none : (a : Option ℕ) → option_or a None ≡ a
 option_or-none None = refl
 option_or-none (Some x) = refl
 
+-- one turn of the loop: what is found from an item on is the item's number where it defines the name, and else what is
+-- found behind it
 pub position-item : (a b : Option ℕ) (n : List ℕ) (items : List Item) (k : ℕ) (item : Item) → k < length items → item ≡ get_or items k item → b ≡ option_or a (cond (defines n item) (Some k) None) →
     option_or a (position_from (defines n) k (drop k items)) ≡ option_or b (position_from (defines n) (k + 1) (drop (k + 1) items))
 position-item a b n items k item h is e =
@@ -179,6 +181,8 @@ at_position items o = option_and_then (slice_get items) o
 abbrev FromRest : List Item → Item → List Item → List ℕ → Type 0
 FromRest before item items n = IsDefinition ((before ++ item ∷ []) ++ items) n (at_position ((before ++ item ∷ []) ++ items) (position_from (defines n) (length (before ++ item ∷ [])) items))
 
+-- behind items that don't define the name, the first that does is its only definition: by induction on the items, since
+-- a second one would be a fault
 IsDefinition-behind : (E : List Known) (before items : List Item) (n : List ℕ) → items_faults E items ≡ [] → NoneDefines n before →
     IsDefinition (before ++ items) n (at_position (before ++ items) (position_from (defines n) (length before) items))
 IsDefinition-behind E before [] n h none = let e : NoneDefines n (before ++ []) = ap (list_any (defines n)) (append_none before) ∙ none in e

@@ -26,6 +26,8 @@ noted-function t E at name params body ps rank r e =
     (λ i. noted (noted t (head_faults E at name (e i) (r i))) (faults (function_scope E (e i)) no_name body))
     ∙ sym (noted-append t (head_faults E at name params.items (rank_of E (Function at name params body))) (faults (function_scope E params.items) no_name body))
 
+-- to note the faults of a program's head, declarations, statements and result one after another is to note all faults
+-- of the item
 pub noted-program : (t : Option TypeFault) (E : List Known) (at : _) (name : _) (params : _) (decls : _) (body : _) (value : _) (ps : List (List ℕ)) (ds : _) (ss : _) (rank : ℕ) → rank ≡ rank_of E (Program at name params decls body value)
     → ps ≡ params.items → ds ≡ decls.items → ss ≡ body.items →
     noted (noted (noted (noted t (head_faults E at name ps rank)) (decl_faults ps ps ds)) (faults_by (program_scope E ps ds) no_name ss)) (faults (program_scope E ps ds) (assigned_by no_name ss) value)
@@ -75,6 +77,7 @@ pub noted-let : (S : Scope) (t : Option TypeFault) (ls : List LetOf) (k : ℕ) (
 noted-let S t ls k l h is =
     ap (λ xs. noted t (let_faults S xs)) (drop_more ls k l h ∙ ap (λ x. x ∷ drop (k + 1) ls) (sym is)) ∙ noted-append t (faults S no_name l.value) (let_faults S (drop (k + 1) ls))
 
+-- an item has the same faults behind definitions that say the same of each name, since its scope takes the same names
 same-item_faults : (D E : List Known) → SameDefinitions D E → (item : Item) → item_faults D item ≡ item_faults E item
 unfolding item_faults
 same-item_faults D E h (Function at name params body) =

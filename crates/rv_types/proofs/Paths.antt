@@ -30,6 +30,7 @@ on_both : (n : List ℕ) (A B : Names) (p one more : List (List ℕ)) → p ≡ 
 on_both n A B p one more is f h =
     ap (λ q. A n || among q n) is ∙ ap (λ b. A n || b) (among-append n one more) ∙ regrouped (A n) (among one n) (among more n) ∙ went (A n) (among one n) (among more n) (B n) f h
 
+-- a name that is on neither of two paths is not on one behind the other
 pub off_both : (n : List ℕ) (one more : List (List ℕ)) → among one n ≡ false → among more n ≡ false → among (one ++ more) n ≡ false
 off_both n one more f g = among-append n one more ∙ or_from (among one n) (among more n) f g
 
@@ -50,6 +51,8 @@ module _ (n : List ℕ) where
     row-on_each A end_of-Stmt p is h = or_left (A n) (among p n) h
     row-on_each A (more_of-Stmt s rest) p is h = on_both n A (assigned_after A s) p is.0 is.1 is.4 (stmt-on_each A s is.0 is.2) (row-on_each (assigned_after A s) rest is.1 is.3 h)
 
+  -- a name that the walk has behind a list of statements was there before or is on each path, by induction on the
+  -- statements
   pub list-on_each : (A : Names) (ss : List Stmt) (p : List (List ℕ)) → IsPath ss p → assigned_by A ss n ≡ true → (A n || among p n) ≡ true
   list-on_each A [] p is h = or_left (A n) (among p n) h
   list-on_each A (s ∷ ss) p is h = on_both n A (assigned_after A s) p is.0 is.1 is.4 (stmt-on_each A s is.0 is.2) (list-on_each (assigned_after A s) ss is.1 is.3 h)

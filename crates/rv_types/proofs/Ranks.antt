@@ -10,6 +10,8 @@ use Rattle.lang_model.specs.Checking.{Known, definition_of, rank_named, called, 
 use Rattle.rv_types.specs.Items.{RanksWithin, called_by_item}
 use Rattle.rv_types.proofs.Naming.{or_known, definition_of-push}
 
+-- the greater of two numbers within a bound is within it; so, by induction, a tree calls nothing of a higher rank than
+-- the definitions have
 max-within : (a b c : ℕ) → a ≤ c → b ≤ c → max a b ≤ c
 max-within a b c h k = omega arith
 

@@ -53,6 +53,7 @@ abbrev pub faults_of_parts : Scope → Option (List LetOf) → Option Expr → L
 faults_of_parts S (Some lets) value = let_faults S lets
 faults_of_parts S None value = option_map_or (faults S no_name) value []
 
+-- by kind of command: they are those of its block, those of its expression, or none
 pub command_faults-parts : (E : List Known) (c : Command) → command_faults E c ≡ faults_of_parts (command_scope E) (lets_of_command c) (value_of_command c)
 unfolding command_faults
 command_faults-parts E (Relation name rows rows_at cols cols_at list) = refl

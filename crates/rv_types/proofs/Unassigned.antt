@@ -56,6 +56,7 @@ module _ (S : Scope) (at : Place) (n : List ℕ) where
   unfolding domain_faults
   lacks-domain p base m = lacks-cond (among (cond (is_projection base) S.products S.sums) m) [] (Unknown p (domain_operator_text base) ∷ []) (none f) (lacks-unknown p (domain_operator_text base))
 
+  -- the target of an assignment never has the fault: it is unknown at most
   lacks-target : (p : Place) (m : List ℕ) → Lacks (target_faults S p m)
   unfolding target_faults
   lacks-target p m = lacks-cond (among S.variables m) [] (Unknown p m ∷ []) (none f) (lacks-unknown p m)
@@ -181,6 +182,8 @@ module _ (S : Scope) (at : Place) (n : List ℕ) where
   not_after : (A : Names) (s : Stmt) (one : List (List ℕ)) → A n ≡ false → IsPathOf s one → among one n ≡ false → assigned_after A s n ≡ false
   not_after A s one a is h = false_from_ne_true (assigned_after A s n) (λ t. both_ways (A n || among one n) (or_from (A n) (among one n) a h) (stmt-on_each n A s one is t))
 
+  -- a name that was not assigned before and is not on a path is not assigned behind the statements either: else it
+  -- would be on each path
   not_behind : (A : Names) (ss : List Stmt) (p : List (List ℕ)) → A n ≡ false → IsPath ss p → among p n ≡ false → assigned_by A ss n ≡ false
   not_behind A ss p a is h = false_from_ne_true (assigned_by A ss n) (λ t. both_ways (A n || among p n) (or_from (A n) (among p n) a h) (list-on_each n A ss p is t))
 

@@ -21,6 +21,23 @@ pub struct Head<'a> {
     pub rank: usize,
 }
 
+impl<'a> Head<'a> {
+    /// The head of a definition of this rank.
+    pub fn new(at: Place, name: &'a Name, params: &'a [Name], rank: usize) -> Head<'a>
+        ensures place { result.at ≡ at }
+        ensures name { result.name.now ≡ name.now }
+        ensures parameters { result.params.now ≡ params.now }
+        ensures rank { result.rank ≡ rank }
+    {
+        Head {
+            at,
+            name,
+            params,
+            rank,
+        }
+    }
+}
+
 /// A name that is already taken.
 pub fn check_repeated<'a>(
     before: &Names<'a>,

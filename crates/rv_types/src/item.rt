@@ -242,13 +242,7 @@ fn check_in<'a>(
             params,
             body,
         } => {
-            let params = params.as_slice();
-            let head = Head {
-                at: *at,
-                name,
-                params,
-                rank,
-            };
+            let head = Head::new(*at, name, params.as_slice(), rank);
             check_head_and_value(alloc, scope, head, body, so_far)
         }
         Item::Program {
@@ -259,13 +253,7 @@ fn check_in<'a>(
             body,
             result,
         } => {
-            let params = params.as_slice();
-            let head = Head {
-                at: *at,
-                name,
-                params,
-                rank,
-            };
+            let head = Head::new(*at, name, params.as_slice(), rank);
             check_parts(
                 alloc,
                 scope,

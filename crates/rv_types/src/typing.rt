@@ -1,6 +1,6 @@
 //! The walk over expressions, calls and statements that finds types. It ends at the first misfit.
 ghost use Rattle.std.specs.Prelude.{[]};
-ghost use Rattle.lang_model.specs.Shape.{shape, shape_test, types_of_calls, typed_behind, typed_by};
+ghost use Rattle.lang_model.specs.Shape.{passing, shape, shape_test, types_of_calls, typed_behind, typed_by};
 ghost use Rattle.rv_types.specs.Shaping.{types_of, shapes_by, shape_by, Answers};
 ghost use Rattle.rv_types.specs.Around.{around_of};
 
@@ -136,16 +136,15 @@ fn type_of_call(
     let rank = around.rank - 1;
     match around.checked.definition(name.bytes()) {
         Some(Item::Function { params, body, .. }) => {
-            let names = match with_arguments(alloc, at, name, params.as_slice(), given) {
-                Ok(names) => names,
-                Err(fault) => return Err(fault),
-            };
             let inside = Around {
                 checked: around.checked,
                 rank,
                 decls: &[],
             };
-            type_of_expr(alloc, &inside, names.as_slice(), body)
+            match with_arguments(alloc, at, name, params.as_slice(), given) {
+                Ok(names) => type_of_expr(alloc, &inside, names.as_slice(), body),
+                Err(fault) => Err(fault),
+            }
         }
         Some(
             Item::Program {
@@ -156,22 +155,38 @@ fn type_of_call(
                 ..
             },
         ) => {
-            let mut names = match with_arguments(alloc, at, name, params.as_slice(), given) {
-                Ok(names) => names,
-                Err(fault) => return Err(fault),
-            };
             let inside = Around {
                 checked: around.checked,
                 rank,
                 decls: decls.as_slice(),
             };
-            match type_stmts(alloc, &inside, &mut names, body.as_slice()) {
-                Ok(()) => type_of_expr(alloc, &inside, names.as_slice(), result),
+            match with_arguments(alloc, at, name, params.as_slice(), given) {
+                Ok(names) => type_of_program(alloc, &inside, names, body.as_slice(), result),
                 Err(fault) => Err(fault),
             }
         }
         Some(Item::Command(_)) => Err(misnamed(alloc, at, Cause::Unknown, Spelled::Name(name))),
         None => Err(misnamed(alloc, at, Cause::Unknown, Spelled::Name(name))),
+    }
+}
+
+/// The type of a program's result after its body, given the types of its parameters.
+#[cycle(typing)]
+fn type_of_program(
+    alloc: Global,
+    inside: &Around,
+    parameters: Vec<(Name, StaticShape)>,
+    body: &[Stmt],
+    value: &Expr,
+) -> Result<StaticShape, TypeFault>
+    ensures { let A = around_of inside.now in
+        let behind = typed_by A body.now (types_of parameters.items) in
+        Answers (passing behind (λ T. shape A T value.now)) (λ s. s) result }
+{
+    let mut names = parameters;
+    match type_stmts(alloc, inside, &mut names, body) {
+        Ok(()) => type_of_expr(alloc, inside, names.as_slice(), value),
+        Err(fault) => Err(fault),
     }
 }
 

@@ -1,5 +1,5 @@
 use Rattle.std.proofs.Common.{◌≡◌, ◌≤◌, ◌++◌, List, ◌∷◌, length}
-use Rattle.lang_model.specs.declared.syntax.Column.{Column}
+use Rattle.lang_model.specs.declared.rows.Column.{Column}
 use Rattle.lang_model.specs.declared.token.Token.{Token}
 use Rattle.lang_model.specs.Spelling.{SpellsColumns, SpellsMoreColumns}
 use Rattle.lang_model.specs.Stop.{Part, FromOne, MoreColumns, stop_of}

@@ -1,4 +1,5 @@
 use Rattle.std.proofs.Common.{◌≡◌, ◌∙◌, ◌+◌, drop, arith, sym, ap, subst}
+use Rattle.std.specs.Prelude.{IfOk}
 use Rattle.std.proofs.lemmas.List.{drop_more}
 use Rattle.lang_model.specs.Trees.{CallTree, BaseTree, ChainTree, tree_of}
 use Rattle.rv_rewrite.specs.Items.{args_of, links_of, args_ahead, links_ahead}
@@ -9,7 +10,7 @@ pub copied-returns-in_ok-args-in-Call : goal.copied-returns-in_ok-args-in-Call
 copied-returns-in_ok-args-in-Call t c =
     let at = c.in-Call.at in
     let args = c.in_ok-args-in-Call.ensures ∙ ap args_of c.as_slice.ensures.value in
-    tree_call at c.in_ok-name-in-Call.name c.in_ok-args-in-Call.args
+    c.call.ensures
     ∙ (λ i. CallTree at (c.in_ok-name-in-Call.ensures i) (args i))
     ∙ sym (ap tree_of c.in-Call.is ∙ tree_call at c.in-Call.name c.in-Call.args)
 
@@ -18,7 +19,7 @@ copied-returns-in_ok-args-in-Base t c =
     let at = c.in-Base.at in
     let base = c.in-Base.base in
     let args = c.in_ok-args-in-Base.ensures ∙ ap args_of c.as_slice-in-Base.ensures.value in
-    tree_base at base c.in_ok-args-in-Base.args
+    c.base_call.ensures
     ∙ ap (BaseTree at base) args
     ∙ sym (ap tree_of c.in-Base.is ∙ tree_base at base c.in-Base.args)
 
@@ -26,9 +27,9 @@ pub copied-returns-in_ok-rest-in-Chain : goal.copied-returns-in_ok-rest-in-Chain
 copied-returns-in_ok-rest-in-Chain t c =
     let first = c.in_ok-first-in-Chain.ensures ∙ ap tree_of c.deref-in-Chain.ensures in
     let rest = c.in_ok-rest-in-Chain.ensures ∙ ap links_of c.as_slice-in-Chain.ensures.value in
-    tree_chain c.in_ok-first-in-Chain.first c.in_ok-rest-in-Chain.rest
-    ∙ (λ i. ChainTree (first i) (rest i))
-    ∙ sym (ap tree_of c.in-Chain.is ∙ tree_chain c.in-Chain.first c.in-Chain.rest)
+    subst (λ t. IfOk c.chain.result (λ e. tree_of e ≡ t))
+    ((λ i. ChainTree (first i) (rest i)) ∙ sym (ap tree_of c.in-Chain.is ∙ tree_chain c.in-Chain.first c.in-Chain.rest))
+    c.chain.ensures
 
 pub copied_args-each-preserved : goal.copied_args-each-preserved
 copied_args-each-preserved t c =

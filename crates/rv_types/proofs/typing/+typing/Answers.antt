@@ -8,17 +8,10 @@ use Rattle.rv_types.specs.Around.{around_of}
 use Rattle.rv_types.proofs.Passing.{goes_on, goes_err, goes_last, goes_not}
 use Rattle.lang_model.proofs.Weights.{weight, weight_of_args, weight_of_links, weight_stmt, weight_by, weight-call, weight-base, weight-chain, weight-while, weight-if, weight_arg, weight_link, weight_one}
 use Rattle.rv_types.proofs.Unfolding.{shape-call, shape-base, shape-chain, behind-while, behind-if, arg_next, link_next, stmt_next}
-use Rattle.rv_types.proofs.Calling.{calls_function, calls_program, calls_missing, function_falls, program_falls, value_falls}
+use Rattle.rv_types.proofs.Calling.{calls_function, calls_program, calls_missing, function_falls, program_falls}
 use Rattle.rv_types.proofs.typing.+typing.Goals as goal
 
 -- ---- calls
-pub type_of_call-returns-in-Err : goal.type_of_call-returns-in-Err
-type_of_call-returns-in-Err t c =
-    let items = c.args.around.now.checked.now.items.items in
-    let d = subst (λ x. IsDefinition items x (Some c.in-Some-Function.field-0.now)) c.bytes.ensures c.in-Some-Function.ensures in
-    let e = calls_function items c.args.around.now.rank c.args.name.now c.in-Some-Function.field-0.now c.if-around-eq0.false d c.args.at c.args.given.now _ _ _ _ c.as_slice.result.now c.in-Some-Function.field-0-is c.as_slice.ensures.value in
-    goes_err _ _ _ _ e c.in-Err.ensures
-
 pub type_of_call-type_of_expr-requires : goal.type_of_call-type_of_expr-requires
 type_of_call-type_of_expr-requires t c =
     let items = c.args.around.now.checked.now.items.items in
@@ -26,60 +19,55 @@ type_of_call-type_of_expr-requires t c =
     let fall = function_falls items c.args.around.now.rank c.args.name.now c.in-Some-Function.field-0.now c.if-around-eq0.false d _ _ _ _ c.in-Some-Function.field-0-is in
     (search (rules, fall), tt)
 
-pub type_of_call-returns-in-Some-Function : goal.type_of_call-returns-in-Some-Function
-type_of_call-returns-in-Some-Function t c =
+pub type_of_call-returns-in-Ok : goal.type_of_call-returns-in-Ok
+type_of_call-returns-in-Ok t c =
     let items = c.args.around.now.checked.now.items.items in
     let calls = types_of_calls items (c.args.around.now.rank - 1) in
     let d = subst (λ x. IsDefinition items x (Some c.in-Some-Function.field-0.now)) c.bytes.ensures c.in-Some-Function.ensures in
     let e = calls_function items c.args.around.now.rank c.args.name.now c.in-Some-Function.field-0.now c.if-around-eq0.false d c.args.at c.args.given.now _ _ _ _ c.as_slice.result.now c.in-Some-Function.field-0-is c.as_slice.ensures.value in
-    let here = goes_on _ _ _ _ e c.in-Ok.ensures ∙ ap (λ ns. shape (around_types calls []) (types_of ns) c.in-Some-Function.body) (sym c.as_slice-in-Some-Function.ensures.value) in
+    let here = goes_on _ _ _ _ e c.in-Ok.ensures ∙ ap (λ ns. shape (around_types calls []) (types_of ns) c.in-Some-Function.body) (sym c.as_slice-in-Ok.ensures.value) in
     goes_last _ _ _ _ here c.type_of_expr.ensures
+
+pub type_of_call-returns-in-Err : goal.type_of_call-returns-in-Err
+type_of_call-returns-in-Err t c =
+    let items = c.args.around.now.checked.now.items.items in
+    let d = subst (λ x. IsDefinition items x (Some c.in-Some-Function.field-0.now)) c.bytes.ensures c.in-Some-Function.ensures in
+    let e = calls_function items c.args.around.now.rank c.args.name.now c.in-Some-Function.field-0.now c.if-around-eq0.false d c.args.at c.args.given.now _ _ _ _ c.as_slice.result.now c.in-Some-Function.field-0-is c.as_slice.ensures.value in
+    goes_err _ _ _ _ e c.in-Err.ensures
+
+pub type_of_call-type_of_program-requires : goal.type_of_call-type_of_program-requires
+type_of_call-type_of_program-requires t c =
+    let items = c.args.around.now.checked.now.items.items in
+    let d = subst (λ x. IsDefinition items x (Some c.in-Some-Program.field-0.now)) c.bytes.ensures c.in-Some-Program.ensures in
+    let fall = program_falls items c.args.around.now.rank c.args.name.now c.in-Some-Program.field-0.now c.if-around-eq0.false d _ _ _ _ _ _ c.as_slice-in-Ok-with_arguments.result.now c.in-Some-Program.field-0-is c.as_slice-in-Ok-with_arguments.ensures.value in
+    (search (rules, fall), tt)
+
+pub type_of_call-returns-in-Ok-with_arguments : goal.type_of_call-returns-in-Ok-with_arguments
+type_of_call-returns-in-Ok-with_arguments t c =
+    let items = c.args.around.now.checked.now.items.items in
+    let ds = c.as_slice-in-Some-Program.result.now in
+    let d = subst (λ x. IsDefinition items x (Some c.in-Some-Program.field-0.now)) c.bytes.ensures c.in-Some-Program.ensures in
+    let e = calls_program items c.args.around.now.rank c.args.name.now c.in-Some-Program.field-0.now c.if-around-eq0.false d c.args.at c.args.given.now _ _ _ _ _ _ c.as_slice-in-Some-Program-2.result.now ds c.as_slice-in-Ok-with_arguments.result.now c.in-Some-Program.field-0-is c.as_slice-in-Some-Program-2.ensures.value c.as_slice-in-Some-Program.ensures.value c.as_slice-in-Ok-with_arguments.ensures.value in
+    goes_last _ _ _ _ (goes_on _ _ _ _ e c.in-Ok-with_arguments.ensures) c.type_of_program.ensures
 
 pub type_of_call-returns-in-Err-with_arguments : goal.type_of_call-returns-in-Err-with_arguments
 type_of_call-returns-in-Err-with_arguments t c =
     let items = c.args.around.now.checked.now.items.items in
     let d = subst (λ x. IsDefinition items x (Some c.in-Some-Program.field-0.now)) c.bytes.ensures c.in-Some-Program.ensures in
-    let e = calls_program items c.args.around.now.rank c.args.name.now c.in-Some-Program.field-0.now c.if-around-eq0.false d c.args.at c.args.given.now _ _ _ _ _ _ c.as_slice-in-Some-Program.result.now _ _ c.in-Some-Program.field-0-is c.as_slice-in-Some-Program.ensures.value refl refl in
+    let e = calls_program items c.args.around.now.rank c.args.name.now c.in-Some-Program.field-0.now c.if-around-eq0.false d c.args.at c.args.given.now _ _ _ _ _ _ c.as_slice-in-Some-Program-2.result.now _ _ c.in-Some-Program.field-0-is c.as_slice-in-Some-Program-2.ensures.value refl refl in
     goes_err _ _ _ _ e c.in-Err-with_arguments.ensures
 
-pub type_of_call-type_stmts-requires : goal.type_of_call-type_stmts-requires
-type_of_call-type_stmts-requires t c =
-    let items = c.args.around.now.checked.now.items.items in
-    let d = subst (λ x. IsDefinition items x (Some c.in-Some-Program.field-0.now)) c.bytes.ensures c.in-Some-Program.ensures in
-    let fall = program_falls items c.args.around.now.rank c.args.name.now c.in-Some-Program.field-0.now c.if-around-eq0.false d _ _ _ _ _ _ c.as_slice-in-Some-Program-3.result.now c.in-Some-Program.field-0-is c.as_slice-in-Some-Program-3.ensures.value in
-    (search (rules, fall), tt)
-
-pub type_of_call-type_of_expr-requires-in-Ok-type_stmts : goal.type_of_call-type_of_expr-requires-in-Ok-type_stmts
-type_of_call-type_of_expr-requires-in-Ok-type_stmts t c =
-    let items = c.args.around.now.checked.now.items.items in
-    let d = subst (λ x. IsDefinition items x (Some c.in-Some-Program.field-0.now)) c.bytes.ensures c.in-Some-Program.ensures in
-    let fall = value_falls items c.args.around.now.rank c.args.name.now c.in-Some-Program.field-0.now c.if-around-eq0.false d _ _ _ _ _ _ c.in-Some-Program.field-0-is in
-    (search (rules, fall), tt)
-
-pub type_of_call-returns-in-Ok-type_stmts : goal.type_of_call-returns-in-Ok-type_stmts
-type_of_call-returns-in-Ok-type_stmts t c =
-    let items = c.args.around.now.checked.now.items.items in
-    let ds = c.as_slice-in-Some-Program-2.result.now in
-    let A = around_types (types_of_calls items (c.args.around.now.rank - 1)) ds in
-    let d = subst (λ x. IsDefinition items x (Some c.in-Some-Program.field-0.now)) c.bytes.ensures c.in-Some-Program.ensures in
-    let e = calls_program items c.args.around.now.rank c.args.name.now c.in-Some-Program.field-0.now c.if-around-eq0.false d c.args.at c.args.given.now _ _ _ _ _ _ c.as_slice-in-Some-Program.result.now ds c.as_slice-in-Some-Program-3.result.now c.in-Some-Program.field-0-is c.as_slice-in-Some-Program.ensures.value c.as_slice-in-Some-Program-2.ensures.value c.as_slice-in-Some-Program-3.ensures.value in
-    let bound = goes_on _ _ _ _ e c.in-Ok-with_arguments.ensures in
-    let behind = goes_on _ _ _ _ bound c.in-Ok-type_stmts.ensures ∙ ap (λ ns. shape A (types_of ns) c.in-Some-Program.result) (sym c.as_slice-in-Ok-type_stmts.ensures.value) in
-    goes_last _ _ _ _ behind c.type_of_expr-in-Ok-type_stmts.ensures
-
-pub type_of_call-returns-in-Some-Program : goal.type_of_call-returns-in-Some-Program
-type_of_call-returns-in-Some-Program t c =
-    let items = c.args.around.now.checked.now.items.items in
-    let ds = c.as_slice-in-Some-Program-2.result.now in
-    let d = subst (λ x. IsDefinition items x (Some c.in-Some-Program.field-0.now)) c.bytes.ensures c.in-Some-Program.ensures in
-    let e = calls_program items c.args.around.now.rank c.args.name.now c.in-Some-Program.field-0.now c.if-around-eq0.false d c.args.at c.args.given.now _ _ _ _ _ _ c.as_slice-in-Some-Program.result.now ds c.as_slice-in-Some-Program-3.result.now c.in-Some-Program.field-0-is c.as_slice-in-Some-Program.ensures.value c.as_slice-in-Some-Program-2.ensures.value c.as_slice-in-Some-Program-3.ensures.value in
-    goes_err _ _ _ _ (goes_on _ _ _ _ e c.in-Ok-with_arguments.ensures) c.in-Err-type_stmts.ensures
-
-pub type_of_call-returns : goal.type_of_call-returns
-type_of_call-returns t c =
+pub type_of_call-returns-in-None : goal.type_of_call-returns-in-None
+type_of_call-returns-in-None t c =
     let items = c.args.around.now.checked.now.items.items in
     let d = subst (λ x. IsDefinition items x None) c.bytes.ensures c.in-None.ensures in
     goes_not _ _ _ (calls_missing items c.args.around.now.rank c.args.at c.args.name.now c.args.given.now c.if-around-eq0.false d) c.misnamed-in-None.ensures
+
+pub type_of_program-returns-in-Ok : goal.type_of_program-returns-in-Ok
+type_of_program-returns-in-Ok t c =
+    let A = around_of c.args.inside.now in
+    let behind = goes_on (passing (typed_by A c.args.body.now (types_of c.args.parameters.items)) (λ T. shape A T c.args.value.now)) _ _ _ refl c.in-Ok.ensures ∙ ap (λ ns. shape A (types_of ns) c.args.value.now) (sym c.as_slice.ensures.value) in
+    goes_last _ _ _ _ behind c.type_of_expr.ensures
 
 -- ---- chains
 pub type_of_chain-links-init : goal.type_of_chain-links-init

@@ -20,6 +20,9 @@ decreases-type_of_chain l = l.around.now.rank * scale l.around.now.checked.now.i
 abbrev pub decreases-type_of_test : goal.decreases-type_of_test
 decreases-type_of_test l = l.around.now.rank * scale l.around.now.checked.now.items.items + (4 * weight l.expr.now + 1)
 
+abbrev pub decreases-type_of_program : goal.decreases-type_of_program
+decreases-type_of_program l = l.inside.now.rank * scale l.inside.now.checked.now.items.items + (4 * (weight_by l.body.now + weight l.value.now) + 3)
+
 abbrev pub decreases-type_stmt : goal.decreases-type_stmt
 decreases-type_stmt l = l.around.now.rank * scale l.around.now.checked.now.items.items + 4 * weight_stmt l.stmt.now
 

@@ -2,7 +2,7 @@ use Rattle.std.proofs.Common.{◌≡◌, ◌+◌, List, ◌∷◌, length}
 use Rattle.lang_model.specs.Taken.{Carets}
 use Rattle.lang_model.specs.Lexed.{Ending}
 use Rattle.lang_model.specs.Stop.{Part, MoreCarets, stop_of}
-use Rattle.rv_parse.proofs.expr.carets.Given as goal
+use Rattle.rv_parse.proofs.operators.carets.Given as goal
 
 abbrev pub invariant-carets : goal.invariant-carets
 invariant-carets l = record {

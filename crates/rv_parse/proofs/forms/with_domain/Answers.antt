@@ -1,7 +1,7 @@
 use Rattle.std.proofs.Common.{◌∷◌, ◌∙◌, ap, arith, length}
 use Rattle.lang_model.specs.Spelling.{injected}
 use Rattle.lang_model.specs.Stop.{NamePart, SignPart}
-use Rattle.rv_parse.proofs.expr.with_domain.Goals as goal
+use Rattle.rv_parse.proofs.forms.with_domain.Goals as goal
 
 pub returns : goal.returns
 returns c =

@@ -2,7 +2,7 @@ use Rattle.std.proofs.Common.{◌∙◌, ap, subst, sym, arith, add-one, length}
 use Rattle.lang_model.specs.Taken.{Carets}
 use Rattle.rv_parse.proofs.Spelling.{carets_push}
 use Rattle.rv_parse.proofs.Optional.{enter_carets}
-use Rattle.rv_parse.proofs.expr.carets.Goals as goal
+use Rattle.rv_parse.proofs.operators.carets.Goals as goal
 
 pub carets-preserved : goal.carets-preserved
 carets-preserved c = record {
