@@ -1,11 +1,13 @@
 -- The types of names are those of the state that they mean.
-use Rattle.std.proofs.Common.{◌≡◌, ◌<◌, ◌+◌, ◌++◌, ◌∙◌, ◌⊎◌, inl, inr, Err, subst, length, take, get_or, ℕ, Bool, true, false, cond, List, [], ◌∷◌, map, Option, Some, None, refl, sym, ap}
+use Rattle.std.proofs.Common.{◌≡◌, ◌<◌, ◌+◌, ◌++◌, ◌∙◌, ◌⊎◌, inl, inr, Err, subst, length, take, get_or, ℕ, Bool, true, false, cond, List, [], ◌∷◌, map, Option, Some, None, Result, Ok, refl, sym, ap}
 use Rattle.std.proofs.lemmas.List.{take_more}
-use Rattle.std.specs.Prelude.{option_and_then, option_map, IfSome, IsErrOf}
+use Rattle.std.specs.Prelude.{option_and_then, option_map, IfOk, IfSome, IsErrOf}
 use Rattle.rel_model.specs.declared.Rel.{Rel}
-use Rattle.rel_model.specs.Relation.{IsRelation}
+use Rattle.rel_model.specs.Relation.{Relation, IsRelation}
 use Rattle.rel_model.specs.Worker.{Worker, Stands, set_of}
 use Rattle.rel_model.proofs.Workers.{stands_some}
+use Rattle.rel_slices.specs.declared.thin.Value.{Value}
+use Rattle.rel_slices.specs.Thin.{IsLines}
 use Rattle.lang_model.specs.declared.syntax.Place.{Place}
 use Rattle.lang_model.specs.declared.syntax.Expr.{Expr, Ref, Call', Base', Inject, Pair', Minus', Turned', Chain'}
 use Rattle.lang_model.specs.declared.syntax.Script.{Script}
@@ -28,7 +30,7 @@ use Rattle.rv_eval.specs.declared.halt.Halt.{Halt}
 use Rattle.rv_eval.specs.declared.halt.Halt.TheVariants.{Ill as ILL, Lack as LACK}
 use Rattle.rv_eval.specs.declared.halt.Refused.{Refused}
 use Rattle.rv_eval.specs.declared.halt.Refused.TheVariants.{Ill as IllRefused, Size as SizeRefused, Turns as TurnsRefused, Nodes, NoMemory}
-use Rattle.rv_eval.specs.Refusing.{told, told_ill, IsRefusedAhead, IsEvaluated}
+use Rattle.rv_eval.specs.Refusing.{told, told_ill, IsRefusedAhead, IsEvaluatedBy}
 use Rattle.rv_eval.specs.Names.{HasSizes, rel_of, state_of, typed_pair_of, AllStand}
 
 types-pairs : (env : List (List ℕ × Rel)) (n : List ℕ)
@@ -72,6 +74,7 @@ module _ (script : Script) (s : State) (e : Expr) where
   unfolding early_fault
   unknown_first at name m = ap (λ o. first_of_both (option_map (λ x. Unknown x.0 x.1) o) (misfit_of (static_type script (types_in s) e))) m
 
+  -- where no name is unknown, the early fault is the static misfit: the first of the two is the second
   then_misfit : missing s e ≡ None → early_fault script s e ≡ misfit_of (static_type script (types_in s) e)
   unfolding early_fault
   then_misfit m = ap (λ o. first_of_both (option_map (λ x. Unknown x.0 x.1) o) (misfit_of (static_type script (types_in s) e))) m
@@ -122,25 +125,25 @@ halt_ahead early fault h r t (inl i) e = subst (IsRefusedAhead early) (sym (t �
 halt_ahead early fault h r t (inr m) e = subst (IsRefusedAhead early) (sym (t ∙ ap (told 0) m)) tt
 
 -- a full table is no refusal ahead
-pub never_full_ahead : (early : Option TypeFault) (r : Refused) → IsRefusedAhead early r → IsErrOf {T = Rel} (Err r) Nodes → ⊥
+pub never_full_ahead : (early : Option TypeFault) (r : Refused) → IsRefusedAhead early r → IsErrOf {T = Value} (Err r) Nodes → ⊥
 never_full_ahead early (IllRefused own) h e = cc
 never_full_ahead early (SizeRefused at wanted limit) h e = h
 never_full_ahead early (TurnsRefused at limit) h e = h
 never_full_ahead early Nodes h e = h
 never_full_ahead early NoMemory h e = cc
 
-memory_evaluated : (w : Worker) (turns : ℕ) (e : Evaluated) → IsEvaluated w w turns e (Err NoMemory)
-memory_evaluated w turns (Ahead fault) = (tt, refl)
-memory_evaluated w turns (Comes came) = tt
+memory_evaluated : {X : Type 0} (is : X → Relation) (w : Worker) (turns : ℕ) (e : Evaluated) → IsEvaluatedBy is w w turns e (Err NoMemory)
+memory_evaluated is w turns (Ahead fault) = (tt, refl)
+memory_evaluated is w turns (Comes came) = tt
 
 -- what is refused ahead is evaluated so
 module _ (script : Script) (s : State) (e : Expr) (w : Worker) (turns : ℕ) where
-  pub ahead_evaluated : (r : Refused) → IsRefusedAhead (early_fault script s e) r → IsEvaluated w w turns (evaluated script s e turns) (Err r)
-  ahead_evaluated (IllRefused own) h = subst (λ x. IsEvaluated w w turns x (Err (IllRefused own))) (sym (early_evaluated script s e turns own h)) (refl, refl)
-  ahead_evaluated (SizeRefused at wanted limit) h = absurd h
-  ahead_evaluated (TurnsRefused at limit) h = absurd h
-  ahead_evaluated Nodes h = absurd h
-  ahead_evaluated NoMemory h = memory_evaluated w turns (evaluated script s e turns)
+  pub ahead_evaluated : {X : Type 0} (is : X → Relation) (r : Refused) → IsRefusedAhead (early_fault script s e) r → IsEvaluatedBy is w w turns (evaluated script s e turns) (Err r)
+  ahead_evaluated is (IllRefused own) h = subst (λ x. IsEvaluatedBy is w w turns x (Err (IllRefused own))) (sym (early_evaluated script s e turns own h)) (refl, refl)
+  ahead_evaluated is (SizeRefused at wanted limit) h = absurd h
+  ahead_evaluated is (TurnsRefused at limit) h = absurd h
+  ahead_evaluated is Nodes h = absurd h
+  ahead_evaluated is NoMemory h = memory_evaluated is w turns (evaluated script s e turns)
 
 -- ---- names are calm, and what names have are relations
 calm_itself : (at : Place) (name : List ℕ) → calmed (tree_of (Ref at name)) ≡ tree_of (Ref at name)
@@ -160,6 +163,11 @@ compound_unless_name (Pair' at p left q right) h = tt
 compound_unless_name (Minus' at p of) h = tt
 compound_unless_name (Turned' at p of times) h = tt
 compound_unless_name (Chain' p first sh rest) h = tt
+
+-- so a value of such an expression may be lines
+pub any_lines : (r : Result Value Refused) (e : Expr) → IsCompound e → IfOk r (λ v. IsLines v → IsCompound e)
+any_lines (Ok v) e h = λ l. h
+any_lines (Err x) e h = tt
 
 pub are_relations : (w : Worker) (env : List (List ℕ × Rel)) → ((r : Rel) → Stands w r → IsRelation (set_of w r)) → AllStand w env → AreRelations (state_of w env)
 are_relations w env valid s name = at (rel_of env name) (s name)

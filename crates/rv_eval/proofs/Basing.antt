@@ -6,22 +6,59 @@ use Rattle.lang_model.specs.declared.syntax.Base.TheVariants.{L, O, I, Ln1, On1,
 use Rattle.lang_model.specs.declared.syntax.Base.TheVariants.{Less, Hasse, Quot, Syq, Eq, Incl, Ubd, Lbd, Least, Greatest, Sup, Inf}
 use Rattle.lang_model.specs.declared.faults.TypeFault.TheVariants.{Mismatch}
 use Rattle.rel_model.specs.Relation.{Relation}
+use Rattle.rel_model.specs.Algebra.{HasType}
 use Rattle.rel_model.specs.Operators.{empty}
 use Rattle.rel_model.specs.Worker.{Worker, Keeps}
 use Rattle.rel_slices.specs.declared.thin.Value.{Value}
 use Rattle.rel_slices.specs.Thin.{value_of}
 use Rattle.rel_values.specs.Values.{owed}
 use Rattle.lang_model.specs.Rooms.{plain_cost}
-use Rattle.lang_model.specs.Outcomes.{Cost, no_cost, Ill, Makes, Refuses, with_turns}
+use Rattle.lang_model.specs.Outcomes.{Cost, no_cost, Ill, Operation, Makes, Refuses, with_turns}
 use Rattle.lang_model.specs.BaseNames.{base_text}
-use Rattle.lang_model.specs.Types.{Fits, Misfit, known, sizes}
+use Rattle.lang_model.specs.declared.faults.StaticShape.{StaticShape}
+use Rattle.lang_model.specs.Types.{Fits, Misfit, known, sizes, squared, square, vector}
 use Rattle.lang_model.specs.Mean.{fitting, based, answer_of_test, is_within}
 use Rattle.rv_eval.specs.declared.halt.Halt.{Halt}
 use Rattle.rv_eval.specs.declared.bases.Demand.TheVariants.{Nothing, Square, OneColumn}
 use Rattle.rv_eval.specs.Demands.{demanded}
 use Rattle.rv_eval.specs.Ends.{EndsOnce}
 use Rattle.rv_eval.proofs.Going.{goes_last}
-use Rattle.rv_eval.proofs.Operating.{same_type}
+use Rattle.rv_eval.proofs.Operating.{same_type, by_sizes, square_fits, side_fits, vector_fits}
+
+-- ---- the case that a call is of
+pub base_as : (at : Place) (R : Relation) {base same : Base} {o : Operation} → base ≡ same
+    → based at same (R ∷ []) ≡ o → based at base (R ∷ []) ≡ o
+base_as at R is made = ap (λ b. based at b (R ∷ [])) is ∙ made
+
+pub both_as : (at : Place) (R S : Relation) {base same : Base} → base ≡ same
+    → based at base (R ∷ S ∷ []) ≡ based at same (R ∷ S ∷ [])
+both_as at R S is = ap (λ b. based at b (R ∷ S ∷ [])) is
+
+-- by the sizes that the code has
+pub base_is : (at : Place) {base same : Base} {R : Relation} {m n : ℕ} (F : Relation → ℕ → ℕ → Operation)
+    → HasType m n R → base ≡ same → based at same (R ∷ []) ≡ F R R.rows R.cols → based at base (R ∷ []) ≡ F R m n
+base_is at {R = R} F t is made = base_as at R is (made ∙ by_sizes at t (F R))
+
+-- the same where the operand is tested, and square
+pub square_is : (at : Place) {base : Base} (same : Base) {R : Relation} {m n : ℕ} (F : Relation → ℕ → ℕ → Operation)
+    → HasType m n R → m ≡ n → base ≡ same
+    → based at same (R ∷ []) ≡ fitting (square at same (sizes R)) (F R R.rows R.cols)
+    → based at base (R ∷ []) ≡ F R m n
+square_is at same {R = R} F t e is made = base_as at R is (made ∙ square_fits at t same (F R) e)
+
+-- the same of a result that has the side of the operand as rows alone
+pub side_is : (at : Place) {base : Base} (same : Base) {R : Relation} {m n : ℕ} (type : StaticShape)
+    (F : Relation → ℕ → ℕ → Operation) → HasType m n R → m ≡ n → base ≡ same
+    → based at same (R ∷ []) ≡ fitting (squared at same (sizes R) (Fits type)) (F R R.rows R.cols)
+    → based at base (R ∷ []) ≡ F R m n
+side_is at same {R = R} type F t e is made = base_as at R is (made ∙ side_fits at t same type (F R) e)
+
+-- or a vector
+pub vector_is : (at : Place) {base : Base} (same : Base) {R : Relation} {m n : ℕ} (type : StaticShape)
+    (F : Relation → ℕ → ℕ → Operation) → HasType m n R → n ≡ 1 → base ≡ same
+    → based at same (R ∷ []) ≡ fitting (vector at same (sizes R) type) (F R R.rows R.cols)
+    → based at base (R ∷ []) ≡ F R m n
+vector_is at same {R = R} type F t one is made = base_as at R is (made ∙ vector_fits at t same type (F R) one)
 
 -- ---- the last case of each kind
 pub last_square : (base : Base) → demanded base ≡ Square → base ≢ I → base ≢ Trans → base ≢ Less → base ≢ Hasse → base ≢ Quot → base ≡ Refl
@@ -38,6 +75,7 @@ last_square Next d a b l h q = absurd (let x : OneColumn ≡ Square = d in cc)
 last_square Inj d a b l h q = absurd (let x : OneColumn ≡ Square = d in cc)
 last_square base d a b l h q = absurd (let x : Nothing ≡ Square = d in cc)
 
+-- of the base calls of one vector, those with a size of their own left out, only the injection is left
 pub last_vector : (base : Base) → demanded base ≡ OneColumn → base ≢ Epsi → base ≢ Point → base ≢ Init → base ≢ Next → base ≡ Inj
 last_vector Epsi d a b e f = absurd (a refl)
 last_vector Point d a b e f = absurd (b refl)
@@ -81,6 +119,7 @@ other_base at Next r d l o m n p q f g h i j = absurd (let x : OneColumn ≡ Not
 other_base at Inj r d l o m n p q f g h i j = absurd (let x : OneColumn ≡ Nothing = d in cc)
 other_base at base r d l o m n p q f g h i j = refl
 
+-- no other base name takes two operands: such a call, which no text spells, makes the relation without a row
 pub other_two : (at : Place) (base : Base) (r s : Relation) → base ≢ Syq → base ≢ Eq → base ≢ Incl
     → base ≢ Ubd → base ≢ Lbd → base ≢ Least → base ≢ Greatest → base ≢ Sup → base ≢ Inf
     → based at base (r ∷ s ∷ []) ≡ Makes (empty 0 0) no_cost
@@ -104,43 +143,43 @@ other_count at base (r ∷ s ∷ []) a b = absurd (b refl)
 other_count at base (r ∷ s ∷ t ∷ ts) a b = refl
 
 -- ---- two operands of one type
-module _ (at : Place) (R S : Relation) (m n p q : ℕ) (rm : R.rows ≡ m) (rn : R.cols ≡ n) (sm : S.rows ≡ p) (sn : S.cols ≡ q) where
+module _ (at : Place) {R S : Relation} {m n p q : ℕ} (t : HasType m n R) (u : HasType p q S) where
   tested_both : (b : Bool) → ((m == p) && (n == q)) ≡ b → ((R.rows == S.rows) && (R.cols == S.cols)) ≡ b
   tested_both b e =
-      ap (λ x. (x == S.rows) && (R.cols == S.cols)) rm ∙ ap (λ x. (m == x) && (R.cols == S.cols)) sm
-      ∙ ap (λ x. (m == p) && (x == S.cols)) rn ∙ ap (λ x. (m == p) && (n == x)) sn ∙ e
+      ap (λ x. (x == S.rows) && (R.cols == S.cols)) t.row_size ∙ ap (λ x. (m == x) && (R.cols == S.cols)) u.row_size
+      ∙ ap (λ x. (m == p) && (x == S.cols)) t.col_size ∙ ap (λ x. (m == p) && (n == x)) u.col_size ∙ e
 
   pub eq_fits : ((m == p) && (n == q)) ≡ true
       → based at Eq (R ∷ S ∷ []) ≡ Makes (answer_of_test (is_within R S && is_within S R)) (plain_cost m n)
   unfolding based
   eq_fits e =
       ap (λ b. fitting (cond b (Fits (known 1 1)) (Misfit (Mismatch at (base_text Eq) (sizes R) (sizes S)))) (Makes (answer_of_test (is_within R S && is_within S R)) (plain_cost R.rows R.cols))) (tested_both true e)
-      ∙ ap (λ k. Makes (answer_of_test (is_within R S && is_within S R)) (plain_cost k R.cols)) rm
-      ∙ ap (λ k. Makes (answer_of_test (is_within R S && is_within S R)) (plain_cost m k)) rn
+      ∙ ap (λ k. Makes (answer_of_test (is_within R S && is_within S R)) (plain_cost k R.cols)) t.row_size
+      ∙ ap (λ k. Makes (answer_of_test (is_within R S && is_within S R)) (plain_cost m k)) t.col_size
 
   pub eq_misfit : ((m == p) && (n == q)) ≡ false
       → based at Eq (R ∷ S ∷ []) ≡ Refuses (Ill (Mismatch at (base_text Eq) (known m n) (known p q)))
   unfolding based
   eq_misfit e =
       ap (λ b. fitting (cond b (Fits (known 1 1)) (Misfit (Mismatch at (base_text Eq) (sizes R) (sizes S)))) (Makes (answer_of_test (is_within R S && is_within S R)) (plain_cost R.rows R.cols))) (tested_both false e)
-      ∙ ap (λ x. Refuses (Ill (Mismatch at (base_text Eq) x (sizes S)))) (same_type R m n rm rn)
-      ∙ ap (λ x. Refuses (Ill (Mismatch at (base_text Eq) (known m n) x))) (same_type S p q sm sn)
+      ∙ ap (λ x. Refuses (Ill (Mismatch at (base_text Eq) x (sizes S)))) (same_type R m n t.row_size t.col_size)
+      ∙ ap (λ x. Refuses (Ill (Mismatch at (base_text Eq) (known m n) x))) (same_type S p q u.row_size u.col_size)
 
   pub incl_fits : ((m == p) && (n == q)) ≡ true
       → based at Incl (R ∷ S ∷ []) ≡ Makes (answer_of_test (is_within R S)) (plain_cost m n)
   unfolding based
   incl_fits e =
       ap (λ b. fitting (cond b (Fits (known 1 1)) (Misfit (Mismatch at (base_text Incl) (sizes R) (sizes S)))) (Makes (answer_of_test (is_within R S)) (plain_cost R.rows R.cols))) (tested_both true e)
-      ∙ ap (λ k. Makes (answer_of_test (is_within R S)) (plain_cost k R.cols)) rm
-      ∙ ap (λ k. Makes (answer_of_test (is_within R S)) (plain_cost m k)) rn
+      ∙ ap (λ k. Makes (answer_of_test (is_within R S)) (plain_cost k R.cols)) t.row_size
+      ∙ ap (λ k. Makes (answer_of_test (is_within R S)) (plain_cost m k)) t.col_size
 
   pub incl_misfit : ((m == p) && (n == q)) ≡ false
       → based at Incl (R ∷ S ∷ []) ≡ Refuses (Ill (Mismatch at (base_text Incl) (known m n) (known p q)))
   unfolding based
   incl_misfit e =
       ap (λ b. fitting (cond b (Fits (known 1 1)) (Misfit (Mismatch at (base_text Incl) (sizes R) (sizes S)))) (Makes (answer_of_test (is_within R S)) (plain_cost R.rows R.cols))) (tested_both false e)
-      ∙ ap (λ x. Refuses (Ill (Mismatch at (base_text Incl) x (sizes S)))) (same_type R m n rm rn)
-      ∙ ap (λ x. Refuses (Ill (Mismatch at (base_text Incl) (known m n) x))) (same_type S p q sm sn)
+      ∙ ap (λ x. Refuses (Ill (Mismatch at (base_text Incl) x (sizes S)))) (same_type R m n t.row_size t.col_size)
+      ∙ ap (λ x. Refuses (Ill (Mismatch at (base_text Incl) (known m n) x))) (same_type S p q u.row_size u.col_size)
 
 -- a second operation after a first that made no more than its cost
 pub after_made : {leaf : ℕ} (old mid new : Worker) (value : Relation) (c d : Cost) (r : Result Value Halt) → Keeps old mid → mid.made ≤ old.made + c leaf

@@ -1,5 +1,6 @@
 -- Base calls of bounds and of extremes: the tests of their operands, one after the other, and what they cost.
 use Rattle.std.proofs.Common.{◌≡◌, ◌≢◌, ◌≤◌, ◌==◌, ◌∙◌, ℕ, Bool, true, false, cond, [], ◌∷◌, refl, ap, arith, Some}
+use Rattle.rel_model.specs.Algebra.{HasType}
 use Rattle.rel_model.specs.Relation.{Relation}
 use Rattle.rel_model.specs.Worker.{derived_room, wide_room, classes_room}
 use Rattle.rel_model.proofs.Rooms.{wide_room-four, classes_room-sixteen}
@@ -60,7 +61,7 @@ by_bounds at Sup r s h = refl
 by_bounds at Inf r s h = refl
 by_bounds at base r s h = absurd (let x : false ≡ true = h in cc)
 
-module _ (at : Place) (R S : Relation) (m n p q : ℕ) (rm : R.rows ≡ m) (rn : R.cols ≡ n) (sm : S.rows ≡ p) (sn : S.cols ≡ q) where
+module _ (at : Place) {R S : Relation} {m n p q : ℕ} (t : HasType m n R) (u : HasType p q S) where
   -- what comes of the tests with these answers
   abbrev tested : Base → Bool → Bool → Operation → Operation
   tested base square rows made =
@@ -69,10 +70,10 @@ module _ (at : Place) (R S : Relation) (m n p q : ℕ) (rm : R.rows ≡ m) (rn :
       (Misfit (NotSquare at (base_text base) (sizes R)))) made
 
   squares : (b : Bool) → (m == n) ≡ b → (R.rows == R.cols) ≡ b
-  squares b e = ap (λ x. x == R.cols) rm ∙ ap (λ x. m == x) rn ∙ e
+  squares b e = ap (λ x. x == R.cols) t.row_size ∙ ap (λ x. m == x) t.col_size ∙ e
 
   same_rows : (b : Bool) → (m == p) ≡ b → (R.rows == S.rows) ≡ b
-  same_rows b e = ap (λ x. x == S.rows) rm ∙ ap (λ x. m == x) sm ∙ e
+  same_rows b e = ap (λ x. x == S.rows) t.row_size ∙ ap (λ x. m == x) u.row_size ∙ e
 
   with_tests : (base : Base) (b c : Bool) → bounds base ≡ true → (R.rows == R.cols) ≡ b
       → (R.rows == S.rows) ≡ c
@@ -91,11 +92,11 @@ module _ (at : Place) (R S : Relation) (m n p q : ℕ) (rm : R.rows ≡ m) (rn :
       → based at base (R ∷ S ∷ []) ≡ Refuses (Ill (NotSquare at (base_text base) (known m n)))
   no_square_bounds base h e =
       with_tests base false (R.rows == S.rows) h (squares false (unequal_sizes m n e)) refl
-      ∙ ap (λ x. Refuses (Ill (NotSquare at (base_text base) x))) (same_type R m n rm rn)
+      ∙ ap (λ x. Refuses (Ill (NotSquare at (base_text base) x))) (same_type R m n t.row_size t.col_size)
 
   pub other_rows_bounds : (base : Base) → bounds base ≡ true → m ≡ n → m ≢ p
       → based at base (R ∷ S ∷ []) ≡ Refuses (Ill (Mismatch at (base_text base) (known m n) (known p q)))
   other_rows_bounds base h e f =
       with_tests base true false h (squares true (equal_sizes m n e)) (same_rows false (unequal_sizes m p f))
-      ∙ ap (λ x. Refuses (Ill (Mismatch at (base_text base) x (sizes S)))) (same_type R m n rm rn)
-      ∙ ap (λ x. Refuses (Ill (Mismatch at (base_text base) (known m n) x))) (same_type S p q sm sn)
+      ∙ ap (λ x. Refuses (Ill (Mismatch at (base_text base) x (sizes S)))) (same_type R m n t.row_size t.col_size)
+      ∙ ap (λ x. Refuses (Ill (Mismatch at (base_text base) (known m n) x))) (same_type S p q u.row_size u.col_size)

@@ -1,5 +1,5 @@
 -- Calls of definitions: what the found item means, and that its body weighs less than one rank.
-use Rattle.std.proofs.Common.{◌≡◌, ◌≢◌, ◌<◌, ◌≤◌, ◌+◌, ◌*◌, ◌-◌, ◌==◌, ◌∙◌, ◌⊎◌, inl, inr, Err, ℕ, zero, suc, true, false, cond, List, [], ◌∷◌, length, map, Some, None, refl, sym, ap, arith}
+use Rattle.std.proofs.Common.{◌≡◌, ◌≢◌, ◌<◌, ◌≤◌, ◌+◌, ◌*◌, ◌-◌, ◌==◌, ◌∙◌, ◌⊎◌, inl, inr, Err, ℕ, zero, suc, true, false, cond, List, [], ◌∷◌, length, map, Option, Some, None, refl, sym, ap, subst, arith}
 use Rattle.std.proofs.lemmas.Bool.Decides.{nat_tests}
 use Rattle.std.specs.List.{AllByRecursion}
 use Rattle.rel_slices.specs.declared.thin.Value.{Value}
@@ -11,7 +11,7 @@ use Rattle.rel_model.specs.declared.Lack.TheVariants.{NoMemory}
 use Rattle.rel_model.specs.Relation.{Relation}
 use Rattle.rel_model.specs.Worker.{Worker}
 use Rattle.rel_slices.specs.Thin.{value_of}
-use Rattle.rel_values.specs.Values.{Fits}
+use Rattle.rel_values.specs.Values.{Fits, owed}
 use Rattle.lang_model.specs.Defining.{defines}
 use Rattle.rv_types.specs.Defining.{IsDefinition}
 use Rattle.rv_eval.specs.declared.halt.Halt.{Halt}
@@ -20,9 +20,10 @@ use Rattle.rv_eval.specs.Ends.{Ends}
 use Rattle.rv_eval.proofs.Going.{refuses, lacks}
 use Rattle.lang_model.specs.Outcomes.{Ill, refused, and_then}
 use Rattle.rv_eval.specs.Names.{beside}
-use Rattle.rv_eval.specs.Values.{state_by}
+use Rattle.rv_eval.specs.Values.{state_by, names_owe, values_owe}
 use Rattle.lang_model.specs.Mean.{around_with, mean, run_by, bound, item_named, takes_arguments, body_of, called, calls_within}
 use Rattle.rv_eval.proofs.Fitting.{state_bound}
+use Rattle.rv_eval.proofs.Owing.{most-beside}
 use Rattle.rv_eval.proofs.Unfolding.{item_found, item_missing}
 use Rattle.lang_model.proofs.Weights.{weight, weight_by, weight_of_item, scale, below_scale, rank_falls}
 
@@ -32,6 +33,19 @@ same_length f (x ∷ xs) = ap suc (same_length f xs)
 
 pub equal_passes : (m n : ℕ) → m ≡ n → (m == n) ≡ true
 equal_passes m n e = grind (arith, nat_tests, e)
+
+-- what is found under a name that is read is what is defined
+pub defined : (items : List Item) {read name : List ℕ} (item : Option Item) → read ≡ name → IsDefinition items read item
+    → IsDefinition items name item
+defined items item e d = subst (λ x. IsDefinition items x item) e d
+
+-- what parameters are bound to owes no more than the arguments
+pub beside_owe : (least : ℕ) (names : List (List ℕ × Value)) (ps : List (List ℕ)) (vs : List Value) → names ≡ beside ps vs
+    → names_owe least names ≤ values_owe least vs
+beside_owe least names ps vs e =
+    let same = ap (names_owe least) e in
+    let less = most-beside (owed least) ps vs in
+    omega (arith, same, less)
 
 definition_found : (items : List Item) (name : List ℕ) (item : Item) → IsDefinition items name (Some item) → item_named items name ≡ Some item
 definition_found items name item d = ap (λ xs. item_named xs name) d.2 ∙ item_found name d.0 d.1 item d.4 d.3
@@ -71,15 +85,12 @@ module _ (items : List Item) (rank : ℕ) (name : List ℕ) (item : Item) (h : r
       let w : weight_of_item item ≡ weight body = ap weight_of_item e in
       rank_falls rank (scale items) (4 * weight body) h (omega (arith, below, w))
 
-  pub program_falls : (at : _) (own : _) (params : _) (decls : _) (body : _) (result : _) → item ≡ Program at own params decls body result → (rank - 1) * scale items + (4 * weight_by body.items + 2) < rank * scale items
-  program_falls at own params decls body result e =
+  pub program_falls : (at : _) (own : _) (params : _) (decls : _) (body : _) (result : _) (ss : _) → item ≡ Program at own params decls body result → ss ≡ body.items
+      → (rank - 1) * scale items + (4 * (weight_by ss + weight result) + 3) < rank * scale items
+  program_falls at own params decls body result ss e read =
       let w : weight_of_item item ≡ weight_by body.items + weight result = ap weight_of_item e in
-      rank_falls rank (scale items) (4 * weight_by body.items + 2) h (omega (arith, below, w))
-
-  pub result_falls : (at : _) (own : _) (params : _) (decls : _) (body : _) (result : _) → item ≡ Program at own params decls body result → (rank - 1) * scale items + 4 * weight result < rank * scale items
-  result_falls at own params decls body result e =
-      let w : weight_of_item item ≡ weight_by body.items + weight result = ap weight_of_item e in
-      rank_falls rank (scale items) (4 * weight result) h (omega (arith, below, w))
+      let same : weight_by ss ≡ weight_by body.items = ap weight_by read in
+      rank_falls rank (scale items) (4 * (weight_by ss + weight result) + 3) h (omega (arith, below, w, same))
 
   module _ (place : Place) (w : Worker) (ps : List (List ℕ)) (vs : List Value) (names : List (List ℕ × Value)) (n : ℕ) (many : length ps ≡ length vs) (beside_them : names ≡ beside ps vs) (stand : AllByRecursion (Fits w) vs) where
     same_state : state_by w names ≡ bound ps (map (value_of w) vs)

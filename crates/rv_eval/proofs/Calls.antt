@@ -31,7 +31,8 @@ use Rattle.rv_types.proofs.Naming.{or_known, definition_of-push}
 use Rattle.rv_types.proofs.Scoping.{faults_of_parts, command_faults-parts, command_faults-value}
 use Rattle.lang_model.specs.declared.syntax.Let.{Let as LetOf}
 use Rattle.rv_eval.specs.Faultless.{IsOfLets, IsExpressionOf, NoCallIsIll}
-use Rattle.rv_eval.proofs.Faultless.{Good, Any, left_none, right_none, no_fault_left, domain-good, program-good, function-good, command-good}
+use Rattle.rv_eval.proofs.BySizes.{Good, Any, left_none, right_none, no_fault_left, domain-good}
+use Rattle.rv_eval.proofs.Faultless.{program-good, function-good, command-good}
 
 -- ---- definitions that stand earlier
 -- the definitions behind items
@@ -260,6 +261,8 @@ rank-low at own r h = by (nat_lt rank_limit r) refl h
     by false e h = grind (arith, nat_tests, e)
 
 module _ (items : List Item) (faultless : items_faults [] items ≡ []) where
+  -- a call within a rank has an answer in a script without a fault, by induction on the rank: the definition is
+  -- found, takes as many arguments, and what it calls has a lower rank
   calls-good : (R : ℕ) (before behind : List Item) → items ≡ before ++ behind → CallsGood (known_of [] before) (calls_within items R) R
   calls-good zero before behind e at name values n d h t r =
       let f = found before name d h in

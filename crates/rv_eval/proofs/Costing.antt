@@ -28,7 +28,7 @@ plain_within leaf a b rows cols x y =
     {j = max (height_of rows) (height_of cols)} (omega (arith, x, y)) in
     omega (arith, p)
 
--- one on a column, on a row, and on a cell
+-- one on a column and on a row
 pub column_plain : (leaf rows cols : ℕ) → plain_room rows 1 ≤ plain_cost rows cols leaf
 column_plain leaf rows cols = let e = height_one in
     plain_within leaf rows 1 rows cols (omega arith) (omega (arith, e))
@@ -41,11 +41,6 @@ row_plain leaf rows cols = let e = height_one in
 pub test_plain : (leaf rows cols : ℕ) → operator_room rows cols + operator_room 1 1 ≤ plain_cost rows cols leaf
 unfolding plain_cost
 test_plain leaf rows cols = plain_room-cell rows cols
-
-pub cell_plain : (leaf rows cols : ℕ) → operator_room 1 1 ≤ plain_cost rows cols leaf
-cell_plain leaf rows cols =
-    let p = test_plain leaf rows cols in
-    omega (arith, p)
 
 -- ---- by equal sizes
 pub plain_of : (leaf m n x y : ℕ) → x ≡ m → y ≡ n → plain_room m n ≤ plain_cost x y leaf

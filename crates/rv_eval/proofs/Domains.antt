@@ -6,6 +6,7 @@ use Rattle.lang_model.specs.declared.syntax.Place.{Place}
 use Rattle.rel_model.specs.declared.faults.DomainError.{DomainError}
 use Rattle.rel_model.specs.declared.faults.DomainError.TheVariants.{Size as DOMAIN_SIZE, Full as DOMAIN_FULL, NoMemory as DOMAIN_NO_MEMORY}
 use Rattle.lang_model.specs.declared.faults.TypeFault.TheVariants.{Mismatch}
+use Rattle.rel_model.specs.Algebra.{HasType}
 use Rattle.rel_model.specs.Relation.{Relation, size_limit}
 use Rattle.rel_model.specs.Worker.{Worker, Stands, Gives, Keeps}
 use Rattle.rel_slices.specs.declared.thin.Value.{Value}
@@ -44,6 +45,8 @@ module _ (old new : Worker) (lean : Bool) (at : Place) {leaf : ℕ} (m n wanted 
   at_within : (r : Result Value Halt) → wanted ≤ size_limit → EndsOnce leaf old new (Makes value cost) r → EndsOnce leaf old new (limited at wanted (Makes value cost)) r
   at_within r h e = subst (λ o. EndsOnce leaf old new o r) (sym (limited_within at wanted (Makes value cost) h)) e
 
+  -- an operation that may be too large ends as its limited form does: within the limit as it answers, over it
+  -- with the size that was wanted, and nothing made
   pub domain_ends : (given : Result Value DomainError) → OperatesWithin leaf lean old new m n value room wanted given → EndsOnce leaf old new (limited at wanted (Makes value cost)) (domain_lifted at given)
   domain_ends (Ok v) o =
       let l = limits_of_fit new v row_limit col_limit o.value.stands in
@@ -103,34 +106,34 @@ whole_within {leaf = leaf} old new lean m n room wanted value given whole e = by
       cause = record { size = c.size; full = λ h. c.full (same_refusal x DOMAIN_FULL h); no_memory = λ l h. c.no_memory l (same_refusal x DOMAIN_NO_MEMORY h); done = tt; wanting = λ h. c.wanting (same_refusal x DOMAIN_NO_MEMORY h); over = c.over };
     })
 
-module _ (at : Place) (R S : Relation) (m n p q : ℕ) (rm : R.rows ≡ m) (rn : R.cols ≡ n) (sm : S.rows ≡ p) (sn : S.cols ≡ q) where
+module _ (at : Place) {R S : Relation} {m n p q : ℕ} (t : HasType m n R) (u : HasType p q S) where
   tested_rows : (b : Bool) → (m == p) ≡ b → (R.rows == S.rows) ≡ b
-  tested_rows b e = ap (λ x. x == S.rows) rm ∙ ap (λ x. m == x) sm ∙ e
+  tested_rows b e = ap (λ x. x == S.rows) t.row_size ∙ ap (λ x. m == x) u.row_size ∙ e
 
   pub pair_fits : m ≡ p → paired at R S ≡ limited at (n * q) (Makes (pairing R S) (wide_cost m (max n q) (n * q)))
   unfolding paired
   pair_fits e =
       ap (λ b. fitting (cond b (Fits (type_of (Some R.rows) (computed_of_two (λ m p. m * p) (Some R.cols) (Some S.cols)))) (Misfit (Mismatch at (codes "[") (sizes R) (sizes S)))) (limited at (R.cols * S.cols) (Makes (pairing R S) (wide_cost R.rows (max R.cols S.cols) (R.cols * S.cols))))) (tested_rows true (equal_sizes m p e))
-      ∙ ap (λ k. limited at (k * S.cols) (Makes (pairing R S) (wide_cost R.rows (max k S.cols) (k * S.cols)))) rn ∙ ap (λ k. limited at (n * k) (Makes (pairing R S) (wide_cost R.rows (max n k) (n * k)))) sn
-      ∙ ap (λ k. limited at (n * q) (Makes (pairing R S) (wide_cost k (max n q) (n * q)))) rm
+      ∙ ap (λ k. limited at (k * S.cols) (Makes (pairing R S) (wide_cost R.rows (max k S.cols) (k * S.cols)))) t.col_size ∙ ap (λ k. limited at (n * k) (Makes (pairing R S) (wide_cost R.rows (max n k) (n * k)))) u.col_size
+      ∙ ap (λ k. limited at (n * q) (Makes (pairing R S) (wide_cost k (max n q) (n * q)))) t.row_size
 
   pub pair_misfit : (m == p) ≡ false → paired at R S ≡ Refuses (Ill (Mismatch at (codes "[") (known m n) (known p q)))
   unfolding paired
   pair_misfit e =
       ap (λ b. fitting (cond b (Fits (type_of (Some R.rows) (computed_of_two (λ m p. m * p) (Some R.cols) (Some S.cols)))) (Misfit (Mismatch at (codes "[") (sizes R) (sizes S)))) (limited at (R.cols * S.cols) (Makes (pairing R S) (wide_cost R.rows (max R.cols S.cols) (R.cols * S.cols))))) (tested_rows false e)
-      ∙ ap (λ x. Refuses (Ill (Mismatch at (codes "[") x (sizes S)))) (same_type R m n rm rn) ∙ ap (λ x. Refuses (Ill (Mismatch at (codes "[") (known m n) x))) (same_type S p q sm sn)
+      ∙ ap (λ x. Refuses (Ill (Mismatch at (codes "[") x (sizes S)))) (same_type R m n t.row_size t.col_size) ∙ ap (λ x. Refuses (Ill (Mismatch at (codes "[") (known m n) x))) (same_type S p q u.row_size u.col_size)
 
   pub syq_fits : m ≡ p → based at Syq (R ∷ S ∷ []) ≡ Makes (symmetric_quotient R S) (wide_cost m n q)
   unfolding based
   syq_fits e =
       ap (λ b. fitting (cond b (Fits (type_of (Some R.cols) (Some S.cols))) (Misfit (Mismatch at (base_text Syq) (sizes R) (sizes S)))) (Makes (symmetric_quotient R S) (wide_cost R.rows R.cols S.cols))) (tested_rows true (equal_sizes m p e))
-      ∙ ap (λ k. Makes (symmetric_quotient R S) (wide_cost k R.cols S.cols)) rm ∙ ap (λ k. Makes (symmetric_quotient R S) (wide_cost m k S.cols)) rn ∙ ap (λ k. Makes (symmetric_quotient R S) (wide_cost m n k)) sn
+      ∙ ap (λ k. Makes (symmetric_quotient R S) (wide_cost k R.cols S.cols)) t.row_size ∙ ap (λ k. Makes (symmetric_quotient R S) (wide_cost m k S.cols)) t.col_size ∙ ap (λ k. Makes (symmetric_quotient R S) (wide_cost m n k)) u.col_size
 
   pub syq_misfit : m ≢ p → based at Syq (R ∷ S ∷ []) ≡ Refuses (Ill (Mismatch at (base_text Syq) (known m n) (known p q)))
   unfolding based
   syq_misfit e =
       ap (λ b. fitting (cond b (Fits (type_of (Some R.cols) (Some S.cols))) (Misfit (Mismatch at (base_text Syq) (sizes R) (sizes S)))) (Makes (symmetric_quotient R S) (wide_cost R.rows R.cols S.cols))) (tested_rows false (unequal_sizes m p e))
-      ∙ ap (λ x. Refuses (Ill (Mismatch at (base_text Syq) x (sizes S)))) (same_type R m n rm rn) ∙ ap (λ x. Refuses (Ill (Mismatch at (base_text Syq) (known m n) x))) (same_type S p q sm sn)
+      ∙ ap (λ x. Refuses (Ill (Mismatch at (base_text Syq) x (sizes S)))) (same_type R m n t.row_size t.col_size) ∙ ap (λ x. Refuses (Ill (Mismatch at (base_text Syq) (known m n) x))) (same_type S p q u.row_size u.col_size)
 
 pub other_domain : (at : Place) (base : Base) (x y : ℕ) → base ≢ P1 → base ≢ P2 → base ≢ I1 → domain_made at base x y ≡ limited at (x + y) (Makes (right_injection x y) (wide_cost x y (x + y)))
 other_domain at P1 x y a b c = absurd (a refl)

@@ -125,6 +125,8 @@ owed_named h (n ∷ ns) name x e = at (same_text n.0 name) e (λ d. owed_named h
     at true e f = let same : h n.1 ≡ h x = ap h (some_inj e) in omega (arith, same)
     at false e f = let less = f e in omega (arith, less)
 
+-- a look-up of a name ends as the name means: found, it gives the value that owes what the names owe at most;
+-- not found, the name is unknown
 pub ref_ends : (leaf : ℕ) (w : Worker) (names : List (List ℕ × Value)) (at : Place) (name : List ℕ) (n : ℕ) (r : Result Value Halt) → AllFit w names
     → MatchResult r (λ x. first_of names name ≡ Some x) (λ e. (e ≡ LACK NO_MEMORY) ⊎ ((first_of names name ≡ None) × (e ≡ ILL (Unknown at name))))
     → Ends leaf w w n n (names_owe leaf names) (with_turns (named at name (state_by w names name)) n) (value_of w) (owed leaf) r
@@ -199,6 +201,7 @@ whole_got {leaf = leaf} {start = start} old mid new n m came x r z e v k d =
       turns = e.turns;
     }
 
+-- making a value whole that is refused ends the evaluation: what the value owed is within its cost
 pub whole_lacks : {leaf start : ℕ} (old mid new : Worker) (n m : ℕ) (came : Came Relation) (x : Value) (lean : Bool) (lack : Lack) → start ≡ 0 → Ends leaf old mid n m start came (value_of mid) (owed leaf) (Ok x) → HasCause {T = Rel} lean mid new (Err lack)
     → Keeps mid new → new.made ≤ mid.made + owed leaf x → Ends leaf {X = Rel} old new n m 0 came (set_of new) (λ r. 0) (Err (LACK lack))
 whole_lacks {leaf = leaf} {start = start} old mid new n m came x lean lack z e c k d =

@@ -156,6 +156,7 @@ all_halted_timed : {T X : Type 0} (old new : Worker) (n : ℕ) (a : Answer T) (r
 all_halted_timed old new n a (Ok x) c = tt
 all_halted_timed old new n a (Err h) c = halted_timed old new n a h c
 
+-- an operation without turns, evaluated where n turns are left, ends with these n left
 pub ends_timed : {leaf : ℕ} {T X : Type 0} (old new : Worker) (n : ℕ) (came then : Came T) (is : X → T) (owing : X → ℕ) (r : Result X Halt) → then.answer ≡ timed n came.answer → then.cost leaf ≡ came.cost leaf
     → Ends leaf old new 0 0 0 came is owing r → Ends leaf old new n n 0 then is owing r
 ends_timed {leaf = leaf} old new n came then is owing r a c e =
@@ -216,10 +217,3 @@ pub ends_noted : {leaf start owed : ℕ} {T X : Type 0} (old now : Worker) (n m 
 ends_noted old now n m noted total t there (Ok x) o l e g = goes_got old now n m total t (λ y. there) (λ y. noted) x (sym o) g l
 ends_noted {leaf = leaf} {start = start} {X = X} old now n m noted total t there (Err h) o l e g =
     subst (λ x. Ends leaf {X = X} old now n m start total (λ y. there) (λ y. noted) (Err x)) (sym e) (goes_lack old now n m total (got t m) (λ y. there) (λ y. noted) g)
-
--- after a call that only reads
-pub after_reading : {leaf start : ℕ} {T X : Type 0} (old mid new : Worker) (n m : ℕ) (total : Came T) (is : X → T) (owing : X → ℕ) (r : Result X Halt) → Keeps old mid → mid.made ≤ old.made + 0
-    → Ends leaf mid new n m start total is owing r → Ends leaf old new n m start total is owing r
-after_reading {leaf = leaf} {start = start} old mid new n m total is owing r k none e =
-    goes_last {leaf = leaf} {start = start} {owed = start} {begun = start} old mid new n n m total total is owing r
-    (record { spent = 0; same_answer = refl; same_cost = omega arith; keeps = k; room = none; owes = omega (arith, none); turns = omega arith }) e (omega arith)

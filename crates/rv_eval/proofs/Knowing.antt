@@ -167,6 +167,7 @@ module _ (p : Place → Bool) where
   known_side at None (Some y) None h = h
   known_side at None None c h = h
 
+  -- what is known of an operation is known of it under the limit, which only adds a refusal for size
   tells_limited : (at : Place) (wanted : ℕ) (o : Operation) (n : ℕ) → Tells p (with_turns o n).answer → Tells p (with_turns (limited at wanted o) n).answer
   tells_limited at wanted o n h = by (nat_lt size_limit wanted)
     where
@@ -311,6 +312,7 @@ module _ (p : Place → Bool) where
   unfolding turned
   turned-sure times s r n c h e = subst (λ z. Describes z (transposed_by times r)) (fits_same e) (turned_described times s r h)
 
+  -- a test whose static type fits is refused only where its sizes are not known: known sizes are the true ones
   pub tested-tells : (at : Place) (s : StaticShape) (r : Relation) (n : ℕ) (c : StaticShape) → Describes s r → typed_test at s ≡ Fits c → KnownOr p at (s.rows ∷ s.cols ∷ []) → Tells p (tested at r n).answer
   tested-tells at s r n c h e k =
       by (may_be 1 (Some r.rows) && may_be 1 (Some r.cols))
@@ -344,6 +346,7 @@ module _ (p : Place → Bool) where
   domain-tells at I1 x y n = tells_limited at (x + y) (Makes (left_injection x y) (wide_cost x y (x + y))) n tt
   domain-tells at base x y n = tells_limited at (x + y) (Makes (right_injection x y) (wide_cost x y (x + y))) n tt
 
+  -- a domain call tells as much as the call with both relations of its domain, and anything where one is missing
   injected-tells : (S : State) (at : Place) (base : Base) (o : Option (List ℕ × List ℕ)) (n : ℕ) → Tells p (with_turns (injected_by S at base o) n).answer
   injected-tells S at base None n = tt
   injected-tells S at base (Some names) n = by (S names.0) (S names.1)

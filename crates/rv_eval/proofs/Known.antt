@@ -32,6 +32,7 @@ described_more (x ∷ xs) (y ∷ ys) s r h d = (h.0, described_more xs ys s r h.
 extends_trans : (T U V : Types) → Extends T U → Extends U V → Extends T V
 extends_trans T U V x y name s e = y name s (x name s e)
 
+-- a text is the same as itself, sign by sign
 text_self : (xs : List ℕ) → same_text xs xs ≡ true
 text_self [] = refl
 text_self (x ∷ xs) = ap (λ b. b && same_text xs xs) (equal_passes x x refl) ∙ text_self xs
@@ -124,6 +125,8 @@ module _ (p : Place → Bool) (K : CallsKnown) (CT : TypeCalls) (C : Calls) (ds 
       at true f = subst (λ t. CoversAt t (Some r)) (sym (ap U (sym (text_of_test name n (sym f))) ∙ e)) d
       at false f = c n
 
+  -- an assignment keeps names described by their types: a new name by the type of its value, an old one since both
+  -- types agree in what they know
   set-sure : (U : Types) (at : Place) (name : List ℕ) (s : StaticShape) (T T1 : Types) (o : Option StaticShape) → T name ≡ o → set_type at name s T o ≡ Fits T1 → Extends T U → Extends T1 U → (S : State) → Covers U S → (a : Answer Relation) → Sure p Describes s a →
       SureState U (following a (λ r m. got (assigned name r S) m)).answer
   unfolding typed_as
@@ -161,6 +164,7 @@ module _ (p : Place → Bool) (K : CallsKnown) (CT : TypeCalls) (C : Calls) (ds 
   tells-after D s (Got r n) g h k = k r n h
   tells-after D s (Not why) g h k = h
 
+  -- a test in a loop or an IF tells as its expression does: its type is the one that the walk over types passed
   test-tells : (T U : Types) → Extends T U → (S : State) → Covers U S → (at : Place) (e : Expr) (c : StaticShape) → shape_test (around_types CT ds) at e T ≡ Fits c → KnownTest p K (around_types CT ds) at e T → (n : ℕ) → Tells p (mean_test (around_with C ds) at e S n).answer
   test-tells T U x S c at e s h k n =
       let a = passes (shape (around_types CT ds) T e) _ s h in
@@ -219,6 +223,7 @@ as_many [] rs h = ap length (sym h)
 as_many (s ∷ ss) [] h = absurd h
 as_many (s ∷ ss) (r ∷ rs) h = ap suc (as_many ss rs h.1)
 
+-- arguments described by types one by one make a state covered by the types of the parameters
 covers-bound : (ps : List (List ℕ)) (ss : List StaticShape) (rs : List Relation) → AreDescribed ss rs → Covers (types_bound ps ss) (bound ps rs)
 unfolding nothing assigned no_types typed_as
 covers-bound [] ss rs h = λ name. tt

@@ -87,7 +87,7 @@ made_fits old new lean m n room value given result d h = subst (λ x. IfOk x (Fi
 pub no_refusal : {T E : Type 0} {x : T} {e : E} → Ok x ≡ Err e → ⊥
 no_refusal h = cc
 
-refused_for : {T E : Type 0} {a b : E} → ◌≡◌ {A = Result T E} (Err a) (Err b) → a ≡ b
+pub refused_for : {T E : Type 0} {a b : E} → ◌≡◌ {A = Result T E} (Err a) (Err b) → a ≡ b
 refused_for h = cc
 
 abbrev refusal_for : {U E : Type 0} → E → Result U E
@@ -119,17 +119,13 @@ whole_operates {leaf = leaf} old new lean m n room value given whole e = by give
       cause = record { full = λ h. c.full (same_refusal lack Full h); no_memory = λ l h. c.no_memory l (same_refusal lack NoMemory h); done = tt; wanting = λ h. c.wanting (same_refusal lack NoMemory h) };
     })
 
--- the same said of another operation and another result
-pub said : {leaf : ℕ} (old new : Worker) (o p : Operation) (r q : Result Value Halt) → o ≡ p → r ≡ q → EndsOnce leaf old new p q → EndsOnce leaf old new o r
-said {leaf = leaf} old new o p r q e d ends = subst (λ x. EndsOnce leaf old new x r) (sym e) (subst (λ x. EndsOnce leaf old new p x) (sym d) ends)
-
 -- ---- operators between two
 pub same_type : (R : Relation) (m n : ℕ) → R.rows ≡ m → R.cols ≡ n → sizes R ≡ known m n
 same_type R m n e f = ap (λ x. known x R.cols) e ∙ ap (known m) f
 
-module _ (at : Place) (op : Op2) (R S : Relation) (m n p q : ℕ) (rm : R.rows ≡ m) (rn : R.cols ≡ n) (sm : S.rows ≡ p) (sn : S.cols ≡ q) where
+module _ (at : Place) (op : Op2) {R S : Relation} {m n p q : ℕ} (t : HasType m n R) (u : HasType p q S) where
   same_takes : (b : Bool) → takes op (known m n) (known p q) ≡ b → takes op (sizes R) (sizes S) ≡ b
-  same_takes b e = ap (λ x. takes op x (sizes S)) (same_type R m n rm rn) ∙ ap (takes op (known m n)) (same_type S p q sm sn) ∙ e
+  same_takes b e = ap (λ x. takes op x (sizes S)) (same_type R m n t.row_size t.col_size) ∙ ap (takes op (known m n)) (same_type S p q u.row_size u.col_size) ∙ e
 
   pub link_fits : takes op (known m n) (known p q) ≡ true → linked at op R S ≡ Makes (result_of_both op R S) (link_cost op R S)
   unfolding linked
@@ -138,7 +134,15 @@ module _ (at : Place) (op : Op2) (R S : Relation) (m n p q : ℕ) (rm : R.rows �
   pub link_misfit : takes op (known m n) (known p q) ≡ false → linked at op R S ≡ Refuses (Ill (Mismatch at (spelling op) (known m n) (known p q)))
   unfolding linked
   link_misfit e = ap (λ b. fitting (cond b (Fits (type_of_link op (sizes R) (sizes S))) (Misfit (Mismatch at (spelling op) (sizes R) (sizes S)))) (Makes (result_of_both op R S) (link_cost op R S))) (same_takes false e)
-      ∙ ap (λ x. Refuses (Ill (Mismatch at (spelling op) x (sizes S)))) (same_type R m n rm rn) ∙ ap (λ x. Refuses (Ill (Mismatch at (spelling op) (known m n) x))) (same_type S p q sm sn)
+      ∙ ap (λ x. Refuses (Ill (Mismatch at (spelling op) x (sizes S)))) (same_type R m n t.row_size t.col_size) ∙ ap (λ x. Refuses (Ill (Mismatch at (spelling op) (known m n) x))) (same_type S p q u.row_size u.col_size)
+
+-- an operator that takes operands of these types makes what the operator that it is makes
+pub linked_as : (at : Place) {op same : Op2} {R S : Relation} {m n p q : ℕ} → HasType m n R → HasType p q S
+    → takes op (known m n) (known p q) ≡ true → op ≡ same
+    → linked at op R S ≡ Makes (result_of_both same R S) (link_cost same R S)
+linked_as at {op = op} {R = R} {S = S} t u taken is =
+    link_fits at op t u taken
+    ∙ ap (λ o. Makes (result_of_both o R S) (link_cost o R S)) is
 
 pub both_fit : (m n p q : ℕ) → ((m == p) && (n == q)) ≡ true → (m ≡ p) × (n ≡ q)
 both_fit m n p q e = (grind (arith, nat_tests, e), grind (arith, nat_tests, e))
@@ -153,13 +157,13 @@ pub unequal_sizes : (m n : ℕ) → m ≢ n → (m == n) ≡ false
 unequal_sizes m n e = grind (arith, nat_tests, e)
 
 -- ---- base calls of one operand
-module _ (at : Place) (R : Relation) (m n : ℕ) (rm : R.rows ≡ m) (rn : R.cols ≡ n) where
+module _ (at : Place) {R : Relation} {m n : ℕ} (typed : HasType m n R) where
   -- an operation by the sizes of the set, by those of the relation
   pub by_sizes : (F : ℕ → ℕ → Operation) → F R.rows R.cols ≡ F m n
-  by_sizes F = ap (λ k. F k R.cols) rm ∙ ap (F m) rn
+  by_sizes F = ap (λ k. F k R.cols) typed.row_size ∙ ap (F m) typed.col_size
 
   tested_square : (b : Bool) → (m == n) ≡ b → (R.rows == R.cols) ≡ b
-  tested_square b e = ap (λ x. x == R.cols) rm ∙ ap (λ x. m == x) rn ∙ e
+  tested_square b e = ap (λ x. x == R.cols) typed.row_size ∙ ap (λ x. m == x) typed.col_size ∙ e
 
   squared : (base : Base) (b : Bool) (o : Operation) → (m == n) ≡ b → fitting (square at base (sizes R)) o ≡ fitting (cond b (Fits (type_of (Some R.rows) (Some R.rows))) (Misfit (NotSquare at (base_text base) (sizes R)))) o
   squared base b o e = ap (λ x. fitting (cond x (Fits (type_of (Some R.rows) (Some R.rows))) (Misfit (NotSquare at (base_text base) (sizes R)))) o) (tested_square b e)
@@ -168,7 +172,7 @@ module _ (at : Place) (R : Relation) (m n : ℕ) (rm : R.rows ≡ m) (rn : R.col
   square_fits base F e = squared base true (F R.rows R.cols) (equal_sizes m n e) ∙ by_sizes F
 
   pub square_misfit : (base : Base) (o : Operation) → m ≢ n → fitting (square at base (sizes R)) o ≡ Refuses (Ill (NotSquare at (base_text base) (known m n)))
-  square_misfit base o e = squared base false o (unequal_sizes m n e) ∙ ap (λ x. Refuses (Ill (NotSquare at (base_text base) x))) (same_type R m n rm rn)
+  square_misfit base o e = squared base false o (unequal_sizes m n e) ∙ ap (λ x. Refuses (Ill (NotSquare at (base_text base) x))) (same_type R m n typed.row_size typed.col_size)
 
   -- the same of a base call whose result has the side of the operand as rows alone
   sided : (base : Base) (t : StaticShape) (b : Bool) (o : Operation) → (m == n) ≡ b → fitting (squared_as at base (sizes R) (Fits t)) o ≡ fitting (cond b (Fits t) (Misfit (NotSquare at (base_text base) (sizes R)))) o
@@ -178,16 +182,16 @@ module _ (at : Place) (R : Relation) (m n : ℕ) (rm : R.rows ≡ m) (rn : R.col
   side_fits base t F e = sided base t true (F R.rows R.cols) (equal_sizes m n e) ∙ by_sizes F
 
   side_misfit : (base : Base) (t : StaticShape) (o : Operation) → m ≢ n → fitting (squared_as at base (sizes R) (Fits t)) o ≡ Refuses (Ill (NotSquare at (base_text base) (known m n)))
-  side_misfit base t o e = sided base t false o (unequal_sizes m n e) ∙ ap (λ x. Refuses (Ill (NotSquare at (base_text base) x))) (same_type R m n rm rn)
+  side_misfit base t o e = sided base t false o (unequal_sizes m n e) ∙ ap (λ x. Refuses (Ill (NotSquare at (base_text base) x))) (same_type R m n typed.row_size typed.col_size)
 
   vectored : (base : Base) (t : StaticShape) (b : Bool) (o : Operation) → (n == 1) ≡ b → fitting (vector at base (sizes R) t) o ≡ fitting (cond b (Fits t) (Misfit (NotVector at (base_text base) (sizes R)))) o
-  vectored base t b o e = ap (λ x. fitting (cond x (Fits t) (Misfit (NotVector at (base_text base) (sizes R)))) o) (ap (λ x. x == 1) rn ∙ e)
+  vectored base t b o e = ap (λ x. fitting (cond x (Fits t) (Misfit (NotVector at (base_text base) (sizes R)))) o) (ap (λ x. x == 1) typed.col_size ∙ e)
 
   pub vector_fits : (base : Base) (t : StaticShape) (F : ℕ → ℕ → Operation) → n ≡ 1 → fitting (vector at base (sizes R) t) (F R.rows R.cols) ≡ F m n
   vector_fits base t F e = vectored base t true (F R.rows R.cols) (equal_sizes n 1 e) ∙ by_sizes F
 
   pub vector_misfit : (base : Base) (t : StaticShape) (o : Operation) → n ≢ 1 → fitting (vector at base (sizes R) t) o ≡ Refuses (Ill (NotVector at (base_text base) (known m n)))
-  vector_misfit base t o e = vectored base t false o (unequal_sizes n 1 e) ∙ ap (λ x. Refuses (Ill (NotVector at (base_text base) x))) (same_type R m n rm rn)
+  vector_misfit base t o e = vectored base t false o (unequal_sizes n 1 e) ∙ ap (λ x. Refuses (Ill (NotVector at (base_text base) x))) (same_type R m n typed.row_size typed.col_size)
 
   -- a base that demands a square operand refuses another
   pub no_square : (base : Base) → demanded base ≡ Square → m ≢ n → based at base (R ∷ []) ≡ Refuses (Ill (NotSquare at (base_text base) (known m n)))
@@ -205,6 +209,7 @@ module _ (at : Place) (R : Relation) (m n : ℕ) (rm : R.rows ≡ m) (rn : R.col
   no_square Inj d e = absurd (let x : OneColumn ≡ Square = d in cc)
   no_square base d e = absurd (let x : Nothing ≡ Square = d in cc)
 
+  -- a base call that demands a vector is refused for an operand of other than one column
   pub no_vector : (base : Base) → demanded base ≡ OneColumn → n ≢ 1 → based at base (R ∷ []) ≡ Refuses (Ill (NotVector at (base_text base) (known m n)))
   unfolding based
   no_vector Epsi d e = vector_misfit Epsi _ _ e

@@ -10,16 +10,16 @@ use Rattle.lang_model.specs.declared.faults.TypeFault.TheVariants.{NoMemory as F
 use Rattle.rv_eval.specs.declared.halt.Halt.{Halt}
 use Rattle.rv_eval.specs.declared.halt.Halt.TheVariants.{Ill as ILL, Size as SIZE, Turns as TURNS, Lack as LACK}
 use Rattle.rv_eval.specs.Ends.{HasHalted}
-use Rattle.rv_eval.specs.Refusing.{told, told_ill, IsAnswer}
+use Rattle.rv_eval.specs.Refusing.{told, told_ill, IsAnswerBy}
 
 -- the refusal of a meaning
-ill_answers : (old new : Worker) (turns : ℕ) (a : Answer Relation) (fault : TypeFault) → a ≡ Not (Ill fault) → IsAnswer old new turns a (Err (told_ill fault))
-ill_answers old new turns a FAULT_NO_MEMORY h = tt
-ill_answers old new turns a fault h = h
+ill_answers : {X : Type 0} (is : X → Relation) (old new : Worker) (turns : ℕ) (a : Answer Relation) (fault : TypeFault) → a ≡ Not (Ill fault) → IsAnswerBy is old new turns a (Err (told_ill fault))
+ill_answers is old new turns a FAULT_NO_MEMORY h = tt
+ill_answers is old new turns a fault h = h
 
-pub halted_answers : (old new : Worker) (turns : ℕ) (a : Answer Relation) (halt : Halt) → HasHalted old new a halt → IsAnswer old new turns a (Err (told turns halt))
-halted_answers old new turns a (ILL fault) h = ill_answers old new turns a fault h
-halted_answers old new turns a (SIZE at wanted) h = (h, refl)
-halted_answers old new turns a (TURNS at) h = (h, refl)
-halted_answers old new turns a (LACK Full) h = h
-halted_answers old new turns a (LACK NO_MEMORY) h = tt
+pub halted_answers : {X : Type 0} (is : X → Relation) (old new : Worker) (turns : ℕ) (a : Answer Relation) (halt : Halt) → HasHalted old new a halt → IsAnswerBy is old new turns a (Err (told turns halt))
+halted_answers is old new turns a (ILL fault) h = ill_answers is old new turns a fault h
+halted_answers is old new turns a (SIZE at wanted) h = (h, refl)
+halted_answers is old new turns a (TURNS at) h = (h, refl)
+halted_answers is old new turns a (LACK Full) h = h
+halted_answers is old new turns a (LACK NO_MEMORY) h = tt

@@ -71,3 +71,10 @@ diff_test r s = ap not (some_agree r.rows _ _ (λ i a. some_agree r.cols _ _
 pub type_of_diff : (r s : Relation) (m n : ℕ) → r.rows ≡ m → r.cols ≡ n → HasType m n (diff r s)
 unfolding diff
 type_of_diff r s m n a b = type-test r.rows r.cols m n _ a b
+
+-- so the emptiness of the difference of two relations tells whether one is within the other
+pub within_test : (r s : Relation) (m n : ℕ) (told : Bool) → r.rows ≡ m → r.cols ≡ n
+    → (told ≡ true) ↔ (diff r s ≡ empty m n) → is_within r s ≡ told
+within_test r s m n told a b e =
+    let d = type_of_diff r s m n a b in
+    sym (diff_test r s) ∙ empty_test (diff r s) m n told d.valid d.row_size d.col_size e

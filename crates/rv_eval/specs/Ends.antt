@@ -4,7 +4,7 @@ use Rattle.rel_model.specs.declared.Rel.{Rel}
 use Rattle.rel_slices.specs.declared.thin.Value.{Value}
 use Rattle.rel_slices.specs.declared.thin.Value.TheVariants.{Whole}
 use Rattle.rel_slices.specs.Thin.{value_of}
-use Rattle.rel_values.specs.Values.{owed}
+use Rattle.rel_values.specs.Values.{Fits, owed}
 use Rattle.rel_model.specs.declared.Lack.{Lack}
 use Rattle.lang_model.specs.declared.syntax.Place.{Place}
 use Rattle.rel_model.specs.declared.faults.DomainError.{DomainError}
@@ -45,6 +45,11 @@ pub record Ends (leaf : ℕ) {T X : Type 0} (old new : Worker) (before left star
 -- an operation on values ends: it takes no turn, and its own cost covers what its operands owe
 abbrev pub EndsOnce : ℕ → Worker → Worker → Operation → Result Value Halt → Type 0
 EndsOnce leaf old new o result = Ends leaf old new 0 0 0 (with_turns o 0) (value_of new) (owed leaf) result
+
+-- an operation on values is performed: it ends, and its value fits
+pub record Performs (leaf : ℕ) (old new : Worker) (o : Operation) (result : Result Value Halt) : Type 0 where
+  pub ends : EndsOnce leaf old new o result
+  pub fits : IfOk result (Fits new)
 
 -- an evaluation ends with a value, or as its meaning does
 abbrev pub EndsWith : ℕ → Worker → Worker → ℕ → ℕ → ℕ → Came Relation → Result Value Halt → Type 0

@@ -1,5 +1,6 @@
 pub mod Names
 pub mod Values
+pub mod Around
 pub mod Ends
 pub mod Refusing
 pub mod Demands

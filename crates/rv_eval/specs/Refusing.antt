@@ -1,5 +1,5 @@
 -- What the public call answers.
-use Rattle.std.specs.Prelude.{◌≡◌, ℕ, List, Option, Some, None, Result, Ok, Err}
+use Rattle.std.specs.Prelude.{◌≡◌, ◌≤◌, ◌+◌, ℕ, List, Option, Some, None, Result, Ok, Err, IfOk, IsErrOf}
 use Rattle.std.specs.declared.alloc.Global.{Global}
 use Rattle.std.specs.declared.vec.Vec.{Vec}
 use Rattle.lang_model.specs.Rewriting.{Step as Rewritten}
@@ -10,9 +10,13 @@ use Rattle.rel_model.specs.declared.Lack.TheVariants.{Full, NoMemory as NO_MEMOR
 use Rattle.lang_model.specs.declared.faults.TypeFault.{TypeFault}
 use Rattle.lang_model.specs.declared.faults.TypeFault.TheVariants.{NoMemory as FAULT_NO_MEMORY}
 use Rattle.rel_model.specs.Relation.{Relation, size_limit}
-use Rattle.rel_model.specs.Worker.{Worker, set_of, Rose, MissesNothing}
+use Rattle.rel_model.specs.Worker.{Worker, set_of, Rose, MissesNothing, Keeps, MakesAtMost}
+use Rattle.rel_slices.specs.declared.thin.Value.{Value}
+use Rattle.rel_slices.specs.Thin.{value_of, IsLines}
+use Rattle.rel_values.specs.Values.{Fits, owed}
+use Rattle.lang_model.specs.declared.syntax.Expr.{Expr}
 use Rattle.lang_model.specs.Outcomes.{Ill, Size, Turns, Answer, Got, Not}
-use Rattle.lang_model.specs.Eval.{Evaluated, Ahead, Comes}
+use Rattle.lang_model.specs.Eval.{Evaluated, Ahead, Comes, cost_of_value, IsCompound}
 use Rattle.rv_eval.specs.declared.halt.Halt.{Halt}
 use Rattle.rv_eval.specs.declared.halt.Halt.TheVariants.{Ill as ILL, Size as SIZE, Turns as TURNS, Lack as LACK}
 use Rattle.rv_eval.specs.declared.halt.Refused.{Refused}
@@ -31,20 +35,21 @@ told turns (TURNS at) = TurnsRefused at turns
 told turns (LACK Full) = Nodes
 told turns (LACK NO_MEMORY) = NoMemory
 
--- the answer is that of the meaning: its value, or its refusal with the limit that was passed; or else the table was
--- full, or memory ran out
-abbrev pub IsAnswer : Worker → Worker → ℕ → Answer Relation → Result Rel Refused → Type 0
-IsAnswer old new turns answer (Ok rel) = (left : ℕ) × (answer ≡ Got (set_of new rel) left)
-IsAnswer old new turns answer (Err (IllRefused fault)) = answer ≡ Not (Ill fault)
-IsAnswer old new turns answer (Err (SizeRefused at wanted limit)) =
+-- The answer is that of the meaning: its value, of which x is a form if `is x` is its relation, or its refusal with the
+-- limit that was passed; or else the table was full, or memory ran out.
+abbrev pub IsAnswerBy : {X : Type 0} → (X → Relation) → Worker → Worker → ℕ → Answer Relation → Result X Refused
+    → Type 0
+IsAnswerBy is old new turns answer (Ok x) = (left : ℕ) × (answer ≡ Got (is x) left)
+IsAnswerBy is old new turns answer (Err (IllRefused fault)) = answer ≡ Not (Ill fault)
+IsAnswerBy is old new turns answer (Err (SizeRefused at wanted limit)) =
     (answer ≡ Not (Size at wanted)) × (limit ≡ size_limit)
-IsAnswer old new turns answer (Err (TurnsRefused at limit)) = (answer ≡ Not (Turns at)) × (limit ≡ turns)
-IsAnswer old new turns answer (Err Nodes) = Rose old.misses new.misses
-IsAnswer old new turns answer (Err NoMemory) = Unit {0}
+IsAnswerBy is old new turns answer (Err (TurnsRefused at limit)) = (answer ≡ Not (Turns at)) × (limit ≡ turns)
+IsAnswerBy is old new turns answer (Err Nodes) = Rose old.misses new.misses
+IsAnswerBy is old new turns answer (Err NoMemory) = Unit {0}
 
 -- an expression that is refused before anything is computed is refused for this fault, or because memory ran out
-abbrev pub IsRefusedFor : TypeFault → Result Rel Refused → Type 0
-IsRefusedFor fault (Ok rel) = ⊥
+abbrev pub IsRefusedFor : {X : Type 0} → TypeFault → Result X Refused → Type 0
+IsRefusedFor fault (Ok x) = ⊥
 IsRefusedFor fault (Err (IllRefused own)) = own ≡ fault
 IsRefusedFor fault (Err (SizeRefused at wanted limit)) = ⊥
 IsRefusedFor fault (Err (TurnsRefused at limit)) = ⊥
@@ -53,9 +58,29 @@ IsRefusedFor fault (Err NoMemory) = Unit {0}
 
 -- the answer is what the expression evaluates to; if it has a fault that is found before anything is computed, the
 -- misses do not rise
+abbrev pub IsEvaluatedBy : {X : Type 0} → (X → Relation) → Worker → Worker → ℕ → Evaluated → Result X Refused → Type 0
+IsEvaluatedBy is old new turns (Ahead fault) result = IsRefusedFor fault result × MissesNothing old new
+IsEvaluatedBy is old new turns (Comes came) result = IsAnswerBy is old new turns came.answer result
+
+-- What an evaluation of a command's expression promises, if its result is e and its answer a value in either form.
+pub record Evaluates (least : ℕ) (old new : Worker) (turns : ℕ) (expr : Expr) (e : Evaluated)
+    (result : Result Value Refused) : Type 0 where
+  pub answer : IsEvaluatedBy (value_of new) old new turns e result
+  -- a plain name is never refused for a full table, and never lines
+  pub compound : IsErrOf result Nodes → IsCompound expr
+  pub lines : IfOk result (λ v. IsLines v → IsCompound expr)
+  -- that memory ran out is an answer of its own, no fault
+  pub memory : IsErrOf result (IllRefused FAULT_NO_MEMORY) → ⊥
+  pub fits : IfOk result (Fits new)
+  -- everything that stood still stands
+  pub keeps : Keeps old new
+  pub room : MakesAtMost (cost_of_value least e) old new
+  -- making the value whole is within the cost too
+  pub owes : IfOk result (λ v. new.made + owed least v ≤ old.made + cost_of_value least e)
+
+-- the same of a whole relation
 abbrev pub IsEvaluated : Worker → Worker → ℕ → Evaluated → Result Rel Refused → Type 0
-IsEvaluated old new turns (Ahead fault) result = IsRefusedFor fault result × MissesNothing old new
-IsEvaluated old new turns (Comes came) result = IsAnswer old new turns came.answer result
+IsEvaluated old new turns e result = IsEvaluatedBy (set_of new) old new turns e result
 
 -- a refusal before anything is computed is for this fault, or because memory ran out
 abbrev pub IsRefusedAhead : Option TypeFault → Refused → Type 0

@@ -1,5 +1,5 @@
 //! Calls of base names, with their type tests.
-ghost use Rattle.std.specs.Prelude.{◌≡◌, [], ◌∷◌, map, IfOk};
+ghost use Rattle.std.specs.Prelude.{◌≡◌, [], ◌∷◌, map};
 ghost use Rattle.std.specs.List.{AllByRecursion};
 ghost use Rattle.rel_model.specs.Worker.{Stands, set_of, operator_room};
 ghost use Rattle.rel_slices.specs.Thin.{value_of, value_rows, value_cols};
@@ -9,7 +9,7 @@ ghost use Rattle.lang_model.specs.Outcomes.{no_cost, Makes};
 ghost use Rattle.lang_model.specs.Mean.{based, answer_of_test};
 ghost use Rattle.rv_eval.specs.declared.bases.Demand.TheVariants.{Nothing, Square, OneColumn};
 ghost use Rattle.rv_eval.specs.Demands.{demanded};
-ghost use Rattle.rv_eval.specs.Ends.{EndsOnce};
+ghost use Rattle.rv_eval.specs.Ends.{Performs};
 
 use crate::comparisons::base_of_two;
 use crate::domain_calls::lift_domain;
@@ -21,15 +21,14 @@ use lang_model::syntax::{Base, Place};
 use rel_model::engine_trait::Engine;
 use rel_model::{Rel, Shape};
 use rel_order::{hasse, less, quot};
-use rel_slices::{Remembers, Value, is_empty, unival};
+use rel_slices::{Remembers, Value, is_empty, trans, unival};
 use rel_values::{atom, dom, empty, epsi, full, init, inj, next, point, ran, square};
 use std::alloc::Global;
 
 /// A truth value: the full or the empty relation with one row and one column.
 pub fn truth<E: Engine>(engine: &mut E, yes: bool) -> Result<Value, Halt>
-    ensures ends { let w = E.worker engine.old in
-        EndsOnce E.least w (E.worker engine.new) (Makes (answer_of_test yes) (λ leaf. operator_room 1 1)) result }
-    ensures fits { IfOk result (Fits (E.worker engine.new)) }
+    ensures { let w = E.worker engine.old in
+        Performs E.least w (E.worker engine.new) (Makes (answer_of_test yes) (λ leaf. operator_room 1 1)) result }
 {
     let shape = Shape { rows: 1, cols: 1 };
     if yes {
@@ -41,9 +40,8 @@ pub fn truth<E: Engine>(engine: &mut E, yes: bool) -> Result<Value, Halt>
 
 /// The empty relation with no rows and no columns. It stands in for calls that no script text can contain.
 pub fn none_given<E: Engine>(engine: &mut E) -> Result<Value, Halt>
-    ensures ends { let w = E.worker engine.old in
-        EndsOnce E.least w (E.worker engine.new) (Makes (empty_relation 0 0) no_cost) result }
-    ensures fits { IfOk result (Fits (E.worker engine.new)) }
+    ensures { let w = E.worker engine.old in
+        Performs E.least w (E.worker engine.new) (Makes (empty_relation 0 0) no_cost) result }
 {
     lift(as_whole(engine.empty(Shape { rows: 0, cols: 0 })))
 }
@@ -59,9 +57,8 @@ fn plain_base<E: Remembers>(
 ) -> Result<Value, Halt>
     requires demands { demanded base ≡ Nothing }
     requires standing { Fits (E.worker engine.old) r.now }
-    ensures ends { let w = E.worker engine.old in
-        EndsOnce E.least w (E.worker engine.new) (based at base (value_of w r.now ∷ [])) result }
-    ensures fits { IfOk result (Fits (E.worker engine.new)) }
+    ensures { let w = E.worker engine.old in
+        Performs E.least w (E.worker engine.new) (based at base (value_of w r.now ∷ [])) result }
 {
     let shape = shape_in(engine, r);
     let rows = shape.rows;
@@ -89,17 +86,22 @@ fn plain_base<E: Remembers>(
 }
 
 /// A base call of a square operand that is whole.
-fn square_base<E: Engine>(engine: &mut E, at: Place, base: Base, r: Rel) -> Result<Value, Halt>
+fn square_base<E: Engine>(
+    alloc: Global,
+    engine: &mut E,
+    at: Place,
+    base: Base,
+    r: Rel,
+) -> Result<Value, Halt>
     requires demands { demanded base ≡ Square }
     requires standing { Stands (E.worker engine.old) r }
     requires square { r.rows ≡ r.cols }
-    ensures ends { let w = E.worker engine.old in
-        EndsOnce E.least w (E.worker engine.new) (based at base (set_of w r ∷ [])) result }
-    ensures fits { IfOk result (Fits (E.worker engine.new)) }
+    ensures { let w = E.worker engine.old in
+        Performs E.least w (E.worker engine.new) (based at base (set_of w r ∷ [])) result }
 {
     match base {
         Base::I => lift(as_whole(engine.identity(r.rows))),
-        Base::Trans => lift(as_whole(engine.trans(r))),
+        Base::Trans => lift(as_whole(trans(alloc, engine, r))),
         Base::Less => lift(as_whole(less(engine, r.rows))),
         Base::Hasse => lift(as_whole(hasse(engine, r))),
         Base::Quot => lift(as_whole(quot(engine, r))),
@@ -108,16 +110,21 @@ fn square_base<E: Engine>(engine: &mut E, at: Place, base: Base, r: Rel) -> Resu
 }
 
 /// A base call of a square operand; a square is never thin.
-fn square_value<E: Engine>(engine: &mut E, at: Place, base: Base, r: &Value) -> Result<Value, Halt>
+fn square_value<E: Engine>(
+    alloc: Global,
+    engine: &mut E,
+    at: Place,
+    base: Base,
+    r: &Value,
+) -> Result<Value, Halt>
     requires demands { demanded base ≡ Square }
     requires standing { Fits (E.worker engine.old) r.now }
     requires square { value_rows r.now ≡ value_cols r.now }
-    ensures ends { let w = E.worker engine.old in
-        EndsOnce E.least w (E.worker engine.new) (based at base (value_of w r.now ∷ [])) result }
-    ensures fits { IfOk result (Fits (E.worker engine.new)) }
+    ensures { let w = E.worker engine.old in
+        Performs E.least w (E.worker engine.new) (based at base (value_of w r.now ∷ [])) result }
 {
     let whole = square(engine, r);
-    square_base(engine, at, base, whole)
+    square_base(alloc, engine, at, base, whole)
 }
 
 /// A base call of a vector.
@@ -125,9 +132,8 @@ fn vector_base<E: Engine>(engine: &mut E, at: Place, base: Base, r: &Value) -> R
     requires demands { demanded base ≡ OneColumn }
     requires standing { Fits (E.worker engine.old) r.now }
     requires one_column { value_cols r.now ≡ 1 }
-    ensures ends { let w = E.worker engine.old in
-        EndsOnce E.least w (E.worker engine.new) (based at base (value_of w r.now ∷ [])) result }
-    ensures fits { IfOk result (Fits (E.worker engine.new)) }
+    ensures { let w = E.worker engine.old in
+        Performs E.least w (E.worker engine.new) (based at base (value_of w r.now ∷ [])) result }
 {
     let shape = shape_in(engine, r);
     match base {
@@ -176,16 +182,15 @@ fn base_of_one<E: Remembers>(
     r: &Value,
 ) -> Result<Value, Halt>
     requires standing { Fits (E.worker engine.old) r.now }
-    ensures ends { let w = E.worker engine.old in
-        EndsOnce E.least w (E.worker engine.new) (based at base (value_of w r.now ∷ [])) result }
-    ensures fits { IfOk result (Fits (E.worker engine.new)) }
+    ensures { let w = E.worker engine.old in
+        Performs E.least w (E.worker engine.new) (based at base (value_of w r.now ∷ [])) result }
 {
     let shape = shape_in(engine, r);
     match demand_of(base) {
         Demand::Nothing => plain_base(alloc, engine, at, base, r),
         Demand::Square => {
             if shape.rows == shape.cols {
-                square_value(engine, at, base, r)
+                square_value(alloc, engine, at, base, r)
             } else {
                 Err(not_square(alloc, at, base, shape))
             }
@@ -210,9 +215,8 @@ pub fn base_call<E: Remembers>(
     values: &[Value],
 ) -> Result<Value, Halt>
     requires standing { AllByRecursion (Fits (E.worker engine.old)) values.now }
-    ensures ends { let w = E.worker engine.old in
-        EndsOnce E.least w (E.worker engine.new) (based at base (map (value_of w) values.now)) result }
-    ensures fits { IfOk result (Fits (E.worker engine.new)) }
+    ensures { let w = E.worker engine.old in
+        Performs E.least w (E.worker engine.new) (based at base (map (value_of w) values.now)) result }
 {
     if values.len() == 1 {
         base_of_one(alloc, engine, at, base, &values[0])

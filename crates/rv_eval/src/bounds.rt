@@ -1,5 +1,5 @@
 //! Base calls for bounds and extremes, with their type tests.
-ghost use Rattle.std.specs.Prelude.{◌≡◌, [], ◌∷◌, true, IfOk};
+ghost use Rattle.std.specs.Prelude.{◌≡◌, [], ◌∷◌, true};
 ghost use Rattle.rel_slices.specs.Thin.{value_of, value_rows, value_cols};
 ghost use Rattle.rel_values.specs.Values.{Fits};
 ghost use Rattle.rel_model.specs.Relation.{Relation};
@@ -8,7 +8,7 @@ ghost use Rattle.lang_model.specs.Outcomes.{Makes};
 ghost use Rattle.lang_model.specs.Mean.{based, base_made_of_two};
 ghost use Rattle.rel_values.specs.Bounds.{bound_of};
 ghost use Rattle.rv_eval.specs.Demands.{bounds};
-ghost use Rattle.rv_eval.specs.Ends.{EndsOnce};
+ghost use Rattle.rv_eval.specs.Ends.{Performs};
 
 use crate::faults::{not_alike, not_square};
 use crate::halt::Halt;
@@ -49,9 +49,8 @@ fn bounded<E: Engine>(
     requires right { Fits (E.worker engine.old) s.now }
     requires square { value_rows r.now ≡ value_cols r.now }
     requires rows { value_rows r.now ≡ value_rows s.now }
-    ensures ends { let w = E.worker engine.old in
-        EndsOnce E.least w (E.worker engine.new) (based at base (value_of w r.now ∷ value_of w s.now ∷ [])) result }
-    ensures fits { IfOk result (Fits (E.worker engine.new)) }
+    ensures { let w = E.worker engine.old in
+        Performs E.least w (E.worker engine.new) (based at base (value_of w r.now ∷ value_of w s.now ∷ [])) result }
 {
     lift(rel_values::bounds(engine, bound_named(base), r, s))
 }
@@ -68,9 +67,8 @@ pub fn bounding<E: Engine>(
     requires bounds { bounds base ≡ true }
     requires left { Fits (E.worker engine.old) r.now }
     requires right { Fits (E.worker engine.old) s.now }
-    ensures ends { let w = E.worker engine.old in
-        EndsOnce E.least w (E.worker engine.new) (based at base (value_of w r.now ∷ value_of w s.now ∷ [])) result }
-    ensures fits { IfOk result (Fits (E.worker engine.new)) }
+    ensures { let w = E.worker engine.old in
+        Performs E.least w (E.worker engine.new) (based at base (value_of w r.now ∷ value_of w s.now ∷ [])) result }
 {
     let a = shape_in(engine, r);
     let b = shape_in(engine, s);

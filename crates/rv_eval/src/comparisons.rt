@@ -1,10 +1,10 @@
 //! Base calls of two operands, with their type tests.
-ghost use Rattle.std.specs.Prelude.{◌≡◌, ◌==◌, ◌&&◌, [], ◌∷◌, IfOk};
+ghost use Rattle.std.specs.Prelude.{◌≡◌, ◌==◌, ◌&&◌, [], ◌∷◌};
 ghost use Rattle.rel_slices.specs.Thin.{value_of, value_rows, value_cols};
 ghost use Rattle.rel_values.specs.Values.{Fits};
 ghost use Rattle.lang_model.specs.declared.syntax.Base.TheVariants.{Syq, Eq, Incl};
 ghost use Rattle.lang_model.specs.Mean.{based};
-ghost use Rattle.rv_eval.specs.Ends.{EndsOnce};
+ghost use Rattle.rv_eval.specs.Ends.{Performs};
 
 use crate::bases::{none_given, truth};
 use crate::bounds::bounding;
@@ -36,9 +36,8 @@ fn quotient<E: Remembers>(
 ) -> Result<Value, Halt>
     requires left { Fits (E.worker engine.old) r.now }
     requires right { Fits (E.worker engine.old) s.now }
-    ensures ends { let w = E.worker engine.old in
-        EndsOnce E.least w (E.worker engine.new) (based at Syq (value_of w r.now ∷ value_of w s.now ∷ [])) result }
-    ensures fits { IfOk result (Fits (E.worker engine.new)) }
+    ensures { let w = E.worker engine.old in
+        Performs E.least w (E.worker engine.new) (based at Syq (value_of w r.now ∷ value_of w s.now ∷ [])) result }
 {
     let a = shape_in(engine, r);
     let b = shape_in(engine, s);
@@ -59,9 +58,8 @@ fn equality<E: Remembers>(
 ) -> Result<Value, Halt>
     requires left { Fits (E.worker engine.old) r.now }
     requires right { Fits (E.worker engine.old) s.now }
-    ensures ends { let w = E.worker engine.old in
-        EndsOnce E.least w (E.worker engine.new) (based at Eq (value_of w r.now ∷ value_of w s.now ∷ [])) result }
-    ensures fits { IfOk result (Fits (E.worker engine.new)) }
+    ensures { let w = E.worker engine.old in
+        Performs E.least w (E.worker engine.new) (based at Eq (value_of w r.now ∷ value_of w s.now ∷ [])) result }
 {
     let a = shape_in(engine, r);
     let b = shape_in(engine, s);
@@ -86,9 +84,8 @@ fn inclusion<E: Remembers>(
 ) -> Result<Value, Halt>
     requires left { Fits (E.worker engine.old) r.now }
     requires right { Fits (E.worker engine.old) s.now }
-    ensures ends { let w = E.worker engine.old in
-        EndsOnce E.least w (E.worker engine.new) (based at Incl (value_of w r.now ∷ value_of w s.now ∷ [])) result }
-    ensures fits { IfOk result (Fits (E.worker engine.new)) }
+    ensures { let w = E.worker engine.old in
+        Performs E.least w (E.worker engine.new) (based at Incl (value_of w r.now ∷ value_of w s.now ∷ [])) result }
 {
     let a = shape_in(engine, r);
     let b = shape_in(engine, s);
@@ -115,9 +112,8 @@ pub fn base_of_two<E: Remembers>(
 ) -> Result<Value, Halt>
     requires left { Fits (E.worker engine.old) r.now }
     requires right { Fits (E.worker engine.old) s.now }
-    ensures ends { let w = E.worker engine.old in
-        EndsOnce E.least w (E.worker engine.new) (based at base (value_of w r.now ∷ value_of w s.now ∷ [])) result }
-    ensures fits { IfOk result (Fits (E.worker engine.new)) }
+    ensures { let w = E.worker engine.old in
+        Performs E.least w (E.worker engine.new) (based at base (value_of w r.now ∷ value_of w s.now ∷ [])) result }
 {
     match base {
         Base::Syq => quotient(alloc, engine, at, r, s),

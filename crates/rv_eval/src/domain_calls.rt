@@ -1,10 +1,10 @@
 //! Pairing and domain operators, whose results may be too large.
-ghost use Rattle.std.specs.Prelude.{◌≡◌, ◌≤◌, IfOk};
+ghost use Rattle.std.specs.Prelude.{◌≡◌, ◌≤◌};
 ghost use Rattle.rel_model.specs.Relation.{size_limit};
 ghost use Rattle.rel_slices.specs.Thin.{value_of, value_rows, value_cols};
 ghost use Rattle.rel_values.specs.Values.{Fits};
 ghost use Rattle.lang_model.specs.Mean.{paired, domain_made};
-ghost use Rattle.rv_eval.specs.Ends.{EndsOnce, domain_lifted};
+ghost use Rattle.rv_eval.specs.Ends.{Performs, domain_lifted};
 
 use crate::faults::no_pair;
 use crate::halt::Halt;
@@ -40,9 +40,8 @@ pub fn pair<E: Engine>(
 ) -> Result<Value, Halt>
     requires left { Fits (E.worker engine.old) r.now }
     requires right { Fits (E.worker engine.old) s.now }
-    ensures ends { let w = E.worker engine.old in
-        EndsOnce E.least w (E.worker engine.new) (paired at (value_of w r.now) (value_of w s.now)) result }
-    ensures fits { IfOk result (Fits (E.worker engine.new)) }
+    ensures { let w = E.worker engine.old in
+        Performs E.least w (E.worker engine.new) (paired at (value_of w r.now) (value_of w s.now)) result }
 {
     let a = shape_in(engine, r);
     let b = shape_in(engine, s);
@@ -63,9 +62,8 @@ pub fn domain_call<E: Engine>(
 ) -> Result<Value, Halt>
     requires x_limit { x ≤ size_limit }
     requires y_limit { y ≤ size_limit }
-    ensures ends { let w = E.worker engine.old in
-        EndsOnce E.least w (E.worker engine.new) (domain_made at base x y) result }
-    ensures fits { IfOk result (Fits (E.worker engine.new)) }
+    ensures { let w = E.worker engine.old in
+        Performs E.least w (E.worker engine.new) (domain_made at base x y) result }
 {
     match base {
         Base::P1 => lift_domain(at, as_whole(engine.first(x, y))),

@@ -9,6 +9,7 @@ ghost use Rattle.lang_model.specs.Types.{spelling, known};
 ghost use Rattle.rv_eval.specs.declared.halt.Halt.TheVariants.{Ill, Lack as LACK};
 
 use crate::halt::Halt;
+use crate::here::Called;
 use lang_model::faults::{StaticShape, TypeFault};
 use lang_model::syntax::{Base, Name, Op2, Place};
 use rel_model::{Lack, NoMemory, Shape};
@@ -35,15 +36,15 @@ pub fn too_deep(alloc: Global, at: Place, name: &Name) -> Halt
 }
 
 /// The fault of a call with the wrong number of arguments.
-pub fn wrong_count(alloc: Global, at: Place, name: &Name, takes: usize, given: usize) -> Halt
-    ensures { (result ≡ Ill (Arity at name.now takes given)) ⊎ (result ≡ LACK NO_MEMORY) }
+pub fn wrong_count(alloc: Global, called: Called, takes: usize, given: usize) -> Halt
+    ensures { (result ≡ Ill (Arity called.entry.at called.entry.name.now takes given)) ⊎ (result ≡ LACK NO_MEMORY) }
 {
     let (Ok(takes), Ok(given)) = (u32::try_from(takes), u32::try_from(given)) else {
         return Halt::Lack(Lack::NoMemory);
     };
-    match name.copied(alloc) {
+    match called.name.copied(alloc) {
         Ok(name) => Halt::Ill(TypeFault::Arity {
-            at,
+            at: called.at,
             name,
             takes,
             given,

@@ -10,6 +10,7 @@ mod early;
 mod explaining;
 mod faults;
 mod halt;
+mod here;
 pub mod law;
 mod missing;
 mod names;
@@ -19,7 +20,7 @@ mod shapes;
 mod steps;
 mod walk;
 
-pub use call::eval;
+pub use call::{eval, eval_value};
 pub use explaining::explain;
 pub use halt::Refused;
 pub use names::set;

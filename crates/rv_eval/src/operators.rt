@@ -1,10 +1,10 @@
 //! `-R`, `R^` and the operators on two relations, with their type tests.
-ghost use Rattle.std.specs.Prelude.{◌≡◌, true, IfOk};
+ghost use Rattle.std.specs.Prelude.{◌≡◌, true};
 ghost use Rattle.rel_slices.specs.Thin.{value_of, value_rows, value_cols};
 ghost use Rattle.rel_values.specs.Values.{Fits};
 ghost use Rattle.lang_model.specs.Types.{known, takes as takes_types};
 ghost use Rattle.lang_model.specs.Mean.{linked, complemented, turned};
-ghost use Rattle.rv_eval.specs.Ends.{EndsOnce, wholly, lifted};
+ghost use Rattle.rv_eval.specs.Ends.{Performs, wholly, lifted};
 
 use crate::faults::mismatch;
 use crate::halt::Halt;
@@ -52,9 +52,8 @@ fn takes(op: Op2, r: Shape, s: Shape) -> bool
 /// `-R = {(i, j) : not (i, j) in r}`: the complement within the sizes of R.
 pub fn complement<E: Remembers>(engine: &mut E, r: &Value) -> Result<Value, Halt>
     requires standing { Fits (E.worker engine.old) r.now }
-    ensures ends { let w = E.worker engine.old in
-        EndsOnce E.least w (E.worker engine.new) (complemented (value_of w r.now)) result }
-    ensures fits { IfOk result (Fits (E.worker engine.new)) }
+    ensures { let w = E.worker engine.old in
+        Performs E.least w (E.worker engine.new) (complemented (value_of w r.now)) result }
 {
     lift(rel_values::complement(engine, r))
 }
@@ -62,9 +61,8 @@ pub fn complement<E: Remembers>(engine: &mut E, r: &Value) -> Result<Value, Halt
 /// `R^...^`: a relation transposed `times` times.
 pub fn transposed<E: Engine>(engine: &mut E, r: &Value, times: u32) -> Result<Value, Halt>
     requires standing { Fits (E.worker engine.old) r.now }
-    ensures ends { let w = E.worker engine.old in
-        EndsOnce E.least w (E.worker engine.new) (turned times (value_of w r.now)) result }
-    ensures fits { IfOk result (Fits (E.worker engine.new)) }
+    ensures { let w = E.worker engine.old in
+        Performs E.least w (E.worker engine.new) (turned times (value_of w r.now)) result }
 {
     lift(rel_values::turned(engine, r, times))
 }
@@ -82,9 +80,8 @@ fn applied<E: Remembers>(
     requires right { Fits (E.worker engine.old) s.now }
     requires takes { takes_types op (known (value_rows r.now) (value_cols r.now))
         (known (value_rows s.now) (value_cols s.now)) ≡ true }
-    ensures ends { let w = E.worker engine.old in
-        EndsOnce E.least w (E.worker engine.new) (linked at op (value_of w r.now) (value_of w s.now)) result }
-    ensures fits { IfOk result (Fits (E.worker engine.new)) }
+    ensures { let w = E.worker engine.old in
+        Performs E.least w (E.worker engine.new) (linked at op (value_of w r.now) (value_of w s.now)) result }
 {
     match op {
         Op2::Or => lift(union(engine, r, s)),
@@ -106,9 +103,8 @@ pub fn link<E: Remembers>(
 ) -> Result<Value, Halt>
     requires left { Fits (E.worker engine.old) r.now }
     requires right { Fits (E.worker engine.old) s.now }
-    ensures ends { let w = E.worker engine.old in
-        EndsOnce E.least w (E.worker engine.new) (linked at op (value_of w r.now) (value_of w s.now)) result }
-    ensures fits { IfOk result (Fits (E.worker engine.new)) }
+    ensures { let w = E.worker engine.old in
+        Performs E.least w (E.worker engine.new) (linked at op (value_of w r.now) (value_of w s.now)) result }
 {
     let a = shape_in(engine, r);
     let b = shape_in(engine, s);

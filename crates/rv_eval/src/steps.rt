@@ -1,5 +1,5 @@
 //! The steps of an evaluation that need no recursion.
-ghost use Rattle.std.specs.Prelude.{◌≡◌, ◌==◌, ◌≤◌, ◌⊎◌, ℕ, max, List, length, cond, false, None, Some, IfOk, IfErr, OnOk, MatchOption, MatchResult, ◌∷◌, []};
+ghost use Rattle.std.specs.Prelude.{◌≡◌, ◌==◌, ◌≤◌, ◌⊎◌, ℕ, max, List, length, cond, false, None, Some, IfErr, OnOk, MatchOption, MatchResult, ◌∷◌, []};
 ghost use Rattle.lang_model.specs.declared.faults.TypeFault.TheVariants.{Unknown, Arity};
 ghost use Rattle.rel_model.specs.declared.Lack.TheVariants.{NoMemory as NO_MEMORY};
 ghost use Rattle.lang_model.specs.Tokens.{same_text};
@@ -8,12 +8,14 @@ ghost use Rattle.rel_values.specs.Values.{Fits, owed};
 ghost use Rattle.rv_eval.specs.declared.halt.Halt.TheVariants.{Ill, Lack as LACK};
 ghost use Rattle.lang_model.specs.Mean.{tested, injected_by, domain_named};
 ghost use Rattle.rv_eval.specs.Names.{first_of, beside};
-ghost use Rattle.rv_eval.specs.Values.{state_by, AllFit, names_owe};
-ghost use Rattle.rv_eval.specs.Ends.{Ends, EndsOnce};
+ghost use Rattle.rv_eval.specs.Values.{AllFit, names_owe};
+ghost use Rattle.rv_eval.specs.Around.{state_of_here};
+ghost use Rattle.rv_eval.specs.Ends.{Ends, Performs};
 
 use crate::domain_calls::domain_call;
 use crate::faults::{no_domain, type_of, unknown, wrong_count};
 use crate::halt::Halt;
+use crate::here::{Called, Here};
 use crate::names::{bind, find, put};
 use crate::shapes::shape_in;
 use lang_model::faults::TypeFault;
@@ -43,18 +45,17 @@ pub fn value_of_name<T: Copy>(
 /// Binds parameters to their values, if there are equally many of both.
 pub fn bound_names(
     alloc: Global,
-    at: Place,
-    name: &Name,
+    called: Called,
     params: &[Name],
     values: &[Value],
 ) -> Result<Vec<(Name, Value)>, Halt>
     ensures { MatchResult result (λ v. (length params.now ≡ length values.now)
         × (v.items ≡ beside params.now values.now))
         (λ e. (e ≡ LACK NO_MEMORY) ⊎ (((length params.now == length values.now) ≡ false)
-        × (e ≡ Ill (Arity at name.now (length params.now) (length values.now))))) }
+        × (e ≡ Ill (Arity called.entry.at called.entry.name.now (length params.now) (length values.now))))) }
 {
     if params.len() != values.len() {
-        return Err(wrong_count(alloc, at, name, params.len(), values.len()));
+        return Err(wrong_count(alloc, called, params.len(), values.len()));
     }
     match bind(alloc, params, values) {
         Ok(names) => Ok(names),
@@ -141,31 +142,28 @@ fn find_domain<'a>(decls: &'a [Decl], domain: &Name) -> Option<(&'a Name, &'a Na
 
 /// Applies a domain operator to a declared domain.
 pub fn inject<E: Engine>(
-    alloc: Global,
     engine: &mut E,
-    decls: &[Decl],
-    names: &[(Name, Value)],
+    here: &Here,
     at: Place,
     base: Base,
     domain: &Name,
 ) -> Result<Value, Halt>
-    requires standing { AllFit (E.worker engine.old) names.now }
-    ensures ends { let w = E.worker engine.old in
-        let o = injected_by (state_by w names.now) at base (domain_named decls.now domain.now) in
-        EndsOnce E.least w (E.worker engine.new) o result }
-    ensures fits { IfOk result (Fits (E.worker engine.new)) }
+    requires standing { AllFit (E.worker engine.old) here.now.names.now }
+    ensures { let w = E.worker engine.old in
+        let o = injected_by (state_of_here w here.now) at base (domain_named here.now.around.decls.now domain.now) in
+        Performs E.least w (E.worker engine.new) o result }
 {
-    let (left, right) = match find_domain(decls, domain) {
+    let (left, right) = match find_domain(here.around.decls, domain) {
         Some(found) => found,
-        None => return Err(no_domain(alloc, at, base)),
+        None => return Err(no_domain(here.around.alloc, at, base)),
     };
-    let a = match find(names, left.bytes()) {
+    let a = match find(here.names, left.bytes()) {
         Some(a) => a,
-        None => return Err(no_domain(alloc, at, base)),
+        None => return Err(no_domain(here.around.alloc, at, base)),
     };
-    let b = match find(names, right.bytes()) {
+    let b = match find(here.names, right.bytes()) {
         Some(b) => b,
-        None => return Err(no_domain(alloc, at, base)),
+        None => return Err(no_domain(here.around.alloc, at, base)),
     };
     let first = shape_in(engine, &a);
     let second = shape_in(engine, &b);

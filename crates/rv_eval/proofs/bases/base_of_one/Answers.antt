@@ -1,8 +1,6 @@
-use Rattle.std.proofs.Common.{◌∙◌, sym, ap}
-use Rattle.rel_slices.specs.Thin.{value_of}
-use Rattle.lang_model.specs.Outcomes.{with_turns}
-use Rattle.rv_eval.proofs.Going.{refuses}
+use Rattle.std.proofs.Common.{◌∙◌, sym}
 use Rattle.rv_eval.proofs.Operating.{no_square, no_vector}
+use Rattle.rv_eval.proofs.Performing.{fault_performs}
 use Rattle.rv_eval.proofs.bases.base_of_one.Goals as goal
 
 pub square_value-requires-clause-square : goal.square_value-requires-clause-square
@@ -11,14 +9,14 @@ square_value-requires-clause-square g c = sym c.shape_in-shape.ensures.rows ∙ 
 pub vector_base-requires-clause-one_column : goal.vector_base-requires-clause-one_column
 vector_base-requires-clause-one_column g c = sym c.shape_in-shape.ensures.cols ∙ c.if-shape-eq1.true
 
-pub returns-else-shape-clause-ends : goal.returns-else-shape-clause-ends
-returns-else-shape-clause-ends g c =
-    let w = g.E.Core.worker c.args.engine.now in
+pub returns-else-shape : goal.returns-else-shape
+returns-else-shape g c =
     let s = c.shape_in-shape.ensures in
-    refuses w 0 _ _ _ _ _ (ap (λ o. with_turns o 0) (no_square c.args.at (value_of w c.args.r.now) _ _ s.row_size s.col_size c.args.base (sym c.demand_of.ensures ∙ c.in-Square.is) c.if-shape.false)) c.not_square.ensures
+    let demand = sym c.demand_of.ensures ∙ c.in-Square.is in
+    fault_performs (no_square c.args.at s.typed c.args.base demand c.if-shape.false) c.not_square.ensures
 
-pub returns-else-shape-eq1-clause-ends : goal.returns-else-shape-eq1-clause-ends
-returns-else-shape-eq1-clause-ends g c =
-    let w = g.E.Core.worker c.args.engine.now in
+pub returns-else-shape-eq1 : goal.returns-else-shape-eq1
+returns-else-shape-eq1 g c =
     let s = c.shape_in-shape.ensures in
-    refuses w 0 _ _ _ _ _ (ap (λ o. with_turns o 0) (no_vector c.args.at (value_of w c.args.r.now) _ _ s.row_size s.col_size c.args.base (sym c.demand_of.ensures ∙ c.in-OneColumn.is) c.if-shape-eq1.false)) c.not_vector.ensures
+    let demand = sym c.demand_of.ensures ∙ c.in-OneColumn.is in
+    fault_performs (no_vector c.args.at s.typed c.args.base demand c.if-shape-eq1.false) c.not_vector.ensures

@@ -1,43 +1,42 @@
-use Rattle.std.proofs.Common.{sym, subst}
-use Rattle.rel_model.specs.Worker.{MakesAtMost}
-use Rattle.lang_model.specs.Eval.{early_fault, cost_of_value}
-use Rattle.lang_model.proofs.Stepping.{calm_means_the_same}
-use Rattle.rv_eval.specs.Names.{HasSizes, state_of}
-use Rattle.rv_eval.specs.Refusing.{IsAnswer, IsEvaluated}
-use Rattle.rv_eval.proofs.Ahead.{never_full_ahead, ahead_evaluated, calm_evaluated, fits_unless_early, are_relations}
+use Rattle.std.proofs.Common.{◌≡◌, Err, Ok, refl, sym, subst}
+use Rattle.rel_model.proofs.Workers.{gives_set}
+use Rattle.rel_slices.specs.Thin.{value_rows, value_cols, value_of, ValueStands}
+use Rattle.lang_model.specs.Eval.{evaluated}
+use Rattle.rv_eval.specs.Names.{state_of}
+use Rattle.rv_eval.specs.Refusing.{IsEvaluatedBy, IsEvaluated}
+use Rattle.rv_eval.proofs.Wholly.{refused_evaluated, refused_alike, whole_evaluated, lack_evaluated, lack_no_fault}
 use Rattle.rv_eval.proofs.call.eval.Goals as goal
 
-pub returns-in-Some-clause-answer : goal.returns-in-Some-clause-answer
-returns-in-Some-clause-answer g c =
-    let w = g.E.Core.worker c.args.engine.now in
-    let s = state_of w c.args.env.now in
-    let sizes : HasSizes w = record { rows = g.met.E.Core.row_size c.args.engine.now; cols = g.met.E.Core.col_size c.args.engine.now } in
-    ahead_evaluated c.args.checked.now s c.args.expr.now w c.args.turns c.in-Some.refused (c.in-Some.ensures.early w sizes c.requires.standing)
+pub returns-in-Err-clause-answer : goal.returns-in-Err-clause-answer
+returns-in-Err-clause-answer g c =
+    let a = c.args in
+    let old = g.E.Core.worker a.engine.now in
+    let new = g.E.Core.worker c.eval_value.new.engine in
+    refused_evaluated old new a.turns (evaluated a.checked.now (state_of old a.env.now) a.expr.now a.turns) c.in-Err.refused c.in-Err.ensures.answer
 
-pub returns-in-None-clause-answer : goal.returns-in-None-clause-answer
-returns-in-None-clause-answer g c =
-    let w = g.E.Core.worker c.args.engine.now in
-    let v = g.E.Core.worker c.calm_meaning_of.new.engine in
-    let s = state_of w c.args.env.now in
-    let sizes : HasSizes w = record { rows = g.met.E.Core.row_size c.args.engine.now; cols = g.met.E.Core.col_size c.args.engine.now } in
-    let none = c.in-None.ensures.early w sizes c.requires.standing in
-    let fits = fits_unless_early c.args.checked.now s c.args.expr.now none in
-    let same = calm_means_the_same.meaning c.args.checked.now s c.args.expr.now fits.0 c.args.turns (are_relations w c.args.env.now (g.met.E.Core.valid c.args.engine.now) c.requires.standing) fits.1 in
-    subst (λ e. IsEvaluated w v c.args.turns e c.calm_meaning_of.result) (sym (calm_evaluated c.args.checked.now s c.args.expr.now c.args.turns none))
-    (subst (λ a. IsAnswer w v c.args.turns a c.calm_meaning_of.result) same c.calm_meaning_of.ensures.answer)
+pub returns-in-Err-clause-compound : goal.returns-in-Err-clause-compound
+returns-in-Err-clause-compound g c h = c.in-Err.ensures.compound (refused_alike c.in-Err.refused _ h)
 
-pub returns-in-None-clause-room : goal.returns-in-None-clause-room
-returns-in-None-clause-room g c =
-    let w = g.E.Core.worker c.args.engine.now in
-    let v = g.E.Core.worker c.calm_meaning_of.new.engine in
-    let s = state_of w c.args.env.now in
-    let sizes : HasSizes w = record { rows = g.met.E.Core.row_size c.args.engine.now; cols = g.met.E.Core.col_size c.args.engine.now } in
-    let none = c.in-None.ensures.early w sizes c.requires.standing in
-    subst (λ e. MakesAtMost (cost_of_value g.E.Core.least e) w v) (sym (calm_evaluated c.args.checked.now s c.args.expr.now c.args.turns none)) c.calm_meaning_of.ensures.room
+pub returns-in-Err-clause-memory : goal.returns-in-Err-clause-memory
+returns-in-Err-clause-memory g c h = c.in-Err.ensures.memory (refused_alike c.in-Err.refused _ h)
 
-pub returns-in-Some-clause-compound : goal.returns-in-Some-clause-compound
-returns-in-Some-clause-compound g c h =
-    let w = g.E.Core.worker c.args.engine.now in
-    let s = state_of w c.args.env.now in
-    let sizes : HasSizes w = record { rows = g.met.E.Core.row_size c.args.engine.now; cols = g.met.E.Core.col_size c.args.engine.now } in
-    absurd (never_full_ahead (early_fault c.args.checked.now s c.args.expr.now) c.in-Some.refused (c.in-Some.ensures.early w sizes c.requires.standing) h)
+pub returns-in-Whole-clause-answer : goal.returns-in-Whole-clause-answer
+returns-in-Whole-clause-answer g c =
+    let a = c.args in
+    let old = g.E.Core.worker a.engine.now in
+    let new = g.E.Core.worker c.eval_value.new.engine in
+    let e = evaluated a.checked.now (state_of old a.env.now) a.expr.now a.turns in
+    whole_evaluated old new new a.turns e _ c.in-Whole.rel (subst (λ v. IsEvaluatedBy (value_of new) old new a.turns e (Ok v)) c.in-Whole.is c.in-Ok.ensures.answer) refl
+
+pub returns-in-Whole-clause-stands : goal.returns-in-Whole-clause-stands
+returns-in-Whole-clause-stands g c = subst (λ v. ValueStands (g.E.Core.worker c.eval_value.new.engine) v) c.in-Whole.is c.in-Ok.ensures.fits.stands
+
+pub returns-in-Ok-whole-clause-answer : goal.returns-in-Ok-whole-clause-answer
+returns-in-Ok-whole-clause-answer g c =
+    let a = c.args in
+    let old = g.E.Core.worker a.engine.now in
+    let mid = g.E.Core.worker c.eval_value.new.engine in
+    let new = g.E.Core.worker c.whole.new.engine in
+    let v = c.in-Ok.value in
+    let e = evaluated a.checked.now (state_of old a.env.now) a.expr.now a.turns in
+    whole_evaluated old mid new a.turns e v c.in-Ok-whole.rel c.in-Ok.ensures.answer (gives_set new (value_rows v) (value_cols v) (value_of mid v) c.in-Ok-whole.rel c.in-Ok-whole.ensures.value)

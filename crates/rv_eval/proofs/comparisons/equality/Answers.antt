@@ -1,73 +1,46 @@
-use Rattle.std.proofs.Common.{◌≡◌, ◌≤◌, ◌+◌, ◌∙◌, sym, ap, refl, arith}
-use Rattle.rel_model.specs.Worker.{operator_room}
-use Rattle.rel_slices.specs.Thin.{value_of, value_rows, value_cols}
-use Rattle.lang_model.specs.Rooms.{plain_cost}
-use Rattle.lang_model.specs.Outcomes.{Makes, with_turns}
-use Rattle.lang_model.specs.Mean.{answer_of_test}
-use Rattle.rv_eval.proofs.Going.{refuses}
-use Rattle.rv_eval.proofs.Operating.{type_of_fit, made_lack, both_fit, said}
-use Rattle.rv_eval.proofs.Costing.{test_plain, counted_more}
-use Rattle.rv_eval.proofs.Testing.{same_test, empty_test, diff_test, type_of_diff}
-use Rattle.rv_eval.proofs.Basing.{eq_fits, eq_misfit, after_made}
+use Rattle.std.proofs.Common.{◌∙◌, sym}
+use Rattle.rv_eval.proofs.Operating.{both_fit}
+use Rattle.rv_eval.proofs.Testing.{same_test}
+use Rattle.rv_eval.proofs.Basing.{eq_fits, eq_misfit}
+use Rattle.rv_eval.proofs.Performing.{tested_by, lack_performs, truth_performs, fault_performs}
 use Rattle.rv_eval.proofs.comparisons.equality.Goals as goal
 
-pub same-requires-clause-rows : goal.same-requires-clause-rows
-same-requires-clause-rows g c = sym c.shape_in-a.ensures.rows ∙ (both_fit _ _ _ _ (sym c.alike.ensures ∙ c.if-alike.true)).0 ∙ c.shape_in-b.ensures.rows
-
-pub same-requires-clause-cols : goal.same-requires-clause-cols
-same-requires-clause-cols g c = sym c.shape_in-a.ensures.cols ∙ (both_fit _ _ _ _ (sym c.alike.ensures ∙ c.if-alike.true)).1 ∙ c.shape_in-b.ensures.cols
-
-pub returns-in-Err-clause-ends : goal.returns-in-Err-clause-ends
-returns-in-Err-clause-ends g c =
-    let w = g.E.Core.worker c.args.engine.now in
-    let x = c.args.r.now in
-    let y = c.args.s.now in
-    let R = value_of w x in
-    let S = value_of w y in
+pub same-requires : goal.same-requires
+same-requires g c =
     let a = c.shape_in-a.ensures in
     let b = c.shape_in-b.ensures in
-    let v = g.E.Core.worker c.same.new.engine in
-    let m = c.shape_in-a.result.rows in
-    let n = c.shape_in-a.result.cols in
-    let fits = sym c.alike.ensures ∙ c.if-alike.true in
-    let sizes : operator_room (value_rows x) (value_cols x) ≡ operator_room m n = ap (λ k. operator_room k (value_cols x)) (sym a.rows) ∙ ap (operator_room m) (sym a.cols) in
-    let made : v.made ≤ w.made + operator_room (value_rows x) (value_cols x) = c.in-Err.ensures.room in
-    let tree = test_plain g.E.Core.least m n in
-    said w v _ _ _ _ (eq_fits c.args.at R S _ _ _ _ a.row_size a.col_size b.row_size b.col_size fits) refl
-    (made_lack w v 0 _ _ _ _ c.in-Err.lack c.in-Err.ensures.cause c.in-Err.ensures.keeps (omega (arith, made, sizes, tree)))
+    let both = both_fit _ _ _ _ (sym c.alike.ensures ∙ c.if-alike.true) in
+    record {
+      left = c.requires.left;
+      right = c.requires.right;
+      rows = sym a.rows ∙ both.0 ∙ b.rows;
+      cols = sym a.cols ∙ both.1 ∙ b.cols;
+    }
 
-pub returns-in-Ok-clause-ends : goal.returns-in-Ok-clause-ends
-returns-in-Ok-clause-ends g c =
-    let w = g.E.Core.worker c.args.engine.now in
-    let x = c.args.r.now in
-    let y = c.args.s.now in
-    let R = value_of w x in
-    let S = value_of w y in
+pub returns-in-Err : goal.returns-in-Err
+returns-in-Err g c =
     let a = c.shape_in-a.ensures in
     let b = c.shape_in-b.ensures in
-    let v = g.E.Core.worker c.same.new.engine in
-    let u = g.E.Core.worker c.truth.new.engine in
-    let m = c.shape_in-a.result.rows in
-    let n = c.shape_in-a.result.cols in
-    let fits = sym c.alike.ensures ∙ c.if-alike.true in
-    let both = both_fit _ _ _ _ fits in
-    let t = type_of_fit w x (g.met.E.Core.valid c.args.engine.now) (g.met.E.Core.row_size c.args.engine.now) (g.met.E.Core.col_size c.args.engine.now) c.requires.left in
-    let q = type_of_fit w y (g.met.E.Core.valid c.args.engine.now) (g.met.E.Core.row_size c.args.engine.now) (g.met.E.Core.col_size c.args.engine.now) c.requires.right in
-    let test = same_test R S c.in-Ok.yes t.valid q.valid (a.row_size ∙ both.0 ∙ sym b.row_size) (a.col_size ∙ both.1 ∙ sym b.col_size) c.in-Ok.ensures.value in
-    let sizes : operator_room (value_rows x) (value_cols x) ≡ operator_room m n = ap (λ k. operator_room k (value_cols x)) (sym a.rows) ∙ ap (operator_room m) (sym a.cols) in
-    let given : v.made ≤ w.made + operator_room (value_rows x) (value_cols x) = c.in-Ok.ensures.room in
-    let made : v.made ≤ w.made + operator_room m n = omega (arith, given, sizes) in
-    said w u _ _ _ _ (eq_fits c.args.at R S _ _ _ _ a.row_size a.col_size b.row_size b.col_size fits ∙ ap (λ b. Makes (answer_of_test b) (plain_cost m n)) test) refl
-    (counted_more w u _ _ _ _ (test_plain g.E.Core.least m n)
-    (after_made w v u _ (λ leaf. operator_room m n) (λ leaf. operator_room 1 1) _ c.in-Ok.ensures.keeps made c.truth.ensures.ends))
+    let alike = sym c.alike.ensures ∙ c.if-alike.true in
+    let is = eq_fits c.args.at a.typed b.typed alike in
+    let e = c.in-Err.ensures in
+    lack_performs is (tested_by a.rows a.cols e.keeps e.room) e.cause
 
-pub returns-else-alike-clause-ends : goal.returns-else-alike-clause-ends
-returns-else-alike-clause-ends g c =
-    let w = g.E.Core.worker c.args.engine.now in
-    let x = c.args.r.now in
-    let y = c.args.s.now in
-    let R = value_of w x in
-    let S = value_of w y in
+pub returns-in-Ok : goal.returns-in-Ok
+returns-in-Ok g c =
     let a = c.shape_in-a.ensures in
     let b = c.shape_in-b.ensures in
-    refuses w 0 _ _ _ _ _ (ap (λ o. with_turns o 0) (eq_misfit c.args.at R S _ _ _ _ a.row_size a.col_size b.row_size b.col_size (sym c.alike.ensures ∙ c.if-alike.false))) c.not_alike.ensures
+    let alike = sym c.alike.ensures ∙ c.if-alike.true in
+    let is = eq_fits c.args.at a.typed b.typed alike in
+    let both = both_fit _ _ _ _ alike in
+    let rows = a.row_size ∙ both.0 ∙ sym b.row_size in
+    let cols = a.col_size ∙ both.1 ∙ sym b.col_size in
+    let told = same_test _ _ c.in-Ok.yes a.typed.valid b.typed.valid rows cols c.in-Ok.ensures.value in
+    truth_performs is told (tested_by a.rows a.cols c.in-Ok.ensures.keeps c.in-Ok.ensures.room) c.truth.ensures
+
+pub returns-else-alike : goal.returns-else-alike
+returns-else-alike g c =
+    let a = c.shape_in-a.ensures in
+    let b = c.shape_in-b.ensures in
+    let apart = sym c.alike.ensures ∙ c.if-alike.false in
+    fault_performs (eq_misfit c.args.at a.typed b.typed apart) c.not_alike.ensures

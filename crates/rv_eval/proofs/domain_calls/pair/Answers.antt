@@ -1,10 +1,9 @@
-use Rattle.std.proofs.Common.{◌∙◌, ◌*◌, max, sym, ap, refl}
+use Rattle.std.proofs.Common.{◌∙◌, ◌*◌, max, sym, refl}
 use Rattle.rel_slices.specs.Thin.{value_of, value_rows, value_cols}
-use Rattle.lang_model.specs.Outcomes.{with_turns}
-use Rattle.rv_eval.proofs.Going.{refuses}
 use Rattle.rv_eval.proofs.Domains.{limited_ends, limited_fits, pair_fits, pair_misfit}
 use Rattle.rv_eval.proofs.Operating.{type_of_fit, unequal_sizes}
 use Rattle.rv_eval.proofs.Costing.{wide_by}
+use Rattle.rv_eval.proofs.Performing.{fault_performs}
 use Rattle.rv_eval.proofs.domain_calls.pair.Goals as goal
 
 pub pair-requires-clause-rows : goal.pair-requires-clause-rows
@@ -19,18 +18,15 @@ returns-then-a-b g c =
     let t = type_of_fit w x (g.met.E.Core.valid c.args.engine.now) (g.met.E.Core.row_size c.args.engine.now) (g.met.E.Core.col_size c.args.engine.now) c.requires.left in
     let u = type_of_fit w y (g.met.E.Core.valid c.args.engine.now) (g.met.E.Core.row_size c.args.engine.now) (g.met.E.Core.col_size c.args.engine.now) c.requires.right in
     let rows = sym c.shape_in-a.ensures.rows ∙ c.if-a-b.true ∙ c.shape_in-b.ensures.rows in
-    let is = pair_fits c.args.at (value_of w x) (value_of w y) _ _ _ _ t.row_size t.col_size u.row_size u.col_size rows in
+    let is = pair_fits c.args.at t u rows in
     let less = wide_by g.E.Core.least (value_rows x) (max (value_cols x) (value_cols y)) (value_cols x * value_cols y) _ _ _ refl refl refl in
     record {
       ends = limited_ends w v _ c.args.at _ _ _ _ _ _ less (g.met.E.Core.row_limit c.pair.new.engine) (g.met.E.Core.col_limit c.pair.new.engine) (λ a b. b) _ c.pair.result c.lift_domain.result is c.lift_domain.ensures c.pair.ensures.operates;
       fits = limited_fits w v _ c.args.at _ _ _ _ _ c.pair.result c.lift_domain.result c.lift_domain.ensures c.pair.ensures.operates;
     }
 
-pub returns-else-a-b-clause-ends : goal.returns-else-a-b-clause-ends
-returns-else-a-b-clause-ends g c =
-    let w = g.E.Core.worker c.args.engine.now in
-    let R = value_of w c.args.r.now in
-    let S = value_of w c.args.s.now in
+pub returns-else-a-b : goal.returns-else-a-b
+returns-else-a-b g c =
     let a = c.shape_in-a.ensures in
     let b = c.shape_in-b.ensures in
-    refuses w 0 _ _ _ _ _ (ap (λ o. with_turns o 0) (pair_misfit c.args.at R S _ _ _ _ a.row_size a.col_size b.row_size b.col_size (unequal_sizes _ _ c.if-a-b.false))) c.no_pair.ensures
+    fault_performs (pair_misfit c.args.at a.typed b.typed (unequal_sizes _ _ c.if-a-b.false)) c.no_pair.ensures

@@ -1,9 +1,8 @@
-use Rattle.std.proofs.Common.{◌≡◌, ◌∙◌, true, sym, ap}
-use Rattle.rel_slices.specs.Thin.{value_of, value_rows, value_cols}
+use Rattle.std.proofs.Common.{◌∙◌, true, sym, ap}
+use Rattle.rel_slices.specs.Thin.{value_rows, value_cols}
 use Rattle.lang_model.specs.Types.{known, takes}
-use Rattle.lang_model.specs.Outcomes.{with_turns}
-use Rattle.rv_eval.proofs.Going.{refuses}
 use Rattle.rv_eval.proofs.Operating.{link_misfit}
+use Rattle.rv_eval.proofs.Performing.{fault_performs}
 use Rattle.rv_eval.proofs.operators.link.Goals as goal
 
 pub applied-requires-clause-takes : goal.applied-requires-clause-takes
@@ -17,9 +16,9 @@ applied-requires-clause-takes g c =
     ∙ ap (λ k. takes op (known (value_rows x) (value_cols x)) (known k b.cols)) c.shape_in-b.ensures.rows ∙ ap (λ k. takes op (known (value_rows x) (value_cols x)) (known (value_rows y) k)) c.shape_in-b.ensures.cols)
     ∙ sym c.takes.ensures ∙ c.if-takes.true
 
-pub returns-else-takes-clause-ends : goal.returns-else-takes-clause-ends
-returns-else-takes-clause-ends g c =
-    let w = g.E.Core.worker c.args.engine.now in
+pub returns-else-takes : goal.returns-else-takes
+returns-else-takes g c =
     let a = c.shape_in-a.ensures in
     let b = c.shape_in-b.ensures in
-    refuses w 0 _ _ _ _ _ (ap (λ o. with_turns o 0) (link_misfit c.args.at c.args.op (value_of w c.args.r.now) (value_of w c.args.s.now) _ _ _ _ a.row_size a.col_size b.row_size b.col_size (sym c.takes.ensures ∙ c.if-takes.false))) c.mismatch.ensures
+    let apart = sym c.takes.ensures ∙ c.if-takes.false in
+    fault_performs (link_misfit c.args.at c.args.op a.typed b.typed apart) c.mismatch.ensures

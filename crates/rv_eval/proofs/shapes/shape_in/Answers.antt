@@ -13,6 +13,7 @@ returns g c =
     record {
       rows = s.rows;
       cols = s.cols;
+      typed = record { valid = t.valid; row_size = t.row_size ∙ sym s.rows; col_size = t.col_size ∙ sym s.cols };
       row_size = t.row_size ∙ sym s.rows;
       col_size = t.col_size ∙ sym s.cols;
       row_limit = subst (λ k. k ≤ size_limit) (sym s.rows) l.0;
