@@ -33,6 +33,7 @@ unchosen-apart side (q ∷ qs) (true ∷ bits) h =
     (λ x a p. ((λ i j u v. a i j v u), p)) qs bits h.0 (unchosen-apart side qs bits h.1)
 unchosen-apart side (q ∷ qs) (false ∷ bits) h = (all-chosen (Apart side q) qs bits h.0, unchosen-apart side qs bits h.1)
 
+-- where all chosen ones pass a test and all others fail it, the test tells the bits, by induction along both lists
 map-bits : (m : Corner → Bool) (qs : List Corner) (bits : List Bool) → length bits ≡ length qs → AllByRecursion (λ q. m q ≡ true) (chosen qs bits)
     → Unchosen (λ q. m q ≡ false) qs bits → map m qs ≡ bits
 map-bits m [] [] l h u = refl
@@ -98,6 +99,8 @@ zero-rest (suc n) at (a ∷ b ∷ c ∷ d ∷ bits) rest l h =
 covered : (S : List Corner) (side : ℕ) (p q : Corner) → Covers side p q → in_cells S side q ≡ true → in_cells S (side + side) p ≡ true
 covered S side p q c h = any-quarter (lies side q) (lies (side + side) p) (λ x e. in-lies (side + side) p x (c x.0 x.1 (lies-in side q x e))) S h
 
+-- one level up each has a cell, by induction on the groups: a group has a set bit, so one of the quarters is chosen,
+-- and its cell lies in the whole
 pub have-up : (S : List Corner) (side : ℕ) (ps : List Corner) (at : ℕ) (bits rest : List Bool) → length bits ≡ 4 * length ps → zero_group at (bits ++ rest) ≡ None
     → HaveCells S side (chosen (flat_map (quarters side) ps) bits) → HaveCells S (side + side) ps
 have-up S side [] at bits rest l z h = tt

@@ -35,6 +35,7 @@ length-top k v = length-map-range_with_len (λ i. bit_at v (k - 1 - i) == 1) 0 k
 get-top : (k v i : ℕ) (d : Bool) → i < k → get_or (top k v) i d ≡ (bit_at v (k - 1 - i) == 1)
 get-top k v i d l = get_or-map-range_with_len (λ i. bit_at v (k - 1 - i) == 1) 0 k i i d l (omega arith)
 
+-- with one bit more at the low end that bit is the last one, and the others are those of the number above it
 top-more : (k v : ℕ) (b : Bool) → top (k + 1) (2 * v + number_of_bit b) ≡ top k v ++ b ∷ []
 top-more k v b =
     ext_get_or false (top (k + 1) w) (top k v ++ b ∷ []) (length-top (k + 1) w ∙ sym (length-append (top k v) (b ∷ []) ∙ ap (λ (n : ℕ). n + 1) (length-top k v)))
@@ -61,6 +62,7 @@ bit-shifted v j i l = let e : v * 2 ^ j ≡ v * 2 ^ j + 0 = omega arith in let p
 bit-below : (v j i : ℕ) → i < j → bit_at (v * 2 ^ j) i ≡ 0
 bit-below v j i l = let e : v * 2 ^ j ≡ v * 2 ^ j + 0 = omega arith in ap (λ n. bit_at n i) e ∙ bit_at_cat_low v j 0 i l ∙ bit_at-zero i
 
+-- a number at the upper end of a byte has its own bits first, and behind them bits that are not set
 top-shifted : (k v : ℕ) → k ≤ 8 → top 8 (v * 2 ^ (8 - k)) ≡ top k v ++ replicate (8 - k) false
 top-shifted k v l =
     ext_get_or false (top 8 u) (top k v ++ replicate (8 - k) false)
@@ -94,6 +96,8 @@ unpack-none (suc k) v l =
     ap (λ c. unpacked (cond c [] (v * 2 ^ (8 - suc k) ∷ []))) (some-bits k) ∙ append-nil (top 8 (v * 2 ^ (8 - suc k))) ∙ top-shifted (suc k) v (omega (arith, l))
     ∙ ap (λ (n : ℕ). top (suc k) v ++ replicate n false) e
 
+-- packed and unpacked, bits stand behind those that wait for a byte to be full, and bits that are not set fill the last
+-- byte, by induction: each bit joins those that wait, or completes the byte
 unpack-packed : (bits : List Bool) (k v : ℕ) → k < 8 → unpacked (packed v k bits) ≡ top k v ++ (bits ++ replicate (pad (k + length bits)) false)
 unpack-packed [] k v l = let e : k + 0 ≡ k = omega arith in unpack-none k v l ∙ ap (λ (n : ℕ). top k v ++ replicate (pad n) false) (sym e)
 unpack-packed (b ∷ bits) k v l = elim (cases_eq k 7) [
@@ -186,6 +190,7 @@ bit-small : (b : Bool) → number_of_bit b ≤ 1
 bit-small true = omega arith
 bit-small false = omega arith
 
+-- each packed byte is below 256, by induction: the bits that wait are fewer than eight, and eight of them are a byte
 all-packed : (bits : List Bool) (k v : ℕ) → k < 8 → v < 2 ^ k → AllByRecursion (λ b. b < 256) (packed v k bits)
 all-packed [] zero v l h = tt
 all-packed [] (suc k) v l h =

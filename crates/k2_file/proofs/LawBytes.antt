@@ -75,6 +75,7 @@ record Passes (bytes : List ℕ) : Type 0 where
   cell_end : ones (drop (fields bytes).cell_count (fields bytes).cells) ≡ 0
   end : length bytes ≡ end_of bytes
 
+-- bytes without a fault pass each test: none of the groups of tests has a fault, and so no test of a group
 passes : (bytes : List ℕ) → k2_fault bytes ≡ None → Passes bytes
 unfolding level_fault outside_fault
 passes bytes h =
@@ -228,6 +229,7 @@ module _ (bytes : List ℕ) (small : AllByRecursion (λ b. b < 256) bytes) (none
   one-byte : (n : ℕ) → n < length bytes → take 1 (drop n bytes) ≡ get_or bytes n 0 ∷ []
   one-byte n l = ap (take 1) (drop_more bytes n 0 l)
 
+  -- the six fields of the header are those of the file: each field is the number in its bytes, and is written as these
   head-same : head (k2_relation bytes) ≡ take 29 bytes
   unfolding head
   head-same =

@@ -27,6 +27,8 @@ module _ (r : Relation) (S : List Corner) (same : (side : ℕ) (p : Corner) → 
   map-agree side [] = refl
   map-agree side (q ∷ qs) = ap (λ b. b ∷ map (meets r side) qs) (same side q) ∙ ap (λ bs. in_cells S side q ∷ bs) (map-agree side qs)
 
+  -- from the cells upwards, by induction on the levels: at each one exactly those that are chosen have a cell, so the
+  -- bits that choose them are those of the relation
   pub back : (k : ℕ) (ps : List Corner) (T L : List Bool) (at : ℕ) → AreApart (2 ^ suc k) ps → levels_fit k (length ps) T (length L) ≡ true → zero_group at (T ++ L) ≡ None
       → S ≡ chosen (cells_below k ps T) L → Back r S k ps T L
   back zero ps [] L at a fit z e =

@@ -158,6 +158,7 @@ module _ (r : Relation) (v : IsRelation r) (a : r.rows ≤ size_limit) (b : r.co
   length-groups true = refl
   length-groups false = refl
 
+  -- the levels of the file have no fault: its bits are those of the tree, which fit and have a set bit in each group
   levels-file : level_fault (k2 r) ≡ None
   unfolding level_fault
   levels-file =
@@ -197,6 +198,8 @@ module _ (r : Relation) (v : IsRelation r) (a : r.rows ≤ size_limit) (b : r.co
   pub fault-file : k2_fault (k2 r) ≡ None
   fault-file = fault-end (k2 r) header-file levels-file outside-file ∙ end-good
 
+  -- the file is read as the relation: the cells that are chosen are those that have a pair, and they are the places of
+  -- the pairs
   pub relation-file : k2_relation (k2 r) ≡ r
   unfolding k2_relation
   relation-file =

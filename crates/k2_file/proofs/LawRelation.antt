@@ -34,6 +34,7 @@ cell-inside rows cols r v c h =
     let b : c.1 < cols = omega (arith, t.east, w.2.1) in
     and_from (ltb c.0 rows) (ltb c.1 cols) (lt-ltb c.0 rows a) (lt-ltb c.1 cols b)
 
+-- no cell that has a pair is outside the sizes, by induction on the cells: it is the place of that pair
 pub outside-tree : (rows cols : ℕ) (r : Relation) → AllByRecursion (λ p. (p.0 < rows) × (p.1 < cols)) r.pairs → (cs : List Corner) (at : ℕ)
     → cell_outside rows cols at cs (map (meets r 1) cs) ≡ None
 outside-tree rows cols r v [] at = refl

@@ -166,6 +166,8 @@ group-pass r side at (p ∷ ps) xs h =
 all-level : (r : Relation) (k : ℕ) (ps : List Corner) → AllByRecursion (λ p. meets r (2 ^ k + 2 ^ k) p ≡ true) (level r k ps)
 all-level r k ps = subst (λ (s : ℕ). AllByRecursion (λ p. meets r s p ≡ true) (level r k ps)) (two-halves k) (all-filter-passes (meets r (2 ^ suc k)) ps)
 
+-- no group above the cells is without a set bit, by induction on the levels: each stands for a submatrix with a pair,
+-- which lies in one of its quarters
 groups-inner : (r : Relation) (k : ℕ) (ps : List Corner) (at : ℕ) (xs : List Bool) → zero_group at (inner_bits r k ps ++ xs) ≡ zero_group (at + length (inner_bits r k ps)) xs
 groups-inner r zero ps at xs = let e : at + 0 ≡ at = omega arith in ap (λ (n : ℕ). zero_group n xs) (sym e)
 groups-inner r (suc k) ps at xs =

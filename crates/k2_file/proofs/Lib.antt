@@ -13,7 +13,6 @@ pub mod ReadGroups
 pub mod ReadHeader
 pub mod ReadLevels
 pub mod ReadListed
-pub mod ReadPowers
 pub mod ReadWalk
 pub mod WritePieces
 pub mod WriteLevels

@@ -15,6 +15,7 @@ pub record LiesIn (side : ℕ) (p : Corner) (i j : ℕ) : Type 0 where
   pub south : p.0 ≤ i
   pub north : i < p.0 + side
   pub east : p.1 ≤ j
+  -- west of where its columns end
   pub west : j < p.1 + side
 
 -- no place lies in both
@@ -62,6 +63,7 @@ apart-inside side p q a b h x y = λ i j v w. h i j (x i j v) (y i j w)
 apart-from : (side : ℕ) (p a : Corner) → Covers side p a → (q : Corner) → Apart (side + side) p q → AllByRecursion (Apart side a) (quarters side q)
 apart-from side p a x q h = all-weaker (Covers side q) (Apart side a) (λ b y. apart-inside side p q a b h x y) (quarters side q) (covers-quarters side q)
 
+-- the quarters of a submatrix are apart: between any two of them runs a middle line, and no place is on both sides
 apart-own : (side : ℕ) (p : Corner) → AreApart side (quarters side p)
 apart-own side p = (
   (

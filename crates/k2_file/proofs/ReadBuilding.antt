@@ -1,96 +1,20 @@
 -- Quads that are built from the leaves upwards: their corner has the cells of the square, and the nodes are few.
 use Rattle.std.proofs.Common.{◌≡◌, ◌==◌, ◌&&◌, ◌||◌, ltb, inl, inr, ◌≢◌, ◌<◌, ◌≤◌, ◌+◌, ◌-◌, ◌*◌, ◌^◌, ℕ, Bool, true, false, cond, List, [], ◌∷◌, length, refl, sym, ap, ◌∙◌, subst, arith, Some}
-use Rattle.std.specs.Prelude.{IsSome, unwrap_or, Ok}
-use Rattle.std.specs.Result.{is_ok}
-use Rattle.rel_model.specs.declared.Quad.{Quad}
-use Rattle.rel_model.specs.Cells.{Cells, no_cells}
 use Rattle.std.specs.List.{AllByRecursion}
 use Rattle.std.proofs.lemmas.Nat.{mul-le}
-use Rattle.std.proofs.lemmas.Bool.{true≢false, cases_lt, lt-ltb, ne_eqb}
+use Rattle.std.proofs.lemmas.Bool.{cases_lt, lt-ltb, ne_eqb}
+use Rattle.rel_model.specs.Cells.{Cells, no_cells}
 use Rattle.rel_model.specs.Listed.{is_among, AreWithin}
+use Rattle.rel_model.specs.Trees.{top_height}
+use Rattle.rel_model.specs.Worker.{Worker, GivesQuad, listed_room}
 use Rattle.rel_model.proofs.TreeLaws.{same_cells}
-use Rattle.k2_file.proofs.ReadStarts.{pairs-within}
-use Rattle.rel_model.specs.Trees.{quartered, top_height}
-use Rattle.rel_model.specs.Quarters.{LiesWithin}
-use Rattle.rel_model.specs.Worker.{Worker, HasQuad, quad_set, GivesQuad, Keeps, MissesNothing, HasCause, listed_room}
+use Rattle.rel_steps.proofs.Given.{AreParts}
 use Rattle.run_model.specs.Files.{whole, number_of_bit}
-use Rattle.k2_file.specs.Rests.{behind, pairs_below, count_below, AreThere, cells_of_part, cells_inside}
+use Rattle.k2_file.specs.Rests.{behind, pairs_below, count_below, AreThere, cells_of_part, cells_inside, rests_at, MovesOn}
 use Rattle.k2_file.proofs.ReadRests.{count-some}
+use Rattle.k2_file.proofs.ReadStarts.{pairs-within, length-rests}
+use Rattle.k2_file.proofs.ReadPlaces.{IsAtGroup}
 use Rattle.k2_file.proofs.ReadQuarters.{IsWithin, four-quartered, square-asked, group-count, pairs-none}
-
--- ---- what was missing
--- what is given misses nothing
-pub ok-cause : {T : Type 0} (lean : Bool) (a b : Worker) (x : T) → MissesNothing a b → HasCause lean a b (Ok x)
-ok-cause lean a b x n = record {
-  full = λ e. absurd (true≢false (ap is_ok e));
-  no_memory = λ l e. true≢false (ap is_ok e);
-  done = n;
-  wanting = λ e. n;
-}
-
--- ---- what a worker gives
-pub gives-has : (w : Worker) (h : ℕ) (f : Cells) (q : Quad) → GivesQuad w h f q → HasQuad w q
-gives-has w h f q g = subst IsSome (sym g.means) refl
-
-pub gives-set : (w : Worker) (h : ℕ) (f : Cells) (q : Quad) → GivesQuad w h f q → quad_set w q ≡ f
-gives-set w h f q g = ap (λ o. unwrap_or o no_cells) g.means
-
-pub gives-later : (v w : Worker) (h : ℕ) (f : Cells) (q : Quad) → Keeps v w → GivesQuad v h f q → GivesQuad w h f q
-gives-later v w h f q k g = record { means = k.same_quads q (gives-has v h f q g) ∙ g.means; same_height = g.same_height }
-
--- a set that lies within a side
-pub within-lies : (m : ℕ) (f : Cells) → LiesWithin m m f → IsWithin m f
-within-lies m f l = record {
-  row = λ i j over. no_cell (f i j) (λ t. let r = l.row i j t in omega arith);
-  col = λ i j over. no_cell (f i j) (λ t. let r = l.col i j t in omega arith);
-}
-  where
-    no_cell : (b : Bool) → (b ≡ true → ⊥) → b ≡ false
-    no_cell true n = absurd (n refl)
-    no_cell false n = refl
-
--- the sets of quads lie within their squares
-abbrev pub LieWithin : Worker → Type 0
-LieWithin w = (q : Quad) → HasQuad w q → LiesWithin (2 ^ q.height) (2 ^ q.height) (quad_set w q)
-
-gives-within : (w : Worker) (h : ℕ) (f : Cells) (q : Quad) → LieWithin w → GivesQuad w h f q → IsWithin (2 ^ h) f
-gives-within w h f q l g =
-    within-lies (2 ^ h) f (subst (λ x. LiesWithin (2 ^ h) (2 ^ h) x) (gives-set w h f q g)
-    (subst (λ (n : ℕ). LiesWithin (2 ^ n) (2 ^ n) (quad_set w q)) g.same_height (l q (gives-has w h f q g))))
-
--- four quarters that a worker gives, and their corner
-pub corner-built : (w1 w2 w3 w4 w5 : Worker) (h : ℕ) (a b c d : Bool) (bits xs : List Bool) (r0 r1 r2 r3 : List (List Bool)) (q1 q2 q3 q4 q : Quad)
-    → LieWithin w4 → h ≡ length r0 → bits ≡ a ∷ b ∷ c ∷ d ∷ xs
-    → r1 ≡ behind (number_of_bit a) r0 → r2 ≡ behind (number_of_bit b) r1 → r3 ≡ behind (number_of_bit c) r2
-    → GivesQuad w1 h (cells_of_part a r0) q1 → Keeps w1 w2
-    → GivesQuad w2 h (cells_of_part b r1) q2 → Keeps w2 w3
-    → GivesQuad w3 h (cells_of_part c r2) q3 → Keeps w3 w4
-    → GivesQuad w4 h (cells_of_part d r3) q4
-    → GivesQuad w5 (q1.height + 1) (quartered (2 ^ q1.height) (quad_set w4 q1) (quad_set w4 q2) (quad_set w4 q3) (quad_set w4 q4)) q
-    → GivesQuad w5 (h + 1) (cells_of_part true (bits ∷ r0)) q
-corner-built w1 w2 w3 w4 w5 h a b c d bits xs r0 r1 r2 r3 q1 q2 q3 q4 q lies e0 eb e1 e2 e3 g1 k1 g2 k2 g3 k3 g4 g =
-    let f1 = cells_of_part a r0 in
-    let f2 = cells_of_part b r1 in
-    let f3 = cells_of_part c r2 in
-    let f4 = cells_of_part d r3 in
-    let l1 = gives-later w3 w4 h f1 q1 k3 (gives-later w2 w3 h f1 q1 k2 (gives-later w1 w2 h f1 q1 k1 g1)) in
-    let l2 = gives-later w3 w4 h f2 q2 k3 (gives-later w2 w3 h f2 q2 k2 g2) in
-    let l3 = gives-later w3 w4 h f3 q3 k3 g3 in
-    let n1 = gives-within w4 h f1 q1 lies l1 in
-    let n2 = gives-within w4 h f2 q2 lies l2 in
-    let n3 = gives-within w4 h f3 q3 lies l3 in
-    let n4 = gives-within w4 h f4 q4 lies g4 in
-    record {
-      means = g.means ∙ ap Some (ap (λ (n : ℕ). quartered (2 ^ n) (quad_set w4 q1) (quad_set w4 q2) (quad_set w4 q3) (quad_set w4 q4)) g1.same_height
-          ∙ ap (λ x. quartered (2 ^ h) x (quad_set w4 q2) (quad_set w4 q3) (quad_set w4 q4)) (gives-set w4 h f1 q1 l1)
-          ∙ ap (λ x. quartered (2 ^ h) f1 x (quad_set w4 q3) (quad_set w4 q4)) (gives-set w4 h f2 q2 l2)
-          ∙ ap (λ x. quartered (2 ^ h) f1 f2 x (quad_set w4 q4)) (gives-set w4 h f3 q3 l3)
-          ∙ ap (quartered (2 ^ h) f1 f2 f3) (gives-set w4 h f4 q4 g4)
-          ∙ sym (four-quartered (2 ^ h) f1 f2 f3 f4 n1 n2 n3 n4)
-          ∙ sym (square-asked a b c d xs r0 r1 r2 r3 (2 ^ h) e1 e2 e3 (ap (λ (n : ℕ). 2 ^ n) e0))
-          ∙ ap (λ ys. cells_of_part true (ys ∷ r0)) (sym eb));
-      same_height = omega (arith, g.same_height, g1.same_height);
-    }
 
 -- a square that has no cell
 pub none-built : (w : Worker) (h : ℕ) (rests : List (List Bool)) → w.quad (record { height = h; name = 0 }) ≡ Some no_cells
@@ -114,19 +38,31 @@ room-of-four a b c d n t e some over =
     omega (arith, e, some, f, g, h, i, j)
 
 -- the nodes of a square's quarters and of their corner
-pub room-built : (t low : ℕ) (a b c d : Bool) (bits xs : List Bool) (r0 r1 r2 r3 : List (List Bool)) → t ≡ low + 1 → bits ≡ a ∷ b ∷ c ∷ d ∷ xs
-    → r1 ≡ behind (number_of_bit a) r0 → r2 ≡ behind (number_of_bit b) r1 → r3 ≡ behind (number_of_bit c) r2 → AreThere 1 (bits ∷ r0)
-    → listed_room (count_below (number_of_bit a) r0) low + (listed_room (count_below (number_of_bit b) r1) low
-    + (listed_room (count_below (number_of_bit c) r2) low + (listed_room (count_below (number_of_bit d) r3) low + 3)))
-    ≤ listed_room (count_below 1 (bits ∷ r0)) t
-room-built t low a b c d bits xs r0 r1 r2 r3 up eb e1 e2 e3 h =
-    let n = ap (λ ys. count_below 1 (ys ∷ r0)) eb ∙ group-count a b c d xs r0 r1 r2 r3 e1 e2 e3 in
-    let s = count-some 1 (bits ∷ r0) h in
-    let e : t - 1 ≡ low = omega (arith, up) in
-    subst (λ (k : ℕ). listed_room (count_below (number_of_bit a) r0) k + (listed_room (count_below (number_of_bit b) r1) k + (listed_room (count_below (number_of_bit c) r2) k
-    + (listed_room (count_below (number_of_bit d) r3) k + 3))) ≤ listed_room (count_below 1 (bits ∷ r0)) t) e
-    (room-of-four (count_below (number_of_bit a) r0) (count_below (number_of_bit b) r1) (count_below (number_of_bit c) r2) (count_below (number_of_bit d) r3)
-    (count_below 1 (bits ∷ r0)) t n (omega (arith, s)) (omega (arith, up)))
+pub square-room : (least : ℕ) {tree cells : List Bool} {places b0 : List ℕ} {height : ℕ} {a b c d : Bool}
+    {xs : List Bool} {r1 r2 r3 : List (List Bool)} → IsAtGroup tree cells places b0 height a b c d xs
+    → AreThere 1 (rests_at tree cells places)
+    → least < height → r1 ≡ behind (number_of_bit a) (rests_at tree cells b0) → r2 ≡ behind (number_of_bit b) r1
+    → r3 ≡ behind (number_of_bit c) r2
+    → listed_room (count_below (number_of_bit a) (rests_at tree cells b0)) (height - 1 - least)
+    + (listed_room (count_below (number_of_bit b) r1) (height - 1 - least)
+    + (listed_room (count_below (number_of_bit c) r2) (height - 1 - least)
+    + (listed_room (count_below (number_of_bit d) r3) (height - 1 - least) + 3)))
+    ≤ listed_room (count_below 1 (rests_at tree cells places)) (height - least)
+square-room least {tree} {cells} {places} {b0} {height} {a} {b} {c} {d} {xs} {r1} {r2} {r3} g there over e1 e2 e3 =
+    let r0 = rests_at tree cells b0 in
+    let all = count_below 1 (rests_at tree cells places) in
+    let n : all ≡ count_below (number_of_bit a) r0 + (count_below (number_of_bit b) r1
+    + (count_below (number_of_bit c) r2 + count_below (number_of_bit d) r3)) =
+    ap (count_below 1) g.rests ∙ group-count a b c d xs r0 r1 r2 r3 e1 e2 e3 in
+    let s = count-some 1 (rests_at tree cells places) there in
+    let e : height - least - 1 ≡ height - 1 - least = omega (arith, over) in
+    subst (λ (k : ℕ). listed_room (count_below (number_of_bit a) r0) k
+    + (listed_room (count_below (number_of_bit b) r1) k
+    + (listed_room (count_below (number_of_bit c) r2) k + (listed_room (count_below (number_of_bit d) r3) k + 3)))
+    ≤ listed_room all (height - least)) e
+    (room-of-four (count_below (number_of_bit a) r0) (count_below (number_of_bit b) r1)
+    (count_below (number_of_bit c) r2)
+    (count_below (number_of_bit d) r3) all (height - least) n (omega (arith, s)) (omega (arith, over)))
 
 -- the node of a leaf
 pub some-room : (n d : ℕ) → 1 ≤ n → 1 ≤ listed_room n d
@@ -159,6 +95,7 @@ inside-itself m f w = same_cells _ _ (λ i j. elim (cases_lt i m) [
     none true false b p = sym p
     none false t b p = sym p
 
+-- listed pairs of a square have no cell outside it, by induction: no pair is in a row or a column from m on
 among-within : (m : ℕ) (ps : List (ℕ × ℕ)) → AreWithin m m ps → IsWithin m (is_among ps)
 among-within m [] h = record { row = λ i j l. refl; col = λ i j l. refl }
 among-within m (p ∷ ps) h =
@@ -185,9 +122,37 @@ part-within b rests = among-within (2 ^ length rests) (pairs_below (cond b whole
     start true = ((omega arith, omega arith), tt)
     start false = tt
 
+within-at : (h : ℕ) (b : Bool) (rests : List (List Bool)) → length rests ≡ h → IsWithin (2 ^ h) (cells_of_part b rests)
+within-at h b rests e = subst (λ (n : ℕ). IsWithin (2 ^ n) (cells_of_part b rests)) e (part-within b rests)
+
 -- where the square is as high as the rests, its cells lie within it
 pub part-inside : (h : ℕ) (b : Bool) (rests : List (List Bool)) → length rests ≡ h → cells_inside (2 ^ h) (cells_of_part b rests) ≡ cells_of_part b rests
-part-inside h b rests e = inside-itself (2 ^ h) (cells_of_part b rests) (subst (λ (n : ℕ). IsWithin (2 ^ n) (cells_of_part b rests)) e (part-within b rests))
+part-inside h b rests e = inside-itself (2 ^ h) (cells_of_part b rests) (within-at h b rests e)
+
+-- the cells of a square are those of its quarters, each in its place, since none has a cell outside its own square
+pub square-parts : {tree cells : List Bool} {places b0 b1 b2 b3 : List ℕ} {height : ℕ} {a b c d : Bool} {xs : List Bool}
+    → IsAtGroup tree cells places b0 height a b c d xs → MovesOn tree cells (number_of_bit a) b0 b1
+    → MovesOn tree cells (number_of_bit b) b1 b2 → MovesOn tree cells (number_of_bit c) b2 b3
+    → AreParts height (cells_of_part true (rests_at tree cells places)) (height - 1)
+    (cells_of_part a (rests_at tree cells b0)) (cells_of_part b (rests_at tree cells b1))
+    (cells_of_part c (rests_at tree cells b2)) (cells_of_part d (rests_at tree cells b3))
+square-parts {tree} {cells} {places} {b0} {b1} {b2} {b3} {height} {a} {b} {c} {d} {xs} g m1 m2 m3 =
+    let h = height - 1 in
+    let l0 : length (rests_at tree cells b0) ≡ h = omega (arith, g.many, length-rests tree cells b0) in
+    let l1 : length (rests_at tree cells b1) ≡ h = omega (arith, g.many, m1.many, length-rests tree cells b1) in
+    let l2 : length (rests_at tree cells b2) ≡ h =
+    omega (arith, g.many, m1.many, m2.many, length-rests tree cells b2) in
+    let l3 : length (rests_at tree cells b3) ≡ h =
+    omega (arith, g.many, m1.many, m2.many, m3.many, length-rests tree cells b3) in
+    record {
+      next = omega (arith, g.many);
+      means = sym (four-quartered (2 ^ h) _ _ _ _ (within-at h a _ l0) (within-at h b _ l1) (within-at h c _ l2)
+          (within-at h d _ l3))
+          ∙ sym (square-asked a b c d xs (rests_at tree cells b0) (rests_at tree cells b1) (rests_at tree cells b2)
+          (rests_at tree cells b3)
+          (2 ^ h) m1.rests m2.rests m3.rests (ap (λ (n : ℕ). 2 ^ n) (sym l0)))
+          ∙ ap (cells_of_part true) (sym g.rests);
+    }
 
 -- no cell of a square that has none lies within a side
 pub none-inside : (w : Worker) (h low : ℕ) (b : Bool) (rests : List (List Bool)) → h ≡ low → b ≡ false → w.quad (record { height = low; name = 0 }) ≡ Some no_cells

@@ -44,6 +44,8 @@ any-agree f g h (x ∷ xs) = ap (λ b. b || list_any f xs) (h x) ∙ ap (λ b. g
 same-number : (a b : ℕ) → (a == b) ≡ (b == a)
 same-number a b = grind (arith, nat_tests)
 
+-- the grid has as many of the listed pairs at least as the list is long, by induction: the first is there once at
+-- least, and is not one of the others
 length-among : (rows cols : ℕ) (ps : List (ℕ × ℕ)) → AreWithin rows cols ps → AreDistinct ps
     → length ps ≤ length (filter (λ q. is_among ps q.0 q.1) (grid rows cols))
 length-among rows cols [] w d = omega arith

@@ -114,6 +114,7 @@ rest-not e = cc
 none-not : NotFull None
 none-not e = cc
 
+-- none of the ten tests of a file says that the table is full: each names another fault
 not-ten : (a b c d e f i j : Bool) (g h : Option ℕ) → NotFull (first_of_all (
     unless a Short ∷ unless b Magic ∷ unless c Sizes ∷ unless d Height ∷ unless e Short ∷ unless f Lengths ∷ found_at ZeroGroup g ∷ found_at Outside h
     ∷ unless i Padding ∷ unless j Rest ∷ []))

@@ -6,6 +6,7 @@ use Rattle.std.specs.Int.{bit_at}
 use Rattle.k2_file.specs.Told.{bits_told, group_is_set}
 use Rattle.k2_file.proofs.ReadBits.{length-told, get-told}
 
+-- where at least four bits are left, the rest begins with them, one by one
 pub drop-four : (xs : List Bool) (at : ℕ) → at + 4 ≤ length xs
     → drop at xs ≡ get_or xs at false ∷ get_or xs (at + 1) false ∷ get_or xs (at + 2) false ∷ get_or xs (at + 3) false ∷ drop (at + 4) xs
 drop-four xs at l =

@@ -90,6 +90,7 @@ module _ (bytes : List ℕ) where
   header-rows l n s =
       five-header bytes ∙ five-3 _ _ _ _ _ (le-leb 29 (length bytes) l) n (and_left _ (leb (fields bytes).cols size_limit) (lt-leb (fields bytes).rows size_limit s))
 
+  -- too many columns fail the third test, as too many rows do
   pub header-cols : 29 ≤ length bytes → same_text (take 4 bytes) (codes "RVK1") ≡ true → size_limit < (fields bytes).cols → header_fault bytes ≡ Some Sizes
   header-cols l n s =
       five-header bytes ∙ five-3 _ _ _ _ _ (le-leb 29 (length bytes) l) n (and_right (leb (fields bytes).rows size_limit) _ (lt-leb (fields bytes).cols size_limit s))

@@ -34,6 +34,7 @@ row-alone m i j x y a b e = elim (cases_lt i x) [
   ]
 ]
 
+-- in words of m bits a row two cells have one place exactly if they are in one row and one column
 same-place : (m r c i j : ℕ) → c < m → j < m → (m * r + c == m * i + j) ≡ ((r == i) && (c == j))
 same-place m r c i j a b = elim (cases_Bool (m * r + c == m * i + j)) [
   | inl t ↦ let e = row-alone m r c i j a b (eqb-true (m * r + c) (m * i + j) t) in
@@ -117,6 +118,8 @@ added-none m w rests =
     none false true false = refl
     none false false t = refl
 
+-- a group puts its cells into the word quarter by quarter: each one adds the pairs below it, and together these are the
+-- pairs below the group
 pub group-added : (m : ℕ) (w0 w1 w2 w3 w4 : Cells) (p : Corner) (a b c d : Bool) (bits xs : List Bool) (r0 r1 r2 r3 : List (List Bool)) (side : ℕ) → side ≡ 2 ^ length r0
     → bits ≡ a ∷ b ∷ c ∷ d ∷ xs → r1 ≡ behind (number_of_bit a) r0 → r2 ≡ behind (number_of_bit b) r1 → r3 ≡ behind (number_of_bit c) r2
     → w1 ≡ cells_union w0 (cells_inside m (is_among (pairs_below (part_at a p) r0)))

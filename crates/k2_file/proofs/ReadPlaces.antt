@@ -54,16 +54,24 @@ at-group tree cells places here below height a b c d h e l g = record {
   many = omega (arith, h, ap length e, length-append here below, l);
 }
 
--- all four quarters were read: the places moved on past the square
-pub group-moves : (tree cells : List Bool) (places here b0 b1 b2 b3 b4 after now : List ℕ) (height : ℕ) (a b c d : Bool) → length places ≡ height → places ≡ here ++ b0 → length here ≡ 1
+place-set : (here : List ℕ) (x : ℕ) → length here ≡ 1 → set here 0 x ≡ x ∷ []
+place-set [] x e = absurd (omega (arith, e))
+place-set (y ∷ []) x e = refl
+place-set (y ∷ z ∷ here) x e = absurd (omega (arith, e))
+
+-- all four quarters were read: the places moved on past the square, whose group is at the place before
+pub group-moves : {tree cells : List Bool} {places b0 b1 b2 b3 b4 : List ℕ} {height : ℕ} {a b c d : Bool}
+    (here : List ℕ)
+    → length places ≡ height → length here ≡ 1
     → IsAtGroup tree cells places b0 height a b c d (drop (4 * (get_or here 0 0 + 1)) (level_of (height == 1) tree cells))
-    → MovesOn tree cells (number_of_bit a) b0 b1 → MovesOn tree cells (number_of_bit b) b1 b2 → MovesOn tree cells (number_of_bit c) b2 b3 → MovesOn tree cells (number_of_bit d) b3 b4
-    → now ≡ (get_or here 0 0 + 1) ∷ [] → after ≡ now ++ b4 → MovesOn tree cells 1 places after
-group-moves tree cells places here b0 b1 b2 b3 b4 after now height a b c d h e l g m1 m2 m3 m4 n f =
+    → MovesOn tree cells (number_of_bit a) b0 b1 → MovesOn tree cells (number_of_bit b) b1 b2
+    → MovesOn tree cells (number_of_bit c) b2 b3 → MovesOn tree cells (number_of_bit d) b3 b4
+    → MovesOn tree cells 1 places (set here 0 (get_or here 0 0 + 1) ++ b4)
+group-moves {tree} {cells} {places} {b0} {b1} {b2} {b3} {b4} {height} {a} {b} {c} {d} here h l g m1 m2 m3 m4 =
     let x = get_or here 0 0 in
     let level = level_of (height == 1) tree cells in
     let many : length b4 + 1 ≡ height = omega (arith, g.many, m1.many, m2.many, m3.many, m4.many) in
-    let same : after ≡ (x + 1) ∷ b4 = f ∙ ap (λ ys. ys ++ b4) n in
+    let same : set here 0 (x + 1) ++ b4 ≡ (x + 1) ∷ b4 = ap (λ ys. ys ++ b4) (place-set here (x + 1) l) in
     record {
       many = ap length same ∙ omega (arith, many, h);
       rests = ap (rests_at tree cells) same
@@ -85,14 +93,9 @@ pub no-places : (tree cells : List Bool) (places : List ℕ) (height : ℕ) → 
 no-places tree cells [] height h e = refl
 no-places tree cells (x ∷ places) height h e = absurd (omega (arith, h, e))
 
-pub place-set : (here : List ℕ) (x : ℕ) → length here ≡ 1 → set here 0 x ≡ x ∷ []
-place-set [] x e = absurd (omega (arith, e))
-place-set (y ∷ []) x e = refl
-place-set (y ∷ z ∷ here) x e = absurd (omega (arith, e))
-
 -- ---- the quarters of a square that is there
-module _ (tree cells : List Bool) (places b0 : List ℕ) (height : ℕ) (a b c d : Bool) (xs : List Bool) (g : IsAtGroup tree cells places b0 height a b c d xs)
-    (t : AreThere 1 (rests_at tree cells places)) where
+module _ {tree cells : List Bool} {places b0 : List ℕ} {height : ℕ} {a b c d : Bool} {xs : List Bool}
+    (g : IsAtGroup tree cells places b0 height a b c d xs) (t : AreThere 1 (rests_at tree cells places)) where
   abbrev r0 : List (List Bool)
   r0 = rests_at tree cells b0
 
@@ -102,15 +105,19 @@ module _ (tree cells : List Bool) (places b0 : List ℕ) (height : ℕ) (a b c d
   pub nw-there : AreThere (number_of_bit a) r0
   nw-there = (group-there a b c d xs r0 _ _ _ refl refl refl own).0
 
-  pub ne-there : (b1 : List ℕ) → MovesOn tree cells (number_of_bit a) b0 b1 → AreThere (number_of_bit b) (rests_at tree cells b1)
-  ne-there b1 m = (group-there a b c d xs r0 _ _ _ m.rests refl refl own).1
+  pub ne-there : {b1 : List ℕ} → MovesOn tree cells (number_of_bit a) b0 b1
+      → AreThere (number_of_bit b) (rests_at tree cells b1)
+  ne-there m = (group-there a b c d xs r0 _ _ _ m.rests refl refl own).1
 
-  pub sw-there : (b1 b2 : List ℕ) → MovesOn tree cells (number_of_bit a) b0 b1 → MovesOn tree cells (number_of_bit b) b1 b2 → AreThere (number_of_bit c) (rests_at tree cells b2)
-  sw-there b1 b2 m n = (group-there a b c d xs r0 _ _ _ m.rests n.rests refl own).2
+  pub sw-there : {b1 b2 : List ℕ} → MovesOn tree cells (number_of_bit a) b0 b1
+      → MovesOn tree cells (number_of_bit b) b1 b2
+      → AreThere (number_of_bit c) (rests_at tree cells b2)
+  sw-there m n = (group-there a b c d xs r0 _ _ _ m.rests n.rests refl own).2
 
-  pub se-there : (b1 b2 b3 : List ℕ) → MovesOn tree cells (number_of_bit a) b0 b1 → MovesOn tree cells (number_of_bit b) b1 b2 → MovesOn tree cells (number_of_bit c) b2 b3
-      → AreThere (number_of_bit d) (rests_at tree cells b3)
-  se-there b1 b2 b3 m n o = (group-there a b c d xs r0 _ _ _ m.rests n.rests o.rests own).3
+  pub se-there : {b1 b2 b3 : List ℕ} → MovesOn tree cells (number_of_bit a) b0 b1
+      → MovesOn tree cells (number_of_bit b) b1 b2
+      → MovesOn tree cells (number_of_bit c) b2 b3 → AreThere (number_of_bit d) (rests_at tree cells b3)
+  se-there m n o = (group-there a b c d xs r0 _ _ _ m.rests n.rests o.rests own).3
 
 pub halves : (h : ℕ) → (h ≡ 0 → ⊥) → 2 ^ h ≡ 2 ^ (h - 1) + 2 ^ (h - 1)
 halves h n = let e : suc (h - 1) ≡ h = omega (arith, n) in ap (λ (k : ℕ). 2 ^ k) (sym e) ∙ two-halves (h - 1)

@@ -31,6 +31,7 @@ pub pairs-none : (rests : List (List Bool)) → pairs_below [] rests ≡ []
 pairs-none [] = refl
 pairs-none (bits ∷ rests) = pairs-none rests
 
+-- four bits choose among the quarters of a submatrix, each for its own
 chosen-four : (side : ℕ) (p : Corner) (a b c d : Bool) (xs : List Bool)
     → chosen (flat_map (quarters side) (p ∷ [])) (a ∷ b ∷ c ∷ d ∷ xs)
     ≡ part_at a p ++ (part_at b (p.0, p.1 + side) ++ (part_at c (p.0 + side, p.1) ++ part_at d (p.0 + side, p.1 + side)))
@@ -71,6 +72,7 @@ module _ (a b c d : Bool) (xs : List Bool) (r0 r1 r2 r3 : List (List Bool)) (e1 
       ∙ ap (behind (number_of_bit d + 0)) (sym e3)
       ∙ ap (λ (n : ℕ). behind n r3) no_more ∙ sym e4)
 
+  -- below a group are as many as below its quarters, each counted in what those before it left
   pub group-count : count_below 1 (group ∷ r0)
       ≡ count_below (number_of_bit a) r0 + (count_below (number_of_bit b) r1 + (count_below (number_of_bit c) r2 + count_below (number_of_bit d) r3))
   group-count =
@@ -95,6 +97,7 @@ module _ (a b c d : Bool) (xs : List Bool) (r0 r1 r2 r3 : List (List Bool)) (e1 
       let v = subst (λ (n : ℕ). AreThere n r3) no_more (subst (AreThere (number_of_bit d + 0)) (sym e3) u.1) in
       (s.0, t.0, u.0, v)
 
+  -- the pairs below a group are those below the quarters that it chooses, each read from what those before it left
   pub group-pairs : (side : ℕ) (p : Corner) → side ≡ 2 ^ length r0 → pairs_below (p ∷ []) (group ∷ r0)
       ≡ pairs_below (part_at a p) r0 ++ (pairs_below (part_at b (p.0, p.1 + side)) r1
       ++ (pairs_below (part_at c (p.0 + side, p.1)) r2 ++ pairs_below (part_at d (p.0 + side, p.1 + side)) r3))
@@ -163,6 +166,7 @@ out-or : (a b c : Bool) → ((a && b) || (a && c)) ≡ (a && (b || c))
 out-or true b c = refl
 out-or false b c = refl
 
+-- a place is among moved pairs exactly if it is not before the corner they moved to and, moved back, is among the pairs
 among-moved : (x y : ℕ) (ps : List Corner) (i j : ℕ) → is_among (map (moved x y) ps) i j ≡ ((leb x i && leb y j) && is_among ps (i - x) (j - y))
 among-moved x y [] i j = none (leb x i && leb y j)
   where
@@ -249,6 +253,7 @@ module _ (m : ℕ) (a b c e : Cells) (i j : ℕ) where
   quartered-se : m ≤ i → m ≤ j → e (i - m) (j - m) ≡ quartered m a b c e i j
   quartered-se p q = rw (le-ltb i m p, le-ltb j m q) refl
 
+-- to ask all four quarters for a place, moved back to each, is to ask the one where it lies: no other has a cell there
 pub four-quartered : (m : ℕ) (f0 f1 f2 f3 : Cells) → IsWithin m f0 → IsWithin m f1 → IsWithin m f2 → IsWithin m f3
     → four_asked m f0 f1 f2 f3 ≡ quartered m f0 f1 f2 f3
 four-quartered m f0 f1 f2 f3 w0 w1 w2 w3 = same_cells _ _ (λ i j.

@@ -23,6 +23,8 @@ pub length-behind : (n : ℕ) (rests : List (List Bool)) → length (behind n re
 length-behind n [] = refl
 length-behind n (bits ∷ rests) = let h = length-behind (ones (take (4 * n) bits)) rests in omega (arith, h)
 
+-- the pairs below submatrices one behind the other are those below the first and those below the others, by induction
+-- on the levels: at each one the first take their groups, and the others go on behind these
 pub pairs-append : (ps qs : List Corner) (rests : List (List Bool)) → pairs_below (ps ++ qs) rests ≡ pairs_below ps rests ++ pairs_below qs (behind (length ps) rests)
 pairs-append ps qs [] = refl
 pairs-append ps qs (bits ∷ rests) =
@@ -93,6 +95,7 @@ one-set false false true d h = omega arith
 one-set false false false true h = omega arith
 one-set false false false false h = cc
 
+-- groups that have a set bit each have as many set bits at least as there are groups, by induction
 groups-ones : (n : ℕ) (bits : List Bool) → AreGroups n bits → n ≤ ones (take (4 * n) bits)
 groups-ones zero bits h = omega arith
 groups-ones (suc n) (a ∷ b ∷ c ∷ d ∷ bits) h =

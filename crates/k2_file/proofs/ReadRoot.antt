@@ -20,7 +20,7 @@ use Rattle.k2_file.proofs.ReadBits.{length-told}
 use Rattle.k2_file.proofs.ReadWalk.{length-whole}
 use Rattle.k2_file.proofs.ReadRests.{length-pairs}
 use Rattle.k2_file.proofs.ReadStarts.{starts-pairs, starts-there}
-use Rattle.k2_file.proofs.ReadBuilding.{gives-set}
+use Rattle.rel_steps.proofs.Given.{gives_quad_set}
 
 one-or-none : (n : ℕ) → n ≤ 1 → number_of_bit (n == 1) ≡ n
 one-or-none zero l = refl
@@ -32,6 +32,7 @@ whole-or-none zero l = refl
 whole-or-none (suc zero) l = refl
 whole-or-none (suc (suc n)) l = absurd (omega (arith, l))
 
+-- a set bit chooses the whole matrix, and otherwise there is none
 length-part : (b : Bool) → length (cond {A = List Corner} b whole []) ≡ number_of_bit b
 length-part true = refl
 length-part false = refl
@@ -91,7 +92,7 @@ among-listed rows cols (p ∷ ps) i j h t = elim (or_cases ((p.0 == i) && (p.1 =
 
 pub lies-listed : (w : Worker) (height side rows cols : ℕ) (ps : List Corner) (f : Cells) (q : Quad) → GivesQuad w height f q → f ≡ cells_inside side (is_among ps) → AreWithin rows cols ps
     → LiesWithin rows cols (quad_set w q)
-lies-listed w height side rows cols ps f q g e h = subst (LiesWithin rows cols) (sym (gives-set w height f q g ∙ e)) (record {
+lies-listed w height side rows cols ps f q g e h = subst (LiesWithin rows cols) (sym (gives_quad_set w height f q g ∙ e)) (record {
   row = λ i j t. (own i j t).row;
   col = λ i j t. (own i j t).col;
 })
@@ -99,13 +100,14 @@ lies-listed w height side rows cols ps f q g e h = subst (LiesWithin rows cols) 
     own : (i j : ℕ) → cells_inside side (is_among ps) i j ≡ true → IsListed rows cols i j
     own i j t = among-listed rows cols ps i j h (and_parts (ltb j side) (is_among ps i j) (and_parts (ltb i side) (ltb j side && is_among ps i j) t).1).1
 
+-- a quad with the cells of the listed pairs gives their relation: all places within the sizes lie in its square
 pub gives-listed : (w : Worker) (least rows cols : ℕ) (ps : List Corner) (f : Cells) (q : Quad) (rel : Rel) → rows ≤ size_limit → cols ≤ size_limit
     → GivesQuad w (height_over least rows cols) f q → f ≡ cells_inside (2 ^ height_over least rows cols) (is_among ps)
     → Gives w rows cols (relation_of rows cols (quad_set w q)) rel → Gives w rows cols (relation_of rows cols (is_among ps)) rel
 gives-listed w least rows cols ps f q rel a b g e r =
     let side = 2 ^ height_over least rows cols in
     record {
-      means = r.means ∙ ap Some (ap (relation_of rows cols) (gives-set w (height_over least rows cols) f q g ∙ e)
+      means = r.means ∙ ap Some (ap (relation_of rows cols) (gives_quad_set w (height_over least rows cols) f q g ∙ e)
           ∙ relation_of-agree rows cols (cells_inside side (is_among ps)) (is_among ps) (λ i j x y. both (ltb i side) (ltb j side) (is_among ps i j)
           (lt-ltb i side (let l = height_over-rows least rows cols a in omega (arith, l, x))) (lt-ltb j side (let l = height_over-cols least rows cols b in omega (arith, l, y)))));
       row_size = r.row_size;

@@ -119,6 +119,7 @@ quartered-within rows cols k ps h =
         → AllByRecursion (λ q. (q.0 + 2 ^ k ≤ rows) × (q.1 + 2 ^ k ≤ cols)) (quarters (2 ^ k) p)
     one p e a b = ((omega arith, omega arith), ((omega arith, omega arith), ((omega arith, omega arith), ((omega arith, omega arith), tt))))
 
+-- where submatrices lie within the sizes so do their cells, by induction on the levels: a quarter lies in its whole
 cells-within : (rows cols k : ℕ) (ps : List Corner) (bits : List Bool) → AllByRecursion (λ p. (p.0 + 2 ^ suc k ≤ rows) × (p.1 + 2 ^ suc k ≤ cols)) ps
     → AreWithin rows cols (cells_below k ps bits)
 cells-within rows cols zero ps bits h =
@@ -190,6 +191,8 @@ drop-next (suc n) m (y ∷ xs) x h l =
     ap (λ (k : ℕ). drop k (set (y ∷ xs) (suc n) x)) e ∙ drop-next n m xs x h (omega (arith, l))
 drop-next (suc n) m [] x h l = absurd (omega (arith, l))
 
+-- one level more stands at its place: its bits are there, and the next level has a group for each set bit and begins
+-- behind them
 pub starts-more : (tree : List Bool) (cell_count height first level : ℕ) (places : List ℕ) (groups from : ℕ) → AreStarts tree cell_count height first level places groups from
     → level < height → height ≤ 24
     → AreStarts tree cell_count height first (level + 1) (set places (level - 1) from) (ones (take (4 * groups) (drop (4 * from) tree))) (from + groups)

@@ -13,7 +13,8 @@ use Rattle.k2_file.specs.declared.squares.Square.TheVariants.{Tree}
 use Rattle.k2_file.specs.Squares.{piece, some_cell, square_cells, IsSquare, Shows, ShowsFour}
 use Rattle.k2_file.specs.Counts.{bits_under, square_bits, part_bits, IsFull, IsFullPart, quad_bits, AreCounts}
 use Rattle.k2_file.proofs.WriteLevels.{under-limit}
-use Rattle.k2_file.proofs.WriteSquares.{keeps_quad, keeps_quad_set, square-stays, square_cells-stay}
+use Rattle.rel_steps.proofs.Given.{kept_quad, kept_set}
+use Rattle.k2_file.proofs.WriteSquares.{square-stays, square_cells-stay}
 
 -- ---- a square that is shown
 under-none : (h : ℕ) (f : Cells) → some_cell (2 ^ h) f ≡ false → bits_under h f ≡ 0
@@ -58,6 +59,7 @@ under-next k f e = rw e refl
 pub two-counted : (w v : Worker) (least h : ℕ) (west east : Option Square) (a b : ℕ) → Keeps w v → IsFullPart w least h east → a ≡ part_bits w h west → b ≡ part_bits v h east → a + b ≡ part_bits w h west + part_bits w h east
 two-counted w v least h west east a b k f p q = let r = part_bits-stay w v least h east k f in omega (arith, p, q, r)
 
+-- the bits below a square are four and those below its quarters, counted in two calls: the quarters keep theirs between
 pub four-counted : (w0 w1 w2 : Worker) (least h k : ℕ) (s : Square) (four : Option Square × Option Square × Option Square × Option Square) (a b : ℕ)
     → h ≡ k + 1 → IsFull w0 least h s → ShowsFour w1 least k (square_cells w0 (2 ^ (k + 1)) s) four → Keeps w1 w2
     → a ≡ part_bits w1 k four.0 + part_bits w1 k four.1 → b ≡ part_bits w2 k four.2 + part_bits w2 k four.3
@@ -86,12 +88,12 @@ part-limit w h (Some s) l =
 
 -- ---- the memory
 kept-bits : (a b : Worker) (q : Quad) → Keeps a b → HasQuad a q → quad_bits b q ≡ quad_bits a q
-kept-bits a b q k s = ap (λ f. bits_under q.height (piece (2 ^ q.height) 0 0 f)) (keeps_quad_set a b q k s)
+kept-bits a b q k s = ap (λ f. bits_under q.height (piece (2 ^ q.height) 0 0 f)) (kept_set a b q k s)
 
 pub counts-kept : (a b : Worker) (found : ℕ × ℕ → Option ℕ) → Keeps a b → AreCounts a found → AreCounts b found
 counts-kept a b found k h =
     λ height name c e. let s = h height name c e in
-    (keeps_quad a b (record { height = height; name = name }) k s.0, s.1 ∙ sym (kept-bits a b (record { height = height; name = name }) k s.0))
+    (kept_quad a b (record { height = height; name = name }) k s.0, s.1 ∙ sym (kept-bits a b (record { height = height; name = name }) k s.0))
 
 same_quad : (q : Quad) (h n : ℕ) → q.height ≡ h → q.name ≡ n → q ≡ record { height = h; name = n }
 same_quad q h n a b =
@@ -123,7 +125,7 @@ pub counts-put-later : (v w : Worker) (least h : ℕ) (s : Square) (q : Quad) (c
     → ((k : ℕ × ℕ) → new k ≡ cond (eqb q.height k.0 && eqb q.name k.1) (Some c) (old k)) → AreCounts w new
 counts-put-later v w least h s q c old new is k i e a u =
     let t : IsSquare v least h (Tree q) = subst (IsSquare v least h) is i in
-    counts-put w q c old new (keeps_quad v w q k t.0) (e ∙ tree-bits v least h q t ∙ sym (kept-bits v w q k t.0)) a u
+    counts-put w q c old new (kept_quad v w q k t.0) (e ∙ tree-bits v least h q t ∙ sym (kept-bits v w q k t.0)) a u
 
 -- what is found
 pub counts-found : (w : Worker) (least h : ℕ) (s : Square) (q : Quad) (c : ℕ) (found : ℕ × ℕ → Option ℕ) → s ≡ Tree q → IsSquare w least h s → AreCounts w found → found (q.height, q.name) ≡ Some c → c ≡ square_bits w h s

@@ -52,6 +52,8 @@ level-corners r m (p ∷ ps) =
     ∙ ap (λ bs. bs ++ map (meets r m) (flat_map (quarters m) ps)) (sym (map-meets r m (quarters m p)) ∙ ap (map (some_cell m)) (sym (four-corners r m p)))
     ∙ ap (λ bs. quarter_bits m (corner_piece r (m + m) p) ++ bs) (level-corners r m ps)
 
+-- the quarters that meet the relation, as sets, are the next level of sets, by induction: the quarters of a piece are
+-- the pieces of the quarters
 next-corners : (r : Relation) (m : ℕ) (ps : List Corner) → map (corner_piece r m) (filter (meets r m) (flat_map (quarters m) ps)) ≡ next_level m (map (corner_piece r (m + m)) ps)
 next-corners r m [] = refl
 next-corners r m (p ∷ ps) =
@@ -92,6 +94,7 @@ tree-levels r h e l =
     ap (λ (x : ℕ). inner_bits r (x - 1) whole) (sym e) ∙ inner-upper r (h - 1) whole
     ∙ ap (λ (x : ℕ). upper_bits (h - 1) (met_pieces r (2 ^ x) whole)) s ∙ ap (upper_bits (h - 1)) (first-whole r h)
 
+-- and the bits L are the lowest bits of the first level
 pub cell-levels : (r : Relation) (h : ℕ) → h ≡ file_height r.rows r.cols → 1 ≤ h → cell_part r ≡ lowest_bits (h - 1) (first_level h r)
 unfolding cell_part
 cell-levels r h e l =
@@ -132,6 +135,8 @@ next-filtered m [] = refl
 next-filtered m (f ∷ fs) =
     ap (λ gs. quarters_met m f ++ gs) (next-filtered m fs) ∙ sym (filter-append (some_cell m) (four_pieces m f) (flat_map (four_pieces m) fs))
 
+-- the bits of all levels are as many as those below the sets, by induction on the levels: a level has four for each set
+-- of the level above that has a cell
 levels-count : (k : ℕ) (fs : List Cells) → length (upper_bits k (filter (some_cell (2 ^ suc k)) fs)) + length (lowest_bits k (filter (some_cell (2 ^ suc k)) fs)) ≡ sum_under (suc k) fs
 levels-count zero fs = let i = lowest-count fs in omega (arith, i)
 levels-count (suc k) fs =

@@ -84,6 +84,7 @@ piece-sw m n a b c d e =
     let u : m + i - m ≡ 0 + i = omega arith in
     rw (s, t, u) refl)
 
+-- the piece behind the middle in rows and columns is the fourth quarter
 pub piece-se : (m n : ℕ) (a b c d : Cells) → n ≡ m + m → piece m m m (piece n 0 0 (quartered m a b c d)) ≡ piece m 0 0 d
 piece-se m n a b c d e =
     piece-at m n m m 0 0 m m (quartered m a b c d) (omega arith) (omega arith) (omega arith) (omega arith)

@@ -8,11 +8,13 @@ use Rattle.std.specs.Prelude.{IsSome, unwrap_or}
 use Rattle.std.proofs.lemmas.Bool.{cases_Bool, cases_lt}
 use Rattle.std.proofs.Math.Nat.{pow-suc, pow-le-pow_right}
 use Rattle.rel_model.specs.declared.Quad.{Quad}
+use Rattle.rel_model.specs.declared.Quarters.{Quarters}
 use Rattle.rel_model.specs.Cells.{Cells, no_cells, some_below, bits_cells}
 use Rattle.rel_model.specs.Trees.{quartered}
 use Rattle.rel_model.specs.Quarters.{LiesWithin, GivesQuarters}
-use Rattle.rel_model.specs.Worker.{Worker, HasQuad, quad_set, GivesQuad, Keeps}
+use Rattle.rel_model.specs.Worker.{Worker, HasQuad, quad_set, Keeps}
 use Rattle.rel_model.proofs.Workers.{keeps_trans}
+use Rattle.rel_steps.proofs.Given.{kept_quad, kept_set}
 use Rattle.k2_file.specs.declared.windows.Window.{Window}
 use Rattle.k2_file.specs.declared.squares.Square.{Square}
 use Rattle.k2_file.specs.declared.squares.Square.TheVariants.{Tree, Part}
@@ -21,28 +23,16 @@ use Rattle.k2_file.proofs.WriteHeights.{side-small}
 use Rattle.k2_file.proofs.WritePieces.{piece-piece, piece-none, no_piece, piece-nw, piece-ne, piece-sw, piece-se}
 
 -- ---- what a worker keeps
-pub keeps_quad : (a b : Worker) (q : Quad) → Keeps a b → HasQuad a q → HasQuad b q
-keeps_quad a b q k s = subst IsSome (sym (k.same_quads q s)) s
-
-pub keeps_quad_set : (a b : Worker) (q : Quad) → Keeps a b → HasQuad a q → quad_set b q ≡ quad_set a q
-keeps_quad_set a b q k s = ap (λ o. unwrap_or o no_cells) (k.same_quads q s)
-
-pub gives_quad : (w : Worker) (h : ℕ) (f : Cells) (q : Quad) → GivesQuad w h f q → HasQuad w q
-gives_quad w h f q g = subst IsSome (sym g.means) refl
-
-pub gives_quad_set : (w : Worker) (h : ℕ) (f : Cells) (q : Quad) → GivesQuad w h f q → quad_set w q ≡ f
-gives_quad_set w h f q g = ap (λ o. unwrap_or o no_cells) g.means
-
 pub zero_set : (w : Worker) (q : Quad) → q.name ≡ 0 → w.quad (record { height = q.height; name = 0 }) ≡ Some no_cells → quad_set w q ≡ no_cells
 zero_set w q e h = ap (λ (n : ℕ). quad_set w (record { height = q.height; name = n })) e ∙ ap (λ o. unwrap_or o no_cells) h
 
 -- a square stays, with its cells
 pub square-stays : (a b : Worker) (least h : ℕ) (s : Square) → Keeps a b → IsSquare a least h s → IsSquare b least h s
-square-stays a b least h (Tree q) k i = (keeps_quad a b q k i.0, i.1, i.2)
+square-stays a b least h (Tree q) k i = (kept_quad a b q k i.0, i.1, i.2)
 square-stays a b least h (Part v) k i = i
 
 pub square_cells-stay : (a b : Worker) (least h m : ℕ) (s : Square) → Keeps a b → IsSquare a least h s → square_cells b m s ≡ square_cells a m s
-square_cells-stay a b least h m (Tree q) k i = ap (piece m 0 0) (keeps_quad_set a b q k i.0)
+square_cells-stay a b least h m (Tree q) k i = ap (piece m 0 0) (kept_set a b q k i.0)
 square_cells-stay a b least h m (Part v) k i = refl
 
 pub shows-stay : (a b : Worker) (least h : ℕ) (f : Cells) (o : Option Square) → Keeps a b → Shows a least h f o → Shows b least h f o
@@ -151,12 +141,12 @@ pub part-shown : (w : Worker) (least h k : ℕ) (f g p : Cells) (o : Option Squa
 part-shown w least h k f g p o e s t x = subst (λ (z : Cells). Shows w least k z o) t (shows-at w least h k f g o e s x)
 
 -- the quarters of a quad, each shown some calls later
-pub four-shown : (w0 w1 w2 w3 w4 w5 : Worker) (least : ℕ) (q : Quad) (four : Quad × Quad × Quad × Quad) (a b c d : Option Square)
+pub four-shown : (w0 w1 w2 w3 w4 w5 : Worker) (least : ℕ) (q : Quad) (four : Quarters) (a b c d : Option Square)
     → GivesQuarters w0 w1 q four → Keeps w1 w2 → Keeps w2 w3 → Keeps w3 w4 → Keeps w4 w5
-    → Shows w2 least four.0.height (piece (2 ^ four.0.height) 0 0 (quad_set w1 four.0)) a
-    → Shows w3 least four.1.height (piece (2 ^ four.1.height) 0 0 (quad_set w2 four.1)) b
-    → Shows w4 least four.2.height (piece (2 ^ four.2.height) 0 0 (quad_set w3 four.2)) c
-    → Shows w5 least four.3.height (piece (2 ^ four.3.height) 0 0 (quad_set w4 four.3)) d
+    → Shows w2 least four.nw.height (piece (2 ^ four.nw.height) 0 0 (quad_set w1 four.nw)) a
+    → Shows w3 least four.ne.height (piece (2 ^ four.ne.height) 0 0 (quad_set w2 four.ne)) b
+    → Shows w4 least four.sw.height (piece (2 ^ four.sw.height) 0 0 (quad_set w3 four.sw)) c
+    → Shows w5 least four.se.height (piece (2 ^ four.se.height) 0 0 (quad_set w4 four.se)) d
     → ShowsFour w5 least (q.height - 1) (piece (2 ^ q.height) 0 0 (quad_set w0 q)) (a, b, c, d)
 four-shown w0 w1 w2 w3 w4 w5 least q four a b c d g k2 k3 k4 k5 sa sb sc sd =
     let k13 = keeps_trans w1 w2 w3 k2 k3 in
@@ -170,18 +160,18 @@ four-shown w0 w1 w2 w3 w4 w5 least q four a b c d g k2 k3 k4 k5 sa sb sc sd =
     let x1 = g.ne_height in
     let x2 = g.sw_height in
     let x3 = g.se_height in
-    let e0 : four.0.height ≡ h = omega (arith, x0) in
+    let e0 : four.nw.height ≡ h = omega (arith, x0) in
     let up : q.height ≡ h + 1 = omega (arith, x0) in
     let next = next-side h in
     let twice : n ≡ m + m = ap (λ (x : ℕ). 2 ^ x) up ∙ next in
-    let A : Cells = quad_set w1 four.0 in
-    let B : Cells = quad_set w1 four.1 in
-    let C : Cells = quad_set w1 four.2 in
-    let D : Cells = quad_set w1 four.3 in
+    let A : Cells = quad_set w1 four.nw in
+    let B : Cells = quad_set w1 four.ne in
+    let C : Cells = quad_set w1 four.sw in
+    let D : Cells = quad_set w1 four.se in
     let whole : quad_set w0 q ≡ quartered m A B C D = g.means ∙ ap (λ (x : ℕ). quartered (2 ^ x) A B C D) e0 in
     record {
-      nw = shows-stay w2 w5 least h _ a k25 (part-shown w2 least four.0.height h A A _ a e0 refl (sym (ap (λ f. piece m 0 0 (piece n 0 0 f)) whole ∙ piece-nw m n A B C D twice)) sa);
-      ne = shows-stay w3 w5 least h _ b k35 (part-shown w3 least four.1.height h (quad_set w2 four.1) B _ b (omega (arith, x1)) (keeps_quad_set w1 w2 four.1 k2 g.ne) (sym (ap (λ f. piece m 0 m (piece n 0 0 f)) whole ∙ piece-ne m n A B C D twice)) sb);
-      sw = shows-stay w4 w5 least h _ c k5 (part-shown w4 least four.2.height h (quad_set w3 four.2) C _ c (omega (arith, x2)) (keeps_quad_set w1 w3 four.2 k13 g.sw) (sym (ap (λ f. piece m m 0 (piece n 0 0 f)) whole ∙ piece-sw m n A B C D twice)) sc);
-      se = part-shown w5 least four.3.height h (quad_set w4 four.3) D _ d (omega (arith, x3)) (keeps_quad_set w1 w4 four.3 k14 g.se) (sym (ap (λ f. piece m m m (piece n 0 0 f)) whole ∙ piece-se m n A B C D twice)) sd;
+      nw = shows-stay w2 w5 least h _ a k25 (part-shown w2 least four.nw.height h A A _ a e0 refl (sym (ap (λ f. piece m 0 0 (piece n 0 0 f)) whole ∙ piece-nw m n A B C D twice)) sa);
+      ne = shows-stay w3 w5 least h _ b k35 (part-shown w3 least four.ne.height h (quad_set w2 four.ne) B _ b (omega (arith, x1)) (kept_set w1 w2 four.ne k2 g.ne) (sym (ap (λ f. piece m 0 m (piece n 0 0 f)) whole ∙ piece-ne m n A B C D twice)) sb);
+      sw = shows-stay w4 w5 least h _ c k5 (part-shown w4 least four.sw.height h (quad_set w3 four.sw) C _ c (omega (arith, x2)) (kept_set w1 w3 four.sw k13 g.sw) (sym (ap (λ f. piece m m 0 (piece n 0 0 f)) whole ∙ piece-sw m n A B C D twice)) sc);
+      se = part-shown w5 least four.se.height h (quad_set w4 four.se) D _ d (omega (arith, x3)) (kept_set w1 w4 four.se k14 g.se) (sym (ap (λ f. piece m m m (piece n 0 0 f)) whole ∙ piece-se m n A B C D twice)) sd;
     }

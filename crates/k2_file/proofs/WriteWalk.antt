@@ -73,6 +73,7 @@ four-sound w least h f four s =
 joined : (a b c d x y z v : List Cells) → a ≡ x → b ≡ y → c ≡ z → d ≡ v → a ++ (b ++ (c ++ d)) ≡ x ++ (y ++ (z ++ v))
 joined a b c d x y z v p q r s = cc
 
+-- the squares that show four quarters have the sets of those quarters that have a cell, in their order
 four-cells : (w : Worker) (least h : ℕ) (f : Cells) (four : Option Square × Option Square × Option Square × Option Square) → ShowsFour w least h f four → map (square_cells w (2 ^ h)) (four_list four) ≡ quarters_met (2 ^ h) f
 four-cells w least h f four s =
     let m : ℕ = 2 ^ h in
@@ -94,6 +95,8 @@ four-cells w least h f four s =
 squares-added : (old n1 n2 a b c d : List Square) → n1 ≡ old ++ (a ++ b) → n2 ≡ n1 ++ (c ++ d) → n2 ≡ old ++ (a ++ (b ++ (c ++ d)))
 squares-added old n1 n2 a b c d p q = q ∙ ap (λ zs. zs ++ (c ++ d)) p ∙ append_assoc old (a ++ b) (c ++ d) ∙ ap (λ zs. old ++ zs) (append_assoc a b (c ++ d))
 
+-- the squares that show four quarters, two behind two, add the quarters that have a cell: the squares before them keep
+-- their sets
 four-added : (old new : Worker) (least h : ℕ) (f : Cells) (four : Option Square × Option Square × Option Square × Option Square) (l n1 n2 : List Square)
     → Keeps old new → AllByRecursion (IsSquare old least h) l → ShowsFour new least h f four
     → n1 ≡ l ++ (list_of four.0 ++ list_of four.1) → n2 ≡ n1 ++ (list_of four.2 ++ list_of four.3)
@@ -190,6 +193,7 @@ upper-next l k fs e = ap (λ (n : ℕ). upper_bits n fs) e ∙ ap (λ (n : ℕ).
 lowest-next : (l k : ℕ) (fs : List Cells) → l ≡ suc k → lowest_bits l fs ≡ lowest_bits k (next_level (2 ^ l) fs)
 lowest-next l k fs e = ap (λ (n : ℕ). lowest_bits n fs) e ∙ ap (λ (n : ℕ). lowest_bits k (next_level (2 ^ n) fs)) (sym e)
 
+-- one level more: its bits come behind those so far, and those to come are the bits below its quarters with a cell
 pub walk-next : (old new : Worker) (least l : ℕ) (r : Relation) (before after : List Square) (bits more : List Bool) → 0 < l → Walk old least l r before bits
     → AreSquares new least l after (next_level (2 ^ l) (map (square_cells old (2 ^ (l + 1))) before)) → more ≡ bits ++ level_bits (2 ^ l) (map (square_cells old (2 ^ (l + 1))) before)
     → Walk new least (l - 1) r after more

@@ -3,6 +3,7 @@ ghost use Rattle.std.specs.Prelude.{◌≡◌, ◌<◌, ◌≤◌, ◌+◌, ◌-
 ghost use Rattle.rel_model.specs.Relation.{size_height};
 ghost use Rattle.rel_model.specs.Worker.{GivesQuad, Keeps, MakesAtMost, HasCause, listed_room};
 ghost use Rattle.run_model.specs.Files.{number_of_bit};
+ghost use Rattle.rel_steps.specs.Making.{MakesQuad};
 ghost use Rattle.k2_file.specs.Rests.{AreThere, count_below, cells_of_part, cells_inside};
 ghost use Rattle.k2_file.specs.Depth.{rests_in, MovesIn};
 
@@ -47,13 +48,10 @@ pub(crate) fn built_part<E: Engine>(
     requires low { E.least ≤ height }
     requires high { height ≤ size_height }
     requires there { AreThere (number_of_bit is_set) (rests_in parts.now places.old) }
-    ensures value { IfOk result (GivesQuad (E.worker engine.new) height (cells_of_part is_set
-        (rests_in parts.now places.old))) }
+    ensures makes { MakesQuad E.lean (listed_room (count_below (number_of_bit is_set) (rests_in parts.now places.old))
+        (height - E.least)) height (cells_of_part is_set (rests_in parts.now places.old)) (E.worker engine.old)
+        (E.worker engine.new) result }
     ensures moves { OnOk result (MovesIn parts.now (number_of_bit is_set) places.old places.new) }
-    ensures keeps { Keeps (E.worker engine.old) (E.worker engine.new) }
-    ensures few { MakesAtMost (listed_room (count_below (number_of_bit is_set) (rests_in parts.now places.old))
-        (height - E.least)) (E.worker engine.old) (E.worker engine.new) }
-    ensures cause { HasCause E.lean (E.worker engine.old) (E.worker engine.new) result }
 {
     if !is_set {
         return Ok(Quad { height, name: 0 });
@@ -76,13 +74,9 @@ fn built_square<E: Engine>(
     requires low { E.least < height }
     requires high { height ≤ size_height }
     requires there { AreThere 1 (rests_in parts.now places.old) }
-    ensures value { IfOk result (GivesQuad (E.worker engine.new) height (cells_of_part true
-        (rests_in parts.now places.old))) }
+    ensures makes { MakesQuad E.lean (listed_room (count_below 1 (rests_in parts.now places.old)) (height - E.least))
+        height (cells_of_part true (rests_in parts.now places.old)) (E.worker engine.old) (E.worker engine.new) result }
     ensures moves { OnOk result (MovesIn parts.now 1 places.old places.new) }
-    ensures keeps { Keeps (E.worker engine.old) (E.worker engine.new) }
-    ensures few { MakesAtMost (listed_room (count_below 1 (rests_in parts.now places.old)) (height - E.least))
-        (E.worker engine.old) (E.worker engine.new) }
-    ensures cause { HasCause E.lean (E.worker engine.old) (E.worker engine.new) result }
 {
     let low = height - 1;
     let (here, below) = places.split_at_mut(1);

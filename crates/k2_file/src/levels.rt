@@ -8,7 +8,7 @@ ghost use Rattle.k2_file.specs.Told.{AreInside, bits_in, both_in, cells_by, fit_
 use crate::bits::Bits;
 use crate::corners::{chosen_of, quarters_of};
 use crate::header::Header;
-use crate::sides::side_of;
+use rel_model::empty::side_of;
 use run_model::outcome::BadFile;
 use std::alloc::{AllocError, Global};
 

@@ -14,7 +14,7 @@ use crate::header::{Header, read_header};
 use crate::levels::{cells_of, fault_in_levels};
 use crate::parts::Parts;
 use crate::root::{Form, built_relation};
-use crate::sides::side_of;
+use rel_model::empty::side_of;
 use rel_model::engine_trait::Engine;
 use rel_model::{Lack, Rel};
 use run_model::outcome::BadFile;

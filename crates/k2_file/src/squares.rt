@@ -7,7 +7,7 @@ ghost use Rattle.k2_file.specs.Squares.{piece, rel_piece, quad_piece, window_set
 use crate::sides::small_side;
 use crate::windows::{Window, has_cell};
 use rel_model::engine_trait::Engine;
-use rel_model::{Quad, Rel};
+use rel_model::{Quad, Quarters, Rel};
 
 /// A square of cells that is not empty. 24 bytes.
 #[derive(Clone, Copy)]
@@ -61,7 +61,7 @@ fn shown_quad<E: Engine>(engine: &mut E, quad: Quad) -> Option<Square>
         let window = leaf_window(engine, quad);
         return shown_window(window, quad.height);
     }
-    if quad.name == 0 {
+    if quad.is_empty() {
         return None;
     }
     Some(Square::Tree(quad))
@@ -102,7 +102,7 @@ fn quad_quarters<E: Engine>(
     ensures room { MakesAtMost 0 (E.worker engine.old) (E.worker engine.new) }
     ensures misses { MissesNothing (E.worker engine.old) (E.worker engine.new) }
 {
-    let (nw, ne, sw, se) = engine.quarters(quad);
+    let Quarters { nw, ne, sw, se } = engine.quarters(quad);
     let north_west = shown_quad(engine, nw);
     let north_east = shown_quad(engine, ne);
     let south_west = shown_quad(engine, sw);

@@ -89,6 +89,7 @@ root-plain quads heights at rows cols root =
     plain-three at (leb rows size_limit && leb cols size_limit) (is_root quads heights h root) (lies_within (2 ^ h) rows cols (cells_told quads h root))
 
 module _ (quads : List Quadrant) (heights : List ℕ) (at : ℕ) (earlier : Option (List ℕ)) (bytes : List ℕ) where
+  -- a fault of the name is that of the relation, since the name is tested before the root
   pub is-fault-name : (fault : BadFile) → name_fault at earlier bytes ≡ Some fault → IsFaultOf (entry_fault quads heights at earlier bytes) fault
   is-fault-name fault h =
       fault-moves (name_fault at earlier bytes) (entry_fault quads heights at earlier bytes) fault
@@ -117,6 +118,8 @@ module _ (quads : List Quadrant) (heights : List ℕ) (at : ℕ) (earlier : Opti
         fault-moves (root_fault quads heights at rows cols root) (entry_fault quads heights at earlier bytes) fault (λ e f. of-root ∙ f)
         (is-fault (root_fault quads heights at rows cols root) fault (root-plain quads heights at rows cols root) h)
 
+-- a name and a root that pass their tests are the named root that these bytes begin with: the length of the name tells
+-- where its sizes and its root stand
 pub is-root : (s : Squares) (roots : List NAMED) (bytes name : List ℕ) (rows cols root : ℕ) → IsName bytes name → rows ≡ number_at bytes (1 + length name) → cols ≡ number_at bytes (1 + length name + 4) →
     root ≡ number_at bytes (1 + length name + 8) → name_fault (length roots) (last_name roots) bytes ≡ None → (own : List ℕ) → own ≡ name →
     root_fault (quadrants_told s.quads.now) s.heights.now (length roots) rows cols root ≡ None →

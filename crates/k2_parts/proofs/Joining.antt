@@ -34,6 +34,7 @@ module _ (quads : List Quadrant) (heights : List ℕ) (count : ℕ) (bytes : Lis
   abbrev is_all : Bool
   is_all = length bytes == entries_length count bytes
 
+  -- a fault of the named roots is that of the rest, since they are tested first
   pub rest-roots : (fault : BadFile) → IsFaultOf roots_found fault → IsFaultOf (rest_fault quads heights count bytes) fault
   unfolding rest_fault
   rest-roots fault h =
@@ -119,6 +120,7 @@ module _ (bytes : List ℕ) (h : Header) (k : IsHeader bytes h) (none : header_f
   behind-header : shared_fault bytes ≡ first_of_both (quads_fault (quadrants_of bytes)) (rest_of bytes)
   behind-header = parts bytes ∙ ap (λ t. first_of_both t (first_of_both (quads_fault (quadrants_of bytes)) (rest_of bytes))) none
 
+  -- where the header has no fault, one of the quadrants is the file's, since they are tested next
   pub fault-quads : (fault : BadFile) → IsFaultOf (quads_fault (quadrants_in h.quads (from bytes 12))) fault → IsFaultOf (shared_fault bytes) fault
   fault-quads fault f =
       fault-moves (quads_fault (quadrants_of bytes)) (shared_fault bytes) fault (λ e g. behind-header ∙ ap (λ t. first_of_both t (rest_of bytes)) g)

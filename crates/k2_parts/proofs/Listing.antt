@@ -40,6 +40,7 @@ known_is E same q keys xs e = ap (list_any (E q)) e ∙ has_known E same q xs
 pub key_more : (E : LISTED → LISTED → Bool) (keys : List LISTED) (q : LISTED) → list_any (E q) keys ≡ false → insert_key E keys q ≡ keys ++ q ∷ []
 key_more E keys q none = ap (λ b. if b then keys else keys ++ q ∷ []) none
 
+-- one more quadrant with its height leaves a listing: quadrants, heights and keys each grow by one at the end
 pub listing_more : (old new : Listing) (q : LISTED) (h : ℕ) → IsListing old → new.quads.items ≡ old.quads.items ++ q ∷ [] → new.heights.items ≡ old.heights.items ++ h ∷ [] →
     new.known.keys ≡ old.known.keys ++ q ∷ [] → IsListing new
 listing_more old new q h l quads heights keys = record {
@@ -78,6 +79,7 @@ front_told : (bytes : List ℕ) (q : LISTED) → TellsFour bytes q → quadrant_
 front_told bytes q t = λ i. record { nw = t.0 i; ne = t.1 i; sw = t.2 i; se = t.3 i }
 
 module _ (all : List Quadrant) (done left k : ℕ) (rest : List ℕ) (l : Listing) (r : IsReading all done left rest l) (e : left ≡ suc k) where
+  -- the same reading, with at least one quadrant left
   one_left : IsReading all done (suc k) rest l
   one_left = subst (λ (n : ℕ). IsReading all done n rest l) e r
 

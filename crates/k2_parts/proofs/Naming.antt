@@ -32,6 +32,7 @@ four-2 at a b c d x y = ap (λ t. four at t b c d) x ∙ ap (λ t. four at true 
 four-3 : (at : ℕ) (a b c d : Bool) → a ≡ true → b ≡ true → c ≡ false → four at a b c d ≡ Some Short
 four-3 at a b c d x y z = ap (λ t. four at t b c d) x ∙ (ap (λ t. four at true t c d) y ∙ ap (λ t. four at true true t d) z)
 
+-- where the first three tests pass, the last one tells
 four-4 : (at : ℕ) (a b c d e : Bool) → a ≡ true → b ≡ true → c ≡ true → d ≡ e → four at a b c d ≡ four at true true true e
 four-4 at a b c d e x y z w = ap (λ t. four at t b c d) x ∙ (ap (λ t. four at true t c d) y ∙ (ap (λ t. four at true true t d) z ∙ ap (λ t. four at true true true t) w))
 
@@ -48,6 +49,7 @@ module _ (at : ℕ) (earlier : Option (List ℕ)) (bytes : List ℕ) where
   abbrev is_next : Bool
   is_next = is_word (entry_in bytes).name && is_behind earlier (entry_in bytes).name
 
+  -- where no byte is left there is not even the length of a name
   pub name-none : length bytes < 1 → name_fault at earlier bytes ≡ Some Short
   unfolding name_fault
   name-none h = four-1 at (leb 1 (length bytes)) size_fits is_there is_next (lt-leb 1 (length bytes) h)
@@ -94,6 +96,7 @@ three-1 at a b c x = ap (λ t. three at t b c) x
 three-2 : (at : ℕ) (a b c : Bool) → a ≡ true → b ≡ false → three at a b c ≡ Some (Root at)
 three-2 at a b c x y = ap (λ t. three at t b c) x ∙ ap (λ t. three at true t c) y
 
+-- where the first two tests pass, the last one tells
 three-3 : (at : ℕ) (a b c d : Bool) → a ≡ true → b ≡ true → c ≡ d → three at a b c ≡ three at true true d
 three-3 at a b c d x y z = ap (λ t. three at t b c) x ∙ (ap (λ t. three at true t c) y ∙ ap (λ t. three at true true t) z)
 
@@ -114,6 +117,7 @@ module _ (quads : List Quadrant) (heights : List ℕ) (at rows cols root : ℕ) 
   unfolding root_fault
   root-rows l = three-1 at sizes_fit is_one is_inside (and_left (leb rows size_limit) (leb cols size_limit) (lt-leb rows size_limit l))
 
+  -- too many columns fail the first test, as too many rows do
   pub root-cols : size_limit < cols → root_fault quads heights at rows cols root ≡ Some Sizes
   unfolding root_fault
   root-cols l = three-1 at sizes_fit is_one is_inside (and_right (leb rows size_limit) (leb cols size_limit) (lt-leb cols size_limit l))

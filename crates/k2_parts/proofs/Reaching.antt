@@ -55,6 +55,8 @@ module _ (m : ℕ) (a b c d : Cells) (va : LiesWithin m m a) (vb : LiesWithin m 
       pick true f g i j k e = (j, inl e)
       pick false f g i j k e = (k, inr e)
 
+  -- the southern quarters, a side below the northern ones, reach down furthest unless they have no cell: each cell lies
+  -- within the rows of a quarter, and the quarter that reaches furthest has a cell in its last row
   pub rows-quartered : (ra rb rc rd : ℕ) → AreRowsOf a ra → AreRowsOf b rb → AreRowsOf c rc → AreRowsOf d rd → AreRowsOf (quartered m a b c d) (reach_of m (max ra rb) (max rc rd))
   rows-quartered ra rb rc rd wa wb wc wd = record { inside = λ i j h. within i (in_which i j h); last = λ i e. at_last i e }
     where
@@ -125,6 +127,7 @@ transposed-quartered m a b c d =
 turned : (m : ℕ) (f : Cells) → LiesWithin m m f → LiesWithin m m (cells_transpose f)
 turned m f v = record { row = λ i j h. v.col j i h; col = λ i j h. v.row j i h }
 
+-- so the extents of four quarters tell that of the whole: its rows, and its columns as the rows of the transposed set
 pub extent-quartered : (m : ℕ) (a b c d : Cells) → LiesWithin m m a → LiesWithin m m b → LiesWithin m m c → LiesWithin m m d →
     (nw ne sw se whole : Extent) → IsExtentOf a nw → IsExtentOf b ne → IsExtentOf c sw → IsExtentOf d se →
     whole.rows ≡ reach_of m (max nw.rows ne.rows) (max sw.rows se.rows) → whole.cols ≡ reach_of m (max nw.cols sw.cols) (max ne.cols se.cols) →
@@ -149,6 +152,8 @@ extent_low rows cols f e w v = (
   fewest (cells_transpose f) cols e.cols w.are_cols (λ i j h. v.col j i h),
 )
 
+-- a set lies within sizes exactly if its extent fits them: all cells are within the extent, and no fewer rows or
+-- columns hold them
 pub fits_is : (m rows cols : ℕ) (f : Cells) (e : Extent) → IsExtentOf f e → LiesWithin m m f → (leb e.rows rows && leb e.cols cols) ≡ lies_within m rows cols f
 fits_is m rows cols f e w v = elim (cases_Bool (leb e.rows rows && leb e.cols cols)) [
   | inl t ↦
@@ -196,6 +201,7 @@ no_extents quads heights = record { many = refl; each = λ n e at. absurd (none 
     none : (n : ℕ) (e : Extent) → slice_get [] n ≡ Some e → ⊥
     none n e at = let l = slice_get_within [] n e at in omega (arith, l)
 
+-- with that of the next number behind them they are the extents of one number more: each is one before, or the last
 pub more_extents : (quads : List Quadrant) (heights : List ℕ) (es new : List Extent) (n m : ℕ) (e : Extent) → AreExtentsUpto quads heights es n → IsExtentOf (cells_told quads (height_at heights n) n) e →
     new ≡ es ++ e ∷ [] → m ≡ n + 1 → AreExtentsUpto quads heights new m
 more_extents quads heights es new n m e w is list count =
@@ -276,6 +282,7 @@ module _ (quads : List LISTED) (heights : List ℕ) (s : AreSound quads heights)
   pub height_within : k < length heights
   height_within = let l = sound_count quads heights s in omega (arith, l, within)
 
+  -- its height is 1 more than that of its quarters
   pub height_read : get_or heights k 0 ≡ suc known.below
   height_read = get_or_from_slice_get heights k (suc known.below) 0 known.height
 

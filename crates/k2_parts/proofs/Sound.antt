@@ -64,6 +64,8 @@ not_bad n earlier heights q good =
       ltb-false size_height (height_of_quadrant heights q) o4.0,
     )
 
+-- where no square is bad, each has quarters with lower numbers and a height within the limit, by induction: the first
+-- passed the tests, and its height stands where those of the next ones are asked
 read_on : (n : ℕ) (earlier qs : List Quadrant) (heights : List ℕ) → first_bad n earlier heights qs ≡ None → (j : ℕ) (q : Quadrant) → slice_get qs j ≡ Some q →
     AreBelow (n + j) q × ((h : ℕ) × (slice_get (heights_behind heights qs) (length heights + j) ≡ Some h) × (h ≤ size_height))
 read_on n earlier [] heights none j q at = let e : 0 ≡ 1 = ap get_count at in absurd (omega (arith, e))

@@ -37,6 +37,7 @@ four-2 a b c d n x y = ap (λ t. four t b c d n) x ∙ ap (λ t. four false t c 
 four-3 : (a b c d : Bool) (n : ℕ) → a ≡ false → b ≡ false → c ≡ true → four a b c d n ≡ None
 four-3 a b c d n x y z = ap (λ t. four t b c d n) x ∙ (ap (λ t. four false t c d n) y ∙ ap (λ t. four false false t d n) z)
 
+-- where none of the first three tests holds, the last one tells
 four-4 : (a b c d e : Bool) (n : ℕ) → a ≡ false → b ≡ false → c ≡ false → d ≡ e → four a b c d n ≡ cond e None (Some n)
 four-4 a b c d e n x y z w = ap (λ t. four t b c d n) x ∙ (ap (λ t. four false t c d n) y ∙ (ap (λ t. four false false t d n) z ∙ ap (λ t. four false false false t n) w))
 
@@ -54,6 +55,7 @@ abbrev other : List ℕ → Quadrant → Bool
 other hs q = others hs q (height_of_quadrant hs q)
 
 module _ (hs : List ℕ) (q : Quadrant) where
+  -- a quadrant with no number other than 0 is unsound by the first test
   pub unsound-empty : no_parts (parts_of q) ≡ true → sound_height hs q ≡ None
   unfolding sound_height
   unsound-empty x = four-1 (no_parts (parts_of q)) (over hs q) (other hs q) (high hs q) (height_of_quadrant hs q) x

@@ -50,6 +50,8 @@ module _ (quads : List Quadrant) where
   abbrev visited : ℕ → ℕ → Quadrant → List ℕ → List ℕ
   visited h n q list = with_number n (visit_number quads h q.se (visit_number quads h q.sw (visit_number quads h q.ne (visit_number quads h q.nw list))))
 
+  -- a visit only lists numbers behind those that are listed, by induction on the height: the visits of the quarters do,
+  -- and so does the number itself
   visit_grows : (h n : ℕ) (xs : List ℕ) → Grows xs (visit_number quads h n xs)
   visit_grows zero n xs = grows_none xs
   visit_grows (suc h) n xs =
@@ -160,6 +162,7 @@ listed-next number next old new in_order is low same stays more count list l not
     last : (next m : ℕ) → 2 ≤ next → m ≡ next + 1 → suc (next - 2) ≡ m - 2
     last next m l e = omega (arith, l, e)
 
+-- where another number than the next one is listed behind those in order, the next one is the first out of its place
 pub listed-other : (number : ℕ) (old new : Noted) → old.is_out ≡ false → 2 ≤ old.next → old.next ≤ number → number ≢ old.next → new.is_out ≡ true → new.next ≡ old.next → ListsNumber number old new
 listed-other number old new in_order low high other out same count list l noted =
     let k : ℕ = old.next - 2 in
@@ -270,6 +273,7 @@ module _ (quads : List Quadrant) (none : first_bad 2 [] [] quads ≡ None) where
   root_within roots noted root left o =
       number_below quads (file_height root.rows root.cols) root.root (is_number (file_height root.rows root.cols) root.root o.rooted.0)
 
+  -- the visit of one more root goes on from the list over those before it, and leaves one root less
   pub over_more : (roots : List NamedRoot) (old new : Noted) (root : NamedRoot) (left : List NamedRoot) → Over quads roots old (root ∷ left) →
       Visits quads root.root old new → old.next ≤ new.next → new.next ≤ max old.next (root.root + 1) → Over quads roots new left
   over_more roots old new root left o visits low high =

@@ -1,14 +1,6 @@
 -- What the parts of a file describe, and that bytes without a fault have these parts.
 use Rattle.std.specs.Prelude.{◌≡◌, ℕ, List, [], map, None}
-use Rattle.run_model.specs.SharedFiles.{
-  Quadrant,
-  NamedRoot,
-  quadrants_of,
-  heights_behind,
-  first_bad,
-  entries_of,
-  shared_fault,
-}
+use Rattle.run_model.specs.SharedFiles.{Quadrant, NamedRoot, quadrants_of, heights_behind, first_bad, entries_of, shared_fault}
 use Rattle.k2_parts.specs.declared.form.Quadrant.{Quadrant as LISTED}
 use Rattle.k2_parts.specs.declared.form.NamedRoot.{NamedRoot as NAMED}
 use Rattle.k2_parts.specs.declared.form.Form.{Form}

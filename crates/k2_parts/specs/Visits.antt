@@ -2,15 +2,7 @@
 use Rattle.std.specs.Prelude.{◌≡◌, ◌<◌, ◌+◌, ◌-◌, ℕ, true, false, List, [], ◌++◌, length, Some}
 use Rattle.std.specs.List.{AllByRecursion}
 use Rattle.run_model.specs.Files.{file_height}
-use Rattle.run_model.specs.SharedFiles.{
-  Quadrant,
-  NamedRoot,
-  heights_behind,
-  is_root,
-  with_number,
-  visit_number,
-  first_out,
-}
+use Rattle.run_model.specs.SharedFiles.{Quadrant, NamedRoot, heights_behind, is_root, with_number, visit_number, first_out}
 use Rattle.run_model.proofs.SharedCells.{IsNumber}
 use Rattle.run_model.proofs.SharedOrder.{numbers_from}
 use Rattle.k2_parts.specs.declared.visits.Noted.{Noted}

@@ -7,7 +7,7 @@ ghost use Rattle.k2_parts.specs.Told.{quadrants_told, AreSound};
 ghost use Rattle.k2_parts.specs.Extents.{reach_of, IsExtentOf, AreExtents, AreExtentsUpto};
 
 use crate::form::Quadrant;
-use k2_file::sides::side_of;
+use rel_model::empty::side_of;
 use std::alloc::{AllocError, Global};
 
 /// How many rows and columns the cells of a square occupy: one more than the last row, and the last column, that has a

@@ -10,8 +10,6 @@ mod numbers;
 mod quads;
 mod roots;
 mod squares;
-#[cfg(test)]
-mod tests;
 mod visits;
 mod words;
 

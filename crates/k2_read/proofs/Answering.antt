@@ -60,6 +60,7 @@ other-found : (f : ℕ → BadFile) (o : Option ℕ) → ((n : ℕ) → missing_
 other-found f None h = tt
 other-found f (Some n) h = h n
 
+-- no test of a named relation says that a name is missing: each says something else
 other-entry : (quads : List Quadrant) (heights : List ℕ) (at : ℕ) (earlier : Option (List ℕ)) (xs : List ℕ) → IsOther (entry_fault quads heights at earlier xs)
 unfolding entry_fault
 other-entry quads heights at earlier xs =
@@ -79,6 +80,7 @@ other-entries quads heights at earlier (suc k) xs =
     other-both (entry_fault quads heights at earlier xs) _ (other-entry quads heights at earlier xs)
     (other-entries quads heights (at + 1) (Some (entry_in xs).name) k (drop (entry_length xs) xs))
 
+-- nor does any test of the bytes: those of the header, the quadrants, the named relations, their order and the rest
 other-fault : (bytes : List ℕ) → IsOther (shared_fault bytes)
 unfolding shared_fault
 other-fault bytes =

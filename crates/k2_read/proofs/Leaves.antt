@@ -48,6 +48,8 @@ four-added false true false a b c d q e = refl
 four-added false false t a b c d q e = refl
 
 module _ (m : ℕ) (f0 f1 f2 f3 : Cells) (w0 : LiesWithin m m f0) (w1 : LiesWithin m m f1) (w2 : LiesWithin m m f2) where
+  -- a cell is in one of the four quarters, each at its corner, exactly if it is in their square: half a side behind the
+  -- square's corner begin the southern and the eastern quarters
   in-quarters : (r c i j : ℕ) →
       ((((leb r i && (leb c j && f0 (i - r) (j - c))) || (leb r i && (leb (c + m) j && f1 (i - r) (j - (c + m))))) || (leb (r + m) i && (leb c j && f2 (i - (r + m)) (j - c)))) || (leb (r + m) i && (leb (c + m) j && f3 (i - (r + m)) (j - (c + m)))))
       ≡ (leb r i && (leb c j && quartered m f0 f1 f2 f3 (i - r) (j - c)))
@@ -100,6 +102,7 @@ none-placed side r c u f e =
 same-row : (r i : ℕ) → eqb r i ≡ (leb r i && eqb (i - r) 0)
 same-row r i = grind (arith, nat_tests)
 
+-- number 1 puts the one cell at the corner: the only one in row 0 and column 0 from there
 pub cell-placed : (side r c n : ℕ) → n ≡ 1 → cells_inside side (is_among ((r, c) ∷ [])) ≡ placed side r c (λ i j. eqb n 1 && (eqb i 0 && eqb j 0))
 cell-placed side r c n e =
     same_cells (cells_inside side (is_among ((r, c) ∷ []))) (placed side r c (λ i j. eqb i 0 && eqb j 0))

@@ -51,6 +51,7 @@ roots-cost leaf quads rs ss = ap (cost_of_gifts leaf) (entries-append quads rs s
 pub so-none : (leaf : ℕ) (quads : List Quadrant) (noted : List (Option Quad)) (w : Worker) → AreNoted w quads noted → SoFar leaf quads noted [] [] w w
 so-none leaf quads noted w a = record { keeps = keeps_itself w; room = omega arith; misses = refl; are = tt; are_noted = a }
 
+-- one more relation is read: those before it mean what they meant, it is the last one told, and its nodes add to theirs
 pub so-more : (leaf : ℕ) (quads : List Quadrant) (before after : List (Option Quad)) (rs : List NAMED) (xs ys : List (List ℕ × Rel)) (u v w : Worker) (r : NAMED) (rel : Rel)
     → SoFar leaf quads before rs xs u v → ys ≡ xs ++ (r.name, rel) ∷ [] → Gives w r.rows r.cols (relation_at quads r.rows r.cols r.root) rel
     → Keeps v w → MakesAtMost (cost_of_loaded leaf (relation_at quads r.rows r.cols r.root)) v w → MissesNothing v w → AreNoted w quads after

@@ -12,6 +12,8 @@ use Rattle.k2_read.specs.Numbers.{AreNoted}
 pub noted-later : (v w : Worker) (quads : List Quadrant) (noted : List (Option Quad)) → Keeps v w → AreNoted v quads noted → AreNoted w quads noted
 noted-later v w quads noted k a = record { given = λ n quad e some h is. gives_later v w h (cells_told quads h n) quad k (a.given n quad e some h is) }
 
+-- with one more quad noted all are still given: a number is the new one, with its quad at the one height that it has,
+-- or another, for which the same quad is noted as before
 pub noted-more : (w : Worker) (quads : List Quadrant) (noted : List (Option Quad)) (n h : ℕ) (quad : Quad) → n < length noted → IsNumber quads h n
     → GivesQuad w h (cells_told quads h n) quad → AreNoted w quads noted → AreNoted w quads (set noted n (Some quad))
 noted-more w quads noted n h quad l is g a = record {

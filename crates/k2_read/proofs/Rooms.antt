@@ -76,6 +76,8 @@ module _ (quads : List Quadrant) where
       distrib : (a b x : ℕ) → (a + b) * x ≡ a * x + b * x
       distrib a b x = omega arith
 
+  -- the nodes of four quarters and their corner are within those of the square: it has the quarters' cells and one at
+  -- least, and each of them brings room for three nodes more at the square's height
   pub room-parts : (h least n : ℕ) (q : Quadrant) → q ≡ quadrant_at quads n → IsNumber quads h n → n ≢ 0 → least < h
       → listed_room (cells_under quads (h - 1) q.nw) (h - 1 - least) + (listed_room (cells_under quads (h - 1) q.ne) (h - 1 - least)
       + (listed_room (cells_under quads (h - 1) q.sw) (h - 1 - least) + (listed_room (cells_under quads (h - 1) q.se) (h - 1 - least) + 3)))

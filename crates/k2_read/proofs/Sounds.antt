@@ -61,6 +61,8 @@ module _ (quads : List Quadrant) (heights : List ℕ) (t : IsTable quads heights
       let r = both_none (entry_fault quads heights at earlier xs) _ none in
       (entry_sound at earlier xs r.0, entries_sound (at + 1) (Some (entry_in xs).name) k (drop (entry_length xs) xs) r.1)
 
+-- bytes without a fault have sound named roots: all tests before theirs pass, so the quadrants are a table, and there
+-- the tests of a root say that it is sound
 all_sound : (bytes : List ℕ) → shared_fault bytes ≡ None → AllByRecursion (λ e. IsSound (quadrants_of bytes) e.rows e.cols e.root) (entries_of bytes)
 unfolding shared_fault quadrants_of entries_of
 all_sound bytes none =
@@ -105,6 +107,7 @@ named-relation quads name (r ∷ rs) = picked (same_text r.name name) (relation_
     picked true o p e = refl
     picked false o p e = e
 
+-- a root that is found by its name is sound, by induction on the named roots: it is the first one's or one behind it
 pub named-sound : (quads : List Quadrant) (name : List ℕ) (rs : List NAMED) (root : ROOT) → AllByRecursion (λ r. IsSound quads r.rows r.cols r.root) rs → root_named name rs ≡ Some root
     → IsSound quads root.shape.rows root.shape.cols root.number
 named-sound quads name [] root a e = let z : 0 ≡ 1 = ap root_count e in absurd (omega (arith, z))

@@ -11,7 +11,7 @@ use Rattle.rel_model.specs.Listed.{is_among}
 use Rattle.rel_model.specs.Worker.{Worker, Stands, set_of, Keeps, height_of}
 use Rattle.rel_model.proofs.Heights.{power_up, height_of-covers, height_of-limit}
 use Rattle.run_model.specs.Files.{file_height}
-use Rattle.run_model.specs.SharedFiles.{Square, visit, visit_all, entry_bytes}
+use Rattle.run_model.specs.SharedBytes.{Square, visit, visit_all, entry_bytes}
 use Rattle.run_model.proofs.SharedCells.{pairs_agree, pairs_among}
 use Rattle.run_model.proofs.SharedSquares.{Proper, AllBehind, NoneTwice, visit_grows}
 use Rattle.k2_file.specs.declared.squares.Square.{Square as Shown}

@@ -6,7 +6,7 @@ use Rattle.rel_model.specs.declared.Rel.{Rel}
 use Rattle.rel_model.specs.Relation.{Relation}
 use Rattle.rel_model.specs.Worker.{Worker, set_of}
 use Rattle.run_model.specs.Limits.{save_limit}
-use Rattle.run_model.specs.SharedFiles.{Square, visit_all, quarter_bytes, entry_bytes, shared_file, squares_of}
+use Rattle.run_model.specs.SharedBytes.{Square, visit_all, quarter_bytes, entry_bytes, shared_file, squares_of}
 use Rattle.run_model.proofs.SharedSquares.{Behind}
 use Rattle.k2_write.specs.declared.visits.Quarters.{Quarters}
 use Rattle.k2_write.specs.declared.listing.Listing.{Listing}

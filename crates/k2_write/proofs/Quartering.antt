@@ -11,7 +11,8 @@ use Rattle.rel_model.specs.Listed.{is_among}
 use Rattle.rel_model.specs.Trees.{quartered}
 use Rattle.rel_model.proofs.Pairs.{same_itself}
 use Rattle.indexmap.specs.IndexSet.{insert_key}
-use Rattle.run_model.specs.SharedFiles.{Square, same_square, with_square, visit, quarter, place_in, number_in, Quadrant, cells_told}
+use Rattle.run_model.specs.SharedFiles.{Quadrant, cells_told}
+use Rattle.run_model.specs.SharedBytes.{Square, same_square, with_square, visit, quarter, place_in, number_in}
 use Rattle.run_model.proofs.SharedCells.{pairs_of, pairs_among, IsNumber, one_height}
 use Rattle.run_model.proofs.SharedVisits.{same_square-true, same_square_itself, not_true}
 use Rattle.run_model.proofs.SharedTable.{get_front, one_of_two, found_one}

@@ -7,7 +7,7 @@ use Rattle.rel_model.specs.Cells.{Cells}
 use Rattle.rel_model.specs.Worker.{Worker, Keeps}
 use Rattle.rel_model.proofs.Pairs.{same_itself}
 use Rattle.rel_model.proofs.Relations.{has-relation_of}
-use Rattle.run_model.specs.SharedFiles.{quarter}
+use Rattle.run_model.specs.SharedBytes.{quarter}
 use Rattle.run_model.proofs.SharedCells.{pairs_valid, pairs_agree}
 use Rattle.run_model.proofs.SharedSquares.{Proper}
 use Rattle.k2_file.specs.declared.windows.Window.{Window}

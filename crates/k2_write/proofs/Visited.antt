@@ -12,7 +12,7 @@ use Rattle.rel_model.specs.Relation.{size_height}
 use Rattle.rel_model.specs.Cells.{Cells}
 use Rattle.rel_model.specs.Worker.{Worker, Keeps}
 use Rattle.indexmap.specs.IndexSet.{insert_key}
-use Rattle.run_model.specs.SharedFiles.{Square, same_square, with_square, where_pairs, visit, quarter, number_in}
+use Rattle.run_model.specs.SharedBytes.{Square, same_square, with_square, where_pairs, visit, quarter, number_in}
 use Rattle.run_model.proofs.SharedSquares.{square_of, Proper, proper_quarter, Known, Behind, AllBehind, NoneTwice, known_more, visit_grows}
 use Rattle.k2_file.specs.declared.windows.Window.{Window}
 use Rattle.k2_file.specs.declared.squares.Square.{Square as Shown}
@@ -126,6 +126,8 @@ noting v w least at h n c old new squares after high k i all once r noted u =
     let now : ps ≡ square_pairs w h (at h n) = sym (square_pairs_stay v w least h (at h n) k i) in
     numbers_put w least at made h n c old new (square-stays v w least h (at h n) k i) (subst (Known made (length made) h) now g.known) (r.number ∙ ap (number_in made h) now) noted u
 
+-- the number of a visited quad is put into the memory: squares and leaves stay as they were, and what is noted of the
+-- quad is what its visit gave
 pub quad_visited : (v w : Worker) (least h : ℕ) (q : Quad) (c : ℕ) (before after more : Visits) → h ≤ size_height → Keeps v w → IsSquare v least h (Tree q) → Visited v w least before after h (square_pairs v h (Tree q)) c
     → more.squares.keys ≡ after.squares.keys → more.leaves ≡ after.leaves → ((k : ℕ × ℕ) → get same_key more.quads k ≡ cond (eqb h k.0 && eqb q.name k.1) (Some c) (get same_key after.quads k))
     → Visited v w least before more h (square_pairs v h (Tree q)) c
@@ -144,6 +146,7 @@ quad_visited v w least h q c before after more high k i x same same_leaves u squ
       number = r.number;
     })
 
+-- the same of a leaf, where squares and quads stay as they were
 pub leaf_visited : (v w : Worker) (least h : ℕ) (p : Window) (c : ℕ) (before after more : Visits) → h ≤ size_height → Keeps v w → p ≡ whole_leaf h p.bits → IsSquare v least h (Part p) → Visited v w least before after h (square_pairs v h (Part p)) c
     → more.squares.keys ≡ after.squares.keys → more.quads ≡ after.quads → ((k : ℕ × ℕ) → get same_key more.leaves k ≡ cond (eqb h k.0 && eqb p.bits k.1) (Some c) (get same_key after.leaves k))
     → Visited v w least before more h (square_pairs v h (Part p)) c
@@ -170,6 +173,8 @@ proper_part : (w : Worker) (h : ℕ) (o : Option Shown) → Proper h (part_pairs
 proper_part w h None = record { within = tt; increasing = tt }
 proper_part w h (Some s) = proper_pairs h (square_cells w (2 ^ h) s)
 
+-- two squares are visited one behind the other: the second visit only lists squares behind, so the number of the first
+-- stays what it was
 pub two_visited : (w0 w1 w2 : Worker) (least h : ℕ) (west east : Option Shown) (v0 v1 v2 : Visits) (m n : ℕ) → h ≤ size_height → Keeps w0 w1 → IsFullPart w0 least h east
     → Visited w0 w1 least v0 v1 h (part_pairs w0 h west) m → Visited w1 w2 least v1 v2 h (part_pairs w1 h east) n → VisitedTwo w0 w2 least v0 v2 h (part_pairs w0 h west) (part_pairs w0 h east) (m, n)
 two_visited w0 w1 w2 least h west east v0 v1 v2 m n high k f x y squares l =
@@ -201,6 +206,8 @@ pub number_later : (old new more : List Square) (h : ℕ) (ps : Pairs) → new �
 number_later old new more h ps e a o b p k =
     ap (λ z. number_in z h ps) e ∙ number_more old more a o (subst AllBehind e b) (subst NoneTwice e p) h ps k
 
+-- a square whose quarters are listed is visited when their four numbers are put in: later visits change no number, so
+-- the four tell the square, which is listed where they are
 four_listed : (w : Worker) (least k : ℕ) (whole : Pairs) (p : ℕ × ℕ) (ps : Pairs) (squares : List Square) (visits after : Visits) (q : Quarters) (j n : ℕ)
     → suc k ≤ size_height → whole ≡ p ∷ ps → Proper (suc k) whole → AllBehind squares → NoneTwice squares
     → Lists w least (visit k (quarter (2 ^ k) (2 ^ k) (2 ^ k) whole) (visit k (quarter (2 ^ k) (2 ^ k) 0 whole) (visit k (quarter (2 ^ k) 0 (2 ^ k) whole) (visit k (quarter (2 ^ k) 0 0 whole) squares)))) visits
@@ -273,6 +280,8 @@ four_listed w least k whole p ps squares visits after q j n high is v all once l
         picked true = ([], sym (append-nil squares))
         picked false = (s ∷ [], refl)
 
+-- two visits of two quarters, and their numbers put in, are the visit of a square: each quarter that is shown has the
+-- pairs of the square that lie in it
 pub quarters_visited : (w0 w1 w2 w3 : Worker) (least h k : ℕ) (s : Shown) (four : Option Shown × Option Shown × Option Shown × Option Shown) (v0 v1 v2 v3 : Visits) (nw ne sw se j n : ℕ)
     → h ≡ k + 1 → h ≤ size_height → IsFull w0 least h s → ShowsFour w1 least k (square_cells w0 (2 ^ (k + 1)) s) four → Keeps w0 w1 → Keeps w1 w2 → Keeps w2 w3
     → VisitedTwo w1 w2 least v0 v1 k (part_pairs w1 k four.0) (part_pairs w1 k four.1) (nw, ne) → VisitedTwo w2 w3 least v1 v2 k (part_pairs w2 k four.2) (part_pairs w2 k four.3) (sw, se)

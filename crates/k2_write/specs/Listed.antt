@@ -4,7 +4,7 @@ use Rattle.std.specs.List.{flat_map, AllByRecursion}
 use Rattle.rel_model.specs.Relation.{Relation}
 use Rattle.rel_model.specs.Worker.{Worker}
 use Rattle.run_model.specs.Files.{file_height}
-use Rattle.run_model.specs.SharedFiles.{Square, visit_all, entry_bytes}
+use Rattle.run_model.specs.SharedBytes.{Square, visit_all, entry_bytes}
 use Rattle.run_model.proofs.SharedSquares.{Known, AllBehind}
 use Rattle.k2_write.specs.declared.listing.Listing.{Listing}
 use Rattle.k2_write.specs.declared.visits.Visits.{Visits}

@@ -5,7 +5,7 @@ use Rattle.rel_model.specs.Cells.{Cells}
 use Rattle.rel_model.specs.Relation.{Relation, relation_of}
 use Rattle.rel_model.specs.Worker.{Worker}
 use Rattle.run_model.specs.Files.{file_height}
-use Rattle.run_model.specs.SharedFiles.{Square, quarter, visit, number_in}
+use Rattle.run_model.specs.SharedBytes.{Square, quarter, visit, number_in}
 use Rattle.run_model.proofs.SharedSquares.{Known, AllBehind, NoneTwice}
 use Rattle.k2_file.specs.declared.windows.Window.{Window}
 use Rattle.k2_file.specs.declared.squares.Square.{Square as Shown}

@@ -3,7 +3,7 @@ ghost use Rattle.std.specs.Prelude.{◌≡◌, ◌≤◌, ◌+◌, ◌*◌, leng
 ghost use Rattle.std.specs.List.{AllByRecursion};
 ghost use Rattle.rel_model.specs.Worker.{Stands, Keeps, MakesAtMost, MissesNothing};
 ghost use Rattle.run_model.specs.Limits.{save_limit};
-ghost use Rattle.run_model.specs.SharedFiles.{shared_file};
+ghost use Rattle.run_model.specs.SharedBytes.{shared_file};
 ghost use Rattle.k2_file.specs.Writing.{IsTooLong};
 ghost use Rattle.k2_write.specs.Writing.{named_sets};
 

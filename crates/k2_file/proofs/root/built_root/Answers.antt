@@ -39,7 +39,7 @@ returns-then-low-height_of_tree-clause-value g c =
     let tree : height_over least m n ≡ c.args.height = file_height-tree least m n (omega (arith, top, c.bottom-low.ensures, c.if-low-height_of_tree.true)) ∙ sym c.requires.height in
     let s = part-inside (height_over least m n) c.args.is_set rests (length-rests T L c.args.places.now ∙ c.requires.places ∙ sym tree) in
     subst (λ (f : Cells). IfOk c.built_part.result (GivesQuad w (height_over least m n) f)) (sym s)
-    (subst (λ k. IfOk c.built_part.result (GivesQuad w k (cells_of_part c.args.is_set rests))) (sym tree) c.built_part.ensures.value)
+    (subst (λ k. IfOk c.built_part.result (GivesQuad w k (cells_of_part c.args.is_set rests))) (sym tree) c.built_part.ensures.makes.value)
 
 pub returns-then-low-height_of_tree-clause-few : goal.returns-then-low-height_of_tree-clause-few
 returns-then-low-height_of_tree-clause-few g c =
@@ -49,7 +49,7 @@ returns-then-low-height_of_tree-clause-few g c =
     let rests = rests_at (bits_in c.args.parts.now.tree) (bits_in c.args.parts.now.cells) c.args.places.now in
     let top : c.height_of_tree.result ≡ height_over least m n = c.height_of_tree.ensures ∙ ap (λ k. height_over k m n) c.bottom-low.ensures in
     let tree : height_over least m n ≡ c.args.height = file_height-tree least m n (omega (arith, top, c.bottom-low.ensures, c.if-low-height_of_tree.true)) ∙ sym c.requires.height in
-    subst (λ k. MakesAtMost (listed_room (count_below (number_of_bit c.args.is_set) rests) (k - least)) (g.E.Core.worker c.args.engine.now) (g.E.Core.worker c.built_part.new.engine)) (sym tree) c.built_part.ensures.few
+    subst (λ k. MakesAtMost (listed_room (count_below (number_of_bit c.args.is_set) rests) (k - least)) (g.E.Core.worker c.args.engine.now) (g.E.Core.worker c.built_part.new.engine)) (sym tree) c.built_part.ensures.makes.room
 
 pub returns-then-not-is_set-clause-value : goal.returns-then-not-is_set-clause-value
 returns-then-not-is_set-clause-value g c =

@@ -4,9 +4,10 @@ use Rattle.rel_model.specs.Relation.{has}
 use Rattle.rel_model.specs.Roots.{height_over}
 use Rattle.rel_model.specs.Worker.{set_of, quad_set}
 use Rattle.rel_model.proofs.Heights.{height_over-low}
+use Rattle.rel_steps.proofs.Given.{gives_quad_set}
 use Rattle.k2_file.specs.Squares.{piece, Shows}
 use Rattle.k2_file.proofs.WriteHeights.{file_height-tree, file_height-leaf}
-use Rattle.k2_file.proofs.WriteSquares.{gives_quad_set, leaf-is_window, leaf-shows, shows-at}
+use Rattle.k2_file.proofs.WriteSquares.{leaf-is_window, leaf-shows, shows-at}
 use Rattle.k2_file.proofs.squares.first_square.Goals as goal
 
 pub shown_window-requires-clause-window : goal.shown_window-requires-clause-window

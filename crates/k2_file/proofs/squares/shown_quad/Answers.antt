@@ -13,11 +13,11 @@ pub returns-then-quad-bottom-clause-shows : goal.returns-then-quad-bottom-clause
 returns-then-quad-bottom-clause-shows g c =
     leaf-shows (g.E.Core.worker c.leaf_window-window.new.engine) g.E.Core.least c.args.quad.height (quad_set (g.E.Core.worker c.args.engine.now) c.args.quad) c.leaf_window-window.result c.shown_window.result c.leaf_window-window.ensures.window c.shown_window.ensures
 
-pub returns-then-quad-eq0-clause-shows : goal.returns-then-quad-eq0-clause-shows
-returns-then-quad-eq0-clause-shows g c =
+pub returns-then-is_empty-clause-shows : goal.returns-then-is_empty-clause-shows
+returns-then-is_empty-clause-shows g c =
     let low = g.met.E.Quads.low_height c.args.engine.now c.args.quad c.requires.stands in
     let high = g.met.E.Quads.high_height c.args.engine.now c.args.quad c.requires.stands in
-    none-shown (g.E.Core.worker c.args.engine.now) c.args.quad c.if-quad-eq0.true (g.met.E.Quads.none c.args.engine.now c.args.quad.height low high)
+    none-shown (g.E.Core.worker c.args.engine.now) c.args.quad (c.is_empty.ensures.empty c.if-is_empty.true) (g.met.E.Quads.none c.args.engine.now c.args.quad.height low high)
 
 pub returns-clause-shows : goal.returns-clause-shows
 returns-clause-shows g c =
@@ -31,5 +31,5 @@ returns-clause-shows g c =
       square = (c.requires.stands, refl, omega (arith, low, here, other));
       means = refl;
       some = full-quad w q c.requires.stands (g.met.E.Quads.square c.args.engine.now q c.requires.stands) (g.met.E.Quads.none c.args.engine.now q.height low high)
-          (g.met.E.Quads.one_name c.args.engine.now q (record { height = q.height; name = 0 })) c.if-quad-eq0.false;
+          (g.met.E.Quads.one_name c.args.engine.now q (record { height = q.height; name = 0 })) (c.is_empty.ensures.filled c.if-is_empty.false);
     }
