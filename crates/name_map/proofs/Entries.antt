@@ -65,6 +65,8 @@ module _ {V : Type 0} where
   kept n (e ∷ es) h =
       ap (λ r. cond (not (is_eq r)) (e ∷ remove n es) (remove n es)) (less _ (first _ _ h)) ∙ ap (λ z. e ∷ z) (kept n es (second _ _ h))
 
+  -- to remove the first entry of a name is to remove all of them, by induction: keys increase, so behind the first that
+  -- ties there is no other
   pub remove_entry-remove : (m : Names V) (name : List ℕ) → IsIncreasing m → entries.remove_entry (is_at (compare name)) m ≡ remove name m
   remove_entry-remove [] name h = refl
   remove_entry-remove (e ∷ es) name h = at (compare name e.0) refl (remove_entry-remove es name (second _ _ h))
@@ -83,6 +85,8 @@ module _ {V : Type 0} where
           ∙ ap (λ z. e ∷ z) rest
           ∙ sym (ap (λ r. cond (not (is_eq r)) (e ∷ remove name es) (remove name es)) p)
 
+  -- to change the value of a name that is there is to put it in, by induction: the name is not below the first key, or
+  -- it would be below all and have no value
   pub set_value-set : (m : Names V) (name : List ℕ) (v : V) → IsIncreasing m → IsSome (lookup m name) → entries.set_value (is_at (compare name)) m v ≡ set name v m
   set_value-set [] name v h some = absurd (subst T (sym some) tt)
   set_value-set (e ∷ es) name v h some = at (compare name e.0) refl (λ there. set_value-set es name v (second _ _ h) there)

@@ -7,6 +7,7 @@ use Rattle.run_model.specs.Names.{compare, lookup, set}
 use Rattle.run_model.specs.Versions.{Versions, number_or_0, noted, raised, all_raised}
 use Rattle.run_model.proofs.Ordering.{names_laws, one_name, same_name}
 
+-- to raise one name lowers no number: that name has 1 more, and any other keeps its own
 raised-grows : (other : List ℕ) (v : Versions) (name : List ℕ) → noted v name ≤ noted (raised other v) name
 raised-grows other v name =
     let e = ap number_or_0 (names_laws.set_name name other (noted v other + 1) v) in

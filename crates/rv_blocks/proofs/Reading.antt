@@ -43,6 +43,8 @@ as_set-increasing : (names : List (List ℕ)) → IsIncreasing (as_set names)
 as_set-increasing [] = tt
 as_set-increasing (n ∷ ns) = names_laws.set_in_order n tt (as_set ns) (as_set-increasing ns)
 
+-- the set then has the names that it had, and those of the list that were not given a value, by induction: each one is
+-- put in or stays out
 lookup-put_new : (given : Set) (names : List (List ℕ)) (found : Set) (q : List ℕ)
     → lookup (put_new given names found) q ≡ there (among names q && not (is_some (lookup given q))) (lookup found q)
 lookup-put_new given [] found q = refl
@@ -111,6 +113,8 @@ among-filter name (n ∷ ns) q =
         ap (λ b. b || among rest q) f
         ∙ sym (ap (λ b. (b || among ns q) && not (eq_by_cmp compare q name)) f ∙ ap not other)
 
+-- over assignments the set then has the names that it had, and those read and not given a value, by induction: the name
+-- of an assignment is given from there on, and the names read leave it out too
 lookup-read_on : (ls : List Let) (given found : Set) (q : List ℕ)
     → lookup (read_on ls given found) q ≡ there (among (names_read ls) q && not (is_some (lookup given q))) (lookup found q)
 lookup-read_on [] given found q = refl

@@ -27,6 +27,7 @@ pub record TableSize (words : List ℕ) (bits : ℕ) : Type 0 where
   pub nodes : IsSound (nodes_of words)
   pub as_many : length (nodes_of words) ≡ node_count words
 
+-- the words of a table are node words, a power of two and at least 1024 of them, and the memo words behind those
 pub table_size : (words : List ℕ) → (t : IsTable words) → TableSize words t.bits
 table_size words t =
     let e : node_count words ≡ 2 ^ t.bits = (let s = t.sound.size in omega arith) in
@@ -45,6 +46,8 @@ pub record IsTail (rest : List ℕ) : Type 0 where
   pub size : length rest ≡ memo_slots
   pub vacant : (slot : ℕ) → get_or rest slot 0 ≡ 0
 
+-- copies and vacant memo words behind them are compacted words: each moved relation has a copy as its root, so it has
+-- its set, and together they reach exactly the copies
 pub compacted_from : (words : List ℕ) (rels : List Rel) (new : List ℕ) (moved : List Rel) (keys : List (ℕ × ℕ)) (names fresh rest : List ℕ) → IsTable words → AllStand (nodes_of words) rels → WalkedSome (nodes_of words) rels (length rels) keys
     → KeysDiffer same_key keys → AreCopies (nodes_of words) keys fresh names → length names ≡ length keys → length fresh ≡ node_count words → IsTail rest → new ≡ fresh ++ rest → length moved ≡ length rels → AreNamed keys names rels moved (length rels) → IsCompacted words rels new moved
 compacted_from words rels new moved keys names fresh rest t s w u a f l r e m n =

@@ -25,6 +25,8 @@ pub copy_stored : (old new : List ℕ) (k n m : ℕ) → n ≢ 0 → IsCopy old 
 copy_stored old new zero n m h c z = elim c [ inl a ↦ h a.0 | inr a ↦ a.0 (sym a.1 ∙ z) ]
 copy_stored old new (suc k) n m h c z = elim c [ inl a ↦ h a.0 | inr a ↦ a.1 z ]
 
+-- a copy stays one where all that stood is kept, by induction on its depth: its word is kept, and so are the copies
+-- that it names
 pub copy_on : (old new later : List ℕ) → Extends new later → (k n m : ℕ) → IsCopy old new k n m → IsCopy old later k n m
 copy_on old new later x zero n m c = elim c [
   | inl a ↦ inl a
@@ -75,6 +77,7 @@ pub block_word : (old : List ℕ) (keys : List (ℕ × ℕ)) (names : List ℕ) 
 block_word old keys names zero n w h e = e
 block_word old keys names (suc k) n w h e = absurd (omega arith)
 
+-- a word other than 0 has a name other than 0, whose copy is stored; so the word of its copy is not 0
 pub word_some : (old : List ℕ) (keys : List (ℕ × ℕ)) (new names : List ℕ) (k n w : ℕ) → NamesCopies old keys new names → get_or new 0 0 ≡ 0 → get_or old n 0 ≢ 0 → IsNewWord old keys names k n w → w ≢ 0
 word_some old keys new names zero n w c z h i e = h (sym i ∙ e)
 word_some old keys new names (suc k) n w c z h i e =
@@ -109,6 +112,8 @@ copies_begun old keys new n e = subst (λ (ws : List ℕ). AreCopies old keys ws
   named = λ m t. absurd (t (vacant_at n m));
 })
 
+-- one more use has its copy: the others stay copies, the new word is made of copies, and whatever is stored is one of
+-- those before or the new one
 pub copies_more : (old : List ℕ) (keys : List (ℕ × ℕ)) (new later names : List ℕ) (w m j : ℕ) (x : ℕ × ℕ) → j ≡ length names → j < length keys → AreCopies old keys new names → get_or old (get_or keys j x).1 0 ≢ 0 → w ≢ 0
     → IsNewWord old keys names (get_or keys j x).0 (get_or keys j x).1 w → Places new later w m → AreCopies old keys later (names ++ m ∷ [])
 copies_more old keys new later names w m j x f g a h s i p =

@@ -35,6 +35,8 @@ own keys k n i m y e =
     let p = same_both i m k n e in
     subst (λ (x : ℕ). has_key keys x m ≡ true) (sym p.0) (subst (λ (x : ℕ). has_key keys k x ≡ true) (sym p.1) y)
 
+-- all that is reached from a listed use is listed, by induction on its depth: it is that use, or is reached from a name
+-- of its word, and both names are listed
 pub closed_all : (words : List ℕ) (keys : List (ℕ × ℕ)) → IsClosed words keys → (k n : ℕ) → IsListed keys k n → (i m : ℕ) → has_use (uses_from words k n) i m ≡ true → has_key keys i m ≡ true
 closed_all words keys c zero n l i m e =
     let f = from-block words n i m e in

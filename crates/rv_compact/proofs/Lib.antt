@@ -1,4 +1,4 @@
-pub mod Powers
+pub mod Depths
 pub mod Walking
 pub mod Reaching
 pub mod Placed

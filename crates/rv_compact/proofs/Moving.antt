@@ -76,6 +76,8 @@ own_copy old new k r s i n y h c e =
       reached = subst (λ (x : ℕ). has_use (uses_from new k s) x s ≡ true) (sym p.0) (use-self new k s (copy_some old new k r s y h c));
     }
 
+-- a use reached from a name has a copy reached from the name's copy, by induction on the depth: it is the name's own
+-- use, or is reached from a name of its word, whose copy stands in the word of the copy
 pub copy_use : (old new : List ℕ) → get_or new 0 0 ≡ 0 → (k r s : ℕ) → IsCopy old new k r s → (i n : ℕ) → has_use (uses_from old k r) i n ≡ true → UseCopy old new k s i n
 copy_use old new y zero r s c i n e = let f = from-block old r i n e in own_copy old new 0 r s i n y f.0 c f.1
 copy_use old new y (suc k) r s c i n e =

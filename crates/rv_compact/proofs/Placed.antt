@@ -53,6 +53,8 @@ way_next words word step place count w = record {
   passed = w.passed;
 }
 
+-- a word goes into the vacant place where its way ends: all places before hold other words, so this one is next, and
+-- the words stay sound
 pub way_placed : (words : List ℕ) (word step place count found : ℕ) → IsSound words → IsOnWay words word step place count → get_or words (2 + place) 0 ≡ found → found ≡ 0 → word ≢ 0 → word < 2 ^ 64
     → Places words (set words (2 + place) word) word (2 + place)
 way_placed words word step place count found s w e z h f =

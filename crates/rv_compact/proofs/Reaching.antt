@@ -49,6 +49,7 @@ none_walked words rels keys e = subst (WalkedSome words rels 0) (sym e) (record 
   only = λ k n h. absurd (false≢true h);
 })
 
+-- the walk of one more relation keeps what is listed, lists its root, and adds only uses that this relation reaches
 pub some_walked : (words : List ℕ) (rels : List Rel) (i : ℕ) (x : Rel) (old new : List (ℕ × ℕ)) → i < length rels → WalkedSome words rels i old
     → Walked words (root_depth (get_or rels i x)) (get_or rels i x).root old new → WalkedSome words rels (i + 1) new
 unfolding uses_of

@@ -92,6 +92,8 @@ pub kids_on : (words : List ℕ) (old new : List (ℕ × ℕ)) (k n : ℕ) → K
 kids_on words old new zero n h l = tt
 kids_on words old new (suc k) n h l = (listed_on old new k _ h l.0, listed_on old new k _ h l.1)
 
+-- a use is put behind those of its names, and the list stays closed: before each of the others stand the same uses, and
+-- before the new one all of them
 pub closed_more : (words : List ℕ) (keys : List (ℕ × ℕ)) (k n : ℕ) → IsClosed words keys → get_or words n 0 ≢ 0 → HasKids words keys k n → IsClosed words (keys ++ (k, n) ∷ [])
 closed_more words keys k n c s h i d l =
     let P : (ℕ × ℕ) → List (ℕ × ℕ) → Type 0 = λ e ks. (get_or words e.1 0 ≢ 0) × HasKids words ks e.0 e.1 in

@@ -1,36 +1,14 @@
 //! The depth of the root of a relation.
-ghost use Rattle.std.specs.Prelude.{◌≡◌, ◌≤◌, ◌^◌};
+ghost use Rattle.std.specs.Prelude.{◌≡◌, ◌≤◌};
 ghost use Rattle.rel_model.specs.Relation.{size_height};
-ghost use Rattle.rel_model.specs.Worker.{height_of};
 ghost use Rattle.rel_model.specs.Roots.{tree_height};
 ghost use Rattle.rv_compact.specs.Walks.{root_depth};
 
-use rel_model::{Rel, TOP_HEIGHT};
+use rel_model::Rel;
+use rel_model::sides::height_of_size;
 
 /// The height of a block: squares of side 2^3 are the leaves.
 const BOTTOM_HEIGHT: u8 = 3;
-
-/// The side of a square of a height.
-fn side_of(height: u8) -> u32
-    requires { height ≤ size_height }
-    ensures { result ≡ 2 ^ height }
-{
-    1u32 << height
-}
-
-/// The least height whose side is at least this size.
-fn height_of_size(size: u32) -> u8
-    ensures value { result ≡ height_of size }
-    ensures limit { result ≤ size_height }
-{
-    let mut height = 0;
-    'powers: for k in 0..TOP_HEIGHT {
-        if side_of(k) < size {
-            height += 1;
-        }
-    }
-    height
-}
 
 /// The height of the tree of a relation with these sizes.
 #[tactic(auto, unfolding(rel_model::specs::Roots::height_over, rel_model::specs::Trees::bottom_height))]

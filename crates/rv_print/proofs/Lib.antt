@@ -3,3 +3,5 @@ pub mod Marking
 pub mod Explained
 pub mod Lines
 pub mod Chains
+pub mod Left
+pub mod Setting

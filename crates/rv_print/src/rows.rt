@@ -1,6 +1,5 @@
 //! The matrix of a relation: a line for each row. A row is a walk over the quads that it crosses.
 ghost use Rattle.std.specs.Prelude.{◌≡◌, ◌<◌, ◌≤◌, ◌+◌, ◌*◌, ◌^◌, ◌++◌, OnOk, IfOk, IfErr, Err, false};
-ghost use Rattle.rel_model.specs.Relation.{size_height};
 ghost use Rattle.rel_model.specs.Cells.{bits_cells};
 ghost use Rattle.rel_model.specs.Trees.{beside};
 ghost use Rattle.rel_model.specs.Worker.{Stands, set_of, HasQuad, quad_set, Keeps, MakesAtMost, MissesNothing};
@@ -10,12 +9,12 @@ ghost use Rattle.run_model.specs.declared.outcome.Unit.TheVariants.{Cells};
 ghost use Rattle.rv_print.specs.Marks.{mark, marks};
 ghost use Rattle.rv_print.specs.Refusals.{IsOver};
 
+use crate::limits::may_print;
 use crate::pieces::push_sizes;
 use crate::refused::PrintRefused;
+use rel_model::empty::side_of;
 use rel_model::engine_trait::Engine;
-use rel_model::{Quad, Rel};
-use run_model::limits::PRINT_LIMIT;
-use run_model::outcome::Unit;
+use rel_model::{Quad, Quarters, Rel, Shape};
 use std::alloc::{AllocError, Global};
 
 /// `M x N`, and a line for each row with `1` for a pair and `.` otherwise, in time linear in the cells.
@@ -31,12 +30,13 @@ pub fn matrix<E: Engine>(alloc: Global, engine: &mut E, rel: Rel) -> Result<Vec<
     ensures room { MakesAtMost 0 (E.worker engine.old) (E.worker engine.new) }
     ensures misses { MissesNothing (E.worker engine.old) (E.worker engine.new) }
 {
-    let wanted = u64::from(rel.rows) * u64::from(rel.cols);
-    if PRINT_LIMIT < wanted {
-        return Err(PrintRefused::TooLarge {
-            wanted,
-            unit: Unit::Cells,
-        });
+    let shape = Shape {
+        rows: rel.rows,
+        cols: rel.cols,
+    };
+    match may_print(shape) {
+        Ok(()) => {}
+        Err(refused) => return Err(refused),
     }
     let mut out = Vec::new(alloc);
     push_sizes(alloc, &mut out, rel.rows, rel.cols)?;
@@ -78,14 +78,6 @@ fn push_row<E: Engine>(
     out.extend_from_slice(b"\n")
 }
 
-/// The side of a square of a height.
-fn side_of(height: u8) -> u32
-    requires { height ≤ size_height }
-    ensures { result ≡ 2 ^ height }
-{
-    1u32 << height
-}
-
 /// Appends the marks of the first cells in a row of a quad.
 #[cycle(cells)]
 fn push_cells<E: Engine>(
@@ -103,7 +95,7 @@ fn push_cells<E: Engine>(
     ensures room { MakesAtMost 0 (E.worker engine.old) (E.worker engine.new) }
     ensures misses { MissesNothing (E.worker engine.old) (E.worker engine.new) }
 {
-    if quad.name == 0 {
+    if quad.is_empty() {
         return push_none(out, cols);
     }
     if quad.height == engine.bottom() {
@@ -132,7 +124,7 @@ fn push_half<E: Engine>(
     ensures room { MakesAtMost 0 (E.worker engine.old) (E.worker engine.new) }
     ensures misses { MissesNothing (E.worker engine.old) (E.worker engine.new) }
 {
-    let (nw, ne, sw, se) = engine.quarters(quad);
+    let Quarters { nw, ne, sw, se } = engine.quarters(quad);
     let half = side_of(nw.height);
     if row < half {
         push_two(engine, out, nw, ne, row, cols)
@@ -169,7 +161,7 @@ fn push_two<E: Engine>(
 }
 
 /// Appends a mark for no pair in each of `cols` columns.
-fn push_none(out: &mut Vec<u8>, cols: u32) -> Result<(), AllocError>
+pub(crate) fn push_none(out: &mut Vec<u8>, cols: u32) -> Result<(), AllocError>
     ensures { OnOk result (out.new.items ≡ out.old.items ++ marks (λ j. false) cols) }
 {
     'cells: for _ in 0..cols {

@@ -7,23 +7,34 @@ ghost use Rattle.run_model.specs.Page.{sizes_text, count_text, type_text};
 
 use crate::pieces::{push_number, push_sizes};
 use rel_model::engine_trait::Engine;
-use rel_model::{NoMemory, Rel};
+use rel_model::{NoMemory, Rel, Shape};
 use std::alloc::Global;
 
 /// `M x N` as a line: the type of a relation.
 #[tactic(auto, unfolding(run_model::specs::Page::type_text))]
-pub fn shape_text(alloc: Global, rel: Rel) -> Result<Vec<u8>, NoMemory>
-    ensures text { IfOk result (λ v. v.items ≡ sizes_text rel.rows rel.cols ++ 10 ∷ []) }
-    ensures typed { (r : Relation) → r.rows ≡ rel.rows → r.cols ≡ rel.cols → IfOk result (λ v. v.items ≡ type_text r) }
+pub fn shape_text(alloc: Global, shape: Shape) -> Result<Vec<u8>, NoMemory>
+    ensures text { IfOk result (λ v. v.items ≡ sizes_text shape.rows shape.cols ++ 10 ∷ []) }
+    ensures typed { (r : Relation) → r.rows ≡ shape.rows → r.cols ≡ shape.cols
+        → IfOk result (λ v. v.items ≡ type_text r) }
 {
     let mut out = Vec::new(alloc);
-    push_sizes(alloc, &mut out, rel.rows, rel.cols)?;
+    push_sizes(alloc, &mut out, shape.rows, shape.cols)?;
+    out.push(b'\n')?;
+    Ok(out)
+}
+
+/// A number of pairs as a line.
+#[tactic(auto, unfolding(run_model::specs::Page::count_text))]
+pub fn number_line(alloc: Global, count: u64) -> Result<Vec<u8>, NoMemory>
+    ensures { (r : Relation) → count ≡ length r.pairs → IfOk result (λ v. v.items ≡ count_text r) }
+{
+    let mut out = Vec::new(alloc);
+    push_number(alloc, &mut out, count)?;
     out.push(b'\n')?;
     Ok(out)
 }
 
 /// How many pairs a relation has, as a line.
-#[tactic(auto, unfolding(run_model::specs::Page::count_text))]
 pub fn count_line<E: Engine>(alloc: Global, engine: &mut E, rel: Rel) -> Result<Vec<u8>, NoMemory>
     requires { Stands (E.worker engine.old) rel }
     ensures text { IfOk result (λ v. v.items ≡ count_text (set_of (E.worker engine.old) rel)) }
@@ -32,8 +43,6 @@ pub fn count_line<E: Engine>(alloc: Global, engine: &mut E, rel: Rel) -> Result<
     ensures misses { MissesNothing (E.worker engine.old) (E.worker engine.new) }
 {
     let count = engine.count(alloc, rel)?;
-    let mut out = Vec::new(alloc);
-    push_number(alloc, &mut out, count)?;
-    out.push(b'\n')?;
-    Ok(out)
+    let text = number_line(alloc, count)?;
+    Ok(text)
 }

@@ -45,6 +45,7 @@ module _ (means other : Rel → Relation) where
   carry_alike (e ∷ es) p k h =
       carry_alike es (carry_act e.session e.command e.act p) k.1 (act_alike e.session e.command e.act p k.0 h)
 
+  -- the names that a log leaves have the same values in both, since the first names have, and the relations of the log
   carried_alike : (first : Carried) (log : List Event) → valued means first ≡ valued other first → MeanAlike means other log
       → valued means (carried_from first log) ≡ valued other (carried_from first log)
   unfolding carried_from
@@ -103,6 +104,7 @@ module _ (w v : Worker) (holds : Holds w v) where
   events_alike [] h = tt
   events_alike (e ∷ es) h = (rels_alike (rel_of e.act) h.0, events_alike es h.1)
 
+  -- names that stand in the one worker have the same values in the other, relation by relation
   names_alike : (names : Carried) → AllNamesStand w names → valued (set_of w) names ≡ valued (set_of v) names
   names_alike [] h = refl
   names_alike (e ∷ es) h =

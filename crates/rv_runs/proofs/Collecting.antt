@@ -112,6 +112,8 @@ module _ {E : Type 0} (worker : E → Worker) (first_number : ℕ) (scripts : Li
   same_told (w ∷ ws) [] e = absurd (too_few w ws e)
   same_told (w ∷ ws) (t ∷ ts) e = ap (λ (l : List Transcript). t ∷ l) (same_told ws ts (later_told w ws t ts e))
 
+  -- the sessions of works have the bytes of the scripts, in order: by induction, since the number of each work finds
+  -- its script
   same_bytes : (pre rest : List (List ℕ)) (ws : List (Work E)) (ts : List Transcript) → scripts ≡ pre ++ rest → AllTold ws ts → Numbered (length pre + first_number) ws → length ws ≡ length rest
       → map (λ (p : Session). p.bytes) (sessions_of ws ts) ≡ rest
   same_bytes pre [] [] ts is e n l = refl
@@ -172,6 +174,7 @@ pub record IsLeft {E : Type 0} (worker : E → Worker) (first : First) (archive 
   pub names_are : names ≡ carried_from first.names log
   pub versions_are : (name : List ℕ) → versions name ≡ version_behind first.versions log name
 
+-- a book leaves its archive and its log, and the names and versions that this log leaves of the first ones
 pub book_left : {E : Type 0} (worker : E → Worker) (first : First) (book : Held E) (archive : E) (log : List Event) (names : Carried) (versions : List ℕ → ℕ) → IsBook worker book
     → start_of book.first ≡ start_of first → archive ≡ book.archive → log ≡ book.history → names ≡ names_of book → ((name : List ℕ) → versions name ≡ versions_of book name)
     → IsLeft worker first archive log names versions

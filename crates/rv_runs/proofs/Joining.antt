@@ -70,6 +70,8 @@ module _ {E : Type 0} (worker : E → Worker) where
     house = refl;
   }
 
+  -- a worker that took in works takes in one more: what was held or missed stays so, and what was made and is spare
+  -- adds up
   pub takes_more : (ys : List (Work E)) (w : Work E) (old mid new : Worker) → TakesAll worker ys old mid → JoinsWorker mid (worker w.seat.engine) new → (worker w.seat.engine).spare ≡ 64
       → TakesAll worker (ys ++ w ∷ []) old new
   takes_more ys w old mid new t j seats =
@@ -91,6 +93,7 @@ module _ {E : Type 0} where
   joins_more ys w old mid new j is mine other =
       subst (λ (l : List View). JoinsAll l old new) (sym (map_append pass_of ys (w ∷ []))) (joins_one_more (map pass_of ys) w.seat.pass old mid new j is mine other)
 
+  -- works told a list of transcripts, and one work more tells one transcript more
   pub told_more : (told : List Transcript) (t : Transcript) (ys : List (Work E)) (w : Work E) → w.told ≡ Some t → map (λ u. Some u) told ≡ map told_of ys
       → map (λ u. Some u) (told ++ t ∷ []) ≡ map told_of (ys ++ w ∷ [])
   told_more told t ys w is h = map_append (λ u. Some u) told (t ∷ []) ∙ ((λ i. h i ++ sym is i ∷ []) ∙ sym (map_append told_of ys (w ∷ [])))

@@ -17,6 +17,7 @@ as_many [] (r ∷ rs) h = absurd h
 as_many (part ∷ parts) [] h = absurd h
 as_many (part ∷ parts) (r ∷ rs) h = let i = as_many parts rs h.1 in omega (arith, i)
 
+-- scripts behind scripts have the readings of both, one by one
 pub readings_append : (parts others : List Part) (rs qs : List Reading) → AreReadings (scripts_of parts) rs → AreReadings (scripts_of others) qs →
     AreReadings (scripts_of (parts ++ others)) (rs ++ qs)
 readings_append [] others [] qs h k = k
@@ -54,6 +55,8 @@ one_more end ends (p ∷ ps) k number l h = (
     swapped : (n : ℕ) → 1 + n ≡ n + 1
     swapped n = omega arith
 
+-- the number of a session tells its batch, by induction on the batches: one of the first is above no end, and one of
+-- the others is above the first end too
 pub numbered : (count : ℕ) (ps : List Past) → Numbered (ends_from count ps) 0 (count + 1) ps
 numbered count [] = tt
 numbered count (p ∷ ps) = (
@@ -77,6 +80,7 @@ module _ (leaf : ℕ) (files : List Loaded) (turns : ℕ) where
       readings_append p.parts (parts_of ps) p.readings (readings_of ps) h.0
       (are_read ps (number + length p.parts) (state_left (batch_of_past p)) (versions_left (batch_of_past p)) h.6)
 
+  -- the sums rise from batch to batch, since each has a session
   pub rises : (ps : List Past) (count number : ℕ) (state : Workspace) (versions : List ℕ → ℕ) → ArePast leaf files turns number state versions ps →
       Rise count (count + length (parts_of ps)) (ends_from count ps)
   rises [] count number state versions h = same count

@@ -21,7 +21,8 @@ use Rattle.run_model.specs.Batches.{state_left, LeaveStates}
 use Rattle.run_model.specs.Stored.{FillsWhereFull, FillsInBatch, events_between, AreInWords, AreStored}
 use Rattle.run_model.specs.Cost.{cost_of_batch}
 use Rattle.run_model.proofs.Carrying.{stored}
-use Rattle.run_model.proofs.Whole.{all_map, between, from_zero, batches_leave_states}
+use Rattle.run_model.proofs.Whole.{all_map, from_zero}
+use Rattle.run_model.proofs.WholeWords.{batches_leave_states, between}
 use Rattle.rv_runs.specs.Past.{Part, outcomes_of, made_in, Past, batch_of_past, ArePast, parts_of, batches_of, history_of, input_of_past}
 use Rattle.rv_runs.proofs.PastNumbers.{Numbered, numbered}
 use Rattle.rv_runs.proofs.WholeRuns.{AllBehind, all_behind, whole_runs}

@@ -49,6 +49,7 @@ puts_own : (s : ℕ) (ts : List Turn) → AllByRecursion (IsTurn s) ts → AreOf
 puts_own s [] h = tt
 puts_own s (t ∷ ts) h = both_own s h.0.0 t.put (puts_of ts) h.0.1 (puts_own s ts h.1)
 
+-- all that a session put is of its number: a script that runs puts its turns, and one that doesn't puts nothing
 did_own : (leaf : ℕ) (given : Input) (s : ℕ) (reading : Reading) (old new : Worker) (before after : View) (told : Transcript)
     → DidReading leaf given s reading old new before after told → before.mine ≡ [] → AreOf s after.mine
 did_own leaf given s (NoScript fault) old new before after told d none = subst (AreOf s) (sym (d.nothing.mine ∙ none)) tt
@@ -66,6 +67,7 @@ abbrev pub mine_of : Session → List Event
 mine_of one = one.pass.mine
 
 module _ (leaf : ℕ) (given : Input) where
+  -- the events of each session are of its number, by induction on the sessions: their numbers go up by one
   own_at : (s k : ℕ) (ones : List Session) → AllHaveRun leaf given s ones → AreOf (s + k) (get_or (map mine_of ones) k [])
   own_at s k [] h = tt
   own_at s zero (one ∷ ones) h = subst (λ n. AreOf n one.pass.mine) (same s) (did_own leaf given s h.0.ran.reading h.0.first one.own h.0.before one.pass one.told h.0.ran.did h.0.no_mine)

@@ -101,6 +101,8 @@ module _ (leaf : ℕ) (files : List Loaded) (turns : ℕ) (input : Input) (asks 
   AllRan [] = Unit {0}
   AllRan (b ∷ bs) = AllByRecursion (λ e. RanIn input b.first b.means b.log e.session) b.log × AllRan bs
 
+  -- each event of each batch is of a session that ran, by induction on the batches: the numbers of a batch's sessions
+  -- find its own readings
   all_ran : (ps : List Past) (number : ℕ) (state : Workspace) (versions : List ℕ → ℕ) → ArePast leaf files turns number state versions ps → 1 ≤ number →
       ((n : ℕ) → slice_get input.readings (number - 1 + n) ≡ slice_get (readings_of ps) n) → AllRan (batches_of ps)
   all_ran [] number state versions h low at = tt
@@ -181,6 +183,8 @@ module _ (leaf : ℕ) (files : List Loaded) (turns : ℕ) (asked : Bool) (ps : L
   pub all_in_whole : PastsInRun leaf input batches 1 ps
   all_in_whole = in_run leaf files turns input (refl, refl) batches placed ps 0 1 no_names (λ name. 0) (λ n. ap (slice_get batches) (from_zero n)) h (numbered 0 ps)
 
+-- batches that are over make one lawful run: they are told by the numbers of its sessions, and each session has in the
+-- whole history what it told in its batch
 pub whole_runs : WholeRuns
 unfolding page saves cost_of_batch
 whole_runs leaf files turns asked ps h =

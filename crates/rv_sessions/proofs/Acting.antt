@@ -109,6 +109,8 @@ on_names input script e mid new first log turns names f h k a i =
     ∙ ap (λ m. evaluated script (lookup m) e turns) (meant_same mid new k (carried_from first log) (carried_stands mid first log f h))
     ∙ ap (λ t. evaluated script (lookup (meant new (carried_from first log))) e t) (sym i)
 
+-- a value that came of the names that a turn took, in the form that is asked for, is the one of the log that was read,
+-- since the names agree with it on all that the expression uses
 pub was_shown : (leaf : ℕ) (form : Form) (input : Input) (script : Script) (s c : ℕ) (e : Expr) (old mid new : Worker) (before after : PASS)
     (log : List Event) (turns : ℕ) (ws : List (List ℕ)) (names : Carried) (result : Result (List ℕ) Outcome) →
     TookTurn old mid before after log (read_of s c ∷ []) → ws ≡ names_in e → names ≡ picked (Some ws) (carried_by before log) → Keeps mid new →
@@ -134,6 +136,7 @@ came_before : (old mid new : Worker) (e : Expr) (turns : ℕ) (v : Evaluated) (r
 came_before old mid new e turns v (Ok rel) m h = h
 came_before old mid new e turns v (Err o) m h = λ then. stopped_before old mid new e turns v then o m (h then)
 
+-- the same of a value that stays in the worker
 pub was_valued : (leaf : ℕ) (input : Input) (script : Script) (s c : ℕ) (e : Expr) (old mid new : Worker) (before after : PASS)
     (log : List Event) (turns : ℕ) (ws : List (List ℕ)) (names : Carried) (result : Result Rel Outcome) →
     TookTurn old mid before after log (read_of s c ∷ []) → ws ≡ names_in e → names ≡ picked (Some ws) (carried_by before log) → Keeps mid new →

@@ -77,6 +77,7 @@ pub kept_stands : (w : Worker) (snaps : Kept) (n : List ℕ) (c : Carried) → K
 kept_stands w [] n c h e = absurd (no_kept c e)
 kept_stands w (x ∷ xs) n c h e = kept_first w (eq_by_cmp compare n x.0) x.1 (lookup xs n) c h.0 (kept_stands w xs n c h.1) e
 
+-- AT saves no file, whatever is due of it
 at_saves : (at : Place) (name : List ℕ) (e : Expr) (d : Due) → done_save (COMMAND (AT at name e)) d ≡ []
 at_saves at name e Nothing = refl
 at_saves at name e (Value r) = refl
@@ -103,6 +104,7 @@ module _ (leaf : ℕ) (input : Input) (script : Script) (s c : ℕ) (at : Place)
   pub at_lacks : Did leaf input script s c item old old p p snaps snaps NO_MEMORY (prefix s c ++ refusal_text NO_MEMORY) []
   at_lacks = unread_lacks leaf input script s c item old old p p snaps stood (keeps_itself old) reads_nothing (through_none p) (nothing _)
 
+  -- an AT of a name without a snapshot is refused for the unknown name, with nothing read or made
   pub at_unknown : lookup snaps name ≡ None → (text : List ℕ) → text ≡ name →
       Did leaf input script s c item old old p p snaps snaps (ILL (Unknown at text)) (prefix s c ++ refusal_text (ILL (Unknown at text))) []
   at_unknown none text t =
@@ -179,6 +181,7 @@ module _ (leaf : ℕ) (input : Input) (script : Script) (s c : ℕ) (at : Place)
   unfolding due due_of_command
   due_drop state snap = refl
 
+  -- a DROP that took a turn went through that one alone: it put one event there, and made nothing
   drop_went : (log : List Event) (e : Event) → TookTurn old new before after log (e ∷ []) → e.session ≡ s → e.command ≡ c → EventStands new e →
       Went leaf input script s c drop old new before after snaps (turn_of log e ∷ [])
   drop_went log e t a b n = record {
@@ -237,6 +240,7 @@ module _ (leaf : ℕ) (input : Input) (script : Script) (s c : ℕ) (name : List
   unfolding due due_of_command
   due_snap state kept = refl
 
+  -- a SNAP that took a turn went through that one alone: it read there, and made nothing
   snap_went : (log : List Event) → TookTurn old new before after log (read_of s c ∷ []) →
       Went leaf input script s c snap old new before after snaps (turn_of log (read_of s c) ∷ [])
   snap_went log t = record {

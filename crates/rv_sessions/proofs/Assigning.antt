@@ -18,7 +18,7 @@ use Rattle.lang_model.specs.declared.syntax.Item.{Item}
 use Rattle.lang_model.specs.declared.syntax.Item.TheVariants.{Command as COMMAND}
 use Rattle.lang_model.specs.declared.syntax.Command.TheVariants.{Let as LET, Relation as RELATION}
 use Rattle.lang_model.specs.declared.syntax.Place.{Place}
-use Rattle.lang_model.specs.declared.syntax.Row.{Row}
+use Rattle.lang_model.specs.declared.rows.Row.{Row}
 use Rattle.lang_model.specs.State.{lists}
 use Rattle.std.specs.declared.vec.Vec.{Vec}
 use Rattle.std.specs.declared.alloc.Global.{Global}
@@ -162,6 +162,8 @@ value_not_done leaf input script s c e old new before after o (inl h) d = lack_i
 value_not_done leaf input script s c e old new before after o (inr h) d =
     stopped_not_done old new e input.turns (on_log input script e new (first_names before) h.0) Value o (h.1.came Value) d
 
+-- a LET whose value is refused did what is due: memory ran out ahead of its read, or it read, and is told why there is
+-- no value
 pub let_refused : (leaf : ℕ) (input : Input) (script : Script) (s c : ℕ) (name : List ℕ) (e : Expr) (old new : Worker) (before after : PASS)
     (snaps : Kept) → KeptStand old snaps → (o : Outcome) (result : Result Told LACK) →
     ValuedInTurn leaf input script s c e old new before after (Err o) → TellsRefusal s c o result →
@@ -178,6 +180,7 @@ pub record ReadsNothing (item : Item) : Type 0 where
   pub reads : reads_of item ≡ []
   pub memory : MayLackMemory item
   pub no_snapped : snapped item ≡ None
+  -- and is no block
   pub no_block : lets_of item ≡ None
 
 module _ (leaf : ℕ) (input : Input) (script : Script) (s c : ℕ) (item : Item) (old new : Worker) (before after : PASS) (snaps : Kept)

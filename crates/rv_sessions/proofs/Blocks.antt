@@ -3,7 +3,9 @@
 -- 2. Where it has none, that is due of the block, behind whatever came; and it is late behind a value.
 -- 3. So what is known of the first assignments grows by one, and tells of the whole block at its end.
 use Rattle.std.proofs.Common.{◌≡◌, ◌∙◌, ◌≤◌, ◌<◌, ◌+◌, ◌^◌, ◌-◌, inl, inr, arith, zero, suc, ℕ, cond, List, [], ◌∷◌, ◌++◌, drop, length, get_or, Some, Ok, Err, refl, sym, ap, subst}
-use Rattle.std.specs.Prelude.{min, All}
+use Rattle.std.specs.Prelude.{min, All, Result}
+use Rattle.std.specs.declared.alloc.Global.{Global}
+use Rattle.std.specs.declared.vec.Vec.{Vec}
 use Rattle.std.proofs.lemmas.List.Elements.{All-nil, All-cons}
 use Rattle.run_model.specs.declared.outcome.Outcome.TheVariants.{Done, Nodes as NODES, NoMemory as NO_MEMORY}
 use Rattle.std.proofs.lemmas.List.{drop_more, map-append}
@@ -25,8 +27,8 @@ use Rattle.run_model.specs.Outcomes.{IsNotEarly}
 use Rattle.run_model.proofs.Assigning.{goes_on, stops, costs_on}
 use Rattle.rv_eval.specs.Names.{rel_of, state_of, AllStand}
 use Rattle.rv_eval.proofs.States.{state_kept, all_stand_kept, state_assigned, all_stand_assigned}
-use Rattle.rv_sessions.specs.Valuing.{IsRefusal, IsNotAhead, Stopped, CameTo}
-use Rattle.rv_sessions.specs.Blocking.{gifts_in, GiftsStand, BlockStopped, due_behind, ValuedSoFar}
+use Rattle.rv_sessions.specs.Valuing.{IsRefusal, IsNotAhead, Stopped, CameTo, CameOver}
+use Rattle.rv_sessions.specs.Blocking.{gifts_in, GiftsStand, BlockStopped, BlockCameOver, due_behind, ValuedSoFar}
 use Rattle.rv_sessions.proofs.FoldingTurns.{all_append, all_weaker}
 
 -- ---- 1
@@ -129,15 +131,15 @@ module _ (leaf : ℕ) (script : Script) (turns : ℕ) (lets : List BlockLet) whe
     spent = subst (λ ls. w.made + cost_of_block leaf (evaluated_block script (state_of w names) ls turns) ≤ first.made + cost_of_block leaf (evaluated_block script state lets turns)) opened h.room
 
     module _ (new : Worker) (k : Keeps w new) (room : MakesAtMost (cost_of_value leaf value) w new) where
-      pub valued_keeps : Keeps first new
+      valued_keeps : Keeps first new
       valued_keeps = keeps_trans first w new h.keeps k
 
       -- what was made, whatever comes next
-      pub valued_room : MakesAtMost (cost_of_block leaf (evaluated_block script state lets turns)) first new
+      valued_room : MakesAtMost (cost_of_block leaf (evaluated_block script state lets turns)) first new
       valued_room = let a = spent in let b = first_within leaf value more in omega (arith, a, b, room)
 
       -- the next expression has no value
-      pub valued_stops : (o : Outcome) → Stopped w new l.value turns value Value o →
+      valued_stops : (o : Outcome) → Stopped w new l.value turns value Value o →
           BlockStopped first new lets (due_of_lets turns lets (evaluated_block script state lets turns)) o
       valued_stops o (inl s) =
           let r = behind_refused (gifts_in w gifts) s.0 o in
@@ -151,7 +153,8 @@ module _ (leaf : ℕ) (script : Script) (turns : ℕ) (lets : List BlockLet) whe
       valued_stops o (inr (inr e)) = inr (inr e)
 
       -- it has one, and the names have it from here on
-      pub one_valued : (rel : Rel) (own : List ℕ) (later given : List (List ℕ × Rel)) → CameTo w new l.value turns value (Ok rel) → own ≡ l.name →
+      one_valued : (rel : Rel) (own : List ℕ) (later given : List (List ℕ × Rel)) →
+          CameTo w new l.value turns value (Ok rel) → own ≡ l.name →
           ((n : List ℕ) → rel_of later n ≡ cond (same_text l.name n) (Some rel) (rel_of names n)) → given ≡ gifts ++ (own, rel) ∷ [] →
           ValuedSoFar leaf script turns lets state first new later given (i + 1)
       one_valued rel own later given came n named pushed =
@@ -181,48 +184,70 @@ module _ (leaf : ℕ) (script : Script) (turns : ℕ) (lets : List BlockLet) whe
               subst (λ st. new.made + cost_of_block leaf (evaluated_block script st rest turns) ≤ first.made + cost_of_block leaf (evaluated_block script state lets turns)) state_is
               (omega (arith, a, b, room))
 
-  -- at the end of the block all its values are due
-  pub all_valued : (state : State) (first w : Worker) (names gifts : List (List ℕ × Rel)) (i : ℕ) → ValuedSoFar leaf script turns lets state first w names gifts i →
-      drop i lets ≡ [] → due_of_lets turns lets (evaluated_block script state lets turns) ≡ Values (gifts_in w gifts)
-  all_valued state first w names gifts i h e =
-      h.total ∙ ap (λ ls. due_behind (gifts_in w gifts) (due_of_lets turns ls (evaluated_block script (state_of w names) ls turns))) e ∙ behind_values (gifts_in w gifts)
-
-  pub end_room : (state : State) (first w : Worker) (names gifts : List (List ℕ × Rel)) (i : ℕ) → ValuedSoFar leaf script turns lets state first w names gifts i →
-      MakesAtMost (cost_of_block leaf (evaluated_block script state lets turns)) first w
-  end_room state first w names gifts i h = let r = h.room in omega (arith, r)
-
 -- ---- the same with names as the code hands them on
-pub dropped_all : (lets : List BlockLet) (i : ℕ) → length lets ≤ i → drop i lets ≡ []
+dropped_all : (lets : List BlockLet) (i : ℕ) → length lets ≤ i → drop i lets ≡ []
 dropped_all [] zero h = refl
 dropped_all [] (suc i) h = refl
 dropped_all (l ∷ ls) zero h = absurd (omega (arith, h))
 dropped_all (l ∷ ls) (suc i) h = dropped_all ls i (omega (arith, h))
 
-module _ (leaf : ℕ) (script : Script) (turns : ℕ) (lets : List BlockLet) (state : State) (first w : Worker) (names gifts : List (List ℕ × Rel)) (i : ℕ) (l : BlockLet)
-    (h : ValuedSoFar leaf script turns lets state first w names gifts i) (less : i < length lets) (at : l ≡ get_or lets i l)
-    (new : Worker) (k : Keeps w new) (given : List (List ℕ × Rel)) (same : given ≡ names)
-    (room : MakesAtMost (cost_of_value leaf (evaluated script (state_of w given) l.value turns)) w new) where
-  own_room : MakesAtMost (cost_of_value leaf (evaluated script (state_of w names) l.value turns)) w new
-  own_room = subst (λ ns. MakesAtMost (cost_of_value leaf (evaluated script (state_of w ns) l.value turns)) w new) same room
+-- at the end of the block all its values are due
+pub all_valued : {leaf : ℕ} {script : Script} {turns : ℕ} {lets : List BlockLet} {state : State} {first w : Worker}
+    {names : List (List ℕ × Rel)} {i : ℕ} (gifts : Vec (List ℕ × Rel) Global) →
+    ValuedSoFar leaf script turns lets state first w names gifts.items i → length lets ≤ i →
+    BlockCameOver leaf script state lets turns first w (Ok gifts)
+all_valued {leaf} {script} {turns} {lets} {state} {first} {w} {names} {i} gifts h all =
+    let over = dropped_all lets i all in
+    let r = h.room in
+    record {
+      came = (
+        h.gifts_stand,
+        h.total ∙ ap (λ ls. due_behind (gifts_in w gifts.items)
+            (due_of_lets turns ls (evaluated_block script (state_of w names) ls turns))) over
+            ∙ behind_values (gifts_in w gifts.items),
+      );
+      keeps = h.keeps;
+      room = omega (arith, r);
+    }
 
-  pub step_keeps : Keeps first new
-  step_keeps = valued_keeps leaf script turns lets state first w names gifts i l h less at new k own_room
+-- the next expression was computed
+module _ {leaf : ℕ} {script : Script} {turns : ℕ} {lets : List BlockLet} {state : State} {first w new : Worker}
+    {names gifts given : List (List ℕ × Rel)} {i : ℕ} {result : Result Rel Outcome}
+    (l : BlockLet) (h : ValuedSoFar leaf script turns lets state first w names gifts i) (less : i < length lets)
+    (at : l ≡ get_or lets i l) (same : given ≡ names)
+    (v : CameOver CameTo leaf script given l.value turns w new result) where
+  there : CameOver CameTo leaf script names l.value turns w new result
+  there = subst (λ ns. CameOver CameTo leaf script ns l.value turns w new result) same v
 
-  pub step_room : MakesAtMost (cost_of_block leaf (evaluated_block script state lets turns)) first new
-  step_room = valued_room leaf script turns lets state first w names gifts i l h less at new k own_room
+  step_room : MakesAtMost (cost_of_block leaf (evaluated_block script state lets turns)) first new
+  step_room = valued_room leaf script turns lets state first w names gifts i l h less at new there.keeps there.room
 
-  pub step_stops : (o : Outcome) → CameTo w new l.value turns (evaluated script (state_of w given) l.value turns) (Err o) →
-      BlockStopped first new lets (due_of_lets turns lets (evaluated_block script state lets turns)) o
-  step_stops o came =
-      valued_stops leaf script turns lets state first w names gifts i l h less at new k own_room o
-      (subst (λ ns. Stopped w new l.value turns (evaluated script (state_of w ns) l.value turns) Value o) same (came Value))
+  -- it has no value
+  pub step_stops : (o : Outcome) → result ≡ Err o → BlockCameOver leaf script state lets turns first new (Err o)
+  step_stops o e = record {
+    came = valued_stops leaf script turns lets state first w names gifts i l h less at new there.keeps there.room o
+        (subst (CameTo w new l.value turns (evaluated script (state_of w names) l.value turns)) e there.came Value);
+    keeps = valued_keeps leaf script turns lets state first w names gifts i l h less at new there.keeps there.room;
+    room = step_room;
+  }
 
-  pub step_more : (rel : Rel) (own : List ℕ) (later pushed : List (List ℕ × Rel)) → CameTo w new l.value turns (evaluated script (state_of w given) l.value turns) (Ok rel) →
-      own ≡ l.name → ((n : List ℕ) → rel_of later n ≡ cond (same_text l.name n) (Some rel) (rel_of names n)) → pushed ≡ gifts ++ (own, rel) ∷ [] →
+  -- memory ran out after it
+  pub step_lacks : BlockCameOver leaf script state lets turns first new (Err NO_MEMORY)
+  step_lacks = record {
+    came = inr (inr refl);
+    keeps = valued_keeps leaf script turns lets state first w names gifts i l h less at new there.keeps there.room;
+    room = step_room;
+  }
+
+  -- it has a value, which its name now has
+  pub step_more : (rel : Rel) (own : List ℕ) (later pushed : List (List ℕ × Rel)) → result ≡ Ok rel → own ≡ l.name →
+      ((n : List ℕ) → rel_of later n ≡ cond (same_text l.name n) (Some rel) (rel_of names n)) →
+      pushed ≡ gifts ++ (own, rel) ∷ [] →
       ValuedSoFar leaf script turns lets state first new later pushed (i + 1)
-  step_more rel own later pushed came =
-      one_valued leaf script turns lets state first w names gifts i l h less at new k own_room rel own later pushed
-      (subst (λ ns. CameTo w new l.value turns (evaluated script (state_of w ns) l.value turns) (Ok rel)) same came)
+  step_more rel own later pushed e =
+      one_valued leaf script turns lets state first w names gifts i l h less at new there.keeps there.room rel own
+      later pushed
+      (subst (CameTo w new l.value turns (evaluated script (state_of w names) l.value turns)) e there.came)
 
 -- a block that stopped is not done
 pub block_not_done : (old new : Worker) (lets : List BlockLet) (d : Due) (o : Outcome) → BlockStopped old new lets d o → o ≡ Done → ⊥

@@ -91,6 +91,7 @@ pub no_commit : (change : List (List ℕ) → Option Change) (lets : Option (Lis
 no_commit change None o h = tt
 no_commit change (Some lets) o h = h (change (block_reads lets))
 
+-- a refusal says nothing of a commit: only a block that is done or tells of a change does
 refusal_commits : (o : Outcome) → IsRefusal o → (x : Option Change) → IsCommit o x
 refusal_commits Done h x = absurd h
 refusal_commits (Parse fault) h x = tt

@@ -75,6 +75,8 @@ reads_agree w lets first log names f h n =
 abbrev pub block_on : Input → Script → List BlockLet → Worker → Carried → List Event → List Evaluated
 block_on input script lets w first log = evaluated_block script (lookup (meant w (carried_from first log))) lets input.turns
 
+-- a block's expressions come to the same on the names that it took and on what its log means, since these agree on all
+-- names that it reads
 pub came_on_log : (input : Input) (script : Script) (lets : List BlockLet) (mid new : Worker) (first : Carried) (log : List Event) (turns : ℕ) (names : Carried) →
     AllNamesStand mid first → HistoryStands mid log → Keeps mid new → names ≡ picked (Some (block_reads lets)) (carried_from first log) → input.turns ≡ turns →
     evaluated_block script (state_of mid names) lets turns ≡ block_on input script lets new first log

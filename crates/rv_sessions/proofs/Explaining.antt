@@ -68,6 +68,7 @@ module _ (leaf : ℕ) (input : Input) (script : Script) (s c : ℕ) (e : Expr) (
   unfolding due due_of_command
   due_explained state kept = refl
 
+  -- an EXPLAIN that took a turn went through that one alone: it read there, and made nothing
   went : (log : List Event) → TookTurn old new before after log (read_of s c ∷ []) →
       Went leaf input script s c item old new before after snaps (turn_of log (read_of s c) ∷ [])
   went log t = record {
@@ -81,6 +82,7 @@ module _ (leaf : ℕ) (input : Input) (script : Script) (s c : ℕ) (e : Expr) (
     keeps = t.stays.keeps;
   }
 
+  -- an EXPLAIN that could not read is out of memory, and put no event
   pub explain_unread : WasNotRead old new before after →
       Did leaf input script s c item old new before after snaps snaps NO_MEMORY (prefix s c ++ refusal_text NO_MEMORY) []
   explain_unread h =

@@ -42,6 +42,7 @@ use Rattle.rv_sessions.proofs.FoldingKept.{carried_stands, meant_same, all_meant
 use Rattle.rv_sessions.proofs.FoldingSteps.{same_item, steps_agree, snaps_agree, step_at, steps_none, snaps_none, steps_push, snaps_push, numbered, few_more, events_push, cost_push, replies_push, saves_push}
 use Rattle.rv_sessions.proofs.FoldingValues.{values_more, nodes_push, rose_more}
 
+-- a sum with 1, either way round
 turned : (n : ℕ) → 1 + n ≡ n + 1
 turned n = omega arith
 
@@ -85,6 +86,8 @@ no_commits : (f : ℕ → List (List ℕ) → Option Change) (items : List Item)
 no_commits f [] c = tt
 no_commits f (x ∷ xs) c = tt
 
+-- one outcome more: the commits of the earlier items are untouched, and the next item has the one that is known of it,
+-- by induction on the outcomes
 commits_push : (f : ℕ → List (List ℕ) → Option Change) (items : List Item) (outcomes : List Outcome) (c : ℕ) (item : Item) (o : Outcome) →
     slice_get items (length outcomes) ≡ Some item → CommitsFrom f c items outcomes → CommitsItem (f (c + length outcomes)) (lets_of item) o →
     CommitsFrom f c items (outcomes ++ o ∷ [])

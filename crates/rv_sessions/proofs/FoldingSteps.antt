@@ -36,6 +36,7 @@ module _ (f g : ℕ → Workspace) (n : ℕ) (agree : (k : ℕ) → k ≤ n → 
       ∙ steps_agree items os (c + 1) (snaps_behind item o (g c) snaps) (omega arith) in
       λ i. record { number = c; item = item; state = e i; snap = snap_for item snaps; outcome = o } ∷ more i
 
+  -- and they leave the same snapshots, item by item
   pub snaps_agree : (items : List Item) (outcomes : List Outcome) (c : ℕ) (snaps : Snapshots) → c + length outcomes ≤ n + 1 →
       snaps_after f c snaps items outcomes ≡ snaps_after g c snaps items outcomes
   snaps_agree [] outcomes c snaps l = refl
@@ -60,6 +61,8 @@ module _ (f : ℕ → Workspace) where
   next : (c k : ℕ) → (c + 1) + k ≡ c + suc k
   next c k = omega arith
 
+  -- the steps of one outcome more are the old ones and that of the next item, on the snapshots that they left: by
+  -- induction on the outcomes
   pub steps_push : (items : List Item) (outcomes : List Outcome) (c : ℕ) (snaps : Snapshots) (item : Item) (o : Outcome) →
       slice_get items (length outcomes) ≡ Some item →
       steps_from f c snaps items (outcomes ++ o ∷ [])
@@ -75,6 +78,7 @@ module _ (f : ℕ → Workspace) where
       (steps_push xs ps (c + 1) later item o h
       ∙ ap (λ (m : ℕ). steps_from f (c + 1) later xs ps ++ step_at m (snaps_after f (c + 1) later xs ps) item o ∷ []) (next c (length ps)))
 
+  -- and the snapshots are those that the next item leaves of the old ones, by the same induction
   pub snaps_push : (items : List Item) (outcomes : List Outcome) (c : ℕ) (snaps : Snapshots) (item : Item) (o : Outcome) →
       slice_get items (length outcomes) ≡ Some item →
       snaps_after f c snaps items (outcomes ++ o ∷ [])
@@ -126,6 +130,7 @@ module _ (input : Input) (script : Script) where
     events_push s xs step h.1 more deeds h.4 e d,
   )
 
+  -- the cost of steps is a sum, so one step more adds its own
   pub cost_push : (leaf : ℕ) (steps : List Step) (step : Step) →
       cost_of_steps leaf input script (steps ++ step ∷ []) ≡ cost_of_steps leaf input script steps + cost_of_step leaf input script step
   cost_push leaf [] step = ends (cost_of_step leaf input script step)

@@ -65,6 +65,8 @@ abbrev pub first_log : List Turn → Option (List Event)
 first_log [] = None
 first_log (t ∷ ts) = Some t.took
 
+-- the relations that a command assigns in two lists of events are those of the first and then those of the second,
+-- event by event
 rels-append : (c : ℕ) (xs ys : List Event) → rels_of c (xs ++ ys) ≡ rels_of c xs ++ rels_of c ys
 rels-append c [] ys = refl
 rels-append c (x ∷ xs) ys = ap (λ (rs : List Rel). cond (eqb x.command c) (rel_of x.act ++ rs) rs) (rels-append c xs ys) ∙ at (eqb x.command c)

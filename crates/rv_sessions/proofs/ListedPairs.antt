@@ -3,8 +3,8 @@ use Rattle.std.proofs.Common.{◌≡◌, ◌<◌, ◌≤◌, ◌+◌, ◌-◌, �
 use Rattle.std.specs.List.{list_any}
 use Rattle.std.proofs.lemmas.Bool.{cases_Bool, and_parts, eqb-true, eq-eqb}
 use Rattle.std.proofs.lemmas.List.{take_more}
-use Rattle.lang_model.specs.declared.syntax.Column.{Column}
-use Rattle.lang_model.specs.declared.syntax.Row.{Row}
+use Rattle.lang_model.specs.declared.rows.Column.{Column}
+use Rattle.lang_model.specs.declared.rows.Row.{Row}
 use Rattle.rel_model.specs.Relation.{relation_of}
 use Rattle.lang_model.specs.State.{lists}
 use Rattle.rel_model.specs.Roots.{height_over}

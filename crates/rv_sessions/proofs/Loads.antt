@@ -93,6 +93,8 @@ module _ (there missing : Type 0) (due_by : List ℕ → Due) (bytes : List ℕ)
     (faulty : (kind : BadFile) → shared_fault bytes ≡ Some kind → (file : List ℕ) → due_by file ≡ Refused Early (BAD_FILE file kind))
     (whole : shared_fault bytes ≡ None → there → (file : List ℕ) → IsNotEarly (due_by file))
     (absent : missing → (file : List ℕ) → due_by file ≡ Refused Early (BAD_FILE file Missing)) (old new : Worker) where
+  -- fault by fault: a test that failed, or a relation that is missing, is what is due; and a full table is met only
+  -- behind a whole file
   several_refused : (kind : BadFile) → IsRefused there missing old new bytes kind → WasRefused due_by old new kind (lack_in kind)
   several_refused Short h = faulty Short h.0
   several_refused Magic h = faulty Magic h.0
@@ -243,6 +245,7 @@ module _ (leaf : ℕ) (input : Input) (script : Script) where
     nodes = λ h. (tt, h);
   }
 
+  -- LOAD ALL of a file that there is gives what is due of the bytes, and costs what all their relations cost
   pub all_item : (file bytes : List ℕ) → file_named input.files file ≡ Some bytes →
       IsLoading leaf input script (COMMAND (LOAD_ALL file)) file (due_of_all_in bytes)
       (where_values (due_of_all_in bytes file) (cost_of_gifts leaf))
@@ -350,6 +353,7 @@ module _ {leaf : ℕ} {input : Input} {script : Script} {file : List ℕ} {due_b
   turns_of log [] = []
   turns_of log (g ∷ gs) = record { took = log; put = assigns s c (g ∷ gs) } ∷ []
 
+  -- it went through the one turn that assigned them all, or through none where there are none
   went_through : (log : List Event) (list : List (List ℕ × Rel)) → GiftsStand new list → TookTurn mid new before after log (assigns s c list) →
       Went leaf input script s c item old new before after snaps (turns_of log list)
   went_through log [] there t = record {
@@ -377,6 +381,7 @@ module _ {leaf : ℕ} {input : Input} {script : Script} {file : List ℕ} {due_b
   puts_are log [] = refl
   puts_are log (g ∷ gs) = append-nil (assigns s c (g ∷ gs))
 
+  -- so LOAD ALL is done: its turn gave each name of the file its relation, and these are the gifts that are due
   pub all_given : (list : List (List ℕ × Rel)) → GiftsStand mid list → ((file' : List ℕ) → due_by file' ≡ Values (gifts_in mid list)) →
       AssignAllTurn s c list mid new before after (Ok tt) → Did leaf input script s c item old new before after snaps snaps Done [] []
   all_given list stands d t =

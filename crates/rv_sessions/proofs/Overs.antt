@@ -3,8 +3,8 @@ use Rattle.std.proofs.lemmas.Bool.Decides.{nat_tests}
 use Rattle.std.proofs.Common.{◌≡◌, ◌<◌, ◌≤◌, ◌+◌, ◌∙◌, arith, ℕ, Bool, true, false, cond, nat_lt, List, [], ◌∷◌, length, drop, get_or, Option, Some, None, refl, sym, ap, subst}
 use Rattle.std.proofs.lemmas.List.{drop_more}
 use Rattle.lang_model.specs.declared.syntax.Place.{Place}
-use Rattle.lang_model.specs.declared.syntax.Column.{Column}
-use Rattle.lang_model.specs.declared.syntax.Row.{Row}
+use Rattle.lang_model.specs.declared.rows.Column.{Column}
+use Rattle.lang_model.specs.declared.rows.Row.{Row}
 use Rattle.lang_model.specs.Missing.{first_of_both}
 use Rattle.rel_model.specs.Relation.{size_limit}
 use Rattle.run_model.specs.declared.outcome.Outcome.{Outcome}

@@ -16,7 +16,7 @@ use Rattle.run_model.specs.Events.{reads_of, done_deeds}
 use Rattle.run_model.specs.Inputs.{Input}
 use Rattle.run_model.specs.Limits.{save_limit}
 use Rattle.run_model.specs.Page.{done_text, done_save}
-use Rattle.run_model.specs.SharedFiles.{shared_file}
+use Rattle.run_model.specs.SharedBytes.{shared_file}
 use Rattle.run_model.specs.Texts.{prefix, refusal_text}
 use Rattle.turn_book.specs.Views.{View as PASS}
 use Rattle.k2_file.specs.Writing.{IsTooLong}

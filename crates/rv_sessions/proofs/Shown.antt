@@ -1,12 +1,13 @@
--- Values that are not shown: a refusal of the printer or of the writer is what is due.
-use Rattle.std.proofs.Common.{◌≡◌, ◌<◌, ◌∙◌, ◌⊎◌, inl, inr, ℕ, true, cond, nat_lt, sym, ap, ap₂, subst, arith}
+-- Values within a limit are due, and a refusal of the printer or of the writer is what is due of the others.
+use Rattle.std.proofs.Common.{◌≡◌, ◌*◌, ◌<◌, ◌≤◌, ◌∙◌, ◌⊎◌, inl, inr, ℕ, true, false, cond, nat_lt, sym, ap, ap₂, subst, arith}
 use Rattle.std.proofs.lemmas.Bool.Decides.{nat_tests}
 use Rattle.rel_model.specs.Relation.{Relation}
 use Rattle.run_model.specs.declared.outcome.Outcome.{Outcome}
 use Rattle.run_model.specs.declared.outcome.Outcome.TheVariants.{TooLarge, TooLong, NoMemory as NO_MEMORY}
 use Rattle.run_model.specs.declared.outcome.Unit.{Unit as COUNTED}
-use Rattle.run_model.specs.Due.{Due, Late, Value, Refused, within}
-use Rattle.run_model.specs.Limits.{save_limit}
+use Rattle.run_model.specs.declared.outcome.Unit.TheVariants.{Cells}
+use Rattle.run_model.specs.Due.{Due, Late, Value, Refused, printed, within}
+use Rattle.run_model.specs.Limits.{print_limit, save_limit}
 use Rattle.rv_print.specs.declared.refused.PrintRefused.{PrintRefused}
 use Rattle.rv_print.specs.declared.refused.PrintRefused.TheVariants.{TooLarge as TOO_LARGE, NoMemory as PRINT_NO_MEMORY}
 use Rattle.rv_print.specs.Refusals.{IsOver}
@@ -22,6 +23,18 @@ passes limit n h = grind (arith, nat_tests, h)
 -- a value that passes a limit is due to be refused
 over_due : (limit wanted : ℕ) (o : Outcome) (r : Relation) → limit < wanted → within limit wanted o r ≡ Refused Late o
 over_due limit wanted o r h = ap (λ b. cond b (Refused Late o) (Value r)) (passes limit wanted h)
+
+stays : (limit n : ℕ) → n ≤ limit → nat_lt limit n ≡ false
+stays limit n h = grind (arith, nat_tests, h)
+
+-- a value within a limit is due
+pub within_due : (limit wanted : ℕ) (o : Outcome) (r : Relation) → wanted ≤ limit → within limit wanted o r ≡ Value r
+within_due limit wanted o r h = ap (λ b. cond b (Refused Late o) (Value r)) (stays limit wanted h)
+
+-- what is due of a matrix, by its sizes
+pub printed_due : (r : Relation) (rows cols : ℕ) → r.rows ≡ rows → r.cols ≡ cols →
+    printed r ≡ within print_limit (rows * cols) (TooLarge (rows * cols) Cells) r
+printed_due r rows cols h k = ap₂ (λ m n. within print_limit (m * n) (TooLarge (m * n) Cells) r) h k
 
 -- a refusal of the printer
 pub print_due : (limit wanted : ℕ) (counted : COUNTED) (r : Relation) (d : Due) (o : Outcome) (refused : PrintRefused) → d ≡ within limit wanted (TooLarge wanted counted) r →

@@ -5,7 +5,7 @@ use Rattle.std.specs.declared.vec.Vec.{Vec}
 use Rattle.std.specs.declared.alloc.Global.{Global}
 use Rattle.rel_model.specs.declared.NoMemory.{NoMemory}
 use Rattle.rel_model.specs.declared.Rel.{Rel}
-use Rattle.rel_model.specs.Worker.{Worker, Stands, set_of, Keeps, Rose}
+use Rattle.rel_model.specs.Worker.{Worker, Stands, set_of, Keeps, MakesAtMost, Rose}
 use Rattle.lang_model.specs.declared.syntax.Let.{Let as BlockLet}
 use Rattle.lang_model.specs.declared.syntax.Script.{Script}
 use Rattle.lang_model.specs.Blocks.{evaluated_block, cost_of_block}
@@ -44,6 +44,14 @@ abbrev pub BlockCame : Worker → Worker → ℕ → List BlockLet → List Eval
 BlockCame old new turns lets es (Ok gifts) =
     GiftsStand new gifts.items × (due_of_lets turns lets es ≡ Values (gifts_in new gifts.items))
 BlockCame old new turns lets es (Err o) = BlockStopped old new lets (due_of_lets turns lets es) o
+
+-- the assignments of a block were computed over names: they came to these values or stopped, everything that stood
+-- still stands, and no more nodes were made than they may cost
+pub record BlockCameOver (leaf : ℕ) (script : Script) (state : State) (lets : List BlockLet) (turns : ℕ)
+    (old new : Worker) (result : Result (Vec (List ℕ × Rel) Global) Outcome) : Type 0 where
+  pub came : BlockCame old new turns lets (evaluated_block script state lets turns) result
+  pub keeps : Keeps old new
+  pub room : MakesAtMost (cost_of_block leaf (evaluated_block script state lets turns)) old new
 
 -- ---- on the way
 -- what is due after values that were computed already

@@ -1,14 +1,12 @@
 //! Blocks of assignments. They are all made at once if nothing that the block has read has changed.
 ghost use Rattle.std.specs.Prelude.{◌≡◌};
-ghost use Rattle.rel_model.specs.Worker.{Keeps, MakesAtMost};
-ghost use Rattle.lang_model.specs.Blocks.{evaluated_block, cost_of_block};
 ghost use Rattle.lang_model.specs.declared.syntax.Item.TheVariants.{Command as COMMAND};
 ghost use Rattle.lang_model.specs.declared.syntax.Command.TheVariants.{Atomic as ATOMIC};
 ghost use Rattle.run_model.specs.Inputs.{Input};
 ghost use Rattle.rv_sessions.specs.Seated.{IsSeated};
 ghost use Rattle.rv_eval.specs.Names.{AllStand, state_of};
 ghost use Rattle.rv_sessions.specs.Acting.{DidItem};
-ghost use Rattle.rv_sessions.specs.Blocking.{BlockCame, TellsRefusedCommit};
+ghost use Rattle.rv_sessions.specs.Blocking.{BlockCameOver, TellsRefusedCommit};
 ghost use Rattle.rv_sessions.specs.Standing.{Kept, KeptStand};
 
 use crate::by::By;
@@ -36,12 +34,9 @@ fn block_values<E: Remembers, W>(
     lets: &[Let],
 ) -> Result<Vec<(Name, Rel)>, Outcome>
     requires standing { AllStand (E.worker engine.old) names.old.items }
-    ensures came { let w = E.worker engine.old in
-        BlockCame w (E.worker engine.new) task.now.turns lets.now
-        (evaluated_block task.now.checked.now (state_of w names.old.items) lets.now task.now.turns) result }
-    ensures keeps { Keeps (E.worker engine.old) (E.worker engine.new) }
-    ensures room { let w = E.worker engine.old in MakesAtMost (cost_of_block E.least (evaluated_block
-        task.now.checked.now (state_of w names.old.items) lets.now task.now.turns)) w (E.worker engine.new) }
+    ensures { let w = E.worker engine.old in
+        BlockCameOver E.least task.now.checked.now (state_of w names.old.items) lets.now task.now.turns w
+        (E.worker engine.new) result }
 {
     let mut gifts = Vec::new(task.alloc);
     'lets: for one in lets {

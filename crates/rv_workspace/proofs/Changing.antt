@@ -48,6 +48,8 @@ module _ (v first : Versions) (es : List Event) (counted : v ≡ versions_after 
       at rest true k = rest (unmapped (first_other v rs) k)
       at rest false k = absurd (no_place 0 k)
 
+  -- the first name with another version by the map is the first change by the history, by induction on the names read:
+  -- both tell the same version of each
   pub one_changed : (reads : List (List ℕ × ℕ)) (place : ℕ) (other : List ℕ × ℕ) → first_other v reads ≡ Some place
       → change_since first reads es ≡ Some (change_of first (slice_index_or reads place other) es)
   one_changed [] place other h = absurd (some_place place h)

@@ -37,6 +37,8 @@ joins_none old = record {
   each_seen = All-nil (λ q. Begins q.seen old.seen);
 }
 
+-- the lists and places of one more pass come behind those of the passes before it, and what was seen so far begins the
+-- log that is seen now
 pub joins_one_more : (ps : List View) (p old mid new : View) → JoinsAll ps old mid → new ≡ with_other mid p → Begins mid.seen new.seen → Begins p.seen new.seen → JoinsAll (ps ++ p ∷ []) old new
 joins_one_more ps p old mid new j is mine other = record {
   book = ap (λ (v : View). v.book) is ∙ j.book;

@@ -265,6 +265,8 @@ module _ {S : Type 0} where
         ];
       }
 
+  -- a pass that was split off brings no entries, so the log is made up of the lists as before; each view is one of the
+  -- others or the new one, which has seen a beginning of the log
   pub logged_more : (present : List Entry) (views : List (Known S)) (w : Known S) → Logged present views → Begins w.seen present → w.told ≡ [] → w.mine ≡ [] → w.joined ≡ [] → Logged present (views ++ w ∷ [])
   logged_more present views w r seen told mine joined = record {
     seen = λ i u h. elim (at_snoc views w u i h) [ inl t ↦ r.seen i u t | inr t ↦ subst (λ (k : Known S). Begins k.seen present) t seen ];

@@ -29,6 +29,8 @@ module _ (is : Entry → Bool) where
   own_mid : (xs ys : List Entry) (x : Entry) → is x ≡ true → pick is (xs ++ x ∷ ys) ≡ pick is xs ++ x ∷ pick is ys
   own_mid xs ys x t = pick_append is xs (x ∷ ys) ∙ ap (λ (b : Bool). pick is xs ++ cond b (x ∷ pick is ys) (pick is ys)) t
 
+  -- an entry of the session behind those done is a turn's, by induction on the turns: what the next turn took has only
+  -- those done, so the entry is that turn's own or stands behind it
   pub found : (ts : List Turn) (done log before after : List Entry) (e : Entry) → Stand is done ts log → pick is (map entry_of ts) ≡ map entry_of ts → pick is log ≡ done ++ map entry_of ts → log ≡ before ++ e ∷ after → is e ≡ true → length done ≤ length (pick is before) → IsTurnOf ts before e
   found [] done log before after e h m all at own more =
       let a : length (pick is log) ≡ length (done ++ []) = ap length all in

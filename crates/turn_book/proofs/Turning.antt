@@ -46,6 +46,8 @@ module _ (is : Entry → Bool) where
   length_entries [] = refl
   length_entries (t ∷ ts) = let i = length_entries ts in omega arith
 
+  -- each turn's log held of the session's entries just those done before it, by induction: the closed log has those and
+  -- one for each turn, so any further one would be one too many
   pub turns_stand : (ts : List Turn) (old new log done : List Entry) → pick is old ≡ done → Turns ts old new → Begins new log → pick is (map entry_of ts) ≡ map entry_of ts → pick is log ≡ done ++ map entry_of ts → Stand is done ts log
   turns_stand [] old new log done own h b mine all = tt
   turns_stand (t ∷ ts) old new log done own h b mine all =

@@ -45,6 +45,8 @@ module _ {S : Type 0} (log : S → List Entry) (house : S → House) (start : S 
     pub house_is : house value ≡ pass.house
     pub start_is : start value ≡ pass.start
 
+  -- whoever closes a book holds all its passes and has no turn, so the slot has a value, and the rule at its end tells
+  -- the value's log, lists, house and start
   pub closed : (key : Opening S) (words : List ℕ) (slots : List (Option S)) (id : ℕ) (table : TableId) (me : Me (Option S) (Known S)) (spare : ℕ) (pass : View) (slot : Option S) → Final (Seen (Ruled key) id me.0) words slots → IsPass me spare
       → view_of house start table me spare ≡ pass → spare + 1 ≡ key.passes → pass.turn ≡ false → get_elem? slots 0 ≡ some slot → Gives pass slot
   closed key words slots id table me spare pass slot f p v whole idle got =

@@ -130,7 +130,16 @@ module _ {S : Type 0} where
   -- what the second pass gets when it is split off
   abbrev pub right_of : Known S → Known S
   right_of v =
-      record { origin = v.origin; parts = 1; ticket = None; turn = false; seen = v.seen; told = []; mine = []; joined = [] }
+      record {
+        origin = v.origin;
+        parts = 1;
+        ticket = None;
+        turn = false;
+        seen = v.seen;
+        told = [];
+        mine = [];
+        joined = [];
+      }
 
   -- what a pass is after another was joined to it: it has seen the longer of both logs, and keeps the shorter until it
   -- is known to be a prefix

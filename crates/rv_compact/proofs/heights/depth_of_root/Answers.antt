@@ -1,6 +1,6 @@
 use Rattle.std.proofs.Common.{◌-◌, ◌*◌, ◌∙◌, ℕ, sym, ap}
 use Rattle.rel_model.specs.Trees.{bottom_height}
-use Rattle.rv_compact.proofs.Powers.{twice-double}
+use Rattle.rv_compact.proofs.Depths.{twice-double}
 use Rattle.rv_compact.proofs.heights.depth_of_root.Goals as goal
 
 pub returns : goal.returns

@@ -9,12 +9,12 @@ use Rattle.rv_print.proofs.Marking.{leaf-side, twice-side, two-halves}
 use Rattle.rv_print.proofs.Standing.{zero_set, keeps_quad, keeps_quad_set}
 use Rattle.rv_print.proofs.rows.+cells.Goals as goal
 
-pub push_cells-returns-then-quad-eq0-clause-text : goal.push_cells-returns-then-quad-eq0-clause-text
-push_cells-returns-then-quad-eq0-clause-text g t c =
+pub push_cells-returns-then-is_empty-clause-text : goal.push_cells-returns-then-is_empty-clause-text
+push_cells-returns-then-is_empty-clause-text g t c =
     let w = g.E.Core.worker c.args.engine.now in
     let low = g.met.E.Quads.low_height c.args.engine.now c.args.quad c.requires.stands in
     let high = g.met.E.Quads.high_height c.args.engine.now c.args.quad c.requires.stands in
-    let none = zero_set w c.args.quad c.if-quad-eq0.true (g.met.E.Quads.none c.args.engine.now c.args.quad.height low high) in
+    let none = zero_set w c.args.quad (c.is_empty.ensures.empty c.if-is_empty.true) (g.met.E.Quads.none c.args.engine.now c.args.quad.height low high) in
     subst (λ (f : Cells). OnOk c.push_none.result (c.push_none.new.out.items ≡ c.args.out.now.items ++ marks (f c.args.row) c.args.cols)) (sym none) c.push_none.ensures
 
 pub push_cells-push_bits-requires-clause-small : goal.push_cells-push_bits-requires-clause-small
@@ -23,7 +23,7 @@ push_cells-push_bits-requires-clause-small g t c =
 
 pub push_half-side_of-half-requires : goal.push_half-side_of-half-requires
 unfolding top_height
-push_half-side_of-half-requires g t c = g.met.E.Quads.high_height c.quarters.new.self c.quarters.result.0 c.quarters.ensures.quarters.nw
+push_half-side_of-half-requires g t c = g.met.E.Quads.high_height c.quarters.new.self c.quarters.result.nw c.quarters.ensures.quarters.nw
 
 pub push_two-side_of-half-requires : goal.push_two-side_of-half-requires
 unfolding top_height
@@ -55,18 +55,18 @@ push_cells-push_half-requires g t c κs within =
 pub push_half-push_two-requires : goal.push_half-push_two-requires
 push_half-push_two-requires g t c κs within =
     let q = c.quarters.ensures.quarters in
-    let north = c.quarters.result.0.height in
-    let one : c.quarters.result.1.height ≡ north = omega (arith, q.nw_height, q.ne_height) in
+    let north = c.quarters.result.nw.height in
+    let one : c.quarters.result.ne.height ≡ north = omega (arith, q.nw_height, q.ne_height) in
     let side = twice-side c.args.quad.height north q.nw_height in
     (search rules, (within, (q.nw, (q.ne, (one, (omega (arith, c.if-row-half.true, c.side_of-half.ensures), omega (arith, side, c.requires.cols)))))))
 
 pub push_half-push_two-requires-else-row-half : goal.push_half-push_two-requires-else-row-half
 push_half-push_two-requires-else-row-half g t c κs within =
     let q = c.quarters.ensures.quarters in
-    let south = c.quarters.result.2.height in
-    let one : c.quarters.result.3.height ≡ south = omega (arith, q.sw_height, q.se_height) in
+    let south = c.quarters.result.sw.height in
+    let one : c.quarters.result.se.height ≡ south = omega (arith, q.sw_height, q.se_height) in
     let side = twice-side c.args.quad.height south q.sw_height in
-    let up : c.quarters.result.0.height ≡ south = omega (arith, q.nw_height, q.sw_height) in
+    let up : c.quarters.result.nw.height ≡ south = omega (arith, q.nw_height, q.sw_height) in
     let half = c.side_of-half.ensures ∙ ap (λ (h : ℕ). 2 ^ h) up in
     (search rules, (within, (q.sw, (q.se, (one, (omega (arith, side, half, c.if-row-half.false, c.requires.row), omega (arith, side, c.requires.cols)))))))
 

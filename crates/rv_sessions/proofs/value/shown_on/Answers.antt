@@ -1,14 +1,17 @@
-use Rattle.std.proofs.Common.{◌∙◌, inl, inr}
-use Rattle.run_model.specs.Due.{Late}
-use Rattle.rv_sessions.specs.Showing.{wanted_in}
+use Rattle.rv_sessions.proofs.Valuing.{in_form}
 use Rattle.rv_sessions.proofs.value.shown_on.Goals as goal
 
-pub returns-in-Err-clause-came : goal.returns-in-Err-clause-came
-returns-in-Err-clause-came g c = c.in-Err.ensures.came (wanted_in c.args.form)
+pub returns-in-Matrix : goal.returns-in-Matrix
+returns-in-Matrix g c = in_form c.in-Matrix.is c.printed_on.ensures
 
-pub returns-in-Err-shown-clause-came : goal.returns-in-Err-shown-clause-came
-returns-in-Err-shown-clause-came g c =
-    elim c.in-Err-shown.ensures.shown [
-      | inl h ↦ inl (Late, c.in-Ok.ensures.came.1 (wanted_in c.args.form) ∙ h.0, h.1)
-      | inr m ↦ inr (inr m)
-    ]
+pub returns-in-Listing : goal.returns-in-Listing
+returns-in-Listing g c = in_form c.in-Listing.is c.listed_on.ensures
+
+pub returns-in-Count : goal.returns-in-Count
+returns-in-Count g c = in_form c.in-Count.is c.counted_on.ensures
+
+pub returns-in-Typed : goal.returns-in-Typed
+returns-in-Typed g c = in_form c.in-Typed.is c.typed_on.ensures
+
+pub returns-in-File : goal.returns-in-File
+returns-in-File g c = in_form c.in-File.is c.filed_on.ensures
